@@ -1,0 +1,174 @@
+-- What is read as a head is that head's spelling.
+use Rattle.std.proofs.Common.{ℕ, zero, suc, ◌+◌, ◌*◌, ◌/◌, ◌%◌, ◌^◌, ◌≡◌, ◌<◌, ◌≤◌, ◌==◌, ◌⊎◌, inl, inr, Bool, true, false, cond, if◌then◌else◌, List, [], ◌∷◌, ◌++◌, length, take, drop, get_or, Option, Some, None, refl, sym, ap, ◌∙◌, arith, nat_le, nat_lt, subst}
+use Rattle.std.proofs.lemmas.Bool.{ltb-true, leb-true, eqb-true}
+use Rattle.std.proofs.lemmas.List.{append-nil, take-append-drop, length-take-le, nil_from_length}
+use Rattle.std.proofs.Math.Nat.{mod-lt}
+use Rattle.std.proofs.lemmas.Nat.{same_from_place}
+use Rattle.std.specs.Int.{byte_at, bytes_high_first}
+use Rattle.byteorder.specs.Endian.{big_number, big_bytes, big_from}
+use Rattle.byteorder.specs.Numbers.{big_number-reads_back, length-bytes_high_first, big_from-cons, big_from-lt, big_from-take}
+use Rattle.cbor_head.specs.Head.{head, major_number}
+use Rattle.cbor_head.specs.Spelling.{HoldsOrOpen}
+use Rattle.cbor_head.specs.Read.{◌>>=◌, Front, front, major_of, numbered, with_low, read_head}
+use Rattle.cbor_head.specs.declared.major.Major.{Major}
+use Rattle.cbor_head.specs.declared.width.Width.{Width}
+use Rattle.cbor_head.specs.declared.width.Width.TheVariants.{Direct, One, Two, Four, Eight, Indefinite}
+use Rattle.cbor_head.proofs.HeadLaws.{told}
+
+-- a list of bytes, by place
+abbrev pub ByPlace : List ℕ → Type 0
+ByPlace xs = (i : ℕ) → get_or xs i 0 < 256
+
+pub by_place-tail : (x : ℕ) (xs : List ℕ) → ByPlace (x ∷ xs) → ByPlace xs
+by_place-tail x xs h = λ i. h (suc i)
+
+pub by_place-drop : (n : ℕ) (xs : List ℕ) → ByPlace xs → ByPlace (drop n xs)
+by_place-drop zero xs h = h
+by_place-drop (suc n) [] h = h
+by_place-drop (suc n) (x ∷ xs) h = by_place-drop n xs (by_place-tail x xs h)
+
+pub by_place-cons : (x : ℕ) (xs : List ℕ) → x < 256 → ByPlace xs → ByPlace (x ∷ xs)
+by_place-cons x xs a h zero = a
+by_place-cons x xs a h (suc i) = h i
+
+pub by_place-take : (n : ℕ) (xs : List ℕ) → ByPlace xs → ByPlace (take n xs)
+by_place-take zero xs h = λ i. omega arith
+by_place-take (suc n) [] h = h
+by_place-take (suc n) (x ∷ xs) h = by_place-cons x (take n xs) (h zero) (by_place-take n xs (by_place-tail x xs h))
+
+byte_small : (k x : ℕ) → byte_at k x < 256
+byte_small zero x = mod-lt x (omega arith)
+byte_small (suc k) x = mod-lt (x / 256 ^ suc k) (omega arith)
+
+by_place-bytes : (n x : ℕ) → ByPlace (bytes_high_first n x)
+by_place-bytes zero x = λ i. omega arith
+by_place-bytes (suc n) x = by_place-cons (byte_at n x) (bytes_high_first n x) (byte_small n x) (by_place-bytes n x)
+
+-- bytes of one number are the same
+same_number : (k : ℕ) (xs ys : List ℕ) → length xs ≡ k → length ys ≡ k → ByPlace xs → ByPlace ys → big_from 0 k xs ≡ big_from 0 k ys → xs ≡ ys
+same_number zero xs ys a b h i e = nil_from_length xs a ∙ sym (nil_from_length ys b)
+same_number (suc k) [] ys a b h i e = absurd (omega arith)
+same_number (suc k) (x ∷ xs) [] a b h i e = absurd (omega arith)
+same_number (suc k) (x ∷ xs) (y ∷ ys) a b h i e =
+    let small = big_from-lt 0 k xs (by_place-tail x xs h) in
+    let less = big_from-lt 0 k ys (by_place-tail y ys i) in
+    let f : x * 256 ^ k + big_from 0 k xs ≡ y * 256 ^ k + big_from 0 k ys = ap (λ (r : ℕ). x * 256 ^ k + r) (sym (big_from-cons 0 k x xs)) ∙ e ∙ ap (λ (r : ℕ). y * 256 ^ k + r) (big_from-cons 0 k y ys) in
+    let p = same_from_place x (big_from 0 k xs) y (big_from 0 k ys) (256 ^ k) small less f in
+    let rest : xs ≡ ys = same_number k xs ys (omega arith) (omega arith) (by_place-tail x xs h) (by_place-tail y ys i) p.1 in
+    cc (p.0, rest)
+
+whole_number : (k : ℕ) (xs : List ℕ) → length xs ≡ k → ByPlace xs → big_bytes k (big_from 0 k xs) ≡ xs
+whole_number k xs e h =
+    let n = big_from 0 k xs in
+    same_number k (big_bytes k n) xs (length-bytes_high_first k n) e (by_place-bytes k n) h
+    (ap (big_from 0 k) (sym (append-nil (big_bytes k n))) ∙ big_number-reads_back k n [] (big_from-lt 0 k xs h))
+
+-- the first k bytes are those of their number
+pub front_number : (k : ℕ) (bs : List ℕ) → k ≤ length bs → ByPlace bs → big_bytes k (big_number k bs) ++ drop k bs ≡ bs
+front_number k bs h b =
+    ap (λ (l : List ℕ). l ++ drop k bs) (ap (big_bytes k) (sym (big_from-take 0 k k bs (omega arith))) ∙ whole_number k (take k bs) (length-take-le k bs h) (by_place-take k bs b))
+    ∙ take-append-drop k bs
+
+pub chosen : {A : Type 0} (b : Bool) (x y z : A) → cond b x y ≡ z → ((b ≡ true) × (x ≡ z)) ⊎ ((b ≡ false) × (y ≡ z))
+chosen true x y z e = inl (refl, e)
+chosen false x y z e = inr (refl, e)
+
+pub bind_some : {A B : Type 0} (o : Option A) (f : A → Option B) (y : B) → (o >>= f) ≡ Some y → (x : A) × (o ≡ Some x) × (f x ≡ Some y)
+bind_some None f y e = absurd (cc e)
+bind_some (Some x) f y e = (x, refl, e)
+
+-- h is what b begins with
+pub record IsFront (b : List ℕ) (h : Front) : Type 0 where
+  pub holds : HoldsOrOpen h.width h.argument
+  pub tells : told h.width h.argument ≡ h.argument
+  pub bytes_are : head h.major h.width h.argument ++ h.rest ≡ b
+
+major_kept : (q : ℕ) → q < 8 → major_number (major_of q) ≡ q
+major_kept zero h = refl
+major_kept (suc zero) h = refl
+major_kept (suc (suc zero)) h = refl
+major_kept (suc (suc (suc zero))) h = refl
+major_kept (suc (suc (suc (suc zero)))) h = refl
+major_kept (suc (suc (suc (suc (suc zero))))) h = refl
+major_kept (suc (suc (suc (suc (suc (suc zero)))))) h = refl
+major_kept (suc (suc (suc (suc (suc (suc (suc zero))))))) h = refl
+major_kept (suc (suc (suc (suc (suc (suc (suc (suc q)))))))) h = absurd (omega arith)
+
+first_kept : (b : ℕ) → b < 256 → 32 * major_number (major_of (b / 32)) + b % 32 ≡ b
+first_kept b h = rw (major_kept (b / 32) (omega arith)) (omega arith)
+
+numbered_front : (b : ℕ) (m : Major) (w : Width) (k : ℕ) (bs : List ℕ) (h : Front) → ByPlace bs
+    → ((n : ℕ) → n < 256 ^ k → HoldsOrOpen w n) → ((n : ℕ) → told w n ≡ n) → ((n : ℕ) → head m w n ≡ b ∷ big_bytes k n)
+    → numbered m w k bs ≡ Some h → IsFront (b ∷ bs) h
+numbered_front b m w k bs h small holds tells spelled e =
+    elim (chosen (nat_le k (length bs)) (Some (front m w (big_number k bs) (drop k bs))) None (Some h) e) [
+      | inl p ↦
+          let same : front m w (big_number k bs) (drop k bs) ≡ h = cc p.1 in
+          subst (IsFront (b ∷ bs)) same (record {
+            holds = holds (big_number k bs) (big_from-lt 0 k bs small);
+            tells = tells (big_number k bs);
+            bytes_are = ap (λ (l : List ℕ). l ++ drop k bs) (spelled (big_number k bs)) ∙ ap (λ (l : List ℕ). b ∷ l) (front_number k bs (leb-true k (length bs) p.0) small);
+          })
+      | inr p ↦ absurd (cc p.1)
+    ]
+
+abbrev with31 : Major → ℕ → List ℕ → Option Front
+with31 m low bs = if low == 31 then Some (front m Indefinite 0 bs) else None
+
+abbrev with27 : Major → ℕ → List ℕ → Option Front
+with27 m low bs = if low == 27 then numbered m Eight 8 bs else with31 m low bs
+
+abbrev with26 : Major → ℕ → List ℕ → Option Front
+with26 m low bs = if low == 26 then numbered m Four 4 bs else with27 m low bs
+
+abbrev with25 : Major → ℕ → List ℕ → Option Front
+with25 m low bs = if low == 25 then numbered m Two 2 bs else with26 m low bs
+
+abbrev with24 : Major → ℕ → List ℕ → Option Front
+with24 m low bs = if low == 24 then numbered m One 1 bs else with25 m low bs
+
+low_front : (b : ℕ) (m : Major) (low : ℕ) (bs : List ℕ) (h : Front) → ByPlace bs → 32 * major_number m + low ≡ b → with_low m low bs ≡ Some h → IsFront (b ∷ bs) h
+low_front b m low bs h small e f =
+    elim (chosen (nat_lt low 24) (Some (front m Direct low bs)) (with24 m low bs) (Some h) f) [
+      | inl p ↦
+          let same : front m Direct low bs ≡ h = cc p.1 in
+          let less : low < 24 = ltb-true low 24 p.0 in
+          subst (IsFront (b ∷ bs)) same (record { holds = less; tells = refl; bytes_are = ap (λ (x : ℕ). x ∷ bs) e })
+      | inr p1 ↦ elim (chosen (low == 24) (numbered m One 1 bs) (with25 m low bs) (Some h) p1.1) [
+        | inl p ↦ (
+            let is : low ≡ 24 = eqb-true low 24 p.0 in
+            let first : 32 * major_number m + 24 ≡ b = omega arith in
+            numbered_front b m One 1 bs h small (λ n l. l) (λ n. refl) (λ n. ap (λ (x : ℕ). x ∷ big_bytes 1 n) first) p.1)
+        | inr q0 ↦ elim (chosen (low == 25) (numbered m Two 2 bs) (with26 m low bs) (Some h) q0.1) [
+          | inl p ↦ (
+              let is : low ≡ 25 = eqb-true low 25 p.0 in
+              let first : 32 * major_number m + 25 ≡ b = omega arith in
+              numbered_front b m Two 2 bs h small (λ n l. l) (λ n. refl) (λ n. ap (λ (x : ℕ). x ∷ big_bytes 2 n) first) p.1)
+          | inr q1 ↦ elim (chosen (low == 26) (numbered m Four 4 bs) (with27 m low bs) (Some h) q1.1) [
+            | inl p ↦ (
+                let is : low ≡ 26 = eqb-true low 26 p.0 in
+                let first : 32 * major_number m + 26 ≡ b = omega arith in
+                numbered_front b m Four 4 bs h small (λ n l. l) (λ n. refl) (λ n. ap (λ (x : ℕ). x ∷ big_bytes 4 n) first) p.1)
+            | inr q2 ↦ elim (chosen (low == 27) (numbered m Eight 8 bs) (with31 m low bs) (Some h) q2.1) [
+              | inl p ↦ (
+                  let is : low ≡ 27 = eqb-true low 27 p.0 in
+                  let first : 32 * major_number m + 27 ≡ b = omega arith in
+                  numbered_front b m Eight 8 bs h small (λ n l. l) (λ n. refl) (λ n. ap (λ (x : ℕ). x ∷ big_bytes 8 n) first) p.1)
+              | inr q3 ↦ elim (chosen (low == 31) (Some (front m Indefinite 0 bs)) None (Some h) q3.1) [
+                | inl p ↦ (
+                    let is : low ≡ 31 = eqb-true low 31 p.0 in
+                    let first : 32 * major_number m + 31 ≡ b = omega arith in
+                    let same : front m Indefinite 0 bs ≡ h = cc p.1 in
+                    subst (IsFront (b ∷ bs)) same (record { holds = tt; tells = refl; bytes_are = ap (λ (x : ℕ). x ∷ bs) first }))
+                | inr p ↦ absurd (cc p.1)
+              ]
+            ]
+          ]
+        ]
+      ]
+    ]
+
+pub read_head-back : (b : List ℕ) (h : Front) → ByPlace b → read_head b ≡ Some h → IsFront b h
+unfolding read_head
+read_head-back [] h small e = absurd (cc e)
+read_head-back (b ∷ bs) h small e = low_front b (major_of (b / 32)) (b % 32) bs h (by_place-tail b bs small) (first_kept b (small 0)) e

@@ -1,0 +1,20 @@
+pub mod Accepted
+pub mod Agree
+pub mod Alike
+pub mod Beginnings
+pub mod Ends
+pub mod Exact
+pub mod Examples
+pub mod FirstBytes
+pub mod GivenHead
+pub mod HeadBack
+pub mod HeadLaws
+pub mod Least
+pub mod OneFirst
+pub mod OneVerdict
+pub mod Parts
+pub mod ReadBack
+pub mod ReadLaws
+mod VerdictExamples
+pub mod Verdicts
+pub mod WholeHead

@@ -1,0 +1,101 @@
+-- What is wrong with a well-formed item (RFC 8949, sections 3.1, 4.2 and 5.3.1).
+use Rattle.std.specs.Prelude.{ℕ, ◌+◌, ◌≡◌, ◌≢◌, ◌⊎◌, IsTrue, List, [], ◌∷◌, length, IsUtf8}
+use Rattle.std.specs.Str.Lossy.{utf8_valid_len}
+use Rattle.cbor_head.specs.Head.{head, shortest}
+use Rattle.cbor_head.specs.Value.{Same}
+use Rattle.cbor_head.specs.Spelling.{Chunk, Spelling, Spellings, SpelledEntries, unsigned, negative, bytes, text, byte_chunks, text_chunks, array, a_map, tag, simple, no_spellings, a_spelling, no_entries, entry, spell, spellings_count, entries_count, value_of, chunk_bytes}
+use Rattle.cbor_head.specs.Order.{key_lt}
+use Rattle.cbor_head.specs.declared.order.KeyOrder.{KeyOrder}
+use Rattle.cbor_head.specs.declared.major.Major.{Major}
+use Rattle.cbor_head.specs.declared.major.Major.TheVariants.{Unsigned, Negative, Bytes, Text, Array, Map, Tag}
+use Rattle.cbor_head.specs.declared.width.Width.{Width}
+use Rattle.cbor_head.specs.declared.width.Width.TheVariants.{Indefinite}
+use Rattle.cbor_head.specs.declared.reason.Reason.{Reason}
+use Rattle.cbor_head.specs.declared.reason.Reason.TheVariants.{InvalidText, RepeatedKey, NotShortest, Indefinite as IndefiniteReason, KeyOrder as KeyOrderReason}
+
+-- which complaints count
+pub data Rules : Type 0 where
+  -- none
+  form : Rules
+  -- texts and keys
+  plain : Rules
+  -- the deterministic encoding in an order
+  strict : KeyOrder → Rules
+
+-- a fault of an item: where it ends, its place and its reason
+pub record Complaint : Type 0 where
+  pub end : ℕ
+  pub place : ℕ
+  pub reason : Reason
+
+-- a complaint, by end, place and reason
+abbrev pub complaint : ℕ → ℕ → Reason → Complaint
+complaint end place reason = record { end = end; place = place; reason = reason }
+
+-- a definite head, at a place, that is not the shortest (section 4.2.1)
+abbrev pub OfHead : Rules → ℕ → Major → Width → ℕ → Complaint → Type 0
+OfHead (strict o) at major w n c = (w ≢ shortest n) × (c ≡ complaint (at + length (head major w n)) at NotShortest)
+OfHead _ at major w n c = ⊥
+
+-- an opener without length (section 4.2.1)
+abbrev pub OfOpener : Rules → ℕ → Complaint → Type 0
+OfOpener (strict o) at c = c ≡ complaint (at + 1) at IndefiniteReason
+OfOpener _ at c = ⊥
+
+-- the head of an array or map, definite or not
+abbrev pub OfCount : Rules → ℕ → Major → Width → ℕ → Complaint → Type 0
+OfCount r at major Indefinite n c = OfOpener r at c
+OfCount r at major w n c = OfHead r at major w n c
+
+-- a payload, at a place, that is not UTF-8 (section 3.1); its place is behind the longest front that is
+abbrev pub OfPayload : Rules → ℕ → List ℕ → Complaint → Type 0
+OfPayload form at payload c = ⊥
+OfPayload _ at payload c = ¬ IsUtf8 payload × (c ≡ complaint (at + length payload) (at + utf8_valid_len payload) InvalidText)
+
+-- a definite string, or a chunk, at a place
+abbrev pub OfString : Rules → ℕ → Major → Width → List ℕ → Complaint → Type 0
+OfString r at Text w payload c = OfHead r at Text w (length payload) c ⊎ OfPayload r (at + length (head Text w (length payload))) payload c
+OfString r at major w payload c = OfHead r at major w (length payload) c
+
+-- the chunks from a place on
+abbrev pub OfChunks : Rules → ℕ → Major → List Chunk → Complaint → Type 0
+OfChunks r at major [] c = ⊥
+OfChunks r at major (k ∷ ks) c = OfString r at major k.width k.payload c ⊎ OfChunks r (at + length (chunk_bytes major k)) major ks c
+
+-- a key before k is the same (section 5.6)
+abbrev pub IsRepeated : List Spelling → Spelling → Type 0
+IsRepeated [] k = ⊥
+IsRepeated (b ∷ bs) k = Same (value_of b) (value_of k) ⊎ IsRepeated bs k
+
+-- a key at a place, where these keys stand before it, the nearest first (sections 5.6 and 4.2.1)
+abbrev pub OfKey : Rules → ℕ → List Spelling → Spelling → Complaint → Type 0
+OfKey form at before k c = ⊥
+OfKey plain at before k c = IsRepeated before k × (c ≡ complaint (at + length (spell k)) at RepeatedKey)
+OfKey (strict o) at [] k c = ⊥
+OfKey (strict o) at (b ∷ bs) k c = ¬ IsTrue (key_lt o (spell b) (spell k)) × (c ≡ complaint (at + length (spell k)) at KeyOrderReason)
+
+-- s, at a place, has this complaint
+abbrev mutual
+  pub Complains : Rules → ℕ → Spelling → Complaint → Type 0
+  Complains r at (unsigned w n) c = OfHead r at Unsigned w n c
+  Complains r at (negative w n) c = OfHead r at Negative w n c
+  Complains r at (bytes w payload) c = OfString r at Bytes w payload c
+  Complains r at (text w payload) c = OfString r at Text w payload c
+  Complains r at (byte_chunks cs) c = OfOpener r at c ⊎ OfChunks r (at + 1) Bytes cs c
+  Complains r at (text_chunks cs) c = OfOpener r at c ⊎ OfChunks r (at + 1) Text cs c
+  Complains r at (array w ss) c = OfCount r at Array w (spellings_count ss) c ⊎ ComplainsIn r (at + length (head Array w (spellings_count ss))) ss c
+  Complains r at (a_map w es) c = OfCount r at Map w (entries_count es) c ⊎ ComplainsInEntries r (at + length (head Map w (entries_count es))) [] es c
+  Complains r at (tag w n s) c = OfHead r at Tag w n c ⊎ Complains r (at + length (head Tag w n)) s c
+  Complains r at (simple n) c = ⊥
+
+  -- members from a place on
+  pub ComplainsIn : Rules → ℕ → Spellings → Complaint → Type 0
+  ComplainsIn r at no_spellings c = ⊥
+  ComplainsIn r at (a_spelling s ss) c = Complains r at s c ⊎ ComplainsIn r (at + length (spell s)) ss c
+
+  -- pairs from a place on, behind these keys
+  pub ComplainsInEntries : Rules → ℕ → List Spelling → SpelledEntries → Complaint → Type 0
+  ComplainsInEntries r at before no_entries c = ⊥
+  ComplainsInEntries r at before (entry k v es) c =
+      Complains r at k c ⊎ OfKey r at before k c ⊎ Complains r (at + length (spell k)) v c
+      ⊎ ComplainsInEntries r (at + length (spell k) + length (spell v)) (k ∷ before) es c

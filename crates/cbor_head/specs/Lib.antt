@@ -1,0 +1,13 @@
+pub mod Beginning
+pub mod Canonical
+pub mod Complaint
+pub mod Head
+pub mod Laws
+pub mod Limits
+pub mod Order
+pub mod Printed
+pub mod Read
+pub mod Reason
+pub mod Spelling
+pub mod Value
+pub mod Verdict

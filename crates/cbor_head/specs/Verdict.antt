@@ -1,0 +1,71 @@
+-- What is answered of an input: the item that it starts with, or the refusal.
+use Rattle.std.specs.Prelude.{ℕ, ◌+◌, ◌≡◌, ◌≢◌, ◌<◌, ◌≤◌, ◌⊎◌, ◌++◌, ◌==◌, ◌||◌, ◌&&◌, ◌%◌, nat_le, if◌then◌else◌, List, [], ◌∷◌, length, take}
+use Rattle.cbor_head.specs.Spelling.{Spelling, spell, IsItem}
+use Rattle.cbor_head.specs.Beginning.{MayFollow, IsLongestBeginning}
+use Rattle.cbor_head.specs.Complaint.{Rules, Complaint, Complains}
+use Rattle.cbor_head.specs.declared.reason.Reason.{Reason}
+use Rattle.cbor_head.specs.declared.reason.Reason.TheVariants.{Truncated, TooLong, Reserved, NoIndefinite, Float, BadSimple, StrayBreak, BadChunk, TooDeep, RepeatedKey, KeyOrder}
+use Rattle.cbor_head.specs.declared.reason.Refusal.{Refusal}
+
+-- a refusal, by reason, place and bytes taken
+abbrev pub refusal : Reason → ℕ → ℕ → Refusal
+refusal reason place read = record { reason = reason; place = place; read = read }
+
+-- where an item may begin, what a byte that begins none is
+abbrev pub initial_reason : ℕ → Reason
+initial_reason c =
+    if c == 0xff then StrayBreak
+    else if (c == 0xf9) || (c == 0xfa) || (c == 0xfb) then Float
+    else if (c == 0x1f) || (c == 0x3f) || (c == 0xdf) then NoIndefinite
+    else if nat_le 28 (c % 32) && nat_le (c % 32) 30 then Reserved
+    else TooDeep
+
+-- Why c may not follow p: where the byte 00 could, an item was due there; where 00 could not and 20 could, the number of a
+-- simple value was; else a chunk was.
+abbrev pub BreaksForm : ℕ → List ℕ → ℕ → Reason → Type 0
+BreaksForm d p c reason =
+    (MayFollow d p 0x00 × (reason ≡ initial_reason c)) ⊎ (¬ MayFollow d p 0x00 × MayFollow d p 0x20 × (reason ≡ BadSimple))
+    ⊎ (¬ MayFollow d p 0x00 × ¬ MayFollow d p 0x20 × (reason ≡ BadChunk))
+
+-- the break of form behind p, where these are the next of the first n bytes
+abbrev pub IsBreak : ℕ → ℕ → List ℕ → List ℕ → Refusal → Type 0
+IsBreak d n p (c ∷ rest) f = (reason : Reason) × BreaksForm d p c reason × (f ≡ refusal reason (length p) (length p + 1))
+IsBreak d n p [] f = ((length p ≡ n) × (f ≡ refusal TooLong n n)) ⊎ ((length p < n) × (f ≡ refusal Truncated (length p) (length p)))
+
+-- complaints on a key come last at equal ends
+abbrev pub rank : Reason → ℕ
+rank RepeatedKey = 1
+rank KeyOrder = 1
+rank _ = 0
+
+-- the first complaint that ends within the first t bytes
+pub record IsFirstComplaint (rules : Rules) (s : Spelling) (t : ℕ) (c : Complaint) : Type 0 where
+  pub holds : Complains rules 0 s c
+  pub ends : c.end ≤ t
+  pub first : (e : Complaint) → Complains rules 0 s e → e.end ≤ t → (c.end < e.end) ⊎ ((c.end ≡ e.end) × (rank c.reason ≤ rank e.reason))
+
+-- no complaint ends within the first t bytes
+abbrev pub IsWithout : Rules → Spelling → ℕ → Type 0
+IsWithout rules s t = (c : Complaint) → Complains rules 0 s c → c.end ≤ t → ⊥
+
+-- an item, or the refusal
+pub data Answer : Type 0 where
+  accepted : Spelling → Answer
+  refused : Refusal → Answer
+
+-- what an item that starts with p has answered, where p has these bytes behind it
+abbrev pub Decides : ℕ → ℕ → Rules → List ℕ → List ℕ → Spelling → Answer → Type 0
+Decides d n rules p behind s (accepted t) = (t ≡ s) × (spell s ≡ p) × IsWithout rules s (length p)
+Decides d n rules p behind s (refused f) =
+    ((c : Complaint) × IsFirstComplaint rules s (length p) c × (f ≡ refusal c.reason c.place c.end))
+    ⊎ (IsWithout rules s (length p) × (spell s ≢ p) × IsBreak d n p behind f)
+
+-- what is answered of an input, within a depth and so many bytes
+pub record IsVerdict (d n : ℕ) (rules : Rules) (input : List ℕ) (answer : Answer) : Type 0 where
+  -- the longest beginning, and an item that starts with it
+  pub p : List ℕ
+  pub longest : IsLongestBeginning d (take n input) p
+  pub item : Spelling
+  pub rest : List ℕ
+  pub starts : IsItem d item (p ++ rest)
+  pub decides : Decides d n rules p longest.rest item answer

@@ -1,0 +1,95 @@
+//! The laws of the model: what the definitions of this crate imply. Nothing here runs. Each
+//! function has an empty body, and its contract is a law for all numbers, bytes and items.
+
+ghost use Rattle.std.specs.Prelude.{◌≡◌, ◌↔◌, ◌≤◌, ◌++◌, ℕ, List, [], length, Some, None};
+ghost use Rattle.cbor_head.specs.Beginning.{IsBeginning, IsLongestBeginning};
+ghost use Rattle.cbor_head.specs.Complaint.{Rules, Complaint, Complains};
+ghost use Rattle.cbor_head.specs.Head.{Holds, head, shortest};
+ghost use Rattle.cbor_head.specs.Laws.{IsAtFront, IsSound, StartsWith};
+ghost use Rattle.cbor_head.specs.Read.{Front, front, read_head, read};
+ghost use Rattle.cbor_head.specs.Spelling.{Spelling, IsSpelled, IsItem, HoldsOrOpen, spell};
+ghost use Rattle.cbor_head.specs.Value.{AreBytes};
+ghost use Rattle.cbor_head.specs.Verdict.{IsFirstComplaint, Answer, accepted, Decides, IsVerdict};
+ghost use Rattle.cbor_head.specs.declared.major.Major.{Major};
+ghost use Rattle.cbor_head.specs.declared.width.Width.{Width};
+ghost use Rattle.cbor_head.specs.declared.width.Width.TheVariants.{Indefinite};
+
+/// A head is read back, whatever follows it; and what is read as a head is that head's bytes.
+pub fn heads_are_read_back()
+    ensures definite { (m : Major) (w : Width) (n : ℕ) (x : List ℕ) → Holds w n
+        → read_head (head m w n ++ x) ≡ Some (front m w n x) }
+    ensures opener { (m : Major) (n : ℕ) (x : List ℕ)
+        → read_head (head m Indefinite n ++ x) ≡ Some (front m Indefinite 0 x) }
+    ensures only { (b : List ℕ) (f : Front) → AreBytes b → read_head b ≡ Some f
+        → HoldsOrOpen f.width f.argument × (head f.major f.width f.argument ++ f.rest ≡ b) }
+{}
+
+/// No head of an argument has fewer bytes than the shortest one, which has room for it.
+pub fn shortest_is_least()
+    ensures holds { (w : Width) (n : ℕ) → Holds w n → Holds (shortest n) n }
+    ensures least { (m : Major) (w : Width) (n : ℕ) → Holds w n
+        → length (head m (shortest n) n) ≤ length (head m w n) }
+{}
+
+/// Bytes begin with at most one item. So they spell at most one, and no item's bytes are a proper
+/// beginning of another's.
+pub fn one_spelling()
+    ensures one { (s t : Spelling) (x y : List ℕ) → IsSpelled s → IsSpelled t
+        → spell s ++ x ≡ spell t ++ y → (s ≡ t) × (x ≡ y) }
+    ensures unique { (s t : Spelling) → IsSpelled s → IsSpelled t → spell s ≡ spell t → s ≡ t }
+    ensures free { (s t : Spelling) (x : List ℕ) → IsSpelled s → IsSpelled t
+        → spell s ++ x ≡ spell t → x ≡ [] }
+{}
+
+/// Reading finds the item within a depth that bytes begin with, and nothing where there is none.
+pub fn reading_is_exact()
+    ensures found { (d : ℕ) (b : List ℕ) (s : Spelling) (rest : List ℕ) → AreBytes b
+        → read d b ≡ Some (s, rest) ↔ IsAtFront d b s rest }
+    ensures none { (d : ℕ) (b : List ℕ) → AreBytes b
+        → read d b ≡ None ↔ ((s : Spelling) (rest : List ℕ) → ¬ IsAtFront d b s rest) }
+{}
+
+/// The beginnings within a depth: no bytes are one, a front of one is one, and the longest of an
+/// input is one. It is the item that the input begins with, where it does; and where it is a whole
+/// item, each item that starts with it is that one.
+pub fn beginnings()
+    ensures empty { (d : ℕ) → IsBeginning d [] }
+    ensures fronts { (d : ℕ) (p q : List ℕ) → IsBeginning d (p ++ q) → IsBeginning d p }
+    ensures longest { (d : ℕ) (b p q : List ℕ) → IsLongestBeginning d b p → IsLongestBeginning d b q → p ≡ q }
+    ensures item { (d : ℕ) (b : List ℕ) (s : Spelling) (rest : List ℕ)
+        → IsAtFront d b s rest → IsLongestBeginning d b (spell s) }
+    ensures whole { (d : ℕ) (s t : Spelling) (p : List ℕ) → IsItem d s p → StartsWith d t p → s ≡ t }
+{}
+
+/// Items that start with the same bytes have the same complaints that end within these.
+pub fn complaints_within_a_beginning()
+    ensures { (d : ℕ) (p : List ℕ) (s t : Spelling) → StartsWith d s p → StartsWith d t p
+        → (r : Rules) (c : Complaint) → c.end ≤ length p → Complains r 0 s c → Complains r 0 t c }
+{}
+
+/// The first complaint that ends within some bytes is one, and the same for each item that starts
+/// with these bytes.
+pub fn first_complaint_is_one()
+    ensures one { (r : Rules) (s : Spelling) (t : ℕ) (c e : Complaint)
+        → IsFirstComplaint r s t c → IsFirstComplaint r s t e → c ≡ e }
+    ensures each { (d : ℕ) (p : List ℕ) (s t : Spelling) → StartsWith d s p → StartsWith d t p
+        → (r : Rules) (c : Complaint)
+        → IsFirstComplaint r s (length p) c → IsFirstComplaint r t (length p) c }
+{}
+
+/// An input has one verdict, whichever item is asked of those that start with its longest
+/// beginning.
+pub fn verdict_is_one()
+    ensures one { (d n : ℕ) (r : Rules) (input : List ℕ) (x y : Answer)
+        → IsVerdict d n r input x → IsVerdict d n r input y → x ≡ y }
+    ensures each { (d n : ℕ) (r : Rules) (p behind : List ℕ) (s t : Spelling)
+        → StartsWith d s p → StartsWith d t p
+        → (x : Answer) → Decides d n r p behind s x → Decides d n r p behind t x }
+{}
+
+/// What is accepted: exactly an item, well-formed within the depth and without complaint, that the
+/// input's first bytes, as many as the limit allows, begin with.
+pub fn acceptance_is_exact()
+    ensures { (d n : ℕ) (r : Rules) (input : List ℕ) (s : Spelling)
+        → IsVerdict d n r input (accepted s) ↔ IsSound d n r input s }
+{}

@@ -1,0 +1,54 @@
+//! The limits on one item.
+
+ghost use Rattle.std.specs.Prelude.{◌≡◌, ◌↔◌, ◌≤◌, ◌^◌, IsSome, IfSome};
+ghost use Rattle.cbor_head.specs.Limits.{Bounds, bounds, AreBounds};
+
+use std::marker::Model;
+
+/// The limits on one item: how deep its arrays, maps and tags may nest, from 0 to 256, and how
+/// many bytes it may have, from 0 to 2^62.
+#[derive(Clone, Copy, Debug, PartialEq, Eq)]
+pub struct Limits {
+    depth: u16,
+    bytes: u64,
+}
+
+impl Model for Limits {
+    ghost Value = { Bounds };
+
+    ghost view = { λ l. bounds l.depth l.bytes };
+
+    ghost inverse = { λ b. record { depth = b.depth; bytes = b.bytes } };
+
+    ghost invariant = { λ l. AreBounds (bounds l.depth l.bytes) };
+}
+
+impl Limits {
+    /// The limits; none for a depth above 256 or a byte limit above 2^62.
+    pub fn new(depth: u16, bytes: u64) -> Option<Limits>
+        ensures allowed { IsSome result ↔ AreBounds (bounds depth bytes) }
+        ensures value { IfSome result (λ l. l ≡ bounds depth bytes) }
+    {
+        if depth <= 256 && bytes <= 1 << 62 {
+            Some(Limits { depth, bytes })
+        } else {
+            None
+        }
+    }
+
+    /// How deep arrays, maps and tags may nest.
+    pub fn depth(self) -> u16
+        ensures depth { result ≡ self.depth }
+        ensures most { result ≤ 256 }
+    {
+        self.depth
+    }
+
+    /// How many bytes the item may have.
+    pub fn bytes(self) -> u64
+        ensures bytes { result ≡ self.bytes }
+        ensures most { result ≤ 2 ^ 62 }
+    {
+        self.bytes
+    }
+}

@@ -1,0 +1,51 @@
+//! The major types.
+
+ghost use Rattle.std.specs.Prelude.{◌≡◌};
+ghost use Rattle.cbor_head.specs.Head.{major_number};
+ghost use Rattle.cbor_head.specs.Read.{major_of};
+
+/// The major type of an item, in the high three bits of its first byte (RFC 8949, section 3.1).
+#[derive(Clone, Copy, Debug, PartialEq, Eq)]
+pub enum Major {
+    /// An unsigned integer.
+    Unsigned,
+    /// A negative integer: note well that argument n stands for -1 - n.
+    Negative,
+    /// A byte string.
+    Bytes,
+    /// A text string.
+    Text,
+    /// An array of items.
+    Array,
+    /// A map of pairs of items.
+    Map,
+    /// A tag number, with one content item.
+    Tag,
+    /// A simple value. Floats, of the same major type, are refused.
+    Simple,
+}
+
+impl Major {
+    /// The type of these high three bits of a first byte.
+    pub(crate) fn of_number(number: u8) -> Major
+        ensures { result ≡ major_of number }
+    {
+        match number {
+            0 => Major::Unsigned,
+            1 => Major::Negative,
+            2 => Major::Bytes,
+            3 => Major::Text,
+            4 => Major::Array,
+            5 => Major::Map,
+            6 => Major::Tag,
+            _ => Major::Simple,
+        }
+    }
+
+    /// The high three bits of the first byte, 0 to 7.
+    pub(crate) fn number(self) -> u8
+        ensures { result ≡ major_number self }
+    {
+        self as u8
+    }
+}

@@ -1,0 +1,118 @@
+//! Why bytes are refused, and where.
+
+ghost use Rattle.std.specs.Prelude.{◌≡◌, Some};
+ghost use Rattle.cbor_head.specs.Printed.{reason_name, refusal_text};
+
+use std::error::Error;
+use std::fmt;
+
+/// Why an item is refused.
+#[derive(Clone, Copy, Debug, PartialEq, Eq)]
+pub enum Reason {
+    /// The input ends within the item.
+    Truncated = 1,
+    /// The byte limit is reached within the item.
+    TooLong = 2,
+    /// Additional information 28 to 30 where an item may begin.
+    Reserved = 3,
+    /// Additional information 31 on an integer or a tag.
+    NoIndefinite = 4,
+    /// A floating-point number, which this codec leaves out.
+    Float = 5,
+    /// A simple value below 32 in a second byte.
+    BadSimple = 6,
+    /// A break where an item must begin and none may close.
+    StrayBreak = 7,
+    /// In an indefinite-length string, neither a definite string of its type nor a break.
+    BadChunk = 8,
+    /// An array, map or tag beyond the depth limit.
+    TooDeep = 9,
+    /// A text, or a chunk of one, that is not UTF-8.
+    InvalidText = 10,
+    /// A key that is the same as an earlier one of its map.
+    RepeatedKey = 11,
+    /// A byte follows the item.
+    Trailing = 12,
+    /// The canonical bytes are longer than the byte limit.
+    CanonicalTooLong = 13,
+    /// A head that is not the shortest of its argument.
+    NotShortest = 14,
+    /// An item of indefinite length.
+    Indefinite = 15,
+    /// A key that does not come after the one before it.
+    KeyOrder = 16,
+    /// The reader gave an error.
+    Read = 17,
+    /// The writer gave an error, or took nothing.
+    Write = 18,
+    /// Memory was refused.
+    Memory = 19,
+}
+
+impl Reason {
+    ghost use Rattle.cbor_head.specs.Reason.{reason_number};
+
+    /// The number of the reason, 1 to 19.
+    pub fn number(self) -> u8
+        ensures { result ≡ reason_number self }
+    {
+        self as u8
+    }
+}
+
+/// Writes the reason's name.
+impl fmt::Display for Reason {
+    ghost output = { λ r. Some (reason_name r) };
+
+    fn fmt<W: fmt::Write>(&self, f: &mut fmt::Formatter<W>) -> fmt::Result {
+        f.write_str(match self {
+            Reason::Truncated => "Truncated",
+            Reason::TooLong => "TooLong",
+            Reason::Reserved => "Reserved",
+            Reason::NoIndefinite => "NoIndefinite",
+            Reason::Float => "Float",
+            Reason::BadSimple => "BadSimple",
+            Reason::StrayBreak => "StrayBreak",
+            Reason::BadChunk => "BadChunk",
+            Reason::TooDeep => "TooDeep",
+            Reason::InvalidText => "InvalidText",
+            Reason::RepeatedKey => "RepeatedKey",
+            Reason::Trailing => "Trailing",
+            Reason::CanonicalTooLong => "CanonicalTooLong",
+            Reason::NotShortest => "NotShortest",
+            Reason::Indefinite => "Indefinite",
+            Reason::KeyOrder => "KeyOrder",
+            Reason::Read => "Read",
+            Reason::Write => "Write",
+            Reason::Memory => "Memory",
+        })
+    }
+}
+
+/// A refusal: why, where, and how far the input was taken.
+#[derive(Clone, Copy, Debug, PartialEq, Eq)]
+pub struct Refusal {
+    /// Why the item is refused.
+    pub reason: Reason,
+    /// The offset in bytes, from the item's first byte, of what is wrong.
+    pub place: u64,
+    /// How many of the item's bytes were taken.
+    pub read: u64,
+}
+
+/// Writes the reason's number and name, and the place: `12 Trailing at 1`.
+impl fmt::Display for Refusal {
+    ghost output = { λ r. Some (refusal_text r) };
+
+    fn fmt<W: fmt::Write>(&self, f: &mut fmt::Formatter<W>) -> fmt::Result {
+        write!(
+            f,
+            "{} {} at {}",
+            self.reason.number(),
+            self.reason,
+            self.place
+        )
+    }
+}
+
+impl Error for Refusal {}

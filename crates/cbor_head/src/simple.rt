@@ -1,0 +1,44 @@
+//! Simple values.
+
+ghost use Rattle.std.specs.Prelude.{◌≡◌, ◌↔◌, ℕ, IsSome, IfSome};
+ghost use Rattle.cbor_head.specs.Head.{IsSimple};
+
+use std::marker::Model;
+
+/// A simple value: a number from 0 to 23 or from 32 to 255 (RFC 8949, section 3.3).
+#[derive(Clone, Copy, Debug, PartialEq, Eq)]
+pub struct Simple {
+    number: u8,
+}
+
+impl Model for Simple {
+    ghost Value = { ℕ };
+
+    ghost view = { λ s. s.number };
+
+    ghost inverse = { λ n. record { number = n } };
+
+    ghost invariant = { λ s. IsSimple s.number };
+}
+
+impl Simple {
+    /// The simple value of this number; none for 24 to 31, which do not exist.
+    pub fn new(number: u8) -> Option<Simple>
+        ensures exists { IsSome result ↔ IsSimple number }
+        ensures value { IfSome result (λ s. s ≡ number) }
+    {
+        if number < 24 || number >= 32 {
+            Some(Simple { number })
+        } else {
+            None
+        }
+    }
+
+    /// The number that it was made of.
+    pub fn number(self) -> u8
+        ensures number { result ≡ self }
+        ensures simple { IsSimple result }
+    {
+        self.number
+    }
+}
