@@ -1,0 +1,5 @@
+pub mod Accepted
+pub mod OneAnswer
+pub mod ReadingScalars
+pub mod ScalarVerdicts
+pub mod Scalars

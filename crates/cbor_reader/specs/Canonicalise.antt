@@ -1,0 +1,33 @@
+-- What an input becomes: the canonical bytes of its item, or the refusal (RFC 8949, sections 4.2 and 5.3).
+use Rattle.std.specs.Prelude.{ℕ, ◌≡◌, ◌<◌, ◌≤◌, List, length, take}
+use Rattle.cbor_head.specs.Spelling.{Spelling, spell, value_of}
+use Rattle.cbor_head.specs.Beginning.{IsLongestBeginning}
+use Rattle.cbor_head.specs.Canonical.{canonical}
+use Rattle.cbor_head.specs.Complaint.{plain}
+use Rattle.cbor_head.specs.Verdict.{IsVerdict, accepted, refused, refusal}
+use Rattle.cbor_head.specs.declared.order.KeyOrder.{KeyOrder}
+use Rattle.cbor_head.specs.declared.reason.Reason.TheVariants.{Trailing, CanonicalTooLong, Memory}
+use Rattle.cbor_head.specs.declared.reason.Refusal.{Refusal}
+
+-- The whole input is one well-formed, valid item within depth d and n bytes, and out is the canonical bytes of its value, at
+-- most n bytes too.
+pub record IsCanonicalOf (d n : ℕ) (o : KeyOrder) (input out : List ℕ) : Type 0 where
+  pub item : Spelling
+  pub verdict : IsVerdict d n plain input (accepted item)
+  pub whole : spell item ≡ input
+  pub canonical_bytes : out ≡ canonical o (value_of item)
+  pub fits : length out ≤ n
+
+-- the refusal of an input that has none, or of one for which memory was refused
+pub data IsRefusal (d n : ℕ) (o : KeyOrder) (input : List ℕ) (f : Refusal) : Type 0 where
+  -- the plain verdict
+  of_verdict : IsVerdict d n plain input (refused f) → IsRefusal d n o input f
+  -- a byte follows the item
+  trailing : (item : Spelling) → IsVerdict d n plain input (accepted item) → length (spell item) < length input
+      → f ≡ refusal Trailing (length (spell item)) (length (spell item)) → IsRefusal d n o input f
+  -- the item's canonical bytes are more than n
+  canonical_too_long : (item : Spelling) → IsVerdict d n plain input (accepted item) → spell item ≡ input
+      → n < length (canonical o (value_of item)) → f ≡ refusal CanonicalTooLong (length input) (length input) → IsRefusal d n o input f
+  -- memory was refused, somewhere on the longest beginning
+  of_memory : (p : List ℕ) (taken : ℕ) → IsLongestBeginning d (take n input) p → taken ≤ length p
+      → f ≡ refusal Memory taken taken → IsRefusal d n o input f

@@ -1,0 +1,2 @@
+pub mod Canonicalise
+pub mod Scalar
