@@ -1,0 +1,37 @@
+//! `cborc`, a program for deterministic CBOR files: see [`run`].
+#![tactic(auto)]
+
+mod canon;
+mod command_line;
+mod disk;
+mod fault;
+mod folder;
+mod input;
+mod run;
+mod status;
+#[cfg(test)]
+mod tests;
+
+use crate::disk::Disk;
+use crate::fault::Fault;
+use crate::run::{end, run};
+use std::process::ExitCode;
+use std::{env, io};
+
+fn main(rt: HostRuntime) -> ExitCode {
+    let mut out = rt.stdout();
+    let mut err = rt.stderr();
+    let status = match words(&rt) {
+        Ok(words) => {
+            let mut files = Disk { rt: &rt };
+            run(rt.alloc(), words, &mut files, &mut out, &mut err)
+        }
+        Err(error) => end(Err(Fault::of_words(&error)), &mut err),
+    };
+    ExitCode::from(status)
+}
+
+// The words of the command line, the program's name first.
+fn words(rt: &HostRuntime) -> io::Result<Vec<String>> {
+    Ok(env::args(rt)?.collect(rt.alloc())?)
+}

@@ -1,0 +1,78 @@
+//! The program, over any folder and any two outputs.
+
+ghost use Rattle.std.specs.Prelude.{◌≤◌};
+
+use crate::canon::canon;
+use crate::command_line::{self, Request};
+use crate::fault::Fault;
+use crate::folder::Folder;
+use crate::status::Status;
+use clap::error::ErrorKind;
+use std::alloc::Global;
+use std::io::Write;
+
+/// Does what the words ask for, the program's name first, and answers the status with which the
+/// program ends: 0 accepted, 1 refused, 2 a fault in the words, 3 a fault of a file, its hex, the
+/// output or memory. Why it is not 0 stands on `err`, whose own faults change no status.
+pub fn run<F: Folder, O: Write, E: Write>(
+    alloc: Global,
+    words: Vec<String>,
+    files: &mut F,
+    out: &mut O,
+    err: &mut E,
+) -> u8
+    ensures { result ≤ 3 }
+{
+    let ended = match command_line::parse(alloc, words.as_slice()) {
+        Ok(request) => answer(alloc, &request, files),
+        Err(error) => explain(&error, out, err),
+    };
+    end(ended, err)
+}
+
+/// Writes the line of a fault, and answers the status.
+pub fn end<E: Write>(ended: Result<Status, Fault<'_>>, err: &mut E) -> u8
+    ensures { result ≤ 3 }
+{
+    let status = match ended {
+        Ok(status) => status,
+        Err(fault) => {
+            let _ = writeln!(err, "{fault}");
+            fault.status()
+        }
+    };
+    status as u8
+}
+
+fn answer<'a, F: Folder>(
+    alloc: Global,
+    request: &Request<'a>,
+    files: &mut F,
+) -> Result<Status, Fault<'a>> {
+    match request {
+        Request::Canon {
+            source,
+            target,
+            options,
+        } => canon(alloc, files, source, target, *options),
+    }
+}
+
+// Writes why the words give no request: help to `out`, a fault in them to `err`.
+fn explain<'a, O: Write, E: Write>(
+    error: &clap::Error,
+    out: &mut O,
+    err: &mut E,
+) -> Result<Status, Fault<'a>> {
+    if error.kind() == ErrorKind::OutOfMemory {
+        return Err(Fault::Memory);
+    }
+    if error.use_stderr() {
+        let _ = write!(err, "{error}");
+        return Ok(Status::Misused);
+    }
+    match write!(out, "{error}") {
+        Ok(()) => Ok(Status::Accepted),
+        Err(_) => Err(Fault::CannotPrint),
+    }
+}

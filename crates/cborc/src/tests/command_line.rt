@@ -1,0 +1,177 @@
+//! The words of the command line.
+
+use super::ran;
+use std::alloc::AllocError;
+
+// The options stand before or behind the files.
+const ACCEPTED: [&str; 12] = [
+    "canon in out",
+    "canon --hex in out",
+    "canon in --hex out",
+    "canon in out --hex",
+    "canon --bytes 4 --depth 3 --hex in out",
+    "canon in --bytes=4 out --depth=3",
+    "canon in out --bytes 4 --hex --depth 3",
+    "canon --depth 0 in out",
+    "canon --depth 256 in out",
+    "canon --bytes 4611686018427387904 in out",
+    "canon -- in out",
+    "canon --hex -- in out",
+];
+
+// The words, and what standard error begins with.
+const FAULTS: [(&str, &str); 21] = [
+    (
+        "",
+        "error: 'cborc' requires a subcommand but one was not provided\n",
+    ),
+    ("--hex", "error: unexpected argument '--hex' found\n"),
+    ("encode in out", "error: unrecognized subcommand 'encode'\n"),
+    (
+        "--hex canon in out",
+        "error: unexpected argument '--hex' found\n",
+    ),
+    (
+        "canon",
+        "error: the following required arguments were not provided:\n  <IN>\n  <OUT>\n",
+    ),
+    (
+        "canon in",
+        "error: the following required arguments were not provided:\n  <OUT>\n",
+    ),
+    (
+        "canon in out more",
+        "error: unexpected argument 'more' found\n",
+    ),
+    (
+        "canon --strict in out",
+        "error: unexpected argument '--strict' found\n",
+    ),
+    ("canon -x in out", "error: unexpected argument '-x' found\n"),
+    (
+        "canon --hex=yes in out",
+        "error: unexpected value 'yes' for '--hex' found; no more were expected\n",
+    ),
+    (
+        "canon --hex --hex in out",
+        "error: the argument '--hex' cannot be used multiple times\n",
+    ),
+    (
+        "canon --depth 1 --depth 1 in out",
+        "error: the argument '--depth <count>' cannot be used multiple times\n",
+    ),
+    (
+        "canon in out --depth",
+        "error: a value is required for '--depth <count>' but none was supplied\n",
+    ),
+    (
+        "canon --depth 257 in out",
+        "error: invalid value '257' for '--depth <count>': 257 is not in 0..=256\n",
+    ),
+    (
+        "canon --depth=-1 in out",
+        "error: invalid value '-1' for '--depth <count>': ",
+    ),
+    (
+        "canon --depth deep in out",
+        "error: invalid value 'deep' for '--depth <count>': invalid digit found in string\n",
+    ),
+    (
+        "canon --bytes 4611686018427387905 in out",
+        "error: invalid value '4611686018427387905' for '--bytes <count>': 4611686018427387905 is not in 0..=4611686018427387904\n",
+    ),
+    (
+        "canon --bytes 18446744073709551616 in out",
+        "error: invalid value '18446744073709551616' for '--bytes <count>': ",
+    ),
+    (
+        "canon --bytes=-1 in out",
+        "error: invalid value '-1' for '--bytes <count>': ",
+    ),
+    (
+        "canon --bytes 1k in out",
+        "error: invalid value '1k' for '--bytes <count>': invalid digit found in string\n",
+    ),
+    (
+        "canon --bytes= in out",
+        "error: invalid value '' for '--bytes <count>': cannot parse integer from empty string\n",
+    ),
+];
+
+const HELP: &str = "\
+Reads and writes deterministic CBOR (RFC 8949, section 4.2)
+
+Usage: cborc <COMMAND>
+
+Commands:
+  canon  Writes the canonical bytes of the item in IN to OUT
+  help   Print this message or the help of the given subcommand(s)
+
+Options:
+  -h, --help  Print help
+";
+
+const HELP_OF_CANON: &str = "\
+Writes the canonical bytes of the item in IN to OUT
+
+Usage: cborc canon [OPTIONS] <IN> <OUT>
+
+Arguments:
+  <IN>   The file to read: one item
+  <OUT>  The file to write
+
+Options:
+      --depth <count>  How deep arrays, maps and tags may nest, 0 to 256 [default: 256]
+      --bytes <count>  How many bytes an item may have, 0 to 4611686018427387904 [default: 1048576]
+      --hex            Read hex digits, two for each byte, white space ignored
+  -h, --help           Print help
+";
+
+// The words, and what stands on standard output.
+const HELPS: [(&str, &str); 7] = [
+    ("--help", HELP),
+    ("-h", HELP),
+    ("help", HELP),
+    ("canon --help", HELP_OF_CANON),
+    ("canon -h", HELP_OF_CANON),
+    ("help canon", HELP_OF_CANON),
+    ("canon absent --help", HELP_OF_CANON),
+];
+
+#[test]
+fn takes_options_anywhere(rt: HostRuntime) -> Result<(), AllocError> {
+    for line in ACCEPTED {
+        let bytes = if line.contains("--hex") {
+            b"1800".as_slice()
+        } else {
+            b"\x18\x00".as_slice()
+        };
+        let ran = ran(rt.alloc(), line, bytes)?;
+        assert!(rt; ran.status == 0 && ran.wrote("out", b"\x00"), "{line}");
+    }
+    Ok(())
+}
+
+#[test]
+fn faults_in_the_words(rt: HostRuntime) -> Result<(), AllocError> {
+    for (line, wanted) in FAULTS {
+        let ran = ran(rt.alloc(), line, b"\x00")?;
+        let quiet = ran.out.is_empty() && ran.written.is_empty();
+        let told = ran.err.starts_with(wanted.as_bytes());
+        assert!(rt; ran.status == 2 && quiet && told, "{line}");
+    }
+    Ok(())
+}
+
+#[test]
+fn helps(rt: HostRuntime) -> Result<(), AllocError> {
+    for (line, wanted) in HELPS {
+        let ran = ran(rt.alloc(), line, b"\x00")?;
+        let quiet = ran.err.is_empty() && ran.written.is_empty();
+        assert!(rt;
+            ran.status == 0 && quiet && ran.out.as_slice() == wanted.as_bytes(),
+            "{line}"
+        );
+    }
+    Ok(())
+}

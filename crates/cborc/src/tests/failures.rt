@@ -1,0 +1,113 @@
+//! Files and outputs that fail.
+
+use super::{ran, run_with};
+use crate::fault::Fault;
+use crate::run::end;
+use std::alloc::AllocError;
+use std::io;
+use std::io::{ErrorKind, Write};
+
+// The words, the file, the status, and the line on standard error.
+const ROWS: [(&str, &[u8], u8, &str); 9] = [
+    ("canon absent out", b"\x00", 3, "cannot read absent"),
+    ("canon --hex absent out", b"\x00", 3, "cannot read absent"),
+    ("canon full out", b"\x00", 3, "out of memory"),
+    ("canon in locked", b"\x00", 3, "cannot write locked"),
+    ("canon in full", b"\x00", 3, "out of memory"),
+    ("canon absent locked", b"\x00", 3, "cannot read absent"),
+    (
+        "canon in locked",
+        b"\x00\x00",
+        1,
+        "refused 12 Trailing at 1",
+    ),
+    ("canon in locked", b"\x80", 1, "not a scalar"),
+    ("canon --hex in locked", b"0", 3, "not hex: in"),
+];
+
+#[test]
+fn names_the_file(rt: HostRuntime) -> Result<(), AllocError> {
+    for (line, bytes, status, wanted) in ROWS {
+        let ran = ran(rt.alloc(), line, bytes)?;
+        assert!(rt; ran.stopped(status, wanted), "{line}");
+    }
+    Ok(())
+}
+
+// An output that takes so many bytes and then fails.
+#[derive(Drop)]
+struct Short {
+    left: usize,
+}
+
+impl Write for Short {
+    fn write(&mut self, bytes: &[u8]) -> io::Result<usize> {
+        if self.left == 0 {
+            return Err(io::Error::from(ErrorKind::BrokenPipe));
+        }
+        let taken = bytes.len().min(self.left);
+        self.left -= taken;
+        Ok(taken)
+    }
+
+    fn flush(&mut self) -> io::Result<()> {
+        Ok(())
+    }
+}
+
+// The words, the file, and the status.
+const STATUSES: [(&str, &[u8], u8); 6] = [
+    ("canon in out", b"\x00", 0),
+    ("canon in out", b"\x00\x00", 1),
+    ("canon in out", b"\x80", 1),
+    ("canon in", b"\x00", 2),
+    ("", b"\x00", 2),
+    ("canon absent out", b"\x00", 3),
+];
+
+#[test]
+fn standard_error_fails(rt: HostRuntime) -> Result<(), AllocError> {
+    for (line, bytes, wanted) in STATUSES {
+        for left in [0, 3] {
+            let mut out = Short { left };
+            let mut err = Short { left };
+            let (status, _) = run_with(rt.alloc(), line, bytes, &mut out, &mut err)?;
+            if status == 3 && wanted != 3 {
+                return Err(AllocError);
+            }
+            assert!(rt; status == wanted, "{line}");
+        }
+    }
+    Ok(())
+}
+
+#[test]
+fn standard_output_fails(rt: HostRuntime) -> Result<(), AllocError> {
+    for left in [0, 1, 20] {
+        let mut out = Short { left };
+        let mut err = Vec::with_capacity(rt.alloc(), 2048)?;
+        let (status, _) = run_with(rt.alloc(), "help", b"", &mut out, &mut err)?;
+        if err.as_slice() == b"out of memory\n".as_slice() {
+            return Err(AllocError);
+        }
+        let told = err.as_slice() == b"cannot write standard output\n".as_slice();
+        assert!(rt; status == 3 && told, "{left}");
+    }
+    Ok(())
+}
+
+// What keeps the words from the program, the status, and the line on standard error.
+const NO_WORDS: [(ErrorKind, u8, &[u8]); 2] = [
+    (ErrorKind::InvalidData, 2, b"the words are not UTF-8\n"),
+    (ErrorKind::OutOfMemory, 3, b"out of memory\n"),
+];
+
+#[test]
+fn has_no_words(rt: HostRuntime) -> Result<(), AllocError> {
+    for (kind, status, line) in NO_WORDS {
+        let mut err = Vec::with_capacity(rt.alloc(), 64)?;
+        let ended = end(Err(Fault::of_words(&io::Error::from(kind))), &mut err);
+        assert!(rt; ended == status && err.as_slice() == line);
+    }
+    Ok(())
+}
