@@ -1,0 +1,294 @@
+-- Events, neighbouring pieces joined, are told by their marks.
+use Rattle.std.proofs.Common.{◌≡◌, ℕ, zero, suc, ◌+◌, ◌-◌, ◌<◌, ◌≤◌, ◌⊎◌, Bool, true, false, nat_lt, nat_le, cond, List, [], ◌∷◌, ◌++◌, replicate, Some, None, refl, sym, ap, ap₂, ◌∙◌, subst, inl, inr, arith, append-nil}
+use Rattle.std.proofs.lemmas.Bool.{lt-ltb, le-ltb, cases_lt}
+use Rattle.cbor_head.specs.declared.major.Major.{Major}
+use Rattle.cbor_head.specs.declared.major.Major.TheVariants as majors
+use Rattle.cbor_head.specs.declared.width.Width.{Width}
+use Rattle.cbor_head.specs.declared.width.Width.TheVariants.{Direct, One, Two, Four, Eight, Indefinite}
+use Rattle.cbor_events.specs.Trace.{Mark, a_head, a_chunk, a_byte, an_end, size, total, within}
+use Rattle.cbor_events.specs.State.{mark_of, marks_of, IsProper, IsDefinite}
+use Rattle.cbor_events.specs.Event.{event, count_at, marks_in, event_size, joined_with, onto, joined, front_of, cut, IsRow}
+use Rattle.cbor_events.specs.declared.event.Event.{Event}
+use Rattle.cbor_events.specs.declared.event.EventKind.{EventKind}
+use Rattle.cbor_events.specs.declared.event.EventKind.TheVariants.{Unsigned, Negative, Simple, Bytes, Text, Chunk, Piece, Array, Map, Tag, End}
+use Rattle.cbor_events.proofs.Events.{le-leb, lt-leb, within-none, within-some}
+
+-- ---- the event of a mark
+
+abbrev head_kind : Major → Width → ℕ → EventKind
+head_kind majors.Unsigned w n = Unsigned n
+head_kind majors.Negative w n = Negative n
+head_kind majors.Bytes w n = Bytes (count_at w n)
+head_kind majors.Text w n = Text (count_at w n)
+head_kind majors.Array w n = Array (count_at w n)
+head_kind majors.Map w n = Map (count_at w n)
+head_kind majors.Tag w n = Tag n
+head_kind majors.Simple w n = Simple n
+
+abbrev event_of : ℕ → Mark → Event
+event_of at (a_head major w n) = event at w (head_kind major w n)
+event_of at (a_chunk w n) = event at w (Chunk n)
+event_of at a_byte = event at Direct (Piece 1)
+event_of at an_end = event at Indefinite End
+
+-- the events of marks, neighbouring pieces joined
+abbrev pub rejoin : ℕ → List Mark → List Event
+rejoin at [] = []
+rejoin at (m ∷ ms) = onto (event_of at m) (rejoin (at + size m) ms)
+
+some-count : (w : Width) (n : ℕ) → IsDefinite w → count_at w n ≡ Some n
+some-count Direct n h = refl
+some-count One n h = refl
+some-count Two n h = refl
+some-count Four n h = refl
+some-count Eight n h = refl
+some-count Indefinite n h = absurd h
+
+none-count : (w : Width) → w ≡ Indefinite → count_at w 0 ≡ None
+none-count w e = ap (λ v. count_at v 0) e
+
+-- one mark, but a piece's
+abbrev pub IsSingle : EventKind → Type 0
+IsSingle (Piece n) = ⊥
+IsSingle _ = Unit {0}
+
+back : (at : ℕ) (w : Width) (kind : EventKind) → IsSingle kind → IsProper w kind → event_of at (mark_of w kind) ≡ event at w kind
+back at w (Piece n) s p = absurd s
+back at w (Unsigned n) s p = refl
+back at w (Negative n) s p = refl
+back at w (Simple n) s p = refl
+back at w (Chunk n) s p = refl
+back at w (Tag n) s p = refl
+back at w (Bytes None) s p = ap (λ c. event at w (Bytes c)) (none-count w p)
+back at w (Bytes (Some n)) s p = ap (λ c. event at w (Bytes c)) (some-count w n p)
+back at w (Text None) s p = ap (λ c. event at w (Text c)) (none-count w p)
+back at w (Text (Some n)) s p = ap (λ c. event at w (Text c)) (some-count w n p)
+back at w (Array None) s p = ap (λ c. event at w (Array c)) (none-count w p)
+back at w (Array (Some n)) s p = ap (λ c. event at w (Array c)) (some-count w n p)
+back at w (Map None) s p = ap (λ c. event at w (Map c)) (none-count w p)
+back at w (Map (Some n)) s p = ap (λ c. event at w (Map c)) (some-count w n p)
+back at w End s p = ap (λ v. event at v End) (sym p)
+
+-- what an event is but a piece: one mark, that stands alone
+record Single (at : ℕ) (w : Width) (kind : EventKind) : Type 0 where
+  marks : marks_of w kind ≡ mark_of w kind ∷ []
+  alone : (es : List Event) → onto (event at w kind) es ≡ event at w kind ∷ es
+  front : (t : ℕ) → front_of t kind (event at w kind) ≡ []
+
+single : (at : ℕ) (w : Width) (kind : EventKind) → IsSingle kind → Single at w kind
+single at w (Piece n) s = absurd s
+single at w (Unsigned n) s = record { marks = refl; alone = λ es. refl; front = λ t. refl }
+single at w (Negative n) s = record { marks = refl; alone = λ es. refl; front = λ t. refl }
+single at w (Simple n) s = record { marks = refl; alone = λ es. refl; front = λ t. refl }
+single at w (Chunk n) s = record { marks = refl; alone = λ es. refl; front = λ t. refl }
+single at w (Tag n) s = record { marks = refl; alone = λ es. refl; front = λ t. refl }
+single at w (Bytes n) s = record { marks = refl; alone = λ es. refl; front = λ t. refl }
+single at w (Text n) s = record { marks = refl; alone = λ es. refl; front = λ t. refl }
+single at w (Array n) s = record { marks = refl; alone = λ es. refl; front = λ t. refl }
+single at w (Map n) s = record { marks = refl; alone = λ es. refl; front = λ t. refl }
+single at w End s = record { marks = refl; alone = λ es. refl; front = λ t. refl }
+
+-- ---- pieces
+
+abbrev piece : ℕ → ℕ → Event
+piece at n = event at Direct (Piece n)
+
+pub bytes-total : (n : ℕ) → total (replicate n a_byte) ≡ n
+bytes-total zero = refl
+bytes-total (suc n) = let e = bytes-total n in omega (arith, e)
+
+-- a piece before what is joined with a piece
+piece-joined : (at to k n : ℕ) (kind : EventKind) (f : Event) (es : List Event) → onto (piece at k) (joined_with (piece to n) n kind f es) ≡ joined_with (piece at (k + n)) (k + n) kind f es
+piece-joined at to k n (Piece m) f es = let e : k + (n + m) ≡ k + n + m = omega arith in ap (λ j. piece at j ∷ es) e
+piece-joined at to k n (Unsigned m) f es = refl
+piece-joined at to k n (Negative m) f es = refl
+piece-joined at to k n (Simple m) f es = refl
+piece-joined at to k n (Bytes m) f es = refl
+piece-joined at to k n (Text m) f es = refl
+piece-joined at to k n (Chunk m) f es = refl
+piece-joined at to k n (Array m) f es = refl
+piece-joined at to k n (Map m) f es = refl
+piece-joined at to k n (Tag m) f es = refl
+piece-joined at to k n End f es = refl
+
+pieces-join : (at to k n : ℕ) (es : List Event) → onto (piece at k) (onto (piece to n) es) ≡ onto (piece at (k + n)) es
+pieces-join at to k n [] = refl
+pieces-join at to k n (f ∷ es) = piece-joined at to k n f.kind f es
+
+-- the marks of a piece
+pieces-rejoin : (at n : ℕ) (ms : List Mark) → 0 < n → rejoin at (replicate n a_byte ++ ms) ≡ onto (piece at n) (rejoin (at + n) ms)
+pieces-rejoin at zero ms h = absurd (omega arith)
+pieces-rejoin at (suc zero) ms h = refl
+pieces-rejoin at (suc (suc n)) ms h =
+    let some : 0 < suc n = omega arith in
+    let to : at + 1 + suc n ≡ at + suc (suc n) = omega arith in
+    let all : 1 + suc n ≡ suc (suc n) = omega arith in
+    ap (onto (piece at 1)) (pieces-rejoin (at + 1) (suc n) ms some)
+    ∙ pieces-join at (at + 1) 1 (suc n) (rejoin (at + 1 + suc n) ms)
+    ∙ ap₂ (λ k p. onto (piece at k) (rejoin p ms)) all to
+
+single-rejoin : (at : ℕ) (w : Width) (kind : EventKind) (ms : List Mark) → IsSingle kind → IsProper w kind → rejoin at (marks_of w kind ++ ms) ≡ onto (event at w kind) (rejoin (at + total (marks_of w kind)) ms)
+single-rejoin at w kind ms s p =
+    let one = single at w kind s in
+    let same : at + size (mark_of w kind) ≡ at + (size (mark_of w kind) + 0) = omega arith in
+    ap (λ ns. rejoin at (ns ++ ms)) one.marks
+    ∙ ap₂ (λ e k. onto e (rejoin k ms)) (back at w kind s p) same
+    ∙ ap (λ ns. onto (event at w kind) (rejoin (at + total ns) ms)) (sym one.marks)
+
+-- the marks of an event
+event-rejoin : (at : ℕ) (w : Width) (kind : EventKind) (ms : List Mark) → IsProper w kind → rejoin at (marks_of w kind ++ ms) ≡ onto (event at w kind) (rejoin (at + total (marks_of w kind)) ms)
+event-rejoin at w (Piece n) ms p =
+    pieces-rejoin at n ms p.1 ∙ ap₂ (λ v k. onto (event at v (Piece n)) (rejoin (at + k) ms)) (sym p.0) (sym (bytes-total n))
+event-rejoin at w (Unsigned n) ms p = single-rejoin at w (Unsigned n) ms tt p
+event-rejoin at w (Negative n) ms p = single-rejoin at w (Negative n) ms tt p
+event-rejoin at w (Simple n) ms p = single-rejoin at w (Simple n) ms tt p
+event-rejoin at w (Bytes n) ms p = single-rejoin at w (Bytes n) ms tt p
+event-rejoin at w (Text n) ms p = single-rejoin at w (Text n) ms tt p
+event-rejoin at w (Chunk n) ms p = single-rejoin at w (Chunk n) ms tt p
+event-rejoin at w (Array n) ms p = single-rejoin at w (Array n) ms tt p
+event-rejoin at w (Map n) ms p = single-rejoin at w (Map n) ms tt p
+event-rejoin at w (Tag n) ms p = single-rejoin at w (Tag n) ms tt p
+event-rejoin at w End ms p = single-rejoin at w End ms tt p
+
+-- events that follow one another are told by their marks
+pub joined-rejoin : (at : ℕ) (es : List Event) → IsRow at es → joined es ≡ rejoin at (marks_in es)
+joined-rejoin at [] r = refl
+joined-rejoin at (e ∷ es) r =
+    ap (onto e) (joined-rejoin (at + event_size e) es r.2)
+    ∙ ap (λ p. onto (event p e.width e.kind) (rejoin (at + event_size e) (marks_in es))) r.0
+    ∙ sym (event-rejoin at e.width e.kind (marks_in es) r.1)
+
+-- ---- within the first bytes
+
+-- no piece stands first
+abbrev pub IsFresh : List Event → Type 0
+IsFresh [] = Unit {0}
+IsFresh (e ∷ es) = IsSingle e.kind
+
+-- no two pieces are neighbours
+abbrev pub AreApart : List Event → Type 0
+AreApart [] = Unit {0}
+AreApart (e ∷ es) = (IsSingle e.kind ⊎ IsFresh es) × AreApart es
+
+cut-fresh : (t : ℕ) (es : List Event) → IsFresh es → IsFresh (cut t es)
+cut-fresh t [] h = tt
+cut-fresh t (e ∷ es) h = go (nat_le (e.place + event_size e) t)
+  where
+    go : (b : Bool) → IsFresh (cond b (e ∷ cut t es) (front_of t e.kind e))
+    go true = h
+    go false = subst IsFresh (sym ((single e.place e.width e.kind h).front t)) tt
+
+apart-kind : (e f : Event) (n : ℕ) (kind : EventKind) (es : List Event) → IsSingle kind → joined_with e n kind f es ≡ e ∷ f ∷ es
+apart-kind e f n (Piece m) es h = absurd h
+apart-kind e f n (Unsigned m) es h = refl
+apart-kind e f n (Negative m) es h = refl
+apart-kind e f n (Simple m) es h = refl
+apart-kind e f n (Bytes m) es h = refl
+apart-kind e f n (Text m) es h = refl
+apart-kind e f n (Chunk m) es h = refl
+apart-kind e f n (Array m) es h = refl
+apart-kind e f n (Map m) es h = refl
+apart-kind e f n (Tag m) es h = refl
+apart-kind e f n End es h = refl
+
+onto-fresh : (at n : ℕ) (es : List Event) → IsFresh es → onto (piece at n) es ≡ piece at n ∷ es
+onto-fresh at n [] h = refl
+onto-fresh at n (f ∷ es) h = apart-kind (piece at n) f n f.kind es h
+
+within-bytes : (n t : ℕ) (ms : List Mark) → n ≤ t → within t (replicate n a_byte ++ ms) ≡ replicate n a_byte ++ within (t - n) ms
+within-bytes zero t ms h = let e : t ≡ t - 0 = omega arith in ap (λ k. within k ms) e
+within-bytes (suc n) t ms h =
+    let some : size a_byte ≤ t = omega arith in
+    let less : n ≤ t - 1 = omega arith in
+    let same : t - 1 - n ≡ t - suc n = omega arith in
+    within-some t a_byte (replicate n a_byte ++ ms) some ∙ ap (λ ns. a_byte ∷ ns) (within-bytes n (t - 1) ms less ∙ ap (λ k. replicate n a_byte ++ within k ms) same)
+
+within-part : (n t : ℕ) (ms : List Mark) → t < n → within t (replicate n a_byte ++ ms) ≡ replicate t a_byte
+within-part zero t ms h = absurd (omega arith)
+within-part (suc n) zero ms h = let none : 0 < size a_byte = omega arith in within-none 0 a_byte (replicate n a_byte ++ ms) none
+within-part (suc n) (suc t) ms h =
+    let some : size a_byte ≤ suc t = omega arith in
+    let less : t < n = omega arith in
+    let same : suc t - 1 ≡ t = omega arith in
+    within-some (suc t) a_byte (replicate n a_byte ++ ms) some ∙ ap (λ k. a_byte ∷ within k (replicate n a_byte ++ ms)) same ∙ ap (λ ns. a_byte ∷ ns) (within-part n t ms less)
+
+-- the first event and the others, cut
+abbrev CutFirst : ℕ → Width → EventKind → List Event → ℕ → List Event
+CutFirst at w kind es t = cond (nat_le (at + total (marks_of w kind)) (at + t)) (event at w kind ∷ cut (at + t) es) (front_of (at + t) kind (event at w kind))
+
+abbrev CutRest : ℕ → List Event → Type 0
+CutRest to es = (t : ℕ) → rejoin to (within t (marks_in es)) ≡ cut (to + t) es
+
+single-cut : (at : ℕ) (w : Width) (kind : EventKind) (es : List Event) (t : ℕ) → IsSingle kind → IsProper w kind → CutRest (at + total (marks_of w kind)) es
+    → rejoin at (within t (marks_of w kind ++ marks_in es)) ≡ CutFirst at w kind es t
+single-cut at w kind es t s p rest =
+    let one = single at w kind s in
+    let m = mark_of w kind in
+    let ns = marks_in es in
+    let whole : total (marks_of w kind) ≡ size m + 0 = ap total one.marks in
+    let first = ap (λ xs. rejoin at (within t (xs ++ ns))) one.marks in
+    elim (cases_lt t (size m)) [
+      | inl k ↦
+          let over : at + t < at + total (marks_of w kind) = omega (arith, whole) in
+          first ∙ ap (rejoin at) (within-none t m ns k) ∙ rw (lt-leb (at + total (marks_of w kind)) (at + t) over) (sym (one.front (at + t)))
+      | inr k ↦
+          let fits : at + total (marks_of w kind) ≤ at + t = omega (arith, whole) in
+          let to : at + size m ≡ at + total (marks_of w kind) = omega (arith, whole) in
+          let all : at + total (marks_of w kind) + (t - size m) ≡ at + t = omega (arith, whole) in
+          first ∙ ap (rejoin at) (within-some t m ns k)
+          ∙ ap₂ (λ e q. onto e (rejoin q (within (t - size m) ns))) (back at w kind s p) to
+          ∙ ap (onto (event at w kind)) (rest (t - size m) ∙ ap (λ q. cut q es) all)
+          ∙ rw (le-leb (at + total (marks_of w kind)) (at + t) fits) (one.alone (cut (at + t) es))
+    ]
+
+piece-cut : (at n : ℕ) (es : List Event) (t : ℕ) → 0 < n → IsFresh es → CutRest (at + total (marks_of Direct (Piece n))) es
+    → rejoin at (within t (replicate n a_byte ++ marks_in es)) ≡ CutFirst at Direct (Piece n) es t
+piece-cut at n es t some fresh rest =
+    let ns = marks_in es in
+    let whole = bytes-total n in
+    elim (cases_lt t n) [
+      | inl k ↦
+          let over : at + t < at + total (replicate n a_byte) = omega (arith, whole) in
+          rw (lt-leb (at + total (replicate n a_byte)) (at + t) over) (ap (rejoin at) (within-part n t ns k) ∙ part t)
+      | inr k ↦
+          let fits : at + total (replicate n a_byte) ≤ at + t = omega (arith, whole) in
+          let to : at + n ≡ at + total (replicate n a_byte) = omega (arith, whole) in
+          let all : at + total (replicate n a_byte) + (t - n) ≡ at + t = omega (arith, whole) in
+          ap (rejoin at) (within-bytes n t ns k) ∙ pieces-rejoin at n (within (t - n) ns) some
+          ∙ ap (λ q. onto (piece at n) (rejoin q (within (t - n) ns))) to
+          ∙ ap (onto (piece at n)) (rest (t - n) ∙ ap (λ q. cut q es) all)
+          ∙ rw (le-leb (at + total (replicate n a_byte)) (at + t) fits) (onto-fresh at n (cut (at + t) es) (cut-fresh (at + t) es fresh))
+    ]
+  where
+    part : (t : ℕ) → rejoin at (replicate t a_byte) ≡ cond (nat_lt at (at + t)) (event at Direct (Piece (at + t - at)) ∷ []) []
+    part zero =
+        let none : at + 0 ≤ at = omega arith in
+        rw (le-ltb at (at + 0) none) refl
+    part (suc t) =
+        let some : at < at + suc t = omega arith in
+        let len : suc t ≡ at + suc t - at = omega arith in
+        let most : 0 < suc t = omega arith in
+        rw (lt-ltb at (at + suc t) some)
+        (ap (rejoin at) (sym (append-nil (replicate (suc t) a_byte))) ∙ pieces-rejoin at (suc t) [] most ∙ ap (λ k. piece at k ∷ []) len)
+
+kind-cut : (at : ℕ) (w : Width) (kind : EventKind) (es : List Event) (t : ℕ) → IsProper w kind → IsSingle kind ⊎ IsFresh es → CutRest (at + total (marks_of w kind)) es
+    → rejoin at (within t (marks_of w kind ++ marks_in es)) ≡ CutFirst at w kind es t
+kind-cut at w (Piece n) es t p (inl h) rest = absurd h
+kind-cut at w (Piece n) es t p (inr h) rest = piece-cut at n es t p.1 h rest ∙ ap (λ v. CutFirst at v (Piece n) es t) (sym p.0)
+kind-cut at w (Unsigned n) es t p h rest = single-cut at w (Unsigned n) es t tt p rest
+kind-cut at w (Negative n) es t p h rest = single-cut at w (Negative n) es t tt p rest
+kind-cut at w (Simple n) es t p h rest = single-cut at w (Simple n) es t tt p rest
+kind-cut at w (Bytes n) es t p h rest = single-cut at w (Bytes n) es t tt p rest
+kind-cut at w (Text n) es t p h rest = single-cut at w (Text n) es t tt p rest
+kind-cut at w (Chunk n) es t p h rest = single-cut at w (Chunk n) es t tt p rest
+kind-cut at w (Array n) es t p h rest = single-cut at w (Array n) es t tt p rest
+kind-cut at w (Map n) es t p h rest = single-cut at w (Map n) es t tt p rest
+kind-cut at w (Tag n) es t p h rest = single-cut at w (Tag n) es t tt p rest
+kind-cut at w End es t p h rest = single-cut at w End es t tt p rest
+
+-- events apart, as far as the first bytes
+pub cut-rejoin : (es : List Event) (at t : ℕ) → IsRow at es → AreApart es → rejoin at (within t (marks_in es)) ≡ cut (at + t) es
+cut-rejoin [] at t r h = refl
+cut-rejoin (e ∷ es) at t r h =
+    kind-cut at e.width e.kind es t r.1 h.0 (λ u. cut-rejoin es (at + event_size e) u r.2 h.1)
+    ∙ ap (λ p. cond (nat_le (p + event_size e) (at + t)) (event p e.width e.kind ∷ cut (at + t) es) (front_of (at + t) e.kind (event p e.width e.kind))) (sym r.0)

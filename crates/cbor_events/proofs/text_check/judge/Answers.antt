@@ -1,0 +1,9 @@
+use Rattle.std.proofs.Common.{sym, subst, ◌∙◌}
+use Rattle.cbor_events.specs.TextCheck.{IsFixed}
+use Rattle.cbor_events.proofs.TextFronts.{fixed}
+use Rattle.cbor_events.proofs.text_check.judge.Goals as goal
+
+pub returns-in-Some : goal.returns-in-Some
+returns-in-Some c =
+    let e = sym c.in-Err.ensures.fault ∙ sym c.error_len.ensures ∙ c.in-Some.is in
+    subst (IsFixed c.args.bytes.now) (sym c.valid_up_to-in-Some.ensures) (fixed c.args.bytes.now _ c.in-Some.field-0 c.in-Err.ensures.cases.1 e)

@@ -1,0 +1,85 @@
+-- What is told of an item: a mark for each head and each break, and one for each byte of a payload. Proofs use marks;
+-- `Event` has the events that they stand for.
+use Rattle.std.specs.Prelude.{ℕ, suc, ◌+◌, ◌-◌, ◌++◌, List, [], ◌∷◌, length, flat_map, nat_le, if◌then◌else◌}
+use Rattle.cbor_head.specs.Head.{shortest}
+use Rattle.cbor_head.specs.Spelling.{Chunk, Spelling, Spellings, SpelledEntries, unsigned, negative, bytes, text, byte_chunks, text_chunks, array, a_map, tag, simple, no_spellings, a_spelling, no_entries, entry, spellings_count, entries_count}
+use Rattle.cbor_head.specs.declared.major.Major.{Major}
+use Rattle.cbor_head.specs.declared.major.Major.TheVariants.{Unsigned, Negative, Bytes, Text, Array, Map, Tag, Simple}
+use Rattle.cbor_head.specs.declared.width.Width.{Width}
+use Rattle.cbor_head.specs.declared.width.Width.TheVariants.{One, Two, Four, Eight, Indefinite}
+
+pub data Mark : Type 0 where
+  -- the head of an item; at Indefinite the number is 0
+  a_head : Major → Width → ℕ → Mark
+  -- the head of a chunk of an indefinite string
+  a_chunk : Width → ℕ → Mark
+  -- a byte of a payload
+  a_byte : Mark
+  -- a break
+  an_end : Mark
+
+-- how many bytes of an argument stand behind the first
+abbrev pub more_bytes : Width → ℕ
+more_bytes One = 1
+more_bytes Two = 2
+more_bytes Four = 4
+more_bytes Eight = 8
+more_bytes _ = 0
+
+-- the bytes that a mark stands for
+abbrev pub size : Mark → ℕ
+size (a_head major w n) = suc (more_bytes w)
+size (a_chunk w n) = suc (more_bytes w)
+size a_byte = 1
+size an_end = 1
+
+-- The bytes that marks stand for. The marks of an item tile its bytes, so the next one begins there.
+abbrev pub total : List Mark → ℕ
+total [] = 0
+total (m ∷ ms) = size m + total ms
+
+-- one for each byte
+abbrev pub payload_marks : List ℕ → List Mark
+payload_marks [] = []
+payload_marks (b ∷ bs) = a_byte ∷ payload_marks bs
+
+-- the head of a chunk, and its payload
+abbrev pub chunk_marks : Chunk → List Mark
+chunk_marks c = a_chunk c.width (length c.payload) ∷ payload_marks c.payload
+
+-- the head of an array or map, with or without a length
+abbrev pub opener : Major → Width → ℕ → Mark
+opener major Indefinite n = a_head major Indefinite 0
+opener major w n = a_head major w n
+
+-- the break, where there is no length
+abbrev pub end_marks : Width → List Mark
+end_marks Indefinite = an_end ∷ []
+end_marks _ = []
+
+-- the marks of an item, in the order of its bytes
+abbrev mutual
+  pub trace : Spelling → List Mark
+  trace (unsigned w n) = a_head Unsigned w n ∷ []
+  trace (negative w n) = a_head Negative w n ∷ []
+  trace (bytes w payload) = a_head Bytes w (length payload) ∷ payload_marks payload
+  trace (text w payload) = a_head Text w (length payload) ∷ payload_marks payload
+  trace (byte_chunks cs) = a_head Bytes Indefinite 0 ∷ flat_map chunk_marks cs ++ an_end ∷ []
+  trace (text_chunks cs) = a_head Text Indefinite 0 ∷ flat_map chunk_marks cs ++ an_end ∷ []
+  trace (array w ss) = opener Array w (spellings_count ss) ∷ trace_all ss ++ end_marks w
+  trace (a_map w es) = opener Map w (entries_count es) ∷ trace_entries es ++ end_marks w
+  trace (tag w n s) = a_head Tag w n ∷ trace s
+  trace (simple n) = a_head Simple (shortest n) n ∷ []
+
+  pub trace_all : Spellings → List Mark
+  trace_all no_spellings = []
+  trace_all (a_spelling s ss) = trace s ++ trace_all ss
+
+  pub trace_entries : SpelledEntries → List Mark
+  trace_entries no_entries = []
+  trace_entries (entry k v es) = trace k ++ trace v ++ trace_entries es
+
+-- those of the marks that end within the first t bytes
+abbrev pub within : ℕ → List Mark → List Mark
+within t [] = []
+within t (m ∷ ms) = if nat_le (size m) t then m ∷ within (t - size m) ms else []

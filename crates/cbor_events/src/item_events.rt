@@ -1,0 +1,238 @@
+//! The events of one item, from a reader that each call is handed.
+
+ghost use Rattle.std.specs.Prelude.{◌≡◌, ◌↔◌, ◌≤◌, ◌<◌, ◌+◌, ℕ, List, [], length, take, None, Some, IsTrue, OnOk, OnErr, IfErr, IfSome, Err};
+ghost use Rattle.cbor_head.specs.Value.{AreBytes};
+ghost use Rattle.cbor_events.specs.Trace.{Mark};
+ghost use Rattle.cbor_events.specs.State.{IsProper};
+ghost use Rattle.cbor_events.specs.Machine.{open_count};
+ghost use Rattle.cbor_events.specs.ItemEvents.{ItemEventsView, StandsBetween, IfTold, IsNext, IsAsked, piece_after, piece_size};
+
+use crate::event::{Event, EventKind, Out};
+use crate::machine::Machine;
+use cbor_head::{Limits, Reason, Refusal};
+use std::io::Read;
+use std::marker::Model;
+
+// A payload is read in parts of at most so many bytes.
+const PART: usize = 512;
+
+// An argument has at most so many bytes.
+const ARGUMENT: usize = 8;
+
+/// The events of one item, from a reader that each call of [`next`](ItemEvents::next) is handed.
+///
+/// No byte behind the item is read, nor one beyond the byte limit. No call takes memory.
+#[derive(Drop)]
+pub struct ItemEvents {
+    machine: Machine,
+    // The last piece stands in front.
+    buffer: [u8; PART],
+    held: usize,
+    refusal: Option<Refusal>,
+}
+
+impl Model for ItemEvents {
+    ghost Value = { ItemEventsView };
+
+    ghost view = { λ e. record { machine = e.machine; piece = take e.held e.buffer; refusal = e.refusal } };
+
+    ghost invariant = { λ e. record {
+      fits : e.held ≤ 512;
+      stopped : IfSome e.refusal (λ f. (f.read ≡ e.machine.taken) × (e.held ≡ 0));
+    } };
+}
+
+impl ItemEvents {
+    /// The events of an item whose first byte is still to be read.
+    pub fn new(limits: Limits) -> ItemEvents
+        ensures starts { StandsBetween result.machine [] [] }
+        ensures limits { (result.machine.depth ≡ limits.depth) × (result.machine.bytes ≡ limits.bytes) }
+        ensures piece { result.piece ≡ [] }
+        ensures live { result.refusal ≡ None }
+    {
+        ItemEvents {
+            machine: Machine::new(limits),
+            buffer: [0; PART],
+            held: 0,
+            refusal: None,
+        }
+    }
+
+    /// The next event, with its bytes read; none once the item is complete, and then nothing is read.
+    ///
+    /// One byte of a head is asked for, then what is missing of its argument; of a payload what is
+    /// left, at most 512 bytes. A `read` of 0 bytes is the end of the input: `Truncated`. An error of
+    /// `read`, `Interrupted` too, is `Read`. After a refusal every later call answers it again and
+    /// reads nothing.
+    pub fn next<R: Read>(&mut self, reader: &mut R) -> Result<Option<Event>, Refusal>
+        // For all bytes and marks that the machine stood for, as long as nothing was refused.
+        ensures answers { self.old.refusal ≡ None
+            → (t : List ℕ) (ms : List Mark) → StandsBetween self.old.machine t ms
+            → IsNext result (R.remaining reader.old) (R.remaining reader.new)
+            self.old.machine self.new.machine self.old.piece self.new.piece t ms }
+        ensures limits { (self.new.machine.depth ≡ self.old.machine.depth)
+            × (self.new.machine.bytes ≡ self.old.machine.bytes) }
+        ensures proper { IfTold result (λ e. IsProper e.width e.kind) }
+        ensures live { OnOk result (self.new.refusal ≡ None) }
+        ensures refused { IfErr result (λ f. self.new.refusal ≡ Some f) }
+        ensures taken { IfErr result (λ f. self.new.machine.taken ≡ f.read) }
+        ensures emptied { OnErr result (self.new.piece ≡ []) }
+        ensures again { IfSome self.old.refusal
+            (λ f. (result ≡ Err f) × (self.new ≡ self.old) × (reader.new ≡ reader.old)) }
+    {
+        if let Some(refusal) = self.refusal {
+            return Err(refusal);
+        }
+        match advance(&mut self.machine, reader, &mut self.buffer, &mut self.held) {
+            Ok(event) => Ok(event),
+            Err(refusal) => {
+                self.refusal = Some(refusal);
+                self.held = 0;
+                Err(refusal)
+            }
+        }
+    }
+
+    /// The bytes of the last `Piece`; none before one, and none after a refusal.
+    pub fn piece(&self) -> &[u8]
+        ensures piece { result.now ≡ self.now.piece }
+        ensures within { length result.now ≤ 512 }
+    {
+        &self.buffer[..self.held]
+    }
+
+    /// How many arrays, maps and tags are open: from its head until its last member or its break.
+    pub fn open(&self) -> usize
+        ensures count { result ≡ open_count self.now.machine }
+        ensures within { result ≤ self.now.machine.depth }
+    {
+        self.machine.open()
+    }
+
+    /// How many bytes were taken; after a refusal its `read`.
+    pub fn taken(&self) -> u64
+        ensures taken { result ≡ self.now.machine.taken }
+        ensures within { result ≤ self.now.machine.bytes }
+    {
+        self.machine.taken()
+    }
+}
+
+// What one call of `read` gave.
+#[derive(Clone, Copy)]
+enum Asked {
+    Got(usize),
+    End,
+    Failed,
+}
+
+// Reads at most `want` bytes into the front of the buffer, by one call of `read`, or by none.
+fn ask<R: Read>(reader: &mut R, buffer: &mut [u8], want: usize) -> Asked
+    requires { want ≤ length buffer.old }
+    ensures asked { IsAsked result want (R.remaining reader.old) (R.remaining reader.new) buffer.new }
+{
+    if want == 0 {
+        return Asked::Got(0);
+    }
+    match reader.read(&mut buffer[..want]) {
+        Ok(0) => Asked::End,
+        Ok(n) => Asked::Got(n),
+        Err(_) => Asked::Failed,
+    }
+}
+
+// A refusal of what was taken, and no byte more.
+fn cut(reason: Reason, taken: u64) -> Refusal
+    ensures reason { result.reason ≡ reason }
+    ensures place { (result.place ≡ taken) × (result.read ≡ taken) }
+{
+    Refusal {
+        reason,
+        place: taken,
+        read: taken,
+    }
+}
+
+// Bytes are below 256.
+fn below_256(bytes: &[u8])
+    ensures { AreBytes bytes.now }
+{}
+
+// Reads what the machine wants, one part after another, until it tells an event or stops.
+fn next_event<R: Read>(
+    machine: &mut Machine,
+    reader: &mut R,
+    buffer: &mut [u8],
+) -> Result<Option<Event>, Refusal>
+    requires { 0 < length buffer.old }
+    ensures answers { (kept t : List ℕ) (ms : List Mark) → StandsBetween machine.old t ms
+        → IsNext result (R.remaining reader.old) (R.remaining reader.new)
+        machine.old machine.new kept (piece_after result kept buffer.new) t ms }
+    ensures limits { (machine.new.depth ≡ machine.old.depth)
+        × (machine.new.bytes ≡ machine.old.bytes) }
+    ensures proper { IfTold result (λ e. IsProper e.width e.kind) }
+    ensures taken { IfErr result (λ f. machine.new.taken ≡ f.read) }
+    ensures fits { piece_size result ≤ length buffer.new }
+    ensures same { length buffer.new ≡ length buffer.old }
+{
+    'reads: loop {
+        let want = machine.wanted().min(buffer.len() as u64) as usize;
+        match ask(reader, buffer, want) {
+            Asked::End => return Err(cut(Reason::Truncated, machine.taken())),
+            Asked::Failed => return Err(cut(Reason::Read, machine.taken())),
+            Asked::Got(count) => {
+                below_256(&buffer[..count]);
+                let step = machine.step(&buffer[..count]);
+                match step.out {
+                    Out::More => {}
+                    Out::Event(event) => return Ok(Some(event)),
+                    Out::Done => return Ok(None),
+                    Out::Refused(refusal) => return Err(refusal),
+                }
+            }
+        }
+    }
+}
+
+// The length of the piece that was told, if one was.
+fn piece_len(answer: &Result<Option<Event>, Refusal>) -> usize
+    ensures { result ≡ piece_size answer.now }
+{
+    match answer {
+        Ok(
+            Some(
+                Event {
+                    kind: EventKind::Piece(n),
+                    ..
+                },
+            ),
+        ) => *n,
+        _ => 0,
+    }
+}
+
+// The next event, with a piece kept in front of the buffer.
+fn advance<R: Read>(
+    machine: &mut Machine,
+    reader: &mut R,
+    buffer: &mut [u8; PART],
+    held: &mut usize,
+) -> Result<Option<Event>, Refusal>
+    requires { held.old ≤ 512 }
+    ensures answers { (t : List ℕ) (ms : List Mark) → StandsBetween machine.old t ms
+        → IsNext result (R.remaining reader.old) (R.remaining reader.new)
+        machine.old machine.new (take held.old buffer.old) (take held.new buffer.new) t ms }
+    ensures limits { (machine.new.depth ≡ machine.old.depth)
+        × (machine.new.bytes ≡ machine.old.bytes) }
+    ensures proper { IfTold result (λ e. IsProper e.width e.kind) }
+    ensures taken { IfErr result (λ f. machine.new.taken ≡ f.read) }
+    ensures fits { held.new ≤ 512 }
+{
+    if !machine.is_in_payload() {
+        let mut head = [0; ARGUMENT];
+        return next_event(machine, reader, &mut head);
+    }
+    let answer = next_event(machine, reader, buffer);
+    *held = piece_len(&answer);
+    answer
+}

@@ -1,0 +1,43 @@
+//! The laws of events. Nothing here runs: each contract is a law.
+
+ghost use Rattle.std.specs.Prelude.{◌≡◌, ◌++◌, List, [], ◌∷◌, ℕ, length};
+ghost use Rattle.cbor_head.specs.Spelling.{Spelling, IsSpelled, IsItem, spell};
+ghost use Rattle.cbor_head.specs.Complaint.{form};
+ghost use Rattle.cbor_head.specs.Verdict.{IsVerdict, accepted, refused};
+ghost use Rattle.cbor_head.specs.declared.reason.Refusal.{Refusal};
+ghost use Rattle.cbor_events.specs.Trace.{Mark, total, trace};
+ghost use Rattle.cbor_head.specs.Value.{AreBytes};
+ghost use Rattle.cbor_head.specs.Beginning.{IsLongestBeginning};
+ghost use Rattle.cbor_events.specs.State.{marks_of};
+ghost use Rattle.cbor_events.specs.Event.{events, marks_in, joined, cut, AreTold};
+ghost use Rattle.cbor_events.specs.declared.event.Event.{Event};
+ghost use Rattle.cbor_events.specs.Machine.{MachineView, StandsFor, IsComplete, IsGiven, IsRefused};
+
+/// What a machine answers is the verdict of form: of its refusals, and of the item that is complete.
+pub fn machine_verdict()
+    ensures refuses { (r : Refusal) (m : MachineView) (t bs : List ℕ) (ms : List Mark) → IsRefused r m t bs ms
+        → (more : List ℕ) → IsVerdict m.depth m.bytes form ((t ++ bs) ++ more) (refused r) }
+    ensures accepts { (m : MachineView) (t : List ℕ) (ms : List Mark) → StandsFor m t ms → IsComplete m
+        → (more : List ℕ) → (s : Spelling) × IsVerdict m.depth m.bytes form (t ++ more) (accepted s) }
+{}
+
+/// The events that a machine told, neighbouring pieces joined, are those of each item that starts with what it took, as far as they end
+/// within that, the last piece cut there.
+pub fn told_events()
+    ensures none { AreTold [] [] }
+    ensures more { (es : List Event) (ms : List Mark) (e : Event) (m : MachineView) (t bs : List ℕ) → AreTold es ms → IsGiven e m t bs ms
+        → AreTold (es ++ e ∷ []) (ms ++ marks_of e.width e.kind) }
+    ensures joined { (m : MachineView) (t : List ℕ) (ms : List Mark) (es : List Event) → StandsFor m t ms → AreTold es ms
+        → (s : Spelling) (rest : List ℕ) → IsItem m.depth s (t ++ rest) → joined es ≡ cut (length t) (events 0 s) }
+{}
+
+/// The marks of an item are those of its events, and stand for all of its bytes.
+pub fn marks_of_events()
+    ensures marks { (s : Spelling) → IsSpelled s → marks_in (events 0 s) ≡ trace s }
+    ensures bytes { (s : Spelling) → IsSpelled s → total (trace s) ≡ length (spell s) }
+{}
+
+/// Every input has a longest beginning within a depth.
+pub fn longest_beginning()
+    ensures { (d : ℕ) (b : List ℕ) → AreBytes b → (p : List ℕ) × IsLongestBeginning d b p }
+{}

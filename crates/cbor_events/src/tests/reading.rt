@@ -1,0 +1,289 @@
+//! The event reader against the tables, over readers that give few bytes at a time, or fail.
+
+use super::{ACCEPTED, FRONTS, REFUSED, Told, bytes_of, event, join, limits, tell};
+use crate::{EventKind, EventReader, Out};
+use arrayvec::ArrayVec;
+use cbor_head::{Limits, Reason, Refusal, Width};
+use std::alloc::{AllocError, Global};
+use std::io;
+use std::io::Read;
+use std::process::Abort;
+use std::test::Fail;
+
+// A reader that gives at most so many bytes a read, and none beyond a cut with those before it. Where
+// it fails, it fails again however often it is asked.
+#[derive(Drop)]
+struct Parts<'a> {
+    rest: &'a [u8],
+    part: usize,
+    // The bytes before the cut, and before the failure.
+    cut: usize,
+    fails: usize,
+    // How many bytes the first reads were asked for.
+    asked: ArrayVec<usize, 16>,
+}
+
+impl<'a> Parts<'a> {
+    fn new(bytes: &'a [u8]) -> Parts<'a> {
+        Parts {
+            rest: bytes,
+            part: usize::MAX,
+            cut: usize::MAX,
+            fails: usize::MAX,
+            asked: ArrayVec::new(),
+        }
+    }
+}
+
+impl Read for Parts<'_> {
+    fn read(&mut self, buf: &mut [u8]) -> io::Result<usize> {
+        let _ = self.asked.try_push(buf.len());
+        if self.fails == 0 {
+            return Err(io::Error::from(io::ErrorKind::Interrupted));
+        }
+        if self.cut == 0 {
+            self.cut = usize::MAX;
+        }
+        let n = buf
+            .len()
+            .min(self.rest.len())
+            .min(self.part)
+            .min(self.cut)
+            .min(self.fails);
+        buf[..n].copy_from_slice(&self.rest[..n]);
+        self.rest = &self.rest[n..];
+        self.cut -= n;
+        self.fails -= n;
+        Ok(n)
+    }
+}
+
+// What came of an item that was read, and the bytes of its payloads.
+#[derive(Drop)]
+struct Heard {
+    told: Told,
+    payloads: Vec<u8>,
+}
+
+fn hear<R: Read + Drop>(alloc: Global, limits: Limits, reader: R) -> Result<Heard, AllocError> {
+    let mut reader = EventReader::new(reader, limits);
+    let mut events = Vec::new(alloc);
+    let mut payloads = Vec::new(alloc);
+    let mut out = Out::More;
+    for _ in 0..1000 {
+        match reader.next() {
+            Ok(Some(event)) => {
+                if let EventKind::Piece(_) = event.kind {
+                    payloads.extend_from_slice(reader.piece())?;
+                }
+                join(&mut events, event)?;
+            }
+            Ok(None) => {
+                out = Out::Done;
+                break;
+            }
+            Err(refusal) => {
+                out = Out::Refused(refusal);
+                break;
+            }
+        }
+    }
+    // The last answer is given again.
+    let again = match reader.next() {
+        Ok(Some(event)) => Out::Event(event),
+        Ok(None) => Out::Done,
+        Err(refusal) => Out::Refused(refusal),
+    };
+    if again != out {
+        out = again;
+        events.clear();
+    }
+    Ok(Heard {
+        told: Told {
+            events,
+            out,
+            taken: reader.taken(),
+        },
+        payloads,
+    })
+}
+
+// The bytes at the places of the pieces.
+fn payloads_of(alloc: Global, bytes: &[u8], told: &Told) -> Result<Vec<u8>, AllocError> {
+    let mut payloads = Vec::new(alloc);
+    for event in &told.events {
+        if let EventKind::Piece(n) = event.kind {
+            for byte in bytes.iter().skip(event.place as usize).take(n) {
+                payloads.push(*byte)?;
+            }
+        }
+    }
+    Ok(payloads)
+}
+
+// Reads the bytes, and a byte behind an item, whole, one by one, and with each cut, and looks for the
+// events and the payloads that a machine tells, this last answer, and what the reader has left.
+fn look_every_way(
+    rt: &impl Abort,
+    alloc: Global,
+    limits: Limits,
+    hex: &str,
+    out: Out,
+    taken: u64,
+) -> Result<(), Fail> {
+    let mut bytes = bytes_of(alloc, hex)?;
+    let told = tell(alloc, limits, &bytes, usize::MAX)?;
+    let payloads = payloads_of(alloc, &bytes, &told)?;
+    if out == Out::Done {
+        bytes.push(0)?;
+    }
+    for cut in 0..=bytes.len() {
+        for part in [1, usize::MAX] {
+            let mut parts = Parts::new(&bytes);
+            parts.cut = cut;
+            parts.part = part;
+            let heard = hear(alloc, limits, &mut parts)?;
+            assert!(rt;
+                heard.told.events == told.events,
+                "events of {hex} cut at {cut}"
+            );
+            assert!(rt;
+                heard.payloads == payloads,
+                "payloads of {hex} cut at {cut}"
+            );
+            assert_eq!(rt; heard.told.out, out, "{hex} cut at {cut}");
+            assert_eq!(rt; heard.told.taken, taken, "{hex} cut at {cut}");
+            assert_eq!(rt;
+                parts.rest.len() as u64,
+                (bytes.len() as u64).saturating_sub(taken),
+                "{hex} cut at {cut}"
+            );
+        }
+    }
+    Ok(())
+}
+
+// Well-formed items that are not valid, and one with a byte behind, with the bytes that are taken.
+const NOT_VALID: [(&str, u64, &str); 6] = [
+    ("63eda080", 4, "a text of a surrogate"),
+    ("6341c080", 4, "a text of \"A\" and U+0000 in two bytes"),
+    (
+        "6341e6b0",
+        4,
+        "a text of \"A\" and the front of a character",
+    ),
+    ("64f4908080", 5, "a text of a character past U+10FFFF"),
+    ("a26161007f6161ff01", 9, "{\"a\": 0, (_ \"a\"): 1}"),
+    ("9fffff", 2, "[_ ], and a break behind it"),
+];
+
+#[test]
+fn reads_items(rt: HostRuntime) -> Result<(), Fail> {
+    let limits = limits(&rt, 256, 1 << 20);
+    for (hex, _) in ACCEPTED {
+        look_every_way(
+            &rt,
+            rt.alloc(),
+            limits,
+            hex,
+            Out::Done,
+            hex.len() as u64 / 2,
+        )?;
+    }
+    for (hex, taken, _) in NOT_VALID {
+        look_every_way(&rt, rt.alloc(), limits, hex, Out::Done, taken)?;
+    }
+    Ok(())
+}
+
+#[test]
+fn refuses_as_the_machine(rt: HostRuntime) -> Result<(), Fail> {
+    for (hex, depth, bytes, reason, place, read) in REFUSED {
+        let out = Out::Refused(Refusal {
+            reason,
+            place,
+            read,
+        });
+        look_every_way(&rt, rt.alloc(), limits(&rt, depth, bytes), hex, out, read)?;
+    }
+    for hex in FRONTS {
+        let there = hex.len() as u64 / 2;
+        let out = Out::Refused(Refusal {
+            reason: Reason::Truncated,
+            place: there,
+            read: there,
+        });
+        look_every_way(&rt, rt.alloc(), limits(&rt, 256, 1 << 20), hex, out, there)?;
+    }
+    Ok(())
+}
+
+#[test]
+fn a_failing_read_is_told(rt: HostRuntime) -> Result<(), Fail> {
+    let limits = limits(&rt, 256, 1 << 20);
+    for (hex, text) in ACCEPTED {
+        let bytes = bytes_of(rt.alloc(), hex)?;
+        for place in 0..bytes.len() {
+            let mut parts = Parts::new(&bytes);
+            parts.fails = place;
+            let heard = hear(rt.alloc(), limits, &mut parts)?;
+            let taken = place as u64;
+            let refusal = Refusal {
+                reason: Reason::Read,
+                place: taken,
+                read: taken,
+            };
+            assert_eq!(rt; heard.told.out, Out::Refused(refusal), "{text} at {place}");
+            assert_eq!(rt; heard.told.taken, taken, "{text} at {place}");
+            assert_eq!(rt; parts.rest.len(), bytes.len() - place, "{text} at {place}");
+        }
+    }
+    Ok(())
+}
+
+// One byte of a head, what is missing of its argument, and a payload in parts; none at the limit.
+#[test]
+fn asks_for_what_it_needs(rt: HostRuntime) -> Result<(), Fail> {
+    // [256, "a string of 600 bytes"], and a byte behind
+    let mut bytes = bytes_of(rt.alloc(), "82190100790258")?;
+    for _ in 0..601 {
+        bytes.push(b'a')?;
+    }
+    let mut parts = Parts::new(&bytes);
+    let heard = hear(rt.alloc(), limits(&rt, 1, 607), &mut parts)?;
+    assert_eq!(rt; heard.told.out, Out::Done);
+    let text = [
+        event(0, Width::Direct, EventKind::Array(Some(2))),
+        event(1, Width::Two, EventKind::Unsigned(256)),
+        event(4, Width::Two, EventKind::Text(Some(600))),
+        event(7, Width::Direct, EventKind::Piece(600)),
+    ];
+    assert!(rt; heard.told.events[..] == text[..]);
+    assert_eq!(rt; parts.rest.len(), 1);
+    assert!(rt; parts.asked.as_slice() == [1, 1, 2, 1, 2, 512, 88].as_slice());
+
+    // the same, with a limit of 10 bytes
+    let mut parts = Parts::new(&bytes);
+    let heard = hear(rt.alloc(), limits(&rt, 1, 10), &mut parts)?;
+    let refusal = Refusal {
+        reason: Reason::TooLong,
+        place: 10,
+        read: 10,
+    };
+    assert_eq!(rt; heard.told.out, Out::Refused(refusal));
+    assert!(rt; parts.asked.as_slice() == [1, 1, 2, 1, 2, 3].as_slice());
+    Ok(())
+}
+
+#[test]
+fn counts_what_is_open(rt: HostRuntime) {
+    // [["a"]]
+    let mut reader = EventReader::new(&b"\x81\x81\x61a"[..], limits(&rt, 2, 4));
+    for (open, taken, piece) in [(1, 1, 0), (2, 2, 0), (2, 3, 0), (0, 4, 1), (0, 4, 1)] {
+        let _ = reader.next();
+        assert_eq!(rt;
+            (reader.open(), reader.taken(), reader.piece().len()),
+            (open, taken, piece)
+        );
+    }
+}

@@ -1,0 +1,93 @@
+//! The bytes up to the next event.
+
+ghost use Rattle.std.specs.Prelude.{◌≡◌, ◌≤◌, ◌<◌, ◌+◌, take, length, replicate};
+ghost use Rattle.arrayvec.specs.ArrayVec.{array_vec_len};
+ghost use Rattle.cbor_events.specs.Trace.{a_byte};
+ghost use Rattle.cbor_events.specs.Automaton as automaton;
+ghost use Rattle.cbor_events.specs.State.{frames_of, state_of, major_of, IsFit, IsSettled, wanted_at};
+ghost use Rattle.cbor_events.specs.Walk.{IsTold, IsEnded, IsWalkedProper, IsWalked, told_times};
+
+use crate::event::EventKind;
+use crate::frame::Frames;
+use crate::opening::Numbered;
+use crate::place::{Place, close_string};
+use crate::take_byte::{Next, take_byte};
+use cbor_head::{Reason, Width};
+
+/// What came of some bytes.
+#[derive(Clone, Copy)]
+pub enum Walked {
+    /// All were taken, and no event is complete.
+    More,
+    /// The last of them completes an event.
+    Told(Width, EventKind),
+    /// The last of them may not stand there.
+    Refused(Reason),
+}
+
+// Takes the bytes of a payload that are there, as one piece.
+#[tactic(auto, using(crate::proofs::Runs::piece_part, crate::proofs::Runs::piece_last))]
+fn piece(
+    chunk: bool,
+    kind: Numbered,
+    left: u64,
+    depth: usize,
+    frames: &mut Frames,
+    input: &[u8],
+) -> (usize, Place)
+    requires limit { array_vec_len frames.old ≤ 256 }
+    requires some { 0 < length input.now }
+    ensures used { result.0 ≤ length input.now }
+    ensures wanted { length input.now ≤ left + 1 → result.0 ≡ length input.now }
+    ensures some { 0 < result.0 }
+    ensures ran { automaton.run depth (automaton.in_payload chunk (major_of kind) left (frames_of frames.old.items)) (take result.0 input.now)
+        ≡ automaton.reached (state_of result.1 frames.new.items) (replicate result.0 a_byte) }
+    ensures fewer { array_vec_len frames.new ≤ array_vec_len frames.old }
+    ensures settled { IsSettled frames.new.items result.1 }
+{
+    let n = input.len() as u64;
+    if n <= left {
+        (input.len(), Place::Payload(chunk, kind, left - n))
+    } else {
+        (left as usize + 1, close_string(chunk, kind, frames))
+    }
+}
+
+/// Takes bytes until one completes an event or is refused.
+#[tactic(auto, using(crate::proofs::Frames::settled_fit))]
+pub fn walk(depth: usize, place: &mut Place, frames: &mut Frames, input: &[u8]) -> (usize, Walked)
+    requires limit { depth ≤ 256 }
+    requires within { array_vec_len frames.old ≤ depth }
+    requires fits { IsFit depth frames.old.items place.old }
+    ensures used { result.0 ≤ length input.now }
+    ensures wanted { length input.now ≤ wanted_at place.old → result.0 ≡ length input.now }
+    ensures clear { IsTold result.1 → IsSettled frames.new.items place.new }
+    ensures more { result.1 ≡ Walked.More → result.0 ≡ length input.now }
+    ensures open { result.1 ≡ Walked.More → IsSettled frames.new.items place.new → (result.0 ≡ 0) × IsSettled frames.old.items place.old }
+    ensures some { IsEnded result.1 → 0 < result.0 }
+    ensures proper { IsWalkedProper result.1 }
+    ensures piece { told_times result.1 ≤ result.0 }
+    ensures walked { IsWalked result.1 depth (state_of place.old frames.old.items) (state_of place.new frames.new.items) (take result.0 input.now) }
+    ensures within { array_vec_len frames.new ≤ depth }
+    ensures fits { IsFit depth frames.new.items place.new }
+{
+    if input.is_empty() {
+        return (0, Walked::More);
+    }
+    if let Place::Payload(chunk, kind, left) = *place {
+        let (n, next) = piece(chunk, kind, left, depth, frames, input);
+        *place = next;
+        return (n, Walked::Told(Width::Direct, EventKind::Piece(n)));
+    }
+    for (i, c) in input.iter().enumerate() {
+        match take_byte(depth, *place, frames, *c) {
+            Next::Refuses(reason) => return (i + 1, Walked::Refused(reason)),
+            Next::Goes(next) => *place = next,
+            Next::Tells(width, kind, next) => {
+                *place = next;
+                return (i + 1, Walked::Told(width, kind));
+            }
+        }
+    }
+    (input.len(), Walked::More)
+}
