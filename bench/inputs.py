@@ -1,0 +1,136 @@
+"""Makes the inputs of the benchmark from a seed, each with its canonical bytes in both orders.
+
+    python3 inputs.py FOLDER
+
+writes for each input NAME the files NAME.cbor, NAME.bytewise and NAME.length. The writer is a plain
+recursion over Python values, so that what the program answers can be held against it.
+"""
+
+import random
+import sys
+
+SEED = 8949
+MIB = 1 << 20
+
+
+class Map(list):
+    """Pairs of a key and its value, in the order in which they are written."""
+
+
+class Wide(int):
+    """A number whose argument is written in eight bytes."""
+
+
+class Chunks(str):
+    """A text that is written in chunks of one character."""
+
+
+def head(major, argument, wide=False):
+    if wide:
+        return bytes([major << 5 | 27]) + argument.to_bytes(8, "big")
+    if argument < 24:
+        return bytes([major << 5 | argument])
+    for ai, size in ((24, 1), (25, 2), (26, 4), (27, 8)):
+        if argument < 1 << 8 * size:
+            return bytes([major << 5 | ai]) + argument.to_bytes(size, "big")
+    raise ValueError(argument)
+
+
+def encode(value, order=None):
+    """The bytes as written, or the canonical ones where `order` is bytewise or length."""
+    as_written = order is None
+    if value is None or isinstance(value, bool):
+        return bytes([{False: 0xF4, True: 0xF5, None: 0xF6}[value]])
+    if isinstance(value, int):
+        wide = as_written and isinstance(value, Wide)
+        return head(0, value, wide) if value >= 0 else head(1, -1 - value, wide)
+    if isinstance(value, bytes):
+        return head(2, len(value)) + value
+    if isinstance(value, Chunks) and as_written:
+        chunks = [it.encode() for it in value]
+        return b"\x7f" + b"".join(head(3, len(it)) + it for it in chunks) + b"\xff"
+    if isinstance(value, str):
+        text = value.encode()
+        return head(3, len(text)) + text
+    if isinstance(value, Map):
+        pairs = [(encode(key, order), encode(content, order)) for key, content in value]
+        if not as_written:
+            pairs.sort(key=lambda it: it[0] if order == "bytewise" else (len(it[0]), it[0]))
+        return head(5, len(value)) + b"".join(key + content for key, content in pairs)
+    return head(4, len(value)) + b"".join(encode(it, order) for it in value)
+
+
+def shuffled(chance, pairs):
+    pairs = list(pairs)
+    chance.shuffle(pairs)
+    return Map(pairs)
+
+
+def filled(make, size):
+    """An array of what `make` gives, of at most so many bytes."""
+    made, used = [], 5
+    while True:
+        member = make()
+        used += len(encode(member))
+        if used > size:
+            return made
+        made.append(member)
+
+
+def record(chance):
+    words = "amber basil cedar delta ember flint grove heron inlet jetty".split()
+    address = {"street": chance.choice(words), "number": chance.randrange(300), "town": chance.choice(words)}
+    fields = {
+        "identifier": chance.randrange(1 << 40),
+        "name": " ".join(chance.choices(words, k=3)),
+        "active": chance.random() < 0.5,
+        "balance": chance.randrange(-(1 << 20), 1 << 20),
+        "tags": chance.choices(words, k=4),
+        "address": shuffled(chance, address.items()),
+        "picture": chance.randbytes(24),
+        "note": None,
+    }
+    return shuffled(chance, fields.items())
+
+
+def texts(chance, count):
+    """A map of so many shuffled texts of five digits."""
+    return shuffled(chance, ((f"{it:05}", it % 24) for it in range(count)))
+
+
+def nested(core, depth, pair):
+    for _ in range(depth):
+        core = Map(pair(core))
+    return core
+
+
+def inputs():
+    chance = random.Random(SEED)
+    integers = lambda: chance.choice((1, -1)) * chance.randrange(1 << chance.choice((4, 8, 16, 32, 63)))
+    numbers = shuffled(chance, ((it, 0) for it in range(1 << 16, (1 << 16) + 170_000)))
+    yield "one", 0
+    yield "records", filled(lambda: record(chance), MIB)
+    yield "map_10000", texts(chance, 10_000)
+    yield "map_100000", texts(chance, 100_000)
+    yield "integers", filled(integers, MIB)
+    yield "wide_integers", filled(lambda: Wide(chance.randrange(24)), MIB)
+    yield "zeros", [0] * (MIB - 5)
+    yield "text", "\u6c34" * ((MIB - 5) // 3)
+    yield "chunks", Chunks("a" * (MIB // 2 - 1))
+    yield "nested", nested(0, 256, lambda it: [(1, 0), (0, it)])
+    yield "nested_keys", nested(1, 256, lambda it: [(it, 0), (0, 0)])
+    yield "keys_around_bytes", nested(bytes(MIB - 1100), 256, lambda it: [(it, 0), (0, 0)])
+    yield "keys_around_map", nested(numbers, 255, lambda it: [(it, 0), (0, 0)])
+    yield "bytes_16_mib", bytes(16 * MIB)
+
+
+def main():
+    folder = sys.argv[1]
+    for name, value in inputs():
+        for ending, order in (("cbor", None), ("bytewise", "bytewise"), ("length", "length")):
+            with open(f"{folder}/{name}.{ending}", "wb") as file:
+                file.write(encode(value, order))
+
+
+if __name__ == "__main__":
+    main()

@@ -1,0 +1,147 @@
+"""Times `cborc` on the inputs of inputs.py, and prints Markdown.
+
+    python3 program.py CBORC FOLDER
+
+Times are processor time, the least of some runs. What `canon` writes is held against the canonical
+bytes that inputs.py wrote. Ends with status 1 where a run answers anything else than is due.
+"""
+
+import os
+import shutil
+import subprocess
+import sys
+
+TURNS = 5
+# A run of this many seconds is not repeated.
+LONG = 2.0
+MIB = 1 << 20
+COMMANDS = {
+    "canon": (["canon"], "cbor", "bytewise"),
+    "canon length first": (["canon", "--order", "length"], "cbor", "length"),
+    "check": (["check"], "cbor", None),
+    "check strict": (["check", "--strict"], "bytewise", None),
+}
+TITLES = {
+    "one": "the integer 0: the start of the program",
+    "records": "records, shuffled text keys",
+    "map_10000": "map of 10,000 shuffled texts",
+    "map_100000": "map of 100,000 shuffled texts",
+    "integers": "integers of all widths",
+    "wide_integers": "small integers in 8 bytes each",
+    "zeros": "array of zeros",
+    "text": "one text",
+    "chunks": "one text in chunks of 1 byte",
+    "nested": "256 unsorted maps, as values",
+    "nested_keys": "256 unsorted maps, as keys",
+    "keys_around_bytes": "256 unsorted maps, as keys, around 1 MiB of bytes",
+    "keys_around_map": "255 unsorted maps, as keys, around 170,000 shuffled integers",
+    "bytes_16_mib": "one byte string of 16 MiB",
+}
+faults = []
+
+
+def words_of(cborc, folder, name, command):
+    words, ending, _ = COMMANDS[command]
+    words = [cborc, *words, "--bytes", str(32 * MIB), f"{folder}/{name}.{ending}"]
+    return [*words, f"{folder}/out"] if command.startswith("canon") else words
+
+
+def run(words, folder):
+    """Returns the status and the processor time in seconds."""
+    file = lambda number, name: (os.POSIX_SPAWN_OPEN, number, f"{folder}/{name}", os.O_WRONLY | os.O_CREAT | os.O_TRUNC, 0o600)
+    child = os.posix_spawn(words[0], words, {}, file_actions=[file(1, "stdout"), file(2, "stderr")])
+    _, status, used = os.wait4(child, 0)
+    return os.waitstatus_to_exitcode(status), used.ru_utime + used.ru_stime
+
+
+def least_time(cborc, folder, name, command):
+    """Returns the least time of some runs, or in words why there is none."""
+    words, wanted = words_of(cborc, folder, name, command), COMMANDS[command][2]
+    least = None
+    for _ in range(TURNS):
+        status, time = run(words, folder)
+        if status == 2:
+            return "not there"
+        if status:
+            with open(f"{folder}/stderr", errors="replace") as said:
+                faults.append(f"{command} of {name}: status {status}, {said.read().strip()}")
+            return f"status {status}"
+        least = time if least is None else min(least, time)
+        if time > LONG:
+            break
+    if wanted and contents(f"{folder}/out") != contents(f"{folder}/{name}.{wanted}"):
+        faults.append(f"{command} of {name}: other bytes than the canonical ones")
+    return least
+
+
+def contents(path):
+    with open(path, "rb") as file:
+        return file.read()
+
+
+def peak_memory(words):
+    """Returns the peak of resident memory in bytes, or None where GNU's time is not to be had."""
+    time = shutil.which("time")
+    if not time:
+        return None
+    ran = subprocess.run([time, "-f", "%M", *words], capture_output=True, text=True)
+    last = ran.stderr.strip().split("\n")[-1]
+    return 1024 * int(last) if last.isdigit() else None
+
+
+def speed(time, size):
+    """Returns MB/s, or nothing of an input so small that the program's start is most of the time."""
+    if isinstance(time, str):
+        return time
+    return f"{size / 1e6 / time:.1f}" if size > MIB // 16 else ""
+
+
+def milliseconds(time):
+    return time if isinstance(time, str) else f"{1000 * time:.1f}"
+
+
+def size_of(folder, name, command):
+    return os.path.getsize(f"{folder}/{name}.{COMMANDS[command][1]}")
+
+
+def tell(cborc, folder):
+    print(f"Processor time, least of {TURNS}. `check strict` reads the canonical bytes, the others what stands here.\n")
+    speeds = " | ".join(f"`{it}`, MB/s" for it in COMMANDS)
+    print(f"| input | bytes | `canon`, ms | {speeds} | `canon`, peak memory, MiB |")
+    print("| --- |" + " ---: |" * (len(COMMANDS) + 3))
+    times = {}
+    for name, title in TITLES.items():
+        for command in COMMANDS:
+            times[name, command] = least_time(cborc, folder, name, command)
+        peak = peak_memory(words_of(cborc, folder, name, "canon"))
+        cells = [title, f"{size_of(folder, name, 'canon'):,}", milliseconds(times[name, "canon"])]
+        cells += [speed(times[name, it], size_of(folder, name, it)) for it in COMMANDS]
+        cells += ["" if peak is None else f"{peak / MIB:.1f}"]
+        print(f"| {' | '.join(cells)} |", flush=True)
+    return times
+
+
+def tell_bounds(times, folder):
+    ratios = []
+    for command in COMMANDS:
+        small, large = times["map_10000", command], times["map_100000", command]
+        is_known = not isinstance(small, str) and not isinstance(large, str)
+        ratios.append(f"`{command}` {f'{large / small:.1f}' if is_known else 'not there'}")
+    print(f"\nOf 100,000 keys against 10,000, at most 13 times the time: {', '.join(ratios)}.")
+    small_ones = {it: time for it, time in times.items() if size_of(folder, *it) <= MIB and not isinstance(time, str)}
+    if small_ones:
+        name, command = max(small_ones, key=small_ones.get)
+        time = milliseconds(small_ones[name, command])
+        print(f"\nThe slowest of the inputs of at most 1 MiB, within 1,000 ms: `{command}` of {TITLES[name]}, {time} ms.")
+
+
+def main():
+    cborc, folder = os.path.abspath(sys.argv[1]), sys.argv[2]
+    tell_bounds(tell(cborc, folder), folder)
+    for fault in faults:
+        print(f"fault: {fault}", file=sys.stderr)
+    return 1 if faults else 0
+
+
+if __name__ == "__main__":
+    sys.exit(main())

@@ -1,0 +1,50 @@
+#!/usr/bin/env bash
+# Prints how long the library and the program take, as Markdown tables.
+#
+#   bench/run.sh [items] [program]      both without a word
+#
+# items    proves and runs items.rattle, a program over cbor_item, on trees made from a seed
+# program  proves cborc, makes files from a seed (inputs.py), and runs it on them (program.py)
+#
+# The kit's rt has to be on the path. What rt says goes to standard error. All is done on a copy in
+# a temporary folder, which takes over what earlier checks of the clone kept, so that only what
+# changed is proved again.
+set -euo pipefail
+
+root=$(cd "$(dirname "${BASH_SOURCE[0]}")/.." && pwd)
+room=$(mktemp -d)
+trap 'rm -rf "$room"' EXIT
+
+cp -R "$root/crates" "$root/crates.txt" "$root/HANDLES" "$room"
+
+# The gate proves every .rt file of the repository, so this one gets its ending here.
+items() {
+    mkdir -p "$room/crates/items/src"
+    cp "$root/bench/items.rattle" "$room/crates/items/src/main.rt"
+    echo "items: cbor_head cbor_item anyhow rand rand_core" >>"$room/crates.txt"
+    cd "$room/crates/items"
+    rt run 2>"$room/log" || { cat "$room/log" >&2; return 1; }
+}
+
+program() {
+    cd "$room/crates/cborc"
+    rt run -- --help >/dev/null 2>"$room/log" || { cat "$room/log" >&2; return 1; }
+    mkdir "$room/inputs"
+    python3 "$root/bench/inputs.py" "$room/inputs"
+    python3 "$root/bench/program.py" out/cborc "$room/inputs"
+}
+
+[ $# -gt 0 ] || set -- items program
+date -u +'%Y-%m-%d, '"$(nproc) processors, load $(cut -d' ' -f1 /proc/loadavg)"
+for part; do
+    case $part in
+        items | program)
+            printf '\n## %s\n\n' "$part"
+            ("$part")
+            ;;
+        *)
+            echo "usage: bench/run.sh [items] [program]" >&2
+            exit 2
+            ;;
+    esac
+done

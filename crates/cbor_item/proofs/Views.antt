@@ -1,0 +1,59 @@
+-- An item's value, a level at a time.
+use Rattle.std.proofs.Common.{◌≡◌, ℕ, suc, List, [], ◌∷◌, ◌++◌, length, Vec, Global, String, Box, string_bytes, refl, ap, rules}
+use Rattle.cbor_head.specs.Value as value
+use Rattle.cbor_head.specs.Value.{Values, values_count, entries_count, SameValues}
+use Rattle.cbor_head.specs.Head.{shortest_head}
+use Rattle.cbor_head.specs.Canonical.{canonical, canonical_all, canonical_entries, in_order}
+use Rattle.cbor_head.specs.declared.order.KeyOrder.{KeyOrder}
+use Rattle.cbor_head.specs.declared.major.Major.TheVariants as Major
+use Rattle.cbor_item.specs.Encoded.{joined}
+use Rattle.cbor_item.specs.View.{view, values_view, entries_view}
+use Rattle.cbor_item.specs.declared.item.Item.{Item, the_lemmas}
+use Rattle.cbor_item.specs.declared.item.Item.TheVariants.{Unsigned, Negative, Bytes, Text, Array, Map, Tag, Simple}
+
+pub view-Unsigned : (n : ℕ) → view (Unsigned n) ≡ value.unsigned n
+view-Unsigned n = search (rules, the_lemmas)
+
+pub view-Negative : (n : ℕ) → view (Negative n) ≡ value.negative n
+view-Negative n = search (rules, the_lemmas)
+
+pub view-Bytes : (v : Vec ℕ Global) → view (Bytes v) ≡ value.bytes v.items
+view-Bytes v = search (rules, the_lemmas)
+
+pub view-Text : (s : String Global) → view (Text s) ≡ value.text (string_bytes s)
+view-Text s = search (rules, the_lemmas)
+
+pub view-Array : (v : Vec Item Global) → view (Array v) ≡ value.array (values_view v.items)
+view-Array v = search (rules, the_lemmas)
+
+pub view-Map : (v : Vec (Item × Item) Global) → view (Map v) ≡ value.map (entries_view v.items)
+view-Map v = search (rules, the_lemmas)
+
+pub view-Tag : (n : ℕ) (b : Box Item Global) → view (Tag n b) ≡ value.tag n (view b.value)
+view-Tag n b = search (rules, the_lemmas)
+
+pub view-Simple : (n : ℕ) → view (Simple n) ≡ value.simple n
+view-Simple n = search (rules, the_lemmas)
+
+pub values_count-view : (is : List Item) → values_count (values_view is) ≡ length is
+values_count-view [] = refl
+values_count-view (i ∷ is) = ap suc (values_count-view is)
+
+pub entries_count-view : (ps : List (Item × Item)) → entries_count (entries_view ps) ≡ length ps
+entries_count-view [] = refl
+entries_count-view (p ∷ ps) = ap suc (entries_count-view ps)
+
+pub canonical-Array : (o : KeyOrder) (v : Vec Item Global) (n : ℕ) → n ≡ length v.items → canonical o (view (Array v)) ≡ shortest_head Major.Array n ++ canonical_all o (values_view v.items)
+canonical-Array o v n e = rw (view-Array v, values_count-view v.items, e) refl
+
+pub canonical-Map : (o : KeyOrder) (v : Vec (Item × Item) Global) (n : ℕ) → n ≡ length v.items → canonical o (view (Map v)) ≡ shortest_head Major.Map n ++ joined (in_order o (canonical_entries o (entries_view v.items)))
+canonical-Map o v n e = rw (view-Map v, entries_count-view v.items, e) refl
+
+pub canonical-Tag : (o : KeyOrder) (n : ℕ) (b : Box Item Global) → canonical o (view (Tag n b)) ≡ shortest_head Major.Tag n ++ canonical o (view b.value)
+canonical-Tag o n b = rw (view-Tag n b) refl
+
+pub SameValues-count : (vs ws : Values) → SameValues vs ws → values_count vs ≡ values_count ws
+SameValues-count value.no_values value.no_values h = refl
+SameValues-count value.no_values (value.a_value w ws) h = absurd h
+SameValues-count (value.a_value v vs) value.no_values h = absurd h
+SameValues-count (value.a_value v vs) (value.a_value w ws) h = ap suc (SameValues-count vs ws h.1)

@@ -1,0 +1,7 @@
+use Rattle.std.proofs.Common.{◌↔◌, ◌-◌, drop, map}
+use Rattle.cbor_item.specs.Encoded.{DoNeighboursDiffer}
+use Rattle.cbor_item.proofs.encoded_key.differ.Given as goal
+
+abbrev pub invariant-loop-i : goal.invariant-loop-i
+invariant-loop-i l =
+    DoNeighboursDiffer (map (λ key. key.bytes.items) l.keys.items) ↔ DoNeighboursDiffer (map (λ key. key.bytes.items) (drop (l.i - 1) l.keys.items))

@@ -1,0 +1,6 @@
+pub mod CanonicalSpelling
+pub mod Encoded
+pub mod Pairs
+pub mod Refused
+pub mod Sent
+pub mod View

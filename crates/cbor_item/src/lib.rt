@@ -1,0 +1,37 @@
+//! CBOR items as trees: sameness and canonical bytes.
+//!
+//! An [`Item`] is plain data. A [`Tree`] holds an item of depth at most 256 in which no map has
+//! two equal keys, so that it has canonical bytes. [`laws`] has no code to run: its contracts are
+//! the laws of sameness and of canonical bytes.
+//!
+//! ```
+//! let item = Item::Array(vec![in alloc; Item::Unsigned(1), Item::Unsigned(100)]?);
+//! if let Ok(tree) = Tree::of(alloc, item) {
+//!     // [1, 100]
+//!     assert_eq!(rt; encode(alloc, &tree, KeyOrder::Bytewise)?.as_slice(), b"\x82\x01\x18\x64");
+//! }
+//! ```
+#![tactic(auto)]
+
+mod compare;
+mod encoded_key;
+mod encoding;
+mod item;
+pub mod laws;
+mod tree;
+mod valid;
+mod within;
+mod write;
+
+pub use cbor_head::KeyOrder;
+pub use compare::same;
+pub use encoded_key::compare_keys;
+pub use encoding::encode;
+pub use item::Item;
+pub use tree::Tree;
+pub use write::encode_to;
+
+#[cfg(test)]
+mod tests;
+#[cfg(test)]
+mod tests_failed;

@@ -1,0 +1,66 @@
+//! Writers that stop.
+
+use crate::tests::{eight_keys, simple};
+use crate::{KeyOrder, Tree, encode_to};
+use cbor_head::{Reason, Refusal};
+use std::io;
+use std::io::{Error, ErrorKind, Write};
+use std::test::Fail;
+
+// Takes at most `step` bytes a write, and when it holds `room` of them fails or takes no more.
+#[derive(Drop)]
+struct Cup {
+    held: Vec<u8>,
+    room: usize,
+    step: usize,
+    fails: bool,
+}
+
+impl Write for Cup {
+    fn write(&mut self, buf: &[u8]) -> io::Result<usize> {
+        if self.room == 0 && self.fails {
+            return Err(Error::from(ErrorKind::Interrupted));
+        }
+        let count = buf.len().min(self.room).min(self.step);
+        self.held.extend_from_slice(&buf[..count])?;
+        self.room -= count;
+        Ok(count)
+    }
+
+    fn flush(&mut self) -> io::Result<()> {
+        Ok(())
+    }
+}
+
+#[test]
+fn writers_stop_at_each_place(rt: HostRuntime) -> Result<(), Fail> {
+    let alloc = rt.alloc();
+    let Ok(tree) = Tree::of(alloc, eight_keys(alloc, simple(20)?)?) else {
+        panic!(rt; "no tree")
+    };
+    // {10: 2, 100: 3, -1: 4, "z": 5, "aa": 1, [100]: 6, [-1]: 7, false: 8}
+    let bytes =
+        b"\xa8\x0a\x02\x18\x64\x03\x20\x04\x61\x7a\x05\x62\x61\x61\x01\x81\x18\x64\x06\x81\x20\x07\xf4\x08";
+    for room in 0..bytes.len() + 1 {
+        for (step, fails) in [(1, false), (1, true), (100, false), (100, true)] {
+            let mut cup = Cup {
+                held: Vec::new(alloc),
+                room,
+                step,
+                fails,
+            };
+            let want = if room < bytes.len() {
+                Err(Refusal {
+                    reason: Reason::Write,
+                    place: room as u64,
+                    read: 0,
+                })
+            } else {
+                Ok(24)
+            };
+            assert_eq!(rt; encode_to(alloc, &tree, KeyOrder::Bytewise, &mut cup), want);
+            assert_eq!(rt; cup.held.as_slice(), &bytes[..room]);
+        }
+    }
+    Ok(())
+}

@@ -1,0 +1,91 @@
+//! Items of bounded depth without equal keys.
+
+ghost use Rattle.std.specs.Prelude.{◌≡◌, ◌≤◌, IfOk, IfErr};
+ghost use Rattle.cbor_head.specs.Value.{depth, IsInRange, IsValid};
+ghost use Rattle.cbor_item.specs.Refused.{Refuses};
+ghost use Rattle.cbor_item.specs.View.{view};
+
+use crate::item::Item;
+use crate::valid::is_valid;
+use crate::within::is_within;
+use cbor_head::Reason;
+use std::alloc::Global;
+use std::marker::Model;
+
+// The greatest depth of a tree.
+const MAX_DEPTH: u16 = 256;
+
+/// An item of depth at most 256 in which no map has two equal keys (RFC 8949, section 5.6).
+#[derive(Drop)]
+pub struct Tree {
+    item: Item,
+}
+
+impl Model for Tree {
+    ghost use Rattle.std.specs.Prelude.{◌≤◌};
+    ghost use Rattle.cbor_head.specs.Value.{depth, IsInRange, IsValid};
+    ghost use Rattle.cbor_item.specs.View.{view as value_of};
+    ghost use Rattle.cbor_item.specs.declared.item.Item.{Item};
+    ghost use Rattle.cbor_item.specs.contracts.item.Item as e;
+    ghost use Rattle.std.specs.Coded.{codes};
+
+    ghost Value = { Item };
+
+    ghost coded = { Prim.hlevel (codes, e.the_row.coded) };
+
+    ghost view = { λ t. t.item };
+
+    ghost invariant = { λ t. (depth (value_of t.item) ≤ 256) × IsInRange (value_of t.item) × IsValid (value_of t.item) };
+}
+
+impl Tree {
+    /// The item as a tree. Otherwise it is given back, with `TooDeep` where it is deeper than 256,
+    /// else `RepeatedKey` where some map has two equal keys, else `Memory`. A map of n pairs takes
+    /// some n log n comparisons of keys, in whatever order its pairs come.
+    pub fn of(alloc: Global, item: Item) -> Result<Tree, (Item, Reason)>
+        ensures tree { IfOk result (λ tree. tree ≡ item) }
+        ensures accepted { IfOk result (λ _. (depth (view item) ≤ 256) × IsInRange (view item) × IsValid (view item)) }
+        ensures given_back { IfErr result (λ e. e.0 ≡ item) }
+        ensures refused { IfErr result (λ e. Refuses (view item) e.1) }
+    {
+        if !is_within(&item, MAX_DEPTH) {
+            return Err((item, Reason::TooDeep));
+        }
+        match is_valid(alloc, &item) {
+            Ok(true) => Ok(Tree { item }),
+            Ok(false) => Err((item, Reason::RepeatedKey)),
+            Err(_) => Err((item, Reason::Memory)),
+        }
+    }
+
+    /// The tree of an item that is known to be one, with no look at it: for a reader that has
+    /// counted the depth and compared the keys.
+    pub fn from_valid(item: Item) -> Tree
+        requires depth { depth (view item) ≤ 256 }
+        requires in_range { IsInRange (view item) }
+        requires valid { IsValid (view item) }
+        ensures { result ≡ item }
+    {
+        Tree { item }
+    }
+
+    /// The item.
+    pub fn item(&self) -> &Item
+        ensures item { result.now ≡ self.now }
+        ensures depth { depth (view self.now) ≤ 256 }
+        ensures in_range { IsInRange (view self.now) }
+        ensures valid { IsValid (view self.now) }
+    {
+        &self.item
+    }
+
+    /// The item, without the tree. Takes no memory.
+    pub fn into_item(self) -> Item
+        ensures item { result ≡ self }
+        ensures depth { depth (view self) ≤ 256 }
+        ensures in_range { IsInRange (view self) }
+        ensures valid { IsValid (view self) }
+    {
+        self.item
+    }
+}
