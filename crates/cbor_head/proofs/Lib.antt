@@ -5,8 +5,6 @@ pub mod Beginnings
 pub mod Ends
 pub mod Exact
 pub mod Examples
-pub mod FirstBytes
-pub mod GivenHead
 pub mod HeadBack
 pub mod HeadLaws
 pub mod Least

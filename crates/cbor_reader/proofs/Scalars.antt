@@ -1,218 +1,110 @@
--- Integers and simple values, and the bytes that are one.
-use Rattle.std.proofs.Common.{ℕ, zero, suc, ◌+◌, ◌-◌, ◌*◌, ◌%◌, ◌≡◌, ◌≢◌, ◌<◌, ◌≤◌, ◌⊎◌, inl, inr, List, [], ◌∷◌, ◌++◌, length, get_or, refl, sym, ap, arith, subst}
-use Rattle.std.proofs.lemmas.Bool.{cases_lt}
+-- Items of one head, and tags.
+use Rattle.std.proofs.Common.{◌≡◌, ◌≢◌, ℕ, zero, suc, ◌+◌, ◌-◌, ◌<◌, ◌≤◌, ◌⊎◌, Option, Some, None, List, [], ◌∷◌, ◌++◌, length, refl, sym, ap, ◌∙◌, subst, inl, inr, arith, append_assoc, append-nil}
 use Rattle.std.proofs.lemmas.List.{length-append}
-use Rattle.cbor_head.specs.Head.{IsHead, HeadParts, head_parts, head, major_number, shortest_head}
-use Rattle.cbor_head.specs.Spelling.{Spelling, unsigned, negative, simple, value_of, IsItem}
-use Rattle.cbor_head.specs.Canonical.{canonical}
-use Rattle.cbor_head.specs.Complaint.{plain, Complaint, Complains}
-use Rattle.cbor_head.specs.Verdict.{initial_reason}
-use Rattle.cbor_head.specs.declared.order.KeyOrder.{KeyOrder}
+use Rattle.cbor_head.specs.Head.{Holds, head, shortest}
+use Rattle.cbor_head.specs.Limits.{Bounds}
+use Rattle.cbor_head.specs.Value as value
+use Rattle.cbor_head.specs.Value.{Value}
+use Rattle.cbor_head.specs.Spelling.{Spelling, unsigned, negative, tag, simple, spell, IsSpelled, depth, value_of}
+use Rattle.cbor_head.specs.Complaint.{Rules, Complaint, OfHead, Complains}
 use Rattle.cbor_head.specs.declared.major.Major.{Major}
-use Rattle.cbor_head.specs.declared.major.Major.TheVariants.{Unsigned, Negative, Bytes, Text, Array, Map, Tag, Simple}
+use Rattle.cbor_head.specs.declared.major.Major.TheVariants as majors
 use Rattle.cbor_head.specs.declared.width.Width.{Width}
-use Rattle.cbor_head.specs.declared.reason.Reason.TheVariants.{TooDeep}
-use Rattle.cbor_head.proofs.FirstBytes.{stray, a_float, no_length, reserved, good, first_kind}
-use Rattle.cbor_head.proofs.GivenHead.{Follows, none, one, two, four, eight, IsHeadOf, held_head, simple_direct, simple_one}
-use Rattle.cbor_head.proofs.HeadBack.{ByPlace, by_place-tail, by_place-cons}
-use Rattle.cbor_reader.specs.Scalar.{IsWithin, BeginsStringOrContainer}
+use Rattle.cbor_head.specs.declared.reason.Refusal.{Refusal}
+use Rattle.cbor_events.specs.Automaton.{Frame, counted, State, at_item, close}
+use Rattle.cbor_events.specs.ItemEvents.{ItemEventsView}
+use Rattle.cbor_events.specs.declared.event.EventKind.TheVariants as kinds
+use Rattle.cbor_reader.specs.Judged.{IsJudged}
+use Rattle.cbor_reader.specs.Reading.{IsAt, Extends, IsBegun, ReadsItem, IsMemory, StopsItem}
+use Rattle.cbor_reader.proofs.Steps.{at-reached, reached-as}
+use Rattle.cbor_reader.proofs.Composition.{tag_judged, tag_whole}
+use Rattle.cbor_reader.proofs.Items.{IsDefinite, definite, never-open, is-definite, head-count, extends-none, extends-on, extends-in, stops-in, stops-memory}
 
--- the first byte of an unsigned or negative integer, or of a simple value
-abbrev pub BeginsScalar : ℕ → Type 0
-BeginsScalar c = IsWithin 0x00 0x1b c ⊎ IsWithin 0x20 0x3b c ⊎ IsWithin 0xe0 0xf8 c
+pub at-as : (b : Bounds) (e : ItemEventsView) (t u : List ℕ) (p q : State) → t ≡ u → p ≡ q → IsAt b e t p → IsAt b e u q
+at-as b e t u p q f g a = subst (λ (x : State). IsAt b e u x) g (subst (λ (x : List ℕ). IsAt b e x p) f a)
 
--- ---- scalars and their heads
+module _ (r : Rules) (b : Bounds) (fs : List Frame) (t x : List ℕ) (e : ItemEventsView) (w : Width) (n : ℕ) (from : Option (List ℕ)) where
+  pub reads-unsigned : IsBegun r b fs t x e w (kinds.Unsigned n) → ReadsItem r b fs t x from from e (value.unsigned n)
+  reads-unsigned i =
+      let f = definite b.depth fs majors.Unsigned w n x i.next (never-open b.depth fs majors.Unsigned w n x i.next tt i.taking) i.taking in
+      record {
+        item = unsigned w n;
+        spelled = f.holds;
+        within = omega arith;
+        clean = λ c h. i.clean c (head-count r (length t) majors.Unsigned w n c (is-definite w n f.holds) h);
+        taken = subst (λ (y : List ℕ). Extends x y from from) f.bytes_are (extends-none x from);
+        value = refl;
+        at = at-as b e (t ++ x) (t ++ head majors.Unsigned w n) i.next (close fs) (ap (λ (y : List ℕ). t ++ y) f.bytes_are) f.follows i.at;
+      }
 
-abbrev pub IsScalarMajor : Major → Type 0
-IsScalarMajor Unsigned = Unit {0}
-IsScalarMajor Negative = Unit {0}
-IsScalarMajor Simple = Unit {0}
-IsScalarMajor _ = ⊥
+  pub reads-negative : IsBegun r b fs t x e w (kinds.Negative n) → ReadsItem r b fs t x from from e (value.negative n)
+  reads-negative i =
+      let f = definite b.depth fs majors.Negative w n x i.next (never-open b.depth fs majors.Negative w n x i.next tt i.taking) i.taking in
+      record {
+        item = negative w n;
+        spelled = f.holds;
+        within = omega arith;
+        clean = λ c h. i.clean c (head-count r (length t) majors.Negative w n c (is-definite w n f.holds) h);
+        taken = subst (λ (y : List ℕ). Extends x y from from) f.bytes_are (extends-none x from);
+        value = refl;
+        at = at-as b e (t ++ x) (t ++ head majors.Negative w n) i.next (close fs) (ap (λ (y : List ℕ). t ++ y) f.bytes_are) f.follows i.at;
+      }
 
--- these bytes are one scalar
-pub record ScalarOf (bs : List ℕ) : Type 0 where
-  pub item : Spelling
-  pub is : (d : ℕ) → IsItem d item bs
-  pub clean : (c : Complaint) → ¬ Complains plain 0 item c
-  pub parts : HeadParts
-  pub is_head : IsHead parts.major parts.width parts.argument
-  pub spelled : head parts.major parts.width parts.argument ≡ bs
-  pub canonical_bytes : (o : KeyOrder) → canonical o (value_of item) ≡ shortest_head parts.major parts.argument
+  pub reads-simple : IsBegun r b fs t x e w (kinds.Simple n) → ReadsItem r b fs t x from from e (value.simple n)
+  reads-simple i =
+      let f = definite b.depth fs majors.Simple w n x i.next (never-open b.depth fs majors.Simple w n x i.next tt i.taking) i.taking in
+      let bytes_are : x ≡ head majors.Simple (shortest n) n = f.bytes_are ∙ ap (λ (v : Width). head majors.Simple v n) f.follows.1 in
+      record {
+        item = simple n;
+        spelled = f.follows.0;
+        within = omega arith;
+        clean = λ c h. h;
+        taken = subst (λ (y : List ℕ). Extends x y from from) bytes_are (extends-none x from);
+        value = refl;
+        at = at-as b e (t ++ x) (t ++ head majors.Simple (shortest n) n) i.next (close fs) (ap (λ (y : List ℕ). t ++ y) bytes_are) f.follows.2 i.at;
+      }
 
-pub scalar_of : (m : Major) (w : Width) (n : ℕ) → IsScalarMajor m → IsHead m w n → ScalarOf (head m w n)
-scalar_of Unsigned w n i h = record {
-  item = unsigned w n;
-  is = λ d. record { spelled = h; within = omega arith; bytes_are = refl };
-  clean = λ c x. x;
-  parts = head_parts Unsigned w n;
-  is_head = h;
-  spelled = refl;
-  canonical_bytes = λ o. refl;
-}
-scalar_of Negative w n i h = record {
-  item = negative w n;
-  is = λ d. record { spelled = h; within = omega arith; bytes_are = refl };
-  clean = λ c x. x;
-  parts = head_parts Negative w n;
-  is_head = h;
-  spelled = refl;
-  canonical_bytes = λ o. refl;
-}
-scalar_of Simple w n i h = record {
-  item = simple n;
-  is = λ d. record { spelled = h.0; within = omega arith; bytes_are = ap (λ (v : Width). head Simple v n) (sym h.1) };
-  clean = λ c x. x;
-  parts = head_parts Simple w n;
-  is_head = h;
-  spelled = refl;
-  canonical_bytes = λ o. refl;
-}
-scalar_of _ w n i h = absurd i
+  -- ---- tags
 
-pub parts_of : (m : Major) (w : Width) (a : ℕ) (i : IsScalarMajor m) (h : IsHead m w a) → (scalar_of m w a i h).parts ≡ head_parts m w a
-unfolding scalar_of
-parts_of Unsigned w a i h = refl
-parts_of Negative w a i h = refl
-parts_of Simple w a i h = refl
-parts_of _ w a i h = absurd i
+  tag-head : (i : IsBegun r b fs t x e w (kinds.Tag n)) → IsDefinite b.depth fs majors.Tag w n x i.next
+  tag-head i = definite b.depth fs majors.Tag w n x i.next (never-open b.depth fs majors.Tag w n x i.next tt i.taking) i.taking
 
-from_head : (m : Major) (bs : List ℕ) → IsScalarMajor m → IsHeadOf m bs → ScalarOf bs
-from_head m bs i h = subst ScalarOf h.bytes_are (scalar_of m h.width h.argument i h.is_head)
+  -- its content is due
+  pub tag-due : IsBegun r b fs t x e w (kinds.Tag n) → IsAt b e (t ++ x) (at_item (counted 0 ∷ fs))
+  tag-due i = let f = tag-head i in at-as b e (t ++ x) (t ++ x) i.next (at_item (counted 0 ∷ fs)) refl f.follows.1 i.at
 
-no_scalar : (c low : ℕ) → 64 ≤ low → low + 32 ≤ 0xe0 → (low ≤ c) × (c < low + 32) → BeginsScalar c → ⊥
-no_scalar c low a b h (inl i) = omega arith
-no_scalar c low a b h (inr (inl i)) = omega arith
-no_scalar c low a b h (inr (inr i)) = omega arith
+  pub reads-tag : (to : Option (List ℕ)) (new : ItemEventsView) (v : Value) → IsBegun r b fs t x e w (kinds.Tag n) → ReadsItem r b (counted 0 ∷ fs) (t ++ x) [] from to new v → ReadsItem r b fs t x from to new (value.tag n v)
+  reads-tag to new v i c =
+      let f = tag-head i in
+      let room : length fs < b.depth = f.follows.0 in
+      let bytes_are : x ++ spell c.item ≡ spell (tag w n c.item) = ap (λ (y : List ℕ). y ++ spell c.item) f.bytes_are in
+      let there : length (t ++ x) ≡ length t + length (head majors.Tag w n) = length-append t x ∙ ap (λ (y : List ℕ). length t + length y) f.bytes_are in
+      record {
+        item = tag w n c.item;
+        spelled = (f.holds, c.spelled);
+        within = omega (arith, c.within, room);
+        clean = tag_whole w n c.item r (length t) (λ d h. i.clean d (head-count r (length t) majors.Tag w n d (is-definite w n f.holds) h)) (λ d h. c.clean d (subst (λ (k : ℕ). Complains r k c.item d) (sym there) h));
+        taken = subst (λ (y : List ℕ). Extends x y from to) bytes_are (extends-in x x [] (spell c.item) from from to (subst (λ (y : List ℕ). Extends x y from from) (sym (append-nil x)) (extends-none x from)) c.taken);
+        value = ap (value.tag n) c.value;
+        at = at-as b new ((t ++ x) ++ spell c.item) (t ++ spell (tag w n c.item)) (close fs) (close fs) (append_assoc t x (spell c.item) ∙ ap (λ (y : List ℕ). t ++ y) bytes_are) refl c.at;
+      }
 
-pub major_by_first : (m : Major) (c : ℕ) → (32 * major_number m ≤ c) × (c < 32 * major_number m + 32) → BeginsScalar c → IsScalarMajor m
-major_by_first Unsigned c h b = tt
-major_by_first Negative c h b = tt
-major_by_first Bytes c h b = no_scalar c 64 (omega arith) (omega arith) h b
-major_by_first Text c h b = no_scalar c 96 (omega arith) (omega arith) h b
-major_by_first Array c h b = no_scalar c 128 (omega arith) (omega arith) h b
-major_by_first Map c h b = no_scalar c 160 (omega arith) (omega arith) h b
-major_by_first Tag c h b = no_scalar c 192 (omega arith) (omega arith) h b
-major_by_first Simple c h b = tt
+  pub stops-tag : (to : Option (List ℕ)) (f : Refusal) → IsBegun r b fs t x e w (kinds.Tag n) → StopsItem r b (counted 0 ∷ fs) (t ++ x) [] from to f → StopsItem r b fs t x from to f
+  stops-tag to f i s =
+      let h = tag-head i in
+      let room : length fs < b.depth = h.follows.0 in
+      let deep : suc (b.depth - suc (length fs)) ≡ b.depth - length fs = omega (arith, room) in
+      let there : length (t ++ x) ≡ length t + length (head majors.Tag w n) = length-append t x ∙ ap (λ (y : List ℕ). length t + length y) h.bytes_are in
+      stops-in r b fs (counted 0 ∷ fs) t x
+      (λ p found j.
+      subst (λ (y : List ℕ). IsJudged r (length t) (b.depth - length fs) (y ++ p) found) (sym h.bytes_are)
+      (subst (λ (k : ℕ). IsJudged r (length t) k (head majors.Tag w n ++ p) found) deep
+      (tag_judged w n r (length t) (b.depth - suc (length fs)) h.holds (λ d g. i.clean d (head-count r (length t) majors.Tag w n d (is-definite w n h.holds) g)) p found
+      (subst (λ (k : ℕ). IsJudged r k (b.depth - suc (length fs)) p found) there j))))
+      x [] from from to f (subst (λ (y : List ℕ). Extends x y from from) (sym (append-nil x)) (extends-none x from)) s
 
-simple_bytes : (c k : ℕ) (arg : List ℕ) → 0xe0 ≤ c → c ≤ 0xf8 → Follows c k → length arg ≡ k → ByPlace arg → (c ≡ 0xf8 → 32 ≤ get_or arg 0 0) → IsHeadOf Simple (c ∷ arg)
-simple_bytes c k [] a b f e h two_bytes = simple_direct c a (elim f [
-  | none l i ↦ omega arith
-  | one l i ↦ absurd (omega arith)
-  | two l i ↦ absurd (omega arith)
-  | four l i ↦ absurd (omega arith)
-  | eight l i ↦ absurd (omega arith)
-])
-simple_bytes c k (n ∷ []) a b f e h two_bytes = elim f [
-  | none l i ↦ absurd (omega arith)
-  | one l i ↦ (let is : c ≡ 0xf8 = omega arith in rw is (simple_one n (two_bytes is) (h 0)))
-  | two l i ↦ absurd (omega arith)
-  | four l i ↦ absurd (omega arith)
-  | eight l i ↦ absurd (omega arith)
-]
-simple_bytes c k (n ∷ x ∷ arg) a b f e h two_bytes = elim f [
-  | none l i ↦ absurd (omega arith)
-  | one l i ↦ absurd (omega arith)
-  | two l i ↦ absurd (omega arith)
-  | four l i ↦ absurd (omega arith)
-  | eight l i ↦ absurd (omega arith)
-]
-
--- a first byte with as many bytes of argument as it tells
-pub scalar_bytes : (c k : ℕ) (arg : List ℕ) → BeginsScalar c → Follows c k → length arg ≡ k → ByPlace arg → (c ≡ 0xf8 → 32 ≤ get_or arg 0 0) → ScalarOf (c ∷ arg)
-scalar_bytes c k arg (inl i) f e h two_bytes = from_head Unsigned (c ∷ arg) tt (held_head Unsigned c k arg (λ w n x. x) (omega arith) f e h)
-scalar_bytes c k arg (inr (inl i)) f e h two_bytes = from_head Negative (c ∷ arg) tt (held_head Negative c k arg (λ w n x. x) (omega arith) f e h)
-scalar_bytes c k arg (inr (inr i)) f e h two_bytes = from_head Simple (c ∷ arg) tt (simple_bytes c k arg i.0 i.1 f e h two_bytes)
-
--- as much of an argument as is missing
-abbrev pub fill : ℕ → List ℕ
-fill zero = []
-fill (suc k) = 0x20 ∷ fill k
-
-pub length_fill : (k : ℕ) → length (fill k) ≡ k
-length_fill zero = refl
-length_fill (suc k) = ap suc (length_fill k)
-
-small_fill : (k : ℕ) → ByPlace (fill k)
-small_fill zero = λ i. omega arith
-small_fill (suc k) = by_place-cons 0x20 (fill k) (omega arith) (small_fill k)
-
-small_filled : (part : List ℕ) (k : ℕ) → ByPlace part → ByPlace (part ++ fill k)
-small_filled [] k h = small_fill k
-small_filled (a ∷ part) k h = by_place-cons a (part ++ fill k) (h 0) (small_filled part k (by_place-tail a part h))
-
-pub one_follows : (c k : ℕ) → c ≡ 0xf8 → Follows c k → 1 ≡ k
-one_follows c k e (none l i) = absurd (omega arith)
-one_follows c k e (one l i) = sym i
-one_follows c k e (two l i) = absurd (omega arith)
-one_follows c k e (four l i) = absurd (omega arith)
-one_follows c k e (eight l i) = absurd (omega arith)
-
-first_filled : (part : List ℕ) (k : ℕ) → length part < k → 1 ≡ k → 32 ≤ get_or (part ++ fill (k - length part)) 0 0
-first_filled [] k l e = rw (sym e) (omega arith)
-first_filled (a ∷ part) k l e = absurd (omega arith)
-
--- what goes on from a first byte and a part of its argument
-pub filled : (c k : ℕ) (part : List ℕ) → BeginsScalar c → Follows c k → ByPlace part → length part < k → ScalarOf (c ∷ (part ++ fill (k - length part)))
-filled c k part b f small l =
-    scalar_bytes c k (part ++ fill (k - length part)) b f (omega (arith, length-append part (fill (k - length part)), length_fill (k - length part)))
-    (small_filled part (k - length part) small) (λ e. first_filled part k l (one_follows c k e f))
-
--- ---- which first bytes begin a scalar
-
-in_string : (c : ℕ) → 0x40 ≤ c → c < 0xe0 → c ≢ 0xdf → (c % 32 < 28) ⊎ (30 < c % 32) → BeginsStringOrContainer c
-in_string c a b e low = elim (cases_lt c 0x60) [
-  | inl x ↦ elim low [ inl l ↦ inl (omega arith, omega arith) | inr l ↦ inr (inl (omega arith)) ]
-  | inr x ↦ elim (cases_lt c 0x80) [
-    | inl y ↦ elim low [ inl l ↦ inr (inr (inl (omega arith, omega arith))) | inr l ↦ inr (inr (inr (inl (omega arith)))) ]
-    | inr y ↦ elim (cases_lt c 0xa0) [
-      | inl z ↦ elim low [ inl l ↦ inr (inr (inr (inr (inl (omega arith, omega arith))))) | inr l ↦ inr (inr (inr (inr (inr (inl (omega arith)))))) ]
-      | inr z ↦ elim (cases_lt c 0xc0) [
-        | inl u ↦ elim low [ inl l ↦ inr (inr (inr (inr (inr (inr (inl (omega arith, omega arith))))))) | inr l ↦ inr (inr (inr (inr (inr (inr (inr (inl (omega arith)))))))) ]
-        | inr u ↦ elim low [ inl l ↦ inr (inr (inr (inr (inr (inr (inr (inr (omega arith, omega arith)))))))) | inr l ↦ absurd (omega arith) ]
-      ]
-    ]
-  ]
-]
-
-by_range : (c : ℕ) → c < 256 → c ≢ 0xff → c ≢ 0xf9 → c ≢ 0xfa → c ≢ 0xfb → c ≢ 0x1f → c ≢ 0x3f → c ≢ 0xdf → (c % 32 < 28) ⊎ (30 < c % 32) → ¬ BeginsStringOrContainer c → BeginsScalar c
-by_range c small a b e f g h i low other = elim (cases_lt c 0x20) [
-  | inl l ↦ inl (omega arith, omega arith)
-  | inr l ↦ elim (cases_lt c 0x40) [
-    | inl x ↦ inr (inl (omega arith, omega arith))
-    | inr x ↦ elim (cases_lt c 0xe0) [
-      | inr y ↦ inr (inr (omega arith, omega arith))
-      | inl y ↦ absurd (other (in_string c x y i low))
-    ]
-  ]
-]
-
-low_27 : (c : ℕ) → BeginsScalar c → 27 ≤ c % 32 → c % 32 ≡ 27
-low_27 c (inl i) l = omega arith
-low_27 c (inr (inl i)) l = omega arith
-low_27 c (inr (inr i)) l = omega arith
-
--- a byte without a reason of its own begins a scalar, a string or a container
-pub begins_scalar : (c : ℕ) → c < 256 → initial_reason c ≡ TooDeep → ¬ BeginsStringOrContainer c → BeginsScalar c
-begins_scalar c small e other = elim (first_kind c) [
-  | stray f g ↦ absurd (cc (g, e))
-  | a_float f g ↦ absurd (cc (g, e))
-  | no_length f g ↦ absurd (cc (g, e))
-  | reserved f g ↦ absurd (cc (g, e))
-  | good a b f g i j k l x ↦ by_range c small a b f g i j k l other
-]
-
--- how many bytes follow, as `argument_bytes` tells it
-pub follows : (c k : ℕ) → BeginsScalar c → (c % 32 ≡ 24 → k ≡ 1) → (c % 32 ≡ 25 → k ≡ 2) → (c % 32 ≡ 26 → k ≡ 4) → (c % 32 ≡ 27 → k ≡ 8) → ((c % 32 < 24) ⊎ (27 < c % 32) → k ≡ 0) → Follows c k
-follows c k b to_one to_two to_four to_eight to_none = elim (cases_lt (c % 32) 24) [
-  | inl l ↦ none l (to_none (inl l))
-  | inr l ↦ elim (cases_lt (c % 32) 25) [
-    | inl x ↦ (let e : c % 32 ≡ 24 = omega arith in one e (to_one e))
-    | inr x ↦ elim (cases_lt (c % 32) 26) [
-      | inl y ↦ (let e : c % 32 ≡ 25 = omega arith in two e (to_two e))
-      | inr y ↦ elim (cases_lt (c % 32) 27) [
-        | inl z ↦ (let e : c % 32 ≡ 26 = omega arith in four e (to_four e))
-        | inr z ↦ (let e : c % 32 ≡ 27 = low_27 c b z in eight e (to_eight e))
-      ]
-    ]
-  ]
-]
+  pub tag-memory : (to : Option (List ℕ)) (new : ItemEventsView) (v : Value) (f : Refusal) → ReadsItem r b (counted 0 ∷ fs) (t ++ x) [] from to new v → f.read ≡ new.machine.taken → IsMemory f → StopsItem r b fs t x from to f
+  tag-memory to new v f c g m =
+      stops-memory r b fs t x (x ++ spell c.item) from to f (extends-in x x [] (spell c.item) from from to (subst (λ (y : List ℕ). Extends x y from from) (sym (append-nil x)) (extends-none x from)) c.taken)
+      (g ∙ c.at.stands.stands.taken ∙ ap length (append_assoc t x (spell c.item))) m
+      (reached-as b ((t ++ x) ++ spell c.item) (t ++ (x ++ spell c.item)) (append_assoc t x (spell c.item)) (at-reached b new ((t ++ x) ++ spell c.item) (close fs) c.at))

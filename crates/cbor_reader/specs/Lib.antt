@@ -1,2 +1,11 @@
 pub mod Canonicalise
-pub mod Scalar
+pub mod Frame
+pub mod Headline
+pub mod Judged
+pub mod MapKeys
+pub mod Members
+pub mod NextKey
+pub mod Readers
+pub mod Reading
+pub mod Rules
+pub mod Size

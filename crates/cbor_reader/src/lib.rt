@@ -1,10 +1,21 @@
 //! Readers of whole CBOR items.
 #![tactic(auto)]
 
-mod canonicalise;
+mod canonicaliser;
+mod front;
 pub mod laws;
-mod scalar;
+mod map_keys;
+mod members;
+mod next_head;
+mod payload;
+mod rules;
+mod strict_reader;
+mod strings;
 #[cfg(test)]
 mod tests;
+mod tree_reader;
 
-pub use canonicalise::canonicalise_scalar;
+pub use canonicaliser::canonicalise;
+pub use cbor_item::{KeyOrder, Tree};
+pub use strict_reader::read_strict;
+pub use tree_reader::read_tree;

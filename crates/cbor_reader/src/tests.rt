@@ -1,262 +1,465 @@
-//! What is answered of integers, of simple values, and of bytes that begin neither. The tables give
-//! bytes in hex.
+//! The readers against the tables, over readers that give all at once, and one byte a read.
 
-ghost use Rattle.std.specs.Prelude.{◌<◌};
-
-use crate::canonicalise_scalar;
-use cbor_head::Reason::{
-    BadSimple, Float, NoIndefinite, Reserved, StrayBreak, TooLong, Trailing, Truncated,
-};
+use crate::{KeyOrder, canonicalise, read_strict, read_tree};
 use cbor_head::{Limits, Reason, Refusal};
-use std::alloc::Global;
+use cbor_item::encode;
+use std::alloc::{AllocError, Global};
+use std::io;
+use std::io::Read;
 use std::process::Abort;
+use std::test::Fail;
 
-// More bytes than any input here has.
-const AMPLE: u64 = 1048576;
+// A reader that gives at most so many bytes a read.
+#[derive(Drop)]
+struct Parts<'a> {
+    rest: &'a [u8],
+    part: usize,
+}
 
-// The number of a hex digit.
-fn number_of(rt: &impl Abort, digit: u8) -> u8
-    ensures { result < 16 }
-{
-    match digit {
-        b'0'..=b'9' => digit - b'0',
-        b'a'..=b'f' => digit - b'a' + 10,
-        _ => {
-            assert!(rt; false, "{digit} is a hex digit");
-            0
-        }
+impl Read for Parts<'_> {
+    fn read(&mut self, buf: &mut [u8]) -> io::Result<usize> {
+        let n = buf.len().min(self.rest.len()).min(self.part);
+        buf[..n].copy_from_slice(&self.rest[..n]);
+        self.rest = &self.rest[n..];
+        Ok(n)
     }
 }
 
-// The bytes that hex digits stand for.
-fn unhex(rt: &impl Abort, alloc: Global, digits: &str) -> Vec<u8> {
+fn limits<R: Abort>(rt: &R, depth: u16, bytes: u64) -> Limits {
+    Limits::new(depth, bytes).expect(rt, "limits")
+}
+
+// The bytes of hex digits.
+fn bytes_of(alloc: Global, text: &str) -> Result<Vec<u8>, AllocError> {
     let mut bytes = Vec::new(alloc);
     let mut high = None;
-    for digit in digits.as_bytes() {
-        let number = number_of(rt, *digit);
-        high = match high {
-            None => Some(16 * number),
-            Some(high) => {
-                bytes.push(high | number).expect(rt, "memory is left");
-                None
-            }
+    for c in text.bytes() {
+        let digit = match c {
+            b'0'..=b'9' => c - b'0',
+            b'a'..=b'f' => c - b'a' + 10,
+            _ => 0,
         };
-    }
-    assert!(rt; high.is_none(), "digits come in pairs");
-    bytes
-}
-
-// The answer within depth 256 and so many bytes.
-fn answer(
-    rt: &impl Abort,
-    alloc: Global,
-    input: &str,
-    bytes: u64,
-) -> Option<Result<Vec<u8>, Refusal>> {
-    let limits = Limits::new(256, bytes).expect(rt, "the limits are allowed");
-    let input = unhex(rt, alloc, input);
-    canonicalise_scalar(alloc, &input, limits)
-}
-
-// Asserts that the canonical bytes of an input are these.
-fn assert_becomes(rt: &impl Abort, alloc: Global, input: &str, canonical: &str) {
-    let canonical = unhex(rt, alloc, canonical);
-    match answer(rt, alloc, input, AMPLE) {
-        Some(Ok(bytes)) => assert_eq!(rt; bytes.as_slice(), canonical.as_slice(), "{input}"),
-        other => assert!(rt; false, "{input} gives {:?}", other),
-    }
-}
-
-// Asserts that an input is refused for a reason at a place, with so many bytes taken.
-fn assert_refused(rt: &impl Abort, alloc: Global, input: &str, bytes: u64, refusal: Refusal) {
-    match answer(rt, alloc, input, bytes) {
-        Some(Err(given)) => assert_eq!(rt; given, refusal, "{input}"),
-        other => assert!(rt; false, "{input} gives {:?}", other),
-    }
-}
-
-// The refusal for a reason at a place, with so many bytes taken.
-fn refusal(reason: Reason, place: u64, read: u64) -> Refusal {
-    Refusal {
-        reason,
-        place,
-        read,
-    }
-}
-
-// The scalars of RFC 8949, appendix A.
-#[test]
-fn keeps_canonical_bytes(rt: HostRuntime) {
-    let table = [
-        "00", // 0
-        "01", // 1
-        "0a", // 10
-        "17", // 23
-        "1818", // 24
-        "1819", // 25
-        "1864", // 100
-        "1903e8", // 1000
-        "1a000f4240", // 1000000
-        "1b000000e8d4a51000", // 1000000000000
-        "1bffffffffffffffff", // 18446744073709551615
-        "3bffffffffffffffff", // -18446744073709551616
-        "20", // -1
-        "29", // -10
-        "3863", // -100
-        "3903e7", // -1000
-        "f4", // false
-        "f5", // true
-        "f6", // null
-        "f7", // undefined
-        "f0", // simple(16)
-        "f8ff", // simple(255)
-    ];
-    for input in table {
-        assert_becomes(&rt, rt.alloc(), input, input);
-    }
-}
-
-// Each width's least and greatest argument in each width that holds it.
-#[test]
-fn shortens_heads(rt: HostRuntime) {
-    let table = [
-        ("17", "17"), // 23
-        ("1817", "17"),
-        ("190017", "17"),
-        ("1a00000017", "17"),
-        ("1b0000000000000017", "17"),
-        ("1818", "1818"), // 24
-        ("190018", "1818"),
-        ("1a00000018", "1818"),
-        ("1b0000000000000018", "1818"),
-        ("18ff", "18ff"), // 255
-        ("1900ff", "18ff"),
-        ("1a000000ff", "18ff"),
-        ("1b00000000000000ff", "18ff"),
-        ("190100", "190100"), // 256
-        ("1a00000100", "190100"),
-        ("1b0000000000000100", "190100"),
-        ("19ffff", "19ffff"), // 65535
-        ("1a0000ffff", "19ffff"),
-        ("1b000000000000ffff", "19ffff"),
-        ("1a00010000", "1a00010000"), // 65536
-        ("1b0000000000010000", "1a00010000"),
-        ("1affffffff", "1affffffff"), // 4294967295
-        ("1b00000000ffffffff", "1affffffff"),
-        ("1b0000000100000000", "1b0000000100000000"), // 4294967296
-        ("1800", "00"), // 0
-        ("3b0000000000000000", "20"), // -1
-        ("390018", "3818"), // -25
-        ("f820", "f820"), // simple(32)
-    ];
-    for (input, canonical) in table {
-        assert_becomes(&rt, rt.alloc(), input, canonical);
-    }
-}
-
-#[test]
-fn refuses_what_is_no_scalar(rt: HostRuntime) {
-    let table = [
-        ("", AMPLE, refusal(Truncated, 0, 0)),
-        ("", 0, refusal(TooLong, 0, 0)),
-        ("00", 0, refusal(TooLong, 0, 0)),
-        ("5f", 0, refusal(TooLong, 0, 0)),
-        ("18", AMPLE, refusal(Truncated, 1, 1)),
-        ("18", 1, refusal(TooLong, 1, 1)),
-        ("f8", AMPLE, refusal(Truncated, 1, 1)),
-        ("1903", AMPLE, refusal(Truncated, 2, 2)),
-        ("1bffffffffffffff", AMPLE, refusal(Truncated, 8, 8)),
-        ("1bffffffffffffff", 8, refusal(TooLong, 8, 8)),
-        ("1bffffffffffffffff", 8, refusal(TooLong, 8, 8)),
-        ("0000", AMPLE, refusal(Trailing, 1, 1)),
-        // A byte behind the item is seen past the limit, one within it is not.
-        ("0000", 1, refusal(Trailing, 1, 1)),
-        ("1800ff", 2, refusal(Trailing, 2, 2)),
-        ("f81f", 1, refusal(TooLong, 1, 1)),
-        ("f800", AMPLE, refusal(BadSimple, 1, 2)),
-        ("f818", AMPLE, refusal(BadSimple, 1, 2)),
-        ("f81f", AMPLE, refusal(BadSimple, 1, 2)),
-        ("f81f00", 2, refusal(BadSimple, 1, 2)),
-        ("f97c00", AMPLE, refusal(Float, 0, 1)), // Infinity
-        ("fa00000000", AMPLE, refusal(Float, 0, 1)), // 0.0
-        ("fb0000000000000000", AMPLE, refusal(Float, 0, 1)), // 0.0
-        ("ff00", 1, refusal(StrayBreak, 0, 1)),
-        ("5c", AMPLE, refusal(Reserved, 0, 1)),
-    ];
-    for (input, bytes, refusal) in table {
-        assert_refused(&rt, rt.alloc(), input, bytes, refusal);
-    }
-}
-
-// What a byte begins.
-#[derive(Clone, Copy)]
-enum First {
-    // A scalar, with this argument behind it.
-    Scalar(&'static str),
-    // A byte string, text, array, map or tag.
-    Other,
-    // No item.
-    Nothing(Reason),
-}
-
-// Every first byte, by the ranges of RFC 8949, appendix B.
-#[test]
-fn tells_first_bytes_apart(rt: HostRuntime) {
-    let table = [
-        (0x00, 0x17, First::Scalar("")),
-        (0x18, 0x18, First::Scalar("20")),
-        (0x19, 0x19, First::Scalar("2020")),
-        (0x1a, 0x1a, First::Scalar("20202020")),
-        (0x1b, 0x1b, First::Scalar("2020202020202020")),
-        (0x1c, 0x1e, First::Nothing(Reserved)),
-        (0x1f, 0x1f, First::Nothing(NoIndefinite)),
-        (0x20, 0x37, First::Scalar("")),
-        (0x38, 0x38, First::Scalar("20")),
-        (0x39, 0x39, First::Scalar("2020")),
-        (0x3a, 0x3a, First::Scalar("20202020")),
-        (0x3b, 0x3b, First::Scalar("2020202020202020")),
-        (0x3c, 0x3e, First::Nothing(Reserved)),
-        (0x3f, 0x3f, First::Nothing(NoIndefinite)),
-        (0x40, 0x5b, First::Other),
-        (0x5c, 0x5e, First::Nothing(Reserved)),
-        (0x5f, 0x7b, First::Other),
-        (0x7c, 0x7e, First::Nothing(Reserved)),
-        (0x7f, 0x9b, First::Other),
-        (0x9c, 0x9e, First::Nothing(Reserved)),
-        (0x9f, 0xbb, First::Other),
-        (0xbc, 0xbe, First::Nothing(Reserved)),
-        (0xbf, 0xdb, First::Other),
-        (0xdc, 0xde, First::Nothing(Reserved)),
-        (0xdf, 0xdf, First::Nothing(NoIndefinite)),
-        (0xe0, 0xf7, First::Scalar("")),
-        (0xf8, 0xf8, First::Scalar("20")),
-        (0xf9, 0xfb, First::Nothing(Float)),
-        (0xfc, 0xfe, First::Nothing(Reserved)),
-        (0xff, 0xff, First::Nothing(StrayBreak)),
-    ];
-    let mut next = 0u16;
-    for (from, to, first) in table {
-        assert_eq!(rt; from, next, "no byte is left out");
-        for byte in from..=to {
-            assert_begins(&rt, rt.alloc(), byte, first);
+        match high {
+            None => high = Some(digit),
+            Some(sixteens) => {
+                bytes.push(sixteens << 4 | digit)?;
+                high = None;
+            }
         }
-        next = to.wrapping_add(1);
     }
-    assert_eq!(rt; next, 256);
+    Ok(bytes)
 }
 
-// Asserts what a byte begins.
-fn assert_begins(rt: &impl Abort, alloc: Global, byte: u16, first: First) {
-    let argument = match first {
-        First::Scalar(argument) => argument,
-        _ => "",
+// Bytes that the plain rules refuse, with the depth limit, the byte limit, and the refusal.
+static REFUSED: [(&str, u16, u64, Reason, u64, u64); 64] = [
+    ("", 256, 1048576, Reason::Truncated, 0, 0),
+    ("1c", 256, 1048576, Reason::Reserved, 0, 1),
+    ("3d", 256, 1048576, Reason::Reserved, 0, 1),
+    ("5e", 256, 1048576, Reason::Reserved, 0, 1),
+    ("7c", 256, 1048576, Reason::Reserved, 0, 1),
+    ("9d", 256, 1048576, Reason::Reserved, 0, 1),
+    ("be", 256, 1048576, Reason::Reserved, 0, 1),
+    ("dc", 256, 1048576, Reason::Reserved, 0, 1),
+    ("fc", 256, 1048576, Reason::Reserved, 0, 1),
+    ("5f5c", 256, 1048576, Reason::BadChunk, 1, 2),
+    ("1f", 256, 1048576, Reason::NoIndefinite, 0, 1),
+    ("3f", 256, 1048576, Reason::NoIndefinite, 0, 1),
+    ("df", 256, 1048576, Reason::NoIndefinite, 0, 1),
+    ("f97c00", 256, 1048576, Reason::Float, 0, 1),
+    ("fa00000000", 256, 1048576, Reason::Float, 0, 1),
+    ("fb0000000000000000", 256, 1048576, Reason::Float, 0, 1),
+    ("8201f90000", 256, 1048576, Reason::Float, 2, 3),
+    ("ff", 256, 1048576, Reason::StrayBreak, 0, 1),
+    ("81ff", 256, 1048576, Reason::StrayBreak, 1, 2),
+    ("a1ff", 256, 1048576, Reason::StrayBreak, 1, 2),
+    ("c1ff", 256, 1048576, Reason::StrayBreak, 1, 2),
+    ("a100ff", 256, 1048576, Reason::StrayBreak, 2, 3),
+    ("bf00ff", 256, 1048576, Reason::StrayBreak, 2, 3),
+    ("7f4100ff", 256, 1048576, Reason::BadChunk, 1, 2),
+    ("5f6100ff", 256, 1048576, Reason::BadChunk, 1, 2),
+    ("5f00ff", 256, 1048576, Reason::BadChunk, 1, 2),
+    ("5f5f4100ffff", 256, 1048576, Reason::BadChunk, 1, 2),
+    ("f800", 256, 1048576, Reason::BadSimple, 1, 2),
+    ("f818", 256, 1048576, Reason::BadSimple, 1, 2),
+    ("f81f", 256, 1048576, Reason::BadSimple, 1, 2),
+    ("18", 256, 1048576, Reason::Truncated, 1, 1),
+    ("41", 256, 1048576, Reason::Truncated, 1, 1),
+    ("9f", 256, 1048576, Reason::Truncated, 1, 1),
+    ("c1", 256, 1048576, Reason::Truncated, 1, 1),
+    ("f8", 256, 1048576, Reason::Truncated, 1, 1),
+    ("1903", 256, 1048576, Reason::Truncated, 2, 2),
+    ("8201", 256, 1048576, Reason::Truncated, 2, 2),
+    ("5f41", 256, 1048576, Reason::Truncated, 2, 2),
+    ("62ff", 256, 1048576, Reason::Truncated, 2, 2),
+    ("5bffffffffffffffff", 256, 1048576, Reason::Truncated, 9, 9),
+    ("bb8000000000000000", 256, 1048576, Reason::Truncated, 9, 9),
+    ("61ff", 256, 1048576, Reason::InvalidText, 1, 2),
+    ("63eda080", 256, 1048576, Reason::InvalidText, 1, 4),
+    ("6341c080", 256, 1048576, Reason::InvalidText, 2, 4),
+    ("6341e6b0", 256, 1048576, Reason::InvalidText, 2, 4),
+    ("64f4908080", 256, 1048576, Reason::InvalidText, 1, 5),
+    ("7f61c361bcff", 256, 1048576, Reason::InvalidText, 2, 3),
+    ("a161ff", 256, 1048576, Reason::InvalidText, 2, 3),
+    ("a2616100616101", 256, 1048576, Reason::RepeatedKey, 4, 6),
+    (
+        "a26161007f6161ff01",
+        256,
+        1048576,
+        Reason::RepeatedKey,
+        4,
+        8,
+    ),
+    ("a20100180100", 256, 1048576, Reason::RepeatedKey, 3, 5),
+    (
+        "a2a20102030400a20304010201",
+        256,
+        1048576,
+        Reason::RepeatedKey,
+        7,
+        12,
+    ),
+    (
+        "a2a1010100a20101010100",
+        256,
+        1048576,
+        Reason::RepeatedKey,
+        8,
+        9,
+    ),
+    ("a201000100", 256, 1048576, Reason::RepeatedKey, 3, 4),
+    ("c1c100", 1, 1048576, Reason::TooDeep, 1, 2),
+    ("9f", 0, 1048576, Reason::TooDeep, 0, 1),
+    ("80", 0, 1048576, Reason::TooDeep, 0, 1),
+    ("818180", 2, 1048576, Reason::TooDeep, 2, 3),
+    ("81818101", 2, 1048576, Reason::TooDeep, 2, 3),
+    ("9c", 0, 1048576, Reason::Reserved, 0, 1),
+    ("1864", 256, 1, Reason::TooLong, 1, 1),
+    ("00", 256, 0, Reason::TooLong, 0, 0),
+    ("9f00", 256, 2, Reason::TooLong, 2, 2),
+    ("6261", 256, 2, Reason::TooLong, 2, 2),
+];
+
+// Each refusal is given, and as many bytes are read, whole or one byte a read.
+#[test]
+fn refuses(rt: HostRuntime) -> Result<(), Fail> {
+    for &(hex, depth, bytes, reason, place, read) in &REFUSED {
+        let refusal = Refusal {
+            reason,
+            place,
+            read,
+        };
+        let input = bytes_of(rt.alloc(), hex)?;
+        for part in [usize::MAX, 1] {
+            let mut reader = Parts { rest: &input, part };
+            match read_tree(rt.alloc(), &mut reader, limits(&rt, depth, bytes)) {
+                Ok(_) => assert!(rt; false, "accepted {hex}"),
+                Err(given) => assert_eq!(rt; given, refusal, "at {hex}"),
+            }
+            assert!(rt; input.get(read as usize..) == Some(reader.rest), "at {hex}");
+        }
+    }
+    Ok(())
+}
+
+// Items, with their canonical bytes.
+static ACCEPTED: [(&str, &str); 70] = [
+    ("00", "00"),
+    ("01", "01"),
+    ("0a", "0a"),
+    ("17", "17"),
+    ("1818", "1818"),
+    ("1819", "1819"),
+    ("1864", "1864"),
+    ("1903e8", "1903e8"),
+    ("1a000f4240", "1a000f4240"),
+    ("1b000000e8d4a51000", "1b000000e8d4a51000"),
+    ("1bffffffffffffffff", "1bffffffffffffffff"),
+    ("c249010000000000000000", "c249010000000000000000"),
+    ("3bffffffffffffffff", "3bffffffffffffffff"),
+    ("c349010000000000000000", "c349010000000000000000"),
+    ("20", "20"),
+    ("29", "29"),
+    ("3863", "3863"),
+    ("3903e7", "3903e7"),
+    ("f4", "f4"),
+    ("f5", "f5"),
+    ("f6", "f6"),
+    ("f7", "f7"),
+    ("f0", "f0"),
+    ("f8ff", "f8ff"),
+    (
+        "c074323031332d30332d32315432303a30343a30305a",
+        "c074323031332d30332d32315432303a30343a30305a",
+    ),
+    ("c11a514b67b0", "c11a514b67b0"),
+    ("d74401020304", "d74401020304"),
+    ("d818456449455446", "d818456449455446"),
+    (
+        "d82076687474703a2f2f7777772e6578616d706c652e636f6d",
+        "d82076687474703a2f2f7777772e6578616d706c652e636f6d",
+    ),
+    ("40", "40"),
+    ("4401020304", "4401020304"),
+    ("60", "60"),
+    ("6161", "6161"),
+    ("6449455446", "6449455446"),
+    ("62225c", "62225c"),
+    ("62c3bc", "62c3bc"),
+    ("63e6b0b4", "63e6b0b4"),
+    ("64f0908591", "64f0908591"),
+    ("80", "80"),
+    ("83010203", "83010203"),
+    ("8301820203820405", "8301820203820405"),
+    (
+        "98190102030405060708090a0b0c0d0e0f101112131415161718181819",
+        "98190102030405060708090a0b0c0d0e0f101112131415161718181819",
+    ),
+    ("a0", "a0"),
+    ("a201020304", "a201020304"),
+    ("a26161016162820203", "a26161016162820203"),
+    ("826161a161626163", "826161a161626163"),
+    (
+        "a56161614161626142616361436164614461656145",
+        "a56161614161626142616361436164614461656145",
+    ),
+    ("5f42010243030405ff", "450102030405"),
+    ("7f657374726561646d696e67ff", "6973747265616d696e67"),
+    ("9fff", "80"),
+    ("9f018202039f0405ffff", "8301820203820405"),
+    ("9f01820203820405ff", "8301820203820405"),
+    ("83018202039f0405ff", "8301820203820405"),
+    ("83019f0203ff820405", "8301820203820405"),
+    (
+        "9f0102030405060708090a0b0c0d0e0f101112131415161718181819ff",
+        "98190102030405060708090a0b0c0d0e0f101112131415161718181819",
+    ),
+    ("bf61610161629f0203ffff", "a26161016162820203"),
+    ("826161bf61626163ff", "826161a161626163"),
+    ("bf6346756ef563416d7421ff", "a263416d74216346756ef5"),
+    ("5fff", "40"),
+    ("7fff", "60"),
+    ("bfff", "a0"),
+    ("a2416100616101", "a2416100616101"),
+    ("a2c101000101", "a20101c10100"),
+    ("1b0000000000000017", "17"),
+    ("1800", "00"),
+    ("f820", "f820"),
+    ("818101", "818101"),
+    ("bf190003040102ff", "a201020304"),
+    ("c24101", "c24101"),
+    (
+        "a8626161010a021864032004617a0581186406812007f408",
+        "a80a021864032004617a056261610181186406812007f408",
+    ),
+];
+
+// The item alone is read, whole or one byte a read.
+#[test]
+fn reads_trees(rt: HostRuntime) -> Result<(), Fail> {
+    for &(hex, canonical) in &ACCEPTED {
+        let mut input = bytes_of(rt.alloc(), hex)?;
+        let count = input.len() as u64;
+        input.push(0)?;
+        for part in [usize::MAX, 1] {
+            let mut reader = Parts { rest: &input, part };
+            match read_tree(rt.alloc(), &mut reader, limits(&rt, 256, 1048576)) {
+                Ok((tree, taken)) => {
+                    assert_eq!(rt; taken, count, "at {hex}");
+                    match encode(rt.alloc(), &tree, KeyOrder::Bytewise) {
+                        Ok(bytes) => assert!(rt;
+                            bytes == bytes_of(rt.alloc(), canonical)?,
+                            "at {hex}"
+                        ),
+                        Err(_) => assert!(rt; false, "no memory at {hex}"),
+                    }
+                }
+                Err(_) => assert!(rt; false, "refused {hex}"),
+            }
+            assert_eq!(rt; reader.rest.len(), 1, "at {hex}");
+        }
+    }
+    Ok(())
+}
+
+// What the strict rules answer, by an order: the bytes taken, or the refusal.
+static STRICT: [(&str, KeyOrder, Result<u64, (Reason, u64, u64)>); 20] = [
+    ("f820", KeyOrder::Bytewise, Ok(2)),
+    (
+        "1900ff",
+        KeyOrder::Bytewise,
+        Err((Reason::NotShortest, 0, 3)),
+    ),
+    ("1800", KeyOrder::Bytewise, Err((Reason::NotShortest, 0, 2))),
+    ("5800", KeyOrder::Bytewise, Err((Reason::NotShortest, 0, 2))),
+    (
+        "7801ff",
+        KeyOrder::Bytewise,
+        Err((Reason::NotShortest, 0, 2)),
+    ),
+    (
+        "811817",
+        KeyOrder::Bytewise,
+        Err((Reason::NotShortest, 1, 3)),
+    ),
+    (
+        "d80100",
+        KeyOrder::Bytewise,
+        Err((Reason::NotShortest, 0, 2)),
+    ),
+    ("9fff", KeyOrder::Bytewise, Err((Reason::Indefinite, 0, 1))),
+    (
+        "7f657374726561646d696e67ff",
+        KeyOrder::Bytewise,
+        Err((Reason::Indefinite, 0, 1)),
+    ),
+    (
+        "a202000100",
+        KeyOrder::Bytewise,
+        Err((Reason::KeyOrder, 3, 4)),
+    ),
+    (
+        "a201000100",
+        KeyOrder::Bytewise,
+        Err((Reason::KeyOrder, 3, 4)),
+    ),
+    (
+        "a20100180100",
+        KeyOrder::Bytewise,
+        Err((Reason::NotShortest, 3, 5)),
+    ),
+    ("61ff", KeyOrder::Bytewise, Err((Reason::InvalidText, 1, 2))),
+    ("1f", KeyOrder::Bytewise, Err((Reason::NoIndefinite, 0, 1))),
+    ("a1", KeyOrder::Bytewise, Err((Reason::Truncated, 1, 1))),
+    ("a10102", KeyOrder::Bytewise, Ok(3)),
+    ("a21864002000", KeyOrder::Bytewise, Ok(6)),
+    (
+        "a21864002000",
+        KeyOrder::LengthFirst,
+        Err((Reason::KeyOrder, 4, 5)),
+    ),
+    (
+        "a80a021864032004617a056261610181186406812007f408",
+        KeyOrder::Bytewise,
+        Ok(24),
+    ),
+    (
+        "a80a022004f408186403617a058120076261610181186406",
+        KeyOrder::LengthFirst,
+        Ok(24),
+    ),
+];
+
+// The same count or refusal, whole or one byte a read.
+#[test]
+fn reads_strictly(rt: HostRuntime) -> Result<(), Fail> {
+    for &(hex, order, answer) in &STRICT {
+        let input = bytes_of(rt.alloc(), hex)?;
+        for part in [usize::MAX, 1] {
+            let mut reader = Parts { rest: &input, part };
+            let given = read_strict(rt.alloc(), &mut reader, limits(&rt, 256, 1048576), order);
+            let read = match answer {
+                Ok(count) => count,
+                Err((_, _, read)) => read,
+            };
+            match (given, answer) {
+                (Ok(count), Ok(wanted)) => assert_eq!(rt; count, wanted, "at {hex}"),
+                (Err(given), Err((reason, place, read))) => assert_eq!(rt;
+                    given,
+                    Refusal {
+                        reason,
+                        place,
+                        read
+                    },
+                    "at {hex}"
+                ),
+                _ => assert!(rt; false, "at {hex}"),
+            }
+            assert!(rt; input.get(read as usize..) == Some(reader.rest), "at {hex}");
+        }
+    }
+    Ok(())
+}
+
+// Whole inputs, with their canonical bytes in either order.
+static WHOLE: [(&str, &str, &str); 10] = [
+    ("1800", "00", "00"),
+    ("5fff", "40", "40"),
+    ("bfff", "a0", "a0"),
+    ("1b0000000000000017", "17", "17"),
+    ("a2416100616101", "a2416100616101", "a2416100616101"),
+    ("a2c101000101", "a20101c10100", "a20101c10100"),
+    (
+        "bf6346756ef563416d7421ff",
+        "a263416d74216346756ef5",
+        "a263416d74216346756ef5",
+    ),
+    ("a100a21864002000", "a100a21864002000", "a100a22000186400"),
+    (
+        "a2a21864002000000100",
+        "a20100a2186400200000",
+        "a20100a2200018640000",
+    ),
+    (
+        "a8626161010a021864032004617a0581186406812007f408",
+        "a80a021864032004617a056261610181186406812007f408",
+        "a80a022004f408186403617a058120076261610181186406",
+    ),
+];
+
+// Every item becomes its canonical bytes, and these become themselves.
+#[test]
+fn canonicalises(rt: HostRuntime) -> Result<(), Fail> {
+    for &(hex, bytewise, length_first) in &WHOLE {
+        let input = bytes_of(rt.alloc(), hex)?;
+        for (order, wanted) in [
+            (KeyOrder::Bytewise, bytewise),
+            (KeyOrder::LengthFirst, length_first),
+        ] {
+            let wanted = bytes_of(rt.alloc(), wanted)?;
+            for given in [input.as_slice(), wanted.as_slice()] {
+                match canonicalise(rt.alloc(), given, limits(&rt, 256, 1048576), order) {
+                    Ok(bytes) => assert!(rt; bytes == wanted, "at {hex}"),
+                    Err(_) => assert!(rt; false, "refused {hex}"),
+                }
+            }
+        }
+    }
+    Ok(())
+}
+
+// What is told of a whole input only: a byte behind the item, and canonical bytes past the limit.
+#[test]
+fn refuses_whole_inputs(rt: HostRuntime) -> Result<(), Fail> {
+    let refusal = |reason, place| {
+        Err(Refusal {
+            reason,
+            place,
+            read: place,
+        })
     };
-    let input = format!(in alloc; "{byte:02x}{argument}").expect(rt, "memory is left");
-    match first {
-        First::Scalar(_) => assert_becomes(rt, alloc, &input, &input),
-        First::Other => assert!(rt; answer(rt, alloc, &input, AMPLE).is_none(), "{input}"),
-        First::Nothing(reason) => {
-            assert_refused(rt, alloc, &input, AMPLE, refusal(reason, 0, 1));
-        }
+    let zeros = [0; 258];
+    let mut open = zeros;
+    open[0] = 0x9f;
+    open[257] = 0xff;
+    for (input, bytes, wanted) in [
+        (&[0, 0][..], 1048576, refusal(Reason::Trailing, 1)),
+        (&[0, 0][..], 1, refusal(Reason::Trailing, 1)),
+        (&[0xa1, 1, 2, 0][..], 1048576, refusal(Reason::Trailing, 3)),
+        (
+            &[0x9f, 0xff, 0xff][..],
+            1048576,
+            refusal(Reason::Trailing, 2),
+        ),
+        (&open[..], 258, refusal(Reason::CanonicalTooLong, 258)),
+        (&open[..], 259, Ok(259)),
+    ] {
+        let answer = canonicalise(
+            rt.alloc(),
+            input,
+            limits(&rt, 256, bytes),
+            KeyOrder::Bytewise,
+        );
+        assert_eq!(rt; answer.map(|bytes| bytes.len()), wanted);
     }
+    Ok(())
 }

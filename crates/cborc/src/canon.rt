@@ -5,7 +5,8 @@ use crate::fault::Fault;
 use crate::folder::Folder;
 use crate::input;
 use crate::status::Status;
-use cbor_reader::canonicalise_scalar;
+use cbor_head::KeyOrder;
+use cbor_reader::canonicalise;
 use std::alloc::Global;
 
 /// Writes the canonical bytes of the item in the file `source` to the file `target`, which is left
@@ -15,11 +16,12 @@ pub fn canon<'a, F: Folder>(
     files: &mut F,
     source: &'a str,
     target: &'a str,
+    order: KeyOrder,
     options: Options,
 ) -> Result<Status, Fault<'a>> {
+    let limits = options.limits;
     let bytes = input::read(alloc, files, source, options)?;
-    let answer = canonicalise_scalar(alloc, bytes.as_slice(), options.limits);
-    let canonical = answer.ok_or(Fault::NotScalar)??;
+    let canonical = canonicalise(alloc, bytes.as_slice(), limits, order)?;
     match files.write(target, canonical.as_slice()) {
         Ok(()) => Ok(Status::Accepted),
         Err(fault) => Err(Fault::of_writing(target, fault)),

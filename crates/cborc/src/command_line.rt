@@ -1,6 +1,9 @@
 //! The words of the command line, and what they ask for.
 
-use cbor_head::Limits;
+ghost use Rattle.std.specs.Prelude.{◌≡◌, codes, Some};
+ghost use Rattle.cbor_head.specs.declared.order.KeyOrder.TheVariants.{Bytewise, LengthFirst};
+
+use cbor_head::{KeyOrder, Limits};
 use clap::error::ErrorKind;
 use clap::{Arg, ArgAction, ArgMatches, Command, Error};
 use std::alloc::{AllocError, Global};
@@ -8,15 +11,35 @@ use std::alloc::{AllocError, Global};
 /// What the words of a command line ask for.
 #[derive(Debug, Drop)]
 pub enum Request<'a> {
+    /// Whether a file is one item.
+    Check {
+        /// The path of the file to read.
+        source: &'a str,
+        /// Which items are accepted.
+        accepted: Accepted,
+        /// How the file is read.
+        options: Options,
+    },
     /// The canonical bytes of the item in one file, written to another.
     Canon {
         /// The path of the file to read.
         source: &'a str,
         /// The path of the file to write.
         target: &'a str,
+        /// The order of keys in the canonical bytes.
+        order: KeyOrder,
         /// How the file is read.
         options: Options,
     },
+}
+
+/// Which items `check` accepts.
+#[derive(Clone, Copy, Debug)]
+pub enum Accepted {
+    /// Every valid item.
+    Valid,
+    /// Those in canonical bytes, by this order of keys.
+    Canonical(KeyOrder),
 }
 
 /// How a file is read, by each subcommand alike.
@@ -42,11 +65,38 @@ pub fn parse<'a>(alloc: Global, words: &'a [String]) -> Result<Request<'a>, Erro
 
 fn request_of<'a>(matches: &ArgMatches<'a>) -> Option<Request<'a>> {
     match matches.subcommand()? {
+        ("check", given) => Some(Request::Check {
+            source: given.get_str("FILE")?,
+            accepted: accepted_of(given)?,
+            options: options_of(given)?,
+        }),
         ("canon", given) => Some(Request::Canon {
             source: given.get_str("IN")?,
             target: given.get_str("OUT")?,
+            order: order_of(given.get_str("order")?)?,
             options: options_of(given)?,
         }),
+        _ => None,
+    }
+}
+
+fn accepted_of(given: &ArgMatches<'_>) -> Option<Accepted> {
+    let order = order_of(given.get_str("order")?)?;
+    if given.get_flag("strict") {
+        Some(Accepted::Canonical(order))
+    } else {
+        Some(Accepted::Valid)
+    }
+}
+
+// The order of keys that a word names.
+fn order_of(word: &str) -> Option<KeyOrder>
+    ensures bytewise { word.now ≡ codes "bytewise" → result ≡ Some Bytewise }
+    ensures length { word.now ≡ codes "length" → result ≡ Some LengthFirst }
+{
+    match word {
+        "bytewise" => Some(KeyOrder::Bytewise),
+        "length" => Some(KeyOrder::LengthFirst),
         _ => None,
     }
 }
@@ -64,14 +114,29 @@ fn command<'a>(alloc: Global) -> Result<Command<'a>, AllocError> {
     Command::new(alloc, "cborc")
         .about("Reads and writes deterministic CBOR (RFC 8949, section 4.2)")
         .subcommand_required(true)
+        .subcommand(check(alloc)?)?
         .subcommand(canon(alloc)?)
+}
+
+fn check<'a>(alloc: Global) -> Result<Command<'a>, AllocError> {
+    let strict = Arg::new(alloc, "strict")
+        .long("strict")
+        .action(ArgAction::SetTrue)
+        .help("Accept canonical bytes alone");
+    let command = Command::new(alloc, "check")
+        .about("Checks that FILE is one valid item")
+        .arg(file(alloc, "FILE", "The file to read: one item"))?
+        .arg(strict)?
+        .arg(order(alloc, "The order of map keys, with --strict"))?;
+    with_options(alloc, command)
 }
 
 fn canon<'a>(alloc: Global) -> Result<Command<'a>, AllocError> {
     let command = Command::new(alloc, "canon")
         .about("Writes the canonical bytes of the item in IN to OUT")
         .arg(file(alloc, "IN", "The file to read: one item"))?
-        .arg(file(alloc, "OUT", "The file to write"))?;
+        .arg(file(alloc, "OUT", "The file to write"))?
+        .arg(order(alloc, "The order of map keys"))?;
     with_options(alloc, command)
 }
 
@@ -79,6 +144,16 @@ fn file<'a>(alloc: Global, name: &'a str, help: &'a str) -> Arg<'a> {
     Arg::new(alloc, name)
         .action(ArgAction::Set)
         .required(true)
+        .help(help)
+}
+
+fn order<'a>(alloc: Global, help: &'a str) -> Arg<'a> {
+    Arg::new(alloc, "order")
+        .long("order")
+        .value_name("order")
+        .action(ArgAction::Set)
+        .value_parser(["bytewise", "length"].as_slice())
+        .default_value("bytewise")
         .help(help)
 }
 

@@ -13,9 +13,6 @@ pub enum Fault<'a> {
     /// The bytes of the input are refused.
     #[error("refused {0}")]
     Refused(Refusal),
-    /// The input is a string, an array, a map or a tag.
-    #[error("not a scalar")]
-    NotScalar,
     /// A word of the command line is not UTF-8.
     #[error("the words are not UTF-8")]
     NotText,
@@ -40,7 +37,7 @@ impl<'a> Fault<'a> {
     /// The status with which the program ends.
     pub fn status(&self) -> Status {
         match self {
-            Fault::Refused(_) | Fault::NotScalar => Status::Refused,
+            Fault::Refused(_) => Status::Refused,
             Fault::NotText => Status::Misused,
             _ => Status::Failed,
         }

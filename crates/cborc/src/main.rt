@@ -2,6 +2,7 @@
 #![tactic(auto)]
 
 mod canon;
+mod check;
 mod command_line;
 mod disk;
 mod fault;

@@ -3,6 +3,7 @@
 ghost use Rattle.std.specs.Prelude.{◌≤◌};
 
 use crate::canon::canon;
+use crate::check::check;
 use crate::command_line::{self, Request};
 use crate::fault::Fault;
 use crate::folder::Folder;
@@ -24,7 +25,7 @@ pub fn run<F: Folder, O: Write, E: Write>(
     ensures { result ≤ 3 }
 {
     let ended = match command_line::parse(alloc, words.as_slice()) {
-        Ok(request) => answer(alloc, &request, files),
+        Ok(request) => answer(alloc, &request, files, out),
         Err(error) => explain(&error, out, err),
     };
     end(ended, err)
@@ -44,17 +45,24 @@ pub fn end<E: Write>(ended: Result<Status, Fault<'_>>, err: &mut E) -> u8
     status as u8
 }
 
-fn answer<'a, F: Folder>(
+fn answer<'a, F: Folder, O: Write>(
     alloc: Global,
     request: &Request<'a>,
     files: &mut F,
+    out: &mut O,
 ) -> Result<Status, Fault<'a>> {
     match request {
+        Request::Check {
+            source,
+            accepted,
+            options,
+        } => check(alloc, files, out, source, *accepted, *options),
         Request::Canon {
             source,
             target,
+            order,
             options,
-        } => canon(alloc, files, source, target, *options),
+        } => canon(alloc, files, source, target, *order, *options),
     }
 }
 

@@ -1,10 +1,14 @@
 //! The program, over a folder in memory.
 
+mod appendix;
 mod command_line;
 mod disk;
 mod failures;
 mod hex_text;
+mod items;
+mod refusals;
 mod scalars;
+mod strict;
 
 use crate::folder::{FileFault, Folder};
 use crate::run::run;
@@ -56,23 +60,32 @@ struct Outcome {
 }
 
 impl Outcome {
-    // Whether it wrote just this file.
+    // Whether it ended well and wrote just this file.
     fn wrote(&self, path: &str, bytes: &[u8]) -> bool {
+        let quiet = self.status == 0 && self.out.is_empty() && self.err.is_empty();
         match self.written.as_slice() {
-            [(at, held)] => at.as_str() == path && held.as_slice() == bytes,
+            [(at, held)] => quiet && at.as_str() == path && held.as_slice() == bytes,
             _ => false,
         }
     }
 
-    // Whether it wrote no file, nothing on standard output, and this line on standard error.
+    // Whether it ended well and wrote just this line, on standard output.
+    fn printed(&self, line: &str) -> bool {
+        let quiet = self.status == 0 && self.written.is_empty() && self.err.is_empty();
+        quiet && is_line(self.out.as_slice(), line)
+    }
+
+    // Whether it ended with this status and wrote just this line, on standard error.
     fn stopped(&self, status: u8, line: &str) -> bool {
-        self.status == status
-            && self.written.is_empty()
-            && self.out.is_empty()
-            && match self.err.strip_suffix(b"\n".as_slice()) {
-                Some(text) => text == line.as_bytes(),
-                None => false,
-            }
+        let quiet = self.status == status && self.written.is_empty() && self.out.is_empty();
+        quiet && is_line(self.err.as_slice(), line)
+    }
+}
+
+fn is_line(bytes: &[u8], line: &str) -> bool {
+    match bytes.strip_suffix(b"\n".as_slice()) {
+        Some(text) => text == line.as_bytes(),
+        None => false,
     }
 }
 
@@ -119,6 +132,28 @@ fn ran(alloc: Global, line: &str, bytes: &[u8]) -> Result<Outcome, AllocError> {
         err,
         written,
     })
+}
+
+// The same, over a file of the bytes of a table's hex.
+fn ran_on(alloc: Global, line: &str, digits: &str) -> Result<Outcome, AllocError> {
+    let bytes = bytes_of(alloc, digits)?;
+    ran(alloc, line, bytes.as_slice())
+}
+
+// Whether `check` accepts the bytes of a table's hex, all of them, with these options.
+fn is_accepted(alloc: Global, options: &str, digits: &str) -> Result<bool, AllocError> {
+    let line = format!(in alloc; "check in {options}")?;
+    let ran = ran_on(alloc, line.as_str(), digits)?;
+    let wanted = format!(in alloc; "accepted {} bytes", digits.len() / 2)?;
+    Ok(ran.printed(wanted.as_str()))
+}
+
+// Whether `canon` turns the bytes of a table's hex into others, with these options.
+fn is_turned(alloc: Global, options: &str, digits: &str, wanted: &str) -> Result<bool, AllocError> {
+    let line = format!(in alloc; "canon in out {options}")?;
+    let ran = ran_on(alloc, line.as_str(), digits)?;
+    let wanted = bytes_of(alloc, wanted)?;
+    Ok(ran.wrote("out", wanted.as_slice()))
 }
 
 // The bytes of a table's hex.

@@ -4,7 +4,7 @@ use super::ran;
 use std::alloc::AllocError;
 
 // The options stand before or behind the files.
-const ACCEPTED: [&str; 12] = [
+static CANON: [&str; 15] = [
     "canon in out",
     "canon --hex in out",
     "canon in --hex out",
@@ -15,12 +15,28 @@ const ACCEPTED: [&str; 12] = [
     "canon --depth 0 in out",
     "canon --depth 256 in out",
     "canon --bytes 4611686018427387904 in out",
+    "canon --order bytewise in out",
+    "canon in --order=length out",
+    "canon in out --hex --order length",
     "canon -- in out",
     "canon --hex -- in out",
 ];
 
+static CHECK: [&str; 10] = [
+    "check in",
+    "check --hex in",
+    "check in --strict",
+    "check --strict in --hex",
+    "check --order length in",
+    "check in --order=bytewise --strict",
+    "check --bytes 1 --depth 0 --order length --strict --hex in",
+    "check in --bytes=1 --depth=256",
+    "check -- in",
+    "check --strict -- in",
+];
+
 // The words, and what standard error begins with.
-const FAULTS: [(&str, &str); 21] = [
+static FAULTS: [(&str, &str); 33] = [
     (
         "",
         "error: 'cborc' requires a subcommand but one was not provided\n",
@@ -46,6 +62,26 @@ const FAULTS: [(&str, &str); 21] = [
     (
         "canon --strict in out",
         "error: unexpected argument '--strict' found\n",
+    ),
+    (
+        "canon --order shortest in out",
+        "error: invalid value 'shortest' for '--order <order>'\n  [possible values: bytewise, length]\n",
+    ),
+    (
+        "canon --order Length in out",
+        "error: invalid value 'Length' for '--order <order>'\n  [possible values: bytewise, length]\n",
+    ),
+    (
+        "canon --order= in out",
+        "error: a value is required for '--order <order>' but none was supplied\n  [possible values: bytewise, length]\n",
+    ),
+    (
+        "canon in out --order",
+        "error: a value is required for '--order <order>' but none was supplied\n  [possible values: bytewise, length]\n",
+    ),
+    (
+        "canon --order length --order length in out",
+        "error: the argument '--order <order>' cannot be used multiple times\n",
     ),
     ("canon -x in out", "error: unexpected argument '-x' found\n"),
     (
@@ -96,6 +132,31 @@ const FAULTS: [(&str, &str); 21] = [
         "canon --bytes= in out",
         "error: invalid value '' for '--bytes <count>': cannot parse integer from empty string\n",
     ),
+    (
+        "check",
+        "error: the following required arguments were not provided:\n  <FILE>\n",
+    ),
+    ("check in more", "error: unexpected argument 'more' found\n"),
+    (
+        "check --strict=yes in",
+        "error: unexpected value 'yes' for '--strict' found; no more were expected\n",
+    ),
+    (
+        "check --strict --strict in",
+        "error: the argument '--strict' cannot be used multiple times\n",
+    ),
+    (
+        "check --order in",
+        "error: invalid value 'in' for '--order <order>'\n  [possible values: bytewise, length]\n",
+    ),
+    (
+        "check --depth 257 in",
+        "error: invalid value '257' for '--depth <count>': 257 is not in 0..=256\n",
+    ),
+    (
+        "--strict check in",
+        "error: unexpected argument '--strict' found\n",
+    ),
 ];
 
 const HELP: &str = "\
@@ -104,6 +165,7 @@ Reads and writes deterministic CBOR (RFC 8949, section 4.2)
 Usage: cborc <COMMAND>
 
 Commands:
+  check  Checks that FILE is one valid item
   canon  Writes the canonical bytes of the item in IN to OUT
   help   Print this message or the help of the given subcommand(s)
 
@@ -121,6 +183,24 @@ Arguments:
   <OUT>  The file to write
 
 Options:
+      --order <order>  The order of map keys [default: bytewise] [possible values: bytewise, length]
+      --depth <count>  How deep arrays, maps and tags may nest, 0 to 256 [default: 256]
+      --bytes <count>  How many bytes an item may have, 0 to 4611686018427387904 [default: 1048576]
+      --hex            Read hex digits, two for each byte, white space ignored
+  -h, --help           Print help
+";
+
+const HELP_OF_CHECK: &str = "\
+Checks that FILE is one valid item
+
+Usage: cborc check [OPTIONS] <FILE>
+
+Arguments:
+  <FILE>  The file to read: one item
+
+Options:
+      --strict         Accept canonical bytes alone
+      --order <order>  The order of map keys, with --strict [default: bytewise] [possible values: bytewise, length]
       --depth <count>  How deep arrays, maps and tags may nest, 0 to 256 [default: 256]
       --bytes <count>  How many bytes an item may have, 0 to 4611686018427387904 [default: 1048576]
       --hex            Read hex digits, two for each byte, white space ignored
@@ -128,7 +208,7 @@ Options:
 ";
 
 // The words, and what stands on standard output.
-const HELPS: [(&str, &str); 7] = [
+static HELPS: [(&str, &str); 10] = [
     ("--help", HELP),
     ("-h", HELP),
     ("help", HELP),
@@ -136,25 +216,36 @@ const HELPS: [(&str, &str); 7] = [
     ("canon -h", HELP_OF_CANON),
     ("help canon", HELP_OF_CANON),
     ("canon absent --help", HELP_OF_CANON),
+    ("check --help", HELP_OF_CHECK),
+    ("help check", HELP_OF_CHECK),
+    ("check --strict absent -h", HELP_OF_CHECK),
 ];
 
 #[test]
 fn takes_options_anywhere(rt: HostRuntime) -> Result<(), AllocError> {
-    for line in ACCEPTED {
-        let bytes = if line.contains("--hex") {
-            b"1800".as_slice()
-        } else {
-            b"\x18\x00".as_slice()
-        };
-        let ran = ran(rt.alloc(), line, bytes)?;
-        assert!(rt; ran.status == 0 && ran.wrote("out", b"\x00"), "{line}");
+    for &line in &CANON {
+        let ran = ran(rt.alloc(), line, zero(line))?;
+        assert!(rt; ran.wrote("out", b"\x00"), "{line}");
+    }
+    for &line in &CHECK {
+        let ran = ran(rt.alloc(), line, zero(line))?;
+        assert!(rt; ran.printed("accepted 1 bytes"), "{line}");
     }
     Ok(())
 }
 
+// A file that holds 0, as these words read it.
+fn zero(line: &str) -> &'static [u8] {
+    if line.contains("--hex") {
+        b"00"
+    } else {
+        b"\x00"
+    }
+}
+
 #[test]
 fn faults_in_the_words(rt: HostRuntime) -> Result<(), AllocError> {
-    for (line, wanted) in FAULTS {
+    for &(line, wanted) in &FAULTS {
         let ran = ran(rt.alloc(), line, b"\x00")?;
         let quiet = ran.out.is_empty() && ran.written.is_empty();
         let told = ran.err.starts_with(wanted.as_bytes());
@@ -165,7 +256,7 @@ fn faults_in_the_words(rt: HostRuntime) -> Result<(), AllocError> {
 
 #[test]
 fn helps(rt: HostRuntime) -> Result<(), AllocError> {
-    for (line, wanted) in HELPS {
+    for &(line, wanted) in &HELPS {
         let ran = ran(rt.alloc(), line, b"\x00")?;
         let quiet = ran.err.is_empty() && ran.written.is_empty();
         assert!(rt;

@@ -8,7 +8,7 @@ use std::io;
 use std::io::{ErrorKind, Write};
 
 // The words, the file, the status, and the line on standard error.
-const ROWS: [(&str, &[u8], u8, &str); 9] = [
+static ROWS: [(&str, &[u8], u8, &str); 13] = [
     ("canon absent out", b"\x00", 3, "cannot read absent"),
     ("canon --hex absent out", b"\x00", 3, "cannot read absent"),
     ("canon full out", b"\x00", 3, "out of memory"),
@@ -21,13 +21,17 @@ const ROWS: [(&str, &[u8], u8, &str); 9] = [
         1,
         "refused 12 Trailing at 1",
     ),
-    ("canon in locked", b"\x80", 1, "not a scalar"),
     ("canon --hex in locked", b"0", 3, "not hex: in"),
+    ("check absent", b"\x00", 3, "cannot read absent"),
+    ("check --strict absent", b"\x00", 3, "cannot read absent"),
+    ("check --hex absent", b"\x00", 3, "cannot read absent"),
+    ("check full", b"\x00", 3, "out of memory"),
+    ("check --hex in", b"0", 3, "not hex: in"),
 ];
 
 #[test]
 fn names_the_file(rt: HostRuntime) -> Result<(), AllocError> {
-    for (line, bytes, status, wanted) in ROWS {
+    for &(line, bytes, status, wanted) in &ROWS {
         let ran = ran(rt.alloc(), line, bytes)?;
         assert!(rt; ran.stopped(status, wanted), "{line}");
     }
@@ -56,20 +60,22 @@ impl Write for Short {
 }
 
 // The words, the file, and the status.
-const STATUSES: [(&str, &[u8], u8); 6] = [
+static STATUSES: [(&str, &[u8], u8); 8] = [
     ("canon in out", b"\x00", 0),
     ("canon in out", b"\x00\x00", 1),
-    ("canon in out", b"\x80", 1),
     ("canon in", b"\x00", 2),
     ("", b"\x00", 2),
     ("canon absent out", b"\x00", 3),
+    ("check in", b"\x00", 0),
+    ("check --strict in", b"\x18\x00", 1),
+    ("check absent", b"\x00", 3),
 ];
 
 #[test]
 fn standard_error_fails(rt: HostRuntime) -> Result<(), AllocError> {
-    for (line, bytes, wanted) in STATUSES {
+    for &(line, bytes, wanted) in &STATUSES {
         for left in [0, 3] {
-            let mut out = Short { left };
+            let mut out = Short { left: 64 };
             let mut err = Short { left };
             let (status, _) = run_with(rt.alloc(), line, bytes, &mut out, &mut err)?;
             if status == 3 && wanted != 3 {
@@ -81,30 +87,41 @@ fn standard_error_fails(rt: HostRuntime) -> Result<(), AllocError> {
     Ok(())
 }
 
+// The words, and how many bytes standard output takes of what they print of a file that holds 0.
+static PRINTED: [(&str, usize); 7] = [
+    ("help", 0),
+    ("help", 1),
+    ("help", 20),
+    ("check in", 0),
+    ("check in", 1),
+    ("check in", 16),
+    ("check --strict in", 0),
+];
+
 #[test]
 fn standard_output_fails(rt: HostRuntime) -> Result<(), AllocError> {
-    for left in [0, 1, 20] {
+    for &(line, left) in &PRINTED {
         let mut out = Short { left };
         let mut err = Vec::with_capacity(rt.alloc(), 2048)?;
-        let (status, _) = run_with(rt.alloc(), "help", b"", &mut out, &mut err)?;
+        let (status, _) = run_with(rt.alloc(), line, b"\x00", &mut out, &mut err)?;
         if err.as_slice() == b"out of memory\n".as_slice() {
             return Err(AllocError);
         }
         let told = err.as_slice() == b"cannot write standard output\n".as_slice();
-        assert!(rt; status == 3 && told, "{left}");
+        assert!(rt; status == 3 && told, "{line} {left}");
     }
     Ok(())
 }
 
 // What keeps the words from the program, the status, and the line on standard error.
-const NO_WORDS: [(ErrorKind, u8, &[u8]); 2] = [
+static NO_WORDS: [(ErrorKind, u8, &[u8]); 2] = [
     (ErrorKind::InvalidData, 2, b"the words are not UTF-8\n"),
     (ErrorKind::OutOfMemory, 3, b"out of memory\n"),
 ];
 
 #[test]
 fn has_no_words(rt: HostRuntime) -> Result<(), AllocError> {
-    for (kind, status, line) in NO_WORDS {
+    for &(kind, status, line) in &NO_WORDS {
         let mut err = Vec::with_capacity(rt.alloc(), 64)?;
         let ended = end(Err(Fault::of_words(&io::Error::from(kind))), &mut err);
         assert!(rt; ended == status && err.as_slice() == line);

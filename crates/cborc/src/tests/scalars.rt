@@ -1,10 +1,10 @@
-//! Which scalars are accepted, which bytes are refused, and where.
+//! Integers and simple values, in each width that holds them.
 
-use super::{bytes_of, ran};
+use super::{is_accepted, is_turned};
 use std::alloc::AllocError;
 
 // The options, the file, and what is written.
-const ACCEPTED: [(&str, &str, &str); 47] = [
+static ACCEPTED: [(&str, &str, &str); 47] = [
     ("", "1800", "00"), // 0
     ("", "17", "17"), // 23, and so on, each in every width that holds it
     ("", "1817", "17"),
@@ -54,79 +54,15 @@ const ACCEPTED: [(&str, &str, &str); 47] = [
     ("--depth 256", "00", "00"),
 ];
 
-// The options, the file, and the line of the refusal.
-const REFUSED: [(&str, &str, &str); 46] = [
-    ("", "", "refused 1 Truncated at 0"),
-    ("", "18", "refused 1 Truncated at 1"),
-    ("", "1bffffffffffffff", "refused 1 Truncated at 8"),
-    ("", "f8", "refused 1 Truncated at 1"),
-    ("--bytes 8", "1bffffffffffffffff", "refused 2 TooLong at 8"),
-    ("--bytes 8", "1bffffffffffffff", "refused 2 TooLong at 8"),
-    ("--bytes 1", "1864", "refused 2 TooLong at 1"),
-    ("--bytes 1", "f81f", "refused 2 TooLong at 1"),
-    ("--bytes 0", "00", "refused 2 TooLong at 0"),
-    ("--bytes 0", "", "refused 2 TooLong at 0"),
-    ("--bytes 0", "ff", "refused 2 TooLong at 0"),
-    ("--bytes 0", "80", "refused 2 TooLong at 0"),
-    ("", "1c", "refused 3 Reserved at 0"),
-    ("", "1d", "refused 3 Reserved at 0"),
-    ("", "1e", "refused 3 Reserved at 0"),
-    ("", "3c", "refused 3 Reserved at 0"),
-    ("", "5c", "refused 3 Reserved at 0"),
-    ("", "7d", "refused 3 Reserved at 0"),
-    ("", "9e", "refused 3 Reserved at 0"),
-    ("", "bc", "refused 3 Reserved at 0"),
-    ("", "dd", "refused 3 Reserved at 0"),
-    ("", "fe", "refused 3 Reserved at 0"),
-    ("", "1f", "refused 4 NoIndefinite at 0"),
-    ("", "3f", "refused 4 NoIndefinite at 0"),
-    ("", "df", "refused 4 NoIndefinite at 0"),
-    ("", "f90000", "refused 5 Float at 0"),
-    ("", "fa", "refused 5 Float at 0"),
-    ("", "fb", "refused 5 Float at 0"),
-    ("", "f800", "refused 6 BadSimple at 1"),
-    ("", "f81f", "refused 6 BadSimple at 1"),
-    ("", "ff", "refused 7 StrayBreak at 0"),
-    ("", "0000", "refused 12 Trailing at 1"),
-    ("", "186400", "refused 12 Trailing at 2"),
-    ("--bytes 1", "0000", "refused 12 Trailing at 1"),
-    ("", "40", "not a scalar"), // h''
-    ("", "5b", "not a scalar"),
-    ("", "5f", "not a scalar"),
-    ("", "60", "not a scalar"), // ""
-    ("", "7f", "not a scalar"),
-    ("", "80", "not a scalar"), // []
-    ("--depth 0", "80", "not a scalar"),
-    ("", "9f", "not a scalar"),
-    ("", "a0", "not a scalar"), // {}
-    ("", "bf", "not a scalar"),
-    ("", "c1", "not a scalar"),
-    ("", "c24101", "not a scalar"), // 2(h'01')
-];
-
 #[test]
-fn writes_canonical_bytes(rt: HostRuntime) -> Result<(), AllocError> {
+fn takes_scalars(rt: HostRuntime) -> Result<(), AllocError> {
     let alloc = rt.alloc();
-    for (options, given, wanted) in ACCEPTED {
-        let line = format!(in alloc; "canon in out {options}")?;
-        let ran = ran(alloc, line.as_str(), bytes_of(alloc, given)?.as_slice())?;
-        let wanted = bytes_of(alloc, wanted)?;
-        let quiet = ran.status == 0 && ran.out.is_empty() && ran.err.is_empty();
+    for &(options, given, wanted) in &ACCEPTED {
         assert!(rt;
-            quiet && ran.wrote("out", wanted.as_slice()),
+            is_turned(alloc, options, given, wanted)?,
             "{given} {options}"
         );
-    }
-    Ok(())
-}
-
-#[test]
-fn refuses(rt: HostRuntime) -> Result<(), AllocError> {
-    let alloc = rt.alloc();
-    for (options, given, wanted) in REFUSED {
-        let line = format!(in alloc; "canon in out {options}")?;
-        let ran = ran(alloc, line.as_str(), bytes_of(alloc, given)?.as_slice())?;
-        assert!(rt; ran.stopped(1, wanted), "{given} {options}");
+        assert!(rt; is_accepted(alloc, options, given)?, "{given} {options}");
     }
     Ok(())
 }

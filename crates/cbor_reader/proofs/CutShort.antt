@@ -1,0 +1,46 @@
+-- The verdict on a front of an item without complaint.
+use Rattle.std.proofs.Common.{ℕ, ◌≡◌, ◌<◌, List, [], ◌++◌, length, take, drop, refl, sym, ap, ◌∙◌, arith, inl, inr}
+use Rattle.std.proofs.lemmas.List.{append-nil, length-append, length-drop, length-take-le, take-append-drop, take-append-le, take_all}
+use Rattle.cbor_head.specs.Spelling.{Spelling, IsItem}
+use Rattle.cbor_head.specs.Complaint.{Rules, Complains}
+use Rattle.cbor_head.specs.Verdict.{refused, refusal, IsBreak, IsVerdict}
+use Rattle.cbor_head.specs.declared.reason.Reason.TheVariants.{Truncated, TooLong}
+use Rattle.cbor_head.specs.declared.reason.Refusal.{Refusal}
+use Rattle.cbor_reader.proofs.Judged.{Never}
+
+-- where the first n bytes of the input are p, and the item goes on behind p
+cut : (d n : ℕ) (r : Rules) (input : List ℕ) (s : Spelling) (p q : List ℕ) (f : Refusal) → IsItem d s (p ++ q) → Never (Complains r 0 s) → 0 < length q → take n input ≡ p
+    → IsBreak d n p [] f → IsVerdict d n r input (refused f)
+cut d n r input s p q f i none l e b = record {
+  p = p;
+  longest = record {
+    beginning = (s, q, i);
+    rest = [];
+    splits = e ∙ sym (append-nil p);
+    longest = λ x y g h. omega (arith, ap length (sym e ∙ h), length-append x y);
+  };
+  item = s;
+  rest = q;
+  starts = i;
+  decides = inr ((λ c h m. none c h), (λ w. omega (arith, l, ap length w, ap length i.bytes_are, length-append p q)), b);
+}
+
+module _ (d : ℕ) (r : Rules) (s : Spelling) (b : List ℕ) (k : ℕ) (i : IsItem d s b) (none : Never (Complains r 0 s)) (small : k < length b) where
+  parted : IsItem d s (take k b ++ drop k b)
+  parted = record { spelled = i.spelled; within = i.within; bytes_are = i.bytes_are ∙ sym (take-append-drop k b) }
+
+  front_size : length (take k b) ≡ k
+  front_size = length-take-le k b (omega (arith, small))
+
+  goes_on : 0 < length (drop k b)
+  goes_on = omega (arith, small, length-drop k b)
+
+  -- the input ends there
+  pub truncated : (n : ℕ) → k < n → IsVerdict d n r (take k b) (refused (refusal Truncated k k))
+  truncated n m =
+      cut d n r (take k b) s (take k b) (drop k b) _ parted none goes_on (take_all n (take k b) (omega (arith, front_size, m)))
+      (inr (omega (arith, front_size, m), ap (λ (j : ℕ). refusal Truncated j j) (sym front_size)))
+
+  -- so many bytes are the limit
+  pub too_long : (rest : List ℕ) → IsVerdict d k r (b ++ rest) (refused (refusal TooLong k k))
+  too_long rest = cut d k r (b ++ rest) s (take k b) (drop k b) _ parted none goes_on (take-append-le k b rest (omega (arith, small))) (inl (front_size, refl))

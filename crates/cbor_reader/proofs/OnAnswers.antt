@@ -1,0 +1,33 @@
+-- The headline's clauses on a result, where it is known to be the answer.
+use Rattle.std.proofs.Common.{ℕ, ◌^◌, ◌≡◌, ◌≢◌, ◌<◌, ◌≤◌, ◌↔◌, List, length, Result, Ok, Err}
+use Rattle.std.specs.Result.{MatchResult, IfOk, IfErr}
+use Rattle.cbor_head.specs.Value.{Same}
+use Rattle.cbor_head.specs.Spelling.{Spelling, value_of, IsItem}
+use Rattle.cbor_head.specs.Canonical.{canonical}
+use Rattle.cbor_head.specs.declared.order.KeyOrder.{KeyOrder}
+use Rattle.cbor_head.specs.declared.reason.Reason.TheVariants.{Memory}
+use Rattle.cbor_head.specs.declared.reason.Refusal.{Refusal}
+use Rattle.cbor_reader.specs.Canonicalise.{IsCanonicalOf, IsRefusal}
+use Rattle.cbor_reader.specs.Headline.{IsValidItem}
+use Rattle.cbor_reader.proofs.Headline.{answers_exactly, refused_too_long, equal_exactly, again}
+
+module _ {A : Type 0} (d n : ℕ) (o : KeyOrder) (input : List ℕ) (items : A → List ℕ) where
+  abbrev pub IsAnswer : Result A Refusal → Type 0
+  IsAnswer r = MatchResult r (λ v. IsCanonicalOf d n o input (items v)) (λ f. IsRefusal d n o input f)
+
+  pub ok_item : (r : Result A Refusal) → IsAnswer r → IfOk r (λ v. (s : Spelling) × IsValidItem d n input s × (items v ≡ canonical o (value_of s)) × (length (items v) ≤ n))
+  ok_item (Ok v) a = (answers_exactly d n o input (items v)).0 a
+  ok_item (Err f) a = tt
+
+  pub err_item : (r : Result A Refusal) → IsAnswer r → IfErr r (λ f. f.reason ≢ Memory → (s : Spelling) → IsValidItem d n input s → n < length (canonical o (value_of s)))
+  err_item (Ok v) a = tt
+  err_item (Err f) a = λ h s i. refused_too_long d n o input f s a h i
+
+  pub ok_equal : (r : Result A Refusal) → n ≤ 2 ^ 62 → IsAnswer r
+      → IfOk r (λ v. (e m : ℕ) (y b : List ℕ) (s t : Spelling) → m ≤ 2 ^ 62 → IsItem d s input → IsCanonicalOf e m o y b → IsItem e t y → (items v ≡ b) ↔ Same (value_of s) (value_of t))
+  ok_equal (Ok v) l a = λ e m y b s t k i h j. equal_exactly d n e m o input y (items v) b s t l k a i h j
+  ok_equal (Err f) l a = tt
+
+  pub ok_again : (r : Result A Refusal) → n ≤ 2 ^ 62 → IsAnswer r → IfOk r (λ v. IsCanonicalOf d n o (items v) (items v))
+  ok_again (Ok v) l a = again d n o input (items v) l a
+  ok_again (Err f) l a = tt

@@ -1,0 +1,16 @@
+use Rattle.cbor_head.specs.Complaint.{plain}
+use Rattle.cbor_reader.proofs.Accepted.{item_within_limit}
+use Rattle.cbor_reader.proofs.Headline.{front_range, front_valid, front_depth}
+use Rattle.cbor_reader.proofs.laws.plainly_accepted_values.Goals as goal
+
+pub returns-clause-range : goal.returns-clause-range
+returns-clause-range c = λ d n input s. front_range d n plain input s
+
+pub returns-clause-valid : goal.returns-clause-valid
+returns-clause-valid c = front_valid
+
+pub returns-clause-depth : goal.returns-clause-depth
+returns-clause-depth c = λ d n input s. front_depth d n plain input s
+
+pub returns-clause-fits : goal.returns-clause-fits
+returns-clause-fits c = λ d n input s. item_within_limit d n plain input s

@@ -1,0 +1,12 @@
+use Rattle.cbor_reader.proofs.Headline.{valid_item_exactly, valid_item_value}
+use Rattle.cbor_reader.proofs.ValidTexts.{plain_exactly}
+use Rattle.cbor_reader.proofs.laws.valid_items.Goals as goal
+
+pub returns-clause-complaints : goal.returns-clause-complaints
+returns-clause-complaints c = plain_exactly
+
+pub returns-clause-verdict : goal.returns-clause-verdict
+returns-clause-verdict c = valid_item_exactly
+
+pub returns-clause-value : goal.returns-clause-value
+returns-clause-value c = valid_item_value

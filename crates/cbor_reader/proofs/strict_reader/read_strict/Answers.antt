@@ -1,0 +1,8 @@
+use Rattle.cbor_reader.proofs.WholeInputs.{front-canonical, has-no-front}
+use Rattle.cbor_reader.proofs.strict_reader.read_strict.Goals as goal
+
+pub returns-in-Ok-clause-canonical : goal.returns-in-Ok-clause-canonical
+returns-in-Ok-clause-canonical g c = front-canonical c.args.limits.depth c.args.limits.bytes c.args.order _ _ _ c.count_of.result c.in-Ok.ensures.read c.count_of.ensures
+
+pub returns-in-Err-clause-no_canonical : goal.returns-in-Err-clause-no_canonical
+returns-in-Err-clause-no_canonical g c = has-no-front c.args.limits.depth c.args.limits.bytes c.args.order _ c.in-Err.refusal c.in-Err.ensures.refused

@@ -1,0 +1,60 @@
+-- What the readers answer of the item at the front of an input.
+use Rattle.std.specs.Prelude.{ℕ, ◌≡◌, ◌≤◌, List, length, take, drop, Option, Some, IfSome}
+use Rattle.cbor_head.specs.Value.{Value}
+use Rattle.cbor_head.specs.Spelling.{Spelling, spell, value_of}
+use Rattle.cbor_head.specs.Beginning.{IsLongestBeginning}
+use Rattle.cbor_head.specs.Complaint.{Rules}
+use Rattle.cbor_head.specs.Verdict.{refusal, accepted, refused, IsVerdict}
+use Rattle.cbor_head.specs.declared.reason.Reason.TheVariants.{Truncated, Read, Memory}
+use Rattle.cbor_head.specs.declared.reason.Refusal.{Refusal}
+use Rattle.cbor_head.specs.Canonical.{canonical}
+use Rattle.cbor_head.specs.declared.order.KeyOrder.{KeyOrder}
+use Rattle.cbor_head.specs.Limits.{Bounds}
+use Rattle.cbor_reader.specs.Size.{size}
+use Rattle.cbor_reader.specs.MapKeys.{IsKeyValue}
+use Rattle.cbor_reader.specs.Headline.{BeginsWithCanonical}
+
+-- the input's item, which has so many bytes, is accepted
+pub record IsRead (d n : ℕ) (r : Rules) (input : List ℕ) (count : ℕ) : Type 0 where
+  pub item : Spelling
+  pub verdict : IsVerdict d n r input (accepted item)
+  pub size : count ≡ length (spell item)
+
+-- and this is its value
+pub record IsReadAs (d n : ℕ) (r : Rules) (input : List ℕ) (v : Value) (count : ℕ) : Type 0 where
+  pub read : IsRead d n r input count
+  pub value : v ≡ value_of read.item
+
+-- The refusal of an input: the verdict; or what came in between.
+pub data IsUnread (d n : ℕ) (r : Rules) (input : List ℕ) (f : Refusal) : Type 0 where
+  of_verdict : IsVerdict d n r input (refused f) → IsUnread d n r input f
+  -- the reader failed within an item without complaint: of the bytes taken, as a whole input, the verdict is Truncated
+  of_reader : (p : List ℕ) → IsLongestBeginning d (take n input) p → f.read ≤ length p → f ≡ refusal Read f.read f.read
+      → IsVerdict d n r (take f.read input) (refused (refusal Truncated f.read f.read)) → IsUnread d n r input f
+  -- memory was refused, somewhere on the longest beginning
+  of_memory : (p : List ℕ) → IsLongestBeginning d (take n input) p → f.read ≤ length p → f ≡ refusal Memory f.read f.read → IsUnread d n r input f
+
+-- a reader that had these bytes lost the first so many of them
+abbrev pub Loses : ℕ → Option (List ℕ) → Option (List ℕ) → Type 0
+Loses k old new = IfSome old (λ input. (new ≡ Some (drop k input)) × (k ≤ length input))
+
+-- What is read by these rules, whichever reader it is: what is told of a known input, and of each.
+pub record IsFrontRead (r : Rules) (b : Bounds) (from to : Option (List ℕ)) (v : Value) (count : ℕ) : Type 0 where
+  pub read : IfSome from (λ input. IsReadAs b.depth b.bytes r input v count)
+  pub taken : Loses count from to
+  pub bounded : size v ≤ count
+  pub sound : IsKeyValue v
+
+pub record IsFrontUnread (r : Rules) (b : Bounds) (from to : Option (List ℕ)) (f : Refusal) : Type 0 where
+  pub refused : IfSome from (λ input. IsUnread b.depth b.bytes r input f)
+  pub taken : Loses f.read from to
+
+-- the input begins with the canonical bytes, so many, of a valid value within the limits
+pub record IsCanonicalFront (d n : ℕ) (o : KeyOrder) (input : List ℕ) (count : ℕ) : Type 0 where
+  pub value : Value
+  pub begins : BeginsWithCanonical d n o input value
+  pub size : count ≡ length (canonical o value)
+
+-- it begins so with no value's
+abbrev pub HasNoCanonicalFront : ℕ → ℕ → KeyOrder → List ℕ → Type 0
+HasNoCanonicalFront d n o input = (v : Value) → ¬ BeginsWithCanonical d n o input v

@@ -1,0 +1,112 @@
+//! The keys of one map, as they are read.
+
+ghost use Rattle.std.specs.Prelude.{◌≡◌, ◌↔◌, IsTrue, true, not, List, [], IfOk};
+ghost use Rattle.std.specs.Ordering.{nat_cmp};
+ghost use Rattle.std.specs.Cmp.Lexicographic.{slice_cmp};
+ghost use Rattle.std.specs.BTreeSet.{Updates};
+ghost use Rattle.cbor_head.specs.Canonical.{canonical};
+ghost use Rattle.cbor_head.specs.Complaint as complaint;
+ghost use Rattle.cbor_head.specs.Spelling.{Spelling};
+ghost use Rattle.cbor_head.specs.Value.{Value};
+ghost use Rattle.cbor_item.specs.View.{view};
+ghost use Rattle.cbor_reader.specs.MapKeys.{HasKeys, IsKey, IsKeyValue, IsInserted, AnswersKey, Rises, has_bytes, order_of};
+ghost use Rattle.cbor_reader.specs.Rules.{rules_of};
+
+use crate::rules::Rules;
+use cbor_head::{KeyOrder, Reason};
+use cbor_item::{Item, Tree, compare_keys, encode};
+use std::alloc::{AllocError, Global};
+use std::cmp::Ordering;
+use std::collections::BTreeSet;
+
+/// The keys of one map that were read so far.
+#[derive(Drop)]
+pub(crate) enum Keys {
+    /// The canonical bytes of each, where no two may be the same.
+    Distinct(BTreeSet<Vec<u8>>),
+    /// The canonical bytes of the last, where they must rise in this order.
+    Rising(KeyOrder, Option<Vec<u8>>),
+}
+
+impl Keys {
+    // No keys, by these rules.
+    pub(crate) fn new(alloc: Global, rules: Rules) -> Keys
+        ensures { HasKeys (rules_of rules) result [] }
+    {
+        match rules {
+            Rules::Plain => Keys::Distinct(BTreeSet::new(alloc)),
+            Rules::Strict(order) => Keys::Rising(order, None),
+        }
+    }
+
+    // Puts a key behind the others, unless the rules have something against it, which is answered.
+    // Behind n keys it takes some log n comparisons by the plain rules, and one by the strict.
+    pub(crate) fn insert(
+        &mut self,
+        alloc: Global,
+        key: Item,
+    ) -> Result<(Option<Reason>, Item), AllocError>
+        requires { IsKeyValue (view key) }
+        ensures key { IfOk result (λ answer. answer.1 ≡ key) }
+        ensures answers { AnswersKey self.old self.new key result }
+    {
+        let order = self.order();
+        let tree = Tree::from_valid(key);
+        let Ok(bytes) = encode(alloc, &tree, order) else {
+            return Err(AllocError);
+        };
+        let reason = self.insert_bytes(bytes)?;
+        Ok((reason, tree.into_item()))
+    }
+
+    // The order of the canonical bytes that are kept.
+    fn order(&self) -> KeyOrder
+        ensures { result ≡ order_of self.now }
+    {
+        match self {
+            Keys::Distinct(_) => KeyOrder::Bytewise,
+            Keys::Rising(order, _) => *order,
+        }
+    }
+
+    // Puts the canonical bytes of a key behind the others.
+    fn insert_bytes(&mut self, bytes: Vec<u8>) -> Result<Option<Reason>, AllocError>
+        ensures { (r : complaint.Rules) (ks : List Spelling) (k : Spelling) (v : Value) → HasKeys r self.old ks → IsKey r k v → bytes.items ≡ canonical (order_of self.old) v
+            → IfOk result (λ reason. IsInserted r ks k self.new reason) }
+    {
+        match self {
+            Keys::Distinct(all) => {
+                let fresh = insert_into(all, bytes)?;
+                Ok(if fresh {
+                    None
+                } else {
+                    Some(Reason::RepeatedKey)
+                })
+            }
+            Keys::Rising(order, last) => {
+                if !rises(*order, last, &bytes) {
+                    return Ok(Some(Reason::KeyOrder));
+                }
+                *last = Some(bytes);
+                Ok(None)
+            }
+        }
+    }
+}
+
+// Whether the bytes were not in the set, where they are now.
+fn insert_into(all: &mut BTreeSet<Vec<u8>>, bytes: Vec<u8>) -> Result<bool, AllocError>
+    ensures { IfOk result (λ fresh. (fresh ≡ not (has_bytes all.old bytes)) × Updates (λ x y. slice_cmp nat_cmp x.items y.items) all.old all.new bytes true) }
+{
+    all.insert(bytes).map_err(|_| AllocError)
+}
+
+// Whether the bytes come behind the last.
+fn rises(order: KeyOrder, last: &Option<Vec<u8>>, bytes: &[u8]) -> bool
+    ensures { IsTrue result ↔ Rises order last.now bytes.now }
+{
+    match last {
+        None => true,
+        Some(last) => compare_keys(order, last, bytes) == Ordering::Less,
+    }
+}

@@ -1,0 +1,96 @@
+//! The bytes of strings.
+
+ghost use Rattle.std.specs.Prelude.{◌≡◌, ◌+◌, ◌≤◌, ℕ, List, length, drop, true, false, IsUtf8, MatchResult, IfErr};
+ghost use Rattle.std.specs.Str.Lossy.{utf8_valid_len};
+ghost use Rattle.cbor_events.specs.ItemEvents.{ItemEventsView};
+ghost use Rattle.cbor_reader.specs.Reading.{IsPayloadDue, AnswersPayload};
+
+use cbor_events::ItemEvents;
+use cbor_head::{Reason, Refusal};
+use std::io::Read;
+
+// Memory is refused behind what was taken.
+pub(crate) fn no_memory(events: &ItemEvents) -> Refusal
+    ensures memory { result.reason ≡ Reason.Memory }
+    ensures place { result.place ≡ result.read }
+    ensures taken { result.read ≡ events.now.machine.taken }
+{
+    Refusal {
+        reason: Reason::Memory,
+        place: events.taken(),
+        read: events.taken(),
+    }
+}
+
+// Puts a payload of so many bytes behind what is there, in the parts that come: no memory is taken for
+// bytes that don't.
+pub(crate) fn read_payload<R: Read>(
+    events: &mut ItemEvents,
+    reader: &mut R,
+    count: u64,
+    into: &mut Vec<u8>,
+) -> Result<(), Refusal>
+    requires { IsPayloadDue events.old count }
+    ensures { AnswersPayload false events.old count into.old.items into.new.items (R.remaining reader.old) (R.remaining reader.new) events.new result }
+{
+    let mut left = count;
+    while left > 0 {
+        match events.next(reader) {
+            Ok(Some(_)) => {}
+            Ok(None) => unreachable!(),
+            Err(refusal) => return Err(refusal),
+        }
+        let piece = events.piece();
+        match into.extend_from_slice(piece) {
+            Ok(()) => {}
+            Err(_) => return Err(no_memory(events)),
+        }
+        left -= piece.len() as u64;
+    }
+    Ok(())
+}
+
+// The same of a definite string or a chunk, which is UTF-8 where it is of a text. A refused text has the
+// place behind its longest front that is.
+pub(crate) fn read_chunk<R: Read>(
+    events: &mut ItemEvents,
+    reader: &mut R,
+    text: bool,
+    count: u64,
+    into: &mut Vec<u8>,
+) -> Result<(), Refusal>
+    requires { IsPayloadDue events.old count }
+    ensures { AnswersPayload text events.old count into.old.items into.new.items (R.remaining reader.old) (R.remaining reader.new) events.new result }
+{
+    let from = into.len();
+    let place = events.taken();
+    match read_payload(events, reader, count, into) {
+        Ok(()) => {}
+        Err(refusal) => return Err(refusal),
+    }
+    if !text {
+        return Ok(());
+    }
+    match check_text(into, from) {
+        Ok(()) => Ok(()),
+        Err(valid) => Err(Refusal {
+            reason: Reason::InvalidText,
+            place: place + valid as u64,
+            read: events.taken(),
+        }),
+    }
+}
+
+// Whether the bytes from there on are UTF-8, or the length of their longest front that is.
+fn check_text(bytes: &[u8], from: usize) -> Result<(), usize>
+    requires { from ≤ length bytes.now }
+    ensures checked { MatchResult result
+        (λ _. IsUtf8 (drop from bytes.now))
+        (λ valid. ¬ (IsUtf8 (drop from bytes.now)) × (valid ≡ utf8_valid_len (drop from bytes.now))) }
+    ensures within { IfErr result (λ valid. from + valid ≤ length bytes.now) }
+{
+    match std::str::from_utf8(&bytes[from..]) {
+        Ok(_) => Ok(()),
+        Err(error) => Err(error.valid_up_to()),
+    }
+}

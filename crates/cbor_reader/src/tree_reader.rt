@@ -1,0 +1,39 @@
+//! The item at the front of an input, as a tree.
+
+ghost use Rattle.std.specs.Prelude.{◌≡◌, ◌≤◌, ◌<◌, ◌^◌, ℕ, length, IfOk, IfErr, IfSome};
+ghost use Rattle.cbor_head.specs.Complaint.{plain};
+ghost use Rattle.cbor_item.specs.View.{view};
+ghost use Rattle.cbor_reader.specs.Readers.{IsReadAs, IsUnread, Loses};
+ghost use Rattle.cbor_reader.specs.Size.{size};
+
+use crate::front::read_front;
+use crate::rules::Rules;
+use cbor_head::{Limits, Refusal};
+use cbor_item::Tree;
+use std::alloc::Global;
+use std::io::Read;
+
+/// The tree of the well-formed, valid item that the reader's bytes begin with, and how many bytes
+/// it has (RFC 8949, sections 3 and 5.3.1). The pairs of a map keep their order.
+///
+/// No byte behind the item is read. The refusal is the one that the bytes within the limits call
+/// for; or `Read` or `Memory`, where the reader failed or memory was refused before: then the place
+/// is the count of the bytes taken. After a refusal as many bytes were taken as its `read` tells.
+/// Memory is taken for what came, never by the length in a head; a tree has no more items, at every
+/// depth, and bytes of strings together than bytes were taken.
+pub fn read_tree<R: Read>(
+    alloc: Global,
+    reader: &mut R,
+    limits: Limits,
+) -> Result<(Tree, u64), Refusal>
+    ensures accepted { IfOk result (λ answer. IfSome (R.remaining reader.old) (λ input. IsReadAs limits.depth limits.bytes plain input (view answer.0) answer.1)) }
+    ensures taken { IfOk result (λ answer. Loses answer.1 (R.remaining reader.old) (R.remaining reader.new)) }
+    ensures bounded { IfOk result (λ answer. size (view answer.0) ≤ answer.1) }
+    ensures refused { IfErr result (λ f. IfSome (R.remaining reader.old) (λ input. IsUnread limits.depth limits.bytes plain input f)) }
+    ensures read { IfErr result (λ f. Loses f.read (R.remaining reader.old) (R.remaining reader.new)) }
+{
+    match read_front(alloc, reader, limits, Rules::Plain) {
+        Ok((item, count)) => Ok((Tree::from_valid(item), count)),
+        Err(refusal) => Err(refusal),
+    }
+}

@@ -1,0 +1,59 @@
+//! The subcommand `check`: whether a file is one item.
+
+ghost use Rattle.std.specs.Prelude.{◌≡◌, length, IfOk};
+
+use crate::command_line::{Accepted, Options};
+use crate::fault::Fault;
+use crate::folder::Folder;
+use crate::input;
+use crate::status::Status;
+use cbor_head::{Limits, Reason, Refusal};
+use cbor_reader::{read_strict, read_tree};
+use std::alloc::Global;
+use std::io::Write;
+
+/// Writes to `out` how many bytes the item has that the file `source` is.
+pub fn check<'a, F: Folder, O: Write>(
+    alloc: Global,
+    files: &mut F,
+    out: &mut O,
+    source: &'a str,
+    accepted: Accepted,
+    options: Options,
+) -> Result<Status, Fault<'a>> {
+    let limits = options.limits;
+    let bytes = input::read(alloc, files, source, options)?;
+    let size = size_of_item(alloc, bytes.as_slice(), accepted, limits)?;
+    match writeln!(out, "accepted {size} bytes") {
+        Ok(()) => Ok(Status::Accepted),
+        Err(_) => Err(Fault::CannotPrint),
+    }
+}
+
+// How many bytes the item has that all the bytes are; the refusal is the item's, then `Trailing`.
+fn size_of_item(
+    alloc: Global,
+    bytes: &[u8],
+    accepted: Accepted,
+    limits: Limits,
+) -> Result<u64, Refusal>
+    ensures whole { IfOk result (λ size. size ≡ length bytes.now) }
+{
+    let mut reader = bytes;
+    let size = match accepted {
+        Accepted::Valid => {
+            let (_, size) = read_tree(alloc, &mut reader, limits)?;
+            size
+        }
+        Accepted::Canonical(order) => read_strict(alloc, &mut reader, limits, order)?,
+    };
+    if reader.is_empty() {
+        Ok(size)
+    } else {
+        Err(Refusal {
+            reason: Reason::Trailing,
+            place: size,
+            read: size,
+        })
+    }
+}
