@@ -1,6 +1,7 @@
 pub mod Accepted
 pub mod Answering
 pub mod Arrays
+pub mod Building
 pub mod Chunks
 pub mod Composition
 pub mod CutShort
@@ -22,6 +23,7 @@ pub mod OnAnswers
 pub mod OneAnswer
 pub mod Payloads
 pub mod Scalars
+pub mod ReadItems
 pub mod Reasons
 pub mod Sizes
 pub mod SpelledBytes

@@ -25,16 +25,6 @@ use Rattle.cbor_reader.proofs.MapKeys.{key_value}
 use Rattle.cbor_reader.proofs.Steps.{at-reached}
 
 module _ (r : Rules) (b : Bounds) (fs : List Frame) (t : List ℕ) (from to : Option (List ℕ)) (new : ItemEventsView) (v : Value) (m : ReadsItem r b fs t [] from to new v) where
-  -- it fits
-  pub is-key : IsKey r m.item v
-  is-key =
-      let reached = (at-reached b new (t ++ spell m.item) (close fs) m.at).within in
-      let most : b.bytes ≤ 2 ^ 62 = m.at.limits.1 in
-      record { spelled = m.spelled; fits = omega (arith, reached, most, length-append t (spell m.item)); place = length t; clean = m.clean; value = m.value }
-
-  pub shallow : depth m.item ≤ 256
-  shallow = let most : b.depth ≤ 256 = m.at.limits.0 in omega (arith, m.within, most)
-
   pub keeps-key : (ks : List Spelling) (keys : Keys) (reason : Option Reason) → reason ≡ None → IsInserted r ks m.item keys reason → ReadsKey r b fs t ks keys from to new v
   keeps-key ks keys reason e h =
       let g = subst (λ (x : Option Reason). IsInserted r ks m.item keys x) e h in
@@ -46,9 +36,3 @@ module _ (r : Rules) (b : Bounds) (fs : List Frame) (t : List ℕ) (from to : Op
       let g = subst (λ (x : Option Reason). IsInserted r ks m.item keys x) e h in
       let taken : new.machine.taken ≡ length t + length (spell m.item) = m.at.stands.stands.taken ∙ length-append t (spell m.item) in
       record { new = new; v = v; reads = m; complaint = complaint.complaint (length t + length (spell m.item)) (length t) reason; of = g (length t); is = is ∙ ap (refusal reason (length t)) taken }
-
-  pub key-no-memory : (f : Refusal) → f.read ≡ new.machine.taken → IsMemory f → StopsItem r b fs t [] from to f
-  key-no-memory f e h = stops-memory r b fs t [] (spell m.item) from to f m.taken (e ∙ m.at.stands.stands.taken) h (at-reached b new (t ++ spell m.item) (close fs) m.at)
-
-pub key-value : (rules : declared.Rules) (b : Bounds) (fs : List Frame) (t : List ℕ) (from to : Option (List ℕ)) (new : ItemEventsView) (v : Value) → ReadsItem (rules_of rules) b fs t [] from to new v → IsKeyValue v
-key-value rules b fs t from to new v m = key_value rules m.item v (is-key (rules_of rules) b fs t from to new v m) (shallow (rules_of rules) b fs t from to new v m)

@@ -1,9 +1,14 @@
 //! Readers of whole CBOR items.
 #![tactic(auto)]
 
+mod built_array;
+mod built_item;
+mod built_map;
 mod canonicaliser;
+mod encoding;
 mod front;
 pub mod laws;
+mod leaf;
 mod map_keys;
 mod members;
 mod next_head;

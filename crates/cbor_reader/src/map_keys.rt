@@ -12,9 +12,11 @@ ghost use Rattle.cbor_item.specs.View.{view};
 ghost use Rattle.cbor_reader.specs.MapKeys.{HasKeys, IsKey, IsKeyValue, IsInserted, AnswersKey, Rises, has_bytes, order_of};
 ghost use Rattle.cbor_reader.specs.Rules.{rules_of};
 
+use crate::built_item::BuiltItem;
+use crate::encoding::Encoding;
 use crate::rules::Rules;
 use cbor_head::{KeyOrder, Reason};
-use cbor_item::{Item, Tree, compare_keys, encode};
+use cbor_item::compare_keys;
 use std::alloc::{AllocError, Global};
 use std::cmp::Ordering;
 use std::collections::BTreeSet;
@@ -40,27 +42,30 @@ impl Keys {
     }
 
     // Puts a key behind the others, unless the rules have something against it, which is answered.
-    // Behind n keys it takes some log n comparisons by the plain rules, and one by the strict.
+    // Behind n keys it takes some log n comparisons by the plain rules, and one by the strict. The key
+    // has its bytes with it where some are to be kept of the map.
     pub(crate) fn insert(
         &mut self,
         alloc: Global,
-        key: Item,
-    ) -> Result<(Option<Reason>, Item), AllocError>
+        key: BuiltItem,
+        kept: Option<KeyOrder>,
+    ) -> Result<(Option<Reason>, BuiltItem), AllocError>
         requires { IsKeyValue (view key) }
         ensures key { IfOk result (λ answer. answer.1 ≡ key) }
         ensures answers { AnswersKey self.old self.new key result }
     {
         let order = self.order();
-        let tree = Tree::from_valid(key);
-        let Ok(bytes) = encode(alloc, &tree, order) else {
-            return Err(AllocError);
+        let (item, bytes) = key.into_encoded(alloc, order)?;
+        let encoding = match kept {
+            Some(_) => Some(Encoding::copied(alloc, order, &bytes)?),
+            None => None,
         };
         let reason = self.insert_bytes(bytes)?;
-        Ok((reason, tree.into_item()))
+        Ok((reason, BuiltItem::with_encoding(item, encoding)))
     }
 
     // The order of the canonical bytes that are kept.
-    fn order(&self) -> KeyOrder
+    pub(crate) fn order(&self) -> KeyOrder
         ensures { result ≡ order_of self.now }
     {
         match self {

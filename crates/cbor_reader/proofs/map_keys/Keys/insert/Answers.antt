@@ -9,4 +9,4 @@ use Rattle.cbor_reader.proofs.map_keys.Keys.insert.Goals as goal
 pub returns-clause-answers : goal.returns-clause-answers
 returns-clause-answers c = λ r ks k h i.
     c.in_ok-reason.ensures r ks k (view c.args.key) h i
-    (c.in-Ok.ensures.bytes ∙ ap (λ (o : KeyOrder). canonical o (view c.from_valid-tree.result)) c.order-order.ensures ∙ ap (λ (x : Item). canonical (order_of c.args.self.now) (view x)) c.from_valid-tree.ensures)
+    (c.in_ok-item.ensures.bytes ∙ ap (λ (o : KeyOrder). canonical o (view c.args.key)) c.order-order.ensures)

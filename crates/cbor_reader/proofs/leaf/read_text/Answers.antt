@@ -1,7 +1,7 @@
 use Rattle.std.proofs.Common.{◌≡◌, refl, sym, ap, subst, string_bytes}
 use Rattle.cbor_head.specs.Value as value
 use Rattle.cbor_item.proofs.Views.{view-Text}
-use Rattle.cbor_reader.proofs.members.read_text.Goals as goal
+use Rattle.cbor_reader.proofs.leaf.read_text.Goals as goal
 
 pub from_utf8_unchecked-requires : goal.from_utf8_unchecked-requires
 from_utf8_unchecked-requires g c = let s = c.requires in (c.in-Ok.ensures s.b s.fs s.t s.x s.w s.begun).1 refl

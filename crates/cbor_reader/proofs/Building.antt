@@ -1,0 +1,101 @@
+-- What is built of what was read: its canonical bytes, where they are kept.
+use Rattle.std.proofs.Common.{◌≡◌, ℕ, List, [], ◌∷◌, ◌++◌, Option, Some, None, length, map, refl, sym, ap, ◌∙◌, subst, append_assoc, append-nil, Vec, Global, IsPermutation, IsSortedBy, Bool, Bor}
+use Rattle.std.proofs.lemmas.List.Sorted.{IsPermutation-map, ranks_by}
+use Rattle.std.proofs.lemmas.Fn.{always_returns_same}
+use Rattle.std.specs.Cmp.{IsStrictWeakOrder}
+use Rattle.std.specs.Fn.{Called, ComparesAs}
+use Rattle.std.specs.Ordering.{is_lt}
+use Rattle.std.specs.declared.cmp.Ordering.{Ordering}
+use denote.Param.Members.{Mut}
+use Rattle.cbor_head.specs.Canonical.{Pair, canonical, canonical_all, canonical_entries, in_order}
+use Rattle.cbor_head.specs.Head.{shortest_head}
+use Rattle.cbor_head.specs.Order.{key_cmp, key_lt}
+use Rattle.cbor_head.specs.Value.{AreEntriesInRange, HasDistinctKeys}
+use Rattle.cbor_head.specs.declared.major.Major.TheVariants as majors
+use Rattle.cbor_head.specs.declared.order.KeyOrder.{KeyOrder}
+use Rattle.cbor_item.specs.Encoded.{joined}
+use Rattle.cbor_item.specs.Pairs.{HasDistinctBytes}
+use Rattle.cbor_item.specs.View.{view, values_view, entries_view}
+use Rattle.cbor_item.specs.declared.item.Item.{Item}
+use Rattle.cbor_item.specs.declared.item.Item.TheVariants as items
+use Rattle.cbor_item.proofs.Orders.{key_cmp_total}
+use Rattle.cbor_item.proofs.SortedPairs.{sorted_is_in_order, sorted_view}
+use Rattle.cbor_item.proofs.Told.{distinct_bytes}
+use Rattle.cbor_item.proofs.Views.{canonical-Array, canonical-Map, canonical-Tag}
+use Rattle.cbor_reader.specs.Encoding.{IsEncoding, AreEncoded, ArePairsEncoded, pair_of, IsJoined, IsWithPair}
+use Rattle.cbor_reader.specs.declared.encoding.Encoding.{Encoding}
+use Rattle.cbor_reader.specs.declared.built_map.EncodedPair.{EncodedPair}
+use Rattle.cbor_reader.specs.declared.built_map.EncodedPairs.{EncodedPairs}
+
+-- ---- arrays
+
+values-last : (o : KeyOrder) (is : List Item) (i : Item) → canonical_all o (values_view (is ++ i ∷ [])) ≡ canonical_all o (values_view is) ++ canonical o (view i)
+values-last o [] i = append-nil (canonical o (view i))
+values-last o (x ∷ is) i = ap (λ (u : List ℕ). canonical o (view x) ++ u) (values-last o is i) ∙ sym (append_assoc (canonical o (view x)) (canonical_all o (values_view is)) (canonical o (view i)))
+
+-- one member more
+pub array-more : (front back whole : Option Encoding) (is : List Item) (i : Item) → AreEncoded front (values_view is) → IsEncoding back (view i) → IsJoined front back whole → AreEncoded whole (values_view (is ++ i ∷ []))
+array-more front back None is i h g j = tt
+array-more (Some f) (Some b) (Some e) is i h g j =
+    j.2
+    ∙ ap (λ (u : List ℕ). u ++ b.bytes.items) (h ∙ ap (λ (o : KeyOrder). canonical_all o (values_view is)) (sym j.0))
+    ∙ ap (λ (u : List ℕ). canonical_all e.order (values_view is) ++ u) (g ∙ ap (λ (o : KeyOrder). canonical o (view i)) (sym j.1))
+    ∙ sym (values-last e.order is i)
+array-more None back (Some e) is i h g j = absurd j
+array-more (Some f) None (Some e) is i h g j = absurd j
+
+-- all behind their head
+pub array-headed : (v : Vec Item Global) (n : ℕ) (content whole : Encoding) → n ≡ length v.items → AreEncoded (Some content) (values_view v.items) → whole.order ≡ content.order
+    → whole.bytes.items ≡ shortest_head majors.Array n ++ content.bytes.items → IsEncoding (Some whole) (view (items.Array v))
+array-headed v n content whole e h same is =
+    is
+    ∙ ap (λ (u : List ℕ). shortest_head majors.Array n ++ u) (h ∙ ap (λ (o : KeyOrder). canonical_all o (values_view v.items)) (sym same))
+    ∙ sym (canonical-Array whole.order v n e)
+
+-- ---- maps
+
+entries-last : (o : KeyOrder) (ps : List (Item × Item)) (i j : Item)
+    → canonical_entries o (entries_view (ps ++ (i, j) ∷ [])) ≡ canonical_entries o (entries_view ps) ++ record { key = canonical o (view i); content = canonical o (view j) } ∷ []
+entries-last o [] i j = refl
+entries-last o (p ∷ ps) i j = ap (λ (u : List Pair). record { key = canonical o (view p.0); content = canonical o (view p.1) } ∷ u) (entries-last o ps i j)
+
+-- one pair more
+pub map-more : (pairs : Option EncodedPairs) (key content : Option Encoding) (whole : Option EncodedPairs) (ps : List (Item × Item)) (i j : Item) → ArePairsEncoded pairs (entries_view ps) → IsEncoding key (view i) → IsEncoding content (view j)
+    → IsWithPair pairs key content whole → ArePairsEncoded whole (entries_view (ps ++ (i, j) ∷ []))
+map-more pairs key content None ps i j h f g w = tt
+map-more (Some all) (Some k) (Some c) (Some e) ps i j h f g w =
+    w.3
+    ∙ ap (λ (u : List Pair). u ++ record { key = k.bytes.items; content = c.bytes.items } ∷ []) (h ∙ ap (λ (o : KeyOrder). canonical_entries o (entries_view ps)) (sym w.0))
+    ∙ ap (λ (u : List ℕ). canonical_entries e.order (entries_view ps) ++ record { key = u; content = c.bytes.items } ∷ []) (f ∙ ap (λ (o : KeyOrder). canonical o (view i)) (sym w.1))
+    ∙ ap (λ (u : List ℕ). canonical_entries e.order (entries_view ps) ++ record { key = canonical e.order (view i); content = u } ∷ []) (g ∙ ap (λ (o : KeyOrder). canonical o (view j)) (sym w.2))
+    ∙ sym (entries-last e.order ps i j)
+map-more None key content (Some e) ps i j h f g w = absurd w
+map-more (Some all) None content (Some e) ps i j h f g w = absurd w
+map-more (Some all) (Some k) None (Some e) ps i j h f g w = absurd w
+
+-- the keys that were read have different bytes
+pub keys-differ : (all : EncodedPairs) (ps : List (Item × Item)) → ArePairsEncoded (Some all) (entries_view ps) → AreEntriesInRange (entries_view ps) → HasDistinctKeys (entries_view ps) → HasDistinctBytes (map pair_of all.pairs.items)
+keys-differ all ps h r d = subst HasDistinctBytes (sym h) (distinct_bytes all.order (entries_view ps) r d)
+
+-- what a sort by the keys leaves, from the clauses of `sort_by`
+pub sorted-by-keys : (o : KeyOrder) {F : Type 0} {g : Mut F (Bor EncodedPair × (Bor EncodedPair × Unit {0})) Ordering} {f : F} (ys : List EncodedPair)
+    → ((lt : EncodedPair → EncodedPair → Bool) → IsStrictWeakOrder lt → ComparesAs g lt f → IsSortedBy lt ys)
+    → ((a : Bor EncodedPair × (Bor EncodedPair × Unit {0})) (r : Ordering) (f' : F) → Called g f a r f' → (r ≡ key_cmp o a.0.now.key.items a.1.0.now.key.items) × (f' ≡ f))
+    → IsSortedBy (λ x y. key_lt o x.key.items y.key.items) ys
+sorted-by-keys o {g = g} {f = f} ys s h =
+    s (λ x y. key_lt o x.key.items y.key.items) (ranks_by (key_cmp_total o) (λ (x : EncodedPair). x.key.items))
+    (always_returns_same g (λ a r. is_lt r ≡ key_lt o a.0.now.key.items a.1.0.now.key.items) f (λ a r f' k. (ap is_lt (h a r f' k).0, (h a r f' k).1)))
+
+-- sorted pairs stand in order
+pub sorted-in-order : (o : KeyOrder) (xs ys : List EncodedPair) → HasDistinctBytes (map pair_of xs) → IsPermutation xs ys → IsSortedBy (λ x y. key_lt o x.key.items y.key.items) ys → map pair_of ys ≡ in_order o (map pair_of xs)
+sorted-in-order o xs ys d m s = sorted_is_in_order o (map pair_of xs) (map pair_of ys) d (IsPermutation-map pair_of xs ys m) (sorted_view pair_of o ys s)
+
+-- all behind their head
+pub map-headed : (v : Vec (Item × Item) Global) (n : ℕ) (all : EncodedPairs) (content whole : Encoding) → n ≡ length v.items → ArePairsEncoded (Some all) (entries_view v.items) → content.order ≡ all.order
+    → content.bytes.items ≡ joined (in_order all.order (map pair_of all.pairs.items)) → whole.order ≡ content.order → whole.bytes.items ≡ shortest_head majors.Map n ++ content.bytes.items
+    → IsEncoding (Some whole) (view (items.Map v))
+map-headed v n all content whole e h same in_one same_too is =
+    is
+    ∙ ap (λ (u : List ℕ). shortest_head majors.Map n ++ u)
+    (in_one ∙ ap (λ (ps : List Pair). joined (in_order all.order ps)) h ∙ ap (λ (o : KeyOrder). joined (in_order o (canonical_entries o (entries_view v.items)))) (sym (same_too ∙ same)))
+    ∙ sym (canonical-Map whole.order v n e)

@@ -1,0 +1,69 @@
+//! Canonical bytes that are kept while an item is read.
+
+ghost use Rattle.std.specs.Prelude.{◌≡◌, ◌≢◌, ◌++◌, IfOk};
+ghost use Rattle.cbor_head.specs.Head.{shortest_head};
+ghost use Rattle.cbor_head.specs.declared.major.Major.TheVariants.{Simple};
+ghost use Rattle.cbor_reader.specs.Encoding.{IsJoined};
+
+use cbor_head::{Head, KeyOrder, Major};
+use std::alloc::{AllocError, Global};
+
+/// The canonical bytes of an item, or of several one after the other.
+#[derive(Drop)]
+pub(crate) struct Encoding {
+    pub(crate) order: KeyOrder,
+    pub(crate) bytes: Vec<u8>,
+}
+
+impl Encoding {
+    // A copy of these bytes.
+    pub(crate) fn copied(
+        alloc: Global,
+        order: KeyOrder,
+        bytes: &[u8],
+    ) -> Result<Encoding, AllocError>
+        ensures order { IfOk result (λ copy. copy.order ≡ order) }
+        ensures bytes { IfOk result (λ copy. copy.bytes.items ≡ bytes.now) }
+    {
+        let mut copy = Vec::new(alloc);
+        copy.extend_from_slice(bytes)?;
+        Ok(Encoding { order, bytes: copy })
+    }
+}
+
+// The same behind a head.
+pub(crate) fn with_head(
+    alloc: Global,
+    major: Major,
+    argument: u64,
+    content: Encoding,
+) -> Result<Encoding, AllocError>
+    requires { major ≢ Simple }
+    ensures order { IfOk result (λ whole. whole.order ≡ content.order) }
+    ensures bytes { IfOk result (λ whole. whole.bytes.items ≡ shortest_head major argument ++ content.bytes.items) }
+{
+    let mut bytes = Vec::new(alloc);
+    bytes.extend_from_slice(&Head::shortest(major, argument).bytes())?;
+    bytes.extend_from_slice(&content.bytes)?;
+    Ok(Encoding {
+        order: content.order,
+        bytes,
+    })
+}
+
+// The one and then the other, where both are kept.
+pub(crate) fn joined(
+    front: Option<Encoding>,
+    back: Option<Encoding>,
+) -> Result<Option<Encoding>, AllocError>
+    ensures { IfOk result (IsJoined front back) }
+{
+    let (Some(mut front), Some(back)) = (front, back) else {
+        return Ok(None);
+    };
+    if front.order != back.order {
+        return Ok(None);
+    }
+    front.bytes.extend_from_slice(&back.bytes)?;
+    Ok(Some(front))
+}
