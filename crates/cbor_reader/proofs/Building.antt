@@ -21,7 +21,7 @@ use Rattle.cbor_item.specs.declared.item.Item.TheVariants as items
 use Rattle.cbor_item.proofs.Orders.{key_cmp_total}
 use Rattle.cbor_item.proofs.SortedPairs.{sorted_is_in_order, sorted_view}
 use Rattle.cbor_item.proofs.Told.{distinct_bytes}
-use Rattle.cbor_item.proofs.Views.{canonical-Array, canonical-Map, canonical-Tag}
+use Rattle.cbor_item.proofs.Views.{canonical-Array, canonical-Map}
 use Rattle.cbor_reader.specs.Encoding.{IsEncoding, AreEncoded, ArePairsEncoded, pair_of, IsJoined, IsWithPair}
 use Rattle.cbor_reader.specs.declared.encoding.Encoding.{Encoding}
 use Rattle.cbor_reader.specs.declared.built_map.EncodedPair.{EncodedPair}

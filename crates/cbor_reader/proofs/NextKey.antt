@@ -1,28 +1,20 @@
 -- The key of a map that is due: read, kept, or refused.
-use Rattle.std.proofs.Common.{◌≡◌, ℕ, ◌+◌, ◌-◌, ◌^◌, ◌<◌, ◌≤◌, ◌⊎◌, Option, Some, None, List, [], ◌∷◌, ◌++◌, length, refl, sym, ap, ◌∙◌, subst, inl, inr, arith}
-use Rattle.std.specs.Prelude.{Result, Ok, Err, IfOk, MatchOption}
+use Rattle.std.proofs.Common.{◌≡◌, ℕ, ◌+◌, Option, Some, None, List, [], length, ap, ◌∙◌, subst}
 use Rattle.std.proofs.lemmas.List.{length-append}
 use Rattle.cbor_head.specs.Limits.{Bounds}
 use Rattle.cbor_head.specs.Value.{Value}
-use Rattle.cbor_head.specs.Spelling.{Spelling, spell, depth}
+use Rattle.cbor_head.specs.Spelling.{Spelling, spell}
 use Rattle.cbor_head.specs.Complaint as complaint
 use Rattle.cbor_head.specs.Complaint.{Rules, Complaint}
 use Rattle.cbor_head.specs.Verdict.{refusal}
 use Rattle.cbor_head.specs.declared.reason.Reason.{Reason}
 use Rattle.cbor_head.specs.declared.reason.Refusal.{Refusal}
-use Rattle.cbor_events.specs.Automaton.{Frame, close}
+use Rattle.cbor_events.specs.Automaton.{Frame}
 use Rattle.cbor_events.specs.ItemEvents.{ItemEventsView}
-use Rattle.cbor_item.specs.declared.item.Item.{Item}
-use Rattle.cbor_item.specs.View.{view}
-use Rattle.cbor_reader.specs.MapKeys.{HasKeys, IsKey, IsKeyValue, IsInserted}
+use Rattle.cbor_reader.specs.MapKeys.{IsInserted}
 use Rattle.cbor_reader.specs.NextKey.{ReadsKey, RefusesKey}
-use Rattle.cbor_reader.specs.Reading.{IsAt, IsReached, ReadsItem, IsMemory, StopsItem}
-use Rattle.cbor_reader.specs.Rules.{rules_of}
-use Rattle.cbor_reader.specs.declared.rules.Rules as declared
+use Rattle.cbor_reader.specs.Reading.{ReadsItem}
 use Rattle.cbor_reader.specs.declared.map_keys.Keys.{Keys}
-use Rattle.cbor_reader.proofs.Items.{extends-by, stops-memory}
-use Rattle.cbor_reader.proofs.MapKeys.{key_value}
-use Rattle.cbor_reader.proofs.Steps.{at-reached}
 
 module _ (r : Rules) (b : Bounds) (fs : List Frame) (t : List ℕ) (from to : Option (List ℕ)) (new : ItemEventsView) (v : Value) (m : ReadsItem r b fs t [] from to new v) where
   pub keeps-key : (ks : List Spelling) (keys : Keys) (reason : Option Reason) → reason ≡ None → IsInserted r ks m.item keys reason → ReadsKey r b fs t ks keys from to new v

@@ -1,5 +1,5 @@
 -- An item that was read whole: it is a key like any other, and what is answered of what is built of it.
-use Rattle.std.proofs.Common.{◌≡◌, ℕ, ◌+◌, ◌^◌, ◌<◌, ◌≤◌, Option, List, ◌++◌, length, sym, ap, ◌∙◌, subst, arith}
+use Rattle.std.proofs.Common.{◌≡◌, ℕ, ◌^◌, ◌≤◌, Option, List, ◌++◌, length, sym, ◌∙◌, subst, arith}
 use Rattle.std.specs.Prelude.{Result, Ok, Err, IfOk, MatchResult}
 use Rattle.std.proofs.lemmas.List.{length-append}
 use Rattle.cbor_head.specs.Limits.{Bounds}
@@ -12,7 +12,7 @@ use Rattle.cbor_events.specs.Automaton.{Frame, close}
 use Rattle.cbor_events.specs.ItemEvents.{ItemEventsView}
 use Rattle.cbor_item.specs.declared.item.Item.{Item}
 use Rattle.cbor_item.specs.View.{view}
-use Rattle.cbor_reader.specs.Building.{IsNoMemory, IsBuilt}
+use Rattle.cbor_reader.specs.Building.{IsBuilt}
 use Rattle.cbor_reader.specs.MapKeys.{IsKey, IsKeyValue}
 use Rattle.cbor_reader.specs.Reading.{ReadsItem, IsMemory, StopsItem}
 use Rattle.cbor_reader.specs.Rules.{rules_of}

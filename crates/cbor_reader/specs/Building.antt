@@ -1,5 +1,5 @@
 -- What the readers' own functions answer of what they build.
-use Rattle.std.specs.Prelude.{◌≡◌, Result, Ok, Err, IfOk, MatchResult}
+use Rattle.std.specs.Prelude.{◌≡◌, Result, Ok, Err, MatchResult}
 use Rattle.cbor_head.specs.declared.reason.Refusal.{Refusal}
 use Rattle.cbor_events.specs.ItemEvents.{ItemEventsView}
 use Rattle.cbor_events.specs.declared.event.EventKind.{EventKind}

@@ -1,6 +1,5 @@
-use Rattle.std.proofs.Common.{◌≡◌, List, ℕ, ◌++◌, map, sym, ap, ◌∙◌, arith, append-nil}
+use Rattle.std.proofs.Common.{List, ◌++◌, map, sym, ap, ◌∙◌, arith, append-nil}
 use Rattle.std.proofs.lemmas.List.{drop_all}
-use Rattle.cbor_head.specs.Canonical.{Pair}
 use Rattle.cbor_item.specs.Encoded.{joined}
 use Rattle.cbor_reader.specs.Encoding.{pair_of}
 use Rattle.cbor_reader.specs.declared.built_map.EncodedPair.{EncodedPair}

@@ -1,5 +1,4 @@
-use Rattle.std.proofs.Common.{◌≡◌, refl, sym, ap, subst, string_bytes}
-use Rattle.cbor_head.specs.Value as value
+use Rattle.std.proofs.Common.{◌≡◌, refl, ap, string_bytes}
 use Rattle.cbor_item.proofs.Views.{view-Text}
 use Rattle.cbor_reader.proofs.leaf.read_text.Goals as goal
 

@@ -1,4 +1,4 @@
-use Rattle.std.proofs.Common.{rules, ℕ, ◌≡◌, ◌≢◌, ◌++◌, ◌∷◌, [], ◌+◌, ◌*◌, ◌∙◌, Some, Option, length, inl, inr, refl, sym, ap, subst, arith}
+use Rattle.std.proofs.Common.{◌++◌, ◌∷◌, [], ◌∙◌, length, inl, inr, refl, ap, subst, arith}
 use Rattle.std.proofs.lemmas.Result.{IfOk-weaker}
 use Rattle.cbor_events.specs.Automaton.{at_item, counted}
 use Rattle.cbor_events.specs.State.{count_of}
@@ -7,14 +7,12 @@ use Rattle.cbor_item.specs.View.{view}
 use Rattle.cbor_reader.specs.Reading.{IsBegun}
 use Rattle.cbor_reader.specs.Rules.{rules_of}
 use Rattle.cbor_reader.proofs.Composition.{array_bytes}
-use Rattle.cbor_reader.proofs.Items.{stops-at-item, begun-by, has-begun, no-end, head-farther, reads-next, stops-next, answers-next, reads-break, stops-memory, other-kinds}
-use Rattle.cbor_reader.proofs.Scalars.{reads-unsigned, reads-negative, reads-simple, tag-due, reads-tag, stops-tag, tag-memory}
+use Rattle.cbor_reader.proofs.Items.{stops-at-item, begun-by, has-begun, no-end, head-farther, reads-next, stops-next, answers-next, reads-break}
+use Rattle.cbor_reader.proofs.Scalars.{tag-due, reads-tag, stops-tag}
 use Rattle.cbor_reader.proofs.Arrays.{member_frames, starts-array, member-due, array-next, stops-member, array-whole, array-ended, array-memory, member-farther, no-farther, some-left}
 use Rattle.cbor_head.specs.Verdict.{refusal}
 use Rattle.cbor_reader.specs.Frame.{keys_onto}
-use Rattle.cbor_reader.specs.MapKeys.{HasKeys}
 use Rattle.cbor_reader.proofs.Composition.{map_bytes}
-use Rattle.cbor_reader.proofs.Keys.{keys_more}
 use Rattle.cbor_reader.proofs.Maps.{key_frames, content_frames, key-due, stops-key, content-due, content-memory, stops-content, map-next-kept, map-whole, map-ended, map-no-farther, item-farther, no-content-break, starts-keys, stops-refused}
 use Rattle.cbor_reader.proofs.NextKey.{keeps-key, refuses-key}
 use Rattle.cbor_reader.proofs.ReadItems.{is-key, item-no-memory, answers-built, key-value, map-sound}

@@ -1,4 +1,4 @@
-use Rattle.std.proofs.Common.{◌≡◌, subst, sym, ap, ◌∙◌, Option, Some, List}
+use Rattle.std.proofs.Common.{subst, sym, ◌∙◌, Option, List}
 use Rattle.cbor_item.specs.View.{entries_view}
 use Rattle.cbor_item.specs.declared.item.Item.{Item}
 use Rattle.cbor_head.specs.Value.{AreEntriesInRange, HasDistinctKeys}

@@ -1,9 +1,7 @@
 use Rattle.std.proofs.Common.{ap, ◌∙◌}
 use Rattle.cbor_head.specs.Canonical.{canonical}
 use Rattle.cbor_head.specs.declared.order.KeyOrder.{KeyOrder}
-use Rattle.cbor_item.specs.declared.item.Item.{Item}
 use Rattle.cbor_item.specs.View.{view}
-use Rattle.cbor_reader.specs.MapKeys.{order_of}
 use Rattle.cbor_reader.proofs.map_keys.Keys.insert.Goals as goal
 
 pub returns-clause-answers : goal.returns-clause-answers

@@ -1,4 +1,4 @@
-use Rattle.std.proofs.Common.{sym, ◌∙◌, subst, List, ℕ, ◌≡◌}
+use Rattle.std.proofs.Common.{sym, ◌∙◌, subst, ◌≡◌}
 use Rattle.cbor_head.specs.Canonical.{canonical}
 use Rattle.cbor_reader.specs.declared.map_keys.Keys.{Keys}
 use Rattle.cbor_reader.specs.MapKeys.{HasKeys, Rises, order_of}
