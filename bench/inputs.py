@@ -121,6 +121,7 @@ def inputs():
     yield "nested_keys", nested(1, 256, lambda it: [(it, 0), (0, 0)])
     yield "keys_around_bytes", nested(bytes(MIB - 1100), 256, lambda it: [(it, 0), (0, 0)])
     yield "keys_around_map", nested(numbers, 255, lambda it: [(it, 0), (0, 0)])
+    yield "keys_around_zeros", nested([0] * (MIB - 1100), 255, lambda it: [(it, 0), (0, 0)])
     yield "bytes_16_mib", bytes(16 * MIB)
 
 

@@ -232,13 +232,13 @@ module _ (b : Bounds) (chunk : Bool) (m : Major) (fs : List Frame) (t : List ℕ
       go (suc j) k w = behind s.cut.begun w
         where
           behind : (u : State) → IsWithin b.depth (in_payload chunk m j fs) u s.cut.p → s.cut.p ≡ []
-          behind (in_head false l w i acc gs) w2 = absurd (cc w2.0)
-          behind (in_head true l w i acc gs) w2 = absurd (cc w2.0)
-          behind (in_simple gs) w2 = absurd (cc w2.0)
-          behind (at_item gs) w2 = w2.1
-          behind (in_payload c l i gs) w2 = w2.1
-          behind (in_chunks l gs) w2 = w2.1
-          behind at_end w2 = w2.1
+          behind (in_head false l w i acc gs) taking = absurd (cc taking.0)
+          behind (in_head true l w i acc gs) taking = absurd (cc taking.0)
+          behind (in_simple gs) taking = absurd (cc taking.0)
+          behind (at_item gs) taking = taking.1
+          behind (in_payload c l i gs) taking = taking.1
+          behind (in_chunks l gs) taking = taking.1
+          behind at_end taking = taking.1
 
 -- all of it has come
 pub all-come : (b : Bounds) (chunk : Bool) (m : Major) (fs : List Frame) (t : List ℕ) (left : ℕ) (old grown : List ℕ) (from now : Option (List ℕ)) (e : ItemEventsView) (n : ℕ)

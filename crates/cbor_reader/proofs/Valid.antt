@@ -12,27 +12,12 @@ use Rattle.cbor_head.specs.declared.major.Major.{Major}
 use Rattle.cbor_head.specs.declared.major.Major.TheVariants.{Bytes, Text, Array, Map, Tag}
 use Rattle.cbor_head.specs.declared.width.Width.{Width}
 use Rattle.cbor_head.specs.declared.width.Width.TheVariants.{Direct, One, Two, Four, Eight, Indefinite}
+use Rattle.cbor_head.proofs.Counts.{holds_fits, values_count-of, entries_count-of}
 use Rattle.cbor_head.proofs.ReadLaws.{length_spell}
 use Rattle.cbor_item.proofs.Stable.{utf8_stable}
 use Rattle.cbor_reader.proofs.Judged.{Never}
 
-holds_fits : (w : Width) (n : ℕ) → Holds w n → n < 2 ^ 64
-holds_fits Direct n h = omega arith
-holds_fits One n h = omega arith
-holds_fits Two n h = omega arith
-holds_fits Four n h = omega arith
-holds_fits Eight n h = h
-holds_fits Indefinite n h = absurd h
-
 -- ---- counts
-
-values_count-of : (ss : Spellings) → values_count (values_of ss) ≡ spellings_count ss
-values_count-of no_spellings = refl
-values_count-of (a_spelling s ss) = ap suc (values_count-of ss)
-
-entries_count-of : (es : SpelledEntries) → value.entries_count (entries_of es) ≡ entries_count es
-entries_count-of no_entries = refl
-entries_count-of (entry k v es) = ap suc (entries_count-of es)
 
 -- each member has a byte
 pub count_bounded : (ss : Spellings) → spellings_count ss ≤ length (spell_all ss)

@@ -51,7 +51,7 @@ fn bytes_of(alloc: Global, text: &str) -> Result<Vec<u8>, AllocError> {
 }
 
 // Bytes that the plain rules refuse, with the depth limit, the byte limit, and the refusal.
-static REFUSED: [(&str, u16, u64, Reason, u64, u64); 64] = [
+static REFUSED: [(&str, u16, u64, Reason, u64, u64); 66] = [
     ("", 256, 1048576, Reason::Truncated, 0, 0),
     ("1c", 256, 1048576, Reason::Reserved, 0, 1),
     ("3d", 256, 1048576, Reason::Reserved, 0, 1),
@@ -127,6 +127,22 @@ static REFUSED: [(&str, u16, u64, Reason, u64, u64); 64] = [
         9,
     ),
     ("a201000100", 256, 1048576, Reason::RepeatedKey, 3, 4),
+    (
+        "a1a1a2010001000000",
+        256,
+        1048576,
+        Reason::RepeatedKey,
+        5,
+        6,
+    ),
+    (
+        "a281a2010002000081a20200010000",
+        256,
+        1048576,
+        Reason::RepeatedKey,
+        8,
+        14,
+    ),
     ("c1c100", 1, 1048576, Reason::TooDeep, 1, 2),
     ("9f", 0, 1048576, Reason::TooDeep, 0, 1),
     ("80", 0, 1048576, Reason::TooDeep, 0, 1),
@@ -381,7 +397,7 @@ fn reads_strictly(rt: HostRuntime) -> Result<(), Fail> {
 }
 
 // Whole inputs, with their canonical bytes in either order.
-static WHOLE: [(&str, &str, &str); 10] = [
+static WHOLE: [(&str, &str, &str); 12] = [
     ("1800", "00", "00"),
     ("5fff", "40", "40"),
     ("bfff", "a0", "a0"),
@@ -404,9 +420,20 @@ static WHOLE: [(&str, &str, &str); 10] = [
         "a80a021864032004617a056261610181186406812007f408",
         "a80a022004f408186403617a058120076261610181186406",
     ),
+    // Arrays, tags and maps within keys of keys.
+    (
+        "a282a302002000186481a201000000c5410100a26162016161a22000186400a22000186400",
+        "a282a30200186481a2000001002000c5410100a26161a21864002000616201a21864002000",
+        "a2a26161a22000186400616201a2200018640082a302002000186481a200000100c5410100",
+    ),
+    (
+        "a2a2a2186400200000c1a220f51864f480000000",
+        "a20000a2a2186400200000c1a21864f420f58000",
+        "a20000a2a2200018640000c1a220f51864f48000",
+    ),
 ];
 
-// Every item becomes its canonical bytes, and these become themselves.
+// Every item becomes its canonical bytes, and these become themselves and are read strictly.
 #[test]
 fn canonicalises(rt: HostRuntime) -> Result<(), Fail> {
     for &(hex, bytewise, length_first) in &WHOLE {
@@ -422,6 +449,9 @@ fn canonicalises(rt: HostRuntime) -> Result<(), Fail> {
                     Err(_) => assert!(rt; false, "refused {hex}"),
                 }
             }
+            let mut reader = wanted.as_slice();
+            let size = read_strict(rt.alloc(), &mut reader, limits(&rt, 256, 1048576), order);
+            assert_eq!(rt; size, Ok(wanted.len() as u64), "at {hex}");
         }
     }
     Ok(())
