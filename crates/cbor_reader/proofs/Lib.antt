@@ -13,6 +13,7 @@ pub mod Headline
 pub mod Heads
 pub mod Items
 pub mod Judged
+pub mod KeySets
 pub mod Keys
 pub mod Leaves
 pub mod Loops

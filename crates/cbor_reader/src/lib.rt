@@ -7,6 +7,7 @@ mod built_map;
 mod canonicaliser;
 mod encoding;
 mod front;
+mod key_set;
 pub mod laws;
 mod leaf;
 mod map_keys;
