@@ -28,11 +28,11 @@ use Rattle.cbor_item.proofs.Orders.{key_cmp_total}
 -- what a sort by the order of the bytes leaves, from the clauses of `sort_by`
 pub sorted_by_keys : (o : KeyOrder) {F : Type 0} {g : Mut F (Bor EncodedKey × (Bor EncodedKey × Unit {0})) Ordering} {f : F} (ys : List EncodedKey)
     → ((lt : EncodedKey → EncodedKey → Bool) → IsStrictWeakOrder lt → ComparesAs g lt f → IsSortedBy lt ys)
-    → ((a : Bor EncodedKey × (Bor EncodedKey × Unit {0})) (r : Ordering) (f' : F) → Called g f a r f' → (r ≡ key_cmp o a.0.now.bytes.items a.1.0.now.bytes.items) × (f' ≡ f))
-    → IsSortedBy (λ x y. key_lt o x.bytes.items y.bytes.items) ys
+    → ((a : Bor EncodedKey × (Bor EncodedKey × Unit {0})) (r : Ordering) (f' : F) → Called g f a r f' → (r ≡ key_cmp o a.0.now.bytes a.1.0.now.bytes) × (f' ≡ f))
+    → IsSortedBy (λ x y. key_lt o x.bytes y.bytes) ys
 sorted_by_keys o {g = g} {f = f} ys s h =
-    s (λ x y. key_lt o x.bytes.items y.bytes.items) (ranks_by (key_cmp_total o) (λ (x : EncodedKey). x.bytes.items))
-    (always_returns_same g (λ a r. is_lt r ≡ key_lt o a.0.now.bytes.items a.1.0.now.bytes.items) f (λ a r f' k. (ap is_lt (h a r f' k).0, (h a r f' k).1)))
+    s (λ x y. key_lt o x.bytes y.bytes) (ranks_by (key_cmp_total o) (λ (x : EncodedKey). x.bytes))
+    (always_returns_same g (λ a r. is_lt r ≡ key_lt o a.0.now.bytes a.1.0.now.bytes) f (λ a r f' k. (ap is_lt (h a r f' k).0, (h a r f' k).1)))
 
 -- ---- the indices are those of all pairs
 
@@ -96,7 +96,7 @@ content_read ps i q l is = ap (λ (r : Item × Item). view r.1) (same_element ps
 -- ---- one key after the other, encoded
 
 pub encoded_more : (o : KeyOrder) (ps : List (Item × Item)) (i : ℕ) (p : Item × Item) (ks : List EncodedKey) (k : EncodedKey) → i < length ps → p ≡ get_or ps i p
-    → k.bytes.items ≡ canonical o (view p.0) → k.index ≡ i
+    → k.bytes ≡ canonical o (view p.0) → k.index ≡ i
     → map (pair_at o ps) ks ++ canonical_entries o (entries_view (drop i ps)) ≡ canonical_entries o (entries_view ps)
     → map (pair_at o ps) (ks ++ k ∷ []) ++ canonical_entries o (entries_view (drop (i + 1) ps)) ≡ canonical_entries o (entries_view ps)
 encoded_more o ps i p ks k l is key at e =
@@ -129,12 +129,12 @@ regroup out key content rest = simp append_assoc
 -- one more pair is written
 pub pairs_more : (o : KeyOrder) (ps : List (Item × Item)) (ks : List EncodedKey) (i : ℕ) (k : EncodedKey) (q : Item × Item) (whole out before after : List ℕ)
     → i < length ks → k ≡ get_or ks i k → k.index < length ps → q ≡ get_or ps k.index q
-    → whole ≡ out ++ joined (map (pair_at o ps) (drop i ks)) → before ≡ out ++ k.bytes.items → after ≡ before ++ canonical o (view q.1)
+    → whole ≡ out ++ joined (map (pair_at o ps) (drop i ks)) → before ≡ out ++ k.bytes → after ≡ before ++ canonical o (view q.1)
     → whole ≡ after ++ joined (map (pair_at o ps) (drop (i + 1) ks))
 pairs_more o ps ks i k q whole out before after l is m read h wrote_key wrote_content =
     let rest = joined (map (pair_at o ps) (drop (i + 1) ks)) in
     h ∙ ap (λ (xs : List EncodedKey). out ++ joined (map (pair_at o ps) xs)) (at_read ks i k l is)
-    ∙ ap (λ (xs : List ℕ). out ++ ((k.bytes.items ++ xs) ++ rest)) (ap (canonical o) (content_read ps k.index q m read))
-    ∙ regroup out k.bytes.items (canonical o (view q.1)) rest
+    ∙ ap (λ (xs : List ℕ). out ++ ((k.bytes ++ xs) ++ rest)) (ap (canonical o) (content_read ps k.index q m read))
+    ∙ regroup out k.bytes (canonical o (view q.1)) rest
     ∙ ap (λ (xs : List ℕ). (xs ++ canonical o (view q.1)) ++ rest) (sym wrote_key)
     ∙ ap (λ (xs : List ℕ). xs ++ rest) (sym wrote_content)

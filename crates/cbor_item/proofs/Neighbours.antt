@@ -27,7 +27,7 @@ use Rattle.cbor_item.proofs.Sorting.{rises_at, rising_cons}
 -- ---- along a list
 
 abbrev pub bytes_of : EncodedKey → List ℕ
-bytes_of key = key.bytes.items
+bytes_of key = key.bytes
 
 pub differ_at : (ks : List EncodedKey) (j i : ℕ) (x y : EncodedKey) → j + 1 ≡ i → i < length ks → x ≡ get_or ks j x → y ≡ get_or ks i y
     → DoNeighboursDiffer (map bytes_of (drop j ks)) ↔ ((bytes_of x ≢ bytes_of y) × DoNeighboursDiffer (map bytes_of (drop i ks)))
@@ -99,7 +99,7 @@ pub record AreSorted (o : KeyOrder) (ps : List (Item × Item)) (ks : List Encode
 pub all_sorted : (o : KeyOrder) (ps : List (Item × Item)) (xs ys : List EncodedKey) (i : ℕ) → AreEntriesInRange (entries_view ps) → i ≡ length ps
     → map (pair_at o ps) xs ++ canonical_entries o (entries_view (drop i ps)) ≡ canonical_entries o (entries_view ps)
     → map index_of xs ≡ range_with_len 0 i → (AreKeysValid (entries_view ps) ↔ AreKeysValid (entries_view (drop i ps)))
-    → IsPermutation xs ys → IsSortedBy (λ x y. key_lt o x.bytes.items y.bytes.items) ys → AreSorted o ps ys
+    → IsPermutation xs ys → IsSortedBy (λ x y. key_lt o x.bytes y.bytes) ys → AreSorted o ps ys
 all_sorted o ps xs ys i r end encoded indices valid m s =
     let f = pair_at o ps in
     let none : drop i ps ≡ [] = drop_all i ps (omega (arith, end)) in

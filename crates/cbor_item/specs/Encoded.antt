@@ -28,7 +28,7 @@ content_at ps i = view (get_or ps i (Unsigned 0, Unsigned 0)).1
 
 -- an encoded key with what stands behind it, encoded
 abbrev pub pair_at : KeyOrder → List (Item × Item) → EncodedKey → Pair
-pair_at o ps k = record { key = k.bytes.items; content = canonical o (content_at ps k.index) }
+pair_at o ps k = record { key = k.bytes; content = canonical o (content_at ps k.index) }
 
 -- the first of the list, if it has one, isn't this one
 abbrev pub IsNotFirst : List ℕ → List (List ℕ) → Type 0

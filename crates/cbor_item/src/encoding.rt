@@ -12,6 +12,7 @@ ghost use Rattle.cbor_item.specs.View.{view, values_view, entries_view};
 
 use crate::encoded_key::{EncodedKey, differ, sort_keys};
 use crate::item::Item;
+use crate::key_bytes::KeyBytes;
 use crate::tree::Tree;
 use cbor_head::{Head, KeyOrder, Major, Reason, Refusal};
 use std::alloc::{AllocError, Global};
@@ -110,7 +111,7 @@ fn encode_pairs(
         return Ok(false);
     };
     for key in &keys {
-        out.extend_from_slice(&key.bytes)?;
+        out.extend_from_slice(key.bytes.as_slice())?;
         if !encode_into(alloc, &pairs[key.index].1, order, out)? {
             return Ok(false);
         }
@@ -135,11 +136,12 @@ pub(crate) fn encode_keys(
         IsPermutation (range_with_len 0 (length pairs.now.items)) (map (λ key. key.index) keys.items))) }
 {
     let mut keys = Vec::new(alloc);
+    let mut bytes = Vec::new(alloc);
     for (index, pair) in pairs.iter().enumerate() {
-        let mut bytes = Vec::new(alloc);
         if !encode_into(alloc, &pair.0, order, &mut bytes)? {
             return Ok(None);
         }
+        let bytes = KeyBytes::take(alloc, &mut bytes);
         keys.push(EncodedKey { bytes, index })?;
     }
     sort_keys(&mut keys, order)?;

@@ -87,10 +87,11 @@ encode_keys-loop-index-preserved t c =
     let inv = c.loop-index.invariant in
     let below : i < length ps = subst (λ us. i < length us) c.deref-pair-items.ensures.value c.loop-index-test.true in
     let is : p ≡ get_or ps i p = c.pair-item.is ∙ ap (λ us. get_or us i p) c.deref-pair-items.ensures.value in
-    let key : EncodedKey = record { bytes = c.encode_into.new.out; index = i } in
-    let bytes : c.encode_into.new.out.items ≡ canonical c.args.order (view p.0) = c.in_ok-encode_into.ensures.bytes c.if-not-branch.false ∙ ap (λ xs. xs ++ canonical c.args.order (view p.0)) c.new-bytes.ensures.items in
+    let key : EncodedKey = record { bytes = c.take-bytes.result; index = i } in
+    let bytes : c.take-bytes.result ≡ canonical c.args.order (view p.0) = c.take-bytes.ensures.taken ∙ c.in_ok-encode_into.ensures.bytes c.if-not-branch.false ∙ ap (λ xs. xs ++ canonical c.args.order (view p.0)) inv.scratch in
     let pushed = c.in_ok-push.ensures.items in
     record {
+      scratch = c.take-bytes.ensures.left;
       encoded = subst (λ ks. map (pair_at c.args.order ps) ks ++ canonical_entries c.args.order (entries_view (drop (i + 1) ps)) ≡ canonical_entries c.args.order (entries_view ps)) (sym pushed)
           (encoded_more c.args.order ps i p c.loop-index.keys.items key below is bytes refl inv.encoded);
       indices = ap (map index_of) pushed ∙ index_more i c.loop-index.keys.items key refl inv.indices;
@@ -159,7 +160,7 @@ encode_pairs-loop-key-preserved t c =
     let below = index_below (length ps) ks l.key-index k l.invariant.indices c.loop-key-test.true c.key-item.is in
     let read = content_read ps k.index c.index.result.now below c.index.ensures in
     let valid = was_true c.in_ok-encode_into.field-0 c.if-not-branch.false c.in_ok-encode_into.ensures.valid in
-    let wrote = c.in_ok-extend_from_slice.ensures.items ∙ ap (λ (xs : List ℕ). l.out.items ++ xs) c.deref.ensures.value in
+    let wrote = c.in_ok-extend_from_slice.ensures.items ∙ ap (λ (xs : List ℕ). l.out.items ++ xs) c.as_slice.ensures in
     let whole = c.args.out.now.items ++ joined (map (pair_at c.args.order ps) ks) in
     record {
       written = pairs_more c.args.order ps ks l.key-index k c.index.result.now whole l.out.items c.extend_from_slice.new.self.items c.encode_into.new.out.items

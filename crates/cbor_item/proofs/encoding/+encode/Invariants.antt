@@ -1,4 +1,4 @@
-use Rattle.std.proofs.Common.{◌≡◌, ◌++◌, ◌↔◌, drop, map, length, IsPermutation}
+use Rattle.std.proofs.Common.{◌≡◌, [], ◌++◌, ◌↔◌, drop, map, length, IsPermutation}
 use Rattle.std.specs.List.{AllByRecursion, range_with_len}
 use Rattle.cbor_head.specs.Canonical.{canonical_all, canonical_entries}
 use Rattle.cbor_head.specs.Value.{IsValid, AreInRange, AreEntriesInRange, AreValid}
@@ -23,6 +23,7 @@ invariant-encode_pairs-loop-key l = record {
 
 abbrev pub invariant-encode_keys-loop-index : goal.invariant-encode_keys-loop-index
 invariant-encode_keys-loop-index l = record {
+  scratch : l.bytes.items ≡ [];
   encoded : map (pair_at l.order l.pairs.items) l.keys.items ++ canonical_entries l.order (entries_view (drop l.index l.pairs.items)) ≡ canonical_entries l.order (entries_view l.pairs.items);
   indices : map (λ key. key.index) l.keys.items ≡ range_with_len 0 l.index;
   valid : AreKeysValid (entries_view l.pairs.items) ↔ AreKeysValid (entries_view (drop l.index l.pairs.items));
