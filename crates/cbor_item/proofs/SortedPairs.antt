@@ -2,14 +2,13 @@
 use Rattle.std.proofs.Common.{◌≡◌, ℕ, suc, ◌+◌, Bool, true, false, true≢false, List, [], ◌∷◌, get_or, inl, inr, refl, sym, ap, ◌∙◌, subst, arith, IsPermutation, IsSortedBy}
 use Rattle.std.specs.Prelude.{IsTrue}
 use Rattle.std.specs.List.{IsDistinct, AllByRecursion}
-use Rattle.std.specs.Cmp.{IsStrictWeakOrder}
 use Rattle.std.specs.Ordering.{is_eq, ordering_reverse}
 use Rattle.std.specs.declared.cmp.Ordering.{Ordering}
 use Rattle.std.specs.declared.cmp.Ordering.TheVariants.{Less, Equal, Greater}
 use Rattle.std.proofs.lemmas.Cmp.{tied_itself}
 use Rattle.std.proofs.lemmas.Bool.{false_from_ne_true}
 use Rattle.std.proofs.lemmas.Map.Keys.{IsDistinct-IsPermutation}
-use Rattle.std.proofs.lemmas.List.Sorted.{ranks_by, IsPermutation-sym, Contains-permutation}
+use Rattle.std.proofs.lemmas.List.Sorted.{IsPermutation-sym, Contains-permutation}
 use Rattle.std.proofs.lemmas.List.{get_or-map, length-map}
 use Rattle.std.proofs.Common.{map}
 use Rattle.cbor_head.specs.Order.{key_cmp, key_lt}
@@ -25,9 +24,6 @@ same_key o p q = is_eq (key_cmp o p.key q.key)
 
 abbrev pub pair_lt : KeyOrder → Pair → Pair → Bool
 pair_lt o p q = key_lt o p.key q.key
-
-pub pair_lt_ranks : (o : KeyOrder) → IsStrictWeakOrder (pair_lt o)
-pair_lt_ranks o = ranks_by (key_cmp_total o) (λ (p : Pair). p.key)
 
 pub same_key-flips : (o : KeyOrder) (p q : Pair) → same_key o p q ≡ same_key o q p
 same_key-flips o p q = ap is_eq ((key_cmp_total o).antisymm p.key q.key) ∙ turned (key_cmp o q.key p.key)

@@ -19,7 +19,7 @@ use Rattle.cbor_item.proofs.Members.{In}
 use Rattle.cbor_item.proofs.Orders.{lt_trans}
 use Rattle.cbor_item.proofs.Sorting.{rising_cons, rising_distinct, in_order-rising}
 use Rattle.cbor_item.proofs.Stable.{width_stable, utf8_stable}
-use Rattle.cbor_item.proofs.Sound.{IsSound, sound}
+use Rattle.cbor_item.proofs.Sound.{IsSound, sound, valid_apart}
 use Rattle.cbor_item.proofs.Keys.{distinct_from_bytes}
 use Rattle.cbor_item.proofs.Normal.{pair_bytes, pairs, spell_entries-pairs, closer-shortest}
 
@@ -107,7 +107,7 @@ strict_map o w es c r =
     let u : IsRising o ps = subst (IsRising o) r.pairs_are r.rising in
     let b : spell_entries es ≡ flat_map pair_bytes (in_order o ps) = spell_entries-pairs es ∙ ap (flat_map pair_bytes) (r.pairs_are ∙ sym (in_order-rising o ps u)) in
     record {
-      sound = sound (value_of (a_map w es)) (c.fits, r.range) (r.valid, distinct_from_bytes o (entries_of es) r.range r.valid (rising_distinct o ps u));
+      sound = sound (value_of (a_map w es)) (c.fits, r.range) (r.valid, distinct_from_bytes o (entries_of es) r.range ((valid_apart (entries_of es)).0 r.valid).0 (rising_distinct o ps u));
       bytes_are = counted_bytes Map w (entries_count es) (value.entries_count (entries_of es)) (spell_entries es) (flat_map pair_bytes (in_order o ps)) c b;
     }
 

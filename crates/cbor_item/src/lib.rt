@@ -17,6 +17,7 @@ mod compare;
 mod encoded_key;
 mod encoding;
 mod item;
+mod key_bytes;
 pub mod laws;
 mod tree;
 mod valid;
