@@ -25,15 +25,6 @@ use Rattle.cbor_item.proofs.ByIndex.{at_read}
 use Rattle.cbor_item.proofs.Members.{In, all_at, all_from, in_contains, contains_in, map_in, in_map}
 use Rattle.cbor_item.proofs.Orders.{key_cmp_total}
 
--- what a sort by the order of the bytes leaves, from the clauses of `sort_by`
-pub sorted_by_keys : (o : KeyOrder) {F : Type 0} {g : Mut F (Bor EncodedKey × (Bor EncodedKey × Unit {0})) Ordering} {f : F} (ys : List EncodedKey)
-    → ((lt : EncodedKey → EncodedKey → Bool) → IsStrictWeakOrder lt → ComparesAs g lt f → IsSortedBy lt ys)
-    → ((a : Bor EncodedKey × (Bor EncodedKey × Unit {0})) (r : Ordering) (f' : F) → Called g f a r f' → (r ≡ key_cmp o a.0.now.bytes a.1.0.now.bytes) × (f' ≡ f))
-    → IsSortedBy (λ x y. key_lt o x.bytes y.bytes) ys
-sorted_by_keys o {g = g} {f = f} ys s h =
-    s (λ x y. key_lt o x.bytes y.bytes) (ranks_by (key_cmp_total o) (λ (x : EncodedKey). x.bytes))
-    (always_returns_same g (λ a r. is_lt r ≡ key_lt o a.0.now.bytes a.1.0.now.bytes) f (λ a r f' k. (ap is_lt (h a r f' k).0, (h a r f' k).1)))
-
 -- ---- the indices are those of all pairs
 
 abbrev pub index_of : EncodedKey → ℕ

@@ -2,13 +2,18 @@
 use Rattle.std.proofs.Common.{◌≡◌, ℕ, suc, ◌+◌, Bool, true, false, true≢false, List, [], ◌∷◌, get_or, inl, inr, refl, sym, ap, ◌∙◌, subst, arith, IsPermutation, IsSortedBy}
 use Rattle.std.specs.Prelude.{IsTrue}
 use Rattle.std.specs.List.{IsDistinct, AllByRecursion}
-use Rattle.std.specs.Ordering.{is_eq, ordering_reverse}
+use Rattle.std.specs.Cmp.{IsStrictWeakOrder}
+use Rattle.std.specs.Fn.{Called, ComparesAs}
+use Rattle.std.specs.Ordering.{is_eq, is_lt, ordering_reverse}
+use Rattle.std.proofs.lemmas.Fn.{always_returns_same}
+use Rattle.std.proofs.Common.{Bor}
+use denote.Param.Members.{Mut}
 use Rattle.std.specs.declared.cmp.Ordering.{Ordering}
 use Rattle.std.specs.declared.cmp.Ordering.TheVariants.{Less, Equal, Greater}
 use Rattle.std.proofs.lemmas.Cmp.{tied_itself}
 use Rattle.std.proofs.lemmas.Bool.{false_from_ne_true}
 use Rattle.std.proofs.lemmas.Map.Keys.{IsDistinct-IsPermutation}
-use Rattle.std.proofs.lemmas.List.Sorted.{IsPermutation-sym, Contains-permutation}
+use Rattle.std.proofs.lemmas.List.Sorted.{ranks_by, IsPermutation-sym, Contains-permutation}
 use Rattle.std.proofs.lemmas.List.{get_or-map, length-map}
 use Rattle.std.proofs.Common.{map}
 use Rattle.cbor_head.specs.Order.{key_cmp, key_lt}
@@ -75,3 +80,12 @@ sorted_view view o (y ∷ ys) s = λ k d l h.
     let e = get_or-map view (y ∷ ys) k y d (omega arith) in
     let f = get_or-map view (y ∷ ys) (k + 1) y d (omega arith) in
     (λ i. pair_lt o (f i) (e i)) ∙ s k y l (omega arith)
+
+-- what a sort by the order of some bytes leaves, from the clauses of `sort_by`
+pub sorted_by_bytes : (o : KeyOrder) {X : Type 0} (bytes : X → List ℕ) {F : Type 0} {g : Mut F (Bor X × (Bor X × Unit {0})) Ordering} {f : F} (ys : List X)
+    → ((lt : X → X → Bool) → IsStrictWeakOrder lt → ComparesAs g lt f → IsSortedBy lt ys)
+    → ((a : Bor X × (Bor X × Unit {0})) (r : Ordering) (f' : F) → Called g f a r f' → (r ≡ key_cmp o (bytes a.0.now) (bytes a.1.0.now)) × (f' ≡ f))
+    → IsSortedBy (λ x y. key_lt o (bytes x) (bytes y)) ys
+sorted_by_bytes o bytes {g = g} {f = f} ys s h =
+    s (λ x y. key_lt o (bytes x) (bytes y)) (ranks_by (key_cmp_total o) bytes)
+    (always_returns_same g (λ a r. is_lt r ≡ key_lt o (bytes a.0.now) (bytes a.1.0.now)) f (λ a r f' k. (ap is_lt (h a r f' k).0, (h a r f' k).1)))

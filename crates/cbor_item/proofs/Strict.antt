@@ -14,6 +14,7 @@ use Rattle.cbor_head.specs.declared.major.Major.{Major}
 use Rattle.cbor_head.specs.declared.major.Major.TheVariants.{Unsigned, Negative, Bytes, Text, Array, Map, Tag}
 use Rattle.cbor_head.specs.declared.width.Width.{Width}
 use Rattle.cbor_head.specs.declared.width.Width.TheVariants.{Direct, One, Two, Four, Eight, Indefinite}
+use Rattle.cbor_head.proofs.Counts.{holds_fits, values_count-of, entries_count-of}
 use Rattle.cbor_item.specs.Pairs.{IsRising}
 use Rattle.cbor_item.proofs.Members.{In}
 use Rattle.cbor_item.proofs.Orders.{lt_trans}
@@ -39,14 +40,6 @@ below_all o (entry k v es) b bs at n p m =
 
 -- ---- heads
 
-holds_fits : (w : Width) (n : ℕ) → Holds w n → n < 2 ^ 64
-holds_fits Direct n h = omega arith
-holds_fits One n h = omega arith
-holds_fits Two n h = omega arith
-holds_fits Four n h = omega arith
-holds_fits Eight n h = h
-holds_fits Indefinite n h = absurd h
-
 head_clean : (o : KeyOrder) (at : ℕ) (m : Major) (w : Width) (n : ℕ) → ((c : Complaint) → OfHead (strict o) at m w n c → ⊥) → w ≡ shortest n
 head_clean o at m w n f = width_stable w (shortest n) (λ e. f _ (e, refl))
 
@@ -69,14 +62,6 @@ counted_bytes : (m : Major) (w : Width) (n k : ℕ) (xs ys : List ℕ) → IsCou
 counted_bytes m w n k xs ys c e =
     let s : w ≡ shortest k = c.shortest_is ∙ ap shortest (sym c.count) in
     (λ i. (head m (s i) (sym c.count i) ++ e i) ++ closer (s i)) ∙ (λ i. (shortest_head m k ++ ys) ++ closer-shortest k i) ∙ append-nil _
-
-values_count-of : (ss : Spellings) → values_count (values_of ss) ≡ spellings_count ss
-values_count-of no_spellings = refl
-values_count-of (a_spelling s ss) = ap suc (values_count-of ss)
-
-entries_count-of : (es : SpelledEntries) → value.entries_count (entries_of es) ≡ entries_count es
-entries_count-of no_entries = refl
-entries_count-of (entry k v es) = ap suc (entries_count-of es)
 
 -- ---- the induction
 

@@ -77,15 +77,6 @@ map-more (Some all) (Some k) None (Some e) ps i j h f g w = absurd w
 pub keys-differ : (all : EncodedPairs) (ps : List (Item × Item)) → ArePairsEncoded (Some all) (entries_view ps) → AreEntriesInRange (entries_view ps) → HasDistinctKeys (entries_view ps) → HasDistinctBytes (map pair_of all.pairs.items)
 keys-differ all ps h r d = subst HasDistinctBytes (sym h) (distinct_bytes all.order (entries_view ps) r d)
 
--- what a sort by the keys leaves, from the clauses of `sort_by`
-pub sorted-by-keys : (o : KeyOrder) {F : Type 0} {g : Mut F (Bor EncodedPair × (Bor EncodedPair × Unit {0})) Ordering} {f : F} (ys : List EncodedPair)
-    → ((lt : EncodedPair → EncodedPair → Bool) → IsStrictWeakOrder lt → ComparesAs g lt f → IsSortedBy lt ys)
-    → ((a : Bor EncodedPair × (Bor EncodedPair × Unit {0})) (r : Ordering) (f' : F) → Called g f a r f' → (r ≡ key_cmp o a.0.now.key.items a.1.0.now.key.items) × (f' ≡ f))
-    → IsSortedBy (λ x y. key_lt o x.key.items y.key.items) ys
-sorted-by-keys o {g = g} {f = f} ys s h =
-    s (λ x y. key_lt o x.key.items y.key.items) (ranks_by (key_cmp_total o) (λ (x : EncodedPair). x.key.items))
-    (always_returns_same g (λ a r. is_lt r ≡ key_lt o a.0.now.key.items a.1.0.now.key.items) f (λ a r f' k. (ap is_lt (h a r f' k).0, (h a r f' k).1)))
-
 -- sorted pairs stand in order
 pub sorted-in-order : (o : KeyOrder) (xs ys : List EncodedPair) → HasDistinctBytes (map pair_of xs) → IsPermutation xs ys → IsSortedBy (λ x y. key_lt o x.key.items y.key.items) ys → map pair_of ys ≡ in_order o (map pair_of xs)
 sorted-in-order o xs ys d m s = sorted_is_in_order o (map pair_of xs) (map pair_of ys) d (IsPermutation-map pair_of xs ys m) (sorted_view pair_of o ys s)
