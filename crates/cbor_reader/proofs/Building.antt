@@ -22,7 +22,8 @@ use Rattle.cbor_item.proofs.Orders.{key_cmp_total}
 use Rattle.cbor_item.proofs.SortedPairs.{sorted_is_in_order, sorted_view}
 use Rattle.cbor_item.proofs.Told.{distinct_bytes}
 use Rattle.cbor_item.proofs.Views.{canonical-Array, canonical-Map}
-use Rattle.cbor_reader.specs.Encoding.{IsEncoding, AreEncoded, ArePairsEncoded, pair_of, IsJoined, IsWithPair}
+use Rattle.std.proofs.lemmas.List.{map-append}
+use Rattle.cbor_reader.specs.Encoding.{IsEncoding, AreEncoded, ArePairsEncoded, pair_of}
 use Rattle.cbor_reader.specs.declared.encoding.Encoding.{Encoding}
 use Rattle.cbor_reader.specs.declared.built_map.EncodedPair.{EncodedPair}
 use Rattle.cbor_reader.specs.declared.built_map.EncodedPairs.{EncodedPairs}
@@ -34,15 +35,8 @@ values-last o [] i = append-nil (canonical o (view i))
 values-last o (x ∷ is) i = ap (λ (u : List ℕ). canonical o (view x) ++ u) (values-last o is i) ∙ sym (append_assoc (canonical o (view x)) (canonical_all o (values_view is)) (canonical o (view i)))
 
 -- one member more
-pub array-more : (front back whole : Option Encoding) (is : List Item) (i : Item) → AreEncoded front (values_view is) → IsEncoding back (view i) → IsJoined front back whole → AreEncoded whole (values_view (is ++ i ∷ []))
-array-more front back None is i h g j = tt
-array-more (Some f) (Some b) (Some e) is i h g j =
-    j.2
-    ∙ ap (λ (u : List ℕ). u ++ b.bytes.items) (h ∙ ap (λ (o : KeyOrder). canonical_all o (values_view is)) (sym j.0))
-    ∙ ap (λ (u : List ℕ). canonical_all e.order (values_view is) ++ u) (g ∙ ap (λ (o : KeyOrder). canonical o (view i)) (sym j.1))
-    ∙ sym (values-last e.order is i)
-array-more None back (Some e) is i h g j = absurd j
-array-more (Some f) None (Some e) is i h g j = absurd j
+pub array-more : (o : KeyOrder) (old new bytes : List ℕ) (is : List Item) (i : Item) → old ≡ canonical_all o (values_view is) → new ≡ old ++ bytes → bytes ≡ canonical o (view i) → new ≡ canonical_all o (values_view (is ++ i ∷ []))
+array-more o old new bytes is i h grown e = grown ∙ (λ n. h n ++ e n) ∙ sym (values-last o is i)
 
 -- all behind their head
 pub array-headed : (v : Vec Item Global) (n : ℕ) (content whole : Encoding) → n ≡ length v.items → AreEncoded (Some content) (values_view v.items) → whole.order ≡ content.order
@@ -60,18 +54,10 @@ entries-last o [] i j = refl
 entries-last o (p ∷ ps) i j = ap (λ (u : List Pair). record { key = canonical o (view p.0); content = canonical o (view p.1) } ∷ u) (entries-last o ps i j)
 
 -- one pair more
-pub map-more : (pairs : Option EncodedPairs) (key content : Option Encoding) (whole : Option EncodedPairs) (ps : List (Item × Item)) (i j : Item) → ArePairsEncoded pairs (entries_view ps) → IsEncoding key (view i) → IsEncoding content (view j)
-    → IsWithPair pairs key content whole → ArePairsEncoded whole (entries_view (ps ++ (i, j) ∷ []))
-map-more pairs key content None ps i j h f g w = tt
-map-more (Some all) (Some k) (Some c) (Some e) ps i j h f g w =
-    w.3
-    ∙ ap (λ (u : List Pair). u ++ record { key = k.bytes.items; content = c.bytes.items } ∷ []) (h ∙ ap (λ (o : KeyOrder). canonical_entries o (entries_view ps)) (sym w.0))
-    ∙ ap (λ (u : List ℕ). canonical_entries e.order (entries_view ps) ++ record { key = u; content = c.bytes.items } ∷ []) (f ∙ ap (λ (o : KeyOrder). canonical o (view i)) (sym w.1))
-    ∙ ap (λ (u : List ℕ). canonical_entries e.order (entries_view ps) ++ record { key = canonical e.order (view i); content = u } ∷ []) (g ∙ ap (λ (o : KeyOrder). canonical o (view j)) (sym w.2))
-    ∙ sym (entries-last e.order ps i j)
-map-more None key content (Some e) ps i j h f g w = absurd w
-map-more (Some all) None content (Some e) ps i j h f g w = absurd w
-map-more (Some all) (Some k) None (Some e) ps i j h f g w = absurd w
+pub map-more : (o : KeyOrder) (old new : List EncodedPair) (p : EncodedPair) (ps : List (Item × Item)) (i j : Item) → map pair_of old ≡ canonical_entries o (entries_view ps) → new ≡ old ++ p ∷ []
+    → p.key.items ≡ canonical o (view i) → p.content.items ≡ canonical o (view j) → map pair_of new ≡ canonical_entries o (entries_view (ps ++ (i, j) ∷ []))
+map-more o old new p ps i j h grown e f =
+    ap (map pair_of) grown ∙ map-append pair_of old (p ∷ []) ∙ (λ n. h n ++ record { key = e n; content = f n } ∷ []) ∙ sym (entries-last o ps i j)
 
 -- the keys that were read have different bytes
 pub keys-differ : (all : EncodedPairs) (ps : List (Item × Item)) → ArePairsEncoded (Some all) (entries_view ps) → AreEntriesInRange (entries_view ps) → HasDistinctKeys (entries_view ps) → HasDistinctBytes (map pair_of all.pairs.items)

@@ -3,9 +3,10 @@
 ghost use Rattle.std.specs.Prelude.{◌≡◌, ◌++◌, ◌∷◌, [], IfOk};
 ghost use Rattle.cbor_head.specs.Value as value;
 ghost use Rattle.cbor_item.specs.View.{view, values_view};
+ghost use Rattle.cbor_reader.specs.MapKeys.{IsKeyValue};
 
 use crate::built_item::BuiltItem;
-use crate::encoding::{Encoding, joined, with_head};
+use crate::encoding::{Encoding, with_head};
 use cbor_head::{KeyOrder, Major};
 use cbor_item::Item;
 use std::alloc::{AllocError, Global};
@@ -54,13 +55,18 @@ impl BuiltArray {
     }
 
     // One member more.
-    pub(crate) fn push(&mut self, member: BuiltItem) -> Result<(), AllocError>
+    pub(crate) fn push(&mut self, alloc: Global, member: BuiltItem) -> Result<(), AllocError>
+        requires { IsKeyValue (view member) }
         ensures { IfOk result (λ _. self.new ≡ self.old ++ member ∷ []) }
     {
-        let (item, encoding) = member.into_parts();
-        let members = self.encoding.take();
+        let Some(mut members) = self.encoding.take() else {
+            self.items.push(member.into_item())?;
+            return Ok(());
+        };
+        let (item, bytes) = member.into_encoded(alloc, members.order)?;
+        members.bytes.extend_from_slice(&bytes)?;
         self.items.push(item)?;
-        self.encoding = joined(members, encoding)?;
+        self.encoding = Some(members);
         Ok(())
     }
 
@@ -73,6 +79,6 @@ impl BuiltArray {
             Some(members) => Some(with_head(alloc, Major::Array, items.len() as u64, members)?),
             None => None,
         };
-        Ok(BuiltItem::with_encoding(Item::Array(items), encoding))
+        BuiltItem::with_encoding(alloc, Item::Array(items), encoding)
     }
 }

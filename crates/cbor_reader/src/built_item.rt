@@ -13,12 +13,13 @@ use cbor_item::{Item, Tree, encode};
 use std::alloc::{AllocError, Global};
 use std::marker::Model;
 
-/// An item that was read. One that lies within a key has its canonical bytes with it: the key around
-/// it is put together from these, so that nothing is encoded anew for each key that it lies in.
+/// An item that was read. An array, map or tag that lies within a key has its canonical bytes with
+/// it: the key around it is put together from these, so that nothing is encoded anew for each key
+/// that it lies in.
 #[derive(Drop)]
 pub(crate) struct BuiltItem {
     item: Item,
-    encoding: Option<Encoding>,
+    encoding: Option<Box<Encoding>>,
 }
 
 impl Model for BuiltItem {
@@ -26,7 +27,7 @@ impl Model for BuiltItem {
     ghost use Rattle.cbor_item.specs.contracts.item.Item as e;
     ghost use Rattle.std.specs.Coded.{codes};
     ghost use Rattle.cbor_item.specs.View.{view as value_of};
-    ghost use Rattle.cbor_reader.specs.Encoding.{IsEncoding};
+    ghost use Rattle.cbor_reader.specs.Encoding.{IsBoxed};
 
     ghost Value = { Item };
 
@@ -34,38 +35,34 @@ impl Model for BuiltItem {
 
     ghost view = { λ b. b.item };
 
-    ghost invariant = { λ b. IsEncoding b.encoding (value_of b.item) };
+    ghost invariant = { λ b. IsBoxed b.encoding (value_of b.item) };
 }
 
 impl BuiltItem {
-    // An item, with its canonical bytes where they are to be kept, in this order.
-    pub(crate) fn new(
-        alloc: Global,
-        item: Item,
-        kept: Option<KeyOrder>,
-    ) -> Result<BuiltItem, AllocError>
-        requires { IsKeyValue (view item) }
-        ensures { IfOk result (λ built. built ≡ item) }
-    {
-        let Some(order) = kept else {
-            return Ok(BuiltItem {
-                item,
-                encoding: None,
-            });
-        };
-        let (item, bytes) = encoded(alloc, item, order)?;
-        Ok(BuiltItem {
-            item,
-            encoding: Some(Encoding { order, bytes }),
-        })
-    }
-
-    // An item with the bytes that were kept of it.
-    pub(crate) fn with_encoding(item: Item, encoding: Option<Encoding>) -> BuiltItem
-        requires { IsEncoding encoding (view item) }
+    // An item without kept bytes.
+    pub(crate) fn new(item: Item) -> BuiltItem
         ensures { result ≡ item }
     {
-        BuiltItem { item, encoding }
+        BuiltItem {
+            item,
+            encoding: None,
+        }
+    }
+
+    // An item with the bytes that are kept of it, if any.
+    pub(crate) fn with_encoding(
+        alloc: Global,
+        item: Item,
+        encoding: Option<Encoding>,
+    ) -> Result<BuiltItem, AllocError>
+        requires { IsEncoding encoding (view item) }
+        ensures { IfOk result (λ built. built ≡ item) }
+    {
+        let encoding = match encoding {
+            Some(encoding) => Some(Box::new(alloc, encoding)?),
+            None => None,
+        };
+        Ok(BuiltItem { item, encoding })
     }
 
     // The item.
@@ -73,14 +70,6 @@ impl BuiltItem {
         ensures { result ≡ self }
     {
         self.item
-    }
-
-    // The item, and the bytes that were kept of it.
-    pub(crate) fn into_parts(self) -> (Item, Option<Encoding>)
-        ensures item { result.0 ≡ self }
-        ensures encoding { IsEncoding result.1 (view self) }
-    {
-        (self.item, self.encoding)
     }
 
     // The item, and its canonical bytes: those that were kept, or else new ones.
@@ -93,28 +82,37 @@ impl BuiltItem {
         ensures item { IfOk result (λ parts. parts.0 ≡ self) }
         ensures bytes { IfOk result (λ parts. parts.1.items ≡ canonical order (view self)) }
     {
-        let (item, encoding) = self.into_parts();
+        let BuiltItem { item, encoding } = self;
         if let Some(kept) = encoding {
-            if kept.order == order {
-                return Ok((item, kept.bytes));
+            let Encoding {
+                order: kept_in,
+                bytes,
+            } = Box::into_inner(kept);
+            if kept_in == order {
+                return Ok((item, bytes));
             }
         }
         encoded(alloc, item, order)
     }
 
-    // The tag around this content.
-    pub(crate) fn tagged(self, alloc: Global, number: u64) -> Result<BuiltItem, AllocError>
+    // The tag around this content, with its bytes where these are to be kept, in this order.
+    pub(crate) fn tagged(
+        self,
+        alloc: Global,
+        number: u64,
+        kept: Option<KeyOrder>,
+    ) -> Result<BuiltItem, AllocError>
+        requires { IsKeyValue (view self) }
         ensures { IfOk result (λ built. view built ≡ value.tag number (view self)) }
     {
-        let (content, encoding) = self.into_parts();
-        let encoding = match encoding {
-            Some(content) => Some(with_head(alloc, Major::Tag, number, content)?),
-            None => None,
+        let Some(order) = kept else {
+            let content = Box::new(alloc, self.item)?;
+            return Ok(BuiltItem::new(Item::Tag(number, content)));
         };
-        Ok(BuiltItem {
-            item: Item::Tag(number, Box::new(alloc, content)?),
-            encoding,
-        })
+        let (content, bytes) = self.into_encoded(alloc, order)?;
+        let encoding = with_head(alloc, Major::Tag, number, Encoding { order, bytes })?;
+        let content = Box::new(alloc, content)?;
+        BuiltItem::with_encoding(alloc, Item::Tag(number, content), Some(encoding))
     }
 }
 

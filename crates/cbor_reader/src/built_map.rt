@@ -8,7 +8,8 @@ ghost use Rattle.cbor_head.specs.Value.{AreEntriesInRange, HasDistinctKeys};
 ghost use Rattle.cbor_item.specs.Encoded.{joined};
 ghost use Rattle.cbor_item.specs.Pairs.{HasDistinctBytes};
 ghost use Rattle.cbor_item.specs.View.{view, entries_view};
-ghost use Rattle.cbor_reader.specs.Encoding.{pair_of, ArePairsEncoded, IsWithPair};
+ghost use Rattle.cbor_reader.specs.Encoding.{pair_of};
+ghost use Rattle.cbor_reader.specs.MapKeys.{IsKeyValue};
 
 use crate::built_item::BuiltItem;
 use crate::encoding::{Encoding, with_head};
@@ -74,14 +75,28 @@ impl BuiltMap {
     }
 
     // One pair more.
-    pub(crate) fn push(&mut self, key: BuiltItem, content: BuiltItem) -> Result<(), AllocError>
+    pub(crate) fn push(
+        &mut self,
+        alloc: Global,
+        key: BuiltItem,
+        content: BuiltItem,
+    ) -> Result<(), AllocError>
+        requires key { IsKeyValue (view key) }
+        requires content { IsKeyValue (view content) }
         ensures { IfOk result (λ _. self.new ≡ self.old ++ (key, content) ∷ []) }
     {
-        let (key, key_bytes) = key.into_parts();
-        let (content, content_bytes) = content.into_parts();
-        let pairs = self.encoding.take();
+        let Some(mut encoded) = self.encoding.take() else {
+            self.pairs.push((key.into_item(), content.into_item()))?;
+            return Ok(());
+        };
+        let (key, key_bytes) = key.into_encoded(alloc, encoded.order)?;
+        let (content, content_bytes) = content.into_encoded(alloc, encoded.order)?;
+        encoded.pairs.push(EncodedPair {
+            key: key_bytes,
+            content: content_bytes,
+        })?;
         self.pairs.push((key, content))?;
-        self.encoding = with_pair(pairs, key_bytes, content_bytes)?;
+        self.encoding = Some(encoded);
         Ok(())
     }
 
@@ -99,29 +114,8 @@ impl BuiltMap {
             }
             None => None,
         };
-        Ok(BuiltItem::with_encoding(Item::Map(pairs), encoding))
+        BuiltItem::with_encoding(alloc, Item::Map(pairs), encoding)
     }
-}
-
-// One pair more, where all are kept.
-fn with_pair(
-    pairs: Option<EncodedPairs>,
-    key: Option<Encoding>,
-    content: Option<Encoding>,
-) -> Result<Option<EncodedPairs>, AllocError>
-    ensures { IfOk result (IsWithPair pairs key content) }
-{
-    let (Some(mut all), Some(key), Some(content)) = (pairs, key, content) else {
-        return Ok(None);
-    };
-    if all.order != key.order || all.order != content.order {
-        return Ok(None);
-    }
-    all.pairs.push(EncodedPair {
-        key: key.bytes,
-        content: content.bytes,
-    })?;
-    Ok(Some(all))
 }
 
 // The pairs in the order of their keys, one after the other.

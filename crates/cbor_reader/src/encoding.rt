@@ -3,7 +3,6 @@
 ghost use Rattle.std.specs.Prelude.{◌≡◌, ◌≢◌, ◌++◌, IfOk};
 ghost use Rattle.cbor_head.specs.Head.{shortest_head};
 ghost use Rattle.cbor_head.specs.declared.major.Major.TheVariants.{Simple};
-ghost use Rattle.cbor_reader.specs.Encoding.{IsJoined};
 
 use cbor_head::{Head, KeyOrder, Major};
 use std::alloc::{AllocError, Global};
@@ -49,21 +48,4 @@ pub(crate) fn with_head(
         order: content.order,
         bytes,
     })
-}
-
-// The one and then the other, where both are kept.
-pub(crate) fn joined(
-    front: Option<Encoding>,
-    back: Option<Encoding>,
-) -> Result<Option<Encoding>, AllocError>
-    ensures { IfOk result (IsJoined front back) }
-{
-    let (Some(mut front), Some(back)) = (front, back) else {
-        return Ok(None);
-    };
-    if front.order != back.order {
-        return Ok(None);
-    }
-    front.bytes.extend_from_slice(&back.bytes)?;
-    Ok(Some(front))
 }

@@ -58,7 +58,7 @@ impl Keys {
             None => None,
         };
         let reason = self.insert_bytes(bytes)?;
-        Ok((reason, BuiltItem::with_encoding(item, encoding)))
+        Ok((reason, BuiltItem::with_encoding(alloc, item, encoding)?))
     }
 
     // The order of the canonical bytes that are kept.

@@ -57,7 +57,7 @@ pub(crate) fn read_behind<R: Read>(
         EventKind::Map(count) => read_map(alloc, events, reader, rules, kept, count),
         EventKind::Tag(number) => read_tag(alloc, events, reader, rules, kept, number),
         kind => match read_leaf(alloc, events, reader, rules, kind) {
-            Ok(item) => or_no_memory(events, BuiltItem::new(alloc, item, kept)),
+            Ok(item) => Ok(BuiltItem::new(item)),
             Err(refusal) => Err(refusal),
         },
     }
@@ -113,7 +113,7 @@ fn read_array<R: Read>(
     let mut left = count;
     'members: while !is_none_left(left) {
         match read_member(alloc, events, reader, rules, kept) {
-            Ok(Some(item)) => match items.push(item) {
+            Ok(Some(item)) => match items.push(alloc, item) {
                 Ok(()) => {}
                 Err(_) => return Err(no_memory(events)),
             },
@@ -174,7 +174,7 @@ fn read_map<R: Read>(
     'pairs: while !is_none_left(left) {
         match read_key(alloc, events, reader, rules, kept, &mut keys) {
             Ok(Some(key)) => match read_item(alloc, events, reader, rules, kept) {
-                Ok(content) => match pairs.push(key, content) {
+                Ok(content) => match pairs.push(alloc, key, content) {
                     Ok(()) => {}
                     Err(_) => return Err(no_memory(events)),
                 },
@@ -219,7 +219,7 @@ fn read_tag<R: Read>(
     ensures { AnswersItem (rules_of rules) events.old (kinds.Tag number) (R.remaining reader.old) (R.remaining reader.new) events.new result }
 {
     match read_item(alloc, events, reader, rules, kept) {
-        Ok(content) => or_no_memory(events, content.tagged(alloc, number)),
+        Ok(content) => or_no_memory(events, content.tagged(alloc, number, kept)),
         Err(refusal) => Err(refusal),
     }
 }

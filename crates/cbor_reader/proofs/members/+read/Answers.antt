@@ -66,15 +66,8 @@ read_member-returns-in-Err g t c = λ b fs t' a. stops-at-item (rules_of c.args.
 
 -- ---- by its kind
 
-pub read_behind-new-requires : goal.read_behind-new-requires
-read_behind-new-requires g t c =
-    let s = c.requires in
-    key-value c.args.rules s.b s.fs s.t s.x _ _ c.read_leaf.new.events _ (c.in-Ok.ensures s.b s.fs s.t s.x s.w s.begun)
-
 pub read_behind-returns-in-Ok : goal.read_behind-returns-in-Ok
-read_behind-returns-in-Ok g t c = λ b fs t' x w i.
-    answers-built (rules_of c.args.rules) b fs t' x _ _ c.read_leaf.new.events _ (c.in-Ok.ensures b fs t' x w i) c.new.result c.or_no_memory.result
-    (IfOk-weaker c.new.result _ _ (λ j e. ap view e) c.new.ensures) c.or_no_memory.ensures
+read_behind-returns-in-Ok g t c = λ b fs t' x w i. rw c.new.ensures (c.in-Ok.ensures b fs t' x w i)
 
 pub read_behind-returns-in-Array : goal.read_behind-returns-in-Array
 read_behind-returns-in-Array g t c = λ b fs t' x w i. c.read_array.ensures b fs t' x w (subst (λ (k : EventKind). IsBegun (rules_of c.args.rules) b fs t' x c.args.events.now w k) c.in-Array.is i)
@@ -127,6 +120,17 @@ read_array-returns-in-Err g t c = λ b fs t' x w i.
     let y = t' ++ array_bytes w (count_of c.args.count) h.done in
     stops-member (rules_of c.args.rules) b fs t' x w (count_of c.args.count) c.members.left c.members.items _ _ c.members.events h _ c.in-Err.refusal some (c.in-Err.ensures b gs y due)
 
+pub read_array-push-requires : goal.read_array-push-requires
+read_array-push-requires g t c =
+    let s = c.requires in
+    let gs = member_frames c.members.left s.fs in
+    let h = c.members.invariant s.b s.fs s.t s.x s.w s.begun in
+    let some = some-left c.is_none_left.result c.members.left c.is_none_left.ensures c.members-test.true in
+    let due = member-due (rules_of c.args.rules) s.b s.fs s.t s.x s.w (count_of c.args.count) c.members.left c.members.items _ _ c.members.events h some in
+    let y = s.t ++ array_bytes s.w (count_of c.args.count) h.done in
+    let m = rw c.in-Ok-Some.field-0-is at (c.in-Ok-Some.ensures s.b gs y due) in
+    key-value c.args.rules s.b gs y [] _ _ c.read_member.new.events _ m
+
 pub read_array-members-smaller : goal.read_array-members-smaller
 read_array-members-smaller g t c =
     let s = c.requires in
@@ -160,6 +164,12 @@ pub read_tag-read_item-requires : goal.read_tag-read_item-requires
 read_tag-read_item-requires g t c = λ κs lives.
     let s = c.requires in
     (omega (arith, c.decreases), (lives, record { b = s.b; fs = counted 0 ∷ s.fs; t = s.t ++ s.x; at = tag-due (rules_of c.args.rules) s.b s.fs s.t s.x c.args.events.now s.w c.args.number (g.R.Read.remaining c.args.reader.now) s.begun; no_break = λ next h. h }))
+
+pub read_tag-tagged-requires : goal.read_tag-tagged-requires
+read_tag-tagged-requires g t c =
+    let s = c.requires in
+    key-value c.args.rules s.b (counted 0 ∷ s.fs) (s.t ++ s.x) [] _ _ c.read_item.new.events _
+    (c.in-Ok.ensures s.b (counted 0 ∷ s.fs) (s.t ++ s.x) (tag-due (rules_of c.args.rules) s.b s.fs s.t s.x c.args.events.now s.w c.args.number (g.R.Read.remaining c.args.reader.now) s.begun))
 
 pub read_tag-returns-in-Ok : goal.read_tag-returns-in-Ok
 read_tag-returns-in-Ok g t c = λ b fs t' x w i.
@@ -285,6 +295,31 @@ read_map-returns-in-Err g t c = λ b fs t' x w i.
       | inl z ↦ stops-key (rules_of c.args.rules) b fs t' x w (count_of c.args.count) c.pairs.left c.pairs.pairs _ _ c.pairs.events h _ c.in-Err.refusal some z
       | inr z ↦ stops-refused (rules_of c.args.rules) b fs t' x w (count_of c.args.count) c.pairs.left c.pairs.pairs _ _ c.pairs.events h some _ c.in-Err.refusal z
     ]
+
+pub read_map-push-requires-clause-key : goal.read_map-push-requires-clause-key
+read_map-push-requires-clause-key g t c =
+    let s = c.requires in
+    let gs = key_frames c.pairs.left s.fs in
+    let inv = c.pairs.invariant s.b s.fs s.t s.x s.w s.begun in
+    let h = inv.0 in
+    let some = some-left c.is_none_left.result c.pairs.left c.is_none_left.ensures c.pairs-test.true in
+    let due = key-due (rules_of c.args.rules) s.b s.fs s.t s.x s.w (count_of c.args.count) c.pairs.left c.pairs.pairs _ _ c.pairs.events h some in
+    let y = s.t ++ map_bytes s.w (count_of c.args.count) h.done in
+    let k = rw c.in-Ok-Some.field-0-is at (c.in-Ok-Some.ensures s.b gs y (keys_onto [] h.done) due inv.1) in
+    key-value c.args.rules s.b gs y [] _ _ c.read_key.new.events _ k.reads
+
+pub read_map-push-requires-clause-content : goal.read_map-push-requires-clause-content
+read_map-push-requires-clause-content g t c =
+    let s = c.requires in
+    let gs = key_frames c.pairs.left s.fs in
+    let inv = c.pairs.invariant s.b s.fs s.t s.x s.w s.begun in
+    let h = inv.0 in
+    let some = some-left c.is_none_left.result c.pairs.left c.is_none_left.ensures c.pairs-test.true in
+    let due = key-due (rules_of c.args.rules) s.b s.fs s.t s.x s.w (count_of c.args.count) c.pairs.left c.pairs.pairs _ _ c.pairs.events h some in
+    let y = s.t ++ map_bytes s.w (count_of c.args.count) h.done in
+    let k = rw c.in-Ok-Some.field-0-is at (c.in-Ok-Some.ensures s.b gs y (keys_onto [] h.done) due inv.1) in
+    let at = content-due (rules_of c.args.rules) s.b s.fs s.t s.x s.w (count_of c.args.count) c.pairs.left c.pairs.pairs _ _ c.pairs.events h _ c.read_key.new.events _ some k.reads k.fresh in
+    key-value c.args.rules s.b (content_frames c.pairs.left s.fs) _ [] _ _ c.read_item.new.events _ (c.in-Ok.ensures s.b (content_frames c.pairs.left s.fs) _ at)
 
 pub read_map-pairs-smaller : goal.read_map-pairs-smaller
 read_map-pairs-smaller g t c =
