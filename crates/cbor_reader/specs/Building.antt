@@ -2,17 +2,8 @@
 use Rattle.std.specs.Prelude.{◌≡◌, Result, Ok, Err, MatchResult}
 use Rattle.cbor_head.specs.declared.reason.Refusal.{Refusal}
 use Rattle.cbor_events.specs.ItemEvents.{ItemEventsView}
-use Rattle.cbor_events.specs.declared.event.EventKind.{EventKind}
-use Rattle.cbor_events.specs.declared.event.EventKind.TheVariants.{Array, Map, Tag}
 use Rattle.cbor_item.specs.declared.item.Item.{Item}
 use Rattle.cbor_reader.specs.Reading.{IsMemory}
-
--- no other items lie in it
-abbrev pub IsLeaf : EventKind → Type 0
-IsLeaf (Array count) = ⊥
-IsLeaf (Map count) = ⊥
-IsLeaf (Tag number) = ⊥
-IsLeaf _ = Unit {0}
 
 -- memory is refused behind what was taken
 pub record IsNoMemory (e : ItemEventsView) (f : Refusal) : Type 0 where

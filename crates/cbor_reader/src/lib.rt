@@ -9,7 +9,6 @@ mod encoding;
 mod front;
 mod key_set;
 pub mod laws;
-mod leaf;
 mod map_keys;
 mod members;
 mod next_head;

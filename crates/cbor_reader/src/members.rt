@@ -11,13 +11,14 @@ ghost use Rattle.cbor_reader.specs.Rules.{rules_of};
 use crate::built_array::BuiltArray;
 use crate::built_item::BuiltItem;
 use crate::built_map::BuiltMap;
-use crate::leaf::read_leaf;
 use crate::map_keys::Keys;
 use crate::next_head::next_head;
 use crate::payload::no_memory;
 use crate::rules::Rules;
+use crate::strings::{read_bytes, read_text};
 use cbor_events::{EventKind, ItemEvents};
 use cbor_head::{KeyOrder, Refusal};
+use cbor_item::Item;
 use std::alloc::{AllocError, Global};
 use std::io::Read;
 
@@ -53,13 +54,15 @@ pub(crate) fn read_behind<R: Read>(
     ensures { AnswersItem (rules_of rules) events.old kind (R.remaining reader.old) (R.remaining reader.new) events.new result }
 {
     match kind {
+        EventKind::Unsigned(number) => Ok(BuiltItem::new(Item::Unsigned(number))),
+        EventKind::Negative(number) => Ok(BuiltItem::new(Item::Negative(number))),
+        EventKind::Simple(simple) => Ok(BuiltItem::new(Item::Simple(simple))),
+        EventKind::Bytes(length) => read_bytes(alloc, events, reader, rules, length),
+        EventKind::Text(length) => read_text(alloc, events, reader, rules, length),
         EventKind::Array(count) => read_array(alloc, events, reader, rules, kept, count),
         EventKind::Map(count) => read_map(alloc, events, reader, rules, kept, count),
         EventKind::Tag(number) => read_tag(alloc, events, reader, rules, kept, number),
-        kind => match read_leaf(alloc, events, reader, rules, kind) {
-            Ok(item) => Ok(BuiltItem::new(item)),
-            Err(refusal) => Err(refusal),
-        },
+        _ => unreachable!(),
     }
 }
 

@@ -4,11 +4,12 @@ use Rattle.cbor_events.specs.Automaton.{at_item, counted}
 use Rattle.cbor_events.specs.State.{count_of}
 use Rattle.cbor_events.specs.declared.event.EventKind.{EventKind}
 use Rattle.cbor_item.specs.View.{view}
+use Rattle.cbor_item.proofs.Views.{view-Unsigned, view-Negative, view-Simple}
 use Rattle.cbor_reader.specs.Reading.{IsBegun}
 use Rattle.cbor_reader.specs.Rules.{rules_of}
 use Rattle.cbor_reader.proofs.Composition.{array_bytes}
-use Rattle.cbor_reader.proofs.Items.{stops-at-item, begun-by, has-begun, no-end, head-farther, reads-next, stops-next, answers-next, reads-break}
-use Rattle.cbor_reader.proofs.Scalars.{tag-due, reads-tag, stops-tag}
+use Rattle.cbor_reader.proofs.Items.{stops-at-item, begun-by, has-begun, no-end, head-farther, reads-next, stops-next, answers-next, reads-break, other-kinds}
+use Rattle.cbor_reader.proofs.Scalars.{reads-unsigned, reads-negative, reads-simple, tag-due, reads-tag, stops-tag}
 use Rattle.cbor_reader.proofs.Arrays.{member_frames, starts-array, member-due, array-next, stops-member, array-whole, array-ended, array-memory, member-farther, no-farther, some-left}
 use Rattle.cbor_head.specs.Verdict.{refusal}
 use Rattle.cbor_reader.specs.Frame.{keys_onto}
@@ -66,8 +67,31 @@ read_member-returns-in-Err g t c = λ b fs t' a. stops-at-item (rules_of c.args.
 
 -- ---- by its kind
 
-pub read_behind-returns-in-Ok : goal.read_behind-returns-in-Ok
-read_behind-returns-in-Ok g t c = λ b fs t' x w i. rw c.new.ensures (c.in-Ok.ensures b fs t' x w i)
+pub read_behind-unreachable-requires : goal.read_behind-unreachable-requires
+read_behind-unreachable-requires g t c =
+    let s = c.requires in
+    s.begun.item (other-kinds s.b.depth s.fs s.w c.args.kind s.x s.begun.next s.begun.taking c.in_default.not-Unsigned c.in_default.not-Negative c.in_default.not-Simple c.in_default.not-Bytes c.in_default.not-Text c.in_default.not-Array c.in_default.not-Map c.in_default.not-Tag)
+
+pub read_behind-returns-in-Unsigned : goal.read_behind-returns-in-Unsigned
+read_behind-returns-in-Unsigned g t c = λ b fs t' x w i.
+    let j = subst (λ (k : EventKind). IsBegun (rules_of c.args.rules) b fs t' x c.args.events.now w k) c.in-Unsigned.is i in
+    rw (c.new.ensures, view-Unsigned c.in-Unsigned.number) (reads-unsigned (rules_of c.args.rules) b fs t' x c.args.events.now w c.in-Unsigned.number _ j)
+
+pub read_behind-returns-in-Negative : goal.read_behind-returns-in-Negative
+read_behind-returns-in-Negative g t c = λ b fs t' x w i.
+    let j = subst (λ (k : EventKind). IsBegun (rules_of c.args.rules) b fs t' x c.args.events.now w k) c.in-Negative.is i in
+    rw (c.new-in-Negative.ensures, view-Negative c.in-Negative.number) (reads-negative (rules_of c.args.rules) b fs t' x c.args.events.now w c.in-Negative.number _ j)
+
+pub read_behind-returns-in-Simple : goal.read_behind-returns-in-Simple
+read_behind-returns-in-Simple g t c = λ b fs t' x w i.
+    let j = subst (λ (k : EventKind). IsBegun (rules_of c.args.rules) b fs t' x c.args.events.now w k) c.in-Simple.is i in
+    rw (c.new-in-Simple.ensures, view-Simple c.in-Simple.simple) (reads-simple (rules_of c.args.rules) b fs t' x c.args.events.now w c.in-Simple.simple _ j)
+
+pub read_behind-returns-in-Bytes : goal.read_behind-returns-in-Bytes
+read_behind-returns-in-Bytes g t c = λ b fs t' x w i. c.read_bytes.ensures b fs t' x w (subst (λ (k : EventKind). IsBegun (rules_of c.args.rules) b fs t' x c.args.events.now w k) c.in-Bytes.is i)
+
+pub read_behind-returns-in-Text : goal.read_behind-returns-in-Text
+read_behind-returns-in-Text g t c = λ b fs t' x w i. c.read_text.ensures b fs t' x w (subst (λ (k : EventKind). IsBegun (rules_of c.args.rules) b fs t' x c.args.events.now w k) c.in-Text.is i)
 
 pub read_behind-returns-in-Array : goal.read_behind-returns-in-Array
 read_behind-returns-in-Array g t c = λ b fs t' x w i. c.read_array.ensures b fs t' x w (subst (λ (k : EventKind). IsBegun (rules_of c.args.rules) b fs t' x c.args.events.now w k) c.in-Array.is i)
