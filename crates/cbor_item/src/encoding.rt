@@ -23,16 +23,27 @@ pub fn encode(alloc: Global, tree: &Tree, order: KeyOrder) -> Result<Vec<u8>, Re
     ensures bytes { IfOk result (λ bytes. bytes.items ≡ canonical order (view tree.now)) }
     ensures refused { IfErr result (λ refusal. refusal ≡ no_memory) }
 {
-    let mut bytes = Vec::new(alloc);
-    match encode_into(alloc, tree.item(), order, &mut bytes) {
-        // A tree is valid, so the answer is true.
-        Ok(_) => Ok(bytes),
+    match encode_valid(alloc, tree.item(), order) {
+        Ok(bytes) => Ok(bytes),
         Err(_) => Err(Refusal {
             reason: Reason::Memory,
             place: 0,
             read: 0,
         }),
     }
+}
+
+/// The canonical bytes of an item that is known to be valid: for a reader that has compared the
+/// keys.
+pub fn encode_valid(alloc: Global, item: &Item, order: KeyOrder) -> Result<Vec<u8>, AllocError>
+    requires in_range { IsInRange (view item.now) }
+    requires valid { IsValid (view item.now) }
+    ensures { IfOk result (λ bytes. bytes.items ≡ canonical order (view item.now)) }
+{
+    let mut bytes = Vec::new(alloc);
+    // It answers true of a valid item.
+    let _ = encode_into(alloc, item, order, &mut bytes)?;
+    Ok(bytes)
 }
 
 // Whether no map in the item, at any depth, has two equal keys: that texts are UTF-8 their type

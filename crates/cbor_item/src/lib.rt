@@ -27,7 +27,7 @@ mod write;
 pub use cbor_head::KeyOrder;
 pub use compare::same;
 pub use encoded_key::compare_keys;
-pub use encoding::encode;
+pub use encoding::{encode, encode_valid};
 pub use item::Item;
 pub use tree::Tree;
 pub use write::encode_to;

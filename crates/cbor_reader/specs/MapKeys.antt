@@ -84,7 +84,7 @@ abbrev pub order_of : Keys → KeyOrder
 order_of (Distinct set) = Bytewise
 order_of (Rising o last) = o
 
--- The key is given back, and inserted.
-abbrev pub AnswersKey : {E : Type 0} → Keys → Keys → Item → Result (Option Reason × Item) E → Type 0
+-- The key is inserted.
+abbrev pub AnswersKey : {E : Type 0} → Keys → Keys → Item → Result (Option Reason) E → Type 0
 AnswersKey old new key result = (r : complaint.Rules) (ks : List Spelling) (k : Spelling) → HasKeys r old ks → IsKey r k (view key)
-    → IfOk result (λ answer. IsInserted r ks k new answer.0)
+    → IfOk result (λ reason. IsInserted r ks k new reason)

@@ -9,7 +9,7 @@ ghost use Rattle.cbor_reader.specs.MapKeys.{IsKeyValue};
 
 use crate::encoding::{Encoding, with_head};
 use cbor_head::{KeyOrder, Major};
-use cbor_item::{Item, Tree, encode};
+use cbor_item::{Item, encode_valid};
 use std::alloc::{AllocError, Global};
 use std::marker::Model;
 
@@ -72,6 +72,19 @@ impl BuiltItem {
         self.item
     }
 
+    // The canonical bytes: a copy of those that were kept, or else new ones.
+    pub(crate) fn encoded(&self, alloc: Global, order: KeyOrder) -> Result<Vec<u8>, AllocError>
+        requires { IsKeyValue (view self.now) }
+        ensures { IfOk result (λ bytes. bytes.items ≡ canonical order (view self.now)) }
+    {
+        if let Some(kept) = &self.encoding {
+            if kept.order == order {
+                return copied(alloc, &kept.bytes);
+            }
+        }
+        encode_valid(alloc, &self.item, order)
+    }
+
     // The item, and its canonical bytes: those that were kept, or else new ones.
     pub(crate) fn into_encoded(
         self,
@@ -92,7 +105,8 @@ impl BuiltItem {
                 return Ok((item, bytes));
             }
         }
-        encoded(alloc, item, order)
+        let bytes = encode_valid(alloc, &item, order)?;
+        Ok((item, bytes))
     }
 
     // The tag around this content, with its bytes where these are to be kept, in this order.
@@ -116,15 +130,10 @@ impl BuiltItem {
     }
 }
 
-// The item, and its canonical bytes.
-fn encoded(alloc: Global, item: Item, order: KeyOrder) -> Result<(Item, Vec<u8>), AllocError>
-    requires { IsKeyValue (view item) }
-    ensures item { IfOk result (λ parts. parts.0 ≡ item) }
-    ensures bytes { IfOk result (λ parts. parts.1.items ≡ canonical order (view item)) }
+fn copied(alloc: Global, bytes: &[u8]) -> Result<Vec<u8>, AllocError>
+    ensures { IfOk result (λ copy. copy.items ≡ bytes.now) }
 {
-    let tree = Tree::from_valid(item);
-    match encode(alloc, &tree, order) {
-        Ok(bytes) => Ok((tree.into_item(), bytes)),
-        Err(_) => Err(AllocError),
-    }
+    let mut copy = Vec::new(alloc);
+    copy.extend_from_slice(bytes)?;
+    Ok(copy)
 }

@@ -14,22 +14,6 @@ pub(crate) struct Encoding {
     pub(crate) bytes: Vec<u8>,
 }
 
-impl Encoding {
-    // A copy of these bytes.
-    pub(crate) fn copied(
-        alloc: Global,
-        order: KeyOrder,
-        bytes: &[u8],
-    ) -> Result<Encoding, AllocError>
-        ensures order { IfOk result (λ copy. copy.order ≡ order) }
-        ensures bytes { IfOk result (λ copy. copy.bytes.items ≡ bytes.now) }
-    {
-        let mut copy = Vec::new(alloc);
-        copy.extend_from_slice(bytes)?;
-        Ok(Encoding { order, bytes: copy })
-    }
-}
-
 // The same behind a head.
 pub(crate) fn with_head(
     alloc: Global,

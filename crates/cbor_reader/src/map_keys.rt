@@ -10,7 +10,6 @@ ghost use Rattle.cbor_reader.specs.MapKeys.{HasKeys, IsKey, IsKeyValue, IsInsert
 ghost use Rattle.cbor_reader.specs.Rules.{rules_of};
 
 use crate::built_item::BuiltItem;
-use crate::encoding::Encoding;
 use crate::key_set::KeySet;
 use crate::rules::Rules;
 use cbor_head::{KeyOrder, Reason};
@@ -39,26 +38,17 @@ impl Keys {
     }
 
     // Puts a key behind the others, unless the rules have something against it, which is answered.
-    // Behind n keys it takes some log n comparisons by the plain rules, and one by the strict. The key
-    // has its bytes with it where some are to be kept of the map.
+    // Behind n keys it takes some log n comparisons by the plain rules, and one by the strict.
     pub(crate) fn insert(
         &mut self,
         alloc: Global,
-        key: BuiltItem,
-        kept: Option<KeyOrder>,
-    ) -> Result<(Option<Reason>, BuiltItem), AllocError>
-        requires { IsKeyValue (view key) }
-        ensures key { IfOk result (λ answer. answer.1 ≡ key) }
-        ensures answers { AnswersKey self.old self.new key result }
+        key: &BuiltItem,
+    ) -> Result<Option<Reason>, AllocError>
+        requires { IsKeyValue (view key.now) }
+        ensures { AnswersKey self.old self.new key.now result }
     {
-        let order = self.order();
-        let (item, bytes) = key.into_encoded(alloc, order)?;
-        let encoding = match kept {
-            Some(_) => Some(Encoding::copied(alloc, order, &bytes)?),
-            None => None,
-        };
-        let reason = self.insert_bytes(bytes)?;
-        Ok((reason, BuiltItem::with_encoding(alloc, item, encoding)?))
+        let bytes = key.encoded(alloc, self.order())?;
+        self.insert_bytes(bytes)
     }
 
     // The order of the canonical bytes that are kept.

@@ -135,7 +135,6 @@ fn read_key<R: Read>(
     events: &mut ItemEvents,
     reader: &mut R,
     rules: Rules,
-    kept: Option<KeyOrder>,
     keys: &mut Keys,
 ) -> Result<Option<BuiltItem>, Refusal>
     requires { IsKeyDue (rules_of rules) events.old keys.old }
@@ -143,15 +142,13 @@ fn read_key<R: Read>(
 {
     let place = events.taken();
     match read_member(alloc, events, reader, rules, Some(keys.order())) {
-        Ok(Some(key)) => match keys.insert(alloc, key, kept) {
-            Ok((against, key)) => match against {
-                None => Ok(Some(key)),
-                Some(reason) => Err(Refusal {
-                    reason,
-                    place,
-                    read: events.taken(),
-                }),
-            },
+        Ok(Some(key)) => match keys.insert(alloc, &key) {
+            Ok(None) => Ok(Some(key)),
+            Ok(Some(reason)) => Err(Refusal {
+                reason,
+                place,
+                read: events.taken(),
+            }),
             Err(_) => Err(no_memory(events)),
         },
         Ok(None) => Ok(None),
@@ -175,7 +172,7 @@ fn read_map<R: Read>(
     let mut keys = Keys::new(alloc, rules);
     let mut left = count;
     'pairs: while !is_none_left(left) {
-        match read_key(alloc, events, reader, rules, kept, &mut keys) {
+        match read_key(alloc, events, reader, rules, &mut keys) {
             Ok(Some(key)) => match read_item(alloc, events, reader, rules, kept) {
                 Ok(content) => match pairs.push(alloc, key, content) {
                     Ok(()) => {}

@@ -220,18 +220,19 @@ read_key-insert-requires g t c =
     let m = rw c.in-Ok-Some.field-0-is at (c.in-Ok-Some.ensures d.b d.fs d.t d.at) in
     key-value c.args.rules d.b d.fs d.t [] _ _ c.read_member.new.events _ m
 
-pub read_key-returns-in-None : goal.read_key-returns-in-None
-read_key-returns-in-None g t c = λ b fs t' ks a has.
+pub read_key-returns-in-Ok-None-insert : goal.read_key-returns-in-Ok-None-insert
+read_key-returns-in-Ok-None-insert g t c = λ b fs t' ks a has.
     let m = rw c.in-Ok-Some.field-0-is at (c.in-Ok-Some.ensures b fs t' a) in
-    rw c.in-Ok.ensures.key (keeps-key (rules_of c.args.rules) b fs t' _ _ c.read_member.new.events _ m ks c.insert.new.self c.in-Ok.against c.in-None.is
-    (c.in-Ok.ensures.answers (rules_of c.args.rules) ks m.item has (is-key (rules_of c.args.rules) b fs t' [] _ _ c.read_member.new.events _ m)))
+    keeps-key (rules_of c.args.rules) b fs t' _ _ c.read_member.new.events _ m ks c.insert.new.self c.in-Ok-None-insert.field-0 c.in-Ok-None-insert.field-0-is
+    (c.in-Ok-None-insert.ensures (rules_of c.args.rules) ks m.item has (is-key (rules_of c.args.rules) b fs t' [] _ _ c.read_member.new.events _ m))
 
-pub read_key-returns-in-Some : goal.read_key-returns-in-Some
-read_key-returns-in-Some g t c = λ b fs t' ks a has.
+pub read_key-returns-in-Ok-Some-insert : goal.read_key-returns-in-Ok-Some-insert
+read_key-returns-in-Ok-Some-insert g t c = λ b fs t' ks a has.
     let m = rw c.in-Ok-Some.field-0-is at (c.in-Ok-Some.ensures b fs t' a) in
-    inr (refuses-key (rules_of c.args.rules) b fs t' _ _ c.read_member.new.events _ m ks c.insert.new.self c.in-Ok.against c.in-Some.reason _ c.in-Some.is
-    (c.in-Ok.ensures.answers (rules_of c.args.rules) ks m.item has (is-key (rules_of c.args.rules) b fs t' [] _ _ c.read_member.new.events _ m))
-    (ap (λ n. refusal c.in-Some.reason n c.taken.result) (c.taken-place.ensures.taken ∙ a.stands.stands.taken) ∙ ap (refusal c.in-Some.reason (length t')) c.taken.ensures.taken))
+    let reason = c.in-Ok-Some-insert.reason in
+    inr (refuses-key (rules_of c.args.rules) b fs t' _ _ c.read_member.new.events _ m ks c.insert.new.self c.in-Ok-Some-insert.field-0 reason _ c.in-Ok-Some-insert.field-0-is
+    (c.in-Ok-Some-insert.ensures (rules_of c.args.rules) ks m.item has (is-key (rules_of c.args.rules) b fs t' [] _ _ c.read_member.new.events _ m))
+    (ap (λ n. refusal reason n c.taken.result) (c.taken-place.ensures.taken ∙ a.stands.stands.taken) ∙ ap (refusal reason (length t')) c.taken.ensures.taken))
 
 pub read_key-returns-in-Err-insert : goal.read_key-returns-in-Err-insert
 read_key-returns-in-Err-insert g t c = λ b fs t' ks a has.
