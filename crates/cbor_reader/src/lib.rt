@@ -18,6 +18,8 @@ mod strict_reader;
 mod strings;
 #[cfg(test)]
 mod tests;
+#[cfg(test)]
+mod tests_keys;
 mod tree_reader;
 
 pub use canonicaliser::canonicalise;

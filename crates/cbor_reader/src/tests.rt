@@ -25,7 +25,7 @@ impl Read for Parts<'_> {
     }
 }
 
-fn limits<R: Abort>(rt: &R, depth: u16, bytes: u64) -> Limits {
+pub(crate) fn limits<R: Abort>(rt: &R, depth: u16, bytes: u64) -> Limits {
     Limits::new(depth, bytes).expect(rt, "limits")
 }
 
