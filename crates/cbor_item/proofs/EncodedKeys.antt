@@ -1,18 +1,10 @@
 -- The encoded keys of a map, as the encoder sorts them.
-use Rattle.std.proofs.Common.{◌≡◌, ◌↔◌, zero, suc, ℕ, ◌+◌, ◌<◌, List, [], ◌∷◌, ◌++◌, length, drop, get_or, map, refl, sym, ap, ◌∙◌, subst, arith, append_assoc, Contains, IsPermutation, IsSortedBy, Option, Some, Vec, Global}
+use Rattle.std.proofs.Common.{◌≡◌, ◌↔◌, zero, suc, ℕ, ◌+◌, ◌<◌, List, [], ◌∷◌, ◌++◌, length, drop, get_or, map, refl, sym, ap, ◌∙◌, subst, arith, append_assoc, Contains, IsPermutation, Option, Some, Vec, Global}
 use Rattle.std.proofs.lemmas.List.{map-append}
 use Rattle.std.proofs.lemmas.List.FromFn.{length-range_with_len, get_or-range_with_len}
-use Rattle.std.proofs.lemmas.List.Sorted.{Contains-permutation, IsPermutation-sym, ranks_by}
-use Rattle.std.proofs.lemmas.Fn.{always_returns_same}
-use Rattle.std.specs.Prelude.{Bool, IfSome}
+use Rattle.std.proofs.lemmas.List.Sorted.{Contains-permutation, IsPermutation-sym}
+use Rattle.std.specs.Prelude.{IfSome}
 use Rattle.std.specs.List.{AllByRecursion, range_with_len}
-use Rattle.std.specs.Cmp.{IsStrictWeakOrder}
-use Rattle.std.specs.Fn.{Called, ComparesAs}
-use Rattle.std.specs.Ordering.{is_lt}
-use Rattle.std.specs.declared.cmp.Ordering.{Ordering}
-use Rattle.std.proofs.Common.{Bor}
-use denote.Param.Members.{Mut}
-use Rattle.cbor_head.specs.Order.{key_cmp, key_lt}
 use Rattle.cbor_head.specs.Canonical.{Pair, canonical, canonical_entries}
 use Rattle.cbor_head.specs.Value.{IsValid}
 use Rattle.cbor_head.specs.declared.order.KeyOrder.{KeyOrder}
@@ -23,7 +15,6 @@ use Rattle.cbor_item.specs.declared.item.Item.TheVariants.{Unsigned}
 use Rattle.cbor_item.specs.declared.encoded_key.EncodedKey.{EncodedKey}
 use Rattle.cbor_item.proofs.ByIndex.{at_read}
 use Rattle.cbor_item.proofs.Members.{In, all_at, all_from, in_contains, contains_in, map_in, in_map}
-use Rattle.cbor_item.proofs.Orders.{key_cmp_total}
 
 -- ---- the indices are those of all pairs
 

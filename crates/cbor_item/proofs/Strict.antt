@@ -1,8 +1,8 @@
 -- A spelling without strict complaint spells the canonical bytes of a value in range and valid.
-use Rattle.std.proofs.Common.{◌≡◌, ℕ, suc, ◌+◌, ◌^◌, ◌<◌, List, [], ◌∷◌, ◌++◌, length, inl, inr, refl, sym, ap, ◌∙◌, subst, arith, append-nil}
+use Rattle.std.proofs.Common.{◌≡◌, ℕ, ◌+◌, ◌^◌, ◌<◌, List, [], ◌∷◌, ◌++◌, length, inl, inr, refl, sym, ap, ◌∙◌, subst, arith, append-nil}
 use Rattle.std.specs.Prelude.{IsTrue, flat_map}
 use Rattle.std.proofs.lemmas.Bool.{true_from_ne_false, true≢false}
-use Rattle.cbor_head.specs.Head.{Holds, shortest, shortest_head, head}
+use Rattle.cbor_head.specs.Head.{shortest, shortest_head, head}
 use Rattle.cbor_head.specs.Value as value
 use Rattle.cbor_head.specs.Value.{values_count, AreInRange, AreValid, AreEntriesInRange, AreEntriesValid}
 use Rattle.cbor_head.specs.Spelling.{Spelling, Spellings, SpelledEntries, unsigned, negative, bytes, text, byte_chunks, text_chunks, array, a_map, tag, simple, no_spellings, a_spelling, no_entries, entry, spell, spell_all, spell_entries, spellings_count, entries_count, closer, value_of, values_of, entries_of, IsSpelled, AreSpelled, AreEntriesSpelled, HoldsOrOpen}

@@ -1,15 +1,9 @@
 -- What is built of what was read: its canonical bytes, where they are kept.
-use Rattle.std.proofs.Common.{◌≡◌, ℕ, List, [], ◌∷◌, ◌++◌, Option, Some, None, length, map, refl, sym, ap, ◌∙◌, subst, append_assoc, append-nil, Vec, Global, IsPermutation, IsSortedBy, Bool, Bor}
-use Rattle.std.proofs.lemmas.List.Sorted.{IsPermutation-map, ranks_by}
-use Rattle.std.proofs.lemmas.Fn.{always_returns_same}
-use Rattle.std.specs.Cmp.{IsStrictWeakOrder}
-use Rattle.std.specs.Fn.{Called, ComparesAs}
-use Rattle.std.specs.Ordering.{is_lt}
-use Rattle.std.specs.declared.cmp.Ordering.{Ordering}
-use denote.Param.Members.{Mut}
+use Rattle.std.proofs.Common.{◌≡◌, ℕ, List, [], ◌∷◌, ◌++◌, Some, length, map, refl, sym, ap, ◌∙◌, subst, append_assoc, append-nil, Vec, Global, IsPermutation, IsSortedBy}
+use Rattle.std.proofs.lemmas.List.Sorted.{IsPermutation-map}
 use Rattle.cbor_head.specs.Canonical.{Pair, canonical, canonical_all, canonical_entries, in_order}
 use Rattle.cbor_head.specs.Head.{shortest_head}
-use Rattle.cbor_head.specs.Order.{key_cmp, key_lt}
+use Rattle.cbor_head.specs.Order.{key_lt}
 use Rattle.cbor_head.specs.Value.{AreEntriesInRange, HasDistinctKeys}
 use Rattle.cbor_head.specs.declared.major.Major.TheVariants as majors
 use Rattle.cbor_head.specs.declared.order.KeyOrder.{KeyOrder}
@@ -18,7 +12,6 @@ use Rattle.cbor_item.specs.Pairs.{HasDistinctBytes}
 use Rattle.cbor_item.specs.View.{view, values_view, entries_view}
 use Rattle.cbor_item.specs.declared.item.Item.{Item}
 use Rattle.cbor_item.specs.declared.item.Item.TheVariants as items
-use Rattle.cbor_item.proofs.Orders.{key_cmp_total}
 use Rattle.cbor_item.proofs.SortedPairs.{sorted_is_in_order, sorted_view}
 use Rattle.cbor_item.proofs.Told.{distinct_bytes}
 use Rattle.cbor_item.proofs.Views.{canonical-Array, canonical-Map}

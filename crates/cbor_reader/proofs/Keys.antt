@@ -1,9 +1,6 @@
 -- The keys read so far.
-use Rattle.std.proofs.Common.{ℕ, ◌≡◌, ◌⊎◌, List, [], ◌∷◌, map, refl, sym, inl, inr}
-use Rattle.std.specs.Prelude.{◌↔◌}
-use Rattle.cbor_head.specs.Value.{Value, Same, IsValid}
-use Rattle.cbor_head.specs.Spelling.{Spelling, SpelledEntries, no_entries, entry, value_of}
-use Rattle.cbor_head.specs.Complaint.{IsRepeated}
+use Rattle.std.proofs.Common.{◌≡◌, List, [], ◌∷◌, refl}
+use Rattle.cbor_head.specs.Spelling.{Spelling, SpelledEntries, no_entries, entry}
 use Rattle.cbor_reader.specs.Frame.{with_entries, keys_onto}
 
 -- a pair more is a key more, the nearest

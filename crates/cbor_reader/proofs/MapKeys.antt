@@ -1,5 +1,5 @@
 -- The keys of one map so far, and one more.
-use Rattle.std.proofs.Common.{ℕ, ◌+◌, ◌^◌, ◌<◌, ◌≤◌, ◌≡◌, ◌↔◌, ◌⊎◌, Bool, true, false, cond, not, IsTrue, Option, Some, None, List, [], ◌∷◌, length, refl, sym, ap, ◌∙◌, subst, inl, inr, Vec, Global}
+use Rattle.std.proofs.Common.{ℕ, ◌+◌, ◌^◌, ◌<◌, ◌≤◌, ◌≡◌, ◌↔◌, true, false, IsTrue, Option, Some, None, List, [], ◌∷◌, length, refl, sym, ap, ◌∙◌, subst, inl, inr, Vec, Global}
 use Rattle.cbor_head.specs.Value.{Value}
 use Rattle.cbor_head.specs.Spelling.{Spelling, spell, value_of, depth, IsSpelled}
 use Rattle.cbor_head.specs.Complaint as complaint
@@ -19,7 +19,7 @@ use Rattle.cbor_reader.specs.declared.map_keys.Keys.TheVariants.{Distinct, Risin
 use Rattle.cbor_reader.specs.declared.rules.Rules.{Rules}
 use Rattle.cbor_reader.specs.declared.rules.Rules.TheVariants.{Plain, Strict}
 use Rattle.cbor_reader.specs.Rules.{rules_of}
-use Rattle.cbor_reader.specs.MapKeys.{IsKeyValue, IsKey, IsOneOf, AreSound, HasBytes, HasKeys, IsLast, IsInserted, IsPut, Rises}
+use Rattle.cbor_reader.specs.MapKeys.{IsKeyValue, IsKey, IsOneOf, AreSound, HasKeys, IsLast, IsInserted, IsPut, Rises}
 use Rattle.cbor_reader.proofs.Judged.{Never}
 use Rattle.cbor_reader.proofs.Valid.{in_range_of, valid_of}
 

@@ -1,17 +1,15 @@
 -- The value of an item of fewer than 2^64 bytes is in range, and of one without plain complaint valid.
-use Rattle.std.proofs.Common.{ℕ, suc, ◌+◌, ◌^◌, ◌≡◌, ◌<◌, ◌≤◌, ◌⊎◌, List, [], ◌∷◌, ◌++◌, length, flat_map, refl, ap, arith, subst, inl, inr, IsUtf8}
+use Rattle.std.proofs.Common.{ℕ, ◌+◌, ◌^◌, ◌≡◌, ◌<◌, ◌≤◌, ◌⊎◌, List, [], ◌∷◌, ◌++◌, length, flat_map, refl, arith, subst, inl, inr, IsUtf8}
 use Rattle.std.specs.List.{AllByRecursion}
 use Rattle.std.proofs.lemmas.Str.{IsUtf8-append, IsUtf8-nil}
 use Rattle.std.proofs.lemmas.List.{length-append}
-use Rattle.cbor_head.specs.Head.{Holds, head}
-use Rattle.cbor_head.specs.Value as value
-use Rattle.cbor_head.specs.Value.{Value, Values, Entries, AreBytes, HasEntry, HasDistinctKeys, Same, values_count, IsInRange, AreInRange, AreEntriesInRange, IsValid, AreValid, AreEntriesValid}
+use Rattle.cbor_head.specs.Head.{head}
+use Rattle.cbor_head.specs.Value.{Value, AreBytes, HasEntry, HasDistinctKeys, Same, IsInRange, AreInRange, AreEntriesInRange, IsValid, AreValid, AreEntriesValid}
 use Rattle.cbor_head.specs.Spelling.{Chunk, IsChunk, Spelling, Spellings, SpelledEntries, unsigned, negative, bytes, text, byte_chunks, text_chunks, array, a_map, tag, simple, no_spellings, a_spelling, no_entries, entry, spell, spell_all, spell_entries, spellings_count, entries_count, value_of, values_of, entries_of, joined, chunk_bytes, chunked, closer, IsSpelled, AreSpelled, AreEntriesSpelled}
 use Rattle.cbor_head.specs.Complaint.{plain, Complains, ComplainsIn, ComplainsInEntries, OfChunks, IsRepeated}
 use Rattle.cbor_head.specs.declared.major.Major.{Major}
 use Rattle.cbor_head.specs.declared.major.Major.TheVariants.{Bytes, Text, Array, Map, Tag}
-use Rattle.cbor_head.specs.declared.width.Width.{Width}
-use Rattle.cbor_head.specs.declared.width.Width.TheVariants.{Direct, One, Two, Four, Eight, Indefinite}
+use Rattle.cbor_head.specs.declared.width.Width.TheVariants.{Indefinite}
 use Rattle.cbor_head.proofs.Counts.{holds_fits, values_count-of, entries_count-of}
 use Rattle.cbor_head.proofs.ReadLaws.{length_spell}
 use Rattle.cbor_item.proofs.Stable.{utf8_stable}

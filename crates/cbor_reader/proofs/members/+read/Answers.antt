@@ -1,9 +1,7 @@
 use Rattle.std.proofs.Common.{◌++◌, ◌∷◌, [], ◌∙◌, length, inl, inr, refl, ap, subst, arith}
-use Rattle.std.proofs.lemmas.Result.{IfOk-weaker}
 use Rattle.cbor_events.specs.Automaton.{at_item, counted}
 use Rattle.cbor_events.specs.State.{count_of}
 use Rattle.cbor_events.specs.declared.event.EventKind.{EventKind}
-use Rattle.cbor_item.specs.View.{view}
 use Rattle.cbor_item.proofs.Views.{view-Unsigned, view-Negative, view-Simple}
 use Rattle.cbor_reader.specs.Reading.{IsBegun}
 use Rattle.cbor_reader.specs.Rules.{rules_of}

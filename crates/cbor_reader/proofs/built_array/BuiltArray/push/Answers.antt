@@ -1,4 +1,4 @@
-use Rattle.std.proofs.Common.{◌≡◌, Option, Some, List, ℕ, ◌++◌, sym, ap, ◌∙◌, subst}
+use Rattle.std.proofs.Common.{Option, List, ℕ, ◌++◌, sym, ap, ◌∙◌, subst}
 use Rattle.cbor_head.specs.Canonical.{canonical}
 use Rattle.cbor_item.specs.View.{view, values_view}
 use Rattle.cbor_item.specs.declared.item.Item.{Item}
