@@ -33,6 +33,7 @@ TITLES = {
     "text": "one text",
     "chunks": "one text in chunks of 1 byte",
     "nested": "256 unsorted maps, as values",
+    "nested_many": "an array of 255 unsorted maps, as values, again and again",
     "nested_keys": "256 unsorted maps, as keys",
     "keys_around_bytes": "256 unsorted maps, as keys, around 1 MiB of bytes",
     "keys_around_map": "255 unsorted maps, as keys, around 170,000 shuffled integers",
