@@ -1,6 +1,6 @@
 //! Examples, by trees.
 
-use crate::{Item, KeyOrder, Tree, compare_keys, encode, encode_to, same};
+use crate::{Item, KeyOrder, Tree, compare_keys, encode, encode_to, encode_valid, same};
 use cbor_head::{Reason, Refusal, Simple};
 use std::alloc::{AllocError, Global};
 use std::cmp::Ordering;
@@ -163,6 +163,10 @@ fn encodes(rt: HostRuntime) -> Result<(), Fail> {
         );
         assert_eq!(rt;
             encode(alloc, &tree, KeyOrder::LengthFirst)?.as_slice(),
+            row.length_first
+        );
+        assert_eq!(rt;
+            encode_valid(alloc, tree.item(), KeyOrder::LengthFirst)?.as_slice(),
             row.length_first
         );
         let mut out = Vec::new(alloc);
