@@ -1,6 +1,7 @@
 //! The subcommand `check`: whether a file is one item.
 
-ghost use Rattle.std.specs.Prelude.{◌≡◌, length, IfOk};
+ghost use Rattle.std.specs.Prelude.{IfOk, IfErr};
+ghost use Rattle.cborc.specs.Check.{rules_of, IsWhole, IsNotWhole};
 
 use crate::command_line::{Accepted, Options};
 use crate::fault::Fault;
@@ -37,7 +38,8 @@ fn size_of_item(
     accepted: Accepted,
     limits: Limits,
 ) -> Result<u64, Refusal>
-    ensures whole { IfOk result (λ size. size ≡ length bytes.now) }
+    ensures whole { IfOk result (λ size. IsWhole limits.depth limits.bytes (rules_of accepted) bytes.now size) }
+    ensures refused { IfErr result (λ f. IsNotWhole limits.depth limits.bytes (rules_of accepted) bytes.now f) }
 {
     let mut reader = bytes;
     let size = match accepted {

@@ -1,6 +1,6 @@
 //! The words of the command line, and what they ask for.
 
-ghost use Rattle.std.specs.Prelude.{◌≡◌, codes, Some};
+ghost use Rattle.std.specs.Prelude.{◌≡◌, ◌≢◌, codes, Some, None};
 ghost use Rattle.cbor_head.specs.declared.order.KeyOrder.TheVariants.{Bytewise, LengthFirst};
 
 use cbor_head::{KeyOrder, Limits};
@@ -93,6 +93,7 @@ fn accepted_of(given: &ArgMatches<'_>) -> Option<Accepted> {
 fn order_of(word: &str) -> Option<KeyOrder>
     ensures bytewise { word.now ≡ codes "bytewise" → result ≡ Some Bytewise }
     ensures length { word.now ≡ codes "length" → result ≡ Some LengthFirst }
+    ensures other { word.now ≢ codes "bytewise" → word.now ≢ codes "length" → result ≡ None }
 {
     match word {
         "bytewise" => Some(KeyOrder::Bytewise),

@@ -1,6 +1,7 @@
 //! The program, over any folder and any two outputs.
 
-ghost use Rattle.std.specs.Prelude.{◌≤◌};
+ghost use Rattle.std.specs.Prelude.{◌≡◌, ◌≤◌};
+ghost use Rattle.cborc.specs.Fault.{end_status, status_number};
 
 use crate::canon::canon;
 use crate::check::check;
@@ -33,7 +34,7 @@ pub fn run<F: Folder, O: Write, E: Write>(
 
 /// Writes the line of a fault, and answers the status.
 pub fn end<E: Write>(ended: Result<Status, Fault<'_>>, err: &mut E) -> u8
-    ensures { result ≤ 3 }
+    ensures { result ≡ status_number (end_status ended.entry) }
 {
     let status = match ended {
         Ok(status) => status,
