@@ -1,5 +1,4 @@
 -- What clap's getters answer, by what was found.
-use Rattle.std.proofs.Common.{◌≡◌, ℕ, List, Option}
 use Rattle.clap.proofs.WalkLemmas.{first_value-rows, one_text-rows}
 
 pub ruleset getters = (first_value-rows, one_text-rows)

@@ -1,5 +1,7 @@
 //! The subcommand `canon`: the canonical bytes of an item, from file to file.
 
+ghost use Rattle.std.specs.Prelude.{◌≡◌, IfOk};
+
 use crate::command_line::Options;
 use crate::fault::Fault;
 use crate::folder::Folder;
@@ -18,7 +20,9 @@ pub fn canon<'a, F: Folder>(
     target: &'a str,
     order: KeyOrder,
     options: Options,
-) -> Result<Status, Fault<'a>> {
+) -> Result<Status, Fault<'a>>
+    ensures { IfOk result (λ status. status ≡ Status.Accepted) }
+{
     let limits = options.limits;
     let bytes = input::read(alloc, files, source, options)?;
     let canonical = canonicalise(alloc, bytes.as_slice(), limits, order)?;

@@ -1,6 +1,6 @@
 //! The subcommand `check`: whether a file is one item.
 
-ghost use Rattle.std.specs.Prelude.{IfOk, IfErr};
+ghost use Rattle.std.specs.Prelude.{◌≡◌, IfOk, IfErr};
 ghost use Rattle.cborc.specs.Check.{rules_of, IsWhole, IsNotWhole};
 
 use crate::command_line::{Accepted, Options};
@@ -21,7 +21,9 @@ pub fn check<'a, F: Folder, O: Write>(
     source: &'a str,
     accepted: Accepted,
     options: Options,
-) -> Result<Status, Fault<'a>> {
+) -> Result<Status, Fault<'a>>
+    ensures { IfOk result (λ status. status ≡ Status.Accepted) }
+{
     let limits = options.limits;
     let bytes = input::read(alloc, files, source, options)?;
     let size = size_of_item(alloc, bytes.as_slice(), accepted, limits)?;

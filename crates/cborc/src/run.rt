@@ -1,6 +1,7 @@
 //! The program, over any folder and any two outputs.
 
-ghost use Rattle.std.specs.Prelude.{◌≡◌, ◌≤◌};
+ghost use Rattle.std.specs.Prelude.{◌≡◌, ◌≢◌, ◌≤◌, Ok, Err, IfOk, MatchResult};
+ghost use Rattle.clap.specs.Words.{kind_of};
 ghost use Rattle.cborc.specs.Fault.{end_status, status_number};
 
 use crate::canon::canon;
@@ -51,7 +52,9 @@ fn answer<'a, F: Folder, O: Write>(
     request: &Request<'a>,
     files: &mut F,
     out: &mut O,
-) -> Result<Status, Fault<'a>> {
+) -> Result<Status, Fault<'a>>
+    ensures { IfOk result (λ status. status ≡ Status.Accepted) }
+{
     match request {
         Request::Check {
             source,
@@ -72,7 +75,11 @@ fn explain<'a, O: Write, E: Write>(
     error: &clap::Error,
     out: &mut O,
     err: &mut E,
-) -> Result<Status, Fault<'a>> {
+) -> Result<Status, Fault<'a>>
+    ensures memory { kind_of error.now ≡ ErrorKind.OutOfMemory → result ≡ Err Fault.Memory }
+    ensures help { kind_of error.now ≡ ErrorKind.DisplayHelp → MatchResult result (λ status. status ≡ Status.Accepted) (λ fault. fault ≡ Fault.CannotPrint) }
+    ensures misused { kind_of error.now ≢ ErrorKind.OutOfMemory → kind_of error.now ≢ ErrorKind.DisplayHelp → kind_of error.now ≢ ErrorKind.DisplayVersion → result ≡ Ok Status.Misused }
+{
     if error.kind() == ErrorKind::OutOfMemory {
         return Err(Fault::Memory);
     }
