@@ -1,7 +1,7 @@
 -- What the words of a command line ask for, by what clap found for each argument.
-use Rattle.std.specs.Prelude.{ℕ, ◌≡◌, List, Option, Some, None, true, false, codes, if◌then◌else◌, option_map, option_and_then}
+use Rattle.std.specs.Prelude.{ℕ, ◌≡◌, ◌≤◌, ◌^◌, ◌⊎◌, List, Option, Some, None, IsSome, IsSomeAnd, true, false, codes, if◌then◌else◌, option_map, option_and_then}
 use Rattle.std.specs.Str.{bytes_eq}
-use Rattle.std.specs.Str.Parse.{digits_value, without_leading_plus}
+use Rattle.std.specs.Str.Parse.{IsNumeral, digits_value, without_leading_plus}
 use Rattle.cbor_head.specs.declared.order.KeyOrder.{KeyOrder}
 use Rattle.cbor_head.specs.declared.order.KeyOrder.TheVariants.{Bytewise, LengthFirst}
 use Rattle.clap.specs.Words.{Row, Text, first_of, one_of}
@@ -25,6 +25,7 @@ number_given name rows = option_map (λ text. digits_value 10 (without_leading_p
 
 -- which items are accepted, where an order is given
 pub record IsAcceptedOf (rows : List Row) (accepted : Option Accepted) : Type 0 where
+  pub some : IsSome (order_given rows) → IsSome accepted
   pub strict : one_of (codes "strict") rows ≡ Some (codes "true") → accepted ≡ option_map Canonical (order_given rows)
   pub valid : one_of (codes "strict") rows ≡ Some (codes "false") → accepted ≡ option_map (λ _. Valid) (order_given rows)
 
@@ -42,3 +43,21 @@ AsksFor (name, rows) (Check source accepted options) =
 AsksFor (name, rows) (Canon source target order options) =
     (name ≡ codes "canon") × (first_of (codes "IN") rows ≡ Some source.now) × (first_of (codes "OUT") rows ≡ Some target.now)
     × (order_given rows ≡ Some order) × IsOptionsOf rows options
+
+-- the text is a number, at most so much
+abbrev pub IsNumber : ℕ → Text → Type 0
+IsNumber most text = IsNumeral 10 (without_leading_plus text) × (digits_value 10 (without_leading_plus text) ≤ most)
+
+-- limits are given, in their ranges
+abbrev pub HasLimits : List Row → Type 0
+HasLimits rows = IsSomeAnd (one_of (codes "depth") rows) (IsNumber 256) × IsSomeAnd (one_of (codes "bytes") rows) (IsNumber (2 ^ 62))
+
+-- so are the files that a subcommand of this name takes
+abbrev pub HasFiles : Text × List Row → Type 0
+HasFiles (name, rows) =
+    ((name ≡ codes "check") × IsSome (first_of (codes "FILE") rows))
+    ⊎ ((name ≡ codes "canon") × IsSome (first_of (codes "IN") rows) × IsSome (first_of (codes "OUT") rows))
+
+-- all that it asks for
+abbrev pub IsComplete : Text × List Row → Type 0
+IsComplete (name, rows) = HasFiles (name, rows) × IsSome (order_given rows) × HasLimits rows

@@ -1,12 +1,9 @@
 //! The subcommand `canon`: the canonical bytes of an item, from file to file.
 
-ghost use Rattle.std.specs.Prelude.{◌≡◌, IfOk};
-
 use crate::command_line::Options;
 use crate::fault::Fault;
 use crate::folder::Folder;
 use crate::input;
-use crate::status::Status;
 use cbor_head::KeyOrder;
 use cbor_reader::canonicalise;
 use std::alloc::Global;
@@ -20,14 +17,12 @@ pub fn canon<'a, F: Folder>(
     target: &'a str,
     order: KeyOrder,
     options: Options,
-) -> Result<Status, Fault<'a>>
-    ensures { IfOk result (λ status. status ≡ Status.Accepted) }
-{
+) -> Result<(), Fault<'a>> {
     let limits = options.limits;
     let bytes = input::read(alloc, files, source, options)?;
     let canonical = canonicalise(alloc, bytes.as_slice(), limits, order)?;
     match files.write(target, canonical.as_slice()) {
-        Ok(()) => Ok(Status::Accepted),
+        Ok(()) => Ok(()),
         Err(fault) => Err(Fault::of_writing(target, fault)),
     }
 }

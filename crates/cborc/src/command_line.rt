@@ -1,8 +1,8 @@
 //! The words of the command line, and what they ask for.
 
-ghost use Rattle.std.specs.Prelude.{◌≡◌, codes, IfSome};
+ghost use Rattle.std.specs.Prelude.{◌≡◌, codes, IfSome, IsSome};
 ghost use Rattle.clap.specs.Words.{found_of, rows_of, subcommand_rows_of};
-ghost use Rattle.cborc.specs.CommandLine.{order_named, AsksFor, IsAcceptedOf, IsOptionsOf};
+ghost use Rattle.cborc.specs.CommandLine.{order_named, AsksFor, HasLimits, IsAcceptedOf, IsComplete, IsOptionsOf};
 
 use cbor_head::{KeyOrder, Limits};
 use clap::error::ErrorKind;
@@ -65,7 +65,8 @@ pub fn parse<'a>(alloc: Global, words: &'a [String]) -> Result<Request<'a>, Erro
 }
 
 fn request_of<'a>(matches: &ArgMatches<'a>) -> Option<Request<'a>>
-    ensures { IfSome result (λ r. IfSome (subcommand_rows_of matches.now) (λ given. AsksFor given r)) }
+    ensures value { IfSome result (λ r. IfSome (subcommand_rows_of matches.now) (λ given. AsksFor given r)) }
+    ensures some { IfSome (subcommand_rows_of matches.now) (λ given. IsComplete given → IsSome result) }
 {
     match matches.subcommand()? {
         ("check", given) => check_of(given),
@@ -76,7 +77,8 @@ fn request_of<'a>(matches: &ArgMatches<'a>) -> Option<Request<'a>>
 
 #[tactic(auto, using(crate::proofs::Rows::getters))]
 fn check_of<'a>(given: &ArgMatches<'a>) -> Option<Request<'a>>
-    ensures { IfSome result (λ r. AsksFor (codes "check", rows_of (found_of given.now)) r) }
+    ensures value { IfSome result (AsksFor (codes "check", rows_of (found_of given.now))) }
+    ensures some { IsComplete (codes "check", rows_of (found_of given.now)) → IsSome result }
 {
     Some(Request::Check {
         source: given.get_str("FILE")?,
@@ -87,7 +89,8 @@ fn check_of<'a>(given: &ArgMatches<'a>) -> Option<Request<'a>>
 
 #[tactic(auto, using(crate::proofs::Rows::getters))]
 fn canon_of<'a>(given: &ArgMatches<'a>) -> Option<Request<'a>>
-    ensures { IfSome result (λ r. AsksFor (codes "canon", rows_of (found_of given.now)) r) }
+    ensures value { IfSome result (AsksFor (codes "canon", rows_of (found_of given.now))) }
+    ensures some { IsComplete (codes "canon", rows_of (found_of given.now)) → IsSome result }
 {
     Some(Request::Canon {
         source: given.get_str("IN")?,
@@ -122,7 +125,8 @@ fn order_of(word: &str) -> Option<KeyOrder>
 
 #[tactic(auto, using(crate::proofs::Rows::getters))]
 fn options_of(given: &ArgMatches<'_>) -> Option<Options>
-    ensures { IfSome result (IsOptionsOf (rows_of (found_of given.now))) }
+    ensures value { IfSome result (IsOptionsOf (rows_of (found_of given.now))) }
+    ensures some { HasLimits (rows_of (found_of given.now)) → IsSome result }
 {
     let depth = given.get_one::<u16>("depth")?;
     let bytes = given.get_one::<u64>("bytes")?;

@@ -1,6 +1,6 @@
 //! The program, over any folder and any two outputs.
 
-ghost use Rattle.std.specs.Prelude.{◌≡◌, ◌≢◌, ◌≤◌, Ok, Err, IfOk, MatchResult};
+ghost use Rattle.std.specs.Prelude.{◌≡◌, ◌≢◌, ◌≤◌, ◌⊎◌, Ok, Err};
 ghost use Rattle.clap.specs.Words.{kind_of};
 ghost use Rattle.cborc.specs.Fault.{end_status, status_number};
 
@@ -52,22 +52,21 @@ fn answer<'a, F: Folder, O: Write>(
     request: &Request<'a>,
     files: &mut F,
     out: &mut O,
-) -> Result<Status, Fault<'a>>
-    ensures { IfOk result (λ status. status ≡ Status.Accepted) }
-{
+) -> Result<Status, Fault<'a>> {
     match request {
         Request::Check {
             source,
             accepted,
             options,
-        } => check(alloc, files, out, source, *accepted, *options),
+        } => check(alloc, files, out, source, *accepted, *options)?,
         Request::Canon {
             source,
             target,
             order,
             options,
-        } => canon(alloc, files, source, target, *order, *options),
+        } => canon(alloc, files, source, target, *order, *options)?,
     }
+    Ok(Status::Accepted)
 }
 
 // Writes why the words give no request: help to `out`, a fault in them to `err`.
@@ -77,8 +76,11 @@ fn explain<'a, O: Write, E: Write>(
     err: &mut E,
 ) -> Result<Status, Fault<'a>>
     ensures memory { kind_of error.now ≡ ErrorKind.OutOfMemory → result ≡ Err Fault.Memory }
-    ensures help { kind_of error.now ≡ ErrorKind.DisplayHelp → MatchResult result (λ status. status ≡ Status.Accepted) (λ fault. fault ≡ Fault.CannotPrint) }
-    ensures misused { kind_of error.now ≢ ErrorKind.OutOfMemory → kind_of error.now ≢ ErrorKind.DisplayHelp → kind_of error.now ≢ ErrorKind.DisplayVersion → result ≡ Ok Status.Misused }
+    ensures help { kind_of error.now ≡ ErrorKind.DisplayHelp
+        → (result ≡ Ok Status.Accepted) ⊎ (result ≡ Err Fault.CannotPrint) }
+    ensures misused { kind_of error.now ≢ ErrorKind.OutOfMemory
+        → kind_of error.now ≢ ErrorKind.DisplayHelp → kind_of error.now ≢ ErrorKind.DisplayVersion
+        → result ≡ Ok Status.Misused }
 {
     if error.kind() == ErrorKind::OutOfMemory {
         return Err(Fault::Memory);
