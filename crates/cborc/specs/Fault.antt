@@ -1,4 +1,4 @@
--- What a fault says, and the status that it ends with.
+-- Which fault comes of a refusal, and with which status the program ends.
 use Rattle.std.specs.Prelude.{ℕ, Result, Ok, Err}
 use Rattle.cbor_head.specs.declared.reason.Reason.{Reason}
 use Rattle.cbor_head.specs.declared.reason.Reason.TheVariants as reasons
@@ -8,11 +8,12 @@ use Rattle.cborc.specs.declared.fault.Fault.TheVariants as faults
 use Rattle.cborc.specs.declared.status.Status.{Status}
 use Rattle.cborc.specs.declared.status.Status.TheVariants.{Accepted, Refused, Misused, Failed}
 
--- a refusal for this reason: want of memory isn't the input's
+-- the fault of a refusal for this reason: want of memory is not the input's
 abbrev pub reason_fault : Refusal → Reason → Fault
 reason_fault f reasons.Memory = faults.Memory
 reason_fault f _ = faults.Refused f
 
+-- the fault of a refusal
 abbrev pub refusal_fault : Refusal → Fault
 refusal_fault f = reason_fault f f.reason
 

@@ -37,8 +37,10 @@ fn size_of_item(
     accepted: Accepted,
     limits: Limits,
 ) -> Result<u64, Refusal>
-    ensures whole { IfOk result (λ size. IsWhole limits.depth limits.bytes (rules_of accepted) bytes.now size) }
-    ensures refused { IfErr result (λ f. IsNotWhole limits.depth limits.bytes (rules_of accepted) bytes.now f) }
+    ensures whole { IfOk result
+        (IsWhole limits.depth limits.bytes (rules_of accepted) bytes.now) }
+    ensures refused { IfErr result
+        (IsNotWhole limits.depth limits.bytes (rules_of accepted) bytes.now) }
 {
     let mut reader = bytes;
     let size = match accepted {

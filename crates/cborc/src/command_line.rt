@@ -65,8 +65,10 @@ pub fn parse<'a>(alloc: Global, words: &'a [String]) -> Result<Request<'a>, Erro
 }
 
 fn request_of<'a>(matches: &ArgMatches<'a>) -> Option<Request<'a>>
-    ensures value { IfSome result (λ r. IfSome (subcommand_rows_of matches.now) (λ given. AsksFor given r)) }
-    ensures some { IfSome (subcommand_rows_of matches.now) (λ given. IsComplete given → IsSome result) }
+    ensures value { IfSome result
+        (λ r. IfSome (subcommand_rows_of matches.now) (λ given. AsksFor given r)) }
+    ensures some { IfSome (subcommand_rows_of matches.now)
+        (λ given. IsComplete given → IsSome result) }
 {
     match matches.subcommand()? {
         ("check", given) => check_of(given),
