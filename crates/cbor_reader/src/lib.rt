@@ -20,6 +20,8 @@ mod strings;
 mod tests;
 #[cfg(test)]
 mod tests_keys;
+#[cfg(test)]
+mod tests_strict;
 mod tree_reader;
 
 pub use canonicaliser::canonicalise;
