@@ -118,9 +118,11 @@ def inputs():
     yield "text", "\u6c34" * ((MIB - 5) // 3)
     yield "chunks", Chunks("a" * (MIB // 2 - 1))
     yield "nested", nested(0, 256, lambda it: [(1, 0), (0, it)])
+    yield "nested_many", filled(lambda: nested(chance.randrange(24), 255, lambda it: [(1, 0), (0, it)]), MIB)
     yield "nested_keys", nested(1, 256, lambda it: [(it, 0), (0, 0)])
     yield "keys_around_bytes", nested(bytes(MIB - 1100), 256, lambda it: [(it, 0), (0, 0)])
     yield "keys_around_map", nested(numbers, 255, lambda it: [(it, 0), (0, 0)])
+    yield "keys_around_zeros", nested([0] * (MIB - 1100), 255, lambda it: [(it, 0), (0, 0)])
     yield "bytes_16_mib", bytes(16 * MIB)
 
 

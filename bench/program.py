@@ -19,7 +19,8 @@ COMMANDS = {
     "canon": (["canon"], "cbor", "bytewise"),
     "canon length first": (["canon", "--order", "length"], "cbor", "length"),
     "check": (["check"], "cbor", None),
-    "check strict": (["check", "--strict"], "bytewise", None),
+    "check of canonical": (["check"], "bytewise", None),
+    "check --strict of canonical": (["check", "--strict"], "bytewise", None),
 }
 TITLES = {
     "one": "the integer 0: the start of the program",
@@ -32,9 +33,11 @@ TITLES = {
     "text": "one text",
     "chunks": "one text in chunks of 1 byte",
     "nested": "256 unsorted maps, as values",
+    "nested_many": "an array of 255 unsorted maps, as values, again and again",
     "nested_keys": "256 unsorted maps, as keys",
     "keys_around_bytes": "256 unsorted maps, as keys, around 1 MiB of bytes",
     "keys_around_map": "255 unsorted maps, as keys, around 170,000 shuffled integers",
+    "keys_around_zeros": "255 unsorted maps, as keys, around an array of zeros",
     "bytes_16_mib": "one byte string of 16 MiB",
 }
 faults = []
@@ -105,7 +108,7 @@ def size_of(folder, name, command):
 
 
 def tell(cborc, folder):
-    print(f"Processor time, least of {TURNS}. `check strict` reads the canonical bytes, the others what stands here.\n")
+    print(f"Processor time, least of {TURNS}. What is `of canonical` reads the canonical bytes, the others what stands here.\n")
     speeds = " | ".join(f"`{it}`, MB/s" for it in COMMANDS)
     print(f"| input | bytes | `canon`, ms | {speeds} | `canon`, peak memory, MiB |")
     print("| --- |" + " ---: |" * (len(COMMANDS) + 3))

@@ -2,6 +2,7 @@ pub mod Accepted
 pub mod Agree
 pub mod Alike
 pub mod Beginnings
+pub mod Counts
 pub mod Ends
 pub mod Exact
 pub mod Examples

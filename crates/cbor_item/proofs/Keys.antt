@@ -1,15 +1,16 @@
 -- Keys that are the same are found by their canonical bytes.
 use Rattle.std.proofs.Common.{◌≡◌, ◌↔◌, ◌⊎◌, List, [], ◌∷◌, ◌++◌, map, inl, inr, refl, sym, subst}
 use Rattle.std.specs.List.{AllByRecursion}
-use Rattle.cbor_head.specs.Value.{Value, Entries, no_entries, entry, HasEntry, HasDistinctKeys, Same, AreEntriesInRange, AreEntriesValid}
+use Rattle.cbor_head.specs.Value.{Value, Entries, no_entries, entry, HasEntry, HasDistinctKeys, Same, AreEntriesInRange}
 use Rattle.cbor_head.specs.Spelling.{Spelling, value_of}
 use Rattle.cbor_head.specs.Complaint.{IsRepeated}
 use Rattle.cbor_head.specs.Canonical.{canonical, canonical_entries}
 use Rattle.cbor_head.specs.declared.order.KeyOrder.{KeyOrder}
+use Rattle.cbor_item.specs.Encoded.{AreKeysValid}
 use Rattle.cbor_item.specs.Pairs.{HasDistinctBytes}
 use Rattle.cbor_item.proofs.Members.{In}
 use Rattle.cbor_item.proofs.Sorting.{differs_at}
-use Rattle.cbor_item.proofs.Sound.{IsSound, sound, sound_at}
+use Rattle.cbor_item.proofs.Sound.{IsSound, sound, key_at}
 use Rattle.cbor_item.proofs.Told.{pair_in, pair_of, canonical_injective, distinct_bytes}
 use Rattle.cbor_item.proofs.Agreement.{canonical_agrees}
 
@@ -95,14 +96,14 @@ distinct_front (k ∷ ks) ls d = (all_front (λ l. Same k l → ⊥) ks ls d.0, 
 
 -- ---- by their bytes
 
-pub distinct_from_bytes : (o : KeyOrder) (es : Entries) → AreEntriesInRange es → AreEntriesValid es → HasDistinctBytes (canonical_entries o es) → HasDistinctKeys es
+pub distinct_from_bytes : (o : KeyOrder) (es : Entries) → AreEntriesInRange es → AreKeysValid es → HasDistinctBytes (canonical_entries o es) → HasDistinctKeys es
 distinct_from_bytes o no_entries h g d = tt
 distinct_from_bytes o (entry k v es) h g d = (
   (λ l w m s.
-      let e = canonical_agrees o k l (sound k h.0 g.0) (sound_at es l w h.2 g.2 m).0 s in
+      let e = canonical_agrees o k l (sound k h.0 g.0) (key_at es l w h.2 g.1 m) s in
       differs_at (pair_of o k v) (canonical_entries o es) d (pair_of o l w) (pair_in o es l w m) (sym e)),
-  distinct_from_bytes o es h.2 g.2 d.1,
+  distinct_from_bytes o es h.2 g.1 d.1,
 )
 
-pub distinct_exactly : (o : KeyOrder) (es : Entries) → AreEntriesInRange es → AreEntriesValid es → HasDistinctKeys es ↔ HasDistinctBytes (canonical_entries o es)
+pub distinct_exactly : (o : KeyOrder) (es : Entries) → AreEntriesInRange es → AreKeysValid es → HasDistinctKeys es ↔ HasDistinctBytes (canonical_entries o es)
 distinct_exactly o es h g = (distinct_bytes o es h, distinct_from_bytes o es h g)

@@ -1,5 +1,5 @@
 -- Membership in a list, by recursion.
-use Rattle.std.proofs.Common.{◌≡◌, ℕ, zero, suc, ◌<◌, List, [], ◌∷◌, length, get_or, ◌⊎◌, inl, inr, refl, sym, subst, arith, Contains}
+use Rattle.std.proofs.Common.{◌≡◌, ℕ, zero, suc, ◌<◌, List, [], ◌∷◌, length, get_or, map, ◌⊎◌, inl, inr, refl, sym, ap, subst, arith, Contains}
 use Rattle.std.specs.List.{AllByRecursion}
 
 abbrev pub In : {X : Type 0} → X → List X → Type 0
@@ -27,3 +27,13 @@ at_in (y ∷ ys) x (suc k) l e = inr (at_in ys x k (omega arith) e)
 
 pub contains_in : {X : Type 0} (xs : List X) (x : X) → Contains xs x → In x xs
 contains_in xs x c = at_in xs x c.0 c.1 c.2
+
+pub map_in : {X Y : Type 0} (f : X → Y) (xs : List X) (x : X) → In x xs → In (f x) (map f xs)
+map_in f [] x m = m
+map_in f (y ∷ ys) x (inl e) = inl (ap f e)
+map_in f (y ∷ ys) x (inr m) = inr (map_in f ys x m)
+
+pub in_map : {X Y : Type 0} (f : X → Y) (xs : List X) (y : Y) → In y (map f xs) → (x : X) × In x xs × (y ≡ f x)
+in_map f [] y m = absurd m
+in_map f (x ∷ xs) y (inl e) = (x, inl refl, e)
+in_map f (x ∷ xs) y (inr m) = let r = in_map f xs y m in (r.0, inr r.1, r.2)

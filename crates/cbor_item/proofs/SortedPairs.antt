@@ -3,7 +3,11 @@ use Rattle.std.proofs.Common.{◌≡◌, ℕ, suc, ◌+◌, Bool, true, false, t
 use Rattle.std.specs.Prelude.{IsTrue}
 use Rattle.std.specs.List.{IsDistinct, AllByRecursion}
 use Rattle.std.specs.Cmp.{IsStrictWeakOrder}
-use Rattle.std.specs.Ordering.{is_eq, ordering_reverse}
+use Rattle.std.specs.Fn.{Called, ComparesAs}
+use Rattle.std.specs.Ordering.{is_eq, is_lt, ordering_reverse}
+use Rattle.std.proofs.lemmas.Fn.{always_returns_same}
+use Rattle.std.proofs.Common.{Bor}
+use denote.Param.Members.{Mut}
 use Rattle.std.specs.declared.cmp.Ordering.{Ordering}
 use Rattle.std.specs.declared.cmp.Ordering.TheVariants.{Less, Equal, Greater}
 use Rattle.std.proofs.lemmas.Cmp.{tied_itself}
@@ -25,9 +29,6 @@ same_key o p q = is_eq (key_cmp o p.key q.key)
 
 abbrev pub pair_lt : KeyOrder → Pair → Pair → Bool
 pair_lt o p q = key_lt o p.key q.key
-
-pub pair_lt_ranks : (o : KeyOrder) → IsStrictWeakOrder (pair_lt o)
-pair_lt_ranks o = ranks_by (key_cmp_total o) (λ (p : Pair). p.key)
 
 pub same_key-flips : (o : KeyOrder) (p q : Pair) → same_key o p q ≡ same_key o q p
 same_key-flips o p q = ap is_eq ((key_cmp_total o).antisymm p.key q.key) ∙ turned (key_cmp o q.key p.key)
@@ -79,3 +80,12 @@ sorted_view view o (y ∷ ys) s = λ k d l h.
     let e = get_or-map view (y ∷ ys) k y d (omega arith) in
     let f = get_or-map view (y ∷ ys) (k + 1) y d (omega arith) in
     (λ i. pair_lt o (f i) (e i)) ∙ s k y l (omega arith)
+
+-- what a sort by the order of some bytes leaves, from the clauses of `sort_by`
+pub sorted_by_bytes : (o : KeyOrder) {X : Type 0} (bytes : X → List ℕ) {F : Type 0} {g : Mut F (Bor X × (Bor X × Unit {0})) Ordering} {f : F} (ys : List X)
+    → ((lt : X → X → Bool) → IsStrictWeakOrder lt → ComparesAs g lt f → IsSortedBy lt ys)
+    → ((a : Bor X × (Bor X × Unit {0})) (r : Ordering) (f' : F) → Called g f a r f' → (r ≡ key_cmp o (bytes a.0.now) (bytes a.1.0.now)) × (f' ≡ f))
+    → IsSortedBy (λ x y. key_lt o (bytes x) (bytes y)) ys
+sorted_by_bytes o bytes {g = g} {f = f} ys s h =
+    s (λ x y. key_lt o (bytes x) (bytes y)) (ranks_by (key_cmp_total o) bytes)
+    (always_returns_same g (λ a r. is_lt r ≡ key_lt o (bytes a.0.now) (bytes a.1.0.now)) f (λ a r f' k. (ap is_lt (h a r f' k).0, (h a r f' k).1)))

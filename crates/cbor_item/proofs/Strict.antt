@@ -1,8 +1,8 @@
 -- A spelling without strict complaint spells the canonical bytes of a value in range and valid.
-use Rattle.std.proofs.Common.{◌≡◌, ℕ, suc, ◌+◌, ◌^◌, ◌<◌, List, [], ◌∷◌, ◌++◌, length, inl, inr, refl, sym, ap, ◌∙◌, subst, arith, append-nil}
+use Rattle.std.proofs.Common.{◌≡◌, ℕ, ◌+◌, ◌^◌, ◌<◌, List, [], ◌∷◌, ◌++◌, length, inl, inr, refl, sym, ap, ◌∙◌, subst, arith, append-nil}
 use Rattle.std.specs.Prelude.{IsTrue, flat_map}
 use Rattle.std.proofs.lemmas.Bool.{true_from_ne_false, true≢false}
-use Rattle.cbor_head.specs.Head.{Holds, shortest, shortest_head, head}
+use Rattle.cbor_head.specs.Head.{shortest, shortest_head, head}
 use Rattle.cbor_head.specs.Value as value
 use Rattle.cbor_head.specs.Value.{values_count, AreInRange, AreValid, AreEntriesInRange, AreEntriesValid}
 use Rattle.cbor_head.specs.Spelling.{Spelling, Spellings, SpelledEntries, unsigned, negative, bytes, text, byte_chunks, text_chunks, array, a_map, tag, simple, no_spellings, a_spelling, no_entries, entry, spell, spell_all, spell_entries, spellings_count, entries_count, closer, value_of, values_of, entries_of, IsSpelled, AreSpelled, AreEntriesSpelled, HoldsOrOpen}
@@ -14,12 +14,13 @@ use Rattle.cbor_head.specs.declared.major.Major.{Major}
 use Rattle.cbor_head.specs.declared.major.Major.TheVariants.{Unsigned, Negative, Bytes, Text, Array, Map, Tag}
 use Rattle.cbor_head.specs.declared.width.Width.{Width}
 use Rattle.cbor_head.specs.declared.width.Width.TheVariants.{Direct, One, Two, Four, Eight, Indefinite}
+use Rattle.cbor_head.proofs.Counts.{holds_fits, values_count-of, entries_count-of}
 use Rattle.cbor_item.specs.Pairs.{IsRising}
 use Rattle.cbor_item.proofs.Members.{In}
 use Rattle.cbor_item.proofs.Orders.{lt_trans}
 use Rattle.cbor_item.proofs.Sorting.{rising_cons, rising_distinct, in_order-rising}
 use Rattle.cbor_item.proofs.Stable.{width_stable, utf8_stable}
-use Rattle.cbor_item.proofs.Sound.{IsSound, sound}
+use Rattle.cbor_item.proofs.Sound.{IsSound, sound, valid_apart}
 use Rattle.cbor_item.proofs.Keys.{distinct_from_bytes}
 use Rattle.cbor_item.proofs.Normal.{pair_bytes, pairs, spell_entries-pairs, closer-shortest}
 
@@ -38,14 +39,6 @@ below_all o (entry k v es) b bs at n p m =
     ]
 
 -- ---- heads
-
-holds_fits : (w : Width) (n : ℕ) → Holds w n → n < 2 ^ 64
-holds_fits Direct n h = omega arith
-holds_fits One n h = omega arith
-holds_fits Two n h = omega arith
-holds_fits Four n h = omega arith
-holds_fits Eight n h = h
-holds_fits Indefinite n h = absurd h
 
 head_clean : (o : KeyOrder) (at : ℕ) (m : Major) (w : Width) (n : ℕ) → ((c : Complaint) → OfHead (strict o) at m w n c → ⊥) → w ≡ shortest n
 head_clean o at m w n f = width_stable w (shortest n) (λ e. f _ (e, refl))
@@ -69,14 +62,6 @@ counted_bytes : (m : Major) (w : Width) (n k : ℕ) (xs ys : List ℕ) → IsCou
 counted_bytes m w n k xs ys c e =
     let s : w ≡ shortest k = c.shortest_is ∙ ap shortest (sym c.count) in
     (λ i. (head m (s i) (sym c.count i) ++ e i) ++ closer (s i)) ∙ (λ i. (shortest_head m k ++ ys) ++ closer-shortest k i) ∙ append-nil _
-
-values_count-of : (ss : Spellings) → values_count (values_of ss) ≡ spellings_count ss
-values_count-of no_spellings = refl
-values_count-of (a_spelling s ss) = ap suc (values_count-of ss)
-
-entries_count-of : (es : SpelledEntries) → value.entries_count (entries_of es) ≡ entries_count es
-entries_count-of no_entries = refl
-entries_count-of (entry k v es) = ap suc (entries_count-of es)
 
 -- ---- the induction
 
@@ -107,7 +92,7 @@ strict_map o w es c r =
     let u : IsRising o ps = subst (IsRising o) r.pairs_are r.rising in
     let b : spell_entries es ≡ flat_map pair_bytes (in_order o ps) = spell_entries-pairs es ∙ ap (flat_map pair_bytes) (r.pairs_are ∙ sym (in_order-rising o ps u)) in
     record {
-      sound = sound (value_of (a_map w es)) (c.fits, r.range) (r.valid, distinct_from_bytes o (entries_of es) r.range r.valid (rising_distinct o ps u));
+      sound = sound (value_of (a_map w es)) (c.fits, r.range) (r.valid, distinct_from_bytes o (entries_of es) r.range ((valid_apart (entries_of es)).0 r.valid).0 (rising_distinct o ps u));
       bytes_are = counted_bytes Map w (entries_count es) (value.entries_count (entries_of es)) (spell_entries es) (flat_map pair_bytes (in_order o ps)) c b;
     }
 

@@ -43,6 +43,12 @@ pub entries_count-view : (ps : List (Item × Item)) → entries_count (entries_v
 entries_count-view [] = refl
 entries_count-view (p ∷ ps) = ap suc (entries_count-view ps)
 
+pub canonical-Bytes : (o : KeyOrder) (v : Vec ℕ Global) → canonical o (view (Bytes v)) ≡ shortest_head Major.Bytes (length v.items) ++ v.items
+canonical-Bytes o v = ap (canonical o) (view-Bytes v)
+
+pub canonical-Text : (o : KeyOrder) (s : String Global) → canonical o (view (Text s)) ≡ shortest_head Major.Text (length (string_bytes s)) ++ string_bytes s
+canonical-Text o s = ap (canonical o) (view-Text s)
+
 pub canonical-Array : (o : KeyOrder) (v : Vec Item Global) (n : ℕ) → n ≡ length v.items → canonical o (view (Array v)) ≡ shortest_head Major.Array n ++ canonical_all o (values_view v.items)
 canonical-Array o v n e = rw (view-Array v, values_count-view v.items, e) refl
 

@@ -4,6 +4,7 @@ ghost use Rattle.std.specs.Prelude.{◌≡◌, ◌↔◌, IsTrue, OnOk, IsPermut
 ghost use Rattle.cbor_head.specs.Order.{key_cmp, key_lt};
 ghost use Rattle.cbor_item.specs.Encoded.{DoNeighboursDiffer};
 
+use crate::key_bytes::KeyBytes;
 use cbor_head::KeyOrder;
 use std::alloc::AllocError;
 use std::cmp::Ordering;
@@ -21,21 +22,21 @@ pub fn compare_keys(order: KeyOrder, a: &[u8], b: &[u8]) -> Ordering
 // A key's canonical bytes, and the index of its pair in the map.
 #[derive(Drop)]
 pub(crate) struct EncodedKey {
-    pub(crate) bytes: Vec<u8>,
+    pub(crate) bytes: KeyBytes,
     pub(crate) index: usize,
 }
 
 // Sorts by the bytes, in some n log n comparisons for n keys.
 pub(crate) fn sort_keys(keys: &mut Vec<EncodedKey>, order: KeyOrder) -> Result<(), AllocError>
     ensures permuted { IsPermutation keys.old.items keys.new.items }
-    ensures sorted { OnOk result (IsSortedBy (λ x y. key_lt order x.bytes.items y.bytes.items) keys.new.items) }
+    ensures sorted { OnOk result (IsSortedBy (λ x y. key_lt order x.bytes y.bytes) keys.new.items) }
 {
-    keys.sort_by(|a, b| compare_keys(order, &a.bytes, &b.bytes))
+    keys.sort_by(|a, b| compare_keys(order, a.bytes.as_slice(), b.bytes.as_slice()))
 }
 
 // Whether no two neighbours have the same bytes.
 pub(crate) fn differ(keys: &Vec<EncodedKey>) -> bool
-    ensures { IsTrue result ↔ DoNeighboursDiffer (map (λ key. key.bytes.items) keys.now.items) }
+    ensures { IsTrue result ↔ DoNeighboursDiffer (map (λ key. key.bytes) keys.now.items) }
 {
     for i in 1..keys.len() {
         if keys[i - 1].bytes.as_slice() == keys[i].bytes.as_slice() {

@@ -1,16 +1,18 @@
 //! Canonical bytes.
 
-ghost use Rattle.std.specs.Prelude.{◌≡◌, ◌++◌, ◌<◌, map, length, All, IfOk, IfErr};
+ghost use Rattle.std.specs.Prelude.{◌≡◌, ◌≢◌, ◌↔◌, ◌++◌, map, length, IsTrue, IsSome, IfOk, IfErr, IfSome, IsPermutation};
+ghost use Rattle.std.specs.List.{range_with_len};
 ghost use Rattle.cbor_head.specs.Canonical.{canonical, canonical_all, canonical_entries, in_order};
 ghost use Rattle.cbor_head.specs.Head.{IsSimple, shortest_head};
 ghost use Rattle.cbor_head.specs.Value.{IsInRange, AreInRange, AreEntriesInRange, IsValid, AreValid, AreEntriesValid, HasDistinctKeys};
 ghost use Rattle.cbor_head.specs.declared.major.Major.TheVariants.{Simple};
-ghost use Rattle.cbor_item.specs.Encoded.{joined, pair_at};
+ghost use Rattle.cbor_item.specs.Encoded.{joined, pair_at, AreKeysValid};
 ghost use Rattle.cbor_item.specs.Sent.{no_memory};
 ghost use Rattle.cbor_item.specs.View.{view, values_view, entries_view};
 
-use crate::encoded_key::{EncodedKey, sort_keys};
+use crate::encoded_key::{EncodedKey, differ, sort_keys};
 use crate::item::Item;
+use crate::key_bytes::KeyBytes;
 use crate::tree::Tree;
 use cbor_head::{Head, KeyOrder, Major, Reason, Refusal};
 use std::alloc::{AllocError, Global};
@@ -21,9 +23,8 @@ pub fn encode(alloc: Global, tree: &Tree, order: KeyOrder) -> Result<Vec<u8>, Re
     ensures bytes { IfOk result (λ bytes. bytes.items ≡ canonical order (view tree.now)) }
     ensures refused { IfErr result (λ refusal. refusal ≡ no_memory) }
 {
-    let mut bytes = Vec::new(alloc);
-    match encode_into(alloc, tree.item(), order, &mut bytes) {
-        Ok(()) => Ok(bytes),
+    match encode_valid(alloc, tree.item(), order) {
+        Ok(bytes) => Ok(bytes),
         Err(_) => Err(Refusal {
             reason: Reason::Memory,
             place: 0,
@@ -32,43 +33,55 @@ pub fn encode(alloc: Global, tree: &Tree, order: KeyOrder) -> Result<Vec<u8>, Re
     }
 }
 
-// Writes the canonical bytes of the item behind those that are there.
+/// The canonical bytes of an item that is known to be valid: for a reader that has compared the
+/// keys.
+pub fn encode_valid(alloc: Global, item: &Item, order: KeyOrder) -> Result<Vec<u8>, AllocError>
+    requires in_range { IsInRange (view item.now) }
+    requires valid { IsValid (view item.now) }
+    ensures { IfOk result (λ bytes. bytes.items ≡ canonical order (view item.now)) }
+{
+    let mut bytes = Vec::new(alloc);
+    // It answers true of a valid item.
+    let _ = encode_into(alloc, item, order, &mut bytes)?;
+    Ok(bytes)
+}
+
+// Whether no map in the item, at any depth, has two equal keys: that texts are UTF-8 their type
+// says. Where that is so, the canonical bytes are put behind those that were there. One walk does
+// both, since equal keys are found by their bytes: so a key is encoded once, however many keys it
+// lies in.
 #[cycle(encode)]
 pub(crate) fn encode_into(
     alloc: Global,
     item: &Item,
     order: KeyOrder,
     out: &mut Vec<u8>,
-) -> Result<(), AllocError>
-    requires in_range { IsInRange (view item.now) }
-    requires valid { IsValid (view item.now) }
-    ensures { IfOk result (λ _. out.new.items ≡ out.old.items ++ canonical order (view item.now)) }
+) -> Result<bool, AllocError>
+    requires { IsInRange (view item.now) }
+    ensures valid { IfOk result (λ valid. IsTrue valid ↔ IsValid (view item.now)) }
+    ensures bytes { IfOk result (λ valid. IsTrue valid
+        → out.new.items ≡ out.old.items ++ canonical order (view item.now)) }
 {
     match item {
-        Item::Unsigned(n) => push_head(out, Major::Unsigned, *n),
-        Item::Negative(n) => push_head(out, Major::Negative, *n),
-        Item::Bytes(bytes) => {
-            push_head(out, Major::Bytes, bytes.len() as u64)?;
-            out.extend_from_slice(bytes)
-        }
-        Item::Text(text) => {
-            push_head(out, Major::Text, text.len() as u64)?;
-            out.extend_from_slice(text.as_bytes())
-        }
+        Item::Unsigned(n) => push_head(out, Major::Unsigned, *n)?,
+        Item::Negative(n) => push_head(out, Major::Negative, *n)?,
+        Item::Bytes(bytes) => push_string(out, Major::Bytes, bytes)?,
+        Item::Text(text) => push_string(out, Major::Text, text.as_bytes())?,
         Item::Array(items) => {
             push_head(out, Major::Array, items.len() as u64)?;
-            encode_all(alloc, items, order, out)
+            return encode_all(alloc, items, order, out);
         }
         Item::Map(pairs) => {
             push_head(out, Major::Map, pairs.len() as u64)?;
-            encode_pairs(alloc, pairs, order, out)
+            return encode_pairs(alloc, pairs, order, out);
         }
         Item::Tag(n, content) => {
             push_head(out, Major::Tag, *n)?;
-            encode_into(alloc, content, order, out)
+            return encode_into(alloc, content, order, out);
         }
-        Item::Simple(simple) => push_head(out, Major::Simple, u64::from(simple.number())),
+        Item::Simple(simple) => push_head(out, Major::Simple, u64::from(simple.number()))?,
     }
+    Ok(true)
 }
 
 #[cycle(encode)]
@@ -77,15 +90,18 @@ fn encode_all(
     items: &Vec<Item>,
     order: KeyOrder,
     out: &mut Vec<u8>,
-) -> Result<(), AllocError>
-    requires in_range { AreInRange (values_view items.now.items) }
-    requires valid { AreValid (values_view items.now.items) }
-    ensures { IfOk result (λ _. out.new.items ≡ out.old.items ++ canonical_all order (values_view items.now.items)) }
+) -> Result<bool, AllocError>
+    requires { AreInRange (values_view items.now.items) }
+    ensures valid { IfOk result (λ valid. IsTrue valid ↔ AreValid (values_view items.now.items)) }
+    ensures bytes { IfOk result (λ valid. IsTrue valid
+        → out.new.items ≡ out.old.items ++ canonical_all order (values_view items.now.items)) }
 {
     for item in items {
-        encode_into(alloc, item, order, out)?;
+        if !encode_into(alloc, item, order, out)? {
+            return Ok(false);
+        }
     }
-    Ok(())
+    Ok(true)
 }
 
 // The pairs of a map, in the order of their keys.
@@ -95,40 +111,61 @@ fn encode_pairs(
     pairs: &Vec<(Item, Item)>,
     order: KeyOrder,
     out: &mut Vec<u8>,
-) -> Result<(), AllocError>
-    requires in_range { AreEntriesInRange (entries_view pairs.now.items) }
-    requires valid { AreEntriesValid (entries_view pairs.now.items) }
-    requires distinct { HasDistinctKeys (entries_view pairs.now.items) }
-    ensures { IfOk result (λ _. out.new.items ≡ out.old.items ++ joined (in_order order (canonical_entries order (entries_view pairs.now.items)))) }
+) -> Result<bool, AllocError>
+    requires { AreEntriesInRange (entries_view pairs.now.items) }
+    ensures valid { IfOk result (λ valid. IsTrue valid
+        ↔ (AreEntriesValid (entries_view pairs.now.items) × HasDistinctKeys (entries_view pairs.now.items))) }
+    ensures bytes { IfOk result (λ valid. IsTrue valid
+        → out.new.items ≡ out.old.items ++ joined (in_order order (canonical_entries order (entries_view pairs.now.items)))) }
 {
-    let mut keys = encode_keys(alloc, pairs, order)?;
-    sort_keys(&mut keys, order)?;
+    let Some(keys) = encode_keys(alloc, pairs, order)? else {
+        return Ok(false);
+    };
     for key in &keys {
-        out.extend_from_slice(&key.bytes)?;
-        encode_into(alloc, &pairs[key.index].1, order, out)?;
+        out.extend_from_slice(key.bytes.as_slice())?;
+        if !encode_into(alloc, &pairs[key.index].1, order, out)? {
+            return Ok(false);
+        }
     }
-    Ok(())
+    Ok(true)
 }
 
-// The canonical bytes of the keys, each with the index of its pair.
+// The canonical bytes of the keys, in order, each with the index of its pair. None where a key
+// isn't valid or two are the same.
 #[cycle(encode)]
 pub(crate) fn encode_keys(
     alloc: Global,
     pairs: &Vec<(Item, Item)>,
     order: KeyOrder,
-) -> Result<Vec<EncodedKey>, AllocError>
-    requires in_range { AreEntriesInRange (entries_view pairs.now.items) }
-    requires valid { AreEntriesValid (entries_view pairs.now.items) }
-    ensures keys { IfOk result (λ keys. map (pair_at order pairs.now.items) keys.items ≡ canonical_entries order (entries_view pairs.now.items)) }
-    ensures indices { IfOk result (λ keys. All (λ key. key.index < length pairs.now.items) keys.items) }
+) -> Result<Option<Vec<EncodedKey>>, AllocError>
+    requires { AreEntriesInRange (entries_view pairs.now.items) }
+    ensures valid { IfOk result (λ keys. IsSome keys
+        ↔ (AreKeysValid (entries_view pairs.now.items) × HasDistinctKeys (entries_view pairs.now.items))) }
+    ensures pairs { IfOk result (λ keys. IfSome keys (λ keys.
+        map (pair_at order pairs.now.items) keys.items ≡ in_order order (canonical_entries order (entries_view pairs.now.items)))) }
+    ensures indices { IfOk result (λ keys. IfSome keys (λ keys.
+        IsPermutation (range_with_len 0 (length pairs.now.items)) (map (λ key. key.index) keys.items))) }
 {
     let mut keys = Vec::new(alloc);
+    let mut bytes = Vec::new(alloc);
     for (index, pair) in pairs.iter().enumerate() {
-        let mut bytes = Vec::new(alloc);
-        encode_into(alloc, &pair.0, order, &mut bytes)?;
+        if !encode_into(alloc, &pair.0, order, &mut bytes)? {
+            return Ok(None);
+        }
+        let bytes = KeyBytes::take(alloc, &mut bytes);
         keys.push(EncodedKey { bytes, index })?;
     }
-    Ok(keys)
+    sort_keys(&mut keys, order)?;
+    Ok(differ(&keys).then_some(keys))
+}
+
+fn push_string(out: &mut Vec<u8>, major: Major, content: &[u8]) -> Result<(), AllocError>
+    requires { major ≢ Simple }
+    ensures { IfOk result
+        (λ _. out.new.items ≡ out.old.items ++ shortest_head major (length content.now) ++ content.now) }
+{
+    push_head(out, major, content.len() as u64)?;
+    out.extend_from_slice(content)
 }
 
 fn push_head(out: &mut Vec<u8>, major: Major, argument: u64) -> Result<(), AllocError>

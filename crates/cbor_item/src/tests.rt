@@ -1,6 +1,6 @@
 //! Examples, by trees.
 
-use crate::{Item, KeyOrder, Tree, compare_keys, encode, encode_to, same};
+use crate::{Item, KeyOrder, Tree, compare_keys, encode, encode_to, encode_valid, same};
 use cbor_head::{Reason, Refusal, Simple};
 use std::alloc::{AllocError, Global};
 use std::cmp::Ordering;
@@ -165,6 +165,10 @@ fn encodes(rt: HostRuntime) -> Result<(), Fail> {
             encode(alloc, &tree, KeyOrder::LengthFirst)?.as_slice(),
             row.length_first
         );
+        assert_eq!(rt;
+            encode_valid(alloc, tree.item(), KeyOrder::LengthFirst)?.as_slice(),
+            row.length_first
+        );
         let mut out = Vec::new(alloc);
         assert_eq!(rt;
             encode_to(alloc, &tree, KeyOrder::Bytewise, &mut out)?,
@@ -271,6 +275,67 @@ fn refuses(rt: HostRuntime) -> Result<(), Fail> {
             Err((_, reason)) => assert_eq!(rt; reason, want),
         }
     }
+    Ok(())
+}
+
+// {0: 0, second: 1} within a key: as a key of it, as a value, as a member and as a tag's content.
+fn within_keys(alloc: Global, second: u64) -> Result<Vec<Item>, AllocError> {
+    let mut items = Vec::new(alloc);
+    for way in 0..4 {
+        let map = numbers(alloc, (0, 0), (second, 1))?;
+        let key = match way {
+            0 => nested(alloc, map, 1, true)?,
+            1 => nested(alloc, map, 1, false)?,
+            2 => array_of(alloc, map)?,
+            _ => tagged(alloc, map, 1)?,
+        };
+        items.push(nested(alloc, key, 1, true)?)?;
+    }
+    Ok(items)
+}
+
+#[test]
+fn looks_into_keys(rt: HostRuntime) -> Result<(), Fail> {
+    let alloc = rt.alloc();
+    for item in within_keys(alloc, 1)? {
+        tree(alloc, item)?;
+    }
+    for item in within_keys(alloc, 0)? {
+        match Tree::of(alloc, item) {
+            Ok(_) => panic!(rt; "a tree with equal keys"),
+            Err((_, reason)) => assert_eq!(rt; reason, Reason::RepeatedKey),
+        }
+    }
+    Ok(())
+}
+
+// The key of a map's first pair.
+fn first_key(item: &Item) -> Option<&Item> {
+    match item {
+        Item::Map(pairs) => Some(&pairs.first()?.0),
+        _ => None,
+    }
+}
+
+// {{{0: 0, 1: 1}: 0}: 0} and {{{0: 0, 0: 1}: 0}: 0}
+#[test]
+fn looks_into_keys_of_keys(rt: HostRuntime) -> Result<(), Fail> {
+    let alloc = rt.alloc();
+    let apart = nested(alloc, numbers(alloc, (0, 0), (1, 1))?, 2, true)?;
+    assert_eq!(rt;
+        encode(alloc, &tree(alloc, apart)?, KeyOrder::Bytewise)?.as_slice(),
+        b"\xa1\xa1\xa2\x00\x00\x01\x01\x00\x00".as_slice()
+    );
+    let equal = nested(alloc, numbers(alloc, (0, 0), (0, 1))?, 2, true)?;
+    let Err((item, Reason::RepeatedKey)) = Tree::of(alloc, equal) else {
+        panic!(rt; "another answer")
+    };
+    let key = first_key(&item).ok_or("no key")?;
+    let Some(Item::Map(pairs)) = first_key(key) else {
+        panic!(rt; "another item")
+    };
+    assert_eq!(rt; pairs.len(), 2);
+    assert!(rt; matches!(&pairs[1], (Item::Unsigned(0), Item::Unsigned(1))));
     Ok(())
 }
 

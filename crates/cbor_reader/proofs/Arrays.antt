@@ -1,14 +1,14 @@
 -- The loop of a reader over an array's members.
-use Rattle.std.proofs.Common.{◌≡◌, ◌≢◌, Bool, false, true≢false, ℕ, zero, suc, ◌+◌, ◌-◌, ◌<◌, ◌≤◌, ◌⊎◌, Option, Some, None, List, [], ◌∷◌, ◌++◌, length, map, refl, sym, ap, ◌∙◌, subst, inl, inr, arith, append_assoc, append-nil}
+use Rattle.std.proofs.Common.{◌≡◌, ◌≢◌, Bool, false, true≢false, ℕ, zero, suc, ◌+◌, ◌-◌, ◌<◌, ◌≤◌, Option, Some, None, List, [], ◌∷◌, ◌++◌, length, refl, sym, ap, ◌∙◌, subst, arith, append_assoc, append-nil}
 use Rattle.std.proofs.lemmas.List.{length-append}
 use Rattle.std.specs.Prelude.{IsTrue, ◌↔◌}
 use Rattle.std.specs.Io.KnownBytes.{Consumes}
-use Rattle.cbor_head.specs.Head.{Holds, head}
+use Rattle.cbor_head.specs.Head.{head}
 use Rattle.cbor_head.specs.Limits.{Bounds}
 use Rattle.cbor_head.specs.Value as value
 use Rattle.cbor_head.specs.Value.{Value, Values}
-use Rattle.cbor_head.specs.Spelling.{Spelling, Spellings, array, no_spellings, a_spelling, spell, spell_all, spellings_count, closer, HoldsOrOpen, IsSpelled, depth, value_of, values_of}
-use Rattle.cbor_head.specs.Complaint.{Rules, Complaint, OfCount, Complains}
+use Rattle.cbor_head.specs.Spelling.{Spelling, Spellings, array, no_spellings, a_spelling, spell, spellings_count, closer, HoldsOrOpen, value_of, values_of}
+use Rattle.cbor_head.specs.Complaint.{Rules, Complaint, Complains}
 use Rattle.cbor_head.specs.declared.major.Major.TheVariants as majors
 use Rattle.cbor_head.specs.declared.width.Width.{Width}
 use Rattle.cbor_head.specs.declared.width.Width.TheVariants.{Direct, One, Two, Four, Eight, Indefinite}
@@ -20,7 +20,6 @@ use Rattle.cbor_events.specs.State.{count_of}
 use Rattle.cbor_events.specs.ItemEvents.{ItemEventsView}
 use Rattle.cbor_events.specs.declared.event.EventKind.TheVariants as kinds
 use Rattle.cbor_item.specs.declared.item.Item.{Item}
-use Rattle.cbor_item.specs.View as seen
 use Rattle.cbor_item.specs.View.{view, values_view}
 use Rattle.cbor_reader.specs.Frame.{with_all}
 use Rattle.cbor_reader.specs.Members.{fewer}
@@ -30,7 +29,7 @@ use Rattle.cbor_reader.proofs.Frames.{count_with}
 use Rattle.cbor_reader.proofs.Composition.{IsArraySoFar, array_bytes, array_judged, array_more, array_whole}
 use Rattle.cbor_reader.proofs.Heads.{open_or}
 use Rattle.cbor_reader.proofs.Loops.{array_bytes-more, array_bytes-whole}
-use Rattle.cbor_reader.proofs.Items.{IsDefinite, definite, proper-definite, extends-none, extends-in, extends-on, stops-in, stops-memory}
+use Rattle.cbor_reader.proofs.Items.{definite, proper-definite, extends-none, extends-in, extends-on, stops-in, stops-memory}
 use Rattle.cbor_reader.proofs.Scalars.{at-as}
 use Rattle.cbor_reader.proofs.Steps.{at-reached, reached-as, farther}
 use Rattle.cbor_head.proofs.ReadLaws.{length_spell}

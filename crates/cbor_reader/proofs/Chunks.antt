@@ -1,9 +1,8 @@
 -- A chunk of a string of indefinite length, cut or whole: what it has is the string's.
-use Rattle.std.proofs.Common.{ℕ, suc, ◌+◌, ◌≡◌, ◌<◌, ◌≤◌, true, false, Option, Some, None, List, [], ◌∷◌, ◌++◌, ◌⊎◌, inl, inr, length, replicate, flat_map, refl, sym, ap, ◌∙◌, arith, subst}
+use Rattle.std.proofs.Common.{ℕ, suc, ◌+◌, ◌≡◌, ◌<◌, true, false, Some, None, List, [], ◌∷◌, ◌++◌, ◌⊎◌, inl, inr, length, replicate, flat_map, sym, ap, ◌∙◌, arith, subst}
 use Rattle.std.specs.List.{AllByRecursion}
 use Rattle.std.proofs.lemmas.List.{length-append, append_assoc, append-nil}
 use Rattle.cbor_head.specs.Head.{Holds, head}
-use Rattle.cbor_head.specs.Value.{AreBytes}
 use Rattle.cbor_head.specs.Spelling.{Chunk, IsChunk, Spelling, IsSpelled, chunk_bytes}
 use Rattle.cbor_head.specs.Complaint.{Rules, Complaint, OfHead, OfOpener, OfPayload, OfString, OfChunks, Complains}
 use Rattle.cbor_head.specs.declared.major.Major.{Major}
@@ -15,7 +14,7 @@ use Rattle.cbor_head.proofs.OneFirst.{payload_last}
 use Rattle.cbor_events.specs.Automaton.{Frame, State, at_item, in_head, in_simple, in_payload, in_chunks, done as at_end}
 use Rattle.cbor_events.proofs.Arguments.{number}
 use Rattle.cbor_events.proofs.Taking.{IsWithin}
-use Rattle.cbor_reader.specs.Judged.{IsFinding, IsJudged}
+use Rattle.cbor_reader.specs.Judged.{IsJudged}
 use Rattle.cbor_reader.proofs.Judged.{Never}
 use Rattle.cbor_reader.proofs.Leaves.{IsChunked, chunks_bytes, chunk_judged, chunks_so_far, chunks_split, are_chunks}
 use Rattle.cbor_reader.proofs.Heads.{zero_bytes, zero_length}

@@ -1,17 +1,15 @@
 -- What a reader found is the verdict.
-use Rattle.std.proofs.Common.{ℕ, ◌+◌, ◌≡◌, ◌<◌, ◌≤◌, Some, None, List, [], ◌++◌, length, take, refl, sym, ap, ◌∙◌, arith, subst, inl, inr}
-use Rattle.std.proofs.lemmas.List.{length-append, append_assoc, append-nil}
+use Rattle.std.proofs.Common.{ℕ, ◌+◌, ◌≡◌, ◌<◌, ◌≤◌, Some, None, List, ◌++◌, length, take, refl, sym, ap, ◌∙◌, arith, subst, inl, inr}
+use Rattle.std.proofs.lemmas.List.{append_assoc}
 use Rattle.std.proofs.lemmas.Bool.{cases_lt}
-use Rattle.cbor_head.specs.Spelling.{Spelling, spell, IsSpelled, depth, IsItem}
+use Rattle.cbor_head.specs.Spelling.{Spelling, spell, IsItem}
 use Rattle.cbor_head.specs.Complaint.{Rules, Complaint, Complains}
-use Rattle.cbor_head.specs.Verdict.{refusal, accepted, refused, IsBreak, IsFirstComplaint, IsVerdict}
+use Rattle.cbor_head.specs.Verdict.{refusal, refused, IsBreak, IsFirstComplaint, IsVerdict}
 use Rattle.cbor_head.specs.Beginning.{IsLongestBeginning}
 use Rattle.cbor_head.specs.declared.reason.Refusal.{Refusal}
 use Rattle.cbor_reader.specs.Judged.{IsFirstOf, IsJudged}
-use Rattle.cbor_head.proofs.ReadLaws.{unique}
 use Rattle.cbor_head.proofs.Agree.{split_front}
 use Rattle.cbor_head.proofs.OneFirst.{first_for_each}
-use Rattle.cbor_reader.proofs.Judged.{Never}
 
 first_at_start : (r : Rules) (s : Spelling) (p : List ℕ) (c : Complaint) → IsFirstOf (Complains r 0 s) (0 + length p) c → IsFirstComplaint r s (length p) c
 first_at_start r s p c f =

@@ -1,13 +1,12 @@
 -- What was found of the item that is due first is told of each reader, and of its known bytes.
-use Rattle.std.proofs.Common.{ℕ, ◌+◌, ◌-◌, ◌^◌, ◌≡◌, ◌<◌, ◌≤◌, Option, Some, None, List, [], ◌∷◌, ◌++◌, length, refl, sym, ap, ◌∙◌, arith, subst}
+use Rattle.std.proofs.Common.{ℕ, ◌≡◌, ◌≤◌, Option, Some, None, List, [], length, refl, sym, ◌∙◌, arith, subst}
 use Rattle.std.specs.Option.{IfSome}
 use Rattle.cbor_head.specs.Limits.{Bounds, AreBounds}
 use Rattle.cbor_head.specs.Value.{Value}
 use Rattle.cbor_head.specs.Spelling.{spell, value_of}
 use Rattle.cbor_head.specs.Complaint.{Rules}
 use Rattle.cbor_head.specs.declared.reason.Refusal.{Refusal}
-use Rattle.cbor_events.specs.Automaton.{State, start, at_item, run, reached}
-use Rattle.cbor_events.specs.State.{state_of}
+use Rattle.cbor_events.specs.Automaton.{at_item}
 use Rattle.cbor_events.specs.ItemEvents.{ItemEventsView, StandsBetween}
 use Rattle.cbor_reader.specs.declared.rules.Rules as declared
 use Rattle.cbor_reader.specs.Rules.{rules_of}

@@ -1,5 +1,5 @@
 -- An item in another: what is read and what is refused of it, for the whole.
-use Rattle.std.proofs.Common.{◌≡◌, ◌≢◌, ℕ, zero, suc, ◌+◌, ◌-◌, ◌<◌, ◌≤◌, ◌⊎◌, Option, Some, None, List, [], ◌∷◌, ◌++◌, length, replicate, refl, sym, ap, ◌∙◌, subst, inl, inr, arith, append_assoc, append-nil}
+use Rattle.std.proofs.Common.{◌≡◌, ◌≢◌, ℕ, ◌+◌, ◌-◌, ◌<◌, ◌≤◌, Option, Some, None, List, [], ◌++◌, length, replicate, refl, sym, ap, ◌∙◌, subst, inl, inr, arith, append_assoc, append-nil}
 use Rattle.std.proofs.lemmas.List.{length-append}
 use Rattle.std.specs.Prelude.{Result, Ok, Err, MatchResult}
 use Rattle.cbor_item.specs.declared.item.Item.{Item}
@@ -8,20 +8,17 @@ use Rattle.std.specs.Io.KnownBytes.{Consumes}
 use Rattle.std.proofs.KnownBytes.{Consumes-nil, Consumes-trans}
 use Rattle.cbor_head.specs.Head.{Holds, head, shortest}
 use Rattle.cbor_head.specs.Limits.{Bounds}
-use Rattle.cbor_head.specs.Value as value
 use Rattle.cbor_head.specs.Value.{Value}
-use Rattle.cbor_head.specs.Spelling.{Spelling, unsigned, negative, bytes, text, byte_chunks, text_chunks, array, a_map, tag, simple, spell, IsSpelled, depth, value_of}
-use Rattle.cbor_head.specs.Complaint.{Rules, form, strict, Complaint, OfHead, OfOpener, OfCount, Complains}
-use Rattle.cbor_head.specs.Verdict.{refused, IsVerdict}
+use Rattle.cbor_head.specs.Spelling.{unsigned, negative, bytes, text, byte_chunks, text_chunks, tag, spell}
+use Rattle.cbor_head.specs.Complaint.{Rules, strict, Complaint, OfHead, OfOpener, OfCount}
 use Rattle.cbor_head.specs.declared.major.Major.{Major}
 use Rattle.cbor_head.specs.declared.major.Major.TheVariants as majors
 use Rattle.cbor_head.specs.declared.width.Width.{Width}
 use Rattle.cbor_head.specs.declared.width.Width.TheVariants.{Direct, One, Two, Four, Eight, Indefinite}
 use Rattle.cbor_head.specs.declared.reason.Refusal.{Refusal}
-use Rattle.cbor_head.proofs.Parts.{head_of}
 use Rattle.cbor_head.proofs.OneFirst.{last, count_last}
 use Rattle.cbor_events.specs.Trace.{Mark, a_head, a_chunk, a_byte, an_end}
-use Rattle.cbor_events.specs.Automaton.{Frame, counted, State, at_item, in_chunks, close, expect, payload, run, reached}
+use Rattle.cbor_events.specs.Automaton.{Frame, State, at_item}
 use Rattle.cbor_events.specs.Taking.{Follows, Opens, Ends, IsTaking}
 use Rattle.cbor_events.specs.State as state
 use Rattle.cbor_events.specs.State.{mark_of}
@@ -29,14 +26,13 @@ use Rattle.cbor_events.specs.ItemEvents.{ItemEventsView}
 use Rattle.cbor_events.specs.declared.event.Event.{Event}
 use Rattle.cbor_events.specs.declared.event.EventKind.{EventKind}
 use Rattle.cbor_events.specs.declared.event.EventKind.TheVariants as kinds
-use Rattle.cbor_events.proofs.Taking.{IsNumbered, nothing-taken}
+use Rattle.cbor_events.proofs.Taking.{nothing-taken}
 use Rattle.cbor_reader.specs.Judged.{IsJudged}
-use Rattle.cbor_reader.specs.Reading.{IsAt, IsReached, Extends, IsFormRefusal, OfMark, IsBegun, ReadsItem, IsCause, HasCause, IsMemory, StopsItem, IsNextHead, StopsHead, ReadsBreak, IsDue, HasBegun}
+use Rattle.cbor_reader.specs.Reading.{IsAt, IsReached, Extends, IsFormRefusal, OfMark, IsBegun, ReadsItem, IsCause, HasCause, IsMemory, StopsItem, IsNextHead, StopsHead, ReadsBreak, HasBegun}
 use Rattle.cbor_reader.proofs.Judged.{zero_item}
 use Rattle.cbor_reader.proofs.Steps.{farther}
 use Rattle.cbor_reader.proofs.Leaves.{head_complains, array_head_complains, map_head_complains}
 use Rattle.cbor_reader.proofs.Heads.{open_or, zero_bytes, zero_length, cut_head}
-use Rattle.cbor_reader.proofs.Composition.{tag_judged, tag_whole}
 use Rattle.cbor_reader.proofs.Steps.{reached-as}
 
 -- ---- what was taken

@@ -1,6 +1,7 @@
 pub mod Accepted
 pub mod Answering
 pub mod Arrays
+pub mod Building
 pub mod Chunks
 pub mod Composition
 pub mod CutShort
@@ -12,6 +13,7 @@ pub mod Headline
 pub mod Heads
 pub mod Items
 pub mod Judged
+pub mod KeySets
 pub mod Keys
 pub mod Leaves
 pub mod Loops
@@ -22,6 +24,7 @@ pub mod OnAnswers
 pub mod OneAnswer
 pub mod Payloads
 pub mod Scalars
+pub mod ReadItems
 pub mod Reasons
 pub mod Sizes
 pub mod SpelledBytes

@@ -1,12 +1,6 @@
 -- The keys of one map so far, and one more.
-use Rattle.std.proofs.Common.{ℕ, ◌+◌, ◌^◌, ◌<◌, ◌≤◌, ◌≡◌, ◌↔◌, ◌⊎◌, Bool, true, false, cond, not, IsTrue, Option, Some, None, List, [], ◌∷◌, length, refl, sym, ap, ◌∙◌, subst, inl, inr, Vec, Global}
-use Rattle.std.specs.Ordering.{nat_cmp}
-use Rattle.std.specs.Cmp.{Equal-is}
-use Rattle.std.specs.Cmp.Lexicographic.{slice_cmp}
-use Rattle.std.specs.BTreeSet.{BTreeSet, Updates}
-use Rattle.std.proofs.lemmas.Map.Text.{is_eq-slice_cmp}
-use Rattle.std.proofs.lemmas.Slice.Eq.{bytes_eq-Decides}
-use Rattle.cbor_head.specs.Value.{Value, Same}
+use Rattle.std.proofs.Common.{ℕ, ◌+◌, ◌^◌, ◌<◌, ◌≤◌, ◌≡◌, ◌↔◌, true, false, IsTrue, Option, Some, None, List, [], ◌∷◌, length, refl, sym, ap, ◌∙◌, subst, inl, inr, Vec, Global}
+use Rattle.cbor_head.specs.Value.{Value}
 use Rattle.cbor_head.specs.Spelling.{Spelling, spell, value_of, depth, IsSpelled}
 use Rattle.cbor_head.specs.Complaint as complaint
 use Rattle.cbor_head.specs.Complaint.{Complaint, OfKey, Complains, IsRepeated}
@@ -19,12 +13,13 @@ use Rattle.cbor_item.proofs.Sound.{IsSound, sound}
 use Rattle.cbor_item.proofs.Depth.{depth-value_of}
 use Rattle.cbor_item.proofs.Keys.{same_exactly}
 use Rattle.cbor_item.proofs.Strict.{strict_spelling}
+use Rattle.cbor_reader.specs.declared.key_set.KeySet.{KeySet}
 use Rattle.cbor_reader.specs.declared.map_keys.Keys.{Keys}
 use Rattle.cbor_reader.specs.declared.map_keys.Keys.TheVariants.{Distinct, Rising}
 use Rattle.cbor_reader.specs.declared.rules.Rules.{Rules}
 use Rattle.cbor_reader.specs.declared.rules.Rules.TheVariants.{Plain, Strict}
 use Rattle.cbor_reader.specs.Rules.{rules_of}
-use Rattle.cbor_reader.specs.MapKeys.{IsKeyValue, IsKey, IsOneOf, AreSound, HasBytes, HasKeys, IsLast, IsInserted, Rises, has_bytes}
+use Rattle.cbor_reader.specs.MapKeys.{IsKeyValue, IsKey, IsOneOf, AreSound, HasKeys, IsLast, IsInserted, IsPut, Rises}
 use Rattle.cbor_reader.proofs.Judged.{Never}
 use Rattle.cbor_reader.proofs.Valid.{in_range_of, valid_of}
 
@@ -42,77 +37,27 @@ repeats_exactly (b ∷ bs) k a s =
 
 -- ---- one more in the set
 
-not_both : true ≡ false → ⊥
-not_both e = cc e
+-- by the plain rules, a key whose bytes are fresh is kept
+plain_kept : (ks : List Spelling) (k : Spelling) (new : KeySet) → AreSound ks → IsSound (value_of k) → IsPut ks k new true → IsInserted complaint.plain ks k (Distinct new) None
+plain_kept ks k new a s h = ((λ at c x. h.0 ((repeats_exactly ks k a s).0 x.0)), (refl, h.1))
 
-has_more : (set new : BTreeSet (Vec ℕ Global)) (b q : Vec ℕ Global) (P : Type 0) → Updates (λ x y. slice_cmp nat_cmp x.items y.items) set new b true
-    → (has_bytes set q ≡ true) ↔ P → (has_bytes new q ≡ true) ↔ ((q.items ≡ b.items) ⊎ P)
-has_more set new b q P u h =
-    let at = u.0 q in
-    let is = is_eq-slice_cmp b.items q.items in
-    let decides = bytes_eq-Decides b.items q.items in (
-      (λ e. by_place _ _ (λ t. inl (sym (decides.0 (sym is ∙ t)))) (λ f. inr (h.0 f)) (sym at ∙ e)),
-      (elim [ inl e ↦ at ∙ first_there _ _ (is ∙ decides.1 (sym e)) | inr p ↦ at ∙ there_too _ _ (h.1 p) ]),
-    )
-  where
-    by_place : {A : Type 0} (x y : Bool) → (x ≡ true → A) → (y ≡ true → A) → cond x true y ≡ true → A
-    by_place true y f g e = f refl
-    by_place false y f g e = g e
-
-    first_there : (x y : Bool) → x ≡ true → cond x true y ≡ true
-    first_there true y e = refl
-    first_there false y e = absurd (not_both (sym e))
-
-    there_too : (x y : Bool) → y ≡ true → cond x true y ≡ true
-    there_too true y e = refl
-    there_too false y e = e
-
-kept_plain : (ks : List Spelling) (k : Spelling) (v : Value) (set new : BTreeSet (Vec ℕ Global)) (b : Vec ℕ Global) → HasBytes set ks → IsKey complaint.plain k v
-    → b.items ≡ canonical Bytewise v → Updates (λ x y. slice_cmp nat_cmp x.items y.items) set new b true → has_bytes set b ≡ false → IsInserted complaint.plain ks k (Distinct new) None
-kept_plain ks k v set new b h i e u f =
-    let s = plain_sound k v i in
-    let is : b.items ≡ canonical Bytewise (value_of k) = e ∙ ap (canonical Bytewise) (sym i.value) in (
-      (λ at c x. not_both (sym ((h.has b).1 (subst (λ (q : List ℕ). IsOneOf q ks) (sym is) ((repeats_exactly ks k h.sound s).0 x.0))) ∙ f)),
-      (
-        refl,
-        record {
-          sound = (s.range, s.valid, h.sound);
-          has = λ q. subst (λ (x : List ℕ). (has_bytes new q ≡ true) ↔ ((q.items ≡ x) ⊎ IsOneOf q.items ks)) is (has_more set new b q (IsOneOf q.items ks) u (h.has q));
-        },
-      ),
-    )
-
-repeated_plain : (ks : List Spelling) (k : Spelling) (v : Value) (set : BTreeSet (Vec ℕ Global)) (new : Keys) (b : Vec ℕ Global) → HasBytes set ks → IsKey complaint.plain k v
-    → b.items ≡ canonical Bytewise v → has_bytes set b ≡ true → IsInserted complaint.plain ks k new (Some RepeatedKey)
-repeated_plain ks k v set new b h i e f =
-    let s = plain_sound k v i in
-    let is : b.items ≡ canonical Bytewise (value_of k) = e ∙ ap (canonical Bytewise) (sym i.value) in
-    λ at. ((repeats_exactly ks k h.sound s).1 (subst (λ (q : List ℕ). IsOneOf q ks) is ((h.has b).0 f)), refl)
+plain_repeated : (ks : List Spelling) (k : Spelling) (set : KeySet) (new : Keys) → AreSound ks → IsSound (value_of k) → IsPut ks k set false → IsInserted complaint.plain ks k new (Some RepeatedKey)
+plain_repeated ks k set new a s h = λ at. ((repeats_exactly ks k a s).1 h, refl)
 
 -- ---- either way, by whichever rules
 
-module _ (r : complaint.Rules) (ks : List Spelling) (k : Spelling) (v : Value) (i : IsKey r k v) (b : Vec ℕ Global) where
-  pub distinct_kept : (set new : BTreeSet (Vec ℕ Global)) → HasKeys r (Distinct set) ks → b.items ≡ canonical Bytewise v
-      → Updates (λ x y. slice_cmp nat_cmp x.items y.items) set new b true → true ≡ not (has_bytes set b) → IsInserted r ks k (Distinct new) None
-  distinct_kept set new h e u f =
-      subst (λ (r : complaint.Rules). IsInserted r ks k (Distinct new) None) (sym h.0)
-      (kept_plain ks k v set new b h.1 (subst (λ (r : complaint.Rules). IsKey r k v) h.0 i) e u (opposite _ f))
-    where
-      opposite : (x : Bool) → true ≡ not x → x ≡ false
-      opposite true e = e
-      opposite false e = refl
+module _ (r : complaint.Rules) (ks : List Spelling) (k : Spelling) (v : Value) (i : IsKey r k v) where
+  -- its value
+  pub plain : (set : KeySet) → HasKeys r (Distinct set) ks → IsSound (value_of k)
+  plain set h = plain_sound k v (subst (λ (r : complaint.Rules). IsKey r k v) h.0 i)
 
-  pub distinct_repeated : (set : BTreeSet (Vec ℕ Global)) (new : Keys) → HasKeys r (Distinct set) ks → b.items ≡ canonical Bytewise v
-      → false ≡ not (has_bytes set b) → IsInserted r ks k new (Some RepeatedKey)
-  distinct_repeated set new h e f =
-      subst (λ (r : complaint.Rules). IsInserted r ks k new (Some RepeatedKey)) (sym h.0)
-      (repeated_plain ks k v set new b h.1 (subst (λ (r : complaint.Rules). IsKey r k v) h.0 i) e (opposite _ f))
-    where
-      opposite : (x : Bool) → false ≡ not x → x ≡ true
-      opposite true e = refl
-      opposite false e = e
+  pub distinct_kept : (set new : KeySet) → HasKeys r (Distinct set) ks → IsPut ks k new true → IsInserted r ks k (Distinct new) None
+  distinct_kept set new h f = subst (λ (r : complaint.Rules). IsInserted r ks k (Distinct new) None) (sym h.0) (plain_kept ks k new h.1.sound (plain set h) f)
 
-  module _ (o : KeyOrder) (last : Option (Vec ℕ Global)) (h : HasKeys r (Rising o last) ks) (e : b.items ≡ canonical o v) where
+  pub distinct_repeated : (set put : KeySet) (new : Keys) → HasKeys r (Distinct set) ks → IsPut ks k put false → IsInserted r ks k new (Some RepeatedKey)
+  distinct_repeated set put new h f = subst (λ (r : complaint.Rules). IsInserted r ks k new (Some RepeatedKey)) (sym h.0) (plain_repeated ks k put new h.1.sound (plain set h) f)
+
+  module _ (b : Vec ℕ Global) (o : KeyOrder) (last : Option (Vec ℕ Global)) (h : HasKeys r (Rising o last) ks) (e : b.items ≡ canonical o v) where
     spelled_so : b.items ≡ spell k
     spelled_so =
         e ∙ ap (canonical o) (sym i.value)

@@ -1,13 +1,13 @@
 -- The loop of a reader over a map's pairs.
-use Rattle.std.proofs.Common.{◌≡◌, ◌≢◌, ℕ, zero, suc, ◌+◌, ◌-◌, ◌<◌, ◌≤◌, ◌⊎◌, true, false, Option, Some, None, List, [], ◌∷◌, ◌++◌, length, map, refl, sym, ap, ap₂, ◌∙◌, subst, inl, inr, arith, append_assoc, append-nil}
+use Rattle.std.proofs.Common.{◌≡◌, ◌≢◌, ℕ, zero, suc, ◌+◌, ◌-◌, ◌<◌, ◌≤◌, true, false, Option, Some, None, List, [], ◌∷◌, ◌++◌, length, refl, sym, ap, ap₂, ◌∙◌, subst, inr, arith, append_assoc, append-nil}
 use Rattle.std.proofs.lemmas.List.{length-append}
 use Rattle.std.specs.Io.KnownBytes.{Consumes}
-use Rattle.cbor_head.specs.Head.{Holds, head}
+use Rattle.cbor_head.specs.Head.{head}
 use Rattle.cbor_head.specs.Limits.{Bounds}
 use Rattle.cbor_head.specs.Value as value
 use Rattle.cbor_head.specs.Value.{Value, Entries}
-use Rattle.cbor_head.specs.Spelling.{Spelling, SpelledEntries, a_map, no_entries, entry, spell, spell_entries, entries_count, closer, HoldsOrOpen, IsSpelled, depth, value_of, entries_of}
-use Rattle.cbor_head.specs.Complaint.{Rules, Complaint, OfCount, OfKey, Complains}
+use Rattle.cbor_head.specs.Spelling.{Spelling, SpelledEntries, a_map, no_entries, entry, spell, entries_count, closer, HoldsOrOpen, depth, value_of, entries_of}
+use Rattle.cbor_head.specs.Complaint.{Rules, Complaint, OfKey, Complains}
 use Rattle.cbor_head.specs.Verdict.{refusal}
 use Rattle.cbor_head.specs.declared.major.Major.TheVariants as majors
 use Rattle.cbor_head.specs.declared.width.Width.{Width}
@@ -24,13 +24,13 @@ use Rattle.cbor_item.specs.declared.item.Item.{Item}
 use Rattle.cbor_item.specs.View.{view, entries_view}
 use Rattle.cbor_reader.specs.Frame.{with_entries, keys_onto}
 use Rattle.cbor_reader.specs.Judged.{IsJudged}
-use Rattle.cbor_reader.specs.Reading.{IsAt, Extends, IsBegun, ReadsItem, IsMemory, HasCause, StopsItem, IsReached}
+use Rattle.cbor_reader.specs.Reading.{IsAt, Extends, IsBegun, ReadsItem, IsMemory, StopsItem, IsReached}
 use Rattle.cbor_reader.proofs.Frames.{entries_with}
 use Rattle.cbor_reader.proofs.Judged.{Never}
 use Rattle.cbor_reader.proofs.Composition.{IsMapSoFar, IsKeySoFar, map_bytes, key_judged, key_complains, content_judged, map_more, map_whole}
 use Rattle.cbor_reader.proofs.Heads.{open_or}
 use Rattle.cbor_reader.proofs.Loops.{map_bytes-more, map_bytes-whole}
-use Rattle.cbor_reader.proofs.Items.{IsDefinite, definite, proper-definite, extends-none, extends-in, extends-on, stops-in, stops-memory}
+use Rattle.cbor_reader.proofs.Items.{definite, proper-definite, extends-none, extends-in, extends-on, stops-in, stops-memory}
 use Rattle.cbor_reader.proofs.Scalars.{at-as}
 use Rattle.cbor_reader.proofs.Arrays.{IsLeft, one_fewer, closes, close-counted}
 use Rattle.cbor_reader.specs.Members.{fewer}

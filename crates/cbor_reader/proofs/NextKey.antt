@@ -1,40 +1,22 @@
 -- The key of a map that is due: read, kept, or refused.
-use Rattle.std.proofs.Common.{◌≡◌, ℕ, ◌+◌, ◌-◌, ◌^◌, ◌<◌, ◌≤◌, ◌⊎◌, Option, Some, None, List, [], ◌∷◌, ◌++◌, length, refl, sym, ap, ◌∙◌, subst, inl, inr, arith}
-use Rattle.std.specs.Prelude.{Result, Ok, Err, IfOk, MatchOption}
+use Rattle.std.proofs.Common.{◌≡◌, ℕ, ◌+◌, Option, Some, None, List, [], length, ap, ◌∙◌, subst}
 use Rattle.std.proofs.lemmas.List.{length-append}
 use Rattle.cbor_head.specs.Limits.{Bounds}
 use Rattle.cbor_head.specs.Value.{Value}
-use Rattle.cbor_head.specs.Spelling.{Spelling, spell, depth}
+use Rattle.cbor_head.specs.Spelling.{Spelling, spell}
 use Rattle.cbor_head.specs.Complaint as complaint
 use Rattle.cbor_head.specs.Complaint.{Rules, Complaint}
 use Rattle.cbor_head.specs.Verdict.{refusal}
 use Rattle.cbor_head.specs.declared.reason.Reason.{Reason}
 use Rattle.cbor_head.specs.declared.reason.Refusal.{Refusal}
-use Rattle.cbor_events.specs.Automaton.{Frame, close}
+use Rattle.cbor_events.specs.Automaton.{Frame}
 use Rattle.cbor_events.specs.ItemEvents.{ItemEventsView}
-use Rattle.cbor_item.specs.declared.item.Item.{Item}
-use Rattle.cbor_item.specs.View.{view}
-use Rattle.cbor_reader.specs.MapKeys.{HasKeys, IsKey, IsKeyValue, IsInserted}
+use Rattle.cbor_reader.specs.MapKeys.{IsInserted}
 use Rattle.cbor_reader.specs.NextKey.{ReadsKey, RefusesKey}
-use Rattle.cbor_reader.specs.Reading.{IsAt, IsReached, ReadsItem, IsMemory, StopsItem}
-use Rattle.cbor_reader.specs.Rules.{rules_of}
-use Rattle.cbor_reader.specs.declared.rules.Rules as declared
+use Rattle.cbor_reader.specs.Reading.{ReadsItem}
 use Rattle.cbor_reader.specs.declared.map_keys.Keys.{Keys}
-use Rattle.cbor_reader.proofs.Items.{extends-by, stops-memory}
-use Rattle.cbor_reader.proofs.MapKeys.{key_value}
-use Rattle.cbor_reader.proofs.Steps.{at-reached}
 
 module _ (r : Rules) (b : Bounds) (fs : List Frame) (t : List ℕ) (from to : Option (List ℕ)) (new : ItemEventsView) (v : Value) (m : ReadsItem r b fs t [] from to new v) where
-  -- it fits
-  pub is-key : IsKey r m.item v
-  is-key =
-      let reached = (at-reached b new (t ++ spell m.item) (close fs) m.at).within in
-      let most : b.bytes ≤ 2 ^ 62 = m.at.limits.1 in
-      record { spelled = m.spelled; fits = omega (arith, reached, most, length-append t (spell m.item)); place = length t; clean = m.clean; value = m.value }
-
-  pub shallow : depth m.item ≤ 256
-  shallow = let most : b.depth ≤ 256 = m.at.limits.0 in omega (arith, m.within, most)
-
   pub keeps-key : (ks : List Spelling) (keys : Keys) (reason : Option Reason) → reason ≡ None → IsInserted r ks m.item keys reason → ReadsKey r b fs t ks keys from to new v
   keeps-key ks keys reason e h =
       let g = subst (λ (x : Option Reason). IsInserted r ks m.item keys x) e h in
@@ -46,9 +28,3 @@ module _ (r : Rules) (b : Bounds) (fs : List Frame) (t : List ℕ) (from to : Op
       let g = subst (λ (x : Option Reason). IsInserted r ks m.item keys x) e h in
       let taken : new.machine.taken ≡ length t + length (spell m.item) = m.at.stands.stands.taken ∙ length-append t (spell m.item) in
       record { new = new; v = v; reads = m; complaint = complaint.complaint (length t + length (spell m.item)) (length t) reason; of = g (length t); is = is ∙ ap (refusal reason (length t)) taken }
-
-  pub key-no-memory : (f : Refusal) → f.read ≡ new.machine.taken → IsMemory f → StopsItem r b fs t [] from to f
-  key-no-memory f e h = stops-memory r b fs t [] (spell m.item) from to f m.taken (e ∙ m.at.stands.stands.taken) h (at-reached b new (t ++ spell m.item) (close fs) m.at)
-
-pub key-value : (rules : declared.Rules) (b : Bounds) (fs : List Frame) (t : List ℕ) (from to : Option (List ℕ)) (new : ItemEventsView) (v : Value) → ReadsItem (rules_of rules) b fs t [] from to new v → IsKeyValue v
-key-value rules b fs t from to new v m = key_value rules m.item v (is-key (rules_of rules) b fs t from to new v m) (shallow (rules_of rules) b fs t from to new v m)

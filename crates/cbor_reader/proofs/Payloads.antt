@@ -1,30 +1,22 @@
 -- Strings: a payload, the chunk that it is of, and the whole.
-use Rattle.std.proofs.Common.{◌≡◌, ◌≢◌, ℕ, zero, suc, ◌+◌, ◌-◌, ◌<◌, ◌≤◌, ◌⊎◌, Bool, true, false, Option, Some, None, List, [], ◌∷◌, ◌++◌, length, drop, replicate, flat_map, refl, true≢false, sym, ap, ◌∙◌, subst, inl, inr, arith, append_assoc, append-nil}
-use Rattle.std.specs.Prelude.{IsUtf8, Result, Ok, Err}
+use Rattle.std.proofs.Common.{◌≡◌, ℕ, zero, suc, ◌+◌, ◌-◌, ◌<◌, ◌≤◌, Bool, true, false, Option, None, List, [], ◌∷◌, ◌++◌, length, drop, replicate, refl, true≢false, sym, ap, ◌∙◌, subst, inl, inr, arith, append_assoc, append-nil}
+use Rattle.std.specs.Prelude.{IsUtf8}
 use Rattle.std.specs.Str.Lossy.{utf8_valid_len}
-use Rattle.std.specs.List.{AllByRecursion}
 use Rattle.std.proofs.lemmas.List.{length-append}
 use Rattle.std.proofs.Math.Seq.{drop-append_seam}
 use Rattle.std.specs.Io.KnownBytes.{Consumes}
 use Rattle.std.proofs.KnownBytes.{Consumes-nil, Consumes-trans}
-use Rattle.cbor_head.specs.Head.{Holds, head}
 use Rattle.cbor_head.specs.Limits.{Bounds}
-use Rattle.cbor_head.specs.Value as value
-use Rattle.cbor_head.specs.Value.{Value, AreBytes}
-use Rattle.cbor_head.specs.Spelling.{Chunk, IsChunk, Spelling, bytes, text as a_text, byte_chunks, text_chunks, spell, chunk_bytes, joined, IsSpelled, depth, value_of}
-use Rattle.cbor_head.specs.Complaint.{Rules, plain, strict, form, Complaint, complaint, OfHead, OfPayload, OfString, Complains}
+use Rattle.cbor_head.specs.Value.{AreBytes}
 use Rattle.cbor_head.specs.Verdict.{refusal}
 use Rattle.cbor_head.specs.declared.major.Major.{Major}
-use Rattle.cbor_head.specs.declared.major.Major.TheVariants as majors
 use Rattle.cbor_head.specs.declared.width.Width.{Width}
-use Rattle.cbor_head.specs.declared.width.Width.TheVariants.{Direct, One, Two, Four, Eight, Indefinite}
 use Rattle.cbor_head.specs.declared.reason.Refusal.{Refusal}
 use Rattle.cbor_head.specs.declared.reason.Reason.TheVariants.{InvalidText}
-use Rattle.cbor_events.specs.Trace.{Mark, a_head, a_chunk, a_byte, an_end, payload_marks}
+use Rattle.cbor_events.specs.Trace.{Mark, a_byte}
 use Rattle.cbor_events.specs.Automaton.{Frame, counted, open_array, open_map, Outcome, refused, telling, State, at_item, in_head, in_simple, in_payload, in_chunks, done as at_end, close, close_string, payload, run, reached}
 use Rattle.cbor_events.specs.Taking.{IsTaking}
-use Rattle.cbor_events.specs.State.{state_of, mark_of, marks_of}
-use Rattle.cbor_events.specs.Machine.{MachineView}
+use Rattle.cbor_events.specs.State.{state_of, marks_of}
 use Rattle.cbor_events.specs.ItemEvents as item_events
 use Rattle.cbor_events.specs.ItemEvents.{ItemEventsView, IsNextEvent, IsKept}
 use Rattle.cbor_events.specs.Bytes.{IsEventBytes}
@@ -35,15 +27,10 @@ use Rattle.cbor_events.proofs.Forward.{payload-byte}
 use Rattle.cbor_events.specs.declared.event.Event.{Event}
 use Rattle.cbor_events.specs.declared.event.EventKind.{EventKind}
 use Rattle.cbor_events.specs.declared.event.EventKind.TheVariants as kinds
-use Rattle.cbor_events.proofs.Taking.{IsClear, IsWithin, mark-taken, nothing-taken, first-mark, within-start, pieces-taken}
-use Rattle.cbor_reader.specs.Judged.{IsJudged}
-use Rattle.cbor_reader.specs.Reading.{IsAt, IsFormRefusal, Extends, IsBegun, ReadsItem, IsMemory, StopsItem, HasCause, IsCutHead, ReadsPayload, IsCutPayload, IsNoText, StopsPayload, string_major, string_kind, string_value}
-use Rattle.cbor_reader.proofs.Steps.{Stops, SameLimits, stands-reached, at-reached, reached-as, at-run, at-clear, bytes_back, next-at, since}
-use Rattle.cbor_reader.proofs.Items.{definite, proper-definite, head-count, extends-none, extends-on}
+use Rattle.cbor_events.proofs.Taking.{IsClear, IsWithin, nothing-taken, first-mark, within-start}
+use Rattle.cbor_reader.specs.Reading.{IsAt, IsFormRefusal, IsMemory, ReadsPayload, StopsPayload}
+use Rattle.cbor_reader.proofs.Steps.{Stops, SameLimits, stands-reached, at-reached, reached-as, at-clear, bytes_back, next-at, since}
 use Rattle.cbor_reader.proofs.Scalars.{at-as}
-use Rattle.cbor_reader.proofs.Heads.{zero_bytes, zero_length}
-use Rattle.cbor_reader.proofs.Judged.{Never}
-use Rattle.cbor_reader.proofs.Leaves.{bytes_so_far, text_so_far, text_complains}
 
 pub bytes_join : (xs ys : List ℕ) → AreBytes xs → AreBytes ys → AreBytes (xs ++ ys)
 bytes_join [] ys g h = h
@@ -245,13 +232,13 @@ module _ (b : Bounds) (chunk : Bool) (m : Major) (fs : List Frame) (t : List ℕ
       go (suc j) k w = behind s.cut.begun w
         where
           behind : (u : State) → IsWithin b.depth (in_payload chunk m j fs) u s.cut.p → s.cut.p ≡ []
-          behind (in_head false l w i acc gs) w2 = absurd (cc w2.0)
-          behind (in_head true l w i acc gs) w2 = absurd (cc w2.0)
-          behind (in_simple gs) w2 = absurd (cc w2.0)
-          behind (at_item gs) w2 = w2.1
-          behind (in_payload c l i gs) w2 = w2.1
-          behind (in_chunks l gs) w2 = w2.1
-          behind at_end w2 = w2.1
+          behind (in_head false l w i acc gs) taking = absurd (cc taking.0)
+          behind (in_head true l w i acc gs) taking = absurd (cc taking.0)
+          behind (in_simple gs) taking = absurd (cc taking.0)
+          behind (at_item gs) taking = taking.1
+          behind (in_payload c l i gs) taking = taking.1
+          behind (in_chunks l gs) taking = taking.1
+          behind at_end taking = taking.1
 
 -- all of it has come
 pub all-come : (b : Bounds) (chunk : Bool) (m : Major) (fs : List Frame) (t : List ℕ) (left : ℕ) (old grown : List ℕ) (from now : Option (List ℕ)) (e : ItemEventsView) (n : ℕ)

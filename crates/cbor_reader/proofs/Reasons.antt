@@ -1,12 +1,12 @@
 -- No verdict names a reader that failed.
-use Rattle.std.proofs.Common.{ℕ, ◌+◌, ◌≡◌, ◌≢◌, ◌⊎◌, List, [], ◌∷◌, length, refl, sym, ap, ◌∙◌, inl, inr, Bool, true, false}
+use Rattle.std.proofs.Common.{ℕ, ◌+◌, ◌≡◌, ◌≢◌, List, [], ◌∷◌, length, refl, sym, ap, ◌∙◌, inl, inr, Bool, true, false}
 use Rattle.std.specs.Prelude.{◌==◌, ◌||◌, ◌&&◌, ◌%◌, nat_le, if◌then◌else◌}
 use Rattle.cbor_head.specs.Head.{head}
 use Rattle.cbor_head.specs.Spelling.{Chunk, Spelling, Spellings, SpelledEntries, unsigned, negative, bytes, text, byte_chunks, text_chunks, array, a_map, tag, simple, no_spellings, a_spelling, no_entries, entry, spell, chunk_bytes, spellings_count, entries_count}
 use Rattle.cbor_head.specs.Complaint.{Rules, form, plain, strict, Complaint, OfHead, OfOpener, OfCount, OfPayload, OfString, OfChunks, OfKey, Complains, ComplainsIn, ComplainsInEntries}
 use Rattle.cbor_head.specs.Verdict.{initial_reason, refused, BreaksForm, IsBreak, IsVerdict}
 use Rattle.cbor_head.specs.declared.reason.Reason.{Reason}
-use Rattle.cbor_head.specs.declared.reason.Reason.TheVariants.{Read, NotShortest, Indefinite as IndefiniteReason, InvalidText, RepeatedKey, KeyOrder as KeyOrderReason, TooLong, Truncated, BadSimple, BadChunk, StrayBreak, Float, NoIndefinite, Reserved, TooDeep}
+use Rattle.cbor_head.specs.declared.reason.Reason.TheVariants.{Read, NotShortest, Indefinite as IndefiniteReason, InvalidText, RepeatedKey, KeyOrder as KeyOrderReason, StrayBreak, Float, NoIndefinite, Reserved, TooDeep}
 use Rattle.cbor_head.specs.declared.reason.Refusal.{Refusal}
 use Rattle.cbor_head.specs.declared.major.Major.{Major}
 use Rattle.cbor_head.specs.declared.major.Major.TheVariants.{Unsigned, Negative, Bytes, Text, Array, Map, Tag, Simple}

@@ -1,13 +1,12 @@
 -- Items of one head, and tags.
-use Rattle.std.proofs.Common.{◌≡◌, ◌≢◌, ℕ, zero, suc, ◌+◌, ◌-◌, ◌<◌, ◌≤◌, ◌⊎◌, Option, Some, None, List, [], ◌∷◌, ◌++◌, length, refl, sym, ap, ◌∙◌, subst, inl, inr, arith, append_assoc, append-nil}
+use Rattle.std.proofs.Common.{◌≡◌, ℕ, suc, ◌+◌, ◌-◌, ◌<◌, Option, List, [], ◌∷◌, ◌++◌, length, refl, sym, ap, ◌∙◌, subst, arith, append_assoc, append-nil}
 use Rattle.std.proofs.lemmas.List.{length-append}
-use Rattle.cbor_head.specs.Head.{Holds, head, shortest}
+use Rattle.cbor_head.specs.Head.{head, shortest}
 use Rattle.cbor_head.specs.Limits.{Bounds}
 use Rattle.cbor_head.specs.Value as value
 use Rattle.cbor_head.specs.Value.{Value}
-use Rattle.cbor_head.specs.Spelling.{Spelling, unsigned, negative, tag, simple, spell, IsSpelled, depth, value_of}
-use Rattle.cbor_head.specs.Complaint.{Rules, Complaint, OfHead, Complains}
-use Rattle.cbor_head.specs.declared.major.Major.{Major}
+use Rattle.cbor_head.specs.Spelling.{unsigned, negative, tag, simple, spell}
+use Rattle.cbor_head.specs.Complaint.{Rules, Complains}
 use Rattle.cbor_head.specs.declared.major.Major.TheVariants as majors
 use Rattle.cbor_head.specs.declared.width.Width.{Width}
 use Rattle.cbor_head.specs.declared.reason.Refusal.{Refusal}
@@ -18,7 +17,7 @@ use Rattle.cbor_reader.specs.Judged.{IsJudged}
 use Rattle.cbor_reader.specs.Reading.{IsAt, Extends, IsBegun, ReadsItem, IsMemory, StopsItem}
 use Rattle.cbor_reader.proofs.Steps.{at-reached, reached-as}
 use Rattle.cbor_reader.proofs.Composition.{tag_judged, tag_whole}
-use Rattle.cbor_reader.proofs.Items.{IsDefinite, definite, never-open, is-definite, head-count, extends-none, extends-on, extends-in, stops-in, stops-memory}
+use Rattle.cbor_reader.proofs.Items.{IsDefinite, definite, never-open, is-definite, head-count, extends-none, extends-in, stops-in, stops-memory}
 
 pub at-as : (b : Bounds) (e : ItemEventsView) (t u : List ℕ) (p q : State) → t ≡ u → p ≡ q → IsAt b e t p → IsAt b e u q
 at-as b e t u p q f g a = subst (λ (x : State). IsAt b e u x) g (subst (λ (x : List ℕ). IsAt b e x p) f a)

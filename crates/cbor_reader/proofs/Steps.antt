@@ -1,23 +1,20 @@
 -- From one event to the next: which it can be, its bytes, and where it leads.
-use Rattle.std.proofs.Common.{◌≡◌, ◌≢◌, ℕ, zero, suc, ◌+◌, ◌-◌, ◌<◌, ◌≤◌, ◌⊎◌, Bool, true, false, Option, Some, None, List, [], ◌∷◌, ◌++◌, length, refl, sym, ap, ◌∙◌, subst, inl, inr, arith, append_assoc, append-nil}
+use Rattle.std.proofs.Common.{◌≡◌, ℕ, zero, suc, ◌+◌, ◌-◌, ◌<◌, ◌≤◌, ◌⊎◌, Option, Some, None, List, [], ◌∷◌, ◌++◌, length, refl, sym, ap, ◌∙◌, subst, inl, inr, arith, append_assoc, append-nil}
 use Rattle.std.proofs.lemmas.List.{length-append}
-use Rattle.std.specs.Prelude.{Result, Ok, Err}
-use Rattle.std.specs.Io.KnownBytes.{Consumes, IsAtEnd}
-use Rattle.cbor_head.specs.Head.{head, shortest}
+use Rattle.std.specs.Prelude.{Ok}
+use Rattle.std.specs.Io.KnownBytes.{Consumes}
 use Rattle.cbor_head.specs.Limits.{Bounds}
 use Rattle.cbor_head.specs.Value.{AreBytes}
 use Rattle.cbor_head.specs.Complaint.{Rules, form, plain, strict, Complaint, complaint}
 use Rattle.cbor_head.specs.Beginning.{IsBeginning}
 use Rattle.cbor_head.specs.Verdict.{refusal, refused, IsVerdict}
-use Rattle.cbor_head.specs.declared.major.Major.{Major}
-use Rattle.cbor_head.specs.declared.major.Major.TheVariants as majors
 use Rattle.cbor_head.specs.declared.width.Width.{Width}
 use Rattle.cbor_head.specs.declared.width.Width.TheVariants.{Direct, One, Two, Four, Eight, Indefinite}
 use Rattle.cbor_head.specs.declared.order.KeyOrder.{KeyOrder}
 use Rattle.cbor_head.specs.declared.reason.Reason.{Reason}
 use Rattle.cbor_head.specs.declared.reason.Reason.TheVariants as reasons
 use Rattle.cbor_head.specs.declared.reason.Refusal.{Refusal}
-use Rattle.cbor_events.specs.Trace.{Mark, a_head, a_chunk, a_byte, an_end, total}
+use Rattle.cbor_events.specs.Trace.{Mark, a_head, a_chunk, a_byte, an_end}
 use Rattle.cbor_events.specs.Automaton.{State, start, at_item, in_head, in_simple, in_payload, in_chunks, done, run, reached}
 use Rattle.cbor_events.specs.Taking.{IsTaking}
 use Rattle.cbor_events.specs.State.{state_of, mark_of, marks_of, times}
@@ -31,8 +28,8 @@ use Rattle.cbor_events.specs.declared.frame.Frame as frames
 use Rattle.cbor_events.specs.declared.place.Place.{Place}
 use Rattle.cbor_events.specs.declared.place.Place.TheVariants as places
 use Rattle.cbor_events.proofs.Runs.{once-marks}
-use Rattle.cbor_events.proofs.Taking.{IsClear, IsWithin, mark-taken, nothing-taken}
-use Rattle.cbor_reader.specs.Reading.{IsAt, IsReached, IsFormRefusal, OfMark, IsHeadDue, IsNextHead, IsCutHead, HasHeadComplaint, StopsHead, IsFault}
+use Rattle.cbor_events.proofs.Taking.{IsClear, mark-taken}
+use Rattle.cbor_reader.specs.Reading.{IsAt, IsReached, OfMark, IsHeadDue, IsNextHead, IsCutHead, StopsHead, IsFault}
 use Rattle.cbor_events.proofs.NextEvents.{whole-clear, run-rest}
 
 pub bytes_back : (xs ys : List ℕ) → AreBytes (xs ++ ys) → AreBytes ys

@@ -1,15 +1,14 @@
 -- What was found of the one item that an input starts with is its verdict.
-use Rattle.std.proofs.Common.{ℕ, suc, ◌+◌, ◌-◌, ◌^◌, ◌≡◌, ◌≢◌, ◌<◌, ◌≤◌, ◌⊎◌, Option, Some, None, List, [], ◌∷◌, ◌++◌, length, take, drop, refl, sym, ap, ◌∙◌, arith, subst, inl, inr, append_assoc, append-nil, take-append-drop}
+use Rattle.std.proofs.Common.{ℕ, ◌+◌, ◌-◌, ◌≡◌, ◌≤◌, ◌⊎◌, Option, Some, None, List, [], ◌∷◌, ◌++◌, length, take, drop, refl, sym, ap, ◌∙◌, arith, subst, inl, inr, append_assoc, append-nil, take-append-drop}
 use Rattle.std.proofs.Math.Seq.{take-append_seam, drop-append_seam, take-append-add}
 use Rattle.std.proofs.lemmas.List.{length-append, nil_from_length}
 use Rattle.std.specs.Io.KnownBytes.{Consumes, IsAtEnd}
-use Rattle.std.specs.Option.{IfSome}
 use Rattle.cbor_head.specs.Limits.{Bounds}
 use Rattle.cbor_head.specs.Value.{Value}
-use Rattle.cbor_head.specs.Spelling.{Spelling, spell, depth, value_of, IsItem}
+use Rattle.cbor_head.specs.Spelling.{spell}
 use Rattle.cbor_head.specs.Beginning.{IsBeginning, IsLongestBeginning}
-use Rattle.cbor_head.specs.Complaint.{Rules, Complaint, form, Complains}
-use Rattle.cbor_head.specs.Verdict.{refusal, accepted, refused, IsBreak, IsVerdict}
+use Rattle.cbor_head.specs.Complaint.{Rules, Complaint, form}
+use Rattle.cbor_head.specs.Verdict.{refusal, refused, IsBreak, IsVerdict}
 use Rattle.cbor_head.specs.declared.reason.Reason.{Reason}
 use Rattle.cbor_head.specs.declared.reason.Reason.TheVariants.{Truncated, Read, Memory}
 use Rattle.cbor_head.specs.declared.reason.Refusal.{Refusal}
@@ -18,8 +17,8 @@ use Rattle.cbor_head.proofs.Beginnings.{item_decides}
 use Rattle.cbor_events.proofs.Form.{no-complaint}
 use Rattle.cbor_events.specs.ItemEvents.{ItemEventsView}
 use Rattle.cbor_reader.specs.Judged.{IsJudged}
-use Rattle.cbor_reader.specs.Readers.{IsRead, IsReadAs, IsUnread, of_verdict, of_reader, of_memory, Loses}
-use Rattle.cbor_reader.specs.Reading.{IsAt, IsReached, IsFormRefusal, IsMemory, IsCause, HasCause, Extends, ReadsItem, StopsItem}
+use Rattle.cbor_reader.specs.Readers.{IsReadAs, IsUnread, of_verdict, of_reader, of_memory, Loses}
+use Rattle.cbor_reader.specs.Reading.{IsReached, IsMemory, IsCause, Extends, ReadsItem, StopsItem}
 use Rattle.cbor_reader.proofs.Decisions.{complaint_decides, break_decides}
 use Rattle.cbor_reader.proofs.Within.{verdict_within}
 use Rattle.cbor_reader.proofs.SpelledBytes.{longest_always}

@@ -1,38 +1,21 @@
 -- The value of an item of fewer than 2^64 bytes is in range, and of one without plain complaint valid.
-use Rattle.std.proofs.Common.{ℕ, suc, ◌+◌, ◌^◌, ◌≡◌, ◌<◌, ◌≤◌, ◌⊎◌, List, [], ◌∷◌, ◌++◌, length, flat_map, refl, ap, arith, subst, inl, inr, IsUtf8}
+use Rattle.std.proofs.Common.{ℕ, ◌+◌, ◌^◌, ◌≡◌, ◌<◌, ◌≤◌, ◌⊎◌, List, [], ◌∷◌, ◌++◌, length, flat_map, refl, arith, subst, inl, inr, IsUtf8}
 use Rattle.std.specs.List.{AllByRecursion}
 use Rattle.std.proofs.lemmas.Str.{IsUtf8-append, IsUtf8-nil}
 use Rattle.std.proofs.lemmas.List.{length-append}
-use Rattle.cbor_head.specs.Head.{Holds, head}
-use Rattle.cbor_head.specs.Value as value
-use Rattle.cbor_head.specs.Value.{Value, Values, Entries, AreBytes, HasEntry, HasDistinctKeys, Same, values_count, IsInRange, AreInRange, AreEntriesInRange, IsValid, AreValid, AreEntriesValid}
+use Rattle.cbor_head.specs.Head.{head}
+use Rattle.cbor_head.specs.Value.{Value, AreBytes, HasEntry, HasDistinctKeys, Same, IsInRange, AreInRange, AreEntriesInRange, IsValid, AreValid, AreEntriesValid}
 use Rattle.cbor_head.specs.Spelling.{Chunk, IsChunk, Spelling, Spellings, SpelledEntries, unsigned, negative, bytes, text, byte_chunks, text_chunks, array, a_map, tag, simple, no_spellings, a_spelling, no_entries, entry, spell, spell_all, spell_entries, spellings_count, entries_count, value_of, values_of, entries_of, joined, chunk_bytes, chunked, closer, IsSpelled, AreSpelled, AreEntriesSpelled}
 use Rattle.cbor_head.specs.Complaint.{plain, Complains, ComplainsIn, ComplainsInEntries, OfChunks, IsRepeated}
 use Rattle.cbor_head.specs.declared.major.Major.{Major}
 use Rattle.cbor_head.specs.declared.major.Major.TheVariants.{Bytes, Text, Array, Map, Tag}
-use Rattle.cbor_head.specs.declared.width.Width.{Width}
-use Rattle.cbor_head.specs.declared.width.Width.TheVariants.{Direct, One, Two, Four, Eight, Indefinite}
+use Rattle.cbor_head.specs.declared.width.Width.TheVariants.{Indefinite}
+use Rattle.cbor_head.proofs.Counts.{holds_fits, values_count-of, entries_count-of}
 use Rattle.cbor_head.proofs.ReadLaws.{length_spell}
 use Rattle.cbor_item.proofs.Stable.{utf8_stable}
 use Rattle.cbor_reader.proofs.Judged.{Never}
 
-holds_fits : (w : Width) (n : ℕ) → Holds w n → n < 2 ^ 64
-holds_fits Direct n h = omega arith
-holds_fits One n h = omega arith
-holds_fits Two n h = omega arith
-holds_fits Four n h = omega arith
-holds_fits Eight n h = h
-holds_fits Indefinite n h = absurd h
-
 -- ---- counts
-
-values_count-of : (ss : Spellings) → values_count (values_of ss) ≡ spellings_count ss
-values_count-of no_spellings = refl
-values_count-of (a_spelling s ss) = ap suc (values_count-of ss)
-
-entries_count-of : (es : SpelledEntries) → value.entries_count (entries_of es) ≡ entries_count es
-entries_count-of no_entries = refl
-entries_count-of (entry k v es) = ap suc (entries_count-of es)
 
 -- each member has a byte
 pub count_bounded : (ss : Spellings) → spellings_count ss ≤ length (spell_all ss)

@@ -1,5 +1,5 @@
 -- From what is read of an input to the answers that are public.
-use Rattle.std.proofs.Common.{ℕ, zero, suc, ◌-◌, ◌<◌, Bool, true, false, refl, arith, ◌≡◌, ◌≢◌, ◌≤◌, Option, Some, None, List, length, sym, ap, ◌∙◌, drop, subst}
+use Rattle.std.proofs.Common.{ℕ, zero, suc, ◌-◌, ◌<◌, true, false, arith, ◌≡◌, ◌≢◌, ◌≤◌, Option, Some, None, List, length, sym, ap, ◌∙◌, subst}
 use Rattle.std.specs.Prelude.{◌==◌}
 use Rattle.std.specs.Option.{IfSome}
 use Rattle.std.proofs.lemmas.List.{length-drop}
@@ -8,9 +8,8 @@ use Rattle.cbor_head.specs.Canonical.{canonical}
 use Rattle.cbor_head.specs.Value.{Value}
 use Rattle.cbor_head.specs.Spelling.{Spelling, value_of}
 use Rattle.cbor_head.specs.Complaint.{plain, strict}
-use Rattle.cbor_head.specs.Verdict.{refusal, accepted, refused, Answer}
+use Rattle.cbor_head.specs.Verdict.{refusal, accepted, refused}
 use Rattle.cbor_head.specs.declared.order.KeyOrder.{KeyOrder}
-use Rattle.cbor_head.specs.declared.reason.Reason.{Reason}
 use Rattle.cbor_head.specs.declared.reason.Reason.TheVariants.{Read, Memory, Trailing, CanonicalTooLong}
 use Rattle.cbor_head.specs.declared.reason.Refusal.{Refusal}
 use Rattle.cbor_head.proofs.OneVerdict.{one_verdict}

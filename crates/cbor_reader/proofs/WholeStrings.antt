@@ -1,17 +1,14 @@
 -- Strings of one piece, and strings of chunks.
-use Rattle.std.proofs.Common.{◌≡◌, ◌≢◌, ℕ, zero, suc, ◌+◌, ◌-◌, ◌<◌, ◌≤◌, ◌⊎◌, Bool, true, false, true≢false, Option, Some, None, List, [], ◌∷◌, ◌++◌, length, replicate, flat_map, refl, sym, ap, ◌∙◌, subst, inl, inr, arith, append_assoc, append-nil}
+use Rattle.std.proofs.Common.{◌≡◌, ℕ, ◌+◌, ◌-◌, ◌<◌, ◌≤◌, ◌⊎◌, Bool, true, false, true≢false, Option, Some, None, List, [], ◌∷◌, ◌++◌, length, replicate, flat_map, refl, sym, ap, ◌∙◌, subst, inl, inr, arith, append_assoc, append-nil}
 use Rattle.std.specs.Prelude.{IsUtf8}
 use Rattle.std.specs.Str.Lossy.{utf8_valid_len}
-use Rattle.std.specs.List.{AllByRecursion}
 use Rattle.std.proofs.lemmas.List.{length-append}
 use Rattle.std.proofs.lemmas.Grind.{flat_map-append}
 use Rattle.std.proofs.lemmas.Str.{IsUtf8-nil, IsUtf8-append}
-use Rattle.std.specs.Io.KnownBytes.{Consumes}
 use Rattle.cbor_head.specs.Head.{Holds, head}
 use Rattle.cbor_head.specs.Limits.{Bounds}
-use Rattle.cbor_head.specs.Value as value
-use Rattle.cbor_head.specs.Value.{Value, AreBytes}
-use Rattle.cbor_head.specs.Spelling.{Chunk, IsChunk, Spelling, bytes, text as a_text, byte_chunks, text_chunks, spell, chunk_bytes, joined, IsSpelled, depth, value_of}
+use Rattle.cbor_head.specs.Value.{AreBytes}
+use Rattle.cbor_head.specs.Spelling.{Chunk, Spelling, bytes, text as a_text, byte_chunks, text_chunks, spell, chunk_bytes, joined, IsSpelled, depth, value_of}
 use Rattle.cbor_head.specs.Complaint.{Rules, form, plain, strict, Complaint, complaint, OfHead, OfOpener, OfCount, OfPayload, OfString, Complains}
 use Rattle.cbor_head.specs.Verdict.{refusal}
 use Rattle.cbor_head.specs.declared.major.Major.{Major}
@@ -34,8 +31,8 @@ use Rattle.cbor_events.specs.ItemEvents.{ItemEventsView}
 use Rattle.cbor_reader.specs.Judged.{IsJudged}
 use Rattle.cbor_reader.specs.Rules.{rules_of}
 use Rattle.cbor_reader.specs.declared.rules.Rules as declared
-use Rattle.cbor_reader.specs.Reading.{IsAt, IsFormRefusal, IsNoText, IsCutHead, HasHeadComplaint, IsNextHead, Extends, IsBegun, OfMark, ReadsItem, IsMemory, StopsItem, HasCause, StopsHead, ReadsPayload, StopsPayload, string_major, string_kind, string_value}
-use Rattle.cbor_reader.proofs.Items.{IsDefinite, definite, proper-definite, is-definite, head-count, count-head, extends-none, extends-on}
+use Rattle.cbor_reader.specs.Reading.{IsAt, IsFormRefusal, IsNoText, IsNextHead, Extends, IsBegun, OfMark, ReadsItem, StopsItem, HasCause, StopsHead, ReadsPayload, StopsPayload, string_major, string_kind, string_value}
+use Rattle.cbor_reader.proofs.Items.{definite, proper-definite, is-definite, head-count, extends-none, extends-on}
 use Rattle.cbor_reader.proofs.Scalars.{at-as}
 use Rattle.cbor_reader.proofs.Heads.{zero_bytes, zero_length}
 use Rattle.cbor_reader.proofs.Judged.{Never}

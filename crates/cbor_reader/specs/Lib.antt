@@ -1,4 +1,6 @@
+pub mod Building
 pub mod Canonicalise
+pub mod Encoding
 pub mod Frame
 pub mod Headline
 pub mod Judged

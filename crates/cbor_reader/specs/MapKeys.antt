@@ -1,9 +1,10 @@
 -- The keys of one map that were read so far, and what the rules have against one more (RFC 8949, sections 4.2.1 and 5.6).
-use Rattle.std.specs.Prelude.{ℕ, ◌+◌, ◌^◌, ◌≡◌, ◌<◌, ◌≤◌, ◌⊎◌, ◌↔◌, Bool, true, IsTrue, List, [], ◌∷◌, length, Option, Some, None, Result, IfOk, Vec}
+use Rattle.std.specs.Prelude.{ℕ, ◌+◌, ◌^◌, ◌≡◌, ◌<◌, ◌≤◌, ◌⊎◌, ◌↔◌, Bool, true, false, IsTrue, List, [], ◌∷◌, length, Option, Some, None, Result, IfOk, Vec}
 use Rattle.std.specs.Global.{Global}
 use Rattle.std.specs.Ordering.{nat_cmp}
 use Rattle.std.specs.Cmp.Lexicographic.{slice_cmp}
 use Rattle.std.specs.BTreeSet.{BTreeSet, contains}
+use Rattle.arrayvec.specs.ArrayVec.{ArrayVec}
 use Rattle.cbor_head.specs.Value.{Value, IsInRange, IsValid, depth}
 use Rattle.cbor_head.specs.Spelling.{Spelling, spell, IsSpelled, value_of}
 use Rattle.cbor_head.specs.Canonical.{canonical}
@@ -15,6 +16,7 @@ use Rattle.cbor_head.specs.declared.order.KeyOrder.TheVariants.{Bytewise}
 use Rattle.cbor_head.specs.declared.reason.Reason.{Reason}
 use Rattle.cbor_item.specs.declared.item.Item.{Item}
 use Rattle.cbor_item.specs.View.{view}
+use Rattle.cbor_reader.specs.declared.key_set.KeySet.{KeySet}
 use Rattle.cbor_reader.specs.declared.map_keys.Keys.{Keys}
 use Rattle.cbor_reader.specs.declared.map_keys.Keys.TheVariants.{Distinct, Rising}
 
@@ -41,14 +43,20 @@ abbrev pub AreSound : List Spelling → Type 0
 AreSound [] = Unit {0}
 AreSound (b ∷ bs) = IsInRange (value_of b) × IsValid (value_of b) × AreSound bs
 
--- these bytes are in the set
-abbrev pub has_bytes : BTreeSet (Vec ℕ Global) → Vec ℕ Global → Bool
-has_bytes = contains (λ x y. slice_cmp nat_cmp x.items y.items)
+-- this is in a set of bytes
+abbrev pub is_in : {X : Type 0} → (X → List ℕ) → BTreeSet X → X → Bool
+is_in bytes = contains (λ x y. slice_cmp nat_cmp (bytes x) (bytes y))
 
--- the canonical bytes of the keys, and no others
-pub record HasBytes (set : BTreeSet (Vec ℕ Global)) (ks : List Spelling) : Type 0 where
+-- the canonical bytes of the keys, and no others: the short ones and the long ones
+pub record HasBytes (set : KeySet) (ks : List Spelling) : Type 0 where
   pub sound : AreSound ks
-  pub has : (q : Vec ℕ Global) → (has_bytes set q ≡ true) ↔ IsOneOf q.items ks
+  pub short : (q : ArrayVec ℕ) → length q.items ≤ 16 → (is_in (λ x. x.items) set.short q ≡ true) ↔ IsOneOf q.items ks
+  pub long : (q : Vec ℕ Global) → 16 < length q.items → (is_in (λ x. x.items) set.long q ≡ true) ↔ IsOneOf q.items ks
+
+-- of a key's bytes: they are fresh, and in the set now; or they are those of one of the keys
+abbrev pub IsPut : List Spelling → Spelling → KeySet → Bool → Type 0
+IsPut ks k new true = (IsOneOf (canonical Bytewise (value_of k)) ks → ⊥) × HasBytes new (k ∷ ks)
+IsPut ks k new false = IsOneOf (canonical Bytewise (value_of k)) ks
 
 -- the bytes of the nearest key
 abbrev pub IsLast : Option (Vec ℕ Global) → List Spelling → Type 0
@@ -76,7 +84,7 @@ abbrev pub order_of : Keys → KeyOrder
 order_of (Distinct set) = Bytewise
 order_of (Rising o last) = o
 
--- The key is given back, and inserted.
-abbrev pub AnswersKey : {E : Type 0} → Keys → Keys → Item → Result (Option Reason × Item) E → Type 0
+-- The key is inserted.
+abbrev pub AnswersKey : {E : Type 0} → Keys → Keys → Item → Result (Option Reason) E → Type 0
 AnswersKey old new key result = (r : complaint.Rules) (ks : List Spelling) (k : Spelling) → HasKeys r old ks → IsKey r k (view key)
-    → IfOk result (λ answer. IsInserted r ks k new answer.0)
+    → IfOk result (λ reason. IsInserted r ks k new reason)

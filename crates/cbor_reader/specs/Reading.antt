@@ -1,5 +1,5 @@
 -- What the readers' own functions answer of one item, which may lie within others, from its events.
-use Rattle.std.specs.Prelude.{◌≡◌, ◌≢◌, ℕ, ◌+◌, ◌-◌, ◌<◌, ◌≤◌, ◌⊎◌, ◌++◌, Bool, true, false, IsTrue, List, [], length, Option, Some, None, Result, MatchResult, MatchOption, IsUtf8}
+use Rattle.std.specs.Prelude.{◌≡◌, ◌≢◌, ℕ, ◌+◌, ◌-◌, ◌<◌, ◌≤◌, ◌⊎◌, ◌++◌, Bool, true, false, List, [], length, Option, Some, None, Result, MatchResult, MatchOption, IsUtf8}
 use Rattle.std.specs.Str.Lossy.{utf8_valid_len}
 use Rattle.std.specs.Io.KnownBytes.{Consumes, IsAtEnd}
 use Rattle.cbor_head.specs.Limits.{Bounds, AreBounds}
@@ -282,12 +282,6 @@ abbrev pub AnswersPayload : Bool → ItemEventsView → ℕ → List ℕ → Lis
 AnswersPayload text e n old grown from to new result =
     (b : Bounds) (chunk : Bool) (m : Major) (fs : List Frame) (t : List ℕ) → IsAt b e t (payload chunk m n fs)
     → MatchResult result (λ u. (reads : ReadsPayload b (close_string chunk m fs) t n old grown from to new) × (text ≡ true → IsUtf8 reads.bytes)) (λ f. StopsPayload b t n text from to f)
-
--- what is answered of a string's content
-abbrev pub AnswersString : Rules → ItemEventsView → Bool → Option ℕ → Option (List ℕ) → Option (List ℕ) → ItemEventsView → Result (List ℕ) Refusal → Type 0
-AnswersString r e text length from to new result =
-    (b : Bounds) (fs : List Frame) (t x : List ℕ) (w : Width) → IsBegun r b fs t x e w (string_kind text length)
-    → MatchResult result (λ content. ReadsItem r b fs t x from to new (string_value text content) × (text ≡ true → IsUtf8 content)) (λ f. StopsItem r b fs t x from to f)
 
 -- ---- heads
 

@@ -25,8 +25,8 @@ pub(crate) fn read_front<R: Read>(
         (λ f. IsFrontUnread (rules_of rules) limits (R.remaining reader.old) (R.remaining reader.new) f) }
 {
     let mut events = ItemEvents::new(limits);
-    match read_item(alloc, &mut events, reader, rules) {
-        Ok(item) => Ok((item, events.taken())),
+    match read_item(alloc, &mut events, reader, rules, None) {
+        Ok(built) => Ok((built.into_item(), events.taken())),
         Err(refusal) => Err(refusal),
     }
 }

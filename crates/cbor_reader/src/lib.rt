@@ -1,8 +1,13 @@
 //! Readers of whole CBOR items.
 #![tactic(auto)]
 
+mod built_array;
+mod built_item;
+mod built_map;
 mod canonicaliser;
+mod encoding;
 mod front;
+mod key_set;
 pub mod laws;
 mod map_keys;
 mod members;
@@ -13,6 +18,10 @@ mod strict_reader;
 mod strings;
 #[cfg(test)]
 mod tests;
+#[cfg(test)]
+mod tests_keys;
+#[cfg(test)]
+mod tests_strict;
 mod tree_reader;
 
 pub use canonicaliser::canonicalise;

@@ -1,29 +1,27 @@
 //! The keys of one map, as they are read.
 
-ghost use Rattle.std.specs.Prelude.{◌≡◌, ◌↔◌, IsTrue, true, not, List, [], IfOk};
-ghost use Rattle.std.specs.Ordering.{nat_cmp};
-ghost use Rattle.std.specs.Cmp.Lexicographic.{slice_cmp};
-ghost use Rattle.std.specs.BTreeSet.{Updates};
+ghost use Rattle.std.specs.Prelude.{◌≡◌, ◌↔◌, IsTrue, List, [], IfOk};
 ghost use Rattle.cbor_head.specs.Canonical.{canonical};
 ghost use Rattle.cbor_head.specs.Complaint as complaint;
 ghost use Rattle.cbor_head.specs.Spelling.{Spelling};
 ghost use Rattle.cbor_head.specs.Value.{Value};
 ghost use Rattle.cbor_item.specs.View.{view};
-ghost use Rattle.cbor_reader.specs.MapKeys.{HasKeys, IsKey, IsKeyValue, IsInserted, AnswersKey, Rises, has_bytes, order_of};
+ghost use Rattle.cbor_reader.specs.MapKeys.{HasKeys, IsKey, IsKeyValue, IsInserted, AnswersKey, Rises, order_of};
 ghost use Rattle.cbor_reader.specs.Rules.{rules_of};
 
+use crate::built_item::BuiltItem;
+use crate::key_set::KeySet;
 use crate::rules::Rules;
 use cbor_head::{KeyOrder, Reason};
-use cbor_item::{Item, Tree, compare_keys, encode};
+use cbor_item::compare_keys;
 use std::alloc::{AllocError, Global};
 use std::cmp::Ordering;
-use std::collections::BTreeSet;
 
 /// The keys of one map that were read so far.
 #[derive(Drop)]
 pub(crate) enum Keys {
     /// The canonical bytes of each, where no two may be the same.
-    Distinct(BTreeSet<Vec<u8>>),
+    Distinct(KeySet),
     /// The canonical bytes of the last, where they must rise in this order.
     Rising(KeyOrder, Option<Vec<u8>>),
 }
@@ -34,7 +32,7 @@ impl Keys {
         ensures { HasKeys (rules_of rules) result [] }
     {
         match rules {
-            Rules::Plain => Keys::Distinct(BTreeSet::new(alloc)),
+            Rules::Plain => Keys::Distinct(KeySet::new(alloc)),
             Rules::Strict(order) => Keys::Rising(order, None),
         }
     }
@@ -44,23 +42,17 @@ impl Keys {
     pub(crate) fn insert(
         &mut self,
         alloc: Global,
-        key: Item,
-    ) -> Result<(Option<Reason>, Item), AllocError>
-        requires { IsKeyValue (view key) }
-        ensures key { IfOk result (λ answer. answer.1 ≡ key) }
-        ensures answers { AnswersKey self.old self.new key result }
+        key: &BuiltItem,
+    ) -> Result<Option<Reason>, AllocError>
+        requires { IsKeyValue (view key.now) }
+        ensures { AnswersKey self.old self.new key.now result }
     {
-        let order = self.order();
-        let tree = Tree::from_valid(key);
-        let Ok(bytes) = encode(alloc, &tree, order) else {
-            return Err(AllocError);
-        };
-        let reason = self.insert_bytes(bytes)?;
-        Ok((reason, tree.into_item()))
+        let bytes = key.encoded(alloc, self.order())?;
+        self.insert_bytes(bytes)
     }
 
     // The order of the canonical bytes that are kept.
-    fn order(&self) -> KeyOrder
+    pub(crate) fn order(&self) -> KeyOrder
         ensures { result ≡ order_of self.now }
     {
         match self {
@@ -76,7 +68,7 @@ impl Keys {
     {
         match self {
             Keys::Distinct(all) => {
-                let fresh = insert_into(all, bytes)?;
+                let fresh = all.insert(bytes)?;
                 Ok(if fresh {
                     None
                 } else {
@@ -92,13 +84,6 @@ impl Keys {
             }
         }
     }
-}
-
-// Whether the bytes were not in the set, where they are now.
-fn insert_into(all: &mut BTreeSet<Vec<u8>>, bytes: Vec<u8>) -> Result<bool, AllocError>
-    ensures { IfOk result (λ fresh. (fresh ≡ not (has_bytes all.old bytes)) × Updates (λ x y. slice_cmp nat_cmp x.items y.items) all.old all.new bytes true) }
-{
-    all.insert(bytes).map_err(|_| AllocError)
 }
 
 // Whether the bytes come behind the last.

@@ -3,19 +3,23 @@
 ghost use Rattle.std.specs.Prelude.{◌≡◌, ◌≢◌, ◌↔◌, IsTrue, None, Some};
 ghost use Rattle.cbor_reader.specs.Members.{fewer};
 ghost use Rattle.cbor_events.specs.declared.event.EventKind.TheVariants as kinds;
+ghost use Rattle.cbor_reader.specs.Building.{IsBuilt};
 ghost use Rattle.cbor_reader.specs.Reading.{HasBegun, AnswersItem, IsDue, IsMemberDue, AnswersNext, AnswersMember};
 ghost use Rattle.cbor_reader.specs.NextKey.{IsKeyDue, AnswersNextKey};
 ghost use Rattle.cbor_reader.specs.Rules.{rules_of};
 
+use crate::built_array::BuiltArray;
+use crate::built_item::BuiltItem;
+use crate::built_map::BuiltMap;
 use crate::map_keys::Keys;
 use crate::next_head::next_head;
 use crate::payload::no_memory;
 use crate::rules::Rules;
-use crate::strings::read_string;
+use crate::strings::{read_bytes, read_text};
 use cbor_events::{EventKind, ItemEvents};
-use cbor_head::Refusal;
+use cbor_head::{KeyOrder, Refusal};
 use cbor_item::Item;
-use std::alloc::Global;
+use std::alloc::{AllocError, Global};
 use std::io::Read;
 
 // The item that is due.
@@ -25,12 +29,13 @@ pub(crate) fn read_item<R: Read>(
     events: &mut ItemEvents,
     reader: &mut R,
     rules: Rules,
-) -> Result<Item, Refusal>
+    kept: Option<KeyOrder>,
+) -> Result<BuiltItem, Refusal>
     requires { IsDue events.old }
     ensures { AnswersNext (rules_of rules) events.old (R.remaining reader.old) (R.remaining reader.new) events.new result }
 {
     match next_head(events, reader, rules) {
-        Ok(event) => read_behind(alloc, events, reader, rules, event.kind),
+        Ok(event) => read_behind(alloc, events, reader, rules, kept, event.kind),
         Err(refusal) => Err(refusal),
     }
 }
@@ -42,55 +47,33 @@ pub(crate) fn read_behind<R: Read>(
     events: &mut ItemEvents,
     reader: &mut R,
     rules: Rules,
+    kept: Option<KeyOrder>,
     kind: EventKind,
-) -> Result<Item, Refusal>
+) -> Result<BuiltItem, Refusal>
     requires { HasBegun (rules_of rules) events.old kind }
     ensures { AnswersItem (rules_of rules) events.old kind (R.remaining reader.old) (R.remaining reader.new) events.new result }
 {
     match kind {
-        EventKind::Unsigned(number) => Ok(Item::Unsigned(number)),
-        EventKind::Negative(number) => Ok(Item::Negative(number)),
-        EventKind::Simple(simple) => Ok(Item::Simple(simple)),
+        EventKind::Unsigned(number) => Ok(BuiltItem::new(Item::Unsigned(number))),
+        EventKind::Negative(number) => Ok(BuiltItem::new(Item::Negative(number))),
+        EventKind::Simple(simple) => Ok(BuiltItem::new(Item::Simple(simple))),
         EventKind::Bytes(length) => read_bytes(alloc, events, reader, rules, length),
         EventKind::Text(length) => read_text(alloc, events, reader, rules, length),
-        EventKind::Array(count) => read_array(alloc, events, reader, rules, count),
-        EventKind::Map(count) => read_map(alloc, events, reader, rules, count),
-        EventKind::Tag(number) => read_tag(alloc, events, reader, rules, number),
+        EventKind::Array(count) => read_array(alloc, events, reader, rules, kept, count),
+        EventKind::Map(count) => read_map(alloc, events, reader, rules, kept, count),
+        EventKind::Tag(number) => read_tag(alloc, events, reader, rules, kept, number),
         _ => unreachable!(),
     }
 }
 
-fn read_bytes<R: Read>(
-    alloc: Global,
-    events: &mut ItemEvents,
-    reader: &mut R,
-    rules: Rules,
-    length: Option<u64>,
-) -> Result<Item, Refusal>
-    requires { HasBegun (rules_of rules) events.old (kinds.Bytes length) }
-    ensures { AnswersItem (rules_of rules) events.old (kinds.Bytes length) (R.remaining reader.old) (R.remaining reader.new) events.new result }
+// What was built of what was read.
+fn or_no_memory(
+    events: &ItemEvents,
+    built: Result<BuiltItem, AllocError>,
+) -> Result<BuiltItem, Refusal>
+    ensures { IsBuilt events.now built result }
 {
-    match read_string(alloc, events, reader, rules, false, length) {
-        Ok(content) => Ok(Item::Bytes(content)),
-        Err(refusal) => Err(refusal),
-    }
-}
-
-fn read_text<R: Read>(
-    alloc: Global,
-    events: &mut ItemEvents,
-    reader: &mut R,
-    rules: Rules,
-    length: Option<u64>,
-) -> Result<Item, Refusal>
-    requires { HasBegun (rules_of rules) events.old (kinds.Text length) }
-    ensures { AnswersItem (rules_of rules) events.old (kinds.Text length) (R.remaining reader.old) (R.remaining reader.new) events.new result }
-{
-    match read_string(alloc, events, reader, rules, true, length) {
-        // Each chunk was found to be UTF-8, so the whole is.
-        Ok(content) => Ok(Item::Text(unsafe { String::from_utf8_unchecked(content) })),
-        Err(refusal) => Err(refusal),
-    }
+    built.map_err(|_| no_memory(events))
 }
 
 // A member of an array or a map that is due, or the break that ends it.
@@ -100,14 +83,15 @@ fn read_member<R: Read>(
     events: &mut ItemEvents,
     reader: &mut R,
     rules: Rules,
-) -> Result<Option<Item>, Refusal>
+    kept: Option<KeyOrder>,
+) -> Result<Option<BuiltItem>, Refusal>
     requires { IsMemberDue events.old }
     ensures { AnswersMember (rules_of rules) events.old (R.remaining reader.old) (R.remaining reader.new) events.new result }
 {
     match next_head(events, reader, rules) {
         Ok(event) => match event.kind {
             EventKind::End => Ok(None),
-            kind => match read_behind(alloc, events, reader, rules, kind) {
+            kind => match read_behind(alloc, events, reader, rules, kept, kind) {
                 Ok(item) => Ok(Some(item)),
                 Err(refusal) => Err(refusal),
             },
@@ -122,25 +106,26 @@ fn read_array<R: Read>(
     events: &mut ItemEvents,
     reader: &mut R,
     rules: Rules,
+    kept: Option<KeyOrder>,
     count: Option<u64>,
-) -> Result<Item, Refusal>
+) -> Result<BuiltItem, Refusal>
     requires { HasBegun (rules_of rules) events.old (kinds.Array count) }
     ensures { AnswersItem (rules_of rules) events.old (kinds.Array count) (R.remaining reader.old) (R.remaining reader.new) events.new result }
 {
-    let mut items = Vec::new(alloc);
+    let mut items = BuiltArray::new(alloc, kept);
     let mut left = count;
     'members: while !is_none_left(left) {
-        match read_member(alloc, events, reader, rules) {
-            Ok(Some(item)) => match items.push(item) {
+        match read_member(alloc, events, reader, rules, kept) {
+            Ok(Some(item)) => match items.push(alloc, item) {
                 Ok(()) => {}
                 Err(_) => return Err(no_memory(events)),
             },
-            Ok(None) => return Ok(Item::Array(items)),
+            Ok(None) => return or_no_memory(events, items.finish(alloc)),
             Err(refusal) => return Err(refusal),
         }
         left = one_fewer(left);
     }
-    Ok(Item::Array(items))
+    or_no_memory(events, items.finish(alloc))
 }
 
 // The next key of a map, kept with those before it, or the break that ends the map.
@@ -151,21 +136,19 @@ fn read_key<R: Read>(
     reader: &mut R,
     rules: Rules,
     keys: &mut Keys,
-) -> Result<Option<Item>, Refusal>
+) -> Result<Option<BuiltItem>, Refusal>
     requires { IsKeyDue (rules_of rules) events.old keys.old }
     ensures { AnswersNextKey (rules_of rules) events.old keys.old keys.new (R.remaining reader.old) (R.remaining reader.new) events.new result }
 {
     let place = events.taken();
-    match read_member(alloc, events, reader, rules) {
-        Ok(Some(key)) => match keys.insert(alloc, key) {
-            Ok((against, key)) => match against {
-                None => Ok(Some(key)),
-                Some(reason) => Err(Refusal {
-                    reason,
-                    place,
-                    read: events.taken(),
-                }),
-            },
+    match read_member(alloc, events, reader, rules, Some(keys.order())) {
+        Ok(Some(key)) => match keys.insert(alloc, &key) {
+            Ok(None) => Ok(Some(key)),
+            Ok(Some(reason)) => Err(Refusal {
+                reason,
+                place,
+                read: events.taken(),
+            }),
             Err(_) => Err(no_memory(events)),
         },
         Ok(None) => Ok(None),
@@ -179,29 +162,30 @@ fn read_map<R: Read>(
     events: &mut ItemEvents,
     reader: &mut R,
     rules: Rules,
+    kept: Option<KeyOrder>,
     count: Option<u64>,
-) -> Result<Item, Refusal>
+) -> Result<BuiltItem, Refusal>
     requires { HasBegun (rules_of rules) events.old (kinds.Map count) }
     ensures { AnswersItem (rules_of rules) events.old (kinds.Map count) (R.remaining reader.old) (R.remaining reader.new) events.new result }
 {
-    let mut pairs = Vec::new(alloc);
+    let mut pairs = BuiltMap::new(alloc, kept);
     let mut keys = Keys::new(alloc, rules);
     let mut left = count;
     'pairs: while !is_none_left(left) {
         match read_key(alloc, events, reader, rules, &mut keys) {
-            Ok(Some(key)) => match read_item(alloc, events, reader, rules) {
-                Ok(content) => match pairs.push((key, content)) {
+            Ok(Some(key)) => match read_item(alloc, events, reader, rules, kept) {
+                Ok(content) => match pairs.push(alloc, key, content) {
                     Ok(()) => {}
                     Err(_) => return Err(no_memory(events)),
                 },
                 Err(refusal) => return Err(refusal),
             },
-            Ok(None) => return Ok(Item::Map(pairs)),
+            Ok(None) => return or_no_memory(events, pairs.finish(alloc)),
             Err(refusal) => return Err(refusal),
         }
         left = one_fewer(left);
     }
-    Ok(Item::Map(pairs))
+    or_no_memory(events, pairs.finish(alloc))
 }
 
 // Whether it is known that no member is left.
@@ -228,16 +212,14 @@ fn read_tag<R: Read>(
     events: &mut ItemEvents,
     reader: &mut R,
     rules: Rules,
+    kept: Option<KeyOrder>,
     number: u64,
-) -> Result<Item, Refusal>
+) -> Result<BuiltItem, Refusal>
     requires { HasBegun (rules_of rules) events.old (kinds.Tag number) }
     ensures { AnswersItem (rules_of rules) events.old (kinds.Tag number) (R.remaining reader.old) (R.remaining reader.new) events.new result }
 {
-    match read_item(alloc, events, reader, rules) {
-        Ok(item) => match Box::new(alloc, item) {
-            Ok(content) => Ok(Item::Tag(number, content)),
-            Err(_) => Err(no_memory(events)),
-        },
+    match read_item(alloc, events, reader, rules, kept) {
+        Ok(content) => or_no_memory(events, content.tagged(alloc, number, kept)),
         Err(refusal) => Err(refusal),
     }
 }

@@ -11,9 +11,9 @@ use std::test::Fail;
 
 // A reader that gives at most so many bytes a read.
 #[derive(Drop)]
-struct Parts<'a> {
-    rest: &'a [u8],
-    part: usize,
+pub(crate) struct Parts<'a> {
+    pub(crate) rest: &'a [u8],
+    pub(crate) part: usize,
 }
 
 impl Read for Parts<'_> {
@@ -25,12 +25,12 @@ impl Read for Parts<'_> {
     }
 }
 
-fn limits<R: Abort>(rt: &R, depth: u16, bytes: u64) -> Limits {
+pub(crate) fn limits<R: Abort>(rt: &R, depth: u16, bytes: u64) -> Limits {
     Limits::new(depth, bytes).expect(rt, "limits")
 }
 
 // The bytes of hex digits.
-fn bytes_of(alloc: Global, text: &str) -> Result<Vec<u8>, AllocError> {
+pub(crate) fn bytes_of(alloc: Global, text: &str) -> Result<Vec<u8>, AllocError> {
     let mut bytes = Vec::new(alloc);
     let mut high = None;
     for c in text.bytes() {
@@ -51,7 +51,7 @@ fn bytes_of(alloc: Global, text: &str) -> Result<Vec<u8>, AllocError> {
 }
 
 // Bytes that the plain rules refuse, with the depth limit, the byte limit, and the refusal.
-static REFUSED: [(&str, u16, u64, Reason, u64, u64); 64] = [
+static REFUSED: [(&str, u16, u64, Reason, u64, u64); 66] = [
     ("", 256, 1048576, Reason::Truncated, 0, 0),
     ("1c", 256, 1048576, Reason::Reserved, 0, 1),
     ("3d", 256, 1048576, Reason::Reserved, 0, 1),
@@ -127,6 +127,22 @@ static REFUSED: [(&str, u16, u64, Reason, u64, u64); 64] = [
         9,
     ),
     ("a201000100", 256, 1048576, Reason::RepeatedKey, 3, 4),
+    (
+        "a1a1a2010001000000",
+        256,
+        1048576,
+        Reason::RepeatedKey,
+        5,
+        6,
+    ),
+    (
+        "a281a2010002000081a20200010000",
+        256,
+        1048576,
+        Reason::RepeatedKey,
+        8,
+        14,
+    ),
     ("c1c100", 1, 1048576, Reason::TooDeep, 1, 2),
     ("9f", 0, 1048576, Reason::TooDeep, 0, 1),
     ("80", 0, 1048576, Reason::TooDeep, 0, 1),
@@ -281,107 +297,8 @@ fn reads_trees(rt: HostRuntime) -> Result<(), Fail> {
     Ok(())
 }
 
-// What the strict rules answer, by an order: the bytes taken, or the refusal.
-static STRICT: [(&str, KeyOrder, Result<u64, (Reason, u64, u64)>); 20] = [
-    ("f820", KeyOrder::Bytewise, Ok(2)),
-    (
-        "1900ff",
-        KeyOrder::Bytewise,
-        Err((Reason::NotShortest, 0, 3)),
-    ),
-    ("1800", KeyOrder::Bytewise, Err((Reason::NotShortest, 0, 2))),
-    ("5800", KeyOrder::Bytewise, Err((Reason::NotShortest, 0, 2))),
-    (
-        "7801ff",
-        KeyOrder::Bytewise,
-        Err((Reason::NotShortest, 0, 2)),
-    ),
-    (
-        "811817",
-        KeyOrder::Bytewise,
-        Err((Reason::NotShortest, 1, 3)),
-    ),
-    (
-        "d80100",
-        KeyOrder::Bytewise,
-        Err((Reason::NotShortest, 0, 2)),
-    ),
-    ("9fff", KeyOrder::Bytewise, Err((Reason::Indefinite, 0, 1))),
-    (
-        "7f657374726561646d696e67ff",
-        KeyOrder::Bytewise,
-        Err((Reason::Indefinite, 0, 1)),
-    ),
-    (
-        "a202000100",
-        KeyOrder::Bytewise,
-        Err((Reason::KeyOrder, 3, 4)),
-    ),
-    (
-        "a201000100",
-        KeyOrder::Bytewise,
-        Err((Reason::KeyOrder, 3, 4)),
-    ),
-    (
-        "a20100180100",
-        KeyOrder::Bytewise,
-        Err((Reason::NotShortest, 3, 5)),
-    ),
-    ("61ff", KeyOrder::Bytewise, Err((Reason::InvalidText, 1, 2))),
-    ("1f", KeyOrder::Bytewise, Err((Reason::NoIndefinite, 0, 1))),
-    ("a1", KeyOrder::Bytewise, Err((Reason::Truncated, 1, 1))),
-    ("a10102", KeyOrder::Bytewise, Ok(3)),
-    ("a21864002000", KeyOrder::Bytewise, Ok(6)),
-    (
-        "a21864002000",
-        KeyOrder::LengthFirst,
-        Err((Reason::KeyOrder, 4, 5)),
-    ),
-    (
-        "a80a021864032004617a056261610181186406812007f408",
-        KeyOrder::Bytewise,
-        Ok(24),
-    ),
-    (
-        "a80a022004f408186403617a058120076261610181186406",
-        KeyOrder::LengthFirst,
-        Ok(24),
-    ),
-];
-
-// The same count or refusal, whole or one byte a read.
-#[test]
-fn reads_strictly(rt: HostRuntime) -> Result<(), Fail> {
-    for &(hex, order, answer) in &STRICT {
-        let input = bytes_of(rt.alloc(), hex)?;
-        for part in [usize::MAX, 1] {
-            let mut reader = Parts { rest: &input, part };
-            let given = read_strict(rt.alloc(), &mut reader, limits(&rt, 256, 1048576), order);
-            let read = match answer {
-                Ok(count) => count,
-                Err((_, _, read)) => read,
-            };
-            match (given, answer) {
-                (Ok(count), Ok(wanted)) => assert_eq!(rt; count, wanted, "at {hex}"),
-                (Err(given), Err((reason, place, read))) => assert_eq!(rt;
-                    given,
-                    Refusal {
-                        reason,
-                        place,
-                        read
-                    },
-                    "at {hex}"
-                ),
-                _ => assert!(rt; false, "at {hex}"),
-            }
-            assert!(rt; input.get(read as usize..) == Some(reader.rest), "at {hex}");
-        }
-    }
-    Ok(())
-}
-
 // Whole inputs, with their canonical bytes in either order.
-static WHOLE: [(&str, &str, &str); 10] = [
+static WHOLE: [(&str, &str, &str); 12] = [
     ("1800", "00", "00"),
     ("5fff", "40", "40"),
     ("bfff", "a0", "a0"),
@@ -404,9 +321,20 @@ static WHOLE: [(&str, &str, &str); 10] = [
         "a80a021864032004617a056261610181186406812007f408",
         "a80a022004f408186403617a058120076261610181186406",
     ),
+    // Arrays, tags and maps within keys of keys.
+    (
+        "a282a302002000186481a201000000c5410100a26162016161a22000186400a22000186400",
+        "a282a30200186481a2000001002000c5410100a26161a21864002000616201a21864002000",
+        "a2a26161a22000186400616201a2200018640082a302002000186481a200000100c5410100",
+    ),
+    (
+        "a2a2a2186400200000c1a220f51864f480000000",
+        "a20000a2a2186400200000c1a21864f420f58000",
+        "a20000a2a2200018640000c1a220f51864f48000",
+    ),
 ];
 
-// Every item becomes its canonical bytes, and these become themselves.
+// Every item becomes its canonical bytes, and these become themselves and are read strictly.
 #[test]
 fn canonicalises(rt: HostRuntime) -> Result<(), Fail> {
     for &(hex, bytewise, length_first) in &WHOLE {
@@ -422,6 +350,9 @@ fn canonicalises(rt: HostRuntime) -> Result<(), Fail> {
                     Err(_) => assert!(rt; false, "refused {hex}"),
                 }
             }
+            let mut reader = wanted.as_slice();
+            let size = read_strict(rt.alloc(), &mut reader, limits(&rt, 256, 1048576), order);
+            assert_eq!(rt; size, Ok(wanted.len() as u64), "at {hex}");
         }
     }
     Ok(())

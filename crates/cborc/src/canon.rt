@@ -4,7 +4,6 @@ use crate::command_line::Options;
 use crate::fault::Fault;
 use crate::folder::Folder;
 use crate::input;
-use crate::status::Status;
 use cbor_head::KeyOrder;
 use cbor_reader::canonicalise;
 use std::alloc::Global;
@@ -18,12 +17,12 @@ pub fn canon<'a, F: Folder>(
     target: &'a str,
     order: KeyOrder,
     options: Options,
-) -> Result<Status, Fault<'a>> {
+) -> Result<(), Fault<'a>> {
     let limits = options.limits;
     let bytes = input::read(alloc, files, source, options)?;
     let canonical = canonicalise(alloc, bytes.as_slice(), limits, order)?;
     match files.write(target, canonical.as_slice()) {
-        Ok(()) => Ok(Status::Accepted),
+        Ok(()) => Ok(()),
         Err(fault) => Err(Fault::of_writing(target, fault)),
     }
 }

@@ -1,12 +1,12 @@
 //! The subcommand `check`: whether a file is one item.
 
-ghost use Rattle.std.specs.Prelude.{◌≡◌, length, IfOk};
+ghost use Rattle.std.specs.Prelude.{IfOk, IfErr};
+ghost use Rattle.cborc.specs.Check.{rules_of, IsWhole, IsNotWhole};
 
 use crate::command_line::{Accepted, Options};
 use crate::fault::Fault;
 use crate::folder::Folder;
 use crate::input;
-use crate::status::Status;
 use cbor_head::{Limits, Reason, Refusal};
 use cbor_reader::{read_strict, read_tree};
 use std::alloc::Global;
@@ -20,12 +20,12 @@ pub fn check<'a, F: Folder, O: Write>(
     source: &'a str,
     accepted: Accepted,
     options: Options,
-) -> Result<Status, Fault<'a>> {
+) -> Result<(), Fault<'a>> {
     let limits = options.limits;
     let bytes = input::read(alloc, files, source, options)?;
     let size = size_of_item(alloc, bytes.as_slice(), accepted, limits)?;
     match writeln!(out, "accepted {size} bytes") {
-        Ok(()) => Ok(Status::Accepted),
+        Ok(()) => Ok(()),
         Err(_) => Err(Fault::CannotPrint),
     }
 }
@@ -37,7 +37,10 @@ fn size_of_item(
     accepted: Accepted,
     limits: Limits,
 ) -> Result<u64, Refusal>
-    ensures whole { IfOk result (λ size. size ≡ length bytes.now) }
+    ensures whole { IfOk result
+        (IsWhole limits.depth limits.bytes (rules_of accepted) bytes.now) }
+    ensures refused { IfErr result
+        (IsNotWhole limits.depth limits.bytes (rules_of accepted) bytes.now) }
 {
     let mut reader = bytes;
     let size = match accepted {

@@ -1,7 +1,8 @@
 //! The words of the command line, and what they ask for.
 
-ghost use Rattle.std.specs.Prelude.{◌≡◌, codes, Some};
-ghost use Rattle.cbor_head.specs.declared.order.KeyOrder.TheVariants.{Bytewise, LengthFirst};
+ghost use Rattle.std.specs.Prelude.{◌≡◌, codes, IfSome, IsSome};
+ghost use Rattle.clap.specs.Words.{found_of, rows_of, subcommand_rows_of};
+ghost use Rattle.cborc.specs.CommandLine.{order_named, AsksFor, HasLimits, IsAcceptedOf, IsComplete, IsOptionsOf};
 
 use cbor_head::{KeyOrder, Limits};
 use clap::error::ErrorKind;
@@ -63,24 +64,48 @@ pub fn parse<'a>(alloc: Global, words: &'a [String]) -> Result<Request<'a>, Erro
     }
 }
 
-fn request_of<'a>(matches: &ArgMatches<'a>) -> Option<Request<'a>> {
+fn request_of<'a>(matches: &ArgMatches<'a>) -> Option<Request<'a>>
+    ensures value { IfSome result
+        (λ r. IfSome (subcommand_rows_of matches.now) (λ given. AsksFor given r)) }
+    ensures some { IfSome (subcommand_rows_of matches.now)
+        (λ given. IsComplete given → IsSome result) }
+{
     match matches.subcommand()? {
-        ("check", given) => Some(Request::Check {
-            source: given.get_str("FILE")?,
-            accepted: accepted_of(given)?,
-            options: options_of(given)?,
-        }),
-        ("canon", given) => Some(Request::Canon {
-            source: given.get_str("IN")?,
-            target: given.get_str("OUT")?,
-            order: order_of(given.get_str("order")?)?,
-            options: options_of(given)?,
-        }),
+        ("check", given) => check_of(given),
+        ("canon", given) => canon_of(given),
         _ => None,
     }
 }
 
-fn accepted_of(given: &ArgMatches<'_>) -> Option<Accepted> {
+#[tactic(auto, using(crate::proofs::Rows::getters))]
+fn check_of<'a>(given: &ArgMatches<'a>) -> Option<Request<'a>>
+    ensures value { IfSome result (AsksFor (codes "check", rows_of (found_of given.now))) }
+    ensures some { IsComplete (codes "check", rows_of (found_of given.now)) → IsSome result }
+{
+    Some(Request::Check {
+        source: given.get_str("FILE")?,
+        accepted: accepted_of(given)?,
+        options: options_of(given)?,
+    })
+}
+
+#[tactic(auto, using(crate::proofs::Rows::getters))]
+fn canon_of<'a>(given: &ArgMatches<'a>) -> Option<Request<'a>>
+    ensures value { IfSome result (AsksFor (codes "canon", rows_of (found_of given.now))) }
+    ensures some { IsComplete (codes "canon", rows_of (found_of given.now)) → IsSome result }
+{
+    Some(Request::Canon {
+        source: given.get_str("IN")?,
+        target: given.get_str("OUT")?,
+        order: order_of(given.get_str("order")?)?,
+        options: options_of(given)?,
+    })
+}
+
+#[tactic(auto, using(crate::proofs::Rows::getters))]
+fn accepted_of(given: &ArgMatches<'_>) -> Option<Accepted>
+    ensures { IsAcceptedOf (rows_of (found_of given.now)) result }
+{
     let order = order_of(given.get_str("order")?)?;
     if given.get_flag("strict") {
         Some(Accepted::Canonical(order))
@@ -91,8 +116,7 @@ fn accepted_of(given: &ArgMatches<'_>) -> Option<Accepted> {
 
 // The order of keys that a word names.
 fn order_of(word: &str) -> Option<KeyOrder>
-    ensures bytewise { word.now ≡ codes "bytewise" → result ≡ Some Bytewise }
-    ensures length { word.now ≡ codes "length" → result ≡ Some LengthFirst }
+    ensures { result ≡ order_named word.now }
 {
     match word {
         "bytewise" => Some(KeyOrder::Bytewise),
@@ -101,7 +125,11 @@ fn order_of(word: &str) -> Option<KeyOrder>
     }
 }
 
-fn options_of(given: &ArgMatches<'_>) -> Option<Options> {
+#[tactic(auto, using(crate::proofs::Rows::getters))]
+fn options_of(given: &ArgMatches<'_>) -> Option<Options>
+    ensures value { IfSome result (IsOptionsOf (rows_of (found_of given.now))) }
+    ensures some { HasLimits (rows_of (found_of given.now)) → IsSome result }
+{
     let depth = given.get_one::<u16>("depth")?;
     let bytes = given.get_one::<u64>("bytes")?;
     Some(Options {

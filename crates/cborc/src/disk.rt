@@ -1,9 +1,13 @@
 //! The machine's files.
 
+ghost use Rattle.std.specs.Prelude.{◌≡◌, ◌≢◌};
+ghost use Rattle.std.specs.IoError.{error_kind};
+
 use crate::folder::{FileFault, Folder};
 use std::alloc::Global;
+use std::fs;
+use std::io::{self, ErrorKind};
 use std::rt::Files;
-use std::{fs, io};
 
 /// The files that a runtime reaches.
 #[derive(Drop)]
@@ -22,8 +26,11 @@ impl<'a, R: Files + AllocGlobal> Folder for Disk<'a, R> {
     }
 }
 
-fn fault_of(error: &io::Error) -> FileFault {
-    if error.kind() == io::ErrorKind::OutOfMemory {
+fn fault_of(error: &io::Error) -> FileFault
+    ensures memory { error_kind error.now ≡ ErrorKind.OutOfMemory → result ≡ FileFault.Memory }
+    ensures failed { error_kind error.now ≢ ErrorKind.OutOfMemory → result ≡ FileFault.Failed }
+{
+    if error.kind() == ErrorKind::OutOfMemory {
         FileFault::Memory
     } else {
         FileFault::Failed

@@ -1,10 +1,14 @@
 //! Why the program ends without its answer.
 
+ghost use Rattle.std.specs.Prelude.{◌≡◌, ◌≢◌};
+ghost use Rattle.std.specs.IoError.{error_kind};
+ghost use Rattle.cborc.specs.Fault.{fault_status, refusal_fault};
+
 use crate::folder::FileFault;
 use crate::status::Status;
 use cbor_head::{Reason, Refusal};
 use hex::FromHexError;
-use std::io;
+use std::io::{self, ErrorKind};
 use thiserror::Error;
 
 /// Why the program ends without its answer. Its text is the line on standard error.
@@ -35,7 +39,9 @@ pub enum Fault<'a> {
 
 impl<'a> Fault<'a> {
     /// The status with which the program ends.
-    pub fn status(&self) -> Status {
+    pub fn status(&self) -> Status
+        ensures { result ≡ fault_status self.now }
+    {
         match self {
             Fault::Refused(_) => Status::Refused,
             Fault::NotText => Status::Misused,
@@ -44,7 +50,10 @@ impl<'a> Fault<'a> {
     }
 
     /// The fault of reading the file at this path.
-    pub fn of_reading(path: &'a str, fault: FileFault) -> Fault<'a> {
+    pub fn of_reading(path: &'a str, fault: FileFault) -> Fault<'a>
+        ensures failed { fault ≡ FileFault.Failed → result ≡ Fault.CannotRead path.entry }
+        ensures memory { fault ≡ FileFault.Memory → result ≡ Fault.Memory }
+    {
         match fault {
             FileFault::Failed => Fault::CannotRead(path),
             FileFault::Memory => Fault::Memory,
@@ -52,7 +61,10 @@ impl<'a> Fault<'a> {
     }
 
     /// The fault of writing the file at this path.
-    pub fn of_writing(path: &'a str, fault: FileFault) -> Fault<'a> {
+    pub fn of_writing(path: &'a str, fault: FileFault) -> Fault<'a>
+        ensures failed { fault ≡ FileFault.Failed → result ≡ Fault.CannotWrite path.entry }
+        ensures memory { fault ≡ FileFault.Memory → result ≡ Fault.Memory }
+    {
         match fault {
             FileFault::Failed => Fault::CannotWrite(path),
             FileFault::Memory => Fault::Memory,
@@ -60,7 +72,10 @@ impl<'a> Fault<'a> {
     }
 
     /// The fault of decoding the file at this path.
-    pub fn of_hex(path: &'a str, error: FromHexError) -> Fault<'a> {
+    pub fn of_hex(path: &'a str, error: FromHexError) -> Fault<'a>
+        ensures not_hex { error ≢ FromHexError.OutOfMemory → result ≡ Fault.NotHex path.entry }
+        ensures memory { error ≡ FromHexError.OutOfMemory → result ≡ Fault.Memory }
+    {
         match error {
             FromHexError::OutOfMemory => Fault::Memory,
             _ => Fault::NotHex(path),
@@ -68,15 +83,20 @@ impl<'a> Fault<'a> {
     }
 
     /// The fault of taking the words of the command line.
-    pub fn of_words(error: &io::Error) -> Fault<'a> {
+    pub fn of_words(error: &io::Error) -> Fault<'a>
+        ensures not_text { error_kind error.now ≡ ErrorKind.InvalidData → result ≡ Fault.NotText }
+        ensures memory { error_kind error.now ≢ ErrorKind.InvalidData → result ≡ Fault.Memory }
+    {
         match error.kind() {
-            io::ErrorKind::InvalidData => Fault::NotText,
+            ErrorKind::InvalidData => Fault::NotText,
             _ => Fault::Memory,
         }
     }
 }
 
 impl<'a> From<Refusal> for Fault<'a> {
+    ghost from_gives = { λ f fault. fault ≡ refusal_fault f };
+
     fn from(refusal: Refusal) -> Fault<'a> {
         match refusal.reason {
             Reason::Memory => Fault::Memory,

@@ -1,6 +1,8 @@
 //! The program, over any folder and any two outputs.
 
-ghost use Rattle.std.specs.Prelude.{◌≤◌};
+ghost use Rattle.std.specs.Prelude.{◌≡◌, ◌≢◌, ◌≤◌, ◌⊎◌, Ok, Err};
+ghost use Rattle.clap.specs.Words.{kind_of};
+ghost use Rattle.cborc.specs.Fault.{end_status, status_number};
 
 use crate::canon::canon;
 use crate::check::check;
@@ -33,7 +35,7 @@ pub fn run<F: Folder, O: Write, E: Write>(
 
 /// Writes the line of a fault, and answers the status.
 pub fn end<E: Write>(ended: Result<Status, Fault<'_>>, err: &mut E) -> u8
-    ensures { result ≤ 3 }
+    ensures { result ≡ status_number (end_status ended.entry) }
 {
     let status = match ended {
         Ok(status) => status,
@@ -56,14 +58,15 @@ fn answer<'a, F: Folder, O: Write>(
             source,
             accepted,
             options,
-        } => check(alloc, files, out, source, *accepted, *options),
+        } => check(alloc, files, out, source, *accepted, *options)?,
         Request::Canon {
             source,
             target,
             order,
             options,
-        } => canon(alloc, files, source, target, *order, *options),
+        } => canon(alloc, files, source, target, *order, *options)?,
     }
+    Ok(Status::Accepted)
 }
 
 // Writes why the words give no request: help to `out`, a fault in them to `err`.
@@ -71,7 +74,14 @@ fn explain<'a, O: Write, E: Write>(
     error: &clap::Error,
     out: &mut O,
     err: &mut E,
-) -> Result<Status, Fault<'a>> {
+) -> Result<Status, Fault<'a>>
+    ensures memory { kind_of error.now ≡ ErrorKind.OutOfMemory → result ≡ Err Fault.Memory }
+    ensures help { kind_of error.now ≡ ErrorKind.DisplayHelp
+        → (result ≡ Ok Status.Accepted) ⊎ (result ≡ Err Fault.CannotPrint) }
+    ensures misused { kind_of error.now ≢ ErrorKind.OutOfMemory
+        → kind_of error.now ≢ ErrorKind.DisplayHelp → kind_of error.now ≢ ErrorKind.DisplayVersion
+        → result ≡ Ok Status.Misused }
+{
     if error.kind() == ErrorKind::OutOfMemory {
         return Err(Fault::Memory);
     }

@@ -10,7 +10,7 @@ pub returns-then-eq : goal.returns-then-eq
 returns-then-eq c =
     let step = differ_at c.args.keys.now.items (c.loop-i.i - 1) c.loop-i.i c.index.result.now c.index-in-loop-i.result.now (omega arith) (omega arith) c.index.ensures c.index-in-loop-i.ensures in
     let equal = slice_eq-Decides Decides-eqb _ _ _ c.if-eq.ensures in
-    fails (λ d. (step.0 (c.loop-i.invariant.0 d)).0 (sym c.as_slice.ensures.value ∙ equal.0 refl ∙ c.as_slice-in-loop-i.ensures.value))
+    fails (λ d. (step.0 (c.loop-i.invariant.0 d)).0 (sym c.as_slice.ensures ∙ equal.0 refl ∙ c.as_slice-in-loop-i.ensures))
 
 pub loop-i-preserved : goal.loop-i-preserved
 loop-i-preserved c =
@@ -20,7 +20,7 @@ loop-i-preserved c =
     let next : c.loop-i.i ≡ (c.loop-i.i + 1) - 1 = omega arith in
     subst (λ i. DoNeighboursDiffer (map bytes_of c.args.keys.now.items) ↔ DoNeighboursDiffer (map bytes_of (drop i c.args.keys.now.items))) next (
       (λ d. (step.0 (c.loop-i.invariant.0 d)).1),
-      (λ d. c.loop-i.invariant.1 (step.1 ((λ e. differs (c.as_slice.ensures.value ∙ e ∙ sym c.as_slice-in-loop-i.ensures.value)), d))),
+      (λ d. c.loop-i.invariant.1 (step.1 ((λ e. differs (c.as_slice.ensures ∙ e ∙ sym c.as_slice-in-loop-i.ensures)), d))),
     )
 
 pub returns : goal.returns

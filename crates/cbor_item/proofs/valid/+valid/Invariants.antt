@@ -1,5 +1,6 @@
 use Rattle.std.proofs.Common.{◌↔◌, drop}
-use Rattle.cbor_head.specs.Value.{AreInRange, AreEntriesInRange, AreValid, AreEntriesValid}
+use Rattle.cbor_head.specs.Value.{AreInRange, AreEntriesInRange, AreValid}
+use Rattle.cbor_item.specs.Encoded.{AreContentsValid}
 use Rattle.cbor_item.specs.View.{values_view, entries_view}
 use Rattle.cbor_item.proofs.valid.+valid.Given as goal
 
@@ -9,7 +10,7 @@ invariant-all_valid-loop-item l =
     (AreValid (values_view l.item-items) ↔ AreValid (values_view (drop l.item-index l.item-items)))
     × AreInRange (values_view (drop l.item-index l.item-items))
 
-abbrev pub invariant-pairs_valid-loop-key : goal.invariant-pairs_valid-loop-key
-invariant-pairs_valid-loop-key l =
-    (AreEntriesValid (entries_view l.key-items) ↔ AreEntriesValid (entries_view (drop l.key-index l.key-items)))
-    × AreEntriesInRange (entries_view (drop l.key-index l.key-items))
+abbrev pub invariant-pairs_valid-loop-content : goal.invariant-pairs_valid-loop-content
+invariant-pairs_valid-loop-content l =
+    (AreContentsValid (entries_view l.pairs.items) ↔ AreContentsValid (entries_view (drop l.content-index l.content-items)))
+    × AreEntriesInRange (entries_view (drop l.content-index l.content-items))

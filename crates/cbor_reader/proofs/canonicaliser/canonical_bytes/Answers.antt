@@ -1,4 +1,4 @@
-use Rattle.std.proofs.Common.{sym, ap, ◌∙◌, arith}
+use Rattle.std.proofs.Common.{sym, ◌∙◌, arith}
 use Rattle.cbor_reader.proofs.WholeInputs.{trails-so, wants-memory-so, grows-too-long-so, becomes-so}
 use Rattle.cbor_reader.proofs.canonicaliser.canonical_bytes.Goals as goal
 

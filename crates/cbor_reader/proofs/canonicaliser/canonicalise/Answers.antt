@@ -1,7 +1,5 @@
-use Rattle.std.proofs.Common.{ℕ, arith, Result, ◌^◌, ◌≤◌}
-use Rattle.std.specs.Result.{MatchResult}
-use Rattle.cbor_reader.specs.Canonicalise.{IsCanonicalOf, IsRefusal}
-use Rattle.cbor_reader.proofs.OnAnswers.{IsAnswer, ok_item, err_item, ok_equal, ok_again}
+use Rattle.std.proofs.Common.{arith}
+use Rattle.cbor_reader.proofs.OnAnswers.{ok_item, err_item, ok_equal, ok_again}
 use Rattle.cbor_reader.proofs.canonicaliser.canonicalise.Goals as goal
 
 pub returns-clause-accepted : goal.returns-clause-accepted

@@ -9,8 +9,8 @@ read_item-requires g c =
 
 pub returns-in-Ok : goal.returns-in-Ok
 returns-in-Ok g c =
-    front-read c.args.rules c.args.limits _ _ _ _ c.taken.result (omega arith, omega arith)
-    (c.in-Ok.ensures c.args.limits [] [] (starts-at c.args.limits c.new-events.result (omega arith, omega arith) c.new-events.ensures.live c.new-events.ensures.limits c.new-events.ensures.starts)) c.taken.ensures.taken
+    rw c.into_item.ensures (front-read c.args.rules c.args.limits _ _ _ _ c.taken.result (omega arith, omega arith)
+    (c.in-Ok.ensures c.args.limits [] [] (starts-at c.args.limits c.new-events.result (omega arith, omega arith) c.new-events.ensures.live c.new-events.ensures.limits c.new-events.ensures.starts)) c.taken.ensures.taken)
 
 pub returns-in-Err : goal.returns-in-Err
 returns-in-Err g c =

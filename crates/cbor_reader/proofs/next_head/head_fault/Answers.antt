@@ -1,5 +1,4 @@
 use Rattle.std.proofs.Common.{rules, sym, subst}
-use Rattle.cbor_head.specs.Complaint as complaint
 use Rattle.cbor_head.specs.declared.reason.Reason.TheVariants as reasons
 use Rattle.cbor_events.specs.State.{mark_of}
 use Rattle.cbor_reader.specs.Reading.{IsFault}

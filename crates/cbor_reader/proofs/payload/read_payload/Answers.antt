@@ -1,4 +1,4 @@
-use Rattle.std.proofs.Common.{◌≡◌, length, ap, ◌∙◌, arith, true≢false, refl, sym, subst}
+use Rattle.std.proofs.Common.{◌≡◌, length, ap, arith, true≢false, sym}
 use Rattle.cbor_events.specs.Automaton.{payload}
 use Rattle.cbor_reader.proofs.Steps.{stops, limits-as, told, not-ended}
 use Rattle.cbor_reader.proofs.Payloads.{none-come, payload-open, part-fits, part-comes, part-memory, part-cut, all-come}

@@ -1,4 +1,4 @@
-use Rattle.std.proofs.Common.{◌≡◌, ℕ, List, Bool}
+use Rattle.std.proofs.Common.{ℕ, List, Bool}
 use Rattle.cbor_head.specs.Limits.{Bounds}
 use Rattle.cbor_head.specs.declared.major.Major.{Major}
 use Rattle.cbor_events.specs.Automaton.{Frame, payload}

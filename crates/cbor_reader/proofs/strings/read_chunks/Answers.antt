@@ -1,4 +1,4 @@
-use Rattle.std.proofs.Common.{◌≡◌, ◌++◌, sym, true}
+use Rattle.std.proofs.Common.{◌++◌, true}
 use Rattle.cbor_events.specs.Automaton.{in_chunks}
 use Rattle.cbor_reader.specs.Reading.{string_major}
 use Rattle.cbor_reader.specs.Rules.{rules_of}

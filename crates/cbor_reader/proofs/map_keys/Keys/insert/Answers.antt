@@ -1,12 +1,10 @@
 use Rattle.std.proofs.Common.{ap, ◌∙◌}
 use Rattle.cbor_head.specs.Canonical.{canonical}
 use Rattle.cbor_head.specs.declared.order.KeyOrder.{KeyOrder}
-use Rattle.cbor_item.specs.declared.item.Item.{Item}
 use Rattle.cbor_item.specs.View.{view}
-use Rattle.cbor_reader.specs.MapKeys.{order_of}
 use Rattle.cbor_reader.proofs.map_keys.Keys.insert.Goals as goal
 
-pub returns-clause-answers : goal.returns-clause-answers
-returns-clause-answers c = λ r ks k h i.
-    c.in_ok-reason.ensures r ks k (view c.args.key) h i
-    (c.in-Ok.ensures.bytes ∙ ap (λ (o : KeyOrder). canonical o (view c.from_valid-tree.result)) c.order-order.ensures ∙ ap (λ (x : Item). canonical (order_of c.args.self.now) (view x)) c.from_valid-tree.ensures)
+pub returns : goal.returns
+returns c = λ r ks k h i.
+    c.insert_bytes.ensures r ks k (view c.args.key.now) h i
+    (c.in_ok-bytes.ensures ∙ ap (λ (o : KeyOrder). canonical o (view c.args.key.now)) c.order.ensures)

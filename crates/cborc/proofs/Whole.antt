@@ -1,0 +1,29 @@
+-- Why the bytes of a file are not one accepted item.
+use Rattle.std.proofs.Common.{ℕ, zero, suc, ◌-◌, ◌<◌, false, arith, ◌≡◌, Some, List, length, sym, ap, ◌∙◌, refl, subst}
+use Rattle.std.specs.Prelude.{◌==◌}
+use Rattle.std.proofs.lemmas.List.{length-drop}
+use Rattle.cbor_head.specs.Complaint.{Rules}
+use Rattle.cbor_head.specs.Verdict.{refusal}
+use Rattle.cbor_head.specs.declared.reason.Reason.TheVariants.{Trailing}
+use Rattle.cbor_head.specs.declared.reason.Refusal.{Refusal}
+use Rattle.cbor_reader.specs.Readers.{IsRead, IsUnread, Loses}
+use Rattle.cborc.specs.Check.{IsNotWhole, unread, trailing}
+
+-- by rules that are known by two names
+module _ (d n : ℕ) (rules known : Rules) (same : rules ≡ known) (input : List ℕ) where
+  pub is_unread : (f : Refusal) → IsUnread d n known input f → IsNotWhole d n rules input f
+  is_unread f h = unread (subst (λ r. IsUnread d n r input f) (sym same) h)
+
+  some_left : (k : ℕ) → false ≡ (k == 0) → 0 < k
+  some_left zero e = cc e
+  some_left (suc k) e = omega arith
+
+  pub is_followed : (rest : List ℕ) (size : ℕ) → IsRead d n known input size → Loses size (Some input) (Some rest) → false ≡ (length rest == 0)
+      → IsNotWhole d n rules input (refusal Trailing size size)
+  is_followed rest size h lost e = trailing size (subst (λ r. IsRead d n r input size) (sym same) h) (omega (arith, behind, some_left (length rest) e)) refl
+    where
+      inside : {x y : List ℕ} → Some x ≡ Some y → x ≡ y
+      inside e = cc e
+
+      behind : length rest ≡ length input - size
+      behind = ap length (inside lost.0) ∙ length-drop size input

@@ -1,0 +1,26 @@
+use Rattle.std.proofs.Common.{ap}
+use Rattle.std.proofs.lemmas.Result.{err_from_is_err_and}
+use Rattle.cborc.specs.Check.{rules_of}
+use Rattle.cborc.proofs.Whole.{is_unread, is_followed}
+use Rattle.cborc.proofs.check.size_of_item.Goals as goal
+use Rattle.cborc.proofs.check.size_of_item.Goals.{in-Valid+in_ok-size-in-Valid, in-Canonical+in_ok-size-in-Canonical}
+
+pub returns-in_err-size-in-Valid-clause-refused : goal.returns-in_err-size-in-Valid-clause-refused
+returns-in_err-size-in-Valid-clause-refused c =
+    let p = err_from_is_err_and c.from_residual.result c.from_residual.ensures.1 in
+    rw (p.1, p.2) (is_unread _ _ _ _ (ap rules_of c.in-Valid.is) _ _ c.in_err-size-in-Valid.ensures.refused)
+
+pub returns-in_err-size-in-Canonical-clause-refused : goal.returns-in_err-size-in-Canonical-clause-refused
+returns-in_err-size-in-Canonical-clause-refused c =
+    let p = err_from_is_err_and c.from_residual-in_err-size-in-Canonical.result c.from_residual-in_err-size-in-Canonical.ensures.1 in
+    rw (p.1, p.2) (is_unread _ _ _ _ (ap rules_of c.in-Canonical.is) _ _ c.in_err-size-in-Canonical.ensures.refused)
+
+pub returns-else-is_empty-clause-refused : goal.returns-else-is_empty-clause-refused
+returns-else-is_empty-clause-refused c = elim c.match-accepted.branch [
+  | in-Valid+in_ok-size-in-Valid w ↦
+      is_followed _ _ _ _ (ap rules_of w.in-Valid.is) _ c.match-accepted.reader.now c.match-accepted.size
+      (rw w.size-is w.in_ok-size-in-Valid.ensures.accepted.read) (rw (w.size-is, w.reader-is) w.in_ok-size-in-Valid.ensures.taken) c.if-is_empty.ensures
+  | in-Canonical+in_ok-size-in-Canonical w ↦
+      is_followed _ _ _ _ (ap rules_of w.in-Canonical.is) _ c.match-accepted.reader.now c.match-accepted.size
+      (rw w.size-is w.in_ok-size-in-Canonical.ensures.accepted) (rw (w.size-is, w.reader-is) w.in_ok-size-in-Canonical.ensures.taken) c.if-is_empty.ensures
+]

@@ -1,0 +1,63 @@
+-- What the words of a command line ask for, by what clap found for each argument.
+use Rattle.std.specs.Prelude.{ℕ, ◌≡◌, ◌≤◌, ◌^◌, ◌⊎◌, List, Option, Some, None, IsSome, IsSomeAnd, true, false, codes, if◌then◌else◌, option_map, option_and_then}
+use Rattle.std.specs.Str.{bytes_eq}
+use Rattle.std.specs.Str.Parse.{IsNumeral, digits_value, without_leading_plus}
+use Rattle.cbor_head.specs.declared.order.KeyOrder.{KeyOrder}
+use Rattle.cbor_head.specs.declared.order.KeyOrder.TheVariants.{Bytewise, LengthFirst}
+use Rattle.clap.specs.Words.{Row, Text, first_of, one_of}
+use Rattle.cborc.specs.declared.command_line.Accepted.{Accepted}
+use Rattle.cborc.specs.declared.command_line.Accepted.TheVariants.{Valid, Canonical}
+use Rattle.cborc.specs.declared.command_line.Options.{Options}
+use Rattle.cborc.specs.declared.command_line.Request.{Request}
+use Rattle.cborc.specs.declared.command_line.Request.TheVariants.{Check, Canon}
+
+-- the order of keys that a word names
+abbrev pub order_named : Text → Option KeyOrder
+order_named word = if bytes_eq word (codes "bytewise") then Some Bytewise else if bytes_eq word (codes "length") then Some LengthFirst else None
+
+-- the order that is given
+abbrev pub order_given : List Row → Option KeyOrder
+order_given rows = option_and_then order_named (first_of (codes "order") rows)
+
+-- the number that is given by this name
+abbrev pub number_given : Text → List Row → Option ℕ
+number_given name rows = option_map (λ text. digits_value 10 (without_leading_plus text)) (one_of name rows)
+
+-- which items are accepted, where an order is given
+pub record IsAcceptedOf (rows : List Row) (accepted : Option Accepted) : Type 0 where
+  pub some : IsSome (order_given rows) → IsSome accepted
+  pub strict : one_of (codes "strict") rows ≡ Some (codes "true") → accepted ≡ option_map Canonical (order_given rows)
+  pub valid : one_of (codes "strict") rows ≡ Some (codes "false") → accepted ≡ option_map (λ _. Valid) (order_given rows)
+
+-- how the file is read
+pub record IsOptionsOf (rows : List Row) (options : Options) : Type 0 where
+  pub depth : number_given (codes "depth") rows ≡ Some options.limits.depth
+  pub bytes : number_given (codes "bytes") rows ≡ Some options.limits.bytes
+  pub hex : one_of (codes "hex") rows ≡ Some (codes "true") → options.hex ≡ true
+  pub raw : one_of (codes "hex") rows ≡ Some (codes "false") → options.hex ≡ false
+
+-- what a subcommand, of this name and given these, asks for
+abbrev pub AsksFor : Text × List Row → Request → Type 0
+AsksFor (name, rows) (Check source accepted options) =
+    (name ≡ codes "check") × (first_of (codes "FILE") rows ≡ Some source.now) × IsAcceptedOf rows (Some accepted) × IsOptionsOf rows options
+AsksFor (name, rows) (Canon source target order options) =
+    (name ≡ codes "canon") × (first_of (codes "IN") rows ≡ Some source.now) × (first_of (codes "OUT") rows ≡ Some target.now)
+    × (order_given rows ≡ Some order) × IsOptionsOf rows options
+
+-- the text is a number, at most so much
+abbrev pub IsNumber : ℕ → Text → Type 0
+IsNumber most text = IsNumeral 10 (without_leading_plus text) × (digits_value 10 (without_leading_plus text) ≤ most)
+
+-- limits are given, in their ranges
+abbrev pub HasLimits : List Row → Type 0
+HasLimits rows = IsSomeAnd (one_of (codes "depth") rows) (IsNumber 256) × IsSomeAnd (one_of (codes "bytes") rows) (IsNumber (2 ^ 62))
+
+-- so are the files that a subcommand of this name takes
+abbrev pub HasFiles : Text × List Row → Type 0
+HasFiles (name, rows) =
+    ((name ≡ codes "check") × IsSome (first_of (codes "FILE") rows))
+    ⊎ ((name ≡ codes "canon") × IsSome (first_of (codes "IN") rows) × IsSome (first_of (codes "OUT") rows))
+
+-- all that it asks for
+abbrev pub IsComplete : Text × List Row → Type 0
+IsComplete (name, rows) = HasFiles (name, rows) × IsSome (order_given rows) × HasLimits rows

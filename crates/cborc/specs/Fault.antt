@@ -1,0 +1,36 @@
+-- Which fault comes of a refusal, and with which status the program ends.
+use Rattle.std.specs.Prelude.{ℕ, Result, Ok, Err}
+use Rattle.cbor_head.specs.declared.reason.Reason.{Reason}
+use Rattle.cbor_head.specs.declared.reason.Reason.TheVariants as reasons
+use Rattle.cbor_head.specs.declared.reason.Refusal.{Refusal}
+use Rattle.cborc.specs.declared.fault.Fault.{Fault}
+use Rattle.cborc.specs.declared.fault.Fault.TheVariants as faults
+use Rattle.cborc.specs.declared.status.Status.{Status}
+use Rattle.cborc.specs.declared.status.Status.TheVariants.{Accepted, Refused, Misused, Failed}
+
+-- the fault of a refusal for this reason: want of memory is not the input's
+abbrev pub reason_fault : Refusal → Reason → Fault
+reason_fault f reasons.Memory = faults.Memory
+reason_fault f _ = faults.Refused f
+
+-- the fault of a refusal
+abbrev pub refusal_fault : Refusal → Fault
+refusal_fault f = reason_fault f f.reason
+
+-- the status of a fault
+abbrev pub fault_status : Fault → Status
+fault_status (faults.Refused f) = Refused
+fault_status faults.NotText = Misused
+fault_status _ = Failed
+
+-- the status of an end, well or by a fault
+abbrev pub end_status : Result Status Fault → Status
+end_status (Ok status) = status
+end_status (Err fault) = fault_status fault
+
+-- the number of a status
+abbrev pub status_number : Status → ℕ
+status_number Accepted = 0
+status_number Refused = 1
+status_number Misused = 2
+status_number Failed = 3
