@@ -7,15 +7,6 @@ use Rattle.cbor_events.specs.Machine.{MachineView, StandsFor, IsAnswer, IsMore, 
 use Rattle.cbor_events.specs.declared.event.Out.{Out}
 use Rattle.cbor_events.specs.declared.event.Out.TheVariants as outs
 
-pub goes-none : (m : MachineView) → Goes m m []
-goes-none m = λ t ms h. ([], along-marks (sym (append-nil ms)) (along-bytes (sym (append-nil t)) h))
-  where
-    along-marks : {t : List ℕ} {ms ns : List Mark} → ms ≡ ns → StandsFor m t ms → StandsFor m t ns
-    along-marks {t = t} e h = subst (λ (ns : List Mark). StandsFor m t ns) e h
-
-    along-bytes : {t u : List ℕ} {ms : List Mark} → t ≡ u → StandsFor m t ms → StandsFor m u ms
-    along-bytes {ms = ms} e h = subst (λ (u : List ℕ). StandsFor m u ms) e h
-
 pub goes-on : (old mid new : MachineView) (xs ys all : List ℕ) (added : List Mark) → Goes old mid xs → ((t : List ℕ) (ms : List Mark) → StandsFor mid t ms → StandsFor new (t ++ ys) (ms ++ added)) → xs ++ ys ≡ all → Goes old new all
 goes-on old mid new xs ys all added g next e = λ t ms h.
     let first = g t ms h in

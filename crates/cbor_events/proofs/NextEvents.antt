@@ -1,19 +1,16 @@
 -- The next event, from one read after another.
-use Rattle.std.proofs.Common.{◌≡◌, ℕ, zero, suc, ◌+◌, ◌-◌, ◌<◌, ◌≤◌, ◌⊎◌, Bool, true, false, List, [], ◌∷◌, ◌++◌, length, take, drop, replicate, refl, sym, ap, subst, ◌∙◌, inl, inr, arith, append_assoc, append-nil, length-append, length-take, take_all}
+use Rattle.std.proofs.Common.{◌≡◌, ℕ, zero, suc, ◌+◌, ◌-◌, ◌<◌, ◌≤◌, Bool, true, false, List, [], ◌∷◌, ◌++◌, length, take, drop, replicate, refl, sym, ap, subst, ◌∙◌, arith, append_assoc, append-nil, length-append, take_all}
 use Rattle.std.specs.Prelude.{Option, Some, None, Result, Ok, Err, IfSome, min}
-use Rattle.std.specs.Io.KnownBytes.{Consumes, IsAtEnd}
-use Rattle.std.proofs.KnownBytes.{Consumes-trans, Consumes-nil}
+use Rattle.std.specs.Io.KnownBytes.{Consumes}
+use Rattle.std.proofs.KnownBytes.{Consumes-trans}
 use lib.Seq.{drop-append_seam}
 use Rattle.cbor_head.specs.Value.{AreBytes}
-use Rattle.cbor_head.specs.Head.{head}
 use Rattle.cbor_head.specs.declared.reason.Refusal.{Refusal}
 use Rattle.cbor_head.specs.declared.major.Major.{Major}
-use Rattle.cbor_head.specs.declared.major.Major.TheVariants as majors
 use Rattle.cbor_head.specs.declared.width.Width.{Width}
-use Rattle.cbor_head.specs.declared.width.Width.TheVariants.{Direct, One, Two, Four, Eight, Indefinite}
 use Rattle.cbor_events.specs.Trace.{Mark, a_head, a_chunk, a_byte, an_end, size, total}
-use Rattle.cbor_events.specs.Automaton.{Frame, State, start, at_item, in_head, in_simple, in_payload, in_chunks, done, take_byte, run, Outcome, refused, reached, telling}
-use Rattle.cbor_events.specs.State.{wanted_at, state_of, mark_of, marks_of, times}
+use Rattle.cbor_events.specs.Automaton.{Frame, State, start, at_item, in_head, in_simple, in_payload, in_chunks, done, run, Outcome, refused, reached, telling}
+use Rattle.cbor_events.specs.State.{wanted_at, state_of, mark_of, marks_of}
 use Rattle.cbor_events.specs.Bytes.{IsEventBytes}
 use Rattle.cbor_events.specs.Machine.{MachineView, StandsFor, IsComplete, IsWhole, IsGiven, IsEvent, wanted, wanted_within}
 use Rattle.cbor_events.specs.Taking.{IsTaking}
@@ -270,9 +267,6 @@ pub read-on : (from mid_from to : Option (List ℕ)) (mid new : MachineView) (t 
     → HasRead from to new t ms
 read-on from mid_from to mid new t last ms r c h =
     record { bytes = r.bytes ++ last; consumed = Consumes-trans _ _ _ _ _ r.consumed c; stands = subst (λ xs. StandsFor new xs ms) (append_assoc t r.bytes last) h }
-
-pub none-read : (from : Option (List ℕ)) (m : MachineView) (t : List ℕ) (ms : List Mark) → StandsFor m t ms → HasRead from from m t ms
-none-read from m t ms h = record { bytes = []; consumed = Consumes-nil from; stands = subst (λ xs. StandsFor m xs ms) (sym (append-nil t)) h }
 
 -- ---- what the machine wants
 

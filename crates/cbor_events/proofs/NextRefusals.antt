@@ -1,6 +1,6 @@
 -- Why the next event is refused, after one read after another.
 use Rattle.std.proofs.Common.{◌≡◌, ℕ, ◌+◌, ◌<◌, ◌≤◌, ◌⊎◌, inl, inr, List, [], ◌∷◌, ◌++◌, length, refl, sym, ap, subst, ◌∙◌, arith, append-nil, append_assoc, length-append, take, take_all}
-use Rattle.std.specs.Prelude.{Option, Some, None}
+use Rattle.std.specs.Prelude.{Option}
 use Rattle.std.specs.Io.KnownBytes.{Consumes, IsAtEnd}
 use Rattle.std.proofs.KnownBytes.{Consumes-trans}
 use Rattle.cbor_head.specs.Value.{AreBytes}
@@ -11,14 +11,12 @@ use Rattle.cbor_head.specs.Verdict.{refusal, refused, IsVerdict}
 use Rattle.cbor_head.specs.declared.reason.Reason.TheVariants.{Read, Truncated, TooLong}
 use Rattle.cbor_head.specs.declared.reason.Refusal.{Refusal}
 use Rattle.cbor_events.specs.Trace.{Mark}
-use Rattle.cbor_events.specs.Automaton as automaton
 use Rattle.cbor_events.specs.Automaton.{State, start, done, take_byte, run, reached}
 use Rattle.cbor_events.specs.State.{state_of}
-use Rattle.cbor_events.specs.Machine.{MachineView, StandsFor, IsComplete, IsWhole, before, IsRefused, Ran, Stopped, IsStep, open_count}
-use Rattle.cbor_events.specs.ItemEvents.{StandsBetween, HasRead, IsCut, IsTooLong, IsBroken}
+use Rattle.cbor_events.specs.Machine.{MachineView, StandsFor, IsComplete, IsWhole, before, IsRefused, Ran, Stopped, IsStep}
+use Rattle.cbor_events.specs.ItemEvents.{HasRead, IsCut, IsTooLong, IsBroken}
 use Rattle.cbor_events.specs.declared.event.Out.TheVariants as outs
-use Rattle.cbor_events.specs.declared.place.Place.TheVariants.{Done}
-use Rattle.cbor_events.proofs.Beginnings.{item-done, run-append, onwards, telling_all-reached}
+use Rattle.cbor_events.proofs.Beginnings.{item-done}
 use Rattle.cbor_events.proofs.Refusals.{IsUnfinished}
 use Rattle.cbor_head.proofs.Verdicts.{item_one}
 use Rattle.cbor_events.proofs.Runs.{run-on, silent-unfinished, sane-run}

@@ -1,11 +1,11 @@
 -- One mark from where the machine stands: which it can be, its bytes, and where it leaves the machine.
-use Rattle.std.proofs.Common.{◌≡◌, ℕ, zero, suc, ◌+◌, ◌-◌, ◌*◌, ◌^◌, ◌<◌, ◌≤◌, Bool, true, false, nat_lt, cond, List, [], ◌∷◌, ◌++◌, length, refl, sym, ap, ◌∙◌, subst, inl, inr, arith, append_assoc, append-nil, true≢false, mod-eq_of_lt}
+use Rattle.std.proofs.Common.{◌≡◌, ℕ, zero, suc, ◌+◌, ◌-◌, ◌*◌, ◌^◌, ◌<◌, ◌≤◌, Bool, true, false, nat_lt, cond, List, [], ◌∷◌, ◌++◌, length, refl, sym, ap, ◌∙◌, subst, inl, inr, arith, append_assoc, append-nil, mod-eq_of_lt}
 use Rattle.std.proofs.lemmas.Bool.{lt-ltb, le-ltb, ltb-true, cases_lt}
 use Rattle.std.specs.Int.{bytes_high_first}
 use Rattle.cbor_head.specs.Head.{Holds, IsSimple, head, major_number, shortest}
 use Rattle.cbor_head.specs.Value.{AreBytes}
 use Rattle.cbor_events.specs.Trace.{Mark, a_head, a_byte, more_bytes, payload_marks}
-use Rattle.cbor_events.specs.Automaton.{Frame, counted, open_array, open_map, State, at_item, in_head, in_simple, in_payload, in_chunks, done, Opening, long, Next, refuses, goes, tells, numbered_tail, simple_tail, tail, without_length, opening_of, opening, close, expect, close_string, payload, after, has_room, break_at, begin, is_major, in_string, take_byte, Outcome, refused, reached, telling, and_then, run}
+use Rattle.cbor_events.specs.Automaton.{Frame, counted, open_array, open_map, State, at_item, in_head, in_simple, in_payload, in_chunks, done, Opening, long, Next, refuses, goes, tells, numbered_tail, simple_tail, tail, without_length, opening_of, opening, payload, after, has_room, break_at, begin, is_major, in_string, take_byte, Outcome, refused, reached, telling, and_then, run}
 use Rattle.cbor_events.specs.Taking.{Follows, IsTaking}
 use Rattle.cbor_head.specs.declared.major.Major.{Major}
 use Rattle.cbor_head.specs.declared.major.Major.TheVariants.{Unsigned, Negative, Bytes, Text, Array, Map, Tag, Simple}

@@ -189,16 +189,10 @@ open-then-fixed bs carried piece n k h f s =
     let size : length h.front + n ≡ k = omega (arith, ap length h.joined, length-append h.front carried) in
     subst (λ l. IsFixed l k) (sym e) (fixed-behind h.front (carried ++ piece) n k h.valid f size)
 
-pub open-length : (bs carried : List ℕ) → IsOpen bs carried → length carried ≤ length bs
-open-length bs carried h = omega (arith, ap length h.joined, length-append h.front carried)
-
 -- ---- the end
 
 pub answers : (bs : List ℕ) (n : ℕ) → IsValidUpTo bs n → (IsUtf8 bs → ⊥) × (n ≡ utf8_valid_len bs)
 answers bs n h = (λ u. h.longest (length bs) h.short (subst IsUtf8 (sym (take_all (length bs) bs (omega arith))) u), sym (utf8_valid_len-IsValidUpTo bs n h))
-
-pub open-end : (bs : List ℕ) → IsOpen bs [] → IsUtf8 bs
-open-end bs h = subst IsUtf8 (sym (h.joined ∙ append-nil h.front)) h.valid
 
 pub open-short : (bs carried : List ℕ) (n : ℕ) → IsOpen bs carried → 0 < length carried → length bs - length carried ≡ n → IsValidUpTo bs n
 open-short bs carried n h some e =

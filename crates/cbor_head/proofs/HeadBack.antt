@@ -22,11 +22,6 @@ ByPlace xs = (i : ℕ) → get_or xs i 0 < 256
 pub by_place-tail : (x : ℕ) (xs : List ℕ) → ByPlace (x ∷ xs) → ByPlace xs
 by_place-tail x xs h = λ i. h (suc i)
 
-pub by_place-drop : (n : ℕ) (xs : List ℕ) → ByPlace xs → ByPlace (drop n xs)
-by_place-drop zero xs h = h
-by_place-drop (suc n) [] h = h
-by_place-drop (suc n) (x ∷ xs) h = by_place-drop n xs (by_place-tail x xs h)
-
 pub by_place-cons : (x : ℕ) (xs : List ℕ) → x < 256 → ByPlace xs → ByPlace (x ∷ xs)
 by_place-cons x xs a h zero = a
 by_place-cons x xs a h (suc i) = h i

@@ -90,10 +90,6 @@ all_front : (P : Value → Type 0) (ks ls : List Value) → AllByRecursion P (ks
 all_front P [] ls a = tt
 all_front P (k ∷ ks) ls a = (a.0, all_front P ks ls a.1)
 
-pub distinct_front : (ks ls : List Value) → AreDistinct (ks ++ ls) → AreDistinct ks
-distinct_front [] ls d = tt
-distinct_front (k ∷ ks) ls d = (all_front (λ l. Same k l → ⊥) ks ls d.0, distinct_front ks ls d.1)
-
 -- ---- by their bytes
 
 pub distinct_from_bytes : (o : KeyOrder) (es : Entries) → AreEntriesInRange es → AreKeysValid es → HasDistinctBytes (canonical_entries o es) → HasDistinctKeys es

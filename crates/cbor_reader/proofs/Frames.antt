@@ -51,11 +51,6 @@ members_split (a_spelling s ss) ts r at to c e (inl h) = inl (inl h)
 members_split (a_spelling s ss) ts r at to c e (inr h) =
     elim (members_split ss ts r (at + length (spell s)) to c (omega (arith, e, length-append (spell s) (spell_all ss))) h) [ inl x ↦ inl (inr x) | inr y ↦ inr y ]
 
-pub members_left : (ss ts : Spellings) (r : Rules) (at : ℕ) (c : Complaint) → ComplainsIn r at ss c → ComplainsIn r at (with_all ss ts) c
-members_left no_spellings ts r at c h = absurd h
-members_left (a_spelling s ss) ts r at c (inl h) = inl h
-members_left (a_spelling s ss) ts r at c (inr h) = inr (members_left ss ts r (at + length (spell s)) c h)
-
 pub members_right : (ss ts : Spellings) (r : Rules) (at to : ℕ) (c : Complaint) → to ≡ at + length (spell_all ss) → ComplainsIn r to ts c → ComplainsIn r at (with_all ss ts) c
 members_right no_spellings ts r at to c e h = let f : to ≡ at = omega arith in subst (λ (n : ℕ). ComplainsIn r n ts c) f h
 members_right (a_spelling s ss) ts r at to c e h = inr (members_right ss ts r (at + length (spell s)) to c (omega (arith, e, length-append (spell s) (spell_all ss))) h)
@@ -71,13 +66,6 @@ entries_split (entry k v es) fs ks r at to c e (inr (inl h)) = inl (inr (inl h))
 entries_split (entry k v es) fs ks r at to c e (inr (inr (inl h))) = inl (inr (inr (inl h)))
 entries_split (entry k v es) fs ks r at to c e (inr (inr (inr h))) =
     elim (entries_split es fs (k ∷ ks) r (at + length (spell k) + length (spell v)) to c (omega (arith, e, three k v es)) h) [ inl x ↦ inl (inr (inr (inr x))) | inr y ↦ inr y ]
-
-pub entries_left : (es fs : SpelledEntries) (ks : List Spelling) (r : Rules) (at : ℕ) (c : Complaint) → ComplainsInEntries r at ks es c → ComplainsInEntries r at ks (with_entries es fs) c
-entries_left no_entries fs ks r at c h = absurd h
-entries_left (entry k v es) fs ks r at c (inl h) = inl h
-entries_left (entry k v es) fs ks r at c (inr (inl h)) = inr (inl h)
-entries_left (entry k v es) fs ks r at c (inr (inr (inl h))) = inr (inr (inl h))
-entries_left (entry k v es) fs ks r at c (inr (inr (inr h))) = inr (inr (inr (entries_left es fs (k ∷ ks) r (at + length (spell k) + length (spell v)) c h)))
 
 pub entries_right : (es fs : SpelledEntries) (ks : List Spelling) (r : Rules) (at to : ℕ) (c : Complaint) → to ≡ at + length (spell_entries es) → ComplainsInEntries r to (keys_onto ks es) fs c → ComplainsInEntries r at ks (with_entries es fs) c
 entries_right no_entries fs ks r at to c e h = let f : to ≡ at = omega arith in subst (λ (n : ℕ). ComplainsInEntries r n ks fs c) f h

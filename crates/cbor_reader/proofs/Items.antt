@@ -125,14 +125,6 @@ never-open d fs m w n bs next i h e = no m i (subst (λ (x : Width). IsTaking d 
     no majors.Array i h = i
     no majors.Map i h = i
 
-pub count-head : (r : Rules) (at : ℕ) (m : Major) (w : Width) (n : ℕ) (c : Complaint) → w ≢ Indefinite → OfCount r at m w n c → OfHead r at m w n c
-count-head r at m Indefinite n c f h = absurd (f refl)
-count-head r at m Direct n c f h = h
-count-head r at m One n c f h = h
-count-head r at m Two n c f h = h
-count-head r at m Four n c f h = h
-count-head r at m Eight n c f h = h
-
 pub head-count : (r : Rules) (at : ℕ) (m : Major) (w : Width) (n : ℕ) (c : Complaint) → w ≢ Indefinite → OfHead r at m w n c → OfCount r at m w n c
 head-count r at m Indefinite n c f h = absurd (f refl)
 head-count r at m Direct n c f h = h

@@ -1,11 +1,10 @@
 -- The bytes of arrays and maps as their members come.
-use Rattle.std.proofs.Common.{ℕ, ◌≡◌, List, [], ◌∷◌, ◌++◌, refl, sym, ap, ◌∙◌}
+use Rattle.std.proofs.Common.{ℕ, ◌≡◌, List, [], ◌++◌, sym, ap, ◌∙◌}
 use Rattle.std.proofs.lemmas.List.{append_assoc, append-nil}
 use Rattle.cbor_head.specs.Head.{head}
 use Rattle.cbor_head.specs.Spelling.{Spelling, Spellings, SpelledEntries, array, a_map, no_spellings, a_spelling, no_entries, entry, spell, spell_all, spell_entries, spellings_count, entries_count, closer}
 use Rattle.cbor_head.specs.declared.major.Major.TheVariants.{Array, Map}
 use Rattle.cbor_head.specs.declared.width.Width.{Width}
-use Rattle.cbor_head.specs.declared.width.Width.TheVariants.{Indefinite}
 use Rattle.cbor_reader.specs.Frame.{with_all, with_entries}
 use Rattle.cbor_reader.proofs.Frames.{spell_with, spell_entries_with}
 use Rattle.cbor_reader.proofs.Composition.{array_bytes, map_bytes}
@@ -33,10 +32,3 @@ map_bytes-whole w n done e f =
     ap (λ (x : List ℕ). map_bytes w (entries_count done) done ++ x) e
     ∙ append-nil (map_bytes w (entries_count done) done)
     ∙ ap (λ (k : ℕ). map_bytes w k done) f
-
--- the break of one without length
-pub array_bytes-ended : (n : ℕ) (done : Spellings) → spell (array Indefinite done) ≡ array_bytes Indefinite n done ++ 0xff ∷ []
-array_bytes-ended n done = refl
-
-pub map_bytes-ended : (n : ℕ) (done : SpelledEntries) → spell (a_map Indefinite done) ≡ map_bytes Indefinite n done ++ 0xff ∷ []
-map_bytes-ended n done = refl

@@ -203,11 +203,6 @@ module _ (r : Rules) (b : Bounds) (fs : List Frame) (t x : List ℕ) (w : Width)
     key-reached = reached-as b ((t ++ map_bytes w n a.done) ++ spell m.item) (t ++ (map_bytes w n a.done ++ spell m.item)) (append_assoc t (map_bytes w n a.done) (spell m.item))
         (at-reached b new ((t ++ map_bytes w n a.done) ++ spell m.item) (close (key_frames left fs)) m.at)
 
-    -- memory for it is refused
-    pub key-memory : (f : Refusal) → f.read ≡ new.machine.taken → IsMemory f → StopsItem r b fs t x from to f
-    key-memory f g h =
-        stops-memory r b fs t x (map_bytes w n a.done ++ spell m.item) from to f key-taken (g ∙ m.at.stands.stands.taken ∙ ap length (append_assoc t (map_bytes w n a.done) (spell m.item))) h key-reached
-
     -- it is the same as another, or out of order
     pub key-refused : (c : Complaint) → OfKey r (length (t ++ map_bytes w n a.done)) (keys_onto [] a.done) m.item c → StopsItem r b fs t x from to (refusal c.reason c.place c.end)
     key-refused c o =

@@ -14,10 +14,9 @@ use Rattle.cbor_events.specs.Automaton.{Frame, counted, State, at_item, close}
 use Rattle.cbor_events.specs.ItemEvents.{ItemEventsView}
 use Rattle.cbor_events.specs.declared.event.EventKind.TheVariants as kinds
 use Rattle.cbor_reader.specs.Judged.{IsJudged}
-use Rattle.cbor_reader.specs.Reading.{IsAt, Extends, IsBegun, ReadsItem, IsMemory, StopsItem}
-use Rattle.cbor_reader.proofs.Steps.{at-reached, reached-as}
+use Rattle.cbor_reader.specs.Reading.{IsAt, Extends, IsBegun, ReadsItem, StopsItem}
 use Rattle.cbor_reader.proofs.Composition.{tag_judged, tag_whole}
-use Rattle.cbor_reader.proofs.Items.{IsDefinite, definite, never-open, is-definite, head-count, extends-none, extends-in, stops-in, stops-memory}
+use Rattle.cbor_reader.proofs.Items.{IsDefinite, definite, never-open, is-definite, head-count, extends-none, extends-in, stops-in}
 
 pub at-as : (b : Bounds) (e : ItemEventsView) (t u : List ℕ) (p q : State) → t ≡ u → p ≡ q → IsAt b e t p → IsAt b e u q
 at-as b e t u p q f g a = subst (λ (x : State). IsAt b e u x) g (subst (λ (x : List ℕ). IsAt b e x p) f a)
@@ -101,9 +100,3 @@ module _ (r : Rules) (b : Bounds) (fs : List Frame) (t x : List ℕ) (e : ItemEv
       (tag_judged w n r (length t) (b.depth - suc (length fs)) h.holds (λ d g. i.clean d (head-count r (length t) majors.Tag w n d (is-definite w n h.holds) g)) p found
       (subst (λ (k : ℕ). IsJudged r k (b.depth - suc (length fs)) p found) there j))))
       x [] from from to f (subst (λ (y : List ℕ). Extends x y from from) (sym (append-nil x)) (extends-none x from)) s
-
-  pub tag-memory : (to : Option (List ℕ)) (new : ItemEventsView) (v : Value) (f : Refusal) → ReadsItem r b (counted 0 ∷ fs) (t ++ x) [] from to new v → f.read ≡ new.machine.taken → IsMemory f → StopsItem r b fs t x from to f
-  tag-memory to new v f c g m =
-      stops-memory r b fs t x (x ++ spell c.item) from to f (extends-in x x [] (spell c.item) from from to (subst (λ (y : List ℕ). Extends x y from from) (sym (append-nil x)) (extends-none x from)) c.taken)
-      (g ∙ c.at.stands.stands.taken ∙ ap length (append_assoc t x (spell c.item))) m
-      (reached-as b ((t ++ x) ++ spell c.item) (t ++ (x ++ spell c.item)) (append_assoc t x (spell c.item)) (at-reached b new ((t ++ x) ++ spell c.item) (close fs) c.at))

@@ -49,9 +49,6 @@ at-run b e t q a = ap (λ (d : ℕ). run d start t) (sym a.depth) ∙ a.stands.s
 pub at-clear : (b : Bounds) (e : ItemEventsView) (t : List ℕ) (q : State) → IsAt b e t q → IsClear q
 at-clear b e t q a = whole-clear b.depth t q a.marks (at-run b e t q a) a.stands.whole
 
-pub at-taken : (b : Bounds) (e : ItemEventsView) (t : List ℕ) (q : State) → IsAt b e t q → e.machine.taken ≡ length t
-at-taken b e t q a = a.stands.stands.taken
-
 pub stands-reached : (b : Bounds) (m : MachineView) (t : List ℕ) (ms : List Mark) → m.depth ≡ b.depth → m.bytes ≡ b.bytes → StandsFor m t ms → IsReached b t
 stands-reached b m t ms e f s = record {
   begins = subst (λ (d : ℕ). IsBeginning d t) e s.beginning;

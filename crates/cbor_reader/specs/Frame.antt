@@ -35,12 +35,6 @@ plug (a_key w a v b) s = a_map w (with_entries a (entry s v b))
 plug (a_content w a k b) s = a_map w (with_entries a (entry k s b))
 plug (tagged w n) s = tag w n s
 
-abbrev pub head_at : Frame → List ℕ
-head_at (a_member w a b) = head Array w (spellings_count a + suc (spellings_count b))
-head_at (a_key w a v b) = head Map w (entries_count a + suc (entries_count b))
-head_at (a_content w a k b) = head Map w (entries_count a + suc (entries_count b))
-head_at (tagged w n) = head Tag w n
-
 -- the bytes before the item
 abbrev pub before : Frame → List ℕ
 before (a_member w a b) = head Array w (spellings_count a + suc (spellings_count b)) ++ spell_all a

@@ -1,4 +1,4 @@
-use Rattle.std.proofs.Common.{◌≡◌, ℕ, List, take}
+use Rattle.std.proofs.Common.{take}
 use Rattle.cbor_events.proofs.NextEvents.{head-answer, payload-answer}
 use Rattle.cbor_events.proofs.item_events.advance.Goals as goal
 

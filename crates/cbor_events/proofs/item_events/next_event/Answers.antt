@@ -1,8 +1,5 @@
-use Rattle.std.proofs.Common.{◌≡◌, ◌≤◌, ◌<◌, ◌+◌, ◌-◌, ◌⊎◌, inl, inr, ℕ, List, [], length, take, ◌++◌, refl, sym, ap, subst, ◌∙◌, arith, length-take}
-use Rattle.cbor_events.specs.Trace.{Mark}
-use Rattle.cbor_events.specs.Machine.{MachineView, StandsFor, IsGiven, IsRefused, IsComplete, IsStep, wanted}
-use Rattle.cbor_events.specs.ItemEvents.{HasRead, StandsBetween, IsEnd, IsNextEvent}
-use Rattle.std.specs.Io.KnownBytes.{Consumes}
+use Rattle.std.proofs.Common.{◌≡◌, ◌≤◌, ◌<◌, ◌+◌, inl, inr, length, take, ◌++◌, subst, ◌∙◌, arith, length-take}
+use Rattle.cbor_events.specs.Machine.{StandsFor, IsGiven, IsRefused, IsComplete, IsStep, wanted}
 use Rattle.cbor_events.specs.declared.event.Out.TheVariants as outs
 use Rattle.cbor_events.proofs.NextEvents.{event-here, end-here, read-on, complete-wants, wants-short, front-again, all-used, wanted-room, complete-nothing, told-live}
 use Rattle.cbor_events.proofs.NextRefusals.{still-due, cut-here, stopped-here}
