@@ -1,14 +1,9 @@
 -- Lists of encoded pairs, by their keys.
-use Rattle.std.specs.Prelude.{◌≢◌, IsTrue, List, [], ◌∷◌}
+use Rattle.std.specs.Prelude.{IsTrue, List, [], ◌∷◌}
 use Rattle.std.specs.List.{AllByRecursion}
 use Rattle.cbor_head.specs.Order.{key_lt}
 use Rattle.cbor_head.specs.Canonical.{Pair}
 use Rattle.cbor_head.specs.declared.order.KeyOrder.{KeyOrder}
-
--- no two keys have the same bytes
-abbrev pub HasDistinctBytes : List Pair → Type 0
-HasDistinctBytes [] = Unit {0}
-HasDistinctBytes (p ∷ ps) = AllByRecursion (λ q. q.key ≢ p.key) ps × HasDistinctBytes ps
 
 -- each key comes before all that follow it
 abbrev pub IsRising : KeyOrder → List Pair → Type 0

@@ -1,5 +1,5 @@
 -- The value that an item stands for (RFC 8949, section 2).
-use Rattle.std.specs.Prelude.{List, [], ◌∷◌, map, string_bytes}
+use Rattle.std.specs.Prelude.{List, [], ◌∷◌, string_bytes}
 use Rattle.cbor_head.specs.Value as value
 use Rattle.cbor_head.specs.Value.{Value, Values, Entries}
 use Rattle.cbor_item.specs.declared.item.Item.{Item}
@@ -28,11 +28,3 @@ view_step (Item-F.Simple s) = value.simple s
 -- an item's value
 abbrev pub view : Item → Value
 view = fold-Item Value view_step
-
--- the values of an array's members
-abbrev pub values_view : List Item → Values
-values_view is = values_of (map view is)
-
--- the pairs of a map
-abbrev pub entries_view : List (Item × Item) → Entries
-entries_view ps = entries_of (map (λ p. (view p.0, view p.1)) ps)

@@ -9,9 +9,6 @@ use Rattle.cbor_head.specs.declared.reason.Reason.TheVariants.{Truncated, Read, 
 use Rattle.cbor_head.specs.declared.reason.Refusal.{Refusal}
 use Rattle.cbor_head.specs.Canonical.{canonical}
 use Rattle.cbor_head.specs.declared.order.KeyOrder.{KeyOrder}
-use Rattle.cbor_head.specs.Limits.{Bounds}
-use Rattle.cbor_reader.specs.Size.{size}
-use Rattle.cbor_reader.specs.MapKeys.{IsKeyValue}
 use Rattle.cbor_reader.specs.Headline.{BeginsWithCanonical}
 
 -- the input's item, which has so many bytes, is accepted
@@ -37,17 +34,6 @@ pub data IsUnread (d n : ℕ) (r : Rules) (input : List ℕ) (f : Refusal) : Typ
 -- a reader that had these bytes lost the first so many of them
 abbrev pub Loses : ℕ → Option (List ℕ) → Option (List ℕ) → Type 0
 Loses k old new = IfSome old (λ input. (new ≡ Some (drop k input)) × (k ≤ length input))
-
--- What is read by these rules, whichever reader it is: what is told of a known input, and of each.
-pub record IsFrontRead (r : Rules) (b : Bounds) (from to : Option (List ℕ)) (v : Value) (count : ℕ) : Type 0 where
-  pub read : IfSome from (λ input. IsReadAs b.depth b.bytes r input v count)
-  pub taken : Loses count from to
-  pub bounded : size v ≤ count
-  pub sound : IsKeyValue v
-
-pub record IsFrontUnread (r : Rules) (b : Bounds) (from to : Option (List ℕ)) (f : Refusal) : Type 0 where
-  pub refused : IfSome from (λ input. IsUnread b.depth b.bytes r input f)
-  pub taken : Loses f.read from to
 
 -- the input begins with the canonical bytes, so many, of a valid value within the limits
 pub record IsCanonicalFront (d n : ℕ) (o : KeyOrder) (input : List ℕ) (count : ℕ) : Type 0 where

@@ -1,5 +1,6 @@
 -- What the encoder holds of the pairs of a map.
 use Rattle.std.specs.Prelude.{ℕ, ◌≢◌, List, [], ◌∷◌, ◌++◌, flat_map, get_or}
+use Rattle.std.specs.List.{AllByRecursion}
 use Rattle.cbor_head.specs.Value.{Value, Entries, no_entries, entry, IsValid}
 use Rattle.cbor_head.specs.Canonical.{Pair, canonical}
 use Rattle.cbor_head.specs.declared.order.KeyOrder.{KeyOrder}
@@ -20,7 +21,7 @@ AreContentsValid (entry k v es) = IsValid v × AreContentsValid es
 
 -- pairs one after the other, each key with its content
 abbrev pub joined : List Pair → List ℕ
-joined ps = flat_map (λ (p : Pair). p.key ++ p.content) ps
+joined ps = flat_map (λ (p : Pair). p.key ++ p.value) ps
 
 -- what stands behind the key of the pair at an index
 abbrev pub content_at : List (Item × Item) → ℕ → Value
@@ -28,7 +29,7 @@ content_at ps i = view (get_or ps i (Unsigned 0, Unsigned 0)).1
 
 -- an encoded key with what stands behind it, encoded
 abbrev pub pair_at : KeyOrder → List (Item × Item) → EncodedKey → Pair
-pair_at o ps k = record { key = k.bytes; content = canonical o (content_at ps k.index) }
+pair_at o ps k = record { key = k.bytes; value = canonical o (content_at ps k.index) }
 
 -- the first of the list, if it has one, isn't this one
 abbrev pub IsNotFirst : List ℕ → List (List ℕ) → Type 0
@@ -39,3 +40,8 @@ IsNotFirst x (y ∷ ys) = x ≢ y
 abbrev pub DoNeighboursDiffer : List (List ℕ) → Type 0
 DoNeighboursDiffer [] = Unit {0}
 DoNeighboursDiffer (x ∷ xs) = IsNotFirst x xs × DoNeighboursDiffer xs
+
+-- no two keys have the same bytes
+abbrev pub HasDistinctBytes : List Pair → Type 0
+HasDistinctBytes [] = Unit {0}
+HasDistinctBytes (p ∷ ps) = AllByRecursion (λ q. q.key ≢ p.key) ps × HasDistinctBytes ps

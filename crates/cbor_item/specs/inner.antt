@@ -1,0 +1,4 @@
+-- What private functions speak of; no public contract does.
+pub mod Encoded
+pub mod Held
+pub mod Members
