@@ -3,7 +3,7 @@ use Rattle.std.proofs.Common.{ℕ, ◌+◌, ◌≡◌, List, [], ◌∷◌, ◌+
 use Rattle.std.proofs.lemmas.List.{append_cancel_left}
 use Rattle.cbor_head.specs.Spelling.{Spelling, spell, IsItem}
 use Rattle.cbor_head.specs.Complaint.{Rules, Complaint}
-use Rattle.cbor_head.specs.Verdict.{refusal, Answer, accepted, refused, IsFormReason, IsFormError, IsWithout, Decides, IsVerdict}
+use Rattle.cbor_head.specs.Verdict.{refusal, Answer, accepted, refused, IsReasonAt, IsFormError, IsWithout, Decides, IsVerdict}
 use Rattle.cbor_head.specs.declared.reason.Refusal.{Refusal}
 use Rattle.cbor_head.specs.declared.reason.Reason.{Reason}
 use Rattle.cbor_head.proofs.Agree.{same_complaints}
@@ -11,7 +11,7 @@ use Rattle.cbor_head.proofs.OneFirst.{one_first, first_for_each}
 use Rattle.cbor_head.proofs.Verdicts.{longest_one, item_one}
 
 -- why c may not follow p is one reason
-one_reason : (d : ℕ) (p : List ℕ) (c : ℕ) (q r : Reason) → IsFormReason d p c q → IsFormReason d p c r → q ≡ r
+one_reason : (d : ℕ) (p : List ℕ) (c : ℕ) (q r : Reason) → IsReasonAt d p c q → IsReasonAt d p c r → q ≡ r
 one_reason d p c q r (inl h) (inl i) = h.1 ∙ sym i.1
 one_reason d p c q r (inl h) (inr (inl i)) = absurd (i.0 h.0)
 one_reason d p c q r (inl h) (inr (inr i)) = absurd (i.0 h.0)

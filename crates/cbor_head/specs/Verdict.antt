@@ -22,14 +22,14 @@ initial_reason c =
 
 -- Why c may not follow p: where the byte 00 could, an item was due there; where 00 could not and 20 could, the number of a
 -- simple value was; else a chunk was.
-abbrev pub IsFormReason : ℕ → List ℕ → ℕ → Reason → Type 0
-IsFormReason d p c reason =
+abbrev pub IsReasonAt : ℕ → List ℕ → ℕ → Reason → Type 0
+IsReasonAt d p c reason =
     (MayFollow d p 0x00 × (reason ≡ initial_reason c)) ⊎ (¬ MayFollow d p 0x00 × MayFollow d p 0x20 × (reason ≡ BadSimple))
     ⊎ (¬ MayFollow d p 0x00 × ¬ MayFollow d p 0x20 × (reason ≡ BadChunk))
 
 -- the form error behind p, where these are the next of the first n bytes
 abbrev pub IsFormError : ℕ → ℕ → List ℕ → List ℕ → Refusal → Type 0
-IsFormError d n p (c ∷ rest) f = (reason : Reason) × IsFormReason d p c reason × (f ≡ refusal reason (length p) (length p + 1))
+IsFormError d n p (c ∷ rest) f = (reason : Reason) × IsReasonAt d p c reason × (f ≡ refusal reason (length p) (length p + 1))
 IsFormError d n p [] f = ((length p ≡ n) × (f ≡ refusal TooLong n n)) ⊎ ((length p < n) × (f ≡ refusal Truncated (length p) (length p)))
 
 -- complaints on a key come last at equal ends

@@ -4,7 +4,7 @@ use Rattle.std.specs.Prelude.{◌==◌, ◌||◌, ◌&&◌, ◌%◌, nat_le, if�
 use Rattle.cbor_head.specs.Head.{head}
 use Rattle.cbor_head.specs.Spelling.{Chunk, Spelling, Spellings, SpelledEntries, unsigned, negative, bytes, text, byte_chunks, text_chunks, array, a_map, tag, simple, no_spellings, a_spelling, no_entries, entry, spell, chunk_bytes, spellings_count, entries_count}
 use Rattle.cbor_head.specs.Complaint.{Rules, form, plain, strict, Complaint, OfHead, OfIndefinite, OfCount, OfPayload, OfString, OfChunks, OfKey, Complains, ComplainsIn, ComplainsInEntries}
-use Rattle.cbor_head.specs.Verdict.{initial_reason, refused, IsFormReason, IsFormError, IsVerdict}
+use Rattle.cbor_head.specs.Verdict.{initial_reason, refused, IsReasonAt, IsFormError, IsVerdict}
 use Rattle.cbor_head.specs.declared.reason.Reason.{Reason}
 use Rattle.cbor_head.specs.declared.reason.Reason.TheVariants.{Read, NotShortest, Indefinite as IndefiniteReason, InvalidText, RepeatedKey, KeyOrder as KeyOrderReason, StrayBreak, Float, NoIndefinite, Reserved, TooDeep}
 use Rattle.cbor_head.specs.declared.reason.Refusal.{Refusal}
@@ -107,7 +107,7 @@ breaks-other d n p [] f (inl h) e = cc (sym (ap (λ (x : Refusal). x.reason) h.1
 breaks-other d n p [] f (inr h) e = cc (sym (ap (λ (x : Refusal). x.reason) h.1) ∙ e)
 breaks-other d n p (c ∷ cs) f h e = go h.0 h.1 (sym (ap (λ (x : Refusal). x.reason) h.2) ∙ e)
   where
-    go : (reason : Reason) → IsFormReason d p c reason → reason ≡ Read → ⊥
+    go : (reason : Reason) → IsReasonAt d p c reason → reason ≡ Read → ⊥
     go reason (inl b) e = initial-other c (sym b.1 ∙ e)
     go reason (inr (inl b)) e = cc (sym b.2 ∙ e)
     go reason (inr (inr b)) e = cc (sym b.2 ∙ e)
