@@ -47,7 +47,16 @@ class Definition:
         return (self.module, self.name)
 
     def text(self):
-        return "\n".join(self.lines)
+        """The text without a field `inner`: a call's contract gives it and takes it, and no reader opens it."""
+        kept, skipping = [], None
+        for line in self.lines:
+            indent = len(line) - len(line.lstrip())
+            if skipping is not None and indent > skipping:
+                continue
+            skipping = indent if line.strip().startswith("pub inner :") else None
+            if skipping is None:
+                kept.append(line)
+        return "\n".join(kept)
 
     def inner(self):
         return ".specs.inner" in self.module
