@@ -12,7 +12,7 @@ clauses in `src/` and the definitions in `specs/`.
                                 it did on inner words of a crate below it
     scripts/belief.py --why X   the way from a public contract to the definition X
 
-A line that must be believed is a line of a definition: neither blank, nor a comment, nor an import.
+A line that must be believed is a line of a definition or of its comments: neither blank, nor an import.
 """
 
 import re
@@ -40,7 +40,7 @@ class Definition:
 
     def __init__(self, module, name, path):
         self.module, self.name, self.path = module, name, path
-        self.lines = []
+        self.lines, self.comments = [], 0
 
     @property
     def key(self):
@@ -87,9 +87,11 @@ def split_names(items):
 def parse_spec(path, crate):
     parts = path.relative_to(CRATES / crate / "specs").with_suffix("").parts
     module = Module(".".join(("Rattle", crate, "specs") + parts))
-    current = None
-    for line in path.read_text().splitlines():
+    current, waiting = None, 0
+    for line in path.read_text().splitlines()[1:]:
         stripped = line.strip()
+        if stripped.startswith("--"):
+            waiting += 1
         if not stripped or stripped.startswith("--") or stripped.startswith("pub mod "):
             continue
         match = IMPORT.match(stripped)
@@ -110,6 +112,7 @@ def parse_spec(path, crate):
                 module.owners[constructor.group(1)] = current.name
         if current is not None:
             current.lines.append(line)
+            current.comments, waiting = current.comments + waiting, 0
     return module
 
 
@@ -316,7 +319,7 @@ class Tree:
 
 
 def lines_of(definitions):
-    return sum(len(d.lines) for d in definitions)
+    return sum(len(d.lines) + d.comments for d in definitions)
 
 
 def short(path):
