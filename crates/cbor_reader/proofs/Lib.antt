@@ -8,6 +8,7 @@ pub mod CutShort
 pub mod Decisions
 mod Examples
 pub mod Frames
+pub mod FreeBefore
 pub mod Fronts
 pub mod Headline
 pub mod Heads
@@ -31,6 +32,7 @@ pub mod SpelledBytes
 pub mod Steps
 pub mod StrictFronts
 pub mod Tops
+pub mod Undecided
 pub mod Valid
 pub mod ValidTexts
 pub mod WholeStrings

@@ -9,5 +9,6 @@ pub mod Members
 pub mod NextKey
 pub mod Readers
 pub mod Reading
+pub mod Refusals
 pub mod Rules
 pub mod Size
