@@ -40,11 +40,12 @@ impl Model for Tree {
 
 impl Tree {
     /// The item as a tree. Otherwise it is given back, with `TooDeep` where it is deeper than 256,
-    /// else `RepeatedKey` where some map has two equal keys, else `Memory`. A map of n pairs takes
-    /// some n log n comparisons of keys, in whatever order its pairs come.
+    /// else `RepeatedKey` where some map has two equal keys, else `Memory`. Memory may be refused
+    /// before equal keys are found.
     pub fn of(alloc: Global, item: Item) -> Result<Tree, (Item, Reason)>
         ensures tree { IfOk result (λ tree. tree ≡ item) }
-        ensures accepted { IfOk result (λ _. (depth (view item) ≤ 256) × IsInRange (view item) × IsValid (view item)) }
+        ensures accepted { IfOk result
+            (λ _. (depth (view item) ≤ 256) × IsInRange (view item) × IsValid (view item)) }
         ensures given_back { IfErr result (λ e. e.0 ≡ item) }
         ensures refused { IfErr result (λ e. Refuses (view item) e.1) }
     {
