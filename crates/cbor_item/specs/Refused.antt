@@ -1,6 +1,7 @@
 -- Why an item is no tree (RFC 8949, section 5.6).
 use Rattle.std.specs.Prelude.{◌<◌, ◌≤◌}
 use Rattle.cbor_head.specs.Value.{Value, Values, Entries, array, map, tag, no_values, a_value, no_entries, entry, depth, HasDistinctKeys}
+use Rattle.cbor_head.specs.declared.limits.TheConstants.{MAX_DEPTH}
 use Rattle.cbor_head.specs.declared.reason.Reason.{Reason}
 use Rattle.cbor_head.specs.declared.reason.Reason.TheVariants.{TooDeep, RepeatedKey, Memory}
 
@@ -22,7 +23,7 @@ abbrev mutual
 
 -- too deep; or not, and some map has two pairs with the same key; or not too deep, and memory was refused
 abbrev pub Refuses : Value → Reason → Type 0
-Refuses v TooDeep = 256 < depth v
-Refuses v RepeatedKey = (depth v ≤ 256) × ¬ HasDistinctKeysThroughout v
-Refuses v Memory = depth v ≤ 256
+Refuses v TooDeep = MAX_DEPTH < depth v
+Refuses v RepeatedKey = (depth v ≤ MAX_DEPTH) × ¬ HasDistinctKeysThroughout v
+Refuses v Memory = depth v ≤ MAX_DEPTH
 Refuses v _ = ⊥
