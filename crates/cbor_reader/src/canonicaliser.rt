@@ -6,7 +6,6 @@ ghost use Rattle.cbor_head.specs.Complaint.{plain};
 ghost use Rattle.cbor_head.specs.declared.order.KeyOrder.{KeyOrder};
 ghost use Rattle.cbor_reader.specs.Readers.{IsUnread};
 ghost use Rattle.cbor_head.specs.Spelling.{Spelling, value_of};
-ghost use Rattle.cbor_head.specs.Verdict.{refusal};
 ghost use Rattle.cbor_head.specs.declared.reason.Reason.TheVariants as reasons;
 ghost use Rattle.cbor_reader.specs.Canonicalise.{IsCanonicalOf, IsRefusal, TellsItsValue};
 ghost use Rattle.cbor_reader.specs.Headline.{IsValidItem};
@@ -64,13 +63,13 @@ fn canonical_bytes(
         Err(refusal) => return Err(of_slice(refusal)),
     };
     if !rest.is_empty() {
-        return Err(at(Reason::Trailing, size));
+        return Err(Refusal::at(Reason::Trailing, size));
     }
     let Ok(canonical) = encode(alloc, &tree, order) else {
-        return Err(at(Reason::Memory, size));
+        return Err(Refusal::at(Reason::Memory, size));
     };
     if canonical.len() as u64 > limits.bytes() {
-        return Err(at(Reason::CanonicalTooLong, size));
+        return Err(Refusal::at(Reason::CanonicalTooLong, size));
     }
     Ok(canonical)
 }
@@ -81,18 +80,7 @@ fn of_slice(refusal: Refusal) -> Refusal
         → IsUnread d n plain input refusal → IsRefusal d n o input result }
 {
     match refusal.reason {
-        Reason::Read => at(Reason::Memory, refusal.read),
+        Reason::Read => Refusal::at(Reason::Memory, refusal.read),
         _ => refusal,
-    }
-}
-
-// The refusal at a place, with all before it taken.
-fn at(reason: Reason, place: u64) -> Refusal
-    ensures { result ≡ refusal reason place place }
-{
-    Refusal {
-        reason,
-        place,
-        read: place,
     }
 }

@@ -18,7 +18,7 @@ use std::io::Read;
 /// No byte behind the item is read. The refusal is the one that the bytes within the limits call
 /// for, by the rules of the deterministic encoding; or `Read` or `Memory`, where the reader failed
 /// or memory was refused before: then the place is the count of the bytes taken. After a refusal as
-/// many bytes were taken as its `read` tells. Keys cost one comparison each.
+/// many bytes were taken as its `read` tells.
 pub fn read_strict<R: Read>(
     alloc: Global,
     reader: &mut R,
