@@ -1,5 +1,5 @@
 -- The shortest head is the least.
-use Rattle.std.proofs.Common.{ℕ, ◌^◌, ◌≡◌, ◌<◌, ◌≤◌, inl, inr, length, arith, subst, refl, sym}
+use Rattle.std.proofs.Common.{ℕ, ◌^◌, ◌≡◌, ◌<◌, ◌≤◌, inl, inr, length, arith, subst, refl, sym, ap}
 use Rattle.std.proofs.lemmas.Bool.{cases_lt, lt-ltb, le-ltb}
 use Rattle.cbor_head.specs.Head.{head, Holds, shortest}
 use Rattle.cbor_head.specs.declared.major.Major.{Major}
@@ -62,6 +62,41 @@ by_size m Eight n h (one a b e) = least_at m Eight n h One e b (omega arith)
 by_size m Eight n h (two a b e) = least_at m Eight n h Two e b (omega arith)
 by_size m Eight n h (four a b e) = least_at m Eight n h Four e b (omega arith)
 by_size m Eight n h (eight a e) = least_at m Eight n h Eight e h (omega arith)
+
+-- a head with no more bytes than the shortest has its width
+more_at : (m : Major) (w : Width) (n : ℕ) (v : Width) → shortest n ≡ v → length (head m v n) < length (head m w n) → length (head m w n) ≤ length (head m (shortest n) n) → w ≡ shortest n
+more_at m w n v e less l = let same = ap (λ (x : Width). length (head m x n)) e in absurd (omega (arith, less, l, same))
+
+only_one : (m : Major) (w : Width) (n : ℕ) → Holds w n → Size n → length (head m w n) ≤ length (head m (shortest n) n) → w ≡ shortest n
+only_one m Indefinite n h k = absurd h
+only_one m Direct n h (direct a e) = λ l. sym e
+only_one m Direct n h (one a b e) = absurd (omega arith)
+only_one m Direct n h (two a b e) = absurd (omega arith)
+only_one m Direct n h (four a b e) = absurd (omega arith)
+only_one m Direct n h (eight a e) = absurd (omega arith)
+only_one m One n h (direct a e) = more_at m One n Direct e (omega arith)
+only_one m One n h (one a b e) = λ l. sym e
+only_one m One n h (two a b e) = absurd (omega arith)
+only_one m One n h (four a b e) = absurd (omega arith)
+only_one m One n h (eight a e) = absurd (omega arith)
+only_one m Two n h (direct a e) = more_at m Two n Direct e (omega arith)
+only_one m Two n h (one a b e) = more_at m Two n One e (omega arith)
+only_one m Two n h (two a b e) = λ l. sym e
+only_one m Two n h (four a b e) = absurd (omega arith)
+only_one m Two n h (eight a e) = absurd (omega arith)
+only_one m Four n h (direct a e) = more_at m Four n Direct e (omega arith)
+only_one m Four n h (one a b e) = more_at m Four n One e (omega arith)
+only_one m Four n h (two a b e) = more_at m Four n Two e (omega arith)
+only_one m Four n h (four a b e) = λ l. sym e
+only_one m Four n h (eight a e) = absurd (omega arith)
+only_one m Eight n h (direct a e) = more_at m Eight n Direct e (omega arith)
+only_one m Eight n h (one a b e) = more_at m Eight n One e (omega arith)
+only_one m Eight n h (two a b e) = more_at m Eight n Two e (omega arith)
+only_one m Eight n h (four a b e) = more_at m Eight n Four e (omega arith)
+only_one m Eight n h (eight a e) = λ l. sym e
+
+pub only : (m : Major) (w : Width) (n : ℕ) → Holds w n → length (head m w n) ≤ length (head m (shortest n) n) → w ≡ shortest n
+only m w n h = only_one m w n h (size n)
 
 pub least : (m : Major) (w : Width) (n : ℕ) → Holds w n → IsLeast m w n (shortest n)
 least m w n h = by_size m w n h (size n)

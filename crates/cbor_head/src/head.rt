@@ -42,7 +42,8 @@ impl Head {
         // That is a head.
         ensures head { IfSome result (λ h. IsHead h.major h.width h.argument) }
         // The bytes of a head are read as that head.
-        ensures each { (m : Major) (w : Width) (n : ℕ) → IsHead m w n → bytes.now ≡ head m w n → result ≡ Some (head_parts m w n) }
+        ensures each { (m : Major) (w : Width) (n : ℕ) → IsHead m w n
+            → bytes.now ≡ head m w n → result ≡ Some (head_parts m w n) }
     {
         let (major, width, argument, rest) = split(bytes)?;
         if rest.is_empty() && is_head(major, width, argument) {
@@ -130,7 +131,9 @@ pub fn argument_bytes(first: u8) -> u8
 // The head at the front, and what follows it.
 #[tactic(auto, unfolding(crate::specs::Read::read_head))]
 fn split(bytes: &[u8]) -> Option<(Major, Width, u64, &[u8])>
-    ensures { MatchOption result (read_head bytes.now ≡ None) (λ h. read_head bytes.now ≡ Some (front h.0 h.1 h.2 h.3.now)) }
+    ensures { MatchOption result
+        (read_head bytes.now ≡ None)
+        (λ h. read_head bytes.now ≡ Some (front h.0 h.1 h.2 h.3.now)) }
 {
     let (first, rest) = bytes.split_first()?;
     let low = *first % 32;

@@ -10,7 +10,9 @@ use crate::Head;
 /// A byte list begins with at most one definite head. So no two have the same bytes, and no head's
 /// bytes are a proper beginning of another's.
 pub fn one_head()
-    ensures { (l m : Major) (v w : Width) (k n : ℕ) (x y : List ℕ) → IsHead l v k → IsHead m w n → head l v k ++ x ≡ head m w n ++ y → (l ≡ m) × (v ≡ w) × (k ≡ n) × (x ≡ y) }
+    ensures { (l m : Major) (v w : Width) (k n : ℕ) (x y : List ℕ)
+        → IsHead l v k → IsHead m w n → head l v k ++ x ≡ head m w n ++ y
+        → (l ≡ m) × (v ≡ w) × (k ≡ n) × (x ≡ y) }
 {}
 
 /// A head's bytes are read as that head.

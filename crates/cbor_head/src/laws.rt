@@ -24,11 +24,14 @@ pub fn heads_are_read_back()
         → HoldsOrIndefinite f.width f.argument × (head f.major f.width f.argument ++ f.rest ≡ b) }
 {}
 
-/// No head of an argument has fewer bytes than the shortest one, which has room for it.
+/// No head of an argument has fewer bytes than the shortest one, which has room for it; and no other
+/// has as few.
 pub fn shortest_is_least()
     ensures holds { (w : Width) (n : ℕ) → Holds w n → Holds (shortest n) n }
     ensures least { (m : Major) (w : Width) (n : ℕ) → Holds w n
         → length (head m (shortest n) n) ≤ length (head m w n) }
+    ensures only { (m : Major) (w : Width) (n : ℕ) → Holds w n
+        → length (head m w n) ≤ length (head m (shortest n) n) → w ≡ shortest n }
 {}
 
 /// Bytes begin with at most one item. So they spell at most one, and no item's bytes are a proper
@@ -55,10 +58,12 @@ pub fn reading_is_exact()
 pub fn beginnings()
     ensures empty { (d : ℕ) → IsBeginning d [] }
     ensures fronts { (d : ℕ) (p q : List ℕ) → IsBeginning d (p ++ q) → IsBeginning d p }
-    ensures longest { (d : ℕ) (b p q : List ℕ) → IsLongestBeginning d b p → IsLongestBeginning d b q → p ≡ q }
+    ensures longest { (d : ℕ) (b p q : List ℕ)
+        → IsLongestBeginning d b p → IsLongestBeginning d b q → p ≡ q }
     ensures item { (d : ℕ) (b : List ℕ) (s : Spelling) (rest : List ℕ)
         → IsAtFront d b s rest → IsLongestBeginning d b (spell s) }
-    ensures whole { (d : ℕ) (s t : Spelling) (p : List ℕ) → IsItem d s p → StartsWith d t p → s ≡ t }
+    ensures whole { (d : ℕ) (s t : Spelling) (p : List ℕ)
+        → IsItem d s p → StartsWith d t p → s ≡ t }
 {}
 
 /// Items that start with the same bytes have the same complaints that end within these.

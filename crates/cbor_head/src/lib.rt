@@ -12,8 +12,8 @@
 //! ```
 //!
 //! [`Head`] is such a head, [`Limits`] bounds an item, and [`Refusal`] says why bytes are not
-//! accepted and where. [`laws`] has no code to run: its contracts are the laws of the model, and
-//! those of heads are in [`head_laws`].
+//! accepted and where. [`laws`] has no code to run: its contracts are the laws of the model. Those of
+//! heads are in [`head_laws`], with a function that reads a head's bytes back.
 #![tactic(auto)]
 
 mod head;
@@ -29,7 +29,7 @@ mod tests;
 mod width;
 
 pub use head::{Head, argument_bytes};
-pub use limits::Limits;
+pub use limits::{Limits, MAX_DEPTH};
 pub use major::Major;
 pub use order::KeyOrder;
 pub use reason::{Reason, Refusal};

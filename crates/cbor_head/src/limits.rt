@@ -5,6 +5,9 @@ ghost use Rattle.cbor_head.specs.Limits.{Bounds, bounds, AreBounds};
 
 use std::marker::Model;
 
+/// How deep the arrays, maps and tags of an item may nest, whatever its limits.
+pub const MAX_DEPTH: u16 = 256;
+
 /// The limits on one item: how deep its arrays, maps and tags may nest, from 0 to 256, and how
 /// many bytes it may have, from 0 to 2^62.
 #[derive(Clone, Copy, Debug, PartialEq, Eq)]
@@ -29,7 +32,7 @@ impl Limits {
         ensures allowed { IsSome result ↔ AreBounds (bounds depth bytes) }
         ensures value { IfSome result (λ l. l ≡ bounds depth bytes) }
     {
-        if depth <= 256 && bytes <= 1 << 62 {
+        if depth <= MAX_DEPTH && bytes <= 1 << 62 {
             Some(Limits { depth, bytes })
         } else {
             None
@@ -39,7 +42,7 @@ impl Limits {
     /// How deep arrays, maps and tags may nest.
     pub fn depth(self) -> u16
         ensures depth { result ≡ self.depth }
-        ensures most { result ≤ 256 }
+        ensures most { result ≤ MAX_DEPTH }
     {
         self.depth
     }

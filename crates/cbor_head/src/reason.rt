@@ -100,6 +100,28 @@ pub struct Refusal {
     pub read: u64,
 }
 
+impl Refusal {
+    ghost use Rattle.cbor_head.specs.Verdict.{refusal};
+
+    /// The refusal for a reason, of what stands at a place, where so many bytes were taken.
+    pub fn new(reason: Reason, place: u64, read: u64) -> Refusal
+        ensures { result ≡ refusal reason place read }
+    {
+        Refusal {
+            reason,
+            place,
+            read,
+        }
+    }
+
+    /// The refusal for a reason, of what comes behind the bytes taken.
+    pub fn at(reason: Reason, place: u64) -> Refusal
+        ensures { result ≡ refusal reason place place }
+    {
+        Refusal::new(reason, place, place)
+    }
+}
+
 /// Writes the reason's number and name, and the place: `12 Trailing at 1`.
 impl fmt::Display for Refusal {
     ghost output = { λ r. Some (refusal_text r) };

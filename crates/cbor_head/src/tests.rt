@@ -183,11 +183,11 @@ fn reasons(rt: HostRuntime) -> Result<(), Fail> {
         assert_eq!(rt; reason.number(), number, "at {number}");
         assert_eq!(rt; format!(in rt.alloc(); "{reason}")?.as_bytes(), name);
     }
-    let refusal = Refusal {
-        reason: Reason::Trailing,
-        place: 1,
-        read: 1,
-    };
+    let refusal = Refusal::at(Reason::Trailing, 1);
+    assert_eq!(rt; refusal, Refusal::new(Reason::Trailing, 1, 1));
+    // A repeated key of one byte at 3.
+    let key = Refusal::new(Reason::RepeatedKey, 3, 4);
+    assert_eq!(rt; (key.reason, key.place, key.read), (Reason::RepeatedKey, 3, 4));
     assert_eq!(rt;
         format!(in rt.alloc(); "{refusal}")?.as_str(),
         "12 Trailing at 1"

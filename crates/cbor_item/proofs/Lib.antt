@@ -3,6 +3,7 @@ pub mod ByIndex
 pub mod Clean
 pub mod Counting
 pub mod Depth
+pub mod DistinctKeys
 pub mod EncodedKeys
 pub mod Induction
 pub mod Keys

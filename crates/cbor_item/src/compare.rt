@@ -83,7 +83,8 @@ fn find(xs: &Vec<(Item, Item)>, i: usize, ys: &Vec<(Item, Item)>, start: usize) 
     requires right { AreEntriesValid (entries_view ys.now.items) }
     ensures place { IfSome result (λ place. place < length ys.now.items) }
     ensures found { (p : Item × Item) → slice_get xs.now.items i ≡ Some p
-        → (IsSome result ↔ AnyEntry (Same (view p.0)) (Same (view p.1)) (entries_view ys.now.items)) }
+        → (IsSome result ↔ AnyEntry (Same (view p.0)) (Same (view p.1))
+        (entries_view ys.now.items)) }
 {
     match find_between(xs, i, ys, start, ys.len()) {
         Some(place) => Some(place),
@@ -106,7 +107,8 @@ fn find_between(
     requires right { AreEntriesValid (entries_view ys.now.items) }
     ensures place { IfSome result (λ place. place < length ys.now.items) }
     ensures found { (p : Item × Item) → slice_get xs.now.items i ≡ Some p
-        → (IsSome result ↔ AnyEntry (Same (view p.0)) (Same (view p.1)) (entries_view (slice_range ys.now.items from to))) }
+        → (IsSome result ↔ AnyEntry (Same (view p.0)) (Same (view p.1))
+        (entries_view (slice_range ys.now.items from to))) }
 {
     let pair = &xs[i];
     for place in from..to {

@@ -26,7 +26,7 @@ pub(crate) struct EncodedKey {
     pub(crate) index: usize,
 }
 
-// Sorts by the bytes, in some n log n comparisons for n keys.
+// Sorts by the bytes.
 pub(crate) fn sort_keys(keys: &mut Vec<EncodedKey>, order: KeyOrder) -> Result<(), AllocError>
     ensures permuted { IsPermutation keys.old.items keys.new.items }
     ensures sorted { OnOk result (IsSortedBy (λ x y. key_lt order x.bytes y.bytes) keys.new.items) }

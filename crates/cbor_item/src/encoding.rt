@@ -18,19 +18,14 @@ use crate::tree::Tree;
 use cbor_head::{Head, KeyOrder, Major, Reason, Refusal};
 use std::alloc::{AllocError, Global};
 
-/// The canonical bytes (RFC 8949, sections 4.2.1 and 4.2.3). A map of n pairs takes some n log n
-/// comparisons of keys, in whatever order its pairs come. Refused for memory alone.
+/// The canonical bytes (RFC 8949, sections 4.2.1 and 4.2.3). Refused for memory alone.
 pub fn encode(alloc: Global, tree: &Tree, order: KeyOrder) -> Result<Vec<u8>, Refusal>
     ensures bytes { IfOk result (λ bytes. bytes.items ≡ canonical order (view tree.now)) }
     ensures refused { IfErr result (λ refusal. refusal ≡ no_memory) }
 {
     match encode_valid(alloc, tree.item(), order) {
         Ok(bytes) => Ok(bytes),
-        Err(_) => Err(Refusal {
-            reason: Reason::Memory,
-            place: 0,
-            read: 0,
-        }),
+        Err(_) => Err(Refusal::at(Reason::Memory, 0)),
     }
 }
 
@@ -115,9 +110,11 @@ fn encode_pairs(
 ) -> Result<bool, AllocError>
     requires { AreEntriesInRange (entries_view pairs.now.items) }
     ensures valid { IfOk result (λ valid. IsTrue valid
-        ↔ (AreEntriesValid (entries_view pairs.now.items) × HasDistinctKeys (entries_view pairs.now.items))) }
+        ↔ (AreEntriesValid (entries_view pairs.now.items)
+        × HasDistinctKeys (entries_view pairs.now.items))) }
     ensures bytes { IfOk result (λ valid. IsTrue valid
-        → out.new.items ≡ out.old.items ++ joined (in_order order (canonical_entries order (entries_view pairs.now.items)))) }
+        → out.new.items ≡ out.old.items
+        ++ joined (in_order order (canonical_entries order (entries_view pairs.now.items)))) }
 {
     let Some(keys) = encode_keys(alloc, pairs, order)? else {
         return Ok(false);
@@ -141,11 +138,14 @@ pub(crate) fn encode_keys(
 ) -> Result<Option<Vec<EncodedKey>>, AllocError>
     requires { AreEntriesInRange (entries_view pairs.now.items) }
     ensures valid { IfOk result (λ keys. IsSome keys
-        ↔ (AreKeysValid (entries_view pairs.now.items) × HasDistinctKeys (entries_view pairs.now.items))) }
+        ↔ (AreKeysValid (entries_view pairs.now.items)
+        × HasDistinctKeys (entries_view pairs.now.items))) }
     ensures pairs { IfOk result (λ keys. IfSome keys (λ keys.
-        map (pair_at order pairs.now.items) keys.items ≡ in_order order (canonical_entries order (entries_view pairs.now.items)))) }
+        map (pair_at order pairs.now.items) keys.items
+        ≡ in_order order (canonical_entries order (entries_view pairs.now.items)))) }
     ensures indices { IfOk result (λ keys. IfSome keys (λ keys.
-        IsPermutation (range_with_len 0 (length pairs.now.items)) (map (λ key. key.index) keys.items))) }
+        IsPermutation
+        (range_with_len 0 (length pairs.now.items)) (map (λ key. key.index) keys.items))) }
 {
     let mut keys = Vec::new(alloc);
     let mut bytes = Vec::new(alloc);
@@ -162,8 +162,8 @@ pub(crate) fn encode_keys(
 
 fn push_string(out: &mut Vec<u8>, major: Major, content: &[u8]) -> Result<(), AllocError>
     requires { major ≢ Simple }
-    ensures { IfOk result
-        (λ _. out.new.items ≡ out.old.items ++ shortest_head major (length content.now) ++ content.now) }
+    ensures { IfOk result (λ _. out.new.items
+        ≡ out.old.items ++ shortest_head major (length content.now) ++ content.now) }
 {
     push_head(out, major, content.len() as u64)?;
     out.extend_from_slice(content)

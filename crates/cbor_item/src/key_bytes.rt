@@ -7,8 +7,12 @@ use std::alloc::Global;
 use std::marker::Model;
 use std::mem;
 
-/// The bytes of an encoded key. Up to 16, as most keys have, lie in the value itself, so that they
-/// take no memory of their own, and none has to be followed to compare two keys.
+/// How many bytes of an encoded key lie beside other values, without memory of their own: as many as
+/// most keys have.
+pub const SHORT_KEY: usize = 16;
+
+/// The bytes of an encoded key. Those of a short key lie in the value itself, so that they take no
+/// memory of their own, and none has to be followed to compare two keys.
 #[derive(Drop)]
 pub(crate) struct KeyBytes {
     held: Held,
@@ -16,7 +20,7 @@ pub(crate) struct KeyBytes {
 
 #[derive(Drop)]
 enum Held {
-    Short(ArrayVec<u8, 16>),
+    Short(ArrayVec<u8, SHORT_KEY>),
     Long(Vec<u8>),
 }
 

@@ -29,6 +29,7 @@ pub use compare::same;
 pub use encoded_key::compare_keys;
 pub use encoding::{encode, encode_valid};
 pub use item::Item;
+pub use key_bytes::SHORT_KEY;
 pub use tree::Tree;
 pub use write::encode_to;
 

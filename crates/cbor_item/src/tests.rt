@@ -349,6 +349,20 @@ fn gives_the_item_back(rt: HostRuntime) -> Result<(), Fail> {
         }
         _ => panic!(rt; "another answer"),
     }
+    // 257 tags around 5
+    match Tree::of(alloc, tagged(alloc, Item::Unsigned(5), 257)?) {
+        Err((item, Reason::TooDeep)) => {
+            let mut inner = &item;
+            let mut tags = 0;
+            while let Item::Tag(_, content) = inner {
+                inner = content;
+                tags += 1;
+            }
+            assert_eq!(rt; tags, 257);
+            assert!(rt; matches!(inner, Item::Unsigned(5)));
+        }
+        _ => panic!(rt; "another answer"),
+    }
     let tree = tree(alloc, Item::Negative(7))?;
     assert!(rt; matches!(tree.item(), Item::Negative(7)));
     assert!(rt; matches!(tree.into_item(), Item::Negative(7)));
@@ -376,11 +390,7 @@ fn goes_down_to_256(rt: HostRuntime) -> Result<(), Fail> {
 #[test]
 fn answers_for_memory(rt: HostRuntime) -> Result<(), Fail> {
     let alloc = rt.alloc();
-    let refusal = Refusal {
-        reason: Reason::Memory,
-        place: 0,
-        read: 0,
-    };
+    let refusal = Refusal::new(Reason::Memory, 0, 0);
     let Ok(item) = eight_keys(alloc, simple(20)?) else {
         return Ok(());
     };
@@ -389,7 +399,8 @@ fn answers_for_memory(rt: HostRuntime) -> Result<(), Fail> {
         Err((item, reason)) => {
             assert_eq!(rt; reason, Reason::Memory);
             assert!(rt; matches!(&item, Item::Map(pairs) if pairs.len() == 8));
-            return Ok(());
+            // One allocation failed, and no other does.
+            Tree::of(alloc, item).map_err(|_| "memory was refused again")?
         }
     };
     if let Err(met) = encode(alloc, &tree, KeyOrder::Bytewise) {

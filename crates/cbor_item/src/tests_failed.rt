@@ -50,11 +50,7 @@ fn writers_stop_at_each_place(rt: HostRuntime) -> Result<(), Fail> {
                 fails,
             };
             let want = if room < bytes.len() {
-                Err(Refusal {
-                    reason: Reason::Write,
-                    place: room as u64,
-                    read: 0,
-                })
+                Err(Refusal::new(Reason::Write, room as u64, 0))
             } else {
                 Ok(24)
             };

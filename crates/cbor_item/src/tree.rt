@@ -8,12 +8,9 @@ ghost use Rattle.cbor_item.specs.View.{view};
 use crate::item::Item;
 use crate::valid::is_valid;
 use crate::within::is_within;
-use cbor_head::Reason;
+use cbor_head::{MAX_DEPTH, Reason};
 use std::alloc::Global;
 use std::marker::Model;
-
-// The greatest depth of a tree.
-const MAX_DEPTH: u16 = 256;
 
 /// An item of depth at most 256 in which no map has two equal keys (RFC 8949, section 5.6).
 #[derive(Drop)]
@@ -24,6 +21,7 @@ pub struct Tree {
 impl Model for Tree {
     ghost use Rattle.std.specs.Prelude.{◌≤◌};
     ghost use Rattle.cbor_head.specs.Value.{depth, IsInRange, IsValid};
+    ghost use Rattle.cbor_head.specs.declared.limits.TheConstants.{MAX_DEPTH};
     ghost use Rattle.cbor_item.specs.View.{view as value_of};
     ghost use Rattle.cbor_item.specs.declared.item.Item.{Item};
     ghost use Rattle.cbor_item.specs.contracts.item.Item as e;
@@ -35,16 +33,18 @@ impl Model for Tree {
 
     ghost view = { λ t. t.item };
 
-    ghost invariant = { λ t. (depth (value_of t.item) ≤ 256) × IsInRange (value_of t.item) × IsValid (value_of t.item) };
+    ghost invariant = { λ t. (depth (value_of t.item) ≤ MAX_DEPTH)
+        × IsInRange (value_of t.item) × IsValid (value_of t.item) };
 }
 
 impl Tree {
     /// The item as a tree. Otherwise it is given back, with `TooDeep` where it is deeper than 256,
-    /// else `RepeatedKey` where some map has two equal keys, else `Memory`. A map of n pairs takes
-    /// some n log n comparisons of keys, in whatever order its pairs come.
+    /// else `RepeatedKey` where some map has two equal keys, else `Memory`. Memory may be refused
+    /// before equal keys are found.
     pub fn of(alloc: Global, item: Item) -> Result<Tree, (Item, Reason)>
         ensures tree { IfOk result (λ tree. tree ≡ item) }
-        ensures accepted { IfOk result (λ _. (depth (view item) ≤ 256) × IsInRange (view item) × IsValid (view item)) }
+        ensures accepted { IfOk result
+            (λ _. (depth (view item) ≤ MAX_DEPTH) × IsInRange (view item) × IsValid (view item)) }
         ensures given_back { IfErr result (λ e. e.0 ≡ item) }
         ensures refused { IfErr result (λ e. Refuses (view item) e.1) }
     {
@@ -61,7 +61,7 @@ impl Tree {
     /// The tree of an item that is known to be one, with no look at it: for a reader that has
     /// counted the depth and compared the keys.
     pub fn from_valid(item: Item) -> Tree
-        requires depth { depth (view item) ≤ 256 }
+        requires depth { depth (view item) ≤ MAX_DEPTH }
         requires in_range { IsInRange (view item) }
         requires valid { IsValid (view item) }
         ensures { result ≡ item }
@@ -72,7 +72,7 @@ impl Tree {
     /// The item.
     pub fn item(&self) -> &Item
         ensures item { result.now ≡ self.now }
-        ensures depth { depth (view self.now) ≤ 256 }
+        ensures depth { depth (view self.now) ≤ MAX_DEPTH }
         ensures in_range { IsInRange (view self.now) }
         ensures valid { IsValid (view self.now) }
     {
@@ -82,7 +82,7 @@ impl Tree {
     /// The item, without the tree. Takes no memory.
     pub fn into_item(self) -> Item
         ensures item { result ≡ self }
-        ensures depth { depth (view self) ≤ 256 }
+        ensures depth { depth (view self) ≤ MAX_DEPTH }
         ensures in_range { IsInRange (view self) }
         ensures valid { IsValid (view self) }
     {

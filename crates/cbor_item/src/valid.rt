@@ -43,7 +43,8 @@ fn all_valid(alloc: Global, items: &Vec<Item>) -> Result<bool, AllocError>
 fn pairs_valid(alloc: Global, pairs: &Vec<(Item, Item)>) -> Result<bool, AllocError>
     requires { AreEntriesInRange (entries_view pairs.now.items) }
     ensures { IfOk result (λ valid. IsTrue valid
-        ↔ (AreEntriesValid (entries_view pairs.now.items) × HasDistinctKeys (entries_view pairs.now.items))) }
+        ↔ (AreEntriesValid (entries_view pairs.now.items)
+        × HasDistinctKeys (entries_view pairs.now.items))) }
 {
     for (_, content) in pairs {
         if !is_valid(alloc, content)? {

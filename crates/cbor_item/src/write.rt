@@ -24,16 +24,13 @@ pub fn encode_to<W: Write>(
     order: KeyOrder,
     writer: &mut W,
 ) -> Result<u64, Refusal>
-    ensures { Sends (W.contents writer.old) (W.contents writer.new) (canonical order (view tree.now)) result }
+    ensures { Sends (W.contents writer.old) (W.contents writer.new)
+        (canonical order (view tree.now)) result }
 {
     let bytes = encode(alloc, tree, order)?;
     match write_whole(writer, &bytes) {
         Ok(()) => Ok(bytes.len() as u64),
-        Err(count) => Err(Refusal {
-            reason: Reason::Write,
-            place: count as u64,
-            read: 0,
-        }),
+        Err(count) => Err(Refusal::new(Reason::Write, count as u64, 0)),
     }
 }
 
@@ -41,7 +38,8 @@ pub fn encode_to<W: Write>(
 fn write_whole<W: Write>(writer: &mut W, bytes: &[u8]) -> Result<(), usize>
     ensures { MatchResult result
         (λ _. Appends (W.contents writer.old) (W.contents writer.new) bytes.now)
-        (λ count. (count < length bytes.now) × Appends (W.contents writer.old) (W.contents writer.new) (take count bytes.now)) }
+        (λ count. (count < length bytes.now)
+        × Appends (W.contents writer.old) (W.contents writer.new) (take count bytes.now)) }
 {
     let mut at = 0;
     while at < bytes.len() {

@@ -9,6 +9,7 @@ use Rattle.cbor_head.specs.declared.reason.Reason.TheVariants.{Trailing, Canonic
 use Rattle.cbor_head.specs.declared.reason.Refusal.{Refusal}
 use Rattle.cbor_reader.specs.Canonicalise.{IsCanonicalOf, IsRefusal, trailing, canonical_too_long, of_memory}
 use Rattle.cbor_reader.proofs.Accepted.{item_is_longest, item_is_whole}
+use Rattle.cbor_reader.proofs.FreeBefore.{accepted-free}
 
 module _ (d n : ℕ) (o : KeyOrder) (input : List ℕ) (s : Spelling) (v : IsVerdict d n plain input (accepted s)) (size : ℕ) (sized : size ≡ length (spell s)) where
   -- a byte follows it
@@ -17,7 +18,9 @@ module _ (d n : ℕ) (o : KeyOrder) (input : List ℕ) (s : Spelling) (v : IsVer
 
   -- memory was refused within it or behind it
   pub wants_memory : (taken : ℕ) (f : Refusal) → taken ≤ size → f ≡ refusal Memory taken taken → IsRefusal d n o input f
-  wants_memory taken f l is = of_memory v.p taken v.longest (omega (arith, l, sized, ap length (item_is_longest d n plain input s v))) is
+  wants_memory taken f l is =
+      let within : taken ≤ length v.p = omega (arith, l, sized, ap length (item_is_longest d n plain input s v)) in
+      of_memory v.p taken v.longest within is (accepted-free d n plain input s taken v within)
 
   -- nothing follows it
   module _ (all : length input ≤ size) where

@@ -30,9 +30,10 @@ use Rattle.cbor_reader.proofs.Frames.{count_with}
 use Rattle.cbor_reader.proofs.Composition.{IsArraySoFar, array_bytes, array_judged, array_more, array_whole}
 use Rattle.cbor_reader.proofs.Heads.{open_or}
 use Rattle.cbor_reader.proofs.Loops.{array_bytes-more, array_bytes-whole}
-use Rattle.cbor_reader.proofs.Items.{definite, proper-definite, extends-none, extends-in, extends-on, stops-in, stops-memory}
+use Rattle.cbor_reader.proofs.Items.{definite, proper-definite, extends-none, extends-in, extends-on, stops-in}
+use Rattle.cbor_reader.proofs.ReadItems.{item-no-memory}
 use Rattle.cbor_reader.proofs.Scalars.{at-as}
-use Rattle.cbor_reader.proofs.Steps.{at-reached, reached-as, farther}
+use Rattle.cbor_reader.proofs.Steps.{farther}
 use Rattle.cbor_head.proofs.ReadLaws.{length_spell}
 
 -- how many members are left, where that is known
@@ -236,12 +237,9 @@ module _ (r : Rules) (b : Bounds) (fs : List Frame) (t x : List ℕ) (w : Width)
           }
 
   -- memory for it is refused
-  pub array-memory : (to : Option (List ℕ)) (new : ItemEventsView) (v : Value) (f : Refusal) → ReadsItem r b (member_frames left fs) (t ++ array_bytes w n a.done) [] mid to new v → f.read ≡ new.machine.taken → IsMemory f
-      → StopsItem r b fs t x from to f
-  array-memory to new v f m e g =
-      stops-memory r b fs t x (array_bytes w n a.done ++ spell m.item) from to f (extends-in x (array_bytes w n a.done) [] (spell m.item) from mid to taken-so m.taken)
-      (e ∙ m.at.stands.stands.taken ∙ ap length (append_assoc t (array_bytes w n a.done) (spell m.item))) g
-      (reached-as b ((t ++ array_bytes w n a.done) ++ spell m.item) (t ++ (array_bytes w n a.done ++ spell m.item)) (append_assoc t (array_bytes w n a.done) (spell m.item)) (at-reached b new ((t ++ array_bytes w n a.done) ++ spell m.item) (close (member_frames left fs)) m.at))
+  pub array-memory : (to : Option (List ℕ)) (new : ItemEventsView) (v : Value) (f : Refusal) → left ≢ Some 0 → ReadsItem r b (member_frames left fs) (t ++ array_bytes w n a.done) [] mid to new v → f.read ≡ new.machine.taken
+      → IsMemory f → StopsItem r b fs t x from to f
+  array-memory to new v f some m e g = stops-member to f some (item-no-memory r b (member_frames left fs) (t ++ array_bytes w n a.done) [] mid to new v m f e g)
 
   -- fewer bytes are left behind it
   pub member-farther : (to : Option (List ℕ)) (new : ItemEventsView) (v : Value) → ReadsItem r b (member_frames left fs) (t ++ array_bytes w n a.done) [] mid to new v

@@ -15,6 +15,7 @@ use Rattle.cbor_reader.specs.Readers.{IsReadAs, IsUnread}
 use Rattle.cbor_reader.specs.inner.Front.{IsFrontUnread, IsFrontRead}
 use Rattle.cbor_reader.specs.inner.Reading.{IsAt, ReadsItem, StopsItem}
 use Rattle.cbor_reader.proofs.MapKeys.{key_value}
+use Rattle.cbor_reader.proofs.Reasons.{reader-reason}
 use Rattle.cbor_reader.proofs.Sizes.{size_bounded}
 use Rattle.cbor_reader.proofs.Tops.{item-read, item-unread, loses}
 
@@ -44,5 +45,6 @@ front-read rules b from to new v count l i e =
 pub front-unread : (r : Rules) (b : Bounds) (from to : Option (List ℕ)) (f : Refusal) → StopsItem r b [] [] [] from to f → IsFrontUnread r b from to f
 front-unread r b from to f s = record {
   refused = known from (λ input. IsUnread b.depth b.bytes r input f) (λ input k. item-unread r b input from to k f s);
+  reason = reader-reason r b [] [] [] from to f s;
   taken = loses s.bytes f.read from to s.read s.taken;
 }

@@ -28,7 +28,7 @@ use Rattle.cbor_events.specs.declared.event.EventKind.{EventKind}
 use Rattle.cbor_events.specs.declared.event.EventKind.TheVariants as kinds
 use Rattle.cbor_events.proofs.Taking.{nothing-taken}
 use Rattle.cbor_reader.specs.inner.Judged.{IsJudged}
-use Rattle.cbor_reader.specs.inner.Reading.{IsAt, IsReached, Extends, IsFormRefusal, OfMark, IsBegun, ReadsItem, IsCause, HasCause, IsMemory, StopsItem, IsNextHead, StopsHead, ReadsBreak, HasBegun}
+use Rattle.cbor_reader.specs.inner.Reading.{IsAt, Extends, IsFormRefusal, OfMark, IsBegun, ReadsItem, IsCause, HasCause, IsUndecided, StopsItem, IsNextHead, StopsHead, ReadsBreak, HasBegun}
 use Rattle.cbor_reader.proofs.Judged.{zero_item}
 use Rattle.cbor_reader.proofs.Steps.{farther}
 use Rattle.cbor_reader.proofs.Leaves.{head_complains, array_head_complains, map_head_complains}
@@ -53,9 +53,6 @@ extends-in x y e z from mid to f g = extends-on x (y ++ e) g.more (y ++ z) from 
 
 -- ---- refusals
 
-pub stops-memory : (r : Rules) (b : Bounds) (fs : List Frame) (t x y : List ℕ) (from to : Option (List ℕ)) (f : Refusal) → Extends x y from to → f.read ≡ length (t ++ y) → IsMemory f → IsReached b (t ++ y) → StopsItem r b fs t x from to f
-stops-memory r b fs t x y from to f e n m h = record { bytes = y; taken = e; read = n; why = inl (m, h) }
-
 cause-as : (b : Bounds) (all whole : List ℕ) (to : Option (List ℕ)) (at there : ℕ) (found : Option Complaint) (f : Refusal) → all ≡ whole → at ≡ there → IsCause b all to at found f → IsCause b whole to there found f
 cause-as b all whole to at there (Some c) f e g h = (h.0, subst (λ (xs : List ℕ). length xs ≤ b.bytes) e h.1)
 cause-as b all whole to at there None f e g h = (h.0 ∙ g, subst (λ (xs : List ℕ). IsFormRefusal b xs to f) e h.1)
@@ -74,12 +71,25 @@ module _ (r : Rules) (b : Bounds) (fs gs : List Frame) (t y : List ℕ)
       cause = cause-as b ((t ++ y) ++ m) (t ++ (y ++ m)) to (length ((t ++ y) ++ h.p)) (length (t ++ (y ++ h.p))) h.found f (append_assoc t y m) (ap length (append_assoc t y h.p)) h.cause;
     }
 
+    -- what is undecided of the part is undecided of the whole
+    undecided-in : (m : List ℕ) → IsUndecided r b gs (t ++ y) m → IsUndecided r b fs t (y ++ m)
+    undecided-in m h = record {
+      p = y ++ h.p;
+      last = h.last;
+      splits = ap (λ (u : List ℕ). y ++ u) h.splits ∙ sym (append_assoc y h.p h.last);
+      byte = h.byte;
+      judged = lift h.p None h.judged;
+    }
+
     pub stops-in : (x e : List ℕ) (from mid to : Option (List ℕ)) (f : Refusal) → Extends x (y ++ e) from mid → StopsItem r b gs (t ++ y) e mid to f → StopsItem r b fs t x from to f
     stops-in x e from mid to f g s = record {
       bytes = y ++ s.bytes;
       taken = extends-in x y e s.bytes from mid to g s.taken;
       read = s.read ∙ ap length (append_assoc t y s.bytes);
-      why = elim s.why [ inl m ↦ inl (m.0, reached-as b ((t ++ y) ++ s.bytes) (t ++ (y ++ s.bytes)) (append_assoc t y s.bytes) m.1) | inr c ↦ inr (cause-in s.bytes to f c) ];
+      why = elim s.why [
+        | inl m ↦ inl (m.0, reached-as b ((t ++ y) ++ s.bytes) (t ++ (y ++ s.bytes)) (append_assoc t y s.bytes) m.1, undecided-in s.bytes m.2)
+        | inr c ↦ inr (cause-in s.bytes to f c)
+      ];
     }
 
 -- ---- heads

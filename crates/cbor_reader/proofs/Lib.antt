@@ -9,6 +9,7 @@ pub mod Decisions
 mod Examples
 pub mod Frame
 pub mod Frames
+pub mod FreeBefore
 pub mod Fronts
 pub mod Headline
 pub mod Heads
@@ -32,6 +33,7 @@ pub mod SpelledBytes
 pub mod Steps
 pub mod StrictFronts
 pub mod Tops
+pub mod Undecided
 pub mod Valid
 pub mod ValidTexts
 pub mod WholeInputs

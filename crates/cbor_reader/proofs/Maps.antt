@@ -31,7 +31,8 @@ use Rattle.cbor_reader.proofs.Judged.{Never}
 use Rattle.cbor_reader.proofs.Composition.{IsMapSoFar, IsKeySoFar, map_bytes, key_judged, key_complains, content_judged, map_more, map_whole}
 use Rattle.cbor_reader.proofs.Heads.{open_or}
 use Rattle.cbor_reader.proofs.Loops.{map_bytes-more, map_bytes-whole}
-use Rattle.cbor_reader.proofs.Items.{definite, proper-definite, extends-none, extends-in, extends-on, stops-in, stops-memory}
+use Rattle.cbor_reader.proofs.Items.{definite, proper-definite, extends-none, extends-in, extends-on, stops-in}
+use Rattle.cbor_reader.proofs.ReadItems.{item-no-memory}
 use Rattle.cbor_reader.proofs.Scalars.{at-as}
 use Rattle.cbor_reader.proofs.Arrays.{IsLeft, one_fewer, closes, close-counted}
 use Rattle.cbor_reader.specs.inner.Members.{fewer}
@@ -267,11 +268,7 @@ module _ (r : Rules) (b : Bounds) (fs : List Frame) (t x : List ℕ) (w : Width)
 
         -- memory for the pair is refused
         pub content-memory : (f : Refusal) → f.read ≡ last.machine.taken → IsMemory f → StopsItem r b fs t x from end f
-        content-memory f g h =
-            stops-memory r b fs t x ((map_bytes w n a.done ++ spell m.item) ++ spell c.item) from end f content-taken
-            (g ∙ c.at.stands.stands.taken ∙ ap length (append_assoc t (map_bytes w n a.done ++ spell m.item) (spell c.item))) h
-            (reached-as b ((t ++ (map_bytes w n a.done ++ spell m.item)) ++ spell c.item) (t ++ ((map_bytes w n a.done ++ spell m.item) ++ spell c.item)) (append_assoc t (map_bytes w n a.done ++ spell m.item) (spell c.item))
-            (at-reached b last ((t ++ (map_bytes w n a.done ++ spell m.item)) ++ spell c.item) (close (content_frames left fs)) c.at))
+        content-memory f g h = stops-content end f (item-no-memory r b (content_frames left fs) (t ++ (map_bytes w n a.done ++ spell m.item)) [] to end last cv c f g h)
 
         pub map-next : (i j : Item) → kv ≡ view i → cv ≡ view j → IsReadingMap r b fs t x w n (fewer left) (pairs ++ (i, j) ∷ []) from end last
         map-next i j f g =

@@ -1,15 +1,16 @@
 -- The headline's clauses on a result, where it is known to be the answer.
-use Rattle.std.proofs.Common.{ℕ, ◌^◌, ◌≡◌, ◌≢◌, ◌<◌, ◌≤◌, ◌↔◌, List, length, Result, Ok, Err}
+use Rattle.std.proofs.Common.{ℕ, ◌^◌, ◌≡◌, ◌≢◌, ◌<◌, ◌≤◌, List, length, Result, Ok, Err}
 use Rattle.std.specs.Result.{MatchResult, IfOk, IfErr}
-use Rattle.cbor_head.specs.Value.{Same}
-use Rattle.cbor_head.specs.Spelling.{Spelling, value_of, IsItem}
+use Rattle.cbor_head.specs.Spelling.{Spelling, value_of}
 use Rattle.cbor_head.specs.Canonical.{canonical}
 use Rattle.cbor_head.specs.declared.order.KeyOrder.{KeyOrder}
 use Rattle.cbor_head.specs.declared.reason.Reason.TheVariants.{Memory}
 use Rattle.cbor_head.specs.declared.reason.Refusal.{Refusal}
-use Rattle.cbor_reader.specs.Canonicalise.{IsCanonicalOf, IsRefusal}
+use Rattle.cbor_reader.specs.Canonicalise.{IsCanonicalOf, IsRefusal, TellsItsValue}
 use Rattle.cbor_reader.specs.Headline.{IsValidItem}
+use Rattle.cbor_reader.specs.Refusals.{IsCanonicaliserReason}
 use Rattle.cbor_reader.proofs.Headline.{answers_exactly, refused_too_long, equal_exactly, again}
+use Rattle.cbor_reader.proofs.Reasons.{canonicaliser-reason}
 
 module _ {A : Type 0} (d n : ℕ) (o : KeyOrder) (input : List ℕ) (items : A → List ℕ) where
   abbrev pub IsAnswer : Result A Refusal → Type 0
@@ -23,10 +24,13 @@ module _ {A : Type 0} (d n : ℕ) (o : KeyOrder) (input : List ℕ) (items : A �
   err_item (Ok v) a = tt
   err_item (Err f) a = λ h s i. refused_too_long d n o input f s a h i
 
-  pub ok_equal : (r : Result A Refusal) → n ≤ 2 ^ 62 → IsAnswer r
-      → IfOk r (λ v. (e m : ℕ) (y b : List ℕ) (s t : Spelling) → m ≤ 2 ^ 62 → IsItem d s input → IsCanonicalOf e m o y b → IsItem e t y → (items v ≡ b) ↔ Same (value_of s) (value_of t))
+  pub ok_equal : (r : Result A Refusal) → n ≤ 2 ^ 62 → IsAnswer r → IfOk r (λ v. TellsItsValue d o input (items v))
   ok_equal (Ok v) l a = λ e m y b s t k i h j. equal_exactly d n e m o input y (items v) b s t l k a i h j
   ok_equal (Err f) l a = tt
+
+  pub err_reason : (r : Result A Refusal) → IsAnswer r → IfErr r (λ f. IsCanonicaliserReason f.reason)
+  err_reason (Ok v) a = tt
+  err_reason (Err f) a = canonicaliser-reason d n o input f a
 
   pub ok_again : (r : Result A Refusal) → n ≤ 2 ^ 62 → IsAnswer r → IfOk r (λ v. IsCanonicalOf d n o (items v) (items v))
   ok_again (Ok v) l a = again d n o input (items v) l a

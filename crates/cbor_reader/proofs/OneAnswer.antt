@@ -36,8 +36,8 @@ one_refusal d n o input f g (canonical_too_long s v u l e) (of_verdict w) h i = 
 one_refusal d n o input f g (canonical_too_long s v u l e) (trailing t w m k) h i =
     absurd (omega (arith, m, ap (λ (s : Spelling). length (spell s)) (one_item d n input s t v w), ap length u))
 one_refusal d n o input f g (canonical_too_long s v u l e) (canonical_too_long t w x m k) h i = e ∙ sym k
-one_refusal d n o input f g (of_memory p t l m e) b h i = absurd (h (ap (λ (f : Refusal). f.reason) e))
-one_refusal d n o input f g _ (of_memory p t l m e) h i = absurd (i (ap (λ (f : Refusal). f.reason) e))
+one_refusal d n o input f g (of_memory p t l m e free) b h i = absurd (h (ap (λ (f : Refusal). f.reason) e))
+one_refusal d n o input f g _ (of_memory p t l m e free) h i = absurd (i (ap (λ (f : Refusal). f.reason) e))
 
 pub only_memory : (d n : ℕ) (o : KeyOrder) (input x : List ℕ) (f : Refusal) → IsCanonicalOf d n o input x → IsRefusal d n o input f → f.reason ≡ Memory
 only_memory d n o input x f v (of_verdict w) = absurd (no_both d n input v.item f v.verdict w)
@@ -45,4 +45,4 @@ only_memory d n o input x f v (trailing t w m k) =
     absurd (omega (arith, m, ap (λ (s : Spelling). length (spell s)) (one_item d n input v.item t v.verdict w), ap length v.whole))
 only_memory d n o input x f v (canonical_too_long t w u m k) =
     absurd (omega (arith, m, v.fits, ap length v.canonical_bytes, ap (λ (s : Spelling). length (canonical o (value_of s))) (one_item d n input v.item t v.verdict w)))
-only_memory d n o input x f v (of_memory p t l m e) = ap (λ (f : Refusal). f.reason) e
+only_memory d n o input x f v (of_memory p t l m e free) = ap (λ (f : Refusal). f.reason) e

@@ -31,6 +31,7 @@ use Rattle.cbor_events.proofs.Taking.{IsClear, IsWithin, nothing-taken, first-ma
 use Rattle.cbor_reader.specs.inner.Reading.{IsAt, IsFormRefusal, IsMemory, ReadsPayload, StopsPayload}
 use Rattle.cbor_reader.proofs.Steps.{Stops, SameLimits, stands-reached, at-reached, reached-as, at-clear, bytes_back, next-at, since}
 use Rattle.cbor_reader.proofs.Scalars.{at-as}
+use Rattle.cbor_reader.proofs.Undecided.{is-part}
 
 pub bytes_join : (xs ys : List ℕ) → AreBytes xs → AreBytes ys → AreBytes (xs ++ ys)
 bytes_join [] ys g h = h
@@ -195,6 +196,8 @@ module _ (b : Bounds) (chunk : Bool) (m : Major) (fs : List Frame) (t : List ℕ
     -- no memory for it
     pub part-memory : (f : Refusal) → f.read ≡ new.machine.taken → IsMemory f → StopsPayload b t n false from to f
     part-memory f g i =
+        let size = length-append h.p x.bytes in
+        let came = h.count in
         record {
           bytes = h.p ++ x.bytes;
           consumed = Consumes-trans from now to h.p x.bytes h.consumed x.consumed;
@@ -203,6 +206,8 @@ module _ (b : Bounds) (chunk : Bool) (m : Major) (fs : List Frame) (t : List ℕ
             i,
             reached-as b ((t ++ h.p) ++ x.bytes) (t ++ (h.p ++ x.bytes)) (append_assoc t h.p x.bytes)
                 (stands-reached b new.machine ((t ++ h.p) ++ x.bytes) (h.at.marks ++ marks_of ev.width ev.kind) (same.depth ∙ h.at.depth) (same.bytes ∙ h.at.bytes) x.stands.stands),
+            is-part n (h.p ++ x.bytes) (omega (arith, size, bytes-of.some)) (omega (arith, size, taken-part.0, came))
+                (bytes_join h.p x.bytes h.are_bytes (bytes_back (t ++ h.p) x.bytes x.stands.stands.are_bytes)),
           );
         }
 

@@ -1,5 +1,5 @@
 -- An item that was read whole: it is a key like any other, and what is answered of what is built of it.
-use Rattle.std.proofs.Common.{◌≡◌, ℕ, ◌^◌, ◌≤◌, Option, List, ◌++◌, length, sym, ◌∙◌, subst, arith}
+use Rattle.std.proofs.Common.{◌≡◌, ℕ, ◌^◌, ◌≤◌, Option, List, ◌++◌, length, sym, ◌∙◌, subst, inl, arith}
 use Rattle.std.specs.Prelude.{Result, Ok, Err, IfOk, MatchResult}
 use Rattle.std.proofs.lemmas.List.{length-append}
 use Rattle.cbor_head.specs.Limits.{Bounds}
@@ -17,9 +17,9 @@ use Rattle.cbor_reader.specs.inner.MapKeys.{IsKey, HasCanonicalBytes}
 use Rattle.cbor_reader.specs.inner.Reading.{ReadsItem, IsMemory, StopsItem}
 use Rattle.cbor_reader.specs.inner.Rules.{rules_of}
 use Rattle.cbor_reader.specs.declared.rules.Rules as declared
-use Rattle.cbor_reader.proofs.Items.{stops-memory}
 use Rattle.cbor_reader.proofs.MapKeys.{key_value}
 use Rattle.cbor_reader.proofs.Steps.{at-reached}
+use Rattle.cbor_reader.proofs.Undecided.{item-undecided}
 
 module _ (r : Rules) (b : Bounds) (fs : List Frame) (t x : List ℕ) (from to : Option (List ℕ)) (new : ItemEventsView) (v : Value) (m : ReadsItem r b fs t x from to new v) where
   -- it fits
@@ -34,7 +34,12 @@ module _ (r : Rules) (b : Bounds) (fs : List Frame) (t x : List ℕ) (from to : 
 
   -- memory was refused behind it
   pub item-no-memory : (f : Refusal) → f.read ≡ new.machine.taken → IsMemory f → StopsItem r b fs t x from to f
-  item-no-memory f e h = stops-memory r b fs t x (spell m.item) from to f m.taken (e ∙ m.at.stands.stands.taken) h (at-reached b new (t ++ spell m.item) (close fs) m.at)
+  item-no-memory f e h = record {
+    bytes = spell m.item;
+    taken = m.taken;
+    read = e ∙ m.at.stands.stands.taken;
+    why = inl (h, at-reached b new (t ++ spell m.item) (close fs) m.at, item-undecided r b fs t x from to new v m);
+  }
 
   -- what is built of it is answered
   pub answers-built : {E : Type 0} (built : Result Item E) (result : Result Item Refusal) → IfOk built (λ i. view i ≡ v) → IsBuilt new built result

@@ -5,7 +5,7 @@ use Rattle.std.proofs.lemmas.List.{length-append, nil_from_length}
 use Rattle.std.specs.Io.KnownBytes.{Consumes, IsAtEnd}
 use Rattle.cbor_head.specs.Limits.{Bounds}
 use Rattle.cbor_head.specs.Value.{Value}
-use Rattle.cbor_head.specs.Spelling.{spell}
+use Rattle.cbor_head.specs.Spelling.{spell, IsItem}
 use Rattle.cbor_head.specs.Beginning.{IsBeginning, IsLongestBeginning}
 use Rattle.cbor_head.specs.Complaint.{Rules, Complaint, form}
 use Rattle.cbor_head.specs.Verdict.{refusal, refused, IsFormError, IsVerdict}
@@ -18,7 +18,9 @@ use Rattle.cbor_events.proofs.Form.{no-complaint}
 use Rattle.cbor_events.specs.ItemEvents.{ItemEventsView}
 use Rattle.cbor_reader.specs.inner.Judged.{IsJudged}
 use Rattle.cbor_reader.specs.Readers.{IsReadAs, IsUnread, of_verdict, of_reader, of_memory, Loses}
-use Rattle.cbor_reader.specs.inner.Reading.{IsReached, IsMemory, IsCause, Extends, ReadsItem, StopsItem}
+use Rattle.cbor_reader.specs.inner.Reading.{IsReached, IsMemory, IsCause, Extends, ReadsItem, IsUndecided, StopsItem}
+use Rattle.cbor_reader.specs.Refusals.{IsFreeBefore}
+use Rattle.cbor_reader.proofs.FreeBefore.{front-free}
 use Rattle.cbor_reader.proofs.Decisions.{complaint_decides, break_decides}
 use Rattle.cbor_reader.proofs.Within.{verdict_within}
 use Rattle.cbor_reader.proofs.SpelledBytes.{longest_always}
@@ -125,10 +127,22 @@ module _ (r : Rules) (b : Bounds) (input : List ℕ) (from to : Option (List ℕ
     flat : (reason : Reason) → f.reason ≡ reason → f.place ≡ f.read → f ≡ refusal reason f.read f.read
     flat reason e g = ap (λ (x : Reason). refusal x f.place f.read) e ∙ ap (λ (k : ℕ). refusal reason k f.read) g
 
-    stopped-for-memory : IsMemory f → IsReached b s.bytes → IsUnread b.depth b.bytes r input f
-    stopped-for-memory m h =
+    -- where all but the last byte taken tells nothing against the item, no complaint ends before
+    free : IsReached b s.bytes → IsUndecided r b [] [] s.bytes → (p : List ℕ) → IsLongestBeginning b.depth (take b.bytes input) p → IsFreeBefore b.depth r p f.read
+    free h u p g =
+        let front : take b.bytes input ≡ s.bytes ++ take (b.bytes - length s.bytes) left.rest = ap (take b.bytes) left.splits ∙ cut_behind b.bytes s.bytes left.rest h.within in
+        let (k, is, other) = split_front s.bytes (take (b.bytes - length s.bytes) left.rest) p g.rest (sym front ∙ g.splits) (omega (arith, read-is, short h p g)) in
+        let item : IsItem b.depth u.judged.item (u.p ++ u.judged.rest) = subst (λ (m : ℕ). IsItem m u.judged.item (u.p ++ u.judged.rest)) level u.judged.is in
+        front-free b.depth r u.p p (u.last ++ k) u.judged.item u.judged.rest f.read item (is ∙ ap (λ (v : List ℕ). v ++ k) u.splits ∙ append_assoc u.p u.last k)
+        (λ c held. omega (arith, u.judged.finding.1 c held)) (omega (arith, read-is, ap length u.splits, length-append u.p u.last, u.byte))
+      where
+        level : b.depth - 0 ≡ b.depth
+        level = omega arith
+
+    stopped-for-memory : IsMemory f → IsReached b s.bytes → IsUndecided r b [] [] s.bytes → IsUnread b.depth b.bytes r input f
+    stopped-for-memory m h u =
         let g = longest_always b.depth (take b.bytes input) in
-        of_memory g.0 g.1 (short h g.0 g.1) (flat Memory m.0 m.1)
+        of_memory g.0 g.1 (short h g.0 g.1) (flat Memory m.0 m.1) (free h u g.0 g.1)
 
     module _ (p last : List ℕ) (splits : s.bytes ≡ p ++ last) where
       input-is : input ≡ p ++ (last ++ left.rest)
@@ -181,7 +195,7 @@ module _ (r : Rules) (b : Bounds) (input : List ℕ) (from to : Option (List ℕ
 
     pub item-unread : IsUnread b.depth b.bytes r input f
     item-unread = elim s.why [
-      | inl m ↦ stopped-for-memory m.0 m.1
+      | inl m ↦ stopped-for-memory m.0 m.1 m.2
       | inr h ↦ stopped-by-cause h.p h.last h.splits h.found (subst (λ (k : ℕ). IsJudged r 0 k h.p h.found) level h.judged) h.cause
     ]
       where

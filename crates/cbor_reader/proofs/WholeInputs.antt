@@ -18,6 +18,7 @@ use Rattle.cbor_reader.specs.Canonicalise as whole
 use Rattle.cbor_reader.specs.Canonicalise.{IsCanonicalOf, IsRefusal}
 use Rattle.cbor_reader.proofs.StrictFronts.{strict_bytes, strict_value, strict_accepts}
 use Rattle.cbor_reader.proofs.Answering.{trails, wants_memory, grows_too_long, becomes}
+use Rattle.cbor_reader.proofs.FreeBefore.{truncated-free}
 use Rattle.cbor_reader.proofs.Reasons.{never-read}
 
 -- of a known input
@@ -40,7 +41,7 @@ no-front d n o input f (of_verdict w) g h = λ v b. apart (one_verdict d n (stri
     apart : {s : Spelling} → accepted s ≡ refused f → ⊥
     apart e = cc e
 no-front d n o input f (of_reader p l m is w) g h = absurd (g (ap (λ (x : Refusal). x.reason) is))
-no-front d n o input f (of_memory p l m is) g h = absurd (h (ap (λ (x : Refusal). x.reason) is))
+no-front d n o input f (of_memory p l m is w) g h = absurd (h (ap (λ (x : Refusal). x.reason) is))
 
 pub has-no-front : (d n : ℕ) (o : KeyOrder) (from : Option (List ℕ)) (f : Refusal) → IfSome from (λ input. IsUnread d n (strict o) input f) → f.reason ≢ Read → f.reason ≢ Memory → IfSome from (HasNoCanonicalFront d n o)
 has-no-front d n o from f h e g = some-so from (λ input. IsUnread d n (strict o) input f) (HasNoCanonicalFront d n o) (λ input i. no-front d n o input f i e g) h
@@ -55,12 +56,12 @@ front-canonical d n o from v count k h e =
 pub refused-unread : (d n : ℕ) (o : KeyOrder) (input : List ℕ) (f : Refusal) → IsUnread d n plain input f → f.reason ≢ Read → IsRefusal d n o input f
 refused-unread d n o input f (of_verdict w) g = whole.of_verdict w
 refused-unread d n o input f (of_reader p l m is w) g = absurd (g (ap (λ (x : Refusal). x.reason) is))
-refused-unread d n o input f (of_memory p l m is) g = whole.of_memory p f.read l m is
+refused-unread d n o input f (of_memory p l m is x) g = whole.of_memory p f.read l m is x
 
 pub given-up : (d n : ℕ) (o : KeyOrder) (input : List ℕ) (f g : Refusal) → IsUnread d n plain input f → f.reason ≡ Read → g ≡ refusal Memory f.read f.read → IsRefusal d n o input g
 given-up d n o input f g (of_verdict w) e is = absurd (never-read d n plain input f w e)
-given-up d n o input f g (of_reader p l m h w) e is = whole.of_memory p f.read l m is
-given-up d n o input f g (of_memory p l m h) e is = whole.of_memory p f.read l m is
+given-up d n o input f g (of_reader p l m h w) e is = whole.of_memory p f.read l m is (truncated-free d n f.read plain input p l m w)
+given-up d n o input f g (of_memory p l m h x) e is = whole.of_memory p f.read l m is x
 
 -- behind an item that is read
 module _ (d n : ℕ) (o : KeyOrder) (input rest : List ℕ) (v : Value) (size : ℕ) (a : IsReadAs d n plain input v size) (t : Loses size (Some input) (Some rest)) where

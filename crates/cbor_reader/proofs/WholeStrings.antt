@@ -144,26 +144,34 @@ module _ (r : Rules) (b : Bounds) (fs : List Frame) (t x : List ℕ) (e : ItemEv
         λ yes_text. subst IsUtf8 (sym reads.grows) (utf8 yes_text),
       )
 
+  -- a part of the payload has come
+  string-part : (p : List ℕ) → length p < n → AreBytes p → IsJudged r (length t) (b.depth - length fs) (x ++ p) None
+  string-part p short are_bytes =
+      let more : List ℕ = replicate (n - length p) 0 in
+      let same : length (p ++ more) ≡ n = omega (arith, length-append p more, zero_length (n - length p), short) in
+      let head_as : x ≡ head (string_major text) w (length (p ++ more)) = head-is.bytes_are ∙ ap (head (string_major text) w) (sym same) in
+      subst (λ (u : List ℕ). IsJudged r (length t) (b.depth - length fs) (u ++ p) None) (sym head_as)
+      (so-far text w p more r (length t) (b.depth - length fs) (subst (Holds w) (sym same) head-is.holds) (bytes_join p more are_bytes (zero_bytes (n - length p))) (omega (arith, zero_length (n - length p), short))
+      (subst (λ (k : ℕ). Never (OfHead r (length t) (string_major text) w k)) (sym same) head-is.clean))
+
   pub stops-string : LooksAtText r → (from to : Option (List ℕ)) (f : Refusal) → StopsPayload b (t ++ x) n text from to f → StopsItem r b fs t x from to f
   stops-string looks from to f s = record {
     bytes = x ++ s.bytes;
     taken = record { more = s.bytes; consumed = s.consumed; are = refl };
     read = s.read ∙ ap length (append_assoc t x s.bytes);
     why = elim s.why [
-      | inl m ↦ inl (m.0, reached-as b ((t ++ x) ++ s.bytes) (t ++ (x ++ s.bytes)) (append_assoc t x s.bytes) m.1)
+      | inl m ↦ inl (
+        m.0,
+        reached-as b ((t ++ x) ++ s.bytes) (t ++ (x ++ s.bytes)) (append_assoc t x s.bytes) m.1,
+        record { p = x ++ m.2.p; last = m.2.last; splits = ap (λ (u : List ℕ). x ++ u) m.2.splits ∙ sym (append_assoc x m.2.p m.2.last); byte = m.2.byte; judged = string-part m.2.p m.2.short m.2.are_bytes },
+      )
       | inr (inl c) ↦
-          let more : List ℕ = replicate (n - length c.p) 0 in
-          let short : length c.p < n = c.short in
-          let same : length (c.p ++ more) ≡ n = omega (arith, length-append c.p more, zero_length (n - length c.p), short) in
-          let head_as : x ≡ head (string_major text) w (length (c.p ++ more)) = head-is.bytes_are ∙ ap (head (string_major text) w) (sym same) in
           inr (record {
             p = x ++ c.p;
             last = c.last;
             splits = ap (λ (u : List ℕ). x ++ u) c.splits ∙ sym (append_assoc x c.p c.last);
             found = None;
-            judged = subst (λ (u : List ℕ). IsJudged r (length t) (b.depth - length fs) (u ++ c.p) None) (sym head_as)
-                (so-far text w c.p more r (length t) (b.depth - length fs) (subst (Holds w) (sym same) head-is.holds) (bytes_join c.p more c.are_bytes (zero_bytes (n - length c.p))) (omega (arith, zero_length (n - length c.p), short))
-                (subst (λ (k : ℕ). Never (OfHead r (length t) (string_major text) w k)) (sym same) head-is.clean));
+            judged = string-part c.p c.short c.are_bytes;
             cause = (c.place ∙ ap length (append_assoc t x c.p), subst (λ (u : List ℕ). IsFormRefusal b u to f) (append_assoc t x s.bytes) c.refused);
           })
       | inr (inr y) ↦ inr (no-text r b fs t x w text n i.next to f looks head-is y.0 s.bytes y.1)
@@ -400,6 +408,23 @@ module _ (r : Rules) (b : Bounds) (fs : List Frame) (t x : List ℕ) (text : Boo
             utf8 = λ g. subst IsUtf8 (sym reads.grows) (IsUtf8-append content q (a.utf8 g) (utf8 g));
           }
 
+      -- a part of it has come
+      chunk-part : (p : List ℕ) → length p < k → AreBytes p → IsJudged r (length t) (b.depth - length fs) (chunks_bytes (string_major text) a.done ++ (n.bytes ++ p)) None
+      chunk-part p short are_bytes =
+          let y = chunks_bytes (string_major text) a.done in
+          let more : List ℕ = replicate (k - length p) 0 in
+          let same : length (p ++ more) ≡ k = omega (arith, length-append p more, zero_length (k - length p), short) in
+          let head_as : n.bytes ≡ head (string_major text) ev.width (length (p ++ more)) = hd.bytes_are ∙ ap (head (string_major text) ev.width) (sym same) in
+          subst (λ (u : List ℕ). IsJudged r (length t) (b.depth - length fs) (y ++ (u ++ p)) None) (sym head_as)
+          (cut_payload (string_major text) (chunks_of text) (is-chunked text) a.done r (length t) (b.depth - length fs) a.so_far ev.width p more
+          (subst (Holds ev.width) (sym same) hd.holds, bytes_join p more are_bytes (zero_bytes (k - length p))) (omega (arith, zero_length (k - length p), short))
+          (subst (λ (j : ℕ). Never (OfHead r (length t + length y) (string_major text) ev.width j)) (sym same) clean-head))
+
+      chunk-split : (all p last : List ℕ) → all ≡ p ++ last → chunks_bytes (string_major text) a.done ++ (n.bytes ++ all) ≡ (chunks_bytes (string_major text) a.done ++ (n.bytes ++ p)) ++ last
+      chunk-split all p last e =
+          let y = chunks_bytes (string_major text) a.done in
+          ap (λ (u : List ℕ). y ++ (n.bytes ++ u)) e ∙ ap (λ (u : List ℕ). y ++ u) (sym (append_assoc n.bytes p last)) ∙ sym (append_assoc y (n.bytes ++ p) last)
+
       -- it is refused
       pub stops-chunk : LooksAtText r → (to : Option (List ℕ)) (f : Refusal) → StopsPayload b ((t ++ chunks_bytes (string_major text) a.done) ++ n.bytes) k text mid2 to f → StopsItem r b fs t x from to f
       stops-chunk looks to f s =
@@ -410,21 +435,18 @@ module _ (r : Rules) (b : Bounds) (fs : List Frame) (t x : List ℕ) (text : Boo
             taken = extends-on x y (n.bytes ++ s.bytes) (y ++ (n.bytes ++ s.bytes)) from mid to a.taken (Consumes-trans mid mid2 to n.bytes s.bytes n.consumed s.consumed) refl;
             read = s.read ∙ ap length regroup;
             why = elim s.why [
-              | inl m ↦ inl (m.0, reached-as b (((t ++ y) ++ n.bytes) ++ s.bytes) (t ++ (y ++ (n.bytes ++ s.bytes))) regroup m.1)
+              | inl m ↦ inl (
+                m.0,
+                reached-as b (((t ++ y) ++ n.bytes) ++ s.bytes) (t ++ (y ++ (n.bytes ++ s.bytes))) regroup m.1,
+                record { p = y ++ (n.bytes ++ m.2.p); last = m.2.last; splits = chunk-split s.bytes m.2.p m.2.last m.2.splits; byte = m.2.byte; judged = chunk-part m.2.p m.2.short m.2.are_bytes },
+              )
               | inr (inl c) ↦
-                  let more : List ℕ = replicate (k - length c.p) 0 in
-                  let short : length c.p < k = c.short in
-                  let same : length (c.p ++ more) ≡ k = omega (arith, length-append c.p more, zero_length (k - length c.p), short) in
-                  let head_as : n.bytes ≡ head (string_major text) ev.width (length (c.p ++ more)) = hd.bytes_are ∙ ap (head (string_major text) ev.width) (sym same) in
                   inr (record {
                     p = y ++ (n.bytes ++ c.p);
                     last = c.last;
-                    splits = ap (λ (u : List ℕ). y ++ (n.bytes ++ u)) c.splits ∙ ap (λ (u : List ℕ). y ++ u) (sym (append_assoc n.bytes c.p c.last)) ∙ sym (append_assoc y (n.bytes ++ c.p) c.last);
+                    splits = chunk-split s.bytes c.p c.last c.splits;
                     found = None;
-                    judged = subst (λ (u : List ℕ). IsJudged r (length t) (b.depth - length fs) (y ++ (u ++ c.p)) None) (sym head_as)
-                        (cut_payload (string_major text) (chunks_of text) (is-chunked text) a.done r (length t) (b.depth - length fs) a.so_far ev.width c.p more
-                        (subst (Holds ev.width) (sym same) hd.holds, bytes_join c.p more c.are_bytes (zero_bytes (k - length c.p))) (omega (arith, zero_length (k - length c.p), short))
-                        (subst (λ (j : ℕ). Never (OfHead r (length t + length y) (string_major text) ev.width j)) (sym same) clean-head));
+                    judged = chunk-part c.p c.short c.are_bytes;
                     cause = (
                       c.place ∙ ap length (append_assoc (t ++ y) n.bytes c.p ∙ append_assoc t y (n.bytes ++ c.p)),
                       subst (λ (u : List ℕ). IsFormRefusal b u to f) regroup c.refused,

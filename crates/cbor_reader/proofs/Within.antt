@@ -124,7 +124,7 @@ module _ (d n : ℕ) (input : List ℕ) where
   refusal_within o f (canonical_too_long s v w l e) =
       let place = ap (λ (f : Refusal). f.place) e in let read = ap (λ (f : Refusal). f.read) e in
       record { by_read = omega (arith, place, read); in_limit = omega (arith, read, (valid_item d n input s v w).fits); in_input = omega (arith, read) }
-  refusal_within o f (of_memory p taken g l e) =
+  refusal_within o f (of_memory p taken g l e free) =
       let place = ap (λ (f : Refusal). f.place) e in let read = ap (λ (f : Refusal). f.read) e in
       let w = longest_within p g in
       record { by_read = omega (arith, place, read); in_limit = omega (arith, read, l, w.0); in_input = omega (arith, read, l, w.1) }

@@ -1,6 +1,7 @@
 -- What an input becomes: the canonical bytes of its item, or the refusal (RFC 8949, sections 4.2 and 5.3).
-use Rattle.std.specs.Prelude.{ℕ, ◌≡◌, ◌<◌, ◌≤◌, List, length, take}
-use Rattle.cbor_head.specs.Spelling.{Spelling, spell, value_of}
+use Rattle.std.specs.Prelude.{ℕ, ◌^◌, ◌≡◌, ◌<◌, ◌≤◌, ◌↔◌, List, length, take}
+use Rattle.cbor_head.specs.Value.{Same}
+use Rattle.cbor_head.specs.Spelling.{Spelling, IsItem, spell, value_of}
 use Rattle.cbor_head.specs.Beginning.{IsLongestBeginning}
 use Rattle.cbor_head.specs.Canonical.{canonical}
 use Rattle.cbor_head.specs.Complaint.{plain}
@@ -8,6 +9,7 @@ use Rattle.cbor_head.specs.Verdict.{IsVerdict, accepted, refused, refusal}
 use Rattle.cbor_head.specs.declared.order.KeyOrder.{KeyOrder}
 use Rattle.cbor_head.specs.declared.reason.Reason.TheVariants.{Trailing, CanonicalTooLong, Memory}
 use Rattle.cbor_head.specs.declared.reason.Refusal.{Refusal}
+use Rattle.cbor_reader.specs.Refusals.{IsFreeBefore}
 
 -- The whole input is one well-formed, valid item within depth d and n bytes, and out is the canonical bytes of its value, at
 -- most n bytes too.
@@ -17,6 +19,13 @@ pub record IsCanonicalOf (d n : ℕ) (o : KeyOrder) (input out : List ℕ) : Typ
   pub whole : spell item ≡ input
   pub canonical_bytes : out ≡ canonical o (value_of item)
   pub fits : length out ≤ n
+
+-- The answers to this input and to another, in one order and within whichever limits, are equal exactly if the two are items of
+-- the same value.
+abbrev pub TellsItsValue : ℕ → KeyOrder → List ℕ → List ℕ → Type 0
+TellsItsValue d o input out =
+    (e m : ℕ) (other b : List ℕ) (s t : Spelling) → m ≤ 2 ^ 62 → IsItem d s input → IsCanonicalOf e m o other b → IsItem e t other
+    → (out ≡ b) ↔ Same (value_of s) (value_of t)
 
 -- the refusal of an input that has none, or of one for which memory was refused
 pub data IsRefusal (d n : ℕ) (o : KeyOrder) (input : List ℕ) (f : Refusal) : Type 0 where
@@ -28,6 +37,6 @@ pub data IsRefusal (d n : ℕ) (o : KeyOrder) (input : List ℕ) (f : Refusal) :
   -- the item's canonical bytes are more than n
   canonical_too_long : (item : Spelling) → IsVerdict d n plain input (accepted item) → spell item ≡ input
       → n < length (canonical o (value_of item)) → f ≡ refusal CanonicalTooLong (length input) (length input) → IsRefusal d n o input f
-  -- memory was refused, somewhere on the longest beginning
+  -- memory was refused, somewhere on the longest beginning, where no complaint had ended before
   of_memory : (p : List ℕ) (taken : ℕ) → IsLongestBeginning d (take n input) p → taken ≤ length p
-      → f ≡ refusal Memory taken taken → IsRefusal d n o input f
+      → f ≡ refusal Memory taken taken → IsFreeBefore d plain p taken → IsRefusal d n o input f

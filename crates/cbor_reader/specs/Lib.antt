@@ -2,4 +2,5 @@ pub mod Canonicalise
 pub mod Headline
 pub mod inner
 pub mod Readers
+pub mod Refusals
 pub mod Size

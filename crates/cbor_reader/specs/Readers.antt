@@ -9,6 +9,7 @@ use Rattle.cbor_head.specs.declared.reason.Reason.TheVariants.{Truncated, Read, 
 use Rattle.cbor_head.specs.declared.reason.Refusal.{Refusal}
 use Rattle.cbor_head.specs.Canonical.{canonical}
 use Rattle.cbor_head.specs.declared.order.KeyOrder.{KeyOrder}
+use Rattle.cbor_reader.specs.Refusals.{IsFreeBefore}
 use Rattle.cbor_reader.specs.Headline.{BeginsWithCanonical}
 
 -- the input's item, which has so many bytes, is accepted
@@ -28,8 +29,9 @@ pub data IsUnread (d n : ℕ) (r : Rules) (input : List ℕ) (f : Refusal) : Typ
   -- the reader failed within an item without complaint: of the bytes taken, as a whole input, the verdict is Truncated
   of_reader : (p : List ℕ) → IsLongestBeginning d (take n input) p → f.read ≤ length p → f ≡ refusal Read f.read f.read
       → IsVerdict d n r (take f.read input) (refused (refusal Truncated f.read f.read)) → IsUnread d n r input f
-  -- memory was refused, somewhere on the longest beginning
-  of_memory : (p : List ℕ) → IsLongestBeginning d (take n input) p → f.read ≤ length p → f ≡ refusal Memory f.read f.read → IsUnread d n r input f
+  -- memory was refused, somewhere on the longest beginning, where no complaint had ended before
+  of_memory : (p : List ℕ) → IsLongestBeginning d (take n input) p → f.read ≤ length p → f ≡ refusal Memory f.read f.read
+      → IsFreeBefore d r p f.read → IsUnread d n r input f
 
 -- a reader that had these bytes lost the first so many of them
 abbrev pub Loses : ℕ → Option (List ℕ) → Option (List ℕ) → Type 0

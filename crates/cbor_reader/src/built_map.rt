@@ -122,7 +122,8 @@ impl BuiltMap {
 fn in_one(alloc: Global, pairs: EncodedPairs) -> Result<Encoding, AllocError>
     requires { HasDistinctBytes (map pair_of pairs.pairs.items) }
     ensures order { IfOk result (λ whole. whole.order ≡ pairs.order) }
-    ensures bytes { IfOk result (λ whole. whole.bytes.items ≡ joined (in_order pairs.order (map pair_of pairs.pairs.items))) }
+    ensures bytes { IfOk result (λ whole. whole.bytes.items
+        ≡ joined (in_order pairs.order (map pair_of pairs.pairs.items))) }
 {
     let EncodedPairs { order, mut pairs } = pairs;
     sort_pairs(&mut pairs, order)?;
@@ -134,10 +135,11 @@ fn in_one(alloc: Global, pairs: EncodedPairs) -> Result<Encoding, AllocError>
     Ok(Encoding { order, bytes })
 }
 
-// Sorts by the keys, in some n log n comparisons for n pairs.
+// Sorts by the keys.
 fn sort_pairs(pairs: &mut Vec<EncodedPair>, order: KeyOrder) -> Result<(), AllocError>
     ensures permuted { IsPermutation pairs.old.items pairs.new.items }
-    ensures sorted { OnOk result (IsSortedBy (λ x y. key_lt order x.key.items y.key.items) pairs.new.items) }
+    ensures sorted { OnOk result
+        (IsSortedBy (λ x y. key_lt order x.key.items y.key.items) pairs.new.items) }
 {
     pairs.sort_by(|a, b| compare_keys(order, &a.key, &b.key))
 }

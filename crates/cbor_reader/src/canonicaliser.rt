@@ -1,16 +1,15 @@
 //! The canonical bytes of a whole input.
 
-ghost use Rattle.std.specs.Prelude.{◌≡◌, ◌≢◌, ◌↔◌, ◌<◌, ◌≤◌, ◌^◌, ℕ, List, length, IfOk, IfErr, MatchResult};
+ghost use Rattle.std.specs.Prelude.{◌≡◌, ◌≢◌, ◌<◌, ◌≤◌, ℕ, List, length, IfOk, IfErr, MatchResult};
 ghost use Rattle.cbor_head.specs.Canonical.{canonical};
 ghost use Rattle.cbor_head.specs.Complaint.{plain};
 ghost use Rattle.cbor_head.specs.declared.order.KeyOrder.{KeyOrder};
 ghost use Rattle.cbor_reader.specs.Readers.{IsUnread};
-ghost use Rattle.cbor_head.specs.Spelling.{Spelling, IsItem, value_of};
-ghost use Rattle.cbor_head.specs.Value.{Same};
-ghost use Rattle.cbor_head.specs.Verdict.{refusal};
+ghost use Rattle.cbor_head.specs.Spelling.{Spelling, value_of};
 ghost use Rattle.cbor_head.specs.declared.reason.Reason.TheVariants as reasons;
-ghost use Rattle.cbor_reader.specs.Canonicalise.{IsCanonicalOf, IsRefusal};
+ghost use Rattle.cbor_reader.specs.Canonicalise.{IsCanonicalOf, IsRefusal, TellsItsValue};
 ghost use Rattle.cbor_reader.specs.Headline.{IsValidItem};
+ghost use Rattle.cbor_reader.specs.Refusals.{IsCanonicaliserReason};
 
 use crate::tree_reader::read_tree;
 use cbor_head::{KeyOrder, Limits, Reason, Refusal};
@@ -30,11 +29,19 @@ pub fn canonicalise(
     limits: Limits,
     order: KeyOrder,
 ) -> Result<Vec<u8>, Refusal>
-    ensures answer { MatchResult result (λ v. IsCanonicalOf limits.depth limits.bytes order bytes.now v.items) (λ f. IsRefusal limits.depth limits.bytes order bytes.now f) }
-    ensures accepted { IfOk result (λ v. (s : Spelling) × IsValidItem limits.depth limits.bytes bytes.now s × (v.items ≡ canonical order (value_of s)) × (length v.items ≤ limits.bytes)) }
-    ensures refused { IfErr result (λ f. f.reason ≢ reasons.Memory → (s : Spelling) → IsValidItem limits.depth limits.bytes bytes.now s → limits.bytes < length (canonical order (value_of s))) }
-    ensures equal { IfOk result (λ v. (e m : ℕ) (y b : List ℕ) (s t : Spelling) → m ≤ 2 ^ 62 → IsItem limits.depth s bytes.now → IsCanonicalOf e m order y b → IsItem e t y → (v.items ≡ b) ↔ Same (value_of s) (value_of t)) }
-    ensures again { IfOk result (λ v. IsCanonicalOf limits.depth limits.bytes order v.items v.items) }
+    ensures answer { MatchResult result
+        (λ v. IsCanonicalOf limits.depth limits.bytes order bytes.now v.items)
+        (λ f. IsRefusal limits.depth limits.bytes order bytes.now f) }
+    ensures accepted { IfOk result (λ v. (s : Spelling)
+        × IsValidItem limits.depth limits.bytes bytes.now s
+        × (v.items ≡ canonical order (value_of s)) × (length v.items ≤ limits.bytes)) }
+    ensures refused { IfErr result (λ f. f.reason ≢ reasons.Memory
+        → (s : Spelling) → IsValidItem limits.depth limits.bytes bytes.now s
+        → limits.bytes < length (canonical order (value_of s))) }
+    ensures reason { IfErr result (λ f. IsCanonicaliserReason f.reason) }
+    ensures equal { IfOk result (λ v. TellsItsValue limits.depth order bytes.now v.items) }
+    ensures again { IfOk result
+        (λ v. IsCanonicalOf limits.depth limits.bytes order v.items v.items) }
 {
     canonical_bytes(alloc, bytes, limits, order)
 }
@@ -46,7 +53,9 @@ fn canonical_bytes(
     limits: Limits,
     order: KeyOrder,
 ) -> Result<Vec<u8>, Refusal>
-    ensures { MatchResult result (λ v. IsCanonicalOf limits.depth limits.bytes order bytes.now v.items) (λ f. IsRefusal limits.depth limits.bytes order bytes.now f) }
+    ensures { MatchResult result
+        (λ v. IsCanonicalOf limits.depth limits.bytes order bytes.now v.items)
+        (λ f. IsRefusal limits.depth limits.bytes order bytes.now f) }
 {
     let mut rest = bytes;
     let (tree, size) = match read_tree(alloc, &mut rest, limits) {
@@ -54,34 +63,24 @@ fn canonical_bytes(
         Err(refusal) => return Err(of_slice(refusal)),
     };
     if !rest.is_empty() {
-        return Err(at(Reason::Trailing, size));
+        return Err(Refusal::at(Reason::Trailing, size));
     }
     let Ok(canonical) = encode(alloc, &tree, order) else {
-        return Err(at(Reason::Memory, size));
+        return Err(Refusal::at(Reason::Memory, size));
     };
     if canonical.len() as u64 > limits.bytes() {
-        return Err(at(Reason::CanonicalTooLong, size));
+        return Err(Refusal::at(Reason::CanonicalTooLong, size));
     }
     Ok(canonical)
 }
 
 // A refusal by a reader that does not fail: a slice doesn't, though `Read` can't say so.
 fn of_slice(refusal: Refusal) -> Refusal
-    ensures { (d n : ℕ) (o : KeyOrder) (input : List ℕ) → IsUnread d n plain input refusal → IsRefusal d n o input result }
+    ensures { (d n : ℕ) (o : KeyOrder) (input : List ℕ)
+        → IsUnread d n plain input refusal → IsRefusal d n o input result }
 {
     match refusal.reason {
-        Reason::Read => at(Reason::Memory, refusal.read),
+        Reason::Read => Refusal::at(Reason::Memory, refusal.read),
         _ => refusal,
-    }
-}
-
-// The refusal at a place, with all before it taken.
-fn at(reason: Reason, place: u64) -> Refusal
-    ensures { result ≡ refusal reason place place }
-{
-    Refusal {
-        reason,
-        place,
-        read: place,
     }
 }

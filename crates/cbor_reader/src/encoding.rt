@@ -23,7 +23,8 @@ pub(crate) fn with_head(
 ) -> Result<Encoding, AllocError>
     requires { major ≢ Simple }
     ensures order { IfOk result (λ whole. whole.order ≡ content.order) }
-    ensures bytes { IfOk result (λ whole. whole.bytes.items ≡ shortest_head major argument ++ content.bytes.items) }
+    ensures bytes { IfOk result (λ whole. whole.bytes.items
+        ≡ shortest_head major argument ++ content.bytes.items) }
 {
     let mut bytes = Vec::new(alloc);
     bytes.extend_from_slice(&Head::shortest(major, argument).bytes())?;

@@ -21,8 +21,10 @@ pub(crate) fn read_front<R: Read>(
     rules: Rules,
 ) -> Result<(Item, u64), Refusal>
     ensures { MatchResult result
-        (λ answer. IsFrontRead (rules_of rules) limits (R.remaining reader.old) (R.remaining reader.new) (view answer.0) answer.1)
-        (λ f. IsFrontUnread (rules_of rules) limits (R.remaining reader.old) (R.remaining reader.new) f) }
+        (λ answer. IsFrontRead (rules_of rules) limits
+        (R.remaining reader.old) (R.remaining reader.new) (view answer.0) answer.1)
+        (λ f. IsFrontUnread (rules_of rules) limits
+        (R.remaining reader.old) (R.remaining reader.new) f) }
 {
     let mut events = ItemEvents::new(limits);
     match read_item(alloc, &mut events, reader, rules, None) {

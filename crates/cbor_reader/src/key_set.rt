@@ -11,14 +11,15 @@ ghost use Rattle.cbor_head.specs.declared.order.KeyOrder.TheVariants.{Bytewise};
 ghost use Rattle.cbor_reader.specs.inner.MapKeys.{HasBytes, IsPut, is_in};
 
 use arrayvec::ArrayVec;
+use cbor_item::SHORT_KEY;
 use std::alloc::{AllocError, Global};
 use std::collections::BTreeSet;
 
-/// The canonical bytes of keys. Those of up to 16 bytes, as most keys have, lie in the nodes of their
-/// set, so that no memory is taken for each and none is followed to compare two.
+/// The canonical bytes of keys. Those of short keys lie in the nodes of their set, so that no memory is
+/// taken for each and none is followed to compare two.
 #[derive(Drop)]
 pub(crate) struct KeySet {
-    short: BTreeSet<ArrayVec<u8, 16>>,
+    short: BTreeSet<ArrayVec<u8, SHORT_KEY>>,
     long: BTreeSet<Vec<u8>>,
 }
 
@@ -35,7 +36,9 @@ impl KeySet {
 
     // Whether the bytes were not there, where they are now.
     pub(crate) fn insert(&mut self, bytes: Vec<u8>) -> Result<bool, AllocError>
-        ensures { (ks : List Spelling) (k : Spelling) → HasBytes self.old ks → IsInRange (value_of k) → IsValid (value_of k) → bytes.items ≡ canonical Bytewise (value_of k)
+        ensures { (ks : List Spelling) (k : Spelling) → HasBytes self.old ks
+            → IsInRange (value_of k) → IsValid (value_of k)
+            → bytes.items ≡ canonical Bytewise (value_of k)
             → IfOk result (IsPut ks k self.new) }
     {
         match ArrayVec::try_from(bytes.as_slice()) {
@@ -46,16 +49,18 @@ impl KeySet {
 }
 
 fn insert_short(
-    all: &mut BTreeSet<ArrayVec<u8, 16>>,
-    bytes: ArrayVec<u8, 16>,
+    all: &mut BTreeSet<ArrayVec<u8, SHORT_KEY>>,
+    bytes: ArrayVec<u8, SHORT_KEY>,
 ) -> Result<bool, AllocError>
-    ensures { IfOk result (λ fresh. (fresh ≡ not (is_in (λ x. x.items) all.old bytes)) × Updates (λ x y. slice_cmp nat_cmp x.items y.items) all.old all.new bytes true) }
+    ensures { IfOk result (λ fresh. (fresh ≡ not (is_in (λ x. x.items) all.old bytes))
+        × Updates (λ x y. slice_cmp nat_cmp x.items y.items) all.old all.new bytes true) }
 {
     all.insert(bytes).map_err(|_| AllocError)
 }
 
 fn insert_long(all: &mut BTreeSet<Vec<u8>>, bytes: Vec<u8>) -> Result<bool, AllocError>
-    ensures { IfOk result (λ fresh. (fresh ≡ not (is_in (λ x. x.items) all.old bytes)) × Updates (λ x y. slice_cmp nat_cmp x.items y.items) all.old all.new bytes true) }
+    ensures { IfOk result (λ fresh. (fresh ≡ not (is_in (λ x. x.items) all.old bytes))
+        × Updates (λ x y. slice_cmp nat_cmp x.items y.items) all.old all.new bytes true) }
 {
     all.insert(bytes).map_err(|_| AllocError)
 }

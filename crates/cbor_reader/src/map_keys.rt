@@ -38,7 +38,6 @@ impl Keys {
     }
 
     // Puts a key behind the others, unless the rules have something against it, which is answered.
-    // Behind n keys it takes some log n comparisons by the plain rules, and one by the strict.
     pub(crate) fn insert(
         &mut self,
         alloc: Global,
@@ -63,7 +62,8 @@ impl Keys {
 
     // Puts the canonical bytes of a key behind the others.
     fn insert_bytes(&mut self, bytes: Vec<u8>) -> Result<Option<Reason>, AllocError>
-        ensures { (r : complaint.Rules) (ks : List Spelling) (k : Spelling) (v : Value) → HasKeys r self.old ks → IsKey r k v → bytes.items ≡ canonical (order_of self.old) v
+        ensures { (r : complaint.Rules) (ks : List Spelling) (k : Spelling) (v : Value)
+            → HasKeys r self.old ks → IsKey r k v → bytes.items ≡ canonical (order_of self.old) v
             → IfOk result (λ reason. IsInserted r ks k self.new reason) }
     {
         match self {

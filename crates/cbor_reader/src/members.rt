@@ -32,7 +32,8 @@ pub(crate) fn read_item<R: Read>(
     kept: Option<KeyOrder>,
 ) -> Result<BuiltItem, Refusal>
     requires { IsDue events.old }
-    ensures { AnswersNext (rules_of rules) events.old (R.remaining reader.old) (R.remaining reader.new) events.new result }
+    ensures { AnswersNext (rules_of rules) events.old
+        (R.remaining reader.old) (R.remaining reader.new) events.new result }
 {
     match next_head(events, reader, rules) {
         Ok(event) => read_behind(alloc, events, reader, rules, kept, event.kind),
@@ -51,7 +52,8 @@ pub(crate) fn read_behind<R: Read>(
     kind: EventKind,
 ) -> Result<BuiltItem, Refusal>
     requires { HasBegun (rules_of rules) events.old kind }
-    ensures { AnswersItem (rules_of rules) events.old kind (R.remaining reader.old) (R.remaining reader.new) events.new result }
+    ensures { AnswersItem (rules_of rules) events.old kind
+        (R.remaining reader.old) (R.remaining reader.new) events.new result }
 {
     match kind {
         EventKind::Unsigned(number) => Ok(BuiltItem::new(Item::Unsigned(number))),
@@ -86,7 +88,8 @@ fn read_member<R: Read>(
     kept: Option<KeyOrder>,
 ) -> Result<Option<BuiltItem>, Refusal>
     requires { IsMemberDue events.old }
-    ensures { AnswersMember (rules_of rules) events.old (R.remaining reader.old) (R.remaining reader.new) events.new result }
+    ensures { AnswersMember (rules_of rules) events.old
+        (R.remaining reader.old) (R.remaining reader.new) events.new result }
 {
     match next_head(events, reader, rules) {
         Ok(event) => match event.kind {
@@ -110,7 +113,8 @@ fn read_array<R: Read>(
     count: Option<u64>,
 ) -> Result<BuiltItem, Refusal>
     requires { HasBegun (rules_of rules) events.old (kinds.Array count) }
-    ensures { AnswersItem (rules_of rules) events.old (kinds.Array count) (R.remaining reader.old) (R.remaining reader.new) events.new result }
+    ensures { AnswersItem (rules_of rules) events.old (kinds.Array count)
+        (R.remaining reader.old) (R.remaining reader.new) events.new result }
 {
     let mut items = BuiltArray::new(alloc, kept);
     let mut left = count;
@@ -138,7 +142,8 @@ fn read_key<R: Read>(
     keys: &mut Keys,
 ) -> Result<Option<BuiltItem>, Refusal>
     requires { IsKeyDue (rules_of rules) events.old keys.old }
-    ensures { AnswersNextKey (rules_of rules) events.old keys.old keys.new (R.remaining reader.old) (R.remaining reader.new) events.new result }
+    ensures { AnswersNextKey (rules_of rules) events.old keys.old keys.new
+        (R.remaining reader.old) (R.remaining reader.new) events.new result }
 {
     let place = events.taken();
     match read_member(alloc, events, reader, rules, Some(keys.order())) {
@@ -166,7 +171,8 @@ fn read_map<R: Read>(
     count: Option<u64>,
 ) -> Result<BuiltItem, Refusal>
     requires { HasBegun (rules_of rules) events.old (kinds.Map count) }
-    ensures { AnswersItem (rules_of rules) events.old (kinds.Map count) (R.remaining reader.old) (R.remaining reader.new) events.new result }
+    ensures { AnswersItem (rules_of rules) events.old (kinds.Map count)
+        (R.remaining reader.old) (R.remaining reader.new) events.new result }
 {
     let mut pairs = BuiltMap::new(alloc, kept);
     let mut keys = Keys::new(alloc, rules);
@@ -216,7 +222,8 @@ fn read_tag<R: Read>(
     number: u64,
 ) -> Result<BuiltItem, Refusal>
     requires { HasBegun (rules_of rules) events.old (kinds.Tag number) }
-    ensures { AnswersItem (rules_of rules) events.old (kinds.Tag number) (R.remaining reader.old) (R.remaining reader.new) events.new result }
+    ensures { AnswersItem (rules_of rules) events.old (kinds.Tag number)
+        (R.remaining reader.old) (R.remaining reader.new) events.new result }
 {
     match read_item(alloc, events, reader, rules, kept) {
         Ok(content) => or_no_memory(events, content.tagged(alloc, number, kept)),

@@ -18,16 +18,13 @@ pub(crate) fn next_head<R: Read>(
     rules: Rules,
 ) -> Result<Event, Refusal>
     requires { HasHeadDue events.old }
-    ensures { AnswersHead (rules_of rules) events.old (R.remaining reader.old) (R.remaining reader.new) events.new result }
+    ensures { AnswersHead (rules_of rules) events.old
+        (R.remaining reader.old) (R.remaining reader.new) events.new result }
 {
     match events.next(reader) {
         Ok(Some(event)) => match head_fault(rules, &event) {
             None => Ok(event),
-            Some(reason) => Err(Refusal {
-                reason,
-                place: event.place,
-                read: events.taken(),
-            }),
+            Some(reason) => Err(Refusal::new(reason, event.place, events.taken())),
         },
         Ok(None) => unreachable!(),
         Err(refusal) => Err(refusal),
@@ -37,7 +34,8 @@ pub(crate) fn next_head<R: Read>(
 // What the strict rules have against a head.
 fn head_fault(rules: Rules, event: &Event) -> Option<Reason>
     ensures { MatchOption result
-        ((reason : Reason) → IsFault (rules_of rules) (mark_of event.now.width event.now.kind) reason → ⊥)
+        ((reason : Reason) → IsFault (rules_of rules)
+        (mark_of event.now.width event.now.kind) reason → ⊥)
         (λ reason. IsFault (rules_of rules) (mark_of event.now.width event.now.kind) reason) }
 {
     let Rules::Strict(_) = rules else {

@@ -15,11 +15,7 @@ pub(crate) fn no_memory(events: &ItemEvents) -> Refusal
     ensures place { result.place ≡ result.read }
     ensures taken { result.read ≡ events.now.machine.taken }
 {
-    Refusal {
-        reason: Reason::Memory,
-        place: events.taken(),
-        read: events.taken(),
-    }
+    Refusal::at(Reason::Memory, events.taken())
 }
 
 // Puts a payload of so many bytes behind what is there, in the parts that come: no memory is taken for
@@ -31,7 +27,8 @@ pub(crate) fn read_payload<R: Read>(
     into: &mut Vec<u8>,
 ) -> Result<(), Refusal>
     requires { IsPayloadDue events.old count }
-    ensures { AnswersPayload false events.old count into.old.items into.new.items (R.remaining reader.old) (R.remaining reader.new) events.new result }
+    ensures { AnswersPayload false events.old count into.old.items into.new.items
+        (R.remaining reader.old) (R.remaining reader.new) events.new result }
 {
     let mut left = count;
     while left > 0 {
@@ -60,7 +57,8 @@ pub(crate) fn read_chunk<R: Read>(
     into: &mut Vec<u8>,
 ) -> Result<(), Refusal>
     requires { IsPayloadDue events.old count }
-    ensures { AnswersPayload text events.old count into.old.items into.new.items (R.remaining reader.old) (R.remaining reader.new) events.new result }
+    ensures { AnswersPayload text events.old count into.old.items into.new.items
+        (R.remaining reader.old) (R.remaining reader.new) events.new result }
 {
     let from = into.len();
     let place = events.taken();
@@ -73,11 +71,7 @@ pub(crate) fn read_chunk<R: Read>(
     }
     match check_text(into, from) {
         Ok(()) => Ok(()),
-        Err(valid) => Err(Refusal {
-            reason: Reason::InvalidText,
-            place: place + valid as u64,
-            read: events.taken(),
-        }),
+        Err(valid) => Err(Refusal::new(Reason::InvalidText, place + valid as u64, events.taken())),
     }
 }
 
@@ -86,7 +80,8 @@ fn check_text(bytes: &[u8], from: usize) -> Result<(), usize>
     requires { from ≤ length bytes.now }
     ensures checked { MatchResult result
         (λ _. IsUtf8 (drop from bytes.now))
-        (λ valid. ¬ (IsUtf8 (drop from bytes.now)) × (valid ≡ utf8_valid_len (drop from bytes.now))) }
+        (λ valid. ¬ (IsUtf8 (drop from bytes.now))
+        × (valid ≡ utf8_valid_len (drop from bytes.now))) }
     ensures within { IfErr result (λ valid. from + valid ≤ length bytes.now) }
 {
     match std::str::from_utf8(&bytes[from..]) {

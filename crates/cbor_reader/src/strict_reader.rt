@@ -4,6 +4,7 @@ ghost use Rattle.std.specs.Prelude.{◌≡◌, ◌≢◌, length, IfOk, IfErr, I
 ghost use Rattle.cbor_head.specs.Complaint.{strict};
 ghost use Rattle.cbor_head.specs.declared.reason.Reason.TheVariants as reasons;
 ghost use Rattle.cbor_reader.specs.Readers.{IsRead, IsUnread, IsCanonicalFront, HasNoCanonicalFront, Loses};
+ghost use Rattle.cbor_reader.specs.Refusals.{IsReaderReason};
 
 use crate::front::{count_of, read_front};
 use crate::rules::Rules;
@@ -17,19 +18,27 @@ use std::io::Read;
 /// No byte behind the item is read. The refusal is the one that the bytes within the limits call
 /// for, by the rules of the deterministic encoding; or `Read` or `Memory`, where the reader failed
 /// or memory was refused before: then the place is the count of the bytes taken. After a refusal as
-/// many bytes were taken as its `read` tells. Keys cost one comparison each.
+/// many bytes were taken as its `read` tells.
 pub fn read_strict<R: Read>(
     alloc: Global,
     reader: &mut R,
     limits: Limits,
     order: KeyOrder,
 ) -> Result<u64, Refusal>
-    ensures accepted { IfOk result (λ count. IfSome (R.remaining reader.old) (λ input. IsRead limits.depth limits.bytes (strict order) input count)) }
-    ensures canonical { IfOk result (λ count. IfSome (R.remaining reader.old) (λ input. IsCanonicalFront limits.depth limits.bytes order input count)) }
-    ensures taken { IfOk result (λ count. Loses count (R.remaining reader.old) (R.remaining reader.new)) }
-    ensures refused { IfErr result (λ f. IfSome (R.remaining reader.old) (λ input. IsUnread limits.depth limits.bytes (strict order) input f)) }
-    ensures no_canonical { IfErr result (λ f. f.reason ≢ reasons.Read → f.reason ≢ reasons.Memory → IfSome (R.remaining reader.old) (HasNoCanonicalFront limits.depth limits.bytes order)) }
-    ensures read { IfErr result (λ f. Loses f.read (R.remaining reader.old) (R.remaining reader.new)) }
+    ensures accepted { IfOk result (λ count. IfSome (R.remaining reader.old)
+        (λ input. IsRead limits.depth limits.bytes (strict order) input count)) }
+    ensures canonical { IfOk result (λ count. IfSome (R.remaining reader.old)
+        (λ input. IsCanonicalFront limits.depth limits.bytes order input count)) }
+    ensures taken { IfOk result
+        (λ count. Loses count (R.remaining reader.old) (R.remaining reader.new)) }
+    ensures refused { IfErr result (λ f. IfSome (R.remaining reader.old)
+        (λ input. IsUnread limits.depth limits.bytes (strict order) input f)) }
+    ensures reason { IfErr result (λ f. IsReaderReason (strict order) f.reason) }
+    ensures no_canonical { IfErr result (λ f. f.reason ≢ reasons.Read → f.reason ≢ reasons.Memory
+        → IfSome (R.remaining reader.old)
+        (HasNoCanonicalFront limits.depth limits.bytes order)) }
+    ensures read { IfErr result
+        (λ f. Loses f.read (R.remaining reader.old) (R.remaining reader.new)) }
 {
     match read_front(alloc, reader, limits, Rules::Strict(order)) {
         Ok(answer) => Ok(count_of(answer)),

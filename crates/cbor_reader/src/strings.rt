@@ -27,7 +27,8 @@ pub(crate) fn read_bytes<R: Read>(
     length: Option<u64>,
 ) -> Result<BuiltItem, Refusal>
     requires { HasBegun (rules_of rules) events.old (kinds.Bytes length) }
-    ensures { AnswersItem (rules_of rules) events.old (kinds.Bytes length) (R.remaining reader.old) (R.remaining reader.new) events.new result }
+    ensures { AnswersItem (rules_of rules) events.old (kinds.Bytes length)
+        (R.remaining reader.old) (R.remaining reader.new) events.new result }
 {
     match read_string(alloc, events, reader, rules, false, length) {
         Ok(content) => Ok(BuiltItem::new(Item::Bytes(content))),
@@ -44,7 +45,8 @@ pub(crate) fn read_text<R: Read>(
     length: Option<u64>,
 ) -> Result<BuiltItem, Refusal>
     requires { HasBegun (rules_of rules) events.old (kinds.Text length) }
-    ensures { AnswersItem (rules_of rules) events.old (kinds.Text length) (R.remaining reader.old) (R.remaining reader.new) events.new result }
+    ensures { AnswersItem (rules_of rules) events.old (kinds.Text length)
+        (R.remaining reader.old) (R.remaining reader.new) events.new result }
 {
     match read_string(alloc, events, reader, rules, true, length) {
         // Each chunk was found to be UTF-8, so the whole is.
@@ -65,10 +67,14 @@ fn read_string<R: Read>(
     length: Option<u64>,
 ) -> Result<Vec<u8>, Refusal>
     requires { HasBegun (rules_of rules) events.old (string_kind text length) }
-    ensures { (b : Bounds) (fs : List Frame) (t x : List ℕ) (w : Width) → IsBegun (rules_of rules) b fs t x events.old w (string_kind text length)
+    ensures { (b : Bounds) (fs : List Frame) (t x : List ℕ) (w : Width)
+        → IsBegun (rules_of rules) b fs t x events.old w (string_kind text length)
         → MatchResult result
-        (λ v. ReadsItem (rules_of rules) b fs t x (R.remaining reader.old) (R.remaining reader.new) events.new (string_value text v.items) × (text ≡ true → IsUtf8 v.items))
-        (λ f. StopsItem (rules_of rules) b fs t x (R.remaining reader.old) (R.remaining reader.new) f) }
+        (λ v. ReadsItem (rules_of rules) b fs t x
+        (R.remaining reader.old) (R.remaining reader.new) events.new (string_value text v.items)
+        × (text ≡ true → IsUtf8 v.items))
+        (λ f. StopsItem (rules_of rules) b fs t x
+        (R.remaining reader.old) (R.remaining reader.new) f) }
 {
     match length {
         Some(count) => {
@@ -91,10 +97,14 @@ fn read_chunks<R: Read>(
     text: bool,
 ) -> Result<Vec<u8>, Refusal>
     requires { HasBegun (rules_of rules) events.old (string_kind text None) }
-    ensures { (b : Bounds) (fs : List Frame) (t x : List ℕ) (w : Width) → IsBegun (rules_of rules) b fs t x events.old w (string_kind text None)
+    ensures { (b : Bounds) (fs : List Frame) (t x : List ℕ) (w : Width)
+        → IsBegun (rules_of rules) b fs t x events.old w (string_kind text None)
         → MatchResult result
-        (λ v. ReadsItem (rules_of rules) b fs t x (R.remaining reader.old) (R.remaining reader.new) events.new (string_value text v.items) × (text ≡ true → IsUtf8 v.items))
-        (λ f. StopsItem (rules_of rules) b fs t x (R.remaining reader.old) (R.remaining reader.new) f) }
+        (λ v. ReadsItem (rules_of rules) b fs t x
+        (R.remaining reader.old) (R.remaining reader.new) events.new (string_value text v.items)
+        × (text ≡ true → IsUtf8 v.items))
+        (λ f. StopsItem (rules_of rules) b fs t x
+        (R.remaining reader.old) (R.remaining reader.new) f) }
 {
     let mut content = Vec::new(alloc);
     'chunks: loop {

@@ -4,6 +4,7 @@ ghost use Rattle.std.specs.Prelude.{◌≡◌, ◌≤◌, ◌<◌, ◌^◌, ℕ,
 ghost use Rattle.cbor_head.specs.Complaint.{plain};
 ghost use Rattle.cbor_item.specs.View.{view};
 ghost use Rattle.cbor_reader.specs.Readers.{IsReadAs, IsUnread, Loses};
+ghost use Rattle.cbor_reader.specs.Refusals.{IsReaderReason};
 ghost use Rattle.cbor_reader.specs.Size.{size};
 
 use crate::front::read_front;
@@ -26,11 +27,16 @@ pub fn read_tree<R: Read>(
     reader: &mut R,
     limits: Limits,
 ) -> Result<(Tree, u64), Refusal>
-    ensures accepted { IfOk result (λ answer. IfSome (R.remaining reader.old) (λ input. IsReadAs limits.depth limits.bytes plain input (view answer.0) answer.1)) }
-    ensures taken { IfOk result (λ answer. Loses answer.1 (R.remaining reader.old) (R.remaining reader.new)) }
+    ensures accepted { IfOk result (λ answer. IfSome (R.remaining reader.old)
+        (λ input. IsReadAs limits.depth limits.bytes plain input (view answer.0) answer.1)) }
+    ensures taken { IfOk result
+        (λ answer. Loses answer.1 (R.remaining reader.old) (R.remaining reader.new)) }
     ensures bounded { IfOk result (λ answer. size (view answer.0) ≤ answer.1) }
-    ensures refused { IfErr result (λ f. IfSome (R.remaining reader.old) (λ input. IsUnread limits.depth limits.bytes plain input f)) }
-    ensures read { IfErr result (λ f. Loses f.read (R.remaining reader.old) (R.remaining reader.new)) }
+    ensures refused { IfErr result (λ f. IfSome (R.remaining reader.old)
+        (λ input. IsUnread limits.depth limits.bytes plain input f)) }
+    ensures reason { IfErr result (λ f. IsReaderReason plain f.reason) }
+    ensures read { IfErr result
+        (λ f. Loses f.read (R.remaining reader.old) (R.remaining reader.new)) }
 {
     match read_front(alloc, reader, limits, Rules::Plain) {
         Ok((item, count)) => Ok((Tree::from_valid(item), count)),

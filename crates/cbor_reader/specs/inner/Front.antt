@@ -5,6 +5,7 @@ use Rattle.cbor_head.specs.Limits.{Bounds}
 use Rattle.cbor_head.specs.Value.{Value}
 use Rattle.cbor_head.specs.declared.reason.Refusal.{Refusal}
 use Rattle.cbor_reader.specs.Readers.{IsReadAs, IsUnread, Loses}
+use Rattle.cbor_reader.specs.Refusals.{IsReaderReason}
 use Rattle.cbor_reader.specs.Size.{size}
 use Rattle.cbor_reader.specs.inner.MapKeys.{HasCanonicalBytes}
 
@@ -17,4 +18,5 @@ pub record IsFrontRead (r : Rules) (b : Bounds) (from to : Option (List ℕ)) (v
 
 pub record IsFrontUnread (r : Rules) (b : Bounds) (from to : Option (List ℕ)) (f : Refusal) : Type 0 where
   pub refused : IfSome from (λ input. IsUnread b.depth b.bytes r input f)
+  pub reason : IsReaderReason r f.reason
   pub taken : Loses f.read from to

@@ -13,8 +13,10 @@ use Rattle.cbor_head.specs.Complaint as complaint
 use Rattle.cbor_head.specs.Complaint.{Complaint, OfKey, Complains}
 use Rattle.cbor_head.specs.declared.order.KeyOrder.{KeyOrder}
 use Rattle.cbor_head.specs.declared.order.KeyOrder.TheVariants.{Bytewise}
+use Rattle.cbor_head.specs.declared.limits.TheConstants.{MAX_DEPTH}
 use Rattle.cbor_head.specs.declared.reason.Reason.{Reason}
 use Rattle.cbor_item.specs.declared.item.Item.{Item}
+use Rattle.cbor_item.specs.declared.key_bytes.TheConstants.{SHORT_KEY}
 use Rattle.cbor_item.specs.View.{view}
 use Rattle.cbor_reader.specs.declared.key_set.KeySet.{KeySet}
 use Rattle.cbor_reader.specs.declared.map_keys.Keys.{Keys}
@@ -22,7 +24,7 @@ use Rattle.cbor_reader.specs.declared.map_keys.Keys.TheVariants.{Distinct, Risin
 
 -- a value that has canonical bytes, of no more depth than any item that is read
 pub record HasCanonicalBytes (v : Value) : Type 0 where
-  pub depth : depth v ≤ 256
+  pub depth : depth v ≤ MAX_DEPTH
   pub in_range : IsInRange v
   pub valid : IsValid v
 
@@ -50,8 +52,8 @@ is_in bytes = contains (λ x y. slice_cmp nat_cmp (bytes x) (bytes y))
 -- the canonical bytes of the keys, and no others: the short ones and the long ones
 pub record HasBytes (set : KeySet) (ks : List Spelling) : Type 0 where
   pub sound : AreSound ks
-  pub short : (q : ArrayVec ℕ) → length q.items ≤ 16 → (is_in (λ x. x.items) set.short q ≡ true) ↔ IsOneOf q.items ks
-  pub long : (q : Vec ℕ Global) → 16 < length q.items → (is_in (λ x. x.items) set.long q ≡ true) ↔ IsOneOf q.items ks
+  pub short : (q : ArrayVec ℕ) → length q.items ≤ SHORT_KEY → (is_in (λ x. x.items) set.short q ≡ true) ↔ IsOneOf q.items ks
+  pub long : (q : Vec ℕ Global) → SHORT_KEY < length q.items → (is_in (λ x. x.items) set.long q ≡ true) ↔ IsOneOf q.items ks
 
 -- of a key's bytes: they are fresh, and in the set now; or they are those of one of the keys
 abbrev pub IsPut : List Spelling → Spelling → KeySet → Bool → Type 0

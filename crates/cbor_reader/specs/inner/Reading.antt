@@ -104,12 +104,20 @@ pub record HasCause (r : Rules) (b : Bounds) (fs : List Frame) (t bytes : List �
 abbrev pub IsMemory : Refusal → Type 0
 IsMemory f = (f.reason ≡ Memory) × (f.place ≡ f.read)
 
+-- Of the bytes taken of the item, all but at most the last byte have no complaint, and the item goes on behind them.
+pub record IsUndecided (r : Rules) (b : Bounds) (fs : List Frame) (t bytes : List ℕ) : Type 0 where
+  pub p : List ℕ
+  pub last : List ℕ
+  pub splits : bytes ≡ p ++ last
+  pub byte : length last ≤ 1
+  pub judged : IsJudged r (length t) (b.depth - length fs) p None
+
 -- The same item is refused, and so many bytes were taken as the refusal tells.
 pub record StopsItem (r : Rules) (b : Bounds) (fs : List Frame) (t x : List ℕ) (from to : Option (List ℕ)) (f : Refusal) : Type 0 where
   pub bytes : List ℕ
   pub taken : Extends x bytes from to
   pub read : f.read ≡ length (t ++ bytes)
-  pub why : (IsMemory f × IsReached b (t ++ bytes)) ⊎ HasCause r b fs t bytes to f
+  pub why : (IsMemory f × IsReached b (t ++ bytes) × IsUndecided r b fs t bytes) ⊎ HasCause r b fs t bytes to f
 
 -- some item is begun
 pub record HasBegun (r : Rules) (e : ItemEventsView) (kind : EventKind) : Type 0 where
@@ -264,6 +272,15 @@ pub record IsCutPayload (b : Bounds) (t : List ℕ) (n : ℕ) (bytes : List ℕ)
   pub place : f.place ≡ length (t ++ p)
   pub refused : IsFormRefusal b (t ++ bytes) to f
 
+-- of so many bytes these are a part, or with their last byte all
+pub record IsPart (n : ℕ) (bytes : List ℕ) : Type 0 where
+  pub p : List ℕ
+  pub last : List ℕ
+  pub splits : bytes ≡ p ++ last
+  pub byte : length last ≤ 1
+  pub short : length p < n
+  pub are_bytes : AreBytes p
+
 -- it is no text
 pub record IsNoText (b : Bounds) (t : List ℕ) (n : ℕ) (bytes : List ℕ) (f : Refusal) : Type 0 where
   pub count : length bytes ≡ n
@@ -276,7 +293,7 @@ pub record StopsPayload (b : Bounds) (t : List ℕ) (n : ℕ) (text : Bool) (fro
   pub bytes : List ℕ
   pub consumed : Consumes from to bytes
   pub read : f.read ≡ length (t ++ bytes)
-  pub why : (IsMemory f × IsReached b (t ++ bytes)) ⊎ IsCutPayload b t n bytes to f ⊎ ((text ≡ true) × IsNoText b t n bytes f)
+  pub why : (IsMemory f × IsReached b (t ++ bytes) × IsPart n bytes) ⊎ IsCutPayload b t n bytes to f ⊎ ((text ≡ true) × IsNoText b t n bytes f)
 
 abbrev pub AnswersPayload : Bool → ItemEventsView → ℕ → List ℕ → List ℕ → Option (List ℕ) → Option (List ℕ) → ItemEventsView → Result (Unit {0}) Refusal → Type 0
 AnswersPayload text e n old grown from to new result =

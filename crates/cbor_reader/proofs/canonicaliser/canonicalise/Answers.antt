@@ -1,5 +1,5 @@
 use Rattle.std.proofs.Common.{arith}
-use Rattle.cbor_reader.proofs.OnAnswers.{ok_item, err_item, ok_equal, ok_again}
+use Rattle.cbor_reader.proofs.OnAnswers.{ok_item, err_item, ok_equal, ok_again, err_reason}
 use Rattle.cbor_reader.proofs.canonicaliser.canonicalise.Goals as goal
 
 pub returns-clause-accepted : goal.returns-clause-accepted
@@ -16,6 +16,11 @@ pub returns-clause-equal : goal.returns-clause-equal
 returns-clause-equal c =
     let a = c.canonical_bytes.ensures in
     ok_equal c.args.limits.depth c.args.limits.bytes c.args.order c.args.bytes.now (λ v. v.items) c.canonical_bytes.result (omega arith) a
+
+pub returns-clause-reason : goal.returns-clause-reason
+returns-clause-reason c =
+    let a = c.canonical_bytes.ensures in
+    err_reason c.args.limits.depth c.args.limits.bytes c.args.order c.args.bytes.now (λ v. v.items) c.canonical_bytes.result a
 
 pub returns-clause-again : goal.returns-clause-again
 returns-clause-again c =

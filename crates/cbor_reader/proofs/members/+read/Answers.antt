@@ -131,7 +131,7 @@ read_array-returns-in-Err-push g t c = λ b fs t' x w i.
     let due = member-due (rules_of c.args.rules) b fs t' x w (count_of c.args.count) c.members.left c.members.items _ _ c.members.events h some in
     let y = t' ++ array_bytes w (count_of c.args.count) h.done in
     let m = rw c.in-Ok-Some.field-0-is at (c.in-Ok-Some.ensures b gs y due) in
-    array-memory (rules_of c.args.rules) b fs t' x w (count_of c.args.count) c.members.left c.members.items _ _ c.members.events h _ c.read_member.new.events _ c.no_memory.result m c.no_memory.ensures.taken (c.no_memory.ensures.memory, c.no_memory.ensures.place)
+    array-memory (rules_of c.args.rules) b fs t' x w (count_of c.args.count) c.members.left c.members.items _ _ c.members.events h _ c.read_member.new.events _ c.no_memory.result some m c.no_memory.ensures.taken (c.no_memory.ensures.memory, c.no_memory.ensures.place)
 
 pub read_array-returns-in-Err : goal.read_array-returns-in-Err
 read_array-returns-in-Err g t c = λ b fs t' x w i.

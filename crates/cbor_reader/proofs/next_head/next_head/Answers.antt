@@ -1,6 +1,6 @@
 use Rattle.cbor_reader.specs.inner.Rules.{rules_of}
 use Rattle.cbor_reader.proofs.Steps.{next-head, bad-head, no-head, stops, limits-as, told, not-ended, head-open}
-use Rattle.std.proofs.Common.{ap}
+use Rattle.std.proofs.Common.{ap, ◌∙◌}
 use Rattle.cbor_head.specs.Verdict.{refusal}
 use Rattle.cbor_reader.proofs.next_head.next_head.Goals as goal
 
@@ -19,7 +19,7 @@ pub returns-in-Some : goal.returns-in-Some
 returns-in-Some g c = λ b q t due a.
     bad-head (rules_of c.args.rules) b c.args.events.now c.next.new.self t q c.in-Ok-Some.event _ _ _ c.in-Some.reason due a
     (told b c.args.events.now c.next.new.self t q _ _ a c.in-Ok-Some.field-0 c.in-Ok-Some.event c.in-Ok-Some.field-0-is (c.in-Ok-Some.ensures.answers a.live t a.marks a.stands))
-    (limits-as _ _ c.next.ensures.limits) c.in-Some.ensures (ap (λ x. refusal c.in-Some.reason c.in-Ok-Some.event.place x) c.taken.ensures.taken)
+    (limits-as _ _ c.next.ensures.limits) c.in-Some.ensures (c.new.ensures ∙ ap (λ x. refusal c.in-Some.reason c.in-Ok-Some.event.place x) c.taken.ensures.taken)
 
 pub returns-in-Err : goal.returns-in-Err
 returns-in-Err g c = λ b q t due a.

@@ -35,5 +35,5 @@ returns-in-Err-check_text g c = λ b chunk m fs t a.
     let xs = drop c.len-from.result c.deref.result.now in
     chunk-no-text b _ t c.args.count c.args.into.now.items c.read_payload.new.into.items _ _ c.read_payload.new.events reads xs c.args.text _
     (ap (λ n. drop n c.deref.result.now) old ∙ ap (drop (length c.args.into.now.items)) c.deref.ensures.value) c.in-Err-check_text.ensures.checked.0 c.if-not-text.false
-    (ap (λ n. refusal InvalidText (n + c.in-Err-check_text.valid) c.taken.result) place ∙ ap (λ n. refusal InvalidText (length t + n) c.taken.result) c.in-Err-check_text.ensures.checked.1
+    (c.new.ensures ∙ ap (λ n. refusal InvalidText (n + c.in-Err-check_text.valid) c.taken.result) place ∙ ap (λ n. refusal InvalidText (length t + n) c.taken.result) c.in-Err-check_text.ensures.checked.1
     ∙ ap (refusal InvalidText (length t + utf8_valid_len xs)) c.taken.ensures.taken)
