@@ -10,4 +10,5 @@ pub mod NextKey
 pub mod Readers
 pub mod Reading
 pub mod Rules
+pub mod Sequence
 pub mod Size

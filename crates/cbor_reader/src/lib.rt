@@ -14,6 +14,8 @@ mod members;
 mod next_head;
 mod payload;
 mod rules;
+mod sequence;
+mod sequence_items;
 mod strict_reader;
 mod strings;
 #[cfg(test)]
@@ -26,5 +28,7 @@ mod tree_reader;
 
 pub use canonicaliser::canonicalise;
 pub use cbor_item::{KeyOrder, Tree};
+pub use sequence::Sequence;
+pub use sequence_items::SequenceItems;
 pub use strict_reader::read_strict;
 pub use tree_reader::read_tree;
