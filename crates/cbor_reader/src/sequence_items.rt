@@ -72,7 +72,7 @@ impl SequenceItems {
         }
         match read_tree(self.alloc, reader, self.limits) {
             Ok((tree, _)) => Some(Ok(tree)),
-            Err(refusal) => self.stop(refusal).map(Err),
+            Err(refusal) => self.stop(refusal),
         }
     }
 
@@ -109,15 +109,16 @@ impl SequenceItems {
         }
         match read_strict(self.alloc, reader, self.limits, order) {
             Ok(count) => Some(Ok(count)),
-            Err(refusal) => self.stop(refusal).map(Err),
+            Err(refusal) => self.stop(refusal),
         }
     }
 
-    // No item is read any more. An input that ends before one ends the sequence.
-    fn stop(&mut self, refusal: Refusal) -> Option<Refusal>
-        ensures none { result ≡ None → (refusal.reason ≡ reasons.Truncated) × (refusal.read ≡ 0) }
-        ensures some { IfSome result (λ f. (f ≡ refusal)
+    // No item is read any more: the refusal is answered, or none where the input ended before it.
+    fn stop<T>(&mut self, refusal: Refusal) -> Option<Result<T, Refusal>>
+        ensures end { result ≡ None → (refusal.reason ≡ reasons.Truncated) × (refusal.read ≡ 0) }
+        ensures refused { IfRefused result (λ f. (f ≡ refusal)
             × ¬ ((refusal.reason ≡ reasons.Truncated) × (refusal.read ≡ 0))) }
+        ensures last { is_last result ≡ true }
         ensures finished { (self.new.finished ≡ true) × (self.new.limits ≡ self.old.limits) }
     {
         self.finished = true;
@@ -127,7 +128,7 @@ impl SequenceItems {
                 read: 0,
                 ..
             } => None,
-            _ => Some(refusal),
+            _ => Some(Err(refusal)),
         }
     }
 }
