@@ -26,6 +26,7 @@ pub mod Payloads
 pub mod Scalars
 pub mod ReadItems
 pub mod Reasons
+pub mod SequenceLaws
 pub mod Sequences
 pub mod Sizes
 pub mod SpelledBytes

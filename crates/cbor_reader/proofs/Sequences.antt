@@ -73,7 +73,7 @@ module _ (d n : ℕ) (r : Rules) (input : List ℕ) where
       (nil_from_length input (omega (arith, none, b.0, ap length e, length-append p [], length-take n input)), omega (arith, none, b.0))
   break_before p (c ∷ rest) f e b (x, y) = let h : f.read ≡ length p + 1 = ap (λ (g : Refusal). g.read) b.2 in absurd (omega (arith, y, h))
 
-  verdict_before : (f : Refusal) → IsVerdict d n r input (refused f) → IsBeforeItem f → EndsBefore n input
+  pub verdict_before : (f : Refusal) → IsVerdict d n r input (refused f) → IsBeforeItem f → EndsBefore n input
   verdict_before f v h = elim v.decides [
     | inl x ↦
         let later : 0 < x.0.end = after_head v.item r 0 x.0 x.1.holds in

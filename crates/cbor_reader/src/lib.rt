@@ -16,6 +16,7 @@ mod payload;
 mod rules;
 mod sequence;
 mod sequence_items;
+pub mod sequence_laws;
 mod strict_reader;
 mod strings;
 #[cfg(test)]
