@@ -24,6 +24,8 @@ mod tests;
 #[cfg(test)]
 mod tests_keys;
 #[cfg(test)]
+mod tests_sequence;
+#[cfg(test)]
 mod tests_strict;
 mod tree_reader;
 

@@ -47,7 +47,7 @@ impl<R: Read> Sequence<R> {
             (R.remaining self.old.reader) (R.remaining self.new.reader) (view tree)) }
         ensures end { result ≡ None → self.old.items.finished ≡ false
             → IsAtEnd self.old.items.limits.bytes
-                (R.remaining self.old.reader) (R.remaining self.new.reader) }
+            (R.remaining self.old.reader) (R.remaining self.new.reader) }
         ensures refused { IfRefused result (IsRefused plain self.old.items.limits
             (R.remaining self.old.reader) (R.remaining self.new.reader)) }
         ensures limits { self.new.items.limits ≡ self.old.items.limits }
@@ -58,7 +58,7 @@ impl<R: Read> Sequence<R> {
         ensures run { IfGiven result (λ tree. (input : List ℕ) (given : List Given)
             → HasGiven self.old.items.limits (R.remaining self.old.reader) input given
             → GivesNext plain self.old.items.limits (R.remaining self.new.reader) input given
-                (λ s. view tree ≡ value_of s)) }
+            (λ s. view tree ≡ value_of s)) }
     {
         self.items.next(&mut self.reader)
     }
@@ -69,15 +69,15 @@ impl<R: Read> Sequence<R> {
     pub fn next_strict(&mut self, order: KeyOrder) -> Option<Result<u64, Refusal>>
         ensures item { IfGiven result (λ count. IfSome (R.remaining self.old.reader) (λ input.
             IsRead self.old.items.limits.depth self.old.items.limits.bytes
-                (strict order) input count)) }
+            (strict order) input count)) }
         ensures canonical { IfGiven result (λ count. IfSome (R.remaining self.old.reader) (λ input.
             IsCanonicalFront self.old.items.limits.depth self.old.items.limits.bytes
-                order input count)) }
+            order input count)) }
         ensures taken { IfGiven result (λ count.
             Loses count (R.remaining self.old.reader) (R.remaining self.new.reader)) }
         ensures end { result ≡ None → self.old.items.finished ≡ false
             → IsAtEnd self.old.items.limits.bytes
-                (R.remaining self.old.reader) (R.remaining self.new.reader) }
+            (R.remaining self.old.reader) (R.remaining self.new.reader) }
         ensures refused { IfRefused result (IsRefused (strict order) self.old.items.limits
             (R.remaining self.old.reader) (R.remaining self.new.reader)) }
         ensures limits { self.new.items.limits ≡ self.old.items.limits }
@@ -88,7 +88,7 @@ impl<R: Read> Sequence<R> {
         ensures run { IfGiven result (λ count. (input : List ℕ) (given : List Given)
             → HasGiven self.old.items.limits (R.remaining self.old.reader) input given
             → GivesNext (strict order) self.old.items.limits (R.remaining self.new.reader)
-                input given (λ s. count ≡ length (spell s))) }
+            input given (λ s. count ≡ length (spell s))) }
     {
         self.items.next_strict(&mut self.reader, order)
     }

@@ -65,7 +65,7 @@ impl SequenceItems {
         ensures run { IfGiven result (λ tree. (input : List ℕ) (given : List Given)
             → HasGiven self.old.limits (R.remaining reader.old) input given
             → GivesNext plain self.old.limits (R.remaining reader.new) input given
-                (λ s. view tree ≡ value_of s)) }
+            (λ s. view tree ≡ value_of s)) }
     {
         if self.finished {
             return None;
@@ -102,7 +102,7 @@ impl SequenceItems {
         ensures run { IfGiven result (λ count. (input : List ℕ) (given : List Given)
             → HasGiven self.old.limits (R.remaining reader.old) input given
             → GivesNext (strict order) self.old.limits (R.remaining reader.new) input given
-                (λ s. count ≡ length (spell s))) }
+            (λ s. count ≡ length (spell s))) }
     {
         if self.finished {
             return None;
