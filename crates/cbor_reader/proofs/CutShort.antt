@@ -9,7 +9,7 @@ use Rattle.cbor_head.specs.declared.reason.Refusal.{Refusal}
 use Rattle.cbor_reader.proofs.Judged.{Never}
 
 -- where the first n bytes of the input are p, and the item goes on behind p
-cut : (d n : ℕ) (r : Rules) (input : List ℕ) (s : Spelling) (p q : List ℕ) (f : Refusal) → IsItem d s (p ++ q) → Never (Complains r 0 s) → 0 < length q → take n input ≡ p
+pub cut : (d n : ℕ) (r : Rules) (input : List ℕ) (s : Spelling) (p q : List ℕ) (f : Refusal) → IsItem d s (p ++ q) → Never (Complains r 0 s) → 0 < length q → take n input ≡ p
     → IsFormError d n p [] f → IsVerdict d n r input (refused f)
 cut d n r input s p q f i none l e b = record {
   p = p;

@@ -28,6 +28,8 @@ pub mod Payloads
 pub mod ReadItems
 pub mod Reasons
 pub mod Scalars
+pub mod SequenceLaws
+pub mod Sequences
 pub mod Sizes
 pub mod SpelledBytes
 pub mod Steps

@@ -3,4 +3,5 @@ pub mod Headline
 pub mod inner
 pub mod Readers
 pub mod Refusals
+pub mod Sequence
 pub mod Size

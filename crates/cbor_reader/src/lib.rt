@@ -14,6 +14,9 @@ mod members;
 mod next_head;
 mod payload;
 mod rules;
+mod sequence;
+mod sequence_items;
+pub mod sequence_laws;
 mod strict_reader;
 mod strings;
 #[cfg(test)]
@@ -21,10 +24,14 @@ mod tests;
 #[cfg(test)]
 mod tests_keys;
 #[cfg(test)]
+mod tests_sequence;
+#[cfg(test)]
 mod tests_strict;
 mod tree_reader;
 
 pub use canonicaliser::canonicalise;
 pub use cbor_item::{KeyOrder, Tree};
+pub use sequence::Sequence;
+pub use sequence_items::SequenceItems;
 pub use strict_reader::read_strict;
 pub use tree_reader::read_tree;

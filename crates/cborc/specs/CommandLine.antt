@@ -1,5 +1,5 @@
 -- What the words of a command line ask for, by what clap found for each argument.
-use Rattle.std.specs.Prelude.{ℕ, ◌≡◌, ◌≤◌, ◌^◌, ◌⊎◌, List, Option, Some, None, IsSome, IsSomeAnd, true, false, codes, if◌then◌else◌, option_map, option_and_then}
+use Rattle.std.specs.Prelude.{ℕ, ◌≡◌, ◌≢◌, ◌≤◌, ◌^◌, ◌⊎◌, List, Option, Some, None, IsSome, IsSomeAnd, true, false, codes, if◌then◌else◌, option_map, option_and_then}
 use Rattle.std.specs.Str.{bytes_eq}
 use Rattle.std.specs.Str.Parse.{IsNumeral, digits_value, without_leading_plus}
 use Rattle.cbor_head.specs.declared.order.KeyOrder.{KeyOrder}
@@ -9,7 +9,7 @@ use Rattle.cborc.specs.declared.command_line.Accepted.{Accepted}
 use Rattle.cborc.specs.declared.command_line.Accepted.TheVariants.{Valid, Canonical}
 use Rattle.cborc.specs.declared.command_line.Options.{Options}
 use Rattle.cborc.specs.declared.command_line.Request.{Request}
-use Rattle.cborc.specs.declared.command_line.Request.TheVariants.{Check, Canon}
+use Rattle.cborc.specs.declared.command_line.Request.TheVariants.{Check, CheckSequence, Canon}
 
 -- the order of keys that a word names
 abbrev pub order_named : Text → Option KeyOrder
@@ -39,7 +39,11 @@ pub record IsOptionsOf (rows : List Row) (options : Options) : Type 0 where
 -- what a subcommand, of this name and given these, asks for
 abbrev pub AsksFor : Text × List Row → Request → Type 0
 AsksFor (name, rows) (Check source accepted options) =
-    (name ≡ codes "check") × (first_of (codes "FILE") rows ≡ Some source.now) × IsAcceptedOf rows (Some accepted) × IsOptionsOf rows options
+    (name ≡ codes "check") × (one_of (codes "seq") rows ≢ Some (codes "true"))
+    × (first_of (codes "FILE") rows ≡ Some source.now) × IsAcceptedOf rows (Some accepted) × IsOptionsOf rows options
+AsksFor (name, rows) (CheckSequence source accepted options) =
+    (name ≡ codes "check") × (one_of (codes "seq") rows ≢ Some (codes "false"))
+    × (first_of (codes "FILE") rows ≡ Some source.now) × IsAcceptedOf rows (Some accepted) × IsOptionsOf rows options
 AsksFor (name, rows) (Canon source target order options) =
     (name ≡ codes "canon") × (first_of (codes "IN") rows ≡ Some source.now) × (first_of (codes "OUT") rows ≡ Some target.now)
     × (order_given rows ≡ Some order) × IsOptionsOf rows options

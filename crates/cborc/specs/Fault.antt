@@ -17,9 +17,15 @@ reason_fault f _ = faults.Refused f
 abbrev pub refusal_fault : Refusal → Fault
 refusal_fault f = reason_fault f f.reason
 
+-- a fault, told of the item of this number of a sequence
+abbrev pub at_item : ℕ → Fault → Fault
+at_item index (faults.Refused f) = faults.RefusedItem index f
+at_item index fault = fault
+
 -- the status of a fault
 abbrev pub fault_status : Fault → Status
 fault_status (faults.Refused f) = Refused
+fault_status (faults.RefusedItem index f) = Refused
 fault_status faults.NotText = Misused
 fault_status _ = Failed
 

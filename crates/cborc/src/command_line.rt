@@ -21,6 +21,15 @@ pub enum Request<'a> {
         /// How the file is read.
         options: Options,
     },
+    /// Whether a file is a sequence of items.
+    CheckSequence {
+        /// The path of the file to read.
+        source: &'a str,
+        /// Which items are accepted.
+        accepted: Accepted,
+        /// How the file is read.
+        options: Options,
+    },
     /// The canonical bytes of the item in one file, written to another.
     Canon {
         /// The path of the file to read.
@@ -82,11 +91,22 @@ fn check_of<'a>(given: &ArgMatches<'a>) -> Option<Request<'a>>
     ensures value { IfSome result (AsksFor (codes "check", rows_of (found_of given.now))) }
     ensures some { IsComplete (codes "check", rows_of (found_of given.now)) → IsSome result }
 {
-    Some(Request::Check {
-        source: given.get_str("FILE")?,
-        accepted: accepted_of(given)?,
-        options: options_of(given)?,
-    })
+    let source = given.get_str("FILE")?;
+    let accepted = accepted_of(given)?;
+    let options = options_of(given)?;
+    if given.get_flag("seq") {
+        Some(Request::CheckSequence {
+            source,
+            accepted,
+            options,
+        })
+    } else {
+        Some(Request::Check {
+            source,
+            accepted,
+            options,
+        })
+    }
 }
 
 #[tactic(auto, using(crate::proofs::Rows::getters))]
@@ -151,10 +171,15 @@ fn check<'a>(alloc: Global) -> Result<Command<'a>, AllocError> {
         .long("strict")
         .action(ArgAction::SetTrue)
         .help("Accept canonical bytes alone");
+    let seq = Arg::new(alloc, "seq")
+        .long("seq")
+        .action(ArgAction::SetTrue)
+        .help("Read a sequence of items, with the limits on each");
     let command = Command::new(alloc, "check")
-        .about("Checks that FILE is one valid item")
-        .arg(file(alloc, "FILE", "The file to read: one item"))?
+        .about("Checks that FILE is one valid item, or a sequence of them")
+        .arg(file(alloc, "FILE", "The file to read"))?
         .arg(strict)?
+        .arg(seq)?
         .arg(order(alloc, "The order of map keys, with --strict"))?;
     with_options(alloc, command)
 }

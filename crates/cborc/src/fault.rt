@@ -2,7 +2,7 @@
 
 ghost use Rattle.std.specs.Prelude.{◌≡◌, ◌≢◌};
 ghost use Rattle.std.specs.IoError.{error_kind};
-ghost use Rattle.cborc.specs.Fault.{fault_status, refusal_fault};
+ghost use Rattle.cborc.specs.Fault.{fault_status, refusal_fault, at_item};
 
 use crate::folder::FileFault;
 use crate::status::Status;
@@ -17,6 +17,9 @@ pub enum Fault<'a> {
     /// The bytes of the input are refused.
     #[error("refused {0}")]
     Refused(Refusal),
+    /// An item of the sequence in the input is refused: its number, from 1, and why.
+    #[error("item {0} refused {1}")]
+    RefusedItem(usize, Refusal),
     /// A word of the command line is not UTF-8.
     #[error("the words are not UTF-8")]
     NotText,
@@ -44,8 +47,19 @@ impl<'a> Fault<'a> {
     {
         match self {
             Fault::Refused(_) => Status::Refused,
+            Fault::RefusedItem(_, _) => Status::Refused,
             Fault::NotText => Status::Misused,
             _ => Status::Failed,
+        }
+    }
+
+    /// The fault of an item of a sequence, of this number, that is refused.
+    pub fn of_item(index: usize, refusal: Refusal) -> Fault<'a>
+        ensures { result ≡ at_item index (refusal_fault refusal) }
+    {
+        match Fault::from(refusal) {
+            Fault::Refused(refusal) => Fault::RefusedItem(index, refusal),
+            fault => fault,
         }
     }
 

@@ -3,6 +3,7 @@
 
 mod canon;
 mod check;
+mod check_sequence;
 mod command_line;
 mod disk;
 mod fault;

@@ -6,6 +6,7 @@ ghost use Rattle.cborc.specs.Fault.{end_status, status_number};
 
 use crate::canon::canon;
 use crate::check::check;
+use crate::check_sequence::check_sequence;
 use crate::command_line::{self, Request};
 use crate::fault::Fault;
 use crate::folder::Folder;
@@ -59,6 +60,11 @@ fn answer<'a, F: Folder, O: Write>(
             accepted,
             options,
         } => check(alloc, files, out, source, *accepted, *options)?,
+        Request::CheckSequence {
+            source,
+            accepted,
+            options,
+        } => check_sequence(alloc, files, out, source, *accepted, *options)?,
         Request::Canon {
             source,
             target,

@@ -8,6 +8,7 @@ mod hex_text;
 mod items;
 mod refusals;
 mod scalars;
+mod sequences;
 mod strict;
 
 use crate::folder::{FileFault, Folder};

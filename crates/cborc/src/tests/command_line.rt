@@ -35,8 +35,16 @@ static CHECK: [&str; 10] = [
     "check --strict -- in",
 ];
 
+static CHECK_SEQUENCE: [&str; 5] = [
+    "check in --seq",
+    "check --seq in",
+    "check --seq -- in",
+    "check --strict --seq --hex in",
+    "check --order length --bytes 1 in --seq --depth 0 --strict",
+];
+
 // The words, and what standard error begins with.
-static FAULTS: [(&str, &str); 33] = [
+static FAULTS: [(&str, &str); 36] = [
     (
         "",
         "error: 'cborc' requires a subcommand but one was not provided\n",
@@ -146,6 +154,18 @@ static FAULTS: [(&str, &str); 33] = [
         "error: the argument '--strict' cannot be used multiple times\n",
     ),
     (
+        "check --seq=yes in",
+        "error: unexpected value 'yes' for '--seq' found; no more were expected\n",
+    ),
+    (
+        "check --seq --seq in",
+        "error: the argument '--seq' cannot be used multiple times\n",
+    ),
+    (
+        "canon --seq in out",
+        "error: unexpected argument '--seq' found\n",
+    ),
+    (
         "check --order in",
         "error: invalid value 'in' for '--order <order>'\n  [possible values: bytewise, length]\n",
     ),
@@ -165,7 +185,7 @@ Reads and writes deterministic CBOR (RFC 8949, section 4.2)
 Usage: cborc <COMMAND>
 
 Commands:
-  check  Checks that FILE is one valid item
+  check  Checks that FILE is one valid item, or a sequence of them
   canon  Writes the canonical bytes of the item in IN to OUT
   help   Print this message or the help of the given subcommand(s)
 
@@ -191,15 +211,16 @@ Options:
 ";
 
 const HELP_OF_CHECK: &str = "\
-Checks that FILE is one valid item
+Checks that FILE is one valid item, or a sequence of them
 
 Usage: cborc check [OPTIONS] <FILE>
 
 Arguments:
-  <FILE>  The file to read: one item
+  <FILE>  The file to read
 
 Options:
       --strict         Accept canonical bytes alone
+      --seq            Read a sequence of items, with the limits on each
       --order <order>  The order of map keys, with --strict [default: bytewise] [possible values: bytewise, length]
       --depth <count>  How deep arrays, maps and tags may nest, 0 to 256 [default: 256]
       --bytes <count>  How many bytes an item may have, 0 to 4611686018427387904 [default: 1048576]
@@ -230,6 +251,10 @@ fn takes_options_anywhere(rt: HostRuntime) -> Result<(), AllocError> {
     for &line in &CHECK {
         let ran = ran(rt.alloc(), line, zero(line))?;
         assert!(rt; ran.printed("accepted 1 bytes"), "{line}");
+    }
+    for &line in &CHECK_SEQUENCE {
+        let ran = ran(rt.alloc(), line, zero(line))?;
+        assert!(rt; ran.printed("accepted 1 items"), "{line}");
     }
     Ok(())
 }

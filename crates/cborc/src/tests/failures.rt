@@ -8,7 +8,7 @@ use std::io;
 use std::io::{ErrorKind, Write};
 
 // The words, the file, the status, and the line on standard error.
-static ROWS: [(&str, &[u8], u8, &str); 13] = [
+static ROWS: [(&str, &[u8], u8, &str); 16] = [
     ("canon absent out", b"\x00", 3, "cannot read absent"),
     ("canon --hex absent out", b"\x00", 3, "cannot read absent"),
     ("canon full out", b"\x00", 3, "out of memory"),
@@ -26,6 +26,9 @@ static ROWS: [(&str, &[u8], u8, &str); 13] = [
     ("check --strict absent", b"\x00", 3, "cannot read absent"),
     ("check --hex absent", b"\x00", 3, "cannot read absent"),
     ("check full", b"\x00", 3, "out of memory"),
+    ("check --seq absent", b"\x00", 3, "cannot read absent"),
+    ("check --seq full", b"\x00", 3, "out of memory"),
+    ("check --seq --hex in", b"0", 3, "not hex: in"),
     ("check --hex in", b"0", 3, "not hex: in"),
 ];
 
@@ -60,7 +63,7 @@ impl Write for Short {
 }
 
 // The words, the file, and the status.
-static STATUSES: [(&str, &[u8], u8); 8] = [
+static STATUSES: [(&str, &[u8], u8); 10] = [
     ("canon in out", b"\x00", 0),
     ("canon in out", b"\x00\x00", 1),
     ("canon in", b"\x00", 2),
@@ -69,6 +72,8 @@ static STATUSES: [(&str, &[u8], u8); 8] = [
     ("check in", b"\x00", 0),
     ("check --strict in", b"\x18\x00", 1),
     ("check absent", b"\x00", 3),
+    ("check --seq in", b"\x00\x00", 0),
+    ("check --seq in", b"\x00\xff", 1),
 ];
 
 #[test]
@@ -88,7 +93,7 @@ fn standard_error_fails(rt: HostRuntime) -> Result<(), AllocError> {
 }
 
 // The words, and how many bytes standard output takes of what they print of a file that holds 0.
-static PRINTED: [(&str, usize); 7] = [
+static PRINTED: [(&str, usize); 9] = [
     ("help", 0),
     ("help", 1),
     ("help", 20),
@@ -96,6 +101,8 @@ static PRINTED: [(&str, usize); 7] = [
     ("check in", 1),
     ("check in", 16),
     ("check --strict in", 0),
+    ("check --seq in", 0),
+    ("check --seq in", 16),
 ];
 
 #[test]

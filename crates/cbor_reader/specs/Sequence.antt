@@ -1,0 +1,113 @@
+-- Sequences of items (RFC 8742), and what was given of one.
+use Rattle.std.specs.Prelude.{ℕ, ◌≡◌, ◌≢◌, ◌<◌, ◌≤◌, ◌++◌, Bool, true, false, List, [], ◌∷◌, length, map, flat_map, Option, Some, None, Result, Ok, Err, IfSome, IfOk, IfErr}
+use Rattle.std.specs.List.{AllByRecursion}
+use Rattle.cbor_head.specs.Value.{Value}
+use Rattle.cbor_head.specs.Spelling.{Spelling, IsItem, spell}
+use Rattle.cbor_head.specs.Complaint.{Rules, Complaint, Complains}
+use Rattle.cbor_head.specs.Limits.{Bounds}
+use Rattle.cbor_head.specs.declared.reason.Reason.TheVariants.{Read, Memory}
+use Rattle.cbor_head.specs.declared.reason.Refusal.{Refusal}
+use Rattle.cbor_reader.specs.Readers.{IsReadAs, IsUnread, Loses}
+
+-- ---- sequences
+
+-- the bytes of a sequence: those of its items, joined (section 2)
+abbrev pub sequence_bytes : List Spelling → List ℕ
+sequence_bytes items = flat_map spell items
+
+-- an item that is accepted: well-formed within depth d, without complaint by the rules, and of at most n bytes
+pub record IsAccepted (d n : ℕ) (r : Rules) (item : Spelling) : Type 0 where
+  pub well_formed : IsItem d item (spell item)
+  pub sound : (c : Complaint) → Complains r 0 item c → ⊥
+  pub fits : length (spell item) ≤ n
+
+-- the input starts with a sequence of accepted items, and rest follows it
+pub record StartsWithItems (d n : ℕ) (r : Rules) (input : List ℕ) (items : List Spelling) (rest : List ℕ) : Type 0 where
+  pub each : AllByRecursion (IsAccepted d n r) items
+  pub bytes : sequence_bytes items ++ rest ≡ input
+
+-- the longest such sequence: any other is a beginning of it
+pub record IsLongestSequence (d n : ℕ) (r : Rules) (input : List ℕ) (items : List Spelling) (rest : List ℕ) : Type 0 where
+  pub starts : StartsWithItems d n r input items rest
+  pub longest : (others : List Spelling) (behind : List ℕ) → StartsWithItems d n r input others behind → (more : List Spelling) × (others ++ more ≡ items)
+
+-- ---- one call
+
+-- what contracts see of the items of a sequence: the limits on each, and whether no more are read
+pub record SequenceItemsView : Type 0 where
+  pub limits : Bounds
+  pub finished : Bool
+
+-- the reader, and the items that were read from it
+pub record SequenceView (R : Type 0) : Type 0 where
+  pub reader : R
+  pub items : SequenceItemsView
+
+-- of what is given, if something is
+abbrev pub IfGiven : {A : Type 0} → Option (Result A Refusal) → (A → Type 0) → Type 0
+IfGiven answer P = IfSome answer (λ given. IfOk given P)
+
+-- of the refusal, if there is one
+abbrev pub IfRefused : {A : Type 0} → Option (Result A Refusal) → (Refusal → Type 0) → Type 0
+IfRefused answer P = IfSome answer (λ given. IfErr given P)
+
+-- whether an answer is the last one: none, or a refusal
+abbrev pub is_last : {A : Type 0} → Option (Result A Refusal) → Bool
+is_last None = true
+is_last (Some (Ok given)) = false
+is_last (Some (Err f)) = true
+
+-- the item at the front of what the reader holds is accepted, with this value, and the reader lost just its bytes
+pub record IsTaken (r : Rules) (b : Bounds) (from to : Option (List ℕ)) (v : Value) : Type 0 where
+  pub count : ℕ
+  pub read : IfSome from (λ input. IsReadAs b.depth b.bytes r input v count)
+  pub taken : Loses count from to
+
+-- the input ends before an item's first byte, and the limit would let it have one
+abbrev pub EndsBefore : ℕ → List ℕ → Type 0
+EndsBefore n input = (input ≡ []) × (0 < n)
+
+-- the reader is at the input's end, and lost nothing
+pub record IsAtEnd (n : ℕ) (from to : Option (List ℕ)) : Type 0 where
+  pub ends : IfSome from (EndsBefore n)
+  pub taken : Loses 0 from to
+
+-- What the reader holds is refused by its verdict, which is not that it ended before an item; or what came in between is told.
+-- The reader lost as many bytes as the refusal tells.
+pub record IsRefused (r : Rules) (b : Bounds) (from to : Option (List ℕ)) (f : Refusal) : Type 0 where
+  pub unread : IfSome from (λ input. IsUnread b.depth b.bytes r input f)
+  pub begun : f.reason ≢ Read → f.reason ≢ Memory → IfSome from (λ input. ¬ EndsBefore b.bytes input)
+  pub taken : Loses f.read from to
+
+-- ---- a run of calls
+
+-- an item that a call gave, and the rules by which it did
+pub record Given : Type 0 where
+  pub rules : Rules
+  pub item : Spelling
+
+-- an item given by rules
+abbrev pub given_by : Rules → Spelling → Given
+given_by r s = record { rules = r; item = s }
+
+-- the items that were given
+abbrev pub items_of : List Given → List Spelling
+items_of given = map (λ g. g.item) given
+
+-- all were given by these rules
+abbrev pub AreGivenBy : Rules → List Given → Type 0
+AreGivenBy r given = AllByRecursion (λ g. g.rules ≡ r) given
+
+-- What a run of calls stands for: of the input that it began with these items were given, each accepted by its rules, and the
+-- reader holds what follows them.
+pub record HasGiven (b : Bounds) (held : Option (List ℕ)) (input : List ℕ) (given : List Given) : Type 0 where
+  pub rest : List ℕ
+  pub holds : held ≡ Some rest
+  pub each : AllByRecursion (λ g. IsAccepted b.depth b.bytes g.rules g.item) given
+  pub bytes : sequence_bytes (items_of given) ++ rest ≡ input
+
+-- the run goes on with an item of which this is told
+pub record GivesNext (r : Rules) (b : Bounds) (to : Option (List ℕ)) (input : List ℕ) (given : List Given) (Told : Spelling → Type 0) : Type 0 where
+  pub item : Spelling
+  pub told : Told item
+  pub run : HasGiven b to input (given ++ given_by r item ∷ [])

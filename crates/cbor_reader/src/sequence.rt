@@ -1,0 +1,95 @@
+//! A reader together with the items of the sequence that it is at.
+
+ghost use Rattle.std.specs.Prelude.{◌≡◌, ℕ, List, length, true, false, None, Some, IfSome};
+ghost use Rattle.cbor_head.specs.Complaint.{plain, strict};
+ghost use Rattle.cbor_head.specs.Spelling.{spell, value_of};
+ghost use Rattle.cbor_item.specs.View.{view};
+ghost use Rattle.cbor_reader.specs.Readers.{IsRead, IsCanonicalFront, Loses};
+ghost use Rattle.cbor_reader.specs.Sequence.{SequenceView, IfGiven, IfRefused, is_last, IsTaken, IsAtEnd, IsRefused, Given, HasGiven, GivesNext};
+
+use crate::sequence_items::SequenceItems;
+use cbor_head::{KeyOrder, Limits, Refusal};
+use cbor_item::Tree;
+use std::alloc::Global;
+use std::io::Read;
+use std::marker::Model;
+
+/// A sequence of items (RFC 8742) in a reader, as [`SequenceItems`] reads it.
+#[derive(Drop)]
+pub struct Sequence<R> {
+    reader: R,
+    items: SequenceItems,
+}
+
+impl<R> Model for Sequence<R> {
+    ghost Value = { SequenceView R };
+
+    ghost view = { λ s. record { reader = s.reader; items = s.items } };
+}
+
+impl<R: Read> Sequence<R> {
+    /// The sequence that the reader is at. Takes no memory, and reads nothing.
+    pub fn new(alloc: Global, reader: R, limits: Limits) -> Sequence<R>
+        ensures limits { result.items.limits ≡ limits }
+        ensures live { result.items.finished ≡ false }
+        ensures same { result.reader ≡ reader }
+    {
+        Sequence {
+            reader,
+            items: SequenceItems::new(alloc, limits),
+        }
+    }
+
+    /// The tree of the next item, as [`read_tree`](crate::read_tree) answers it; none where the
+    /// input ends before the item's first byte, and for ever after that or after a refusal.
+    pub fn next(&mut self) -> Option<Result<Tree, Refusal>>
+        ensures item { IfGiven result (λ tree. IsTaken plain self.old.items.limits
+            (R.remaining self.old.reader) (R.remaining self.new.reader) (view tree)) }
+        ensures end { result ≡ None → self.old.items.finished ≡ false
+            → IsAtEnd self.old.items.limits.bytes
+            (R.remaining self.old.reader) (R.remaining self.new.reader) }
+        ensures refused { IfRefused result (IsRefused plain self.old.items.limits
+            (R.remaining self.old.reader) (R.remaining self.new.reader)) }
+        ensures limits { self.new.items.limits ≡ self.old.items.limits }
+        ensures finished { self.new.items.finished ≡ is_last result }
+        ensures again { self.old.items.finished ≡ true
+            → (result ≡ None) × (self.new ≡ self.old) }
+        // Whatever was given of an input before.
+        ensures run { IfGiven result (λ tree. (input : List ℕ) (given : List Given)
+            → HasGiven self.old.items.limits (R.remaining self.old.reader) input given
+            → GivesNext plain self.old.items.limits (R.remaining self.new.reader) input given
+            (λ s. view tree ≡ value_of s)) }
+    {
+        self.items.next(&mut self.reader)
+    }
+
+    /// How many bytes the next item has, where they are its canonical bytes in this order, as
+    /// [`read_strict`](crate::read_strict) answers it; none where the input ends before the item's
+    /// first byte, and for ever after that or after a refusal.
+    pub fn next_strict(&mut self, order: KeyOrder) -> Option<Result<u64, Refusal>>
+        ensures item { IfGiven result (λ count. IfSome (R.remaining self.old.reader) (λ input.
+            IsRead self.old.items.limits.depth self.old.items.limits.bytes
+            (strict order) input count)) }
+        ensures canonical { IfGiven result (λ count. IfSome (R.remaining self.old.reader) (λ input.
+            IsCanonicalFront self.old.items.limits.depth self.old.items.limits.bytes
+            order input count)) }
+        ensures taken { IfGiven result (λ count.
+            Loses count (R.remaining self.old.reader) (R.remaining self.new.reader)) }
+        ensures end { result ≡ None → self.old.items.finished ≡ false
+            → IsAtEnd self.old.items.limits.bytes
+            (R.remaining self.old.reader) (R.remaining self.new.reader) }
+        ensures refused { IfRefused result (IsRefused (strict order) self.old.items.limits
+            (R.remaining self.old.reader) (R.remaining self.new.reader)) }
+        ensures limits { self.new.items.limits ≡ self.old.items.limits }
+        ensures finished { self.new.items.finished ≡ is_last result }
+        ensures again { self.old.items.finished ≡ true
+            → (result ≡ None) × (self.new ≡ self.old) }
+        // Whatever was given of an input before.
+        ensures run { IfGiven result (λ count. (input : List ℕ) (given : List Given)
+            → HasGiven self.old.items.limits (R.remaining self.old.reader) input given
+            → GivesNext (strict order) self.old.items.limits (R.remaining self.new.reader)
+            input given (λ s. count ≡ length (spell s))) }
+    {
+        self.items.next_strict(&mut self.reader, order)
+    }
+}

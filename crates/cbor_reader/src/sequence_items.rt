@@ -1,0 +1,134 @@
+//! The items of a sequence, from a reader that each call is handed.
+
+ghost use Rattle.std.specs.Prelude.{◌≡◌, ℕ, List, length, true, false, None, Some, IfSome};
+ghost use Rattle.cbor_head.specs.Complaint.{plain, strict};
+ghost use Rattle.cbor_head.specs.Spelling.{spell, value_of};
+ghost use Rattle.cbor_head.specs.declared.reason.Reason.TheVariants as reasons;
+ghost use Rattle.cbor_item.specs.View.{view};
+ghost use Rattle.cbor_reader.specs.Readers.{IsRead, IsCanonicalFront, Loses};
+ghost use Rattle.cbor_reader.specs.Sequence.{SequenceItemsView, IfGiven, IfRefused, is_last, IsTaken, IsAtEnd, IsRefused, Given, HasGiven, GivesNext};
+
+use crate::strict_reader::read_strict;
+use crate::tree_reader::read_tree;
+use cbor_head::{KeyOrder, Limits, Reason, Refusal};
+use cbor_item::Tree;
+use std::alloc::Global;
+use std::io::Read;
+use std::marker::Model;
+
+/// The items of a sequence (RFC 8742), one after another, from a reader that each call is handed.
+///
+/// The limits hold for each item by itself, and so do the places that refusals tell. Calls of
+/// [`next`](SequenceItems::next) and [`next_strict`](SequenceItems::next_strict) may be mixed: each
+/// judges what the reader then holds. Behind a refusal no item begins, so it is the last answer but
+/// `None`.
+#[derive(Drop)]
+pub struct SequenceItems {
+    alloc: Global,
+    limits: Limits,
+    finished: bool,
+}
+
+impl Model for SequenceItems {
+    ghost Value = { SequenceItemsView };
+
+    ghost view = { λ s. record { limits = s.limits; finished = s.finished } };
+}
+
+impl SequenceItems {
+    /// The items of a sequence of which none was read. Takes no memory.
+    pub fn new(alloc: Global, limits: Limits) -> SequenceItems
+        ensures limits { result.limits ≡ limits }
+        ensures live { result.finished ≡ false }
+    {
+        SequenceItems {
+            alloc,
+            limits,
+            finished: false,
+        }
+    }
+
+    /// The tree of the next item, as [`read_tree`] answers it; none where the input ends before the
+    /// item's first byte, and for ever after that or after a refusal. Then nothing is read.
+    pub fn next<R: Read>(&mut self, reader: &mut R) -> Option<Result<Tree, Refusal>>
+        ensures item { IfGiven result (λ tree. IsTaken plain self.old.limits
+            (R.remaining reader.old) (R.remaining reader.new) (view tree)) }
+        ensures end { result ≡ None → self.old.finished ≡ false
+            → IsAtEnd self.old.limits.bytes (R.remaining reader.old) (R.remaining reader.new) }
+        ensures refused { IfRefused result (IsRefused plain self.old.limits
+            (R.remaining reader.old) (R.remaining reader.new)) }
+        ensures limits { self.new.limits ≡ self.old.limits }
+        ensures finished { self.new.finished ≡ is_last result }
+        ensures again { self.old.finished ≡ true
+            → (result ≡ None) × (self.new ≡ self.old) × (reader.new ≡ reader.old) }
+        // Whatever was given of an input before.
+        ensures run { IfGiven result (λ tree. (input : List ℕ) (given : List Given)
+            → HasGiven self.old.limits (R.remaining reader.old) input given
+            → GivesNext plain self.old.limits (R.remaining reader.new) input given
+            (λ s. view tree ≡ value_of s)) }
+    {
+        if self.finished {
+            return None;
+        }
+        match read_tree(self.alloc, reader, self.limits) {
+            Ok((tree, _)) => Some(Ok(tree)),
+            Err(refusal) => self.stop(refusal),
+        }
+    }
+
+    /// How many bytes the next item has, where they are its canonical bytes in this order, as
+    /// [`read_strict`] answers it; none where the input ends before the item's first byte, and for
+    /// ever after that or after a refusal. Then nothing is read.
+    pub fn next_strict<R: Read>(
+        &mut self,
+        reader: &mut R,
+        order: KeyOrder,
+    ) -> Option<Result<u64, Refusal>>
+        ensures item { IfGiven result (λ count. IfSome (R.remaining reader.old) (λ input.
+            IsRead self.old.limits.depth self.old.limits.bytes (strict order) input count)) }
+        ensures canonical { IfGiven result (λ count. IfSome (R.remaining reader.old) (λ input.
+            IsCanonicalFront self.old.limits.depth self.old.limits.bytes order input count)) }
+        ensures taken { IfGiven result (λ count.
+            Loses count (R.remaining reader.old) (R.remaining reader.new)) }
+        ensures end { result ≡ None → self.old.finished ≡ false
+            → IsAtEnd self.old.limits.bytes (R.remaining reader.old) (R.remaining reader.new) }
+        ensures refused { IfRefused result (IsRefused (strict order) self.old.limits
+            (R.remaining reader.old) (R.remaining reader.new)) }
+        ensures limits { self.new.limits ≡ self.old.limits }
+        ensures finished { self.new.finished ≡ is_last result }
+        ensures again { self.old.finished ≡ true
+            → (result ≡ None) × (self.new ≡ self.old) × (reader.new ≡ reader.old) }
+        // Whatever was given of an input before.
+        ensures run { IfGiven result (λ count. (input : List ℕ) (given : List Given)
+            → HasGiven self.old.limits (R.remaining reader.old) input given
+            → GivesNext (strict order) self.old.limits (R.remaining reader.new) input given
+            (λ s. count ≡ length (spell s))) }
+    {
+        if self.finished {
+            return None;
+        }
+        match read_strict(self.alloc, reader, self.limits, order) {
+            Ok(count) => Some(Ok(count)),
+            Err(refusal) => self.stop(refusal),
+        }
+    }
+
+    // No item is read any more: the refusal is answered, or none where the input ended before it.
+    fn stop<T>(&mut self, refusal: Refusal) -> Option<Result<T, Refusal>>
+        ensures end { result ≡ None → (refusal.reason ≡ reasons.Truncated) × (refusal.read ≡ 0) }
+        ensures refused { IfRefused result (λ f. (f ≡ refusal)
+            × ¬ ((refusal.reason ≡ reasons.Truncated) × (refusal.read ≡ 0))) }
+        ensures last { is_last result ≡ true }
+        ensures finished { (self.new.finished ≡ true) × (self.new.limits ≡ self.old.limits) }
+    {
+        self.finished = true;
+        match refusal {
+            Refusal {
+                reason: Reason::Truncated,
+                read: 0,
+                ..
+            } => None,
+            _ => Some(Err(refusal)),
+        }
+    }
+}

@@ -1,0 +1,68 @@
+//! Laws of sequences: functions with nothing to run, whose contracts are the laws.
+
+ghost use Rattle.std.specs.Prelude.{◌≡◌, ◌≢◌, ◌↔◌, ◌<◌, ℕ, Option, Some, List, []};
+ghost use Rattle.cbor_head.specs.Canonical.{canonical};
+ghost use Rattle.cbor_head.specs.Complaint.{Rules, plain, strict};
+ghost use Rattle.cbor_head.specs.Limits.{Bounds};
+ghost use Rattle.cbor_head.specs.Spelling.{Spelling, IsItem, spell, value_of};
+ghost use Rattle.cbor_head.specs.Verdict.{IsVerdict, refused, refusal};
+ghost use Rattle.cbor_head.specs.declared.order.KeyOrder.{KeyOrder};
+ghost use Rattle.cbor_head.specs.declared.reason.Reason.TheVariants.{Memory, Read, Truncated, TooLong};
+ghost use Rattle.cbor_head.specs.declared.reason.Refusal.{Refusal};
+ghost use Rattle.cbor_reader.specs.Headline.{IsValidItem, BeginsWithCanonical};
+ghost use Rattle.cbor_reader.specs.Readers.{IsUnread};
+ghost use Rattle.cbor_reader.specs.Sequence.{sequence_bytes, IsAccepted, StartsWithItems, IsLongestSequence, EndsBefore, IsAtEnd, IsRefused, Given, items_of, AreGivenBy, HasGiven};
+
+/// The items of a sequence: by the plain rules the valid items within the limits; by the strict
+/// ones, in an order, the items within the limits that are spelled by their canonical bytes.
+pub fn items_of_sequences()
+    ensures plain { (d n : ℕ) (s : Spelling) → IsAccepted d n plain s ↔ IsValidItem d n (spell s) s }
+    ensures strict { (d n : ℕ) (o : KeyOrder) (s : Spelling) → IsItem d s (spell s)
+        → IsAccepted d n (strict o) s
+        ↔ (BeginsWithCanonical d n o (spell s) (value_of s) × (spell s ≡ canonical o (value_of s))) }
+{}
+
+/// A run begins with nothing given. Where one call gave all, the input starts with a sequence that
+/// is accepted by the rules of this call.
+pub fn runs_of_calls()
+    ensures starts { (b : Bounds) (input : List ℕ) → HasGiven b (Some input) input [] }
+    ensures by_one { (r : Rules) (b : Bounds) (held : Option (List ℕ)) (input : List ℕ)
+        (given : List Given) → (run : HasGiven b held input given) → AreGivenBy r given
+        → StartsWithItems b.depth b.bytes r input (items_of given) run.rest }
+{}
+
+/// The items that one call gave, until it gives none or refuses, are the longest sequence that the
+/// input starts with. Where none is left, whichever calls gave them, the input is the sequence;
+/// else the refusal, but of the reader or of memory, is the verdict on the rest.
+pub fn longest_sequences()
+    ensures ended { (r : Rules) (b : Bounds) (held to : Option (List ℕ)) (input : List ℕ)
+        (given : List Given) → HasGiven b held input given → AreGivenBy r given
+        → IsAtEnd b.bytes held to
+        → IsLongestSequence b.depth b.bytes r input (items_of given) [] }
+    ensures whole { (b : Bounds) (held to : Option (List ℕ)) (input : List ℕ)
+        (given : List Given) → HasGiven b held input given
+        → IsAtEnd b.bytes held to → sequence_bytes (items_of given) ≡ input }
+    ensures refused { (r : Rules) (b : Bounds) (held to : Option (List ℕ)) (input : List ℕ)
+        (given : List Given) (f : Refusal) → (run : HasGiven b held input given)
+        → AreGivenBy r given → IsRefused r b held to f → f.reason ≢ Read → f.reason ≢ Memory
+        → IsLongestSequence b.depth b.bytes r input (items_of given) run.rest }
+    ensures verdict { (r : Rules) (b : Bounds) (held to : Option (List ℕ)) (input : List ℕ)
+        (given : List Given) (f : Refusal) → (run : HasGiven b held input given)
+        → IsRefused r b held to f → f.reason ≢ Read → f.reason ≢ Memory
+        → IsVerdict b.depth b.bytes r run.rest (refused f) }
+    ensures one { (d n : ℕ) (r : Rules) (input rest behind : List ℕ) (items others : List Spelling)
+        → IsLongestSequence d n r input items rest → IsLongestSequence d n r input others behind
+        → (items ≡ others) × (rest ≡ behind) }
+{}
+
+/// An input ends before an item exactly where the verdict is that it is truncated at 0. With a byte
+/// limit of 0 the verdict on each input is that it is too long at 0, and no other refusal is told
+/// but of memory.
+pub fn inputs_without_an_item()
+    ensures ended { (d n : ℕ) (r : Rules) (input : List ℕ)
+        → EndsBefore n input ↔ IsVerdict d n r input (refused (refusal Truncated 0 0)) }
+    ensures no_bytes { (d : ℕ) (r : Rules) (input : List ℕ)
+        → IsVerdict d 0 r input (refused (refusal TooLong 0 0)) }
+    ensures told { (d : ℕ) (r : Rules) (input : List ℕ) (f : Refusal)
+        → IsUnread d 0 r input f → f.reason ≢ Memory → f ≡ refusal TooLong 0 0 }
+{}

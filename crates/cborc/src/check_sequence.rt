@@ -1,0 +1,107 @@
+//! `check --seq`: whether a file is a sequence of items (RFC 8742).
+
+ghost use Rattle.std.specs.Prelude.{◌≡◌, ◌+◌, ◌^◌, ◌<◌, ℕ, List, length, IfOk, IfErr, None, true, false};
+ghost use Rattle.cbor_reader.specs.Sequence.{IfGiven, IfRefused, is_last, IsAtEnd, IsRefused};
+ghost use Rattle.cborc.specs.Check.{rules_of};
+ghost use Rattle.cborc.specs.CheckSequence.{IsWholeSequence, IsRefusedAt, HasCounted};
+
+use crate::command_line::{Accepted, Options};
+use crate::fault::Fault;
+use crate::folder::Folder;
+use crate::input;
+use cbor_head::{Limits, Refusal};
+use cbor_reader::SequenceItems;
+use std::alloc::Global;
+use std::io::{Read, Write};
+
+/// Writes to `out` how many items the sequence has that the file `source` is.
+pub fn check_sequence<'a, F: Folder, O: Write>(
+    alloc: Global,
+    files: &mut F,
+    out: &mut O,
+    source: &'a str,
+    accepted: Accepted,
+    options: Options,
+) -> Result<(), Fault<'a>> {
+    let limits = options.limits;
+    let bytes = input::read(alloc, files, source, options)?;
+    match count_items(alloc, bytes.as_slice(), accepted, limits) {
+        Ok(count) => match writeln!(out, "accepted {count} items") {
+            Ok(()) => Ok(()),
+            Err(_) => Err(Fault::CannotPrint),
+        },
+        Err(RefusedItem { index, refusal }) => Err(Fault::of_item(index, refusal)),
+    }
+}
+
+// An item of a sequence, counted from 1, that is refused.
+#[derive(Clone, Copy)]
+struct RefusedItem {
+    index: usize,
+    refusal: Refusal,
+}
+
+// How many items the sequence has that all the bytes are; or which one is refused.
+fn count_items(
+    alloc: Global,
+    bytes: &[u8],
+    accepted: Accepted,
+    limits: Limits,
+) -> Result<usize, RefusedItem>
+    ensures whole { IfOk result
+        (IsWholeSequence limits.depth limits.bytes (rules_of accepted) bytes.now) }
+    ensures refused { IfErr result (λ item.
+        IsRefusedAt limits.depth limits.bytes (rules_of accepted) bytes.now item.index item.refusal) }
+{
+    has_a_length(bytes);
+    let mut rest = bytes;
+    let mut items = SequenceItems::new(alloc, limits);
+    let mut count = 0;
+    while let Some(answer) = skip_item(&mut items, &mut rest, accepted) {
+        match answer {
+            Ok(()) => count += 1,
+            Err(refusal) => {
+                return Err(RefusedItem {
+                    index: count + 1,
+                    refusal,
+                });
+            }
+        }
+    }
+    Ok(count)
+}
+
+// The length of a slice is a number, and so is one more.
+fn has_a_length(bytes: &[u8])
+    ensures { length bytes.now + 1 < 2 ^ 64 }
+{
+    let _ = bytes.len();
+}
+
+// Reads the next item, by the rules that are asked for, and drops it.
+fn skip_item<R: Read>(
+    items: &mut SequenceItems,
+    reader: &mut R,
+    accepted: Accepted,
+) -> Option<Result<(), Refusal>>
+    ensures item { IfGiven result (λ _. (input : List ℕ) (count : ℕ)
+        → HasCounted items.old.limits (rules_of accepted) (R.remaining reader.old) input count
+        → HasCounted items.old.limits (rules_of accepted) (R.remaining reader.new) input (count + 1)) }
+    ensures end { result ≡ None → items.old.finished ≡ false
+        → IsAtEnd items.old.limits.bytes (R.remaining reader.old) (R.remaining reader.new) }
+    ensures refused { IfRefused result (IsRefused (rules_of accepted) items.old.limits
+        (R.remaining reader.old) (R.remaining reader.new)) }
+    ensures limits { items.new.limits ≡ items.old.limits }
+    ensures finished { items.new.finished ≡ is_last result }
+{
+    match accepted {
+        Accepted::Valid => match items.next(reader)? {
+            Ok(_) => Some(Ok(())),
+            Err(refusal) => Some(Err(refusal)),
+        },
+        Accepted::Canonical(order) => match items.next_strict(reader, order)? {
+            Ok(_) => Some(Ok(())),
+            Err(refusal) => Some(Err(refusal)),
+        },
+    }
+}
