@@ -1,8 +1,8 @@
 pub mod Accepted
-pub mod Answering
 pub mod Arrays
 pub mod Building
 pub mod Chunks
+pub mod Comparing
 pub mod Composition
 pub mod CutShort
 pub mod Decisions
@@ -35,4 +35,5 @@ pub mod Valid
 pub mod ValidTexts
 pub mod WholeStrings
 pub mod WholeInputs
+pub mod WholeItems
 pub mod Within

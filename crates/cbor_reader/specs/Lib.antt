@@ -1,5 +1,6 @@
 pub mod Building
 pub mod Canonicalise
+pub mod Comparing
 pub mod Encoding
 pub mod Frame
 pub mod Headline
@@ -11,3 +12,4 @@ pub mod Readers
 pub mod Reading
 pub mod Rules
 pub mod Size
+pub mod WholeItem
