@@ -19,10 +19,6 @@ mod strict_reader;
 mod strings;
 #[cfg(test)]
 mod tests;
-#[cfg(test)]
-mod tests_keys;
-#[cfg(test)]
-mod tests_strict;
 mod tree_reader;
 mod whole_item;
 

@@ -4,6 +4,7 @@
 mod canon;
 mod check;
 mod command_line;
+mod compare;
 mod disk;
 mod fault;
 mod folder;
