@@ -1,8 +1,8 @@
 pub mod Accepted
-pub mod Answering
 pub mod Arrays
 pub mod Building
 pub mod Chunks
+pub mod Comparing
 pub mod Composition
 pub mod CutShort
 pub mod Decisions
@@ -39,5 +39,6 @@ pub mod Undecided
 pub mod Valid
 pub mod ValidTexts
 pub mod WholeInputs
+pub mod WholeItems
 pub mod WholeStrings
 pub mod Within

@@ -10,10 +10,10 @@ use Rattle.cbor_head.specs.declared.reason.Refusal.{Refusal}
 use Rattle.cbor_head.proofs.OneVerdict.{one_verdict}
 use Rattle.cbor_reader.specs.Canonicalise.{IsCanonicalOf, IsRefusal, of_verdict, trailing, canonical_too_long, of_memory}
 
-one_item : (d n : ℕ) (input : List ℕ) (s t : Spelling) → IsVerdict d n plain input (accepted s) → IsVerdict d n plain input (accepted t) → s ≡ t
+pub one_item : (d n : ℕ) (input : List ℕ) (s t : Spelling) → IsVerdict d n plain input (accepted s) → IsVerdict d n plain input (accepted t) → s ≡ t
 one_item d n input s t v w = let e = one_verdict d n plain input (accepted s) (accepted t) v w in cc e
 
-no_both : (d n : ℕ) (input : List ℕ) (s : Spelling) (f : Refusal) → IsVerdict d n plain input (accepted s) → IsVerdict d n plain input (refused f) → ⊥
+pub no_both : (d n : ℕ) (input : List ℕ) (s : Spelling) (f : Refusal) → IsVerdict d n plain input (accepted s) → IsVerdict d n plain input (refused f) → ⊥
 no_both d n input s f v w = let e = one_verdict d n plain input (accepted s) (refused f) v w in cc e
 
 one_refused : (d n : ℕ) (input : List ℕ) (f g : Refusal) → IsVerdict d n plain input (refused f) → IsVerdict d n plain input (refused g) → f ≡ g

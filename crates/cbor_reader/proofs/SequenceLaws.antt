@@ -101,7 +101,7 @@ module _ (b : Bounds) (held to : Option (List ℕ)) (input : List ℕ) (given : 
   verdict_only : (r : Rules) (rest : List ℕ) (f : Refusal) → IsUnread b.depth b.bytes r rest f → f.reason ≢ Read → f.reason ≢ Memory → IsVerdict b.depth b.bytes r rest (refused f)
   verdict_only r rest f (of_verdict w) x y = w
   verdict_only r rest f (of_reader p l m is w) x y = absurd (x (ap (λ (g : Refusal). g.reason) is))
-  verdict_only r rest f (of_memory p l m is) x y = absurd (y (ap (λ (g : Refusal). g.reason) is))
+  verdict_only r rest f (of_memory p l m is free) x y = absurd (y (ap (λ (g : Refusal). g.reason) is))
 
   pub verdict_on_rest : (r : Rules) (f : Refusal) → IsRefused r b held to f → f.reason ≢ Read → f.reason ≢ Memory → IsVerdict b.depth b.bytes r run.rest (refused f)
   verdict_on_rest r f u x y = verdict_only r run.rest f (subst (λ (x : Option (List ℕ)). IfSome x (λ rest. IsUnread b.depth b.bytes r rest f)) run.holds u.unread) x y
@@ -128,4 +128,4 @@ no_bytes_told d r input f (of_reader p l m is w) y =
   where
     apart : Truncated ≡ TooLong → ⊥
     apart e = cc e
-no_bytes_told d r input f (of_memory p l m is) y = absurd (y (ap (λ (g : Refusal). g.reason) is))
+no_bytes_told d r input f (of_memory p l m is free) y = absurd (y (ap (λ (g : Refusal). g.reason) is))

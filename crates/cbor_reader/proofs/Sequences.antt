@@ -88,7 +88,7 @@ module _ (d n : ℕ) (r : Rules) (input : List ℕ) where
     where
       apart : Truncated ≡ Read → ⊥
       apart e = cc e
-  ends_so f (of_memory p l m is) h = absurd (apart (sym h.0 ∙ ap (λ (g : Refusal). g.reason) is))
+  ends_so f (of_memory p l m is free) h = absurd (apart (sym h.0 ∙ ap (λ (g : Refusal). g.reason) is))
     where
       apart : Truncated ≡ Memory → ⊥
       apart e = cc e
@@ -101,7 +101,7 @@ module _ (d n : ℕ) (r : Rules) (input : List ℕ) where
       given : {a b : Refusal} → refused a ≡ refused b → a ≡ b
       given e = cc e
   begun_so f (of_reader p l m is w) h x y = absurd (x (ap (λ (g : Refusal). g.reason) is))
-  begun_so f (of_memory p l m is) h x y = absurd (y (ap (λ (g : Refusal). g.reason) is))
+  begun_so f (of_memory p l m is free) h x y = absurd (y (ap (λ (g : Refusal). g.reason) is))
 
 -- ---- what a call answers
 

@@ -1,7 +1,9 @@
 pub mod Canonicalise
+pub mod Comparing
 pub mod Headline
 pub mod inner
 pub mod Readers
 pub mod Refusals
 pub mod Sequence
 pub mod Size
+pub mod WholeItem

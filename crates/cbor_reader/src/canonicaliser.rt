@@ -2,18 +2,15 @@
 
 ghost use Rattle.std.specs.Prelude.{◌≡◌, ◌≢◌, ◌<◌, ◌≤◌, ℕ, List, length, IfOk, IfErr, MatchResult};
 ghost use Rattle.cbor_head.specs.Canonical.{canonical};
-ghost use Rattle.cbor_head.specs.Complaint.{plain};
 ghost use Rattle.cbor_head.specs.declared.order.KeyOrder.{KeyOrder};
-ghost use Rattle.cbor_reader.specs.Readers.{IsUnread};
 ghost use Rattle.cbor_head.specs.Spelling.{Spelling, value_of};
 ghost use Rattle.cbor_head.specs.declared.reason.Reason.TheVariants as reasons;
 ghost use Rattle.cbor_reader.specs.Canonicalise.{IsCanonicalOf, IsRefusal, TellsItsValue};
 ghost use Rattle.cbor_reader.specs.Headline.{IsValidItem};
 ghost use Rattle.cbor_reader.specs.Refusals.{IsCanonicaliserReason};
 
-use crate::tree_reader::read_tree;
+use crate::whole_item::encoded_item;
 use cbor_head::{KeyOrder, Limits, Reason, Refusal};
-use cbor_item::encode;
 use std::alloc::Global;
 
 /// The canonical bytes, in this order, of the one well-formed, valid item that the whole input is,
@@ -57,30 +54,9 @@ fn canonical_bytes(
         (λ v. IsCanonicalOf limits.depth limits.bytes order bytes.now v.items)
         (λ f. IsRefusal limits.depth limits.bytes order bytes.now f) }
 {
-    let mut rest = bytes;
-    let (tree, size) = match read_tree(alloc, &mut rest, limits) {
-        Ok(answer) => answer,
-        Err(refusal) => return Err(of_slice(refusal)),
-    };
-    if !rest.is_empty() {
-        return Err(Refusal::at(Reason::Trailing, size));
-    }
-    let Ok(canonical) = encode(alloc, &tree, order) else {
-        return Err(Refusal::at(Reason::Memory, size));
-    };
+    let canonical = encoded_item(alloc, bytes, limits, order)?;
     if canonical.len() as u64 > limits.bytes() {
-        return Err(Refusal::at(Reason::CanonicalTooLong, size));
+        return Err(Refusal::at(Reason::CanonicalTooLong, bytes.len() as u64));
     }
     Ok(canonical)
-}
-
-// A refusal by a reader that does not fail: a slice doesn't, though `Read` can't say so.
-fn of_slice(refusal: Refusal) -> Refusal
-    ensures { (d n : ℕ) (o : KeyOrder) (input : List ℕ)
-        → IsUnread d n plain input refusal → IsRefusal d n o input result }
-{
-    match refusal.reason {
-        Reason::Read => Refusal::at(Reason::Memory, refusal.read),
-        _ => refusal,
-    }
 }

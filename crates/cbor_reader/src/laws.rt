@@ -10,9 +10,12 @@ ghost use Rattle.cbor_head.specs.Verdict.{IsVerdict, accepted, refused, refusal}
 ghost use Rattle.cbor_head.specs.declared.order.KeyOrder.{KeyOrder};
 ghost use Rattle.cbor_head.specs.declared.reason.Refusal.{Refusal};
 ghost use Rattle.cbor_head.specs.declared.reason.Reason.TheVariants.{Memory, Truncated, TooLong};
+ghost use Rattle.cbor_head.specs.declared.reason.Reason.TheVariants.{CanonicalTooLong};
 ghost use Rattle.cbor_reader.specs.Canonicalise.{IsCanonicalOf, IsRefusal};
+ghost use Rattle.cbor_reader.specs.Comparing.{MeanTheSame};
 ghost use Rattle.cbor_reader.specs.Headline.{IsValidItem, BeginsWithCanonical, StandsWithin, HasValidTexts};
 ghost use Rattle.cbor_reader.specs.Size.{size};
+ghost use Rattle.cbor_reader.specs.WholeItem.{IsWholeItem, IsItemRefusal};
 
 /// An input has one answer but where memory is refused.
 pub fn one_answer()
@@ -130,4 +133,33 @@ pub fn refusals_stand_within_the_input()
         → IsVerdict d n r input (refused f) → StandsWithin n input f }
     ensures answer { (d n : ℕ) (o : KeyOrder) (input : List ℕ) (f : Refusal)
         → IsRefusal d n o input f → StandsWithin n input f }
+{}
+
+/// On the inputs that are whole valid items within the limits, to mean the same is an equivalence.
+pub fn meaning_is_an_equivalence()
+    ensures reflexive { (d n : ℕ) (x : List ℕ) → IsWholeItem d n x → MeanTheSame d n x x }
+    ensures symmetric { (d n : ℕ) (x y : List ℕ) → MeanTheSame d n x y → MeanTheSame d n y x }
+    ensures transitive { (d n : ℕ) (x y z : List ℕ)
+        → MeanTheSame d n x y → MeanTheSame d n y z → MeanTheSame d n x z }
+{}
+
+/// Two inputs whose canonical bytes are within the limit too mean the same exactly if these are
+/// equal, in whichever order of keys.
+pub fn same_meaning_of_equal_answers()
+    ensures { (d n : ℕ) (o : KeyOrder) (x y a b : List ℕ) → n ≤ 2 ^ 62
+        → IsCanonicalOf d n o x a → IsCanonicalOf d n o y b → MeanTheSame d n x y ↔ (a ≡ b) }
+{}
+
+/// An input is a whole valid item, or has one refusal, but where memory is refused. Its canonical
+/// bytes are refused as it is, or where it is such an item and they are longer than the limit.
+pub fn items_and_their_refusals()
+    ensures one { (d n : ℕ) (input : List ℕ) (f g : Refusal)
+        → IsItemRefusal d n input f → IsItemRefusal d n input g
+        → f.reason ≢ Memory → g.reason ≢ Memory → f ≡ g }
+    ensures either { (d n : ℕ) (input : List ℕ) (f : Refusal)
+        → IsWholeItem d n input → IsItemRefusal d n input f → f.reason ≡ Memory }
+    ensures refused { (d n : ℕ) (o : KeyOrder) (input : List ℕ) (f : Refusal)
+        → IsItemRefusal d n input f → IsRefusal d n o input f }
+    ensures canonical { (d n : ℕ) (o : KeyOrder) (input : List ℕ) (f : Refusal)
+        → IsRefusal d n o input f → f.reason ≢ CanonicalTooLong → IsItemRefusal d n input f }
 {}

@@ -5,6 +5,7 @@ mod built_array;
 mod built_item;
 mod built_map;
 mod canonicaliser;
+mod comparison;
 mod encoding;
 mod front;
 mod key_set;
@@ -21,16 +22,12 @@ mod strict_reader;
 mod strings;
 #[cfg(test)]
 mod tests;
-#[cfg(test)]
-mod tests_keys;
-#[cfg(test)]
-mod tests_sequence;
-#[cfg(test)]
-mod tests_strict;
 mod tree_reader;
+mod whole_item;
 
 pub use canonicaliser::canonicalise;
 pub use cbor_item::{KeyOrder, Tree};
+pub use comparison::{Side, same_meaning};
 pub use sequence::Sequence;
 pub use sequence_items::SequenceItems;
 pub use strict_reader::read_strict;

@@ -9,7 +9,7 @@ use Rattle.cborc.specs.declared.command_line.Accepted.{Accepted}
 use Rattle.cborc.specs.declared.command_line.Accepted.TheVariants.{Valid, Canonical}
 use Rattle.cborc.specs.declared.command_line.Options.{Options}
 use Rattle.cborc.specs.declared.command_line.Request.{Request}
-use Rattle.cborc.specs.declared.command_line.Request.TheVariants.{Check, CheckSequence, Canon}
+use Rattle.cborc.specs.declared.command_line.Request.TheVariants.{Check, CheckSequence, Canon, Compare}
 
 -- the order of keys that a word names
 abbrev pub order_named : Text → Option KeyOrder
@@ -47,6 +47,8 @@ AsksFor (name, rows) (CheckSequence source accepted options) =
 AsksFor (name, rows) (Canon source target order options) =
     (name ≡ codes "canon") × (first_of (codes "IN") rows ≡ Some source.now) × (first_of (codes "OUT") rows ≡ Some target.now)
     × (order_given rows ≡ Some order) × IsOptionsOf rows options
+AsksFor (name, rows) (Compare left right options) =
+    (name ≡ codes "compare") × (first_of (codes "A") rows ≡ Some left.now) × (first_of (codes "B") rows ≡ Some right.now) × IsOptionsOf rows options
 
 -- the text is a number, at most so much
 abbrev pub IsNumber : ℕ → Text → Type 0
@@ -61,7 +63,12 @@ abbrev pub HasFiles : Text × List Row → Type 0
 HasFiles (name, rows) =
     ((name ≡ codes "check") × IsSome (first_of (codes "FILE") rows))
     ⊎ ((name ≡ codes "canon") × IsSome (first_of (codes "IN") rows) × IsSome (first_of (codes "OUT") rows))
+    ⊎ ((name ≡ codes "compare") × IsSome (first_of (codes "A") rows) × IsSome (first_of (codes "B") rows))
+
+-- so is the order of keys, where a subcommand of this name takes one
+abbrev pub HasOrder : Text × List Row → Type 0
+HasOrder (name, rows) = (name ≡ codes "check") ⊎ (name ≡ codes "canon") → IsSome (order_given rows)
 
 -- all that it asks for
 abbrev pub IsComplete : Text × List Row → Type 0
-IsComplete (name, rows) = HasFiles (name, rows) × IsSome (order_given rows) × HasLimits rows
+IsComplete (name, rows) = HasFiles (name, rows) × HasOrder (name, rows) × HasLimits rows

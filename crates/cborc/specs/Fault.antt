@@ -3,6 +3,8 @@ use Rattle.std.specs.Prelude.{ℕ, Result, Ok, Err}
 use Rattle.cbor_head.specs.declared.reason.Reason.{Reason}
 use Rattle.cbor_head.specs.declared.reason.Reason.TheVariants as reasons
 use Rattle.cbor_head.specs.declared.reason.Refusal.{Refusal}
+use Rattle.cbor_reader.specs.declared.comparison.Side.{Side}
+use Rattle.cbor_reader.specs.declared.comparison.Side.TheVariants.{Left, Right}
 use Rattle.cborc.specs.declared.fault.Fault.{Fault}
 use Rattle.cborc.specs.declared.fault.Fault.TheVariants as faults
 use Rattle.cborc.specs.declared.status.Status.{Status}
@@ -22,10 +24,22 @@ abbrev pub at_item : ℕ → Fault → Fault
 at_item index (faults.Refused f) = faults.RefusedItem index f
 at_item index fault = fault
 
+-- the fault of a side's refusal for this reason
+abbrev pub side_reason_fault : Side → Refusal → Reason → Fault
+side_reason_fault side f reasons.Memory = faults.Memory
+side_reason_fault Left f _ = faults.LeftRefused f
+side_reason_fault Right f _ = faults.RightRefused f
+
+-- the fault of a side's refusal
+abbrev pub side_fault : Side → Refusal → Fault
+side_fault side f = side_reason_fault side f f.reason
+
 -- the status of a fault
 abbrev pub fault_status : Fault → Status
 fault_status (faults.Refused f) = Refused
 fault_status (faults.RefusedItem index f) = Refused
+fault_status (faults.LeftRefused f) = Refused
+fault_status (faults.RightRefused f) = Refused
 fault_status faults.NotText = Misused
 fault_status _ = Failed
 

@@ -41,6 +41,15 @@ pub enum Request<'a> {
         /// How the file is read.
         options: Options,
     },
+    /// Whether the items in two files have the same value.
+    Compare {
+        /// The path of the first file to read.
+        left: &'a str,
+        /// The path of the second file to read.
+        right: &'a str,
+        /// How both files are read.
+        options: Options,
+    },
 }
 
 /// Which items `check` accepts.
@@ -82,6 +91,7 @@ fn request_of<'a>(matches: &ArgMatches<'a>) -> Option<Request<'a>>
     match matches.subcommand()? {
         ("check", given) => check_of(given),
         ("canon", given) => canon_of(given),
+        ("compare", given) => compare_of(given),
         _ => None,
     }
 }
@@ -118,6 +128,18 @@ fn canon_of<'a>(given: &ArgMatches<'a>) -> Option<Request<'a>>
         source: given.get_str("IN")?,
         target: given.get_str("OUT")?,
         order: order_of(given.get_str("order")?)?,
+        options: options_of(given)?,
+    })
+}
+
+#[tactic(auto, using(crate::proofs::Rows::getters))]
+fn compare_of<'a>(given: &ArgMatches<'a>) -> Option<Request<'a>>
+    ensures value { IfSome result (AsksFor (codes "compare", rows_of (found_of given.now))) }
+    ensures some { IsComplete (codes "compare", rows_of (found_of given.now)) → IsSome result }
+{
+    Some(Request::Compare {
+        left: given.get_str("A")?,
+        right: given.get_str("B")?,
         options: options_of(given)?,
     })
 }
@@ -163,7 +185,8 @@ fn command<'a>(alloc: Global) -> Result<Command<'a>, AllocError> {
         .about("Reads and writes deterministic CBOR (RFC 8949, section 4.2)")
         .subcommand_required(true)
         .subcommand(check(alloc)?)?
-        .subcommand(canon(alloc)?)
+        .subcommand(canon(alloc)?)?
+        .subcommand(compare(alloc)?)
 }
 
 fn check<'a>(alloc: Global) -> Result<Command<'a>, AllocError> {
@@ -190,6 +213,14 @@ fn canon<'a>(alloc: Global) -> Result<Command<'a>, AllocError> {
         .arg(file(alloc, "IN", "The file to read: one item"))?
         .arg(file(alloc, "OUT", "The file to write"))?
         .arg(order(alloc, "The order of map keys"))?;
+    with_options(alloc, command)
+}
+
+fn compare<'a>(alloc: Global) -> Result<Command<'a>, AllocError> {
+    let command = Command::new(alloc, "compare")
+        .about("Says whether the items in A and B have the same value")
+        .arg(file(alloc, "A", "The first file to read: one item"))?
+        .arg(file(alloc, "B", "The second file to read: one item"))?;
     with_options(alloc, command)
 }
 

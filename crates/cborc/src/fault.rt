@@ -2,11 +2,12 @@
 
 ghost use Rattle.std.specs.Prelude.{◌≡◌, ◌≢◌};
 ghost use Rattle.std.specs.IoError.{error_kind};
-ghost use Rattle.cborc.specs.Fault.{fault_status, refusal_fault, at_item};
+ghost use Rattle.cborc.specs.Fault.{fault_status, refusal_fault, at_item, side_fault};
 
 use crate::folder::FileFault;
 use crate::status::Status;
 use cbor_head::{Reason, Refusal};
+use cbor_reader::Side;
 use hex::FromHexError;
 use std::io::{self, ErrorKind};
 use thiserror::Error;
@@ -20,6 +21,12 @@ pub enum Fault<'a> {
     /// An item of the sequence in the input is refused: its number, from 1, and why.
     #[error("item {0} refused {1}")]
     RefusedItem(usize, Refusal),
+    /// The bytes of the first of two inputs are refused.
+    #[error("left refused {0}")]
+    LeftRefused(Refusal),
+    /// The bytes of the second of two inputs are refused.
+    #[error("right refused {0}")]
+    RightRefused(Refusal),
     /// A word of the command line is not UTF-8.
     #[error("the words are not UTF-8")]
     NotText,
@@ -46,8 +53,10 @@ impl<'a> Fault<'a> {
         ensures { result ≡ fault_status self.now }
     {
         match self {
-            Fault::Refused(_) => Status::Refused,
-            Fault::RefusedItem(_, _) => Status::Refused,
+            Fault::Refused(_)
+            | Fault::RefusedItem(_, _)
+            | Fault::LeftRefused(_)
+            | Fault::RightRefused(_) => Status::Refused,
             Fault::NotText => Status::Misused,
             _ => Status::Failed,
         }
@@ -115,6 +124,18 @@ impl<'a> From<Refusal> for Fault<'a> {
         match refusal.reason {
             Reason::Memory => Fault::Memory,
             _ => Fault::Refused(refusal),
+        }
+    }
+}
+
+impl<'a> From<(Side, Refusal)> for Fault<'a> {
+    ghost from_gives = { λ e fault. fault ≡ side_fault e.0 e.1 };
+
+    fn from((side, refusal): (Side, Refusal)) -> Fault<'a> {
+        match (refusal.reason, side) {
+            (Reason::Memory, _) => Fault::Memory,
+            (_, Side::Left) => Fault::LeftRefused(refusal),
+            (_, Side::Right) => Fault::RightRefused(refusal),
         }
     }
 }

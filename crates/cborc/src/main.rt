@@ -5,6 +5,7 @@ mod canon;
 mod check;
 mod check_sequence;
 mod command_line;
+mod compare;
 mod disk;
 mod fault;
 mod folder;

@@ -8,6 +8,7 @@ use crate::canon::canon;
 use crate::check::check;
 use crate::check_sequence::check_sequence;
 use crate::command_line::{self, Request};
+use crate::compare::compare;
 use crate::fault::Fault;
 use crate::folder::Folder;
 use crate::status::Status;
@@ -16,7 +17,7 @@ use std::alloc::Global;
 use std::io::Write;
 
 /// Does what the words ask for, the program's name first, and answers the status with which the
-/// program ends: 0 accepted, 1 refused, 2 a fault in the words, 3 a fault of a file, its hex, the
+/// program ends: 0 accepted or same, 1 refused or different, 2 a fault in the words, 3 a fault of a file, its hex, the
 /// output or memory. Why it is not 0 stands on `err`, whose own faults change no status.
 pub fn run<F: Folder, O: Write, E: Write>(
     alloc: Global,
@@ -71,6 +72,11 @@ fn answer<'a, F: Folder, O: Write>(
             order,
             options,
         } => canon(alloc, files, source, target, *order, *options)?,
+        Request::Compare {
+            left,
+            right,
+            options,
+        } => return compare(alloc, files, out, left, right, options),
     }
     Ok(Status::Accepted)
 }

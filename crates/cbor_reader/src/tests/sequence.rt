@@ -1,6 +1,6 @@
 //! Sequences, over slices, over readers that give one byte a read, and over one that fails.
 
-use crate::tests::{Parts, limits};
+use super::{Parts, limits};
 use crate::{KeyOrder, Sequence, SequenceItems, Tree};
 use cbor_head::{Reason, Refusal};
 use cbor_item::encode;

@@ -1,6 +1,6 @@
 //! Keys about as long as those that take memory of their own.
 
-use crate::tests::limits;
+use super::limits;
 use crate::{KeyOrder, canonicalise};
 use cbor_head::{Reason, Refusal};
 use std::alloc::{AllocError, Global};

@@ -1,0 +1,121 @@
+-- Whole inputs: from what is read of one to the item that it is, or the refusal; and from that to what `canonicalise` answers.
+use Rattle.std.proofs.Common.{ℕ, zero, suc, ◌-◌, ◌<◌, true, false, arith, ◌≡◌, ◌≢◌, ◌≤◌, Some, List, length, refl, sym, ap, ◌∙◌, subst}
+use Rattle.std.specs.Prelude.{◌==◌}
+use Rattle.std.proofs.lemmas.List.{length-drop}
+use Rattle.std.proofs.lemmas.Bool.Decides.{Decides-eqb}
+use Rattle.cbor_head.specs.Canonical.{canonical}
+use Rattle.cbor_head.specs.Value.{Value}
+use Rattle.cbor_head.specs.Spelling.{Spelling, spell, value_of}
+use Rattle.cbor_head.specs.Complaint.{plain}
+use Rattle.cbor_head.specs.Verdict.{refusal}
+use Rattle.cbor_head.specs.declared.order.KeyOrder.{KeyOrder}
+use Rattle.cbor_head.specs.declared.order.KeyOrder.TheVariants.{Bytewise}
+use Rattle.cbor_head.specs.declared.reason.Reason.TheVariants.{Read, Memory, Trailing, CanonicalTooLong}
+use Rattle.cbor_head.specs.declared.reason.Refusal.{Refusal}
+use Rattle.cbor_reader.specs.Readers.{IsReadAs, IsUnread, of_verdict, of_reader, of_memory, Loses}
+use Rattle.cbor_reader.specs.Canonicalise as whole
+use Rattle.cbor_reader.specs.Canonicalise.{IsCanonicalOf, IsRefusal}
+use Rattle.cbor_reader.specs.Headline.{IsValidItem}
+use Rattle.cbor_reader.specs.Refusals.{IsFreeBefore}
+use Rattle.cbor_reader.specs.WholeItem.{IsWholeItem, IsItemRefusal, unread, trailing}
+use Rattle.cbor_reader.proofs.Accepted.{item_is_longest, item_is_whole}
+use Rattle.cbor_reader.proofs.FreeBefore.{accepted-free, truncated-free}
+use Rattle.cbor_reader.proofs.Headline.{valid_item, valid_item_accepted, answers_exactly}
+use Rattle.cbor_head.proofs.ReadLaws.{one_list}
+use Rattle.cbor_reader.proofs.OneAnswer.{one_item, no_both, one_refusal}
+use Rattle.cbor_reader.proofs.Reasons.{never-read}
+
+-- ---- a refusal by a slice
+
+pub unread-slice : (d n : ℕ) (input : List ℕ) (f : Refusal) → IsUnread d n plain input f → f.reason ≢ Read → IsItemRefusal d n input f
+unread-slice d n input f h g = unread h g
+
+-- memory was refused within the longest beginning
+memory_refused : (d n : ℕ) (input : List ℕ) (f g : Refusal) → g ≡ refusal Memory f.read f.read → (IsUnread d n plain input (refusal Memory f.read f.read)) → IsItemRefusal d n input g
+memory_refused d n input f g is h = subst (IsItemRefusal d n input) (sym is) (unread h (λ e. cc e))
+
+pub given-up : (d n : ℕ) (input : List ℕ) (f g : Refusal) → IsUnread d n plain input f → f.reason ≡ Read → g ≡ refusal Memory f.read f.read → IsItemRefusal d n input g
+given-up d n input f g (of_verdict w) e is = absurd (never-read d n plain input f w e)
+given-up d n input f g (of_reader p l m h w) e is = memory_refused d n input f g is (of_memory p l m refl (truncated-free d n f.read plain input p l m w))
+given-up d n input f g (of_memory p l m h x) e is = memory_refused d n input f g is (of_memory p l m refl x)
+
+-- ---- behind an item that is read
+
+module _ (d n : ℕ) (input rest : List ℕ) (v : Value) (size : ℕ) (a : IsReadAs d n plain input v size) (t : Loses size (Some input) (Some rest)) where
+  behind : length rest ≡ length input - size
+  behind = ap length (inside t.0) ∙ length-drop size input
+    where
+      inside : {x y : List ℕ} → Some x ≡ Some y → x ≡ y
+      inside e = cc e
+
+  some-left : (k : ℕ) → false ≡ (k == 0) → 0 < k
+  some-left zero e = cc e
+  some-left (suc k) e = omega arith
+
+  none-left : (k : ℕ) → true ≡ (k == 0) → k ≡ 0
+  none-left k e = (Decides-eqb k 0).0 (sym e)
+
+  pub trails : (f : Refusal) → false ≡ (length rest == 0) → f ≡ refusal Trailing size size → IsItemRefusal d n input f
+  trails f e is =
+      trailing a.read.item a.read.verdict (omega (arith, a.read.size, behind, some-left (length rest) e))
+      (is ∙ ap (λ (k : ℕ). refusal Trailing k k) a.read.size)
+
+  pub wants-memory : (f : Refusal) → f ≡ refusal Memory size size → IsItemRefusal d n input f
+  wants-memory f is =
+      let all : size ≡ length a.read.verdict.p = a.read.size ∙ ap length (item_is_longest d n plain input a.read.item a.read.verdict) in
+      let within : size ≤ length a.read.verdict.p = omega (arith, all) in
+      let free = accepted-free d n plain input a.read.item size a.read.verdict within in
+      subst (IsItemRefusal d n input) (sym is) (unread (of_memory a.read.verdict.p a.read.verdict.longest within refl free) (λ e. cc e))
+
+  pub encoded : (o : KeyOrder) (out : List ℕ) → true ≡ (length rest == 0) → out ≡ canonical o v
+      → (s : Spelling) × IsValidItem d n input s × (out ≡ canonical o (value_of s))
+  encoded o out all made =
+      let ends : length input ≤ length (spell a.read.item) = omega (arith, a.read.size, behind, none-left (length rest) all) in (
+        a.read.item,
+        valid_item d n input a.read.item a.read.verdict (item_is_whole d n plain input a.read.item a.read.verdict ends),
+        made ∙ ap (canonical o) a.value,
+      )
+
+-- ---- the refusal of an item, and that of its canonical bytes
+
+pub item_refused : (d n : ℕ) (o : KeyOrder) (input : List ℕ) (f : Refusal) → IsItemRefusal d n input f → IsRefusal d n o input f
+item_refused d n o input f (unread (of_verdict w) g) = whole.of_verdict w
+item_refused d n o input f (unread (of_reader p l m is w) g) = absurd (g (ap (λ (x : Refusal). x.reason) is))
+item_refused d n o input f (unread (of_memory p l m is x) g) = whole.of_memory p f.read l m is x
+item_refused d n o input f (trailing s v l is) = whole.trailing s v l is
+
+pub refused_item : (d n : ℕ) (o : KeyOrder) (input : List ℕ) (f : Refusal) → IsRefusal d n o input f → f.reason ≢ CanonicalTooLong → IsItemRefusal d n input f
+refused_item d n o input f (whole.of_verdict w) g = unread (of_verdict w) (never-read d n plain input f w)
+refused_item d n o input f (whole.trailing s v l is) g = trailing s v l is
+refused_item d n o input f (whole.canonical_too_long s v w l is) g = absurd (g (ap (λ (x : Refusal). x.reason) is))
+refused_item d n o input f (whole.of_memory p taken l m is x) g =
+    let read : f.read ≡ taken = ap (λ (x : Refusal). x.read) is in
+    unread (of_memory p l (omega (arith, m, read)) (is ∙ ap (λ (k : ℕ). refusal Memory k k) (sym read)) (subst (IsFreeBefore d plain p) (sym read) x)) (λ e. apart (sym (ap (λ (x : Refusal). x.reason) is) ∙ e))
+  where
+    apart : Memory ≡ Read → ⊥
+    apart e = cc e
+
+pub item_refused_once : (d n : ℕ) (input : List ℕ) (f g : Refusal) → IsItemRefusal d n input f → IsItemRefusal d n input g → f.reason ≢ Memory → g.reason ≢ Memory → f ≡ g
+item_refused_once d n input f g h i = one_refusal d n Bytewise input f g (item_refused d n Bytewise input f h) (item_refused d n Bytewise input g i)
+
+-- ---- within the limit, or past it
+
+pub becomes : (d n : ℕ) (o : KeyOrder) (input out : List ℕ) → (s : Spelling) × IsValidItem d n input s × (out ≡ canonical o (value_of s)) → length out ≤ n → IsCanonicalOf d n o input out
+becomes d n o input out h l = (answers_exactly d n o input out).1 (h.0, h.1, h.2, l)
+
+pub grows_too_long : (d n : ℕ) (o : KeyOrder) (input out : List ℕ) (f : Refusal) → (s : Spelling) × IsValidItem d n input s × (out ≡ canonical o (value_of s)) → n < length out
+    → f ≡ refusal CanonicalTooLong (length input) (length input) → IsRefusal d n o input f
+grows_too_long d n o input out f h l is =
+    whole.canonical_too_long h.0 (valid_item_accepted d n input h.0 h.1) h.1.well_formed.bytes_are (subst (λ (b : List ℕ). n < length b) h.2 l) is
+
+-- ---- an input is an item, or it isn't
+
+pub only_item : (d n : ℕ) (input : List ℕ) (s t : Spelling) → IsValidItem d n input s → IsValidItem d n input t → s ≡ t
+only_item d n input s t i j = one_list s t i.well_formed.spelled j.well_formed.spelled (i.well_formed.bytes_are ∙ sym j.well_formed.bytes_are)
+
+pub refused_for_memory : (d n : ℕ) (input : List ℕ) (f : Refusal) → IsWholeItem d n input → IsItemRefusal d n input f → f.reason ≡ Memory
+refused_for_memory d n input f (s, i) (unread (of_verdict w) g) = absurd (no_both d n input s f (valid_item_accepted d n input s i) w)
+refused_for_memory d n input f (s, i) (unread (of_reader p l m is w) g) = absurd (g (ap (λ (x : Refusal). x.reason) is))
+refused_for_memory d n input f (s, i) (unread (of_memory p l m is x) g) = ap (λ (x : Refusal). x.reason) is
+refused_for_memory d n input f (s, i) (trailing t w l is) =
+    absurd (omega (arith, l, ap (λ (s : Spelling). length (spell s)) (one_item d n input s t (valid_item_accepted d n input s i) w), ap length i.well_formed.bytes_are))

@@ -1,0 +1,66 @@
+//! Whether two inputs mean the same.
+
+ghost use Rattle.std.specs.Prelude.{◌≡◌, ◌≢◌, ◌↔◌, ◌≤◌, ◌^◌, ℕ, List, IsTrue, IfOk, IfErr};
+ghost use Rattle.cbor_head.specs.Spelling.{Spelling, value_of};
+ghost use Rattle.cbor_head.specs.Value.{Same};
+ghost use Rattle.cbor_head.specs.declared.order.KeyOrder.{KeyOrder};
+ghost use Rattle.cbor_head.specs.declared.reason.Reason.TheVariants as reasons;
+ghost use Rattle.cbor_reader.specs.Canonicalise.{IsCanonicalOf};
+ghost use Rattle.cbor_reader.specs.Comparing.{MeanTheSame, IsSideRefusal};
+ghost use Rattle.cbor_reader.specs.Headline.{IsValidItem};
+ghost use Rattle.cbor_reader.specs.WholeItem.{IsWholeItem};
+
+use crate::whole_item::encoded_item;
+use cbor_head::{KeyOrder, Limits, Refusal};
+use std::alloc::Global;
+
+/// One of the two inputs of a comparison.
+#[derive(Clone, Copy, Debug, PartialEq, Eq)]
+pub enum Side {
+    /// The first one, which is judged first.
+    Left,
+    /// The second one.
+    Right,
+}
+
+/// Whether the one well-formed, valid item that each input is has the same value (RFC 8949, section
+/// 5.6.1): equal kinds, numbers and bytes, arrays place by place, maps by their pairs in any order.
+///
+/// The limits hold for each input by itself, and not for canonical bytes. The refusal is that of
+/// the left input, or of the right one where the left is accepted: the one that its bytes within
+/// the limits call for; then `Trailing`, where a byte follows the item, with the item's length as
+/// place and count; or `Memory`, where it was refused before, at the count of the side's bytes
+/// taken. Canonical bytes are compared, so large maps in unlike orders take time like sorting them.
+pub fn same_meaning(
+    alloc: Global,
+    left: &[u8],
+    right: &[u8],
+    limits: Limits,
+) -> Result<bool, (Side, Refusal)>
+    ensures answer { IfOk result (λ same. IsTrue same
+        ↔ MeanTheSame limits.depth limits.bytes left.now right.now) }
+    ensures accepted { IfOk result (λ _. IsWholeItem limits.depth limits.bytes left.now
+        × IsWholeItem limits.depth limits.bytes right.now) }
+    ensures values { IfOk result (λ same. (s t : Spelling)
+        → IsValidItem limits.depth limits.bytes left.now s
+        → IsValidItem limits.depth limits.bytes right.now t
+        → IsTrue same ↔ Same (value_of s) (value_of t)) }
+    ensures refused { IfErr result (λ e.
+        IsSideRefusal limits.depth limits.bytes left.now right.now e.0 e.1) }
+    ensures only { IfErr result (λ e. e.1.reason ≢ reasons.Memory
+        → IsWholeItem limits.depth limits.bytes left.now
+        → ¬ IsWholeItem limits.depth limits.bytes right.now) }
+    ensures equal { IfOk result (λ same. (n : ℕ) (o : KeyOrder) (a b : List ℕ) → n ≤ 2 ^ 62
+        → IsCanonicalOf limits.depth n o left.now a → IsCanonicalOf limits.depth n o right.now b
+        → IsTrue same ↔ (a ≡ b)) }
+{
+    let left = match encoded_item(alloc, left, limits, KeyOrder::Bytewise) {
+        Ok(bytes) => bytes,
+        Err(refusal) => return Err((Side::Left, refusal)),
+    };
+    let right = match encoded_item(alloc, right, limits, KeyOrder::Bytewise) {
+        Ok(bytes) => bytes,
+        Err(refusal) => return Err((Side::Right, refusal)),
+    };
+    Ok(left.as_slice() == right.as_slice())
+}

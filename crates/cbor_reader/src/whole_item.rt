@@ -1,0 +1,52 @@
+//! The item that a whole input is.
+
+ghost use Rattle.std.specs.Prelude.{◌≡◌, ℕ, List, IfOk, IfErr};
+ghost use Rattle.cbor_head.specs.Canonical.{canonical};
+ghost use Rattle.cbor_head.specs.Complaint.{plain};
+ghost use Rattle.cbor_head.specs.Spelling.{Spelling, value_of};
+ghost use Rattle.cbor_reader.specs.Headline.{IsValidItem};
+ghost use Rattle.cbor_reader.specs.Readers.{IsUnread};
+ghost use Rattle.cbor_reader.specs.WholeItem.{IsItemRefusal};
+
+use crate::tree_reader::read_tree;
+use cbor_head::{KeyOrder, Limits, Reason, Refusal};
+use cbor_item::encode;
+use std::alloc::Global;
+
+// The canonical bytes, in this order and however many, of the one item that all the bytes are. The
+// item's tree is gone once they are there.
+pub(crate) fn encoded_item(
+    alloc: Global,
+    bytes: &[u8],
+    limits: Limits,
+    order: KeyOrder,
+) -> Result<Vec<u8>, Refusal>
+    ensures encoded { IfOk result (λ v. (s : Spelling)
+        × IsValidItem limits.depth limits.bytes bytes.now s
+        × (v.items ≡ canonical order (value_of s))) }
+    ensures refused { IfErr result (IsItemRefusal limits.depth limits.bytes bytes.now) }
+{
+    let mut rest = bytes;
+    let (tree, size) = match read_tree(alloc, &mut rest, limits) {
+        Ok(answer) => answer,
+        Err(refusal) => return Err(of_slice(refusal)),
+    };
+    if !rest.is_empty() {
+        return Err(Refusal::at(Reason::Trailing, size));
+    }
+    match encode(alloc, &tree, order) {
+        Ok(canonical) => Ok(canonical),
+        Err(_) => Err(Refusal::at(Reason::Memory, size)),
+    }
+}
+
+// A refusal by a reader that does not fail: a slice doesn't, though `Read` can't say so.
+fn of_slice(refusal: Refusal) -> Refusal
+    ensures { (d n : ℕ) (input : List ℕ)
+        → IsUnread d n plain input refusal → IsItemRefusal d n input result }
+{
+    match refusal.reason {
+        Reason::Read => Refusal::at(Reason::Memory, refusal.read),
+        _ => refusal,
+    }
+}
