@@ -18,7 +18,7 @@ use Rattle.cbor_events.specs.declared.event.EventKind.TheVariants.{Unsigned, Neg
 use Rattle.cbor_events.proofs.Tiling.{head-size}
 use Rattle.cbor_events.proofs.Joining.{IsSingle, IsFresh, AreApart}
 
-total-append : (ms ns : List Mark) → total (ms ++ ns) ≡ total ms + total ns
+pub total-append : (ms ns : List Mark) → total (ms ++ ns) ≡ total ms + total ns
 total-append [] ns = omega arith
 total-append (m ∷ ms) ns = let e = total-append ms ns in omega (arith, e)
 

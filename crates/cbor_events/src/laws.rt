@@ -1,6 +1,6 @@
 //! The laws of events. Nothing here runs: each contract is a law.
 
-ghost use Rattle.std.specs.Prelude.{◌≡◌, ◌++◌, List, [], ◌∷◌, ℕ, length};
+ghost use Rattle.std.specs.Prelude.{◌≡◌, ◌++◌, List, [], ◌∷◌, ℕ, length, Option};
 ghost use Rattle.cbor_head.specs.Spelling.{Spelling, IsSpelled, IsItem, spell};
 ghost use Rattle.cbor_head.specs.Complaint.{form};
 ghost use Rattle.cbor_head.specs.Verdict.{IsVerdict, accepted, refused};
@@ -11,6 +11,7 @@ ghost use Rattle.cbor_head.specs.Beginning.{IsLongestBeginning};
 ghost use Rattle.cbor_events.specs.State.{marks_of};
 ghost use Rattle.cbor_events.specs.Event.{events, marks_in, joined, cut, AreTold};
 ghost use Rattle.cbor_events.specs.declared.event.Event.{Event};
+ghost use Rattle.cbor_events.specs.ItemEvents.{StandsBetween, IsNextEvent, IsEnd};
 ghost use Rattle.cbor_events.specs.Machine.{MachineView, StandsFor, IsComplete, IsGiven, IsRefused};
 
 /// What a machine answers is the verdict of form: of its refusals, and of the item that is complete.
@@ -29,6 +30,20 @@ pub fn told_events()
         → AreTold (es ++ e ∷ []) (ms ++ marks_of e.width e.kind) }
     ensures joined { (m : MachineView) (t : List ℕ) (ms : List Mark) (es : List Event) → StandsFor m t ms → AreTold es ms
         → (s : Spelling) (rest : List ℕ) → IsItem m.depth s (t ++ rest) → joined es ≡ cut (length t) (events 0 s) }
+{}
+
+/// The events that `ItemEvents::next` told. Each leads on from those before it; at the end of an item
+/// they are, neighbouring pieces joined, all of its events. Behind a refusal `told_events` says what
+/// they are.
+pub fn next_events()
+    ensures more { (es : List Event) (ms : List Mark) (e : Event) (from to : Option (List ℕ))
+        (old new : MachineView) (kept piece t : List ℕ) → AreTold es ms → StandsBetween old t ms
+        → IsNextEvent e from to old new kept piece t ms
+        → AreTold (es ++ e ∷ []) (ms ++ marks_of e.width e.kind) }
+    ensures all { (es : List Event) (ms : List Mark) (from to : Option (List ℕ))
+        (old new : MachineView) (kept piece t : List ℕ) → AreTold es ms → StandsBetween old t ms
+        → IsEnd from to old new kept piece t ms
+        → (s : Spelling) × IsItem old.depth s t × (joined es ≡ events 0 s) }
 {}
 
 /// The marks of an item are those of its events, and stand for all of its bytes.
