@@ -28,7 +28,7 @@ HEADLINE = {("cbor_reader", "canonicalise"), ("cbor_reader", "read_strict")}
 
 # How many names the readers of whole items still take from inner words of the crates below. The
 # number may fall, and may not rise.
-DEBT_ALLOWED = {"cbor_reader": 65}
+DEBT_ALLOWED = {"cbor_reader": 32}
 
 NAME = re.compile(r"[^\s(){}\[\],;]+")
 IMPORT = re.compile(r"^(?:pub )?use (Rattle\.[^\s.{]+(?:\.[^\s.{]+)*)(?:\.\{(.*)\}| as (\S+))?$")
@@ -299,8 +299,8 @@ class Tree:
                 found.append(definition)
         return found
 
-    def closure(self, functions):
-        """Each definition that the contracts reach, with what it was reached from."""
+    def closure(self, functions, opened=False):
+        """Each definition that the contracts reach, with what it was reached from; fields `inner` opened or not."""
         came, queue = {}, deque()
         for function in functions:
             for clause in function.clauses:
@@ -311,7 +311,8 @@ class Tree:
         while queue:
             definition = queue.popleft()
             scope = self.modules[definition.module]
-            for other in self.named(scope, definition.text()):
+            text = "\n".join(definition.lines) if opened else definition.text()
+            for other in self.named(scope, text):
                 if other.key not in came:
                     came[other.key] = definition.key
                     queue.append(other)
@@ -365,7 +366,7 @@ def main():
     tree = Tree()
     everything = tree.definitions()
     public = tree.closure([f for f in tree.functions if f.public])
-    private = tree.closure(tree.functions)
+    private = tree.closure(tree.functions, opened=True)
     headline = tree.closure([f for f in tree.functions if f.public and (f.crate, f.name) in HEADLINE])
     proved = named_in_proofs()
     believed = [d for d in everything if d.key in public]

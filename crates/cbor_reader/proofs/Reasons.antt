@@ -14,7 +14,7 @@ use Rattle.cbor_head.specs.declared.major.Major.TheVariants.{Unsigned, Negative,
 use Rattle.cbor_head.specs.declared.width.Width.{Width}
 use Rattle.cbor_head.specs.declared.width.Width.TheVariants.{Direct, One, Two, Four, Eight, Indefinite}
 use Rattle.cbor_head.specs.declared.order.KeyOrder.{KeyOrder}
-use Rattle.cbor_events.specs.Automaton.{Frame}
+use Rattle.cbor_events.specs.inner.Automaton.{Frame}
 use Rattle.cbor_reader.specs.Canonicalise.{IsRefusal, of_verdict, trailing, canonical_too_long, of_memory}
 use Rattle.cbor_reader.specs.inner.Judged.{IsFinding}
 use Rattle.cbor_reader.specs.inner.Reading.{IsFormRefusal, IsCause, HasCause, StopsItem}

@@ -6,7 +6,7 @@ use Rattle.cbor_head.specs.Value.{Value, AreBytes}
 use Rattle.cbor_head.specs.Spelling.{spell}
 use Rattle.cbor_head.specs.Complaint.{Rules}
 use Rattle.cbor_head.proofs.ReadLaws.{length_spell}
-use Rattle.cbor_events.specs.Automaton.{Frame}
+use Rattle.cbor_events.specs.inner.Automaton.{Frame}
 use Rattle.cbor_events.specs.ItemEvents.{ItemEventsView}
 use Rattle.cbor_reader.specs.inner.Reading.{IsUndecided, IsPart, ReadsItem}
 
