@@ -1,0 +1,1 @@
+-- Diagnostic text (RFC 8949, section 8).

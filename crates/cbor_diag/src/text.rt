@@ -1,0 +1,1 @@
+//! The diagnostic text of a tree.
