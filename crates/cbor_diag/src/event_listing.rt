@@ -44,12 +44,13 @@ pub fn listing<R: Read, W: Write>(
 {
     let mut events = ItemEvents::new(limits);
     let mut written: u64 = 0;
-    'events: loop {
+    'lines: loop {
         match events.next(reader) {
             Ok(Some(event)) => {
                 let line = line_of(&event);
-                match write_whole(writer, line.as_bytes()) {
-                    Ok(()) => written = written.saturating_add(line.as_bytes().len() as u64),
+                let text = line.as_bytes();
+                match write_whole(writer, text) {
+                    Ok(()) => written = written.saturating_add(text.len() as u64),
                     Err(count) => return Err(Refusal {
                         reason: Reason::Write,
                         place: written.saturating_add(count as u64),
