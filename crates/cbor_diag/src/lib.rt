@@ -3,6 +3,8 @@
 
 mod event_line;
 mod event_listing;
+#[cfg(test)]
+mod tests_listing;
 mod text;
 
 pub use event_listing::listing;
