@@ -1,5 +1,7 @@
 //! The listing against the tables, over readers and writers that give and take little at a time, or fail.
 
+ghost use Rattle.std.specs.Prelude.{◌<◌};
+
 use crate::listing;
 use cbor_head::{Limits, Reason, Refusal};
 use std::alloc::{AllocError, Global};
