@@ -1,1 +1,4 @@
+pub mod IndentedText
+pub mod Layout
+pub mod Outbox
 pub mod Text

@@ -30,7 +30,7 @@ pub use encoded_key::compare_keys;
 pub use encoding::{encode, encode_valid};
 pub use item::Item;
 pub use tree::Tree;
-pub use write::encode_to;
+pub use write::{encode_to, write_whole};
 
 #[cfg(test)]
 mod tests;
