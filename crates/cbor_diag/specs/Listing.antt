@@ -1,5 +1,5 @@
 -- The listing of an item: a line for each of its events but the pieces of payloads.
-use Rattle.std.specs.Prelude.{◌≡◌, ℕ, ◌+◌, ◌-◌, ◌^◌, ◌<◌, ◌≤◌, ◌++◌, min, List, [], ◌∷◌, length, take, drop, flat_map, Option, Some, None, IfSome, codes, decimal}
+use Rattle.std.specs.Prelude.{◌≡◌, ℕ, ◌+◌, ◌<◌, ◌≤◌, ◌++◌, List, [], ◌∷◌, length, take, drop, flat_map, Option, Some, None, IfSome, codes, decimal}
 use Rattle.std.specs.Io.KnownBytes.{Appends}
 use Rattle.cbor_head.specs.Spelling.{Spelling, IsItem, spell}
 use Rattle.cbor_head.specs.Beginning.{IsBeginning}
@@ -9,6 +9,7 @@ use Rattle.cbor_head.specs.declared.reason.Reason.TheVariants.{Read, Write, Trun
 use Rattle.cbor_head.specs.declared.reason.Refusal.{Refusal}
 use Rattle.cbor_head.specs.declared.width.Width.{Width}
 use Rattle.cbor_head.specs.declared.width.Width.TheVariants.{Direct, One, Two, Four, Eight, Indefinite}
+use Rattle.cbor_diag.specs.Outbox.{capped}
 use Rattle.cbor_events.specs.Event.{events, event_size, cut}
 use Rattle.cbor_events.specs.declared.event.Event.{Event}
 use Rattle.cbor_events.specs.declared.event.EventKind.{EventKind}
@@ -89,7 +90,7 @@ pub data IsUnlisted (d n : ℕ) (input : List ℕ) (f : Refusal) (old new : Opti
       → IsVerdict d n form (take f.read input) (refused (refusal TruncatedInput f.read f.read))
       → IsListing d (take f.read input) out → Appends old new out → IsUnlisted d n input f old new
   -- the writer failed or took nothing: the listing of the bytes taken, up to the place
-  of_writer : (out : List ℕ) → f ≡ refusal Write (min (length out) (2 ^ 64 - 1)) f.read
+  of_writer : (out : List ℕ) → f ≡ refusal Write (capped (length out)) f.read
       → IsStopped d (take f.read input) out → Appends old new out → IsUnlisted d n input f old new
 
 -- a reader that had these bytes lost the first so many of them

@@ -1,94 +1,68 @@
 //! The line of an event.
 
-ghost use Rattle.std.specs.Prelude.{◌≡◌, ◌≤◌, ◌+◌, ◌++◌, ℕ, List, [], length, take, None, Some, decimal, MatchOption, IfSome};
+ghost use Rattle.std.specs.Prelude.{◌≡◌, ◌≤◌, ◌+◌, ◌++◌, length, None, Some, decimal, MatchOption, IfSome};
+ghost use Rattle.arrayvec.specs.ArrayVec.{array_vec_len};
 ghost use Rattle.cbor_diag.specs.Listing.{columns, argument_text, width_text, line};
 
+use arrayvec::ArrayVec;
 use cbor_events::{Event, EventKind};
 use cbor_head::Width;
 use itoa::Buffer;
-use std::marker::Model;
 
 // An offset and an argument have at most 20 digits each, a name at most 8 letters; with the width,
 // three spaces and the line feed that is 53.
 const LONGEST: usize = 64;
 
-// A text that is put together to be written at once.
-#[derive(Drop)]
-pub(crate) struct Line {
-    bytes: [u8; LONGEST],
-    len: usize,
-}
-
-impl Model for Line {
-    ghost Value = { List ℕ };
-
-    ghost view = { λ l. take l.len l.bytes };
-
-    ghost invariant = { λ l. l.len ≤ 64 };
-}
-
-impl Line {
-    fn new() -> Line
-        ensures { result ≡ [] }
-    {
-        Line {
-            bytes: [0; LONGEST],
-            len: 0,
-        }
-    }
-
-    fn push(&mut self, text: &[u8])
-        requires { length self.old + length text.now ≤ 64 }
-        ensures { self.new ≡ self.old ++ text.now }
-    {
-        let end = self.len + text.len();
-        self.bytes[self.len..end].copy_from_slice(text);
-        self.len = end;
-    }
-
-    fn push_number(&mut self, n: u64)
-        requires { length self.old + 20 ≤ 64 }
-        ensures text { self.new ≡ self.old ++ decimal n }
-        ensures short { length self.new ≤ length self.old + 20 }
-    {
-        let mut buffer = Buffer::new();
-        self.push(buffer.format(n).as_bytes());
-    }
-
-    fn push_argument(&mut self, argument: Option<u64>)
-        requires { length self.old + 20 ≤ 64 }
-        ensures text { self.new ≡ self.old ++ argument_text argument }
-        ensures short { length self.new ≤ length self.old + 20 }
-    {
-        match argument {
-            Some(n) => self.push_number(n),
-            None => self.push(b"-"),
-        }
-    }
-
-    pub(crate) fn as_bytes(&self) -> &[u8]
-        ensures { result.now ≡ self.now }
-    {
-        &self.bytes[..self.len]
-    }
-}
+// A line that is put together to be written at once.
+pub(crate) type Line = ArrayVec<u8, LONGEST>;
 
 // The line of an event; nothing of a piece.
 pub(crate) fn line_of(event: &Event) -> Line
-    ensures { result ≡ line event.now }
+    ensures { result.items ≡ line event.now }
 {
     let mut line = Line::new();
     if let Some((name, argument)) = columns_of(&event.kind) {
-        line.push_number(event.place);
-        line.push(b" ");
-        line.push(name);
-        line.push(b" ");
-        line.push_argument(argument);
-        line.push(b" ");
-        line.push(&width_digit(event.width));
-        line.push(b"\n");
+        push_number(&mut line, event.place);
+        push(&mut line, b" ");
+        push(&mut line, name);
+        push(&mut line, b" ");
+        push_argument(&mut line, argument);
+        push(&mut line, b" ");
+        push(&mut line, &width_digit(event.width));
+        push(&mut line, b"\n");
     }
     line
+}
+
+fn push(line: &mut Line, text: &[u8])
+    requires { array_vec_len line.old + length text.now ≤ 64 }
+    ensures text { line.new.items ≡ line.old.items ++ text.now }
+    ensures len { array_vec_len line.new ≡ array_vec_len line.old + length text.now }
+{
+    match line.try_extend_from_slice(text) {
+        Ok(()) => {}
+        Err(_) => unreachable!(),
+    }
+}
+
+fn push_number(line: &mut Line, n: u64)
+    requires { array_vec_len line.old + 20 ≤ 64 }
+    ensures text { line.new.items ≡ line.old.items ++ decimal n }
+    ensures short { array_vec_len line.new ≤ array_vec_len line.old + 20 }
+{
+    let mut buffer = Buffer::new();
+    push(line, buffer.format(n).as_bytes());
+}
+
+fn push_argument(line: &mut Line, argument: Option<u64>)
+    requires { array_vec_len line.old + 20 ≤ 64 }
+    ensures text { line.new.items ≡ line.old.items ++ argument_text argument }
+    ensures short { array_vec_len line.new ≤ array_vec_len line.old + 20 }
+{
+    match argument {
+        Some(n) => push_number(line, n),
+        None => push(line, b"-"),
+    }
 }
 
 // The name of an event, and its argument if it has one.

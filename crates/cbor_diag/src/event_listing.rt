@@ -48,7 +48,7 @@ pub fn listing<R: Read, W: Write>(
         match events.next(reader) {
             Ok(Some(event)) => {
                 let line = line_of(&event);
-                let text = line.as_bytes();
+                let text = line.as_slice();
                 match write_whole(writer, text) {
                     Ok(()) => written = written.saturating_add(text.len() as u64),
                     Err(count) => return Err(Refusal {

@@ -13,7 +13,7 @@ lines-preserved g c =
     let inv = c.lines.invariant in
     let h = inv.3 in
     let next = next-event _ _ _ _ _ _ _ _ c.in-Ok-Some.field-0 c.in-Ok-Some.event c.in-Ok-Some.field-0-is (c.in-Ok-Some.ensures.answers inv.2 h.t h.marks h.between) in
-    let text = c.as_bytes-text.ensures ∙ c.line_of-line.ensures in (
+    let text = c.as_slice-text.ensures.value ∙ c.line_of-line.ensures in (
       c.next.ensures.limits.0 ∙ inv.0,
       c.next.ensures.limits.1 ∙ inv.1,
       c.in-Ok-Some.ensures.live,
@@ -63,7 +63,7 @@ returns-in-Err-write_whole-clause-refused g c =
     let inv = c.lines.invariant in
     let h = inv.3 in
     let next = next-event _ _ _ _ _ _ _ _ c.in-Ok-Some.field-0 c.in-Ok-Some.event c.in-Ok-Some.field-0-is (c.in-Ok-Some.ensures.answers inv.2 h.t h.marks h.between) in
-    let text = c.as_bytes-text.ensures ∙ c.line_of-line.ensures in
+    let text = c.as_slice-text.ensures.value ∙ c.line_of-line.ensures in
     let count = c.in-Err-write_whole.count in
     let stopped = c.in-Err-write_whole.ensures in
     unlisted-within _ _ c.next.new.self.machine _ _ _ _ (c.next.ensures.limits.0 ∙ inv.0) (c.next.ensures.limits.1 ∙ inv.1)
