@@ -5,8 +5,8 @@ use Rattle.std.specs.List.{AllByRecursion}
 use Rattle.std.specs.Int.{byte_at, bytes_high_first}
 use Rattle.cbor_head.specs.Head.{Holds, IsSimple, head, major_number, shortest}
 use Rattle.cbor_head.specs.Spelling.{Chunk, IsChunk, Spelling, Spellings, SpelledEntries, unsigned, negative, bytes, text, byte_chunks, text_chunks, array, a_map, tag, simple, no_spellings, a_spelling, no_entries, entry, spellings_count, entries_count, spell, spell_all, spell_entries, chunk_bytes, string_bytes_of, IsSpelled, AreSpelled, AreEntriesSpelled, depth, depth_all, depth_entries}
-use Rattle.cbor_events.specs.Trace.{Mark, a_head, a_chunk, a_byte, an_end, payload_marks, chunk_marks, trace, trace_all, trace_entries}
-use Rattle.cbor_events.specs.Automaton.{Frame, counted, open_array, open_map, State, at_item, in_head, in_simple, in_payload, in_chunks, Opening, direct, long, Next, refuses, goes, tells, numbered_tail, tail, opening, close, expect, close_string, payload, after, mark, has_room, enter, begin, in_string, is_major, take_byte, Outcome, telling, and_then, run}
+use Rattle.cbor_events.specs.Trace.{Mark, a_head, a_chunk, a_byte, a_break, payload_marks, chunk_marks, trace, trace_all, trace_entries}
+use Rattle.cbor_events.specs.inner.Automaton.{Frame, counted, indefinite_array, indefinite_map, State, at_item, in_head, in_simple, in_payload, in_chunks, Opening, direct, long, Next, refuses, goes, tells, numbered_tail, tail, opening, close, expect, close_string, payload, after, mark, has_room, enter, begin, in_string, is_major, take_byte, Outcome, telling, and_then, run}
 use Rattle.cbor_head.specs.declared.major.Major.{Major}
 use Rattle.cbor_head.specs.declared.major.Major.TheVariants.{Unsigned, Negative, Bytes, Text, Array, Map, Tag, Simple}
 use Rattle.cbor_head.specs.declared.width.Width.{Width}
@@ -153,9 +153,9 @@ simple-taken d n fs rest h = elim (cases_lt n 24) [
 
 -- an indefinite string
 indefinite-taken : (d : ℕ) (m : Major) (fs : List Frame) → Starts d (in_chunks m fs) true m fs → (cs : List Chunk) (rest : List ℕ) → AllByRecursion IsChunk cs
-    → run d (in_chunks m fs) ((flat_map (chunk_bytes m) cs ++ 0xff ∷ []) ++ rest) ≡ telling_all (flat_map chunk_marks cs ++ an_end ∷ []) (run d (close fs) rest)
+    → run d (in_chunks m fs) ((flat_map (chunk_bytes m) cs ++ 0xff ∷ []) ++ rest) ≡ telling_all (flat_map chunk_marks cs ++ a_break ∷ []) (run d (close fs) rest)
 indefinite-taken d m fs starts cs rest h =
-    then-more d (in_chunks m fs) (in_chunks m fs) (close fs) (flat_map (chunk_bytes m) cs) (0xff ∷ []) rest (flat_map chunk_marks cs) (an_end ∷ [])
+    then-more d (in_chunks m fs) (in_chunks m fs) (close fs) (flat_map (chunk_bytes m) cs) (0xff ∷ []) rest (flat_map chunk_marks cs) (a_break ∷ [])
     (λ more. chunks-taken d m fs starts cs more h) refl
 
 pub room-above : (d : ℕ) (fs : List Frame) (k : ℕ) → suc k + length fs ≤ d → nat_lt (length fs) d ≡ true
@@ -182,9 +182,9 @@ counted-taken d m fs plain room w n h q leads xs ms rest inner =
     (only-head d m fs plain room w n (xs ++ rest) h ∙ ap (λ t. telling (a_head m w n) (run d t (xs ++ rest))) leads ∙ ap (telling (a_head m w n)) inner)
 
 -- a container without a length, behind its first byte
-open-taken : (d : ℕ) (q : State) (fs : List Frame) → ((rest : List ℕ) → run d q (0xff ∷ rest) ≡ telling an_end (run d (close fs) rest)) → (xs : List ℕ) (ms : List Mark) (rest : List ℕ)
-    → ((more : List ℕ) → run d q (xs ++ more) ≡ telling_all ms (run d q more)) → run d q ((xs ++ 0xff ∷ []) ++ rest) ≡ telling_all (ms ++ an_end ∷ []) (run d (close fs) rest)
-open-taken d q fs closes xs ms rest inner = then-more d q q (close fs) xs (0xff ∷ []) rest ms (an_end ∷ []) inner (closes rest)
+open-taken : (d : ℕ) (q : State) (fs : List Frame) → ((rest : List ℕ) → run d q (0xff ∷ rest) ≡ telling a_break (run d (close fs) rest)) → (xs : List ℕ) (ms : List Mark) (rest : List ℕ)
+    → ((more : List ℕ) → run d q (xs ++ more) ≡ telling_all ms (run d q more)) → run d q ((xs ++ 0xff ∷ []) ++ rest) ≡ telling_all (ms ++ a_break ∷ []) (run d (close fs) rest)
+open-taken d q fs closes xs ms rest inner = then-more d q q (close fs) xs (0xff ∷ []) rest ms (a_break ∷ []) inner (closes rest)
 
 mutual
   pub forward : (d : ℕ) (s : Spelling) (fs : List Frame) (rest : List ℕ) → IsSpelled s → depth s + length fs ≤ d
@@ -196,17 +196,17 @@ mutual
   forward d (byte_chunks cs) fs rest h b = ap (telling (a_head Bytes Indefinite 0)) (indefinite-taken d Bytes fs (chunk_starts d Bytes fs (λ k. refl) refl) cs rest h)
   forward d (text_chunks cs) fs rest h b = ap (telling (a_head Text Indefinite 0)) (indefinite-taken d Text fs (chunk_starts d Text fs (λ k. refl) refl) cs rest h)
   forward d (array Indefinite ss) fs rest h b =
-      step d (at_item fs) 0x9f (tells (a_head Array Indefinite 0) (at_item (open_array ∷ fs))) ((spell_all ss ++ 0xff ∷ []) ++ rest)
-      (ap (λ b. cond b (tells (a_head Array Indefinite 0) (at_item (open_array ∷ fs))) (refuses (initial_reason 0x9f))) (room-above d fs (depth_all ss) b))
-      ∙ ap (telling (a_head Array Indefinite 0)) (open-taken d (at_item (open_array ∷ fs)) fs (λ r. refl) (spell_all ss) (trace_all ss) rest
+      step d (at_item fs) 0x9f (tells (a_head Array Indefinite 0) (at_item (indefinite_array ∷ fs))) ((spell_all ss ++ 0xff ∷ []) ++ rest)
+      (ap (λ b. cond b (tells (a_head Array Indefinite 0) (at_item (indefinite_array ∷ fs))) (refuses (initial_reason 0x9f))) (room-above d fs (depth_all ss) b))
+      ∙ ap (telling (a_head Array Indefinite 0)) (open-taken d (at_item (indefinite_array ∷ fs)) fs (λ r. refl) (spell_all ss) (trace_all ss) rest
       (λ more. forward_open d ss fs more h.1 (one-down (depth_all ss) (length fs) d b)))
   forward d (array w ss) fs rest h b =
       counted-taken d Array fs (λ k. refl) (room-above d fs (depth_all ss) b) w (spellings_count ss) h.0 (expect (spellings_count ss) fs) refl (spell_all ss) (trace_all ss) rest
       (forward_all d ss fs rest h.1 (one-down (depth_all ss) (length fs) d b))
   forward d (a_map Indefinite es) fs rest h b =
-      step d (at_item fs) 0xbf (tells (a_head Map Indefinite 0) (at_item (open_map false ∷ fs))) ((spell_entries es ++ 0xff ∷ []) ++ rest)
-      (ap (λ b. cond b (tells (a_head Map Indefinite 0) (at_item (open_map false ∷ fs))) (refuses (initial_reason 0xbf))) (room-above d fs (depth_entries es) b))
-      ∙ ap (telling (a_head Map Indefinite 0)) (open-taken d (at_item (open_map false ∷ fs)) fs (λ r. refl) (spell_entries es) (trace_entries es) rest
+      step d (at_item fs) 0xbf (tells (a_head Map Indefinite 0) (at_item (indefinite_map false ∷ fs))) ((spell_entries es ++ 0xff ∷ []) ++ rest)
+      (ap (λ b. cond b (tells (a_head Map Indefinite 0) (at_item (indefinite_map false ∷ fs))) (refuses (initial_reason 0xbf))) (room-above d fs (depth_entries es) b))
+      ∙ ap (telling (a_head Map Indefinite 0)) (open-taken d (at_item (indefinite_map false ∷ fs)) fs (λ r. refl) (spell_entries es) (trace_entries es) rest
       (λ more. forward_open_entries d es fs more h.1 (one-down (depth_entries es) (length fs) d b)))
   forward d (a_map w es) fs rest h b =
       counted-taken d Map fs (λ k. refl) (room-above d fs (depth_entries es) b) w (entries_count es) h.0 (expect (entries_count es + entries_count es) fs) refl (spell_entries es) (trace_entries es) rest
@@ -230,12 +230,12 @@ mutual
 
   -- those of one without
   forward_open : (d : ℕ) (ss : Spellings) (fs : List Frame) (rest : List ℕ) → AreSpelled ss → depth_all ss + suc (length fs) ≤ d
-      → run d (at_item (open_array ∷ fs)) (spell_all ss ++ rest) ≡ telling_all (trace_all ss) (run d (at_item (open_array ∷ fs)) rest)
+      → run d (at_item (indefinite_array ∷ fs)) (spell_all ss ++ rest) ≡ telling_all (trace_all ss) (run d (at_item (indefinite_array ∷ fs)) rest)
   forward_open d no_spellings fs rest h b = refl
   forward_open d (a_spelling s ss) fs rest h b =
-      let q = at_item (open_array ∷ fs) in
+      let q = at_item (indefinite_array ∷ fs) in
       then-more d q q q (spell s) (spell_all ss) rest (trace s) (trace_all ss)
-      (λ more. forward d s (open_array ∷ fs) more h.0 (left_of (depth s) (depth_all ss) (suc (length fs)) d b))
+      (λ more. forward d s (indefinite_array ∷ fs) more h.0 (left_of (depth s) (depth_all ss) (suc (length fs)) d b))
       (forward_open d ss fs rest h.1 (right_of (depth s) (depth_all ss) (suc (length fs)) d b))
 
   forward_entries : (d : ℕ) (es : SpelledEntries) (fs : List Frame) (rest : List ℕ) → AreEntriesSpelled es → depth_entries es + suc (length fs) ≤ d
@@ -254,13 +254,13 @@ mutual
       (forward_entries d es fs rest h.2 (right_of (max (depth k) (depth v)) (depth_entries es) (suc (length fs)) d b))
 
   forward_open_entries : (d : ℕ) (es : SpelledEntries) (fs : List Frame) (rest : List ℕ) → AreEntriesSpelled es → depth_entries es + suc (length fs) ≤ d
-      → run d (at_item (open_map false ∷ fs)) (spell_entries es ++ rest) ≡ telling_all (trace_entries es) (run d (at_item (open_map false ∷ fs)) rest)
+      → run d (at_item (indefinite_map false ∷ fs)) (spell_entries es ++ rest) ≡ telling_all (trace_entries es) (run d (at_item (indefinite_map false ∷ fs)) rest)
   forward_open_entries d no_entries fs rest h b = refl
   forward_open_entries d (entry k v es) fs rest h b =
-      let q = at_item (open_map false ∷ fs) in
+      let q = at_item (indefinite_map false ∷ fs) in
       let b' = left_of (max (depth k) (depth v)) (depth_entries es) (suc (length fs)) d b in
       then-more d q q q (spell k ++ spell v) (spell_entries es) rest (trace k ++ trace v) (trace_entries es)
-      (λ more. then-more d q (at_item (open_map true ∷ fs)) q (spell k) (spell v) more (trace k) (trace v)
-      (λ more'. forward d k (open_map false ∷ fs) more' h.0 (left_of (depth k) (depth v) (suc (length fs)) d b'))
-      (forward d v (open_map true ∷ fs) more h.1 (right_of (depth k) (depth v) (suc (length fs)) d b')))
+      (λ more. then-more d q (at_item (indefinite_map true ∷ fs)) q (spell k) (spell v) more (trace k) (trace v)
+      (λ more'. forward d k (indefinite_map false ∷ fs) more' h.0 (left_of (depth k) (depth v) (suc (length fs)) d b'))
+      (forward d v (indefinite_map true ∷ fs) more h.1 (right_of (depth k) (depth v) (suc (length fs)) d b')))
       (forward_open_entries d es fs rest h.2 (right_of (max (depth k) (depth v)) (depth_entries es) (suc (length fs)) d b))

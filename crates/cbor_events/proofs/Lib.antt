@@ -12,6 +12,7 @@ pub mod Longest
 pub mod NextEvents
 pub mod NextRefusals
 pub mod Opens
+pub mod Reasons
 pub mod Refusals
 pub mod Rows
 pub mod Runs

@@ -1,12 +1,12 @@
-pub mod Automaton
 pub mod Bytes
 pub mod Event
 pub mod EventReader
 pub mod ItemEvents
 pub mod Machine
+pub mod MachineView
+pub mod Marks
 pub mod Open
-pub mod State
-pub mod Taking
+pub mod Reasons
 pub mod TextCheck
 pub mod Trace
-pub mod Walk
+pub mod inner

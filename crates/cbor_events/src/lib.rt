@@ -1,8 +1,8 @@
 //! The events of a CBOR item, told as its bytes come.
 //!
 //! [`Machine`] takes the bytes of one item in parts of any length and tells an [`Event`] for each
-//! head, each break and each part of a payload (RFC 8949, section 3), with its place and its width. It
-//! says where an item ends, and refuses the first byte that no item can have there. It keeps the
+//! head, each break and each part of a payload (RFC 8949, section 3), with its place and its width.
+//! It says where an item ends, and refuses the first byte that no item can have there. It keeps the
 //! containers that are open and no bytes, and no call takes memory.
 //!
 //! ```ignore
@@ -13,11 +13,12 @@
 //! ```
 //!
 //! [`EventReader`] does the same from a reader, and [`ItemEvents`] from one that each call is handed;
-//! neither reads a byte that the item does not have. [`TextCheck`] finds the longest front of a text that
-//! is UTF-8, however the text is cut.
+//! neither reads a byte that the item does not have. [`TextCheck`] finds the longest front of a text
+//! that is UTF-8, however the text is cut.
 //!
 //! [`laws`] has no code to run: its contracts tie what a machine tells to the item's trace, and what
-//! it answers to the verdict.
+//! it answers to the verdict. What public contracts say is defined in `specs/`; `specs/inner/` has
+//! what leads from one step to the next, and no public clause looks into it.
 #![tactic(auto)]
 
 mod event;
@@ -27,7 +28,7 @@ mod item_events;
 pub mod laws;
 mod machine;
 mod opening;
-mod place;
+mod position;
 mod take_byte;
 #[cfg(test)]
 mod tests;

@@ -2,8 +2,9 @@
 
 ghost use Rattle.std.specs.Prelude.{◌≡◌, ◌<◌};
 ghost use Rattle.cbor_head.specs.Verdict.{initial_reason};
-ghost use Rattle.cbor_events.specs.Automaton as automaton;
-ghost use Rattle.cbor_events.specs.State.{major_of, opened, IsOpeningDefinite};
+ghost use Rattle.cbor_events.specs.Reasons.{IsFormReason};
+ghost use Rattle.cbor_events.specs.inner.Automaton as automaton;
+ghost use Rattle.cbor_events.specs.inner.State.{major_of, opened, IsOpeningDefinite};
 
 use cbor_head::{Reason, Simple, Width};
 
@@ -26,10 +27,10 @@ pub enum Opening {
     Direct(Numbered, u8),
     /// A head with an argument behind its first byte.
     Long(Numbered, Width),
-    ChunkedBytes,
-    ChunkedText,
-    UnboundedArray,
-    UnboundedMap,
+    IndefiniteBytes,
+    IndefiniteText,
+    IndefiniteArray,
+    IndefiniteMap,
     /// A simple value in one byte.
     Simple(Simple),
     /// `f8`, with the number of a simple value behind it.
@@ -55,15 +56,15 @@ fn numbered_at(high: u8) -> Numbered
     }
 }
 
-fn without_length(kind: Numbered) -> Opening
-    ensures opens { opened result ≡ automaton.without_length (major_of kind) }
+fn indefinite_length(kind: Numbered) -> Opening
+    ensures opens { opened result ≡ automaton.indefinite_length (major_of kind) }
     ensures definite { IsOpeningDefinite result }
 {
     match kind {
-        Numbered::Bytes => Opening::ChunkedBytes,
-        Numbered::Text => Opening::ChunkedText,
-        Numbered::Array => Opening::UnboundedArray,
-        Numbered::Map => Opening::UnboundedMap,
+        Numbered::Bytes => Opening::IndefiniteBytes,
+        Numbered::Text => Opening::IndefiniteText,
+        Numbered::Array => Opening::IndefiniteArray,
+        Numbered::Map => Opening::IndefiniteMap,
         Numbered::Unsigned | Numbered::Negative | Numbered::Tag => Opening::Bad,
     }
 }
@@ -78,7 +79,7 @@ fn numbered_tail(kind: Numbered, low: u8) -> Opening
         1 => Opening::Long(kind, Width::Two),
         2 => Opening::Long(kind, Width::Four),
         3 => Opening::Long(kind, Width::Eight),
-        7 => without_length(kind),
+        7 => indefinite_length(kind),
         _ => Opening::Bad,
     }
 }
@@ -120,7 +121,8 @@ pub fn opening_of(c: u8) -> Opening
 
 /// Why a byte may not stand where an item may begin.
 pub fn reason_at_item(c: u8) -> Reason
-    ensures { result ≡ initial_reason c }
+    ensures is { result ≡ initial_reason c }
+    ensures of_form { IsFormReason result }
 {
     if c == 0xff {
         Reason::StrayBreak

@@ -1,16 +1,17 @@
 //! The next byte of an item.
 
-ghost use Rattle.std.specs.Prelude.{◌≡◌, ◌≤◌, ◌+◌, ◌-◌};
+ghost use Rattle.std.specs.Prelude.{◌≡◌, ◌≤◌, ◌+◌, ◌-◌, false};
 ghost use Rattle.arrayvec.specs.ArrayVec.{array_vec_len};
 ghost use Rattle.cbor_head.specs.declared.width.Width as width;
 ghost use Rattle.cbor_events.specs.Trace.{more_bytes};
-ghost use Rattle.cbor_events.specs.Automaton as automaton;
-ghost use Rattle.cbor_events.specs.State.{frames_of, state_of, major_of, mark_of, times, next_of, IsFit, IsNextFit, IsRefusal, IsOnce, IsNextSettled, IsToldSettled, IsNextOpen, IsNextProper, IsDefinite, IsProper, head_left, next_left};
+ghost use Rattle.cbor_events.specs.inner.Automaton as automaton;
+ghost use Rattle.cbor_events.specs.Marks.{mark_of, times, IsDefinite, IsProper};
+ghost use Rattle.cbor_events.specs.inner.State.{frames_of, state_of, major_of, next_of, IsFit, IsNextFit, IsRefusal, IsOnce, IsNextSettled, IsToldSettled, IsNextOpen, IsNextProper, IsNextReason, is_done, head_left, next_left};
 
 use crate::event::EventKind;
 use crate::frame::{Frame, Frames, close};
 use crate::opening::{Numbered, Opening, opening_of, reason_at_item};
-use crate::place::{Place, after, close_string, payload};
+use crate::position::{Position, after, close_string, payload};
 use cbor_head::{Reason, Simple, Width};
 
 /// What comes of a byte.
@@ -19,9 +20,9 @@ pub enum Next {
     /// It may not stand there.
     Refuses(Reason),
     /// No event is complete.
-    Goes(Place),
+    Goes(Position),
     /// An event is complete.
-    Tells(Width, EventKind, Place),
+    Tells(Width, EventKind, Position),
 }
 
 fn head_kind(chunk: bool, kind: Numbered, n: u64) -> EventKind
@@ -66,6 +67,19 @@ fn left_of(width: Width) -> u8
     }
 }
 
+// Behind the first byte of a head.
+fn begun(chunk: bool, kind: Numbered, width: Width) -> Position
+    ensures { result ≡ Position.Head chunk kind width (more_bytes width - 1) 0 }
+{
+    Position::Head {
+        chunk,
+        kind,
+        width,
+        left: left_of(width),
+        argument: 0,
+    }
+}
+
 // A break where an item may begin.
 #[tactic(auto, using(crate::proofs::Frames::frames_push))]
 fn break_at(frames: &mut Frames, c: u8) -> Next
@@ -74,13 +88,14 @@ fn break_at(frames: &mut Frames, c: u8) -> Next
     ensures kept { IsRefusal result → frames.new.items ≡ frames.old.items }
     ensures once { IsOnce result }
     ensures proper { IsNextProper result }
+    ensures reason { IsNextReason result }
     ensures fewer { array_vec_len frames.new ≤ array_vec_len frames.old }
     ensures settled { IsNextSettled frames.new.items result }
     ensures open { IsNextOpen frames.new.items result }
 {
     match frames.pop() {
         None => Next::Refuses(reason_at_item(c)),
-        Some(Frame::OpenArray | Frame::OpenMap(false)) => Next::Tells(
+        Some(Frame::IndefiniteArray | Frame::IndefiniteMap(false)) => Next::Tells(
             Width::Indefinite,
             EventKind::End,
             close(frames),
@@ -103,6 +118,7 @@ fn begin(depth: usize, frames: &mut Frames, c: u8) -> Next
     ensures kept { IsRefusal result → frames.new.items ≡ frames.old.items }
     ensures once { IsOnce result }
     ensures proper { IsNextProper result }
+    ensures reason { IsNextReason result }
     ensures within { array_vec_len frames.new ≤ depth }
     ensures fits { IsNextFit depth frames.new.items result }
 {
@@ -122,38 +138,38 @@ fn begin(depth: usize, frames: &mut Frames, c: u8) -> Next
             if !has_room(depth, kind, frames) {
                 return Next::Refuses(reason_at_item(c));
             }
-            Next::Goes(Place::Head(false, kind, width, left_of(width), 0))
+            Next::Goes(begun(false, kind, width))
         }
-        Opening::ChunkedBytes => Next::Tells(
+        Opening::IndefiniteBytes => Next::Tells(
             Width::Indefinite,
             EventKind::Bytes(None),
-            Place::Chunks(Numbered::Bytes),
+            Position::Chunks(Numbered::Bytes),
         ),
-        Opening::ChunkedText => Next::Tells(
+        Opening::IndefiniteText => Next::Tells(
             Width::Indefinite,
             EventKind::Text(None),
-            Place::Chunks(Numbered::Text),
+            Position::Chunks(Numbered::Text),
         ),
-        Opening::UnboundedArray => {
+        Opening::IndefiniteArray => {
             if frames.len() >= depth {
                 return Next::Refuses(reason_at_item(c));
             }
-            frames.push(Frame::OpenArray);
-            Next::Tells(Width::Indefinite, EventKind::Array(None), Place::Item)
+            frames.push(Frame::IndefiniteArray);
+            Next::Tells(Width::Indefinite, EventKind::Array(None), Position::Item)
         }
-        Opening::UnboundedMap => {
+        Opening::IndefiniteMap => {
             if frames.len() >= depth {
                 return Next::Refuses(reason_at_item(c));
             }
-            frames.push(Frame::OpenMap(false));
-            Next::Tells(Width::Indefinite, EventKind::Map(None), Place::Item)
+            frames.push(Frame::IndefiniteMap(false));
+            Next::Tells(Width::Indefinite, EventKind::Map(None), Position::Item)
         }
         Opening::Simple(simple) => Next::Tells(
             Width::Direct,
             EventKind::Simple(simple),
             close(frames),
         ),
-        Opening::LongSimple => Next::Goes(Place::SimpleNumber),
+        Opening::LongSimple => Next::Goes(Position::SimpleNumber),
         Opening::Break => break_at(frames, c),
         Opening::Bad => Next::Refuses(reason_at_item(c)),
     }
@@ -180,6 +196,7 @@ fn in_string(kind: Numbered, depth: usize, frames: &mut Frames, c: u8) -> Next
     ensures kept { IsRefusal result → frames.new.items ≡ frames.old.items }
     ensures once { IsOnce result }
     ensures proper { IsNextProper result }
+    ensures reason { IsNextReason result }
     ensures within { array_vec_len frames.new ≤ depth }
     ensures fits { IsNextFit depth frames.new.items result }
 {
@@ -192,12 +209,8 @@ fn in_string(kind: Numbered, depth: usize, frames: &mut Frames, c: u8) -> Next
                 payload(true, kind, n, frames),
             )
         }
-        Opening::Long(other, width) if is_same_string(kind, other) => Next::Goes(Place::Head(
-            true,
-            kind,
-            width,
-            left_of(width),
-            0,
+        Opening::Long(other, width) if is_same_string(kind, other) => Next::Goes(begun(
+            true, kind, width,
         )),
         Opening::Break => Next::Tells(Width::Indefinite, EventKind::End, close(frames)),
         _ => Next::Refuses(Reason::BadChunk),
@@ -206,23 +219,30 @@ fn in_string(kind: Numbered, depth: usize, frames: &mut Frames, c: u8) -> Next
 
 /// The next byte.
 #[tactic(auto, using(crate::proofs::Frames::settled_fit))]
-pub fn take_byte(depth: usize, place: Place, frames: &mut Frames, c: u8) -> Next
+pub fn take_byte(depth: usize, position: Position, frames: &mut Frames, c: u8) -> Next
     requires limit { depth ≤ 256 }
     requires within { array_vec_len frames.old ≤ depth }
-    requires fits { IsFit depth frames.old.items place }
-    ensures next { next_of result frames.new.items ≡ automaton.take_byte depth (state_of place frames.old.items) c }
-    ensures left { head_left place ≤ 1 + next_left result }
+    requires fits { IsFit depth frames.old.items position }
+    ensures next { next_of result frames.new.items ≡ automaton.take_byte depth (state_of position frames.old.items) c }
+    ensures left { head_left position ≤ 1 + next_left result }
     ensures clear { IsToldSettled frames.new.items result }
     ensures open { IsNextOpen frames.new.items result }
     ensures kept { IsRefusal result → frames.new.items ≡ frames.old.items }
     ensures once { IsOnce result }
     ensures proper { IsNextProper result }
+    ensures reason { is_done position ≡ false → IsNextReason result }
     ensures within { array_vec_len frames.new ≤ depth }
     ensures fits { IsNextFit depth frames.new.items result }
 {
-    match place {
-        Place::Item => begin(depth, frames, c),
-        Place::Head(chunk, kind, width, left, argument) => {
+    match position {
+        Position::Item => begin(depth, frames, c),
+        Position::Head {
+            chunk,
+            kind,
+            width,
+            left,
+            argument,
+        } => {
             let n = argument * 256 + u64::from(c);
             if left == 0 {
                 Next::Tells(
@@ -231,10 +251,16 @@ pub fn take_byte(depth: usize, place: Place, frames: &mut Frames, c: u8) -> Next
                     after(chunk, kind, n, depth, frames),
                 )
             } else {
-                Next::Goes(Place::Head(chunk, kind, width, left - 1, n))
+                Next::Goes(Position::Head {
+                    chunk,
+                    kind,
+                    width,
+                    left: left - 1,
+                    argument: n,
+                })
             }
         }
-        Place::SimpleNumber => match Simple::new(c) {
+        Position::SimpleNumber => match Simple::new(c) {
             Some(simple) if c >= 32 => Next::Tells(
                 Width::One,
                 EventKind::Simple(simple),
@@ -242,15 +268,15 @@ pub fn take_byte(depth: usize, place: Place, frames: &mut Frames, c: u8) -> Next
             ),
             _ => Next::Refuses(Reason::BadSimple),
         },
-        Place::Payload(chunk, kind, left) => {
+        Position::Payload(chunk, kind, left) => {
             let next = if left == 0 {
                 close_string(chunk, kind, frames)
             } else {
-                Place::Payload(chunk, kind, left - 1)
+                Position::Payload(chunk, kind, left - 1)
             };
             Next::Tells(Width::Direct, EventKind::Piece(1), next)
         }
-        Place::Chunks(kind) => in_string(kind, depth, frames, c),
-        Place::Done => Next::Refuses(Reason::Trailing),
+        Position::Chunks(kind) => in_string(kind, depth, frames, c),
+        Position::Done => Next::Refuses(Reason::Trailing),
     }
 }
