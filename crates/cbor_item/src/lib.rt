@@ -31,7 +31,7 @@ pub use encoding::{encode, encode_valid};
 pub use item::Item;
 pub use key_bytes::SHORT_KEY;
 pub use tree::Tree;
-pub use write::encode_to;
+pub use write::{encode_to, write_whole};
 
 #[cfg(test)]
 mod tests;

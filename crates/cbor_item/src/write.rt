@@ -34,8 +34,9 @@ pub fn encode_to<W: Write>(
     }
 }
 
-// Writes the bytes. The error is how many the writer took before it failed or took nothing.
-fn write_whole<W: Write>(writer: &mut W, bytes: &[u8]) -> Result<(), usize>
+/// Writes the bytes. The error is how many the writer took before it failed, `Interrupted` too, or
+/// took nothing.
+pub fn write_whole<W: Write>(writer: &mut W, bytes: &[u8]) -> Result<(), usize>
     ensures { MatchResult result
         (λ _. Appends (W.contents writer.old) (W.contents writer.new) bytes.now)
         (λ count. (count < length bytes.now)

@@ -1,0 +1,278 @@
+-- What a listing has written so far, and what it answers.
+use Rattle.std.proofs.Common.{◌≡◌, ℕ, suc, ◌+◌, ◌-◌, ◌^◌, ◌<◌, ◌≤◌, ◌⊎◌, min, List, [], ◌∷◌, ◌++◌, length, take, drop, replicate, Option, Some, None, Ok, refl, sym, ap, ◌∙◌, subst, inl, inr, arith, append_assoc, append-nil, length-append, take-append-drop}
+use Rattle.std.specs.Option.{IfSome}
+use Rattle.std.specs.Io.KnownBytes.{Consumes, Appends, IsAtEnd}
+use Rattle.std.proofs.KnownBytes.{Consumes-nil, Consumes-trans, Appends-nil, Appends-trans}
+use Rattle.std.proofs.lemmas.List.{length-take-le}
+use lib.Seq.{drop-append_seam, take-append_seam}
+use Rattle.cbor_head.specs.Spelling.{Spelling, spell, IsItem}
+use Rattle.cbor_head.specs.Complaint.{form}
+use Rattle.cbor_head.specs.Verdict.{refusal, accepted, refused, IsVerdict}
+use Rattle.cbor_head.specs.declared.width.Width.{Width}
+use Rattle.cbor_head.specs.declared.reason.Reason.TheVariants.{Read, Write, Truncated}
+use Rattle.cbor_head.specs.declared.reason.Refusal.{Refusal}
+use Rattle.cbor_head.proofs.Accepted.{accepts_exactly}
+use Rattle.cbor_head.proofs.ReadLaws.{unique}
+use Rattle.cbor_events.specs.Trace.{Mark, total, a_byte, more_bytes}
+use Rattle.cbor_events.specs.State.{marks_of, IsProper}
+use Rattle.cbor_events.specs.Event.{events, event_size, joined, cut, AreTold}
+use Rattle.cbor_events.specs.Machine.{MachineView, StandsFor, before}
+use Rattle.cbor_events.specs.ItemEvents.{StandsBetween, IsNext, IsNextEvent, IsEnd, IsCut, IsTooLong, IsBroken}
+use Rattle.cbor_events.specs.declared.event.Event.{Event}
+use Rattle.cbor_events.specs.declared.event.EventKind.{EventKind}
+use Rattle.cbor_events.specs.declared.event.EventKind.TheVariants.{Unsigned, Negative, Simple, Bytes, Text, Chunk, Piece, Array, Map, Tag, End}
+use Rattle.cbor_events.proofs.Form.{complete-verdict}
+use Rattle.cbor_events.proofs.Joining.{bytes-total}
+use Rattle.cbor_events.proofs.Rows.{total-append}
+use Rattle.cbor_events.proofs.Told.{told-none, told-joined, next-more, next-all}
+use Rattle.cbor_diag.specs.Listing.{line, lines, IsListing, IsStopped, IsListed, IsUnlisted, of_verdict, of_reader, of_writer, Loses}
+use Rattle.cbor_diag.proofs.Lines.{lines-more, lines-joined, has-line, joined-last}
+
+-- The lines of all events so far were written, and no byte behind these events was taken.
+pub record HasListed (m : MachineView) (from now old new : Option (List ℕ)) (written : ℕ) : Type 0 where
+  pub t : List ℕ
+  pub marks : List Mark
+  pub told : List Event
+  pub between : StandsBetween m t marks
+  pub are_told : AreTold told marks
+  pub taken : Consumes from now t
+  pub listed : Appends old new (lines told)
+  pub count : written ≡ min (length (lines told)) (2 ^ 64 - 1)
+
+pub none-listed : (m : MachineView) (from old : Option (List ℕ)) → StandsBetween m [] [] → HasListed m from from old old 0
+none-listed m from old s = record { t = []; marks = []; told = []; between = s; are_told = told-none; taken = Consumes-nil from; listed = Appends-nil old; count = refl }
+
+pub one-more : (m new : MachineView) (from now to old mid out : Option (List ℕ)) (written more : ℕ) (kept piece : List ℕ) (e : Event) (h : HasListed m from now old mid written)
+    → IsNextEvent e now to m new kept piece h.t h.marks → Appends mid out (line e) → more ≡ min (written + length (line e)) (2 ^ 64 - 1) → HasListed new from to old out more
+one-more m new from now to old mid out written more kept piece e h next wrote sum =
+    let size : length (lines (h.told ++ e ∷ [])) ≡ length (lines h.told) + length (line e) = ap length (lines-more h.told e) ∙ length-append (lines h.told) (line e) in
+    let count = h.count in
+    record {
+      t = h.t ++ next.bytes;
+      marks = h.marks ++ marks_of e.width e.kind;
+      told = h.told ++ e ∷ [];
+      between = next.stands;
+      are_told = next-more h.told h.marks e now to m new kept piece h.t h.are_told h.between next;
+      taken = Consumes-trans from now to h.t next.bytes h.taken next.consumed;
+      listed = subst (Appends old out) (sym (lines-more h.told e)) (Appends-trans old mid out (lines h.told) (line e) h.listed wrote);
+      count = omega (arith, size, count, sum);
+    }
+
+-- ---- each event has a byte
+
+some-marks : (w : Width) (k : EventKind) → IsProper w k → 0 < total (marks_of w k)
+some-marks w (Piece n) h = let size = bytes-total n in let some = h.1 in omega (arith, size, some)
+some-marks w (Unsigned n) h = omega arith
+some-marks w (Negative n) h = omega arith
+some-marks w (Simple n) h = omega arith
+some-marks w (Bytes n) h = omega arith
+some-marks w (Text n) h = omega arith
+some-marks w (Chunk n) h = omega arith
+some-marks w (Array n) h = omega arith
+some-marks w (Map n) h = omega arith
+some-marks w (Tag n) h = omega arith
+some-marks w End h = omega arith
+
+pub takes-more : (m new : MachineView) (now to : Option (List ℕ)) (kept piece t : List ℕ) (ms : List Mark) (e : Event) → StandsBetween m t ms
+    → IsNextEvent e now to m new kept piece t ms → (m.taken < new.taken) × (new.taken ≤ new.bytes)
+takes-more m new now to kept piece t ms e s next =
+    let some = some-marks e.width e.kind next.are.0 in
+    let sum = total-append ms (marks_of e.width e.kind) in
+    let was = s.stands.taken in
+    let whole = s.whole in
+    let is = next.stands.stands.taken in
+    let all = next.stands.whole in
+    let limit = next.stands.stands.limited in
+    (omega (arith, some, sum, was, whole, is, all), limit)
+
+-- ---- what the reader lost
+
+pub loses : (bs : List ℕ) (k : ℕ) (from to : Option (List ℕ)) → k ≡ length bs → Consumes from to bs → Loses k from to
+loses bs k None to e h = tt
+loses bs k (Some xs) None e h = absurd h
+loses bs k (Some xs) (Some ys) e h = (
+  ap Some (sym (ap (drop k) h ∙ ap (λ (j : ℕ). drop j (bs ++ ys)) e ∙ drop-append_seam bs ys)),
+  omega (arith, e, ap length h, length-append bs ys),
+)
+
+-- of a reader whose bytes are known, that they begin with those taken
+known : (from to : Option (List ℕ)) (bs : List ℕ) (P : List ℕ → Type 0) → Consumes from to bs → ((rest : List ℕ) → to ≡ Some rest → P (bs ++ rest)) → IfSome from P
+known None to bs P h f = tt
+known (Some xs) None bs P h f = absurd h
+known (Some xs) (Some ys) bs P h f = subst P (sym h) (f ys refl)
+
+-- ---- the item is complete
+
+-- the whole item is the one that is accepted
+accepted-item : (d n : ℕ) (t more : List ℕ) (s : Spelling) → IsItem d s t → (a : Spelling) → IsVerdict d n form (t ++ more) (accepted a) → a ≡ s
+accepted-item d n t more s i a v =
+    let sound = (accepts_exactly d n form (t ++ more) a).0 v in
+    let all : spell a ++ (sound.0 ++ drop n (t ++ more)) ≡ spell s ++ more =
+    sym (append_assoc (spell a) sound.0 (drop n (t ++ more))) ∙ ap (λ l. l ++ drop n (t ++ more)) sound.1.2 ∙ take-append-drop n (t ++ more) ∙ ap (λ l. l ++ more) (sym i.bytes_are) in
+    (unique a s sound.1.0 i.spelled _ _ all).0
+
+pub all-listed : (m new : MachineView) (from now to old out : Option (List ℕ)) (written count : ℕ) (kept piece : List ℕ) (h : HasListed m from now old out written)
+    → IsEnd now to m new kept piece h.t h.marks → count ≡ new.taken → IfSome from (λ input. IsListed m.depth m.bytes input count old out)
+all-listed m new from now to old out written count kept piece h end e =
+    let whole = next-all h.told h.marks now to m new kept piece h.t h.are_told h.between end in
+    let s = whole.0 in
+    known from now h.t (λ input. IsListed m.depth m.bytes input count old out) h.taken
+    (λ rest k. let v = complete-verdict m h.t h.marks h.between.stands end.complete rest in record {
+      item = s;
+      verdict = subst (λ (a : Spelling). IsVerdict m.depth m.bytes form (h.t ++ rest) (accepted a)) (accepted-item m.depth m.bytes h.t rest s whole.1 v.0 v.1) v.1;
+      size = e ∙ end.stands.stands.taken ∙ sym (ap length whole.1.bytes_are);
+      written = subst (Appends old out) (sym (lines-joined h.told) ∙ ap lines whole.2) h.listed;
+    })
+
+pub all-lost : (m new : MachineView) (from now to old out : Option (List ℕ)) (written count : ℕ) (kept piece : List ℕ) (h : HasListed m from now old out written)
+    → IsEnd now to m new kept piece h.t h.marks → count ≡ new.taken → Loses count from to
+all-lost m new from now to old out written count kept piece h end e =
+    loses (h.t ++ []) count from to (e ∙ end.stands.stands.taken ∙ ap length (sym (append-nil h.t))) (Consumes-trans from now to h.t [] h.taken end.consumed)
+
+-- ---- the item is refused
+
+listing-of : (m : MachineView) (t : List ℕ) (ms : List Mark) (es : List Event) → StandsFor m t ms → AreTold es ms → IsListing m.depth t (lines es)
+listing-of m t ms es stands told = record {
+  beginning = stands.beginning;
+  of_events = λ s rest i. sym (lines-joined es) ∙ ap lines (told-joined m t ms es stands told s rest i);
+}
+
+-- the first k bytes of an input are those taken
+front-is : (k : ℕ) (t rest : List ℕ) → k ≡ length t → take k (t ++ rest) ≡ t
+front-is k t rest e = ap (λ (j : ℕ). take j (t ++ rest)) e ∙ take-append_seam t rest
+
+front-listed : (d k : ℕ) (t rest out : List ℕ) → k ≡ length t → IsListing d t out → IsListing d (take k (t ++ rest)) out
+front-listed d k t rest out e h = subst (λ (xs : List ℕ). IsListing d xs out) (sym (front-is k t rest e)) h
+
+cut-unlisted : (m new : MachineView) (from now to old out : Option (List ℕ)) (written : ℕ) (h : HasListed m from now old out written) (f : Refusal) → IsCut f now to new h.t h.marks
+    → IfSome from (λ input. IsUnlisted new.depth new.bytes input f old out)
+cut-unlisted m new from now to old out written h f i =
+    let all = h.t ++ i.bytes in
+    let size : f.read ≡ length all = ap (λ (r : Refusal). r.read) i.is in
+    let place : f.place ≡ length all = ap (λ (r : Refusal). r.place) i.is in
+    let listing : IsListing new.depth all (lines h.told) = listing-of new all h.marks h.told i.stands h.are_told in
+    known from to all (λ input. IsUnlisted new.depth new.bytes input f old out) (Consumes-trans from now to h.t i.bytes h.taken i.consumed)
+    (λ rest k. elim i.reason [
+      | inl failed ↦
+          of_reader (lines h.told)
+          (i.is ∙ ap (λ r. refusal r (length all) (length all)) failed ∙ ap (λ n. refusal Read n n) (sym size))
+          (subst (λ (n : ℕ). IsVerdict new.depth new.bytes form (take n (all ++ rest)) (refused (refusal Truncated n n))) (sym size)
+          (subst (λ (xs : List ℕ). IsVerdict new.depth new.bytes form xs (refused (refusal Truncated (length all) (length all)))) (sym (front-is (length all) all rest refl)) i.verdict))
+          (front-listed new.depth f.read all rest (lines h.told) size listing)
+          h.listed
+      | inr ended ↦
+          let empty : rest ≡ [] = subst IsAtEnd k ended.1 in
+          let whole : all ++ rest ≡ all = ap (λ (xs : List ℕ). all ++ xs) empty ∙ append-nil all in
+          let is : f ≡ refusal Truncated (length all) (length all) = i.is ∙ ap (λ r. refusal r (length all) (length all)) ended.0 in
+          of_verdict (lines h.told)
+          (subst (λ (xs : List ℕ). IsVerdict new.depth new.bytes form xs (refused f)) (sym whole) (subst (λ (r : Refusal). IsVerdict new.depth new.bytes form all (refused r)) (sym is) i.verdict))
+          (front-listed new.depth f.place all rest (lines h.told) place listing)
+          h.listed
+    ])
+
+long-unlisted : (m new : MachineView) (from now to old out : Option (List ℕ)) (written : ℕ) (h : HasListed m from now old out written) (f : Refusal) → IsTooLong f now to new h.t h.marks
+    → IfSome from (λ input. IsUnlisted new.depth new.bytes input f old out)
+long-unlisted m new from now to old out written h f i =
+    let all = h.t ++ i.bytes in
+    let place : f.place ≡ length all = ap (λ (r : Refusal). r.place) i.is ∙ sym i.full in
+    known from to all (λ input. IsUnlisted new.depth new.bytes input f old out) (Consumes-trans from now to h.t i.bytes h.taken i.consumed)
+    (λ rest k. of_verdict (lines h.told) (i.verdict rest)
+    (front-listed new.depth f.place all rest (lines h.told) place (listing-of (before new (length all)) all h.marks h.told i.stands h.are_told)) h.listed)
+
+-- what was taken, with the byte that is refused
+broken-taken : (m new : MachineView) (from now to old out : Option (List ℕ)) (written : ℕ) (h : HasListed m from now old out written) (f : Refusal) (i : IsBroken f now to new h.t h.marks)
+    → Consumes from to ((h.t ++ i.bytes) ++ i.byte ∷ [])
+broken-taken m new from now to old out written h f i =
+    subst (Consumes from to) (sym (append_assoc h.t i.bytes (i.byte ∷ []))) (Consumes-trans from now to h.t (i.bytes ++ i.byte ∷ []) h.taken i.consumed)
+
+broken-unlisted : (m new : MachineView) (from now to old out : Option (List ℕ)) (written : ℕ) (h : HasListed m from now old out written) (f : Refusal) → IsBroken f now to new h.t h.marks
+    → IfSome from (λ input. IsUnlisted new.depth new.bytes input f old out)
+broken-unlisted m new from now to old out written h f i =
+    let all = h.t ++ i.bytes in
+    let place : f.place ≡ length all = ap (λ (r : Refusal). r.place) i.is in
+    known from to (all ++ i.byte ∷ []) (λ input. IsUnlisted new.depth new.bytes input f old out) (broken-taken m new from now to old out written h f i)
+    (λ rest k. of_verdict (lines h.told) (i.verdict rest)
+    (subst (λ (xs : List ℕ). IsListing new.depth (take f.place xs) (lines h.told)) (sym (append_assoc all (i.byte ∷ []) rest))
+    (front-listed new.depth f.place all (i.byte ∷ rest) (lines h.told) place (listing-of (before new (length all)) all h.marks h.told i.stands h.are_told))) h.listed)
+
+pub refused-unlisted : (m new : MachineView) (from now to old out : Option (List ℕ)) (written : ℕ) (h : HasListed m from now old out written) (f : Refusal)
+    → IsCut f now to new h.t h.marks ⊎ IsTooLong f now to new h.t h.marks ⊎ IsBroken f now to new h.t h.marks → IfSome from (λ input. IsUnlisted new.depth new.bytes input f old out)
+refused-unlisted m new from now to old out written h f (inl i) = cut-unlisted m new from now to old out written h f i
+refused-unlisted m new from now to old out written h f (inr (inl i)) = long-unlisted m new from now to old out written h f i
+refused-unlisted m new from now to old out written h f (inr (inr i)) = broken-unlisted m new from now to old out written h f i
+
+pub refused-lost : (m new : MachineView) (from now to old out : Option (List ℕ)) (written : ℕ) (h : HasListed m from now old out written) (f : Refusal)
+    → IsCut f now to new h.t h.marks ⊎ IsTooLong f now to new h.t h.marks ⊎ IsBroken f now to new h.t h.marks → Loses f.read from to
+refused-lost m new from now to old out written h f (inl i) =
+    loses (h.t ++ i.bytes) f.read from to (ap (λ (r : Refusal). r.read) i.is) (Consumes-trans from now to h.t i.bytes h.taken i.consumed)
+refused-lost m new from now to old out written h f (inr (inl i)) =
+    loses (h.t ++ i.bytes) f.read from to (ap (λ (r : Refusal). r.read) i.is ∙ sym i.full) (Consumes-trans from now to h.t i.bytes h.taken i.consumed)
+refused-lost m new from now to old out written h f (inr (inr i)) =
+    loses ((h.t ++ i.bytes) ++ i.byte ∷ []) f.read from to (ap (λ (r : Refusal). r.read) i.is ∙ sym (length-append (h.t ++ i.bytes) (i.byte ∷ []))) (broken-taken m new from now to old out written h f i)
+
+-- ---- the writer stopped
+
+-- the lines so far, and the front of the next
+abbrev stopped_lines : List Event → Event → ℕ → List ℕ
+stopped_lines es e n = lines es ++ take n (line e)
+
+stops-within : (m new : MachineView) (now to : Option (List ℕ)) (kept piece t : List ℕ) (ms : List Mark) (es : List Event) (e : Event) (count : ℕ) → StandsBetween m t ms → AreTold es ms
+    → (next : IsNextEvent e now to m new kept piece t ms) → count < length (line e) → IsStopped new.depth (t ++ next.bytes) (stopped_lines es e count)
+stops-within m new now to kept piece t ms es e count s told next short =
+    let sum = total-append ms (marks_of e.width e.kind) in
+    let was = s.whole in
+    let place = next.place in
+    let whole = next.stands.whole in
+    record {
+      beginning = next.stands.stands.beginning;
+      earlier = joined es;
+      last = e;
+      of_events = λ item rest i. sym (told-joined new (t ++ next.bytes) (ms ++ marks_of e.width e.kind) (es ++ e ∷ []) next.stands.stands (next-more es ms e now to m new kept piece t told s next) item rest i)
+          ∙ joined-last es e (has-line e count short);
+      ends = omega (arith, sum, was, place, whole);
+      part = count;
+      within = short;
+      is = ap (λ l. l ++ take count (line e)) (sym (lines-joined es));
+    }
+
+pub stopped-unlisted : (m new : MachineView) (from now to old mid out : Option (List ℕ)) (written count : ℕ) (kept piece : List ℕ) (e : Event) (h : HasListed m from now old mid written) (f : Refusal)
+    → IsNextEvent e now to m new kept piece h.t h.marks → count < length (line e) → Appends mid out (take count (line e)) → f ≡ refusal Write (min (written + count) (2 ^ 64 - 1)) new.taken
+    → IfSome from (λ input. IsUnlisted new.depth new.bytes input f old out)
+stopped-unlisted m new from now to old mid out written count kept piece e h f next short wrote is =
+    let all = h.t ++ next.bytes in
+    let read : f.read ≡ length all = ap (λ (r : Refusal). r.read) is ∙ next.stands.stands.taken in
+    let fits : count ≤ length (line e) = omega arith in
+    let size : length (stopped_lines h.told e count) ≡ length (lines h.told) + count = length-append (lines h.told) (take count (line e)) ∙ ap (λ n. length (lines h.told) + n) (length-take-le count (line e) fits) in
+    let was = h.count in
+    let place : min (written + count) (2 ^ 64 - 1) ≡ min (length (stopped_lines h.told e count)) (2 ^ 64 - 1) = omega (arith, size, was) in
+    known from to all (λ input. IsUnlisted new.depth new.bytes input f old out) (Consumes-trans from now to h.t next.bytes h.taken next.consumed)
+    (λ rest k. of_writer (stopped_lines h.told e count)
+    (is ∙ ap (λ n. refusal Write n new.taken) place ∙ ap (λ n. refusal Write (min (length (stopped_lines h.told e count)) (2 ^ 64 - 1)) n) (sym (ap (λ (r : Refusal). r.read) is)))
+    (subst (λ (xs : List ℕ). IsStopped new.depth xs (stopped_lines h.told e count)) (sym (front-is f.read all rest read))
+    (stops-within m new now to kept piece h.t h.marks h.told e count h.between h.are_told next short))
+    (Appends-trans old mid out (lines h.told) (take count (line e)) h.listed wrote))
+
+pub stopped-lost : (m new : MachineView) (from now to old mid : Option (List ℕ)) (written : ℕ) (kept piece : List ℕ) (e : Event) (h : HasListed m from now old mid written) (n : ℕ)
+    → IsNextEvent e now to m new kept piece h.t h.marks → n ≡ new.taken → Loses n from to
+stopped-lost m new from now to old mid written kept piece e h n next is =
+    loses (h.t ++ next.bytes) n from to (is ∙ next.stands.stands.taken) (Consumes-trans from now to h.t next.bytes h.taken next.consumed)
+
+-- ---- what a call of `next` answers, and the limits
+
+pub next-event : (m new : MachineView) (now to : Option (List ℕ)) (kept piece t : List ℕ) (ms : List Mark) (v : Option Event) (e : Event) → v ≡ Some e → IsNext (Ok v) now to m new kept piece t ms
+    → IsNextEvent e now to m new kept piece t ms
+next-event m new now to kept piece t ms v e is h = subst (λ (x : Option Event). IsNext (Ok x) now to m new kept piece t ms) is h
+
+pub no-event : (m new : MachineView) (now to : Option (List ℕ)) (kept piece t : List ℕ) (ms : List Mark) (v : Option Event) → v ≡ None → IsNext (Ok v) now to m new kept piece t ms
+    → IsEnd now to m new kept piece t ms
+no-event m new now to kept piece t ms v is h = subst (λ (x : Option Event). IsNext (Ok x) now to m new kept piece t ms) is h
+
+pub listed-within : (d n : ℕ) (m : MachineView) (from old out : Option (List ℕ)) (count : ℕ) → m.depth ≡ d → m.bytes ≡ n
+    → IfSome from (λ input. IsListed m.depth m.bytes input count old out) → IfSome from (λ input. IsListed d n input count old out)
+listed-within d n m from old out count depth bytes h =
+    subst (λ (k : ℕ). IfSome from (λ input. IsListed k n input count old out)) depth (subst (λ (k : ℕ). IfSome from (λ input. IsListed m.depth k input count old out)) bytes h)
+
+pub unlisted-within : (d n : ℕ) (m : MachineView) (from old out : Option (List ℕ)) (f : Refusal) → m.depth ≡ d → m.bytes ≡ n
+    → IfSome from (λ input. IsUnlisted m.depth m.bytes input f old out) → IfSome from (λ input. IsUnlisted d n input f old out)
+unlisted-within d n m from old out f depth bytes h =
+    subst (λ (k : ℕ). IfSome from (λ input. IsUnlisted k n input f old out)) depth (subst (λ (k : ℕ). IfSome from (λ input. IsUnlisted m.depth k input f old out)) bytes h)

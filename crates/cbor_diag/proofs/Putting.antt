@@ -1,0 +1,108 @@
+-- One put after another.
+use Rattle.std.proofs.Common.{◌≡◌, ℕ, ◌+◌, ◌-◌, ◌^◌, ◌<◌, min, List, [], ◌++◌, length, take, drop, Option, Bool, true, false, Result, Ok, Err, refl, sym, ap, ◌∙◌, subst, append_assoc, append-nil, length-append, length-drop, take-append-drop, arith}
+use Rattle.std.proofs.lemmas.List.{length-take-le}
+use Rattle.std.specs.Result.{OnErr, is_ok}
+use Rattle.std.specs.Io.KnownBytes.{Appends}
+use Rattle.std.proofs.KnownBytes.{Appends-trans, Appends-nil}
+use Rattle.cbor_head.specs.declared.reason.Refusal.{Refusal}
+use Rattle.cbor_item.specs.Sent.{stopped_at}
+use Rattle.cbor_diag.specs.Outbox.{capped, HasPut, HasStopped, Puts}
+use Rattle.cbor_diag.specs.declared.outbox.Outbox.{Outbox}
+
+-- what was taken, and then the rest of it
+regroup : (took more waits w xs ys : List ℕ) (mid : List ℕ) → took ++ mid ≡ w ++ xs → more ++ waits ≡ mid ++ ys → (took ++ more) ++ waits ≡ w ++ (xs ++ ys)
+regroup took more waits w xs ys mid p q =
+    append_assoc took more waits ∙ ap (λ (l : List ℕ). took ++ l) q ∙ sym (append_assoc took mid ys) ∙ ap (λ (l : List ℕ). l ++ ys) p ∙ append_assoc w xs ys
+
+counts : (m n : List ℕ) (k : ℕ) → capped ((k + length m) + length n) ≡ capped (k + length (m ++ n))
+counts m n k = let l = length-append m n in omega (arith, l)
+
+pub puts-then : (a b c : Option (List ℕ)) (s t u : Outbox) (xs ys : List ℕ) → HasPut a b s t xs → HasPut b c t u ys → HasPut a c s u (xs ++ ys)
+puts-then a b c s t u xs ys p q = record {
+  took = p.took ++ q.took;
+  appended = Appends-trans a b c p.took q.took p.appended q.appended;
+  others = regroup p.took q.took u.waiting.items s.waiting.items xs ys t.waiting.items p.others q.others;
+  counted = λ k e. q.counted (k + length p.took) (p.counted k e) ∙ counts p.took q.took k;
+}
+
+pub puts-stops : (a b c : Option (List ℕ)) (s t : Outbox) (xs ys : List ℕ) (e : Refusal) → HasPut a b s t xs → HasStopped b c t ys e → HasStopped a c s (xs ++ ys) e
+puts-stops a b c s t xs ys e p q = record {
+  took = p.took ++ q.took;
+  others = q.others;
+  appended = Appends-trans a b c p.took q.took p.appended q.appended;
+  front = regroup p.took q.took q.others s.waiting.items xs ys t.waiting.items p.others q.front;
+  not_all = q.not_all;
+  told = λ k f. q.told (k + length p.took) (p.counted k f) ∙ ap stopped_at (counts p.took q.took k);
+}
+
+pub puts-next : (a b c : Option (List ℕ)) (s t u : Outbox) (xs ys : List ℕ) (r : Result (Unit {0}) Refusal) → HasPut a b s t xs → Puts b c t u ys r → Puts a c s u (xs ++ ys) r
+puts-next a b c s t u xs ys (Ok x) p q = puts-then a b c s t u xs ys p q
+puts-next a b c s t u xs ys (Err e) p q = puts-stops a b c s t xs ys e p q
+
+-- what was to follow
+pub stops-more : (a b : Option (List ℕ)) (s : Outbox) (xs ys : List ℕ) (e : Refusal) → HasStopped a b s xs e → HasStopped a b s (xs ++ ys) e
+stops-more a b s xs ys e p =
+    let not_all = p.not_all in
+    record {
+      took = p.took;
+      others = p.others ++ ys;
+      appended = p.appended;
+      front = sym (append_assoc p.took p.others ys) ∙ ap (λ (l : List ℕ). l ++ ys) p.front ∙ append_assoc s.waiting.items xs ys;
+      not_all = omega (arith, length-append p.others ys);
+      told = p.told;
+    }
+
+-- nothing was put
+pub puts-none : (a : Option (List ℕ)) (s : Outbox) → HasPut a a s s []
+puts-none a s = record {
+  took = [];
+  appended = Appends-nil a;
+  others = sym (append-nil s.waiting.items);
+  counted = λ k e. e ∙ ap capped (omega arith);
+}
+
+-- ---- what waited went out, or some of it
+
+pub sent-all : (a b : Option (List ℕ)) (s t : Outbox) (bytes : List ℕ) → bytes ≡ s.waiting.items → t.waiting.items ≡ [] → t.taken ≡ capped (s.taken + length bytes) → Appends a b bytes → HasPut a b s t []
+sent-all a b s t bytes is none counted out = record {
+  took = bytes;
+  appended = out;
+  others = ap (λ (l : List ℕ). bytes ++ l) none ∙ ap (λ (l : List ℕ). l ++ []) is;
+  counted = λ k e. counted ∙ omega (arith, e);
+}
+
+abbrev pub SentSome : Option (List ℕ) → Option (List ℕ) → ℕ → List ℕ → Refusal → Type 0
+SentSome a b taken bytes e = (n : ℕ) × (e ≡ stopped_at (capped (taken + n))) × (n < length bytes) × Appends a b (take n bytes)
+
+-- some of the bytes behind nothing that waits
+pub sent-some : (a b : Option (List ℕ)) (s : Outbox) (bytes whole : List ℕ) (e : Refusal) → bytes ≡ s.waiting.items ++ whole → SentSome a b s.taken bytes e → HasStopped a b s whole e
+sent-some a b s bytes whole e is sent =
+    let few = sent.2 in
+    let exactly : length (take sent.0 bytes) ≡ sent.0 = length-take-le sent.0 bytes (omega arith) in
+    record {
+      took = take sent.0 bytes;
+      others = drop sent.0 bytes;
+      appended = sent.3;
+      front = take-append-drop sent.0 bytes ∙ is;
+      not_all = omega (arith, length-drop sent.0 bytes);
+      told = λ k f. sent.1 ∙ ap stopped_at (omega (arith, f, exactly));
+    }
+
+-- nothing waited, and the bytes went out
+pub sent-past : (a b : Option (List ℕ)) (s t : Outbox) (bytes : List ℕ) → s.waiting.items ≡ [] → t.waiting.items ≡ [] → t.taken ≡ capped (s.taken + length bytes) → Appends a b bytes → HasPut a b s t bytes
+sent-past a b s t bytes none still counted out = record {
+  took = bytes;
+  appended = out;
+  others = ap (λ (l : List ℕ). bytes ++ l) still ∙ append-nil bytes ∙ ap (λ (l : List ℕ). l ++ bytes) (sym none);
+  counted = λ k e. counted ∙ omega (arith, e);
+}
+
+pub where_err : {T E P : Type 0} (r : Result T E) (b : Bool) → b ≡ false → b ≡ is_ok r → OnErr r P → P
+where_err (Ok x) b f e h = absurd (cc (sym f ∙ e))
+where_err (Err x) b f e h = h
+
+pub stops-as : (a b : Option (List ℕ)) (s t : Outbox) (xs : List ℕ) (e : Refusal) → t ≡ s → HasStopped a b t xs e → HasStopped a b s xs e
+stops-as a b s t xs e is p = subst (λ (o : Outbox). HasStopped a b o xs e) is p
+
+pub puts-as : (a b : Option (List ℕ)) (s t u : Outbox) (xs : List ℕ) → t ≡ s → HasPut a b t u xs → HasPut a b s u xs
+puts-as a b s t u xs is p = subst (λ (o : Outbox). HasPut a b o u xs) is p

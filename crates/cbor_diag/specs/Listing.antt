@@ -1,0 +1,98 @@
+-- The listing of an item: a line for each of its events but the pieces of payloads.
+use Rattle.std.specs.Prelude.{◌≡◌, ℕ, ◌+◌, ◌<◌, ◌≤◌, ◌++◌, List, [], ◌∷◌, length, take, drop, flat_map, Option, Some, None, IfSome, codes, decimal}
+use Rattle.std.specs.Io.KnownBytes.{Appends}
+use Rattle.cbor_head.specs.Spelling.{Spelling, IsItem, spell}
+use Rattle.cbor_head.specs.Beginning.{IsBeginning}
+use Rattle.cbor_head.specs.Complaint.{form}
+use Rattle.cbor_head.specs.Verdict.{refusal, accepted, refused, IsVerdict}
+use Rattle.cbor_head.specs.declared.reason.Reason.TheVariants.{Read, Write, Truncated as TruncatedInput}
+use Rattle.cbor_head.specs.declared.reason.Refusal.{Refusal}
+use Rattle.cbor_head.specs.declared.width.Width.{Width}
+use Rattle.cbor_head.specs.declared.width.Width.TheVariants.{Direct, One, Two, Four, Eight, Indefinite}
+use Rattle.cbor_diag.specs.Outbox.{capped}
+use Rattle.cbor_events.specs.Event.{events, event_size, cut}
+use Rattle.cbor_events.specs.declared.event.Event.{Event}
+use Rattle.cbor_events.specs.declared.event.EventKind.{EventKind}
+use Rattle.cbor_events.specs.declared.event.EventKind.TheVariants.{Unsigned, Negative, Simple, Bytes, Text, Chunk, Piece, Array, Map, Tag, End}
+
+-- the name of an event, and the argument of its head if it has one; a piece has no line (RFC 8949, section 3)
+abbrev pub columns : EventKind → Option (List ℕ × Option ℕ)
+columns (Unsigned n) = Some (codes "unsigned", Some n)
+columns (Negative n) = Some (codes "negative", Some n)
+columns (Simple n) = Some (codes "simple", Some n)
+columns (Bytes count) = Some (codes "bytes", count)
+columns (Text count) = Some (codes "text", count)
+columns (Chunk n) = Some (codes "chunk", Some n)
+columns (Piece n) = None
+columns (Array count) = Some (codes "array", count)
+columns (Map count) = Some (codes "map", count)
+columns (Tag n) = Some (codes "tag", Some n)
+columns End = Some (codes "end", None)
+
+-- an argument in decimal, or a hyphen for none
+abbrev pub argument_text : Option ℕ → List ℕ
+argument_text None = codes "-"
+argument_text (Some n) = decimal n
+
+-- the count of the argument's bytes behind the first byte of a head, or a hyphen where there is no argument
+abbrev pub width_text : Width → List ℕ
+width_text Direct = codes "0"
+width_text One = codes "1"
+width_text Two = codes "2"
+width_text Four = codes "4"
+width_text Eight = codes "8"
+width_text Indefinite = codes "-"
+
+-- offset, name, argument and width, one space between, and a line feed
+abbrev pub row : Event → Option (List ℕ × Option ℕ) → List ℕ
+row e None = []
+row e (Some c) =
+    decimal e.place ++ codes " " ++ c.0 ++ codes " " ++ argument_text c.1 ++ codes " " ++ width_text e.width ++ codes "\n"
+
+-- the line of an event
+abbrev pub line : Event → List ℕ
+line e = row e (columns e.kind)
+
+-- the lines of events
+abbrev pub lines : List Event → List ℕ
+lines es = flat_map line es
+
+-- the listing of the bytes t: of each item that starts with them, the lines of the events that end within them
+pub record IsListing (d : ℕ) (t out : List ℕ) : Type 0 where
+  pub beginning : IsBeginning d t
+  pub of_events : (s : Spelling) (rest : List ℕ) → IsItem d s (t ++ rest) → out ≡ lines (cut (length t) (events 0 s))
+
+-- The same up to within the last line. The event of this line ends where t does: no byte behind it was asked for.
+pub record IsStopped (d : ℕ) (t out : List ℕ) : Type 0 where
+  pub beginning : IsBeginning d t
+  pub earlier : List Event
+  pub last : Event
+  pub of_events : (s : Spelling) (rest : List ℕ) → IsItem d s (t ++ rest) → cut (length t) (events 0 s) ≡ earlier ++ last ∷ []
+  pub ends : last.place + event_size last ≡ length t
+  pub part : ℕ
+  pub within : part < length (line last)
+  pub is : out ≡ lines earlier ++ take part (line last)
+
+-- the item at the front of the input is accepted, and its listing was written
+pub record IsListed (d n : ℕ) (input : List ℕ) (count : ℕ) (old new : Option (List ℕ)) : Type 0 where
+  pub item : Spelling
+  pub verdict : IsVerdict d n form input (accepted item)
+  pub size : count ≡ length (spell item)
+  pub written : Appends old new (lines (events 0 item))
+
+-- the input is refused, and something was written
+pub data IsUnlisted (d n : ℕ) (input : List ℕ) (f : Refusal) (old new : Option (List ℕ)) : Type 0 where
+  -- the verdict of form: the listing of the bytes in front of its place
+  of_verdict : (out : List ℕ) → IsVerdict d n form input (refused f)
+      → IsListing d (take f.place input) out → Appends old new out → IsUnlisted d n input f old new
+  -- the reader failed: the listing of the bytes taken, of which, as a whole input, the verdict is Truncated
+  of_reader : (out : List ℕ) → f ≡ refusal Read f.read f.read
+      → IsVerdict d n form (take f.read input) (refused (refusal TruncatedInput f.read f.read))
+      → IsListing d (take f.read input) out → Appends old new out → IsUnlisted d n input f old new
+  -- the writer failed or took nothing: the listing of the bytes taken, up to the place
+  of_writer : (out : List ℕ) → f ≡ refusal Write (capped (length out)) f.read
+      → IsStopped d (take f.read input) out → Appends old new out → IsUnlisted d n input f old new
+
+-- a reader that had these bytes lost the first so many of them
+abbrev pub Loses : ℕ → Option (List ℕ) → Option (List ℕ) → Type 0
+Loses k old new = IfSome old (λ input. (new ≡ Some (drop k input)) × (k ≤ length input))

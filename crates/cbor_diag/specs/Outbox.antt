@@ -1,0 +1,36 @@
+-- What a writer took of the bytes that were put behind others.
+use Rattle.std.specs.Prelude.{ℕ, ◌≡◌, ◌+◌, ◌-◌, ◌^◌, ◌<◌, min, List, ◌++◌, length, take, Option, Result, Ok, Err}
+use Rattle.std.specs.Io.KnownBytes.{Appends}
+use Rattle.cbor_head.specs.declared.reason.Refusal.{Refusal}
+use Rattle.cbor_item.specs.Sent.{stopped_at}
+use Rattle.cbor_diag.specs.declared.outbox.Outbox.{Outbox}
+
+-- a count of bytes, which stops at 2^64 - 1
+abbrev pub capped : ℕ → ℕ
+capped n = min n (2 ^ 64 - 1)
+
+-- the writer took some of what waited and of the bytes behind it, and the others wait
+pub record HasPut (old new : Option (List ℕ)) (from to : Outbox) (bytes : List ℕ) : Type 0 where
+  pub took : List ℕ
+  pub appended : Appends old new took
+  pub others : took ++ to.waiting.items ≡ from.waiting.items ++ bytes
+  pub counted : (k : ℕ) → from.taken ≡ capped k → to.taken ≡ capped (k + length took)
+
+-- the writer failed when it had taken some of what waited and of the bytes behind it, not all
+pub record HasStopped (old new : Option (List ℕ)) (from : Outbox) (bytes : List ℕ) (e : Refusal) : Type 0 where
+  pub took : List ℕ
+  pub others : List ℕ
+  pub appended : Appends old new took
+  pub front : took ++ others ≡ from.waiting.items ++ bytes
+  pub not_all : 0 < length others
+  pub told : (k : ℕ) → from.taken ≡ capped k → e ≡ stopped_at (capped (k + length took))
+
+-- the bytes were put, or the writer failed
+abbrev pub Puts : Option (List ℕ) → Option (List ℕ) → Outbox → Outbox → List ℕ → Result (Unit {0}) Refusal → Type 0
+Puts old new from to bytes (Ok x) = HasPut old new from to bytes
+Puts old new from to bytes (Err e) = HasStopped old new from bytes e
+
+-- All of the bytes went out, and their count is answered; or the first n alone. Counts stop at 2^64 - 1.
+abbrev pub Writes : Option (List ℕ) → Option (List ℕ) → List ℕ → Result ℕ Refusal → Type 0
+Writes old new bytes (Ok count) = (count ≡ capped (length bytes)) × Appends old new bytes
+Writes old new bytes (Err e) = (n : ℕ) × (e ≡ stopped_at (capped n)) × (n < length bytes) × Appends old new (take n bytes)

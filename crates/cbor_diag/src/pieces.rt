@@ -1,0 +1,152 @@
+//! The parts of a text that hold no others.
+
+ghost use Rattle.std.specs.Prelude.{◌≡◌, ◌≢◌, ◌+◌, ◌≤◌, ◌↔◌, [], ◌∷◌, ◌++◌, IsTrue, codes, decimal, flat_map, length, MatchResult};
+ghost use Rattle.hex.specs.Hex.{encode_lower};
+ghost use Rattle.cbor_diag.specs.IndentedText.{new_line};
+ghost use Rattle.cbor_diag.specs.Outbox.{Puts};
+ghost use Rattle.cbor_diag.specs.Text.{escaped, simple_text};
+
+use crate::outbox::Outbox;
+use cbor_head::Refusal;
+use itoa::Buffer;
+use std::io::Write;
+
+// How many bytes are turned into digits at once.
+const HEX_RUN: usize = 256;
+
+// A line feed and two spaces for each of as many levels as there can be.
+const NEW_LINE: &[u8; 513] = b"\n                                                                                                                                                                                                                                                                                                                                                                                                                                                                                                                                ";
+
+pub(crate) fn put_number<W: Write>(
+    number: u64,
+    out: &mut Outbox,
+    writer: &mut W,
+) -> Result<(), Refusal>
+    ensures { Puts (W.contents writer.old) (W.contents writer.new) out.old out.new
+        (decimal number) result }
+{
+    out.put(writer, Buffer::new().format(number).as_bytes())
+}
+
+// The number -1 - n.
+pub(crate) fn put_negative<W: Write>(
+    n: u64,
+    out: &mut Outbox,
+    writer: &mut W,
+) -> Result<(), Refusal>
+    ensures { Puts (W.contents writer.old) (W.contents writer.new) out.old out.new
+        (codes "-" ++ decimal (n + 1)) result }
+{
+    out.put(writer, b"-")?;
+    out.put(writer, Buffer::new().format(u128::from(n) + 1).as_bytes())
+}
+
+pub(crate) fn put_simple<W: Write>(
+    number: u8,
+    out: &mut Outbox,
+    writer: &mut W,
+) -> Result<(), Refusal>
+    ensures { Puts (W.contents writer.old) (W.contents writer.new) out.old out.new
+        (simple_text number) result }
+{
+    match number {
+        20 => out.put(writer, b"false"),
+        21 => out.put(writer, b"true"),
+        22 => out.put(writer, b"null"),
+        23 => out.put(writer, b"undefined"),
+        _ => {
+            out.put(writer, b"simple(")?;
+            put_number(u64::from(number), out, writer)?;
+            out.put(writer, b")")
+        }
+    }
+}
+
+pub(crate) fn put_bytes<W: Write>(
+    bytes: &[u8],
+    out: &mut Outbox,
+    writer: &mut W,
+) -> Result<(), Refusal>
+    ensures { Puts (W.contents writer.old) (W.contents writer.new) out.old out.new
+        (codes "h'" ++ encode_lower bytes.now ++ codes "'") result }
+{
+    out.put(writer, b"h'")?;
+    let mut at = 0;
+    while at < bytes.len() {
+        let end = bytes.len().min(at + HEX_RUN);
+        put_digits(&bytes[at..end], out, writer)?;
+        at = end;
+    }
+    out.put(writer, b"'")
+}
+
+// Two digits a byte.
+fn put_digits<W: Write>(bytes: &[u8], out: &mut Outbox, writer: &mut W) -> Result<(), Refusal>
+    requires { length bytes.now ≤ HEX_RUN }
+    ensures { Puts (W.contents writer.old) (W.contents writer.new) out.old out.new
+        (encode_lower bytes.now) result }
+{
+    let mut digits = [0; 2 * HEX_RUN];
+    let digits = &mut digits[..2 * bytes.len()];
+    match hex::encode_to_slice(bytes, digits) {
+        Ok(()) => out.put(writer, digits),
+        Err(_) => unreachable!(),
+    }
+}
+
+pub(crate) fn put_text<W: Write>(
+    text: &[u8],
+    out: &mut Outbox,
+    writer: &mut W,
+) -> Result<(), Refusal>
+    ensures { Puts (W.contents writer.old) (W.contents writer.new) out.old out.new
+        (codes "\"" ++ flat_map escaped text.now ++ codes "\"") result }
+{
+    out.put(writer, b"\"")?;
+    let mut start = 0;
+    for (at, byte) in text.iter().enumerate() {
+        if !is_raw(*byte) {
+            out.put(writer, &text[start..at])?;
+            put_escape(*byte, out, writer)?;
+            start = at + 1;
+        }
+    }
+    out.put(writer, &text[start..])?;
+    out.put(writer, b"\"")
+}
+
+// Whether a byte of a text stands as it is.
+fn is_raw(byte: u8) -> bool
+    ensures { IsTrue result ↔ (escaped byte ≡ byte ∷ []) }
+{
+    byte >= 0x20 && byte != b'"' && byte != b'\\' && byte != 0x7f
+}
+
+// A byte that doesn't stand as it is.
+fn put_escape<W: Write>(byte: u8, out: &mut Outbox, writer: &mut W) -> Result<(), Refusal>
+    requires { escaped byte ≢ byte ∷ [] }
+    ensures { Puts (W.contents writer.old) (W.contents writer.new) out.old out.new
+        (escaped byte) result }
+{
+    match byte {
+        b'"' => out.put(writer, b"\\\""),
+        b'\\' => out.put(writer, b"\\\\"),
+        _ => {
+            out.put(writer, b"\\u00")?;
+            put_digits(&[byte], out, writer)
+        }
+    }
+}
+
+// A line feed and two spaces for each level.
+pub(crate) fn put_new_line<W: Write>(
+    level: u16,
+    out: &mut Outbox,
+    writer: &mut W,
+) -> Result<(), Refusal>
+    requires { level ≤ 256 }
+    ensures { Puts (W.contents writer.old) (W.contents writer.new) out.old out.new
+        (new_line level) result }
+{
+    out.put(writer, &NEW_LINE[..1 + 2 * usize::from(level)])
+}
