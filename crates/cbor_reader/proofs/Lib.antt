@@ -2,6 +2,7 @@ pub mod Accepted
 pub mod Answering
 pub mod Arrays
 pub mod Building
+pub mod ByteLists
 pub mod Chunks
 pub mod Composition
 pub mod CutShort
@@ -23,6 +24,7 @@ pub mod Maps
 pub mod NextKey
 pub mod OnAnswers
 pub mod OneAnswer
+pub mod OpenContainers
 pub mod Payloads
 pub mod Scalars
 pub mod ReadItems

@@ -22,7 +22,7 @@ use Rattle.cbor_reader.proofs.FreeBefore.{truncated-free}
 use Rattle.cbor_reader.proofs.Reasons.{never-read}
 
 -- of a known input
-some-so : (from : Option (List ℕ)) (P Q : List ℕ → Type 0) → ((input : List ℕ) → P input → Q input) → IfSome from P → IfSome from Q
+pub some-so : (from : Option (List ℕ)) (P Q : List ℕ → Type 0) → ((input : List ℕ) → P input → Q input) → IfSome from P → IfSome from Q
 some-so None P Q f h = tt
 some-so (Some x) P Q f h = f x h
 
