@@ -4,7 +4,7 @@ use Rattle.std.proofs.lemmas.Bool.{cases_lt}
 use Rattle.cbor_head.specs.Spelling.{Spelling, IsItem}
 use Rattle.cbor_head.specs.Beginning.{IsLongestBeginning}
 use Rattle.cbor_head.specs.Complaint.{Rules, form, plain, strict, Complaint, Complains}
-use Rattle.cbor_head.specs.Verdict.{Answer, accepted, refused, refusal, IsBreak, IsVerdict, Decides, IsWithout}
+use Rattle.cbor_head.specs.Verdict.{Answer, accepted, refused, refusal, IsFormError, IsVerdict, Decides, IsWithout}
 use Rattle.cbor_head.specs.declared.reason.Reason.TheVariants.{Truncated}
 use Rattle.cbor_head.specs.declared.reason.Refusal.{Refusal}
 use Rattle.cbor_head.proofs.Agree.{split_front, same_complaints}
@@ -39,7 +39,7 @@ not-truncated form h = h
 not-truncated plain h = h
 not-truncated (strict o) h = h
 
-truncated-place : (d n k : ℕ) (p behind : List ℕ) → IsBreak d n p behind (refusal Truncated k k) → length p ≡ k
+truncated-place : (d n k : ℕ) (p behind : List ℕ) → IsFormError d n p behind (refusal Truncated k k) → length p ≡ k
 truncated-place d n k p [] (inl b) = absurd (cc (ap (λ (x : Refusal). x.reason) b.1))
 truncated-place d n k p [] (inr b) = sym (ap (λ (x : Refusal). x.place) b.1)
 truncated-place d n k p (c ∷ cs) b = sym (ap (λ (x : Refusal). x.place) b.2)

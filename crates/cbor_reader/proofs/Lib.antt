@@ -8,6 +8,7 @@ pub mod Composition
 pub mod CutShort
 pub mod Decisions
 mod Examples
+pub mod Frame
 pub mod Frames
 pub mod FreeBefore
 pub mod Fronts
@@ -15,8 +16,8 @@ pub mod Headline
 pub mod Heads
 pub mod Items
 pub mod Judged
-pub mod KeySets
 pub mod Keys
+pub mod KeySets
 pub mod Leaves
 pub mod Loops
 pub mod MapKeys
@@ -26,9 +27,9 @@ pub mod OnAnswers
 pub mod OneAnswer
 pub mod OpenContainers
 pub mod Payloads
-pub mod Scalars
 pub mod ReadItems
 pub mod Reasons
+pub mod Scalars
 pub mod Sizes
 pub mod SpelledBytes
 pub mod Steps
@@ -37,6 +38,6 @@ pub mod Tops
 pub mod Undecided
 pub mod Valid
 pub mod ValidTexts
-pub mod WholeStrings
 pub mod WholeInputs
+pub mod WholeStrings
 pub mod Within

@@ -10,7 +10,7 @@ use Rattle.cbor_head.specs.Value.{Value}
 use Rattle.cbor_head.specs.Spelling.{Spelling, Spellings, SpelledEntries, unsigned, negative, bytes, text, byte_chunks, text_chunks, array, a_map, tag, simple, no_spellings, a_spelling, no_entries, entry, spell, spellings_count, entries_count, depth, depth_all, depth_entries}
 use Rattle.cbor_head.specs.Beginning.{IsBeginning, IsLongestBeginning}
 use Rattle.cbor_head.specs.Complaint.{Rules}
-use Rattle.cbor_head.specs.Verdict.{refused, IsBreak, IsVerdict}
+use Rattle.cbor_head.specs.Verdict.{refused, IsFormError, IsVerdict}
 use Rattle.cbor_head.specs.declared.major.Major.TheVariants.{Array, Map, Tag}
 use Rattle.cbor_head.specs.declared.reason.Refusal.{Refusal}
 use Rattle.cbor_head.proofs.Verdicts.{beginning_front}
@@ -98,7 +98,7 @@ module _ (d n : ℕ) (input : List ℕ) where
       one : (count : ℕ) → count ≤ length p + 1 → length p < count → count ≡ length p + 1
       one count l h = omega (arith, l, h)
 
-  read_break : (p behind : List ℕ) (f : Refusal) → IsBreak d n p behind f → f.read ≤ length p + 1
+  read_break : (p behind : List ℕ) (f : Refusal) → IsFormError d n p behind f → f.read ≤ length p + 1
   read_break p [] f (inl b) = omega (arith, b.0, ap (λ (x : Refusal). x.read) b.1)
   read_break p [] f (inr b) = omega (arith, ap (λ (x : Refusal). x.read) b.1)
   read_break p (c ∷ cs) f b = omega (arith, ap (λ (x : Refusal). x.read) b.2)

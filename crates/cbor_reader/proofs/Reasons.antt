@@ -3,9 +3,9 @@ use Rattle.std.proofs.Common.{ℕ, ◌+◌, ◌≡◌, ◌≢◌, ◌⊎◌, Opt
 use Rattle.std.specs.Prelude.{◌==◌, ◌||◌, ◌&&◌, ◌%◌, nat_le, if◌then◌else◌}
 use Rattle.cbor_head.specs.Head.{head}
 use Rattle.cbor_head.specs.Spelling.{Chunk, Spelling, Spellings, SpelledEntries, unsigned, negative, bytes, text, byte_chunks, text_chunks, array, a_map, tag, simple, no_spellings, a_spelling, no_entries, entry, spell, chunk_bytes, spellings_count, entries_count}
-use Rattle.cbor_head.specs.Complaint.{Rules, form, plain, strict, Complaint, OfHead, OfOpener, OfCount, OfPayload, OfString, OfChunks, OfKey, Complains, ComplainsIn, ComplainsInEntries}
+use Rattle.cbor_head.specs.Complaint.{Rules, form, plain, strict, Complaint, OfHead, OfIndefinite, OfCount, OfPayload, OfString, OfChunks, OfKey, Complains, ComplainsIn, ComplainsInEntries}
 use Rattle.cbor_head.specs.Limits.{Bounds}
-use Rattle.cbor_head.specs.Verdict.{initial_reason, refusal, refused, BreaksForm, IsBreak, IsVerdict}
+use Rattle.cbor_head.specs.Verdict.{initial_reason, refusal, refused, IsReasonAt, IsFormError, IsVerdict}
 use Rattle.cbor_head.specs.declared.reason.Reason.{Reason}
 use Rattle.cbor_head.specs.declared.reason.Reason.TheVariants.{Read, StrayBreak, Float, NoIndefinite, Reserved, TooDeep}
 use Rattle.cbor_head.specs.declared.reason.Refusal.{Refusal}
@@ -16,8 +16,8 @@ use Rattle.cbor_head.specs.declared.width.Width.TheVariants.{Direct, One, Two, F
 use Rattle.cbor_head.specs.declared.order.KeyOrder.{KeyOrder}
 use Rattle.cbor_events.specs.Automaton.{Frame}
 use Rattle.cbor_reader.specs.Canonicalise.{IsRefusal, of_verdict, trailing, canonical_too_long, of_memory}
-use Rattle.cbor_reader.specs.Judged.{IsFinding}
-use Rattle.cbor_reader.specs.Reading.{IsFormRefusal, IsCause, HasCause, StopsItem}
+use Rattle.cbor_reader.specs.inner.Judged.{IsFinding}
+use Rattle.cbor_reader.specs.inner.Reading.{IsFormRefusal, IsCause, HasCause, StopsItem}
 use Rattle.cbor_reader.specs.Refusals.{IsFormReason, IsComplaintReason, IsReaderReason, IsCanonicaliserReason}
 
 -- a complaint for a reason that the rules have
@@ -29,7 +29,7 @@ of-head form at m w n c h = absurd h
 of-head plain at m w n c h = absurd h
 of-head (strict o) at m w n c h = by-reason (strict o) c _ h.1 tt
 
-of-opener : (r : Rules) (at : ℕ) (c : Complaint) → OfOpener r at c → IsComplaintReason r c.reason
+of-opener : (r : Rules) (at : ℕ) (c : Complaint) → OfIndefinite r at c → IsComplaintReason r c.reason
 of-opener form at c h = absurd h
 of-opener plain at c h = absurd h
 of-opener (strict o) at c h = by-reason (strict o) c _ h tt
@@ -109,13 +109,13 @@ initial-form c = chain (c == 0xff) ((c == 0xf9) || (c == 0xfa) || (c == 0xfb)) (
     chain false false false true = tt
     chain false false false false = tt
 
--- a break of form
-pub breaks-form : (d n : ℕ) (p behind : List ℕ) (f : Refusal) → IsBreak d n p behind f → IsFormReason f.reason
+-- a form error
+pub breaks-form : (d n : ℕ) (p behind : List ℕ) (f : Refusal) → IsFormError d n p behind f → IsFormReason f.reason
 breaks-form d n p [] f (inl h) = subst (λ (x : Refusal). IsFormReason x.reason) (sym h.1) tt
 breaks-form d n p [] f (inr h) = subst (λ (x : Refusal). IsFormReason x.reason) (sym h.1) tt
 breaks-form d n p (c ∷ cs) f h = subst (λ (x : Refusal). IsFormReason x.reason) (sym h.2) (go h.0 h.1)
   where
-    go : (reason : Reason) → BreaksForm d p c reason → IsFormReason reason
+    go : (reason : Reason) → IsReasonAt d p c reason → IsFormReason reason
     go reason (inl b) = subst IsFormReason (sym b.1) (initial-form c)
     go reason (inr (inl b)) = subst IsFormReason (sym b.2) tt
     go reason (inr (inr b)) = subst IsFormReason (sym b.2) tt

@@ -30,7 +30,7 @@ use Rattle.cbor_events.specs.declared.place.Place.TheVariants as places
 use Rattle.cbor_events.proofs.Runs.{once-marks}
 use Rattle.cbor_events.proofs.Taking.{IsClear, mark-taken}
 use Rattle.cbor_reader.proofs.ByteLists.{bytes_back}
-use Rattle.cbor_reader.specs.Reading.{IsAt, IsReached, OfMark, IsHeadDue, IsNextHead, IsCutHead, StopsHead, IsFault}
+use Rattle.cbor_reader.specs.inner.Reading.{IsAt, IsReached, OfMark, IsHeadDue, IsNextHead, IsCutHead, StopsHead, IsFault}
 use Rattle.cbor_events.proofs.NextEvents.{whole-clear, run-rest}
 
 -- what has become of the limits

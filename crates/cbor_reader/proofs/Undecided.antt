@@ -9,7 +9,7 @@ use Rattle.cbor_head.proofs.ReadLaws.{length_spell}
 use Rattle.cbor_events.specs.Automaton.{Frame}
 use Rattle.cbor_events.specs.ItemEvents.{ItemEventsView}
 use Rattle.cbor_reader.proofs.ByteLists.{bytes_front}
-use Rattle.cbor_reader.specs.Reading.{IsUndecided, IsPart, ReadsItem}
+use Rattle.cbor_reader.specs.inner.Reading.{IsUndecided, IsPart, ReadsItem}
 
 -- a list with its last byte apart
 record LastApart (xs : List ℕ) : Type 0 where
