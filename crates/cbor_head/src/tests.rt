@@ -187,7 +187,10 @@ fn reasons(rt: HostRuntime) -> Result<(), Fail> {
     assert_eq!(rt; refusal, Refusal::new(Reason::Trailing, 1, 1));
     // A repeated key of one byte at 3.
     let key = Refusal::new(Reason::RepeatedKey, 3, 4);
-    assert_eq!(rt; (key.reason, key.place, key.read), (Reason::RepeatedKey, 3, 4));
+    assert_eq!(rt;
+        (key.reason, key.place, key.read),
+        (Reason::RepeatedKey, 3, 4)
+    );
     assert_eq!(rt;
         format!(in rt.alloc(); "{refusal}")?.as_str(),
         "12 Trailing at 1"

@@ -10,8 +10,8 @@ use crate::item::Item;
 use crate::tree::Tree;
 
 /// Whether two trees are the same: kinds, numbers and strings equal, arrays place by place, maps by
-/// their pairs in any order (RFC 8949, section 5.6.1). Takes no memory. Two maps of n pairs take n
-/// comparisons where their pairs come in the same order, and at most n times n in another.
+/// their pairs in any order (RFC 8949, section 5.6.1). Takes no memory. Maps whose pairs come in
+/// another order take longer than those in the same order.
 pub fn same(a: &Tree, b: &Tree) -> bool
     ensures { IsTrue result ↔ Same (view a.now) (view b.now) }
 {

@@ -1,6 +1,7 @@
 pub mod Accepted
 pub mod Arrays
 pub mod Building
+pub mod ByteLists
 pub mod Chunks
 pub mod Comparing
 pub mod Composition
@@ -24,6 +25,7 @@ pub mod Maps
 pub mod NextKey
 pub mod OnAnswers
 pub mod OneAnswer
+pub mod OpenContainers
 pub mod Payloads
 pub mod ReadItems
 pub mod Reasons

@@ -30,13 +30,10 @@ use Rattle.cbor_events.specs.declared.event.EventKind.{EventKind}
 use Rattle.cbor_events.specs.declared.event.EventKind.TheVariants as kinds
 use Rattle.cbor_events.proofs.Taking.{IsClear, IsWithin, nothing-taken, first-mark, within-start}
 use Rattle.cbor_reader.specs.inner.Reading.{IsAt, IsFormRefusal, IsMemory, ReadsPayload, StopsPayload}
-use Rattle.cbor_reader.proofs.Steps.{due-by, Stops, SameLimits, stands-reached, at-reached, reached-as, at-clear, bytes_back, next-at, since}
+use Rattle.cbor_reader.proofs.Steps.{due-by, Stops, SameLimits, stands-reached, at-reached, reached-as, at-clear, next-at, since}
+use Rattle.cbor_reader.proofs.ByteLists.{bytes_join, bytes_back}
 use Rattle.cbor_reader.proofs.Scalars.{at-as}
 use Rattle.cbor_reader.proofs.Undecided.{is-part}
-
-pub bytes_join : (xs ys : List ℕ) → AreBytes xs → AreBytes ys → AreBytes (xs ++ ys)
-bytes_join [] ys g h = h
-bytes_join (x ∷ xs) ys g h = (g.0, bytes_join xs ys g.1 h)
 
 -- ---- a part of a payload
 

@@ -13,7 +13,7 @@ use Rattle.cbor_head.specs.declared.width.Width.{Width}
 use Rattle.cbor_head.specs.declared.width.Width.TheVariants.{Direct, One, Two, Four, Eight, Indefinite}
 use Rattle.cbor_head.proofs.Agree.{split_front}
 use Rattle.cbor_head.proofs.Parts.{holds_of}
-use Rattle.cbor_events.proofs.Standing.{are_bytes-append}
+use Rattle.cbor_reader.proofs.ByteLists.{bytes_join, bytes_front}
 use Rattle.cbor_events.proofs.Longest.{longest_exists}
 
 -- ---- heads
@@ -81,18 +81,18 @@ closer_bytes Indefinite = (omega arith, tt)
 chunks_are_bytes : (m : Major) (cs : List Chunk) → AllByRecursion IsChunk cs → AreBytes (flat_map (chunk_bytes m) cs)
 chunks_are_bytes m [] h = tt
 chunks_are_bytes m (c ∷ cs) h =
-    are_bytes-append (chunk_bytes m c) (flat_map (chunk_bytes m) cs)
-    (are_bytes-append (head m c.width (length c.payload)) c.payload (head_bytes m c.width (length c.payload) (room c.width (length c.payload) h.0.0)) h.0.1)
+    bytes_join (chunk_bytes m c) (flat_map (chunk_bytes m) cs)
+    (bytes_join (head m c.width (length c.payload)) c.payload (head_bytes m c.width (length c.payload) (room c.width (length c.payload) h.0.0)) h.0.1)
     (chunks_are_bytes m cs h.1)
 
 chunked_bytes : (m : Major) (cs : List Chunk) → AllByRecursion IsChunk cs → AreBytes ((head m Indefinite 0 ++ flat_map (chunk_bytes m) cs) ++ 0xff ∷ [])
 chunked_bytes m cs h =
-    are_bytes-append (head m Indefinite 0 ++ flat_map (chunk_bytes m) cs) (0xff ∷ [])
-    (are_bytes-append (head m Indefinite 0) (flat_map (chunk_bytes m) cs) (head_bytes m Indefinite 0 tt) (chunks_are_bytes m cs h))
+    bytes_join (head m Indefinite 0 ++ flat_map (chunk_bytes m) cs) (0xff ∷ [])
+    (bytes_join (head m Indefinite 0) (flat_map (chunk_bytes m) cs) (head_bytes m Indefinite 0 tt) (chunks_are_bytes m cs h))
     (omega arith, tt)
 
 string_bytes : (m : Major) (w : Width) (q : List ℕ) → Holds w (length q) → AreBytes q → AreBytes (head m w (length q) ++ q)
-string_bytes m w q h g = are_bytes-append (head m w (length q)) q (head_bytes m w (length q) (room w (length q) h)) g
+string_bytes m w q h g = bytes_join (head m w (length q)) q (head_bytes m w (length q) (room w (length q) h)) g
 
 mutual
   spelled_bytes : (s : Spelling) → IsSpelled s → AreBytes (spell s)
@@ -103,31 +103,27 @@ mutual
   spelled_bytes (byte_chunks cs) h = chunked_bytes Bytes cs h
   spelled_bytes (text_chunks cs) h = chunked_bytes Text cs h
   spelled_bytes (array w ss) h =
-      are_bytes-append (head Array w (spellings_count ss) ++ spell_all ss) (break_of w)
-      (are_bytes-append (head Array w (spellings_count ss)) (spell_all ss) (head_bytes Array w (spellings_count ss) (open_room w (spellings_count ss) h.0)) (spelled_all_bytes ss h.1))
+      bytes_join (head Array w (spellings_count ss) ++ spell_all ss) (break_of w)
+      (bytes_join (head Array w (spellings_count ss)) (spell_all ss) (head_bytes Array w (spellings_count ss) (open_room w (spellings_count ss) h.0)) (spelled_all_bytes ss h.1))
       (closer_bytes w)
   spelled_bytes (a_map w es) h =
-      are_bytes-append (head Map w (entries_count es) ++ spell_entries es) (break_of w)
-      (are_bytes-append (head Map w (entries_count es)) (spell_entries es) (head_bytes Map w (entries_count es) (open_room w (entries_count es) h.0)) (spelled_entries_bytes es h.1))
+      bytes_join (head Map w (entries_count es) ++ spell_entries es) (break_of w)
+      (bytes_join (head Map w (entries_count es)) (spell_entries es) (head_bytes Map w (entries_count es) (open_room w (entries_count es) h.0)) (spelled_entries_bytes es h.1))
       (closer_bytes w)
-  spelled_bytes (tag w n s) h = are_bytes-append (head Tag w n) (spell s) (head_bytes Tag w n (room w n h.0)) (spelled_bytes s h.1)
+  spelled_bytes (tag w n s) h = bytes_join (head Tag w n) (spell s) (head_bytes Tag w n (room w n h.0)) (spelled_bytes s h.1)
   spelled_bytes (simple n) h = head_bytes Simple (shortest n) n (open_room (shortest n) n (holds_of (simple n) h))
 
   spelled_all_bytes : (ss : Spellings) → AreSpelled ss → AreBytes (spell_all ss)
   spelled_all_bytes no_spellings h = tt
-  spelled_all_bytes (a_spelling s ss) h = are_bytes-append (spell s) (spell_all ss) (spelled_bytes s h.0) (spelled_all_bytes ss h.1)
+  spelled_all_bytes (a_spelling s ss) h = bytes_join (spell s) (spell_all ss) (spelled_bytes s h.0) (spelled_all_bytes ss h.1)
 
   spelled_entries_bytes : (es : SpelledEntries) → AreEntriesSpelled es → AreBytes (spell_entries es)
   spelled_entries_bytes no_entries h = tt
   spelled_entries_bytes (entry k v es) h =
-      are_bytes-append (spell k ++ spell v) (spell_entries es) (are_bytes-append (spell k) (spell v) (spelled_bytes k h.0) (spelled_bytes v h.1)) (spelled_entries_bytes es h.2)
-
-front_bytes : (p q : List ℕ) → AreBytes (p ++ q) → AreBytes p
-front_bytes [] q h = tt
-front_bytes (x ∷ p) q h = (h.0, front_bytes p q h.1)
+      bytes_join (spell k ++ spell v) (spell_entries es) (bytes_join (spell k) (spell v) (spelled_bytes k h.0) (spelled_bytes v h.1)) (spelled_entries_bytes es h.2)
 
 beginning_bytes : (d : ℕ) (p : List ℕ) → IsBeginning d p → AreBytes p
-beginning_bytes d p b = front_bytes p b.1 (subst AreBytes b.2.bytes_are (spelled_bytes b.0 b.2.spelled))
+beginning_bytes d p b = bytes_front p b.1 (subst AreBytes b.2.bytes_are (spelled_bytes b.0 b.2.spelled))
 
 -- ---- the longest beginning, whatever the input has
 

@@ -32,12 +32,9 @@ use Rattle.cbor_events.specs.declared.position.Position.TheVariants as positions
 use Rattle.cbor_events.proofs.Frames.{position-done}
 use Rattle.cbor_events.proofs.Runs.{once-marks}
 use Rattle.cbor_events.proofs.Taking.{IsClear, mark-taken}
+use Rattle.cbor_reader.proofs.ByteLists.{bytes_back}
 use Rattle.cbor_reader.specs.inner.Reading.{IsAt, IsReached, OfMark, IsHeadDue, IsNextHead, IsCutHead, StopsHead, IsFault}
 use Rattle.cbor_events.proofs.NextEvents.{whole-clear, run-rest}
-
-pub bytes_back : (xs ys : List ℕ) → AreBytes (xs ++ ys) → AreBytes ys
-bytes_back [] ys h = h
-bytes_back (x ∷ xs) ys h = bytes_back xs ys h.1
 
 -- what has become of the limits
 pub record SameLimits (old new : MachineView) : Type 0 where

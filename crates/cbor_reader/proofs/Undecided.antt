@@ -8,6 +8,7 @@ use Rattle.cbor_head.specs.Complaint.{Rules}
 use Rattle.cbor_head.proofs.ReadLaws.{length_spell}
 use Rattle.cbor_events.specs.inner.Automaton.{Frame}
 use Rattle.cbor_events.specs.ItemEvents.{ItemEventsView}
+use Rattle.cbor_reader.proofs.ByteLists.{bytes_front}
 use Rattle.cbor_reader.specs.inner.Reading.{IsUndecided, IsPart, ReadsItem}
 
 -- a list with its last byte apart
@@ -23,10 +24,6 @@ last-apart (x ∷ []) h = record { front = []; last = x ∷ []; splits = refl; b
 last-apart (x ∷ y ∷ ys) h =
     let k = last-apart (y ∷ ys) (omega arith) in
     record { front = x ∷ k.front; last = k.last; splits = ap (λ (zs : List ℕ). x ∷ zs) k.splits; byte = k.byte }
-
-bytes-front : (xs ys : List ℕ) → AreBytes (xs ++ ys) → AreBytes xs
-bytes-front [] ys h = tt
-bytes-front (x ∷ xs) ys h = (h.0, bytes-front xs ys h.1)
 
 -- behind an item without complaint
 pub item-undecided : (r : Rules) (b : Bounds) (fs : List Frame) (t x : List ℕ) (from to : Option (List ℕ)) (new : ItemEventsView) (v : Value) → (m : ReadsItem r b fs t x from to new v) → IsUndecided r b fs t (spell m.item)
@@ -56,5 +53,5 @@ is-part n bytes some most h =
       splits = k.splits;
       byte = omega (arith, k.byte);
       short = omega (arith, k.byte, most, ap length k.splits, length-append k.front k.last);
-      are_bytes = bytes-front k.front k.last (subst AreBytes k.splits h);
+      are_bytes = bytes_front k.front k.last (subst AreBytes k.splits h);
     }

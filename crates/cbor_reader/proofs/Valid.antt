@@ -14,6 +14,7 @@ use Rattle.cbor_head.proofs.Counts.{holds_fits, values_count-of, entries_count-o
 use Rattle.cbor_head.proofs.ReadLaws.{length_spell}
 use Rattle.cbor_item.proofs.Stable.{utf8_stable}
 use Rattle.cbor_reader.proofs.Judged.{Never}
+use Rattle.cbor_reader.proofs.ByteLists.{bytes_join}
 
 -- ---- counts
 
@@ -31,13 +32,9 @@ joined_bounded m [] = omega arith
 joined_bounded m (k ∷ ks) =
     omega (arith, joined_bounded m ks, length-append (chunk_bytes m k) (flat_map (chunk_bytes m) ks), length-append (head m k.width (length k.payload)) k.payload, length-append k.payload (chunks_joined ks))
 
-bytes-append : (xs ys : List ℕ) → AreBytes xs → AreBytes ys → AreBytes (xs ++ ys)
-bytes-append [] ys h k = k
-bytes-append (x ∷ xs) ys h k = (h.0, bytes-append xs ys h.1 k)
-
 joined_are_bytes : (cs : List Chunk) → AllByRecursion IsChunk cs → AreBytes (chunks_joined cs)
 joined_are_bytes [] h = tt
-joined_are_bytes (k ∷ ks) h = bytes-append k.payload (chunks_joined ks) h.0.1 (joined_are_bytes ks h.1)
+joined_are_bytes (k ∷ ks) h = bytes_join k.payload (chunks_joined ks) h.0.1 (joined_are_bytes ks h.1)
 
 -- the content of a chunked string is no longer than its bytes
 chunks_fit : (m : Major) (cs : List Chunk) → length (chunked m cs) < 2 ^ 64 → length (chunks_joined cs) < 2 ^ 64

@@ -13,7 +13,7 @@ use Rattle.cbor_reader.specs.Readers.{IsRead, IsReadAs, IsUnread, of_verdict, of
 use Rattle.cbor_reader.proofs.StrictFronts.{strict_bytes, strict_value, strict_accepts}
 
 -- of a known input
-some-so : (from : Option (List ℕ)) (P Q : List ℕ → Type 0) → ((input : List ℕ) → P input → Q input) → IfSome from P → IfSome from Q
+pub some-so : (from : Option (List ℕ)) (P Q : List ℕ → Type 0) → ((input : List ℕ) → P input → Q input) → IfSome from P → IfSome from Q
 some-so None P Q f h = tt
 some-so (Some x) P Q f h = f x h
 

@@ -38,7 +38,7 @@ use Rattle.cbor_reader.proofs.Heads.{zero_bytes, zero_length}
 use Rattle.cbor_reader.proofs.Judged.{Never}
 use Rattle.cbor_reader.proofs.Leaves.{IsChunked, bytes_chunked, text_chunked, chunks_bytes, chunk_judged, bytes_so_far, text_so_far, text_complains}
 use Rattle.cbor_reader.proofs.Chunks.{chunk, AreChunksSoFar, cut_chunk, cut_payload, chunk_complains, chunks_more, chunks_whole}
-use Rattle.cbor_reader.proofs.Payloads.{bytes_join}
+use Rattle.cbor_reader.proofs.ByteLists.{bytes_join}
 use Rattle.cbor_events.proofs.Taking.{nothing-taken}
 use Rattle.cbor_reader.proofs.Steps.{reached-as}
 

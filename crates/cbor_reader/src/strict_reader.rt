@@ -1,8 +1,9 @@
 //! The item at the front of an input, if it is canonical.
 
-ghost use Rattle.std.specs.Prelude.{◌≡◌, ◌≢◌, length, IfOk, IfErr, IfSome};
+ghost use Rattle.std.specs.Prelude.{◌≡◌, ◌≢◌, length, IfOk, IfErr, IfSome, MatchResult};
 ghost use Rattle.cbor_head.specs.Complaint.{strict};
 ghost use Rattle.cbor_head.specs.declared.reason.Reason.TheVariants as reasons;
+ghost use Rattle.cbor_reader.specs.Headline.{StaysWithinDepth};
 ghost use Rattle.cbor_reader.specs.Readers.{IsRead, IsUnread, IsCanonicalFront, HasNoCanonicalFront, Loses};
 ghost use Rattle.cbor_reader.specs.Refusals.{IsReaderReason};
 
@@ -18,7 +19,8 @@ use std::io::Read;
 /// No byte behind the item is read. The refusal is the one that the bytes within the limits call
 /// for, by the rules of the deterministic encoding; or `Read` or `Memory`, where the reader failed
 /// or memory was refused before: then the place is the count of the bytes taken. After a refusal as
-/// many bytes were taken as its `read` tells.
+/// many bytes were taken as its `read` tells. Whatever was taken, no more containers were open than
+/// the depth limit allows.
 pub fn read_strict<R: Read>(
     alloc: Global,
     reader: &mut R,
@@ -37,6 +39,9 @@ pub fn read_strict<R: Read>(
     ensures no_canonical { IfErr result (λ f. f.reason ≢ reasons.Read → f.reason ≢ reasons.Memory
         → IfSome (R.remaining reader.old)
         (HasNoCanonicalFront limits.depth limits.bytes order)) }
+    ensures within_depth { IfSome (R.remaining reader.old) (λ input. MatchResult result
+        (λ count. StaysWithinDepth limits.depth input count)
+        (λ f. StaysWithinDepth limits.depth input f.read)) }
     ensures read { IfErr result
         (λ f. Loses f.read (R.remaining reader.old) (R.remaining reader.new)) }
 {

@@ -2,6 +2,7 @@
 use Rattle.std.specs.Prelude.{ℕ, ◌≡◌, ◌≢◌, ◌≤◌, ◌^◌, ◌⊎◌, List, Option, Some, None, IsSome, IsSomeAnd, true, false, codes, if◌then◌else◌, option_map, option_and_then}
 use Rattle.std.specs.Str.{bytes_eq}
 use Rattle.std.specs.Str.Parse.{IsNumeral, digits_value, without_leading_plus}
+use Rattle.cbor_head.specs.declared.limits.TheConstants.{MAX_DEPTH}
 use Rattle.cbor_head.specs.declared.order.KeyOrder.{KeyOrder}
 use Rattle.cbor_head.specs.declared.order.KeyOrder.TheVariants.{Bytewise, LengthFirst}
 use Rattle.clap.specs.Words.{Row, Text, first_of, one_of}
@@ -56,7 +57,7 @@ IsNumber most text = IsNumeral 10 (without_leading_plus text) × (digits_value 1
 
 -- limits are given, in their ranges
 abbrev pub HasLimits : List Row → Type 0
-HasLimits rows = IsSomeAnd (one_of (codes "depth") rows) (IsNumber 256) × IsSomeAnd (one_of (codes "bytes") rows) (IsNumber (2 ^ 62))
+HasLimits rows = IsSomeAnd (one_of (codes "depth") rows) (IsNumber MAX_DEPTH) × IsSomeAnd (one_of (codes "bytes") rows) (IsNumber (2 ^ 62))
 
 -- so are the files that a subcommand of this name takes
 abbrev pub HasFiles : Text × List Row → Type 0

@@ -4,7 +4,7 @@ ghost use Rattle.std.specs.Prelude.{◌≡◌, codes, IfSome, IsSome};
 ghost use Rattle.clap.specs.Words.{found_of, rows_of, subcommand_rows_of};
 ghost use Rattle.cborc.specs.CommandLine.{order_named, AsksFor, HasLimits, IsAcceptedOf, IsComplete, IsOptionsOf};
 
-use cbor_head::{KeyOrder, Limits};
+use cbor_head::{KeyOrder, Limits, MAX_DEPTH};
 use clap::error::ErrorKind;
 use clap::{Arg, ArgAction, ArgMatches, Command, Error};
 use std::alloc::{AllocError, Global};
@@ -247,7 +247,7 @@ fn with_options<'a>(alloc: Global, command: Command<'a>) -> Result<Command<'a>, 
         .long("depth")
         .value_name("count")
         .action(ArgAction::Set)
-        .value_parser(clap::value_parser!(u16).range(0..=256))
+        .value_parser(clap::value_parser!(u16).range(0..=i64::from(MAX_DEPTH)))
         .default_value("256")
         .help("How deep arrays, maps and tags may nest, 0 to 256");
     let bytes = Arg::new(alloc, "bytes")
