@@ -16,10 +16,12 @@ ghost use Rattle.cbor_reader.specs.Sequence.{sequence_bytes, IsAccepted, StartsW
 /// The items of a sequence: by the plain rules the valid items within the limits; by the strict
 /// ones, in an order, the items within the limits that are spelled by their canonical bytes.
 pub fn items_of_sequences()
-    ensures plain { (d n : ℕ) (s : Spelling) → IsAccepted d n plain s ↔ IsValidItem d n (spell s) s }
+    ensures plain { (d n : ℕ) (s : Spelling)
+        → IsAccepted d n plain s ↔ IsValidItem d n (spell s) s }
     ensures strict { (d n : ℕ) (o : KeyOrder) (s : Spelling) → IsItem d s (spell s)
         → IsAccepted d n (strict o) s
-        ↔ (BeginsWithCanonical d n o (spell s) (value_of s) × (spell s ≡ canonical o (value_of s))) }
+        ↔ (BeginsWithCanonical d n o (spell s) (value_of s)
+        × (spell s ≡ canonical o (value_of s))) }
 {}
 
 /// A run begins with nothing given, and where one call gave all and gives one more, it gave all

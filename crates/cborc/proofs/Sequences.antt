@@ -1,16 +1,14 @@
 -- The items of a sequence, counted one by one.
-use Rattle.std.proofs.Common.{ℕ, ◌+◌, ◌≡◌, ◌≢◌, ◌<◌, ◌≤◌, Option, Some, List, [], ◌∷◌, ◌++◌, length, refl, sym, ap, ◌∙◌, arith, subst}
+use Rattle.std.proofs.Common.{ℕ, ◌+◌, ◌≡◌, ◌≤◌, Option, Some, List, [], ◌∷◌, ◌++◌, length, refl, sym, ap, arith, subst}
 use Rattle.std.specs.Option.{IfSome}
-use Rattle.std.specs.List.{AllByRecursion}
-use Rattle.std.proofs.lemmas.List.{length-append, append-nil}
+use Rattle.std.proofs.lemmas.List.{length-append}
 use Rattle.cbor_head.specs.Complaint.{Rules}
 use Rattle.cbor_head.specs.Limits.{Bounds}
 use Rattle.cbor_head.specs.Spelling.{Spelling, spell}
-use Rattle.cbor_head.specs.declared.reason.Reason.TheVariants.{Read, Memory}
 use Rattle.cbor_head.specs.declared.reason.Refusal.{Refusal}
 use Rattle.cbor_head.proofs.ReadLaws.{length_spell}
 use Rattle.cbor_reader.specs.Readers.{IsUnread}
-use Rattle.cbor_reader.specs.Sequence.{sequence_bytes, StartsWithItems, EndsBefore, IsAtEnd, IsRefused, Given, given_by, items_of, AreGivenBy, HasGiven, GivesNext}
+use Rattle.cbor_reader.specs.Sequence.{sequence_bytes, StartsWithItems, EndsBefore, IsAtEnd, IsRefused, Given, given_by, items_of, HasGiven, GivesNext}
 use Rattle.cbor_reader.proofs.SequenceLaws.{starts, by_one, one_more as also_by}
 use Rattle.cborc.specs.CheckSequence.{IsWholeSequence, IsRefusedAt, HasCounted}
 
