@@ -8,7 +8,7 @@ use Rattle.cbor_head.specs.Value.{Value}
 use Rattle.cbor_head.specs.Spelling.{Spelling, simple, spell, value_of, IsItem}
 use Rattle.cbor_head.specs.Complaint.{Rules, Complaint, Complains, plain}
 use Rattle.cbor_head.specs.Limits.{Bounds}
-use Rattle.cbor_head.specs.Verdict.{accepted, refused, refusal, IsBreak, IsVerdict}
+use Rattle.cbor_head.specs.Verdict.{accepted, refused, refusal, IsFormError, IsVerdict}
 use Rattle.cbor_head.specs.declared.reason.Reason.{Reason}
 use Rattle.cbor_head.specs.declared.reason.Reason.TheVariants.{Read, Memory, Truncated, TooLong}
 use Rattle.cbor_head.specs.declared.reason.Refusal.{Refusal}
@@ -63,7 +63,7 @@ empty_is_truncated d n r l = truncated d r (simple 0) (spell (simple 0)) 0 (reco
 
 module _ (d n : ℕ) (r : Rules) (input : List ℕ) where
   -- none of what breaks the form reads nothing, but the end
-  break_before : (p behind : List ℕ) (f : Refusal) → take n input ≡ p ++ behind → IsBreak d n p behind f → IsBeforeItem f → EndsBefore n input
+  break_before : (p behind : List ℕ) (f : Refusal) → take n input ≡ p ++ behind → IsFormError d n p behind f → IsBeforeItem f → EndsBefore n input
   break_before p [] f e (inl b) (x, y) = absurd (apart (sym x ∙ ap (λ (g : Refusal). g.reason) b.1))
     where
       apart : Truncated ≡ TooLong → ⊥
