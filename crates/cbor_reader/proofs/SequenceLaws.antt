@@ -15,7 +15,7 @@ use Rattle.cbor_head.proofs.OneVerdict.{one_verdict}
 use Rattle.cbor_head.proofs.ReadLaws.{length_spell, unique}
 use Rattle.cbor_reader.specs.Headline.{IsValidItem, BeginsWithCanonical}
 use Rattle.cbor_reader.specs.Readers.{IsUnread, of_verdict, of_reader, of_memory}
-use Rattle.cbor_reader.specs.Sequence.{sequence_bytes, IsAccepted, StartsWithItems, IsLongestSequence, EndsBefore, IsAtEnd, IsRefused, Given, items_of, AreGivenBy, HasGiven}
+use Rattle.cbor_reader.specs.Sequence.{sequence_bytes, IsAccepted, StartsWithItems, IsLongestSequence, EndsBefore, IsAtEnd, IsRefused, Given, given_by, items_of, AreGivenBy, HasGiven}
 use Rattle.cbor_reader.proofs.CutShort.{cut}
 use Rattle.cbor_reader.proofs.Sequences.{is_accepted, verdict_of, not_both, empty_is_truncated, verdict_before, splits}
 use Rattle.cbor_reader.proofs.StrictFronts.{strict_bytes, strict_value, strict_accepts}
@@ -53,6 +53,10 @@ given_by_one b r (g ∷ gs) h a = (subst (λ (x : Rules). IsAccepted b.depth b.b
 
 pub by_one : (r : Rules) (b : Bounds) (held : Option (List ℕ)) (input : List ℕ) (given : List Given) → (run : HasGiven b held input given) → AreGivenBy r given → StartsWithItems b.depth b.bytes r input (items_of given) run.rest
 by_one r b held input given run a = record { each = given_by_one b r given run.each a; bytes = run.bytes }
+
+pub one_more : (r : Rules) (given : List Given) (s : Spelling) → AreGivenBy r given → AreGivenBy r (given ++ given_by r s ∷ [])
+one_more r [] s h = (refl, tt)
+one_more r (g ∷ gs) s h = (h.0, one_more r gs s h.1)
 
 -- ---- the longest
 

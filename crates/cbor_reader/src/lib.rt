@@ -1,4 +1,4 @@
-//! Readers of whole CBOR items.
+//! Readers of whole CBOR items, and of sequences of them.
 #![tactic(auto)]
 
 mod built_array;

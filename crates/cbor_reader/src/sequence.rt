@@ -15,6 +15,16 @@ use std::io::Read;
 use std::marker::Model;
 
 /// A sequence of items (RFC 8742) in a reader, as [`SequenceItems`] reads it.
+///
+/// ```ignore
+/// // 0, [1], and a number that is cut off
+/// let input: &[u8] = b"\x00\x81\x01\x18";
+/// let mut sequence = Sequence::new(alloc, input, limits);
+/// sequence.next(); // the tree 0
+/// sequence.next_strict(KeyOrder::Bytewise); // two bytes: [1]
+/// sequence.next(); // the refusal `Truncated` at 1
+/// sequence.next(); // none
+/// ```
 #[derive(Drop)]
 pub struct Sequence<R> {
     reader: R,

@@ -71,7 +71,7 @@ impl SequenceItems {
             return None;
         }
         match read_tree(self.alloc, reader, self.limits) {
-            Ok((tree, _)) => Some(Ok(tree)),
+            Ok((tree, _count)) => Some(Ok(tree)),
             Err(refusal) => self.stop(refusal),
         }
     }

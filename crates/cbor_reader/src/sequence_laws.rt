@@ -1,6 +1,6 @@
 //! Laws of sequences: functions with nothing to run, whose contracts are the laws.
 
-ghost use Rattle.std.specs.Prelude.{◌≡◌, ◌≢◌, ◌↔◌, ◌<◌, ℕ, Option, Some, List, []};
+ghost use Rattle.std.specs.Prelude.{◌≡◌, ◌≢◌, ◌↔◌, ℕ, Option, Some, List, [], ◌∷◌, ◌++◌};
 ghost use Rattle.cbor_head.specs.Canonical.{canonical};
 ghost use Rattle.cbor_head.specs.Complaint.{Rules, plain, strict};
 ghost use Rattle.cbor_head.specs.Limits.{Bounds};
@@ -11,24 +11,28 @@ ghost use Rattle.cbor_head.specs.declared.reason.Reason.TheVariants.{Memory, Rea
 ghost use Rattle.cbor_head.specs.declared.reason.Refusal.{Refusal};
 ghost use Rattle.cbor_reader.specs.Headline.{IsValidItem, BeginsWithCanonical};
 ghost use Rattle.cbor_reader.specs.Readers.{IsUnread};
-ghost use Rattle.cbor_reader.specs.Sequence.{sequence_bytes, IsAccepted, StartsWithItems, IsLongestSequence, EndsBefore, IsAtEnd, IsRefused, Given, items_of, AreGivenBy, HasGiven};
+ghost use Rattle.cbor_reader.specs.Sequence.{sequence_bytes, IsAccepted, StartsWithItems, IsLongestSequence, EndsBefore, IsAtEnd, IsRefused, Given, given_by, items_of, AreGivenBy, HasGiven};
 
 /// The items of a sequence: by the plain rules the valid items within the limits; by the strict
 /// ones, in an order, the items within the limits that are spelled by their canonical bytes.
 pub fn items_of_sequences()
-    ensures plain { (d n : ℕ) (s : Spelling) → IsAccepted d n plain s ↔ IsValidItem d n (spell s) s }
+    ensures plain { (d n : ℕ) (s : Spelling)
+        → IsAccepted d n plain s ↔ IsValidItem d n (spell s) s }
     ensures strict { (d n : ℕ) (o : KeyOrder) (s : Spelling) → IsItem d s (spell s)
         → IsAccepted d n (strict o) s
-        ↔ (BeginsWithCanonical d n o (spell s) (value_of s) × (spell s ≡ canonical o (value_of s))) }
+        ↔ (BeginsWithCanonical d n o (spell s) (value_of s)
+        × (spell s ≡ canonical o (value_of s))) }
 {}
 
-/// A run begins with nothing given. Where one call gave all, the input starts with a sequence that
-/// is accepted by the rules of this call.
+/// A run begins with nothing given, and where one call gave all and gives one more, it gave all
+/// again. Then the input starts with a sequence that is accepted by the rules of this call.
 pub fn runs_of_calls()
     ensures starts { (b : Bounds) (input : List ℕ) → HasGiven b (Some input) input [] }
     ensures by_one { (r : Rules) (b : Bounds) (held : Option (List ℕ)) (input : List ℕ)
         (given : List Given) → (run : HasGiven b held input given) → AreGivenBy r given
         → StartsWithItems b.depth b.bytes r input (items_of given) run.rest }
+    ensures one_more { (r : Rules) (given : List Given) (s : Spelling) → AreGivenBy r given
+        → AreGivenBy r (given ++ given_by r s ∷ []) }
 {}
 
 /// The items that one call gave, until it gives none or refuses, are the longest sequence that the

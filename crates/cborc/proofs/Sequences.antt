@@ -1,25 +1,19 @@
 -- The items of a sequence, counted one by one.
-use Rattle.std.proofs.Common.{ℕ, ◌+◌, ◌≡◌, ◌≢◌, ◌<◌, ◌≤◌, Option, Some, List, [], ◌∷◌, ◌++◌, length, refl, sym, ap, ◌∙◌, arith, subst}
+use Rattle.std.proofs.Common.{ℕ, ◌+◌, ◌≡◌, ◌≤◌, Option, Some, List, [], ◌∷◌, ◌++◌, length, refl, sym, ap, arith, subst}
 use Rattle.std.specs.Option.{IfSome}
-use Rattle.std.specs.List.{AllByRecursion}
-use Rattle.std.proofs.lemmas.List.{length-append, append-nil}
+use Rattle.std.proofs.lemmas.List.{length-append}
 use Rattle.cbor_head.specs.Complaint.{Rules}
 use Rattle.cbor_head.specs.Limits.{Bounds}
 use Rattle.cbor_head.specs.Spelling.{Spelling, spell}
-use Rattle.cbor_head.specs.declared.reason.Reason.TheVariants.{Read, Memory}
 use Rattle.cbor_head.specs.declared.reason.Refusal.{Refusal}
 use Rattle.cbor_head.proofs.ReadLaws.{length_spell}
 use Rattle.cbor_reader.specs.Readers.{IsUnread}
-use Rattle.cbor_reader.specs.Sequence.{sequence_bytes, StartsWithItems, EndsBefore, IsAtEnd, IsRefused, Given, given_by, items_of, AreGivenBy, HasGiven, GivesNext}
-use Rattle.cbor_reader.proofs.SequenceLaws.{starts, by_one}
+use Rattle.cbor_reader.specs.Sequence.{sequence_bytes, StartsWithItems, EndsBefore, IsAtEnd, IsRefused, Given, given_by, items_of, HasGiven, GivesNext}
+use Rattle.cbor_reader.proofs.SequenceLaws.{starts, by_one, one_more as also_by}
 use Rattle.cborc.specs.CheckSequence.{IsWholeSequence, IsRefusedAt, HasCounted}
 
 pub none_yet : (b : Bounds) (rules : Rules) (input : List ℕ) → HasCounted b rules (Some input) input 0
 none_yet b rules input = record { given = []; run = starts b input; by_one = tt; count_is = refl }
-
-also_by : (rules : Rules) (given : List Given) (s : Spelling) → AreGivenBy rules given → AreGivenBy rules (given ++ given_by rules s ∷ [])
-also_by rules [] s h = (refl, tt)
-also_by rules (g ∷ gs) s h = (h.0, also_by rules gs s h.1)
 
 one_more_of : (b : Bounds) (rules : Rules) (from to : Option (List ℕ)) (input : List ℕ) (count : ℕ) (Told : Spelling → Type 0) (h : HasCounted b rules from input count) → GivesNext rules b to input h.given Told → HasCounted b rules to input (count + 1)
 one_more_of b rules from to input count Told h g = record {

@@ -1,12 +1,12 @@
 -- What `check --seq` asks of a file's bytes (RFC 8742).
-use Rattle.std.specs.Prelude.{ℕ, ◌+◌, ◌≡◌, ◌≢◌, ◌<◌, ◌++◌, List, [], ◌∷◌, length, Option}
+use Rattle.std.specs.Prelude.{ℕ, ◌+◌, ◌≡◌, ◌≢◌, ◌<◌, List, [], length, Option}
 use Rattle.cbor_head.specs.Complaint.{Rules}
 use Rattle.cbor_head.specs.Limits.{Bounds}
 use Rattle.cbor_head.specs.Spelling.{Spelling}
 use Rattle.cbor_head.specs.declared.reason.Reason.TheVariants.{Read, Memory}
 use Rattle.cbor_head.specs.declared.reason.Refusal.{Refusal}
 use Rattle.cbor_reader.specs.Readers.{IsUnread}
-use Rattle.cbor_reader.specs.Sequence.{StartsWithItems, EndsBefore, Given, given_by, AreGivenBy, HasGiven}
+use Rattle.cbor_reader.specs.Sequence.{StartsWithItems, EndsBefore, Given, AreGivenBy, HasGiven}
 
 -- the whole input is a sequence of so many items, each accepted by the rules within depth d and n bytes
 pub record IsWholeSequence (d n : ℕ) (rules : Rules) (input : List ℕ) (count : ℕ) : Type 0 where

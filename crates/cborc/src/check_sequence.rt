@@ -50,8 +50,8 @@ fn count_items(
 ) -> Result<usize, RefusedItem>
     ensures whole { IfOk result
         (IsWholeSequence limits.depth limits.bytes (rules_of accepted) bytes.now) }
-    ensures refused { IfErr result (λ item.
-        IsRefusedAt limits.depth limits.bytes (rules_of accepted) bytes.now item.index item.refusal) }
+    ensures refused { IfErr result (λ item. IsRefusedAt limits.depth limits.bytes
+        (rules_of accepted) bytes.now item.index item.refusal) }
 {
     has_a_length(bytes);
     let mut rest = bytes;
@@ -86,7 +86,8 @@ fn skip_item<R: Read>(
 ) -> Option<Result<(), Refusal>>
     ensures item { IfGiven result (λ _. (input : List ℕ) (count : ℕ)
         → HasCounted items.old.limits (rules_of accepted) (R.remaining reader.old) input count
-        → HasCounted items.old.limits (rules_of accepted) (R.remaining reader.new) input (count + 1)) }
+        → HasCounted items.old.limits (rules_of accepted) (R.remaining reader.new)
+        input (count + 1)) }
     ensures end { result ≡ None → items.old.finished ≡ false
         → IsAtEnd items.old.limits.bytes (R.remaining reader.old) (R.remaining reader.new) }
     ensures refused { IfRefused result (IsRefused (rules_of accepted) items.old.limits

@@ -1,4 +1,4 @@
-use Rattle.cbor_reader.proofs.SequenceLaws.{starts, by_one}
+use Rattle.cbor_reader.proofs.SequenceLaws.{starts, by_one, one_more}
 use Rattle.cbor_reader.proofs.sequence_laws.runs_of_calls.Goals as goal
 
 pub returns-clause-starts : goal.returns-clause-starts
@@ -6,3 +6,6 @@ returns-clause-starts c = starts
 
 pub returns-clause-by_one : goal.returns-clause-by_one
 returns-clause-by_one c = by_one
+
+pub returns-clause-one_more : goal.returns-clause-one_more
+returns-clause-one_more c = one_more

@@ -1,4 +1,4 @@
-use Rattle.std.proofs.Common.{ℕ, ◌≡◌, ◌+◌, ◌-◌, ◌<◌, ◌≤◌, Some, length, arith, sym, subst}
+use Rattle.std.proofs.Common.{◌+◌, ◌-◌, ◌<◌, ◌≤◌, Some, length, arith, subst}
 use Rattle.cbor_head.specs.Limits.{Bounds}
 use Rattle.cbor_reader.specs.Sequence.{IsAtEnd, IsRefused}
 use Rattle.cborc.specs.Check.{rules_of}
