@@ -50,7 +50,8 @@ impl<'a> Fault<'a> {
         ensures { result ≡ fault_status self.now }
     {
         match self {
-            Fault::Refused(_) | Fault::LeftRefused(_) | Fault::RightRefused(_) => Status::Refused,
+            Fault::Refused(_) => Status::Refused,
+            Fault::LeftRefused(_) | Fault::RightRefused(_) => Status::Refused,
             Fault::NotText => Status::Misused,
             _ => Status::Failed,
         }

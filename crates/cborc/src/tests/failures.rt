@@ -88,7 +88,7 @@ fn standard_error_fails(rt: HostRuntime) -> Result<(), AllocError> {
 }
 
 // The words, and how many bytes standard output takes of what they print of a file that holds 0.
-static PRINTED: [(&str, usize); 7] = [
+static PRINTED: [(&str, usize); 9] = [
     ("help", 0),
     ("help", 1),
     ("help", 20),
@@ -96,6 +96,8 @@ static PRINTED: [(&str, usize); 7] = [
     ("check in", 1),
     ("check in", 16),
     ("check --strict in", 0),
+    ("compare in in", 0),
+    ("compare in in", 4),
 ];
 
 #[test]
