@@ -25,7 +25,13 @@ pub fn compare<'a, F: Folder, O: Write>(
 ) -> Result<Status, Fault<'a>> {
     let first = input::read(alloc, files, left, *options)?;
     let second = input::read(alloc, files, right, *options)?;
-    tell(alloc, out, first.as_slice(), second.as_slice(), options.limits)
+    tell(
+        alloc,
+        out,
+        first.as_slice(),
+        second.as_slice(),
+        options.limits,
+    )
 }
 
 // Writes to `out` whether two inputs are items of the same value. The status says it too.

@@ -53,10 +53,9 @@ impl<'a> Fault<'a> {
         ensures { result ≡ fault_status self.now }
     {
         match self {
-            Fault::Refused(_)
-            | Fault::RefusedItem(_, _)
-            | Fault::LeftRefused(_)
-            | Fault::RightRefused(_) => Status::Refused,
+            Fault::Refused(_) => Status::Refused,
+            Fault::RefusedItem(_, _) => Status::Refused,
+            Fault::LeftRefused(_) | Fault::RightRefused(_) => Status::Refused,
             Fault::NotText => Status::Misused,
             _ => Status::Failed,
         }

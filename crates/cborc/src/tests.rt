@@ -2,6 +2,7 @@
 
 mod appendix;
 mod command_line;
+mod compare;
 mod disk;
 mod failures;
 mod hex_text;

@@ -18,94 +18,54 @@ enum BadRow {
     Limits,
 }
 
-// A row of the table.
-#[derive(Drop)]
-struct Row<'a> {
-    input: Vec<u8>,
-    limits: Limits,
-    wanted: [Wanted<'a>; 2],
+static ORDERS: [KeyOrder; 2] = [KeyOrder::Bytewise, KeyOrder::LengthFirst];
+
+// The columns of a row that tests read: the input, the limits, and what is answered.
+fn row_of(line: &str) -> Option<(&str, &str, &str, &str)> {
+    let (input, rest) = line.split_once('|')?;
+    let (limits, rest) = rest.split_once('|')?;
+    let (plain, rest) = rest.split_once('|')?;
+    let (strict, _) = rest.split_once('|')?;
+    Some((input.trim(), limits.trim(), plain.trim(), strict.trim()))
 }
 
-// What is wanted of an input in one order of keys, as the columns have it.
-#[derive(Clone, Copy)]
-struct Wanted<'a> {
-    order: KeyOrder,
-    plain: &'a str,
-    strict: &'a str,
-}
-
-impl<'a> Wanted<'a> {
-    // Whether the plain rules refuse the input, as a whole.
-    fn is_refused(&self) -> bool {
-        self.plain.contains(" at ")
-    }
-
-    // Whether the input is one item that is valid and within the limits.
-    fn is_item(&self) -> bool {
-        !self.is_refused() || self.plain.starts_with("13 ")
-    }
-}
-
-fn row_of<'a>(alloc: Global, line: &'a str) -> Result<Row<'a>, Fail> {
-    let Some([input, limits, plain, strict, _]) = columns_of(line) else {
-        return Err(Fail::from(BadRow::Columns));
+// What a column has for an order: before the slash or behind it; without one, the whole.
+fn by_order(column: &str, order: KeyOrder) -> &str {
+    let Some((bytewise, length_first)) = column.split_once('/') else {
+        return column;
     };
-    let Some(limits) = limits_of(limits) else {
-        return Err(Fail::from(BadRow::Limits));
-    };
-    let (plain, plain_by_length) = by_order(plain);
-    let (strict, strict_by_length) = by_order(strict);
-    let bytewise = Wanted {
-        order: KeyOrder::Bytewise,
-        plain,
-        strict,
-    };
-    let length_first = Wanted {
-        order: KeyOrder::LengthFirst,
-        plain: plain_by_length,
-        strict: strict_by_length,
-    };
-    Ok(Row {
-        input: bytes_of(alloc, input)?,
-        limits,
-        wanted: [bytewise, length_first],
-    })
-}
-
-// The five columns between bars.
-fn columns_of(line: &str) -> Option<[&str; 5]> {
-    let (first, rest) = line.split_once('|')?;
-    let (second, rest) = rest.split_once('|')?;
-    let (third, rest) = rest.split_once('|')?;
-    let (fourth, fifth) = rest.split_once('|')?;
-    let trimmed = [first.trim(), second.trim(), third.trim()];
-    let [first, second, third] = trimmed;
-    Some([first, second, third, fourth.trim(), fifth.trim()])
-}
-
-// What stands before and behind a slash; without one, the whole twice.
-fn by_order(column: &str) -> (&str, &str) {
-    match column.split_once('/') {
-        Some((bytewise, length_first)) => (bytewise.trim(), length_first.trim()),
-        None => (column, column),
+    match order {
+        KeyOrder::Bytewise => bytewise.trim(),
+        KeyOrder::LengthFirst => length_first.trim(),
     }
 }
 
 // The limits of a column as `depth 1 bytes 4`.
 fn limits_of(column: &str) -> Option<Limits> {
-    let mut depth = 256;
-    let mut bytes = 1048576;
-    let mut name = "";
-    for word in column.split_whitespace() {
-        match name {
-            "depth" => depth = word.parse::<u16>().ok()?,
-            "bytes" => bytes = word.parse::<u64>().ok()?,
-            _ if word == "depth" || word == "bytes" => {}
-            _ => return None,
-        }
-        name = word;
+    if !column.is_empty() && !column.starts_with("depth ") && !column.starts_with("bytes ") {
+        return None;
     }
-    Limits::new(depth, bytes)
+    let depth = number_behind(column, "depth ", 256)?;
+    let bytes = number_behind(column, "bytes ", 1048576)?;
+    Limits::new(u16::try_from(depth).ok()?, bytes)
+}
+
+// The number behind a word, or another one where the word isn't there.
+fn number_behind(column: &str, word: &str, otherwise: u64) -> Option<u64> {
+    match column.split_once(word) {
+        Some((_, behind)) => behind.split_whitespace().next()?.parse::<u64>().ok(),
+        None => Some(otherwise),
+    }
+}
+
+// Whether the plain rules refuse the input, as a whole.
+fn is_refused(plain: &str) -> bool {
+    plain.contains(" at ")
+}
+
+// Whether the input is one item that is valid and within the limits.
+fn is_item(plain: &str) -> bool {
+    !is_refused(plain) || plain.starts_with("13 ")
 }
 
 // A refusal, as the columns have it.
@@ -113,10 +73,10 @@ fn text_of(alloc: Global, refusal: Refusal) -> Result<String, AllocError> {
     format!(in alloc; "{refusal}, read {}", refusal.read)
 }
 
-// The canonical bytes that a row wants.
-fn canonical_of(alloc: Global, row: &Row<'_>, wanted: Wanted<'_>) -> Result<Vec<u8>, BadHex> {
-    match wanted.plain {
-        "same" => row.input.clone().map_err(|_| BadHex::Memory),
+// The canonical bytes that a row wants of an input.
+fn canonical_of(alloc: Global, input: &[u8], plain: &str) -> Result<Vec<u8>, BadHex> {
+    match plain {
+        "same" => Vec::from_slice(alloc, input).map_err(|_| BadHex::Memory),
         hex => bytes_of(alloc, hex),
     }
 }
@@ -131,10 +91,10 @@ struct Cut<'a> {
 }
 
 impl<'a> Cut<'a> {
-    // The ways to give an input: whole, one byte a read, and cut in two at each place.
+    // The ways to give an input: at 0 one byte a read, else cut in two there; at its end, whole.
     fn in_way(input: &'a [u8], way: usize) -> Cut<'a> {
         let most = if way == 0 { 1 } else { usize::MAX };
-        let (first, second) = input.split_at(way.saturating_sub(1).min(input.len()));
+        let (first, second) = input.split_at(way.min(input.len()));
         Cut {
             first,
             second,
@@ -165,13 +125,20 @@ impl Read for Cut<'_> {
 #[test]
 fn canonicalises(rt: HostRuntime) -> Result<(), Fail> {
     for &line in ROWS {
-        let row = row_of(rt.alloc(), line)?;
-        for wanted in row.wanted {
-            let is_right = match canonicalise(rt.alloc(), &row.input, row.limits, wanted.order) {
+        let Some((hex, column, plain, _)) = row_of(line) else {
+            return Err(Fail::from(BadRow::Columns));
+        };
+        let Some(limits) = limits_of(column) else {
+            return Err(Fail::from(BadRow::Limits));
+        };
+        let input = bytes_of(rt.alloc(), hex)?;
+        for &order in &ORDERS {
+            let wanted = by_order(plain, order);
+            let is_right = match canonicalise(rt.alloc(), &input, limits, order) {
                 Ok(bytes) => {
-                    !wanted.is_refused() && bytes == canonical_of(rt.alloc(), &row, wanted)?
+                    !is_refused(wanted) && bytes == canonical_of(rt.alloc(), &input, wanted)?
                 }
-                Err(refusal) => text_of(rt.alloc(), refusal)?.as_str() == wanted.plain,
+                Err(refusal) => text_of(rt.alloc(), refusal)?.as_str() == wanted,
             };
             assert!(rt; is_right, "{line}");
         }
@@ -182,12 +149,19 @@ fn canonicalises(rt: HostRuntime) -> Result<(), Fail> {
 #[test]
 fn reads_trees(rt: HostRuntime) -> Result<(), Fail> {
     for &line in ROWS {
-        let row = row_of(rt.alloc(), line)?;
-        for way in 0..row.input.len() + 2 {
-            let mut reader = Cut::in_way(&row.input, way);
-            let answer = read_tree(rt.alloc(), &mut reader, row.limits);
-            let taken = reader.taken(&row.input) as u64;
-            assert!(rt; is_read_right(rt.alloc(), &row, answer, taken)?, "{line}");
+        let Some((hex, column, plain, _)) = row_of(line) else {
+            return Err(Fail::from(BadRow::Columns));
+        };
+        let Some(limits) = limits_of(column) else {
+            return Err(Fail::from(BadRow::Limits));
+        };
+        let input = bytes_of(rt.alloc(), hex)?;
+        for way in 0..=input.len() {
+            let mut reader = Cut::in_way(&input, way);
+            let answer = read_tree(rt.alloc(), &mut reader, limits);
+            let taken = reader.taken(&input) as u64;
+            let is_right = is_read_right(rt.alloc(), &input, plain, answer, taken)?;
+            assert!(rt; is_right, "{line}");
         }
     }
     Ok(())
@@ -196,31 +170,33 @@ fn reads_trees(rt: HostRuntime) -> Result<(), Fail> {
 // Whether this is the tree or the refusal that a row wants, with so many bytes taken.
 fn is_read_right(
     alloc: Global,
-    row: &Row<'_>,
+    input: &[u8],
+    plain: &str,
     answer: Result<(Tree, u64), Refusal>,
     taken: u64,
 ) -> Result<bool, Fail> {
-    let [wanted, _] = row.wanted;
+    let wanted = by_order(plain, KeyOrder::Bytewise);
     let (tree, count) = match answer {
         Ok(read) => read,
         Err(refusal) => {
             let text = text_of(alloc, refusal)?;
-            return Ok(text.as_str() == wanted.plain && refusal.read == taken);
+            return Ok(text.as_str() == wanted && refusal.read == taken);
         }
     };
-    if wanted.plain.starts_with("12 ") {
+    if wanted.starts_with("12 ") {
         let trailing = format!(in alloc; "12 Trailing at {count}, read {count}")?;
-        return Ok(trailing.as_str() == wanted.plain && count == taken);
+        return Ok(trailing.as_str() == wanted && count == taken);
     }
-    let is_whole = count == taken && count == row.input.len() as u64;
-    Ok(is_whole && wanted.is_item() && is_tree_right(alloc, row, &tree)?)
+    let is_whole = count == taken && count == input.len() as u64;
+    Ok(is_whole && is_item(wanted) && is_tree_right(alloc, input, plain, &tree)?)
 }
 
 // Whether a tree has the canonical bytes that a row wants. It says none where they are too long.
-fn is_tree_right(alloc: Global, row: &Row<'_>, tree: &Tree) -> Result<bool, Fail> {
-    for wanted in row.wanted {
-        let is_right = match encode(alloc, tree, wanted.order) {
-            Ok(bytes) => wanted.is_refused() || bytes == canonical_of(alloc, row, wanted)?,
+fn is_tree_right(alloc: Global, input: &[u8], plain: &str, tree: &Tree) -> Result<bool, Fail> {
+    for &order in &ORDERS {
+        let wanted = by_order(plain, order);
+        let is_right = match encode(alloc, tree, order) {
+            Ok(bytes) => is_refused(wanted) || bytes == canonical_of(alloc, input, wanted)?,
             Err(_) => false,
         };
         if !is_right {
@@ -233,32 +209,61 @@ fn is_tree_right(alloc: Global, row: &Row<'_>, tree: &Tree) -> Result<bool, Fail
 #[test]
 fn reads_strictly(rt: HostRuntime) -> Result<(), Fail> {
     for &line in ROWS {
-        let row = row_of(rt.alloc(), line)?;
-        for wanted in row.wanted {
-            let text = strict_text(rt.alloc(), &row, wanted)?;
-            for way in 0..row.input.len() + 2 {
-                let mut reader = Cut::in_way(&row.input, way);
-                let answer = read_strict(rt.alloc(), &mut reader, row.limits, wanted.order);
-                let (given, read) = match answer {
-                    Ok(count) => (format!(in rt.alloc(); "taken {count}")?, count),
-                    Err(refusal) => (text_of(rt.alloc(), refusal)?, refusal.read),
-                };
-                let taken = reader.taken(&row.input) as u64;
-                assert!(rt; given == text && read == taken, "{line}");
+        let Some((hex, column, plain, strict)) = row_of(line) else {
+            return Err(Fail::from(BadRow::Columns));
+        };
+        let Some(limits) = limits_of(column) else {
+            return Err(Fail::from(BadRow::Limits));
+        };
+        let input = bytes_of(rt.alloc(), hex)?;
+        for &order in &ORDERS {
+            let wanted = strict_text(rt.alloc(), &input, plain, strict, order)?;
+            for way in 0..=input.len() {
+                let mut reader = Cut::in_way(&input, way);
+                let answer = read_strict(rt.alloc(), &mut reader, limits, order);
+                let taken = reader.taken(&input) as u64;
+                let is_right = is_strict_right(rt.alloc(), wanted.as_str(), answer, taken)?;
+                assert!(rt; is_right, "{line}");
             }
         }
     }
     Ok(())
 }
 
+// Whether this is the count or the refusal that is wanted, with so many bytes taken.
+fn is_strict_right(
+    alloc: Global,
+    wanted: &str,
+    answer: Result<u64, Refusal>,
+    taken: u64,
+) -> Result<bool, AllocError> {
+    match answer {
+        Ok(count) => {
+            let text = format!(in alloc; "taken {count}")?;
+            Ok(text.as_str() == wanted && count == taken)
+        }
+        Err(refusal) => {
+            let text = text_of(alloc, refusal)?;
+            Ok(text.as_str() == wanted && refusal.read == taken)
+        }
+    }
+}
+
 // What the strict reader is to answer: the column, or as the plain rules have it.
-fn strict_text(alloc: Global, row: &Row<'_>, wanted: Wanted<'_>) -> Result<String, AllocError> {
-    if !wanted.strict.is_empty() {
-        String::from_str(alloc, wanted.strict)
-    } else if wanted.is_refused() {
-        String::from_str(alloc, wanted.plain)
+fn strict_text(
+    alloc: Global,
+    input: &[u8],
+    plain: &str,
+    strict: &str,
+    order: KeyOrder,
+) -> Result<String, AllocError> {
+    let wanted = by_order(plain, order);
+    if !strict.is_empty() {
+        String::from_str(alloc, by_order(strict, order))
+    } else if is_refused(wanted) {
+        String::from_str(alloc, wanted)
     } else {
-        format!(in alloc; "taken {}", row.input.len())
+        format!(in alloc; "taken {}", input.len())
     }
 }
 
@@ -266,21 +271,25 @@ fn strict_text(alloc: Global, row: &Row<'_>, wanted: Wanted<'_>) -> Result<Strin
 #[test]
 fn compares_with_itself(rt: HostRuntime) -> Result<(), Fail> {
     for &line in ROWS {
-        let row = row_of(rt.alloc(), line)?;
-        for wanted in row.wanted {
-            let itself = same_meaning(rt.alloc(), &row.input, &row.input, row.limits);
-            let is_right = match itself {
-                Ok(same) => same && wanted.is_item(),
-                Err((Side::Left, refusal)) => {
-                    text_of(rt.alloc(), refusal)?.as_str() == wanted.plain
-                }
-                Err((Side::Right, _)) => false,
-            };
-            assert!(rt; is_right, "{line}");
-            if !wanted.is_refused() {
-                let bytes = canonical_of(rt.alloc(), &row, wanted)?;
-                let onward = same_meaning(rt.alloc(), &row.input, &bytes, row.limits);
-                let back = same_meaning(rt.alloc(), &bytes, &row.input, row.limits);
+        let Some((hex, column, plain, _)) = row_of(line) else {
+            return Err(Fail::from(BadRow::Columns));
+        };
+        let Some(limits) = limits_of(column) else {
+            return Err(Fail::from(BadRow::Limits));
+        };
+        let input = bytes_of(rt.alloc(), hex)?;
+        let is_right = match same_meaning(rt.alloc(), &input, &input, limits) {
+            Ok(same) => same && is_item(plain),
+            Err((Side::Left, refusal)) => text_of(rt.alloc(), refusal)?.as_str() == plain,
+            Err((Side::Right, _)) => false,
+        };
+        assert!(rt; is_right, "{line}");
+        for &order in &ORDERS {
+            let wanted = by_order(plain, order);
+            if !is_refused(wanted) {
+                let bytes = canonical_of(rt.alloc(), &input, wanted)?;
+                let onward = same_meaning(rt.alloc(), &input, &bytes, limits);
+                let back = same_meaning(rt.alloc(), &bytes, &input, limits);
                 assert!(rt; onward == Ok(true) && back == Ok(true), "{line}");
             }
         }

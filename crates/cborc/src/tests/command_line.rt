@@ -185,9 +185,10 @@ Reads and writes deterministic CBOR (RFC 8949, section 4.2)
 Usage: cborc <COMMAND>
 
 Commands:
-  check  Checks that FILE is one valid item, or a sequence of them
-  canon  Writes the canonical bytes of the item in IN to OUT
-  help   Print this message or the help of the given subcommand(s)
+  check    Checks that FILE is one valid item, or a sequence of them
+  canon    Writes the canonical bytes of the item in IN to OUT
+  compare  Says whether the items in A and B have the same value
+  help     Print this message or the help of the given subcommand(s)
 
 Options:
   -h, --help  Print help

@@ -93,7 +93,7 @@ fn standard_error_fails(rt: HostRuntime) -> Result<(), AllocError> {
 }
 
 // The words, and how many bytes standard output takes of what they print of a file that holds 0.
-static PRINTED: [(&str, usize); 9] = [
+static PRINTED: [(&str, usize); 11] = [
     ("help", 0),
     ("help", 1),
     ("help", 20),
@@ -103,6 +103,8 @@ static PRINTED: [(&str, usize); 9] = [
     ("check --strict in", 0),
     ("check --seq in", 0),
     ("check --seq in", 16),
+    ("compare in in", 0),
+    ("compare in in", 4),
 ];
 
 #[test]
