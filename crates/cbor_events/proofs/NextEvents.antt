@@ -17,8 +17,8 @@ use Rattle.cbor_events.specs.Bytes.{IsEventBytes}
 use Rattle.cbor_events.specs.MachineView.{MachineView}
 use Rattle.cbor_events.specs.Machine.{StandsFor, IsComplete, IsWhole, IsGiven, IsEvent, wanted, wanted_within}
 use Rattle.cbor_events.specs.inner.Taking.{IsTaking}
-use Rattle.cbor_events.specs.ItemEvents.{ItemEventsView, Call, call, IsDue, IsKept, StandsBetween, IsNextEvent, IsEnd, IsCut, IsTooLong, HasFormError, IsNext}
-use Rattle.cbor_events.specs.inner.Reads.{HasRead, machine_call, piece_by, piece_after, kind_size, piece_size}
+use Rattle.cbor_events.specs.ItemEvents.{ItemEventsView, Call, machine_call, call, IsDue, IsKept, StandsBetween, IsNextEvent, IsEnd, IsCut, IsTooLong, HasFormError, IsNext}
+use Rattle.cbor_events.specs.inner.Reads.{HasRead, piece_by, piece_after, kind_size, piece_size}
 use Rattle.cbor_events.specs.declared.event.Event.{Event}
 use Rattle.cbor_events.specs.declared.event.Out.{Out}
 use Rattle.cbor_events.specs.declared.event.Out.TheVariants as outs

@@ -15,7 +15,8 @@ use Rattle.cbor_events.specs.declared.event.Event.{Event}
 use Rattle.cbor_events.specs.declared.event.EventKind.{EventKind}
 use Rattle.cbor_events.specs.declared.event.EventKind.TheVariants.{Piece}
 
--- what contracts see of the events of an item: the machine, the bytes of the last piece, and why no more is read
+-- what contracts see of the events of an item: the machine, the bytes of the last piece, and why
+-- no more is read
 pub record ItemEventsView : Type 0 where
   pub machine : MachineView
   pub piece : List ℕ
@@ -26,8 +27,8 @@ pub record StandsBetween (m : MachineView) (t : List ℕ) (ms : List Mark) : Typ
   pub stands : StandsFor m t ms
   pub whole : total ms ≡ length t
 
--- One call for the next event: the machine, what the reader holds and the last piece, before it and after it; and what was
--- taken and told before it.
+-- One call for the next event: the machine, what the reader holds and the last piece, before it
+-- and after it; and what was taken and told before it.
 pub record Call : Type 0 where
   pub old : MachineView
   pub new : MachineView
@@ -38,18 +39,21 @@ pub record Call : Type 0 where
   pub taken : List ℕ
   pub told : List Mark
 
--- the call that led from old to new
-abbrev pub call : ItemEventsView → ItemEventsView → Option (List ℕ) → Option (List ℕ) → List ℕ → List Mark → Call
-call from to before_it after_it t ms = record {
-  old = from.machine;
-  new = to.machine;
+-- the call that led one machine to another
+abbrev pub machine_call : MachineView → MachineView → Option (List ℕ) → Option (List ℕ) → List ℕ → List ℕ → List ℕ → List Mark → Call
+machine_call from to before_it after_it kept piece t ms = record {
+  old = from;
+  new = to;
   held = before_it;
   left = after_it;
-  old_piece = from.piece;
-  new_piece = to.piece;
+  old_piece = kept;
+  new_piece = piece;
   taken = t;
   told = ms;
 }
+
+abbrev pub call : ItemEventsView → ItemEventsView → Option (List ℕ) → Option (List ℕ) → List ℕ → List Mark → Call
+call from to before_it after_it t ms = machine_call from.machine to.machine before_it after_it from.piece to.piece t ms
 
 -- ---- an event
 
@@ -87,8 +91,8 @@ pub record IsEnd (c : Call) : Type 0 where
 
 -- ---- a refusal
 
--- The reader ended or failed within the item, before the byte limit. No other verdict stood: that of the bytes taken, as a
--- whole input, is Truncated.
+-- The reader ended or failed within the item, before the byte limit. No other verdict stood: that
+-- of the bytes taken, as a whole input, is Truncated.
 pub record IsCut (f : Refusal) (c : Call) : Type 0 where
   pub bytes : List ℕ
   pub consumed : Consumes c.held c.left bytes

@@ -49,11 +49,13 @@ pub record StandsFor (m : MachineView) (t : List ℕ) (ms : List Mark) : Type 0 
   -- t is always a beginning
   pub beginning : IsBeginning m.depth t
   -- what was told is what ends within t, of each item that starts with t
-  pub told : (s : Spelling) (rest : List ℕ) → IsItem m.depth s (t ++ rest) → ms ≡ within (length t) (trace s)
+  pub told : (s : Spelling) (rest : List ℕ) → IsItem m.depth s (t ++ rest)
+      → ms ≡ within (length t) (trace s)
   -- it is complete exactly where t is a whole item
   pub complete : IsComplete m ↔ IsWhole m.depth t
   -- the open containers are those of each such item, and at most the depth
-  pub counted : (s : Spelling) (rest : List ℕ) → IsItem m.depth s (t ++ rest) → m.open_count ≡ open_after (length t) s
+  pub counted : (s : Spelling) (rest : List ℕ) → IsItem m.depth s (t ++ rest)
+      → m.open_count ≡ open_after (length t) s
   pub bounded : m.open_count ≤ m.depth
   pub taken : m.taken ≡ length t
   pub limited : m.taken ≤ m.bytes
@@ -92,7 +94,8 @@ pub record IsRefused (r : Refusal) (m : MachineView) (t bs : List ℕ) (ms : Lis
   pub stands : StandsFor (before m (length (t ++ front))) (t ++ front) ms
   pub unfinished : ¬ IsWhole m.depth (t ++ front)
   -- whatever may follow
-  pub error : (more : List ℕ) → FormErrorBehind m.depth m.bytes ((t ++ bs) ++ more) (t ++ front) r
+  pub error : (more : List ℕ)
+      → FormErrorBehind m.depth m.bytes ((t ++ bs) ++ more) (t ++ front) r
 
 -- what a step answers, of a machine that stood for t and ms and has now used bs
 abbrev pub IsAnswer : Out → MachineView → List ℕ → List ℕ → List Mark → Type 0
@@ -127,4 +130,5 @@ IfRefused _ P = Unit {0}
 pub record Stays (step : Step) (old new : MachineView) : Type 0 where
   pub done : IsDone step.out ↔ IsComplete old
   pub complete : IsComplete old → (step.used ≡ 0) × (new ≡ old)
-  pub refused : IfSome old.refusal (λ r. (step.out ≡ outs.Refused r) × (step.used ≡ 0) × (new ≡ old))
+  pub refused : IfSome old.refusal
+      (λ r. (step.out ≡ outs.Refused r) × (step.used ≡ 0) × (new ≡ old))

@@ -12,7 +12,7 @@ pub record MachineView : Type 0 where
   pub told : ℕ
   -- how many arrays, maps and tags are open
   pub open_count : ℕ
-  -- how many bytes more the open payload or the open head has, or else 1, for the next head; 0 behind the item
+  -- how many bytes more the open payload or head has; 1 where a head is due, 0 behind the item
   pub due : ℕ
   -- a payload is open
   pub in_payload : Bool

@@ -2,8 +2,8 @@
 use Rattle.std.specs.Prelude.{◌≡◌, ℕ, List, length}
 use Rattle.cbor_events.specs.inner.TextCheck.{Found, IsFound}
 
--- what contracts see of a check: how many bytes were pushed, and last what leads from one piece to the next, into which no
--- public clause looks
+-- what contracts see of a check: how many bytes were pushed, and last what leads from one piece to
+-- the next, into which no public clause looks
 pub record TextView : Type 0 where
   pub pushed : ℕ
   pub inner : Found

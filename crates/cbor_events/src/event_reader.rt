@@ -43,7 +43,8 @@ impl<R: Read> EventReader<R> {
         }
     }
 
-    /// The next event, with its bytes read; none once the item is complete, and then nothing is read.
+    /// The next event, with its bytes read; none once the item is complete, and then nothing is
+    /// read.
     ///
     /// What is read, and when, is said at [`ItemEvents::next`].
     pub fn next(&mut self) -> Result<Option<Event>, Refusal>
@@ -61,7 +62,8 @@ impl<R: Read> EventReader<R> {
 
         // Where nothing is wanted the reader is not touched, nor after a refusal.
         ensures idle { IsIdle self.old.events.machine → self.new.reader ≡ self.old.reader }
-        ensures again { IfSome self.old.events.refusal (λ f. (result ≡ Err f) × (self.new ≡ self.old)) }
+        ensures again { IfSome self.old.events.refusal
+            (λ f. (result ≡ Err f) × (self.new ≡ self.old)) }
     {
         self.events.next(&mut self.reader)
     }

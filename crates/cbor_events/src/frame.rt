@@ -32,7 +32,8 @@ pub enum Frame {
 /// An item is complete: with it the containers whose last member it was.
 pub fn close(frames: &mut Frames) -> Position
     requires { array_vec_len frames.old ≤ 256 }
-    ensures state { state_of result frames.new.items ≡ automaton.close (frames_of frames.old.items) }
+    ensures state { state_of result frames.new.items
+        ≡ automaton.close (frames_of frames.old.items) }
     ensures fewer { array_vec_len frames.new ≤ array_vec_len frames.old }
     ensures settled { IsSettled frames.new.items result }
 {

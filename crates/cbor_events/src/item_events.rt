@@ -7,8 +7,8 @@ ghost use Rattle.cbor_events.specs.Trace.{Mark};
 ghost use Rattle.cbor_events.specs.Marks.{IsProper};
 ghost use Rattle.cbor_events.specs.Reasons.{IsEventReason};
 ghost use Rattle.cbor_events.specs.Machine.{KeepsLimits, IsIdle};
-ghost use Rattle.cbor_events.specs.ItemEvents.{ItemEventsView, StandsBetween, IfTold, IsNext, call};
-ghost use Rattle.cbor_events.specs.inner.Reads.{IsAsked, machine_call, piece_after, piece_size};
+ghost use Rattle.cbor_events.specs.ItemEvents.{ItemEventsView, StandsBetween, IfTold, IsNext, machine_call, call};
+ghost use Rattle.cbor_events.specs.inner.Reads.{IsAsked, piece_after, piece_size};
 
 use crate::event::{Event, EventKind, Out};
 use crate::machine::{Machine, refusal_of};
@@ -37,13 +37,18 @@ pub struct ItemEvents {
 impl Model for ItemEvents {
     ghost Value = { ItemEventsView };
 
-    ghost view = { λ e. record { machine = e.machine; piece = take e.held e.buffer; refusal = e.refusal } };
+    ghost view = { λ e. record {
+      machine = e.machine;
+      piece = take e.held e.buffer;
+      refusal = e.refusal;
+    } };
 
     ghost invariant = { λ e. record {
       fits : e.held ≤ 512;
       within : e.machine.open_count ≤ e.machine.depth;
       limited : e.machine.taken ≤ e.machine.bytes;
-      stopped : IfSome e.refusal (λ f. (f.read ≡ e.machine.taken) × (e.held ≡ 0) × IsEventReason f.reason);
+      stopped : IfSome e.refusal
+          (λ f. (f.read ≡ e.machine.taken) × (e.held ≡ 0) × IsEventReason f.reason);
     } };
 }
 
@@ -51,7 +56,8 @@ impl ItemEvents {
     /// The events of an item whose first byte is still to be read.
     pub fn new(limits: Limits) -> ItemEvents
         ensures starts { StandsBetween result.machine [] [] }
-        ensures limits { (result.machine.depth ≡ limits.depth) × (result.machine.bytes ≡ limits.bytes) }
+        ensures limits { (result.machine.depth ≡ limits.depth)
+            × (result.machine.bytes ≡ limits.bytes) }
         ensures piece { result.piece ≡ [] }
         ensures live { result.refusal ≡ None }
     {
@@ -63,7 +69,8 @@ impl ItemEvents {
         }
     }
 
-    /// The next event, with its bytes read; none once the item is complete, and then nothing is read.
+    /// The next event, with its bytes read; none once the item is complete, and then nothing is
+    /// read.
     ///
     /// One byte of a head is asked for, then what is missing of its argument; of a payload what is
     /// left, at most 512 bytes. A `read` of 0 bytes is the end of the input: `Truncated`. An error of
@@ -136,7 +143,8 @@ enum Asked {
 // Reads at most `want` bytes into the front of the buffer, by one call of `read`, or by none.
 fn ask<R: Read>(reader: &mut R, buffer: &mut [u8], want: usize) -> Asked
     requires { want ≤ length buffer.old }
-    ensures asked { IsAsked result want (R.remaining reader.old) (R.remaining reader.new) buffer.new }
+    ensures asked { IsAsked result want
+        (R.remaining reader.old) (R.remaining reader.new) buffer.new }
     ensures none { want ≡ 0 → reader.new ≡ reader.old }
 {
     if want == 0 {

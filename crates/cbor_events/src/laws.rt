@@ -15,7 +15,8 @@ ghost use Rattle.cbor_events.specs.ItemEvents.{Call, StandsBetween, IsNextEvent,
 ghost use Rattle.cbor_events.specs.MachineView.{MachineView};
 ghost use Rattle.cbor_events.specs.Machine.{StandsFor, IsComplete, IsGiven, IsRefused};
 
-/// What a machine answers is the verdict of form: of its refusals, and of the item that is complete.
+/// What a machine answers is the verdict of form: of its refusals, and of the item that is
+/// complete.
 pub fn machine_verdict()
     ensures refuses { (r : Refusal) (m : MachineView) (t bs : List ℕ) (ms : List Mark)
         → IsRefused r m t bs ms → (more : List ℕ)
@@ -25,8 +26,8 @@ pub fn machine_verdict()
         → (s : Spelling) × IsVerdict m.depth m.bytes form (t ++ more) (accepted s) }
 {}
 
-/// The events that a machine told, neighbouring pieces joined, are those of each item that starts with
-/// what it took, as far as they end within that, the last piece cut there.
+/// The events that a machine told, neighbouring pieces joined, are those of each item that starts
+/// with what it took, as far as they end within that, the last piece cut there.
 pub fn told_events()
     ensures none { AreTold [] [] }
     ensures more { (es : List Event) (ms : List Mark) (e : Event) (m : MachineView) (t bs : List ℕ)

@@ -12,12 +12,12 @@
 //! machine.step(&[0xe8, 0x00]); // 1000, at place 1, with one byte used
 //! ```
 //!
-//! [`EventReader`] does the same from a reader, and [`ItemEvents`] from one that each call is handed;
-//! neither reads a byte that the item does not have. [`TextCheck`] finds the longest front of a text
-//! that is UTF-8, however the text is cut.
+//! [`EventReader`] does the same from a reader, and [`ItemEvents`] from one that each call is
+//! handed; neither reads a byte that the item does not have. [`TextCheck`] finds the longest front
+//! of a text that is UTF-8, however the text is cut.
 //!
-//! [`laws`] has no code to run: its contracts tie what a machine tells to the item's trace, and what
-//! it answers to the verdict. What public contracts say is defined in `specs/`; `specs/inner/` has
+//! [`laws`] has no code to run: its contracts tie what a machine tells to the item's trace, and
+//! what it answers to the verdict. What public contracts say is defined in `specs/`; `specs/inner/` has
 //! what leads from one step to the next, and no public clause looks into it.
 #![tactic(auto)]
 

@@ -130,7 +130,8 @@ impl Machine {
         ensures wanted { (length input.now ≤ wanted self.old → result.used ≡ length input.now)
             × (self.old.in_payload ≡ true
             → result.used ≡ min (length input.now) (wanted self.old)) }
-        ensures event { (IsEvent result.out → 0 < result.used) × (piece_of result.out ≤ result.used) }
+        ensures event { (IsEvent result.out → 0 < result.used)
+            × (piece_of result.out ≤ result.used) }
         ensures more { IsMore result.out → (result.used ≡ length input.now)
             × (self.new.taken < self.new.bytes) × (0 < wanted self.old) }
         ensures refused { IfRefused result.out (λ r. (self.new.refusal ≡ Some r)

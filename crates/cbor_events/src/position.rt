@@ -37,7 +37,8 @@ pub enum Position {
 // A string of definite length is complete.
 pub fn close_string(chunk: bool, kind: Numbered, frames: &mut Frames) -> Position
     requires { array_vec_len frames.old ≤ 256 }
-    ensures state { state_of result frames.new.items ≡ automaton.close_string chunk (major_of kind) (frames_of frames.old.items) }
+    ensures state { state_of result frames.new.items
+        ≡ automaton.close_string chunk (major_of kind) (frames_of frames.old.items) }
     ensures fewer { array_vec_len frames.new ≤ array_vec_len frames.old }
     ensures settled { IsSettled frames.new.items result }
 {
@@ -51,7 +52,8 @@ pub fn close_string(chunk: bool, kind: Numbered, frames: &mut Frames) -> Positio
 // The head of a string of definite length is complete.
 pub fn payload(chunk: bool, kind: Numbered, n: u64, frames: &mut Frames) -> Position
     requires { array_vec_len frames.old ≤ 256 }
-    ensures state { state_of result frames.new.items ≡ automaton.payload chunk (major_of kind) n (frames_of frames.old.items) }
+    ensures state { state_of result frames.new.items
+        ≡ automaton.payload chunk (major_of kind) n (frames_of frames.old.items) }
     ensures fewer { array_vec_len frames.new ≤ array_vec_len frames.old }
     ensures settled { IsSettled frames.new.items result }
 {
@@ -67,8 +69,10 @@ pub fn payload(chunk: bool, kind: Numbered, n: u64, frames: &mut Frames) -> Posi
 pub fn after(chunk: bool, kind: Numbered, n: u64, depth: usize, frames: &mut Frames) -> Position
     requires limit { depth ≤ 256 }
     requires within { array_vec_len frames.old ≤ depth }
-    requires room { chunk ≡ true ⊎ (automaton.has_room depth (frames_of frames.old.items) (major_of kind) ≡ true) }
-    ensures state { state_of result frames.new.items ≡ automaton.after chunk (major_of kind) n (frames_of frames.old.items) }
+    requires room { chunk ≡ true
+        ⊎ (automaton.has_room depth (frames_of frames.old.items) (major_of kind) ≡ true) }
+    ensures state { state_of result frames.new.items
+        ≡ automaton.after chunk (major_of kind) n (frames_of frames.old.items) }
     ensures within { array_vec_len frames.new ≤ depth }
     ensures settled { IsSettled frames.new.items result }
 {

@@ -84,7 +84,8 @@ fn begun(chunk: bool, kind: Numbered, width: Width) -> Position
 #[tactic(auto, using(crate::proofs::Frames::frames_push))]
 fn break_at(frames: &mut Frames, c: u8) -> Next
     requires { array_vec_len frames.old ≤ 256 }
-    ensures next { next_of result frames.new.items ≡ automaton.break_at (frames_of frames.old.items) c }
+    ensures next { next_of result frames.new.items
+        ≡ automaton.break_at (frames_of frames.old.items) c }
     ensures kept { IsRefusal result → frames.new.items ≡ frames.old.items }
     ensures once { IsOnce result }
     ensures proper { IsNextProper result }
@@ -112,7 +113,8 @@ fn break_at(frames: &mut Frames, c: u8) -> Next
 fn begin(depth: usize, frames: &mut Frames, c: u8) -> Next
     requires limit { depth ≤ 256 }
     requires within { array_vec_len frames.old ≤ depth }
-    ensures next { next_of result frames.new.items ≡ automaton.begin depth (frames_of frames.old.items) c (automaton.opening c) }
+    ensures next { next_of result frames.new.items
+        ≡ automaton.begin depth (frames_of frames.old.items) c (automaton.opening c) }
     ensures clear { IsToldSettled frames.new.items result }
     ensures open { IsNextOpen frames.new.items result }
     ensures kept { IsRefusal result → frames.new.items ≡ frames.old.items }
@@ -190,7 +192,8 @@ fn is_same_string(a: Numbered, b: Numbered) -> bool
 fn in_string(kind: Numbered, depth: usize, frames: &mut Frames, c: u8) -> Next
     requires limit { depth ≤ 256 }
     requires within { array_vec_len frames.old ≤ depth }
-    ensures next { next_of result frames.new.items ≡ automaton.in_string (major_of kind) (frames_of frames.old.items) (automaton.opening c) }
+    ensures next { next_of result frames.new.items ≡ automaton.in_string
+        (major_of kind) (frames_of frames.old.items) (automaton.opening c) }
     ensures clear { IsToldSettled frames.new.items result }
     ensures open { IsNextOpen frames.new.items result }
     ensures kept { IsRefusal result → frames.new.items ≡ frames.old.items }
@@ -223,7 +226,8 @@ pub fn take_byte(depth: usize, position: Position, frames: &mut Frames, c: u8) -
     requires limit { depth ≤ 256 }
     requires within { array_vec_len frames.old ≤ depth }
     requires fits { IsFit depth frames.old.items position }
-    ensures next { next_of result frames.new.items ≡ automaton.take_byte depth (state_of position frames.old.items) c }
+    ensures next { next_of result frames.new.items
+        ≡ automaton.take_byte depth (state_of position frames.old.items) c }
     ensures left { head_left position ≤ 1 + next_left result }
     ensures clear { IsToldSettled frames.new.items result }
     ensures open { IsNextOpen frames.new.items result }

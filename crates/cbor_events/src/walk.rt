@@ -38,7 +38,9 @@ fn piece(
     requires limit { array_vec_len frames.old ≤ 256 }
     requires some { 0 < length input.now }
     ensures used { result.0 ≡ min (length input.now) (left + 1) }
-    ensures ran { automaton.run depth (automaton.in_payload chunk (major_of kind) left (frames_of frames.old.items)) (take result.0 input.now)
+    ensures ran { automaton.run depth
+        (automaton.in_payload chunk (major_of kind) left (frames_of frames.old.items))
+        (take result.0 input.now)
         ≡ automaton.reached (state_of result.1 frames.new.items) (replicate result.0 a_byte) }
     ensures fewer { array_vec_len frames.new ≤ array_vec_len frames.old }
     ensures settled { IsSettled frames.new.items result.1 }
@@ -64,15 +66,18 @@ pub fn walk(
     requires fits { IsFit depth frames.old.items position.old }
     ensures used { result.0 ≤ length input.now }
     ensures wanted { length input.now ≤ wanted_at position.old → result.0 ≡ length input.now }
-    ensures payload { is_in_payload position.old ≡ true → result.0 ≡ min (length input.now) (wanted_at position.old) }
+    ensures payload { is_in_payload position.old ≡ true
+        → result.0 ≡ min (length input.now) (wanted_at position.old) }
     ensures reason { is_done position.old ≡ false → IsWalkedReason result.1 }
     ensures clear { IsTold result.1 → IsSettled frames.new.items position.new }
     ensures more { result.1 ≡ Walked.More → result.0 ≡ length input.now }
-    ensures open { result.1 ≡ Walked.More → IsSettled frames.new.items position.new → (result.0 ≡ 0) × IsSettled frames.old.items position.old }
+    ensures open { result.1 ≡ Walked.More → IsSettled frames.new.items position.new
+        → (result.0 ≡ 0) × IsSettled frames.old.items position.old }
     ensures some { IsEnded result.1 → 0 < result.0 }
     ensures proper { IsWalkedProper result.1 }
     ensures piece { told_times result.1 ≤ result.0 }
-    ensures walked { IsWalked result.1 depth (state_of position.old frames.old.items) (state_of position.new frames.new.items) (take result.0 input.now) }
+    ensures walked { IsWalked result.1 depth (state_of position.old frames.old.items)
+        (state_of position.new frames.new.items) (take result.0 input.now) }
     ensures within { array_vec_len frames.new ≤ depth }
     ensures fits { IsFit depth frames.new.items position.new }
 {

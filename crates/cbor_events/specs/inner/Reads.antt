@@ -5,7 +5,6 @@ use Rattle.cbor_head.specs.declared.reason.Refusal.{Refusal}
 use Rattle.cbor_events.specs.Trace.{Mark}
 use Rattle.cbor_events.specs.MachineView.{MachineView}
 use Rattle.cbor_events.specs.Machine.{StandsFor}
-use Rattle.cbor_events.specs.ItemEvents.{Call}
 use Rattle.cbor_events.specs.declared.event.Event.{Event}
 use Rattle.cbor_events.specs.declared.event.EventKind.{EventKind}
 use Rattle.cbor_events.specs.declared.event.EventKind.TheVariants.{Piece}
@@ -41,16 +40,3 @@ piece_by kind kept buffer = kept
 abbrev pub piece_after : Result (Option Event) Refusal → List ℕ → List ℕ → List ℕ
 piece_after (Ok (Some e)) kept buffer = piece_by e.kind kept buffer
 piece_after _ kept buffer = kept
-
--- a call of a machine alone
-abbrev pub machine_call : MachineView → MachineView → Option (List ℕ) → Option (List ℕ) → List ℕ → List ℕ → List ℕ → List Mark → Call
-machine_call from to before_it after_it kept piece t ms = record {
-  old = from;
-  new = to;
-  held = before_it;
-  left = after_it;
-  old_piece = kept;
-  new_piece = piece;
-  taken = t;
-  told = ms;
-}
