@@ -14,10 +14,11 @@ use Rattle.cbor_head.specs.declared.reason.Refusal.{Refusal}
 use Rattle.cbor_head.proofs.Accepted.{accepts_exactly}
 use Rattle.cbor_head.proofs.ReadLaws.{unique}
 use Rattle.cbor_events.specs.Trace.{Mark, total, a_byte, more_bytes}
-use Rattle.cbor_events.specs.State.{marks_of, IsProper}
+use Rattle.cbor_events.specs.Marks.{marks_of, IsProper}
 use Rattle.cbor_events.specs.Event.{events, event_size, joined, cut, AreTold}
-use Rattle.cbor_events.specs.Machine.{MachineView, StandsFor, before}
-use Rattle.cbor_events.specs.ItemEvents.{StandsBetween, IsNext, IsNextEvent, IsEnd, IsCut, IsTooLong, IsBroken}
+use Rattle.cbor_events.specs.Machine.{StandsFor, before}
+use Rattle.cbor_events.specs.MachineView.{MachineView}
+use Rattle.cbor_events.specs.ItemEvents.{Call, StandsBetween, IsNext, IsNextEvent, IsEnd, IsCut, IsTooLong, HasFormError}
 use Rattle.cbor_events.specs.declared.event.Event.{Event}
 use Rattle.cbor_events.specs.declared.event.EventKind.{EventKind}
 use Rattle.cbor_events.specs.declared.event.EventKind.TheVariants.{Unsigned, Negative, Simple, Bytes, Text, Chunk, Piece, Array, Map, Tag, End}
@@ -27,6 +28,10 @@ use Rattle.cbor_events.proofs.Rows.{total-append}
 use Rattle.cbor_events.proofs.Told.{told-none, told-joined, next-more, next-all}
 use Rattle.cbor_diag.specs.Listing.{line, lines, IsListing, IsStopped, IsListed, IsUnlisted, of_verdict, of_reader, of_writer, Loses}
 use Rattle.cbor_diag.proofs.Lines.{lines-more, lines-joined, has-line, joined-last}
+
+-- a call for the next event
+abbrev pub call_of : MachineView → MachineView → Option (List ℕ) → Option (List ℕ) → List ℕ → List ℕ → List ℕ → List Mark → Call
+call_of m new now to kept piece t ms = record { old = m; new = new; held = now; left = to; old_piece = kept; new_piece = piece; taken = t; told = ms }
 
 -- The lines of all events so far were written, and no byte behind these events was taken.
 pub record HasListed (m : MachineView) (from now old new : Option (List ℕ)) (written : ℕ) : Type 0 where
@@ -43,7 +48,7 @@ pub none-listed : (m : MachineView) (from old : Option (List ℕ)) → StandsBet
 none-listed m from old s = record { t = []; marks = []; told = []; between = s; are_told = told-none; taken = Consumes-nil from; listed = Appends-nil old; count = refl }
 
 pub one-more : (m new : MachineView) (from now to old mid out : Option (List ℕ)) (written more : ℕ) (kept piece : List ℕ) (e : Event) (h : HasListed m from now old mid written)
-    → IsNextEvent e now to m new kept piece h.t h.marks → Appends mid out (line e) → more ≡ min (written + length (line e)) (2 ^ 64 - 1) → HasListed new from to old out more
+    → IsNextEvent e (call_of m new now to kept piece h.t h.marks) → Appends mid out (line e) → more ≡ min (written + length (line e)) (2 ^ 64 - 1) → HasListed new from to old out more
 one-more m new from now to old mid out written more kept piece e h next wrote sum =
     let size : length (lines (h.told ++ e ∷ [])) ≡ length (lines h.told) + length (line e) = ap length (lines-more h.told e) ∙ length-append (lines h.told) (line e) in
     let count = h.count in
@@ -52,7 +57,7 @@ one-more m new from now to old mid out written more kept piece e h next wrote su
       marks = h.marks ++ marks_of e.width e.kind;
       told = h.told ++ e ∷ [];
       between = next.stands;
-      are_told = next-more h.told h.marks e now to m new kept piece h.t h.are_told h.between next;
+      are_told = next-more (call_of m new now to kept piece h.t h.marks) h.told e h.are_told h.between next;
       taken = Consumes-trans from now to h.t next.bytes h.taken next.consumed;
       listed = subst (Appends old out) (sym (lines-more h.told e)) (Appends-trans old mid out (lines h.told) (line e) h.listed wrote);
       count = omega (arith, size, count, sum);
@@ -74,7 +79,7 @@ some-marks w (Tag n) h = omega arith
 some-marks w End h = omega arith
 
 pub takes-more : (m new : MachineView) (now to : Option (List ℕ)) (kept piece t : List ℕ) (ms : List Mark) (e : Event) → StandsBetween m t ms
-    → IsNextEvent e now to m new kept piece t ms → (m.taken < new.taken) × (new.taken ≤ new.bytes)
+    → IsNextEvent e (call_of m new now to kept piece t ms) → (m.taken < new.taken) × (new.taken ≤ new.bytes)
 takes-more m new now to kept piece t ms e s next =
     let some = some-marks e.width e.kind next.are.0 in
     let sum = total-append ms (marks_of e.width e.kind) in
@@ -112,9 +117,9 @@ accepted-item d n t more s i a v =
     (unique a s sound.1.0 i.spelled _ _ all).0
 
 pub all-listed : (m new : MachineView) (from now to old out : Option (List ℕ)) (written count : ℕ) (kept piece : List ℕ) (h : HasListed m from now old out written)
-    → IsEnd now to m new kept piece h.t h.marks → count ≡ new.taken → IfSome from (λ input. IsListed m.depth m.bytes input count old out)
+    → IsEnd (call_of m new now to kept piece h.t h.marks) → count ≡ new.taken → IfSome from (λ input. IsListed m.depth m.bytes input count old out)
 all-listed m new from now to old out written count kept piece h end e =
-    let whole = next-all h.told h.marks now to m new kept piece h.t h.are_told h.between end in
+    let whole = next-all (call_of m new now to kept piece h.t h.marks) h.told h.are_told h.between end in
     let s = whole.0 in
     known from now h.t (λ input. IsListed m.depth m.bytes input count old out) h.taken
     (λ rest k. let v = complete-verdict m h.t h.marks h.between.stands end.complete rest in record {
@@ -125,7 +130,7 @@ all-listed m new from now to old out written count kept piece h end e =
     })
 
 pub all-lost : (m new : MachineView) (from now to old out : Option (List ℕ)) (written count : ℕ) (kept piece : List ℕ) (h : HasListed m from now old out written)
-    → IsEnd now to m new kept piece h.t h.marks → count ≡ new.taken → Loses count from to
+    → IsEnd (call_of m new now to kept piece h.t h.marks) → count ≡ new.taken → Loses count from to
 all-lost m new from now to old out written count kept piece h end e =
     loses (h.t ++ []) count from to (e ∙ end.stands.stands.taken ∙ ap length (sym (append-nil h.t))) (Consumes-trans from now to h.t [] h.taken end.consumed)
 
@@ -144,9 +149,9 @@ front-is k t rest e = ap (λ (j : ℕ). take j (t ++ rest)) e ∙ take-append_se
 front-listed : (d k : ℕ) (t rest out : List ℕ) → k ≡ length t → IsListing d t out → IsListing d (take k (t ++ rest)) out
 front-listed d k t rest out e h = subst (λ (xs : List ℕ). IsListing d xs out) (sym (front-is k t rest e)) h
 
-cut-unlisted : (m new : MachineView) (from now to old out : Option (List ℕ)) (written : ℕ) (h : HasListed m from now old out written) (f : Refusal) → IsCut f now to new h.t h.marks
+cut-unlisted : (m new : MachineView) (from now to old out : Option (List ℕ)) (written : ℕ) (kept piece : List ℕ) (h : HasListed m from now old out written) (f : Refusal) → IsCut f (call_of m new now to kept piece h.t h.marks)
     → IfSome from (λ input. IsUnlisted new.depth new.bytes input f old out)
-cut-unlisted m new from now to old out written h f i =
+cut-unlisted m new from now to old out written kept piece h f i =
     let all = h.t ++ i.bytes in
     let size : f.read ≡ length all = ap (λ (r : Refusal). r.read) i.is in
     let place : f.place ≡ length all = ap (λ (r : Refusal). r.place) i.is in
@@ -170,9 +175,9 @@ cut-unlisted m new from now to old out written h f i =
           h.listed
     ])
 
-long-unlisted : (m new : MachineView) (from now to old out : Option (List ℕ)) (written : ℕ) (h : HasListed m from now old out written) (f : Refusal) → IsTooLong f now to new h.t h.marks
+long-unlisted : (m new : MachineView) (from now to old out : Option (List ℕ)) (written : ℕ) (kept piece : List ℕ) (h : HasListed m from now old out written) (f : Refusal) → IsTooLong f (call_of m new now to kept piece h.t h.marks)
     → IfSome from (λ input. IsUnlisted new.depth new.bytes input f old out)
-long-unlisted m new from now to old out written h f i =
+long-unlisted m new from now to old out written kept piece h f i =
     let all = h.t ++ i.bytes in
     let place : f.place ≡ length all = ap (λ (r : Refusal). r.place) i.is ∙ sym i.full in
     known from to all (λ input. IsUnlisted new.depth new.bytes input f old out) (Consumes-trans from now to h.t i.bytes h.taken i.consumed)
@@ -180,35 +185,35 @@ long-unlisted m new from now to old out written h f i =
     (front-listed new.depth f.place all rest (lines h.told) place (listing-of (before new (length all)) all h.marks h.told i.stands h.are_told)) h.listed)
 
 -- what was taken, with the byte that is refused
-broken-taken : (m new : MachineView) (from now to old out : Option (List ℕ)) (written : ℕ) (h : HasListed m from now old out written) (f : Refusal) (i : IsBroken f now to new h.t h.marks)
+broken-taken : (m new : MachineView) (from now to old out : Option (List ℕ)) (written : ℕ) (kept piece : List ℕ) (h : HasListed m from now old out written) (f : Refusal) (i : HasFormError f (call_of m new now to kept piece h.t h.marks))
     → Consumes from to ((h.t ++ i.bytes) ++ i.byte ∷ [])
-broken-taken m new from now to old out written h f i =
+broken-taken m new from now to old out written kept piece h f i =
     subst (Consumes from to) (sym (append_assoc h.t i.bytes (i.byte ∷ []))) (Consumes-trans from now to h.t (i.bytes ++ i.byte ∷ []) h.taken i.consumed)
 
-broken-unlisted : (m new : MachineView) (from now to old out : Option (List ℕ)) (written : ℕ) (h : HasListed m from now old out written) (f : Refusal) → IsBroken f now to new h.t h.marks
+broken-unlisted : (m new : MachineView) (from now to old out : Option (List ℕ)) (written : ℕ) (kept piece : List ℕ) (h : HasListed m from now old out written) (f : Refusal) → HasFormError f (call_of m new now to kept piece h.t h.marks)
     → IfSome from (λ input. IsUnlisted new.depth new.bytes input f old out)
-broken-unlisted m new from now to old out written h f i =
+broken-unlisted m new from now to old out written kept piece h f i =
     let all = h.t ++ i.bytes in
     let place : f.place ≡ length all = ap (λ (r : Refusal). r.place) i.is in
-    known from to (all ++ i.byte ∷ []) (λ input. IsUnlisted new.depth new.bytes input f old out) (broken-taken m new from now to old out written h f i)
+    known from to (all ++ i.byte ∷ []) (λ input. IsUnlisted new.depth new.bytes input f old out) (broken-taken m new from now to old out written kept piece h f i)
     (λ rest k. of_verdict (lines h.told) (i.verdict rest)
     (subst (λ (xs : List ℕ). IsListing new.depth (take f.place xs) (lines h.told)) (sym (append_assoc all (i.byte ∷ []) rest))
     (front-listed new.depth f.place all (i.byte ∷ rest) (lines h.told) place (listing-of (before new (length all)) all h.marks h.told i.stands h.are_told))) h.listed)
 
-pub refused-unlisted : (m new : MachineView) (from now to old out : Option (List ℕ)) (written : ℕ) (h : HasListed m from now old out written) (f : Refusal)
-    → IsCut f now to new h.t h.marks ⊎ IsTooLong f now to new h.t h.marks ⊎ IsBroken f now to new h.t h.marks → IfSome from (λ input. IsUnlisted new.depth new.bytes input f old out)
-refused-unlisted m new from now to old out written h f (inl i) = cut-unlisted m new from now to old out written h f i
-refused-unlisted m new from now to old out written h f (inr (inl i)) = long-unlisted m new from now to old out written h f i
-refused-unlisted m new from now to old out written h f (inr (inr i)) = broken-unlisted m new from now to old out written h f i
+pub refused-unlisted : (m new : MachineView) (from now to old out : Option (List ℕ)) (written : ℕ) (kept piece : List ℕ) (h : HasListed m from now old out written) (f : Refusal)
+    → IsCut f (call_of m new now to kept piece h.t h.marks) ⊎ IsTooLong f (call_of m new now to kept piece h.t h.marks) ⊎ HasFormError f (call_of m new now to kept piece h.t h.marks) → IfSome from (λ input. IsUnlisted new.depth new.bytes input f old out)
+refused-unlisted m new from now to old out written kept piece h f (inl i) = cut-unlisted m new from now to old out written kept piece h f i
+refused-unlisted m new from now to old out written kept piece h f (inr (inl i)) = long-unlisted m new from now to old out written kept piece h f i
+refused-unlisted m new from now to old out written kept piece h f (inr (inr i)) = broken-unlisted m new from now to old out written kept piece h f i
 
-pub refused-lost : (m new : MachineView) (from now to old out : Option (List ℕ)) (written : ℕ) (h : HasListed m from now old out written) (f : Refusal)
-    → IsCut f now to new h.t h.marks ⊎ IsTooLong f now to new h.t h.marks ⊎ IsBroken f now to new h.t h.marks → Loses f.read from to
-refused-lost m new from now to old out written h f (inl i) =
+pub refused-lost : (m new : MachineView) (from now to old out : Option (List ℕ)) (written : ℕ) (kept piece : List ℕ) (h : HasListed m from now old out written) (f : Refusal)
+    → IsCut f (call_of m new now to kept piece h.t h.marks) ⊎ IsTooLong f (call_of m new now to kept piece h.t h.marks) ⊎ HasFormError f (call_of m new now to kept piece h.t h.marks) → Loses f.read from to
+refused-lost m new from now to old out written kept piece h f (inl i) =
     loses (h.t ++ i.bytes) f.read from to (ap (λ (r : Refusal). r.read) i.is) (Consumes-trans from now to h.t i.bytes h.taken i.consumed)
-refused-lost m new from now to old out written h f (inr (inl i)) =
+refused-lost m new from now to old out written kept piece h f (inr (inl i)) =
     loses (h.t ++ i.bytes) f.read from to (ap (λ (r : Refusal). r.read) i.is ∙ sym i.full) (Consumes-trans from now to h.t i.bytes h.taken i.consumed)
-refused-lost m new from now to old out written h f (inr (inr i)) =
-    loses ((h.t ++ i.bytes) ++ i.byte ∷ []) f.read from to (ap (λ (r : Refusal). r.read) i.is ∙ sym (length-append (h.t ++ i.bytes) (i.byte ∷ []))) (broken-taken m new from now to old out written h f i)
+refused-lost m new from now to old out written kept piece h f (inr (inr i)) =
+    loses ((h.t ++ i.bytes) ++ i.byte ∷ []) f.read from to (ap (λ (r : Refusal). r.read) i.is ∙ sym (length-append (h.t ++ i.bytes) (i.byte ∷ []))) (broken-taken m new from now to old out written kept piece h f i)
 
 -- ---- the writer stopped
 
@@ -217,7 +222,7 @@ abbrev stopped_lines : List Event → Event → ℕ → List ℕ
 stopped_lines es e n = lines es ++ take n (line e)
 
 stops-within : (m new : MachineView) (now to : Option (List ℕ)) (kept piece t : List ℕ) (ms : List Mark) (es : List Event) (e : Event) (count : ℕ) → StandsBetween m t ms → AreTold es ms
-    → (next : IsNextEvent e now to m new kept piece t ms) → count < length (line e) → IsStopped new.depth (t ++ next.bytes) (stopped_lines es e count)
+    → (next : IsNextEvent e (call_of m new now to kept piece t ms)) → count < length (line e) → IsStopped new.depth (t ++ next.bytes) (stopped_lines es e count)
 stops-within m new now to kept piece t ms es e count s told next short =
     let sum = total-append ms (marks_of e.width e.kind) in
     let was = s.whole in
@@ -227,7 +232,7 @@ stops-within m new now to kept piece t ms es e count s told next short =
       beginning = next.stands.stands.beginning;
       earlier = joined es;
       last = e;
-      of_events = λ item rest i. sym (told-joined new (t ++ next.bytes) (ms ++ marks_of e.width e.kind) (es ++ e ∷ []) next.stands.stands (next-more es ms e now to m new kept piece t told s next) item rest i)
+      of_events = λ item rest i. sym (told-joined new (t ++ next.bytes) (ms ++ marks_of e.width e.kind) (es ++ e ∷ []) next.stands.stands (next-more (call_of m new now to kept piece t ms) es e told s next) item rest i)
           ∙ joined-last es e (has-line e count short);
       ends = omega (arith, sum, was, place, whole);
       part = count;
@@ -236,7 +241,7 @@ stops-within m new now to kept piece t ms es e count s told next short =
     }
 
 pub stopped-unlisted : (m new : MachineView) (from now to old mid out : Option (List ℕ)) (written count : ℕ) (kept piece : List ℕ) (e : Event) (h : HasListed m from now old mid written) (f : Refusal)
-    → IsNextEvent e now to m new kept piece h.t h.marks → count < length (line e) → Appends mid out (take count (line e)) → f ≡ refusal Write (min (written + count) (2 ^ 64 - 1)) new.taken
+    → IsNextEvent e (call_of m new now to kept piece h.t h.marks) → count < length (line e) → Appends mid out (take count (line e)) → f ≡ refusal Write (min (written + count) (2 ^ 64 - 1)) new.taken
     → IfSome from (λ input. IsUnlisted new.depth new.bytes input f old out)
 stopped-unlisted m new from now to old mid out written count kept piece e h f next short wrote is =
     let all = h.t ++ next.bytes in
@@ -253,19 +258,19 @@ stopped-unlisted m new from now to old mid out written count kept piece e h f ne
     (Appends-trans old mid out (lines h.told) (take count (line e)) h.listed wrote))
 
 pub stopped-lost : (m new : MachineView) (from now to old mid : Option (List ℕ)) (written : ℕ) (kept piece : List ℕ) (e : Event) (h : HasListed m from now old mid written) (n : ℕ)
-    → IsNextEvent e now to m new kept piece h.t h.marks → n ≡ new.taken → Loses n from to
+    → IsNextEvent e (call_of m new now to kept piece h.t h.marks) → n ≡ new.taken → Loses n from to
 stopped-lost m new from now to old mid written kept piece e h n next is =
     loses (h.t ++ next.bytes) n from to (is ∙ next.stands.stands.taken) (Consumes-trans from now to h.t next.bytes h.taken next.consumed)
 
 -- ---- what a call of `next` answers, and the limits
 
-pub next-event : (m new : MachineView) (now to : Option (List ℕ)) (kept piece t : List ℕ) (ms : List Mark) (v : Option Event) (e : Event) → v ≡ Some e → IsNext (Ok v) now to m new kept piece t ms
-    → IsNextEvent e now to m new kept piece t ms
-next-event m new now to kept piece t ms v e is h = subst (λ (x : Option Event). IsNext (Ok x) now to m new kept piece t ms) is h
+pub next-event : (m new : MachineView) (now to : Option (List ℕ)) (kept piece t : List ℕ) (ms : List Mark) (v : Option Event) (e : Event) → v ≡ Some e → IsNext (Ok v) (call_of m new now to kept piece t ms)
+    → IsNextEvent e (call_of m new now to kept piece t ms)
+next-event m new now to kept piece t ms v e is h = subst (λ (x : Option Event). IsNext (Ok x) (call_of m new now to kept piece t ms)) is h
 
-pub no-event : (m new : MachineView) (now to : Option (List ℕ)) (kept piece t : List ℕ) (ms : List Mark) (v : Option Event) → v ≡ None → IsNext (Ok v) now to m new kept piece t ms
-    → IsEnd now to m new kept piece t ms
-no-event m new now to kept piece t ms v is h = subst (λ (x : Option Event). IsNext (Ok x) now to m new kept piece t ms) is h
+pub no-event : (m new : MachineView) (now to : Option (List ℕ)) (kept piece t : List ℕ) (ms : List Mark) (v : Option Event) → v ≡ None → IsNext (Ok v) (call_of m new now to kept piece t ms)
+    → IsEnd (call_of m new now to kept piece t ms)
+no-event m new now to kept piece t ms v is h = subst (λ (x : Option Event). IsNext (Ok x) (call_of m new now to kept piece t ms)) is h
 
 pub listed-within : (d n : ℕ) (m : MachineView) (from old out : Option (List ℕ)) (count : ℕ) → m.depth ≡ d → m.bytes ≡ n
     → IfSome from (λ input. IsListed m.depth m.bytes input count old out) → IfSome from (λ input. IsListed d n input count old out)

@@ -5,12 +5,14 @@ use Rattle.cbor_head.specs.Spelling.{Spelling, IsItem, spell}
 use Rattle.cbor_head.specs.Beginning.{IsBeginning}
 use Rattle.cbor_head.specs.Complaint.{form}
 use Rattle.cbor_head.specs.Verdict.{refusal, accepted, refused, IsVerdict}
+use Rattle.cbor_head.specs.declared.reason.Reason.{Reason}
 use Rattle.cbor_head.specs.declared.reason.Reason.TheVariants.{Read, Write, Truncated as TruncatedInput}
 use Rattle.cbor_head.specs.declared.reason.Refusal.{Refusal}
 use Rattle.cbor_head.specs.declared.width.Width.{Width}
 use Rattle.cbor_head.specs.declared.width.Width.TheVariants.{Direct, One, Two, Four, Eight, Indefinite}
 use Rattle.cbor_diag.specs.Outbox.{capped}
 use Rattle.cbor_events.specs.Event.{events, event_size, cut}
+use Rattle.cbor_events.specs.Reasons.{IsEventReason}
 use Rattle.cbor_events.specs.declared.event.Event.{Event}
 use Rattle.cbor_events.specs.declared.event.EventKind.{EventKind}
 use Rattle.cbor_events.specs.declared.event.EventKind.TheVariants.{Unsigned, Negative, Simple, Bytes, Text, Chunk, Piece, Array, Map, Tag, End}
@@ -92,6 +94,11 @@ pub data IsUnlisted (d n : ℕ) (input : List ℕ) (f : Refusal) (old new : Opti
   -- the writer failed or took nothing: the listing of the bytes taken, up to the place
   of_writer : (out : List ℕ) → f ≡ refusal Write (capped (length out)) f.read
       → IsStopped d (take f.read input) out → Appends old new out → IsUnlisted d n input f old new
+
+-- the reasons of a reader of events, and that the writer failed
+abbrev pub IsListingReason : Reason → Type 0
+IsListingReason Write = Unit {0}
+IsListingReason r = IsEventReason r
 
 -- a reader that had these bytes lost the first so many of them
 abbrev pub Loses : ℕ → Option (List ℕ) → Option (List ℕ) → Type 0

@@ -1,7 +1,7 @@
 //! The listing of an item's events.
 
 ghost use Rattle.std.specs.Prelude.{IfOk, IfErr, IfSome};
-ghost use Rattle.cbor_diag.specs.Listing.{IsListed, IsUnlisted, Loses};
+ghost use Rattle.cbor_diag.specs.Listing.{IsListed, IsUnlisted, IsListingReason, Loses};
 
 use crate::event_line::line_of;
 use cbor_events::ItemEvents;
@@ -39,6 +39,7 @@ pub fn listing<R: Read, W: Write>(
     ensures refused { IfErr result (λ f. IfSome (R.remaining reader.old)
         (λ input. IsUnlisted limits.depth limits.bytes input f
         (W.contents writer.old) (W.contents writer.new))) }
+    ensures reasons { IfErr result (λ f. IsListingReason f.reason) }
     ensures read { IfErr result
         (λ f. Loses f.read (R.remaining reader.old) (R.remaining reader.new)) }
 {

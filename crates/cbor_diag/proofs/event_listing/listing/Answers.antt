@@ -14,8 +14,8 @@ lines-preserved g c =
     let h = inv.3 in
     let next = next-event _ _ _ _ _ _ _ _ c.in-Ok-Some.field-0 c.in-Ok-Some.event c.in-Ok-Some.field-0-is (c.in-Ok-Some.ensures.answers inv.2 h.t h.marks h.between) in
     let text = c.as_slice-text.ensures.value ∙ c.line_of-line.ensures in (
-      c.next.ensures.limits.0 ∙ inv.0,
-      c.next.ensures.limits.1 ∙ inv.1,
+      c.next.ensures.limits.depth ∙ inv.0,
+      c.next.ensures.limits.bytes ∙ inv.1,
       c.in-Ok-Some.ensures.live,
       one-more _ _ _ _ _ _ _ _ _ _ _ _ c.in-Ok-Some.event h next (subst (Appends _ _) text c.in-Ok.ensures)
           (c.saturating_add-written.ensures ∙ ap (λ xs. min (c.lines.written + length xs) (2 ^ 64 - 1)) text),
@@ -27,7 +27,7 @@ lines-smaller g c =
     let h = inv.3 in
     let next = next-event _ _ _ _ _ _ _ _ c.in-Ok-Some.field-0 c.in-Ok-Some.event c.in-Ok-Some.field-0-is (c.in-Ok-Some.ensures.answers inv.2 h.t h.marks h.between) in
     let more = takes-more _ _ _ _ _ _ h.t h.marks c.in-Ok-Some.event h.between next in
-    let same = c.next.ensures.limits.1 in
+    let same = c.next.ensures.limits.bytes in
     omega (arith, more, same)
 
 pub returns-in-Ok-None-clause-listed : goal.returns-in-Ok-None-clause-listed
@@ -49,14 +49,14 @@ returns-in-Err-clause-refused g c =
     let inv = c.lines.invariant in
     let h = inv.3 in
     let no = (c.in-Err.ensures.answers inv.2 h.t h.marks h.between).1 in
-    unlisted-within _ _ c.next.new.self.machine _ _ _ _ (c.next.ensures.limits.0 ∙ inv.0) (c.next.ensures.limits.1 ∙ inv.1) (refused-unlisted _ _ _ _ _ _ _ _ h c.in-Err.refusal no)
+    unlisted-within _ _ c.next.new.self.machine _ _ _ _ (c.next.ensures.limits.depth ∙ inv.0) (c.next.ensures.limits.bytes ∙ inv.1) (refused-unlisted _ _ _ _ _ _ _ _ _ _ h c.in-Err.refusal no)
 
 pub returns-in-Err-clause-read : goal.returns-in-Err-clause-read
 returns-in-Err-clause-read g c =
     let inv = c.lines.invariant in
     let h = inv.3 in
     let no = (c.in-Err.ensures.answers inv.2 h.t h.marks h.between).1 in
-    refused-lost _ _ _ _ _ _ _ _ h c.in-Err.refusal no
+    refused-lost _ _ _ _ _ _ _ _ _ _ h c.in-Err.refusal no
 
 pub returns-in-Err-write_whole-clause-refused : goal.returns-in-Err-write_whole-clause-refused
 returns-in-Err-write_whole-clause-refused g c =
@@ -66,7 +66,7 @@ returns-in-Err-write_whole-clause-refused g c =
     let text = c.as_slice-text.ensures.value ∙ c.line_of-line.ensures in
     let count = c.in-Err-write_whole.count in
     let stopped = c.in-Err-write_whole.ensures in
-    unlisted-within _ _ c.next.new.self.machine _ _ _ _ (c.next.ensures.limits.0 ∙ inv.0) (c.next.ensures.limits.1 ∙ inv.1)
+    unlisted-within _ _ c.next.new.self.machine _ _ _ _ (c.next.ensures.limits.depth ∙ inv.0) (c.next.ensures.limits.bytes ∙ inv.1)
     (stopped-unlisted _ _ _ _ _ _ _ _ _ count _ _ c.in-Ok-Some.event h _ next
     (subst (λ (xs : List ℕ). count < length xs) text stopped.0)
     (subst (λ (xs : List ℕ). Appends (g.W.Write.contents c.lines.writer) (g.W.Write.contents c.write_whole.new.writer) (take count xs)) text stopped.1)
