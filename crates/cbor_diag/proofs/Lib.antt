@@ -1,2 +1,4 @@
+pub mod Among
+pub mod Layouts
 pub mod PieceTexts
 pub mod Putting

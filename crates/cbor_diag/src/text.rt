@@ -134,9 +134,11 @@ fn put_gap<W: Write>(
         (gap layout level first) result }
 {
     match layout {
-        Layout::OneLine => out.put(writer, if first { b"" } else { b", " }),
+        Layout::OneLine if first => Ok(()),
+        Layout::OneLine => out.put(writer, b", "),
+        Layout::Indented if first => put_new_line(level + 1, out, writer),
         Layout::Indented => {
-            out.put(writer, if first { b"" } else { b"," })?;
+            out.put(writer, b",")?;
             put_new_line(level + 1, out, writer)
         }
     }
@@ -156,6 +158,6 @@ fn put_end<W: Write>(
 {
     match layout {
         Layout::Indented if !none => put_new_line(level, out, writer),
-        _ => out.put(writer, b""),
+        _ => Ok(()),
     }
 }
