@@ -44,6 +44,9 @@ mutual
 abbrev below : ℕ → List ℕ → List ℕ
 below n u = codes "," ++ new_line (n + 1) ++ u
 
+pair_joined : (g k v : List ℕ) → ((g ++ k) ++ codes ": ") ++ v ≡ g ++ ((k ++ codes ": ") ++ v)
+pair_joined g k v = ap (λ (l : List ℕ). l ++ v) (append_assoc g k (codes ": ")) ∙ append_assoc g (k ++ codes ": ") v
+
 mutual
   pub on-lines : (v : Value) (n : ℕ) → laid_out Indented n v ≡ indented n v
   on-lines (value.unsigned m) n = refl
@@ -80,6 +83,3 @@ mutual
       (λ i. (codes "," ++ new_line (n + 1) ++ on-lines k (n + 1) i ++ codes ": " ++ on-lines v (n + 1) i) ++ lines-later-pairs es n i)
       ∙ ap (λ (l : List ℕ). l ++ (flat_map (below n) (indented_pairs (n + 1) es) ++ new_line n)) (pair_joined (codes "," ++ new_line (n + 1)) (indented (n + 1) k) (indented (n + 1) v))
       ∙ sym (append_assoc (codes "," ++ new_line (n + 1) ++ (indented (n + 1) k ++ codes ": " ++ indented (n + 1) v)) (flat_map (below n) (indented_pairs (n + 1) es)) (new_line n))
-
-  pair_joined : (g k v : List ℕ) → ((g ++ k) ++ codes ": ") ++ v ≡ g ++ ((k ++ codes ": ") ++ v)
-  pair_joined g k v = ap (λ (l : List ℕ). l ++ v) (append_assoc g k (codes ": ")) ∙ append_assoc g (k ++ codes ": ") v

@@ -2,3 +2,5 @@ pub mod Among
 pub mod Layouts
 pub mod PieceTexts
 pub mod Putting
+pub mod ReadBack
+pub mod Reading

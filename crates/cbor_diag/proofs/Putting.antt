@@ -129,3 +129,10 @@ writes-all a b s t text none start gone p =
       p.counted 0 start ∙ omega (arith, ap length took),
       subst (λ (l : List ℕ). Appends a b l) took p.appended,
     )
+
+-- what waited went out behind the text, or not all of it
+pub flush-puts : (a b c : Option (List ℕ)) (s t u : Outbox) (text : List ℕ) → HasPut a b s t text → HasPut b c t u [] → HasPut a c s u text
+flush-puts a b c s t u text p q = subst (λ (l : List ℕ). HasPut a c s u l) (append-nil text) (puts-then a b c s t u text [] p q)
+
+pub flush-stops : (a b c : Option (List ℕ)) (s t : Outbox) (text : List ℕ) (e : Refusal) → HasPut a b s t text → HasStopped b c t [] e → HasStopped a c s text e
+flush-stops a b c s t text e p q = subst (λ (l : List ℕ). HasStopped a c s l e) (append-nil text) (puts-stops a b c s t text [] e p q)

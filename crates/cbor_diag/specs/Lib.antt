@@ -1,3 +1,4 @@
+pub mod Follows
 pub mod IndentedText
 pub mod Layout
 pub mod Outbox

@@ -14,9 +14,15 @@
 //! ```
 #![tactic(auto)]
 
+pub mod laws;
 mod layout;
 mod outbox;
 mod pieces;
 mod text;
 
 pub use text::{diagnostic, diagnostic_indented};
+
+#[cfg(test)]
+mod tests;
+#[cfg(test)]
+mod tests_failed;
