@@ -114,8 +114,7 @@ pub writes-stopped : (a b : Option (List ℕ)) (s : Outbox) (text : List ℕ) (e
 writes-stopped a b s text e none start p =
     let not_all = p.not_all in
     let front : p.took ++ p.others ≡ text = p.front ∙ ap (λ (l : List ℕ). l ++ text) none in
-    let taken : take (length p.took) text ≡ p.took = ap (take (length p.took)) (sym front) ∙ take-append_seam p.took p.others in
-    (
+    let taken : take (length p.took) text ≡ p.took = ap (take (length p.took)) (sym front) ∙ take-append_seam p.took p.others in (
       length p.took,
       p.told 0 start ∙ ap stopped_at (omega arith),
       omega (arith, ap length front, length-append p.took p.others),
@@ -124,8 +123,7 @@ writes-stopped a b s text e none start p =
 
 pub writes-all : (a b : Option (List ℕ)) (s t : Outbox) (text : List ℕ) → s.waiting.items ≡ [] → s.taken ≡ 0 → t.waiting.items ≡ [] → HasPut a b s t text → (t.taken ≡ capped (length text)) × Appends a b text
 writes-all a b s t text none start gone p =
-    let took : p.took ≡ text = sym (append-nil p.took) ∙ ap (λ (l : List ℕ). p.took ++ l) (sym gone) ∙ p.others ∙ ap (λ (l : List ℕ). l ++ text) none in
-    (
+    let took : p.took ≡ text = sym (append-nil p.took) ∙ ap (λ (l : List ℕ). p.took ++ l) (sym gone) ∙ p.others ∙ ap (λ (l : List ℕ). l ++ text) none in (
       p.counted 0 start ∙ omega (arith, ap length took),
       subst (λ (l : List ℕ). Appends a b l) took p.appended,
     )

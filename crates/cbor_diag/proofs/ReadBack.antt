@@ -13,7 +13,7 @@ use Rattle.cbor_diag.specs.Follows.{Ends}
 use Rattle.cbor_diag.specs.Layout.{gap, end, laid_out, members_left, pairs_left}
 use Rattle.cbor_diag.specs.declared.layout.Layout.{Layout}
 use Rattle.cbor_diag.specs.declared.layout.Layout.TheVariants.{OneLine, Indented}
-use Rattle.cbor_diag.proofs.Reading.{front, rest, Pass, Stands, front-all, rest-all, pass-append, digit, IsDecimal, decimals, digit-range, no-digit, decoded, decoded-back, hex-pass, first, unquoted, unquoted-back, escapes-long}
+use Rattle.cbor_diag.proofs.Reading.{front, rest, Pass, Stands, front-all, rest-all, digit, IsDecimal, decimals, digit-range, no-digit, decoded, decoded-back, hex-pass, first, unquoted, unquoted-back, escapes-long}
 use Rattle.cbor_diag.proofs.Layouts.{one-line, on-lines}
 
 abbrev Read : Type 0
@@ -208,7 +208,7 @@ unsigned-back k n x small h =
     let m = numeral n x (omega arith) (ends-stand x h) in
     pick-true (digit (first cs)) (numbered cs (read k (drop 1 (behind cs)))) (other cs (read_members k (drop 1 cs)) (read_pairs k (drop 1 cs))) m.begun
     ∙ pick-false {A = Read} (eqb (first (behind cs)) 40) (value.tag (number cs) (read k (drop 1 (behind cs))).0, drop 1 (read k (drop 1 (behind cs))).1) (value.unsigned (number cs), behind cs)
-      (ap (λ (b : List ℕ). eqb (first b) 40) m.behind_is ∙ ends-open x h)
+    (ap (λ (b : List ℕ). eqb (first b) 40) m.behind_is ∙ ends-open x h)
     ∙ ap (λ (j : ℕ). got (value.unsigned j) (behind cs)) m.number_is ∙ ap (got (value.unsigned n)) m.behind_is
 
 negative-back : (k n : ℕ) (x : List ℕ) → n < 2 ^ 64 → Ends x → read (suc k) (45 ∷ (decimal (n + 1) ++ x)) ≡ (value.negative n, x)
@@ -310,7 +310,7 @@ one-more : (k : ℕ) (gs : List ℕ) (v : Value) (vs : Values) (cs others x : Li
 one-more k gs v vs cs others x h b one more =
     ap (closes k) (skipped gs cs h b)
     ∙ pick-false {A = Values × List ℕ} (eqb (first cs) 93) (value.no_values, drop 1 cs) (value.a_value (read k cs).0 (read_members k (read k cs).1).0, (read_members k (read k cs).1).1)
-      (ap (λ (l : List ℕ). eqb (first l) 93) b.is ∙ b.no_array_end)
+    (ap (λ (l : List ℕ). eqb (first l) 93) b.is ∙ b.no_array_end)
     ∙ ap (λ (r : Read). got (value.a_value r.0 (read_members k r.1).0) (read_members k r.1).1) one
     ∙ ap (λ (r : Values × List ℕ). got (value.a_value v r.0) r.1) more
 
@@ -369,7 +369,7 @@ mutual
       let others = members_left l level false vs ++ 93 ∷ x in
       ap (read_members (suc k)) (member_joined (gap l level b) t (members_left l level false vs) (93 ∷ x))
       ∙ one-more k (gap l level b) v vs (t ++ others) others x (blank-gap l level b) (begins l (level + 1) v h.0 others)
-        (back l (level + 1) v k others h.0 (omega arith) (members-ends l level vs x)) (members-back l level false vs k x h.1 (omega arith))
+      (back l (level + 1) v k others h.0 (omega arith) (members-ends l level vs x)) (members-back l level false vs k x h.1 (omega arith))
 
   pairs-back : (l : Layout) (level : ℕ) (b : Bool) (es : Entries) (k : ℕ) (x : List ℕ) → AreEntriesInRange es → size_entries es ≤ k → read_pairs k (pairs_left l level b es ++ 125 ∷ x) ≡ (es, x)
   pairs-back l level b es zero x h s = absurd (nothing_entries es s)
@@ -380,14 +380,14 @@ mutual
       let others = pairs_left l level false es ++ 125 ∷ x in
       ap (read_pairs (suc k)) (pair_joined (gap l level b) t u (pairs_left l level false es) (125 ∷ x))
       ∙ one-more-pair k (gap l level b) key v es (t ++ (codes ": " ++ (u ++ others))) (u ++ others) others x (blank-gap l level b) (begins l (level + 1) key h.0 (codes ": " ++ (u ++ others)))
-        (back l (level + 1) key k (codes ": " ++ (u ++ others)) h.0 (omega arith) (inr (omega arith), λ f. absurd (omega arith)))
-        (back l (level + 1) v k others h.1 (omega arith) (pairs-ends l level es x)) (pairs-back l level false es k x h.2 (omega arith))
+      (back l (level + 1) key k (codes ": " ++ (u ++ others)) h.0 (omega arith) (inr (omega arith), λ f. absurd (omega arith)))
+      (back l (level + 1) v k others h.1 (omega arith) (pairs-ends l level es x)) (pairs-back l level false es k x h.2 (omega arith))
 
 -- texts in any layouts with rests that are equal are of the same value, and the rests are equal
 pub told : (l m : Layout) (i j : ℕ) (v w : Value) (x y : List ℕ) → IsInRange v → IsInRange w → Ends x → Ends y → laid_out l i v ++ x ≡ laid_out m j w ++ y → (v ≡ w) × (x ≡ y)
 told l m i j v w x y h g e f is =
-    let k = size v + size w in
-    let same : ◌≡◌ {A = Read} (v, x) (w, y) = sym (back l i v k x h (omega arith) e) ∙ ap (read k) is ∙ back m j w k y g (omega arith) f in
+    let same : ◌≡◌ {A = Read} (v, x) (w, y) =
+    sym (back l i v (size v + size w) x h (omega arith) e) ∙ ap (read (size v + size w)) is ∙ back m j w (size v + size w) y g (omega arith) f in
     (ap (λ (r : Read). r.0) same, ap (λ (r : Read). r.1) same)
 
 -- ---- the two texts

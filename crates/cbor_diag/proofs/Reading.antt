@@ -47,10 +47,6 @@ pub rest-all : (p : ℕ → Bool) (xs ys : List ℕ) → Pass p xs → Stands p 
 rest-all p [] ys a h = rest-none p ys h
 rest-all p (x ∷ xs) ys a h = let one = a.0 in rw one (rest-all p xs ys a.1 h)
 
-pub pass-append : (p : ℕ → Bool) (xs ys : List ℕ) → Pass p xs → Pass p ys → Pass p (xs ++ ys)
-pass-append p [] ys a b = b
-pass-append p (x ∷ xs) ys a b = (a.0, pass-append p xs ys a.1 b)
-
 -- ---- decimal numbers
 
 abbrev pub digit : ℕ → Bool
@@ -176,15 +172,13 @@ unquoted-back (suc k) (b ∷ bs) x h l =
     λ e is. ap (λ (l : List ℕ). unquoted (suc k) ((l ++ flat_map escaped bs) ++ 34 ∷ x)) is in
     elim (ways b (eqb b 34) (eqb b 92) (ltb b 32) (eqb b 127) refl refl refl refl) [
       | inl w ↦ so (b ∷ []) w.is ∙ raw-step k b cs w.no_quote w.no_backslash ∙ ap (onto b) more
-      | inr (inl w) ↦ so (92 ∷ b ∷ []) w.is ∙ marked-step k b cs w.no_letter ∙ ap (onto b) more
-      | inr (inr w) ↦ so (codes "\\u00" ++ encode_lower (b ∷ [])) w.is ∙ control k b bs x h more
+      | inr v ↦ elim v [ inl w ↦ so (92 ∷ b ∷ []) w.is ∙ marked-step k b cs w.no_letter ∙ ap (onto b) more | inr w ↦ so (codes "\\u00" ++ encode_lower (b ∷ [])) w.is ∙ control k b bs x h more ]
     ]
 
 escape-long : (b : ℕ) → 0 < length (escaped b)
 escape-long b = elim (ways b (eqb b 34) (eqb b 92) (ltb b 32) (eqb b 127) refl refl refl refl) [
   | inl w ↦ rw (w.is) (omega arith)
-  | inr (inl w) ↦ rw (w.is) (omega arith)
-  | inr (inr w) ↦ rw (w.is) (omega arith)
+  | inr v ↦ elim v [ inl w ↦ rw (w.is) (omega arith) | inr w ↦ rw (w.is) (omega arith) ]
 ]
 
 pub escapes-long : (bs : List ℕ) → length bs ≤ length (flat_map escaped bs)

@@ -30,7 +30,8 @@ abbrev pub Puts : Option (List ℕ) → Option (List ℕ) → Outbox → Outbox 
 Puts old new from to bytes (Ok x) = HasPut old new from to bytes
 Puts old new from to bytes (Err e) = HasStopped old new from bytes e
 
--- All of the bytes went out, and their count is answered; or the first n alone. Counts stop at 2^64 - 1.
+-- All of the bytes went out, and their count is answered; or the first n alone.
 abbrev pub Writes : Option (List ℕ) → Option (List ℕ) → List ℕ → Result ℕ Refusal → Type 0
 Writes old new bytes (Ok count) = (count ≡ capped (length bytes)) × Appends old new bytes
-Writes old new bytes (Err e) = (n : ℕ) × (e ≡ stopped_at (capped n)) × (n < length bytes) × Appends old new (take n bytes)
+Writes old new bytes (Err e) =
+    (n : ℕ) × (e ≡ stopped_at (capped n)) × (n < length bytes) × Appends old new (take n bytes)

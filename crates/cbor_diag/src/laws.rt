@@ -21,15 +21,16 @@ pub fn text_tells_the_value()
 
 /// The same of the text with one member or pair a line, at whatever levels.
 pub fn indented_text_tells_the_value()
-    ensures told { (i j : ℕ) (v w : Value) (x y : List ℕ) → IsInRange v → IsInRange w → Ends x → Ends y
-        → indented i v ++ x ≡ indented j w ++ y → (v ≡ w) × (x ≡ y) }
+    ensures told { (i j : ℕ) (v w : Value) (x y : List ℕ) → IsInRange v → IsInRange w
+        → Ends x → Ends y → indented i v ++ x ≡ indented j w ++ y → (v ≡ w) × (x ≡ y) }
     ensures equal { (i : ℕ) (v w : Value) → IsInRange v → IsInRange w
         → indented i v ≡ indented i w ↔ v ≡ w }
 {}
 
 /// Trees have equal texts exactly where their items have equal values, pair for pair in order.
 pub fn texts_tell_trees(left: &Tree, right: &Tree)
-    ensures one_line { text (view left.now) ≡ text (view right.now) ↔ view left.now ≡ view right.now }
+    ensures one_line { text (view left.now) ≡ text (view right.now)
+        ↔ view left.now ≡ view right.now }
     ensures lines { indented 0 (view left.now) ≡ indented 0 (view right.now)
         ↔ view left.now ≡ view right.now }
 {

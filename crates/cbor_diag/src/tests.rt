@@ -97,9 +97,21 @@ fn strings(rt: HostRuntime) -> Result<(), Fail> {
     assert!(rt; shows(alloc, text(alloc, "IETF")?, "\"IETF\"")?);
     assert!(rt; shows(alloc, text(alloc, "\"\\")?, "\"\\\"\\\\\"")?);
     // U+00FC, U+6C34 and U+10151 in UTF-8
-    assert!(rt; shows(alloc, text(alloc, "\u{fc}\u{6c34}\u{10151}")?, "\"\u{fc}\u{6c34}\u{10151}\"")?);
+    assert!(rt;
+        shows(
+            alloc,
+            text(alloc, "\u{fc}\u{6c34}\u{10151}")?,
+            "\"\u{fc}\u{6c34}\u{10151}\""
+        )?
+    );
     // a quote, a backslash, a line feed and a delete
-    assert!(rt; shows(alloc, text(alloc, "\"\\\n\x7f")?, "\"\\\"\\\\\\u000a\\u007f\"")?);
+    assert!(rt;
+        shows(
+            alloc,
+            text(alloc, "\"\\\n\x7f")?,
+            "\"\\\"\\\\\\u000a\\u007f\""
+        )?
+    );
     // controls between characters that stand raw, at both ends of the range
     assert!(rt; shows(alloc, text(alloc, "a\0b\x1f ~")?, "\"a\\u0000b\\u001f ~\"")?);
     Ok(())
@@ -111,7 +123,13 @@ fn tags(rt: HostRuntime) -> Result<(), Fail> {
     // as RFC 8949, Appendix A, writes them
     let date = text(alloc, "2013-03-21T20:04:00Z")?;
     assert!(rt; shows(alloc, tag(alloc, 0, date)?, "0(\"2013-03-21T20:04:00Z\")")?);
-    assert!(rt; shows(alloc, tag(alloc, 1, Item::Unsigned(1363896240))?, "1(1363896240)")?);
+    assert!(rt;
+        shows(
+            alloc,
+            tag(alloc, 1, Item::Unsigned(1363896240))?,
+            "1(1363896240)"
+        )?
+    );
     let encoded = bytes(alloc, b"\x64\x49\x45\x54\x46")?;
     assert!(rt; shows(alloc, tag(alloc, 24, encoded)?, "24(h'6449455446')")?);
     // no number is made of the bytes
@@ -132,18 +150,32 @@ fn arrays_and_maps(rt: HostRuntime) -> Result<(), Fail> {
     let quoted = Item::Array(vec![in alloc; text(alloc, "\"")?, simple(22)?]?);
     assert!(rt; shows(alloc, quoted, "[\"\\\"\", null]")?);
     // {h'01': 255(h'')}
-    let keyed = Item::Map(vec![in alloc; (bytes(alloc, b"\x01")?, tag(alloc, 255, bytes(alloc, b"")?)?)]?);
+    let keyed = Item::Map(vec![in alloc;
+        (bytes(alloc, b"\x01")?, tag(alloc, 255, bytes(alloc, b"")?)?),
+    ]?);
     assert!(rt; shows(alloc, keyed, "{h'01': 255(h'')}")?);
-    assert!(rt; shows(alloc, nested(alloc)?, "[1, {\"b\": [2, 3], \"a\": 1, [4]: {}}, []]")?);
+    assert!(rt;
+        shows(
+            alloc,
+            nested(alloc)?,
+            "[1, {\"b\": [2, 3], \"a\": 1, [4]: {}}, []]"
+        )?
+    );
     Ok(())
 }
 
 // An array of a number, a map and an array without members; the map's keys are in no order.
 pub(crate) fn nested(alloc: Global) -> Result<Item, AllocError> {
     let map = Item::Map(vec![in alloc;
-        (text(alloc, "b")?, Item::Array(vec![in alloc; Item::Unsigned(2), Item::Unsigned(3)]?)),
+        (
+            text(alloc, "b")?,
+            Item::Array(vec![in alloc; Item::Unsigned(2), Item::Unsigned(3)]?)
+        ),
         (text(alloc, "a")?, Item::Unsigned(1)),
-        (Item::Array(vec![in alloc; Item::Unsigned(4)]?), Item::Map(Vec::new(alloc))),
+        (
+            Item::Array(vec![in alloc; Item::Unsigned(4)]?),
+            Item::Map(Vec::new(alloc))
+        ),
     ]?);
     Ok(Item::Array(vec![in alloc; Item::Unsigned(1), map, Item::Array(Vec::new(alloc))]?))
 }
@@ -154,7 +186,8 @@ fn indented_texts(rt: HostRuntime) -> Result<(), Fail> {
     assert!(rt; shows_indented(alloc, Item::Unsigned(7), "7")?);
     assert!(rt; shows_indented(alloc, Item::Array(Vec::new(alloc)), "[]")?);
     assert!(rt; shows_indented(alloc, Item::Map(Vec::new(alloc)), "{}")?);
-    let want = "[\n  1,\n  {\n    \"b\": [\n      2,\n      3\n    ],\n    \"a\": 1,\n    [\n      4\n    ]: {}\n  },\n  []\n]";
+    let want =
+        "[\n  1,\n  {\n    \"b\": [\n      2,\n      3\n    ],\n    \"a\": 1,\n    [\n      4\n    ]: {}\n  },\n  []\n]";
     assert!(rt; shows_indented(alloc, nested(alloc)?, want)?);
     // what a tag stands before begins on its line
     let one = Item::Array(vec![in alloc; Item::Unsigned(1)]?);

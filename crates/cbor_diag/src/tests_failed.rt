@@ -66,7 +66,8 @@ fn writers_stop_at_each_place(rt: HostRuntime) -> Result<(), Fail> {
     let alloc = rt.alloc();
     let tree = tree(alloc, nested(alloc)?)?;
     let line = b"[1, {\"b\": [2, 3], \"a\": 1, [4]: {}}, []]";
-    let lines = b"[\n  1,\n  {\n    \"b\": [\n      2,\n      3\n    ],\n    \"a\": 1,\n    [\n      4\n    ]: {}\n  },\n  []\n]";
+    let lines =
+        b"[\n  1,\n  {\n    \"b\": [\n      2,\n      3\n    ],\n    \"a\": 1,\n    [\n      4\n    ]: {}\n  },\n  []\n]";
     for (step, fails) in STOPS {
         for room in 0..line.len() {
             let mut cup = cup(Vec::new(alloc), room, step, fails);
@@ -99,7 +100,9 @@ fn long_strings_are_cut_off(rt: HostRuntime) -> Result<(), Fail> {
     let alloc = rt.alloc();
     let tree = tree(alloc, bytes(alloc, &[0x5a; 700])?)?;
     for (step, fails) in STOPS {
-        for room in [0, 1, 2, 3, 511, 512, 513, 514, 515, 1025, 1026, 1027, 1401, 1402] {
+        for room in [
+            0, 1, 2, 3, 511, 512, 513, 514, 515, 1025, 1026, 1027, 1401, 1402,
+        ] {
             let mut cup = cup(Vec::new(alloc), room, step, fails);
             assert_eq!(rt; diagnostic(&tree, &mut cup), write_at(room));
             assert_eq!(rt; cup.held.len(), room);

@@ -30,13 +30,15 @@ pub fn diagnostic<W: Write>(tree: &Tree, writer: &mut W) -> Result<u64, Refusal>
 /// Writes the diagnostic text with one member or pair a line, two spaces a level. For the rest it
 /// is as [`diagnostic`].
 pub fn diagnostic_indented<W: Write>(tree: &Tree, writer: &mut W) -> Result<u64, Refusal>
-    ensures { Writes (W.contents writer.old) (W.contents writer.new) (indented 0 (view tree.now)) result }
+    ensures { Writes (W.contents writer.old) (W.contents writer.new)
+        (indented 0 (view tree.now)) result }
 {
     write_text(tree, Layout::Indented, writer)
 }
 
 fn write_text<W: Write>(tree: &Tree, layout: Layout, writer: &mut W) -> Result<u64, Refusal>
-    ensures { Writes (W.contents writer.old) (W.contents writer.new) (laid_out layout 0 (view tree.now)) result }
+    ensures { Writes (W.contents writer.old) (W.contents writer.new)
+        (laid_out layout 0 (view tree.now)) result }
 {
     let mut out = Outbox::new();
     put_item(tree.item(), layout, 0, &mut out, writer)?;
@@ -83,7 +85,8 @@ fn put_array<W: Write>(
 ) -> Result<(), Refusal>
     requires { depth_all (values_view items.now.items) + level + 1 ≤ 256 }
     ensures { Puts (W.contents writer.old) (W.contents writer.new) out.old out.new
-        (codes "[" ++ members_left layout level true (values_view items.now.items) ++ codes "]") result }
+        (codes "[" ++ members_left layout level true (values_view items.now.items) ++ codes "]")
+        result }
 {
     out.put(writer, b"[")?;
     let mut first = true;
@@ -106,7 +109,8 @@ fn put_map<W: Write>(
 ) -> Result<(), Refusal>
     requires { depth_entries (entries_view pairs.now.items) + level + 1 ≤ 256 }
     ensures { Puts (W.contents writer.old) (W.contents writer.new) out.old out.new
-        (codes "{" ++ pairs_left layout level true (entries_view pairs.now.items) ++ codes "}") result }
+        (codes "{" ++ pairs_left layout level true (entries_view pairs.now.items) ++ codes "}")
+        result }
 {
     out.put(writer, b"{")?;
     let mut first = true;

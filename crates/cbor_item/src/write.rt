@@ -42,7 +42,8 @@ pub fn encode_to<W: Write>(
 pub fn write_whole<W: Write>(writer: &mut W, bytes: &[u8]) -> Result<(), usize>
     ensures { MatchResult result
         (λ _. Appends (W.contents writer.old) (W.contents writer.new) bytes.now)
-        (λ count. (count < length bytes.now) × Appends (W.contents writer.old) (W.contents writer.new) (take count bytes.now)) }
+        (λ count. (count < length bytes.now)
+        × Appends (W.contents writer.old) (W.contents writer.new) (take count bytes.now)) }
 {
     let mut at = 0;
     while at < bytes.len() {

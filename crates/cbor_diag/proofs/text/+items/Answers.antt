@@ -1,7 +1,7 @@
 use Rattle.std.proofs.Common.{◌≡◌, ℕ, ◌+◌, true, false, List, [], ◌∷◌, ◌++◌, drop, length, codes, decimal, refl, sym, ap, ◌∙◌, subst, append-nil, arith, rules}
-use Rattle.std.proofs.lemmas.Grind.{common_steps}
 use Rattle.std.proofs.lemmas.Result.{err_from_is_err_and}
 use Rattle.cbor_item.specs.View.{view, values_view, entries_view}
+use Rattle.cbor_item.specs.declared.item.Item.TheViews.{the_lemmas}
 use Rattle.cbor_item.proofs.Views.{view-Tag}
 use Rattle.cbor_diag.specs.Layout.{gap, end, laid_out, members_left, pairs_left}
 use Rattle.cbor_diag.proofs.Putting.{stops-more, puts-next, puts-then, puts-stops}
@@ -152,7 +152,7 @@ put_map-put_item-requires-in-loop-key g t c =
     let first = c.loop-key.first in
     let x = c.loop-key-item.result in
     let deep = pair-deep level ps i x c.loop-key-test.true c.loop-key-item.is c.loop-key.invariant.shallow in
-    λ κs lives. (first_of (search rules, grind (arith, common_steps)), (lives, deep))
+    λ κs lives. (search (rules, the_lemmas), (lives, deep))
 
 pub put_map-returns-in_err-put_item-2 : goal.put_map-returns-in_err-put_item-2
 put_map-returns-in_err-put_item-2 g t c =
