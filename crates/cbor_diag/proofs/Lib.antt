@@ -1,4 +1,8 @@
+pub mod Among
+pub mod Layouts
 pub mod Lines
 pub mod Listed
 pub mod PieceTexts
 pub mod Putting
+pub mod ReadBack
+pub mod Reading

@@ -6,16 +6,14 @@ use Rattle.std.proofs.lemmas.Bool.Decides.{nat_tests}
 use lib.Seq.{take-add}
 use Rattle.hex.specs.Hex.{encode_with, encode_lower, lower_digits}
 use Rattle.cbor_head.specs.declared.reason.Refusal.{Refusal}
-use Rattle.cbor_diag.specs.Outbox.{HasPut, HasStopped}
+use Rattle.cbor_diag.specs.inner.Outbox.{HasPut, HasStopped}
 use Rattle.cbor_diag.specs.Text.{escaped, simple_text}
 use Rattle.cbor_diag.specs.IndentedText.{new_line}
 use Rattle.cbor_diag.specs.declared.outbox.Outbox.{Outbox}
 use Rattle.cbor_diag.proofs.Putting.{puts-then, puts-stops, stops-more}
 
-pub new_line-front : (level n : ℕ) → n ≡ level → level ≤ 256 → take (1 + 2 * n) (10 ∷ replicate 512 32) ≡ new_line level
-new_line-front level n e few =
-    let m : 1 + 2 * n ≡ suc (2 * level) = omega (arith, e) in
-    rw m (ap (λ (l : List ℕ). 10 ∷ l) (take-replicate (2 * level) 512 32 (omega arith)))
+pub spaces-front : (level n : ℕ) → n ≡ level → level ≤ 256 → take (2 * n) (replicate 512 32) ≡ replicate (2 * level) 32
+spaces-front level n e few = rw e (take-replicate (2 * level) 512 32 (omega arith))
 
 eqb-no : (m n : ℕ) → (m ≡ n → ⊥) → eqb m n ≡ false
 eqb-no m n h = grind (arith, nat_tests)

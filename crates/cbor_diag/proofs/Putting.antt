@@ -2,11 +2,13 @@
 use Rattle.std.proofs.Common.{◌≡◌, ℕ, ◌+◌, ◌-◌, ◌^◌, ◌<◌, min, List, [], ◌++◌, length, take, drop, Option, Bool, true, false, Result, Ok, Err, refl, sym, ap, ◌∙◌, subst, append_assoc, append-nil, length-append, length-drop, take-append-drop, arith}
 use Rattle.std.proofs.lemmas.List.{length-take-le}
 use Rattle.std.specs.Result.{OnErr, is_ok}
+use lib.Seq.{take-append_seam}
 use Rattle.std.specs.Io.KnownBytes.{Appends}
 use Rattle.std.proofs.KnownBytes.{Appends-trans, Appends-nil}
 use Rattle.cbor_head.specs.declared.reason.Refusal.{Refusal}
 use Rattle.cbor_item.specs.Sent.{stopped_at}
-use Rattle.cbor_diag.specs.Outbox.{capped, HasPut, HasStopped, Puts}
+use Rattle.cbor_diag.specs.Written.{capped, Writes}
+use Rattle.cbor_diag.specs.inner.Outbox.{HasPut, HasStopped, Puts}
 use Rattle.cbor_diag.specs.declared.outbox.Outbox.{Outbox}
 
 -- what was taken, and then the rest of it
@@ -106,3 +108,30 @@ stops-as a b s t xs e is p = subst (λ (o : Outbox). HasStopped a b o xs e) is p
 
 pub puts-as : (a b : Option (List ℕ)) (s t u : Outbox) (xs : List ℕ) → t ≡ s → HasPut a b t u xs → HasPut a b s u xs
 puts-as a b s t u xs is p = subst (λ (o : Outbox). HasPut a b o u xs) is p
+
+-- ---- from nothing to the whole
+
+pub writes-stopped : (a b : Option (List ℕ)) (s : Outbox) (text : List ℕ) (e : Refusal) → s.waiting.items ≡ [] → s.taken ≡ 0 → HasStopped a b s text e → Writes a b text (Err e)
+writes-stopped a b s text e none start p =
+    let not_all = p.not_all in
+    let front : p.took ++ p.others ≡ text = p.front ∙ ap (λ (l : List ℕ). l ++ text) none in
+    let taken : take (length p.took) text ≡ p.took = ap (take (length p.took)) (sym front) ∙ take-append_seam p.took p.others in (
+      length p.took,
+      p.told 0 start ∙ ap stopped_at (omega arith),
+      omega (arith, ap length front, length-append p.took p.others),
+      subst (λ (l : List ℕ). Appends a b l) (sym taken) p.appended,
+    )
+
+pub writes-all : (a b : Option (List ℕ)) (s t : Outbox) (text : List ℕ) → s.waiting.items ≡ [] → s.taken ≡ 0 → t.waiting.items ≡ [] → HasPut a b s t text → (t.taken ≡ capped (length text)) × Appends a b text
+writes-all a b s t text none start gone p =
+    let took : p.took ≡ text = sym (append-nil p.took) ∙ ap (λ (l : List ℕ). p.took ++ l) (sym gone) ∙ p.others ∙ ap (λ (l : List ℕ). l ++ text) none in (
+      p.counted 0 start ∙ omega (arith, ap length took),
+      subst (λ (l : List ℕ). Appends a b l) took p.appended,
+    )
+
+-- what waited went out behind the text, or not all of it
+pub flush-puts : (a b c : Option (List ℕ)) (s t u : Outbox) (text : List ℕ) → HasPut a b s t text → HasPut b c t u [] → HasPut a c s u text
+flush-puts a b c s t u text p q = subst (λ (l : List ℕ). HasPut a c s u l) (append-nil text) (puts-then a b c s t u text [] p q)
+
+pub flush-stops : (a b c : Option (List ℕ)) (s t : Outbox) (text : List ℕ) (e : Refusal) → HasPut a b s t text → HasStopped b c t [] e → HasStopped a c s text e
+flush-stops a b c s t text e p q = subst (λ (l : List ℕ). HasStopped a c s l e) (append-nil text) (puts-stops a b c s t text [] e p q)

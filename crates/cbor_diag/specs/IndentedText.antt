@@ -11,13 +11,17 @@ new_line level = codes "\n" ++ replicate (2 * level) 0x20
 -- texts one a line, joined by a comma, a level deeper than what closes them
 abbrev pub lines : ℕ → List (List ℕ) → List ℕ
 lines level [] = []
-lines level (t ∷ ts) = new_line (level + 1) ++ t ++ flat_map (λ (u : List ℕ). codes "," ++ new_line (level + 1) ++ u) ts ++ new_line level
+lines level (t ∷ ts) =
+    let line = new_line (level + 1) in
+    line ++ t ++ flat_map (λ (u : List ℕ). codes "," ++ line ++ u) ts ++ new_line level
 
 abbrev mutual
   -- the text of a value at a level
   pub indented : ℕ → Value → List ℕ
-  indented level (value.array vs) = codes "[" ++ lines level (indented_texts (level + 1) vs) ++ codes "]"
-  indented level (value.map es) = codes "{" ++ lines level (indented_pairs (level + 1) es) ++ codes "}"
+  indented level (value.array vs) =
+      codes "[" ++ lines level (indented_texts (level + 1) vs) ++ codes "]"
+  indented level (value.map es) =
+      codes "{" ++ lines level (indented_pairs (level + 1) es) ++ codes "}"
   indented level (value.tag n v) = decimal n ++ codes "(" ++ indented level v ++ codes ")"
   indented level v = text v
 
@@ -29,4 +33,5 @@ abbrev mutual
   -- the texts of the pairs, in their order
   pub indented_pairs : ℕ → Entries → List (List ℕ)
   indented_pairs level value.no_entries = []
-  indented_pairs level (value.entry k v es) = (indented level k ++ codes ": " ++ indented level v) ∷ indented_pairs level es
+  indented_pairs level (value.entry k v es) =
+      (indented level k ++ codes ": " ++ indented level v) ∷ indented_pairs level es

@@ -1,5 +1,6 @@
+pub mod Follows
 pub mod IndentedText
-pub mod Layout
+pub mod inner
 pub mod Listing
-pub mod Outbox
 pub mod Text
+pub mod Written

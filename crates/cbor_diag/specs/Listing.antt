@@ -10,7 +10,7 @@ use Rattle.cbor_head.specs.declared.reason.Reason.TheVariants.{Read, Write, Trun
 use Rattle.cbor_head.specs.declared.reason.Refusal.{Refusal}
 use Rattle.cbor_head.specs.declared.width.Width.{Width}
 use Rattle.cbor_head.specs.declared.width.Width.TheVariants.{Direct, One, Two, Four, Eight, Indefinite}
-use Rattle.cbor_diag.specs.Outbox.{capped}
+use Rattle.cbor_diag.specs.Written.{capped}
 use Rattle.cbor_events.specs.Event.{events, event_size, cut}
 use Rattle.cbor_events.specs.Reasons.{IsEventReason}
 use Rattle.cbor_events.specs.declared.event.Event.{Event}

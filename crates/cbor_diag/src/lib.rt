@@ -18,12 +18,18 @@
 
 mod event_line;
 mod event_listing;
+pub mod laws;
 mod layout;
 mod outbox;
 mod pieces;
-#[cfg(test)]
-mod tests_listing;
 mod text;
 
 pub use event_listing::listing;
 pub use text::{diagnostic, diagnostic_indented};
+
+#[cfg(test)]
+mod tests;
+#[cfg(test)]
+mod tests_failed;
+#[cfg(test)]
+mod tests_listing;

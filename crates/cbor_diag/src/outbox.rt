@@ -3,7 +3,8 @@
 ghost use Rattle.std.specs.Prelude.{◌≡◌, ℕ, ◌+◌, ◌<◌, [], length, take, IfOk, MatchResult};
 ghost use Rattle.std.specs.Io.KnownBytes.{Appends};
 ghost use Rattle.cbor_item.specs.Sent.{stopped_at};
-ghost use Rattle.cbor_diag.specs.Outbox.{Puts, capped};
+ghost use Rattle.cbor_diag.specs.Written.{capped};
+ghost use Rattle.cbor_diag.specs.inner.Outbox.{Puts};
 
 use arrayvec::ArrayVec;
 use cbor_head::{Reason, Refusal};
@@ -38,7 +39,7 @@ impl Outbox {
     // The bytes wait behind those that do, or go out after them.
     pub(crate) fn put<W: Write>(&mut self, writer: &mut W, bytes: &[u8]) -> Result<(), Refusal>
         ensures { Puts (W.contents writer.old) (W.contents writer.new) self.old self.new
-        bytes.now result }
+            bytes.now result }
     {
         if self.waiting.try_extend_from_slice(bytes).is_ok() {
             return Ok(());
@@ -55,7 +56,7 @@ impl Outbox {
     // What waits goes out.
     pub(crate) fn flush<W: Write>(&mut self, writer: &mut W) -> Result<(), Refusal>
         ensures done { Puts (W.contents writer.old) (W.contents writer.new) self.old self.new
-        [] result }
+            [] result }
         ensures empty { IfOk result (λ _. self.new.waiting.items ≡ []) }
     {
         self.taken = send(writer, self.taken, self.waiting.as_slice())?;
@@ -68,9 +69,9 @@ impl Outbox {
 fn send<W: Write>(writer: &mut W, taken: u64, bytes: &[u8]) -> Result<u64, Refusal>
     ensures { MatchResult result
         (λ count. (count ≡ capped (taken + length bytes.now))
-            × Appends (W.contents writer.old) (W.contents writer.new) bytes.now)
+        × Appends (W.contents writer.old) (W.contents writer.new) bytes.now)
         (λ e. (n : ℕ) × (e ≡ stopped_at (capped (taken + n))) × (n < length bytes.now)
-            × Appends (W.contents writer.old) (W.contents writer.new) (take n bytes.now)) }
+        × Appends (W.contents writer.old) (W.contents writer.new) (take n bytes.now)) }
 {
     match write_whole(writer, bytes) {
         Ok(()) => Ok(taken.saturating_add(bytes.len() as u64)),

@@ -3,7 +3,7 @@
 ghost use Rattle.std.specs.Prelude.{◌≡◌, ◌≢◌, ◌+◌, ◌≤◌, ◌↔◌, [], ◌∷◌, ◌++◌, IsTrue, codes, decimal, flat_map, length, MatchResult};
 ghost use Rattle.hex.specs.Hex.{encode_lower};
 ghost use Rattle.cbor_diag.specs.IndentedText.{new_line};
-ghost use Rattle.cbor_diag.specs.Outbox.{Puts};
+ghost use Rattle.cbor_diag.specs.inner.Outbox.{Puts};
 ghost use Rattle.cbor_diag.specs.Text.{escaped, simple_text};
 
 use crate::outbox::Outbox;
@@ -14,8 +14,8 @@ use std::io::Write;
 // How many bytes are turned into digits at once.
 const HEX_RUN: usize = 256;
 
-// A line feed and two spaces for each of as many levels as there can be.
-const NEW_LINE: &[u8; 513] = b"\n                                                                                                                                                                                                                                                                                                                                                                                                                                                                                                                                ";
+// Two for each of as many levels as there can be.
+const SPACES: [u8; 512] = [b' '; 512];
 
 pub(crate) fn put_number<W: Write>(
     number: u64,
@@ -148,5 +148,6 @@ pub(crate) fn put_new_line<W: Write>(
     ensures { Puts (W.contents writer.old) (W.contents writer.new) out.old out.new
         (new_line level) result }
 {
-    out.put(writer, &NEW_LINE[..1 + 2 * usize::from(level)])
+    out.put(writer, b"\n")?;
+    out.put(writer, &SPACES[..2 * usize::from(level)])
 }

@@ -5,8 +5,9 @@ ghost use Rattle.cbor_head.specs.Value.{depth, depth_all, depth_entries};
 ghost use Rattle.cbor_item.specs.View.{view};
 ghost use Rattle.cbor_item.specs.inner.Members.{entries_view, values_view};
 ghost use Rattle.cbor_diag.specs.IndentedText.{indented};
-ghost use Rattle.cbor_diag.specs.Layout.{gap, end, laid_out, members_left, pairs_left};
-ghost use Rattle.cbor_diag.specs.Outbox.{Puts, Writes};
+ghost use Rattle.cbor_diag.specs.inner.Layout.{gap, end, laid_out, members_left, pairs_left};
+ghost use Rattle.cbor_diag.specs.Written.{Writes};
+ghost use Rattle.cbor_diag.specs.inner.Outbox.{Puts};
 ghost use Rattle.cbor_diag.specs.Text.{text};
 
 use crate::layout::Layout;
@@ -31,13 +32,15 @@ pub fn diagnostic<W: Write>(tree: &Tree, writer: &mut W) -> Result<u64, Refusal>
 /// Writes the diagnostic text with one member or pair a line, two spaces a level. For the rest it
 /// is as [`diagnostic`].
 pub fn diagnostic_indented<W: Write>(tree: &Tree, writer: &mut W) -> Result<u64, Refusal>
-    ensures { Writes (W.contents writer.old) (W.contents writer.new) (indented 0 (view tree.now)) result }
+    ensures { Writes (W.contents writer.old) (W.contents writer.new)
+        (indented 0 (view tree.now)) result }
 {
     write_text(tree, Layout::Indented, writer)
 }
 
 fn write_text<W: Write>(tree: &Tree, layout: Layout, writer: &mut W) -> Result<u64, Refusal>
-    ensures { Writes (W.contents writer.old) (W.contents writer.new) (laid_out layout 0 (view tree.now)) result }
+    ensures { Writes (W.contents writer.old) (W.contents writer.new)
+        (laid_out layout 0 (view tree.now)) result }
 {
     let mut out = Outbox::new();
     put_item(tree.item(), layout, 0, &mut out, writer)?;
@@ -84,7 +87,8 @@ fn put_array<W: Write>(
 ) -> Result<(), Refusal>
     requires { depth_all (values_view items.now.items) + level + 1 ≤ 256 }
     ensures { Puts (W.contents writer.old) (W.contents writer.new) out.old out.new
-        (codes "[" ++ members_left layout level true (values_view items.now.items) ++ codes "]") result }
+        (codes "[" ++ members_left layout level true (values_view items.now.items) ++ codes "]")
+        result }
 {
     out.put(writer, b"[")?;
     let mut first = true;
@@ -107,7 +111,8 @@ fn put_map<W: Write>(
 ) -> Result<(), Refusal>
     requires { depth_entries (entries_view pairs.now.items) + level + 1 ≤ 256 }
     ensures { Puts (W.contents writer.old) (W.contents writer.new) out.old out.new
-        (codes "{" ++ pairs_left layout level true (entries_view pairs.now.items) ++ codes "}") result }
+        (codes "{" ++ pairs_left layout level true (entries_view pairs.now.items) ++ codes "}")
+        result }
 {
     out.put(writer, b"{")?;
     let mut first = true;
@@ -135,9 +140,11 @@ fn put_gap<W: Write>(
         (gap layout level first) result }
 {
     match layout {
-        Layout::OneLine => out.put(writer, if first { b"" } else { b", " }),
+        Layout::OneLine if first => Ok(()),
+        Layout::OneLine => out.put(writer, b", "),
+        Layout::Indented if first => put_new_line(level + 1, out, writer),
         Layout::Indented => {
-            out.put(writer, if first { b"" } else { b"," })?;
+            out.put(writer, b",")?;
             put_new_line(level + 1, out, writer)
         }
     }
@@ -157,6 +164,6 @@ fn put_end<W: Write>(
 {
     match layout {
         Layout::Indented if !none => put_new_line(level, out, writer),
-        _ => out.put(writer, b""),
+        _ => Ok(()),
     }
 }

@@ -1,7 +1,7 @@
 //! Writers that stop.
 
 use crate::tests::{eight_keys, simple};
-use crate::{KeyOrder, Tree, encode_to};
+use crate::{KeyOrder, Tree, encode_to, write_whole};
 use cbor_head::{Reason, Refusal};
 use std::io;
 use std::io::{Error, ErrorKind, Write};
@@ -58,5 +58,20 @@ fn writers_stop_at_each_place(rt: HostRuntime) -> Result<(), Fail> {
             assert_eq!(rt; cup.held.as_slice(), &bytes[..room]);
         }
     }
+    Ok(())
+}
+
+#[test]
+fn a_writer_that_takes_all(rt: HostRuntime) -> Result<(), Fail> {
+    let alloc = rt.alloc();
+    let mut cup = Cup {
+        held: Vec::new(alloc),
+        room: 5,
+        step: 2,
+        fails: true,
+    };
+    assert_eq!(rt; write_whole(&mut cup, b"abcde"), Ok(()));
+    assert_eq!(rt; cup.held.as_slice(), b"abcde");
+    assert_eq!(rt; write_whole(&mut cup, b"f"), Err(0));
     Ok(())
 }

@@ -1,6 +1,6 @@
 use Rattle.std.proofs.Common.{◌≤◌, ◌-◌, ◌++◌, length, take, codes}
 use Rattle.hex.specs.Hex.{encode_lower}
-use Rattle.cbor_diag.specs.Outbox.{HasPut}
+use Rattle.cbor_diag.specs.inner.Outbox.{HasPut}
 use Rattle.cbor_diag.proofs.pieces.put_bytes.Given as goal
 
 abbrev pub invariant-loop-at : goal.invariant-loop-at

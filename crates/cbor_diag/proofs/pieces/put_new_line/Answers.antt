@@ -1,9 +1,15 @@
-use Rattle.std.proofs.Common.{List, ℕ}
-use Rattle.cbor_diag.specs.Outbox.{Puts}
-use Rattle.cbor_diag.proofs.PieceTexts.{new_line-front}
+use Rattle.std.proofs.Common.{◌*◌, ◌∷◌, [], replicate}
+use Rattle.std.proofs.lemmas.Result.{err_from_is_err_and}
+use Rattle.cbor_diag.proofs.Putting.{stops-more, puts-next}
+use Rattle.cbor_diag.proofs.PieceTexts.{spaces-front}
 use Rattle.cbor_diag.proofs.pieces.put_new_line.Goals as goal
+
+pub returns-in_err-put : goal.returns-in_err-put
+returns-in_err-put g c =
+    let p = err_from_is_err_and c.from_residual.result c.from_residual.ensures.1 in
+    rw (p.1, p.2) (stops-more _ _ c.args.out.now (10 ∷ []) (replicate (2 * c.args.level) 32) _ c.in_err-put.ensures)
 
 pub returns : goal.returns
 returns g c =
-    let front = new_line-front c.args.level c.from.result c.from.ensures c.requires in
-    rw (← front) c.put.ensures
+    let front = spaces-front c.args.level c.from.result c.from.ensures c.requires in
+    rw (← front) (puts-next _ _ _ c.args.out.now c.put.new.self _ (10 ∷ []) _ _ c.in_ok-put.ensures c.put-2.ensures)

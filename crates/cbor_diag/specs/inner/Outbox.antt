@@ -1,13 +1,10 @@
 -- What a writer took of the bytes that were put behind others.
-use Rattle.std.specs.Prelude.{ℕ, ◌≡◌, ◌+◌, ◌-◌, ◌^◌, ◌<◌, min, List, ◌++◌, length, take, Option, Result, Ok, Err}
+use Rattle.std.specs.Prelude.{ℕ, ◌≡◌, ◌+◌, ◌<◌, List, ◌++◌, length, Option, Result, Ok, Err}
 use Rattle.std.specs.Io.KnownBytes.{Appends}
 use Rattle.cbor_head.specs.declared.reason.Refusal.{Refusal}
 use Rattle.cbor_item.specs.Sent.{stopped_at}
+use Rattle.cbor_diag.specs.Written.{capped}
 use Rattle.cbor_diag.specs.declared.outbox.Outbox.{Outbox}
-
--- a count of bytes, which stops at 2^64 - 1
-abbrev pub capped : ℕ → ℕ
-capped n = min n (2 ^ 64 - 1)
 
 -- the writer took some of what waited and of the bytes behind it, and the others wait
 pub record HasPut (old new : Option (List ℕ)) (from to : Outbox) (bytes : List ℕ) : Type 0 where
@@ -29,8 +26,3 @@ pub record HasStopped (old new : Option (List ℕ)) (from : Outbox) (bytes : Lis
 abbrev pub Puts : Option (List ℕ) → Option (List ℕ) → Outbox → Outbox → List ℕ → Result (Unit {0}) Refusal → Type 0
 Puts old new from to bytes (Ok x) = HasPut old new from to bytes
 Puts old new from to bytes (Err e) = HasStopped old new from bytes e
-
--- All of the bytes went out, and their count is answered; or the first n alone. Counts stop at 2^64 - 1.
-abbrev pub Writes : Option (List ℕ) → Option (List ℕ) → List ℕ → Result ℕ Refusal → Type 0
-Writes old new bytes (Ok count) = (count ≡ capped (length bytes)) × Appends old new bytes
-Writes old new bytes (Err e) = (n : ℕ) × (e ≡ stopped_at (capped n)) × (n < length bytes) × Appends old new (take n bytes)

@@ -28,10 +28,12 @@ abbrev mutual
   -- the members that are left, the first of all among them or not
   pub members_left : Layout → ℕ → Bool → Values → List ℕ
   members_left l level first value.no_values = end l level first
-  members_left l level first (value.a_value v vs) = gap l level first ++ laid_out l (level + 1) v ++ members_left l level false vs
+  members_left l level first (value.a_value v vs) =
+      gap l level first ++ laid_out l (level + 1) v ++ members_left l level false vs
 
   -- the pairs that are left, the first of all among them or not
   pub pairs_left : Layout → ℕ → Bool → Entries → List ℕ
   pairs_left l level first value.no_entries = end l level first
   pairs_left l level first (value.entry k v es) =
-      gap l level first ++ laid_out l (level + 1) k ++ codes ": " ++ laid_out l (level + 1) v ++ pairs_left l level false es
+      gap l level first ++ laid_out l (level + 1) k ++ codes ": " ++ laid_out l (level + 1) v
+      ++ pairs_left l level false es

@@ -1,0 +1,186 @@
+-- Texts read back, so that they tell their values. It reads more than texts: only texts matter.
+use Rattle.std.proofs.Common.{◌≡◌, ◌≢◌, ℕ, zero, suc, ◌+◌, ◌-◌, ◌*◌, ◌/◌, ◌%◌, ◌^◌, ◌<◌, ◌≤◌, Bool, true, false, ◌||◌, cond, List, [], ◌∷◌, ◌++◌, length, take, drop, get_or, replicate, flat_map, codes, decimal, Result, Ok, Err, Option, Some, None, is_some, ◌⊎◌, inl, inr, eqb, ltb, refl, sym, ap, ◌∙◌, subst, append_assoc, append-nil, length-append, arith}
+use Rattle.std.specs.List.{AllByRecursion}
+use Rattle.std.specs.Char.{digit_value}
+use Rattle.std.specs.Str.Parse.{digits_value, AllDigits}
+use Rattle.std.proofs.lemmas.Bool.{lt-ltb, le-ltb, ltb-true, eqb-true}
+use Rattle.std.proofs.lemmas.Bool.Decides.{nat_tests}
+use Rattle.std.proofs.lemmas.Fmt.{decimal_is_IsNumeral_wide}
+use Rattle.std.proofs.lemmas.Str.Parse.{digit_from_value}
+use Rattle.hex.specs.Hex.{encode_with, encode_lower, lower_digits, decode_of, is_hex_digit, hex_digit_value, IsBytes}
+use Rattle.hex.proofs.HexLemmas.{decode_of-encode_lower, IsDigits-lower_digits}
+use Rattle.hex.specs.declared.error.FromHexError.{FromHexError}
+use Rattle.cbor_head.specs.Value.{AreBytes}
+use Rattle.cbor_diag.specs.Text.{escaped}
+
+-- ---- the front that passes a test, and the rest
+
+abbrev pub front : (ℕ → Bool) → List ℕ → List ℕ
+front p [] = []
+front p (x ∷ xs) = cond (p x) (x ∷ front p xs) []
+
+abbrev pub rest : (ℕ → Bool) → List ℕ → List ℕ
+rest p [] = []
+rest p (x ∷ xs) = cond (p x) (rest p xs) (x ∷ xs)
+
+abbrev pub Pass : (ℕ → Bool) → List ℕ → Type 0
+Pass p xs = AllByRecursion (λ x. p x ≡ true) xs
+
+-- it begins with none that passes
+abbrev pub Stands : (ℕ → Bool) → List ℕ → Type 0
+Stands p [] = Unit {0}
+Stands p (x ∷ xs) = p x ≡ false
+
+front-none : (p : ℕ → Bool) (ys : List ℕ) → Stands p ys → front p ys ≡ []
+front-none p [] h = refl
+front-none p (y ∷ ys) h = rw h refl
+
+rest-none : (p : ℕ → Bool) (ys : List ℕ) → Stands p ys → rest p ys ≡ ys
+rest-none p [] h = refl
+rest-none p (y ∷ ys) h = rw h refl
+
+pub front-all : (p : ℕ → Bool) (xs ys : List ℕ) → Pass p xs → Stands p ys → front p (xs ++ ys) ≡ xs
+front-all p [] ys a h = front-none p ys h
+front-all p (x ∷ xs) ys a h = let one = a.0 in rw one (ap (λ (l : List ℕ). x ∷ l) (front-all p xs ys a.1 h))
+
+pub rest-all : (p : ℕ → Bool) (xs ys : List ℕ) → Pass p xs → Stands p ys → rest p (xs ++ ys) ≡ ys
+rest-all p [] ys a h = rest-none p ys h
+rest-all p (x ∷ xs) ys a h = let one = a.0 in rw one (rest-all p xs ys a.1 h)
+
+-- ---- decimal numbers
+
+abbrev pub digit : ℕ → Bool
+digit c = ltb (digit_value c) 10
+
+digits-pass : (cs : List ℕ) → AllDigits 10 cs → Pass digit cs
+digits-pass [] h = tt
+digits-pass (c ∷ cs) h = (lt-ltb (digit_value c) 10 h.0, digits-pass cs h.1)
+
+pub record IsDecimal (n : ℕ) : Type 0 where
+  pub some : 0 < length (decimal n)
+  pub pass : Pass digit (decimal n)
+  pub value : digits_value 10 (decimal n) ≡ n
+
+pub decimals : (n : ℕ) → n ≤ 2 ^ 64 → IsDecimal n
+decimals n h = let d = decimal_is_IsNumeral_wide n (omega arith) in record { some = d.0.0; pass = digits-pass (decimal n) d.0.1; value = d.1 }
+
+-- 48 to 57
+pub digit-range : (c : ℕ) → digit c ≡ true → (48 ≤ c) × (c ≤ 57)
+digit-range c h = let r = digit_from_value c (ltb-true (digit_value c) 10 h) in (omega (arith, r), omega (arith, r))
+
+cases_bool : (b : Bool) → (b ≡ true) ⊎ (b ≡ false)
+cases_bool true = inl refl
+cases_bool false = inr refl
+
+pub no-digit : (c : ℕ) → (c < 48) ⊎ (57 < c) → digit c ≡ false
+no-digit c h = elim (cases_bool (digit c)) [
+  | inl t ↦ (let r = digit-range c t in elim h [ inl a ↦ absurd (omega arith) | inr a ↦ absurd (omega arith) ])
+  | inr f ↦ f
+]
+
+-- ---- byte strings
+
+by_cons : (x : ℕ) (xs : List ℕ) → x < 256 → IsBytes xs → (i : ℕ) → get_or (x ∷ xs) i 0 < 256
+by_cons x xs h g zero = h
+by_cons x xs h g (suc i) = g i
+
+by_index : (xs : List ℕ) → AreBytes xs → IsBytes xs
+by_index [] h = λ i. omega arith
+by_index (x ∷ xs) h = by_cons x xs h.0 (by_index xs h.1)
+
+abbrev pub decoded : Result (List ℕ) FromHexError → List ℕ
+decoded (Ok bs) = bs
+decoded (Err e) = []
+
+pub decoded-back : (bs : List ℕ) → AreBytes bs → decoded (decode_of (encode_lower bs)) ≡ bs
+decoded-back bs h = ap decoded (decode_of-encode_lower bs (by_index bs h))
+
+hex-digit : (d : ℕ) → d < 16 → is_hex_digit (get_or lower_digits d 0) ≡ true
+hex-digit d h = ap is_some (IsDigits-lower_digits d h)
+
+pub hex-pass : (bs : List ℕ) → AreBytes bs → Pass is_hex_digit (encode_lower bs)
+unfolding encode_with
+hex-pass [] h = tt
+hex-pass (b ∷ bs) h = let small = h.0 in (hex-digit (b / 16) (omega arith), hex-digit (b % 16) (omega arith), hex-pass bs h.1)
+
+-- ---- texts
+
+abbrev pub Two : Type 0
+Two = List ℕ × List ℕ
+
+abbrev onto : ℕ → Two → Two
+onto c r = (c ∷ r.0, r.1)
+
+abbrev pub first : List ℕ → ℕ
+first cs = get_or cs 0 0
+
+-- the bytes to the closing quote, and what is behind it
+abbrev pub unquoted : ℕ → List ℕ → Two
+unquoted zero cs = ([], cs)
+unquoted (suc k) cs =
+    cond (eqb (first cs) 34) ([], drop 1 cs)
+    (cond (eqb (first cs) 92)
+    (cond (eqb (first (drop 1 cs)) 117)
+    (onto (first (decoded (decode_of (take 2 (drop 4 cs))))) (unquoted k (drop 6 cs)))
+    (onto (first (drop 1 cs)) (unquoted k (drop 2 cs))))
+    (onto (first cs) (unquoted k (drop 1 cs))))
+
+-- a byte of a text stands in one of three ways
+record IsRaw (b : ℕ) : Type 0 where
+  is : escaped b ≡ b ∷ []
+  no_quote : eqb b 34 ≡ false
+  no_backslash : eqb b 92 ≡ false
+
+record IsMarked (b : ℕ) : Type 0 where
+  is : escaped b ≡ 92 ∷ b ∷ []
+  no_letter : eqb b 117 ≡ false
+
+record IsControl (b : ℕ) : Type 0 where
+  is : escaped b ≡ codes "\\u00" ++ encode_lower (b ∷ [])
+
+raw-step : (k b : ℕ) (cs : List ℕ) → eqb b 34 ≡ false → eqb b 92 ≡ false → unquoted (suc k) (b ∷ cs) ≡ onto b (unquoted k cs)
+raw-step k b cs p q = rw (p, q) refl
+
+marked-step : (k b : ℕ) (cs : List ℕ) → eqb b 117 ≡ false → unquoted (suc k) (92 ∷ b ∷ cs) ≡ onto b (unquoted k cs)
+marked-step k b cs p = rw p refl
+
+control-step : (k h l : ℕ) (cs : List ℕ) → unquoted (suc k) (92 ∷ 117 ∷ 48 ∷ 48 ∷ h ∷ l ∷ cs) ≡ onto (first (decoded (decode_of (h ∷ l ∷ [])))) (unquoted k cs)
+control-step k h l cs = refl
+
+ways : (b : ℕ) (p q r s : Bool) → eqb b 34 ≡ p → eqb b 92 ≡ q → ltb b 32 ≡ r → eqb b 127 ≡ s → IsRaw b ⊎ (IsMarked b ⊎ IsControl b)
+ways b true q r s e f g h = let is : b ≡ 34 = eqb-true b 34 e in inr (inl (record { is = rw e refl; no_letter = rw is refl }))
+ways b false true r s e f g h = let is : b ≡ 92 = eqb-true b 92 f in inr (inl (record { is = rw (e, f) refl; no_letter = rw is refl }))
+ways b false false true s e f g h = inr (inr (record { is = rw (e, f, g) refl }))
+ways b false false false true e f g h = inr (inr (record { is = rw (e, f, g, h) refl }))
+ways b false false false false e f g h = inl (record { is = rw (e, f, g, h) refl; no_quote = e; no_backslash = f })
+
+control : (k b : ℕ) (bs x : List ℕ) → AreBytes (b ∷ bs) → unquoted k (flat_map escaped bs ++ 34 ∷ x) ≡ (bs, x) → unquoted (suc k) (((codes "\\u00" ++ encode_lower (b ∷ [])) ++ flat_map escaped bs) ++ 34 ∷ x) ≡ (b ∷ bs, x)
+unfolding encode_with
+control k b bs x h more =
+    let back : first (decoded (decode_of (encode_lower (b ∷ [])))) ≡ b = ap first (decoded-back (b ∷ []) (h.0, tt)) in
+    let cs = flat_map escaped bs ++ 34 ∷ x in
+    control-step k (get_or lower_digits (b / 16) 0) (get_or lower_digits (b % 16) 0) cs
+    ∙ ap (λ (n : ℕ). onto n (unquoted k cs)) back ∙ ap (onto b) more
+
+pub unquoted-back : (k : ℕ) (bs x : List ℕ) → AreBytes bs → length bs < k → unquoted k (flat_map escaped bs ++ 34 ∷ x) ≡ (bs, x)
+unquoted-back zero bs x h l = absurd (omega arith)
+unquoted-back (suc k) [] x h l = refl
+unquoted-back (suc k) (b ∷ bs) x h l =
+    let cs = flat_map escaped bs ++ 34 ∷ x in
+    let more : unquoted k cs ≡ (bs, x) = unquoted-back k bs x h.1 (omega arith) in
+    let so : (e : List ℕ) → escaped b ≡ e → unquoted (suc k) ((escaped b ++ flat_map escaped bs) ++ 34 ∷ x) ≡ unquoted (suc k) ((e ++ flat_map escaped bs) ++ 34 ∷ x) =
+    λ e is. ap (λ (l : List ℕ). unquoted (suc k) ((l ++ flat_map escaped bs) ++ 34 ∷ x)) is in
+    elim (ways b (eqb b 34) (eqb b 92) (ltb b 32) (eqb b 127) refl refl refl refl) [
+      | inl w ↦ so (b ∷ []) w.is ∙ raw-step k b cs w.no_quote w.no_backslash ∙ ap (onto b) more
+      | inr v ↦ elim v [ inl w ↦ so (92 ∷ b ∷ []) w.is ∙ marked-step k b cs w.no_letter ∙ ap (onto b) more | inr w ↦ so (codes "\\u00" ++ encode_lower (b ∷ [])) w.is ∙ control k b bs x h more ]
+    ]
+
+escape-long : (b : ℕ) → 0 < length (escaped b)
+escape-long b = elim (ways b (eqb b 34) (eqb b 92) (ltb b 32) (eqb b 127) refl refl refl refl) [
+  | inl w ↦ rw (w.is) (omega arith)
+  | inr v ↦ elim v [ inl w ↦ rw (w.is) (omega arith) | inr w ↦ rw (w.is) (omega arith) ]
+]
+
+pub escapes-long : (bs : List ℕ) → length bs ≤ length (flat_map escaped bs)
+escapes-long [] = omega arith
+escapes-long (b ∷ bs) = let one = escape-long b in let more = escapes-long bs in omega (arith, length-append (escaped b) (flat_map escaped bs))

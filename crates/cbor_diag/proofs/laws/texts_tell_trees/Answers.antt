@@ -1,0 +1,12 @@
+use Rattle.cbor_item.specs.View.{view}
+use Rattle.cbor_diag.proofs.ReadBack.{equal-line, equal-lines}
+use Rattle.cbor_diag.proofs.laws.texts_tell_trees.Goals as goal
+
+pub returns : goal.returns
+returns c =
+    let left = view c.args.left.now in
+    let right = view c.args.right.now in
+    record {
+      one_line = equal-line left right c.item.ensures.in_range c.item-2.ensures.in_range;
+      lines = equal-lines 0 left right c.item.ensures.in_range c.item-2.ensures.in_range;
+    }
