@@ -8,9 +8,11 @@ use Rattle.cbor_head.specs.declared.order.KeyOrder.TheVariants.{Bytewise, Length
 use Rattle.clap.specs.Words.{Row, Text, first_of, one_of}
 use Rattle.cborc.specs.declared.command_line.Accepted.{Accepted}
 use Rattle.cborc.specs.declared.command_line.Accepted.TheVariants.{Valid, Canonical}
+use Rattle.cborc.specs.declared.command_line.Layout.{Layout}
+use Rattle.cborc.specs.declared.command_line.Layout.TheVariants.{OneLine, Indented}
 use Rattle.cborc.specs.declared.command_line.Options.{Options}
 use Rattle.cborc.specs.declared.command_line.Request.{Request}
-use Rattle.cborc.specs.declared.command_line.Request.TheVariants.{Check, CheckSequence, Canon, Compare}
+use Rattle.cborc.specs.declared.command_line.Request.TheVariants.{Check, CheckSequence, Canon, Compare, Show, Events}
 
 -- the order of keys that a word names
 abbrev pub order_named : Text → Option KeyOrder
@@ -37,6 +39,11 @@ pub record IsOptionsOf (rows : List Row) (options : Options) : Type 0 where
   pub hex : one_of (codes "hex") rows ≡ Some (codes "true") → options.hex ≡ true
   pub raw : one_of (codes "hex") rows ≡ Some (codes "false") → options.hex ≡ false
 
+-- how the text is laid out
+pub record IsLayoutOf (rows : List Row) (layout : Layout) : Type 0 where
+  pub indented : one_of (codes "indent") rows ≡ Some (codes "true") → layout ≡ Indented
+  pub one_line : one_of (codes "indent") rows ≡ Some (codes "false") → layout ≡ OneLine
+
 -- what a subcommand, of this name and given these, asks for
 abbrev pub AsksFor : Text × List Row → Request → Type 0
 AsksFor (name, rows) (Check source accepted options) =
@@ -50,6 +57,10 @@ AsksFor (name, rows) (Canon source target order options) =
     × (order_given rows ≡ Some order) × IsOptionsOf rows options
 AsksFor (name, rows) (Compare left right options) =
     (name ≡ codes "compare") × (first_of (codes "A") rows ≡ Some left.now) × (first_of (codes "B") rows ≡ Some right.now) × IsOptionsOf rows options
+AsksFor (name, rows) (Show source layout options) =
+    (name ≡ codes "show") × (first_of (codes "FILE") rows ≡ Some source.now) × IsLayoutOf rows layout × IsOptionsOf rows options
+AsksFor (name, rows) (Events source options) =
+    (name ≡ codes "events") × (first_of (codes "FILE") rows ≡ Some source.now) × IsOptionsOf rows options
 
 -- the text is a number, at most so much
 abbrev pub IsNumber : ℕ → Text → Type 0
@@ -63,6 +74,8 @@ HasLimits rows = IsSomeAnd (one_of (codes "depth") rows) (IsNumber MAX_DEPTH) ×
 abbrev pub HasFiles : Text × List Row → Type 0
 HasFiles (name, rows) =
     ((name ≡ codes "check") × IsSome (first_of (codes "FILE") rows))
+    ⊎ ((name ≡ codes "show") × IsSome (first_of (codes "FILE") rows))
+    ⊎ ((name ≡ codes "events") × IsSome (first_of (codes "FILE") rows))
     ⊎ ((name ≡ codes "canon") × IsSome (first_of (codes "IN") rows) × IsSome (first_of (codes "OUT") rows))
     ⊎ ((name ≡ codes "compare") × IsSome (first_of (codes "A") rows) × IsSome (first_of (codes "B") rows))
 

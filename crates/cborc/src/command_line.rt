@@ -2,7 +2,7 @@
 
 ghost use Rattle.std.specs.Prelude.{◌≡◌, codes, IfSome, IsSome};
 ghost use Rattle.clap.specs.Words.{found_of, rows_of, subcommand_rows_of};
-ghost use Rattle.cborc.specs.CommandLine.{order_named, AsksFor, HasLimits, IsAcceptedOf, IsComplete, IsOptionsOf};
+ghost use Rattle.cborc.specs.CommandLine.{order_named, AsksFor, HasLimits, IsAcceptedOf, IsComplete, IsLayoutOf, IsOptionsOf};
 
 use cbor_head::{KeyOrder, Limits, MAX_DEPTH};
 use clap::error::ErrorKind;
@@ -27,6 +27,22 @@ pub enum Request<'a> {
         source: &'a str,
         /// Which items are accepted.
         accepted: Accepted,
+        /// How the file is read.
+        options: Options,
+    },
+    /// The diagnostic text of the item in a file.
+    Show {
+        /// The path of the file to read.
+        source: &'a str,
+        /// How the text is laid out.
+        layout: Layout,
+        /// How the file is read.
+        options: Options,
+    },
+    /// The events of the item in a file.
+    Events {
+        /// The path of the file to read.
+        source: &'a str,
         /// How the file is read.
         options: Options,
     },
@@ -61,6 +77,15 @@ pub enum Accepted {
     Canonical(KeyOrder),
 }
 
+/// How `show` lays out its text.
+#[derive(Clone, Copy, Debug)]
+pub enum Layout {
+    /// On one line.
+    OneLine,
+    /// One member or pair a line.
+    Indented,
+}
+
 /// How a file is read, by each subcommand alike.
 #[derive(Clone, Copy, Debug)]
 pub struct Options {
@@ -92,6 +117,8 @@ fn request_of<'a>(matches: &ArgMatches<'a>) -> Option<Request<'a>>
         ("check", given) => check_of(given),
         ("canon", given) => canon_of(given),
         ("compare", given) => compare_of(given),
+        ("show", given) => show_of(given),
+        ("events", given) => events_of(given),
         _ => None,
     }
 }
@@ -128,6 +155,40 @@ fn canon_of<'a>(given: &ArgMatches<'a>) -> Option<Request<'a>>
         source: given.get_str("IN")?,
         target: given.get_str("OUT")?,
         order: order_of(given.get_str("order")?)?,
+        options: options_of(given)?,
+    })
+}
+
+#[tactic(auto, using(crate::proofs::Rows::getters))]
+fn show_of<'a>(given: &ArgMatches<'a>) -> Option<Request<'a>>
+    ensures value { IfSome result (AsksFor (codes "show", rows_of (found_of given.now))) }
+    ensures some { IsComplete (codes "show", rows_of (found_of given.now)) → IsSome result }
+{
+    Some(Request::Show {
+        source: given.get_str("FILE")?,
+        layout: layout_of(given),
+        options: options_of(given)?,
+    })
+}
+
+#[tactic(auto, using(crate::proofs::Rows::getters))]
+fn layout_of(given: &ArgMatches<'_>) -> Layout
+    ensures { IsLayoutOf (rows_of (found_of given.now)) result }
+{
+    if given.get_flag("indent") {
+        Layout::Indented
+    } else {
+        Layout::OneLine
+    }
+}
+
+#[tactic(auto, using(crate::proofs::Rows::getters))]
+fn events_of<'a>(given: &ArgMatches<'a>) -> Option<Request<'a>>
+    ensures value { IfSome result (AsksFor (codes "events", rows_of (found_of given.now))) }
+    ensures some { IsComplete (codes "events", rows_of (found_of given.now)) → IsSome result }
+{
+    Some(Request::Events {
+        source: given.get_str("FILE")?,
         options: options_of(given)?,
     })
 }
@@ -184,6 +245,8 @@ fn command<'a>(alloc: Global) -> Result<Command<'a>, AllocError> {
     Command::new(alloc, "cborc")
         .about("Reads and writes deterministic CBOR (RFC 8949, section 4.2)")
         .subcommand_required(true)
+        .subcommand(show(alloc)?)?
+        .subcommand(events(alloc)?)?
         .subcommand(check(alloc)?)?
         .subcommand(canon(alloc)?)?
         .subcommand(compare(alloc)?)
@@ -213,6 +276,25 @@ fn canon<'a>(alloc: Global) -> Result<Command<'a>, AllocError> {
         .arg(file(alloc, "IN", "The file to read: one item"))?
         .arg(file(alloc, "OUT", "The file to write"))?
         .arg(order(alloc, "The order of map keys"))?;
+    with_options(alloc, command)
+}
+
+fn show<'a>(alloc: Global) -> Result<Command<'a>, AllocError> {
+    let indent = Arg::new(alloc, "indent")
+        .long("indent")
+        .action(ArgAction::SetTrue)
+        .help("Write one member or pair a line");
+    let command = Command::new(alloc, "show")
+        .about("Writes the diagnostic text of the item in FILE")
+        .arg(file(alloc, "FILE", "The file to read: one item"))?
+        .arg(indent)?;
+    with_options(alloc, command)
+}
+
+fn events<'a>(alloc: Global) -> Result<Command<'a>, AllocError> {
+    let command = Command::new(alloc, "events")
+        .about("Writes a line for each event of the item in FILE")
+        .arg(file(alloc, "FILE", "The file to read: one item"))?;
     with_options(alloc, command)
 }
 

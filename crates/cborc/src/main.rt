@@ -7,10 +7,12 @@ mod check_sequence;
 mod command_line;
 mod compare;
 mod disk;
+mod events;
 mod fault;
 mod folder;
 mod input;
 mod run;
+mod show;
 mod status;
 #[cfg(test)]
 mod tests;

@@ -9,8 +9,10 @@ use crate::check::check;
 use crate::check_sequence::check_sequence;
 use crate::command_line::{self, Request};
 use crate::compare::compare;
+use crate::events::events;
 use crate::fault::Fault;
 use crate::folder::Folder;
+use crate::show::show;
 use crate::status::Status;
 use clap::error::ErrorKind;
 use std::alloc::Global;
@@ -72,6 +74,12 @@ fn answer<'a, F: Folder, O: Write>(
             order,
             options,
         } => canon(alloc, files, source, target, *order, *options)?,
+        Request::Show {
+            source,
+            layout,
+            options,
+        } => show(alloc, files, out, source, *layout, *options)?,
+        Request::Events { source, options } => events(alloc, files, out, source, *options)?,
         Request::Compare {
             left,
             right,

@@ -4,12 +4,14 @@ mod appendix;
 mod command_line;
 mod compare;
 mod disk;
+mod events;
 mod failures;
 mod hex_text;
 mod items;
 mod refusals;
 mod scalars;
 mod sequences;
+mod show;
 mod strict;
 
 use crate::folder::{FileFault, Folder};

@@ -185,6 +185,8 @@ Reads and writes deterministic CBOR (RFC 8949, section 4.2)
 Usage: cborc <COMMAND>
 
 Commands:
+  show     Writes the diagnostic text of the item in FILE
+  events   Writes a line for each event of the item in FILE
   check    Checks that FILE is one valid item, or a sequence of them
   canon    Writes the canonical bytes of the item in IN to OUT
   compare  Says whether the items in A and B have the same value

@@ -8,7 +8,7 @@ use std::io;
 use std::io::{ErrorKind, Write};
 
 // The words, the file, the status, and the line on standard error.
-static ROWS: [(&str, &[u8], u8, &str); 16] = [
+static ROWS: [(&str, &[u8], u8, &str); 21] = [
     ("canon absent out", b"\x00", 3, "cannot read absent"),
     ("canon --hex absent out", b"\x00", 3, "cannot read absent"),
     ("canon full out", b"\x00", 3, "out of memory"),
@@ -27,6 +27,11 @@ static ROWS: [(&str, &[u8], u8, &str); 16] = [
     ("check --hex absent", b"\x00", 3, "cannot read absent"),
     ("check full", b"\x00", 3, "out of memory"),
     ("check --seq absent", b"\x00", 3, "cannot read absent"),
+    ("show absent", b"\x00", 3, "cannot read absent"),
+    ("show --hex in", b"0", 3, "not hex: in"),
+    ("events absent", b"\x00", 3, "cannot read absent"),
+    ("events full", b"\x00", 3, "out of memory"),
+    ("show full", b"\x00", 3, "out of memory"),
     ("check --seq full", b"\x00", 3, "out of memory"),
     ("check --seq --hex in", b"0", 3, "not hex: in"),
     ("check --hex in", b"0", 3, "not hex: in"),
@@ -93,7 +98,7 @@ fn standard_error_fails(rt: HostRuntime) -> Result<(), AllocError> {
 }
 
 // The words, and how many bytes standard output takes of what they print of a file that holds 0.
-static PRINTED: [(&str, usize); 11] = [
+static PRINTED: [(&str, usize); 16] = [
     ("help", 0),
     ("help", 1),
     ("help", 20),
@@ -105,6 +110,11 @@ static PRINTED: [(&str, usize); 11] = [
     ("check --seq in", 16),
     ("compare in in", 0),
     ("compare in in", 4),
+    ("show in", 0),
+    ("show in", 1),
+    ("show --indent in", 1),
+    ("events in", 0),
+    ("events in", 14),
 ];
 
 #[test]

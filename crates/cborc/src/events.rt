@@ -1,0 +1,58 @@
+//! The subcommand `events`: the listing of an item's events.
+
+ghost use Rattle.std.specs.Prelude.{length, IfOk, IfErr};
+ghost use Rattle.cbor_diag.specs.Listing.{IsListed};
+ghost use Rattle.cborc.specs.Events.{IsNotListed};
+
+use crate::command_line::Options;
+use crate::fault::Fault;
+use crate::folder::Folder;
+use crate::input;
+use cbor_diag::listing;
+use cbor_head::{Limits, Reason, Refusal};
+use std::alloc::Global;
+use std::io::{BufWriter, Write};
+
+/// Writes to `out` a line for each event of the item that the file `source` is, but for the pieces
+/// of payloads. What was written before a refusal stays.
+pub fn events<'a, F: Folder, O: Write>(
+    alloc: Global,
+    files: &mut F,
+    out: &mut O,
+    source: &'a str,
+    options: Options,
+) -> Result<(), Fault<'a>> {
+    let bytes = input::read(alloc, files, source, options)?;
+    let Ok(mut lines) = BufWriter::new(alloc, out) else {
+        return Err(Fault::Memory);
+    };
+    let listed = list(bytes.as_slice(), options.limits, &mut lines);
+    match lines.flush() {
+        Ok(()) => listed,
+        Err(_) => Err(Fault::CannotPrint),
+    }
+}
+
+// Writes the lines of the item that all the bytes are; the refusal is that of its form, then
+// `Trailing`.
+fn list<'a, W: Write>(bytes: &[u8], limits: Limits, out: &mut W) -> Result<(), Fault<'a>>
+    ensures listed { IfOk result (λ _. IsListed limits.depth limits.bytes bytes.now
+        (length bytes.now) (W.contents out.old) (W.contents out.new)) }
+    ensures fault { IfErr result (IsNotListed limits.depth limits.bytes bytes.now
+        (W.contents out.old) (W.contents out.new)) }
+{
+    let mut reader = bytes;
+    match listing(&mut reader, limits, out) {
+        Ok(size) => {
+            if reader.is_empty() {
+                Ok(())
+            } else {
+                Err(Fault::Refused(Refusal::at(Reason::Trailing, size)))
+            }
+        }
+        Err(refusal) => match refusal.reason {
+            Reason::Write => Err(Fault::CannotPrint),
+            _ => Err(Fault::Refused(refusal)),
+        },
+    }
+}
