@@ -4,6 +4,7 @@ ghost use Rattle.std.specs.Prelude.{◌≡◌, ◌≤◌, ◌<◌, length};
 ghost use Rattle.cbor_events.specs.Machine.{IsMore, Goes};
 
 mod reading;
+mod slicing;
 
 use crate::{Event, EventKind, Machine, Out, Step};
 use cbor_head::{Limits, Reason, Refusal, Simple, Width};

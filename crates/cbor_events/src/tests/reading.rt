@@ -164,7 +164,7 @@ fn look_every_way(
 }
 
 // Well-formed items that are not valid, and one with a byte behind, with the bytes that are taken.
-const NOT_VALID: [(&str, u64, &str); 6] = [
+pub const NOT_VALID: [(&str, u64, &str); 6] = [
     ("63eda080", 4, "a text of a surrogate"),
     ("6341c080", 4, "a text of \"A\" and U+0000 in two bytes"),
     (
