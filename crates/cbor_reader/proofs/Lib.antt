@@ -27,6 +27,8 @@ pub mod Scalars
 pub mod ReadItems
 pub mod Reasons
 pub mod Sizes
+pub mod SliceFronts
+pub mod SliceItems
 pub mod SpelledBytes
 pub mod Steps
 pub mod StrictFronts

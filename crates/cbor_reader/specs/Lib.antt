@@ -11,3 +11,4 @@ pub mod Readers
 pub mod Reading
 pub mod Rules
 pub mod Size
+pub mod SliceChecks

@@ -14,12 +14,16 @@ mod members;
 mod next_head;
 mod payload;
 mod rules;
+mod slice_checker;
 mod strict_reader;
+mod strict_slice;
 mod strings;
 #[cfg(test)]
 mod tests;
 #[cfg(test)]
 mod tests_keys;
+#[cfg(test)]
+mod tests_slice;
 #[cfg(test)]
 mod tests_strict;
 mod tree_reader;
@@ -27,4 +31,5 @@ mod tree_reader;
 pub use canonicaliser::canonicalise;
 pub use cbor_item::{KeyOrder, Tree};
 pub use strict_reader::read_strict;
+pub use strict_slice::check_canonical;
 pub use tree_reader::read_tree;

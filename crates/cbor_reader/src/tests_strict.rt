@@ -6,7 +6,7 @@ use cbor_head::{Reason, Refusal};
 use std::test::Fail;
 
 // What the strict rules answer, by an order: the bytes taken, or the refusal.
-static STRICT: [(&str, KeyOrder, Result<u64, (Reason, u64, u64)>); 27] = [
+pub(crate) static STRICT: [(&str, KeyOrder, Result<u64, (Reason, u64, u64)>); 27] = [
     ("f820", KeyOrder::Bytewise, Ok(2)),
     (
         "1900ff",

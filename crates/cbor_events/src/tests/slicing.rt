@@ -201,10 +201,11 @@ fn tells_what_is_there_of_a_payload(rt: HostRuntime) {
 
 #[test]
 fn counts_what_is_open_in_a_slice(rt: HostRuntime) {
-    // [["a"]], and bytes behind it
-    let mut events = SliceEvents::new(b"\x81\x81\x61a\xff", limits(&rt, 2, 4));
+    // [["a"]], and bytes behind it, of which one is within the limit
+    let mut events = SliceEvents::new(b"\x81\x81\x61a\xff\x00", limits(&rt, 2, 5));
     for (open, taken, piece) in [(1, 1, 0), (2, 2, 0), (2, 3, 0), (0, 4, 1), (0, 4, 1)] {
         let _ = events.next();
+        assert_eq!(rt; events.rest().len() as u64, 5 - taken);
         assert_eq!(rt;
             (events.open(), events.taken(), events.piece().len()),
             (open, taken, piece)
