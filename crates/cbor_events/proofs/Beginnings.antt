@@ -6,7 +6,7 @@ use Rattle.cbor_head.specs.Beginning.{IsBeginning}
 use Rattle.cbor_head.specs.Value.{AreBytes}
 use Rattle.cbor_head.specs.Spelling.{Chunk, IsChunk, Spelling, Spellings, unsigned, bytes, text, simple, no_spellings, a_spelling, spellings_count, spell, spell_all, chunk_bytes, IsSpelled, AreSpelled, depth, depth_all, IsItem}
 use Rattle.cbor_events.specs.Trace.{Mark, trace}
-use Rattle.cbor_events.specs.Automaton.{start, Frame, counted, open_array, open_map, State, at_item, in_head, in_simple, in_payload, in_chunks, done, Next, refuses, goes, tells, close, expect, payload, after, take_byte, Outcome, refused, reached, telling, and_then, run}
+use Rattle.cbor_events.specs.inner.Automaton.{start, Frame, counted, indefinite_array, indefinite_map, State, at_item, in_head, in_simple, in_payload, in_chunks, done, Next, refuses, goes, tells, close, expect, payload, after, take_byte, Outcome, refused, reached, telling, and_then, run}
 use Rattle.cbor_head.specs.declared.major.Major.{Major}
 use Rattle.cbor_head.specs.declared.major.Major.TheVariants.{Unsigned, Negative, Bytes, Text, Array, Map, Tag, Simple}
 use Rattle.cbor_head.specs.declared.width.Width.TheVariants.{Direct}
@@ -47,15 +47,15 @@ zeros-flat (suc n) = let h = zeros-flat n in omega (arith, h)
 
 abbrev fill : Frame → Spellings
 fill (counted n) = zeros n
-fill open_array = no_spellings
-fill (open_map true) = no_spellings
-fill (open_map false) = zeros 1
+fill indefinite_array = no_spellings
+fill (indefinite_map true) = no_spellings
+fill (indefinite_map false) = zeros 1
 
 filling : (f : Frame) → IsFilling f (fill f)
 filling (counted n) = record { rest = λ s. ap suc (zeros-count n); spelled = zeros-spelled n; flat = zeros-flat n }
-filling open_array = record { rest = λ s. tt; spelled = tt; flat = refl }
-filling (open_map true) = record { rest = λ s. refl; spelled = tt; flat = refl }
-filling (open_map false) = record { rest = λ s. refl; spelled = zeros-spelled 1; flat = zeros-flat 1 }
+filling indefinite_array = record { rest = λ s. tt; spelled = tt; flat = refl }
+filling (indefinite_map true) = record { rest = λ s. refl; spelled = tt; flat = refl }
+filling (indefinite_map false) = record { rest = λ s. refl; spelled = zeros-spelled 1; flat = zeros-flat 1 }
 
 -- wherever an item may begin, one can stand
 pub complete : (d : ℕ) (fs : List Frame) (p : List ℕ) (s : Spelling) → Opened d fs p → IsSpelled s → depth s + length fs ≤ d → IsBeginning d (p ++ spell s)
@@ -112,8 +112,8 @@ close-settled : (fs : List Frame) → IsSettled (close fs)
 close-settled [] = tt
 close-settled (counted zero ∷ fs) = close-settled fs
 close-settled (counted (suc n) ∷ fs) = tt
-close-settled (open_array ∷ fs) = tt
-close-settled (open_map due ∷ fs) = tt
+close-settled (indefinite_array ∷ fs) = tt
+close-settled (indefinite_map due ∷ fs) = tt
 
 expect-settled : (n : ℕ) (fs : List Frame) → IsSettled (expect n fs)
 expect-settled zero fs = close-settled fs

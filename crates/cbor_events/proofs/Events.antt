@@ -3,7 +3,7 @@ use Rattle.std.proofs.Common.{◌≡◌, ℕ, zero, suc, ◌+◌, ◌-◌, ◌/�
 use Rattle.std.proofs.lemmas.Bool.Decides.{nat_tests}
 use Rattle.cbor_head.specs.Spelling.{Spelling, IsItem}
 use Rattle.cbor_events.specs.Trace.{Mark, size, more_bytes, trace, within}
-use Rattle.cbor_events.specs.Automaton.{start, major_at, Frame, counted, open_array, open_map, State, at_item, in_head, in_simple, in_payload, in_chunks, done, Opening, direct, long, chunked, unbounded, long_simple, breaks, bad, Next, refuses, goes, tells, opening, opening_of, numbered_tail, simple_tail, without_length, tail, has_room, close, expect, close_string, payload, after, mark, break_at, begin, is_major, in_string, take_byte, Outcome, refused, reached, telling, and_then, run}
+use Rattle.cbor_events.specs.inner.Automaton.{start, major_at, Frame, counted, indefinite_array, indefinite_map, State, at_item, in_head, in_simple, in_payload, in_chunks, done, Opening, direct, long, indefinite_string, indefinite_container, long_simple, breaks, bad, Next, refuses, goes, tells, opening, opening_of, numbered_tail, simple_tail, indefinite_length, tail, has_room, close, expect, close_string, payload, after, mark, break_at, begin, is_major, in_string, take_byte, Outcome, refused, reached, telling, and_then, run}
 use Rattle.cbor_head.specs.declared.major.Major.{Major}
 use Rattle.cbor_head.specs.declared.major.Major.TheVariants.{Unsigned, Negative, Bytes, Text, Array, Map, Tag, Simple}
 use Rattle.cbor_head.specs.declared.width.Width.{Width}
@@ -38,8 +38,8 @@ pub close-clear : (fs : List Frame) → IsClear (close fs)
 close-clear [] = tt
 close-clear (counted zero ∷ fs) = close-clear fs
 close-clear (counted (suc n) ∷ fs) = tt
-close-clear (open_array ∷ fs) = tt
-close-clear (open_map due ∷ fs) = tt
+close-clear (indefinite_array ∷ fs) = tt
+close-clear (indefinite_map due ∷ fs) = tt
 
 expect-clear : (n : ℕ) (fs : List Frame) → IsClear (expect n fs)
 expect-clear zero fs = close-clear fs
@@ -79,19 +79,19 @@ abbrev IsWide : Opening → Type 0
 IsWide (long m w) = 0 < more_bytes w
 IsWide _ = Unit {0}
 
-without_length-wide : (m : Major) → IsWide (without_length m)
-without_length-wide Bytes = tt
-without_length-wide Text = tt
-without_length-wide Array = tt
-without_length-wide Map = tt
-without_length-wide _ = tt
+indefinite_length-wide : (m : Major) → IsWide (indefinite_length m)
+indefinite_length-wide Bytes = tt
+indefinite_length-wide Text = tt
+indefinite_length-wide Array = tt
+indefinite_length-wide Map = tt
+indefinite_length-wide _ = tt
 
 numbered-wide : (m : Major) (k : ℕ) → IsWide (numbered_tail m k)
 numbered-wide m zero = omega arith
 numbered-wide m (suc zero) = omega arith
 numbered-wide m (suc (suc zero)) = omega arith
 numbered-wide m (suc (suc (suc zero))) = omega arith
-numbered-wide m (suc (suc (suc (suc (suc (suc (suc zero))))))) = without_length-wide m
+numbered-wide m (suc (suc (suc (suc (suc (suc (suc zero))))))) = indefinite_length-wide m
 numbered-wide m _ = tt
 
 simple-wide : (k : ℕ) → IsWide (simple_tail k)
@@ -116,15 +116,15 @@ long-balances chunk m w fs h = (omega arith, omega arith)
 break-balances : (fs : List Frame) (c : ℕ) → Balances 0 (break_at fs c)
 break-balances [] c = tt
 break-balances (counted n ∷ fs) c = tt
-break-balances (open_map true ∷ fs) c = tt
-break-balances (open_array ∷ fs) c = (refl, close-clear fs)
-break-balances (open_map false ∷ fs) c = (refl, close-clear fs)
+break-balances (indefinite_map true ∷ fs) c = tt
+break-balances (indefinite_array ∷ fs) c = (refl, close-clear fs)
+break-balances (indefinite_map false ∷ fs) c = (refl, close-clear fs)
 
 begin-balances : (d : ℕ) (fs : List Frame) (c : ℕ) (o : Opening) → IsWide o → Balances 0 (begin d fs c o)
 begin-balances d fs c (direct m n) i = guard-balances 0 (has_room d fs m) _ _ (refl, after-clear false m n fs)
 begin-balances d fs c (long m w) i = guard-balances 0 (has_room d fs m) _ _ (long-balances false m w fs i)
-begin-balances d fs c (chunked m) i = (refl, tt)
-begin-balances d fs c (unbounded m f) i = guard-balances 0 (has_room d fs m) _ _ (refl, tt)
+begin-balances d fs c (indefinite_string m) i = (refl, tt)
+begin-balances d fs c (indefinite_container m f) i = guard-balances 0 (has_room d fs m) _ _ (refl, tt)
 begin-balances d fs c long_simple i = (refl, tt)
 begin-balances d fs c breaks i = break-balances fs c
 begin-balances d fs c bad i = tt
@@ -132,8 +132,8 @@ begin-balances d fs c bad i = tt
 string-balances : (m : Major) (fs : List Frame) (o : Opening) → IsWide o → Balances 0 (in_string m fs o)
 string-balances m fs (direct n x) i = guard-balances 0 (is_major m n) _ _ (refl, payload-clear true m x fs)
 string-balances m fs (long n w) i = guard-balances 0 (is_major m n) _ _ (long-balances true m w fs i)
-string-balances m fs (chunked n) i = tt
-string-balances m fs (unbounded n f) i = tt
+string-balances m fs (indefinite_string n) i = tt
+string-balances m fs (indefinite_container n f) i = tt
 string-balances m fs long_simple i = tt
 string-balances m fs breaks i = (refl, close-clear fs)
 string-balances m fs bad i = tt

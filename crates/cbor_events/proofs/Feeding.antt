@@ -3,7 +3,9 @@ use Rattle.std.proofs.Common.{◌≡◌, ℕ, ◌+◌, ◌-◌, ◌≤◌, List,
 use Rattle.std.proofs.lemmas.List.{length-drop, take-append-drop, take_all}
 use Rattle.std.proofs.Math.Seq.{take-add, take-length}
 use Rattle.cbor_events.specs.Trace.{Mark}
-use Rattle.cbor_events.specs.Machine.{MachineView, StandsFor, IsAnswer, IsMore, Goes}
+use Rattle.cbor_events.specs.MachineView.{MachineView}
+use Rattle.cbor_events.specs.Machine.{StandsFor, IsAnswer, IsMore}
+use Rattle.cbor_events.specs.inner.Steps.{Goes}
 use Rattle.cbor_events.specs.declared.event.Out.{Out}
 use Rattle.cbor_events.specs.declared.event.Out.TheVariants as outs
 

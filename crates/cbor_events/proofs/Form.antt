@@ -16,7 +16,8 @@ use Rattle.cbor_head.specs.declared.width.Width.TheVariants.{Direct, One, Two, F
 use Rattle.cbor_head.proofs.Agree.{split_front}
 use Rattle.cbor_head.proofs.Verdicts.{item_one}
 use Rattle.cbor_events.specs.Trace.{Mark}
-use Rattle.cbor_events.specs.Machine.{MachineView, StandsFor, IsComplete, IsRefused}
+use Rattle.cbor_events.specs.MachineView.{MachineView}
+use Rattle.cbor_events.specs.Machine.{StandsFor, IsComplete, IsRefused}
 use Rattle.cbor_events.proofs.Runs.{take-behind}
 
 no-count : (at : ℕ) (m : Major) (w : Width) (n : ℕ) (c : Complaint) → ¬ OfCount form at m w n c
@@ -79,14 +80,14 @@ refusal-verdict r m t bs ms h more =
     let start = h.stands.beginning in
     record {
       p = t ++ h.front;
-      longest = (h.breaks more).longest;
+      longest = (h.error more).longest;
       item = start.0;
       rest = start.1;
       starts = start.2;
       decides = inr (
         λ c k e. no-complaint 0 start.0 c k,
         λ e. h.unfinished (start.0, record { spelled = start.2.spelled; within = start.2.within; bytes_are = e }),
-        (h.breaks more).breaks,
+        (h.error more).error,
       );
     }
 

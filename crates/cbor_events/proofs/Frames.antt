@@ -1,11 +1,11 @@
 -- The stack of frames, whose last is the innermost.
-use Rattle.std.proofs.Common.{◌≡◌, ℕ, ◌+◌, List, [], ◌∷◌, ◌++◌, map, reverse, length, refl, ap, ◌∙◌, arith, pow-suc, mul_comm, mul-le-mul_left, mul-le-mul_right, subst, add-one, ◌*◌, ◌^◌, ◌≤◌, ◌<◌, ◌-◌, Bool}
+use Rattle.std.proofs.Common.{◌≡◌, ℕ, ◌+◌, List, [], ◌∷◌, ◌++◌, map, reverse, length, refl, ap, ◌∙◌, arith, pow-suc, mul_comm, mul-le-mul_left, mul-le-mul_right, subst, add-one, ◌*◌, ◌^◌, ◌≤◌, ◌<◌, ◌-◌, Bool, true, false, true≢false, sym}
 use Rattle.std.proofs.lemmas.List.{reverse-append, length-reverse, length-map}
 use Rattle.std.proofs.Math.Nat.{pow-le-pow_right}
-use Rattle.cbor_events.specs.State.{frame_of, frames_of, head_left, wanted_at, IsFit, IsNextFit, IsSettled, IsNextSettled}
+use Rattle.cbor_events.specs.inner.State.{frame_of, frames_of, head_left, wanted_at, IsFit, IsNextFit, IsSettled, IsNextSettled, is_in_payload, is_done}
 use Rattle.cbor_events.specs.declared.opening.Numbered.{Numbered}
-use Rattle.cbor_events.specs.declared.place.Place.{Place}
-use Rattle.cbor_events.specs.declared.place.Place.TheVariants.{Item, Head, SimpleNumber, Payload, Chunks, Done}
+use Rattle.cbor_events.specs.declared.position.Position.{Position}
+use Rattle.cbor_events.specs.declared.position.Position.TheVariants.{Item, Head, SimpleNumber, Payload, Chunks, Done}
 use Rattle.cbor_events.specs.declared.take_byte.Next.{Next}
 use Rattle.cbor_events.specs.declared.take_byte.Next.TheVariants.{Refuses, Goes, Tells}
 use Rattle.cbor_events.specs.declared.frame.Frame.{Frame}
@@ -33,21 +33,54 @@ room_next a k c hc hk h =
     let up : (a * 256 + c + 1) * unit ≤ ((a + 1) * 256) * unit = mul-le-mul_right unit (omega arith) in
     rw same (omega arith)
 
-pub settled_fit : (depth : ℕ) (fs : List Frame) (place : Place) → IsSettled fs place → IsFit depth fs place
+pub settled_fit : (depth : ℕ) (fs : List Frame) (position : Position) → IsSettled fs position → IsFit depth fs position
 settled_fit depth fs (Head chunk kind width left argument) h = absurd h
 settled_fit depth fs Done h = h
 settled_fit depth fs _ h = tt
 
 pub next_settled_fit : (depth : ℕ) (fs : List Frame) (next : Next) → IsNextSettled fs next → IsNextFit depth fs next
 next_settled_fit depth fs (Refuses r) h = tt
-next_settled_fit depth fs (Goes place) h = settled_fit depth fs place h
-next_settled_fit depth fs (Tells w kind place) h = settled_fit depth fs place h
+next_settled_fit depth fs (Goes position) h = settled_fit depth fs position h
+next_settled_fit depth fs (Tells w kind position) h = settled_fit depth fs position h
 
 -- outside a payload what is open is a head
-pub wanted-head : (place : Place) → ((chunk : Bool) (kind : Numbered) (left : ℕ) → place ≡ Payload chunk kind left → ⊥) → wanted_at place ≡ head_left place
+pub wanted-head : (position : Position) → ((chunk : Bool) (kind : Numbered) (left : ℕ) → position ≡ Payload chunk kind left → ⊥) → wanted_at position ≡ head_left position
 wanted-head (Payload chunk kind left) h = absurd (h chunk kind left refl)
 wanted-head Item h = refl
 wanted-head (Head chunk kind width left argument) h = refl
 wanted-head SimpleNumber h = refl
 wanted-head (Chunks kind) h = refl
 wanted-head Done h = refl
+
+-- what goes on without an event goes on within the item
+pub still-going : (position : Position) (depth : ℕ) (fs : List Frame) → IsFit depth fs position → (IsSettled fs position → ⊥) → is_done position ≡ false
+still-going Done depth fs fit within = absurd (within fit)
+still-going Item depth fs fit within = refl
+still-going (Head chunk kind width left argument) depth fs fit within = refl
+still-going SimpleNumber depth fs fit within = refl
+still-going (Payload chunk kind left) depth fs fit within = refl
+still-going (Chunks kind) depth fs fit within = refl
+
+pub position-done : (position : Position) → is_done position ≡ true → position ≡ Done
+position-done Done h = refl
+position-done Item h = absurd (true≢false (sym h))
+position-done (Head chunk kind width left argument) h = absurd (true≢false (sym h))
+position-done SimpleNumber h = absurd (true≢false (sym h))
+position-done (Payload chunk kind left) h = absurd (true≢false (sym h))
+position-done (Chunks kind) h = absurd (true≢false (sym h))
+
+pub not-done : (position : Position) → (position ≡ Done → ⊥) → is_done position ≡ false
+not-done Done h = absurd (h refl)
+not-done Item h = refl
+not-done (Head chunk kind width left argument) h = refl
+not-done SimpleNumber h = refl
+not-done (Payload chunk kind left) h = refl
+not-done (Chunks kind) h = refl
+
+pub no-payload-done : (position : Position) → is_in_payload position ≡ true → is_done position ≡ true → ⊥
+no-payload-done Done p d = true≢false (sym p)
+no-payload-done (Payload chunk kind left) p d = true≢false (sym d)
+no-payload-done Item p d = true≢false (sym p)
+no-payload-done (Head chunk kind width left argument) p d = true≢false (sym p)
+no-payload-done SimpleNumber p d = true≢false (sym p)
+no-payload-done (Chunks kind) p d = true≢false (sym p)

@@ -5,8 +5,8 @@ use Rattle.cbor_head.specs.declared.major.Major.{Major}
 use Rattle.cbor_head.specs.declared.major.Major.TheVariants as majors
 use Rattle.cbor_head.specs.declared.width.Width.{Width}
 use Rattle.cbor_head.specs.declared.width.Width.TheVariants.{Direct, One, Two, Four, Eight, Indefinite}
-use Rattle.cbor_events.specs.Trace.{Mark, a_head, a_chunk, a_byte, an_end, size, total, within}
-use Rattle.cbor_events.specs.State.{mark_of, marks_of, IsProper, IsDefinite}
+use Rattle.cbor_events.specs.Trace.{Mark, a_head, a_chunk, a_byte, a_break, size, total, within}
+use Rattle.cbor_events.specs.Marks.{mark_of, marks_of, IsProper, IsDefinite}
 use Rattle.cbor_events.specs.Event.{event, count_at, marks_in, event_size, joined_with, onto, joined, front_of, cut, IsRow}
 use Rattle.cbor_events.specs.declared.event.Event.{Event}
 use Rattle.cbor_events.specs.declared.event.EventKind.{EventKind}
@@ -29,7 +29,7 @@ abbrev event_of : ℕ → Mark → Event
 event_of at (a_head major w n) = event at w (head_kind major w n)
 event_of at (a_chunk w n) = event at w (Chunk n)
 event_of at a_byte = event at Direct (Piece 1)
-event_of at an_end = event at Indefinite End
+event_of at a_break = event at Indefinite End
 
 -- the events of marks, neighbouring pieces joined
 abbrev pub rejoin : ℕ → List Mark → List Event

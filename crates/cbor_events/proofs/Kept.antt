@@ -6,7 +6,7 @@ use Rattle.cbor_head.specs.Value.{AreBytes}
 use Rattle.cbor_head.specs.Head.{Holds, head, major_number, shortest}
 use Rattle.cbor_head.specs.Spelling.{byte_chunks, text_chunks, array, a_map, simple, no_spellings, spell_all, chunk_bytes}
 use Rattle.cbor_events.specs.Trace.{Mark, more_bytes}
-use Rattle.cbor_events.specs.Automaton.{Frame, counted, open_array, open_map, State, at_item, in_head, in_simple, in_payload, in_chunks, done, Opening, direct, long, Next, refuses, goes, tells, numbered_tail, simple_tail, tail, without_length, opening_of, opening, close, close_string, payload, after, has_room, break_at, begin, is_major, in_string, take_byte, Outcome, refused, reached, telling, and_then, run}
+use Rattle.cbor_events.specs.inner.Automaton.{Frame, counted, indefinite_array, indefinite_map, State, at_item, in_head, in_simple, in_payload, in_chunks, done, Opening, direct, long, Next, refuses, goes, tells, numbered_tail, simple_tail, tail, indefinite_length, opening_of, opening, close, close_string, payload, after, has_room, break_at, begin, is_major, in_string, take_byte, Outcome, refused, reached, telling, and_then, run}
 use Rattle.cbor_head.specs.declared.major.Major.{Major}
 use Rattle.cbor_head.specs.declared.major.Major.TheVariants.{Unsigned, Negative, Bytes, Text, Array, Map, Tag, Simple}
 use Rattle.cbor_head.specs.declared.width.Width.{Width}
@@ -43,7 +43,7 @@ long-begins d chunk m w k fs p c b made holds = (
 )
 
 -- the first byte of an array or map without a length
-array-opens : (d : ℕ) (fs : List Frame) (p : List ℕ) → Opened d fs p → length fs < d → Opened d (open_array ∷ fs) (p ++ 0x9f ∷ [])
+array-opens : (d : ℕ) (fs : List Frame) (p : List ℕ) → Opened d fs p → length fs < d → Opened d (indefinite_array ∷ fs) (p ++ 0x9f ∷ [])
 array-opens d fs p o room = (
   p,
   o,
@@ -56,7 +56,7 @@ array-opens d fs p o room = (
   },
 )
 
-map-opens : (d : ℕ) (fs : List Frame) (p : List ℕ) → Opened d fs p → length fs < d → Opened d (open_map false ∷ fs) (p ++ 0xbf ∷ [])
+map-opens : (d : ℕ) (fs : List Frame) (p : List ℕ) → Opened d fs p → length fs < d → Opened d (indefinite_map false ∷ fs) (p ++ 0xbf ∷ [])
 map-opens d fs p o room = (
   p,
   o,
@@ -103,7 +103,7 @@ chunks-open d _ fs p first o s e = absurd s
 abbrev Keeps : ℕ → List Frame → List ℕ → ℕ → Opening → Type 0
 Keeps d fs p c opens = StandsNext d (begin d fs c opens) (p ++ c ∷ [])
 
-open-kept : (d : ℕ) (fs : List Frame) (p : List ℕ) (m : Major) → Opened d fs p → Keeps d fs p (32 * major_number m + 31) (without_length m)
+open-kept : (d : ℕ) (fs : List Frame) (p : List ℕ) (m : Major) → Opened d fs p → Keeps d fs p (32 * major_number m + 31) (indefinite_length m)
 open-kept d fs p Bytes o = chunks-open d Bytes fs p 0x5f o tt refl
 open-kept d fs p Text o = chunks-open d Text fs p 0x7f o tt refl
 open-kept d fs p Array o = guarded d (p ++ 0x9f ∷ []) (nat_lt (length fs) d) _ _ (λ e. array-opens d fs p o (room-true (length fs) d e))
@@ -121,12 +121,12 @@ numbered-kept d fs p m _ i o = tt
 break-kept : (d : ℕ) (fs : List Frame) (p : List ℕ) → Opened d fs p → StandsNext d (break_at fs 0xff) (p ++ 0xff ∷ [])
 break-kept d [] p o = tt
 break-kept d (counted n ∷ fs) p o = tt
-break-kept d (open_map true ∷ fs) p o = tt
-break-kept d (open_array ∷ fs) p o =
+break-kept d (indefinite_map true ∷ fs) p o = tt
+break-kept d (indefinite_array ∷ fs) p o =
     let room : length fs < d = o.2 in
     let whole = o.3 no_spellings tt tt (omega arith) in
     along d (close fs) _ _ (whole.bytes_are ∙ ap (λ xs. xs ++ 0xff ∷ []) (append-nil p)) (item-closes d fs o.0 whole.item o.1 whole.spelled whole.fits)
-break-kept d (open_map false ∷ fs) p o =
+break-kept d (indefinite_map false ∷ fs) p o =
     let room : length fs < d = o.2 in
     let whole = o.3 no_spellings refl tt (omega arith) in
     along d (close fs) _ _ (whole.bytes_are ∙ ap (λ xs. xs ++ 0xff ∷ []) (append-nil p)) (item-closes d fs o.0 whole.item o.1 whole.spelled whole.fits)
@@ -197,7 +197,7 @@ chunk-tail-kept d m n fs p (suc (suc zero)) b = long-chunk d m n Four 3 fs p 26 
 chunk-tail-kept d m n fs p (suc (suc (suc zero))) b = long-chunk d m n Eight 7 fs p 27 b (λ x. refl) (λ x h. h) refl
 chunk-tail-kept d m n fs p (suc (suc (suc (suc (suc (suc (suc zero))))))) b = without n
   where
-    without : (n : Major) → KeepsChunk d m fs p (32 * major_number n + 31) (without_length n)
+    without : (n : Major) → KeepsChunk d m fs p (32 * major_number n + 31) (indefinite_length n)
     without Bytes = tt
     without Text = tt
     without Array = tt

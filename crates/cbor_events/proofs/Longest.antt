@@ -7,7 +7,7 @@ use Rattle.cbor_head.specs.Value.{AreBytes}
 use Rattle.cbor_head.specs.Beginning.{IsBeginning, MayFollow, IsLongestBeginning}
 use Rattle.cbor_head.specs.declared.reason.Reason.{Reason}
 use Rattle.cbor_events.specs.Trace.{Mark}
-use Rattle.cbor_events.specs.Automaton.{start, State, Next, refuses, goes, tells, take_byte, run, reached, and_then}
+use Rattle.cbor_events.specs.inner.Automaton.{start, State, Next, refuses, goes, tells, take_byte, run, reached, and_then}
 use Rattle.cbor_events.proofs.Forward.{telling_all}
 use Rattle.cbor_events.proofs.Beginnings.{onwards, run-append, reached-begins, shorter, telling_all-reached}
 use Rattle.cbor_events.proofs.Refusals.{taken-follows, IsTaken}

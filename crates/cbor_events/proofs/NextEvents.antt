@@ -1,5 +1,5 @@
 -- The next event, from one read after another.
-use Rattle.std.proofs.Common.{◌≡◌, ℕ, zero, suc, ◌+◌, ◌-◌, ◌<◌, ◌≤◌, Bool, true, false, List, [], ◌∷◌, ◌++◌, length, take, drop, replicate, refl, sym, ap, subst, ◌∙◌, arith, append_assoc, append-nil, length-append, take_all}
+use Rattle.std.proofs.Common.{◌≡◌, ℕ, zero, suc, ◌+◌, ◌-◌, ◌<◌, ◌≤◌, Bool, true, false, true≢false, inl, inr, List, [], ◌∷◌, ◌++◌, length, take, drop, replicate, refl, sym, ap, subst, ◌∙◌, arith, append_assoc, append-nil, length-append, take_all}
 use Rattle.std.specs.Prelude.{Option, Some, None, Result, Ok, Err, IfSome, min}
 use Rattle.std.specs.Io.KnownBytes.{Consumes}
 use Rattle.std.proofs.KnownBytes.{Consumes-trans}
@@ -8,26 +8,31 @@ use Rattle.cbor_head.specs.Value.{AreBytes}
 use Rattle.cbor_head.specs.declared.reason.Refusal.{Refusal}
 use Rattle.cbor_head.specs.declared.major.Major.{Major}
 use Rattle.cbor_head.specs.declared.width.Width.{Width}
-use Rattle.cbor_events.specs.Trace.{Mark, a_head, a_chunk, a_byte, an_end, size, total}
-use Rattle.cbor_events.specs.Automaton.{Frame, State, start, at_item, in_head, in_simple, in_payload, in_chunks, done, run, Outcome, refused, reached, telling}
-use Rattle.cbor_events.specs.State.{wanted_at, state_of, mark_of, marks_of}
+use Rattle.cbor_events.specs.Trace.{Mark, a_head, a_chunk, a_byte, a_break, size, total}
+use Rattle.cbor_events.specs.inner.Automaton.{Frame, State, start, at_item, in_head, in_simple, in_payload, in_chunks, done, run, Outcome, refused, reached, telling}
+use Rattle.cbor_events.specs.Marks.{mark_of, marks_of}
+use Rattle.cbor_events.specs.inner.State.{wanted_at, state_of, is_in_payload, is_done}
+use Rattle.cbor_events.specs.inner.Machine.{IsShown}
 use Rattle.cbor_events.specs.Bytes.{IsEventBytes}
-use Rattle.cbor_events.specs.Machine.{MachineView, StandsFor, IsComplete, IsWhole, IsGiven, IsEvent, wanted, wanted_within}
-use Rattle.cbor_events.specs.Taking.{IsTaking}
-use Rattle.cbor_events.specs.ItemEvents.{IsDue, IsOfString, IsKept, StandsBetween, IsNextEvent, IsEnd, IsNext, HasRead, IsInPayload, piece_by, piece_after, kind_size, piece_size}
+use Rattle.cbor_events.specs.MachineView.{MachineView}
+use Rattle.cbor_events.specs.Machine.{StandsFor, IsComplete, IsWhole, IsGiven, IsEvent, wanted, wanted_within}
+use Rattle.cbor_events.specs.inner.Taking.{IsTaking}
+use Rattle.cbor_events.specs.ItemEvents.{ItemEventsView, Call, machine_call, call, IsDue, IsKept, StandsBetween, IsNextEvent, IsEnd, IsCut, IsTooLong, HasFormError, IsNext}
+use Rattle.cbor_events.specs.inner.Reads.{HasRead, piece_by, piece_after, kind_size, piece_size}
 use Rattle.cbor_events.specs.declared.event.Event.{Event}
 use Rattle.cbor_events.specs.declared.event.Out.{Out}
 use Rattle.cbor_events.specs.declared.event.Out.TheVariants as outs
 use Rattle.cbor_events.specs.declared.event.EventKind.{EventKind}
 use Rattle.cbor_events.specs.declared.event.EventKind.TheVariants as kinds
 use Rattle.cbor_events.specs.declared.frame.Frame as frames
-use Rattle.cbor_events.specs.declared.place.Place.{Place}
-use Rattle.cbor_events.specs.declared.place.Place.TheVariants as places
+use Rattle.cbor_events.specs.declared.position.Position.{Position}
+use Rattle.cbor_events.specs.declared.position.Position.TheVariants as positions
 use Rattle.cbor_events.proofs.Forward.{telling_all}
 use Rattle.cbor_events.proofs.Beginnings.{onwards, run-append}
 use Rattle.cbor_events.proofs.Events.{pending, IsSane}
 use Rattle.cbor_events.proofs.Runs.{tiles, sane-run}
 use Rattle.cbor_events.proofs.Standing.{are_bytes-append}
+use Rattle.cbor_events.proofs.Frames.{position-done, no-payload-done}
 use Rattle.cbor_events.proofs.Taking.{IsClear, IsWithin, mark-taken, nothing-taken, first-mark}
 
 -- ---- between events no head is open
@@ -59,17 +64,6 @@ pub run-rest : (d : ℕ) (t bs : List ℕ) (q u : State) (ms ns : List Mark) →
 unfolding onwards
 run-rest d t bs q u ms ns e f = untell ms ns (run d q bs) u (sym (run-append d t bs start ∙ ap (λ o. onwards o (λ s. run d s bs)) e) ∙ f)
 
--- ---- the head of a chunk
-
-chunk-string : (d : ℕ) (q : State) (w : Width) (n : ℕ) (bs : List ℕ) (u : State) → IsTaking d q (a_chunk w n) bs u → IsOfString (kinds.Chunk n) w q bs
-chunk-string d (at_item fs) w n bs u h = absurd h
-chunk-string d (in_head chunk m x k acc fs) w n bs u h = absurd h
-chunk-string d (in_simple fs) w n bs u h = absurd h
-chunk-string d (in_payload chunk m zero fs) w n bs u h = absurd h
-chunk-string d (in_payload chunk m (suc k) fs) w n bs u h = absurd h
-chunk-string d (in_chunks m fs) w n bs u h = h.0
-chunk-string d done w n bs u h = absurd h
-
 -- ---- which event is due
 
 abbrev IsPayload : State → Type 0
@@ -84,13 +78,13 @@ byte-payload d (in_payload chunk m n fs) bs u h = tt
 byte-payload d (in_chunks m fs) bs u h = absurd h
 byte-payload d done bs u h = absurd h
 
-payload-due : (place : Place) (fs : List frames.Frame) (n : ℕ) → IsPayload (state_of place fs) → IsDue place (kinds.Piece n)
-payload-due places.Item fs n h = absurd h
-payload-due (places.Head chunk kind w left argument) fs n h = absurd h
-payload-due places.SimpleNumber fs n h = absurd h
-payload-due (places.Payload chunk kind left) fs n h = tt
-payload-due (places.Chunks kind) fs n h = absurd h
-payload-due places.Done fs n h = absurd h
+payload-due : (position : Position) (fs : List frames.Frame) (n : ℕ) → IsPayload (state_of position fs) → (is_done position ≡ false) × IsDue (is_in_payload position) (kinds.Piece n)
+payload-due positions.Item fs n h = absurd h
+payload-due (positions.Head chunk kind w left argument) fs n h = absurd h
+payload-due positions.SimpleNumber fs n h = absurd h
+payload-due (positions.Payload chunk kind left) fs n h = (refl, tt)
+payload-due (positions.Chunks kind) fs n h = absurd h
+payload-due positions.Done fs n h = absurd h
 
 -- no byte of a payload
 abbrev IsOther : Mark → Type 0
@@ -98,10 +92,8 @@ IsOther a_byte = ⊥
 IsOther _ = Unit {0}
 
 -- where a head or a break may be due
-abbrev IsOpen : Place → Type 0
-IsOpen (places.Payload chunk kind left) = ⊥
-IsOpen places.Done = ⊥
-IsOpen _ = Unit {0}
+abbrev IsOpen : Position → Type 0
+IsOpen position = (is_done position ≡ false) × (is_in_payload position ≡ false)
 
 in-no-payload : (d : ℕ) (chunk : Bool) (major : Major) (n : ℕ) (fs : List Frame) (m : Mark) (bs : List ℕ) (u : State) → IsOther m → IsTaking d (in_payload chunk major n fs) m bs u → ⊥
 in-no-payload d chunk major zero fs a_byte bs u o h = o
@@ -110,16 +102,16 @@ in-no-payload d chunk major zero fs (a_head m w x) bs u o h = h
 in-no-payload d chunk major (suc n) fs (a_head m w x) bs u o h = h
 in-no-payload d chunk major zero fs (a_chunk w x) bs u o h = h
 in-no-payload d chunk major (suc n) fs (a_chunk w x) bs u o h = h
-in-no-payload d chunk major zero fs an_end bs u o h = h
-in-no-payload d chunk major (suc n) fs an_end bs u o h = h
+in-no-payload d chunk major zero fs a_break bs u o h = h
+in-no-payload d chunk major (suc n) fs a_break bs u o h = h
 
-other-open : (d : ℕ) (place : Place) (fs : List frames.Frame) (m : Mark) (bs : List ℕ) (u : State) → IsOther m → IsTaking d (state_of place fs) m bs u → IsOpen place
-other-open d places.Item fs m bs u o h = tt
-other-open d (places.Head chunk kind w left argument) fs m bs u o h = tt
-other-open d places.SimpleNumber fs m bs u o h = tt
-other-open d (places.Payload chunk kind left) fs m bs u o h = in-no-payload d chunk _ left _ m bs u o h
-other-open d (places.Chunks kind) fs m bs u o h = tt
-other-open d places.Done fs m bs u o h = absurd h
+other-open : (d : ℕ) (position : Position) (fs : List frames.Frame) (m : Mark) (bs : List ℕ) (u : State) → IsOther m → IsTaking d (state_of position fs) m bs u → IsOpen position
+other-open d positions.Item fs m bs u o h = (refl, refl)
+other-open d (positions.Head chunk kind w left argument) fs m bs u o h = (refl, refl)
+other-open d positions.SimpleNumber fs m bs u o h = (refl, refl)
+other-open d (positions.Payload chunk kind left) fs m bs u o h = absurd (in-no-payload d chunk _ left _ m bs u o h)
+other-open d (positions.Chunks kind) fs m bs u o h = (refl, refl)
+other-open d positions.Done fs m bs u o h = absurd h
 
 -- ---- the bytes of one event
 
@@ -163,16 +155,16 @@ alone d q r u pre last ms h b c e f =
     let here = byte-payload d q first.0 first.1 first.2 in
     (payload-within d q r pre here w, here)
 
-module _ (d : ℕ) (place : Place) (fs : List frames.Frame) (r u : State) (pre last buffer kept : List ℕ)
-    (from : IsClear (state_of place fs)) (to : IsClear u) (b : AreBytes pre) (c : AreBytes last) (all : AreBytes (pre ++ last))
-    (e : run d (state_of place fs) pre ≡ reached r []) (some : 0 < length last) (here : last ≡ take (length last) buffer) where
+module _ (d : ℕ) (position : Position) (fs : List frames.Frame) (r u : State) (pre last buffer kept : List ℕ)
+    (from : IsClear (state_of position fs)) (to : IsClear u) (b : AreBytes pre) (c : AreBytes last) (all : AreBytes (pre ++ last))
+    (e : run d (state_of position fs) pre ≡ reached r []) (some : 0 < length last) (here : last ≡ take (length last) buffer) where
   abbrev q : State
-  q = state_of place fs
+  q = state_of position fs
 
   one-taken : (m : Mark) → run d r last ≡ reached u (m ∷ []) → IsTaking d q m (pre ++ last) u
   one-taken m f = mark-taken d q u (pre ++ last) m from all (run-joined d pre last q r u (m ∷ []) e f) to
 
-  piece-known : (n : ℕ) → run d r last ≡ reached u (replicate n a_byte) → IsDue place (kinds.Piece n) × (take n buffer ≡ pre ++ last)
+  piece-known : (n : ℕ) → run d r last ≡ reached u (replicate n a_byte) → ((is_done position ≡ false) × IsDue (is_in_payload position) (kinds.Piece n)) × (take n buffer ≡ pre ++ last)
   piece-known zero f =
       let none = clear-total d (pre ++ last) q u [] from to (run-joined d pre last q r u [] e f) in
       absurd (omega (arith, none, length-append pre last))
@@ -181,31 +173,14 @@ module _ (d : ℕ) (place : Place) (fs : List frames.Frame) (r u : State) (pre l
       let only = alone d q r u pre last (replicate n a_byte) from b c e f in
       let same : pre ++ last ≡ last = ap (λ xs. xs ++ last) only.0 in
       let long : length last ≡ suc n = sym (ap length same) ∙ size in
-      (payload-due place fs (suc n) only.1, sym (same ∙ here ∙ ap (λ k. take k buffer) long))
+      (payload-due position fs (suc n) only.1, sym (same ∙ here ∙ ap (λ k. take k buffer) long))
 
   pub event-known : (w : Width) (kind : EventKind) → run d r last ≡ reached u (marks_of w kind)
-      → IsDue place kind × IsOfString kind w (state_of place fs) (pre ++ last) × IsKept kind kept (piece_by kind kept buffer) (pre ++ last)
-  event-known w (kinds.Piece n) f = let k = piece-known n f in (k.0, tt, k.1)
-  event-known w (kinds.Chunk n) f =
-      let taken = one-taken (a_chunk w n) f in
-      (due place (other-open d place fs (a_chunk w n) (pre ++ last) u tt taken), chunk-string d q w n (pre ++ last) u taken, refl)
-    where
-      due : (p : Place) → IsOpen p → IsDue p (kinds.Chunk n)
-      due places.Item h = tt
-      due (places.Head chunk type w left argument) h = tt
-      due places.SimpleNumber h = tt
-      due (places.Payload chunk type left) h = absurd h
-      due (places.Chunks type) h = tt
-      due places.Done h = absurd h
-  event-known w kind f = (due place (other-open d place fs (mark_of w kind) (pre ++ last) u tt (one-taken (mark_of w kind) f)), tt, refl)
-    where
-      due : (p : Place) → IsOpen p → IsDue p kind
-      due places.Item h = tt
-      due (places.Head chunk type w left argument) h = tt
-      due places.SimpleNumber h = tt
-      due (places.Payload chunk type left) h = absurd h
-      due (places.Chunks type) h = tt
-      due places.Done h = absurd h
+      → ((is_done position ≡ false) × IsDue (is_in_payload position) kind) × IsKept kind kept (piece_by kind kept buffer) (pre ++ last)
+  event-known w (kinds.Piece n) f = piece-known n f
+  event-known w kind f =
+      let due = other-open d position fs (mark_of w kind) (pre ++ last) u tt (one-taken (mark_of w kind) f) in
+      ((due.0, subst (λ (b : Bool). IsDue b kind) (sym due.1) tt), refl)
 
 -- ---- the answers
 
@@ -216,44 +191,47 @@ are_bytes-behind (x ∷ xs) ys h = are_bytes-behind xs ys h.1
 -- an event is complete
 pub event-here : (e : Event) (from mid_from to : Option (List ℕ)) (old mid new : MachineView) (kept buffer t last : List ℕ) (ms : List Mark) → StandsBetween old t ms → (r : HasRead from mid_from mid t ms)
     → mid.depth ≡ old.depth → new.depth ≡ old.depth → Consumes mid_from to last → AreBytes last → 0 < length last → last ≡ take (length last) buffer → IsGiven e new (t ++ r.bytes) last ms
-    → IsNextEvent e from to old new kept (piece_by e.kind kept buffer) t ms
+    → IsNextEvent e (machine_call old new from to kept (piece_by e.kind kept buffer) t ms)
 event-here e from mid_from to old mid new kept buffer t last ms h r mid_depth depth c b some here g =
     let d = old.depth in
     let pre = r.bytes in
-    let q = state_of old.place old.frames in
-    let m = state_of mid.place mid.frames in
-    let u = state_of new.place new.frames in
+    let q = state_of old.inner.position old.inner.frames in
+    let m = state_of mid.inner.position mid.inner.frames in
+    let u = state_of new.inner.position new.inner.frames in
     let marks = marks_of e.width e.kind in
-    let silent : run d start (t ++ pre) ≡ reached m ms = subst (λ (x : ℕ). run x start (t ++ pre) ≡ reached m ms) mid_depth r.stands.ran in
-    let whole : run d start ((t ++ pre) ++ last) ≡ reached u (ms ++ marks) = subst (λ (x : ℕ). run x start ((t ++ pre) ++ last) ≡ reached u (ms ++ marks)) depth g.stands.ran in
-    let first = run-rest d t pre q m ms [] h.stands.ran (silent ∙ ap (reached m) (sym (append-nil ms))) in
+    let silent : run d start (t ++ pre) ≡ reached m ms = subst (λ (x : ℕ). run x start (t ++ pre) ≡ reached m ms) mid_depth r.stands.inner.ran in
+    let whole : run d start ((t ++ pre) ++ last) ≡ reached u (ms ++ marks) = subst (λ (x : ℕ). run x start ((t ++ pre) ++ last) ≡ reached u (ms ++ marks)) depth g.stands.inner.ran in
+    let first = run-rest d t pre q m ms [] h.stands.inner.ran (silent ∙ ap (reached m) (sym (append-nil ms))) in
     let then_told = run-rest d (t ++ pre) last m u ms marks silent whole in
     let bytes = are_bytes-behind t pre r.stands.are_bytes in
-    let known = event-known d old.place old.frames m u pre last buffer kept (whole-clear d t q ms h.stands.ran h.whole) (whole-clear d ((t ++ pre) ++ last) u (ms ++ marks) whole g.ends)
+    let known = event-known d old.inner.position old.inner.frames m u pre last buffer kept (whole-clear d t q ms h.stands.inner.ran h.whole) (whole-clear d ((t ++ pre) ++ last) u (ms ++ marks) whole g.ends)
     bytes b (are_bytes-append pre last bytes b) first some here e.width e.kind then_told in
     let mine : drop e.place ((t ++ pre) ++ last) ≡ pre ++ last =
     ap (λ n. drop n ((t ++ pre) ++ last)) (g.place ∙ h.whole) ∙ ap (drop (length t)) (append_assoc t pre last) ∙ drop-append_seam t (pre ++ last) in
+    let shown = h.stands.inner.shown in
     record {
-      due = known.0;
+      unfinished = λ k. true≢false (sym k.0 ∙ shown.complete ∙ known.0.0);
+      due = subst (λ (b : Bool). IsDue b e.kind) (sym shown.in_payload) known.0.1;
       bytes = pre ++ last;
       consumed = Consumes-trans _ _ _ _ _ r.consumed c;
-      are = subst (IsEventBytes e.width e.kind) mine g.bytes;
-      of_string = known.1;
-      piece_is = known.2;
+      are = subst (IsEventBytes ms e.width e.kind) mine g.bytes;
+      piece_is = known.1;
       place = g.place ∙ h.whole;
       stands = subst (λ xs. StandsBetween new xs (ms ++ marks)) (append_assoc t pre last) (record { stands = g.stands; whole = g.ends });
     }
 
 -- the item is complete: nothing was read
 pub end-here : (from mid_from to : Option (List ℕ)) (old mid new : MachineView) (kept t last : List ℕ) (ms : List Mark) → StandsBetween old t ms → HasRead from mid_from mid t ms → mid.depth ≡ old.depth
-    → IsComplete mid → new ≡ mid → Consumes mid_from to last → last ≡ [] → IsEnd from to old new kept kept t ms
+    → IsComplete mid → new ≡ mid → Consumes mid_from to last → last ≡ [] → IsEnd (machine_call old new from to kept kept t ms)
 end-here from mid_from to old mid new kept t last ms h r depth complete same c nothing =
     let d = old.depth in
-    let q = state_of old.place old.frames in
-    let silent : run d start (t ++ r.bytes) ≡ reached (state_of mid.place mid.frames) ms = subst (λ (x : ℕ). run x start (t ++ r.bytes) ≡ reached (state_of mid.place mid.frames) ms) depth r.stands.ran in
-    let over : run d start (t ++ r.bytes) ≡ reached done (ms ++ []) = silent ∙ ap (λ p. reached (state_of p mid.frames) ms) complete.0 ∙ ap (reached done) (sym (append-nil ms)) in
-    let first = run-rest d t r.bytes q done ms [] h.stands.ran over in
-    let none : r.bytes ≡ [] = (nothing-taken d q done r.bytes (whole-clear d t q ms h.stands.ran h.whole) (are_bytes-behind t r.bytes r.stands.are_bytes) first).1 in
+    let q = state_of old.inner.position old.inner.frames in
+    let silent : run d start (t ++ r.bytes) ≡ reached (state_of mid.inner.position mid.inner.frames) ms =
+    subst (λ (x : ℕ). run x start (t ++ r.bytes) ≡ reached (state_of mid.inner.position mid.inner.frames) ms) depth r.stands.inner.ran in
+    let at_end : mid.inner.position ≡ positions.Done = position-done mid.inner.position (sym r.stands.inner.shown.complete ∙ complete.0) in
+    let over : run d start (t ++ r.bytes) ≡ reached done (ms ++ []) = silent ∙ ap (λ p. reached (state_of p mid.inner.frames) ms) at_end ∙ ap (reached done) (sym (append-nil ms)) in
+    let first = run-rest d t r.bytes q done ms [] h.stands.inner.ran over in
+    let none : r.bytes ≡ [] = (nothing-taken d q done r.bytes (whole-clear d t q ms h.stands.inner.ran h.whole) (are_bytes-behind t r.bytes r.stands.are_bytes) first).1 in
     let here : t ++ r.bytes ≡ t = ap (λ xs. t ++ xs) none ∙ append-nil t in
     record {
       complete = h.stands.complete.1 (subst (λ d. IsWhole d t) depth (subst (IsWhole mid.depth) here (r.stands.complete.0 complete)));
@@ -270,15 +248,17 @@ read-on from mid_from to mid new t last ms r c h =
 
 -- ---- what the machine wants
 
-pub complete-wants : (m : MachineView) → 0 < wanted m → ¬ IsComplete m
-complete-wants m h = λ c.
-    let none : wanted m ≡ 0 = ap (λ r. wanted_within r (min (m.bytes - m.taken) (wanted_at m.place))) c.1 ∙ ap (λ p. min (m.bytes - m.taken) (wanted_at p)) c.0 ∙ omega arith in
+pub complete-wants : (m : MachineView) → IsShown m → 0 < wanted m → ¬ IsComplete m
+complete-wants m shown h = λ c.
+    let at_end : m.inner.position ≡ positions.Done = position-done m.inner.position (sym shown.complete ∙ c.0) in
+    let nothing : m.due ≡ 0 = shown.due ∙ ap wanted_at at_end in
+    let none : wanted m ≡ 0 = ap (λ r. wanted_within r (min (m.bytes - m.taken) m.due)) c.1 ∙ ap (λ n. min (m.bytes - m.taken) n) nothing ∙ omega arith in
     omega (arith, none)
 
 pub wants-short : (m : MachineView) → 0 < wanted m → m.taken < m.bytes
 wants-short m h = go m.refusal h
   where
-    go : (r : Option Refusal) → 0 < wanted_within r (min (m.bytes - m.taken) (wanted_at m.place)) → m.taken < m.bytes
+    go : (r : Option Refusal) → 0 < wanted_within r (min (m.bytes - m.taken) m.due) → m.taken < m.bytes
     go None k = omega arith
     go (Some f) k = absurd (omega arith)
 
@@ -295,46 +275,85 @@ all-used used xs e = take_all used xs (omega arith)
 pub wanted-room : (m : MachineView) → m.taken ≤ m.bytes → m.taken + wanted m ≤ m.bytes
 wanted-room m h = go m.refusal
   where
-    go : (r : Option Refusal) → m.taken + wanted_within r (min (m.bytes - m.taken) (wanted_at m.place)) ≤ m.bytes
+    go : (r : Option Refusal) → m.taken + wanted_within r (min (m.bytes - m.taken) m.due) ≤ m.bytes
     go None = omega arith
     go (Some f) = omega arith
 
-pub complete-nothing : (m : MachineView) (xs : List ℕ) → IsComplete m → length xs ≤ wanted m → xs ≡ []
-complete-nothing m [] c h = refl
-complete-nothing m (x ∷ xs) c h = absurd (complete-wants m (omega arith) c)
+pub complete-nothing : (m : MachineView) (xs : List ℕ) → IsShown m → IsComplete m → length xs ≤ wanted m → xs ≡ []
+complete-nothing m [] shown c h = refl
+complete-nothing m (x ∷ xs) shown c h = absurd (complete-wants m shown (omega arith) c)
 
 -- ---- which buffer the bytes were read into
 
-head-kept : (place : Place) (kind : EventKind) (kept buffer : List ℕ) → ¬ IsInPayload place → IsDue place kind → piece_by kind kept buffer ≡ kept
-head-kept places.Item (kinds.Piece n) kept buffer p d = absurd d
-head-kept (places.Head chunk type w left argument) (kinds.Piece n) kept buffer p d = absurd d
-head-kept places.SimpleNumber (kinds.Piece n) kept buffer p d = absurd d
-head-kept (places.Payload chunk type left) (kinds.Piece n) kept buffer p d = absurd (p tt)
-head-kept (places.Chunks type) (kinds.Piece n) kept buffer p d = absurd d
-head-kept places.Done (kinds.Piece n) kept buffer p d = absurd d
-head-kept place kind kept buffer p d = refl
+head-kept : (b : Bool) (kind : EventKind) (kept buffer : List ℕ) → b ≡ false → IsDue b kind → piece_by kind kept buffer ≡ kept
+head-kept true kind kept buffer p d = absurd (true≢false p)
+head-kept false (kinds.Piece n) kept buffer p d = absurd d
+head-kept false kind kept buffer p d = refl
 
-payload-kept : (place : Place) (kind : EventKind) (kept buffer : List ℕ) → IsInPayload place → IsDue place kind → piece_by kind kept buffer ≡ take (kind_size kind) buffer
-payload-kept place (kinds.Piece n) kept buffer p d = refl
-payload-kept (places.Payload chunk type left) kind kept buffer p d = absurd d
-payload-kept places.Item kind kept buffer p d = absurd p
-payload-kept (places.Head chunk type w left argument) kind kept buffer p d = absurd p
-payload-kept places.SimpleNumber kind kept buffer p d = absurd p
-payload-kept (places.Chunks type) kind kept buffer p d = absurd p
-payload-kept places.Done kind kept buffer p d = absurd p
+payload-kept : (b : Bool) (kind : EventKind) (kept buffer : List ℕ) → b ≡ true → IsDue b kind → piece_by kind kept buffer ≡ take (kind_size kind) buffer
+payload-kept false kind kept buffer p d = absurd (true≢false (sym p))
+payload-kept true (kinds.Piece n) kept buffer p d = refl
+payload-kept true kind kept buffer p d = absurd d
 
-pub head-answer : (r : Result (Option Event) Refusal) (from to : Option (List ℕ)) (old new : MachineView) (kept buffer t : List ℕ) (ms : List Mark) → ¬ IsInPayload old.place
-    → IsNext r from to old new kept (piece_after r kept buffer) t ms → IsNext r from to old new kept kept t ms
-head-answer (Ok (Some e)) from to old new kept buffer t ms p h = subst (λ x. IsNextEvent e from to old new kept x t ms) (head-kept old.place e.kind kept buffer p h.due) h
+-- a refusal doesn't speak of the piece
+cut-as : (f : Refusal) (c : Call) (piece : List ℕ) → IsCut f c → IsCut f (record c { new_piece = piece })
+cut-as f c piece h = record {
+  bytes = h.bytes;
+  consumed = h.consumed;
+  reason = h.reason;
+  is = h.is;
+  verdict = h.verdict;
+  short = h.short;
+  stands = h.stands;
+  unfinished = h.unfinished;
+}
+
+too_long-as : (f : Refusal) (c : Call) (piece : List ℕ) → IsTooLong f c → IsTooLong f (record c { new_piece = piece })
+too_long-as f c piece h = record {
+  bytes = h.bytes;
+  consumed = h.consumed;
+  is = h.is;
+  full = h.full;
+  verdict = h.verdict;
+  stands = h.stands;
+  unfinished = h.unfinished;
+}
+
+form_error-as : (f : Refusal) (c : Call) (piece : List ℕ) → HasFormError f c → HasFormError f (record c { new_piece = piece })
+form_error-as f c piece h = record {
+  bytes = h.bytes;
+  byte = h.byte;
+  consumed = h.consumed;
+  is = h.is;
+  misplaced = h.misplaced;
+  verdict = h.verdict;
+  stands = h.stands;
+  unfinished = h.unfinished;
+}
+
+pub refusal-as : (f : Refusal) (c : Call) (piece : List ℕ) → IsNext (Err f) c → IsNext (Err f) (record c { new_piece = piece })
+refusal-as f c piece (u, inl h) = (u, inl (cut-as f c piece h))
+refusal-as f c piece (u, inr (inl h)) = (u, inr (inl (too_long-as f c piece h)))
+refusal-as f c piece (u, inr (inr h)) = (u, inr (inr (form_error-as f c piece h)))
+
+-- as the events' view has it
+pub refused-call : (f : Refusal) (from same to : ItemEventsView) (held left : Option (List ℕ)) (piece t : List ℕ) (ms : List Mark) → from ≡ same
+    → IsNext (Err f) (machine_call from.machine to.machine held left from.piece piece t ms) → IsNext (Err f) (call same to held left t ms)
+refused-call f from same to held left piece t ms e h = subst (λ (v : ItemEventsView). IsNext (Err f) (call v to held left t ms)) e (refusal-as f (machine_call from.machine to.machine held left from.piece piece t ms) to.piece h)
+
+pub head-answer : (r : Result (Option Event) Refusal) (from to : Option (List ℕ)) (old new : MachineView) (kept buffer t : List ℕ) (ms : List Mark) → old.in_payload ≡ false
+    → IsNext r (machine_call old new from to kept (piece_after r kept buffer) t ms) → IsNext r (machine_call old new from to kept kept t ms)
+head-answer (Ok (Some e)) from to old new kept buffer t ms p h = subst (λ x. IsNextEvent e (machine_call old new from to kept x t ms)) (head-kept old.in_payload e.kind kept buffer p h.due) h
 head-answer (Ok None) from to old new kept buffer t ms p h = h
 head-answer (Err f) from to old new kept buffer t ms p h = h
 
-pub payload-answer : (r : Result (Option Event) Refusal) (from to : Option (List ℕ)) (old new : MachineView) (kept buffer t : List ℕ) (ms : List Mark) (held : ℕ) → IsInPayload old.place → held ≡ piece_size r
-    → IsNext r from to old new kept (piece_after r kept buffer) t ms → IsNext r from to old new kept (take held buffer) t ms
-payload-answer (Ok (Some e)) from to old new kept buffer t ms held p size h =
-    subst (λ x. IsNextEvent e from to old new kept x t ms) (payload-kept old.place e.kind kept buffer p h.due ∙ ap (λ n. take n buffer) (sym size)) h
-payload-answer (Ok None) from to old new kept buffer t ms held p size h = absurd (subst IsInPayload h.complete.0 p)
-payload-answer (Err f) from to old new kept buffer t ms held p size h = h
+pub payload-answer : (r : Result (Option Event) Refusal) (from to : Option (List ℕ)) (old new : MachineView) (kept buffer t : List ℕ) (ms : List Mark) (held : ℕ) → IsShown old → old.in_payload ≡ true → held ≡ piece_size r
+    → IsNext r (machine_call old new from to kept (piece_after r kept buffer) t ms) → IsNext r (machine_call old new from to kept (take held buffer) t ms)
+payload-answer (Ok (Some e)) from to old new kept buffer t ms held shown p size h =
+    subst (λ x. IsNextEvent e (machine_call old new from to kept x t ms)) (payload-kept old.in_payload e.kind kept buffer p h.due ∙ ap (λ n. take n buffer) (sym size)) h
+payload-answer (Ok None) from to old new kept buffer t ms held shown p size h =
+    absurd (no-payload-done old.inner.position (sym shown.in_payload ∙ p) (sym shown.complete ∙ h.complete.0))
+payload-answer (Err f) from to old new kept buffer t ms held shown p size h = refusal-as f _ (take held buffer) h
 
 -- ---- a machine that told an event had refused nothing
 

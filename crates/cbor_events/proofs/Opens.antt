@@ -13,7 +13,7 @@ use Rattle.cbor_head.specs.declared.major.Major.TheVariants.{Unsigned, Negative,
 use Rattle.cbor_head.specs.declared.width.Width.{Width}
 use Rattle.cbor_head.specs.declared.width.Width.TheVariants.{Direct, One, Two, Four, Eight, Indefinite}
 use Rattle.cbor_events.specs.Trace.{Mark, a_head, chunk_marks, trace}
-use Rattle.cbor_events.specs.Automaton.{Frame, counted, open_array, open_map, State, start, at_item, in_head, in_simple, in_payload, in_chunks, done, close, expect, payload, after, has_room, mark, refuses, tail, numbered_tail, take_byte, goes, tells, Outcome, refused, reached, telling, run}
+use Rattle.cbor_events.specs.inner.Automaton.{Frame, counted, indefinite_array, indefinite_map, State, start, at_item, in_head, in_simple, in_payload, in_chunks, done, close, expect, payload, after, has_room, mark, refuses, tail, numbered_tail, take_byte, goes, tells, Outcome, refused, reached, telling, run}
 use Rattle.cbor_events.specs.Open.{if_open, open_after, open_in, open_in_entries}
 use Rattle.cbor_events.proofs.Forward.{Starts, item_starts, chunk_starts, step, head-taken, string-taken, telling_all, forward, close-counted, room-above}
 use Rattle.cbor_events.proofs.Stands.{is_odd, not-not, double-even}
@@ -197,20 +197,20 @@ first-has d q fs c (suc t) e h = absurd (omega arith)
 
 abbrev array-leads : (d : ℕ) (fs : List Frame) → Leads d fs (0xff ∷ [])
 array-leads d fs = record {
-  due = λ ss. open_array;
-  here = λ ss. at_item (open_array ∷ fs);
+  due = λ ss. indefinite_array;
+  here = λ ss. at_item (indefinite_array ∷ fs);
   begins = λ s ss. refl;
   closes = λ ss. refl;
-  last = λ t h. first-has d (at_item (open_array ∷ fs)) (open_array ∷ fs) 0xff t refl h;
+  last = λ t h. first-has d (at_item (indefinite_array ∷ fs)) (indefinite_array ∷ fs) 0xff t refl h;
 }
 
 abbrev map-leads : (d : ℕ) (fs : List Frame) → Leads d fs (0xff ∷ [])
 map-leads d fs = record {
-  due = λ ss. open_map (not (is_odd (spellings_count ss)));
-  here = λ ss. at_item (open_map (is_odd (spellings_count ss)) ∷ fs);
+  due = λ ss. indefinite_map (not (is_odd (spellings_count ss)));
+  here = λ ss. at_item (indefinite_map (is_odd (spellings_count ss)) ∷ fs);
   begins = λ s ss. refl;
-  closes = λ ss. ap (λ due. at_item (open_map due ∷ fs)) (not-not (is_odd (spellings_count ss)));
-  last = λ t h. first-has d (at_item (open_map false ∷ fs)) (open_map false ∷ fs) 0xff t refl h;
+  closes = λ ss. ap (λ due. at_item (indefinite_map due ∷ fs)) (not-not (is_odd (spellings_count ss)));
+  last = λ t h. first-has d (at_item (indefinite_map false ∷ fs)) (indefinite_map false ∷ fs) 0xff t refl h;
 }
 
 -- ---- a map's keys and values as members
@@ -258,10 +258,10 @@ simple-has d fs n (suc t) s h = elim (cases_lt n 24) [
       (subst (λ (k : ℕ). Has (length fs) (run d (at_item fs) (take (suc k) (head Simple One n)))) (sym last) refl)
 ]
 
-chunked-has : (d : ℕ) (fs : List Frame) (m : Major) (cs : List Chunk) (first t : ℕ) → Starts d (in_chunks m fs) true m fs → ((more : List ℕ) → run d (at_item fs) (first ∷ more) ≡ telling (a_head m Indefinite 0) (run d (in_chunks m fs) more))
+indefinite_string-has : (d : ℕ) (fs : List Frame) (m : Major) (cs : List Chunk) (first t : ℕ) → Starts d (in_chunks m fs) true m fs → ((more : List ℕ) → run d (at_item fs) (first ∷ more) ≡ telling (a_head m Indefinite 0) (run d (in_chunks m fs) more))
     → AllByRecursion IsChunk cs → t < length (first ∷ (flat_map (chunk_bytes m) cs ++ 0xff ∷ [])) → Has (length fs) (run d (at_item fs) (take t (first ∷ (flat_map (chunk_bytes m) cs ++ 0xff ∷ []))))
-chunked-has d fs m cs first zero starts taken h l = refl
-chunked-has d fs m cs first (suc t) starts taken h l =
+indefinite_string-has d fs m cs first zero starts taken h l = refl
+indefinite_string-has d fs m cs first (suc t) starts taken h l =
     let rest = flat_map (chunk_bytes m) cs ++ 0xff ∷ [] in
     let less : t < length rest = omega arith in
     subst (λ (o : Outcome). Has (length fs) o) (sym (taken (take t rest))) (telling-has (length fs) (a_head m Indefinite 0) _ (chunks-has d m fs starts cs t h less))
@@ -286,13 +286,13 @@ mutual
   front (negative w n) = λ d fs t h b l. none-more (length fs) _ (head-has d (at_item fs) false Negative fs refl (item_starts d Negative fs (λ k. refl) refl) w n t h l)
   front (bytes w payload) = λ d fs t h b l. none-more (length fs) _ (string-has d (at_item fs) false Bytes fs refl (item_starts d Bytes fs (λ k. refl) refl) (λ n. refl) w payload t h.0 l)
   front (text w payload) = λ d fs t h b l. none-more (length fs) _ (string-has d (at_item fs) false Text fs refl (item_starts d Text fs (λ k. refl) refl) (λ n. refl) w payload t h.0 l)
-  front (byte_chunks cs) = λ d fs t h b l. none-more (length fs) _ (chunked-has d fs Bytes cs 0x5f t (chunk_starts d Bytes fs (λ k. refl) refl) (λ more. refl) h l)
-  front (text_chunks cs) = λ d fs t h b l. none-more (length fs) _ (chunked-has d fs Text cs 0x7f t (chunk_starts d Text fs (λ k. refl) refl) (λ more. refl) h l)
+  front (byte_chunks cs) = λ d fs t h b l. none-more (length fs) _ (indefinite_string-has d fs Bytes cs 0x5f t (chunk_starts d Bytes fs (λ k. refl) refl) (λ more. refl) h l)
+  front (text_chunks cs) = λ d fs t h b l. none-more (length fs) _ (indefinite_string-has d fs Text cs 0x7f t (chunk_starts d Text fs (λ k. refl) refl) (λ more. refl) h l)
   front (array Indefinite ss) = λ d fs t h b l.
-      container-has d fs (0x9f ∷ []) (spell_all ss ++ 0xff ∷ []) (spell (array Indefinite ss)) (a_head Array Indefinite 0) (at_item (open_array ∷ fs)) (open_in t 1 ss) t
+      container-has d fs (0x9f ∷ []) (spell_all ss ++ 0xff ∷ []) (spell (array Indefinite ss)) (a_head Array Indefinite 0) (at_item (indefinite_array ∷ fs)) (open_in t 1 ss) t
       (λ k. first-has d (at_item fs) fs 0x9f t refl k)
-      (λ more. step d (at_item fs) 0x9f (tells (a_head Array Indefinite 0) (at_item (open_array ∷ fs))) more
-      (ap (λ b. cond b (tells (a_head Array Indefinite 0) (at_item (open_array ∷ fs))) (refuses (initial_reason 0x9f))) (room-above d fs (depth_all ss) b)))
+      (λ more. step d (at_item fs) 0x9f (tells (a_head Array Indefinite 0) (at_item (indefinite_array ∷ fs))) more
+      (ap (λ b. cond b (tells (a_head Array Indefinite 0) (at_item (indefinite_array ∷ fs))) (refuses (initial_reason 0x9f))) (room-above d fs (depth_all ss) b)))
       (λ k less. members-has d fs (0xff ∷ []) (array-leads d fs) ss (fronts ss) h.1 (deeper (depth_all ss) (length fs) d b) t 1 k less)
       refl l
   front (array w ss) = λ d fs t h b l.
@@ -302,11 +302,11 @@ mutual
       let deep = members-depth es in
       let even = ap is_odd (members-count es) ∙ double-even (entries_count es) in
       subst (λ (n : ℕ). Has (length fs + if_open t 1 (length (spell (a_map Indefinite es))) n) (run d (at_item fs) (take t (spell (a_map Indefinite es))))) (members-open t 1 es)
-      (container-has d fs (0xbf ∷ []) (spell_all (members es) ++ 0xff ∷ []) (spell (a_map Indefinite es)) (a_head Map Indefinite 0) (at_item (open_map (is_odd (spellings_count (members es))) ∷ fs)) (open_in t 1 (members es)) t
+      (container-has d fs (0xbf ∷ []) (spell_all (members es) ++ 0xff ∷ []) (spell (a_map Indefinite es)) (a_head Map Indefinite 0) (at_item (indefinite_map (is_odd (spellings_count (members es))) ∷ fs)) (open_in t 1 (members es)) t
       (λ k. first-has d (at_item fs) fs 0xbf t refl k)
-      (λ more. step d (at_item fs) 0xbf (tells (a_head Map Indefinite 0) (at_item (open_map false ∷ fs))) more
-      (ap (λ b. cond b (tells (a_head Map Indefinite 0) (at_item (open_map false ∷ fs))) (refuses (initial_reason 0xbf))) (room-above d fs (depth_entries es) b))
-      ∙ ap (λ due. telling (a_head Map Indefinite 0) (run d (at_item (open_map due ∷ fs)) more)) (sym even))
+      (λ more. step d (at_item fs) 0xbf (tells (a_head Map Indefinite 0) (at_item (indefinite_map false ∷ fs))) more
+      (ap (λ b. cond b (tells (a_head Map Indefinite 0) (at_item (indefinite_map false ∷ fs))) (refuses (initial_reason 0xbf))) (room-above d fs (depth_entries es) b))
+      ∙ ap (λ due. telling (a_head Map Indefinite 0) (run d (at_item (indefinite_map due ∷ fs)) more)) (sym even))
       (λ k less. members-has d fs (0xff ∷ []) (map-leads d fs) (members es) (fronts-entries es) (members-spelled es h.1) (omega (arith, deep, deeper (depth_entries es) (length fs) d b)) t 1 k less)
       (ap (λ xs. 0xbf ∷ (xs ++ 0xff ∷ [])) (sym (members-bytes es))) l)
   front (a_map w es) = λ d fs t h b l.

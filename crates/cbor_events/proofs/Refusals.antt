@@ -4,7 +4,7 @@ use Rattle.cbor_head.specs.Beginning.{IsBeginning, MayFollow}
 use Rattle.cbor_head.specs.Value.{AreBytes}
 use Rattle.cbor_head.specs.Verdict.{BreaksForm, initial_reason}
 use Rattle.cbor_events.specs.Trace.{Mark}
-use Rattle.cbor_events.specs.Automaton.{start, Frame, counted, open_array, open_map, State, at_item, in_head, in_simple, in_payload, in_chunks, done, Opening, direct, long, chunked, unbounded, long_simple, breaks, bad, Next, refuses, goes, tells, opening, has_room, break_at, begin, is_major, in_string, take_byte, Outcome, refused, reached, telling, and_then, run}
+use Rattle.cbor_events.specs.inner.Automaton.{start, Frame, counted, indefinite_array, indefinite_map, State, at_item, in_head, in_simple, in_payload, in_chunks, done, Opening, direct, long, indefinite_string, indefinite_container, long_simple, breaks, bad, Next, refuses, goes, tells, opening, has_room, break_at, begin, is_major, in_string, take_byte, Outcome, refused, reached, telling, and_then, run}
 use Rattle.cbor_head.specs.declared.major.Major.{Major}
 use Rattle.cbor_head.specs.declared.major.Major.TheVariants.{Unsigned, Negative, Bytes, Text}
 use Rattle.cbor_head.specs.declared.reason.Reason.{Reason}
@@ -56,15 +56,15 @@ guard-reason false next a r t e = cc
 break-reason : (fs : List Frame) (c : ℕ) (r : Reason) → break_at fs c ≡ refuses r → r ≡ initial_reason c
 break-reason [] c r e = cc
 break-reason (counted n ∷ fs) c r e = cc
-break-reason (open_map true ∷ fs) c r e = cc
-break-reason (open_array ∷ fs) c r e = absurd (cc)
-break-reason (open_map false ∷ fs) c r e = absurd (cc)
+break-reason (indefinite_map true ∷ fs) c r e = cc
+break-reason (indefinite_array ∷ fs) c r e = absurd (cc)
+break-reason (indefinite_map false ∷ fs) c r e = absurd (cc)
 
 begin-reason : (d : ℕ) (fs : List Frame) (c : ℕ) (o : Opening) (r : Reason) → begin d fs c o ≡ refuses r → r ≡ initial_reason c
 begin-reason d fs c (direct m n) r e = guard-reason (has_room d fs m) _ _ r tt e
 begin-reason d fs c (long m w) r e = guard-reason (has_room d fs m) _ _ r tt e
-begin-reason d fs c (chunked m) r e = absurd (cc)
-begin-reason d fs c (unbounded m f) r e = guard-reason (has_room d fs m) _ _ r tt e
+begin-reason d fs c (indefinite_string m) r e = absurd (cc)
+begin-reason d fs c (indefinite_container m f) r e = guard-reason (has_room d fs m) _ _ r tt e
 begin-reason d fs c long_simple r e = absurd (cc)
 begin-reason d fs c breaks r e = break-reason fs c r e
 begin-reason d fs c bad r e = cc
@@ -72,8 +72,8 @@ begin-reason d fs c bad r e = cc
 string-reason : (m : Major) (fs : List Frame) (o : Opening) (r : Reason) → in_string m fs o ≡ refuses r → r ≡ BadChunk
 string-reason m fs (direct n x) r e = guard-reason (is_major m n) _ _ r tt e
 string-reason m fs (long n w) r e = guard-reason (is_major m n) _ _ r tt e
-string-reason m fs (chunked n) r e = cc
-string-reason m fs (unbounded n f) r e = cc
+string-reason m fs (indefinite_string n) r e = cc
+string-reason m fs (indefinite_container n f) r e = cc
 string-reason m fs long_simple r e = cc
 string-reason m fs breaks r e = absurd (cc)
 string-reason m fs bad r e = cc

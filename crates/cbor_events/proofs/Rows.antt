@@ -9,16 +9,16 @@ use Rattle.cbor_head.specs.declared.major.Major.{Major}
 use Rattle.cbor_head.specs.declared.major.Major.TheVariants as majors
 use Rattle.cbor_head.specs.declared.width.Width.{Width}
 use Rattle.cbor_head.specs.declared.width.Width.TheVariants.{Direct, One, Two, Four, Eight, Indefinite}
-use Rattle.cbor_events.specs.Trace.{Mark, a_head, a_chunk, a_byte, an_end, size, total, payload_marks, chunk_marks, opener, end_marks, trace, trace_all, trace_entries}
-use Rattle.cbor_events.specs.State.{marks_of, IsProper, IsDefinite}
-use Rattle.cbor_events.specs.Event.{event, count_at, payload_events, chunks_events, end_events, events, events_in, events_in_entries, marks_in, event_size, IsRow}
+use Rattle.cbor_events.specs.Trace.{Mark, a_head, a_chunk, a_byte, a_break, size, total, payload_marks, chunk_marks, opener, break_marks, trace, trace_all, trace_entries}
+use Rattle.cbor_events.specs.Marks.{marks_of, IsProper, IsDefinite}
+use Rattle.cbor_events.specs.Event.{event, count_at, payload_events, chunks_events, break_events, events, events_in, events_in_entries, marks_in, event_size, IsRow}
 use Rattle.cbor_events.specs.declared.event.Event.{Event}
 use Rattle.cbor_events.specs.declared.event.EventKind.{EventKind}
 use Rattle.cbor_events.specs.declared.event.EventKind.TheVariants.{Unsigned, Negative, Simple, Bytes, Text, Chunk as ChunkHead, Array, Map, Tag, End}
 use Rattle.cbor_events.proofs.Tiling.{head-size}
 use Rattle.cbor_events.proofs.Joining.{IsSingle, IsFresh, AreApart}
 
-total-append : (ms ns : List Mark) → total (ms ++ ns) ≡ total ms + total ns
+pub total-append : (ms ns : List Mark) → total (ms ++ ns) ≡ total ms + total ns
 total-append [] ns = omega arith
 total-append (m ∷ ms) ns = let e = total-append ms ns in omega (arith, e)
 
@@ -104,8 +104,8 @@ map-head at Four n = one at Four (Map (Some n)) (a_head majors.Map Four n) _ tt 
 map-head at Eight n = one at Eight (Map (Some n)) (a_head majors.Map Eight n) _ tt tt refl refl
 map-head at Indefinite n = one at Indefinite (Map None) (a_head majors.Map Indefinite 0) _ tt refl refl refl
 
-end-row : (at : ℕ) (w : Width) → Row at (end_events at w) (end_marks w) (length (closer w))
-end-row at Indefinite = one at Indefinite End an_end 1 tt refl refl refl
+end-row : (at : ℕ) (w : Width) → Row at (break_events at w) (break_marks w) (length (closer w))
+end-row at Indefinite = one at Indefinite End a_break 1 tt refl refl refl
 end-row at Direct = none at
 end-row at One = none at
 end-row at Two = none at
@@ -152,14 +152,14 @@ chunks-row at major (c ∷ cs) h =
     (append at _ _ _ _ _ _ (chunk-row at major c h.0) (chunks-row (at + length (chunk_bytes major c)) major cs h.1))
 
 -- an indefinite string, whose opener is one byte
-chunked-row : (at : ℕ) (major : Major) (kind : EventKind) (m : Mark) (first : ℕ) (cs : List Chunk) → IsSingle kind → IsProper Indefinite kind → marks_of Indefinite kind ≡ m ∷ [] → size m ≡ 1 → AllByRecursion IsChunk cs
-    → Row at (event at Indefinite kind ∷ (chunks_events (at + 1) major cs ++ event (at + 1 + length (flat_map (chunk_bytes major) cs)) Indefinite End ∷ [])) (m ∷ (flat_map chunk_marks cs ++ an_end ∷ []))
+indefinite_string-row : (at : ℕ) (major : Major) (kind : EventKind) (m : Mark) (first : ℕ) (cs : List Chunk) → IsSingle kind → IsProper Indefinite kind → marks_of Indefinite kind ≡ m ∷ [] → size m ≡ 1 → AllByRecursion IsChunk cs
+    → Row at (event at Indefinite kind ∷ (chunks_events (at + 1) major cs ++ event (at + 1 + length (flat_map (chunk_bytes major) cs)) Indefinite End ∷ [])) (m ∷ (flat_map chunk_marks cs ++ a_break ∷ []))
     (length (first ∷ (flat_map (chunk_bytes major) cs ++ 0xff ∷ [])))
-chunked-row at major kind m first cs s p e l h =
+indefinite_string-row at major kind m first cs s p e l h =
     let k = length (flat_map (chunk_bytes major) cs) in
     sized at (1 + (k + 1)) _ _ _ (omega (arith, length-append (flat_map (chunk_bytes major) cs) (0xff ∷ [])))
     (append at 1 (k + 1) _ _ _ _ (one at Indefinite kind m 1 s p e l)
-    (append (at + 1) k 1 _ _ _ _ (chunks-row (at + 1) major cs h) (one (at + 1 + k) Indefinite End an_end 1 tt refl refl refl)))
+    (append (at + 1) k 1 _ _ _ _ (chunks-row (at + 1) major cs h) (one (at + 1 + k) Indefinite End a_break 1 tt refl refl refl)))
 
 -- ---- items
 
@@ -188,8 +188,8 @@ mutual
       let n = length payload in
       sized at (length (head majors.Text w n) + n) _ _ _ (sym (length-append (head majors.Text w n) payload))
       (string-row at w (Text (Some n)) (a_head majors.Text w n) _ payload tt (definite w n h.0) refl (sym (head-size majors.Text w n)))
-  events-row at (byte_chunks cs) h = chunked-row at majors.Bytes (Bytes None) (a_head majors.Bytes Indefinite 0) 0x5f cs tt refl refl refl h
-  events-row at (text_chunks cs) h = chunked-row at majors.Text (Text None) (a_head majors.Text Indefinite 0) 0x7f cs tt refl refl refl h
+  events-row at (byte_chunks cs) h = indefinite_string-row at majors.Bytes (Bytes None) (a_head majors.Bytes Indefinite 0) 0x5f cs tt refl refl refl h
+  events-row at (text_chunks cs) h = indefinite_string-row at majors.Text (Text None) (a_head majors.Text Indefinite 0) 0x7f cs tt refl refl refl h
   events-row at (array w ss) h =
       let hd = head majors.Array w (spellings_count ss) in
       let n = length hd in

@@ -3,9 +3,9 @@ use Rattle.std.proofs.Common.{◌≡◌, ℕ, zero, suc, ◌+◌, ◌-◌, ◌�
 use Rattle.std.proofs.Math.Seq.{take-suc, take-append-add}
 use Rattle.cbor_head.specs.declared.major.Major.{Major}
 use Rattle.cbor_events.specs.Trace.{Mark, a_byte, size, total}
-use Rattle.cbor_events.specs.Automaton as automaton
-use Rattle.cbor_events.specs.Automaton.{payload, close_string, State, start, at_item, in_head, in_simple, in_payload, in_chunks, done, Next, refuses, goes, tells, take_byte, and_then, telling, run, reached}
-use Rattle.cbor_events.specs.State.{mark_of, marks_of, times}
+use Rattle.cbor_events.specs.inner.Automaton as automaton
+use Rattle.cbor_events.specs.inner.Automaton.{payload, close_string, State, start, at_item, in_head, in_simple, in_payload, in_chunks, done, Next, refuses, goes, tells, take_byte, and_then, telling, run, reached}
+use Rattle.cbor_events.specs.Marks.{mark_of, marks_of, times}
 use Rattle.cbor_events.specs.declared.event.EventKind.{EventKind}
 use Rattle.cbor_head.specs.declared.width.Width.{Width}
 use Rattle.cbor_events.proofs.Forward.{telling_all}

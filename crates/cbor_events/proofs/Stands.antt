@@ -5,7 +5,7 @@ use Rattle.std.specs.List.{AllByRecursion}
 use Rattle.cbor_head.specs.Value.{AreBytes}
 use Rattle.cbor_head.specs.Head.{Holds, head}
 use Rattle.cbor_head.specs.Spelling.{Chunk, IsChunk, Spelling, Spellings, SpelledEntries, unsigned, negative, bytes, text, array, a_map, tag, no_spellings, a_spelling, no_entries, entry, spellings_count, entries_count, spell, spell_all, spell_entries, chunk_bytes, closer, IsSpelled, AreSpelled, AreEntriesSpelled, HoldsOrOpen, depth, depth_all, depth_entries, IsItem}
-use Rattle.cbor_events.specs.Automaton.{Frame, counted, open_array, open_map, State, at_item, in_head, in_simple, in_payload, in_chunks, done, close, expect, close_string, payload, after, has_room}
+use Rattle.cbor_events.specs.inner.Automaton.{Frame, counted, indefinite_array, indefinite_map, State, at_item, in_head, in_simple, in_payload, in_chunks, done, close, expect, close_string, payload, after, has_room}
 use Rattle.cbor_head.specs.declared.major.Major.{Major}
 use Rattle.cbor_head.specs.declared.major.Major.TheVariants.{Unsigned, Negative, Bytes, Text, Array, Map, Tag, Simple}
 use Rattle.cbor_head.specs.declared.width.Width.{Width}
@@ -19,8 +19,8 @@ is_odd (suc n) = not (is_odd n)
 -- the members that may still come
 abbrev pub Rest : Frame → Spellings → Type 0
 Rest (counted n) ss = spellings_count ss ≡ suc n
-Rest open_array ss = Unit {0}
-Rest (open_map due) ss = is_odd (spellings_count ss) ≡ due
+Rest indefinite_array ss = Unit {0}
+Rest (indefinite_map due) ss = is_odd (spellings_count ss) ≡ due
 
 abbrev pub closing : Frame → List ℕ
 closing (counted n) = []
@@ -113,8 +113,8 @@ item-closes d (counted zero ∷ fs) p s o h b =
     along d (close fs) _ _ (whole.bytes_are ∙ append-nil (p ++ (spell s ++ [])) ∙ ap (λ xs. p ++ xs) (append-nil (spell s)))
     (item-closes d fs o.0 whole.item o.1 whole.spelled whole.fits)
 item-closes d (counted (suc n) ∷ fs) p s o h b = member d fs (counted (suc n)) (counted n) p s (λ ss r. ap suc r) refl o h b
-item-closes d (open_array ∷ fs) p s o h b = member d fs open_array open_array p s (λ ss r. tt) refl o h b
-item-closes d (open_map due ∷ fs) p s o h b = member d fs (open_map due) (open_map (not due)) p s (λ ss r. ap not r ∙ not-not due) refl o h b
+item-closes d (indefinite_array ∷ fs) p s o h b = member d fs indefinite_array indefinite_array p s (λ ss r. tt) refl o h b
+item-closes d (indefinite_map due ∷ fs) p s o h b = member d fs (indefinite_map due) (indefinite_map (not due)) p s (λ ss r. ap not r ∙ not-not due) refl o h b
 
 -- so many members are due of a container that began behind pre
 pub members-due : (d : ℕ) (fs : List Frame) (pre p : List ℕ) (n : ℕ) → Opened d fs pre

@@ -5,8 +5,8 @@ use Rattle.std.specs.Int.{bytes_high_first}
 use Rattle.cbor_head.specs.Head.{Holds, IsSimple, head, major_number, shortest}
 use Rattle.cbor_head.specs.Value.{AreBytes}
 use Rattle.cbor_events.specs.Trace.{Mark, a_head, a_byte, more_bytes, payload_marks}
-use Rattle.cbor_events.specs.Automaton.{Frame, counted, open_array, open_map, State, at_item, in_head, in_simple, in_payload, in_chunks, done, Opening, long, Next, refuses, goes, tells, numbered_tail, simple_tail, tail, without_length, opening_of, opening, payload, after, has_room, break_at, begin, is_major, in_string, take_byte, Outcome, refused, reached, telling, and_then, run}
-use Rattle.cbor_events.specs.Taking.{Follows, IsTaking}
+use Rattle.cbor_events.specs.inner.Automaton.{Frame, counted, indefinite_array, indefinite_map, State, at_item, in_head, in_simple, in_payload, in_chunks, done, Opening, long, Next, refuses, goes, tells, numbered_tail, simple_tail, tail, indefinite_length, opening_of, opening, payload, after, has_room, break_at, begin, is_major, in_string, take_byte, Outcome, refused, reached, telling, and_then, run}
+use Rattle.cbor_events.specs.inner.Taking.{Follows, IsTaking}
 use Rattle.cbor_head.specs.declared.major.Major.{Major}
 use Rattle.cbor_head.specs.declared.major.Major.TheVariants.{Unsigned, Negative, Bytes, Text, Array, Map, Tag, Simple}
 use Rattle.cbor_head.specs.declared.width.Width.{Width}
@@ -92,7 +92,7 @@ item-long d fs m w k c i made holds e = (refl, i, e, long-head m w k c made hold
 abbrev IsTakingFirst : ℕ → List Frame → ℕ → Opening → Type 0
 IsTakingFirst d fs c o = IsTakingNext d (at_item fs) (begin d fs c o) (c ∷ [])
 
-open-taken : (d : ℕ) (fs : List Frame) (m : Major) → IsTakingFirst d fs (32 * major_number m + 31) (without_length m)
+open-taken : (d : ℕ) (fs : List Frame) (m : Major) → IsTakingFirst d fs (32 * major_number m + 31) (indefinite_length m)
 open-taken d fs Bytes = ((refl, refl, refl), tt)
 open-taken d fs Text = ((refl, refl, refl), tt)
 open-taken d fs Array = guarded d _ _ (nat_lt (length fs) d) _ _ (λ e. ((refl, refl, (room d fs e, refl)), tt))
@@ -110,9 +110,9 @@ numbered-taken d fs m _ i = tt
 break-taken : (d : ℕ) (fs : List Frame) → IsTakingNext d (at_item fs) (break_at fs 0xff) (0xff ∷ [])
 break-taken d [] = tt
 break-taken d (counted n ∷ fs) = tt
-break-taken d (open_map true ∷ fs) = tt
-break-taken d (open_array ∷ fs) = ((refl, refl), close-clear fs)
-break-taken d (open_map false ∷ fs) = ((refl, refl), close-clear fs)
+break-taken d (indefinite_map true ∷ fs) = tt
+break-taken d (indefinite_array ∷ fs) = ((refl, refl), close-clear fs)
+break-taken d (indefinite_map false ∷ fs) = ((refl, refl), close-clear fs)
 
 simple-taken : (d : ℕ) (fs : List Frame) (k : ℕ) → IsTakingFirst d fs (32 * 7 + (24 + k)) (simple_tail k)
 simple-taken d fs zero = (refl, refl)
@@ -152,7 +152,7 @@ chunk-long : (d : ℕ) (m n : Major) (w : Width) (k : ℕ) (fs : List Frame) (mo
 chunk-long d m n w k fs more made holds is =
     rw is (guarded d _ _ (is_major m n) _ _ (λ e. (refl, long-head m w k _ (λ x. ap (λ j. head j w x) (is_major-same m n e) ∙ made x) holds)))
 
-without-taken : (d : ℕ) (m n : Major) (fs : List Frame) → IsTakingChunk d m fs (32 * major_number n + 31) (without_length n)
+without-taken : (d : ℕ) (m n : Major) (fs : List Frame) → IsTakingChunk d m fs (32 * major_number n + 31) (indefinite_length n)
 without-taken d m Bytes fs = tt
 without-taken d m Text fs = tt
 without-taken d m Array fs = tt

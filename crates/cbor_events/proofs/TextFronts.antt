@@ -12,7 +12,7 @@ use Rattle.simdutf8.proofs.Parts.{valid_after}
 use Rattle.std.proofs.lemmas.List.{take_rest}
 use lib.Utf8.{encode, encodes, scalars}
 use lib.Seq.{take-append-le, take-append-add, take-append_seam, drop-append_seam, take-take, take-add}
-use Rattle.cbor_events.specs.TextCheck.{IsUnfinished, IsFixed, IsOpen}
+use Rattle.cbor_events.specs.inner.TextCheck.{IsUnfinished, IsFixed, IsOpen}
 
 -- ---- bytes that begin a character, and end before it does
 

@@ -1,14 +1,18 @@
 -- The events of a machine, joined, are those of the item that end within what it took.
-use Rattle.std.proofs.Common.{◌≡◌, ℕ, ◌+◌, List, [], ◌∷◌, ◌++◌, length, refl, sym, ap, ◌∙◌, arith, append-nil}
+use Rattle.std.proofs.Common.{◌≡◌, ℕ, ◌+◌, List, [], ◌∷◌, ◌++◌, ◌≤◌, cond, length, drop, refl, sym, ap, ◌∙◌, subst, arith, append-nil}
 use Rattle.std.proofs.lemmas.Grind.{flat_map-append}
 use Rattle.cbor_head.specs.Spelling.{Spelling, IsItem}
 use Rattle.cbor_events.specs.Trace.{Mark, total, within}
-use Rattle.cbor_events.specs.State.{marks_of}
-use Rattle.cbor_events.specs.Event.{events, marks_in, joined, cut, AreTold}
-use Rattle.cbor_events.specs.Machine.{MachineView, StandsFor, IsGiven}
+use Rattle.cbor_events.specs.Marks.{marks_of}
+use Rattle.cbor_events.specs.Event.{events, marks_in, event_size, front_of, joined, cut, IsRow, AreTold}
+use Rattle.cbor_events.specs.MachineView.{MachineView}
+use Rattle.cbor_events.specs.Machine.{StandsFor, IsWhole, IsGiven}
+use Rattle.cbor_events.specs.ItemEvents.{Call, StandsBetween, IsNextEvent, IsEnd}
+use Rattle.cbor_events.specs.Bytes.{IsEventBytes}
+use Rattle.cbor_events.proofs.Events.{le-leb}
 use Rattle.cbor_events.specs.declared.event.Event.{Event}
 use Rattle.cbor_events.proofs.Joining.{rejoin, joined-rejoin, cut-rejoin}
-use Rattle.cbor_events.proofs.Rows.{row-append, events-row}
+use Rattle.cbor_events.proofs.Rows.{total-append, row-append, events-row}
 
 pub told-none : AreTold [] []
 told-none = record { row = tt; marks = refl }
@@ -31,3 +35,36 @@ told-joined m t ms es h told s rest i =
     ∙ ap (rejoin 0) (told.marks ∙ h.told s rest i ∙ ap (within (length t)) (sym row.marks))
     ∙ cut-rejoin (events 0 s) 0 (length t) row.row row.apart
     ∙ ap (λ k. cut k (events 0 s)) here
+
+drop-front : (t bs : List ℕ) → drop (length t) (t ++ bs) ≡ bs
+drop-front [] bs = refl
+drop-front (c ∷ t) bs = drop-front t bs
+
+pub next-more : (c : Call) (es : List Event) (e : Event) → AreTold es c.told → StandsBetween c.old c.taken c.told → IsNextEvent e c → AreTold (es ++ e ∷ []) (c.told ++ marks_of e.width e.kind)
+next-more c es e told between h =
+    let at : e.place ≡ total c.told = h.place ∙ sym between.whole in
+    let bytes : IsEventBytes c.told e.width e.kind (drop e.place (c.taken ++ h.bytes)) =
+    subst (λ (bs : List ℕ). IsEventBytes c.told e.width e.kind bs) (sym (ap (λ k. drop k (c.taken ++ h.bytes)) h.place ∙ drop-front c.taken h.bytes)) h.are in
+    told-more es c.told e c.new c.taken h.bytes told (record { stands = h.stands.stands; place = at; ends = h.stands.whole; bytes = bytes })
+
+-- events that end within n bytes are all there
+cut-all : (es : List Event) (at n : ℕ) → IsRow at es → at + total (marks_in es) ≤ n → cut n es ≡ es
+cut-all [] at n h le = refl
+cut-all (e ∷ es) at n h le =
+    let sum = total-append (marks_of e.width e.kind) (marks_in es) in
+    let here = h.0 in
+    let ends : e.place + event_size e ≤ n = omega (arith, sum, here) in
+    let rest : at + event_size e + total (marks_in es) ≤ n = omega (arith, sum) in
+    ap (λ b. cond b (e ∷ cut n es) (front_of n e.kind e)) (le-leb (e.place + event_size e) n ends) ∙ ap (λ fs. e ∷ fs) (cut-all es (at + event_size e) n h.2 rest)
+
+pub next-all : (c : Call) (es : List Event) → AreTold es c.told → StandsBetween c.old c.taken c.told → IsEnd c → (s : Spelling) × IsItem c.old.depth s c.taken × (joined es ≡ events 0 s)
+next-all c es told between end =
+    let t = c.taken in
+    let whole : IsWhole c.old.depth t = between.stands.complete.0 end.complete in
+    let s = whole.0 in
+    let i = whole.1 in
+    let all : IsItem c.old.depth s (t ++ []) = subst (λ (bs : List ℕ). IsItem c.old.depth s bs) (sym (append-nil t)) i in
+    let row = events-row 0 s i.spelled in
+    let size : total (marks_in (events 0 s)) ≡ length t = ap total row.marks ∙ row.bytes ∙ ap length i.bytes_are in
+    let fits : 0 + total (marks_in (events 0 s)) ≤ length t = omega (arith, size) in
+    (s, i, told-joined c.old t c.told es between.stands told s [] all ∙ cut-all (events 0 s) 0 (length t) row.row fits)

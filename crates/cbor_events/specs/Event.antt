@@ -7,7 +7,7 @@ use Rattle.cbor_head.specs.declared.major.Major.TheVariants as majors
 use Rattle.cbor_head.specs.declared.width.Width.{Width}
 use Rattle.cbor_head.specs.declared.width.Width.TheVariants.{Direct, Indefinite}
 use Rattle.cbor_events.specs.Trace.{Mark, total}
-use Rattle.cbor_events.specs.State.{marks_of, IsProper}
+use Rattle.cbor_events.specs.Marks.{marks_of, IsProper}
 use Rattle.cbor_events.specs.declared.event.Event.{Event}
 use Rattle.cbor_events.specs.declared.event.EventKind.{EventKind}
 use Rattle.cbor_events.specs.declared.event.EventKind.TheVariants.{Unsigned, Negative, Simple, Bytes, Text, Chunk as ChunkHead, Piece, Array, Map, Tag, End}
@@ -39,9 +39,9 @@ chunked_events at major kind cs =
     event at Indefinite kind ∷ (chunks_events (at + 1) major cs ++ event (at + 1 + length (flat_map (chunk_bytes major) cs)) Indefinite End ∷ [])
 
 -- the break
-abbrev pub end_events : ℕ → Width → List Event
-end_events at Indefinite = event at Indefinite End ∷ []
-end_events at _ = []
+abbrev pub break_events : ℕ → Width → List Event
+break_events at Indefinite = event at Indefinite End ∷ []
+break_events at _ = []
 
 -- the events of an item that begins at this place
 abbrev mutual
@@ -54,10 +54,10 @@ abbrev mutual
   events at (text_chunks cs) = chunked_events at majors.Text (Text None) cs
   events at (array w ss) =
       event at w (Array (count_at w (spellings_count ss))) ∷ (events_in (at + length (head majors.Array w (spellings_count ss))) ss
-      ++ end_events (at + length (head majors.Array w (spellings_count ss)) + length (spell_all ss)) w)
+      ++ break_events (at + length (head majors.Array w (spellings_count ss)) + length (spell_all ss)) w)
   events at (a_map w es) =
       event at w (Map (count_at w (entries_count es))) ∷ (events_in_entries (at + length (head majors.Map w (entries_count es))) es
-      ++ end_events (at + length (head majors.Map w (entries_count es)) + length (spell_entries es)) w)
+      ++ break_events (at + length (head majors.Map w (entries_count es)) + length (spell_entries es)) w)
   events at (tag w n s) = event at w (Tag n) ∷ events (at + length (head majors.Tag w n)) s
   events at (simple n) = event at (shortest n) (Simple n) ∷ []
 

@@ -1,6 +1,6 @@
 -- What is told of an item, as events.
 use Rattle.std.specs.Prelude.{◌≡◌, ℕ, Some, None}
-use Rattle.cbor_events.specs.State.{count_of}
+use Rattle.cbor_events.specs.Marks.{count_of}
 use Rattle.cbor_events.specs.declared.event.EventKind.{EventKind}
 use Rattle.cbor_events.specs.declared.event.EventKind.TheVariants as kinds
 use Rattle.cbor_events.specs.declared.token.Token.{Token}

@@ -16,7 +16,7 @@ pub data Mark : Type 0 where
   -- a byte of a payload
   a_byte : Mark
   -- a break
-  an_end : Mark
+  a_break : Mark
 
 -- how many bytes of an argument stand behind the first
 abbrev pub more_bytes : Width → ℕ
@@ -31,7 +31,7 @@ abbrev pub size : Mark → ℕ
 size (a_head major w n) = suc (more_bytes w)
 size (a_chunk w n) = suc (more_bytes w)
 size a_byte = 1
-size an_end = 1
+size a_break = 1
 
 -- The bytes that marks stand for. The marks of an item tile its bytes, so the next one begins there.
 abbrev pub total : List Mark → ℕ
@@ -53,9 +53,9 @@ opener major Indefinite n = a_head major Indefinite 0
 opener major w n = a_head major w n
 
 -- the break, where there is no length
-abbrev pub end_marks : Width → List Mark
-end_marks Indefinite = an_end ∷ []
-end_marks _ = []
+abbrev pub break_marks : Width → List Mark
+break_marks Indefinite = a_break ∷ []
+break_marks _ = []
 
 -- the marks of an item, in the order of its bytes
 abbrev mutual
@@ -64,10 +64,10 @@ abbrev mutual
   trace (negative w n) = a_head Negative w n ∷ []
   trace (bytes w payload) = a_head Bytes w (length payload) ∷ payload_marks payload
   trace (text w payload) = a_head Text w (length payload) ∷ payload_marks payload
-  trace (byte_chunks cs) = a_head Bytes Indefinite 0 ∷ flat_map chunk_marks cs ++ an_end ∷ []
-  trace (text_chunks cs) = a_head Text Indefinite 0 ∷ flat_map chunk_marks cs ++ an_end ∷ []
-  trace (array w ss) = opener Array w (spellings_count ss) ∷ trace_all ss ++ end_marks w
-  trace (a_map w es) = opener Map w (entries_count es) ∷ trace_entries es ++ end_marks w
+  trace (byte_chunks cs) = a_head Bytes Indefinite 0 ∷ flat_map chunk_marks cs ++ a_break ∷ []
+  trace (text_chunks cs) = a_head Text Indefinite 0 ∷ flat_map chunk_marks cs ++ a_break ∷ []
+  trace (array w ss) = opener Array w (spellings_count ss) ∷ trace_all ss ++ break_marks w
+  trace (a_map w es) = opener Map w (entries_count es) ∷ trace_entries es ++ break_marks w
   trace (tag w n s) = a_head Tag w n ∷ trace s
   trace (simple n) = a_head Simple (shortest n) n ∷ []
 

@@ -2,9 +2,10 @@
 
 ghost use Rattle.std.specs.Prelude.{◌≡◌, ◌≤◌, ℕ, List, [], length, None, Some, OnOk, OnErr, IfErr, IfSome, Err};
 ghost use Rattle.cbor_events.specs.Trace.{Mark};
-ghost use Rattle.cbor_events.specs.State.{IsProper};
-ghost use Rattle.cbor_events.specs.Machine.{open_count};
-ghost use Rattle.cbor_events.specs.ItemEvents.{StandsBetween, IfTold, IsNext};
+ghost use Rattle.cbor_events.specs.Marks.{IsProper};
+ghost use Rattle.cbor_events.specs.Reasons.{IsEventReason};
+ghost use Rattle.cbor_events.specs.Machine.{KeepsLimits, IsIdle};
+ghost use Rattle.cbor_events.specs.ItemEvents.{StandsBetween, IfTold, IsNext, call};
 ghost use Rattle.cbor_events.specs.EventReader.{EventReaderView};
 
 use crate::event::Event;
@@ -42,23 +43,27 @@ impl<R: Read> EventReader<R> {
         }
     }
 
-    /// The next event, with its bytes read; none once the item is complete, and then nothing is read.
+    /// The next event, with its bytes read; none once the item is complete, and then nothing is
+    /// read.
     ///
     /// What is read, and when, is said at [`ItemEvents::next`].
     pub fn next(&mut self) -> Result<Option<Event>, Refusal>
         // For all bytes and marks that the machine stood for, as long as nothing was refused.
         ensures answers { self.old.events.refusal ≡ None
             → (t : List ℕ) (ms : List Mark) → StandsBetween self.old.events.machine t ms
-            → IsNext result (R.remaining self.old.reader) (R.remaining self.new.reader)
-            self.old.events.machine self.new.events.machine self.old.events.piece self.new.events.piece t ms }
-        ensures limits { (self.new.events.machine.depth ≡ self.old.events.machine.depth)
-            × (self.new.events.machine.bytes ≡ self.old.events.machine.bytes) }
+            → IsNext result (call self.old.events self.new.events
+            (R.remaining self.old.reader) (R.remaining self.new.reader) t ms) }
+        ensures limits { KeepsLimits self.old.events.machine self.new.events.machine }
         ensures proper { IfTold result (λ e. IsProper e.width e.kind) }
         ensures live { OnOk result (self.new.events.refusal ≡ None) }
-        ensures refused { IfErr result (λ f. self.new.events.refusal ≡ Some f) }
-        ensures taken { IfErr result (λ f. self.new.events.machine.taken ≡ f.read) }
+        ensures refused { IfErr result (λ f. (self.new.events.refusal ≡ Some f)
+            × (self.new.events.machine.taken ≡ f.read) × IsEventReason f.reason) }
         ensures emptied { OnErr result (self.new.events.piece ≡ []) }
-        ensures again { IfSome self.old.events.refusal (λ f. (result ≡ Err f) × (self.new ≡ self.old)) }
+
+        // Where nothing is wanted the reader is not touched, nor after a refusal.
+        ensures idle { IsIdle self.old.events.machine → self.new.reader ≡ self.old.reader }
+        ensures again { IfSome self.old.events.refusal
+            (λ f. (result ≡ Err f) × (self.new ≡ self.old)) }
     {
         self.events.next(&mut self.reader)
     }
@@ -73,7 +78,7 @@ impl<R: Read> EventReader<R> {
 
     /// How many arrays, maps and tags are open: from its head until its last member or its break.
     pub fn open(&self) -> usize
-        ensures count { result ≡ open_count self.now.events.machine }
+        ensures count { result ≡ self.now.events.machine.open_count }
         ensures within { result ≤ self.now.events.machine.depth }
     {
         self.events.open()

@@ -2,10 +2,10 @@
 
 ghost use Rattle.std.specs.Prelude.{◌≡◌, ◌≤◌};
 ghost use Rattle.arrayvec.specs.ArrayVec.{array_vec_len};
-ghost use Rattle.cbor_events.specs.Automaton as automaton;
-ghost use Rattle.cbor_events.specs.State.{frames_of, state_of, IsSettled};
+ghost use Rattle.cbor_events.specs.inner.Automaton as automaton;
+ghost use Rattle.cbor_events.specs.inner.State.{frames_of, state_of, IsSettled};
 
-use crate::place::Place;
+use crate::position::Position;
 use arrayvec::ArrayVec;
 
 /// The open containers, the innermost last.
@@ -18,21 +18,22 @@ pub enum Frame {
     Array(u64),
     /// Any number of members.
     #[default]
-    OpenArray,
+    IndefiniteArray,
     /// So many pairs after the one that is due, and whether its value is due.
     ///
     /// The members are never counted one by one: twice the pairs may not fit.
     Map(u64, bool),
     /// Any number of pairs after the one that is due, and whether its value is due.
-    OpenMap(bool),
+    IndefiniteMap(bool),
     /// Nothing: a tag has one content item.
     Tag,
 }
 
 /// An item is complete: with it the containers whose last member it was.
-pub fn close(frames: &mut Frames) -> Place
+pub fn close(frames: &mut Frames) -> Position
     requires { array_vec_len frames.old ≤ 256 }
-    ensures state { state_of result frames.new.items ≡ automaton.close (frames_of frames.old.items) }
+    ensures state { state_of result frames.new.items
+        ≡ automaton.close (frames_of frames.old.items) }
     ensures fewer { array_vec_len frames.new ≤ array_vec_len frames.old }
     ensures settled { IsSettled frames.new.items result }
 {
@@ -41,25 +42,25 @@ pub fn close(frames: &mut Frames) -> Place
             Frame::Array(0) | Frame::Map(0, true) | Frame::Tag => {}
             Frame::Array(n) => {
                 frames.push(Frame::Array(n - 1));
-                return Place::Item;
+                return Position::Item;
             }
             Frame::Map(n, true) => {
                 frames.push(Frame::Map(n - 1, false));
-                return Place::Item;
+                return Position::Item;
             }
             Frame::Map(n, false) => {
                 frames.push(Frame::Map(n, true));
-                return Place::Item;
+                return Position::Item;
             }
-            Frame::OpenArray => {
-                frames.push(Frame::OpenArray);
-                return Place::Item;
+            Frame::IndefiniteArray => {
+                frames.push(Frame::IndefiniteArray);
+                return Position::Item;
             }
-            Frame::OpenMap(due) => {
-                frames.push(Frame::OpenMap(!due));
-                return Place::Item;
+            Frame::IndefiniteMap(due) => {
+                frames.push(Frame::IndefiniteMap(!due));
+                return Position::Item;
             }
         }
     }
-    Place::Done
+    Position::Done
 }

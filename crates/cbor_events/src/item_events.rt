@@ -1,14 +1,17 @@
 //! The events of one item, from a reader that each call is handed.
 
-ghost use Rattle.std.specs.Prelude.{◌≡◌, ◌↔◌, ◌≤◌, ◌<◌, ◌+◌, ℕ, List, [], length, take, None, Some, IsTrue, OnOk, OnErr, IfErr, IfSome, Err};
+ghost use Rattle.std.specs.Prelude.{◌≡◌, ◌≤◌, ◌<◌, ℕ, List, [], length, take, None, Some, OnOk, OnErr, IfErr, IfSome, Err};
 ghost use Rattle.cbor_head.specs.Value.{AreBytes};
+ghost use Rattle.cbor_head.specs.Verdict.{refusal};
 ghost use Rattle.cbor_events.specs.Trace.{Mark};
-ghost use Rattle.cbor_events.specs.State.{IsProper};
-ghost use Rattle.cbor_events.specs.Machine.{open_count};
-ghost use Rattle.cbor_events.specs.ItemEvents.{ItemEventsView, StandsBetween, IfTold, IsNext, IsAsked, piece_after, piece_size};
+ghost use Rattle.cbor_events.specs.Marks.{IsProper};
+ghost use Rattle.cbor_events.specs.Reasons.{IsEventReason};
+ghost use Rattle.cbor_events.specs.Machine.{KeepsLimits, IsIdle};
+ghost use Rattle.cbor_events.specs.ItemEvents.{ItemEventsView, StandsBetween, IfTold, IsNext, machine_call, call};
+ghost use Rattle.cbor_events.specs.inner.Reads.{IsAsked, piece_after, piece_size};
 
 use crate::event::{Event, EventKind, Out};
-use crate::machine::Machine;
+use crate::machine::{Machine, refusal_of};
 use cbor_head::{Limits, Reason, Refusal};
 use std::io::Read;
 use std::marker::Model;
@@ -34,11 +37,18 @@ pub struct ItemEvents {
 impl Model for ItemEvents {
     ghost Value = { ItemEventsView };
 
-    ghost view = { λ e. record { machine = e.machine; piece = take e.held e.buffer; refusal = e.refusal } };
+    ghost view = { λ e. record {
+      machine = e.machine;
+      piece = take e.held e.buffer;
+      refusal = e.refusal;
+    } };
 
     ghost invariant = { λ e. record {
       fits : e.held ≤ 512;
-      stopped : IfSome e.refusal (λ f. (f.read ≡ e.machine.taken) × (e.held ≡ 0));
+      within : e.machine.open_count ≤ e.machine.depth;
+      limited : e.machine.taken ≤ e.machine.bytes;
+      stopped : IfSome e.refusal
+          (λ f. (f.read ≡ e.machine.taken) × (e.held ≡ 0) × IsEventReason f.reason);
     } };
 }
 
@@ -46,7 +56,8 @@ impl ItemEvents {
     /// The events of an item whose first byte is still to be read.
     pub fn new(limits: Limits) -> ItemEvents
         ensures starts { StandsBetween result.machine [] [] }
-        ensures limits { (result.machine.depth ≡ limits.depth) × (result.machine.bytes ≡ limits.bytes) }
+        ensures limits { (result.machine.depth ≡ limits.depth)
+            × (result.machine.bytes ≡ limits.bytes) }
         ensures piece { result.piece ≡ [] }
         ensures live { result.refusal ≡ None }
     {
@@ -58,7 +69,8 @@ impl ItemEvents {
         }
     }
 
-    /// The next event, with its bytes read; none once the item is complete, and then nothing is read.
+    /// The next event, with its bytes read; none once the item is complete, and then nothing is
+    /// read.
     ///
     /// One byte of a head is asked for, then what is missing of its argument; of a payload what is
     /// left, at most 512 bytes. A `read` of 0 bytes is the end of the input: `Truncated`. An error of
@@ -68,15 +80,17 @@ impl ItemEvents {
         // For all bytes and marks that the machine stood for, as long as nothing was refused.
         ensures answers { self.old.refusal ≡ None
             → (t : List ℕ) (ms : List Mark) → StandsBetween self.old.machine t ms
-            → IsNext result (R.remaining reader.old) (R.remaining reader.new)
-            self.old.machine self.new.machine self.old.piece self.new.piece t ms }
-        ensures limits { (self.new.machine.depth ≡ self.old.machine.depth)
-            × (self.new.machine.bytes ≡ self.old.machine.bytes) }
+            → IsNext result
+            (call self.old self.new (R.remaining reader.old) (R.remaining reader.new) t ms) }
+        ensures limits { KeepsLimits self.old.machine self.new.machine }
         ensures proper { IfTold result (λ e. IsProper e.width e.kind) }
         ensures live { OnOk result (self.new.refusal ≡ None) }
-        ensures refused { IfErr result (λ f. self.new.refusal ≡ Some f) }
-        ensures taken { IfErr result (λ f. self.new.machine.taken ≡ f.read) }
+        ensures refused { IfErr result (λ f. (self.new.refusal ≡ Some f)
+            × (self.new.machine.taken ≡ f.read) × IsEventReason f.reason) }
         ensures emptied { OnErr result (self.new.piece ≡ []) }
+
+        // Where nothing is wanted the reader is not touched, nor after a refusal.
+        ensures idle { IsIdle self.old.machine → reader.new ≡ reader.old }
         ensures again { IfSome self.old.refusal
             (λ f. (result ≡ Err f) × (self.new ≡ self.old) × (reader.new ≡ reader.old)) }
     {
@@ -103,7 +117,7 @@ impl ItemEvents {
 
     /// How many arrays, maps and tags are open: from its head until its last member or its break.
     pub fn open(&self) -> usize
-        ensures count { result ≡ open_count self.now.machine }
+        ensures count { result ≡ self.now.machine.open_count }
         ensures within { result ≤ self.now.machine.depth }
     {
         self.machine.open()
@@ -129,7 +143,9 @@ enum Asked {
 // Reads at most `want` bytes into the front of the buffer, by one call of `read`, or by none.
 fn ask<R: Read>(reader: &mut R, buffer: &mut [u8], want: usize) -> Asked
     requires { want ≤ length buffer.old }
-    ensures asked { IsAsked result want (R.remaining reader.old) (R.remaining reader.new) buffer.new }
+    ensures asked { IsAsked result want
+        (R.remaining reader.old) (R.remaining reader.new) buffer.new }
+    ensures none { want ≡ 0 → reader.new ≡ reader.old }
 {
     if want == 0 {
         return Asked::Got(0);
@@ -143,14 +159,9 @@ fn ask<R: Read>(reader: &mut R, buffer: &mut [u8], want: usize) -> Asked
 
 // A refusal of what was taken, and no byte more.
 fn cut(reason: Reason, taken: u64) -> Refusal
-    ensures reason { result.reason ≡ reason }
-    ensures place { (result.place ≡ taken) × (result.read ≡ taken) }
+    ensures { result ≡ refusal reason taken taken }
 {
-    Refusal {
-        reason,
-        place: taken,
-        read: taken,
-    }
+    refusal_of(reason, taken, taken)
 }
 
 // Bytes are below 256.
@@ -164,14 +175,17 @@ fn next_event<R: Read>(
     reader: &mut R,
     buffer: &mut [u8],
 ) -> Result<Option<Event>, Refusal>
-    requires { 0 < length buffer.old }
+    requires room { 0 < length buffer.old }
+    requires within { machine.old.open_count ≤ machine.old.depth }
     ensures answers { (kept t : List ℕ) (ms : List Mark) → StandsBetween machine.old t ms
-        → IsNext result (R.remaining reader.old) (R.remaining reader.new)
-        machine.old machine.new kept (piece_after result kept buffer.new) t ms }
-    ensures limits { (machine.new.depth ≡ machine.old.depth)
-        × (machine.new.bytes ≡ machine.old.bytes) }
+        → IsNext result (machine_call machine.old machine.new
+        (R.remaining reader.old) (R.remaining reader.new)
+        kept (piece_after result kept buffer.new) t ms) }
+    ensures limits { KeepsLimits machine.old machine.new }
     ensures proper { IfTold result (λ e. IsProper e.width e.kind) }
     ensures taken { IfErr result (λ f. machine.new.taken ≡ f.read) }
+    ensures reason { IfErr result (λ f. IsEventReason f.reason) }
+    ensures idle { IsIdle machine.old → reader.new ≡ reader.old }
     ensures fits { piece_size result ≤ length buffer.new }
     ensures same { length buffer.new ≡ length buffer.old }
 {
@@ -182,7 +196,7 @@ fn next_event<R: Read>(
             Asked::Failed => return Err(cut(Reason::Read, machine.taken())),
             Asked::Got(count) => {
                 below_256(&buffer[..count]);
-                let step = machine.step(&buffer[..count]);
+                let step = machine.take_part(&buffer[..count]);
                 match step.out {
                     Out::More => {}
                     Out::Event(event) => return Ok(Some(event)),
@@ -218,14 +232,17 @@ fn advance<R: Read>(
     buffer: &mut [u8; PART],
     held: &mut usize,
 ) -> Result<Option<Event>, Refusal>
-    requires { held.old ≤ 512 }
+    requires fits { held.old ≤ 512 }
+    requires within { machine.old.open_count ≤ machine.old.depth }
     ensures answers { (t : List ℕ) (ms : List Mark) → StandsBetween machine.old t ms
-        → IsNext result (R.remaining reader.old) (R.remaining reader.new)
-        machine.old machine.new (take held.old buffer.old) (take held.new buffer.new) t ms }
-    ensures limits { (machine.new.depth ≡ machine.old.depth)
-        × (machine.new.bytes ≡ machine.old.bytes) }
+        → IsNext result (machine_call machine.old machine.new
+        (R.remaining reader.old) (R.remaining reader.new)
+        (take held.old buffer.old) (take held.new buffer.new) t ms) }
+    ensures limits { KeepsLimits machine.old machine.new }
     ensures proper { IfTold result (λ e. IsProper e.width e.kind) }
     ensures taken { IfErr result (λ f. machine.new.taken ≡ f.read) }
+    ensures reason { IfErr result (λ f. IsEventReason f.reason) }
+    ensures idle { IsIdle machine.old → reader.new ≡ reader.old }
     ensures fits { held.new ≤ 512 }
 {
     if !machine.is_in_payload() {

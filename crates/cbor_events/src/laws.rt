@@ -8,27 +8,47 @@ ghost use Rattle.cbor_head.specs.declared.reason.Refusal.{Refusal};
 ghost use Rattle.cbor_events.specs.Trace.{Mark, total, trace};
 ghost use Rattle.cbor_head.specs.Value.{AreBytes};
 ghost use Rattle.cbor_head.specs.Beginning.{IsLongestBeginning};
-ghost use Rattle.cbor_events.specs.State.{marks_of};
+ghost use Rattle.cbor_events.specs.Marks.{marks_of};
 ghost use Rattle.cbor_events.specs.Event.{events, marks_in, joined, cut, AreTold};
 ghost use Rattle.cbor_events.specs.declared.event.Event.{Event};
-ghost use Rattle.cbor_events.specs.Machine.{MachineView, StandsFor, IsComplete, IsGiven, IsRefused};
+ghost use Rattle.cbor_events.specs.ItemEvents.{Call, StandsBetween, IsNextEvent, IsEnd};
+ghost use Rattle.cbor_events.specs.MachineView.{MachineView};
+ghost use Rattle.cbor_events.specs.Machine.{StandsFor, IsComplete, IsGiven, IsRefused};
 
-/// What a machine answers is the verdict of form: of its refusals, and of the item that is complete.
+/// What a machine answers is the verdict of form: of its refusals, and of the item that is
+/// complete.
 pub fn machine_verdict()
-    ensures refuses { (r : Refusal) (m : MachineView) (t bs : List ℕ) (ms : List Mark) → IsRefused r m t bs ms
-        → (more : List ℕ) → IsVerdict m.depth m.bytes form ((t ++ bs) ++ more) (refused r) }
-    ensures accepts { (m : MachineView) (t : List ℕ) (ms : List Mark) → StandsFor m t ms → IsComplete m
-        → (more : List ℕ) → (s : Spelling) × IsVerdict m.depth m.bytes form (t ++ more) (accepted s) }
+    ensures refuses { (r : Refusal) (m : MachineView) (t bs : List ℕ) (ms : List Mark)
+        → IsRefused r m t bs ms → (more : List ℕ)
+        → IsVerdict m.depth m.bytes form ((t ++ bs) ++ more) (refused r) }
+    ensures accepts { (m : MachineView) (t : List ℕ) (ms : List Mark)
+        → StandsFor m t ms → IsComplete m → (more : List ℕ)
+        → (s : Spelling) × IsVerdict m.depth m.bytes form (t ++ more) (accepted s) }
 {}
 
-/// The events that a machine told, neighbouring pieces joined, are those of each item that starts with what it took, as far as they end
-/// within that, the last piece cut there.
+/// The events that a machine told, neighbouring pieces joined, are those of each item that starts
+/// with what it took, as far as they end within that, the last piece cut there.
 pub fn told_events()
     ensures none { AreTold [] [] }
-    ensures more { (es : List Event) (ms : List Mark) (e : Event) (m : MachineView) (t bs : List ℕ) → AreTold es ms → IsGiven e m t bs ms
+    ensures more { (es : List Event) (ms : List Mark) (e : Event) (m : MachineView) (t bs : List ℕ)
+        → AreTold es ms → IsGiven e m t bs ms
         → AreTold (es ++ e ∷ []) (ms ++ marks_of e.width e.kind) }
-    ensures joined { (m : MachineView) (t : List ℕ) (ms : List Mark) (es : List Event) → StandsFor m t ms → AreTold es ms
-        → (s : Spelling) (rest : List ℕ) → IsItem m.depth s (t ++ rest) → joined es ≡ cut (length t) (events 0 s) }
+    ensures joined { (m : MachineView) (t : List ℕ) (ms : List Mark) (es : List Event)
+        → StandsFor m t ms → AreTold es ms
+        → (s : Spelling) (rest : List ℕ) → IsItem m.depth s (t ++ rest)
+        → joined es ≡ cut (length t) (events 0 s) }
+{}
+
+/// The events that `ItemEvents::next` told. Each leads on from those before it; at the end of an item
+/// they are, neighbouring pieces joined, all of its events. Behind a refusal `told_events` says what
+/// they are.
+pub fn next_events()
+    ensures more { (c : Call) (es : List Event) (e : Event) → AreTold es c.told
+        → StandsBetween c.old c.taken c.told → IsNextEvent e c
+        → AreTold (es ++ e ∷ []) (c.told ++ marks_of e.width e.kind) }
+    ensures all { (c : Call) (es : List Event) → AreTold es c.told
+        → StandsBetween c.old c.taken c.told → IsEnd c
+        → (s : Spelling) × IsItem c.old.depth s c.taken × (joined es ≡ events 0 s) }
 {}
 
 /// The marks of an item are those of its events, and stand for all of its bytes.

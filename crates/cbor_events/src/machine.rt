@@ -1,16 +1,19 @@
 //! The machine that takes an item byte by byte.
 
-ghost use Rattle.std.specs.Prelude.{◌≡◌, ◌↔◌, ◌≤◌, ◌<◌, ◌+◌, ◌⊎◌, ◌++◌, ℕ, List, [], length, take, Some, None, IfSome, IsTrue};
+ghost use Rattle.std.specs.Prelude.{◌≡◌, ◌↔◌, ◌≤◌, ◌<◌, ◌+◌, ◌++◌, ℕ, List, [], length, take, min, true, Some, None, IfSome, IsTrue};
 ghost use Rattle.arrayvec.specs.ArrayVec.{array_vec_len};
 ghost use Rattle.cbor_head.specs.Value.{AreBytes};
+ghost use Rattle.cbor_head.specs.Verdict.{refusal};
 ghost use Rattle.cbor_events.specs.Trace.{Mark};
-ghost use Rattle.cbor_events.specs.State.{IsFit, IsSettled};
-ghost use Rattle.cbor_events.specs.Machine.{MachineView, StandsFor, IsAnswer, IsStep, IsComplete, IsEvent, IsMore, IsDone, IfEvent, IfRefused, open_count, piece_of, wanted};
-ghost use Rattle.cbor_events.specs.ItemEvents.{IsInPayload};
+ghost use Rattle.cbor_events.specs.Reasons.{IsMachineReason};
+ghost use Rattle.cbor_events.specs.MachineView.{MachineView};
+ghost use Rattle.cbor_events.specs.Machine.{StandsFor, KeepsLimits, Stays, IsAnswer, IsComplete, IsIdle, IsEvent, IsMore, IsDone, IfRefused, piece_of, wanted};
+ghost use Rattle.cbor_events.specs.inner.State.{IsFit, IsSettled, wanted_at, is_in_payload, is_done};
+ghost use Rattle.cbor_events.specs.inner.Steps.{IsStep};
 
 use crate::event::{Event, Out, Step};
 use crate::frame::Frames;
-use crate::place::Place;
+use crate::position::Position;
 use crate::walk::{Walked, walk};
 use arrayvec::ArrayVec;
 use cbor_head::{Limits, Reason, Refusal};
@@ -24,7 +27,7 @@ pub struct Machine {
     limits: Limits,
     taken: u64,
     told: u64,
-    place: Place,
+    position: Position,
     frames: Frames,
     refusal: Option<Refusal>,
 }
@@ -32,14 +35,25 @@ pub struct Machine {
 impl Model for Machine {
     ghost Value = { MachineView };
 
-    ghost view = { λ m. record { depth = m.limits.depth; bytes = m.limits.bytes; taken = m.taken; told = m.told; place = m.place; frames = m.frames.items; refusal = m.refusal } };
+    ghost view = { λ m. record {
+      depth = m.limits.depth;
+      bytes = m.limits.bytes;
+      taken = m.taken;
+      told = m.told;
+      open_count = length m.frames.items;
+      due = wanted_at m.position;
+      in_payload = is_in_payload m.position;
+      complete = is_done m.position;
+      refusal = m.refusal;
+      inner = record { position = m.position; frames = m.frames.items };
+    } };
 
     ghost invariant = { λ m. record {
       within : array_vec_len m.frames ≤ m.limits.depth;
-      fits : IsFit m.limits.depth m.frames.items m.place;
+      fits : IsFit m.limits.depth m.frames.items m.position;
       taken : m.taken ≤ m.limits.bytes;
-      settled : m.refusal ≡ None → IsSettled m.frames.items m.place → m.told ≡ m.taken;
-      stopped : IfSome m.refusal (λ r. r.read ≡ m.taken);
+      settled : m.refusal ≡ None → IsSettled m.frames.items m.position → m.told ≡ m.taken;
+      stopped : IfSome m.refusal (λ r. (r.read ≡ m.taken) × IsMachineReason r.reason);
     } };
 }
 
@@ -53,7 +67,7 @@ impl Machine {
             limits,
             taken: 0,
             told: 0,
-            place: Place::Item,
+            position: Position::Item,
             frames: ArrayVec::new(),
             refusal: None,
         }
@@ -61,7 +75,7 @@ impl Machine {
 
     /// How many arrays, maps and tags are open: from its head until its last member or its break.
     pub fn open(&self) -> usize
-        ensures count { result ≡ open_count self.now }
+        ensures count { result ≡ self.now.open_count }
         ensures within { result ≤ self.now.depth }
     {
         self.frames.len()
@@ -78,66 +92,94 @@ impl Machine {
     /// How many bytes more belong to the head or payload that is open, or to the next head's first
     /// byte, within the byte limit: a step uses that many, whatever they are. None once the item is
     /// complete or refused.
-    pub fn wanted(&self) -> u64
-        ensures { result ≡ wanted self.now }
+    pub(crate) fn wanted(&self) -> u64
+        ensures wanted { result ≡ wanted self.now }
+        ensures idle { IsIdle self.now → result ≡ 0 }
     {
         if self.refusal.is_some() {
             return 0;
         }
         let room = self.limits.bytes() - self.taken;
-        match self.place {
-            Place::Head(_, _, _, left, _) => room.min(u64::from(left) + 1),
-            Place::Payload(_, _, left) => if left < room { left + 1 } else { room },
-            Place::Done => 0,
-            Place::Item | Place::SimpleNumber | Place::Chunks(_) => room.min(1),
+        match self.position {
+            Position::Head { left, .. } => room.min(u64::from(left) + 1),
+            Position::Payload(_, _, left) => if left < room { left + 1 } else { room },
+            Position::Done => 0,
+            Position::Item | Position::SimpleNumber | Position::Chunks(_) => room.min(1),
         }
     }
 
     /// Whether the next bytes are those of a payload.
-    pub fn is_in_payload(&self) -> bool
-        ensures { IsTrue result ↔ IsInPayload self.now.place }
+    pub(crate) fn is_in_payload(&self) -> bool
+        ensures { result ≡ self.now.in_payload }
     {
-        matches!(self.place, Place::Payload(..))
+        matches!(self.position, Position::Payload(..))
     }
 
     /// Takes bytes from the front of the input until an event is complete, or a byte is refused, or
     /// none is left. Once the item is complete, or refused, it uses nothing and answers the same.
-    #[tactic(auto, using(crate::proofs::Frames::settled_fit))]
     pub fn step(&mut self, input: &[u8]) -> Step
+        ensures used { (result.used ≤ length input.now)
+            × (self.new.taken ≡ self.old.taken + result.used) }
+        ensures limits { KeepsLimits self.old self.new }
+
+        // For all bytes and marks that the machine stood for.
+        ensures answers { (t : List ℕ) (ms : List Mark) → StandsFor self.old t ms
+            → IsAnswer result.out self.new t (take result.used input.now) ms }
+
+        // What is wanted is used; of a payload the lesser of what is offered and what is wanted.
+        ensures wanted { (length input.now ≤ wanted self.old → result.used ≡ length input.now)
+            × (self.old.in_payload ≡ true
+            → result.used ≡ min (length input.now) (wanted self.old)) }
+        ensures event { (IsEvent result.out → 0 < result.used)
+            × (piece_of result.out ≤ result.used) }
+        ensures more { IsMore result.out → (result.used ≡ length input.now)
+            × (self.new.taken < self.new.bytes) × (0 < wanted self.old) }
+        ensures refused { IfRefused result.out (λ r. (self.new.refusal ≡ Some r)
+            × (self.new.taken ≡ r.read) × IsMachineReason r.reason) }
+        ensures stays { Stays result self.old self.new }
+    {
+        self.take_part(input)
+    }
+
+    // A step, and what it does with the inner state.
+    #[tactic(auto, using(crate::proofs::Frames::settled_fit))]
+    pub(crate) fn take_part(&mut self, input: &[u8]) -> Step
         ensures used { result.used ≤ length input.now }
         ensures taken { self.new.taken ≡ self.old.taken + result.used }
-        ensures within { self.new.taken ≤ self.new.bytes }
-        ensures limits { (self.new.depth ≡ self.old.depth) × (self.new.bytes ≡ self.old.bytes) }
-
-        // From one state to the next; and what each answer means, for all bytes and marks that the machine stood for.
-        ensures walked { self.old.refusal ≡ None → IsStep result.out self.old self.new (take result.used input.now) }
-        ensures answers { (t : List ℕ) (ms : List Mark) → StandsFor self.old t ms → IsAnswer result.out self.new t (take result.used input.now) ms }
+        ensures limits { KeepsLimits self.old self.new }
+        ensures walked { self.old.refusal ≡ None
+            → IsStep result.out self.old self.new (take result.used input.now) }
+        ensures answers { (t : List ℕ) (ms : List Mark) → StandsFor self.old t ms
+            → IsAnswer result.out self.new t (take result.used input.now) ms }
         ensures progress { IsEvent result.out → 0 < result.used }
-        ensures begins { self.old.refusal ≡ None → IsSettled self.old.frames self.old.place → IfEvent result.out (λ e. e.place ≡ self.old.taken) }
         ensures piece { piece_of result.out ≤ result.used }
-        ensures whole { IsMore result.out → (result.used ≡ length input.now) × (self.new.taken < self.new.bytes) }
+        ensures whole { IsMore result.out
+            → (result.used ≡ length input.now) × (self.new.taken < self.new.bytes) }
         ensures done { IsDone result.out ↔ IsComplete self.old }
         ensures stays { IsComplete self.old → (result.used ≡ 0) × (self.new ≡ self.old) }
-        ensures refused { IfRefused result.out (λ r. (self.new.refusal ≡ Some r) × (self.new.taken ≡ r.read)) }
-        ensures again { IfSome self.old.refusal (λ r. (result.out ≡ Out.Refused r) × (result.used ≡ 0) × (self.new ≡ self.old)) }
-
-        // What is wanted is used, and of a machine that wants nothing no more is asked.
+        ensures refused { IfRefused result.out
+            (λ r. (self.new.refusal ≡ Some r) × (self.new.taken ≡ r.read)) }
+        ensures reason { IfRefused result.out (λ r. IsMachineReason r.reason) }
+        ensures again { IfSome self.old.refusal
+            (λ r. (result.out ≡ Out.Refused r) × (result.used ≡ 0) × (self.new ≡ self.old)) }
         ensures exact { length input.now ≤ wanted self.old → result.used ≡ length input.now }
-        ensures idle { wanted self.old ≡ 0 → IsMore result.out → ⊥ }
+        ensures payload { self.old.in_payload ≡ true
+            → result.used ≡ min (length input.now) (wanted self.old) }
+        ensures idle { IsMore result.out → 0 < wanted self.old }
     {
         below_256(input);
         if let Some(refusal) = self.refusal {
             let out = Out::Refused(refusal);
             return Step { used: 0, out };
         }
-        if let Place::Done = self.place {
+        if let Position::Done = self.position {
             let out = Out::Done;
             return Step { used: 0, out };
         }
         let bytes = self.limits.bytes();
         let depth = usize::from(self.limits.depth());
         let end = part(input.len(), bytes - self.taken);
-        let (used, walked) = walk(depth, &mut self.place, &mut self.frames, &input[..end]);
+        let (used, walked) = walk(depth, &mut self.position, &mut self.frames, &input[..end]);
         self.taken += used as u64;
         match walked {
             Walked::Told(width, kind) => {
@@ -151,23 +193,13 @@ impl Machine {
                     let out = Out::More;
                     return Step { used, out };
                 }
-                let (reason, place, read) = (Reason::TooLong, bytes, bytes);
-                let refusal = Refusal {
-                    reason,
-                    place,
-                    read,
-                };
+                let refusal = refusal_of(Reason::TooLong, bytes, bytes);
                 self.refusal = Some(refusal);
                 let out = Out::Refused(refusal);
                 Step { used, out }
             }
             Walked::Refused(reason) => {
-                let (place, read) = (self.taken - 1, self.taken);
-                let refusal = Refusal {
-                    reason,
-                    place,
-                    read,
-                };
+                let refusal = refusal_of(reason, self.taken - 1, self.taken);
                 self.refusal = Some(refusal);
                 let out = Out::Refused(refusal);
                 Step { used, out }
@@ -176,11 +208,20 @@ impl Machine {
     }
 }
 
+// A refusal by its parts.
+pub(crate) fn refusal_of(reason: Reason, place: u64, read: u64) -> Refusal
+    ensures { result ≡ refusal reason place read }
+{
+    Refusal {
+        reason,
+        place,
+        read,
+    }
+}
+
 // The lesser of the two.
 fn part(len: usize, room: u64) -> usize
-    ensures len { result ≤ len }
-    ensures room { result ≤ room }
-    ensures exact { result < len → result ≡ room }
+    ensures { result ≡ min len room }
 {
     if room < len as u64 {
         room as usize

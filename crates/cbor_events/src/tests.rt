@@ -1,11 +1,14 @@
 //! The machine against the tables of its format, and a caller of it.
 
 ghost use Rattle.std.specs.Prelude.{◌≡◌, ◌≤◌, ◌<◌, length};
-ghost use Rattle.cbor_events.specs.Machine.{IsMore, Goes};
+ghost use Rattle.cbor_events.specs.Machine.{IsMore};
+ghost use Rattle.cbor_events.specs.inner.Steps.{Goes};
 
 mod reading;
 mod slicing;
+mod tables;
 
+use self::tables::{ACCEPTED, FRONTS, NOT_VALID, REFUSED};
 use crate::{Event, EventKind, Machine, Out, Step};
 use cbor_head::{Limits, Reason, Refusal, Simple, Width};
 use std::alloc::{AllocError, Global};
@@ -28,16 +31,21 @@ fn feed(machine: &mut Machine, input: &[u8]) -> Step
     }
 }
 
-// The bytes of hex digits.
-fn bytes_of(alloc: Global, text: &str) -> Result<Vec<u8>, AllocError> {
+// The value of a hex digit.
+fn digit_of(c: u8) -> Option<u8> {
+    match c {
+        b'0'..=b'9' => Some(c - b'0'),
+        b'a'..=b'f' => Some(c - b'a' + 10),
+        _ => None,
+    }
+}
+
+// The bytes of hex digits, two for each.
+fn bytes_of(rt: &impl Abort, alloc: Global, text: &str) -> Result<Vec<u8>, AllocError> {
     let mut bytes = Vec::new(alloc);
     let mut high = None;
     for c in text.bytes() {
-        let digit = match c {
-            b'0'..=b'9' => c - b'0',
-            b'a'..=b'f' => c - b'a' + 10,
-            _ => 0,
-        };
+        let digit = digit_of(c).expect(rt, "a hex digit");
         match high {
             None => high = Some(digit),
             Some(sixteens) => {
@@ -46,7 +54,72 @@ fn bytes_of(alloc: Global, text: &str) -> Result<Vec<u8>, AllocError> {
             }
         }
     }
+    assert!(rt; high.is_none(), "an odd hex digit in {text}");
     Ok(bytes)
+}
+
+fn number_of(rt: &impl Abort, word: &str) -> u64 {
+    word.parse().expect(rt, "a number")
+}
+
+// A count, or none where the length is indefinite.
+fn count_of(rt: &impl Abort, word: &str) -> Option<u64> {
+    if word == "-" {
+        None
+    } else {
+        Some(number_of(rt, word))
+    }
+}
+
+fn kind_of(rt: &impl Abort, name: &str, argument: &str) -> EventKind {
+    let count = count_of(rt, argument);
+    let number = count.unwrap_or(0);
+    match name {
+        "unsigned" => EventKind::Unsigned(number),
+        "negative" => EventKind::Negative(number),
+        "simple" => {
+            let number = u8::try_from(number).expect(rt, "a number below 256");
+            EventKind::Simple(Simple::new(number).expect(rt, "a simple value"))
+        }
+        "bytes" => EventKind::Bytes(count),
+        "text" => EventKind::Text(count),
+        "chunk" => EventKind::Chunk(number),
+        "piece" => EventKind::Piece(number as usize),
+        "array" => EventKind::Array(count),
+        "map" => EventKind::Map(count),
+        "tag" => EventKind::Tag(number),
+        "end" => EventKind::End,
+        _ => panic!(rt; "no event is called {name}"),
+    }
+}
+
+fn width_of(rt: &impl Abort, word: &str) -> Width {
+    match word {
+        "0" => Width::Direct,
+        "1" => Width::One,
+        "2" => Width::Two,
+        "4" => Width::Four,
+        "8" => Width::Eight,
+        "-" => Width::Indefinite,
+        _ => panic!(rt; "no width is {word}"),
+    }
+}
+
+// The events that a table names, by four words each.
+fn events_of(rt: &impl Abort, alloc: Global, text: &str) -> Result<Vec<Event>, AllocError> {
+    let words: Vec<&str> = text.split_whitespace().collect(alloc)?;
+    let mut events = Vec::new(alloc);
+    for line in words.chunks(4) {
+        match line {
+            [place, name, argument, width] => events.push(event(
+                number_of(rt, place),
+                width_of(rt, width),
+                kind_of(rt, name, argument),
+            ))?,
+            _ => panic!(rt; "words are left in {text}"),
+        }
+    }
+    Ok(events)
 }
 
 // What came of bytes: the events, neighbouring pieces joined, the last answer, and how many bytes were taken.
@@ -98,7 +171,7 @@ fn limits(rt: &impl Abort, depth: u16, bytes: u64) -> Limits {
 
 // Gives bytes whole and one by one, and answers what came of both.
 fn both_ways(rt: &impl Abort, alloc: Global, limits: Limits, hex: &str) -> Result<Told, Fail> {
-    let bytes = bytes_of(alloc, hex)?;
+    let bytes = bytes_of(rt, alloc, hex)?;
     let whole = tell(alloc, limits, &bytes, usize::MAX)?;
     let single = tell(alloc, limits, &bytes, 1)?;
     assert!(rt; whole == single, "the cuts of {hex} differ");
@@ -183,243 +256,55 @@ fn refusals_stay(rt: HostRuntime) {
     assert_eq!(rt; machine.step(&[0x00]), long);
 }
 
-// Items of the appendix A of RFC 8949 without floats, and others, with their diagnostic texts.
-const ACCEPTED: [(&str, &str); 66] = [
-    ("00", "0"),
-    ("01", "1"),
-    ("0a", "10"),
-    ("17", "23"),
-    ("1818", "24"),
-    ("1819", "25"),
-    ("1864", "100"),
-    ("1903e8", "1000"),
-    ("1a000f4240", "1000000"),
-    ("1b000000e8d4a51000", "1000000000000"),
-    ("1bffffffffffffffff", "18446744073709551615"),
-    ("c249010000000000000000", "2(h'010000000000000000')"),
-    ("3bffffffffffffffff", "-18446744073709551616"),
-    ("c349010000000000000000", "3(h'010000000000000000')"),
-    ("20", "-1"),
-    ("29", "-10"),
-    ("3863", "-100"),
-    ("3903e7", "-1000"),
-    ("f4", "false"),
-    ("f5", "true"),
-    ("f6", "null"),
-    ("f7", "undefined"),
-    ("f0", "simple(16)"),
-    ("f8ff", "simple(255)"),
-    (
-        "c074323031332d30332d32315432303a30343a30305a",
-        "0(\"2013-03-21T20:04:00Z\")",
-    ),
-    ("c11a514b67b0", "1(1363896240)"),
-    ("d74401020304", "23(h'01020304')"),
-    ("d818456449455446", "24(h'6449455446')"),
-    (
-        "d82076687474703a2f2f7777772e6578616d706c652e636f6d",
-        "32(\"http://www.example.com\")",
-    ),
-    ("40", "h''"),
-    ("4401020304", "h'01020304'"),
-    ("60", "\"\""),
-    ("6161", "\"a\""),
-    ("6449455446", "\"IETF\""),
-    ("62225c", "\"\\\"\\\\\""),
-    ("62c3bc", "\"\u{fc}\""),
-    ("63e6b0b4", "\"\u{6c34}\""),
-    ("64f0908591", "\"\u{10151}\""),
-    ("80", "[]"),
-    ("83010203", "[1, 2, 3]"),
-    ("8301820203820405", "[1, [2, 3], [4, 5]]"),
-    (
-        "98190102030405060708090a0b0c0d0e0f101112131415161718181819",
-        "[1, 2, 3, .., 25]",
-    ),
-    ("a0", "{}"),
-    ("a201020304", "{1: 2, 3: 4}"),
-    ("a26161016162820203", "{\"a\": 1, \"b\": [2, 3]}"),
-    ("826161a161626163", "[\"a\", {\"b\": \"c\"}]"),
-    (
-        "a56161614161626142616361436164614461656145",
-        "{\"a\": \"A\", \"b\": \"B\", \"c\": \"C\", \"d\": \"D\", \"e\": \"E\"}",
-    ),
-    ("5f42010243030405ff", "(_ h'0102', h'030405')"),
-    ("7f657374726561646d696e67ff", "(_ \"strea\", \"ming\")"),
-    ("9fff", "[_ ]"),
-    ("9f018202039f0405ffff", "[_ 1, [2, 3], [_ 4, 5]]"),
-    ("9f01820203820405ff", "[_ 1, [2, 3], [4, 5]]"),
-    ("83018202039f0405ff", "[1, [2, 3], [_ 4, 5]]"),
-    ("83019f0203ff820405", "[1, [_ 2, 3], [4, 5]]"),
-    (
-        "9f0102030405060708090a0b0c0d0e0f101112131415161718181819ff",
-        "[_ 1, 2, 3, .., 25]",
-    ),
-    ("bf61610161629f0203ffff", "{_ \"a\": 1, \"b\": [_ 2, 3]}"),
-    ("826161bf61626163ff", "[\"a\", {_ \"b\": \"c\"}]"),
-    ("bf6346756ef563416d7421ff", "{_ \"Fun\": true, \"Amt\": -2}"),
-    ("5fff", "(_ )"),
-    ("7fff", "(_ )"),
-    ("bfff", "{_ }"),
-    ("a2416100616101", "{h'61': 0, \"a\": 1}"),
-    ("a2c101000101", "{1(1): 0, 1: 1}"),
-    ("1b0000000000000017", "23"),
-    (
-        "a2616100616101",
-        "{\"a\": 0, \"a\": 1}, well-formed and not valid",
-    ),
-    (
-        "61ff",
-        "a text that is not UTF-8, well-formed and not valid",
-    ),
-];
-
 #[test]
 fn takes_items(rt: HostRuntime) -> Result<(), Fail> {
-    for (hex, text) in ACCEPTED {
-        let told = both_ways(&rt, rt.alloc(), limits(&rt, 256, 1 << 20), hex)?;
-        assert_eq!(rt; told.out, Out::Done, "at {text}");
-        assert_eq!(rt; told.taken, hex.len() as u64 / 2, "at {text}");
+    let limits = limits(&rt, 256, 1 << 20);
+    for (hex, events) in ACCEPTED {
+        let told = both_ways(&rt, rt.alloc(), limits, hex)?;
+        assert_eq!(rt; told.out, Out::Done, "at {hex}");
+        assert_eq!(rt; told.taken, hex.len() as u64 / 2, "at {hex}");
+        assert!(rt;
+            told.events == events_of(&rt, rt.alloc(), events)?,
+            "events of {hex}"
+        );
+    }
+    for (hex, taken, events) in NOT_VALID {
+        let told = both_ways(&rt, rt.alloc(), limits, hex)?;
+        assert_eq!(rt; told.out, Out::Done, "at {hex}");
+        assert_eq!(rt; told.taken, taken, "at {hex}");
+        assert!(rt;
+            told.events == events_of(&rt, rt.alloc(), events)?,
+            "events of {hex}"
+        );
     }
     Ok(())
 }
-
-// Bytes that begin no item, with the depth limit, the byte limit, and the refusal.
-const REFUSED: [(&str, u16, u64, Reason, u64, u64); 44] = [
-    ("1c", 256, 1048576, Reason::Reserved, 0, 1),
-    ("3d", 256, 1048576, Reason::Reserved, 0, 1),
-    ("5e", 256, 1048576, Reason::Reserved, 0, 1),
-    ("7c", 256, 1048576, Reason::Reserved, 0, 1),
-    ("9d", 256, 1048576, Reason::Reserved, 0, 1),
-    ("be", 256, 1048576, Reason::Reserved, 0, 1),
-    ("dc", 256, 1048576, Reason::Reserved, 0, 1),
-    ("fc", 256, 1048576, Reason::Reserved, 0, 1),
-    ("5f5c", 256, 1048576, Reason::BadChunk, 1, 2),
-    ("1f", 256, 1048576, Reason::NoIndefinite, 0, 1),
-    ("3f", 256, 1048576, Reason::NoIndefinite, 0, 1),
-    ("df", 256, 1048576, Reason::NoIndefinite, 0, 1),
-    ("f97c00", 256, 1048576, Reason::Float, 0, 1),
-    ("fa00000000", 256, 1048576, Reason::Float, 0, 1),
-    ("fb0000000000000000", 256, 1048576, Reason::Float, 0, 1),
-    ("8201f90000", 256, 1048576, Reason::Float, 2, 3),
-    ("ff", 256, 1048576, Reason::StrayBreak, 0, 1),
-    ("81ff", 256, 1048576, Reason::StrayBreak, 1, 2),
-    ("a1ff", 256, 1048576, Reason::StrayBreak, 1, 2),
-    ("c1ff", 256, 1048576, Reason::StrayBreak, 1, 2),
-    ("a100ff", 256, 1048576, Reason::StrayBreak, 2, 3),
-    ("bf00ff", 256, 1048576, Reason::StrayBreak, 2, 3),
-    ("7f4100ff", 256, 1048576, Reason::BadChunk, 1, 2),
-    ("5f6100ff", 256, 1048576, Reason::BadChunk, 1, 2),
-    ("5f00ff", 256, 1048576, Reason::BadChunk, 1, 2),
-    ("5f5f4100ffff", 256, 1048576, Reason::BadChunk, 1, 2),
-    ("f800", 256, 1048576, Reason::BadSimple, 1, 2),
-    ("f818", 256, 1048576, Reason::BadSimple, 1, 2),
-    ("f81f", 256, 1048576, Reason::BadSimple, 1, 2),
-    ("c1c100", 1, 1048576, Reason::TooDeep, 1, 2),
-    ("9f", 0, 1048576, Reason::TooDeep, 0, 1),
-    ("80", 0, 1048576, Reason::TooDeep, 0, 1),
-    ("818180", 2, 1048576, Reason::TooDeep, 2, 3),
-    ("81818101", 2, 1048576, Reason::TooDeep, 2, 3),
-    ("9c", 0, 1048576, Reason::Reserved, 0, 1),
-    ("00", 256, 0, Reason::TooLong, 0, 0),
-    ("1864", 256, 1, Reason::TooLong, 1, 1),
-    ("62c3bc", 256, 2, Reason::TooLong, 2, 2),
-    ("8101", 256, 1, Reason::TooLong, 1, 1),
-    ("811c", 256, 1, Reason::TooLong, 1, 1),
-    ("5bffffffffffffffff", 256, 9, Reason::TooLong, 9, 9),
-    ("bb8000000000000000", 256, 9, Reason::TooLong, 9, 9),
-    (
-        "bb8000000000000000ff",
-        256,
-        1048576,
-        Reason::StrayBreak,
-        9,
-        10,
-    ),
-    (
-        "bbffffffffffffffff00ff",
-        256,
-        1048576,
-        Reason::StrayBreak,
-        10,
-        11,
-    ),
-];
 
 #[test]
 fn refuses_what_begins_no_item(rt: HostRuntime) -> Result<(), Fail> {
-    for (hex, depth, bytes, reason, place, read) in REFUSED {
+    for (hex, depth, bytes, reason, place, read, events) in REFUSED {
         let told = both_ways(&rt, rt.alloc(), limits(&rt, depth, bytes), hex)?;
         assert_eq!(rt; told.out, refusal(reason, place, read), "at {hex}");
         assert_eq!(rt; told.taken, read, "at {hex}");
+        assert!(rt;
+            told.events == events_of(&rt, rt.alloc(), events)?,
+            "events of {hex}"
+        );
     }
     Ok(())
 }
-
-// Fronts of items: all is taken, and the item goes on.
-const FRONTS: [&str; 11] = [
-    "",
-    "18",
-    "41",
-    "9f",
-    "c1",
-    "f8",
-    "1903",
-    "8201",
-    "5f41",
-    "5bffffffffffffffff",
-    "bb8000000000000000",
-];
 
 #[test]
 fn goes_on_in_an_item(rt: HostRuntime) -> Result<(), Fail> {
-    for hex in FRONTS {
+    for (hex, events) in FRONTS {
         let told = both_ways(&rt, rt.alloc(), limits(&rt, 256, 1 << 20), hex)?;
         assert_eq!(rt; told.out, Out::More, "at {hex}");
         assert_eq!(rt; told.taken, hex.len() as u64 / 2, "at {hex}");
+        assert!(rt;
+            told.events == events_of(&rt, rt.alloc(), events)?,
+            "events of {hex}"
+        );
     }
-    Ok(())
-}
-
-#[test]
-fn tells_events(rt: HostRuntime) -> Result<(), Fail> {
-    let limits = limits(&rt, 256, 1 << 20);
-    let simple = Simple::new(255).expect(&rt, "a simple value");
-    let truth = Simple::new(21).expect(&rt, "a simple value");
-
-    // {_ "Fun": true, "Amt": -2}
-    let map = [
-        event(0, Width::Indefinite, EventKind::Map(None)),
-        event(1, Width::Direct, EventKind::Text(Some(3))),
-        event(2, Width::Direct, EventKind::Piece(3)),
-        event(5, Width::Direct, EventKind::Simple(truth)),
-        event(6, Width::Direct, EventKind::Text(Some(3))),
-        event(7, Width::Direct, EventKind::Piece(3)),
-        event(10, Width::Direct, EventKind::Negative(1)),
-        event(11, Width::Indefinite, EventKind::End),
-    ];
-    let told = both_ways(&rt, rt.alloc(), limits, "bf6346756ef563416d7421ff")?;
-    assert!(rt; told.events[..] == map[..]);
-
-    // (_ h'0102', h'030405')
-    let chunks = [
-        event(0, Width::Indefinite, EventKind::Bytes(None)),
-        event(1, Width::Direct, EventKind::Chunk(2)),
-        event(2, Width::Direct, EventKind::Piece(2)),
-        event(4, Width::Direct, EventKind::Chunk(3)),
-        event(5, Width::Direct, EventKind::Piece(3)),
-        event(8, Width::Indefinite, EventKind::End),
-    ];
-    let told = both_ways(&rt, rt.alloc(), limits, "5f42010243030405ff")?;
-    assert!(rt; told.events[..] == chunks[..]);
-
-    // simple(255) and 1000000000000
-    let told = both_ways(&rt, rt.alloc(), limits, "f8ff")?;
-    assert!(rt; told.events[..] == [event(0, Width::One, EventKind::Simple(simple))][..]);
-    let told = both_ways(&rt, rt.alloc(), limits, "1b000000e8d4a51000")?;
-    assert!(rt;
-        told.events[..] == [event(0, Width::Eight, EventKind::Unsigned(1000000000000))][..]
-    );
     Ok(())
 }
 

@@ -3,7 +3,8 @@
 ghost use Rattle.std.specs.Prelude.{◌≡◌, ℕ, ◌+◌, ◌^◌, ◌<◌, ◌≤◌, List, [], ◌++◌, length, MatchOption, MatchResult, IsUtf8};
 ghost use Rattle.std.specs.Str.Lossy.{utf8_valid_len};
 ghost use Rattle.arrayvec.specs.ArrayVec.{array_vec_len};
-ghost use Rattle.cbor_events.specs.TextCheck.{IsUnfinished, IsFixed, IsOpen, TextView, HasChecked, IsJudged, IsFilled};
+ghost use Rattle.cbor_events.specs.inner.TextCheck.{IsUnfinished, IsFixed, IsOpen, IsJudged, IsFilled};
+ghost use Rattle.cbor_events.specs.TextCheck.{TextView, HasChecked};
 
 use arrayvec::ArrayVec;
 use std::marker::Model;
@@ -25,7 +26,10 @@ pub struct TextCheck {
 impl Model for TextCheck {
     ghost Value = { TextView };
 
-    ghost view = { λ c. record { pushed = c.pushed; carried = c.carried.items; fault = c.fault } };
+    ghost view = { λ c. record {
+      pushed = c.pushed;
+      inner = record { carried = c.carried.items; fault = c.fault };
+    } };
 
     ghost invariant = { λ c. record {
       unfinished : IsUnfinished c.carried.items;

@@ -1,4 +1,4 @@
-//! What is told of an item, apart from numbers, widths and places.
+//! What is told of an item, apart from numbers, widths and positions.
 
 ghost use Rattle.std.specs.Prelude.{◌≡◌, ℕ};
 ghost use Rattle.cbor_events.specs.Token.{kind_of, number_in, IsEventToken};

@@ -1,16 +1,16 @@
 //! The bytes up to the next event.
 
-ghost use Rattle.std.specs.Prelude.{◌≡◌, ◌≤◌, ◌<◌, ◌+◌, take, length, replicate};
+ghost use Rattle.std.specs.Prelude.{◌≡◌, ◌≤◌, ◌<◌, ◌+◌, take, length, min, replicate, true, false};
 ghost use Rattle.arrayvec.specs.ArrayVec.{array_vec_len};
 ghost use Rattle.cbor_events.specs.Trace.{a_byte};
-ghost use Rattle.cbor_events.specs.Automaton as automaton;
-ghost use Rattle.cbor_events.specs.State.{frames_of, state_of, major_of, IsFit, IsSettled, wanted_at};
-ghost use Rattle.cbor_events.specs.Walk.{IsTold, IsEnded, IsWalkedProper, IsWalked, told_times};
+ghost use Rattle.cbor_events.specs.inner.Automaton as automaton;
+ghost use Rattle.cbor_events.specs.inner.State.{frames_of, state_of, major_of, IsFit, IsSettled, wanted_at, is_in_payload, is_done};
+ghost use Rattle.cbor_events.specs.inner.Walk.{IsTold, IsEnded, IsWalkedProper, IsWalkedReason, IsWalked, told_times};
 
 use crate::event::EventKind;
 use crate::frame::Frames;
 use crate::opening::Numbered;
-use crate::place::{Place, close_string};
+use crate::position::{Position, close_string};
 use crate::take_byte::{Next, take_byte};
 use cbor_head::{Reason, Width};
 
@@ -34,20 +34,20 @@ fn piece(
     depth: usize,
     frames: &mut Frames,
     input: &[u8],
-) -> (usize, Place)
+) -> (usize, Position)
     requires limit { array_vec_len frames.old ≤ 256 }
     requires some { 0 < length input.now }
-    ensures used { result.0 ≤ length input.now }
-    ensures wanted { length input.now ≤ left + 1 → result.0 ≡ length input.now }
-    ensures some { 0 < result.0 }
-    ensures ran { automaton.run depth (automaton.in_payload chunk (major_of kind) left (frames_of frames.old.items)) (take result.0 input.now)
+    ensures used { result.0 ≡ min (length input.now) (left + 1) }
+    ensures ran { automaton.run depth
+        (automaton.in_payload chunk (major_of kind) left (frames_of frames.old.items))
+        (take result.0 input.now)
         ≡ automaton.reached (state_of result.1 frames.new.items) (replicate result.0 a_byte) }
     ensures fewer { array_vec_len frames.new ≤ array_vec_len frames.old }
     ensures settled { IsSettled frames.new.items result.1 }
 {
     let n = input.len() as u64;
     if n <= left {
-        (input.len(), Place::Payload(chunk, kind, left - n))
+        (input.len(), Position::Payload(chunk, kind, left - n))
     } else {
         (left as usize + 1, close_string(chunk, kind, frames))
     }
@@ -55,36 +55,46 @@ fn piece(
 
 /// Takes bytes until one completes an event or is refused.
 #[tactic(auto, using(crate::proofs::Frames::settled_fit))]
-pub fn walk(depth: usize, place: &mut Place, frames: &mut Frames, input: &[u8]) -> (usize, Walked)
+pub fn walk(
+    depth: usize,
+    position: &mut Position,
+    frames: &mut Frames,
+    input: &[u8],
+) -> (usize, Walked)
     requires limit { depth ≤ 256 }
     requires within { array_vec_len frames.old ≤ depth }
-    requires fits { IsFit depth frames.old.items place.old }
+    requires fits { IsFit depth frames.old.items position.old }
     ensures used { result.0 ≤ length input.now }
-    ensures wanted { length input.now ≤ wanted_at place.old → result.0 ≡ length input.now }
-    ensures clear { IsTold result.1 → IsSettled frames.new.items place.new }
+    ensures wanted { length input.now ≤ wanted_at position.old → result.0 ≡ length input.now }
+    ensures payload { is_in_payload position.old ≡ true
+        → result.0 ≡ min (length input.now) (wanted_at position.old) }
+    ensures reason { is_done position.old ≡ false → IsWalkedReason result.1 }
+    ensures clear { IsTold result.1 → IsSettled frames.new.items position.new }
     ensures more { result.1 ≡ Walked.More → result.0 ≡ length input.now }
-    ensures open { result.1 ≡ Walked.More → IsSettled frames.new.items place.new → (result.0 ≡ 0) × IsSettled frames.old.items place.old }
+    ensures open { result.1 ≡ Walked.More → IsSettled frames.new.items position.new
+        → (result.0 ≡ 0) × IsSettled frames.old.items position.old }
     ensures some { IsEnded result.1 → 0 < result.0 }
     ensures proper { IsWalkedProper result.1 }
     ensures piece { told_times result.1 ≤ result.0 }
-    ensures walked { IsWalked result.1 depth (state_of place.old frames.old.items) (state_of place.new frames.new.items) (take result.0 input.now) }
+    ensures walked { IsWalked result.1 depth (state_of position.old frames.old.items)
+        (state_of position.new frames.new.items) (take result.0 input.now) }
     ensures within { array_vec_len frames.new ≤ depth }
-    ensures fits { IsFit depth frames.new.items place.new }
+    ensures fits { IsFit depth frames.new.items position.new }
 {
     if input.is_empty() {
         return (0, Walked::More);
     }
-    if let Place::Payload(chunk, kind, left) = *place {
+    if let Position::Payload(chunk, kind, left) = *position {
         let (n, next) = piece(chunk, kind, left, depth, frames, input);
-        *place = next;
+        *position = next;
         return (n, Walked::Told(Width::Direct, EventKind::Piece(n)));
     }
     for (i, c) in input.iter().enumerate() {
-        match take_byte(depth, *place, frames, *c) {
+        match take_byte(depth, *position, frames, *c) {
             Next::Refuses(reason) => return (i + 1, Walked::Refused(reason)),
-            Next::Goes(next) => *place = next,
+            Next::Goes(next) => *position = next,
             Next::Tells(width, kind, next) => {
-                *place = next;
+                *position = next;
                 return (i + 1, Walked::Told(width, kind));
             }
         }

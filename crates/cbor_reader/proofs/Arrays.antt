@@ -13,10 +13,10 @@ use Rattle.cbor_head.specs.declared.major.Major.TheVariants as majors
 use Rattle.cbor_head.specs.declared.width.Width.{Width}
 use Rattle.cbor_head.specs.declared.width.Width.TheVariants.{Direct, One, Two, Four, Eight, Indefinite}
 use Rattle.cbor_head.specs.declared.reason.Refusal.{Refusal}
-use Rattle.cbor_events.specs.Trace.{a_head, an_end}
-use Rattle.cbor_events.specs.Automaton.{Frame, counted, open_array, State, at_item, close, expect}
-use Rattle.cbor_events.specs.Taking.{IsTaking}
-use Rattle.cbor_events.specs.State.{count_of}
+use Rattle.cbor_events.specs.Trace.{a_head, a_break}
+use Rattle.cbor_events.specs.inner.Automaton.{Frame, counted, indefinite_array, State, at_item, close, expect}
+use Rattle.cbor_events.specs.inner.Taking.{IsTaking}
+use Rattle.cbor_events.specs.Marks.{count_of}
 use Rattle.cbor_events.specs.ItemEvents.{ItemEventsView}
 use Rattle.cbor_events.specs.declared.event.EventKind.TheVariants as kinds
 use Rattle.cbor_item.specs.declared.item.Item.{Item}
@@ -41,12 +41,12 @@ IsLeft w n done None = w ≡ Indefinite
 
 abbrev pub members_due : Option ℕ → List Frame → State
 members_due (Some left) fs = expect left fs
-members_due None fs = at_item (open_array ∷ fs)
+members_due None fs = at_item (indefinite_array ∷ fs)
 
 -- the containers around the next member
 abbrev pub member_frames : Option ℕ → List Frame → List Frame
 member_frames (Some left) fs = counted (left - 1) ∷ fs
-member_frames None fs = open_array ∷ fs
+member_frames None fs = indefinite_array ∷ fs
 
 -- The members so far of an array that stands behind t, and of which x was read when from was left; so many are left.
 pub record IsReadingArray (r : Rules) (b : Bounds) (fs : List Frame) (t x : List ℕ) (w : Width) (n : ℕ) (left : Option ℕ) (vs : Values) (from now : Option (List ℕ)) (e : ItemEventsView) : Type 0 where
@@ -85,7 +85,7 @@ starts-array r b fs t x w None from e i =
       done = no_spellings;
       so_far = record { holds = any_open w 0 i.proper; spelled = tt; within = omega arith; head_clean = i.clean; clean = λ c h. h };
       taken = subst (λ (y : List ℕ). Extends x y from from) bytes_are (extends-none x from);
-      at = at-as b e (t ++ x) (t ++ array_bytes w 0 no_spellings) i.next (at_item (open_array ∷ fs)) (ap (λ (y : List ℕ). t ++ y) bytes_are) taking.2.1 i.at;
+      at = at-as b e (t ++ x) (t ++ array_bytes w 0 no_spellings) i.next (at_item (indefinite_array ∷ fs)) (ap (λ (y : List ℕ). t ++ y) bytes_are) taking.2.1 i.at;
       counts = i.proper;
       values = refl;
       room = taking.2.0;
@@ -218,11 +218,11 @@ module _ (r : Rules) (b : Bounds) (fs : List Frame) (t x : List ℕ) (w : Width)
       }
 
   -- the break
-  pub array-ended : (to : Option (List ℕ)) (new : ItemEventsView) (bs : List ℕ) (next : State) → left ≢ Some 0 → IsTaking b.depth (at_item (member_frames left fs)) an_end bs next → Consumes mid to bs
+  pub array-ended : (to : Option (List ℕ)) (new : ItemEventsView) (bs : List ℕ) (next : State) → left ≢ Some 0 → IsTaking b.depth (at_item (member_frames left fs)) a_break bs next → Consumes mid to bs
       → IsAt b new ((t ++ array_bytes w n a.done) ++ bs) next → ReadsItem r b fs t x from to new (value.array vs)
   array-ended to new bs next some h c i = go left h a.counts
     where
-      go : (left : Option ℕ) → IsTaking b.depth (at_item (member_frames left fs)) an_end bs next → IsLeft w n (spellings_count a.done) left → ReadsItem r b fs t x from to new (value.array vs)
+      go : (left : Option ℕ) → IsTaking b.depth (at_item (member_frames left fs)) a_break bs next → IsLeft w n (spellings_count a.done) left → ReadsItem r b fs t x from to new (value.array vs)
       go (Some l) h counts = absurd h.1
       go None h counts =
           let k = spellings_count a.done in

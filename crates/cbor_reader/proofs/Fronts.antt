@@ -6,7 +6,7 @@ use Rattle.cbor_head.specs.Value.{Value}
 use Rattle.cbor_head.specs.Spelling.{spell, value_of}
 use Rattle.cbor_head.specs.Complaint.{Rules}
 use Rattle.cbor_head.specs.declared.reason.Refusal.{Refusal}
-use Rattle.cbor_events.specs.Automaton.{at_item}
+use Rattle.cbor_events.specs.inner.Automaton.{at_item}
 use Rattle.cbor_events.specs.ItemEvents.{ItemEventsView, StandsBetween}
 use Rattle.cbor_reader.specs.declared.rules.Rules as declared
 use Rattle.cbor_reader.specs.Rules.{rules_of}
@@ -19,7 +19,7 @@ use Rattle.cbor_reader.proofs.Tops.{item-read, item-unread, loses}
 
 -- before the first byte
 pub starts-at : (b : Bounds) (e : ItemEventsView) → AreBounds b → e.refusal ≡ None → (e.machine.depth ≡ b.depth) × (e.machine.bytes ≡ b.bytes) → StandsBetween e.machine [] [] → IsAt b e [] (at_item [])
-starts-at b e l live limits s = record { live = live; limits = l; depth = limits.0; bytes = limits.1; marks = []; stands = s; state = sym (cc (s.stands.ran)) }
+starts-at b e l live limits s = record { live = live; limits = l; depth = limits.0; bytes = limits.1; marks = []; stands = s; state = sym (cc (s.stands.inner.ran)) }
 
 known : (from : Option (List ℕ)) (P : List ℕ → Type 0) → ((input : List ℕ) → from ≡ Some input → P input) → IfSome from P
 known None P f = tt

@@ -11,7 +11,7 @@ use Rattle.cbor_head.specs.declared.major.Major.TheVariants.{Unsigned, Negative,
 use Rattle.cbor_head.specs.declared.width.Width.{Width}
 use Rattle.cbor_head.specs.declared.width.Width.TheVariants.{Direct, One, Two, Four, Eight, Indefinite}
 use Rattle.cbor_head.proofs.Agree.{head_of, body, parts}
-use Rattle.cbor_events.specs.Automaton.{Frame, State, at_item, in_head, in_simple, in_payload, in_chunks, done, has_room}
+use Rattle.cbor_events.specs.inner.Automaton.{Frame, State, at_item, in_head, in_simple, in_payload, in_chunks, done, has_room}
 use Rattle.cbor_events.proofs.Arguments.{number}
 use Rattle.cbor_events.proofs.Taking.{IsNumbered, IsWithin}
 use Rattle.cbor_reader.specs.Judged.{IsJudged}

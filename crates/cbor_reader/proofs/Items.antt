@@ -17,11 +17,11 @@ use Rattle.cbor_head.specs.declared.width.Width.{Width}
 use Rattle.cbor_head.specs.declared.width.Width.TheVariants.{Direct, One, Two, Four, Eight, Indefinite}
 use Rattle.cbor_head.specs.declared.reason.Refusal.{Refusal}
 use Rattle.cbor_head.proofs.OneFirst.{last, count_last}
-use Rattle.cbor_events.specs.Trace.{Mark, a_head, a_chunk, a_byte, an_end}
-use Rattle.cbor_events.specs.Automaton.{Frame, State, at_item}
-use Rattle.cbor_events.specs.Taking.{Follows, Opens, Ends, IsTaking}
-use Rattle.cbor_events.specs.State as state
-use Rattle.cbor_events.specs.State.{mark_of}
+use Rattle.cbor_events.specs.Trace.{Mark, a_head, a_chunk, a_byte, a_break}
+use Rattle.cbor_events.specs.inner.Automaton.{Frame, State, at_item}
+use Rattle.cbor_events.specs.inner.Taking.{Follows, Opens, Ends, IsTaking}
+use Rattle.cbor_events.specs.Marks as marks
+use Rattle.cbor_events.specs.Marks.{mark_of}
 use Rattle.cbor_events.specs.ItemEvents.{ItemEventsView}
 use Rattle.cbor_events.specs.declared.event.Event.{Event}
 use Rattle.cbor_events.specs.declared.event.EventKind.{EventKind}
@@ -101,8 +101,8 @@ definite d fs m Eight n bs next f h = record { bytes_are = h.0; holds = h.1; fol
 pub is-definite : (w : Width) (n : ℕ) → Holds w n → w ≢ Indefinite
 is-definite w n h e = subst (λ (x : Width). Holds x n) e h
 
-pub proper-definite : (w : Width) → state.IsDefinite w → w ≢ Indefinite
-proper-definite w h e = subst state.IsDefinite e h
+pub proper-definite : (w : Width) → marks.IsDefinite w → w ≢ Indefinite
+proper-definite w h e = subst marks.IsDefinite e h
 
 -- what has no indefinite form
 abbrev pub IsPlainMajor : Major → Type 0
@@ -177,7 +177,7 @@ head-judged r at d fs (a_head m Four n) bs next c h o = subst (λ (xs : List ℕ
 head-judged r at d fs (a_head m Eight n) bs next c h o = subst (λ (xs : List ℕ). IsJudged r at (d - length fs) xs (Some c)) (sym h.0) (definite-judged r at d fs m Eight n bs next c (definite d fs m Eight n bs next (is-definite Eight n h.1) h) o)
 head-judged r at d fs (a_chunk w n) bs next c h o = absurd h
 head-judged r at d fs a_byte bs next c h o = absurd h
-head-judged r at d fs an_end bs next c h o = absurd o
+head-judged r at d fs a_break bs next c h o = absurd o
 
 -- no head comes where an item is due
 pub stops-at-item : (r : Rules) (b : Bounds) (fs : List Frame) (t : List ℕ) (from to : Option (List ℕ)) (f : Refusal) → StopsHead r b (at_item fs) t from to f → StopsItem r b fs t [] from to f
@@ -222,7 +222,7 @@ taking-some d fs (a_head m One n) bs next h = omega (arith, ap length h.0, head-
 taking-some d fs (a_head m Two n) bs next h = omega (arith, ap length h.0, head-some m Two n)
 taking-some d fs (a_head m Four n) bs next h = omega (arith, ap length h.0, head-some m Four n)
 taking-some d fs (a_head m Eight n) bs next h = omega (arith, ap length h.0, head-some m Eight n)
-taking-some d fs an_end bs next h = omega (arith, ap length h.0)
+taking-some d fs a_break bs next h = omega (arith, ap length h.0)
 taking-some d fs (a_chunk w n) bs next h = absurd h
 taking-some d fs a_byte bs next h = absurd h
 

@@ -14,10 +14,10 @@ use Rattle.cbor_head.specs.declared.width.Width.{Width}
 use Rattle.cbor_head.specs.declared.width.Width.TheVariants.{Indefinite}
 use Rattle.cbor_head.specs.declared.reason.Refusal.{Refusal}
 use Rattle.cbor_head.proofs.Ends.{key_end}
-use Rattle.cbor_events.specs.Trace.{a_head, an_end}
-use Rattle.cbor_events.specs.Automaton.{Frame, counted, open_map, State, at_item, close, expect}
-use Rattle.cbor_events.specs.Taking.{Ends, IsTaking}
-use Rattle.cbor_events.specs.State.{count_of}
+use Rattle.cbor_events.specs.Trace.{a_head, a_break}
+use Rattle.cbor_events.specs.inner.Automaton.{Frame, counted, indefinite_map, State, at_item, close, expect}
+use Rattle.cbor_events.specs.inner.Taking.{Ends, IsTaking}
+use Rattle.cbor_events.specs.Marks.{count_of}
 use Rattle.cbor_events.specs.ItemEvents.{ItemEventsView}
 use Rattle.cbor_events.specs.declared.event.EventKind.TheVariants as kinds
 use Rattle.cbor_item.specs.declared.item.Item.{Item}
@@ -44,16 +44,16 @@ use Rattle.cbor_head.proofs.ReadLaws.{length_spell}
 -- how far the pairs are, where so many are left
 abbrev pub pairs_due : Option ℕ → List Frame → State
 pairs_due (Some left) fs = expect (left + left) fs
-pairs_due None fs = at_item (open_map false ∷ fs)
+pairs_due None fs = at_item (indefinite_map false ∷ fs)
 
 -- the containers around the next key, and around its content
 abbrev pub key_frames : Option ℕ → List Frame → List Frame
 key_frames (Some left) fs = counted (left + left - 1) ∷ fs
-key_frames None fs = open_map false ∷ fs
+key_frames None fs = indefinite_map false ∷ fs
 
 abbrev pub content_frames : Option ℕ → List Frame → List Frame
 content_frames (Some left) fs = counted (left + left - 2) ∷ fs
-content_frames None fs = open_map true ∷ fs
+content_frames None fs = indefinite_map true ∷ fs
 
 -- The pairs so far of a map that stands behind t, and of which x was read when from was left; so many are left.
 pub record IsReadingMap (r : Rules) (b : Bounds) (fs : List Frame) (t x : List ℕ) (w : Width) (n : ℕ) (left : Option ℕ) (es : Entries) (from now : Option (List ℕ)) (e : ItemEventsView) : Type 0 where
@@ -88,7 +88,7 @@ starts-map r b fs t x w None from e i =
       done = no_entries;
       so_far = record { holds = any_open w 0 i.proper; spelled = tt; within = omega arith; head_clean = i.clean; clean = λ c h. h };
       taken = subst (λ (y : List ℕ). Extends x y from from) bytes_are (extends-none x from);
-      at = at-as b e (t ++ x) (t ++ map_bytes w 0 no_entries) i.next (at_item (open_map false ∷ fs)) (ap (λ (y : List ℕ). t ++ y) bytes_are) taking.2.1 i.at;
+      at = at-as b e (t ++ x) (t ++ map_bytes w 0 no_entries) i.next (at_item (indefinite_map false ∷ fs)) (ap (λ (y : List ℕ). t ++ y) bytes_are) taking.2.1 i.at;
       counts = i.proper;
       values = refl;
       room = taking.2.0;
@@ -321,11 +321,11 @@ module _ (r : Rules) (b : Bounds) (fs : List Frame) (t x : List ℕ) (w : Width)
       }
 
   -- the break
-  pub map-ended : (to : Option (List ℕ)) (new : ItemEventsView) (bs : List ℕ) (next : State) → left ≢ Some 0 → IsTaking b.depth (at_item (key_frames left fs)) an_end bs next → Consumes mid to bs
+  pub map-ended : (to : Option (List ℕ)) (new : ItemEventsView) (bs : List ℕ) (next : State) → left ≢ Some 0 → IsTaking b.depth (at_item (key_frames left fs)) a_break bs next → Consumes mid to bs
       → IsAt b new ((t ++ map_bytes w n a.done) ++ bs) next → ReadsItem r b fs t x from to new (value.map es)
   map-ended to new bs next some h c i = go left h a.counts
     where
-      go : (left : Option ℕ) → IsTaking b.depth (at_item (key_frames left fs)) an_end bs next → IsLeft w n (entries_count a.done) left → ReadsItem r b fs t x from to new (value.map es)
+      go : (left : Option ℕ) → IsTaking b.depth (at_item (key_frames left fs)) a_break bs next → IsLeft w n (entries_count a.done) left → ReadsItem r b fs t x from to new (value.map es)
       go (Some l) h counts = absurd h.1
       go None h counts =
           let k = entries_count a.done in

@@ -9,7 +9,7 @@ use Rattle.cbor_head.specs.Complaint.{Rules, Complaint}
 use Rattle.cbor_head.specs.Verdict.{refusal}
 use Rattle.cbor_head.specs.declared.reason.Reason.{Reason}
 use Rattle.cbor_head.specs.declared.reason.Refusal.{Refusal}
-use Rattle.cbor_events.specs.Automaton.{Frame}
+use Rattle.cbor_events.specs.inner.Automaton.{Frame}
 use Rattle.cbor_events.specs.ItemEvents.{ItemEventsView}
 use Rattle.cbor_reader.specs.MapKeys.{IsInserted}
 use Rattle.cbor_reader.specs.NextKey.{ReadsKey, RefusesKey}

@@ -14,22 +14,23 @@ use Rattle.cbor_head.specs.declared.width.Width.{Width}
 use Rattle.cbor_head.specs.declared.reason.Refusal.{Refusal}
 use Rattle.cbor_head.specs.declared.reason.Reason.TheVariants.{InvalidText}
 use Rattle.cbor_events.specs.Trace.{Mark, a_byte}
-use Rattle.cbor_events.specs.Automaton.{Frame, counted, open_array, open_map, Outcome, refused, telling, State, at_item, in_head, in_simple, in_payload, in_chunks, done as at_end, close, close_string, payload, run, reached}
-use Rattle.cbor_events.specs.Taking.{IsTaking}
-use Rattle.cbor_events.specs.State.{state_of, marks_of}
+use Rattle.cbor_events.specs.inner.Automaton.{Frame, counted, indefinite_array, indefinite_map, Outcome, refused, telling, State, at_item, in_head, in_simple, in_payload, in_chunks, done as at_end, close, close_string, payload, run, reached}
+use Rattle.cbor_events.specs.inner.Taking.{IsTaking}
+use Rattle.cbor_events.specs.Marks.{marks_of}
+use Rattle.cbor_events.specs.inner.State.{state_of, is_in_payload}
 use Rattle.cbor_events.specs.ItemEvents as item_events
-use Rattle.cbor_events.specs.ItemEvents.{ItemEventsView, IsNextEvent, IsKept}
+use Rattle.cbor_events.specs.ItemEvents.{ItemEventsView, IsNextEvent, IsKept, call}
 use Rattle.cbor_events.specs.Bytes.{IsEventBytes}
 use Rattle.cbor_events.specs.declared.frame.Frame as frames
-use Rattle.cbor_events.specs.declared.place.Place.{Place}
-use Rattle.cbor_events.specs.declared.place.Place.TheVariants as places
+use Rattle.cbor_events.specs.declared.position.Position.{Position}
+use Rattle.cbor_events.specs.declared.position.Position.TheVariants as positions
 use Rattle.cbor_events.proofs.Forward.{payload-byte}
 use Rattle.cbor_events.specs.declared.event.Event.{Event}
 use Rattle.cbor_events.specs.declared.event.EventKind.{EventKind}
 use Rattle.cbor_events.specs.declared.event.EventKind.TheVariants as kinds
 use Rattle.cbor_events.proofs.Taking.{IsClear, IsWithin, nothing-taken, first-mark, within-start}
 use Rattle.cbor_reader.specs.Reading.{IsAt, IsFormRefusal, IsMemory, ReadsPayload, StopsPayload}
-use Rattle.cbor_reader.proofs.Steps.{Stops, SameLimits, stands-reached, at-reached, reached-as, at-clear, bytes_back, next-at, since}
+use Rattle.cbor_reader.proofs.Steps.{due-by, Stops, SameLimits, stands-reached, at-reached, reached-as, at-clear, bytes_back, next-at, since}
 use Rattle.cbor_reader.proofs.Scalars.{at-as}
 
 pub bytes_join : (xs ys : List ℕ) → AreBytes xs → AreBytes ys → AreBytes (xs ++ ys)
@@ -67,23 +68,23 @@ abbrev IsPayload : State → Type 0
 IsPayload (in_payload chunk m n fs) = Unit {0}
 IsPayload q = ⊥
 
-due-piece : (place : Place) (fs : List frames.Frame) (kind : EventKind) → IsPayload (state_of place fs) → item_events.IsDue place kind → IsPiece kind
-due-piece (places.Payload chunk type left) fs (kinds.Piece n) h d = tt
-due-piece (places.Payload chunk type left) fs (kinds.Unsigned n) h d = absurd d
-due-piece (places.Payload chunk type left) fs (kinds.Negative n) h d = absurd d
-due-piece (places.Payload chunk type left) fs (kinds.Simple n) h d = absurd d
-due-piece (places.Payload chunk type left) fs (kinds.Bytes n) h d = absurd d
-due-piece (places.Payload chunk type left) fs (kinds.Text n) h d = absurd d
-due-piece (places.Payload chunk type left) fs (kinds.Chunk n) h d = absurd d
-due-piece (places.Payload chunk type left) fs (kinds.Array n) h d = absurd d
-due-piece (places.Payload chunk type left) fs (kinds.Map n) h d = absurd d
-due-piece (places.Payload chunk type left) fs (kinds.Tag n) h d = absurd d
-due-piece (places.Payload chunk type left) fs kinds.End h d = absurd d
-due-piece places.Item fs kind h d = absurd h
-due-piece (places.Head chunk k width left argument) fs kind h d = absurd h
-due-piece places.SimpleNumber fs kind h d = absurd h
-due-piece (places.Chunks k) fs kind h d = absurd h
-due-piece places.Done fs kind h d = absurd h
+due-piece : (position : Position) (fs : List frames.Frame) (kind : EventKind) → IsPayload (state_of position fs) → item_events.IsDue (is_in_payload position) kind → IsPiece kind
+due-piece (positions.Payload chunk type left) fs (kinds.Piece n) h d = tt
+due-piece (positions.Payload chunk type left) fs (kinds.Unsigned n) h d = absurd d
+due-piece (positions.Payload chunk type left) fs (kinds.Negative n) h d = absurd d
+due-piece (positions.Payload chunk type left) fs (kinds.Simple n) h d = absurd d
+due-piece (positions.Payload chunk type left) fs (kinds.Bytes n) h d = absurd d
+due-piece (positions.Payload chunk type left) fs (kinds.Text n) h d = absurd d
+due-piece (positions.Payload chunk type left) fs (kinds.Chunk n) h d = absurd d
+due-piece (positions.Payload chunk type left) fs (kinds.Array n) h d = absurd d
+due-piece (positions.Payload chunk type left) fs (kinds.Map n) h d = absurd d
+due-piece (positions.Payload chunk type left) fs (kinds.Tag n) h d = absurd d
+due-piece (positions.Payload chunk type left) fs kinds.End h d = absurd d
+due-piece positions.Item fs kind h d = absurd h
+due-piece (positions.Head chunk k width left argument) fs kind h d = absurd h
+due-piece positions.SimpleNumber fs kind h d = absurd h
+due-piece (positions.Chunks k) fs kind h d = absurd h
+due-piece positions.Done fs kind h d = absurd h
 
 -- the bytes of a piece
 record PieceBytes (w : Width) (kind : EventKind) (kept piece bs : List ℕ) : Type 0 where
@@ -91,25 +92,25 @@ record PieceBytes (w : Width) (kind : EventKind) (kept piece bs : List ℕ) : Ty
   some : 0 < length bs
   marks : marks_of w kind ≡ replicate (length bs) a_byte
 
-piece-bytes : (w : Width) (kind : EventKind) (kept piece bs : List ℕ) → IsPiece kind → IsKept kind kept piece bs → IsEventBytes w kind bs → PieceBytes w kind kept piece bs
-piece-bytes w (kinds.Piece n) kept piece bs h k e = record { same = k; some = omega (arith, e.0.1, e.1); marks = ap (λ (j : ℕ). replicate j a_byte) (sym e.1) }
-piece-bytes w (kinds.Unsigned n) kept piece bs h k e = absurd h
-piece-bytes w (kinds.Negative n) kept piece bs h k e = absurd h
-piece-bytes w (kinds.Simple n) kept piece bs h k e = absurd h
-piece-bytes w (kinds.Bytes n) kept piece bs h k e = absurd h
-piece-bytes w (kinds.Text n) kept piece bs h k e = absurd h
-piece-bytes w (kinds.Chunk n) kept piece bs h k e = absurd h
-piece-bytes w (kinds.Array n) kept piece bs h k e = absurd h
-piece-bytes w (kinds.Map n) kept piece bs h k e = absurd h
-piece-bytes w (kinds.Tag n) kept piece bs h k e = absurd h
-piece-bytes w kinds.End kept piece bs h k e = absurd h
+piece-bytes : (told : List Mark) (w : Width) (kind : EventKind) (kept piece bs : List ℕ) → IsPiece kind → IsKept kind kept piece bs → IsEventBytes told w kind bs → PieceBytes w kind kept piece bs
+piece-bytes told w (kinds.Piece n) kept piece bs h k e = record { same = k; some = omega (arith, e.0.1, e.1); marks = ap (λ (j : ℕ). replicate j a_byte) (sym e.1) }
+piece-bytes told w (kinds.Unsigned n) kept piece bs h k e = absurd h
+piece-bytes told w (kinds.Negative n) kept piece bs h k e = absurd h
+piece-bytes told w (kinds.Simple n) kept piece bs h k e = absurd h
+piece-bytes told w (kinds.Bytes n) kept piece bs h k e = absurd h
+piece-bytes told w (kinds.Text n) kept piece bs h k e = absurd h
+piece-bytes told w (kinds.Chunk n) kept piece bs h k e = absurd h
+piece-bytes told w (kinds.Array n) kept piece bs h k e = absurd h
+piece-bytes told w (kinds.Map n) kept piece bs h k e = absurd h
+piece-bytes told w (kinds.Tag n) kept piece bs h k e = absurd h
+piece-bytes told w kinds.End kept piece bs h k e = absurd h
 
 clear-close : (fs : List Frame) → IsClear (close fs)
 clear-close [] = tt
 clear-close (counted zero ∷ fs) = clear-close fs
 clear-close (counted (suc n) ∷ fs) = tt
-clear-close (open_array ∷ fs) = tt
-clear-close (open_map due ∷ fs) = tt
+clear-close (indefinite_array ∷ fs) = tt
+clear-close (indefinite_map due ∷ fs) = tt
 
 clear-string : (chunk : Bool) (m : Major) (fs : List Frame) → IsClear (close_string chunk m fs)
 clear-string true m fs = tt
@@ -119,8 +120,8 @@ no-byte : (d : ℕ) (fs : List Frame) (cs : List ℕ) (u : State) → IsTaking d
 no-byte d [] cs u h = h
 no-byte d (counted zero ∷ fs) cs u h = no-byte d fs cs u h
 no-byte d (counted (suc n) ∷ fs) cs u h = h
-no-byte d (open_array ∷ fs) cs u h = h
-no-byte d (open_map due ∷ fs) cs u h = h
+no-byte d (indefinite_array ∷ fs) cs u h = h
+no-byte d (indefinite_map due ∷ fs) cs u h = h
 
 no-byte-behind : (d : ℕ) (chunk : Bool) (m : Major) (fs : List Frame) (cs : List ℕ) (u : State) → IsTaking d (close_string chunk m fs) a_byte cs u → ⊥
 no-byte-behind d true m fs cs u h = h
@@ -149,7 +150,7 @@ part d chunk m fs (suc n) (c ∷ cs) u b e =
 
 module _ (b : Bounds) (chunk : Bool) (m : Major) (fs : List Frame) (t : List ℕ) (left : ℕ) (old grown : List ℕ) (from now : Option (List ℕ)) (e : ItemEventsView) (n : ℕ)
     (h : HasCome b chunk m fs t left old grown from now e n) (some : 0 < left) where
-  payload-state : IsPayload (state_of e.machine.place e.machine.frames)
+  payload-state : IsPayload (state_of e.machine.inner.position e.machine.inner.frames)
   payload-state = subst IsPayload (sym h.at.state) (go left some)
     where
       go : (left : ℕ) → 0 < left → IsPayload (payload chunk m left fs)
@@ -160,15 +161,15 @@ module _ (b : Bounds) (chunk : Bool) (m : Major) (fs : List Frame) (t : List ℕ
   pub payload-open : payload chunk m left fs ≡ at_end → ⊥
   payload-open g = subst IsPayload (h.at.state ∙ g) payload-state
 
-  module _ (ev : Event) (to : Option (List ℕ)) (new : ItemEventsView) (same : SameLimits e.machine new.machine) (x : IsNextEvent ev now to e.machine new.machine e.piece new.piece (t ++ h.p) h.at.marks) where
+  module _ (ev : Event) (to : Option (List ℕ)) (new : ItemEventsView) (same : SameLimits e.machine new.machine) (x : IsNextEvent ev (call e new now to (t ++ h.p) h.at.marks)) where
     bytes-of : PieceBytes ev.width ev.kind e.piece new.piece x.bytes
-    bytes-of = piece-bytes ev.width ev.kind e.piece new.piece x.bytes (due-piece e.machine.place e.machine.frames ev.kind payload-state x.due) x.piece_is x.are
+    bytes-of = piece-bytes h.at.marks ev.width ev.kind e.piece new.piece x.bytes (due-piece e.machine.inner.position e.machine.inner.frames ev.kind payload-state (due-by b e (t ++ h.p) (payload chunk m left fs) ev.kind h.at x.due)) x.piece_is x.are
 
-    taken-part : (length x.bytes ≤ left) × (state_of new.machine.place new.machine.frames ≡ payload chunk m (left - length x.bytes) fs)
+    taken-part : (length x.bytes ≤ left) × (state_of new.machine.inner.position new.machine.inner.frames ≡ payload chunk m (left - length x.bytes) fs)
     taken-part =
-        part b.depth chunk m fs left x.bytes (state_of new.machine.place new.machine.frames) (bytes_back (t ++ h.p) x.bytes x.stands.stands.are_bytes)
-        (since b e new.machine (t ++ h.p) x.bytes (payload chunk m left fs) (marks_of ev.width ev.kind) h.at (same.depth ∙ h.at.depth) x.stands.stands.ran
-        ∙ ap (λ (ms : List Mark). reached (state_of new.machine.place new.machine.frames) ms) bytes-of.marks)
+        part b.depth chunk m fs left x.bytes (state_of new.machine.inner.position new.machine.inner.frames) (bytes_back (t ++ h.p) x.bytes x.stands.stands.are_bytes)
+        (since b e new.machine (t ++ h.p) x.bytes (payload chunk m left fs) (marks_of ev.width ev.kind) h.at (same.depth ∙ h.at.depth) x.stands.stands.inner.ran
+        ∙ ap (λ (ms : List Mark). reached (state_of new.machine.inner.position new.machine.inner.frames) ms) bytes-of.marks)
 
     pub part-fits : (0 < length new.piece) × (length new.piece ≤ left)
     part-fits =
@@ -187,7 +188,7 @@ module _ (b : Bounds) (chunk : Bool) (m : Major) (fs : List Frame) (t : List ℕ
           count = omega (arith, came, size, fits, length-append h.p x.bytes);
           are_bytes = bytes_join h.p x.bytes h.are_bytes (bytes_back (t ++ h.p) x.bytes x.stands.stands.are_bytes);
           grows = g ∙ ap (λ (u : List ℕ). u ++ new.piece) h.grows ∙ append_assoc old h.p new.piece ∙ ap (λ (u : List ℕ). old ++ (h.p ++ u)) bytes-of.same;
-          at = at-as b new ((t ++ h.p) ++ x.bytes) (t ++ (h.p ++ x.bytes)) (state_of new.machine.place new.machine.frames) (payload chunk m (left - length new.piece) fs) (append_assoc t h.p x.bytes)
+          at = at-as b new ((t ++ h.p) ++ x.bytes) (t ++ (h.p ++ x.bytes)) (state_of new.machine.inner.position new.machine.inner.frames) (payload chunk m (left - length new.piece) fs) (append_assoc t h.p x.bytes)
               (taken-part.1 ∙ ap (λ (j : ℕ). payload chunk m (left - j) fs) (sym size))
               (next-at b e new (t ++ h.p) ((t ++ h.p) ++ x.bytes) (payload chunk m left fs) (h.at.marks ++ marks_of ev.width ev.kind) h.at same live x.stands);
         }

@@ -8,7 +8,7 @@ use Rattle.cbor_head.specs.Value.{Value, Entries, AreEntriesInRange, HasDistinct
 use Rattle.cbor_head.specs.Spelling.{spell, depth}
 use Rattle.cbor_head.specs.Complaint.{Rules}
 use Rattle.cbor_head.specs.declared.reason.Refusal.{Refusal}
-use Rattle.cbor_events.specs.Automaton.{Frame, close}
+use Rattle.cbor_events.specs.inner.Automaton.{Frame, close}
 use Rattle.cbor_events.specs.ItemEvents.{ItemEventsView}
 use Rattle.cbor_item.specs.declared.item.Item.{Item}
 use Rattle.cbor_item.specs.View.{view}

@@ -10,7 +10,7 @@ use Rattle.cbor_head.specs.Complaint.{Rules, Complains}
 use Rattle.cbor_head.specs.declared.major.Major.TheVariants as majors
 use Rattle.cbor_head.specs.declared.width.Width.{Width}
 use Rattle.cbor_head.specs.declared.reason.Refusal.{Refusal}
-use Rattle.cbor_events.specs.Automaton.{Frame, counted, State, at_item, close}
+use Rattle.cbor_events.specs.inner.Automaton.{Frame, counted, State, at_item, close}
 use Rattle.cbor_events.specs.ItemEvents.{ItemEventsView}
 use Rattle.cbor_events.specs.declared.event.EventKind.TheVariants as kinds
 use Rattle.cbor_reader.specs.Judged.{IsJudged}

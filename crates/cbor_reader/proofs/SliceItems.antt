@@ -27,11 +27,12 @@ use Rattle.cbor_head.specs.declared.reason.Reason.{Reason}
 use Rattle.cbor_head.specs.declared.reason.Reason.TheVariants as reasons
 use Rattle.cbor_head.specs.declared.reason.Refusal.{Refusal}
 use Rattle.cbor_head.proofs.ReadLaws.{length_spell}
-use Rattle.cbor_events.specs.Trace.{Mark, a_head, a_chunk, a_byte, an_end}
-use Rattle.cbor_events.specs.Automaton.{Frame, counted, State, at_item, close, close_string, payload, done}
-use Rattle.cbor_events.specs.State.{mark_of}
+use Rattle.cbor_events.specs.Trace.{Mark, a_head, a_chunk, a_byte, a_break}
+use Rattle.cbor_events.specs.inner.Automaton.{Frame, counted, State, at_item, close, close_string, payload, done}
+use Rattle.cbor_events.specs.Marks.{mark_of}
 use Rattle.cbor_events.specs.ItemEvents.{ItemEventsView, IsNextEvent, IsEnd}
-use Rattle.cbor_events.specs.SliceEvents.{event_of, IsNextTold, IsRefusedTold}
+use Rattle.cbor_events.specs.SliceEvents.{event_of, slice_call, IsNextTold, IsRefusedTold}
+use Rattle.cbor_events.specs.Machine.{KeepsLimits}
 use Rattle.cbor_events.specs.SliceView.{SliceEventsView}
 use Rattle.cbor_events.specs.Token.{kind_of}
 use Rattle.cbor_events.specs.declared.event.EventKind.{EventKind}
@@ -40,7 +41,8 @@ use Rattle.cbor_events.specs.declared.token.Token.{Token}
 use Rattle.cbor_events.specs.declared.token.Token.TheVariants as tokens
 use Rattle.cbor_events.proofs.WholeHeads.{front-of}
 use Rattle.cbor_reader.specs.Reading.{IsAt, IsFault, IsHeadFault, IsMemory, IsHeadDue, IsNextHead, StopsHead, OfMark, IsBegun, ReadsItem, StopsItem, ReadsPayload, StopsPayload, string_kind, string_major}
-use Rattle.cbor_reader.specs.SliceChecks.{seen, IsOfBytes, TakesItem, TakesPayload, IsLastKey, TakesKey}
+use Rattle.cbor_events.specs.SliceView.{seen}
+use Rattle.cbor_reader.specs.SliceChecks.{IsOfBytes, TakesItem, TakesPayload, IsLastKey, TakesKey}
 use Rattle.cbor_reader.specs.NextKey.{RefusesKey}
 use Rattle.cbor_reader.specs.declared.rules.Rules.TheVariants.{Strict}
 use Rattle.cbor_reader.proofs.Judged.{Never}
@@ -53,7 +55,7 @@ use Rattle.cbor_reader.proofs.WholeStrings.{string-due, reads-string, stops-stri
 -- ---- what is told
 
 pub told-event : (token : Token) (old new : SliceEventsView) (t : List ℕ) (ms : List Mark) → (token ≡ tokens.Refused → ⊥) → (token ≡ tokens.End → ⊥) → IsNextTold token old new t ms
-    → IsNextEvent (event_of token new) (Some old.rest) (Some new.rest) old.machine new.machine old.piece new.piece t ms
+    → IsNextEvent (event_of token new) (slice_call old new t ms)
 told-event tokens.Refused old new t ms no_refusal no_end n = absurd (no_refusal refl)
 told-event tokens.End old new t ms no_refusal no_end n = absurd (no_end refl)
 told-event token old new t ms no_refusal no_end n = n.is
@@ -62,7 +64,7 @@ pub told-live : (token : Token) (new : SliceEventsView) → (token ≡ tokens.Re
 told-live tokens.Refused new no_refusal h = absurd (no_refusal refl)
 told-live token new no_refusal h = h
 
-pub told-end : (token : Token) (old new : SliceEventsView) (t : List ℕ) (ms : List Mark) → token ≡ tokens.End → IsNextTold token old new t ms → IsEnd (Some old.rest) (Some new.rest) old.machine new.machine old.piece new.piece t ms
+pub told-end : (token : Token) (old new : SliceEventsView) (t : List ℕ) (ms : List Mark) → token ≡ tokens.End → IsNextTold token old new t ms → IsEnd (slice_call old new t ms)
 told-end token old new t ms e n = (subst (λ x. IsNextTold x old new t ms) e n).is
 
 -- ---- a refusal
@@ -73,21 +75,21 @@ some-same e = cc
 other-reason : (f : Refusal) (reason : Reason) → f.reason ≡ reason → reason ≢ reasons.Read → reason ≢ reasons.Memory → IsOfBytes f
 other-reason f reason e no_read no_memory = record { no_read = λ g. no_read (sym e ∙ g); no_memory = λ g. no_memory (sym e ∙ g.0) }
 
-module _ (b : Bounds) (old new : SliceEventsView) (t : List ℕ) (q : State) (token : Token) (f : Refusal) (a : IsAt b (seen old) t q) (limits : (new.machine.depth ≡ old.machine.depth) × (new.machine.bytes ≡ old.machine.bytes))
+module _ (b : Bounds) (old new : SliceEventsView) (t : List ℕ) (q : State) (token : Token) (f : Refusal) (a : IsAt b (seen old) t q) (limits : KeepsLimits old.machine new.machine)
     (n : IsNextTold token old new t a.marks) where
   pub told-refusal : token ≡ tokens.Refused → new.refusal ≡ Some f → Stops b q t (Some old.rest) (Some new.rest) f × IsOfBytes f
   told-refusal e is =
       let r = (subst (λ x. IsNextTold x old new t a.marks) e n).is in
       let same : r.0 ≡ f = some-same (sym r.1.is ∙ is) in
       subst (λ (g : Refusal). Stops b q t (Some old.rest) (Some new.rest) g × IsOfBytes g) same (
-        stops b (seen old) new.machine t q (Some old.rest) (Some new.rest) r.0 a (limits-as old.machine new.machine limits) (elim r.1.stands [ inl c ↦ inl c.1 | inr c ↦ inr c ]),
+        stops b (seen old) (seen new) t q (Some old.rest) (Some new.rest) r.0 a (limits-as old.machine new.machine limits) (elim r.1.stands [ inl c ↦ inl c.1 | inr c ↦ inr c ]),
         elim r.1.stands [
           | inl c ↦ other-reason r.0 reasons.Truncated c.0 (λ g. cc g) (λ g. cc g)
           | inr (inl c) ↦ other-reason r.0 reasons.TooLong (ap (λ (x : Refusal). x.reason) c.is) (λ g. cc g) (λ g. cc g)
           | inr (inr c) ↦ record {
-              no_read = never-read new.machine.depth new.machine.bytes form _ r.0 (c.verdict []);
-              no_memory = λ g. let place = ap (λ (x : Refusal). x.place) c.is in let read = ap (λ (x : Refusal). x.read) c.is in omega (arith, place, read, g.1);
-            }
+            no_read = never-read new.machine.depth new.machine.bytes form _ r.0 (c.verdict []);
+            no_memory = λ g. let place = ap (λ (x : Refusal). x.place) c.is in let read = ap (λ (x : Refusal). x.read) c.is in omega (arith, place, read, g.1);
+          }
         ],
       )
 
@@ -113,12 +115,12 @@ fault-reason o (a_chunk w n) reason h = by-width w n h
     by-width Four n h = ((λ e. cc (sym h.1 ∙ e)), (λ e. cc (sym h.1 ∙ e)))
     by-width Eight n h = ((λ e. cc (sym h.1 ∙ e)), (λ e. cc (sym h.1 ∙ e)))
 fault-reason o a_byte reason h = absurd h
-fault-reason o an_end reason h = absurd h
+fault-reason o a_break reason h = absurd h
 
 module _ (o : KeyOrder) (b : Bounds) (old new : SliceEventsView) (t : List ℕ) (q : State) (token : Token) (w : Width) (k : ℕ) (due : IsHeadDue q) (a : IsAt b (seen old) t q)
-    (limits : (new.machine.depth ≡ old.machine.depth) × (new.machine.bytes ≡ old.machine.bytes)) (n : IsNextTold token old new t a.marks) (no_refusal : token ≡ tokens.Refused → ⊥) (no_end : token ≡ tokens.End → ⊥)
+    (limits : KeepsLimits old.machine new.machine) (n : IsNextTold token old new t a.marks) (no_refusal : token ≡ tokens.Refused → ⊥) (no_end : token ≡ tokens.End → ⊥)
     (width : w ≡ new.width) (number : k ≡ new.number) where
-  event : IsNextEvent (event_of token new) (Some old.rest) (Some new.rest) old.machine new.machine old.piece new.piece t a.marks
+  event : IsNextEvent (event_of token new) (slice_call old new t a.marks)
   event = told-event token old new t a.marks no_refusal no_end n
 
   mark-is : mark_of w (kind_of token k) ≡ mark_of new.width (kind_of token new.number)
@@ -135,7 +137,7 @@ module _ (o : KeyOrder) (b : Bounds) (old new : SliceEventsView) (t : List ℕ) 
   slice-bad-head f reason fault is =
       let other = fault-reason o (mark_of w (kind_of token k)) reason fault in (
         bad-head (strict o) b (seen old) (seen new) t q (event_of token new) (Some old.rest) (Some new.rest) f reason due a event (limits-as old.machine new.machine limits)
-        (subst (λ m. IsFault (strict o) m reason) mark-is fault) is,
+            (subst (λ m. IsFault (strict o) m reason) mark-is fault) is,
         other-reason f reason (ap (λ (x : Refusal). x.reason) is) other.0 other.1,
       )
 

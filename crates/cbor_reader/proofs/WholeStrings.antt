@@ -17,16 +17,16 @@ use Rattle.cbor_head.specs.declared.width.Width.{Width}
 use Rattle.cbor_head.specs.declared.width.Width.TheVariants.{Direct, One, Two, Four, Eight, Indefinite}
 use Rattle.cbor_head.specs.declared.reason.Refusal.{Refusal}
 use Rattle.cbor_head.specs.declared.reason.Reason.TheVariants.{InvalidText}
-use Rattle.cbor_events.specs.Trace.{Mark, a_head, a_chunk, a_byte, an_end}
-use Rattle.cbor_events.specs.State.{mark_of}
+use Rattle.cbor_events.specs.Trace.{Mark, a_head, a_chunk, a_byte, a_break}
+use Rattle.cbor_events.specs.Marks.{mark_of}
 use Rattle.cbor_events.specs.declared.event.Event.{Event}
 use Rattle.cbor_events.specs.declared.event.EventKind.{EventKind}
 use Rattle.cbor_events.specs.declared.event.EventKind.TheVariants as kinds
 use Rattle.cbor_head.proofs.OneFirst.{count_last}
 use Rattle.cbor_head.proofs.Agree.{string_later}
 use Rattle.std.proofs.KnownBytes.{Consumes-trans}
-use Rattle.cbor_events.specs.Automaton.{Frame, State, at_item, in_chunks, close, payload}
-use Rattle.cbor_events.specs.Taking.{IsTaking}
+use Rattle.cbor_events.specs.inner.Automaton.{Frame, State, at_item, in_chunks, close, payload}
+use Rattle.cbor_events.specs.inner.Taking.{IsTaking}
 use Rattle.cbor_events.specs.ItemEvents.{ItemEventsView}
 use Rattle.cbor_reader.specs.Judged.{IsJudged}
 use Rattle.cbor_reader.specs.Rules.{rules_of}
@@ -332,7 +332,7 @@ module _ (r : Rules) (b : Bounds) (fs : List Frame) (t x : List ℕ) (text : Boo
           (chunk-head-judged (string_major text) (chunks_of text) (is-chunked text) a.done r (length t) (b.depth - length fs) a.so_far w n c h.1 o)
       go c next bs (a_head m w n) h o = absurd h
       go c next bs a_byte h o = absurd h
-      go c next bs an_end h o = absurd o
+      go c next bs a_break h o = absurd o
 
   module _ (ev : Event) (mid2 : Option (List ℕ)) (e2 : ItemEventsView) (n : IsNextHead r b (in_chunks (string_major text) fs) (t ++ chunks_bytes (string_major text) a.done) ev mid mid2 e2) where
     pub chunk-kind : ((k : ℕ) → ev.kind ≡ kinds.Chunk k → ⊥) → (ev.kind ≡ kinds.End → ⊥) → ⊥

@@ -18,10 +18,11 @@ use Rattle.cbor_head.specs.declared.reason.Refusal.{Refusal}
 use Rattle.cbor_head.specs.declared.reason.Reason.{Reason}
 use Rattle.cbor_head.specs.declared.reason.Reason.TheVariants as reasons
 use Rattle.cbor_head.specs.declared.reason.Reason.TheVariants.{Truncated, Read, Memory, InvalidText}
-use Rattle.cbor_events.specs.Trace.{Mark, a_head, a_chunk, an_end}
-use Rattle.cbor_events.specs.Automaton.{Frame, State, at_item, in_chunks, close, close_string, payload, run, reached}
-use Rattle.cbor_events.specs.Taking.{Ends, IsTaking}
-use Rattle.cbor_events.specs.State.{state_of, mark_of, IsProper}
+use Rattle.cbor_events.specs.Trace.{Mark, a_head, a_chunk, a_break}
+use Rattle.cbor_events.specs.inner.Automaton.{Frame, State, at_item, in_chunks, close, close_string, payload, run, reached}
+use Rattle.cbor_events.specs.inner.Taking.{Ends, IsTaking}
+use Rattle.cbor_events.specs.Marks.{mark_of, IsProper}
+use Rattle.cbor_events.specs.inner.State.{state_of}
 use Rattle.cbor_events.specs.ItemEvents.{ItemEventsView, StandsBetween}
 use Rattle.cbor_events.specs.declared.event.Event.{Event}
 use Rattle.cbor_events.specs.declared.event.EventKind.{EventKind}
@@ -38,7 +39,7 @@ pub record IsAt (b : Bounds) (e : ItemEventsView) (t : List ℕ) (q : State) : T
   pub bytes : e.machine.bytes ≡ b.bytes
   pub marks : List Mark
   pub stands : StandsBetween e.machine t marks
-  pub state : state_of e.machine.place e.machine.frames ≡ q
+  pub state : state_of e.machine.inner.position e.machine.inner.frames ≡ q
 
 -- Of what is read, x was taken before, and all of y is now: the reader lost what y has behind x.
 pub record Extends (x y : List ℕ) (from to : Option (List ℕ)) : Type 0 where
@@ -152,7 +153,7 @@ pub record ReadsBreak (b : Bounds) (fs : List Frame) (t : List ℕ) (from to : O
   pub bytes : List ℕ
   pub consumed : Consumes from to bytes
   pub next : State
-  pub taking : IsTaking b.depth (at_item fs) an_end bytes next
+  pub taking : IsTaking b.depth (at_item fs) a_break bytes next
   pub at : IsAt b new (t ++ bytes) next
 
 -- what is answered of the member that is due, or of the break

@@ -9,19 +9,15 @@ use Rattle.cbor_head.specs.declared.major.Major.{Major}
 use Rattle.cbor_head.specs.declared.width.Width.{Width}
 use Rattle.cbor_head.specs.declared.reason.Refusal.{Refusal}
 use Rattle.cbor_head.specs.declared.reason.Reason.TheVariants.{Read}
-use Rattle.cbor_events.specs.Automaton.{Frame, State, at_item, close_string, payload}
-use Rattle.cbor_events.specs.Taking.{Ends}
+use Rattle.cbor_events.specs.inner.Automaton.{Frame, State, at_item, close_string, payload}
+use Rattle.cbor_events.specs.inner.Taking.{Ends}
 use Rattle.cbor_events.specs.ItemEvents.{ItemEventsView}
 use Rattle.cbor_events.specs.SliceEvents.{event_of}
-use Rattle.cbor_events.specs.SliceView.{SliceEventsView}
+use Rattle.cbor_events.specs.SliceView.{SliceEventsView, seen}
 use Rattle.cbor_events.specs.declared.event.EventKind.{EventKind}
 use Rattle.cbor_events.specs.declared.token.Token.{Token}
 use Rattle.cbor_reader.specs.Reading.{IsAt, IsMemory, IsHeadDue, IsNextHead, StopsHead, ReadsPayload, StopsPayload, IsBegun, ReadsItem, StopsItem}
 use Rattle.cbor_reader.specs.NextKey.{RefusesKey}
-
--- the events of a slice as those of a reader over what is left of it
-abbrev pub seen : SliceEventsView → ItemEventsView
-seen e = record { machine = e.machine; piece = e.piece; refusal = e.refusal }
 
 -- no reader failed, and no memory was asked for
 pub record IsOfBytes (f : Refusal) : Type 0 where

@@ -1,7 +1,7 @@
 //! The next head of an item.
 
 ghost use Rattle.std.specs.Prelude.{◌≡◌, MatchOption, ℕ};
-ghost use Rattle.cbor_events.specs.State.{mark_of};
+ghost use Rattle.cbor_events.specs.Marks.{mark_of};
 ghost use Rattle.cbor_head.specs.declared.reason.Reason.{Reason};
 ghost use Rattle.cbor_reader.specs.Reading.{HasHeadDue, AnswersHead, IsFault};
 ghost use Rattle.cbor_reader.specs.Rules.{rules_of};

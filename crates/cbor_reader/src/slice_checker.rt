@@ -4,11 +4,12 @@ ghost use Rattle.std.specs.Prelude.{◌≡◌, ◌↔◌, false, IsTrue, IsSome,
 ghost use Rattle.cbor_head.specs.Complaint.{strict};
 ghost use Rattle.cbor_head.specs.Order.{key_lt};
 ghost use Rattle.cbor_head.specs.declared.reason.Reason.{Reason};
-ghost use Rattle.cbor_events.specs.State.{mark_of};
+ghost use Rattle.cbor_events.specs.Marks.{mark_of};
 ghost use Rattle.cbor_events.specs.Token.{kind_of};
 ghost use Rattle.cbor_events.specs.declared.event.EventKind.TheVariants as kinds;
 ghost use Rattle.cbor_reader.specs.Reading.{IsDue, HasHeadDue, HasBegun, IsPayloadDue, IsFault};
-ghost use Rattle.cbor_reader.specs.SliceChecks.{seen, AnswersSliceHead};
+ghost use Rattle.cbor_events.specs.SliceView.{seen};
+ghost use Rattle.cbor_reader.specs.SliceChecks.{AnswersSliceHead};
 ghost use Rattle.cbor_reader.specs.SliceChecks.{ChecksPayload, ChecksItem, ChecksBegun};
 ghost use Rattle.cbor_reader.specs.SliceChecks.{IsSliceKeyDue, ChecksKey};
 
@@ -33,7 +34,7 @@ fn refusal_of(events: &SliceEvents<'_>) -> Refusal
 fn head_fault(order: KeyOrder, token: Token, width: Width, number: u64) -> Option<Reason>
     ensures { MatchOption result
         ((reason : Reason)
-            → IsFault (strict order) (mark_of width (kind_of token number)) reason → ⊥)
+        → IsFault (strict order) (mark_of width (kind_of token number)) reason → ⊥)
         (λ reason. IsFault (strict order) (mark_of width (kind_of token number)) reason) }
 {
     if let Token::Piece | Token::Break | Token::End | Token::Refused = token {

@@ -2,7 +2,7 @@
 
 ghost use Rattle.std.specs.Prelude.{◌≡◌, ℕ, List, true, IsUtf8, MatchResult, None};
 ghost use Rattle.cbor_head.specs.Limits.{Bounds};
-ghost use Rattle.cbor_events.specs.Automaton.{Frame};
+ghost use Rattle.cbor_events.specs.inner.Automaton.{Frame};
 ghost use Rattle.cbor_head.specs.declared.width.Width.{Width};
 ghost use Rattle.cbor_events.specs.declared.event.EventKind.TheVariants as kinds;
 ghost use Rattle.cbor_reader.specs.Reading.{AnswersItem, HasBegun, IsBegun, ReadsItem, StopsItem, string_kind, string_value};

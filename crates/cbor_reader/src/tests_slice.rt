@@ -17,7 +17,10 @@ fn look_for(
     answer: Result<u64, (Reason, u64, u64)>,
     hex: &str,
 ) {
-    match (check_canonical(bytes, limits(rt, depth, limit), order), answer) {
+    match (
+        check_canonical(bytes, limits(rt, depth, limit), order),
+        answer,
+    ) {
         (Ok(count), Ok(wanted)) => assert_eq!(rt; count, wanted, "at {hex}"),
         (Err(given), Err((reason, place, read))) => assert_eq!(rt;
             given,
@@ -83,12 +86,7 @@ static WITHIN_LIMITS: [(&str, u16, u64, Result<u64, (Reason, u64, u64)>); 10] = 
         Err((Reason::Truncated, 9, 9)),
     ),
     // {1: 0, 1: 0}, the second key in two bytes, which end at the limit, or behind it
-    (
-        "a20100180100",
-        256,
-        5,
-        Err((Reason::NotShortest, 3, 5)),
-    ),
+    ("a20100180100", 256, 5, Err((Reason::NotShortest, 3, 5))),
     ("a20100180100", 256, 4, Err((Reason::TooLong, 4, 4))),
     // [[1]]
     ("818101", 2, 3, Ok(3)),

@@ -1,7 +1,8 @@
 //! The event reader against the tables, over readers that give few bytes at a time, or fail.
 
-use super::{ACCEPTED, FRONTS, REFUSED, Told, bytes_of, event, join, limits, tell};
-use crate::{EventKind, EventReader, Out};
+use super::tables::{ACCEPTED, FRONTS, NOT_VALID, REFUSED};
+use super::{Told, bytes_of, event, events_of, join, limits};
+use crate::{Event, EventKind, EventReader, Out};
 use arrayvec::ArrayVec;
 use cbor_head::{Limits, Reason, Refusal, Width};
 use std::alloc::{AllocError, Global};
@@ -11,16 +12,18 @@ use std::process::Abort;
 use std::test::Fail;
 
 // A reader that gives at most so many bytes a read, and none beyond a cut with those before it. Where
-// it fails, it fails again however often it is asked.
+// it fails or ends, it does so once, and then goes on: a second read there is seen by what it gives.
 #[derive(Drop)]
 struct Parts<'a> {
     rest: &'a [u8],
     part: usize,
-    // The bytes before the cut, and before the failure.
+    // The bytes before the cut, before the failure and before the end.
     cut: usize,
     fails: usize,
-    // How many bytes the first reads were asked for.
+    ends: usize,
+    // How many bytes the first reads were asked for, and how many reads were for none.
     asked: ArrayVec<usize, 16>,
+    idle: usize,
 }
 
 impl<'a> Parts<'a> {
@@ -30,7 +33,9 @@ impl<'a> Parts<'a> {
             part: usize::MAX,
             cut: usize::MAX,
             fails: usize::MAX,
+            ends: usize::MAX,
             asked: ArrayVec::new(),
+            idle: 0,
         }
     }
 }
@@ -38,8 +43,16 @@ impl<'a> Parts<'a> {
 impl Read for Parts<'_> {
     fn read(&mut self, buf: &mut [u8]) -> io::Result<usize> {
         let _ = self.asked.try_push(buf.len());
+        if buf.is_empty() {
+            self.idle = self.idle.saturating_add(1);
+        }
         if self.fails == 0 {
+            self.fails = usize::MAX;
             return Err(io::Error::from(io::ErrorKind::Interrupted));
+        }
+        if self.ends == 0 {
+            self.ends = usize::MAX;
+            return Ok(0);
         }
         if self.cut == 0 {
             self.cut = usize::MAX;
@@ -49,11 +62,13 @@ impl Read for Parts<'_> {
             .min(self.rest.len())
             .min(self.part)
             .min(self.cut)
-            .min(self.fails);
+            .min(self.fails)
+            .min(self.ends);
         buf[..n].copy_from_slice(&self.rest[..n]);
         self.rest = &self.rest[n..];
         self.cut -= n;
         self.fails -= n;
+        self.ends -= n;
         Ok(n)
     }
 }
@@ -109,9 +124,9 @@ fn hear<R: Read + Drop>(alloc: Global, limits: Limits, reader: R) -> Result<Hear
 }
 
 // The bytes at the places of the pieces.
-fn payloads_of(alloc: Global, bytes: &[u8], told: &Told) -> Result<Vec<u8>, AllocError> {
+fn payloads_of(alloc: Global, bytes: &[u8], events: &[Event]) -> Result<Vec<u8>, AllocError> {
     let mut payloads = Vec::new(alloc);
-    for event in &told.events {
+    for event in events {
         if let EventKind::Piece(n) = event.kind {
             for byte in bytes.iter().skip(event.place as usize).take(n) {
                 payloads.push(*byte)?;
@@ -121,19 +136,20 @@ fn payloads_of(alloc: Global, bytes: &[u8], told: &Told) -> Result<Vec<u8>, Allo
     Ok(payloads)
 }
 
-// Reads the bytes, and a byte behind an item, whole, one by one, and with each cut, and looks for the
-// events and the payloads that a machine tells, this last answer, and what the reader has left.
+// Reads the bytes, and a byte behind an item, whole, one by one, and with each cut, and looks for these
+// events and their payloads, this last answer, and what the reader has left.
 fn look_every_way(
     rt: &impl Abort,
     alloc: Global,
     limits: Limits,
     hex: &str,
+    events: &str,
     out: Out,
     taken: u64,
 ) -> Result<(), Fail> {
-    let mut bytes = bytes_of(alloc, hex)?;
-    let told = tell(alloc, limits, &bytes, usize::MAX)?;
-    let payloads = payloads_of(alloc, &bytes, &told)?;
+    let mut bytes = bytes_of(rt, alloc, hex)?;
+    let events = events_of(rt, alloc, events)?;
+    let payloads = payloads_of(alloc, &bytes, &events)?;
     if out == Out::Done {
         bytes.push(0)?;
     }
@@ -143,99 +159,82 @@ fn look_every_way(
             parts.cut = cut;
             parts.part = part;
             let heard = hear(alloc, limits, &mut parts)?;
-            assert!(rt;
-                heard.told.events == told.events,
-                "events of {hex} cut at {cut}"
-            );
+            assert!(rt; heard.told.events == events, "events of {hex} cut at {cut}");
             assert!(rt;
                 heard.payloads == payloads,
                 "payloads of {hex} cut at {cut}"
             );
             assert_eq!(rt; heard.told.out, out, "{hex} cut at {cut}");
             assert_eq!(rt; heard.told.taken, taken, "{hex} cut at {cut}");
-            assert_eq!(rt;
-                parts.rest.len() as u64,
-                (bytes.len() as u64).saturating_sub(taken),
-                "{hex} cut at {cut}"
-            );
+            let left = (bytes.len() as u64).saturating_sub(taken);
+            assert_eq!(rt; parts.rest.len() as u64, left, "{hex} cut at {cut}");
+            assert_eq!(rt; parts.idle, 0, "{hex} cut at {cut}");
         }
     }
     Ok(())
 }
 
-// Well-formed items that are not valid, and one with a byte behind, with the bytes that are taken.
-pub const NOT_VALID: [(&str, u64, &str); 6] = [
-    ("63eda080", 4, "a text of a surrogate"),
-    ("6341c080", 4, "a text of \"A\" and U+0000 in two bytes"),
-    (
-        "6341e6b0",
-        4,
-        "a text of \"A\" and the front of a character",
-    ),
-    ("64f4908080", 5, "a text of a character past U+10FFFF"),
-    ("a26161007f6161ff01", 9, "{\"a\": 0, (_ \"a\"): 1}"),
-    ("9fffff", 2, "[_ ], and a break behind it"),
-];
+fn refused(reason: Reason, place: u64, read: u64) -> Out {
+    Out::Refused(Refusal {
+        reason,
+        place,
+        read,
+    })
+}
 
 #[test]
 fn reads_items(rt: HostRuntime) -> Result<(), Fail> {
     let limits = limits(&rt, 256, 1 << 20);
-    for (hex, _) in ACCEPTED {
-        look_every_way(
-            &rt,
-            rt.alloc(),
-            limits,
-            hex,
-            Out::Done,
-            hex.len() as u64 / 2,
-        )?;
+    for (hex, events) in ACCEPTED {
+        let taken = hex.len() as u64 / 2;
+        look_every_way(&rt, rt.alloc(), limits, hex, events, Out::Done, taken)?;
     }
-    for (hex, taken, _) in NOT_VALID {
-        look_every_way(&rt, rt.alloc(), limits, hex, Out::Done, taken)?;
+    for (hex, taken, events) in NOT_VALID {
+        look_every_way(&rt, rt.alloc(), limits, hex, events, Out::Done, taken)?;
     }
     Ok(())
 }
 
 #[test]
-fn refuses_as_the_machine(rt: HostRuntime) -> Result<(), Fail> {
-    for (hex, depth, bytes, reason, place, read) in REFUSED {
-        let out = Out::Refused(Refusal {
-            reason,
-            place,
-            read,
-        });
-        look_every_way(&rt, rt.alloc(), limits(&rt, depth, bytes), hex, out, read)?;
+fn refuses_as_the_tables_say(rt: HostRuntime) -> Result<(), Fail> {
+    for (hex, depth, bytes, reason, place, read, events) in REFUSED {
+        let out = refused(reason, place, read);
+        let limits = limits(&rt, depth, bytes);
+        look_every_way(&rt, rt.alloc(), limits, hex, events, out, read)?;
     }
-    for hex in FRONTS {
+    for (hex, events) in FRONTS {
         let there = hex.len() as u64 / 2;
-        let out = Out::Refused(Refusal {
-            reason: Reason::Truncated,
-            place: there,
-            read: there,
-        });
-        look_every_way(&rt, rt.alloc(), limits(&rt, 256, 1 << 20), hex, out, there)?;
+        let out = refused(Reason::Truncated, there, there);
+        let limits = limits(&rt, 256, 1 << 20);
+        look_every_way(&rt, rt.alloc(), limits, hex, events, out, there)?;
     }
     Ok(())
 }
 
+// A reader that fails, or ends, once at each place: it is told there, and nothing more is read.
 #[test]
-fn a_failing_read_is_told(rt: HostRuntime) -> Result<(), Fail> {
+fn a_failure_and_an_end_are_told_at_once(rt: HostRuntime) -> Result<(), Fail> {
     let limits = limits(&rt, 256, 1 << 20);
-    for (hex, text) in ACCEPTED {
-        let bytes = bytes_of(rt.alloc(), hex)?;
+    for (hex, _) in ACCEPTED {
+        let bytes = bytes_of(&rt, rt.alloc(), hex)?;
         for place in 0..bytes.len() {
-            let mut parts = Parts::new(&bytes);
-            parts.fails = place;
-            let heard = hear(rt.alloc(), limits, &mut parts)?;
-            let taken = place as u64;
-            let refusal = Refusal {
-                reason: Reason::Read,
-                place: taken,
-                read: taken,
-            };
-            assert_eq!(rt; heard.told.out, Out::Refused(refusal), "{text} at {place}");
-            assert_eq!(rt; heard.told.taken, taken, "{text} at {place}");
-            assert_eq!(rt; parts.rest.len(), bytes.len() - place, "{text} at {place}");
+            for reason in [Reason::Read, Reason::Truncated] {
+                let mut parts = Parts::new(&bytes);
+                if reason == Reason::Read {
+                    parts.fails = place;
+                } else {
+                    parts.ends = place;
+                }
+                let heard = hear(rt.alloc(), limits, &mut parts)?;
+                let taken = place as u64;
+                assert_eq!(rt;
+                    heard.told.out,
+                    refused(reason, taken, taken),
+                    "{hex} at {place}"
+                );
+                assert_eq!(rt; heard.told.taken, taken, "{hex} at {place}");
+                assert_eq!(rt; parts.rest.len(), bytes.len() - place, "{hex} at {place}");
+            }
         }
     }
     Ok(())
@@ -245,7 +244,7 @@ fn a_failing_read_is_told(rt: HostRuntime) -> Result<(), Fail> {
 #[test]
 fn asks_for_what_it_needs(rt: HostRuntime) -> Result<(), Fail> {
     // [256, "a string of 600 bytes"], and a byte behind
-    let mut bytes = bytes_of(rt.alloc(), "82190100790258")?;
+    let mut bytes = bytes_of(&rt, rt.alloc(), "82190100790258")?;
     for _ in 0..601 {
         bytes.push(b'a')?;
     }
@@ -265,13 +264,15 @@ fn asks_for_what_it_needs(rt: HostRuntime) -> Result<(), Fail> {
     // the same, with a limit of 10 bytes
     let mut parts = Parts::new(&bytes);
     let heard = hear(rt.alloc(), limits(&rt, 1, 10), &mut parts)?;
-    let refusal = Refusal {
-        reason: Reason::TooLong,
-        place: 10,
-        read: 10,
-    };
-    assert_eq!(rt; heard.told.out, Out::Refused(refusal));
+    assert_eq!(rt; heard.told.out, refused(Reason::TooLong, 10, 10));
     assert!(rt; parts.asked.as_slice() == [1, 1, 2, 1, 2, 3].as_slice());
+
+    // 2^32, by a head of nine bytes
+    let bytes = bytes_of(&rt, rt.alloc(), "1b0000000100000000")?;
+    let mut parts = Parts::new(&bytes);
+    let heard = hear(rt.alloc(), limits(&rt, 1, 9), &mut parts)?;
+    assert_eq!(rt; heard.told.out, Out::Done);
+    assert!(rt; parts.asked.as_slice() == [1, 8].as_slice());
     Ok(())
 }
 

@@ -1,77 +1,133 @@
 //! The events of a slice against the tables.
 
-use super::reading::NOT_VALID;
-use super::{ACCEPTED, FRONTS, REFUSED, bytes_of, limits};
-use crate::{SliceEvents, Token};
-use cbor_head::{Reason, Refusal, Width};
+use super::tables::{ACCEPTED, FRONTS, NOT_VALID, REFUSED};
+use super::{bytes_of, event, events_of, limits};
+use crate::{EventKind, SliceEvents, Token};
+use cbor_head::{Limits, Reason, Refusal, Simple};
+use std::alloc::Global;
 use std::process::Abort;
 use std::test::Fail;
 
-// The last answer of an item's events, with how many bytes were taken.
-fn last_told(events: &mut SliceEvents<'_>) -> (Token, u64) {
-    for _ in 0..1000 {
-        let token = events.next();
-        if let Token::End | Token::Refused = token {
-            return (token, events.taken());
+// The event that is told, by its number.
+fn kind_of(rt: &impl Abort, token: Token, number: u64) -> EventKind {
+    match token {
+        Token::Unsigned => EventKind::Unsigned(number),
+        Token::Negative => EventKind::Negative(number),
+        Token::Simple => {
+            let number = u8::try_from(number).expect(rt, "a number below 256");
+            EventKind::Simple(Simple::new(number).expect(rt, "a simple value"))
         }
+        Token::Bytes => EventKind::Bytes(Some(number)),
+        Token::Text => EventKind::Text(Some(number)),
+        Token::Chunk => EventKind::Chunk(number),
+        Token::Piece => EventKind::Piece(number as usize),
+        Token::Array => EventKind::Array(Some(number)),
+        Token::Map => EventKind::Map(Some(number)),
+        Token::Tag => EventKind::Tag(number),
+        Token::IndefiniteBytes => EventKind::Bytes(None),
+        Token::IndefiniteText => EventKind::Text(None),
+        Token::IndefiniteArray => EventKind::Array(None),
+        Token::IndefiniteMap => EventKind::Map(None),
+        Token::Break => EventKind::End,
+        Token::End | Token::Refused => panic!(rt; "no event is told"),
     }
-    (Token::Piece, 0)
 }
 
-// Bytes that begin an item, whatever follows: with another item behind them, twice.
-#[test]
-fn slices_items(rt: HostRuntime) -> Result<(), Fail> {
-    for (hex, text) in ACCEPTED {
-        let mut bytes = bytes_of(rt.alloc(), hex)?;
-        let count = bytes.len() as u64;
-        bytes.push(0)?;
-        let mut events = SliceEvents::new(&bytes, limits(&rt, 256, 1 << 20));
-        assert_eq!(rt; last_told(&mut events), (Token::End, count), "at {text}");
-        assert_eq!(rt; last_told(&mut events), (Token::End, count), "at {text}");
-        assert_eq!(rt; events.open(), 0, "at {text}");
-        assert_eq!(rt; events.refusal(), None, "at {text}");
-        // the item is complete where the limit is
-        let mut events = SliceEvents::new(&bytes, limits(&rt, 256, count));
-        assert_eq!(rt; last_told(&mut events), (Token::End, count), "at {text}");
+// Looks for these events of a slice, for the pieces at their places, and then for the end or this
+// refusal, with so many bytes taken, twice.
+fn look(
+    rt: &impl Abort,
+    alloc: Global,
+    limits: Limits,
+    bytes: &[u8],
+    text: &str,
+    refusal: Option<Refusal>,
+    taken: u64,
+) -> Result<(), Fail> {
+    let mut events = SliceEvents::new(bytes, limits);
+    for expected in &events_of(rt, alloc, text)? {
+        let token = events.next();
+        let kind = kind_of(rt, token, events.number());
+        let told = event(events.place(), events.width(), kind);
+        assert_eq!(rt; told, *expected, "of {text}");
+        assert_eq!(rt;
+            events.rest().len() as u64 + events.taken(),
+            limits.bytes().min(bytes.len() as u64)
+        );
+        if let EventKind::Piece(count) = kind {
+            let there = bytes
+                .get(told.place as usize..)
+                .expect(rt, "a piece in the slice");
+            assert!(rt; there.get(..count) == Some(events.piece()), "of {text}");
+        }
     }
-    for (hex, taken, text) in NOT_VALID {
-        let bytes = bytes_of(rt.alloc(), hex)?;
-        let mut events = SliceEvents::new(&bytes, limits(&rt, 256, 1 << 20));
-        assert_eq!(rt; last_told(&mut events), (Token::End, taken), "at {text}");
+    for _ in 0..2 {
+        let last = events.next();
+        if refusal.is_some() {
+            assert_eq!(rt; last, Token::Refused, "of {text}");
+        } else {
+            assert_eq!(rt; last, Token::End, "of {text}");
+            assert_eq!(rt; events.open(), 0, "of {text}");
+        }
+        assert_eq!(rt; events.refusal(), refusal, "of {text}");
+        assert_eq!(rt; events.taken(), taken, "of {text}");
     }
     Ok(())
 }
 
-// Looks for this refusal of these bytes, twice.
-fn look_for(rt: &impl Abort, bytes: &[u8], depth: u16, limit: u64, refusal: Refusal, hex: &str) {
-    let mut events = SliceEvents::new(bytes, limits(rt, depth, limit));
-    let refused = (Token::Refused, refusal.read);
-    assert_eq!(rt; last_told(&mut events), refused, "at {hex}");
-    assert_eq!(rt; events.refusal(), Some(refusal), "at {hex}");
-    assert_eq!(rt; last_told(&mut events), refused, "at {hex}");
-    assert_eq!(rt; events.refusal(), Some(refusal), "at {hex}");
+// A byte behind an item is not looked at.
+#[test]
+fn slices_items(rt: HostRuntime) -> Result<(), Fail> {
+    let limits = limits(&rt, 256, 1 << 20);
+    for (hex, text) in ACCEPTED {
+        let mut bytes = bytes_of(&rt, rt.alloc(), hex)?;
+        let count = bytes.len() as u64;
+        bytes.push(0xff)?;
+        look(&rt, rt.alloc(), limits, &bytes, text, None, count)?;
+    }
+    for (hex, taken, text) in NOT_VALID {
+        let bytes = bytes_of(&rt, rt.alloc(), hex)?;
+        look(&rt, rt.alloc(), limits, &bytes, text, None, taken)?;
+    }
+    Ok(())
 }
 
 #[test]
 fn refuses_slices_that_begin_no_item(rt: HostRuntime) -> Result<(), Fail> {
-    for (hex, depth, limit, reason, place, read) in REFUSED {
-        let bytes = bytes_of(rt.alloc(), hex)?;
-        let refusal = Refusal {
+    for (hex, depth, limit, reason, place, read, text) in REFUSED {
+        let bytes = bytes_of(&rt, rt.alloc(), hex)?;
+        let refusal = Some(Refusal {
             reason,
             place,
             read,
-        };
-        look_for(&rt, &bytes, depth, limit, refusal, hex);
+        });
+        look(
+            &rt,
+            rt.alloc(),
+            limits(&rt, depth, limit),
+            &bytes,
+            text,
+            refusal,
+            read,
+        )?;
     }
-    for hex in FRONTS {
-        let bytes = bytes_of(rt.alloc(), hex)?;
+    for (hex, text) in FRONTS {
+        let bytes = bytes_of(&rt, rt.alloc(), hex)?;
         let there = bytes.len() as u64;
-        let refusal = Refusal {
+        let truncated = Some(Refusal {
             reason: Reason::Truncated,
             place: there,
             read: there,
-        };
-        look_for(&rt, &bytes, 256, 1 << 20, refusal, hex);
+        });
+        look(
+            &rt,
+            rt.alloc(),
+            limits(&rt, 256, 1 << 20),
+            &bytes,
+            text,
+            truncated,
+            there,
+        )?;
     }
     Ok(())
 }
@@ -80,123 +136,28 @@ fn refuses_slices_that_begin_no_item(rt: HostRuntime) -> Result<(), Fail> {
 #[test]
 fn refuses_each_front(rt: HostRuntime) -> Result<(), Fail> {
     for (hex, _) in ACCEPTED {
-        let bytes = bytes_of(rt.alloc(), hex)?;
+        let bytes = bytes_of(&rt, rt.alloc(), hex)?;
         for cut in 0..bytes.len() {
-            let at = cut as u64;
+            let mut short = SliceEvents::new(&bytes[..cut], limits(&rt, 256, 1 << 20));
+            let mut limited = SliceEvents::new(&bytes, limits(&rt, 256, cut as u64));
+            for _ in 0..100 {
+                let _ = short.next();
+                let _ = limited.next();
+            }
             let truncated = Refusal {
                 reason: Reason::Truncated,
-                place: at,
-                read: at,
+                place: cut as u64,
+                read: cut as u64,
             };
-            look_for(&rt, &bytes[..cut], 256, 1 << 20, truncated, hex);
+            assert_eq!(rt; short.refusal(), Some(truncated), "at {hex}");
             let too_long = Refusal {
                 reason: Reason::TooLong,
                 ..truncated
             };
-            look_for(&rt, &bytes, 256, at, too_long, hex);
+            assert_eq!(rt; limited.refusal(), Some(too_long), "at {hex}");
         }
     }
     Ok(())
-}
-
-// What is told of these bytes: places, tokens, numbers, widths and pieces.
-fn look(rt: &impl Abort, bytes: &[u8], told: &[(u64, Token, u64, Width, &[u8])]) {
-    let mut events = SliceEvents::new(bytes, limits(rt, 256, 1 << 20));
-    for (place, token, number, width, piece) in told {
-        assert_eq!(rt; events.next(), *token, "at {}", *place);
-        assert_eq!(rt; events.place(), *place);
-        assert_eq!(rt; events.number(), *number, "at {}", *place);
-        assert_eq!(rt; events.width(), *width, "at {}", *place);
-        if let Token::Piece = token {
-            assert!(rt; events.piece() == *piece, "at {}", *place);
-        }
-    }
-    assert_eq!(rt; events.next(), Token::End);
-}
-
-#[test]
-fn tells_events_of_slices(rt: HostRuntime) {
-    let (direct, one, four, eight) = (Width::Direct, Width::One, Width::Four, Width::Eight);
-    let none = Width::Indefinite;
-    // {_ "Fun": true, "Amt": -2}
-    let map = [
-        (0, Token::IndefiniteMap, 0, none, &b""[..]),
-        (1, Token::Text, 3, direct, &b""[..]),
-        (2, Token::Piece, 3, direct, &b"Fun"[..]),
-        (5, Token::Simple, 21, direct, &b""[..]),
-        (6, Token::Text, 3, direct, &b""[..]),
-        (7, Token::Piece, 3, direct, &b"Amt"[..]),
-        (10, Token::Negative, 1, direct, &b""[..]),
-        (11, Token::Break, 0, none, &b""[..]),
-    ];
-    look(&rt, b"\xbf\x63Fun\xf5\x63Amt\x21\xff", &map);
-    // (_ h'0102', h'030405')
-    let bytes = [
-        (0, Token::IndefiniteBytes, 0, none, &b""[..]),
-        (1, Token::Chunk, 2, direct, &b""[..]),
-        (2, Token::Piece, 2, direct, &b"\x01\x02"[..]),
-        (4, Token::Chunk, 3, direct, &b""[..]),
-        (5, Token::Piece, 3, direct, &b"\x03\x04\x05"[..]),
-        (8, Token::Break, 0, none, &b""[..]),
-    ];
-    look(&rt, b"\x5f\x42\x01\x02\x43\x03\x04\x05\xff", &bytes);
-    // (_ "strea", "ming")
-    let text = [
-        (0, Token::IndefiniteText, 0, none, &b""[..]),
-        (1, Token::Chunk, 5, direct, &b""[..]),
-        (2, Token::Piece, 5, direct, &b"strea"[..]),
-        (7, Token::Chunk, 4, direct, &b""[..]),
-        (8, Token::Piece, 4, direct, &b"ming"[..]),
-        (12, Token::Break, 0, none, &b""[..]),
-    ];
-    look(&rt, b"\x7f\x65strea\x64ming\xff", &text);
-    // [_ 1, [2, {3: h''}], 1(1363896240)]
-    let array = [
-        (0, Token::IndefiniteArray, 0, none, &b""[..]),
-        (1, Token::Unsigned, 1, direct, &b""[..]),
-        (2, Token::Array, 2, direct, &b""[..]),
-        (3, Token::Unsigned, 2, direct, &b""[..]),
-        (4, Token::Map, 1, direct, &b""[..]),
-        (5, Token::Unsigned, 3, direct, &b""[..]),
-        (6, Token::Bytes, 0, direct, &b""[..]),
-        (7, Token::Tag, 1, direct, &b""[..]),
-        (8, Token::Unsigned, 1363896240, four, &b""[..]),
-        (13, Token::Break, 0, none, &b""[..]),
-    ];
-    look(
-        &rt,
-        b"\x9f\x01\x82\x02\xa1\x03\x40\xc1\x1a\x51\x4b\x67\xb0\xff",
-        &array,
-    );
-    // simple(255) and 1000000000000
-    look(&rt, b"\xf8\xff", &[(0, Token::Simple, 255, one, &b""[..])]);
-    look(
-        &rt,
-        b"\x1b\x00\x00\x00\xe8\xd4\xa5\x10\x00",
-        &[(0, Token::Unsigned, 1000000000000, eight, &b""[..])],
-    );
-}
-
-// A payload of three bytes of which two are there, in the slice or within the limit.
-#[test]
-fn tells_what_is_there_of_a_payload(rt: HostRuntime) {
-    for (bytes, limit, reason) in [
-        (&b"\x63ab"[..], 4, Reason::Truncated),
-        (&b"\x63abc"[..], 3, Reason::TooLong),
-    ] {
-        let mut events = SliceEvents::new(bytes, limits(&rt, 0, limit));
-        assert_eq!(rt; events.next(), Token::Text);
-        assert_eq!(rt; events.next(), Token::Piece);
-        assert_eq!(rt; events.number(), 2);
-        assert!(rt; events.piece() == b"ab".as_slice());
-        assert_eq!(rt; events.next(), Token::Refused);
-        let refusal = Refusal {
-            reason,
-            place: 3,
-            read: 3,
-        };
-        assert_eq!(rt; events.refusal(), Some(refusal));
-    }
 }
 
 #[test]
@@ -205,7 +166,6 @@ fn counts_what_is_open_in_a_slice(rt: HostRuntime) {
     let mut events = SliceEvents::new(b"\x81\x81\x61a\xff\x00", limits(&rt, 2, 5));
     for (open, taken, piece) in [(1, 1, 0), (2, 2, 0), (2, 3, 0), (0, 4, 1), (0, 4, 1)] {
         let _ = events.next();
-        assert_eq!(rt; events.rest().len() as u64, 5 - taken);
         assert_eq!(rt;
             (events.open(), events.taken(), events.piece().len()),
             (open, taken, piece)

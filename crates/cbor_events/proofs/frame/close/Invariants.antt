@@ -1,6 +1,6 @@
 use Rattle.std.proofs.Common.{◌≡◌, ◌≤◌, length}
-use Rattle.cbor_events.specs.Automaton as automaton
-use Rattle.cbor_events.specs.State.{frames_of}
+use Rattle.cbor_events.specs.inner.Automaton as automaton
+use Rattle.cbor_events.specs.inner.State.{frames_of}
 use Rattle.cbor_events.proofs.frame.close.Given as goal
 
 -- what is left closes as all did

@@ -1,5 +1,5 @@
 use Rattle.std.proofs.Common.{◌≤◌, ◌-◌, length, take}
-use Rattle.cbor_events.specs.Machine.{Goes}
+use Rattle.cbor_events.specs.inner.Steps.{Goes}
 use Rattle.cbor_events.proofs.tests.feed.Given as goal
 
 -- what was used was taken

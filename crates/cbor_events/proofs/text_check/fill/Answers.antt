@@ -1,5 +1,5 @@
 use Rattle.std.proofs.Common.{subst, ◌∙◌}
-use Rattle.cbor_events.specs.TextCheck.{IsFixed}
+use Rattle.cbor_events.specs.inner.TextCheck.{IsFixed}
 use Rattle.cbor_events.proofs.TextFronts.{fill-past, fill-never, fixed-now}
 use Rattle.cbor_events.proofs.text_check.fill.Goals as goal
 

@@ -1,6 +1,6 @@
 use Rattle.std.proofs.Common.{◌+◌, ◌++◌, length, take, sym, ap, subst, arith, length-append}
 use Rattle.std.specs.Str.{IsUtf8, IsValidUpTo}
-use Rattle.cbor_events.specs.TextCheck.{IsUnfinished, IsFixed, IsOpen}
+use Rattle.cbor_events.specs.inner.TextCheck.{IsUnfinished, IsFixed, IsOpen}
 use Rattle.cbor_events.proofs.TextFronts.{past-open, past-fixed, open-none}
 use Rattle.cbor_events.proofs.text_check.go_on.Goals as goal
 

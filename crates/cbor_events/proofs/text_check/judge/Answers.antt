@@ -1,5 +1,5 @@
 use Rattle.std.proofs.Common.{sym, subst, ◌∙◌}
-use Rattle.cbor_events.specs.TextCheck.{IsFixed}
+use Rattle.cbor_events.specs.inner.TextCheck.{IsFixed}
 use Rattle.cbor_events.proofs.TextFronts.{fixed}
 use Rattle.cbor_events.proofs.text_check.judge.Goals as goal
 

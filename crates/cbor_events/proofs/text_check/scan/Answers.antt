@@ -1,6 +1,6 @@
 use Rattle.std.proofs.Common.{◌-◌, ◌++◌, length, take, drop, sym, ap, subst, ◌∙◌, arith}
 use Rattle.std.proofs.lemmas.List.{take_rest}
-use Rattle.cbor_events.specs.TextCheck.{IsUnfinished, IsOpen}
+use Rattle.cbor_events.specs.inner.TextCheck.{IsUnfinished, IsOpen}
 use Rattle.cbor_events.proofs.TextFronts.{open-whole, open-rest, rest-unfinished, fixed-now}
 use Rattle.cbor_events.proofs.text_check.scan.Goals as goal
 

@@ -1,8 +1,8 @@
 use Rattle.std.proofs.Common.{◌+◌, take, length, arith, sym, ap, ◌∙◌, replicate}
 use Rattle.std.proofs.lemmas.List.{length-take-le}
-use Rattle.cbor_events.specs.Automaton.{reached}
+use Rattle.cbor_events.specs.inner.Automaton.{reached}
 use Rattle.cbor_events.specs.Trace.{a_byte}
-use Rattle.cbor_events.specs.State.{frames_of, major_of}
+use Rattle.cbor_events.specs.inner.State.{frames_of, major_of}
 use Rattle.cbor_events.proofs.Runs.{piece_part, piece_last}
 use Rattle.cbor_events.proofs.walk.piece.Goals as goal
 

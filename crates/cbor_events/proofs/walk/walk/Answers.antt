@@ -1,8 +1,8 @@
 use Rattle.std.proofs.Common.{arith, ap, ◌∙◌, sym}
-use Rattle.cbor_events.specs.Automaton.{reached}
-use Rattle.cbor_events.specs.State.{state_of}
+use Rattle.cbor_events.specs.inner.Automaton.{reached}
+use Rattle.cbor_events.specs.inner.State.{state_of}
 use Rattle.cbor_events.proofs.Runs.{run-goes, run-tells, once-marks}
-use Rattle.cbor_events.proofs.Frames.{wanted-head}
+use Rattle.cbor_events.proofs.Frames.{wanted-head, still-going}
 use Rattle.cbor_events.proofs.walk.walk.Goals as goal
 
 pub returns-in-Tells-clause-walked : goal.returns-in-Tells-clause-walked
@@ -16,11 +16,15 @@ loop-i-preserved c = record {
   within = c.in-Goes.ensures.within;
   fits = c.in-Goes.ensures.fits;
   began = λ settled. absurd (c.in-Goes.ensures.open settled);
+  going = λ not_done. still-going c.in-Goes.next c.args.depth c.take_byte.new.frames.items c.in-Goes.ensures.fits c.in-Goes.ensures.open;
   left = omega (arith, c.loop-i.invariant.left, c.in-Goes.ensures.left);
 }
 
 pub returns-in-Refuses-clause-wanted : goal.returns-in-Refuses-clause-wanted
-returns-in-Refuses-clause-wanted c = λ few. omega (arith, wanted-head c.args.place.now c.in_default.not-Payload, c.loop-i.invariant.left, c.in-Refuses.ensures.left, c.loop-i-test.true)
+returns-in-Refuses-clause-wanted c = λ few. omega (arith, wanted-head c.args.position.now c.in_default.not-Payload, c.loop-i.invariant.left, c.in-Refuses.ensures.left, c.loop-i-test.true)
 
 pub returns-in-Tells-clause-wanted : goal.returns-in-Tells-clause-wanted
-returns-in-Tells-clause-wanted c = λ few. omega (arith, wanted-head c.args.place.now c.in_default.not-Payload, c.loop-i.invariant.left, c.in-Tells.ensures.left, c.loop-i-test.true)
+returns-in-Tells-clause-wanted c = λ few. omega (arith, wanted-head c.args.position.now c.in_default.not-Payload, c.loop-i.invariant.left, c.in-Tells.ensures.left, c.loop-i-test.true)
+
+pub returns-in-Refuses-clause-reason : goal.returns-in-Refuses-clause-reason
+returns-in-Refuses-clause-reason c = λ not_done. c.in-Refuses.ensures.reason (c.loop-i.invariant.going not_done)

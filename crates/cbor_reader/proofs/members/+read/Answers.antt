@@ -1,6 +1,6 @@
 use Rattle.std.proofs.Common.{◌++◌, ◌∷◌, [], ◌∙◌, length, inl, inr, refl, ap, subst, arith}
-use Rattle.cbor_events.specs.Automaton.{at_item, counted}
-use Rattle.cbor_events.specs.State.{count_of}
+use Rattle.cbor_events.specs.inner.Automaton.{at_item, counted}
+use Rattle.cbor_events.specs.Marks.{count_of}
 use Rattle.cbor_events.specs.declared.event.EventKind.{EventKind}
 use Rattle.cbor_item.specs.View.{values_view, entries_view}
 use Rattle.cbor_item.proofs.Views.{view-Unsigned, view-Negative, view-Simple}

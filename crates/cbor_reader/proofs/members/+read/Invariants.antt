@@ -1,8 +1,8 @@
 use Rattle.std.proofs.Common.{ℕ, List, [], ◌+◌, ◌-◌, ◌*◌}
 use Rattle.cbor_head.specs.Limits.{Bounds}
 use Rattle.cbor_head.specs.declared.width.Width.{Width}
-use Rattle.cbor_events.specs.Automaton.{Frame}
-use Rattle.cbor_events.specs.State.{count_of}
+use Rattle.cbor_events.specs.inner.Automaton.{Frame}
+use Rattle.cbor_events.specs.Marks.{count_of}
 use Rattle.cbor_events.specs.ItemEvents.{ItemEventsView}
 use Rattle.cbor_events.specs.declared.event.EventKind.TheVariants as kinds
 use Rattle.cbor_item.specs.View.{values_view, entries_view}

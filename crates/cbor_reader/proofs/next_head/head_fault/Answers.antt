@@ -1,6 +1,6 @@
 use Rattle.std.proofs.Common.{rules, sym, subst}
 use Rattle.cbor_head.specs.declared.reason.Reason.TheVariants as reasons
-use Rattle.cbor_events.specs.State.{mark_of}
+use Rattle.cbor_events.specs.Marks.{mark_of}
 use Rattle.cbor_reader.specs.Reading.{IsFault}
 use Rattle.cbor_reader.specs.Rules.{rules_of}
 use Rattle.cbor_reader.specs.declared.rules.Rules.{Rules}

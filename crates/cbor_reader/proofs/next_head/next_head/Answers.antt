@@ -24,4 +24,4 @@ returns-in-Some g c = λ b q t due a.
 pub returns-in-Err : goal.returns-in-Err
 returns-in-Err g c = λ b q t due a.
     no-head (rules_of c.args.rules) b q t _ _ c.in-Err.refusal
-    (stops b c.args.events.now c.next.new.self.machine t q _ _ c.in-Err.refusal a (limits-as _ _ c.next.ensures.limits) (c.in-Err.ensures.answers a.live t a.marks a.stands).1)
+    (stops b c.args.events.now c.next.new.self t q _ _ c.in-Err.refusal a (limits-as _ _ c.next.ensures.limits) (c.in-Err.ensures.answers a.live t a.marks a.stands).1)

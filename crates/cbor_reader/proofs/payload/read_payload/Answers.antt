@@ -1,5 +1,5 @@
 use Rattle.std.proofs.Common.{◌≡◌, length, ap, arith, true≢false, sym}
-use Rattle.cbor_events.specs.Automaton.{payload}
+use Rattle.cbor_events.specs.inner.Automaton.{payload}
 use Rattle.cbor_reader.proofs.Steps.{stops, limits-as, told, not-ended}
 use Rattle.cbor_reader.proofs.Payloads.{none-come, payload-open, part-fits, part-comes, part-memory, part-cut, all-come}
 use Rattle.cbor_reader.proofs.payload.read_payload.Goals as goal
@@ -19,7 +19,7 @@ pub returns-in-Err : goal.returns-in-Err
 returns-in-Err g c = λ b chunk m fs t a.
     let h = c.loop-left.invariant b chunk m fs t a in
     part-cut b chunk m fs t c.loop-left.left _ _ _ _ c.loop-left.events c.args.count h c.loop-left-test.true _ c.in-Err.refusal
-    (stops b c.loop-left.events c.next.new.self.machine _ _ _ _ c.in-Err.refusal h.at (limits-as _ _ c.next.ensures.limits) (c.in-Err.ensures.answers h.at.live _ h.at.marks h.at.stands).1)
+    (stops b c.loop-left.events c.next.new.self _ _ _ _ c.in-Err.refusal h.at (limits-as _ _ c.next.ensures.limits) (c.in-Err.ensures.answers h.at.live _ h.at.marks h.at.stands).1)
 
 pub returns-in-Err-extend_from_slice : goal.returns-in-Err-extend_from_slice
 returns-in-Err-extend_from_slice g c = λ b chunk m fs t a.

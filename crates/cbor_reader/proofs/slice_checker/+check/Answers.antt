@@ -4,7 +4,7 @@ use Rattle.std.specs.Prelude.{Some}
 use Rattle.cbor_head.specs.Complaint.{strict}
 use Rattle.cbor_head.specs.Verdict.{refusal}
 use Rattle.cbor_head.specs.Value as value
-use Rattle.cbor_events.specs.Automaton.{at_item, counted, payload}
+use Rattle.cbor_events.specs.inner.Automaton.{at_item, counted, payload}
 use Rattle.cbor_events.specs.SliceEvents.{event_of}
 use Rattle.cbor_events.specs.Token.{kind_of}
 use Rattle.cbor_events.specs.declared.event.EventKind.TheVariants as kinds
@@ -12,7 +12,8 @@ use Rattle.cbor_events.specs.declared.token.Token.TheVariants as tokens
 use Rattle.cbor_head.specs.declared.reason.Reason.TheVariants as reasons
 use Rattle.cbor_head.specs.declared.major.Major.TheVariants as majors
 use Rattle.cbor_reader.specs.Frame.{keys_onto}
-use Rattle.cbor_reader.specs.SliceChecks.{seen, IsLastKey}
+use Rattle.cbor_events.specs.SliceView.{seen}
+use Rattle.cbor_reader.specs.SliceChecks.{IsLastKey}
 use Rattle.cbor_reader.proofs.Composition.{array_bytes, map_bytes}
 use Rattle.cbor_reader.proofs.Items.{stops-at-item, no-end, head-farther}
 use Rattle.cbor_reader.proofs.Scalars.{tag-due, reads-unsigned, reads-negative, reads-simple}
@@ -32,9 +33,10 @@ pub check_array-check_item-requires : goal.check_array-check_item-requires
 check_array-check_item-requires t c =
     let s = c.requires in
     let (vs, h) = c.members.invariant s.b s.fs s.t s.x s.w s.begun in
-    let due = member-due (strict c.args.order) s.b s.fs s.t s.x s.w c.args.count (Some c.members.left) vs _ _ (seen c.members.events) h (some-left c.members.left c.members-test.true) in
-    (omega (arith, c.decreases, no-farther (strict c.args.order) s.b s.fs s.t s.x s.w c.args.count (Some c.members.left) vs _ _ (seen c.members.events) h (seen c.args.events.now) _ s.begun.at),
-    record { b = s.b; fs = member_frames (Some c.members.left) s.fs; t = s.t ++ array_bytes s.w c.args.count h.done; at = due; no_break = λ next e. e })
+    let due = member-due (strict c.args.order) s.b s.fs s.t s.x s.w c.args.count (Some c.members.left) vs _ _ (seen c.members.events) h (some-left c.members.left c.members-test.true) in (
+      omega (arith, c.decreases, no-farther (strict c.args.order) s.b s.fs s.t s.x s.w c.args.count (Some c.members.left) vs _ _ (seen c.members.events) h (seen c.args.events.now) _ s.begun.at),
+      record { b = s.b; fs = member_frames (Some c.members.left) s.fs; t = s.t ++ array_bytes s.w c.args.count h.done; at = due; no_break = λ next e. e },
+    )
 
 pub check_array-returns-in-Err : goal.check_array-returns-in-Err
 check_array-returns-in-Err t c = λ b fs t' x w i.
@@ -91,9 +93,10 @@ pub check_map-check_key-requires : goal.check_map-check_key-requires
 check_map-check_key-requires t c =
     let s = c.requires in
     let (es, h, l) = c.pairs.invariant s.b s.fs s.t s.x s.w s.begun in
-    let due = key-due (strict c.args.order) s.b s.fs s.t s.x s.w c.args.count (Some c.pairs.left) es _ _ (seen c.pairs.events) h (some-left c.pairs.left c.pairs-test.true) in
-    (omega (arith, c.decreases, map-no-farther (strict c.args.order) s.b s.fs s.t s.x s.w c.args.count (Some c.pairs.left) es _ _ (seen c.pairs.events) h (seen c.args.events.now) _ s.begun.at),
-    record { b = s.b; fs = key_frames (Some c.pairs.left) s.fs; t = s.t ++ map_bytes s.w c.args.count h.done; ks = keys_onto [] h.done; at = due; no_break = λ next e. e; nearest = l })
+    let due = key-due (strict c.args.order) s.b s.fs s.t s.x s.w c.args.count (Some c.pairs.left) es _ _ (seen c.pairs.events) h (some-left c.pairs.left c.pairs-test.true) in (
+      omega (arith, c.decreases, map-no-farther (strict c.args.order) s.b s.fs s.t s.x s.w c.args.count (Some c.pairs.left) es _ _ (seen c.pairs.events) h (seen c.args.events.now) _ s.begun.at),
+      record { b = s.b; fs = key_frames (Some c.pairs.left) s.fs; t = s.t ++ map_bytes s.w c.args.count h.done; ks = keys_onto [] h.done; at = due; no_break = λ next e. e; nearest = l },
+    )
 
 pub check_map-returns-in-Err : goal.check_map-returns-in-Err
 check_map-returns-in-Err t c = λ b fs t' x w i.
@@ -116,9 +119,10 @@ check_map-check_item-requires t c =
     let due = key-due (strict c.args.order) s.b s.fs s.t s.x s.w c.args.count (Some c.pairs.left) es _ _ (seen c.pairs.events) h some in
     let k = c.in-Ok.ensures s.b (key_frames (Some c.pairs.left) s.fs) _ (keys_onto [] h.done) due l in
     let at = content-due (strict c.args.order) s.b s.fs s.t s.x s.w c.args.count (Some c.pairs.left) es _ _ (seen c.pairs.events) h _ (seen c.check_key.new.events) k.value some k.reads k.fresh in
-    let less = item-farther (strict c.args.order) s.b (key_frames (Some c.pairs.left) s.fs) _ _ _ _ (seen c.pairs.events) (seen c.check_key.new.events) k.value due k.reads in
-    (omega (arith, c.decreases, less, map-no-farther (strict c.args.order) s.b s.fs s.t s.x s.w c.args.count (Some c.pairs.left) es _ _ (seen c.pairs.events) h (seen c.args.events.now) _ s.begun.at),
-    record { b = s.b; fs = content_frames (Some c.pairs.left) s.fs; t = _; at = at; no_break = λ next e. e })
+    let less = item-farther (strict c.args.order) s.b (key_frames (Some c.pairs.left) s.fs) _ _ _ _ (seen c.pairs.events) (seen c.check_key.new.events) k.value due k.reads in (
+      omega (arith, c.decreases, less, map-no-farther (strict c.args.order) s.b s.fs s.t s.x s.w c.args.count (Some c.pairs.left) es _ _ (seen c.pairs.events) h (seen c.args.events.now) _ s.begun.at),
+      record { b = s.b; fs = content_frames (Some c.pairs.left) s.fs; t = _; at = at; no_break = λ next e. e },
+    )
 
 pub check_map-returns-in-Err-check_item : goal.check_map-returns-in-Err-check_item
 check_map-returns-in-Err-check_item t c = λ b fs t' x w i.
@@ -170,27 +174,30 @@ check_item-check_array-requires t c =
     let d = c.requires in
     let n = c.in-Ok.ensures d.b (at_item d.fs) d.t tt d.at in
     let item = no-end (strict c.args.order) d.b d.fs d.t (event_of c.in-Ok.token c.next_head.new.events) _ _ (seen c.next_head.new.events) n d.no_break in
-    let i = begun (strict c.args.order) d.b d.fs d.t c.in-Ok.token tokens.Array c.number-number.result c.args.events.now c.next_head.new.events n item c.in-Array.is c.number-number.ensures in
-    (omega (arith, c.decreases, head-farther (strict c.args.order) d.b d.fs d.t (event_of c.in-Ok.token c.next_head.new.events) _ _ (seen c.args.events.now) (seen c.next_head.new.events) d.at n),
-    record { b = d.b; fs = d.fs; t = d.t; x = n.bytes; w = _; begun = i })
+    let i = begun (strict c.args.order) d.b d.fs d.t c.in-Ok.token tokens.Array c.number-number.result c.args.events.now c.next_head.new.events n item c.in-Array.is c.number-number.ensures in (
+      omega (arith, c.decreases, head-farther (strict c.args.order) d.b d.fs d.t (event_of c.in-Ok.token c.next_head.new.events) _ _ (seen c.args.events.now) (seen c.next_head.new.events) d.at n),
+      record { b = d.b; fs = d.fs; t = d.t; x = n.bytes; w = _; begun = i },
+    )
 
 pub check_item-check_map-requires : goal.check_item-check_map-requires
 check_item-check_map-requires t c =
     let d = c.requires in
     let n = c.in-Ok.ensures d.b (at_item d.fs) d.t tt d.at in
     let item = no-end (strict c.args.order) d.b d.fs d.t (event_of c.in-Ok.token c.next_head.new.events) _ _ (seen c.next_head.new.events) n d.no_break in
-    let i = begun (strict c.args.order) d.b d.fs d.t c.in-Ok.token tokens.Map c.number-number.result c.args.events.now c.next_head.new.events n item c.in-Map.is c.number-number.ensures in
-    (omega (arith, c.decreases, head-farther (strict c.args.order) d.b d.fs d.t (event_of c.in-Ok.token c.next_head.new.events) _ _ (seen c.args.events.now) (seen c.next_head.new.events) d.at n),
-    record { b = d.b; fs = d.fs; t = d.t; x = n.bytes; w = _; begun = i })
+    let i = begun (strict c.args.order) d.b d.fs d.t c.in-Ok.token tokens.Map c.number-number.result c.args.events.now c.next_head.new.events n item c.in-Map.is c.number-number.ensures in (
+      omega (arith, c.decreases, head-farther (strict c.args.order) d.b d.fs d.t (event_of c.in-Ok.token c.next_head.new.events) _ _ (seen c.args.events.now) (seen c.next_head.new.events) d.at n),
+      record { b = d.b; fs = d.fs; t = d.t; x = n.bytes; w = _; begun = i },
+    )
 
 pub check_item-check_item-requires : goal.check_item-check_item-requires
 check_item-check_item-requires t c =
     let d = c.requires in
     let n = c.in-Ok.ensures d.b (at_item d.fs) d.t tt d.at in
     let item = no-end (strict c.args.order) d.b d.fs d.t (event_of c.in-Ok.token c.next_head.new.events) _ _ (seen c.next_head.new.events) n d.no_break in
-    let i = begun (strict c.args.order) d.b d.fs d.t c.in-Ok.token tokens.Tag c.number-number.result c.args.events.now c.next_head.new.events n item c.in-Tag.is c.number-number.ensures in
-    (omega (arith, c.decreases, head-farther (strict c.args.order) d.b d.fs d.t (event_of c.in-Ok.token c.next_head.new.events) _ _ (seen c.args.events.now) (seen c.next_head.new.events) d.at n),
-    record { b = d.b; fs = counted 0 ∷ d.fs; t = d.t ++ n.bytes; at = tag-due (strict c.args.order) d.b d.fs d.t n.bytes (seen c.next_head.new.events) _ c.number-number.result (Some c.next_head.new.events.rest) i; no_break = λ next e. e })
+    let i = begun (strict c.args.order) d.b d.fs d.t c.in-Ok.token tokens.Tag c.number-number.result c.args.events.now c.next_head.new.events n item c.in-Tag.is c.number-number.ensures in (
+      omega (arith, c.decreases, head-farther (strict c.args.order) d.b d.fs d.t (event_of c.in-Ok.token c.next_head.new.events) _ _ (seen c.args.events.now) (seen c.next_head.new.events) d.at n),
+      record { b = d.b; fs = counted 0 ∷ d.fs; t = d.t ++ n.bytes; at = tag-due (strict c.args.order) d.b d.fs d.t n.bytes (seen c.next_head.new.events) _ c.number-number.result (Some c.next_head.new.events.rest) i; no_break = λ next e. e },
+    )
 
 pub check_item-unreachable-requires : goal.check_item-unreachable-requires
 check_item-unreachable-requires t c =

@@ -4,12 +4,13 @@ use Rattle.cbor_head.specs.Limits.{Bounds}
 use Rattle.cbor_head.specs.Value.{Values, Entries}
 use Rattle.cbor_head.specs.Complaint.{strict}
 use Rattle.cbor_head.specs.declared.width.Width.{Width}
-use Rattle.cbor_events.specs.Automaton.{Frame}
+use Rattle.cbor_events.specs.inner.Automaton.{Frame}
 use Rattle.cbor_events.specs.SliceView.{SliceEventsView}
 use Rattle.cbor_events.specs.declared.event.EventKind.TheVariants as kinds
 use Rattle.cbor_reader.specs.Frame.{keys_onto}
 use Rattle.cbor_reader.specs.Reading.{IsBegun}
-use Rattle.cbor_reader.specs.SliceChecks.{seen, IsLastKey}
+use Rattle.cbor_events.specs.SliceView.{seen}
+use Rattle.cbor_reader.specs.SliceChecks.{IsLastKey}
 use Rattle.cbor_reader.proofs.Arrays.{IsReadingArray}
 use Rattle.cbor_reader.proofs.Maps.{IsReadingMap}
 use Rattle.cbor_reader.proofs.slice_checker.+check.Given as goal

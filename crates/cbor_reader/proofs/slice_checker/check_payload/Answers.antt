@@ -1,8 +1,8 @@
 use Rattle.std.proofs.Common.{◌≡◌, ◌++◌, [], length, refl, ap, sym, arith, true≢false}
 use Rattle.std.specs.Prelude.{None, Some}
-use Rattle.cbor_events.specs.Automaton.{payload}
+use Rattle.cbor_events.specs.inner.Automaton.{payload}
 use Rattle.cbor_events.specs.SliceEvents.{event_of}
-use Rattle.cbor_reader.specs.SliceChecks.{seen}
+use Rattle.cbor_events.specs.SliceView.{seen}
 use Rattle.cbor_reader.proofs.Steps.{limits-as, not-ended}
 use Rattle.cbor_reader.proofs.Payloads.{none-come, payload-open, part-fits, part-comes, part-cut, all-come}
 use Rattle.cbor_reader.proofs.SliceItems.{told-event, told-live, told-end, told-refusal}
@@ -44,11 +44,12 @@ loop-left-smaller c =
 pub loop-left-preserved : goal.loop-left-preserved
 loop-left-preserved c = λ b chunk m fs t a.
     let (grown, h) = c.loop-left.invariant b chunk m fs t a in
-    rw c.piece-piece.ensures
-    (grown ++ c.next.new.self.piece,
-    part-comes b chunk m fs t c.loop-left.left [] grown _ _ (seen c.loop-left.events) c.args.count h c.loop-left-test.true (event_of c.next.result c.next.new.self) (Some c.next.new.self.rest) (seen c.next.new.self) (limits-as _ _ c.next.ensures.limits)
-    (told-event c.next.result c.loop-left.events c.next.new.self _ _ c.in_default.not-Refused c.in_default.not-End (c.next.ensures.answers h.at.live _ h.at.marks h.at.stands))
-    (grown ++ c.next.new.self.piece) (told-live c.next.result c.next.new.self c.in_default.not-Refused c.next.ensures.refused) refl)
+    rw c.piece-piece.ensures (
+      grown ++ c.next.new.self.piece,
+      part-comes b chunk m fs t c.loop-left.left [] grown _ _ (seen c.loop-left.events) c.args.count h c.loop-left-test.true (event_of c.next.result c.next.new.self) (Some c.next.new.self.rest) (seen c.next.new.self) (limits-as _ _ c.next.ensures.limits)
+          (told-event c.next.result c.loop-left.events c.next.new.self _ _ c.in_default.not-Refused c.in_default.not-End (c.next.ensures.answers h.at.live _ h.at.marks h.at.stands))
+          (grown ++ c.next.new.self.piece) (told-live c.next.result c.next.new.self c.in_default.not-Refused c.next.ensures.refused) refl,
+    )
 
 pub returns : goal.returns
 returns c = λ b chunk m fs t a.

@@ -1,5 +1,5 @@
 use Rattle.std.proofs.Common.{[], arith}
-use Rattle.cbor_reader.specs.SliceChecks.{seen}
+use Rattle.cbor_events.specs.SliceView.{seen}
 use Rattle.cbor_reader.proofs.Fronts.{starts-at}
 use Rattle.cbor_reader.proofs.SliceFronts.{slice-read, slice-unread, read-front, no-front}
 use Rattle.cbor_reader.proofs.strict_slice.check_canonical.Goals as goal

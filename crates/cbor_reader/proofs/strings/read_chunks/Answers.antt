@@ -1,5 +1,5 @@
 use Rattle.std.proofs.Common.{◌++◌, true}
-use Rattle.cbor_events.specs.Automaton.{in_chunks}
+use Rattle.cbor_events.specs.inner.Automaton.{in_chunks}
 use Rattle.cbor_reader.specs.Reading.{string_major}
 use Rattle.cbor_reader.specs.Rules.{rules_of}
 use Rattle.cbor_reader.proofs.Leaves.{chunks_bytes}

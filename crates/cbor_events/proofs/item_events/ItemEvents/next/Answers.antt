@@ -1,10 +1,14 @@
-use Rattle.std.proofs.Common.{sym, subst}
-use Rattle.cbor_events.specs.Machine.{IsComplete}
+use Rattle.std.proofs.Common.{[], refl, sym, subst, Some}
+use Rattle.cbor_events.specs.Machine.{KeepsLimits}
 use Rattle.cbor_events.specs.ItemEvents.{ItemEventsView, StandsBetween}
+use Rattle.cbor_events.proofs.NextEvents.{refused-call}
 use Rattle.cbor_events.proofs.item_events.ItemEvents.next.Goals as goal
 
 pub returns-in-Err-clause-answers : goal.returns-in-Err-clause-answers
 returns-in-Err-clause-answers g c = λ live t ms h.
     let here = subst (λ (v : ItemEventsView). StandsBetween v.machine t ms) (sym c.self.view_is) h in
-    let next = c.in-Err.ensures.answers t ms here in
-    (subst (λ (v : ItemEventsView). ¬ IsComplete v.machine) c.self.view_is next.0, next.1)
+    refused-call c.in-Err.refusal _ c.args.self.now (record { machine = c.advance.new.machine; piece = []; refusal = Some c.in-Err.refusal }) _ _ _ t ms c.self.view_is (c.in-Err.ensures.answers t ms here)
+
+pub returns-in-Some-clause-limits : goal.returns-in-Some-clause-limits
+returns-in-Some-clause-limits g c = subst (λ (v : ItemEventsView). KeepsLimits v.machine v.machine) c.self.view_is
+    (record { depth = refl; bytes = refl; open_count = c.self.invariant.within; taken = c.self.invariant.limited })

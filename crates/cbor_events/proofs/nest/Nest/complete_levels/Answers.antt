@@ -1,6 +1,6 @@
 use Rattle.std.proofs.Common.{sym, ap, ◌∙◌}
-use Rattle.cbor_events.specs.State.{frame_of}
-use Rattle.cbor_events.specs.Nest.{level_frame, advanced}
+use Rattle.cbor_events.specs.inner.State.{frame_of}
+use Rattle.cbor_events.specs.inner.Nest.{level_frame, advanced}
 use Rattle.cbor_events.proofs.Nests.{goes-on}
 use Rattle.cbor_events.proofs.nest.Nest.complete_levels.Goals as goal
 

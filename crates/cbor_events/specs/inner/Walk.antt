@@ -1,7 +1,8 @@
 -- What comes of some bytes.
 use Rattle.std.specs.Prelude.{◌≡◌, ℕ, ◌++◌, List, [], ◌∷◌}
-use Rattle.cbor_events.specs.Automaton.{State, refuses, take_byte, run, reached}
-use Rattle.cbor_events.specs.State.{marks_of, times, IsProper}
+use Rattle.cbor_events.specs.inner.Automaton.{State, refuses, take_byte, run, reached}
+use Rattle.cbor_events.specs.Reasons.{IsFormReason}
+use Rattle.cbor_events.specs.Marks.{marks_of, times, IsProper}
 use Rattle.cbor_events.specs.declared.walk.Walked.{Walked}
 use Rattle.cbor_events.specs.declared.walk.Walked.TheVariants.{More, Told, Refused}
 
@@ -19,6 +20,10 @@ IsTold _ = ⊥
 abbrev pub IsWalkedProper : Walked → Type 0
 IsWalkedProper (Told w kind) = IsProper w kind
 IsWalkedProper _ = Unit {0}
+
+abbrev pub IsWalkedReason : Walked → Type 0
+IsWalkedReason (Refused r) = IsFormReason r
+IsWalkedReason _ = Unit {0}
 
 -- the bytes of a piece
 abbrev pub told_times : Walked → ℕ

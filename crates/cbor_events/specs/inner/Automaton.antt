@@ -1,6 +1,6 @@
 -- An automaton that takes an item byte by byte (RFC 8949, section 3 and appendix C).
 use Rattle.std.specs.Prelude.{ℕ, zero, suc, ◌+◌, ◌*◌, ◌-◌, ◌/◌, ◌%◌, Bool, true, false, not, nat_lt, if◌then◌else◌, List, [], ◌∷◌, length}
-use Rattle.cbor_events.specs.Trace.{Mark, a_head, a_chunk, a_byte, an_end, more_bytes}
+use Rattle.cbor_events.specs.Trace.{Mark, a_head, a_chunk, a_byte, a_break, more_bytes}
 use Rattle.cbor_head.specs.Verdict.{initial_reason}
 use Rattle.cbor_head.specs.declared.major.Major.{Major}
 use Rattle.cbor_head.specs.declared.major.Major.TheVariants.{Unsigned, Negative, Bytes, Text, Array, Map, Tag, Simple}
@@ -13,9 +13,9 @@ use Rattle.cbor_head.specs.declared.reason.Reason.TheVariants.{BadSimple, BadChu
 pub data Frame : Type 0 where
   -- so many members after the one that is due
   counted : ℕ → Frame
-  open_array : Frame
+  indefinite_array : Frame
   -- true: a value is due
-  open_map : Bool → Frame
+  indefinite_map : Bool → Frame
 
 -- Where the next byte belongs, and the open containers, the innermost first. A string's flag is true in a chunk.
 pub data State : Type 0 where
@@ -36,8 +36,8 @@ start = at_item []
 pub data Opening : Type 0 where
   direct : Major → ℕ → Opening
   long : Major → Width → Opening
-  chunked : Major → Opening
-  unbounded : Major → Frame → Opening
+  indefinite_string : Major → Opening
+  indefinite_container : Major → Frame → Opening
   long_simple : Opening
   breaks : Opening
   bad : Opening
@@ -60,12 +60,12 @@ major_at (suc (suc (suc (suc (suc (suc zero)))))) = Tag
 major_at _ = Simple
 
 -- with the low five bits 31
-abbrev pub without_length : Major → Opening
-without_length Bytes = chunked Bytes
-without_length Text = chunked Text
-without_length Array = unbounded Array open_array
-without_length Map = unbounded Map (open_map false)
-without_length _ = bad
+abbrev pub indefinite_length : Major → Opening
+indefinite_length Bytes = indefinite_string Bytes
+indefinite_length Text = indefinite_string Text
+indefinite_length Array = indefinite_container Array indefinite_array
+indefinite_length Map = indefinite_container Map (indefinite_map false)
+indefinite_length _ = bad
 
 -- by the low five bits above 23, for the types but simple values and for those
 abbrev pub numbered_tail : Major → ℕ → Opening
@@ -73,7 +73,7 @@ numbered_tail major zero = long major One
 numbered_tail major (suc zero) = long major Two
 numbered_tail major (suc (suc zero)) = long major Four
 numbered_tail major (suc (suc (suc zero))) = long major Eight
-numbered_tail major (suc (suc (suc (suc (suc (suc (suc zero))))))) = without_length major
+numbered_tail major (suc (suc (suc (suc (suc (suc (suc zero))))))) = indefinite_length major
 numbered_tail major _ = bad
 
 abbrev pub simple_tail : ℕ → Opening
@@ -97,8 +97,8 @@ abbrev pub close : List Frame → State
 close [] = done
 close (counted zero ∷ fs) = close fs
 close (counted (suc n) ∷ fs) = at_item (counted n ∷ fs)
-close (open_array ∷ fs) = at_item (open_array ∷ fs)
-close (open_map due ∷ fs) = at_item (open_map (not due) ∷ fs)
+close (indefinite_array ∷ fs) = at_item (indefinite_array ∷ fs)
+close (indefinite_map due ∷ fs) = at_item (indefinite_map (not due) ∷ fs)
 
 -- so many members are due
 abbrev pub expect : ℕ → List Frame → State
@@ -143,16 +143,16 @@ enter d fs major c next = if has_room d fs major then next else refuses (initial
 
 -- a break where an item is due
 abbrev pub break_at : List Frame → ℕ → Next
-break_at (open_array ∷ fs) c = tells an_end (close fs)
-break_at (open_map false ∷ fs) c = tells an_end (close fs)
+break_at (indefinite_array ∷ fs) c = tells a_break (close fs)
+break_at (indefinite_map false ∷ fs) c = tells a_break (close fs)
 break_at _ c = refuses (initial_reason c)
 
 -- a byte where an item may begin
 abbrev pub begin : ℕ → List Frame → ℕ → Opening → Next
 begin d fs c (direct major n) = enter d fs major c (tells (a_head major Direct n) (after false major n fs))
 begin d fs c (long major w) = enter d fs major c (goes (in_head false major w (more_bytes w - 1) 0 fs))
-begin d fs c (chunked major) = tells (a_head major Indefinite 0) (in_chunks major fs)
-begin d fs c (unbounded major frame) = enter d fs major c (tells (a_head major Indefinite 0) (at_item (frame ∷ fs)))
+begin d fs c (indefinite_string major) = tells (a_head major Indefinite 0) (in_chunks major fs)
+begin d fs c (indefinite_container major frame) = enter d fs major c (tells (a_head major Indefinite 0) (at_item (frame ∷ fs)))
 begin d fs c long_simple = goes (in_simple fs)
 begin d fs c breaks = break_at fs c
 begin d fs c bad = refuses (initial_reason c)
@@ -167,7 +167,7 @@ is_major _ _ = false
 abbrev pub in_string : Major → List Frame → Opening → Next
 in_string major fs (direct m n) = if is_major major m then tells (a_chunk Direct n) (payload true major n fs) else refuses BadChunk
 in_string major fs (long m w) = if is_major major m then goes (in_head true major w (more_bytes w - 1) 0 fs) else refuses BadChunk
-in_string major fs breaks = tells an_end (close fs)
+in_string major fs breaks = tells a_break (close fs)
 in_string major fs _ = refuses BadChunk
 
 -- the next byte, within a depth

@@ -1,0 +1,25 @@
+-- Which reasons a machine and a reader of events refuse for (RFC 8949, section 3 and appendix F).
+use Rattle.cbor_head.specs.declared.reason.Reason.{Reason}
+use Rattle.cbor_head.specs.declared.reason.Reason.TheVariants.{Truncated, TooLong, Reserved, NoIndefinite, Float, BadSimple, StrayBreak, BadChunk, TooDeep, Read}
+
+-- a byte may not stand where it does
+abbrev pub IsFormReason : Reason → Type 0
+IsFormReason Reserved = Unit {0}
+IsFormReason NoIndefinite = Unit {0}
+IsFormReason Float = Unit {0}
+IsFormReason BadSimple = Unit {0}
+IsFormReason StrayBreak = Unit {0}
+IsFormReason BadChunk = Unit {0}
+IsFormReason TooDeep = Unit {0}
+IsFormReason _ = ⊥
+
+-- of a machine: that, or the byte limit
+abbrev pub IsMachineReason : Reason → Type 0
+IsMachineReason TooLong = Unit {0}
+IsMachineReason r = IsFormReason r
+
+-- of a reader: those, or that the reader ended or failed
+abbrev pub IsEventReason : Reason → Type 0
+IsEventReason Truncated = Unit {0}
+IsEventReason Read = Unit {0}
+IsEventReason r = IsMachineReason r

@@ -1,0 +1,10 @@
+pub mod Automaton
+pub mod Machine
+pub mod Nest
+pub mod Reads
+pub mod State
+pub mod Steps
+pub mod Taking
+pub mod TextCheck
+pub mod Walk
+pub mod Whole
