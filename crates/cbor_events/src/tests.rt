@@ -5,6 +5,7 @@ ghost use Rattle.cbor_events.specs.Machine.{IsMore};
 ghost use Rattle.cbor_events.specs.inner.Steps.{Goes};
 
 mod reading;
+mod slicing;
 mod tables;
 
 use self::tables::{ACCEPTED, FRONTS, NOT_VALID, REFUSED};

@@ -51,13 +51,13 @@ member_frames (Some left) fs = counted (left - 1) ∷ fs
 member_frames None fs = indefinite_array ∷ fs
 
 -- The members so far of an array that stands behind t, and of which x was read when from was left; so many are left.
-pub record IsReadingArray (r : Rules) (b : Bounds) (fs : List Frame) (t x : List ℕ) (w : Width) (n : ℕ) (left : Option ℕ) (items : List Item) (from now : Option (List ℕ)) (e : ItemEventsView) : Type 0 where
+pub record IsReadingArray (r : Rules) (b : Bounds) (fs : List Frame) (t x : List ℕ) (w : Width) (n : ℕ) (left : Option ℕ) (vs : Values) (from now : Option (List ℕ)) (e : ItemEventsView) : Type 0 where
   pub done : Spellings
   pub so_far : IsArraySoFar r (length t) (b.depth - suc (length fs)) w n done
   pub taken : Extends x (array_bytes w n done) from now
   pub at : IsAt b e (t ++ array_bytes w n done) (members_due left fs)
   pub counts : IsLeft w n (spellings_count done) left
-  pub values : values_of done ≡ values_view items
+  pub values : values_of done ≡ vs
   pub room : length fs < b.depth
 
 -- ---- the head
@@ -67,7 +67,7 @@ close-counted zero fs = refl
 close-counted (suc k) fs = refl
 
 pub starts-array : (r : Rules) (b : Bounds) (fs : List Frame) (t x : List ℕ) (w : Width) (count : Option ℕ) (from : Option (List ℕ)) (e : ItemEventsView)
-    → IsBegun r b fs t x e w (kinds.Array count) → IsReadingArray r b fs t x w (count_of count) count [] from from e
+    → IsBegun r b fs t x e w (kinds.Array count) → IsReadingArray r b fs t x w (count_of count) count value.no_values from from e
 starts-array r b fs t x w (Some n) from e i =
     let f = definite b.depth fs majors.Array w n x i.next (proper-definite w i.proper) i.taking in
     let bytes_are : x ≡ array_bytes w n no_spellings = f.bytes_are ∙ sym (append-nil (head majors.Array w n)) in
@@ -136,8 +136,8 @@ closes Two f = refl
 closes Four f = refl
 closes Eight f = refl
 
-module _ (r : Rules) (b : Bounds) (fs : List Frame) (t x : List ℕ) (w : Width) (n : ℕ) (left : Option ℕ) (items : List Item) (from mid : Option (List ℕ)) (e : ItemEventsView)
-    (a : IsReadingArray r b fs t x w n left items from mid e) where
+module _ (r : Rules) (b : Bounds) (fs : List Frame) (t x : List ℕ) (w : Width) (n : ℕ) (left : Option ℕ) (vs : Values) (from mid : Option (List ℕ)) (e : ItemEventsView)
+    (a : IsReadingArray r b fs t x w n left vs from mid e) where
   -- a member is due
   pub member-due : left ≢ Some 0 → IsAt b e (t ++ array_bytes w n a.done) (at_item (member_frames left fs))
   member-due h = go left h a.at
@@ -154,9 +154,9 @@ module _ (r : Rules) (b : Bounds) (fs : List Frame) (t x : List ℕ) (w : Width)
   taken-so = subst (λ (u : List ℕ). Extends x u from mid) (sym (append-nil (array_bytes w n a.done))) a.taken
 
   -- it is read
-  pub array-next : (i : Item) (to : Option (List ℕ)) (new : ItemEventsView) → left ≢ Some 0 → ReadsItem r b (member_frames left fs) (t ++ array_bytes w n a.done) [] mid to new (view i)
-      → IsReadingArray r b fs t x w n (fewer left) (items ++ i ∷ []) from to new
-  array-next i to new some m =
+  pub array-more : (v : Value) (to : Option (List ℕ)) (new : ItemEventsView) → left ≢ Some 0 → (m : ReadsItem r b (member_frames left fs) (t ++ array_bytes w n a.done) [] mid to new v)
+      → IsReadingArray r b fs t x w n (fewer left) (values_of (with_all a.done (a_spelling m.item no_spellings))) from to new
+  array-more v to new some m =
       let one = a_spelling m.item no_spellings in
       let deep = deeper left fs in
       let bytes_are : array_bytes w n a.done ++ spell m.item ≡ array_bytes w n (with_all a.done one) = sym (array_bytes-more w n a.done m.item) in
@@ -167,9 +167,15 @@ module _ (r : Rules) (b : Bounds) (fs : List Frame) (t x : List ℕ) (w : Width)
         at = at-as b new ((t ++ array_bytes w n a.done) ++ spell m.item) (t ++ array_bytes w n (with_all a.done one)) (close (member_frames left fs)) (members_due (fewer left) fs)
             (append_assoc t (array_bytes w n a.done) (spell m.item) ∙ ap (λ (u : List ℕ). t ++ u) bytes_are) (closed left fs) m.at;
         counts = one_fewer w left (spellings_count a.done) (spellings_count (with_all a.done one)) n some (omega (arith, count_with a.done one)) a.counts;
-        values = values_with a.done m.item items i a.values m.value;
+        values = refl;
         room = a.room;
       }
+
+  -- and kept behind these items
+  pub array-next : (items : List Item) (i : Item) (to : Option (List ℕ)) (new : ItemEventsView) → vs ≡ values_view items → left ≢ Some 0
+      → ReadsItem r b (member_frames left fs) (t ++ array_bytes w n a.done) [] mid to new (view i) → IsReadingArray r b fs t x w n (fewer left) (values_view (items ++ i ∷ [])) from to new
+  array-next items i to new same some m =
+      subst (λ (us : Values). IsReadingArray r b fs t x w n (fewer left) us from to new) (values_with a.done m.item items i (a.values ∙ same) m.value) (array-more (view i) to new some m)
 
   -- what is found in it is found in the array
   lift : left ≢ Some 0 → (p : List ℕ) (found : Option Complaint) → IsJudged r (length (t ++ array_bytes w n a.done)) (b.depth - length (member_frames left fs)) p found
@@ -196,7 +202,7 @@ module _ (r : Rules) (b : Bounds) (fs : List Frame) (t x : List ℕ) (w : Width)
   stops-member to f some s = stops-in r b fs (member_frames left fs) t (array_bytes w n a.done) (lift some) x [] from mid to f taken-so s
 
   -- no member is left
-  pub array-whole : left ≡ Some 0 → ReadsItem r b fs t x from mid e (value.array (values_view items))
+  pub array-whole : left ≡ Some 0 → ReadsItem r b fs t x from mid e (value.array vs)
   array-whole none =
       let counts : (w ≢ Indefinite) × (spellings_count a.done + 0 ≡ n) = subst (IsLeft w n (spellings_count a.done)) none a.counts in
       let same : spellings_count a.done ≡ n = omega (arith, counts.1) in
@@ -215,10 +221,10 @@ module _ (r : Rules) (b : Bounds) (fs : List Frame) (t x : List ℕ) (w : Width)
 
   -- the break
   pub array-ended : (to : Option (List ℕ)) (new : ItemEventsView) (bs : List ℕ) (next : State) → left ≢ Some 0 → IsTaking b.depth (at_item (member_frames left fs)) a_break bs next → Consumes mid to bs
-      → IsAt b new ((t ++ array_bytes w n a.done) ++ bs) next → ReadsItem r b fs t x from to new (value.array (values_view items))
+      → IsAt b new ((t ++ array_bytes w n a.done) ++ bs) next → ReadsItem r b fs t x from to new (value.array vs)
   array-ended to new bs next some h c i = go left h a.counts
     where
-      go : (left : Option ℕ) → IsTaking b.depth (at_item (member_frames left fs)) a_break bs next → IsLeft w n (spellings_count a.done) left → ReadsItem r b fs t x from to new (value.array (values_view items))
+      go : (left : Option ℕ) → IsTaking b.depth (at_item (member_frames left fs)) a_break bs next → IsLeft w n (spellings_count a.done) left → ReadsItem r b fs t x from to new (value.array vs)
       go (Some l) h counts = absurd h.1
       go None h counts =
           let k = spellings_count a.done in

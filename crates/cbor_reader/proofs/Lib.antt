@@ -33,6 +33,8 @@ pub mod Scalars
 pub mod SequenceLaws
 pub mod Sequences
 pub mod Sizes
+pub mod SliceFronts
+pub mod SliceItems
 pub mod SpelledBytes
 pub mod Steps
 pub mod StrictFronts

@@ -58,19 +58,19 @@ content_frames (Some left) fs = counted (left + left - 2) ∷ fs
 content_frames None fs = indefinite_map true ∷ fs
 
 -- The pairs so far of a map that stands behind t, and of which x was read when from was left; so many are left.
-pub record IsReadingMap (r : Rules) (b : Bounds) (fs : List Frame) (t x : List ℕ) (w : Width) (n : ℕ) (left : Option ℕ) (pairs : List (Item × Item)) (from now : Option (List ℕ)) (e : ItemEventsView) : Type 0 where
+pub record IsReadingMap (r : Rules) (b : Bounds) (fs : List Frame) (t x : List ℕ) (w : Width) (n : ℕ) (left : Option ℕ) (es : Entries) (from now : Option (List ℕ)) (e : ItemEventsView) : Type 0 where
   pub done : SpelledEntries
   pub so_far : IsMapSoFar r (length t) (b.depth - suc (length fs)) w n done
   pub taken : Extends x (map_bytes w n done) from now
   pub at : IsAt b e (t ++ map_bytes w n done) (pairs_due left fs)
   pub counts : IsLeft w n (entries_count done) left
-  pub values : entries_of done ≡ entries_view pairs
+  pub values : entries_of done ≡ es
   pub room : length fs < b.depth
 
 -- ---- the head
 
 pub starts-map : (r : Rules) (b : Bounds) (fs : List Frame) (t x : List ℕ) (w : Width) (count : Option ℕ) (from : Option (List ℕ)) (e : ItemEventsView)
-    → IsBegun r b fs t x e w (kinds.Map count) → IsReadingMap r b fs t x w (count_of count) count [] from from e
+    → IsBegun r b fs t x e w (kinds.Map count) → IsReadingMap r b fs t x w (count_of count) count value.no_entries from from e
 starts-map r b fs t x w (Some n) from e i =
     let f = definite b.depth fs majors.Map w n x i.next (proper-definite w i.proper) i.taking in
     let bytes_are : x ≡ map_bytes w n no_entries = f.bytes_are ∙ sym (append-nil (head majors.Map w n)) in
@@ -142,8 +142,8 @@ closed-content (Some (suc l)) fs h =
     close-counted (suc l + suc l - 2) fs ∙ ap (λ (k : ℕ). expect k fs) e
 closed-content None fs h = refl
 
-module _ (r : Rules) (b : Bounds) (fs : List Frame) (t x : List ℕ) (w : Width) (n : ℕ) (left : Option ℕ) (pairs : List (Item × Item)) (from mid : Option (List ℕ)) (e : ItemEventsView)
-    (a : IsReadingMap r b fs t x w n left pairs from mid e) where
+module _ (r : Rules) (b : Bounds) (fs : List Frame) (t x : List ℕ) (w : Width) (n : ℕ) (left : Option ℕ) (es : Entries) (from mid : Option (List ℕ)) (e : ItemEventsView)
+    (a : IsReadingMap r b fs t x w n left es from mid e) where
   -- a key is due
   pub key-due : left ≢ Some 0 → IsAt b e (t ++ map_bytes w n a.done) (at_item (key_frames left fs))
   key-due h = go left h a.at
@@ -270,8 +270,8 @@ module _ (r : Rules) (b : Bounds) (fs : List Frame) (t x : List ℕ) (w : Width)
         pub content-memory : (f : Refusal) → f.read ≡ last.machine.taken → IsMemory f → StopsItem r b fs t x from end f
         content-memory f g h = stops-content end f (item-no-memory r b (content_frames left fs) (t ++ (map_bytes w n a.done ++ spell m.item)) [] to end last cv c f g h)
 
-        pub map-next : (i j : Item) → kv ≡ view i → cv ≡ view j → IsReadingMap r b fs t x w n (fewer left) (pairs ++ (i, j) ∷ []) from end last
-        map-next i j f g =
+        pub map-next : IsReadingMap r b fs t x w n (fewer left) (entries_of (with_entries a.done (entry m.item c.item no_entries))) from end last
+        map-next =
             let more = with_entries a.done (entry m.item c.item no_entries) in
             let bytes_are : (map_bytes w n a.done ++ spell m.item) ++ spell c.item ≡ map_bytes w n more = sym (map_bytes-more w n a.done m.item c.item) in
             let clean : Never (Complains r (length t + length (map_bytes w n a.done ++ spell m.item)) c.item) = λ d h. c.clean d (subst (λ (q : ℕ). Complains r q c.item d) (sym there-content) h) in
@@ -282,18 +282,26 @@ module _ (r : Rules) (b : Bounds) (fs : List Frame) (t x : List ℕ) (w : Width)
               at = at-as b last ((t ++ (map_bytes w n a.done ++ spell m.item)) ++ spell c.item) (t ++ map_bytes w n more) (close (content_frames left fs)) (pairs_due (fewer left) fs)
                   (append_assoc t (map_bytes w n a.done ++ spell m.item) (spell c.item) ∙ ap (λ (u : List ℕ). t ++ u) bytes_are) (closed-content left fs some) c.at;
               counts = one_fewer w left (entries_count a.done) (entries_count more) n some (omega (arith, entries_with a.done (entry m.item c.item no_entries))) a.counts;
-              values = entries_with-last a.done m.item c.item pairs i j a.values (m.value ∙ f) (c.value ∙ g);
+              values = refl;
               room = a.room;
             }
 
-        -- with the key kept
-        pub map-next-kept : (i j : Item) → kv ≡ view i → cv ≡ view j → (keys : Keys) → HasKeys r keys (m.item ∷ keys_onto [] a.done)
-            → (z : IsReadingMap r b fs t x w n (fewer left) (pairs ++ (i, j) ∷ []) from end last) × HasKeys r keys (keys_onto [] z.done)
+        -- with what is known of its keys
+        pub map-next-with : (P : List Spelling → Type 0) → P (m.item ∷ keys_onto [] a.done)
+            → (z : IsReadingMap r b fs t x w n (fewer left) (entries_of (with_entries a.done (entry m.item c.item no_entries))) from end last) × P (keys_onto [] z.done)
         unfolding map-next
-        map-next-kept i j f g keys k = (map-next i j f g, subst (HasKeys r keys) (sym (keys_more a.done m.item c.item)) k)
+        map-next-with P k = (map-next, subst P (sym (keys_more a.done m.item c.item)) k)
+
+        -- and kept behind these pairs, with the key kept too
+        pub map-next-kept : (pairs : List (Item × Item)) (i j : Item) → es ≡ entries_view pairs → kv ≡ view i → cv ≡ view j → (keys : Keys) → HasKeys r keys (m.item ∷ keys_onto [] a.done)
+            → (z : IsReadingMap r b fs t x w n (fewer left) (entries_view (pairs ++ (i, j) ∷ [])) from end last) × HasKeys r keys (keys_onto [] z.done)
+        unfolding map-next
+        map-next-kept pairs i j same f g keys k =
+            subst (λ (us : Entries). (z : IsReadingMap r b fs t x w n (fewer left) us from end last) × HasKeys r keys (keys_onto [] z.done))
+            (entries_with-last a.done m.item c.item pairs i j (a.values ∙ same) (m.value ∙ f) (c.value ∙ g)) (map-next, subst (HasKeys r keys) (sym (keys_more a.done m.item c.item)) k)
 
   -- no pair is left
-  pub map-whole : left ≡ Some 0 → ReadsItem r b fs t x from mid e (value.map (entries_view pairs))
+  pub map-whole : left ≡ Some 0 → ReadsItem r b fs t x from mid e (value.map es)
   map-whole none =
       let counts : (w ≢ Indefinite) × (entries_count a.done + 0 ≡ n) = subst (IsLeft w n (entries_count a.done)) none a.counts in
       let same : entries_count a.done ≡ n = omega (arith, counts.1) in
@@ -312,10 +320,10 @@ module _ (r : Rules) (b : Bounds) (fs : List Frame) (t x : List ℕ) (w : Width)
 
   -- the break
   pub map-ended : (to : Option (List ℕ)) (new : ItemEventsView) (bs : List ℕ) (next : State) → left ≢ Some 0 → IsTaking b.depth (at_item (key_frames left fs)) a_break bs next → Consumes mid to bs
-      → IsAt b new ((t ++ map_bytes w n a.done) ++ bs) next → ReadsItem r b fs t x from to new (value.map (entries_view pairs))
+      → IsAt b new ((t ++ map_bytes w n a.done) ++ bs) next → ReadsItem r b fs t x from to new (value.map es)
   map-ended to new bs next some h c i = go left h a.counts
     where
-      go : (left : Option ℕ) → IsTaking b.depth (at_item (key_frames left fs)) a_break bs next → IsLeft w n (entries_count a.done) left → ReadsItem r b fs t x from to new (value.map (entries_view pairs))
+      go : (left : Option ℕ) → IsTaking b.depth (at_item (key_frames left fs)) a_break bs next → IsLeft w n (entries_count a.done) left → ReadsItem r b fs t x from to new (value.map es)
       go (Some l) h counts = absurd h.1
       go None h counts =
           let k = entries_count a.done in
@@ -351,10 +359,16 @@ no-content-break None fs next h = h
 
 -- no key is read before the first
 pub starts-keys : (r : Rules) (b : Bounds) (fs : List Frame) (t x : List ℕ) (w : Width) (count : Option ℕ) (from : Option (List ℕ)) (e : ItemEventsView) (keys : Keys) → IsBegun r b fs t x e w (kinds.Map count) → HasKeys r keys []
-    → (h : IsReadingMap r b fs t x w (count_of count) count [] from from e) × HasKeys r keys (keys_onto [] h.done)
+    → (h : IsReadingMap r b fs t x w (count_of count) count value.no_entries from from e) × HasKeys r keys (keys_onto [] h.done)
 unfolding starts-map
 starts-keys r b fs t x w (Some n) from e keys i k = (starts-map r b fs t x w (Some n) from e i, k)
 starts-keys r b fs t x w None from e keys i k = (starts-map r b fs t x w None from e i, k)
+
+-- with what is known of no keys
+pub starts-with : (r : Rules) (b : Bounds) (fs : List Frame) (t x : List ℕ) (w : Width) (n : ℕ) (from : Option (List ℕ)) (e : ItemEventsView) → IsBegun r b fs t x e w (kinds.Map (Some n)) → (P : List Spelling → Type 0) → P []
+    → (h : IsReadingMap r b fs t x w n (Some n) value.no_entries from from e) × P (keys_onto [] h.done)
+unfolding starts-map
+starts-with r b fs t x w n from e i P k = (starts-map r b fs t x w (Some n) from e i, k)
 
 -- an item more, and fewer bytes are left
 pub item-farther : (r : Rules) (b : Bounds) (fs : List Frame) (t : List ℕ) (q : State) (from to : Option (List ℕ)) (e new : ItemEventsView) (v : Value) → IsAt b e t q → ReadsItem r b fs t [] from to new v

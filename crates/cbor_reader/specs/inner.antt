@@ -8,3 +8,4 @@ pub mod Members
 pub mod NextKey
 pub mod Reading
 pub mod Rules
+pub mod SliceChecks

@@ -18,7 +18,9 @@ mod rules;
 mod sequence;
 mod sequence_items;
 pub mod sequence_laws;
+mod slice_checker;
 mod strict_reader;
+mod strict_slice;
 mod strings;
 #[cfg(test)]
 mod tests;
@@ -31,4 +33,5 @@ pub use comparison::{Side, same_meaning};
 pub use sequence::Sequence;
 pub use sequence_items::SequenceItems;
 pub use strict_reader::read_strict;
+pub use strict_slice::check_canonical;
 pub use tree_reader::read_tree;

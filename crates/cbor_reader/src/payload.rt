@@ -76,7 +76,7 @@ pub(crate) fn read_chunk<R: Read>(
 }
 
 // Whether the bytes from there on are UTF-8, or the length of their longest front that is.
-fn check_text(bytes: &[u8], from: usize) -> Result<(), usize>
+pub(crate) fn check_text(bytes: &[u8], from: usize) -> Result<(), usize>
     requires { from ≤ length bytes.now }
     ensures checked { MatchResult result
         (λ _. IsUtf8 (drop from bytes.now))

@@ -5,6 +5,7 @@ mod conformance_table;
 mod keys;
 mod sequence;
 mod sizes;
+mod slice;
 
 use cbor_head::Limits;
 use std::alloc::Global;

@@ -2,6 +2,7 @@ use Rattle.std.proofs.Common.{◌++◌, ◌∷◌, [], ◌∙◌, length, inl, i
 use Rattle.cbor_events.specs.inner.Automaton.{at_item, counted}
 use Rattle.cbor_events.specs.Marks.{count_of}
 use Rattle.cbor_events.specs.declared.event.EventKind.{EventKind}
+use Rattle.cbor_item.specs.inner.Members.{entries_view, values_view}
 use Rattle.cbor_item.proofs.Views.{view-Unsigned, view-Negative, view-Simple}
 use Rattle.cbor_reader.specs.inner.Reading.{IsBegun}
 use Rattle.cbor_reader.specs.inner.Rules.{rules_of}
@@ -108,19 +109,19 @@ read_array-read_member-requires g t c = λ κs lives.
     let gs = member_frames c.members.left s.fs in
     let h = c.members.invariant s.b s.fs s.t s.x s.w s.begun in
     let some = some-left c.is_none_left.result c.members.left c.is_none_left.ensures c.members-test.true in
-    let due = member-due (rules_of c.args.rules) s.b s.fs s.t s.x s.w (count_of c.args.count) c.members.left c.members.items _ _ c.members.events h some in
+    let due = member-due (rules_of c.args.rules) s.b s.fs s.t s.x s.w (count_of c.args.count) c.members.left (values_view c.members.items) _ _ c.members.events h some in
     let y = s.t ++ array_bytes s.w (count_of c.args.count) h.done in
-    (omega (arith, c.decreases, no-farther (rules_of c.args.rules) s.b s.fs s.t s.x s.w (count_of c.args.count) c.members.left c.members.items _ _ c.members.events h c.args.events.now _ s.begun.at), (lives, record { b = s.b; fs = gs; t = y; at = due }))
+    (omega (arith, c.decreases, no-farther (rules_of c.args.rules) s.b s.fs s.t s.x s.w (count_of c.args.count) c.members.left (values_view c.members.items) _ _ c.members.events h c.args.events.now _ s.begun.at), (lives, record { b = s.b; fs = gs; t = y; at = due }))
 
 pub read_array-returns-in-Ok-None : goal.read_array-returns-in-Ok-None
 read_array-returns-in-Ok-None g t c = λ b fs t' x w i.
     let gs = member_frames c.members.left fs in
     let h = c.members.invariant b fs t' x w i in
     let some = some-left c.is_none_left.result c.members.left c.is_none_left.ensures c.members-test.true in
-    let due = member-due (rules_of c.args.rules) b fs t' x w (count_of c.args.count) c.members.left c.members.items _ _ c.members.events h some in
+    let due = member-due (rules_of c.args.rules) b fs t' x w (count_of c.args.count) c.members.left (values_view c.members.items) _ _ c.members.events h some in
     let y = t' ++ array_bytes w (count_of c.args.count) h.done in
     let z = rw c.in-Ok-None.field-0-is at (c.in-Ok-None.ensures b gs y due) in
-    answers-built (rules_of c.args.rules) b fs t' x _ _ c.read_member.new.events _ (array-ended (rules_of c.args.rules) b fs t' x w (count_of c.args.count) c.members.left c.members.items _ _ c.members.events h _ c.read_member.new.events z.bytes z.next some z.taking z.consumed z.at)
+    answers-built (rules_of c.args.rules) b fs t' x _ _ c.read_member.new.events _ (array-ended (rules_of c.args.rules) b fs t' x w (count_of c.args.count) c.members.left (values_view c.members.items) _ _ c.members.events h _ c.read_member.new.events z.bytes z.next some z.taking z.consumed z.at)
     c.finish.result c.or_no_memory.result c.finish.ensures c.or_no_memory.ensures
 
 pub read_array-returns-in-Err-push : goal.read_array-returns-in-Err-push
@@ -128,19 +129,19 @@ read_array-returns-in-Err-push g t c = λ b fs t' x w i.
     let gs = member_frames c.members.left fs in
     let h = c.members.invariant b fs t' x w i in
     let some = some-left c.is_none_left.result c.members.left c.is_none_left.ensures c.members-test.true in
-    let due = member-due (rules_of c.args.rules) b fs t' x w (count_of c.args.count) c.members.left c.members.items _ _ c.members.events h some in
+    let due = member-due (rules_of c.args.rules) b fs t' x w (count_of c.args.count) c.members.left (values_view c.members.items) _ _ c.members.events h some in
     let y = t' ++ array_bytes w (count_of c.args.count) h.done in
     let m = rw c.in-Ok-Some.field-0-is at (c.in-Ok-Some.ensures b gs y due) in
-    array-memory (rules_of c.args.rules) b fs t' x w (count_of c.args.count) c.members.left c.members.items _ _ c.members.events h _ c.read_member.new.events _ c.no_memory.result some m c.no_memory.ensures.taken (c.no_memory.ensures.memory, c.no_memory.ensures.place)
+    array-memory (rules_of c.args.rules) b fs t' x w (count_of c.args.count) c.members.left (values_view c.members.items) _ _ c.members.events h _ c.read_member.new.events _ c.no_memory.result some m c.no_memory.ensures.taken (c.no_memory.ensures.memory, c.no_memory.ensures.place)
 
 pub read_array-returns-in-Err : goal.read_array-returns-in-Err
 read_array-returns-in-Err g t c = λ b fs t' x w i.
     let gs = member_frames c.members.left fs in
     let h = c.members.invariant b fs t' x w i in
     let some = some-left c.is_none_left.result c.members.left c.is_none_left.ensures c.members-test.true in
-    let due = member-due (rules_of c.args.rules) b fs t' x w (count_of c.args.count) c.members.left c.members.items _ _ c.members.events h some in
+    let due = member-due (rules_of c.args.rules) b fs t' x w (count_of c.args.count) c.members.left (values_view c.members.items) _ _ c.members.events h some in
     let y = t' ++ array_bytes w (count_of c.args.count) h.done in
-    stops-member (rules_of c.args.rules) b fs t' x w (count_of c.args.count) c.members.left c.members.items _ _ c.members.events h _ c.in-Err.refusal some (c.in-Err.ensures b gs y due)
+    stops-member (rules_of c.args.rules) b fs t' x w (count_of c.args.count) c.members.left (values_view c.members.items) _ _ c.members.events h _ c.in-Err.refusal some (c.in-Err.ensures b gs y due)
 
 pub read_array-push-requires : goal.read_array-push-requires
 read_array-push-requires g t c =
@@ -148,7 +149,7 @@ read_array-push-requires g t c =
     let gs = member_frames c.members.left s.fs in
     let h = c.members.invariant s.b s.fs s.t s.x s.w s.begun in
     let some = some-left c.is_none_left.result c.members.left c.is_none_left.ensures c.members-test.true in
-    let due = member-due (rules_of c.args.rules) s.b s.fs s.t s.x s.w (count_of c.args.count) c.members.left c.members.items _ _ c.members.events h some in
+    let due = member-due (rules_of c.args.rules) s.b s.fs s.t s.x s.w (count_of c.args.count) c.members.left (values_view c.members.items) _ _ c.members.events h some in
     let y = s.t ++ array_bytes s.w (count_of c.args.count) h.done in
     let m = rw c.in-Ok-Some.field-0-is at (c.in-Ok-Some.ensures s.b gs y due) in
     key-value c.args.rules s.b gs y [] _ _ c.read_member.new.events _ m
@@ -159,25 +160,25 @@ read_array-members-smaller g t c =
     let gs = member_frames c.members.left s.fs in
     let h = c.members.invariant s.b s.fs s.t s.x s.w s.begun in
     let some = some-left c.is_none_left.result c.members.left c.is_none_left.ensures c.members-test.true in
-    let due = member-due (rules_of c.args.rules) s.b s.fs s.t s.x s.w (count_of c.args.count) c.members.left c.members.items _ _ c.members.events h some in
+    let due = member-due (rules_of c.args.rules) s.b s.fs s.t s.x s.w (count_of c.args.count) c.members.left (values_view c.members.items) _ _ c.members.events h some in
     let y = s.t ++ array_bytes s.w (count_of c.args.count) h.done in
     let m = rw c.in-Ok-Some.field-0-is at (c.in-Ok-Some.ensures s.b gs y due) in
-    member-farther (rules_of c.args.rules) s.b s.fs s.t s.x s.w (count_of c.args.count) c.members.left c.members.items _ _ c.members.events h _ c.read_member.new.events _ m
+    member-farther (rules_of c.args.rules) s.b s.fs s.t s.x s.w (count_of c.args.count) c.members.left (values_view c.members.items) _ _ c.members.events h _ c.read_member.new.events _ m
 
 pub read_array-members-preserved : goal.read_array-members-preserved
 read_array-members-preserved g t c = λ b fs t' x w i.
     let gs = member_frames c.members.left fs in
     let h = c.members.invariant b fs t' x w i in
     let some = some-left c.is_none_left.result c.members.left c.is_none_left.ensures c.members-test.true in
-    let due = member-due (rules_of c.args.rules) b fs t' x w (count_of c.args.count) c.members.left c.members.items _ _ c.members.events h some in
+    let due = member-due (rules_of c.args.rules) b fs t' x w (count_of c.args.count) c.members.left (values_view c.members.items) _ _ c.members.events h some in
     let y = t' ++ array_bytes w (count_of c.args.count) h.done in
     let m = rw c.in-Ok-Some.field-0-is at (c.in-Ok-Some.ensures b gs y due) in
-    rw (c.one_fewer-left.ensures, c.in-Ok.ensures) (array-next (rules_of c.args.rules) b fs t' x w (count_of c.args.count) c.members.left c.members.items _ _ c.members.events h c.in-Ok-Some.item _ c.read_member.new.events some m)
+    rw (c.one_fewer-left.ensures, c.in-Ok.ensures) (array-next (rules_of c.args.rules) b fs t' x w (count_of c.args.count) c.members.left (values_view c.members.items) _ _ c.members.events h c.members.items c.in-Ok-Some.item _ c.read_member.new.events refl some m)
 
 pub read_array-returns : goal.read_array-returns
 read_array-returns g t c = λ b fs t' x w i.
     let h = c.members.invariant b fs t' x w i in
-    answers-built (rules_of c.args.rules) b fs t' x _ _ c.members.events _ (array-whole (rules_of c.args.rules) b fs t' x w (count_of c.args.count) c.members.left c.members.items _ _ c.members.events h (c.is_none_left.ensures.0 c.members-test.false))
+    answers-built (rules_of c.args.rules) b fs t' x _ _ c.members.events _ (array-whole (rules_of c.args.rules) b fs t' x w (count_of c.args.count) c.members.left (values_view c.members.items) _ _ c.members.events h (c.is_none_left.ensures.0 c.members-test.false))
     c.finish-2.result c.or_no_memory-2.result c.finish-2.ensures c.or_no_memory-2.ensures
 
 -- ---- tags
@@ -253,9 +254,9 @@ read_map-read_key-requires g t c = λ κs lives.
     let inv = c.pairs.invariant s.b s.fs s.t s.x s.w s.begun in
     let h = inv.0 in
     let some = some-left c.is_none_left.result c.pairs.left c.is_none_left.ensures c.pairs-test.true in
-    let due = key-due (rules_of c.args.rules) s.b s.fs s.t s.x s.w (count_of c.args.count) c.pairs.left c.pairs.pairs _ _ c.pairs.events h some in
+    let due = key-due (rules_of c.args.rules) s.b s.fs s.t s.x s.w (count_of c.args.count) c.pairs.left (entries_view c.pairs.pairs) _ _ c.pairs.events h some in
     let y = s.t ++ map_bytes s.w (count_of c.args.count) h.done in
-    (omega (arith, c.decreases, map-no-farther (rules_of c.args.rules) s.b s.fs s.t s.x s.w (count_of c.args.count) c.pairs.left c.pairs.pairs _ _ c.pairs.events h c.args.events.now _ s.begun.at), (lives, record { b = s.b; fs = gs; t = y; ks = keys_onto [] h.done; at = due; has = inv.1 }))
+    (omega (arith, c.decreases, map-no-farther (rules_of c.args.rules) s.b s.fs s.t s.x s.w (count_of c.args.count) c.pairs.left (entries_view c.pairs.pairs) _ _ c.pairs.events h c.args.events.now _ s.begun.at), (lives, record { b = s.b; fs = gs; t = y; ks = keys_onto [] h.done; at = due; has = inv.1 }))
 
 pub read_map-read_item-requires : goal.read_map-read_item-requires
 read_map-read_item-requires g t c = λ κs lives.
@@ -264,11 +265,11 @@ read_map-read_item-requires g t c = λ κs lives.
     let inv = c.pairs.invariant s.b s.fs s.t s.x s.w s.begun in
     let h = inv.0 in
     let some = some-left c.is_none_left.result c.pairs.left c.is_none_left.ensures c.pairs-test.true in
-    let due = key-due (rules_of c.args.rules) s.b s.fs s.t s.x s.w (count_of c.args.count) c.pairs.left c.pairs.pairs _ _ c.pairs.events h some in
+    let due = key-due (rules_of c.args.rules) s.b s.fs s.t s.x s.w (count_of c.args.count) c.pairs.left (entries_view c.pairs.pairs) _ _ c.pairs.events h some in
     let y = s.t ++ map_bytes s.w (count_of c.args.count) h.done in
     let k = rw c.in-Ok-Some.field-0-is at (c.in-Ok-Some.ensures s.b gs y (keys_onto [] h.done) due inv.1) in
-    let at = content-due (rules_of c.args.rules) s.b s.fs s.t s.x s.w (count_of c.args.count) c.pairs.left c.pairs.pairs _ _ c.pairs.events h _ c.read_key.new.events _ some k.reads k.fresh in
-    (omega (arith, c.decreases, map-no-farther (rules_of c.args.rules) s.b s.fs s.t s.x s.w (count_of c.args.count) c.pairs.left c.pairs.pairs _ _ c.pairs.events h c.args.events.now _ s.begun.at, item-farther (rules_of c.args.rules) s.b gs y (at_item gs) _ _ c.pairs.events c.read_key.new.events _ due k.reads), (lives, record { b = s.b; fs = content_frames c.pairs.left s.fs; t = _; at = at; no_break = no-content-break c.pairs.left s.fs }))
+    let at = content-due (rules_of c.args.rules) s.b s.fs s.t s.x s.w (count_of c.args.count) c.pairs.left (entries_view c.pairs.pairs) _ _ c.pairs.events h _ c.read_key.new.events _ some k.reads k.fresh in
+    (omega (arith, c.decreases, map-no-farther (rules_of c.args.rules) s.b s.fs s.t s.x s.w (count_of c.args.count) c.pairs.left (entries_view c.pairs.pairs) _ _ c.pairs.events h c.args.events.now _ s.begun.at, item-farther (rules_of c.args.rules) s.b gs y (at_item gs) _ _ c.pairs.events c.read_key.new.events _ due k.reads), (lives, record { b = s.b; fs = content_frames c.pairs.left s.fs; t = _; at = at; no_break = no-content-break c.pairs.left s.fs }))
 
 pub read_map-returns-in-Err-push : goal.read_map-returns-in-Err-push
 read_map-returns-in-Err-push g t c = λ b fs t' x w i.
@@ -276,11 +277,11 @@ read_map-returns-in-Err-push g t c = λ b fs t' x w i.
     let inv = c.pairs.invariant b fs t' x w i in
     let h = inv.0 in
     let some = some-left c.is_none_left.result c.pairs.left c.is_none_left.ensures c.pairs-test.true in
-    let due = key-due (rules_of c.args.rules) b fs t' x w (count_of c.args.count) c.pairs.left c.pairs.pairs _ _ c.pairs.events h some in
+    let due = key-due (rules_of c.args.rules) b fs t' x w (count_of c.args.count) c.pairs.left (entries_view c.pairs.pairs) _ _ c.pairs.events h some in
     let y = t' ++ map_bytes w (count_of c.args.count) h.done in
     let k = rw c.in-Ok-Some.field-0-is at (c.in-Ok-Some.ensures b gs y (keys_onto [] h.done) due inv.1) in
-    let at = content-due (rules_of c.args.rules) b fs t' x w (count_of c.args.count) c.pairs.left c.pairs.pairs _ _ c.pairs.events h _ c.read_key.new.events _ some k.reads k.fresh in
-    content-memory (rules_of c.args.rules) b fs t' x w (count_of c.args.count) c.pairs.left c.pairs.pairs _ _ c.pairs.events h _ c.read_key.new.events _ some k.reads k.fresh _ c.read_item.new.events _ (c.in-Ok.ensures b (content_frames c.pairs.left fs) _ at) c.no_memory.result c.no_memory.ensures.taken (c.no_memory.ensures.memory, c.no_memory.ensures.place)
+    let at = content-due (rules_of c.args.rules) b fs t' x w (count_of c.args.count) c.pairs.left (entries_view c.pairs.pairs) _ _ c.pairs.events h _ c.read_key.new.events _ some k.reads k.fresh in
+    content-memory (rules_of c.args.rules) b fs t' x w (count_of c.args.count) c.pairs.left (entries_view c.pairs.pairs) _ _ c.pairs.events h _ c.read_key.new.events _ some k.reads k.fresh _ c.read_item.new.events _ (c.in-Ok.ensures b (content_frames c.pairs.left fs) _ at) c.no_memory.result c.no_memory.ensures.taken (c.no_memory.ensures.memory, c.no_memory.ensures.place)
 
 pub read_map-returns-in-Err-read_item : goal.read_map-returns-in-Err-read_item
 read_map-returns-in-Err-read_item g t c = λ b fs t' x w i.
@@ -288,11 +289,11 @@ read_map-returns-in-Err-read_item g t c = λ b fs t' x w i.
     let inv = c.pairs.invariant b fs t' x w i in
     let h = inv.0 in
     let some = some-left c.is_none_left.result c.pairs.left c.is_none_left.ensures c.pairs-test.true in
-    let due = key-due (rules_of c.args.rules) b fs t' x w (count_of c.args.count) c.pairs.left c.pairs.pairs _ _ c.pairs.events h some in
+    let due = key-due (rules_of c.args.rules) b fs t' x w (count_of c.args.count) c.pairs.left (entries_view c.pairs.pairs) _ _ c.pairs.events h some in
     let y = t' ++ map_bytes w (count_of c.args.count) h.done in
     let k = rw c.in-Ok-Some.field-0-is at (c.in-Ok-Some.ensures b gs y (keys_onto [] h.done) due inv.1) in
-    let at = content-due (rules_of c.args.rules) b fs t' x w (count_of c.args.count) c.pairs.left c.pairs.pairs _ _ c.pairs.events h _ c.read_key.new.events _ some k.reads k.fresh in
-    stops-content (rules_of c.args.rules) b fs t' x w (count_of c.args.count) c.pairs.left c.pairs.pairs _ _ c.pairs.events h _ c.read_key.new.events _ some k.reads k.fresh _ c.in-Err-read_item.refusal (c.in-Err-read_item.ensures b (content_frames c.pairs.left fs) _ at)
+    let at = content-due (rules_of c.args.rules) b fs t' x w (count_of c.args.count) c.pairs.left (entries_view c.pairs.pairs) _ _ c.pairs.events h _ c.read_key.new.events _ some k.reads k.fresh in
+    stops-content (rules_of c.args.rules) b fs t' x w (count_of c.args.count) c.pairs.left (entries_view c.pairs.pairs) _ _ c.pairs.events h _ c.read_key.new.events _ some k.reads k.fresh _ c.in-Err-read_item.refusal (c.in-Err-read_item.ensures b (content_frames c.pairs.left fs) _ at)
 
 pub read_map-returns-in-Ok-None : goal.read_map-returns-in-Ok-None
 read_map-returns-in-Ok-None g t c = λ b fs t' x w i.
@@ -300,10 +301,10 @@ read_map-returns-in-Ok-None g t c = λ b fs t' x w i.
     let inv = c.pairs.invariant b fs t' x w i in
     let h = inv.0 in
     let some = some-left c.is_none_left.result c.pairs.left c.is_none_left.ensures c.pairs-test.true in
-    let due = key-due (rules_of c.args.rules) b fs t' x w (count_of c.args.count) c.pairs.left c.pairs.pairs _ _ c.pairs.events h some in
+    let due = key-due (rules_of c.args.rules) b fs t' x w (count_of c.args.count) c.pairs.left (entries_view c.pairs.pairs) _ _ c.pairs.events h some in
     let y = t' ++ map_bytes w (count_of c.args.count) h.done in
     let z = rw c.in-Ok-None.field-0-is at (c.in-Ok-None.ensures b gs y (keys_onto [] h.done) due inv.1) in
-    answers-built (rules_of c.args.rules) b fs t' x _ _ c.read_key.new.events _ (map-ended (rules_of c.args.rules) b fs t' x w (count_of c.args.count) c.pairs.left c.pairs.pairs _ _ c.pairs.events h _ c.read_key.new.events z.bytes z.next some z.taking z.consumed z.at)
+    answers-built (rules_of c.args.rules) b fs t' x _ _ c.read_key.new.events _ (map-ended (rules_of c.args.rules) b fs t' x w (count_of c.args.count) c.pairs.left (entries_view c.pairs.pairs) _ _ c.pairs.events h _ c.read_key.new.events z.bytes z.next some z.taking z.consumed z.at)
     c.finish.result c.or_no_memory.result c.finish.ensures c.or_no_memory.ensures
 
 pub read_map-returns-in-Err : goal.read_map-returns-in-Err
@@ -312,11 +313,11 @@ read_map-returns-in-Err g t c = λ b fs t' x w i.
     let inv = c.pairs.invariant b fs t' x w i in
     let h = inv.0 in
     let some = some-left c.is_none_left.result c.pairs.left c.is_none_left.ensures c.pairs-test.true in
-    let due = key-due (rules_of c.args.rules) b fs t' x w (count_of c.args.count) c.pairs.left c.pairs.pairs _ _ c.pairs.events h some in
+    let due = key-due (rules_of c.args.rules) b fs t' x w (count_of c.args.count) c.pairs.left (entries_view c.pairs.pairs) _ _ c.pairs.events h some in
     let y = t' ++ map_bytes w (count_of c.args.count) h.done in
     elim (c.in-Err.ensures b gs y (keys_onto [] h.done) due inv.1) [
-      | inl z ↦ stops-key (rules_of c.args.rules) b fs t' x w (count_of c.args.count) c.pairs.left c.pairs.pairs _ _ c.pairs.events h _ c.in-Err.refusal some z
-      | inr z ↦ stops-refused (rules_of c.args.rules) b fs t' x w (count_of c.args.count) c.pairs.left c.pairs.pairs _ _ c.pairs.events h some _ c.in-Err.refusal z
+      | inl z ↦ stops-key (rules_of c.args.rules) b fs t' x w (count_of c.args.count) c.pairs.left (entries_view c.pairs.pairs) _ _ c.pairs.events h _ c.in-Err.refusal some z
+      | inr z ↦ stops-refused (rules_of c.args.rules) b fs t' x w (count_of c.args.count) c.pairs.left (entries_view c.pairs.pairs) _ _ c.pairs.events h some _ c.in-Err.refusal z
     ]
 
 pub read_map-push-requires-clause-key : goal.read_map-push-requires-clause-key
@@ -326,7 +327,7 @@ read_map-push-requires-clause-key g t c =
     let inv = c.pairs.invariant s.b s.fs s.t s.x s.w s.begun in
     let h = inv.0 in
     let some = some-left c.is_none_left.result c.pairs.left c.is_none_left.ensures c.pairs-test.true in
-    let due = key-due (rules_of c.args.rules) s.b s.fs s.t s.x s.w (count_of c.args.count) c.pairs.left c.pairs.pairs _ _ c.pairs.events h some in
+    let due = key-due (rules_of c.args.rules) s.b s.fs s.t s.x s.w (count_of c.args.count) c.pairs.left (entries_view c.pairs.pairs) _ _ c.pairs.events h some in
     let y = s.t ++ map_bytes s.w (count_of c.args.count) h.done in
     let k = rw c.in-Ok-Some.field-0-is at (c.in-Ok-Some.ensures s.b gs y (keys_onto [] h.done) due inv.1) in
     key-value c.args.rules s.b gs y [] _ _ c.read_key.new.events _ k.reads
@@ -338,10 +339,10 @@ read_map-push-requires-clause-content g t c =
     let inv = c.pairs.invariant s.b s.fs s.t s.x s.w s.begun in
     let h = inv.0 in
     let some = some-left c.is_none_left.result c.pairs.left c.is_none_left.ensures c.pairs-test.true in
-    let due = key-due (rules_of c.args.rules) s.b s.fs s.t s.x s.w (count_of c.args.count) c.pairs.left c.pairs.pairs _ _ c.pairs.events h some in
+    let due = key-due (rules_of c.args.rules) s.b s.fs s.t s.x s.w (count_of c.args.count) c.pairs.left (entries_view c.pairs.pairs) _ _ c.pairs.events h some in
     let y = s.t ++ map_bytes s.w (count_of c.args.count) h.done in
     let k = rw c.in-Ok-Some.field-0-is at (c.in-Ok-Some.ensures s.b gs y (keys_onto [] h.done) due inv.1) in
-    let at = content-due (rules_of c.args.rules) s.b s.fs s.t s.x s.w (count_of c.args.count) c.pairs.left c.pairs.pairs _ _ c.pairs.events h _ c.read_key.new.events _ some k.reads k.fresh in
+    let at = content-due (rules_of c.args.rules) s.b s.fs s.t s.x s.w (count_of c.args.count) c.pairs.left (entries_view c.pairs.pairs) _ _ c.pairs.events h _ c.read_key.new.events _ some k.reads k.fresh in
     key-value c.args.rules s.b (content_frames c.pairs.left s.fs) _ [] _ _ c.read_item.new.events _ (c.in-Ok.ensures s.b (content_frames c.pairs.left s.fs) _ at)
 
 pub read_map-pairs-smaller : goal.read_map-pairs-smaller
@@ -351,10 +352,10 @@ read_map-pairs-smaller g t c =
     let inv = c.pairs.invariant s.b s.fs s.t s.x s.w s.begun in
     let h = inv.0 in
     let some = some-left c.is_none_left.result c.pairs.left c.is_none_left.ensures c.pairs-test.true in
-    let due = key-due (rules_of c.args.rules) s.b s.fs s.t s.x s.w (count_of c.args.count) c.pairs.left c.pairs.pairs _ _ c.pairs.events h some in
+    let due = key-due (rules_of c.args.rules) s.b s.fs s.t s.x s.w (count_of c.args.count) c.pairs.left (entries_view c.pairs.pairs) _ _ c.pairs.events h some in
     let y = s.t ++ map_bytes s.w (count_of c.args.count) h.done in
     let k = rw c.in-Ok-Some.field-0-is at (c.in-Ok-Some.ensures s.b gs y (keys_onto [] h.done) due inv.1) in
-    let at = content-due (rules_of c.args.rules) s.b s.fs s.t s.x s.w (count_of c.args.count) c.pairs.left c.pairs.pairs _ _ c.pairs.events h _ c.read_key.new.events _ some k.reads k.fresh in
+    let at = content-due (rules_of c.args.rules) s.b s.fs s.t s.x s.w (count_of c.args.count) c.pairs.left (entries_view c.pairs.pairs) _ _ c.pairs.events h _ c.read_key.new.events _ some k.reads k.fresh in
     let key_less = item-farther (rules_of c.args.rules) s.b gs y (at_item gs) _ _ c.pairs.events c.read_key.new.events _ due k.reads in
     let content_less = item-farther (rules_of c.args.rules) s.b (content_frames c.pairs.left s.fs) _ (at_item (content_frames c.pairs.left s.fs)) _ _ c.read_key.new.events c.read_item.new.events _ at (c.in-Ok.ensures s.b (content_frames c.pairs.left s.fs) _ at) in
     omega (arith, key_less, content_less)
@@ -365,18 +366,18 @@ read_map-pairs-preserved g t c = λ b fs t' x w i.
     let inv = c.pairs.invariant b fs t' x w i in
     let h = inv.0 in
     let some = some-left c.is_none_left.result c.pairs.left c.is_none_left.ensures c.pairs-test.true in
-    let due = key-due (rules_of c.args.rules) b fs t' x w (count_of c.args.count) c.pairs.left c.pairs.pairs _ _ c.pairs.events h some in
+    let due = key-due (rules_of c.args.rules) b fs t' x w (count_of c.args.count) c.pairs.left (entries_view c.pairs.pairs) _ _ c.pairs.events h some in
     let y = t' ++ map_bytes w (count_of c.args.count) h.done in
     let k = rw c.in-Ok-Some.field-0-is at (c.in-Ok-Some.ensures b gs y (keys_onto [] h.done) due inv.1) in
-    let at = content-due (rules_of c.args.rules) b fs t' x w (count_of c.args.count) c.pairs.left c.pairs.pairs _ _ c.pairs.events h _ c.read_key.new.events _ some k.reads k.fresh in
+    let at = content-due (rules_of c.args.rules) b fs t' x w (count_of c.args.count) c.pairs.left (entries_view c.pairs.pairs) _ _ c.pairs.events h _ c.read_key.new.events _ some k.reads k.fresh in
     let m = c.in-Ok.ensures b (content_frames c.pairs.left fs) _ at in
     rw (c.one_fewer-left.ensures, c.in-Ok-push.ensures)
-    (map-next-kept (rules_of c.args.rules) b fs t' x w (count_of c.args.count) c.pairs.left c.pairs.pairs _ _ c.pairs.events h _ c.read_key.new.events _ some k.reads k.fresh _ c.read_item.new.events _ m c.in-Ok-Some.key c.in-Ok.content refl refl c.read_key.new.keys k.has)
+    (map-next-kept (rules_of c.args.rules) b fs t' x w (count_of c.args.count) c.pairs.left (entries_view c.pairs.pairs) _ _ c.pairs.events h _ c.read_key.new.events _ some k.reads k.fresh _ c.read_item.new.events _ m c.pairs.pairs c.in-Ok-Some.key c.in-Ok.content refl refl refl c.read_key.new.keys k.has)
 
 pub read_map-returns : goal.read_map-returns
 read_map-returns g t c = λ b fs t' x w i.
     let h = (c.pairs.invariant b fs t' x w i).0 in
-    answers-built (rules_of c.args.rules) b fs t' x _ _ c.pairs.events _ (map-whole (rules_of c.args.rules) b fs t' x w (count_of c.args.count) c.pairs.left c.pairs.pairs _ _ c.pairs.events h (c.is_none_left.ensures.0 c.pairs-test.false))
+    answers-built (rules_of c.args.rules) b fs t' x _ _ c.pairs.events _ (map-whole (rules_of c.args.rules) b fs t' x w (count_of c.args.count) c.pairs.left (entries_view c.pairs.pairs) _ _ c.pairs.events h (c.is_none_left.ensures.0 c.pairs-test.false))
     c.finish-2.result c.or_no_memory-2.result c.finish-2.ensures c.or_no_memory-2.ensures
 
 pub read_map-finish-requires-clause-in_range : goal.read_map-finish-requires-clause-in_range
@@ -386,10 +387,10 @@ read_map-finish-requires-clause-in_range g t c =
     let inv = c.pairs.invariant s.b s.fs s.t s.x s.w s.begun in
     let h = inv.0 in
     let some = some-left c.is_none_left.result c.pairs.left c.is_none_left.ensures c.pairs-test.true in
-    let due = key-due (rules_of c.args.rules) s.b s.fs s.t s.x s.w (count_of c.args.count) c.pairs.left c.pairs.pairs _ _ c.pairs.events h some in
+    let due = key-due (rules_of c.args.rules) s.b s.fs s.t s.x s.w (count_of c.args.count) c.pairs.left (entries_view c.pairs.pairs) _ _ c.pairs.events h some in
     let y = s.t ++ map_bytes s.w (count_of c.args.count) h.done in
     let z = rw c.in-Ok-None.field-0-is at (c.in-Ok-None.ensures s.b gs y (keys_onto [] h.done) due inv.1) in
-    (map-sound c.args.rules s.b s.fs s.t s.x _ _ c.read_key.new.events _ (map-ended (rules_of c.args.rules) s.b s.fs s.t s.x s.w (count_of c.args.count) c.pairs.left c.pairs.pairs _ _ c.pairs.events h _ c.read_key.new.events z.bytes z.next some z.taking z.consumed z.at)).0
+    (map-sound c.args.rules s.b s.fs s.t s.x _ _ c.read_key.new.events _ (map-ended (rules_of c.args.rules) s.b s.fs s.t s.x s.w (count_of c.args.count) c.pairs.left (entries_view c.pairs.pairs) _ _ c.pairs.events h _ c.read_key.new.events z.bytes z.next some z.taking z.consumed z.at)).0
 
 pub read_map-finish-requires-clause-distinct : goal.read_map-finish-requires-clause-distinct
 read_map-finish-requires-clause-distinct g t c =
@@ -398,19 +399,19 @@ read_map-finish-requires-clause-distinct g t c =
     let inv = c.pairs.invariant s.b s.fs s.t s.x s.w s.begun in
     let h = inv.0 in
     let some = some-left c.is_none_left.result c.pairs.left c.is_none_left.ensures c.pairs-test.true in
-    let due = key-due (rules_of c.args.rules) s.b s.fs s.t s.x s.w (count_of c.args.count) c.pairs.left c.pairs.pairs _ _ c.pairs.events h some in
+    let due = key-due (rules_of c.args.rules) s.b s.fs s.t s.x s.w (count_of c.args.count) c.pairs.left (entries_view c.pairs.pairs) _ _ c.pairs.events h some in
     let y = s.t ++ map_bytes s.w (count_of c.args.count) h.done in
     let z = rw c.in-Ok-None.field-0-is at (c.in-Ok-None.ensures s.b gs y (keys_onto [] h.done) due inv.1) in
-    (map-sound c.args.rules s.b s.fs s.t s.x _ _ c.read_key.new.events _ (map-ended (rules_of c.args.rules) s.b s.fs s.t s.x s.w (count_of c.args.count) c.pairs.left c.pairs.pairs _ _ c.pairs.events h _ c.read_key.new.events z.bytes z.next some z.taking z.consumed z.at)).1
+    (map-sound c.args.rules s.b s.fs s.t s.x _ _ c.read_key.new.events _ (map-ended (rules_of c.args.rules) s.b s.fs s.t s.x s.w (count_of c.args.count) c.pairs.left (entries_view c.pairs.pairs) _ _ c.pairs.events h _ c.read_key.new.events z.bytes z.next some z.taking z.consumed z.at)).1
 
 pub read_map-finish-requires-2-clause-in_range : goal.read_map-finish-requires-2-clause-in_range
 read_map-finish-requires-2-clause-in_range g t c =
     let s = c.requires in
     let h = (c.pairs.invariant s.b s.fs s.t s.x s.w s.begun).0 in
-    (map-sound c.args.rules s.b s.fs s.t s.x _ _ c.pairs.events _ (map-whole (rules_of c.args.rules) s.b s.fs s.t s.x s.w (count_of c.args.count) c.pairs.left c.pairs.pairs _ _ c.pairs.events h (c.is_none_left.ensures.0 c.pairs-test.false))).0
+    (map-sound c.args.rules s.b s.fs s.t s.x _ _ c.pairs.events _ (map-whole (rules_of c.args.rules) s.b s.fs s.t s.x s.w (count_of c.args.count) c.pairs.left (entries_view c.pairs.pairs) _ _ c.pairs.events h (c.is_none_left.ensures.0 c.pairs-test.false))).0
 
 pub read_map-finish-requires-2-clause-distinct : goal.read_map-finish-requires-2-clause-distinct
 read_map-finish-requires-2-clause-distinct g t c =
     let s = c.requires in
     let h = (c.pairs.invariant s.b s.fs s.t s.x s.w s.begun).0 in
-    (map-sound c.args.rules s.b s.fs s.t s.x _ _ c.pairs.events _ (map-whole (rules_of c.args.rules) s.b s.fs s.t s.x s.w (count_of c.args.count) c.pairs.left c.pairs.pairs _ _ c.pairs.events h (c.is_none_left.ensures.0 c.pairs-test.false))).1
+    (map-sound c.args.rules s.b s.fs s.t s.x _ _ c.pairs.events _ (map-whole (rules_of c.args.rules) s.b s.fs s.t s.x s.w (count_of c.args.count) c.pairs.left (entries_view c.pairs.pairs) _ _ c.pairs.events h (c.is_none_left.ensures.0 c.pairs-test.false))).1

@@ -5,6 +5,7 @@ use Rattle.cbor_events.specs.inner.Automaton.{Frame}
 use Rattle.cbor_events.specs.Marks.{count_of}
 use Rattle.cbor_events.specs.ItemEvents.{ItemEventsView}
 use Rattle.cbor_events.specs.declared.event.EventKind.TheVariants as kinds
+use Rattle.cbor_item.specs.inner.Members.{entries_view, values_view}
 use Rattle.cbor_reader.specs.inner.Reading.{IsBegun}
 use Rattle.cbor_reader.specs.inner.Rules.{rules_of}
 use Rattle.cbor_reader.proofs.Frame.{keys_onto}
@@ -34,7 +35,7 @@ decreases-read_tag g l = 8 * left l.events.now + 2
 
 abbrev pub invariant-read_array-members : goal.invariant-read_array-members
 invariant-read_array-members g l = (b : Bounds) (fs : List Frame) (t x : List ℕ) (w : Width) → IsBegun (rules_of l.fn.rules) b fs t x l.fn.events w (kinds.Array l.fn.count)
-    → IsReadingArray (rules_of l.fn.rules) b fs t x w (count_of l.fn.count) l.left l.items (g.R.Read.remaining l.fn.reader) (g.R.Read.remaining l.reader) l.events
+    → IsReadingArray (rules_of l.fn.rules) b fs t x w (count_of l.fn.count) l.left (values_view l.items) (g.R.Read.remaining l.fn.reader) (g.R.Read.remaining l.reader) l.events
 
 abbrev pub decreases-read_array-members : goal.decreases-read_array-members
 decreases-read_array-members g l = left l.events
@@ -47,7 +48,7 @@ decreases-read_map g l = 8 * left l.events.now + 2
 
 abbrev pub invariant-read_map-pairs : goal.invariant-read_map-pairs
 invariant-read_map-pairs g l = (b : Bounds) (fs : List Frame) (t x : List ℕ) (w : Width) → IsBegun (rules_of l.fn.rules) b fs t x l.fn.events w (kinds.Map l.fn.count)
-    → (h : IsReadingMap (rules_of l.fn.rules) b fs t x w (count_of l.fn.count) l.left l.pairs (g.R.Read.remaining l.fn.reader) (g.R.Read.remaining l.reader) l.events) × HasKeys (rules_of l.fn.rules) l.keys (keys_onto [] h.done)
+    → (h : IsReadingMap (rules_of l.fn.rules) b fs t x w (count_of l.fn.count) l.left (entries_view l.pairs) (g.R.Read.remaining l.fn.reader) (g.R.Read.remaining l.reader) l.events) × HasKeys (rules_of l.fn.rules) l.keys (keys_onto [] h.done)
 
 abbrev pub decreases-read_map-pairs : goal.decreases-read_map-pairs
 decreases-read_map-pairs g l = left l.events

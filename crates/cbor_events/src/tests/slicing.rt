@@ -1,0 +1,174 @@
+//! The events of a slice against the tables.
+
+use super::tables::{ACCEPTED, FRONTS, NOT_VALID, REFUSED};
+use super::{bytes_of, event, events_of, limits};
+use crate::{EventKind, SliceEvents, Token};
+use cbor_head::{Limits, Reason, Refusal, Simple};
+use std::alloc::Global;
+use std::process::Abort;
+use std::test::Fail;
+
+// The event that is told, by its number.
+fn kind_of(rt: &impl Abort, token: Token, number: u64) -> EventKind {
+    match token {
+        Token::Unsigned => EventKind::Unsigned(number),
+        Token::Negative => EventKind::Negative(number),
+        Token::Simple => {
+            let number = u8::try_from(number).expect(rt, "a number below 256");
+            EventKind::Simple(Simple::new(number).expect(rt, "a simple value"))
+        }
+        Token::Bytes => EventKind::Bytes(Some(number)),
+        Token::Text => EventKind::Text(Some(number)),
+        Token::Chunk => EventKind::Chunk(number),
+        Token::Piece => EventKind::Piece(number as usize),
+        Token::Array => EventKind::Array(Some(number)),
+        Token::Map => EventKind::Map(Some(number)),
+        Token::Tag => EventKind::Tag(number),
+        Token::IndefiniteBytes => EventKind::Bytes(None),
+        Token::IndefiniteText => EventKind::Text(None),
+        Token::IndefiniteArray => EventKind::Array(None),
+        Token::IndefiniteMap => EventKind::Map(None),
+        Token::Break => EventKind::End,
+        Token::End | Token::Refused => panic!(rt; "no event is told"),
+    }
+}
+
+// Looks for these events of a slice, for the pieces at their places, and then for the end or this
+// refusal, with so many bytes taken, twice.
+fn look(
+    rt: &impl Abort,
+    alloc: Global,
+    limits: Limits,
+    bytes: &[u8],
+    text: &str,
+    refusal: Option<Refusal>,
+    taken: u64,
+) -> Result<(), Fail> {
+    let mut events = SliceEvents::new(bytes, limits);
+    for expected in &events_of(rt, alloc, text)? {
+        let token = events.next();
+        let kind = kind_of(rt, token, events.number());
+        let told = event(events.place(), events.width(), kind);
+        assert_eq!(rt; told, *expected, "of {text}");
+        assert_eq!(rt;
+            events.rest().len() as u64 + events.taken(),
+            limits.bytes().min(bytes.len() as u64)
+        );
+        if let EventKind::Piece(count) = kind {
+            let there = bytes
+                .get(told.place as usize..)
+                .expect(rt, "a piece in the slice");
+            assert!(rt; there.get(..count) == Some(events.piece()), "of {text}");
+        }
+    }
+    for _ in 0..2 {
+        let last = events.next();
+        if refusal.is_some() {
+            assert_eq!(rt; last, Token::Refused, "of {text}");
+        } else {
+            assert_eq!(rt; last, Token::End, "of {text}");
+            assert_eq!(rt; events.open(), 0, "of {text}");
+        }
+        assert_eq!(rt; events.refusal(), refusal, "of {text}");
+        assert_eq!(rt; events.taken(), taken, "of {text}");
+    }
+    Ok(())
+}
+
+// A byte behind an item is not looked at.
+#[test]
+fn slices_items(rt: HostRuntime) -> Result<(), Fail> {
+    let limits = limits(&rt, 256, 1 << 20);
+    for (hex, text) in ACCEPTED {
+        let mut bytes = bytes_of(&rt, rt.alloc(), hex)?;
+        let count = bytes.len() as u64;
+        bytes.push(0xff)?;
+        look(&rt, rt.alloc(), limits, &bytes, text, None, count)?;
+    }
+    for (hex, taken, text) in NOT_VALID {
+        let bytes = bytes_of(&rt, rt.alloc(), hex)?;
+        look(&rt, rt.alloc(), limits, &bytes, text, None, taken)?;
+    }
+    Ok(())
+}
+
+#[test]
+fn refuses_slices_that_begin_no_item(rt: HostRuntime) -> Result<(), Fail> {
+    for (hex, depth, limit, reason, place, read, text) in REFUSED {
+        let bytes = bytes_of(&rt, rt.alloc(), hex)?;
+        let refusal = Some(Refusal {
+            reason,
+            place,
+            read,
+        });
+        look(
+            &rt,
+            rt.alloc(),
+            limits(&rt, depth, limit),
+            &bytes,
+            text,
+            refusal,
+            read,
+        )?;
+    }
+    for (hex, text) in FRONTS {
+        let bytes = bytes_of(&rt, rt.alloc(), hex)?;
+        let there = bytes.len() as u64;
+        let truncated = Some(Refusal {
+            reason: Reason::Truncated,
+            place: there,
+            read: there,
+        });
+        look(
+            &rt,
+            rt.alloc(),
+            limits(&rt, 256, 1 << 20),
+            &bytes,
+            text,
+            truncated,
+            there,
+        )?;
+    }
+    Ok(())
+}
+
+// Each front of an item is Truncated where it ends, and TooLong where the limit is.
+#[test]
+fn refuses_each_front(rt: HostRuntime) -> Result<(), Fail> {
+    for (hex, _) in ACCEPTED {
+        let bytes = bytes_of(&rt, rt.alloc(), hex)?;
+        for cut in 0..bytes.len() {
+            let mut short = SliceEvents::new(&bytes[..cut], limits(&rt, 256, 1 << 20));
+            let mut limited = SliceEvents::new(&bytes, limits(&rt, 256, cut as u64));
+            for _ in 0..100 {
+                let _ = short.next();
+                let _ = limited.next();
+            }
+            let truncated = Refusal {
+                reason: Reason::Truncated,
+                place: cut as u64,
+                read: cut as u64,
+            };
+            assert_eq!(rt; short.refusal(), Some(truncated), "at {hex}");
+            let too_long = Refusal {
+                reason: Reason::TooLong,
+                ..truncated
+            };
+            assert_eq!(rt; limited.refusal(), Some(too_long), "at {hex}");
+        }
+    }
+    Ok(())
+}
+
+#[test]
+fn counts_what_is_open_in_a_slice(rt: HostRuntime) {
+    // [["a"]], and bytes behind it, of which one is within the limit
+    let mut events = SliceEvents::new(b"\x81\x81\x61a\xff\x00", limits(&rt, 2, 5));
+    for (open, taken, piece) in [(1, 1, 0), (2, 2, 0), (2, 3, 0), (0, 4, 1), (0, 4, 1)] {
+        let _ = events.next();
+        assert_eq!(rt;
+            (events.open(), events.taken(), events.piece().len()),
+            (open, taken, piece)
+        );
+    }
+}

@@ -1,0 +1,90 @@
+//! What is told of an item, apart from numbers, widths and positions.
+
+ghost use Rattle.std.specs.Prelude.{◌≡◌, ℕ};
+ghost use Rattle.cbor_events.specs.Token.{kind_of, IsEventToken};
+ghost use Rattle.cbor_events.specs.inner.Slices.{number_in};
+
+use crate::event::EventKind;
+
+/// What comes next of an item: an event, the end, or a refusal. Its number, its width and its bytes
+/// stand beside it.
+#[derive(Clone, Copy, Debug, PartialEq, Eq)]
+pub enum Token {
+    /// An unsigned integer.
+    Unsigned,
+    /// A negative integer, by its argument: n stands for -1 - n.
+    Negative,
+    /// The head of a byte string of so many bytes.
+    Bytes,
+    /// The head of a text string of so many bytes.
+    Text,
+    /// The head of an array of so many items.
+    Array,
+    /// The head of a map of so many pairs.
+    Map,
+    /// A tag number, whose content follows.
+    Tag,
+    /// A simple value.
+    Simple,
+    /// So many bytes of a payload, at least one.
+    Piece,
+    /// The head of a chunk of so many bytes.
+    Chunk,
+    /// The head of a byte string of indefinite length.
+    IndefiniteBytes,
+    /// The head of a text string of indefinite length.
+    IndefiniteText,
+    /// The head of an array of indefinite length.
+    IndefiniteArray,
+    /// The head of a map of indefinite length.
+    IndefiniteMap,
+    /// The break.
+    Break,
+    /// The item is complete.
+    End,
+    /// The item is refused.
+    Refused,
+}
+
+/// What is told of an event.
+pub fn token_of(kind: &EventKind) -> Token
+    ensures kind { (n : ℕ) → n ≡ number_in kind.now → kind_of result n ≡ kind.now }
+    ensures event { IsEventToken result }
+{
+    match kind {
+        EventKind::Unsigned(_) => Token::Unsigned,
+        EventKind::Negative(_) => Token::Negative,
+        EventKind::Simple(_) => Token::Simple,
+        EventKind::Bytes(Some(_)) => Token::Bytes,
+        EventKind::Bytes(None) => Token::IndefiniteBytes,
+        EventKind::Text(Some(_)) => Token::Text,
+        EventKind::Text(None) => Token::IndefiniteText,
+        EventKind::Chunk(_) => Token::Chunk,
+        EventKind::Piece(_) => Token::Piece,
+        EventKind::Array(Some(_)) => Token::Array,
+        EventKind::Array(None) => Token::IndefiniteArray,
+        EventKind::Map(Some(_)) => Token::Map,
+        EventKind::Map(None) => Token::IndefiniteMap,
+        EventKind::Tag(_) => Token::Tag,
+        EventKind::End => Token::Break,
+    }
+}
+
+/// Its number; 0 where it has none.
+pub fn number_of(kind: &EventKind) -> u64
+    ensures { result ≡ number_in kind.now }
+{
+    match kind {
+        EventKind::Simple(simple) => u64::from(simple.number()),
+        EventKind::Piece(n) => *n as u64,
+        EventKind::Unsigned(n)
+        | EventKind::Negative(n)
+        | EventKind::Chunk(n)
+        | EventKind::Tag(n)
+        | EventKind::Bytes(Some(n))
+        | EventKind::Text(Some(n))
+        | EventKind::Array(Some(n))
+        | EventKind::Map(Some(n)) => *n,
+        _ => 0,
+    }
+}

@@ -1,0 +1,47 @@
+-- What is told of the item at the front of a slice.
+use Rattle.std.proofs.Common.{◌≡◌, ℕ, List, [], take, refl, sym, ap, ◌∙◌, subst}
+use Rattle.std.specs.Prelude.{Some}
+use Rattle.cbor_head.specs.Limits.{Bounds, AreBounds}
+use Rattle.cbor_head.specs.Spelling.{Spelling, value_of}
+use Rattle.cbor_head.specs.Complaint.{strict}
+use Rattle.cbor_head.specs.Verdict.{Answer, accepted, refused, IsVerdict}
+use Rattle.cbor_head.specs.declared.order.KeyOrder.{KeyOrder}
+use Rattle.cbor_head.specs.declared.reason.Refusal.{Refusal}
+use Rattle.cbor_head.proofs.OneVerdict.{one_verdict}
+use Rattle.cbor_events.specs.SliceView.{SliceEventsView}
+use Rattle.cbor_events.proofs.Slices.{verdict-within}
+use Rattle.cbor_reader.specs.Readers.{IsRead, IsUnread, of_verdict, of_reader, of_memory, IsCanonicalFront, HasNoCanonicalFront}
+use Rattle.cbor_reader.specs.inner.Reading.{StopsItem}
+use Rattle.cbor_events.specs.SliceView.{seen}
+use Rattle.cbor_reader.specs.inner.SliceChecks.{IsOfBytes, TakesItem}
+use Rattle.cbor_reader.specs.declared.rules.Rules.TheVariants.{Strict}
+use Rattle.cbor_reader.proofs.Fronts.{front-read, front-unread}
+use Rattle.cbor_reader.proofs.StrictFronts.{strict_accepts}
+use Rattle.cbor_reader.proofs.WholeInputs.{front-canonical}
+
+module _ (o : KeyOrder) (b : Bounds) (input : List ℕ) (old new : SliceEventsView) (bounds : AreBounds b) (rest : old.rest ≡ take b.bytes input) where
+  -- a verdict on what is there within the limit
+  of-all : (a : Answer) → IsVerdict b.depth b.bytes (strict o) old.rest a → IsVerdict b.depth b.bytes (strict o) input a
+  of-all a v = verdict-within b.depth b.bytes (strict o) input a (subst (λ xs. IsVerdict b.depth b.bytes (strict o) xs a) rest v)
+
+  pub slice-read : (count : ℕ) → TakesItem (strict o) b [] [] [] old new → count ≡ new.machine.taken → IsRead b.depth b.bytes (strict o) input count
+  slice-read count k e =
+      let f = (front-read (Strict o) b (Some old.rest) (Some new.rest) (seen new) k.value count bounds k.reads e).read in
+      record { item = f.read.item; verdict = of-all (accepted f.read.item) f.read.verdict; size = f.read.size }
+
+  pub slice-unread : (f : Refusal) → StopsItem (strict o) b [] [] [] (Some old.rest) (Some new.rest) f × IsOfBytes f → IsVerdict b.depth b.bytes (strict o) input (refused f)
+  slice-unread f s = go (front-unread (strict o) b (Some old.rest) (Some new.rest) f s.0).refused
+    where
+      go : IsUnread b.depth b.bytes (strict o) old.rest f → IsVerdict b.depth b.bytes (strict o) input (refused f)
+      go (of_verdict v) = of-all (refused f) v
+      go (of_reader p l m is v) = absurd (s.1.no_read (ap (λ (x : Refusal). x.reason) is))
+      go (of_memory p l m is) = absurd (s.1.no_memory (ap (λ (x : Refusal). x.reason) is, ap (λ (x : Refusal). x.place) is ∙ sym (ap (λ (x : Refusal). x.read) is)))
+
+pub read-front : (d n : ℕ) (o : KeyOrder) (input : List ℕ) (count : ℕ) → IsRead d n (strict o) input count → IsCanonicalFront d n o input count
+read-front d n o input count r = front-canonical d n o (Some input) (value_of r.item) count count (record { read = r; value = refl }) refl
+
+pub no-front : (d n : ℕ) (o : KeyOrder) (input : List ℕ) (f : Refusal) → IsVerdict d n (strict o) input (refused f) → HasNoCanonicalFront d n o input
+no-front d n o input f w = λ v b. apart (one_verdict d n (strict o) input (accepted (strict_accepts d n o input v b).0) (refused f) (strict_accepts d n o input v b).1 w)
+  where
+    apart : {s : Spelling} → accepted s ≡ refused f → ⊥
+    apart e = cc e

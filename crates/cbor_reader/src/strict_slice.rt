@@ -1,0 +1,33 @@
+//! The item at the front of a slice, if it is canonical.
+
+ghost use Rattle.std.specs.Prelude.{IfOk, IfErr};
+ghost use Rattle.cbor_head.specs.Complaint.{strict};
+ghost use Rattle.cbor_head.specs.Verdict.{IsVerdict, refused};
+ghost use Rattle.cbor_reader.specs.Readers.{IsRead, IsCanonicalFront, HasNoCanonicalFront};
+
+use crate::slice_checker::check_item;
+use cbor_events::SliceEvents;
+use cbor_head::{KeyOrder, Limits, Refusal};
+
+/// How many bytes the item has that the slice begins with, where they are its canonical bytes in
+/// this order (RFC 8949, sections 4.2.1 and 4.2.3); else the refusal that the bytes within the
+/// limits call for, by the rules of the deterministic encoding.
+///
+/// It answers as [`read_strict`](crate::read_strict) does of a reader over the slice, and takes no
+/// memory: the last key of each open map is a part of the slice.
+pub fn check_canonical(bytes: &[u8], limits: Limits, order: KeyOrder) -> Result<u64, Refusal>
+    ensures accepted { IfOk result
+        (λ count. IsRead limits.depth limits.bytes (strict order) bytes.now count) }
+    ensures canonical { IfOk result
+        (λ count. IsCanonicalFront limits.depth limits.bytes order bytes.now count) }
+    ensures refused { IfErr result
+        (λ f. IsVerdict limits.depth limits.bytes (strict order) bytes.now (refused f)) }
+    ensures no_canonical { IfErr result
+        (λ f. HasNoCanonicalFront limits.depth limits.bytes order bytes.now) }
+{
+    let mut events = SliceEvents::new(bytes, limits);
+    match check_item(&mut events, order) {
+        Ok(()) => Ok(events.taken()),
+        Err(refusal) => Err(refusal),
+    }
+}
