@@ -35,7 +35,7 @@ module _ (o : KeyOrder) (b : Bounds) (input : List ℕ) (old new : SliceEventsVi
       go : IsUnread b.depth b.bytes (strict o) old.rest f → IsVerdict b.depth b.bytes (strict o) input (refused f)
       go (of_verdict v) = of-all (refused f) v
       go (of_reader p l m is v) = absurd (s.1.no_read (ap (λ (x : Refusal). x.reason) is))
-      go (of_memory p l m is) = absurd (s.1.no_memory (ap (λ (x : Refusal). x.reason) is, ap (λ (x : Refusal). x.place) is ∙ sym (ap (λ (x : Refusal). x.read) is)))
+      go (of_memory p l m is free) = absurd (s.1.no_memory (ap (λ (x : Refusal). x.reason) is, ap (λ (x : Refusal). x.place) is ∙ sym (ap (λ (x : Refusal). x.read) is)))
 
 pub read-front : (d n : ℕ) (o : KeyOrder) (input : List ℕ) (count : ℕ) → IsRead d n (strict o) input count → IsCanonicalFront d n o input count
 read-front d n o input count r = front-canonical d n o (Some input) (value_of r.item) count count (record { read = r; value = refl }) refl
