@@ -90,7 +90,7 @@ fn the_third_number_is_cut_off(rt: HostRuntime) -> Result<(), Fail> {
     let tree = tree(alloc, Item::Array(numbers))?;
     let mut cup = cup(Vec::new(alloc), 5, 100, false);
     assert_eq!(rt; diagnostic(&tree, &mut cup), write_at(5));
-    assert_eq!(rt; cup.held.as_slice(), b"[1, 2");
+    assert_eq!(rt; cup.held.as_slice(), b"[1, 2".as_slice());
     Ok(())
 }
 
