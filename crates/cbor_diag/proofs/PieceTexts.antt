@@ -12,7 +12,7 @@ use Rattle.cbor_diag.specs.IndentedText.{new_line}
 use Rattle.cbor_diag.specs.declared.outbox.Outbox.{Outbox}
 use Rattle.cbor_diag.proofs.Putting.{puts-then, puts-stops, stops-more}
 
-pub spaces-front : (level n : ℕ) → n ≡ level → level ≤ 256 → take (2 * n) (replicate 512 32) ≡ replicate (2 * level) 32
+pub spaces-front : (level n : ℕ) → n ≡ level → level ≤ 256 → take {A = ℕ} (2 * n) (replicate 512 32) ≡ replicate (2 * level) 32
 spaces-front level n e few = rw e (take-replicate (2 * level) 512 32 (omega arith))
 
 eqb-no : (m n : ℕ) → (m ≡ n → ⊥) → eqb m n ≡ false

@@ -101,7 +101,7 @@ hex-digit d h = ap is_some (IsDigits-lower_digits d h)
 pub hex-pass : (bs : List ℕ) → AreBytes bs → Pass is_hex_digit (encode_lower bs)
 unfolding encode_with
 hex-pass [] h = tt
-hex-pass (b ∷ bs) h = let small = h.0 in (hex-digit (b / 16) (omega arith), hex-digit (b % 16) (omega arith), hex-pass bs h.1)
+hex-pass (b ∷ bs) h = let small = h.0 in (hex-digit (b / 16) (omega arith), (hex-digit (b % 16) (omega arith), hex-pass bs h.1))
 
 -- ---- texts
 

@@ -35,5 +35,6 @@ pub fn texts_tell_trees(left: &Tree, right: &Tree)
         ↔ view left.now ≡ view right.now }
 {
     // Items of trees are in range.
-    let _items = (left.item(), right.item());
+    let _left = left.item();
+    let _right = right.item();
 }

@@ -43,7 +43,7 @@ impl Write for Cup {
 
 const STOPS: [(usize, bool); 4] = [(1, false), (1, true), (10000, false), (10000, true)];
 
-fn cup(held: Vec<u8>, room: usize, step: usize, fails: bool) -> Cup {
+fn empty_cup(held: Vec<u8>, room: usize, step: usize, fails: bool) -> Cup {
     Cup {
         held,
         room,
@@ -70,12 +70,12 @@ fn writers_stop_at_each_place(rt: HostRuntime) -> Result<(), Fail> {
         b"[\n  1,\n  {\n    \"b\": [\n      2,\n      3\n    ],\n    \"a\": 1,\n    [\n      4\n    ]: {}\n  },\n  []\n]";
     for (step, fails) in STOPS {
         for room in 0..line.len() {
-            let mut cup = cup(Vec::new(alloc), room, step, fails);
+            let mut cup = empty_cup(Vec::new(alloc), room, step, fails);
             assert_eq!(rt; diagnostic(&tree, &mut cup), write_at(room));
             assert_eq!(rt; cup.held.as_slice(), &line[..room]);
         }
         for room in 0..lines.len() {
-            let mut cup = cup(Vec::new(alloc), room, step, fails);
+            let mut cup = empty_cup(Vec::new(alloc), room, step, fails);
             assert_eq!(rt; diagnostic_indented(&tree, &mut cup), write_at(room));
             assert_eq!(rt; cup.held.as_slice(), &lines[..room]);
         }
@@ -88,9 +88,9 @@ fn the_third_number_is_cut_off(rt: HostRuntime) -> Result<(), Fail> {
     let alloc = rt.alloc();
     let numbers = vec![in alloc; Item::Unsigned(1), Item::Unsigned(2), Item::Unsigned(3)]?;
     let tree = tree(alloc, Item::Array(numbers))?;
-    let mut cup = cup(Vec::new(alloc), 5, 100, false);
+    let mut cup = empty_cup(Vec::new(alloc), 5, 100, false);
     assert_eq!(rt; diagnostic(&tree, &mut cup), write_at(5));
-    assert_eq!(rt; cup.held.as_slice(), b"[1, 2");
+    assert_eq!(rt; cup.held.as_slice(), b"[1, 2".as_slice());
     Ok(())
 }
 
@@ -103,7 +103,7 @@ fn long_strings_are_cut_off(rt: HostRuntime) -> Result<(), Fail> {
         for room in [
             0, 1, 2, 3, 511, 512, 513, 514, 515, 1025, 1026, 1027, 1401, 1402,
         ] {
-            let mut cup = cup(Vec::new(alloc), room, step, fails);
+            let mut cup = empty_cup(Vec::new(alloc), room, step, fails);
             assert_eq!(rt; diagnostic(&tree, &mut cup), write_at(room));
             assert_eq!(rt; cup.held.len(), room);
         }

@@ -71,7 +71,7 @@ fn a_writer_that_takes_all(rt: HostRuntime) -> Result<(), Fail> {
         fails: true,
     };
     assert_eq!(rt; write_whole(&mut cup, b"abcde"), Ok(()));
-    assert_eq!(rt; cup.held.as_slice(), b"abcde");
+    assert_eq!(rt; cup.held.as_slice(), b"abcde".as_slice());
     assert_eq!(rt; write_whole(&mut cup, b"f"), Err(0));
     Ok(())
 }

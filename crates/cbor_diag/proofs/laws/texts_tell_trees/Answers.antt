@@ -7,6 +7,6 @@ returns c =
     let left = view c.args.left.now in
     let right = view c.args.right.now in
     record {
-      one_line = equal-line left right c.item.ensures.in_range c.item-2.ensures.in_range;
-      lines = equal-lines 0 left right c.item.ensures.in_range c.item-2.ensures.in_range;
+      one_line = equal-line left right c.item-left.ensures.in_range c.item-right.ensures.in_range;
+      lines = equal-lines 0 left right c.item-left.ensures.in_range c.item-right.ensures.in_range;
     }
