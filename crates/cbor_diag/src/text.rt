@@ -2,7 +2,8 @@
 
 ghost use Rattle.std.specs.Prelude.{◌≡◌, ◌+◌, ◌≤◌, Bool, true, ◌++◌, codes, MatchResult};
 ghost use Rattle.cbor_head.specs.Value.{depth, depth_all, depth_entries};
-ghost use Rattle.cbor_item.specs.View.{view, values_view, entries_view};
+ghost use Rattle.cbor_item.specs.View.{view};
+ghost use Rattle.cbor_item.specs.inner.Members.{entries_view, values_view};
 ghost use Rattle.cbor_diag.specs.IndentedText.{indented};
 ghost use Rattle.cbor_diag.specs.Layout.{gap, end, laid_out, members_left, pairs_left};
 ghost use Rattle.cbor_diag.specs.Outbox.{Puts, Writes};
