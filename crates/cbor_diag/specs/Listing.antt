@@ -6,7 +6,7 @@ use Rattle.cbor_head.specs.Beginning.{IsBeginning}
 use Rattle.cbor_head.specs.Complaint.{form}
 use Rattle.cbor_head.specs.Verdict.{refusal, accepted, refused, IsVerdict}
 use Rattle.cbor_head.specs.declared.reason.Reason.{Reason}
-use Rattle.cbor_head.specs.declared.reason.Reason.TheVariants.{Read, Write, Truncated as TruncatedInput}
+use Rattle.cbor_head.specs.declared.reason.Reason.TheVariants.{Read, Write, Truncated}
 use Rattle.cbor_head.specs.declared.reason.Refusal.{Refusal}
 use Rattle.cbor_head.specs.declared.width.Width.{Width}
 use Rattle.cbor_head.specs.declared.width.Width.TheVariants.{Direct, One, Two, Four, Eight, Indefinite}
@@ -17,7 +17,8 @@ use Rattle.cbor_events.specs.declared.event.Event.{Event}
 use Rattle.cbor_events.specs.declared.event.EventKind.{EventKind}
 use Rattle.cbor_events.specs.declared.event.EventKind.TheVariants.{Unsigned, Negative, Simple, Bytes, Text, Chunk, Piece, Array, Map, Tag, End}
 
--- the name of an event, and the argument of its head if it has one; a piece has no line (RFC 8949, section 3)
+-- the name of an event, and the argument of its head if it has one; a piece has no line
+-- (RFC 8949, section 3)
 abbrev pub columns : EventKind → Option (List ℕ × Option ℕ)
 columns (Unsigned n) = Some (codes "unsigned", Some n)
 columns (Negative n) = Some (codes "negative", Some n)
@@ -36,7 +37,7 @@ abbrev pub argument_text : Option ℕ → List ℕ
 argument_text None = codes "-"
 argument_text (Some n) = decimal n
 
--- the count of the argument's bytes behind the first byte of a head, or a hyphen where there is no argument
+-- how many bytes of the argument stand behind the first byte of a head, or a hyphen for no argument
 abbrev pub width_text : Width → List ℕ
 width_text Direct = codes "0"
 width_text One = codes "1"
@@ -49,7 +50,8 @@ width_text Indefinite = codes "-"
 abbrev pub row : Event → Option (List ℕ × Option ℕ) → List ℕ
 row e None = []
 row e (Some c) =
-    decimal e.place ++ codes " " ++ c.0 ++ codes " " ++ argument_text c.1 ++ codes " " ++ width_text e.width ++ codes "\n"
+    decimal e.place ++ codes " " ++ c.0 ++ codes " " ++ argument_text c.1 ++ codes " "
+    ++ width_text e.width ++ codes "\n"
 
 -- the line of an event
 abbrev pub line : Event → List ℕ
@@ -59,41 +61,45 @@ line e = row e (columns e.kind)
 abbrev pub lines : List Event → List ℕ
 lines es = flat_map line es
 
--- the listing of the bytes t: of each item that starts with them, the lines of the events that end within them
+-- the listing of the bytes t: of each item that starts with them, the lines of the events that
+-- end within them
 pub record IsListing (d : ℕ) (t out : List ℕ) : Type 0 where
   pub beginning : IsBeginning d t
-  pub of_events : (s : Spelling) (rest : List ℕ) → IsItem d s (t ++ rest) → out ≡ lines (cut (length t) (events 0 s))
+  pub of_events : (s : Spelling) (rest : List ℕ) → IsItem d s (t ++ rest)
+      → out ≡ lines (cut (length t) (events 0 s))
 
--- The same up to within the last line. The event of this line ends where t does: no byte behind it was asked for.
+-- The same up to within the last line. The event of this line ends where t does: no byte behind it
+-- was taken.
 pub record IsStopped (d : ℕ) (t out : List ℕ) : Type 0 where
   pub beginning : IsBeginning d t
   pub earlier : List Event
   pub last : Event
-  pub of_events : (s : Spelling) (rest : List ℕ) → IsItem d s (t ++ rest) → cut (length t) (events 0 s) ≡ earlier ++ last ∷ []
+  pub of_events : (s : Spelling) (rest : List ℕ) → IsItem d s (t ++ rest)
+      → cut (length t) (events 0 s) ≡ earlier ++ last ∷ []
   pub ends : last.place + event_size last ≡ length t
   pub part : ℕ
   pub within : part < length (line last)
   pub is : out ≡ lines earlier ++ take part (line last)
 
--- the item at the front of the input is accepted, and its listing was written
-pub record IsListed (d n : ℕ) (input : List ℕ) (count : ℕ) (old new : Option (List ℕ)) : Type 0 where
+-- the item at the front of the input b is accepted, and its listing was written
+pub record IsListed (d n : ℕ) (b : List ℕ) (count : ℕ) (old new : Option (List ℕ)) : Type 0 where
   pub item : Spelling
-  pub verdict : IsVerdict d n form input (accepted item)
+  pub verdict : IsVerdict d n form b (accepted item)
   pub size : count ≡ length (spell item)
   pub written : Appends old new (lines (events 0 item))
 
--- the input is refused, and something was written
-pub data IsUnlisted (d n : ℕ) (input : List ℕ) (f : Refusal) (old new : Option (List ℕ)) : Type 0 where
+-- the input b is refused, and something was written
+pub data IsUnlisted (d n : ℕ) (b : List ℕ) (f : Refusal) (old new : Option (List ℕ)) : Type 0 where
   -- the verdict of form: the listing of the bytes in front of its place
-  of_verdict : (out : List ℕ) → IsVerdict d n form input (refused f)
-      → IsListing d (take f.place input) out → Appends old new out → IsUnlisted d n input f old new
-  -- the reader failed: the listing of the bytes taken, of which, as a whole input, the verdict is Truncated
+  of_verdict : (out : List ℕ) → IsVerdict d n form b (refused f)
+      → IsListing d (take f.place b) out → Appends old new out → IsUnlisted d n b f old new
+  -- the reader failed: the listing of the bytes taken; as a whole input, these are Truncated
   of_reader : (out : List ℕ) → f ≡ refusal Read f.read f.read
-      → IsVerdict d n form (take f.read input) (refused (refusal TruncatedInput f.read f.read))
-      → IsListing d (take f.read input) out → Appends old new out → IsUnlisted d n input f old new
+      → IsVerdict d n form (take f.read b) (refused (refusal Truncated f.read f.read))
+      → IsListing d (take f.read b) out → Appends old new out → IsUnlisted d n b f old new
   -- the writer failed or took nothing: the listing of the bytes taken, up to the place
   of_writer : (out : List ℕ) → f ≡ refusal Write (capped (length out)) f.read
-      → IsStopped d (take f.read input) out → Appends old new out → IsUnlisted d n input f old new
+      → IsStopped d (take f.read b) out → Appends old new out → IsUnlisted d n b f old new
 
 -- the reasons of a reader of events, and that the writer failed
 abbrev pub IsListingReason : Reason → Type 0

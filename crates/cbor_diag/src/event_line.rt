@@ -1,6 +1,7 @@
 //! The line of an event.
 
-ghost use Rattle.std.specs.Prelude.{◌≡◌, ◌≤◌, ◌+◌, ◌++◌, length, None, Some, decimal, MatchOption, IfSome};
+ghost use Rattle.std.specs.Prelude.{◌≡◌, ◌≤◌, ◌+◌, ◌++◌, length, None, Some, decimal};
+ghost use Rattle.std.specs.Prelude.{MatchOption, IfSome};
 ghost use Rattle.arrayvec.specs.ArrayVec.{array_vec_len};
 ghost use Rattle.cbor_diag.specs.Listing.{columns, argument_text, width_text, line};
 
@@ -67,7 +68,8 @@ fn push_argument(line: &mut Line, argument: Option<u64>)
 
 // The name of an event, and its argument if it has one.
 fn columns_of(kind: &EventKind) -> Option<(&'static [u8], Option<u64>)>
-    ensures is { MatchOption result (columns kind.now ≡ None) (λ c. columns kind.now ≡ Some (c.0.now, c.1)) }
+    ensures is { MatchOption result (columns kind.now ≡ None)
+        (λ c. columns kind.now ≡ Some (c.0.now, c.1)) }
     ensures short { IfSome result (λ c. length c.0.now ≤ 8) }
 {
     let columns: (&'static [u8], Option<u64>) = match kind {

@@ -12,8 +12,8 @@ use std::io::{Read, Write};
 /// Writes a line for each event of the item that the reader's bytes begin with, but for the pieces
 /// of payloads, and answers how many bytes the item has (RFC 8949, section 3).
 ///
-/// A line is the event's offset, name, argument and width, with one space between. Of `82 01 18 64`,
-/// the array of 1 and 100:
+/// A line is the event's offset, name, argument and width, with one space between. Of
+/// `82 01 18 64`, the array of 1 and 100:
 ///
 /// ```text
 /// 0 array 2 0

@@ -1,4 +1,5 @@
-//! The listing against the tables, over readers and writers that give and take little at a time, or fail.
+//! The listing against the tables, over readers and writers that give and take little at a time,
+//! or fail.
 
 ghost use Rattle.std.specs.Prelude.{◌<◌};
 
@@ -139,7 +140,7 @@ fn bytes_of<R: Abort>(rt: &R, alloc: Global, text: &str) -> Result<Vec<u8>, Allo
 }
 
 // Items, and what their listings are.
-const ITEMS: [(&str, &str); 12] = [
+const ITEMS: [(&str, &str); 13] = [
     // {_ "Fun": true, "Amt": -2}
     (
         "bf6346756ef563416d7421ff",
@@ -157,25 +158,30 @@ const ITEMS: [(&str, &str); 12] = [
         "c18201f820",
         "0 tag 1 0\n1 array 2 0\n2 unsigned 1 0\n3 simple 32 1\n",
     ),
-    // A text that is not UTF-8, a map with a key twice, and an empty string: form alone is looked at.
+    // A text that is not UTF-8, a map with a key twice, and an empty string: form alone counts.
     ("61ff", "0 text 1 0\n"),
     (
         "a2616100616101",
         "0 map 2 0\n1 text 1 0\n3 unsigned 0 0\n4 text 1 0\n6 unsigned 1 0\n",
     ),
     ("40", "0 bytes 0 0\n"),
-    // (_ ""), then each width of a head: [0, -256, 2(h''), -18446744073709551616]
+    // (_ ""), and each width of a head: [0, -256, 2(h'')], [-18446744073709551616]
     ("7f60ff", "0 text - -\n1 chunk 0 0\n2 end - -\n"),
     (
-        "9a000000041900003900ffd9000258003bffffffffffffffff",
-        "0 array 4 4\n5 unsigned 0 2\n8 negative 255 2\n11 tag 2 2\n14 bytes 0 1\n16 negative 18446744073709551615 8\n",
+        "9a000000031900003900ffd900025800",
+        "0 array 3 4\n5 unsigned 0 2\n8 negative 255 2\n11 tag 2 2\n14 bytes 0 1\n",
+    ),
+    (
+        "813bffffffffffffffff",
+        "0 array 1 0\n1 negative 18446744073709551615 8\n",
     ),
     // [_ ], {_ }
     ("9fff", "0 array - -\n1 end - -\n"),
     ("bfff", "0 map - -\n1 end - -\n"),
 ];
 
-// Bytes that form refuses: the depth limit, the byte limit, the refusal, and what is written before it.
+// Bytes that form refuses: the depth limit, the byte limit, the refusal, and what is written
+// before it.
 const REFUSED: [(&str, u16, u64, Reason, u64, u64, &str); 41] = [
     ("", 256, 1048576, Reason::Truncated, 0, 0, ""),
     ("1c", 256, 1048576, Reason::Reserved, 0, 1, ""),
