@@ -4,7 +4,9 @@ pub mod Clean
 pub mod Counting
 pub mod Depth
 pub mod EncodedKeys
+pub mod Growth
 pub mod Induction
+pub mod KeyFronts
 pub mod Keys
 pub mod Loops
 pub mod Members
@@ -12,8 +14,10 @@ pub mod Neighbours
 pub mod Normal
 pub mod NormalValue
 pub mod Orders
+pub mod PartsMade
 pub mod Sameness
 pub mod SortedPairs
+pub mod SortedSpans
 pub mod Sorting
 pub mod Sound
 pub mod Stable

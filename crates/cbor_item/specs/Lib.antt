@@ -2,6 +2,8 @@ pub mod CanonicalSpelling
 pub mod Encoded
 pub mod Held
 pub mod Pairs
+pub mod Parts
 pub mod Refused
 pub mod Sent
 pub mod View
+pub mod inner

@@ -13,6 +13,7 @@
 //! ```
 #![tactic(auto)]
 
+mod builder;
 mod compare;
 mod encoded_key;
 mod encoding;
@@ -24,6 +25,7 @@ mod valid;
 mod within;
 mod write;
 
+pub use builder::Core;
 pub use cbor_head::KeyOrder;
 pub use compare::same;
 pub use encoded_key::compare_keys;

@@ -1,0 +1,3 @@
+pub mod BuilderState
+pub mod Front
+pub mod Laid
