@@ -10,6 +10,7 @@ use Rattle.cbor_head.specs.declared.major.Major.{Major}
 use Rattle.cbor_head.specs.declared.major.Major.TheVariants as of_major
 use Rattle.cbor_item.specs.Pairs.{IsRising}
 use Rattle.cbor_item.proofs.Sorting.{in_order-rising}
+use Rattle.cbor_item.proofs.Written.{take_front, drop_front}
 use Rattle.cbor_item.specs.Parts.{plain, an_array, a_map, a_key, a_string, pair, pair_bytes, with_member, with_content, give, extended, opened, close, closed}
 use Rattle.cbor_item.specs.inner.Laid.{span_pair, pairs_from, Tile, shape_open, outer_spans, opens, Fits, Laid, Takes, IsString, shape_after, span, spans_after, KeepsRising, Stands, Completed, opening_frame}
 use Rattle.cbor_item.specs.inner.Front.{front_of, AreFronted}
@@ -24,6 +25,12 @@ slice_front xs ys s e h g =
     let l = length-drop s xs in
     let r : e - s ≤ length (drop s xs) = subst (λ (n : ℕ). e - s ≤ n) (sym l) (omega arith) in
     ap (take (e - s)) (drop-append-le s xs ys (omega arith)) ∙ take-append-le (e - s) (drop s xs) ys r
+
+-- the same of what begins a longer list
+pub slice_within : (all out : List ℕ) (s e : ℕ) → take (length out) all ≡ out → s ≤ e → e ≤ length out → slice_range all s e ≡ slice_range out s e
+slice_within all out s e is h g =
+    let whole : all ≡ out ++ drop (length out) all = sym (take-append-drop (length out) all) ∙ ap (λ (xs : List ℕ). xs ++ drop (length out) all) is in
+    ap (λ (xs : List ℕ). slice_range xs s e) whole ∙ slice_front out (drop (length out) all) s e h g
 
 -- the part to the end
 pub slice_all : (xs : List ℕ) (s n : ℕ) → length xs ≡ n → slice_range xs s n ≡ drop s xs
@@ -330,17 +337,6 @@ count out ss first n e =
     let l = length-drop first ss in
     let m = length-map (drop first ss) (span_pair out) in
     omega (arith, e, l, m)
-
-take_front : (from start : ℕ) (out x : List ℕ) → from ≤ start → start ≤ length out → take from (take start out ++ x) ≡ take from out
-take_front from start out x h g =
-    let l = length-take start out in
-    take-append-le from (take start out) x (omega (arith, l, h, g)) ∙ sym (take-append-le from (take start out) (drop start out) (omega (arith, l, h, g))) ∙ ap (take from) (take-append-drop start out)
-
-drop_front : (start : ℕ) (out x : List ℕ) → start ≤ length out → drop start (take start out ++ x) ≡ x
-drop_front start out x g =
-    let l = length-take start out in
-    let e : start ≡ length (take start out) = omega (arith, l, g) in
-    ap (λ k. drop k (take start out ++ x)) e ∙ drop-append_seam (take start out) x
 
 pub map_sorted : (o : KeyOrder) (out : List ℕ) (ss : List Span) (from start first n : ℕ) (mid new : List ℕ) → from ≤ start → start ≤ length out → n ≡ length ss - first
     → mid ≡ take start out ++ flat_map pair_bytes (in_order o (pairs_from out ss first)) → new ≡ take from mid ++ (shortest_head of_major.Map n ++ drop start mid)

@@ -1,5 +1,6 @@
 pub mod Agreement
 pub mod ByIndex
+pub mod CanonStates
 pub mod Clean
 pub mod Counting
 pub mod Depth
@@ -8,6 +9,7 @@ pub mod Growth
 pub mod Induction
 pub mod KeyFronts
 pub mod Keys
+pub mod LookUp
 pub mod Loops
 pub mod Members
 pub mod Neighbours
@@ -27,3 +29,4 @@ pub mod Theorems
 pub mod Told
 pub mod Vectors
 pub mod Views
+pub mod Written

@@ -113,7 +113,7 @@ pub gathered_all : (out : List ℕ) (ss : List Span) (i : ℕ) (whole now : List
 gathered_all out ss i whole now l h =
     sym (append-nil now) ∙ ap (λ (us : List Span). now ++ flat_map pair_bytes (map (span_pair out) us)) (sym (drop_all i ss l)) ∙ sym h
 
-get_same : {X : Type 0} (xs : List X) (i : ℕ) (d e : X) → i < length xs → get_or xs i d ≡ get_or xs i e
+pub get_same : {X : Type 0} (xs : List X) (i : ℕ) (d e : X) → i < length xs → get_or xs i d ≡ get_or xs i e
 get_same [] i d e l = absurd (omega arith)
 get_same (x ∷ xs) zero d e l = refl
 get_same (x ∷ xs) (suc i) d e l = get_same xs i d e (omega arith)

@@ -1,3 +1,4 @@
+pub mod Built
 pub mod CanonicalSpelling
 pub mod Encoded
 pub mod Held

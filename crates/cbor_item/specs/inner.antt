@@ -1,3 +1,4 @@
 pub mod BuilderState
+pub mod CanonState
 pub mod Front
 pub mod Laid

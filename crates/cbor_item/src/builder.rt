@@ -5,12 +5,14 @@ ghost use Rattle.cbor_head.specs.Canonical.{canonical};
 ghost use Rattle.cbor_head.specs.Value.{Value};
 ghost use Rattle.cbor_head.specs.Head.{shortest_head, IsSimple};
 ghost use Rattle.cbor_head.specs.declared.major.Major.TheVariants.{Simple};
+ghost use Rattle.cbor_item.specs.Built.{IsRepeatedKey};
 ghost use Rattle.cbor_item.specs.Parts.{Part, Makes, run, plain, give, opened, extended, close, closed, HasNoRepeats};
 ghost use Rattle.cbor_item.specs.inner.Laid.{Takes, IsString, CanClose, OuterTakes, shape_open, outer_spans};
 ghost use Rattle.cbor_item.specs.inner.BuilderState.{standing, IsLaid};
 
 mod frame;
 mod gather;
+mod look_up;
 mod member;
 mod opening;
 mod out;
@@ -18,6 +20,7 @@ mod span;
 
 use crate::builder::frame::{Frame, Shape};
 use crate::builder::gather::ordered;
+use crate::builder::look_up::has_key;
 use crate::builder::member::complete;
 use crate::builder::opening::opening;
 use crate::builder::out::Out;
@@ -27,18 +30,18 @@ use std::alloc::{AllocError, Global};
 
 /// A builder. After a call has answered an error or false it may only be dropped.
 #[derive(Drop)]
-pub struct Core {
-    pub order: KeyOrder,
-    pub out: Out,
-    pub spans: Vec<Span>,
-    pub top: Frame,
-    pub below: Vec<Frame>,
-    pub scratch: Vec<u8>,
-    pub sorting: Vec<Span>,
+pub(crate) struct Core {
+    pub(crate) order: KeyOrder,
+    pub(crate) out: Out,
+    pub(crate) spans: Vec<Span>,
+    pub(crate) top: Frame,
+    pub(crate) below: Vec<Frame>,
+    pub(crate) scratch: Vec<u8>,
+    pub(crate) sorting: Vec<Span>,
 }
 
 impl Core {
-    pub fn new(alloc: Global, order: KeyOrder) -> Core
+    pub(crate) fn new(alloc: Global, order: KeyOrder) -> Core
         ensures order { result.order ≡ order }
         ensures laid { IsLaid result }
         ensures standing { standing result ≡ plain [] ∷ [] }
@@ -61,7 +64,7 @@ impl Core {
 
     /// An item that is its head.
     #[inline(always)]
-    pub fn leaf(&mut self, major: Major, n: u64) -> Result<(), AllocError>
+    pub(crate) fn leaf(&mut self, major: Major, n: u64) -> Result<(), AllocError>
         requires laid { IsLaid self.old }
         requires takes { Takes self.old.top.shape }
         requires simple { major ≡ Simple → IsSimple n }
@@ -71,18 +74,12 @@ impl Core {
     {
         let at = self.out.len();
         self.out.head(major, n)?;
-        complete(
-            &mut self.top,
-            &mut self.spans,
-            self.out.as_slice(),
-            self.order,
-            at,
-        )
+        complete(&mut self.top, &mut self.spans, &self.out, self.order, at)
     }
 
     /// A whole string.
     #[inline(always)]
-    pub fn string(&mut self, major: Major, content: &[u8]) -> Result<(), AllocError>
+    pub(crate) fn string(&mut self, major: Major, content: &[u8]) -> Result<(), AllocError>
         requires laid { IsLaid self.old }
         requires takes { Takes self.old.top.shape }
         requires kind { major ≢ Simple }
@@ -93,19 +90,13 @@ impl Core {
         let at = self.out.len();
         self.out.head(major, content.len() as u64)?;
         self.out.extend(content)?;
-        complete(
-            &mut self.top,
-            &mut self.spans,
-            self.out.as_slice(),
-            self.order,
-            at,
-        )
+        complete(&mut self.top, &mut self.spans, &self.out, self.order, at)
     }
 
     /// A string, an array, a map or a tag begins. The number is the tag's; for the others it says for
     /// which length or count the head is to have room.
     #[inline(always)]
-    pub fn begin(&mut self, major: Major, n: u64) -> Result<(), AllocError>
+    pub(crate) fn begin(&mut self, major: Major, n: u64) -> Result<(), AllocError>
         requires laid { IsLaid self.old }
         requires kind { major ≢ Simple }
         ensures order { self.new.order ≡ self.old.order }
@@ -122,7 +113,7 @@ impl Core {
 
     /// More of a string.
     #[inline(always)]
-    pub fn bytes(&mut self, content: &[u8]) -> Result<(), AllocError>
+    pub(crate) fn bytes(&mut self, content: &[u8]) -> Result<(), AllocError>
         requires laid { IsLaid self.old }
         requires string { IsString self.old.top.shape }
         ensures order { self.new.order ≡ self.old.order }
@@ -154,9 +145,7 @@ impl Core {
         } = self.top;
         match shape {
             Shape::Plain | Shape::Key(..) => {}
-            Shape::Array(n) => self
-                .out
-                .fill_head(&mut self.scratch, from, start, Major::Array, n)?,
+            Shape::Array(n) => self.out.fill_head(from, start, Major::Array, n)?,
             Shape::Map(first) => {
                 let n = (self.spans.len() - first) as u64;
                 if !rises {
@@ -172,20 +161,18 @@ impl Core {
                     self.out.rewrite(start, self.scratch.as_slice())?;
                 }
                 self.spans.truncate(first);
-                self.out
-                    .fill_head(&mut self.scratch, from, start, Major::Map, n)?;
+                self.out.fill_head(from, start, Major::Map, n)?;
             }
             Shape::Content(major) => {
                 let n = (self.out.len() - start) as u64;
-                self.out
-                    .fill_head(&mut self.scratch, from, start, major, n)?;
+                self.out.fill_head(from, start, major, n)?;
             }
         }
         Ok(true)
     }
 
     /// What is open ends. False where it is a map of which two keys are equal.
-    pub fn end(&mut self) -> Result<bool, AllocError>
+    pub(crate) fn end(&mut self) -> Result<bool, AllocError>
         requires laid { IsLaid self.old }
         requires closes { CanClose self.old.top.shape }
         requires takes { OuterTakes (reverse self.old.below.items) }
@@ -201,24 +188,43 @@ impl Core {
         }
         if let Some(outer) = self.below.pop() {
             self.top = outer;
-            complete(
-                &mut self.top,
-                &mut self.spans,
-                self.out.as_slice(),
-                self.order,
-                from,
-            )?;
+            complete(&mut self.top, &mut self.spans, &self.out, self.order, from)?;
         }
         Ok(true)
     }
 
-    /// The bytes, where nothing is open any more: where the parts given since `new` make a value, its
-    /// canonical bytes.
-    pub fn finish(self) -> Vec<u8>
-        requires { IsLaid self }
-        ensures bytes { (bs : List ℕ) → standing self ≡ plain bs ∷ [] → result.items ≡ bs }
-        ensures canonical { (v : Value) (ps : List Part) → Makes v ps → standing self ≡ run self.order ps (plain [] ∷ []) → result.items ≡ canonical self.order v }
+    // Whether the key that waits for its value is equal to an earlier one of its map. Where the keys
+    // rise so far, one comparison tells that a greater one is not; else each of them is looked at.
+    pub(crate) fn repeated(&self) -> bool
+        requires laid { IsLaid self.now }
+        ensures { IsTrue result ↔ IsRepeatedKey (standing self.now) }
     {
-        self.out.into_vec()
+        match self.top.shape {
+            Shape::Key(first, key, val) => has_key(
+                &self.out,
+                self.order,
+                &self.spans[first..],
+                key,
+                val,
+            ),
+            _ => false,
+        }
+    }
+
+    // The bytes, where nothing is open any more: where the parts given since `new` make a value, its
+    // canonical bytes. Takes no memory.
+    pub(crate) fn finish(self) -> Vec<u8>
+        ensures { IsLaid self → (bs : List ℕ) → standing self ≡ plain bs ∷ [] → result.items ≡ bs }
+    {
+        let Core {
+            order: _,
+            out,
+            spans: _,
+            top: _,
+            below: _,
+            scratch: _,
+            sorting: _,
+        } = self;
+        out.into_vec()
     }
 }

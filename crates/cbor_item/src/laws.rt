@@ -11,7 +11,8 @@ ghost use Rattle.cbor_head.specs.declared.order.KeyOrder.{KeyOrder};
 ghost use Rattle.cbor_item.specs.CanonicalSpelling.{IsCanonicalSpelling};
 ghost use Rattle.cbor_item.specs.Encoded.{AreKeysValid};
 ghost use Rattle.cbor_item.specs.Pairs.{IsRising};
-ghost use Rattle.cbor_item.specs.Parts.{Open, a_map, Part, Makes, plain, run, give, HasNoRepeats};
+ghost use Rattle.cbor_item.specs.Built.{IsRepeatedKey, HasSameKey};
+ghost use Rattle.cbor_item.specs.Parts.{Open, a_map, a_key, Part, Makes, plain, run, give, HasNoRepeats};
 
 /// Sameness is an equivalence.
 pub fn sameness_is_an_equivalence()
@@ -76,4 +77,12 @@ pub fn parts_make_canonical_bytes()
 pub fn repeats_are_those_of_the_value()
     ensures { (o : KeyOrder) (es : Entries) → AreEntriesInRange es → AreKeysValid es
         → HasNoRepeats (a_map (canonical_entries o es)) ↔ HasDistinctKeys es }
+{}
+
+/// A key that waits for its value is repeated exactly where it is the same as the key of one of the
+/// entries before it.
+pub fn repeated_key_is_the_same_as_an_earlier_one()
+    ensures { (o : KeyOrder) (es : Entries) (k : Value) (os : List Open)
+        → AreEntriesInRange es → AreKeysValid es → IsInRange k → IsValid k
+        → IsRepeatedKey (a_key (canonical_entries o es) (canonical o k) ∷ os) ↔ HasSameKey es k }
 {}

@@ -15,7 +15,7 @@ use cbor_head::KeyOrder;
 use std::alloc::AllocError;
 
 /// Sorts by the keys.
-pub fn sort(bytes: &[u8], order: KeyOrder, spans: &mut Vec<Span>)
+pub(crate) fn sort(bytes: &[u8], order: KeyOrder, spans: &mut Vec<Span>)
     ensures permuted { IsPermutation spans.old.items spans.new.items }
     ensures sorted { IsSortedBy (λ x y. is_lt (rank order (ranked_by bytes.now x) (ranked_by bytes.now y))) spans.new.items }
 {
@@ -23,7 +23,7 @@ pub fn sort(bytes: &[u8], order: KeyOrder, spans: &mut Vec<Span>)
 }
 
 /// Whether no two neighbours have equal keys.
-pub fn differ(bytes: &[u8], order: KeyOrder, spans: &[Span]) -> bool
+pub(crate) fn differ(bytes: &[u8], order: KeyOrder, spans: &[Span]) -> bool
     requires { AreFronted bytes.now spans.now }
     ensures { IsTrue result ↔ DoNeighboursDiffer (map (key_of bytes.now) spans.now) }
 {
@@ -36,7 +36,7 @@ pub fn differ(bytes: &[u8], order: KeyOrder, spans: &[Span]) -> bool
 }
 
 /// The pairs, one behind the other, behind what is there.
-pub fn gather(bytes: &[u8], spans: &[Span], into: &mut Vec<u8>) -> Result<(), AllocError>
+pub(crate) fn gather(bytes: &[u8], spans: &[Span], into: &mut Vec<u8>) -> Result<(), AllocError>
     requires { into.old.items ≡ [] }
     ensures { OnOk result (into.new.items ≡ flat_map pair_bytes (map (span_pair bytes.now) spans.now)) }
 {
@@ -48,7 +48,7 @@ pub fn gather(bytes: &[u8], spans: &[Span], into: &mut Vec<u8>) -> Result<(), Al
 }
 
 /// The pairs in order, in `into`, or false where two keys are equal.
-pub fn ordered(
+pub(crate) fn ordered(
     bytes: &[u8],
     order: KeyOrder,
     spans: &[Span],

@@ -8,13 +8,20 @@ ghost use Rattle.cbor_item.specs.inner.Front.{AreFronted, IsFronted};
 ghost use Rattle.cbor_item.specs.inner.Laid.{span_pair, Takes, shape_after, spans_after, KeepsRising};
 
 use crate::builder::frame::{Frame, Shape};
+use crate::builder::out::Out;
 use crate::builder::span::{Span, compare, front};
 use cbor_head::KeyOrder;
 use std::alloc::AllocError;
 
 /// Whether a pair's key is above those of the spans from an index on, where they rise.
 #[inline(always)]
-pub fn is_above(bytes: &[u8], order: KeyOrder, spans: &[Span], first: usize, next: &Span) -> bool
+pub(crate) fn is_above(
+    bytes: &[u8],
+    order: KeyOrder,
+    spans: &[Span],
+    first: usize,
+    next: &Span,
+) -> bool
     requires first { first ≤ length spans.now }
     requires fronted { AreFronted bytes.now (drop first spans.now) }
     requires next { IsFronted bytes.now next.now }
@@ -32,29 +39,30 @@ pub fn is_above(bytes: &[u8], order: KeyOrder, spans: &[Span], first: usize, nex
 
 /// A member that begins at `at` and ends the buffer is finished.
 #[inline(always)]
-pub fn complete(
+pub(crate) fn complete(
     frame: &mut Frame,
     spans: &mut Vec<Span>,
-    bytes: &[u8],
+    out: &Out,
     order: KeyOrder,
     at: usize,
 ) -> Result<(), AllocError>
     requires takes { Takes frame.old.shape }
     requires within { (first a val : ℕ) → frame.old.shape ≡ Key first a val
-        → (first ≤ length spans.old.items) × (a ≤ val) × (val ≤ length bytes.now) × AreFronted bytes.now (drop first spans.old.items) }
+        → (first ≤ length spans.old.items) × (a ≤ val) × (val ≤ length out.now) × AreFronted out.now (drop first spans.old.items) }
     ensures from { frame.new.from ≡ frame.old.from }
     ensures start { frame.new.start ≡ frame.old.start }
-    ensures shape { frame.new.shape ≡ shape_after at (length bytes.now) frame.old.shape }
-    ensures spans { OnOk result (spans.new.items ≡ spans_after bytes.now spans.old.items frame.old.shape) }
-    ensures rises { KeepsRising order bytes.now spans.old.items frame.old.shape frame.old.rises frame.new.rises }
+    ensures shape { frame.new.shape ≡ shape_after at (length out.now) frame.old.shape }
+    ensures spans { OnOk result (spans.new.items ≡ spans_after out.now spans.old.items frame.old.shape) }
+    ensures rises { KeepsRising order out.now spans.old.items frame.old.shape frame.old.rises frame.new.rises }
 {
+    let bytes = out.as_slice();
     match frame.shape {
         Shape::Plain => {}
         Shape::Array(n) => frame.shape = Shape::Array(n + 1),
         Shape::Map(first) => frame.shape = Shape::Key(first, at, bytes.len()),
         Shape::Key(first, key, val) => {
             let span = Span {
-                front: front(bytes, key, val),
+                front: front(out, key, val),
                 key,
                 val,
                 end: bytes.len(),

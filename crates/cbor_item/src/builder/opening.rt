@@ -8,7 +8,7 @@ use cbor_head::Major;
 
 /// The frame of what begins: its head stands from `from` to `end`, and there are so many spans.
 #[inline(always)]
-pub fn opening(major: Major, from: usize, end: usize, spans: usize) -> Frame
+pub(crate) fn opening(major: Major, from: usize, end: usize, spans: usize) -> Frame
     ensures { result ≡ opening_frame major from end spans }
 {
     match major {

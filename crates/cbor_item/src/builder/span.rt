@@ -4,22 +4,23 @@ ghost use Rattle.std.specs.Prelude.{◌≡◌, ◌<◌, ◌≤◌, ◌-◌, ◌*
 ghost use Rattle.cbor_item.specs.inner.Front.{front_of, key_of, rank, ranked_by};
 ghost use Rattle.cbor_head.specs.Order.{key_cmp};
 
+use crate::builder::out::Out;
 use crate::encoded_key::compare_keys;
 use cbor_head::KeyOrder;
 use std::cmp::Ordering;
 
 /// A pair: the first eight bytes of its key as a number; its key begins, its value begins, it ends.
 #[derive(Clone, Copy)]
-pub struct Span {
-    pub front: u64,
-    pub key: usize,
-    pub val: usize,
-    pub end: usize,
+pub(crate) struct Span {
+    pub(crate) front: u64,
+    pub(crate) key: usize,
+    pub(crate) val: usize,
+    pub(crate) end: usize,
 }
 
 /// What stands from `start` to `end`, as far as the bytes go.
 #[inline(always)]
-pub fn part(bytes: &[u8], start: usize, end: usize) -> &[u8]
+pub(crate) fn part(bytes: &[u8], start: usize, end: usize) -> &[u8]
     ensures { result.now ≡ slice_range bytes.now start end }
 {
     let end = end.min(bytes.len());
@@ -27,9 +28,18 @@ pub fn part(bytes: &[u8], start: usize, end: usize) -> &[u8]
     &bytes[start..end]
 }
 
-/// The first eight bytes of a key as a number.
+// The first eight bytes of a key as a number. They are read in one piece, beyond what is written too.
 #[inline(always)]
-pub fn front(bytes: &[u8], key: usize, val: usize) -> u64
+pub(crate) fn front(out: &Out, key: usize, val: usize) -> u64
+    requires begins { key ≤ val }
+    requires ends { val ≤ length out.now }
+    ensures { result ≡ front_of (slice_range out.now key val) }
+{
+    front_in(out.with_room(), key, val)
+}
+
+#[inline(always)]
+fn front_in(bytes: &[u8], key: usize, val: usize) -> u64
     requires begins { key ≤ val }
     requires ends { val ≤ length bytes.now }
     ensures { result ≡ front_of (slice_range bytes.now key val) }
@@ -83,7 +93,7 @@ fn byte(key: &[u8], at: usize) -> u8
 
 /// How two pairs stand to each other.
 #[inline(always)]
-pub fn compare(bytes: &[u8], order: KeyOrder, x: &Span, y: &Span) -> Ordering
+pub(crate) fn compare(bytes: &[u8], order: KeyOrder, x: &Span, y: &Span) -> Ordering
     ensures { result ≡ rank order (ranked_by bytes.now x.now) (ranked_by bytes.now y.now) }
 {
     match order {

@@ -15,7 +15,7 @@ returns-in_ok-complete-clause-laid c = λ t.
     let laid = subst (λ (o : KeyOrder). Laid o s.out s.spans.items (s.top ∷ reverse s.below.items)) (sym k.order) c.requires.laid in
     let bytes = k.bytes c.if-not-branch.false ∙ ap (λ (o : KeyOrder). take s.top.from s.out ++ closed o (shape_open s.out s.spans.items s.top.start s.top.shape)) (sym k.order) in
     (ended_by c.close_top.new.self.order s.out s.spans.items s.top c.in-Some.outer (reverse c.pop.new.self.items) (reverse s.below.items) c.close_top.new.self.out c.close_top.new.self.spans.items c.complete.new.spans.items
-    c.complete.new.frame c.as_slice.result.now s.top.from rev laid (subst OuterTakes rev c.requires.takes) bytes (k.spans c.if-not-branch.false) c.as_slice.ensures refl (e.from, e.start, e.shape, e.spans, e.rises)).0
+    c.complete.new.frame c.close_top.new.self.out s.top.from rev laid (subst OuterTakes rev c.requires.takes) bytes (k.spans c.if-not-branch.false) refl refl (e.from, e.start, e.shape, e.spans, e.rises)).0
 
 pub returns-in_ok-complete-clause-closed : goal.returns-in_ok-complete-clause-closed
 returns-in_ok-complete-clause-closed c = λ t.
@@ -26,7 +26,7 @@ returns-in_ok-complete-clause-closed c = λ t.
     let laid = subst (λ (o : KeyOrder). Laid o s.out s.spans.items (s.top ∷ reverse s.below.items)) (sym k.order) c.requires.laid in
     let bytes = k.bytes c.if-not-branch.false ∙ ap (λ (o : KeyOrder). take s.top.from s.out ++ closed o (shape_open s.out s.spans.items s.top.start s.top.shape)) (sym k.order) in
     (ended_by c.close_top.new.self.order s.out s.spans.items s.top c.in-Some.outer (reverse c.pop.new.self.items) (reverse s.below.items) c.close_top.new.self.out c.close_top.new.self.spans.items c.complete.new.spans.items
-    c.complete.new.frame c.as_slice.result.now s.top.from rev laid (subst OuterTakes rev c.requires.takes) bytes (k.spans c.if-not-branch.false) c.as_slice.ensures refl (e.from, e.start, e.shape, e.spans, e.rises)).1
+    c.complete.new.frame c.close_top.new.self.out s.top.from rev laid (subst OuterTakes rev c.requires.takes) bytes (k.spans c.if-not-branch.false) refl refl (e.from, e.start, e.shape, e.spans, e.rises)).1
     ∙ ap (λ (o : KeyOrder). close o (opens s.out s.spans.items (s.top ∷ reverse s.below.items))) k.order
 
 pub complete-requires-clause-within : goal.complete-requires-clause-within
@@ -34,5 +34,5 @@ complete-requires-clause-within c =
     let s = c.args.self.now in
     let k = c.in_ok-close_top.ensures in
     let rev = taken s.below.items c.pop.new.self.items c.in-Some.outer (sym k.below ∙ c.in-Some.ensures.items) in
-    outer_ready s.order s.out s.spans.items c.close_top.new.self.spans.items s.top c.in-Some.outer (reverse c.pop.new.self.items) (reverse s.below.items) c.as_slice.result.now
-    (closed s.order (shape_open s.out s.spans.items s.top.start s.top.shape)) rev c.requires.laid (c.as_slice.ensures ∙ k.bytes c.if-not-branch.false) (k.spans c.if-not-branch.false)
+    outer_ready s.order s.out s.spans.items c.close_top.new.self.spans.items s.top c.in-Some.outer (reverse c.pop.new.self.items) (reverse s.below.items) c.close_top.new.self.out
+    (closed s.order (shape_open s.out s.spans.items s.top.start s.top.shape)) rev c.requires.laid (k.bytes c.if-not-branch.false) (k.spans c.if-not-branch.false)

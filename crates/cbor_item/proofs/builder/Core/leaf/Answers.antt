@@ -1,4 +1,4 @@
-use Rattle.std.proofs.Common.{◌∙◌}
+use Rattle.std.proofs.Common.{refl, ◌∙◌}
 use Rattle.std.specs.Prelude.{reverse}
 use Rattle.std.proofs.lemmas.Result.{on_ok_weaker}
 use Rattle.cbor_head.specs.Head.{shortest_head}
@@ -10,7 +10,7 @@ returns-clause-laid c =
     let s = c.args.self.now in
     let e = c.complete.ensures in
     on_ok_weaker c.complete.result (λ spans. (given_by s.order s.out (shortest_head c.args.major c.args.n) s.spans.items s.top (reverse s.below.items)
-    c.head.new.self c.complete.new.spans.items c.complete.new.frame c.as_slice.result.now c.len-at.result c.requires.laid c.requires.takes c.in_ok-head.ensures c.as_slice.ensures c.len-at.ensures
+    c.head.new.self c.complete.new.spans.items c.complete.new.frame c.head.new.self c.len-at.result c.requires.laid c.requires.takes c.in_ok-head.ensures refl c.len-at.ensures
     (e.from, e.start, e.shape, spans, e.rises)).0) e.spans
 
 pub returns-clause-given : goal.returns-clause-given
@@ -18,10 +18,10 @@ returns-clause-given c =
     let s = c.args.self.now in
     let e = c.complete.ensures in
     on_ok_weaker c.complete.result (λ spans. (given_by s.order s.out (shortest_head c.args.major c.args.n) s.spans.items s.top (reverse s.below.items)
-    c.head.new.self c.complete.new.spans.items c.complete.new.frame c.as_slice.result.now c.len-at.result c.requires.laid c.requires.takes c.in_ok-head.ensures c.as_slice.ensures c.len-at.ensures
+    c.head.new.self c.complete.new.spans.items c.complete.new.frame c.head.new.self c.len-at.result c.requires.laid c.requires.takes c.in_ok-head.ensures refl c.len-at.ensures
     (e.from, e.start, e.shape, spans, e.rises)).1) e.spans
 
 pub complete-requires-clause-within : goal.complete-requires-clause-within
 complete-requires-clause-within c =
     let s = c.args.self.now in
-    key_ready s.order s.out (shortest_head c.args.major c.args.n) s.spans.items s.top (reverse s.below.items) c.as_slice.result.now c.requires.laid (c.as_slice.ensures ∙ c.in_ok-head.ensures)
+    key_ready s.order s.out (shortest_head c.args.major c.args.n) s.spans.items s.top (reverse s.below.items) c.head.new.self c.requires.laid (c.in_ok-head.ensures)
