@@ -3,8 +3,8 @@ use Rattle.std.proofs.Common.{◌≡◌, Bool, true, false, List, [], ◌∷◌,
 use Rattle.std.specs.Prelude.{IsTrue, ℕ, reverse, take}
 use Rattle.std.specs.List.{AllByRecursion}
 use Rattle.cbor_head.specs.declared.order.KeyOrder.{KeyOrder}
-use Rattle.cbor_item.specs.Built.{Built, built, CanHold, TakesPart, IsInString, IsInContainer, HasDistinctKeysSoFar}
-use Rattle.cbor_item.specs.Parts.{Open, plain, an_array, a_map, a_key, a_string, give, extended, close, HasNoRepeats}
+use Rattle.cbor_item.specs.Built.{Built, built, CanHold, TakesPart, IsInString, IsInContainer}
+use Rattle.cbor_item.specs.Parts.{Open, plain, an_array, a_map, a_key, a_string, give, extended, close}
 use Rattle.cbor_item.specs.inner.BuilderState.{standing, IsLaid}
 use Rattle.cbor_item.specs.inner.CanonState.{if_sound, seen, IsNested, IsKept}
 use Rattle.cbor_item.specs.inner.Laid.{shape_open, opens, outer_spans, Takes, IsString, CanClose, OuterTakes}

@@ -3,24 +3,22 @@ use Rattle.std.proofs.Common.{◌≡◌, ◌≢◌, ◌↔◌, ℕ, zero, suc, �
 use Rattle.std.specs.Prelude.{IsTrue, slice_range, flat_map}
 use Rattle.cbor_item.specs.Parts.{pair_bytes}
 use Rattle.std.proofs.lemmas.List.{map-append, drop_all}
-use Rattle.std.specs.List.{IsDistinct}
 use Rattle.std.specs.Ordering.{is_eq, is_lt}
 use Rattle.std.specs.declared.cmp.Ordering.{Ordering}
 use Rattle.std.specs.declared.cmp.Ordering.TheVariants.{Less, Equal, Greater}
 use Rattle.std.proofs.lemmas.Bool.{false_from_ne_true}
 use Rattle.std.proofs.lemmas.Cmp.{tied_itself}
-use Rattle.std.proofs.lemmas.Map.Keys.{IsDistinct-IsPermutation}
 use Rattle.std.proofs.lemmas.List.Sorted.{IsPermutation-sym, IsPermutation-map}
 use Rattle.cbor_head.specs.Order.{key_cmp, key_lt}
 use Rattle.cbor_head.specs.Canonical.{Pair, in_order}
 use Rattle.cbor_head.specs.declared.order.KeyOrder.{KeyOrder}
-use Rattle.cbor_item.specs.Encoded.{IsNotFirst, DoNeighboursDiffer}
+use Rattle.cbor_item.specs.Encoded.{DoNeighboursDiffer}
 use Rattle.cbor_item.specs.Pairs.{HasDistinctBytes, IsRising}
 use Rattle.cbor_item.proofs.ByIndex.{at_read}
-use Rattle.cbor_item.proofs.Members.{In, all_at, all_from}
-use Rattle.cbor_item.proofs.Orders.{key_cmp_total, tied, lt_trans, lt_other}
-use Rattle.cbor_item.proofs.Neighbours.{differ_at, differ_end, keys-map, differ_from_distinct, rising_from_differ, distinct_permuted}
-use Rattle.cbor_item.proofs.SortedPairs.{pair_lt, same_key, same_key-flips, IsDistinct-keys, sorted_is_in_order, sorted_view}
+use Rattle.cbor_item.proofs.Members.{In}
+use Rattle.cbor_item.proofs.Orders.{key_cmp_total, tied, lt_trans}
+use Rattle.cbor_item.proofs.Neighbours.{differ_at, keys-map, differ_from_distinct, rising_from_differ, distinct_permuted}
+use Rattle.cbor_item.proofs.SortedPairs.{sorted_is_in_order, sorted_view}
 use Rattle.cbor_item.proofs.Sorting.{rises_at, rising_cons, rising_distinct}
 use Rattle.cbor_item.specs.inner.Laid.{span_pair}
 use Rattle.cbor_item.specs.inner.Front.{key_of, AreFronted, rank, ranked_by}

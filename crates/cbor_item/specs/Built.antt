@@ -1,6 +1,5 @@
 -- What contracts see of a builder, and when it takes the next part.
 use Rattle.std.specs.Prelude.{ℕ, suc, ◌≡◌, ◌<◌, ◌^◌, ◌⊎◌, List, [], ◌∷◌}
-use Rattle.std.specs.List.{AllByRecursion}
 use Rattle.cbor_head.specs.Value.{Value, Entries, HasEntry, Same}
 use Rattle.cbor_head.specs.Canonical.{Pair}
 use Rattle.cbor_head.specs.declared.order.KeyOrder.{KeyOrder}

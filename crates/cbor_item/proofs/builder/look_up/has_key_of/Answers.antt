@@ -1,4 +1,4 @@
-use Rattle.std.proofs.Common.{inl, inr, refl, sym, ◌∙◌, subst, arith}
+use Rattle.std.proofs.Common.{inl, sym, ◌∙◌, arith}
 use Rattle.cbor_item.proofs.Loops.{holds, fails}
 use Rattle.cbor_item.proofs.KeyFronts.{are_bytes}
 use Rattle.cbor_item.proofs.LookUp.{key_step, no_key_left, passed}

@@ -1,4 +1,4 @@
-use Rattle.std.proofs.Common.{◌≡◌, ◌≤◌, length, length-take, ap, ◌∙◌, arith}
+use Rattle.std.proofs.Common.{length, length-take, ap, ◌∙◌, arith}
 use Rattle.cbor_item.specs.inner.Front.{front_of}
 use Rattle.cbor_item.proofs.Growth.{slice_within}
 use Rattle.cbor_item.proofs.builder.span.front.Goals as goal
