@@ -10,7 +10,7 @@ ghost use Rattle.cbor_item.specs.Parts.{Part, Makes, run, plain, give, opened, e
 ghost use Rattle.cbor_item.specs.inner.Laid.{Takes, IsString, CanClose, OuterTakes, shape_open, outer_spans};
 ghost use Rattle.cbor_item.specs.inner.BuilderState.{standing, IsLaid};
 
-mod frame;
+pub(crate) mod frame;
 mod gather;
 mod look_up;
 mod member;
@@ -70,7 +70,8 @@ impl Core {
         requires simple { major ≡ Simple → IsSimple n }
         ensures order { self.new.order ≡ self.old.order }
         ensures laid { OnOk result (IsLaid self.new) }
-        ensures given { OnOk result (standing self.new ≡ give (shortest_head major n) (standing self.old)) }
+        ensures given { OnOk result
+            (standing self.new ≡ give (shortest_head major n) (standing self.old)) }
     {
         let at = self.out.len();
         self.out.head(major, n)?;
@@ -85,7 +86,9 @@ impl Core {
         requires kind { major ≢ Simple }
         ensures order { self.new.order ≡ self.old.order }
         ensures laid { OnOk result (IsLaid self.new) }
-        ensures given { OnOk result (standing self.new ≡ give (shortest_head major (length content.now) ++ content.now) (standing self.old)) }
+        ensures given { OnOk result
+            (standing self.new
+            ≡ give (shortest_head major (length content.now) ++ content.now) (standing self.old)) }
     {
         let at = self.out.len();
         self.out.head(major, content.len() as u64)?;
@@ -118,7 +121,8 @@ impl Core {
         requires string { IsString self.old.top.shape }
         ensures order { self.new.order ≡ self.old.order }
         ensures laid { OnOk result (IsLaid self.new) }
-        ensures extended { OnOk result (standing self.new ≡ extended content.now (standing self.old)) }
+        ensures extended { OnOk result
+            (standing self.new ≡ extended content.now (standing self.old)) }
     {
         self.out.extend(content)
     }
@@ -180,7 +184,8 @@ impl Core {
         ensures distinct { IfOk result (λ distinct.
             IsTrue distinct ↔ HasNoRepeats (shape_open self.old.out self.old.spans.items self.old.top.start self.old.top.shape)) }
         ensures laid { IfOk result (λ distinct. IsTrue distinct → IsLaid self.new) }
-        ensures closed { IfOk result (λ distinct. IsTrue distinct → standing self.new ≡ close self.old.order (standing self.old)) }
+        ensures closed { IfOk result (λ distinct. IsTrue distinct
+            → standing self.new ≡ close self.old.order (standing self.old)) }
     {
         let from = self.top.from;
         if !self.close_top()? {
@@ -193,8 +198,8 @@ impl Core {
         Ok(true)
     }
 
-    // Whether the key that waits for its value is equal to an earlier one of its map. Where the keys
-    // rise so far, one comparison tells that a greater one is not; else each of them is looked at.
+    // Whether the key that waits for its value is equal to an earlier one of its map. Each of them is
+    // looked at.
     pub(crate) fn repeated(&self) -> bool
         requires laid { IsLaid self.now }
         ensures { IsTrue result ↔ IsRepeatedKey (standing self.now) }
@@ -214,7 +219,8 @@ impl Core {
     // The bytes, where nothing is open any more: where the parts given since `new` make a value, its
     // canonical bytes. Takes no memory.
     pub(crate) fn finish(self) -> Vec<u8>
-        ensures { IsLaid self → (bs : List ℕ) → standing self ≡ plain bs ∷ [] → result.items ≡ bs }
+        ensures { IsLaid self → (bs : List ℕ) → standing self ≡ plain bs ∷ []
+            → result.items ≡ bs }
     {
         let Core {
             order: _,

@@ -8,9 +8,6 @@ ghost use Rattle.cbor_head.specs.declared.major.Major.TheVariants.{Simple};
 ghost use Rattle.cbor_item.specs.Built.{built, IsLeaf, IsStringType, IsContainer, TakesPart, IsInString, IsInContainer, HasDistinctKeysSoFar, IsRepeatedKey};
 ghost use Rattle.cbor_item.specs.Parts.{Part, Makes, run, plain, give, opened, extended, close};
 
-#[cfg(test)]
-mod tests;
-
 use crate::builder::Core;
 use cbor_head::{KeyOrder, Major};
 use std::alloc::{AllocError, Global};
@@ -161,7 +158,8 @@ impl CanonBuilder {
     }
 
     /// The array, map or tag ends, where its keys haven't been looked at: false where two keys of the
-    /// map are the same. Then the builder may only be dropped.
+    /// map are the same. Then the builder may only be dropped. A map of n pairs whose keys don't come
+    /// in order takes some n log n comparisons.
     #[inline(always)]
     pub fn end_if_distinct(&mut self) -> Result<bool, AllocError>
         requires container { IsInContainer self.old.standing }
@@ -176,7 +174,8 @@ impl CanonBuilder {
     }
 
     /// Whether the part that was just completed is a key that is the same as an earlier key of its
-    /// map. Takes no memory.
+    /// map. Takes no memory, and looks at each earlier key of the map: where all keys of a large map
+    /// are to be told apart, `end_if_distinct` does it once for all.
     pub fn repeated(&self) -> bool
         ensures { IsTrue result ↔ IsRepeatedKey self.now.standing }
     {
@@ -188,7 +187,8 @@ impl CanonBuilder {
     pub fn finish(self) -> Vec<u8>
         ensures bytes { (bs : List ℕ) → self.standing ≡ plain bs ∷ [] → result.items ≡ bs }
         ensures canonical { (v : Value) (ps : List Part) → Makes v ps
-            → self.standing ≡ run self.order ps (plain [] ∷ []) → result.items ≡ canonical self.order v }
+            → self.standing ≡ run self.order ps (plain [] ∷ [])
+            → result.items ≡ canonical self.order v }
     {
         let CanonBuilder { core, is_sound: _ } = self;
         core.finish()

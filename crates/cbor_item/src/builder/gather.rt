@@ -17,7 +17,8 @@ use std::alloc::AllocError;
 /// Sorts by the keys.
 pub(crate) fn sort(bytes: &[u8], order: KeyOrder, spans: &mut Vec<Span>)
     ensures permuted { IsPermutation spans.old.items spans.new.items }
-    ensures sorted { IsSortedBy (λ x y. is_lt (rank order (ranked_by bytes.now x) (ranked_by bytes.now y))) spans.new.items }
+    ensures sorted { IsSortedBy
+        (λ x y. is_lt (rank order (ranked_by bytes.now x) (ranked_by bytes.now y))) spans.new.items }
 {
     spans.sort_unstable_by(|x, y| compare(bytes, order, x, y))
 }
@@ -38,7 +39,8 @@ pub(crate) fn differ(bytes: &[u8], order: KeyOrder, spans: &[Span]) -> bool
 /// The pairs, one behind the other, behind what is there.
 pub(crate) fn gather(bytes: &[u8], spans: &[Span], into: &mut Vec<u8>) -> Result<(), AllocError>
     requires { into.old.items ≡ [] }
-    ensures { OnOk result (into.new.items ≡ flat_map pair_bytes (map (span_pair bytes.now) spans.now)) }
+    ensures { OnOk result
+        (into.new.items ≡ flat_map pair_bytes (map (span_pair bytes.now) spans.now)) }
 {
     for span in spans {
         into.extend_from_slice(part(bytes, span.key, span.val))?;
@@ -56,7 +58,8 @@ pub(crate) fn ordered(
     into: &mut Vec<u8>,
 ) -> Result<bool, AllocError>
     requires { AreFronted bytes.now spans.now }
-    ensures distinct { IfOk result (λ distinct. IsTrue distinct ↔ HasDistinctBytes (map (span_pair bytes.now) spans.now)) }
+    ensures distinct { IfOk result (λ distinct.
+        IsTrue distinct ↔ HasDistinctBytes (map (span_pair bytes.now) spans.now)) }
     ensures ordered { IfOk result (λ distinct. IsTrue distinct
         → into.new.items ≡ flat_map pair_bytes (in_order order (map (span_pair bytes.now) spans.now))) }
 {

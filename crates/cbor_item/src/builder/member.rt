@@ -52,8 +52,10 @@ pub(crate) fn complete(
     ensures from { frame.new.from ≡ frame.old.from }
     ensures start { frame.new.start ≡ frame.old.start }
     ensures shape { frame.new.shape ≡ shape_after at (length out.now) frame.old.shape }
-    ensures spans { OnOk result (spans.new.items ≡ spans_after out.now spans.old.items frame.old.shape) }
-    ensures rises { KeepsRising order out.now spans.old.items frame.old.shape frame.old.rises frame.new.rises }
+    ensures spans { OnOk result
+        (spans.new.items ≡ spans_after out.now spans.old.items frame.old.shape) }
+    ensures rises { KeepsRising order out.now spans.old.items frame.old.shape
+        frame.old.rises frame.new.rises }
 {
     let bytes = out.as_slice();
     match frame.shape {
