@@ -8,6 +8,9 @@ ghost use Rattle.cbor_head.specs.declared.major.Major.TheVariants.{Simple};
 ghost use Rattle.cbor_item.specs.Built.{built, IsLeaf, IsStringType, IsContainer, TakesPart, IsInString, IsInContainer, HasDistinctKeysSoFar, IsRepeatedKey};
 ghost use Rattle.cbor_item.specs.Parts.{Part, Makes, run, plain, give, opened, extended, close};
 
+#[cfg(test)]
+mod tests;
+
 use crate::builder::Core;
 use cbor_head::{KeyOrder, Major};
 use std::alloc::{AllocError, Global};
