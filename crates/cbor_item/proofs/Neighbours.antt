@@ -20,46 +20,43 @@ use Rattle.cbor_item.proofs.ByIndex.{at_read}
 use Rattle.cbor_item.proofs.EncodedKeys.{index_of}
 use Rattle.cbor_item.proofs.Keys.{distinct_exactly}
 use Rattle.cbor_item.proofs.Members.{all_at, all_from}
-use Rattle.cbor_item.proofs.Orders.{key_cmp_total, lt_irrefl, lt_trans, lt_other}
+use Rattle.cbor_item.proofs.Orders.{key_cmp_total, lt_trans, lt_other}
 use Rattle.cbor_item.proofs.SortedPairs.{pair_lt, same_key, same_key-flips, IsDistinct-keys, sorted_is_in_order, sorted_view}
-use Rattle.cbor_item.proofs.Sorting.{rises_at, rising_cons}
+use Rattle.cbor_item.proofs.Sorting.{rises_at, rising_cons, rising_distinct}
 
--- ---- along a list
+-- ---- along a list, through a view of each element
 
-abbrev pub bytes_of : EncodedKey → List ℕ
-bytes_of key = key.bytes
-
-pub differ_at : (ks : List EncodedKey) (j i : ℕ) (x y : EncodedKey) → j + 1 ≡ i → i < length ks → x ≡ get_or ks j x → y ≡ get_or ks i y
-    → DoNeighboursDiffer (map bytes_of (drop j ks)) ↔ ((bytes_of x ≢ bytes_of y) × DoNeighboursDiffer (map bytes_of (drop i ks)))
-differ_at ks j i x y e l a b =
+pub differ_at : {X : Type 0} (f : X → List ℕ) (ks : List X) (j i : ℕ) (x y : X) → j + 1 ≡ i → i < length ks → x ≡ get_or ks j x → y ≡ get_or ks i y
+    → DoNeighboursDiffer (map f (drop j ks)) ↔ ((f x ≢ f y) × DoNeighboursDiffer (map f (drop i ks)))
+differ_at f ks j i x y e l a b =
     let first = at_read ks j x (omega arith) a ∙ ap (λ n. x ∷ drop n ks) e in
     let second = at_read ks i y l b in
-    subst (λ us. DoNeighboursDiffer (map bytes_of us) ↔ ((bytes_of x ≢ bytes_of y) × DoNeighboursDiffer (map bytes_of (drop i ks)))) (sym first)
-    (subst (λ us. (IsNotFirst (bytes_of x) (map bytes_of us) × DoNeighboursDiffer (map bytes_of (drop i ks))) ↔ ((bytes_of x ≢ bytes_of y) × DoNeighboursDiffer (map bytes_of (drop i ks)))) (sym second)
+    subst (λ us. DoNeighboursDiffer (map f us) ↔ ((f x ≢ f y) × DoNeighboursDiffer (map f (drop i ks)))) (sym first)
+    (subst (λ us. (IsNotFirst (f x) (map f us) × DoNeighboursDiffer (map f (drop i ks))) ↔ ((f x ≢ f y) × DoNeighboursDiffer (map f (drop i ks)))) (sym second)
     ((λ d. d), (λ d. d)))
 
-pub differ_end : (ks : List EncodedKey) (j : ℕ) → length ks ≤ j + 1 → DoNeighboursDiffer (map bytes_of (drop j ks))
-differ_end [] zero l = tt
-differ_end [] (suc j) l = tt
-differ_end (x ∷ []) zero l = (tt, tt)
-differ_end (x ∷ y ∷ ys) zero l = absurd (omega arith)
-differ_end (x ∷ xs) (suc j) l = differ_end xs j (omega arith)
+pub differ_end : {X : Type 0} (f : X → List ℕ) (ks : List X) (j : ℕ) → length ks ≤ j + 1 → DoNeighboursDiffer (map f (drop j ks))
+differ_end f [] zero l = tt
+differ_end f [] (suc j) l = tt
+differ_end f (x ∷ []) zero l = (tt, tt)
+differ_end f (x ∷ y ∷ ys) zero l = absurd (omega arith)
+differ_end f (x ∷ xs) (suc j) l = differ_end f xs j (omega arith)
 
 -- ---- of sorted keys
 
 abbrev pub keys : List Pair → List (List ℕ)
 keys ps = map (λ (p : Pair). p.key) ps
 
-keys-map : (o : KeyOrder) (ps : List (Item × Item)) (ks : List EncodedKey) → keys (map (pair_at o ps) ks) ≡ map bytes_of ks
-keys-map o ps [] = refl
-keys-map o ps (k ∷ ks) = ap (λ (xs : List (List ℕ)). bytes_of k ∷ xs) (keys-map o ps ks)
+pub keys-map : {X : Type 0} (view : X → Pair) (xs : List X) → keys (map view xs) ≡ map (λ x. (view x).key) xs
+keys-map view [] = refl
+keys-map view (x ∷ xs) = ap (λ (ks : List (List ℕ)). (view x).key ∷ ks) (keys-map view xs)
 
-differ_from_distinct : (ps : List Pair) → HasDistinctBytes ps → DoNeighboursDiffer (keys ps)
+pub differ_from_distinct : (ps : List Pair) → HasDistinctBytes ps → DoNeighboursDiffer (keys ps)
 differ_from_distinct [] d = tt
 differ_from_distinct (p ∷ []) d = (tt, tt)
 differ_from_distinct (p ∷ q ∷ qs) d = ((λ e. d.0.0 (sym e)), differ_from_distinct (q ∷ qs) d.1)
 
-rising_from_differ : (o : KeyOrder) (ps : List Pair) → IsSortedBy (pair_lt o) ps → DoNeighboursDiffer (keys ps) → IsRising o ps
+pub rising_from_differ : (o : KeyOrder) (ps : List Pair) → IsSortedBy (pair_lt o) ps → DoNeighboursDiffer (keys ps) → IsRising o ps
 rising_from_differ o [] s d = tt
 rising_from_differ o (p ∷ []) s d = (tt, tt)
 rising_from_differ o (p ∷ q ∷ qs) s d =
@@ -70,13 +67,6 @@ rising_from_differ o (p ∷ q ∷ qs) s d =
       | inr n ↦ lt_trans o p.key q.key r.key up (rises_at o q qs rest r n)
     ]) rest
 
-distinct_from_rising : (o : KeyOrder) (ps : List Pair) → IsRising o ps → HasDistinctBytes ps
-distinct_from_rising o [] r = tt
-distinct_from_rising o (p ∷ ps) r = (
-  all_from (λ q. q.key ≢ p.key) ps (λ q m e. lt_irrefl o p.key (subst (λ (k : List ℕ). IsTrue (key_lt o p.key k)) e (rises_at o p ps r q m))),
-  distinct_from_rising o ps r.1,
-)
-
 distinct_from_keys : (o : KeyOrder) (ps : List Pair) → IsDistinct (same_key o) ps → HasDistinctBytes ps
 unfolding IsDistinct
 distinct_from_keys o [] d = tt
@@ -85,8 +75,13 @@ distinct_from_keys o (p ∷ ps) d = (
   distinct_from_keys o ps d.1,
 )
 
-distinct_permuted : (o : KeyOrder) (ps qs : List Pair) → IsPermutation ps qs → HasDistinctBytes ps → HasDistinctBytes qs
+pub distinct_permuted : (o : KeyOrder) (ps qs : List Pair) → IsPermutation ps qs → HasDistinctBytes ps → HasDistinctBytes qs
 distinct_permuted o ps qs m d = distinct_from_keys o qs (IsDistinct-IsPermutation (same_key o) (same_key-flips o) ps qs m (IsDistinct-keys o ps d))
+
+-- ---- of the keys of a map
+
+abbrev pub bytes_of : EncodedKey → List ℕ
+bytes_of key = key.bytes
 
 -- what is known of all keys of a map, encoded and sorted
 pub record AreSorted (o : KeyOrder) (ps : List (Item × Item)) (ks : List EncodedKey) : Type 0 where
@@ -112,9 +107,9 @@ all_sorted o ps xs ys i r end encoded indices valid m s =
       valid = v;
       distinct = (
         (λ d.
-            let rising = rising_from_differ o (map f ys) (sorted_view f o ys s) (subst DoNeighboursDiffer (sym (keys-map o ps ys)) d) in
-            exactly.1 (subst HasDistinctBytes e (distinct_permuted o (map f ys) (map f xs) (IsPermutation-sym (map f xs) (map f ys) moved) (distinct_from_rising o (map f ys) rising)))),
-        (λ d. subst DoNeighboursDiffer (keys-map o ps ys) (differ_from_distinct (map f ys) (distinct_permuted o (map f xs) (map f ys) moved (subst HasDistinctBytes (sym e) (exactly.0 d))))),
+            let rising = rising_from_differ o (map f ys) (sorted_view f o ys s) (subst DoNeighboursDiffer (sym (keys-map f ys)) d) in
+            exactly.1 (subst HasDistinctBytes e (distinct_permuted o (map f ys) (map f xs) (IsPermutation-sym (map f xs) (map f ys) moved) (rising_distinct o (map f ys) rising)))),
+        (λ d. subst DoNeighboursDiffer (keys-map f ys) (differ_from_distinct (map f ys) (distinct_permuted o (map f xs) (map f ys) moved (subst HasDistinctBytes (sym e) (exactly.0 d))))),
       );
       pairs = λ d. sorted_is_in_order o (map f xs) (map f ys) (subst HasDistinctBytes (sym e) (exactly.0 d)) moved (sorted_view f o ys s) ∙ ap (in_order o) e;
       indices = subst (λ is. IsPermutation is (map index_of ys)) (indices ∙ ap (range_with_len 0) end) (IsPermutation-map index_of xs ys m);

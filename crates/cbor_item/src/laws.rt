@@ -1,7 +1,7 @@
 //! The laws of sameness and of canonical bytes. These functions have no code to run: their
 //! contracts are what they are for.
 
-ghost use Rattle.std.specs.Prelude.{◌≡◌, ◌++◌, ◌↔◌, ℕ, List, [], Contains, IsPermutation};
+ghost use Rattle.std.specs.Prelude.{◌≡◌, ◌++◌, ◌∷◌, ◌↔◌, ℕ, List, [], Contains, IsPermutation};
 ghost use Rattle.cbor_head.specs.Value.{Value, Entries, Same, IsInRange, IsValid, AreEntriesInRange, HasDistinctKeys};
 ghost use Rattle.cbor_head.specs.Value as value;
 ghost use Rattle.cbor_head.specs.Spelling.{Spelling, IsSpelled, spell, value_of, depth};
@@ -9,7 +9,10 @@ ghost use Rattle.cbor_head.specs.Canonical.{Pair, canonical, canonical_entries, 
 ghost use Rattle.cbor_head.specs.Complaint.{strict, Complaint, Complains};
 ghost use Rattle.cbor_head.specs.declared.order.KeyOrder.{KeyOrder};
 ghost use Rattle.cbor_item.specs.CanonicalSpelling.{IsCanonicalSpelling};
+ghost use Rattle.cbor_item.specs.inner.Encoded.{AreKeysValid};
 ghost use Rattle.cbor_item.specs.Pairs.{IsRising};
+ghost use Rattle.cbor_item.specs.Built.{IsRepeatedKey, HasSameKey};
+ghost use Rattle.cbor_item.specs.Parts.{Open, a_map, a_key, Part, Makes, plain, run, give, HasNoRepeats};
 
 /// Sameness is an equivalence.
 pub fn sameness_is_an_equivalence()
@@ -74,4 +77,26 @@ pub fn pairs_in_the_one_order()
 /// A spelling is as deep as its value.
 pub fn spelling_is_as_deep_as_its_value()
     ensures { (s : Spelling) → value.depth (value_of s) ≡ depth s }
+{}
+
+/// From nothing, the parts that make a value leave its canonical bytes; whatever is open, they leave
+/// them as one more finished member. Repeated keys do no harm to this.
+pub fn parts_make_canonical_bytes()
+    ensures whole { (o : KeyOrder) (v : Value) (ps : List Part) → Makes v ps → run o ps (plain [] ∷ []) ≡ plain (canonical o v) ∷ [] }
+    ensures member { (o : KeyOrder) (v : Value) (ps : List Part) → Makes v ps → (os : List Open) → run o ps os ≡ give (canonical o v) os }
+{}
+
+/// No two keys of an open map have equal bytes exactly where no two of the entries that made it are
+/// the same.
+pub fn repeats_are_those_of_the_value()
+    ensures { (o : KeyOrder) (es : Entries) → AreEntriesInRange es → AreKeysValid es
+        → HasNoRepeats (a_map (canonical_entries o es)) ↔ HasDistinctKeys es }
+{}
+
+/// A key that waits for its value is repeated exactly where it is the same as the key of one of the
+/// entries before it.
+pub fn repeated_key_is_the_same_as_an_earlier_one()
+    ensures { (o : KeyOrder) (es : Entries) (k : Value) (os : List Open)
+        → AreEntriesInRange es → AreKeysValid es → IsInRange k → IsValid k
+        → IsRepeatedKey (a_key (canonical_entries o es) (canonical o k) ∷ os) ↔ HasSameKey es k }
 {}

@@ -13,6 +13,8 @@
 //! ```
 #![tactic(auto)]
 
+mod builder;
+mod canon_builder;
 mod compare;
 mod encoded_key;
 mod encoding;
@@ -24,6 +26,7 @@ mod valid;
 mod within;
 mod write;
 
+pub use canon_builder::CanonBuilder;
 pub use cbor_head::KeyOrder;
 pub use compare::same;
 pub use encoded_key::compare_keys;

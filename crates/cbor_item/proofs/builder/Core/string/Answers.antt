@@ -1,0 +1,27 @@
+use Rattle.std.proofs.Common.{refl, ℕ, List, ◌++◌, append_assoc, length, ap, ◌∙◌}
+use Rattle.std.specs.Prelude.{reverse}
+use Rattle.std.proofs.lemmas.Result.{on_ok_weaker}
+use Rattle.cbor_head.specs.Head.{shortest_head}
+use Rattle.cbor_item.proofs.Growth.{given_by, key_ready}
+use Rattle.cbor_item.proofs.builder.Core.string.Goals as goal
+
+pub returns-clause-laid : goal.returns-clause-laid
+returns-clause-laid c =
+    let s = c.args.self.now in
+    let e = c.complete.ensures in
+    on_ok_weaker c.complete.result (λ spans. (given_by s.order s.out (shortest_head c.args.major (length c.args.content.now) ++ c.args.content.now) s.spans.items s.top (reverse s.below.items)
+    c.extend.new.self c.complete.new.spans.items c.complete.new.frame c.extend.new.self c.len-at.result c.requires.laid c.requires.takes (c.in_ok-extend.ensures ∙ ap (λ (xs : List ℕ). xs ++ c.args.content.now) c.in_ok-head.ensures ∙ append_assoc s.out (shortest_head c.args.major (length c.args.content.now)) c.args.content.now) refl c.len-at.ensures
+    (e.from, e.start, e.shape, spans, e.rises)).0) e.spans
+
+pub returns-clause-given : goal.returns-clause-given
+returns-clause-given c =
+    let s = c.args.self.now in
+    let e = c.complete.ensures in
+    on_ok_weaker c.complete.result (λ spans. (given_by s.order s.out (shortest_head c.args.major (length c.args.content.now) ++ c.args.content.now) s.spans.items s.top (reverse s.below.items)
+    c.extend.new.self c.complete.new.spans.items c.complete.new.frame c.extend.new.self c.len-at.result c.requires.laid c.requires.takes (c.in_ok-extend.ensures ∙ ap (λ (xs : List ℕ). xs ++ c.args.content.now) c.in_ok-head.ensures ∙ append_assoc s.out (shortest_head c.args.major (length c.args.content.now)) c.args.content.now) refl c.len-at.ensures
+    (e.from, e.start, e.shape, spans, e.rises)).1) e.spans
+
+pub complete-requires-clause-within : goal.complete-requires-clause-within
+complete-requires-clause-within c =
+    let s = c.args.self.now in
+    key_ready s.order s.out (shortest_head c.args.major (length c.args.content.now) ++ c.args.content.now) s.spans.items s.top (reverse s.below.items) c.extend.new.self c.requires.laid (c.in_ok-extend.ensures ∙ ap (λ (xs : List ℕ). xs ++ c.args.content.now) c.in_ok-head.ensures ∙ append_assoc s.out (shortest_head c.args.major (length c.args.content.now)) c.args.content.now)

@@ -1,0 +1,16 @@
+-- What a builder stands for.
+use Rattle.std.specs.Prelude.{List, ◌∷◌, reverse}
+use Rattle.cbor_item.specs.Parts.{Open}
+use Rattle.cbor_item.specs.inner.Laid.{opens, Laid}
+use Rattle.cbor_item.specs.declared.builder.Core.{Core}
+use Rattle.cbor_item.specs.declared.builder.frame.Frame.{Frame}
+
+-- the innermost first
+abbrev pub frames : Core → List Frame
+frames c = c.top ∷ reverse c.below.items
+
+abbrev pub standing : Core → List Open
+standing c = opens c.out c.spans.items (frames c)
+
+abbrev pub IsLaid : Core → Type 0
+IsLaid c = Laid c.order c.out c.spans.items (frames c)

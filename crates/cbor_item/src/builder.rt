@@ -1,0 +1,236 @@
+//! The builder: parts in, canonical bytes out.
+
+ghost use Rattle.std.specs.Prelude.{ℕ, List, reverse, ◌≡◌, ◌≢◌, ◌↔◌, ◌<◌, ◌≤◌, ◌++◌, ◌∷◌, [], IsTrue, OnOk, IfOk, drop, take, length};
+ghost use Rattle.cbor_head.specs.Canonical.{canonical};
+ghost use Rattle.cbor_head.specs.Value.{Value};
+ghost use Rattle.cbor_head.specs.Head.{shortest_head, IsSimple};
+ghost use Rattle.cbor_head.specs.declared.major.Major.TheVariants.{Simple};
+ghost use Rattle.cbor_item.specs.Built.{IsRepeatedKey};
+ghost use Rattle.cbor_item.specs.Parts.{Part, Makes, run, plain, give, opened, extended, close, closed, HasNoRepeats};
+ghost use Rattle.cbor_item.specs.inner.Laid.{Takes, IsString, CanClose, OuterTakes, shape_open, outer_spans};
+ghost use Rattle.cbor_item.specs.inner.BuilderState.{standing, IsLaid};
+
+pub(crate) mod frame;
+mod gather;
+mod look_up;
+mod member;
+mod opening;
+mod out;
+mod span;
+
+use crate::builder::frame::{Frame, Shape};
+use crate::builder::gather::ordered;
+use crate::builder::look_up::has_key;
+use crate::builder::member::complete;
+use crate::builder::opening::opening;
+use crate::builder::out::Out;
+use crate::builder::span::Span;
+use cbor_head::{KeyOrder, Major};
+use std::alloc::{AllocError, Global};
+
+/// A builder. After a call has answered an error or false it may only be dropped.
+#[derive(Drop)]
+pub(crate) struct Core {
+    pub(crate) order: KeyOrder,
+    pub(crate) out: Out,
+    pub(crate) spans: Vec<Span>,
+    pub(crate) top: Frame,
+    pub(crate) below: Vec<Frame>,
+    pub(crate) scratch: Vec<u8>,
+    pub(crate) sorting: Vec<Span>,
+}
+
+impl Core {
+    pub(crate) fn new(alloc: Global, order: KeyOrder) -> Core
+        ensures order { result.order ≡ order }
+        ensures laid { IsLaid result }
+        ensures standing { standing result ≡ plain [] ∷ [] }
+    {
+        Core {
+            order,
+            out: Out::new(alloc),
+            spans: Vec::new(alloc),
+            top: Frame {
+                from: 0,
+                start: 0,
+                shape: Shape::Plain,
+                rises: true,
+            },
+            below: Vec::new(alloc),
+            scratch: Vec::new(alloc),
+            sorting: Vec::new(alloc),
+        }
+    }
+
+    /// An item that is its head.
+    #[inline(always)]
+    pub(crate) fn leaf(&mut self, major: Major, n: u64) -> Result<(), AllocError>
+        requires laid { IsLaid self.old }
+        requires takes { Takes self.old.top.shape }
+        requires simple { major ≡ Simple → IsSimple n }
+        ensures order { self.new.order ≡ self.old.order }
+        ensures laid { OnOk result (IsLaid self.new) }
+        ensures given { OnOk result
+            (standing self.new ≡ give (shortest_head major n) (standing self.old)) }
+    {
+        let at = self.out.len();
+        self.out.head(major, n)?;
+        complete(&mut self.top, &mut self.spans, &self.out, self.order, at)
+    }
+
+    /// A whole string.
+    #[inline(always)]
+    pub(crate) fn string(&mut self, major: Major, content: &[u8]) -> Result<(), AllocError>
+        requires laid { IsLaid self.old }
+        requires takes { Takes self.old.top.shape }
+        requires kind { major ≢ Simple }
+        ensures order { self.new.order ≡ self.old.order }
+        ensures laid { OnOk result (IsLaid self.new) }
+        ensures given { OnOk result
+            (standing self.new
+            ≡ give (shortest_head major (length content.now) ++ content.now) (standing self.old)) }
+    {
+        let at = self.out.len();
+        self.out.head(major, content.len() as u64)?;
+        self.out.extend(content)?;
+        complete(&mut self.top, &mut self.spans, &self.out, self.order, at)
+    }
+
+    /// A string, an array, a map or a tag begins. The number is the tag's; for the others it says for
+    /// which length or count the head is to have room.
+    #[inline(always)]
+    pub(crate) fn begin(&mut self, major: Major, n: u64) -> Result<(), AllocError>
+        requires laid { IsLaid self.old }
+        requires kind { major ≢ Simple }
+        ensures order { self.new.order ≡ self.old.order }
+        ensures laid { OnOk result (IsLaid self.new) }
+        ensures opened { OnOk result (standing self.new ≡ opened major n ∷ standing self.old) }
+    {
+        let from = self.out.len();
+        self.out.head(major, n)?;
+        let frame = opening(major, from, self.out.len(), self.spans.len());
+        self.below.push(self.top)?;
+        self.top = frame;
+        Ok(())
+    }
+
+    /// More of a string.
+    #[inline(always)]
+    pub(crate) fn bytes(&mut self, content: &[u8]) -> Result<(), AllocError>
+        requires laid { IsLaid self.old }
+        requires string { IsString self.old.top.shape }
+        ensures order { self.new.order ≡ self.old.order }
+        ensures laid { OnOk result (IsLaid self.new) }
+        ensures extended { OnOk result
+            (standing self.new ≡ extended content.now (standing self.old)) }
+    {
+        self.out.extend(content)
+    }
+
+    // Puts the bytes of what is open in their final form. False where two keys of it are equal.
+    fn close_top(&mut self) -> Result<bool, AllocError>
+        requires laid { IsLaid self.old }
+        requires closes { CanClose self.old.top.shape }
+        ensures order { self.new.order ≡ self.old.order }
+        ensures top { self.new.top ≡ self.old.top }
+        ensures below { self.new.below.items ≡ self.old.below.items }
+        ensures distinct { IfOk result (λ distinct.
+            IsTrue distinct ↔ HasNoRepeats (shape_open self.old.out self.old.spans.items self.old.top.start self.old.top.shape)) }
+        ensures spans { IfOk result (λ distinct. IsTrue distinct
+            → self.new.spans.items ≡ outer_spans self.old.spans.items self.old.top.shape) }
+        ensures bytes { IfOk result (λ distinct. IsTrue distinct
+            → self.new.out ≡ take self.old.top.from self.old.out ++ closed self.old.order (shape_open self.old.out self.old.spans.items self.old.top.start self.old.top.shape)) }
+    {
+        let Frame {
+            from,
+            start,
+            shape,
+            rises,
+        } = self.top;
+        match shape {
+            Shape::Plain | Shape::Key(..) => {}
+            Shape::Array(n) => self.out.fill_head(from, start, Major::Array, n)?,
+            Shape::Map(first) => {
+                let n = (self.spans.len() - first) as u64;
+                if !rises {
+                    if !ordered(
+                        self.out.as_slice(),
+                        self.order,
+                        &self.spans[first..],
+                        &mut self.sorting,
+                        &mut self.scratch,
+                    )? {
+                        return Ok(false);
+                    }
+                    self.out.rewrite(start, self.scratch.as_slice())?;
+                }
+                self.spans.truncate(first);
+                self.out.fill_head(from, start, Major::Map, n)?;
+            }
+            Shape::Content(major) => {
+                let n = (self.out.len() - start) as u64;
+                self.out.fill_head(from, start, major, n)?;
+            }
+        }
+        Ok(true)
+    }
+
+    /// What is open ends. False where it is a map of which two keys are equal.
+    pub(crate) fn end(&mut self) -> Result<bool, AllocError>
+        requires laid { IsLaid self.old }
+        requires closes { CanClose self.old.top.shape }
+        requires takes { OuterTakes (reverse self.old.below.items) }
+        ensures order { self.new.order ≡ self.old.order }
+        ensures distinct { IfOk result (λ distinct.
+            IsTrue distinct ↔ HasNoRepeats (shape_open self.old.out self.old.spans.items self.old.top.start self.old.top.shape)) }
+        ensures laid { IfOk result (λ distinct. IsTrue distinct → IsLaid self.new) }
+        ensures closed { IfOk result (λ distinct. IsTrue distinct
+            → standing self.new ≡ close self.old.order (standing self.old)) }
+    {
+        let from = self.top.from;
+        if !self.close_top()? {
+            return Ok(false);
+        }
+        if let Some(outer) = self.below.pop() {
+            self.top = outer;
+            complete(&mut self.top, &mut self.spans, &self.out, self.order, from)?;
+        }
+        Ok(true)
+    }
+
+    // Whether the key that waits for its value is equal to an earlier one of its map. Each of them is
+    // looked at.
+    pub(crate) fn repeated(&self) -> bool
+        requires laid { IsLaid self.now }
+        ensures { IsTrue result ↔ IsRepeatedKey (standing self.now) }
+    {
+        match self.top.shape {
+            Shape::Key(first, key, val) => has_key(
+                &self.out,
+                self.order,
+                &self.spans[first..],
+                key,
+                val,
+            ),
+            _ => false,
+        }
+    }
+
+    // The bytes, where nothing is open any more: where the parts given since `new` make a value, its
+    // canonical bytes. Takes no memory.
+    pub(crate) fn finish(self) -> Vec<u8>
+        ensures { IsLaid self → (bs : List ℕ) → standing self ≡ plain bs ∷ []
+            → result.items ≡ bs }
+    {
+        let Core {
+            order: _,
+            out,
+            spans: _,
+            top: _,
+            below: _,
+            scratch: _,
+            sorting: _,
+        } = self;
+        out.into_vec()
+    }
+}

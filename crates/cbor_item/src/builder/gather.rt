@@ -1,0 +1,74 @@
+//! The pairs of a map, put in order.
+
+ghost use Rattle.std.specs.Prelude.{◌≡◌, ◌≢◌, ◌↔◌, ◌≤◌, [], IsTrue, IfOk, OnOk, map, flat_map, drop, length, slice_range, IsPermutation, IsSortedBy};
+ghost use Rattle.cbor_head.specs.Canonical.{in_order};
+ghost use Rattle.cbor_head.specs.declared.order.KeyOrder.{KeyOrder};
+ghost use Rattle.cbor_item.specs.inner.Encoded.{HasDistinctBytes, DoNeighboursDiffer};
+ghost use Rattle.cbor_item.specs.Parts.{pair_bytes};
+ghost use Rattle.cbor_item.specs.inner.Laid.{span_pair};
+ghost use Rattle.cbor_item.specs.inner.Front.{key_of, AreFronted, rank, ranked_by};
+ghost use Rattle.std.specs.Ordering.{is_lt};
+
+use crate::builder::span::{Span, compare, part};
+use cbor_head::KeyOrder;
+use std::alloc::AllocError;
+
+/// Sorts by the keys.
+pub(crate) fn sort(bytes: &[u8], order: KeyOrder, spans: &mut Vec<Span>)
+    ensures permuted { IsPermutation spans.old.items spans.new.items }
+    ensures sorted { IsSortedBy
+        (λ x y. is_lt (rank order (ranked_by bytes.now x) (ranked_by bytes.now y))) spans.new.items }
+{
+    spans.sort_unstable_by(|x, y| compare(bytes, order, x, y))
+}
+
+/// Whether no two neighbours have equal keys.
+pub(crate) fn differ(bytes: &[u8], order: KeyOrder, spans: &[Span]) -> bool
+    requires { AreFronted bytes.now spans.now }
+    ensures { IsTrue result ↔ DoNeighboursDiffer (map (key_of bytes.now) spans.now) }
+{
+    for i in 1..spans.len() {
+        if compare(bytes, order, &spans[i - 1], &spans[i]).is_eq() {
+            return false;
+        }
+    }
+    true
+}
+
+/// The pairs, one behind the other, behind what is there.
+pub(crate) fn gather(bytes: &[u8], spans: &[Span], into: &mut Vec<u8>) -> Result<(), AllocError>
+    requires { into.old.items ≡ [] }
+    ensures { OnOk result
+        (into.new.items ≡ flat_map pair_bytes (map (span_pair bytes.now) spans.now)) }
+{
+    for span in spans {
+        into.extend_from_slice(part(bytes, span.key, span.val))?;
+        into.extend_from_slice(part(bytes, span.val, span.end))?;
+    }
+    Ok(())
+}
+
+/// The pairs in order, in `into`, or false where two keys are equal.
+pub(crate) fn ordered(
+    bytes: &[u8],
+    order: KeyOrder,
+    spans: &[Span],
+    sorting: &mut Vec<Span>,
+    into: &mut Vec<u8>,
+) -> Result<bool, AllocError>
+    requires { AreFronted bytes.now spans.now }
+    ensures distinct { IfOk result (λ distinct.
+        IsTrue distinct ↔ HasDistinctBytes (map (span_pair bytes.now) spans.now)) }
+    ensures ordered { IfOk result (λ distinct. IsTrue distinct
+        → into.new.items ≡ flat_map pair_bytes (in_order order (map (span_pair bytes.now) spans.now))) }
+{
+    sorting.clear();
+    into.clear();
+    sorting.extend_from_slice(spans)?;
+    sort(bytes, order, sorting);
+    if !differ(bytes, order, sorting.as_slice()) {
+        return Ok(false);
+    }
+    gather(bytes, sorting.as_slice(), into)?;
+    Ok(true)
+}

@@ -1,0 +1,43 @@
+//! A key looked for among the pairs of its map.
+
+ghost use Rattle.std.specs.Prelude.{◌≡◌, ◌↔◌, ◌≤◌, IsTrue, map, length, slice_range};
+ghost use Rattle.cbor_item.specs.Built.{HasKey};
+ghost use Rattle.cbor_item.specs.inner.Front.{AreFronted, IsFronted, key_of};
+ghost use Rattle.cbor_item.specs.inner.Laid.{span_pair};
+
+use crate::builder::out::Out;
+use crate::builder::span::{Span, compare, front};
+use cbor_head::KeyOrder;
+
+// Whether one of the pairs has the key that stands from `key` to `val`. A pair costs a comparison of
+// two numbers, where the first eight bytes of the keys differ.
+pub(crate) fn has_key(out: &Out, order: KeyOrder, spans: &[Span], key: usize, val: usize) -> bool
+    requires fronted { AreFronted out.now spans.now }
+    requires begins { key ≤ val }
+    requires ends { val ≤ length out.now }
+    ensures { IsTrue result
+        ↔ HasKey (map (span_pair out.now) spans.now) (slice_range out.now key val) }
+{
+    let wanted = Span {
+        front: front(out, key, val),
+        key,
+        val,
+        end: val,
+    };
+    has_key_of(out.as_slice(), order, spans, &wanted)
+}
+
+// Whether one of the pairs has the key of another.
+fn has_key_of(bytes: &[u8], order: KeyOrder, spans: &[Span], wanted: &Span) -> bool
+    requires fronted { AreFronted bytes.now spans.now }
+    requires wanted { IsFronted bytes.now wanted.now }
+    ensures { IsTrue result
+        ↔ HasKey (map (span_pair bytes.now) spans.now) (key_of bytes.now wanted.now) }
+{
+    for span in spans {
+        if compare(bytes, order, span, wanted).is_eq() {
+            return true;
+        }
+    }
+    false
+}

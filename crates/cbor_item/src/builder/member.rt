@@ -1,0 +1,79 @@
+//! A finished member of what is open.
+
+ghost use Rattle.std.specs.Prelude.{ℕ, ◌≡◌, ◌≤◌, ◌++◌, ◌∷◌, [], IsTrue, OnOk, map, drop, length};
+ghost use Rattle.cbor_head.specs.declared.order.KeyOrder.{KeyOrder};
+ghost use Rattle.cbor_item.specs.Pairs.{IsRising};
+ghost use Rattle.cbor_item.specs.declared.builder.frame.Shape.TheVariants.{Key};
+ghost use Rattle.cbor_item.specs.inner.Front.{AreFronted, IsFronted};
+ghost use Rattle.cbor_item.specs.inner.Laid.{span_pair, Takes, shape_after, spans_after, KeepsRising};
+
+use crate::builder::frame::{Frame, Shape};
+use crate::builder::out::Out;
+use crate::builder::span::{Span, compare, front};
+use cbor_head::KeyOrder;
+use std::alloc::AllocError;
+
+/// Whether a pair's key is above those of the spans from an index on, where they rise.
+#[inline(always)]
+pub(crate) fn is_above(
+    bytes: &[u8],
+    order: KeyOrder,
+    spans: &[Span],
+    first: usize,
+    next: &Span,
+) -> bool
+    requires first { first ≤ length spans.now }
+    requires fronted { AreFronted bytes.now (drop first spans.now) }
+    requires next { IsFronted bytes.now next.now }
+    ensures { IsTrue result → IsRising order (map (span_pair bytes.now) (drop first spans.now))
+        → IsRising order (map (span_pair bytes.now) (drop first spans.now ++ next.now ∷ [])) }
+{
+    if spans.len() <= first {
+        return true;
+    }
+    match spans.last() {
+        Some(last) => compare(bytes, order, last, next).is_lt(),
+        None => true,
+    }
+}
+
+/// A member that begins at `at` and ends the buffer is finished.
+#[inline(always)]
+pub(crate) fn complete(
+    frame: &mut Frame,
+    spans: &mut Vec<Span>,
+    out: &Out,
+    order: KeyOrder,
+    at: usize,
+) -> Result<(), AllocError>
+    requires takes { Takes frame.old.shape }
+    requires within { (first a val : ℕ) → frame.old.shape ≡ Key first a val
+        → (first ≤ length spans.old.items) × (a ≤ val) × (val ≤ length out.now) × AreFronted out.now (drop first spans.old.items) }
+    ensures from { frame.new.from ≡ frame.old.from }
+    ensures start { frame.new.start ≡ frame.old.start }
+    ensures shape { frame.new.shape ≡ shape_after at (length out.now) frame.old.shape }
+    ensures spans { OnOk result
+        (spans.new.items ≡ spans_after out.now spans.old.items frame.old.shape) }
+    ensures rises { KeepsRising order out.now spans.old.items frame.old.shape
+        frame.old.rises frame.new.rises }
+{
+    let bytes = out.as_slice();
+    match frame.shape {
+        Shape::Plain => {}
+        Shape::Array(n) => frame.shape = Shape::Array(n + 1),
+        Shape::Map(first) => frame.shape = Shape::Key(first, at, bytes.len()),
+        Shape::Key(first, key, val) => {
+            let span = Span {
+                front: front(out, key, val),
+                key,
+                val,
+                end: bytes.len(),
+            };
+            frame.rises = frame.rises && is_above(bytes, order, spans.as_slice(), first, &span);
+            frame.shape = Shape::Map(first);
+            spans.push(span)?;
+        }
+        Shape::Content(_) => {}
+    }
+    Ok(())
+}

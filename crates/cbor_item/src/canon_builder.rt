@@ -1,0 +1,199 @@
+//! The public builder: canonical bytes from the parts of an item, without a tree.
+
+ghost use Rattle.std.specs.Prelude.{◌≡◌, ◌↔◌, ◌++◌, ◌∷◌, [], List, ℕ, length, IsTrue, OnOk, IfOk};
+ghost use Rattle.cbor_head.specs.Canonical.{canonical};
+ghost use Rattle.cbor_head.specs.Head.{shortest_head, IsSimple};
+ghost use Rattle.cbor_head.specs.Value.{Value};
+ghost use Rattle.cbor_head.specs.declared.major.Major.TheVariants.{Simple};
+ghost use Rattle.cbor_item.specs.Built.{built, IsLeaf, IsStringType, IsContainer, TakesPart, IsInString, IsInContainer, HasDistinctKeysSoFar, IsRepeatedKey};
+ghost use Rattle.cbor_item.specs.Parts.{Part, Makes, run, plain, give, opened, extended, close};
+
+#[cfg(test)]
+mod tests;
+
+use crate::builder::Core;
+use cbor_head::{KeyOrder, Major};
+use std::alloc::{AllocError, Global};
+use std::marker::Model;
+
+/// Canonical bytes (RFC 8949, sections 4.2.1 and 4.2.3) from the parts of one item as they come,
+/// without a tree. A map's pairs are put in order as the map ends. After a call has been refused
+/// memory the builder may only be dropped.
+///
+/// ```
+/// // {1: [2], 0: "a"}
+/// let mut builder = CanonBuilder::new(alloc, KeyOrder::Bytewise);
+/// builder.begin(Major::Map, 0)?;
+/// builder.leaf(Major::Unsigned, 1)?;
+/// builder.begin(Major::Array, 0)?;
+/// builder.leaf(Major::Unsigned, 2)?;
+/// builder.end()?;
+/// builder.leaf(Major::Unsigned, 0)?;
+/// builder.string(Major::Text, b"a")?;
+/// builder.end()?;
+/// // {0: "a", 1: [2]}
+/// assert_eq!(rt; builder.finish().as_slice(), b"\xa2\x00\x61a\x01\x81\x02");
+/// ```
+#[derive(Drop)]
+pub struct CanonBuilder {
+    core: Core,
+    is_sound: bool,
+}
+
+impl Model for CanonBuilder {
+    ghost use Rattle.cbor_item.specs.Built.{Built};
+
+    ghost Value = { Built };
+
+    ghost use Rattle.cbor_item.specs.inner.CanonState.{seen, IsKept};
+
+    ghost view = { seen };
+
+    ghost invariant = { IsKept };
+}
+
+impl CanonBuilder {
+    /// A builder that has been given nothing. Takes no memory.
+    pub fn new(alloc: Global, order: KeyOrder) -> CanonBuilder
+        ensures { result ≡ built order (plain [] ∷ []) }
+    {
+        CanonBuilder {
+            core: Core::new(alloc, order),
+            is_sound: true,
+        }
+    }
+
+    /// An integer or a simple value.
+    #[inline(always)]
+    pub fn leaf(&mut self, major: Major, argument: u64) -> Result<(), AllocError>
+        requires kind { IsLeaf major }
+        requires simple { major ≡ Simple → IsSimple argument }
+        requires takes { TakesPart self.old.standing }
+        ensures { OnOk result
+            (self.new ≡ built self.old.order (give (shortest_head major argument) self.old.standing)) }
+    {
+        self.is_sound = false;
+        self.core.leaf(major, argument)?;
+        self.is_sound = true;
+        Ok(())
+    }
+
+    /// A whole string: what `begin_string`, `bytes` and `end_string` do in turn, in one step.
+    #[inline(always)]
+    pub fn string(&mut self, major: Major, content: &[u8]) -> Result<(), AllocError>
+        requires kind { IsStringType major }
+        requires takes { TakesPart self.old.standing }
+        ensures { OnOk result
+            (self.new ≡ built self.old.order
+            (give (shortest_head major (length content.now) ++ content.now) self.old.standing)) }
+    {
+        self.is_sound = false;
+        self.core.string(major, content)?;
+        self.is_sound = true;
+        Ok(())
+    }
+
+    /// A string begins.
+    pub fn begin_string(&mut self, major: Major) -> Result<(), AllocError>
+        requires kind { IsStringType major }
+        requires takes { TakesPart self.old.standing }
+        ensures { OnOk result
+            (self.new ≡ built self.old.order (opened major 0 ∷ self.old.standing)) }
+    {
+        self.is_sound = false;
+        self.core.begin(major, 0)?;
+        self.is_sound = true;
+        Ok(())
+    }
+
+    /// More of the string.
+    pub fn bytes(&mut self, content: &[u8]) -> Result<(), AllocError>
+        requires string { IsInString self.old.standing }
+        ensures { OnOk result
+            (self.new ≡ built self.old.order (extended content.now self.old.standing)) }
+    {
+        self.is_sound = false;
+        self.core.bytes(content)?;
+        self.is_sound = true;
+        Ok(())
+    }
+
+    /// The string ends.
+    pub fn end_string(&mut self) -> Result<(), AllocError>
+        requires string { IsInString self.old.standing }
+        ensures { OnOk result
+            (self.new ≡ built self.old.order (close self.old.order self.old.standing)) }
+    {
+        self.is_sound = false;
+        // No string has keys that could be equal.
+        let _ = self.core.end()?;
+        self.is_sound = true;
+        Ok(())
+    }
+
+    /// An array, a map or a tag begins. The number is the tag's; of an array or a map it may be the
+    /// count that is expected, for which the head then has room.
+    #[inline(always)]
+    pub fn begin(&mut self, major: Major, number: u64) -> Result<(), AllocError>
+        requires kind { IsContainer major }
+        requires takes { TakesPart self.old.standing }
+        ensures { OnOk result
+            (self.new ≡ built self.old.order (opened major number ∷ self.old.standing)) }
+    {
+        self.is_sound = false;
+        self.core.begin(major, number)?;
+        self.is_sound = true;
+        Ok(())
+    }
+
+    /// The array, map or tag ends. No two keys of a map may be the same: `repeated` tells it of each.
+    pub fn end(&mut self) -> Result<(), AllocError>
+        requires container { IsInContainer self.old.standing }
+        requires distinct { HasDistinctKeysSoFar self.old.standing }
+        ensures { OnOk result
+            (self.new ≡ built self.old.order (close self.old.order self.old.standing)) }
+    {
+        self.is_sound = false;
+        // No two keys are the same.
+        let _ = self.core.end()?;
+        self.is_sound = true;
+        Ok(())
+    }
+
+    /// The array, map or tag ends, where its keys haven't been looked at: false where two keys of the
+    /// map are the same. Then the builder may only be dropped. A map of n pairs whose keys don't come
+    /// in order takes some n log n comparisons.
+    #[inline(always)]
+    pub fn end_if_distinct(&mut self) -> Result<bool, AllocError>
+        requires container { IsInContainer self.old.standing }
+        ensures distinct { IfOk result
+            (λ distinct. IsTrue distinct ↔ HasDistinctKeysSoFar self.old.standing) }
+        ensures ended { IfOk result (λ distinct. IsTrue distinct
+            → self.new ≡ built self.old.order (close self.old.order self.old.standing)) }
+    {
+        self.is_sound = false;
+        self.is_sound = self.core.end()?;
+        Ok(self.is_sound)
+    }
+
+    /// Whether the part that was just completed is a key that is the same as an earlier key of its
+    /// map. Takes no memory, and looks at each earlier key of the map: where all keys of a large map
+    /// are to be told apart, `end_if_distinct` does it once for all.
+    pub fn repeated(&self) -> bool
+        ensures { IsTrue result ↔ IsRepeatedKey self.now.standing }
+    {
+        self.is_sound && self.core.repeated()
+    }
+
+    /// The bytes, once the item is whole: the canonical bytes of the value that the parts make. Takes
+    /// no memory.
+    pub fn finish(self) -> Vec<u8>
+        ensures bytes { (bs : List ℕ) → self.standing ≡ plain bs ∷ [] → result.items ≡ bs }
+        ensures canonical { (v : Value) (ps : List Part) → Makes v ps
+            → self.standing ≡ run self.order ps (plain [] ∷ [])
+            → result.items ≡ canonical self.order v }
+    {
+        let CanonBuilder { core, is_sound: _ } = self;
+        core.finish()
+    }
+}
