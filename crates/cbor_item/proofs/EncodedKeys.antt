@@ -8,7 +8,8 @@ use Rattle.std.specs.List.{AllByRecursion, range_with_len}
 use Rattle.cbor_head.specs.Canonical.{Pair, canonical, canonical_entries}
 use Rattle.cbor_head.specs.Value.{IsValid}
 use Rattle.cbor_head.specs.declared.order.KeyOrder.{KeyOrder}
-use Rattle.cbor_item.specs.inner.Encoded.{joined, content_at, pair_at, AreKeysValid, AreContentsValid}
+use Rattle.cbor_item.specs.inner.Encoded.{joined, content_at, pair_at, AreContentsValid}
+use Rattle.cbor_item.specs.Parts.{AreKeysValid}
 use Rattle.cbor_item.specs.View.{view}
 use Rattle.cbor_item.specs.inner.Members.{entries_view}
 use Rattle.cbor_item.specs.declared.item.Item.{Item}

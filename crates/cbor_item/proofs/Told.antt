@@ -5,7 +5,7 @@ use Rattle.cbor_head.specs.Spelling.{spell, value_of}
 use Rattle.cbor_head.specs.Canonical.{Pair, canonical, canonical_entries}
 use Rattle.cbor_head.specs.declared.order.KeyOrder.{KeyOrder}
 use Rattle.cbor_head.proofs.ReadLaws.{unique}
-use Rattle.cbor_item.specs.inner.Encoded.{HasDistinctBytes}
+use Rattle.cbor_item.specs.Pairs.{HasDistinctBytes}
 use Rattle.cbor_item.proofs.Members.{In, all_from}
 use Rattle.cbor_item.proofs.Sound.{ranges_at}
 use Rattle.cbor_item.proofs.Sameness.{Same-sym, Same-trans}

@@ -2,9 +2,9 @@
 use Rattle.std.specs.Prelude.{ℕ, suc, ◌≡◌, ◌++◌, List, [], ◌∷◌, length, flat_map}
 use Rattle.cbor_head.specs.Head.{shortest_head}
 use Rattle.cbor_head.specs.Value as value
-use Rattle.cbor_head.specs.Value.{Value, Values, Entries}
+use Rattle.cbor_head.specs.Value.{Value, Values, Entries, no_entries, entry, IsValid}
 use Rattle.cbor_head.specs.Canonical.{Pair, in_order}
-use Rattle.cbor_item.specs.inner.Encoded.{HasDistinctBytes}
+use Rattle.cbor_item.specs.Pairs.{HasDistinctBytes}
 use Rattle.cbor_head.specs.declared.order.KeyOrder.{KeyOrder}
 use Rattle.cbor_head.specs.declared.major.Major.{Major}
 use Rattle.cbor_head.specs.declared.major.Major.TheVariants.{Unsigned, Negative, Bytes, Text, Array, Map, Tag, Simple}
@@ -115,3 +115,8 @@ abbrev mutual
   MakesEntries value.no_entries ps = ps ≡ []
   MakesEntries (value.entry k v es) ps =
       (qs : List Part) × (rs : List Part) × (ts : List Part) × Makes k qs × Makes v rs × MakesEntries es ts × (ps ≡ qs ++ (rs ++ ts))
+
+-- the keys are valid, whatever stands behind them
+abbrev pub AreKeysValid : Entries → Type 0
+AreKeysValid no_entries = Unit {0}
+AreKeysValid (entry k v es) = IsValid k × AreKeysValid es

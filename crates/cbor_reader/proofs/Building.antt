@@ -7,7 +7,8 @@ use Rattle.cbor_head.specs.Order.{key_lt}
 use Rattle.cbor_head.specs.Value.{AreEntriesInRange, HasDistinctKeys}
 use Rattle.cbor_head.specs.declared.major.Major.TheVariants as majors
 use Rattle.cbor_head.specs.declared.order.KeyOrder.{KeyOrder}
-use Rattle.cbor_item.specs.inner.Encoded.{joined, HasDistinctBytes}
+use Rattle.cbor_item.specs.inner.Encoded.{joined}
+use Rattle.cbor_item.specs.Pairs.{HasDistinctBytes}
 use Rattle.cbor_item.specs.View.{view}
 use Rattle.cbor_item.specs.inner.Members.{entries_view, values_view}
 use Rattle.cbor_item.specs.declared.item.Item.{Item}

@@ -1,6 +1,5 @@
 -- What the encoder holds of the pairs of a map.
 use Rattle.std.specs.Prelude.{ℕ, ◌≢◌, List, [], ◌∷◌, ◌++◌, flat_map, get_or}
-use Rattle.std.specs.List.{AllByRecursion}
 use Rattle.cbor_head.specs.Value.{Value, Entries, no_entries, entry, IsValid}
 use Rattle.cbor_head.specs.Canonical.{Pair, canonical}
 use Rattle.cbor_head.specs.declared.order.KeyOrder.{KeyOrder}
@@ -8,11 +7,6 @@ use Rattle.cbor_item.specs.View.{view}
 use Rattle.cbor_item.specs.declared.item.Item.{Item}
 use Rattle.cbor_item.specs.declared.item.Item.TheVariants.{Unsigned}
 use Rattle.cbor_item.specs.declared.encoded_key.EncodedKey.{EncodedKey}
-
--- the keys are valid, whatever stands behind them
-abbrev pub AreKeysValid : Entries → Type 0
-AreKeysValid no_entries = Unit {0}
-AreKeysValid (entry k v es) = IsValid k × AreKeysValid es
 
 -- what stands behind the keys is valid
 abbrev pub AreContentsValid : Entries → Type 0
@@ -40,8 +34,3 @@ IsNotFirst x (y ∷ ys) = x ≢ y
 abbrev pub DoNeighboursDiffer : List (List ℕ) → Type 0
 DoNeighboursDiffer [] = Unit {0}
 DoNeighboursDiffer (x ∷ xs) = IsNotFirst x xs × DoNeighboursDiffer xs
-
--- no two keys have the same bytes
-abbrev pub HasDistinctBytes : List Pair → Type 0
-HasDistinctBytes [] = Unit {0}
-HasDistinctBytes (p ∷ ps) = AllByRecursion (λ q. q.key ≢ p.key) ps × HasDistinctBytes ps

@@ -8,7 +8,8 @@ use Rattle.cbor_head.specs.Head.{shortest_head}
 use Rattle.cbor_head.specs.Value as value
 use Rattle.cbor_head.specs.Value.{IsValid, HasDistinctKeys, AreEntriesInRange}
 use Rattle.cbor_head.specs.declared.major.Major.{Major}
-use Rattle.cbor_item.specs.inner.Encoded.{joined, pair_at, content_at, AreKeysValid, AreContentsValid}
+use Rattle.cbor_item.specs.inner.Encoded.{joined, pair_at, content_at, AreContentsValid}
+use Rattle.cbor_item.specs.Parts.{AreKeysValid}
 use Rattle.cbor_item.specs.View.{view}
 use Rattle.cbor_item.specs.inner.Members.{entries_view, values_view}
 use Rattle.cbor_item.specs.declared.item.Item.{Item}
