@@ -49,7 +49,7 @@ pairs_stay out b a (s ∷ ss) n t l =
     let k = slice_front out b s.key s.val t.1 (omega (arith, t.2, r, l)) in
     let c = slice_front out b s.val s.end t.2 (omega (arith, r, l)) in
     let rest = pairs_stay out b s.end ss n t.3 l in
-    λ i. record { key = k i; content = c i } ∷ rest i
+    λ i. record { key = k i; value = c i } ∷ rest i
 
 pub tile_more : (out : List ℕ) (a : ℕ) (ss : List Span) (key val : ℕ) → Tile a ss key → key ≤ val → val ≤ length out → Tile a (ss ++ span out key val ∷ []) (length out)
 tile_more out a [] key val t h g = (sym t, h, g, refl)

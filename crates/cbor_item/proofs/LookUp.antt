@@ -10,7 +10,7 @@ use Rattle.cbor_head.specs.Value.{Value, Entries, no_entries, entry, HasEntry, S
 use Rattle.cbor_head.specs.Canonical.{Pair, canonical, canonical_entries}
 use Rattle.cbor_head.specs.declared.order.KeyOrder.{KeyOrder}
 use Rattle.cbor_item.specs.Built.{HasKey, HasSameKey}
-use Rattle.cbor_item.specs.Encoded.{AreKeysValid}
+use Rattle.cbor_item.specs.inner.Encoded.{AreKeysValid}
 use Rattle.cbor_item.specs.inner.Front.{key_of, IsFronted, AreFronted, rank, ranked_by}
 use Rattle.cbor_item.specs.inner.Laid.{span_pair}
 use Rattle.cbor_item.specs.declared.builder.span.Span.{Span}

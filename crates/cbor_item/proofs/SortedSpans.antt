@@ -12,8 +12,8 @@ use Rattle.std.proofs.lemmas.List.Sorted.{IsPermutation-sym, IsPermutation-map}
 use Rattle.cbor_head.specs.Order.{key_cmp, key_lt}
 use Rattle.cbor_head.specs.Canonical.{Pair, in_order}
 use Rattle.cbor_head.specs.declared.order.KeyOrder.{KeyOrder}
-use Rattle.cbor_item.specs.Encoded.{DoNeighboursDiffer}
-use Rattle.cbor_item.specs.Pairs.{HasDistinctBytes, IsRising}
+use Rattle.cbor_item.specs.inner.Encoded.{DoNeighboursDiffer, HasDistinctBytes}
+use Rattle.cbor_item.specs.Pairs.{IsRising}
 use Rattle.cbor_item.proofs.ByIndex.{at_read}
 use Rattle.cbor_item.proofs.Members.{In}
 use Rattle.cbor_item.proofs.Orders.{key_cmp_total, tied, lt_trans}

@@ -1,10 +1,8 @@
 pub mod Built
 pub mod CanonicalSpelling
-pub mod Encoded
-pub mod Held
+pub mod inner
 pub mod Pairs
 pub mod Parts
 pub mod Refused
 pub mod Sent
 pub mod View
-pub mod inner

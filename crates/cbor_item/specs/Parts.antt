@@ -4,7 +4,7 @@ use Rattle.cbor_head.specs.Head.{shortest_head}
 use Rattle.cbor_head.specs.Value as value
 use Rattle.cbor_head.specs.Value.{Value, Values, Entries}
 use Rattle.cbor_head.specs.Canonical.{Pair, in_order}
-use Rattle.cbor_item.specs.Pairs.{HasDistinctBytes}
+use Rattle.cbor_item.specs.inner.Encoded.{HasDistinctBytes}
 use Rattle.cbor_head.specs.declared.order.KeyOrder.{KeyOrder}
 use Rattle.cbor_head.specs.declared.major.Major.{Major}
 use Rattle.cbor_head.specs.declared.major.Major.TheVariants.{Unsigned, Negative, Bytes, Text, Array, Map, Tag, Simple}
@@ -18,10 +18,10 @@ pub data Open : Type 0 where
   a_string : Major → List ℕ → Open
 
 abbrev pub pair : List ℕ → List ℕ → Pair
-pair k b = record { key = k; content = b }
+pair k b = record { key = k; value = b }
 
 abbrev pub pair_bytes : Pair → List ℕ
-pair_bytes p = p.key ++ p.content
+pair_bytes p = p.key ++ p.value
 
 -- with one more finished member
 abbrev pub with_member : List ℕ → Open → Open

@@ -1,4 +1,7 @@
+-- What private functions speak of; no public contract does.
 pub mod BuilderState
 pub mod CanonState
+pub mod Encoded
 pub mod Front
+pub mod Held
 pub mod Laid

@@ -9,7 +9,7 @@ ghost use Rattle.cbor_head.specs.Canonical.{Pair, canonical, canonical_entries, 
 ghost use Rattle.cbor_head.specs.Complaint.{strict, Complaint, Complains};
 ghost use Rattle.cbor_head.specs.declared.order.KeyOrder.{KeyOrder};
 ghost use Rattle.cbor_item.specs.CanonicalSpelling.{IsCanonicalSpelling};
-ghost use Rattle.cbor_item.specs.Encoded.{AreKeysValid};
+ghost use Rattle.cbor_item.specs.inner.Encoded.{AreKeysValid};
 ghost use Rattle.cbor_item.specs.Pairs.{IsRising};
 ghost use Rattle.cbor_item.specs.Built.{IsRepeatedKey, HasSameKey};
 ghost use Rattle.cbor_item.specs.Parts.{Open, a_map, a_key, Part, Makes, plain, run, give, HasNoRepeats};

@@ -14,7 +14,7 @@ use Rattle.cbor_item.specs.declared.builder.frame.Shape.{Shape}
 use Rattle.cbor_item.specs.declared.builder.frame.Shape.TheVariants.{Plain, Array, Map, Key, Content}
 
 abbrev pub span_pair : List ℕ → Span → Pair
-span_pair out s = record { key = slice_range out s.key s.val; content = slice_range out s.val s.end }
+span_pair out s = record { key = slice_range out s.key s.val; value = slice_range out s.val s.end }
 
 -- the pairs of the map whose spans begin at an index
 abbrev pub pairs_from : List ℕ → List Span → ℕ → List Pair

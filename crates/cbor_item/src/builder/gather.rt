@@ -3,8 +3,7 @@
 ghost use Rattle.std.specs.Prelude.{◌≡◌, ◌≢◌, ◌↔◌, ◌≤◌, [], IsTrue, IfOk, OnOk, map, flat_map, drop, length, slice_range, IsPermutation, IsSortedBy};
 ghost use Rattle.cbor_head.specs.Canonical.{in_order};
 ghost use Rattle.cbor_head.specs.declared.order.KeyOrder.{KeyOrder};
-ghost use Rattle.cbor_item.specs.Pairs.{HasDistinctBytes};
-ghost use Rattle.cbor_item.specs.Encoded.{DoNeighboursDiffer};
+ghost use Rattle.cbor_item.specs.inner.Encoded.{HasDistinctBytes, DoNeighboursDiffer};
 ghost use Rattle.cbor_item.specs.Parts.{pair_bytes};
 ghost use Rattle.cbor_item.specs.inner.Laid.{span_pair};
 ghost use Rattle.cbor_item.specs.inner.Front.{key_of, AreFronted, rank, ranked_by};

@@ -4,7 +4,7 @@ use Rattle.std.proofs.lemmas.List.{take_rest}
 use Rattle.cbor_head.specs.Head.{shortest_head}
 use Rattle.cbor_head.specs.Canonical.{in_order}
 use Rattle.cbor_head.specs.declared.major.Major.TheVariants as of_major
-use Rattle.cbor_item.specs.Pairs.{HasDistinctBytes}
+use Rattle.cbor_item.specs.inner.Encoded.{HasDistinctBytes}
 use Rattle.cbor_item.proofs.Loops.{holds, was_true}
 use Rattle.cbor_item.proofs.Sorting.{rising_distinct}
 use Rattle.cbor_item.specs.Parts.{closed, pair_bytes, HasNoRepeats}

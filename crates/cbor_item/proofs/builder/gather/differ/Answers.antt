@@ -1,5 +1,5 @@
 use Rattle.std.proofs.Common.{◌≡◌, ◌↔◌, ◌+◌, ◌-◌, map, drop, refl, true≢false, sym, ◌∙◌, subst, arith}
-use Rattle.cbor_item.specs.Encoded.{DoNeighboursDiffer}
+use Rattle.cbor_item.specs.inner.Encoded.{DoNeighboursDiffer}
 use Rattle.cbor_item.proofs.Loops.{fails}
 use Rattle.cbor_item.specs.inner.Front.{key_of}
 use Rattle.cbor_item.proofs.KeyFronts.{are_bytes}

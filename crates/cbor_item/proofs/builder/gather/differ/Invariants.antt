@@ -1,5 +1,5 @@
 use Rattle.std.proofs.Common.{◌↔◌, ◌-◌, drop, map}
-use Rattle.cbor_item.specs.Encoded.{DoNeighboursDiffer}
+use Rattle.cbor_item.specs.inner.Encoded.{DoNeighboursDiffer}
 use Rattle.cbor_item.specs.inner.Front.{key_of}
 use Rattle.cbor_item.proofs.builder.gather.differ.Given as goal
 

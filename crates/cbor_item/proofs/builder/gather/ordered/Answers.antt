@@ -1,6 +1,6 @@
 use Rattle.std.proofs.Common.{arith, ◌↔◌, IsTrue, List, ◌++◌, map, sym, ap, ◌∙◌, subst, IsPermutation}
 use Rattle.std.specs.Prelude.{flat_map}
-use Rattle.cbor_item.specs.Encoded.{DoNeighboursDiffer}
+use Rattle.cbor_item.specs.inner.Encoded.{DoNeighboursDiffer}
 use Rattle.cbor_item.proofs.Loops.{fails, holds, was_true, was_false}
 use Rattle.cbor_item.specs.Parts.{pair_bytes}
 use Rattle.cbor_item.specs.inner.Laid.{span_pair}
