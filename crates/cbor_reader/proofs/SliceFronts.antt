@@ -13,7 +13,7 @@ use Rattle.cbor_events.proofs.Slices.{verdict-within}
 use Rattle.cbor_reader.specs.Readers.{IsRead, IsUnread, of_verdict, of_reader, of_memory, IsCanonicalFront, HasNoCanonicalFront}
 use Rattle.cbor_reader.specs.Reading.{StopsItem}
 use Rattle.cbor_events.specs.SliceView.{seen}
-use Rattle.cbor_reader.specs.SliceChecks.{IsOfBytes, TakesItem}
+use Rattle.cbor_reader.specs.inner.SliceChecks.{IsOfBytes, TakesItem}
 use Rattle.cbor_reader.specs.declared.rules.Rules.TheVariants.{Strict}
 use Rattle.cbor_reader.proofs.Fronts.{front-read, front-unread}
 use Rattle.cbor_reader.proofs.StrictFronts.{strict_accepts}

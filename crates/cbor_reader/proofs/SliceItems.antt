@@ -42,7 +42,7 @@ use Rattle.cbor_events.specs.declared.token.Token.TheVariants as tokens
 use Rattle.cbor_events.proofs.WholeHeads.{front-of}
 use Rattle.cbor_reader.specs.Reading.{IsAt, IsFault, IsHeadFault, IsMemory, IsHeadDue, IsNextHead, StopsHead, OfMark, IsBegun, ReadsItem, StopsItem, ReadsPayload, StopsPayload, string_kind, string_major}
 use Rattle.cbor_events.specs.SliceView.{seen}
-use Rattle.cbor_reader.specs.SliceChecks.{IsOfBytes, TakesItem, TakesPayload, IsLastKey, TakesKey}
+use Rattle.cbor_reader.specs.inner.SliceChecks.{IsOfBytes, TakesItem, TakesPayload, IsLastKey, TakesKey}
 use Rattle.cbor_reader.specs.NextKey.{RefusesKey}
 use Rattle.cbor_reader.specs.declared.rules.Rules.TheVariants.{Strict}
 use Rattle.cbor_reader.proofs.Judged.{Never}

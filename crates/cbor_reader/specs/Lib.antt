@@ -11,4 +11,4 @@ pub mod Readers
 pub mod Reading
 pub mod Rules
 pub mod Size
-pub mod SliceChecks
+pub mod inner

@@ -9,9 +9,9 @@ ghost use Rattle.cbor_events.specs.Token.{kind_of};
 ghost use Rattle.cbor_events.specs.declared.event.EventKind.TheVariants as kinds;
 ghost use Rattle.cbor_reader.specs.Reading.{IsDue, HasHeadDue, HasBegun, IsPayloadDue, IsFault};
 ghost use Rattle.cbor_events.specs.SliceView.{seen};
-ghost use Rattle.cbor_reader.specs.SliceChecks.{AnswersSliceHead};
-ghost use Rattle.cbor_reader.specs.SliceChecks.{ChecksPayload, ChecksItem, ChecksBegun};
-ghost use Rattle.cbor_reader.specs.SliceChecks.{IsSliceKeyDue, ChecksKey};
+ghost use Rattle.cbor_reader.specs.inner.SliceChecks.{AnswersSliceHead};
+ghost use Rattle.cbor_reader.specs.inner.SliceChecks.{ChecksPayload, ChecksItem, ChecksBegun};
+ghost use Rattle.cbor_reader.specs.inner.SliceChecks.{IsSliceKeyDue, ChecksKey};
 
 use crate::payload::check_text;
 use cbor_events::{SliceEvents, Token};

@@ -13,7 +13,7 @@ use Rattle.cbor_head.specs.declared.reason.Reason.TheVariants as reasons
 use Rattle.cbor_head.specs.declared.major.Major.TheVariants as majors
 use Rattle.cbor_reader.specs.Frame.{keys_onto}
 use Rattle.cbor_events.specs.SliceView.{seen}
-use Rattle.cbor_reader.specs.SliceChecks.{IsLastKey}
+use Rattle.cbor_reader.specs.inner.SliceChecks.{IsLastKey}
 use Rattle.cbor_reader.proofs.Composition.{array_bytes, map_bytes}
 use Rattle.cbor_reader.proofs.Items.{stops-at-item, no-end, head-farther}
 use Rattle.cbor_reader.proofs.Scalars.{tag-due, reads-unsigned, reads-negative, reads-simple}

@@ -10,7 +10,7 @@ use Rattle.cbor_events.specs.declared.event.EventKind.TheVariants as kinds
 use Rattle.cbor_reader.specs.Frame.{keys_onto}
 use Rattle.cbor_reader.specs.Reading.{IsBegun}
 use Rattle.cbor_events.specs.SliceView.{seen}
-use Rattle.cbor_reader.specs.SliceChecks.{IsLastKey}
+use Rattle.cbor_reader.specs.inner.SliceChecks.{IsLastKey}
 use Rattle.cbor_reader.proofs.Arrays.{IsReadingArray}
 use Rattle.cbor_reader.proofs.Maps.{IsReadingMap}
 use Rattle.cbor_reader.proofs.slice_checker.+check.Given as goal
