@@ -11,7 +11,7 @@ use Rattle.cbor_head.proofs.OneVerdict.{one_verdict}
 use Rattle.cbor_events.specs.SliceView.{SliceEventsView}
 use Rattle.cbor_events.proofs.Slices.{verdict-within}
 use Rattle.cbor_reader.specs.Readers.{IsRead, IsUnread, of_verdict, of_reader, of_memory, IsCanonicalFront, HasNoCanonicalFront}
-use Rattle.cbor_reader.specs.Reading.{StopsItem}
+use Rattle.cbor_reader.specs.inner.Reading.{StopsItem}
 use Rattle.cbor_events.specs.SliceView.{seen}
 use Rattle.cbor_reader.specs.inner.SliceChecks.{IsOfBytes, TakesItem}
 use Rattle.cbor_reader.specs.declared.rules.Rules.TheVariants.{Strict}

@@ -40,10 +40,10 @@ use Rattle.cbor_events.specs.declared.event.EventKind.TheVariants as kinds
 use Rattle.cbor_events.specs.declared.token.Token.{Token}
 use Rattle.cbor_events.specs.declared.token.Token.TheVariants as tokens
 use Rattle.cbor_events.proofs.WholeHeads.{front-of}
-use Rattle.cbor_reader.specs.Reading.{IsAt, IsFault, IsHeadFault, IsMemory, IsHeadDue, IsNextHead, StopsHead, OfMark, IsBegun, ReadsItem, StopsItem, ReadsPayload, StopsPayload, string_kind, string_major}
+use Rattle.cbor_reader.specs.inner.Reading.{IsAt, IsFault, IsHeadFault, IsMemory, IsHeadDue, IsNextHead, StopsHead, OfMark, IsBegun, ReadsItem, StopsItem, ReadsPayload, StopsPayload, string_kind, string_major}
 use Rattle.cbor_events.specs.SliceView.{seen}
 use Rattle.cbor_reader.specs.inner.SliceChecks.{IsOfBytes, TakesItem, TakesPayload, IsLastKey, TakesKey}
-use Rattle.cbor_reader.specs.NextKey.{RefusesKey}
+use Rattle.cbor_reader.specs.inner.NextKey.{RefusesKey}
 use Rattle.cbor_reader.specs.declared.rules.Rules.TheVariants.{Strict}
 use Rattle.cbor_reader.proofs.Judged.{Never}
 use Rattle.cbor_reader.proofs.Reasons.{never-read}

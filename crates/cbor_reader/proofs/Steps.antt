@@ -32,7 +32,7 @@ use Rattle.cbor_events.specs.declared.position.Position.TheVariants as positions
 use Rattle.cbor_events.proofs.Frames.{position-done}
 use Rattle.cbor_events.proofs.Runs.{once-marks}
 use Rattle.cbor_events.proofs.Taking.{IsClear, mark-taken}
-use Rattle.cbor_reader.specs.Reading.{IsAt, IsReached, OfMark, IsHeadDue, IsNextHead, IsCutHead, StopsHead, IsFault}
+use Rattle.cbor_reader.specs.inner.Reading.{IsAt, IsReached, OfMark, IsHeadDue, IsNextHead, IsCutHead, StopsHead, IsFault}
 use Rattle.cbor_events.proofs.NextEvents.{whole-clear, run-rest}
 
 pub bytes_back : (xs ys : List ℕ) → AreBytes (xs ++ ys) → AreBytes ys

@@ -7,7 +7,7 @@ ghost use Rattle.cbor_head.specs.declared.reason.Reason.{Reason};
 ghost use Rattle.cbor_events.specs.Marks.{mark_of};
 ghost use Rattle.cbor_events.specs.Token.{kind_of};
 ghost use Rattle.cbor_events.specs.declared.event.EventKind.TheVariants as kinds;
-ghost use Rattle.cbor_reader.specs.Reading.{IsDue, HasHeadDue, HasBegun, IsPayloadDue, IsFault};
+ghost use Rattle.cbor_reader.specs.inner.Reading.{IsDue, HasHeadDue, HasBegun, IsPayloadDue, IsFault};
 ghost use Rattle.cbor_events.specs.SliceView.{seen};
 ghost use Rattle.cbor_reader.specs.inner.SliceChecks.{AnswersSliceHead};
 ghost use Rattle.cbor_reader.specs.inner.SliceChecks.{ChecksPayload, ChecksItem, ChecksBegun};

@@ -16,8 +16,8 @@ use Rattle.cbor_events.specs.SliceEvents.{event_of}
 use Rattle.cbor_events.specs.SliceView.{SliceEventsView, seen}
 use Rattle.cbor_events.specs.declared.event.EventKind.{EventKind}
 use Rattle.cbor_events.specs.declared.token.Token.{Token}
-use Rattle.cbor_reader.specs.Reading.{IsAt, IsMemory, IsHeadDue, IsNextHead, StopsHead, ReadsPayload, StopsPayload, IsBegun, ReadsItem, StopsItem}
-use Rattle.cbor_reader.specs.NextKey.{RefusesKey}
+use Rattle.cbor_reader.specs.inner.Reading.{IsAt, IsMemory, IsHeadDue, IsNextHead, StopsHead, ReadsPayload, StopsPayload, IsBegun, ReadsItem, StopsItem}
+use Rattle.cbor_reader.specs.inner.NextKey.{RefusesKey}
 
 -- no reader failed, and no memory was asked for
 pub record IsOfBytes (f : Refusal) : Type 0 where

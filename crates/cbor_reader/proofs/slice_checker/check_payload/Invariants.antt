@@ -3,7 +3,7 @@ use Rattle.std.specs.Prelude.{Some}
 use Rattle.cbor_head.specs.Limits.{Bounds}
 use Rattle.cbor_head.specs.declared.major.Major.{Major}
 use Rattle.cbor_events.specs.inner.Automaton.{Frame, payload}
-use Rattle.cbor_reader.specs.Reading.{IsAt}
+use Rattle.cbor_reader.specs.inner.Reading.{IsAt}
 use Rattle.cbor_events.specs.SliceView.{seen}
 use Rattle.cbor_reader.proofs.Payloads.{HasCome}
 use Rattle.cbor_reader.proofs.slice_checker.check_payload.Given as goal
