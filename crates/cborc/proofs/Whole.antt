@@ -1,12 +1,14 @@
 -- Why the bytes of a file are not one accepted item.
-use Rattle.std.proofs.Common.{ℕ, zero, suc, ◌-◌, ◌<◌, false, arith, ◌≡◌, Some, List, length, sym, ap, ◌∙◌, refl, subst}
+use Rattle.std.proofs.Common.{ℕ, zero, suc, ◌-◌, ◌<◌, true, false, arith, ◌≡◌, Some, List, length, sym, ap, ◌∙◌, refl, subst}
 use Rattle.std.specs.Prelude.{◌==◌}
 use Rattle.std.proofs.lemmas.List.{length-drop}
+use Rattle.std.proofs.lemmas.Bool.Decides.{Decides-eqb}
 use Rattle.cbor_head.specs.Complaint.{Rules}
 use Rattle.cbor_head.specs.Verdict.{refusal}
 use Rattle.cbor_head.specs.declared.reason.Reason.TheVariants.{Trailing}
 use Rattle.cbor_head.specs.declared.reason.Refusal.{Refusal}
-use Rattle.cbor_reader.specs.Readers.{IsRead, IsUnread, Loses}
+use Rattle.cbor_head.specs.Value.{Value}
+use Rattle.cbor_reader.specs.Readers.{IsRead, IsReadAs, IsUnread, Loses}
 use Rattle.cborc.specs.Check.{IsNotWhole, unread, trailing}
 
 -- by rules that are known by two names
@@ -21,6 +23,21 @@ module _ (d n : ℕ) (rules known : Rules) (same : rules ≡ known) (input : Lis
   pub is_followed : (rest : List ℕ) (size : ℕ) → IsRead d n known input size → Loses size (Some input) (Some rest) → false ≡ (length rest == 0)
       → IsNotWhole d n rules input (refusal Trailing size size)
   is_followed rest size h lost e = trailing size (subst (λ r. IsRead d n r input size) (sym same) h) (omega (arith, behind, some_left (length rest) e)) refl
+    where
+      inside : {x y : List ℕ} → Some x ≡ Some y → x ≡ y
+      inside e = cc e
+
+      behind : length rest ≡ length input - size
+      behind = ap length (inside lost.0) ∙ length-drop size input
+
+  none_left : (k : ℕ) → true ≡ (k == 0) → k ≡ 0
+  none_left k e = (Decides-eqb k 0).0 (sym e)
+
+  pub is_all : (rest : List ℕ) (v : Value) (size : ℕ) → IsReadAs d n known input v size → Loses size (Some input) (Some rest) → true ≡ (length rest == 0)
+      → IsReadAs d n rules input v (length input)
+  is_all rest v size h lost e =
+      let all : size ≡ length input = omega (arith, behind, none_left (length rest) e, lost.1) in
+      subst (λ r. IsReadAs d n r input v (length input)) (sym same) (subst (IsReadAs d n known input v) all h)
     where
       inside : {x y : List ℕ} → Some x ≡ Some y → x ≡ y
       inside e = cc e

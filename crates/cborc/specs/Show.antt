@@ -1,5 +1,5 @@
 -- What `show` asks of a file's bytes, and what it writes.
-use Rattle.std.specs.Prelude.{ℕ, ◌≡◌, ◌++◌, List, length, codes, Option}
+use Rattle.std.specs.Prelude.{ℕ, ◌++◌, List, length, codes, Option}
 use Rattle.std.specs.Io.KnownBytes.{Appends}
 use Rattle.cbor_head.specs.Complaint.{plain}
 use Rattle.cbor_head.specs.Value.{Value}
@@ -10,8 +10,6 @@ use Rattle.cbor_diag.specs.Text.{text}
 use Rattle.cbor_diag.specs.IndentedText.{indented}
 use Rattle.cborc.specs.declared.command_line.Layout.{Layout}
 use Rattle.cborc.specs.declared.command_line.Layout.TheVariants.{OneLine, Indented}
-use Rattle.cborc.specs.declared.fault.Fault.{Fault}
-use Rattle.cborc.specs.declared.fault.Fault.TheVariants as faults
 
 -- the whole input is the item of this tree, accepted by the plain rules within depth d and n bytes
 abbrev pub IsTreeOf : ℕ → ℕ → List ℕ → Item → Type 0
@@ -25,11 +23,3 @@ shown_text Indented v = indented 0 v ++ codes "\n"
 -- the text was written
 abbrev pub IsShown : Layout → Item → Option (List ℕ) → Option (List ℕ) → Type 0
 IsShown layout tree old new = Appends old new (shown_text layout (view tree))
-
--- standard output failed, when it had taken a beginning of the text
-pub record IsUnshown (layout : Layout) (tree : Item) (old new : Option (List ℕ)) (fault : Fault) : Type 0 where
-  pub is : fault ≡ faults.CannotPrint
-  pub took : List ℕ
-  pub others : List ℕ
-  pub beginning : took ++ others ≡ shown_text layout (view tree)
-  pub appended : Appends old new took

@@ -11,7 +11,7 @@ use crate::input;
 use cbor_diag::listing;
 use cbor_head::{Limits, Reason, Refusal};
 use std::alloc::Global;
-use std::io::{BufWriter, Write};
+use std::io::Write;
 
 /// Writes to `out` a line for each event of the item that the file `source` is, but for the pieces
 /// of payloads. What was written before a refusal stays.
@@ -22,15 +22,9 @@ pub fn events<'a, F: Folder, O: Write>(
     source: &'a str,
     options: Options,
 ) -> Result<(), Fault<'a>> {
+    let limits = options.limits;
     let bytes = input::read(alloc, files, source, options)?;
-    let Ok(mut lines) = BufWriter::new(alloc, out) else {
-        return Err(Fault::Memory);
-    };
-    let listed = list(bytes.as_slice(), options.limits, &mut lines);
-    match lines.flush() {
-        Ok(()) => listed,
-        Err(_) => Err(Fault::CannotPrint),
-    }
+    list(bytes.as_slice(), limits, out)
 }
 
 // Writes the lines of the item that all the bytes are; the refusal is that of its form, then

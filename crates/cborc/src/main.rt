@@ -20,17 +20,20 @@ mod tests;
 use crate::disk::Disk;
 use crate::fault::Fault;
 use crate::run::{end, run};
+use std::io::BufWriter;
 use std::process::ExitCode;
 use std::{env, io};
 
 fn main(rt: HostRuntime) -> ExitCode {
-    let mut out = rt.stdout();
     let mut err = rt.stderr();
     let status = match words(&rt) {
-        Ok(words) => {
-            let mut files = Disk { rt: &rt };
-            run(rt.alloc(), words, &mut files, &mut out, &mut err)
-        }
+        Ok(words) => match BufWriter::new(rt.alloc(), rt.stdout()) {
+            Ok(mut out) => {
+                let mut files = Disk { rt: &rt };
+                run(rt.alloc(), words, &mut files, &mut out, &mut err)
+            }
+            Err(_) => end(Err(Fault::Memory), &mut err),
+        },
         Err(error) => end(Err(Fault::of_words(&error)), &mut err),
     };
     ExitCode::from(status)

@@ -19,8 +19,9 @@ use std::alloc::Global;
 use std::io::Write;
 
 /// Does what the words ask for, the program's name first, and answers the status with which the
-/// program ends: 0 accepted or same, 1 refused or different, 2 a fault in the words, 3 a fault of a file, its hex, the
-/// output or memory. Why it is not 0 stands on `err`, whose own faults change no status.
+/// program ends: 0 accepted or same, 1 refused or different, 2 a fault in the words, 3 a fault of a
+/// file, its hex, the output or memory. Why it is not 0 stands on `err`, whose own faults change no
+/// status. All that was written to `out` is sent on before that.
 pub fn run<F: Folder, O: Write, E: Write>(
     alloc: Global,
     words: Vec<String>,
@@ -34,7 +35,10 @@ pub fn run<F: Folder, O: Write, E: Write>(
         Ok(request) => answer(alloc, &request, files, out),
         Err(error) => explain(&error, out, err),
     };
-    end(ended, err)
+    match out.flush() {
+        Ok(()) => end(ended, err),
+        Err(_) => end(Err(Fault::CannotPrint), err),
+    }
 }
 
 /// Writes the line of a fault, and answers the status.

@@ -1,9 +1,9 @@
 //! The subcommand `show`: the diagnostic text of an item.
 
-ghost use Rattle.std.specs.Prelude.{IfOk, IfErr};
+ghost use Rattle.std.specs.Prelude.{◌≡◌, IfOk, IfErr};
 ghost use Rattle.cbor_head.specs.Complaint.{plain};
 ghost use Rattle.cborc.specs.Check.{IsNotWhole};
-ghost use Rattle.cborc.specs.Show.{IsTreeOf, IsShown, IsUnshown};
+ghost use Rattle.cborc.specs.Show.{IsTreeOf, IsShown};
 
 use crate::command_line::{Layout, Options};
 use crate::fault::Fault;
@@ -49,8 +49,7 @@ fn tree_of(alloc: Global, bytes: &[u8], limits: Limits) -> Result<Tree, Refusal>
 fn print<'a, O: Write>(tree: &Tree, layout: Layout, out: &mut O) -> Result<(), Fault<'a>>
     ensures shown { IfOk result
         (λ _. IsShown layout tree.now (O.contents out.old) (O.contents out.new)) }
-    ensures fault { IfErr result
-        (IsUnshown layout tree.now (O.contents out.old) (O.contents out.new)) }
+    ensures fault { IfErr result (λ fault. fault ≡ Fault.CannotPrint) }
 {
     let printed = match layout {
         Layout::OneLine => diagnostic(tree, out),
