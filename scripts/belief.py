@@ -26,9 +26,9 @@ CRATES = ROOT / "crates"
 # The calls whose contracts are the headline.
 HEADLINE = {("cbor_reader", "canonicalise"), ("cbor_reader", "read_strict")}
 
-# How many names the readers of whole items still take from inner words of the crates below. The
+# How many names a crate still takes from inner words of the crates below it. The
 # number may fall, and may not rise.
-DEBT_ALLOWED = {"cbor_reader": 32}
+DEBT_ALLOWED = {"cbor_reader": 31, "cbor_diag": 2, "cborc": 0}
 
 NAME = re.compile(r"[^\s(){}\[\],;]+")
 IMPORT = re.compile(r"^(?:pub )?use (Rattle\.[^\s.{]+(?:\.[^\s.{]+)*)(?:\.\{(.*)\}| as (\S+))?$")
