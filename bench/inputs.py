@@ -2,7 +2,8 @@
 
     python3 inputs.py FOLDER
 
-writes for each input NAME the files NAME.cbor, NAME.bytewise and NAME.length. The writer is a plain
+writes for each input NAME the files NAME.cbor, NAME.bytewise and NAME.length, and for each array the
+canonical bytes of its members as a sequence, NAME.sequence. The writer is a plain
 recursion over Python values, so that what the program answers can be held against it.
 """
 
@@ -132,6 +133,9 @@ def main():
         for ending, order in (("cbor", None), ("bytewise", "bytewise"), ("length", "length")):
             with open(f"{folder}/{name}.{ending}", "wb") as file:
                 file.write(encode(value, order))
+        if type(value) is list:
+            with open(f"{folder}/{name}.sequence", "wb") as file:
+                file.writelines(encode(it, "bytewise") for it in value)
 
 
 if __name__ == "__main__":

@@ -40,13 +40,53 @@ TITLES = {
     "keys_around_zeros": "255 unsorted maps, as keys, around an array of zeros",
     "bytes_16_mib": "one byte string of 16 MiB",
 }
+# Of the other subcommands: instructions a byte, beside those of `check`.
+COUNTED = {
+    "check": (["check"], "cbor"),
+    "show": (["show"], "cbor"),
+    "events": (["events"], "cbor"),
+    "compare with canonical": (["compare"], "cbor"),
+    "check of canonical": (["check"], "bytewise"),
+    "check --seq of members": (["check", "--seq"], "sequence"),
+    "check --strict of canonical": (["check", "--strict"], "bytewise"),
+    "check --strict --seq of members": (["check", "--strict", "--seq"], "sequence"),
+}
 faults = []
 
 
 def words_of(cborc, folder, name, command):
-    words, ending, _ = COMMANDS[command]
+    words, ending, *_ = COMMANDS.get(command) or COUNTED[command]
     words = [cborc, *words, "--bytes", str(32 * MIB), f"{folder}/{name}.{ending}"]
+    if command.startswith("compare"):
+        return [*words, f"{folder}/{name}.bytewise"]
     return [*words, f"{folder}/out"] if command.startswith("canon") else words
+
+
+def instructions(words):
+    """Returns how many instructions a run takes, or None where callgrind is not to be had."""
+    valgrind = shutil.which("valgrind")
+    if not valgrind:
+        return None
+    ran = subprocess.run([valgrind, "--tool=callgrind", "--callgrind-out-file=/dev/null", *words],
+                         stdout=subprocess.DEVNULL, stderr=subprocess.PIPE, text=True)
+    counts = [line.split()[-1] for line in ran.stderr.splitlines() if "Collected" in line]
+    return int(counts[-1]) if ran.returncode == 0 and counts else None
+
+
+def tell_instructions(cborc, folder):
+    """Prints instructions a byte of the other subcommands, less those of the integer 0."""
+    names = ["records", "integers", "zeros", "text", "map_10000", "map_100000"]
+    print(f"\n| instructions a byte | {' | '.join(f'`{it}`' for it in COUNTED)} |")
+    print("| --- |" + " ---: |" * len(COUNTED))
+    for name in names:
+        cells = []
+        for command, (_, ending) in COUNTED.items():
+            path, start = f"{folder}/{name}.{ending}", None
+            count = instructions(words_of(cborc, folder, name, command)) if os.path.exists(path) else None
+            if count is not None:
+                start = instructions(words_of(cborc, folder, "one", command.replace(" --seq of members", " of canonical")))
+            cells.append("" if start is None else f"{(count - start) / os.path.getsize(path):.1f}")
+        print(f"| {TITLES[name]} | {' | '.join(cells)} |", flush=True)
 
 
 def run(words, folder):
@@ -141,6 +181,7 @@ def tell_bounds(times, folder):
 def main():
     cborc, folder = os.path.abspath(sys.argv[1]), sys.argv[2]
     tell_bounds(tell(cborc, folder), folder)
+    tell_instructions(cborc, folder)
     for fault in faults:
         print(f"fault: {fault}", file=sys.stderr)
     return 1 if faults else 0

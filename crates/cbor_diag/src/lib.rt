@@ -29,7 +29,3 @@ pub use text::{diagnostic, diagnostic_indented};
 
 #[cfg(test)]
 mod tests;
-#[cfg(test)]
-mod tests_failed;
-#[cfg(test)]
-mod tests_listing;

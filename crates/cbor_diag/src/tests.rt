@@ -1,5 +1,8 @@
 //! Texts of items written out by hand.
 
+mod failed;
+mod listings;
+
 use crate::{diagnostic, diagnostic_indented};
 use cbor_head::Simple;
 use cbor_item::{Item, Tree};

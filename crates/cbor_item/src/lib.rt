@@ -38,5 +38,3 @@ pub use write::{encode_to, write_whole};
 
 #[cfg(test)]
 mod tests;
-#[cfg(test)]
-mod tests_failed;

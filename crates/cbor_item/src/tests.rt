@@ -1,5 +1,7 @@
 //! Examples, by trees.
 
+mod failed;
+
 use crate::{Item, KeyOrder, Tree, compare_keys, encode, encode_to, encode_valid, same};
 use cbor_head::{Reason, Refusal, Simple};
 use std::alloc::{AllocError, Global};

@@ -1,6 +1,6 @@
 //! Writers that stop.
 
-use crate::tests::{eight_keys, simple};
+use super::{eight_keys, simple};
 use crate::{KeyOrder, Tree, encode_to, write_whole};
 use cbor_head::{Reason, Refusal};
 use std::io;

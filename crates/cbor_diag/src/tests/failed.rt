@@ -1,6 +1,6 @@
 //! Writers that stop.
 
-use crate::tests::{bytes, nested, tree};
+use super::{bytes, nested, tree};
 use crate::{diagnostic, diagnostic_indented};
 use cbor_head::{Reason, Refusal};
 use cbor_item::Item;
