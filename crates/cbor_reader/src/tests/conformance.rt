@@ -1,7 +1,7 @@
 //! Each row of the conformance table, through every call. A call that is added to the crate gets a
 //! test here that takes it over all rows, as the others do.
 
-use super::conformance_table::{PAIRS, ROWS};
+use super::conformance_table::{PAIRS, rows};
 use super::{BadHex, bytes_of};
 use crate::{KeyOrder, Side, canonicalise, read_strict, read_tree, same_meaning};
 use cbor_head::{Limits, Refusal};
@@ -124,7 +124,7 @@ impl Read for Cut<'_> {
 
 #[test]
 fn canonicalises(rt: HostRuntime) -> Result<(), Fail> {
-    for &line in ROWS {
+    for &line in rows() {
         let Some((hex, column, plain, _)) = row_of(line) else {
             return Err(Fail::from(BadRow::Columns));
         };
@@ -148,7 +148,7 @@ fn canonicalises(rt: HostRuntime) -> Result<(), Fail> {
 
 #[test]
 fn reads_trees(rt: HostRuntime) -> Result<(), Fail> {
-    for &line in ROWS {
+    for &line in rows() {
         let Some((hex, column, plain, _)) = row_of(line) else {
             return Err(Fail::from(BadRow::Columns));
         };
@@ -208,7 +208,7 @@ fn is_tree_right(alloc: Global, input: &[u8], plain: &str, tree: &Tree) -> Resul
 
 #[test]
 fn reads_strictly(rt: HostRuntime) -> Result<(), Fail> {
-    for &line in ROWS {
+    for &line in rows() {
         let Some((hex, column, plain, strict)) = row_of(line) else {
             return Err(Fail::from(BadRow::Columns));
         };
@@ -270,7 +270,7 @@ fn strict_text(
 // Each input against itself, and against its canonical bytes.
 #[test]
 fn compares_with_itself(rt: HostRuntime) -> Result<(), Fail> {
-    for &line in ROWS {
+    for &line in rows() {
         let Some((hex, column, plain, _)) = row_of(line) else {
             return Err(Fail::from(BadRow::Columns));
         };
