@@ -1,4 +1,4 @@
--- The verdict of form: by its rules nothing is complained of, so a break of form decides.
+-- The verdict of form: by its rules nothing is complained of, so a form error decides.
 use Rattle.std.proofs.Common.{◌≡◌, ℕ, ◌+◌, ◌-◌, List, [], ◌∷◌, ◌++◌, length, take, refl, sym, ap, ◌∙◌, subst, inl, inr, arith, append_assoc, append-nil}
 use Rattle.std.proofs.lemmas.Bool.{cases_lt}
 use Rattle.std.proofs.lemmas.List.{length-append}

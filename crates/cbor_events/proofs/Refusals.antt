@@ -2,7 +2,7 @@
 use Rattle.std.proofs.Common.{◌≡◌, ◌↔◌, ℕ, zero, suc, ◌<◌, Bool, true, false, nat_lt, cond, List, [], ◌∷◌, ◌++◌, refl, ap, ◌∙◌, subst, arith, true≢false, ◌⊎◌, inl, inr}
 use Rattle.cbor_head.specs.Beginning.{IsBeginning, MayFollow}
 use Rattle.cbor_head.specs.Value.{AreBytes}
-use Rattle.cbor_head.specs.Verdict.{BreaksForm, initial_reason}
+use Rattle.cbor_head.specs.Verdict.{IsReasonAt, initial_reason}
 use Rattle.cbor_events.specs.Trace.{Mark}
 use Rattle.cbor_events.specs.Automaton.{start, Frame, counted, open_array, open_map, State, at_item, in_head, in_simple, in_payload, in_chunks, done, Opening, direct, long, chunked, unbounded, long_simple, breaks, bad, Next, refuses, goes, tells, opening, has_room, break_at, begin, is_major, in_string, take_byte, Outcome, refused, reached, telling, and_then, run}
 use Rattle.cbor_head.specs.declared.major.Major.{Major}
@@ -114,7 +114,7 @@ by-others d done c r u e = absurd u
 
 -- a byte is refused where it may not follow, and for the right reason
 pub refuses-rightly : (d : ℕ) (p : List ℕ) (q : State) (ms : List Mark) (c : ℕ) (r : Reason) → AreBytes p → c < 256 → run d start p ≡ reached q ms → IsUnfinished q
-    → take_byte d q c ≡ refuses r → (¬ MayFollow d p c) × BreaksForm d p c r
+    → take_byte d q c ≡ refuses r → (¬ MayFollow d p c) × IsReasonAt d p c r
 refuses-rightly d p q ms c r hp hc e u h = (λ f. subst IsTaken h ((taken-follows d p q ms c hp hc e).1 f), by_follows (by-others d q c r u h))
   where
     at_zero : IsTaken (take_byte d q 0x00) ↔ MayFollow d p 0x00
@@ -123,7 +123,7 @@ refuses-rightly d p q ms c r hp hc e u h = (λ f. subst IsTaken h ((taken-follow
     at_twenty : IsTaken (take_byte d q 0x20) ↔ MayFollow d p 0x20
     at_twenty = let fits : 0x20 < 256 = omega arith in taken-follows d p q ms 0x20 hp fits e
 
-    by_follows : ByOthers d q c r → BreaksForm d p c r
+    by_follows : ByOthers d q c r → IsReasonAt d p c r
     by_follows (inl k) = inl (at_zero.0 k.0, k.1)
     by_follows (inr (inl k)) = inr (inl (λ f. k.0 (at_zero.1 f), at_twenty.0 k.1, k.2))
     by_follows (inr (inr k)) = inr (inr (λ f. k.0 (at_zero.1 f), λ f. k.1 (at_twenty.1 f), k.2))

@@ -4,7 +4,7 @@ use Rattle.std.proofs.lemmas.Grind.{flat_map-append}
 use Rattle.std.proofs.lemmas.List.{length-append}
 use Rattle.std.specs.List.{AllByRecursion}
 use Rattle.cbor_head.specs.Head.{Holds, head, shortest}
-use Rattle.cbor_head.specs.Spelling.{Chunk, IsChunk, Spelling, Spellings, SpelledEntries, unsigned, negative, bytes, text, byte_chunks, text_chunks, array, a_map, tag, simple, no_spellings, a_spelling, no_entries, entry, spellings_count, entries_count, chunk_bytes, spell, spell_all, spell_entries, closer, IsSpelled, AreSpelled, AreEntriesSpelled}
+use Rattle.cbor_head.specs.Spelling.{Chunk, IsChunk, Spelling, Spellings, SpelledEntries, unsigned, negative, bytes, text, byte_chunks, text_chunks, array, a_map, tag, simple, no_spellings, a_spelling, no_entries, entry, spellings_count, entries_count, chunk_bytes, spell, spell_all, spell_entries, break_of, IsSpelled, AreSpelled, AreEntriesSpelled}
 use Rattle.cbor_head.specs.declared.major.Major.{Major}
 use Rattle.cbor_head.specs.declared.major.Major.TheVariants as majors
 use Rattle.cbor_head.specs.declared.width.Width.{Width}
@@ -104,7 +104,7 @@ map-head at Four n = one at Four (Map (Some n)) (a_head majors.Map Four n) _ tt 
 map-head at Eight n = one at Eight (Map (Some n)) (a_head majors.Map Eight n) _ tt tt refl refl
 map-head at Indefinite n = one at Indefinite (Map None) (a_head majors.Map Indefinite 0) _ tt refl refl refl
 
-end-row : (at : ℕ) (w : Width) → Row at (end_events at w) (end_marks w) (length (closer w))
+end-row : (at : ℕ) (w : Width) → Row at (end_events at w) (end_marks w) (length (break_of w))
 end-row at Indefinite = one at Indefinite End an_end 1 tt refl refl refl
 end-row at Direct = none at
 end-row at One = none at
@@ -194,16 +194,16 @@ mutual
       let hd = head majors.Array w (spellings_count ss) in
       let n = length hd in
       let k = length (spell_all ss) in
-      let all : n + (k + length (closer w)) ≡ length ((hd ++ spell_all ss) ++ closer w) = omega (arith, length-append (hd ++ spell_all ss) (closer w), length-append hd (spell_all ss)) in
-      sized at (n + (k + length (closer w))) _ _ _ all
-      (append at n (k + length (closer w)) _ _ _ _ (array-head at w (spellings_count ss)) (append (at + n) k (length (closer w)) _ _ _ _ (members-row (at + n) ss h.1) (end-row (at + n + k) w)))
+      let all : n + (k + length (break_of w)) ≡ length ((hd ++ spell_all ss) ++ break_of w) = omega (arith, length-append (hd ++ spell_all ss) (break_of w), length-append hd (spell_all ss)) in
+      sized at (n + (k + length (break_of w))) _ _ _ all
+      (append at n (k + length (break_of w)) _ _ _ _ (array-head at w (spellings_count ss)) (append (at + n) k (length (break_of w)) _ _ _ _ (members-row (at + n) ss h.1) (end-row (at + n + k) w)))
   events-row at (a_map w es) h =
       let hd = head majors.Map w (entries_count es) in
       let n = length hd in
       let k = length (spell_entries es) in
-      let all : n + (k + length (closer w)) ≡ length ((hd ++ spell_entries es) ++ closer w) = omega (arith, length-append (hd ++ spell_entries es) (closer w), length-append hd (spell_entries es)) in
-      sized at (n + (k + length (closer w))) _ _ _ all
-      (append at n (k + length (closer w)) _ _ _ _ (map-head at w (entries_count es)) (append (at + n) k (length (closer w)) _ _ _ _ (entries-row (at + n) es h.1) (end-row (at + n + k) w)))
+      let all : n + (k + length (break_of w)) ≡ length ((hd ++ spell_entries es) ++ break_of w) = omega (arith, length-append (hd ++ spell_entries es) (break_of w), length-append hd (spell_entries es)) in
+      sized at (n + (k + length (break_of w))) _ _ _ all
+      (append at n (k + length (break_of w)) _ _ _ _ (map-head at w (entries_count es)) (append (at + n) k (length (break_of w)) _ _ _ _ (entries-row (at + n) es h.1) (end-row (at + n + k) w)))
   events-row at (tag w n s) h =
       let hd = head majors.Tag w n in
       sized at (length hd + length (spell s)) _ _ _ (sym (length-append hd (spell s)))

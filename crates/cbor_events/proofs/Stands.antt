@@ -4,7 +4,7 @@ use Rattle.std.proofs.lemmas.Bool.{ltb-true}
 use Rattle.std.specs.List.{AllByRecursion}
 use Rattle.cbor_head.specs.Value.{AreBytes}
 use Rattle.cbor_head.specs.Head.{Holds, head}
-use Rattle.cbor_head.specs.Spelling.{Chunk, IsChunk, Spelling, Spellings, SpelledEntries, unsigned, negative, bytes, text, array, a_map, tag, no_spellings, a_spelling, no_entries, entry, spellings_count, entries_count, spell, spell_all, spell_entries, chunk_bytes, closer, IsSpelled, AreSpelled, AreEntriesSpelled, HoldsOrOpen, depth, depth_all, depth_entries, IsItem}
+use Rattle.cbor_head.specs.Spelling.{Chunk, IsChunk, Spelling, Spellings, SpelledEntries, unsigned, negative, bytes, text, array, a_map, tag, no_spellings, a_spelling, no_entries, entry, spellings_count, entries_count, spell, spell_all, spell_entries, chunk_bytes, break_of, IsSpelled, AreSpelled, AreEntriesSpelled, HoldsOrIndefinite, depth, depth_all, depth_entries, IsItem}
 use Rattle.cbor_events.specs.Automaton.{Frame, counted, open_array, open_map, State, at_item, in_head, in_simple, in_payload, in_chunks, done, close, expect, close_string, payload, after, has_room}
 use Rattle.cbor_head.specs.declared.major.Major.{Major}
 use Rattle.cbor_head.specs.declared.major.Major.TheVariants.{Unsigned, Negative, Bytes, Text, Array, Map, Tag, Simple}
@@ -128,8 +128,8 @@ members-due d fs pre p (suc n) o wants room =
 
 -- what a width without Indefinite gives
 pub record Definite (w : Width) (n : ℕ) : Type 0 where
-  pub holds : HoldsOrOpen w n
-  pub closes : closer w ≡ []
+  pub holds : HoldsOrIndefinite w n
+  pub closes : break_of w ≡ []
 
 pub definite : (w : Width) (n : ℕ) → Holds w n → Definite w n
 definite Direct n h = record { holds = h; closes = refl }

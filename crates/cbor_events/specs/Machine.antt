@@ -3,7 +3,7 @@ use Rattle.std.specs.Prelude.{◌≡◌, ◌↔◌, ◌⊎◌, ℕ, ◌+◌, ◌
 use Rattle.cbor_head.specs.Value.{AreBytes}
 use Rattle.cbor_head.specs.Spelling.{Spelling, IsItem}
 use Rattle.cbor_head.specs.Beginning.{IsBeginning, IsLongestBeginning}
-use Rattle.cbor_head.specs.Verdict.{refusal, IsBreak}
+use Rattle.cbor_head.specs.Verdict.{refusal, IsFormError}
 use Rattle.cbor_head.specs.declared.reason.Reason.TheVariants.{TooLong}
 use Rattle.cbor_head.specs.declared.reason.Refusal.{Refusal}
 use Rattle.cbor_events.specs.Trace.{Mark, total, trace, within}
@@ -85,7 +85,7 @@ pub record IsGiven (e : Event) (m : MachineView) (t bs : List ℕ) (ms : List Ma
 -- the longest beginning of the input is p, and there its form breaks
 pub record BreaksBehind (d n : ℕ) (input p : List ℕ) (r : Refusal) : Type 0 where
   pub longest : IsLongestBeginning d (take n input) p
-  pub breaks : IsBreak d n p longest.rest r
+  pub breaks : IsFormError d n p longest.rest r
 
 -- the machine before it refused anything, when it had taken so many bytes
 abbrev pub before : MachineView → ℕ → MachineView

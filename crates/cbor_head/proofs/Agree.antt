@@ -3,8 +3,8 @@ use Rattle.std.proofs.Common.{ℕ, suc, ◌+◌, ◌≡◌, ◌≤◌, ◌⊎◌
 use Rattle.std.specs.List.{AllByRecursion}
 use Rattle.std.proofs.lemmas.List.{length-append, append_assoc, append-nil}
 use Rattle.cbor_head.specs.Head.{head, Holds}
-use Rattle.cbor_head.specs.Spelling.{Chunk, Spelling, Spellings, SpelledEntries, unsigned, negative, bytes, text, byte_chunks, text_chunks, array, a_map, tag, simple, no_spellings, a_spelling, no_entries, entry, spell, spell_all, spell_entries, spellings_count, entries_count, IsSpelled, AreSpelled, AreEntriesSpelled, IsChunk, chunk_bytes, closer, IsItem}
-use Rattle.cbor_head.specs.Complaint.{Rules, Complaint, OfHead, OfOpener, OfCount, OfString, OfChunks, OfKey, Complains, ComplainsIn, ComplainsInEntries}
+use Rattle.cbor_head.specs.Spelling.{Chunk, Spelling, Spellings, SpelledEntries, unsigned, negative, bytes, text, byte_chunks, text_chunks, array, a_map, tag, simple, no_spellings, a_spelling, no_entries, entry, spell, spell_all, spell_entries, spellings_count, entries_count, IsSpelled, AreSpelled, AreEntriesSpelled, IsChunk, chunk_bytes, break_of, IsItem}
+use Rattle.cbor_head.specs.Complaint.{Rules, Complaint, OfHead, OfIndefinite, OfCount, OfString, OfChunks, OfKey, Complains, ComplainsIn, ComplainsInEntries}
 use Rattle.cbor_head.specs.declared.major.Major.{Major}
 use Rattle.cbor_head.specs.declared.major.Major.TheVariants.{Unsigned, Negative, Bytes, Text, Array, Map, Tag}
 use Rattle.cbor_head.specs.declared.width.Width.{Width}
@@ -113,7 +113,7 @@ agree_chunks b (k ∷ ks) (l ∷ ls) i j p both r at c m (inr h) =
 
 agree_chunked : (b : Bool) (cs ds : List Chunk) → AllByRecursion IsChunk cs → AllByRecursion IsChunk ds → (r : Rules) (at : ℕ) (p : List ℕ) (c : Complaint)
     → Past (head (kind b) Indefinite 0) (flat b cs ++ (0xff ∷ [])) (flat b ds ++ (0xff ∷ [])) p (Unit {0}) → c.end ≤ at + length p
-    → OfOpener r at c ⊎ OfChunks r (at + 1) (kind b) cs c → OfOpener r at c ⊎ OfChunks r (at + 1) (kind b) ds c
+    → OfIndefinite r at c ⊎ OfChunks r (at + 1) (kind b) cs c → OfIndefinite r at c ⊎ OfChunks r (at + 1) (kind b) ds c
 agree_chunked b cs ds i j r at p c q m (inl h) = inl h
 agree_chunked b cs ds i j r at p c q m (inr h) =
     let len : length p ≡ 1 + length q.k = ap length q.is ∙ length-append (head (kind b) Indefinite 0) q.k in
@@ -202,48 +202,48 @@ mutual
       (λ (m : Complains r (at + length (head Tag w n)) s c). agree s v.0 i.1 k.1 q.k q.both r (at + length (head Tag w n)) c (omega arith) m) h)
   agree (simple n) t i j p both r at c l h = absurd h
 
-  pub agree_all : (ss ts : Spellings) → AreSpelled ss → AreSpelled ts → (w : Width) → told w (spellings_count ss) ≡ told w (spellings_count ts) → (p : List ℕ) → Both (spell_all ss ++ closer w) (spell_all ts ++ closer w) p → (r : Rules) (at : ℕ) (c : Complaint) → c.end ≤ at + length p → ComplainsIn r at ss c → ComplainsIn r at ts c
+  pub agree_all : (ss ts : Spellings) → AreSpelled ss → AreSpelled ts → (w : Width) → told w (spellings_count ss) ≡ told w (spellings_count ts) → (p : List ℕ) → Both (spell_all ss ++ break_of w) (spell_all ts ++ break_of w) p → (r : Rules) (at : ℕ) (c : Complaint) → c.end ≤ at + length p → ComplainsIn r at ss c → ComplainsIn r at ts c
   agree_all no_spellings ts i j w n p both r at c l h = absurd h
   agree_all (a_spelling s ss) no_spellings i j w n p both r at c l h =
       let some = later_in (a_spelling s ss) r at c h in
-      absurd (not_closed s i.0 w (told_none w (spellings_count ss) n) (spell_all ss ++ closer w) p (recut p (append_assoc (spell s) (spell_all ss) (closer w)) refl both) (omega arith))
+      absurd (not_closed s i.0 w (told_none w (spellings_count ss) n) (spell_all ss ++ break_of w) p (recut p (append_assoc (spell s) (spell_all ss) (break_of w)) refl both) (omega arith))
   agree_all (a_spelling s ss) (a_spelling t ts) i j w n p both r at c l (inl h) =
-      let b = recut p (append_assoc (spell s) (spell_all ss) (closer w)) (append_assoc (spell t) (spell_all ts) (closer w)) both in
-      inl (agree s t i.0 j.0 p (front_both (spell s) (spell_all ss ++ closer w) (spell t) (spell_all ts ++ closer w) p b) r at c l h)
+      let b = recut p (append_assoc (spell s) (spell_all ss) (break_of w)) (append_assoc (spell t) (spell_all ts) (break_of w)) both in
+      inl (agree s t i.0 j.0 p (front_both (spell s) (spell_all ss ++ break_of w) (spell t) (spell_all ts ++ break_of w) p b) r at c l h)
   agree_all (a_spelling s ss) (a_spelling t ts) i j w n p both r at c l (inr h) =
-      let b = recut p (append_assoc (spell s) (spell_all ss) (closer w)) (append_assoc (spell t) (spell_all ts) (closer w)) both in
+      let b = recut p (append_assoc (spell s) (spell_all ss) (break_of w)) (append_assoc (spell t) (spell_all ts) (break_of w)) both in
       let end = later_in ss r (at + length (spell s)) c h in
-      let q = past_item s t i.0 j.0 (spell_all ss ++ closer w) (spell_all ts ++ closer w) p b (omega arith) in
-      let len = past_length (spell s) (spell_all ss ++ closer w) (spell_all ts ++ closer w) p (s ≡ t) q in
+      let q = past_item s t i.0 j.0 (spell_all ss ++ break_of w) (spell_all ts ++ break_of w) p b (omega arith) in
+      let len = past_length (spell s) (spell_all ss ++ break_of w) (spell_all ts ++ break_of w) p (s ≡ t) q in
       inr (subst (λ (o : Spelling). ComplainsIn r (at + length (spell o)) ts c) q.same (agree_all ss ts i.1 j.1 w (told_less w (spellings_count ss) (spellings_count ts) n) q.k q.both r (at + length (spell s)) c (omega arith) h))
 
-  pub agree_entries : (es fs : SpelledEntries) (before : List Spelling) → AreEntriesSpelled es → AreEntriesSpelled fs → (w : Width) → told w (entries_count es) ≡ told w (entries_count fs) → (p : List ℕ) → Both (spell_entries es ++ closer w) (spell_entries fs ++ closer w) p → (r : Rules) (at : ℕ) (c : Complaint) → c.end ≤ at + length p → ComplainsInEntries r at before es c → ComplainsInEntries r at before fs c
+  pub agree_entries : (es fs : SpelledEntries) (before : List Spelling) → AreEntriesSpelled es → AreEntriesSpelled fs → (w : Width) → told w (entries_count es) ≡ told w (entries_count fs) → (p : List ℕ) → Both (spell_entries es ++ break_of w) (spell_entries fs ++ break_of w) p → (r : Rules) (at : ℕ) (c : Complaint) → c.end ≤ at + length p → ComplainsInEntries r at before es c → ComplainsInEntries r at before fs c
   agree_entries no_entries fs before i j w n p both r at c l h = absurd h
   agree_entries (entry k v es) no_entries before i j w n p both r at c l h =
       let some = later_entries (entry k v es) before r at c h in
-      absurd (not_closed k i.0 w (told_none w (entries_count es) n) (spell v ++ (spell_entries es ++ closer w)) p (recut p (pairs_assoc (spell k) (spell v) (spell_entries es) (closer w)) refl both) (omega arith))
+      absurd (not_closed k i.0 w (told_none w (entries_count es) n) (spell v ++ (spell_entries es ++ break_of w)) p (recut p (pairs_assoc (spell k) (spell v) (spell_entries es) (break_of w)) refl both) (omega arith))
   agree_entries (entry k v es) (entry m o fs) before i j w n p both r at c l (inl h) =
-      let b = recut p (pairs_assoc (spell k) (spell v) (spell_entries es) (closer w)) (pairs_assoc (spell m) (spell o) (spell_entries fs) (closer w)) both in
-      inl (agree k m i.0 j.0 p (front_both (spell k) (spell v ++ (spell_entries es ++ closer w)) (spell m) (spell o ++ (spell_entries fs ++ closer w)) p b) r at c l h)
+      let b = recut p (pairs_assoc (spell k) (spell v) (spell_entries es) (break_of w)) (pairs_assoc (spell m) (spell o) (spell_entries fs) (break_of w)) both in
+      inl (agree k m i.0 j.0 p (front_both (spell k) (spell v ++ (spell_entries es ++ break_of w)) (spell m) (spell o ++ (spell_entries fs ++ break_of w)) p b) r at c l h)
   agree_entries (entry k v es) (entry m o fs) before i j w n p both r at c l (inr (inl h)) =
-      let b = recut p (pairs_assoc (spell k) (spell v) (spell_entries es) (closer w)) (pairs_assoc (spell m) (spell o) (spell_entries fs) (closer w)) both in
+      let b = recut p (pairs_assoc (spell k) (spell v) (spell_entries es) (break_of w)) (pairs_assoc (spell m) (spell o) (spell_entries fs) (break_of w)) both in
       let end = key_end r at before k c h in
-      let q = past_item k m i.0 j.0 (spell v ++ (spell_entries es ++ closer w)) (spell o ++ (spell_entries fs ++ closer w)) p b (omega arith) in
+      let q = past_item k m i.0 j.0 (spell v ++ (spell_entries es ++ break_of w)) (spell o ++ (spell_entries fs ++ break_of w)) p b (omega arith) in
       inr (inl (subst (λ (k : Spelling). OfKey r at before k c) q.same h))
   agree_entries (entry k v es) (entry m o fs) before i j w n p both r at c l (inr (inr (inl h))) =
-      let b = recut p (pairs_assoc (spell k) (spell v) (spell_entries es) (closer w)) (pairs_assoc (spell m) (spell o) (spell_entries fs) (closer w)) both in
+      let b = recut p (pairs_assoc (spell k) (spell v) (spell_entries es) (break_of w)) (pairs_assoc (spell m) (spell o) (spell_entries fs) (break_of w)) both in
       let end = later v r (at + length (spell k)) c h in
-      let q = past_item k m i.0 j.0 (spell v ++ (spell_entries es ++ closer w)) (spell o ++ (spell_entries fs ++ closer w)) p b (omega arith) in
-      let len = past_length (spell k) (spell v ++ (spell_entries es ++ closer w)) (spell o ++ (spell_entries fs ++ closer w)) p (k ≡ m) q in
-      let f = front_both (spell v) (spell_entries es ++ closer w) (spell o) (spell_entries fs ++ closer w) q.k q.both in
+      let q = past_item k m i.0 j.0 (spell v ++ (spell_entries es ++ break_of w)) (spell o ++ (spell_entries fs ++ break_of w)) p b (omega arith) in
+      let len = past_length (spell k) (spell v ++ (spell_entries es ++ break_of w)) (spell o ++ (spell_entries fs ++ break_of w)) p (k ≡ m) q in
+      let f = front_both (spell v) (spell_entries es ++ break_of w) (spell o) (spell_entries fs ++ break_of w) q.k q.both in
       inr (inr (inl (subst (λ (k : Spelling). Complains r (at + length (spell k)) o c) q.same (agree v o i.1 j.1 q.k f r (at + length (spell k)) c (omega arith) h))))
   agree_entries (entry k v es) (entry m o fs) before i j w n p both r at c l (inr (inr (inr h))) =
-      let b = recut p (pairs_assoc (spell k) (spell v) (spell_entries es) (closer w)) (pairs_assoc (spell m) (spell o) (spell_entries fs) (closer w)) both in
+      let b = recut p (pairs_assoc (spell k) (spell v) (spell_entries es) (break_of w)) (pairs_assoc (spell m) (spell o) (spell_entries fs) (break_of w)) both in
       let end = later_entries es (k ∷ before) r (at + length (spell k) + length (spell v)) c h in
-      let q = past_item k m i.0 j.0 (spell v ++ (spell_entries es ++ closer w)) (spell o ++ (spell_entries fs ++ closer w)) p b (omega arith) in
-      let len = past_length (spell k) (spell v ++ (spell_entries es ++ closer w)) (spell o ++ (spell_entries fs ++ closer w)) p (k ≡ m) q in
-      let q2 = past_item v o i.1 j.1 (spell_entries es ++ closer w) (spell_entries fs ++ closer w) q.k q.both (omega arith) in
-      let len2 = past_length (spell v) (spell_entries es ++ closer w) (spell_entries fs ++ closer w) q.k (v ≡ o) q2 in
+      let q = past_item k m i.0 j.0 (spell v ++ (spell_entries es ++ break_of w)) (spell o ++ (spell_entries fs ++ break_of w)) p b (omega arith) in
+      let len = past_length (spell k) (spell v ++ (spell_entries es ++ break_of w)) (spell o ++ (spell_entries fs ++ break_of w)) p (k ≡ m) q in
+      let q2 = past_item v o i.1 j.1 (spell_entries es ++ break_of w) (spell_entries fs ++ break_of w) q.k q.both (omega arith) in
+      let len2 = past_length (spell v) (spell_entries es ++ break_of w) (spell_entries fs ++ break_of w) q.k (v ≡ o) q2 in
       let more = agree_entries es fs (k ∷ before) i.2 j.2 w (told_less w (entries_count es) (entries_count fs) n) q2.k q2.both r (at + length (spell k) + length (spell v)) c (omega arith) h in
       inr (inr (inr (subst (λ (k : Spelling). ComplainsInEntries r (at + length (spell k) + length (spell o)) (k ∷ before) fs c) q.same
       (subst (λ (v : Spelling). ComplainsInEntries r (at + length (spell k) + length (spell v)) (k ∷ before) fs c) q2.same more))))

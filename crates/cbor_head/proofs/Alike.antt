@@ -1,7 +1,7 @@
 -- Byte lists and items that begin alike, up to where they differ.
 use Rattle.std.proofs.Common.{ℕ, ◌+◌, ◌≡◌, ◌<◌, ◌≤◌, List, [], ◌∷◌, ◌++◌, length, Some, None, refl, sym, ap, ◌∙◌, arith, subst}
 use Rattle.std.proofs.lemmas.List.{length-append, append_assoc}
-use Rattle.cbor_head.specs.Spelling.{Spelling, spell, IsSpelled, depth, closer}
+use Rattle.cbor_head.specs.Spelling.{Spelling, spell, IsSpelled, depth, break_of}
 use Rattle.cbor_head.specs.Read.{read}
 use Rattle.cbor_head.specs.declared.width.Width.{Width}
 use Rattle.cbor_head.specs.declared.width.Width.TheVariants.{Indefinite}
@@ -97,5 +97,5 @@ not_break s h a b (q ∷ p) both l =
     cc none
 
 -- where one has more, the other has no break
-pub not_closed : (s : Spelling) → IsSpelled s → (w : Width) → w ≡ Indefinite → (a p : List ℕ) → Both (spell s ++ a) (closer w) p → 0 < length p → ⊥
-not_closed s h w e a p both l = not_break s h a [] p (subst (λ (w : Width). Both (spell s ++ a) (closer w) p) e both) l
+pub not_closed : (s : Spelling) → IsSpelled s → (w : Width) → w ≡ Indefinite → (a p : List ℕ) → Both (spell s ++ a) (break_of w) p → 0 < length p → ⊥
+not_closed s h w e a p both l = not_break s h a [] p (subst (λ (w : Width). Both (spell s ++ a) (break_of w) p) e both) l

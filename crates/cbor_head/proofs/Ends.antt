@@ -2,7 +2,7 @@
 use Rattle.std.proofs.Common.{ℕ, ◌+◌, ◌≡◌, ◌<◌, ◌≤◌, List, [], ◌∷◌, length, ap, arith, inl, inr}
 use Rattle.cbor_head.specs.Head.{head}
 use Rattle.cbor_head.specs.Spelling.{Chunk, Spelling, Spellings, SpelledEntries, unsigned, negative, bytes, text, byte_chunks, text_chunks, array, a_map, tag, simple, no_spellings, a_spelling, no_entries, entry, spell, spellings_count, entries_count, chunk_bytes}
-use Rattle.cbor_head.specs.Complaint.{Rules, form, plain, strict, Complaint, OfHead, OfOpener, OfCount, OfPayload, OfString, OfChunks, OfKey, Complains, ComplainsIn, ComplainsInEntries}
+use Rattle.cbor_head.specs.Complaint.{Rules, form, plain, strict, Complaint, OfHead, OfIndefinite, OfCount, OfPayload, OfString, OfChunks, OfKey, Complains, ComplainsIn, ComplainsInEntries}
 use Rattle.cbor_head.specs.declared.major.Major.{Major}
 use Rattle.cbor_head.specs.declared.major.Major.TheVariants.{Unsigned, Negative, Bytes, Text, Array, Map, Tag}
 use Rattle.cbor_head.specs.declared.width.Width.{Width}
@@ -17,7 +17,7 @@ head_end _ at m w n c h = absurd h
 pub head_later : (r : Rules) (at : ℕ) (m : Major) (w : Width) (n : ℕ) (c : Complaint) → OfHead r at m w n c → at + length (head m w n) ≤ c.end
 head_later r at m w n c h = let e = head_end r at m w n c h in omega arith
 
-opener_later : (r : Rules) (at : ℕ) (c : Complaint) → OfOpener r at c → at + 1 ≤ c.end
+opener_later : (r : Rules) (at : ℕ) (c : Complaint) → OfIndefinite r at c → at + 1 ≤ c.end
 opener_later (strict o) at c h = let e : c.end ≡ at + 1 = ap (λ (c : Complaint). c.end) h in omega arith
 opener_later _ at c h = absurd h
 

@@ -8,7 +8,7 @@ use Rattle.std.specs.Int.{byte_at, bytes_high_first}
 use Rattle.byteorder.specs.Endian.{big_number, big_bytes, big_from}
 use Rattle.byteorder.specs.Numbers.{big_number-reads_back, length-bytes_high_first, big_from-cons, big_from-lt, big_from-take}
 use Rattle.cbor_head.specs.Head.{head, major_number}
-use Rattle.cbor_head.specs.Spelling.{HoldsOrOpen}
+use Rattle.cbor_head.specs.Spelling.{HoldsOrIndefinite}
 use Rattle.cbor_head.specs.Read.{◌>>=◌, Front, front, major_of, numbered, with_low, read_head}
 use Rattle.cbor_head.specs.declared.major.Major.{Major}
 use Rattle.cbor_head.specs.declared.width.Width.{Width}
@@ -74,7 +74,7 @@ bind_some (Some x) f y e = (x, refl, e)
 
 -- h is what b begins with
 pub record IsFront (b : List ℕ) (h : Front) : Type 0 where
-  pub holds : HoldsOrOpen h.width h.argument
+  pub holds : HoldsOrIndefinite h.width h.argument
   pub tells : told h.width h.argument ≡ h.argument
   pub bytes_are : head h.major h.width h.argument ++ h.rest ≡ b
 
@@ -93,7 +93,7 @@ first_kept : (b : ℕ) → b < 256 → 32 * major_number (major_of (b / 32)) + b
 first_kept b h = rw (major_kept (b / 32) (omega arith)) (omega arith)
 
 numbered_front : (b : ℕ) (m : Major) (w : Width) (k : ℕ) (bs : List ℕ) (h : Front) → ByPlace bs
-    → ((n : ℕ) → n < 256 ^ k → HoldsOrOpen w n) → ((n : ℕ) → told w n ≡ n) → ((n : ℕ) → head m w n ≡ b ∷ big_bytes k n)
+    → ((n : ℕ) → n < 256 ^ k → HoldsOrIndefinite w n) → ((n : ℕ) → told w n ≡ n) → ((n : ℕ) → head m w n ≡ b ∷ big_bytes k n)
     → numbered m w k bs ≡ Some h → IsFront (b ∷ bs) h
 numbered_front b m w k bs h small holds tells spelled e =
     elim (chosen (nat_le k (length bs)) (Some (front m w (big_number k bs) (drop k bs))) None (Some h) e) [

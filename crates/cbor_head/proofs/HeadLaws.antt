@@ -6,7 +6,7 @@ use Rattle.std.proofs.lemmas.List.{length-append}
 use Rattle.byteorder.specs.Endian.{big_number, big_bytes}
 use Rattle.byteorder.specs.Numbers.{big_number-reads_back, length-bytes_high_first}
 use Rattle.cbor_head.specs.Head.{head, Holds, major_number}
-use Rattle.cbor_head.specs.Spelling.{HoldsOrOpen}
+use Rattle.cbor_head.specs.Spelling.{HoldsOrIndefinite}
 use Rattle.cbor_head.specs.Read.{front, major_of, numbered, with_low, read_head}
 use Rattle.cbor_head.specs.declared.major.Major.{Major}
 use Rattle.cbor_head.specs.declared.major.Major.TheVariants.{Unsigned, Negative, Bytes, Text, Array, Map, Tag, Simple}
@@ -55,7 +55,7 @@ numbered_of m w k n ys x e number =
 numbered_back : (m : Major) (w : Width) (k n : ℕ) (x : List ℕ) → n < 256 ^ k → numbered m w k (big_bytes k n ++ x) ≡ Some (front m w n x)
 numbered_back m w k n x h = numbered_of m w k n (big_bytes k n) x (length-bytes_high_first k n) (big_number-reads_back k n x h)
 
-pub read_head-head : (m : Major) (w : Width) (n : ℕ) (x : List ℕ) → HoldsOrOpen w n → read_head (head m w n ++ x) ≡ Some (front m w (told w n) x)
+pub read_head-head : (m : Major) (w : Width) (n : ℕ) (x : List ℕ) → HoldsOrIndefinite w n → read_head (head m w n ++ x) ≡ Some (front m w (told w n) x)
 read_head-head m Direct n x h = first m n x (omega arith) ∙ direct m n x h
 read_head-head m One n x h = first m 24 (big_bytes 1 n ++ x) (omega arith) ∙ numbered_back m One 1 n x h
 read_head-head m Two n x h = first m 25 (big_bytes 2 n ++ x) (omega arith) ∙ numbered_back m Two 2 n x h

@@ -3,8 +3,8 @@ use Rattle.std.proofs.Common.{ℕ, ◌+◌, ◌≡◌, ◌<◌, ◌≤◌, List,
 use Rattle.std.proofs.lemmas.List.{length-append}
 use Rattle.std.proofs.lemmas.Str.{IsUtf8-nil}
 use Rattle.cbor_head.specs.Head.{head}
-use Rattle.cbor_head.specs.Spelling.{Chunk, Spelling, Spellings, SpelledEntries, unsigned, negative, bytes, text, byte_chunks, text_chunks, array, a_map, tag, simple, no_spellings, a_spelling, no_entries, entry, spell, spell_all, spell_entries, spellings_count, entries_count, chunk_bytes, closer, IsItem}
-use Rattle.cbor_head.specs.Complaint.{Rules, form, plain, strict, Complaint, OfHead, OfOpener, OfCount, OfPayload, OfString, OfChunks, OfKey, Complains, ComplainsIn, ComplainsInEntries}
+use Rattle.cbor_head.specs.Spelling.{Chunk, Spelling, Spellings, SpelledEntries, unsigned, negative, bytes, text, byte_chunks, text_chunks, array, a_map, tag, simple, no_spellings, a_spelling, no_entries, entry, spell, spell_all, spell_entries, spellings_count, entries_count, chunk_bytes, break_of, IsItem}
+use Rattle.cbor_head.specs.Complaint.{Rules, form, plain, strict, Complaint, OfHead, OfIndefinite, OfCount, OfPayload, OfString, OfChunks, OfKey, Complains, ComplainsIn, ComplainsInEntries}
 use Rattle.cbor_head.specs.Verdict.{rank, IsFirstComplaint}
 use Rattle.cbor_head.specs.declared.major.Major.{Major}
 use Rattle.cbor_head.specs.declared.major.Major.TheVariants.{Unsigned, Negative, Bytes, Text, Array, Map, Tag}
@@ -23,7 +23,7 @@ head_last : (r : Rules) (at : ℕ) (m : Major) (w : Width) (n : ℕ) (c : Compla
 head_last (strict o) at m w n c h = ap last h.1 ∙ omega arith
 head_last _ at m w n c h = absurd h
 
-opener_last : (r : Rules) (at : ℕ) (c : Complaint) → OfOpener r at c → last c ≡ at + 1
+opener_last : (r : Rules) (at : ℕ) (c : Complaint) → OfIndefinite r at c → last c ≡ at + 1
 opener_last (strict o) at c h = ap last h ∙ omega arith
 opener_last _ at c h = absurd h
 
@@ -70,10 +70,10 @@ mutual
   bounded (byte_chunks cs) r at c (inr h) = omega (arith, chunks_last r (at + 1) Bytes cs c h, length-three (head Bytes Indefinite 0) (flat_map (chunk_bytes Bytes) cs) (0xff ∷ []))
   bounded (text_chunks cs) r at c (inl h) = omega (arith, opener_last r at c h, length-three (head Text Indefinite 0) (flat_map (chunk_bytes Text) cs) (0xff ∷ []))
   bounded (text_chunks cs) r at c (inr h) = omega (arith, chunks_last r (at + 1) Text cs c h, length-three (head Text Indefinite 0) (flat_map (chunk_bytes Text) cs) (0xff ∷ []))
-  bounded (array w ss) r at c (inl h) = omega (arith, count_last r at Array w (spellings_count ss) c h, length-three (head Array w (spellings_count ss)) (spell_all ss) (closer w))
-  bounded (array w ss) r at c (inr h) = omega (arith, bounded_in ss r (at + length (head Array w (spellings_count ss))) c h, length-three (head Array w (spellings_count ss)) (spell_all ss) (closer w))
-  bounded (a_map w es) r at c (inl h) = omega (arith, count_last r at Map w (entries_count es) c h, length-three (head Map w (entries_count es)) (spell_entries es) (closer w))
-  bounded (a_map w es) r at c (inr h) = omega (arith, bounded_entries es [] r (at + length (head Map w (entries_count es))) c h, length-three (head Map w (entries_count es)) (spell_entries es) (closer w))
+  bounded (array w ss) r at c (inl h) = omega (arith, count_last r at Array w (spellings_count ss) c h, length-three (head Array w (spellings_count ss)) (spell_all ss) (break_of w))
+  bounded (array w ss) r at c (inr h) = omega (arith, bounded_in ss r (at + length (head Array w (spellings_count ss))) c h, length-three (head Array w (spellings_count ss)) (spell_all ss) (break_of w))
+  bounded (a_map w es) r at c (inl h) = omega (arith, count_last r at Map w (entries_count es) c h, length-three (head Map w (entries_count es)) (spell_entries es) (break_of w))
+  bounded (a_map w es) r at c (inr h) = omega (arith, bounded_entries es [] r (at + length (head Map w (entries_count es))) c h, length-three (head Map w (entries_count es)) (spell_entries es) (break_of w))
   bounded (tag w n s) r at c (inl h) = omega (arith, head_last r at Tag w n c h, length-append (head Tag w n) (spell s))
   bounded (tag w n s) r at c (inr h) = omega (arith, bounded s r (at + length (head Tag w n)) c h, length-append (head Tag w n) (spell s))
   bounded (simple n) r at c h = absurd h
@@ -95,7 +95,7 @@ same_head : (r : Rules) (at : ℕ) (m : Major) (w : Width) (n : ℕ) (c e : Comp
 same_head (strict o) at m w n c e h i = h.1 ∙ sym i.1
 same_head _ at m w n c e h i = absurd h
 
-same_opener : (r : Rules) (at : ℕ) (c e : Complaint) → OfOpener r at c → OfOpener r at e → c ≡ e
+same_opener : (r : Rules) (at : ℕ) (c e : Complaint) → OfIndefinite r at c → OfIndefinite r at e → c ≡ e
 same_opener (strict o) at c e h i = h ∙ sym i
 same_opener _ at c e h i = absurd h
 

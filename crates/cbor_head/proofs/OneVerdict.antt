@@ -3,7 +3,7 @@ use Rattle.std.proofs.Common.{ℕ, ◌+◌, ◌≡◌, List, [], ◌∷◌, ◌+
 use Rattle.std.proofs.lemmas.List.{append_cancel_left}
 use Rattle.cbor_head.specs.Spelling.{Spelling, spell, IsItem}
 use Rattle.cbor_head.specs.Complaint.{Rules, Complaint}
-use Rattle.cbor_head.specs.Verdict.{refusal, Answer, accepted, refused, BreaksForm, IsBreak, IsWithout, Decides, IsVerdict}
+use Rattle.cbor_head.specs.Verdict.{refusal, Answer, accepted, refused, IsReasonAt, IsFormError, IsWithout, Decides, IsVerdict}
 use Rattle.cbor_head.specs.declared.reason.Refusal.{Refusal}
 use Rattle.cbor_head.specs.declared.reason.Reason.{Reason}
 use Rattle.cbor_head.proofs.Agree.{same_complaints}
@@ -11,7 +11,7 @@ use Rattle.cbor_head.proofs.OneFirst.{one_first, first_for_each}
 use Rattle.cbor_head.proofs.Verdicts.{longest_one, item_one}
 
 -- why c may not follow p is one reason
-one_reason : (d : ℕ) (p : List ℕ) (c : ℕ) (q r : Reason) → BreaksForm d p c q → BreaksForm d p c r → q ≡ r
+one_reason : (d : ℕ) (p : List ℕ) (c : ℕ) (q r : Reason) → IsReasonAt d p c q → IsReasonAt d p c r → q ≡ r
 one_reason d p c q r (inl h) (inl i) = h.1 ∙ sym i.1
 one_reason d p c q r (inl h) (inr (inl i)) = absurd (i.0 h.0)
 one_reason d p c q r (inl h) (inr (inr i)) = absurd (i.0 h.0)
@@ -22,8 +22,8 @@ one_reason d p c q r (inr (inr h)) (inl i) = absurd (h.0 i.0)
 one_reason d p c q r (inr (inr h)) (inr (inl i)) = absurd (h.1 i.1)
 one_reason d p c q r (inr (inr h)) (inr (inr i)) = h.2 ∙ sym i.2
 
--- a break of form is one refusal
-pub one_break : (d n : ℕ) (p behind : List ℕ) (f g : Refusal) → IsBreak d n p behind f → IsBreak d n p behind g → f ≡ g
+-- a form error is one refusal
+pub one_break : (d n : ℕ) (p behind : List ℕ) (f g : Refusal) → IsFormError d n p behind f → IsFormError d n p behind g → f ≡ g
 one_break d n p [] f g (inl h) (inl i) = h.1 ∙ sym i.1
 one_break d n p [] f g (inl h) (inr i) = absurd (omega (arith, h.0, i.0))
 one_break d n p [] f g (inr h) (inl i) = absurd (omega (arith, h.0, i.0))

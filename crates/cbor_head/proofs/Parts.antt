@@ -3,7 +3,7 @@ use Rattle.std.proofs.Common.{ℕ, ◌≡◌, List, [], ◌∷◌, ◌++◌, len
 use Rattle.std.proofs.lemmas.List.{append_assoc, append-nil}
 use Rattle.std.proofs.lemmas.Bool.{cases_lt, lt-ltb, le-ltb}
 use Rattle.cbor_head.specs.Head.{head, Holds, IsSimple, shortest}
-use Rattle.cbor_head.specs.Spelling.{Chunk, Spelling, Spellings, SpelledEntries, unsigned, negative, bytes, text, byte_chunks, text_chunks, array, a_map, tag, simple, spell, spell_all, spell_entries, spellings_count, entries_count, IsSpelled, HoldsOrOpen, chunk_bytes, closer}
+use Rattle.cbor_head.specs.Spelling.{Chunk, Spelling, Spellings, SpelledEntries, unsigned, negative, bytes, text, byte_chunks, text_chunks, array, a_map, tag, simple, spell, spell_all, spell_entries, spellings_count, entries_count, IsSpelled, HoldsOrIndefinite, chunk_bytes, break_of}
 use Rattle.cbor_head.specs.Read.{Front, front, read_head}
 use Rattle.cbor_head.specs.declared.major.Major.{Major}
 use Rattle.cbor_head.specs.declared.major.Major.TheVariants.{Unsigned, Negative, Bytes, Text, Array, Map, Tag, Simple}
@@ -59,8 +59,8 @@ body (bytes w p) = p
 body (text w p) = p
 body (byte_chunks cs) = flat_map (chunk_bytes Bytes) cs ++ (0xff ∷ [])
 body (text_chunks cs) = flat_map (chunk_bytes Text) cs ++ (0xff ∷ [])
-body (array w ss) = spell_all ss ++ closer w
-body (a_map w es) = spell_entries es ++ closer w
+body (array w ss) = spell_all ss ++ break_of w
+body (a_map w es) = spell_entries es ++ break_of w
 body (tag w n s) = spell s
 body (simple n) = []
 
@@ -75,18 +75,18 @@ parts (bytes w p) = refl
 parts (text w p) = refl
 parts (byte_chunks cs) = append_assoc (head Bytes Indefinite 0) (flat_map (chunk_bytes Bytes) cs) (0xff ∷ [])
 parts (text_chunks cs) = append_assoc (head Text Indefinite 0) (flat_map (chunk_bytes Text) cs) (0xff ∷ [])
-parts (array w ss) = append_assoc (head Array w (spellings_count ss)) (spell_all ss) (closer w)
-parts (a_map w es) = append_assoc (head Map w (entries_count es)) (spell_entries es) (closer w)
+parts (array w ss) = append_assoc (head Array w (spellings_count ss)) (spell_all ss) (break_of w)
+parts (a_map w es) = append_assoc (head Map w (entries_count es)) (spell_entries es) (break_of w)
 parts (tag w n s) = refl
 parts (simple n) = sym (append-nil (head Simple (shortest n) n))
 
-simple_holds : (n : ℕ) → IsSimple n → HoldsOrOpen (shortest n) n
+simple_holds : (n : ℕ) → IsSimple n → HoldsOrIndefinite (shortest n) n
 simple_holds n h = elim (cases_lt n 24) [
   | inl l ↦ rw (lt-ltb n 24 l) l
   | inr l ↦ rw (le-ltb n 24 l, lt-ltb n 256 h.0) h.0
 ]
 
-pub holds_of : (s : Spelling) → IsSpelled s → HoldsOrOpen (width s) (count s)
+pub holds_of : (s : Spelling) → IsSpelled s → HoldsOrIndefinite (width s) (count s)
 holds_of (unsigned w n) h = holds_or_open w n h
 holds_of (negative w n) h = holds_or_open w n h
 holds_of (bytes w p) h = holds_or_open w (length p) h.0
@@ -107,7 +107,7 @@ same_front f g e = cc e
 abbrev pub SameHead : Major → Width → ℕ → Major → Width → ℕ → Type 0
 SameHead m w n o v i = (m ≡ o) × (w ≡ v) × (told w n ≡ told v i)
 
-pub one_head : (m : Major) (w : Width) (n : ℕ) (o : Major) (v : Width) (i : ℕ) → HoldsOrOpen w n → HoldsOrOpen v i → (x y : List ℕ) → head m w n ++ x ≡ head o v i ++ y → SameHead m w n o v i × (x ≡ y)
+pub one_head : (m : Major) (w : Width) (n : ℕ) (o : Major) (v : Width) (i : ℕ) → HoldsOrIndefinite w n → HoldsOrIndefinite v i → (x y : List ℕ) → head m w n ++ x ≡ head o v i ++ y → SameHead m w n o v i × (x ≡ y)
 one_head m w n o v i h j x y e =
     let f = same_front (front m w (told w n) x) (front o v (told v i) y) (sym (read_head-head m w n x h) ∙ ap read_head e ∙ read_head-head o v i y j) in
     ((ap (λ (g : Front). g.major) f, ap (λ (g : Front). g.width) f, ap (λ (g : Front). g.argument) f), ap (λ (g : Front). g.rest) f)

@@ -4,7 +4,7 @@ use Rattle.std.specs.List.{AllByRecursion}
 use Rattle.std.proofs.lemmas.Bool.{lt-ltb, le-ltb, leb-true, eqb-true}
 use Rattle.std.proofs.lemmas.List.{append_assoc, length-take-le, take-append-drop}
 use Rattle.cbor_head.specs.Head.{head, Holds, major_number, shortest}
-use Rattle.cbor_head.specs.Spelling.{Chunk, Spelling, Spellings, SpelledEntries, bytes, text, byte_chunks, text_chunks, array, a_map, tag, simple, no_spellings, a_spelling, no_entries, entry, spell, spell_all, spell_entries, spellings_count, entries_count, IsSpelled, AreSpelled, AreEntriesSpelled, depth, depth_all, depth_entries, IsChunk, HoldsOrOpen, chunk_bytes, chunked, closer, string_bytes_of}
+use Rattle.cbor_head.specs.Spelling.{Chunk, Spelling, Spellings, SpelledEntries, bytes, text, byte_chunks, text_chunks, array, a_map, tag, simple, no_spellings, a_spelling, no_entries, entry, spell, spell_all, spell_entries, spellings_count, entries_count, IsSpelled, AreSpelled, AreEntriesSpelled, depth, depth_all, depth_entries, IsChunk, HoldsOrIndefinite, chunk_bytes, chunked, break_of, string_bytes_of}
 use Rattle.cbor_head.specs.Value.{AreBytes}
 use Rattle.cbor_head.specs.Read.{◌>>=◌, either, Front, front, read_head, payload, is_break, same_major, chunk, read_chunk, read_chunks, Reader, read_many, read_pairs, past_break, read_until, read_pairs_until, leaf, nest, or_else, read, major_of}
 use Rattle.cbor_head.specs.declared.major.Major.{Major}
@@ -65,7 +65,7 @@ same_major-eq : (m o : Major) → same_major m o ≡ true → m ≡ o
 same_major-eq m o e = sym (major_back m) ∙ ap major_of (eqb-true (major_number m) (major_number o) e) ∙ major_back o
 
 -- a chunk
-chunk_from : (m : Major) (w : Width) (n : ℕ) (bs : List ℕ) (r : Chunk × List ℕ) → HoldsOrOpen w n → ByPlace bs → chunk w n bs ≡ Some r → IsChunk r.0 × (chunk_bytes m r.0 ++ r.1 ≡ head m w n ++ bs)
+chunk_from : (m : Major) (w : Width) (n : ℕ) (bs : List ℕ) (r : Chunk × List ℕ) → HoldsOrIndefinite w n → ByPlace bs → chunk w n bs ≡ Some r → IsChunk r.0 × (chunk_bytes m r.0 ++ r.1 ≡ head m w n ++ bs)
 chunk_from m Indefinite n bs r h small e = absurd (cc e)
 chunk_from m w n bs r h small e =
     let p = payload_from n bs (λ q. record { width = w; payload = q }) r e in
@@ -146,7 +146,7 @@ simple_fits d n bs r h (inl p) =
     subst (Fits d (head Simple One n ++ bs)) (some_same p.1) (record { spelled = (h, λ m. large); within = omega arith; bytes_are = ap (λ (w : Width). head Simple w n ++ bs) is })
 simple_fits d n bs r h (inr p) = absurd (cc p.1)
 
-leaf_fits : (d : ℕ) (m : Major) (w : Width) (n : ℕ) (bs : List ℕ) (r : Spelling × List ℕ) → HoldsOrOpen w n → ByPlace bs → leaf m w n bs ≡ Some r → Fits d (head m w n ++ bs) r
+leaf_fits : (d : ℕ) (m : Major) (w : Width) (n : ℕ) (bs : List ℕ) (r : Spelling × List ℕ) → HoldsOrIndefinite w n → ByPlace bs → leaf m w n bs ≡ Some r → Fits d (head m w n ++ bs) r
 leaf_fits d Unsigned Indefinite n bs r h small e = absurd (cc e)
 leaf_fits d Unsigned w n bs r h small e = subst (Fits d (head Unsigned w n ++ bs)) (some_same e) (record { spelled = h; within = omega arith; bytes_are = refl })
 leaf_fits d Negative Indefinite n bs r h small e = absurd (cc e)
@@ -272,12 +272,12 @@ pairs_until_fit d one exact zero bs r small e = absurd (cc e)
 pairs_until_fit d one exact (suc k) bs r small e = pairs_until_step d one k bs r small exact (λ b l q g. pairs_until_fit d one exact k b q l g) (one bs) refl e
 
 -- a count that was read
-counted : (m : Major) (w : Width) (n c : ℕ) (body stop rest bs : List ℕ) → c ≡ n → stop ≡ closer w → body ++ (stop ++ rest) ≡ bs → (head m w c ++ body ++ closer w) ++ rest ≡ head m w n ++ bs
+counted : (m : Major) (w : Width) (n c : ℕ) (body stop rest bs : List ℕ) → c ≡ n → stop ≡ break_of w → body ++ (stop ++ rest) ≡ bs → (head m w c ++ body ++ break_of w) ++ rest ≡ head m w n ++ bs
 counted m w n c body stop rest bs e f g =
-    append_assoc (head m w c ++ body) (closer w) rest ∙ append_assoc (head m w c) body (closer w ++ rest)
+    append_assoc (head m w c ++ body) (break_of w) rest ∙ append_assoc (head m w c) body (break_of w ++ rest)
     ∙ ap (λ (l : List ℕ). head m w c ++ (body ++ (l ++ rest))) (sym f) ∙ ap (λ (l : List ℕ). head m w c ++ l) g ∙ ap (λ (k : ℕ). head m w k ++ bs) e
 
-nest_fits : (d : ℕ) (one : Reader) → IsExact d one → (m : Major) (w : Width) (n : ℕ) (bs : List ℕ) (r : Spelling × List ℕ) → HoldsOrOpen w n → ByPlace bs → nest one m w n bs ≡ Some r → Fits (suc d) (head m w n ++ bs) r
+nest_fits : (d : ℕ) (one : Reader) → IsExact d one → (m : Major) (w : Width) (n : ℕ) (bs : List ℕ) (r : Spelling × List ℕ) → HoldsOrIndefinite w n → ByPlace bs → nest one m w n bs ≡ Some r → Fits (suc d) (head m w n ++ bs) r
 nest_fits d one exact Array Indefinite n bs r h small e =
     let (ss, got, f) = bind_some (read_until one (length bs) bs) (λ ss. Some (array Indefinite ss.0, ss.1)) r e in
     let k = until_fit d one exact (length bs) bs ss small got in
@@ -292,7 +292,7 @@ nest_fits d one exact Array w n bs r h small e =
     let k = many_fit d one exact n bs ss small got in
     let deep = k.0.within in
     subst (Fits (suc d) (head Array w n ++ bs)) (some_same f) (record {
-      spelled = (subst (HoldsOrOpen w) (sym k.1) h, k.0.spelled);
+      spelled = (subst (HoldsOrIndefinite w) (sym k.1) h, k.0.spelled);
       within = omega arith;
       bytes_are = counted Array w n (spellings_count ss.0) (spell_all ss.0) [] ss.1 bs k.1 refl k.0.bytes_are;
     })
@@ -310,7 +310,7 @@ nest_fits d one exact Map w n bs r h small e =
     let k = pairs_fit d one exact n bs es small got in
     let deep = k.0.within in
     subst (Fits (suc d) (head Map w n ++ bs)) (some_same f) (record {
-      spelled = (subst (HoldsOrOpen w) (sym k.1) h, k.0.spelled);
+      spelled = (subst (HoldsOrIndefinite w) (sym k.1) h, k.0.spelled);
       within = omega arith;
       bytes_are = counted Map w n (entries_count es.0) (spell_entries es.0) [] es.1 bs k.1 refl k.0.bytes_are;
     })

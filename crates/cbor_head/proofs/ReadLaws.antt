@@ -5,7 +5,7 @@ use Rattle.std.proofs.lemmas.Bool.{cases_lt, lt-ltb, le-leb, le-ltb}
 use Rattle.std.proofs.Math.Seq.{drop-append_seam, take-append_seam}
 use Rattle.std.proofs.lemmas.List.{length-append, append_assoc, append-nil}
 use Rattle.cbor_head.specs.Head.{head, Holds, IsSimple, shortest}
-use Rattle.cbor_head.specs.Spelling.{Chunk, Spelling, Spellings, SpelledEntries, unsigned, negative, bytes, text, byte_chunks, text_chunks, array, a_map, tag, simple, no_spellings, a_spelling, no_entries, entry, spell, spell_all, spell_entries, spellings_count, entries_count, IsSpelled, AreSpelled, AreEntriesSpelled, depth, depth_all, depth_entries, IsChunk, HoldsOrOpen, chunk_bytes, chunked, closer}
+use Rattle.cbor_head.specs.Spelling.{Chunk, Spelling, Spellings, SpelledEntries, unsigned, negative, bytes, text, byte_chunks, text_chunks, array, a_map, tag, simple, no_spellings, a_spelling, no_entries, entry, spell, spell_all, spell_entries, spellings_count, entries_count, IsSpelled, AreSpelled, AreEntriesSpelled, depth, depth_all, depth_entries, IsChunk, HoldsOrIndefinite, chunk_bytes, chunked, break_of}
 use Rattle.cbor_head.specs.Read.{front, read_head, payload, is_break, same_major, read_chunk, read_chunks, read_many, read_pairs, past_break, read_until, read_pairs_until, leaf, nest, read}
 use Rattle.cbor_head.specs.declared.major.Major.{Major}
 use Rattle.cbor_head.specs.declared.major.Major.TheVariants.{Unsigned, Negative, Bytes, Text, Array, Map, Tag, Simple}
@@ -18,7 +18,7 @@ payload_back xs x f =
     let room : nat_le (length xs) (length (xs ++ x)) ≡ true = le-leb (length xs) (length (xs ++ x)) (omega (arith, length-append xs x)) in
     rw (room, take-append_seam xs x, drop-append_seam xs x) refl
 
-pub holds_or_open : (w : Width) (n : ℕ) → Holds w n → HoldsOrOpen w n
+pub holds_or_open : (w : Width) (n : ℕ) → Holds w n → HoldsOrIndefinite w n
 holds_or_open Indefinite n h = absurd h
 holds_or_open _ n h = h
 
@@ -59,12 +59,12 @@ chunks_back m (c ∷ cs) h (suc k) small x =
     ap (read_chunks m (suc k)) (append_assoc (chunk_bytes m c) (flat_map (chunk_bytes m) cs) (0xff ∷ x))
     ∙ rw (chunk_head m c h.0 y, no_break m c.width (length c.payload) (c.payload ++ y) h.0.0, chunk_back m c.width c.payload y h.0.0, chunks_back m cs h.1 k more x) refl
 
-leaf_read : {r : Spelling × List ℕ} (d : ℕ) (m : Major) (w : Width) (n : ℕ) (body : List ℕ) → HoldsOrOpen w n → leaf m w (told w n) body ≡ Some r → read d (head m w n ++ body) ≡ Some r
+leaf_read : {r : Spelling × List ℕ} (d : ℕ) (m : Major) (w : Width) (n : ℕ) (body : List ℕ) → HoldsOrIndefinite w n → leaf m w (told w n) body ≡ Some r → read d (head m w n ++ body) ≡ Some r
 unfolding read
 leaf_read zero m w n body h e = rw (read_head-head m w n body h) e
 leaf_read (suc d) m w n body h e = rw (read_head-head m w n body h, e) refl
 
-nest_read : {r : Spelling × List ℕ} (d : ℕ) (m : Major) (w : Width) (n : ℕ) (body : List ℕ) → HoldsOrOpen w n → leaf m w (told w n) body ≡ None → nest (read d) m w (told w n) body ≡ Some r → read (suc d) (head m w n ++ body) ≡ Some r
+nest_read : {r : Spelling × List ℕ} (d : ℕ) (m : Major) (w : Width) (n : ℕ) (body : List ℕ) → HoldsOrIndefinite w n → leaf m w (told w n) body ≡ None → nest (read d) m w (told w n) body ≡ Some r → read (suc d) (head m w n ++ body) ≡ Some r
 unfolding read
 nest_read d m w n body h e f = rw (read_head-head m w n body h, e) f
 
@@ -110,7 +110,7 @@ simple_back d n x h = elim (cases_lt n 24) [
 ]
 
 -- a definite count, or up to the break
-array_back : (d : ℕ) (w : Width) (ss : Spellings) (x : List ℕ) → HoldsOrOpen w (spellings_count ss)
+array_back : (d : ℕ) (w : Width) (ss : Spellings) (x : List ℕ) → HoldsOrIndefinite w (spellings_count ss)
     → ((y : List ℕ) → read_many (read d) (spellings_count ss) (spell_all ss ++ y) ≡ Some (ss, y))
     → ((k : ℕ) → length (spell_all ss) < k → (y : List ℕ) → read_until (read d) k (spell_all ss ++ (0xff ∷ y)) ≡ Some (ss, y))
     → read (suc d) (spell (array w ss) ++ x) ≡ Some (array w ss, x)
@@ -122,7 +122,7 @@ array_back d w ss x h all until =
     ap (read (suc d)) (ap (λ (l : List ℕ). l ++ x) (append-nil (head Array w (spellings_count ss) ++ spell_all ss)) ∙ append_assoc (head Array w (spellings_count ss)) (spell_all ss) x)
     ∙ nest_read d Array w (spellings_count ss) (spell_all ss ++ x) h refl (rw (all x) refl)
 
-map_back : (d : ℕ) (w : Width) (es : SpelledEntries) (x : List ℕ) → HoldsOrOpen w (entries_count es)
+map_back : (d : ℕ) (w : Width) (es : SpelledEntries) (x : List ℕ) → HoldsOrIndefinite w (entries_count es)
     → ((y : List ℕ) → read_pairs (read d) (entries_count es) (spell_entries es ++ y) ≡ Some (es, y))
     → ((k : ℕ) → length (spell_entries es) < k → (y : List ℕ) → read_pairs_until (read d) k (spell_entries es ++ (0xff ∷ y)) ≡ Some (es, y))
     → read (suc d) (spell (a_map w es) ++ x) ≡ Some (a_map w es, x)
@@ -152,8 +152,8 @@ length_spell (bytes w p) = from_head Bytes w (length p) p
 length_spell (text w p) = from_head Text w (length p) p
 length_spell (byte_chunks cs) = longer (head Bytes Indefinite 0 ++ flat_map (chunk_bytes Bytes) cs) (0xff ∷ []) (from_head Bytes Indefinite 0 (flat_map (chunk_bytes Bytes) cs))
 length_spell (text_chunks cs) = longer (head Text Indefinite 0 ++ flat_map (chunk_bytes Text) cs) (0xff ∷ []) (from_head Text Indefinite 0 (flat_map (chunk_bytes Text) cs))
-length_spell (array w ss) = longer (head Array w (spellings_count ss) ++ spell_all ss) (closer w) (from_head Array w (spellings_count ss) (spell_all ss))
-length_spell (a_map w es) = longer (head Map w (entries_count es) ++ spell_entries es) (closer w) (from_head Map w (entries_count es) (spell_entries es))
+length_spell (array w ss) = longer (head Array w (spellings_count ss) ++ spell_all ss) (break_of w) (from_head Array w (spellings_count ss) (spell_all ss))
+length_spell (a_map w es) = longer (head Map w (entries_count es) ++ spell_entries es) (break_of w) (from_head Map w (entries_count es) (spell_entries es))
 length_spell (tag w n s) = from_head Tag w n (spell s)
 length_spell (simple n) = length_head Simple (shortest n) n
 

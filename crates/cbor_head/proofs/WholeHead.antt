@@ -2,7 +2,7 @@
 use Rattle.std.proofs.Common.{ℕ, ◌≡◌, List, [], ◌++◌, Option, Some, refl, sym, ap, ◌∙◌, subst}
 use Rattle.std.proofs.lemmas.List.{append-nil}
 use Rattle.cbor_head.specs.Head.{Holds, IsHead, head, head_parts}
-use Rattle.cbor_head.specs.Spelling.{HoldsOrOpen}
+use Rattle.cbor_head.specs.Spelling.{HoldsOrIndefinite}
 use Rattle.cbor_head.specs.Read.{Front, front, read_head}
 use Rattle.cbor_head.specs.declared.major.Major.{Major}
 use Rattle.cbor_head.specs.declared.major.Major.TheVariants.{Unsigned, Negative, Bytes, Text, Array, Map, Tag, Simple}
@@ -23,7 +23,7 @@ head_holds Array w n h = h
 head_holds Map w n h = h
 head_holds Tag w n h = h
 
-told_of : (w : Width) (n : ℕ) → Holds w n → HoldsOrOpen w n × (told w n ≡ n)
+told_of : (w : Width) (n : ℕ) → Holds w n → HoldsOrIndefinite w n × (told w n ≡ n)
 told_of Indefinite n h = absurd h
 told_of Direct n h = (h, refl)
 told_of One n h = (h, refl)

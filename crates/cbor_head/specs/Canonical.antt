@@ -9,7 +9,7 @@ use Rattle.cbor_head.specs.declared.major.Major.TheVariants.{Unsigned, Negative,
 -- an encoded key, and the encoded value behind it
 pub record Pair : Type 0 where
   pub key : List ℕ
-  pub content : List ℕ
+  pub value : List ℕ
 
 -- put before the first pair whose key comes after its own
 abbrev pub put : KeyOrder → Pair → List Pair → List Pair
@@ -29,7 +29,7 @@ abbrev mutual
   canonical o (bytes s) = shortest_head Bytes (length s) ++ s
   canonical o (text s) = shortest_head Text (length s) ++ s
   canonical o (array vs) = shortest_head Array (values_count vs) ++ canonical_all o vs
-  canonical o (map es) = shortest_head Map (entries_count es) ++ flat_map (λ (p : Pair). p.key ++ p.content) (in_order o (canonical_entries o es))
+  canonical o (map es) = shortest_head Map (entries_count es) ++ flat_map (λ (p : Pair). p.key ++ p.value) (in_order o (canonical_entries o es))
   canonical o (tag n v) = shortest_head Tag n ++ canonical o v
   canonical o (simple n) = shortest_head Simple n
 
@@ -39,4 +39,4 @@ abbrev mutual
 
   pub canonical_entries : KeyOrder → Entries → List Pair
   canonical_entries o no_entries = []
-  canonical_entries o (entry k v es) = record { key = canonical o k; content = canonical o v } ∷ canonical_entries o es
+  canonical_entries o (entry k v es) = record { key = canonical o k; value = canonical o v } ∷ canonical_entries o es

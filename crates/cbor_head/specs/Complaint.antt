@@ -38,13 +38,13 @@ OfHead (strict o) at major w n c = (w ≢ shortest n) × (c ≡ complaint (at + 
 OfHead _ at major w n c = ⊥
 
 -- an opener without length (section 4.2.1)
-abbrev pub OfOpener : Rules → ℕ → Complaint → Type 0
-OfOpener (strict o) at c = c ≡ complaint (at + 1) at IndefiniteReason
-OfOpener _ at c = ⊥
+abbrev pub OfIndefinite : Rules → ℕ → Complaint → Type 0
+OfIndefinite (strict o) at c = c ≡ complaint (at + 1) at IndefiniteReason
+OfIndefinite _ at c = ⊥
 
 -- the head of an array or map, definite or not
 abbrev pub OfCount : Rules → ℕ → Major → Width → ℕ → Complaint → Type 0
-OfCount r at major Indefinite n c = OfOpener r at c
+OfCount r at major Indefinite n c = OfIndefinite r at c
 OfCount r at major w n c = OfHead r at major w n c
 
 -- a payload, at a place, that is not UTF-8 (section 3.1); its place is behind the longest front that is
@@ -81,8 +81,8 @@ abbrev mutual
   Complains r at (negative w n) c = OfHead r at Negative w n c
   Complains r at (bytes w payload) c = OfString r at Bytes w payload c
   Complains r at (text w payload) c = OfString r at Text w payload c
-  Complains r at (byte_chunks cs) c = OfOpener r at c ⊎ OfChunks r (at + 1) Bytes cs c
-  Complains r at (text_chunks cs) c = OfOpener r at c ⊎ OfChunks r (at + 1) Text cs c
+  Complains r at (byte_chunks cs) c = OfIndefinite r at c ⊎ OfChunks r (at + 1) Bytes cs c
+  Complains r at (text_chunks cs) c = OfIndefinite r at c ⊎ OfChunks r (at + 1) Text cs c
   Complains r at (array w ss) c = OfCount r at Array w (spellings_count ss) c ⊎ ComplainsIn r (at + length (head Array w (spellings_count ss))) ss c
   Complains r at (a_map w es) c = OfCount r at Map w (entries_count es) c ⊎ ComplainsInEntries r (at + length (head Map w (entries_count es))) [] es c
   Complains r at (tag w n s) c = OfHead r at Tag w n c ⊎ Complains r (at + length (head Tag w n)) s c

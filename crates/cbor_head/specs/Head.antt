@@ -31,17 +31,17 @@ major_number Tag = 6
 major_number Simple = 7
 
 -- the bytes of a head: the first byte, with the low five bits added, and the argument behind it, most significant byte first
-abbrev pub argument : Width → ℕ → ℕ → List ℕ
-argument Direct first n = (first + n) ∷ []
-argument One first n = (first + 24) ∷ big_bytes 1 n
-argument Two first n = (first + 25) ∷ big_bytes 2 n
-argument Four first n = (first + 26) ∷ big_bytes 4 n
-argument Eight first n = (first + 27) ∷ big_bytes 8 n
-argument Indefinite first n = (first + 31) ∷ []
+abbrev pub with_argument : Width → ℕ → ℕ → List ℕ
+with_argument Direct first n = (first + n) ∷ []
+with_argument One first n = (first + 24) ∷ big_bytes 1 n
+with_argument Two first n = (first + 25) ∷ big_bytes 2 n
+with_argument Four first n = (first + 26) ∷ big_bytes 4 n
+with_argument Eight first n = (first + 27) ∷ big_bytes 8 n
+with_argument Indefinite first n = (first + 31) ∷ []
 
 -- a head's bytes; of an indefinite one, the opener alone
 abbrev pub head : Major → Width → ℕ → List ℕ
-head major width n = argument width (32 * major_number major) n
+head major width n = with_argument width (32 * major_number major) n
 
 -- the first width that holds the argument
 abbrev pub shortest : ℕ → Width

@@ -12,5 +12,5 @@ abbrev pub StartsWith : ℕ → Spelling → List ℕ → Type 0
 StartsWith d s p = (rest : List ℕ) × IsItem d s (p ++ rest)
 
 -- the first n bytes of the input begin with the item s, well-formed within the depth, that has no complaint
-abbrev pub IsSound : ℕ → ℕ → Rules → List ℕ → Spelling → Type 0
-IsSound d n rules input s = (rest : List ℕ) × IsAtFront d (take n input) s rest × ((c : Complaint) → Complains rules 0 s c → ⊥)
+abbrev pub IsFrontWithoutComplaint : ℕ → ℕ → Rules → List ℕ → Spelling → Type 0
+IsFrontWithoutComplaint d n rules input s = (rest : List ℕ) × IsAtFront d (take n input) s rest × ((c : Complaint) → Complains rules 0 s c → ⊥)

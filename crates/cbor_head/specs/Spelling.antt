@@ -47,9 +47,9 @@ entries_count no_entries = 0
 entries_count (entry k v es) = suc (entries_count es)
 
 -- the break, where there is no length (section 3.2.1)
-abbrev pub closer : Width → List ℕ
-closer Indefinite = 0xff ∷ []
-closer _ = []
+abbrev pub break_of : Width → List ℕ
+break_of Indefinite = 0xff ∷ []
+break_of _ = []
 
 -- a definite string: its length, and the payload
 abbrev pub string_bytes_of : Major → Width → List ℕ → List ℕ
@@ -72,8 +72,8 @@ abbrev mutual
   spell (text w payload) = string_bytes_of Text w payload
   spell (byte_chunks cs) = chunked Bytes cs
   spell (text_chunks cs) = chunked Text cs
-  spell (array w ss) = head Array w (spellings_count ss) ++ spell_all ss ++ closer w
-  spell (a_map w es) = head Map w (entries_count es) ++ spell_entries es ++ closer w
+  spell (array w ss) = head Array w (spellings_count ss) ++ spell_all ss ++ break_of w
+  spell (a_map w es) = head Map w (entries_count es) ++ spell_entries es ++ break_of w
   spell (tag w n s) = head Tag w n ++ spell s
   spell (simple n) = head Simple (shortest n) n
 
@@ -90,9 +90,9 @@ abbrev pub IsChunk : Chunk → Type 0
 IsChunk c = Holds c.width (length c.payload) × AreBytes c.payload
 
 -- a count that the width holds, or no length at all
-abbrev pub HoldsOrOpen : Width → ℕ → Type 0
-HoldsOrOpen Indefinite n = Unit {0}
-HoldsOrOpen w n = Holds w n
+abbrev pub HoldsOrIndefinite : Width → ℕ → Type 0
+HoldsOrIndefinite Indefinite n = Unit {0}
+HoldsOrIndefinite w n = Holds w n
 
 -- each width holds its argument, and each simple value is one
 abbrev mutual
@@ -103,8 +103,8 @@ abbrev mutual
   IsSpelled (text w payload) = Holds w (length payload) × AreBytes payload
   IsSpelled (byte_chunks cs) = AllByRecursion IsChunk cs
   IsSpelled (text_chunks cs) = AllByRecursion IsChunk cs
-  IsSpelled (array w ss) = HoldsOrOpen w (spellings_count ss) × AreSpelled ss
-  IsSpelled (a_map w es) = HoldsOrOpen w (entries_count es) × AreEntriesSpelled es
+  IsSpelled (array w ss) = HoldsOrIndefinite w (spellings_count ss) × AreSpelled ss
+  IsSpelled (a_map w es) = HoldsOrIndefinite w (entries_count es) × AreEntriesSpelled es
   IsSpelled (tag w n s) = Holds w n × IsSpelled s
   IsSpelled (simple n) = IsSimple n
 
@@ -133,8 +133,8 @@ abbrev mutual
   depth_entries (entry k v es) = max (max (depth k) (depth v)) (depth_entries es)
 
 -- the content of an indefinite string
-abbrev pub joined : List Chunk → List ℕ
-joined cs = flat_map (λ c. c.payload) cs
+abbrev pub chunks_joined : List Chunk → List ℕ
+chunks_joined cs = flat_map (λ c. c.payload) cs
 
 -- the value that a spelling stands for
 abbrev mutual
@@ -143,8 +143,8 @@ abbrev mutual
   value_of (negative w n) = value.negative n
   value_of (bytes w payload) = value.bytes payload
   value_of (text w payload) = value.text payload
-  value_of (byte_chunks cs) = value.bytes (joined cs)
-  value_of (text_chunks cs) = value.text (joined cs)
+  value_of (byte_chunks cs) = value.bytes (chunks_joined cs)
+  value_of (text_chunks cs) = value.text (chunks_joined cs)
   value_of (array w ss) = value.array (values_of ss)
   value_of (a_map w es) = value.map (entries_of es)
   value_of (tag w n s) = value.tag n (value_of s)

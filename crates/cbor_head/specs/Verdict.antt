@@ -22,15 +22,15 @@ initial_reason c =
 
 -- Why c may not follow p: where the byte 00 could, an item was due there; where 00 could not and 20 could, the number of a
 -- simple value was; else a chunk was.
-abbrev pub BreaksForm : ℕ → List ℕ → ℕ → Reason → Type 0
-BreaksForm d p c reason =
+abbrev pub IsReasonAt : ℕ → List ℕ → ℕ → Reason → Type 0
+IsReasonAt d p c reason =
     (MayFollow d p 0x00 × (reason ≡ initial_reason c)) ⊎ (¬ MayFollow d p 0x00 × MayFollow d p 0x20 × (reason ≡ BadSimple))
     ⊎ (¬ MayFollow d p 0x00 × ¬ MayFollow d p 0x20 × (reason ≡ BadChunk))
 
--- the break of form behind p, where these are the next of the first n bytes
-abbrev pub IsBreak : ℕ → ℕ → List ℕ → List ℕ → Refusal → Type 0
-IsBreak d n p (c ∷ rest) f = (reason : Reason) × BreaksForm d p c reason × (f ≡ refusal reason (length p) (length p + 1))
-IsBreak d n p [] f = ((length p ≡ n) × (f ≡ refusal TooLong n n)) ⊎ ((length p < n) × (f ≡ refusal Truncated (length p) (length p)))
+-- the form error behind p, where these are the next of the first n bytes
+abbrev pub IsFormError : ℕ → ℕ → List ℕ → List ℕ → Refusal → Type 0
+IsFormError d n p (c ∷ rest) f = (reason : Reason) × IsReasonAt d p c reason × (f ≡ refusal reason (length p) (length p + 1))
+IsFormError d n p [] f = ((length p ≡ n) × (f ≡ refusal TooLong n n)) ⊎ ((length p < n) × (f ≡ refusal Truncated (length p) (length p)))
 
 -- complaints on a key come last at equal ends
 abbrev pub rank : Reason → ℕ
@@ -58,7 +58,7 @@ abbrev pub Decides : ℕ → ℕ → Rules → List ℕ → List ℕ → Spellin
 Decides d n rules p behind s (accepted t) = (t ≡ s) × (spell s ≡ p) × IsWithout rules s (length p)
 Decides d n rules p behind s (refused f) =
     ((c : Complaint) × IsFirstComplaint rules s (length p) c × (f ≡ refusal c.reason c.place c.end))
-    ⊎ (IsWithout rules s (length p) × (spell s ≢ p) × IsBreak d n p behind f)
+    ⊎ (IsWithout rules s (length p) × (spell s ≢ p) × IsFormError d n p behind f)
 
 -- what is answered of an input, within a depth and so many bytes
 pub record IsVerdict (d n : ℕ) (rules : Rules) (input : List ℕ) (answer : Answer) : Type 0 where

@@ -3,7 +3,7 @@
 ghost use Rattle.std.specs.Prelude.{◌≡◌, ◌%◌, ◌<◌, ◌≤◌, ◌⊎◌, ◌↔◌, ◌∷◌, length, ℕ, Some, None, IsTrue, IfSome, MatchOption};
 ghost use Rattle.cbor_head.specs.Head.{IsHead, IsSimple, HeadParts, head, head_parts, shortest};
 ghost use Rattle.cbor_head.specs.Read.{front, read_head};
-ghost use Rattle.cbor_head.specs.Spelling.{HoldsOrOpen};
+ghost use Rattle.cbor_head.specs.Spelling.{HoldsOrIndefinite};
 ghost use Rattle.cbor_head.specs.declared.major.Major.{Major};
 ghost use Rattle.cbor_head.specs.declared.major.Major.TheVariants.{Simple};
 ghost use Rattle.cbor_head.specs.declared.width.Width.{Width};
@@ -162,7 +162,7 @@ fn joined(first: u8, argument: &[u8]) -> ArrayVec<u8, 9>
 // Whether what bytes begin with is a definite head: no opener and no break, no float, and no simple
 // value below 32 in a second byte.
 fn is_head(major: Major, width: Width, argument: u64) -> bool
-    requires { HoldsOrOpen width argument }
+    requires { HoldsOrIndefinite width argument }
     ensures { IsTrue result ↔ IsHead major width argument }
 {
     match (major, width) {

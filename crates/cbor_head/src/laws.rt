@@ -5,9 +5,9 @@ ghost use Rattle.std.specs.Prelude.{◌≡◌, ◌↔◌, ◌≤◌, ◌++◌, �
 ghost use Rattle.cbor_head.specs.Beginning.{IsBeginning, IsLongestBeginning};
 ghost use Rattle.cbor_head.specs.Complaint.{Rules, Complaint, Complains};
 ghost use Rattle.cbor_head.specs.Head.{Holds, head, shortest};
-ghost use Rattle.cbor_head.specs.Laws.{IsAtFront, IsSound, StartsWith};
+ghost use Rattle.cbor_head.specs.Laws.{IsAtFront, IsFrontWithoutComplaint, StartsWith};
 ghost use Rattle.cbor_head.specs.Read.{Front, front, read_head, read};
-ghost use Rattle.cbor_head.specs.Spelling.{Spelling, IsSpelled, IsItem, HoldsOrOpen, spell};
+ghost use Rattle.cbor_head.specs.Spelling.{Spelling, IsSpelled, IsItem, HoldsOrIndefinite, spell};
 ghost use Rattle.cbor_head.specs.Value.{AreBytes};
 ghost use Rattle.cbor_head.specs.Verdict.{IsFirstComplaint, Answer, accepted, Decides, IsVerdict};
 ghost use Rattle.cbor_head.specs.declared.major.Major.{Major};
@@ -21,7 +21,7 @@ pub fn heads_are_read_back()
     ensures opener { (m : Major) (n : ℕ) (x : List ℕ)
         → read_head (head m Indefinite n ++ x) ≡ Some (front m Indefinite 0 x) }
     ensures only { (b : List ℕ) (f : Front) → AreBytes b → read_head b ≡ Some f
-        → HoldsOrOpen f.width f.argument × (head f.major f.width f.argument ++ f.rest ≡ b) }
+        → HoldsOrIndefinite f.width f.argument × (head f.major f.width f.argument ++ f.rest ≡ b) }
 {}
 
 /// No head of an argument has fewer bytes than the shortest one, which has room for it.
@@ -91,5 +91,5 @@ pub fn verdict_is_one()
 /// input's first bytes, as many as the limit allows, begin with.
 pub fn acceptance_is_exact()
     ensures { (d n : ℕ) (r : Rules) (input : List ℕ) (s : Spelling)
-        → IsVerdict d n r input (accepted s) ↔ IsSound d n r input s }
+        → IsVerdict d n r input (accepted s) ↔ IsFrontWithoutComplaint d n r input s }
 {}

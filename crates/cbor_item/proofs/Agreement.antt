@@ -38,7 +38,7 @@ agrees_map o es a fs h g s =
         let y = sound_at fs k' v' g.range.1 g.valid.0 n in
         let ke = b.0 k' x.0 y.0 p in
         let ve = b.1 v' x.1 y.1 q in
-        λ i. record { key = ke i; content = ve i }
+        λ i. record { key = ke i; value = ve i }
 
     forth : (p : Pair) → In p (canonical_entries o es) → In p (canonical_entries o fs)
     forth p m =

@@ -4,7 +4,8 @@ use Rattle.std.proofs.lemmas.List.{drop_more}
 use Rattle.std.proofs.lemmas.Option.{slice_get-get_or}
 use Rattle.std.specs.List.{slice_get}
 use Rattle.cbor_head.specs.Value.{IsInRange, AreEntriesInRange, IsValid, AreEntriesValid}
-use Rattle.cbor_item.specs.View.{view, entries_view}
+use Rattle.cbor_item.specs.View.{view}
+use Rattle.cbor_item.specs.inner.Members.{entries_view}
 use Rattle.cbor_item.specs.declared.item.Item.{Item}
 
 -- an element that was read by index

@@ -45,7 +45,7 @@ IsBelow o (b ∷ bs) es = (p : Pair) → In p (pairs es) → IsTrue (key_lt o (s
 
 key_clean : (o : KeyOrder) (before : List Spelling) (k v : Spelling) (es : SpelledEntries) (at : ℕ) (c : Complaint) → IsBelow o before (entry k v es) → OfKey (strict o) at before k c → ⊥
 key_clean o [] k v es at c b x = x
-key_clean o (b' ∷ bs) k v es at c b x = x.0 (b (record { key = spell k; content = spell v }) (inl refl))
+key_clean o (b' ∷ bs) k v es at c b x = x.0 (b (record { key = spell k; value = spell v }) (inl refl))
 
 entries_clean : (o : KeyOrder) (before : List Spelling) (es : SpelledEntries) → IsBelow o before es → IsRising o (pairs es) → AllSpelled (IsClean o) es
     → (at : ℕ) (c : Complaint) → ComplainsInEntries (strict o) at before es c → ⊥
@@ -54,7 +54,7 @@ entries_clean o before (entry k v es) b u a at c (inl x) = a.0 at c x
 entries_clean o before (entry k v es) b u a at c (inr (inl x)) = key_clean o before k v es at c b x
 entries_clean o before (entry k v es) b u a at c (inr (inr (inl x))) = a.1 (at + length (spell k)) c x
 entries_clean o before (entry k v es) b u a at c (inr (inr (inr x))) =
-    entries_clean o (k ∷ before) es (rises_at o (record { key = spell k; content = spell v }) (pairs es) u) u.1 a.2 (at + length (spell k) + length (spell v)) c x
+    entries_clean o (k ∷ before) es (rises_at o (record { key = spell k; value = spell v }) (pairs es) u) u.1 a.2 (at + length (spell k) + length (spell v)) c x
 
 all_clean : (o : KeyOrder) (es : Entries) → AllIn (Cleans o) es → AreEntriesInRange es → AreEntriesValid es → AllSpelled (IsClean o) (normal_entries o es)
 all_clean o value.no_entries a h g = tt

@@ -8,8 +8,9 @@ use Rattle.std.specs.List.{AllByRecursion, range_with_len}
 use Rattle.cbor_head.specs.Canonical.{Pair, canonical, canonical_entries}
 use Rattle.cbor_head.specs.Value.{IsValid}
 use Rattle.cbor_head.specs.declared.order.KeyOrder.{KeyOrder}
-use Rattle.cbor_item.specs.Encoded.{joined, content_at, pair_at, AreKeysValid, AreContentsValid}
-use Rattle.cbor_item.specs.View.{view, entries_view}
+use Rattle.cbor_item.specs.inner.Encoded.{joined, content_at, pair_at, AreKeysValid, AreContentsValid}
+use Rattle.cbor_item.specs.View.{view}
+use Rattle.cbor_item.specs.inner.Members.{entries_view}
 use Rattle.cbor_item.specs.declared.item.Item.{Item}
 use Rattle.cbor_item.specs.declared.item.Item.TheVariants.{Unsigned}
 use Rattle.cbor_item.specs.declared.encoded_key.EncodedKey.{EncodedKey}
@@ -85,7 +86,7 @@ encoded_more o ps i p ks k l is key at e =
     let rest = canonical_entries o (entries_view (drop (i + 1) ps)) in
     let content : content_at ps k.index ≡ view p.1 = ap (content_at ps) at ∙ content_read ps i p l is in
     ap (λ (qs : List Pair). qs ++ rest) (map-append (pair_at o ps) ks (k ∷ [])) ∙ append_assoc (map (pair_at o ps) ks) (pair_at o ps k ∷ []) rest
-    ∙ (λ n. map (pair_at o ps) ks ++ record { key = key n; content = canonical o (content n) } ∷ rest)
+    ∙ (λ n. map (pair_at o ps) ks ++ record { key = key n; value = canonical o (content n) } ∷ rest)
     ∙ ap (λ (qs : List (Item × Item)). map (pair_at o ps) ks ++ canonical_entries o (entries_view qs)) (sym (at_read ps i p l is)) ∙ e
 
 pub index_more : (i : ℕ) (ks : List EncodedKey) (k : EncodedKey) → k.index ≡ i → map index_of ks ≡ range_with_len 0 i → map index_of (ks ++ k ∷ []) ≡ range_with_len 0 (i + 1)

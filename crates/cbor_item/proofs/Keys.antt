@@ -6,8 +6,7 @@ use Rattle.cbor_head.specs.Spelling.{Spelling, value_of}
 use Rattle.cbor_head.specs.Complaint.{IsRepeated}
 use Rattle.cbor_head.specs.Canonical.{canonical, canonical_entries}
 use Rattle.cbor_head.specs.declared.order.KeyOrder.{KeyOrder}
-use Rattle.cbor_item.specs.Encoded.{AreKeysValid}
-use Rattle.cbor_item.specs.Pairs.{HasDistinctBytes}
+use Rattle.cbor_item.specs.inner.Encoded.{AreKeysValid, HasDistinctBytes}
 use Rattle.cbor_item.proofs.Members.{In}
 use Rattle.cbor_item.proofs.Sorting.{differs_at}
 use Rattle.cbor_item.proofs.Sound.{IsSound, sound, key_at}

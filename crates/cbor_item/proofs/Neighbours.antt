@@ -11,9 +11,9 @@ use Rattle.cbor_head.specs.Order.{key_cmp, key_lt}
 use Rattle.cbor_head.specs.Canonical.{Pair, canonical_entries, in_order}
 use Rattle.cbor_head.specs.Value.{AreEntriesInRange, HasDistinctKeys}
 use Rattle.cbor_head.specs.declared.order.KeyOrder.{KeyOrder}
-use Rattle.cbor_item.specs.Encoded.{pair_at, AreKeysValid, IsNotFirst, DoNeighboursDiffer}
-use Rattle.cbor_item.specs.Pairs.{HasDistinctBytes, IsRising}
-use Rattle.cbor_item.specs.View.{entries_view}
+use Rattle.cbor_item.specs.inner.Encoded.{pair_at, AreKeysValid, IsNotFirst, DoNeighboursDiffer, HasDistinctBytes}
+use Rattle.cbor_item.specs.Pairs.{IsRising}
+use Rattle.cbor_item.specs.inner.Members.{entries_view}
 use Rattle.cbor_item.specs.declared.item.Item.{Item}
 use Rattle.cbor_item.specs.declared.encoded_key.EncodedKey.{EncodedKey}
 use Rattle.cbor_item.proofs.ByIndex.{at_read}

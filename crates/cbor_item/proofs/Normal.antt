@@ -4,7 +4,7 @@ use Rattle.std.specs.Prelude.{flat_map, if◌then◌else◌, nat_lt}
 use Rattle.cbor_head.specs.Head.{Holds, shortest, shortest_head, head}
 use Rattle.cbor_head.specs.Value as value
 use Rattle.cbor_head.specs.Value.{Value, Values, Entries, values_count, IsInRange, AreInRange, AreEntriesInRange}
-use Rattle.cbor_head.specs.Spelling.{Spelling, Spellings, SpelledEntries, unsigned, negative, bytes, text, array, a_map, tag, simple, no_spellings, a_spelling, no_entries, entry, spell, spell_all, spell_entries, spellings_count, entries_count, closer, IsSpelled, AreSpelled, AreEntriesSpelled, HoldsOrOpen}
+use Rattle.cbor_head.specs.Spelling.{Spelling, Spellings, SpelledEntries, unsigned, negative, bytes, text, array, a_map, tag, simple, no_spellings, a_spelling, no_entries, entry, spell, spell_all, spell_entries, spellings_count, entries_count, break_of, IsSpelled, AreSpelled, AreEntriesSpelled, HoldsOrIndefinite}
 use Rattle.cbor_head.specs.Order.{key_lt}
 use Rattle.cbor_head.specs.Canonical.{Pair, put, in_order, canonical, canonical_all, canonical_entries}
 use Rattle.cbor_head.specs.declared.order.KeyOrder.{KeyOrder}
@@ -39,11 +39,11 @@ abbrev mutual
   normal_entries o (value.entry k v es) = put_entry o (normal o k) (normal o v) (normal_entries o es)
 
 abbrev pub pair_bytes : Pair → List ℕ
-pair_bytes p = p.key ++ p.content
+pair_bytes p = p.key ++ p.value
 
 abbrev pub pairs : SpelledEntries → List Pair
 pairs no_entries = []
-pairs (entry k v es) = record { key = spell k; content = spell v } ∷ pairs es
+pairs (entry k v es) = record { key = spell k; value = spell v } ∷ pairs es
 
 -- what holds of each key and value
 abbrev pub AllSpelled : (Spelling → Type 0) → SpelledEntries → Type 0
@@ -58,11 +58,11 @@ put_entry-all P o k v (entry k' v' es) p q a =
       | false ↦ (a.0, a.1, put_entry-all P o k v es p q a.2)
     ]
 
-pairs-put_entry : (o : KeyOrder) (k v : Spelling) (es : SpelledEntries) → pairs (put_entry o k v es) ≡ put o (record { key = spell k; content = spell v }) (pairs es)
+pairs-put_entry : (o : KeyOrder) (k v : Spelling) (es : SpelledEntries) → pairs (put_entry o k v es) ≡ put o (record { key = spell k; value = spell v }) (pairs es)
 pairs-put_entry o k v no_entries = refl
 pairs-put_entry o k v (entry k' v' es) =
-    let p : Pair = record { key = spell k; content = spell v } in
-    let p' : Pair = record { key = spell k'; content = spell v' } in
+    let p : Pair = record { key = spell k; value = spell v } in
+    let p' : Pair = record { key = spell k'; value = spell v' } in
     elim (key_lt o (spell k) (spell k')) as (λ b. pairs (if b then entry k v (entry k' v' es) else entry k' v' (put_entry o k v es)) ≡ (if b then p ∷ p' ∷ pairs es else p' ∷ put o p (pairs es))) [
       | true ↦ refl
       | false ↦ λ i. p' ∷ pairs-put_entry o k v es i
@@ -88,7 +88,7 @@ pub spellings_count-normal : (o : KeyOrder) (vs : Values) → spellings_count (n
 spellings_count-normal o value.no_values = refl
 spellings_count-normal o (value.a_value v vs) = ap suc (spellings_count-normal o vs)
 
-closer_chosen : (a b c d : Bool) → closer (if a then Direct else if b then One else if c then Two else if d then Four else Eight) ≡ []
+closer_chosen : (a b c d : Bool) → break_of (if a then Direct else if b then One else if c then Two else if d then Four else Eight) ≡ []
 closer_chosen true b c d = refl
 closer_chosen false true c d = refl
 closer_chosen false false true d = refl
@@ -96,8 +96,8 @@ closer_chosen false false false true = refl
 closer_chosen false false false false = refl
 
 -- a shortest head is definite
-pub closer-shortest : (n : ℕ) → closer (shortest n) ≡ []
-closer-shortest n = closer_chosen (nat_lt n 24) (nat_lt n (2 ^ 8)) (nat_lt n (2 ^ 16)) (nat_lt n (2 ^ 32))
+pub break_of-shortest : (n : ℕ) → break_of (shortest n) ≡ []
+break_of-shortest n = closer_chosen (nat_lt n 24) (nat_lt n (2 ^ 8)) (nat_lt n (2 ^ 16)) (nat_lt n (2 ^ 32))
 
 pub Holds-shortest : (n : ℕ) → n < 2 ^ 64 → Holds (shortest n) n
 Holds-shortest n h = (least Unsigned Eight n h).0
@@ -111,7 +111,7 @@ pairs_spelled : (o : KeyOrder) (es : Entries) → AllIn (Spells o) es → pairs 
 pairs_spelled o value.no_entries a = refl
 pairs_spelled o (value.entry k v es) a =
     let ke = a.0 in let ve = a.1 in let rest = pairs_spelled o es a.2 in
-    pairs-put_entry o (normal o k) (normal o v) (normal_entries o es) ∙ (λ i. put o (record { key = ke i; content = ve i }) (rest i))
+    pairs-put_entry o (normal o k) (normal o v) (normal_entries o es) ∙ (λ i. put o (record { key = ke i; value = ve i }) (rest i))
 
 spell_all-normal : (o : KeyOrder) (vs : Values) → AllOf (Spells o) vs → spell_all (normal_all o vs) ≡ canonical_all o vs
 spell_all-normal o value.no_values a = refl
@@ -127,14 +127,14 @@ spell-normal o = by_cases {P = Spells o} (record {
       let w = shortest (values_count vs) in
       let c = spellings_count-normal o vs in
       let r = spell_all-normal o vs a in
-      let z = closer-shortest (values_count vs) in
+      let z = break_of-shortest (values_count vs) in
       (λ i. (head Array w (c i) ++ r i) ++ z i) ∙ append-nil _;
   at_map = λ es a.
       let w = shortest (value.entries_count es) in
       let c = entries_count-normal o es in
       let r : spell_entries (normal_entries o es) ≡ flat_map pair_bytes (in_order o (canonical_entries o es))
       = spell_entries-pairs (normal_entries o es) ∙ ap (flat_map pair_bytes) (pairs_spelled o es a) in
-      let z = closer-shortest (value.entries_count es) in
+      let z = break_of-shortest (value.entries_count es) in
       (λ i. (head Map w (c i) ++ r i) ++ z i) ∙ append-nil _;
   at_tag = λ n v p. ap (λ (l : List ℕ). shortest_head Tag n ++ l) p;
   at_simple = λ n. refl;
@@ -161,8 +161,8 @@ spelled_entries o value.no_entries a h = tt
 spelled_entries o (value.entry k v es) a h = put_entry-all IsSpelled o (normal o k) (normal o v) (normal_entries o es) (a.0 h.0) (a.1 h.1) (spelled_entries o es a.2 h.2)
 
 -- a shortest head's count, as the spelling has it
-count_held : (n m : ℕ) → m ≡ n → n < 2 ^ 64 → HoldsOrOpen (shortest n) m
-count_held n m e h = subst (HoldsOrOpen (shortest n)) (sym e) (holds_or_open (shortest n) n (Holds-shortest n h))
+count_held : (n m : ℕ) → m ≡ n → n < 2 ^ 64 → HoldsOrIndefinite (shortest n) m
+count_held n m e h = subst (HoldsOrIndefinite (shortest n)) (sym e) (holds_or_open (shortest n) n (Holds-shortest n h))
 
 pub IsSpelled-normal : (o : KeyOrder) (v : Value) → IsInRange v → IsSpelled (normal o v)
 IsSpelled-normal o = by_cases {P = Forms o} (record {

@@ -18,7 +18,8 @@ use Rattle.std.proofs.lemmas.List.{get_or-map, length-map}
 use Rattle.std.proofs.Common.{map}
 use Rattle.cbor_head.specs.Order.{key_cmp, key_lt}
 use Rattle.cbor_head.specs.Canonical.{Pair, in_order}
-use Rattle.cbor_item.specs.Pairs.{IsRising, HasDistinctBytes}
+use Rattle.cbor_item.specs.Pairs.{IsRising}
+use Rattle.cbor_item.specs.inner.Encoded.{HasDistinctBytes}
 use Rattle.cbor_head.specs.declared.order.KeyOrder.{KeyOrder}
 use Rattle.cbor_item.proofs.Orders.{key_cmp_total, tied, lt_other, lt_trans}
 use Rattle.cbor_item.proofs.Members.{In, in_contains, contains_in}

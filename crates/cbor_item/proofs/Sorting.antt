@@ -6,7 +6,8 @@ use Rattle.std.proofs.lemmas.List.Sorted.{IsPermutation-refl, IsPermutation-sym,
 use Rattle.cbor_head.specs.Order.{key_lt}
 use Rattle.cbor_head.specs.Canonical.{Pair, put, in_order}
 use Rattle.cbor_head.specs.declared.order.KeyOrder.{KeyOrder}
-use Rattle.cbor_item.specs.Pairs.{IsRising, HasDistinctBytes}
+use Rattle.cbor_item.specs.Pairs.{IsRising}
+use Rattle.cbor_item.specs.inner.Encoded.{HasDistinctBytes}
 use Rattle.cbor_item.proofs.Members.{In, all_at, all_from}
 use Rattle.cbor_item.proofs.Orders.{lt_irrefl, lt_trans, lt_other}
 

@@ -1,7 +1,7 @@
 -- Values in range and valid, at every depth.
 use Rattle.std.proofs.Common.{◌↔◌, inl, inr, sym, subst}
 use Rattle.cbor_head.specs.Value.{Value, Entries, no_entries, entry, HasEntry, IsInRange, IsValid, AreEntriesInRange, AreEntriesValid}
-use Rattle.cbor_item.specs.Encoded.{AreKeysValid, AreContentsValid}
+use Rattle.cbor_item.specs.inner.Encoded.{AreKeysValid, AreContentsValid}
 
 pub record IsSound (v : Value) : Type 0 where
   pub range : IsInRange v

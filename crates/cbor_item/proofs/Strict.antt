@@ -5,7 +5,7 @@ use Rattle.std.proofs.lemmas.Bool.{true_from_ne_false, true≢false}
 use Rattle.cbor_head.specs.Head.{shortest, shortest_head, head}
 use Rattle.cbor_head.specs.Value as value
 use Rattle.cbor_head.specs.Value.{values_count, AreInRange, AreValid, AreEntriesInRange, AreEntriesValid}
-use Rattle.cbor_head.specs.Spelling.{Spelling, Spellings, SpelledEntries, unsigned, negative, bytes, text, byte_chunks, text_chunks, array, a_map, tag, simple, no_spellings, a_spelling, no_entries, entry, spell, spell_all, spell_entries, spellings_count, entries_count, closer, value_of, values_of, entries_of, IsSpelled, AreSpelled, AreEntriesSpelled, HoldsOrOpen}
+use Rattle.cbor_head.specs.Spelling.{Spelling, Spellings, SpelledEntries, unsigned, negative, bytes, text, byte_chunks, text_chunks, array, a_map, tag, simple, no_spellings, a_spelling, no_entries, entry, spell, spell_all, spell_entries, spellings_count, entries_count, break_of, value_of, values_of, entries_of, IsSpelled, AreSpelled, AreEntriesSpelled, HoldsOrIndefinite}
 use Rattle.cbor_head.specs.Order.{key_lt}
 use Rattle.cbor_head.specs.Canonical.{Pair, in_order, canonical, canonical_all, canonical_entries}
 use Rattle.cbor_head.specs.Complaint.{strict, Complaint, Complains, ComplainsIn, ComplainsInEntries, OfHead, OfCount}
@@ -22,7 +22,7 @@ use Rattle.cbor_item.proofs.Sorting.{rising_cons, rising_distinct, in_order-risi
 use Rattle.cbor_item.proofs.Stable.{width_stable, utf8_stable}
 use Rattle.cbor_item.proofs.Sound.{IsSound, sound, valid_apart}
 use Rattle.cbor_item.proofs.Keys.{distinct_from_bytes}
-use Rattle.cbor_item.proofs.Normal.{pair_bytes, pairs, spell_entries-pairs, closer-shortest}
+use Rattle.cbor_item.proofs.Normal.{pair_bytes, pairs, spell_entries-pairs, break_of-shortest}
 
 -- ---- spelled pairs without complaint
 
@@ -49,7 +49,7 @@ record IsCounted (w : Width) (n k : ℕ) : Type 0 where
   count : k ≡ n
   fits : k < 2 ^ 64
 
-counted : (o : KeyOrder) (at : ℕ) (m : Major) (w : Width) (n k : ℕ) → k ≡ n → HoldsOrOpen w n → ((c : Complaint) → OfCount (strict o) at m w n c → ⊥) → IsCounted w n k
+counted : (o : KeyOrder) (at : ℕ) (m : Major) (w : Width) (n k : ℕ) → k ≡ n → HoldsOrIndefinite w n → ((c : Complaint) → OfCount (strict o) at m w n c → ⊥) → IsCounted w n k
 counted o at m Indefinite n k e h f = absurd (f _ refl)
 counted o at m Direct n k e h f = record { shortest_is = head_clean o at m Direct n f; count = e; fits = omega arith }
 counted o at m One n k e h f = record { shortest_is = head_clean o at m One n f; count = e; fits = omega arith }
@@ -58,10 +58,10 @@ counted o at m Four n k e h f = record { shortest_is = head_clean o at m Four n 
 counted o at m Eight n k e h f = record { shortest_is = head_clean o at m Eight n f; count = e; fits = omega arith }
 
 -- the bytes of an array or map whose count is so
-counted_bytes : (m : Major) (w : Width) (n k : ℕ) (xs ys : List ℕ) → IsCounted w n k → xs ≡ ys → head m w n ++ xs ++ closer w ≡ shortest_head m k ++ ys
+counted_bytes : (m : Major) (w : Width) (n k : ℕ) (xs ys : List ℕ) → IsCounted w n k → xs ≡ ys → head m w n ++ xs ++ break_of w ≡ shortest_head m k ++ ys
 counted_bytes m w n k xs ys c e =
     let s : w ≡ shortest k = c.shortest_is ∙ ap shortest (sym c.count) in
-    (λ i. (head m (s i) (sym c.count i) ++ e i) ++ closer (s i)) ∙ (λ i. (shortest_head m k ++ ys) ++ closer-shortest k i) ∙ append-nil _
+    (λ i. (head m (s i) (sym c.count i) ++ e i) ++ break_of (s i)) ∙ (λ i. (shortest_head m k ++ ys) ++ break_of-shortest k i) ∙ append-nil _
 
 -- ---- the induction
 
@@ -139,6 +139,6 @@ module _ (o : KeyOrder) where
         record {
           range = (r.sound.range, q.sound.range, t.range);
           valid = (r.sound.valid, q.sound.valid, t.valid);
-          pairs_are = λ i. record { key = r.bytes_are i; content = q.bytes_are i } ∷ t.pairs_are i;
-          rising = rising_cons o (record { key = spell k; content = spell v }) (pairs es) (below_all o es k before behind g) t.rising;
+          pairs_are = λ i. record { key = r.bytes_are i; value = q.bytes_are i } ∷ t.pairs_are i;
+          rising = rising_cons o (record { key = spell k; value = spell v }) (pairs es) (below_all o es k before behind g) t.rising;
         }

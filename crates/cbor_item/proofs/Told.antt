@@ -5,7 +5,7 @@ use Rattle.cbor_head.specs.Spelling.{spell, value_of}
 use Rattle.cbor_head.specs.Canonical.{Pair, canonical, canonical_entries}
 use Rattle.cbor_head.specs.declared.order.KeyOrder.{KeyOrder}
 use Rattle.cbor_head.proofs.ReadLaws.{unique}
-use Rattle.cbor_item.specs.Pairs.{HasDistinctBytes}
+use Rattle.cbor_item.specs.inner.Encoded.{HasDistinctBytes}
 use Rattle.cbor_item.proofs.Members.{In, all_from}
 use Rattle.cbor_item.proofs.Sound.{ranges_at}
 use Rattle.cbor_item.proofs.Sameness.{Same-sym, Same-trans}
@@ -35,7 +35,7 @@ canonical_injective o v w h g e = (told o o v w h g [] [] (ap (λ (l : List ℕ)
 -- ---- the pairs of a map
 
 abbrev pub pair_of : KeyOrder → Value → Value → Pair
-pair_of o k v = record { key = canonical o k; content = canonical o v }
+pair_of o k v = record { key = canonical o k; value = canonical o v }
 
 -- the encoded pairs are those of the entries
 pub pair_in : (o : KeyOrder) (es : Entries) (k v : Value) → HasEntry es k v → In (pair_of o k v) (canonical_entries o es)

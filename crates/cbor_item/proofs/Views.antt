@@ -6,8 +6,9 @@ use Rattle.cbor_head.specs.Head.{shortest_head}
 use Rattle.cbor_head.specs.Canonical.{canonical, canonical_all, canonical_entries, in_order}
 use Rattle.cbor_head.specs.declared.order.KeyOrder.{KeyOrder}
 use Rattle.cbor_head.specs.declared.major.Major.TheVariants as Major
-use Rattle.cbor_item.specs.Encoded.{joined}
-use Rattle.cbor_item.specs.View.{view, values_view, entries_view}
+use Rattle.cbor_item.specs.inner.Encoded.{joined}
+use Rattle.cbor_item.specs.View.{view}
+use Rattle.cbor_item.specs.inner.Members.{entries_view, values_view}
 use Rattle.cbor_item.specs.declared.item.Item.{Item, the_lemmas}
 use Rattle.cbor_item.specs.declared.item.Item.TheVariants.{Unsigned, Negative, Bytes, Text, Array, Map, Tag, Simple}
 

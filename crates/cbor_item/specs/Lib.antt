@@ -1,6 +1,5 @@
 pub mod CanonicalSpelling
-pub mod Encoded
-pub mod Held
+pub mod inner
 pub mod Pairs
 pub mod Refused
 pub mod Sent

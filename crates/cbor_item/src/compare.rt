@@ -2,7 +2,8 @@
 
 ghost use Rattle.std.specs.Prelude.{◌≡◌, ◌<◌, ◌≤◌, ◌↔◌, IsTrue, IsSome, IfSome, slice_get, slice_range, length};
 ghost use Rattle.cbor_head.specs.Value.{Same, SameValues, Covered, AnyEntry, IsValid, AreValid, AreEntriesValid};
-ghost use Rattle.cbor_item.specs.View.{view, values_view, entries_view};
+ghost use Rattle.cbor_item.specs.View.{view};
+ghost use Rattle.cbor_item.specs.inner.Members.{entries_view, values_view};
 ghost use Rattle.cbor_item.specs.declared.item.Item.{Item};
 
 use crate::item::Item;

@@ -2,7 +2,7 @@
 
 ghost use Rattle.std.specs.Prelude.{◌≡◌, ◌↔◌, IsTrue, OnOk, IsPermutation, IsSortedBy, map};
 ghost use Rattle.cbor_head.specs.Order.{key_cmp, key_lt};
-ghost use Rattle.cbor_item.specs.Encoded.{DoNeighboursDiffer};
+ghost use Rattle.cbor_item.specs.inner.Encoded.{DoNeighboursDiffer};
 
 use crate::key_bytes::KeyBytes;
 use cbor_head::KeyOrder;

@@ -6,9 +6,10 @@ ghost use Rattle.cbor_head.specs.Canonical.{canonical, canonical_all, canonical_
 ghost use Rattle.cbor_head.specs.Head.{IsSimple, shortest_head};
 ghost use Rattle.cbor_head.specs.Value.{IsInRange, AreInRange, AreEntriesInRange, IsValid, AreValid, AreEntriesValid, HasDistinctKeys};
 ghost use Rattle.cbor_head.specs.declared.major.Major.TheVariants.{Simple};
-ghost use Rattle.cbor_item.specs.Encoded.{joined, pair_at, AreKeysValid};
+ghost use Rattle.cbor_item.specs.inner.Encoded.{joined, pair_at, AreKeysValid};
 ghost use Rattle.cbor_item.specs.Sent.{no_memory};
-ghost use Rattle.cbor_item.specs.View.{view, values_view, entries_view};
+ghost use Rattle.cbor_item.specs.View.{view};
+ghost use Rattle.cbor_item.specs.inner.Members.{entries_view, values_view};
 
 use crate::encoded_key::{EncodedKey, differ, sort_keys};
 use crate::item::Item;

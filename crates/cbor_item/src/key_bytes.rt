@@ -22,7 +22,7 @@ enum Held {
 
 impl Model for KeyBytes {
     ghost use Rattle.std.specs.Prelude.{List, ℕ};
-    ghost use Rattle.cbor_item.specs.Held.{held_bytes};
+    ghost use Rattle.cbor_item.specs.inner.Held.{held_bytes};
 
     ghost Value = { List ℕ };
 

@@ -2,7 +2,8 @@
 
 ghost use Rattle.std.specs.Prelude.{◌≡◌, ◌≤◌, ◌<◌, ◌^◌, ◌↔◌, IsTrue, IsUtf8, length, string_bytes};
 ghost use Rattle.cbor_head.specs.Value.{depth, depth_all, depth_entries, AreBytes, IsInRange, AreInRange, AreEntriesInRange};
-ghost use Rattle.cbor_item.specs.View.{view, values_view, entries_view};
+ghost use Rattle.cbor_item.specs.View.{view};
+ghost use Rattle.cbor_item.specs.inner.Members.{entries_view, values_view};
 
 use crate::item::Item;
 

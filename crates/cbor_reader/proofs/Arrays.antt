@@ -7,7 +7,7 @@ use Rattle.cbor_head.specs.Head.{head}
 use Rattle.cbor_head.specs.Limits.{Bounds}
 use Rattle.cbor_head.specs.Value as value
 use Rattle.cbor_head.specs.Value.{Value, Values}
-use Rattle.cbor_head.specs.Spelling.{Spelling, Spellings, array, no_spellings, a_spelling, spell, spellings_count, closer, HoldsOrOpen, value_of, values_of}
+use Rattle.cbor_head.specs.Spelling.{Spelling, Spellings, array, no_spellings, a_spelling, spell, spellings_count, break_of, HoldsOrIndefinite, value_of, values_of}
 use Rattle.cbor_head.specs.Complaint.{Rules, Complaint, Complains}
 use Rattle.cbor_head.specs.declared.major.Major.TheVariants as majors
 use Rattle.cbor_head.specs.declared.width.Width.{Width}
@@ -20,11 +20,12 @@ use Rattle.cbor_events.specs.State.{count_of}
 use Rattle.cbor_events.specs.ItemEvents.{ItemEventsView}
 use Rattle.cbor_events.specs.declared.event.EventKind.TheVariants as kinds
 use Rattle.cbor_item.specs.declared.item.Item.{Item}
-use Rattle.cbor_item.specs.View.{view, values_view}
-use Rattle.cbor_reader.specs.Frame.{with_all}
-use Rattle.cbor_reader.specs.Members.{fewer}
-use Rattle.cbor_reader.specs.Judged.{IsJudged}
-use Rattle.cbor_reader.specs.Reading.{IsAt, Extends, IsBegun, ReadsItem, IsMemory, StopsItem}
+use Rattle.cbor_item.specs.View.{view}
+use Rattle.cbor_item.specs.inner.Members.{values_view}
+use Rattle.cbor_reader.proofs.Frame.{with_all}
+use Rattle.cbor_reader.specs.inner.Members.{fewer}
+use Rattle.cbor_reader.specs.inner.Judged.{IsJudged}
+use Rattle.cbor_reader.specs.inner.Reading.{IsAt, Extends, IsBegun, ReadsItem, IsMemory, StopsItem}
 use Rattle.cbor_reader.proofs.Frames.{count_with}
 use Rattle.cbor_reader.proofs.Composition.{IsArraySoFar, array_bytes, array_judged, array_more, array_whole}
 use Rattle.cbor_reader.proofs.Heads.{open_or}
@@ -91,8 +92,8 @@ starts-array r b fs t x w None from e i =
       room = taking.2.0;
     }
   where
-    any_open : (w : Width) (n : ℕ) → w ≡ Indefinite → HoldsOrOpen w n
-    any_open w n e = subst (λ (v : Width). HoldsOrOpen v n) (sym e) tt
+    any_open : (w : Width) (n : ℕ) → w ≡ Indefinite → HoldsOrIndefinite w n
+    any_open w n e = subst (λ (v : Width). HoldsOrIndefinite v n) (sym e) tt
 
 -- ---- one that has no length is one of any count
 
@@ -126,7 +127,7 @@ one_fewer w (Some zero) done more n some e h = absurd (some refl)
 one_fewer w (Some (suc l)) done more n some e h = (h.0, omega (arith, e, h.1))
 one_fewer w None done more n some e h = h
 
-pub closes : (w : Width) → w ≢ Indefinite → closer w ≡ []
+pub closes : (w : Width) → w ≢ Indefinite → break_of w ≡ []
 closes Indefinite f = absurd (f refl)
 closes Direct f = refl
 closes One f = refl
@@ -222,7 +223,7 @@ module _ (r : Rules) (b : Bounds) (fs : List Frame) (t x : List ℕ) (w : Width)
           let k = spellings_count a.done in
           let whole = array_whole w a.done r (length t) (b.depth - suc (length fs)) (other_count r (length t) (b.depth - suc (length fs)) w n k a.done counts a.so_far) in
           let bytes_are : array_bytes w n a.done ++ bs ≡ spell (array w a.done) =
-          ap (λ (u : List ℕ). array_bytes w n a.done ++ u) h.0 ∙ ap (λ (u : List ℕ). u ++ 0xff ∷ []) (other_bytes w n k a.done counts) ∙ ap (λ (u : List ℕ). array_bytes w k a.done ++ u) (sym (ap closer counts)) in
+          ap (λ (u : List ℕ). array_bytes w n a.done ++ u) h.0 ∙ ap (λ (u : List ℕ). u ++ 0xff ∷ []) (other_bytes w n k a.done counts) ∙ ap (λ (u : List ℕ). array_bytes w k a.done ++ u) (sym (ap break_of counts)) in
           let room : length fs < b.depth = a.room in
           record {
             item = array w a.done;

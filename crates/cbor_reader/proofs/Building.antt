@@ -7,16 +7,16 @@ use Rattle.cbor_head.specs.Order.{key_lt}
 use Rattle.cbor_head.specs.Value.{AreEntriesInRange, HasDistinctKeys}
 use Rattle.cbor_head.specs.declared.major.Major.TheVariants as majors
 use Rattle.cbor_head.specs.declared.order.KeyOrder.{KeyOrder}
-use Rattle.cbor_item.specs.Encoded.{joined}
-use Rattle.cbor_item.specs.Pairs.{HasDistinctBytes}
-use Rattle.cbor_item.specs.View.{view, values_view, entries_view}
+use Rattle.cbor_item.specs.inner.Encoded.{joined, HasDistinctBytes}
+use Rattle.cbor_item.specs.View.{view}
+use Rattle.cbor_item.specs.inner.Members.{entries_view, values_view}
 use Rattle.cbor_item.specs.declared.item.Item.{Item}
 use Rattle.cbor_item.specs.declared.item.Item.TheVariants as items
 use Rattle.cbor_item.proofs.SortedPairs.{sorted_is_in_order, sorted_view}
 use Rattle.cbor_item.proofs.Told.{distinct_bytes}
 use Rattle.cbor_item.proofs.Views.{canonical-Array, canonical-Map}
 use Rattle.std.proofs.lemmas.List.{map-append}
-use Rattle.cbor_reader.specs.Encoding.{IsEncoding, AreEncoded, ArePairsEncoded, pair_of}
+use Rattle.cbor_reader.specs.inner.Encoding.{IsEncoding, AreEncoded, ArePairsEncoded, pair_of}
 use Rattle.cbor_reader.specs.declared.encoding.Encoding.{Encoding}
 use Rattle.cbor_reader.specs.declared.built_map.EncodedPair.{EncodedPair}
 use Rattle.cbor_reader.specs.declared.built_map.EncodedPairs.{EncodedPairs}
@@ -42,15 +42,15 @@ array-headed v n content whole e h same is =
 -- ---- maps
 
 entries-last : (o : KeyOrder) (ps : List (Item × Item)) (i j : Item)
-    → canonical_entries o (entries_view (ps ++ (i, j) ∷ [])) ≡ canonical_entries o (entries_view ps) ++ record { key = canonical o (view i); content = canonical o (view j) } ∷ []
+    → canonical_entries o (entries_view (ps ++ (i, j) ∷ [])) ≡ canonical_entries o (entries_view ps) ++ record { key = canonical o (view i); value = canonical o (view j) } ∷ []
 entries-last o [] i j = refl
-entries-last o (p ∷ ps) i j = ap (λ (u : List Pair). record { key = canonical o (view p.0); content = canonical o (view p.1) } ∷ u) (entries-last o ps i j)
+entries-last o (p ∷ ps) i j = ap (λ (u : List Pair). record { key = canonical o (view p.0); value = canonical o (view p.1) } ∷ u) (entries-last o ps i j)
 
 -- one pair more
 pub map-more : (o : KeyOrder) (old new : List EncodedPair) (p : EncodedPair) (ps : List (Item × Item)) (i j : Item) → map pair_of old ≡ canonical_entries o (entries_view ps) → new ≡ old ++ p ∷ []
     → p.key.items ≡ canonical o (view i) → p.content.items ≡ canonical o (view j) → map pair_of new ≡ canonical_entries o (entries_view (ps ++ (i, j) ∷ []))
 map-more o old new p ps i j h grown e f =
-    ap (map pair_of) grown ∙ map-append pair_of old (p ∷ []) ∙ (λ n. h n ++ record { key = e n; content = f n } ∷ []) ∙ sym (entries-last o ps i j)
+    ap (map pair_of) grown ∙ map-append pair_of old (p ∷ []) ∙ (λ n. h n ++ record { key = e n; value = f n } ∷ []) ∙ sym (entries-last o ps i j)
 
 -- the keys that were read have different bytes
 pub keys-differ : (all : EncodedPairs) (ps : List (Item × Item)) → ArePairsEncoded (Some all) (entries_view ps) → AreEntriesInRange (entries_view ps) → HasDistinctKeys (entries_view ps) → HasDistinctBytes (map pair_of all.pairs.items)

@@ -4,7 +4,7 @@ use Rattle.std.specs.List.{AllByRecursion}
 use Rattle.std.proofs.lemmas.List.{length-append, append_assoc, append-nil}
 use Rattle.cbor_head.specs.Head.{Holds, head}
 use Rattle.cbor_head.specs.Spelling.{Chunk, IsChunk, Spelling, IsSpelled, chunk_bytes}
-use Rattle.cbor_head.specs.Complaint.{Rules, Complaint, OfHead, OfOpener, OfPayload, OfString, OfChunks, Complains}
+use Rattle.cbor_head.specs.Complaint.{Rules, Complaint, OfHead, OfIndefinite, OfPayload, OfString, OfChunks, Complains}
 use Rattle.cbor_head.specs.declared.major.Major.{Major}
 use Rattle.cbor_head.specs.declared.major.Major.TheVariants.{Text}
 use Rattle.cbor_head.specs.declared.width.Width.{Width}
@@ -14,7 +14,7 @@ use Rattle.cbor_head.proofs.OneFirst.{payload_last}
 use Rattle.cbor_events.specs.Automaton.{Frame, State, at_item, in_head, in_simple, in_payload, in_chunks, done as at_end}
 use Rattle.cbor_events.proofs.Arguments.{number}
 use Rattle.cbor_events.proofs.Taking.{IsWithin}
-use Rattle.cbor_reader.specs.Judged.{IsJudged}
+use Rattle.cbor_reader.specs.inner.Judged.{IsJudged}
 use Rattle.cbor_reader.proofs.Judged.{Never}
 use Rattle.cbor_reader.proofs.Leaves.{IsChunked, chunks_bytes, chunk_judged, chunks_so_far, chunks_split, are_chunks}
 use Rattle.cbor_reader.proofs.Heads.{zero_bytes, zero_length}
@@ -25,7 +25,7 @@ chunk w q = record { width = w; payload = q }
 -- the chunks so far of a string at a place, without complaint
 pub record AreChunksSoFar (r : Rules) (at : ℕ) (m : Major) (done : List Chunk) : Type 0 where
   pub are : AllByRecursion IsChunk done
-  pub opener_clean : Never (OfOpener r at)
+  pub opener_clean : Never (OfIndefinite r at)
   pub clean : Never (OfChunks r (at + 1) m done)
 
 pub of_string : (r : Rules) (at : ℕ) (m : Major) (w : Width) (q : List ℕ) (c : Complaint) → OfString r at m w q c → OfHead r at m w (length q) c ⊎ OfPayload r (at + length (head m w (length q))) q c

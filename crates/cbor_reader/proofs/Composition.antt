@@ -2,10 +2,10 @@
 use Rattle.std.proofs.Common.{ℕ, suc, ◌+◌, ◌≡◌, ◌<◌, ◌≤◌, Option, Some, List, [], ◌++◌, length, arith, subst, inl, inr}
 use Rattle.std.proofs.lemmas.List.{length-append}
 use Rattle.cbor_head.specs.Head.{Holds, head}
-use Rattle.cbor_head.specs.Spelling.{Spelling, Spellings, SpelledEntries, array, a_map, tag, no_spellings, a_spelling, no_entries, entry, spell, spell_all, spell_entries, spellings_count, entries_count, IsSpelled, AreSpelled, AreEntriesSpelled, HoldsOrOpen, depth, depth_all, depth_entries}
+use Rattle.cbor_head.specs.Spelling.{Spelling, Spellings, SpelledEntries, array, a_map, tag, no_spellings, a_spelling, no_entries, entry, spell, spell_all, spell_entries, spellings_count, entries_count, IsSpelled, AreSpelled, AreEntriesSpelled, HoldsOrIndefinite, depth, depth_all, depth_entries}
 use Rattle.cbor_head.specs.Complaint.{Rules, Complaint, OfHead, OfCount, OfKey, Complains, ComplainsIn, ComplainsInEntries}
-use Rattle.cbor_reader.specs.Frame.{a_member, a_key, a_content, tagged, with_all, with_entries, keys_onto}
-use Rattle.cbor_reader.specs.Judged.{IsJudged}
+use Rattle.cbor_reader.proofs.Frame.{a_member, a_key, a_content, tagged, with_all, with_entries, keys_onto}
+use Rattle.cbor_reader.specs.inner.Judged.{IsJudged}
 use Rattle.cbor_head.specs.declared.major.Major.TheVariants.{Array, Map, Tag}
 use Rattle.cbor_head.specs.declared.width.Width.{Width}
 use Rattle.cbor_reader.proofs.Frames.{members_split, entries_split, depth_with, spelled_with, spelled_entries_with, depth_entries_with}
@@ -15,7 +15,7 @@ use Rattle.cbor_reader.proofs.Judged.{Never, judged_in, judged_key, zero_item, z
 
 -- an array of n members at a place, of which these have been read, without complaint
 pub record IsArraySoFar (r : Rules) (at d : ℕ) (w : Width) (n : ℕ) (done : Spellings) : Type 0 where
-  pub holds : HoldsOrOpen w n
+  pub holds : HoldsOrIndefinite w n
   pub spelled : AreSpelled done
   pub within : depth_all done ≤ d
   pub head_clean : Never (OfCount r at Array w n)
@@ -62,7 +62,7 @@ tag_whole w n s r at f g c h = elim h [ inl x ↦ f c x | inr x ↦ g c x ]
 
 -- a map of n pairs at a place, of which these have been read, without complaint
 pub record IsMapSoFar (r : Rules) (at d : ℕ) (w : Width) (n : ℕ) (done : SpelledEntries) : Type 0 where
-  pub holds : HoldsOrOpen w n
+  pub holds : HoldsOrIndefinite w n
   pub spelled : AreEntriesSpelled done
   pub within : depth_entries done ≤ d
   pub head_clean : Never (OfCount r at Map w n)

@@ -3,14 +3,14 @@ use Rattle.std.proofs.Common.{ℕ, ◌≡◌, ◌<◌, List, [], ◌++◌, lengt
 use Rattle.std.proofs.lemmas.List.{append-nil, length-append, length-drop, length-take-le, take-append-drop, take-append-le, take_all}
 use Rattle.cbor_head.specs.Spelling.{Spelling, IsItem}
 use Rattle.cbor_head.specs.Complaint.{Rules, Complains}
-use Rattle.cbor_head.specs.Verdict.{refused, refusal, IsBreak, IsVerdict}
+use Rattle.cbor_head.specs.Verdict.{refused, refusal, IsFormError, IsVerdict}
 use Rattle.cbor_head.specs.declared.reason.Reason.TheVariants.{Truncated, TooLong}
 use Rattle.cbor_head.specs.declared.reason.Refusal.{Refusal}
 use Rattle.cbor_reader.proofs.Judged.{Never}
 
 -- where the first n bytes of the input are p, and the item goes on behind p
 cut : (d n : ℕ) (r : Rules) (input : List ℕ) (s : Spelling) (p q : List ℕ) (f : Refusal) → IsItem d s (p ++ q) → Never (Complains r 0 s) → 0 < length q → take n input ≡ p
-    → IsBreak d n p [] f → IsVerdict d n r input (refused f)
+    → IsFormError d n p [] f → IsVerdict d n r input (refused f)
 cut d n r input s p q f i none l e b = record {
   p = p;
   longest = record {

@@ -4,10 +4,10 @@ use Rattle.std.proofs.lemmas.List.{append_assoc}
 use Rattle.std.proofs.lemmas.Bool.{cases_lt}
 use Rattle.cbor_head.specs.Spelling.{Spelling, spell, IsItem}
 use Rattle.cbor_head.specs.Complaint.{Rules, Complaint, Complains}
-use Rattle.cbor_head.specs.Verdict.{refusal, refused, IsBreak, IsFirstComplaint, IsVerdict}
+use Rattle.cbor_head.specs.Verdict.{refusal, refused, IsFormError, IsFirstComplaint, IsVerdict}
 use Rattle.cbor_head.specs.Beginning.{IsLongestBeginning}
 use Rattle.cbor_head.specs.declared.reason.Refusal.{Refusal}
-use Rattle.cbor_reader.specs.Judged.{IsFirstOf, IsJudged}
+use Rattle.cbor_reader.specs.inner.Judged.{IsFirstOf, IsJudged}
 use Rattle.cbor_head.proofs.Agree.{split_front}
 use Rattle.cbor_head.proofs.OneFirst.{first_for_each}
 
@@ -33,8 +33,8 @@ complaint_decides d n r input p u q c j e g =
     let first = first_for_each d j.item t p j.rest (k ++ z) j.is m r c (first_at_start r j.item p c j.finding) in
     record { p = q; longest = g; item = t; rest = z; starts = i; decides = inl (c, first_further r t (length p) (length q) c l first, refl) }
 
--- a break of form behind what has no complaint so far
-pub break_decides : (d n : ℕ) (r : Rules) (input p : List ℕ) (f : Refusal) → IsJudged r 0 d p None → (g : IsLongestBeginning d (take n input) p) → IsBreak d n p g.rest f
+-- a form error behind what has no complaint so far
+pub break_decides : (d n : ℕ) (r : Rules) (input p : List ℕ) (f : Refusal) → IsJudged r 0 d p None → (g : IsLongestBeginning d (take n input) p) → IsFormError d n p g.rest f
     → IsVerdict d n r input (refused f)
 break_decides d n r input p f j g b =
     let short : 0 + length p < 0 + length (spell j.item) = j.finding.0 in

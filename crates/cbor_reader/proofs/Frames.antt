@@ -2,9 +2,9 @@
 use Rattle.std.proofs.Common.{ℕ, suc, max, ◌+◌, ◌≡◌, ◌<◌, ◌⊎◌, List, [], ◌∷◌, ◌++◌, length, refl, sym, ap, ◌∙◌, arith, subst, inl, inr}
 use Rattle.std.proofs.lemmas.List.{length-append, append_assoc, append-nil}
 use Rattle.cbor_head.specs.Head.{head}
-use Rattle.cbor_head.specs.Spelling.{Spelling, Spellings, SpelledEntries, no_spellings, a_spelling, no_entries, entry, spell, spell_all, spell_entries, spellings_count, entries_count, closer, IsSpelled, AreSpelled, AreEntriesSpelled, HoldsOrOpen, depth, depth_all, depth_entries}
+use Rattle.cbor_head.specs.Spelling.{Spelling, Spellings, SpelledEntries, no_spellings, a_spelling, no_entries, entry, spell, spell_all, spell_entries, spellings_count, entries_count, break_of, IsSpelled, AreSpelled, AreEntriesSpelled, HoldsOrIndefinite, depth, depth_all, depth_entries}
 use Rattle.cbor_head.specs.Complaint.{Rules, Complaint, OfCount, Complains, ComplainsIn, ComplainsInEntries}
-use Rattle.cbor_reader.specs.Frame.{Frame, a_member, a_key, a_content, tagged, with_all, with_entries, keys_onto, plug, before, behind, IsFrame, depth_beside, OfFront, OfKeyAt, OfBack}
+use Rattle.cbor_reader.proofs.Frame.{Frame, a_member, a_key, a_content, tagged, with_all, with_entries, keys_onto, plug, before, behind, IsFrame, depth_beside, OfFront, OfKeyAt, OfBack}
 use Rattle.cbor_head.specs.declared.major.Major.TheVariants.{Array, Map, Tag}
 use Rattle.cbor_head.proofs.Agree.{key_end, later_in, later_entries}
 use Rattle.cbor_head.proofs.OneFirst.{after_head}
@@ -79,25 +79,25 @@ four h a s b c = append_assoc h (a ++ (s ++ b)) c ∙ ap (λ (x : List ℕ). h +
 
 pub spell_plug : (f : Frame) (s : Spelling) → spell (plug f s) ≡ before f ++ (spell s ++ behind f)
 spell_plug (a_member w a b) s =
-    ap (λ (n : ℕ). head Array w n ++ spell_all (with_all a (a_spelling s b)) ++ closer w) (count_with a (a_spelling s b))
-    ∙ ap (λ (x : List ℕ). head Array w (spellings_count a + suc (spellings_count b)) ++ x ++ closer w) (spell_with a (a_spelling s b))
-    ∙ four (head Array w (spellings_count a + suc (spellings_count b))) (spell_all a) (spell s) (spell_all b) (closer w)
+    ap (λ (n : ℕ). head Array w n ++ spell_all (with_all a (a_spelling s b)) ++ break_of w) (count_with a (a_spelling s b))
+    ∙ ap (λ (x : List ℕ). head Array w (spellings_count a + suc (spellings_count b)) ++ x ++ break_of w) (spell_with a (a_spelling s b))
+    ∙ four (head Array w (spellings_count a + suc (spellings_count b))) (spell_all a) (spell s) (spell_all b) (break_of w)
 spell_plug (a_key w a v b) s =
-    ap (λ (n : ℕ). head Map w n ++ spell_entries (with_entries a (entry s v b)) ++ closer w) (entries_with a (entry s v b))
-    ∙ ap (λ (x : List ℕ). head Map w (entries_count a + suc (entries_count b)) ++ x ++ closer w) (spell_entries_with a (entry s v b) ∙ ap (λ (x : List ℕ). spell_entries a ++ x) (append_assoc (spell s) (spell v) (spell_entries b)))
-    ∙ four (head Map w (entries_count a + suc (entries_count b))) (spell_entries a) (spell s) (spell v ++ spell_entries b) (closer w)
+    ap (λ (n : ℕ). head Map w n ++ spell_entries (with_entries a (entry s v b)) ++ break_of w) (entries_with a (entry s v b))
+    ∙ ap (λ (x : List ℕ). head Map w (entries_count a + suc (entries_count b)) ++ x ++ break_of w) (spell_entries_with a (entry s v b) ∙ ap (λ (x : List ℕ). spell_entries a ++ x) (append_assoc (spell s) (spell v) (spell_entries b)))
+    ∙ four (head Map w (entries_count a + suc (entries_count b))) (spell_entries a) (spell s) (spell v ++ spell_entries b) (break_of w)
 spell_plug (a_content w a k b) s =
-    ap (λ (n : ℕ). head Map w n ++ spell_entries (with_entries a (entry k s b)) ++ closer w) (entries_with a (entry k s b))
-    ∙ ap (λ (x : List ℕ). head Map w (entries_count a + suc (entries_count b)) ++ x ++ closer w)
+    ap (λ (n : ℕ). head Map w n ++ spell_entries (with_entries a (entry k s b)) ++ break_of w) (entries_with a (entry k s b))
+    ∙ ap (λ (x : List ℕ). head Map w (entries_count a + suc (entries_count b)) ++ x ++ break_of w)
     (spell_entries_with a (entry k s b) ∙ ap (λ (x : List ℕ). spell_entries a ++ x) (append_assoc (spell k) (spell s) (spell_entries b)) ∙ sym (append_assoc (spell_entries a) (spell k) (spell s ++ spell_entries b)))
-    ∙ four (head Map w (entries_count a + suc (entries_count b))) (spell_entries a ++ spell k) (spell s) (spell_entries b) (closer w)
-    ∙ ap (λ (x : List ℕ). x ++ (spell s ++ (spell_entries b ++ closer w))) (sym (append_assoc (head Map w (entries_count a + suc (entries_count b))) (spell_entries a) (spell k)))
+    ∙ four (head Map w (entries_count a + suc (entries_count b))) (spell_entries a ++ spell k) (spell s) (spell_entries b) (break_of w)
+    ∙ ap (λ (x : List ℕ). x ++ (spell s ++ (spell_entries b ++ break_of w))) (sym (append_assoc (head Map w (entries_count a + suc (entries_count b))) (spell_entries a) (spell k)))
 spell_plug (tagged w n) s = ap (λ (x : List ℕ). head Tag w n ++ x) (sym (append-nil (spell s)))
 
 pub spelled_plug : (f : Frame) (s : Spelling) → IsFrame f → IsSpelled s → IsSpelled (plug f s)
-spelled_plug (a_member w a b) s h i = (subst (HoldsOrOpen w) (sym (count_with a (a_spelling s b))) h.0, spelled_with a (a_spelling s b) h.1 (i, h.2))
-spelled_plug (a_key w a v b) s h i = (subst (HoldsOrOpen w) (sym (entries_with a (entry s v b))) h.0, spelled_entries_with a (entry s v b) h.1 (i, h.2, h.3))
-spelled_plug (a_content w a k b) s h i = (subst (HoldsOrOpen w) (sym (entries_with a (entry k s b))) h.0, spelled_entries_with a (entry k s b) h.1 (h.2, i, h.3))
+spelled_plug (a_member w a b) s h i = (subst (HoldsOrIndefinite w) (sym (count_with a (a_spelling s b))) h.0, spelled_with a (a_spelling s b) h.1 (i, h.2))
+spelled_plug (a_key w a v b) s h i = (subst (HoldsOrIndefinite w) (sym (entries_with a (entry s v b))) h.0, spelled_entries_with a (entry s v b) h.1 (i, h.2, h.3))
+spelled_plug (a_content w a k b) s h i = (subst (HoldsOrIndefinite w) (sym (entries_with a (entry k s b))) h.0, spelled_entries_with a (entry k s b) h.1 (h.2, i, h.3))
 spelled_plug (tagged w n) s h i = (h, i)
 
 pub depth_plug : (f : Frame) (s : Spelling) → depth (plug f s) ≡ suc (max (depth s) (depth_beside f))

@@ -9,10 +9,11 @@ use Rattle.cbor_head.specs.declared.reason.Refusal.{Refusal}
 use Rattle.cbor_events.specs.Automaton.{at_item}
 use Rattle.cbor_events.specs.ItemEvents.{ItemEventsView, StandsBetween}
 use Rattle.cbor_reader.specs.declared.rules.Rules as declared
-use Rattle.cbor_reader.specs.Rules.{rules_of}
+use Rattle.cbor_reader.specs.inner.Rules.{rules_of}
 use Rattle.cbor_reader.specs.Size.{size}
-use Rattle.cbor_reader.specs.Readers.{IsReadAs, IsUnread, IsFrontRead, IsFrontUnread}
-use Rattle.cbor_reader.specs.Reading.{IsAt, ReadsItem, StopsItem}
+use Rattle.cbor_reader.specs.Readers.{IsReadAs, IsUnread}
+use Rattle.cbor_reader.specs.inner.Front.{IsFrontUnread, IsFrontRead}
+use Rattle.cbor_reader.specs.inner.Reading.{IsAt, ReadsItem, StopsItem}
 use Rattle.cbor_reader.proofs.MapKeys.{key_value}
 use Rattle.cbor_reader.proofs.Sizes.{size_bounded}
 use Rattle.cbor_reader.proofs.Tops.{item-read, item-unread, loses}

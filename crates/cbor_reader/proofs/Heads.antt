@@ -4,7 +4,7 @@ use Rattle.std.proofs.lemmas.Bool.{ltb-true}
 use Rattle.std.proofs.lemmas.List.{length-append, append_assoc}
 use Rattle.cbor_head.specs.Head.{Holds, head}
 use Rattle.cbor_head.specs.Value.{AreBytes}
-use Rattle.cbor_head.specs.Spelling.{Spelling, unsigned, negative, bytes, text, array, a_map, tag, simple, IsSpelled, HoldsOrOpen, depth, IsItem}
+use Rattle.cbor_head.specs.Spelling.{Spelling, unsigned, negative, bytes, text, array, a_map, tag, simple, IsSpelled, HoldsOrIndefinite, depth, IsItem}
 use Rattle.cbor_head.specs.Complaint.{Rules}
 use Rattle.cbor_head.specs.declared.major.Major.{Major}
 use Rattle.cbor_head.specs.declared.major.Major.TheVariants.{Unsigned, Negative, Bytes, Text, Array, Map, Tag, Simple}
@@ -14,7 +14,7 @@ use Rattle.cbor_head.proofs.Agree.{head_of, body, parts}
 use Rattle.cbor_events.specs.Automaton.{Frame, State, at_item, in_head, in_simple, in_payload, in_chunks, done, has_room}
 use Rattle.cbor_events.proofs.Arguments.{number}
 use Rattle.cbor_events.proofs.Taking.{IsNumbered, IsWithin}
-use Rattle.cbor_reader.specs.Judged.{IsJudged}
+use Rattle.cbor_reader.specs.inner.Judged.{IsJudged}
 use Rattle.cbor_reader.proofs.Judged.{judged_start, judged_head, zero_item, zeros, zero_pairs, zeros_count, zeros_spelled, zeros_flat, pairs_count, pairs_spelled, pairs_flat}
 
 pub zero_bytes : (n : ℕ) → AreBytes (replicate n 0)
@@ -32,7 +32,7 @@ pub record Headed (d : ℕ) (m : Major) (w : Width) (n : ℕ) : Type 0 where
   pub within : depth item ≤ d
   pub head_is : head_of item ≡ head m w n
 
-pub open_or : (w : Width) (n : ℕ) → Holds w n → HoldsOrOpen w n
+pub open_or : (w : Width) (n : ℕ) → Holds w n → HoldsOrIndefinite w n
 open_or Indefinite n h = tt
 open_or Direct n h = h
 open_or One n h = h
@@ -55,9 +55,9 @@ headed d Bytes w n i h l =
 headed d Text w n i h l =
     record { item = text w (replicate n 0); spelled = (subst (Holds w) (sym (zero_length n)) h, zero_bytes n); within = omega arith; head_is = ap (head Text w) (zero_length n) }
 headed d Array w n i h l =
-    record { item = array w (zeros n); spelled = (subst (HoldsOrOpen w) (sym (zeros_count n)) (open_or w n h), zeros_spelled n); within = omega (arith, zeros_flat n, l); head_is = ap (head Array w) (zeros_count n) }
+    record { item = array w (zeros n); spelled = (subst (HoldsOrIndefinite w) (sym (zeros_count n)) (open_or w n h), zeros_spelled n); within = omega (arith, zeros_flat n, l); head_is = ap (head Array w) (zeros_count n) }
 headed d Map w n i h l =
-    record { item = a_map w (zero_pairs n); spelled = (subst (HoldsOrOpen w) (sym (pairs_count n)) (open_or w n h), pairs_spelled n); within = omega (arith, pairs_flat n, l); head_is = ap (head Map w) (pairs_count n) }
+    record { item = a_map w (zero_pairs n); spelled = (subst (HoldsOrIndefinite w) (sym (pairs_count n)) (open_or w n h), pairs_spelled n); within = omega (arith, pairs_flat n, l); head_is = ap (head Map w) (pairs_count n) }
 headed d Tag w n i h l = let z : 0 < 24 = omega arith in record { item = tag w n zero_item; spelled = (h, z); within = omega (arith, l); head_is = refl }
 headed d Simple w n i h l = absurd i
 

@@ -10,7 +10,7 @@ use Rattle.cbor_head.specs.Head.{Holds, head, shortest}
 use Rattle.cbor_head.specs.Limits.{Bounds}
 use Rattle.cbor_head.specs.Value.{Value}
 use Rattle.cbor_head.specs.Spelling.{unsigned, negative, bytes, text, byte_chunks, text_chunks, tag, spell}
-use Rattle.cbor_head.specs.Complaint.{Rules, strict, Complaint, OfHead, OfOpener, OfCount}
+use Rattle.cbor_head.specs.Complaint.{Rules, strict, Complaint, OfHead, OfIndefinite, OfCount}
 use Rattle.cbor_head.specs.declared.major.Major.{Major}
 use Rattle.cbor_head.specs.declared.major.Major.TheVariants as majors
 use Rattle.cbor_head.specs.declared.width.Width.{Width}
@@ -27,8 +27,8 @@ use Rattle.cbor_events.specs.declared.event.Event.{Event}
 use Rattle.cbor_events.specs.declared.event.EventKind.{EventKind}
 use Rattle.cbor_events.specs.declared.event.EventKind.TheVariants as kinds
 use Rattle.cbor_events.proofs.Taking.{nothing-taken}
-use Rattle.cbor_reader.specs.Judged.{IsJudged}
-use Rattle.cbor_reader.specs.Reading.{IsAt, IsReached, Extends, IsFormRefusal, OfMark, IsBegun, ReadsItem, IsCause, HasCause, IsMemory, StopsItem, IsNextHead, StopsHead, ReadsBreak, HasBegun}
+use Rattle.cbor_reader.specs.inner.Judged.{IsJudged}
+use Rattle.cbor_reader.specs.inner.Reading.{IsAt, IsReached, Extends, IsFormRefusal, OfMark, IsBegun, ReadsItem, IsCause, HasCause, IsMemory, StopsItem, IsNextHead, StopsHead, ReadsBreak, HasBegun}
 use Rattle.cbor_reader.proofs.Judged.{zero_item}
 use Rattle.cbor_reader.proofs.Steps.{farther}
 use Rattle.cbor_reader.proofs.Leaves.{head_complains, array_head_complains, map_head_complains}
@@ -161,7 +161,7 @@ definite-judged r at d fs m w n bs next c i o = go m i.follows o (count_last r a
         never-long (strict order) o e = o.0 e
         never-long _ o e = o
 
-opener-judged : (r : Rules) (at d : ℕ) (fs : List Frame) (m : Major) (next : State) (c : Complaint) → Opens d fs m next → OfOpener r at c → IsJudged r at (d - length fs) (head m Indefinite 0) (Some c)
+opener-judged : (r : Rules) (at d : ℕ) (fs : List Frame) (m : Major) (next : State) (c : Complaint) → Opens d fs m next → OfIndefinite r at c → IsJudged r at (d - length fs) (head m Indefinite 0) (Some c)
 opener-judged r at d fs majors.Bytes next c f o = head_complains (byte_chunks []) r at (d - length fs) c tt (omega arith) (inl o) (count_last r at majors.Bytes Indefinite 0 c o)
 opener-judged r at d fs majors.Text next c f o = head_complains (text_chunks []) r at (d - length fs) c tt (omega arith) (inl o) (count_last r at majors.Text Indefinite 0 c o)
 opener-judged r at d fs majors.Array next c f o = array_head_complains Indefinite 0 r at (d - length fs) c tt (omega (arith, f.0)) o

@@ -5,8 +5,8 @@ use Rattle.std.proofs.lemmas.Bool.{cases_lt}
 use Rattle.cbor_head.specs.Spelling.{Spelling, Spellings, SpelledEntries, unsigned, no_spellings, a_spelling, no_entries, entry, spell, spellings_count, entries_count, IsSpelled, AreSpelled, AreEntriesSpelled, depth, depth_all, depth_entries, IsItem}
 use Rattle.cbor_head.specs.Complaint.{Rules, Complaint, Complains}
 use Rattle.cbor_head.specs.Verdict.{rank}
-use Rattle.cbor_reader.specs.Frame.{Frame, a_member, a_key, a_content, tagged, keys_onto, plug, before, behind, IsFrame, depth_beside, OfFront, OfKeyAt}
-use Rattle.cbor_reader.specs.Judged.{IsFinding, IsJudged}
+use Rattle.cbor_reader.proofs.Frame.{Frame, a_member, a_key, a_content, tagged, keys_onto, plug, before, behind, IsFrame, depth_beside, OfFront, OfKeyAt}
+use Rattle.cbor_reader.specs.inner.Judged.{IsFinding, IsJudged}
 use Rattle.cbor_head.specs.declared.width.Width.TheVariants.{Direct}
 use Rattle.cbor_head.proofs.Agree.{head_of, body, parts, later}
 use Rattle.cbor_head.proofs.OneFirst.{bounded, key_last}

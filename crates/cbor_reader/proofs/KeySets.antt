@@ -11,7 +11,7 @@ use Rattle.cbor_head.specs.Spelling.{Spelling, value_of}
 use Rattle.cbor_head.specs.Canonical.{canonical}
 use Rattle.cbor_head.specs.declared.order.KeyOrder.TheVariants.{Bytewise}
 use Rattle.cbor_reader.specs.declared.key_set.KeySet.{KeySet}
-use Rattle.cbor_reader.specs.MapKeys.{IsOneOf, HasBytes, IsPut, is_in}
+use Rattle.cbor_reader.specs.inner.MapKeys.{IsOneOf, HasBytes, IsPut, is_in}
 
 not_both : true ≡ false → ⊥
 not_both e = cc e

@@ -4,9 +4,9 @@ use Rattle.std.specs.List.{AllByRecursion}
 use Rattle.std.proofs.lemmas.List.{length-append, append_assoc, append-nil}
 use Rattle.std.proofs.lemmas.Grind.{flat_map-append}
 use Rattle.cbor_head.specs.Head.{head}
-use Rattle.cbor_head.specs.Spelling.{Chunk, IsChunk, Spelling, bytes, text, byte_chunks, text_chunks, array, a_map, spell, chunk_bytes, chunked, IsSpelled, HoldsOrOpen, spellings_count, entries_count, depth}
-use Rattle.cbor_head.specs.Complaint.{Rules, Complaint, OfHead, OfOpener, OfCount, OfPayload, OfString, OfChunks, Complains}
-use Rattle.cbor_reader.specs.Judged.{IsFinding, IsJudged}
+use Rattle.cbor_head.specs.Spelling.{Chunk, IsChunk, Spelling, bytes, text, byte_chunks, text_chunks, array, a_map, spell, chunk_bytes, chunked, IsSpelled, HoldsOrIndefinite, spellings_count, entries_count, depth}
+use Rattle.cbor_head.specs.Complaint.{Rules, Complaint, OfHead, OfIndefinite, OfCount, OfPayload, OfString, OfChunks, Complains}
+use Rattle.cbor_reader.specs.inner.Judged.{IsFinding, IsJudged}
 use Rattle.cbor_head.specs.declared.major.Major.{Major}
 use Rattle.cbor_head.specs.declared.major.Major.TheVariants.{Bytes, Text, Array, Map}
 use Rattle.cbor_head.specs.declared.width.Width.{Width}
@@ -28,16 +28,16 @@ head_complains s r at d c h l o e =
       finding = record { holds = o; ends = omega (arith, e); first = λ x g m. inr (omega (arith, e, from, m, later s r at x g), omega (arith, e, from)) };
     }
 
-pub array_head_complains : (w : Width) (n : ℕ) (r : Rules) (at d : ℕ) (c : Complaint) → HoldsOrOpen w n → 1 ≤ d → OfCount r at Array w n c → IsJudged r at d (head Array w n) (Some c)
+pub array_head_complains : (w : Width) (n : ℕ) (r : Rules) (at d : ℕ) (c : Complaint) → HoldsOrIndefinite w n → 1 ≤ d → OfCount r at Array w n c → IsJudged r at d (head Array w n) (Some c)
 array_head_complains w n r at d c h l o =
-    let i : HoldsOrOpen w (spellings_count (zeros n)) = subst (HoldsOrOpen w) (sym (zeros_count n)) h in
+    let i : HoldsOrIndefinite w (spellings_count (zeros n)) = subst (HoldsOrIndefinite w) (sym (zeros_count n)) h in
     let p : OfCount r at Array w (spellings_count (zeros n)) c = subst (λ (m : ℕ). OfCount r at Array w m c) (sym (zeros_count n)) o in
     subst (λ (m : ℕ). IsJudged r at d (head Array w m) (Some c)) (zeros_count n)
     (head_complains (array w (zeros n)) r at d c (i, zeros_spelled n) (omega (arith, zeros_flat n, l)) (inl p) (count_last r at Array w (spellings_count (zeros n)) c p))
 
-pub map_head_complains : (w : Width) (n : ℕ) (r : Rules) (at d : ℕ) (c : Complaint) → HoldsOrOpen w n → 1 ≤ d → OfCount r at Map w n c → IsJudged r at d (head Map w n) (Some c)
+pub map_head_complains : (w : Width) (n : ℕ) (r : Rules) (at d : ℕ) (c : Complaint) → HoldsOrIndefinite w n → 1 ≤ d → OfCount r at Map w n c → IsJudged r at d (head Map w n) (Some c)
 map_head_complains w n r at d c h l o =
-    let i : HoldsOrOpen w (entries_count (zero_pairs n)) = subst (HoldsOrOpen w) (sym (pairs_count n)) h in
+    let i : HoldsOrIndefinite w (entries_count (zero_pairs n)) = subst (HoldsOrIndefinite w) (sym (pairs_count n)) h in
     let p : OfCount r at Map w (entries_count (zero_pairs n)) c = subst (λ (m : ℕ). OfCount r at Map w m c) (sym (pairs_count n)) o in
     subst (λ (m : ℕ). IsJudged r at d (head Map w m) (Some c)) (pairs_count n)
     (head_complains (a_map w (zero_pairs n)) r at d c (i, pairs_spelled n) (omega (arith, pairs_flat n, l)) (inl p) (count_last r at Map w (entries_count (zero_pairs n)) c p))
@@ -112,8 +112,8 @@ pub record IsChunked (m : Major) (made : List Chunk → Spelling) : Type 0 where
   pub bytes_are : (cs : List Chunk) → spell (made cs) ≡ chunked m cs
   pub spelled : (cs : List Chunk) → AllByRecursion IsChunk cs → IsSpelled (made cs)
   pub flat : (cs : List Chunk) → depth (made cs) ≡ 0
-  pub has : (r : Rules) (at : ℕ) (cs : List Chunk) (c : Complaint) → Complains r at (made cs) c → OfOpener r at c ⊎ OfChunks r (at + 1) m cs c
-  pub back : (r : Rules) (at : ℕ) (cs : List Chunk) (c : Complaint) → OfOpener r at c ⊎ OfChunks r (at + 1) m cs c → Complains r at (made cs) c
+  pub has : (r : Rules) (at : ℕ) (cs : List Chunk) (c : Complaint) → Complains r at (made cs) c → OfIndefinite r at c ⊎ OfChunks r (at + 1) m cs c
+  pub back : (r : Rules) (at : ℕ) (cs : List Chunk) (c : Complaint) → OfIndefinite r at c ⊎ OfChunks r (at + 1) m cs c → Complains r at (made cs) c
   pub opener : length (head m Indefinite 0) ≡ 1
 
 pub bytes_chunked : IsChunked Bytes byte_chunks
@@ -127,7 +127,7 @@ chunk_regroup h a p rest z =
     ap (λ (x : List ℕ). (h ++ (a ++ x)) ++ z) (append-nil (p ++ rest)) ∙ ap (λ (x : List ℕ). x ++ z) (sym (append_assoc h a (p ++ rest)) ∙ sym (append_assoc (h ++ a) p rest)) ∙ append_assoc ((h ++ a) ++ p) rest z
 
 -- what the next chunk has, whole or cut behind p, is the string's
-pub chunk_judged : (m : Major) (made : List Chunk → Spelling) → IsChunked m made → (done : List Chunk) (r : Rules) (at d : ℕ) → AllByRecursion IsChunk done → Never (OfOpener r at) → Never (OfChunks r (at + 1) m done)
+pub chunk_judged : (m : Major) (made : List Chunk → Spelling) → IsChunked m made → (done : List Chunk) (r : Rules) (at d : ℕ) → AllByRecursion IsChunk done → Never (OfIndefinite r at) → Never (OfChunks r (at + 1) m done)
     → (k : Chunk) (p rest : List ℕ) → IsChunk k → chunk_bytes m k ≡ p ++ rest → (found : Option Complaint)
     → IsFinding (OfString r (at + length (chunks_bytes m done)) m k.width k.payload) (at + length (chunks_bytes m done) + length p) (at + length (chunks_bytes m done) + length (chunk_bytes m k)) found
     → IsJudged r at d (chunks_bytes m done ++ p) found
@@ -168,7 +168,7 @@ chunk_judged m made kind done r at d are clean_opener clean k p rest is e found 
     go None there size h = (omega (arith, size), λ x g. omega (arith, h.1 x (split x there g), length-append (chunks_bytes m done) p))
 
 -- between two chunks
-pub chunks_so_far : (m : Major) (made : List Chunk → Spelling) → IsChunked m made → (done : List Chunk) (r : Rules) (at d : ℕ) → AllByRecursion IsChunk done → Never (OfOpener r at) → Never (OfChunks r (at + 1) m done)
+pub chunks_so_far : (m : Major) (made : List Chunk → Spelling) → IsChunked m made → (done : List Chunk) (r : Rules) (at d : ℕ) → AllByRecursion IsChunk done → Never (OfIndefinite r at) → Never (OfChunks r (at + 1) m done)
     → IsJudged r at d (chunks_bytes m done) None
 chunks_so_far m made kind done r at d are clean_opener clean = record {
   item = made done;

@@ -7,14 +7,15 @@ pub mod Composition
 pub mod CutShort
 pub mod Decisions
 mod Examples
+pub mod Frame
 pub mod Frames
 pub mod Fronts
 pub mod Headline
 pub mod Heads
 pub mod Items
 pub mod Judged
-pub mod KeySets
 pub mod Keys
+pub mod KeySets
 pub mod Leaves
 pub mod Loops
 pub mod MapKeys
@@ -23,9 +24,9 @@ pub mod NextKey
 pub mod OnAnswers
 pub mod OneAnswer
 pub mod Payloads
-pub mod Scalars
 pub mod ReadItems
 pub mod Reasons
+pub mod Scalars
 pub mod Sizes
 pub mod SpelledBytes
 pub mod Steps
@@ -33,7 +34,7 @@ pub mod StrictFronts
 pub mod Tops
 pub mod Valid
 pub mod ValidTexts
-pub mod WholeStrings
 pub mod WholeInputs
 pub mod WholeItems
+pub mod WholeStrings
 pub mod Within

@@ -2,10 +2,10 @@
 use Rattle.std.proofs.Common.{ℕ, ◌≡◌, List, [], ◌++◌, sym, ap, ◌∙◌}
 use Rattle.std.proofs.lemmas.List.{append_assoc, append-nil}
 use Rattle.cbor_head.specs.Head.{head}
-use Rattle.cbor_head.specs.Spelling.{Spelling, Spellings, SpelledEntries, array, a_map, no_spellings, a_spelling, no_entries, entry, spell, spell_all, spell_entries, spellings_count, entries_count, closer}
+use Rattle.cbor_head.specs.Spelling.{Spelling, Spellings, SpelledEntries, array, a_map, no_spellings, a_spelling, no_entries, entry, spell, spell_all, spell_entries, spellings_count, entries_count, break_of}
 use Rattle.cbor_head.specs.declared.major.Major.TheVariants.{Array, Map}
 use Rattle.cbor_head.specs.declared.width.Width.{Width}
-use Rattle.cbor_reader.specs.Frame.{with_all, with_entries}
+use Rattle.cbor_reader.proofs.Frame.{with_all, with_entries}
 use Rattle.cbor_reader.proofs.Frames.{spell_with, spell_entries_with}
 use Rattle.cbor_reader.proofs.Composition.{array_bytes, map_bytes}
 
@@ -21,13 +21,13 @@ map_bytes-more w n done k v =
     ∙ sym (append_assoc (map_bytes w n done) (spell k) (spell v))
 
 -- all members of a definite array are there
-pub array_bytes-whole : (w : Width) (n : ℕ) (done : Spellings) → closer w ≡ [] → spellings_count done ≡ n → spell (array w done) ≡ array_bytes w n done
+pub array_bytes-whole : (w : Width) (n : ℕ) (done : Spellings) → break_of w ≡ [] → spellings_count done ≡ n → spell (array w done) ≡ array_bytes w n done
 array_bytes-whole w n done e f =
     ap (λ (x : List ℕ). array_bytes w (spellings_count done) done ++ x) e
     ∙ append-nil (array_bytes w (spellings_count done) done)
     ∙ ap (λ (k : ℕ). array_bytes w k done) f
 
-pub map_bytes-whole : (w : Width) (n : ℕ) (done : SpelledEntries) → closer w ≡ [] → entries_count done ≡ n → spell (a_map w done) ≡ map_bytes w n done
+pub map_bytes-whole : (w : Width) (n : ℕ) (done : SpelledEntries) → break_of w ≡ [] → entries_count done ≡ n → spell (a_map w done) ≡ map_bytes w n done
 map_bytes-whole w n done e f =
     ap (λ (x : List ℕ). map_bytes w (entries_count done) done ++ x) e
     ∙ append-nil (map_bytes w (entries_count done) done)

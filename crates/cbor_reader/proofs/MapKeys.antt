@@ -18,8 +18,8 @@ use Rattle.cbor_reader.specs.declared.map_keys.Keys.{Keys}
 use Rattle.cbor_reader.specs.declared.map_keys.Keys.TheVariants.{Distinct, Rising}
 use Rattle.cbor_reader.specs.declared.rules.Rules.{Rules}
 use Rattle.cbor_reader.specs.declared.rules.Rules.TheVariants.{Plain, Strict}
-use Rattle.cbor_reader.specs.Rules.{rules_of}
-use Rattle.cbor_reader.specs.MapKeys.{IsKeyValue, IsKey, IsOneOf, AreSound, HasKeys, IsLast, IsInserted, IsPut, Rises}
+use Rattle.cbor_reader.specs.inner.Rules.{rules_of}
+use Rattle.cbor_reader.specs.inner.MapKeys.{HasCanonicalBytes, IsKey, IsOneOf, AreSound, HasKeys, IsLast, IsInserted, IsPut, Rises}
 use Rattle.cbor_reader.proofs.Judged.{Never}
 use Rattle.cbor_reader.proofs.Valid.{in_range_of, valid_of}
 
@@ -92,7 +92,7 @@ pub sound_by : (rules : Rules) (s : Spelling) (at : ℕ) → IsSpelled s → len
 sound_by Plain s at h l f = sound (value_of s) (in_range_of s h l) (valid_of s at f)
 sound_by (Strict o) s at h l f = (strict_spelling o s at h f).sound
 
-pub key_value : (rules : Rules) (k : Spelling) (v : Value) → IsKey (rules_of rules) k v → depth k ≤ 256 → IsKeyValue v
+pub key_value : (rules : Rules) (k : Spelling) (v : Value) → IsKey (rules_of rules) k v → depth k ≤ 256 → HasCanonicalBytes v
 key_value rules k v i l =
     let s = sound_by rules k i.place i.spelled i.fits i.clean in
-    subst IsKeyValue i.value (record { depth = subst (λ (n : ℕ). n ≤ 256) (sym (depth-value_of k)) l; in_range = s.range; valid = s.valid })
+    subst HasCanonicalBytes i.value (record { depth = subst (λ (n : ℕ). n ≤ 256) (sym (depth-value_of k)) l; in_range = s.range; valid = s.valid })

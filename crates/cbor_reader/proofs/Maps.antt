@@ -6,7 +6,7 @@ use Rattle.cbor_head.specs.Head.{head}
 use Rattle.cbor_head.specs.Limits.{Bounds}
 use Rattle.cbor_head.specs.Value as value
 use Rattle.cbor_head.specs.Value.{Value, Entries}
-use Rattle.cbor_head.specs.Spelling.{Spelling, SpelledEntries, a_map, no_entries, entry, spell, entries_count, closer, HoldsOrOpen, depth, value_of, entries_of}
+use Rattle.cbor_head.specs.Spelling.{Spelling, SpelledEntries, a_map, no_entries, entry, spell, entries_count, break_of, HoldsOrIndefinite, depth, value_of, entries_of}
 use Rattle.cbor_head.specs.Complaint.{Rules, Complaint, OfKey, Complains}
 use Rattle.cbor_head.specs.Verdict.{refusal}
 use Rattle.cbor_head.specs.declared.major.Major.TheVariants as majors
@@ -21,10 +21,11 @@ use Rattle.cbor_events.specs.State.{count_of}
 use Rattle.cbor_events.specs.ItemEvents.{ItemEventsView}
 use Rattle.cbor_events.specs.declared.event.EventKind.TheVariants as kinds
 use Rattle.cbor_item.specs.declared.item.Item.{Item}
-use Rattle.cbor_item.specs.View.{view, entries_view}
-use Rattle.cbor_reader.specs.Frame.{with_entries, keys_onto}
-use Rattle.cbor_reader.specs.Judged.{IsJudged}
-use Rattle.cbor_reader.specs.Reading.{IsAt, Extends, IsBegun, ReadsItem, IsMemory, StopsItem, IsReached}
+use Rattle.cbor_item.specs.View.{view}
+use Rattle.cbor_item.specs.inner.Members.{entries_view}
+use Rattle.cbor_reader.proofs.Frame.{with_entries, keys_onto}
+use Rattle.cbor_reader.specs.inner.Judged.{IsJudged}
+use Rattle.cbor_reader.specs.inner.Reading.{IsAt, Extends, IsBegun, ReadsItem, IsMemory, StopsItem, IsReached}
 use Rattle.cbor_reader.proofs.Frames.{entries_with}
 use Rattle.cbor_reader.proofs.Judged.{Never}
 use Rattle.cbor_reader.proofs.Composition.{IsMapSoFar, IsKeySoFar, map_bytes, key_judged, key_complains, content_judged, map_more, map_whole}
@@ -33,10 +34,10 @@ use Rattle.cbor_reader.proofs.Loops.{map_bytes-more, map_bytes-whole}
 use Rattle.cbor_reader.proofs.Items.{definite, proper-definite, extends-none, extends-in, extends-on, stops-in, stops-memory}
 use Rattle.cbor_reader.proofs.Scalars.{at-as}
 use Rattle.cbor_reader.proofs.Arrays.{IsLeft, one_fewer, closes, close-counted}
-use Rattle.cbor_reader.specs.Members.{fewer}
-use Rattle.cbor_reader.specs.MapKeys.{HasKeys}
+use Rattle.cbor_reader.specs.inner.Members.{fewer}
+use Rattle.cbor_reader.specs.inner.MapKeys.{HasKeys}
 use Rattle.cbor_reader.proofs.Keys.{keys_more}
-use Rattle.cbor_reader.specs.NextKey.{RefusesKey}
+use Rattle.cbor_reader.specs.inner.NextKey.{RefusesKey}
 use Rattle.cbor_reader.specs.declared.map_keys.Keys.{Keys}
 use Rattle.cbor_reader.proofs.Steps.{at-reached, reached-as, farther}
 use Rattle.cbor_head.proofs.ReadLaws.{length_spell}
@@ -94,8 +95,8 @@ starts-map r b fs t x w None from e i =
       room = taking.2.0;
     }
   where
-    any_open : (w : Width) (n : ℕ) → w ≡ Indefinite → HoldsOrOpen w n
-    any_open w n e = subst (λ (v : Width). HoldsOrOpen v n) (sym e) tt
+    any_open : (w : Width) (n : ℕ) → w ≡ Indefinite → HoldsOrIndefinite w n
+    any_open w n e = subst (λ (v : Width). HoldsOrIndefinite v n) (sym e) tt
 
 -- ---- one that has no length is one of any count
 
@@ -323,7 +324,7 @@ module _ (r : Rules) (b : Bounds) (fs : List Frame) (t x : List ℕ) (w : Width)
           let k = entries_count a.done in
           let whole = map_whole w a.done r (length t) (b.depth - suc (length fs)) (other_count r (length t) (b.depth - suc (length fs)) w n k a.done counts a.so_far) in
           let bytes_are : map_bytes w n a.done ++ bs ≡ spell (a_map w a.done) =
-          ap (λ (u : List ℕ). map_bytes w n a.done ++ u) h.0 ∙ ap (λ (u : List ℕ). u ++ 0xff ∷ []) (other_bytes w n k a.done counts) ∙ ap (λ (u : List ℕ). map_bytes w k a.done ++ u) (sym (ap closer counts)) in
+          ap (λ (u : List ℕ). map_bytes w n a.done ++ u) h.0 ∙ ap (λ (u : List ℕ). u ++ 0xff ∷ []) (other_bytes w n k a.done counts) ∙ ap (λ (u : List ℕ). map_bytes w k a.done ++ u) (sym (ap break_of counts)) in
           let room : length fs < b.depth = a.room in
           record {
             item = a_map w a.done;

@@ -11,9 +11,9 @@ use Rattle.cbor_head.specs.declared.reason.Reason.{Reason}
 use Rattle.cbor_head.specs.declared.reason.Refusal.{Refusal}
 use Rattle.cbor_events.specs.Automaton.{Frame}
 use Rattle.cbor_events.specs.ItemEvents.{ItemEventsView}
-use Rattle.cbor_reader.specs.MapKeys.{IsInserted}
-use Rattle.cbor_reader.specs.NextKey.{ReadsKey, RefusesKey}
-use Rattle.cbor_reader.specs.Reading.{ReadsItem}
+use Rattle.cbor_reader.specs.inner.MapKeys.{IsInserted}
+use Rattle.cbor_reader.specs.inner.NextKey.{ReadsKey, RefusesKey}
+use Rattle.cbor_reader.specs.inner.Reading.{ReadsItem}
 use Rattle.cbor_reader.specs.declared.map_keys.Keys.{Keys}
 
 module _ (r : Rules) (b : Bounds) (fs : List Frame) (t : List ℕ) (from to : Option (List ℕ)) (new : ItemEventsView) (v : Value) (m : ReadsItem r b fs t [] from to new v) where

@@ -28,7 +28,7 @@ use Rattle.cbor_events.specs.declared.event.Event.{Event}
 use Rattle.cbor_events.specs.declared.event.EventKind.{EventKind}
 use Rattle.cbor_events.specs.declared.event.EventKind.TheVariants as kinds
 use Rattle.cbor_events.proofs.Taking.{IsClear, IsWithin, nothing-taken, first-mark, within-start}
-use Rattle.cbor_reader.specs.Reading.{IsAt, IsFormRefusal, IsMemory, ReadsPayload, StopsPayload}
+use Rattle.cbor_reader.specs.inner.Reading.{IsAt, IsFormRefusal, IsMemory, ReadsPayload, StopsPayload}
 use Rattle.cbor_reader.proofs.Steps.{Stops, SameLimits, stands-reached, at-reached, reached-as, at-clear, bytes_back, next-at, since}
 use Rattle.cbor_reader.proofs.Scalars.{at-as}
 

@@ -12,10 +12,10 @@ use Rattle.cbor_events.specs.Automaton.{Frame, close}
 use Rattle.cbor_events.specs.ItemEvents.{ItemEventsView}
 use Rattle.cbor_item.specs.declared.item.Item.{Item}
 use Rattle.cbor_item.specs.View.{view}
-use Rattle.cbor_reader.specs.Building.{IsBuilt}
-use Rattle.cbor_reader.specs.MapKeys.{IsKey, IsKeyValue}
-use Rattle.cbor_reader.specs.Reading.{ReadsItem, IsMemory, StopsItem}
-use Rattle.cbor_reader.specs.Rules.{rules_of}
+use Rattle.cbor_reader.specs.inner.Building.{IsBuilt}
+use Rattle.cbor_reader.specs.inner.MapKeys.{IsKey, HasCanonicalBytes}
+use Rattle.cbor_reader.specs.inner.Reading.{ReadsItem, IsMemory, StopsItem}
+use Rattle.cbor_reader.specs.inner.Rules.{rules_of}
 use Rattle.cbor_reader.specs.declared.rules.Rules as declared
 use Rattle.cbor_reader.proofs.Items.{stops-memory}
 use Rattle.cbor_reader.proofs.MapKeys.{key_value}
@@ -45,7 +45,7 @@ module _ (r : Rules) (b : Bounds) (fs : List Frame) (t x : List ℕ) (from to : 
   answers-built (Err y) (Ok i) e is = absurd is
   answers-built (Err y) (Err f) e is = item-no-memory f is.taken is.memory
 
-pub key-value : (rules : declared.Rules) (b : Bounds) (fs : List Frame) (t x : List ℕ) (from to : Option (List ℕ)) (new : ItemEventsView) (v : Value) → ReadsItem (rules_of rules) b fs t x from to new v → IsKeyValue v
+pub key-value : (rules : declared.Rules) (b : Bounds) (fs : List Frame) (t x : List ℕ) (from to : Option (List ℕ)) (new : ItemEventsView) (v : Value) → ReadsItem (rules_of rules) b fs t x from to new v → HasCanonicalBytes v
 key-value rules b fs t x from to new v m = key_value rules m.item v (is-key (rules_of rules) b fs t x from to new v m) (shallow (rules_of rules) b fs t x from to new v m)
 
 -- the pairs of a map that was read

@@ -3,8 +3,8 @@ use Rattle.std.proofs.Common.{ℕ, ◌+◌, ◌≡◌, ◌≢◌, List, [], ◌�
 use Rattle.std.specs.Prelude.{◌==◌, ◌||◌, ◌&&◌, ◌%◌, nat_le, if◌then◌else◌}
 use Rattle.cbor_head.specs.Head.{head}
 use Rattle.cbor_head.specs.Spelling.{Chunk, Spelling, Spellings, SpelledEntries, unsigned, negative, bytes, text, byte_chunks, text_chunks, array, a_map, tag, simple, no_spellings, a_spelling, no_entries, entry, spell, chunk_bytes, spellings_count, entries_count}
-use Rattle.cbor_head.specs.Complaint.{Rules, form, plain, strict, Complaint, OfHead, OfOpener, OfCount, OfPayload, OfString, OfChunks, OfKey, Complains, ComplainsIn, ComplainsInEntries}
-use Rattle.cbor_head.specs.Verdict.{initial_reason, refused, BreaksForm, IsBreak, IsVerdict}
+use Rattle.cbor_head.specs.Complaint.{Rules, form, plain, strict, Complaint, OfHead, OfIndefinite, OfCount, OfPayload, OfString, OfChunks, OfKey, Complains, ComplainsIn, ComplainsInEntries}
+use Rattle.cbor_head.specs.Verdict.{initial_reason, refused, IsReasonAt, IsFormError, IsVerdict}
 use Rattle.cbor_head.specs.declared.reason.Reason.{Reason}
 use Rattle.cbor_head.specs.declared.reason.Reason.TheVariants.{Read, NotShortest, Indefinite as IndefiniteReason, InvalidText, RepeatedKey, KeyOrder as KeyOrderReason, StrayBreak, Float, NoIndefinite, Reserved, TooDeep}
 use Rattle.cbor_head.specs.declared.reason.Refusal.{Refusal}
@@ -22,7 +22,7 @@ of-head form at m w n c h = absurd h
 of-head plain at m w n c h = absurd h
 of-head (strict o) at m w n c h = other c _ NotShortest h.1 refl (λ e. cc e)
 
-of-opener : (r : Rules) (at : ℕ) (c : Complaint) → OfOpener r at c → c.reason ≢ Read
+of-opener : (r : Rules) (at : ℕ) (c : Complaint) → OfIndefinite r at c → c.reason ≢ Read
 of-opener form at c h = absurd h
 of-opener plain at c h = absurd h
 of-opener (strict o) at c h = other c _ IndefiniteReason h refl (λ e. cc e)
@@ -102,12 +102,12 @@ initial-other c e = chain (c == 0xff) ((c == 0xf9) || (c == 0xfa) || (c == 0xfb)
     chain false false false true h = cc h
     chain false false false false h = cc h
 
-breaks-other : (d n : ℕ) (p behind : List ℕ) (f : Refusal) → IsBreak d n p behind f → f.reason ≢ Read
+breaks-other : (d n : ℕ) (p behind : List ℕ) (f : Refusal) → IsFormError d n p behind f → f.reason ≢ Read
 breaks-other d n p [] f (inl h) e = cc (sym (ap (λ (x : Refusal). x.reason) h.1) ∙ e)
 breaks-other d n p [] f (inr h) e = cc (sym (ap (λ (x : Refusal). x.reason) h.1) ∙ e)
 breaks-other d n p (c ∷ cs) f h e = go h.0 h.1 (sym (ap (λ (x : Refusal). x.reason) h.2) ∙ e)
   where
-    go : (reason : Reason) → BreaksForm d p c reason → reason ≡ Read → ⊥
+    go : (reason : Reason) → IsReasonAt d p c reason → reason ≡ Read → ⊥
     go reason (inl b) e = initial-other c (sym b.1 ∙ e)
     go reason (inr (inl b)) e = cc (sym b.2 ∙ e)
     go reason (inr (inr b)) e = cc (sym b.2 ∙ e)

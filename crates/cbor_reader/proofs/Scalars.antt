@@ -13,8 +13,8 @@ use Rattle.cbor_head.specs.declared.reason.Refusal.{Refusal}
 use Rattle.cbor_events.specs.Automaton.{Frame, counted, State, at_item, close}
 use Rattle.cbor_events.specs.ItemEvents.{ItemEventsView}
 use Rattle.cbor_events.specs.declared.event.EventKind.TheVariants as kinds
-use Rattle.cbor_reader.specs.Judged.{IsJudged}
-use Rattle.cbor_reader.specs.Reading.{IsAt, Extends, IsBegun, ReadsItem, StopsItem}
+use Rattle.cbor_reader.specs.inner.Judged.{IsJudged}
+use Rattle.cbor_reader.specs.inner.Reading.{IsAt, Extends, IsBegun, ReadsItem, StopsItem}
 use Rattle.cbor_reader.proofs.Composition.{tag_judged, tag_whole}
 use Rattle.cbor_reader.proofs.Items.{IsDefinite, definite, never-open, is-definite, head-count, extends-none, extends-in, stops-in}
 

@@ -2,7 +2,7 @@
 use Rattle.std.proofs.Common.{ℕ, suc, ◌≤◌, List, [], ◌∷◌, ◌++◌, length, flat_map, arith}
 use Rattle.std.proofs.lemmas.List.{length-append}
 use Rattle.cbor_head.specs.Head.{head}
-use Rattle.cbor_head.specs.Spelling.{Chunk, Spelling, Spellings, SpelledEntries, unsigned, negative, bytes, text, byte_chunks, text_chunks, array, a_map, tag, simple, no_spellings, a_spelling, no_entries, entry, spell, spell_all, spell_entries, spellings_count, entries_count, value_of, values_of, entries_of, joined, chunk_bytes, chunked, closer}
+use Rattle.cbor_head.specs.Spelling.{Chunk, Spelling, Spellings, SpelledEntries, unsigned, negative, bytes, text, byte_chunks, text_chunks, array, a_map, tag, simple, no_spellings, a_spelling, no_entries, entry, spell, spell_all, spell_entries, spellings_count, entries_count, value_of, values_of, entries_of, chunks_joined, chunk_bytes, chunked, break_of}
 use Rattle.cbor_head.specs.declared.major.Major.{Major}
 use Rattle.cbor_head.specs.declared.major.Major.TheVariants.{Bytes, Text, Array, Map, Tag}
 use Rattle.cbor_head.specs.declared.width.Width.{Width}
@@ -18,10 +18,10 @@ behind_head m w k n xs l = omega (arith, l, length_head m w k, length-append (he
 within_front : (n : ℕ) (xs ys : List ℕ) → n ≤ length xs → n ≤ length (xs ++ ys)
 within_front n xs ys l = omega (arith, l, length-append xs ys)
 
-chunks_size : (m : Major) (cs : List Chunk) → suc (length (joined cs)) ≤ length (chunked m cs)
+chunks_size : (m : Major) (cs : List Chunk) → suc (length (chunks_joined cs)) ≤ length (chunked m cs)
 chunks_size m cs =
-    within_front (suc (length (joined cs))) (head m Indefinite 0 ++ flat_map (chunk_bytes m) cs) (0xff ∷ [])
-    (behind_head m Indefinite 0 (length (joined cs)) (flat_map (chunk_bytes m) cs) (joined_bounded m cs))
+    within_front (suc (length (chunks_joined cs))) (head m Indefinite 0 ++ flat_map (chunk_bytes m) cs) (0xff ∷ [])
+    (behind_head m Indefinite 0 (length (chunks_joined cs)) (flat_map (chunk_bytes m) cs) (joined_bounded m cs))
 
 mutual
   pub size_bounded : (s : Spelling) → size (value_of s) ≤ length (spell s)
@@ -30,9 +30,9 @@ mutual
   size_bounded (byte_chunks cs) = chunks_size Bytes cs
   size_bounded (text_chunks cs) = chunks_size Text cs
   size_bounded (array w ss) =
-      within_front _ (head Array w (spellings_count ss) ++ spell_all ss) (closer w) (behind_head Array w (spellings_count ss) (size_all (values_of ss)) (spell_all ss) (sizes_bounded ss))
+      within_front _ (head Array w (spellings_count ss) ++ spell_all ss) (break_of w) (behind_head Array w (spellings_count ss) (size_all (values_of ss)) (spell_all ss) (sizes_bounded ss))
   size_bounded (a_map w es) =
-      within_front _ (head Map w (entries_count es) ++ spell_entries es) (closer w) (behind_head Map w (entries_count es) (size_entries (entries_of es)) (spell_entries es) (entries_bounded es))
+      within_front _ (head Map w (entries_count es) ++ spell_entries es) (break_of w) (behind_head Map w (entries_count es) (size_entries (entries_of es)) (spell_entries es) (entries_bounded es))
   size_bounded (tag w n s) = behind_head Tag w n (size (value_of s)) (spell s) (size_bounded s)
   size_bounded (unsigned w n) = length_spell (unsigned w n)
   size_bounded (negative w n) = length_spell (negative w n)

@@ -3,9 +3,9 @@ use Rattle.std.proofs.Common.{ℕ, zero, suc, ◌*◌, ◌/◌, ◌^◌, ◌≡�
 use Rattle.std.specs.List.{AllByRecursion}
 use Rattle.std.specs.Int.{bytes_high_first, byte_at}
 use Rattle.std.proofs.lemmas.Bool.{cases_lt}
-use Rattle.cbor_head.specs.Head.{Holds, head, shortest, major_number, argument}
+use Rattle.cbor_head.specs.Head.{Holds, head, shortest, major_number, with_argument}
 use Rattle.cbor_head.specs.Value.{AreBytes}
-use Rattle.cbor_head.specs.Spelling.{Chunk, IsChunk, Spelling, Spellings, SpelledEntries, unsigned, negative, bytes, text, byte_chunks, text_chunks, array, a_map, tag, simple, no_spellings, a_spelling, no_entries, entry, spell, spell_all, spell_entries, spellings_count, entries_count, chunk_bytes, closer, HoldsOrOpen, IsSpelled, AreSpelled, AreEntriesSpelled}
+use Rattle.cbor_head.specs.Spelling.{Chunk, IsChunk, Spelling, Spellings, SpelledEntries, unsigned, negative, bytes, text, byte_chunks, text_chunks, array, a_map, tag, simple, no_spellings, a_spelling, no_entries, entry, spell, spell_all, spell_entries, spellings_count, entries_count, chunk_bytes, break_of, HoldsOrIndefinite, IsSpelled, AreSpelled, AreEntriesSpelled}
 use Rattle.cbor_head.specs.Beginning.{IsBeginning, IsLongestBeginning}
 use Rattle.cbor_head.specs.declared.major.Major.{Major}
 use Rattle.cbor_head.specs.declared.major.Major.TheVariants.{Unsigned, Negative, Bytes, Text, Array, Map, Tag, Simple}
@@ -41,7 +41,7 @@ abbrev HasRoom : Width → ℕ → Type 0
 HasRoom Direct n = n < 24
 HasRoom _ n = Unit {0}
 
-argument_bytes : (w : Width) (k n : ℕ) → k < 8 → HasRoom w n → AreBytes (argument w (32 * k) n)
+argument_bytes : (w : Width) (k n : ℕ) → k < 8 → HasRoom w n → AreBytes (with_argument w (32 * k) n)
 argument_bytes Direct k n l h = (omega (arith, l, h), tt)
 argument_bytes One k n l h = (omega (arith, l), high_bytes 1 n)
 argument_bytes Two k n l h = (omega (arith, l), high_bytes 2 n)
@@ -60,7 +60,7 @@ room Four n h = tt
 room Eight n h = tt
 room Indefinite n h = tt
 
-open_room : (w : Width) (n : ℕ) → HoldsOrOpen w n → HasRoom w n
+open_room : (w : Width) (n : ℕ) → HoldsOrIndefinite w n → HasRoom w n
 open_room Direct n h = h
 open_room One n h = tt
 open_room Two n h = tt
@@ -68,7 +68,7 @@ open_room Four n h = tt
 open_room Eight n h = tt
 open_room Indefinite n h = tt
 
-closer_bytes : (w : Width) → AreBytes (closer w)
+closer_bytes : (w : Width) → AreBytes (break_of w)
 closer_bytes Direct = tt
 closer_bytes One = tt
 closer_bytes Two = tt
@@ -103,11 +103,11 @@ mutual
   spelled_bytes (byte_chunks cs) h = chunked_bytes Bytes cs h
   spelled_bytes (text_chunks cs) h = chunked_bytes Text cs h
   spelled_bytes (array w ss) h =
-      are_bytes-append (head Array w (spellings_count ss) ++ spell_all ss) (closer w)
+      are_bytes-append (head Array w (spellings_count ss) ++ spell_all ss) (break_of w)
       (are_bytes-append (head Array w (spellings_count ss)) (spell_all ss) (head_bytes Array w (spellings_count ss) (open_room w (spellings_count ss) h.0)) (spelled_all_bytes ss h.1))
       (closer_bytes w)
   spelled_bytes (a_map w es) h =
-      are_bytes-append (head Map w (entries_count es) ++ spell_entries es) (closer w)
+      are_bytes-append (head Map w (entries_count es) ++ spell_entries es) (break_of w)
       (are_bytes-append (head Map w (entries_count es)) (spell_entries es) (head_bytes Map w (entries_count es) (open_room w (entries_count es) h.0)) (spelled_entries_bytes es h.1))
       (closer_bytes w)
   spelled_bytes (tag w n s) h = are_bytes-append (head Tag w n) (spell s) (head_bytes Tag w n (room w n h.0)) (spelled_bytes s h.1)

@@ -29,7 +29,7 @@ use Rattle.cbor_events.specs.declared.place.Place.{Place}
 use Rattle.cbor_events.specs.declared.place.Place.TheVariants as places
 use Rattle.cbor_events.proofs.Runs.{once-marks}
 use Rattle.cbor_events.proofs.Taking.{IsClear, mark-taken}
-use Rattle.cbor_reader.specs.Reading.{IsAt, IsReached, OfMark, IsHeadDue, IsNextHead, IsCutHead, StopsHead, IsFault}
+use Rattle.cbor_reader.specs.inner.Reading.{IsAt, IsReached, OfMark, IsHeadDue, IsNextHead, IsCutHead, StopsHead, IsFault}
 use Rattle.cbor_events.proofs.NextEvents.{whole-clear, run-rest}
 
 pub bytes_back : (xs ys : List ℕ) → AreBytes (xs ++ ys) → AreBytes ys

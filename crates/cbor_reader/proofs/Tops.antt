@@ -8,7 +8,7 @@ use Rattle.cbor_head.specs.Value.{Value}
 use Rattle.cbor_head.specs.Spelling.{spell}
 use Rattle.cbor_head.specs.Beginning.{IsBeginning, IsLongestBeginning}
 use Rattle.cbor_head.specs.Complaint.{Rules, Complaint, form}
-use Rattle.cbor_head.specs.Verdict.{refusal, refused, IsBreak, IsVerdict}
+use Rattle.cbor_head.specs.Verdict.{refusal, refused, IsFormError, IsVerdict}
 use Rattle.cbor_head.specs.declared.reason.Reason.{Reason}
 use Rattle.cbor_head.specs.declared.reason.Reason.TheVariants.{Truncated, Read, Memory}
 use Rattle.cbor_head.specs.declared.reason.Refusal.{Refusal}
@@ -16,9 +16,9 @@ use Rattle.cbor_head.proofs.Agree.{split_front}
 use Rattle.cbor_head.proofs.Beginnings.{item_decides}
 use Rattle.cbor_events.proofs.Form.{no-complaint}
 use Rattle.cbor_events.specs.ItemEvents.{ItemEventsView}
-use Rattle.cbor_reader.specs.Judged.{IsJudged}
+use Rattle.cbor_reader.specs.inner.Judged.{IsJudged}
 use Rattle.cbor_reader.specs.Readers.{IsReadAs, IsUnread, of_verdict, of_reader, of_memory, Loses}
-use Rattle.cbor_reader.specs.Reading.{IsReached, IsMemory, IsCause, Extends, ReadsItem, StopsItem}
+use Rattle.cbor_reader.specs.inner.Reading.{IsReached, IsMemory, IsCause, Extends, ReadsItem, StopsItem}
 use Rattle.cbor_reader.proofs.Decisions.{complaint_decides, break_decides}
 use Rattle.cbor_reader.proofs.Within.{verdict_within}
 use Rattle.cbor_reader.proofs.SpelledBytes.{longest_always}
@@ -51,10 +51,10 @@ lost input bs from to e h = go to (subst (λ (f : Option (List ℕ)). Consumes f
     go None c = absurd c
     go (Some ys) c = record { rest = ys; left = refl; splits = c ∙ ap (λ (u : List ℕ). u ++ ys) (sym h.are) }
 
--- ---- a break of form
+-- ---- a form error
 
 -- its place is the length of the longest beginning
-break_place : (d n : ℕ) (p behind : List ℕ) (f : Refusal) → IsBreak d n p behind f → f.place ≡ length p
+break_place : (d n : ℕ) (p behind : List ℕ) (f : Refusal) → IsFormError d n p behind f → f.place ≡ length p
 break_place d n p [] f (inl b) = ap (λ (x : Refusal). x.place) b.1 ∙ sym b.0
 break_place d n p [] f (inr b) = ap (λ (x : Refusal). x.place) b.1
 break_place d n p (c ∷ cs) f b = ap (λ (x : Refusal). x.place) b.2
@@ -63,7 +63,7 @@ break_place d n p (c ∷ cs) f b = ap (λ (x : Refusal). x.place) b.2
 record BreaksAt (d n : ℕ) (input : List ℕ) (f : Refusal) : Type 0 where
   p : List ℕ
   longest : IsLongestBeginning d (take n input) p
-  breaks : IsBreak d n p longest.rest f
+  breaks : IsFormError d n p longest.rest f
 
 breaks_at : (d n : ℕ) (input : List ℕ) (f : Refusal) → IsVerdict d n form input (refused f) → BreaksAt d n input f
 breaks_at d n input f v = elim v.decides [

@@ -5,7 +5,7 @@ use Rattle.std.proofs.lemmas.Str.{IsUtf8-append, IsUtf8-nil}
 use Rattle.std.proofs.lemmas.List.{length-append}
 use Rattle.cbor_head.specs.Head.{head}
 use Rattle.cbor_head.specs.Value.{Value, AreBytes, HasEntry, HasDistinctKeys, Same, IsInRange, AreInRange, AreEntriesInRange, IsValid, AreValid, AreEntriesValid}
-use Rattle.cbor_head.specs.Spelling.{Chunk, IsChunk, Spelling, Spellings, SpelledEntries, unsigned, negative, bytes, text, byte_chunks, text_chunks, array, a_map, tag, simple, no_spellings, a_spelling, no_entries, entry, spell, spell_all, spell_entries, spellings_count, entries_count, value_of, values_of, entries_of, joined, chunk_bytes, chunked, closer, IsSpelled, AreSpelled, AreEntriesSpelled}
+use Rattle.cbor_head.specs.Spelling.{Chunk, IsChunk, Spelling, Spellings, SpelledEntries, unsigned, negative, bytes, text, byte_chunks, text_chunks, array, a_map, tag, simple, no_spellings, a_spelling, no_entries, entry, spell, spell_all, spell_entries, spellings_count, entries_count, value_of, values_of, entries_of, chunks_joined, chunk_bytes, chunked, break_of, IsSpelled, AreSpelled, AreEntriesSpelled}
 use Rattle.cbor_head.specs.Complaint.{plain, Complains, ComplainsIn, ComplainsInEntries, OfChunks, IsRepeated}
 use Rattle.cbor_head.specs.declared.major.Major.{Major}
 use Rattle.cbor_head.specs.declared.major.Major.TheVariants.{Bytes, Text, Array, Map, Tag}
@@ -26,28 +26,28 @@ pub entries_bounded : (es : SpelledEntries) → entries_count es ≤ length (spe
 entries_bounded no_entries = omega arith
 entries_bounded (entry k v es) = omega (arith, entries_bounded es, length_spell k, length-append (spell k ++ spell v) (spell_entries es), length-append (spell k) (spell v))
 
-pub joined_bounded : (m : Major) (cs : List Chunk) → length (joined cs) ≤ length (flat_map (chunk_bytes m) cs)
+pub joined_bounded : (m : Major) (cs : List Chunk) → length (chunks_joined cs) ≤ length (flat_map (chunk_bytes m) cs)
 joined_bounded m [] = omega arith
 joined_bounded m (k ∷ ks) =
-    omega (arith, joined_bounded m ks, length-append (chunk_bytes m k) (flat_map (chunk_bytes m) ks), length-append (head m k.width (length k.payload)) k.payload, length-append k.payload (joined ks))
+    omega (arith, joined_bounded m ks, length-append (chunk_bytes m k) (flat_map (chunk_bytes m) ks), length-append (head m k.width (length k.payload)) k.payload, length-append k.payload (chunks_joined ks))
 
 bytes-append : (xs ys : List ℕ) → AreBytes xs → AreBytes ys → AreBytes (xs ++ ys)
 bytes-append [] ys h k = k
 bytes-append (x ∷ xs) ys h k = (h.0, bytes-append xs ys h.1 k)
 
-joined_are_bytes : (cs : List Chunk) → AllByRecursion IsChunk cs → AreBytes (joined cs)
+joined_are_bytes : (cs : List Chunk) → AllByRecursion IsChunk cs → AreBytes (chunks_joined cs)
 joined_are_bytes [] h = tt
-joined_are_bytes (k ∷ ks) h = bytes-append k.payload (joined ks) h.0.1 (joined_are_bytes ks h.1)
+joined_are_bytes (k ∷ ks) h = bytes-append k.payload (chunks_joined ks) h.0.1 (joined_are_bytes ks h.1)
 
 -- the content of a chunked string is no longer than its bytes
-chunks_fit : (m : Major) (cs : List Chunk) → length (chunked m cs) < 2 ^ 64 → length (joined cs) < 2 ^ 64
+chunks_fit : (m : Major) (cs : List Chunk) → length (chunked m cs) < 2 ^ 64 → length (chunks_joined cs) < 2 ^ 64
 chunks_fit m cs l =
     omega (arith, l, length-append (head m Indefinite 0 ++ flat_map (chunk_bytes m) cs) (0xff ∷ []), length-append (head m Indefinite 0) (flat_map (chunk_bytes m) cs), joined_bounded m cs)
 
-joined_text : (cs : List Chunk) (at : ℕ) → Never (OfChunks plain at Text cs) → IsUtf8 (joined cs)
+joined_text : (cs : List Chunk) (at : ℕ) → Never (OfChunks plain at Text cs) → IsUtf8 (chunks_joined cs)
 joined_text [] at f = IsUtf8-nil
 joined_text (k ∷ ks) at f =
-    IsUtf8-append k.payload (joined ks) (utf8_stable k.payload (λ n. f _ (inl (inr (n, refl))))) (joined_text ks (at + length (chunk_bytes Text k)) (λ c x. f c (inr x)))
+    IsUtf8-append k.payload (chunks_joined ks) (utf8_stable k.payload (λ n. f _ (inl (inr (n, refl))))) (joined_text ks (at + length (chunk_bytes Text k)) (λ c x. f c (inr x)))
 
 -- ---- keys
 
@@ -80,11 +80,11 @@ mutual
   in_range_of (byte_chunks cs) h l = (chunks_fit Bytes cs l, joined_are_bytes cs h)
   in_range_of (text_chunks cs) h l = (chunks_fit Text cs l, joined_are_bytes cs h)
   in_range_of (array w ss) h l =
-      let size = length-append (head Array w (spellings_count ss) ++ spell_all ss) (closer w) in
+      let size = length-append (head Array w (spellings_count ss) ++ spell_all ss) (break_of w) in
       let flat = length-append (head Array w (spellings_count ss)) (spell_all ss) in
       (omega (arith, l, size, flat, count_bounded ss, values_count-of ss), in_range_all ss h.1 (omega (arith, l, size, flat)))
   in_range_of (a_map w es) h l =
-      let size = length-append (head Map w (entries_count es) ++ spell_entries es) (closer w) in
+      let size = length-append (head Map w (entries_count es) ++ spell_entries es) (break_of w) in
       let flat = length-append (head Map w (entries_count es)) (spell_entries es) in
       (omega (arith, l, size, flat, entries_bounded es, entries_count-of es), in_range_entries es h.1 (omega (arith, l, size, flat)))
   in_range_of (tag w n s) h l = (holds_fits w n h.0, in_range_of s h.1 (omega (arith, l, length-append (head Tag w n) (spell s))))

@@ -8,8 +8,8 @@ use Rattle.std.proofs.lemmas.Str.{IsUtf8-nil, IsUtf8-append}
 use Rattle.cbor_head.specs.Head.{Holds, head}
 use Rattle.cbor_head.specs.Limits.{Bounds}
 use Rattle.cbor_head.specs.Value.{AreBytes}
-use Rattle.cbor_head.specs.Spelling.{Chunk, Spelling, bytes, text as a_text, byte_chunks, text_chunks, spell, chunk_bytes, joined, IsSpelled, depth, value_of}
-use Rattle.cbor_head.specs.Complaint.{Rules, form, plain, strict, Complaint, complaint, OfHead, OfOpener, OfCount, OfPayload, OfString, Complains}
+use Rattle.cbor_head.specs.Spelling.{Chunk, Spelling, bytes, text as a_text, byte_chunks, text_chunks, spell, chunk_bytes, chunks_joined, IsSpelled, depth, value_of}
+use Rattle.cbor_head.specs.Complaint.{Rules, form, plain, strict, Complaint, complaint, OfHead, OfIndefinite, OfCount, OfPayload, OfString, Complains}
 use Rattle.cbor_head.specs.Verdict.{refusal}
 use Rattle.cbor_head.specs.declared.major.Major.{Major}
 use Rattle.cbor_head.specs.declared.major.Major.TheVariants as majors
@@ -28,10 +28,10 @@ use Rattle.std.proofs.KnownBytes.{Consumes-trans}
 use Rattle.cbor_events.specs.Automaton.{Frame, State, at_item, in_chunks, close, payload}
 use Rattle.cbor_events.specs.Taking.{IsTaking}
 use Rattle.cbor_events.specs.ItemEvents.{ItemEventsView}
-use Rattle.cbor_reader.specs.Judged.{IsJudged}
-use Rattle.cbor_reader.specs.Rules.{rules_of}
+use Rattle.cbor_reader.specs.inner.Judged.{IsJudged}
+use Rattle.cbor_reader.specs.inner.Rules.{rules_of}
 use Rattle.cbor_reader.specs.declared.rules.Rules as declared
-use Rattle.cbor_reader.specs.Reading.{IsAt, IsFormRefusal, IsNoText, IsNextHead, Extends, IsBegun, OfMark, ReadsItem, StopsItem, HasCause, StopsHead, ReadsPayload, StopsPayload, string_major, string_kind, string_value}
+use Rattle.cbor_reader.specs.inner.Reading.{IsAt, IsFormRefusal, IsNoText, IsNextHead, Extends, IsBegun, OfMark, ReadsItem, StopsItem, HasCause, StopsHead, ReadsPayload, StopsPayload, string_major, string_kind, string_value}
 use Rattle.cbor_reader.proofs.Items.{definite, proper-definite, is-definite, head-count, extends-none, extends-on}
 use Rattle.cbor_reader.proofs.Scalars.{at-as}
 use Rattle.cbor_reader.proofs.Heads.{zero_bytes, zero_length}
@@ -178,7 +178,7 @@ pub record IsReadingChunks (r : Rules) (b : Bounds) (fs : List Frame) (t x : Lis
   pub so_far : AreChunksSoFar r (length t) (string_major text) done
   pub taken : Extends x (chunks_bytes (string_major text) done) from now
   pub at : IsAt b e (t ++ chunks_bytes (string_major text) done) (in_chunks (string_major text) fs)
-  pub content_is : content ≡ joined done
+  pub content_is : content ≡ chunks_joined done
   pub utf8 : text ≡ true → IsUtf8 content
 
 abbrev chunks_of : Bool → List Chunk → Spelling
@@ -189,7 +189,7 @@ is-chunked : (text : Bool) → IsChunked (string_major text) (chunks_of text)
 is-chunked true = text_chunked
 is-chunked false = bytes_chunked
 
-chunks-value : (text : Bool) (ks : List Chunk) → value_of (chunks_of text ks) ≡ string_value text (joined ks)
+chunks-value : (text : Bool) (ks : List Chunk) → value_of (chunks_of text ks) ≡ string_value text (chunks_joined ks)
 chunks-value true ks = refl
 chunks-value false ks = refl
 
@@ -197,7 +197,7 @@ chunks-value false ks = refl
 record Opener (r : Rules) (b : Bounds) (fs : List Frame) (t x : List ℕ) (text : Bool) (next : State) : Type 0 where
   bytes_are : x ≡ head (string_major text) Indefinite 0
   follows : next ≡ in_chunks (string_major text) fs
-  clean : Never (OfOpener r (length t))
+  clean : Never (OfIndefinite r (length t))
 
 opener-is : (r : Rules) (b : Bounds) (fs : List Frame) (t x : List ℕ) (e : ItemEventsView) (w : Width) (text : Bool) → (i : IsBegun r b fs t x e w (string_kind text None)) → Opener r b fs t x text i.next
 opener-is r b fs t x e w true i =
@@ -396,7 +396,7 @@ module _ (r : Rules) (b : Bounds) (fs : List Frame) (t x : List ℕ) (text : Boo
             taken = extends-on x y (n.bytes ++ q) (chunks_bytes m (a.done ++ one ∷ [])) from mid to a.taken (Consumes-trans mid mid2 to n.bytes q n.consumed reads.consumed) (sym bytes_are);
             at = at-as b new (((t ++ y) ++ n.bytes) ++ q) (t ++ chunks_bytes m (a.done ++ one ∷ [])) (in_chunks m fs) (in_chunks m fs)
                 (append_assoc (t ++ y) n.bytes q ∙ append_assoc t y (n.bytes ++ q) ∙ ap (λ (u : List ℕ). t ++ u) bytes_are) refl reads.at;
-            content_is = reads.grows ∙ ap (λ (u : List ℕ). u ++ q) a.content_is ∙ ap (λ (u : List ℕ). joined a.done ++ u) (sym (append-nil q)) ∙ sym (flat_map-append (λ (c : Chunk). c.payload) a.done (one ∷ []));
+            content_is = reads.grows ∙ ap (λ (u : List ℕ). u ++ q) a.content_is ∙ ap (λ (u : List ℕ). chunks_joined a.done ++ u) (sym (append-nil q)) ∙ sym (flat_map-append (λ (c : Chunk). c.payload) a.done (one ∷ []));
             utf8 = λ g. subst IsUtf8 (sym reads.grows) (IsUtf8-append content q (a.utf8 g) (utf8 g));
           }
 

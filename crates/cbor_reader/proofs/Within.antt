@@ -3,8 +3,8 @@ use Rattle.std.proofs.Common.{ℕ, ◌+◌, ◌≤◌, List, [], ◌∷◌, leng
 use Rattle.std.proofs.lemmas.List.{length-append, length-take}
 use Rattle.std.proofs.lemmas.Str.{utf8_valid_len_le}
 use Rattle.cbor_head.specs.Spelling.{Chunk, Spelling, Spellings, SpelledEntries, unsigned, negative, bytes, text, byte_chunks, text_chunks, array, a_map, tag, simple, no_spellings, a_spelling, no_entries, entry, spellings_count, entries_count, chunk_bytes}
-use Rattle.cbor_head.specs.Complaint.{Rules, form, plain, strict, Complaint, OfHead, OfOpener, OfCount, OfPayload, OfString, OfChunks, OfKey, Complains, ComplainsIn, ComplainsInEntries}
-use Rattle.cbor_head.specs.Verdict.{IsBreak, IsVerdict, refused}
+use Rattle.cbor_head.specs.Complaint.{Rules, form, plain, strict, Complaint, OfHead, OfIndefinite, OfCount, OfPayload, OfString, OfChunks, OfKey, Complains, ComplainsIn, ComplainsInEntries}
+use Rattle.cbor_head.specs.Verdict.{IsFormError, IsVerdict, refused}
 use Rattle.cbor_head.specs.Beginning.{IsLongestBeginning}
 use Rattle.cbor_head.specs.declared.order.KeyOrder.{KeyOrder}
 use Rattle.cbor_head.specs.declared.major.Major.{Major}
@@ -23,7 +23,7 @@ head_place : (r : Rules) (at : ℕ) (m : Major) (w : Width) (n : ℕ) (c : Compl
 head_place (strict o) at m w n c h = omega (arith, ap (λ (c : Complaint). c.end) h.1, ap (λ (c : Complaint). c.place) h.1)
 head_place _ at m w n c h = absurd h
 
-opener_place : (r : Rules) (at : ℕ) (c : Complaint) → OfOpener r at c → c.place ≤ c.end
+opener_place : (r : Rules) (at : ℕ) (c : Complaint) → OfIndefinite r at c → c.place ≤ c.end
 opener_place (strict o) at c h = omega (arith, ap (λ (c : Complaint). c.end) h, ap (λ (c : Complaint). c.place) h)
 opener_place _ at c h = absurd h
 
@@ -90,7 +90,7 @@ module _ (d n : ℕ) (input : List ℕ) where
       let small = length-take n input in
       (omega (arith, size, small), omega (arith, size, small))
 
-  break_within : (p behind : List ℕ) (f : Refusal) → length p + length behind ≤ n → length p + length behind ≤ length input → IsBreak d n p behind f → StandsWithin n input f
+  break_within : (p behind : List ℕ) (f : Refusal) → length p + length behind ≤ n → length p + length behind ≤ length input → IsFormError d n p behind f → StandsWithin n input f
   break_within p [] f l m (inl b) =
       let place = ap (λ (f : Refusal). f.place) b.1 in let read = ap (λ (f : Refusal). f.read) b.1 in
       record { by_read = omega (arith, place, read); in_limit = omega (arith, read); in_input = omega (arith, read, b.0, m) }

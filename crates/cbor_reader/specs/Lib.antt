@@ -1,15 +1,7 @@
-pub mod Building
 pub mod Canonicalise
 pub mod Comparing
-pub mod Encoding
-pub mod Frame
 pub mod Headline
-pub mod Judged
-pub mod MapKeys
-pub mod Members
-pub mod NextKey
+pub mod inner
 pub mod Readers
-pub mod Reading
-pub mod Rules
 pub mod Size
 pub mod WholeItem

@@ -11,7 +11,7 @@ use Rattle.cbor_head.specs.Canonical.{canonical}
 use Rattle.cbor_head.specs.declared.order.KeyOrder.{KeyOrder}
 use Rattle.cbor_head.specs.Limits.{Bounds}
 use Rattle.cbor_reader.specs.Size.{size}
-use Rattle.cbor_reader.specs.MapKeys.{IsKeyValue}
+use Rattle.cbor_reader.specs.inner.MapKeys.{HasCanonicalBytes}
 use Rattle.cbor_reader.specs.Headline.{BeginsWithCanonical}
 
 -- the input's item, which has so many bytes, is accepted
@@ -43,7 +43,7 @@ pub record IsFrontRead (r : Rules) (b : Bounds) (from to : Option (List ℕ)) (v
   pub read : IfSome from (λ input. IsReadAs b.depth b.bytes r input v count)
   pub taken : Loses count from to
   pub bounded : size v ≤ count
-  pub sound : IsKeyValue v
+  pub sound : HasCanonicalBytes v
 
 pub record IsFrontUnread (r : Rules) (b : Bounds) (from to : Option (List ℕ)) (f : Refusal) : Type 0 where
   pub refused : IfSome from (λ input. IsUnread b.depth b.bytes r input f)

@@ -2,8 +2,9 @@
 
 ghost use Rattle.std.specs.Prelude.{◌≡◌, ◌++◌, ◌∷◌, [], IfOk};
 ghost use Rattle.cbor_head.specs.Value as value;
-ghost use Rattle.cbor_item.specs.View.{view, values_view};
-ghost use Rattle.cbor_reader.specs.MapKeys.{IsKeyValue};
+ghost use Rattle.cbor_item.specs.View.{view};
+ghost use Rattle.cbor_item.specs.inner.Members.{values_view};
+ghost use Rattle.cbor_reader.specs.inner.MapKeys.{HasCanonicalBytes};
 
 use crate::built_item::BuiltItem;
 use crate::encoding::{Encoding, with_head};
@@ -24,8 +25,8 @@ impl Model for BuiltArray {
     ghost use Rattle.cbor_item.specs.declared.item.Item.{Item};
     ghost use Rattle.cbor_item.specs.contracts.item.Item as e;
     ghost use Rattle.std.specs.Coded.{codes};
-    ghost use Rattle.cbor_item.specs.View.{values_view as values_of};
-    ghost use Rattle.cbor_reader.specs.Encoding.{AreEncoded};
+    ghost use Rattle.cbor_item.specs.inner.Members.{values_view as values_of};
+    ghost use Rattle.cbor_reader.specs.inner.Encoding.{AreEncoded};
 
     ghost Value = { List Item };
 
@@ -56,7 +57,7 @@ impl BuiltArray {
 
     // One member more.
     pub(crate) fn push(&mut self, alloc: Global, member: BuiltItem) -> Result<(), AllocError>
-        requires { IsKeyValue (view member) }
+        requires { HasCanonicalBytes (view member) }
         ensures { IfOk result (λ _. self.new ≡ self.old ++ member ∷ []) }
     {
         let Some(mut members) = self.encoding.take() else {

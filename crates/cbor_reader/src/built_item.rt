@@ -4,8 +4,8 @@ ghost use Rattle.std.specs.Prelude.{◌≡◌, IfOk};
 ghost use Rattle.cbor_head.specs.Canonical.{canonical};
 ghost use Rattle.cbor_head.specs.Value as value;
 ghost use Rattle.cbor_item.specs.View.{view};
-ghost use Rattle.cbor_reader.specs.Encoding.{IsEncoding};
-ghost use Rattle.cbor_reader.specs.MapKeys.{IsKeyValue};
+ghost use Rattle.cbor_reader.specs.inner.Encoding.{IsEncoding};
+ghost use Rattle.cbor_reader.specs.inner.MapKeys.{HasCanonicalBytes};
 
 use crate::encoding::{Encoding, with_head};
 use cbor_head::{KeyOrder, Major};
@@ -27,7 +27,7 @@ impl Model for BuiltItem {
     ghost use Rattle.cbor_item.specs.contracts.item.Item as e;
     ghost use Rattle.std.specs.Coded.{codes};
     ghost use Rattle.cbor_item.specs.View.{view as value_of};
-    ghost use Rattle.cbor_reader.specs.Encoding.{IsBoxed};
+    ghost use Rattle.cbor_reader.specs.inner.Encoding.{IsBoxed};
 
     ghost Value = { Item };
 
@@ -74,7 +74,7 @@ impl BuiltItem {
 
     // The canonical bytes: a copy of those that were kept, or else new ones.
     pub(crate) fn encoded(&self, alloc: Global, order: KeyOrder) -> Result<Vec<u8>, AllocError>
-        requires { IsKeyValue (view self.now) }
+        requires { HasCanonicalBytes (view self.now) }
         ensures { IfOk result (λ bytes. bytes.items ≡ canonical order (view self.now)) }
     {
         if let Some(kept) = &self.encoding {
@@ -91,7 +91,7 @@ impl BuiltItem {
         alloc: Global,
         order: KeyOrder,
     ) -> Result<(Item, Vec<u8>), AllocError>
-        requires { IsKeyValue (view self) }
+        requires { HasCanonicalBytes (view self) }
         ensures item { IfOk result (λ parts. parts.0 ≡ self) }
         ensures bytes { IfOk result (λ parts. parts.1.items ≡ canonical order (view self)) }
     {
@@ -116,7 +116,7 @@ impl BuiltItem {
         number: u64,
         kept: Option<KeyOrder>,
     ) -> Result<BuiltItem, AllocError>
-        requires { IsKeyValue (view self) }
+        requires { HasCanonicalBytes (view self) }
         ensures { IfOk result (λ built. view built ≡ value.tag number (view self)) }
     {
         let Some(order) = kept else {

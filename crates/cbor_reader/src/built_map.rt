@@ -5,11 +5,11 @@ ghost use Rattle.cbor_head.specs.Canonical.{in_order};
 ghost use Rattle.cbor_head.specs.Order.{key_lt};
 ghost use Rattle.cbor_head.specs.Value as value;
 ghost use Rattle.cbor_head.specs.Value.{AreEntriesInRange, HasDistinctKeys};
-ghost use Rattle.cbor_item.specs.Encoded.{joined};
-ghost use Rattle.cbor_item.specs.Pairs.{HasDistinctBytes};
-ghost use Rattle.cbor_item.specs.View.{view, entries_view};
-ghost use Rattle.cbor_reader.specs.Encoding.{pair_of};
-ghost use Rattle.cbor_reader.specs.MapKeys.{IsKeyValue};
+ghost use Rattle.cbor_item.specs.inner.Encoded.{joined, HasDistinctBytes};
+ghost use Rattle.cbor_item.specs.View.{view};
+ghost use Rattle.cbor_item.specs.inner.Members.{entries_view};
+ghost use Rattle.cbor_reader.specs.inner.Encoding.{pair_of};
+ghost use Rattle.cbor_reader.specs.inner.MapKeys.{HasCanonicalBytes};
 
 use crate::built_item::BuiltItem;
 use crate::encoding::{Encoding, with_head};
@@ -44,8 +44,8 @@ impl Model for BuiltMap {
     ghost use Rattle.cbor_item.specs.declared.item.Item.{Item};
     ghost use Rattle.cbor_item.specs.contracts.item.Item as e;
     ghost use Rattle.std.specs.Coded.{codes};
-    ghost use Rattle.cbor_item.specs.View.{entries_view as entries_of};
-    ghost use Rattle.cbor_reader.specs.Encoding.{ArePairsEncoded};
+    ghost use Rattle.cbor_item.specs.inner.Members.{entries_view as entries_of};
+    ghost use Rattle.cbor_reader.specs.inner.Encoding.{ArePairsEncoded};
 
     ghost Value = { List (Item × Item) };
 
@@ -81,8 +81,8 @@ impl BuiltMap {
         key: BuiltItem,
         content: BuiltItem,
     ) -> Result<(), AllocError>
-        requires key { IsKeyValue (view key) }
-        requires content { IsKeyValue (view content) }
+        requires key { HasCanonicalBytes (view key) }
+        requires content { HasCanonicalBytes (view content) }
         ensures { IfOk result (λ _. self.new ≡ self.old ++ (key, content) ∷ []) }
     {
         let Some(mut encoded) = self.encoding.take() else {

@@ -2,8 +2,8 @@
 
 ghost use Rattle.std.specs.Prelude.{◌≡◌, MatchResult};
 ghost use Rattle.cbor_item.specs.View.{view};
-ghost use Rattle.cbor_reader.specs.Readers.{IsFrontRead, IsFrontUnread};
-ghost use Rattle.cbor_reader.specs.Rules.{rules_of};
+ghost use Rattle.cbor_reader.specs.inner.Front.{IsFrontUnread, IsFrontRead};
+ghost use Rattle.cbor_reader.specs.inner.Rules.{rules_of};
 
 use crate::members::read_item;
 use crate::rules::Rules;

@@ -8,7 +8,7 @@ ghost use Rattle.cbor_head.specs.Canonical.{canonical};
 ghost use Rattle.cbor_head.specs.Spelling.{Spelling, value_of};
 ghost use Rattle.cbor_head.specs.Value.{IsInRange, IsValid};
 ghost use Rattle.cbor_head.specs.declared.order.KeyOrder.TheVariants.{Bytewise};
-ghost use Rattle.cbor_reader.specs.MapKeys.{HasBytes, IsPut, is_in};
+ghost use Rattle.cbor_reader.specs.inner.MapKeys.{HasBytes, IsPut, is_in};
 
 use arrayvec::ArrayVec;
 use std::alloc::{AllocError, Global};

@@ -6,8 +6,8 @@ ghost use Rattle.cbor_head.specs.Complaint as complaint;
 ghost use Rattle.cbor_head.specs.Spelling.{Spelling};
 ghost use Rattle.cbor_head.specs.Value.{Value};
 ghost use Rattle.cbor_item.specs.View.{view};
-ghost use Rattle.cbor_reader.specs.MapKeys.{HasKeys, IsKey, IsKeyValue, IsInserted, AnswersKey, Rises, order_of};
-ghost use Rattle.cbor_reader.specs.Rules.{rules_of};
+ghost use Rattle.cbor_reader.specs.inner.MapKeys.{HasKeys, IsKey, HasCanonicalBytes, IsInserted, AnswersKey, Rises, order_of};
+ghost use Rattle.cbor_reader.specs.inner.Rules.{rules_of};
 
 use crate::built_item::BuiltItem;
 use crate::key_set::KeySet;
@@ -44,7 +44,7 @@ impl Keys {
         alloc: Global,
         key: &BuiltItem,
     ) -> Result<Option<Reason>, AllocError>
-        requires { IsKeyValue (view key.now) }
+        requires { HasCanonicalBytes (view key.now) }
         ensures { AnswersKey self.old self.new key.now result }
     {
         let bytes = key.encoded(alloc, self.order())?;

@@ -1,12 +1,12 @@
 //! Items that hold others.
 
 ghost use Rattle.std.specs.Prelude.{◌≡◌, ◌≢◌, ◌↔◌, IsTrue, None, Some};
-ghost use Rattle.cbor_reader.specs.Members.{fewer};
+ghost use Rattle.cbor_reader.specs.inner.Members.{fewer};
 ghost use Rattle.cbor_events.specs.declared.event.EventKind.TheVariants as kinds;
-ghost use Rattle.cbor_reader.specs.Building.{IsBuilt};
-ghost use Rattle.cbor_reader.specs.Reading.{HasBegun, AnswersItem, IsDue, IsMemberDue, AnswersNext, AnswersMember};
-ghost use Rattle.cbor_reader.specs.NextKey.{IsKeyDue, AnswersNextKey};
-ghost use Rattle.cbor_reader.specs.Rules.{rules_of};
+ghost use Rattle.cbor_reader.specs.inner.Building.{IsBuilt};
+ghost use Rattle.cbor_reader.specs.inner.Reading.{HasBegun, AnswersItem, IsDue, IsMemberDue, AnswersNext, AnswersMember};
+ghost use Rattle.cbor_reader.specs.inner.NextKey.{IsKeyDue, AnswersNextKey};
+ghost use Rattle.cbor_reader.specs.inner.Rules.{rules_of};
 
 use crate::built_array::BuiltArray;
 use crate::built_item::BuiltItem;

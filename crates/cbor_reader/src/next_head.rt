@@ -3,8 +3,8 @@
 ghost use Rattle.std.specs.Prelude.{◌≡◌, MatchOption, ℕ};
 ghost use Rattle.cbor_events.specs.State.{mark_of};
 ghost use Rattle.cbor_head.specs.declared.reason.Reason.{Reason};
-ghost use Rattle.cbor_reader.specs.Reading.{HasHeadDue, AnswersHead, IsFault};
-ghost use Rattle.cbor_reader.specs.Rules.{rules_of};
+ghost use Rattle.cbor_reader.specs.inner.Reading.{HasHeadDue, AnswersHead, IsFault};
+ghost use Rattle.cbor_reader.specs.inner.Rules.{rules_of};
 
 use crate::rules::Rules;
 use cbor_events::{Event, EventKind, ItemEvents};

@@ -3,7 +3,7 @@
 ghost use Rattle.std.specs.Prelude.{◌≡◌, ◌+◌, ◌≤◌, ℕ, List, length, drop, true, false, IsUtf8, MatchResult, IfErr};
 ghost use Rattle.std.specs.Str.Lossy.{utf8_valid_len};
 ghost use Rattle.cbor_events.specs.ItemEvents.{ItemEventsView};
-ghost use Rattle.cbor_reader.specs.Reading.{IsPayloadDue, AnswersPayload};
+ghost use Rattle.cbor_reader.specs.inner.Reading.{IsPayloadDue, AnswersPayload};
 
 use cbor_events::ItemEvents;
 use cbor_head::{Reason, Refusal};

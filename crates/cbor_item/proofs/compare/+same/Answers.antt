@@ -3,7 +3,8 @@ use Rattle.std.proofs.lemmas.Option.{get_or_from_slice_get}
 use Rattle.cbor_head.specs.Value as value
 use Rattle.cbor_head.specs.Value.{Value, entries_count, Same, SameValues, IsValid}
 use Rattle.cbor_item.specs.declared.item.Item.TheViews.{the_lemmas}
-use Rattle.cbor_item.specs.View.{view, values_view, entries_view}
+use Rattle.cbor_item.specs.View.{view}
+use Rattle.cbor_item.specs.inner.Members.{entries_view, values_view}
 use Rattle.cbor_item.proofs.ByIndex.{at_index, valid_read}
 use Rattle.cbor_item.proofs.Counting.{same_by_count}
 use Rattle.cbor_item.proofs.Loops.{was_true, was_false, fails, unequal}

@@ -1,5 +1,5 @@
 use Rattle.std.proofs.Common.{◌↔◌, ◌-◌, drop, map}
-use Rattle.cbor_item.specs.Encoded.{DoNeighboursDiffer}
+use Rattle.cbor_item.specs.inner.Encoded.{DoNeighboursDiffer}
 use Rattle.cbor_item.proofs.encoded_key.differ.Given as goal
 
 abbrev pub invariant-loop-i : goal.invariant-loop-i

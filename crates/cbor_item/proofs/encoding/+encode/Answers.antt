@@ -8,8 +8,9 @@ use Rattle.cbor_head.specs.Head.{shortest_head}
 use Rattle.cbor_head.specs.Value as value
 use Rattle.cbor_head.specs.Value.{IsValid, HasDistinctKeys, AreEntriesInRange}
 use Rattle.cbor_head.specs.declared.major.Major.{Major}
-use Rattle.cbor_item.specs.Encoded.{joined, pair_at, content_at, AreKeysValid, AreContentsValid}
-use Rattle.cbor_item.specs.View.{view, values_view, entries_view}
+use Rattle.cbor_item.specs.inner.Encoded.{joined, pair_at, content_at, AreKeysValid, AreContentsValid}
+use Rattle.cbor_item.specs.View.{view}
+use Rattle.cbor_item.specs.inner.Members.{entries_view, values_view}
 use Rattle.cbor_item.specs.declared.item.Item.{Item}
 use Rattle.cbor_item.specs.declared.encoded_key.EncodedKey.{EncodedKey}
 use Rattle.cbor_item.specs.declared.item.Item.TheViews.{the_lemmas}

@@ -2,8 +2,8 @@ use Rattle.std.proofs.Common.{◌≡◌, [], ◌++◌, ◌↔◌, drop, map, len
 use Rattle.std.specs.List.{AllByRecursion, range_with_len}
 use Rattle.cbor_head.specs.Canonical.{canonical_all, canonical_entries}
 use Rattle.cbor_head.specs.Value.{IsValid, AreInRange, AreEntriesInRange, AreValid}
-use Rattle.cbor_item.specs.Encoded.{joined, content_at, pair_at, AreKeysValid, AreContentsValid}
-use Rattle.cbor_item.specs.View.{values_view, entries_view}
+use Rattle.cbor_item.specs.inner.Encoded.{joined, content_at, pair_at, AreKeysValid, AreContentsValid}
+use Rattle.cbor_item.specs.inner.Members.{entries_view, values_view}
 use Rattle.cbor_item.proofs.encoding.+encode.Given as goal
 
 -- what is written and what is left make the whole, and what is left decides whether it is valid

@@ -4,8 +4,9 @@ use Rattle.std.proofs.lemmas.List.{drop_all}
 use Rattle.std.proofs.Common.{◌<◌, List, length, drop, get_or}
 use Rattle.cbor_head.specs.Value as value
 use Rattle.cbor_head.specs.Value.{IsValid, AreEntriesInRange}
-use Rattle.cbor_item.specs.Encoded.{AreContentsValid}
-use Rattle.cbor_item.specs.View.{view, entries_view}
+use Rattle.cbor_item.specs.inner.Encoded.{AreContentsValid}
+use Rattle.cbor_item.specs.View.{view}
+use Rattle.cbor_item.specs.inner.Members.{entries_view}
 use Rattle.cbor_item.specs.declared.item.Item.{Item}
 use Rattle.cbor_item.specs.declared.item.Item.TheVariants.{Unsigned, Negative, Bytes, Text, Simple}
 use Rattle.cbor_item.specs.declared.item.Item.TheViews.{the_lemmas}

@@ -1,7 +1,7 @@
 use Rattle.std.proofs.Common.{◌↔◌, drop}
 use Rattle.cbor_head.specs.Value.{AreInRange, AreEntriesInRange, AreValid}
-use Rattle.cbor_item.specs.Encoded.{AreContentsValid}
-use Rattle.cbor_item.specs.View.{values_view, entries_view}
+use Rattle.cbor_item.specs.inner.Encoded.{AreContentsValid}
+use Rattle.cbor_item.specs.inner.Members.{entries_view, values_view}
 use Rattle.cbor_item.proofs.valid.+valid.Given as goal
 
 -- what is left decides the whole

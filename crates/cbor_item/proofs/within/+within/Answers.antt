@@ -1,7 +1,8 @@
 use Rattle.std.proofs.Common.{◌≡◌, ◌<◌, ◌^◌, sym, ap, ◌∙◌, subst, arith}
 use Rattle.cbor_head.specs.Value as value
 use Rattle.cbor_head.specs.Value.{values_count, entries_count, IsInRange}
-use Rattle.cbor_item.specs.View.{view, values_view, entries_view}
+use Rattle.cbor_item.specs.View.{view}
+use Rattle.cbor_item.specs.inner.Members.{entries_view, values_view}
 use Rattle.cbor_item.proofs.Views.{view-Array, view-Map, values_count-view, entries_count-view}
 use Rattle.cbor_item.proofs.within.+within.Goals as goal
 

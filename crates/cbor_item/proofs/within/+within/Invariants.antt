@@ -1,6 +1,6 @@
 use Rattle.std.proofs.Common.{◌≤◌, ◌↔◌, drop}
 use Rattle.cbor_head.specs.Value.{depth_all, depth_entries, AreInRange, AreEntriesInRange}
-use Rattle.cbor_item.specs.View.{values_view, entries_view}
+use Rattle.cbor_item.specs.inner.Members.{entries_view, values_view}
 use Rattle.cbor_item.proofs.within.+within.Given as goal
 
 -- what is left decides the whole

@@ -1,7 +1,7 @@
 use Rattle.std.proofs.Common.{List, ◌++◌, map, sym, ap, ◌∙◌, arith, append-nil}
 use Rattle.std.proofs.lemmas.List.{drop_all}
-use Rattle.cbor_item.specs.Encoded.{joined}
-use Rattle.cbor_reader.specs.Encoding.{pair_of}
+use Rattle.cbor_item.specs.inner.Encoded.{joined}
+use Rattle.cbor_reader.specs.inner.Encoding.{pair_of}
 use Rattle.cbor_reader.specs.declared.built_map.EncodedPair.{EncodedPair}
 use Rattle.cbor_reader.proofs.Building.{sorted-in-order}
 use Rattle.cbor_reader.proofs.built_map.in_one.Goals as goal

@@ -1,6 +1,6 @@
 use Rattle.std.proofs.Common.{◌≡◌, ◌++◌, drop, map}
-use Rattle.cbor_item.specs.Encoded.{joined}
-use Rattle.cbor_reader.specs.Encoding.{pair_of}
+use Rattle.cbor_item.specs.inner.Encoded.{joined}
+use Rattle.cbor_reader.specs.inner.Encoding.{pair_of}
 use Rattle.cbor_reader.proofs.built_map.in_one.Given as goal
 
 -- what is written and what is left make the whole

@@ -1,5 +1,5 @@
 use Rattle.std.proofs.Common.{arith, []}
-use Rattle.cbor_reader.specs.Rules.{rules_of}
+use Rattle.cbor_reader.specs.inner.Rules.{rules_of}
 use Rattle.cbor_reader.proofs.Fronts.{starts-at, front-read, front-unread}
 use Rattle.cbor_reader.proofs.front.read_front.Goals as goal
 

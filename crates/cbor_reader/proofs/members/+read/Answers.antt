@@ -3,14 +3,14 @@ use Rattle.cbor_events.specs.Automaton.{at_item, counted}
 use Rattle.cbor_events.specs.State.{count_of}
 use Rattle.cbor_events.specs.declared.event.EventKind.{EventKind}
 use Rattle.cbor_item.proofs.Views.{view-Unsigned, view-Negative, view-Simple}
-use Rattle.cbor_reader.specs.Reading.{IsBegun}
-use Rattle.cbor_reader.specs.Rules.{rules_of}
+use Rattle.cbor_reader.specs.inner.Reading.{IsBegun}
+use Rattle.cbor_reader.specs.inner.Rules.{rules_of}
 use Rattle.cbor_reader.proofs.Composition.{array_bytes}
 use Rattle.cbor_reader.proofs.Items.{stops-at-item, begun-by, has-begun, no-end, head-farther, reads-next, stops-next, answers-next, reads-break, other-kinds}
 use Rattle.cbor_reader.proofs.Scalars.{reads-unsigned, reads-negative, reads-simple, tag-due, reads-tag, stops-tag}
 use Rattle.cbor_reader.proofs.Arrays.{member_frames, starts-array, member-due, array-next, stops-member, array-whole, array-ended, array-memory, member-farther, no-farther, some-left}
 use Rattle.cbor_head.specs.Verdict.{refusal}
-use Rattle.cbor_reader.specs.Frame.{keys_onto}
+use Rattle.cbor_reader.proofs.Frame.{keys_onto}
 use Rattle.cbor_reader.proofs.Composition.{map_bytes}
 use Rattle.cbor_reader.proofs.Maps.{key_frames, content_frames, key-due, stops-key, content-due, content-memory, stops-content, map-next-kept, map-whole, map-ended, map-no-farther, item-farther, no-content-break, starts-keys, stops-refused}
 use Rattle.cbor_reader.proofs.NextKey.{keeps-key, refuses-key}

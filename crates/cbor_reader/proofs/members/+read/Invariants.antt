@@ -5,10 +5,10 @@ use Rattle.cbor_events.specs.Automaton.{Frame}
 use Rattle.cbor_events.specs.State.{count_of}
 use Rattle.cbor_events.specs.ItemEvents.{ItemEventsView}
 use Rattle.cbor_events.specs.declared.event.EventKind.TheVariants as kinds
-use Rattle.cbor_reader.specs.Reading.{IsBegun}
-use Rattle.cbor_reader.specs.Rules.{rules_of}
-use Rattle.cbor_reader.specs.Frame.{keys_onto}
-use Rattle.cbor_reader.specs.MapKeys.{HasKeys}
+use Rattle.cbor_reader.specs.inner.Reading.{IsBegun}
+use Rattle.cbor_reader.specs.inner.Rules.{rules_of}
+use Rattle.cbor_reader.proofs.Frame.{keys_onto}
+use Rattle.cbor_reader.specs.inner.MapKeys.{HasKeys}
 use Rattle.cbor_reader.proofs.Arrays.{IsReadingArray}
 use Rattle.cbor_reader.proofs.Maps.{IsReadingMap}
 use Rattle.cbor_reader.proofs.members.+read.Given as goal

@@ -1,8 +1,8 @@
 use Rattle.std.proofs.Common.{rules, sym, subst}
 use Rattle.cbor_head.specs.declared.reason.Reason.TheVariants as reasons
 use Rattle.cbor_events.specs.State.{mark_of}
-use Rattle.cbor_reader.specs.Reading.{IsFault}
-use Rattle.cbor_reader.specs.Rules.{rules_of}
+use Rattle.cbor_reader.specs.inner.Reading.{IsFault}
+use Rattle.cbor_reader.specs.inner.Rules.{rules_of}
 use Rattle.cbor_reader.specs.declared.rules.Rules.{Rules}
 use Rattle.cbor_reader.proofs.Steps.{open-fault, IsHeadKind}
 use Rattle.cbor_reader.proofs.next_head.head_fault.Goals as goal

@@ -1,4 +1,4 @@
-use Rattle.cbor_reader.specs.Rules.{rules_of}
+use Rattle.cbor_reader.specs.inner.Rules.{rules_of}
 use Rattle.cbor_reader.proofs.Steps.{next-head, bad-head, no-head, stops, limits-as, told, not-ended, head-open}
 use Rattle.std.proofs.Common.{ap}
 use Rattle.cbor_head.specs.Verdict.{refusal}

@@ -1,7 +1,7 @@
 use Rattle.std.proofs.Common.{◌++◌, true}
 use Rattle.cbor_events.specs.Automaton.{in_chunks}
-use Rattle.cbor_reader.specs.Reading.{string_major}
-use Rattle.cbor_reader.specs.Rules.{rules_of}
+use Rattle.cbor_reader.specs.inner.Reading.{string_major}
+use Rattle.cbor_reader.specs.inner.Rules.{rules_of}
 use Rattle.cbor_reader.proofs.Leaves.{chunks_bytes}
 use Rattle.cbor_reader.proofs.Steps.{farther}
 use Rattle.cbor_reader.proofs.WholeStrings.{looks, starts-chunks, stops-chunk-head, chunk-kind, chunks-end, chunk-due, chunk-next, stops-chunk, chunk-farther}

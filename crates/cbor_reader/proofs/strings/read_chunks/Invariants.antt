@@ -3,8 +3,8 @@ use Rattle.cbor_head.specs.Limits.{Bounds}
 use Rattle.cbor_head.specs.declared.width.Width.{Width}
 use Rattle.cbor_events.specs.Automaton.{Frame}
 use Rattle.std.specs.Prelude.{None}
-use Rattle.cbor_reader.specs.Reading.{IsBegun, string_kind}
-use Rattle.cbor_reader.specs.Rules.{rules_of}
+use Rattle.cbor_reader.specs.inner.Reading.{IsBegun, string_kind}
+use Rattle.cbor_reader.specs.inner.Rules.{rules_of}
 use Rattle.cbor_reader.proofs.WholeStrings.{IsReadingChunks}
 use Rattle.cbor_reader.proofs.strings.read_chunks.Given as goal
 

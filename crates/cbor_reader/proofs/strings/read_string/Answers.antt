@@ -1,6 +1,6 @@
 use Rattle.std.proofs.Common.{ℕ, ◌++◌, false, subst, Option}
-use Rattle.cbor_reader.specs.Reading.{string_major, string_kind, IsBegun}
-use Rattle.cbor_reader.specs.Rules.{rules_of}
+use Rattle.cbor_reader.specs.inner.Reading.{string_major, string_kind, IsBegun}
+use Rattle.cbor_reader.specs.inner.Rules.{rules_of}
 use Rattle.cbor_reader.proofs.WholeStrings.{looks, string-due, reads-string, stops-string}
 use Rattle.cbor_reader.proofs.strings.read_string.Goals as goal
 

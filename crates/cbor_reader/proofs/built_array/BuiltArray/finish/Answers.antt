@@ -1,6 +1,6 @@
 use Rattle.std.proofs.Common.{subst, ◌∙◌, Option}
-use Rattle.cbor_item.specs.View.{values_view}
-use Rattle.cbor_reader.specs.Encoding.{AreEncoded}
+use Rattle.cbor_item.specs.inner.Members.{values_view}
+use Rattle.cbor_reader.specs.inner.Encoding.{AreEncoded}
 use Rattle.cbor_reader.specs.declared.encoding.Encoding.{Encoding}
 use Rattle.cbor_reader.proofs.Building.{array-headed}
 use Rattle.cbor_reader.proofs.built_array.BuiltArray.finish.Goals as goal

@@ -1,8 +1,9 @@
 use Rattle.std.proofs.Common.{Option, List, ℕ, ◌++◌, sym, ap, ◌∙◌, subst}
 use Rattle.cbor_head.specs.Canonical.{canonical}
-use Rattle.cbor_item.specs.View.{view, values_view}
+use Rattle.cbor_item.specs.View.{view}
+use Rattle.cbor_item.specs.inner.Members.{values_view}
 use Rattle.cbor_item.specs.declared.item.Item.{Item}
-use Rattle.cbor_reader.specs.Encoding.{AreEncoded}
+use Rattle.cbor_reader.specs.inner.Encoding.{AreEncoded}
 use Rattle.cbor_reader.specs.declared.encoding.Encoding.{Encoding}
 use Rattle.cbor_reader.proofs.Building.{array-more}
 use Rattle.cbor_reader.proofs.built_array.BuiltArray.push.Goals as goal

@@ -1,8 +1,8 @@
 use Rattle.std.proofs.Common.{subst, sym, ◌∙◌, Option, List}
-use Rattle.cbor_item.specs.View.{entries_view}
+use Rattle.cbor_item.specs.inner.Members.{entries_view}
 use Rattle.cbor_item.specs.declared.item.Item.{Item}
 use Rattle.cbor_head.specs.Value.{AreEntriesInRange, HasDistinctKeys}
-use Rattle.cbor_reader.specs.Encoding.{ArePairsEncoded}
+use Rattle.cbor_reader.specs.inner.Encoding.{ArePairsEncoded}
 use Rattle.cbor_reader.specs.declared.built_map.EncodedPairs.{EncodedPairs}
 use Rattle.cbor_reader.proofs.Building.{keys-differ, map-headed}
 use Rattle.cbor_reader.proofs.built_map.BuiltMap.finish.Goals as goal

@@ -1,8 +1,9 @@
 use Rattle.std.proofs.Common.{Option, sym, ap, ◌∙◌, subst}
 use Rattle.cbor_head.specs.Canonical.{canonical}
-use Rattle.cbor_item.specs.View.{view, entries_view}
+use Rattle.cbor_item.specs.View.{view}
+use Rattle.cbor_item.specs.inner.Members.{entries_view}
 use Rattle.cbor_item.specs.declared.item.Item.{Item}
-use Rattle.cbor_reader.specs.Encoding.{ArePairsEncoded}
+use Rattle.cbor_reader.specs.inner.Encoding.{ArePairsEncoded}
 use Rattle.cbor_reader.specs.declared.built_map.EncodedPair.{EncodedPair}
 use Rattle.cbor_reader.specs.declared.built_map.EncodedPairs.{EncodedPairs}
 use Rattle.cbor_reader.proofs.Building.{map-more}

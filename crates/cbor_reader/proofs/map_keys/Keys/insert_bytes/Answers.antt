@@ -2,7 +2,7 @@ use Rattle.std.proofs.Common.{ap, sym, ◌∙◌, subst, ◌≡◌}
 use Rattle.cbor_head.specs.Canonical.{canonical}
 use Rattle.cbor_head.specs.declared.order.KeyOrder.TheVariants.{Bytewise}
 use Rattle.cbor_reader.specs.declared.map_keys.Keys.{Keys}
-use Rattle.cbor_reader.specs.MapKeys.{HasKeys, IsPut, Rises, order_of}
+use Rattle.cbor_reader.specs.inner.MapKeys.{HasKeys, IsPut, Rises, order_of}
 use Rattle.cbor_reader.proofs.MapKeys.{plain, distinct_kept, distinct_repeated, rising_kept, rising_refused}
 use Rattle.cbor_reader.proofs.map_keys.Keys.insert_bytes.Goals as goal
 

@@ -20,7 +20,7 @@ AreContentsValid (entry k v es) = IsValid v × AreContentsValid es
 
 -- pairs one after the other, each key with its content
 abbrev pub joined : List Pair → List ℕ
-joined ps = flat_map (λ (p : Pair). p.key ++ p.content) ps
+joined ps = flat_map (λ (p : Pair). p.key ++ p.value) ps
 
 -- what stands behind the key of the pair at an index
 abbrev pub content_at : List (Item × Item) → ℕ → Value
@@ -28,7 +28,7 @@ content_at ps i = view (get_or ps i (Unsigned 0, Unsigned 0)).1
 
 -- an encoded key with what stands behind it, encoded
 abbrev pub pair_at : KeyOrder → List (Item × Item) → EncodedKey → Pair
-pair_at o ps k = record { key = k.bytes; content = canonical o (content_at ps k.index) }
+pair_at o ps k = record { key = k.bytes; value = canonical o (content_at ps k.index) }
 
 -- the first of the list, if it has one, isn't this one
 abbrev pub IsNotFirst : List ℕ → List (List ℕ) → Type 0

@@ -28,7 +28,7 @@ use Rattle.cbor_events.specs.declared.event.EventKind.{EventKind}
 use Rattle.cbor_events.specs.declared.event.EventKind.TheVariants as kinds
 use Rattle.cbor_item.specs.declared.item.Item.{Item}
 use Rattle.cbor_item.specs.View.{view}
-use Rattle.cbor_reader.specs.Judged.{IsJudged}
+use Rattle.cbor_reader.specs.inner.Judged.{IsJudged}
 
 -- Between two events: the bytes t are taken, within these limits, and the events stand in this state.
 pub record IsAt (b : Bounds) (e : ItemEventsView) (t : List ℕ) (q : State) : Type 0 where

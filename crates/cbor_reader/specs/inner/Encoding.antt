@@ -22,7 +22,7 @@ AreEncoded None vs = Unit {0}
 AreEncoded (Some e) vs = e.bytes.items ≡ canonical_all e.order vs
 
 abbrev pub pair_of : EncodedPair → Pair
-pair_of p = record { key = p.key.items; content = p.content.items }
+pair_of p = record { key = p.key.items; value = p.content.items }
 
 -- of these pairs
 abbrev pub ArePairsEncoded : Option EncodedPairs → Entries → Type 0

@@ -10,8 +10,8 @@ use Rattle.cbor_events.specs.Automaton.{Frame, at_item}
 use Rattle.cbor_events.specs.ItemEvents.{ItemEventsView}
 use Rattle.cbor_item.specs.declared.item.Item.{Item}
 use Rattle.cbor_item.specs.View.{view}
-use Rattle.cbor_reader.specs.MapKeys.{HasKeys}
-use Rattle.cbor_reader.specs.Reading.{IsAt, ReadsItem, StopsItem, ReadsBreak}
+use Rattle.cbor_reader.specs.inner.MapKeys.{HasKeys}
+use Rattle.cbor_reader.specs.inner.Reading.{IsAt, ReadsItem, StopsItem, ReadsBreak}
 use Rattle.cbor_reader.specs.declared.map_keys.Keys.{Keys}
 
 -- a key is due behind these

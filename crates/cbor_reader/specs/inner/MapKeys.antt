@@ -21,7 +21,7 @@ use Rattle.cbor_reader.specs.declared.map_keys.Keys.{Keys}
 use Rattle.cbor_reader.specs.declared.map_keys.Keys.TheVariants.{Distinct, Rising}
 
 -- a value that has canonical bytes, of no more depth than any item that is read
-pub record IsKeyValue (v : Value) : Type 0 where
+pub record HasCanonicalBytes (v : Value) : Type 0 where
   pub depth : depth v ≤ 256
   pub in_range : IsInRange v
   pub valid : IsValid v

@@ -3,7 +3,7 @@ use Rattle.std.specs.Prelude.{◌≡◌, Result, Ok, Err, MatchResult}
 use Rattle.cbor_head.specs.declared.reason.Refusal.{Refusal}
 use Rattle.cbor_events.specs.ItemEvents.{ItemEventsView}
 use Rattle.cbor_item.specs.declared.item.Item.{Item}
-use Rattle.cbor_reader.specs.Reading.{IsMemory}
+use Rattle.cbor_reader.specs.inner.Reading.{IsMemory}
 
 -- memory is refused behind what was taken
 pub record IsNoMemory (e : ItemEventsView) (f : Refusal) : Type 0 where

@@ -1,7 +1,7 @@
 -- A container around an item: what stands before the item in it, and what stands behind.
 use Rattle.std.specs.Prelude.{ℕ, suc, max, ◌+◌, ◌⊎◌, ◌++◌, List, [], ◌∷◌, length}
 use Rattle.cbor_head.specs.Head.{Holds, head}
-use Rattle.cbor_head.specs.Spelling.{Spelling, Spellings, SpelledEntries, array, a_map, tag, no_spellings, a_spelling, no_entries, entry, spell, spell_all, spell_entries, spellings_count, entries_count, closer, IsSpelled, AreSpelled, AreEntriesSpelled, HoldsOrOpen, depth, depth_all, depth_entries}
+use Rattle.cbor_head.specs.Spelling.{Spelling, Spellings, SpelledEntries, array, a_map, tag, no_spellings, a_spelling, no_entries, entry, spell, spell_all, spell_entries, spellings_count, entries_count, break_of, IsSpelled, AreSpelled, AreEntriesSpelled, HoldsOrIndefinite, depth, depth_all, depth_entries}
 use Rattle.cbor_head.specs.Complaint.{Rules, Complaint, OfHead, OfCount, OfKey, Complains, ComplainsIn, ComplainsInEntries}
 use Rattle.cbor_head.specs.declared.major.Major.TheVariants.{Array, Map, Tag}
 use Rattle.cbor_head.specs.declared.width.Width.{Width}
@@ -44,15 +44,15 @@ before (tagged w n) = head Tag w n
 
 -- the bytes behind it
 abbrev pub behind : Frame → List ℕ
-behind (a_member w a b) = spell_all b ++ closer w
-behind (a_key w a v b) = spell v ++ spell_entries b ++ closer w
-behind (a_content w a k b) = spell_entries b ++ closer w
+behind (a_member w a b) = spell_all b ++ break_of w
+behind (a_key w a v b) = spell v ++ spell_entries b ++ break_of w
+behind (a_content w a k b) = spell_entries b ++ break_of w
 behind (tagged w n) = []
 
 abbrev pub IsFrame : Frame → Type 0
-IsFrame (a_member w a b) = HoldsOrOpen w (spellings_count a + suc (spellings_count b)) × AreSpelled a × AreSpelled b
-IsFrame (a_key w a v b) = HoldsOrOpen w (entries_count a + suc (entries_count b)) × AreEntriesSpelled a × IsSpelled v × AreEntriesSpelled b
-IsFrame (a_content w a k b) = HoldsOrOpen w (entries_count a + suc (entries_count b)) × AreEntriesSpelled a × IsSpelled k × AreEntriesSpelled b
+IsFrame (a_member w a b) = HoldsOrIndefinite w (spellings_count a + suc (spellings_count b)) × AreSpelled a × AreSpelled b
+IsFrame (a_key w a v b) = HoldsOrIndefinite w (entries_count a + suc (entries_count b)) × AreEntriesSpelled a × IsSpelled v × AreEntriesSpelled b
+IsFrame (a_content w a k b) = HoldsOrIndefinite w (entries_count a + suc (entries_count b)) × AreEntriesSpelled a × IsSpelled k × AreEntriesSpelled b
 IsFrame (tagged w n) = Holds w n
 
 -- how deep the other members nest

@@ -1,0 +1,9 @@
+-- What private functions speak of; no public contract does.
+pub mod Building
+pub mod Encoding
+pub mod Judged
+pub mod MapKeys
+pub mod Members
+pub mod NextKey
+pub mod Reading
+pub mod Rules
