@@ -1,7 +1,7 @@
 //! Each row of the conformance table, through every call. A call that is added to the crate gets a
 //! test here that takes it over all rows, as the others do.
 
-use super::conformance_table::{PAIRS, ROWS};
+use super::conformance_table::{PAIRS, PARTS, rows};
 use super::{BadHex, bytes_of};
 use crate::{KeyOrder, Side, canonicalise, read_strict, read_tree, same_meaning};
 use cbor_head::{Limits, Refusal};
@@ -124,23 +124,25 @@ impl Read for Cut<'_> {
 
 #[test]
 fn canonicalises(rt: HostRuntime) -> Result<(), Fail> {
-    for &line in ROWS {
-        let Some((hex, column, plain, _)) = row_of(line) else {
-            return Err(Fail::from(BadRow::Columns));
-        };
-        let Some(limits) = limits_of(column) else {
-            return Err(Fail::from(BadRow::Limits));
-        };
-        let input = bytes_of(rt.alloc(), hex)?;
-        for &order in &ORDERS {
-            let wanted = by_order(plain, order);
-            let is_right = match canonicalise(rt.alloc(), &input, limits, order) {
-                Ok(bytes) => {
-                    !is_refused(wanted) && bytes == canonical_of(rt.alloc(), &input, wanted)?
-                }
-                Err(refusal) => text_of(rt.alloc(), refusal)?.as_str() == wanted,
+    for part in 0..PARTS {
+        for &line in rows(part) {
+            let Some((hex, column, plain, _)) = row_of(line) else {
+                return Err(Fail::from(BadRow::Columns));
             };
-            assert!(rt; is_right, "{line}");
+            let Some(limits) = limits_of(column) else {
+                return Err(Fail::from(BadRow::Limits));
+            };
+            let input = bytes_of(rt.alloc(), hex)?;
+            for &order in &ORDERS {
+                let wanted = by_order(plain, order);
+                let is_right = match canonicalise(rt.alloc(), &input, limits, order) {
+                    Ok(bytes) => {
+                        !is_refused(wanted) && bytes == canonical_of(rt.alloc(), &input, wanted)?
+                    }
+                    Err(refusal) => text_of(rt.alloc(), refusal)?.as_str() == wanted,
+                };
+                assert!(rt; is_right, "{line}");
+            }
         }
     }
     Ok(())
@@ -148,20 +150,22 @@ fn canonicalises(rt: HostRuntime) -> Result<(), Fail> {
 
 #[test]
 fn reads_trees(rt: HostRuntime) -> Result<(), Fail> {
-    for &line in ROWS {
-        let Some((hex, column, plain, _)) = row_of(line) else {
-            return Err(Fail::from(BadRow::Columns));
-        };
-        let Some(limits) = limits_of(column) else {
-            return Err(Fail::from(BadRow::Limits));
-        };
-        let input = bytes_of(rt.alloc(), hex)?;
-        for way in 0..=input.len() {
-            let mut reader = Cut::in_way(&input, way);
-            let answer = read_tree(rt.alloc(), &mut reader, limits);
-            let taken = reader.taken(&input) as u64;
-            let is_right = is_read_right(rt.alloc(), &input, plain, answer, taken)?;
-            assert!(rt; is_right, "{line}");
+    for part in 0..PARTS {
+        for &line in rows(part) {
+            let Some((hex, column, plain, _)) = row_of(line) else {
+                return Err(Fail::from(BadRow::Columns));
+            };
+            let Some(limits) = limits_of(column) else {
+                return Err(Fail::from(BadRow::Limits));
+            };
+            let input = bytes_of(rt.alloc(), hex)?;
+            for way in 0..=input.len() {
+                let mut reader = Cut::in_way(&input, way);
+                let answer = read_tree(rt.alloc(), &mut reader, limits);
+                let taken = reader.taken(&input) as u64;
+                let is_right = is_read_right(rt.alloc(), &input, plain, answer, taken)?;
+                assert!(rt; is_right, "{line}");
+            }
         }
     }
     Ok(())
@@ -208,22 +212,24 @@ fn is_tree_right(alloc: Global, input: &[u8], plain: &str, tree: &Tree) -> Resul
 
 #[test]
 fn reads_strictly(rt: HostRuntime) -> Result<(), Fail> {
-    for &line in ROWS {
-        let Some((hex, column, plain, strict)) = row_of(line) else {
-            return Err(Fail::from(BadRow::Columns));
-        };
-        let Some(limits) = limits_of(column) else {
-            return Err(Fail::from(BadRow::Limits));
-        };
-        let input = bytes_of(rt.alloc(), hex)?;
-        for &order in &ORDERS {
-            let wanted = strict_text(rt.alloc(), &input, plain, strict, order)?;
-            for way in 0..=input.len() {
-                let mut reader = Cut::in_way(&input, way);
-                let answer = read_strict(rt.alloc(), &mut reader, limits, order);
-                let taken = reader.taken(&input) as u64;
-                let is_right = is_strict_right(rt.alloc(), wanted.as_str(), answer, taken)?;
-                assert!(rt; is_right, "{line}");
+    for part in 0..PARTS {
+        for &line in rows(part) {
+            let Some((hex, column, plain, strict)) = row_of(line) else {
+                return Err(Fail::from(BadRow::Columns));
+            };
+            let Some(limits) = limits_of(column) else {
+                return Err(Fail::from(BadRow::Limits));
+            };
+            let input = bytes_of(rt.alloc(), hex)?;
+            for &order in &ORDERS {
+                let wanted = strict_text(rt.alloc(), &input, plain, strict, order)?;
+                for way in 0..=input.len() {
+                    let mut reader = Cut::in_way(&input, way);
+                    let answer = read_strict(rt.alloc(), &mut reader, limits, order);
+                    let taken = reader.taken(&input) as u64;
+                    let is_right = is_strict_right(rt.alloc(), wanted.as_str(), answer, taken)?;
+                    assert!(rt; is_right, "{line}");
+                }
             }
         }
     }
@@ -270,27 +276,29 @@ fn strict_text(
 // Each input against itself, and against its canonical bytes.
 #[test]
 fn compares_with_itself(rt: HostRuntime) -> Result<(), Fail> {
-    for &line in ROWS {
-        let Some((hex, column, plain, _)) = row_of(line) else {
-            return Err(Fail::from(BadRow::Columns));
-        };
-        let Some(limits) = limits_of(column) else {
-            return Err(Fail::from(BadRow::Limits));
-        };
-        let input = bytes_of(rt.alloc(), hex)?;
-        let is_right = match same_meaning(rt.alloc(), &input, &input, limits) {
-            Ok(same) => same && is_item(plain),
-            Err((Side::Left, refusal)) => text_of(rt.alloc(), refusal)?.as_str() == plain,
-            Err((Side::Right, _)) => false,
-        };
-        assert!(rt; is_right, "{line}");
-        for &order in &ORDERS {
-            let wanted = by_order(plain, order);
-            if !is_refused(wanted) {
-                let bytes = canonical_of(rt.alloc(), &input, wanted)?;
-                let onward = same_meaning(rt.alloc(), &input, &bytes, limits);
-                let back = same_meaning(rt.alloc(), &bytes, &input, limits);
-                assert!(rt; onward == Ok(true) && back == Ok(true), "{line}");
+    for part in 0..PARTS {
+        for &line in rows(part) {
+            let Some((hex, column, plain, _)) = row_of(line) else {
+                return Err(Fail::from(BadRow::Columns));
+            };
+            let Some(limits) = limits_of(column) else {
+                return Err(Fail::from(BadRow::Limits));
+            };
+            let input = bytes_of(rt.alloc(), hex)?;
+            let is_right = match same_meaning(rt.alloc(), &input, &input, limits) {
+                Ok(same) => same && is_item(plain),
+                Err((Side::Left, refusal)) => text_of(rt.alloc(), refusal)?.as_str() == plain,
+                Err((Side::Right, _)) => false,
+            };
+            assert!(rt; is_right, "{line}");
+            for &order in &ORDERS {
+                let wanted = by_order(plain, order);
+                if !is_refused(wanted) {
+                    let bytes = canonical_of(rt.alloc(), &input, wanted)?;
+                    let onward = same_meaning(rt.alloc(), &input, &bytes, limits);
+                    let back = same_meaning(rt.alloc(), &bytes, &input, limits);
+                    assert!(rt; onward == Ok(true) && back == Ok(true), "{line}");
+                }
             }
         }
     }

@@ -14,8 +14,26 @@
 //! The bytes of the first rows are those of the examples of appendix A without floating-point
 //! numbers. Canonical bytes and refusals were worked out by hand from the definitions.
 
-/// What each call answers of an input.
-pub(crate) static ROWS: &[&str] = &[
+/// How many parts the rows come in.
+pub(crate) const PARTS: usize = 6;
+
+/// The rows of a part: what each call answers of an input.
+pub(crate) fn rows(part: usize) -> &'static [&'static str] {
+    match part {
+        0 => appendix(),
+        1 => heads(),
+        2 => strings_and_maps(),
+        3 => cut_short(),
+        4 => form(),
+        _ => depth_and_validity(),
+    }
+}
+
+fn appendix() -> &'static [&'static str] {
+    APPENDIX
+}
+
+static APPENDIX: &[&str] = &[
     // Appendix A.
     "00 | | same | | 0",
     "01 | | same | | 1",
@@ -75,6 +93,13 @@ pub(crate) static ROWS: &[&str] = &[
     r#"bf61610161629f0203ffff | | a26161016162820203 | 15 Indefinite at 0, read 1 | {"a": 1, "b": [2, 3]}"#,
     r#"826161bf61626163ff | | 826161a161626163 | 15 Indefinite at 3, read 4 | ["a", {"b": "c"}]"#,
     r#"bf6346756ef563416d7421ff | | a263416d74216346756ef5 | 15 Indefinite at 0, read 1 | {"Fun": true, "Amt": -2}"#,
+];
+
+fn heads() -> &'static [&'static str] {
+    HEADS
+}
+
+static HEADS: &[&str] = &[
     // Heads at the bounds of their widths, and heads that are not the shortest.
     "1817 | | 17 | 14 NotShortest at 0, read 2 | 23",
     "1800 | | 00 | 14 NotShortest at 0, read 2 | 0",
@@ -121,6 +146,13 @@ pub(crate) static ROWS: &[&str] = &[
     "5818 24*07 | | same | | 24 bytes 07",
     "7818 24*61 | | same | | 24 letters a",
     "9818 24*00 | | same | | an array of 24 zeros",
+];
+
+fn strings_and_maps() -> &'static [&'static str] {
+    STRINGS_AND_MAPS
+}
+
+static STRINGS_AND_MAPS: &[&str] = &[
     // Simple values, tags and strings.
     "f820 | | same | | simple(32)",
     "c24101 | | same | | 2(h'01')",
@@ -166,6 +198,13 @@ pub(crate) static ROWS: &[&str] = &[
     "256*a100 00 | | same | | 0 in 256 maps with the key 0",
     r#"a282a302002000186481a201000000c5410100a26162016161a22000186400a22000186400 | | a282a30200186481a2000001002000c5410100a26161a21864002000616201a21864002000 / a2a26161a22000186400616201a2200018640082a302002000186481a200000100c5410100 | 16 KeyOrder at 7, read 9 / 16 KeyOrder at 13, read 14 | {[{2: 0, -1: 0, 100: [{1: 0, 0: 0}]}, 5(h'01')]: 0, {"ab": 1, "aa": {-1: 0, 100: 0}}: {-1: 0, 100: 0}}"#,
     "a2a2a2186400200000c1a220f51864f480000000 | | a20000a2a2186400200000c1a21864f420f58000 / a20000a2a2200018640000c1a220f51864f48000 | 16 KeyOrder at 13, read 15 / 16 KeyOrder at 6, read 7 | {{{100: 0, -1: 0}: 0, 1({-1: true, 100: false}): []}: 0, 0: 0}",
+];
+
+fn cut_short() -> &'static [&'static str] {
+    CUT_SHORT
+}
+
+static CUT_SHORT: &[&str] = &[
     // The input ends within the item.
     "| | 1 Truncated at 0, read 0 | | nothing",
     "18 | | 1 Truncated at 1, read 1 | | a head without its argument",
@@ -214,6 +253,13 @@ pub(crate) static ROWS: &[&str] = &[
     "a20100180100 | bytes 5 | 11 RepeatedKey at 3, read 5 | 14 NotShortest at 3, read 5 | a complaint that ends at the limit",
     "a20100180100 | bytes 4 | 2 TooLong at 4, read 4 | | the complaint would end past the limit",
     "a201000100 | bytes 4 | 11 RepeatedKey at 3, read 4 | 16 KeyOrder at 3, read 4 | a complaint that ends at the limit",
+];
+
+fn form() -> &'static [&'static str] {
+    FORM
+}
+
+static FORM: &[&str] = &[
     // An item may not begin so.
     "1c | | 3 Reserved at 0, read 1 | | additional information 28",
     "1d | | 3 Reserved at 0, read 1 | | additional information 29",
@@ -270,6 +316,13 @@ pub(crate) static ROWS: &[&str] = &[
     "7f7f6100ffff | | 8 BadChunk at 1, read 2 | 15 Indefinite at 0, read 1 | chunks within a chunk",
     "5f41001c | | 8 BadChunk at 3, read 4 | 15 Indefinite at 0, read 1 | behind a chunk",
     "7f616100ff | | 8 BadChunk at 3, read 4 | 15 Indefinite at 0, read 1 | behind a chunk",
+];
+
+fn depth_and_validity() -> &'static [&'static str] {
+    DEPTH_AND_VALIDITY
+}
+
+static DEPTH_AND_VALIDITY: &[&str] = &[
     // Depth.
     "c1c100 | depth 1 | 9 TooDeep at 1, read 2 | | 1(1(0))",
     "c100 | depth 1 | same | | 1(0)",
