@@ -8,7 +8,7 @@ mod reading;
 mod slicing;
 mod tables;
 
-use self::tables::{ACCEPTED, FRONTS, NOT_VALID, REFUSED};
+use self::tables::{accepted_rows, fronts_rows, not_valid_rows, refused_rows};
 use crate::{Event, EventKind, Machine, Out, Step};
 use cbor_head::{Limits, Reason, Refusal, Simple, Width};
 use std::alloc::{AllocError, Global};
@@ -259,7 +259,7 @@ fn refusals_stay(rt: HostRuntime) {
 #[test]
 fn takes_items(rt: HostRuntime) -> Result<(), Fail> {
     let limits = limits(&rt, 256, 1 << 20);
-    for (hex, events) in ACCEPTED {
+    for &(hex, events) in accepted_rows() {
         let told = both_ways(&rt, rt.alloc(), limits, hex)?;
         assert_eq!(rt; told.out, Out::Done, "at {hex}");
         assert_eq!(rt; told.taken, hex.len() as u64 / 2, "at {hex}");
@@ -268,7 +268,7 @@ fn takes_items(rt: HostRuntime) -> Result<(), Fail> {
             "events of {hex}"
         );
     }
-    for (hex, taken, events) in NOT_VALID {
+    for &(hex, taken, events) in not_valid_rows() {
         let told = both_ways(&rt, rt.alloc(), limits, hex)?;
         assert_eq!(rt; told.out, Out::Done, "at {hex}");
         assert_eq!(rt; told.taken, taken, "at {hex}");
@@ -282,7 +282,7 @@ fn takes_items(rt: HostRuntime) -> Result<(), Fail> {
 
 #[test]
 fn refuses_what_begins_no_item(rt: HostRuntime) -> Result<(), Fail> {
-    for (hex, depth, bytes, reason, place, read, events) in REFUSED {
+    for &(hex, depth, bytes, reason, place, read, events) in refused_rows() {
         let told = both_ways(&rt, rt.alloc(), limits(&rt, depth, bytes), hex)?;
         assert_eq!(rt; told.out, refusal(reason, place, read), "at {hex}");
         assert_eq!(rt; told.taken, read, "at {hex}");
@@ -296,7 +296,7 @@ fn refuses_what_begins_no_item(rt: HostRuntime) -> Result<(), Fail> {
 
 #[test]
 fn goes_on_in_an_item(rt: HostRuntime) -> Result<(), Fail> {
-    for (hex, events) in FRONTS {
+    for &(hex, events) in fronts_rows() {
         let told = both_ways(&rt, rt.alloc(), limits(&rt, 256, 1 << 20), hex)?;
         assert_eq!(rt; told.out, Out::More, "at {hex}");
         assert_eq!(rt; told.taken, hex.len() as u64 / 2, "at {hex}");

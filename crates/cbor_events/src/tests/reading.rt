@@ -1,6 +1,6 @@
 //! The event reader against the tables, over readers that give few bytes at a time, or fail.
 
-use super::tables::{ACCEPTED, FRONTS, NOT_VALID, REFUSED};
+use super::tables::{accepted_rows, fronts_rows, not_valid_rows, refused_rows};
 use super::{Told, bytes_of, event, events_of, join, limits};
 use crate::{Event, EventKind, EventReader, Out};
 use arrayvec::ArrayVec;
@@ -185,11 +185,11 @@ fn refused(reason: Reason, place: u64, read: u64) -> Out {
 #[test]
 fn reads_items(rt: HostRuntime) -> Result<(), Fail> {
     let limits = limits(&rt, 256, 1 << 20);
-    for (hex, events) in ACCEPTED {
+    for &(hex, events) in accepted_rows() {
         let taken = hex.len() as u64 / 2;
         look_every_way(&rt, rt.alloc(), limits, hex, events, Out::Done, taken)?;
     }
-    for (hex, taken, events) in NOT_VALID {
+    for &(hex, taken, events) in not_valid_rows() {
         look_every_way(&rt, rt.alloc(), limits, hex, events, Out::Done, taken)?;
     }
     Ok(())
@@ -197,12 +197,12 @@ fn reads_items(rt: HostRuntime) -> Result<(), Fail> {
 
 #[test]
 fn refuses_as_the_tables_say(rt: HostRuntime) -> Result<(), Fail> {
-    for (hex, depth, bytes, reason, place, read, events) in REFUSED {
+    for &(hex, depth, bytes, reason, place, read, events) in refused_rows() {
         let out = refused(reason, place, read);
         let limits = limits(&rt, depth, bytes);
         look_every_way(&rt, rt.alloc(), limits, hex, events, out, read)?;
     }
-    for (hex, events) in FRONTS {
+    for &(hex, events) in fronts_rows() {
         let there = hex.len() as u64 / 2;
         let out = refused(Reason::Truncated, there, there);
         let limits = limits(&rt, 256, 1 << 20);
@@ -215,7 +215,7 @@ fn refuses_as_the_tables_say(rt: HostRuntime) -> Result<(), Fail> {
 #[test]
 fn a_failure_and_an_end_are_told_at_once(rt: HostRuntime) -> Result<(), Fail> {
     let limits = limits(&rt, 256, 1 << 20);
-    for (hex, _) in ACCEPTED {
+    for &(hex, _) in accepted_rows() {
         let bytes = bytes_of(&rt, rt.alloc(), hex)?;
         for place in 0..bytes.len() {
             for reason in [Reason::Read, Reason::Truncated] {

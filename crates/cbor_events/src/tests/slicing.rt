@@ -1,6 +1,6 @@
 //! The events of a slice against the tables.
 
-use super::tables::{ACCEPTED, FRONTS, NOT_VALID, REFUSED};
+use super::tables::{accepted_rows, fronts_rows, not_valid_rows, refused_rows};
 use super::{bytes_of, event, events_of, limits};
 use crate::{EventKind, SliceEvents, Token};
 use cbor_head::{Limits, Reason, Refusal, Simple};
@@ -79,13 +79,13 @@ fn look(
 #[test]
 fn slices_items(rt: HostRuntime) -> Result<(), Fail> {
     let limits = limits(&rt, 256, 1 << 20);
-    for (hex, text) in ACCEPTED {
+    for &(hex, text) in accepted_rows() {
         let mut bytes = bytes_of(&rt, rt.alloc(), hex)?;
         let count = bytes.len() as u64;
         bytes.push(0xff)?;
         look(&rt, rt.alloc(), limits, &bytes, text, None, count)?;
     }
-    for (hex, taken, text) in NOT_VALID {
+    for &(hex, taken, text) in not_valid_rows() {
         let bytes = bytes_of(&rt, rt.alloc(), hex)?;
         look(&rt, rt.alloc(), limits, &bytes, text, None, taken)?;
     }
@@ -94,7 +94,7 @@ fn slices_items(rt: HostRuntime) -> Result<(), Fail> {
 
 #[test]
 fn refuses_slices_that_begin_no_item(rt: HostRuntime) -> Result<(), Fail> {
-    for (hex, depth, limit, reason, place, read, text) in REFUSED {
+    for &(hex, depth, limit, reason, place, read, text) in refused_rows() {
         let bytes = bytes_of(&rt, rt.alloc(), hex)?;
         let refusal = Some(Refusal {
             reason,
@@ -111,7 +111,7 @@ fn refuses_slices_that_begin_no_item(rt: HostRuntime) -> Result<(), Fail> {
             read,
         )?;
     }
-    for (hex, text) in FRONTS {
+    for &(hex, text) in fronts_rows() {
         let bytes = bytes_of(&rt, rt.alloc(), hex)?;
         let there = bytes.len() as u64;
         let truncated = Some(Refusal {
@@ -135,7 +135,7 @@ fn refuses_slices_that_begin_no_item(rt: HostRuntime) -> Result<(), Fail> {
 // Each front of an item is Truncated where it ends, and TooLong where the limit is.
 #[test]
 fn refuses_each_front(rt: HostRuntime) -> Result<(), Fail> {
-    for (hex, _) in ACCEPTED {
+    for &(hex, _) in accepted_rows() {
         let bytes = bytes_of(&rt, rt.alloc(), hex)?;
         for cut in 0..bytes.len() {
             let mut short = SliceEvents::new(&bytes[..cut], limits(&rt, 256, 1 << 20));

@@ -6,7 +6,7 @@
 use cbor_head::Reason;
 
 // Items of the appendix A of RFC 8949 without floats, and others. Before each its diagnostic text.
-pub const ACCEPTED: [(&str, &str); 66] = [
+static ACCEPTED: [(&str, &str); 66] = [
     // 0
     ("00", "0 unsigned 0 0"),
     // 1
@@ -214,7 +214,7 @@ pub const ACCEPTED: [(&str, &str); 66] = [
 ];
 
 // Well-formed items that are not valid, and one with a byte behind it; with the bytes that are taken.
-pub const NOT_VALID: [(&str, u64, &str); 8] = [
+static NOT_VALID: [(&str, u64, &str); 8] = [
     // a text of a surrogate
     ("63eda080", 4, "0 text 3 0  1 piece 3 0"),
     // a text of "A" and U+0000 in two bytes
@@ -247,7 +247,7 @@ pub const NOT_VALID: [(&str, u64, &str); 8] = [
 
 // Bytes that begin no item, with the depth limit, the byte limit, the reason with its place and
 // `read`, and the events of what stands before that place.
-pub const REFUSED: [(&str, u16, u64, Reason, u64, u64, &str); 51] = [
+static REFUSED: [(&str, u16, u64, Reason, u64, u64, &str); 51] = [
     // reserved additional information
     ("1c", 256, 1048576, Reason::Reserved, 0, 1, ""),
     ("3d", 256, 1048576, Reason::Reserved, 0, 1, ""),
@@ -461,7 +461,7 @@ pub const REFUSED: [(&str, u16, u64, Reason, u64, u64, &str); 51] = [
 ];
 
 // Fronts of items: all is taken, and the item goes on.
-pub const FRONTS: [(&str, &str); 16] = [
+static FRONTS: [(&str, &str); 16] = [
     // nothing
     ("", ""),
     // a head without its argument
@@ -495,3 +495,21 @@ pub const FRONTS: [(&str, &str); 16] = [
     // half of a chunk
     ("5f580201", "0 bytes - -  1 chunk 2 1  3 piece 1 0"),
 ];
+
+// The tables stand behind functions, so that what a test owes does not hold all of their rows.
+
+pub fn accepted_rows() -> &'static [(&'static str, &'static str)] {
+    &ACCEPTED
+}
+
+pub fn not_valid_rows() -> &'static [(&'static str, u64, &'static str)] {
+    &NOT_VALID
+}
+
+pub fn refused_rows() -> &'static [(&'static str, u16, u64, Reason, u64, u64, &'static str)] {
+    &REFUSED
+}
+
+pub fn fronts_rows() -> &'static [(&'static str, &'static str)] {
+    &FRONTS
+}
