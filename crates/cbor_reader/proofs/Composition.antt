@@ -4,7 +4,7 @@ use Rattle.std.proofs.lemmas.List.{length-append}
 use Rattle.cbor_head.specs.Head.{Holds, head}
 use Rattle.cbor_head.specs.Spelling.{Spelling, Spellings, SpelledEntries, array, a_map, tag, no_spellings, a_spelling, no_entries, entry, spell, spell_all, spell_entries, spellings_count, entries_count, IsSpelled, AreSpelled, AreEntriesSpelled, HoldsOrIndefinite, depth, depth_all, depth_entries}
 use Rattle.cbor_head.specs.Complaint.{Rules, Complaint, OfHead, OfCount, OfKey, Complains, ComplainsIn, ComplainsInEntries}
-use Rattle.cbor_reader.proofs.Frame.{a_member, a_key, a_content, tagged, with_all, with_entries, keys_onto}
+use Rattle.cbor_reader.specs.inner.Frame.{a_member, a_key, a_content, tagged, with_all, with_entries, keys_onto}
 use Rattle.cbor_reader.specs.inner.Judged.{IsJudged}
 use Rattle.cbor_head.specs.declared.major.Major.TheVariants.{Array, Map, Tag}
 use Rattle.cbor_head.specs.declared.width.Width.{Width}

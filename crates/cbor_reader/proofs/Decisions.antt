@@ -11,13 +11,13 @@ use Rattle.cbor_reader.specs.inner.Judged.{IsFirstOf, IsJudged}
 use Rattle.cbor_head.proofs.Agree.{split_front}
 use Rattle.cbor_head.proofs.OneFirst.{first_for_each}
 
-first_at_start : (r : Rules) (s : Spelling) (p : List ℕ) (c : Complaint) → IsFirstOf (Complains r 0 s) (0 + length p) c → IsFirstComplaint r s (length p) c
+pub first_at_start : (r : Rules) (s : Spelling) (p : List ℕ) (c : Complaint) → IsFirstOf (Complains r 0 s) (0 + length p) c → IsFirstComplaint r s (length p) c
 first_at_start r s p c f =
     let e : c.end ≤ 0 + length p = f.ends in
     record { holds = f.holds; ends = omega (arith, e); first = λ x h l. f.first x h (omega (arith, l)) }
 
 -- what comes first within p comes first within what goes on from p
-first_further : (r : Rules) (s : Spelling) (t u : ℕ) (c : Complaint) → t ≤ u → IsFirstComplaint r s t c → IsFirstComplaint r s u c
+pub first_further : (r : Rules) (s : Spelling) (t u : ℕ) (c : Complaint) → t ≤ u → IsFirstComplaint r s t c → IsFirstComplaint r s u c
 first_further r s t u c l f =
     let e : c.end ≤ t = f.ends in
     record { holds = f.holds; ends = omega (arith, e, l); first = λ x h m. elim (cases_lt t x.end) [ inl k ↦ inl (omega (arith, e, k)) | inr k ↦ f.first x h k ] }

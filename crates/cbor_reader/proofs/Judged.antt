@@ -5,7 +5,7 @@ use Rattle.std.proofs.lemmas.Bool.{cases_lt}
 use Rattle.cbor_head.specs.Spelling.{Spelling, Spellings, SpelledEntries, unsigned, no_spellings, a_spelling, no_entries, entry, spell, spellings_count, entries_count, IsSpelled, AreSpelled, AreEntriesSpelled, depth, depth_all, depth_entries, IsItem}
 use Rattle.cbor_head.specs.Complaint.{Rules, Complaint, Complains}
 use Rattle.cbor_head.specs.Verdict.{rank}
-use Rattle.cbor_reader.proofs.Frame.{Frame, a_member, a_key, a_content, tagged, keys_onto, plug, before, behind, IsFrame, depth_beside, OfFront, OfKeyAt}
+use Rattle.cbor_reader.specs.inner.Frame.{Frame, a_member, a_key, a_content, tagged, keys_onto, plug, before, behind, IsFrame, depth_beside, OfFront, OfKeyAt}
 use Rattle.cbor_reader.specs.inner.Judged.{IsFinding, IsJudged}
 use Rattle.cbor_head.specs.declared.width.Width.TheVariants.{Direct}
 use Rattle.cbor_head.proofs.Agree.{head_of, body, parts, later}
@@ -18,7 +18,7 @@ Never P = (c : Complaint) → P c → ⊥
 
 -- ---- one container
 
-bytes_in : (f : Frame) (s : Spelling) (p rest : List ℕ) → spell s ≡ p ++ rest → spell (plug f s) ≡ (before f ++ p) ++ (rest ++ behind f)
+pub bytes_in : (f : Frame) (s : Spelling) (p rest : List ℕ) → spell s ≡ p ++ rest → spell (plug f s) ≡ (before f ++ p) ++ (rest ++ behind f)
 bytes_in f s p rest e =
     spell_plug f s ∙ ap (λ (x : List ℕ). before f ++ (x ++ behind f)) e ∙ ap (λ (x : List ℕ). before f ++ x) (append_assoc p rest (behind f)) ∙ sym (append_assoc (before f) p (rest ++ behind f))
 

@@ -1,7 +1,7 @@
 -- The keys read so far.
 use Rattle.std.proofs.Common.{◌≡◌, List, [], ◌∷◌, refl}
 use Rattle.cbor_head.specs.Spelling.{Spelling, SpelledEntries, no_entries, entry}
-use Rattle.cbor_reader.proofs.Frame.{with_entries, keys_onto}
+use Rattle.cbor_reader.specs.inner.Frame.{with_entries, keys_onto}
 
 -- a pair more is a key more, the nearest
 pub keys_with : (es fs : SpelledEntries) (ks : List Spelling) → keys_onto ks (with_entries es fs) ≡ keys_onto (keys_onto ks es) fs

@@ -8,7 +8,6 @@ pub mod Composition
 pub mod CutShort
 pub mod Decisions
 mod Examples
-pub mod Frame
 pub mod Frames
 pub mod FreeBefore
 pub mod Fronts
@@ -26,6 +25,10 @@ pub mod NextKey
 pub mod OnAnswers
 pub mod OneAnswer
 pub mod OpenContainers
+pub mod OpenKeys
+pub mod OpenMaps
+pub mod OpenSteps
+pub mod OpenWalk
 pub mod Payloads
 pub mod ReadItems
 pub mod Reasons

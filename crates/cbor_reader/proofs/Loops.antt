@@ -5,7 +5,7 @@ use Rattle.cbor_head.specs.Head.{head}
 use Rattle.cbor_head.specs.Spelling.{Spelling, Spellings, SpelledEntries, array, a_map, no_spellings, a_spelling, no_entries, entry, spell, spell_all, spell_entries, spellings_count, entries_count, break_of}
 use Rattle.cbor_head.specs.declared.major.Major.TheVariants.{Array, Map}
 use Rattle.cbor_head.specs.declared.width.Width.{Width}
-use Rattle.cbor_reader.proofs.Frame.{with_all, with_entries}
+use Rattle.cbor_reader.specs.inner.Frame.{with_all, with_entries}
 use Rattle.cbor_reader.proofs.Frames.{spell_with, spell_entries_with}
 use Rattle.cbor_reader.proofs.Composition.{array_bytes, map_bytes}
 

@@ -23,7 +23,7 @@ use Rattle.cbor_events.specs.declared.event.EventKind.TheVariants as kinds
 use Rattle.cbor_item.specs.declared.item.Item.{Item}
 use Rattle.cbor_item.specs.View.{view}
 use Rattle.cbor_item.specs.inner.Members.{entries_view}
-use Rattle.cbor_reader.proofs.Frame.{with_entries, keys_onto}
+use Rattle.cbor_reader.specs.inner.Frame.{with_entries, keys_onto}
 use Rattle.cbor_reader.specs.inner.Judged.{IsJudged}
 use Rattle.cbor_reader.specs.inner.Reading.{IsAt, Extends, IsBegun, ReadsItem, IsMemory, StopsItem, IsReached}
 use Rattle.cbor_reader.proofs.Frames.{entries_with}

@@ -74,7 +74,7 @@ breaks_at d n input f v = elim v.decides [
 ]
 
 -- and the place of its refusal is where what has no complaint ends
-form_decides : (d n : ℕ) (r : Rules) (input p rest : List ℕ) (f : Refusal) → IsJudged r 0 d p None → input ≡ p ++ rest → f.place ≡ length p → IsVerdict d n form input (refused f)
+pub form_decides : (d n : ℕ) (r : Rules) (input p rest : List ℕ) (f : Refusal) → IsJudged r 0 d p None → input ≡ p ++ rest → f.place ≡ length p → IsVerdict d n form input (refused f)
     → (IsVerdict d n r input (refused f)) × IsLongestBeginning d (take n input) p
 form_decides d n r input p rest f j e place v =
     let b = breaks_at d n input f v in

@@ -1,11 +1,13 @@
 -- What private functions speak of; no public contract does.
 pub mod Building
 pub mod Encoding
+pub mod Frame
 pub mod Front
 pub mod Judged
 pub mod MapKeys
 pub mod Members
 pub mod NextKey
+pub mod OpenMaps
 pub mod Reading
 pub mod Rules
 pub mod SliceChecks

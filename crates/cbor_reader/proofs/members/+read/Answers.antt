@@ -11,7 +11,7 @@ use Rattle.cbor_reader.proofs.Items.{stops-at-item, begun-by, has-begun, no-end,
 use Rattle.cbor_reader.proofs.Scalars.{reads-unsigned, reads-negative, reads-simple, tag-due, reads-tag, stops-tag}
 use Rattle.cbor_reader.proofs.Arrays.{member_frames, starts-array, member-due, array-next, stops-member, array-whole, array-ended, array-memory, member-farther, no-farther, some-left}
 use Rattle.cbor_head.specs.Verdict.{refusal}
-use Rattle.cbor_reader.proofs.Frame.{keys_onto}
+use Rattle.cbor_reader.specs.inner.Frame.{keys_onto}
 use Rattle.cbor_reader.proofs.Composition.{map_bytes}
 use Rattle.cbor_reader.proofs.Maps.{key_frames, content_frames, key-due, stops-key, content-due, content-memory, stops-content, map-next-kept, map-whole, map-ended, map-no-farther, item-farther, no-content-break, starts-keys, stops-refused}
 use Rattle.cbor_reader.proofs.NextKey.{keeps-key, refuses-key}

@@ -8,7 +8,7 @@ use Rattle.cbor_events.specs.declared.event.EventKind.TheVariants as kinds
 use Rattle.cbor_item.specs.inner.Members.{entries_view, values_view}
 use Rattle.cbor_reader.specs.inner.Reading.{IsBegun}
 use Rattle.cbor_reader.specs.inner.Rules.{rules_of}
-use Rattle.cbor_reader.proofs.Frame.{keys_onto}
+use Rattle.cbor_reader.specs.inner.Frame.{keys_onto}
 use Rattle.cbor_reader.specs.inner.MapKeys.{HasKeys}
 use Rattle.cbor_reader.proofs.Arrays.{IsReadingArray}
 use Rattle.cbor_reader.proofs.Maps.{IsReadingMap}

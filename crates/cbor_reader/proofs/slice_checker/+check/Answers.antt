@@ -11,7 +11,7 @@ use Rattle.cbor_events.specs.declared.event.EventKind.TheVariants as kinds
 use Rattle.cbor_events.specs.declared.token.Token.TheVariants as tokens
 use Rattle.cbor_head.specs.declared.reason.Reason.TheVariants as reasons
 use Rattle.cbor_head.specs.declared.major.Major.TheVariants as majors
-use Rattle.cbor_reader.proofs.Frame.{keys_onto}
+use Rattle.cbor_reader.specs.inner.Frame.{keys_onto}
 use Rattle.cbor_events.specs.SliceView.{seen}
 use Rattle.cbor_reader.specs.inner.SliceChecks.{IsLastKey}
 use Rattle.cbor_reader.proofs.Composition.{array_bytes, map_bytes}

@@ -7,7 +7,7 @@ use Rattle.cbor_head.specs.declared.width.Width.{Width}
 use Rattle.cbor_events.specs.inner.Automaton.{Frame}
 use Rattle.cbor_events.specs.SliceView.{SliceEventsView}
 use Rattle.cbor_events.specs.declared.event.EventKind.TheVariants as kinds
-use Rattle.cbor_reader.proofs.Frame.{keys_onto}
+use Rattle.cbor_reader.specs.inner.Frame.{keys_onto}
 use Rattle.cbor_reader.specs.inner.Reading.{IsBegun}
 use Rattle.cbor_events.specs.SliceView.{seen}
 use Rattle.cbor_reader.specs.inner.SliceChecks.{IsLastKey}
