@@ -1,6 +1,7 @@
 //! Texts of items written out by hand.
 
 mod failed;
+mod listing_tables;
 mod listings;
 
 use crate::{diagnostic, diagnostic_indented};

@@ -7,9 +7,13 @@ ghost use Rattle.cbor_events.specs.inner.State.{frames_of, state_of, IsSettled};
 
 use crate::position::Position;
 use arrayvec::ArrayVec;
+use cbor_head::MAX_DEPTH;
+
+/// How many containers can be open: as many as the greatest depth limit lets nest.
+pub const MOST_OPEN: usize = MAX_DEPTH as usize;
 
 /// The open containers, the innermost last.
-pub type Frames = ArrayVec<Frame, 256>;
+pub type Frames = ArrayVec<Frame, MOST_OPEN>;
 
 /// An open container, and what follows in it after the member that is due.
 #[derive(Clone, Copy, Default)]
@@ -31,7 +35,7 @@ pub enum Frame {
 
 /// An item is complete: with it the containers whose last member it was.
 pub fn close(frames: &mut Frames) -> Position
-    requires { array_vec_len frames.old ≤ 256 }
+    requires { array_vec_len frames.old ≤ MOST_OPEN }
     ensures state { state_of result frames.new.items
         ≡ automaton.close (frames_of frames.old.items) }
     ensures fewer { array_vec_len frames.new ≤ array_vec_len frames.old }

@@ -1,7 +1,6 @@
 //! The events of one item, from a reader that each call is handed.
 
 ghost use Rattle.std.specs.Prelude.{◌≡◌, ◌≤◌, ◌<◌, ℕ, List, [], length, take, None, Some, OnOk, OnErr, IfErr, IfSome, Err};
-ghost use Rattle.cbor_head.specs.Value.{AreBytes};
 ghost use Rattle.cbor_head.specs.Verdict.{refusal};
 ghost use Rattle.cbor_events.specs.Trace.{Mark};
 ghost use Rattle.cbor_events.specs.Marks.{IsProper};
@@ -11,7 +10,7 @@ ghost use Rattle.cbor_events.specs.ItemEvents.{ItemEventsView, StandsBetween, If
 ghost use Rattle.cbor_events.specs.inner.Reads.{IsAsked, piece_after, piece_size};
 
 use crate::event::{Event, EventKind, Out};
-use crate::machine::{Machine, refusal_of};
+use crate::machine::{Machine, below_256, refusal_of};
 use cbor_head::{Limits, Reason, Refusal};
 use std::io::Read;
 use std::marker::Model;
@@ -163,11 +162,6 @@ fn cut(reason: Reason, taken: u64) -> Refusal
 {
     refusal_of(reason, taken, taken)
 }
-
-// Bytes are below 256.
-fn below_256(bytes: &[u8])
-    ensures { AreBytes bytes.now }
-{}
 
 // Reads what the machine wants, one part after another, until it tells an event or stops.
 fn next_event<R: Read>(

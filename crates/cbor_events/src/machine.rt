@@ -231,6 +231,6 @@ fn part(len: usize, room: u64) -> usize
 }
 
 // Bytes are below 256.
-fn below_256(bytes: &[u8])
+pub(crate) fn below_256(bytes: &[u8])
     ensures { AreBytes bytes.now }
 {}

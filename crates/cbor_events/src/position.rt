@@ -3,6 +3,7 @@
 ghost use Rattle.std.specs.Prelude.{◌≡◌, ◌≤◌, ◌⊎◌, true};
 ghost use Rattle.arrayvec.specs.ArrayVec.{array_vec_len};
 ghost use Rattle.cbor_events.specs.inner.Automaton as automaton;
+ghost use Rattle.cbor_events.specs.declared.frame.TheConstants.{MOST_OPEN};
 ghost use Rattle.cbor_events.specs.inner.State.{frames_of, state_of, major_of, IsSettled};
 
 use crate::frame::{Frame, Frames, close};
@@ -36,7 +37,7 @@ pub enum Position {
 
 // A string of definite length is complete.
 pub fn close_string(chunk: bool, kind: Numbered, frames: &mut Frames) -> Position
-    requires { array_vec_len frames.old ≤ 256 }
+    requires { array_vec_len frames.old ≤ MOST_OPEN }
     ensures state { state_of result frames.new.items
         ≡ automaton.close_string chunk (major_of kind) (frames_of frames.old.items) }
     ensures fewer { array_vec_len frames.new ≤ array_vec_len frames.old }
@@ -51,7 +52,7 @@ pub fn close_string(chunk: bool, kind: Numbered, frames: &mut Frames) -> Positio
 
 // The head of a string of definite length is complete.
 pub fn payload(chunk: bool, kind: Numbered, n: u64, frames: &mut Frames) -> Position
-    requires { array_vec_len frames.old ≤ 256 }
+    requires { array_vec_len frames.old ≤ MOST_OPEN }
     ensures state { state_of result frames.new.items
         ≡ automaton.payload chunk (major_of kind) n (frames_of frames.old.items) }
     ensures fewer { array_vec_len frames.new ≤ array_vec_len frames.old }
@@ -67,7 +68,7 @@ pub fn payload(chunk: bool, kind: Numbered, n: u64, frames: &mut Frames) -> Posi
 // The head of an item is complete.
 #[tactic(auto, using(crate::proofs::Frames::length_frames))]
 pub fn after(chunk: bool, kind: Numbered, n: u64, depth: usize, frames: &mut Frames) -> Position
-    requires limit { depth ≤ 256 }
+    requires limit { depth ≤ MOST_OPEN }
     requires within { array_vec_len frames.old ≤ depth }
     requires room { chunk ≡ true
         ⊎ (automaton.has_room depth (frames_of frames.old.items) (major_of kind) ≡ true) }

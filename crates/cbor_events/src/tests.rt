@@ -5,10 +5,12 @@ ghost use Rattle.cbor_events.specs.Machine.{IsMore};
 ghost use Rattle.cbor_events.specs.inner.Steps.{Goes};
 
 mod reading;
+mod refused;
 mod slicing;
 mod tables;
 
-use self::tables::{accepted_rows, fronts_rows, not_valid_rows, refused_rows};
+use self::refused::refused_rows;
+use self::tables::{accepted_rows, fronts_rows, not_valid_rows};
 use crate::{Event, EventKind, Machine, Out, Step};
 use cbor_head::{Limits, Reason, Refusal, Simple, Width};
 use std::alloc::{AllocError, Global};

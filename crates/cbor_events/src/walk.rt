@@ -5,6 +5,7 @@ ghost use Rattle.arrayvec.specs.ArrayVec.{array_vec_len};
 ghost use Rattle.cbor_events.specs.Trace.{a_byte};
 ghost use Rattle.cbor_events.specs.inner.Automaton as automaton;
 ghost use Rattle.cbor_events.specs.inner.State.{frames_of, state_of, major_of, IsFit, IsSettled, wanted_at, is_in_payload, is_done};
+ghost use Rattle.cbor_events.specs.declared.frame.TheConstants.{MOST_OPEN};
 ghost use Rattle.cbor_events.specs.inner.Walk.{IsTold, IsEnded, IsWalkedProper, IsWalkedReason, IsWalked, told_times};
 
 use crate::event::EventKind;
@@ -35,7 +36,7 @@ fn piece(
     frames: &mut Frames,
     input: &[u8],
 ) -> (usize, Position)
-    requires limit { array_vec_len frames.old ≤ 256 }
+    requires limit { array_vec_len frames.old ≤ MOST_OPEN }
     requires some { 0 < length input.now }
     ensures used { result.0 ≡ min (length input.now) (left + 1) }
     ensures ran { automaton.run depth
@@ -61,7 +62,7 @@ pub fn walk(
     frames: &mut Frames,
     input: &[u8],
 ) -> (usize, Walked)
-    requires limit { depth ≤ 256 }
+    requires limit { depth ≤ MOST_OPEN }
     requires within { array_vec_len frames.old ≤ depth }
     requires fits { IsFit depth frames.old.items position.old }
     ensures used { result.0 ≤ length input.now }

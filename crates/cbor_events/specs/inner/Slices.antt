@@ -7,6 +7,7 @@ use Rattle.cbor_events.specs.inner.State.{IsFit, IsSettled}
 use Rattle.cbor_events.specs.declared.event.EventKind.{EventKind}
 use Rattle.cbor_events.specs.declared.event.EventKind.TheVariants as kinds
 use Rattle.cbor_events.specs.declared.frame.Frame.{Frame}
+use Rattle.cbor_events.specs.declared.frame.TheConstants.{MOST_OPEN}
 use Rattle.cbor_events.specs.declared.position.Position.{Position}
 
 -- how many bytes the events stand for
@@ -16,7 +17,7 @@ told_at (Some f) size begin left = size - begin
 
 -- what holds of the fields
 pub record IsWithin (d n size begin left : ℕ) (frames : List Frame) (position : Position) (refusal : Option Refusal) : Type 0 where
-  pub depth : d ≤ 256
+  pub depth : d ≤ MOST_OPEN
   pub begun : left ≤ begin
   pub sized : begin ≤ size
   pub limited : size ≤ n

@@ -1,9 +1,7 @@
 -- The machine's fields as a state of the automaton, and what its functions keep of them.
-use Rattle.std.specs.Prelude.{◌≡◌, ℕ, suc, ◌⊎◌, ◌+◌, ◌*◌, ◌^◌, ◌<◌, ◌≤◌, Bool, List, [], map, reverse, replicate, Option, Some, None}
+use Rattle.std.specs.Prelude.{◌≡◌, ℕ, suc, ◌⊎◌, ◌+◌, ◌*◌, ◌^◌, ◌≤◌, Bool, List, [], map, reverse}
 use Rattle.cbor_head.specs.declared.major.Major.{Major}
 use Rattle.cbor_head.specs.declared.major.Major.TheVariants as majors
-use Rattle.cbor_head.specs.declared.width.Width.{Width}
-use Rattle.cbor_head.specs.declared.width.Width.TheVariants.{Direct, Indefinite}
 use Rattle.cbor_events.specs.inner.Automaton as automaton
 use Rattle.cbor_events.specs.inner.Automaton.{State}
 use Rattle.cbor_events.specs.Reasons.{IsFormReason}

@@ -1,6 +1,7 @@
 //! The event reader against the tables, over readers that give few bytes at a time, or fail.
 
-use super::tables::{accepted_rows, fronts_rows, not_valid_rows, refused_rows};
+use super::refused::refused_rows;
+use super::tables::{accepted_rows, fronts_rows, not_valid_rows};
 use super::{Told, bytes_of, event, events_of, join, limits};
 use crate::{Event, EventKind, EventReader, Out};
 use arrayvec::ArrayVec;

@@ -1,6 +1,7 @@
 //! The events of a slice against the tables.
 
-use super::tables::{accepted_rows, fronts_rows, not_valid_rows, refused_rows};
+use super::refused::refused_rows;
+use super::tables::{accepted_rows, fronts_rows, not_valid_rows};
 use super::{bytes_of, event, events_of, limits};
 use crate::{EventKind, SliceEvents, Token};
 use cbor_head::{Limits, Reason, Refusal, Simple};
