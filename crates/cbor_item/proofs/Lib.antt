@@ -16,8 +16,10 @@ pub mod Members
 pub mod Neighbours
 pub mod Normal
 pub mod NormalValue
+pub mod OpenRepeats
 pub mod Orders
 pub mod PartsMade
+pub mod Repeats
 pub mod Sameness
 pub mod SortedPairs
 pub mod SortedSpans

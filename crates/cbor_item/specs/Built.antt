@@ -1,5 +1,5 @@
 -- What contracts see of a builder, and when it takes the next part.
-use Rattle.std.specs.Prelude.{ℕ, suc, ◌≡◌, ◌<◌, ◌^◌, ◌⊎◌, List, [], ◌∷◌}
+use Rattle.std.specs.Prelude.{ℕ, suc, ◌≡◌, ◌<◌, ◌-◌, ◌^◌, ◌⊎◌, List, [], ◌∷◌, ◌++◌, length, map, slice_index_or}
 use Rattle.cbor_head.specs.Value.{Value, Entries, HasEntry, Same}
 use Rattle.cbor_head.specs.Canonical.{Pair}
 use Rattle.cbor_head.specs.declared.order.KeyOrder.{KeyOrder}
@@ -82,3 +82,34 @@ IsRepeatedKey _ = ⊥
 -- one of the entries has a key that is the same (RFC 8949, section 5.6.1)
 abbrev pub HasSameKey : Entries → Value → Type 0
 HasSameKey es k = (l : Value) × (w : Value) × HasEntry es l w × Same l k
+
+-- ---- which repeated key is told
+
+-- the complete keys of what is open, as they came; the last may wait for its value
+abbrev pub keys_so_far : Open → List (List ℕ)
+keys_so_far (a_map ps) = map (λ (p : Pair). p.key) ps
+keys_so_far (a_key ps k) = map (λ (p : Pair). p.key) ps ++ k ∷ []
+keys_so_far c = []
+
+-- the key at i is equal to an earlier one
+abbrev pub IsRepeatAt : List (List ℕ) → ℕ → Type 0
+IsRepeatAt ks i = (j : ℕ) × (j < i) × (i < length ks) × (slice_index_or ks j [] ≡ slice_index_or ks i [])
+
+-- no two are equal
+abbrev pub AreAllDifferent : List (List ℕ) → Type 0
+AreAllDifferent ks = (i : ℕ) → IsRepeatAt ks i → ⊥
+
+abbrev pub IsFirstRepeat : List (List ℕ) → ℕ → Type 0
+IsFirstRepeat ks i = IsRepeatAt ks i × ((j : ℕ) → j < i → IsRepeatAt ks j → ⊥)
+
+-- no open map has two equal keys
+abbrev pub AreOpenKeysDifferent : List Open → Type 0
+AreOpenKeysDifferent [] = Unit {0}
+AreOpenKeysDifferent (c ∷ os) = AreAllDifferent (keys_so_far c) × AreOpenKeysDifferent os
+
+-- of the outermost open map with two equal keys: how many containers are open around it, and the number of the pair whose key is
+-- the first that is equal to an earlier one. Around all is the whole, which is no container.
+abbrev pub IsRepeatTold : List Open → ℕ → ℕ → Type 0
+IsRepeatTold [] outside pair = ⊥
+IsRepeatTold (c ∷ os) outside pair =
+    IsRepeatTold os outside pair ⊎ (AreOpenKeysDifferent os × (outside ≡ length os - 1) × IsFirstRepeat (keys_so_far c) pair)

@@ -6,3 +6,4 @@ pub mod Front
 pub mod Held
 pub mod Laid
 pub mod Members
+pub mod Repeats

@@ -1,6 +1,6 @@
 //! The builder: parts in, canonical bytes out.
 
-ghost use Rattle.std.specs.Prelude.{ℕ, List, reverse, ◌≡◌, ◌≢◌, ◌↔◌, ◌<◌, ◌≤◌, ◌++◌, ◌∷◌, [], IsTrue, OnOk, IfOk, drop, take, length};
+ghost use Rattle.std.specs.Prelude.{ℕ, List, reverse, ◌≡◌, ◌≢◌, ◌↔◌, ◌<◌, ◌≤◌, ◌++◌, ◌∷◌, [], IsTrue, false, OnOk, IfOk, drop, take, length, vec_len};
 ghost use Rattle.cbor_head.specs.Canonical.{canonical};
 ghost use Rattle.cbor_head.specs.Value.{Value};
 ghost use Rattle.cbor_head.specs.Head.{shortest_head, IsSimple};
@@ -9,6 +9,7 @@ ghost use Rattle.cbor_item.specs.Built.{IsRepeatedKey};
 ghost use Rattle.cbor_item.specs.Parts.{Part, Makes, run, plain, give, opened, extended, close, closed, HasNoRepeats};
 ghost use Rattle.cbor_item.specs.inner.Laid.{Takes, IsString, CanClose, OuterTakes, shape_open, outer_spans};
 ghost use Rattle.cbor_item.specs.inner.BuilderState.{standing, IsLaid};
+ghost use Rattle.cbor_item.specs.inner.Repeats.{TellsOf, Tells};
 
 pub(crate) mod frame;
 mod gather;
@@ -16,6 +17,7 @@ mod look_up;
 mod member;
 mod opening;
 mod out;
+mod repeats;
 mod span;
 
 use crate::builder::frame::{Frame, Shape};
@@ -24,11 +26,13 @@ use crate::builder::look_up::has_key;
 use crate::builder::member::complete;
 use crate::builder::opening::opening;
 use crate::builder::out::Out;
+use crate::builder::repeats::first_repeat;
 use crate::builder::span::Span;
+use crate::repeat::Repeat;
 use cbor_head::{KeyOrder, Major};
 use std::alloc::{AllocError, Global};
 
-/// A builder. After a call has answered an error or false it may only be dropped.
+/// A builder. After a call has answered an error it may only be dropped.
 #[derive(Drop)]
 pub(crate) struct Core {
     pub(crate) order: KeyOrder,
@@ -140,6 +144,8 @@ impl Core {
             → self.new.spans.items ≡ outer_spans self.old.spans.items self.old.top.shape) }
         ensures bytes { IfOk result (λ distinct. IsTrue distinct
             → self.new.out ≡ take self.old.top.from self.old.out ++ closed self.old.order (shape_open self.old.out self.old.spans.items self.old.top.start self.old.top.shape)) }
+        ensures kept { IfOk result (λ distinct. distinct ≡ false
+            → (self.new.out ≡ self.old.out) × (self.new.spans.items ≡ self.old.spans.items)) }
     {
         let Frame {
             from,
@@ -175,7 +181,7 @@ impl Core {
         Ok(true)
     }
 
-    /// What is open ends. False where it is a map of which two keys are equal.
+    /// What is open ends. False where it is a map of which two keys are equal: it stays open then.
     pub(crate) fn end(&mut self) -> Result<bool, AllocError>
         requires laid { IsLaid self.old }
         requires closes { CanClose self.old.top.shape }
@@ -183,9 +189,11 @@ impl Core {
         ensures order { self.new.order ≡ self.old.order }
         ensures distinct { IfOk result (λ distinct.
             IsTrue distinct ↔ HasNoRepeats (shape_open self.old.out self.old.spans.items self.old.top.start self.old.top.shape)) }
-        ensures laid { IfOk result (λ distinct. IsTrue distinct → IsLaid self.new) }
+        ensures laid { OnOk result (IsLaid self.new) }
         ensures closed { IfOk result (λ distinct. IsTrue distinct
             → standing self.new ≡ close self.old.order (standing self.old)) }
+        ensures kept { IfOk result (λ distinct. distinct ≡ false
+            → standing self.new ≡ standing self.old) }
     {
         let from = self.top.from;
         if !self.close_top()? {
@@ -214,6 +222,42 @@ impl Core {
             ),
             _ => false,
         }
+    }
+
+    // Which repeated key is told: of the outermost open map that has one its first. Takes no memory.
+    pub(crate) fn first_repeat(mut self) -> Option<Repeat>
+        requires laid { IsLaid self }
+        ensures { Tells (standing self) result }
+    {
+        let mut found = self.take_repeat();
+        while let Some(outer) = self.below.pop() {
+            self.top = outer;
+            found = self.take_repeat().or(found);
+        }
+        found
+    }
+
+    // The first repeated key of the innermost, whose bytes and spans are taken away.
+    fn take_repeat(&mut self) -> Option<Repeat>
+        requires laid { IsLaid self.old }
+        ensures tells { TellsOf (shape_open self.old.out self.old.spans.items self.old.top.start self.old.top.shape) (vec_len self.old.below) result }
+        ensures order { self.new.order ≡ self.old.order }
+        ensures out { self.new.out ≡ take self.old.top.from self.old.out }
+        ensures spans { self.new.spans.items ≡ outer_spans self.old.spans.items self.old.top.shape }
+        ensures below { self.new.below.items ≡ self.old.below.items }
+    {
+        let is_waiting_repeated = self.repeated();
+        let first = self.top.first_span(&self.spans);
+        let count = self.spans.len() - first;
+        let mut pair = None;
+        if !self.top.rises {
+            pair = first_repeat(self.out.as_slice(), self.order, &mut self.spans[first..]);
+        }
+        self.spans.truncate(first);
+        self.out.cut(self.top.from);
+        let pair = pair.or(is_waiting_repeated.then_some(count))?;
+        let outside = self.below.len().saturating_sub(1);
+        Some(Repeat { outside, pair })
     }
 
     // The bytes, where nothing is open any more: where the parts given since `new` make a value, its

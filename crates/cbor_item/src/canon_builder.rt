@@ -1,17 +1,18 @@
 //! The public builder: canonical bytes from the parts of an item, without a tree.
 
-ghost use Rattle.std.specs.Prelude.{◌≡◌, ◌↔◌, ◌++◌, ◌∷◌, [], List, ℕ, length, IsTrue, OnOk, IfOk};
+ghost use Rattle.std.specs.Prelude.{◌≡◌, ◌↔◌, ◌++◌, ◌∷◌, [], List, ℕ, false, length, IsTrue, OnOk, IfOk, MatchOption};
 ghost use Rattle.cbor_head.specs.Canonical.{canonical};
 ghost use Rattle.cbor_head.specs.Head.{shortest_head, IsSimple};
 ghost use Rattle.cbor_head.specs.Value.{Value};
 ghost use Rattle.cbor_head.specs.declared.major.Major.TheVariants.{Simple};
-ghost use Rattle.cbor_item.specs.Built.{built, IsLeaf, IsStringType, IsContainer, TakesPart, IsInString, IsInContainer, HasDistinctKeysSoFar, IsRepeatedKey};
+ghost use Rattle.cbor_item.specs.Built.{built, IsLeaf, IsStringType, IsContainer, TakesPart, IsInString, IsInContainer, HasDistinctKeysSoFar, IsRepeatedKey, AreOpenKeysDifferent, IsRepeatTold};
 ghost use Rattle.cbor_item.specs.Parts.{Part, Makes, run, plain, give, opened, extended, close};
 
 #[cfg(test)]
 mod tests;
 
 use crate::builder::Core;
+use crate::repeat::Repeat;
 use cbor_head::{KeyOrder, Major};
 use std::alloc::{AllocError, Global};
 use std::marker::Model;
@@ -161,8 +162,8 @@ impl CanonBuilder {
     }
 
     /// The array, map or tag ends, where its keys haven't been looked at: false where two keys of the
-    /// map are the same. Then the builder may only be dropped. A map of n pairs whose keys don't come
-    /// in order takes some n log n comparisons.
+    /// map are the same. Then it stays open, and `first_repeat` tells which. A map of n pairs whose
+    /// keys don't come in order takes some n log n comparisons.
     #[inline(always)]
     pub fn end_if_distinct(&mut self) -> Result<bool, AllocError>
         requires container { IsInContainer self.old.standing }
@@ -170,10 +171,12 @@ impl CanonBuilder {
             (λ distinct. IsTrue distinct ↔ HasDistinctKeysSoFar self.old.standing) }
         ensures ended { IfOk result (λ distinct. IsTrue distinct
             → self.new ≡ built self.old.order (close self.old.order self.old.standing)) }
+        ensures kept { IfOk result (λ distinct. distinct ≡ false → self.new ≡ self.old) }
     {
         self.is_sound = false;
-        self.is_sound = self.core.end()?;
-        Ok(self.is_sound)
+        let is_distinct = self.core.end()?;
+        self.is_sound = true;
+        Ok(is_distinct)
     }
 
     /// Whether the part that was just completed is a key that is the same as an earlier key of its
@@ -183,6 +186,18 @@ impl CanonBuilder {
         ensures { IsTrue result ↔ IsRepeatedKey self.now.standing }
     {
         self.is_sound && self.core.repeated()
+    }
+
+    /// Which repeated key is to be told where the parts end before the item: of the open maps, from
+    /// the outermost in, the first that has two equal keys, and of it the first key that is equal to
+    /// an earlier one. A key that waits for its value is one of its map's. None where the keys of each
+    /// open map differ. Takes no memory, and some n log n comparisons for n pairs.
+    pub fn first_repeat(self) -> Option<Repeat>
+        ensures { MatchOption result (AreOpenKeysDifferent self.standing)
+            (λ repeat. IsRepeatTold self.standing repeat.outside repeat.pair) }
+    {
+        let CanonBuilder { core, is_sound } = self;
+        if is_sound { core.first_repeat() } else { None }
     }
 
     /// The bytes, once the item is whole: the canonical bytes of the value that the parts make. Takes

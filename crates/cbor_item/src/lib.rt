@@ -21,6 +21,7 @@ mod encoding;
 mod item;
 mod key_bytes;
 pub mod laws;
+mod repeat;
 mod tree;
 mod valid;
 mod within;
@@ -33,6 +34,7 @@ pub use encoded_key::compare_keys;
 pub use encoding::{encode, encode_valid};
 pub use item::Item;
 pub use key_bytes::SHORT_KEY;
+pub use repeat::Repeat;
 pub use tree::Tree;
 pub use write::{encode_to, write_whole};
 

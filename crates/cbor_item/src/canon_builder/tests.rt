@@ -7,7 +7,7 @@ ghost use Rattle.cbor_item.specs.Built.{IsLeaf, IsStringType, IsContainer, Takes
 
 use crate::builder::frame::Shape;
 use crate::canon_builder::CanonBuilder;
-use crate::{Item, KeyOrder, Tree, encode};
+use crate::{Item, KeyOrder, Repeat, Tree, encode};
 use cbor_head::Major;
 use std::alloc::{AllocError, Global};
 use std::process::Abort;
@@ -363,6 +363,96 @@ fn keys_around_eight_bytes(rt: HostRuntime) -> Result<(), Fail> {
             ))?;
         }
         agree_in_both_orders(&rt, alloc, Item::Map(pairs))?;
+    }
+    Ok(())
+}
+
+// A map begins, with a pair for each number, which is its key; its value is 0.
+fn open_map(builder: &mut CanonBuilder, keys: &[u64]) -> Result<(), Fail> {
+    begin(builder, Major::Map, 0)?;
+    for key in keys {
+        leaf(builder, Major::Unsigned, *key)?;
+        leaf(builder, Major::Unsigned, 0)?;
+    }
+    Ok(())
+}
+
+// {OUTER, 4: [{INNER, and a last key that waits for its value
+fn opened(alloc: Global, outer: &[u64], inner: &[u64], last: u64) -> Result<CanonBuilder, Fail> {
+    let mut builder = CanonBuilder::new(alloc, KeyOrder::Bytewise);
+    open_map(&mut builder, outer)?;
+    leaf(&mut builder, Major::Unsigned, 4)?;
+    begin(&mut builder, Major::Array, 0)?;
+    open_map(&mut builder, inner)?;
+    leaf(&mut builder, Major::Unsigned, last)?;
+    Ok(builder)
+}
+
+#[test]
+fn the_outermost_repeated_key_is_told(rt: HostRuntime) -> Result<(), Fail> {
+    let alloc = rt.alloc();
+    let told = |outside, pair| Some(Repeat { outside, pair });
+    let none = opened(alloc, &[3, 1, 2], &[7, 5, 6], 8)?;
+    assert_eq!(rt; none.first_repeat(), None);
+    let outer = opened(alloc, &[3, 1, 2, 1, 3], &[7, 7], 8)?;
+    assert_eq!(rt; outer.first_repeat(), told(0, 3));
+    let outer_waits = opened(alloc, &[3, 4, 2], &[7, 7], 7)?;
+    assert_eq!(rt; outer_waits.first_repeat(), told(0, 3));
+    let inner = opened(alloc, &[3, 1, 2], &[7, 5, 5, 7], 7)?;
+    assert_eq!(rt; inner.first_repeat(), told(2, 2));
+    let inner_waits = opened(alloc, &[3, 1, 2], &[7, 5, 6], 5)?;
+    assert_eq!(rt; inner_waits.first_repeat(), told(2, 3));
+    let rises_and_waits = opened(alloc, &[1, 2, 3], &[5, 6, 7], 6)?;
+    assert_eq!(rt; rises_and_waits.first_repeat(), told(2, 3));
+    let empty = CanonBuilder::new(alloc, KeyOrder::Bytewise);
+    assert_eq!(rt; empty.first_repeat(), None);
+    Ok(())
+}
+
+// A map of which two keys are equal stays open, with all that was given.
+#[test]
+fn a_map_that_repeats_a_key_stays_open(rt: HostRuntime) -> Result<(), Fail> {
+    let alloc = rt.alloc();
+    let mut builder = CanonBuilder::new(alloc, KeyOrder::LengthFirst);
+    open_map(&mut builder, &[9, 1, 9])?;
+    assert!(rt; !end(&mut builder)?);
+    assert!(rt; !end(&mut builder)?);
+    leaf(&mut builder, Major::Unsigned, 1)?;
+    assert!(rt; builder.repeated());
+    assert_eq!(rt;
+        builder.first_repeat(),
+        Some(Repeat {
+            outside: 0,
+            pair: 2
+        })
+    );
+    Ok(())
+}
+
+// Falling keys of nine bytes, alike in the first eight, and then the key of one of them again.
+#[test]
+fn the_pair_is_told_in_maps_of_each_size(rt: HostRuntime) -> Result<(), Fail> {
+    let alloc = rt.alloc();
+    for size in [1, 2, 3, 19, 20, 21, 50, 51, 200] {
+        for again in [1, size / 2 + 1, size] {
+            let mut builder = CanonBuilder::new(alloc, KeyOrder::Bytewise);
+            begin(&mut builder, Major::Map, 0)?;
+            for i in 0..size {
+                leaf(&mut builder, Major::Unsigned, (1 << 32) | (size - i))?;
+                leaf(&mut builder, Major::Unsigned, 0)?;
+            }
+            leaf(&mut builder, Major::Unsigned, (1 << 32) | again)?;
+            leaf(&mut builder, Major::Unsigned, 0)?;
+            leaf(&mut builder, Major::Unsigned, (1 << 32) | size)?;
+            leaf(&mut builder, Major::Unsigned, 0)?;
+            assert_eq!(rt;
+                builder.first_repeat(),
+                Some(Repeat {
+                    outside: 0,
+                    pair: size as usize
+                })
+            );
+        }
     }
     Ok(())
 }

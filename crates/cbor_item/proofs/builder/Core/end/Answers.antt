@@ -7,7 +7,7 @@ use Rattle.cbor_item.proofs.Growth.{ended_by, outer_ready, taken}
 use Rattle.cbor_item.proofs.builder.Core.end.Goals as goal
 
 pub returns-in_ok-complete-clause-laid : goal.returns-in_ok-complete-clause-laid
-returns-in_ok-complete-clause-laid c = λ t.
+returns-in_ok-complete-clause-laid c =
     let s = c.args.self.now in
     let e = c.in_ok-complete.ensures in
     let k = c.in_ok-close_top.ensures in
