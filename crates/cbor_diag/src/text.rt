@@ -116,11 +116,11 @@ fn put_map<W: Write>(
 {
     out.put(writer, b"{")?;
     let mut first = true;
-    for (key, content) in pairs {
+    for (key, value) in pairs {
         put_gap(layout, level, first, out, writer)?;
         put_item(key, layout, level + 1, out, writer)?;
         out.put(writer, b": ")?;
-        put_item(content, layout, level + 1, out, writer)?;
+        put_item(value, layout, level + 1, out, writer)?;
         first = false;
     }
     put_end(layout, level, first, out, writer)?;

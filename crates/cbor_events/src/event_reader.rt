@@ -1,6 +1,7 @@
 //! A reader together with the events of the item that it is at.
 
-ghost use Rattle.std.specs.Prelude.{◌≡◌, ◌≤◌, ℕ, List, [], length, None, Some, OnOk, OnErr, IfErr, IfSome, Err};
+ghost use Rattle.std.specs.Prelude.{◌≡◌, ◌≤◌, ℕ, List, [], length, None, Some, OnOk, OnErr, IfErr};
+ghost use Rattle.std.specs.Prelude.{IfSome, Err};
 ghost use Rattle.cbor_events.specs.Trace.{Mark};
 ghost use Rattle.cbor_events.specs.Marks.{IsProper};
 ghost use Rattle.cbor_events.specs.Reasons.{IsEventReason};

@@ -1,12 +1,14 @@
 //! The events of one item, from a reader that each call is handed.
 
-ghost use Rattle.std.specs.Prelude.{◌≡◌, ◌≤◌, ◌<◌, ℕ, List, [], length, take, None, Some, OnOk, OnErr, IfErr, IfSome, Err};
+ghost use Rattle.std.specs.Prelude.{◌≡◌, ◌≤◌, ◌<◌, ℕ, List, [], length, take, None, Some, OnOk};
+ghost use Rattle.std.specs.Prelude.{OnErr, IfErr, IfSome, Err};
 ghost use Rattle.cbor_head.specs.Verdict.{refusal};
 ghost use Rattle.cbor_events.specs.Trace.{Mark};
 ghost use Rattle.cbor_events.specs.Marks.{IsProper};
 ghost use Rattle.cbor_events.specs.Reasons.{IsEventReason};
 ghost use Rattle.cbor_events.specs.Machine.{KeepsLimits, IsIdle};
-ghost use Rattle.cbor_events.specs.ItemEvents.{ItemEventsView, StandsBetween, IfTold, IsNext, machine_call, call};
+ghost use Rattle.cbor_events.specs.ItemEvents.{ItemEventsView, StandsBetween, IfTold, IsNext};
+ghost use Rattle.cbor_events.specs.ItemEvents.{machine_call, call};
 ghost use Rattle.cbor_events.specs.inner.Reads.{IsAsked, piece_after, piece_size};
 
 use crate::event::{Event, EventKind, Out};
@@ -72,9 +74,9 @@ impl ItemEvents {
     /// read.
     ///
     /// One byte of a head is asked for, then what is missing of its argument; of a payload what is
-    /// left, at most 512 bytes. A `read` of 0 bytes is the end of the input: `Truncated`. An error of
-    /// `read`, `Interrupted` too, is `Read`. After a refusal every later call answers it again and
-    /// reads nothing.
+    /// left, at most 512 bytes. A `read` of 0 bytes is the end of the input: `Truncated`. An error
+    /// of `read`, `Interrupted` too, is `Read`. After a refusal every later call answers it again
+    /// and reads nothing.
     pub fn next<R: Read>(&mut self, reader: &mut R) -> Result<Option<Event>, Refusal>
         // For all bytes and marks that the machine stood for, as long as nothing was refused.
         ensures answers { self.old.refusal ≡ None

@@ -39,9 +39,9 @@ pub fn told_events()
         → joined es ≡ cut (length t) (events 0 s) }
 {}
 
-/// The events that `ItemEvents::next` told. Each leads on from those before it; at the end of an item
-/// they are, neighbouring pieces joined, all of its events. Behind a refusal `told_events` says what
-/// they are.
+/// The events that `ItemEvents::next` told. Each leads on from those before it; at the end of an
+/// item they are, neighbouring pieces joined, all of its events. Behind a refusal `told_events`
+/// says what they are.
 pub fn next_events()
     ensures more { (c : Call) (es : List Event) (e : Event) → AreTold es c.told
         → StandsBetween c.old c.taken c.told → IsNextEvent e c

@@ -1,14 +1,18 @@
 //! The machine that takes an item byte by byte.
 
-ghost use Rattle.std.specs.Prelude.{◌≡◌, ◌↔◌, ◌≤◌, ◌<◌, ◌+◌, ◌++◌, ℕ, List, [], length, take, min, true, Some, None, IfSome, IsTrue};
+ghost use Rattle.std.specs.Prelude.{◌≡◌, ◌↔◌, ◌≤◌, ◌<◌, ◌+◌, ◌++◌, ℕ, List, [], length, take, min};
+ghost use Rattle.std.specs.Prelude.{true, Some, None, IfSome, IsTrue};
 ghost use Rattle.arrayvec.specs.ArrayVec.{array_vec_len};
 ghost use Rattle.cbor_head.specs.Value.{AreBytes};
 ghost use Rattle.cbor_head.specs.Verdict.{refusal};
 ghost use Rattle.cbor_events.specs.Trace.{Mark};
 ghost use Rattle.cbor_events.specs.Reasons.{IsMachineReason};
 ghost use Rattle.cbor_events.specs.MachineView.{MachineView};
-ghost use Rattle.cbor_events.specs.Machine.{StandsFor, KeepsLimits, Stays, IsAnswer, IsComplete, IsIdle, IsEvent, IsMore, IsDone, IfRefused, piece_of, wanted};
-ghost use Rattle.cbor_events.specs.inner.State.{IsFit, IsSettled, wanted_at, is_in_payload, is_done};
+ghost use Rattle.cbor_events.specs.Machine.{StandsFor, KeepsLimits, Stays, IsAnswer, IsComplete};
+ghost use Rattle.cbor_events.specs.Machine.{IsIdle, IsEvent, IsMore, IsDone, IfRefused, piece_of};
+ghost use Rattle.cbor_events.specs.Machine.{wanted};
+ghost use Rattle.cbor_events.specs.inner.State.{IsFit, IsSettled, wanted_at, is_in_payload};
+ghost use Rattle.cbor_events.specs.inner.State.{is_done};
 ghost use Rattle.cbor_events.specs.inner.Steps.{IsStep};
 
 use crate::event::{Event, Out, Step};

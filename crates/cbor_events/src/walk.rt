@@ -4,9 +4,11 @@ ghost use Rattle.std.specs.Prelude.{◌≡◌, ◌≤◌, ◌<◌, ◌+◌, take
 ghost use Rattle.arrayvec.specs.ArrayVec.{array_vec_len};
 ghost use Rattle.cbor_events.specs.Trace.{a_byte};
 ghost use Rattle.cbor_events.specs.inner.Automaton as automaton;
-ghost use Rattle.cbor_events.specs.inner.State.{frames_of, state_of, major_of, IsFit, IsSettled, wanted_at, is_in_payload, is_done};
+ghost use Rattle.cbor_events.specs.inner.State.{frames_of, state_of, major_of, IsFit, IsSettled};
+ghost use Rattle.cbor_events.specs.inner.State.{wanted_at, is_in_payload, is_done};
 ghost use Rattle.cbor_events.specs.declared.frame.TheConstants.{MOST_OPEN};
-ghost use Rattle.cbor_events.specs.inner.Walk.{IsTold, IsEnded, IsWalkedProper, IsWalkedReason, IsWalked, told_times};
+ghost use Rattle.cbor_events.specs.inner.Walk.{IsTold, IsEnded, IsWalkedProper, IsWalkedReason};
+ghost use Rattle.cbor_events.specs.inner.Walk.{IsWalked, told_times};
 
 use crate::event::EventKind;
 use crate::frame::Frames;

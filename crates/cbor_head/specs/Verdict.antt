@@ -69,3 +69,20 @@ pub record IsVerdict (d n : ℕ) (rules : Rules) (input : List ℕ) (answer : An
   pub rest : List ℕ
   pub starts : IsItem d item (p ++ rest)
   pub decides : Decides d n rules p longest.rest item answer
+
+-- Examples, the plain verdict within 256 levels unless said; each is a row of the conformance table, and
+-- proofs/VerdictExamples has others, proved:
+--   f818               BadSimple 1, 2         there is no simple value 24
+--   f81f, 1 byte       TooLong 1, 1           the number is past the limit
+--   5f5c, 5f6100ff     BadChunk 1, 2          neither a head of a byte string nor a break may stand so
+--   c1c100, depth 1    TooDeep 1, 2           the second tag would be open within the first
+--   9c, depth 0        Reserved 0, 1          no head at all, so not an array that is too deep
+--   9f, depth 0        TooDeep 0, 1
+--   f9, depth 0        Float 0, 1
+--   a100ff             StrayBreak 2, 3        a value was due
+--   61ff               InvalidText 1, 2
+--   62ff               Truncated 2, 2         the text never ends, so it has no complaint
+--   a20100180100       RepeatedKey 3, 5       by the strict rules NotShortest 3, 5, which ends there too
+--   a26261610061ff00   InvalidText 6, 7       by the strict rules too: KeyOrder has the same end
+--   7801ff             InvalidText 2, 3       by the strict rules NotShortest 0, 2
+--   d80100             accepted               by the strict rules NotShortest 0, 2

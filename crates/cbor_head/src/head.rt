@@ -1,6 +1,7 @@
 //! Heads.
 
-ghost use Rattle.std.specs.Prelude.{◌≡◌, ◌%◌, ◌<◌, ◌≤◌, ◌⊎◌, ◌↔◌, ◌∷◌, length, ℕ, Some, None, IsTrue, IfSome, MatchOption};
+ghost use Rattle.std.specs.Prelude.{◌≡◌, ◌%◌, ◌<◌, ◌≤◌, ◌⊎◌, ◌↔◌, ◌∷◌, length, ℕ, Some, None};
+ghost use Rattle.std.specs.Prelude.{IsTrue, IfSome, MatchOption};
 ghost use Rattle.cbor_head.specs.Head.{IsHead, IsSimple, HeadParts, head, head_parts, shortest};
 ghost use Rattle.cbor_head.specs.Read.{front, read_head};
 ghost use Rattle.cbor_head.specs.Spelling.{HoldsOrIndefinite};
@@ -33,9 +34,9 @@ impl Model for Head {
 }
 
 impl Head {
-    /// The definite head that the whole slice is (RFC 8949, section 3). None for all else: a part of
-    /// a head, a head and more, an opener of indefinite length, the break, additional information
-    /// 28 to 30, a float, and a simple value below 32 in a second byte.
+    /// The definite head that the whole slice is (RFC 8949, section 3). None for all else: a part
+    /// of a head, a head and more, an opener of indefinite length, the break, additional
+    /// information 28 to 30, a float, and a simple value below 32 in a second byte.
     pub fn read(bytes: &[u8]) -> Option<Head>
         // The bytes are those of what is answered.
         ensures found { IfSome result (λ h. bytes.now ≡ head h.major h.width h.argument) }

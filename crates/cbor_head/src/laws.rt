@@ -24,8 +24,8 @@ pub fn heads_are_read_back()
         → HoldsOrIndefinite f.width f.argument × (head f.major f.width f.argument ++ f.rest ≡ b) }
 {}
 
-/// No head of an argument has fewer bytes than the shortest one, which has room for it; and no other
-/// has as few.
+/// No head of an argument has fewer bytes than the shortest one, which has room for it; and no
+/// other has as few.
 pub fn shortest_is_least()
     ensures holds { (w : Width) (n : ℕ) → Holds w n → Holds (shortest n) n }
     ensures least { (m : Major) (w : Width) (n : ℕ) → Holds w n

@@ -12,8 +12,8 @@
 //! ```
 //!
 //! [`Head`] is such a head, [`Limits`] bounds an item, and [`Refusal`] says why bytes are not
-//! accepted and where. [`laws`] has no code to run: its contracts are the laws of the model. Those of
-//! heads are in [`head_laws`], with a function that reads a head's bytes back.
+//! accepted and where. [`laws`] has no code to run: its contracts are the laws of the model. Those
+//! of heads are in [`head_laws`], with a function that reads a head's bytes back.
 #![tactic(auto)]
 
 mod head;

@@ -15,8 +15,8 @@ use cbor_item::SHORT_KEY;
 use std::alloc::{AllocError, Global};
 use std::collections::BTreeSet;
 
-/// The canonical bytes of keys. Those of short keys lie in the nodes of their set, so that no memory is
-/// taken for each and none is followed to compare two.
+/// The canonical bytes of keys. Those of short keys lie in the nodes of their set, so that no
+/// memory is taken for each and none is followed to compare two.
 #[derive(Drop)]
 pub(crate) struct KeySet {
     short: BTreeSet<ArrayVec<u8, SHORT_KEY>>,

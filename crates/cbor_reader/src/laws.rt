@@ -13,7 +13,8 @@ ghost use Rattle.cbor_head.specs.declared.reason.Reason.TheVariants.{Memory, Tru
 ghost use Rattle.cbor_head.specs.declared.reason.Reason.TheVariants.{CanonicalTooLong};
 ghost use Rattle.cbor_reader.specs.Canonicalise.{IsCanonicalOf, IsRefusal};
 ghost use Rattle.cbor_reader.specs.Comparing.{MeanTheSame};
-ghost use Rattle.cbor_reader.specs.Headline.{IsValidItem, BeginsWithCanonical, StandsWithin, HasValidTexts};
+ghost use Rattle.cbor_reader.specs.Headline.{IsValidItem, BeginsWithCanonical, StandsWithin};
+ghost use Rattle.cbor_reader.specs.Headline.{HasValidTexts};
 ghost use Rattle.cbor_reader.specs.Size.{size};
 ghost use Rattle.cbor_reader.specs.WholeItem.{IsWholeItem, IsItemRefusal};
 
@@ -44,9 +45,9 @@ pub fn answered_are_valid_items()
         → n < length (canonical o (value_of s)) }
 {}
 
-/// An item has no plain complaint, wherever it stands, exactly where each text and each chunk of one
-/// is UTF-8 and its value is valid. A valid item is the whole input exactly where the plain verdict
-/// accepts it and nothing follows it. Its value is in range, valid, and within the depth.
+/// An item has no plain complaint, wherever it stands, exactly where each text and each chunk of
+/// one is UTF-8 and its value is valid. A valid item is the whole input exactly where the plain
+/// verdict accepts it and nothing follows it. Its value is in range, valid, and within the depth.
 pub fn valid_items()
     ensures complaints { (s : Spelling) (at : ℕ) → ((c : Complaint) → Complains plain at s c → ⊥)
         ↔ (HasValidTexts s × IsValid (value_of s)) }
@@ -96,9 +97,9 @@ pub fn values_are_no_larger_than_their_items()
     ensures { (s : Spelling) → size (value_of s) ≤ length (spell s) }
 {}
 
-/// The strict verdict accepts exactly an input that begins with the canonical bytes of a valid value
-/// within the limits. What it accepts is just these bytes, and their value is the same. No input
-/// begins so in two ways.
+/// The strict verdict accepts exactly an input that begins with the canonical bytes of a valid
+/// value within the limits. What it accepts is just these bytes, and their value is the same. No
+/// input begins so in two ways.
 pub fn strictly_accepted_fronts()
     ensures accepted { (d n : ℕ) (o : KeyOrder) (input : List ℕ)
         → ((s : Spelling) × IsVerdict d n (strict o) input (accepted s))

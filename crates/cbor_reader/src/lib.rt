@@ -1,4 +1,23 @@
 //! Readers of whole CBOR items, and of sequences of them.
+//!
+//! [`canonicalise`] answers the canonical bytes of an item (RFC 8949, section 4.2), [`read_tree`]
+//! reads one as a [`Tree`], [`read_strict`] and [`check_canonical`] accept canonical bytes alone,
+//! [`same_meaning`] compares two items, and [`Sequence`] reads one item after another (RFC 8742).
+//! Whatever is refused has one refusal, with its place. [`laws`] and [`sequence_laws`] have no code
+//! to run: their contracts are the laws of these answers.
+//!
+//! ```
+//! // {"Fun": true, "Amt": -2} without a length, as a stream writes it: bf 63 46 75 6e f5 ..
+//! let streamed = b"\xbf\x63Fun\xf5\x63Amt\x21\xff";
+//! let canonical = canonicalise(alloc, streamed, limits, KeyOrder::Bytewise)?;
+//! // {"Amt": -2, "Fun": true}
+//! assert_eq!(rt; canonical.as_slice(), b"\xa2\x63Amt\x21\x63Fun\xf5");
+//! assert_eq!(rt; check_canonical(&canonical, limits, KeyOrder::Bytewise), Ok(11));
+//! // the key "Amt" does not rise: its place, and the bytes up to its end
+//! let turned = b"\xa2\x63Fun\xf5\x63Amt\x21";
+//! let refusal = Refusal::new(Reason::KeyOrder, 6, 10);
+//! assert_eq!(rt; check_canonical(turned, limits, KeyOrder::Bytewise), Err(refusal));
+//! ```
 #![tactic(auto)]
 
 mod built_array;

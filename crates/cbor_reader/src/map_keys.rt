@@ -6,7 +6,8 @@ ghost use Rattle.cbor_head.specs.Complaint as complaint;
 ghost use Rattle.cbor_head.specs.Spelling.{Spelling};
 ghost use Rattle.cbor_head.specs.Value.{Value};
 ghost use Rattle.cbor_item.specs.View.{view};
-ghost use Rattle.cbor_reader.specs.inner.MapKeys.{HasKeys, IsKey, HasCanonicalBytes, IsInserted, AnswersKey, Rises, order_of};
+ghost use Rattle.cbor_reader.specs.inner.MapKeys.{HasKeys, IsKey, HasCanonicalBytes, IsInserted};
+ghost use Rattle.cbor_reader.specs.inner.MapKeys.{AnswersKey, Rises, order_of};
 ghost use Rattle.cbor_reader.specs.inner.Rules.{rules_of};
 
 use crate::built_item::BuiltItem;

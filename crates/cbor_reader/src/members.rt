@@ -4,7 +4,8 @@ ghost use Rattle.std.specs.Prelude.{◌≡◌, ◌≢◌, ◌↔◌, IsTrue, Non
 ghost use Rattle.cbor_reader.specs.inner.Members.{fewer};
 ghost use Rattle.cbor_events.specs.declared.event.EventKind.TheVariants as kinds;
 ghost use Rattle.cbor_reader.specs.inner.Building.{IsBuilt};
-ghost use Rattle.cbor_reader.specs.inner.Reading.{HasBegun, AnswersItem, IsDue, IsMemberDue, AnswersNext, AnswersMember};
+ghost use Rattle.cbor_reader.specs.inner.Reading.{HasBegun, AnswersItem, IsDue, IsMemberDue};
+ghost use Rattle.cbor_reader.specs.inner.Reading.{AnswersNext, AnswersMember};
 ghost use Rattle.cbor_reader.specs.inner.NextKey.{IsKeyDue, AnswersNextKey};
 ghost use Rattle.cbor_reader.specs.inner.Rules.{rules_of};
 

@@ -1,6 +1,7 @@
 //! The bytes of strings.
 
-ghost use Rattle.std.specs.Prelude.{◌≡◌, ◌+◌, ◌≤◌, ℕ, List, length, drop, true, false, IsUtf8, MatchResult, IfErr};
+ghost use Rattle.std.specs.Prelude.{◌≡◌, ◌+◌, ◌≤◌, ℕ, List, length, drop, true, false, IsUtf8};
+ghost use Rattle.std.specs.Prelude.{MatchResult, IfErr};
 ghost use Rattle.std.specs.Str.Lossy.{utf8_valid_len};
 ghost use Rattle.cbor_events.specs.ItemEvents.{ItemEventsView};
 ghost use Rattle.cbor_reader.specs.inner.Reading.{IsPayloadDue, AnswersPayload};
@@ -18,8 +19,8 @@ pub(crate) fn no_memory(events: &ItemEvents) -> Refusal
     Refusal::at(Reason::Memory, events.taken())
 }
 
-// Puts a payload of so many bytes behind what is there, in the parts that come: no memory is taken for
-// bytes that don't.
+// Puts a payload of so many bytes behind what is there, in the parts that come: no memory is taken
+// for bytes that don't.
 pub(crate) fn read_payload<R: Read>(
     events: &mut ItemEvents,
     reader: &mut R,
@@ -47,8 +48,8 @@ pub(crate) fn read_payload<R: Read>(
     Ok(())
 }
 
-// The same of a definite string or a chunk, which is UTF-8 where it is of a text. A refused text has the
-// place behind its longest front that is.
+// The same of a definite string or a chunk, which is UTF-8 where it is of a text. A refused text
+// has the place behind its longest front that is.
 pub(crate) fn read_chunk<R: Read>(
     events: &mut ItemEvents,
     reader: &mut R,

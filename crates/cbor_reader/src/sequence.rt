@@ -5,7 +5,8 @@ ghost use Rattle.cbor_head.specs.Complaint.{plain, strict};
 ghost use Rattle.cbor_head.specs.Spelling.{spell, value_of};
 ghost use Rattle.cbor_item.specs.View.{view};
 ghost use Rattle.cbor_reader.specs.Readers.{IsRead, IsCanonicalFront, Loses};
-ghost use Rattle.cbor_reader.specs.Sequence.{SequenceView, IfGiven, IfRefused, is_last, IsTaken, IsAtEnd, IsRefused, Given, HasGiven, GivesNext};
+ghost use Rattle.cbor_reader.specs.Sequence.{SequenceView, IfGiven, IfRefused, is_last, IsTaken};
+ghost use Rattle.cbor_reader.specs.Sequence.{IsAtEnd, IsRefused, Given, HasGiven, GivesNext};
 
 use crate::sequence_items::SequenceItems;
 use cbor_head::{KeyOrder, Limits, Refusal};

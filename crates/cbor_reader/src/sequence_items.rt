@@ -6,7 +6,9 @@ ghost use Rattle.cbor_head.specs.Spelling.{spell, value_of};
 ghost use Rattle.cbor_head.specs.declared.reason.Reason.TheVariants as reasons;
 ghost use Rattle.cbor_item.specs.View.{view};
 ghost use Rattle.cbor_reader.specs.Readers.{IsRead, IsCanonicalFront, Loses};
-ghost use Rattle.cbor_reader.specs.Sequence.{SequenceItemsView, IfGiven, IfRefused, is_last, IsTaken, IsAtEnd, IsRefused, Given, HasGiven, GivesNext};
+ghost use Rattle.cbor_reader.specs.Sequence.{SequenceItemsView, IfGiven, IfRefused, is_last};
+ghost use Rattle.cbor_reader.specs.Sequence.{IsTaken, IsAtEnd, IsRefused, Given, HasGiven};
+ghost use Rattle.cbor_reader.specs.Sequence.{GivesNext};
 
 use crate::strict_reader::read_strict;
 use crate::tree_reader::read_tree;

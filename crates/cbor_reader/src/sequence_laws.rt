@@ -7,11 +7,14 @@ ghost use Rattle.cbor_head.specs.Limits.{Bounds};
 ghost use Rattle.cbor_head.specs.Spelling.{Spelling, IsItem, spell, value_of};
 ghost use Rattle.cbor_head.specs.Verdict.{IsVerdict, refused, refusal};
 ghost use Rattle.cbor_head.specs.declared.order.KeyOrder.{KeyOrder};
-ghost use Rattle.cbor_head.specs.declared.reason.Reason.TheVariants.{Memory, Read, Truncated, TooLong};
+ghost use Rattle.cbor_head.specs.declared.reason.Reason.TheVariants.{Memory, Read, Truncated};
+ghost use Rattle.cbor_head.specs.declared.reason.Reason.TheVariants.{TooLong};
 ghost use Rattle.cbor_head.specs.declared.reason.Refusal.{Refusal};
 ghost use Rattle.cbor_reader.specs.Headline.{IsValidItem, BeginsWithCanonical};
 ghost use Rattle.cbor_reader.specs.Readers.{IsUnread};
-ghost use Rattle.cbor_reader.specs.Sequence.{sequence_bytes, IsAccepted, StartsWithItems, IsLongestSequence, EndsBefore, IsAtEnd, IsRefused, Given, given_by, items_of, AreGivenBy, HasGiven};
+ghost use Rattle.cbor_reader.specs.Sequence.{sequence_bytes, IsAccepted, StartsWithItems};
+ghost use Rattle.cbor_reader.specs.Sequence.{IsLongestSequence, EndsBefore, IsAtEnd, IsRefused};
+ghost use Rattle.cbor_reader.specs.Sequence.{Given, given_by, items_of, AreGivenBy, HasGiven};
 
 /// The items of a sequence: by the plain rules the valid items within the limits; by the strict
 /// ones, in an order, the items within the limits that are spelled by their canonical bytes.

@@ -5,7 +5,8 @@ ghost use Rattle.cbor_head.specs.Limits.{Bounds};
 ghost use Rattle.cbor_events.specs.inner.Automaton.{Frame};
 ghost use Rattle.cbor_head.specs.declared.width.Width.{Width};
 ghost use Rattle.cbor_events.specs.declared.event.EventKind.TheVariants as kinds;
-ghost use Rattle.cbor_reader.specs.inner.Reading.{AnswersItem, HasBegun, IsBegun, ReadsItem, StopsItem, string_kind, string_value};
+ghost use Rattle.cbor_reader.specs.inner.Reading.{AnswersItem, HasBegun, IsBegun, ReadsItem};
+ghost use Rattle.cbor_reader.specs.inner.Reading.{StopsItem, string_kind, string_value};
 ghost use Rattle.cbor_reader.specs.inner.Rules.{rules_of};
 
 use crate::built_item::BuiltItem;
