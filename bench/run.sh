@@ -1,10 +1,11 @@
 #!/usr/bin/env bash
 # Prints how long the library and the program take, as Markdown tables.
 #
-#   bench/run.sh [items] [program]      both without a word
+#   bench/run.sh [items] [program] [memory]      the first two without a word
 #
 # items    proves and runs items.rattle, a program over cbor_item, on trees made from a seed
 # program  proves cborc, makes files from a seed (inputs.py), and runs it on them (program.py)
+# memory   proves cborc, and refuses it each request for memory in turn (memory.py)
 #
 # The kit's rt has to be on the path. What rt says goes to standard error. All is done on a copy in
 # a temporary folder, which takes over what earlier checks of the clone kept, so that only what
@@ -34,16 +35,23 @@ program() {
     python3 "$root/bench/program.py" out/cborc "$room/inputs"
 }
 
+memory() {
+    cd "$room/crates/cborc"
+    rt run -- --help >/dev/null 2>"$room/log" || { cat "$room/log" >&2; return 1; }
+    mkdir "$room/refused"
+    python3 "$root/bench/memory.py" out/cborc "$room/refused"
+}
+
 [ $# -gt 0 ] || set -- items program
 date -u +'%Y-%m-%d, '"$(nproc) processors, load $(cut -d' ' -f1 /proc/loadavg)"
 for part; do
     case $part in
-        items | program)
+        items | program | memory)
             printf '\n## %s\n\n' "$part"
             ("$part")
             ;;
         *)
-            echo "usage: bench/run.sh [items] [program]" >&2
+            echo "usage: bench/run.sh [items] [program] [memory]" >&2
             exit 2
             ;;
     esac
