@@ -18,6 +18,7 @@ mod rules;
 mod sequence;
 mod sequence_items;
 pub mod sequence_laws;
+mod slice_builder;
 mod slice_checker;
 mod strict_reader;
 mod strict_slice;
@@ -25,6 +26,7 @@ mod strings;
 #[cfg(test)]
 mod tests;
 mod tree_reader;
+mod valid_slice;
 mod whole_item;
 
 pub use canonicaliser::canonicalise;
@@ -35,3 +37,4 @@ pub use sequence_items::SequenceItems;
 pub use strict_reader::read_strict;
 pub use strict_slice::check_canonical;
 pub use tree_reader::read_tree;
+pub use valid_slice::check_valid;
