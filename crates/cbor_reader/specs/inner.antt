@@ -4,6 +4,7 @@ pub mod Encoding
 pub mod Frame
 pub mod Front
 pub mod Judged
+pub mod Levels
 pub mod MapKeys
 pub mod Members
 pub mod NextKey

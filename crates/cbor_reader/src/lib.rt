@@ -37,6 +37,7 @@ mod rules;
 mod sequence;
 mod sequence_items;
 pub mod sequence_laws;
+mod slice_builder;
 mod slice_checker;
 mod strict_reader;
 mod strict_slice;
@@ -44,6 +45,7 @@ mod strings;
 #[cfg(test)]
 mod tests;
 mod tree_reader;
+mod valid_slice;
 mod whole_item;
 
 pub use canonicaliser::canonicalise;
@@ -54,3 +56,4 @@ pub use sequence_items::SequenceItems;
 pub use strict_reader::read_strict;
 pub use strict_slice::check_canonical;
 pub use tree_reader::read_tree;
+pub use valid_slice::check_valid;
