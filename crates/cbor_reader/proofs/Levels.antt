@@ -17,7 +17,7 @@ use Rattle.cbor_events.specs.inner.Automaton.{counted, close}
 use Rattle.cbor_item.specs.Pairs.{HasDistinctBytes}
 use Rattle.cbor_item.specs.Parts.{Open, an_array, plain as a_plain, a_map as an_open_map, pair, give, close as close_open, closed, HasNoRepeats, AreKeysValid}
 use Rattle.cbor_item.proofs.Keys.{distinct_exactly}
-use Rattle.cbor_reader.proofs.Frame.{with_all, with_entries}
+use Rattle.cbor_reader.specs.inner.Frame.{with_all, with_entries}
 use Rattle.cbor_reader.proofs.Frames.{count_with, entries_with}
 use Rattle.cbor_reader.proofs.Heads.{open_or}
 use Rattle.cbor_reader.proofs.Items.{is-definite}
