@@ -1,7 +1,7 @@
 -- What stands open when the buffer grows.
 use Rattle.std.proofs.Common.{◌≡◌, ℕ, suc, ◌+◌, ◌-◌, ◌≤◌, Bool, true, List, [], ◌∷◌, ◌++◌, append_assoc, length, length-append, length-drop, take, drop, take_all, take-append-drop, length-take, drop-drop, refl, sym, ap, ◌∙◌, subst, arith, map}
 use Rattle.std.specs.Prelude.{slice_range, flat_map, reverse}
-use Rattle.std.proofs.lemmas.List.{take-append-le, drop-append-le, map-append, drop_all, length-map, reverse-append}
+use Rattle.std.proofs.lemmas.List.{take-append-le, drop-append-le, take_rest, take-take, map-append, drop_all, length-map, reverse-append}
 use Rattle.std.proofs.Math.Seq.{drop-append_seam, take-append_seam}
 use Rattle.cbor_head.specs.Canonical.{in_order}
 use Rattle.cbor_head.specs.declared.order.KeyOrder.{KeyOrder}
@@ -12,7 +12,7 @@ use Rattle.cbor_item.specs.Pairs.{IsRising}
 use Rattle.cbor_item.proofs.Sorting.{in_order-rising}
 use Rattle.cbor_item.proofs.Written.{take_front, drop_front}
 use Rattle.cbor_item.specs.Parts.{plain, an_array, a_map, a_key, a_string, pair, pair_bytes, with_member, with_content, give, extended, opened, close, closed}
-use Rattle.cbor_item.specs.inner.Laid.{span_pair, pairs_from, Tile, shape_open, outer_spans, opens, Fits, Laid, Takes, IsString, shape_after, span, spans_after, KeepsRising, Stands, Completed, opening_frame}
+use Rattle.cbor_item.specs.inner.Laid.{span_pair, AreWithin, pairs_from, Tile, shape_open, outer_spans, opens, Fits, Laid, Takes, IsString, shape_after, span, spans_after, KeepsRising, Stands, Completed, opening_frame}
 use Rattle.cbor_item.specs.inner.Front.{front_of, AreFronted}
 use Rattle.cbor_item.specs.declared.builder.span.Span.{Span}
 use Rattle.cbor_item.specs.declared.builder.frame.Frame.{Frame}
@@ -32,6 +32,15 @@ slice_within all out s e is h g =
     let whole : all ≡ out ++ drop (length out) all = sym (take-append-drop (length out) all) ∙ ap (λ (xs : List ℕ). xs ++ drop (length out) all) is in
     ap (λ (xs : List ℕ). slice_range xs s e) whole ∙ slice_front out (drop (length out) all) s e h g
 
+-- the first of a block that was read there
+pub block_part : (all out bytes block : List ℕ) (s e : ℕ) → take (length out) all ≡ out → s ≤ e → e ≤ length out → bytes ≡ out → length (take (e - s) (drop s bytes)) ≤ 32
+    → block ≡ take 32 (take (length all - s) (drop s all)) → take (length (take (e - s) (drop s bytes))) block ≡ slice_range out s e
+block_part all out bytes block s e is h g eb few read =
+    let l = length-take (e - s) (drop s bytes) in
+    let m = length-drop s bytes in
+    let n : length (take (e - s) (drop s bytes)) ≡ e - s = omega (arith, l, m, h, g, ap length eb) in
+    (λ i. take (n i) (read i)) ∙ ap (λ (xs : List ℕ). take (e - s) (take 32 xs)) (take_rest all s) ∙ take-take (e - s) 32 (drop s all) (omega (arith, n, few)) ∙ slice_within all out s e is h g
+
 -- the part to the end
 pub slice_all : (xs : List ℕ) (s n : ℕ) → length xs ≡ n → slice_range xs s n ≡ drop s xs
 slice_all xs s n e =
@@ -40,6 +49,10 @@ slice_all xs s n e =
 pub tile_le : (a : ℕ) (ss : List Span) (n : ℕ) → Tile a ss n → a ≤ n
 tile_le a [] n t = omega (arith, t)
 tile_le a (s ∷ ss) n t = let r = tile_le s.end ss n t.3 in omega (arith, t.0, t.1, t.2, r)
+
+pub tile_within : (out : List ℕ) (a : ℕ) (ss : List Span) (n : ℕ) → Tile a ss n → n ≤ length out → AreWithin out ss
+tile_within out a [] n t l = tt
+tile_within out a (s ∷ ss) n t l = let r = tile_le s.end ss n t.3 in ((t.1, t.2, omega (arith, r, l)), tile_within out s.end ss n t.3 l)
 
 -- finished pairs stay
 pub pairs_stay : (out b : List ℕ) (a : ℕ) (ss : List Span) (n : ℕ) → Tile a ss n → n ≤ length out → map (span_pair (out ++ b)) ss ≡ map (span_pair out) ss

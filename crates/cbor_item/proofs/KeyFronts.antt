@@ -20,7 +20,7 @@ use Rattle.cbor_head.specs.Value.{AreBytes}
 use Rattle.cbor_head.specs.declared.order.KeyOrder.{KeyOrder}
 use Rattle.cbor_head.specs.declared.order.KeyOrder.TheVariants.{Bytewise, LengthFirst}
 use Rattle.cbor_item.proofs.Orders.{key_cmp_total}
-use Rattle.cbor_item.specs.inner.Front.{digits, front_of, key_of, IsFronted, AreFronted, rank, ranked_by}
+use Rattle.cbor_item.specs.inner.Front.{digits, front_of, key_of, IsFronted, AreFronted, by_front, rank, ranked_by}
 use Rattle.cbor_item.specs.declared.builder.span.Span.{Span}
 
 -- ---- bytes
@@ -78,10 +78,8 @@ front_less (suc n) (x ∷ xs) (y ∷ ys) h g l = go (front_less n xs ys h.1 g.1)
         let d = mul-suc (256 ^ n) y in
         absurd (omega (arith, l, b, more, d))
 
--- with the right fronts, the ranks are the order of the keys
-pub agree : (o : KeyOrder) (a b : ℕ) (xs ys : List ℕ) → AreBytes xs → AreBytes ys → a ≡ front_of xs → b ≡ front_of ys → rank o (a, xs) (b, ys) ≡ key_cmp o xs ys
-agree LengthFirst a b xs ys h g e f = refl
-agree Bytewise a b xs ys h g e f = go (nat_cmp a b) refl (ranked a b (nat_cmp a b) refl)
+agree_front : (a b : ℕ) (xs ys : List ℕ) → AreBytes xs → AreBytes ys → a ≡ front_of xs → b ≡ front_of ys → by_front (a, xs) (b, ys) ≡ key_cmp Bytewise xs ys
+agree_front a b xs ys h g e f = go (nat_cmp a b) refl (ranked a b (nat_cmp a b) refl)
   where
     go : (r : Ordering) → nat_cmp a b ≡ r → MatchOrdering r (a < b) (a ≡ b) (b < a) → ordering_then (nat_cmp a b) (slice_cmp nat_cmp xs ys) ≡ slice_cmp nat_cmp xs ys
     go Less c m = ap (λ (r : Ordering). ordering_then r (slice_cmp nat_cmp xs ys)) c ∙ sym (front_less 8 xs ys h g (omega (arith, m, e, f)))
@@ -90,9 +88,17 @@ agree Bytewise a b xs ys h g e f = go (nat_cmp a b) refl (ranked a b (nat_cmp a 
         ap (λ (r : Ordering). ordering_then r (slice_cmp nat_cmp xs ys)) c
         ∙ sym ((key_cmp_total Bytewise).antisymm xs ys ∙ ap ordering_reverse (front_less 8 ys xs g h (omega (arith, m, e, f))))
 
+-- with the right fronts, the ranks are the order of the keys
+pub agree : (o : KeyOrder) (a b : ℕ) (xs ys : List ℕ) → AreBytes xs → AreBytes ys → a ≡ front_of xs → b ≡ front_of ys → rank o (a, xs) (b, ys) ≡ key_cmp o xs ys
+agree LengthFirst a b xs ys h g e f = ap (ordering_then (nat_cmp (length xs) (length ys))) (agree_front a b xs ys h g e f)
+agree Bytewise a b xs ys h g e f = agree_front a b xs ys h g e f
+
+front_total : IsTotalOrder by_front
+front_total = then_total (on_total (λ (p : ℕ × List ℕ). p.0) nat_cmp_total) (on_total (λ (p : ℕ × List ℕ). p.1) (key_cmp_total Bytewise))
+
 pub rank_total : (o : KeyOrder) → IsTotalOrder (rank o)
-rank_total Bytewise = then_total (on_total (λ (p : ℕ × List ℕ). p.0) nat_cmp_total) (on_total (λ (p : ℕ × List ℕ). p.1) (key_cmp_total Bytewise))
-rank_total LengthFirst = on_total (λ (p : ℕ × List ℕ). p.1) (key_cmp_total LengthFirst)
+rank_total Bytewise = front_total
+rank_total LengthFirst = then_total (on_total (λ (p : ℕ × List ℕ). length p.1) nat_cmp_total) front_total
 
 pub agree_spans : (o : KeyOrder) (out : List ℕ) (x y : Span) → AreBytes out → IsFronted out x → IsFronted out y → rank o (ranked_by out x) (ranked_by out y) ≡ key_cmp o (key_of out x) (key_of out y)
 agree_spans o out x y h a b = agree o x.front y.front (key_of out x) (key_of out y) (bytes_slice out x.key x.val h) (bytes_slice out y.key y.val h) a b

@@ -1,15 +1,17 @@
 -- A key looked for among the pairs of its map.
-use Rattle.std.proofs.Common.{◌≡◌, ◌↔◌, ℕ, ◌+◌, ◌<◌, ◌≤◌, ◌⊎◌, List, length, drop, get_or, map, false, true≢false, inl, inr, refl, sym, ap, ◌∙◌, subst}
+use Rattle.std.proofs.Common.{◌≡◌, ◌↔◌, ℕ, ◌+◌, ◌<◌, ◌≤◌, ◌⊎◌, List, [], ◌∷◌, ◌++◌, length, drop, get_or, map, Bool, false, true≢false, inl, inr, refl, sym, ap, ◌∙◌, subst}
 use Rattle.std.specs.Prelude.{IsTrue}
+use Rattle.std.specs.List.{AllByRecursion}
 use Rattle.std.specs.Ordering.{is_eq}
 use Rattle.std.specs.declared.cmp.Ordering.{Ordering}
 use Rattle.std.proofs.lemmas.Cmp.{tied_itself}
 use Rattle.std.proofs.lemmas.List.{drop_all}
-use Rattle.cbor_head.specs.Order.{key_cmp}
+use Rattle.cbor_head.specs.Order.{key_cmp, key_lt}
 use Rattle.cbor_head.specs.Value.{Value, Entries, no_entries, entry, HasEntry, Same, AreBytes, AreEntriesInRange, IsInRange, IsValid}
 use Rattle.cbor_head.specs.Canonical.{Pair, canonical, canonical_entries}
 use Rattle.cbor_head.specs.declared.order.KeyOrder.{KeyOrder}
 use Rattle.cbor_item.specs.Built.{HasKey, HasSameKey}
+use Rattle.cbor_item.specs.Pairs.{IsRising}
 use Rattle.cbor_item.specs.Parts.{AreKeysValid}
 use Rattle.cbor_item.specs.inner.Front.{key_of, IsFronted, AreFronted, rank, ranked_by}
 use Rattle.cbor_item.specs.inner.Laid.{span_pair}
@@ -17,7 +19,7 @@ use Rattle.cbor_item.specs.declared.builder.span.Span.{Span}
 use Rattle.cbor_item.proofs.ByIndex.{at_read}
 use Rattle.cbor_item.proofs.Keys.{same_exactly}
 use Rattle.cbor_item.proofs.KeyFronts.{agree_spans, fronted_at}
-use Rattle.cbor_item.proofs.Orders.{key_cmp_total}
+use Rattle.cbor_item.proofs.Orders.{key_cmp_total, lt_irrefl}
 use Rattle.cbor_item.proofs.SortedSpans.{equal_keys, get_same}
 use Rattle.cbor_item.proofs.Sound.{IsSound, sound}
 
@@ -51,6 +53,22 @@ passed r inv step e = (
 
 pub no_key_left : (out : List ℕ) (ks : List Span) (i : ℕ) (k : List ℕ) → length ks ≤ i → HasKey (map (span_pair out) (drop i ks)) k → ⊥
 no_key_left out ks i k l h = subst (λ (us : List Span). HasKey (map (span_pair out) us) k) (drop_all i ks l) h
+
+-- a key above all of them is none of them
+pub above_other : (o : KeyOrder) (out : List ℕ) (ks : List Span) (next : Span) → IsRising o (map (span_pair out) (ks ++ next ∷ [])) → HasKey (map (span_pair out) ks) (key_of out next) → ⊥
+above_other o out [] next r h = absurd h
+above_other o out (k ∷ ks) next r (inl e) = lt_irrefl o (key_of out next) (subst (λ (x : List ℕ). IsTrue (key_lt o x (key_of out next))) e (last ks r.0))
+  where
+    last : (ss : List Span) → AllByRecursion (λ (q : Pair). IsTrue (key_lt o (key_of out k) q.key)) (map (span_pair out) (ss ++ next ∷ [])) → IsTrue (key_lt o (key_of out k) (key_of out next))
+    last [] a = a.0
+    last (s ∷ ss) a = last ss a.1
+above_other o out (k ∷ ks) next r (inr h) = above_other o out ks next r.1 h
+
+pub above_all : (o : KeyOrder) (out bytes : List ℕ) (ks : List Span) (next : Span) (above : Bool) → bytes ≡ out
+    → (IsTrue above → IsRising o (map (span_pair bytes) ks) → IsRising o (map (span_pair bytes) (ks ++ next ∷ []))) → IsTrue above → IsRising o (map (span_pair out) ks)
+    → HasKey (map (span_pair out) ks) (key_of out next) → ⊥
+above_all o out bytes ks next above e h t r =
+    above_other o out ks next (subst (λ (xs : List ℕ). IsRising o (map (span_pair xs) (ks ++ next ∷ []))) e (h t (subst (λ (xs : List ℕ). IsRising o (map (span_pair xs) ks)) (sym e) r)))
 
 -- ---- by the values of the keys
 

@@ -2,25 +2,26 @@
 use Rattle.std.proofs.Common.{◌≡◌, ◌≢◌, ◌↔◌, ℕ, zero, suc, ◌+◌, ◌-◌, ◌<◌, ◌≤◌, List, [], ◌∷◌, ◌++◌, append_assoc, append-nil, length, drop, drop-drop, take, take-append-drop, get_or, map, true, false, true≢false, refl, sym, ap, ◌∙◌, subst, arith, inl, inr, IsPermutation, IsSortedBy}
 use Rattle.std.specs.Prelude.{IsTrue, slice_range, flat_map}
 use Rattle.cbor_item.specs.Parts.{pair_bytes}
+use Rattle.std.proofs.Math.Seq.{take-add}
 use Rattle.std.proofs.lemmas.List.{map-append, drop_all}
 use Rattle.std.specs.Ordering.{is_eq, is_lt}
 use Rattle.std.specs.declared.cmp.Ordering.{Ordering}
 use Rattle.std.specs.declared.cmp.Ordering.TheVariants.{Less, Equal, Greater}
 use Rattle.std.proofs.lemmas.Bool.{false_from_ne_true}
 use Rattle.std.proofs.lemmas.Cmp.{tied_itself}
-use Rattle.std.proofs.lemmas.List.Sorted.{IsPermutation-sym, IsPermutation-map}
+use Rattle.std.proofs.lemmas.List.Sorted.{IsPermutation-sym, IsPermutation-map, Contains-permutation}
 use Rattle.cbor_head.specs.Order.{key_cmp, key_lt}
 use Rattle.cbor_head.specs.Canonical.{Pair, in_order}
 use Rattle.cbor_head.specs.declared.order.KeyOrder.{KeyOrder}
 use Rattle.cbor_item.specs.inner.Encoded.{DoNeighboursDiffer}
 use Rattle.cbor_item.specs.Pairs.{HasDistinctBytes, IsRising}
 use Rattle.cbor_item.proofs.ByIndex.{at_read}
-use Rattle.cbor_item.proofs.Members.{In}
+use Rattle.cbor_item.proofs.Members.{In, all_at, all_from, in_contains, contains_in}
 use Rattle.cbor_item.proofs.Orders.{key_cmp_total, tied, lt_trans}
 use Rattle.cbor_item.proofs.Neighbours.{differ_at, keys-map, differ_from_distinct, rising_from_differ, distinct_permuted}
 use Rattle.cbor_item.proofs.SortedPairs.{sorted_is_in_order, sorted_view}
 use Rattle.cbor_item.proofs.Sorting.{rises_at, rising_cons, rising_distinct}
-use Rattle.cbor_item.specs.inner.Laid.{span_pair}
+use Rattle.cbor_item.specs.inner.Laid.{span_pair, IsWithin, AreWithin}
 use Rattle.cbor_item.specs.inner.Front.{key_of, AreFronted, rank, ranked_by}
 use Rattle.cbor_head.specs.Value.{AreBytes}
 use Rattle.cbor_item.proofs.KeyFronts.{agree_spans, fronted_at, sorted_keys, fronted_permuted}
@@ -93,19 +94,31 @@ other_keys o x y e is = true≢false (ap is_eq (sym (tied_itself (key_cmp_total 
 
 -- ---- pairs put one behind the other
 
-pub gathered : (out : List ℕ) (ss : List Span) (i : ℕ) (x : Span) (whole was mid now : List ℕ) → i < length ss → x ≡ get_or ss i x
+pub within_at : (out : List ℕ) (ks : List Span) (i : ℕ) (d : Span) → AreWithin out ks → i < length ks → IsWithin out (get_or ks i d)
+within_at out [] i d h l = absurd (omega (arith, l))
+within_at out (k ∷ ks) zero d h l = h.0
+within_at out (k ∷ ks) (suc i) d h l = within_at out ks i d h.1 (omega (arith, l))
+
+pub within_permuted : (out : List ℕ) (xs ys : List Span) → IsPermutation xs ys → AreWithin out xs → AreWithin out ys
+within_permuted out xs ys m h =
+    all_from (IsWithin out) ys (λ s i. all_at (IsWithin out) xs s h (contains_in xs s (Contains-permutation ys xs s (IsPermutation-sym xs ys m) (in_contains ys s i))))
+
+slices_join : (xs : List ℕ) (a b c : ℕ) → a ≤ b → b ≤ c → slice_range xs a b ++ slice_range xs b c ≡ slice_range xs a c
+slices_join xs a b c h g =
+    let n : a + (b - a) ≡ b = omega (arith, h) in
+    let m : (b - a) + (c - b) ≡ c - a = omega (arith, h, g) in
+    let d : drop b xs ≡ drop (b - a) (drop a xs) = sym (drop-drop (b - a) a xs ∙ ap (λ k. drop k xs) n) in
+    ap (λ (ys : List ℕ). take (b - a) (drop a xs) ++ take (c - b) ys) d ∙ sym (take-add (b - a) (c - b) (drop a xs)) ∙ ap (λ k. take k (drop a xs)) m
+
+gathered : (out : List ℕ) (ss : List Span) (i : ℕ) (x : Span) (whole was now : List ℕ) → IsWithin out x → i < length ss → x ≡ get_or ss i x
     → whole ≡ was ++ flat_map pair_bytes (map (span_pair out) (drop i ss))
-    → mid ≡ was ++ slice_range out x.key x.val → now ≡ mid ++ slice_range out x.val x.end
+    → now ≡ was ++ slice_range out x.key x.end
     → whole ≡ now ++ flat_map pair_bytes (map (span_pair out) (drop (i + 1) ss))
-gathered out ss i x whole was mid now l e h a b =
+gathered out ss i x whole was now w l e h a =
     let rest = flat_map pair_bytes (map (span_pair out) (drop (i + 1) ss)) in
-    let k = slice_range out x.key x.val in
-    let v = slice_range out x.val x.end in
-    h ∙ ap (λ (us : List Span). was ++ flat_map pair_bytes (map (span_pair out) us)) (at_read ss i x l e) ∙ regroup was k v rest
-    ∙ ap (λ (xs : List ℕ). (xs ++ v) ++ rest) (sym a) ∙ ap (λ (xs : List ℕ). xs ++ rest) (sym b)
-  where
-    regroup : (out key content rest : List ℕ) → out ++ ((key ++ content) ++ rest) ≡ ((out ++ key) ++ content) ++ rest
-    regroup out key content rest = simp append_assoc
+    let pair = slice_range out x.key x.val ++ slice_range out x.val x.end in
+    h ∙ ap (λ (us : List Span). was ++ flat_map pair_bytes (map (span_pair out) us)) (at_read ss i x l e) ∙ sym (append_assoc was pair rest)
+    ∙ ap (λ (xs : List ℕ). (was ++ xs) ++ rest) (slices_join out x.key x.val x.end w.0 w.1) ∙ ap (λ (xs : List ℕ). xs ++ rest) (sym a)
 
 pub gathered_all : (out : List ℕ) (ss : List Span) (i : ℕ) (whole now : List ℕ) → length ss ≤ i → whole ≡ now ++ flat_map pair_bytes (map (span_pair out) (drop i ss)) → now ≡ whole
 gathered_all out ss i whole now l h =
@@ -116,13 +129,12 @@ get_same [] i d e l = absurd (omega arith)
 get_same (x ∷ xs) zero d e l = refl
 get_same (x ∷ xs) (suc i) d e l = get_same xs i d e (omega arith)
 
-pub gathered_at : (out : List ℕ) (ss : List Span) (i : ℕ) (d : Span) (whole was mid now p q : List ℕ) → i < length ss
-    → p ≡ slice_range out (get_or ss i d).key (get_or ss i d).val → q ≡ slice_range out (get_or ss i d).val (get_or ss i d).end
+pub gathered_at : (out : List ℕ) (ss : List Span) (i : ℕ) (d : Span) (whole was now : List ℕ) → AreWithin out ss → i < length ss
     → whole ≡ was ++ flat_map pair_bytes (map (span_pair out) (drop i ss))
-    → mid ≡ was ++ p → now ≡ mid ++ q
+    → now ≡ was ++ slice_range out (get_or ss i d).key (get_or ss i d).end
     → whole ≡ now ++ flat_map pair_bytes (map (span_pair out) (drop (i + 1) ss))
-gathered_at out ss i d whole was mid now p q l ep eq h a b =
-    gathered out ss i (get_or ss i d) whole was mid now l (get_same ss i d (get_or ss i d) l) h (a ∙ ap (λ (xs : List ℕ). was ++ xs) ep) (b ∙ ap (λ (xs : List ℕ). mid ++ xs) eq)
+gathered_at out ss i d whole was now w l h a =
+    gathered out ss i (get_or ss i d) whole was now (within_at out ss i d w l) l (get_same ss i d (get_or ss i d) l) h a
 
 pub differ_step : (o : KeyOrder) (out : List ℕ) (ks : List Span) (j i : ℕ) (d e : Span) (r : Ordering) → AreBytes out → AreFronted out ks → j + 1 ≡ i → i < length ks
     → r ≡ rank o (ranked_by out (get_or ks j d)) (ranked_by out (get_or ks i e))

@@ -40,7 +40,7 @@ pub(crate) struct Core {
     pub(crate) spans: Vec<Span>,
     pub(crate) top: Frame,
     pub(crate) below: Vec<Frame>,
-    pub(crate) scratch: Vec<u8>,
+    pub(crate) scratch: Out,
     pub(crate) sorting: Vec<Span>,
 }
 
@@ -61,7 +61,7 @@ impl Core {
                 rises: true,
             },
             below: Vec::new(alloc),
-            scratch: Vec::new(alloc),
+            scratch: Out::new(alloc),
             sorting: Vec::new(alloc),
         }
     }
@@ -160,7 +160,7 @@ impl Core {
                 let n = (self.spans.len() - first) as u64;
                 if !rises {
                     if !ordered(
-                        self.out.as_slice(),
+                        &self.out,
                         self.order,
                         &self.spans[first..],
                         &mut self.sorting,
@@ -206,8 +206,7 @@ impl Core {
         Ok(true)
     }
 
-    // Whether the key that waits for its value is equal to an earlier one of its map. Each of them is
-    // looked at.
+    // Whether the key that waits for its value is equal to an earlier one of its map.
     pub(crate) fn repeated(&self) -> bool
         requires laid { IsLaid self.now }
         ensures { IsTrue result ↔ IsRepeatedKey (standing self.now) }
@@ -217,6 +216,7 @@ impl Core {
                 &self.out,
                 self.order,
                 &self.spans[first..],
+                self.top.rises,
                 key,
                 val,
             ),

@@ -180,8 +180,9 @@ impl CanonBuilder {
     }
 
     /// Whether the part that was just completed is a key that is the same as an earlier key of its
-    /// map. Takes no memory, and looks at each earlier key of the map: where all keys of a large map
-    /// are to be told apart, `end_if_distinct` does it once for all.
+    /// map. Takes no memory. Where the keys come in order it costs one comparison; else it looks at
+    /// each earlier key of the map: to tell all keys of a large map apart, `end_if_distinct` does it
+    /// once for all.
     pub fn repeated(&self) -> bool
         ensures { IsTrue result ↔ IsRepeatedKey self.now.standing }
     {

@@ -1,5 +1,5 @@
 -- The first eight bytes of a key as a number, and the order by it.
-use Rattle.std.specs.Prelude.{ℕ, zero, suc, ◌≡◌, ◌+◌, ◌*◌, ◌^◌, List, [], ◌∷◌, slice_range}
+use Rattle.std.specs.Prelude.{ℕ, zero, suc, ◌≡◌, ◌+◌, ◌*◌, ◌^◌, List, [], ◌∷◌, length, slice_range}
 use Rattle.std.specs.List.{AllByRecursion}
 use Rattle.std.specs.declared.cmp.Ordering.{Ordering}
 use Rattle.std.specs.Ordering.{nat_cmp, then_cmp, on}
@@ -27,10 +27,14 @@ IsFronted out s = s.front ≡ front_of (key_of out s)
 abbrev pub AreFronted : List ℕ → List Span → Type 0
 AreFronted out ss = AllByRecursion (IsFronted out) ss
 
--- what a sort compares: bytewise, the fronts, and the keys where these are equal
+-- the fronts, and the keys where these are equal
+abbrev pub by_front : ℕ × List ℕ → ℕ × List ℕ → Ordering
+by_front = then_cmp (on (λ p. p.0) nat_cmp) (on (λ p. p.1) (key_cmp Bytewise))
+
+-- what a sort compares
 abbrev pub rank : KeyOrder → ℕ × List ℕ → ℕ × List ℕ → Ordering
-rank Bytewise = then_cmp (on (λ p. p.0) nat_cmp) (on (λ p. p.1) (key_cmp Bytewise))
-rank LengthFirst = on (λ p. p.1) (key_cmp LengthFirst)
+rank Bytewise = by_front
+rank LengthFirst = then_cmp (on (λ p. length p.1) nat_cmp) by_front
 
 abbrev pub ranked_by : List ℕ → Span → ℕ × List ℕ
 ranked_by out s = (s.front, key_of out s)

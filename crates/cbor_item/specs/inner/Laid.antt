@@ -1,5 +1,6 @@
 -- What a builder's buffer, spans and frames stand for.
 use Rattle.std.specs.Prelude.{ℕ, suc, Bool, true, IsTrue, ◌≡◌, ◌≢◌, ◌≤◌, ◌<◌, ◌^◌, ◌++◌, List, [], ◌∷◌, length, slice_range, map, take, drop}
+use Rattle.std.specs.List.{AllByRecursion}
 use Rattle.cbor_head.specs.Canonical.{Pair}
 use Rattle.cbor_head.specs.declared.order.KeyOrder.{KeyOrder}
 use Rattle.cbor_head.specs.declared.major.Major.{Major}
@@ -24,6 +25,13 @@ pairs_from out ss first = map (span_pair out) (drop first ss)
 abbrev pub Tile : ℕ → List Span → ℕ → Type 0
 Tile a [] n = a ≡ n
 Tile a (s ∷ ss) n = (s.key ≡ a) × (s.key ≤ s.val) × (s.val ≤ s.end) × Tile s.end ss n
+
+-- the parts of a pair lie one behind the other
+abbrev pub IsWithin : List ℕ → Span → Type 0
+IsWithin out s = (s.key ≤ s.val) × (s.val ≤ s.end) × (s.end ≤ length out)
+
+abbrev pub AreWithin : List ℕ → List Span → Type 0
+AreWithin out ss = AllByRecursion (IsWithin out) ss
 
 -- what is open, where its bytes end the buffer and its pairs end the spans
 abbrev pub shape_open : List ℕ → List Span → ℕ → Shape → Open

@@ -6,11 +6,12 @@ ghost use Rattle.cbor_head.specs.declared.order.KeyOrder.{KeyOrder};
 ghost use Rattle.cbor_item.specs.inner.Encoded.{DoNeighboursDiffer};
 ghost use Rattle.cbor_item.specs.Pairs.{HasDistinctBytes};
 ghost use Rattle.cbor_item.specs.Parts.{pair_bytes};
-ghost use Rattle.cbor_item.specs.inner.Laid.{span_pair};
+ghost use Rattle.cbor_item.specs.inner.Laid.{span_pair, AreWithin};
 ghost use Rattle.cbor_item.specs.inner.Front.{key_of, AreFronted, rank, ranked_by};
 ghost use Rattle.std.specs.Ordering.{is_lt};
 
-use crate::builder::span::{Span, compare, part};
+use crate::builder::out::Out;
+use crate::builder::span::{Span, compare};
 use cbor_head::KeyOrder;
 use std::alloc::AllocError;
 
@@ -37,39 +38,58 @@ pub(crate) fn differ(bytes: &[u8], order: KeyOrder, spans: &[Span]) -> bool
 }
 
 /// The pairs, one behind the other, behind what is there.
-pub(crate) fn gather(bytes: &[u8], spans: &[Span], into: &mut Vec<u8>) -> Result<(), AllocError>
-    requires { into.old.items ≡ [] }
+pub(crate) fn gather(out: &Out, spans: &[Span], into: &mut Out) -> Result<(), AllocError>
+    requires empty { into.old ≡ [] }
+    requires within { AreWithin out.now spans.now }
     ensures { OnOk result
-        (into.new.items ≡ flat_map pair_bytes (map (span_pair bytes.now) spans.now)) }
+        (into.new ≡ flat_map pair_bytes (map (span_pair out.now) spans.now)) }
 {
     for span in spans {
-        into.extend_from_slice(part(bytes, span.key, span.val))?;
-        into.extend_from_slice(part(bytes, span.val, span.end))?;
+        into.extend_from(out, span.key, span.end)?;
     }
     Ok(())
 }
 
-/// The pairs in order, in `into`, or false where two keys are equal.
-pub(crate) fn ordered(
+/// The spans sorted by their keys, in `sorting`, or false where two keys are equal.
+fn put_in_order(
     bytes: &[u8],
     order: KeyOrder,
     spans: &[Span],
     sorting: &mut Vec<Span>,
-    into: &mut Vec<u8>,
 ) -> Result<bool, AllocError>
     requires { AreFronted bytes.now spans.now }
+    ensures permuted { OnOk result (IsPermutation spans.now sorting.new.items) }
     ensures distinct { IfOk result (λ distinct.
         IsTrue distinct ↔ HasDistinctBytes (map (span_pair bytes.now) spans.now)) }
     ensures ordered { IfOk result (λ distinct. IsTrue distinct
-        → into.new.items ≡ flat_map pair_bytes (in_order order (map (span_pair bytes.now) spans.now))) }
+        → map (span_pair bytes.now) sorting.new.items ≡ in_order order (map (span_pair bytes.now) spans.now)) }
 {
     sorting.clear();
-    into.clear();
     sorting.extend_from_slice(spans)?;
     sort(bytes, order, sorting);
-    if !differ(bytes, order, sorting.as_slice()) {
+    Ok(differ(bytes, order, sorting.as_slice()))
+}
+
+/// The pairs in order, in `into`, or false where two keys are equal.
+pub(crate) fn ordered(
+    out: &Out,
+    order: KeyOrder,
+    spans: &[Span],
+    sorting: &mut Vec<Span>,
+    into: &mut Out,
+) -> Result<bool, AllocError>
+    requires fronted { AreFronted out.now spans.now }
+    requires within { AreWithin out.now spans.now }
+    ensures distinct { IfOk result (λ distinct.
+        IsTrue distinct ↔ HasDistinctBytes (map (span_pair out.now) spans.now)) }
+    ensures ordered { IfOk result (λ distinct. IsTrue distinct
+        → into.new ≡ flat_map pair_bytes (in_order order (map (span_pair out.now) spans.now))) }
+{
+    let distinct = put_in_order(out.as_slice(), order, spans, sorting)?;
+    if !distinct {
         return Ok(false);
     }
-    gather(bytes, sorting.as_slice(), into)?;
+    into.cut(0);
+    gather(out, sorting.as_slice(), into)?;
     Ok(true)
 }

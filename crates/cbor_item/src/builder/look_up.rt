@@ -1,18 +1,30 @@
 //! A key looked for among the pairs of its map.
 
 ghost use Rattle.std.specs.Prelude.{◌≡◌, ◌↔◌, ◌≤◌, IsTrue, map, length, slice_range};
+ghost use Rattle.cbor_head.specs.declared.order.KeyOrder.{KeyOrder};
 ghost use Rattle.cbor_item.specs.Built.{HasKey};
 ghost use Rattle.cbor_item.specs.inner.Front.{AreFronted, IsFronted, key_of};
 ghost use Rattle.cbor_item.specs.inner.Laid.{span_pair};
+ghost use Rattle.cbor_item.specs.Pairs.{IsRising};
 
+use crate::builder::member::is_above;
 use crate::builder::out::Out;
 use crate::builder::span::{Span, compare, front};
 use cbor_head::KeyOrder;
 
-// Whether one of the pairs has the key that stands from `key` to `val`. A pair costs a comparison of
-// two numbers, where the first eight bytes of the keys differ.
-pub(crate) fn has_key(out: &Out, order: KeyOrder, spans: &[Span], key: usize, val: usize) -> bool
+// Whether one of the pairs has the key that stands from `key` to `val`. Where their keys rise, a key
+// above the last one costs one comparison. Else a pair costs a comparison of two numbers, where the
+// first eight bytes of the keys differ.
+pub(crate) fn has_key(
+    out: &Out,
+    order: KeyOrder,
+    spans: &[Span],
+    rises: bool,
+    key: usize,
+    val: usize,
+) -> bool
     requires fronted { AreFronted out.now spans.now }
+    requires rises { IsTrue rises → IsRising order (map (span_pair out.now) spans.now) }
     requires begins { key ≤ val }
     requires ends { val ≤ length out.now }
     ensures { IsTrue result
@@ -24,7 +36,11 @@ pub(crate) fn has_key(out: &Out, order: KeyOrder, spans: &[Span], key: usize, va
         val,
         end: val,
     };
-    has_key_of(out.as_slice(), order, spans, &wanted)
+    let bytes = out.as_slice();
+    if rises && is_above(bytes, order, spans, 0, &wanted) {
+        return false;
+    }
+    has_key_of(bytes, order, spans, &wanted)
 }
 
 // Whether one of the pairs has the key of another.

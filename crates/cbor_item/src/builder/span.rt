@@ -1,7 +1,7 @@
 //! Pairs of maps as spans of the buffer.
 
 ghost use Rattle.std.specs.Prelude.{◌≡◌, ◌<◌, ◌≤◌, ◌-◌, ◌*◌, ◌/◌, ◌^◌, length, slice_range, slice_index};
-ghost use Rattle.cbor_item.specs.inner.Front.{front_of, key_of, rank, ranked_by};
+ghost use Rattle.cbor_item.specs.inner.Front.{front_of, key_of, by_front, rank, ranked_by};
 ghost use Rattle.cbor_head.specs.Order.{key_cmp};
 
 use crate::builder::out::Out;
@@ -97,22 +97,39 @@ pub(crate) fn compare(bytes: &[u8], order: KeyOrder, x: &Span, y: &Span) -> Orde
     ensures { result ≡ rank order (ranked_by bytes.now x.now) (ranked_by bytes.now y.now) }
 {
     match order {
-        KeyOrder::Bytewise => {
-            if x.front < y.front {
-                return Ordering::Less;
+        KeyOrder::Bytewise => compare_bytewise(bytes, x, y),
+        KeyOrder::LengthFirst => {
+            let first = part(bytes, x.key, x.val).len();
+            let second = part(bytes, y.key, y.val).len();
+            if first != second {
+                return first.cmp(&second);
             }
-            if x.front > y.front {
-                return Ordering::Greater;
-            }
-            compare_long(bytes, KeyOrder::Bytewise, x, y)
+            compare_bytewise(bytes, x, y)
         }
-        KeyOrder::LengthFirst => compare_long(bytes, KeyOrder::LengthFirst, x, y),
     }
 }
 
-#[inline(never)]
-fn compare_long(bytes: &[u8], order: KeyOrder, x: &Span, y: &Span) -> Ordering
-    ensures { result ≡ key_cmp order (key_of bytes.now x.now) (key_of bytes.now y.now) }
+// Two numbers, where the first eight bytes of the keys differ.
+#[inline(always)]
+fn compare_bytewise(bytes: &[u8], x: &Span, y: &Span) -> Ordering
+    ensures { result ≡ by_front (ranked_by bytes.now x.now) (ranked_by bytes.now y.now) }
 {
-    compare_keys(order, part(bytes, x.key, x.val), part(bytes, y.key, y.val))
+    if x.front < y.front {
+        return Ordering::Less;
+    }
+    if x.front > y.front {
+        return Ordering::Greater;
+    }
+    compare_long(bytes, x, y)
+}
+
+#[inline(never)]
+fn compare_long(bytes: &[u8], x: &Span, y: &Span) -> Ordering
+    ensures { result ≡ key_cmp KeyOrder.Bytewise (key_of bytes.now x.now) (key_of bytes.now y.now) }
+{
+    compare_keys(
+        KeyOrder::Bytewise,
+        part(bytes, x.key, x.val),
+        part(bytes, y.key, y.val),
+    )
 }

@@ -456,3 +456,31 @@ fn the_pair_is_told_in_maps_of_each_size(rt: HostRuntime) -> Result<(), Fail> {
     }
     Ok(())
 }
+
+// Two pairs in falling order, with strings of each length as values: they change places whole.
+#[test]
+fn pairs_of_each_length(rt: HostRuntime) -> Result<(), Fail> {
+    let alloc = rt.alloc();
+    for size in 0u8..70 {
+        let content = Vec::from_elem(alloc, 7, usize::from(size))?;
+        let mut builder = CanonBuilder::new(alloc, KeyOrder::Bytewise);
+        begin(&mut builder, Major::Map, 2)?;
+        for key in [2, 1] {
+            leaf(&mut builder, Major::Unsigned, key)?;
+            string(&mut builder, Major::Bytes, content.as_slice())?;
+        }
+        assert!(rt; end(&mut builder)?);
+        let mut wanted = vec![in alloc; 0xa2]?;
+        for key in [1, 2] {
+            wanted.push(key)?;
+            if size < 24 {
+                wanted.push(0x40 | size)?;
+            } else {
+                wanted.extend_from_slice(&[0x58, size])?;
+            }
+            wanted.extend_from_slice(content.as_slice())?;
+        }
+        assert_eq!(rt; builder.finish().as_slice(), wanted.as_slice());
+    }
+    Ok(())
+}

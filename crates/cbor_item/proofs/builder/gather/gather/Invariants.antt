@@ -5,4 +5,4 @@ use Rattle.cbor_item.specs.inner.Laid.{span_pair}
 use Rattle.cbor_item.proofs.builder.gather.gather.Given as goal
 
 abbrev pub invariant-loop-span : goal.invariant-loop-span
-invariant-loop-span l = flat_map pair_bytes (map (span_pair l.bytes) l.spans) ≡ l.into.items ++ flat_map pair_bytes (map (span_pair l.bytes) (drop l.span-index l.spans))
+invariant-loop-span l = flat_map pair_bytes (map (span_pair l.out) l.spans) ≡ l.into ++ flat_map pair_bytes (map (span_pair l.out) (drop l.span-index l.spans))
