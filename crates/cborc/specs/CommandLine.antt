@@ -1,16 +1,21 @@
 -- What the words of a command line ask for, by what clap found for each argument.
-use Rattle.std.specs.Prelude.{ℕ, ◌≡◌, ◌≢◌, ◌≤◌, ◌^◌, ◌⊎◌, List, Option, Some, None, IsSome, IsSomeAnd, true, false, codes, if◌then◌else◌, option_map, option_and_then}
+use Rattle.std.specs.Prelude.{ℕ, ◌≡◌, ◌≢◌, ◌≤◌, ◌^◌, ◌⊎◌, List, Option, Some, None, IsSome, IsSomeAnd, Bool, true, false, ◌&&◌, codes, if◌then◌else◌, option_map, option_and_then}
 use Rattle.std.specs.Str.{bytes_eq}
 use Rattle.std.specs.Str.Parse.{IsNumeral, digits_value, without_leading_plus}
 use Rattle.cbor_head.specs.declared.limits.TheConstants.{MAX_DEPTH}
 use Rattle.cbor_head.specs.declared.order.KeyOrder.{KeyOrder}
 use Rattle.cbor_head.specs.declared.order.KeyOrder.TheVariants.{Bytewise, LengthFirst}
 use Rattle.clap.specs.Words.{Row, Text, first_of, one_of}
+use Rattle.cborc.specs.Folder.{is_stream}
 use Rattle.cborc.specs.declared.command_line.Accepted.{Accepted}
 use Rattle.cborc.specs.declared.command_line.Accepted.TheVariants.{Valid, Canonical}
+use Rattle.cborc.specs.declared.command_line.Form.TheVariants.{Raw, Hex}
 use Rattle.cborc.specs.declared.command_line.Layout.{Layout}
 use Rattle.cborc.specs.declared.command_line.Layout.TheVariants.{OneLine, Indented}
+use Rattle.cborc.specs.declared.command_line.Manner.{Manner}
+use Rattle.cborc.specs.declared.command_line.Manner.TheVariants.{Plain, Explained, Quiet}
 use Rattle.cborc.specs.declared.command_line.Options.{Options}
+use Rattle.cborc.specs.declared.command_line.Output.{Output}
 use Rattle.cborc.specs.declared.command_line.Request.{Request}
 use Rattle.cborc.specs.declared.command_line.Request.TheVariants.{Check, CheckSequence, Canon, Compare, Show, Events}
 
@@ -44,6 +49,23 @@ pub record IsLayoutOf (rows : List Row) (layout : Layout) : Type 0 where
   pub indented : one_of (codes "indent") rows ≡ Some (codes "true") → layout ≡ Indented
   pub one_line : one_of (codes "indent") rows ≡ Some (codes "false") → layout ≡ OneLine
 
+-- where canonical bytes belong, and in which form
+pub record IsOutputOf (rows : List Row) (output : Output) : Type 0 where
+  pub path : first_of (codes "OUT") rows ≡ Some output.path.now
+  pub digits : one_of (codes "hex-out") rows ≡ Some (codes "true") → output.form ≡ Hex
+  pub bytes : one_of (codes "hex-out") rows ≡ Some (codes "false") → output.form ≡ Raw
+
+-- how the program tells what it finds
+pub record IsMannerOf (rows : List Row) (manner : Manner) : Type 0 where
+  pub quiet : one_of (codes "quiet") rows ≡ Some (codes "true") → manner ≡ Quiet
+  pub explained : one_of (codes "quiet") rows ≡ Some (codes "false") → one_of (codes "explain") rows ≡ Some (codes "true") → manner ≡ Explained
+  pub plain : one_of (codes "quiet") rows ≡ Some (codes "false") → one_of (codes "explain") rows ≡ Some (codes "false") → manner ≡ Plain
+
+-- whether a request would read standard input for two files
+abbrev pub reads_stream_twice : Request → Bool
+reads_stream_twice (Compare left right options) = is_stream left.now && is_stream right.now
+reads_stream_twice _ = false
+
 -- what a subcommand, of this name and given these, asks for
 abbrev pub AsksFor : Text × List Row → Request → Type 0
 AsksFor (name, rows) (Check source accepted options) =
@@ -52,8 +74,8 @@ AsksFor (name, rows) (Check source accepted options) =
 AsksFor (name, rows) (CheckSequence source accepted options) =
     (name ≡ codes "check") × (one_of (codes "seq") rows ≢ Some (codes "false"))
     × (first_of (codes "FILE") rows ≡ Some source.now) × IsAcceptedOf rows (Some accepted) × IsOptionsOf rows options
-AsksFor (name, rows) (Canon source target order options) =
-    (name ≡ codes "canon") × (first_of (codes "IN") rows ≡ Some source.now) × (first_of (codes "OUT") rows ≡ Some target.now)
+AsksFor (name, rows) (Canon source output order options) =
+    (name ≡ codes "canon") × (first_of (codes "IN") rows ≡ Some source.now) × IsOutputOf rows output
     × (order_given rows ≡ Some order) × IsOptionsOf rows options
 AsksFor (name, rows) (Compare left right options) =
     (name ≡ codes "compare") × (first_of (codes "A") rows ≡ Some left.now) × (first_of (codes "B") rows ≡ Some right.now) × IsOptionsOf rows options

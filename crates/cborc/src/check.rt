@@ -1,7 +1,9 @@
 //! The subcommand `check`: whether a file is one item.
 
-ghost use Rattle.std.specs.Prelude.{IfOk, IfErr};
-ghost use Rattle.cborc.specs.Check.{rules_of, IsWhole, IsNotWhole};
+ghost use Rattle.std.specs.Prelude.{◌≡◌, OnOk, IfOk, IfErr};
+ghost use Rattle.std.specs.Io.KnownBytes.{Appends};
+ghost use Rattle.cborc.specs.Check.{rules_of, accepted_bytes, IsWhole, IsNotWhole, IsChecked, IsNotChecked};
+ghost use Rattle.cborc.specs.Folder.{KeepsFiles};
 
 use crate::command_line::{Accepted, Options};
 use crate::fault::Fault;
@@ -20,10 +22,25 @@ pub fn check<'a, F: Folder, O: Write>(
     source: &'a str,
     accepted: Accepted,
     options: Options,
-) -> Result<(), Fault<'a>> {
+) -> Result<(), Fault<'a>>
+    ensures told { OnOk result (IsChecked (rules_of accepted) options source.now
+        (F.held files.old) (O.contents out.old) (O.contents out.new)) }
+    ensures fault { IfErr result
+        (IsNotChecked (rules_of accepted) options source.now (F.held files.old)) }
+    ensures keeps { KeepsFiles (F.held files.old) (F.held files.new) }
+{
     let limits = options.limits;
-    let bytes = input::read(alloc, files, source, options)?;
+    let bytes = input::read_item(alloc, files, source, options)?;
     let size = size_of_item(alloc, bytes.as_slice(), accepted, limits)?;
+    tell(out, size)
+}
+
+// Writes the line of an item that is accepted, of so many bytes.
+fn tell<'a, O: Write>(out: &mut O, size: u64) -> Result<(), Fault<'a>>
+    ensures told { OnOk result
+        (Appends (O.contents out.old) (O.contents out.new) (accepted_bytes size)) }
+    ensures fault { IfErr result (λ fault. fault ≡ Fault.CannotPrint) }
+{
     match writeln!(out, "accepted {size} bytes") {
         Ok(()) => Ok(()),
         Err(_) => Err(Fault::CannotPrint),

@@ -24,7 +24,7 @@ pub fn check_sequence<'a, F: Folder, O: Write>(
     options: Options,
 ) -> Result<(), Fault<'a>> {
     let limits = options.limits;
-    let bytes = input::read(alloc, files, source, options)?;
+    let bytes = input::read_all(alloc, files, source, options)?;
     match count_items(alloc, bytes.as_slice(), accepted, limits) {
         Ok(count) => match writeln!(out, "accepted {count} items") {
             Ok(()) => Ok(()),

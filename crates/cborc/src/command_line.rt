@@ -1,13 +1,35 @@
 //! The words of the command line, and what they ask for.
 
 ghost use Rattle.std.specs.Prelude.{◌≡◌, codes, IfSome, IsSome};
-ghost use Rattle.clap.specs.Words.{found_of, rows_of, subcommand_rows_of};
-ghost use Rattle.cborc.specs.CommandLine.{order_named, AsksFor, HasLimits, IsAcceptedOf, IsComplete, IsLayoutOf, IsOptionsOf};
+ghost use Rattle.clap.specs.Words.{first_of, found_of, rows_of, subcommand_rows_of};
+ghost use Rattle.cborc.specs.CommandLine.{order_named, AsksFor, HasLimits, reads_stream_twice, IsAcceptedOf, IsComplete, IsLayoutOf, IsMannerOf, IsOptionsOf, IsOutputOf};
 
-use cbor_head::{KeyOrder, Limits, MAX_DEPTH};
+use crate::folder::is_stream;
+use crate::grammar::command;
+use cbor_head::{KeyOrder, Limits};
 use clap::error::ErrorKind;
-use clap::{Arg, ArgAction, ArgMatches, Command, Error};
-use std::alloc::{AllocError, Global};
+use clap::{ArgMatches, Error};
+use std::alloc::Global;
+
+/// What the words of a command line ask for, and how it is told.
+#[derive(Debug, Drop)]
+pub struct Task<'a> {
+    /// What they ask for.
+    pub request: Request<'a>,
+    /// How it is told.
+    pub manner: Manner,
+}
+
+/// How the program tells what it finds.
+#[derive(Clone, Copy, Debug)]
+pub enum Manner {
+    /// By the answer, or the one line of a refusal or fault.
+    Plain,
+    /// The same, with an explanation behind that line.
+    Explained,
+    /// By the status alone.
+    Quiet,
+}
 
 /// What the words of a command line ask for.
 #[derive(Debug, Drop)]
@@ -50,8 +72,8 @@ pub enum Request<'a> {
     Canon {
         /// The path of the file to read.
         source: &'a str,
-        /// The path of the file to write.
-        target: &'a str,
+        /// Where the canonical bytes belong, and in which form.
+        output: Output<'a>,
         /// The order of keys in the canonical bytes.
         order: KeyOrder,
         /// How the file is read.
@@ -86,6 +108,24 @@ pub enum Layout {
     Indented,
 }
 
+/// Where `canon` writes.
+#[derive(Clone, Copy, Debug)]
+pub struct Output<'a> {
+    /// The path of the file to write, or `-`.
+    pub path: &'a str,
+    /// The form of the bytes there.
+    pub form: Form,
+}
+
+/// The form in which `canon` writes bytes.
+#[derive(Clone, Copy, Debug)]
+pub enum Form {
+    /// The bytes themselves.
+    Raw,
+    /// Two hex digits for each byte, and a line feed.
+    Hex,
+}
+
 /// How a file is read, by each subcommand alike.
 #[derive(Clone, Copy, Debug)]
 pub struct Options {
@@ -97,13 +137,62 @@ pub struct Options {
 
 /// What the words ask for, the program's name first. The error is a fault in the words, a request
 /// for help, or want of memory; the error's kind says which.
-pub fn parse<'a>(alloc: Global, words: &'a [String]) -> Result<Request<'a>, Error> {
+pub fn parse<'a>(alloc: Global, words: &'a [String]) -> Result<Task<'a>, Error> {
     let mut command = command(alloc)?;
     let matches = command.try_get_matches_from_mut(words)?;
-    match request_of(&matches) {
-        Some(request) => Ok(request),
+    let Some(task) = task_of(&matches) else {
         // Not met: clap has seen that all is there, in its range. The types do not say so.
-        None => Err(command.error(ErrorKind::MissingSubcommand, "a word is missing")?),
+        return Err(command.error(ErrorKind::MissingSubcommand, "a word is missing")?);
+    };
+    if reads_stream_twice(&task.request) {
+        let message = "standard input is read once: '-' may stand for A or for B";
+        return Err(command.error(ErrorKind::ArgumentConflict, message)?);
+    }
+    Ok(task)
+}
+
+// Whether the request would read standard input for two files.
+fn reads_stream_twice(request: &Request<'_>) -> bool
+    ensures { result ≡ reads_stream_twice request.now }
+{
+    match request {
+        Request::Compare { left, right, .. } => is_stream(left) && is_stream(right),
+        _ => false,
+    }
+}
+
+fn task_of<'a>(matches: &ArgMatches<'a>) -> Option<Task<'a>>
+    ensures value { IfSome result (λ task. IfSome (subcommand_rows_of matches.now)
+        (λ given. AsksFor given task.request × IsMannerOf given.1 task.manner)) }
+    ensures some { IfSome (subcommand_rows_of matches.now)
+        (λ given. IsComplete given → IsSome result) }
+{
+    let manner = manner_asked(matches)?;
+    match request_of(matches) {
+        Some(request) => Some(Task { request, manner }),
+        None => None,
+    }
+}
+
+fn manner_asked(matches: &ArgMatches<'_>) -> Option<Manner>
+    ensures value { IfSome result (λ manner. IfSome (subcommand_rows_of matches.now)
+        (λ given. IsMannerOf given.1 manner)) }
+    ensures some { IsSome (subcommand_rows_of matches.now) → IsSome result }
+{
+    let (_, given) = matches.subcommand()?;
+    Some(manner_of(given))
+}
+
+#[tactic(auto, using(crate::proofs::Rows::getters))]
+fn manner_of(given: &ArgMatches<'_>) -> Manner
+    ensures { IsMannerOf (rows_of (found_of given.now)) result }
+{
+    if given.get_flag("quiet") {
+        Manner::Quiet
+    } else if given.get_flag("explain") {
+        Manner::Explained
+    } else {
+        Manner::Plain
     }
 }
 
@@ -153,10 +242,24 @@ fn canon_of<'a>(given: &ArgMatches<'a>) -> Option<Request<'a>>
 {
     Some(Request::Canon {
         source: given.get_str("IN")?,
-        target: given.get_str("OUT")?,
+        output: output_of(given)?,
         order: order_of(given.get_str("order")?)?,
         options: options_of(given)?,
     })
+}
+
+#[tactic(auto, using(crate::proofs::Rows::getters))]
+fn output_of<'a>(given: &ArgMatches<'a>) -> Option<Output<'a>>
+    ensures value { IfSome result (IsOutputOf (rows_of (found_of given.now))) }
+    ensures some { IsSome (first_of (codes "OUT") (rows_of (found_of given.now))) → IsSome result }
+{
+    let path = given.get_str("OUT")?;
+    let form = if given.get_flag("hex-out") {
+        Form::Hex
+    } else {
+        Form::Raw
+    };
+    Some(Output { path, form })
 }
 
 #[tactic(auto, using(crate::proofs::Rows::getters))]
@@ -239,109 +342,4 @@ fn options_of(given: &ArgMatches<'_>) -> Option<Options>
         limits: Limits::new(depth, bytes)?,
         hex: given.get_flag("hex"),
     })
-}
-
-fn command<'a>(alloc: Global) -> Result<Command<'a>, AllocError> {
-    Command::new(alloc, "cborc")
-        .about("Reads and writes deterministic CBOR (RFC 8949, section 4.2)")
-        .subcommand_required(true)
-        .subcommand(show(alloc)?)?
-        .subcommand(events(alloc)?)?
-        .subcommand(check(alloc)?)?
-        .subcommand(canon(alloc)?)?
-        .subcommand(compare(alloc)?)
-}
-
-fn check<'a>(alloc: Global) -> Result<Command<'a>, AllocError> {
-    let strict = Arg::new(alloc, "strict")
-        .long("strict")
-        .action(ArgAction::SetTrue)
-        .help("Accept canonical bytes alone");
-    let seq = Arg::new(alloc, "seq")
-        .long("seq")
-        .action(ArgAction::SetTrue)
-        .help("Read a sequence of items, with the limits on each");
-    let command = Command::new(alloc, "check")
-        .about("Checks that FILE is one valid item, or a sequence of them")
-        .arg(file(alloc, "FILE", "The file to read"))?
-        .arg(strict)?
-        .arg(seq)?
-        .arg(order(alloc, "The order of map keys, with --strict"))?;
-    with_options(alloc, command)
-}
-
-fn canon<'a>(alloc: Global) -> Result<Command<'a>, AllocError> {
-    let command = Command::new(alloc, "canon")
-        .about("Writes the canonical bytes of the item in IN to OUT")
-        .arg(file(alloc, "IN", "The file to read: one item"))?
-        .arg(file(alloc, "OUT", "The file to write"))?
-        .arg(order(alloc, "The order of map keys"))?;
-    with_options(alloc, command)
-}
-
-fn show<'a>(alloc: Global) -> Result<Command<'a>, AllocError> {
-    let indent = Arg::new(alloc, "indent")
-        .long("indent")
-        .action(ArgAction::SetTrue)
-        .help("Write one member or pair a line");
-    let command = Command::new(alloc, "show")
-        .about("Writes the diagnostic text of the item in FILE")
-        .arg(file(alloc, "FILE", "The file to read: one item"))?
-        .arg(indent)?;
-    with_options(alloc, command)
-}
-
-fn events<'a>(alloc: Global) -> Result<Command<'a>, AllocError> {
-    let command = Command::new(alloc, "events")
-        .about("Writes a line for each event of the item in FILE")
-        .arg(file(alloc, "FILE", "The file to read: one item"))?;
-    with_options(alloc, command)
-}
-
-fn compare<'a>(alloc: Global) -> Result<Command<'a>, AllocError> {
-    let command = Command::new(alloc, "compare")
-        .about("Says whether the items in A and B have the same value")
-        .arg(file(alloc, "A", "The first file to read: one item"))?
-        .arg(file(alloc, "B", "The second file to read: one item"))?;
-    with_options(alloc, command)
-}
-
-fn file<'a>(alloc: Global, name: &'a str, help: &'a str) -> Arg<'a> {
-    Arg::new(alloc, name)
-        .action(ArgAction::Set)
-        .required(true)
-        .help(help)
-}
-
-fn order<'a>(alloc: Global, help: &'a str) -> Arg<'a> {
-    Arg::new(alloc, "order")
-        .long("order")
-        .value_name("order")
-        .action(ArgAction::Set)
-        .value_parser(["bytewise", "length"].as_slice())
-        .default_value("bytewise")
-        .help(help)
-}
-
-// The options that all subcommands take.
-fn with_options<'a>(alloc: Global, command: Command<'a>) -> Result<Command<'a>, AllocError> {
-    let depth = Arg::new(alloc, "depth")
-        .long("depth")
-        .value_name("count")
-        .action(ArgAction::Set)
-        .value_parser(clap::value_parser!(u16).range(0..=i64::from(MAX_DEPTH)))
-        .default_value("256")
-        .help("How deep arrays, maps and tags may nest, 0 to 256");
-    let bytes = Arg::new(alloc, "bytes")
-        .long("bytes")
-        .value_name("count")
-        .action(ArgAction::Set)
-        .value_parser(clap::value_parser!(u64).range(0..=1 << 62))
-        .default_value("1048576")
-        .help("How many bytes an item may have, 0 to 4611686018427387904");
-    let hex = Arg::new(alloc, "hex")
-        .long("hex")
-        .action(ArgAction::SetTrue)
-        .help("Read hex digits, two for each byte, white space ignored");
-    command.arg(depth)?.arg(bytes)?.arg(hex)
 }

@@ -23,8 +23,8 @@ pub fn compare<'a, F: Folder, O: Write>(
     right: &'a str,
     options: &Options,
 ) -> Result<Status, Fault<'a>> {
-    let first = input::read(alloc, files, left, *options)?;
-    let second = input::read(alloc, files, right, *options)?;
+    let first = input::read_item(alloc, files, left, *options)?;
+    let second = input::read_item(alloc, files, right, *options)?;
     tell(
         alloc,
         out,

@@ -23,7 +23,7 @@ pub fn events<'a, F: Folder, O: Write>(
     options: Options,
 ) -> Result<(), Fault<'a>> {
     let limits = options.limits;
-    let bytes = input::read(alloc, files, source, options)?;
+    let bytes = input::read_item(alloc, files, source, options)?;
     list(bytes.as_slice(), limits, out)
 }
 

@@ -6,6 +6,7 @@ ghost use Rattle.cborc.specs.Fault.{fault_status, refusal_fault, at_item, side_f
 
 use crate::folder::FileFault;
 use crate::status::Status;
+use crate::visible::Visible;
 use cbor_head::{Reason, Refusal};
 use cbor_reader::Side;
 use hex::FromHexError;
@@ -13,7 +14,7 @@ use std::io::{self, ErrorKind};
 use thiserror::Error;
 
 /// Why the program ends without its answer. Its text is the line on standard error.
-#[derive(Debug, Drop, Error)]
+#[derive(Clone, Copy, Debug, Error)]
 pub enum Fault<'a> {
     /// The bytes of the input are refused.
     #[error("refused {0}")]
@@ -31,13 +32,13 @@ pub enum Fault<'a> {
     #[error("the words are not UTF-8")]
     NotText,
     /// The file at this path is not to be had.
-    #[error("cannot read {0}")]
+    #[error("cannot read {}", Visible(.0))]
     CannotRead(&'a str),
     /// The file at this path was to hold hex digits.
-    #[error("not hex: {0}")]
+    #[error("not hex: {}", Visible(.0))]
     NotHex(&'a str),
     /// The file at this path took not all of its bytes.
-    #[error("cannot write {0}")]
+    #[error("cannot write {}", Visible(.0))]
     CannotWrite(&'a str),
     /// Standard output took not all of the text.
     #[error("cannot write standard output")]

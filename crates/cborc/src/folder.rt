@@ -1,6 +1,10 @@
 //! Where files come from and go to.
 
+ghost use Rattle.std.specs.Prelude.{◌≡◌, Option, None, IfOk};
+ghost use Rattle.cborc.specs.Folder.{Files, is_stream, Holds, StartsFile, KeepsFiles, WritesFile};
+
 use std::alloc::Global;
+use std::io::ErrorKind;
 
 /// Why a file was not read or not written.
 #[derive(Clone, Copy, Debug, PartialEq, Eq)]
@@ -11,11 +15,41 @@ pub enum FileFault {
     Memory,
 }
 
-/// Files by their paths.
+/// Files by their paths. The path `-` is standard input where it is read, and is not written.
 pub trait Folder {
-    /// Reads a file whole.
-    fn read(&mut self, alloc: Global, path: &str) -> Result<Vec<u8>, FileFault>;
+    // What each path holds, where the folder tells.
+    ghost held: { Self → Option Files } = { λ _. None };
 
-    /// Writes a file whole, in place of what it held. After a fault it may hold a beginning.
-    fn write(&mut self, path: &str, bytes: &[u8]) -> Result<(), FileFault>;
+    /// Reads a file whole.
+    fn read(&mut self, alloc: Global, path: &str) -> Result<Vec<u8>, FileFault>
+        ensures gives { IfOk result (λ v. Holds (held self.old) path.now v.items) }
+        ensures keeps { KeepsFiles (held self.old) (held self.new) };
+
+    /// Writes a file whole, in place of what it held, or leaves all files as they were.
+    fn write(&mut self, path: &str, bytes: &[u8]) -> Result<(), FileFault>
+        ensures { WritesFile (held self.old) (held self.new) result path.now bytes.now };
+
+    /// Reads a file's first bytes, so many if it has them. A folder that can read less than a whole
+    /// file does so.
+    fn read_front(&mut self, alloc: Global, path: &str, most: u64) -> Result<Vec<u8>, FileFault>
+        ensures gives { IfOk result (λ v. StartsFile (held self.old) path.now most v.items) }
+        ensures keeps { KeepsFiles (held self.old) (held self.new) }
+    {
+        let mut bytes = self.read(alloc, path)?;
+        bytes.truncate(most as usize);
+        Ok(bytes)
+    }
+
+    /// What kind of error the last call met that failed, if the folder tells.
+    fn cause(&self) -> Option<ErrorKind> {
+        None
+    }
+}
+
+/// Whether a path stands for a standard stream: `-` is standard input where it is read, and standard
+/// output where it is written.
+pub fn is_stream(path: &str) -> bool
+    ensures { result ≡ is_stream path.now }
+{
+    path == "-"
 }

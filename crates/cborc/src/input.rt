@@ -1,10 +1,12 @@
-//! The bytes of an input file.
+//! The bytes of an input.
 
-ghost use Rattle.std.specs.Prelude.{◌≡◌, ◌⊎◌, IfOk, IfErr, Ok, Err};
+ghost use Rattle.std.specs.Prelude.{◌≡◌, ◌⊎◌, ◌+◌, IfOk, IfErr, Ok, Err, true, false};
 ghost use Rattle.std.specs.List.{filter};
 ghost use Rattle.hex.specs.Hex.{decode_of};
 ghost use Rattle.hex.specs.declared.error.FromHexError.TheVariants.{OutOfMemory};
+ghost use Rattle.cborc.specs.Folder.{KeepsFiles};
 ghost use Rattle.cborc.specs.Hex.{is_kept, is_white};
+ghost use Rattle.cborc.specs.Input.{IsInput, StartsInput, IsNoInput};
 
 use crate::command_line::Options;
 use crate::fault::Fault;
@@ -12,24 +14,74 @@ use crate::folder::Folder;
 use hex::FromHexError;
 use std::alloc::Global;
 
-/// The bytes that the file at this path holds, or those that its hex digits spell.
-pub fn read<'a, F: Folder>(
+/// The first bytes of the input at this path: as many as decide whether it is one item within the
+/// limits, the byte limit and one more. With `hex` its digits are read whole.
+pub fn read_item<'a, F: Folder>(
     alloc: Global,
     files: &mut F,
     path: &'a str,
     options: Options,
-) -> Result<Vec<u8>, Fault<'a>> {
-    let bytes = files
-        .read(alloc, path)
-        .map_err(|fault| Fault::of_reading(path, fault))?;
-    if !options.hex {
-        return Ok(bytes);
+) -> Result<Vec<u8>, Fault<'a>>
+    ensures front { IfOk result (λ v. StartsInput (F.held files.old) path.now options.hex
+        (options.limits.bytes + 1) v.items) }
+    ensures fault { IfErr result (IsNoInput (F.held files.old) path.now options.hex) }
+    ensures keeps { KeepsFiles (F.held files.old) (F.held files.new) }
+{
+    let most = options.limits.bytes() + 1;
+    if options.hex {
+        let mut bytes = read_digits(alloc, files, path)?;
+        bytes.truncate(most as usize);
+        Ok(bytes)
+    } else {
+        match files.read_front(alloc, path, most) {
+            Ok(bytes) => Ok(bytes),
+            Err(fault) => Err(Fault::of_reading(path, fault)),
+        }
     }
-    decode_hex(alloc, bytes).map_err(|error| Fault::of_hex(path, error))
+}
+
+/// All bytes of the input at this path.
+pub fn read_all<'a, F: Folder>(
+    alloc: Global,
+    files: &mut F,
+    path: &'a str,
+    options: Options,
+) -> Result<Vec<u8>, Fault<'a>>
+    ensures whole { IfOk result (λ v. IsInput (F.held files.old) path.now options.hex v.items) }
+    ensures fault { IfErr result (IsNoInput (F.held files.old) path.now options.hex) }
+    ensures keeps { KeepsFiles (F.held files.old) (F.held files.new) }
+{
+    if options.hex {
+        read_digits(alloc, files, path)
+    } else {
+        match files.read(alloc, path) {
+            Ok(bytes) => Ok(bytes),
+            Err(fault) => Err(Fault::of_reading(path, fault)),
+        }
+    }
+}
+
+// The bytes that the hex digits of the input spell.
+fn read_digits<'a, F: Folder>(
+    alloc: Global,
+    files: &mut F,
+    path: &'a str,
+) -> Result<Vec<u8>, Fault<'a>>
+    ensures whole { IfOk result (λ v. IsInput (F.held files.old) path.now true v.items) }
+    ensures fault { IfErr result (IsNoInput (F.held files.old) path.now true) }
+    ensures keeps { KeepsFiles (F.held files.old) (F.held files.new) }
+{
+    match files.read(alloc, path) {
+        Ok(text) => match decode_hex(alloc, text) {
+            Ok(bytes) => Ok(bytes),
+            Err(error) => Err(Fault::of_hex(path, error)),
+        },
+        Err(fault) => Err(Fault::of_reading(path, fault)),
+    }
 }
 
 /// The bytes that two hex digits each spell, of either case; white space may stand anywhere.
-fn decode_hex(alloc: Global, mut text: Vec<u8>) -> Result<Vec<u8>, FromHexError>
+pub fn decode_hex(alloc: Global, mut text: Vec<u8>) -> Result<Vec<u8>, FromHexError>
     ensures ok { IfOk result (λ bytes. decode_of (filter is_kept text.items) ≡ Ok bytes.items) }
     ensures err { IfErr result (λ e. (e ≡ OutOfMemory)
         ⊎ (decode_of (filter is_kept text.items) ≡ Err e)) }
@@ -38,8 +90,8 @@ fn decode_hex(alloc: Global, mut text: Vec<u8>) -> Result<Vec<u8>, FromHexError>
     hex::decode(alloc, text)
 }
 
-// Whether hex text ignores the byte: a tab, a line feed, a carriage return or a space.
-fn is_white(byte: u8) -> bool
+/// Whether hex text ignores the byte: a tab, a line feed, a carriage return or a space.
+pub fn is_white(byte: u8) -> bool
     ensures { result ≡ is_white byte }
 {
     matches!(byte, b'\t' | b'\n' | b'\r' | b' ')

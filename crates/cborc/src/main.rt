@@ -8,14 +8,20 @@ mod command_line;
 mod compare;
 mod disk;
 mod events;
+mod explanation;
 mod fault;
 mod folder;
+mod grammar;
 mod input;
+mod memory;
 mod run;
 mod show;
 mod status;
+mod surroundings;
 #[cfg(test)]
 mod tests;
+mod visible;
+mod way;
 
 use crate::disk::Disk;
 use crate::fault::Fault;
@@ -29,7 +35,7 @@ fn main(rt: HostRuntime) -> ExitCode {
     let status = match words(&rt) {
         Ok(words) => match BufWriter::new(rt.alloc(), rt.stdout()) {
             Ok(mut out) => {
-                let mut files = Disk { rt: &rt };
+                let mut files = Disk::new(&rt);
                 run(rt.alloc(), words, &mut files, &mut out, &mut err)
             }
             Err(_) => end(Err(Fault::Memory), &mut err),

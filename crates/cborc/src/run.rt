@@ -7,16 +7,18 @@ ghost use Rattle.cborc.specs.Fault.{end_status, status_number};
 use crate::canon::canon;
 use crate::check::check;
 use crate::check_sequence::check_sequence;
-use crate::command_line::{self, Request};
+use crate::command_line::{self, Manner, Request, Task};
 use crate::compare::compare;
 use crate::events::events;
+use crate::explanation::explain;
 use crate::fault::Fault;
 use crate::folder::Folder;
+use crate::memory::Memory;
 use crate::show::show;
 use crate::status::Status;
 use clap::error::ErrorKind;
 use std::alloc::Global;
-use std::io::Write;
+use std::io::{self, Write};
 
 /// Does what the words ask for, the program's name first, and answers the status with which the
 /// program ends: 0 accepted or same, 1 refused or different, 2 a fault in the words, 3 a fault of a
@@ -31,13 +33,70 @@ pub fn run<F: Folder, O: Write, E: Write>(
 ) -> u8
     ensures { result ≤ 3 }
 {
-    let ended = match command_line::parse(alloc, words.as_slice()) {
-        Ok(request) => answer(alloc, &request, files, out),
-        Err(error) => explain(&error, out, err),
-    };
+    match command_line::parse(alloc, words.as_slice()) {
+        Ok(task) => perform(alloc, &task, files, out, err),
+        Err(error) => {
+            let ended = explain_words(&error, out, err);
+            end(flushed(ended, out), err)
+        }
+    }
+}
+
+// Does what is asked for, and tells it in the manner that is asked for.
+fn perform<F: Folder, O: Write, E: Write>(
+    alloc: Global,
+    task: &Task<'_>,
+    files: &mut F,
+    out: &mut O,
+    err: &mut E,
+) -> u8
+    ensures { result ≤ 3 }
+{
+    match task.manner {
+        Manner::Plain => {
+            let ended = answer(alloc, &task.request, files, out);
+            end(flushed(ended, out), err)
+        }
+        Manner::Quiet => {
+            let ended = answer_quietly(alloc, &task.request, files, out);
+            end(ended, &mut io::sink())
+        }
+        Manner::Explained => {
+            let mut memory = Memory::new(files);
+            let ended = answer(alloc, &task.request, &mut memory, out);
+            let ended = flushed(ended, out);
+            let status = end(ended, err);
+            if let Err(fault) = ended {
+                let _ = explain(alloc, &task.request, &fault, &memory, err);
+            }
+            status
+        }
+    }
+}
+
+// The same with nothing told: standard output takes canonical bytes alone.
+fn answer_quietly<'a, F: Folder, O: Write>(
+    alloc: Global,
+    request: &Request<'a>,
+    files: &mut F,
+    out: &mut O,
+) -> Result<Status, Fault<'a>> {
+    match request {
+        Request::Canon { .. } => {
+            let ended = answer(alloc, request, files, out);
+            flushed(ended, out)
+        }
+        _ => answer(alloc, request, files, &mut io::sink()),
+    }
+}
+
+// The end, once all that was written to `out` is sent on.
+fn flushed<'a, O: Write>(ended: Result<Status, Fault<'a>>, out: &mut O) -> Result<Status, Fault<'a>>
+    ensures { (result ≡ ended.entry) ⊎ (result ≡ Err Fault.CannotPrint) }
+{
     match out.flush() {
-        Ok(()) => end(ended, err),
-        Err(_) => end(Err(Fault::CannotPrint), err),
+        Ok(()) => ended,
+        Err(_) => Err(Fault::CannotPrint),
     }
 }
 
@@ -74,10 +133,10 @@ fn answer<'a, F: Folder, O: Write>(
         } => check_sequence(alloc, files, out, source, *accepted, *options)?,
         Request::Canon {
             source,
-            target,
+            output,
             order,
             options,
-        } => canon(alloc, files, source, target, *order, *options)?,
+        } => canon(alloc, files, out, source, *output, *order, *options)?,
         Request::Show {
             source,
             layout,
@@ -94,7 +153,7 @@ fn answer<'a, F: Folder, O: Write>(
 }
 
 // Writes why the words give no request: help to `out`, a fault in them to `err`.
-fn explain<'a, O: Write, E: Write>(
+fn explain_words<'a, O: Write, E: Write>(
     error: &clap::Error,
     out: &mut O,
     err: &mut E,

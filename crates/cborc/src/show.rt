@@ -26,7 +26,7 @@ pub fn show<'a, F: Folder, O: Write>(
     options: Options,
 ) -> Result<(), Fault<'a>> {
     let limits = options.limits;
-    let bytes = input::read(alloc, files, source, options)?;
+    let bytes = input::read_item(alloc, files, source, options)?;
     let tree = tree_of(alloc, bytes.as_slice(), limits)?;
     print(&tree, layout, out)
 }

@@ -5,13 +5,16 @@ mod command_line;
 mod compare;
 mod disk;
 mod events;
+mod explained;
 mod failures;
 mod hex_text;
 mod items;
+mod quiet;
 mod refusals;
 mod scalars;
 mod sequences;
 mod show;
+mod streams;
 mod strict;
 
 use crate::folder::{FileFault, Folder};
@@ -19,8 +22,8 @@ use crate::run::run;
 use std::alloc::{AllocError, Global};
 use std::io::Write;
 
-// A folder with one file to read, which keeps what is written. The path `locked` fails, `full`
-// wants memory, and any other file is not there.
+// A folder with one file to read, which is standard input too, and which keeps what is written. The
+// path `locked` fails, `full` wants memory, and any other file is not there.
 #[derive(Drop)]
 struct Shelf<'a> {
     bytes: &'a [u8],
@@ -30,7 +33,7 @@ struct Shelf<'a> {
 impl<'a> Folder for Shelf<'a> {
     fn read(&mut self, alloc: Global, path: &str) -> Result<Vec<u8>, FileFault> {
         match path {
-            "in" => Vec::from_slice(alloc, self.bytes).map_err(|_| FileFault::Memory),
+            "in" | "-" => Vec::from_slice(alloc, self.bytes).map_err(|_| FileFault::Memory),
             "full" => Err(FileFault::Memory),
             _ => Err(FileFault::Failed),
         }

@@ -44,7 +44,19 @@ static CHECK_SEQUENCE: [&str; 5] = [
 ];
 
 // The words, and what standard error begins with.
-static FAULTS: [(&str, &str); 36] = [
+static FAULTS: [(&str, &str); 39] = [
+    (
+        "compare - -",
+        "error: standard input is read once: '-' may stand for A or for B\n",
+    ),
+    (
+        "check --quiet --explain in",
+        "error: the argument '--quiet' cannot be used with '--explain'\n",
+    ),
+    (
+        "--quiet check in",
+        "error: unexpected argument '--quiet' found\n",
+    ),
     (
         "",
         "error: 'cborc' requires a subcommand but one was not provided\n",
@@ -193,7 +205,29 @@ Commands:
   help     Print this message or the help of the given subcommand(s)
 
 Options:
-  -h, --help  Print help
+  -h, --help     Print help
+  -V, --version  Print version
+
+Accepted is one item of well-formed and valid CBOR (RFC 8949) in any spelling, but for floating-point
+numbers: integers, byte and text strings, arrays, maps without equal keys, tags, simple values. FILE,
+IN, A or B may be - for standard input, OUT for standard output.
+
+Status: 0 accepted or same, 1 refused or different, 2 a fault in the words, 3 where a file, its hex,
+the output or memory fails.
+
+Examples:
+  cborc show message.cbor
+  cborc events --hex message.hex
+  cborc check --strict --explain message.cbor
+  cborc canon message.cbor - | sha256sum
+  cborc compare old.cbor new.cbor
+";
+
+const VERSION: &str = "\
+cborc 0.1.0
+Orders of keys: bytewise (RFC 8949, section 4.2.1), length (section 4.2.3)
+Limits: depth 0 to 256, bytes 0 to 4611686018427387904
+Proved with rattle-kit-13b: each function is safe, returns, and meets its contract
 ";
 
 const HELP_OF_CANON: &str = "\
@@ -202,14 +236,17 @@ Writes the canonical bytes of the item in IN to OUT
 Usage: cborc canon [OPTIONS] <IN> <OUT>
 
 Arguments:
-  <IN>   The file to read: one item
-  <OUT>  The file to write
+  <IN>   The file to read: one item, or - for standard input
+  <OUT>  The file to write, or - for standard output
 
 Options:
+      --hex-out        Write hex digits, two for each byte, and a line feed
       --order <order>  The order of map keys [default: bytewise] [possible values: bytewise, length]
       --depth <count>  How deep arrays, maps and tags may nest, 0 to 256 [default: 256]
       --bytes <count>  How many bytes an item may have, 0 to 4611686018427387904 [default: 1048576]
       --hex            Read hex digits, two for each byte, white space ignored
+      --quiet          Answer by the status alone
+      --explain        Say behind a refusal or fault what it means, and where it is
   -h, --help           Print help
 ";
 
@@ -219,7 +256,7 @@ Checks that FILE is one valid item, or a sequence of them
 Usage: cborc check [OPTIONS] <FILE>
 
 Arguments:
-  <FILE>  The file to read
+  <FILE>  The file to read, or - for standard input
 
 Options:
       --strict         Accept canonical bytes alone
@@ -228,11 +265,15 @@ Options:
       --depth <count>  How deep arrays, maps and tags may nest, 0 to 256 [default: 256]
       --bytes <count>  How many bytes an item may have, 0 to 4611686018427387904 [default: 1048576]
       --hex            Read hex digits, two for each byte, white space ignored
+      --quiet          Answer by the status alone
+      --explain        Say behind a refusal or fault what it means, and where it is
   -h, --help           Print help
 ";
 
 // The words, and what stands on standard output.
-static HELPS: [(&str, &str); 10] = [
+static HELPS: [(&str, &str); 12] = [
+    ("--version", VERSION),
+    ("-V", "cborc 0.1.0\n"),
     ("--help", HELP),
     ("-h", HELP),
     ("help", HELP),

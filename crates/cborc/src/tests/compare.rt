@@ -17,7 +17,7 @@ impl<'a> Folder for Pair<'a> {
     fn read(&mut self, alloc: Global, path: &str) -> Result<Vec<u8>, FileFault> {
         let bytes = match path {
             "a" => self.a,
-            "b" => self.b,
+            "b" | "-" => self.b,
             "full" => return Err(FileFault::Memory),
             _ => return Err(FileFault::Failed),
         };
@@ -30,7 +30,7 @@ impl<'a> Folder for Pair<'a> {
 }
 
 // Runs the words of a line over two files that hold these bytes.
-fn compared(alloc: Global, line: &str, a: &[u8], b: &[u8]) -> Result<Outcome, AllocError> {
+pub fn compared(alloc: Global, line: &str, a: &[u8], b: &[u8]) -> Result<Outcome, AllocError> {
     let mut out = Vec::with_capacity(alloc, 2048)?;
     let mut err = Vec::with_capacity(alloc, 2048)?;
     let mut files = Pair { a, b };
@@ -207,13 +207,15 @@ Says whether the items in A and B have the same value
 Usage: cborc compare [OPTIONS] <A> <B>
 
 Arguments:
-  <A>  The first file to read: one item
-  <B>  The second file to read: one item
+  <A>  The first file to read: one item, or -
+  <B>  The second file to read: one item, or -
 
 Options:
       --depth <count>  How deep arrays, maps and tags may nest, 0 to 256 [default: 256]
       --bytes <count>  How many bytes an item may have, 0 to 4611686018427387904 [default: 1048576]
       --hex            Read hex digits, two for each byte, white space ignored
+      --quiet          Answer by the status alone
+      --explain        Say behind a refusal or fault what it means, and where it is
   -h, --help           Print help
 ";
 

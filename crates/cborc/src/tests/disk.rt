@@ -12,7 +12,7 @@ fn keeps_whole_files(rt: HostRuntime) -> io::Result<()> {
     let id = process::id(rt.process());
     let path = format!(in alloc; "{folder}/cborc-{id}")?;
     let inside = format!(in alloc; "{folder}/cborc-{id}/file")?;
-    let mut disk = Disk { rt: &rt };
+    let mut disk = Disk::new(&rt);
     assert!(rt; disk.read(alloc, path.as_str()) == Err(FileFault::Failed));
     assert!(rt; disk.write(inside.as_str(), b"\x00") == Err(FileFault::Failed));
     for bytes in [b"\x19\x03\xe8".as_slice(), b"\x00", b""] {

@@ -1,0 +1,145 @@
+//! `--explain`: what stands behind the line of a refusal or fault.
+
+use super::compare::compared;
+use super::{bytes_of, ran};
+use crate::explanation::{advice, meaning};
+use crate::visible::Visible;
+use cbor_head::Reason;
+use std::alloc::AllocError;
+
+const FLOAT: &str = "\
+refused 5 Float at 5
+  A floating-point number begins here; floats are not part of this profile.
+  Write it as an integer, a text, or a tag over integers.
+  bytes from 0: a1 61 61 82 00 f9 00 00
+                               ^^
+  at $.\"a\"[1]
+";
+
+const REPEATED: &str = "\
+refused 11 RepeatedKey at 4
+  This key is the same as an earlier key of its map.
+  Leave out one of the two pairs.
+  bytes from 0: a2 61 61 00 61 61 01
+                            ^^
+  at $, key 2 of the map at 0
+";
+
+const TRUNCATED: &str = "\
+refused 1 Truncated at 3
+  The input ends within the item.
+  Look whether the input was cut, or a length is wrong.
+  bytes from 0: d8 18 82
+                         ^^
+  at $(24)[0]
+";
+
+const TRAILING: &str = "\
+refused 12 Trailing at 19
+  The item is complete, and a byte follows it.
+  For several items in a row there is check --seq.
+  bytes from 11: 00 00 00 00 00 00 00 00 01
+                                         ^^
+  at $
+";
+
+const OF_SEQUENCE: &str = "\
+item 3 refused 7 StrayBreak at 1
+  A break (ff) stands where an item must begin.
+  Look whether a length is wrong, or the value of a key is missing.
+  bytes from 0: 81 ff
+                   ^^
+  at $[0]
+";
+
+const TEXT: &str = "\
+refused 10 InvalidText at 3
+  A text string, or a chunk of one, is not UTF-8 from here on.
+  Write the text in UTF-8, or its bytes as a byte string.
+  bytes from 0: 81 62 61 ff
+                         ^^
+  at $[0]
+";
+
+const OTHER_DIGIT: &str = "\
+not hex: in
+  With --hex the input is hex digits, two for each byte, and white space.
+  line 2, column 2: another byte (67)
+";
+
+const ODD: &str = "\
+not hex: in
+  With --hex the input is hex digits, two for each byte, and white space.
+  line 1, column 4: the last digit stands alone
+";
+
+// The words, the file as hex, and what stands on standard error.
+static EXPLAINED: [(&str, &str, &str); 7] = [
+    ("check --explain in", "a161618200f90000", FLOAT),
+    ("canon --explain in out", "a2616100616101", REPEATED),
+    ("show --explain in", "d81882", TRUNCATED),
+    (
+        "events --explain in",
+        "9200000000000000000000000000000000000001",
+        TRAILING,
+    ),
+    ("check --seq --explain in", "00820102 81ff", OF_SEQUENCE),
+    ("check --explain in", "816261ff", TEXT),
+    (
+        "check --explain absent",
+        "00",
+        "cannot read absent\n  The cause is not known.\n",
+    ),
+];
+
+#[test]
+fn explains_refusals(rt: HostRuntime) -> Result<(), AllocError> {
+    let alloc = rt.alloc();
+    for &(line, digits, wanted) in &EXPLAINED {
+        let digits = digits.split_whitespace();
+        let mut joined = String::new(alloc);
+        for part in digits {
+            joined.push_str(part)?;
+        }
+        let bytes = bytes_of(alloc, joined.as_str())?;
+        let ran = ran(alloc, line, bytes.as_slice())?;
+        assert_eq!(rt; ran.err.as_slice(), wanted.as_bytes(), "{line}");
+    }
+    Ok(())
+}
+
+#[test]
+fn explains_text_that_is_no_hex(rt: HostRuntime) -> Result<(), AllocError> {
+    for (text, wanted) in [("00\n0g", OTHER_DIGIT), ("00 ", ""), ("000", ODD)] {
+        let ran = ran(rt.alloc(), "check --explain --hex in", text.as_bytes())?;
+        assert_eq!(rt; ran.err.as_slice(), wanted.as_bytes(), "{text}");
+    }
+    Ok(())
+}
+
+#[test]
+fn explains_either_side(rt: HostRuntime) -> Result<(), AllocError> {
+    let alloc = rt.alloc();
+    let left = compared(alloc, "compare --explain a b", b"\x1f", b"\x00")?;
+    let shown = b"bytes from 0: 1f\n".as_slice();
+    assert!(rt; left.err.windows(shown.len()).any(|part| part == shown));
+    let right = compared(alloc, "compare --explain a b", b"\x00", b"\x1e")?;
+    let shown = b"bytes from 0: 1e\n".as_slice();
+    assert!(rt; right.err.windows(shown.len()).any(|part| part == shown));
+    Ok(())
+}
+
+#[test]
+fn shows_control_characters(rt: HostRuntime) -> Result<(), AllocError> {
+    let path = Visible("a\u{1b}\n\u{7f}é");
+    let shown = format!(in rt.alloc(); "{path}")?;
+    assert!(rt; shown.as_str() == "a\\u001b\\u000a\\u007fé");
+    Ok(())
+}
+
+#[test]
+fn has_a_sentence_for_each_reason(rt: HostRuntime) {
+    for reason in [Reason::Truncated, Reason::BadChunk, Reason::Memory] {
+        assert!(rt; !meaning(reason).is_empty() && !advice(reason).is_empty());
+    }
+}

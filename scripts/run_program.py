@@ -1,0 +1,173 @@
+#!/usr/bin/env python3
+"""Runs the built program as a user does, and holds the man page and the completions against its help.
+
+    scripts/run_program.py [PROGRAM]
+
+builds crates/cborc/out/cborc by `rt run` where no program is given.
+"""
+
+import os
+import re
+import stat
+import subprocess
+import sys
+import tempfile
+
+ROOT = os.path.dirname(os.path.dirname(os.path.abspath(__file__)))
+COMMANDS = ["show", "events", "check", "canon", "compare"]
+faults = []
+
+
+def built():
+    folder = os.path.join(ROOT, "crates", "cborc")
+    made = subprocess.run(["rt", "run", "--", "--version"], cwd=folder, capture_output=True)
+    if made.returncode != 0:
+        sys.exit(made.stdout.decode() + made.stderr.decode())
+    return os.path.join(folder, "out", "cborc")
+
+
+def run(words, given=b"", **more):
+    return subprocess.run([PROGRAM, *words], input=given, capture_output=True, cwd=FOLDER, **more)
+
+
+def expect(name, ended, status, out=b"", err=b""):
+    found = (ended.returncode, ended.stdout, ended.stderr)
+    if found != (status, out, err):
+        faults.append(f"{name}: wanted {(status, out, err)}, found {found}")
+
+
+def write(name, data):
+    path = os.path.join(FOLDER, name)
+    with open(path, "wb") as file:
+        file.write(data)
+    return path
+
+
+def holds(name, data, files):
+    with open(os.path.join(FOLDER, name), "rb") as file:
+        found = file.read()
+    if found != data:
+        faults.append(f"{name} holds {found!r}, and not {data!r}")
+    if sorted(os.listdir(FOLDER)) != sorted(files):
+        faults.append(f"files are {sorted(os.listdir(FOLDER))}, and not {sorted(files)}")
+
+
+def words():
+    if run([]).returncode != 2 or run([]).stdout != b"":
+        faults.append("no word: status 2 and no output wanted")
+    if run(["check", "--bytes", "x", "-"]).returncode != 2:
+        faults.append("a wrong word: status 2 wanted")
+    if run(["compare", "-", "-"]).returncode != 2:
+        faults.append("standard input twice: status 2 wanted")
+    version = run(["--version"])
+    if version.returncode != 0 or not version.stdout.startswith(b"cborc 0.1.0\n"):
+        faults.append("--version")
+
+
+def streams():
+    expect("check of a stream", run(["check", "-"], b"\x18\x00"), 0, b"accepted 2 bytes\n")
+    expect("canon through", run(["canon", "-", "-"], b"\x9f\x18\x00\xff"), 0, b"\x81\x00")
+    expect("hex out", run(["canon", "--hex-out", "-", "-"], b"\xbf\xff"), 0, b"a0\n")
+    expect("quiet", run(["check", "--quiet", "-"], b"\xff"), 1)
+    expect("quiet canon", run(["canon", "--quiet", "-", "-"], b"\x18\x00"), 0, b"\x00")
+    expect("refused", run(["show", "-"], b"\xf9"), 1, b"", b"refused 5 Float at 0\n")
+    with open("/dev/zero", "rb") as endless:
+        ended = subprocess.run([PROGRAM, "check", "-"], stdin=endless, capture_output=True, timeout=20)
+    expect("no end", ended, 1, b"", b"refused 12 Trailing at 1\n")
+    with open(write("kept", b"x"), "ab") as end:
+        subprocess.run([PROGRAM, "canon", "-", "-"], input=b"\x18\x00", stdout=end)
+    holds("kept", b"x\x00", ["kept"])
+    os.remove(os.path.join(FOLDER, "kept"))
+
+
+def outputs_that_fail():
+    line = b"cannot write standard output\n"
+    with open("/dev/full", "wb") as full:
+        for command in (["check", "-"], ["canon", "-", "-"]):
+            ended = subprocess.run([PROGRAM, *command], input=b"\x00", stdout=full, stderr=subprocess.PIPE)
+            expect(f"{command} to a full device", ended, 3, None, line)
+    expect("OUT is a full device", run(["canon", "-", "/dev/full"], b"\x00"), 3, b"", b"cannot write /dev/full\n")
+    reading, writing = os.pipe()
+    os.close(reading)
+    ended = subprocess.run([PROGRAM, "check", "-"], input=b"\x00", stdout=writing, stderr=subprocess.PIPE)
+    os.close(writing)
+    expect("a closed pipe", ended, 3, None, line)
+
+
+def files():
+    expect("no such file", run(["check", "absent"]), 3, b"", b"cannot read absent\n")
+    expect("a path with a line feed", run(["check", "a\nb"]), 3, b"", b"cannot read a\\u000ab\n")
+    expect("no such folder", run(["canon", "-", "absent/out"], b"\x00"), 3, b"", b"cannot write absent/out\n")
+    path = write("item", b"\x18\x00")
+    os.chmod(path, 0o640)
+    os.symlink("item", os.path.join(FOLDER, "link"))
+    here = ["item", "link"]
+    expect("IN is OUT", run(["canon", "item", "item"]), 0)
+    holds("item", b"\x00", here)
+    expect("OUT is a link", run(["canon", "-", "link"], b"\x9f\xff"), 0)
+    holds("item", b"\x80", here)
+    if not os.path.islink(os.path.join(FOLDER, "link")):
+        faults.append("the link was replaced")
+    if stat.S_IMODE(os.stat(path).st_mode) != 0o640:
+        faults.append(f"permissions are {os.stat(path).st_mode:o}")
+    expect("a refusal", run(["canon", "-", "item"], b"\xff"), 1, b"", b"refused 7 StrayBreak at 0\n")
+    holds("item", b"\x80", here)
+    limit = lambda: __import__("resource").setrlimit(__import__("resource").RLIMIT_FSIZE, (1, 1))
+    ended = run(["canon", "-", "item"], b"\x82\x00\x00", preexec_fn=limit)
+    if ended.returncode == 0:
+        faults.append("a write past the limit of a file's size: no status 0 wanted")
+    holds("item", b"\x80", here)
+    expect("a new file", run(["canon", "-", "new"], b"\x00"), 0)
+    holds("new", b"\x00", here + ["new"])
+
+
+def explained():
+    ended = run(["check", "--explain", "-"], b"\xa1\x61a\x82\x00\xf9\x00\x00")
+    lines = b"""refused 5 Float at 5
+  A floating-point number begins here; floats are not part of this profile.
+  Write it as an integer, a text, or a tag over integers.
+  bytes from 0: a1 61 61 82 00 f9 00 00
+"""
+    wanted = lines + b" " * 31 + b'^^\n  at $."a"[1]\n'
+    expect("an explanation", ended, 1, b"", wanted)
+
+
+def options_of(command):
+    """The long options that the program's own help names."""
+    text = run([command, "--help"] if command else ["--help"]).stdout.decode()
+    return set(re.findall(r"^ +(?:-\w, )?(--[a-z-]+)", text, re.M))
+
+
+def pages():
+    def text(name):
+        with open(os.path.join(ROOT, "share", name)) as file:
+            return file.read().replace("\\-", "-")
+
+    known = options_of(None).union(*(options_of(command) for command in COMMANDS))
+    for name in ("cborc.1", "cborc.bash", "_cborc", "cborc.fish"):
+        page = text(name)
+        found = set(re.findall(r"(?<![\w-])--[a-z][a-z-]*", page))
+        if name == "cborc.fish":
+            found = {"--" + word for word in re.findall(r" -l ([a-z-]+)", page)}
+        if found != known:
+            faults.append(f"share/{name}: options differ by {sorted(found ^ known)}")
+        for command in COMMANDS:
+            if not re.search(rf"\b{command}\b", page):
+                faults.append(f"share/{name} lacks {command}")
+    for shell in ("bash", "zsh", "fish"):
+        name = {"bash": "cborc.bash", "zsh": "_cborc", "fish": "cborc.fish"}[shell]
+        path = os.path.join(ROOT, "share", name)
+        if any(os.access(os.path.join(at, shell), os.X_OK) for at in os.environ["PATH"].split(":")):
+            if subprocess.run([shell, "-n", path], capture_output=True).returncode != 0:
+                faults.append(f"share/{name}: {shell} cannot read it")
+
+
+PROGRAM = os.path.abspath(sys.argv[1]) if len(sys.argv) > 1 else built()
+with tempfile.TemporaryDirectory() as FOLDER:
+    for part in (words, streams, outputs_that_fail, files, explained, pages):
+        part()
+for fault in faults:
+    print("program:", fault)
+if faults:
+    sys.exit(1)
+print("program: as its words say")

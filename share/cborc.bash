@@ -1,0 +1,25 @@
+# Completion of cborc for bash: source this file, or copy it as cborc to bash-completion's folder.
+_cborc() {
+    local word=${COMP_WORDS[COMP_CWORD]} before=${COMP_WORDS[COMP_CWORD-1]} command=${COMP_WORDS[1]}
+    local shared="--depth --bytes --hex --quiet --explain --help"
+    COMPREPLY=()
+    if ((COMP_CWORD == 1)); then
+        COMPREPLY=($(compgen -W "show events check canon compare help --help --version" -- "$word"))
+        return
+    fi
+    case $before in
+        --order) COMPREPLY=($(compgen -W "bytewise length" -- "$word")); return ;;
+        --depth | --bytes) return ;;
+    esac
+    if [[ $word != -?* ]]; then
+        COMPREPLY=($(compgen -f -- "$word"))
+        return
+    fi
+    case $command in
+        show) COMPREPLY=($(compgen -W "--indent $shared" -- "$word")) ;;
+        check) COMPREPLY=($(compgen -W "--strict --seq --order $shared" -- "$word")) ;;
+        canon) COMPREPLY=($(compgen -W "--hex-out --order $shared" -- "$word")) ;;
+        events | compare) COMPREPLY=($(compgen -W "$shared" -- "$word")) ;;
+    esac
+}
+complete -o filenames -F _cborc cborc
