@@ -76,6 +76,14 @@ module _ (d n : ℕ) (input rest : List ℕ) (v : Value) (size : ℕ) (a : IsRea
         made ∙ ap (canonical o) a.value,
       )
 
+  pub all-of-it : true ≡ (length rest == 0) → (s : Spelling) × IsValidItem d n input s × (v ≡ value_of s)
+  all-of-it all =
+      let ends : length input ≤ length (spell a.read.item) = omega (arith, a.read.size, behind, none-left (length rest) all) in (
+        a.read.item,
+        valid_item d n input a.read.item a.read.verdict (item_is_whole d n plain input a.read.item a.read.verdict ends),
+        a.value,
+      )
+
 -- ---- the refusal of an item, and that of its canonical bytes
 
 pub item_refused : (d n : ℕ) (o : KeyOrder) (input : List ℕ) (f : Refusal) → IsItemRefusal d n input f → IsRefusal d n o input f

@@ -41,7 +41,7 @@ pub(crate) fn encoded_item(
 }
 
 // A refusal by a reader that does not fail: a slice doesn't, though `Read` can't say so.
-fn of_slice(refusal: Refusal) -> Refusal
+pub(crate) fn of_slice(refusal: Refusal) -> Refusal
     ensures { (d n : ℕ) (input : List ℕ)
         → IsUnread d n plain input refusal → IsItemRefusal d n input result }
 {
