@@ -28,7 +28,7 @@ HEADLINE = {("cbor_reader", "canonicalise"), ("cbor_reader", "read_strict")}
 
 # How many names a crate still takes from inner words of the crates below it. The
 # number may fall, and may not rise.
-DEBT_ALLOWED = {"cbor_reader": 31, "cbor_diag": 2, "cborc": 0}
+DEBT_ALLOWED = {"cbor_reader": 31, "cbor_diag": 2, "cborc": 0, "naltvigo": 0}
 
 NAME = re.compile(r"[^\s(){}\[\],;]+")
 IMPORT = re.compile(r"^(?:pub )?use (Rattle\.[^\s.{]+(?:\.[^\s.{]+)*)(?:\.\{(.*)\}| as (\S+))?$")
@@ -184,7 +184,7 @@ def parse_source(path, crate, names, modules):
     owner, owner_end = None, -1
     pattern = re.compile(
         r"(?P<impl>\bimpl\b[^;{]*\{)|(?P<trait>\bpub trait (?P<traitname>\w+)[^;{]*\{)"
-        r"|(?P<fn>(?P<pub>pub (?:const )?)?(?:final )?(?:const )?\bfn (?P<name>\w+))"
+        r"|(?P<fn>(?P<pub>pub (?:const )?)?(?:final )?(?:const )?(?:extern \"C\" )?\bfn (?P<name>\w+))"
         r"|(?P<ghost>\bghost (?P<ghostname>\w+)\s*(?:=|:)\s*\{)"
     )
     while True:

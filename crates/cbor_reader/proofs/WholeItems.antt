@@ -77,6 +77,14 @@ module _ (d n : ℕ) (input rest : List ℕ) (v : Value) (size : ℕ) (a : IsRea
         made ∙ ap (canonical o) a.value,
       )
 
+  pub all-of-it : true ≡ (length rest == 0) → (s : Spelling) × IsValidItem d n input s × (v ≡ value_of s)
+  all-of-it all =
+      let ends : length input ≤ length (spell a.read.item) = omega (arith, a.read.size, behind, none-left (length rest) all) in (
+        a.read.item,
+        valid_item d n input a.read.item a.read.verdict (item_is_whole d n plain input a.read.item a.read.verdict ends),
+        a.value,
+      )
+
 -- ---- behind an item that was built
 
 module _ (d n : ℕ) (o : KeyOrder) (input out : List ℕ) (size : ℕ) (f : IsBuiltFront d n o input out size) where

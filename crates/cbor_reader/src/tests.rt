@@ -6,6 +6,7 @@ mod keys;
 mod sequence;
 mod sizes;
 mod slice;
+mod whole;
 
 use cbor_head::Limits;
 use std::alloc::Global;

@@ -1,0 +1,129 @@
+/* library FOLDER NAME..: times calls of naltvigo.h in process on FOLDER/NAME.cbor and its canonical bytes
+ * FOLDER/NAME.bytewise, beside plain C (floor.c) and, where it is there, libcbor; prints a row of a Markdown
+ * table for each, in MB/s of processor time, the best of some calls. */
+#define _POSIX_C_SOURCE 199309L
+#include "floor.h"
+
+#include <naltvigo.h>
+#include <stdio.h>
+#include <stdlib.h>
+#include <string.h>
+#include <time.h>
+#ifdef HAS_LIBCBOR
+#include <cbor.h>
+#endif
+
+struct bytes {
+    uint8_t *at;
+    size_t length;
+};
+
+static struct bytes slurp(const char *folder, const char *name, const char *ending) {
+    char path[512];
+    snprintf(path, sizeof path, "%s/%s.%s", folder, name, ending);
+    FILE *file = fopen(path, "rb");
+    if (!file) perror(path), exit(3);
+    fseek(file, 0, SEEK_END);
+    struct bytes it = {NULL, (size_t)ftell(file)};
+    rewind(file);
+    it.at = malloc(it.length + 1);
+    if (!it.at || fread(it.at, 1, it.length, file) != it.length) exit(3);
+    fclose(file);
+    return it;
+}
+
+static double now(void) {
+    struct timespec t;
+    clock_gettime(CLOCK_PROCESS_CPUTIME_ID, &t);
+    return (double)t.tv_sec + 1e-9 * (double)t.tv_nsec;
+}
+
+static struct bytes in, canonical, out;
+static struct naltvigo_refusal why;
+
+static int canonicalise(void) {
+    size_t needed;
+    uint32_t s = naltvigo_canonicalise(in.at, in.length, 0, 256, NALTVIGO_BYTES_MAX, out.at, out.length, &needed, &why);
+    return s == NALTVIGO_OK && needed == canonical.length && memcmp(out.at, canonical.at, needed) == 0;
+}
+static int plain_canonicalise(void) {
+    uint8_t *made;
+    size_t length;
+    if (!floor_canonicalise(in.at, in.length, &made, &length)) return 0;
+    int same = length == canonical.length && memcmp(made, canonical.at, length) == 0;
+    free(made);
+    return same;
+}
+static int check_canonical(void) {
+    return naltvigo_check_canonical(canonical.at, canonical.length, 0, 256, NALTVIGO_BYTES_MAX, &why) == NALTVIGO_OK;
+}
+static int plain_check_canonical(void) { return floor_strict(canonical.at, canonical.length); }
+static int check_valid(void) { return naltvigo_check_valid(in.at, in.length, 256, NALTVIGO_BYTES_MAX, &why) == NALTVIGO_OK; }
+static int compare(void) {
+    uint32_t side;
+    return naltvigo_compare(in.at, in.length, canonical.at, canonical.length, 256, NALTVIGO_BYTES_MAX, &side, &why) == NALTVIGO_OK;
+}
+#ifdef HAS_LIBCBOR
+static int load(int again) {
+    struct cbor_load_result result;
+    cbor_item_t *item = cbor_load(in.at, in.length, &result);
+    if (!item) return 0;
+    unsigned char *made = NULL;
+    size_t room, length = again ? cbor_serialize_alloc(item, &made, &room) : 1;
+    free(made);
+    cbor_decref(&item);
+    return length > 0;
+}
+static int libcbor_load(void) { return load(0); }
+static int libcbor_again(void) { return load(1); }
+#endif
+
+/* Prints how many MB/s a call takes of so many bytes, or that it answers anything else than is due. */
+static void tell(int (*call)(void), size_t length) {
+    double best = 1e9, spent = 0;
+    for (int turn = 0; turn < 5 || (spent < 0.1 && turn < 1000); turn++) {
+        double from = now();
+        if (!call()) {
+            printf(" - |");
+            return;
+        }
+        double took = now() - from;
+        spent += took;
+        if (took < best) best = took;
+    }
+    printf(" %.1f |", (double)length / best / 1e6);
+    fflush(stdout);
+}
+
+int main(int count, char **words) {
+    printf("| input | bytes | `canonicalise` | plain C | `check_canonical` | plain C | `check_valid` | `compare` |");
+#ifdef HAS_LIBCBOR
+    printf(" libcbor, load | load and serialise |");
+#endif
+    printf("\n| --- | ---: | ---: | ---: | ---: | ---: | ---: | ---: |");
+#ifdef HAS_LIBCBOR
+    printf(" ---: | ---: |");
+#endif
+    puts("");
+    for (int i = 2; i < count; i++) {
+        in = slurp(words[1], words[i], "cbor");
+        canonical = slurp(words[1], words[i], "bytewise");
+        out.length = 2 * in.length + 64;
+        out.at = malloc(out.length);
+        if (!out.at) return 3;
+        printf("| %s | %zu |", words[i], in.length);
+        tell(canonicalise, in.length);
+        tell(plain_canonicalise, in.length);
+        tell(check_canonical, canonical.length);
+        tell(plain_check_canonical, canonical.length);
+        tell(check_valid, in.length);
+        tell(compare, in.length);
+#ifdef HAS_LIBCBOR
+        tell(libcbor_load, in.length);
+        tell(libcbor_again, in.length);
+#endif
+        puts("");
+        free(in.at), free(canonical.at), free(out.at);
+    }
+    return 0;
+}

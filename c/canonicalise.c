@@ -1,0 +1,21 @@
+/* canonicalise FILE: writes the canonical bytes of the item in FILE to standard output. */
+#include <naltvigo.h>
+#include <stdio.h>
+
+enum { LIMIT = 1 << 20 };
+static uint8_t in[LIMIT + 1], out[LIMIT];
+
+int main(int count, char **words) {
+    FILE *file = count == 2 ? fopen(words[1], "rb") : NULL;
+    if (!file) return fprintf(stderr, "usage: canonicalise FILE\n"), 2;
+    size_t length = fread(in, 1, sizeof in, file), needed;
+    struct naltvigo_refusal why;
+    uint32_t status = naltvigo_canonicalise(in, length, NALTVIGO_BYTEWISE, 64, LIMIT, out, sizeof out, &needed, &why);
+    if (status == NALTVIGO_OK) return fwrite(out, 1, needed, stdout) != needed;
+    char name[NALTVIGO_NAME_MAX];
+    if (status == NALTVIGO_REFUSED) {
+        size_t letters = naltvigo_reason_name(why.reason, name, sizeof name);
+        fprintf(stderr, "refused %d %.*s at %llu\n", (int)why.reason, (int)letters, name, (unsigned long long)why.place);
+    }
+    return (int)status;
+}

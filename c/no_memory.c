@@ -1,0 +1,86 @@
+/* Refuses the Nth malloc or realloc of each call for each N, and counts what is given back. Linked with
+ * --wrap=malloc,realloc,free. */
+#include "naltvigo.h"
+
+#include <stdio.h>
+#include <string.h>
+
+void *__real_malloc(size_t n);
+void *__real_realloc(void *p, size_t n);
+void __real_free(void *p);
+
+static long left = -1, taken, live;
+
+static int is_refused(void) { return left == 0 || (left > 0 && --left == 0); }
+
+void *__wrap_malloc(size_t n) {
+    if (is_refused()) return NULL;
+    taken++, live++;
+    return __real_malloc(n);
+}
+
+void *__wrap_realloc(void *p, size_t n) {
+    if (is_refused()) return NULL;
+    taken++;
+    live += p == NULL;
+    return __real_realloc(p, n);
+}
+
+void __wrap_free(void *p) {
+    live -= p != NULL;
+    __real_free(p);
+}
+
+/* {_ "Fun": [_ 1, h'0102', {3: 4, 2: 5}], "Amt": -2, "b": (_ "st", "ream")}, and a key that is no scalar */
+static const uint8_t in[] = {0xbf, 0x63, 'F',  'u', 'n', 0x9f, 0x01, 0x42, 1,   2,    0xa2, 3,    4,    2,    5,   0xff, 0x63, 'A', 'm',
+                             't',  0x21, 0x61, 'b', 0x7f, 0x62, 's',  't',  0x64, 'r', 'e',  'a',  'm',  0xff, 0xa1, 2,   3,    4,   0xff};
+static uint8_t out[128];
+static size_t needed;
+static uint32_t side;
+static struct naltvigo_refusal why;
+
+static uint32_t canonicalise(void) { return naltvigo_canonicalise(in, sizeof in, 0, 256, 1000, out, sizeof out, &needed, &why); }
+static uint32_t length_first(void) { return naltvigo_canonicalise(in, sizeof in, 1, 256, 1000, out, sizeof out, &needed, &why); }
+static uint32_t check_valid(void) { return naltvigo_check_valid(in, sizeof in, 256, 1000, &why); }
+static uint32_t compare(void) { return naltvigo_compare(in, sizeof in, in, sizeof in, 256, 1000, &side, &why); }
+static uint32_t diagnostic(void) { return naltvigo_diagnostic(in, sizeof in, 256, 1000, (char *)out, sizeof out, &needed, &why); }
+static uint32_t check_canonical(void) { return naltvigo_check_canonical(in, sizeof in, 0, 256, 1000, &why); }
+
+static int refuse_each(const char *name, uint32_t (*call)(void), uint32_t status) {
+    uint8_t before[sizeof out], answer[sizeof out];
+    const struct naltvigo_refusal unset = {0, 0, 0};
+    taken = live = 0, left = -1;
+    memset(out, 0xaa, sizeof out);
+    memcpy(before, out, sizeof out);
+    needed = 0;
+    int bad = call() != status || live != 0;
+    size_t length = needed;
+    memcpy(answer, out, sizeof out);
+    long whole = taken, refusals = 0;
+    for (long n = 1; n <= whole + 1; n++) {
+        memset(out, 0xaa, sizeof out);
+        why = unset, needed = 0, left = n;
+        uint32_t s = call();
+        left = -1;
+        bad |= live != 0;
+        if (n > whole) {
+            bad |= s != status || needed != length || memcmp(out, answer, sizeof out) != 0;
+        } else {
+            refusals++;
+            bad |= s != NALTVIGO_NO_MEMORY || why.reason != NALTVIGO_MEMORY || why.place != why.read || why.read > sizeof in;
+            bad |= memcmp(out, before, sizeof out) != 0 || needed != 0;
+        }
+    }
+    printf("%-16s %3ld requests, each refused in turn: %s\n", name, refusals, bad ? "WRONG" : "as said, nothing is lost");
+    return bad;
+}
+
+int main(void) {
+    int bad = refuse_each("canonicalise", canonicalise, NALTVIGO_OK);
+    bad |= refuse_each("length first", length_first, NALTVIGO_OK);
+    bad |= refuse_each("check_valid", check_valid, NALTVIGO_OK);
+    bad |= refuse_each("compare", compare, NALTVIGO_OK);
+    bad |= refuse_each("diagnostic", diagnostic, NALTVIGO_OK);
+    bad |= refuse_each("check_canonical", check_canonical, NALTVIGO_REFUSED);
+    return bad || taken != 0;
+}

@@ -1,0 +1,100 @@
+/* Measures the stack that each call needs, on a thread whose stack was painted before, over items that nest
+ * to the depth that the call is passed; prints the most, and fails where it is more than the header says. */
+#include "naltvigo.h"
+
+#include <pthread.h>
+#include <stdio.h>
+#include <stdlib.h>
+#include <string.h>
+
+enum { STACK = 4 << 20, PAINT = 0xa5, CALLS = 5 };
+
+static const char *const names[CALLS] = {"canonicalise", "check_canonical", "check_valid", "compare", "diagnostic"};
+static uint8_t in[16384], out[65536];
+static size_t length;
+static uint32_t depth;
+static int call;
+
+static void *work(void *unused) {
+    struct naltvigo_refusal why;
+    size_t needed;
+    uint32_t side;
+    switch (call) {
+    case 0: naltvigo_canonicalise(in, length, 0, depth, 1 << 20, out, sizeof out, &needed, &why); break;
+    case 1: naltvigo_check_canonical(in, length, 0, depth, 1 << 20, &why); break;
+    case 2: naltvigo_check_valid(in, length, depth, 1 << 20, &why); break;
+    case 3: naltvigo_compare(in, length, in, length, depth, 1 << 20, &side, &why); break;
+    default: naltvigo_diagnostic(in, length, depth, 1 << 20, (char *)out, sizeof out, &needed, &why);
+    }
+    return unused;
+}
+
+static void *nothing(void *unused) { return unused; }
+
+/* What a thread that does this writes of its stack. */
+static size_t written_by(void *(*start)(void *)) {
+    pthread_attr_t attributes;
+    pthread_t thread;
+    uint8_t *stack;
+    size_t i = 0;
+    if (posix_memalign((void **)&stack, 4096, STACK)) abort();
+    memset(stack, PAINT, STACK);
+    pthread_attr_init(&attributes);
+    if (pthread_attr_setstack(&attributes, stack, STACK) || pthread_create(&thread, &attributes, start, NULL)) abort();
+    pthread_join(thread, NULL);
+    while (i < STACK && stack[i] == PAINT) i++;
+    free(stack);
+    return STACK - i;
+}
+
+static void put(const char *bytes, size_t count, size_t times) {
+    for (; times; times--, length += count) memcpy(in + length, bytes, count);
+}
+
+/* An item that nests so deep; 0 where there is no further one. */
+static int make(int shape, size_t levels) {
+    static const uint8_t zeros[2048];
+    length = 0;
+    switch (shape) {
+    case 0: put("\x81", 1, levels), put("\0", 1, 1); break;
+    case 1: put("\xc1", 1, levels), put("\0", 1, 1); break;
+    case 2: put("\xa1\0", 2, levels), put("\0", 1, 1); break;
+    case 3: put("\xa1", 1, levels), put("\0", 1, levels + 1); break;
+    case 4: put("\x9f", 1, levels), put("\0", 1, 1), put("\xff", 1, levels); break;
+    case 5: put("\xbf\0", 2, levels), put("\0", 1, 1), put("\xff", 1, levels); break;
+    case 6: put("\xbf", 1, levels), put("\0", 1, 1); for (size_t i = 0; i < levels; i++) put("\0\xff", 2, 1); break;
+    case 7: put("\x81", 1, levels), put("\x79\x08\0", 3, 1), put((const char *)zeros, 2048, 1); break;
+    case 8: put("\x81", 1, levels), put("\x7f\x79\x08\0", 4, 1), put((const char *)zeros, 2048, 1), put("\xff", 1, 1); break;
+    case 9: put("\x81", 1, levels), put("\x59\x08\0", 3, 1), put((const char *)zeros, 2048, 1); break;
+    case 10: put("\xa1", 1, levels), put("\xf9", 1, 1); break;
+    default: return 0;
+    }
+    return 1;
+}
+
+int main(void) {
+    int bad = 0;
+    size_t thread = written_by(nothing);
+    printf("%-16s", "depth");
+    for (int i = 0; i < CALLS; i++) printf(" %15s", names[i]);
+    puts("   (bytes of stack)");
+    static const uint32_t depths[] = {0, 16, 32, 64, 256};
+    for (size_t k = 0; k < sizeof depths / sizeof *depths; k++) {
+        size_t most[CALLS] = {0};
+        depth = depths[k];
+        for (int shape = 0; make(shape, depth); shape++)
+            for (call = 0; call < CALLS; call++) {
+                size_t written = written_by(work) - thread;
+                if (written > most[call]) most[call] = written;
+            }
+        printf("%-16u", (unsigned)depth);
+        for (int i = 0; i < CALLS; i++) {
+            printf(" %15zu", most[i]);
+            size_t said = NALTVIGO_STACK + (size_t)depth * NALTVIGO_STACK_A_LEVEL;
+            bad |= most[i] > (i == 1 ? NALTVIGO_STACK_CHECK_CANONICAL : said);
+        }
+        puts("");
+    }
+    if (bad) puts("WRONG: more than naltvigo.h says");
+    return bad;
+}

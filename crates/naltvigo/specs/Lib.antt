@@ -1,0 +1,6 @@
+pub mod Checking
+pub mod Comparing
+pub mod Diagnosing
+pub mod inner
+pub mod Settings
+pub mod Told

@@ -1,0 +1,24 @@
+//! Answers in a buffer of the caller's.
+
+ghost use Rattle.std.specs.Prelude.{◌≡◌, ◌⊎◌, ◌<◌, ◌≤◌, length, take, drop};
+
+use crate::status::{OK, TOO_SMALL};
+
+// Puts the answer at the front of the buffer, if that has room, and tells its length either way.
+pub(crate) fn give(answer: &[u8], out: &mut [u8], needed: &mut usize) -> u32
+    ensures needed { needed.new ≡ length answer.now }
+    ensures status { (result ≡ OK) ⊎ (result ≡ TOO_SMALL) }
+    ensures given { result ≡ OK → (take (length answer.now) out.new ≡ answer.now)
+        × (length answer.now ≤ length out.old) }
+    ensures too_small { result ≡ TOO_SMALL → (length out.old < length answer.now)
+        × (out.new ≡ out.old) }
+    ensures behind { drop (length answer.now) out.new ≡ drop (length answer.now) out.old }
+{
+    let count = answer.len();
+    *needed = count;
+    if count > out.len() {
+        return TOO_SMALL;
+    }
+    out[..count].copy_from_slice(answer);
+    OK
+}

@@ -1,0 +1,75 @@
+//! Canonical bytes into a buffer of the caller's.
+
+ghost use Rattle.std.specs.Prelude.{◌≡◌, ◌≢◌, ◌↔◌, ◌<◌, ◌≤◌, ℕ, List, length, take, drop};
+ghost use Rattle.cbor_head.specs.Canonical.{canonical};
+ghost use Rattle.cbor_head.specs.Limits.{bounds, AreBounds};
+ghost use Rattle.cbor_head.specs.Spelling.{Spelling, value_of};
+ghost use Rattle.cbor_reader.specs.Canonicalise.{IsCanonicalOf, TellsItsValue};
+ghost use Rattle.cbor_reader.specs.Headline.{IsValidItem};
+ghost use Rattle.naltvigo.specs.Settings.{key_order};
+ghost use Rattle.naltvigo.specs.Told.{IsRefused, LacksMemory};
+
+use crate::buffer::give;
+use crate::settings::{limits_of, order_numbered};
+use crate::status::{
+    BAD_LIMITS, BAD_ORDER, NO_MEMORY, NaltvigoRefusal, OK, REFUSED, TOO_SMALL, tell,
+};
+use cbor_reader::canonicalise;
+use std::alloc::Global;
+
+/// Writes the canonical bytes of the one valid item that `input` is to the front of `out`.
+///
+/// `needed` becomes their count where the answer is `OK` or `TOO_SMALL`, else 0, and `refusal` is
+/// filled where it is `REFUSED` or `NO_MEMORY`. But for `OK`, `out` keeps its bytes.
+#[unsafe(no_mangle)]
+pub extern "C" fn naltvigo_canonicalise_raw(
+    alloc: Global,
+    input: &[u8],
+    order: u32,
+    depth: u32,
+    bytes: u64,
+    out: &mut [u8],
+    needed: &mut usize,
+    refusal: &mut NaltvigoRefusal,
+) -> u32
+    ensures written { result ≡ OK → IsCanonicalOf depth bytes (key_order order)
+        input.now (take needed.new out.new) }
+    ensures accepted { result ≡ OK → (s : Spelling) × IsValidItem depth bytes input.now s
+        × (take needed.new out.new ≡ canonical (key_order order) (value_of s))
+        × (needed.new ≤ bytes) }
+    ensures equal { result ≡ OK → TellsItsValue depth (key_order order)
+        input.now (take needed.new out.new) }
+    ensures again { result ≡ OK → IsCanonicalOf depth bytes (key_order order)
+        (take needed.new out.new) (take needed.new out.new) }
+    ensures room { result ≡ OK → needed.new ≤ length out.old }
+    ensures too_small { result ≡ TOO_SMALL → (x : List ℕ)
+        × IsCanonicalOf depth bytes (key_order order) input.now x
+        × (needed.new ≡ length x) × (length out.old < length x) }
+    ensures refused { result ≡ REFUSED → IsRefused depth bytes (key_order order)
+        input.now refusal.new }
+    ensures none { result ≡ REFUSED → (s : Spelling) → IsValidItem depth bytes input.now s
+        → bytes < length (canonical (key_order order) (value_of s)) }
+    ensures no_memory { result ≡ NO_MEMORY → LacksMemory depth bytes (key_order order)
+        input.now refusal.new }
+    ensures bad_order { (result ≡ BAD_ORDER) ↔ (1 < order) }
+    ensures bad_limits { result ≡ BAD_LIMITS → ¬ AreBounds (bounds depth bytes) }
+    ensures in_range { result ≢ BAD_ORDER → result ≢ BAD_LIMITS
+        → (order ≤ 1) × AreBounds (bounds depth bytes) }
+    ensures statuses { result ≤ BAD_LIMITS }
+    ensures kept { (result ≢ OK → out.new ≡ out.old)
+        × (drop needed.new out.new ≡ drop needed.new out.old) }
+    ensures no_count { result ≢ OK → result ≢ TOO_SMALL → needed.new ≡ 0 }
+    ensures untold { result ≢ REFUSED → result ≢ NO_MEMORY → refusal.new ≡ refusal.old }
+{
+    *needed = 0;
+    let Some(order) = order_numbered(order) else {
+        return BAD_ORDER;
+    };
+    let Some(limits) = limits_of(depth, bytes) else {
+        return BAD_LIMITS;
+    };
+    match canonicalise(alloc, input, limits, order) {
+        Ok(canonical) => give(canonical.as_slice(), out, needed),
+        Err(reason) => tell(reason, refusal),
+    }
+}

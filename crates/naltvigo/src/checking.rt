@@ -1,0 +1,117 @@
+//! Whether an input is one item.
+
+ghost use Rattle.std.specs.Prelude.{◌≡◌, ◌≢◌, ◌↔◌, ◌⊎◌, ◌<◌, ◌≤◌, length, IfOk, IfErr};
+ghost use Rattle.cbor_head.specs.Complaint.{strict};
+ghost use Rattle.cbor_head.specs.Limits.{bounds, AreBounds};
+ghost use Rattle.cbor_head.specs.declared.reason.Reason.TheVariants as reasons;
+ghost use Rattle.cbor_reader.specs.Canonicalise.{IsCanonicalOf};
+ghost use Rattle.cbor_reader.specs.Readers.{IsRead, IsCanonicalFront};
+ghost use Rattle.cbor_reader.specs.WholeItem.{IsWholeItem, IsItemRefusal};
+ghost use Rattle.naltvigo.specs.Settings.{key_order};
+ghost use Rattle.naltvigo.specs.Checking.{IsNotCanonical, IsNotValid, ItemLacksMemory};
+ghost use Rattle.naltvigo.specs.inner.Checking.{IsOwnAnswer, IsNotOwn};
+
+use crate::settings::{limits_of, order_numbered};
+use crate::status::{BAD_LIMITS, BAD_ORDER, NO_MEMORY, NaltvigoRefusal, OK, REFUSED, tell, told};
+use crate::whole::tree_of;
+use cbor_head::laws::verdict_is_one;
+use cbor_head::{KeyOrder, Limits, Reason, Refusal};
+use cbor_reader::check_canonical;
+use cbor_reader::laws::own_answers_are_strictly_accepted;
+use std::alloc::Global;
+
+/// Whether `input` is exactly one valid item in its canonical bytes. It takes no memory.
+#[unsafe(no_mangle)]
+pub extern "C" fn naltvigo_check_canonical_raw(
+    input: &[u8],
+    order: u32,
+    depth: u32,
+    bytes: u64,
+    refusal: &mut NaltvigoRefusal,
+) -> u32
+    ensures own { result ≡ OK → IsCanonicalOf depth bytes (key_order order) input.now input.now }
+    ensures accepted { result ≡ OK
+        → IsRead depth bytes (strict (key_order order)) input.now (length input.now) }
+    ensures canonical { result ≡ OK
+        → IsCanonicalFront depth bytes (key_order order) input.now (length input.now) }
+    ensures refused { result ≡ REFUSED
+        → IsNotCanonical depth bytes (key_order order) input.now refusal.new }
+    ensures not_own { result ≡ REFUSED
+        → ¬ IsCanonicalOf depth bytes (key_order order) input.now input.now }
+    ensures bad_order { (result ≡ BAD_ORDER) ↔ (1 < order) }
+    ensures bad_limits { result ≡ BAD_LIMITS → ¬ AreBounds (bounds depth bytes) }
+    ensures in_range { result ≢ BAD_ORDER → result ≢ BAD_LIMITS
+        → (order ≤ 1) × AreBounds (bounds depth bytes) }
+    ensures statuses { (result ≡ OK) ⊎ (result ≡ REFUSED)
+        ⊎ (result ≡ BAD_ORDER) ⊎ (result ≡ BAD_LIMITS) }
+    ensures untold { result ≢ REFUSED → refusal.new ≡ refusal.old }
+{
+    let Some(order) = order_numbered(order) else {
+        return BAD_ORDER;
+    };
+    let Some(limits) = limits_of(depth, bytes) else {
+        return BAD_LIMITS;
+    };
+    match check_whole(input, limits, order) {
+        Ok(()) => OK,
+        Err(reason) => {
+            *refusal = told(reason);
+            REFUSED
+        }
+    }
+}
+
+/// Whether `input` is exactly one valid item.
+#[unsafe(no_mangle)]
+pub extern "C" fn naltvigo_check_valid_raw(
+    alloc: Global,
+    input: &[u8],
+    depth: u32,
+    bytes: u64,
+    refusal: &mut NaltvigoRefusal,
+) -> u32
+    ensures accepted { result ≡ OK → IsWholeItem depth bytes input.now }
+    ensures refused { result ≡ REFUSED → IsNotValid depth bytes input.now refusal.new }
+    ensures not_accepted { result ≡ REFUSED → ¬ IsWholeItem depth bytes input.now }
+    ensures no_memory { result ≡ NO_MEMORY → ItemLacksMemory depth bytes input.now refusal.new }
+    ensures bad_limits { (result ≡ BAD_LIMITS) → ¬ AreBounds (bounds depth bytes) }
+    ensures in_range { result ≢ BAD_LIMITS → AreBounds (bounds depth bytes) }
+    ensures statuses { (result ≡ OK) ⊎ (result ≡ REFUSED)
+        ⊎ (result ≡ NO_MEMORY) ⊎ (result ≡ BAD_LIMITS) }
+    ensures untold { result ≢ REFUSED → result ≢ NO_MEMORY → refusal.new ≡ refusal.old }
+{
+    let Some(limits) = limits_of(depth, bytes) else {
+        return BAD_LIMITS;
+    };
+    match check_valid(alloc, input, limits) {
+        Ok(()) => OK,
+        Err(reason) => tell(reason, refusal),
+    }
+}
+
+// The item at the front is all of the input; else why it is not one in its canonical bytes.
+fn check_whole(input: &[u8], limits: Limits, order: KeyOrder) -> Result<(), Refusal>
+    ensures own { IfOk result (λ _. IsOwnAnswer limits.depth limits.bytes order input.now) }
+    ensures refused { IfErr result (IsNotOwn limits.depth limits.bytes order input.now) }
+{
+    own_answers_are_strictly_accepted();
+    verdict_is_one();
+    match check_canonical(input, limits, order) {
+        Ok(count) if count < input.len() as u64 => Err(Refusal::at(Reason::Trailing, count)),
+        Ok(_) => Ok(()),
+        Err(refusal) => Err(refusal),
+    }
+}
+
+// The input is one valid item; else why it is none.
+fn check_valid(alloc: Global, input: &[u8], limits: Limits) -> Result<(), Refusal>
+    ensures accepted { IfOk result (λ _. IsWholeItem limits.depth limits.bytes input.now) }
+    ensures refused { IfErr result (IsItemRefusal limits.depth limits.bytes input.now) }
+    ensures not_accepted { IfErr result (λ f. f.reason ≢ reasons.Memory
+        → ¬ IsWholeItem limits.depth limits.bytes input.now) }
+{
+    match tree_of(alloc, input, limits) {
+        Ok(_) => Ok(()),
+        Err(refusal) => Err(refusal),
+    }
+}

@@ -1,0 +1,74 @@
+//! Whether two inputs mean the same.
+
+ghost use Rattle.std.specs.Prelude.{◌≡◌, ◌≢◌, ◌⊎◌, ◌≤◌, ◌^◌, ℕ, List};
+ghost use Rattle.cbor_head.specs.Limits.{bounds, AreBounds};
+ghost use Rattle.cbor_head.specs.declared.order.KeyOrder.{KeyOrder};
+ghost use Rattle.cbor_reader.specs.Canonicalise.{IsCanonicalOf};
+ghost use Rattle.cbor_reader.specs.Comparing.{MeanTheSame};
+ghost use Rattle.cbor_reader.specs.WholeItem.{IsWholeItem};
+ghost use Rattle.naltvigo.specs.Comparing.{side_number as number_of, IsSideRefused, SideLacksMemory};
+
+use crate::settings::limits_of;
+use crate::status::{BAD_LIMITS, DIFFERENT, NO_MEMORY, NaltvigoRefusal, OK, REFUSED, tell};
+use cbor_reader::{Side, same_meaning};
+use std::alloc::Global;
+
+/// The first of two inputs.
+pub const LEFT: u32 = 0;
+/// The second of two inputs.
+pub const RIGHT: u32 = 1;
+
+/// Whether the one valid item that each input is has the same value: `OK` or `DIFFERENT`.
+///
+/// `side` and `refusal` are filled where the answer is `REFUSED` or `NO_MEMORY`.
+#[unsafe(no_mangle)]
+pub extern "C" fn naltvigo_compare_raw(
+    alloc: Global,
+    left: &[u8],
+    right: &[u8],
+    depth: u32,
+    bytes: u64,
+    side: &mut u32,
+    refusal: &mut NaltvigoRefusal,
+) -> u32
+    ensures same { result ≡ OK → MeanTheSame depth bytes left.now right.now }
+    ensures different { result ≡ DIFFERENT → ¬ MeanTheSame depth bytes left.now right.now }
+    ensures accepted { (result ≡ OK) ⊎ (result ≡ DIFFERENT)
+        → IsWholeItem depth bytes left.now × IsWholeItem depth bytes right.now }
+    ensures equal { result ≡ OK → (n : ℕ) (o : KeyOrder) (a b : List ℕ) → n ≤ 2 ^ 62
+        → IsCanonicalOf depth n o left.now a → IsCanonicalOf depth n o right.now b → a ≡ b }
+    ensures unequal { result ≡ DIFFERENT → (n : ℕ) (o : KeyOrder) (a b : List ℕ) → n ≤ 2 ^ 62
+        → IsCanonicalOf depth n o left.now a → IsCanonicalOf depth n o right.now b → a ≢ b }
+    ensures refused { result ≡ REFUSED
+        → IsSideRefused depth bytes left.now right.now side.new refusal.new }
+    ensures no_memory { result ≡ NO_MEMORY
+        → SideLacksMemory depth bytes left.now right.now side.new refusal.new }
+    ensures bad_limits { result ≡ BAD_LIMITS → ¬ AreBounds (bounds depth bytes) }
+    ensures in_range { result ≢ BAD_LIMITS → AreBounds (bounds depth bytes) }
+    ensures statuses { (result ≡ OK) ⊎ (result ≡ DIFFERENT) ⊎ (result ≡ REFUSED)
+        ⊎ (result ≡ NO_MEMORY) ⊎ (result ≡ BAD_LIMITS) }
+    ensures untold { result ≢ REFUSED → result ≢ NO_MEMORY
+        → (side.new ≡ side.old) × (refusal.new ≡ refusal.old) }
+{
+    let Some(limits) = limits_of(depth, bytes) else {
+        return BAD_LIMITS;
+    };
+    match same_meaning(alloc, left, right, limits) {
+        Ok(true) => OK,
+        Ok(false) => DIFFERENT,
+        Err((refused, reason)) => {
+            *side = side_number(refused);
+            tell(reason, refusal)
+        }
+    }
+}
+
+// The side as C has it.
+fn side_number(side: Side) -> u32
+    ensures { result ≡ number_of side }
+{
+    match side {
+        Side::Left => LEFT,
+        Side::Right => RIGHT,
+    }
+}

@@ -1,0 +1,74 @@
+//! Diagnostic text into a buffer of the caller's.
+
+ghost use Rattle.std.specs.Prelude.{◌≡◌, ◌≢◌, ◌⊎◌, ◌<◌, ◌≤◌, ℕ, List, length, take, drop, IfSome};
+ghost use Rattle.cbor_diag.specs.Text.{text};
+ghost use Rattle.cbor_head.specs.Limits.{bounds, AreBounds};
+ghost use Rattle.cbor_item.specs.View.{view};
+ghost use Rattle.cbor_reader.specs.WholeItem.{IsWholeItem};
+ghost use Rattle.naltvigo.specs.Checking.{IsNotValid};
+ghost use Rattle.naltvigo.specs.Diagnosing.{IsTextOf, TextLacksMemory};
+
+use crate::buffer::give;
+use crate::settings::limits_of;
+use crate::status::{BAD_LIMITS, NO_MEMORY, NaltvigoRefusal, OK, REFUSED, TOO_SMALL, tell, told};
+use crate::whole::tree_of;
+use cbor_diag::diagnostic;
+use cbor_head::{Reason, Refusal};
+use cbor_item::Tree;
+use std::alloc::Global;
+
+/// Writes the diagnostic text (RFC 8949, section 8) of the one valid item that `input` is to the
+/// front of `out`, its pairs in their order. For the rest it is as `naltvigo_canonicalise_raw`.
+#[unsafe(no_mangle)]
+pub extern "C" fn naltvigo_diagnostic_raw(
+    alloc: Global,
+    input: &[u8],
+    depth: u32,
+    bytes: u64,
+    out: &mut [u8],
+    needed: &mut usize,
+    refusal: &mut NaltvigoRefusal,
+) -> u32
+    ensures written { result ≡ OK → IsTextOf depth bytes input.now (take needed.new out.new) }
+    ensures room { result ≡ OK → needed.new ≤ length out.old }
+    ensures too_small { result ≡ TOO_SMALL → (x : List ℕ) × IsTextOf depth bytes input.now x
+        × (needed.new ≡ length x) × (length out.old < length x) }
+    ensures refused { result ≡ REFUSED → IsNotValid depth bytes input.now refusal.new }
+    ensures not_accepted { result ≡ REFUSED → ¬ IsWholeItem depth bytes input.now }
+    ensures no_memory { result ≡ NO_MEMORY → TextLacksMemory depth bytes input.now refusal.new }
+    ensures bad_limits { result ≡ BAD_LIMITS → ¬ AreBounds (bounds depth bytes) }
+    ensures in_range { result ≢ BAD_LIMITS → AreBounds (bounds depth bytes) }
+    ensures statuses { (result ≡ OK) ⊎ (result ≡ REFUSED) ⊎ (result ≡ TOO_SMALL)
+        ⊎ (result ≡ NO_MEMORY) ⊎ (result ≡ BAD_LIMITS) }
+    ensures kept { (result ≢ OK → out.new ≡ out.old)
+        × (drop needed.new out.new ≡ drop needed.new out.old) }
+    ensures no_count { result ≢ OK → result ≢ TOO_SMALL → needed.new ≡ 0 }
+    ensures untold { result ≢ REFUSED → result ≢ NO_MEMORY → refusal.new ≡ refusal.old }
+{
+    *needed = 0;
+    let Some(limits) = limits_of(depth, bytes) else {
+        return BAD_LIMITS;
+    };
+    let tree = match tree_of(alloc, input, limits) {
+        Ok(tree) => tree,
+        Err(reason) => return tell(reason, refusal),
+    };
+    match text_of(alloc, &tree) {
+        Some(text) => give(text.as_slice(), out, needed),
+        None => {
+            *refusal = told(Refusal::at(Reason::Memory, input.len() as u64));
+            NO_MEMORY
+        }
+    }
+}
+
+// The text; none where memory is refused.
+fn text_of(alloc: Global, tree: &Tree) -> Option<Vec<u8>>
+    ensures { IfSome result (λ v. v.items ≡ text (view tree.now)) }
+{
+    let mut shown = Vec::new(alloc);
+    match diagnostic(tree, &mut shown) {
+        Ok(_) => Some(shown),
+        Err(_) => None,
+    }
+}

@@ -1,0 +1,24 @@
+//! The library for C: each export of `naltvigo.h`, with the clauses of what it calls.
+//!
+//! A call answers a status, and fills what the status calls for. No export keeps anything between
+//! two calls, and each reads and writes only what it is passed.
+#![tactic(auto)]
+
+mod buffer;
+mod canonicalising;
+mod checking;
+mod comparing;
+mod diagnosing;
+mod naming;
+mod settings;
+mod status;
+#[cfg(test)]
+mod tests;
+mod whole;
+
+pub use canonicalising::naltvigo_canonicalise_raw;
+pub use checking::{naltvigo_check_canonical_raw, naltvigo_check_valid_raw};
+pub use comparing::naltvigo_compare_raw;
+pub use diagnosing::naltvigo_diagnostic_raw;
+pub use naming::naltvigo_reason_name_raw;
+pub use status::NaltvigoRefusal;

@@ -1,0 +1,249 @@
+/*
+ * naltvigo.h: deterministic CBOR (RFC 8949, without floating point) for C99 and C++.
+ *
+ * Canonical bytes, checks, comparison and diagnostic text of CBOR items. The functions behind this header
+ * are proved: for every input they are safe, they return, and they answer what their contracts say
+ * (crates/naltvigo/src; this file says the same in words, and the gate compares the numbers and the
+ * signatures). What is said below of memory, of the stack and of threads is tested. Nothing checks the
+ * caller's side, "What a caller owes".
+ *
+ *     uint8_t out[512];
+ *     size_t needed;
+ *     struct naltvigo_refusal why;
+ *     switch (naltvigo_canonicalise(in, n, NALTVIGO_BYTEWISE, 64, 65536, out, sizeof out, &needed, &why)) {
+ *     case NALTVIGO_OK:        // the canonical bytes are out[0 .. needed)
+ *     case NALTVIGO_TOO_SMALL: // call again with room for `needed` bytes
+ *     case NALTVIGO_REFUSED:   // why.reason at the offset why.place
+ *     default:                 // no memory, or numbers out of range: nothing is known of the input
+ *     }
+ *
+ * What a caller owes
+ *  - `in` has `in_length` readable bytes, `out` has `out_length` writable ones, each at most PTRDIFF_MAX.
+ *  - Every other pointer is valid and not null. A null `in` or `out` may stand beside a length of 0 in the
+ *    inline functions below, not in the exports behind them, whose names end in `_raw`.
+ *  - `out`, `*needed`, `*side` and `*refusal` overlap neither an input nor one another, and nobody else
+ *    reads or writes them, or writes an input, during the call. They need no first value.
+ *  - No call comes from a signal handler, nor from the child of a fork of a process with threads, since
+ *    malloc may not be called there. (naltvigo_check_canonical and naltvigo_reason_name call no malloc.)
+ *
+ * Ownership
+ *  - The library keeps no pointer after a call, and hands none out: there is nothing to free.
+ *
+ * Memory
+ *  - From malloc, realloc and free of the program, all of it given back before the call returns; at most in
+ *    proportion to the bytes that came, since a length in a head takes none. docs/SPEED.md has figures.
+ *  - naltvigo_check_canonical and naltvigo_reason_name take none at all, by proof: they are handed no
+ *    allocator.
+ *  - A call to which malloc answers NULL answers NALTVIGO_NO_MEMORY, with `out` as it was, and may be tried
+ *    again. malloc and realloc align to 16 bytes, as C libraries for 64 bits do.
+ *
+ * Stack
+ *  - Measured in the gate (c/stack.c), not proved: the figures are NALTVIGO_STACK and the two below it, some
+ *    540 KiB at depth 256, 160 KiB at depth 64. On a thread with a small stack pass a smaller `depth`.
+ *
+ * Threads
+ *  - No state is kept between calls, and none is shared: any number of threads may call at once, each with
+ *    outputs of its own; inputs may be shared.
+ *
+ * Limits
+ *  - Each call takes two: `depth`, how deep arrays, maps and tags may nest, 0 to NALTVIGO_DEPTH_MAX, and
+ *    `bytes`, how many bytes an item may have, 0 to NALTVIGO_BYTES_MAX.
+ *
+ * All sizes, places and counts are bytes.
+ */
+#ifndef NALTVIGO_H
+#define NALTVIGO_H
+
+#include <stddef.h>
+#include <stdint.h>
+
+#ifdef __cplusplus
+extern "C" {
+#endif
+
+/* The version of this header. The shared object's name changes with the first number. */
+#define NALTVIGO_VERSION_MAJOR 1
+#define NALTVIGO_VERSION_MINOR 0
+#define NALTVIGO_VERSION "1.0"
+
+/* What a call answers. New numbers may come: take any other one for a failure. */
+enum {
+    NALTVIGO_OK = 0,         /* the answer stands in `out`, the input is accepted, the inputs mean the same */
+    NALTVIGO_REFUSED = 1,    /* an input is refused; `*refusal` says why */
+    NALTVIGO_TOO_SMALL = 2,  /* the answer has `*needed` bytes, more than `out`, which is as it was */
+    NALTVIGO_NO_MEMORY = 3,  /* memory was refused; `*refusal` says behind how many bytes */
+    NALTVIGO_BAD_ORDER = 4,  /* `order` is none of the two */
+    NALTVIGO_BAD_LIMITS = 5, /* `depth` or `bytes` is out of range */
+    NALTVIGO_DIFFERENT = 6   /* the inputs do not mean the same */
+};
+
+/* The order of the keys of a map, by their canonical bytes. */
+enum {
+    NALTVIGO_BYTEWISE = 0,    /* lexicographic (RFC 8949, section 4.2.1) */
+    NALTVIGO_LENGTH_FIRST = 1 /* the shorter key first, then lexicographic (section 4.2.3) */
+};
+
+/* The greatest limits. */
+#define NALTVIGO_DEPTH_MAX UINT32_C(256)
+#define NALTVIGO_BYTES_MAX (UINT64_C(1) << 62)
+
+/* Which input of two `*refusal` is of. */
+enum { NALTVIGO_LEFT = 0, NALTVIGO_RIGHT = 1 };
+
+/* Why an input is refused: the numbers of `reason`. */
+enum {
+    NALTVIGO_TRUNCATED = 1,           /* the input ends within the item */
+    NALTVIGO_TOO_LONG = 2,            /* the byte limit is reached within the item */
+    NALTVIGO_RESERVED = 3,            /* additional information 28 to 30 where an item may begin */
+    NALTVIGO_NO_INDEFINITE = 4,       /* additional information 31 on an integer or a tag */
+    NALTVIGO_FLOAT = 5,               /* a floating-point number */
+    NALTVIGO_BAD_SIMPLE = 6,          /* a simple value below 32 in a second byte */
+    NALTVIGO_STRAY_BREAK = 7,         /* a break where an item must begin */
+    NALTVIGO_BAD_CHUNK = 8,           /* neither a chunk of the string nor a break */
+    NALTVIGO_TOO_DEEP = 9,            /* an array, map or tag beyond the depth limit */
+    NALTVIGO_INVALID_TEXT = 10,       /* a text, or a chunk of one, that is not UTF-8 */
+    NALTVIGO_REPEATED_KEY = 11,       /* a key that is the same as an earlier one of its map */
+    NALTVIGO_TRAILING = 12,           /* a byte follows the item */
+    NALTVIGO_CANONICAL_TOO_LONG = 13, /* the canonical bytes are more than the byte limit */
+    NALTVIGO_NOT_SHORTEST = 14,       /* a head that is not the shortest (check_canonical) */
+    NALTVIGO_INDEFINITE = 15,         /* an item of indefinite length (check_canonical) */
+    NALTVIGO_KEY_ORDER = 16,          /* a key that does not come after the one before it (check_canonical) */
+    NALTVIGO_READ = 17,               /* not answered by this library */
+    NALTVIGO_WRITE = 18,              /* not answered by this library */
+    NALTVIGO_MEMORY = 19              /* memory was refused; the status is NALTVIGO_NO_MEMORY */
+};
+
+/* A refusal. It is written where the status is REFUSED or NO_MEMORY, and left as it was elsewhere. */
+struct naltvigo_refusal {
+    uint32_t reason; /* one of the numbers above */
+    uint64_t place;  /* the offset of what is wrong; at most `read` */
+    uint64_t read;   /* how many bytes were taken; at most the input's length, and `bytes` */
+};
+
+/* What a call needs of the stack: this, and this again for each level of the `depth` that it is passed.
+ * naltvigo_check_canonical needs no more than the third, at any depth. */
+#define NALTVIGO_STACK 32768
+#define NALTVIGO_STACK_A_LEVEL 2048
+#define NALTVIGO_STACK_CHECK_CANONICAL 98304
+
+/* The exports. No pointer may be null, whatever the length beside it. */
+uint32_t naltvigo_canonicalise_raw(const uint8_t *in, size_t in_length, uint32_t order, uint32_t depth,
+                                   uint64_t bytes, uint8_t *out, size_t out_length, size_t *needed,
+                                   struct naltvigo_refusal *refusal);
+uint32_t naltvigo_check_canonical_raw(const uint8_t *in, size_t in_length, uint32_t order, uint32_t depth,
+                                      uint64_t bytes, struct naltvigo_refusal *refusal);
+uint32_t naltvigo_check_valid_raw(const uint8_t *in, size_t in_length, uint32_t depth, uint64_t bytes,
+                                  struct naltvigo_refusal *refusal);
+uint32_t naltvigo_compare_raw(const uint8_t *left, size_t left_length, const uint8_t *right,
+                              size_t right_length, uint32_t depth, uint64_t bytes, uint32_t *side,
+                              struct naltvigo_refusal *refusal);
+uint32_t naltvigo_diagnostic_raw(const uint8_t *in, size_t in_length, uint32_t depth, uint64_t bytes,
+                                 uint8_t *out, size_t out_length, size_t *needed,
+                                 struct naltvigo_refusal *refusal);
+size_t naltvigo_reason_name_raw(uint32_t reason, uint8_t *out, size_t out_length);
+
+/*
+ * naltvigo_canonicalise: the canonical bytes of an item.
+ *
+ * Writes the canonical bytes, in this order of keys, of the one well-formed, valid item that the whole
+ * input is to the front of `out`. `*needed` is their count where the status is OK or TOO_SMALL, else 0; with
+ * `out_length` 0 a caller asks for it first, at the price of a whole call. An answer is hardly ever longer
+ * than the input: only arrays and maps of indefinite length with 256 members or more grow, by at most 8
+ * bytes each. Bytes of `out` behind the answer stay as they were, and all of them where the status is not OK.
+ *
+ * Two accepted inputs get equal answers in one order exactly if their values are the same, within
+ * whichever limits; and an answer, given again within the same limits, is its own answer.
+ *
+ * Answers OK, TOO_SMALL, REFUSED (reasons 1 to 13), NO_MEMORY, BAD_ORDER, BAD_LIMITS.
+ */
+static inline uint32_t naltvigo_canonicalise(const uint8_t *in, size_t in_length, uint32_t order,
+                                             uint32_t depth, uint64_t bytes, uint8_t *out,
+                                             size_t out_length, size_t *needed,
+                                             struct naltvigo_refusal *refusal) {
+    uint8_t none[2] = {0, 0};
+    return naltvigo_canonicalise_raw(in_length ? in : none, in_length, order, depth, bytes,
+                                     out_length ? out : none + 1, out_length, needed, refusal);
+}
+
+/*
+ * naltvigo_check_canonical: whether the input is canonical as it stands.
+ *
+ * OK exactly where the whole input is one valid item in its canonical bytes, in this order of keys: then
+ * naltvigo_canonicalise, but for memory, would answer the input itself. It takes no memory.
+ *
+ * Answers OK, REFUSED (reasons 1 to 10, 12, 14 to 16), BAD_ORDER, BAD_LIMITS.
+ */
+static inline uint32_t naltvigo_check_canonical(const uint8_t *in, size_t in_length, uint32_t order,
+                                                uint32_t depth, uint64_t bytes,
+                                                struct naltvigo_refusal *refusal) {
+    const uint8_t none = 0;
+    return naltvigo_check_canonical_raw(in_length ? in : &none, in_length, order, depth, bytes, refusal);
+}
+
+/*
+ * naltvigo_check_valid: whether the whole input is one well-formed, valid item, however it is spelled.
+ *
+ * Answers OK, REFUSED (reasons 1 to 12), NO_MEMORY, BAD_LIMITS.
+ */
+static inline uint32_t naltvigo_check_valid(const uint8_t *in, size_t in_length, uint32_t depth,
+                                            uint64_t bytes, struct naltvigo_refusal *refusal) {
+    const uint8_t none = 0;
+    return naltvigo_check_valid_raw(in_length ? in : &none, in_length, depth, bytes, refusal);
+}
+
+/*
+ * naltvigo_compare: whether two inputs mean the same.
+ *
+ * OK where each input is one well-formed, valid item and the two have the same value, DIFFERENT where they
+ * have not: equal kinds, numbers and bytes, arrays place by place, maps by their pairs in any order (RFC
+ * 8949, section 5.6.1). So OK is answered exactly where naltvigo_canonicalise, in either order, answers equal
+ * bytes, the byte limit aside. The limits hold for each input by itself.
+ *
+ * REFUSED is of the left input, or of the right one where the left is accepted: `*side` says which. It is
+ * written where the status is REFUSED or NO_MEMORY.
+ *
+ * Answers OK, DIFFERENT, REFUSED (reasons 1 to 12), NO_MEMORY, BAD_LIMITS.
+ */
+static inline uint32_t naltvigo_compare(const uint8_t *left, size_t left_length, const uint8_t *right,
+                                        size_t right_length, uint32_t depth, uint64_t bytes,
+                                        uint32_t *side, struct naltvigo_refusal *refusal) {
+    const uint8_t none = 0;
+    return naltvigo_compare_raw(left_length ? left : &none, left_length, right_length ? right : &none,
+                                right_length, depth, bytes, side, refusal);
+}
+
+/*
+ * naltvigo_diagnostic: an item as people read it.
+ *
+ * Writes the diagnostic text (RFC 8949, section 8) of the one well-formed, valid item that the whole input
+ * is to the front of `out`, on one line, in UTF-8 and with no zero byte at its end. The pairs of a map stand
+ * in their order. `*needed`, `out` and TOO_SMALL are as with naltvigo_canonicalise.
+ *
+ * Answers OK, TOO_SMALL, REFUSED (reasons 1 to 12), NO_MEMORY, BAD_LIMITS.
+ */
+static inline uint32_t naltvigo_diagnostic(const uint8_t *in, size_t in_length, uint32_t depth,
+                                           uint64_t bytes, char *out, size_t out_length, size_t *needed,
+                                           struct naltvigo_refusal *refusal) {
+    uint8_t none[2] = {0, 0};
+    return naltvigo_diagnostic_raw(in_length ? in : none, in_length, depth, bytes,
+                                   out_length ? (uint8_t *)out : none + 1, out_length, needed, refusal);
+}
+
+/* The length of the longest name of a reason. */
+#define NALTVIGO_NAME_MAX 16
+
+/*
+ * naltvigo_reason_name: the name of a reason, as "TooDeep", in ASCII and with no zero byte at its end.
+ *
+ * Answers its length, and writes it where `out` has room for all of it; 0 for a number that is no reason's.
+ */
+static inline size_t naltvigo_reason_name(uint32_t reason, char *out, size_t out_length) {
+    uint8_t none = 0;
+    return naltvigo_reason_name_raw(reason, out_length ? (uint8_t *)out : &none, out_length);
+}
+
+#ifdef __cplusplus
+}
+#endif
+
+#endif

@@ -1,0 +1,61 @@
+#!/usr/bin/env bash
+# Makes the library for C and its shared object: scripts/build_c.sh [FOLDER]
+#
+# FOLDER (dist without one) gets include/naltvigo.h, lib/libnaltvigo.a, lib/libnaltvigo.so with its
+# version, and lib/pkgconfig/naltvigo.pc. Only naltvigo_* is seen of either. The kit's rt has to be on the
+# path; of a C compiler (CC) the linker alone is used. Two runs make equal bytes.
+set -euo pipefail
+
+root=$(cd "$(dirname "${BASH_SOURCE[0]}")/.." && pwd)
+dist=${1:-$root/dist}
+kit=$(dirname "$(rt doc)")
+header=$root/include/naltvigo.h
+version_of() { sed -n "s/^#define NALTVIGO_VERSION_$1 //p" "$header"; }
+major=$(version_of MAJOR)
+version=$major.$(version_of MINOR)
+
+log=$(mktemp)
+room=$(mktemp -d)
+trap 'rm -rf "$room" "$log"' EXIT
+
+# After `rt ci` of a fresh clone the libraries stand built, without the mark by which rt lib knows them: then
+# the compiler is called as rt does it, and they are not proved again.
+make_archive() {
+    cd "$root/crates/naltvigo"
+    if [ -e ../cbor_reader/out/rlib/stamp ] || [ ! -e ../cbor_reader/out/rlib/cbor_reader.rlib ]; then
+        rt lib
+        return
+    fi
+    local words=(--crate-name naltvigo src/lib.rt --crate-type staticlib)
+    words+=(--extern "std=$kit/rlibs/std.rlib" -L "dependency=$kit/rlibs")
+    for name in $(sed -n 's/^naltvigo staticlib: //p' "$root/crates.txt"); do
+        words+=(--extern "$name=../$name/out/rlib/$name.rlib" -L "dependency=../$name/out/rlib")
+    done
+    words+=(--antt-project "$kit/rattle/logic/antt-project.json" --logic-built "$kit/logic_built" --jobs 2)
+    words+=(--links naltvigo= --toolchain "$kit/toolchain" --backend llvm)
+    "$kit/bin/rattle" build "${words[@]}" -o out/libnaltvigo.a
+}
+(make_archive) >"$log" 2>&1 || { cat "$log" >&2; exit 1; }
+
+# One object, in which the kit's calls of malloc, realloc and free, and all else, are local names.
+(cd "$room" && ar x "$root/crates/naltvigo/out/libnaltvigo.a" && ar x "$kit/c/liblibc_c.a" heap.pic.o)
+ld -r -o "$room/all.o" "$room"/naltvigo*.o "$room/heap.pic.o"
+objcopy --wildcard --keep-global-symbol='naltvigo_*' "$room/all.o"
+
+rm -rf "$dist"
+mkdir -p "$dist/include" "$dist/lib/pkgconfig"
+cp "$header" "$dist/include"
+ar rcsD "$dist/lib/libnaltvigo.a" "$room/all.o"
+echo '{ global: naltvigo_*; local: *; };' >"$room/exports"
+"${CC:-cc}" -shared -o "$dist/lib/libnaltvigo.so.$version" "$room/all.o" -Wl,-soname,"libnaltvigo.so.$major" \
+    -Wl,--version-script="$room/exports" -Wl,--gc-sections -Wl,-z,defs -Wl,-z,relro -Wl,-z,now -Wl,-z,noexecstack
+ln -s "libnaltvigo.so.$version" "$dist/lib/libnaltvigo.so.$major"
+ln -s "libnaltvigo.so.$major" "$dist/lib/libnaltvigo.so"
+cat >"$dist/lib/pkgconfig/naltvigo.pc" <<PC
+prefix=\${pcfiledir}/../..
+Name: naltvigo
+Description: deterministic CBOR (RFC 8949), proved
+Version: $version
+Cflags: -I\${prefix}/include
+Libs: -L\${prefix}/lib -lnaltvigo
+PC
