@@ -2,10 +2,14 @@
 
 mod conformance;
 mod conformance_table;
+mod cut_short;
+mod failing;
 mod keys;
 mod sequence;
 mod sizes;
 mod slice;
+mod thresholds;
+mod towers;
 mod whole;
 
 use cbor_head::Limits;

@@ -13,15 +13,15 @@ use std::test::Fail;
 
 // A row that can't be read.
 #[derive(Debug, Drop)]
-enum BadRow {
+pub(super) enum BadRow {
     Columns,
     Limits,
 }
 
-static ORDERS: [KeyOrder; 2] = [KeyOrder::Bytewise, KeyOrder::LengthFirst];
+pub(super) static ORDERS: [KeyOrder; 2] = [KeyOrder::Bytewise, KeyOrder::LengthFirst];
 
 // The columns of a row that tests read: the input, the limits, and what is answered.
-fn row_of(line: &str) -> Option<(&str, &str, &str, &str)> {
+pub(super) fn row_of(line: &str) -> Option<(&str, &str, &str, &str)> {
     let (input, rest) = line.split_once('|')?;
     let (limits, rest) = rest.split_once('|')?;
     let (plain, rest) = rest.split_once('|')?;
@@ -30,7 +30,7 @@ fn row_of(line: &str) -> Option<(&str, &str, &str, &str)> {
 }
 
 // What a column has for an order: before the slash or behind it; without one, the whole.
-fn by_order(column: &str, order: KeyOrder) -> &str {
+pub(super) fn by_order(column: &str, order: KeyOrder) -> &str {
     let Some((bytewise, length_first)) = column.split_once('/') else {
         return column;
     };
@@ -41,7 +41,7 @@ fn by_order(column: &str, order: KeyOrder) -> &str {
 }
 
 // The limits of a column as `depth 1 bytes 4`.
-fn limits_of(column: &str) -> Option<Limits> {
+pub(super) fn limits_of(column: &str) -> Option<Limits> {
     if !column.is_empty() && !column.starts_with("depth ") && !column.starts_with("bytes ") {
         return None;
     }
@@ -59,7 +59,7 @@ fn number_behind(column: &str, word: &str, otherwise: u64) -> Option<u64> {
 }
 
 // Whether the plain rules refuse the input, as a whole.
-fn is_refused(plain: &str) -> bool {
+pub(super) fn is_refused(plain: &str) -> bool {
     plain.contains(" at ")
 }
 
@@ -74,7 +74,7 @@ fn text_of(alloc: Global, refusal: Refusal) -> Result<String, AllocError> {
 }
 
 // The canonical bytes that a row wants of an input.
-fn canonical_of(alloc: Global, input: &[u8], plain: &str) -> Result<Vec<u8>, BadHex> {
+pub(super) fn canonical_of(alloc: Global, input: &[u8], plain: &str) -> Result<Vec<u8>, BadHex> {
     match plain {
         "same" => Vec::from_slice(alloc, input).map_err(|_| BadHex::Memory),
         hex => bytes_of(alloc, hex),
