@@ -1,14 +1,17 @@
 //! The builder: parts in, canonical bytes out.
 
-ghost use Rattle.std.specs.Prelude.{ℕ, List, reverse, ◌≡◌, ◌≢◌, ◌↔◌, ◌<◌, ◌≤◌, ◌++◌, ◌∷◌, [], IsTrue, false, OnOk, IfOk, drop, take, length, vec_len};
+ghost use Rattle.std.specs.Prelude.{ℕ, List, reverse, ◌≡◌, ◌≢◌, ◌↔◌, ◌<◌, ◌≤◌, ◌++◌, ◌∷◌, []};
+ghost use Rattle.std.specs.Prelude.{IsTrue, false, OnOk, IfOk, drop, take, length, vec_len};
 ghost use Rattle.cbor_head.specs.Canonical.{canonical};
 ghost use Rattle.cbor_head.specs.Value.{Value};
 ghost use Rattle.cbor_head.specs.Head.{shortest_head, IsSimple};
 ghost use Rattle.cbor_head.specs.declared.major.Major.TheVariants.{Simple};
 ghost use Rattle.cbor_item.specs.Built.{IsRepeatedKey};
-ghost use Rattle.cbor_item.specs.Parts.{Part, Makes, run, plain, give, opened, extended, close, closed, HasNoRepeats};
-ghost use Rattle.cbor_item.specs.inner.Laid.{Takes, IsString, CanClose, OuterTakes, shape_open, outer_spans};
-ghost use Rattle.cbor_item.specs.inner.BuilderState.{standing, IsLaid};
+ghost use Rattle.cbor_item.specs.Parts.{Part, Makes, run, plain, give, opened, extended, close};
+ghost use Rattle.cbor_item.specs.Parts.{closed, HasNoRepeats};
+ghost use Rattle.cbor_item.specs.inner.Laid.{Takes, IsString, CanClose, OuterTakes};
+ghost use Rattle.cbor_item.specs.inner.Laid.{outer_spans};
+ghost use Rattle.cbor_item.specs.inner.BuilderState.{standing, innermost, IsLaid};
 ghost use Rattle.cbor_item.specs.inner.Repeats.{TellsOf, Tells};
 
 pub(crate) mod frame;
@@ -100,8 +103,8 @@ impl Core {
         complete(&mut self.top, &mut self.spans, &self.out, self.order, at)
     }
 
-    /// A string, an array, a map or a tag begins. The number is the tag's; for the others it says for
-    /// which length or count the head is to have room.
+    /// A string, an array, a map or a tag begins. The number is the tag's; for the others it says
+    /// for which length or count the head is to have room.
     #[inline(always)]
     pub(crate) fn begin(&mut self, major: Major, n: u64) -> Result<(), AllocError>
         requires laid { IsLaid self.old }
@@ -139,11 +142,12 @@ impl Core {
         ensures top { self.new.top ≡ self.old.top }
         ensures below { self.new.below.items ≡ self.old.below.items }
         ensures distinct { IfOk result (λ distinct.
-            IsTrue distinct ↔ HasNoRepeats (shape_open self.old.out self.old.spans.items self.old.top.start self.old.top.shape)) }
+            IsTrue distinct ↔ HasNoRepeats (innermost self.old)) }
         ensures spans { IfOk result (λ distinct. IsTrue distinct
             → self.new.spans.items ≡ outer_spans self.old.spans.items self.old.top.shape) }
         ensures bytes { IfOk result (λ distinct. IsTrue distinct
-            → self.new.out ≡ take self.old.top.from self.old.out ++ closed self.old.order (shape_open self.old.out self.old.spans.items self.old.top.start self.old.top.shape)) }
+            → self.new.out ≡ take self.old.top.from self.old.out
+            ++ closed self.old.order (innermost self.old)) }
         ensures kept { IfOk result (λ distinct. distinct ≡ false
             → (self.new.out ≡ self.old.out) × (self.new.spans.items ≡ self.old.spans.items)) }
     {
@@ -188,7 +192,7 @@ impl Core {
         requires takes { OuterTakes (reverse self.old.below.items) }
         ensures order { self.new.order ≡ self.old.order }
         ensures distinct { IfOk result (λ distinct.
-            IsTrue distinct ↔ HasNoRepeats (shape_open self.old.out self.old.spans.items self.old.top.start self.old.top.shape)) }
+            IsTrue distinct ↔ HasNoRepeats (innermost self.old)) }
         ensures laid { OnOk result (IsLaid self.new) }
         ensures closed { IfOk result (λ distinct. IsTrue distinct
             → standing self.new ≡ close self.old.order (standing self.old)) }
@@ -224,7 +228,8 @@ impl Core {
         }
     }
 
-    // Which repeated key is told: of the outermost open map that has one its first. Takes no memory.
+    // Which repeated key is told: of the outermost open map that has one its first. Takes no
+    // memory.
     pub(crate) fn first_repeat(mut self) -> Option<Repeat>
         requires laid { IsLaid self }
         ensures { Tells (standing self) result }
@@ -240,7 +245,7 @@ impl Core {
     // The first repeated key of the innermost, whose bytes and spans are taken away.
     fn take_repeat(&mut self) -> Option<Repeat>
         requires laid { IsLaid self.old }
-        ensures tells { TellsOf (shape_open self.old.out self.old.spans.items self.old.top.start self.old.top.shape) (vec_len self.old.below) result }
+        ensures tells { TellsOf (innermost self.old) (vec_len self.old.below) result }
         ensures order { self.new.order ≡ self.old.order }
         ensures out { self.new.out ≡ take self.old.top.from self.old.out }
         ensures spans { self.new.spans.items ≡ outer_spans self.old.spans.items self.old.top.shape }
@@ -260,8 +265,8 @@ impl Core {
         Some(Repeat { outside, pair })
     }
 
-    // The bytes, where nothing is open any more: where the parts given since `new` make a value, its
-    // canonical bytes. Takes no memory.
+    // The bytes, where nothing is open any more: where the parts given since `new` make a value,
+    // its canonical bytes. Takes no memory.
     pub(crate) fn finish(self) -> Vec<u8>
         ensures { IsLaid self → (bs : List ℕ) → standing self ≡ plain bs ∷ []
             → result.items ≡ bs }

@@ -1,11 +1,14 @@
 //! The public builder: canonical bytes from the parts of an item, without a tree.
 
-ghost use Rattle.std.specs.Prelude.{◌≡◌, ◌↔◌, ◌++◌, ◌∷◌, [], List, ℕ, false, length, IsTrue, OnOk, IfOk, MatchOption};
+ghost use Rattle.std.specs.Prelude.{◌≡◌, ◌↔◌, ◌++◌, ◌∷◌, [], List, ℕ, false, length, IsTrue, OnOk};
+ghost use Rattle.std.specs.Prelude.{IfOk, MatchOption};
 ghost use Rattle.cbor_head.specs.Canonical.{canonical};
 ghost use Rattle.cbor_head.specs.Head.{shortest_head, IsSimple};
 ghost use Rattle.cbor_head.specs.Value.{Value};
 ghost use Rattle.cbor_head.specs.declared.major.Major.TheVariants.{Simple};
-ghost use Rattle.cbor_item.specs.Built.{built, IsLeaf, IsStringType, IsContainer, TakesPart, IsInString, IsInContainer, HasDistinctKeysSoFar, IsRepeatedKey, AreOpenKeysDifferent, IsRepeatTold};
+ghost use Rattle.cbor_item.specs.Built.{built, IsLeaf, IsStringType, IsContainer, TakesPart};
+ghost use Rattle.cbor_item.specs.Built.{IsInString, IsInContainer, HasDistinctKeysSoFar};
+ghost use Rattle.cbor_item.specs.Built.{IsRepeatedKey, AreOpenKeysDifferent, IsRepeatTold};
 ghost use Rattle.cbor_item.specs.Parts.{Part, Makes, run, plain, give, opened, extended, close};
 
 #[cfg(test)]
@@ -71,7 +74,8 @@ impl CanonBuilder {
         requires simple { major ≡ Simple → IsSimple argument }
         requires takes { TakesPart self.old.standing }
         ensures { OnOk result
-            (self.new ≡ built self.old.order (give (shortest_head major argument) self.old.standing)) }
+            (self.new ≡ built self.old.order
+            (give (shortest_head major argument) self.old.standing)) }
     {
         self.is_sound = false;
         self.core.leaf(major, argument)?;
@@ -147,7 +151,8 @@ impl CanonBuilder {
         Ok(())
     }
 
-    /// The array, map or tag ends. No two keys of a map may be the same: `repeated` tells it of each.
+    /// The array, map or tag ends. No two keys of a map may be the same: `repeated` tells it of
+    /// each.
     pub fn end(&mut self) -> Result<(), AllocError>
         requires container { IsInContainer self.old.standing }
         requires distinct { HasDistinctKeysSoFar self.old.standing }
@@ -161,9 +166,9 @@ impl CanonBuilder {
         Ok(())
     }
 
-    /// The array, map or tag ends, where its keys haven't been looked at: false where two keys of the
-    /// map are the same. Then it stays open, and `first_repeat` tells which. A map of n pairs whose
-    /// keys don't come in order takes some n log n comparisons.
+    /// The array, map or tag ends, where its keys haven't been looked at: false where two keys of
+    /// the map are the same. Then it stays open, and `first_repeat` tells which. A map of n pairs
+    /// whose keys don't come in order takes some n log n comparisons.
     #[inline(always)]
     pub fn end_if_distinct(&mut self) -> Result<bool, AllocError>
         requires container { IsInContainer self.old.standing }
@@ -181,8 +186,8 @@ impl CanonBuilder {
 
     /// Whether the part that was just completed is a key that is the same as an earlier key of its
     /// map. Takes no memory. Where the keys come in order it costs one comparison; else it looks at
-    /// each earlier key of the map: to tell all keys of a large map apart, `end_if_distinct` does it
-    /// once for all.
+    /// each earlier key of the map: to tell all keys of a large map apart, `end_if_distinct` does
+    /// it once for all.
     pub fn repeated(&self) -> bool
         ensures { IsTrue result ↔ IsRepeatedKey self.now.standing }
     {
@@ -190,9 +195,9 @@ impl CanonBuilder {
     }
 
     /// Which repeated key is to be told where the parts end before the item: of the open maps, from
-    /// the outermost in, the first that has two equal keys, and of it the first key that is equal to
-    /// an earlier one. A key that waits for its value is one of its map's. None where the keys of each
-    /// open map differ. Takes no memory, and some n log n comparisons for n pairs.
+    /// the outermost in, the first that has two equal keys, and of it the first key that is equal
+    /// to an earlier one. A key that waits for its value is one of its map's. None where the keys
+    /// of each open map differ. Takes no memory, and some n log n comparisons for n pairs.
     pub fn first_repeat(self) -> Option<Repeat>
         ensures { MatchOption result (AreOpenKeysDifferent self.standing)
             (λ repeat. IsRepeatTold self.standing repeat.outside repeat.pair) }
@@ -201,8 +206,8 @@ impl CanonBuilder {
         if is_sound { core.first_repeat() } else { None }
     }
 
-    /// The bytes, once the item is whole: the canonical bytes of the value that the parts make. Takes
-    /// no memory.
+    /// The bytes, once the item is whole: the canonical bytes of the value that the parts make.
+    /// Takes no memory.
     pub fn finish(self) -> Vec<u8>
         ensures bytes { (bs : List ℕ) → self.standing ≡ plain bs ∷ [] → result.items ≡ bs }
         ensures canonical { (v : Value) (ps : List Part) → Makes v ps

@@ -18,8 +18,8 @@ pub fn same(a: &Tree, b: &Tree) -> bool
     is_same(a.item(), b.item())
 }
 
-// Of two maps with as many pairs and without equal keys, the one is looked up in the other. Both ways
-// would double the work with each level.
+// Of two maps with as many pairs and without equal keys, the one is looked up in the other. Both
+// ways would double the work with each level.
 #[cycle(same)]
 fn is_same(a: &Item, b: &Item) -> bool
     requires left { IsValid (view a.now) }

@@ -45,8 +45,8 @@ pub fn canonical_bytes_are_spelled()
         → IsSpelled s → spell s ≡ canonical o v → IsCanonicalSpelling o v s }
 {}
 
-/// A spelling without a complaint of the strict rules is the canonical one of its value, which is in
-/// range and valid.
+/// A spelling without a complaint of the strict rules is the canonical one of its value, which is
+/// in range and valid.
 pub fn strict_spelling_is_canonical()
     ensures { (o : KeyOrder) (s : Spelling) → IsSpelled s
         → ((c : Complaint) → Complains (strict o) 0 s c → ⊥)
@@ -78,8 +78,8 @@ pub fn spelling_is_as_deep_as_its_value()
     ensures { (s : Spelling) → value.depth (value_of s) ≡ depth s }
 {}
 
-/// From nothing, the parts that make a value leave its canonical bytes; whatever is open, they leave
-/// them as one more finished member. Repeated keys do no harm to this.
+/// From nothing, the parts that make a value leave its canonical bytes; whatever is open, they
+/// leave them as one more finished member. Repeated keys do no harm to this.
 pub fn parts_make_canonical_bytes()
     ensures whole { (o : KeyOrder) (v : Value) (ps : List Part) → Makes v ps → run o ps (plain [] ∷ []) ≡ plain (canonical o v) ∷ [] }
     ensures member { (o : KeyOrder) (v : Value) (ps : List Part) → Makes v ps → (os : List Open) → run o ps os ≡ give (canonical o v) os }

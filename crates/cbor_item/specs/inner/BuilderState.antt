@@ -1,7 +1,7 @@
 -- What a builder stands for.
 use Rattle.std.specs.Prelude.{List, ◌∷◌, reverse}
 use Rattle.cbor_item.specs.Parts.{Open}
-use Rattle.cbor_item.specs.inner.Laid.{opens, Laid}
+use Rattle.cbor_item.specs.inner.Laid.{shape_open, opens, Laid}
 use Rattle.cbor_item.specs.declared.builder.Core.{Core}
 use Rattle.cbor_item.specs.declared.builder.frame.Frame.{Frame}
 
@@ -11,6 +11,9 @@ frames c = c.top ∷ reverse c.below.items
 
 abbrev pub standing : Core → List Open
 standing c = opens c.out c.spans.items (frames c)
+
+abbrev pub innermost : Core → Open
+innermost c = shape_open c.out c.spans.items c.top.start c.top.shape
 
 abbrev pub IsLaid : Core → Type 0
 IsLaid c = Laid c.order c.out c.spans.items (frames c)

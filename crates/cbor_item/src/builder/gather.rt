@@ -1,6 +1,7 @@
 //! The pairs of a map, put in order.
 
-ghost use Rattle.std.specs.Prelude.{◌≡◌, ◌≢◌, ◌↔◌, ◌≤◌, [], IsTrue, IfOk, OnOk, map, flat_map, drop, length, slice_range, IsPermutation, IsSortedBy};
+ghost use Rattle.std.specs.Prelude.{◌≡◌, ◌≢◌, ◌↔◌, ◌≤◌, [], IsTrue, IfOk, OnOk, map, flat_map};
+ghost use Rattle.std.specs.Prelude.{drop, length, slice_range, IsPermutation, IsSortedBy};
 ghost use Rattle.cbor_head.specs.Canonical.{in_order};
 ghost use Rattle.cbor_head.specs.declared.order.KeyOrder.{KeyOrder};
 ghost use Rattle.cbor_item.specs.inner.Encoded.{DoNeighboursDiffer};
@@ -19,7 +20,8 @@ use std::alloc::AllocError;
 pub(crate) fn sort(bytes: &[u8], order: KeyOrder, spans: &mut Vec<Span>)
     ensures permuted { IsPermutation spans.old.items spans.new.items }
     ensures sorted { IsSortedBy
-        (λ x y. is_lt (rank order (ranked_by bytes.now x) (ranked_by bytes.now y))) spans.new.items }
+        (λ x y. is_lt (rank order (ranked_by bytes.now x) (ranked_by bytes.now y)))
+        spans.new.items }
 {
     spans.sort_unstable_by(|x, y| compare(bytes, order, x, y))
 }
@@ -62,7 +64,8 @@ fn put_in_order(
     ensures distinct { IfOk result (λ distinct.
         IsTrue distinct ↔ HasDistinctBytes (map (span_pair bytes.now) spans.now)) }
     ensures ordered { IfOk result (λ distinct. IsTrue distinct
-        → map (span_pair bytes.now) sorting.new.items ≡ in_order order (map (span_pair bytes.now) spans.now)) }
+        → map (span_pair bytes.now) sorting.new.items
+        ≡ in_order order (map (span_pair bytes.now) spans.now)) }
 {
     sorting.clear();
     sorting.extend_from_slice(spans)?;

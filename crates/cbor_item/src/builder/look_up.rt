@@ -12,9 +12,9 @@ use crate::builder::out::Out;
 use crate::builder::span::{Span, compare, front};
 use cbor_head::KeyOrder;
 
-// Whether one of the pairs has the key that stands from `key` to `val`. Where their keys rise, a key
-// above the last one costs one comparison. Else a pair costs a comparison of two numbers, where the
-// first eight bytes of the keys differ.
+// Whether one of the pairs has the key that stands from `key` to `val`. Where their keys rise, a
+// key above the last one costs one comparison. Else a pair costs a comparison of two numbers, where
+// the first eight bytes of the keys differ.
 pub(crate) fn has_key(
     out: &Out,
     order: KeyOrder,

@@ -1,11 +1,13 @@
 //! A finished member of what is open.
 
-ghost use Rattle.std.specs.Prelude.{ℕ, ◌≡◌, ◌≤◌, ◌++◌, ◌∷◌, [], IsTrue, OnOk, map, drop, length, vec_len, vec_capacity, ◌<◌};
+ghost use Rattle.std.specs.Prelude.{ℕ, ◌≡◌, ◌≤◌, ◌++◌, ◌∷◌, [], IsTrue, OnOk, map, drop, length};
+ghost use Rattle.std.specs.Prelude.{vec_len, vec_capacity, ◌<◌};
 ghost use Rattle.cbor_head.specs.declared.order.KeyOrder.{KeyOrder};
 ghost use Rattle.cbor_item.specs.Pairs.{IsRising};
 ghost use Rattle.cbor_item.specs.declared.builder.frame.Shape.TheVariants.{Key};
 ghost use Rattle.cbor_item.specs.inner.Front.{AreFronted, IsFronted};
-ghost use Rattle.cbor_item.specs.inner.Laid.{span_pair, Takes, shape_after, spans_after, KeepsRising};
+ghost use Rattle.cbor_item.specs.inner.Laid.{span_pair, Takes, shape_after, spans_after};
+ghost use Rattle.cbor_item.specs.inner.Laid.{KeepsRising};
 
 use crate::builder::frame::{Frame, Shape};
 use crate::builder::out::Out;
@@ -48,7 +50,8 @@ pub(crate) fn complete(
 ) -> Result<(), AllocError>
     requires takes { Takes frame.old.shape }
     requires within { (first a val : ℕ) → frame.old.shape ≡ Key first a val
-        → (first ≤ length spans.old.items) × (a ≤ val) × (val ≤ length out.now) × AreFronted out.now (drop first spans.old.items) }
+        → (first ≤ length spans.old.items) × (a ≤ val) × (val ≤ length out.now)
+        × AreFronted out.now (drop first spans.old.items) }
     ensures from { frame.new.from ≡ frame.old.from }
     ensures start { frame.new.start ≡ frame.old.start }
     ensures shape { frame.new.shape ≡ shape_after at (length out.now) frame.old.shape }

@@ -1,6 +1,7 @@
 //! The first key of a map that is equal to an earlier one.
 
-ghost use Rattle.std.specs.Prelude.{ℕ, ◌≡◌, List, length, map, IsPermutation, IsSortedBy, MatchOption};
+ghost use Rattle.std.specs.Prelude.{ℕ, ◌≡◌, List, length, map, IsPermutation, IsSortedBy};
+ghost use Rattle.std.specs.Prelude.{MatchOption};
 ghost use Rattle.std.specs.Ordering.{is_lt};
 ghost use Rattle.cbor_item.specs.Built.{AreAllDifferent, IsFirstRepeat};
 ghost use Rattle.cbor_item.specs.inner.Front.{key_of, AreFronted};
@@ -9,8 +10,8 @@ ghost use Rattle.cbor_item.specs.inner.Repeats.{by_number, AreNumbered, IsLeastS
 use crate::builder::span::{Span, compare};
 use cbor_head::KeyOrder;
 
-// The number of the first pair whose key is equal to an earlier one. The spans are put in order, and
-// their ends are lost. Takes no memory.
+// The number of the first pair whose key is equal to an earlier one. The spans are put in order,
+// and their ends are lost. Takes no memory.
 pub(crate) fn first_repeat(bytes: &[u8], order: KeyOrder, spans: &mut [Span]) -> Option<usize>
     requires { AreFronted bytes.now spans.old }
     ensures { let keys = map (key_of bytes.now) spans.old in

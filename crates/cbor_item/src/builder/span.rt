@@ -1,6 +1,7 @@
 //! Pairs of maps as spans of the buffer.
 
-ghost use Rattle.std.specs.Prelude.{◌≡◌, ◌<◌, ◌≤◌, ◌-◌, ◌*◌, ◌/◌, ◌^◌, length, slice_range, slice_index};
+ghost use Rattle.std.specs.Prelude.{◌≡◌, ◌<◌, ◌≤◌, ◌-◌, ◌*◌, ◌/◌, ◌^◌, length, slice_range};
+ghost use Rattle.std.specs.Prelude.{slice_index};
 ghost use Rattle.cbor_item.specs.inner.Front.{front_of, key_of, by_front, rank, ranked_by};
 ghost use Rattle.cbor_head.specs.Order.{key_cmp};
 
@@ -28,7 +29,8 @@ pub(crate) fn part(bytes: &[u8], start: usize, end: usize) -> &[u8]
     &bytes[start..end]
 }
 
-// The first eight bytes of a key as a number. They are read in one piece, beyond what is written too.
+// The first eight bytes of a key as a number. They are read in one piece, beyond what is written
+// too.
 #[inline(always)]
 pub(crate) fn front(out: &Out, key: usize, val: usize) -> u64
     requires begins { key ≤ val }

@@ -3,7 +3,8 @@
 ghost use Rattle.std.specs.Prelude.{◌≡◌, ◌<◌, IsTrue};
 ghost use Rattle.cbor_head.specs.Head.{IsSimple};
 ghost use Rattle.cbor_head.specs.declared.major.Major.TheVariants.{Simple};
-ghost use Rattle.cbor_item.specs.Built.{IsLeaf, IsStringType, IsContainer, TakesPart, IsInString, IsInContainer};
+ghost use Rattle.cbor_item.specs.Built.{IsLeaf, IsStringType, IsContainer, TakesPart, IsInString};
+ghost use Rattle.cbor_item.specs.Built.{IsInContainer};
 
 use crate::builder::frame::Shape;
 use crate::canon_builder::CanonBuilder;
@@ -107,8 +108,8 @@ fn end(builder: &mut CanonBuilder) -> Result<bool, Fail> {
     Ok(builder.end_if_distinct()?)
 }
 
-// The parts of an item. False where two keys of a map are the same; each repeated key is told when it
-// is complete.
+// The parts of an item. False where two keys of a map are the same; each repeated key is told when
+// it is complete.
 #[cycle(feed)]
 fn feed(builder: &mut CanonBuilder, item: &Item) -> Result<bool, Fail> {
     match item {
@@ -232,7 +233,8 @@ fn a_key_again(rt: HostRuntime) -> Result<(), Fail> {
 #[test]
 fn the_shortest_heads(rt: HostRuntime) -> Result<(), Fail> {
     let alloc = rt.alloc();
-    // RFC 8949, appendix A: 23, 24, 255, 65535, 4294967295, 18446744073709551615, -1000, 32(0), simple(255)
+    // RFC 8949, appendix A: 23, 24, 255, 65535, 4294967295, 18446744073709551615, -1000, 32(0),
+    // simple(255)
     let mut builder = CanonBuilder::new(alloc, KeyOrder::Bytewise);
     begin(&mut builder, Major::Array, 9)?;
     for n in [
