@@ -10,7 +10,7 @@ use crate::fault::Fault;
 use crate::folder::Folder;
 use crate::input;
 use cbor_head::{Limits, Reason, Refusal};
-use cbor_reader::{check_canonical, read_tree};
+use cbor_reader::{check_canonical, check_valid};
 use std::alloc::Global;
 use std::io::Write;
 
@@ -60,11 +60,7 @@ fn size_of_item(
         (IsNotWhole limits.depth limits.bytes (rules_of accepted) bytes.now) }
 {
     let size = match accepted {
-        Accepted::Valid => {
-            let mut reader = bytes;
-            let (_, size) = read_tree(alloc, &mut reader, limits)?;
-            size
-        }
+        Accepted::Valid => check_valid(alloc, bytes, limits)?,
         Accepted::Canonical(order) => check_canonical(bytes, limits, order)?,
     };
     if size == bytes.len() as u64 {

@@ -19,7 +19,7 @@ returns-in_err-size-in-Canonical-clause-refused c =
 pub returns-else-size-bytes-clause-refused : goal.returns-else-size-bytes-clause-refused
 returns-else-size-bytes-clause-refused c = elim c.match-accepted.branch [
   | in-Valid+in_ok-size-in-Valid w ↦
-      is_longer _ _ _ _ (ap rules_of w.in-Valid.is) _ c.match-accepted.size (rw w.size-is w.in_ok-size-in-Valid.ensures.accepted.read) c.if-size-bytes.false
+      is_longer _ _ _ _ (ap rules_of w.in-Valid.is) _ c.match-accepted.size (rw w.size-is w.in_ok-size-in-Valid.ensures.accepted) c.if-size-bytes.false
   | in-Canonical+in_ok-size-in-Canonical w ↦
       is_longer _ _ _ _ (ap rules_of w.in-Canonical.is) _ c.match-accepted.size (rw w.size-is w.in_ok-size-in-Canonical.ensures.accepted) c.if-size-bytes.false
 ]
