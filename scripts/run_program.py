@@ -8,6 +8,8 @@ builds crates/cborc/out/cborc by `rt run` where no program is given.
 
 import os
 import re
+import resource
+import signal
 import stat
 import subprocess
 import sys
@@ -91,7 +93,9 @@ def outputs_that_fail():
     os.close(reading)
     ended = subprocess.run([PROGRAM, "check", "-"], input=b"\x00", stdout=writing, stderr=subprocess.PIPE)
     os.close(writing)
-    expect("a closed pipe", ended, 3, None, line)
+    # Where the system ends a program at a closed pipe, it ends as other tools do.
+    if (ended.returncode, ended.stderr) not in ((3, line), (-signal.SIGPIPE, b"")):
+        faults.append(f"a closed pipe: found {(ended.returncode, ended.stderr)}")
 
 
 def files():
@@ -112,10 +116,14 @@ def files():
         faults.append(f"permissions are {os.stat(path).st_mode:o}")
     expect("a refusal", run(["canon", "-", "item"], b"\xff"), 1, b"", b"refused 7 StrayBreak at 0\n")
     holds("item", b"\x80", here)
-    limit = lambda: __import__("resource").setrlimit(__import__("resource").RLIMIT_FSIZE, (1, 1))
-    ended = run(["canon", "-", "item"], b"\x82\x00\x00", preexec_fn=limit)
-    if ended.returncode == 0:
-        faults.append("a write past the limit of a file's size: no status 0 wanted")
+    # A file of more than one byte is refused by the system, as on a full disk.
+    ended = run(
+        ["canon", "-", "item"],
+        b"\x82\x00\x00",
+        restore_signals=False,
+        preexec_fn=lambda: resource.setrlimit(resource.RLIMIT_FSIZE, (1, 1)),
+    )
+    expect("no room", ended, 3, b"", b"cannot write item\n")
     holds("item", b"\x80", here)
     expect("a new file", run(["canon", "-", "new"], b"\x00"), 0)
     holds("new", b"\x00", here + ["new"])
