@@ -1,4 +1,7 @@
-//! Spellings of one document are signed alike, and a document that could be read in two ways is not.
+//! Spellings of one document are signed alike, and a document that could be read in two ways is
+//! not.
+
+mod memory;
 
 use crate::bytes_to_sign;
 use cbor_head::{Reason, Refusal};

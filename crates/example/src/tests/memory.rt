@@ -1,0 +1,106 @@
+//! What each call answers where one request for memory is refused. `rt try --test --fail-alloc N`
+//! refuses the Nth request of each test, and these pass whatever N is; with none refused they show
+//! what is usual. Nothing here takes memory but the calls themselves.
+
+use crate::bytes_to_sign;
+use cbor_head::{KeyOrder, Limits, Reason, Refusal};
+use cbor_reader::{Sequence, Side, canonicalise, read_strict, read_tree, same_meaning};
+use std::process::Abort;
+
+// {1: {"b": 0, "a": h'07..'}, h'07..': [1, "text"], {1: 2}: 24(1)}, with an array and a text without
+// a length, and keys of more bytes than lie beside other values.
+static DOCUMENT: &[u8] =
+    b"\xa3\x01\xa2\x61b\x00\x61a\x42\x07\x07\x54\x07\x07\x07\x07\x07\x07\x07\x07\x07\x07\x07\x07\x07\x07\x07\x07\x07\x07\x07\x07\x9f\x01\x7f\x62te\x62xt\xff\xff\xa1\x01\x02\xd8\x18\x01";
+
+// The same in canonical bytes.
+static CANONICAL: &[u8] =
+    b"\xa3\x01\xa2\x61a\x42\x07\x07\x61b\x00\x54\x07\x07\x07\x07\x07\x07\x07\x07\x07\x07\x07\x07\x07\x07\x07\x07\x07\x07\x07\x07\x82\x01\x64text\xa1\x01\x02\xd8\x18\x01";
+
+fn limits<R: Abort>(rt: &R) -> Limits {
+    Limits::new(64, 65_536).expect(rt, "limits")
+}
+
+// Whether a refusal says that memory was refused, with as many bytes taken as it tells.
+fn is_memory(refusal: Refusal, taken: usize) -> bool {
+    refusal == Refusal::at(Reason::Memory, taken as u64)
+}
+
+fn taken(reader: &[u8], input: &[u8]) -> usize {
+    input.len().saturating_sub(reader.len())
+}
+
+#[test]
+fn canonical_bytes_or_memory(rt: HostRuntime) {
+    let alloc = rt.alloc();
+    match bytes_to_sign(alloc, DOCUMENT) {
+        Ok(bytes) => assert_eq!(rt; bytes.as_slice(), CANONICAL),
+        Err(refusal) => assert_eq!(rt; refusal.reason, Reason::Memory),
+    }
+    match canonicalise(alloc, DOCUMENT, limits(&rt), KeyOrder::LengthFirst) {
+        Ok(bytes) => assert_eq!(rt; bytes.len(), CANONICAL.len()),
+        Err(refusal) => assert_eq!(rt; refusal.reason, Reason::Memory),
+    }
+}
+
+// A reader has lost exactly the bytes that the refusal tells.
+#[test]
+fn a_tree_or_memory(rt: HostRuntime) {
+    let mut reader = DOCUMENT;
+    match read_tree(rt.alloc(), &mut reader, limits(&rt)) {
+        Ok((_tree, count)) => assert_eq!(rt; count, DOCUMENT.len() as u64),
+        Err(refusal) => assert!(rt; is_memory(refusal, taken(reader, DOCUMENT)), "{refusal}"),
+    }
+}
+
+#[test]
+fn a_strict_count_or_memory(rt: HostRuntime) {
+    let mut reader = CANONICAL;
+    match read_strict(rt.alloc(), &mut reader, limits(&rt), KeyOrder::Bytewise) {
+        Ok(count) => assert_eq!(rt; count, CANONICAL.len() as u64),
+        Err(refusal) => assert!(rt; is_memory(refusal, taken(reader, CANONICAL)), "{refusal}"),
+    }
+}
+
+// The side that was being read is named: behind the left one's memory none of the right is looked
+// at, though that is refused whatever memory there is.
+#[test]
+fn sameness_or_memory(rt: HostRuntime) {
+    let alloc = rt.alloc();
+    match same_meaning(alloc, DOCUMENT, CANONICAL, limits(&rt)) {
+        Ok(same) => assert!(rt; same),
+        Err((_side, refusal)) => assert_eq!(rt; refusal.reason, Reason::Memory),
+    }
+    match same_meaning(alloc, CANONICAL, b"\xff", limits(&rt)) {
+        Err((Side::Left, refusal)) => assert_eq!(rt; refusal.reason, Reason::Memory),
+        Err((Side::Right, refusal)) => {
+            assert_eq!(rt; refusal, Refusal::new(Reason::StrayBreak, 0, 1));
+        }
+        Ok(_) => assert!(rt; false, "a break is no item"),
+    }
+}
+
+// Behind a refusal a sequence has no more items, whatever follows.
+#[test]
+fn an_item_or_memory_and_the_end(rt: HostRuntime) {
+    for is_strict in [false, true] {
+        let mut items = Sequence::new(rt.alloc(), CANONICAL, limits(&rt));
+        let refusal = if is_strict {
+            match items.next_strict(KeyOrder::Bytewise) {
+                Some(Err(refusal)) => Some(refusal),
+                Some(Ok(_)) => None,
+                None => Some(Refusal::at(Reason::Truncated, 0)),
+            }
+        } else {
+            match items.next() {
+                Some(Err(refusal)) => Some(refusal),
+                Some(Ok(_)) => None,
+                None => Some(Refusal::at(Reason::Truncated, 0)),
+            }
+        };
+        if let Some(refusal) = refusal {
+            assert_eq!(rt; refusal.reason, Reason::Memory);
+        }
+        assert!(rt; items.next().is_none());
+        assert!(rt; items.next_strict(KeyOrder::Bytewise).is_none());
+    }
+}
