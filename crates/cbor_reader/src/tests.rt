@@ -1,5 +1,6 @@
 //! The readers against tables, over readers that give all at once, and in parts.
 
+mod built;
 mod conformance;
 mod conformance_table;
 mod cut_short;

@@ -3,7 +3,7 @@
 
 use super::conformance_table::{PAIRS, PARTS, rows};
 use super::{BadHex, bytes_of};
-use crate::{KeyOrder, Side, canonicalise, read_strict, read_tree, same_meaning};
+use crate::{KeyOrder, Side, canonicalise, check_valid, read_strict, read_tree, same_meaning};
 use cbor_head::{Limits, Refusal};
 use cbor_item::{Tree, encode};
 use std::alloc::{AllocError, Global};
@@ -166,6 +166,36 @@ fn reads_trees(rt: HostRuntime) -> Result<(), Fail> {
                 let is_right = is_read_right(rt.alloc(), &input, plain, answer, taken)?;
                 assert!(rt; is_right, "{line}");
             }
+        }
+    }
+    Ok(())
+}
+
+#[test]
+fn checks_slices(rt: HostRuntime) -> Result<(), Fail> {
+    for part in 0..PARTS {
+        for &line in rows(part) {
+            let Some((hex, column, plain, _)) = row_of(line) else {
+                return Err(Fail::from(BadRow::Columns));
+            };
+            let Some(limits) = limits_of(column) else {
+                return Err(Fail::from(BadRow::Limits));
+            };
+            let input = bytes_of(rt.alloc(), hex)?;
+            let wanted = by_order(plain, KeyOrder::Bytewise);
+            let given = match check_valid(rt.alloc(), &input, limits) {
+                Ok(count) if wanted.starts_with("12 ") => {
+                    format!(in rt.alloc(); "12 Trailing at {count}, read {count}")?
+                }
+                Ok(count) => format!(in rt.alloc(); "taken {count}")?,
+                Err(refusal) => text_of(rt.alloc(), refusal)?,
+            };
+            let whole = format!(in rt.alloc(); "taken {}", input.len())?;
+            let is_right = match is_item(wanted) {
+                true => given == whole,
+                false => given.as_str() == wanted,
+            };
+            assert!(rt; is_right, "{line}");
         }
     }
     Ok(())
