@@ -39,7 +39,7 @@
  *
  * Stack
  *  - Measured in the gate (c/stack.c), not proved: the figures are NALTVIGO_STACK and the two below it, some
- *    540 KiB at depth 256, 160 KiB at depth 64. On a thread with a small stack pass a smaller `depth`.
+ *    576 KiB at depth 256, 192 KiB at depth 64. On a thread with a small stack pass a smaller `depth`.
  *
  * Threads
  *  - No state is kept between calls, and none is shared: any number of threads may call at once, each with
@@ -122,7 +122,7 @@ struct naltvigo_refusal {
 
 /* What a call needs of the stack: this, and this again for each level of the `depth` that it is passed.
  * naltvigo_check_canonical needs no more than the third, at any depth. */
-#define NALTVIGO_STACK 32768
+#define NALTVIGO_STACK 65536
 #define NALTVIGO_STACK_A_LEVEL 2048
 #define NALTVIGO_STACK_CHECK_CANONICAL 98304
 
