@@ -225,7 +225,7 @@ head-some m Four n = omega arith
 head-some m Eight n = omega arith
 head-some m Indefinite n = omega arith
 
-taking-some : (d : ℕ) (fs : List Frame) (mark : Mark) (bs : List ℕ) (next : State) → IsTaking d (at_item fs) mark bs next → 0 < length bs
+pub taking-some : (d : ℕ) (fs : List Frame) (mark : Mark) (bs : List ℕ) (next : State) → IsTaking d (at_item fs) mark bs next → 0 < length bs
 taking-some d fs (a_head m Indefinite n) bs next h = omega (arith, ap length h.1, head-some m Indefinite 0)
 taking-some d fs (a_head m Direct n) bs next h = omega (arith, ap length h.0, head-some m Direct n)
 taking-some d fs (a_head m One n) bs next h = omega (arith, ap length h.0, head-some m One n)

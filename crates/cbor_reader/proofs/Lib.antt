@@ -19,6 +19,9 @@ pub mod Judged
 pub mod Keys
 pub mod KeySets
 pub mod Leaves
+pub mod LevelEvents
+pub mod Levels
+pub mod LevelStrings
 pub mod Loops
 pub mod MapKeys
 pub mod Maps

@@ -93,7 +93,7 @@ mutual
       let size = length-append (spell s) (spell_all ss) in
       (in_range_of s h.0 (omega (arith, l, size)), in_range_all ss h.1 (omega (arith, l, size)))
 
-  in_range_entries : (es : SpelledEntries) → AreEntriesSpelled es → length (spell_entries es) < 2 ^ 64 → AreEntriesInRange (entries_of es)
+  pub in_range_entries : (es : SpelledEntries) → AreEntriesSpelled es → length (spell_entries es) < 2 ^ 64 → AreEntriesInRange (entries_of es)
   in_range_entries no_entries h l = tt
   in_range_entries (entry k v es) h l =
       let size = length-append (spell k ++ spell v) (spell_entries es) in

@@ -18,6 +18,7 @@ use Rattle.cbor_reader.specs.Canonicalise.{IsCanonicalOf, IsRefusal}
 use Rattle.cbor_reader.specs.Headline.{IsValidItem}
 use Rattle.cbor_reader.specs.Refusals.{IsFreeBefore}
 use Rattle.cbor_reader.specs.WholeItem.{IsWholeItem, IsItemRefusal, unread, trailing}
+use Rattle.cbor_reader.specs.inner.Levels.{IsBuiltFront}
 use Rattle.cbor_reader.proofs.Accepted.{item_is_longest, item_is_whole}
 use Rattle.cbor_reader.proofs.FreeBefore.{accepted-free, truncated-free}
 use Rattle.cbor_reader.proofs.Headline.{valid_item, valid_item_accepted, answers_exactly}
@@ -31,13 +32,13 @@ pub unread-slice : (d n : ℕ) (input : List ℕ) (f : Refusal) → IsUnread d n
 unread-slice d n input f h g = unread h g
 
 -- memory was refused within the longest beginning
-memory_refused : (d n : ℕ) (input : List ℕ) (f g : Refusal) → g ≡ refusal Memory f.read f.read → (IsUnread d n plain input (refusal Memory f.read f.read)) → IsItemRefusal d n input g
-memory_refused d n input f g is h = subst (IsItemRefusal d n input) (sym is) (unread h (λ e. cc e))
+pub given-up-unread : (d n : ℕ) (input : List ℕ) (f g : Refusal) → IsUnread d n plain input f → f.reason ≡ Read → g ≡ refusal Memory f.read f.read → IsUnread d n plain input g
+given-up-unread d n input f g (of_verdict w) e is = absurd (never-read d n plain input f w e)
+given-up-unread d n input f g (of_reader p l m h w) e is = subst (IsUnread d n plain input) (sym is) (of_memory p l m refl (truncated-free d n f.read plain input p l m w))
+given-up-unread d n input f g (of_memory p l m h x) e is = subst (IsUnread d n plain input) (sym is) (of_memory p l m refl x)
 
 pub given-up : (d n : ℕ) (input : List ℕ) (f g : Refusal) → IsUnread d n plain input f → f.reason ≡ Read → g ≡ refusal Memory f.read f.read → IsItemRefusal d n input g
-given-up d n input f g (of_verdict w) e is = absurd (never-read d n plain input f w e)
-given-up d n input f g (of_reader p l m h w) e is = memory_refused d n input f g is (of_memory p l m refl (truncated-free d n f.read plain input p l m w))
-given-up d n input f g (of_memory p l m h x) e is = memory_refused d n input f g is (of_memory p l m refl x)
+given-up d n input f g h e is = unread (given-up-unread d n input f g h e is) (λ x. cc (sym (ap (λ (r : Refusal). r.reason) is) ∙ x))
 
 -- ---- behind an item that is read
 
@@ -83,6 +84,19 @@ module _ (d n : ℕ) (input rest : List ℕ) (v : Value) (size : ℕ) (a : IsRea
         valid_item d n input a.read.item a.read.verdict (item_is_whole d n plain input a.read.item a.read.verdict ends),
         a.value,
       )
+
+-- ---- behind an item that was built
+
+module _ (d n : ℕ) (o : KeyOrder) (input out : List ℕ) (size : ℕ) (f : IsBuiltFront d n o input out size) where
+  pub built-trails : (r : Refusal) → size < length input → r ≡ refusal Trailing size size → IsItemRefusal d n input r
+  built-trails r more is = trailing f.read.item f.read.verdict (omega (arith, more, f.read.size)) (is ∙ ap (λ (k : ℕ). refusal Trailing k k) f.read.size)
+
+  pub built-whole : length input ≤ size → (s : Spelling) × IsValidItem d n input s × (out ≡ canonical o (value_of s))
+  built-whole all = (
+    f.read.item,
+    valid_item d n input f.read.item f.read.verdict (item_is_whole d n plain input f.read.item f.read.verdict (omega (arith, all, f.read.size))),
+    f.canonical_is,
+  )
 
 -- ---- the refusal of an item, and that of its canonical bytes
 

@@ -3,6 +3,7 @@ pub mod Building
 pub mod Encoding
 pub mod Front
 pub mod Judged
+pub mod Levels
 pub mod MapKeys
 pub mod Members
 pub mod NextKey

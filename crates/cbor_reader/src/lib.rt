@@ -18,6 +18,7 @@ mod rules;
 mod sequence;
 mod sequence_items;
 pub mod sequence_laws;
+mod slice_builder;
 mod slice_checker;
 mod slice_tree;
 mod strict_reader;
@@ -26,6 +27,7 @@ mod strings;
 #[cfg(test)]
 mod tests;
 mod tree_reader;
+mod valid_slice;
 mod whole_item;
 
 pub use canonicaliser::canonicalise;
@@ -37,3 +39,4 @@ pub use slice_tree::whole_tree;
 pub use strict_reader::read_strict;
 pub use strict_slice::check_canonical;
 pub use tree_reader::read_tree;
+pub use valid_slice::check_valid;

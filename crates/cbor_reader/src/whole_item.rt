@@ -1,21 +1,46 @@
 //! The item that a whole input is.
 
-ghost use Rattle.std.specs.Prelude.{◌≡◌, ℕ, List, IfOk, IfErr};
+ghost use Rattle.std.specs.Prelude.{◌≡◌, ◌≢◌, ℕ, List, IfOk, IfErr};
 ghost use Rattle.cbor_head.specs.Canonical.{canonical};
 ghost use Rattle.cbor_head.specs.Complaint.{plain};
 ghost use Rattle.cbor_head.specs.Spelling.{Spelling, value_of};
+ghost use Rattle.cbor_head.specs.declared.reason.Reason.TheVariants as reasons;
 ghost use Rattle.cbor_reader.specs.Headline.{IsValidItem};
 ghost use Rattle.cbor_reader.specs.Readers.{IsUnread};
 ghost use Rattle.cbor_reader.specs.WholeItem.{IsItemRefusal};
 
+use crate::slice_builder::build_front;
 use crate::tree_reader::read_tree;
 use cbor_head::{KeyOrder, Limits, Reason, Refusal};
 use cbor_item::encode;
 use std::alloc::Global;
 
-// The canonical bytes, in this order and however many, of the one item that all the bytes are. The
-// item's tree is gone once they are there.
+// The canonical bytes, in this order and however many, of the one item that all the bytes are. No
+// tree is made of what is accepted; what is refused is read again for its refusal.
 pub(crate) fn encoded_item(
+    alloc: Global,
+    bytes: &[u8],
+    limits: Limits,
+    order: KeyOrder,
+) -> Result<Vec<u8>, Refusal>
+    ensures encoded { IfOk result (λ v. (s : Spelling)
+        × IsValidItem limits.depth limits.bytes bytes.now s
+        × (v.items ≡ canonical order (value_of s))) }
+    ensures refused { IfErr result (IsItemRefusal limits.depth limits.bytes bytes.now) }
+{
+    match build_front(alloc, bytes, limits, order) {
+        Some(front) => {
+            if front.size < bytes.len() as u64 {
+                return Err(Refusal::at(Reason::Trailing, front.size));
+            }
+            Ok(front.canonical)
+        }
+        None => encoded_tree(alloc, bytes, limits, order),
+    }
+}
+
+// The same by way of the item's tree, which is gone once they are there.
+fn encoded_tree(
     alloc: Global,
     bytes: &[u8],
     limits: Limits,
@@ -42,8 +67,11 @@ pub(crate) fn encoded_item(
 
 // A refusal by a reader that does not fail: a slice doesn't, though `Read` can't say so.
 pub(crate) fn of_slice(refusal: Refusal) -> Refusal
-    ensures { (d n : ℕ) (input : List ℕ)
+    ensures whole { (d n : ℕ) (input : List ℕ)
         → IsUnread d n plain input refusal → IsItemRefusal d n input result }
+    ensures unread { (d n : ℕ) (input : List ℕ)
+        → IsUnread d n plain input refusal → IsUnread d n plain input result }
+    ensures no_read { result.reason ≢ reasons.Read }
 {
     match refusal.reason {
         Reason::Read => Refusal::at(Reason::Memory, refusal.read),

@@ -8,7 +8,7 @@ use crate::fault::Fault;
 use crate::folder::Folder;
 use crate::input;
 use cbor_head::{Limits, Reason, Refusal};
-use cbor_reader::{read_strict, read_tree};
+use cbor_reader::{check_canonical, read_tree};
 use std::alloc::Global;
 use std::io::Write;
 
@@ -42,15 +42,15 @@ fn size_of_item(
     ensures refused { IfErr result
         (IsNotWhole limits.depth limits.bytes (rules_of accepted) bytes.now) }
 {
-    let mut reader = bytes;
     let size = match accepted {
         Accepted::Valid => {
+            let mut reader = bytes;
             let (_, size) = read_tree(alloc, &mut reader, limits)?;
             size
         }
-        Accepted::Canonical(order) => read_strict(alloc, &mut reader, limits, order)?,
+        Accepted::Canonical(order) => check_canonical(bytes, limits, order)?,
     };
-    if reader.is_empty() {
+    if size == bytes.len() as u64 {
         Ok(size)
     } else {
         Err(Refusal {

@@ -1,3 +1,3 @@
 mod Compared
 mod Given
-mod StrictWhole
+mod WholeInputs

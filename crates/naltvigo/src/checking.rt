@@ -13,11 +13,10 @@ ghost use Rattle.naltvigo.specs.inner.Checking.{IsOwnAnswer, IsNotOwn};
 
 use crate::settings::{limits_of, order_numbered};
 use crate::status::{BAD_LIMITS, BAD_ORDER, NO_MEMORY, NaltvigoRefusal, OK, REFUSED, tell, told};
-use crate::whole::tree_of;
 use cbor_head::laws::verdict_is_one;
 use cbor_head::{KeyOrder, Limits, Reason, Refusal};
-use cbor_reader::check_canonical;
-use cbor_reader::laws::own_answers_are_strictly_accepted;
+use cbor_reader::laws::{items_and_their_refusals, own_answers_are_strictly_accepted, valid_items};
+use cbor_reader::{check_canonical, check_valid};
 use std::alloc::Global;
 
 /// Whether `input` is exactly one valid item in its canonical bytes. It takes no memory.
@@ -52,7 +51,7 @@ pub extern "C" fn naltvigo_check_canonical_raw(
     let Some(limits) = limits_of(depth, bytes) else {
         return BAD_LIMITS;
     };
-    match check_whole(input, limits, order) {
+    match check_own_bytes(input, limits, order) {
         Ok(()) => OK,
         Err(reason) => {
             *refusal = told(reason);
@@ -83,14 +82,14 @@ pub extern "C" fn naltvigo_check_valid_raw(
     let Some(limits) = limits_of(depth, bytes) else {
         return BAD_LIMITS;
     };
-    match check_valid(alloc, input, limits) {
+    match check_whole_item(alloc, input, limits) {
         Ok(()) => OK,
         Err(reason) => tell(reason, refusal),
     }
 }
 
 // The item at the front is all of the input; else why it is not one in its canonical bytes.
-fn check_whole(input: &[u8], limits: Limits, order: KeyOrder) -> Result<(), Refusal>
+fn check_own_bytes(input: &[u8], limits: Limits, order: KeyOrder) -> Result<(), Refusal>
     ensures own { IfOk result (λ _. IsOwnAnswer limits.depth limits.bytes order input.now) }
     ensures refused { IfErr result (IsNotOwn limits.depth limits.bytes order input.now) }
 {
@@ -104,13 +103,16 @@ fn check_whole(input: &[u8], limits: Limits, order: KeyOrder) -> Result<(), Refu
 }
 
 // The input is one valid item; else why it is none.
-fn check_valid(alloc: Global, input: &[u8], limits: Limits) -> Result<(), Refusal>
+fn check_whole_item(alloc: Global, input: &[u8], limits: Limits) -> Result<(), Refusal>
     ensures accepted { IfOk result (λ _. IsWholeItem limits.depth limits.bytes input.now) }
     ensures refused { IfErr result (IsItemRefusal limits.depth limits.bytes input.now) }
     ensures not_accepted { IfErr result (λ f. f.reason ≢ reasons.Memory
         → ¬ IsWholeItem limits.depth limits.bytes input.now) }
 {
-    match tree_of(alloc, input, limits) {
+    valid_items();
+    items_and_their_refusals();
+    match check_valid(alloc, input, limits) {
+        Ok(size) if size < input.len() as u64 => Err(Refusal::at(Reason::Trailing, size)),
         Ok(_) => Ok(()),
         Err(refusal) => Err(refusal),
     }

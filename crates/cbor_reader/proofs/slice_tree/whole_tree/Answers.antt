@@ -2,7 +2,7 @@ use Rattle.cbor_reader.proofs.WholeItems.{trails, all-of-it}
 use Rattle.cbor_reader.proofs.slice_tree.whole_tree.Goals as goal
 
 pub returns-in-Err-clause-refused : goal.returns-in-Err-clause-refused
-returns-in-Err-clause-refused c = c.of_slice.ensures c.args.limits.depth c.args.limits.bytes c.args.bytes.now c.in-Err.ensures.refused
+returns-in-Err-clause-refused c = c.of_slice.ensures.whole c.args.limits.depth c.args.limits.bytes c.args.bytes.now c.in-Err.ensures.refused
 
 pub returns-then-is_empty-clause-accepted : goal.returns-then-is_empty-clause-accepted
 returns-then-is_empty-clause-accepted c =

@@ -1,7 +1,8 @@
 use Rattle.std.proofs.Common.{ap}
 use Rattle.std.proofs.lemmas.Result.{err_from_is_err_and}
+use Rattle.cbor_reader.specs.Readers.{of_verdict}
 use Rattle.cborc.specs.Check.{rules_of}
-use Rattle.cborc.proofs.Whole.{is_unread, is_followed}
+use Rattle.cborc.proofs.Whole.{is_unread, is_longer}
 use Rattle.cborc.proofs.check.size_of_item.Goals as goal
 use Rattle.cborc.proofs.check.size_of_item.Goals.{in-Valid+in_ok-size-in-Valid, in-Canonical+in_ok-size-in-Canonical}
 
@@ -13,14 +14,12 @@ returns-in_err-size-in-Valid-clause-refused c =
 pub returns-in_err-size-in-Canonical-clause-refused : goal.returns-in_err-size-in-Canonical-clause-refused
 returns-in_err-size-in-Canonical-clause-refused c =
     let p = err_from_is_err_and c.from_residual-in_err-size-in-Canonical.result c.from_residual-in_err-size-in-Canonical.ensures.1 in
-    rw (p.1, p.2) (is_unread _ _ _ _ (ap rules_of c.in-Canonical.is) _ _ c.in_err-size-in-Canonical.ensures.refused)
+    rw (p.1, p.2) (is_unread _ _ _ _ (ap rules_of c.in-Canonical.is) _ _ (of_verdict c.in_err-size-in-Canonical.ensures.refused))
 
-pub returns-else-is_empty-clause-refused : goal.returns-else-is_empty-clause-refused
-returns-else-is_empty-clause-refused c = elim c.match-accepted.branch [
+pub returns-else-size-bytes-clause-refused : goal.returns-else-size-bytes-clause-refused
+returns-else-size-bytes-clause-refused c = elim c.match-accepted.branch [
   | in-Valid+in_ok-size-in-Valid w ↦
-      is_followed _ _ _ _ (ap rules_of w.in-Valid.is) _ c.match-accepted.reader.now c.match-accepted.size
-      (rw w.size-is w.in_ok-size-in-Valid.ensures.accepted.read) (rw (w.size-is, w.reader-is) w.in_ok-size-in-Valid.ensures.taken) c.if-is_empty.ensures
+      is_longer _ _ _ _ (ap rules_of w.in-Valid.is) _ c.match-accepted.size (rw w.size-is w.in_ok-size-in-Valid.ensures.accepted.read) c.if-size-bytes.false
   | in-Canonical+in_ok-size-in-Canonical w ↦
-      is_followed _ _ _ _ (ap rules_of w.in-Canonical.is) _ c.match-accepted.reader.now c.match-accepted.size
-      (rw w.size-is w.in_ok-size-in-Canonical.ensures.accepted) (rw (w.size-is, w.reader-is) w.in_ok-size-in-Canonical.ensures.taken) c.if-is_empty.ensures
+      is_longer _ _ _ _ (ap rules_of w.in-Canonical.is) _ c.match-accepted.size (rw w.size-is w.in_ok-size-in-Canonical.ensures.accepted) c.if-size-bytes.false
 ]

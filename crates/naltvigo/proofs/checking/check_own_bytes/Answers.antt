@@ -1,7 +1,7 @@
 use Rattle.std.proofs.Common.{arith}
 use Rattle.cbor_head.specs.Complaint.{strict}
-use Rattle.naltvigo.proofs.StrictWhole.{owns, followed, refuses}
-use Rattle.naltvigo.proofs.checking.check_whole.Goals as goal
+use Rattle.naltvigo.proofs.WholeInputs.{owns, followed, refuses}
+use Rattle.naltvigo.proofs.checking.check_own_bytes.Goals as goal
 
 pub returns-in-Ok-clause-refused : goal.returns-in-Ok-clause-refused
 returns-in-Ok-clause-refused c =

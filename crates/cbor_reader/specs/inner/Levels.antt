@@ -1,0 +1,183 @@
+-- What a builder holds of an item whose events it was given: the open containers, with what is complete in them.
+use Rattle.std.specs.Prelude.{ℕ, suc, ◌≡◌, ◌<◌, ◌≤◌, ◌+◌, ◌-◌, ◌++◌, Bool, true, false, List, [], ◌∷◌, length, map}
+use Rattle.std.specs.Io.KnownBytes.{Consumes}
+use Rattle.std.specs.Prelude.{Some, IsUtf8}
+use Rattle.cbor_head.specs.Canonical.{canonical, canonical_all, canonical_entries}
+use Rattle.cbor_head.specs.Complaint.{plain, Complaint, Complains}
+use Rattle.cbor_head.specs.Head.{Holds, head, shortest_head}
+use Rattle.cbor_head.specs.Limits.{Bounds}
+use Rattle.cbor_head.specs.Spelling.{Spelling, Spellings, SpelledEntries, no_spellings, a_spelling, no_entries, entry, spell, spell_all, spell_entries, spellings_count, entries_count, IsSpelled, depth, value_of, values_of, entries_of}
+use Rattle.cbor_head.specs.Value.{Value}
+use Rattle.cbor_head.specs.declared.major.Major.TheVariants.{Array, Map, Tag}
+use Rattle.cbor_head.specs.declared.order.KeyOrder.{KeyOrder}
+use Rattle.cbor_head.specs.declared.width.Width.{Width}
+use Rattle.cbor_head.specs.declared.width.Width.TheVariants.{Indefinite}
+use Rattle.cbor_events.specs.SliceEvents.{event_of}
+use Rattle.cbor_events.specs.SliceView.{SliceEventsView, seen}
+use Rattle.cbor_events.specs.declared.event.EventKind.{EventKind}
+use Rattle.cbor_events.specs.declared.token.Token.{Token}
+use Rattle.cbor_events.specs.inner.Automaton.{Frame, counted, indefinite_array, indefinite_map, State, at_item, close, done as at_end}
+use Rattle.cbor_item.specs.Built.{Built, built, IsInContainer}
+use Rattle.cbor_item.specs.Parts as parts
+use Rattle.cbor_item.specs.Parts.{Open, plain as a_plain, an_array, a_map, give, closed, HasNoRepeats}
+use Rattle.cbor_reader.specs.Readers.{IsRead}
+use Rattle.cbor_reader.specs.inner.Reading.{IsAt, IsNextHead, IsBegun, ReadsItem, ReadsPayload}
+
+-- ---- items that were taken whole
+
+-- no complaint, wherever it stands
+abbrev pub IsClean : Spelling → Type 0
+IsClean s = (at : ℕ) (c : Complaint) → Complains plain at s c → ⊥
+
+pub record IsTaken (d : ℕ) (s : Spelling) : Type 0 where
+  pub spelled : IsSpelled s
+  pub within : depth s ≤ d
+  pub clean : IsClean s
+
+abbrev pub AreTaken : ℕ → Spellings → Type 0
+AreTaken d no_spellings = Unit {0}
+AreTaken d (a_spelling s ss) = IsTaken d s × AreTaken d ss
+
+-- keys that are the same are not looked for
+abbrev pub ArePairsTaken : ℕ → SpelledEntries → Type 0
+ArePairsTaken d no_entries = Unit {0}
+ArePairsTaken d (entry k v es) = IsTaken d k × IsTaken d v × ArePairsTaken d es
+
+-- ---- open containers
+
+-- Of an array the complete members, of a map the complete pairs, and the key where its value is due. So many members, or
+-- pairs, follow the one that is due; or there is no length.
+pub data Level : Type 0 where
+  a_member : Width → ℕ → Spellings → Level
+  a_key : Width → ℕ → SpelledEntries → Level
+  a_value : Width → ℕ → SpelledEntries → Spelling → Level
+  some_member : Spellings → Level
+  some_key : SpelledEntries → Level
+  some_value : SpelledEntries → Spelling → Level
+  tagged : Width → ℕ → Level
+
+-- the frame of the automaton
+abbrev pub frame : Level → Frame
+frame (a_member w left done) = counted left
+frame (a_key w left done) = counted (suc (left + left))
+frame (a_value w left done k) = counted (left + left)
+frame (some_member done) = indefinite_array
+frame (some_key done) = indefinite_map false
+frame (some_value done k) = indefinite_map true
+frame (tagged w n) = counted 0
+
+-- its bytes so far
+abbrev pub level_bytes : Level → List ℕ
+level_bytes (a_member w left done) = head Array w (spellings_count done + suc left) ++ spell_all done
+level_bytes (a_key w left done) = head Map w (entries_count done + suc left) ++ spell_entries done
+level_bytes (a_value w left done k) = (head Map w (entries_count done + suc left) ++ spell_entries done) ++ spell k
+level_bytes (some_member done) = head Array Indefinite 0 ++ spell_all done
+level_bytes (some_key done) = head Map Indefinite 0 ++ spell_entries done
+level_bytes (some_value done k) = (head Map Indefinite 0 ++ spell_entries done) ++ spell k
+level_bytes (tagged w n) = head Tag w n
+
+-- what a builder holds of it
+abbrev pub level_open : KeyOrder → Level → Open
+level_open o (a_member w left done) = an_array (spellings_count done) (canonical_all o (values_of done))
+level_open o (a_key w left done) = a_map (canonical_entries o (entries_of done))
+level_open o (a_value w left done k) = parts.a_key (canonical_entries o (entries_of done)) (canonical o (value_of k))
+level_open o (some_member done) = an_array (spellings_count done) (canonical_all o (values_of done))
+level_open o (some_key done) = a_map (canonical_entries o (entries_of done))
+level_open o (some_value done k) = parts.a_key (canonical_entries o (entries_of done)) (canonical o (value_of k))
+level_open o (tagged w n) = a_plain (shortest_head Tag n)
+
+-- it holds what is complete, which nests no deeper than this
+abbrev pub IsLevel : ℕ → Level → Type 0
+IsLevel d (a_member w left done) = Holds w (spellings_count done + suc left) × AreTaken d done
+IsLevel d (a_key w left done) = Holds w (entries_count done + suc left) × ArePairsTaken d done
+IsLevel d (a_value w left done k) = Holds w (entries_count done + suc left) × ArePairsTaken d done × IsTaken d k
+IsLevel d (some_member done) = AreTaken d done
+IsLevel d (some_key done) = ArePairsTaken d done
+IsLevel d (some_value done k) = ArePairsTaken d done × IsTaken d k
+IsLevel d (tagged w n) = Holds w n
+
+-- all of them, the innermost first
+abbrev pub AreLevels : ℕ → List Level → Type 0
+AreLevels d [] = Unit {0}
+AreLevels d (l ∷ ls) = (length ls < d) × IsLevel (d - suc (length ls)) l × AreLevels d ls
+
+abbrev pub bytes_before : List Level → List ℕ
+bytes_before [] = []
+bytes_before (l ∷ ls) = bytes_before ls ++ level_bytes l
+
+abbrev pub opens : KeyOrder → List Level → List Open
+opens o [] = a_plain [] ∷ []
+opens o (l ∷ ls) = level_open o l ∷ opens o ls
+
+-- ---- where a builder stands
+
+-- The whole of this container was given, and only its end is to come. It has no complaint where no two of its keys are the same.
+pub record IsFull (o : KeyOrder) (d : ℕ) (c : Open) (s : Spelling) : Type 0 where
+  pub spelled : IsSpelled s
+  pub within : depth s ≤ d
+  pub clean : HasNoRepeats c → IsClean s
+  pub canonical_is : closed o c ≡ canonical o (value_of s)
+  pub container : (other : Open) (os : List Open) → IsInContainer (c ∷ other ∷ os)
+
+-- behind the bytes t and in this state of the automaton, where so many containers are open in the builder
+pub data IsStanding (o : KeyOrder) (d : ℕ) (t : List ℕ) (q : State) (os : List Open) (height : ℕ) : Type 0 where
+  -- an item is due
+  due : (ls : List Level) → AreLevels d ls → t ≡ bytes_before ls → q ≡ at_item (map frame ls) → os ≡ opens o ls → height ≡ length ls → IsStanding o d t q os height
+  -- the innermost container is to end
+  full : (ls : List Level) (s : Spelling) (c : Open) → AreLevels d ls → IsFull o (d - length ls) c s → t ≡ bytes_before ls ++ spell s
+      → q ≡ close (map frame ls) → os ≡ c ∷ opens o ls → height ≡ suc (length ls) → IsStanding o d t q os height
+  -- the item is whole
+  whole : (s : Spelling) → IsTaken d s → t ≡ spell s → q ≡ at_end → os ≡ a_plain (canonical o (value_of s)) ∷ [] → height ≡ 0 → IsStanding o d t q os height
+
+abbrev pub IsBuilding : KeyOrder → ℕ → List ℕ → State → Built → ℕ → Type 0
+IsBuilding o d t q b height = (b.order ≡ o) × IsStanding o d t q b.standing height
+
+-- ---- what the builder's functions take and answer
+
+-- so many containers are open in a builder, and perhaps fewer by the events
+pub record HasHeight (e : SliceEventsView) (given : Built) (height : ℕ) : Type 0 where
+  pub b : Bounds
+  pub o : KeyOrder
+  pub t : List ℕ
+  pub q : State
+  pub at : IsAt b (seen e) t q
+  pub building : IsBuilding o b.depth t q given height
+
+-- an item was due within these containers, and this event came of what was left
+pub record IsEvent (b : Bounds) (o : KeyOrder) (ls : List Level) (token : Token) (old e : SliceEventsView) (given : Built) : Type 0 where
+  pub levels : AreLevels b.depth ls
+  pub next : IsNextHead plain b (at_item (map frame ls)) (bytes_before ls) (event_of token e) (Some old.rest) (Some e.rest) (seen e)
+  pub order : given.order ≡ o
+  pub standing : given.standing ≡ opens o ls
+
+pub record HasEvent (token : Token) (e : SliceEventsView) (given : Built) : Type 0 where
+  pub b : Bounds
+  pub o : KeyOrder
+  pub ls : List Level
+  pub old : SliceEventsView
+  pub is : IsEvent b o ls token old e given
+
+-- it was given to the builder, with the bytes that belong to it
+pub record IsFed (b : Bounds) (o : KeyOrder) (t from : List ℕ) (e : SliceEventsView) (given : Built) (height : ℕ) : Type 0 where
+  pub bytes : List ℕ
+  pub consumed : Consumes (Some from) (Some e.rest) bytes
+  pub some : 0 < length bytes
+  pub next : State
+  pub at : IsAt b (seen e) (t ++ bytes) next
+  pub building : IsBuilding o b.depth (t ++ bytes) next given height
+
+-- an item that was begun is taken whole, and given to the builder
+abbrev pub BuildsBegun : EventKind → SliceEventsView → SliceEventsView → Built → Built → Type 0
+BuildsBegun kind old new given now =
+    (b : Bounds) (fs : List Frame) (t x : List ℕ) (w : Width) → IsBegun plain b fs t x (seen old) w kind
+    → (v : Value) × ReadsItem plain b fs t x (Some old.rest) (Some new.rest) (seen new) v × (now ≡ built given.order (give (canonical given.order v) given.standing))
+
+-- the payload that was due, as one piece
+pub record TakesContent (b : Bounds) (q : State) (t : List ℕ) (n : ℕ) (text : Bool) (content : List ℕ) (old new : SliceEventsView) : Type 0 where
+  pub reads : ReadsPayload b q t n [] content (Some old.rest) (Some new.rest) (seen new)
+  pub utf8 : text ≡ true → IsUtf8 reads.bytes
+
+-- the item at the front of the input, accepted by the plain rules, and its canonical bytes
+pub record IsBuiltFront (d n : ℕ) (o : KeyOrder) (input out : List ℕ) (size : ℕ) : Type 0 where
+  pub read : IsRead d n plain input size
+  pub canonical_is : out ≡ canonical o (value_of read.item)

@@ -1,0 +1,238 @@
+//! The canonical bytes of the item at the front of a slice, from its events: no tree is made.
+
+ghost use Rattle.std.specs.Prelude.{◌≡◌, ◌+◌, ◌≤◌, ◌<◌, ◌∷◌, Bool, IsTrue, IfOk, IfSome, List, ℕ, Some, None, length};
+ghost use Rattle.cbor_head.specs.Head.{shortest_head, IsSimple};
+ghost use Rattle.cbor_head.specs.Limits.{Bounds};
+ghost use Rattle.cbor_head.specs.declared.major.Major.TheVariants.{Simple};
+ghost use Rattle.cbor_head.specs.declared.order.KeyOrder.{KeyOrder as Order};
+ghost use Rattle.cbor_events.specs.SliceView.{SliceEventsView, seen};
+ghost use Rattle.cbor_events.specs.inner.Automaton.{Frame, State, close_string, payload};
+ghost use Rattle.cbor_head.specs.declared.major.Major.{Major as MajorType};
+ghost use Rattle.cbor_item.specs.Built.{built, IsLeaf, IsContainer, TakesPart};
+ghost use Rattle.cbor_item.specs.Parts.{give, opened};
+ghost use Rattle.cbor_head.specs.Complaint.{plain};
+ghost use Rattle.cbor_reader.specs.inner.Reading.{IsAt, IsPayloadDue, HasBegun, string_kind, string_major};
+ghost use Rattle.cbor_reader.specs.inner.Levels.{Level, bytes_before, IsBuilding, HasHeight, IsEvent, HasEvent, IsFed, BuildsBegun, TakesContent, IsBuiltFront};
+
+use crate::payload::check_text;
+use cbor_events::{SliceEvents, Token};
+use cbor_head::{KeyOrder, Limits, Major};
+use cbor_item::CanonBuilder;
+use std::alloc::{AllocError, Global};
+
+/// The canonical bytes of the item that a slice begins with, and how many bytes the item has.
+#[derive(Drop)]
+pub(crate) struct BuiltFront {
+    pub(crate) canonical: Vec<u8>,
+    pub(crate) size: u64,
+}
+
+/// The item goes no further: its bytes are refused, or memory is.
+#[derive(Clone, Copy)]
+pub(crate) struct Stopped;
+
+impl From<AllocError> for Stopped {
+    fn from(_: AllocError) -> Stopped {
+        Stopped
+    }
+}
+
+/// The item at the front of the bytes within the limits, where it is well-formed and valid. None
+/// says nothing of the bytes: it is for a reader of trees to tell what is wrong with them.
+pub(crate) fn build_front(
+    alloc: Global,
+    bytes: &[u8],
+    limits: Limits,
+    order: KeyOrder,
+) -> Option<BuiltFront>
+    ensures { IfSome result (λ f.
+        IsBuiltFront limits.depth limits.bytes order bytes.now f.canonical.items f.size) }
+{
+    let mut events = SliceEvents::new(bytes, limits);
+    let mut builder = CanonBuilder::new(alloc, order);
+    'events: loop {
+        let height = events.open();
+        let token = events.next();
+        match token {
+            Token::End => {
+                let canonical = builder.finish();
+                let size = events.taken();
+                return Some(BuiltFront { canonical, size });
+            }
+            Token::Refused => return None,
+            _ => {}
+        }
+        let opened = match feed(&mut events, &mut builder, token) {
+            Ok(opened) => opened,
+            Err(_) => return None,
+        };
+        if !end_full(&events, &mut builder, height + opened) {
+            return None;
+        }
+    }
+}
+
+// Ends the containers that the last event made full, the innermost first. False where two keys of
+// a map are the same, or memory is refused.
+#[inline(always)]
+fn end_full(events: &SliceEvents<'_>, builder: &mut CanonBuilder, height: usize) -> bool
+    requires { HasHeight events.now builder.old height }
+    ensures { IsTrue result → (b : Bounds) (o : Order) (t : List ℕ) (q : State)
+        → IsAt b (seen events.now) t q → IsBuilding o b.depth t q builder.old height
+        → IsBuilding o b.depth t q builder.new events.now.machine.open_count }
+{
+    let open = events.open();
+    let mut left = height;
+    'full: while left > open {
+        match builder.end_if_distinct() {
+            Ok(true) => left -= 1,
+            _ => return false,
+        }
+    }
+    true
+}
+
+// Gives an event to the builder, a string whole; answers how many containers it opens.
+#[inline(always)]
+fn feed(
+    events: &mut SliceEvents<'_>,
+    builder: &mut CanonBuilder,
+    token: Token,
+) -> Result<usize, Stopped>
+    requires { HasEvent token events.old builder.old }
+    ensures { (b : Bounds) (o : Order) (ls : List Level) (from : SliceEventsView)
+        → IsEvent b o ls token from events.old builder.old
+        → IfOk result (λ opened. (opened ≤ 1)
+        × IsFed b o (bytes_before ls) from.rest events.new builder.new (length ls + opened)) }
+{
+    let number = events.number();
+    match token {
+        Token::Unsigned => leaf(builder, Major::Unsigned, number),
+        Token::Negative => leaf(builder, Major::Negative, number),
+        Token::Simple => leaf(builder, Major::Simple, number),
+        Token::Bytes => build_string(events, builder, false, number),
+        Token::Text => build_string(events, builder, true, number),
+        Token::IndefiniteBytes => build_chunks(events, builder, false),
+        Token::IndefiniteText => build_chunks(events, builder, true),
+        Token::Array => begin_container(builder, Major::Array, number),
+        Token::Map => begin_container(builder, Major::Map, number),
+        Token::Tag => begin_container(builder, Major::Tag, number),
+        Token::IndefiniteArray => begin_container(builder, Major::Array, 0),
+        Token::IndefiniteMap => begin_container(builder, Major::Map, 0),
+        Token::Break => Ok(0),
+        _ => Err(Stopped),
+    }
+}
+
+// An item that is its head.
+#[inline(always)]
+fn leaf(builder: &mut CanonBuilder, major: Major, number: u64) -> Result<usize, Stopped>
+    requires kind { IsLeaf major }
+    requires simple { major ≡ Simple → IsSimple number }
+    requires takes { TakesPart builder.old.standing }
+    ensures { IfOk result (λ opened. (opened ≡ 0) × (builder.new
+        ≡ built builder.old.order (give (shortest_head major number) builder.old.standing))) }
+{
+    builder.leaf(major, number)?;
+    Ok(0)
+}
+
+// The head of an array, a map or a tag.
+#[inline(always)]
+fn begin_container(builder: &mut CanonBuilder, major: Major, number: u64) -> Result<usize, Stopped>
+    requires kind { IsContainer major }
+    requires takes { TakesPart builder.old.standing }
+    ensures { IfOk result (λ opens. (opens ≡ 1)
+        × (builder.new ≡ built builder.old.order (opened major number ∷ builder.old.standing))) }
+{
+    builder.begin(major, number)?;
+    Ok(1)
+}
+
+// The type of a string.
+#[inline(always)]
+fn string_type(text: bool) -> Major
+    ensures { result ≡ string_major text }
+{
+    if text { Major::Text } else { Major::Bytes }
+}
+
+// A string of so many bytes, whose head came.
+#[inline(always)]
+fn build_string(
+    events: &mut SliceEvents<'_>,
+    builder: &mut CanonBuilder,
+    text: bool,
+    count: u64,
+) -> Result<usize, Stopped>
+    requires begun { HasBegun plain (seen events.old) (string_kind text (Some count)) }
+    requires takes { TakesPart builder.old.standing }
+    ensures { IfOk result (λ opened. (opened ≡ 0)
+        × BuildsBegun (string_kind text (Some count)) events.old events.new builder.old builder.new) }
+{
+    let content = take_payload(events, text, count)?;
+    builder.string(string_type(text), content)?;
+    Ok(0)
+}
+
+// A string of chunks, whose head came.
+#[inline(never)]
+fn build_chunks(
+    events: &mut SliceEvents<'_>,
+    builder: &mut CanonBuilder,
+    text: bool,
+) -> Result<usize, Stopped>
+    requires begun { HasBegun plain (seen events.old) (string_kind text None) }
+    requires takes { TakesPart builder.old.standing }
+    ensures { IfOk result (λ opened. (opened ≡ 0)
+        × BuildsBegun (string_kind text None) events.old events.new builder.old builder.new) }
+{
+    builder.begin_string(string_type(text))?;
+    'chunks: loop {
+        match events.next() {
+            Token::Chunk => {
+                let count = events.number();
+                let content = take_payload(events, text, count)?;
+                builder.bytes(content)?;
+            }
+            Token::Break => {
+                builder.end_string()?;
+                return Ok(0);
+            }
+            _ => return Err(Stopped),
+        }
+    }
+}
+
+// A payload of so many bytes, whole, which is UTF-8 where it is of a text.
+#[inline(always)]
+fn take_payload<'a>(
+    events: &mut SliceEvents<'a>,
+    text: bool,
+    count: u64,
+) -> Result<&'a [u8], Stopped>
+    requires { IsPayloadDue (seen events.old) count }
+    ensures { IfOk result (λ content.
+        (b : Bounds) (chunk : Bool) (m : MajorType) (fs : List Frame) (t : List ℕ)
+        → IsAt b (seen events.old) t (payload chunk m count fs)
+        → TakesContent b (close_string chunk m fs) t count text content.now events.old events.new) }
+{
+    if count == 0 {
+        return Ok(&[]);
+    }
+    match events.next() {
+        Token::Piece => {}
+        _ => return Err(Stopped),
+    }
+    let content = events.piece();
+    if content.len() as u64 != count {
+        return Err(Stopped);
+    }
+    if !text {
+        return Ok(content);
+    }
+    match check_text(content, 0) {
+        Ok(()) => Ok(content),
+        Err(_) => Err(Stopped),
+    }
+}
