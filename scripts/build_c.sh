@@ -19,7 +19,7 @@ room=$(mktemp -d)
 trap 'rm -rf "$room" "$log"' EXIT
 
 # After `rt ci` of a fresh clone the libraries stand built, without the mark by which rt lib knows them: then
-# the compiler is called as rt does it, and they are not proved again.
+# the compiler is called as rt does it, and they are not proved again, unless that fails.
 make_archive() {
     cd "$root/crates/naltvigo"
     if [ -e ../cbor_reader/out/rlib/stamp ] || [ ! -e ../cbor_reader/out/rlib/cbor_reader.rlib ]; then
@@ -33,7 +33,7 @@ make_archive() {
     done
     words+=(--antt-project "$kit/rattle/logic/antt-project.json" --logic-built "$kit/logic_built" --jobs 2)
     words+=(--links naltvigo= --toolchain "$kit/toolchain" --backend llvm)
-    "$kit/bin/rattle" build "${words[@]}" -o out/libnaltvigo.a
+    "$kit/bin/rattle" build "${words[@]}" -o out/libnaltvigo.a || rt lib
 }
 (make_archive) >"$log" 2>&1 || { cat "$log" >&2; exit 1; }
 
