@@ -16,7 +16,7 @@ mod look_up;
 mod member;
 mod opening;
 mod out;
-mod span;
+pub(crate) mod span;
 
 use crate::builder::frame::{Frame, Shape};
 use crate::builder::gather::ordered;

@@ -18,6 +18,7 @@ mod canon_builder;
 mod compare;
 mod encoded_key;
 mod encoding;
+mod fronts;
 mod item;
 mod key_bytes;
 pub mod laws;
@@ -31,8 +32,10 @@ pub use cbor_head::KeyOrder;
 pub use compare::same;
 pub use encoded_key::compare_keys;
 pub use encoding::{encode, encode_valid};
+pub use fronts::key_front;
 pub use item::Item;
 pub use key_bytes::SHORT_KEY;
+
 pub use tree::Tree;
 pub use write::{encode_to, write_whole};
 

@@ -1,5 +1,6 @@
 pub mod Accepted
 pub mod Arrays
+pub mod AsciiMasks
 pub mod Building
 pub mod ByteLists
 pub mod Chunks
@@ -28,6 +29,11 @@ pub mod OneAnswer
 pub mod OpenContainers
 pub mod Payloads
 pub mod ReadItems
+pub mod QuickFronts
+pub mod QuickHeads
+pub mod QuickItems
+pub mod QuickLeaves
+pub mod QuickLevels
 pub mod Reasons
 pub mod Scalars
 pub mod SequenceLaws

@@ -6,6 +6,7 @@ pub mod Judged
 pub mod MapKeys
 pub mod Members
 pub mod NextKey
+pub mod Quick
 pub mod Reading
 pub mod Rules
 pub mod SliceChecks
