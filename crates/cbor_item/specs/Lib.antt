@@ -1,5 +1,6 @@
 pub mod Built
 pub mod CanonicalSpelling
+pub mod Front
 pub mod inner
 pub mod Pairs
 pub mod Parts

@@ -21,7 +21,7 @@ mod member;
 mod opening;
 mod out;
 mod repeats;
-mod span;
+pub(crate) mod span;
 
 use crate::builder::frame::{Frame, Shape};
 use crate::builder::gather::ordered;

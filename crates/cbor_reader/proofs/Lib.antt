@@ -1,5 +1,6 @@
 pub mod Accepted
 pub mod Arrays
+pub mod AsciiMasks
 pub mod Building
 pub mod ByteLists
 pub mod Chunks
@@ -34,6 +35,11 @@ pub mod OpenSteps
 pub mod OpenWalk
 pub mod Payloads
 pub mod ReadItems
+pub mod QuickFronts
+pub mod QuickHeads
+pub mod QuickItems
+pub mod QuickLeaves
+pub mod QuickLevels
 pub mod Reasons
 pub mod Scalars
 pub mod SequenceLaws

@@ -9,6 +9,7 @@ pub mod MapKeys
 pub mod Members
 pub mod NextKey
 pub mod OpenMaps
+pub mod Quick
 pub mod Reading
 pub mod Rules
 pub mod SliceChecks

@@ -33,6 +33,7 @@ mod map_keys;
 mod members;
 mod next_head;
 mod payload;
+mod quick;
 mod rules;
 mod sequence;
 mod sequence_items;

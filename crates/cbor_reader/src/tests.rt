@@ -9,6 +9,7 @@ mod keys;
 mod sequence;
 mod sizes;
 mod slice;
+mod slice_sizes;
 mod thresholds;
 mod towers;
 mod whole;

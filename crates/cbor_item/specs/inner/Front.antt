@@ -1,21 +1,13 @@
--- The first eight bytes of a key as a number, and the order by it.
-use Rattle.std.specs.Prelude.{ℕ, zero, suc, ◌≡◌, ◌+◌, ◌*◌, ◌^◌, List, [], ◌∷◌, length, slice_range}
+-- The order of keys by their first eight bytes.
+use Rattle.std.specs.Prelude.{ℕ, ◌≡◌, List, length, slice_range}
 use Rattle.std.specs.List.{AllByRecursion}
 use Rattle.std.specs.declared.cmp.Ordering.{Ordering}
 use Rattle.std.specs.Ordering.{nat_cmp, then_cmp, on}
 use Rattle.cbor_head.specs.Order.{key_cmp}
 use Rattle.cbor_head.specs.declared.order.KeyOrder.{KeyOrder}
 use Rattle.cbor_head.specs.declared.order.KeyOrder.TheVariants.{Bytewise, LengthFirst}
+pub use Rattle.cbor_item.specs.Front.{digits, front_of}
 use Rattle.cbor_item.specs.declared.builder.span.Span.{Span}
-
--- the number of the first n bytes, the highest first; a byte that is not there counts as 0
-abbrev pub digits : ℕ → List ℕ → ℕ
-digits zero xs = 0
-digits (suc n) [] = 0
-digits (suc n) (x ∷ xs) = 256 ^ n * x + digits n xs
-
-abbrev pub front_of : List ℕ → ℕ
-front_of = digits 8
 
 abbrev pub key_of : List ℕ → Span → List ℕ
 key_of out s = slice_range out s.key s.val

@@ -41,7 +41,7 @@ pub(crate) fn front(out: &Out, key: usize, val: usize) -> u64
 }
 
 #[inline(always)]
-fn front_in(bytes: &[u8], key: usize, val: usize) -> u64
+pub(crate) fn front_in(bytes: &[u8], key: usize, val: usize) -> u64
     requires begins { key ≤ val }
     requires ends { val ≤ length bytes.now }
     ensures { result ≡ front_of (slice_range bytes.now key val) }
