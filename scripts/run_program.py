@@ -156,7 +156,7 @@ def pages():
         page = text(name)
         found = set(re.findall(r"(?<![\w-])--[a-z][a-z-]*", page))
         if name == "cborc.fish":
-            found = {"--" + word for word in re.findall(r" -l ([a-z-]+)", page)}
+            found = {"--" + word for word in re.findall(r"^complete.* -l ([a-z-]+)", page, re.M)}
         if found != known:
             faults.append(f"share/{name}: options differ by {sorted(found ^ known)}")
         for command in COMMANDS:
