@@ -1,7 +1,9 @@
 //! Sameness of trees.
 
-ghost use Rattle.std.specs.Prelude.{◌≡◌, ◌<◌, ◌≤◌, ◌↔◌, IsTrue, IsSome, IfSome, slice_get, slice_range, length};
-ghost use Rattle.cbor_head.specs.Value.{Same, SameValues, Covered, AnyEntry, IsValid, AreValid, AreEntriesValid};
+ghost use Rattle.std.specs.Prelude.{◌≡◌, ◌<◌, ◌≤◌, ◌↔◌, IsTrue, IsSome, IfSome, slice_get};
+ghost use Rattle.std.specs.Prelude.{slice_range, length};
+ghost use Rattle.cbor_head.specs.Value.{Same, SameValues, Covered, AnyEntry, IsValid, AreValid};
+ghost use Rattle.cbor_head.specs.Value.{AreEntriesValid};
 ghost use Rattle.cbor_item.specs.View.{view};
 ghost use Rattle.cbor_item.specs.inner.Members.{entries_view, values_view};
 ghost use Rattle.cbor_item.specs.declared.item.Item.{Item};
@@ -18,8 +20,8 @@ pub fn same(a: &Tree, b: &Tree) -> bool
     is_same(a.item(), b.item())
 }
 
-// Of two maps with as many pairs and without equal keys, the one is looked up in the other. Both ways
-// would double the work with each level.
+// Of two maps with as many pairs and without equal keys, the one is looked up in the other. Both
+// ways would double the work with each level.
 #[cycle(same)]
 fn is_same(a: &Item, b: &Item) -> bool
     requires left { IsValid (view a.now) }

@@ -7,8 +7,8 @@ use std::alloc::Global;
 use std::marker::Model;
 use std::mem;
 
-/// How many bytes of an encoded key lie beside other values, without memory of their own: as many as
-/// most keys have.
+/// How many bytes of an encoded key lie beside other values, without memory of their own: as many
+/// as most keys have.
 pub const SHORT_KEY: usize = 16;
 
 /// The bytes of an encoded key. Those of a short key lie in the value itself, so that they take no
