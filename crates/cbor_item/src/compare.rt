@@ -1,7 +1,9 @@
 //! Sameness of trees.
 
-ghost use Rattle.std.specs.Prelude.{◌≡◌, ◌<◌, ◌≤◌, ◌↔◌, IsTrue, IsSome, IfSome, slice_get, slice_range, length};
-ghost use Rattle.cbor_head.specs.Value.{Same, SameValues, Covered, AnyEntry, IsValid, AreValid, AreEntriesValid};
+ghost use Rattle.std.specs.Prelude.{◌≡◌, ◌<◌, ◌≤◌, ◌↔◌, IsTrue, IsSome, IfSome, slice_get};
+ghost use Rattle.std.specs.Prelude.{slice_range, length};
+ghost use Rattle.cbor_head.specs.Value.{Same, SameValues, Covered, AnyEntry, IsValid, AreValid};
+ghost use Rattle.cbor_head.specs.Value.{AreEntriesValid};
 ghost use Rattle.cbor_item.specs.View.{view};
 ghost use Rattle.cbor_item.specs.inner.Members.{entries_view, values_view};
 ghost use Rattle.cbor_item.specs.declared.item.Item.{Item};

@@ -1,10 +1,12 @@
 //! Canonical bytes.
 
-ghost use Rattle.std.specs.Prelude.{◌≡◌, ◌≢◌, ◌↔◌, ◌++◌, map, length, IsTrue, IsSome, IfOk, IfErr, IfSome, IsPermutation};
+ghost use Rattle.std.specs.Prelude.{◌≡◌, ◌≢◌, ◌↔◌, ◌++◌, map, length, IsTrue, IsSome, IfOk, IfErr};
+ghost use Rattle.std.specs.Prelude.{IfSome, IsPermutation};
 ghost use Rattle.std.specs.List.{range_with_len};
 ghost use Rattle.cbor_head.specs.Canonical.{canonical, canonical_all, canonical_entries, in_order};
 ghost use Rattle.cbor_head.specs.Head.{IsSimple, shortest_head};
-ghost use Rattle.cbor_head.specs.Value.{IsInRange, AreInRange, AreEntriesInRange, IsValid, AreValid, AreEntriesValid, HasDistinctKeys};
+ghost use Rattle.cbor_head.specs.Value.{IsInRange, AreInRange, AreEntriesInRange, IsValid};
+ghost use Rattle.cbor_head.specs.Value.{AreValid, AreEntriesValid, HasDistinctKeys};
 ghost use Rattle.cbor_head.specs.declared.major.Major.TheVariants.{Simple};
 ghost use Rattle.cbor_item.specs.inner.Encoded.{joined, pair_at};
 ghost use Rattle.cbor_item.specs.Parts.{AreKeysValid};

@@ -2,14 +2,16 @@
 //! contracts are what they are for.
 
 ghost use Rattle.std.specs.Prelude.{◌≡◌, ◌++◌, ◌∷◌, ◌↔◌, ℕ, List, [], Contains, IsPermutation};
-ghost use Rattle.cbor_head.specs.Value.{Value, Entries, Same, IsInRange, IsValid, AreEntriesInRange, HasDistinctKeys};
+ghost use Rattle.cbor_head.specs.Value.{Value, Entries, Same, IsInRange, IsValid};
+ghost use Rattle.cbor_head.specs.Value.{AreEntriesInRange, HasDistinctKeys};
 ghost use Rattle.cbor_head.specs.Value as value;
 ghost use Rattle.cbor_head.specs.Spelling.{Spelling, IsSpelled, spell, value_of, depth};
 ghost use Rattle.cbor_head.specs.Canonical.{Pair, canonical, canonical_entries, in_order};
 ghost use Rattle.cbor_head.specs.Complaint.{strict, Complaint, Complains};
 ghost use Rattle.cbor_head.specs.declared.order.KeyOrder.{KeyOrder};
 ghost use Rattle.cbor_item.specs.CanonicalSpelling.{IsCanonicalSpelling};
-ghost use Rattle.cbor_item.specs.Parts.{AreKeysValid, Open, a_map, a_key, Part, Makes, plain, run, give, HasNoRepeats};
+ghost use Rattle.cbor_item.specs.Parts.{AreKeysValid, Open, a_map, a_key, Part, Makes, plain, run};
+ghost use Rattle.cbor_item.specs.Parts.{give, HasNoRepeats};
 ghost use Rattle.cbor_item.specs.Pairs.{IsRising};
 ghost use Rattle.cbor_item.specs.Built.{IsRepeatedKey, HasSameKey};
 
@@ -81,8 +83,10 @@ pub fn spelling_is_as_deep_as_its_value()
 /// From nothing, the parts that make a value leave its canonical bytes; whatever is open, they
 /// leave them as one more finished member. Repeated keys do no harm to this.
 pub fn parts_make_canonical_bytes()
-    ensures whole { (o : KeyOrder) (v : Value) (ps : List Part) → Makes v ps → run o ps (plain [] ∷ []) ≡ plain (canonical o v) ∷ [] }
-    ensures member { (o : KeyOrder) (v : Value) (ps : List Part) → Makes v ps → (os : List Open) → run o ps os ≡ give (canonical o v) os }
+    ensures whole { (o : KeyOrder) (v : Value) (ps : List Part) → Makes v ps
+        → run o ps (plain [] ∷ []) ≡ plain (canonical o v) ∷ [] }
+    ensures member { (o : KeyOrder) (v : Value) (ps : List Part) → Makes v ps
+        → (os : List Open) → run o ps os ≡ give (canonical o v) os }
 {}
 
 /// No two keys of an open map have equal bytes exactly where no two of the entries that made it are

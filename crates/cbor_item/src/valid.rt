@@ -1,7 +1,8 @@
 //! Whether the keys of each map differ.
 
 ghost use Rattle.std.specs.Prelude.{◌≡◌, ◌↔◌, IsTrue, IfOk};
-ghost use Rattle.cbor_head.specs.Value.{IsInRange, AreInRange, AreEntriesInRange, IsValid, AreValid, AreEntriesValid, HasDistinctKeys};
+ghost use Rattle.cbor_head.specs.Value.{IsInRange, AreInRange, AreEntriesInRange, IsValid};
+ghost use Rattle.cbor_head.specs.Value.{AreValid, AreEntriesValid, HasDistinctKeys};
 ghost use Rattle.cbor_item.specs.View.{view};
 ghost use Rattle.cbor_item.specs.inner.Members.{entries_view, values_view};
 

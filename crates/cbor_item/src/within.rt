@@ -1,7 +1,8 @@
 //! How deep an item is, and the ranges of its numbers.
 
 ghost use Rattle.std.specs.Prelude.{◌≡◌, ◌≤◌, ◌<◌, ◌^◌, ◌↔◌, IsTrue, IsUtf8, length, string_bytes};
-ghost use Rattle.cbor_head.specs.Value.{depth, depth_all, depth_entries, AreBytes, IsInRange, AreInRange, AreEntriesInRange};
+ghost use Rattle.cbor_head.specs.Value.{depth, depth_all, depth_entries, AreBytes, IsInRange};
+ghost use Rattle.cbor_head.specs.Value.{AreInRange, AreEntriesInRange};
 ghost use Rattle.cbor_item.specs.View.{view};
 ghost use Rattle.cbor_item.specs.inner.Members.{entries_view, values_view};
 

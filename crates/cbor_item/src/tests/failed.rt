@@ -1,29 +1,37 @@
 //! Writers that stop.
 
 use super::{eight_keys, simple};
-use crate::{KeyOrder, Tree, encode_to, write_whole};
+use crate::{Item, KeyOrder, Tree, encode_to, write_whole};
 use cbor_head::{Reason, Refusal};
 use std::io;
 use std::io::{Error, ErrorKind, Write};
 use std::test::Fail;
 
-// Takes at most `step` bytes a write, and when it holds `room` of them fails or takes no more.
+// Takes at most `step` bytes a write. Once, when it holds `room` of them, it fails or takes none,
+// and then goes on: a write that is tried again is seen.
 #[derive(Drop)]
 struct Cup {
     held: Vec<u8>,
     room: usize,
     step: usize,
     fails: bool,
+    stopped: bool,
 }
 
 impl Write for Cup {
     fn write(&mut self, buf: &[u8]) -> io::Result<usize> {
-        if self.room == 0 && self.fails {
-            return Err(Error::from(ErrorKind::Interrupted));
+        if self.held.len() == self.room && !self.stopped {
+            self.stopped = true;
+            if self.fails {
+                return Err(Error::from(ErrorKind::Interrupted));
+            }
+            return Ok(0);
         }
-        let count = buf.len().min(self.room).min(self.step);
+        let mut count = buf.len().min(self.step);
+        if !self.stopped && self.held.len() < self.room {
+            count = count.min(self.room - self.held.len());
+        }
         self.held.extend_from_slice(&buf[..count])?;
-        self.room -= count;
         Ok(count)
     }
 
@@ -48,6 +56,7 @@ fn writers_stop_at_each_place(rt: HostRuntime) -> Result<(), Fail> {
                 room,
                 step,
                 fails,
+                stopped: false,
             };
             let want = if room < bytes.len() {
                 Err(Refusal::new(Reason::Write, room as u64, 0))
@@ -69,9 +78,35 @@ fn a_writer_that_takes_all(rt: HostRuntime) -> Result<(), Fail> {
         room: 5,
         step: 2,
         fails: true,
+        stopped: false,
     };
     assert_eq!(rt; write_whole(&mut cup, b"abcde"), Ok(()));
     assert_eq!(rt; cup.held.as_slice(), b"abcde".as_slice());
     assert_eq!(rt; write_whole(&mut cup, b"f"), Err(0));
+    assert_eq!(rt; write_whole(&mut cup, b"gh"), Ok(()));
+    assert_eq!(rt; cup.held.as_slice(), b"abcdegh".as_slice());
+    Ok(())
+}
+
+// [1, 2, 3], to a writer that takes two bytes and then fails.
+#[test]
+fn writes_what_came_before_the_failure(rt: HostRuntime) -> Result<(), Fail> {
+    let alloc = rt.alloc();
+    let members = vec![in alloc; Item::Unsigned(1), Item::Unsigned(2), Item::Unsigned(3)]?;
+    let Ok(tree) = Tree::of(alloc, Item::Array(members)) else {
+        panic!(rt; "no tree")
+    };
+    for step in [1, 100] {
+        let mut cup = Cup {
+            held: Vec::new(alloc),
+            room: 2,
+            step,
+            fails: true,
+            stopped: false,
+        };
+        let want = Err(Refusal::new(Reason::Write, 2, 0));
+        assert_eq!(rt; encode_to(alloc, &tree, KeyOrder::Bytewise, &mut cup), want);
+        assert_eq!(rt; cup.held.as_slice(), b"\x83\x01".as_slice());
+    }
     Ok(())
 }
