@@ -15,6 +15,17 @@ c=$root/c
 
 say() { echo "C: $*"; }
 fail() { say "FAILED: $*"; exit 1; }
+have() { command -v "$1" >/dev/null || { say "skipped, $1 is not installed"; return 1; }; }
+
+compilers=()
+for it in gcc clang; do
+    ! have $it || compilers+=($it)
+done
+if [ ${#compilers[@]} = 0 ] || ! have ld || ! have objcopy || ! have nm; then
+    say 'skipped whole: a C compiler and the binutils are needed'
+    exit 0
+fi
+export CC=${compilers[0]}
 
 "$root/scripts/build_c.sh" "$dist"
 "$root/scripts/build_c.sh" "$room/again"
@@ -52,10 +63,8 @@ run() {
     out=$("${@:2}" 2>&1) || { echo "$out"; fail "$1"; }
     say "$1: $(tail -1 <<<"$out")"
 }
-have() { command -v "$1" >/dev/null || { say "skipped, $1 is not installed"; return 1; }; }
 
-for cc in gcc clang; do
-    have $cc || continue
+for cc in "${compilers[@]}"; do
     $cc "${flags[@]}" -O2 "$c/test.c" "$dist/lib/libnaltvigo.a" -o "$room/t"
     run "$cc, archive" "$room/t"
     $cc "${flags[@]}" -O2 -static "$c/test.c" "$dist/lib/libnaltvigo.a" -o "$room/t"
@@ -76,7 +85,7 @@ for cxx in g++ clang++; do
     done
     say "$cxx: the header compiles"
 done
-cc=$(command -v gcc || command -v clang)
+cc=$CC
 "$cc" "${flags[@]}" -g "$c/test.c" "$dist/lib/libnaltvigo.a" -o "$room/t"
 if have valgrind; then
     run valgrind valgrind -q --leak-check=full --error-exitcode=9 "$room/t"
