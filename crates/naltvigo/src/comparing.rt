@@ -6,7 +6,8 @@ ghost use Rattle.cbor_head.specs.declared.order.KeyOrder.{KeyOrder};
 ghost use Rattle.cbor_reader.specs.Canonicalise.{IsCanonicalOf};
 ghost use Rattle.cbor_reader.specs.Comparing.{MeanTheSame};
 ghost use Rattle.cbor_reader.specs.WholeItem.{IsWholeItem};
-ghost use Rattle.naltvigo.specs.Comparing.{side_number as number_of, IsSideRefused, SideLacksMemory};
+ghost use Rattle.naltvigo.specs.Comparing.{side_number as number_of};
+ghost use Rattle.naltvigo.specs.Comparing.{IsSideRefused, SideLacksMemory};
 
 use crate::settings::limits_of;
 use crate::status::{BAD_LIMITS, DIFFERENT, NO_MEMORY, NaltvigoRefusal, OK, REFUSED, tell};
