@@ -167,8 +167,8 @@ fn build_string(
 ) -> Result<usize, Stopped>
     requires begun { HasBegun plain (seen events.old) (string_kind text (Some count)) }
     requires takes { TakesPart builder.old.standing }
-    ensures { IfOk result (λ opened. (opened ≡ 0)
-        × BuildsBegun (string_kind text (Some count)) events.old events.new builder.old builder.new) }
+    ensures { IfOk result (λ opened. (opened ≡ 0) × BuildsBegun (string_kind text (Some count))
+        events.old events.new builder.old builder.new) }
 {
     let content = take_payload(events, text, count)?;
     builder.string(string_type(text), content)?;

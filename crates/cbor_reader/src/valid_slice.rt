@@ -11,12 +11,12 @@ use crate::whole_item::of_slice;
 use cbor_head::{KeyOrder, Limits, Refusal};
 use std::alloc::Global;
 
-/// How many bytes the well-formed, valid item has that the slice begins with (RFC 8949, sections 3
-/// and 5.3.1); else the refusal that the bytes within the limits call for, or `Memory`, where it was
-/// refused before, at the count of the bytes taken.
+/// How many bytes the well-formed, valid item has that the slice begins with (RFC 8949, sections
+/// 3 and 5.3.1); else the refusal that the bytes within the limits call for, or `Memory`, where it
+/// was refused before, at the count of the bytes taken.
 ///
-/// It answers as [`read_tree`](crate::read_tree) does of a reader over the slice. No tree is made of
-/// an item that is accepted; memory is taken for its canonical bytes, by which equal keys are found.
+/// It answers as [`read_tree`](crate::read_tree) does of a reader over the slice. No tree is made
+/// of what is accepted; memory is taken for its canonical bytes, by which equal keys are found.
 pub fn check_valid(alloc: Global, bytes: &[u8], limits: Limits) -> Result<u64, Refusal>
     ensures accepted { IfOk result
         (λ count. IsRead limits.depth limits.bytes plain bytes.now count) }
