@@ -97,7 +97,13 @@ run threads "$room/t"
 "$cc" "${flags[@]}" -O2 "$c/stack.c" "$dist/lib/libnaltvigo.a" -pthread -o "$room/t"
 "$room/t" | sed 's/^/C: stack: /' || fail 'stack'
 
-# ---- the examples, as the README has them
+# ---- the examples, as docs/C.md has them
+
+listing() { sed -n "/^\`\`\`$1\$/,/^\`\`\`\$/p" "$root/docs/C.md" | sed '1d;$d'; }
+for file in canonicalise.c canonicalise.py; do
+    case $file in *.c) language=c ;; *) language=python ;; esac
+    listing $language | diff - "$c/$file" >/dev/null || fail "docs/C.md has another $file"
+done
 
 xxd_of() { od -An -tx1 | tr -d ' \n'; }
 printf '\277\143Fun\365\143Amt!\377' >"$room/streamed.cbor"
