@@ -6,6 +6,7 @@ mod conformance_table;
 mod cut_short;
 mod failing;
 mod keys;
+mod promises;
 mod sequence;
 mod sizes;
 mod slice;

@@ -167,7 +167,7 @@ fn stand_within_each_limit_and_no_higher(rt: HostRuntime) -> Result<(), Fail> {
             let Some(tower) = tower_of(kind, is_key) else {
                 return Err(Fail::from("no such kind"));
             };
-            for limit in (0..=256u16).filter(|limit| limit % 8 == 0 || limit % 64 > 60) {
+            for limit in 0..=256u16 {
                 let Some(limits) = Limits::new(limit, 1048576) else {
                     return Err(Fail::from("no limits"));
                 };
