@@ -24,8 +24,13 @@ fn string_of(alloc: Global, text: bool, size: usize) -> Result<Vec<u8>, AllocErr
 }
 
 // Such a string is canonical, whatever stands behind it.
-fn looks_at_string(rt: &HostRuntime, text: bool, size: usize) -> Result<(), AllocError> {
-    let mut bytes = string_of(rt.alloc(), text, size)?;
+fn looks_at_string(
+    rt: &impl Abort,
+    alloc: Global,
+    text: bool,
+    size: usize,
+) -> Result<(), AllocError> {
+    let mut bytes = string_of(alloc, text, size)?;
     let count = bytes.len() as u64;
     takes(rt, &bytes, count);
     for _ in 0..40 {
@@ -45,8 +50,8 @@ fn takes(rt: &impl Abort, bytes: &[u8], wanted: u64) {
 #[test]
 fn takes_strings_of_each_size(rt: HostRuntime) -> Result<(), Fail> {
     for &size in &SIZES {
-        looks_at_string(&rt, false, size)?;
-        looks_at_string(&rt, true, size)?;
+        looks_at_string(&rt, rt.alloc(), false, size)?;
+        looks_at_string(&rt, rt.alloc(), true, size)?;
     }
     Ok(())
 }
