@@ -6,7 +6,6 @@ mod keys;
 mod sequence;
 mod sizes;
 mod slice;
-mod slice_sizes;
 
 use cbor_head::Limits;
 use std::alloc::Global;
