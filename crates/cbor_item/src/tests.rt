@@ -2,7 +2,7 @@
 
 mod failed;
 
-use crate::{Item, KeyOrder, Tree, compare_keys, encode, encode_to, encode_valid, key_front, same};
+use crate::{Item, KeyOrder, Tree, compare_keys, encode, encode_to, encode_valid, same};
 use cbor_head::{Reason, Refusal, Simple};
 use std::alloc::{AllocError, Global};
 use std::cmp::Ordering;
@@ -437,14 +437,4 @@ fn compares_keys(rt: HostRuntime) {
         assert_eq!(rt; compare_keys(KeyOrder::Bytewise, a, b), bytewise);
         assert_eq!(rt; compare_keys(KeyOrder::LengthFirst, a, b), length_first);
     }
-}
-
-// The texts "hello" and "hello, you", encoded: what stands behind the first eight bytes is left out.
-#[test]
-fn fronts_of_keys(rt: HostRuntime) {
-    let bytes = b"\x65hello\x6ahello, you\x00";
-    assert_eq!(rt; key_front(bytes, 0, 6), 0x6568_656c_6c6f_0000);
-    assert_eq!(rt; key_front(bytes, 6, 17), 0x6a68_656c_6c6f_2c20);
-    assert_eq!(rt; key_front(bytes, 17, 18), 0);
-    assert_eq!(rt; key_front(bytes, 6, 6), 0);
 }

@@ -10,7 +10,6 @@ mod promises;
 mod sequence;
 mod sizes;
 mod slice;
-mod slice_sizes;
 mod thresholds;
 mod towers;
 mod whole;
