@@ -4,10 +4,13 @@ pub mod Encoding
 pub mod Frame
 pub mod Front
 pub mod Judged
+pub mod LastKeys
 pub mod MapKeys
 pub mod Members
 pub mod NextKey
+pub mod OpenItems
 pub mod OpenMaps
 pub mod Reading
 pub mod Rules
 pub mod SliceChecks
+pub mod StrictFront
