@@ -72,7 +72,7 @@ module _ (r : Rules) (b : Bounds) (fs gs : List Frame) (t y : List ℕ)
     }
 
     -- what is undecided of the part is undecided of the whole
-    undecided-in : (m : List ℕ) → IsUndecided r b gs (t ++ y) m → IsUndecided r b fs t (y ++ m)
+    pub undecided-in : (m : List ℕ) → IsUndecided r b gs (t ++ y) m → IsUndecided r b fs t (y ++ m)
     undecided-in m h = record {
       p = y ++ h.p;
       last = h.last;
@@ -178,7 +178,7 @@ opener-judged r at d fs majors.Array next c f o = array_head_complains Indefinit
 opener-judged r at d fs majors.Map next c f o = map_head_complains Indefinite 0 r at (d - length fs) c tt (omega (arith, f.0)) o
 opener-judged r at d fs _ next c f o = absurd f
 
-head-judged : (r : Rules) (at d : ℕ) (fs : List Frame) (mark : Mark) (bs : List ℕ) (next : State) (c : Complaint) → IsTaking d (at_item fs) mark bs next → OfMark r at (at_item fs) mark c → IsJudged r at (d - length fs) bs (Some c)
+pub head-judged : (r : Rules) (at d : ℕ) (fs : List Frame) (mark : Mark) (bs : List ℕ) (next : State) (c : Complaint) → IsTaking d (at_item fs) mark bs next → OfMark r at (at_item fs) mark c → IsJudged r at (d - length fs) bs (Some c)
 head-judged r at d fs (a_head m Indefinite n) bs next c h o = subst (λ (xs : List ℕ). IsJudged r at (d - length fs) xs (Some c)) (sym h.1) (opener-judged r at d fs m next c h.2 o)
 head-judged r at d fs (a_head m Direct n) bs next c h o = subst (λ (xs : List ℕ). IsJudged r at (d - length fs) xs (Some c)) (sym h.0) (definite-judged r at d fs m Direct n bs next c (definite d fs m Direct n bs next (is-definite Direct n h.1) h) o)
 head-judged r at d fs (a_head m One n) bs next c h o = subst (λ (xs : List ℕ). IsJudged r at (d - length fs) xs (Some c)) (sym h.0) (definite-judged r at d fs m One n bs next c (definite d fs m One n bs next (is-definite One n h.1) h) o)

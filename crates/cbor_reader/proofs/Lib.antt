@@ -16,6 +16,7 @@ pub mod Headline
 pub mod Heads
 pub mod Items
 pub mod Judged
+pub mod KeptKeys
 pub mod Keys
 pub mod KeySets
 pub mod Leaves
@@ -29,8 +30,11 @@ pub mod NextKey
 pub mod OnAnswers
 pub mod OneAnswer
 pub mod OpenContainers
+pub mod OpenHeads
+pub mod OpenItems
 pub mod OpenKeys
 pub mod OpenMaps
+pub mod OpenPieces
 pub mod OpenSteps
 pub mod OpenWalk
 pub mod Payloads
@@ -50,6 +54,7 @@ pub mod SliceItems
 pub mod SpelledBytes
 pub mod Steps
 pub mod StrictFronts
+pub mod StrictSteps
 pub mod Tops
 pub mod Undecided
 pub mod Valid

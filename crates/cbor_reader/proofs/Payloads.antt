@@ -62,11 +62,11 @@ abbrev pub IsPiece : EventKind → Type 0
 IsPiece (kinds.Piece n) = Unit {0}
 IsPiece kind = ⊥
 
-abbrev IsPayload : State → Type 0
+abbrev pub IsPayload : State → Type 0
 IsPayload (in_payload chunk m n fs) = Unit {0}
 IsPayload q = ⊥
 
-due-piece : (position : Position) (fs : List frames.Frame) (kind : EventKind) → IsPayload (state_of position fs) → item_events.IsDue (is_in_payload position) kind → IsPiece kind
+pub due-piece : (position : Position) (fs : List frames.Frame) (kind : EventKind) → IsPayload (state_of position fs) → item_events.IsDue (is_in_payload position) kind → IsPiece kind
 due-piece (positions.Payload chunk type left) fs (kinds.Piece n) h d = tt
 due-piece (positions.Payload chunk type left) fs (kinds.Unsigned n) h d = absurd d
 due-piece (positions.Payload chunk type left) fs (kinds.Negative n) h d = absurd d

@@ -1,24 +1,23 @@
 -- What a sequence gives of an input.
-use Rattle.std.proofs.Common.{ℕ, zero, suc, ◌+◌, ◌-◌, ◌≡◌, ◌≢◌, ◌<◌, ◌≤◌, Option, Some, None, Result, Ok, Err, List, [], ◌∷◌, ◌++◌, length, take, drop, refl, sym, ap, ◌∙◌, arith, subst, inl, inr}
+use Rattle.std.proofs.Common.{ℕ, ◌+◌, ◌-◌, ◌≡◌, ◌≢◌, ◌<◌, Option, Some, None, Result, Ok, Err, List, [], ◌∷◌, ◌++◌, length, take, drop, refl, sym, ap, ◌∙◌, arith, subst, inl, inr}
 use Rattle.std.specs.Option.{IfSome}
 use Rattle.std.specs.List.{AllByRecursion}
 use Rattle.std.proofs.Math.Seq.{take-append-add, drop-append_seam}
 use Rattle.std.proofs.lemmas.List.{append_assoc, append-nil, nil_from_length, take-append-drop, length-append, length-take}
 use Rattle.cbor_head.specs.Value.{Value}
-use Rattle.cbor_head.specs.Spelling.{Spelling, simple, spell, value_of, IsItem}
-use Rattle.cbor_head.specs.Complaint.{Rules, Complaint, Complains, plain}
+use Rattle.cbor_head.specs.Spelling.{Spelling, simple, spell, value_of}
+use Rattle.cbor_head.specs.Complaint.{Rules}
 use Rattle.cbor_head.specs.Limits.{Bounds}
 use Rattle.cbor_head.specs.Verdict.{accepted, refused, refusal, IsFormError, IsVerdict}
-use Rattle.cbor_head.specs.declared.reason.Reason.{Reason}
 use Rattle.cbor_head.specs.declared.reason.Reason.TheVariants.{Read, Memory, Truncated, TooLong}
 use Rattle.cbor_head.specs.declared.reason.Refusal.{Refusal}
 use Rattle.cbor_head.proofs.Accepted.{accepts_exactly}
 use Rattle.cbor_head.proofs.Beginnings.{item_decides}
 use Rattle.cbor_head.proofs.OneFirst.{after_head}
 use Rattle.cbor_head.proofs.OneVerdict.{one_verdict}
-use Rattle.cbor_head.proofs.ReadLaws.{length_spell, unique}
+use Rattle.cbor_head.proofs.ReadLaws.{length_spell}
 use Rattle.cbor_reader.specs.Readers.{IsRead, IsReadAs, IsUnread, of_verdict, of_reader, of_memory, Loses}
-use Rattle.cbor_reader.specs.Sequence.{sequence_bytes, IsAccepted, StartsWithItems, IsLongestSequence, IfRefused, IsTaken, EndsBefore, IsAtEnd, IsRefused, Given, given_by, items_of, AreGivenBy, HasGiven, GivesNext}
+use Rattle.cbor_reader.specs.Sequence.{sequence_bytes, IsAccepted, IfRefused, EndsBefore, IsAtEnd, IsRefused, Given, given_by, items_of, HasGiven, GivesNext}
 use Rattle.cbor_reader.proofs.Accepted.{item_within_limit}
 use Rattle.cbor_reader.proofs.CutShort.{truncated}
 

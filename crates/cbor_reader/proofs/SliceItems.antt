@@ -1,15 +1,13 @@
 -- Items of a slice, from its events.
-use Rattle.std.proofs.Common.{◌≡◌, ◌≢◌, ℕ, zero, suc, cond, ◌+◌, ◌-◌, ◌<◌, ◌≤◌, ◌⊎◌, Bool, true, false, true≢false, IsTrue, Option, Some, None, List, [], ◌∷◌, ◌++◌, length, take, drop, refl, sym, ap, ◌∙◌, subst, inl, inr, arith}
+use Rattle.std.proofs.Common.{◌≡◌, ◌≢◌, ℕ, zero, suc, cond, ◌+◌, ◌-◌, ◌<◌, ◌≤◌, ◌⊎◌, Bool, true, IsTrue, Some, None, List, [], ◌∷◌, ◌++◌, length, take, refl, sym, ap, ◌∙◌, subst, inl, inr, arith}
 use Rattle.std.proofs.lemmas.Bool.Decides.{nat_tests}
 use Rattle.std.specs.Ordering.{is_lt, ordering_then}
 use Rattle.std.specs.declared.cmp.Ordering.TheVariants.{Less, Equal, Greater}
-use Rattle.std.specs.Prelude.{nat_lt, ◌==◌, IsUtf8, Result, Ok, Err, MatchResult}
+use Rattle.std.specs.Prelude.{nat_lt, ◌==◌, Result, Ok, Err, MatchResult}
 use Rattle.std.specs.Io.KnownBytes.{Consumes}
-use Rattle.std.specs.Str.Lossy.{utf8_valid_len}
 use Rattle.std.proofs.lemmas.List.{length-append}
 use Rattle.std.proofs.Math.Seq.{take-append_seam}
 use Rattle.cbor_head.specs.Limits.{Bounds}
-use Rattle.cbor_head.specs.Head.{head}
 use Rattle.cbor_head.specs.Value as value
 use Rattle.cbor_head.specs.Value.{Value, Values, Entries}
 use Rattle.cbor_head.specs.Spelling.{Spelling, spell}
@@ -28,29 +26,28 @@ use Rattle.cbor_head.specs.declared.reason.Reason.TheVariants as reasons
 use Rattle.cbor_head.specs.declared.reason.Refusal.{Refusal}
 use Rattle.cbor_head.proofs.ReadLaws.{length_spell}
 use Rattle.cbor_events.specs.Trace.{Mark, a_head, a_chunk, a_byte, a_break}
-use Rattle.cbor_events.specs.inner.Automaton.{Frame, counted, State, at_item, close, close_string, payload, done}
+use Rattle.cbor_events.specs.inner.Automaton.{Frame, counted, State, at_item, close}
 use Rattle.cbor_events.specs.Marks.{mark_of}
-use Rattle.cbor_events.specs.ItemEvents.{ItemEventsView, IsNextEvent, IsEnd}
+use Rattle.cbor_events.specs.ItemEvents.{IsNextEvent, IsEnd}
 use Rattle.cbor_events.specs.SliceEvents.{event_of, slice_call, IsNextTold, IsRefusedTold}
 use Rattle.cbor_events.specs.Machine.{KeepsLimits}
 use Rattle.cbor_events.specs.SliceView.{SliceEventsView}
 use Rattle.cbor_events.specs.Token.{kind_of}
-use Rattle.cbor_events.specs.declared.event.EventKind.{EventKind}
 use Rattle.cbor_events.specs.declared.event.EventKind.TheVariants as kinds
 use Rattle.cbor_events.specs.declared.token.Token.{Token}
 use Rattle.cbor_events.specs.declared.token.Token.TheVariants as tokens
 use Rattle.cbor_events.proofs.WholeHeads.{front-of}
-use Rattle.cbor_reader.specs.inner.Reading.{IsAt, IsFault, IsHeadFault, IsMemory, IsHeadDue, IsNextHead, StopsHead, OfMark, IsBegun, ReadsItem, StopsItem, ReadsPayload, StopsPayload, string_kind, string_major}
+use Rattle.cbor_reader.specs.inner.Reading.{IsAt, IsFault, IsHeadFault, IsHeadDue, IsNextHead, StopsHead, OfMark, IsBegun, ReadsItem, StopsItem, StopsPayload, string_kind}
 use Rattle.cbor_events.specs.SliceView.{seen}
 use Rattle.cbor_reader.specs.inner.SliceChecks.{IsOfBytes, TakesItem, TakesPayload, IsLastKey, TakesKey}
 use Rattle.cbor_reader.specs.inner.NextKey.{RefusesKey}
 use Rattle.cbor_reader.specs.declared.rules.Rules.TheVariants.{Strict}
 use Rattle.cbor_reader.proofs.Judged.{Never}
 use Rattle.cbor_reader.proofs.Reasons.{never-read}
-use Rattle.cbor_reader.proofs.Steps.{Stops, limits-as, stops, next-head, bad-head, no-head}
+use Rattle.cbor_reader.proofs.Steps.{Stops, limits-as, stops, next-head, bad-head}
 use Rattle.cbor_reader.proofs.Items.{begun-by, reads-next, stops-next}
 use Rattle.cbor_reader.proofs.Scalars.{reads-unsigned, reads-negative, reads-simple, reads-tag, stops-tag}
-use Rattle.cbor_reader.proofs.WholeStrings.{string-due, reads-string, stops-string, looks}
+use Rattle.cbor_reader.proofs.WholeStrings.{reads-string, stops-string, looks}
 
 -- ---- what is told
 

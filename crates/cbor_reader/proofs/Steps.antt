@@ -4,7 +4,6 @@ use Rattle.std.proofs.lemmas.List.{length-append}
 use Rattle.std.specs.Prelude.{Ok}
 use Rattle.std.specs.Io.KnownBytes.{Consumes}
 use Rattle.cbor_head.specs.Limits.{Bounds}
-use Rattle.cbor_head.specs.Value.{AreBytes}
 use Rattle.cbor_head.specs.Complaint.{Rules, form, plain, strict, Complaint, complaint}
 use Rattle.cbor_head.specs.Beginning.{IsBeginning}
 use Rattle.cbor_head.specs.Verdict.{refusal, refused, IsVerdict}
@@ -121,7 +120,7 @@ head-taken b old new t q ev from to due a n same =
 
 -- ---- the head's complaint
 
-head-size : (d : ℕ) (q next : State) (m : Mark) (bs : List ℕ) (r : Rules) (at : ℕ) (reason : Reason) → IsTaking d q m bs next → IsFault r m reason → OfMark r at q m (complaint (at + length bs) at reason)
+pub head-size : (d : ℕ) (q next : State) (m : Mark) (bs : List ℕ) (r : Rules) (at : ℕ) (reason : Reason) → IsTaking d q m bs next → IsFault r m reason → OfMark r at q m (complaint (at + length bs) at reason)
 head-size d (at_item fs) next (a_head m Indefinite n) bs (strict o) at reason h f = ap (λ (x : Reason). complaint (at + length bs) at x) f ∙ ap (λ (xs : List ℕ). complaint (at + length xs) at reasons.Indefinite) h.1
 head-size d (at_item fs) next (a_head m Direct n) bs (strict o) at reason h f = (f.0, ap (λ (x : Reason). complaint (at + length bs) at x) f.1 ∙ ap (λ (xs : List ℕ). complaint (at + length xs) at reasons.NotShortest) h.0)
 head-size d (at_item fs) next (a_head m One n) bs (strict o) at reason h f = (f.0, ap (λ (x : Reason). complaint (at + length bs) at x) f.1 ∙ ap (λ (xs : List ℕ). complaint (at + length xs) at reasons.NotShortest) h.0)
@@ -148,7 +147,7 @@ head-size d (in_head c k v x acc fs) next m bs (strict o) at reason h f = absurd
 head-size d (in_simple fs) next m bs (strict o) at reason h f = absurd h
 head-size d done next m bs (strict o) at reason h f = absurd h
 
-fault_of : (q : State) (m : Mark) (r : Rules) (at : ℕ) (c : Complaint) → OfMark r at q m c → (reason : Reason) × IsFault r m reason
+pub fault_of : (q : State) (m : Mark) (r : Rules) (at : ℕ) (c : Complaint) → OfMark r at q m c → (reason : Reason) × IsFault r m reason
 fault_of (at_item fs) (a_head m Indefinite n) (strict o) at c h = (reasons.Indefinite, refl)
 fault_of (at_item fs) (a_head m Direct n) (strict o) at c h = (reasons.NotShortest, (h.0, refl))
 fault_of (at_item fs) (a_head m One n) (strict o) at c h = (reasons.NotShortest, (h.0, refl))

@@ -1,5 +1,5 @@
 -- Where memory is refused: all but the last byte taken tells nothing against the item.
-use Rattle.std.proofs.Common.{ℕ, ◌+◌, ◌≡◌, ◌<◌, ◌≤◌, Option, None, List, [], ◌∷◌, ◌++◌, length, refl, ap, arith, subst}
+use Rattle.std.proofs.Common.{ℕ, ◌≡◌, ◌<◌, ◌≤◌, Option, List, [], ◌∷◌, ◌++◌, length, refl, ap, arith, subst}
 use Rattle.std.proofs.lemmas.List.{length-append}
 use Rattle.cbor_head.specs.Limits.{Bounds}
 use Rattle.cbor_head.specs.Value.{Value, AreBytes}
@@ -12,13 +12,13 @@ use Rattle.cbor_reader.proofs.ByteLists.{bytes_front}
 use Rattle.cbor_reader.specs.inner.Reading.{IsUndecided, IsPart, ReadsItem}
 
 -- a list with its last byte apart
-record LastApart (xs : List ℕ) : Type 0 where
-  front : List ℕ
-  last : List ℕ
-  splits : xs ≡ front ++ last
-  byte : length last ≡ 1
+pub record LastApart (xs : List ℕ) : Type 0 where
+  pub front : List ℕ
+  pub last : List ℕ
+  pub splits : xs ≡ front ++ last
+  pub byte : length last ≡ 1
 
-last-apart : (xs : List ℕ) → 0 < length xs → LastApart xs
+pub last-apart : (xs : List ℕ) → 0 < length xs → LastApart xs
 last-apart [] h = absurd (omega arith)
 last-apart (x ∷ []) h = record { front = []; last = x ∷ []; splits = refl; byte = refl }
 last-apart (x ∷ y ∷ ys) h =

@@ -54,13 +54,13 @@ is-text (strict o) at q c u h = h.0 u
 -- ---- of one piece
 
 -- the head of a definite string
-record StringHead (r : Rules) (b : Bounds) (fs : List Frame) (t x : List ℕ) (w : Width) (text : Bool) (n : ℕ) (next : State) : Type 0 where
-  bytes_are : x ≡ head (string_major text) w n
-  holds : Holds w n
-  follows : next ≡ payload false (string_major text) n fs
-  clean : Never (OfHead r (length t) (string_major text) w n)
+pub record StringHead (r : Rules) (b : Bounds) (fs : List Frame) (t x : List ℕ) (w : Width) (text : Bool) (n : ℕ) (next : State) : Type 0 where
+  pub bytes_are : x ≡ head (string_major text) w n
+  pub holds : Holds w n
+  pub follows : next ≡ payload false (string_major text) n fs
+  pub clean : Never (OfHead r (length t) (string_major text) w n)
 
-string-head : (r : Rules) (b : Bounds) (fs : List Frame) (t x : List ℕ) (e : ItemEventsView) (w : Width) (text : Bool) (n : ℕ) → (i : IsBegun r b fs t x e w (string_kind text (Some n))) → StringHead r b fs t x w text n i.next
+pub string-head : (r : Rules) (b : Bounds) (fs : List Frame) (t x : List ℕ) (e : ItemEventsView) (w : Width) (text : Bool) (n : ℕ) → (i : IsBegun r b fs t x e w (string_kind text (Some n))) → StringHead r b fs t x w text n i.next
 string-head r b fs t x e w true n i =
     let f = definite b.depth fs majors.Text w n x i.next (proper-definite w i.proper) i.taking in
     record { bytes_are = f.bytes_are; holds = f.holds; follows = f.follows; clean = λ c h. i.clean c (head-count r (length t) majors.Text w n c (is-definite w n f.holds) h) }
@@ -68,31 +68,31 @@ string-head r b fs t x e w false n i =
     let f = definite b.depth fs majors.Bytes w n x i.next (proper-definite w i.proper) i.taking in
     record { bytes_are = f.bytes_are; holds = f.holds; follows = f.follows; clean = λ c h. i.clean c (head-count r (length t) majors.Bytes w n c (is-definite w n f.holds) h) }
 
-abbrev made_of : Bool → Width → List ℕ → Spelling
+abbrev pub made_of : Bool → Width → List ℕ → Spelling
 made_of true w q = a_text w q
 made_of false w q = bytes w q
 
-made-spells : (text : Bool) (w : Width) (q : List ℕ) → spell (made_of text w q) ≡ head (string_major text) w (length q) ++ q
+pub made-spells : (text : Bool) (w : Width) (q : List ℕ) → spell (made_of text w q) ≡ head (string_major text) w (length q) ++ q
 made-spells true w q = refl
 made-spells false w q = refl
 
-made-spelled : (text : Bool) (w : Width) (q : List ℕ) → Holds w (length q) → AreBytes q → IsSpelled (made_of text w q)
+pub made-spelled : (text : Bool) (w : Width) (q : List ℕ) → Holds w (length q) → AreBytes q → IsSpelled (made_of text w q)
 made-spelled true w q h g = (h, g)
 made-spelled false w q h g = (h, g)
 
-made-flat : (text : Bool) (w : Width) (q : List ℕ) → depth (made_of text w q) ≡ 0
+pub made-flat : (text : Bool) (w : Width) (q : List ℕ) → depth (made_of text w q) ≡ 0
 made-flat true w q = refl
 made-flat false w q = refl
 
-made-value : (text : Bool) (w : Width) (q : List ℕ) → value_of (made_of text w q) ≡ string_value text q
+pub made-value : (text : Bool) (w : Width) (q : List ℕ) → value_of (made_of text w q) ≡ string_value text q
 made-value true w q = refl
 made-value false w q = refl
 
-made-clean : (text : Bool) (w : Width) (q : List ℕ) (r : Rules) (at : ℕ) → Never (OfHead r at (string_major text) w (length q)) → (text ≡ true → IsUtf8 q) → Never (Complains r at (made_of text w q))
+pub made-clean : (text : Bool) (w : Width) (q : List ℕ) (r : Rules) (at : ℕ) → Never (OfHead r at (string_major text) w (length q)) → (text ≡ true → IsUtf8 q) → Never (Complains r at (made_of text w q))
 made-clean true w q r at h u c g = elim g [ inl y ↦ h c y | inr y ↦ is-text r (at + length (head majors.Text w (length q))) q c (u refl) y ]
 made-clean false w q r at h u c g = h c g
 
-so-far : (text : Bool) (w : Width) (q more : List ℕ) (r : Rules) (at d : ℕ) → Holds w (length (q ++ more)) → AreBytes (q ++ more) → 0 < length more → Never (OfHead r at (string_major text) w (length (q ++ more)))
+pub so-far : (text : Bool) (w : Width) (q more : List ℕ) (r : Rules) (at d : ℕ) → Holds w (length (q ++ more)) → AreBytes (q ++ more) → 0 < length more → Never (OfHead r at (string_major text) w (length (q ++ more)))
     → IsJudged r at d (head (string_major text) w (length (q ++ more)) ++ q) None
 so-far true w q more r at d h g some clean = text_so_far w q more r at d (h, g) some clean
 so-far false w q more r at d h g some clean = bytes_so_far w q more r at d (h, g) some clean

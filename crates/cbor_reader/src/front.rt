@@ -32,10 +32,3 @@ pub(crate) fn read_front<R: Read>(
         Err(refusal) => Err(refusal),
     }
 }
-
-// How many bytes the item has, which is dropped.
-pub(crate) fn count_of(answer: (Item, u64)) -> u64
-    ensures { result ≡ answer.1 }
-{
-    answer.1
-}

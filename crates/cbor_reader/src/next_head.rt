@@ -32,7 +32,7 @@ pub(crate) fn next_head<R: Read>(
 }
 
 // What the strict rules have against a head.
-fn head_fault(rules: Rules, event: &Event) -> Option<Reason>
+pub(crate) fn head_fault(rules: Rules, event: &Event) -> Option<Reason>
     ensures { MatchOption result
         ((reason : Reason) → IsFault (rules_of rules)
         (mark_of event.now.width event.now.kind) reason → ⊥)

@@ -186,7 +186,7 @@ fn check_key<'a>(
 }
 
 // Whether a key comes behind another.
-fn rises(order: KeyOrder, last: &[u8], key: &[u8]) -> bool
+pub(crate) fn rises(order: KeyOrder, last: &[u8], key: &[u8]) -> bool
     ensures { IsTrue result ↔ IsTrue (key_lt order last.now key.now) }
 {
     compare_keys(order, last, key) == Ordering::Less

@@ -7,8 +7,7 @@ ghost use Rattle.cbor_reader.specs.Headline.{StaysWithinDepth};
 ghost use Rattle.cbor_reader.specs.Readers.{IsRead, IsUnread, IsCanonicalFront, HasNoCanonicalFront, Loses};
 ghost use Rattle.cbor_reader.specs.Refusals.{IsReaderReason};
 
-use crate::front::{count_of, read_front};
-use crate::rules::Rules;
+use crate::strict_front::read_strict_front;
 use cbor_head::{KeyOrder, Limits, Refusal};
 use std::alloc::Global;
 use std::io::Read;
@@ -45,8 +44,8 @@ pub fn read_strict<R: Read>(
     ensures read { IfErr result
         (λ f. Loses f.read (R.remaining reader.old) (R.remaining reader.new)) }
 {
-    match read_front(alloc, reader, limits, Rules::Strict(order)) {
-        Ok(answer) => Ok(count_of(answer)),
+    match read_strict_front(alloc, reader, limits, order) {
+        Ok(count) => Ok(count),
         Err(refusal) => Err(refusal),
     }
 }

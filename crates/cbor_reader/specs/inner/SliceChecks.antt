@@ -1,5 +1,5 @@
 -- What the check of a slice answers of one item, which may lie within others, from its events.
-use Rattle.std.specs.Prelude.{◌≡◌, ◌≢◌, ℕ, ◌⊎◌, ◌++◌, Bool, true, List, [], ◌∷◌, length, Option, Some, Result, MatchResult, IsUtf8}
+use Rattle.std.specs.Prelude.{◌≡◌, ◌≢◌, ℕ, ◌⊎◌, Bool, true, List, [], ◌∷◌, length, Some, Result, MatchResult, IsUtf8}
 use Rattle.std.specs.Borrow.{Bor}
 use Rattle.cbor_head.specs.Limits.{Bounds}
 use Rattle.cbor_head.specs.Value.{Value}

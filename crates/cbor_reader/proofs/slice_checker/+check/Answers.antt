@@ -1,27 +1,22 @@
-use Rattle.std.proofs.Common.{◌≡◌, ◌≢◌, ◌+◌, ◌++◌, ◌∷◌, [], ◌∙◌, ◌-◌, true, false, true≢false, length, take, inl, inr, refl, sym, ap, subst, arith}
+use Rattle.std.proofs.Common.{◌≡◌, ◌++◌, ◌∷◌, [], ◌∙◌, true, false, true≢false, length, inl, inr, refl, sym, ap, arith}
 use Rattle.std.proofs.lemmas.List.{length-append}
 use Rattle.std.specs.Prelude.{Some}
 use Rattle.cbor_head.specs.Complaint.{strict}
-use Rattle.cbor_head.specs.Verdict.{refusal}
 use Rattle.cbor_head.specs.Value as value
-use Rattle.cbor_events.specs.inner.Automaton.{at_item, counted, payload}
+use Rattle.cbor_events.specs.inner.Automaton.{at_item, counted}
 use Rattle.cbor_events.specs.SliceEvents.{event_of}
-use Rattle.cbor_events.specs.Token.{kind_of}
-use Rattle.cbor_events.specs.declared.event.EventKind.TheVariants as kinds
 use Rattle.cbor_events.specs.declared.token.Token.TheVariants as tokens
-use Rattle.cbor_head.specs.declared.reason.Reason.TheVariants as reasons
 use Rattle.cbor_head.specs.declared.major.Major.TheVariants as majors
 use Rattle.cbor_reader.specs.inner.Frame.{keys_onto}
 use Rattle.cbor_events.specs.SliceView.{seen}
 use Rattle.cbor_reader.specs.inner.SliceChecks.{IsLastKey}
 use Rattle.cbor_reader.proofs.Composition.{array_bytes, map_bytes}
 use Rattle.cbor_reader.proofs.Items.{stops-at-item, no-end, head-farther}
-use Rattle.cbor_reader.proofs.Scalars.{tag-due, reads-unsigned, reads-negative, reads-simple}
+use Rattle.cbor_reader.proofs.Scalars.{tag-due}
 use Rattle.cbor_reader.proofs.WholeStrings.{string-due}
 use Rattle.cbor_reader.proofs.Arrays.{member_frames, starts-array, member-due, array-more, stops-member, array-whole, no-farther}
 use Rattle.cbor_reader.proofs.Maps.{key_frames, content_frames, starts-with, key-due, stops-key, content-due, stops-content, map-next-with, map-whole, map-no-farther, item-farther, stops-refused}
-use Rattle.cbor_reader.proofs.Keys.{keys_more}
-use Rattle.cbor_reader.proofs.SliceItems.{takes-unsigned, takes-negative, takes-simple, begun, item-token, other-token, takes-behind, answers-behind, answers-tag, answers-string, taken-key, refused-key, some-left}
+use Rattle.cbor_reader.proofs.SliceItems.{takes-unsigned, takes-negative, takes-simple, begun, item-token, other-token, answers-behind, answers-tag, answers-string, taken-key, refused-key, some-left}
 use Rattle.cbor_reader.proofs.slice_checker.+check.Goals as goal
 
 -- ---- arrays
