@@ -45,6 +45,7 @@ use Rattle.cbor_reader.proofs.Heads.{open_or}
 use Rattle.cbor_reader.proofs.Items.{definite, is-definite, proper-definite, never-open, reads-next, taking-some}
 use Rattle.cbor_reader.proofs.Arrays.{closes}
 use Rattle.cbor_reader.proofs.Loops.{array_bytes-whole, map_bytes-whole}
+use Rattle.cbor_reader.proofs.OpenItems.{done_position}
 use Rattle.cbor_reader.proofs.Levels.{clean-anywhere, full-array, full-map, given, ended}
 use Rattle.cbor_reader.proofs.Valid.{count_bounded}
 use Rattle.cbor_reader.proofs.Scalars.{at-as, reads-unsigned, reads-negative, reads-simple}
@@ -125,20 +126,12 @@ pub record IsDueWithin (o : KeyOrder) (d : ℕ) (t : List ℕ) (q : State) (os :
   pub standing : os ≡ opens o ls
   pub height_is : height ≡ length ls
 
-done-position : (p : Position) (fs : List machine.Frame) → state_of p fs ≡ at_end → p ≡ positions.Done
-done-position positions.Item fs e = cc e
-done-position (positions.Head chunk kind width left argument) fs e = cc e
-done-position positions.SimpleNumber fs e = cc e
-done-position (positions.Payload chunk kind left) fs e = cc e
-done-position (positions.Chunks kind) fs e = cc e
-done-position positions.Done fs e = refl
-
 module _ (o : KeyOrder) (b : Bounds) (old new : SliceEventsView) (t : List ℕ) (q : State) (a : IsAt b (seen old) t q) (os : List Open) where
   pub event-due : (ev : Event) → IsNextEvent ev (slice_call old new t a.marks) → IsStanding o b.depth t q os old.machine.open_count → IsDueWithin o b.depth t q os old.machine.open_count
   event-due ev n (due ls l t_is q_is os_is h_is) = record { ls = ls; levels = l; bytes_are = t_is; state = q_is; standing = os_is; height_is = h_is }
   event-due ev n (full ls s c l f t_is q_is os_is h_is) = absurd (omega (arith, h_is, full-open o b (seen old) t q a ls q_is))
   event-due ev n (whole s i t_is q_is os_is h_is) =
-      let at_its_end : old.machine.inner.position ≡ positions.Done = done-position old.machine.inner.position old.machine.inner.frames (a.state ∙ q_is) in
+      let at_its_end : old.machine.inner.position ≡ positions.Done = done_position old.machine.inner.position old.machine.inner.frames (a.state ∙ q_is) in
       let complete : old.machine.complete ≡ true = rw at_its_end at a.stands.stands.inner.shown.complete in
       absurd (n.unfinished (complete, a.stands.stands.live))
 

@@ -21,8 +21,7 @@ use Rattle.cbor_head.specs.declared.width.Width.{Width}
 use Rattle.cbor_head.specs.declared.width.Width.TheVariants.{Direct, One, Two, Four, Eight, Indefinite}
 use Rattle.cbor_head.proofs.Agree.{head_of, body, parts}
 use Rattle.cbor_events.specs.Trace.{Mark, a_head}
-use Rattle.cbor_events.specs.inner.Automaton as automaton
-use Rattle.cbor_events.specs.inner.Automaton.{State, at_item, counted, close, expect, payload}
+use Rattle.cbor_events.specs.inner.Automaton.{Frame as Container, State, at_item, counted, close, expect, payload}
 use Rattle.cbor_events.specs.inner.Taking.{Follows, Ends, IsTaking}
 use Rattle.cbor_events.specs.ItemEvents.{ItemEventsView}
 use Rattle.cbor_events.specs.Marks.{mark_of}
@@ -109,7 +108,7 @@ record HasHead (d : ℕ) (bs : List ℕ) : Type 0 where
   within : depth item ≤ d
   head_is : head_of item ≡ bs
 
-head_item : (d : ℕ) (fs : List automaton.Frame) (m : Major) (w : Width) (n : ℕ) (x : List ℕ) (next : State) → IsDefinite d fs m w n x next → HasHead (d - length fs) (head m w n)
+head_item : (d : ℕ) (fs : List Container) (m : Major) (w : Width) (n : ℕ) (x : List ℕ) (next : State) → IsDefinite d fs m w n x next → HasHead (d - length fs) (head m w n)
 head_item d fs m w n x next i = go m i.follows
   where
     z : 0 < 24
@@ -129,7 +128,7 @@ head_item d fs m w n x next i = go m i.follows
     go majors.Tag f = record { item = tag w n zero_item; spelled = (i.holds, z); within = omega (arith, f.0); head_is = refl }
     go majors.Simple f = record { item = simple n; spelled = f.0; within = omega arith; head_is = ap (λ (v : Width). head majors.Simple v n) (sym f.1) }
 
-head_undecided : (r : Rules) (b : Bounds) (fs : List automaton.Frame) (t x : List ℕ) → HasHead (b.depth - length fs) x → 0 < length x → IsUndecided r b fs t x
+head_undecided : (r : Rules) (b : Bounds) (fs : List Container) (t x : List ℕ) → HasHead (b.depth - length fs) x → 0 < length x → IsUndecided r b fs t x
 head_undecided r b fs t x h some =
     let k = last-apart x some in
     record {
@@ -143,7 +142,7 @@ head_undecided r b fs t x h some =
     }
 
 -- without complaint it is definite, and as short as can be
-record IsShort (d : ℕ) (fs : List automaton.Frame) (x : List ℕ) (kind : EventKind) (next : State) : Type 0 where
+record IsShort (d : ℕ) (fs : List Container) (x : List ℕ) (kind : EventKind) (next : State) : Type 0 where
   major : Major
   width : Width
   number : ℕ
@@ -188,13 +187,13 @@ same_width v w = elim (cases_lt (width_number v) (width_number w)) [
 shortest_so : (o : KeyOrder) (at : ℕ) (m : Major) (w : Width) (n : ℕ) → Never (OfHead (strict o) at m w n) → w ≡ shortest n
 shortest_so o at m w n none = elim (same_width w (shortest n)) [ inl e ↦ e | inr f ↦ absurd (none _ (f, refl)) ]
 
-no_openers : (o : KeyOrder) (b : Bounds) (fs : List automaton.Frame) (t x : List ℕ) (e : ItemEventsView) (w : Width) (m : Major) (n : ℕ) (kind : EventKind) → mark_of w kind ≡ a_head m w n → w ≡ Indefinite → IsBegun (strict o) b fs t x e w kind → ⊥
+no_openers : (o : KeyOrder) (b : Bounds) (fs : List Container) (t x : List ℕ) (e : ItemEventsView) (w : Width) (m : Major) (n : ℕ) (kind : EventKind) → mark_of w kind ≡ a_head m w n → w ≡ Indefinite → IsBegun (strict o) b fs t x e w kind → ⊥
 no_openers o b fs t x e w m n kind is opener i =
     i.clean (complaint.complaint (length t + 1) (length t) reasons.Indefinite)
     (subst (λ (y : Mark). OfMark (strict o) (length t) (at_item fs) y (complaint.complaint (length t + 1) (length t) reasons.Indefinite)) (sym is)
     (subst (λ (y : Width). OfMark (strict o) (length t) (at_item fs) (a_head m y n) (complaint.complaint (length t + 1) (length t) reasons.Indefinite)) (sym opener) refl))
 
-short_of : (o : KeyOrder) (b : Bounds) (fs : List automaton.Frame) (t x : List ℕ) (e : ItemEventsView) (w : Width) (m : Major) (n : ℕ) (kind : EventKind) → mark_of w kind ≡ a_head m w n → w ≢ Indefinite → short_head kind ≡ shortest_head m n
+short_of : (o : KeyOrder) (b : Bounds) (fs : List Container) (t x : List ℕ) (e : ItemEventsView) (w : Width) (m : Major) (n : ℕ) (kind : EventKind) → mark_of w kind ≡ a_head m w n → w ≢ Indefinite → short_head kind ≡ shortest_head m n
     → (i : IsBegun (strict o) b fs t x e w kind) → IsShort b.depth fs x kind i.next
 short_of o b fs t x e w m n kind is f short i =
     let d = definite b.depth fs m w n x i.next f (subst (λ (y : Mark). IsTaking b.depth (at_item fs) y x i.next) is i.taking) in
@@ -202,7 +201,7 @@ short_of o b fs t x e w m n kind is f short i =
     λ c h. i.clean c (subst (λ (y : Mark). OfMark (strict o) (length t) (at_item fs) y c) (sym is) (head-count (strict o) (length t) m w n c f h)) in
     record { major = m; width = w; number = n; is = d; short = d.bytes_are ∙ ap (λ (y : Width). head m y n) (shortest_so o (length t) m w n clean) ∙ sym short }
 
-short_begun : (o : KeyOrder) (b : Bounds) (fs : List automaton.Frame) (t x : List ℕ) (e : ItemEventsView) (w : Width) (kind : EventKind) → (i : IsBegun (strict o) b fs t x e w kind) → IsShort b.depth fs x kind i.next
+short_begun : (o : KeyOrder) (b : Bounds) (fs : List Container) (t x : List ℕ) (e : ItemEventsView) (w : Width) (kind : EventKind) → (i : IsBegun (strict o) b fs t x e w kind) → IsShort b.depth fs x kind i.next
 short_begun o b fs t x e w (kinds.Unsigned n) i = short_of o b fs t x e w majors.Unsigned n (kinds.Unsigned n) refl (never-open b.depth fs majors.Unsigned w n x i.next tt i.taking) refl i
 short_begun o b fs t x e w (kinds.Negative n) i = short_of o b fs t x e w majors.Negative n (kinds.Negative n) refl (never-open b.depth fs majors.Negative w n x i.next tt i.taking) refl i
 short_begun o b fs t x e w (kinds.Simple n) i = short_of o b fs t x e w majors.Simple n (kinds.Simple n) refl (never-open b.depth fs majors.Simple w n x i.next tt i.taking) refl i

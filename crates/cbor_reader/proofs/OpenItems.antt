@@ -15,9 +15,8 @@ use Rattle.cbor_head.specs.declared.reason.Refusal.{Refusal}
 use Rattle.cbor_head.specs.declared.reason.Reason.TheVariants as reasons
 use Rattle.cbor_head.specs.declared.width.Width.{Width}
 use Rattle.cbor_events.specs.Open.{open_after, open_in, open_in_entries}
-use Rattle.cbor_events.specs.inner.Automaton as automaton
-use Rattle.cbor_events.specs.inner.Automaton.{State, at_item, counted, close}
-use Rattle.cbor_events.specs.inner.State.{frame_of, frames_of, state_of, is_done}
+use Rattle.cbor_events.specs.inner.Automaton.{Frame as Container, State, at_item, counted, close, done as at_end}
+use Rattle.cbor_events.specs.inner.State.{state_of}
 use Rattle.cbor_events.specs.ItemEvents.{ItemEventsView}
 use Rattle.cbor_events.specs.declared.frame.Frame as frames
 use Rattle.cbor_events.specs.declared.position.Position.{Position}
@@ -173,18 +172,21 @@ ended_state (tagged w n ∷ fs) = ended_state fs
 
 -- ---- how many the events count
 
-item_length : (position : Position) (fr : List frames.Frame) (xs : List automaton.Frame) → state_of position fr ≡ at_item xs → length fr ≡ length xs
-item_length positions.Item fr xs e = let same : frames_of fr ≡ xs = cc e in sym (frames_size fr) ∙ ap length same
+item_length : (position : Position) (fr : List frames.Frame) (xs : List Container) → state_of position fr ≡ at_item xs → length fr ≡ length xs
+item_length positions.Item fr xs e = sym (length-map (reverse fr) _ ∙ length-reverse fr) ∙ same_length _ xs e
   where
-    frames_size : (fr : List frames.Frame) → length (frames_of fr) ≡ length fr
-    frames_size fr = length-map (reverse fr) frame_of ∙ length-reverse fr
+    same_length : (xs ys : List Container) → at_item xs ≡ at_item ys → length xs ≡ length ys
+    same_length xs ys e = ap length (inside e)
+      where
+        inside : at_item xs ≡ at_item ys → xs ≡ ys
+        inside e = cc e
 item_length (positions.Head chunk kind width left argument) fr xs e = absurd (cc e)
 item_length positions.SimpleNumber fr xs e = absurd (cc e)
 item_length (positions.Payload chunk kind left) fr xs e = absurd (cc e)
 item_length (positions.Chunks kind) fr xs e = absurd (cc e)
 item_length positions.Done fr xs e = absurd (cc e)
 
-pub done_position : (position : Position) (fr : List frames.Frame) → state_of position fr ≡ automaton.done → position ≡ positions.Done
+pub done_position : (position : Position) (fr : List frames.Frame) → state_of position fr ≡ at_end → position ≡ positions.Done
 done_position positions.Done fr e = refl
 done_position positions.Item fr e = absurd (cc e)
 done_position (positions.Head chunk kind width left argument) fr e = absurd (cc e)
@@ -192,7 +194,7 @@ done_position positions.SimpleNumber fr e = absurd (cc e)
 done_position (positions.Payload chunk kind left) fr e = absurd (cc e)
 done_position (positions.Chunks kind) fr e = absurd (cc e)
 
-pub content_state : (n : ℕ) (xs : List automaton.Frame) → close (counted (suc n + suc n) ∷ xs) ≡ at_item (counted (n + suc n) ∷ xs)
+pub content_state : (n : ℕ) (xs : List Container) → close (counted (suc n + suc n) ∷ xs) ≡ at_item (counted (n + suc n) ∷ xs)
 content_state n xs = let e : suc n + suc n ≡ suc (n + suc n) = omega arith in ap (λ (k : ℕ). close (counted k ∷ xs)) e
 
 shut_count : (position : Position) (fr : List frames.Frame) (fs : List Frame) → state_of position fr ≡ close (frames_in fs) → (position ≡ positions.Done → length fr ≡ 0) → length fr ≡ length (still_open fs)
@@ -234,7 +236,7 @@ open_so b e t fs a =
     let m = e.machine in
     let shown = a.stands.stands.inner.shown in
     shown.open_count ∙ shut_count m.inner.position m.inner.frames fs a.state (λ d.
-    let complete = a.stands.stands.complete.0 (shown.complete ∙ ap is_done d, a.stands.stands.live) in
+    let complete = a.stands.stands.complete.0 (rw d at shown.complete, a.stands.stands.live) in
     let all : spell complete.0 ≡ t = complete.1.bytes_are in
     let counts = a.stands.stands.counted complete.0 [] (subst (IsItem m.depth complete.0) (sym (append-nil t)) complete.1) in
     sym shown.open_count ∙ counts ∙ ap (λ (x : List ℕ). open_after (length x) complete.0) (sym all) ∙ none_behind complete.0)

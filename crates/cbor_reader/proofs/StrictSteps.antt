@@ -13,7 +13,7 @@ use Rattle.cbor_head.specs.declared.order.KeyOrder.{KeyOrder}
 use Rattle.cbor_head.specs.declared.reason.Refusal.{Refusal}
 use Rattle.cbor_events.specs.Reasons.{IsEventReason}
 use Rattle.cbor_events.specs.inner.Automaton.{Frame, State, at_item, payload, done}
-use Rattle.cbor_events.specs.inner.State.{state_of, is_done}
+use Rattle.cbor_events.specs.inner.State.{state_of}
 use Rattle.cbor_events.specs.inner.Taking.{IsTaking}
 use Rattle.cbor_events.specs.Trace.{Mark}
 use Rattle.cbor_events.specs.Machine.{IsComplete}
@@ -57,7 +57,7 @@ payload_so m (suc n) fs l = tt
 -- at its end nothing more is told
 over_complete : (b : Bounds) (e : ItemEventsView) (t : List ℕ) → IsAt b e t done → IsComplete e.machine
 over_complete b e t a =
-    (a.stands.stands.inner.shown.complete ∙ ap is_done (done_position e.machine.inner.position e.machine.inner.frames a.state), a.stands.stands.live)
+    (rw (done_position e.machine.inner.position e.machine.inner.frames a.state) at a.stands.stands.inner.shown.complete, a.stands.stands.live)
 
 not_over : (b : Bounds) (e : ItemEventsView) (t : List ℕ) (q : State) → IsAt b e t q → (q ≡ done → ⊥) → IsComplete e.machine → ⊥
 not_over b e t q a f c =

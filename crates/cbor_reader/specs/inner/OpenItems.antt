@@ -8,8 +8,7 @@ use Rattle.cbor_head.specs.Complaint.{Rules, strict, Complaint, OfHead, Complain
 use Rattle.cbor_head.specs.Limits.{Bounds}
 use Rattle.cbor_head.specs.declared.reason.Refusal.{Refusal}
 use Rattle.cbor_head.specs.declared.width.Width.{Width}
-use Rattle.cbor_events.specs.inner.Automaton as automaton
-use Rattle.cbor_events.specs.inner.Automaton.{State, at_item, counted, close, payload}
+use Rattle.cbor_events.specs.inner.Automaton.{Frame as Container, State, at_item, counted, close, payload, done as at_end}
 use Rattle.cbor_events.specs.inner.Taking.{IsTaking}
 use Rattle.cbor_events.specs.ItemEvents.{ItemEventsView}
 use Rattle.cbor_events.specs.Marks.{mark_of, IsProper}
@@ -27,13 +26,13 @@ use Rattle.cbor_reader.specs.inner.OpenMaps.{before_all, AreOpen, AreOpenDistinc
 use Rattle.cbor_reader.specs.inner.Reading.{IsAt, IsMemory, IsReached, IsBegun, IsUndecided, HasCause, string_kind, string_major}
 
 -- an open container, as the events count what is due in it
-abbrev pub counted_in : Frame → automaton.Frame
+abbrev pub counted_in : Frame → Container
 counted_in (a_member w a b) = counted (spellings_count b)
 counted_in (a_key w a v b) = counted (suc (entries_count b + entries_count b))
 counted_in (a_content w a k b) = counted (entries_count b + entries_count b)
 counted_in (tagged w n) = counted 0
 
-abbrev pub frames_in : List Frame → List automaton.Frame
+abbrev pub frames_in : List Frame → List Container
 frames_in [] = []
 frames_in (f ∷ fs) = counted_in f ∷ frames_in fs
 
@@ -81,7 +80,7 @@ pub record IsOver (v : OpenItems) (b : Bounds) (e : ItemEventsView) (t : List �
   pub none : v.left ≡ 0
   pub kept : IsKept (seen v.keys) [] (spell item)
   pub taken : t ≡ spell item
-  pub at : IsAt b e t automaton.done
+  pub at : IsAt b e t at_end
 
 abbrev pub Stands : OpenItems → Bounds → ItemEventsView → List ℕ → Type 0
 Stands v b e t = IsItemDue v b e t ⊎ IsInString v b e t ⊎ IsOver v b e t
