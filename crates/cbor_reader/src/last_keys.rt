@@ -1,11 +1,14 @@
 //! The last complete key of each open map, as spelled, in one buffer.
 
-ghost use Rattle.std.specs.Prelude.{◌≡◌, ◌-◌, ◌<◌, ◌≤◌, ◌++◌, ◌∷◌, ℕ, List, [], length, take, drop, IsTrue, ◌↔◌, OnOk};
+ghost use Rattle.std.specs.Prelude.{◌≡◌, ◌-◌, ◌<◌, ◌≤◌, ◌++◌, ◌∷◌, ℕ, List, [], length, take, drop};
+ghost use Rattle.std.specs.Prelude.{IsTrue, ◌↔◌, OnOk};
 ghost use Rattle.cbor_head.specs.Order.{key_lt};
 ghost use Rattle.cbor_head.specs.Spelling.{Spelling, SpelledEntries, no_entries, entry, spell};
 ghost use Rattle.cbor_head.specs.declared.width.Width.{Width};
-ghost use Rattle.cbor_reader.specs.inner.Frame.{Frame, a_key, a_content, before, plug, with_entries};
-ghost use Rattle.cbor_reader.specs.inner.LastKeys.{IsKept, IsFull, AreDefinite, HasKeyEnded, AnswersKeyEnd};
+ghost use Rattle.cbor_reader.specs.inner.Frame.{Frame, a_key, a_content, before, plug};
+ghost use Rattle.cbor_reader.specs.inner.Frame.{with_entries};
+ghost use Rattle.cbor_reader.specs.inner.LastKeys.{IsKept, IsFull, AreDefinite, HasKeyEnded};
+ghost use Rattle.cbor_reader.specs.inner.LastKeys.{AnswersKeyEnd};
 ghost use Rattle.cbor_reader.specs.inner.LastKeys.{seen, with_key, due_of, still_open, ended_item};
 
 use crate::slice_checker::rises;
@@ -132,7 +135,8 @@ impl LastKeys {
 
     // The containers close that an item's end leaves full: so many stay open.
     pub(crate) fn close(&mut self, left: usize)
-        ensures { (fs : List Frame) (s : Spelling) → IsKept (seen self.old) fs (spell s) → AreDefinite fs
+        ensures { (fs : List Frame) (s : Spelling)
+            → IsKept (seen self.old) fs (spell s) → AreDefinite fs
             → length (still_open fs) ≡ left
             → IsKept (seen self.new) (still_open fs) (spell (ended_item fs s)) }
     {
@@ -146,7 +150,8 @@ impl LastKeys {
         ensures fewer { 0 < length (seen self.old).levels
             → length (seen self.new).levels < length (seen self.old).levels }
         ensures closed { (f : Frame) (fs : List Frame) (s : Spelling) → IsFull f
-            → IsKept (seen self.old) (f ∷ fs) (spell s) → IsKept (seen self.new) fs (spell (plug f s)) }
+            → IsKept (seen self.old) (f ∷ fs) (spell s)
+            → IsKept (seen self.new) fs (spell (plug f s)) }
     {
         let Some(level) = self.levels.pop() else {
             return;
@@ -165,7 +170,8 @@ impl LastKeys {
 
     // What is due in the innermost container.
     pub(crate) fn due(&self) -> Due
-        ensures some { (f : Frame) (fs : List Frame) (p : List ℕ) → IsKept (seen self.now) (f ∷ fs) p
+        ensures some { (f : Frame) (fs : List Frame) (p : List ℕ)
+            → IsKept (seen self.now) (f ∷ fs) p
             → result ≡ due_of f }
         ensures none { (p : List ℕ) → IsKept (seen self.now) [] p → result ≡ Due.Member }
     {
@@ -237,7 +243,8 @@ impl LastKeys {
         requires levels { length (seen self.old).levels ≤ 256 }
         requires spans { length (seen self.old).spans ≤ 256 }
         ensures { (w : Width) (a : SpelledEntries) (k s l m : Spelling) (b : SpelledEntries)
-            (fs : List Frame) → IsKept (seen self.old) (a_content w a k (entry l m b) ∷ fs) (spell s)
+            (fs : List Frame)
+            → IsKept (seen self.old) (a_content w a k (entry l m b) ∷ fs) (spell s)
             → IsKept (seen self.new) (a_key w (with_entries a (entry k s no_entries)) m b ∷ fs) [] }
     {
         let Some(level) = self.levels.pop() else {

@@ -7,8 +7,10 @@ ghost use Rattle.cbor_head.specs.Head.{IsSimple, shortest_head};
 ghost use Rattle.cbor_events.specs.TextCheck.{HasChecked};
 ghost use Rattle.cbor_reader.specs.inner.Frame.{Frame};
 ghost use Rattle.cbor_reader.specs.inner.LastKeys.{IsKept, seen};
-ghost use Rattle.cbor_reader.specs.inner.OpenItems.{IsItemEnded, AnswersEnd, IsHeadCome, AnswersHead};
-ghost use Rattle.cbor_reader.specs.inner.OpenItems.{IsPartCome, AnswersPart, IsBegunIn, AnswersBegun};
+ghost use Rattle.cbor_reader.specs.inner.OpenItems.{IsItemEnded, AnswersEnd, IsHeadCome};
+ghost use Rattle.cbor_reader.specs.inner.OpenItems.{AnswersHead};
+ghost use Rattle.cbor_reader.specs.inner.OpenItems.{IsPartCome, AnswersPart, IsBegunIn};
+ghost use Rattle.cbor_reader.specs.inner.OpenItems.{AnswersBegun};
 ghost use Rattle.cbor_reader.specs.inner.OpenItems.{IsSameString, IsBegunBy, short_head};
 
 use crate::last_keys::{Due, LastKeys};

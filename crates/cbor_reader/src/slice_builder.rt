@@ -1,6 +1,7 @@
 //! The canonical bytes of the item at the front of a slice, from its events: no tree is made.
 
-ghost use Rattle.std.specs.Prelude.{◌≡◌, ◌+◌, ◌≤◌, ◌<◌, ◌∷◌, Bool, IsTrue, IfOk, IfSome, List, ℕ, Some, None, length};
+ghost use Rattle.std.specs.Prelude.{◌≡◌, ◌+◌, ◌≤◌, ◌<◌, ◌∷◌, Bool, IsTrue, IfOk, IfSome, List, ℕ};
+ghost use Rattle.std.specs.Prelude.{Some, None, length};
 ghost use Rattle.cbor_head.specs.Head.{shortest_head, IsSimple};
 ghost use Rattle.cbor_head.specs.Limits.{Bounds};
 ghost use Rattle.cbor_head.specs.declared.major.Major.TheVariants.{Simple};
@@ -11,8 +12,11 @@ ghost use Rattle.cbor_head.specs.declared.major.Major.{Major as MajorType};
 ghost use Rattle.cbor_item.specs.Built.{built, IsLeaf, IsContainer, TakesPart};
 ghost use Rattle.cbor_item.specs.Parts.{give, opened};
 ghost use Rattle.cbor_head.specs.Complaint.{plain};
-ghost use Rattle.cbor_reader.specs.inner.Reading.{IsAt, IsPayloadDue, HasBegun, string_kind, string_major};
-ghost use Rattle.cbor_reader.specs.inner.Levels.{Level, bytes_before, IsBuilding, HasHeight, IsEvent, HasEvent, IsFed, BuildsBegun, TakesContent, IsBuiltFront};
+ghost use Rattle.cbor_reader.specs.inner.Reading.{IsAt, IsPayloadDue, HasBegun, string_kind};
+ghost use Rattle.cbor_reader.specs.inner.Reading.{string_major};
+ghost use Rattle.cbor_reader.specs.inner.Levels.{Level, bytes_before, IsBuilding, HasHeight};
+ghost use Rattle.cbor_reader.specs.inner.Levels.{IsEvent, HasEvent, IsFed, BuildsBegun};
+ghost use Rattle.cbor_reader.specs.inner.Levels.{TakesContent, IsBuiltFront};
 
 use crate::payload::check_text;
 use cbor_events::{SliceEvents, Token};

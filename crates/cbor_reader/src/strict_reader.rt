@@ -4,7 +4,8 @@ ghost use Rattle.std.specs.Prelude.{◌≡◌, ◌≢◌, length, IfOk, IfErr, I
 ghost use Rattle.cbor_head.specs.Complaint.{strict};
 ghost use Rattle.cbor_head.specs.declared.reason.Reason.TheVariants as reasons;
 ghost use Rattle.cbor_reader.specs.Headline.{StaysWithinDepth};
-ghost use Rattle.cbor_reader.specs.Readers.{IsRead, IsUnread, IsCanonicalFront, HasNoCanonicalFront, Loses};
+ghost use Rattle.cbor_reader.specs.Readers.{IsRead, IsUnread, IsCanonicalFront};
+ghost use Rattle.cbor_reader.specs.Readers.{HasNoCanonicalFront, Loses};
 ghost use Rattle.cbor_reader.specs.Refusals.{IsReaderReason};
 
 use crate::strict_front::read_strict_front;
