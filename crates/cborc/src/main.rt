@@ -1,4 +1,11 @@
 //! `cborc`, a program for deterministic CBOR files: see [`run`].
+//!
+//! ```text
+//! $ printf bf6346756ef563416d7421ff | cborc canon --hex --hex-out - -
+//! a263416d74216346756ef5
+//! $ printf a201000000 | cborc check --strict --hex -
+//! refused 16 KeyOrder at 3
+//! ```
 #![tactic(auto)]
 
 mod canon;

@@ -2,6 +2,13 @@
 //!
 //! A call answers a status, and fills what the status calls for. No export keeps anything between
 //! two calls, and each reads and writes only what it is passed.
+//!
+//! ```text
+//! naltvigo_canonicalise_raw of bf 63 46 75 6e f5 63 41 6d 74 21 ff  {"Fun": true, "Amt": -2}
+//!     0 OK, needed 11         a2 63 41 6d 74 21 63 46 75 6e f5      {"Amt": -2, "Fun": true}
+//! naltvigo_check_canonical_raw of a2 01 00 00 00                    {1: 0, 0: 0}
+//!     1 REFUSED, reason 16 KeyOrder, place 3, read 4
+//! ```
 #![tactic(auto)]
 
 mod buffer;
