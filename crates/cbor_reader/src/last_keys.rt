@@ -11,6 +11,7 @@ ghost use Rattle.cbor_reader.specs.inner.LastKeys.{IsKept, IsFull, AreDefinite, 
 ghost use Rattle.cbor_reader.specs.inner.LastKeys.{AnswersKeyEnd};
 ghost use Rattle.cbor_reader.specs.inner.LastKeys.{seen, with_key, due_of, still_open, ended_item};
 
+use crate::MOST_OPEN;
 use crate::slice_checker::rises;
 use arrayvec::ArrayVec;
 use cbor_head::KeyOrder;
@@ -48,8 +49,8 @@ pub(crate) struct Span {
 /// and the keys of a map in it are parts of those bytes.
 #[derive(Drop)]
 pub(crate) struct LastKeys {
-    levels: ArrayVec<Level, 256>,
-    spans: ArrayVec<Span, 256>,
+    levels: ArrayVec<Level, MOST_OPEN>,
+    spans: ArrayVec<Span, MOST_OPEN>,
     bytes: Vec<u8>,
     // Whether what comes stands in a key that is not complete.
     is_inside: bool,

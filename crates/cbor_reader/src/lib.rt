@@ -53,6 +53,9 @@ mod tree_reader;
 mod valid_slice;
 mod whole_item;
 
+// How many containers can be open.
+const MOST_OPEN: usize = cbor_head::MAX_DEPTH as usize;
+
 pub use canonicaliser::canonicalise;
 pub use cbor_item::{KeyOrder, Tree};
 pub use comparison::{Side, same_meaning};

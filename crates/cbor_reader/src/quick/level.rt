@@ -2,6 +2,8 @@
 
 ghost use Rattle.std.specs.Prelude.{◌≡◌, ◌≤◌, length};
 
+use crate::MOST_OPEN;
+
 /// What is due in a container.
 #[derive(Clone, Copy)]
 pub(crate) enum Due {
@@ -31,7 +33,7 @@ pub(crate) struct Level {
 /// The open containers, the innermost apart. The first level is the input itself, with one item
 /// due.
 pub(crate) struct Levels {
-    pub(crate) outer: [Level; 256],
+    pub(crate) outer: [Level; MOST_OPEN],
     pub(crate) height: usize,
     pub(crate) top: Level,
     ghost fits: { (height ≤ 256) × (length outer ≡ 256) },

@@ -7,6 +7,7 @@ ghost use Rattle.cbor_head.specs.Order.{key_lt};
 ghost use Rattle.cbor_reader.specs.inner.Quick.{IsBack, IsFronted, IsRoot, Opens, Advances};
 ghost use Rattle.cbor_reader.specs.inner.Quick.{Leads, TakesKey, last_key, standing, around};
 
+use crate::MOST_OPEN;
 use crate::quick::heads::shortest_argument;
 use crate::quick::level::{Due, Level, Levels, Next, Step};
 use cbor_head::KeyOrder;
@@ -124,7 +125,7 @@ impl Levels {
     {
         let root = Level::new(Due::Item, 0, 0);
         Levels {
-            outer: [root; 256],
+            outer: [root; MOST_OPEN],
             height: 0,
             top: root,
         }
