@@ -1,21 +1,27 @@
-"""Refuses each request for memory of `cborc` in turn, and counts what it asks for behind heads that
-promise much.
+#!/usr/bin/env python3
+"""Refuses each request for memory in turn, and counts what is asked for behind heads that promise much.
 
-    python3 memory.py CBORC FOLDER
+    fuzz/memory.py [--program crates/cborc/out/cborc] [--readers crates/answers/out/answers]
 
-A library between the program and the C library, built here by `cc`, counts the requests, adds up
-their bytes, and refuses one of them. Wanted is, whichever is refused: `out of memory` and status 3,
-with no more on standard output than the first bytes of what usually stands there, and OUT as it
-was; or all as usual. And that a head asks for no memory by itself: behind a head of 2^64 - 1, 2^32
-or 2^20 bytes, members or pairs, with nothing or little there, no more is asked for than behind a
-zero, but for a constant and so much a byte that came. Ends with status 1 where anything else
-happens.
+A library between the program and the C library, built here by `cc`, counts the requests, adds up their
+bytes, and refuses one of them. Wanted is of `cborc`, whichever is refused: `out of memory` and status 3, with
+no more on standard output than the first bytes of what usually stands there, and OUT as it was; or all as
+usual. Of the calls over readers, on each row of the conformance table: one call answers Memory, at a place
+before the end of its usual answer, with as many bytes taken as it tells, and every other call answers as
+usual. And that a head asks for no memory by itself: behind a head of 2^64 - 1, 2^32 or 2^20 bytes, members or
+pairs, with nothing or little there, no more is asked for than behind a zero, but for a constant and so much a
+byte that came. Ends with status 1 where anything else happens.
 """
 
+import argparse
+
 import os
+import re
 import subprocess
 import sys
+import tempfile
 
+ROOT = os.path.dirname(os.path.dirname(os.path.abspath(__file__)))
 LIBRARY = r"""
 #define _GNU_SOURCE
 #include <dlfcn.h>
@@ -124,14 +130,14 @@ class Program:
         with open(f"{self.folder}/{name}", "rb") as file:
             return file.read()
 
-    def run(self, command, refused=0):
+    def run(self, command, refused=0, given=b""):
         """What a run answers (status, outputs, the file OUT), and its requests and their bytes."""
         self.put("OUT", BEFORE)
         self.put("counts", b"")
         counts = f"{self.folder}/counts"
         env = {"LD_PRELOAD": self.library, "REFUSED_REQUEST": str(refused), "COUNTS": counts}
         words = [self.program, *command]
-        ran = subprocess.run(words, cwd=self.folder, env=env, capture_output=True)
+        ran = subprocess.run(words, cwd=self.folder, env=env, input=given, capture_output=True)
         requests, size = map(int, self.get("counts").split())
         return (ran.returncode, ran.stdout, ran.stderr, self.get("OUT")), requests, size
 
@@ -213,15 +219,92 @@ def count_promises(program):
     return most, wrong
 
 
+# ---- the calls over readers
+
+
+def bytes_of(column):
+    """The bytes that hex digits spell; `3*00` stands for 000000."""
+    words = [word.split("*") for word in column.split()]
+    return bytes.fromhex("".join(word[0] if len(word) == 1 else int(word[0]) * word[1] for word in words))
+
+
+def rows():
+    """The inputs of the conformance table with their limits."""
+    table = f"{ROOT}/crates/cbor_reader/src/tests/conformance_table.rt"
+    with open(table, encoding="utf-8") as file:
+        lines = [a or b for a, b in re.findall(r'(?m)^    (?:r#"(.*)"#|"(.*)"),$', file.read())]
+    for line in lines:
+        if line.count("|") < 4:
+            continue
+        given, limits = line.split("|")[:2]
+        depth, most = (re.search(rf"{name} (\d+)", limits) for name in ("depth", "bytes"))
+        yield bytes_of(given), int(depth[1]) if depth else 256, int(most[1]) if most else 1 << 20
+
+
+def is_word(found, usual, length):
+    """Whether a call answered Memory before the end of its usual answer, with the rest left to its reader."""
+    memory = re.fullmatch(r"!19,(\d+),(\d+):(\d+)", found)
+    left = int(usual.rpartition(":")[2])
+    return memory and memory[1] == memory[2] and int(memory[1]) + int(memory[3]) == length and int(memory[3]) >= left
+
+
+def is_sequence(found, usual):
+    """Whether a sequence gave the first of its usual items, then Memory, and then no more."""
+    items, bar, refused = found.rpartition("!")
+    memory = re.fullmatch(r"19,(\d+),(\d+)", refused)
+    return bar and usual.startswith(items) and memory and memory[1] == memory[2]
+
+
+def is_line(found, usual, length):
+    """Whether all calls answered as usual but one, which was refused memory."""
+    found, usual = found.split(" "), usual.split(" ")
+    others = [(a, b) for a, b in zip(found, usual, strict=True) if a != b]
+    if not others:
+        return True
+    last = found[-1] != usual[-1]
+    return len(others) == 1 and (is_sequence(*others[0]) if last else is_word(*others[0], length))
+
+
+def refuse_readers(program):
+    """Refuses each request on each row: how many were told, how many ended the driver, and what went wrong."""
+    told, ended, wrong = 0, 0, []
+    for given, depth, most in rows():
+        line = f"{depth} {most} {given.hex()}\n".encode()
+        (_, usual, _, _), requests, _ = program.run([], given=line)
+        for refused in range(1, requests + 1):
+            (status, out, _, _), _, _ = program.run([], refused, line)
+            if status == 1 and usual.startswith(out):
+                # the driver's own memory, or that of canonical bytes
+                ended += 1
+            elif status == 0 and is_line(out.decode()[:-1], usual.decode()[:-1], len(given)):
+                told += 1
+            else:
+                wrong.append(f"{given[:20].hex()}, request {refused}: {out} in place of {usual}")
+    return told, ended, wrong
+
+
 def main():
-    program = Program(*sys.argv[1:])
-    told, usually, wrong = refuse_in_turn(program)
-    print(f"a request refused: {told} runs out of memory, {usually} as usual, {len(wrong)} else")
-    most, promised = count_promises(program)
-    print(f"heads that promise much: at most {CONSTANT} bytes and {most:.0f} for each that came")
-    for line in [*wrong[:20], *promised[:20]]:
+    words = argparse.ArgumentParser(description=__doc__, formatter_class=argparse.RawDescriptionHelpFormatter)
+    words.add_argument("--program")
+    words.add_argument("--readers")
+    given = words.parse_args()
+    wrong = []
+    with tempfile.TemporaryDirectory() as folder:
+        if given.program:
+            program = Program(given.program, folder)
+            told, usually, found = refuse_in_turn(program)
+            print(f"a request refused: {told} runs out of memory, {usually} as usual, {len(found)} else")
+            most, promised = count_promises(program)
+            print(f"heads that promise much: at most {CONSTANT} bytes and {most:.0f} for each that came")
+            wrong += found + promised
+        if given.readers:
+            told, ended, found = refuse_readers(Program(given.readers, folder))
+            print(f"a request of the readers refused: {told} told or as usual, {ended} ended, {len(found)} else")
+            wrong += found
+    for line in wrong[:20]:
         print(line)
-    sys.exit(1 if wrong or promised else 0)
+    sys.exit(1 if wrong else 0)
 
 
-main()
+if __name__ == "__main__":
+    main()
