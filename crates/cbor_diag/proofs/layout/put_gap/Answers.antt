@@ -1,11 +1,11 @@
-use Rattle.std.proofs.Common.{◌≡◌, ◌++◌, ◌+◌, ℕ, List, codes, ap, ◌∙◌, false, Bool}
+use Rattle.std.proofs.Common.{◌≡◌, ◌++◌, ◌+◌, codes, ap, ◌∙◌}
 use Rattle.std.proofs.lemmas.Result.{err_from_is_err_and}
 use Rattle.cbor_diag.specs.IndentedText.{new_line}
 use Rattle.cbor_diag.specs.inner.Layout.{gap}
 use Rattle.cbor_diag.specs.declared.layout.Layout.{Layout}
 use Rattle.cbor_diag.specs.declared.layout.Layout.TheVariants.{Indented}
 use Rattle.cbor_diag.proofs.Putting.{stops-more, puts-next}
-use Rattle.cbor_diag.proofs.text.put_gap.Goals as goal
+use Rattle.cbor_diag.proofs.layout.put_gap.Goals as goal
 
 pub returns-in_err-put-in-Indented-2 : goal.returns-in_err-put-in-Indented-2
 returns-in_err-put-in-Indented-2 g c =
