@@ -8,7 +8,7 @@ use Rattle.cbor_events.proofs.walk.walk.Goals as goal
 pub returns-in-Tells-clause-walked : goal.returns-in-Tells-clause-walked
 returns-in-Tells-clause-walked c =
     run-tells c.args.depth c.loop-i.i c.args.input.now _ _ _ _ c.loop-i-test.true c.loop-i.invariant.ran (sym c.in-Tells.ensures.next)
-    ∙ ap (reached (state_of c.in-Tells.next c.take_byte.new.frames.items)) (sym (once-marks c.in-Tells.width c.in-Tells.kind c.in-Tells.ensures.once))
+    ∙ ap (reached (state_of c.in-Tells.next c.take_byte.new.nest)) (sym (once-marks c.in-Tells.width c.in-Tells.kind c.in-Tells.ensures.once))
 
 pub loop-i-preserved : goal.loop-i-preserved
 loop-i-preserved c = record {
@@ -16,7 +16,7 @@ loop-i-preserved c = record {
   within = c.in-Goes.ensures.within;
   fits = c.in-Goes.ensures.fits;
   began = λ settled. absurd (c.in-Goes.ensures.open settled);
-  going = λ not_done. still-going c.in-Goes.next c.args.depth c.take_byte.new.frames.items c.in-Goes.ensures.fits c.in-Goes.ensures.open;
+  going = λ not_done. still-going c.in-Goes.next c.args.depth c.take_byte.new.nest c.in-Goes.ensures.fits c.in-Goes.ensures.open;
   left = omega (arith, c.loop-i.invariant.left, c.in-Goes.ensures.left);
 }
 
