@@ -94,6 +94,7 @@ impl Machine {
     /// How many bytes more belong to the head or payload that is open, or to the next head's first
     /// byte, within the byte limit: a step uses that many, whatever they are. None once the item is
     /// complete or refused.
+    #[inline(always)]
     pub(crate) fn wanted(&self) -> u64
         ensures wanted { result ≡ wanted self.now }
         ensures idle { IsIdle self.now → result ≡ 0 }
@@ -111,6 +112,7 @@ impl Machine {
     }
 
     /// Whether the next bytes are those of a payload.
+    #[inline(always)]
     pub(crate) fn is_in_payload(&self) -> bool
         ensures { result ≡ self.now.in_payload }
     {
@@ -144,6 +146,7 @@ impl Machine {
     }
 
     // A step, and what it does with the inner state.
+    #[inline(always)]
     #[tactic(auto, using(crate::proofs::Frames::settled_fit))]
     pub(crate) fn take_part(&mut self, input: &[u8]) -> Step
         ensures used { result.used ≤ length input.now }
@@ -222,6 +225,7 @@ pub(crate) fn refusal_of(reason: Reason, place: u64, read: u64) -> Refusal
 }
 
 // The lesser of the two.
+#[inline(always)]
 fn part(len: usize, room: u64) -> usize
     ensures { result ≡ min len room }
 {

@@ -1,8 +1,7 @@
 //! The bytes up to the next event.
 
-ghost use Rattle.std.specs.Prelude.{◌≡◌, ◌≤◌, ◌<◌, ◌+◌, take, length, min, replicate, true, false};
-ghost use Rattle.cbor_events.specs.inner.Automaton as automaton;
-ghost use Rattle.cbor_events.specs.inner.State.{frames_of, state_of, major_of, IsFit, IsSettled};
+ghost use Rattle.std.specs.Prelude.{◌≡◌, ◌≤◌, ◌<◌, ◌+◌, [], take, length, min, true, false};
+ghost use Rattle.cbor_events.specs.inner.State.{state_of, IsFit, IsSettled};
 ghost use Rattle.cbor_events.specs.inner.State.{wanted_at, is_in_payload, is_done};
 ghost use Rattle.cbor_events.specs.declared.frame.TheConstants.{MOST_OPEN};
 ghost use Rattle.cbor_events.specs.inner.Walk.{IsTold, IsEnded, IsWalkedProper, IsWalkedReason};
@@ -10,9 +9,10 @@ ghost use Rattle.cbor_events.specs.inner.Walk.{IsWalked, told_times};
 
 use crate::event::EventKind;
 use crate::nest::Nest;
-use crate::position::Position;
-use crate::take_byte::{Next, take_byte};
-use crate::whole::whole_piece;
+use crate::position::{Position, after};
+use crate::take_byte::{Next, head_kind, take_byte};
+use crate::token::kind_by;
+use crate::whole::{whole_argument, whole_head, whole_piece};
 use cbor_head::{Reason, Width};
 
 /// What came of some bytes.
@@ -27,6 +27,7 @@ pub enum Walked {
 }
 
 /// Takes bytes until one completes an event or is refused.
+#[inline(always)]
 #[tactic(auto, using(crate::proofs::Frames::settled_fit))]
 pub fn walk(depth: usize, position: &mut Position, nest: &mut Nest, input: &[u8]) -> (usize, Walked)
     requires limit { depth ≤ MOST_OPEN }
@@ -49,12 +50,71 @@ pub fn walk(depth: usize, position: &mut Position, nest: &mut Nest, input: &[u8]
     ensures within { length nest.new ≤ depth }
     ensures fits { IsFit depth nest.new position.new }
 {
+    match *position {
+        Position::Item => {
+            if let Some(whole) = whole_head(depth, position, nest, input) {
+                let kind = kind_by(whole.token, whole.number);
+                return (whole.used, Walked::Told(whole.width, kind));
+            }
+        }
+        Position::Payload(chunk, kind, left) => {
+            if !input.is_empty() {
+                let n = whole_piece(chunk, kind, left, depth, position, nest, input);
+                return (n, Walked::Told(Width::Direct, EventKind::Piece(n)));
+            }
+        }
+        Position::Head {
+            chunk,
+            kind,
+            width,
+            left,
+            argument: 0,
+        } => {
+            if let Some(n) = whole_argument(left, input) {
+                *position = after(chunk, kind, n, depth, nest);
+                return (
+                    usize::from(left) + 1,
+                    Walked::Told(width, head_kind(chunk, kind, n)),
+                );
+            }
+        }
+        _ => {}
+    }
+    walk_bytes(depth, position, nest, input)
+}
+
+// The same, byte by byte: takes bytes until one completes an event or is refused.
+#[tactic(auto, using(crate::proofs::Frames::settled_fit))]
+#[inline(never)]
+fn walk_bytes(
+    depth: usize,
+    position: &mut Position,
+    nest: &mut Nest,
+    input: &[u8],
+) -> (usize, Walked)
+    requires limit { depth ≤ MOST_OPEN }
+    requires within { length nest.old ≤ depth }
+    requires fits { IsFit depth nest.old position.old }
+    requires spent { is_in_payload position.old ≡ true → input.now ≡ [] }
+    ensures used { result.0 ≤ length input.now }
+    ensures wanted { length input.now ≤ wanted_at position.old → result.0 ≡ length input.now }
+    ensures payload { is_in_payload position.old ≡ true
+        → result.0 ≡ min (length input.now) (wanted_at position.old) }
+    ensures reason { is_done position.old ≡ false → IsWalkedReason result.1 }
+    ensures clear { IsTold result.1 → IsSettled nest.new position.new }
+    ensures more { result.1 ≡ Walked.More → result.0 ≡ length input.now }
+    ensures open { result.1 ≡ Walked.More → IsSettled nest.new position.new
+        → (result.0 ≡ 0) × IsSettled nest.old position.old }
+    ensures some { IsEnded result.1 → 0 < result.0 }
+    ensures proper { IsWalkedProper result.1 }
+    ensures piece { told_times result.1 ≤ result.0 }
+    ensures walked { IsWalked result.1 depth (state_of position.old nest.old)
+        (state_of position.new nest.new) (take result.0 input.now) }
+    ensures within { length nest.new ≤ depth }
+    ensures fits { IsFit depth nest.new position.new }
+{
     if input.is_empty() {
         return (0, Walked::More);
-    }
-    if let Position::Payload(chunk, kind, left) = *position {
-        let n = whole_piece(chunk, kind, left, depth, position, nest, input);
-        return (n, Walked::Told(Width::Direct, EventKind::Piece(n)));
     }
     for (i, c) in input.iter().enumerate() {
         match take_byte(depth, *position, nest, *c) {

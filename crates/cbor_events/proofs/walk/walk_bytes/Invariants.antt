@@ -1,7 +1,7 @@
 use Rattle.std.proofs.Common.{◌≡◌, ◌≤◌, ◌+◌, [], length, take, false}
 use Rattle.cbor_events.specs.inner.Automaton.{run, reached}
 use Rattle.cbor_events.specs.inner.State.{state_of, IsFit, IsSettled, head_left, is_done}
-use Rattle.cbor_events.proofs.walk.walk.Given as goal
+use Rattle.cbor_events.proofs.walk.walk_bytes.Given as goal
 
 abbrev pub invariant-loop-i : goal.invariant-loop-i
 invariant-loop-i l = record {
