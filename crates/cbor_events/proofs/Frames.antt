@@ -44,8 +44,8 @@ next_settled_fit depth fs (Goes position) h = settled_fit depth fs position h
 next_settled_fit depth fs (Tells w kind position) h = settled_fit depth fs position h
 
 -- outside a payload what is open is a head
-pub wanted-head : (position : Position) → ((chunk : Bool) (kind : Numbered) (left : ℕ) → position ≡ Payload chunk kind left → ⊥) → wanted_at position ≡ head_left position
-wanted-head (Payload chunk kind left) h = absurd (h chunk kind left refl)
+pub wanted-head : (position : Position) → (is_in_payload position ≡ true → ⊥) → wanted_at position ≡ head_left position
+wanted-head (Payload chunk kind left) h = absurd (h refl)
 wanted-head Item h = refl
 wanted-head (Head chunk kind width left argument) h = refl
 wanted-head SimpleNumber h = refl
