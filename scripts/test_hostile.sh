@@ -1,8 +1,8 @@
 #!/usr/bin/env bash
 # Random inputs against the definitions, and each request for memory refused: scripts/test_hostile.sh [SECONDS]
 #
-# Runs fuzz/run.py for so many seconds (10) and fuzz/memory.py, over the program and the readers as `rt ci`
-# built them, and the library for C. The last line is 'hostile use: all well', or the status is not 0.
+# Runs fuzz/run.py for so many seconds (10), fuzz/memory.py, over the program and the readers as `rt ci`
+# built them, and the library for C; and scripts/test_edits.py. The last line is 'hostile use: all well', or the status is not 0.
 set -euo pipefail
 
 root=$(cd "$(dirname "${BASH_SOURCE[0]}")/.." && pwd)
@@ -18,4 +18,5 @@ trap 'rm -rf "$dist"' EXIT
 built=(--program "$root/crates/cborc/out/cborc" --readers "$root/crates/answers/out/answers")
 python3 "$root/fuzz/run.py" --library "$dist/lib/libnaltvigo.so" "${built[@]}" --seconds "${1:-10}"
 python3 "$root/fuzz/memory.py" "${built[@]}"
+python3 "$root/scripts/test_edits.py"
 echo 'hostile use: all well'
