@@ -29,7 +29,9 @@ pub mod Maps
 pub mod NextKey
 pub mod OnAnswers
 pub mod OneAnswer
+pub mod OpenBegins
 pub mod OpenContainers
+pub mod OpenEnds
 pub mod OpenHeads
 pub mod OpenItems
 pub mod OpenKeys
@@ -51,6 +53,7 @@ pub mod Sequences
 pub mod Sizes
 pub mod SliceFronts
 pub mod SliceItems
+pub mod SliceSteps
 pub mod SpelledBytes
 pub mod Steps
 pub mod StrictFronts

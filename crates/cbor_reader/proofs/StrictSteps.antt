@@ -37,7 +37,7 @@ use Rattle.cbor_reader.proofs.Heads.{cut_head}
 use Rattle.cbor_reader.proofs.Items.{taking-some}
 use Rattle.cbor_reader.proofs.ByteLists.{bytes_join}
 use Rattle.cbor_reader.proofs.OpenHeads.{refused_part}
-use Rattle.cbor_reader.proofs.OpenItems.{done_position}
+use Rattle.cbor_reader.proofs.OpenEnds.{done_position}
 use Rattle.cbor_reader.proofs.OpenPieces.{string_judged}
 use Rattle.cbor_reader.proofs.OpenWalk.{none_open}
 use Rattle.cbor_reader.proofs.Payloads.{IsPiece, IsPayload, due-piece, none-come, part-fits, part-comes, part-cut}

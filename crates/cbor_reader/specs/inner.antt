@@ -15,4 +15,5 @@ pub mod Quick
 pub mod Reading
 pub mod Rules
 pub mod SliceChecks
+pub mod SliceFront
 pub mod StrictFront

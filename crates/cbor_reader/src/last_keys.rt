@@ -12,7 +12,7 @@ ghost use Rattle.cbor_reader.specs.inner.LastKeys.{AnswersKeyEnd};
 ghost use Rattle.cbor_reader.specs.inner.LastKeys.{seen, with_key, due_of, still_open, ended_item};
 
 use crate::MOST_OPEN;
-use crate::slice_checker::rises;
+use crate::rises::rises;
 use arrayvec::ArrayVec;
 use cbor_head::KeyOrder;
 use std::alloc::{AllocError, Global};

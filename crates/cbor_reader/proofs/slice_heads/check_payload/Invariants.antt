@@ -6,7 +6,7 @@ use Rattle.cbor_events.specs.inner.Automaton.{Frame, payload}
 use Rattle.cbor_reader.specs.inner.Reading.{IsAt}
 use Rattle.cbor_events.specs.SliceView.{seen}
 use Rattle.cbor_reader.proofs.Payloads.{HasCome}
-use Rattle.cbor_reader.proofs.slice_checker.check_payload.Given as goal
+use Rattle.cbor_reader.proofs.slice_heads.check_payload.Given as goal
 
 abbrev pub invariant-loop-left : goal.invariant-loop-left
 invariant-loop-left l = (b : Bounds) (chunk : Bool) (m : Major) (fs : List Frame) (t : List ℕ) → IsAt b (seen l.fn.events) t (payload chunk m l.fn.count fs)

@@ -3,7 +3,7 @@ use Rattle.cbor_head.specs.Complaint.{strict}
 use Rattle.cbor_head.specs.Verdict.{refusal}
 use Rattle.cbor_reader.proofs.Steps.{no-head}
 use Rattle.cbor_reader.proofs.SliceItems.{told-refusal, slice-head, slice-bad-head}
-use Rattle.cbor_reader.proofs.slice_checker.next_head.Goals as goal
+use Rattle.cbor_reader.proofs.slice_heads.next_head.Goals as goal
 
 pub returns-in-Refused : goal.returns-in-Refused
 returns-in-Refused c = λ b q t due a.

@@ -7,7 +7,7 @@ use Rattle.cbor_head.specs.declared.reason.Reason.TheVariants.{InvalidText}
 use Rattle.cbor_events.specs.SliceView.{seen}
 use Rattle.cbor_reader.proofs.Payloads.{payload-stops, chunk-no-text}
 use Rattle.cbor_reader.proofs.SliceItems.{payload-front, payload-there}
-use Rattle.cbor_reader.proofs.slice_checker.check_string.Goals as goal
+use Rattle.cbor_reader.proofs.slice_heads.check_string.Goals as goal
 
 pub returns-in-Err : goal.returns-in-Err
 returns-in-Err c = λ b chunk m fs t a.

@@ -6,7 +6,7 @@ use Rattle.cbor_events.specs.SliceView.{seen}
 use Rattle.cbor_reader.proofs.Steps.{limits-as, not-ended}
 use Rattle.cbor_reader.proofs.Payloads.{none-come, payload-open, part-fits, part-comes, part-cut, all-come}
 use Rattle.cbor_reader.proofs.SliceItems.{told-event, told-live, told-end, told-refusal}
-use Rattle.cbor_reader.proofs.slice_checker.check_payload.Goals as goal
+use Rattle.cbor_reader.proofs.slice_heads.check_payload.Goals as goal
 
 pub loop-left-init : goal.loop-left-init
 loop-left-init c = λ b chunk m fs t a. ([], none-come b chunk m fs t c.args.count [] (Some c.args.events.now.rest) (seen c.args.events.now) a)
