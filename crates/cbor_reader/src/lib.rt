@@ -20,6 +20,7 @@
 //! ```
 #![tactic(auto)]
 
+mod ascii;
 mod built_array;
 mod built_item;
 mod built_map;
