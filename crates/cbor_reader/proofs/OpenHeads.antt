@@ -59,7 +59,7 @@ module _ (o : KeyOrder) (b : Bounds) (fs : List Frame) (are : AreOpen (strict o)
   pub room_left : b.depth - length (frames_in fs) ≡ are.left
   room_left = let levels = are.levels in omega (arith, levels, outside_length fs, frames_length fs)
 
-  lift : (p : List ℕ) (found : Option Complaint) → IsJudged (strict o) (length (bytes_before fs)) (b.depth - length (frames_in fs)) p found → IsJudged (strict o) 0 (b.depth - 0) (bytes_before fs ++ p) found
+  pub lift : (p : List ℕ) (found : Option Complaint) → IsJudged (strict o) (length (bytes_before fs)) (b.depth - length (frames_in fs)) p found → IsJudged (strict o) 0 (b.depth - 0) (bytes_before fs ++ p) found
   lift p found j =
       let level : length (from_outside fs) + are.left ≡ b.depth - 0 = (let levels = are.levels in omega (arith, levels)) in
       subst (λ (n : ℕ). IsJudged (strict o) 0 n (bytes_before fs ++ p) found) level

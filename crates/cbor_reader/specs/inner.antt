@@ -15,4 +15,4 @@ pub mod Quick
 pub mod Reading
 pub mod Rules
 pub mod SliceChecks
-pub mod StrictFront
+pub mod StrictEvents
