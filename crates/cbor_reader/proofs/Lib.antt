@@ -16,7 +16,9 @@ pub mod Headline
 pub mod Heads
 pub mod Items
 pub mod Judged
+pub mod KeptCounts
 pub mod KeptKeys
+pub mod KeptReading
 pub mod Keys
 pub mod KeySets
 pub mod Leaves
@@ -57,6 +59,8 @@ pub mod SliceSteps
 pub mod SpelledBytes
 pub mod Steps
 pub mod StrictFronts
+pub mod StrictLoop
+pub mod StrictReading
 pub mod StrictSteps
 pub mod Tops
 pub mod Undecided

@@ -16,4 +16,4 @@ pub mod Reading
 pub mod Rules
 pub mod SliceChecks
 pub mod SliceFront
-pub mod StrictFront
+pub mod StrictEvents

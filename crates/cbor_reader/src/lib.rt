@@ -2,7 +2,8 @@
 //!
 //! [`canonicalise`] answers the canonical bytes of an item (RFC 8949, section 4.2), [`read_tree`]
 //! reads one as a [`Tree`], [`read_strict`] and [`check_canonical`] accept canonical bytes alone,
-//! [`same_meaning`] compares two items, and [`Sequence`] reads one item after another (RFC 8742).
+//! [`StrictReader`] tells the events of these, [`same_meaning`] compares two items, and
+//! [`Sequence`] reads one item after another (RFC 8742).
 //! Whatever is refused has one refusal, with its place. [`laws`] and [`sequence_laws`] have no code
 //! to run: their contracts are the laws of these answers.
 //!
@@ -47,6 +48,7 @@ mod slice_builder;
 mod slice_front;
 mod slice_heads;
 mod slice_tree;
+mod strict_events;
 mod strict_front;
 mod strict_reader;
 mod strict_slice;
@@ -66,7 +68,7 @@ pub use comparison::{Side, same_meaning};
 pub use sequence::Sequence;
 pub use sequence_items::SequenceItems;
 pub use slice_tree::whole_tree;
-pub use strict_reader::read_strict;
+pub use strict_reader::{StrictReader, read_strict};
 pub use strict_slice::check_canonical;
 pub use tree_reader::read_tree;
 pub use valid_slice::check_valid;
