@@ -61,7 +61,7 @@ open-is b e t q a =
     a.stands.stands.counted begins.0 begins.1 begins.2
     ∙ sym (opens-stack e.machine.depth begins.0 t begins.1 q a.marks begins.2 (a.stands.stands.inner.ran ∙ ap (λ (p : State). reached p a.marks) a.state))
 
-fewer-open : (fs : List Frame) → length (stack (close fs)) ≤ length fs
+pub fewer-open : (fs : List Frame) → length (stack (close fs)) ≤ length fs
 fewer-open [] = omega arith
 fewer-open (counted zero ∷ fs) = omega (arith, fewer-open fs)
 fewer-open (counted (suc n) ∷ fs) = omega arith

@@ -53,6 +53,7 @@ mod strings;
 #[cfg(test)]
 mod tests;
 mod tree_reader;
+mod valid_front;
 mod valid_slice;
 mod whole_item;
 

@@ -10,17 +10,11 @@ use crate::payload::no_memory;
 use crate::plain_items::PlainItems;
 use crate::plain_part::read_part;
 use crate::rules::Rules;
+use crate::slice_builder::BuiltFront;
 use cbor_events::ItemEvents;
 use cbor_head::{KeyOrder, Limits, Reason, Refusal};
 use std::alloc::Global;
 use std::io::Read;
-
-/// The canonical bytes of an item, and how many bytes it has as it was read.
-#[derive(Drop)]
-pub(crate) struct EncodedFront {
-    pub(crate) canonical: Vec<u8>,
-    pub(crate) size: u64,
-}
 
 // The canonical bytes, in this order and however many, of the item that the reader's bytes begin
 // with. No byte behind the item or its first complaint is read.
@@ -29,7 +23,7 @@ pub(crate) fn read_plain_front<R: Read>(
     reader: &mut R,
     limits: Limits,
     order: KeyOrder,
-) -> Result<EncodedFront, Refusal>
+) -> Result<BuiltFront, Refusal>
     ensures { MatchResult result
         (λ front. IsEncodedFront limits order (R.remaining reader.old) (R.remaining reader.new)
         front.canonical.items front.size)
@@ -43,7 +37,7 @@ pub(crate) fn read_plain_front<R: Read>(
             Ok(false) => {
                 let canonical = items.finish();
                 let size = events.taken();
-                return Ok(EncodedFront { canonical, size });
+                return Ok(BuiltFront { canonical, size });
             }
             Err(refusal) => return Err(refusal),
         }

@@ -1,7 +1,6 @@
 -- What the plain reader keeps: what a builder holds, in which no two keys of an open map are the same, and where each open
 -- item began.
 use Rattle.std.specs.Prelude.{ℕ, suc, ◌≡◌, ◌<◌, ◌≤◌, ◌++◌, List, [], ◌∷◌, length, slice_index_or, Result, OnOk}
-use Rattle.std.specs.Alloc.{AllocError}
 use Rattle.cbor_head.specs.Head.{shortest_head, IsSimple}
 use Rattle.cbor_head.specs.Limits.{Bounds}
 use Rattle.cbor_head.specs.declared.major.Major.{Major}
@@ -90,7 +89,7 @@ pub record IsEnding (v : PlainItems) (height count : ℕ) : Type 0 where
   pub ending : IsEndingAt v b e t height
   pub counted : count ≡ e.machine.open_count
 
-abbrev pub AnswersEnds : PlainItems → PlainItems → ℕ → ℕ → Result (Unit {0}) AllocError → Type 0
+abbrev pub AnswersEnds : {E : Type 0} → PlainItems → PlainItems → ℕ → ℕ → Result (Unit {0}) E → Type 0
 AnswersEnds old new height count result =
     (b : Bounds) (e : ItemEventsView) (t : List ℕ) → IsEndingAt old b e t height → count ≡ e.machine.open_count
     → OnOk result ((new.builder.order ≡ old.builder.order) × IsEndingAt new b e t e.machine.open_count)
