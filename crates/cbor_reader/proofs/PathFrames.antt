@@ -1,9 +1,9 @@
 -- The open containers of a path as frames around the item in them: what is found of the item is found of the whole.
-use Rattle.std.proofs.Common.{◌≡◌, ℕ, zero, suc, ◌+◌, ◌-◌, ◌^◌, ◌<◌, ◌≤◌, ◌⊎◌, Option, Some, None, List, [], ◌∷◌, ◌++◌, length, map, refl, sym, ap, ◌∙◌, subst, inl, inr, arith, append_assoc, append-nil}
-use Rattle.std.proofs.lemmas.List.{length-append, length-map}
+use Rattle.std.proofs.Common.{◌≡◌, ℕ, suc, ◌+◌, ◌-◌, ◌^◌, ◌<◌, ◌≤◌, ◌⊎◌, Option, Some, List, [], ◌∷◌, ◌++◌, length, refl, sym, ap, ◌∙◌, subst, inl, inr, arith, append_assoc}
+use Rattle.std.proofs.lemmas.List.{length-append}
 use Rattle.cbor_head.specs.Head.{Holds, head}
-use Rattle.cbor_head.specs.Canonical.{Pair, canonical, canonical_entries}
-use Rattle.cbor_head.specs.Spelling.{Spelling, Spellings, SpelledEntries, no_spellings, no_entries, entry, spell, spell_all, spell_entries, spellings_count, entries_count, HoldsOrIndefinite, value_of, entries_of}
+use Rattle.cbor_head.specs.Canonical.{canonical, canonical_entries}
+use Rattle.cbor_head.specs.Spelling.{Spelling, SpelledEntries, no_spellings, no_entries, entry, spell, spell_all, spell_entries, spellings_count, entries_count, value_of, entries_of}
 use Rattle.cbor_head.specs.Complaint as complaint
 use Rattle.cbor_head.specs.Complaint.{Rules, plain, Complaint, OfKey, Complains, ComplainsInEntries, IsRepeated}
 use Rattle.cbor_head.specs.declared.major.Major.TheVariants as majors
@@ -19,8 +19,8 @@ use Rattle.cbor_item.proofs.Sound.{IsSound, sound}
 use Rattle.cbor_reader.specs.inner.Frame as frames
 use Rattle.cbor_reader.specs.inner.Frame.{Frame, with_entries, keys_onto, before, IsFrame, depth_beside}
 use Rattle.cbor_reader.specs.inner.Judged.{IsJudged}
-use Rattle.cbor_reader.specs.inner.Levels.{IsTaken, ArePairsTaken, Level, a_member, a_key, a_value, some_member, some_key, some_value, tagged, frame, level_bytes, level_open, IsLevel, AreLevels, bytes_before, opens}
-use Rattle.cbor_reader.specs.inner.OpenMaps.{Placed, placed, keys_at, open_keys, OnKeys, AreDistinct, OfClosed, ComplainsWithin, before_all, AreOpen, AreOpenDistinct}
+use Rattle.cbor_reader.specs.inner.Levels.{IsTaken, ArePairsTaken, Level, a_member, a_key, a_value, some_member, some_key, some_value, tagged, level_bytes, level_open, IsLevel, AreLevels, bytes_before, opens}
+use Rattle.cbor_reader.specs.inner.OpenMaps.{placed, keys_at, open_keys, OnKeys, AreDistinct, OfClosed, ComplainsWithin, before_all, AreOpen, AreOpenDistinct}
 use Rattle.cbor_reader.specs.inner.PlainItems.{HasKeysApart, AreApart}
 use Rattle.cbor_reader.proofs.Heads.{open_or}
 use Rattle.cbor_reader.proofs.Judged.{Never, zero_item, zeros, zeros_count, zeros_spelled, zeros_flat, zero_pairs, pairs_count, pairs_spelled, pairs_flat, judged_key}

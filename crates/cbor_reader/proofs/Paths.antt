@@ -1,5 +1,5 @@
 -- From part to part of an item: which keys are known to differ, and where each open item began.
-use Rattle.std.proofs.Common.{◌≡◌, ◌≢◌, ℕ, zero, suc, ◌<◌, ◌≤◌, ◌⊎◌, List, [], ◌∷◌, ◌++◌, length, get_or, set, refl, sym, ap, ◌∙◌, subst, inl, inr, arith}
+use Rattle.std.proofs.Common.{◌≡◌, ◌≢◌, ℕ, zero, suc, ◌<◌, ◌≤◌, List, [], ◌∷◌, ◌++◌, length, get_or, set, sym, ◌∙◌, inl, inr, arith}
 use Rattle.std.specs.List.{AllByRecursion}
 use Rattle.std.proofs.lemmas.List.{get_or-set_same, get_or-set_other}
 use Rattle.cbor_head.specs.Canonical.{Pair}
@@ -12,7 +12,7 @@ use Rattle.cbor_item.specs.Pairs.{HasDistinctBytes}
 use Rattle.cbor_item.specs.Parts.{Open, plain, an_array, a_map, a_key, a_string, pair, closed, give, close, opened, HasNoRepeats}
 use Rattle.cbor_reader.specs.inner.Levels as levels
 use Rattle.cbor_reader.specs.inner.Levels.{Level, bytes_before}
-use Rattle.cbor_reader.specs.inner.Path.{Standing, item_due, item_full, item_whole, settle}
+use Rattle.cbor_reader.specs.inner.Path.{settle}
 use Rattle.cbor_reader.specs.inner.PlainItems.{HasKeysApart, AreApart, AreApartSoFar, HaveBegun, HaveBegunIn, HasItsPlace}
 
 -- ---- keys

@@ -8,7 +8,7 @@ use Rattle.cbor_head.specs.Head.{Holds, IsSimple, head, shortest_head}
 use Rattle.cbor_head.specs.Canonical.{canonical}
 use Rattle.cbor_head.specs.Limits.{Bounds, AreBounds}
 use Rattle.cbor_head.specs.Value.{Value}
-use Rattle.cbor_head.specs.Spelling.{Spelling, array, a_map, tag, no_spellings, no_entries, spell, spell_all, spell_entries, spellings_count, entries_count, value_of}
+use Rattle.cbor_head.specs.Spelling.{array, a_map, no_spellings, no_entries, spell, spell_all, spell_entries, spellings_count, value_of}
 use Rattle.cbor_head.specs.Complaint as complaint
 use Rattle.cbor_head.specs.Complaint.{plain, Complaint, Complains}
 use Rattle.cbor_head.specs.Verdict.{refusal}
@@ -36,7 +36,7 @@ use Rattle.cbor_reader.specs.declared.plain_items.PlainItems.{PlainItems}
 use Rattle.cbor_reader.specs.declared.plain_part.Part.{Part}
 use Rattle.cbor_reader.specs.declared.plain_part.Part.TheVariants.{Leaf, String, Begin, Break}
 use Rattle.cbor_reader.specs.inner.Judged.{IsJudged}
-use Rattle.cbor_reader.specs.inner.Levels.{IsTaken, Level, a_member, a_key, a_value, some_member, some_key, some_value, tagged, frame, level_open, AreLevels, bytes_before, opens, IsFull}
+use Rattle.cbor_reader.specs.inner.Levels.{IsTaken, Level, a_member, a_key, a_value, some_member, some_key, some_value, tagged, frame, level_open, AreLevels, bytes_before, opens}
 use Rattle.cbor_reader.specs.inner.OpenItems.{AreRefused}
 use Rattle.cbor_reader.specs.inner.Path.{Standing, item_due, item_full, item_whole, settle, StandsAt}
 use Rattle.cbor_reader.specs.declared.rules.Rules.TheVariants.{Plain}
@@ -44,12 +44,12 @@ use Rattle.cbor_reader.specs.inner.Front.{IsFrontUnread}
 use Rattle.cbor_reader.specs.inner.PlainFront.{IsDueAt, IsWholeAt, GoesOnOrNot, TakesNext, IsEncodedFront}
 use Rattle.cbor_reader.specs.inner.PlainItems.{AreApart, AreApartSoFar, HaveBegun, HaveBegunIn, HasItsPlace, CanTake, IsGiven, IsEndingAt}
 use Rattle.cbor_reader.specs.inner.PlainParts.{IsCome, leaf_value, IsLeafMajor, Begins, IsStill, ReadsPart}
-use Rattle.cbor_reader.specs.inner.Reading.{IsAt, IsReached, IsUndecided, HasCause, IsMemory, IsBegun, IsNextHead, ReadsItem, StopsItem, StopsHead, string_major, string_value}
+use Rattle.cbor_reader.specs.inner.Reading.{IsAt, IsUndecided, HasCause, IsBegun, IsNextHead, ReadsItem, StopsItem, StopsHead, string_value}
 use Rattle.cbor_reader.specs.inner.StrictFront.{IsStopped}
 use Rattle.cbor_reader.proofs.Arrays.{closes}
 use Rattle.cbor_reader.proofs.Fronts.{front-read, front-unread}
 use Rattle.cbor_reader.proofs.Heads.{open_or}
-use Rattle.cbor_reader.proofs.Items.{IsDefinite, definite, is-definite, proper-definite, never-open, cause-in, undecided-in, stops-at-item, stops-next, reads-next, taking-some}
+use Rattle.cbor_reader.proofs.Items.{definite, is-definite, proper-definite, never-open, cause-in, undecided-in, stops-at-item, stops-next, reads-next, taking-some}
 use Rattle.cbor_reader.proofs.Judged.{judged_start, zero_item, zero_pairs}
 use Rattle.cbor_reader.proofs.LevelEvents.{open-is, fewer-open, short-at}
 use Rattle.cbor_reader.proofs.LevelStrings.{string-canonical}

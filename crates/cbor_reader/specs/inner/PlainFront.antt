@@ -1,5 +1,5 @@
 -- What is told of the item at the front of an input, part by part, by the plain rules.
-use Rattle.std.specs.Prelude.{ℕ, ◌≡◌, ◌<◌, ◌++◌, Bool, true, false, List, [], ◌∷◌, length, map, Option, Result, MatchResult, IfSome}
+use Rattle.std.specs.Prelude.{ℕ, ◌≡◌, ◌<◌, ◌++◌, Bool, true, false, List, [], ◌∷◌, length, map, Option, Result, MatchResult}
 use Rattle.std.specs.Io.KnownBytes.{Consumes}
 use Rattle.cbor_head.specs.Canonical.{canonical}
 use Rattle.cbor_head.specs.Complaint.{plain}
@@ -11,7 +11,6 @@ use Rattle.cbor_head.specs.declared.reason.Refusal.{Refusal}
 use Rattle.cbor_events.specs.inner.Automaton.{at_item, done as at_end}
 use Rattle.cbor_events.specs.ItemEvents.{ItemEventsView}
 use Rattle.cbor_item.specs.Parts.{plain as a_plain}
-use Rattle.cbor_reader.specs.Readers.{IsRead}
 use Rattle.cbor_reader.specs.declared.plain_items.PlainItems.{PlainItems}
 use Rattle.cbor_reader.specs.inner.Front.{IsFrontRead}
 use Rattle.cbor_reader.specs.inner.Levels.{IsTaken, Level, frame, AreLevels, bytes_before, opens}

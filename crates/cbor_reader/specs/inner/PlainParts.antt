@@ -1,5 +1,5 @@
 -- What a part of an item is that was read, by the plain rules.
-use Rattle.std.specs.Prelude.{ℕ, ◌≡◌, ◌++◌, List, [], length, Option, Some, None, Result, MatchResult}
+use Rattle.std.specs.Prelude.{ℕ, ◌≡◌, ◌++◌, List, Option, Some, None, Result, MatchResult}
 use Rattle.cbor_head.specs.Complaint.{plain}
 use Rattle.cbor_head.specs.Head.{IsSimple}
 use Rattle.cbor_head.specs.Limits.{Bounds}

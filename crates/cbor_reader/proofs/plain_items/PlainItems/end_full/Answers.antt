@@ -1,6 +1,5 @@
-use Rattle.std.proofs.Common.{◌≡◌, ◌∙◌, ◌<◌, ◌≤◌, ◌-◌, ap, subst, sym, refl, arith}
-use Rattle.cbor_item.specs.Built.{Built, built}
-use Rattle.cbor_item.specs.Parts.{close}
+use Rattle.std.proofs.Common.{◌∙◌, ap, refl, arith}
+use Rattle.cbor_item.specs.Built.{Built}
 use Rattle.cbor_reader.proofs.PlainSteps.{ends-next, ends-one, ends-all}
 use Rattle.cbor_reader.proofs.plain_items.PlainItems.end_full.Goals as goal
 
