@@ -25,12 +25,11 @@ use Rattle.cbor_events.specs.Token.{kind_of}
 use Rattle.cbor_events.specs.SliceView.{SliceEventsView, seen}
 use Rattle.cbor_events.specs.declared.event.Event.{Event}
 use Rattle.cbor_events.specs.declared.event.EventKind.TheVariants as kinds
-use Rattle.cbor_events.specs.declared.frame.Frame as machine
 use Rattle.cbor_events.specs.declared.position.Position.{Position}
 use Rattle.cbor_events.specs.declared.position.Position.TheVariants as positions
 use Rattle.cbor_events.specs.declared.token.Token.{Token}
 use Rattle.cbor_events.specs.declared.token.Token.TheVariants as tokens
-use Rattle.cbor_events.specs.inner.Automaton.{Frame, counted, indefinite_array, indefinite_map, State, at_item, close, expect, reached, done as at_end}
+use Rattle.cbor_events.specs.inner.Automaton.{Frame, counted, indefinite_array, indefinite_map, State, at_item, close, expect, reached}
 use Rattle.cbor_events.specs.inner.State.{state_of}
 use Rattle.cbor_events.specs.inner.Taking.{Ends, Follows, IsTaking}
 use Rattle.cbor_events.proofs.Frames.{position-done}
