@@ -33,7 +33,7 @@ use Rattle.cbor_reader.proofs.Judged.{Never}
 use Rattle.cbor_reader.proofs.KeptCounts.{Counts, HasLength, AreAround, one_map, map_count, keys_size, path_counts, maps_past, keys_past}
 use Rattle.cbor_reader.proofs.KeptKeys.{either_way, kept_if_in, kept_if_out, kept_spans}
 use Rattle.cbor_reader.proofs.LevelEvents.{open-is}
-use Rattle.cbor_reader.proofs.OpenItems.{frames_length}
+use Rattle.cbor_reader.proofs.OpenEnds.{frames_length}
 use Rattle.cbor_reader.proofs.OpenSteps.{before_snoc}
 
 -- ---- before an item

@@ -1,48 +1,40 @@
 -- What a head begins in the open containers, whatever is kept of them.
-use Rattle.std.proofs.Common.{◌≡◌, ◌≢◌, ℕ, zero, suc, ◌+◌, ◌-◌, ◌<◌, ◌≤◌, ◌⊎◌, Bool, true, false, Option, Some, None, List, [], ◌∷◌, ◌++◌, length, replicate, refl, sym, ap, ◌∙◌, subst, inl, inr, arith, append_assoc, append-nil}
-use Rattle.std.proofs.lemmas.List.{length-append, nil_from_length}
-use Rattle.std.proofs.lemmas.Bool.{cases_lt}
+use Rattle.std.proofs.Common.{◌≡◌, ℕ, zero, suc, ◌+◌, ◌-◌, ◌<◌, Bool, true, false, Option, Some, None, List, [], ◌∷◌, ◌++◌, length, refl, sym, ap, ◌∙◌, subst, arith, append-nil}
 use Rattle.std.proofs.lemmas.Str.{IsUtf8-nil}
-use Rattle.cbor_head.specs.Head.{Holds, head, shortest, shortest_head}
+use Rattle.cbor_head.specs.Head.{head}
 use Rattle.cbor_head.specs.Limits.{Bounds}
 use Rattle.cbor_head.specs.Value.{Value}
-use Rattle.cbor_head.specs.Spelling.{Spelling, SpelledEntries, unsigned, negative, bytes, text, array, a_map, tag, simple, no_spellings, no_entries, spell, spellings_count, entries_count, HoldsOrIndefinite, IsSpelled, depth}
+use Rattle.cbor_head.specs.Spelling.{Spelling, SpelledEntries, no_spellings, no_entries, spellings_count, entries_count}
 use Rattle.cbor_head.specs.Complaint as complaint
 use Rattle.cbor_head.specs.Complaint.{Rules, strict, Complaint, OfCount, OfHead, Complains}
-use Rattle.cbor_head.specs.Verdict.{refusal}
 use Rattle.cbor_head.specs.declared.major.Major.{Major}
 use Rattle.cbor_head.specs.declared.major.Major.TheVariants as majors
 use Rattle.cbor_head.specs.declared.order.KeyOrder.{KeyOrder}
-use Rattle.cbor_head.specs.declared.reason.Reason.{Reason}
 use Rattle.cbor_head.specs.declared.reason.Reason.TheVariants as reasons
 use Rattle.cbor_head.specs.declared.reason.Reason.TheVariants.{Memory}
-use Rattle.cbor_head.specs.declared.reason.Refusal.{Refusal}
 use Rattle.cbor_head.specs.declared.width.Width.{Width}
-use Rattle.cbor_head.specs.declared.width.Width.TheVariants.{Direct, One, Two, Four, Eight, Indefinite}
-use Rattle.cbor_head.proofs.Agree.{head_of, body, parts}
+use Rattle.cbor_head.specs.declared.width.Width.TheVariants.{Indefinite}
 use Rattle.cbor_events.specs.Trace.{Mark, a_head}
 use Rattle.cbor_events.specs.inner.Automaton.{Frame as Container, State, at_item, counted, close, expect, payload}
-use Rattle.cbor_events.specs.inner.Taking.{Follows, Ends, IsTaking}
+use Rattle.cbor_events.specs.inner.Taking.{Ends}
 use Rattle.cbor_events.specs.ItemEvents.{ItemEventsView}
 use Rattle.cbor_events.specs.Marks.{mark_of}
-use Rattle.cbor_events.specs.declared.event.Event.{Event}
 use Rattle.cbor_events.specs.declared.event.EventKind.{EventKind}
 use Rattle.cbor_events.specs.declared.event.EventKind.TheVariants as kinds
 use Rattle.cbor_reader.specs.inner.Frame.{Frame, a_member, a_key, a_content, tagged, before}
 use Rattle.cbor_reader.specs.inner.Judged.{IsJudged}
-use Rattle.cbor_reader.specs.inner.OpenMaps.{open_keys, AreDistinct, AreOpen, AreOpenDistinct}
-use Rattle.cbor_reader.specs.inner.Reading.{IsAt, IsReached, IsUndecided, HasCause, OfMark, IsFault, IsBegun, ReadsItem, ReadsPayload, string_kind, string_major}
+use Rattle.cbor_reader.specs.inner.OpenMaps.{AreOpen, AreOpenDistinct}
+use Rattle.cbor_reader.specs.inner.Reading.{IsAt, OfMark, IsBegun, ReadsItem, ReadsPayload, string_kind, string_major}
 use Rattle.cbor_reader.proofs.Arrays.{starts-array, array-whole}
-use Rattle.cbor_reader.proofs.Heads.{zero_bytes, zero_length, open_or}
-use Rattle.cbor_reader.proofs.Items.{IsDefinite, definite, proper-definite, never-open, is-definite, head-count, cause-in, undecided-in, head-judged, taking-some}
-use Rattle.cbor_reader.proofs.Judged.{Never, zero_item, zeros, zeros_count, zeros_spelled, zeros_flat, zero_pairs, pairs_count, pairs_spelled, pairs_flat, judged_head}
+use Rattle.cbor_reader.proofs.Heads.{open_or}
+use Rattle.cbor_reader.proofs.Items.{definite, proper-definite, never-open, is-definite, head-count}
+use Rattle.cbor_reader.proofs.Judged.{Never, zero_item, zeros, zeros_count, zero_pairs, pairs_count}
 use Rattle.cbor_reader.proofs.Maps.{starts-with, map-whole}
 use Rattle.cbor_reader.proofs.OpenMaps.{judged_within}
 use Rattle.cbor_reader.proofs.OpenSteps.{distinct_snoc}
 use Rattle.cbor_reader.proofs.OpenWalk.{array_opens, map_opens, tag_opens}
 use Rattle.cbor_reader.proofs.Scalars.{at-as, reads-unsigned, reads-negative, reads-simple}
-use Rattle.cbor_reader.proofs.Steps.{head-size, fault_of, at-reached}
-use Rattle.cbor_reader.proofs.WholeStrings.{string-head, string-due, reads-string}
+use Rattle.cbor_reader.proofs.WholeStrings.{string-due, reads-string}
 use Rattle.std.proofs.KnownBytes.{Consumes-nil}
 use Rattle.cbor_reader.specs.inner.LastKeys.{from_outside, due_of}
 use Rattle.cbor_reader.specs.declared.last_keys.Due.TheVariants.{Member}
@@ -128,8 +120,7 @@ module _ (o : KeyOrder) (b : Bounds) (fs : List Frame) (t x : List ℕ) (e : Ite
       let i = definite b.depth (frames_in fs) majors.Array w (suc more) x begun.next (proper-definite w begun.proper) begun.taking in
       let f = a_member w no_spellings (zeros more) in
       let d = deeper b fs i.follows.0 in
-      let clean : Never (OfCount (strict o) (length (bytes_before fs)) majors.Array w (suc more)) = subst (λ (y : List ℕ). Never (OfCount (strict o) (length y) majors.Array w (suc more))) taken begun.clean in
-      (
+      let clean : Never (OfCount (strict o) (length (bytes_before fs)) majors.Array w (suc more)) = subst (λ (y : List ℕ). Never (OfCount (strict o) (length y) majors.Array w (suc more))) taken begun.clean in (
         f,
         refl,
         record {
@@ -144,8 +135,7 @@ module _ (o : KeyOrder) (b : Bounds) (fs : List Frame) (t x : List ℕ) (e : Ite
       let f = tagged w n in
       let d = deeper b fs i.follows.0 in
       let clean : Never (OfHead (strict o) (length (bytes_before fs)) majors.Tag w n) =
-      subst (λ (y : List ℕ). Never (OfHead (strict o) (length y) majors.Tag w n)) taken (λ c g. begun.clean c (head-count (strict o) (length t) majors.Tag w n c (is-definite w n i.holds) g)) in
-      (
+      subst (λ (y : List ℕ). Never (OfHead (strict o) (length y) majors.Tag w n)) taken (λ c g. begun.clean c (head-count (strict o) (length t) majors.Tag w n c (is-definite w n i.holds) g)) in (
         f,
         refl,
         record {
@@ -175,8 +165,7 @@ module _ (o : KeyOrder) (b : Bounds) (fs : List Frame) (t x : List ℕ) (e : Ite
       let clean : Never (OfCount (strict o) (length (bytes_before fs)) majors.Map w (suc more)) = subst (λ (y : List ℕ). Never (OfCount (strict o) (length y) majors.Map w (suc more))) taken begun.clean in
       let twice : suc more + suc more ≡ suc (suc (more + more)) = omega arith in
       let state : expect (suc more + suc more) (frames_in fs) ≡ at_item (frames_in (f ∷ fs)) =
-      ap (λ (n : ℕ). expect n (frames_in fs)) twice ∙ ap (λ (n : ℕ). at_item (counted (suc (n + n)) ∷ frames_in fs)) (sym (pairs_count more)) in
-      (
+      ap (λ (n : ℕ). expect n (frames_in fs)) twice ∙ ap (λ (n : ℕ). at_item (counted (suc (n + n)) ∷ frames_in fs)) (sym (pairs_count more)) in (
         zero_item,
         zero_pairs more,
         record {

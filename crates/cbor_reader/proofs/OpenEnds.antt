@@ -15,7 +15,7 @@ use Rattle.cbor_head.specs.declared.reason.Refusal.{Refusal}
 use Rattle.cbor_head.specs.declared.reason.Reason.TheVariants as reasons
 use Rattle.cbor_head.specs.declared.width.Width.{Width}
 use Rattle.cbor_events.specs.Open.{open_after, open_in, open_in_entries}
-use Rattle.cbor_events.specs.inner.Automaton.{Frame as Container, State, at_item, counted, close, done as at_end}
+use Rattle.cbor_events.specs.inner.Automaton.{Frame as Container, at_item, counted, close, done as at_end}
 use Rattle.cbor_events.specs.inner.State.{state_of}
 use Rattle.cbor_events.specs.ItemEvents.{ItemEventsView}
 use Rattle.cbor_events.specs.declared.frame.Frame as frames

@@ -1,12 +1,11 @@
 -- What becomes of the open containers as a head comes.
-use Rattle.std.proofs.Common.{◌≡◌, ◌≢◌, ℕ, zero, suc, ◌+◌, ◌-◌, ◌<◌, ◌≤◌, ◌⊎◌, Bool, true, false, Option, Some, None, List, [], ◌∷◌, ◌++◌, length, replicate, refl, sym, ap, ◌∙◌, subst, inl, inr, arith, append_assoc, append-nil}
+use Rattle.std.proofs.Common.{◌≡◌, ◌≢◌, ℕ, zero, suc, ◌+◌, ◌-◌, ◌<◌, ◌≤◌, ◌⊎◌, Bool, false, Option, Some, None, List, [], ◌∷◌, ◌++◌, length, replicate, refl, sym, ap, ◌∙◌, subst, inl, inr, arith, append_assoc, append-nil}
 use Rattle.std.proofs.lemmas.List.{length-append, nil_from_length}
 use Rattle.std.proofs.lemmas.Bool.{cases_lt}
-use Rattle.std.proofs.lemmas.Str.{IsUtf8-nil}
 use Rattle.cbor_head.specs.Head.{Holds, head, shortest, shortest_head}
 use Rattle.cbor_head.specs.Limits.{Bounds}
 use Rattle.cbor_head.specs.Value.{Value}
-use Rattle.cbor_head.specs.Spelling.{Spelling, SpelledEntries, unsigned, negative, bytes, text, array, a_map, tag, simple, no_spellings, no_entries, spell, spellings_count, entries_count, HoldsOrIndefinite, IsSpelled, depth}
+use Rattle.cbor_head.specs.Spelling.{Spelling, SpelledEntries, unsigned, negative, bytes, text, array, a_map, tag, simple, no_entries, spell, HoldsOrIndefinite, IsSpelled, depth}
 use Rattle.cbor_head.specs.Complaint as complaint
 use Rattle.cbor_head.specs.Complaint.{Rules, strict, Complaint, OfCount, OfHead, Complains}
 use Rattle.cbor_head.specs.Verdict.{refusal}
@@ -14,15 +13,14 @@ use Rattle.cbor_head.specs.declared.major.Major.{Major}
 use Rattle.cbor_head.specs.declared.major.Major.TheVariants as majors
 use Rattle.cbor_head.specs.declared.order.KeyOrder.{KeyOrder}
 use Rattle.cbor_head.specs.declared.reason.Reason.{Reason}
-use Rattle.cbor_head.specs.declared.reason.Reason.TheVariants as reasons
 use Rattle.cbor_head.specs.declared.reason.Reason.TheVariants.{Memory}
 use Rattle.cbor_head.specs.declared.reason.Refusal.{Refusal}
 use Rattle.cbor_head.specs.declared.width.Width.{Width}
 use Rattle.cbor_head.specs.declared.width.Width.TheVariants.{Direct, One, Two, Four, Eight, Indefinite}
 use Rattle.cbor_head.proofs.Agree.{head_of, body, parts}
 use Rattle.cbor_events.specs.Trace.{Mark, a_head}
-use Rattle.cbor_events.specs.inner.Automaton.{Frame as Container, State, at_item, counted, close, expect, payload}
-use Rattle.cbor_events.specs.inner.Taking.{Follows, Ends, IsTaking}
+use Rattle.cbor_events.specs.inner.Automaton.{Frame as Container, State, at_item, close, payload}
+use Rattle.cbor_events.specs.inner.Taking.{Follows, IsTaking}
 use Rattle.cbor_events.specs.ItemEvents.{ItemEventsView}
 use Rattle.cbor_events.specs.Marks.{mark_of}
 use Rattle.cbor_events.specs.declared.event.Event.{Event}
@@ -32,28 +30,22 @@ use Rattle.cbor_events.specs.TextCheck.{HasChecked}
 use Rattle.cbor_reader.specs.declared.last_keys.Due.TheVariants.{Member}
 use Rattle.cbor_reader.specs.declared.last_keys.LastKeys.{LastKeys}
 use Rattle.cbor_reader.specs.declared.open_items.OpenItems.{OpenItems}
-use Rattle.cbor_reader.specs.inner.Frame.{Frame, a_member, a_key, a_content, tagged, before}
-use Rattle.cbor_reader.specs.inner.Judged.{IsJudged}
+use Rattle.cbor_reader.specs.inner.Frame.{Frame, a_key, before}
 use Rattle.cbor_reader.specs.inner.LastKeys.{seen, from_outside, due_of, IsKept}
 use Rattle.cbor_reader.specs.inner.OpenItems.{frames_in, bytes_before, Stands, AreRefused, HasEnded, HasHeadCome, HasBegunIn, IsLeaf, IsMap, IsOther, short_head}
-use Rattle.cbor_reader.specs.inner.OpenMaps.{open_keys, AreDistinct, AreOpen, AreOpenDistinct}
-use Rattle.cbor_reader.specs.inner.Reading.{IsAt, IsReached, IsUndecided, HasCause, OfMark, IsFault, IsBegun, ReadsItem, ReadsPayload, string_kind, string_major}
-use Rattle.cbor_reader.proofs.Arrays.{starts-array, array-whole}
+use Rattle.cbor_reader.specs.inner.OpenMaps.{AreOpen, AreOpenDistinct}
+use Rattle.cbor_reader.specs.inner.Reading.{IsReached, IsUndecided, HasCause, OfMark, IsFault, IsBegun, ReadsItem, string_kind, string_major}
 use Rattle.cbor_reader.proofs.Heads.{zero_bytes, zero_length, open_or}
-use Rattle.cbor_reader.proofs.Items.{IsDefinite, definite, proper-definite, never-open, is-definite, head-count, cause-in, undecided-in, head-judged, taking-some}
+use Rattle.cbor_reader.proofs.Items.{IsDefinite, definite, proper-definite, never-open, head-count, cause-in, undecided-in, head-judged, taking-some}
 use Rattle.cbor_reader.proofs.Judged.{Never, zero_item, zeros, zeros_count, zeros_spelled, zeros_flat, zero_pairs, pairs_count, pairs_spelled, pairs_flat, judged_head}
 use Rattle.cbor_reader.proofs.KeptKeys.{kept_levels, kept_spans}
-use Rattle.cbor_reader.proofs.Maps.{starts-with, map-whole}
 use Rattle.cbor_reader.proofs.OpenBegins.{lift, no_break, no_openers, leaf_reads, HasOpened, other_opens, pairs_open}
-use Rattle.cbor_reader.proofs.OpenEnds.{outside_length, frames_length, before_more}
+use Rattle.cbor_reader.proofs.OpenEnds.{frames_length, before_more}
 use Rattle.cbor_reader.proofs.OpenItems.{around_as}
-use Rattle.cbor_reader.proofs.OpenMaps.{judged_within}
-use Rattle.cbor_reader.proofs.OpenSteps.{distinct_snoc}
-use Rattle.cbor_reader.proofs.OpenWalk.{array_opens, map_opens, tag_opens}
-use Rattle.cbor_reader.proofs.Scalars.{at-as, reads-unsigned, reads-negative, reads-simple}
+use Rattle.cbor_reader.proofs.Scalars.{at-as}
 use Rattle.cbor_reader.proofs.Steps.{head-size, fault_of, at-reached}
 use Rattle.cbor_reader.proofs.Undecided.{last-apart}
-use Rattle.cbor_reader.proofs.WholeStrings.{string-head, string-due, reads-string}
+use Rattle.cbor_reader.proofs.WholeStrings.{string-head, string-due}
 
 -- ---- what is found of the item is found of the whole
 

@@ -1,48 +1,30 @@
 -- What becomes of the open containers as an item ends.
-use Rattle.std.proofs.Common.{◌≡◌, ℕ, suc, ◌+◌, ◌-◌, ◌≤◌, Bool, true, false, IsTrue, Option, Some, List, [], ◌∷◌, ◌++◌, length, refl, sym, ap, ◌∙◌, subst, inl, inr, arith, append_assoc, append-nil}
-use Rattle.std.specs.Prelude.{reverse, nat_lt, nat_le, ◌&&◌, if◌then◌else◌}
-use Rattle.std.proofs.lemmas.List.{length-append, length-map, length-reverse}
-use Rattle.cbor_head.specs.Head.{head}
+use Rattle.std.proofs.Common.{◌≡◌, ℕ, ◌+◌, ◌-◌, ◌≤◌, IsTrue, Option, List, [], ◌∷◌, ◌++◌, length, sym, ap, ◌∙◌, subst, inl, inr, arith, append-nil}
+use Rattle.std.proofs.lemmas.List.{length-append}
 use Rattle.cbor_head.specs.Limits.{Bounds}
 use Rattle.cbor_head.specs.Order.{key_lt}
-use Rattle.cbor_head.specs.Spelling.{Spelling, Spellings, SpelledEntries, unsigned, negative, bytes, text, byte_chunks, text_chunks, array, a_map, tag, simple, no_spellings, a_spelling, no_entries, entry, spell, spellings_count, entries_count, IsSpelled, depth, IsItem}
-use Rattle.cbor_head.specs.Complaint as complaint
-use Rattle.cbor_head.specs.Complaint.{Rules, strict, Complaint, OfCount, OfKey, Complains}
+use Rattle.cbor_head.specs.Spelling.{Spelling, Spellings, SpelledEntries, no_spellings, a_spelling, no_entries, entry, spell}
+use Rattle.cbor_head.specs.Complaint.{strict, Complains}
 use Rattle.cbor_head.specs.Verdict.{refusal}
-use Rattle.cbor_head.specs.declared.major.Major.TheVariants.{Array, Map, Tag}
 use Rattle.cbor_head.specs.declared.order.KeyOrder.{KeyOrder}
 use Rattle.cbor_head.specs.declared.reason.Refusal.{Refusal}
 use Rattle.cbor_head.specs.declared.reason.Reason.TheVariants as reasons
 use Rattle.cbor_head.specs.declared.width.Width.{Width}
-use Rattle.cbor_events.specs.Open.{open_after, open_in, open_in_entries}
-use Rattle.cbor_events.specs.inner.Automaton.{Frame as Container, State, at_item, counted, close, done as at_end}
-use Rattle.cbor_events.specs.inner.State.{state_of}
+use Rattle.cbor_events.specs.inner.Automaton.{close}
 use Rattle.cbor_events.specs.ItemEvents.{ItemEventsView}
-use Rattle.cbor_events.specs.declared.frame.Frame as frames
-use Rattle.cbor_events.specs.declared.position.Position.{Position}
-use Rattle.cbor_events.specs.declared.position.Position.TheVariants as positions
 use Rattle.cbor_reader.specs.declared.last_keys.Due.{Due}
 use Rattle.cbor_reader.specs.declared.last_keys.Due.TheVariants.{Member, Key, Content}
 use Rattle.cbor_reader.specs.declared.last_keys.LastKeys.{LastKeys}
 use Rattle.cbor_reader.specs.declared.open_items.OpenItems.{OpenItems}
-use Rattle.cbor_reader.specs.inner.Frame.{Frame, a_member, a_key, a_content, tagged, with_all, with_entries, keys_onto, plug, before, OfFront}
-use Rattle.cbor_reader.specs.inner.Judged.{IsJudged}
-use Rattle.cbor_reader.specs.inner.LastKeys.{seen, from_outside, stands_in_key, last_key, kept_bytes, due_of, IsFull, IsKept, AreDefinite, HasKeyEnded, still_open, ended_item}
+use Rattle.cbor_reader.specs.inner.Frame.{Frame, a_member, a_key, a_content, with_all, with_entries, before}
+use Rattle.cbor_reader.specs.inner.LastKeys.{seen, from_outside, stands_in_key, last_key, kept_bytes, due_of, IsKept, AreDefinite, HasKeyEnded, still_open, ended_item}
 use Rattle.cbor_reader.specs.inner.OpenItems.{frames_in, bytes_before, AreOpenClean, Stands, AreRefused, HasEnded}
-use Rattle.cbor_reader.specs.inner.OpenMaps.{placed, open_keys, AreDistinct, OfClosed, before_all, AreOpen, AreOpenDistinct}
+use Rattle.cbor_reader.specs.inner.OpenMaps.{AreOpen, AreOpenDistinct}
 use Rattle.cbor_reader.specs.inner.Reading.{IsAt}
-use Rattle.cbor_reader.specs.inner.SliceChecks.{IsLastKey}
-use Rattle.cbor_reader.proofs.Frames.{spelled_plug, depth_plug}
-use Rattle.cbor_reader.proofs.Judged.{Never, judged_key}
-use Rattle.cbor_reader.proofs.KeptKeys.{either_way, full_bytes, kept_if_in, kept_if_out, kept_levels, kept_spans}
-use Rattle.cbor_reader.proofs.OpenKeys.{on_keys_split, onto_keys, front_apart}
-use Rattle.cbor_reader.proofs.OpenMaps.{judged_within}
-use Rattle.cbor_reader.proofs.OpenSteps.{before_snoc, distinct_snoc, member_before, content_before, content_keys, map_closes, array_closes, tag_closes}
-use Rattle.cbor_reader.proofs.OpenWalk.{shuts, innermost, member_ends, key_ends, content_ends}
-use Rattle.cbor_reader.proofs.OpenEnds.{definite_of, outside_length, before_more, StaysOpen, none_open, member_open, key_open, content_open, stays_open, EndsClean, open_so, EndsIn, IsDueIn, ends_in, member_next, content_next, key_next, key_refused}
-use Rattle.cbor_reader.proofs.Scalars.{at-as}
-use Rattle.cbor_reader.proofs.SliceItems.{key-fresh, key-falls}
-use Rattle.cbor_reader.proofs.Steps.{at-reached}
+use Rattle.cbor_reader.proofs.Judged.{Never}
+use Rattle.cbor_reader.proofs.KeptKeys.{either_way, kept_if_in, kept_if_out, kept_levels, kept_spans}
+use Rattle.cbor_reader.proofs.OpenSteps.{member_before}
+use Rattle.cbor_reader.proofs.OpenEnds.{definite_of, outside_length, StaysOpen, none_open, member_open, key_open, content_open, stays_open, EndsClean, open_so, EndsIn, IsDueIn, ends_in, member_next, content_next, key_next, key_refused}
 
 -- ---- behind what closed
 

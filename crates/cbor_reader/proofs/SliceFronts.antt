@@ -1,5 +1,5 @@
 -- What is told of the item at the front of a slice.
-use Rattle.std.proofs.Common.{◌≡◌, ℕ, List, [], take, refl, sym, ap, ◌∙◌, subst}
+use Rattle.std.proofs.Common.{◌≡◌, ℕ, List, take, refl, sym, ap, ◌∙◌, subst}
 use Rattle.std.specs.Prelude.{Some, Result, Ok, Err, MatchResult, IfOk, IfErr}
 use Rattle.cbor_head.specs.Limits.{Bounds, AreBounds}
 use Rattle.cbor_head.specs.Spelling.{Spelling, value_of}

@@ -1,15 +1,12 @@
 -- Items of a slice, from its events.
-use Rattle.std.proofs.Common.{◌≡◌, ◌≢◌, ℕ, zero, suc, cond, ◌+◌, ◌-◌, ◌<◌, ◌≤◌, ◌⊎◌, Bool, true, IsTrue, Some, None, List, [], ◌∷◌, ◌++◌, length, take, refl, sym, ap, ◌∙◌, subst, inl, inr, arith}
+use Rattle.std.proofs.Common.{◌≡◌, ◌≢◌, ℕ, cond, ◌+◌, ◌<◌, ◌≤◌, Bool, true, IsTrue, Some, None, List, [], ◌∷◌, length, take, refl, sym, ap, ◌∙◌, subst, inl, inr, arith}
 use Rattle.std.proofs.lemmas.Bool.Decides.{nat_tests}
 use Rattle.std.specs.Ordering.{is_lt, ordering_then}
 use Rattle.std.specs.declared.cmp.Ordering.TheVariants.{Less, Equal, Greater}
-use Rattle.std.specs.Prelude.{nat_lt, ◌==◌, Result, Ok, Err, MatchResult}
-use Rattle.std.specs.Io.KnownBytes.{Consumes}
+use Rattle.std.specs.Prelude.{nat_lt, ◌==◌}
 use Rattle.std.proofs.lemmas.List.{length-append}
 use Rattle.std.proofs.Math.Seq.{take-append_seam}
 use Rattle.cbor_head.specs.Limits.{Bounds}
-use Rattle.cbor_head.specs.Value as value
-use Rattle.cbor_head.specs.Value.{Value, Values, Entries}
 use Rattle.cbor_head.specs.Spelling.{Spelling, spell}
 use Rattle.cbor_head.specs.Order.{key_lt}
 use Rattle.cbor_head.specs.Complaint as complaint
@@ -17,8 +14,6 @@ use Rattle.cbor_head.specs.Complaint.{Rules, strict, form, Complaint, OfKey}
 use Rattle.cbor_head.specs.Verdict.{refusal}
 use Rattle.cbor_head.specs.declared.order.KeyOrder.{KeyOrder}
 use Rattle.cbor_head.specs.declared.order.KeyOrder.TheVariants.{Bytewise, LengthFirst}
-use Rattle.cbor_head.specs.declared.major.Major.{Major}
-use Rattle.cbor_head.specs.declared.major.Major.TheVariants as majors
 use Rattle.cbor_head.specs.declared.width.Width.{Width}
 use Rattle.cbor_head.specs.declared.width.Width.TheVariants.{Direct, One, Two, Four, Eight, Indefinite}
 use Rattle.cbor_head.specs.declared.reason.Reason.{Reason}
@@ -26,7 +21,7 @@ use Rattle.cbor_head.specs.declared.reason.Reason.TheVariants as reasons
 use Rattle.cbor_head.specs.declared.reason.Refusal.{Refusal}
 use Rattle.cbor_head.proofs.ReadLaws.{length_spell}
 use Rattle.cbor_events.specs.Trace.{Mark, a_head, a_chunk, a_byte, a_break}
-use Rattle.cbor_events.specs.inner.Automaton.{Frame, counted, State, at_item, close}
+use Rattle.cbor_events.specs.inner.Automaton.{Frame, State, at_item}
 use Rattle.cbor_events.specs.Marks.{mark_of}
 use Rattle.cbor_events.specs.ItemEvents.{IsNextEvent, IsEnd}
 use Rattle.cbor_events.specs.SliceEvents.{event_of, slice_call, IsNextTold, IsRefusedTold}
@@ -36,18 +31,13 @@ use Rattle.cbor_events.specs.Token.{kind_of}
 use Rattle.cbor_events.specs.declared.event.EventKind.TheVariants as kinds
 use Rattle.cbor_events.specs.declared.token.Token.{Token}
 use Rattle.cbor_events.specs.declared.token.Token.TheVariants as tokens
-use Rattle.cbor_events.proofs.WholeHeads.{front-of}
-use Rattle.cbor_reader.specs.inner.Reading.{IsAt, IsFault, IsHeadFault, IsHeadDue, IsNextHead, StopsHead, OfMark, IsBegun, ReadsItem, StopsItem, StopsPayload, string_kind}
+use Rattle.cbor_reader.specs.inner.Reading.{IsAt, IsFault, IsHeadFault, IsHeadDue, IsNextHead, StopsHead, IsBegun}
 use Rattle.cbor_events.specs.SliceView.{seen}
 use Rattle.cbor_reader.specs.inner.SliceChecks.{IsOfBytes, TakesPayload, IsLastKey}
-use Rattle.cbor_reader.specs.inner.NextKey.{RefusesKey}
-use Rattle.cbor_reader.specs.declared.rules.Rules.TheVariants.{Strict}
 use Rattle.cbor_reader.proofs.Judged.{Never}
 use Rattle.cbor_reader.proofs.Reasons.{never-read}
 use Rattle.cbor_reader.proofs.Steps.{Stops, limits-as, stops, next-head, bad-head}
-use Rattle.cbor_reader.proofs.Items.{begun-by, reads-next, stops-next}
-use Rattle.cbor_reader.proofs.Scalars.{reads-unsigned, reads-negative, reads-simple, reads-tag, stops-tag}
-use Rattle.cbor_reader.proofs.WholeStrings.{reads-string, stops-string, looks}
+use Rattle.cbor_reader.proofs.Items.{begun-by}
 
 -- ---- what is told
 

@@ -6,8 +6,8 @@ use Rattle.cbor_head.specs.Head.{head}
 use Rattle.cbor_head.specs.Limits.{Bounds}
 use Rattle.cbor_head.specs.Order.{key_lt}
 use Rattle.cbor_head.specs.Value.{Value}
-use Rattle.cbor_head.specs.Spelling.{Spelling, Spellings, SpelledEntries, value_of, no_spellings, a_spelling, no_entries, entry, spell, spell_entries, entries_count}
-use Rattle.cbor_head.specs.Complaint.{strict, Complaint, Complains}
+use Rattle.cbor_head.specs.Spelling.{Spelling, SpelledEntries, value_of, no_spellings, a_spelling, no_entries, entry, spell, spell_entries, entries_count}
+use Rattle.cbor_head.specs.Complaint.{strict}
 use Rattle.cbor_head.specs.Verdict.{refusal}
 use Rattle.cbor_head.specs.declared.major.Major.{Major}
 use Rattle.cbor_head.specs.declared.major.Major.TheVariants.{Map}
@@ -26,10 +26,9 @@ use Rattle.cbor_reader.specs.declared.key_spans.Level.{Level}
 use Rattle.cbor_reader.specs.declared.last_keys.Due.{Due}
 use Rattle.cbor_reader.specs.declared.last_keys.Due.TheVariants.{Member, Key, Content}
 use Rattle.cbor_reader.specs.declared.rules.Rules.TheVariants.{Strict}
-use Rattle.cbor_reader.specs.inner.Frame.{Frame, a_member, a_key, a_content, tagged, with_all, with_entries, before}
-use Rattle.cbor_reader.specs.inner.LastKeys.{from_outside, due_of, last_key, before_last, still_open, ended_item}
+use Rattle.cbor_reader.specs.inner.Frame.{Frame, a_member, a_key, a_content, tagged, with_entries, before}
+use Rattle.cbor_reader.specs.inner.LastKeys.{due_of, last_key, before_last, still_open, ended_item}
 use Rattle.cbor_reader.specs.inner.OpenItems.{frames_in, bytes_before, IsLeaf, IsMap, IsOther}
-use Rattle.cbor_reader.specs.inner.OpenMaps.{AreOpen, AreOpenDistinct}
 use Rattle.cbor_reader.specs.inner.Reading.{IsAt, IsBegun, IsNextHead, IsPayloadDue, ReadsItem, StopsItem, StopsPayload, string_kind, string_major}
 use Rattle.cbor_reader.specs.inner.SliceChecks.{IsOfBytes, TakesPayload}
 use Rattle.cbor_reader.specs.inner.SliceFront.{a_level, level_at, levels_of, StandsAt, HasHead, HasEnded, IsOver, IsStopped, AreKeysWithin, IsBehind, DoesFall}

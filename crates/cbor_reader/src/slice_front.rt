@@ -14,11 +14,7 @@ use cbor_events::{SliceEvents, Token};
 use cbor_head::{KeyOrder, Limits, Reason, Refusal};
 
 // How many bytes the item has.
-pub(crate) fn check_front(
-    bytes: &[u8],
-    limits: Limits,
-    order: KeyOrder,
-) -> Result<u64, Refusal>
+pub(crate) fn check_front(bytes: &[u8], limits: Limits, order: KeyOrder) -> Result<u64, Refusal>
     ensures { MatchResult result
         (λ count. IsRead limits.depth limits.bytes (strict order) bytes.now count)
         (λ f. IsVerdict limits.depth limits.bytes (strict order) bytes.now (refused f)) }

@@ -1,23 +1,16 @@
 -- What the check of a slice answers of one item, which may lie within others, from its events.
-use Rattle.std.specs.Prelude.{◌≡◌, ◌≢◌, ℕ, ◌⊎◌, Bool, true, List, [], ◌∷◌, length, Some, Result, MatchResult, IsUtf8}
-use Rattle.std.specs.Borrow.{Bor}
+use Rattle.std.specs.Prelude.{◌≡◌, ◌≢◌, ℕ, Bool, true, List, [], ◌∷◌, Some, Result, MatchResult, IsUtf8}
 use Rattle.cbor_head.specs.Limits.{Bounds}
-use Rattle.cbor_head.specs.Value.{Value}
 use Rattle.cbor_head.specs.Spelling.{Spelling, spell}
-use Rattle.cbor_head.specs.Complaint.{Rules, Complaint, OfKey}
+use Rattle.cbor_head.specs.Complaint.{Rules}
 use Rattle.cbor_head.specs.declared.major.Major.{Major}
-use Rattle.cbor_head.specs.declared.width.Width.{Width}
 use Rattle.cbor_head.specs.declared.reason.Refusal.{Refusal}
 use Rattle.cbor_head.specs.declared.reason.Reason.TheVariants.{Read}
-use Rattle.cbor_events.specs.inner.Automaton.{Frame, State, at_item, close_string, payload}
-use Rattle.cbor_events.specs.inner.Taking.{Ends}
-use Rattle.cbor_events.specs.ItemEvents.{ItemEventsView}
+use Rattle.cbor_events.specs.inner.Automaton.{Frame, State, close_string, payload}
 use Rattle.cbor_events.specs.SliceEvents.{event_of}
 use Rattle.cbor_events.specs.SliceView.{SliceEventsView, seen}
-use Rattle.cbor_events.specs.declared.event.EventKind.{EventKind}
 use Rattle.cbor_events.specs.declared.token.Token.{Token}
-use Rattle.cbor_reader.specs.inner.Reading.{IsAt, IsMemory, IsHeadDue, IsNextHead, StopsHead, ReadsPayload, StopsPayload, IsBegun, ReadsItem, StopsItem}
-use Rattle.cbor_reader.specs.inner.NextKey.{RefusesKey}
+use Rattle.cbor_reader.specs.inner.Reading.{IsAt, IsMemory, IsHeadDue, IsNextHead, StopsHead, ReadsPayload, StopsPayload}
 
 -- no reader failed, and no memory was asked for
 pub record IsOfBytes (f : Refusal) : Type 0 where

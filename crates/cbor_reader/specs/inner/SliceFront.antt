@@ -1,6 +1,6 @@
 -- Where the strict check of a slice stands between two events: which containers are open, and where the last complete keys of
 -- the maps among them lie. Nothing read has a complaint.
-use Rattle.std.specs.Prelude.{◌≡◌, ℕ, suc, ◌+◌, ◌-◌, ◌≤◌, ◌<◌, ◌++◌, Bool, true, false, IsTrue, List, [], ◌∷◌, length, take, drop, Some, Result, MatchResult}
+use Rattle.std.specs.Prelude.{◌≡◌, ℕ, suc, ◌+◌, ◌-◌, ◌≤◌, ◌++◌, Bool, true, false, IsTrue, List, [], ◌∷◌, length, take, drop, Some, Result, MatchResult}
 use Rattle.cbor_head.specs.Head.{head}
 use Rattle.cbor_head.specs.Limits.{Bounds}
 use Rattle.cbor_head.specs.Order.{key_lt}
