@@ -3,7 +3,7 @@ pub mod BuilderState
 pub mod CanonState
 pub mod Encoded
 pub mod Front
-pub mod Held
 pub mod Laid
 pub mod Members
 pub mod Repeats
+pub mod Walk
