@@ -60,10 +60,13 @@ pub(crate) fn complete(
     ensures rises { KeepsRising order out.now spans.old.items frame.old.shape
         frame.old.rises frame.new.rises }
 {
+    if let Shape::Array(n) = &mut frame.shape {
+        *n += 1;
+        return Ok(());
+    }
     let bytes = out.as_slice();
     match frame.shape {
-        Shape::Plain => {}
-        Shape::Array(n) => frame.shape = Shape::Array(n + 1),
+        Shape::Plain | Shape::Array(_) => {}
         Shape::Map(first) => frame.shape = Shape::Key(first, at, bytes.len()),
         Shape::Key(first, key, val) => {
             let span = Span {
