@@ -4,6 +4,7 @@ pub mod CanonState
 pub mod Encoded
 pub mod Front
 pub mod Laid
+pub mod Levels
 pub mod Members
 pub mod Repeats
 pub mod Walk

@@ -21,9 +21,11 @@ mod fronts;
 mod item;
 mod key_order;
 pub mod laws;
+mod level;
 mod repeat;
 mod rest;
 mod tree;
+mod tree_builder;
 mod within;
 mod write;
 
@@ -36,6 +38,7 @@ pub use item::Item;
 pub use key_order::compare_keys;
 pub use repeat::Repeat;
 pub use tree::Tree;
+pub use tree_builder::TreeBuilder;
 pub use write::{encode_to, write_whole};
 
 #[cfg(test)]
