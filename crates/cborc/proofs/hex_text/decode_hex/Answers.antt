@@ -1,7 +1,7 @@
 use Rattle.std.proofs.Common.{rules}
 use Rattle.std.proofs.lemmas.Fn.{filter_same}
 use Rattle.cborc.specs.Hex.{is_kept}
-use Rattle.cborc.proofs.input.decode_hex.Goals as goal
+use Rattle.cborc.proofs.hex_text.decode_hex.Goals as goal
 
 pub returns-clause-ok : goal.returns-clause-ok
 returns-clause-ok c =
