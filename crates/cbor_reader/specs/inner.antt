@@ -11,8 +11,13 @@ pub mod Members
 pub mod NextKey
 pub mod OpenItems
 pub mod OpenMaps
+pub mod Path
+pub mod PlainFront
+pub mod PlainItems
+pub mod PlainParts
 pub mod Quick
 pub mod Reading
 pub mod Rules
 pub mod SliceChecks
-pub mod StrictFront
+pub mod SliceFront
+pub mod StrictEvents
