@@ -67,6 +67,7 @@ static int make(int shape, size_t levels) {
     case 8: put("\x81", 1, levels), put("\x7f\x79\x08\0", 4, 1), put((const char *)zeros, 2048, 1), put("\xff", 1, 1); break;
     case 9: put("\x81", 1, levels), put("\x59\x08\0", 3, 1), put((const char *)zeros, 2048, 1); break;
     case 10: put("\xa1", 1, levels), put("\xf9", 1, 1); break;
+    case 11: put("\xa2\0", 2, levels), put("\0\0", 2, 1); break;
     default: return 0;
     }
     return 1;

@@ -124,7 +124,7 @@ struct naltvigo_refusal {
  * naltvigo_check_canonical needs no more than the third, at any depth. */
 #define NALTVIGO_STACK 65536
 #define NALTVIGO_STACK_A_LEVEL 2048
-#define NALTVIGO_STACK_CHECK_CANONICAL 114688
+#define NALTVIGO_STACK_CHECK_CANONICAL 65536
 
 /* The exports. No pointer may be null, whatever the length beside it. */
 uint32_t naltvigo_canonicalise_raw(const uint8_t *in, size_t in_length, uint32_t order, uint32_t depth,
