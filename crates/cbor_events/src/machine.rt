@@ -15,11 +15,14 @@ ghost use Rattle.cbor_events.specs.inner.State.{IsFit, IsSettled, wanted_at, is_
 ghost use Rattle.cbor_events.specs.inner.State.{is_done};
 ghost use Rattle.cbor_events.specs.inner.Steps.{IsStep};
 
+mod saved;
+
 use crate::event::{Event, Out, Step};
 use crate::nest::Nest;
 use crate::position::Position;
 use crate::walk::{Walked, walk, whole_event};
 use cbor_head::{Limits, Reason, Refusal};
+pub use saved::{SavedFrame, SavedMachine};
 use std::marker::Model;
 
 /// Takes one item byte by byte, in parts of any length, and tells its events.
