@@ -30,6 +30,7 @@ pub mod Steps
 pub mod Strict
 pub mod Theorems
 pub mod Told
+pub mod ValuesMade
 pub mod Vectors
 pub mod Views
 pub mod Written

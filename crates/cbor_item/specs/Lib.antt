@@ -2,6 +2,7 @@ pub mod Built
 pub mod CanonicalSpelling
 pub mod Front
 pub mod inner
+pub mod OpenValues
 pub mod Pairs
 pub mod Parts
 pub mod Refused

@@ -5,5 +5,6 @@ pub mod Encoded
 pub mod Front
 pub mod Held
 pub mod Laid
+pub mod Levels
 pub mod Members
 pub mod Repeats

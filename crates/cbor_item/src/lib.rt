@@ -22,8 +22,10 @@ mod fronts;
 mod item;
 mod key_bytes;
 pub mod laws;
+mod level;
 mod repeat;
 mod tree;
+mod tree_builder;
 mod valid;
 mod within;
 mod write;
@@ -38,6 +40,7 @@ pub use item::Item;
 pub use key_bytes::SHORT_KEY;
 pub use repeat::Repeat;
 pub use tree::Tree;
+pub use tree_builder::TreeBuilder;
 pub use write::{encode_to, write_whole};
 
 #[cfg(test)]

@@ -1,0 +1,71 @@
+//! What is open of an item that is being built.
+
+ghost use Rattle.std.specs.Prelude.{◌≡◌, OnOk, IfOk};
+ghost use Rattle.cbor_head.specs.declared.major.Major.TheVariants as majors;
+ghost use Rattle.cbor_item.specs.Built.{IsContainer};
+ghost use Rattle.cbor_item.specs.OpenValues.{CanHold, CanEnd, with_member, opened, closed};
+ghost use Rattle.cbor_item.specs.View.{view};
+ghost use Rattle.cbor_item.specs.inner.Levels.{level_value};
+
+use crate::item::Item;
+use cbor_head::Major;
+use std::alloc::{AllocError, Global};
+
+/// What is open, with its finished members.
+#[derive(Drop)]
+pub(crate) enum Level {
+    // Around all: the item, once it is complete.
+    Whole(Option<Item>),
+    Array(Vec<Item>),
+    // The pairs, and the key that waits for its value.
+    Map(Vec<(Item, Item)>, Option<Item>),
+    // The number, and the content once it is complete.
+    Tag(u64, Option<Item>),
+}
+
+impl Level {
+    // What begins; the number is a tag's.
+    pub(crate) fn begun(alloc: Global, major: Major, number: u64) -> Level
+        requires { IsContainer major }
+        ensures { level_value result ≡ opened major number }
+    {
+        match major {
+            Major::Array => Level::Array(Vec::new(alloc)),
+            Major::Map => Level::Map(Vec::new(alloc), None),
+            _ => Level::Tag(number, None),
+        }
+    }
+
+    // One more member.
+    pub(crate) fn put(&mut self, item: Item) -> Result<(), AllocError>
+        requires { CanHold (level_value self.old) }
+        ensures { OnOk result (level_value self.new ≡ with_member (view item) (level_value self.old)) }
+    {
+        match self {
+            Level::Whole(whole) => *whole = Some(item),
+            Level::Array(items) => items.push(item)?,
+            Level::Map(pairs, key) => match key.take() {
+                Some(first) => pairs.push((first, item))?,
+                None => *key = Some(item),
+            },
+            Level::Tag(_, content) => *content = Some(item),
+        }
+        Ok(())
+    }
+
+    // The item that ends.
+    pub(crate) fn ended(self, alloc: Global) -> Result<Item, AllocError>
+        requires { CanEnd (level_value self) }
+        ensures { IfOk result (λ item. view item ≡ closed (level_value self)) }
+    {
+        match self {
+            Level::Array(items) => Ok(Item::Array(items)),
+            Level::Map(pairs, _) => Ok(Item::Map(pairs)),
+            Level::Tag(number, Some(content)) => {
+                let content = Box::new(alloc, content)?;
+                Ok(Item::Tag(number, content))
+            }
+            _ => unreachable!(),
+        }
+    }
+}

@@ -1,0 +1,120 @@
+//! Items from their parts, without recursion.
+
+ghost use Rattle.std.specs.Prelude.{◌≡◌, ◌∷◌, [], List, OnOk};
+ghost use Rattle.cbor_head.specs.Value.{Value};
+ghost use Rattle.cbor_item.specs.Built.{IsContainer};
+ghost use Rattle.cbor_item.specs.OpenValues.{the_whole, opened, give, close, run, parts_of};
+ghost use Rattle.cbor_item.specs.OpenValues.{standing, TakesValue, MayEnd, IsWhole};
+ghost use Rattle.cbor_item.specs.View.{view};
+
+#[cfg(test)]
+mod tests;
+
+use crate::item::Item;
+use crate::level::Level;
+use cbor_head::Major;
+use std::alloc::{AllocError, Global};
+use std::marker::Model;
+
+/// An item (RFC 8949, section 3) from its parts as they come. What is open lies in a list of its
+/// own, so the depth of an item costs memory and no stack. The pairs of a map keep the order in
+/// which they came. Memory is taken for what came, never by a length in a head. After a call has
+/// been refused memory the builder may only be dropped.
+///
+/// ```
+/// // {1: [2]}
+/// let mut builder = TreeBuilder::new(alloc);
+/// builder.begin(Major::Map, 0)?;
+/// builder.leaf(Item::Unsigned(1))?;
+/// builder.begin(Major::Array, 0)?;
+/// builder.leaf(Item::Unsigned(2))?;
+/// builder.end()?;
+/// builder.end()?;
+/// let item = builder.finish();
+/// ```
+#[derive(Drop)]
+pub struct TreeBuilder {
+    alloc: Global,
+    top: Level,
+    // What is open around it, the innermost last.
+    below: Vec<Level>,
+}
+
+impl Model for TreeBuilder {
+    ghost use Rattle.std.specs.Prelude.{List};
+    ghost use Rattle.cbor_item.specs.OpenValues.{OpenItem};
+    ghost use Rattle.cbor_item.specs.contracts.item.Item as e;
+    ghost use Rattle.std.specs.Coded.{codes};
+
+    ghost Value = { List OpenItem };
+
+    ghost coded = { Prim.hlevel (codes, e.the_row.coded) };
+
+    ghost use Rattle.cbor_item.specs.inner.Levels.{open_items};
+
+    ghost view = { open_items };
+}
+
+impl TreeBuilder {
+    /// A builder that has been given nothing. Takes no memory.
+    pub fn new(alloc: Global) -> TreeBuilder
+        ensures { standing result ≡ the_whole [] ∷ [] }
+    {
+        TreeBuilder {
+            alloc,
+            top: Level::Whole(None),
+            below: Vec::new(alloc),
+        }
+    }
+
+    /// A member that is complete: one without members, or one that was built before.
+    pub fn leaf(&mut self, item: Item) -> Result<(), AllocError>
+        requires takes { TakesValue (standing self.old) }
+        ensures { OnOk result (standing self.new ≡ give (view item) (standing self.old)) }
+    {
+        self.top.put(item)
+    }
+
+    /// An array, a map or a tag begins. The number is the tag's.
+    pub fn begin(&mut self, major: Major, number: u64) -> Result<(), AllocError>
+        requires kind { IsContainer major }
+        requires takes { TakesValue (standing self.old) }
+        ensures { OnOk result (standing self.new ≡ opened major number ∷ standing self.old) }
+    {
+        let inner = Level::begun(self.alloc, major, number);
+        let outer = std::mem::replace(&mut self.top, inner);
+        self.below.push(outer)?;
+        Ok(())
+    }
+
+    /// The array, map or tag ends.
+    pub fn end(&mut self) -> Result<(), AllocError>
+        requires container { MayEnd (standing self.old) }
+        ensures { OnOk result (standing self.new ≡ close (standing self.old)) }
+    {
+        let Some(outer) = self.below.pop() else {
+            unreachable!()
+        };
+        let inner = std::mem::replace(&mut self.top, outer);
+        let ended = inner.ended(self.alloc)?;
+        self.top.put(ended)
+    }
+
+    /// The item, once it is complete. Takes no memory.
+    pub fn finish(self) -> Item
+        requires whole { IsWhole (standing self) }
+        ensures item { (v : Value) → standing self ≡ the_whole (v ∷ []) ∷ [] → view result ≡ v }
+        ensures made { (v : Value)
+            → standing self ≡ run (parts_of v) (the_whole [] ∷ []) → view result ≡ v }
+    {
+        let TreeBuilder {
+            alloc: _,
+            top,
+            below: _,
+        } = self;
+        match top {
+            Level::Whole(Some(item)) => item,
+            _ => unreachable!(),
+        }
+    }
+}
