@@ -25,12 +25,11 @@ use Rattle.cbor_events.specs.Token.{kind_of}
 use Rattle.cbor_events.specs.SliceView.{SliceEventsView, seen}
 use Rattle.cbor_events.specs.declared.event.Event.{Event}
 use Rattle.cbor_events.specs.declared.event.EventKind.TheVariants as kinds
-use Rattle.cbor_events.specs.declared.frame.Frame as machine
 use Rattle.cbor_events.specs.declared.position.Position.{Position}
 use Rattle.cbor_events.specs.declared.position.Position.TheVariants as positions
 use Rattle.cbor_events.specs.declared.token.Token.{Token}
 use Rattle.cbor_events.specs.declared.token.Token.TheVariants as tokens
-use Rattle.cbor_events.specs.inner.Automaton.{Frame, counted, indefinite_array, indefinite_map, State, at_item, close, expect, reached, done as at_end}
+use Rattle.cbor_events.specs.inner.Automaton.{Frame, counted, indefinite_array, indefinite_map, State, at_item, close, expect, reached}
 use Rattle.cbor_events.specs.inner.State.{state_of}
 use Rattle.cbor_events.specs.inner.Taking.{Ends, Follows, IsTaking}
 use Rattle.cbor_events.proofs.Frames.{position-done}
@@ -61,7 +60,7 @@ open-is b e t q a =
     a.stands.stands.counted begins.0 begins.1 begins.2
     ∙ sym (opens-stack e.machine.depth begins.0 t begins.1 q a.marks begins.2 (a.stands.stands.inner.ran ∙ ap (λ (p : State). reached p a.marks) a.state))
 
-fewer-open : (fs : List Frame) → length (stack (close fs)) ≤ length fs
+pub fewer-open : (fs : List Frame) → length (stack (close fs)) ≤ length fs
 fewer-open [] = omega arith
 fewer-open (counted zero ∷ fs) = omega (arith, fewer-open fs)
 fewer-open (counted (suc n) ∷ fs) = omega arith

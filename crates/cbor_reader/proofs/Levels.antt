@@ -13,7 +13,7 @@ use Rattle.cbor_head.specs.declared.order.KeyOrder.{KeyOrder}
 use Rattle.cbor_head.specs.declared.width.Width.{Width}
 use Rattle.cbor_head.specs.declared.width.Width.TheVariants.{Direct, One, Two, Four, Eight, Indefinite}
 use Rattle.cbor_head.proofs.Counts.{values_count-of}
-use Rattle.cbor_events.specs.inner.Automaton.{counted, close}
+use Rattle.cbor_events.specs.inner.Automaton.{State, counted, close}
 use Rattle.cbor_item.specs.Pairs.{HasDistinctBytes}
 use Rattle.cbor_item.specs.Parts.{Open, an_array, plain as a_plain, a_map as an_open_map, pair, give, close as close_open, closed, HasNoRepeats, AreKeysValid}
 use Rattle.cbor_item.proofs.Keys.{distinct_exactly}
@@ -25,11 +25,12 @@ use Rattle.cbor_reader.proofs.Arrays.{closes}
 use Rattle.cbor_reader.proofs.Judged.{Never}
 use Rattle.cbor_reader.proofs.Loops.{array_bytes-more, array_bytes-whole, map_bytes-more, map_bytes-whole}
 use Rattle.cbor_reader.proofs.Valid.{in_range_entries, valid_of}
+use Rattle.cbor_reader.specs.inner.Path.{Standing, item_due, item_full, item_whole, settle, StandsAt}
 use Rattle.cbor_reader.specs.inner.Levels.{IsClean, IsTaken, AreTaken, ArePairsTaken, Level, a_member, a_key, a_value, some_member, some_key, some_value, tagged, frame, AreLevels, bytes_before, opens, IsFull, IsStanding, due, full, whole}
 
 -- ---- complaints, wherever an item stands
 
-no-count : (at : ℕ) (m : Major) (w : Width) (n : ℕ) → Never (OfCount plain at m w n)
+pub no-count : (at : ℕ) (m : Major) (w : Width) (n : ℕ) → Never (OfCount plain at m w n)
 no-count at m Direct n c h = h
 no-count at m One n c h = h
 no-count at m Two n c h = h
@@ -87,15 +88,15 @@ clean-anywhere s at f to c h = let r = moves s to at c h in f r.0 r.1
 
 -- ---- members
 
-spelled-all : (d : ℕ) (ss : Spellings) → AreTaken d ss → AreSpelled ss
+pub spelled-all : (d : ℕ) (ss : Spellings) → AreTaken d ss → AreSpelled ss
 spelled-all d no_spellings h = tt
 spelled-all d (a_spelling s ss) h = (h.0.spelled, spelled-all d ss h.1)
 
-within-all : (d : ℕ) (ss : Spellings) → AreTaken d ss → depth_all ss ≤ d
+pub within-all : (d : ℕ) (ss : Spellings) → AreTaken d ss → depth_all ss ≤ d
 within-all d no_spellings h = omega arith
 within-all d (a_spelling s ss) h = omega (arith, h.0.within, within-all d ss h.1)
 
-clean-all : (d : ℕ) (ss : Spellings) (at : ℕ) → AreTaken d ss → Never (ComplainsIn plain at ss)
+pub clean-all : (d : ℕ) (ss : Spellings) (at : ℕ) → AreTaken d ss → Never (ComplainsIn plain at ss)
 clean-all d no_spellings at h c x = x
 clean-all d (a_spelling s ss) at h c (inl x) = h.0.clean at c x
 clean-all d (a_spelling s ss) at h c (inr x) = clean-all d ss _ h.1 c x
@@ -114,23 +115,23 @@ count-more ss s = omega (arith, count_with ss (a_spelling s no_spellings))
 
 -- ---- pairs
 
-pairs-spelled : (d : ℕ) (es : SpelledEntries) → ArePairsTaken d es → AreEntriesSpelled es
+pub pairs-spelled : (d : ℕ) (es : SpelledEntries) → ArePairsTaken d es → AreEntriesSpelled es
 pairs-spelled d no_entries h = tt
 pairs-spelled d (entry k v es) h = (h.0.spelled, h.1.spelled, pairs-spelled d es h.2)
 
-pairs-within : (d : ℕ) (es : SpelledEntries) → ArePairsTaken d es → depth_entries es ≤ d
+pub pairs-within : (d : ℕ) (es : SpelledEntries) → ArePairsTaken d es → depth_entries es ≤ d
 pairs-within d no_entries h = omega arith
 pairs-within d (entry k v es) h = omega (arith, h.0.within, h.1.within, pairs-within d es h.2)
 
-pairs-valid : (d : ℕ) (es : SpelledEntries) → ArePairsTaken d es → AreKeysValid (entries_of es)
+pub pairs-valid : (d : ℕ) (es : SpelledEntries) → ArePairsTaken d es → AreKeysValid (entries_of es)
 pairs-valid d no_entries h = tt
 pairs-valid d (entry k v es) h = (valid_of k 0 (h.0.clean 0), pairs-valid d es h.2)
 
-pairs-more : (d : ℕ) (es : SpelledEntries) (k v : Spelling) → ArePairsTaken d es → IsTaken d k → IsTaken d v → ArePairsTaken d (with_entries es (entry k v no_entries))
+pub pairs-more : (d : ℕ) (es : SpelledEntries) (k v : Spelling) → ArePairsTaken d es → IsTaken d k → IsTaken d v → ArePairsTaken d (with_entries es (entry k v no_entries))
 pairs-more d no_entries k v h i j = (i, j, tt)
 pairs-more d (entry x y es) k v h i j = (h.0, h.1, pairs-more d es k v h.2 i j)
 
-entries-more : (o : KeyOrder) (es : SpelledEntries) (k v : Spelling)
+pub entries-more : (o : KeyOrder) (es : SpelledEntries) (k v : Spelling)
     → canonical_entries o (entries_of (with_entries es (entry k v no_entries))) ≡ canonical_entries o (entries_of es) ++ pair (canonical o (value_of k)) (canonical o (value_of v)) ∷ []
 entries-more o no_entries k v = refl
 entries-more o (entry x y es) k v = ap (λ (ps : List Pair). pair (canonical o (value_of x)) (canonical o (value_of y)) ∷ ps) (entries-more o es k v)
@@ -149,7 +150,7 @@ among (b ∷ bs) k (inl h) = (b, inl refl, h)
 among (b ∷ bs) k (inr h) = let r = among bs k h in (r.0, inr r.1, r.2)
 
 -- no key of these is the same as one before, or another
-pairs-clean : (d : ℕ) (es : SpelledEntries) (before : List Spelling) (at : ℕ) → ArePairsTaken d es → HasDistinctKeys (entries_of es)
+pub pairs-clean : (d : ℕ) (es : SpelledEntries) (before : List Spelling) (at : ℕ) → ArePairsTaken d es → HasDistinctKeys (entries_of es)
     → ((b : Spelling) → Among b before → (k v : Value) → HasEntry (entries_of es) k v → Same (value_of b) k → ⊥) → Never (ComplainsInEntries plain at before es)
 pairs-clean d no_entries before at h g apart c x = x
 pairs-clean d (entry k v es) before at h g apart c (inl x) = h.0.clean at c x
@@ -228,62 +229,101 @@ pairs-shorter w es =
 -- ---- an item is complete
 
 module _ (o : KeyOrder) (d : ℕ) where
-  pub given : (ls : List Level) (s : Spelling) → AreLevels d ls → IsTaken (d - length ls) s → length (bytes_before ls ++ spell s) < 2 ^ 64
-      → IsStanding o d (bytes_before ls ++ spell s) (close (map frame ls)) (give (canonical o (value_of s)) (opens o ls)) (length ls)
-  given [] s h i short = whole s (record { spelled = i.spelled; within = omega (arith, i.within); clean = i.clean }) refl refl refl refl
-  given (a_member w zero done ∷ ls) s h i short =
+  pub settled : (ls : List Level) (s : Spelling) → AreLevels d ls → IsTaken (d - length ls) s → length (bytes_before ls ++ spell s) < 2 ^ 64
+      → StandsAt o d (bytes_before ls ++ spell s) (close (map frame ls)) (give (canonical o (value_of s)) (opens o ls)) (length ls) (settle ls s)
+  settled [] s h i short = (record { spelled = i.spelled; within = omega (arith, i.within); clean = i.clean }, refl, refl, refl, refl)
+  settled (a_member w zero done ∷ ls) s h i short =
       let before = bytes_before ls in
-      let one = with_all done (a_spelling s no_spellings) in
-      full ls (array w one) _ h.2
-      (full-array o (d - length ls) (d - suc (length ls)) w one _ _ (sym (count-more done s)) (sym (canonical-more o done s)) (taken-more (d - suc (length ls)) done s h.1.1 i)
-      (open_or w (spellings_count one) (subst (Holds w) (omega (arith, count-more done s)) h.1.0)) (omega (arith, h.0)))
-      (append_assoc before (head majors.Array w (spellings_count done + suc zero) ++ spell_all done) (spell s) ∙ ap (λ (x : List ℕ). before ++ x) (array-spelled w _ done s h.1.0 refl)) refl refl refl
-  given (a_member w (suc left) done ∷ ls) s h i short =
+      let one = with_all done (a_spelling s no_spellings) in (
+        h.2,
+        append_assoc before (head majors.Array w (spellings_count done + suc zero) ++ spell_all done) (spell s) ∙ ap (λ (x : List ℕ). before ++ x) (array-spelled w _ done s h.1.0 refl),
+        refl,
+        (
+          _,
+          full-array o (d - length ls) (d - suc (length ls)) w one _ _ (sym (count-more done s)) (sym (canonical-more o done s)) (taken-more (d - suc (length ls)) done s h.1.1 i)
+              (open_or w (spellings_count one) (subst (Holds w) (omega (arith, count-more done s)) h.1.0)) (omega (arith, h.0)),
+          refl,
+        ),
+        refl,
+      )
+  settled (a_member w (suc left) done ∷ ls) s h i short =
       let before = bytes_before ls in
       let one = with_all done (a_spelling s no_spellings) in
       let more = count-more done s in
-      let count : spellings_count done + suc (suc left) ≡ spellings_count one + suc left = omega (arith, more) in
-      due (a_member w left one ∷ ls) (h.0, (subst (Holds w) count h.1.0, taken-more (d - suc (length ls)) done s h.1.1 i), h.2)
-      (append_assoc before (head majors.Array w (spellings_count done + suc (suc left)) ++ spell_all done) (spell s)
-      ∙ ap (λ (x : List ℕ). before ++ x) (sym (array_bytes-more w (spellings_count done + suc (suc left)) done s) ∙ ap (λ (n : ℕ). head majors.Array w n ++ spell_all one) count))
-      refl (ap₂ (λ (n : ℕ) (bs : List ℕ). an_array n bs ∷ opens o ls) (sym more) (sym (canonical-more o done s))) refl
-  given (some_member done ∷ ls) s h i short =
-      let before = bytes_before ls in
-      let one = with_all done (a_spelling s no_spellings) in
-      due (some_member one ∷ ls) (h.0, taken-more (d - suc (length ls)) done s h.1 i, h.2)
-      (append_assoc before (head majors.Array Indefinite 0 ++ spell_all done) (spell s) ∙ ap (λ (x : List ℕ). before ++ x) (sym (array_bytes-more Indefinite 0 done s)))
-      refl (ap₂ (λ (n : ℕ) (bs : List ℕ). an_array n bs ∷ opens o ls) (sym (count-more done s)) (sym (canonical-more o done s))) refl
-  given (a_key w left done ∷ ls) s h i short =
-      due (a_value w left done s ∷ ls) (h.0, (h.1.0, h.1.1, i), h.2) (append_assoc (bytes_before ls) (head majors.Map w (entries_count done + suc left) ++ spell_entries done) (spell s)) refl refl refl
-  given (some_key done ∷ ls) s h i short =
-      due (some_value done s ∷ ls) (h.0, (h.1, i), h.2) (append_assoc (bytes_before ls) (head majors.Map Indefinite 0 ++ spell_entries done) (spell s)) refl refl refl
-  given (a_value w zero done k ∷ ls) s h i short =
+      let count : spellings_count done + suc (suc left) ≡ spellings_count one + suc left = omega (arith, more) in (
+        (h.0, (subst (Holds w) count h.1.0, taken-more (d - suc (length ls)) done s h.1.1 i), h.2),
+        append_assoc before (head majors.Array w (spellings_count done + suc (suc left)) ++ spell_all done) (spell s)
+            ∙ ap (λ (x : List ℕ). before ++ x) (sym (array_bytes-more w (spellings_count done + suc (suc left)) done s) ∙ ap (λ (n : ℕ). head majors.Array w n ++ spell_all one) count),
+        refl,
+        ap₂ (λ (n : ℕ) (bs : List ℕ). an_array n bs ∷ opens o ls) (sym more) (sym (canonical-more o done s)),
+        refl,
+      )
+  settled (some_member done ∷ ls) s h i short =
+      let before = bytes_before ls in (
+        (h.0, taken-more (d - suc (length ls)) done s h.1 i, h.2),
+        append_assoc before (head majors.Array Indefinite 0 ++ spell_all done) (spell s) ∙ ap (λ (x : List ℕ). before ++ x) (sym (array_bytes-more Indefinite 0 done s)),
+        refl,
+        ap₂ (λ (n : ℕ) (bs : List ℕ). an_array n bs ∷ opens o ls) (sym (count-more done s)) (sym (canonical-more o done s)),
+        refl,
+      )
+  settled (a_key w left done ∷ ls) s h i short =
+      ((h.0, (h.1.0, h.1.1, i), h.2), append_assoc (bytes_before ls) (head majors.Map w (entries_count done + suc left) ++ spell_entries done) (spell s), refl, refl, refl)
+  settled (some_key done ∷ ls) s h i short =
+      ((h.0, (h.1, i), h.2), append_assoc (bytes_before ls) (head majors.Map Indefinite 0 ++ spell_entries done) (spell s), refl, refl, refl)
+  settled (a_value w zero done k ∷ ls) s h i short =
       let before = bytes_before ls in
       let one = with_entries done (entry k s no_entries) in
-      let all = append_assoc before ((head majors.Map w (entries_count done + suc zero) ++ spell_entries done) ++ spell k) (spell s) ∙ ap (λ (x : List ℕ). before ++ x) (map-spelled w _ done k s h.1.0 refl) in
-      full ls (a_map w one) _ h.2
-      (full-map o (d - length ls) (d - suc (length ls)) w one _ (sym (entries-more o done k s)) (pairs-more (d - suc (length ls)) done k s h.1.1 h.1.2 i)
-      (open_or w (entries_count one) (subst (Holds w) (omega (arith, pair-count-more done k s)) h.1.0)) (omega (arith, h.0))
-      (omega (arith, short, ap length all, length-append before (spell (a_map w one)), pairs-shorter w one)))
-      all refl refl refl
-  given (a_value w (suc left) done k ∷ ls) s h i short =
+      let all = append_assoc before ((head majors.Map w (entries_count done + suc zero) ++ spell_entries done) ++ spell k) (spell s) ∙ ap (λ (x : List ℕ). before ++ x) (map-spelled w _ done k s h.1.0 refl) in (
+        h.2,
+        all,
+        refl,
+        (
+          _,
+          full-map o (d - length ls) (d - suc (length ls)) w one _ (sym (entries-more o done k s)) (pairs-more (d - suc (length ls)) done k s h.1.1 h.1.2 i)
+              (open_or w (entries_count one) (subst (Holds w) (omega (arith, pair-count-more done k s)) h.1.0)) (omega (arith, h.0))
+              (omega (arith, short, ap length all, length-append before (spell (a_map w one)), pairs-shorter w one)),
+          refl,
+        ),
+        refl,
+      )
+  settled (a_value w (suc left) done k ∷ ls) s h i short =
       let before = bytes_before ls in
       let one = with_entries done (entry k s no_entries) in
       let more = pair-count-more done k s in
       let count : entries_count done + suc (suc left) ≡ entries_count one + suc left = omega (arith, more) in
-      let two : suc left + suc left ≡ suc (suc (left + left)) = omega arith in
-      due (a_key w left one ∷ ls) (h.0, (subst (Holds w) count h.1.0, pairs-more (d - suc (length ls)) done k s h.1.1 h.1.2 i), h.2)
-      (append_assoc before ((head majors.Map w (entries_count done + suc (suc left)) ++ spell_entries done) ++ spell k) (spell s)
-      ∙ ap (λ (x : List ℕ). before ++ x) (sym (map_bytes-more w (entries_count done + suc (suc left)) done k s) ∙ ap (λ (n : ℕ). head majors.Map w n ++ spell_entries one) count))
-      (ap (λ (n : ℕ). close (counted n ∷ map frame ls)) two) (ap (λ (ps : List Pair). an_open_map ps ∷ opens o ls) (sym (entries-more o done k s))) refl
-  given (some_value done k ∷ ls) s h i short =
+      let two : suc left + suc left ≡ suc (suc (left + left)) = omega arith in (
+        (h.0, (subst (Holds w) count h.1.0, pairs-more (d - suc (length ls)) done k s h.1.1 h.1.2 i), h.2),
+        append_assoc before ((head majors.Map w (entries_count done + suc (suc left)) ++ spell_entries done) ++ spell k) (spell s)
+            ∙ ap (λ (x : List ℕ). before ++ x) (sym (map_bytes-more w (entries_count done + suc (suc left)) done k s) ∙ ap (λ (n : ℕ). head majors.Map w n ++ spell_entries one) count),
+        ap (λ (n : ℕ). close (counted n ∷ map frame ls)) two,
+        ap (λ (ps : List Pair). an_open_map ps ∷ opens o ls) (sym (entries-more o done k s)),
+        refl,
+      )
+  settled (some_value done k ∷ ls) s h i short =
       let before = bytes_before ls in
-      let one = with_entries done (entry k s no_entries) in
-      due (some_key one ∷ ls) (h.0, pairs-more (d - suc (length ls)) done k s h.1.0 h.1.1 i, h.2)
-      (append_assoc before ((head majors.Map Indefinite 0 ++ spell_entries done) ++ spell k) (spell s) ∙ ap (λ (x : List ℕ). before ++ x) (sym (map_bytes-more Indefinite 0 done k s)))
-      refl (ap (λ (ps : List Pair). an_open_map ps ∷ opens o ls) (sym (entries-more o done k s))) refl
-  given (tagged w n ∷ ls) s h i short =
-      full ls (tag w n s) _ h.2 (full-tag o (d - length ls) (d - suc (length ls)) w n s h.1 i (omega (arith, h.0))) (append_assoc (bytes_before ls) (head majors.Tag w n) (spell s)) refl refl refl
+      let one = with_entries done (entry k s no_entries) in (
+        (h.0, pairs-more (d - suc (length ls)) done k s h.1.0 h.1.1 i, h.2),
+        append_assoc before ((head majors.Map Indefinite 0 ++ spell_entries done) ++ spell k) (spell s) ∙ ap (λ (x : List ℕ). before ++ x) (sym (map_bytes-more Indefinite 0 done k s)),
+        refl,
+        ap (λ (ps : List Pair). an_open_map ps ∷ opens o ls) (sym (entries-more o done k s)),
+        refl,
+      )
+  settled (tagged w n ∷ ls) s h i short = (
+    h.2,
+    append_assoc (bytes_before ls) (head majors.Tag w n) (spell s),
+    refl,
+    (_, full-tag o (d - length ls) (d - suc (length ls)) w n s h.1 i (omega (arith, h.0)), refl),
+    refl,
+  )
+
+  standing-of : (t : List ℕ) (q : State) (os : List Open) (height : ℕ) (x : Standing) → StandsAt o d t q os height x → IsStanding o d t q os height
+  standing-of t q os height (item_due ls) k = due ls k.0 k.1 k.2 k.3 k.4
+  standing-of t q os height (item_full ls s) k = full ls s k.3.0 k.0 k.3.1 k.1 k.2 k.3.2 k.4
+  standing-of t q os height (item_whole s) k = whole s k.0 k.1 k.2 k.3 k.4
+
+  pub given : (ls : List Level) (s : Spelling) → AreLevels d ls → IsTaken (d - length ls) s → length (bytes_before ls ++ spell s) < 2 ^ 64
+      → IsStanding o d (bytes_before ls ++ spell s) (close (map frame ls)) (give (canonical o (value_of s)) (opens o ls)) (length ls)
+  given ls s h i short = standing-of (bytes_before ls ++ spell s) (close (map frame ls)) (give (canonical o (value_of s)) (opens o ls)) (length ls) (settle ls s) (settled ls s h i short)
 
   -- ---- a container ends
 

@@ -37,7 +37,10 @@ pub mod OpenMaps
 pub mod OpenPieces
 pub mod OpenSteps
 pub mod OpenWalk
+pub mod PathFrames
+pub mod Paths
 pub mod Payloads
+pub mod PlainSteps
 pub mod ReadItems
 pub mod QuickFronts
 pub mod QuickHeads

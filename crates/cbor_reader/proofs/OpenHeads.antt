@@ -102,13 +102,13 @@ refused_head v b event t x e reason f taken to h fault all is =
 -- ---- no memory for it
 
 -- an item with this head
-record HasHead (d : ℕ) (bs : List ℕ) : Type 0 where
-  item : Spelling
+pub record HasHead (d : ℕ) (bs : List ℕ) : Type 0 where
+  pub item : Spelling
   spelled : IsSpelled item
   within : depth item ≤ d
   head_is : head_of item ≡ bs
 
-head_item : (d : ℕ) (fs : List Container) (m : Major) (w : Width) (n : ℕ) (x : List ℕ) (next : State) → IsDefinite d fs m w n x next → HasHead (d - length fs) (head m w n)
+pub head_item : (d : ℕ) (fs : List Container) (m : Major) (w : Width) (n : ℕ) (x : List ℕ) (next : State) → IsDefinite d fs m w n x next → HasHead (d - length fs) (head m w n)
 head_item d fs m w n x next i = go m i.follows
   where
     z : 0 < 24
@@ -128,7 +128,7 @@ head_item d fs m w n x next i = go m i.follows
     go majors.Tag f = record { item = tag w n zero_item; spelled = (i.holds, z); within = omega (arith, f.0); head_is = refl }
     go majors.Simple f = record { item = simple n; spelled = f.0; within = omega arith; head_is = ap (λ (v : Width). head majors.Simple v n) (sym f.1) }
 
-head_undecided : (r : Rules) (b : Bounds) (fs : List Container) (t x : List ℕ) → HasHead (b.depth - length fs) x → 0 < length x → IsUndecided r b fs t x
+pub head_undecided : (r : Rules) (b : Bounds) (fs : List Container) (t x : List ℕ) → HasHead (b.depth - length fs) x → 0 < length x → IsUndecided r b fs t x
 head_undecided r b fs t x h some =
     let k = last-apart x some in
     record {

@@ -90,7 +90,7 @@ pub key_clean : (w : Width) (a : SpelledEntries) (k v : Spelling) (b : SpelledEn
 key_clean w a k v b r at clean none c h = elim h [ inl x ↦ clean c (inl x) | inr (inl x) ↦ clean c (inr x) | inr (inr x) ↦ none c x ]
 
 -- a content: the next key is due, and the completed keys are as before
-keys_with : (es fs : SpelledEntries) (at to : ℕ) → to ≡ at + length (spell_entries es) → keys_at at (with_entries es fs) ≡ keys_at at es ++ keys_at to fs
+pub keys_with : (es fs : SpelledEntries) (at to : ℕ) → to ≡ at + length (spell_entries es) → keys_at at (with_entries es fs) ≡ keys_at at es ++ keys_at to fs
 keys_with no_entries fs at to e = let g : at ≡ to = omega (arith, e) in ap (λ (n : ℕ). keys_at n fs) g
 keys_with (entry k v es) fs at to e =
     ap (λ (xs : List Placed). placed at k ∷ xs)

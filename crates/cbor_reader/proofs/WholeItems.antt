@@ -1,9 +1,10 @@
 -- Whole inputs: from what is read of one to the item that it is, or the refusal; and from that to what `canonicalise` answers.
-use Rattle.std.proofs.Common.{ℕ, zero, suc, ◌-◌, ◌<◌, true, false, arith, ◌≡◌, ◌≢◌, ◌≤◌, Some, List, length, refl, sym, ap, ◌∙◌, subst}
+use Rattle.std.proofs.Common.{ℕ, zero, suc, ◌-◌, ◌<◌, true, false, arith, ◌≡◌, ◌≢◌, ◌≤◌, Option, Some, List, length, refl, sym, ap, ◌∙◌, subst}
 use Rattle.std.specs.Prelude.{◌==◌}
 use Rattle.std.proofs.lemmas.List.{length-drop}
 use Rattle.std.proofs.lemmas.Bool.Decides.{Decides-eqb}
 use Rattle.cbor_head.specs.Canonical.{canonical}
+use Rattle.cbor_head.specs.Limits.{Bounds}
 use Rattle.cbor_head.specs.Value.{Value}
 use Rattle.cbor_head.specs.Spelling.{Spelling, spell, value_of}
 use Rattle.cbor_head.specs.Complaint.{plain}
@@ -19,8 +20,9 @@ use Rattle.cbor_reader.specs.Headline.{IsValidItem}
 use Rattle.cbor_reader.specs.Refusals.{IsFreeBefore}
 use Rattle.cbor_reader.specs.WholeItem.{IsWholeItem, IsItemRefusal, unread, trailing}
 use Rattle.cbor_reader.specs.inner.Levels.{IsBuiltFront}
-use Rattle.cbor_reader.proofs.Accepted.{item_is_longest, item_is_whole}
-use Rattle.cbor_reader.proofs.FreeBefore.{accepted-free, truncated-free}
+use Rattle.cbor_reader.specs.inner.PlainFront.{IsEncodedFront}
+use Rattle.cbor_reader.proofs.Accepted.{item_is_whole}
+use Rattle.cbor_reader.proofs.FreeBefore.{truncated-free}
 use Rattle.cbor_reader.proofs.Headline.{valid_item, valid_item_accepted, answers_exactly}
 use Rattle.cbor_head.proofs.ReadLaws.{one_list}
 use Rattle.cbor_reader.proofs.OneAnswer.{one_item, no_both, one_refusal}
@@ -61,22 +63,6 @@ module _ (d n : ℕ) (input rest : List ℕ) (v : Value) (size : ℕ) (a : IsRea
       trailing a.read.item a.read.verdict (omega (arith, a.read.size, behind, some-left (length rest) e))
       (is ∙ ap (λ (k : ℕ). refusal Trailing k k) a.read.size)
 
-  pub wants-memory : (f : Refusal) → f ≡ refusal Memory size size → IsItemRefusal d n input f
-  wants-memory f is =
-      let all : size ≡ length a.read.verdict.p = a.read.size ∙ ap length (item_is_longest d n plain input a.read.item a.read.verdict) in
-      let within : size ≤ length a.read.verdict.p = omega (arith, all) in
-      let free = accepted-free d n plain input a.read.item size a.read.verdict within in
-      subst (IsItemRefusal d n input) (sym is) (unread (of_memory a.read.verdict.p a.read.verdict.longest within refl free) (λ e. cc e))
-
-  pub encoded : (o : KeyOrder) (out : List ℕ) → true ≡ (length rest == 0) → out ≡ canonical o v
-      → (s : Spelling) × IsValidItem d n input s × (out ≡ canonical o (value_of s))
-  encoded o out all made =
-      let ends : length input ≤ length (spell a.read.item) = omega (arith, a.read.size, behind, none-left (length rest) all) in (
-        a.read.item,
-        valid_item d n input a.read.item a.read.verdict (item_is_whole d n plain input a.read.item a.read.verdict ends),
-        made ∙ ap (canonical o) a.value,
-      )
-
   pub all-of-it : true ≡ (length rest == 0) → (s : Spelling) × IsValidItem d n input s × (v ≡ value_of s)
   all-of-it all =
       let ends : length input ≤ length (spell a.read.item) = omega (arith, a.read.size, behind, none-left (length rest) all) in (
@@ -86,6 +72,10 @@ module _ (d n : ℕ) (input rest : List ℕ) (v : Value) (size : ℕ) (a : IsRea
       )
 
 -- ---- behind an item that was built
+
+-- by whichever reader
+pub built-of : (b : Bounds) (o : KeyOrder) (input out : List ℕ) (to : Option (List ℕ)) (count : ℕ) → IsEncodedFront b o (Some input) to out count → IsBuiltFront b.depth b.bytes o input out count
+built-of b o input out to count e = record { read = e.read.read.read; canonical_is = e.canonical_is ∙ ap (canonical o) e.read.read.value }
 
 module _ (d n : ℕ) (o : KeyOrder) (input out : List ℕ) (size : ℕ) (f : IsBuiltFront d n o input out size) where
   pub built-trails : (r : Refusal) → size < length input → r ≡ refusal Trailing size size → IsItemRefusal d n input r

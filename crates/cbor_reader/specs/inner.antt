@@ -11,6 +11,10 @@ pub mod Members
 pub mod NextKey
 pub mod OpenItems
 pub mod OpenMaps
+pub mod Path
+pub mod PlainFront
+pub mod PlainItems
+pub mod PlainParts
 pub mod Quick
 pub mod Reading
 pub mod Rules

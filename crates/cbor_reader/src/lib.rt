@@ -35,6 +35,9 @@ mod members;
 mod next_head;
 mod open_items;
 mod payload;
+mod plain_front;
+mod plain_items;
+mod plain_part;
 mod quick;
 mod rules;
 mod sequence;
@@ -50,6 +53,7 @@ mod strings;
 #[cfg(test)]
 mod tests;
 mod tree_reader;
+mod valid_front;
 mod valid_slice;
 mod whole_item;
 

@@ -59,7 +59,7 @@ pub(crate) fn read_text<R: Read>(
 }
 
 // The content of a string whose head was read: a text, or bytes.
-fn read_string<R: Read>(
+pub(crate) fn read_string<R: Read>(
     alloc: Global,
     events: &mut ItemEvents,
     reader: &mut R,

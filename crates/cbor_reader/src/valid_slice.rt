@@ -5,9 +5,7 @@ ghost use Rattle.cbor_head.specs.Complaint.{plain};
 ghost use Rattle.cbor_head.specs.declared.reason.Reason.TheVariants as reasons;
 ghost use Rattle.cbor_reader.specs.Readers.{IsRead, IsUnread};
 
-use crate::slice_builder::build_front;
-use crate::tree_reader::read_tree;
-use crate::whole_item::of_slice;
+use crate::valid_front::valid_front;
 use cbor_head::{KeyOrder, Limits, Refusal};
 use std::alloc::Global;
 
@@ -15,8 +13,8 @@ use std::alloc::Global;
 /// 3 and 5.3.1); else the refusal that the bytes within the limits call for, or `Memory`, where it
 /// was refused before, at the count of the bytes taken.
 ///
-/// It answers as [`read_tree`](crate::read_tree) does of a reader over the slice. No tree is made
-/// of what is accepted; memory is taken for its canonical bytes, by which equal keys are found.
+/// It answers as [`read_tree`](crate::read_tree) does of a reader over the slice. No tree is made;
+/// memory is taken for the item's canonical bytes, by which equal keys are found.
 pub fn check_valid(alloc: Global, bytes: &[u8], limits: Limits) -> Result<u64, Refusal>
     ensures accepted { IfOk result
         (λ count. IsRead limits.depth limits.bytes plain bytes.now count) }
@@ -24,24 +22,8 @@ pub fn check_valid(alloc: Global, bytes: &[u8], limits: Limits) -> Result<u64, R
         (λ f. IsUnread limits.depth limits.bytes plain bytes.now f) }
     ensures no_read { IfErr result (λ f. f.reason ≢ reasons.Read) }
 {
-    match build_front(alloc, bytes, limits, KeyOrder::Bytewise) {
-        Some(front) => Ok(front.size),
-        None => size_of_tree(alloc, bytes, limits),
+    match valid_front(alloc, bytes, limits, KeyOrder::Bytewise) {
+        Ok(front) => Ok(front.size),
+        Err(refusal) => Err(refusal),
     }
-}
-
-// The same by way of the item's tree.
-fn size_of_tree(alloc: Global, bytes: &[u8], limits: Limits) -> Result<u64, Refusal>
-    ensures accepted { IfOk result
-        (λ count. IsRead limits.depth limits.bytes plain bytes.now count) }
-    ensures refused { IfErr result
-        (λ f. IsUnread limits.depth limits.bytes plain bytes.now f) }
-    ensures no_read { IfErr result (λ f. f.reason ≢ reasons.Read) }
-{
-    let mut rest = bytes;
-    let (_tree, size) = match read_tree(alloc, &mut rest, limits) {
-        Ok(answer) => answer,
-        Err(refusal) => return Err(of_slice(refusal)),
-    };
-    Ok(size)
 }

@@ -9,14 +9,11 @@ ghost use Rattle.cbor_reader.specs.Headline.{IsValidItem};
 ghost use Rattle.cbor_reader.specs.Readers.{IsUnread};
 ghost use Rattle.cbor_reader.specs.WholeItem.{IsItemRefusal};
 
-use crate::slice_builder::build_front;
-use crate::tree_reader::read_tree;
+use crate::valid_front::valid_front;
 use cbor_head::{KeyOrder, Limits, Reason, Refusal};
-use cbor_item::encode;
 use std::alloc::Global;
 
-// The canonical bytes, in this order and however many, of the one item that all the bytes are. No
-// tree is made of what is accepted; what is refused is read again for its refusal.
+// The canonical bytes, in this order and however many, of the one item that all the bytes are.
 pub(crate) fn encoded_item(
     alloc: Global,
     bytes: &[u8],
@@ -28,40 +25,14 @@ pub(crate) fn encoded_item(
         × (v.items ≡ canonical order (value_of s))) }
     ensures refused { IfErr result (IsItemRefusal limits.depth limits.bytes bytes.now) }
 {
-    match build_front(alloc, bytes, limits, order) {
-        Some(front) => {
+    match valid_front(alloc, bytes, limits, order) {
+        Ok(front) => {
             if front.size < bytes.len() as u64 {
                 return Err(Refusal::at(Reason::Trailing, front.size));
             }
             Ok(front.canonical)
         }
-        None => encoded_tree(alloc, bytes, limits, order),
-    }
-}
-
-// The same by way of the item's tree, which is gone once they are there.
-fn encoded_tree(
-    alloc: Global,
-    bytes: &[u8],
-    limits: Limits,
-    order: KeyOrder,
-) -> Result<Vec<u8>, Refusal>
-    ensures encoded { IfOk result (λ v. (s : Spelling)
-        × IsValidItem limits.depth limits.bytes bytes.now s
-        × (v.items ≡ canonical order (value_of s))) }
-    ensures refused { IfErr result (IsItemRefusal limits.depth limits.bytes bytes.now) }
-{
-    let mut rest = bytes;
-    let (tree, size) = match read_tree(alloc, &mut rest, limits) {
-        Ok(answer) => answer,
-        Err(refusal) => return Err(of_slice(refusal)),
-    };
-    if !rest.is_empty() {
-        return Err(Refusal::at(Reason::Trailing, size));
-    }
-    match encode(alloc, &tree, order) {
-        Ok(canonical) => Ok(canonical),
-        Err(_) => Err(Refusal::at(Reason::Memory, size)),
+        Err(refusal) => Err(refusal),
     }
 }
 

@@ -366,6 +366,18 @@ static DEPTH_AND_VALIDITY: &[&str] = &[
     "a2a1010100a20101010100 | | 11 RepeatedKey at 8, read 9 | 16 KeyOrder at 8, read 9 | {{1: 1}: 0, {1: 1, 1: 1}: 0}",
     "a1a1a2010001000000 | | 11 RepeatedKey at 5, read 6 | 16 KeyOrder at 5, read 6 | {{{1: 0, 1: 0}: 0}: 0}",
     "a281a2010002000081a20200010000 | | 11 RepeatedKey at 8, read 14 | 16 KeyOrder at 12, read 13 | {[{1: 0, 2: 0}]: 0, [{2: 0, 1: 0}]: 0}",
+    // .. in open maps, and beside other refusals
+    "a3020001000200 | | 11 RepeatedKey at 5, read 6 | 16 KeyOrder at 3, read 4 | {2: 0, 1: 0, 2: 0}",
+    "bf01000100ff | | 11 RepeatedKey at 3, read 4 | 15 Indefinite at 0, read 1 | {_ 1: 0, 1: 0}",
+    "a201a102000100 | | 11 RepeatedKey at 5, read 6 | 16 KeyOrder at 5, read 6 | {1: {2: 0}, 1: 0}",
+    "a201a20200020001 | | 11 RepeatedKey at 5, read 6 | 16 KeyOrder at 5, read 6 | {1: {2: 0, 2: 0}, 1: ..",
+    "a1bf01000100ff00 | | 11 RepeatedKey at 4, read 5 | 15 Indefinite at 1, read 2 | {{_ 1: 0, 1: 0}: 0}",
+    "a2a000a000 | | 11 RepeatedKey at 3, read 4 | 16 KeyOrder at 3, read 4 | {{}: 0, {}: 0}",
+    "a2c10100c10100 | | 11 RepeatedKey at 4, read 6 | 16 KeyOrder at 4, read 6 | {1(1): 0, 1(1): 0}",
+    "a28101009f01ff00 | | 11 RepeatedKey at 4, read 7 | 15 Indefinite at 4, read 5 | {[1]: 0, [_ 1]: 0}",
+    "a20100011f | | 11 RepeatedKey at 3, read 4 | 16 KeyOrder at 3, read 4 | before no form of an integer",
+    "a201000161ff | | 11 RepeatedKey at 3, read 4 | 16 KeyOrder at 3, read 4 | before a text behind it",
+    "a20161ff0100 | | 10 InvalidText at 3, read 4 | | the text before it",
     // A byte behind the item, and canonical bytes past the limit.
     "0000 | | 12 Trailing at 1, read 1 | taken 1 | 0, and 0",
     "0000 | bytes 1 | 12 Trailing at 1, read 1 | taken 1 | 0, and 0 past the limit",

@@ -1,0 +1,160 @@
+use Rattle.std.proofs.Common.{◌≡◌, ◌++◌, ◌∙◌, ℕ, slice_index_or, length, map, sym, ap, refl, subst, arith}
+use Rattle.std.proofs.lemmas.List.{length-append, length-set}
+use Rattle.cbor_head.specs.Verdict.{refusal}
+use Rattle.cbor_head.specs.declared.reason.Reason.TheVariants.{RepeatedKey}
+use Rattle.cbor_events.specs.inner.Automaton.{at_item}
+use Rattle.cbor_item.specs.Built.{Built}
+use Rattle.cbor_reader.specs.inner.Levels.{frame}
+use Rattle.cbor_reader.specs.inner.PlainItems.{CanTake, IsGiven}
+use Rattle.cbor_reader.proofs.PlainSteps.{refused-head, refused-part, place-room, came, part-taken, part-fits, part-no-memory, repeated-key, goes-or-not, given-order}
+use Rattle.cbor_reader.proofs.plain_front.next_part.Goals as goal
+
+pub next_head-requires : goal.next_head-requires
+next_head-requires g c = let s = c.requires in record { b = s.b; q = at_item (map frame s.due.ls); due = tt; t = s.t; at = s.due.at }
+
+pub returns-in-Err : goal.returns-in-Err
+returns-in-Err g c = λ b t d. refused-head c.args.items.now b c.args.events.now t d _ _ c.in-Err.refusal (c.in-Err.ensures b (at_item (map frame d.ls)) t tt d.at)
+
+pub begin_at-requires : goal.begin_at-requires
+begin_at-requires g c = let s = c.requires in place-room c.args.items.now s.b c.args.events.now s.t s.due c.open-height.result c.open-height.ensures.count
+
+pub read_part-requires : goal.read_part-requires
+read_part-requires g c =
+    let s = c.requires in
+    let d = s.due in
+    let n = c.in-Ok.ensures s.b (at_item (map frame d.ls)) s.t tt d.at in
+    record {
+      b = s.b;
+      fs = map frame d.ls;
+      t = s.t;
+      x = n.bytes;
+      w = c.in-Ok.event.width;
+      come = came c.args.items.now s.b c.args.events.now s.t d c.next_head.new.events (g.R.Read.remaining c.args.reader.now) (g.R.Read.remaining c.next_head.new.reader) (g.R.Read.remaining c.next_head.new.reader) c.in-Ok.event c.next_head.new.events n;
+    }
+
+pub returns-in-Err-read_part : goal.returns-in-Err-read_part
+returns-in-Err-read_part g c = λ b t d.
+    let n = c.in-Ok.ensures b (at_item (map frame d.ls)) t tt d.at in
+    let come = came c.args.items.now b c.args.events.now t d c.read_part.new.events (g.R.Read.remaining c.args.reader.now) (g.R.Read.remaining c.next_head.new.reader) (g.R.Read.remaining c.read_part.new.reader) c.in-Ok.event c.next_head.new.events n in
+    refused-part c.args.items.now b c.args.events.now t d c.read_part.new.events (g.R.Read.remaining c.args.reader.now) (g.R.Read.remaining c.next_head.new.reader) (g.R.Read.remaining c.read_part.new.reader) c.in-Ok.event c.next_head.new.events n
+    c.in-Err-read_part.refusal (c.in-Err-read_part.ensures b (map frame d.ls) t n.bytes c.in-Ok.event.width come)
+
+pub give-requires : goal.give-requires
+give-requires g c =
+    let s = c.requires in
+    let d = s.due in
+    let n = c.in-Ok.ensures s.b (at_item (map frame d.ls)) s.t tt d.at in
+    let from = g.R.Read.remaining c.args.reader.now in
+    let mid = g.R.Read.remaining c.next_head.new.reader in
+    let to = g.R.Read.remaining c.read_part.new.reader in
+    let come = came c.args.items.now s.b c.args.events.now s.t d c.read_part.new.events from mid to c.in-Ok.event c.next_head.new.events n in
+    let r = c.in-Ok-read_part.ensures s.b (map frame d.ls) s.t n.bytes c.in-Ok.event.width come in
+    subst (λ (b : Built). CanTake b c.in-Ok-read_part.part) (sym c.begin_at.ensures.same)
+    (part-fits c.args.items.now s.b c.args.events.now s.t d c.read_part.new.events from mid to c.in-Ok.event c.next_head.new.events n c.in-Ok-read_part.part r)
+
+pub returns-in-Err-give : goal.returns-in-Err-give
+returns-in-Err-give g c = λ b t d.
+    let n = c.in-Ok.ensures b (at_item (map frame d.ls)) t tt d.at in
+    let from = g.R.Read.remaining c.args.reader.now in
+    let mid = g.R.Read.remaining c.next_head.new.reader in
+    let to = g.R.Read.remaining c.read_part.new.reader in
+    let come = came c.args.items.now b c.args.events.now t d c.read_part.new.events from mid to c.in-Ok.event c.next_head.new.events n in
+    let r = c.in-Ok-read_part.ensures b (map frame d.ls) t n.bytes c.in-Ok.event.width come in
+    let k = part-taken c.args.items.now b c.args.events.now t d c.read_part.new.events from mid to c.in-Ok.event c.next_head.new.events n c.in-Ok-read_part.part r in
+    part-no-memory c.args.items.now b c.args.events.now t d c.read_part.new.events from mid to c.in-Ok.event c.next_head.new.events n c.in-Ok-read_part.part k c.no_memory.result c.no_memory.ensures.memory c.no_memory.ensures.place
+    c.no_memory.ensures.taken
+
+pub end_full-requires : goal.end_full-requires
+end_full-requires g c =
+    let s = c.requires in
+    let d = s.due in
+    let n = c.in-Ok.ensures s.b (at_item (map frame d.ls)) s.t tt d.at in
+    let from = g.R.Read.remaining c.args.reader.now in
+    let mid = g.R.Read.remaining c.next_head.new.reader in
+    let to = g.R.Read.remaining c.read_part.new.reader in
+    let come = came c.args.items.now s.b c.args.events.now s.t d c.read_part.new.events from mid to c.in-Ok.event c.next_head.new.events n in
+    let r = c.in-Ok-read_part.ensures s.b (map frame d.ls) s.t n.bytes c.in-Ok.event.width come in
+    let k = part-taken c.args.items.now s.b c.args.events.now s.t d c.read_part.new.events from mid to c.in-Ok.event c.next_head.new.events n c.in-Ok-read_part.part r in
+    let given = subst (λ (b : Built). IsGiven b c.in-Ok-read_part.part c.give.new.self.builder c.in-Ok-give.opened) c.begin_at.ensures.same c.in-Ok-give.ensures.given in
+    record {
+      b = s.b;
+      e = c.read_part.new.events;
+      t = s.t ++ k.bytes;
+      ending = k.leads c.give.new.self c.open-height.result c.in-Ok.event.place c.in-Ok-give.opened c.open-height.ensures.count refl (c.give.ensures.same ∙ c.begin_at.ensures.starts) given;
+      counted = c.open-open.ensures.count;
+    }
+
+pub returns-in-Err-end_full : goal.returns-in-Err-end_full
+returns-in-Err-end_full g c = λ b t d.
+    let n = c.in-Ok.ensures b (at_item (map frame d.ls)) t tt d.at in
+    let from = g.R.Read.remaining c.args.reader.now in
+    let mid = g.R.Read.remaining c.next_head.new.reader in
+    let to = g.R.Read.remaining c.read_part.new.reader in
+    let come = came c.args.items.now b c.args.events.now t d c.read_part.new.events from mid to c.in-Ok.event c.next_head.new.events n in
+    let r = c.in-Ok-read_part.ensures b (map frame d.ls) t n.bytes c.in-Ok.event.width come in
+    let k = part-taken c.args.items.now b c.args.events.now t d c.read_part.new.events from mid to c.in-Ok.event c.next_head.new.events n c.in-Ok-read_part.part r in
+    part-no-memory c.args.items.now b c.args.events.now t d c.read_part.new.events from mid to c.in-Ok.event c.next_head.new.events n c.in-Ok-read_part.part k c.no_memory-in-Err-end_full.result c.no_memory-in-Err-end_full.ensures.memory
+    c.no_memory-in-Err-end_full.ensures.place c.no_memory-in-Err-end_full.ensures.taken
+
+pub repeated-requires : goal.repeated-requires
+repeated-requires g c =
+    let s = c.requires in
+    let room = place-room c.args.items.now s.b c.args.events.now s.t s.due 0 in
+    let places = s.due.places in
+    let size : length c.end_full.new.self.starts ≡ length c.args.items.now.starts =
+    ap length (c.end_full.ensures.same ∙ c.give.ensures.same ∙ c.begin_at.ensures.starts) ∙ length-set c.args.items.now.starts c.open-height.result c.in-Ok.event.place in
+    let n = c.in-Ok.ensures s.b (at_item (map frame s.due.ls)) s.t tt s.due.at in
+    let from = g.R.Read.remaining c.args.reader.now in
+    let mid = g.R.Read.remaining c.next_head.new.reader in
+    let to = g.R.Read.remaining c.read_part.new.reader in
+    let come = came c.args.items.now s.b c.args.events.now s.t s.due c.read_part.new.events from mid to c.in-Ok.event c.next_head.new.events n in
+    let r = c.in-Ok-read_part.ensures s.b (map frame s.due.ls) s.t n.bytes c.in-Ok.event.width come in
+    let k = part-taken c.args.items.now s.b c.args.events.now s.t s.due c.read_part.new.events from mid to c.in-Ok.event c.next_head.new.events n c.in-Ok-read_part.part r in
+    let depth = k.at.depth in
+    let most = k.at.limits.0 in
+    omega (arith, c.open-open.ensures.within, depth, most, places, size)
+
+pub returns-in-None : goal.returns-in-None
+returns-in-None g c = λ b t d.
+    let n = c.in-Ok.ensures b (at_item (map frame d.ls)) t tt d.at in
+    let from = g.R.Read.remaining c.args.reader.now in
+    let mid = g.R.Read.remaining c.next_head.new.reader in
+    let to = g.R.Read.remaining c.read_part.new.reader in
+    let come = came c.args.items.now b c.args.events.now t d c.read_part.new.events from mid to c.in-Ok.event c.next_head.new.events n in
+    let r = c.in-Ok-read_part.ensures b (map frame d.ls) t n.bytes c.in-Ok.event.width come in
+    let k = part-taken c.args.items.now b c.args.events.now t d c.read_part.new.events from mid to c.in-Ok.event c.next_head.new.events n c.in-Ok-read_part.part r in
+    let given = subst (λ (b : Built). IsGiven b c.in-Ok-read_part.part c.give.new.self.builder c.in-Ok-give.opened) c.begin_at.ensures.same c.in-Ok-give.ensures.given in
+    let ending = k.leads c.give.new.self c.open-height.result c.in-Ok.event.place c.in-Ok-give.opened c.open-height.ensures.count refl (c.give.ensures.same ∙ c.begin_at.ensures.starts) given in
+    let ended = c.in-Ok-end_full.ensures.ends b c.read_part.new.events (t ++ k.bytes) ending c.open-open.ensures.count in
+    let some = k.some in
+    let places = d.places in
+    let size : length c.end_full.new.self.starts ≡ 257 =
+    ap length (c.end_full.ensures.same ∙ c.give.ensures.same ∙ c.begin_at.ensures.starts) ∙ length-set c.args.items.now.starts c.open-height.result c.in-Ok.event.place ∙ places in
+    record {
+      bytes = k.bytes;
+      some = some;
+      consumed = k.consumed;
+      order = ended.0 ∙ given-order c.args.items.now.builder c.in-Ok-read_part.part c.give.new.self.builder c.in-Ok-give.opened given;
+      stands = goes-or-not c.end_full.new.self b c.read_part.new.events (t ++ k.bytes) c.open-open.result ended.1 (omega (arith, some, length-append t k.bytes)) size c.in-None.ensures c.open-open.ensures.count;
+    }
+
+pub returns : goal.returns
+returns g c = λ b t d.
+    let n = c.in-Ok.ensures b (at_item (map frame d.ls)) t tt d.at in
+    let from = g.R.Read.remaining c.args.reader.now in
+    let mid = g.R.Read.remaining c.next_head.new.reader in
+    let to = g.R.Read.remaining c.read_part.new.reader in
+    let come = came c.args.items.now b c.args.events.now t d c.read_part.new.events from mid to c.in-Ok.event c.next_head.new.events n in
+    let r = c.in-Ok-read_part.ensures b (map frame d.ls) t n.bytes c.in-Ok.event.width come in
+    let k = part-taken c.args.items.now b c.args.events.now t d c.read_part.new.events from mid to c.in-Ok.event c.next_head.new.events n c.in-Ok-read_part.part r in
+    let given = subst (λ (b : Built). IsGiven b c.in-Ok-read_part.part c.give.new.self.builder c.in-Ok-give.opened) c.begin_at.ensures.same c.in-Ok-give.ensures.given in
+    let ending = k.leads c.give.new.self c.open-height.result c.in-Ok.event.place c.in-Ok-give.opened c.open-height.ensures.count refl (c.give.ensures.same ∙ c.begin_at.ensures.starts) given in
+    let ended = c.in-Ok-end_full.ensures.ends b c.read_part.new.events (t ++ k.bytes) ending c.open-open.ensures.count in
+    let some = k.some in
+    record {
+      bytes = k.bytes;
+      consumed = k.consumed;
+      refused = repeated-key c.end_full.new.self b c.read_part.new.events (t ++ k.bytes) ended.1 (omega (arith, some, length-append t k.bytes)) c.in-Some.place c.new.result c.in-Some.ensures.0
+          (c.in-Some.ensures.1 ∙ ap (λ (i : ℕ). slice_index_or c.end_full.new.self.starts i 0) c.open-open.ensures.count)
+          (c.new.ensures ∙ ap (λ (x : ℕ). refusal RepeatedKey c.in-Some.place x) c.taken.ensures.taken) _;
+    }

@@ -1,0 +1,30 @@
+use Rattle.cbor_events.specs.declared.event.EventKind.TheVariants as kinds
+use Rattle.cbor_head.specs.Complaint.{plain}
+use Rattle.cbor_reader.proofs.PlainSteps.{come-begun, simple-begun}
+use Rattle.cbor_reader.proofs.Scalars.{reads-unsigned, reads-negative, reads-simple}
+use Rattle.cbor_reader.proofs.plain_part.read_part.Goals as goal
+
+pub returns-in-Unsigned : goal.returns-in-Unsigned
+returns-in-Unsigned g c = λ b fs t x w i.
+    (tt, reads-unsigned plain b fs t x c.args.events.now w c.in-Unsigned.number _ (come-begun b fs t x c.args.events.now w c.args.kind (kinds.Unsigned c.in-Unsigned.number) c.in-Unsigned.is (λ e. cc e) i))
+
+pub returns-in-Negative : goal.returns-in-Negative
+returns-in-Negative g c = λ b fs t x w i.
+    (tt, reads-negative plain b fs t x c.args.events.now w c.in-Negative.number _ (come-begun b fs t x c.args.events.now w c.args.kind (kinds.Negative c.in-Negative.number) c.in-Negative.is (λ e. cc e) i))
+
+pub returns-in-Simple : goal.returns-in-Simple
+returns-in-Simple g c = λ b fs t x w i.
+    let j = come-begun b fs t x c.args.events.now w c.args.kind (kinds.Simple c.in-Simple.simple) c.in-Simple.is (λ e. cc e) i in
+    rw (c.from.ensures, c.number.ensures.number) (simple-begun b fs t x c.args.events.now w c.in-Simple.simple j, reads-simple plain b fs t x c.args.events.now w c.in-Simple.simple _ j)
+
+pub returns-in-Ok : goal.returns-in-Ok
+returns-in-Ok g c = λ b fs t x w i. (c.in-Ok.ensures b fs t x w (come-begun b fs t x c.args.events.now w c.args.kind (kinds.Bytes c.in-Bytes.length) c.in-Bytes.is (λ e. cc e) i)).0
+
+pub returns-in-Err : goal.returns-in-Err
+returns-in-Err g c = λ b fs t x w i. c.in-Err.ensures b fs t x w (come-begun b fs t x c.args.events.now w c.args.kind (kinds.Bytes c.in-Bytes.length) c.in-Bytes.is (λ e. cc e) i)
+
+pub returns-in-Ok-read_string : goal.returns-in-Ok-read_string
+returns-in-Ok-read_string g c = λ b fs t x w i. (c.in-Ok-read_string.ensures b fs t x w (come-begun b fs t x c.args.events.now w c.args.kind (kinds.Text c.in-Text.length) c.in-Text.is (λ e. cc e) i)).0
+
+pub returns-in-Err-read_string : goal.returns-in-Err-read_string
+returns-in-Err-read_string g c = λ b fs t x w i. c.in-Err-read_string.ensures b fs t x w (come-begun b fs t x c.args.events.now w c.args.kind (kinds.Text c.in-Text.length) c.in-Text.is (λ e. cc e) i)

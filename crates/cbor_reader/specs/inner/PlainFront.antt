@@ -1,0 +1,66 @@
+-- What is told of the item at the front of an input, part by part, by the plain rules.
+use Rattle.std.specs.Prelude.{ℕ, ◌≡◌, ◌<◌, ◌++◌, Bool, true, false, List, [], ◌∷◌, length, map, Option, Result, MatchResult}
+use Rattle.std.specs.Io.KnownBytes.{Consumes}
+use Rattle.cbor_head.specs.Canonical.{canonical}
+use Rattle.cbor_head.specs.Complaint.{plain}
+use Rattle.cbor_head.specs.Limits.{Bounds}
+use Rattle.cbor_head.specs.Spelling.{Spelling, spell, value_of}
+use Rattle.cbor_head.specs.Value.{Value}
+use Rattle.cbor_head.specs.declared.order.KeyOrder.{KeyOrder}
+use Rattle.cbor_head.specs.declared.reason.Refusal.{Refusal}
+use Rattle.cbor_events.specs.inner.Automaton.{at_item, done as at_end}
+use Rattle.cbor_events.specs.ItemEvents.{ItemEventsView}
+use Rattle.cbor_item.specs.Parts.{plain as a_plain}
+use Rattle.cbor_reader.specs.declared.plain_items.PlainItems.{PlainItems}
+use Rattle.cbor_reader.specs.inner.Front.{IsFrontRead}
+use Rattle.cbor_reader.specs.inner.Levels.{IsTaken, Level, frame, AreLevels, bytes_before, opens}
+use Rattle.cbor_reader.specs.inner.PlainItems.{AreApart, HaveBegun}
+use Rattle.cbor_reader.specs.inner.Reading.{IsAt}
+use Rattle.cbor_reader.specs.inner.StrictFront.{IsStopped}
+
+-- an item is due, behind the bytes t, and nothing read has a complaint
+pub record IsDueAt (v : PlainItems) (b : Bounds) (e : ItemEventsView) (t : List ℕ) : Type 0 where
+  pub ls : List Level
+  pub levels : AreLevels b.depth ls
+  pub taken : t ≡ bytes_before ls
+  pub at : IsAt b e t (at_item (map frame ls))
+  pub standing : v.builder.standing ≡ opens v.builder.order ls
+  pub apart : AreApart v.builder.standing
+  pub begun : HaveBegun v.starts ls
+  pub places : length v.starts ≡ 257
+
+pub record IsDueSomewhere (v : PlainItems) (e : ItemEventsView) : Type 0 where
+  pub b : Bounds
+  pub t : List ℕ
+  pub due : IsDueAt v b e t
+
+-- the item is whole
+pub record IsWholeAt (v : PlainItems) (b : Bounds) (e : ItemEventsView) (t : List ℕ) : Type 0 where
+  pub item : Spelling
+  pub is : IsTaken b.depth item
+  pub taken : t ≡ spell item
+  pub at : IsAt b e t at_end
+  pub standing : v.builder.standing ≡ a_plain (canonical v.builder.order (value_of item)) ∷ []
+
+abbrev pub GoesOnOrNot : Bool → PlainItems → Bounds → ItemEventsView → List ℕ → Type 0
+GoesOnOrNot true v b e t = IsDueAt v b e t
+GoesOnOrNot false v b e t = IsWholeAt v b e t
+
+-- a part was taken, and nothing read has a complaint
+pub record TakesNext (more : Bool) (old v : PlainItems) (b : Bounds) (e : ItemEventsView) (t : List ℕ) (from to : Option (List ℕ)) : Type 0 where
+  pub bytes : List ℕ
+  pub some : 0 < length bytes
+  pub consumed : Consumes from to bytes
+  pub order : v.builder.order ≡ old.builder.order
+  pub stands : GoesOnOrNot more v b e (t ++ bytes)
+
+abbrev pub AnswersNextPart : PlainItems → PlainItems → ItemEventsView → ItemEventsView → Option (List ℕ) → Option (List ℕ) → Result Bool Refusal → Type 0
+AnswersNextPart old new e after from to result =
+    (b : Bounds) (t : List ℕ) → IsDueAt old b e t
+    → MatchResult result (λ more. TakesNext more old new b after t from to) (λ f. IsStopped plain b t from to f)
+
+-- the item was read by the plain rules, and these are its canonical bytes
+pub record IsEncodedFront (b : Bounds) (o : KeyOrder) (from to : Option (List ℕ)) (out : List ℕ) (count : ℕ) : Type 0 where
+  pub value : Value
+  pub read : IsFrontRead plain b from to value count
+  pub canonical_is : out ≡ canonical o value

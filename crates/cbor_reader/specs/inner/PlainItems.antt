@@ -1,0 +1,94 @@
+-- What the plain reader keeps: what a builder holds, in which no two keys of an open map are the same, and where each open
+-- item began.
+use Rattle.std.specs.Prelude.{ℕ, suc, ◌≡◌, ◌++◌, List, [], ◌∷◌, length, slice_index_or, Result, OnOk}
+use Rattle.cbor_head.specs.Head.{shortest_head, IsSimple}
+use Rattle.cbor_head.specs.Limits.{Bounds}
+use Rattle.cbor_head.specs.declared.major.Major.TheVariants as majors
+use Rattle.cbor_events.specs.ItemEvents.{ItemEventsView}
+use Rattle.cbor_events.specs.inner.Automaton.{State}
+use Rattle.cbor_item.specs.Built.{Built, built, TakesPart, IsContainer, IsLeaf, IsRepeatedKey}
+use Rattle.cbor_item.specs.Pairs.{HasDistinctBytes}
+use Rattle.cbor_item.specs.Parts.{Open, a_map, a_key, give, opened}
+use Rattle.cbor_reader.specs.declared.plain_items.PlainItems.{PlainItems}
+use Rattle.cbor_reader.specs.declared.plain_part.Part.{Part}
+use Rattle.cbor_reader.specs.declared.plain_part.Part.TheVariants.{Leaf, String, Begin, Break}
+use Rattle.cbor_reader.specs.inner.Levels as levels
+use Rattle.cbor_reader.specs.inner.Levels.{Level, bytes_before}
+use Rattle.cbor_reader.specs.inner.Path.{Standing, item_due, item_full, item_whole, StandsAt}
+use Rattle.cbor_reader.specs.inner.Reading.{IsAt, string_major}
+
+-- ---- keys
+
+-- no two keys of complete pairs are the same
+abbrev pub HasKeysApart : Open → Type 0
+HasKeysApart (a_map ps) = HasDistinctBytes ps
+HasKeysApart (a_key ps k) = HasDistinctBytes ps
+HasKeysApart c = Unit {0}
+
+-- nor is one that waits for its value the same as one of these
+abbrev pub AreApart : List Open → Type 0
+AreApart [] = Unit {0}
+AreApart (c ∷ os) = HasKeysApart c × (IsRepeatedKey (c ∷ os) → ⊥) × AreApart os
+
+-- but for a key that has just come
+abbrev pub AreApartSoFar : List Open → Type 0
+AreApartSoFar [] = Unit {0}
+AreApartSoFar (c ∷ os) = HasKeysApart c × AreApart os
+
+-- ---- places
+
+-- where each open container began
+abbrev pub HaveBegun : List ℕ → List Level → Type 0
+HaveBegun xs [] = Unit {0}
+HaveBegun xs (l ∷ ls) = (slice_index_or xs (length ls) 0 ≡ length (bytes_before ls)) × HaveBegun xs ls
+
+abbrev pub HaveBegunIn : List ℕ → Standing → Type 0
+HaveBegunIn xs (item_due ls) = HaveBegun xs ls
+HaveBegunIn xs (item_full ls s) = HaveBegun xs ls
+HaveBegunIn xs (item_whole s) = Unit {0}
+
+-- where the item began that has just ended, if it is a container's or a key
+abbrev pub HasItsPlace : List ℕ → Standing → Type 0
+HasItsPlace xs (item_full ls s) = slice_index_or xs (length ls) 0 ≡ length (bytes_before ls)
+HasItsPlace xs (item_due (levels.a_value w left done k ∷ ls)) = slice_index_or xs (suc (length ls)) 0 ≡ length (bytes_before (levels.a_key w left done ∷ ls))
+HasItsPlace xs (item_due (levels.some_value done k ∷ ls)) = slice_index_or xs (suc (length ls)) 0 ≡ length (bytes_before (levels.some_key done ∷ ls))
+HasItsPlace xs _ = Unit {0}
+
+-- ---- parts
+
+abbrev pub CanTake : Built → Part → Type 0
+CanTake g (Leaf m n) = IsLeaf m × (m ≡ majors.Simple → IsSimple n) × TakesPart g.standing
+CanTake g (String is_text content) = TakesPart g.standing
+CanTake g (Begin m n) = IsContainer m × TakesPart g.standing
+CanTake g Break = Unit {0}
+
+abbrev pub IsGiven : Built → Part → Built → ℕ → Type 0
+IsGiven g (Leaf m n) now count = (now ≡ built g.order (give (shortest_head m n) g.standing)) × (count ≡ 0)
+IsGiven g (String is_text content) now count =
+    (now ≡ built g.order (give (shortest_head (string_major is_text) (length content.items) ++ content.items) g.standing)) × (count ≡ 0)
+IsGiven g (Begin m n) now count = (now ≡ built g.order (opened m n ∷ g.standing)) × (count ≡ 1)
+IsGiven g Break now count = (now ≡ g) × (count ≡ 0)
+
+-- ---- containers that end
+
+-- so many are open in the builder, where the events have these bytes
+pub record IsEndingAt (v : PlainItems) (b : Bounds) (e : ItemEventsView) (t : List ℕ) (height : ℕ) : Type 0 where
+  pub q : State
+  pub at : IsAt b e t q
+  pub standing : Standing
+  pub stands : StandsAt v.builder.order b.depth t q v.builder.standing height standing
+  pub apart : AreApartSoFar v.builder.standing
+  pub begun : HaveBegunIn v.starts standing
+  pub place : HasItsPlace v.starts standing
+
+pub record IsEnding (v : PlainItems) (height count : ℕ) : Type 0 where
+  pub b : Bounds
+  pub e : ItemEventsView
+  pub t : List ℕ
+  pub ending : IsEndingAt v b e t height
+  pub counted : count ≡ e.machine.open_count
+
+abbrev pub AnswersEnds : {E : Type 0} → PlainItems → PlainItems → ℕ → ℕ → Result (Unit {0}) E → Type 0
+AnswersEnds old new height count result =
+    (b : Bounds) (e : ItemEventsView) (t : List ℕ) → IsEndingAt old b e t height → count ≡ e.machine.open_count
+    → OnOk result ((new.builder.order ≡ old.builder.order) × IsEndingAt new b e t e.machine.open_count)

@@ -1,0 +1,81 @@
+//! The item at the front of an input, if it is valid, as canonical bytes, without a tree.
+
+ghost use Rattle.std.specs.Prelude.{◌≡◌, MatchResult};
+ghost use Rattle.cbor_head.specs.Complaint.{plain};
+ghost use Rattle.cbor_reader.specs.inner.Front.{IsFrontUnread};
+ghost use Rattle.cbor_reader.specs.inner.PlainFront.{IsDueSomewhere, AnswersNextPart, IsEncodedFront};
+
+use crate::next_head::next_head;
+use crate::payload::no_memory;
+use crate::plain_items::PlainItems;
+use crate::plain_part::read_part;
+use crate::rules::Rules;
+use crate::slice_builder::BuiltFront;
+use cbor_events::ItemEvents;
+use cbor_head::{KeyOrder, Limits, Reason, Refusal};
+use std::alloc::Global;
+use std::io::Read;
+
+// The canonical bytes, in this order and however many, of the item that the reader's bytes begin
+// with. No byte behind the item or its first complaint is read.
+pub(crate) fn read_plain_front<R: Read>(
+    alloc: Global,
+    reader: &mut R,
+    limits: Limits,
+    order: KeyOrder,
+) -> Result<BuiltFront, Refusal>
+    ensures { MatchResult result
+        (λ front. IsEncodedFront limits order (R.remaining reader.old) (R.remaining reader.new)
+        front.canonical.items front.size)
+        (λ f. IsFrontUnread plain limits (R.remaining reader.old) (R.remaining reader.new) f) }
+{
+    let mut events = ItemEvents::new(limits);
+    let mut items = PlainItems::new(alloc, order);
+    'parts: loop {
+        match next_part(alloc, &mut events, &mut items, reader) {
+            Ok(true) => {}
+            Ok(false) => {
+                let canonical = items.finish();
+                let size = events.taken();
+                return Ok(BuiltFront { canonical, size });
+            }
+            Err(refusal) => return Err(refusal),
+        }
+    }
+}
+
+// Takes the next part of the item; whether it goes on behind it.
+fn next_part<R: Read>(
+    alloc: Global,
+    events: &mut ItemEvents,
+    items: &mut PlainItems,
+    reader: &mut R,
+) -> Result<bool, Refusal>
+    requires { IsDueSomewhere items.old events.old }
+    ensures { AnswersNextPart items.old items.new events.old events.new
+        (R.remaining reader.old) (R.remaining reader.new) result }
+{
+    let height = events.open();
+    let event = match next_head(events, reader, Rules::Plain) {
+        Ok(event) => event,
+        Err(refusal) => return Err(refusal),
+    };
+    items.begin_at(height, event.place);
+    let part = match read_part(alloc, events, reader, event.kind) {
+        Ok(part) => part,
+        Err(refusal) => return Err(refusal),
+    };
+    let opened = match items.give(&part) {
+        Ok(opened) => opened,
+        Err(_) => return Err(no_memory(events)),
+    };
+    let open = events.open();
+    match items.end_full(height + opened, open) {
+        Ok(()) => {}
+        Err(_) => return Err(no_memory(events)),
+    }
+    match items.repeated(open) {
+        None => Ok(open > 0),
+        Some(place) => Err(Refusal::new(Reason::RepeatedKey, place, events.taken())),
+    }
+}

@@ -1,0 +1,53 @@
+//! The item at the front of a slice, if it is valid, and the refusal if not.
+
+ghost use Rattle.std.specs.Prelude.{◌≢◌, IfOk, IfErr};
+ghost use Rattle.cbor_head.specs.Complaint.{plain};
+ghost use Rattle.cbor_head.specs.declared.reason.Reason.TheVariants as reasons;
+ghost use Rattle.cbor_reader.specs.Readers.{IsUnread};
+ghost use Rattle.cbor_reader.specs.inner.Levels.{IsBuiltFront};
+
+use crate::plain_front::read_plain_front;
+use crate::slice_builder::{BuiltFront, build_front};
+use crate::whole_item::of_slice;
+use cbor_head::{KeyOrder, Limits, Refusal};
+use std::alloc::Global;
+
+// Its canonical bytes, in this order and however many, and how many bytes it has. What is refused
+// is read again, event by event, for its refusal.
+pub(crate) fn valid_front(
+    alloc: Global,
+    bytes: &[u8],
+    limits: Limits,
+    order: KeyOrder,
+) -> Result<BuiltFront, Refusal>
+    ensures accepted { IfOk result (λ f.
+        IsBuiltFront limits.depth limits.bytes order bytes.now f.canonical.items f.size) }
+    ensures refused { IfErr result
+        (λ f. IsUnread limits.depth limits.bytes plain bytes.now f) }
+    ensures no_read { IfErr result (λ f. f.reason ≢ reasons.Read) }
+{
+    match build_front(alloc, bytes, limits, order) {
+        Some(front) => Ok(front),
+        None => read_again(alloc, bytes, limits, order),
+    }
+}
+
+// The same event by event.
+fn read_again(
+    alloc: Global,
+    bytes: &[u8],
+    limits: Limits,
+    order: KeyOrder,
+) -> Result<BuiltFront, Refusal>
+    ensures accepted { IfOk result (λ f.
+        IsBuiltFront limits.depth limits.bytes order bytes.now f.canonical.items f.size) }
+    ensures refused { IfErr result
+        (λ f. IsUnread limits.depth limits.bytes plain bytes.now f) }
+    ensures no_read { IfErr result (λ f. f.reason ≢ reasons.Read) }
+{
+    let mut rest = bytes;
+    match read_plain_front(alloc, &mut rest, limits, order) {
+        Ok(front) => Ok(front),
+        Err(refusal) => Err(of_slice(refusal)),
+    }
+}
