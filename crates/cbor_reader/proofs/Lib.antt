@@ -59,6 +59,7 @@ pub mod Steps
 pub mod StrictFronts
 pub mod StrictSteps
 pub mod Tops
+pub mod TreeValues
 pub mod Undecided
 pub mod Valid
 pub mod ValidTexts

@@ -20,3 +20,4 @@ pub mod Reading
 pub mod Rules
 pub mod SliceChecks
 pub mod StrictFront
+pub mod TreeValues
