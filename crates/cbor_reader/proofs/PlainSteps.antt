@@ -434,7 +434,7 @@ module _ (v : PlainItems) (b : Bounds) (e : ItemEventsView) (t : List ℕ) (d : 
     item-taken : (part : Part) (u : Value) → ReadsItem plain b gs t n.bytes mid to new u
         → ((g now : Built) (count : ℕ) → IsGiven g part now count → (now ≡ built g.order (give (canonical g.order u) g.standing)) × (count ≡ 0))
         → values_with part (level_values d.ls) ≡ trees.give u (level_values d.ls) → IsPartTaken part
-    item-taken part u r given-is with =
+    item-taken part u r given-is values-so =
         let m = reads-next plain b gs t n.bytes from mid to new u n.consumed r in
         let o = v.builder.order in
         let short : length (bytes_before d.ls ++ spell m.item) < 2 ^ 64 = subst (λ (y : List ℕ). length (y ++ spell m.item) < 2 ^ 64) d.taken (short-at b new (t ++ spell m.item) (close gs) m.at) in
@@ -452,7 +452,7 @@ module _ (v : PlainItems) (b : Bounds) (e : ItemEventsView) (t : List ℕ) (d : 
               let here = here-so now height place same same_place starts in
               let os : List Open = give (canonical o u) v.builder.standing in
               let os_is : give (canonical o (value_of m.item)) (opens o d.ls) ≡ os = ap₂ (λ (w : Value) (ps : List Open). give (canonical o w) ps) m.value (sym d.standing) in
-              placed-ending now height place same same_place starts part (trees.give u (level_values d.ls)) with step (spell m.item) (close gs) os count m.at
+              placed-ending now height place same same_place starts part (trees.give u (level_values d.ls)) values-so step (spell m.item) (close gs) os count m.at
               (record {
                 standing = settle d.ls m.item;
                 stands = stands-as o b.depth (settle d.ls m.item) _ (bytes_before d.ls ++ spell m.item) (close gs) (close gs) _ os (length d.ls) (length d.ls + count) refl refl os_is (omega (arith, g.1)) (settled o b.depth d.ls m.item d.levels is short);

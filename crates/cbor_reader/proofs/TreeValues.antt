@@ -1,5 +1,6 @@
 -- A tree builder that is given the parts of an item: what each does to the values that it holds.
 use Rattle.std.proofs.Common.{◌≡◌, ℕ, zero, suc, List, [], ◌∷◌, ◌++◌, Option, Some, None, refl, sym, ap, ap₂, ◌∙◌, subst}
+use Rattle.std.proofs.lemmas.Bool.{false≢true}
 use Rattle.std.specs.Prelude.{IsSome}
 use Rattle.cbor_head.specs.Spelling.{Spelling, Spellings, SpelledEntries, unsigned, negative, bytes, text, byte_chunks, text_chunks, array, a_map, tag, simple, no_spellings, a_spelling, no_entries, entry, value_of, values_of, entries_of}
 use Rattle.cbor_head.specs.Value as value
@@ -123,10 +124,10 @@ pub step-kept : (f : List OpenValue → List OpenValue) (old new : Option (List 
 step-kept f None None step some = some
 step-kept f None (Some ns) step some = absurd step
 step-kept f (Some os) None step some = absurd step
-step-kept f (Some os) (Some ns) step some = tt
+step-kept f (Some os) (Some ns) step some = refl
 
 pub whole-in : (tree : Option (List OpenItem)) (s : Spelling) → IsSome tree → IsTreeAt tree (item_whole s) → IsWholeIn tree
-whole-in None s some h = absurd some
+whole-in None s some h = absurd (false≢true some)
 whole-in (Some os) s some h = subst IsWhole (sym h.1) tt
 
 -- no item is asked for

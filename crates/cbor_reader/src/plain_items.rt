@@ -130,7 +130,12 @@ impl PlainItems {
         requires { IsWholeIn self.tree }
         ensures { (s : Spelling) → IsTreeAt self.tree (item_whole s) → view result ≡ value_of s }
     {
-        match self.tree {
+        let PlainItems {
+            builder: _,
+            tree,
+            starts: _,
+        } = self;
+        match tree {
             Some(tree) => tree.finish(),
             None => unreachable!(),
         }

@@ -157,8 +157,8 @@ returns-in-None g c = λ b t d.
       stands = goes-or-not c.end_full.new.self b c.read_part.new.events (t ++ k.bytes) c.open-open.result ended.2 (omega (arith, some, length-append t k.bytes)) size c.in-None.ensures c.open-open.ensures.count;
     }
 
-pub returns : goal.returns
-returns g c = λ b t d.
+pub returns-in-Some : goal.returns-in-Some
+returns-in-Some g c = λ b t d.
     let n = c.in-Ok.ensures b (at_item (map frame d.ls)) t tt d.at in
     let from = g.R.Read.remaining c.args.reader.now in
     let mid = g.R.Read.remaining c.next_head.new.reader in

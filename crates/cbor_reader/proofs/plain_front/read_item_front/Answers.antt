@@ -31,8 +31,8 @@ parts-preserved g c =
     let n = subst (λ m. TakesNext m c.parts.items c.next_part.new.items c.args.limits c.next_part.new.events h.t (g.R.Read.remaining c.parts.reader) (g.R.Read.remaining c.next_part.new.reader)) c.in-Ok-true.field-0-test (c.in-Ok-true.ensures c.args.limits h.t h.due) in
     (runs-on Bytewise c.parts.items c.next_part.new.items c.args.limits c.parts.events c.next_part.new.events _ _ _ h n, n.kept c.parts.invariant.1)
 
-pub into_item-requires : goal.into_item-requires
-into_item-requires g c =
+pub into_item-item-requires : goal.into_item-item-requires
+into_item-item-requires g c =
     let h = c.parts.invariant.0 in
     let n = subst (λ m. TakesNext m c.parts.items c.next_part.new.items c.args.limits c.next_part.new.events h.t (g.R.Read.remaining c.parts.reader) (g.R.Read.remaining c.next_part.new.reader)) c.in-Ok-false.field-0-test (c.in-Ok-false.ensures c.args.limits h.t h.due) in
     whole-in c.next_part.new.items.tree n.stands.item (n.kept c.parts.invariant.1) n.stands.tree
