@@ -1,13 +1,12 @@
 #!/usr/bin/env bash
 # Prints how long the library and the program take, as Markdown tables.
 #
-#   bench/run.sh [items] [program] [library] [memory]      the first three without a word
+#   bench/run.sh [items] [program] [library]      all three without a word
 #
 # items    proves and runs items.rattle, a program over cbor_item, on trees made from a seed
 # program  proves cborc, makes files from a seed (inputs.py), and runs it on them (program.py)
 # library  builds the library for C, and times its calls in process beside plain C (library.c, floor.c)
 #          and libcbor, where Debian's libcbor-dev is installed
-# memory   proves cborc, and refuses it each request for memory in turn (memory.py)
 #
 # The kit's rt has to be on the path. What rt says goes to standard error. All is done on a copy in
 # a temporary folder, which takes over what earlier checks of the clone kept, so that only what
@@ -49,23 +48,16 @@ library() {
         nested_many nested_keys keys_around_map bytes_16_mib
 }
 
-memory() {
-    cd "$room/crates/cborc"
-    rt run -- --help >/dev/null 2>"$room/log" || { cat "$room/log" >&2; return 1; }
-    mkdir "$room/refused"
-    python3 "$root/bench/memory.py" out/cborc "$room/refused"
-}
-
 [ $# -gt 0 ] || set -- items program library
 date -u +'%Y-%m-%d, '"$(nproc) processors, load $(cut -d' ' -f1 /proc/loadavg)"
 for part; do
     case $part in
-        items | program | library | memory)
+        items | program | library)
             printf '\n## %s\n\n' "$part"
             ("$part")
             ;;
         *)
-            echo "usage: bench/run.sh [items] [program] [library] [memory]" >&2
+            echo "usage: bench/run.sh [items] [program] [library]" >&2
             exit 2
             ;;
     esac

@@ -140,6 +140,22 @@ def explained():
     expect("an explanation", ended, 1, b"", wanted)
 
 
+def causes():
+    os.mkdir(os.path.join(FOLDER, "folder"))
+    item = write("item", b"\x00")
+    absent, folder = b"  There is no such file or folder.\n", b"  It is a folder.\n"
+    expect("why: no file", run(["check", "--explain", "absent"]), 3, b"", b"cannot read absent\n" + absent)
+    expect("why: a folder", run(["show", "--explain", "folder"]), 3, b"", b"cannot read folder\n" + folder)
+    expect("a folder", run(["show", "folder"]), 3, b"", b"cannot read folder\n")
+    expect("why: no folder", run(["canon", "--explain", "-", "absent/out"], b"\x00"), 3, b"", b"cannot write absent/out\n" + absent)
+    expect("why: OUT is a folder", run(["canon", "--explain", "-", "folder"], b"\x00"), 3, b"", b"cannot write folder\n" + folder)
+    expect("why: the path has a file in it", run(["check", "--explain", "item/x"]), 3, b"", b"cannot read item/x\n  A part of the path is no folder.\n")
+    expect("why: a path with an escape", run(["check", "--explain", "a\x1b[0m"]), 3, b"", b"cannot read a\\u001b[0m\n" + absent)
+    if os.geteuid() != 0:
+        os.chmod(item, 0)
+        expect("why: not permitted", run(["check", "--explain", "item"]), 3, b"", b"cannot read item\n  It is not permitted.\n")
+
+
 def options_of(command):
     """The long options that the program's own help names."""
     text = run([command, "--help"] if command else ["--help"]).stdout.decode()
@@ -172,7 +188,7 @@ def pages():
 
 PROGRAM = os.path.abspath(sys.argv[1]) if len(sys.argv) > 1 else built()
 with tempfile.TemporaryDirectory() as FOLDER:
-    for part in (words, streams, outputs_that_fail, files, explained, pages):
+    for part in (words, streams, outputs_that_fail, files, explained, causes, pages):
         part()
 for fault in faults:
     print("program:", fault)

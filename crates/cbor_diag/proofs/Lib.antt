@@ -1,4 +1,4 @@
-pub mod Among
+pub mod Leaving
 pub mod Layouts
 pub mod Lines
 pub mod Listed

@@ -1,5 +1,5 @@
 -- The lines of events: neighbouring pieces as one have the same.
-use Rattle.std.proofs.Common.{◌≡◌, ℕ, suc, ◌+◌, ◌<◌, List, [], ◌∷◌, ◌++◌, length, flat_map, refl, ap, ◌∙◌, arith, append-nil}
+use Rattle.std.proofs.Common.{◌≡◌, ℕ, ◌<◌, List, [], ◌∷◌, ◌++◌, length, refl, ap, ◌∙◌, arith, append-nil}
 use Rattle.std.proofs.lemmas.Grind.{flat_map-append}
 use Rattle.cbor_head.specs.declared.width.Width.{Width}
 use Rattle.cbor_events.specs.Event.{event, joined_with, piece_onto, kind_onto, onto, joined}

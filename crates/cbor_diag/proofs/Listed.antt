@@ -1,5 +1,5 @@
 -- What a listing has written so far, and what it answers.
-use Rattle.std.proofs.Common.{◌≡◌, ℕ, suc, ◌+◌, ◌-◌, ◌^◌, ◌<◌, ◌≤◌, ◌⊎◌, min, List, [], ◌∷◌, ◌++◌, length, take, drop, replicate, Option, Some, None, Ok, refl, sym, ap, ◌∙◌, subst, inl, inr, arith, append_assoc, append-nil, length-append, take-append-drop}
+use Rattle.std.proofs.Common.{◌≡◌, ℕ, ◌+◌, ◌-◌, ◌^◌, ◌<◌, ◌≤◌, ◌⊎◌, min, List, [], ◌∷◌, ◌++◌, length, take, drop, Option, Some, None, Ok, refl, sym, ap, ◌∙◌, subst, inl, inr, arith, append_assoc, append-nil, length-append, take-append-drop}
 use Rattle.std.specs.Option.{IfSome}
 use Rattle.std.specs.Io.KnownBytes.{Consumes, Appends, IsAtEnd}
 use Rattle.std.proofs.KnownBytes.{Consumes-nil, Consumes-trans, Appends-nil, Appends-trans}
@@ -13,9 +13,9 @@ use Rattle.cbor_head.specs.declared.reason.Reason.TheVariants.{Read, Write, Trun
 use Rattle.cbor_head.specs.declared.reason.Refusal.{Refusal}
 use Rattle.cbor_head.proofs.Accepted.{accepts_exactly}
 use Rattle.cbor_head.proofs.ReadLaws.{unique}
-use Rattle.cbor_events.specs.Trace.{Mark, total, a_byte, more_bytes}
+use Rattle.cbor_events.specs.Trace.{Mark, total}
 use Rattle.cbor_events.specs.Marks.{marks_of, IsProper}
-use Rattle.cbor_events.specs.Event.{events, event_size, joined, cut, AreTold}
+use Rattle.cbor_events.specs.Event.{joined, AreTold}
 use Rattle.cbor_events.specs.Machine.{StandsFor, before}
 use Rattle.cbor_events.specs.MachineView.{MachineView}
 use Rattle.cbor_events.specs.ItemEvents.{Call, StandsBetween, IsNext, IsNextEvent, IsEnd, IsCut, IsTooLong, HasFormError}

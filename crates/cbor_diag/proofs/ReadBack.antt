@@ -1,10 +1,9 @@
 -- A text in either layout is read back as its value, and as far as it goes.
-use Rattle.std.proofs.Common.{◌≡◌, ℕ, zero, suc, ◌+◌, ◌-◌, ◌*◌, ◌^◌, ◌<◌, ◌≤◌, Bool, true, false, cond, List, [], ◌∷◌, ◌++◌, length, drop, get_or, replicate, flat_map, codes, decimal, ◌⊎◌, inl, inr, eqb, ltb, refl, sym, ap, ◌∙◌, subst, append_assoc, append-nil, length-append, ◌||◌, ◌↔◌, arith}
+use Rattle.std.proofs.Common.{◌≡◌, ℕ, zero, suc, ◌+◌, ◌-◌, ◌*◌, ◌^◌, ◌<◌, ◌≤◌, Bool, true, false, cond, List, [], ◌∷◌, ◌++◌, length, drop, replicate, flat_map, codes, decimal, inl, inr, eqb, refl, sym, ap, ◌∙◌, subst, append_assoc, length-append, ◌||◌, ◌↔◌, arith}
 use Rattle.std.specs.Str.Parse.{digits_value}
 use Rattle.std.proofs.lemmas.Bool.{eqb-true}
 use Rattle.std.proofs.lemmas.Bool.Decides.{nat_tests}
 use Rattle.hex.specs.Hex.{encode_lower, decode_of, is_hex_digit}
-use Rattle.cbor_head.specs.Head.{IsSimple}
 use Rattle.cbor_head.specs.Value as value
 use Rattle.cbor_head.specs.Value.{Value, Values, Entries, IsInRange, AreInRange, AreEntriesInRange}
 use Rattle.cbor_diag.specs.Text.{text, escaped, simple_text}
@@ -13,7 +12,7 @@ use Rattle.cbor_diag.specs.Follows.{Ends}
 use Rattle.cbor_diag.specs.inner.Layout.{gap, end, laid_out, members_left, pairs_left}
 use Rattle.cbor_diag.specs.declared.layout.Layout.{Layout}
 use Rattle.cbor_diag.specs.declared.layout.Layout.TheVariants.{OneLine, Indented}
-use Rattle.cbor_diag.proofs.Reading.{front, rest, Pass, Stands, front-all, rest-all, digit, IsDecimal, decimals, digit-range, no-digit, decoded, decoded-back, hex-pass, first, unquoted, unquoted-back, escapes-long}
+use Rattle.cbor_diag.proofs.Reading.{front, rest, Pass, Stands, front-all, rest-all, digit, decimals, digit-range, no-digit, decoded, decoded-back, hex-pass, first, unquoted, unquoted-back, escapes-long}
 use Rattle.cbor_diag.proofs.Layouts.{one-line, on-lines}
 
 abbrev Read : Type 0

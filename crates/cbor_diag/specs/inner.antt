@@ -1,3 +1,4 @@
 -- What private functions speak of; no public contract does.
 pub mod Layout
 pub mod Outbox
+pub mod Levels

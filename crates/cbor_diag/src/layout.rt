@@ -1,8 +1,58 @@
 //! How a text is laid out on lines.
 
+ghost use Rattle.std.specs.Prelude.{◌+◌, ◌≤◌};
+ghost use Rattle.cbor_diag.specs.inner.Layout.{gap, end};
+ghost use Rattle.cbor_diag.specs.inner.Outbox.{Puts};
+
+use crate::outbox::Outbox;
+use crate::pieces::put_new_line;
+use cbor_head::Refusal;
+use std::io::Write;
+
 /// On one line, or with one member or pair a line.
 #[derive(Clone, Copy)]
 pub(crate) enum Layout {
     OneLine,
     Indented,
+}
+
+// What stands before a member or a pair.
+pub(crate) fn put_gap<W: Write>(
+    layout: Layout,
+    level: u16,
+    first: bool,
+    out: &mut Outbox,
+    writer: &mut W,
+) -> Result<(), Refusal>
+    requires { level + 1 ≤ 256 }
+    ensures { Puts (W.contents writer.old) (W.contents writer.new) out.old out.new
+        (gap layout level first) result }
+{
+    match layout {
+        Layout::OneLine if first => Ok(()),
+        Layout::OneLine => out.put(writer, b", "),
+        Layout::Indented if first => put_new_line(level + 1, out, writer),
+        Layout::Indented => {
+            out.put(writer, b",")?;
+            put_new_line(level + 1, out, writer)
+        }
+    }
+}
+
+// What stands behind the last member or pair.
+pub(crate) fn put_end<W: Write>(
+    layout: Layout,
+    level: u16,
+    none: bool,
+    out: &mut Outbox,
+    writer: &mut W,
+) -> Result<(), Refusal>
+    requires { level ≤ 256 }
+    ensures { Puts (W.contents writer.old) (W.contents writer.new) out.old out.new
+        (end layout level none) result }
+{
+    match layout {
+        Layout::Indented if !none => put_new_line(level, out, writer),
+        _ => Ok(()),
+    }
 }

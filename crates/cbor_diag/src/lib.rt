@@ -23,6 +23,7 @@ mod layout;
 mod outbox;
 mod pieces;
 mod text;
+mod walk;
 
 pub use event_listing::listing;
 pub use text::{diagnostic, diagnostic_indented};

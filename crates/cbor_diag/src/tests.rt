@@ -199,6 +199,36 @@ fn indented_texts(rt: HostRuntime) -> Result<(), Fail> {
     Ok(())
 }
 
+// As deep as a tree can be: arrays in one another, tags in one another, and maps as keys.
+#[test]
+fn deepest_texts(rt: HostRuntime) -> Result<(), Fail> {
+    let alloc = rt.alloc();
+    let mut arrays = Item::Unsigned(7);
+    let mut tags = Item::Unsigned(7);
+    let mut keys = Item::Unsigned(7);
+    let mut wants = [String::new(alloc), String::new(alloc), String::new(alloc)];
+    for _ in 0..256 {
+        arrays = Item::Array(vec![in alloc; arrays]?);
+        tags = tag(alloc, 1, tags)?;
+        keys = Item::Map(vec![in alloc; (keys, Item::Unsigned(0))]?);
+        wants[0].push_str("[")?;
+        wants[1].push_str("1(")?;
+        wants[2].push_str("{")?;
+    }
+    for want in &mut wants {
+        want.push_str("7")?;
+    }
+    for _ in 0..256 {
+        wants[0].push_str("]")?;
+        wants[1].push_str(")")?;
+        wants[2].push_str(": 0}")?;
+    }
+    assert!(rt; shows(alloc, arrays, wants[0].as_str())?);
+    assert!(rt; shows(alloc, tags, wants[1].as_str())?);
+    assert!(rt; shows(alloc, keys, wants[2].as_str())?);
+    Ok(())
+}
+
 // Longer than what is gathered before a write, so that runs go out by themselves.
 #[test]
 fn long_strings(rt: HostRuntime) -> Result<(), Fail> {

@@ -1,9 +1,8 @@
 -- The stack of frames, whose last is the innermost.
-use Rattle.std.proofs.Common.{◌≡◌, ℕ, ◌+◌, List, [], ◌∷◌, ◌++◌, map, reverse, length, refl, ap, ◌∙◌, arith, pow-suc, mul_comm, mul-le-mul_left, mul-le-mul_right, subst, add-one, ◌*◌, ◌^◌, ◌≤◌, ◌<◌, ◌-◌, Bool, true, false, true≢false, sym}
+use Rattle.std.proofs.Common.{◌≡◌, ℕ, ◌+◌, List, [], ◌∷◌, ◌++◌, map, reverse, length, refl, ap, ◌∙◌, arith, pow-suc, mul_comm, mul-le-mul_left, mul-le-mul_right, subst, add-one, ◌*◌, ◌^◌, ◌≤◌, ◌<◌, ◌-◌, true, false, true≢false, sym}
 use Rattle.std.proofs.lemmas.List.{reverse-append, length-reverse, length-map}
 use Rattle.std.proofs.Math.Nat.{pow-le-pow_right}
 use Rattle.cbor_events.specs.inner.State.{frame_of, frames_of, head_left, wanted_at, IsFit, IsNextFit, IsSettled, IsNextSettled, is_in_payload, is_done}
-use Rattle.cbor_events.specs.declared.opening.Numbered.{Numbered}
 use Rattle.cbor_events.specs.declared.position.Position.{Position}
 use Rattle.cbor_events.specs.declared.position.Position.TheVariants.{Item, Head, SimpleNumber, Payload, Chunks, Done}
 use Rattle.cbor_events.specs.declared.take_byte.Next.{Next}
@@ -44,8 +43,8 @@ next_settled_fit depth fs (Goes position) h = settled_fit depth fs position h
 next_settled_fit depth fs (Tells w kind position) h = settled_fit depth fs position h
 
 -- outside a payload what is open is a head
-pub wanted-head : (position : Position) → ((chunk : Bool) (kind : Numbered) (left : ℕ) → position ≡ Payload chunk kind left → ⊥) → wanted_at position ≡ head_left position
-wanted-head (Payload chunk kind left) h = absurd (h chunk kind left refl)
+pub wanted-head : (position : Position) → (is_in_payload position ≡ true → ⊥) → wanted_at position ≡ head_left position
+wanted-head (Payload chunk kind left) h = absurd (h refl)
 wanted-head Item h = refl
 wanted-head (Head chunk kind width left argument) h = refl
 wanted-head SimpleNumber h = refl

@@ -77,6 +77,7 @@ impl ItemEvents {
     /// left, at most 512 bytes. A `read` of 0 bytes is the end of the input: `Truncated`. An error
     /// of `read`, `Interrupted` too, is `Read`. After a refusal every later call answers it again
     /// and reads nothing.
+    #[inline(always)]
     pub fn next<R: Read>(&mut self, reader: &mut R) -> Result<Option<Event>, Refusal>
         // For all bytes and marks that the machine stood for, as long as nothing was refused.
         ensures answers { self.old.refusal ≡ None
@@ -142,6 +143,7 @@ enum Asked {
 }
 
 // Reads at most `want` bytes into the front of the buffer, by one call of `read`, or by none.
+#[inline(always)]
 fn ask<R: Read>(reader: &mut R, buffer: &mut [u8], want: usize) -> Asked
     requires { want ≤ length buffer.old }
     ensures asked { IsAsked result want
@@ -166,6 +168,7 @@ fn cut(reason: Reason, taken: u64) -> Refusal
 }
 
 // Reads what the machine wants, one part after another, until it tells an event or stops.
+#[inline(always)]
 fn next_event<R: Read>(
     machine: &mut Machine,
     reader: &mut R,
@@ -205,6 +208,7 @@ fn next_event<R: Read>(
 }
 
 // The length of the piece that was told, if one was.
+#[inline(always)]
 fn piece_len(answer: &Result<Option<Event>, Refusal>) -> usize
     ensures { result ≡ piece_size answer.now }
 {
@@ -222,6 +226,7 @@ fn piece_len(answer: &Result<Option<Event>, Refusal>) -> usize
 }
 
 // The next event, with a piece kept in front of the buffer.
+#[inline(always)]
 fn advance<R: Read>(
     machine: &mut Machine,
     reader: &mut R,

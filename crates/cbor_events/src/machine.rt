@@ -2,7 +2,6 @@
 
 ghost use Rattle.std.specs.Prelude.{◌≡◌, ◌↔◌, ◌≤◌, ◌<◌, ◌+◌, ◌++◌, ℕ, List, [], length, take, min};
 ghost use Rattle.std.specs.Prelude.{true, Some, None, IfSome, IsTrue};
-ghost use Rattle.arrayvec.specs.ArrayVec.{array_vec_len};
 ghost use Rattle.cbor_head.specs.Value.{AreBytes};
 ghost use Rattle.cbor_head.specs.Verdict.{refusal};
 ghost use Rattle.cbor_events.specs.Trace.{Mark};
@@ -16,10 +15,9 @@ ghost use Rattle.cbor_events.specs.inner.State.{is_done};
 ghost use Rattle.cbor_events.specs.inner.Steps.{IsStep};
 
 use crate::event::{Event, Out, Step};
-use crate::frame::Frames;
+use crate::nest::Nest;
 use crate::position::Position;
 use crate::walk::{Walked, walk};
-use arrayvec::ArrayVec;
 use cbor_head::{Limits, Reason, Refusal};
 use std::marker::Model;
 
@@ -32,7 +30,7 @@ pub struct Machine {
     taken: u64,
     told: u64,
     position: Position,
-    frames: Frames,
+    nest: Nest,
     refusal: Option<Refusal>,
 }
 
@@ -44,19 +42,19 @@ impl Model for Machine {
       bytes = m.limits.bytes;
       taken = m.taken;
       told = m.told;
-      open_count = length m.frames.items;
+      open_count = length m.nest;
       due = wanted_at m.position;
       in_payload = is_in_payload m.position;
       complete = is_done m.position;
       refusal = m.refusal;
-      inner = record { position = m.position; frames = m.frames.items };
+      inner = record { position = m.position; frames = m.nest };
     } };
 
     ghost invariant = { λ m. record {
-      within : array_vec_len m.frames ≤ m.limits.depth;
-      fits : IsFit m.limits.depth m.frames.items m.position;
+      within : length m.nest ≤ m.limits.depth;
+      fits : IsFit m.limits.depth m.nest m.position;
       taken : m.taken ≤ m.limits.bytes;
-      settled : m.refusal ≡ None → IsSettled m.frames.items m.position → m.told ≡ m.taken;
+      settled : m.refusal ≡ None → IsSettled m.nest m.position → m.told ≡ m.taken;
       stopped : IfSome m.refusal (λ r. (r.read ≡ m.taken) × IsMachineReason r.reason);
     } };
 }
@@ -72,7 +70,7 @@ impl Machine {
             taken: 0,
             told: 0,
             position: Position::Item,
-            frames: ArrayVec::new(),
+            nest: Nest::new(),
             refusal: None,
         }
     }
@@ -82,7 +80,7 @@ impl Machine {
         ensures count { result ≡ self.now.open_count }
         ensures within { result ≤ self.now.depth }
     {
-        self.frames.len()
+        self.nest.len()
     }
 
     /// How many bytes were taken; after a refusal its `read`.
@@ -96,6 +94,7 @@ impl Machine {
     /// How many bytes more belong to the head or payload that is open, or to the next head's first
     /// byte, within the byte limit: a step uses that many, whatever they are. None once the item is
     /// complete or refused.
+    #[inline(always)]
     pub(crate) fn wanted(&self) -> u64
         ensures wanted { result ≡ wanted self.now }
         ensures idle { IsIdle self.now → result ≡ 0 }
@@ -113,6 +112,7 @@ impl Machine {
     }
 
     /// Whether the next bytes are those of a payload.
+    #[inline(always)]
     pub(crate) fn is_in_payload(&self) -> bool
         ensures { result ≡ self.now.in_payload }
     {
@@ -146,6 +146,7 @@ impl Machine {
     }
 
     // A step, and what it does with the inner state.
+    #[inline(always)]
     #[tactic(auto, using(crate::proofs::Frames::settled_fit))]
     pub(crate) fn take_part(&mut self, input: &[u8]) -> Step
         ensures used { result.used ≤ length input.now }
@@ -183,7 +184,7 @@ impl Machine {
         let bytes = self.limits.bytes();
         let depth = usize::from(self.limits.depth());
         let end = part(input.len(), bytes - self.taken);
-        let (used, walked) = walk(depth, &mut self.position, &mut self.frames, &input[..end]);
+        let (used, walked) = walk(depth, &mut self.position, &mut self.nest, &input[..end]);
         self.taken += used as u64;
         match walked {
             Walked::Told(width, kind) => {
@@ -224,6 +225,7 @@ pub(crate) fn refusal_of(reason: Reason, place: u64, read: u64) -> Refusal
 }
 
 // The lesser of the two.
+#[inline(always)]
 fn part(len: usize, room: u64) -> usize
     ensures { result ≡ min len room }
 {

@@ -3,8 +3,10 @@
 ghost use Rattle.std.specs.Prelude.{◌≡◌, ℕ};
 ghost use Rattle.cbor_events.specs.Token.{kind_of, IsEventToken};
 ghost use Rattle.cbor_events.specs.inner.Slices.{number_in};
+ghost use Rattle.cbor_events.specs.inner.Whole.{IsNumberOf};
 
 use crate::event::EventKind;
+use cbor_head::Simple;
 
 /// What comes next of an item: an event, the end, or a refusal. Its number, its width and its bytes
 /// stand beside it.
@@ -67,6 +69,31 @@ pub fn token_of(kind: &EventKind) -> Token
         EventKind::Map(None) => Token::IndefiniteMap,
         EventKind::Tag(_) => Token::Tag,
         EventKind::End => Token::Break,
+    }
+}
+
+/// The event that is told by this token, with this number.
+#[inline(always)]
+pub fn kind_by(token: Token, number: u64) -> EventKind
+    requires { IsNumberOf token number }
+    ensures { result ≡ kind_of token number }
+{
+    match token {
+        Token::Unsigned => EventKind::Unsigned(number),
+        Token::Negative => EventKind::Negative(number),
+        Token::Bytes => EventKind::Bytes(Some(number)),
+        Token::Text => EventKind::Text(Some(number)),
+        Token::Array => EventKind::Array(Some(number)),
+        Token::Map => EventKind::Map(Some(number)),
+        Token::Tag => EventKind::Tag(number),
+        Token::Simple => EventKind::Simple(Simple::new(number as u8).unwrap()),
+        Token::Piece => EventKind::Piece(number as usize),
+        Token::Chunk => EventKind::Chunk(number),
+        Token::IndefiniteBytes => EventKind::Bytes(None),
+        Token::IndefiniteText => EventKind::Text(None),
+        Token::IndefiniteArray => EventKind::Array(None),
+        Token::IndefiniteMap => EventKind::Map(None),
+        Token::Break | Token::End | Token::Refused => EventKind::End,
     }
 }
 

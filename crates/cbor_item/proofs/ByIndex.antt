@@ -3,7 +3,7 @@ use Rattle.std.proofs.Common.{◌≡◌, ℕ, zero, suc, ◌+◌, ◌<◌, List,
 use Rattle.std.proofs.lemmas.List.{drop_more}
 use Rattle.std.proofs.lemmas.Option.{slice_get-get_or}
 use Rattle.std.specs.List.{slice_get}
-use Rattle.cbor_head.specs.Value.{IsInRange, AreEntriesInRange, IsValid, AreEntriesValid}
+use Rattle.cbor_head.specs.Value.{IsValid, AreEntriesValid}
 use Rattle.cbor_item.specs.View.{view}
 use Rattle.cbor_item.specs.inner.Members.{entries_view}
 use Rattle.cbor_item.specs.declared.item.Item.{Item}
@@ -12,18 +12,10 @@ use Rattle.cbor_item.specs.declared.item.Item.{Item}
 pub at_read : {A : Type 0} (xs : List A) (i : ℕ) (x : A) → i < length xs → x ≡ get_or xs i x → drop i xs ≡ x ∷ drop (i + 1) xs
 at_read xs i x h is = drop_more xs i x h ∙ ap (λ y. y ∷ drop (i + 1) xs) (sym is)
 
-ranges_at : (ps : List (Item × Item)) (i : ℕ) (d : Item × Item) → AreEntriesInRange (entries_view ps) → i < length ps → IsInRange (view (get_or ps i d).0) × IsInRange (view (get_or ps i d).1)
-ranges_at [] i d h l = absurd (omega arith)
-ranges_at (p ∷ ps) zero d h l = (h.0, h.1)
-ranges_at (p ∷ ps) (suc i) d h l = ranges_at ps i d h.2 (omega arith)
-
 valid_at : (ps : List (Item × Item)) (i : ℕ) (d : Item × Item) → AreEntriesValid (entries_view ps) → i < length ps → IsValid (view (get_or ps i d).0) × IsValid (view (get_or ps i d).1)
 valid_at [] i d h l = absurd (omega arith)
 valid_at (p ∷ ps) zero d h l = (h.0, h.1)
 valid_at (p ∷ ps) (suc i) d h l = valid_at ps i d h.2 (omega arith)
-
-pub ranges_read : (ps : List (Item × Item)) (i : ℕ) (p : Item × Item) → AreEntriesInRange (entries_view ps) → i < length ps → p ≡ get_or ps i p → IsInRange (view p.0) × IsInRange (view p.1)
-ranges_read ps i p h l e = subst (λ (q : Item × Item). IsInRange (view q.0) × IsInRange (view q.1)) (sym e) (ranges_at ps i p h l)
 
 pub valid_read : (ps : List (Item × Item)) (i : ℕ) (p : Item × Item) → AreEntriesValid (entries_view ps) → i < length ps → p ≡ get_or ps i p → IsValid (view p.0) × IsValid (view p.1)
 valid_read ps i p h l e = subst (λ (q : Item × Item). IsValid (view q.0) × IsValid (view q.1)) (sym e) (valid_at ps i p h l)

@@ -5,7 +5,6 @@ pub mod Clean
 pub mod Counting
 pub mod Depth
 pub mod DistinctKeys
-pub mod EncodedKeys
 pub mod Growth
 pub mod Induction
 pub mod KeyFronts
@@ -33,4 +32,5 @@ pub mod Told
 pub mod ValuesMade
 pub mod Vectors
 pub mod Views
+pub mod Walk
 pub mod Written

@@ -32,8 +32,3 @@ pub map_in : {X Y : Type 0} (f : X → Y) (xs : List X) (x : X) → In x xs → 
 map_in f [] x m = m
 map_in f (y ∷ ys) x (inl e) = inl (ap f e)
 map_in f (y ∷ ys) x (inr m) = inr (map_in f ys x m)
-
-pub in_map : {X Y : Type 0} (f : X → Y) (xs : List X) (y : Y) → In y (map f xs) → (x : X) × In x xs × (y ≡ f x)
-in_map f [] y m = absurd m
-in_map f (x ∷ xs) y (inl e) = (x, inl refl, e)
-in_map f (x ∷ xs) y (inr m) = let r = in_map f xs y m in (r.0, inr r.1, r.2)

@@ -1,29 +1,20 @@
 -- Keys in the order of their bytes: equal ones are neighbours.
-use Rattle.std.proofs.Common.{◌≡◌, ◌≢◌, ◌↔◌, ℕ, zero, suc, ◌+◌, ◌<◌, ◌≤◌, List, [], ◌∷◌, length, drop, get_or, map, false, true≢false, refl, sym, ap, ◌∙◌, subst, arith, inl, inr, IsPermutation, IsSortedBy, ◌++◌, append-nil}
+use Rattle.std.proofs.Common.{◌≡◌, ◌≢◌, ◌↔◌, ℕ, zero, suc, ◌+◌, ◌<◌, ◌≤◌, List, [], ◌∷◌, length, drop, get_or, map, false, true≢false, refl, sym, ap, ◌∙◌, subst, arith, inl, inr, IsPermutation, IsSortedBy}
 use Rattle.std.specs.Prelude.{IsTrue}
-use Rattle.std.specs.List.{IsDistinct, range_with_len}
+use Rattle.std.specs.List.{IsDistinct}
 use Rattle.std.specs.Ordering.{is_eq}
 use Rattle.std.proofs.lemmas.Cmp.{tied_itself}
-use Rattle.std.proofs.lemmas.List.{drop_all}
 use Rattle.std.proofs.lemmas.Map.Keys.{IsDistinct-IsPermutation}
-use Rattle.std.proofs.lemmas.List.Sorted.{IsPermutation-sym, IsPermutation-map}
 use Rattle.cbor_head.specs.Order.{key_cmp, key_lt}
-use Rattle.cbor_head.specs.Canonical.{Pair, canonical_entries, in_order}
-use Rattle.cbor_head.specs.Value.{AreEntriesInRange, HasDistinctKeys}
+use Rattle.cbor_head.specs.Canonical.{Pair}
 use Rattle.cbor_head.specs.declared.order.KeyOrder.{KeyOrder}
-use Rattle.cbor_item.specs.inner.Encoded.{pair_at, IsNotFirst, DoNeighboursDiffer}
-use Rattle.cbor_item.specs.Parts.{AreKeysValid}
+use Rattle.cbor_item.specs.inner.Encoded.{IsNotFirst, DoNeighboursDiffer}
 use Rattle.cbor_item.specs.Pairs.{HasDistinctBytes, IsRising}
-use Rattle.cbor_item.specs.inner.Members.{entries_view}
-use Rattle.cbor_item.specs.declared.item.Item.{Item}
-use Rattle.cbor_item.specs.declared.encoded_key.EncodedKey.{EncodedKey}
 use Rattle.cbor_item.proofs.ByIndex.{at_read}
-use Rattle.cbor_item.proofs.EncodedKeys.{index_of}
-use Rattle.cbor_item.proofs.Keys.{distinct_exactly}
 use Rattle.cbor_item.proofs.Members.{all_at, all_from}
 use Rattle.cbor_item.proofs.Orders.{key_cmp_total, lt_trans, lt_other}
-use Rattle.cbor_item.proofs.SortedPairs.{pair_lt, same_key, same_key-flips, IsDistinct-keys, sorted_is_in_order, sorted_view}
-use Rattle.cbor_item.proofs.Sorting.{rises_at, rising_cons, rising_distinct}
+use Rattle.cbor_item.proofs.SortedPairs.{pair_lt, same_key, same_key-flips, IsDistinct-keys}
+use Rattle.cbor_item.proofs.Sorting.{rises_at, rising_cons}
 
 -- ---- along a list, through a view of each element
 
@@ -78,40 +69,3 @@ distinct_from_keys o (p ∷ ps) d = (
 
 pub distinct_permuted : (o : KeyOrder) (ps qs : List Pair) → IsPermutation ps qs → HasDistinctBytes ps → HasDistinctBytes qs
 distinct_permuted o ps qs m d = distinct_from_keys o qs (IsDistinct-IsPermutation (same_key o) (same_key-flips o) ps qs m (IsDistinct-keys o ps d))
-
--- ---- of the keys of a map
-
-abbrev pub bytes_of : EncodedKey → List ℕ
-bytes_of key = key.bytes
-
--- what is known of all keys of a map, encoded and sorted
-pub record AreSorted (o : KeyOrder) (ps : List (Item × Item)) (ks : List EncodedKey) : Type 0 where
-  pub valid : AreKeysValid (entries_view ps)
-  pub distinct : DoNeighboursDiffer (map bytes_of ks) ↔ HasDistinctKeys (entries_view ps)
-  pub pairs : HasDistinctKeys (entries_view ps) → map (pair_at o ps) ks ≡ in_order o (canonical_entries o (entries_view ps))
-  pub indices : IsPermutation (range_with_len 0 (length ps)) (map index_of ks)
-
--- from what is known when the last is encoded
-pub all_sorted : (o : KeyOrder) (ps : List (Item × Item)) (xs ys : List EncodedKey) (i : ℕ) → AreEntriesInRange (entries_view ps) → i ≡ length ps
-    → map (pair_at o ps) xs ++ canonical_entries o (entries_view (drop i ps)) ≡ canonical_entries o (entries_view ps)
-    → map index_of xs ≡ range_with_len 0 i → (AreKeysValid (entries_view ps) ↔ AreKeysValid (entries_view (drop i ps)))
-    → IsPermutation xs ys → IsSortedBy (λ x y. key_lt o x.bytes y.bytes) ys → AreSorted o ps ys
-all_sorted o ps xs ys i r end encoded indices valid m s =
-    let f = pair_at o ps in
-    let none : drop i ps ≡ [] = drop_all i ps (omega (arith, end)) in
-    let v : AreKeysValid (entries_view ps) = valid.1 (subst (λ (us : List (Item × Item)). AreKeysValid (entries_view us)) (sym none) tt) in
-    let e : map f xs ≡ canonical_entries o (entries_view ps) =
-    sym (ap (λ (us : List (Item × Item)). map f xs ++ canonical_entries o (entries_view us)) none ∙ append-nil (map f xs)) ∙ encoded in
-    let moved = IsPermutation-map f xs ys m in
-    let exactly = distinct_exactly o (entries_view ps) r v in
-    record {
-      valid = v;
-      distinct = (
-        (λ d.
-            let rising = rising_from_differ o (map f ys) (sorted_view f o ys s) (subst DoNeighboursDiffer (sym (keys-map f ys)) d) in
-            exactly.1 (subst HasDistinctBytes e (distinct_permuted o (map f ys) (map f xs) (IsPermutation-sym (map f xs) (map f ys) moved) (rising_distinct o (map f ys) rising)))),
-        (λ d. subst DoNeighboursDiffer (keys-map f ys) (differ_from_distinct (map f ys) (distinct_permuted o (map f xs) (map f ys) moved (subst HasDistinctBytes (sym e) (exactly.0 d))))),
-      );
-      pairs = λ d. sorted_is_in_order o (map f xs) (map f ys) (subst HasDistinctBytes (sym e) (exactly.0 d)) moved (sorted_view f o ys s) ∙ ap (in_order o) e;
-      indices = subst (λ is. IsPermutation is (map index_of ys)) (indices ∙ ap (range_with_len 0) end) (IsPermutation-map index_of xs ys m);
-    }

@@ -44,20 +44,11 @@ pub entries_count-view : (ps : List (Item × Item)) → entries_count (entries_v
 entries_count-view [] = refl
 entries_count-view (p ∷ ps) = ap suc (entries_count-view ps)
 
-pub canonical-Bytes : (o : KeyOrder) (v : Vec ℕ Global) → canonical o (view (Bytes v)) ≡ shortest_head Major.Bytes (length v.items) ++ v.items
-canonical-Bytes o v = ap (canonical o) (view-Bytes v)
-
-pub canonical-Text : (o : KeyOrder) (s : String Global) → canonical o (view (Text s)) ≡ shortest_head Major.Text (length (string_bytes s)) ++ string_bytes s
-canonical-Text o s = ap (canonical o) (view-Text s)
-
 pub canonical-Array : (o : KeyOrder) (v : Vec Item Global) (n : ℕ) → n ≡ length v.items → canonical o (view (Array v)) ≡ shortest_head Major.Array n ++ canonical_all o (values_view v.items)
 canonical-Array o v n e = rw (view-Array v, values_count-view v.items, e) refl
 
 pub canonical-Map : (o : KeyOrder) (v : Vec (Item × Item) Global) (n : ℕ) → n ≡ length v.items → canonical o (view (Map v)) ≡ shortest_head Major.Map n ++ joined (in_order o (canonical_entries o (entries_view v.items)))
 canonical-Map o v n e = rw (view-Map v, entries_count-view v.items, e) refl
-
-pub canonical-Tag : (o : KeyOrder) (n : ℕ) (b : Box Item Global) → canonical o (view (Tag n b)) ≡ shortest_head Major.Tag n ++ canonical o (view b.value)
-canonical-Tag o n b = rw (view-Tag n b) refl
 
 pub SameValues-count : (vs ws : Values) → SameValues vs ws → values_count vs ≡ values_count ws
 SameValues-count value.no_values value.no_values h = refl

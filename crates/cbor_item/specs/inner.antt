@@ -3,8 +3,8 @@ pub mod BuilderState
 pub mod CanonState
 pub mod Encoded
 pub mod Front
-pub mod Held
 pub mod Laid
 pub mod Levels
 pub mod Members
 pub mod Repeats
+pub mod Walk

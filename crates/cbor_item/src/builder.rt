@@ -21,6 +21,7 @@ mod member;
 mod opening;
 mod out;
 mod repeats;
+mod reserve;
 pub(crate) mod span;
 
 use crate::builder::frame::{Frame, Shape};
@@ -30,6 +31,7 @@ use crate::builder::member::complete;
 use crate::builder::opening::opening;
 use crate::builder::out::Out;
 use crate::builder::repeats::first_repeat;
+use crate::builder::reserve::push;
 use crate::builder::span::Span;
 use crate::repeat::Repeat;
 use cbor_head::{KeyOrder, Major};
@@ -116,7 +118,7 @@ impl Core {
         let from = self.out.len();
         self.out.head(major, n)?;
         let frame = opening(major, from, self.out.len(), self.spans.len());
-        self.below.push(self.top)?;
+        push(&mut self.below, self.top)?;
         self.top = frame;
         Ok(())
     }

@@ -1,25 +1,20 @@
 //! Canonical bytes.
 
-ghost use Rattle.std.specs.Prelude.{◌≡◌, ◌≢◌, ◌↔◌, ◌++◌, map, length, IsTrue, IsSome, IfOk, IfErr};
-ghost use Rattle.std.specs.Prelude.{IfSome, IsPermutation};
-ghost use Rattle.std.specs.List.{range_with_len};
-ghost use Rattle.cbor_head.specs.Canonical.{canonical, canonical_all, canonical_entries, in_order};
-ghost use Rattle.cbor_head.specs.Head.{IsSimple, shortest_head};
-ghost use Rattle.cbor_head.specs.Value.{IsInRange, AreInRange, AreEntriesInRange, IsValid};
-ghost use Rattle.cbor_head.specs.Value.{AreValid, AreEntriesValid, HasDistinctKeys};
-ghost use Rattle.cbor_head.specs.declared.major.Major.TheVariants.{Simple};
-ghost use Rattle.cbor_item.specs.inner.Encoded.{joined, pair_at};
-ghost use Rattle.cbor_item.specs.Parts.{AreKeysValid};
+ghost use Rattle.std.specs.Prelude.{◌≡◌, ◌↔◌, IsSome, IfSome, IfOk, IfErr};
+ghost use Rattle.cbor_head.specs.Canonical.{canonical};
+ghost use Rattle.cbor_head.specs.Value.{IsInRange, IsValid};
+ghost use Rattle.cbor_item.specs.Built.{built, TakesPart};
 ghost use Rattle.cbor_item.specs.Sent.{no_memory};
 ghost use Rattle.cbor_item.specs.View.{view};
-ghost use Rattle.cbor_item.specs.inner.Members.{entries_view, values_view};
+ghost use Rattle.cbor_item.specs.inner.Walk.{IsBegun};
 
-use crate::encoded_key::{EncodedKey, differ, sort_keys};
+use crate::canon_builder::CanonBuilder;
 use crate::item::Item;
-use crate::key_bytes::KeyBytes;
+use crate::rest::Rest;
 use crate::tree::Tree;
-use cbor_head::{Head, KeyOrder, Major, Reason, Refusal};
+use cbor_head::{KeyOrder, Major, Reason, Refusal};
 use std::alloc::{AllocError, Global};
+use std::slice;
 
 /// The canonical bytes (RFC 8949, sections 4.2.1 and 4.2.3). Refused for memory alone.
 pub fn encode(alloc: Global, tree: &Tree, order: KeyOrder) -> Result<Vec<u8>, Refusal>
@@ -39,142 +34,79 @@ pub fn encode_valid(alloc: Global, item: &Item, order: KeyOrder) -> Result<Vec<u
     requires valid { IsValid (view item.now) }
     ensures { IfOk result (λ bytes. bytes.items ≡ canonical order (view item.now)) }
 {
-    let mut bytes = Vec::new(alloc);
-    // It answers true of a valid item.
-    let _ = encode_into(alloc, item, order, &mut bytes)?;
-    Ok(bytes)
+    match encode_distinct(alloc, item, order)? {
+        Some(bytes) => Ok(bytes),
+        // No valid item comes here.
+        None => Ok(Vec::new(alloc)),
+    }
 }
 
-// Whether no map in the item, at any depth, has two equal keys: that texts are UTF-8 their type
-// says. Where that is so, the canonical bytes are put behind those that were there. One walk does
-// both, since equal keys are found by their bytes: so a key is encoded once, however many keys it
-// lies in.
-#[cycle(encode)]
-pub(crate) fn encode_into(
+// The canonical bytes, or none where a map in the item, at any depth, has two equal keys: that
+// texts are UTF-8 their type says.
+//
+// What is open lies in a list and not on the stack, so an item may be of any depth.
+pub(crate) fn encode_distinct(
     alloc: Global,
     item: &Item,
     order: KeyOrder,
-    out: &mut Vec<u8>,
-) -> Result<bool, AllocError>
+) -> Result<Option<Vec<u8>>, AllocError>
     requires { IsInRange (view item.now) }
-    ensures valid { IfOk result (λ valid. IsTrue valid ↔ IsValid (view item.now)) }
-    ensures bytes { IfOk result (λ valid. IsTrue valid
-        → out.new.items ≡ out.old.items ++ canonical order (view item.now)) }
+    ensures valid { IfOk result (λ bytes. IsSome bytes ↔ IsValid (view item.now)) }
+    ensures bytes { IfOk result (λ bytes.
+        IfSome bytes (λ bytes. bytes.items ≡ canonical order (view item.now))) }
+{
+    let mut builder = CanonBuilder::new(alloc, order);
+    let mut rest = Rest::Members(slice::from_ref(item));
+    let mut outer = Vec::new(alloc);
+    'items: loop {
+        match rest.next() {
+            Some((next, behind)) => {
+                rest = behind;
+                if let Some(content) = begin(&mut builder, next)? {
+                    outer.push(rest)?;
+                    rest = content;
+                }
+            }
+            None => {
+                let Some(behind) = outer.pop() else {
+                    break;
+                };
+                if !builder.end_if_distinct()? {
+                    return Ok(None);
+                }
+                rest = behind;
+            }
+        }
+    }
+    Ok(Some(builder.finish()))
+}
+
+// Gives an item that holds no other; begins one that does, and answers what is in it.
+fn begin<'a>(builder: &mut CanonBuilder, item: &'a Item) -> Result<Option<Rest<'a>>, AllocError>
+    requires takes { TakesPart builder.old.standing }
+    requires in_range { IsInRange (view item.now) }
+    ensures order { IfOk result (λ _. builder.new.order ≡ builder.old.order) }
+    ensures begun { IfOk result (λ content. IsBegun builder.old.order (view item.now)
+        builder.old.standing builder.new.standing content) }
 {
     match item {
-        Item::Unsigned(n) => push_head(out, Major::Unsigned, *n)?,
-        Item::Negative(n) => push_head(out, Major::Negative, *n)?,
-        Item::Bytes(bytes) => push_string(out, Major::Bytes, bytes)?,
-        Item::Text(text) => push_string(out, Major::Text, text.as_bytes())?,
+        Item::Unsigned(n) => builder.leaf(Major::Unsigned, *n)?,
+        Item::Negative(n) => builder.leaf(Major::Negative, *n)?,
+        Item::Bytes(bytes) => builder.string(Major::Bytes, bytes)?,
+        Item::Text(text) => builder.string(Major::Text, text.as_bytes())?,
         Item::Array(items) => {
-            push_head(out, Major::Array, items.len() as u64)?;
-            return encode_all(alloc, items, order, out);
+            builder.begin(Major::Array, items.len() as u64)?;
+            return Ok(Some(Rest::Members(items)));
         }
         Item::Map(pairs) => {
-            push_head(out, Major::Map, pairs.len() as u64)?;
-            return encode_pairs(alloc, pairs, order, out);
+            builder.begin(Major::Map, pairs.len() as u64)?;
+            return Ok(Some(Rest::Pairs(pairs)));
         }
         Item::Tag(n, content) => {
-            push_head(out, Major::Tag, *n)?;
-            return encode_into(alloc, content, order, out);
+            builder.begin(Major::Tag, *n)?;
+            return Ok(Some(Rest::Members(slice::from_ref(content))));
         }
-        Item::Simple(simple) => push_head(out, Major::Simple, u64::from(simple.number()))?,
+        Item::Simple(simple) => builder.leaf(Major::Simple, u64::from(simple.number()))?,
     }
-    Ok(true)
-}
-
-#[cycle(encode)]
-fn encode_all(
-    alloc: Global,
-    items: &Vec<Item>,
-    order: KeyOrder,
-    out: &mut Vec<u8>,
-) -> Result<bool, AllocError>
-    requires { AreInRange (values_view items.now.items) }
-    ensures valid { IfOk result (λ valid. IsTrue valid ↔ AreValid (values_view items.now.items)) }
-    ensures bytes { IfOk result (λ valid. IsTrue valid
-        → out.new.items ≡ out.old.items ++ canonical_all order (values_view items.now.items)) }
-{
-    for item in items {
-        if !encode_into(alloc, item, order, out)? {
-            return Ok(false);
-        }
-    }
-    Ok(true)
-}
-
-// The pairs of a map, in the order of their keys.
-#[cycle(encode)]
-fn encode_pairs(
-    alloc: Global,
-    pairs: &Vec<(Item, Item)>,
-    order: KeyOrder,
-    out: &mut Vec<u8>,
-) -> Result<bool, AllocError>
-    requires { AreEntriesInRange (entries_view pairs.now.items) }
-    ensures valid { IfOk result (λ valid. IsTrue valid
-        ↔ (AreEntriesValid (entries_view pairs.now.items)
-        × HasDistinctKeys (entries_view pairs.now.items))) }
-    ensures bytes { IfOk result (λ valid. IsTrue valid
-        → out.new.items ≡ out.old.items
-        ++ joined (in_order order (canonical_entries order (entries_view pairs.now.items)))) }
-{
-    let Some(keys) = encode_keys(alloc, pairs, order)? else {
-        return Ok(false);
-    };
-    for key in &keys {
-        out.extend_from_slice(key.bytes.as_slice())?;
-        if !encode_into(alloc, &pairs[key.index].1, order, out)? {
-            return Ok(false);
-        }
-    }
-    Ok(true)
-}
-
-// The canonical bytes of the keys, in order, each with the index of its pair. None where a key
-// isn't valid or two are the same.
-#[cycle(encode)]
-pub(crate) fn encode_keys(
-    alloc: Global,
-    pairs: &Vec<(Item, Item)>,
-    order: KeyOrder,
-) -> Result<Option<Vec<EncodedKey>>, AllocError>
-    requires { AreEntriesInRange (entries_view pairs.now.items) }
-    ensures valid { IfOk result (λ keys. IsSome keys
-        ↔ (AreKeysValid (entries_view pairs.now.items)
-        × HasDistinctKeys (entries_view pairs.now.items))) }
-    ensures pairs { IfOk result (λ keys. IfSome keys (λ keys.
-        map (pair_at order pairs.now.items) keys.items
-        ≡ in_order order (canonical_entries order (entries_view pairs.now.items)))) }
-    ensures indices { IfOk result (λ keys. IfSome keys (λ keys.
-        IsPermutation
-        (range_with_len 0 (length pairs.now.items)) (map (λ key. key.index) keys.items))) }
-{
-    let mut keys = Vec::new(alloc);
-    let mut bytes = Vec::new(alloc);
-    for (index, pair) in pairs.iter().enumerate() {
-        if !encode_into(alloc, &pair.0, order, &mut bytes)? {
-            return Ok(None);
-        }
-        let bytes = KeyBytes::take(alloc, &mut bytes);
-        keys.push(EncodedKey { bytes, index })?;
-    }
-    sort_keys(&mut keys, order)?;
-    Ok(differ(&keys).then_some(keys))
-}
-
-fn push_string(out: &mut Vec<u8>, major: Major, content: &[u8]) -> Result<(), AllocError>
-    requires { major ≢ Simple }
-    ensures { IfOk result (λ _. out.new.items
-        ≡ out.old.items ++ shortest_head major (length content.now) ++ content.now) }
-{
-    push_head(out, major, content.len() as u64)?;
-    out.extend_from_slice(content)
-}
-
-fn push_head(out: &mut Vec<u8>, major: Major, argument: u64) -> Result<(), AllocError>
-    requires { major ≡ Simple → IsSimple argument }
-    ensures { IfOk result (λ _. out.new.items ≡ out.old.items ++ shortest_head major argument) }
-{
-    out.extend_from_slice(&Head::shortest(major, argument).bytes())
+    Ok(None)
 }

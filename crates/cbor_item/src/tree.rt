@@ -5,10 +5,10 @@ ghost use Rattle.cbor_head.specs.Value.{depth, IsInRange, IsValid};
 ghost use Rattle.cbor_item.specs.Refused.{Refuses};
 ghost use Rattle.cbor_item.specs.View.{view};
 
+use crate::encoding::encode_distinct;
 use crate::item::Item;
-use crate::valid::is_valid;
 use crate::within::is_within;
-use cbor_head::{MAX_DEPTH, Reason};
+use cbor_head::{KeyOrder, MAX_DEPTH, Reason};
 use std::alloc::Global;
 use std::marker::Model;
 
@@ -51,9 +51,9 @@ impl Tree {
         if !is_within(&item, MAX_DEPTH) {
             return Err((item, Reason::TooDeep));
         }
-        match is_valid(alloc, &item) {
-            Ok(true) => Ok(Tree { item }),
-            Ok(false) => Err((item, Reason::RepeatedKey)),
+        match encode_distinct(alloc, &item, KeyOrder::Bytewise) {
+            Ok(Some(_)) => Ok(Tree { item }),
+            Ok(None) => Err((item, Reason::RepeatedKey)),
             Err(_) => Err((item, Reason::Memory)),
         }
     }

@@ -44,7 +44,7 @@ use Rattle.cbor_reader.proofs.Heads.{open_or}
 use Rattle.cbor_reader.proofs.Items.{definite, is-definite, proper-definite, never-open, reads-next, taking-some}
 use Rattle.cbor_reader.proofs.Arrays.{closes}
 use Rattle.cbor_reader.proofs.Loops.{array_bytes-whole, map_bytes-whole}
-use Rattle.cbor_reader.proofs.OpenItems.{done_position}
+use Rattle.cbor_reader.proofs.OpenEnds.{done_position}
 use Rattle.cbor_reader.proofs.Levels.{clean-anywhere, full-array, full-map, given, ended}
 use Rattle.cbor_reader.proofs.Valid.{count_bounded}
 use Rattle.cbor_reader.proofs.Scalars.{at-as, reads-unsigned, reads-negative, reads-simple}

@@ -16,7 +16,9 @@ pub mod Headline
 pub mod Heads
 pub mod Items
 pub mod Judged
+pub mod KeptCounts
 pub mod KeptKeys
+pub mod KeptReading
 pub mod Keys
 pub mod KeySets
 pub mod Leaves
@@ -29,7 +31,9 @@ pub mod Maps
 pub mod NextKey
 pub mod OnAnswers
 pub mod OneAnswer
+pub mod OpenBegins
 pub mod OpenContainers
+pub mod OpenEnds
 pub mod OpenHeads
 pub mod OpenItems
 pub mod OpenKeys
@@ -54,9 +58,12 @@ pub mod Sequences
 pub mod Sizes
 pub mod SliceFronts
 pub mod SliceItems
+pub mod SliceSteps
 pub mod SpelledBytes
 pub mod Steps
 pub mod StrictFronts
+pub mod StrictLoop
+pub mod StrictReading
 pub mod StrictSteps
 pub mod Tops
 pub mod TreeValues

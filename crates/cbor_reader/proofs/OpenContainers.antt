@@ -119,9 +119,8 @@ module _ (d n : ℕ) (input : List ℕ) where
       let same = ap length (item_is_longest d n r input i.item i.verdict) in
       stays i.verdict.p i.verdict.longest count (omega (arith, i.size, same))
 
-pub read-stays : (d n : ℕ) (r : Rules) (from : Option (List ℕ)) (v : Value) (count k : ℕ) → IfSome from (λ input. IsReadAs d n r input v count) → k ≡ count → IfSome from (λ input. StaysWithinDepth d input k)
-read-stays d n r from v count k h e =
-    some-so from (λ input. IsReadAs d n r input v count) (λ input. StaysWithinDepth d input k) (λ input i. subst (StaysWithinDepth d input) (sym e) (stays_read d n input r count i.read)) h
+pub read-stays : (d n : ℕ) (r : Rules) (from : Option (List ℕ)) (count : ℕ) → IfSome from (λ input. IsRead d n r input count) → IfSome from (λ input. StaysWithinDepth d input count)
+read-stays d n r from count h = some-so from (λ input. IsRead d n r input count) (λ input. StaysWithinDepth d input count) (λ input i. stays_read d n input r count i) h
 
 pub unread-stays : (d n : ℕ) (r : Rules) (from : Option (List ℕ)) (f : Refusal) → IfSome from (λ input. IsUnread d n r input f) → IfSome from (λ input. StaysWithinDepth d input f.read)
 unread-stays d n r from f h = some-so from (λ input. IsUnread d n r input f) (λ input. StaysWithinDepth d input f.read) (λ input i. stays_unread d n input r f i) h

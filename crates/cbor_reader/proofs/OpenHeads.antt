@@ -1,12 +1,11 @@
 -- What becomes of the open containers as a head comes.
-use Rattle.std.proofs.Common.{◌≡◌, ◌≢◌, ℕ, zero, suc, ◌+◌, ◌-◌, ◌<◌, ◌≤◌, ◌⊎◌, Bool, true, false, Option, Some, None, List, [], ◌∷◌, ◌++◌, length, replicate, refl, sym, ap, ◌∙◌, subst, inl, inr, arith, append_assoc, append-nil}
+use Rattle.std.proofs.Common.{◌≡◌, ◌≢◌, ℕ, zero, suc, ◌+◌, ◌-◌, ◌<◌, ◌≤◌, ◌⊎◌, Bool, false, Option, Some, None, List, [], ◌∷◌, ◌++◌, length, replicate, refl, sym, ap, ◌∙◌, subst, inl, inr, arith, append_assoc, append-nil}
 use Rattle.std.proofs.lemmas.List.{length-append, nil_from_length}
 use Rattle.std.proofs.lemmas.Bool.{cases_lt}
-use Rattle.std.proofs.lemmas.Str.{IsUtf8-nil}
 use Rattle.cbor_head.specs.Head.{Holds, head, shortest, shortest_head}
 use Rattle.cbor_head.specs.Limits.{Bounds}
 use Rattle.cbor_head.specs.Value.{Value}
-use Rattle.cbor_head.specs.Spelling.{Spelling, SpelledEntries, unsigned, negative, bytes, text, array, a_map, tag, simple, no_spellings, no_entries, spell, spellings_count, entries_count, HoldsOrIndefinite, IsSpelled, depth}
+use Rattle.cbor_head.specs.Spelling.{Spelling, SpelledEntries, unsigned, negative, bytes, text, array, a_map, tag, simple, no_entries, spell, HoldsOrIndefinite, IsSpelled, depth}
 use Rattle.cbor_head.specs.Complaint as complaint
 use Rattle.cbor_head.specs.Complaint.{Rules, strict, Complaint, OfCount, OfHead, Complains}
 use Rattle.cbor_head.specs.Verdict.{refusal}
@@ -14,15 +13,14 @@ use Rattle.cbor_head.specs.declared.major.Major.{Major}
 use Rattle.cbor_head.specs.declared.major.Major.TheVariants as majors
 use Rattle.cbor_head.specs.declared.order.KeyOrder.{KeyOrder}
 use Rattle.cbor_head.specs.declared.reason.Reason.{Reason}
-use Rattle.cbor_head.specs.declared.reason.Reason.TheVariants as reasons
 use Rattle.cbor_head.specs.declared.reason.Reason.TheVariants.{Memory}
 use Rattle.cbor_head.specs.declared.reason.Refusal.{Refusal}
 use Rattle.cbor_head.specs.declared.width.Width.{Width}
 use Rattle.cbor_head.specs.declared.width.Width.TheVariants.{Direct, One, Two, Four, Eight, Indefinite}
 use Rattle.cbor_head.proofs.Agree.{head_of, body, parts}
 use Rattle.cbor_events.specs.Trace.{Mark, a_head}
-use Rattle.cbor_events.specs.inner.Automaton.{Frame as Container, State, at_item, counted, close, expect, payload}
-use Rattle.cbor_events.specs.inner.Taking.{Follows, Ends, IsTaking}
+use Rattle.cbor_events.specs.inner.Automaton.{Frame as Container, State, at_item, close, payload}
+use Rattle.cbor_events.specs.inner.Taking.{Follows, IsTaking}
 use Rattle.cbor_events.specs.ItemEvents.{ItemEventsView}
 use Rattle.cbor_events.specs.Marks.{mark_of}
 use Rattle.cbor_events.specs.declared.event.Event.{Event}
@@ -32,41 +30,28 @@ use Rattle.cbor_events.specs.TextCheck.{HasChecked}
 use Rattle.cbor_reader.specs.declared.last_keys.Due.TheVariants.{Member}
 use Rattle.cbor_reader.specs.declared.last_keys.LastKeys.{LastKeys}
 use Rattle.cbor_reader.specs.declared.open_items.OpenItems.{OpenItems}
-use Rattle.cbor_reader.specs.inner.Frame.{Frame, a_member, a_key, a_content, tagged, before}
-use Rattle.cbor_reader.specs.inner.Judged.{IsJudged}
+use Rattle.cbor_reader.specs.inner.Frame.{Frame, a_key, before}
 use Rattle.cbor_reader.specs.inner.LastKeys.{seen, from_outside, due_of, IsKept}
 use Rattle.cbor_reader.specs.inner.OpenItems.{frames_in, bytes_before, Stands, AreRefused, HasEnded, HasHeadCome, HasBegunIn, IsLeaf, IsMap, IsOther, short_head}
-use Rattle.cbor_reader.specs.inner.OpenMaps.{open_keys, AreDistinct, AreOpen, AreOpenDistinct}
-use Rattle.cbor_reader.specs.inner.Reading.{IsAt, IsReached, IsUndecided, HasCause, OfMark, IsFault, IsBegun, ReadsItem, ReadsPayload, string_kind, string_major}
-use Rattle.cbor_reader.proofs.Arrays.{starts-array, array-whole}
+use Rattle.cbor_reader.specs.inner.OpenMaps.{AreOpen, AreOpenDistinct}
+use Rattle.cbor_reader.specs.inner.Reading.{IsReached, IsUndecided, HasCause, OfMark, IsFault, IsBegun, ReadsItem, string_kind, string_major}
 use Rattle.cbor_reader.proofs.Heads.{zero_bytes, zero_length, open_or}
-use Rattle.cbor_reader.proofs.Items.{IsDefinite, definite, proper-definite, never-open, is-definite, head-count, cause-in, undecided-in, head-judged, taking-some}
+use Rattle.cbor_reader.proofs.Items.{IsDefinite, definite, proper-definite, never-open, head-count, cause-in, undecided-in, head-judged, taking-some}
 use Rattle.cbor_reader.proofs.Judged.{Never, zero_item, zeros, zeros_count, zeros_spelled, zeros_flat, zero_pairs, pairs_count, pairs_spelled, pairs_flat, judged_head}
 use Rattle.cbor_reader.proofs.KeptKeys.{kept_levels, kept_spans}
-use Rattle.cbor_reader.proofs.Maps.{starts-with, map-whole}
-use Rattle.cbor_reader.proofs.OpenItems.{outside_length, frames_length, before_more, around_as}
-use Rattle.cbor_reader.proofs.OpenMaps.{judged_within}
-use Rattle.cbor_reader.proofs.OpenSteps.{distinct_snoc}
-use Rattle.cbor_reader.proofs.OpenWalk.{array_opens, map_opens, tag_opens}
-use Rattle.cbor_reader.proofs.Scalars.{at-as, reads-unsigned, reads-negative, reads-simple}
+use Rattle.cbor_reader.proofs.OpenBegins.{lift, no_break, no_openers, leaf_reads, HasOpened, other_opens, pairs_open}
+use Rattle.cbor_reader.proofs.OpenEnds.{frames_length, before_more}
+use Rattle.cbor_reader.proofs.OpenItems.{around_as}
+use Rattle.cbor_reader.proofs.Scalars.{at-as}
 use Rattle.cbor_reader.proofs.Steps.{head-size, fault_of, at-reached}
 use Rattle.cbor_reader.proofs.Undecided.{last-apart}
-use Rattle.cbor_reader.proofs.WholeStrings.{string-head, string-due, reads-string}
+use Rattle.cbor_reader.proofs.WholeStrings.{string-head, string-due}
 
 -- ---- what is found of the item is found of the whole
 
 module _ (o : KeyOrder) (b : Bounds) (fs : List Frame) (are : AreOpen (strict o) b.depth (from_outside fs)) (distinct : AreOpenDistinct (strict o) 0 (from_outside fs)) where
-  pub room_left : b.depth - length (frames_in fs) ≡ are.left
-  room_left = let levels = are.levels in omega (arith, levels, outside_length fs, frames_length fs)
-
-  lift : (p : List ℕ) (found : Option Complaint) → IsJudged (strict o) (length (bytes_before fs)) (b.depth - length (frames_in fs)) p found → IsJudged (strict o) 0 (b.depth - 0) (bytes_before fs ++ p) found
-  lift p found j =
-      let level : length (from_outside fs) + are.left ≡ b.depth - 0 = (let levels = are.levels in omega (arith, levels)) in
-      subst (λ (n : ℕ). IsJudged (strict o) 0 n (bytes_before fs ++ p) found) level
-      (judged_within (from_outside fs) (strict o) 0 (length (bytes_before fs)) are.left p found (omega arith) are.path are.closed distinct (subst (λ (n : ℕ). IsJudged (strict o) (length (bytes_before fs)) n p found) room_left j))
-
   pub refused_part : (m t : List ℕ) (to : Option (List ℕ)) (f : Refusal) → t ≡ bytes_before fs ++ m → f.read ≡ length t → HasCause (strict o) b (frames_in fs) (bytes_before fs) m to f → AreRefused (strict o) b t to f
-  refused_part m t to f e read h = record { read = read; why = inr (subst (λ (x : List ℕ). HasCause (strict o) b [] [] x to f) (sym e) (cause-in (strict o) b [] (frames_in fs) [] (bytes_before fs) lift m to f h)) }
+  refused_part m t to f e read h = record { read = read; why = inr (subst (λ (x : List ℕ). HasCause (strict o) b [] [] x to f) (sym e) (cause-in (strict o) b [] (frames_in fs) [] (bytes_before fs) (lift o b fs are distinct) m to f h)) }
 
   pub memory_part : (m t : List ℕ) (to : Option (List ℕ)) (f : Refusal) (taken : ℕ) → t ≡ bytes_before fs ++ m → taken ≡ length t → f ≡ refusal Memory taken taken → IsReached b t → IsUndecided (strict o) b (frames_in fs) (bytes_before fs) m
       → AreRefused (strict o) b t to f
@@ -75,7 +60,7 @@ module _ (o : KeyOrder) (b : Bounds) (fs : List Frame) (are : AreOpen (strict o)
     why = inl (
       (ap (λ (x : Refusal). x.reason) is, ap (λ (x : Refusal). x.place) is ∙ sym (ap (λ (x : Refusal). x.read) is)),
       r,
-      subst (λ (x : List ℕ). IsUndecided (strict o) b [] [] x) (sym e) (undecided-in (strict o) b [] (frames_in fs) [] (bytes_before fs) lift m u),
+      subst (λ (x : List ℕ). IsUndecided (strict o) b [] [] x) (sym e) (undecided-in (strict o) b [] (frames_in fs) [] (bytes_before fs) (lift o b fs are distinct) m u),
     );
   }
 
@@ -187,12 +172,6 @@ same_width v w = elim (cases_lt (width_number v) (width_number w)) [
 shortest_so : (o : KeyOrder) (at : ℕ) (m : Major) (w : Width) (n : ℕ) → Never (OfHead (strict o) at m w n) → w ≡ shortest n
 shortest_so o at m w n none = elim (same_width w (shortest n)) [ inl e ↦ e | inr f ↦ absurd (none _ (f, refl)) ]
 
-no_openers : (o : KeyOrder) (b : Bounds) (fs : List Container) (t x : List ℕ) (e : ItemEventsView) (w : Width) (m : Major) (n : ℕ) (kind : EventKind) → mark_of w kind ≡ a_head m w n → w ≡ Indefinite → IsBegun (strict o) b fs t x e w kind → ⊥
-no_openers o b fs t x e w m n kind is opener i =
-    i.clean (complaint.complaint (length t + 1) (length t) reasons.Indefinite)
-    (subst (λ (y : Mark). OfMark (strict o) (length t) (at_item fs) y (complaint.complaint (length t + 1) (length t) reasons.Indefinite)) (sym is)
-    (subst (λ (y : Width). OfMark (strict o) (length t) (at_item fs) (a_head m y n) (complaint.complaint (length t + 1) (length t) reasons.Indefinite)) (sym opener) refl))
-
 short_of : (o : KeyOrder) (b : Bounds) (fs : List Container) (t x : List ℕ) (e : ItemEventsView) (w : Width) (m : Major) (n : ℕ) (kind : EventKind) → mark_of w kind ≡ a_head m w n → w ≢ Indefinite → short_head kind ≡ shortest_head m n
     → (i : IsBegun (strict o) b fs t x e w kind) → IsShort b.depth fs x kind i.next
 short_of o b fs t x e w m n kind is f short i =
@@ -219,13 +198,7 @@ short_begun o b fs t x e w (kinds.Piece n) i = absurd i.taking
 short_begun o b fs t x e w kinds.End i = absurd (i.item refl)
 
 -- the item that is due has begun
-no_break : (fs : List Frame) (next : State) → Ends (frames_in fs) next → ⊥
-no_break [] next h = h
-no_break (a_member w a b ∷ fs) next h = h
-no_break (a_key w a v b ∷ fs) next h = h
-no_break (a_content w a k b ∷ fs) next h = h
-no_break (tagged w n ∷ fs) next h = h
-
+-- the item that is due has begun
 pub begun_in : (v : OpenItems) (b : Bounds) (event : Event) (t x : List ℕ) (e : ItemEventsView) → (h : HasHeadCome v b event t x e) → ((reason : Reason) → IsFault (strict v.order) (mark_of event.width event.kind) reason → ⊥)
     → IsBegun (strict v.order) b (frames_in h.fs) t x e event.width event.kind
 begun_in v b event t x e h fine = record {
@@ -288,39 +261,8 @@ module _ (v : OpenItems) (b : Bounds) (w : Width) (kind : EventKind) (t x : List
         at = at-as b e (t ++ spell m.item) (t ++ x) (close (frames_in h.fs)) (close (frames_in h.fs)) (ap (λ (y : List ℕ). t ++ y) same) refl m.at;
       }
 
-  string_ended : (is_text : Bool) (n : ℕ) → n ≡ 0 → IsBegun (strict v.order) b (frames_in h.fs) t x e w (string_kind is_text (Some n)) → HasEnded v b e (t ++ x)
-  string_ended is_text n z i =
-      let due = string-due (strict v.order) b (frames_in h.fs) t x e w is_text n i in
-      let reads : ReadsPayload b (close (frames_in h.fs)) (t ++ x) n [] [] None None e = record {
-        bytes = [];
-        consumed = tt;
-        count = sym z;
-        are_bytes = tt;
-        grows = refl;
-        at = at-as b e (t ++ x) ((t ++ x) ++ []) (payload false (string_major is_text) n (frames_in h.fs)) (close (frames_in h.fs)) (sym (append-nil (t ++ x))) (ap (λ (k : ℕ). payload false (string_major is_text) k (frames_in h.fs)) z) due;
-      } in
-      read_ended _ (reads-string (strict v.order) b (frames_in h.fs) t x e w is_text n i [] None None e reads (λ u. IsUtf8-nil)).0
-
 pub leaf_ended : (v : OpenItems) (b : Bounds) (w : Width) (kind : EventKind) (t x : List ℕ) (e : ItemEventsView) → (h : HasBegunIn v b w kind t x e) → IsLeaf kind → HasEnded v b e (t ++ x)
-leaf_ended v b w (kinds.Unsigned n) t x e h l = read_ended v b w (kinds.Unsigned n) t x e h _ (reads-unsigned (strict v.order) b (frames_in h.fs) t x e w n None h.begun)
-leaf_ended v b w (kinds.Negative n) t x e h l = read_ended v b w (kinds.Negative n) t x e h _ (reads-negative (strict v.order) b (frames_in h.fs) t x e w n None h.begun)
-leaf_ended v b w (kinds.Simple n) t x e h l = read_ended v b w (kinds.Simple n) t x e h _ (reads-simple (strict v.order) b (frames_in h.fs) t x e w n None h.begun)
-leaf_ended v b w (kinds.Bytes (Some n)) t x e h l = string_ended v b w (kinds.Bytes (Some n)) t x e h false n l h.begun
-leaf_ended v b w (kinds.Text (Some n)) t x e h l = string_ended v b w (kinds.Text (Some n)) t x e h true n l h.begun
-leaf_ended v b w (kinds.Array (Some n)) t x e h l =
-    read_ended v b w (kinds.Array (Some n)) t x e h _
-    (array-whole (strict v.order) b (frames_in h.fs) t x w n (Some n) _ None None e (starts-array (strict v.order) b (frames_in h.fs) t x w (Some n) None e h.begun) (ap Some l))
-leaf_ended v b w (kinds.Map (Some n)) t x e h l =
-    read_ended v b w (kinds.Map (Some n)) t x e h _
-    (map-whole (strict v.order) b (frames_in h.fs) t x w n (Some n) _ None None e (starts-with (strict v.order) b (frames_in h.fs) t x w n None e h.begun (λ ks. Unit {0}) tt).0 (ap Some l))
-leaf_ended v b w (kinds.Tag n) t x e h l = absurd l
-leaf_ended v b w (kinds.Bytes None) t x e h l = absurd (no_openers v.order b (frames_in h.fs) t x e w majors.Bytes 0 (kinds.Bytes None) refl h.begun.proper h.begun)
-leaf_ended v b w (kinds.Text None) t x e h l = absurd (no_openers v.order b (frames_in h.fs) t x e w majors.Text 0 (kinds.Text None) refl h.begun.proper h.begun)
-leaf_ended v b w (kinds.Array None) t x e h l = absurd (no_openers v.order b (frames_in h.fs) t x e w majors.Array 0 (kinds.Array None) refl h.begun.proper h.begun)
-leaf_ended v b w (kinds.Map None) t x e h l = absurd (no_openers v.order b (frames_in h.fs) t x e w majors.Map 0 (kinds.Map None) refl h.begun.proper h.begun)
-leaf_ended v b w (kinds.Chunk n) t x e h l = absurd h.begun.taking
-leaf_ended v b w (kinds.Piece n) t x e h l = absurd h.begun.taking
-leaf_ended v b w kinds.End t x e h l = absurd (h.begun.item refl)
+leaf_ended v b w kind t x e h l = let r = leaf_reads v.order b (frames_in h.fs) t x e w None kind h.begun l in read_ended v b w kind t x e h r.0 r.1
 
 -- ---- a string opens
 
@@ -352,80 +294,28 @@ string_begun v new b w kind t x e is_text n h is some same_order same_keys left 
 
 -- ---- a container opens
 
-deeper : (b : Bounds) (fs : List Frame) → length (frames_in fs) < b.depth → (d : ℕ) × (suc (length (from_outside fs) + d) ≡ b.depth)
-deeper b fs l = (b.depth - suc (length fs), omega (arith, l, frames_length fs, outside_length fs))
-
-opened_in : (v new : OpenItems) (b : Bounds) (f : Frame) (fs : List Frame) (t x : List ℕ) (e : ItemEventsView) → new.order ≡ v.order → new.left ≡ v.left → v.left ≡ 0 → AreOpen (strict v.order) b.depth (from_outside (f ∷ fs))
-    → AreOpenDistinct (strict v.order) 0 (from_outside fs) → AreDistinct (strict v.order) (open_keys (length (bytes_before fs)) f) → IsKept (seen new.keys) (f ∷ fs) [] → t ≡ bytes_before fs → before f ≡ x
-    → IsAt b e (t ++ x) (at_item (frames_in (f ∷ fs))) → Stands new b e (t ++ x)
-opened_in v new b f fs t x e same_order same_left none are distinct keys kept taken bytes_are at = inl (record {
-  fs = f ∷ fs;
-  around = around_as v.order new b (f ∷ fs) (sym same_order) are (distinct_snoc (from_outside fs) f (strict v.order) 0 (length (bytes_before fs)) (omega arith) distinct keys);
-  none = same_left ∙ none;
+opened_in : (v new : OpenItems) (b : Bounds) (w : Width) (kind : EventKind) (t x : List ℕ) (e : ItemEventsView) (h : HasBegunIn v b w kind t x e) (f : Frame) → new.order ≡ v.order → new.left ≡ v.left → HasOpened v.order b h.fs t x e f
+    → IsKept (seen new.keys) (f ∷ h.fs) [] → Stands new b e (t ++ x)
+opened_in v new b w kind t x e h f same_order same_left m kept = inl (record {
+  fs = f ∷ h.fs;
+  around = around_as v.order new b (f ∷ h.fs) (sym same_order) m.are m.distinct;
+  none = same_left ∙ h.none;
   kept = kept;
-  taken = ap (λ (y : List ℕ). y ++ x) taken ∙ ap (λ (y : List ℕ). bytes_before fs ++ y) (sym bytes_are) ∙ sym (before_more fs f);
-  at = at;
+  taken = ap (λ (y : List ℕ). y ++ x) h.taken ∙ ap (λ (y : List ℕ). bytes_before h.fs ++ y) (sym m.head_is) ∙ sym (before_more h.fs f);
+  at = m.at;
 })
 
 pub other_begun : (v new : OpenItems) (b : Bounds) (w : Width) (kind : EventKind) (t x : List ℕ) (e : ItemEventsView) → HasBegunIn v b w kind t x e → IsOther kind → new.order ≡ v.order → new.left ≡ v.left
     → ((f : Frame) (fs : List Frame) (p : List ℕ) → due_of f ≡ Member → IsKept (seen v.keys) fs p → before f ≡ p → IsKept (seen new.keys) (f ∷ fs) []) → Stands new b e (t ++ x)
-other_begun v new b w (kinds.Array (Some zero)) t x e h l same_order same_left step = absurd (omega (arith, l))
-other_begun v new b w (kinds.Array (Some (suc more))) t x e h l same_order same_left step =
-    let o = v.order in
-    let i = definite b.depth (frames_in h.fs) majors.Array w (suc more) x h.begun.next (proper-definite w h.begun.proper) h.begun.taking in
-    let f = a_member w no_spellings (zeros more) in
-    let d = deeper b h.fs i.follows.0 in
-    let clean : Never (OfCount (strict o) (length (bytes_before h.fs)) majors.Array w (suc more)) = subst (λ (y : List ℕ). Never (OfCount (strict o) (length y) majors.Array w (suc more))) h.taken h.begun.clean in
-    let bytes_are : before f ≡ x = append-nil (head majors.Array w (0 + suc (spellings_count (zeros more)))) ∙ ap (λ (n : ℕ). head majors.Array w n) (omega (arith, zeros_count more)) ∙ sym i.bytes_are in
-    opened_in v new b f h.fs t x e same_order same_left h.none (array_opens (strict o) b.depth (from_outside h.fs) w more d.0 h.around.are d.1 (open_or w (suc more) i.holds) clean) h.around.distinct (λ c y. y)
-    (step f h.fs x refl h.kept bytes_are) h.taken bytes_are
-    (at-as b e (t ++ x) (t ++ x) h.begun.next (at_item (frames_in (f ∷ h.fs))) refl (i.follows.1 ∙ ap (λ (n : ℕ). at_item (counted n ∷ frames_in h.fs)) (sym (zeros_count more))) h.begun.at)
-other_begun v new b w (kinds.Tag n) t x e h l same_order same_left step =
-    let o = v.order in
-    let i = definite b.depth (frames_in h.fs) majors.Tag w n x h.begun.next (never-open b.depth (frames_in h.fs) majors.Tag w n x h.begun.next tt h.begun.taking) h.begun.taking in
-    let f = tagged w n in
-    let d = deeper b h.fs i.follows.0 in
-    let clean : Never (OfHead (strict o) (length (bytes_before h.fs)) majors.Tag w n) =
-    subst (λ (y : List ℕ). Never (OfHead (strict o) (length y) majors.Tag w n)) h.taken (λ c g. h.begun.clean c (head-count (strict o) (length t) majors.Tag w n c (is-definite w n i.holds) g)) in
-    opened_in v new b f h.fs t x e same_order same_left h.none (tag_opens (strict o) b.depth (from_outside h.fs) w n d.0 h.around.are d.1 i.holds clean) h.around.distinct (λ c y. y) (step f h.fs x refl h.kept (sym i.bytes_are)) h.taken
-    (sym i.bytes_are) (at-as b e (t ++ x) (t ++ x) h.begun.next (at_item (frames_in (f ∷ h.fs))) refl i.follows.1 h.begun.at)
-other_begun v new b w (kinds.Array None) t x e h l same_order same_left step = absurd l
-other_begun v new b w (kinds.Unsigned n) t x e h l same_order same_left step = absurd l
-other_begun v new b w (kinds.Negative n) t x e h l same_order same_left step = absurd l
-other_begun v new b w (kinds.Simple n) t x e h l same_order same_left step = absurd l
-other_begun v new b w (kinds.Bytes n) t x e h l same_order same_left step = absurd l
-other_begun v new b w (kinds.Text n) t x e h l same_order same_left step = absurd l
-other_begun v new b w (kinds.Chunk n) t x e h l same_order same_left step = absurd l
-other_begun v new b w (kinds.Piece n) t x e h l same_order same_left step = absurd l
-other_begun v new b w (kinds.Map n) t x e h l same_order same_left step = absurd l
-other_begun v new b w kinds.End t x e h l same_order same_left step = absurd l
+other_begun v new b w kind t x e h l same_order same_left step =
+    let (f, due, m) = other_opens v.order b h.fs t x e w h.around.are h.around.distinct h.taken kind h.begun l in
+    opened_in v new b w kind t x e h f same_order same_left m (step f h.fs x due h.kept m.head_is)
 
 pub map_begun : (v new : OpenItems) (b : Bounds) (w : Width) (kind : EventKind) (t x : List ℕ) (e : ItemEventsView) → HasBegunIn v b w kind t x e → IsMap kind → new.order ≡ v.order → new.left ≡ v.left
     → ((w : Width) (u : Spelling) (es : SpelledEntries) (fs : List Frame) (p : List ℕ) → IsKept (seen v.keys) fs p → before (a_key w no_entries u es) ≡ p → IsKept (seen new.keys) (a_key w no_entries u es ∷ fs) []) → Stands new b e (t ++ x)
-map_begun v new b w (kinds.Map (Some zero)) t x e h l same_order same_left step = absurd (omega (arith, l))
-map_begun v new b w (kinds.Map (Some (suc more))) t x e h l same_order same_left step =
-    let o = v.order in
-    let i = definite b.depth (frames_in h.fs) majors.Map w (suc more) x h.begun.next (proper-definite w h.begun.proper) h.begun.taking in
-    let f = a_key w no_entries zero_item (zero_pairs more) in
-    let d = deeper b h.fs i.follows.0 in
-    let clean : Never (OfCount (strict o) (length (bytes_before h.fs)) majors.Map w (suc more)) = subst (λ (y : List ℕ). Never (OfCount (strict o) (length y) majors.Map w (suc more))) h.taken h.begun.clean in
-    let bytes_are : before f ≡ x = append-nil (head majors.Map w (0 + suc (entries_count (zero_pairs more)))) ∙ ap (λ (n : ℕ). head majors.Map w n) (omega (arith, pairs_count more)) ∙ sym i.bytes_are in
-    let twice : suc more + suc more ≡ suc (suc (more + more)) = omega arith in
-    let state : expect (suc more + suc more) (frames_in h.fs) ≡ at_item (frames_in (f ∷ h.fs)) =
-    ap (λ (n : ℕ). expect n (frames_in h.fs)) twice ∙ ap (λ (n : ℕ). at_item (counted (suc (n + n)) ∷ frames_in h.fs)) (sym (pairs_count more)) in
-    opened_in v new b f h.fs t x e same_order same_left h.none (map_opens (strict o) b.depth (from_outside h.fs) w more d.0 h.around.are d.1 (open_or w (suc more) i.holds) clean) h.around.distinct (λ c y. y)
-    (step w zero_item (zero_pairs more) h.fs x h.kept bytes_are) h.taken bytes_are (at-as b e (t ++ x) (t ++ x) h.begun.next (at_item (frames_in (f ∷ h.fs))) refl (i.follows.1 ∙ state) h.begun.at)
-map_begun v new b w (kinds.Map None) t x e h l same_order same_left step = absurd l
-map_begun v new b w (kinds.Array n) t x e h l same_order same_left step = absurd l
-map_begun v new b w (kinds.Unsigned n) t x e h l same_order same_left step = absurd l
-map_begun v new b w (kinds.Negative n) t x e h l same_order same_left step = absurd l
-map_begun v new b w (kinds.Simple n) t x e h l same_order same_left step = absurd l
-map_begun v new b w (kinds.Bytes n) t x e h l same_order same_left step = absurd l
-map_begun v new b w (kinds.Text n) t x e h l same_order same_left step = absurd l
-map_begun v new b w (kinds.Chunk n) t x e h l same_order same_left step = absurd l
-map_begun v new b w (kinds.Piece n) t x e h l same_order same_left step = absurd l
-map_begun v new b w (kinds.Tag n) t x e h l same_order same_left step = absurd l
-map_begun v new b w kinds.End t x e h l same_order same_left step = absurd l
+map_begun v new b w kind t x e h l same_order same_left step =
+    let (u, es, m) = pairs_open v.order b h.fs t x e w h.around.are h.around.distinct h.taken kind h.begun l in
+    opened_in v new b w kind t x e h (a_key w no_entries u es) same_order same_left m (step w u es h.fs x h.kept m.head_is)
 
 -- there is room for it
 module _ (v : OpenItems) (b : Bounds) (w : Width) (kind : EventKind) (t x : List ℕ) (e : ItemEventsView) (h : HasBegunIn v b w kind t x e) where

@@ -43,11 +43,10 @@ use Rattle.cbor_reader.specs.inner.OpenItems.{AreRefused}
 use Rattle.cbor_reader.specs.inner.Path.{Standing, item_due, item_full, item_whole, settle, StandsAt}
 use Rattle.cbor_reader.specs.declared.rules.Rules.TheVariants.{Plain}
 use Rattle.cbor_reader.specs.inner.Front.{IsFrontRead, IsFrontUnread}
-use Rattle.cbor_reader.specs.inner.PlainFront.{IsDueAt, IsWholeAt, GoesOnOrNot, TakesNext, IsEncodedFront}
+use Rattle.cbor_reader.specs.inner.PlainFront.{IsStopped, IsDueAt, IsWholeAt, GoesOnOrNot, TakesNext, IsEncodedFront}
 use Rattle.cbor_reader.specs.inner.PlainItems.{AreApart, AreApartSoFar, HaveBegun, HaveBegunIn, HasItsPlace, CanTake, IsGiven, IsEndingAt}
 use Rattle.cbor_reader.specs.inner.PlainParts.{IsCome, leaf_value, IsLeafMajor, Begins, IsStill, ReadsPart}
 use Rattle.cbor_reader.specs.inner.Reading.{IsAt, IsUndecided, HasCause, IsBegun, IsNextHead, ReadsItem, StopsItem, StopsHead, string_value}
-use Rattle.cbor_reader.specs.inner.StrictFront.{IsStopped}
 use Rattle.cbor_reader.proofs.Arrays.{closes}
 use Rattle.cbor_reader.proofs.Fronts.{front-read, front-unread}
 use Rattle.cbor_reader.proofs.Heads.{open_or}

@@ -1,22 +1,21 @@
 -- Heads in their shortest form, and items without members.
-use Rattle.std.proofs.Common.{◌≡◌, ℕ, zero, suc, ◌+◌, ◌-◌, ◌*◌, ◌/◌, ◌%◌, ◌^◌, ◌<◌, ◌≤◌, ◌⊎◌, Bool, true, false, List, [], ◌∷◌, ◌++◌, length, take, drop, get_or, w64, refl, sym, ap, ◌∙◌, subst, inl, inr, arith, append-nil, length-append}
+use Rattle.std.proofs.Common.{◌≡◌, ℕ, ◌+◌, ◌-◌, ◌*◌, ◌^◌, ◌<◌, ◌≤◌, ◌⊎◌, List, ◌∷◌, ◌++◌, length, take, drop, get_or, w64, refl, sym, ap, ◌∙◌, subst, inl, inr, arith}
 use Rattle.std.specs.Prelude.{IsUtf8}
 use Rattle.std.specs.Int.{from_be_bytes}
 use Rattle.std.proofs.lemmas.Bool.{cases_lt}
 use Rattle.std.proofs.lemmas.Bool.Decides.{nat_tests}
-use Rattle.std.proofs.lemmas.List.{append_assoc, length-take-le, take-append-drop}
+use Rattle.std.proofs.lemmas.List.{append_assoc}
 use Rattle.byteorder.specs.Endian.{big_number, big_bytes}
-use Rattle.cbor_head.specs.Head.{Holds, IsSimple, head, with_argument, shortest}
+use Rattle.cbor_head.specs.Head.{IsSimple, head, with_argument, shortest}
 use Rattle.cbor_head.specs.Value.{AreBytes}
-use Rattle.cbor_head.specs.Spelling.{Spelling, unsigned, negative, bytes, text, array, a_map, simple, no_spellings, no_entries, spell}
+use Rattle.cbor_head.specs.Spelling.{unsigned, negative, bytes, text, array, a_map, simple, no_spellings, no_entries}
 use Rattle.cbor_head.specs.declared.order.KeyOrder.{KeyOrder}
-use Rattle.cbor_head.specs.declared.major.Major.TheVariants.{Unsigned, Negative, Bytes, Text, Simple}
+use Rattle.cbor_head.specs.declared.major.Major.TheVariants.{Bytes, Text}
 use Rattle.cbor_head.specs.declared.width.Width.{Width}
 use Rattle.cbor_head.specs.declared.width.Width.TheVariants.{Direct, One, Two, Four, Eight}
 use Rattle.cbor_head.proofs.HeadBack.{front_number}
-use Rattle.cbor_item.proofs.KeyFronts.{are_bytes}
 use Rattle.cbor_item.proofs.Normal.{Holds-shortest}
-use Rattle.cbor_reader.specs.inner.Quick.{IsFine, IsItemThen, IsShortest, IsShortestHead, IsLeaf}
+use Rattle.cbor_reader.specs.inner.Quick.{IsItemThen, IsShortest, IsShortestHead}
 
 -- a list of bytes, by place
 abbrev pub ByPlace : List ℕ → Type 0

@@ -1,11 +1,11 @@
 -- What open containers await, from one item to the next.
-use Rattle.std.proofs.Common.{◌≡◌, ℕ, zero, suc, ◌+◌, ◌-◌, ◌^◌, ◌<◌, ◌≤◌, Bool, true, false, IsTrue, List, [], ◌∷◌, ◌++◌, length, take, drop, refl, sym, ap, ◌∙◌, subst, inl, inr, arith, append-nil, length-append}
-use Rattle.std.specs.Prelude.{slice_range, reverse}
+use Rattle.std.proofs.Common.{◌≡◌, ℕ, suc, ◌+◌, ◌-◌, ◌^◌, ◌<◌, ◌≤◌, IsTrue, List, [], ◌∷◌, ◌++◌, length, take, drop, refl, sym, ap, ◌∙◌, subst, inl, inr, arith, append-nil, length-append}
+use Rattle.std.specs.Prelude.{slice_range}
 use Rattle.std.proofs.lemmas.List.{append_assoc, drop-drop, length-drop}
 use Rattle.std.proofs.Math.Seq.{take-append_seam}
 use Rattle.cbor_head.specs.Head.{Holds, head, shortest}
-use Rattle.cbor_head.specs.Spelling.{Spelling, Spellings, SpelledEntries, array, a_map, tag, no_spellings, a_spelling, no_entries, entry, spell, spell_all, spell_entries, spellings_count, entries_count, break_of, depth, depth_all, depth_entries}
-use Rattle.cbor_head.specs.Complaint.{strict, Complaint, Complains, OfCount}
+use Rattle.cbor_head.specs.Spelling.{Spelling, Spellings, SpelledEntries, array, a_map, tag, no_spellings, a_spelling, no_entries, entry, spell, spell_all, spell_entries, spellings_count, entries_count, break_of}
+use Rattle.cbor_head.specs.Complaint.{strict, Complaint, OfCount}
 use Rattle.cbor_head.specs.Order.{key_lt}
 use Rattle.cbor_head.specs.declared.order.KeyOrder.{KeyOrder}
 use Rattle.cbor_head.specs.declared.major.Major.{Major}
@@ -15,9 +15,7 @@ use Rattle.cbor_head.specs.declared.width.Width.TheVariants.{Indefinite}
 use Rattle.cbor_head.proofs.ReadLaws.{holds_or_open}
 use Rattle.cbor_item.specs.Front.{front_of}
 use Rattle.cbor_item.proofs.Normal.{Holds-shortest, break_of-shortest}
-use Rattle.cbor_reader.specs.inner.SliceChecks.{IsLastKey}
 use Rattle.cbor_reader.specs.inner.Quick.{IsFine, AreFine, ArePairsFine, IsBack, HasMembers, HasPairs, HasValue, last_key, key_until, IsFronted, Awaits, Chain, Ended, HasItem, IsItemThen, TakesKey}
-use Rattle.cbor_reader.specs.declared.quick.level.Due.{Due}
 use Rattle.cbor_reader.specs.declared.quick.level.Due.TheVariants.{Item, Key, Value}
 use Rattle.cbor_reader.specs.declared.quick.level.Level.{Level}
 use Rattle.cbor_reader.proofs.SliceItems.{key-fresh}

@@ -1,6 +1,6 @@
 -- What is told of the item at the front of a slice.
-use Rattle.std.proofs.Common.{◌≡◌, ℕ, List, [], take, refl, sym, ap, ◌∙◌, subst}
-use Rattle.std.specs.Prelude.{Some}
+use Rattle.std.proofs.Common.{◌≡◌, ℕ, List, take, refl, sym, ap, ◌∙◌, subst}
+use Rattle.std.specs.Prelude.{Some, Result, Ok, Err, MatchResult, IfOk, IfErr}
 use Rattle.cbor_head.specs.Limits.{Bounds, AreBounds}
 use Rattle.cbor_head.specs.Spelling.{Spelling, value_of}
 use Rattle.cbor_head.specs.Complaint.{strict}
@@ -11,28 +11,27 @@ use Rattle.cbor_head.proofs.OneVerdict.{one_verdict}
 use Rattle.cbor_events.specs.SliceView.{SliceEventsView}
 use Rattle.cbor_events.proofs.Slices.{verdict-within}
 use Rattle.cbor_reader.specs.Readers.{IsRead, IsUnread, of_verdict, of_reader, of_memory, IsCanonicalFront, HasNoCanonicalFront}
-use Rattle.cbor_reader.specs.inner.Reading.{StopsItem}
 use Rattle.cbor_events.specs.SliceView.{seen}
-use Rattle.cbor_reader.specs.inner.SliceChecks.{IsOfBytes, TakesItem}
+use Rattle.cbor_reader.specs.inner.SliceFront.{IsOver, IsStopped}
 use Rattle.cbor_reader.specs.declared.rules.Rules.TheVariants.{Strict}
 use Rattle.cbor_reader.proofs.Fronts.{front-read, front-unread}
 use Rattle.cbor_reader.proofs.StrictFronts.{strict_accepts}
 use Rattle.cbor_reader.proofs.WholeInputs.{front-canonical}
 
-module _ (o : KeyOrder) (b : Bounds) (input : List ℕ) (old new : SliceEventsView) (bounds : AreBounds b) (rest : old.rest ≡ take b.bytes input) where
+module _ (o : KeyOrder) (b : Bounds) (input part : List ℕ) (new : SliceEventsView) (bounds : AreBounds b) (within : part ≡ take b.bytes input) where
   -- a verdict on what is there within the limit
-  of-all : (a : Answer) → IsVerdict b.depth b.bytes (strict o) old.rest a → IsVerdict b.depth b.bytes (strict o) input a
-  of-all a v = verdict-within b.depth b.bytes (strict o) input a (subst (λ xs. IsVerdict b.depth b.bytes (strict o) xs a) rest v)
+  of-all : (a : Answer) → IsVerdict b.depth b.bytes (strict o) part a → IsVerdict b.depth b.bytes (strict o) input a
+  of-all a v = verdict-within b.depth b.bytes (strict o) input a (subst (λ xs. IsVerdict b.depth b.bytes (strict o) xs a) within v)
 
-  pub slice-read : (count : ℕ) → TakesItem (strict o) b [] [] [] old new → count ≡ new.machine.taken → IsRead b.depth b.bytes (strict o) input count
+  pub slice-read : (count : ℕ) → IsOver o part b new → count ≡ new.machine.taken → IsRead b.depth b.bytes (strict o) input count
   slice-read count k e =
-      let f = (front-read (Strict o) b (Some old.rest) (Some new.rest) (seen new) k.value count bounds k.reads e).read in
+      let f = (front-read (Strict o) b (Some part) (Some new.rest) (seen new) k.value count bounds k.reads e).read in
       record { item = f.read.item; verdict = of-all (accepted f.read.item) f.read.verdict; size = f.read.size }
 
-  pub slice-unread : (f : Refusal) → StopsItem (strict o) b [] [] [] (Some old.rest) (Some new.rest) f × IsOfBytes f → IsVerdict b.depth b.bytes (strict o) input (refused f)
-  slice-unread f s = go (front-unread (strict o) b (Some old.rest) (Some new.rest) f s.0).refused
+  pub slice-unread : (f : Refusal) → IsStopped o part b new f → IsVerdict b.depth b.bytes (strict o) input (refused f)
+  slice-unread f s = go (front-unread (strict o) b (Some part) (Some new.rest) f s.0).refused
     where
-      go : IsUnread b.depth b.bytes (strict o) old.rest f → IsVerdict b.depth b.bytes (strict o) input (refused f)
+      go : IsUnread b.depth b.bytes (strict o) part f → IsVerdict b.depth b.bytes (strict o) input (refused f)
       go (of_verdict v) = of-all (refused f) v
       go (of_reader p l m is v) = absurd (s.1.no_read (ap (λ (x : Refusal). x.reason) is))
       go (of_memory p l m is free) = absurd (s.1.no_memory (ap (λ (x : Refusal). x.reason) is, ap (λ (x : Refusal). x.place) is ∙ sym (ap (λ (x : Refusal). x.read) is)))
@@ -45,3 +44,14 @@ no-front d n o input f w = λ v b. apart (one_verdict d n (strict o) input (acce
   where
     apart : {s : Spelling} → accepted s ≡ refused f → ⊥
     apart e = cc e
+
+-- what is answered, clause by clause
+pub record Answers (d n : ℕ) (o : KeyOrder) (input : List ℕ) (r : Result ℕ Refusal) : Type 0 where
+  pub accepted_so : IfOk r (λ count. IsRead d n (strict o) input count)
+  pub canonical_so : IfOk r (λ count. IsCanonicalFront d n o input count)
+  pub refused_so : IfErr r (λ f. IsVerdict d n (strict o) input (refused f))
+  pub no_canonical : IfErr r (λ f. HasNoCanonicalFront d n o input)
+
+pub answers : (d n : ℕ) (o : KeyOrder) (input : List ℕ) (r : Result ℕ Refusal) → MatchResult r (λ count. IsRead d n (strict o) input count) (λ f. IsVerdict d n (strict o) input (refused f)) → Answers d n o input r
+answers d n o input (Ok count) h = record { accepted_so = h; canonical_so = read-front d n o input count h; refused_so = tt; no_canonical = tt }
+answers d n o input (Err f) h = record { accepted_so = tt; canonical_so = tt; refused_so = h; no_canonical = no-front d n o input f h }

@@ -1,5 +1,5 @@
 -- From one event to the next, by the strict rules.
-use Rattle.std.proofs.Common.{◌≡◌, ℕ, zero, suc, ◌-◌, ◌<◌, ◌⊎◌, false, true≢false, Option, None, List, [], ◌++◌, length, refl, sym, ap, ◌∙◌, subst, inl, inr, arith, append_assoc, append-nil}
+use Rattle.std.proofs.Common.{◌≡◌, ℕ, zero, suc, ◌-◌, ◌<◌, ◌⊎◌, false, true≢false, Option, None, List, [], ◌++◌, length, replicate, refl, sym, ap, ◌∙◌, subst, inl, inr, arith, append_assoc, append-nil}
 use Rattle.std.specs.Io.KnownBytes.{Consumes}
 use Rattle.std.proofs.KnownBytes.{Consumes-nil, Consumes-trans}
 use Rattle.std.proofs.lemmas.List.{length-append}
@@ -11,19 +11,21 @@ use Rattle.cbor_head.specs.Complaint.{strict, Complaint, Complains}
 use Rattle.cbor_head.specs.declared.major.Major.{Major}
 use Rattle.cbor_head.specs.declared.order.KeyOrder.{KeyOrder}
 use Rattle.cbor_head.specs.declared.reason.Refusal.{Refusal}
+use Rattle.cbor_head.specs.declared.width.Width.{Width}
 use Rattle.cbor_events.specs.Reasons.{IsEventReason}
 use Rattle.cbor_events.specs.inner.Automaton.{Frame, State, at_item, payload, done}
 use Rattle.cbor_events.specs.inner.State.{state_of}
 use Rattle.cbor_events.specs.inner.Taking.{IsTaking}
-use Rattle.cbor_events.specs.Trace.{Mark}
+use Rattle.cbor_events.specs.Trace.{Mark, a_byte, total}
 use Rattle.cbor_events.specs.Machine.{IsComplete}
-use Rattle.cbor_events.specs.Marks.{marks_of, mark_of}
-use Rattle.cbor_events.specs.ItemEvents.{ItemEventsView, StandsBetween, IsNextEvent, IsEnd, IsCut, IsTooLong, HasFormError, call}
+use Rattle.cbor_events.specs.Marks.{marks_of, mark_of, IsProper}
+use Rattle.cbor_events.specs.ItemEvents.{ItemEventsView, StandsBetween, IsNextEvent, IsEnd, IsCut, IsTooLong, HasFormError, Call, call, IsKept as IsPieceKept}
 use Rattle.cbor_events.specs.declared.event.Event.{Event}
 use Rattle.cbor_events.specs.declared.event.EventKind.{EventKind}
 use Rattle.cbor_events.specs.declared.event.EventKind.TheVariants as kinds
 use Rattle.cbor_events.specs.declared.position.Position.{Position}
 use Rattle.cbor_events.proofs.Frames.{position-done}
+use Rattle.cbor_events.proofs.Rows.{total-append}
 use Rattle.cbor_events.proofs.Taking.{nothing-taken}
 use Rattle.cbor_reader.specs.declared.open_items.OpenItems.{OpenItems}
 use Rattle.cbor_reader.specs.declared.rules.Rules.TheVariants.{Strict}
@@ -31,13 +33,13 @@ use Rattle.cbor_reader.specs.inner.Front.{IsFrontUnread}
 use Rattle.cbor_reader.specs.inner.LastKeys.{seen, IsKept}
 use Rattle.cbor_reader.specs.inner.OpenItems.{frames_in, bytes_before, Stands, HasHeadCome, HasPartCome}
 use Rattle.cbor_reader.specs.inner.Reading.{IsAt, IsFormRefusal, IsMemory, IsReached, IsUndecided, HasCause, string_major}
-use Rattle.cbor_reader.specs.inner.StrictFront.{GoesOn, HasCome, IsStopped, IsStrictlyRead}
+use Rattle.cbor_reader.specs.inner.StrictEvents.{GoesOn, HasCome, IsStopped, bounds_of, IsStrictlyRead}
 use Rattle.cbor_reader.proofs.Fronts.{front-read, front-unread}
 use Rattle.cbor_reader.proofs.Heads.{cut_head}
 use Rattle.cbor_reader.proofs.Items.{taking-some}
 use Rattle.cbor_reader.proofs.ByteLists.{bytes_join}
 use Rattle.cbor_reader.proofs.OpenHeads.{refused_part}
-use Rattle.cbor_reader.proofs.OpenItems.{done_position}
+use Rattle.cbor_reader.proofs.OpenEnds.{done_position}
 use Rattle.cbor_reader.proofs.OpenPieces.{string_judged}
 use Rattle.cbor_reader.proofs.OpenWalk.{none_open}
 use Rattle.cbor_reader.proofs.Payloads.{IsPiece, IsPayload, due-piece, none-come, part-fits, part-comes, part-cut}
@@ -45,6 +47,19 @@ use Rattle.cbor_reader.proofs.Scalars.{at-as}
 use Rattle.cbor_reader.proofs.Steps.{SameLimits, at-run, next-at, due-by, head-taken, stops, farther}
 
 -- ---- what an event can be
+
+piece_bytes : (kind : EventKind) → IsPiece kind → (kept piece bytes : List ℕ) → IsPieceKept kind kept piece bytes → piece ≡ bytes
+piece_bytes (kinds.Piece n) h kept piece bytes k = k
+piece_bytes (kinds.Unsigned n) h kept piece bytes k = absurd h
+piece_bytes (kinds.Negative n) h kept piece bytes k = absurd h
+piece_bytes (kinds.Simple n) h kept piece bytes k = absurd h
+piece_bytes (kinds.Bytes n) h kept piece bytes k = absurd h
+piece_bytes (kinds.Text n) h kept piece bytes k = absurd h
+piece_bytes (kinds.Chunk n) h kept piece bytes k = absurd h
+piece_bytes (kinds.Array n) h kept piece bytes k = absurd h
+piece_bytes (kinds.Map n) h kept piece bytes k = absurd h
+piece_bytes (kinds.Tag n) h kept piece bytes k = absurd h
+piece_bytes kinds.End h kept piece bytes k = absurd h
 
 payload_not_done : (m : Major) (n : ℕ) (fs : List Frame) → 0 < n → payload false m n fs ≡ done → ⊥
 payload_not_done m zero fs l e = absurd (omega (arith, l))
@@ -66,19 +81,21 @@ not_over b e t q a f c =
 module _ (v : OpenItems) (b : Bounds) (e new : ItemEventsView) (t : List ℕ) (from to : Option (List ℕ)) (same : SameLimits e.machine new.machine) (live : new.refusal ≡ None) where
   -- an event that is no part of a payload
   pub record HeadTold (ev : Event) : Type 0 where
-    pub bytes : List ℕ
-    pub some : 0 < length bytes
-    pub consumed : Consumes from to bytes
-    pub come : HasHeadCome v b ev t bytes new
+    pub marks : List Mark
+    pub between : StandsBetween e.machine t marks
+    pub next : IsNextEvent ev (call e new from to t marks)
+    pub some : 0 < length next.bytes
+    pub come : HasHeadCome v b ev t next.bytes new
 
   pub head_told : (ev : Event) → Stands v b e t → ((ms : List Mark) → StandsBetween e.machine t ms → IsNextEvent ev (call e new from to t ms)) → (IsPiece ev.kind → ⊥) → HeadTold ev
   head_told ev (inl h) next none =
       let n = next h.at.marks h.at.stands in
       let taking = head-taken b e new t (at_item (frames_in h.fs)) ev from to tt h.at n same in
       record {
-        bytes = n.bytes;
+        marks = h.at.marks;
+        between = h.at.stands;
+        next = n;
         some = taking-some b.depth (frames_in h.fs) (mark_of ev.width ev.kind) n.bytes _ taking;
-        consumed = n.consumed;
         come = record {
           fs = h.fs;
           around = h.around;
@@ -98,12 +115,15 @@ module _ (v : OpenItems) (b : Bounds) (e new : ItemEventsView) (t : List ℕ) (f
   head_told ev (inr (inr h)) next none = absurd ((next h.at.marks h.at.stands).unfinished (over_complete b e t h.at))
 
   -- a part of a payload
-  pub record PieceTold (piece : List ℕ) : Type 0 where
+  pub record PieceTold (ev : Event) (piece : List ℕ) : Type 0 where
+    pub marks : List Mark
+    pub between : StandsBetween e.machine t marks
+    pub next : IsNextEvent ev (call e new from to t marks)
+    pub bytes_are : next.bytes ≡ piece
     pub some : 0 < length piece
-    pub consumed : Consumes from to piece
     pub come : HasPartCome v b e t piece new
 
-  pub piece_told : (ev : Event) → Stands v b e t → ((u : List ℕ) (ms : List Mark) → StandsBetween e.machine u ms → IsNextEvent ev (call e new from to u ms)) → IsPiece ev.kind → PieceTold new.piece
+  pub piece_told : (ev : Event) → Stands v b e t → ((u : List ℕ) (ms : List Mark) → StandsBetween e.machine u ms → IsNextEvent ev (call e new from to u ms)) → IsPiece ev.kind → PieceTold ev new.piece
   piece_told ev (inl h) next is =
       let n = next t h.at.marks h.at.stands in
       absurd (no_piece ev.kind is _ _ (head-taken b e new t (at_item (frames_in h.fs)) ev from to tt h.at n same))
@@ -128,9 +148,13 @@ module _ (v : OpenItems) (b : Bounds) (e new : ItemEventsView) (t : List ℕ) (f
       let fits = part-fits b false m (frames_in h.fs) t v.left [] [] from from e v.left k h.some ev to new same n in
       let more = part-comes b false m (frames_in h.fs) t v.left [] [] from from e v.left k h.some ev to new same n new.piece live refl in
       let it : more.p ≡ new.piece = sym more.grows in
+      let here = next t h.at.marks h.at.stands in
       record {
+        marks = h.at.marks;
+        between = h.at.stands;
+        next = here;
+        bytes_are = sym (piece_bytes ev.kind is e.piece new.piece here.bytes here.piece_is);
         some = fits.0;
-        consumed = subst (Consumes from to) it more.consumed;
         come = record {
           due = h;
           some = fits.0;
@@ -141,20 +165,20 @@ module _ (v : OpenItems) (b : Bounds) (e new : ItemEventsView) (t : List ℕ) (f
       }
 
   -- nothing more
-  pub end_told : Stands v b e t → ((ms : List Mark) → StandsBetween e.machine t ms → IsEnd (call e new from to t ms)) → HasCome v b new t from to
+  pub end_told : Stands v b e t → ((ms : List Mark) → StandsBetween e.machine t ms → IsEnd (call e new from to t ms)) → HasCome v b e new t from to
   end_told (inl h) next = absurd (not_over b e t _ h.at (λ g. cc g) (next h.at.marks h.at.stands).complete)
   end_told (inr (inl h)) next = absurd (not_over b e t _ h.at (payload_not_done (string_major v.is_text) v.left (frames_in h.fs) h.some) (next h.at.marks h.at.stands).complete)
   end_told (inr (inr h)) next =
       let n = next h.at.marks h.at.stands in
       let a = next-at b e new t t done h.at.marks h.at same live n.stands in
       let state : state_of new.machine.inner.position new.machine.inner.frames ≡ done = cc (sym (at-run b new t _ a) ∙ at-run b e t done h.at) in
-      record { consumed = n.consumed; over = record { item = h.item; spelled = h.spelled; within = h.within; clean = h.clean; none = h.none; kept = h.kept; taken = h.taken; at = at-as b new t t _ done refl state a } }
+      record { marks = h.at.marks; between = h.at.stands; end = n; over = record { item = h.item; spelled = h.spelled; within = h.within; clean = h.clean; none = h.none; kept = h.kept; taken = h.taken; at = at-as b new t t _ done refl state a } }
 
 -- ---- a refusal of the events
 
 module _ (v : OpenItems) (b : Bounds) (e new : ItemEventsView) (t : List ℕ) (from to : Option (List ℕ)) (f : Refusal) (same : SameLimits e.machine new.machine) (reason : IsEventReason f.reason) where
   pub refusal_told : Stands v b e t
-      → ((u : List ℕ) (ms : List Mark) → StandsBetween e.machine u ms → ¬ IsComplete e.machine × (IsCut f (call e new from to u ms) ⊎ IsTooLong f (call e new from to u ms) ⊎ HasFormError f (call e new from to u ms))) → IsStopped (strict v.order) b t from to f
+      → ((u : List ℕ) (ms : List Mark) → StandsBetween e.machine u ms → ¬ IsComplete e.machine × (IsCut f (call e new from to u ms) ⊎ IsTooLong f (call e new from to u ms) ⊎ HasFormError f (call e new from to u ms))) → IsStopped (strict v.order) b e t from to f
   refusal_told (inl h) next =
       let s = stops b e new t (at_item (frames_in h.fs)) from to f h.at same (next t h.at.marks h.at.stands).1 in
       let c = s.cut in
@@ -167,6 +191,7 @@ module _ (v : OpenItems) (b : Bounds) (e new : ItemEventsView) (t : List ℕ) (f
         cause = (c.place, c.refused);
       } in
       record {
+        unfinished = (next t h.at.marks h.at.stands).0;
         bytes = s.bytes;
         consumed = s.consumed;
         refused = refused_part v.order b h.fs h.around.are h.around.distinct s.bytes (t ++ s.bytes) to f (ap (λ (y : List ℕ). y ++ s.bytes) h.taken) s.read (subst (λ (y : List ℕ). HasCause (strict v.order) b (frames_in h.fs) y s.bytes to f) h.taken cause);
@@ -181,6 +206,7 @@ module _ (v : OpenItems) (b : Bounds) (e new : ItemEventsView) (t : List ℕ) (f
       let all : t ++ s.bytes ≡ y ++ (hd ++ (h.q ++ s.bytes)) =
       ap (λ (z : List ℕ). z ++ s.bytes) h.taken ∙ append_assoc y (hd ++ h.q) s.bytes ∙ ap (λ (z : List ℕ). y ++ z) (append_assoc hd h.q s.bytes) in
       record {
+        unfinished = (next t h.at.marks h.at.stands).0;
         bytes = s.bytes;
         consumed = s.consumed;
         refused = elim s.why [
@@ -202,73 +228,10 @@ module _ (v : OpenItems) (b : Bounds) (e new : ItemEventsView) (t : List ℕ) (f
         ];
       }
 
--- ---- what is answered
-
-pub head_answers : (v items : OpenItems) (b : Bounds) (e new : ItemEventsView) (t : List ℕ) (from to : Option (List ℕ)) (same : SameLimits e.machine new.machine) (live : new.refusal ≡ None) (ev : Event) (k : HeadTold v b e new t from to same live ev)
-    → Stands items b new (t ++ k.bytes) → GoesOn items b new t from to
-head_answers v items b e new t from to same live ev k s = record { bytes = k.bytes; some = k.some; consumed = k.consumed; stands = s }
-
--- ---- the whole
-
-pub record IsRunning (o : KeyOrder) (items : OpenItems) (b : Bounds) (e : ItemEventsView) (from now : Option (List ℕ)) : Type 0 where
-  pub order : items.order ≡ o
-  pub t : List ℕ
-  pub consumed : Consumes from now t
-  pub stands : Stands items b e t
-
-pub runs_first : (o : KeyOrder) (items : OpenItems) (b : Bounds) (e : ItemEventsView) (from : Option (List ℕ)) → items.order ≡ o → items.left ≡ 0 → IsKept (seen items.keys) [] [] → IsAt b e [] (at_item []) → IsRunning o items b e from from
-runs_first o items b e from order none kept at = record {
-  order = order;
-  t = [];
-  consumed = Consumes-nil from;
-  stands = inl (record { fs = []; around = record { are = none_open (strict items.order) b.depth; distinct = tt }; none = none; kept = kept; taken = refl; at = at });
-}
-
-pub runs_on : (o : KeyOrder) (old items : OpenItems) (b : Bounds) (e new : ItemEventsView) (from now to : Option (List ℕ)) → items.order ≡ old.order → (h : IsRunning o old b e from now) → GoesOn items b new h.t now to → IsRunning o items b new from to
-runs_on o old items b e new from now to same h g = record { order = same ∙ h.order; t = h.t ++ g.bytes; consumed = Consumes-trans from now to h.t g.bytes h.consumed g.consumed; stands = g.stands }
-
 pub at_of : (v : OpenItems) (b : Bounds) (e : ItemEventsView) (t : List ℕ) → Stands v b e t → (q : State) × IsAt b e t q
 at_of v b e t (inl h) = (_, h.at)
 at_of v b e t (inr (inl h)) = (_, h.at)
 at_of v b e t (inr (inr h)) = (_, h.at)
-
-pub runs_farther : (o : KeyOrder) (old items : OpenItems) (b : Bounds) (e new : ItemEventsView) (from now to : Option (List ℕ)) → (h : IsRunning o old b e from now) → GoesOn items b new h.t now to
-    → new.machine.bytes - new.machine.taken < e.machine.bytes - e.machine.taken
-runs_farther o old items b e new from now to h g =
-    let a = at_of old b e h.t h.stands in
-    let z = at_of items b new (h.t ++ g.bytes) g.stands in
-    farther b e new h.t (h.t ++ g.bytes) a.0 z.0 a.1 z.1 (omega (arith, g.some, length-append h.t g.bytes))
-
-pub runs_out : (o : KeyOrder) (old items : OpenItems) (b : Bounds) (e new : ItemEventsView) (from now to : Option (List ℕ)) (count : ℕ) → AreBounds b → items.order ≡ old.order → (h : IsRunning o old b e from now) → HasCome items b new h.t now to
-    → count ≡ new.machine.taken → IsStrictlyRead (strict o) b from to count
-runs_out o old items b e new from now to count l same h g c =
-    let x = g.over in
-    let all : Consumes from to (h.t ++ []) = Consumes-trans from now to h.t [] h.consumed g.consumed in
-    let order : items.order ≡ o = same ∙ h.order in
-    record {
-      value = value_of x.item;
-      read = front-read (Strict o) b from to new (value_of x.item) count l
-          (record {
-            item = x.item;
-            spelled = x.spelled;
-            within = omega (arith, x.within);
-            clean = subst (λ (p : KeyOrder). (c : Complaint) → Complains (strict p) 0 x.item c → ⊥) order x.clean;
-            taken = record { more = spell x.item; consumed = subst (Consumes from to) (append-nil h.t ∙ x.taken) all; are = refl };
-            value = refl;
-            at = at-as b new h.t (spell x.item) done done x.taken refl x.at;
-          })
-          c;
-    }
-
-pub runs_stop : (o : KeyOrder) (old : OpenItems) (b : Bounds) (e : ItemEventsView) (from now to : Option (List ℕ)) (f : Refusal) → (h : IsRunning o old b e from now) → IsStopped (strict old.order) b h.t now to f → IsFrontUnread (strict o) b from to f
-runs_stop o old b e from now to f h s =
-    front-unread (strict o) b from to f
-    (record {
-      bytes = h.t ++ s.bytes;
-      taken = record { more = h.t ++ s.bytes; consumed = Consumes-trans from now to h.t s.bytes h.consumed s.consumed; are = refl };
-      read = s.refused.read;
-      why = subst (λ (p : KeyOrder). (IsMemory f × IsReached b (h.t ++ s.bytes) × IsUndecided (strict p) b [] [] (h.t ++ s.bytes)) ⊎ HasCause (strict p) b [] [] (h.t ++ s.bytes) to f) h.order s.refused.why;
-    })
 
 pub live_of : (v : OpenItems) (b : Bounds) (e : ItemEventsView) (t : List ℕ) → Stands v b e t → e.refusal ≡ None
 live_of v b e t (inl h) = h.at.live
@@ -292,3 +255,28 @@ piece_is (kinds.Array n) h = absurd h
 piece_is (kinds.Map n) h = absurd h
 piece_is (kinds.Tag n) h = absurd h
 piece_is kinds.End h = absurd h
+
+-- ---- each event has a byte
+
+some_bytes : (n : ℕ) → 0 < n → 0 < total (replicate n a_byte)
+some_bytes zero l = l
+some_bytes (suc n) l = omega arith
+
+some_marks : (w : Width) (kind : EventKind) → IsProper w kind → 0 < total (marks_of w kind)
+some_marks w (kinds.Piece n) h = some_bytes n h.1
+some_marks w (kinds.Unsigned n) h = omega arith
+some_marks w (kinds.Negative n) h = omega arith
+some_marks w (kinds.Simple n) h = omega arith
+some_marks w (kinds.Bytes n) h = omega arith
+some_marks w (kinds.Text n) h = omega arith
+some_marks w (kinds.Chunk n) h = omega arith
+some_marks w (kinds.Array n) h = omega arith
+some_marks w (kinds.Map n) h = omega arith
+some_marks w (kinds.Tag n) h = omega arith
+some_marks w kinds.End h = omega arith
+
+pub event_some : (ev : Event) (c : Call) → total c.told ≡ length c.taken → (n : IsNextEvent ev c) → 0 < length n.bytes
+event_some ev c e n =
+    let some = some_marks ev.width ev.kind n.are.0 in
+    let all = n.stands.whole in
+    omega (arith, some, all, e, total-append c.told (marks_of ev.width ev.kind), length-append c.taken n.bytes)

@@ -41,3 +41,6 @@ pub front-canonical : (d n : ℕ) (o : KeyOrder) (from : Option (List ℕ)) (v :
 front-canonical d n o from v count k h e =
     some-so from (λ input. IsReadAs d n (strict o) input v count) (λ input. IsCanonicalFront d n o input k)
     (λ input i. subst (IsCanonicalFront d n o input) (sym e) (read-canonical d n o input count i.read)) h
+
+pub read-front-canonical : (d n : ℕ) (o : KeyOrder) (from : Option (List ℕ)) (count : ℕ) → IfSome from (λ input. IsRead d n (strict o) input count) → IfSome from (λ input. IsCanonicalFront d n o input count)
+read-front-canonical d n o from count h = some-so from (λ input. IsRead d n (strict o) input count) (λ input. IsCanonicalFront d n o input count) (λ input i. read-canonical d n o input count i) h

@@ -19,5 +19,6 @@ pub mod Quick
 pub mod Reading
 pub mod Rules
 pub mod SliceChecks
-pub mod StrictFront
+pub mod SliceFront
+pub mod StrictEvents
 pub mod TreeValues

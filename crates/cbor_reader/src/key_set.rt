@@ -11,9 +11,11 @@ ghost use Rattle.cbor_head.specs.declared.order.KeyOrder.TheVariants.{Bytewise};
 ghost use Rattle.cbor_reader.specs.inner.MapKeys.{HasBytes, IsPut, is_in};
 
 use arrayvec::ArrayVec;
-use cbor_item::SHORT_KEY;
 use std::alloc::{AllocError, Global};
 use std::collections::BTreeSet;
+
+// How many bytes of a key lie in the node of its set: as many as most keys have.
+const SHORT_KEY: usize = 16;
 
 /// The canonical bytes of keys. Those of short keys lie in the nodes of their set, so that no
 /// memory is taken for each and none is followed to compare two.

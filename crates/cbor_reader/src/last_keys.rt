@@ -12,7 +12,7 @@ ghost use Rattle.cbor_reader.specs.inner.LastKeys.{AnswersKeyEnd};
 ghost use Rattle.cbor_reader.specs.inner.LastKeys.{seen, with_key, due_of, still_open, ended_item};
 
 use crate::MOST_OPEN;
-use crate::slice_checker::rises;
+use crate::rises::rises;
 use arrayvec::ArrayVec;
 use cbor_head::KeyOrder;
 use std::alloc::{AllocError, Global};
@@ -83,11 +83,12 @@ impl LastKeys {
         self.bytes.len()
     }
 
-    // Whether what comes stands in a key.
-    pub(crate) fn is_inside(&self) -> bool
-        ensures { result ≡ (seen self.now).is_inside }
+    // Nothing is kept any more.
+    pub(crate) fn forget(&mut self)
+        ensures none { ((seen self.new).spans ≡ []) × ((seen self.new).bytes ≡ []) }
     {
-        self.is_inside
+        self.spans.clear();
+        self.bytes.clear();
     }
 
     // Keeps the next bytes of an item, where it stands in a key.

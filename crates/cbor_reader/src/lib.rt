@@ -2,7 +2,8 @@
 //!
 //! [`canonicalise`] answers the canonical bytes of an item (RFC 8949, section 4.2), [`read_tree`]
 //! reads one as a [`Tree`], [`read_strict`] and [`check_canonical`] accept canonical bytes alone,
-//! [`same_meaning`] compares two items, and [`Sequence`] reads one item after another (RFC 8742).
+//! [`StrictReader`] tells the events of these, [`same_meaning`] compares two items, and
+//! [`Sequence`] reads one item after another (RFC 8742).
 //! Whatever is refused has one refusal, with its place. [`laws`] and [`sequence_laws`] have no code
 //! to run: their contracts are the laws of these answers.
 //!
@@ -20,6 +21,7 @@
 //! ```
 #![tactic(auto)]
 
+mod ascii;
 mod built_array;
 mod built_item;
 mod built_map;
@@ -28,6 +30,7 @@ mod comparison;
 mod encoding;
 mod front;
 mod key_set;
+mod key_spans;
 mod last_keys;
 pub mod laws;
 mod map_keys;
@@ -39,13 +42,16 @@ mod plain_front;
 mod plain_items;
 mod plain_part;
 mod quick;
+mod rises;
 mod rules;
 mod sequence;
 mod sequence_items;
 pub mod sequence_laws;
 mod slice_builder;
-mod slice_checker;
+mod slice_front;
+mod slice_heads;
 mod slice_tree;
+mod strict_events;
 mod strict_front;
 mod strict_reader;
 mod strict_slice;
@@ -67,7 +73,7 @@ pub use comparison::{Side, same_meaning};
 pub use sequence::Sequence;
 pub use sequence_items::SequenceItems;
 pub use slice_tree::whole_tree;
-pub use strict_reader::read_strict;
+pub use strict_reader::{StrictReader, read_strict};
 pub use strict_slice::check_canonical;
 pub use tree_reader::read_tree;
 pub use valid_slice::check_valid;

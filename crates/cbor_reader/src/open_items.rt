@@ -4,9 +4,12 @@ ghost use Rattle.std.specs.Prelude.{◌≡◌, ◌<◌, ◌≤◌, ◌+◌, ◌^
 ghost use Rattle.std.specs.Prelude.{OnOk, MatchOption, MatchResult, IsUtf8};
 ghost use Rattle.std.specs.Str.Lossy.{utf8_valid_len};
 ghost use Rattle.cbor_head.specs.Head.{IsSimple, shortest_head};
+ghost use Rattle.cbor_head.specs.Complaint.{strict};
+ghost use Rattle.cbor_events.specs.Marks.{mark_of};
 ghost use Rattle.cbor_events.specs.TextCheck.{HasChecked};
 ghost use Rattle.cbor_reader.specs.inner.Frame.{Frame};
 ghost use Rattle.cbor_reader.specs.inner.LastKeys.{IsKept, seen};
+ghost use Rattle.cbor_reader.specs.inner.Reading.{IsFault};
 ghost use Rattle.cbor_reader.specs.inner.OpenItems.{IsItemEnded, AnswersEnd, IsHeadCome};
 ghost use Rattle.cbor_reader.specs.inner.OpenItems.{AnswersHead};
 ghost use Rattle.cbor_reader.specs.inner.OpenItems.{IsPartCome, AnswersPart, IsBegunIn};
@@ -14,10 +17,8 @@ ghost use Rattle.cbor_reader.specs.inner.OpenItems.{AnswersBegun};
 ghost use Rattle.cbor_reader.specs.inner.OpenItems.{IsSameString, IsBegunBy, short_head};
 
 use crate::last_keys::{Due, LastKeys};
-use crate::next_head::head_fault;
-use crate::rules::Rules;
 use cbor_events::{Event, EventKind, TextCheck};
-use cbor_head::{Head, KeyOrder, Major, Reason, Refusal};
+use cbor_head::{Head, KeyOrder, Major, Reason, Refusal, Width};
 use std::alloc::{AllocError, Global};
 
 /// The open containers, the last key of each map among them, and how far a string was read.
@@ -61,6 +62,14 @@ impl OpenItems {
         self.keys.kept()
     }
 
+    // Nothing is kept any more, where nothing more is read.
+    pub(crate) fn forget(&mut self)
+        ensures order { self.new.order ≡ self.old.order }
+        ensures none { ((seen self.new.keys).spans ≡ []) × ((seen self.new.keys).bytes ≡ []) }
+    {
+        self.keys.forget();
+    }
+
     // The head of the item that is due, as the events tell it, and how many containers are open
     // behind it.
     pub(crate) fn admit_head(
@@ -73,7 +82,7 @@ impl OpenItems {
         ensures order { self.new.order ≡ self.old.order }
         ensures answers { AnswersHead self.old self.new event.now «open» taken result }
     {
-        match head_fault(Rules::Strict(self.order), event) {
+        match head_fault(event) {
             Some(reason) => return Err(Refusal::new(reason, event.place, taken)),
             None => {}
         }
@@ -201,6 +210,29 @@ impl OpenItems {
                 Err(length) => { Err(Refusal::new(Reason::KeyOrder, taken - length as u64, taken)) }
             },
         }
+    }
+}
+
+// What the rules have against a head, in whichever order.
+fn head_fault(event: &Event) -> Option<Reason>
+    ensures { (o : KeyOrder) → MatchOption result
+        ((reason : Reason) → IsFault (strict o) (mark_of event.now.width event.now.kind) reason → ⊥)
+        (λ reason. IsFault (strict o) (mark_of event.now.width event.now.kind) reason) }
+{
+    let argument = match &event.kind {
+        EventKind::Unsigned(n) | EventKind::Negative(n) | EventKind::Chunk(n) | EventKind::Tag(n) =>
+            *n,
+        EventKind::Simple(simple) => u64::from(simple.number()),
+        EventKind::Bytes(count)
+        | EventKind::Text(count)
+        | EventKind::Array(count)
+        | EventKind::Map(count) => count.unwrap_or(0),
+        EventKind::Piece(_) | EventKind::End => return None,
+    };
+    match event.width {
+        Width::Indefinite => Some(Reason::Indefinite),
+        width if width == Head::shortest(Major::Unsigned, argument).width() => None,
+        _ => Some(Reason::NotShortest),
     }
 }
 

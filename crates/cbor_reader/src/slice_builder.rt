@@ -18,6 +18,7 @@ ghost use Rattle.cbor_reader.specs.inner.Levels.{Level, bytes_before, IsBuilding
 ghost use Rattle.cbor_reader.specs.inner.Levels.{IsEvent, HasEvent, IsFed, BuildsBegun};
 ghost use Rattle.cbor_reader.specs.inner.Levels.{TakesContent, IsBuiltFront};
 
+use crate::ascii::is_short_ascii;
 use crate::payload::check_text;
 use cbor_events::{SliceEvents, Token};
 use cbor_head::{KeyOrder, Limits, Major};
@@ -224,15 +225,17 @@ fn take_payload<'a>(
     if count == 0 {
         return Ok(&[]);
     }
-    match events.next() {
-        Token::Piece => {}
-        _ => return Err(Stopped),
-    }
-    let content = events.piece();
+    let front = events.rest();
+    let Some(content) = events.next_payload() else {
+        return Err(Stopped);
+    };
     if content.len() as u64 != count {
         return Err(Stopped);
     }
     if !text {
+        return Ok(content);
+    }
+    if is_short_ascii(front, content.len()) {
         return Ok(content);
     }
     match check_text(content, 0) {

@@ -6,8 +6,7 @@ ghost use Rattle.cbor_head.specs.Verdict.{IsVerdict, refused};
 ghost use Rattle.cbor_reader.specs.Readers.{IsRead, IsCanonicalFront, HasNoCanonicalFront};
 
 use crate::quick::quick_front;
-use crate::slice_checker::check_item;
-use cbor_events::SliceEvents;
+use crate::slice_front::check_front;
 use cbor_head::{KeyOrder, Limits, Refusal};
 
 /// How many bytes the item has that the slice begins with, where they are its canonical bytes in
@@ -31,26 +30,7 @@ pub fn check_canonical(bytes: &[u8], limits: Limits, order: KeyOrder) -> Result<
     if let Some(count) = quick_front(within(bytes, limits.bytes()), depth, order) {
         return Ok(count as u64);
     }
-    check_slowly(bytes, limits, order)
-}
-
-// The same, one event after another: it finds the refusal.
-#[cold]
-fn check_slowly(bytes: &[u8], limits: Limits, order: KeyOrder) -> Result<u64, Refusal>
-    ensures accepted { IfOk result
-        (λ count. IsRead limits.depth limits.bytes (strict order) bytes.now count) }
-    ensures canonical { IfOk result
-        (λ count. IsCanonicalFront limits.depth limits.bytes order bytes.now count) }
-    ensures refused { IfErr result
-        (λ f. IsVerdict limits.depth limits.bytes (strict order) bytes.now (refused f)) }
-    ensures no_canonical { IfErr result
-        (λ f. HasNoCanonicalFront limits.depth limits.bytes order bytes.now) }
-{
-    let mut events = SliceEvents::new(bytes, limits);
-    match check_item(&mut events, order) {
-        Ok(()) => Ok(events.taken()),
-        Err(refusal) => Err(refusal),
-    }
+    check_front(bytes, limits, order)
 }
 
 // The bytes within a limit.

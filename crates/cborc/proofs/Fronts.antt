@@ -1,19 +1,28 @@
 -- A verdict looks at no byte behind the limit: the front of an input, one byte longer than the limit, tells what the whole is.
-use Rattle.std.proofs.Common.{ℕ, ◌+◌, ◌≡◌, ◌<◌, ◌≤◌, List, ◌++◌, length, take, refl, sym, ap, ◌∙◌, arith, subst}
+use Rattle.std.proofs.Common.{ℕ, ◌+◌, ◌≡◌, ◌<◌, ◌≤◌, ◌⊎◌, inl, inr, Option, List, [], ◌∷◌, ◌++◌, length, take, refl, sym, ap, ◌∙◌, arith, subst}
 use Rattle.std.proofs.lemmas.List.{length-append, length-take, take_all, take-take}
 use Rattle.cbor_head.specs.Beginning.{IsLongestBeginning}
-use Rattle.cbor_head.specs.Complaint.{Rules, plain}
+use Rattle.cbor_head.specs.Complaint.{Rules, form, plain}
+use Rattle.cbor_head.specs.Value.{Value}
 use Rattle.cbor_head.specs.Spelling.{Spelling, spell}
-use Rattle.cbor_head.specs.Verdict.{Answer, accepted, refused, refusal, IsVerdict}
+use Rattle.cbor_head.specs.Verdict.{Answer, accepted, refused, refusal, Decides, IsFormError, IsVerdict}
 use Rattle.cbor_head.specs.declared.order.KeyOrder.{KeyOrder}
 use Rattle.cbor_head.specs.declared.reason.Reason.TheVariants.{CanonicalTooLong, Truncated}
 use Rattle.cbor_head.specs.declared.reason.Refusal.{Refusal}
 use Rattle.cbor_reader.specs.Canonicalise.{IsCanonicalOf, IsRefusal}
 use Rattle.cbor_reader.specs.Canonicalise as canonicalise
-use Rattle.cbor_reader.specs.Readers.{IsUnread}
+use Rattle.cbor_reader.specs.Readers.{IsUnread, IsReadAs}
 use Rattle.cbor_reader.specs.Readers as readers
+use Rattle.cbor_reader.specs.WholeItem.{IsWholeItem, IsItemRefusal}
+use Rattle.cbor_reader.specs.WholeItem as items
+use Rattle.cbor_diag.specs.Listing.{IsListing, IsStopped, IsListed, IsUnlisted}
+use Rattle.cbor_diag.specs.Listing as listing
+use Rattle.cbor_events.proofs.Form.{no-complaint}
 use Rattle.cborc.specs.Check.{IsWhole, IsNotWhole}
 use Rattle.cborc.specs.Check as check
+use Rattle.cborc.specs.Events.{IsFollowed, IsNotListed}
+use Rattle.cborc.specs.declared.fault.Fault.{Fault}
+use Rattle.cborc.specs.declared.fault.Fault.TheVariants as faults
 
 module _ (d n : ℕ) (whole : List ℕ) where
   same_limit : take n (take (n + 1) whole) ≡ take n whole
@@ -108,3 +117,87 @@ module _ (d n : ℕ) (whole : List ℕ) where
   is_not_whole r f (check.unread h) = check.unread (unread_whole r f h)
   is_not_whole r f (check.trailing size h l e) =
       check.trailing size (record { item = h.item; verdict = verdict_whole r (accepted h.item) h.verdict; size = h.size }) (omega (arith, l, no_longer)) e
+
+  -- ---- what `show` finds
+
+  pub is_all_of : (v : Value) → IsReadAs d n plain (take (n + 1) whole) v (length (take (n + 1) whole)) → IsReadAs d n plain whole v (length whole)
+  is_all_of v h =
+      let same = all (omega (arith, h.read.size, short plain h.read.item h.read.verdict)) in
+      subst (IsReadAs d n plain whole v) (ap length same) (record {
+        read = record { item = h.read.item; verdict = verdict_whole plain (accepted h.read.item) h.read.verdict; size = h.read.size };
+        value = h.value;
+      })
+
+  -- ---- what `events` finds
+
+  same_front : (k : ℕ) → k ≤ n + 1 → take k (take (n + 1) whole) ≡ take k whole
+  same_front k l = take-take k (n + 1) whole l
+
+  front_within : length (take (n + 1) whole) ≤ n + 1
+  front_within = omega (arith, length-take (n + 1) whole)
+
+  pub listed_whole : (old new : Option (List ℕ)) → IsListed d n (take (n + 1) whole) (length (take (n + 1) whole)) old new → IsListed d n whole (length whole) old new
+  listed_whole old new h =
+      let same = all (omega (arith, h.size, short form h.item h.verdict)) in
+      record {
+        item = h.item;
+        verdict = verdict_whole form (accepted h.item) h.verdict;
+        size = ap length (sym same) ∙ h.size;
+        written = h.written;
+      }
+
+  longest_within : (p : List ℕ) → IsLongestBeginning d (take n (take (n + 1) whole)) p → length p ≤ n
+  longest_within p l = omega (arith, ap length l.splits, length-append p l.rest, length-take n (take (n + 1) whole))
+
+  form_place : (p behind : List ℕ) (f : Refusal) → length p ≤ n → IsFormError d n p behind f → f.place ≤ n
+  form_place p (c ∷ rest) f l (reason, why, e) = omega (arith, l, ap (λ (x : Refusal). x.place) e)
+  form_place p [] f l (inl h) = omega (arith, ap (λ (x : Refusal). x.place) h.1)
+  form_place p [] f l (inr h) = omega (arith, l, ap (λ (x : Refusal). x.place) h.1)
+
+  place_within : (f : Refusal) → IsVerdict d n form (take (n + 1) whole) (refused f) → f.place ≤ n
+  place_within f v = by v.decides
+    where
+      by : Decides d n form v.p v.longest.rest v.item (refused f) → f.place ≤ n
+      by (inl (c, first, e)) = absurd (no-complaint 0 v.item c first.holds)
+      by (inr h) = form_place v.p v.longest.rest f (longest_within v.p v.longest) h.2
+
+  unlisted_whole : (f : Refusal) (old new : Option (List ℕ)) → IsUnlisted d n (take (n + 1) whole) f old new → f.read ≤ length (take (n + 1) whole)
+      → IsUnlisted d n whole f old new
+  unlisted_whole f old new (listing.of_verdict out v l w) h =
+      listing.of_verdict out (verdict_whole form (refused f) v)
+      (subst (λ (t : List ℕ). IsListing d t out) (same_front f.place (omega (arith, place_within f v))) l) w
+  unlisted_whole f old new (listing.of_reader out e v l w) h =
+      let same = same_front f.read (omega (arith, h, front_within)) in
+      listing.of_reader out e
+      (subst (λ (t : List ℕ). IsVerdict d n form t (refused (refusal Truncated f.read f.read))) same v)
+      (subst (λ (t : List ℕ). IsListing d t out) same l) w
+  unlisted_whole f old new (listing.of_writer out e l w) h =
+      listing.of_writer out e (subst (λ (t : List ℕ). IsStopped d t out) (same_front f.read (omega (arith, h, front_within))) l) w
+
+  followed_whole : (f : Refusal) (old new : Option (List ℕ)) → IsFollowed d n (take (n + 1) whole) old new f → IsFollowed d n whole old new f
+  followed_whole f old new h = record {
+    size = h.size;
+    listed = record {
+      item = h.listed.item;
+      verdict = verdict_whole form (accepted h.listed.item) h.listed.verdict;
+      size = h.listed.size;
+      written = h.listed.written;
+    };
+    followed = omega (arith, h.followed, no_longer);
+    is = h.is;
+  }
+
+  pub not_listed_whole : (old new : Option (List ℕ)) (fault : Fault) → IsNotListed d n (take (n + 1) whole) old new fault → IsNotListed d n whole old new fault
+  not_listed_whole old new (faults.Refused f) (inl (u, l)) = inl (unlisted_whole f old new u l, omega (arith, l, no_longer))
+  not_listed_whole old new (faults.Refused f) (inr h) = inr (followed_whole f old new h)
+  not_listed_whole old new faults.CannotPrint (f, u, l, e) = (f, unlisted_whole f old new u l, omega (arith, l, no_longer), e)
+  not_listed_whole old new _ h = absurd h
+
+  -- ---- what `compare` finds
+
+  pub whole_item : IsWholeItem d n (take (n + 1) whole) → take (n + 1) whole ≡ whole
+  whole_item (s, v) = all v.fits
+
+  pub item_refusal_whole : (f : Refusal) → IsItemRefusal d n (take (n + 1) whole) f → IsItemRefusal d n whole f
+  item_refusal_whole f (items.unread h e) = items.unread (unread_whole plain f h) e
+  item_refusal_whole f (items.trailing item v l e) = items.trailing item (verdict_whole plain (accepted item) v) (omega (arith, l, no_longer)) e

@@ -1,5 +1,5 @@
 -- The items of a sequence, counted one by one.
-use Rattle.std.proofs.Common.{ℕ, ◌+◌, ◌≡◌, ◌≤◌, Option, Some, List, [], ◌∷◌, ◌++◌, length, refl, sym, ap, arith, subst}
+use Rattle.std.proofs.Common.{ℕ, ◌+◌, ◌-◌, ◌≡◌, ◌≤◌, ◌∙◌, Option, Some, List, [], ◌∷◌, ◌++◌, length, refl, sym, ap, arith, subst}
 use Rattle.std.specs.Option.{IfSome}
 use Rattle.std.proofs.lemmas.List.{length-append}
 use Rattle.cbor_head.specs.Complaint.{Rules}
@@ -61,12 +61,26 @@ module _ (b : Bounds) (rules : Rules) (held : Option (List ℕ)) (input : List �
         some = l;
       }
 
-  pub refused_at : (to : Option (List ℕ)) (f : Refusal) → IsRefused rules b held to f → IsRefusedAt b.depth b.bytes rules input (count + 1) f
-  refused_at to f u = record {
+  taken_and_left : length (sequence_bytes (items_of h.given)) + length h.run.rest ≡ length input
+  taken_and_left = sym (length-append (sequence_bytes (items_of h.given)) h.run.rest) ∙ ap length h.run.bytes
+
+  left_is : (rest : List ℕ) → held ≡ Some rest → length rest ≡ length h.run.rest
+  left_is rest e = ap length (inside (sym e ∙ h.run.holds))
+    where
+      inside : {x y : List ℕ} → Some x ≡ Some y → x ≡ y
+      inside e = cc e
+
+  pub left_within : (rest : List ℕ) → held ≡ Some rest → length rest ≤ length input
+  left_within rest e = omega (arith, left_is rest e, taken_and_left)
+
+  pub refused_at : (rest : List ℕ) → held ≡ Some rest → (start : ℕ) → start ≡ length input - length rest → (to : Option (List ℕ)) (f : Refusal) → IsRefused rules b held to f
+      → IsRefusedAt b.depth b.bytes rules input (count + 1) start f
+  refused_at rest holds start is to f u = record {
     items = items_of h.given;
     rest = h.run.rest;
     starts = starts_so;
     index_is = omega (arith, h.count_is, items_count h.given);
+    start_is = omega (arith, is, left_is rest holds, taken_and_left);
     unread = subst (λ (x : Option (List ℕ)). IfSome x (λ rest. IsUnread b.depth b.bytes rules rest f)) h.run.holds u.unread;
     begun = λ x y. subst (λ (z : Option (List ℕ)). IfSome z (λ rest. ¬ EndsBefore b.bytes rest)) h.run.holds (u.begun x y);
   }

@@ -1,5 +1,5 @@
 -- What `compare` tells of two inputs.
-use Rattle.std.specs.Prelude.{ℕ, ◌≡◌, List, Option, codes}
+use Rattle.std.specs.Prelude.{ℕ, ◌≡◌, ◌⊎◌, List, Option, codes}
 use Rattle.std.specs.Io.KnownBytes.{Appends}
 use Rattle.cbor_head.specs.declared.reason.Reason.TheVariants as reasons
 use Rattle.cbor_head.specs.declared.reason.Refusal.{Refusal}
@@ -7,6 +7,9 @@ use Rattle.cbor_reader.specs.Comparing.{MeanTheSame, IsSideRefusal}
 use Rattle.cbor_reader.specs.WholeItem.{IsWholeItem}
 use Rattle.cbor_reader.specs.declared.comparison.Side.{Side}
 use Rattle.cbor_reader.specs.declared.comparison.Side.TheVariants.{Left, Right}
+use Rattle.cborc.specs.Folder.{Files}
+use Rattle.cborc.specs.Input.{IsInput, IsNoInput}
+use Rattle.cborc.specs.declared.command_line.Options.{Options}
 use Rattle.cborc.specs.declared.fault.Fault.{Fault}
 use Rattle.cborc.specs.declared.fault.Fault.TheVariants as faults
 use Rattle.cborc.specs.declared.status.Status.{Status}
@@ -29,3 +32,27 @@ IsUntold d n left right (faults.RightRefused f) = IsSideRefusal d n left right R
 IsUntold d n left right faults.Memory = (side : Side) × (f : Refusal) × IsSideRefusal d n left right side f × (f.reason ≡ reasons.Memory)
 IsUntold d n left right faults.CannotPrint = AreAccepted d n left right
 IsUntold d n left right _ = ⊥
+
+-- the inputs at two paths
+pub record AreInputs (held : Option Files) (left right : List ℕ) (options : Options) (first second : List ℕ) : Type 0 where
+  pub left_is : IsInput held left options.hex first
+  pub right_is : IsInput held right options.hex second
+
+-- both are accepted, and the status and the line tell whether they mean the same
+pub record AreCompared (options : Options) (left right : List ℕ) (held : Option Files) (before after : Option (List ℕ)) (status : Status) : Type 0 where
+  pub first : List ℕ
+  pub second : List ℕ
+  pub are : AreInputs held left right options first second
+  pub told : IsTold options.limits.depth options.limits.bytes first second before after status
+
+-- they are not, for this fault
+pub record AreUntold (options : Options) (left right : List ℕ) (held : Option Files) (fault : Fault) : Type 0 where
+  pub first : List ℕ
+  pub second : List ℕ
+  pub are : AreInputs held left right options first second
+  pub untold : IsUntold options.limits.depth options.limits.bytes first second fault
+
+-- Why nothing is told: there are both inputs, and one is refused or the line was not taken; or one of them is not there.
+abbrev pub AreNotCompared : Options → List ℕ → List ℕ → Option Files → Fault → Type 0
+AreNotCompared options left right held fault =
+    AreUntold options left right held fault ⊎ IsNoInput held left options.hex fault ⊎ IsNoInput held right options.hex fault

@@ -19,10 +19,10 @@ reason_fault f _ = faults.Refused f
 abbrev pub refusal_fault : Refusal → Fault
 refusal_fault f = reason_fault f f.reason
 
--- a fault, told of the item of this number of a sequence
-abbrev pub at_item : ℕ → Fault → Fault
-at_item index (faults.Refused f) = faults.RefusedItem index f
-at_item index fault = fault
+-- a fault, told of the item of this number of a sequence, which starts there in the input
+abbrev pub at_item : ℕ → ℕ → Fault → Fault
+at_item index start (faults.Refused f) = faults.RefusedItem index start f
+at_item index start fault = fault
 
 -- the fault of a side's refusal for this reason
 abbrev pub side_reason_fault : Side → Refusal → Reason → Fault
@@ -37,7 +37,7 @@ side_fault side f = side_reason_fault side f f.reason
 -- the status of a fault
 abbrev pub fault_status : Fault → Status
 fault_status (faults.Refused f) = Refused
-fault_status (faults.RefusedItem index f) = Refused
+fault_status (faults.RefusedItem index start f) = Refused
 fault_status (faults.LeftRefused f) = Refused
 fault_status (faults.RightRefused f) = Refused
 fault_status faults.NotText = Misused

@@ -1,9 +1,12 @@
 //! `check --seq`: whether a file is a sequence of items (RFC 8742).
 
-ghost use Rattle.std.specs.Prelude.{◌≡◌, ◌+◌, ◌^◌, ◌<◌, ℕ, List, length, IfOk, IfErr, None, true, false};
+ghost use Rattle.std.specs.Prelude.{◌≡◌, ◌+◌, ◌^◌, ◌<◌, ℕ, List, length, OnOk, IfOk, IfErr, None, true, false};
+ghost use Rattle.std.specs.Io.KnownBytes.{Appends};
 ghost use Rattle.cbor_reader.specs.Sequence.{IfGiven, IfRefused, is_last, IsAtEnd, IsRefused};
 ghost use Rattle.cborc.specs.Check.{rules_of};
-ghost use Rattle.cborc.specs.CheckSequence.{IsWholeSequence, IsRefusedAt, HasCounted};
+ghost use Rattle.cborc.specs.CheckSequence.{accepted_items, IsWholeSequence, IsRefusedAt, HasCounted};
+ghost use Rattle.cborc.specs.CheckSequence.{IsSequenceChecked, IsSequenceNotChecked};
+ghost use Rattle.cborc.specs.Folder.{KeepsFiles};
 
 use crate::command_line::{Accepted, Options};
 use crate::fault::Fault;
@@ -22,15 +25,30 @@ pub fn check_sequence<'a, F: Folder, O: Write>(
     source: &'a str,
     accepted: Accepted,
     options: Options,
-) -> Result<(), Fault<'a>> {
+) -> Result<(), Fault<'a>>
+    ensures told { OnOk result (IsSequenceChecked (rules_of accepted) options source.now
+        (F.held files.old) (O.contents out.old) (O.contents out.new)) }
+    ensures fault { IfErr result
+        (IsSequenceNotChecked (rules_of accepted) options source.now (F.held files.old)) }
+    ensures keeps { KeepsFiles (F.held files.old) (F.held files.new) }
+{
     let limits = options.limits;
     let bytes = input::read_all(alloc, files, source, options)?;
     match count_items(alloc, bytes.as_slice(), accepted, limits) {
-        Ok(count) => match writeln!(out, "accepted {count} items") {
-            Ok(()) => Ok(()),
-            Err(_) => Err(Fault::CannotPrint),
-        },
-        Err(RefusedItem { index, refusal }) => Err(Fault::of_item(index, refusal)),
+        Ok(count) => tell(out, count),
+        Err(item) => Err(Fault::of_item(item.index, item.start, item.refusal)),
+    }
+}
+
+// Writes the line of a sequence that is accepted, of so many items.
+fn tell<'a, O: Write>(out: &mut O, count: usize) -> Result<(), Fault<'a>>
+    ensures told { OnOk result
+        (Appends (O.contents out.old) (O.contents out.new) (accepted_items count)) }
+    ensures fault { IfErr result (λ fault. fault ≡ Fault.CannotPrint) }
+{
+    match writeln!(out, "accepted {count} items") {
+        Ok(()) => Ok(()),
+        Err(_) => Err(Fault::CannotPrint),
     }
 }
 
@@ -38,6 +56,8 @@ pub fn check_sequence<'a, F: Folder, O: Write>(
 #[derive(Clone, Copy)]
 struct RefusedItem {
     index: usize,
+    // Where it starts in the input.
+    start: usize,
     refusal: Refusal,
 }
 
@@ -51,18 +71,23 @@ fn count_items(
     ensures whole { IfOk result
         (IsWholeSequence limits.depth limits.bytes (rules_of accepted) bytes.now) }
     ensures refused { IfErr result (λ item. IsRefusedAt limits.depth limits.bytes
-        (rules_of accepted) bytes.now item.index item.refusal) }
+        (rules_of accepted) bytes.now item.index item.start item.refusal) }
 {
     has_a_length(bytes);
     let mut rest = bytes;
     let mut items = SequenceItems::new(alloc, limits);
     let mut count = 0;
+    let mut start = 0;
     while let Some(answer) = skip_item(&mut items, &mut rest, accepted) {
         match answer {
-            Ok(()) => count += 1,
+            Ok(()) => {
+                count += 1;
+                start = bytes.len() - rest.len();
+            }
             Err(refusal) => {
                 return Err(RefusedItem {
                     index: count + 1,
+                    start,
                     refusal,
                 });
             }

@@ -1,7 +1,8 @@
 //! The subcommand `compare`: whether the items in two files have the same value.
 
 ghost use Rattle.std.specs.Prelude.{IfOk, IfErr};
-ghost use Rattle.cborc.specs.Compare.{IsTold, IsUntold};
+ghost use Rattle.cborc.specs.Compare.{IsTold, IsUntold, AreCompared, AreNotCompared};
+ghost use Rattle.cborc.specs.Folder.{KeepsFiles};
 
 use crate::command_line::Options;
 use crate::fault::Fault;
@@ -22,7 +23,13 @@ pub fn compare<'a, F: Folder, O: Write>(
     left: &'a str,
     right: &'a str,
     options: &Options,
-) -> Result<Status, Fault<'a>> {
+) -> Result<Status, Fault<'a>>
+    ensures told { IfOk result (AreCompared options.now left.now right.now
+        (F.held files.old) (O.contents out.old) (O.contents out.new)) }
+    ensures fault { IfErr result
+        (AreNotCompared options.now left.now right.now (F.held files.old)) }
+    ensures keeps { KeepsFiles (F.held files.old) (F.held files.new) }
+{
     let first = input::read_item(alloc, files, left, *options)?;
     let second = input::read_item(alloc, files, right, *options)?;
     tell(

@@ -1,8 +1,9 @@
 //! The subcommand `events`: the listing of an item's events.
 
-ghost use Rattle.std.specs.Prelude.{length, IfOk, IfErr};
+ghost use Rattle.std.specs.Prelude.{length, OnOk, IfErr};
 ghost use Rattle.cbor_diag.specs.Listing.{IsListed};
-ghost use Rattle.cborc.specs.Events.{IsNotListed};
+ghost use Rattle.cborc.specs.Events.{IsNotListed, IsListedOf, IsNotListedOf};
+ghost use Rattle.cborc.specs.Folder.{KeepsFiles};
 
 use crate::command_line::Options;
 use crate::fault::Fault;
@@ -21,7 +22,13 @@ pub fn events<'a, F: Folder, O: Write>(
     out: &mut O,
     source: &'a str,
     options: Options,
-) -> Result<(), Fault<'a>> {
+) -> Result<(), Fault<'a>>
+    ensures listed { OnOk result (IsListedOf options source.now
+        (F.held files.old) (O.contents out.old) (O.contents out.new)) }
+    ensures fault { IfErr result (IsNotListedOf options source.now
+        (F.held files.old) (O.contents out.old) (O.contents out.new)) }
+    ensures keeps { KeepsFiles (F.held files.old) (F.held files.new) }
+{
     let limits = options.limits;
     let bytes = input::read_item(alloc, files, source, options)?;
     list(bytes.as_slice(), limits, out)
@@ -30,7 +37,7 @@ pub fn events<'a, F: Folder, O: Write>(
 // Writes the lines of the item that all the bytes are; the refusal is that of its form, then
 // `Trailing`.
 fn list<'a, W: Write>(bytes: &[u8], limits: Limits, out: &mut W) -> Result<(), Fault<'a>>
-    ensures listed { IfOk result (λ _. IsListed limits.depth limits.bytes bytes.now
+    ensures listed { OnOk result (IsListed limits.depth limits.bytes bytes.now
         (length bytes.now) (W.contents out.old) (W.contents out.new)) }
     ensures fault { IfErr result (IsNotListed limits.depth limits.bytes bytes.now
         (W.contents out.old) (W.contents out.new)) }

@@ -19,9 +19,16 @@ pub enum Fault<'a> {
     /// The bytes of the input are refused.
     #[error("refused {0}")]
     Refused(Refusal),
-    /// An item of the sequence in the input is refused: its number, from 1, and why.
-    #[error("item {0} refused {1}")]
-    RefusedItem(usize, Refusal),
+    /// An item of the sequence in the input is refused.
+    #[error("item {index} refused {refusal}")]
+    RefusedItem {
+        /// Which item, counted from 1.
+        index: usize,
+        /// The offset in bytes of its first byte in the input.
+        start: usize,
+        /// Why it is refused; places are offsets from its first byte.
+        refusal: Refusal,
+    },
     /// The bytes of the first of two inputs are refused.
     #[error("left refused {0}")]
     LeftRefused(Refusal),
@@ -55,19 +62,23 @@ impl<'a> Fault<'a> {
     {
         match self {
             Fault::Refused(_) => Status::Refused,
-            Fault::RefusedItem(_, _) => Status::Refused,
+            Fault::RefusedItem { .. } => Status::Refused,
             Fault::LeftRefused(_) | Fault::RightRefused(_) => Status::Refused,
             Fault::NotText => Status::Misused,
             _ => Status::Failed,
         }
     }
 
-    /// The fault of an item of a sequence, of this number, that is refused.
-    pub fn of_item(index: usize, refusal: Refusal) -> Fault<'a>
-        ensures { result ≡ at_item index (refusal_fault refusal) }
+    /// The fault of an item of a sequence, of this number and starting there, that is refused.
+    pub fn of_item(index: usize, start: usize, refusal: Refusal) -> Fault<'a>
+        ensures { result ≡ at_item index start (refusal_fault refusal) }
     {
         match Fault::from(refusal) {
-            Fault::Refused(refusal) => Fault::RefusedItem(index, refusal),
+            Fault::Refused(refusal) => Fault::RefusedItem {
+                index,
+                start,
+                refusal,
+            },
             fault => fault,
         }
     }

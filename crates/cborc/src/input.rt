@@ -1,17 +1,13 @@
 //! The bytes of an input.
 
-ghost use Rattle.std.specs.Prelude.{◌≡◌, ◌⊎◌, ◌+◌, IfOk, IfErr, Ok, Err, true, false};
-ghost use Rattle.std.specs.List.{filter};
-ghost use Rattle.hex.specs.Hex.{decode_of};
-ghost use Rattle.hex.specs.declared.error.FromHexError.TheVariants.{OutOfMemory};
+ghost use Rattle.std.specs.Prelude.{◌+◌, IfOk, IfErr, true};
 ghost use Rattle.cborc.specs.Folder.{KeepsFiles};
-ghost use Rattle.cborc.specs.Hex.{is_kept, is_white};
 ghost use Rattle.cborc.specs.Input.{IsInput, StartsInput, IsNoInput};
 
 use crate::command_line::Options;
 use crate::fault::Fault;
 use crate::folder::Folder;
-use hex::FromHexError;
+use crate::hex_text::decode_hex;
 use std::alloc::Global;
 
 /// The first bytes of the input at this path: as many as decide whether it is one item within the
@@ -78,21 +74,4 @@ fn read_digits<'a, F: Folder>(
         },
         Err(fault) => Err(Fault::of_reading(path, fault)),
     }
-}
-
-/// The bytes that two hex digits each spell, of either case; white space may stand anywhere.
-pub fn decode_hex(alloc: Global, mut text: Vec<u8>) -> Result<Vec<u8>, FromHexError>
-    ensures ok { IfOk result (λ bytes. decode_of (filter is_kept text.items) ≡ Ok bytes.items) }
-    ensures err { IfErr result (λ e. (e ≡ OutOfMemory)
-        ⊎ (decode_of (filter is_kept text.items) ≡ Err e)) }
-{
-    text.retain(|byte| !is_white(*byte));
-    hex::decode(alloc, text)
-}
-
-/// Whether hex text ignores the byte: a tab, a line feed, a carriage return or a space.
-pub fn is_white(byte: u8) -> bool
-    ensures { result ≡ is_white byte }
-{
-    matches!(byte, b'\t' | b'\n' | b'\r' | b' ')
 }

@@ -19,16 +19,15 @@ mod explanation;
 mod fault;
 mod folder;
 mod grammar;
+mod hex_text;
 mod input;
 mod memory;
 mod run;
 mod show;
 mod status;
-mod surroundings;
 #[cfg(test)]
 mod tests;
 mod visible;
-mod way;
 
 use crate::disk::Disk;
 use crate::fault::Fault;

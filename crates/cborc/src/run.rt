@@ -1,8 +1,10 @@
 //! The program, over any folder and any two outputs.
 
-ghost use Rattle.std.specs.Prelude.{◌≡◌, ◌≢◌, ◌≤◌, ◌⊎◌, Ok, Err};
+ghost use Rattle.std.specs.Prelude.{◌≡◌, ◌≢◌, ◌≤◌, ◌⊎◌, Ok, Err, OnErr, IfOk, IfErr};
 ghost use Rattle.clap.specs.Words.{kind_of};
+ghost use Rattle.cborc.specs.Answer.{IsDone, IsNotDone};
 ghost use Rattle.cborc.specs.Fault.{end_status, status_number};
+ghost use Rattle.cborc.specs.Folder.{KeepsFiles};
 
 use crate::canon::canon;
 use crate::check::check;
@@ -114,42 +116,63 @@ pub fn end<E: Write>(ended: Result<Status, Fault<'_>>, err: &mut E) -> u8
     status as u8
 }
 
+// Does what is asked for.
 fn answer<'a, F: Folder, O: Write>(
     alloc: Global,
     request: &Request<'a>,
     files: &mut F,
     out: &mut O,
-) -> Result<Status, Fault<'a>> {
+) -> Result<Status, Fault<'a>>
+    ensures done { IfOk result (IsDone request.now (F.held files.old) (F.held files.new)
+        (O.contents out.old) (O.contents out.new)) }
+    ensures fault { IfErr result (IsNotDone request.now (F.held files.old)
+        (O.contents out.old) (O.contents out.new)) }
+    ensures untouched { OnErr result (KeepsFiles (F.held files.old) (F.held files.new)) }
+{
     match request {
         Request::Check {
             source,
             accepted,
             options,
-        } => check(alloc, files, out, source, *accepted, *options)?,
+        } => {
+            check(alloc, files, out, source, *accepted, *options)?;
+            Ok(Status::Accepted)
+        }
         Request::CheckSequence {
             source,
             accepted,
             options,
-        } => check_sequence(alloc, files, out, source, *accepted, *options)?,
+        } => {
+            check_sequence(alloc, files, out, source, *accepted, *options)?;
+            Ok(Status::Accepted)
+        }
         Request::Canon {
             source,
             output,
             order,
             options,
-        } => canon(alloc, files, out, source, *output, *order, *options)?,
+        } => {
+            canon(alloc, files, out, source, *output, *order, *options)?;
+            Ok(Status::Accepted)
+        }
         Request::Show {
             source,
             layout,
             options,
-        } => show(alloc, files, out, source, *layout, *options)?,
-        Request::Events { source, options } => events(alloc, files, out, source, *options)?,
+        } => {
+            show(alloc, files, out, source, *layout, *options)?;
+            Ok(Status::Accepted)
+        }
+        Request::Events { source, options } => {
+            events(alloc, files, out, source, *options)?;
+            Ok(Status::Accepted)
+        }
         Request::Compare {
             left,
             right,
             options,
-        } => return compare(alloc, files, out, left, right, options),
+        } => compare(alloc, files, out, left, right, options),
     }
-    Ok(Status::Accepted)
 }
 
 // Writes why the words give no request: help to `out`, a fault in them to `err`.

@@ -1,9 +1,10 @@
 //! The subcommand `show`: the diagnostic text of an item.
 
-ghost use Rattle.std.specs.Prelude.{◌≡◌, IfOk, IfErr};
+ghost use Rattle.std.specs.Prelude.{◌≡◌, OnOk, IfOk, IfErr};
 ghost use Rattle.cbor_head.specs.Complaint.{plain};
 ghost use Rattle.cborc.specs.Check.{IsNotWhole};
-ghost use Rattle.cborc.specs.Show.{IsTreeOf, IsShown};
+ghost use Rattle.cborc.specs.Show.{IsTreeOf, IsShown, IsShownOf, IsNotShown};
+ghost use Rattle.cborc.specs.Folder.{KeepsFiles};
 
 use crate::command_line::{Layout, Options};
 use crate::fault::Fault;
@@ -24,7 +25,12 @@ pub fn show<'a, F: Folder, O: Write>(
     source: &'a str,
     layout: Layout,
     options: Options,
-) -> Result<(), Fault<'a>> {
+) -> Result<(), Fault<'a>>
+    ensures shown { OnOk result (IsShownOf layout options source.now
+        (F.held files.old) (O.contents out.old) (O.contents out.new)) }
+    ensures fault { IfErr result (IsNotShown options source.now (F.held files.old)) }
+    ensures keeps { KeepsFiles (F.held files.old) (F.held files.new) }
+{
     let limits = options.limits;
     let bytes = input::read_item(alloc, files, source, options)?;
     let tree = tree_of(alloc, bytes.as_slice(), limits)?;
@@ -47,8 +53,8 @@ fn tree_of(alloc: Global, bytes: &[u8], limits: Limits) -> Result<Tree, Refusal>
 
 // Writes the text of the tree and a line feed.
 fn print<'a, O: Write>(tree: &Tree, layout: Layout, out: &mut O) -> Result<(), Fault<'a>>
-    ensures shown { IfOk result
-        (λ _. IsShown layout tree.now (O.contents out.old) (O.contents out.new)) }
+    ensures shown { OnOk result
+        (IsShown layout tree.now (O.contents out.old) (O.contents out.new)) }
     ensures fault { IfErr result (λ fault. fault ≡ Fault.CannotPrint) }
 {
     let printed = match layout {

@@ -3,6 +3,7 @@
 mod appendix;
 mod command_line;
 mod compare;
+mod cut_heads;
 mod disk;
 mod events;
 mod explained;
@@ -20,14 +21,16 @@ mod strict;
 use crate::folder::{FileFault, Folder};
 use crate::run::run;
 use std::alloc::{AllocError, Global};
-use std::io::Write;
+use std::io::{ErrorKind, Write};
 
 // A folder with one file to read, which is standard input too, and which keeps what is written. The
-// path `locked` fails, `full` wants memory, and any other file is not there.
+// path `locked` is not permitted, `folder` is a folder, `full` wants memory, and any other file is
+// not there.
 #[derive(Drop)]
 struct Shelf<'a> {
     bytes: &'a [u8],
     written: Vec<(String, Vec<u8>)>,
+    cause: Option<ErrorKind>,
 }
 
 impl<'a> Folder for Shelf<'a> {
@@ -35,20 +38,35 @@ impl<'a> Folder for Shelf<'a> {
         match path {
             "in" | "-" => Vec::from_slice(alloc, self.bytes).map_err(|_| FileFault::Memory),
             "full" => Err(FileFault::Memory),
-            _ => Err(FileFault::Failed),
+            _ => Err(self.fail(path)),
         }
     }
 
     fn write(&mut self, path: &str, bytes: &[u8]) -> Result<(), FileFault> {
         match path {
             "full" => Err(FileFault::Memory),
-            "locked" => Err(FileFault::Failed),
+            "locked" | "folder" | "absent/out" => Err(self.fail(path)),
             _ => self.keep(path, bytes).map_err(|_| FileFault::Memory),
         }
+    }
+
+    fn cause(&self) -> Option<ErrorKind> {
+        self.cause
     }
 }
 
 impl<'a> Shelf<'a> {
+    fn fail(&mut self, path: &str) -> FileFault {
+        self.cause = match path {
+            "locked" => Some(ErrorKind::PermissionDenied),
+            "folder" => Some(ErrorKind::IsADirectory),
+            "odd" => Some(ErrorKind::Other),
+            "silent" => None,
+            _ => Some(ErrorKind::NotFound),
+        };
+        FileFault::Failed
+    }
+
     fn keep(&mut self, path: &str, bytes: &[u8]) -> Result<(), AllocError> {
         let alloc = *self.written.allocator();
         let path = String::from_str(alloc, path)?;
@@ -118,6 +136,7 @@ fn run_with<O: Write, E: Write>(
     let mut files = Shelf {
         bytes,
         written: Vec::new(alloc),
+        cause: None,
     };
     let status = run(alloc, words(alloc, line)?, &mut files, out, err);
     let Shelf { written, .. } = files;

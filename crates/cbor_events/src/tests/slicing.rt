@@ -4,7 +4,7 @@ use super::refused::refused_rows;
 use super::tables::{accepted_rows, fronts_rows, not_valid_rows};
 use super::{bytes_of, event, events_of, limits};
 use crate::{EventKind, SliceEvents, Token};
-use cbor_head::{Limits, Reason, Refusal, Simple};
+use cbor_head::{Limits, Reason, Refusal, Simple, Width};
 use std::alloc::Global;
 use std::process::Abort;
 use std::test::Fail;
@@ -171,4 +171,30 @@ fn counts_what_is_open_in_a_slice(rt: HostRuntime) {
             (open, taken, piece)
         );
     }
+}
+
+// A payload that is there whole comes at once; where none is due, or not all of it is there, nothing
+// is taken.
+#[test]
+fn takes_payloads(rt: HostRuntime) {
+    // ["ab", 1, "ab"], of which the last byte is missing
+    let mut events = SliceEvents::new(b"\x83\x62ab\x01\x62a", limits(&rt, 2, 100));
+    assert!(rt; events.next_payload().is_none());
+    assert_eq!(rt; events.next(), Token::Array);
+    assert_eq!(rt; events.next(), Token::Text);
+    let payload = events.next_payload();
+    assert!(rt; payload == Some(b"ab"));
+    assert!(rt; events.piece() == b"ab");
+    assert_eq!(rt;
+        (events.place(), events.number(), events.taken()),
+        (2, 2, 4)
+    );
+    assert_eq!(rt; events.width(), Width::Direct);
+    assert!(rt; events.next_payload().is_none());
+    assert_eq!(rt; events.next(), Token::Unsigned);
+    assert_eq!(rt; events.next(), Token::Text);
+    assert!(rt; events.next_payload().is_none());
+    assert_eq!(rt; (events.next(), events.taken()), (Token::Piece, 7));
+    assert_eq!(rt; events.next(), Token::Refused);
+    assert!(rt; events.next_payload().is_none());
 }

@@ -1,7 +1,6 @@
 //! A finished member of what is open.
 
 ghost use Rattle.std.specs.Prelude.{ℕ, ◌≡◌, ◌≤◌, ◌++◌, ◌∷◌, [], IsTrue, OnOk, map, drop, length};
-ghost use Rattle.std.specs.Prelude.{vec_len, vec_capacity, ◌<◌};
 ghost use Rattle.cbor_head.specs.declared.order.KeyOrder.{KeyOrder};
 ghost use Rattle.cbor_item.specs.Pairs.{IsRising};
 ghost use Rattle.cbor_item.specs.declared.builder.frame.Shape.TheVariants.{Key};
@@ -11,6 +10,7 @@ ghost use Rattle.cbor_item.specs.inner.Laid.{KeepsRising};
 
 use crate::builder::frame::{Frame, Shape};
 use crate::builder::out::Out;
+use crate::builder::reserve::push;
 use crate::builder::span::{Span, compare, front};
 use cbor_head::KeyOrder;
 use std::alloc::AllocError;
@@ -60,10 +60,13 @@ pub(crate) fn complete(
     ensures rises { KeepsRising order out.now spans.old.items frame.old.shape
         frame.old.rises frame.new.rises }
 {
+    if let Shape::Array(n) = &mut frame.shape {
+        *n += 1;
+        return Ok(());
+    }
     let bytes = out.as_slice();
     match frame.shape {
-        Shape::Plain => {}
-        Shape::Array(n) => frame.shape = Shape::Array(n + 1),
+        Shape::Plain | Shape::Array(_) => {}
         Shape::Map(first) => frame.shape = Shape::Key(first, at, bytes.len()),
         Shape::Key(first, key, val) => {
             let span = Span {
@@ -79,26 +82,4 @@ pub(crate) fn complete(
         Shape::Content(_) => {}
     }
     Ok(())
-}
-
-// One more span. There mostly is room for it.
-#[inline(always)]
-fn push(spans: &mut Vec<Span>, span: Span) -> Result<(), AllocError>
-    ensures { OnOk result (spans.new.items ≡ spans.old.items ++ span ∷ []) }
-{
-    if spans.len() == spans.capacity() {
-        make_place(spans)?;
-    }
-    spans.push_reserved(span);
-    Ok(())
-}
-
-#[cold]
-#[inline(never)]
-fn make_place(spans: &mut Vec<Span>) -> Result<(), AllocError>
-    ensures same { spans.new.items ≡ spans.old.items }
-    ensures len { vec_len spans.new ≡ vec_len spans.old }
-    ensures place { OnOk result (vec_len spans.new < vec_capacity spans.new) }
-{
-    spans.reserve(1)
 }

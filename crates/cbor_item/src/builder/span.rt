@@ -6,7 +6,7 @@ ghost use Rattle.cbor_item.specs.inner.Front.{front_of, key_of, by_front, rank, 
 ghost use Rattle.cbor_head.specs.Order.{key_cmp};
 
 use crate::builder::out::Out;
-use crate::encoded_key::compare_keys;
+use crate::key_order::compare_keys;
 use cbor_head::KeyOrder;
 use std::cmp::Ordering;
 

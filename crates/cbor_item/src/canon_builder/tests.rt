@@ -1,4 +1,4 @@
-//! The builder: known bytes, and random items against the encoder of trees.
+//! The builder: known bytes, and random items by parts and as trees.
 
 ghost use Rattle.std.specs.Prelude.{◌≡◌, ◌<◌, IsTrue};
 ghost use Rattle.cbor_head.specs.Head.{IsSimple};
@@ -159,7 +159,8 @@ fn feed_pairs(builder: &mut CanonBuilder, pairs: &Vec<(Item, Item)>) -> Result<b
     Ok(true)
 }
 
-// The builder's bytes and the encoder's are the same, and both know whether keys repeat.
+// The parts of an item, with strings in pieces and arrays without their count, make the bytes that
+// it makes as a tree, and both ways tell whether keys repeat.
 fn agree(rt: &impl Abort, alloc: Global, item: Item, order: KeyOrder) -> Result<Item, Fail> {
     let mut builder = CanonBuilder::new(alloc, order);
     let distinct = feed(&mut builder, &item)?;
@@ -319,7 +320,7 @@ fn container(alloc: Global, numbers: &mut Numbers, inner: Item) -> Result<Item, 
 }
 
 #[test]
-fn random_items_as_the_encoder_has_them(rt: HostRuntime) -> Result<(), Fail> {
+fn random_items_as_their_trees_have_them(rt: HostRuntime) -> Result<(), Fail> {
     let alloc = rt.alloc();
     for seed in 0..200 {
         let mut numbers = Numbers { state: seed };

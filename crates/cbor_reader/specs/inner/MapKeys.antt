@@ -16,9 +16,9 @@ use Rattle.cbor_head.specs.declared.order.KeyOrder.TheVariants.{Bytewise}
 use Rattle.cbor_head.specs.declared.limits.TheConstants.{MAX_DEPTH}
 use Rattle.cbor_head.specs.declared.reason.Reason.{Reason}
 use Rattle.cbor_item.specs.declared.item.Item.{Item}
-use Rattle.cbor_item.specs.declared.key_bytes.TheConstants.{SHORT_KEY}
 use Rattle.cbor_item.specs.View.{view}
 use Rattle.cbor_reader.specs.declared.key_set.KeySet.{KeySet}
+use Rattle.cbor_reader.specs.declared.key_set.TheConstants.{SHORT_KEY}
 use Rattle.cbor_reader.specs.declared.map_keys.Keys.{Keys}
 use Rattle.cbor_reader.specs.declared.map_keys.Keys.TheVariants.{Distinct, Rising}
 

@@ -2,7 +2,7 @@
 use Rattle.std.specs.Prelude.{ℕ, ◌≡◌, ◌<◌, ◌++◌, Bool, true, false, List, [], ◌∷◌, length, map, Option, Result, MatchResult, IfSome, IsSome}
 use Rattle.std.specs.Io.KnownBytes.{Consumes}
 use Rattle.cbor_head.specs.Canonical.{canonical}
-use Rattle.cbor_head.specs.Complaint.{plain}
+use Rattle.cbor_head.specs.Complaint.{Rules, plain}
 use Rattle.cbor_head.specs.Limits.{Bounds}
 use Rattle.cbor_head.specs.Spelling.{Spelling, spell, value_of}
 use Rattle.cbor_head.specs.Value.{Value}
@@ -15,10 +15,10 @@ use Rattle.cbor_reader.specs.declared.plain_items.PlainItems.{PlainItems}
 use Rattle.cbor_reader.specs.inner.Front.{IsFrontRead}
 use Rattle.cbor_reader.specs.inner.Levels.{IsTaken, Level, frame, AreLevels, bytes_before, opens}
 use Rattle.cbor_reader.specs.inner.PlainItems.{AreApart, HaveBegun}
+use Rattle.cbor_reader.specs.inner.OpenItems.{AreRefused}
 use Rattle.cbor_reader.specs.inner.Path.{item_due, item_whole}
 use Rattle.cbor_reader.specs.inner.Reading.{IsAt}
 use Rattle.cbor_reader.specs.inner.TreeValues.{IsTreeAt}
-use Rattle.cbor_reader.specs.inner.StrictFront.{IsStopped}
 
 -- an item is due, behind the bytes t, and nothing read has a complaint
 pub record IsDueAt (v : PlainItems) (b : Bounds) (e : ItemEventsView) (t : List ℕ) : Type 0 where
@@ -58,6 +58,12 @@ pub record TakesNext (more : Bool) (old v : PlainItems) (b : Bounds) (e : ItemEv
   pub order : v.builder.order ≡ old.builder.order
   pub kept : IsSome old.tree → IsSome v.tree
   pub stands : GoesOnOrNot more v b e (t ++ bytes)
+
+-- it is refused, with these bytes taken
+pub record IsStopped (r : Rules) (b : Bounds) (t : List ℕ) (from to : Option (List ℕ)) (f : Refusal) : Type 0 where
+  pub bytes : List ℕ
+  pub consumed : Consumes from to bytes
+  pub refused : AreRefused r b (t ++ bytes) to f
 
 abbrev pub AnswersNextPart : PlainItems → PlainItems → ItemEventsView → ItemEventsView → Option (List ℕ) → Option (List ℕ) → Result Bool Refusal → Type 0
 AnswersNextPart old new e after from to result =

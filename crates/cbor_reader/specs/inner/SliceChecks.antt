@@ -1,23 +1,16 @@
 -- What the check of a slice answers of one item, which may lie within others, from its events.
-use Rattle.std.specs.Prelude.{◌≡◌, ◌≢◌, ℕ, ◌⊎◌, Bool, true, List, [], ◌∷◌, length, Some, Result, MatchResult, IsUtf8}
-use Rattle.std.specs.Borrow.{Bor}
+use Rattle.std.specs.Prelude.{◌≡◌, ◌≢◌, ℕ, Bool, true, List, [], ◌∷◌, Some, Result, MatchResult, IsUtf8}
 use Rattle.cbor_head.specs.Limits.{Bounds}
-use Rattle.cbor_head.specs.Value.{Value}
 use Rattle.cbor_head.specs.Spelling.{Spelling, spell}
-use Rattle.cbor_head.specs.Complaint.{Rules, Complaint, OfKey}
+use Rattle.cbor_head.specs.Complaint.{Rules}
 use Rattle.cbor_head.specs.declared.major.Major.{Major}
-use Rattle.cbor_head.specs.declared.width.Width.{Width}
 use Rattle.cbor_head.specs.declared.reason.Refusal.{Refusal}
 use Rattle.cbor_head.specs.declared.reason.Reason.TheVariants.{Read}
-use Rattle.cbor_events.specs.inner.Automaton.{Frame, State, at_item, close_string, payload}
-use Rattle.cbor_events.specs.inner.Taking.{Ends}
-use Rattle.cbor_events.specs.ItemEvents.{ItemEventsView}
+use Rattle.cbor_events.specs.inner.Automaton.{Frame, State, close_string, payload}
 use Rattle.cbor_events.specs.SliceEvents.{event_of}
 use Rattle.cbor_events.specs.SliceView.{SliceEventsView, seen}
-use Rattle.cbor_events.specs.declared.event.EventKind.{EventKind}
 use Rattle.cbor_events.specs.declared.token.Token.{Token}
-use Rattle.cbor_reader.specs.inner.Reading.{IsAt, IsMemory, IsHeadDue, IsNextHead, StopsHead, ReadsPayload, StopsPayload, IsBegun, ReadsItem, StopsItem}
-use Rattle.cbor_reader.specs.inner.NextKey.{RefusesKey}
+use Rattle.cbor_reader.specs.inner.Reading.{IsAt, IsMemory, IsHeadDue, IsNextHead, StopsHead, ReadsPayload, StopsPayload}
 
 -- no reader failed, and no memory was asked for
 pub record IsOfBytes (f : Refusal) : Type 0 where
@@ -41,49 +34,9 @@ ChecksPayload text old n new result =
     (b : Bounds) (chunk : Bool) (m : Major) (fs : List Frame) (t : List ℕ) → IsAt b (seen old) t (payload chunk m n fs)
     → MatchResult result (λ u. TakesPayload b (close_string chunk m fs) t n text old new) (λ f. StopsPayload b t n text (Some old.rest) (Some new.rest) f × IsOfBytes f)
 
--- some item is taken whole, and has no complaint
-pub record TakesItem (r : Rules) (b : Bounds) (fs : List Frame) (t x : List ℕ) (old new : SliceEventsView) : Type 0 where
-  pub value : Value
-  pub reads : ReadsItem r b fs t x (Some old.rest) (Some new.rest) (seen new) value
-
--- what is answered of the item that is due
-abbrev pub ChecksItem : Rules → SliceEventsView → SliceEventsView → Result (Unit {0}) Refusal → Type 0
-ChecksItem r old new result =
-    (b : Bounds) (fs : List Frame) (t : List ℕ) → IsAt b (seen old) t (at_item fs)
-    → MatchResult result (λ u. TakesItem r b fs t [] old new) (λ f. StopsItem r b fs t [] (Some old.rest) (Some new.rest) f × IsOfBytes f)
-
--- of the item that is begun
-abbrev pub ChecksBegun : Rules → SliceEventsView → EventKind → SliceEventsView → Result (Unit {0}) Refusal → Type 0
-ChecksBegun r old kind new result =
-    (b : Bounds) (fs : List Frame) (t x : List ℕ) (w : Width) → IsBegun r b fs t x (seen old) w kind
-    → MatchResult result (λ u. TakesItem r b fs t x old new) (λ f. StopsItem r b fs t x (Some old.rest) (Some new.rest) f × IsOfBytes f)
-
 -- ---- keys
 
 -- the bytes of the nearest key, or none before the first
 abbrev pub IsLastKey : List ℕ → List Spelling → Type 0
 IsLastKey last [] = last ≡ []
 IsLastKey last (k ∷ ks) = last ≡ spell k
-
--- a key is due behind this one
-pub record IsSliceKeyDue (r : Rules) (e : ItemEventsView) (last : List ℕ) : Type 0 where
-  pub b : Bounds
-  pub fs : List Frame
-  pub t : List ℕ
-  pub ks : List Spelling
-  pub at : IsAt b e t (at_item fs)
-  pub no_break : (next : State) → Ends fs next → ⊥
-  pub nearest : IsLastKey last ks
-
--- it is taken, and there is nothing against it
-pub record TakesKey (r : Rules) (b : Bounds) (fs : List Frame) (t : List ℕ) (ks : List Spelling) (key : List ℕ) (old new : SliceEventsView) : Type 0 where
-  pub value : Value
-  pub reads : ReadsItem r b fs t [] (Some old.rest) (Some new.rest) (seen new) value
-  pub fresh : (c : Complaint) → OfKey r (length t) ks reads.item c → ⊥
-  pub nearest : IsLastKey key (reads.item ∷ ks)
-
-abbrev pub ChecksKey : Rules → SliceEventsView → List ℕ → SliceEventsView → Result (Bor (List ℕ)) Refusal → Type 0
-ChecksKey r old last new result =
-    (b : Bounds) (fs : List Frame) (t : List ℕ) (ks : List Spelling) → IsAt b (seen old) t (at_item fs) → IsLastKey last ks
-    → MatchResult result (λ key. TakesKey r b fs t ks key.now old new)
-    (λ f. (StopsItem r b fs t [] (Some old.rest) (Some new.rest) f ⊎ RefusesKey r b fs t ks (Some old.rest) (Some new.rest) f) × IsOfBytes f)

@@ -1,13 +1,13 @@
 //! Heads of canonical items, and items without members, at the front of a slice.
 
 ghost use Rattle.std.specs.Prelude.{◌≡◌, ◌<◌, ◌≤◌, ◌+◌, ◌*◌, ◌^◌, ◌%◌, ◌⊎◌, ◌∷◌, ℕ, List, true};
-ghost use Rattle.std.specs.Prelude.{IfSome, length, take};
-ghost use Rattle.std.specs.Str.{IsAscii, IsUtf8};
+ghost use Rattle.std.specs.Prelude.{IfSome, length};
+ghost use Rattle.std.specs.Str.{IsUtf8};
 ghost use Rattle.cbor_reader.specs.inner.Quick.{IsShortest, IsShortestHead, IsLeaf};
 
+use crate::ascii::is_ascii_front;
 use byteorder::{BigEndian, ByteOrder};
 use cbor_head::argument_bytes;
-use std::simd::prelude::*;
 
 /// An integer in one byte.
 #[inline(always)]
@@ -85,18 +85,6 @@ pub(crate) fn shortest_argument<'a>(low: u8, behind: &'a [u8]) -> Option<(u64, &
         return None;
     }
     Some((number, &behind[size..]))
-}
-
-// Whether the first byte and so many bytes behind it are ASCII.
-#[inline(always)]
-fn is_ascii_front(chunk: &[u8; 32], count: u8) -> bool
-    requires { count < 32 }
-    ensures { result ≡ true → IsAscii (take (count + 1) chunk.now) }
-{
-    let high = u8x32::from_array(*chunk)
-        .simd_ge(u8x32::splat(0x80))
-        .to_bitmask();
-    high << (63 - count) == 0
 }
 
 /// How many bytes the item has that stands there, without members, if they are canonical; 0 says

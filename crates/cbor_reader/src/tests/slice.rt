@@ -1,12 +1,15 @@
 //! The strict check of a slice: maps in keys, lengths with nothing behind them, and limits.
 
 use super::{bytes_of, limits};
+use crate::slice_front::check_front;
 use crate::{KeyOrder, check_canonical};
 use cbor_head::{Reason, Refusal};
+use std::alloc::{AllocError, Global};
 use std::process::Abort;
 use std::test::Fail;
 
-// Looks for this answer: the bytes taken, or the refusal's reason, place and bytes read.
+// Looks for this answer: the bytes taken, or the refusal's reason, place and bytes read. The loop
+// over events gives it with and without the pass before it.
 fn look_for(
     rt: &impl Abort,
     bytes: &[u8],
@@ -16,18 +19,13 @@ fn look_for(
     answer: Result<u64, (Reason, u64, u64)>,
     hex: &str,
 ) {
-    match (
-        check_canonical(bytes, limits(rt, depth, limit), order),
-        answer,
-    ) {
-        (Ok(count), Ok(wanted)) => assert_eq!(rt; count, wanted, "at {hex}"),
-        (Err(given), Err((reason, place, read))) => assert_eq!(rt;
-            given,
-            Refusal::new(reason, place, read),
-            "at {hex}"
-        ),
-        _ => assert!(rt; false, "at {hex}"),
-    }
+    let limits = limits(rt, depth, limit);
+    let wanted = match answer {
+        Ok(count) => Ok(count),
+        Err((reason, place, read)) => Err(Refusal::new(reason, place, read)),
+    };
+    assert!(rt; check_canonical(bytes, limits, order) == wanted, "at {hex}");
+    assert!(rt; check_front(bytes, limits, order) == wanted, "at {hex}");
 }
 
 // Maps in keys, lengths with nothing behind them, and limits.
@@ -90,5 +88,88 @@ fn checks_slices_within_limits(rt: HostRuntime) -> Result<(), Fail> {
     look_for(&rt, &maps, 256, 1048576, KeyOrder::Bytewise, Ok(513), hex);
     let deep = Err((Reason::TooDeep, 510, 511));
     look_for(&rt, &maps, 255, 1048576, KeyOrder::Bytewise, deep, hex);
+    Ok(())
+}
+
+// Keys in maps within one another, by the bytewise order.
+static KEYS: [(&str, Result<u64, (Reason, u64, u64)>); 14] = [
+    // {1: {2: 0}, 2: 0} and what follows it
+    ("a201a102000200ff", Ok(7)),
+    // {1: {2: 0, 1: 0}}: the key of the inner map
+    ("a101a202000100", Err((Reason::KeyOrder, 5, 6))),
+    // {1: {1: 0}, 1: 0}: the key of the outer map
+    ("a201a101000100", Err((Reason::KeyOrder, 5, 6))),
+    // {[1]: 0, [0]: 0}
+    ("a2810100810000", Err((Reason::KeyOrder, 4, 6))),
+    // {{1: 0, 0: 0}: 0}
+    ("a1a20100000000", Err((Reason::KeyOrder, 4, 5))),
+    // {{0: 0, 1: 0}: 0, {0: 0, 1: 0}: 0}
+    ("a2a20000010000a20000010000", Err((Reason::KeyOrder, 7, 12))),
+    // {1(0): 0, 1(0): 0}
+    ("a2c10000c10000", Err((Reason::KeyOrder, 4, 6))),
+    // [{1: 0}, {0: 0}, {0: 0, 0: 0}]: each map begins anew
+    ("83a10100a10000a200000000", Err((Reason::KeyOrder, 10, 11))),
+    // a text that is none, and does not rise behind "aa": the text is told
+    ("a26261610061ff00", Err((Reason::InvalidText, 6, 7))),
+    // a key that is no shortest head, and does not rise: the head is told
+    ("a20100180100", Err((Reason::NotShortest, 3, 5))),
+    // {1: 0, 1, and nothing behind it
+    ("a2010001", Err((Reason::KeyOrder, 3, 4))),
+    // {1: 0, 2, and nothing behind it
+    ("a2010002", Err((Reason::Truncated, 4, 4))),
+    // {10: 0, 100: 0, -1: 0}
+    ("a30a001864002000", Ok(8)),
+    // {10: 0, -1: 0, 100: 0}
+    ("a30a002000186400", Err((Reason::KeyOrder, 5, 7))),
+];
+
+// The last two by the length-first order.
+static KEYS_BY_LENGTH: [(&str, Result<u64, (Reason, u64, u64)>); 2] = [
+    ("a30a001864002000", Err((Reason::KeyOrder, 6, 7))),
+    ("a30a002000186400", Ok(8)),
+];
+
+#[test]
+fn keys_rise_in_each_open_map(rt: HostRuntime) -> Result<(), Fail> {
+    for &(hex, answer) in &KEYS {
+        let bytes = bytes_of(rt.alloc(), hex)?;
+        look_for(&rt, &bytes, 256, 64, KeyOrder::Bytewise, answer, hex);
+    }
+    for &(hex, answer) in &KEYS_BY_LENGTH {
+        let bytes = bytes_of(rt.alloc(), hex)?;
+        look_for(&rt, &bytes, 256, 64, KeyOrder::LengthFirst, answer, hex);
+    }
+    Ok(())
+}
+
+// A map of two texts of this length, "aa.." but for their ends, each with 0.
+fn map_of(alloc: Global, length: u8, ends: [u8; 2]) -> Result<Vec<u8>, AllocError> {
+    let mut bytes = Vec::new(alloc);
+    bytes.push(0xa2)?;
+    for end in ends {
+        bytes.extend_from_slice(&[0x78, length])?;
+        for _ in 1..length {
+            bytes.push(b'a')?;
+        }
+        bytes.extend_from_slice(&[end, 0])?;
+    }
+    Ok(bytes)
+}
+
+// Keys that share all bytes but the last, or all.
+#[test]
+fn keys_with_a_long_beginning_in_common(rt: HostRuntime) -> Result<(), Fail> {
+    let order = KeyOrder::Bytewise;
+    for length in 24..72 {
+        let size = 3 + u64::from(length);
+        let rising = map_of(rt.alloc(), length, [b'a', b'b'])?;
+        let whole = Ok(2 * size + 1);
+        look_for(&rt, &rising, 256, 256, order, whole, "rising");
+        let falls = Err((Reason::KeyOrder, size + 1, 2 * size));
+        let equal = map_of(rt.alloc(), length, [b'b', b'b'])?;
+        look_for(&rt, &equal, 256, 256, order, falls, "equal");
+        let falling = map_of(rt.alloc(), length, [b'b', b'a'])?;
+        look_for(&rt, &falling, 256, 256, order, falls, "falling");
+    }
     Ok(())
 }

@@ -2,9 +2,7 @@
 
 use super::compare::compared;
 use super::{bytes_of, ran};
-use crate::explanation::{advice, meaning};
 use crate::visible::Visible;
-use cbor_head::Reason;
 use std::alloc::AllocError;
 
 const FLOAT: &str = "\
@@ -74,7 +72,7 @@ not hex: in
 ";
 
 // The words, the file as hex, and what stands on standard error.
-static EXPLAINED: [(&str, &str, &str); 7] = [
+static EXPLAINED: [(&str, &str, &str); 6] = [
     ("check --explain in", "a161618200f90000", FLOAT),
     ("canon --explain in out", "a2616100616101", REPEATED),
     ("show --explain in", "d81882", TRUNCATED),
@@ -85,12 +83,56 @@ static EXPLAINED: [(&str, &str, &str); 7] = [
     ),
     ("check --seq --explain in", "00820102 81ff", OF_SEQUENCE),
     ("check --explain in", "816261ff", TEXT),
+];
+
+// The words, and what stands on standard error of a file that is not to be had.
+static CAUSES: [(&str, &str); 9] = [
     (
         "check --explain absent",
-        "00",
-        "cannot read absent\n  The cause is not known.\n",
+        "cannot read absent\n  There is no such file or folder.\n",
     ),
+    (
+        "canon --explain absent out",
+        "cannot read absent\n  There is no such file or folder.\n",
+    ),
+    (
+        "show --explain folder",
+        "cannot read folder\n  It is a folder.\n",
+    ),
+    (
+        "events --explain locked",
+        "cannot read locked\n  It is not permitted.\n",
+    ),
+    (
+        "compare --explain in odd",
+        "cannot read odd\n  The cause is not known.\n",
+    ),
+    (
+        "check --seq --explain silent",
+        "cannot read silent\n  The cause is not known.\n",
+    ),
+    (
+        "canon --explain in locked",
+        "cannot write locked\n  It is not permitted.\n",
+    ),
+    (
+        "canon --explain in folder",
+        "cannot write folder\n  It is a folder.\n",
+    ),
+    ("canon in folder", "cannot write folder\n"),
 ];
+
+#[test]
+fn explains_why_a_file_is_not_to_be_had(rt: HostRuntime) -> Result<(), AllocError> {
+    for &(line, wanted) in &CAUSES {
+        let ran = ran(rt.alloc(), line, b"\x00")?;
+        assert!(rt;
+            ran.status == 3 && ran.err.as_slice() == wanted.as_bytes(),
+            "{line}"
+        );
+    }
+    Ok(())
+}
 
 #[test]
 fn explains_refusals(rt: HostRuntime) -> Result<(), AllocError> {
@@ -135,11 +177,4 @@ fn shows_control_characters(rt: HostRuntime) -> Result<(), AllocError> {
     let shown = format!(in rt.alloc(); "{path}")?;
     assert!(rt; shown.as_str() == "a\\u001b\\u000a\\u007fé");
     Ok(())
-}
-
-#[test]
-fn has_a_sentence_for_each_reason(rt: HostRuntime) {
-    for reason in [Reason::Truncated, Reason::BadChunk, Reason::Memory] {
-        assert!(rt; !meaning(reason).is_empty() && !advice(reason).is_empty());
-    }
 }

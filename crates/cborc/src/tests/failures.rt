@@ -8,7 +8,7 @@ use std::io;
 use std::io::{ErrorKind, Write};
 
 // The words, the file, the status, and the line on standard error.
-static ROWS: [(&str, &[u8], u8, &str); 21] = [
+static ROWS: [(&str, &[u8], u8, &str); 23] = [
     ("canon absent out", b"\x00", 3, "cannot read absent"),
     ("canon --hex absent out", b"\x00", 3, "cannot read absent"),
     ("canon full out", b"\x00", 3, "out of memory"),
@@ -35,6 +35,8 @@ static ROWS: [(&str, &[u8], u8, &str); 21] = [
     ("check --seq full", b"\x00", 3, "out of memory"),
     ("check --seq --hex in", b"0", 3, "not hex: in"),
     ("check --hex in", b"0", 3, "not hex: in"),
+    ("show folder", b"\x00", 3, "cannot read folder"),
+    ("canon in absent/out", b"\x00", 3, "cannot write absent/out"),
 ];
 
 #[test]

@@ -1,4 +1,4 @@
-use Rattle.std.proofs.Common.{ℕ, List, ◌-◌, ◌+◌, ◌^◌, ◌<◌, ◌≡◌, min, length, take, arith, ◌∙◌, ap, subst}
+use Rattle.std.proofs.Common.{ℕ, List, ◌-◌, ◌+◌, ◌^◌, ◌<◌, min, length, take, arith, ◌∙◌, ap, subst}
 use Rattle.cbor_head.specs.Verdict.{refusal}
 use Rattle.cbor_head.specs.declared.reason.Reason.TheVariants.{Write}
 use Rattle.std.specs.Io.KnownBytes.{Appends}

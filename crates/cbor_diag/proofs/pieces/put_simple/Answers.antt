@@ -1,4 +1,4 @@
-use Rattle.std.proofs.Common.{◌≡◌, ◌++◌, ap, ◌∙◌, decimal, codes, arith, ℕ}
+use Rattle.std.proofs.Common.{◌≡◌, ◌++◌, decimal, codes, arith}
 use Rattle.std.proofs.lemmas.Result.{err_from_is_err_and}
 use Rattle.cbor_diag.specs.Text.{simple_text}
 use Rattle.cbor_diag.proofs.Putting.{stops-more, puts-next, puts-then, puts-stops}

@@ -1,8 +1,8 @@
-use Rattle.std.proofs.Common.{◌≡◌, ◌++◌, ◌∷◌, [], arith, codes, flat_map}
+use Rattle.std.proofs.Common.{◌++◌, ◌∷◌, [], arith, codes, flat_map}
 use Rattle.std.proofs.lemmas.Result.{err_from_is_err_and}
 use Rattle.cbor_diag.specs.Text.{escaped}
 use Rattle.cbor_diag.proofs.Putting.{stops-more, puts-next}
-use Rattle.cbor_diag.proofs.PieceTexts.{IsWriting, run-stops, escape-put, escape-stops, raw-skipped, text-ends, text-stops}
+use Rattle.cbor_diag.proofs.PieceTexts.{run-stops, escape-put, escape-stops, raw-skipped, text-ends, text-stops}
 use Rattle.cbor_diag.proofs.pieces.put_text.Goals as goal
 use Rattle.cbor_diag.proofs.pieces.put_text.Goals.{then-not-is_raw+in_ok-put-2+in_ok-put_escape, else-not-is_raw}
 

@@ -7,6 +7,7 @@ abbrev pub invariant-loop-answer : goal.invariant-loop-answer
 invariant-loop-answer l = record {
   live : l.items.finished ≡ false;
   limits : l.items.limits ≡ l.fn.limits;
+  start : l.start ≡ length l.fn.bytes - length l.rest;
   counted : HasCounted l.fn.limits (rules_of l.fn.accepted) (Some l.rest) l.fn.bytes l.count;
 }
 

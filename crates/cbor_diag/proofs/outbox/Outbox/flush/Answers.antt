@@ -1,6 +1,6 @@
-use Rattle.std.proofs.Common.{◌≡◌, sym, ap, ◌∙◌, append-nil}
+use Rattle.std.proofs.Common.{sym, ◌∙◌, append-nil}
 use Rattle.std.proofs.lemmas.Result.{err_from_is_err_and}
-use Rattle.cbor_diag.proofs.Putting.{sent-all, sent-some}
+use Rattle.cbor_diag.proofs.Putting.{sent-some}
 use Rattle.cbor_diag.proofs.outbox.Outbox.flush.Goals as goal
 
 pub returns-in_err-self-clause-done : goal.returns-in_err-self-clause-done

@@ -1,6 +1,6 @@
-use Rattle.std.proofs.Common.{◌≡◌, ◌++◌, sym, ap, subst, ◌∙◌, append-nil, []}
+use Rattle.std.proofs.Common.{◌≡◌, ◌++◌, sym, ap, ◌∙◌, []}
 use Rattle.std.proofs.lemmas.Result.{err_from_is_err_and}
-use Rattle.cbor_diag.proofs.Putting.{sent-all, sent-some, sent-past, stops-more, puts-then, puts-stops, puts-as, stops-as, where_err}
+use Rattle.cbor_diag.proofs.Putting.{sent-some, sent-past, stops-more, puts-then, puts-stops, puts-as, stops-as, where_err}
 use Rattle.cbor_diag.proofs.outbox.Outbox.put.Goals as goal
 
 pub returns-in_err-flush : goal.returns-in_err-flush

@@ -100,7 +100,7 @@ invariant_of-self-in-Refused c =
     let depth : c.from-depth.result ≡ c.self.inside.limits.depth = c.from-depth.ensures ∙ c.depth.ensures.depth in
     record {
       within = omega (arith, c.walk-used.ensures.within, depth);
-      fits = subst (λ d. IsFit d c.walk-used.new.frames.items c.walk-used.new.position) depth c.walk-used.ensures.fits;
+      fits = subst (λ d. IsFit d c.walk-used.new.nest c.walk-used.new.position) depth c.walk-used.ensures.fits;
       taken = omega (arith, length-take c.part-end.result c.args.input.now, c.walk-used.ensures.used, c.part-end.ensures, c.self.invariant.taken, c.bytes-bytes.ensures.bytes);
       settled = λ e. absurd (cc);
       stopped = rw c.refusal_of-refusal-in-Refused.ensures (

@@ -5,10 +5,10 @@ use Rattle.cbor_reader.proofs.OpenHeads.{refused_head, head_no_memory, begun_kep
 use Rattle.cbor_reader.proofs.open_items.OpenItems.admit_head.Goals as goal
 
 pub returns-in-Some-clause-answers : goal.returns-in-Some-clause-answers
-returns-in-Some-clause-answers c = λ b t x e h n m to. refused_head c.args.self.now b c.args.event.now t x e c.in-Some.reason _ c.args.taken to h c.in-Some.ensures m c.new.ensures
+returns-in-Some-clause-answers c = λ b t x e h n m to. refused_head c.args.self.now b c.args.event.now t x e c.in-Some.reason _ c.args.taken to h (c.in-Some.ensures c.args.self.now.order) m c.new.ensures
 
 pub returns-in-Err-clause-answers : goal.returns-in-Err-clause-answers
-returns-in-Err-clause-answers c = λ b t x e h n m to. head_no_memory c.args.self.now b c.args.event.now t x e _ c.args.taken to h c.in-None.ensures m c.at.ensures
+returns-in-Err-clause-answers c = λ b t x e h n m to. head_no_memory c.args.self.now b c.args.event.now t x e _ c.args.taken to h (c.in-None.ensures c.args.self.now.order) m c.at.ensures
 
 pub begin-requires : goal.begin-requires
 begin-requires c =
@@ -19,7 +19,7 @@ begin-requires c =
       t = r.t;
       x = r.x;
       e = r.e;
-      has = begun_kept c.args.self.now c.keep_head.new.self r.b c.args.event.now r.t r.x r.e r.come c.in-None.ensures c.keep_head.ensures.same.order c.keep_head.ensures.same.left c.in-Ok.ensures.kept;
+      has = begun_kept c.args.self.now c.keep_head.new.self r.b c.args.event.now r.t r.x r.e r.come (c.in-None.ensures c.args.self.now.order) c.keep_head.ensures.same.order c.keep_head.ensures.same.left c.in-Ok.ensures.kept;
       counted = r.counted;
       all = r.all;
     }
@@ -28,4 +28,4 @@ pub returns-in-Ok-clause-answers : goal.returns-in-Ok-clause-answers
 returns-in-Ok-clause-answers c = λ b t x e h n m.
     subst (λ o. Answers (strict o) c.begin.new.self b e (t ++ x) c.begin.result) c.keep_head.ensures.same.order
     (c.begin.ensures.answers b c.args.event.now.width t x e
-    (begun_kept c.args.self.now c.keep_head.new.self b c.args.event.now t x e h c.in-None.ensures c.keep_head.ensures.same.order c.keep_head.ensures.same.left c.in-Ok.ensures.kept) n m)
+    (begun_kept c.args.self.now c.keep_head.new.self b c.args.event.now t x e h (c.in-None.ensures c.args.self.now.order) c.keep_head.ensures.same.order c.keep_head.ensures.same.left c.in-Ok.ensures.kept) n m)

@@ -1,4 +1,4 @@
-use Rattle.std.proofs.Common.{◌≡◌, ◌+◌, ◌≤◌, w64, sym, subst, arith}
+use Rattle.std.proofs.Common.{◌+◌, ◌≤◌, w64, sym, subst, arith}
 use Rattle.std.specs.Int.{from_be_bytes}
 use Rattle.cbor_reader.specs.inner.Quick.{IsShortestHead}
 use Rattle.cbor_reader.proofs.QuickHeads.{IsLeast, IsSize, shortest-head}

@@ -1,4 +1,4 @@
-use Rattle.std.proofs.Common.{◌≡◌, ℕ, ◌+◌, ◌-◌, ◌%◌, suc, ◌∷◌, List, length, take, drop, refl, sym, ap, ◌∙◌, subst, arith}
+use Rattle.std.proofs.Common.{◌≡◌, ℕ, ◌+◌, ◌-◌, ◌%◌, suc, ◌∷◌, List, length, take, drop, sym, ap, ◌∙◌, subst, arith}
 use Rattle.std.proofs.lemmas.List.{take_rest}
 use Rattle.cbor_reader.specs.inner.Quick.{IsBack, IsShortest, Opens}
 use Rattle.cbor_reader.proofs.QuickHeads.{direct}

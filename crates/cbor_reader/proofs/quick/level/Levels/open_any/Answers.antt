@@ -1,4 +1,4 @@
-use Rattle.std.proofs.Common.{◌≡◌, ◌+◌, ◌-◌, ◌%◌, ◌∷◌, ℕ, length, sym, ap, ◌∙◌, subst, arith}
+use Rattle.std.proofs.Common.{◌≡◌, ◌+◌, ◌-◌, ◌%◌, ◌∷◌, ℕ, length, sym, ap, ◌∙◌, arith}
 use Rattle.cbor_reader.specs.declared.quick.level.Level.{Level}
 use Rattle.cbor_reader.proofs.QuickLevels.{IsOpened, shortest-at, opens-array, opens-map, opens-tag}
 use Rattle.cbor_reader.proofs.quick.level.Levels.open_any.Goals as goal

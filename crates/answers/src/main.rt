@@ -1,0 +1,161 @@
+//! What the calls over readers answer, for the fuzzer: a line for each line of standard input.
+//!
+//! An input line is a depth limit, a byte limit and the bytes in hex digits. The answers stand in a
+//! fixed order with spaces between: for readers that give at most 1, 3 and 4096 bytes a read, what
+//! `read_tree` and `read_strict` answer and the canonical bytes of the tree; then what a `Sequence`
+//! gives. A refusal is `!` and its reason, place and `read`; behind a colon stand the bytes that the
+//! reader has left.
+#![tactic(auto)]
+
+mod parts;
+
+use crate::parts::Parts;
+use cbor_head::{Limits, Refusal};
+use cbor_item::encode;
+use cbor_reader::{KeyOrder, Sequence, Tree, read_strict, read_tree};
+use std::alloc::Global;
+use std::io::{self, BufWriter, ErrorKind, Read, Write};
+use std::process::ExitCode;
+
+static ORDERS: [KeyOrder; 2] = [KeyOrder::Bytewise, KeyOrder::LengthFirst];
+
+// The most bytes that a read gives.
+static PARTS: [usize; 3] = [1, 3, 4096];
+
+fn main(rt: HostRuntime) -> ExitCode {
+    match answer_all(rt.alloc(), rt.stdin(), rt.stdout()) {
+        Ok(()) => ExitCode::from(0),
+        Err(_) => ExitCode::from(1),
+    }
+}
+
+fn answer_all<R: Read + Drop, W: Write + Drop>(
+    alloc: Global,
+    mut input: R,
+    output: W,
+) -> io::Result<()> {
+    let mut text = String::new(alloc);
+    input.read_to_string(&mut text)?;
+    let mut out = BufWriter::new(alloc, output)?;
+    for line in text.lines() {
+        answer_line(alloc, line, &mut out)?;
+    }
+    out.flush()
+}
+
+fn malformed() -> io::Error {
+    io::Error::from(ErrorKind::InvalidInput)
+}
+
+fn answer_line<W: Write>(alloc: Global, line: &str, out: &mut W) -> io::Result<()> {
+    let mut words = line.split(' ');
+    let depth = words.next().and_then(|word| word.parse::<u16>().ok());
+    let most = words.next().and_then(|word| word.parse::<u64>().ok());
+    let limits = match (depth, most) {
+        (Some(depth), Some(most)) => Limits::new(depth, most).ok_or_else(malformed)?,
+        _ => return Err(malformed()),
+    };
+    let bytes = match words.next() {
+        Some(digits) => hex::decode(alloc, digits).map_err(|_| malformed())?,
+        None => return Err(malformed()),
+    };
+    for part in PARTS {
+        answer_tree(alloc, &bytes, part, limits, out)?;
+        answer_strict(alloc, &bytes, part, limits, out)?;
+    }
+    answer_sequence(alloc, &bytes, limits, out)?;
+    writeln!(out)
+}
+
+fn put_refusal<W: Write>(refusal: Refusal, out: &mut W) -> io::Result<()> {
+    let Refusal {
+        reason,
+        place,
+        read,
+    } = refusal;
+    write!(out, "!{},{place},{read}", reason.number())
+}
+
+fn put_hex<W: Write>(bytes: &[u8], out: &mut W) -> io::Result<()> {
+    for byte in bytes {
+        write!(out, "{byte:02x}")?;
+    }
+    Ok(())
+}
+
+// The count and the canonical bytes in both orders.
+fn answer_tree<W: Write>(
+    alloc: Global,
+    bytes: &[u8],
+    part: usize,
+    limits: Limits,
+    out: &mut W,
+) -> io::Result<()> {
+    let mut reader = Parts { rest: bytes, part };
+    match read_tree(alloc, &mut reader, limits) {
+        Ok((tree, count)) => {
+            write!(out, "{count}")?;
+            for order in ORDERS {
+                write!(out, ",")?;
+                let canonical = encode(alloc, &tree, order).map_err(|_| malformed())?;
+                put_hex(&canonical, out)?;
+            }
+        }
+        Err(refusal) => put_refusal(refusal, out)?,
+    }
+    write!(out, ":{} ", reader.rest.len())
+}
+
+fn answer_strict<W: Write>(
+    alloc: Global,
+    bytes: &[u8],
+    part: usize,
+    limits: Limits,
+    out: &mut W,
+) -> io::Result<()> {
+    for order in ORDERS {
+        let mut reader = Parts { rest: bytes, part };
+        match read_strict(alloc, &mut reader, limits, order) {
+            Ok(count) => write!(out, "{count}")?,
+            Err(refusal) => put_refusal(refusal, out)?,
+        }
+        write!(out, ":{} ", reader.rest.len())?;
+    }
+    Ok(())
+}
+
+// The canonical bytes of each item of the sequence.
+fn answer_sequence<W: Write>(
+    alloc: Global,
+    bytes: &[u8],
+    limits: Limits,
+    out: &mut W,
+) -> io::Result<()> {
+    let reader = Parts {
+        rest: bytes,
+        part: 2,
+    };
+    let mut sequence = Sequence::new(alloc, reader, limits);
+    for _ in 0..=bytes.len() {
+        match sequence.next() {
+            Some(item) => answer_item(alloc, item, out)?,
+            None => break,
+        }
+    }
+    Ok(())
+}
+
+fn answer_item<W: Write>(
+    alloc: Global,
+    item: Result<Tree, Refusal>,
+    out: &mut W,
+) -> io::Result<()> {
+    match item {
+        Ok(tree) => {
+            let canonical = encode(alloc, &tree, KeyOrder::Bytewise).map_err(|_| malformed())?;
+            put_hex(&canonical, out)?;
+            write!(out, ",")
+        }
+        Err(refusal) => put_refusal(refusal, out),
+    }
+}

@@ -1,0 +1,4 @@
+mod Explained
+mod Keys
+mod Lines
+mod Steps

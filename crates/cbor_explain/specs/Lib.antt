@@ -1,0 +1,4 @@
+pub mod Explanation
+pub mod Sentences
+pub mod Surroundings
+pub mod Way

@@ -1,0 +1,38 @@
+-- The text of a way through an item.
+use Rattle.std.specs.Prelude.{ℕ, ◌≡◌, Option, List, [], ◌∷◌, ◌++◌, drop, codes, decimal}
+use Rattle.std.specs.Io.KnownBytes.{Appends}
+use Rattle.cbor_head.specs.Complaint.{plain}
+use Rattle.cbor_head.specs.Value.{Value}
+use Rattle.cbor_reader.specs.Readers.{IsReadAs}
+use Rattle.cbor_diag.specs.Text.{text}
+use Rattle.cbor_explain.specs.declared.way.Step.{Step}
+use Rattle.cbor_explain.specs.declared.way.Step.TheVariants.{Member, Key, Value as ValueOf, Content}
+
+-- the text of the key that stands at a place: its diagnostic text where it is a valid item of at most 64 bytes, else its place
+pub data IsKeyText (item : List ℕ) (place : ℕ) (t : List ℕ) : Type 0 where
+  short : (v : Value) (count : ℕ) → IsReadAs 256 64 plain (drop place item) v count → t ≡ codes "." ++ text v → IsKeyText item place t
+  long : t ≡ codes ".(the key at " ++ decimal place ++ codes ")" → IsKeyText item place t
+
+-- the text of a step
+abbrev pub IsStepText : List ℕ → Step → List ℕ → Type 0
+IsStepText item (Member index) t = t ≡ codes "[" ++ decimal index ++ codes "]"
+IsStepText item (Content number) t = t ≡ codes "(" ++ decimal number ++ codes ")"
+IsStepText item (ValueOf key) t = IsKeyText item key t
+IsStepText item (Key number map) t = t ≡ codes ", key " ++ decimal number ++ codes " of the map at " ++ decimal map
+
+-- the texts of the steps, joined
+abbrev pub AreStepTexts : List ℕ → List Step → List ℕ → Type 0
+AreStepTexts item [] t = t ≡ []
+AreStepTexts item (s ∷ ss) t = (first rest : List ℕ) × IsStepText item s first × AreStepTexts item ss rest × (t ≡ first ++ rest)
+
+-- the line of a way
+pub record IsWayText (item : List ℕ) (way : List Step) (line : List ℕ) : Type 0 where
+  pub steps : List ℕ
+  pub are : AreStepTexts item way steps
+  pub is : line ≡ codes "  at $" ++ steps ++ codes "\n"
+
+-- a text of which this holds was written
+pub record Writes (Is : List ℕ → Type 0) (old new : Option (List ℕ)) : Type 0 where
+  pub text : List ℕ
+  pub is : Is text
+  pub written : Appends old new text

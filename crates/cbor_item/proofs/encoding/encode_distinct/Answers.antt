@@ -1,0 +1,13 @@
+use Rattle.std.proofs.Common.{subst}
+use Rattle.cbor_item.specs.View.{view}
+use Rattle.cbor_item.specs.inner.Walk.{IsBegun}
+use Rattle.cbor_item.proofs.Walk.{walks_begun}
+use Rattle.cbor_item.proofs.encoding.encode_distinct.Goals as goal
+
+pub items-preserved-in-Some-2 : goal.items-preserved-in-Some-2
+items-preserved-in-Some-2 c =
+    let a = c.items.builder in
+    let next = c.in-Some.next.now in
+    let e = c.in_ok-content-in-Some.ensures in
+    let begun = subst (IsBegun a.order (view next) a.standing c.begin.new.builder.standing) c.in-Some-2.is e.begun in
+    walks_begun c.args.order (view c.args.item.now) next c.items.rest c.in-Some.behind c.in-Some-2.content c.items.outer.items c.push.new.self.items a c.begin.new.builder c.items.invariant c.in-Some.ensures e.order begun c.in_ok-push-in-Some.ensures.items

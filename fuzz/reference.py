@@ -1,0 +1,298 @@
+"""The answers that the definitions call for, worked out anew: nothing here was taken from the library.
+
+RFC 8949 without floating point; deterministic encoding by sections 4.2.1 and 4.2.3. What an input is read as
+is kept apart from what is wrong with it: `Form` reads the heads alone and collects every complaint, and the
+verdict is then the complaint that ends first.
+"""
+
+from collections import namedtuple
+
+REASONS = {
+    1: "Truncated", 2: "TooLong", 3: "Reserved", 4: "NoIndefinite", 5: "Float", 6: "BadSimple", 7: "StrayBreak",
+    8: "BadChunk", 9: "TooDeep", 10: "InvalidText", 11: "RepeatedKey", 12: "Trailing", 13: "CanonicalTooLong",
+    14: "NotShortest", 15: "Indefinite", 16: "KeyOrder",
+}  # fmt: skip
+
+# A refusal, with the offset of what is wrong and the count of the bytes that were taken.
+Refusal = namedtuple("Refusal", "reason place read")
+
+# A complaint of valid or deterministic encoding; at equal ends one on a key comes last.
+Complaint = namedtuple("Complaint", "end is_key place reason")
+
+BYTEWISE, LENGTH_FIRST = 0, 1
+UNSIGNED, NEGATIVE, BYTES, TEXT, ARRAY, MAP, TAG, SIMPLE = range(8)
+KINDS = ["unsigned", "negative", "bytes", "text", "array", "map", "tag", "simple"]
+FEWEST = {0: 0, 1: 24, 2: 1 << 8, 4: 1 << 16, 8: 1 << 32}
+
+
+class Break(Exception):
+    """The input goes no further as a well-formed item."""
+
+    def __init__(self, reason, place, read):
+        self.refusal = Refusal(reason, place, read)
+
+
+def head(major, argument):
+    """The shortest head (RFC 8949, section 4.2.1)."""
+    if argument < 24:
+        return bytes([major << 5 | argument])
+    size = next(size for size in (1, 2, 4, 8) if argument < 1 << 8 * size)
+    return bytes([major << 5 | {1: 24, 2: 25, 4: 26, 8: 27}[size]]) + argument.to_bytes(size, "big")
+
+
+def key_of(order, encoded):
+    """What keys are sorted by."""
+    return (len(encoded), encoded) if order == LENGTH_FIRST else encoded
+
+
+def canonical(order, value):
+    """The canonical bytes of a value."""
+    kind = value[0]
+    if kind in (UNSIGNED, NEGATIVE, SIMPLE):
+        # a simple value of 32 or more takes a byte behind its first one
+        return head(kind, value[1])
+    if kind in (BYTES, TEXT):
+        return head(kind, len(value[1])) + value[1]
+    if kind == ARRAY:
+        return head(ARRAY, len(value[1])) + b"".join(canonical(order, it) for it in value[1])
+    if kind == TAG:
+        return head(TAG, value[1]) + canonical(order, value[2])
+    pairs = [(canonical(order, key), canonical(order, content)) for key, content in value[1]]
+    pairs.sort(key=lambda pair: key_of(order, pair[0]))
+    return head(MAP, len(pairs)) + b"".join(key + content for key, content in pairs)
+
+
+def meaning(value):
+    """Equal for two values exactly where they are the same: the pairs of a map in any order (section 5.6.1)."""
+    kind = value[0]
+    if kind == ARRAY:
+        return (kind, tuple(meaning(it) for it in value[1]))
+    if kind == TAG:
+        return (kind, value[1], meaning(value[2]))
+    if kind == MAP:
+        return (kind, frozenset((meaning(key), meaning(content)) for key, content in value[1]))
+    return value
+
+
+def diagnostic(value):
+    """The diagnostic text (section 8), on one line, in UTF-8."""
+    kind = value[0]
+    if kind == UNSIGNED:
+        return b"%d" % value[1]
+    if kind == NEGATIVE:
+        return b"%d" % (-1 - value[1])
+    if kind == BYTES:
+        return b"h'" + value[1].hex().encode() + b"'"
+    if kind == TEXT:
+        return b'"' + b"".join(letter(it) for it in value[1]) + b'"'
+    if kind == ARRAY:
+        return b"[" + b", ".join(diagnostic(it) for it in value[1]) + b"]"
+    if kind == MAP:
+        return b"{" + b", ".join(diagnostic(key) + b": " + diagnostic(it) for key, it in value[1]) + b"}"
+    if kind == TAG:
+        return b"%d(" % value[1] + diagnostic(value[2]) + b")"
+    return {20: b"false", 21: b"true", 22: b"null", 23: b"undefined"}.get(value[1], b"simple(%d)" % value[1])
+
+
+def letter(byte):
+    if byte in b'"\\':
+        return b"\\" + bytes([byte])
+    return b"\\u00%02x" % byte if byte < 0x20 or byte == 0x7F else bytes([byte])
+
+
+def valid_front(payload):
+    """The length of the longest front that is UTF-8."""
+    try:
+        payload.decode("utf-8")
+        return len(payload)
+    except UnicodeDecodeError as error:
+        return error.start
+
+
+class Form:
+    """The item at the front of an input, by its form; with all complaints that end in what was read.
+
+    `value` and `size` are the item's where it is well-formed within the limits, else `broken` says where not.
+    """
+
+    def __init__(self, given, depth, most):
+        self.bytes, self.limit = given[:most], depth
+        self.is_cut = len(given) >= most
+        self.at, self.value, self.size, self.broken = 0, None, None, None
+        self.events, self.plain, self.strict = [], [], {BYTEWISE: [], LENGTH_FIRST: []}
+        try:
+            self.value = self.item(0)
+            self.size = self.at
+        except Break as stop:
+            self.broken = stop.refusal
+
+    def complain(self, end, is_key, place, reason, where):
+        where.append(Complaint(end, is_key, place, reason))
+
+    def in_both(self, end, place, reason):
+        for order in (BYTEWISE, LENGTH_FIRST):
+            self.complain(end, False, place, reason, self.strict[order])
+
+    def take(self, count):
+        """So many bytes, or the end of the input or of the limit."""
+        taken = self.bytes[self.at : self.at + count]
+        self.at += len(taken)
+        if len(taken) < count:
+            raise Break(2 if self.is_cut else 1, self.at, self.at)
+        return taken
+
+    def argument(self, first):
+        """The argument, and in how many bytes it stands, of a definite head whose first byte was taken."""
+        information = first & 31
+        if information < 24:
+            return information, 0
+        size = 1 << information - 24
+        return int.from_bytes(self.take(size), "big"), size
+
+    def event(self, place, name, argument, width):
+        self.events.append(b"%d %s %s %s\n" % (place, name.encode(), str(argument).encode(), str(width).encode()))
+
+    def told(self, place, major, argument, size, name=None):
+        """A definite head, complete; a simple value has one spelling alone."""
+        if size and argument < FEWEST[size] and major != SIMPLE:
+            self.in_both(self.at, place, 14)
+        self.event(place, name or KINDS[major], argument, size)
+
+    def opener(self, place, major):
+        self.in_both(place + 1, place, 15)
+        self.event(place, KINDS[major], "-", "-")
+
+    def first(self, may_close, levels):
+        """The first byte of an item, or a break where one may stand."""
+        place = self.at
+        first = self.take(1)[0]
+        major, information = first >> 5, first & 31
+        if information in (28, 29, 30):
+            raise Break(3, place, self.at)
+        if first in (0x1F, 0x3F, 0xDF):
+            raise Break(4, place, self.at)
+        if first in (0xF9, 0xFA, 0xFB):
+            raise Break(5, place, self.at)
+        if first == 0xFF and not may_close:
+            raise Break(7, place, self.at)
+        if major in (ARRAY, MAP, TAG) and levels >= self.limit:
+            raise Break(9, place, self.at)
+        return first
+
+    def item(self, levels, may_close=False):
+        """The value of the next item; None for a break."""
+        place = self.at
+        first = self.first(may_close, levels)
+        if first == 0xFF:
+            self.event(place, "end", "-", "-")
+            return None
+        major = first >> 5
+        if major == SIMPLE:
+            return self.simple(place, first)
+        if first & 31 == 31:
+            self.opener(place, major)
+            count = None
+        else:
+            count, size = self.argument(first)
+            self.told(place, major, count, size)
+        if major in (UNSIGNED, NEGATIVE):
+            return (major, count)
+        if major in (BYTES, TEXT):
+            return (major, self.payload(major, count) if count is not None else self.chunks(major))
+        if major == TAG:
+            return (TAG, count, self.item(levels + 1))
+        members = self.members if major == ARRAY else self.pairs
+        return (major, tuple(members(count, levels + 1)))
+
+    def simple(self, place, first):
+        number = first & 31
+        size = 0
+        if number == 24:
+            number, size = self.take(1)[0], 1
+            if number < 32:
+                raise Break(6, place + 1, self.at)
+        self.told(place, SIMPLE, number, size)
+        return (SIMPLE, number)
+
+    def payload(self, major, count):
+        start = self.at
+        payload = self.take(count)
+        front = valid_front(payload) if major == TEXT else count
+        if front < count:
+            self.complain(self.at, False, start + front, 10, self.plain)
+            self.in_both(self.at, start + front, 10)
+        return payload
+
+    def chunks(self, major):
+        parts = []
+        while True:
+            place = self.at
+            first = self.take(1)[0]
+            if first == 0xFF:
+                self.event(place, "end", "-", "-")
+                return b"".join(parts)
+            if first >> 5 != major or first & 31 > 27:
+                raise Break(8, place, self.at)
+            count, size = self.argument(first)
+            self.told(place, major, count, size, "chunk")
+            parts.append(self.payload(major, count))
+
+    def members(self, count, levels):
+        found = []
+        while count is None or len(found) < count:
+            it = self.item(levels, may_close=count is None)
+            if it is None:
+                break
+            found.append(it)
+        return found
+
+    def pairs(self, count, levels):
+        found, meanings, last = [], set(), None
+        while count is None or len(found) < count:
+            place = self.at
+            key = self.item(levels, may_close=count is None)
+            if key is None:
+                break
+            spelled = self.bytes[place : self.at]
+            if meaning(key) in meanings:
+                self.complain(self.at, True, place, 11, self.plain)
+            meanings.add(meaning(key))
+            for order in (BYTEWISE, LENGTH_FIRST):
+                if last is not None and key_of(order, spelled) <= key_of(order, last):
+                    self.complain(self.at, True, place, 16, self.strict[order])
+            last = spelled
+            found.append((key, self.item(levels)))
+        return found
+
+    def verdict(self, complaints):
+        """The complaint that ends first, else the break of form, else None."""
+        if complaints:
+            it = min(complaints)
+            return Refusal(it.reason, it.place, it.end)
+        return self.broken
+
+
+class Answers:
+    """What each call has to answer on an input."""
+
+    def __init__(self, given, depth, most):
+        self.given, self.most = given, most
+        self.form = Form(given, depth, most)
+        self.plain = self.form.verdict(self.form.plain)
+        self.strict = {order: self.form.verdict(self.form.strict[order]) for order in (BYTEWISE, LENGTH_FIRST)}
+        self.size = self.form.size
+        self.value = self.form.value if self.plain is None else None
+
+    def whole(self, verdict):
+        """The verdict of the one item that the whole input is to be."""
+        if verdict is None and self.size < len(self.given):
+            return Refusal(12, self.size, self.size)
+        return verdict
+
+    def canonicalised(self, order):
+        """The canonical bytes, or a refusal."""
+        refused = self.whole(self.plain)
+        if refused:
+            return refused
+        found = canonical(order, self.value)
+        return found if len(found) <= self.most else Refusal(13, self.size, self.size)

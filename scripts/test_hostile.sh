@@ -1,0 +1,22 @@
+#!/usr/bin/env bash
+# Random inputs against the definitions, and each request for memory refused: scripts/test_hostile.sh [SECONDS]
+#
+# Runs fuzz/run.py for so many seconds (10), fuzz/memory.py, over the program and the readers as `rt ci`
+# built them, and the library for C; and scripts/test_edits.py. The last line is 'hostile use: all well', or the status is not 0.
+set -euo pipefail
+
+root=$(cd "$(dirname "${BASH_SOURCE[0]}")/.." && pwd)
+for tool in cc ld objcopy; do
+    if ! command -v $tool >/dev/null; then
+        echo "hostile use: skipped whole, $tool is not installed"
+        exit 0
+    fi
+done
+dist=$(mktemp -d)
+trap 'rm -rf "$dist"' EXIT
+"$root/scripts/build_c.sh" "$dist"
+built=(--program "$root/crates/cborc/out/cborc" --readers "$root/crates/answers/out/answers")
+python3 "$root/fuzz/run.py" --library "$dist/lib/libnaltvigo.so" "${built[@]}" --seconds "${1:-10}"
+python3 "$root/fuzz/memory.py" "${built[@]}"
+python3 "$root/scripts/test_edits.py"
+echo 'hostile use: all well'
