@@ -66,6 +66,7 @@ pub mod StrictLoop
 pub mod StrictReading
 pub mod StrictSteps
 pub mod Tops
+pub mod TreeValues
 pub mod Undecided
 pub mod Valid
 pub mod ValidTexts

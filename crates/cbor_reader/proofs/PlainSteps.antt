@@ -32,6 +32,8 @@ use Rattle.cbor_events.specs.inner.Taking.{Ends, IsTaking}
 use Rattle.cbor_events.proofs.Opens.{stack}
 use Rattle.cbor_item.specs.Built.{Built, built, TakesPart, IsContainer, IsInContainer, IsLeaf, IsRepeatedKey, HasDistinctKeysSoFar}
 use Rattle.cbor_item.specs.Parts.{Open, an_array, plain as a_plain, a_map as an_open_map, give, opened, close as close_open}
+use Rattle.cbor_item.specs.OpenValues as trees
+use Rattle.cbor_item.specs.OpenValues.{OpenValue, close as close_in_tree}
 use Rattle.cbor_reader.specs.declared.plain_items.PlainItems.{PlainItems}
 use Rattle.cbor_reader.specs.declared.plain_part.Part.{Part}
 use Rattle.cbor_reader.specs.declared.plain_part.Part.TheVariants.{Leaf, String, Begin, Break}
@@ -40,7 +42,7 @@ use Rattle.cbor_reader.specs.inner.Levels.{IsTaken, Level, a_member, a_key, a_va
 use Rattle.cbor_reader.specs.inner.OpenItems.{AreRefused}
 use Rattle.cbor_reader.specs.inner.Path.{Standing, item_due, item_full, item_whole, settle, StandsAt}
 use Rattle.cbor_reader.specs.declared.rules.Rules.TheVariants.{Plain}
-use Rattle.cbor_reader.specs.inner.Front.{IsFrontUnread}
+use Rattle.cbor_reader.specs.inner.Front.{IsFrontRead, IsFrontUnread}
 use Rattle.cbor_reader.specs.inner.PlainFront.{IsStopped, IsDueAt, IsWholeAt, GoesOnOrNot, TakesNext, IsEncodedFront}
 use Rattle.cbor_reader.specs.inner.PlainItems.{AreApart, AreApartSoFar, HaveBegun, HaveBegunIn, HasItsPlace, CanTake, IsGiven, IsEndingAt}
 use Rattle.cbor_reader.specs.inner.PlainParts.{IsCome, leaf_value, IsLeafMajor, Begins, IsStill, ReadsPart}
@@ -55,6 +57,8 @@ use Rattle.cbor_reader.proofs.LevelStrings.{string-canonical}
 use Rattle.cbor_reader.proofs.Levels.{clean-anywhere, full-array, full-map, settled}
 use Rattle.cbor_reader.proofs.Loops.{array_bytes-whole, map_bytes-whole}
 use Rattle.cbor_reader.proofs.OpenHeads.{HasHead, head_item, head_undecided}
+use Rattle.cbor_reader.specs.inner.TreeValues.{level_values, values_at, values_with, IsFullRight, IsTreeAt, IsTreeStep, IsForTree, TakesTreePart, MayEndIn}
+use Rattle.cbor_reader.proofs.TreeValues.{values-given, values-ended, settles-right, tree-step, tree-takes, tree-may-end}
 use Rattle.cbor_reader.proofs.PathFrames.{found_of_whole, repeat_found}
 use Rattle.cbor_reader.proofs.Paths.{given-apart, closed-apart, opened-apart, so-far, apart-now, ends-apart, settled-begun, settled-place, begun-more, begins-at}
 use Rattle.cbor_reader.proofs.Scalars.{at-as}
@@ -142,11 +146,13 @@ stands-as : (o : KeyOrder) (d : ℕ) (x : Standing) (t u : List ℕ) (q p : Stat
 stands-as o d x t u q p os ps h k e f g j s =
     subst (λ (n : ℕ). StandsAt o d u p ps n x) j (subst (λ (y : List Open). StandsAt o d u p y h x) g (subst (λ (y : State). StandsAt o d u y os h x) f (subst (λ (y : List ℕ). StandsAt o d y q os h x) e s)))
 
-record IsPlaced (o : KeyOrder) (d : ℕ) (t : List ℕ) (q : State) (os : List Open) (height : ℕ) (xs : List ℕ) : Type 0 where
+record IsPlaced (o : KeyOrder) (d : ℕ) (t : List ℕ) (q : State) (os : List Open) (height : ℕ) (xs : List ℕ) (vs : List OpenValue) : Type 0 where
   standing : Standing
   stands : StandsAt o d t q os height standing
   begun : HaveBegunIn xs standing
   place : HasItsPlace xs standing
+  right : IsFullRight standing
+  values : vs ≡ values_at standing
 
 module _ (o : KeyOrder) (b : Bounds) (ls : List Level) (levels : AreLevels b.depth ls) (xs : List ℕ) (begun : HaveBegun xs ls) (here : get_or xs (length ls) 0 ≡ length (bytes_before ls)) where
   abbrev fs : List Frame
@@ -155,7 +161,7 @@ module _ (o : KeyOrder) (b : Bounds) (ls : List Level) (levels : AreLevels b.dep
   room-for : length fs < b.depth → length ls < b.depth
   room-for r = omega (arith, r, length-map ls frame)
 
-  array-begins : (k : ℕ) (w : Width) (next : State) → Holds w k → length fs < b.depth → next ≡ expect k fs → IsPlaced o b.depth (bytes_before ls ++ head majors.Array w k) next (an_array 0 [] ∷ opens o ls) (suc (length ls)) xs
+  array-begins : (k : ℕ) (w : Width) (next : State) → Holds w k → length fs < b.depth → next ≡ expect k fs → IsPlaced o b.depth (bytes_before ls ++ head majors.Array w k) next (an_array 0 [] ∷ opens o ls) (suc (length ls)) xs (trees.an_array [] ∷ level_values ls)
   array-begins zero w next holds room follows = record {
     standing = item_full ls (array w no_spellings);
     stands = (
@@ -167,6 +173,8 @@ module _ (o : KeyOrder) (b : Bounds) (ls : List Level) (levels : AreLevels b.dep
     );
     begun = begun;
     place = here;
+    right = tt;
+    values = refl;
   }
   array-begins (suc left) w next holds room follows =
       let count : suc left ≡ 0 + suc left = omega arith in
@@ -181,9 +189,11 @@ module _ (o : KeyOrder) (b : Bounds) (ls : List Level) (levels : AreLevels b.dep
         );
         begun = (here, begun);
         place = tt;
+        right = tt;
+        values = refl;
       }
 
-  map-begins : (k : ℕ) (w : Width) (next : State) → Holds w k → length fs < b.depth → next ≡ expect (k + k) fs → IsPlaced o b.depth (bytes_before ls ++ head majors.Map w k) next (an_open_map [] ∷ opens o ls) (suc (length ls)) xs
+  map-begins : (k : ℕ) (w : Width) (next : State) → Holds w k → length fs < b.depth → next ≡ expect (k + k) fs → IsPlaced o b.depth (bytes_before ls ++ head majors.Map w k) next (an_open_map [] ∷ opens o ls) (suc (length ls)) xs (trees.a_map [] ∷ level_values ls)
   map-begins zero w next holds room follows = record {
     standing = item_full ls (a_map w no_entries);
     stands = (
@@ -195,6 +205,8 @@ module _ (o : KeyOrder) (b : Bounds) (ls : List Level) (levels : AreLevels b.dep
     );
     begun = begun;
     place = here;
+    right = tt;
+    values = refl;
   }
   map-begins (suc left) w next holds room follows =
       let count : suc left ≡ 0 + suc left = omega arith in
@@ -210,42 +222,48 @@ module _ (o : KeyOrder) (b : Bounds) (ls : List Level) (levels : AreLevels b.dep
         );
         begun = (here, begun);
         place = tt;
+        right = tt;
+        values = refl;
       }
 
   module _ (t x : List ℕ) (e : ItemEventsView) (w : Width) (t_is : t ≡ bytes_before ls) where
     -- a container begins
-    opens-by : (kind : EventKind) (m : Major) (k : ℕ) → (i : IsCome b fs t x e w kind) → Begins kind m k → IsPlaced o b.depth (bytes_before ls ++ x) i.next (opened m k ∷ opens o ls) (suc (length ls)) xs
+    opens-by : (kind : EventKind) (m : Major) (k : ℕ) → (i : IsCome b fs t x e w kind) → Begins kind m k → IsPlaced o b.depth (bytes_before ls ++ x) i.next (opened m k ∷ opens o ls) (suc (length ls)) xs (trees.opened m k ∷ level_values ls)
     opens-by (kinds.Array (Some n)) m k i g =
         let d = definite b.depth fs majors.Array w n x i.next (proper-definite w i.proper) i.taking in
-        subst (λ (z : Major). IsPlaced o b.depth (bytes_before ls ++ x) i.next (opened z k ∷ opens o ls) (suc (length ls)) xs) (sym g.0)
-        (subst (λ (y : List ℕ). IsPlaced o b.depth (bytes_before ls ++ y) i.next (an_array 0 [] ∷ opens o ls) (suc (length ls)) xs) (sym d.bytes_are) (array-begins n w i.next d.holds d.follows.0 d.follows.1))
+        subst (λ (z : Major). IsPlaced o b.depth (bytes_before ls ++ x) i.next (opened z k ∷ opens o ls) (suc (length ls)) xs (trees.opened z k ∷ level_values ls)) (sym g.0)
+        (subst (λ (y : List ℕ). IsPlaced o b.depth (bytes_before ls ++ y) i.next (an_array 0 [] ∷ opens o ls) (suc (length ls)) xs (trees.an_array [] ∷ level_values ls)) (sym d.bytes_are) (array-begins n w i.next d.holds d.follows.0 d.follows.1))
     opens-by (kinds.Map (Some n)) m k i g =
         let d = definite b.depth fs majors.Map w n x i.next (proper-definite w i.proper) i.taking in
-        subst (λ (z : Major). IsPlaced o b.depth (bytes_before ls ++ x) i.next (opened z k ∷ opens o ls) (suc (length ls)) xs) (sym g.0)
-        (subst (λ (y : List ℕ). IsPlaced o b.depth (bytes_before ls ++ y) i.next (an_open_map [] ∷ opens o ls) (suc (length ls)) xs) (sym d.bytes_are) (map-begins n w i.next d.holds d.follows.0 d.follows.1))
+        subst (λ (z : Major). IsPlaced o b.depth (bytes_before ls ++ x) i.next (opened z k ∷ opens o ls) (suc (length ls)) xs (trees.opened z k ∷ level_values ls)) (sym g.0)
+        (subst (λ (y : List ℕ). IsPlaced o b.depth (bytes_before ls ++ y) i.next (an_open_map [] ∷ opens o ls) (suc (length ls)) xs (trees.a_map [] ∷ level_values ls)) (sym d.bytes_are) (map-begins n w i.next d.holds d.follows.0 d.follows.1))
     opens-by (kinds.Tag n) m k i g =
         let d = definite b.depth fs majors.Tag w n x i.next (never-open b.depth fs majors.Tag w n x i.next tt i.taking) i.taking in
-        subst (λ (z : Major). IsPlaced o b.depth (bytes_before ls ++ x) i.next (opened z k ∷ opens o ls) (suc (length ls)) xs) (sym g.0)
-        (subst (λ (j : ℕ). IsPlaced o b.depth (bytes_before ls ++ x) i.next (opened majors.Tag j ∷ opens o ls) (suc (length ls)) xs) (sym g.1)
-        (subst (λ (y : List ℕ). IsPlaced o b.depth (bytes_before ls ++ y) i.next (opened majors.Tag n ∷ opens o ls) (suc (length ls)) xs) (sym d.bytes_are)
-        (record { standing = item_due (tagged w n ∷ ls); stands = ((room-for d.follows.0, d.holds, levels), refl, d.follows.1, refl, refl); begun = (here, begun); place = tt })))
+        subst (λ (z : Major). IsPlaced o b.depth (bytes_before ls ++ x) i.next (opened z k ∷ opens o ls) (suc (length ls)) xs (trees.opened z k ∷ level_values ls)) (sym g.0)
+        (subst (λ (j : ℕ). IsPlaced o b.depth (bytes_before ls ++ x) i.next (opened majors.Tag j ∷ opens o ls) (suc (length ls)) xs (trees.opened majors.Tag j ∷ level_values ls)) (sym g.1)
+        (subst (λ (y : List ℕ). IsPlaced o b.depth (bytes_before ls ++ y) i.next (opened majors.Tag n ∷ opens o ls) (suc (length ls)) xs (trees.opened majors.Tag n ∷ level_values ls)) (sym d.bytes_are)
+        (record { standing = item_due (tagged w n ∷ ls); stands = ((room-for d.follows.0, d.holds, levels), refl, d.follows.1, refl, refl); begun = (here, begun); place = tt; right = tt; values = refl })))
     opens-by (kinds.Array None) m k i g =
         let taking = subst (λ (v : Width). IsTaking b.depth (at_item fs) (a_head majors.Array v 0) x i.next) i.proper i.taking in
-        subst (λ (z : Major). IsPlaced o b.depth (bytes_before ls ++ x) i.next (opened z k ∷ opens o ls) (suc (length ls)) xs) (sym g.0)
+        subst (λ (z : Major). IsPlaced o b.depth (bytes_before ls ++ x) i.next (opened z k ∷ opens o ls) (suc (length ls)) xs (trees.opened z k ∷ level_values ls)) (sym g.0)
         (record {
           standing = item_due (some_member no_spellings ∷ ls);
           stands = ((room-for taking.2.0, tt, levels), ap (λ (y : List ℕ). bytes_before ls ++ y) (taking.1 ∙ sym (append-nil (head majors.Array Indefinite 0))), taking.2.1, refl, refl);
           begun = (here, begun);
           place = tt;
+          right = tt;
+          values = refl;
         })
     opens-by (kinds.Map None) m k i g =
         let taking = subst (λ (v : Width). IsTaking b.depth (at_item fs) (a_head majors.Map v 0) x i.next) i.proper i.taking in
-        subst (λ (z : Major). IsPlaced o b.depth (bytes_before ls ++ x) i.next (opened z k ∷ opens o ls) (suc (length ls)) xs) (sym g.0)
+        subst (λ (z : Major). IsPlaced o b.depth (bytes_before ls ++ x) i.next (opened z k ∷ opens o ls) (suc (length ls)) xs (trees.opened z k ∷ level_values ls)) (sym g.0)
         (record {
           standing = item_due (some_key no_entries ∷ ls);
           stands = ((room-for taking.2.0, tt, levels), ap (λ (y : List ℕ). bytes_before ls ++ y) (taking.1 ∙ sym (append-nil (head majors.Map Indefinite 0))), taking.2.1, refl, refl);
           begun = (here, begun);
           place = tt;
+          right = tt;
+          values = refl;
         })
     opens-by (kinds.Unsigned n) m k i g = absurd g
     opens-by (kinds.Negative n) m k i g = absurd g
@@ -258,7 +276,7 @@ module _ (o : KeyOrder) (b : Bounds) (ls : List Level) (levels : AreLevels b.dep
 
 -- the break
 breaks : (o : KeyOrder) (b : Bounds) (ls : List Level) (next : State) (xs : List ℕ) → AreLevels b.depth ls → HaveBegun xs ls → length (bytes_before ls) < 2 ^ 63 → Ends (map frame ls) next
-    → IsPlaced o b.depth (bytes_before ls ++ 0xff ∷ []) next (opens o ls) (length ls) xs
+    → IsPlaced o b.depth (bytes_before ls ++ 0xff ∷ []) next (opens o ls) (length ls) xs (level_values ls)
 breaks o b [] next xs h begun s x = absurd x
 breaks o b (some_member done ∷ ms) next xs h begun s x = record {
   standing = item_full ms (array Indefinite done);
@@ -271,6 +289,8 @@ breaks o b (some_member done ∷ ms) next xs h begun s x = record {
   );
   begun = begun.1;
   place = begun.0;
+  right = tt;
+  values = refl;
 }
 breaks o b (some_key done ∷ ms) next xs h begun s x = record {
   standing = item_full ms (a_map Indefinite done);
@@ -288,6 +308,8 @@ breaks o b (some_key done ∷ ms) next xs h begun s x = record {
   );
   begun = begun.1;
   place = begun.0;
+  right = tt;
+  values = refl;
 }
 breaks o b (some_value done k ∷ ms) next xs h begun s x = absurd x
 breaks o b (a_member w left done ∷ ms) next xs h begun s x = absurd x
@@ -377,7 +399,7 @@ module _ (v : PlainItems) (b : Bounds) (e : ItemEventsView) (t : List ℕ) (d : 
       pub q : State
       pub at : IsAt b new (t ++ bytes) q
       pub leads : (now : PlainItems) (height place count : ℕ) → height ≡ e.machine.open_count → place ≡ ev.place → now.starts ≡ set v.starts height place → IsGiven v.builder part now.builder count
-          → IsEndingAt now b new (t ++ bytes) (height + count)
+          → IsTreeStep (values_with part) v.tree now.tree → IsEndingAt now b new (t ++ bytes) (height + count)
 
     -- the places behind it
     module _ (now : PlainItems) (height place : ℕ) (same : height ≡ e.machine.open_count) (same_place : place ≡ ev.place) (starts : now.starts ≡ set v.starts height place) where
@@ -392,9 +414,9 @@ module _ (v : PlainItems) (b : Bounds) (e : ItemEventsView) (t : List ℕ) (d : 
           let room = place-room height same in
           ap (λ (xs : List ℕ). get_or xs (length d.ls) 0) starts ∙ ap (λ (i : ℕ). get_or (set v.starts height place) i 0) (sym level) ∙ begins-at v.starts height place room ∙ same_place ∙ n.place ∙ ap length d.taken
 
-      placed-ending : (x : List ℕ) (q : State) (os : List Open) (count : ℕ) → IsAt b new (t ++ x) q → (l : IsPlaced v.builder.order b.depth (bytes_before d.ls ++ x) q os (length d.ls + count) now.starts) → now.builder ≡ built v.builder.order os
+      placed-ending : (part : Part) (vs : List OpenValue) → values_with part (level_values d.ls) ≡ vs → IsTreeStep (values_with part) v.tree now.tree → (x : List ℕ) (q : State) (os : List Open) (count : ℕ) → IsAt b new (t ++ x) q → (l : IsPlaced v.builder.order b.depth (bytes_before d.ls ++ x) q os (length d.ls + count) now.starts vs) → now.builder ≡ built v.builder.order os
           → AreApartSoFar os → IsEndingAt now b new (t ++ x) (height + count)
-      placed-ending x q os count at l is apart = record {
+      placed-ending part vs vs_are step x q os count at l is apart = record {
         q = q;
         at = at;
         standing = l.standing;
@@ -404,12 +426,14 @@ module _ (v : PlainItems) (b : Bounds) (e : ItemEventsView) (t : List ℕ) (d : 
         apart = subst AreApartSoFar (sym (ap (λ (g : Built). g.standing) is)) apart;
         begun = l.begun;
         place = l.place;
+        tree = tree-step (values_with part) v.tree now.tree (item_due d.ls) l.standing d.tree step (vs_are ∙ l.values) l.right;
       }
 
     -- an item that was taken whole
     item-taken : (part : Part) (u : Value) → ReadsItem plain b gs t n.bytes mid to new u
-        → ((g now : Built) (count : ℕ) → IsGiven g part now count → (now ≡ built g.order (give (canonical g.order u) g.standing)) × (count ≡ 0)) → IsPartTaken part
-    item-taken part u r given-is =
+        → ((g now : Built) (count : ℕ) → IsGiven g part now count → (now ≡ built g.order (give (canonical g.order u) g.standing)) × (count ≡ 0))
+        → values_with part (level_values d.ls) ≡ trees.give u (level_values d.ls) → IsPartTaken part
+    item-taken part u r given-is values-so =
         let m = reads-next plain b gs t n.bytes from mid to new u n.consumed r in
         let o = v.builder.order in
         let short : length (bytes_before d.ls ++ spell m.item) < 2 ^ 64 = subst (λ (y : List ℕ). length (y ++ spell m.item) < 2 ^ 64) d.taken (short-at b new (t ++ spell m.item) (close gs) m.at) in
@@ -421,26 +445,28 @@ module _ (v : PlainItems) (b : Bounds) (e : ItemEventsView) (t : List ℕ) (d : 
           undecided = undecided-whole (spell m.item) (item-undecided plain b gs t [] from to new u m);
           q = close gs;
           at = m.at;
-          leads = λ now height place count same same_place starts given.
+          leads = λ now height place count same same_place starts given step.
               let g = given-is v.builder now.builder count given in
               let begun = begun-so now height place same same_place starts in
               let here = here-so now height place same same_place starts in
               let os : List Open = give (canonical o u) v.builder.standing in
               let os_is : give (canonical o (value_of m.item)) (opens o d.ls) ≡ os = ap₂ (λ (w : Value) (ps : List Open). give (canonical o w) ps) m.value (sym d.standing) in
-              placed-ending now height place same same_place starts (spell m.item) (close gs) os count m.at
+              placed-ending now height place same same_place starts part (trees.give u (level_values d.ls)) values-so step (spell m.item) (close gs) os count m.at
               (record {
                 standing = settle d.ls m.item;
                 stands = stands-as o b.depth (settle d.ls m.item) _ (bytes_before d.ls ++ spell m.item) (close gs) (close gs) _ os (length d.ls) (length d.ls + count) refl refl os_is (omega (arith, g.1)) (settled o b.depth d.ls m.item d.levels is short);
                 begun = settled-begun now.starts d.ls m.item begun;
                 place = settled-place now.starts d.ls m.item begun here;
+                right = settles-right d.ls m.item;
+                values = ap (λ (w : Value). trees.give w (level_values d.ls)) (sym m.value) ∙ values-given d.ls m.item;
               })
               g.0 (given-apart (canonical o u) v.builder.standing d.apart);
         }
 
     -- a head or a break alone
     head-taken : (part : Part) → IsStill after new mid to
-        → ((now : PlainItems) (height place count : ℕ) → height ≡ e.machine.open_count → place ≡ ev.place → now.starts ≡ set v.starts height place → IsGiven v.builder part now.builder count → IsAt b new (t ++ n.bytes) n.next
-        → IsEndingAt now b new (t ++ n.bytes) (height + count)) → IsPartTaken part
+        → ((now : PlainItems) (height place count : ℕ) → height ≡ e.machine.open_count → place ≡ ev.place → now.starts ≡ set v.starts height place → IsGiven v.builder part now.builder count
+        → IsTreeStep (values_with part) v.tree now.tree → IsAt b new (t ++ n.bytes) n.next → IsEndingAt now b new (t ++ n.bytes) (height + count)) → IsPartTaken part
     head-taken part still leads =
         let at = subst (λ (z : ItemEventsView). IsAt b z (t ++ n.bytes) n.next) (sym still.events) n.at in
         record {
@@ -450,35 +476,37 @@ module _ (v : PlainItems) (b : Bounds) (e : ItemEventsView) (t : List ℕ) (d : 
           undecided = undecided-whole n.bytes (mark-undecided b gs t n.bytes (mark_of ev.width ev.kind) n.next n.taking);
           q = n.next;
           at = at;
-          leads = λ now height place count same same_place starts given. leads now height place count same same_place starts given at;
+          leads = λ now height place count same same_place starts given step. leads now height place count same same_place starts given step at;
         }
 
     pub part-taken : (part : Part) → ReadsPart b gs t n.bytes ev.kind after new mid to part → IsPartTaken part
     part-taken (Leaf m k) r =
         item-taken (Leaf m k) (leaf_value m k) r.1
         (λ g now count h. (h.0 ∙ ap (λ (x : List ℕ). built g.order (give x g.standing)) (leaf-canonical g.order m k r.0), h.1))
+        refl
     part-taken (String is_text content) r =
-        item-taken (String is_text content) (string_value is_text content.items) r
+        item-taken (String is_text content) (string_value is_text content.items) r.1
         (λ g now count h. (h.0 ∙ ap (λ (x : List ℕ). built g.order (give x g.standing)) (string-canonical g.order is_text content.items), h.1))
+        refl
     part-taken (Begin m k) r =
         head-taken (Begin m k) r.1
-        (λ now height place count same same_place starts given at.
+        (λ now height place count same same_place starts given step at.
         let l = opens-by v.builder.order b d.ls d.levels now.starts (begun-so now height place same same_place starts) (here-so now height place same same_place starts) t n.bytes after ev.width d.taken ev.kind m k came r.0 in
         let one : suc (length d.ls) ≡ length d.ls + count = omega (arith, given.1) in
-        placed-ending now height place same same_place starts n.bytes n.next (opened m k ∷ v.builder.standing) count at
-        (subst (λ (h : ℕ). IsPlaced v.builder.order b.depth (bytes_before d.ls ++ n.bytes) n.next (opened m k ∷ v.builder.standing) h now.starts) one
-        (subst (λ (os : List Open). IsPlaced v.builder.order b.depth (bytes_before d.ls ++ n.bytes) n.next (opened m k ∷ os) (suc (length d.ls)) now.starts) (sym d.standing) l))
+        placed-ending now height place same same_place starts (Begin m k) (trees.opened m k ∷ level_values d.ls) refl step n.bytes n.next (opened m k ∷ v.builder.standing) count at
+        (subst (λ (h : ℕ). IsPlaced v.builder.order b.depth (bytes_before d.ls ++ n.bytes) n.next (opened m k ∷ v.builder.standing) h now.starts (trees.opened m k ∷ level_values d.ls)) one
+        (subst (λ (os : List Open). IsPlaced v.builder.order b.depth (bytes_before d.ls ++ n.bytes) n.next (opened m k ∷ os) (suc (length d.ls)) now.starts (trees.opened m k ∷ level_values d.ls)) (sym d.standing) l))
         given.0 (opened-apart m k v.builder.standing (begins-container ev.kind m k r.0) d.apart))
     part-taken Break r =
         head-taken Break r.1
-        (λ now height place count same same_place starts given at.
+        (λ now height place count same same_place starts given step at.
         let taking = subst (λ (k : EventKind). IsTaking b.depth (at_item gs) (mark_of ev.width k) n.bytes n.next) r.0 n.taking in
         let l = breaks v.builder.order b d.ls n.next now.starts d.levels (begun-so now height place same same_place starts) few taking.1 in
         let none : length d.ls ≡ length d.ls + count = omega (arith, given.1) in
-        placed-ending now height place same same_place starts n.bytes n.next v.builder.standing count at
-        (subst (λ (h : ℕ). IsPlaced v.builder.order b.depth (bytes_before d.ls ++ n.bytes) n.next v.builder.standing h now.starts) none
-        (subst (λ (os : List Open). IsPlaced v.builder.order b.depth (bytes_before d.ls ++ n.bytes) n.next os (length d.ls) now.starts) (sym d.standing)
-        (subst (λ (y : List ℕ). IsPlaced v.builder.order b.depth (bytes_before d.ls ++ y) n.next (opens v.builder.order d.ls) (length d.ls) now.starts) (sym taking.0) l)))
+        placed-ending now height place same same_place starts Break (level_values d.ls) refl step n.bytes n.next v.builder.standing count at
+        (subst (λ (h : ℕ). IsPlaced v.builder.order b.depth (bytes_before d.ls ++ n.bytes) n.next v.builder.standing h now.starts (level_values d.ls)) none
+        (subst (λ (os : List Open). IsPlaced v.builder.order b.depth (bytes_before d.ls ++ n.bytes) n.next os (length d.ls) now.starts (level_values d.ls)) (sym d.standing)
+        (subst (λ (y : List ℕ). IsPlaced v.builder.order b.depth (bytes_before d.ls ++ y) n.next (opens v.builder.order d.ls) (length d.ls) now.starts (level_values d.ls)) (sym taking.0) l)))
         given.0 (so-far v.builder.standing d.apart))
 
     -- a part that is refused
@@ -490,6 +518,15 @@ module _ (v : PlainItems) (b : Bounds) (e : ItemEventsView) (t : List ℕ) (d : 
     part-fits (String is_text content) r = takes-part
     part-fits (Begin m k) r = (begins-container ev.kind m k r.0, takes-part)
     part-fits Break r = tt
+
+    pub part-fits-tree : (part : Part) → ReadsPart b gs t n.bytes ev.kind after new mid to part → TakesTreePart part v.tree
+    part-fits-tree part r = tree-takes part v.tree d.ls (fits part r) d.tree
+      where
+        fits : (p : Part) → ReadsPart b gs t n.bytes ev.kind after new mid to p → IsForTree p
+        fits (Leaf m k) h = h.0
+        fits (String is_text content) h = h.0
+        fits (Begin m k) h = begins-container ev.kind m k h.0
+        fits Break h = tt
 
     -- memory is refused behind it
     pub part-no-memory : (part : Part) → IsPartTaken part → (f : Refusal) → f.reason ≡ Memory → f.place ≡ f.read → f.read ≡ new.machine.taken → IsStopped plain b t from to f
@@ -525,8 +562,17 @@ module _ (v : PlainItems) (b : Bounds) (e : ItemEventsView) (t : List ℕ) (heig
       go (item_full (l ∷ ls) u) s = (subst IsInContainer (sym s.3.2) (s.3.1.container (level_open v.builder.order l) (opens v.builder.order ls)), apart v.builder.standing h.apart)
       go (item_whole u) s = absurd (omega (arith, more, s.4))
 
-  pub ends-one : e.machine.open_count < height → (now : PlainItems) → now.builder ≡ built v.builder.order (close_open v.builder.order v.builder.standing) → now.starts ≡ v.starts → IsEndingAt now b e t (height - 1)
-  ends-one more now is starts = go h.standing h.stands h.begun h.place
+  pub ends-in-tree : e.machine.open_count < height → MayEndIn v.tree
+  ends-in-tree more = go h.standing h.stands h.tree
+    where
+      go : (x : Standing) → StandsAt v.builder.order b.depth t h.q v.builder.standing height x → IsTreeAt v.tree x → MayEndIn v.tree
+      go (item_due ls) s tree = absurd (omega (arith, more, due-count ls s.2, s.4))
+      go (item_full ls u) s tree = tree-may-end v.tree ls u tree
+      go (item_whole u) s tree = absurd (omega (arith, more, s.4))
+
+  pub ends-one : e.machine.open_count < height → (now : PlainItems) → now.builder ≡ built v.builder.order (close_open v.builder.order v.builder.standing) → now.starts ≡ v.starts → IsTreeStep close_in_tree v.tree now.tree
+      → IsEndingAt now b e t (height - 1)
+  ends-one more now is starts step = go h.standing h.stands h.begun h.place h.tree
     where
       o : KeyOrder
       o = v.builder.order
@@ -534,10 +580,10 @@ module _ (v : PlainItems) (b : Bounds) (e : ItemEventsView) (t : List ℕ) (heig
       apart-so : AreApartSoFar now.builder.standing
       apart-so = subst AreApartSoFar (sym (ap (λ (g : Built). g.standing) is)) (closed-apart v.builder.order v.builder.standing h.apart)
 
-      go : (x : Standing) → StandsAt v.builder.order b.depth t h.q v.builder.standing height x → HaveBegunIn v.starts x → HasItsPlace v.starts x → IsEndingAt now b e t (height - 1)
-      go (item_due ls) s begun place = absurd (omega (arith, more, due-count ls s.2, s.4))
-      go (item_whole u) s begun place = absurd (omega (arith, more, s.4))
-      go (item_full ls u) s begun place =
+      go : (x : Standing) → StandsAt v.builder.order b.depth t h.q v.builder.standing height x → HaveBegunIn v.starts x → HasItsPlace v.starts x → IsTreeAt v.tree x → IsEndingAt now b e t (height - 1)
+      go (item_due ls) s begun place tree = absurd (omega (arith, more, due-count ls s.2, s.4))
+      go (item_whole u) s begun place tree = absurd (omega (arith, more, s.4))
+      go (item_full ls u) s begun place tree =
           let c = s.3.0 in
           let f = s.3.1 in
           let short : length (bytes_before ls ++ spell u) < 2 ^ 64 = subst (λ (x : List ℕ). length x < 2 ^ 64) s.1 (short-at b e t h.q h.at) in
@@ -555,6 +601,7 @@ module _ (v : PlainItems) (b : Bounds) (e : ItemEventsView) (t : List ℕ) (heig
             apart = apart-so;
             begun = subst (λ (xs : List ℕ). HaveBegunIn xs (settle ls u)) (sym starts) (settled-begun v.starts ls u begun);
             place = subst (λ (xs : List ℕ). HasItsPlace xs (settle ls u)) (sym starts) (settled-place v.starts ls u begun place);
+            tree = tree-step close_in_tree v.tree now.tree (item_full ls u) (settle ls u) tree step (values-ended ls u) (settles-right ls u);
           }
 
   -- no more are open
@@ -629,22 +676,22 @@ module _ (v : PlainItems) (b : Bounds) (e : ItemEventsView) (t : List ℕ) (h : 
 
   -- another item is due
   pub goes-on : (places : length v.starts ≡ 257) → AreApart v.builder.standing → 0 < e.machine.open_count → IsDueAt v b e t
-  goes-on places apart more = go h.standing h.stands h.begun
+  goes-on places apart more = go h.standing h.stands h.begun h.tree
     where
-      go : (x : Standing) → StandsAt v.builder.order b.depth t h.q v.builder.standing e.machine.open_count x → HaveBegunIn v.starts x → IsDueAt v b e t
-      go (item_due ls) s begun = record { ls = ls; levels = s.0; taken = s.1; at = at-as b e t t h.q (at_item (map frame ls)) refl s.2 h.at; standing = s.3; apart = apart; begun = begun; places = places }
-      go (item_full ls u) s begun = absurd (omega (arith, full-count v b e t e.machine.open_count h ls s.2, s.4))
-      go (item_whole u) s begun = absurd (omega (arith, more, s.4))
+      go : (x : Standing) → StandsAt v.builder.order b.depth t h.q v.builder.standing e.machine.open_count x → HaveBegunIn v.starts x → IsTreeAt v.tree x → IsDueAt v b e t
+      go (item_due ls) s begun tree = record { ls = ls; levels = s.0; taken = s.1; at = at-as b e t t h.q (at_item (map frame ls)) refl s.2 h.at; standing = s.3; apart = apart; begun = begun; places = places; tree = tree }
+      go (item_full ls u) s begun tree = absurd (omega (arith, full-count v b e t e.machine.open_count h ls s.2, s.4))
+      go (item_whole u) s begun tree = absurd (omega (arith, more, s.4))
 
   -- or the item is whole
   pub is-whole : e.machine.open_count ≡ 0 → IsWholeAt v b e t
-  is-whole none = go h.standing h.stands
+  is-whole none = go h.standing h.stands h.tree
     where
-      go : (x : Standing) → StandsAt v.builder.order b.depth t h.q v.builder.standing e.machine.open_count x → IsWholeAt v b e t
-      go (item_due []) s = absurd (omega (arith, some, ap length s.1))
-      go (item_due (l ∷ ls)) s = absurd (omega (arith, none, s.4))
-      go (item_full ls u) s = absurd (omega (arith, full-count v b e t e.machine.open_count h ls s.2, s.4))
-      go (item_whole u) s = record { item = u; is = s.0; taken = s.1; at = at-as b e t t h.q at_end refl s.2 h.at; standing = s.3 }
+      go : (x : Standing) → StandsAt v.builder.order b.depth t h.q v.builder.standing e.machine.open_count x → IsTreeAt v.tree x → IsWholeAt v b e t
+      go (item_due []) s tree = absurd (omega (arith, some, ap length s.1))
+      go (item_due (l ∷ ls)) s tree = absurd (omega (arith, none, s.4))
+      go (item_full ls u) s tree = absurd (omega (arith, full-count v b e t e.machine.open_count h ls s.2, s.4))
+      go (item_whole u) s tree = record { item = u; is = s.0; taken = s.1; at = at-as b e t t h.q at_end refl s.2 h.at; standing = s.3; tree = tree }
 
 -- ---- what is answered
 
@@ -669,14 +716,15 @@ pub record IsRunning (o : KeyOrder) (v : PlainItems) (b : Bounds) (e : ItemEvent
   pub consumed : Consumes from now t
   pub due : IsDueAt v b e t
 
-pub runs-first : (o : KeyOrder) (v : PlainItems) (b : Bounds) (e : ItemEventsView) (from : Option (List ℕ)) → v.builder ≡ built o (a_plain [] ∷ []) → length v.starts ≡ 257 → IsAt b e [] (at_item []) → IsRunning o v b e from from
-runs-first o v b e from is places at =
+pub runs-first : (o : KeyOrder) (v : PlainItems) (b : Bounds) (e : ItemEventsView) (from : Option (List ℕ)) → v.builder ≡ built o (a_plain [] ∷ []) → length v.starts ≡ 257 → IsTreeAt v.tree (item_due []) → IsAt b e [] (at_item [])
+    → IsRunning o v b e from from
+runs-first o v b e from is places tree at =
     let standing = ap (λ (g : Built). g.standing) is in
     record {
       order = ap (λ (g : Built). g.order) is;
       t = [];
       consumed = Consumes-nil from;
-      due = record { ls = []; levels = tt; taken = refl; at = at; standing = standing; apart = subst AreApart (sym standing) (tt, (λ x. x), tt); begun = tt; places = places };
+      due = record { ls = []; levels = tt; taken = refl; at = at; standing = standing; apart = subst AreApart (sym standing) (tt, (λ x. x), tt); begun = tt; places = places; tree = tree };
     }
 
 pub runs-on : (o : KeyOrder) (old v : PlainItems) (b : Bounds) (e new : ItemEventsView) (from now to : Option (List ℕ)) → (h : IsRunning o old b e from now) → TakesNext true old v b new h.t now to → IsRunning o v b new from to
@@ -687,24 +735,30 @@ pub runs-farther : (o : KeyOrder) (old v : PlainItems) (b : Bounds) (e new : Ite
 runs-farther o old v b e new from now to h g =
     farther b e new h.t (h.t ++ g.bytes) _ _ h.due.at g.stands.at (omega (arith, g.some, length-append h.t g.bytes))
 
+pub front-whole : (o : KeyOrder) (old v : PlainItems) (b : Bounds) (e new : ItemEventsView) (from now to : Option (List ℕ)) (count : ℕ) → AreBounds b → (h : IsRunning o old b e from now) → (g : TakesNext false old v b new h.t now to)
+    → count ≡ new.machine.taken → IsFrontRead plain b from to (value_of g.stands.item) count
+front-whole o old v b e new from now to count l h g c =
+    let x = g.stands in
+    let all : Consumes from to (h.t ++ g.bytes) = Consumes-trans from now to h.t g.bytes h.consumed g.consumed in
+    front-read Plain b from to new (value_of x.item) count l
+    (record {
+      item = x.item;
+      spelled = x.is.spelled;
+      within = omega (arith, x.is.within);
+      clean = x.is.clean 0;
+      taken = record { more = spell x.item; consumed = subst (Consumes from to) x.taken all; are = refl };
+      value = refl;
+      at = at-as b new (h.t ++ g.bytes) (spell x.item) at_end at_end x.taken refl x.at;
+    })
+    c
+
 pub runs-out : (o : KeyOrder) (old v : PlainItems) (b : Bounds) (e new : ItemEventsView) (from now to : Option (List ℕ)) (out : List ℕ) (count : ℕ) → AreBounds b → (h : IsRunning o old b e from now) → TakesNext false old v b new h.t now to
     → ((bs : List ℕ) → v.builder.standing ≡ a_plain bs ∷ [] → out ≡ bs) → count ≡ new.machine.taken → IsEncodedFront b o from to out count
 runs-out o old v b e new from now to out count l h g out_is c =
     let x = g.stands in
-    let all : Consumes from to (h.t ++ g.bytes) = Consumes-trans from now to h.t g.bytes h.consumed g.consumed in
     record {
       value = value_of x.item;
-      read = front-read Plain b from to new (value_of x.item) count l
-          (record {
-            item = x.item;
-            spelled = x.is.spelled;
-            within = omega (arith, x.is.within);
-            clean = x.is.clean 0;
-            taken = record { more = spell x.item; consumed = subst (Consumes from to) x.taken all; are = refl };
-            value = refl;
-            at = at-as b new (h.t ++ g.bytes) (spell x.item) at_end at_end x.taken refl x.at;
-          })
-          c;
+      read = front-whole o old v b e new from now to count l h g c;
       canonical_is = out_is _ x.standing ∙ ap (λ (p : KeyOrder). canonical p (value_of x.item)) (g.order ∙ h.order);
     }
 

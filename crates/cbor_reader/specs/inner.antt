@@ -21,3 +21,4 @@ pub mod Rules
 pub mod SliceChecks
 pub mod SliceFront
 pub mod StrictEvents
+pub mod TreeValues

@@ -58,6 +58,7 @@ mod strict_slice;
 mod strings;
 #[cfg(test)]
 mod tests;
+mod tree_parts;
 mod tree_reader;
 mod valid_front;
 mod valid_slice;

@@ -2,7 +2,8 @@
 
 ghost use Rattle.std.specs.Prelude.{◌≡◌, MatchResult};
 ghost use Rattle.cbor_head.specs.Complaint.{plain};
-ghost use Rattle.cbor_reader.specs.inner.Front.{IsFrontUnread};
+ghost use Rattle.cbor_item.specs.View.{view};
+ghost use Rattle.cbor_reader.specs.inner.Front.{IsFrontRead, IsFrontUnread};
 ghost use Rattle.cbor_reader.specs.inner.PlainFront.{IsDueSomewhere, AnswersNextPart, IsEncodedFront};
 
 use crate::next_head::next_head;
@@ -13,6 +14,7 @@ use crate::rules::Rules;
 use crate::slice_builder::BuiltFront;
 use cbor_events::ItemEvents;
 use cbor_head::{KeyOrder, Limits, Reason, Refusal};
+use cbor_item::Item;
 use std::alloc::Global;
 use std::io::Read;
 
@@ -44,6 +46,33 @@ pub(crate) fn read_plain_front<R: Read>(
     }
 }
 
+// The item that the reader's bytes begin with, and how many bytes it has. No byte behind the item
+// or its first complaint is read.
+pub(crate) fn read_item_front<R: Read>(
+    alloc: Global,
+    reader: &mut R,
+    limits: Limits,
+) -> Result<(Item, u64), Refusal>
+    ensures { MatchResult result
+        (λ answer. IsFrontRead plain limits
+        (R.remaining reader.old) (R.remaining reader.new) (view answer.0) answer.1)
+        (λ f. IsFrontUnread plain limits (R.remaining reader.old) (R.remaining reader.new) f) }
+{
+    let mut events = ItemEvents::new(limits);
+    let mut items = PlainItems::with_tree(alloc, KeyOrder::Bytewise);
+    'parts: loop {
+        match next_part(alloc, &mut events, &mut items, reader) {
+            Ok(true) => {}
+            Ok(false) => {
+                let item = items.into_item();
+                let size = events.taken();
+                return Ok((item, size));
+            }
+            Err(refusal) => return Err(refusal),
+        }
+    }
+}
+
 // Takes the next part of the item; whether it goes on behind it.
 fn next_part<R: Read>(
     alloc: Global,
@@ -65,7 +94,7 @@ fn next_part<R: Read>(
         Ok(part) => part,
         Err(refusal) => return Err(refusal),
     };
-    let opened = match items.give(&part) {
+    let opened = match items.give(part) {
         Ok(opened) => opened,
         Err(_) => return Err(no_memory(events)),
     };

@@ -1,15 +1,21 @@
 //! What the plain reader keeps of the items that are open, from event to event.
 
-ghost use Rattle.std.specs.Prelude.{◌≡◌, ◌<◌, ◌≤◌, ◌∷◌, ◌↔◌, [], ℕ, List, IfOk, IsTrue, length};
+ghost use Rattle.std.specs.Prelude.{◌≡◌, ◌<◌, ◌≤◌, ◌∷◌, ◌↔◌, [], ℕ, List, IfOk, IsSome, IsTrue, None, length};
 ghost use Rattle.std.specs.Prelude.{slice_index_or, slice_set, MatchOption};
 ghost use Rattle.cbor_item.specs.Built.{built, IsRepeatedKey};
 ghost use Rattle.cbor_item.specs.Parts.{plain};
+ghost use Rattle.cbor_head.specs.Spelling.{Spelling, value_of};
+ghost use Rattle.cbor_item.specs.View.{view};
+ghost use Rattle.cbor_reader.specs.inner.Path.{item_due, item_whole};
+ghost use Rattle.cbor_reader.specs.inner.TreeValues.{IsTreeAt, IsTreeStep, IsWholeIn, TakesTreePart};
+ghost use Rattle.cbor_reader.specs.inner.TreeValues.{values_with};
 ghost use Rattle.cbor_reader.specs.inner.PlainItems.{CanTake, IsGiven, IsEnding, AnswersEnds};
 
 use crate::MOST_OPEN;
 use crate::plain_part::Part;
+use crate::tree_parts::{end_in_tree, give_to_tree};
 use cbor_head::{KeyOrder, Major};
-use cbor_item::CanonBuilder;
+use cbor_item::{CanonBuilder, Item, TreeBuilder};
 use std::alloc::{AllocError, Global};
 
 // An item may stand in no container.
@@ -19,6 +25,8 @@ const PLACES: usize = MOST_OPEN + 1;
 #[derive(Drop)]
 pub(crate) struct PlainItems {
     builder: CanonBuilder,
+    // The item itself, where it is asked for.
+    tree: Option<TreeBuilder>,
     // At the number of containers around it, where the last item began that came there.
     starts: [u64; PLACES],
 }
@@ -28,9 +36,25 @@ impl PlainItems {
     pub(crate) fn new(alloc: Global, order: KeyOrder) -> PlainItems
         ensures built { result.builder ≡ built order (plain [] ∷ []) }
         ensures starts { length result.starts ≡ 257 }
+        ensures tree { result.tree ≡ None }
     {
         PlainItems {
             builder: CanonBuilder::new(alloc, order),
+            tree: None,
+            starts: [0; PLACES],
+        }
+    }
+
+    // Nothing came, and the item is to be made too.
+    pub(crate) fn with_tree(alloc: Global, order: KeyOrder) -> PlainItems
+        ensures built { result.builder ≡ built order (plain [] ∷ []) }
+        ensures starts { length result.starts ≡ 257 }
+        ensures tree { IsTreeAt result.tree (item_due []) }
+        ensures made { IsSome result.tree }
+    {
+        PlainItems {
+            builder: CanonBuilder::new(alloc, order),
+            tree: Some(TreeBuilder::new(alloc)),
             starts: [0; PLACES],
         }
     }
@@ -39,33 +63,23 @@ impl PlainItems {
     pub(crate) fn begin_at(&mut self, height: usize, place: u64)
         requires { height < length self.old.starts }
         ensures same { self.new.builder ≡ self.old.builder }
+        ensures tree { self.new.tree ≡ self.old.tree }
         ensures starts { self.new.starts ≡ slice_set self.old.starts height place }
     {
         self.starts[height] = place;
     }
 
     // The next part of the item; answers how many containers it opens.
-    pub(crate) fn give(&mut self, part: &Part) -> Result<usize, AllocError>
-        requires { CanTake self.old.builder part.now }
+    pub(crate) fn give(&mut self, part: Part) -> Result<usize, AllocError>
+        requires bytes { CanTake self.old.builder part }
+        requires tree { TakesTreePart part self.old.tree }
         ensures same { self.new.starts ≡ self.old.starts }
-        ensures given { IfOk result (λ opened. IsGiven self.old.builder part.now self.new.builder opened) }
+        ensures given { IfOk result (λ opened. IsGiven self.old.builder part self.new.builder opened) }
+        ensures tree { IfOk result (λ _. IsTreeStep (values_with part) self.old.tree self.new.tree) }
     {
-        match part {
-            Part::Leaf(major, argument) => {
-                self.builder.leaf(*major, *argument)?;
-                Ok(0)
-            }
-            Part::String(is_text, content) => {
-                let major = if *is_text { Major::Text } else { Major::Bytes };
-                self.builder.string(major, content)?;
-                Ok(0)
-            }
-            Part::Begin(major, number) => {
-                self.builder.begin(*major, *number)?;
-                Ok(1)
-            }
-            Part::Break => Ok(0),
-        }
+        let opened = give_to_builder(&mut self.builder, &part)?;
+        give_to_tree(&mut self.tree, part)?;
+        Ok(opened)
     }
 
     // Ends the containers that are full, the innermost first, where so many are open, and so many
@@ -78,6 +92,7 @@ impl PlainItems {
         let mut left = height;
         'full: while left > open {
             self.builder.end()?;
+            end_in_tree(&mut self.tree)?;
             left -= 1;
         }
         Ok(())
@@ -102,7 +117,50 @@ impl PlainItems {
     pub(crate) fn finish(self) -> Vec<u8>
         ensures { (bs : List ℕ) → self.builder.standing ≡ plain bs ∷ [] → result.items ≡ bs }
     {
-        let PlainItems { builder, starts: _ } = self;
+        let PlainItems {
+            builder,
+            tree: _,
+            starts: _,
+        } = self;
         builder.finish()
+    }
+
+    // The item, which is whole.
+    pub(crate) fn into_item(self) -> Item
+        requires { IsWholeIn self.tree }
+        ensures { (s : Spelling) → IsTreeAt self.tree (item_whole s) → view result ≡ value_of s }
+    {
+        let PlainItems {
+            builder: _,
+            tree,
+            starts: _,
+        } = self;
+        match tree {
+            Some(tree) => tree.finish(),
+            None => unreachable!(),
+        }
+    }
+}
+
+// The next part for the canonical bytes; answers how many containers it opens.
+fn give_to_builder(builder: &mut CanonBuilder, part: &Part) -> Result<usize, AllocError>
+    requires { CanTake builder.old part.now }
+    ensures { IfOk result (λ opened. IsGiven builder.old part.now builder.new opened) }
+{
+    match part {
+        Part::Leaf(major, argument) => {
+            builder.leaf(*major, *argument)?;
+            Ok(0)
+        }
+        Part::String(is_text, content) => {
+            let major = if *is_text { Major::Text } else { Major::Bytes };
+            builder.string(major, content)?;
+            Ok(0)
+        }
+        Part::Begin(major, number) => {
+            builder.begin(*major, *number)?;
+            Ok(1)
+        }
+        Part::Break => Ok(0),
     }
 }

@@ -7,8 +7,7 @@ ghost use Rattle.cbor_reader.specs.Readers.{IsReadAs, IsUnread, Loses};
 ghost use Rattle.cbor_reader.specs.Refusals.{IsReaderReason};
 ghost use Rattle.cbor_reader.specs.Size.{size};
 
-use crate::front::read_front;
-use crate::rules::Rules;
+use crate::plain_front::read_item_front;
 use cbor_head::{Limits, Refusal};
 use cbor_item::Tree;
 use std::alloc::Global;
@@ -38,7 +37,7 @@ pub fn read_tree<R: Read>(
     ensures read { IfErr result
         (λ f. Loses f.read (R.remaining reader.old) (R.remaining reader.new)) }
 {
-    match read_front(alloc, reader, limits, Rules::Plain) {
+    match read_item_front(alloc, reader, limits) {
         Ok((item, count)) => Ok((Tree::from_valid(item), count)),
         Err(refusal) => Err(refusal),
     }

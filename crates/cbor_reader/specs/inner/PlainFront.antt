@@ -1,5 +1,5 @@
 -- What is told of the item at the front of an input, part by part, by the plain rules.
-use Rattle.std.specs.Prelude.{ℕ, ◌≡◌, ◌<◌, ◌++◌, Bool, true, false, List, [], ◌∷◌, length, map, Option, Result, MatchResult}
+use Rattle.std.specs.Prelude.{ℕ, ◌≡◌, ◌<◌, ◌++◌, Bool, true, false, List, [], ◌∷◌, length, map, Option, Result, MatchResult, IfSome, IsSome}
 use Rattle.std.specs.Io.KnownBytes.{Consumes}
 use Rattle.cbor_head.specs.Canonical.{canonical}
 use Rattle.cbor_head.specs.Complaint.{Rules, plain}
@@ -16,7 +16,9 @@ use Rattle.cbor_reader.specs.inner.Front.{IsFrontRead}
 use Rattle.cbor_reader.specs.inner.Levels.{IsTaken, Level, frame, AreLevels, bytes_before, opens}
 use Rattle.cbor_reader.specs.inner.PlainItems.{AreApart, HaveBegun}
 use Rattle.cbor_reader.specs.inner.OpenItems.{AreRefused}
+use Rattle.cbor_reader.specs.inner.Path.{item_due, item_whole}
 use Rattle.cbor_reader.specs.inner.Reading.{IsAt}
+use Rattle.cbor_reader.specs.inner.TreeValues.{IsTreeAt}
 
 -- an item is due, behind the bytes t, and nothing read has a complaint
 pub record IsDueAt (v : PlainItems) (b : Bounds) (e : ItemEventsView) (t : List ℕ) : Type 0 where
@@ -28,6 +30,7 @@ pub record IsDueAt (v : PlainItems) (b : Bounds) (e : ItemEventsView) (t : List 
   pub apart : AreApart v.builder.standing
   pub begun : HaveBegun v.starts ls
   pub places : length v.starts ≡ 257
+  pub tree : IsTreeAt v.tree (item_due ls)
 
 pub record IsDueSomewhere (v : PlainItems) (e : ItemEventsView) : Type 0 where
   pub b : Bounds
@@ -41,6 +44,7 @@ pub record IsWholeAt (v : PlainItems) (b : Bounds) (e : ItemEventsView) (t : Lis
   pub taken : t ≡ spell item
   pub at : IsAt b e t at_end
   pub standing : v.builder.standing ≡ a_plain (canonical v.builder.order (value_of item)) ∷ []
+  pub tree : IsTreeAt v.tree (item_whole item)
 
 abbrev pub GoesOnOrNot : Bool → PlainItems → Bounds → ItemEventsView → List ℕ → Type 0
 GoesOnOrNot true v b e t = IsDueAt v b e t
@@ -52,6 +56,7 @@ pub record TakesNext (more : Bool) (old v : PlainItems) (b : Bounds) (e : ItemEv
   pub some : 0 < length bytes
   pub consumed : Consumes from to bytes
   pub order : v.builder.order ≡ old.builder.order
+  pub kept : IsSome old.tree → IsSome v.tree
   pub stands : GoesOnOrNot more v b e (t ++ bytes)
 
 -- it is refused, with these bytes taken

@@ -1,6 +1,6 @@
 -- What the plain reader keeps: what a builder holds, in which no two keys of an open map are the same, and where each open
 -- item began.
-use Rattle.std.specs.Prelude.{ℕ, suc, ◌≡◌, ◌++◌, List, [], ◌∷◌, length, slice_index_or, Result, OnOk}
+use Rattle.std.specs.Prelude.{ℕ, suc, ◌≡◌, ◌<◌, ◌≤◌, ◌++◌, List, [], ◌∷◌, length, slice_index_or, Result, OnOk, IsSome}
 use Rattle.cbor_head.specs.Head.{shortest_head, IsSimple}
 use Rattle.cbor_head.specs.Limits.{Bounds}
 use Rattle.cbor_head.specs.declared.major.Major.TheVariants as majors
@@ -16,6 +16,7 @@ use Rattle.cbor_reader.specs.inner.Levels as levels
 use Rattle.cbor_reader.specs.inner.Levels.{Level, bytes_before}
 use Rattle.cbor_reader.specs.inner.Path.{Standing, item_due, item_full, item_whole, StandsAt}
 use Rattle.cbor_reader.specs.inner.Reading.{IsAt, string_major}
+use Rattle.cbor_reader.specs.inner.TreeValues.{IsTreeAt}
 
 -- ---- keys
 
@@ -80,6 +81,7 @@ pub record IsEndingAt (v : PlainItems) (b : Bounds) (e : ItemEventsView) (t : Li
   pub apart : AreApartSoFar v.builder.standing
   pub begun : HaveBegunIn v.starts standing
   pub place : HasItsPlace v.starts standing
+  pub tree : IsTreeAt v.tree standing
 
 pub record IsEnding (v : PlainItems) (height count : ℕ) : Type 0 where
   pub b : Bounds
@@ -91,4 +93,4 @@ pub record IsEnding (v : PlainItems) (height count : ℕ) : Type 0 where
 abbrev pub AnswersEnds : {E : Type 0} → PlainItems → PlainItems → ℕ → ℕ → Result (Unit {0}) E → Type 0
 AnswersEnds old new height count result =
     (b : Bounds) (e : ItemEventsView) (t : List ℕ) → IsEndingAt old b e t height → count ≡ e.machine.open_count
-    → OnOk result ((new.builder.order ≡ old.builder.order) × IsEndingAt new b e t e.machine.open_count)
+    → OnOk result ((new.builder.order ≡ old.builder.order) × (IsSome old.tree → IsSome new.tree) × IsEndingAt new b e t e.machine.open_count)

@@ -1,5 +1,5 @@
 -- What a part of an item is that was read, by the plain rules.
-use Rattle.std.specs.Prelude.{ℕ, ◌≡◌, ◌++◌, List, Option, Some, None, Result, MatchResult}
+use Rattle.std.specs.Prelude.{ℕ, ◌≡◌, ◌++◌, true, IsUtf8, List, [], length, Option, Some, None, Result, MatchResult}
 use Rattle.cbor_head.specs.Complaint.{plain}
 use Rattle.cbor_head.specs.Head.{IsSimple}
 use Rattle.cbor_head.specs.Limits.{Bounds}
@@ -63,7 +63,8 @@ pub record IsStill (old new : ItemEventsView) (from to : Option (List ℕ)) : Ty
 -- a part that was read
 abbrev pub ReadsPart : Bounds → List Frame → List ℕ → List ℕ → EventKind → ItemEventsView → ItemEventsView → Option (List ℕ) → Option (List ℕ) → Part → Type 0
 ReadsPart b fs t x kind old new from to (Leaf m n) = IsLeafMajor m n × ReadsItem plain b fs t x from to new (leaf_value m n)
-ReadsPart b fs t x kind old new from to (String is_text content) = ReadsItem plain b fs t x from to new (string_value is_text content.items)
+ReadsPart b fs t x kind old new from to (String is_text content) =
+    (is_text ≡ true → IsUtf8 content.items) × ReadsItem plain b fs t x from to new (string_value is_text content.items)
 ReadsPart b fs t x kind old new from to (Begin m n) = Begins kind m n × IsStill old new from to
 ReadsPart b fs t x kind old new from to Break = (kind ≡ kinds.End) × IsStill old new from to
 

@@ -1,4 +1,4 @@
-use Rattle.std.proofs.Common.{◌≡◌, ◌++◌, ◌∙◌, ℕ, slice_index_or, length, map, sym, ap, refl, subst, arith}
+use Rattle.std.proofs.Common.{◌≡◌, ◌++◌, ◌+◌, ◌∙◌, ℕ, slice_index_or, Option, List, length, map, sym, ap, refl, subst, arith}
 use Rattle.std.proofs.lemmas.List.{length-append, length-set}
 use Rattle.cbor_head.specs.Verdict.{refusal}
 use Rattle.cbor_head.specs.declared.reason.Reason.TheVariants.{RepeatedKey}
@@ -6,7 +6,10 @@ use Rattle.cbor_events.specs.inner.Automaton.{at_item}
 use Rattle.cbor_item.specs.Built.{Built}
 use Rattle.cbor_reader.specs.inner.Levels.{frame}
 use Rattle.cbor_reader.specs.inner.PlainItems.{CanTake, IsGiven}
-use Rattle.cbor_reader.proofs.PlainSteps.{refused-head, refused-part, place-room, came, part-taken, part-fits, part-no-memory, repeated-key, goes-or-not, given-order}
+use Rattle.cbor_item.specs.OpenValues.{OpenItem}
+use Rattle.cbor_reader.specs.inner.TreeValues.{IsTreeStep, TakesTreePart, values_with}
+use Rattle.cbor_reader.proofs.TreeValues.{step-kept}
+use Rattle.cbor_reader.proofs.PlainSteps.{refused-head, refused-part, place-room, came, part-taken, part-fits, part-fits-tree, part-no-memory, repeated-key, goes-or-not, given-order}
 use Rattle.cbor_reader.proofs.plain_front.next_part.Goals as goal
 
 pub next_head-requires : goal.next_head-requires
@@ -39,8 +42,8 @@ returns-in-Err-read_part g c = λ b t d.
     refused-part c.args.items.now b c.args.events.now t d c.read_part.new.events (g.R.Read.remaining c.args.reader.now) (g.R.Read.remaining c.next_head.new.reader) (g.R.Read.remaining c.read_part.new.reader) c.in-Ok.event c.next_head.new.events n
     c.in-Err-read_part.refusal (c.in-Err-read_part.ensures b (map frame d.ls) t n.bytes c.in-Ok.event.width come)
 
-pub give-requires : goal.give-requires
-give-requires g c =
+pub give-requires-clause-bytes : goal.give-requires-clause-bytes
+give-requires-clause-bytes g c =
     let s = c.requires in
     let d = s.due in
     let n = c.in-Ok.ensures s.b (at_item (map frame d.ls)) s.t tt d.at in
@@ -51,6 +54,19 @@ give-requires g c =
     let r = c.in-Ok-read_part.ensures s.b (map frame d.ls) s.t n.bytes c.in-Ok.event.width come in
     subst (λ (b : Built). CanTake b c.in-Ok-read_part.part) (sym c.begin_at.ensures.same)
     (part-fits c.args.items.now s.b c.args.events.now s.t d c.read_part.new.events from mid to c.in-Ok.event c.next_head.new.events n c.in-Ok-read_part.part r)
+
+pub give-requires-clause-tree : goal.give-requires-clause-tree
+give-requires-clause-tree g c =
+    let s = c.requires in
+    let d = s.due in
+    let n = c.in-Ok.ensures s.b (at_item (map frame d.ls)) s.t tt d.at in
+    let from = g.R.Read.remaining c.args.reader.now in
+    let mid = g.R.Read.remaining c.next_head.new.reader in
+    let to = g.R.Read.remaining c.read_part.new.reader in
+    let come = came c.args.items.now s.b c.args.events.now s.t d c.read_part.new.events from mid to c.in-Ok.event c.next_head.new.events n in
+    let r = c.in-Ok-read_part.ensures s.b (map frame d.ls) s.t n.bytes c.in-Ok.event.width come in
+    subst (λ (o : Option (List OpenItem)). TakesTreePart c.in-Ok-read_part.part o) (sym c.begin_at.ensures.tree)
+    (part-fits-tree c.args.items.now s.b c.args.events.now s.t d c.read_part.new.events from mid to c.in-Ok.event c.next_head.new.events n c.in-Ok-read_part.part r)
 
 pub returns-in-Err-give : goal.returns-in-Err-give
 returns-in-Err-give g c = λ b t d.
@@ -76,11 +92,12 @@ end_full-requires g c =
     let r = c.in-Ok-read_part.ensures s.b (map frame d.ls) s.t n.bytes c.in-Ok.event.width come in
     let k = part-taken c.args.items.now s.b c.args.events.now s.t d c.read_part.new.events from mid to c.in-Ok.event c.next_head.new.events n c.in-Ok-read_part.part r in
     let given = subst (λ (b : Built). IsGiven b c.in-Ok-read_part.part c.give.new.self.builder c.in-Ok-give.opened) c.begin_at.ensures.same c.in-Ok-give.ensures.given in
+    let step = subst (λ (o : Option (List OpenItem)). IsTreeStep (values_with c.in-Ok-read_part.part) o c.give.new.self.tree) c.begin_at.ensures.tree c.in-Ok-give.ensures.tree in
     record {
       b = s.b;
       e = c.read_part.new.events;
       t = s.t ++ k.bytes;
-      ending = k.leads c.give.new.self c.open-height.result c.in-Ok.event.place c.in-Ok-give.opened c.open-height.ensures.count refl (c.give.ensures.same ∙ c.begin_at.ensures.starts) given;
+      ending = k.leads c.give.new.self c.open-height.result c.in-Ok.event.place c.in-Ok-give.opened c.open-height.ensures.count refl (c.give.ensures.same ∙ c.begin_at.ensures.starts) given step;
       counted = c.open-open.ensures.count;
     }
 
@@ -124,7 +141,8 @@ returns-in-None g c = λ b t d.
     let r = c.in-Ok-read_part.ensures b (map frame d.ls) t n.bytes c.in-Ok.event.width come in
     let k = part-taken c.args.items.now b c.args.events.now t d c.read_part.new.events from mid to c.in-Ok.event c.next_head.new.events n c.in-Ok-read_part.part r in
     let given = subst (λ (b : Built). IsGiven b c.in-Ok-read_part.part c.give.new.self.builder c.in-Ok-give.opened) c.begin_at.ensures.same c.in-Ok-give.ensures.given in
-    let ending = k.leads c.give.new.self c.open-height.result c.in-Ok.event.place c.in-Ok-give.opened c.open-height.ensures.count refl (c.give.ensures.same ∙ c.begin_at.ensures.starts) given in
+    let step = subst (λ (o : Option (List OpenItem)). IsTreeStep (values_with c.in-Ok-read_part.part) o c.give.new.self.tree) c.begin_at.ensures.tree c.in-Ok-give.ensures.tree in
+    let ending = k.leads c.give.new.self c.open-height.result c.in-Ok.event.place c.in-Ok-give.opened c.open-height.ensures.count refl (c.give.ensures.same ∙ c.begin_at.ensures.starts) given step in
     let ended = c.in-Ok-end_full.ensures.ends b c.read_part.new.events (t ++ k.bytes) ending c.open-open.ensures.count in
     let some = k.some in
     let places = d.places in
@@ -135,11 +153,12 @@ returns-in-None g c = λ b t d.
       some = some;
       consumed = k.consumed;
       order = ended.0 ∙ given-order c.args.items.now.builder c.in-Ok-read_part.part c.give.new.self.builder c.in-Ok-give.opened given;
-      stands = goes-or-not c.end_full.new.self b c.read_part.new.events (t ++ k.bytes) c.open-open.result ended.1 (omega (arith, some, length-append t k.bytes)) size c.in-None.ensures c.open-open.ensures.count;
+      kept = λ some. ended.1 (step-kept (values_with c.in-Ok-read_part.part) c.args.items.now.tree c.give.new.self.tree step some);
+      stands = goes-or-not c.end_full.new.self b c.read_part.new.events (t ++ k.bytes) c.open-open.result ended.2 (omega (arith, some, length-append t k.bytes)) size c.in-None.ensures c.open-open.ensures.count;
     }
 
-pub returns : goal.returns
-returns g c = λ b t d.
+pub returns-in-Some : goal.returns-in-Some
+returns-in-Some g c = λ b t d.
     let n = c.in-Ok.ensures b (at_item (map frame d.ls)) t tt d.at in
     let from = g.R.Read.remaining c.args.reader.now in
     let mid = g.R.Read.remaining c.next_head.new.reader in
@@ -148,13 +167,14 @@ returns g c = λ b t d.
     let r = c.in-Ok-read_part.ensures b (map frame d.ls) t n.bytes c.in-Ok.event.width come in
     let k = part-taken c.args.items.now b c.args.events.now t d c.read_part.new.events from mid to c.in-Ok.event c.next_head.new.events n c.in-Ok-read_part.part r in
     let given = subst (λ (b : Built). IsGiven b c.in-Ok-read_part.part c.give.new.self.builder c.in-Ok-give.opened) c.begin_at.ensures.same c.in-Ok-give.ensures.given in
-    let ending = k.leads c.give.new.self c.open-height.result c.in-Ok.event.place c.in-Ok-give.opened c.open-height.ensures.count refl (c.give.ensures.same ∙ c.begin_at.ensures.starts) given in
+    let step = subst (λ (o : Option (List OpenItem)). IsTreeStep (values_with c.in-Ok-read_part.part) o c.give.new.self.tree) c.begin_at.ensures.tree c.in-Ok-give.ensures.tree in
+    let ending = k.leads c.give.new.self c.open-height.result c.in-Ok.event.place c.in-Ok-give.opened c.open-height.ensures.count refl (c.give.ensures.same ∙ c.begin_at.ensures.starts) given step in
     let ended = c.in-Ok-end_full.ensures.ends b c.read_part.new.events (t ++ k.bytes) ending c.open-open.ensures.count in
     let some = k.some in
     record {
       bytes = k.bytes;
       consumed = k.consumed;
-      refused = repeated-key c.end_full.new.self b c.read_part.new.events (t ++ k.bytes) ended.1 (omega (arith, some, length-append t k.bytes)) c.in-Some.place c.new.result c.in-Some.ensures.0
+      refused = repeated-key c.end_full.new.self b c.read_part.new.events (t ++ k.bytes) ended.2 (omega (arith, some, length-append t k.bytes)) c.in-Some.place c.new.result c.in-Some.ensures.0
           (c.in-Some.ensures.1 ∙ ap (λ (i : ℕ). slice_index_or c.end_full.new.self.starts i 0) c.open-open.ensures.count)
           (c.new.ensures ∙ ap (λ (x : ℕ). refusal RepeatedKey c.in-Some.place x) c.taken.ensures.taken) _;
     }

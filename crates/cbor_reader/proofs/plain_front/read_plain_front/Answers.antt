@@ -1,5 +1,7 @@
-use Rattle.std.proofs.Common.{subst, arith}
+use Rattle.std.proofs.Common.{[], subst, arith}
 use Rattle.cbor_reader.specs.inner.PlainFront.{TakesNext}
+use Rattle.cbor_reader.specs.inner.Path.{item_due}
+use Rattle.cbor_reader.proofs.TreeValues.{no-tree}
 use Rattle.cbor_reader.proofs.Fronts.{starts-at}
 use Rattle.cbor_reader.proofs.PlainSteps.{runs-first, runs-on, runs-farther, runs-out, runs-stop}
 use Rattle.cbor_reader.proofs.plain_front.read_plain_front.Goals as goal
@@ -7,6 +9,7 @@ use Rattle.cbor_reader.proofs.plain_front.read_plain_front.Goals as goal
 pub parts-init : goal.parts-init
 parts-init g c =
     runs-first c.args.order c.new-items.result c.args.limits c.new-events.result (g.R.Read.remaining c.args.reader.now) c.new-items.ensures.built c.new-items.ensures.starts
+    (no-tree c.new-items.result.tree (item_due []) c.new-items.ensures.tree)
     (starts-at c.args.limits c.new-events.result (omega arith, omega arith) c.new-events.ensures.live c.new-events.ensures.limits c.new-events.ensures.starts)
 
 pub next_part-requires : goal.next_part-requires

@@ -18,13 +18,17 @@ returns-in-Simple g c = λ b fs t x w i.
     rw (c.from.ensures, c.number.ensures.number) (simple-begun b fs t x c.args.events.now w c.in-Simple.simple j, reads-simple plain b fs t x c.args.events.now w c.in-Simple.simple _ j)
 
 pub returns-in-Ok : goal.returns-in-Ok
-returns-in-Ok g c = λ b fs t x w i. (c.in-Ok.ensures b fs t x w (come-begun b fs t x c.args.events.now w c.args.kind (kinds.Bytes c.in-Bytes.length) c.in-Bytes.is (λ e. cc e) i)).0
+returns-in-Ok g c = λ b fs t x w i.
+    let h = c.in-Ok.ensures b fs t x w (come-begun b fs t x c.args.events.now w c.args.kind (kinds.Bytes c.in-Bytes.length) c.in-Bytes.is (λ e. cc e) i) in
+    (h.1, h.0)
 
 pub returns-in-Err : goal.returns-in-Err
 returns-in-Err g c = λ b fs t x w i. c.in-Err.ensures b fs t x w (come-begun b fs t x c.args.events.now w c.args.kind (kinds.Bytes c.in-Bytes.length) c.in-Bytes.is (λ e. cc e) i)
 
 pub returns-in-Ok-read_string : goal.returns-in-Ok-read_string
-returns-in-Ok-read_string g c = λ b fs t x w i. (c.in-Ok-read_string.ensures b fs t x w (come-begun b fs t x c.args.events.now w c.args.kind (kinds.Text c.in-Text.length) c.in-Text.is (λ e. cc e) i)).0
+returns-in-Ok-read_string g c = λ b fs t x w i.
+    let h = c.in-Ok-read_string.ensures b fs t x w (come-begun b fs t x c.args.events.now w c.args.kind (kinds.Text c.in-Text.length) c.in-Text.is (λ e. cc e) i) in
+    (h.1, h.0)
 
 pub returns-in-Err-read_string : goal.returns-in-Err-read_string
 returns-in-Err-read_string g c = λ b fs t x w i. c.in-Err-read_string.ensures b fs t x w (come-begun b fs t x c.args.events.now w c.args.kind (kinds.Text c.in-Text.length) c.in-Text.is (λ e. cc e) i)
