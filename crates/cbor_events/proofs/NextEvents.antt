@@ -240,12 +240,12 @@ end-here from mid_from to old mid new kept t last ms h r depth complete same c n
       stands = record { stands = subst (λ m. StandsFor m t ms) (sym same) (subst (λ xs. StandsFor mid xs ms) here r.stands); whole = h.whole };
     }
 
-nothing-lost : (x : Option (List ℕ)) → Consumes x x []
+pub nothing-lost : (x : Option (List ℕ)) → Consumes x x []
 nothing-lost None = tt
 nothing-lost (Some xs) = refl
 
 -- nothing was read yet
-pub unread : (from : Option (List ℕ)) (m : MachineView) (t : List ℕ) (ms : List Mark) → StandsFor m t ms → HasRead from from m t ms
+unfoldable pub unread : (from : Option (List ℕ)) (m : MachineView) (t : List ℕ) (ms : List Mark) → StandsFor m t ms → HasRead from from m t ms
 unread from m t ms h = record { bytes = []; consumed = nothing-lost from; stands = subst (λ ys. StandsFor m ys ms) (sym (append-nil t)) h }
 
 -- what was told is whole with what was read first
