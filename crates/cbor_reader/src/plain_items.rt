@@ -1,7 +1,7 @@
 //! What the plain reader keeps of the items that are open, from event to event.
 
 ghost use Rattle.std.specs.Prelude.{◌≡◌, ◌<◌, ◌≤◌, ◌∷◌, ◌↔◌, [], ℕ, List, IfOk, IsSome, IsTrue, None, length};
-ghost use Rattle.std.specs.Prelude.{slice_index_or, slice_set, MatchOption};
+ghost use Rattle.std.specs.Prelude.{slice_set, OnOk, MatchOption};
 ghost use Rattle.cbor_item.specs.Built.{built, IsRepeatedKey};
 ghost use Rattle.cbor_item.specs.Parts.{plain};
 ghost use Rattle.cbor_head.specs.Spelling.{Spelling, value_of};
@@ -9,14 +9,19 @@ ghost use Rattle.cbor_item.specs.View.{view};
 ghost use Rattle.cbor_reader.specs.inner.Path.{item_due, item_whole};
 ghost use Rattle.cbor_reader.specs.inner.TreeValues.{IsTreeAt, IsTreeStep, IsWholeIn, TakesTreePart};
 ghost use Rattle.cbor_reader.specs.inner.TreeValues.{values_with};
+ghost use Rattle.cbor_reader.specs.declared.key_set.KeySet.{KeySet as KeySetView};
+ghost use Rattle.cbor_reader.specs.inner.HeldKeys.{AreHeld};
 ghost use Rattle.cbor_reader.specs.inner.PlainItems.{CanTake, IsGiven, IsEnding, AnswersEnds};
+ghost use Rattle.cbor_reader.specs.inner.PlainItems.{sets, AreKeysBegun, AreKeysOpened, AnswersKey};
 
 use crate::MOST_OPEN;
+use crate::key_set::KeySet;
 use crate::plain_part::Part;
 use crate::tree_parts::{end_in_tree, give_to_tree};
 use cbor_head::{KeyOrder, Major};
 use cbor_item::{CanonBuilder, Item, TreeBuilder};
 use std::alloc::{AllocError, Global};
+use std::mem;
 
 // An item may stand in no container.
 const PLACES: usize = MOST_OPEN + 1;
@@ -29,6 +34,9 @@ pub(crate) struct PlainItems {
     tree: Option<TreeBuilder>,
     // At the number of containers around it, where the last item began that came there.
     starts: [u64; PLACES],
+    // The keys of the innermost open container that came, and of those around it, the whole first.
+    keys: KeySet,
+    outer: Vec<KeySet>,
 }
 
 impl PlainItems {
@@ -36,12 +44,15 @@ impl PlainItems {
     pub(crate) fn new(alloc: Global, order: KeyOrder) -> PlainItems
         ensures built { result.builder ≡ built order (plain [] ∷ []) }
         ensures starts { length result.starts ≡ 257 }
+        ensures held { AreHeld (sets result) (plain [] ∷ []) }
         ensures tree { result.tree ≡ None }
     {
         PlainItems {
             builder: CanonBuilder::new(alloc, order),
             tree: None,
             starts: [0; PLACES],
+            keys: KeySet::new(alloc),
+            outer: Vec::new(alloc),
         }
     }
 
@@ -49,6 +60,7 @@ impl PlainItems {
     pub(crate) fn with_tree(alloc: Global, order: KeyOrder) -> PlainItems
         ensures built { result.builder ≡ built order (plain [] ∷ []) }
         ensures starts { length result.starts ≡ 257 }
+        ensures held { AreHeld (sets result) (plain [] ∷ []) }
         ensures tree { IsTreeAt result.tree (item_due []) }
         ensures made { IsSome result.tree }
     {
@@ -56,6 +68,8 @@ impl PlainItems {
             builder: CanonBuilder::new(alloc, order),
             tree: Some(TreeBuilder::new(alloc)),
             starts: [0; PLACES],
+            keys: KeySet::new(alloc),
+            outer: Vec::new(alloc),
         }
     }
 
@@ -64,22 +78,50 @@ impl PlainItems {
         requires { height < length self.old.starts }
         ensures same { self.new.builder ≡ self.old.builder }
         ensures tree { self.new.tree ≡ self.old.tree }
+        ensures sets { sets self.new ≡ sets self.old }
         ensures starts { self.new.starts ≡ slice_set self.old.starts height place }
     {
         self.starts[height] = place;
     }
 
     // The next part of the item; answers how many containers it opens.
-    pub(crate) fn give(&mut self, part: Part) -> Result<usize, AllocError>
+    pub(crate) fn give(&mut self, alloc: Global, part: Part) -> Result<usize, AllocError>
         requires bytes { CanTake self.old.builder part }
         requires tree { TakesTreePart part self.old.tree }
         ensures same { self.new.starts ≡ self.old.starts }
         ensures given { IfOk result (λ opened. IsGiven self.old.builder part self.new.builder opened) }
         ensures tree { IfOk result (λ _. IsTreeStep (values_with part) self.old.tree self.new.tree) }
+        ensures sets { IfOk result (λ opened. AreKeysBegun opened (sets self.old) (sets self.new)) }
     {
         let opened = give_to_builder(&mut self.builder, &part)?;
         give_to_tree(&mut self.tree, part)?;
+        if opened > 0 {
+            self.begin_keys(alloc)?;
+        }
         Ok(opened)
+    }
+
+    // A container begins, which has no keys yet.
+    fn begin_keys(&mut self, alloc: Global) -> Result<(), AllocError>
+        ensures same { (self.new.builder ≡ self.old.builder)
+            × (self.new.starts ≡ self.old.starts) × (self.new.tree ≡ self.old.tree) }
+        ensures sets { OnOk result (AreKeysOpened (sets self.old) (sets self.new)) }
+    {
+        let around = mem::replace(&mut self.keys, KeySet::new(alloc));
+        self.outer.push(around)?;
+        Ok(())
+    }
+
+    // The innermost container ends.
+    fn end_keys(&mut self)
+        ensures same { (self.new.builder ≡ self.old.builder)
+            × (self.new.starts ≡ self.old.starts) × (self.new.tree ≡ self.old.tree) }
+        ensures sets { (s t : KeySetView) (ss : List KeySetView)
+            → sets self.old ≡ s ∷ t ∷ ss → sets self.new ≡ t ∷ ss }
+    {
+        if let Some(around) = self.outer.pop() {
+            self.keys = around;
+        }
     }
 
     // Ends the containers that are full, the innermost first, where so many are open, and so many
@@ -93,24 +135,31 @@ impl PlainItems {
         'full: while left > open {
             self.builder.end()?;
             end_in_tree(&mut self.tree)?;
+            self.end_keys();
             left -= 1;
         }
         Ok(())
     }
 
-    // Where the key began that has just come, if it is the same as an earlier key of its map. So
-    // many containers are open.
-    pub(crate) fn repeated(&self, open: usize) -> Option<u64>
-        requires { «open» < length self.now.starts }
-        ensures { MatchOption result (IsRepeatedKey self.now.builder.standing → ⊥)
-            (λ place. IsRepeatedKey self.now.builder.standing
-            × (place ≡ slice_index_or self.now.starts «open» 0)) }
+    // Where the key began that has just come, if it is the same as an earlier key of its map; else
+    // it is one of them now. So many containers are open.
+    pub(crate) fn repeated(
+        &mut self,
+        alloc: Global,
+        open: usize,
+    ) -> Result<Option<u64>, AllocError>
+        requires { «open» < length self.old.starts }
+        ensures same { (self.new.builder ≡ self.old.builder)
+            × (self.new.starts ≡ self.old.starts) × (self.new.tree ≡ self.old.tree) }
+        ensures answers { AnswersKey self.old self.new «open» result }
     {
-        if self.builder.repeated() {
-            Some(self.starts[open])
-        } else {
-            None
+        let Some(key) = self.builder.waiting_key() else {
+            return Ok(None);
+        };
+        if self.keys.add(alloc, key)? {
+            return Ok(None);
         }
+        Ok(Some(self.starts[open]))
     }
 
     // The canonical bytes of the item, which is whole.
@@ -121,6 +170,8 @@ impl PlainItems {
             builder,
             tree: _,
             starts: _,
+            keys: _,
+            outer: _,
         } = self;
         builder.finish()
     }
@@ -134,6 +185,8 @@ impl PlainItems {
             builder: _,
             tree,
             starts: _,
+            keys: _,
+            outer: _,
         } = self;
         match tree {
             Some(tree) => tree.finish(),

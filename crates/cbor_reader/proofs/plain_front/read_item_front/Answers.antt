@@ -11,7 +11,7 @@ use Rattle.cbor_reader.proofs.plain_front.read_item_front.Goals as goal
 
 pub parts-init : goal.parts-init
 parts-init g c = (
-  runs-first Bytewise c.with_tree-items.result c.args.limits c.new-events.result (g.R.Read.remaining c.args.reader.now) c.with_tree-items.ensures.built c.with_tree-items.ensures.starts c.with_tree-items.ensures.tree
+  runs-first Bytewise c.with_tree-items.result c.args.limits c.new-events.result (g.R.Read.remaining c.args.reader.now) c.with_tree-items.ensures.built c.with_tree-items.ensures.starts c.with_tree-items.ensures.tree c.with_tree-items.ensures.held
       (starts-at c.args.limits c.new-events.result (omega arith, omega arith) c.new-events.ensures.live c.new-events.ensures.limits c.new-events.ensures.starts),
   c.with_tree-items.ensures.made,
 )

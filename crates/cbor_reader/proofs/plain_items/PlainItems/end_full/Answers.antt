@@ -2,6 +2,8 @@ use Rattle.std.proofs.Common.{◌≡◌, ◌∙◌, ◌<◌, ◌≤◌, ◌-◌,
 use Rattle.cbor_item.specs.Built.{Built, built}
 use Rattle.cbor_item.specs.OpenValues.{close}
 use Rattle.cbor_reader.proofs.PlainSteps.{ends-next, ends-in-tree, ends-one, ends-all}
+use Rattle.std.specs.Prelude.{IsSome}
+use Rattle.cbor_reader.specs.inner.TreeValues.{IsTreeStep}
 use Rattle.cbor_reader.proofs.TreeValues.{step-kept}
 use Rattle.cbor_reader.proofs.plain_items.PlainItems.end_full.Goals as goal
 
@@ -25,10 +27,15 @@ end_in_tree-requires c =
 
 pub full-preserved : goal.full-preserved
 full-preserved c = (
-  c.full.invariant.0,
+  c.end_keys.ensures.same.1 ∙ c.full.invariant.0,
   λ b e t h counted.
       let k = c.full.invariant.1 b e t h counted in
-      (ap (λ (x : Built). x.order) c.in_ok-end.ensures ∙ k.0, (λ some. step-kept close c.full.self.tree _ c.in_ok-end_in_tree.ensures (k.1 some)), ends-one c.full.self b e t c.full.left k.2 (omega (arith, counted, c.full-test.true)) _ c.in_ok-end.ensures refl c.in_ok-end_in_tree.ensures),
+      (
+        ap (λ (x : Built). x.order) (c.end_keys.ensures.same.0 ∙ c.in_ok-end.ensures) ∙ k.0,
+        (λ some. subst IsSome (sym c.end_keys.ensures.same.2) (step-kept close c.full.self.tree _ c.in_ok-end_in_tree.ensures (k.1 some))),
+        ends-one c.full.self b e t c.full.left k.2 (omega (arith, counted, c.full-test.true)) _ (c.end_keys.ensures.same.0 ∙ c.in_ok-end.ensures) c.end_keys.ensures.same.1
+            (subst (IsTreeStep close c.full.self.tree) (sym c.end_keys.ensures.same.2) c.in_ok-end_in_tree.ensures) c.end_keys.ensures.sets,
+      ),
 )
 
 pub returns-clause-ends : goal.returns-clause-ends
