@@ -7,13 +7,23 @@
 #include <stdlib.h>
 #include <string.h>
 
-enum { STACK = 4 << 20, PAINT = 0xa5, CALLS = 5 };
+enum { STACK = 4 << 20, PAINT = 0xa5, CALLS = 6 };
 
-static const char *const names[CALLS] = {"canonicalise", "check_canonical", "check_valid", "compare", "diagnostic"};
+static const char *const names[CALLS] = {"canonicalise", "check_canonical", "check_valid", "compare", "diagnostic", "machine_step"};
 static uint8_t in[16384], out[65536];
 static size_t length;
 static uint32_t depth;
 static int call;
+
+/* All events of the item; the machine lies elsewhere. */
+static void events(void) {
+    static struct naltvigo_machine machine;
+    struct naltvigo_event event;
+    struct naltvigo_refusal why;
+    size_t used, at = 0;
+    naltvigo_machine_start(depth, 1 << 20, &machine);
+    while (naltvigo_machine_step(&machine, in + at, length - at, &used, &event, &why) == NALTVIGO_EVENT) at += used;
+}
 
 static void *work(void *unused) {
     struct naltvigo_refusal why;
@@ -24,7 +34,8 @@ static void *work(void *unused) {
     case 1: naltvigo_check_canonical(in, length, 0, depth, 1 << 20, &why); break;
     case 2: naltvigo_check_valid(in, length, depth, 1 << 20, &why); break;
     case 3: naltvigo_compare(in, length, in, length, depth, 1 << 20, &side, &why); break;
-    default: naltvigo_diagnostic(in, length, depth, 1 << 20, (char *)out, sizeof out, &needed, &why);
+    case 4: naltvigo_diagnostic(in, length, depth, 1 << 20, (char *)out, sizeof out, &needed, &why); break;
+    default: events();
     }
     return unused;
 }
@@ -67,6 +78,7 @@ static int make(int shape, size_t levels) {
     case 8: put("\x81", 1, levels), put("\x7f\x79\x08\0", 4, 1), put((const char *)zeros, 2048, 1), put("\xff", 1, 1); break;
     case 9: put("\x81", 1, levels), put("\x59\x08\0", 3, 1), put((const char *)zeros, 2048, 1); break;
     case 10: put("\xa1", 1, levels), put("\xf9", 1, 1); break;
+    case 11: put("\xa2\0", 2, levels), put("\0\0", 2, 1); break;
     default: return 0;
     }
     return 1;

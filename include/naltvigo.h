@@ -24,7 +24,8 @@
  *  - `out`, `*needed`, `*side` and `*refusal` overlap neither an input nor one another, and nobody else
  *    reads or writes them, or writes an input, during the call. They need no first value.
  *  - No call comes from a signal handler, nor from the child of a fork of a process with threads, since
- *    malloc may not be called there. (naltvigo_check_canonical and naltvigo_reason_name call no malloc.)
+ *    malloc may not be called there. (naltvigo_check_canonical, naltvigo_reason_name
+ *    and the calls of a machine call no malloc.)
  *
  * Ownership
  *  - The library keeps no pointer after a call, and hands none out: there is nothing to free.
@@ -32,8 +33,8 @@
  * Memory
  *  - From malloc, realloc and free of the program, all of it given back before the call returns; at most in
  *    proportion to the bytes that came, since a length in a head takes none. docs/SPEED.md has figures.
- *  - naltvigo_check_canonical and naltvigo_reason_name take none at all, by proof: they are handed no
- *    allocator.
+ *  - naltvigo_check_canonical, naltvigo_reason_name and the calls of a machine take none at all, by proof:
+ *    they are handed no allocator.
  *  - A call to which malloc answers NULL answers NALTVIGO_NO_MEMORY, with `out` as it was, and may be tried
  *    again. malloc and realloc align to 16 bytes, as C libraries for 64 bits do.
  *
@@ -74,7 +75,10 @@ enum {
     NALTVIGO_NO_MEMORY = 3,  /* memory was refused; `*refusal` says behind how many bytes */
     NALTVIGO_BAD_ORDER = 4,  /* `order` is none of the two */
     NALTVIGO_BAD_LIMITS = 5, /* `depth` or `bytes` is out of range */
-    NALTVIGO_DIFFERENT = 6   /* the inputs do not mean the same */
+    NALTVIGO_DIFFERENT = 6,  /* the inputs do not mean the same */
+    NALTVIGO_EVENT = 7,      /* `*event` tells what comes next */
+    NALTVIGO_MORE = 8,       /* all of the input was used, and more is due */
+    NALTVIGO_BAD_MACHINE = 9 /* `*machine` holds no machine */
 };
 
 /* The order of the keys of a map, by their canonical bytes. */
@@ -120,11 +124,55 @@ struct naltvigo_refusal {
     uint64_t read;   /* how many bytes were taken; at most the input's length, and `bytes` */
 };
 
+/* A machine that takes one item in parts of any length, and tells its events. It is the caller's, of 4.1 KiB;
+ * it holds no pointer, so it may be copied, moved and stored. The fields may be read, and are written by the
+ * two calls alone: naltvigo_machine_step of other numbers answers NALTVIGO_BAD_MACHINE, or what some machine
+ * within its limits would, safely, but of no item. */
+struct naltvigo_frame {
+    uint64_t left; /* how many members, or pairs, follow the one that is due */
+    uint8_t kind;  /* an array, an array of indefinite length, a map, a map with a value due, the last two of
+                      indefinite length, a tag: 0 to 6 */
+};
+struct naltvigo_machine {
+    uint64_t bytes;   /* the byte limit */
+    uint64_t taken;   /* how many bytes were taken */
+    uint64_t told;    /* how many of them the events told stand for */
+    uint64_t number;  /* of the open head its argument so far, of the open payload what follows the next byte */
+    uint64_t place;   /* the offset of what was refused */
+    uint16_t depth;   /* the depth limit */
+    uint16_t open;    /* how many arrays, maps and tags are open */
+    uint8_t position; /* an item, within a head, a simple value's number, within a payload, a chunk, the end */
+    uint8_t kind;     /* the major type of the head, payload or string */
+    uint8_t width;    /* of the open head: 1, 2, 3, 4 for an argument of 1, 2, 4, 8 bytes */
+    uint8_t left;     /* how many bytes of the argument follow the next one */
+    uint8_t chunk;    /* 1 where the head or payload is a chunk's */
+    uint8_t reason;   /* why the item was refused; 0 where it was not */
+    struct naltvigo_frame frames[NALTVIGO_DEPTH_MAX]; /* the outermost first */
+};
+
+/* The kinds of an event: the major type, 0 to 7, and these. */
+enum {
+    NALTVIGO_CHUNK = 8, /* the head of a chunk of a string of indefinite length */
+    NALTVIGO_PIECE = 9, /* some bytes of a payload: the last of those that the step used */
+    NALTVIGO_BREAK = 10 /* the break, which ends what has indefinite length */
+};
+
+/* The width of what has no argument: an indefinite length, or a break. */
+enum { NALTVIGO_NO_ARGUMENT = 255 };
+
+/* An event. It is written where the status is EVENT, and left as it was elsewhere. */
+struct naltvigo_event {
+    uint64_t place;  /* the offset of its first byte, from the item's first byte */
+    uint64_t number; /* the argument, the count, or how many bytes a piece has; 0 where there is none */
+    uint32_t kind;   /* the major type, or one of the numbers above */
+    uint32_t width;  /* how many bytes the argument has: 0, 1, 2, 4, 8, or NALTVIGO_NO_ARGUMENT */
+};
+
 /* What a call needs of the stack: this, and this again for each level of the `depth` that it is passed.
  * naltvigo_check_canonical needs no more than the third, at any depth. */
 #define NALTVIGO_STACK 65536
 #define NALTVIGO_STACK_A_LEVEL 2048
-#define NALTVIGO_STACK_CHECK_CANONICAL 114688
+#define NALTVIGO_STACK_CHECK_CANONICAL 65536
 
 /* The exports. No pointer may be null, whatever the length beside it. */
 uint32_t naltvigo_canonicalise_raw(const uint8_t *in, size_t in_length, uint32_t order, uint32_t depth,
@@ -141,6 +189,10 @@ uint32_t naltvigo_diagnostic_raw(const uint8_t *in, size_t in_length, uint32_t d
                                  uint8_t *out, size_t out_length, size_t *needed,
                                  struct naltvigo_refusal *refusal);
 size_t naltvigo_reason_name_raw(uint32_t reason, uint8_t *out, size_t out_length);
+uint32_t naltvigo_machine_start_raw(uint32_t depth, uint64_t bytes, struct naltvigo_machine *machine);
+uint32_t naltvigo_machine_step_raw(struct naltvigo_machine *machine, const uint8_t *in, size_t in_length,
+                                   size_t *used, struct naltvigo_event *event,
+                                   struct naltvigo_refusal *refusal);
 
 /*
  * naltvigo_canonicalise: the canonical bytes of an item.
@@ -227,6 +279,34 @@ static inline uint32_t naltvigo_diagnostic(const uint8_t *in, size_t in_length, 
     uint8_t none[2] = {0, 0};
     return naltvigo_diagnostic_raw(in_length ? in : none, in_length, depth, bytes,
                                    out_length ? (uint8_t *)out : none + 1, out_length, needed, refusal);
+}
+
+/*
+ * naltvigo_machine_start: a machine before an item's first byte, within these limits.
+ *
+ * Answers OK, BAD_LIMITS. It takes no memory.
+ */
+static inline uint32_t naltvigo_machine_start(uint32_t depth, uint64_t bytes, struct naltvigo_machine *machine) {
+    return naltvigo_machine_start_raw(depth, bytes, machine);
+}
+
+/*
+ * naltvigo_machine_step: takes bytes from the front of a part of an item.
+ *
+ * EVENT where an event is complete, MORE where the whole part was used and none is, OK once the item is
+ * complete and all its events were told, REFUSED where the input is no well-formed item within the limits
+ * (reasons 2 to 9; places count from the item's first byte). `*used` says how many bytes of the part were
+ * taken; give the rest, and then what comes next, to the next call. A payload comes in pieces as its bytes
+ * do. After OK or REFUSED a step uses nothing and answers the same. An item that ends too early is seen by
+ * the caller: its bytes end, and the status is MORE. UTF-8 and repeated keys are not checked.
+ *
+ * Answers OK, EVENT, MORE, REFUSED, BAD_MACHINE. It takes no memory.
+ */
+static inline uint32_t naltvigo_machine_step(struct naltvigo_machine *machine, const uint8_t *in,
+                                             size_t in_length, size_t *used, struct naltvigo_event *event,
+                                             struct naltvigo_refusal *refusal) {
+    const uint8_t none = 0;
+    return naltvigo_machine_step_raw(machine, in_length ? in : &none, in_length, used, event, refusal);
 }
 
 /* The length of the longest name of a reason. */

@@ -22,6 +22,19 @@ TYPES = {
     "&mut u32": ["uint32_t *"],
     "&mut usize": ["size_t *"],
     "&mut NaltvigoRefusal": ["struct naltvigo_refusal *"],
+    "&mut NaltvigoEvent": ["struct naltvigo_event *"],
+    "&mut SavedMachine": ["struct naltvigo_machine *"],
+    "u8": ["uint8_t"],
+    "u16": ["uint16_t"],
+    "[SavedFrame; MOST_OPEN]": ["struct naltvigo_frame[NALTVIGO_DEPTH_MAX]"],
+}
+
+# A struct of the crates, and what it is in C.
+STRUCTS = {
+    "naltvigo_refusal": (CRATE / "status.rt", "NaltvigoRefusal"),
+    "naltvigo_event": (CRATE / "streaming.rt", "NaltvigoEvent"),
+    "naltvigo_frame": (ROOT / "crates" / "cbor_events" / "src" / "machine" / "saved.rt", "SavedFrame"),
+    "naltvigo_machine": (ROOT / "crates" / "cbor_events" / "src" / "machine" / "saved.rt", "SavedMachine"),
 }
 
 
@@ -70,14 +83,16 @@ def exports_of_header(text):
     return found
 
 
-def struct_of_crate():
-    body = re.search(r"pub struct NaltvigoRefusal \{(.*?)\}", (CRATE / "status.rt").read_text(), re.S)[1]
-    return [(name, TYPES[kind][0]) for name, kind in re.findall(r"pub (\w+): (\w+),", body)]
+def struct_of_crate(name):
+    path, of_crate = STRUCTS[name]
+    body = re.search(r"pub struct %s \{(.*?)\n\}" % of_crate, path.read_text(), re.S)[1]
+    return [(field, TYPES[kind][0]) for field, kind in re.findall(r"pub (\w+): ([^,]+),", body)]
 
 
-def struct_of_header(text):
-    body = re.search(r"struct naltvigo_refusal \{(.*?)\};", text, re.S)[1]
-    return [(name, kind) for kind, name in re.findall(r"(\w+) (\w+);", body)]
+def struct_of_header(name, text):
+    body = re.search(r"struct %s \{(.*?)\};" % name, text, re.S)[1]
+    found = re.findall(r"([\w ]+?) (\w+)(\[\w+\])?;", body)
+    return [(field, kind.strip() + (size or "")) for kind, field, size in found]
 
 
 def differences(what, crate, header):
@@ -92,10 +107,11 @@ def main():
     found = [
         *differences("constant", constants_of_crate(), constants_of_header(text)),
         *differences("export", exports_of_crate(), exports_of_header(text)),
-        *differences("field", struct_of_crate(), struct_of_header(text)),
     ]
-    if struct_of_crate() != struct_of_header(text):
-        found.append("struct naltvigo_refusal: the fields or their order differ")
+    for name in STRUCTS:
+        found += differences(f"field of {name}", struct_of_crate(name), struct_of_header(name, text))
+        if struct_of_crate(name) != struct_of_header(name, text):
+            found.append(f"struct {name}: the fields or their order differ")
     for line in found:
         print(f"naltvigo.h: {line}")
     return 1 if found else 0

@@ -56,6 +56,7 @@ done
 # ---- the tests
 
 python3 "$c/rows.py" "$root/crates/cbor_reader/src/tests/conformance_table.rt" >"$room/rows.h"
+python3 "$c/events.py" "$root/crates/cbor_events/src/tests" >"$room/events.h"
 flags=(-std=c99 -pedantic -Wall -Wextra -Werror -D_POSIX_C_SOURCE=200112L "-I$dist/include" "-I$room")
 shared=("-L$dist/lib" -lnaltvigo "-Wl,-rpath,$dist/lib")
 run() {
@@ -89,6 +90,11 @@ cc=$CC
 "$cc" "${flags[@]}" -g "$c/test.c" "$dist/lib/libnaltvigo.a" -o "$room/t"
 if have valgrind; then
     run valgrind valgrind -q --leak-check=full --error-exitcode=9 "$room/t"
+fi
+"$cc" "${flags[@]}" -g "$c/machine.c" "$dist/lib/libnaltvigo.a" -o "$room/t"
+run 'a machine' "$room/t"
+if have valgrind; then
+    run 'a machine, valgrind' valgrind -q --leak-check=full --error-exitcode=9 "$room/t"
 fi
 "$cc" "${flags[@]}" -O2 "$c/no_memory.c" "$dist/lib/libnaltvigo.a" -Wl,--wrap=malloc,--wrap=realloc,--wrap=free -o "$room/t"
 "$room/t" | sed 's/^/C: memory: /' || fail 'memory'

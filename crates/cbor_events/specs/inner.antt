@@ -3,6 +3,7 @@ pub mod Automaton
 pub mod Machine
 pub mod Nest
 pub mod Reads
+pub mod Saved
 pub mod Slices
 pub mod State
 pub mod Steps

@@ -6,10 +6,12 @@ ghost use Rattle.cbor_events.specs.inner.Steps.{Goes};
 
 mod reading;
 mod refused;
+mod saving;
 mod slicing;
 mod tables;
 
 use self::refused::refused_rows;
+use self::saving::tell_saved;
 use self::tables::{accepted_rows, fronts_rows, not_valid_rows};
 use crate::{Event, EventKind, Machine, Out, Step};
 use cbor_head::{Limits, Reason, Refusal, Simple, Width};
@@ -171,12 +173,14 @@ fn limits(rt: &impl Abort, depth: u16, bytes: u64) -> Limits {
     Limits::new(depth, bytes).expect(rt, "limits in range")
 }
 
-// Gives bytes whole and one by one, and answers what came of both.
+// Gives bytes whole, one by one, and so to a machine that is saved between: what came of each.
 fn both_ways(rt: &impl Abort, alloc: Global, limits: Limits, hex: &str) -> Result<Told, Fail> {
     let bytes = bytes_of(rt, alloc, hex)?;
     let whole = tell(alloc, limits, &bytes, usize::MAX)?;
     let single = tell(alloc, limits, &bytes, 1)?;
     assert!(rt; whole == single, "the cuts of {hex} differ");
+    let saved = tell_saved(rt, alloc, limits, &bytes)?;
+    assert!(rt; whole == saved, "saved within {hex}");
     Ok(whole)
 }
 

@@ -20,7 +20,6 @@ pub(crate) fn is_ascii_front(chunk: &[u8; 32], count: u8) -> bool
 /// Whether so many bytes in front are ASCII. False says nothing: fewer than 32 may stand there, or
 /// more be asked for.
 #[inline(always)]
-#[tactic(auto, using(crate::proofs::AsciiMasks::short_ascii))]
 pub(crate) fn is_short_ascii(front: &[u8], count: usize) -> bool
     ensures { result ≡ true → IsAscii (take count front.now) }
 {

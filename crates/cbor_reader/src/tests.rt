@@ -10,6 +10,7 @@ mod promises;
 mod sequence;
 mod sizes;
 mod slice;
+mod strict_events;
 mod thresholds;
 mod towers;
 mod whole;

@@ -3,4 +3,5 @@ pub mod Comparing
 pub mod Diagnosing
 pub mod inner
 pub mod Settings
+pub mod Streaming
 pub mod Told

@@ -19,6 +19,7 @@ mod diagnosing;
 mod naming;
 mod settings;
 mod status;
+mod streaming;
 #[cfg(test)]
 mod tests;
 mod whole;
@@ -29,3 +30,4 @@ pub use comparing::naltvigo_compare_raw;
 pub use diagnosing::naltvigo_diagnostic_raw;
 pub use naming::naltvigo_reason_name_raw;
 pub use status::NaltvigoRefusal;
+pub use streaming::{NaltvigoEvent, naltvigo_machine_start_raw, naltvigo_machine_step_raw};

@@ -20,6 +20,12 @@ pub const BAD_ORDER: u32 = 4;
 pub const BAD_LIMITS: u32 = 5;
 /// Two inputs do not mean the same.
 pub const DIFFERENT: u32 = 6;
+/// An event is told.
+pub const EVENT: u32 = 7;
+/// All of the input was used, and no event is complete.
+pub const MORE: u32 = 8;
+/// The numbers hold no machine.
+pub const BAD_MACHINE: u32 = 9;
 
 /// A refusal: the number of the reason, where, and how far the input was taken.
 #[repr(C)]

@@ -183,8 +183,8 @@ fn takes_payloads(rt: HostRuntime) {
     assert_eq!(rt; events.next(), Token::Array);
     assert_eq!(rt; events.next(), Token::Text);
     let payload = events.next_payload();
-    assert!(rt; payload == Some(b"ab"));
-    assert!(rt; events.piece() == b"ab");
+    assert!(rt; payload == Some(b"ab".as_slice()));
+    assert!(rt; events.piece() == b"ab".as_slice());
     assert_eq!(rt;
         (events.place(), events.number(), events.taken()),
         (2, 2, 4)

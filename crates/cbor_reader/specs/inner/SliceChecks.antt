@@ -1,4 +1,4 @@
--- What the check of a slice answers of one item, which may lie within others, from its events.
+-- What is answered of a head or a payload of a slice, from its events; and the nearest of the keys before another.
 use Rattle.std.specs.Prelude.{◌≡◌, ◌≢◌, ℕ, Bool, true, List, [], ◌∷◌, Some, Result, MatchResult, IsUtf8}
 use Rattle.cbor_head.specs.Limits.{Bounds}
 use Rattle.cbor_head.specs.Spelling.{Spelling, spell}

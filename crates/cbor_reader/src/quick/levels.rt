@@ -101,7 +101,7 @@ impl Level {
 }
 
 // Whether the second key comes behind the first.
-#[inline(never)]
+#[inline(always)]
 fn comes_behind(order: KeyOrder, last: &[u8], key: &[u8]) -> bool
     ensures { result ≡ key_lt order last.now key.now }
 {

@@ -3,7 +3,9 @@
 
 use super::conformance_table::{PAIRS, PARTS, rows};
 use super::{BadHex, bytes_of};
-use crate::{KeyOrder, Side, canonicalise, check_valid, read_strict, read_tree, same_meaning};
+use crate::{
+    KeyOrder, Side, StrictReader, canonicalise, check_valid, read_strict, read_tree, same_meaning,
+};
 use cbor_head::{Limits, Refusal};
 use cbor_item::{Tree, encode};
 use std::alloc::{AllocError, Global};
@@ -256,6 +258,64 @@ fn reads_strictly(rt: HostRuntime) -> Result<(), Fail> {
                 for way in 0..=input.len() {
                     let mut reader = Cut::in_way(&input, way);
                     let answer = read_strict(rt.alloc(), &mut reader, limits, order);
+                    let taken = reader.taken(&input) as u64;
+                    let is_right = is_strict_right(rt.alloc(), wanted.as_str(), answer, taken)?;
+                    assert!(rt; is_right, "{line}");
+                }
+            }
+        }
+    }
+    Ok(())
+}
+
+// The count or the refusal at which the events end, and the same again; none where they don't end,
+// or more is kept than was read.
+fn last_of(
+    alloc: Global,
+    reader: &mut Cut<'_>,
+    limits: Limits,
+    order: KeyOrder,
+) -> Option<Result<u64, Refusal>> {
+    let mut events = StrictReader::new(alloc, reader, limits, order);
+    for _ in 0..1000 {
+        let answer = match events.next() {
+            Ok(Some(_)) => None,
+            Ok(None) => Some(Ok(events.taken())),
+            Err(refusal) => Some(Err(refusal)),
+        };
+        if events.spans() > events.open() || events.kept() > events.taken() {
+            return None;
+        }
+        if let Some(last) = answer {
+            let again = match events.next() {
+                Ok(Some(_)) => None,
+                Ok(None) => Some(Ok(events.taken())),
+                Err(refusal) => Some(Err(refusal)),
+            };
+            return again.filter(|again| *again == last);
+        }
+    }
+    None
+}
+
+#[test]
+fn tells_strict_events(rt: HostRuntime) -> Result<(), Fail> {
+    for part in 0..PARTS {
+        for &line in rows(part) {
+            let Some((hex, column, plain, strict)) = row_of(line) else {
+                return Err(Fail::from(BadRow::Columns));
+            };
+            let Some(limits) = limits_of(column) else {
+                return Err(Fail::from(BadRow::Limits));
+            };
+            let input = bytes_of(rt.alloc(), hex)?;
+            for &order in &ORDERS {
+                let wanted = strict_text(rt.alloc(), &input, plain, strict, order)?;
+                for way in [0, input.len()] {
+                    let mut reader = Cut::in_way(&input, way);
+                    let Some(answer) = last_of(rt.alloc(), &mut reader, limits, order) else {
+                        return Err(Fail::from(BadRow::Limits));
+                    };
                     let taken = reader.taken(&input) as u64;
                     let is_right = is_strict_right(rt.alloc(), wanted.as_str(), answer, taken)?;
                     assert!(rt; is_right, "{line}");

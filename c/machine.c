@@ -1,0 +1,126 @@
+/* Feeds a machine of naltvigo.h each row of the events' tables, byte by byte and in larger parts, copied
+ * between two steps as a program that stores it does, and compares the events. Prints how many checks there
+ * were; the status is 0 where all hold. */
+#include "naltvigo.h"
+
+#include <stdio.h>
+#include <stdlib.h>
+#include <string.h>
+
+struct events_row {
+    const char *given;
+    uint32_t status;
+    struct naltvigo_refusal refusal;
+    uint32_t depth;
+    uint64_t bytes;
+    size_t count;
+    struct naltvigo_event events[64];
+};
+#include "events.h"
+
+static int checks, faults;
+
+static void check(int holds, const char *what, const char *of) {
+    checks++;
+    if (!holds) {
+        faults++;
+        fprintf(stderr, "FAIL %s: %s\n", what, of);
+    }
+}
+
+static const struct naltvigo_event unset = {77, 78, 79, 80};
+
+static int are_equal(struct naltvigo_event a, struct naltvigo_event b) {
+    return a.place == b.place && a.number == b.number && a.kind == b.kind && a.width == b.width;
+}
+
+/* The events of the row, with its bytes in parts of so many: neighbouring pieces are joined. */
+static void feed(const struct events_row *row, const uint8_t *in, size_t n, size_t part) {
+    struct naltvigo_machine machine, copy;
+    struct naltvigo_event told[64];
+    struct naltvigo_refusal why = {77, 78, 79};
+    size_t count = 0, at = 0, used;
+    uint32_t status;
+    memset(&machine, 0xaa, sizeof machine);
+    check(naltvigo_machine_start(row->depth, row->bytes, &machine) == NALTVIGO_OK, "start", row->given);
+    do {
+        struct naltvigo_event event = unset;
+        size_t offered = n - at < part ? n - at : part;
+        copy = machine;
+        memset(&machine, 0xaa, sizeof machine);
+        used = 999;
+        status = naltvigo_machine_step(&copy, offered ? in + at : NULL, offered, &used, &event, &why);
+        machine = copy;
+        check(used <= offered, "used", row->given);
+        at += used;
+        check((status == NALTVIGO_EVENT) == !are_equal(event, unset), "told", row->given);
+        if (status != NALTVIGO_EVENT) continue;
+        if (event.kind == NALTVIGO_PIECE && count && told[count - 1].kind == NALTVIGO_PIECE)
+            told[count - 1].number += event.number;
+        else if (count < 64)
+            told[count++] = event;
+    } while (status == NALTVIGO_EVENT || (status == NALTVIGO_MORE && at < n));
+    check(status == row->status && machine.taken == at, "status", row->given);
+    check(count == row->count, "count of events", row->given);
+    for (size_t i = 0; i < count && i < row->count; i++) check(are_equal(told[i], row->events[i]), "event", row->given);
+    if (status == NALTVIGO_REFUSED)
+        check(why.reason == row->refusal.reason && why.place == row->refusal.place && why.read == row->refusal.read,
+              "refusal", row->given);
+    else
+        check(why.reason == 77 && why.place == 78 && why.read == 79, "no refusal", row->given);
+    if (status == NALTVIGO_MORE) return;
+    struct naltvigo_event event = unset;
+    check(naltvigo_machine_step(&machine, (const uint8_t *)"", 1, &used, &event, &why) == status && used == 0,
+          "the same again", row->given);
+}
+
+/* Numbers that hold no machine are refused, and stay. */
+static void refuses_other_numbers(void) {
+    struct naltvigo_machine machine, broken;
+    struct naltvigo_event event = unset;
+    struct naltvigo_refusal why = {77, 78, 79};
+    size_t used;
+    check(naltvigo_machine_start(257, 8, &machine) == NALTVIGO_BAD_LIMITS, "depth", "257");
+    check(naltvigo_machine_start(2, NALTVIGO_BYTES_MAX + 1, &machine) == NALTVIGO_BAD_LIMITS, "bytes", "too many");
+    check(naltvigo_machine_start(2, 8, &machine) == NALTVIGO_OK, "start", "2 8");
+    for (int i = 0; i < 4; i++) {
+        broken = machine;
+        if (i == 0) broken.open = 3;
+        if (i == 1) broken.taken = broken.told = 9;
+        if (i == 2) broken.depth = 300;
+        if (i == 3) broken.told = 1;
+        used = 999;
+        check(naltvigo_machine_step(&broken, (const uint8_t *)"", 1, &used, &event, &why) == NALTVIGO_BAD_MACHINE,
+              "broken", "numbers");
+        check(used == 0 && are_equal(event, unset) && why.reason == 77, "kept", "numbers");
+    }
+    /* whatever the bytes are, a step returns and uses no more than it is given */
+    srand(1);
+    for (int i = 0; i < 20000; i++) {
+        uint8_t noise[64];
+        for (size_t k = 0; k < sizeof noise; k++) noise[k] = (uint8_t)(rand() >> 5);
+        broken = machine;
+        memcpy(i % 2 ? (uint8_t *)&broken : (uint8_t *)&broken.number, noise, i % 2 ? 64 : 24);
+        if (i % 3) broken.depth %= 257, broken.open %= broken.depth + 1;
+        used = 999;
+        naltvigo_machine_step(&broken, noise, sizeof noise, &used, &event, &why);
+        check(used <= sizeof noise, "noise", "used");
+    }
+}
+
+int main(void) {
+    for (size_t i = 0; i < sizeof events_rows / sizeof *events_rows; i++) {
+        const struct events_row *row = &events_rows[i];
+        uint8_t in[4096];
+        size_t n = strlen(row->given) / 2;
+        for (size_t k = 0; k < n; k++) {
+            char two[3] = {row->given[2 * k], row->given[2 * k + 1], 0};
+            in[k] = (uint8_t)strtoul(two, NULL, 16);
+        }
+        for (size_t part = 1; part < 4; part++) feed(row, in, n, part);
+        feed(row, in, n, n + 1);
+    }
+    refuses_other_numbers();
+    printf("%d checks of a machine, %d fail\n", checks, faults);
+    return faults != 0;
+}

@@ -1,0 +1,143 @@
+//! The events of an item whose bytes come in parts.
+
+ghost use Rattle.std.specs.Prelude.{◌≡◌, ◌≢◌, ◌⊎◌, ◌≤◌, length, take};
+ghost use Rattle.cbor_events.specs.MachineView.{MachineView};
+ghost use Rattle.cbor_events.specs.Saved.{Holds};
+ghost use Rattle.cbor_head.specs.Limits.{bounds, AreBounds};
+ghost use Rattle.naltvigo.specs.Streaming.{IsToldEvent, IsToldOut, Starts, Streams};
+ghost use Rattle.naltvigo.specs.Streaming.{kind_number, number_of, width_number};
+
+use crate::settings::limits_of;
+use crate::status::{BAD_LIMITS, BAD_MACHINE, EVENT, MORE, NaltvigoRefusal, OK, REFUSED, told};
+use cbor_events::{Event, EventKind, Machine, Out, SavedMachine};
+use cbor_head::Width;
+
+/// The kind of a chunk's head; below it are the major types.
+pub const CHUNK: u32 = 8;
+/// The kind of a piece of a payload.
+pub const PIECE: u32 = 9;
+/// The kind of a break.
+pub const BREAK: u32 = 10;
+/// The width of what has no argument: an indefinite length, or a break.
+pub const NO_ARGUMENT: u32 = 255;
+
+/// An event.
+#[repr(C)]
+#[derive(Clone, Copy, Debug, PartialEq, Eq)]
+pub struct NaltvigoEvent {
+    /// The offset of its first byte.
+    pub place: u64,
+    /// The argument or the count, or how many bytes a piece has; 0 where there is none.
+    pub number: u64,
+    /// The major type 0 to 7; 8 a chunk, 9 a piece of a payload, 10 a break.
+    pub kind: u32,
+    /// How many bytes the argument has; 255 for an indefinite length and a break.
+    pub width: u32,
+}
+
+/// Makes `machine` one before an item's first byte. It takes no memory.
+#[unsafe(no_mangle)]
+pub extern "C" fn naltvigo_machine_start_raw(
+    depth: u32,
+    bytes: u64,
+    machine: &mut SavedMachine,
+) -> u32
+    ensures starts { result ≡ OK → Starts machine.new depth bytes }
+    ensures bad_limits { result ≡ BAD_LIMITS → ¬ AreBounds (bounds depth bytes) }
+    ensures in_range { result ≢ BAD_LIMITS → AreBounds (bounds depth bytes) }
+    ensures statuses { (result ≡ OK) ⊎ (result ≡ BAD_LIMITS) }
+    ensures kept { result ≢ OK → machine.new ≡ machine.old }
+{
+    match limits_of(depth, bytes) {
+        Some(limits) => {
+            *machine = Machine::new(limits).save();
+            OK
+        }
+        None => BAD_LIMITS,
+    }
+}
+
+/// Takes bytes from the front of `input` until an event is complete, or a byte is refused, or none
+/// is left: `used` says how many. Once the item is complete, or refused, it uses nothing and
+/// answers the same. It takes no memory.
+#[unsafe(no_mangle)]
+pub extern "C" fn naltvigo_machine_step_raw(
+    machine: &mut SavedMachine,
+    input: &[u8],
+    used: &mut usize,
+    event: &mut NaltvigoEvent,
+    refusal: &mut NaltvigoRefusal,
+) -> u32
+    ensures used { used.new ≤ length input.now }
+    ensures streams { result ≢ BAD_MACHINE → Streams machine.old machine.new
+        (take used.new input.now) result event.new refusal.new }
+    ensures bad_machine { result ≡ BAD_MACHINE → (m : MachineView) → ¬ Holds machine.old m }
+    ensures kept { result ≡ BAD_MACHINE → machine.new ≡ machine.old }
+    ensures no_event { result ≢ EVENT → event.new ≡ event.old }
+    ensures untold { result ≢ REFUSED → refusal.new ≡ refusal.old }
+{
+    *used = 0;
+    let Some(mut taking) = Machine::restore(machine) else {
+        return BAD_MACHINE;
+    };
+    let step = taking.step(input);
+    *used = step.used;
+    *machine = taking.save();
+    match step.out {
+        Out::More => MORE,
+        Out::Event(next) => {
+            *event = event_of(next);
+            EVENT
+        }
+        Out::Done => OK,
+        Out::Refused(why) => {
+            *refusal = told(why);
+            REFUSED
+        }
+    }
+}
+
+// The event as C has it.
+fn event_of(event: Event) -> NaltvigoEvent
+    ensures { IsToldEvent event result }
+{
+    let (kind, number) = numbers_of(event.kind);
+    NaltvigoEvent {
+        place: event.place,
+        number,
+        kind,
+        width: width_of(event.width),
+    }
+}
+
+// The number of the kind, and its own.
+fn numbers_of(kind: EventKind) -> (u32, u64)
+    ensures { (result.0 ≡ kind_number kind) × (result.1 ≡ number_of kind) }
+{
+    match kind {
+        EventKind::Unsigned(n) => (0, n),
+        EventKind::Negative(n) => (1, n),
+        EventKind::Bytes(n) => (2, n.unwrap_or(0)),
+        EventKind::Text(n) => (3, n.unwrap_or(0)),
+        EventKind::Array(n) => (4, n.unwrap_or(0)),
+        EventKind::Map(n) => (5, n.unwrap_or(0)),
+        EventKind::Tag(n) => (6, n),
+        EventKind::Simple(simple) => (7, u64::from(simple.number())),
+        EventKind::Chunk(n) => (CHUNK, n),
+        EventKind::Piece(n) => (PIECE, n as u64),
+        EventKind::End => (BREAK, 0),
+    }
+}
+
+fn width_of(width: Width) -> u32
+    ensures { result ≡ width_number width }
+{
+    match width {
+        Width::Direct => 0,
+        Width::One => 1,
+        Width::Two => 2,
+        Width::Four => 4,
+        Width::Eight => 8,
+        Width::Indefinite => NO_ARGUMENT,
+    }
+}
