@@ -1,9 +1,5 @@
 -- An item in another: what is read and what is refused of it, for the whole.
 use Rattle.std.proofs.Common.{◌≡◌, ◌≢◌, ℕ, ◌+◌, ◌-◌, ◌<◌, ◌≤◌, Option, Some, None, List, [], ◌++◌, length, replicate, refl, sym, ap, ◌∙◌, subst, inl, inr, arith, append_assoc, append-nil}
-use Rattle.std.proofs.lemmas.List.{length-append}
-use Rattle.std.specs.Prelude.{Result, Ok, Err, MatchResult}
-use Rattle.cbor_item.specs.declared.item.Item.{Item}
-use Rattle.cbor_item.specs.View.{view}
 use Rattle.std.specs.Io.KnownBytes.{Consumes}
 use Rattle.std.proofs.KnownBytes.{Consumes-nil, Consumes-trans}
 use Rattle.cbor_head.specs.Head.{Holds, head, shortest}
@@ -28,9 +24,8 @@ use Rattle.cbor_events.specs.declared.event.EventKind.{EventKind}
 use Rattle.cbor_events.specs.declared.event.EventKind.TheVariants as kinds
 use Rattle.cbor_events.proofs.Taking.{nothing-taken}
 use Rattle.cbor_reader.specs.inner.Judged.{IsJudged}
-use Rattle.cbor_reader.specs.inner.Reading.{IsAt, Extends, IsFormRefusal, OfMark, IsBegun, ReadsItem, IsCause, HasCause, IsUndecided, StopsItem, IsNextHead, StopsHead, ReadsBreak, HasBegun}
+use Rattle.cbor_reader.specs.inner.Reading.{Extends, IsFormRefusal, OfMark, IsBegun, ReadsItem, IsCause, HasCause, IsUndecided, StopsItem, IsNextHead, StopsHead}
 use Rattle.cbor_reader.proofs.Judged.{zero_item}
-use Rattle.cbor_reader.proofs.Steps.{farther}
 use Rattle.cbor_reader.proofs.Leaves.{head_complains, array_head_complains, map_head_complains}
 use Rattle.cbor_reader.proofs.Heads.{open_or, zero_bytes, zero_length, cut_head}
 use Rattle.cbor_reader.proofs.Steps.{reached-as}
@@ -253,49 +248,8 @@ reads-next r b fs t bs from mid to new v c i = record {
 pub stops-next : (r : Rules) (b : Bounds) (fs : List Frame) (t : List ℕ) (bs : List ℕ) (from mid to : Option (List ℕ)) (f : Refusal) → Consumes from mid bs → StopsItem r b fs t bs mid to f → StopsItem r b fs t [] from to f
 stops-next r b fs t bs from mid to f c s = record { bytes = s.bytes; taken = extends-in [] [] bs s.bytes from mid to (extends-by bs from mid c) s.taken; read = s.read; why = s.why }
 
--- a member, or the break
-pub reads-break : (r : Rules) (b : Bounds) (fs : List Frame) (t : List ℕ) (ev : Event) (from to : Option (List ℕ)) (new : ItemEventsView) → IsNextHead r b (at_item fs) t ev from to new → ev.kind ≡ kinds.End → ReadsBreak b fs t from to new
-reads-break r b fs t ev from to new n e = record {
-  bytes = n.bytes;
-  consumed = n.consumed;
-  next = n.next;
-  taking = subst (λ (k : EventKind). IsTaking b.depth (at_item fs) (mark_of ev.width k) n.bytes n.next) e n.taking;
-  at = n.at;
 }
-
--- the next head is of an item that is begun
-pub has-begun : (r : Rules) (e : ItemEventsView) (new : ItemEventsView) (ev : Event) (from to : Option (List ℕ)) → (b : Bounds) (fs : List Frame) (t : List ℕ) → IsNextHead r b (at_item fs) t ev from to new → ev.kind ≢ kinds.End → HasBegun r new ev.kind
-has-begun r e new ev from to b fs t n item = record { b = b; fs = fs; t = t; x = n.bytes; w = ev.width; begun = begun-by r b fs t ev from to new n item }
 
 -- no break comes where none may
 pub no-end : (r : Rules) (b : Bounds) (fs : List Frame) (t : List ℕ) (ev : Event) (from to : Option (List ℕ)) (new : ItemEventsView) → IsNextHead r b (at_item fs) t ev from to new → ((next : State) → Ends fs next → ⊥) → ev.kind ≢ kinds.End
 no-end r b fs t ev from to new n none e = none n.next (subst (λ (k : EventKind). IsTaking b.depth (at_item fs) (mark_of ev.width k) n.bytes n.next) e n.taking).1
-
--- so it has fewer bytes left
-pub head-farther : (r : Rules) (b : Bounds) (fs : List Frame) (t : List ℕ) (ev : Event) (from to : Option (List ℕ)) (e new : ItemEventsView) → IsAt b e t (at_item fs) → IsNextHead r b (at_item fs) t ev from to new
-    → new.machine.bytes - new.machine.taken < e.machine.bytes - e.machine.taken
-head-farther r b fs t ev from to e new a n =
-    farther b e new t (t ++ n.bytes) (at_item fs) n.next a n.at (omega (arith, length-append t n.bytes, taking-some b.depth fs (mark_of ev.width ev.kind) n.bytes n.next n.taking))
-
--- what is answered of the item that is due is what is answered of the item begun
-pub answers-next : (r : Rules) (b : Bounds) (fs : List Frame) (t : List ℕ) (bs : List ℕ) (from mid to : Option (List ℕ)) (new : ItemEventsView) (result : Result Item Refusal) → Consumes from mid bs
-    → MatchResult result (λ i. ReadsItem r b fs t bs mid to new (view i)) (λ f. StopsItem r b fs t bs mid to f)
-    → MatchResult result (λ i. ReadsItem r b fs t [] from to new (view i)) (λ f. StopsItem r b fs t [] from to f)
-answers-next r b fs t bs from mid to new (Ok i) c h = reads-next r b fs t bs from mid to new (view i) c h
-answers-next r b fs t bs from mid to new (Err f) c h = stops-next r b fs t bs from mid to f c h
-
--- these are all the kinds that a head of an item has
-pub other-kinds : (d : ℕ) (fs : List Frame) (w : Width) (kind : EventKind) (bs : List ℕ) (next : State) → IsTaking d (at_item fs) (mark_of w kind) bs next
-    → ((n : ℕ) → kind ≡ kinds.Unsigned n → ⊥) → ((n : ℕ) → kind ≡ kinds.Negative n → ⊥) → ((n : ℕ) → kind ≡ kinds.Simple n → ⊥) → ((n : Option ℕ) → kind ≡ kinds.Bytes n → ⊥) → ((n : Option ℕ) → kind ≡ kinds.Text n → ⊥)
-    → ((n : Option ℕ) → kind ≡ kinds.Array n → ⊥) → ((n : Option ℕ) → kind ≡ kinds.Map n → ⊥) → ((n : ℕ) → kind ≡ kinds.Tag n → ⊥) → kind ≡ kinds.End
-other-kinds d fs w (kinds.Unsigned n) bs next h a1 a2 a3 a4 a5 a6 a7 a8 = absurd (a1 n refl)
-other-kinds d fs w (kinds.Negative n) bs next h a1 a2 a3 a4 a5 a6 a7 a8 = absurd (a2 n refl)
-other-kinds d fs w (kinds.Simple n) bs next h a1 a2 a3 a4 a5 a6 a7 a8 = absurd (a3 n refl)
-other-kinds d fs w (kinds.Bytes n) bs next h a1 a2 a3 a4 a5 a6 a7 a8 = absurd (a4 n refl)
-other-kinds d fs w (kinds.Text n) bs next h a1 a2 a3 a4 a5 a6 a7 a8 = absurd (a5 n refl)
-other-kinds d fs w (kinds.Array n) bs next h a1 a2 a3 a4 a5 a6 a7 a8 = absurd (a6 n refl)
-other-kinds d fs w (kinds.Map n) bs next h a1 a2 a3 a4 a5 a6 a7 a8 = absurd (a7 n refl)
-other-kinds d fs w (kinds.Tag n) bs next h a1 a2 a3 a4 a5 a6 a7 a8 = absurd (a8 n refl)
-other-kinds d fs w (kinds.Chunk n) bs next h a1 a2 a3 a4 a5 a6 a7 a8 = absurd h
-other-kinds d fs w (kinds.Piece n) bs next h a1 a2 a3 a4 a5 a6 a7 a8 = absurd h
-other-kinds d fs w kinds.End bs next h a1 a2 a3 a4 a5 a6 a7 a8 = refl

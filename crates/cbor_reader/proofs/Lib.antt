@@ -1,7 +1,6 @@
 pub mod Accepted
 pub mod Arrays
 pub mod AsciiMasks
-pub mod Building
 pub mod ByteLists
 pub mod Chunks
 pub mod Comparing
@@ -29,7 +28,6 @@ pub mod LevelStrings
 pub mod Loops
 pub mod MapKeys
 pub mod Maps
-pub mod NextKey
 pub mod OnAnswers
 pub mod OneAnswer
 pub mod OpenBegins

@@ -22,19 +22,12 @@
 #![tactic(auto)]
 
 mod ascii;
-mod built_array;
-mod built_item;
-mod built_map;
 mod canonicaliser;
 mod comparison;
-mod encoding;
-mod front;
 mod key_set;
 mod key_spans;
 mod last_keys;
 pub mod laws;
-mod map_keys;
-mod members;
 mod next_head;
 mod open_items;
 mod payload;

@@ -4,59 +4,17 @@ ghost use Rattle.std.specs.Prelude.{◌≡◌, ℕ, List, true, IsUtf8, MatchRes
 ghost use Rattle.cbor_head.specs.Limits.{Bounds};
 ghost use Rattle.cbor_events.specs.inner.Automaton.{Frame};
 ghost use Rattle.cbor_head.specs.declared.width.Width.{Width};
-ghost use Rattle.cbor_events.specs.declared.event.EventKind.TheVariants as kinds;
-ghost use Rattle.cbor_reader.specs.inner.Reading.{AnswersItem, HasBegun, IsBegun, ReadsItem};
+ghost use Rattle.cbor_reader.specs.inner.Reading.{HasBegun, IsBegun, ReadsItem};
 ghost use Rattle.cbor_reader.specs.inner.Reading.{StopsItem, string_kind, string_value};
 ghost use Rattle.cbor_reader.specs.inner.Rules.{rules_of};
 
-use crate::built_item::BuiltItem;
 use crate::next_head::next_head;
 use crate::payload::read_chunk;
 use crate::rules::Rules;
 use cbor_events::{EventKind, ItemEvents};
 use cbor_head::Refusal;
-use cbor_item::Item;
 use std::alloc::Global;
 use std::io::Read;
-
-// The byte string whose head was read.
-pub(crate) fn read_bytes<R: Read>(
-    alloc: Global,
-    events: &mut ItemEvents,
-    reader: &mut R,
-    rules: Rules,
-    length: Option<u64>,
-) -> Result<BuiltItem, Refusal>
-    requires { HasBegun (rules_of rules) events.old (kinds.Bytes length) }
-    ensures { AnswersItem (rules_of rules) events.old (kinds.Bytes length)
-        (R.remaining reader.old) (R.remaining reader.new) events.new result }
-{
-    match read_string(alloc, events, reader, rules, false, length) {
-        Ok(content) => Ok(BuiltItem::new(Item::Bytes(content))),
-        Err(refusal) => Err(refusal),
-    }
-}
-
-// The text whose head was read.
-pub(crate) fn read_text<R: Read>(
-    alloc: Global,
-    events: &mut ItemEvents,
-    reader: &mut R,
-    rules: Rules,
-    length: Option<u64>,
-) -> Result<BuiltItem, Refusal>
-    requires { HasBegun (rules_of rules) events.old (kinds.Text length) }
-    ensures { AnswersItem (rules_of rules) events.old (kinds.Text length)
-        (R.remaining reader.old) (R.remaining reader.new) events.new result }
-{
-    match read_string(alloc, events, reader, rules, true, length) {
-        // Each chunk was found to be UTF-8, so the whole is.
-        Ok(content) => Ok(BuiltItem::new(Item::Text(unsafe {
-            String::from_utf8_unchecked(content)
-        }))),
-        Err(refusal) => Err(refusal),
-    }
-}
 
 // The content of a string whose head was read: a text, or bytes.
 pub(crate) fn read_string<R: Read>(

@@ -1,5 +1,5 @@
 -- What the readers' own functions answer of one item, which may lie within others, from its events.
-use Rattle.std.specs.Prelude.{◌≡◌, ◌≢◌, ℕ, ◌+◌, ◌-◌, ◌<◌, ◌≤◌, ◌⊎◌, ◌++◌, Bool, true, false, List, [], length, Option, Some, None, Result, MatchResult, MatchOption, IsUtf8}
+use Rattle.std.specs.Prelude.{◌≡◌, ◌≢◌, ℕ, ◌+◌, ◌-◌, ◌<◌, ◌≤◌, ◌⊎◌, ◌++◌, Bool, true, false, List, [], length, Option, Some, None, Result, MatchResult, IsUtf8}
 use Rattle.std.specs.Str.Lossy.{utf8_valid_len}
 use Rattle.std.specs.Io.KnownBytes.{Consumes, IsAtEnd}
 use Rattle.cbor_head.specs.Limits.{Bounds, AreBounds}
@@ -18,17 +18,15 @@ use Rattle.cbor_head.specs.declared.reason.Refusal.{Refusal}
 use Rattle.cbor_head.specs.declared.reason.Reason.{Reason}
 use Rattle.cbor_head.specs.declared.reason.Reason.TheVariants as reasons
 use Rattle.cbor_head.specs.declared.reason.Reason.TheVariants.{Truncated, Read, Memory, InvalidText}
-use Rattle.cbor_events.specs.Trace.{Mark, a_head, a_chunk, a_break}
+use Rattle.cbor_events.specs.Trace.{Mark, a_head, a_chunk}
 use Rattle.cbor_events.specs.inner.Automaton.{Frame, State, at_item, in_chunks, close, close_string, payload, run, reached}
-use Rattle.cbor_events.specs.inner.Taking.{Ends, IsTaking}
+use Rattle.cbor_events.specs.inner.Taking.{IsTaking}
 use Rattle.cbor_events.specs.Marks.{mark_of, IsProper}
 use Rattle.cbor_events.specs.inner.State.{state_of}
 use Rattle.cbor_events.specs.ItemEvents.{ItemEventsView, StandsBetween}
 use Rattle.cbor_events.specs.declared.event.Event.{Event}
 use Rattle.cbor_events.specs.declared.event.EventKind.{EventKind}
 use Rattle.cbor_events.specs.declared.event.EventKind.TheVariants as kinds
-use Rattle.cbor_item.specs.declared.item.Item.{Item}
-use Rattle.cbor_item.specs.View.{view}
 use Rattle.cbor_reader.specs.inner.Judged.{IsJudged}
 
 -- Between two events: the bytes t are taken, within these limits, and the events stand in this state.
@@ -128,49 +126,6 @@ pub record HasBegun (r : Rules) (e : ItemEventsView) (kind : EventKind) : Type 0
   pub x : List ℕ
   pub w : Width
   pub begun : IsBegun r b fs t x e w kind
-
--- what is answered of it, whichever it is
-abbrev pub AnswersItem : Rules → ItemEventsView → EventKind → Option (List ℕ) → Option (List ℕ) → ItemEventsView → Result Item Refusal → Type 0
-AnswersItem r e kind from to new result =
-    (b : Bounds) (fs : List Frame) (t x : List ℕ) (w : Width) → IsBegun r b fs t x e w kind
-    → MatchResult result (λ i. ReadsItem r b fs t x from to new (view i)) (λ f. StopsItem r b fs t x from to f)
-
--- an item is due, and no break may come
-pub record IsDue (e : ItemEventsView) : Type 0 where
-  pub b : Bounds
-  pub fs : List Frame
-  pub t : List ℕ
-  pub at : IsAt b e t (at_item fs)
-  pub no_break : (next : State) → Ends fs next → ⊥
-
--- an item or a break is due
-pub record IsMemberDue (e : ItemEventsView) : Type 0 where
-  pub b : Bounds
-  pub fs : List Frame
-  pub t : List ℕ
-  pub at : IsAt b e t (at_item fs)
-
--- what is answered of the item that is due
-abbrev pub AnswersNext : Rules → ItemEventsView → Option (List ℕ) → Option (List ℕ) → ItemEventsView → Result Item Refusal → Type 0
-AnswersNext r e from to new result =
-    (b : Bounds) (fs : List Frame) (t : List ℕ) → IsAt b e t (at_item fs)
-    → MatchResult result (λ i. ReadsItem r b fs t [] from to new (view i)) (λ f. StopsItem r b fs t [] from to f)
-
--- a break came where an item was due
-pub record ReadsBreak (b : Bounds) (fs : List Frame) (t : List ℕ) (from to : Option (List ℕ)) (new : ItemEventsView) : Type 0 where
-  pub bytes : List ℕ
-  pub consumed : Consumes from to bytes
-  pub next : State
-  pub taking : IsTaking b.depth (at_item fs) a_break bytes next
-  pub at : IsAt b new (t ++ bytes) next
-
--- what is answered of the member that is due, or of the break
-abbrev pub AnswersMember : Rules → ItemEventsView → Option (List ℕ) → Option (List ℕ) → ItemEventsView → Result (Option Item) Refusal → Type 0
-AnswersMember r e from to new result =
-    (b : Bounds) (fs : List Frame) (t : List ℕ) → IsAt b e t (at_item fs)
-    → MatchResult result
-    (λ o. MatchOption o (ReadsBreak b fs t from to new) (λ i. ReadsItem r b fs t [] from to new (view i)))
-    (λ f. StopsItem r b fs t [] from to f)
 
 -- ---- one event
 
