@@ -28,7 +28,7 @@ HEADLINE = {("cbor_reader", "canonicalise"), ("cbor_reader", "read_strict")}
 
 # How many names a crate still takes from inner words of the crates below it. The
 # number may fall, and may not rise.
-DEBT_ALLOWED = {"cbor_reader": 31, "cbor_diag": 2, "cbor_explain": 0, "cborc": 0, "naltvigo": 0}
+DEBT_ALLOWED = {"cbor_reader": 28, "cbor_diag": 2, "cbor_explain": 0, "cborc": 0, "naltvigo": 0}
 
 NAME = re.compile(r"[^\s(){}\[\],;]+")
 IMPORT = re.compile(r"^(?:pub )?use (Rattle\.[^\s.{]+(?:\.[^\s.{]+)*)(?:\.\{(.*)\}| as (\S+))?$")
