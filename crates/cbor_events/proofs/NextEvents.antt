@@ -240,26 +240,6 @@ end-here from mid_from to old mid new kept t last ms h r depth complete same c n
       stands = record { stands = subst (λ m. StandsFor m t ms) (sym same) (subst (λ xs. StandsFor mid xs ms) here r.stands); whole = h.whole };
     }
 
-pub nothing-lost : (x : Option (List ℕ)) → Consumes x x []
-nothing-lost None = tt
-nothing-lost (Some xs) = refl
-
--- nothing was read yet
-unfoldable pub unread : (from : Option (List ℕ)) (m : MachineView) (t : List ℕ) (ms : List Mark) → StandsFor m t ms → HasRead from from m t ms
-unread from m t ms h = record { bytes = []; consumed = nothing-lost from; stands = subst (λ ys. StandsFor m ys ms) (sym (append-nil t)) h }
-
--- what was told is whole with what was read first
-pub event-first : (e : Event) (from to : Option (List ℕ)) (old new : MachineView) (kept buffer t last : List ℕ) (ms : List Mark) → StandsBetween old t ms → new.depth ≡ old.depth → Consumes from to last → AreBytes last → 0 < length last
-    → last ≡ take (length last) buffer → IsGiven e new t last ms → IsNextEvent e (machine_call old new from to kept (piece_by e.kind kept buffer) t ms)
-unfolding unread
-event-first e from to old new kept buffer t last ms h depth c b some here g =
-    event-here e from from to old old new kept buffer t last ms h (unread from old t ms h.stands) refl depth c b some here (subst (λ xs. IsGiven e new xs last ms) (sym (append-nil t)) g)
-
--- as long as bytes are wanted, some came
-pub some-came : (count wants : ℕ) → (count ≡ 0 → wants ≡ 0) → 0 < wants → 0 < count
-some-came zero wants h k = absurd (omega (arith, h refl))
-some-came (suc count) wants h k = omega arith
-
 -- one read after another, and no event is complete
 pub read-on : (from mid_from to : Option (List ℕ)) (mid new : MachineView) (t last : List ℕ) (ms : List Mark) → (r : HasRead from mid_from mid t ms) → Consumes mid_from to last → StandsFor new ((t ++ r.bytes) ++ last) ms
     → HasRead from to new t ms

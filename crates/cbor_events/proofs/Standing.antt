@@ -13,13 +13,7 @@ use Rattle.cbor_events.specs.inner.State.{state_of, is_done, IsFit, IsSettled}
 use Rattle.cbor_events.specs.inner.Machine.{IsShown}
 use Rattle.cbor_events.specs.inner.Walk.{IsWalked}
 use Rattle.cbor_events.specs.MachineView.{MachineView}
-use Rattle.std.specs.Prelude.{Option, Some, min, Bool, false}
-use Rattle.std.specs.Option.{is_some}
-use Rattle.std.proofs.Common.{take_all}
-use Rattle.cbor_head.specs.declared.width.Width.{Width}
-use Rattle.cbor_events.specs.declared.event.EventKind.{EventKind}
-use Rattle.cbor_events.specs.inner.Whole.{IsEventRun}
-use Rattle.cbor_events.specs.Machine.{wanted_within, IsWhole, StandsFor, IsGiven, before, IsRefused, IsAnswer}
+use Rattle.cbor_events.specs.Machine.{IsWhole, StandsFor, IsGiven, before, IsRefused, IsAnswer}
 use Rattle.cbor_events.specs.inner.Steps.{Ran, Stopped, IsStep}
 use Rattle.cbor_events.specs.inner.Automaton as automaton
 use Rattle.cbor_events.specs.declared.event.Out.{Out}
@@ -300,16 +294,3 @@ stopped old new bs r n w len is =
       refuses = w.4;
       is = is ∙ ap (λ k. refusal r.reason k (old.taken + n)) low ∙ ap (λ k. refusal r.reason (old.taken + length w.0) k) high;
     }
-
--- ---- what was wanted, and is whole
-
-pub no-refusal : (r : Option Refusal) → false ≡ is_some r → r ≡ None
-no-refusal None e = refl
-no-refusal (Some f) e = absurd (cc)
-
-pub wanted-fits : (r : Option Refusal) (n bytes taken due : ℕ) → n ≤ wanted_within r (min (bytes - taken) due) → taken ≤ bytes → (n ≤ due) × (taken + n ≤ bytes)
-wanted-fits None n bytes taken due h k = (omega arith, omega arith)
-wanted-fits (Some f) n bytes taken due h k = (omega arith, omega arith)
-
-pub whole-run : (d e : ℕ) (q u : State) (used : ℕ) (bs : List ℕ) (w : Width) (kind : EventKind) → d ≡ e → used ≡ length bs → IsEventRun d q u (take used bs) w kind → run e q bs ≡ reached u (marks_of w kind)
-whole-run d e q u used bs w kind depth all r = ap (λ x. run x q bs) (sym depth) ∙ ap (run d q) (sym (take_all used bs (omega (arith, all)))) ∙ r.ran

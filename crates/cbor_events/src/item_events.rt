@@ -1,13 +1,12 @@
 //! The events of one item, from a reader that each call is handed.
 
 ghost use Rattle.std.specs.Prelude.{◌≡◌, ◌≤◌, ◌<◌, ℕ, List, [], length, take, None, Some, OnOk};
-ghost use Rattle.std.specs.Prelude.{OnErr, IfErr, IfSome, Err, Option};
-ghost use Rattle.std.specs.Io.KnownBytes.{Consumes};
+ghost use Rattle.std.specs.Prelude.{OnErr, IfErr, IfSome, Err};
 ghost use Rattle.cbor_head.specs.Verdict.{refusal};
 ghost use Rattle.cbor_events.specs.Trace.{Mark};
 ghost use Rattle.cbor_events.specs.Marks.{IsProper};
 ghost use Rattle.cbor_events.specs.Reasons.{IsEventReason};
-ghost use Rattle.cbor_events.specs.Machine.{KeepsLimits, IsIdle, wanted};
+ghost use Rattle.cbor_events.specs.Machine.{KeepsLimits, IsIdle};
 ghost use Rattle.cbor_events.specs.ItemEvents.{ItemEventsView, StandsBetween, IfTold, IsNext};
 ghost use Rattle.cbor_events.specs.ItemEvents.{machine_call, call};
 ghost use Rattle.cbor_events.specs.inner.Reads.{IsAsked, piece_after, piece_size};
@@ -168,7 +167,7 @@ fn cut(reason: Reason, taken: u64) -> Refusal
     refusal_of(reason, taken, taken)
 }
 
-// Reads what the machine wants. What is whole with the first read is told at once.
+// Reads what the machine wants, one part after another, until it tells an event or stops.
 #[inline(always)]
 fn next_event<R: Read>(
     machine: &mut Machine,
@@ -189,62 +188,21 @@ fn next_event<R: Read>(
     ensures fits { piece_size result ≤ length buffer.new }
     ensures same { length buffer.new ≡ length buffer.old }
 {
-    let want = machine.wanted().min(buffer.len() as u64) as usize;
-    match ask(reader, buffer, want) {
-        Asked::End => Err(cut(Reason::Truncated, machine.taken())),
-        Asked::Failed => Err(cut(Reason::Read, machine.taken())),
-        Asked::Got(count) => {
-            below_256(&buffer[..count]);
-            if let Some(event) = machine.take_whole(&buffer[..count]) {
-                return Ok(Some(event));
-            }
-            read_on(machine, reader, buffer, count)
-        }
-    }
-}
-
-// The same, where so many bytes were read: one part after another, until the machine tells an event
-// or stops.
-#[inline(never)]
-fn read_on<R: Read>(
-    machine: &mut Machine,
-    reader: &mut R,
-    buffer: &mut [u8],
-    first: usize,
-) -> Result<Option<Event>, Refusal>
-    requires room { 0 < length buffer.old }
-    requires inside { first ≤ length buffer.old }
-    requires within { machine.old.open_count ≤ machine.old.depth }
-    requires wanted { first ≤ wanted machine.old }
-    requires some { first ≡ 0 → wanted machine.old ≡ 0 }
-    ensures answers { (from : Option (List ℕ)) (kept t : List ℕ) (ms : List Mark)
-        → Consumes from (R.remaining reader.old) (take first buffer.old)
-        → StandsBetween machine.old t ms
-        → IsNext result (machine_call machine.old machine.new from (R.remaining reader.new)
-        kept (piece_after result kept buffer.new) t ms) }
-    ensures limits { KeepsLimits machine.old machine.new }
-    ensures proper { IfTold result (λ e. IsProper e.width e.kind) }
-    ensures taken { IfErr result (λ f. machine.new.taken ≡ f.read) }
-    ensures reason { IfErr result (λ f. IsEventReason f.reason) }
-    ensures idle { first ≡ 0 → reader.new ≡ reader.old }
-    ensures fits { piece_size result ≤ length buffer.new }
-    ensures same { length buffer.new ≡ length buffer.old }
-{
-    let mut count = first;
     'reads: loop {
-        below_256(&buffer[..count]);
-        let step = machine.take_part(&buffer[..count]);
-        match step.out {
-            Out::More => {}
-            Out::Event(event) => return Ok(Some(event)),
-            Out::Done => return Ok(None),
-            Out::Refused(refusal) => return Err(refusal),
-        }
-        let due = machine.wanted().min(buffer.len() as u64) as usize;
-        match ask(reader, buffer, due) {
+        let want = machine.wanted().min(buffer.len() as u64) as usize;
+        match ask(reader, buffer, want) {
             Asked::End => return Err(cut(Reason::Truncated, machine.taken())),
             Asked::Failed => return Err(cut(Reason::Read, machine.taken())),
-            Asked::Got(more) => count = more,
+            Asked::Got(count) => {
+                below_256(&buffer[..count]);
+                let step = machine.take_part(&buffer[..count]);
+                match step.out {
+                    Out::More => {}
+                    Out::Event(event) => return Ok(Some(event)),
+                    Out::Done => return Ok(None),
+                    Out::Refused(refusal) => return Err(refusal),
+                }
+            }
         }
     }
 }

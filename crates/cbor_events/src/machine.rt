@@ -5,11 +5,10 @@ ghost use Rattle.std.specs.Prelude.{true, Some, None, IfSome, IsTrue};
 ghost use Rattle.cbor_head.specs.Value.{AreBytes};
 ghost use Rattle.cbor_head.specs.Verdict.{refusal};
 ghost use Rattle.cbor_events.specs.Trace.{Mark};
-ghost use Rattle.cbor_events.specs.Marks.{IsProper, times};
 ghost use Rattle.cbor_events.specs.Reasons.{IsMachineReason};
 ghost use Rattle.cbor_events.specs.MachineView.{MachineView};
 ghost use Rattle.cbor_events.specs.Machine.{StandsFor, KeepsLimits, Stays, IsAnswer, IsComplete};
-ghost use Rattle.cbor_events.specs.Machine.{IsIdle, IsEvent, IsGiven, IsMore, IsDone, IfRefused, piece_of};
+ghost use Rattle.cbor_events.specs.Machine.{IsIdle, IsEvent, IsMore, IsDone, IfRefused, piece_of};
 ghost use Rattle.cbor_events.specs.Machine.{wanted};
 ghost use Rattle.cbor_events.specs.inner.State.{IsFit, IsSettled, wanted_at, is_in_payload};
 ghost use Rattle.cbor_events.specs.inner.State.{is_done};
@@ -20,7 +19,7 @@ mod saved;
 use crate::event::{Event, Out, Step};
 use crate::nest::Nest;
 use crate::position::Position;
-use crate::walk::{Walked, walk, whole_event};
+use crate::walk::{Walked, walk};
 use cbor_head::{Limits, Reason, Refusal};
 pub use saved::{SavedFrame, SavedMachine};
 use std::marker::Model;
@@ -149,37 +148,8 @@ impl Machine {
         self.take_part(input)
     }
 
-    /// The event of what was wanted, where it is whole: a definite head, the argument of one that
-    /// is open, or bytes of a payload; none, and nothing is taken, where it is none of these.
-    #[inline(always)]
-    #[tactic(auto, using(crate::proofs::Frames::settled_fit))]
-    pub(crate) fn take_whole(&mut self, input: &[u8]) -> Option<Event>
-        requires { length input.now ≤ wanted self.old }
-        ensures answers { IfSome result (λ e. (t : List ℕ) (ms : List Mark)
-            → StandsFor self.old t ms → IsGiven e self.new t input.now ms) }
-        ensures some { IfSome result (λ e. 0 < length input.now) }
-        ensures proper { IfSome result (λ e. IsProper e.width e.kind) }
-        ensures piece { IfSome result (λ e. times e.kind ≤ length input.now) }
-        ensures limits { KeepsLimits self.old self.new }
-        ensures none { result ≡ None → self.new ≡ self.old }
-    {
-        below_256(input);
-        if self.refusal.is_some() {
-            return None;
-        }
-        let depth = usize::from(self.limits.depth());
-        let whole = whole_event(depth, &mut self.position, &mut self.nest, input)?;
-        let event = Event {
-            place: self.told,
-            width: whole.width,
-            kind: whole.kind,
-        };
-        self.taken += input.len() as u64;
-        self.told = self.taken;
-        Some(event)
-    }
-
     // A step, and what it does with the inner state.
+    #[inline(always)]
     #[tactic(auto, using(crate::proofs::Frames::settled_fit))]
     pub(crate) fn take_part(&mut self, input: &[u8]) -> Step
         ensures used { result.used ≤ length input.now }

@@ -1,13 +1,11 @@
 //! The bytes up to the next event.
 
-ghost use Rattle.std.specs.Prelude.{◌≡◌, ◌≤◌, ◌<◌, ◌+◌, [], take, length, min, None, IfSome, true, false};
+ghost use Rattle.std.specs.Prelude.{◌≡◌, ◌≤◌, ◌<◌, ◌+◌, [], take, length, min, true, false};
 ghost use Rattle.cbor_events.specs.inner.State.{state_of, IsFit, IsSettled};
 ghost use Rattle.cbor_events.specs.inner.State.{wanted_at, is_in_payload, is_done};
 ghost use Rattle.cbor_events.specs.declared.frame.TheConstants.{MOST_OPEN};
 ghost use Rattle.cbor_events.specs.inner.Walk.{IsTold, IsEnded, IsWalkedProper, IsWalkedReason};
 ghost use Rattle.cbor_events.specs.inner.Walk.{IsWalked, told_times};
-ghost use Rattle.cbor_events.specs.inner.Whole.{IsEventRun, IsFront};
-ghost use Rattle.cbor_events.specs.Marks.{times};
 
 use crate::event::EventKind;
 use crate::nest::Nest;
@@ -26,80 +24,6 @@ pub enum Walked {
     Told(Width, EventKind),
     /// The last of them may not stand there.
     Refused(Reason),
-}
-
-/// What is told of bytes at once.
-#[derive(Clone, Copy)]
-pub struct WholeEvent {
-    pub used: usize,
-    pub width: Width,
-    pub kind: EventKind,
-}
-
-/// The event that stands whole at the front: a definite head, the argument of one that is open, or
-/// the bytes of a payload; none, and nothing is taken, where there is none of these.
-#[inline(always)]
-#[tactic(auto, using(crate::proofs::Frames::settled_fit))]
-pub fn whole_event(
-    depth: usize,
-    position: &mut Position,
-    nest: &mut Nest,
-    input: &[u8],
-) -> Option<WholeEvent>
-    requires limit { depth ≤ MOST_OPEN }
-    requires within { length nest.old ≤ depth }
-    requires fits { IsFit depth nest.old position.old }
-    ensures ran { IfSome result (λ r. IsEventRun depth (state_of position.old nest.old)
-        (state_of position.new nest.new) (take r.used input.now) r.width r.kind) }
-    ensures used { IfSome result (λ r. IsFront r.used input.now) }
-    ensures wanted { IfSome result (λ r. length input.now ≤ wanted_at position.old
-        → r.used ≡ length input.now) }
-    ensures payload { IfSome result (λ r. is_in_payload position.old ≡ true
-        → r.used ≡ min (length input.now) (wanted_at position.old)) }
-    ensures piece { IfSome result (λ r. times r.kind ≤ r.used) }
-    ensures settled { IfSome result (λ r. IsSettled nest.new position.new) }
-    ensures going { IfSome result (λ r. position.old ≡ Position.Done → ⊥) }
-    ensures within { length nest.new ≤ depth }
-    ensures none { result ≡ None → (nest.new ≡ nest.old) × (position.new ≡ position.old) }
-    ensures spent { result ≡ None → is_in_payload position.old ≡ true → input.now ≡ [] }
-{
-    match *position {
-        Position::Item => {
-            let whole = whole_head(depth, position, nest, input)?;
-            Some(WholeEvent {
-                used: whole.used,
-                width: whole.width,
-                kind: kind_by(whole.token, whole.number),
-            })
-        }
-        Position::Payload(chunk, kind, left) => {
-            if input.is_empty() {
-                return None;
-            }
-            let used = whole_piece(chunk, kind, left, depth, position, nest, input);
-            Some(WholeEvent {
-                used,
-                width: Width::Direct,
-                kind: EventKind::Piece(used),
-            })
-        }
-        Position::Head {
-            chunk,
-            kind,
-            width,
-            left,
-            argument: 0,
-        } => {
-            let n = whole_argument(left, input)?;
-            *position = after(chunk, kind, n, depth, nest);
-            Some(WholeEvent {
-                used: usize::from(left) + 1,
-                width,
-                kind: head_kind(chunk, kind, n),
-            })
-        }
-        _ => None,
-    }
 }
 
 /// Takes bytes until one completes an event or is refused.
@@ -126,8 +50,35 @@ pub fn walk(depth: usize, position: &mut Position, nest: &mut Nest, input: &[u8]
     ensures within { length nest.new ≤ depth }
     ensures fits { IsFit depth nest.new position.new }
 {
-    if let Some(whole) = whole_event(depth, position, nest, input) {
-        return (whole.used, Walked::Told(whole.width, whole.kind));
+    match *position {
+        Position::Item => {
+            if let Some(whole) = whole_head(depth, position, nest, input) {
+                let kind = kind_by(whole.token, whole.number);
+                return (whole.used, Walked::Told(whole.width, kind));
+            }
+        }
+        Position::Payload(chunk, kind, left) => {
+            if !input.is_empty() {
+                let n = whole_piece(chunk, kind, left, depth, position, nest, input);
+                return (n, Walked::Told(Width::Direct, EventKind::Piece(n)));
+            }
+        }
+        Position::Head {
+            chunk,
+            kind,
+            width,
+            left,
+            argument: 0,
+        } => {
+            if let Some(n) = whole_argument(left, input) {
+                *position = after(chunk, kind, n, depth, nest);
+                return (
+                    usize::from(left) + 1,
+                    Walked::Told(width, head_kind(chunk, kind, n)),
+                );
+            }
+        }
+        _ => {}
     }
     walk_bytes(depth, position, nest, input)
 }

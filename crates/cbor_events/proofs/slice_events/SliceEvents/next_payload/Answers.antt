@@ -4,8 +4,7 @@ use Rattle.std.proofs.lemmas.List.{length-drop}
 use Rattle.cbor_events.specs.inner.Slices.{told_at}
 use Rattle.cbor_events.specs.declared.token.Token.TheVariants.{Piece}
 use Rattle.cbor_events.proofs.Feeding.{rest_from, rest-is}
-use Rattle.cbor_events.proofs.Standing.{no-refusal}
-use Rattle.cbor_events.proofs.Slices.{whole-payload, run-from, event-next}
+use Rattle.cbor_events.proofs.Slices.{no-refusal, whole-payload, run-from, event-next}
 use Rattle.cbor_events.proofs.slice_events.SliceEvents.next_payload.Goals as goal
 
 pub returns-clause-answers : goal.returns-clause-answers

@@ -1,0 +1,20 @@
+use Rattle.std.proofs.Common.{◌≡◌, ◌-◌, ◌<◌, ◌≤◌, ℕ, List, length}
+use Rattle.cbor_events.specs.Trace.{Mark}
+use Rattle.cbor_events.specs.Machine.{StandsFor, IsIdle}
+use Rattle.cbor_events.specs.inner.Reads.{HasRead}
+use Rattle.cbor_events.proofs.item_events.next_event.Given as goal
+
+abbrev pub invariant-reads : goal.invariant-reads
+invariant-reads g l = record {
+  read : (t : List ℕ) (ms : List Mark) → StandsFor l.fn.machine t ms
+      → HasRead (g.R.Read.remaining l.fn.reader) (g.R.Read.remaining l.reader) l.machine t ms;
+  depth : l.machine.depth ≡ l.fn.machine.depth;
+  bytes : l.machine.bytes ≡ l.fn.machine.bytes;
+  within : l.machine.open_count ≤ l.machine.depth;
+  idle : IsIdle l.fn.machine → IsIdle l.machine × (l.reader ≡ l.fn.reader);
+  room : 0 < length l.buffer;
+  same : length l.buffer ≡ length l.fn.buffer;
+}
+
+abbrev pub decreases-reads : goal.decreases-reads
+decreases-reads g l = l.machine.bytes - l.machine.taken
