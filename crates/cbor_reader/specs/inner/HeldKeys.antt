@@ -4,8 +4,8 @@ use Rattle.std.specs.Global.{Global}
 use Rattle.arrayvec.specs.ArrayVec.{ArrayVec}
 use Rattle.cbor_head.specs.Canonical.{Pair}
 use Rattle.cbor_item.specs.Parts.{Open, a_map, a_key}
-use Rattle.cbor_item.specs.declared.key_bytes.TheConstants.{SHORT_KEY}
 use Rattle.cbor_reader.specs.declared.key_set.KeySet.{KeySet}
+use Rattle.cbor_reader.specs.declared.key_set.TheConstants.{SHORT_KEY}
 use Rattle.cbor_reader.specs.inner.MapKeys.{is_in}
 
 -- q is one of these
