@@ -79,6 +79,11 @@ abbrev pub IsRepeatedKey : List Open → Type 0
 IsRepeatedKey (a_key ps k ∷ os) = HasKey ps k
 IsRepeatedKey _ = ⊥
 
+-- this key waits for its value
+abbrev pub IsWaitingKey : List Open → List ℕ → Type 0
+IsWaitingKey (a_key ps k ∷ os) q = q ≡ k
+IsWaitingKey _ q = ⊥
+
 -- one of the entries has a key that is the same (RFC 8949, section 5.6.1)
 abbrev pub HasSameKey : Entries → Value → Type 0
 HasSameKey es k = (l : Value) × (w : Value) × HasEntry es l w × Same l k

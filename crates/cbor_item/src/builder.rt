@@ -1,12 +1,13 @@
 //! The builder: parts in, canonical bytes out.
 
 ghost use Rattle.std.specs.Prelude.{ℕ, List, reverse, ◌≡◌, ◌≢◌, ◌↔◌, ◌<◌, ◌≤◌, ◌++◌, ◌∷◌, []};
-ghost use Rattle.std.specs.Prelude.{IsTrue, false, OnOk, IfOk, drop, take, length, vec_len};
+ghost use Rattle.std.specs.Prelude.{IsTrue, false, OnOk, IfOk, MatchOption, drop, take, length};
+ghost use Rattle.std.specs.Prelude.{vec_len};
 ghost use Rattle.cbor_head.specs.Canonical.{canonical};
 ghost use Rattle.cbor_head.specs.Value.{Value};
 ghost use Rattle.cbor_head.specs.Head.{shortest_head, IsSimple};
 ghost use Rattle.cbor_head.specs.declared.major.Major.TheVariants.{Simple};
-ghost use Rattle.cbor_item.specs.Built.{IsRepeatedKey};
+ghost use Rattle.cbor_item.specs.Built.{IsRepeatedKey, IsWaitingKey};
 ghost use Rattle.cbor_item.specs.Parts.{Part, Makes, run, plain, give, opened, extended, close};
 ghost use Rattle.cbor_item.specs.Parts.{closed, HasNoRepeats};
 ghost use Rattle.cbor_item.specs.inner.Laid.{Takes, IsString, CanClose, OuterTakes};
@@ -225,6 +226,18 @@ impl Core {
                 val,
             ),
             _ => false,
+        }
+    }
+
+    // The bytes of the key that waits for its value.
+    pub(crate) fn waiting_key(&self) -> Option<&[u8]>
+        requires laid { IsLaid self.now }
+        ensures { MatchOption result ((q : List ℕ) → IsWaitingKey (standing self.now) q → ⊥)
+            (λ key. IsWaitingKey (standing self.now) key.now) }
+    {
+        match self.top.shape {
+            Shape::Key(_, key, _) => Some(&self.out.as_slice()[key..]),
+            _ => None,
         }
     }
 

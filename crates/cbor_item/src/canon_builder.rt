@@ -8,7 +8,8 @@ ghost use Rattle.cbor_head.specs.Value.{Value};
 ghost use Rattle.cbor_head.specs.declared.major.Major.TheVariants.{Simple};
 ghost use Rattle.cbor_item.specs.Built.{built, IsLeaf, IsStringType, IsContainer, TakesPart};
 ghost use Rattle.cbor_item.specs.Built.{IsInString, IsInContainer, HasDistinctKeysSoFar};
-ghost use Rattle.cbor_item.specs.Built.{IsRepeatedKey, AreOpenKeysDifferent, IsRepeatTold};
+ghost use Rattle.cbor_item.specs.Built.{IsRepeatedKey, IsWaitingKey, AreOpenKeysDifferent};
+ghost use Rattle.cbor_item.specs.Built.{IsRepeatTold};
 ghost use Rattle.cbor_item.specs.Parts.{Part, Makes, run, plain, give, opened, extended, close};
 
 #[cfg(test)]
@@ -192,6 +193,19 @@ impl CanonBuilder {
         ensures { IsTrue result ↔ IsRepeatedKey self.now.standing }
     {
         self.is_sound && self.core.repeated()
+    }
+
+    /// The canonical bytes of the key that was just completed, where its value is still to come.
+    /// Takes no memory.
+    pub fn waiting_key(&self) -> Option<&[u8]>
+        ensures { MatchOption result ((q : List ℕ) → IsWaitingKey self.now.standing q → ⊥)
+            (λ key. IsWaitingKey self.now.standing key.now) }
+    {
+        if self.is_sound {
+            self.core.waiting_key()
+        } else {
+            None
+        }
     }
 
     /// Which repeated key is to be told where the parts end before the item: of the open maps, from

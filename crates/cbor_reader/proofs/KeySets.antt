@@ -13,11 +13,11 @@ use Rattle.cbor_head.specs.declared.order.KeyOrder.TheVariants.{Bytewise}
 use Rattle.cbor_reader.specs.declared.key_set.KeySet.{KeySet}
 use Rattle.cbor_reader.specs.inner.MapKeys.{IsOneOf, HasBytes, IsPut, is_in}
 
-not_both : true ≡ false → ⊥
+pub not_both : true ≡ false → ⊥
 not_both e = cc e
 
 -- what is in a set with one more
-in_more : {X : Type 0} (bytes : X → List ℕ) (set new : BTreeSet X) (b q : X) (P : Type 0) → Updates (λ x y. slice_cmp nat_cmp (bytes x) (bytes y)) set new b true
+pub in_more : {X : Type 0} (bytes : X → List ℕ) (set new : BTreeSet X) (b q : X) (P : Type 0) → Updates (λ x y. slice_cmp nat_cmp (bytes x) (bytes y)) set new b true
     → (is_in bytes set q ≡ true) ↔ P → (is_in bytes new q ≡ true) ↔ ((bytes q ≡ bytes b) ⊎ P)
 in_more bytes set new b q P u h =
     let at = u.0 q in
@@ -39,7 +39,7 @@ in_more bytes set new b q P u h =
     there_too true y e = refl
     there_too false y e = e
 
-opposite : (x y : Bool) → x ≡ not y → y ≡ not x
+pub opposite : (x y : Bool) → x ≡ not y → y ≡ not x
 opposite true true e = e
 opposite true false e = refl
 opposite false true e = refl

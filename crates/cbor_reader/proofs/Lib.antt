@@ -13,6 +13,7 @@ pub mod Frames
 pub mod FreeBefore
 pub mod Fronts
 pub mod Headline
+pub mod HeldKeys
 pub mod Heads
 pub mod Items
 pub mod Judged

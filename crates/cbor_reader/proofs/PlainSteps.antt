@@ -35,6 +35,8 @@ use Rattle.cbor_item.specs.Parts.{Open, an_array, plain as a_plain, a_map as an_
 use Rattle.cbor_reader.specs.declared.plain_items.PlainItems.{PlainItems}
 use Rattle.cbor_reader.specs.declared.plain_part.Part.{Part}
 use Rattle.cbor_reader.specs.declared.plain_part.Part.TheVariants.{Leaf, String, Begin, Break}
+use Rattle.cbor_reader.specs.declared.key_set.KeySet.{KeySet}
+use Rattle.cbor_reader.specs.inner.HeldKeys.{AreHeld, AreHeldSoFar}
 use Rattle.cbor_reader.specs.inner.Judged.{IsJudged}
 use Rattle.cbor_reader.specs.inner.Levels.{IsTaken, Level, a_member, a_key, a_value, some_member, some_key, some_value, tagged, frame, level_open, AreLevels, bytes_before, opens}
 use Rattle.cbor_reader.specs.inner.OpenItems.{AreRefused}
@@ -42,13 +44,14 @@ use Rattle.cbor_reader.specs.inner.Path.{Standing, item_due, item_full, item_who
 use Rattle.cbor_reader.specs.declared.rules.Rules.TheVariants.{Plain}
 use Rattle.cbor_reader.specs.inner.Front.{IsFrontUnread}
 use Rattle.cbor_reader.specs.inner.PlainFront.{IsDueAt, IsWholeAt, GoesOnOrNot, TakesNext, IsEncodedFront}
-use Rattle.cbor_reader.specs.inner.PlainItems.{AreApart, AreApartSoFar, HaveBegun, HaveBegunIn, HasItsPlace, CanTake, IsGiven, IsEndingAt}
+use Rattle.cbor_reader.specs.inner.PlainItems.{AreApart, AreApartSoFar, HaveBegun, HaveBegunIn, HasItsPlace, CanTake, IsGiven, IsEndingAt, sets, AreKeysBegun}
 use Rattle.cbor_reader.specs.inner.PlainParts.{IsCome, leaf_value, IsLeafMajor, Begins, IsStill, ReadsPart}
 use Rattle.cbor_reader.specs.inner.Reading.{IsAt, IsUndecided, HasCause, IsBegun, IsNextHead, ReadsItem, StopsItem, StopsHead, string_value}
 use Rattle.cbor_reader.specs.inner.StrictFront.{IsStopped}
 use Rattle.cbor_reader.proofs.Arrays.{closes}
 use Rattle.cbor_reader.proofs.Fronts.{front-read, front-unread}
 use Rattle.cbor_reader.proofs.Heads.{open_or}
+use Rattle.cbor_reader.proofs.HeldKeys.{held-given, held-opened, held-broken, held-popped, some-opens}
 use Rattle.cbor_reader.proofs.Items.{definite, is-definite, proper-definite, never-open, cause-in, undecided-in, stops-at-item, stops-next, reads-next, taking-some}
 use Rattle.cbor_reader.proofs.Judged.{judged_start, zero_item, zero_pairs}
 use Rattle.cbor_reader.proofs.LevelEvents.{open-is, fewer-open, short-at}
@@ -377,7 +380,7 @@ module _ (v : PlainItems) (b : Bounds) (e : ItemEventsView) (t : List ℕ) (d : 
       pub undecided : IsUndecided plain b [] [] (t ++ bytes)
       pub q : State
       pub at : IsAt b new (t ++ bytes) q
-      pub leads : (now : PlainItems) (height place count : ℕ) → height ≡ e.machine.open_count → place ≡ ev.place → now.starts ≡ set v.starts height place → IsGiven v.builder part now.builder count
+      pub leads : (now : PlainItems) (height place count : ℕ) → height ≡ e.machine.open_count → place ≡ ev.place → now.starts ≡ set v.starts height place → IsGiven v.builder part now.builder count → AreKeysBegun part (sets v) (sets now)
           → IsEndingAt now b new (t ++ bytes) (height + count)
 
     -- the places behind it
@@ -394,8 +397,8 @@ module _ (v : PlainItems) (b : Bounds) (e : ItemEventsView) (t : List ℕ) (d : 
           ap (λ (xs : List ℕ). get_or xs (length d.ls) 0) starts ∙ ap (λ (i : ℕ). get_or (set v.starts height place) i 0) (sym level) ∙ begins-at v.starts height place room ∙ same_place ∙ n.place ∙ ap length d.taken
 
       placed-ending : (x : List ℕ) (q : State) (os : List Open) (count : ℕ) → IsAt b new (t ++ x) q → (l : IsPlaced v.builder.order b.depth (bytes_before d.ls ++ x) q os (length d.ls + count) now.starts) → now.builder ≡ built v.builder.order os
-          → AreApartSoFar os → IsEndingAt now b new (t ++ x) (height + count)
-      placed-ending x q os count at l is apart = record {
+          → AreApartSoFar os → AreHeldSoFar (sets now) os → IsEndingAt now b new (t ++ x) (height + count)
+      placed-ending x q os count at l is apart held = record {
         q = q;
         at = at;
         standing = l.standing;
@@ -405,12 +408,14 @@ module _ (v : PlainItems) (b : Bounds) (e : ItemEventsView) (t : List ℕ) (d : 
         apart = subst AreApartSoFar (sym (ap (λ (g : Built). g.standing) is)) apart;
         begun = l.begun;
         place = l.place;
+        held = subst (AreHeldSoFar (sets now)) (sym (ap (λ (g : Built). g.standing) is)) held;
       }
 
     -- an item that was taken whole
     item-taken : (part : Part) (u : Value) → ReadsItem plain b gs t n.bytes mid to new u
-        → ((g now : Built) (count : ℕ) → IsGiven g part now count → (now ≡ built g.order (give (canonical g.order u) g.standing)) × (count ≡ 0)) → IsPartTaken part
-    item-taken part u r given-is =
+        → ((g now : Built) (count : ℕ) → IsGiven g part now count → (now ≡ built g.order (give (canonical g.order u) g.standing)) × (count ≡ 0))
+        → ((old now : List KeySet) → AreKeysBegun part old now → now ≡ old) → IsPartTaken part
+    item-taken part u r given-is same-sets =
         let m = reads-next plain b gs t n.bytes from mid to new u n.consumed r in
         let o = v.builder.order in
         let short : length (bytes_before d.ls ++ spell m.item) < 2 ^ 64 = subst (λ (y : List ℕ). length (y ++ spell m.item) < 2 ^ 64) d.taken (short-at b new (t ++ spell m.item) (close gs) m.at) in
@@ -422,7 +427,7 @@ module _ (v : PlainItems) (b : Bounds) (e : ItemEventsView) (t : List ℕ) (d : 
           undecided = undecided-whole (spell m.item) (item-undecided plain b gs t [] from to new u m);
           q = close gs;
           at = m.at;
-          leads = λ now height place count same same_place starts given.
+          leads = λ now height place count same same_place starts given keys.
               let g = given-is v.builder now.builder count given in
               let begun = begun-so now height place same same_place starts in
               let here = here-so now height place same same_place starts in
@@ -435,12 +440,13 @@ module _ (v : PlainItems) (b : Bounds) (e : ItemEventsView) (t : List ℕ) (d : 
                 begun = settled-begun now.starts d.ls m.item begun;
                 place = settled-place now.starts d.ls m.item begun here;
               })
-              g.0 (given-apart (canonical o u) v.builder.standing d.apart);
+              g.0 (given-apart (canonical o u) v.builder.standing d.apart)
+              (subst (λ (ss : List KeySet). AreHeldSoFar ss os) (sym (same-sets (sets v) (sets now) keys)) (held-given (canonical o u) (sets v) v.builder.standing d.held));
         }
 
     -- a head or a break alone
     head-taken : (part : Part) → IsStill after new mid to
-        → ((now : PlainItems) (height place count : ℕ) → height ≡ e.machine.open_count → place ≡ ev.place → now.starts ≡ set v.starts height place → IsGiven v.builder part now.builder count → IsAt b new (t ++ n.bytes) n.next
+        → ((now : PlainItems) (height place count : ℕ) → height ≡ e.machine.open_count → place ≡ ev.place → now.starts ≡ set v.starts height place → IsGiven v.builder part now.builder count → AreKeysBegun part (sets v) (sets now) → IsAt b new (t ++ n.bytes) n.next
         → IsEndingAt now b new (t ++ n.bytes) (height + count)) → IsPartTaken part
     head-taken part still leads =
         let at = subst (λ (z : ItemEventsView). IsAt b z (t ++ n.bytes) n.next) (sym still.events) n.at in
@@ -451,28 +457,29 @@ module _ (v : PlainItems) (b : Bounds) (e : ItemEventsView) (t : List ℕ) (d : 
           undecided = undecided-whole n.bytes (mark-undecided b gs t n.bytes (mark_of ev.width ev.kind) n.next n.taking);
           q = n.next;
           at = at;
-          leads = λ now height place count same same_place starts given. leads now height place count same same_place starts given at;
+          leads = λ now height place count same same_place starts given keys. leads now height place count same same_place starts given keys at;
         }
 
     pub part-taken : (part : Part) → ReadsPart b gs t n.bytes ev.kind after new mid to part → IsPartTaken part
     part-taken (Leaf m k) r =
         item-taken (Leaf m k) (leaf_value m k) r.1
-        (λ g now count h. (h.0 ∙ ap (λ (x : List ℕ). built g.order (give x g.standing)) (leaf-canonical g.order m k r.0), h.1))
+        (λ g now count h. (h.0 ∙ ap (λ (x : List ℕ). built g.order (give x g.standing)) (leaf-canonical g.order m k r.0), h.1)) (λ old now e. e)
     part-taken (String is_text content) r =
         item-taken (String is_text content) (string_value is_text content.items) r
-        (λ g now count h. (h.0 ∙ ap (λ (x : List ℕ). built g.order (give x g.standing)) (string-canonical g.order is_text content.items), h.1))
+        (λ g now count h. (h.0 ∙ ap (λ (x : List ℕ). built g.order (give x g.standing)) (string-canonical g.order is_text content.items), h.1)) (λ old now e. e)
     part-taken (Begin m k) r =
         head-taken (Begin m k) r.1
-        (λ now height place count same same_place starts given at.
+        (λ now height place count same same_place starts given keys at.
         let l = opens-by v.builder.order b d.ls d.levels now.starts (begun-so now height place same same_place starts) (here-so now height place same same_place starts) t n.bytes after ev.width d.taken ev.kind m k came r.0 in
         let one : suc (length d.ls) ≡ length d.ls + count = omega (arith, given.1) in
         placed-ending now height place same same_place starts n.bytes n.next (opened m k ∷ v.builder.standing) count at
         (subst (λ (h : ℕ). IsPlaced v.builder.order b.depth (bytes_before d.ls ++ n.bytes) n.next (opened m k ∷ v.builder.standing) h now.starts) one
         (subst (λ (os : List Open). IsPlaced v.builder.order b.depth (bytes_before d.ls ++ n.bytes) n.next (opened m k ∷ os) (suc (length d.ls)) now.starts) (sym d.standing) l))
-        given.0 (opened-apart m k v.builder.standing (begins-container ev.kind m k r.0) d.apart))
+        given.0 (opened-apart m k v.builder.standing (begins-container ev.kind m k r.0) d.apart)
+        (subst (λ (ss : List KeySet). AreHeldSoFar ss (opened m k ∷ v.builder.standing)) (sym keys.are) (held-opened m k keys.fresh (sets v) v.builder.standing (begins-container ev.kind m k r.0) keys.none d.held)))
     part-taken Break r =
         head-taken Break r.1
-        (λ now height place count same same_place starts given at.
+        (λ now height place count same same_place starts given keys at.
         let taking = subst (λ (k : EventKind). IsTaking b.depth (at_item gs) (mark_of ev.width k) n.bytes n.next) r.0 n.taking in
         let l = breaks v.builder.order b d.ls n.next now.starts d.levels (begun-so now height place same same_place starts) few taking.1 in
         let none : length d.ls ≡ length d.ls + count = omega (arith, given.1) in
@@ -480,7 +487,9 @@ module _ (v : PlainItems) (b : Bounds) (e : ItemEventsView) (t : List ℕ) (d : 
         (subst (λ (h : ℕ). IsPlaced v.builder.order b.depth (bytes_before d.ls ++ n.bytes) n.next v.builder.standing h now.starts) none
         (subst (λ (os : List Open). IsPlaced v.builder.order b.depth (bytes_before d.ls ++ n.bytes) n.next os (length d.ls) now.starts) (sym d.standing)
         (subst (λ (y : List ℕ). IsPlaced v.builder.order b.depth (bytes_before d.ls ++ y) n.next (opens v.builder.order d.ls) (length d.ls) now.starts) (sym taking.0) l)))
-        given.0 (so-far v.builder.standing d.apart))
+        given.0 (so-far v.builder.standing d.apart)
+        (subst (λ (ss : List KeySet). AreHeldSoFar ss v.builder.standing) (sym keys)
+        (subst (AreHeldSoFar (sets v)) (sym d.standing) (held-broken v.builder.order (sets v) d.ls n.next taking.1 (subst (AreHeld (sets v)) d.standing d.held)))))
 
     -- a part that is refused
     pub refused-part : (f : Refusal) → StopsItem plain b gs t n.bytes mid to f → IsStopped plain b t from to f
@@ -526,8 +535,9 @@ module _ (v : PlainItems) (b : Bounds) (e : ItemEventsView) (t : List ℕ) (heig
       go (item_full (l ∷ ls) u) s = (subst IsInContainer (sym s.3.2) (s.3.1.container (level_open v.builder.order l) (opens v.builder.order ls)), apart v.builder.standing h.apart)
       go (item_whole u) s = absurd (omega (arith, more, s.4))
 
-  pub ends-one : e.machine.open_count < height → (now : PlainItems) → now.builder ≡ built v.builder.order (close_open v.builder.order v.builder.standing) → now.starts ≡ v.starts → IsEndingAt now b e t (height - 1)
-  ends-one more now is starts = go h.standing h.stands h.begun h.place
+  pub ends-one : e.machine.open_count < height → (now : PlainItems) → now.builder ≡ built v.builder.order (close_open v.builder.order v.builder.standing) → now.starts ≡ v.starts
+      → ((s u : KeySet) (ss : List KeySet) → sets v ≡ s ∷ u ∷ ss → sets now ≡ u ∷ ss) → IsEndingAt now b e t (height - 1)
+  ends-one more now is starts popped = go h.standing h.stands h.begun h.place
     where
       o : KeyOrder
       o = v.builder.order
@@ -556,6 +566,8 @@ module _ (v : PlainItems) (b : Bounds) (e : ItemEventsView) (t : List ℕ) (heig
             apart = apart-so;
             begun = subst (λ (xs : List ℕ). HaveBegunIn xs (settle ls u)) (sym starts) (settled-begun v.starts ls u begun);
             place = subst (λ (xs : List ℕ). HasItsPlace xs (settle ls u)) (sym starts) (settled-place v.starts ls u begun place);
+            held = subst (AreHeldSoFar (sets now)) (ap (close_open v.builder.order) (sym s.3.2) ∙ sym (ap (λ (g : Built). g.standing) is))
+                (held-popped v.builder.order (sets v) (sets now) c (opens v.builder.order ls) (some-opens v.builder.order ls) popped (subst (AreHeldSoFar (sets v)) s.3.2 h.held));
           }
 
   -- no more are open
@@ -628,24 +640,42 @@ module _ (v : PlainItems) (b : Bounds) (e : ItemEventsView) (t : List ℕ) (h : 
       go (item_full ls u) s place_so = absurd (omega (arith, full-count v b e t e.machine.open_count h ls s.2, s.4))
       go (item_whole u) s place_so = absurd (subst IsRepeatedKey s.3 repeated)
 
-  -- another item is due
-  pub goes-on : (places : length v.starts ≡ 257) → AreApart v.builder.standing → 0 < e.machine.open_count → IsDueAt v b e t
-  goes-on places apart more = go h.standing h.stands h.begun
-    where
-      go : (x : Standing) → StandsAt v.builder.order b.depth t h.q v.builder.standing e.machine.open_count x → HaveBegunIn v.starts x → IsDueAt v b e t
-      go (item_due ls) s begun = record { ls = ls; levels = s.0; taken = s.1; at = at-as b e t t h.q (at_item (map frame ls)) refl s.2 h.at; standing = s.3; apart = apart; begun = begun; places = places }
-      go (item_full ls u) s begun = absurd (omega (arith, full-count v b e t e.machine.open_count h ls s.2, s.4))
-      go (item_whole u) s begun = absurd (omega (arith, more, s.4))
+  -- the same, where the key is among those of its map
+  module _ (now : PlainItems) (same : now.builder ≡ v.builder) (starts : now.starts ≡ v.starts) where
+    -- another item is due
+    pub goes-on : (places : length v.starts ≡ 257) → AreApart v.builder.standing → AreHeld (sets now) now.builder.standing → 0 < e.machine.open_count → IsDueAt now b e t
+    goes-on places apart held more = go h.standing h.stands h.begun
+      where
+        go : (x : Standing) → StandsAt v.builder.order b.depth t h.q v.builder.standing e.machine.open_count x → HaveBegunIn v.starts x → IsDueAt now b e t
+        go (item_due ls) s begun = record {
+          ls = ls;
+          levels = s.0;
+          taken = s.1;
+          at = at-as b e t t h.q (at_item (map frame ls)) refl s.2 h.at;
+          standing = subst (λ (g : Built). g.standing ≡ opens g.order ls) (sym same) s.3;
+          apart = subst (λ (g : Built). AreApart g.standing) (sym same) apart;
+          begun = subst (λ (xs : List ℕ). HaveBegun xs ls) (sym starts) begun;
+          held = held;
+          places = ap length starts ∙ places;
+        }
+        go (item_full ls u) s begun = absurd (omega (arith, full-count v b e t e.machine.open_count h ls s.2, s.4))
+        go (item_whole u) s begun = absurd (omega (arith, more, s.4))
 
-  -- or the item is whole
-  pub is-whole : e.machine.open_count ≡ 0 → IsWholeAt v b e t
-  is-whole none = go h.standing h.stands
-    where
-      go : (x : Standing) → StandsAt v.builder.order b.depth t h.q v.builder.standing e.machine.open_count x → IsWholeAt v b e t
-      go (item_due []) s = absurd (omega (arith, some, ap length s.1))
-      go (item_due (l ∷ ls)) s = absurd (omega (arith, none, s.4))
-      go (item_full ls u) s = absurd (omega (arith, full-count v b e t e.machine.open_count h ls s.2, s.4))
-      go (item_whole u) s = record { item = u; is = s.0; taken = s.1; at = at-as b e t t h.q at_end refl s.2 h.at; standing = s.3 }
+    -- or the item is whole
+    pub is-whole : e.machine.open_count ≡ 0 → IsWholeAt now b e t
+    is-whole none = go h.standing h.stands
+      where
+        go : (x : Standing) → StandsAt v.builder.order b.depth t h.q v.builder.standing e.machine.open_count x → IsWholeAt now b e t
+        go (item_due []) s = absurd (omega (arith, some, ap length s.1))
+        go (item_due (l ∷ ls)) s = absurd (omega (arith, none, s.4))
+        go (item_full ls u) s = absurd (omega (arith, full-count v b e t e.machine.open_count h ls s.2, s.4))
+        go (item_whole u) s = record {
+          item = u;
+          is = s.0;
+          taken = s.1;
+          at = at-as b e t t h.q at_end refl s.2 h.at;
+          standing = subst (λ (g : Built). g.standing ≡ a_plain (canonical g.order (value_of u)) ∷ []) (sym same) s.3;
+        }
 
 -- ---- what is answered
 
@@ -655,12 +685,14 @@ given-order g (String is_text content) now count h = ap (λ (x : Built). x.order
 given-order g (Begin m k) now count h = ap (λ (x : Built). x.order) h.0
 given-order g Break now count h = ap (λ (x : Built). x.order) h.0
 
-pub goes-or-not : (v : PlainItems) (b : Bounds) (e : ItemEventsView) (t : List ℕ) (count : ℕ) → IsEndingAt v b e t e.machine.open_count → 0 < length t → length v.starts ≡ 257 → (IsRepeatedKey v.builder.standing → ⊥) → count ≡ e.machine.open_count
-    → GoesOnOrNot (nat_lt 0 count) v b e t
-goes-or-not v b e t zero h some places fresh same = is-whole v b e t h some (sym same)
-goes-or-not v b e t (suc n) h some places fresh same =
+pub goes-or-not : (v now : PlainItems) (b : Bounds) (e : ItemEventsView) (t : List ℕ) (count : ℕ) → IsEndingAt v b e t e.machine.open_count → 0 < length t → now.builder ≡ v.builder → now.starts ≡ v.starts → length v.starts ≡ 257
+    → AreHeld (sets now) now.builder.standing × (IsRepeatedKey now.builder.standing → ⊥) → count ≡ e.machine.open_count → GoesOnOrNot (nat_lt 0 count) now b e t
+goes-or-not v now b e t zero h some same starts places held same_count = is-whole v b e t h some now same starts (sym same_count)
+goes-or-not v now b e t (suc n) h some same starts places held same_count =
     let more : nat_lt 0 (suc n) ≡ true = grind arith in
-    subst (λ (m : Bool). GoesOnOrNot m v b e t) (sym more) (goes-on v b e t h some places (apart-now v.builder.standing h.apart fresh) (omega (arith, same)))
+    let fresh : IsRepeatedKey v.builder.standing → ⊥ = λ x. held.1 (subst (λ (g : Built). IsRepeatedKey g.standing) (sym same) x) in
+    subst (λ (m : Bool). GoesOnOrNot m now b e t) (sym more)
+    (goes-on v b e t h some now same starts places (apart-now v.builder.standing h.apart fresh) held.0 (omega (arith, same_count)))
 
 -- ---- the whole
 
@@ -670,14 +702,14 @@ pub record IsRunning (o : KeyOrder) (v : PlainItems) (b : Bounds) (e : ItemEvent
   pub consumed : Consumes from now t
   pub due : IsDueAt v b e t
 
-pub runs-first : (o : KeyOrder) (v : PlainItems) (b : Bounds) (e : ItemEventsView) (from : Option (List ℕ)) → v.builder ≡ built o (a_plain [] ∷ []) → length v.starts ≡ 257 → IsAt b e [] (at_item []) → IsRunning o v b e from from
-runs-first o v b e from is places at =
+pub runs-first : (o : KeyOrder) (v : PlainItems) (b : Bounds) (e : ItemEventsView) (from : Option (List ℕ)) → v.builder ≡ built o (a_plain [] ∷ []) → length v.starts ≡ 257 → AreHeld (sets v) (a_plain [] ∷ []) → IsAt b e [] (at_item []) → IsRunning o v b e from from
+runs-first o v b e from is places held at =
     let standing = ap (λ (g : Built). g.standing) is in
     record {
       order = ap (λ (g : Built). g.order) is;
       t = [];
       consumed = Consumes-nil from;
-      due = record { ls = []; levels = tt; taken = refl; at = at; standing = standing; apart = subst AreApart (sym standing) (tt, (λ x. x), tt); begun = tt; places = places };
+      due = record { ls = []; levels = tt; taken = refl; at = at; standing = standing; apart = subst AreApart (sym standing) (tt, (λ x. x), tt); begun = tt; held = subst (AreHeld (sets v)) (sym standing) held; places = places };
     }
 
 pub runs-on : (o : KeyOrder) (old v : PlainItems) (b : Bounds) (e new : ItemEventsView) (from now to : Option (List ℕ)) → (h : IsRunning o old b e from now) → TakesNext true old v b new h.t now to → IsRunning o v b new from to

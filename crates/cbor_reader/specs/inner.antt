@@ -3,6 +3,7 @@ pub mod Building
 pub mod Encoding
 pub mod Frame
 pub mod Front
+pub mod HeldKeys
 pub mod Judged
 pub mod LastKeys
 pub mod Levels

@@ -1,6 +1,6 @@
 //! The canonical bytes of a map's keys.
 
-ghost use Rattle.std.specs.Prelude.{◌≡◌, ◌≤◌, ◌<◌, length, not, true, IfOk, List, []};
+ghost use Rattle.std.specs.Prelude.{◌≡◌, ◌≤◌, ◌<◌, ℕ, length, not, true, IfOk, List, []};
 ghost use Rattle.std.specs.Ordering.{nat_cmp};
 ghost use Rattle.std.specs.Cmp.Lexicographic.{slice_cmp};
 ghost use Rattle.std.specs.BTreeSet.{Updates};
@@ -8,6 +8,7 @@ ghost use Rattle.cbor_head.specs.Canonical.{canonical};
 ghost use Rattle.cbor_head.specs.Spelling.{Spelling, value_of};
 ghost use Rattle.cbor_head.specs.Value.{IsInRange, IsValid};
 ghost use Rattle.cbor_head.specs.declared.order.KeyOrder.TheVariants.{Bytewise};
+ghost use Rattle.cbor_reader.specs.inner.HeldKeys.{HasKeyBytes, IsAdded};
 ghost use Rattle.cbor_reader.specs.inner.MapKeys.{HasBytes, IsPut, is_in};
 
 use arrayvec::ArrayVec;
@@ -26,11 +27,23 @@ pub(crate) struct KeySet {
 impl KeySet {
     // Of no keys.
     pub(crate) fn new(alloc: Global) -> KeySet
-        ensures { HasBytes result [] }
+        ensures keys { HasBytes result [] }
+        ensures bytes { HasKeyBytes result [] }
     {
         KeySet {
             short: BTreeSet::new(alloc),
             long: BTreeSet::new(alloc),
+        }
+    }
+
+    // Whether the bytes of a key were not there, where they are now.
+    pub(crate) fn add(&mut self, alloc: Global, bytes: &[u8]) -> Result<bool, AllocError>
+        ensures { (ks : List (List ℕ)) → HasKeyBytes self.old ks
+            → IfOk result (IsAdded bytes.now ks self.new) }
+    {
+        match ArrayVec::try_from(bytes) {
+            Ok(short) => insert_short(&mut self.short, short),
+            Err(_) => insert_long(&mut self.long, Vec::from_slice(alloc, bytes)?),
         }
     }
 

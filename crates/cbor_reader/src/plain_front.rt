@@ -65,7 +65,7 @@ fn next_part<R: Read>(
         Ok(part) => part,
         Err(refusal) => return Err(refusal),
     };
-    let opened = match items.give(&part) {
+    let opened = match items.give(alloc, &part) {
         Ok(opened) => opened,
         Err(_) => return Err(no_memory(events)),
     };
@@ -74,8 +74,9 @@ fn next_part<R: Read>(
         Ok(()) => {}
         Err(_) => return Err(no_memory(events)),
     }
-    match items.repeated(open) {
-        None => Ok(open > 0),
-        Some(place) => Err(Refusal::new(Reason::RepeatedKey, place, events.taken())),
+    match items.repeated(alloc, open) {
+        Ok(None) => Ok(open > 0),
+        Ok(Some(place)) => Err(Refusal::new(Reason::RepeatedKey, place, events.taken())),
+        Err(_) => Err(no_memory(events)),
     }
 }

@@ -1,16 +1,21 @@
 //! What the plain reader keeps of the items that are open, from event to event.
 
 ghost use Rattle.std.specs.Prelude.{◌≡◌, ◌<◌, ◌≤◌, ◌∷◌, ◌↔◌, [], ℕ, List, IfOk, IsTrue, length};
-ghost use Rattle.std.specs.Prelude.{slice_index_or, slice_set, MatchOption};
-ghost use Rattle.cbor_item.specs.Built.{built, IsRepeatedKey};
+ghost use Rattle.std.specs.Prelude.{slice_set, OnOk};
+ghost use Rattle.cbor_item.specs.Built.{built};
 ghost use Rattle.cbor_item.specs.Parts.{plain};
+ghost use Rattle.cbor_reader.specs.declared.key_set.KeySet.{KeySet as KeySetView};
+ghost use Rattle.cbor_reader.specs.inner.HeldKeys.{AreHeld};
 ghost use Rattle.cbor_reader.specs.inner.PlainItems.{CanTake, IsGiven, IsEnding, AnswersEnds};
+ghost use Rattle.cbor_reader.specs.inner.PlainItems.{sets, AreKeysBegun, AreKeysOpened, AnswersKey};
 
 use crate::MOST_OPEN;
+use crate::key_set::KeySet;
 use crate::plain_part::Part;
 use cbor_head::{KeyOrder, Major};
 use cbor_item::CanonBuilder;
 use std::alloc::{AllocError, Global};
+use std::mem;
 
 // An item may stand in no container.
 const PLACES: usize = MOST_OPEN + 1;
@@ -21,6 +26,9 @@ pub(crate) struct PlainItems {
     builder: CanonBuilder,
     // At the number of containers around it, where the last item began that came there.
     starts: [u64; PLACES],
+    // The keys of the innermost open container that came, and of those around it, the whole first.
+    keys: KeySet,
+    outer: Vec<KeySet>,
 }
 
 impl PlainItems {
@@ -28,10 +36,13 @@ impl PlainItems {
     pub(crate) fn new(alloc: Global, order: KeyOrder) -> PlainItems
         ensures built { result.builder ≡ built order (plain [] ∷ []) }
         ensures starts { length result.starts ≡ 257 }
+        ensures held { AreHeld (sets result) (plain [] ∷ []) }
     {
         PlainItems {
             builder: CanonBuilder::new(alloc, order),
             starts: [0; PLACES],
+            keys: KeySet::new(alloc),
+            outer: Vec::new(alloc),
         }
     }
 
@@ -39,16 +50,19 @@ impl PlainItems {
     pub(crate) fn begin_at(&mut self, height: usize, place: u64)
         requires { height < length self.old.starts }
         ensures same { self.new.builder ≡ self.old.builder }
+        ensures sets { sets self.new ≡ sets self.old }
         ensures starts { self.new.starts ≡ slice_set self.old.starts height place }
     {
         self.starts[height] = place;
     }
 
     // The next part of the item; answers how many containers it opens.
-    pub(crate) fn give(&mut self, part: &Part) -> Result<usize, AllocError>
+    pub(crate) fn give(&mut self, alloc: Global, part: &Part) -> Result<usize, AllocError>
         requires { CanTake self.old.builder part.now }
         ensures same { self.new.starts ≡ self.old.starts }
-        ensures given { IfOk result (λ opened. IsGiven self.old.builder part.now self.new.builder opened) }
+        ensures given { IfOk result
+            (λ opened. IsGiven self.old.builder part.now self.new.builder opened) }
+        ensures sets { IfOk result (λ _. AreKeysBegun part.now (sets self.old) (sets self.new)) }
     {
         match part {
             Part::Leaf(major, argument) => {
@@ -62,9 +76,33 @@ impl PlainItems {
             }
             Part::Begin(major, number) => {
                 self.builder.begin(*major, *number)?;
+                self.begin_keys(alloc)?;
                 Ok(1)
             }
             Part::Break => Ok(0),
+        }
+    }
+
+    // A container begins, which has no keys yet.
+    fn begin_keys(&mut self, alloc: Global) -> Result<(), AllocError>
+        ensures same { (self.new.builder ≡ self.old.builder)
+            × (self.new.starts ≡ self.old.starts) }
+        ensures sets { OnOk result (AreKeysOpened (sets self.old) (sets self.new)) }
+    {
+        let around = mem::replace(&mut self.keys, KeySet::new(alloc));
+        self.outer.push(around)?;
+        Ok(())
+    }
+
+    // The innermost container ends.
+    fn end_keys(&mut self)
+        ensures same { (self.new.builder ≡ self.old.builder)
+            × (self.new.starts ≡ self.old.starts) }
+        ensures sets { (s t : KeySetView) (ss : List KeySetView)
+            → sets self.old ≡ s ∷ t ∷ ss → sets self.new ≡ t ∷ ss }
+    {
+        if let Some(around) = self.outer.pop() {
+            self.keys = around;
         }
     }
 
@@ -78,31 +116,43 @@ impl PlainItems {
         let mut left = height;
         'full: while left > open {
             self.builder.end()?;
+            self.end_keys();
             left -= 1;
         }
         Ok(())
     }
 
-    // Where the key began that has just come, if it is the same as an earlier key of its map. So
-    // many containers are open.
-    pub(crate) fn repeated(&self, open: usize) -> Option<u64>
-        requires { «open» < length self.now.starts }
-        ensures { MatchOption result (IsRepeatedKey self.now.builder.standing → ⊥)
-            (λ place. IsRepeatedKey self.now.builder.standing
-            × (place ≡ slice_index_or self.now.starts «open» 0)) }
+    // Where the key began that has just come, if it is the same as an earlier key of its map; else
+    // it is one of them now. So many containers are open.
+    pub(crate) fn repeated(
+        &mut self,
+        alloc: Global,
+        open: usize,
+    ) -> Result<Option<u64>, AllocError>
+        requires { «open» < length self.old.starts }
+        ensures same { (self.new.builder ≡ self.old.builder)
+            × (self.new.starts ≡ self.old.starts) }
+        ensures answers { AnswersKey self.old self.new «open» result }
     {
-        if self.builder.repeated() {
-            Some(self.starts[open])
-        } else {
-            None
+        let Some(key) = self.builder.waiting_key() else {
+            return Ok(None);
+        };
+        if self.keys.add(alloc, key)? {
+            return Ok(None);
         }
+        Ok(Some(self.starts[open]))
     }
 
     // The canonical bytes of the item, which is whole.
     pub(crate) fn finish(self) -> Vec<u8>
         ensures { (bs : List ℕ) → self.builder.standing ≡ plain bs ∷ [] → result.items ≡ bs }
     {
-        let PlainItems { builder, starts: _ } = self;
+        let PlainItems {
+            builder,
+            starts: _,
+            keys: _,
+            outer: _,
+        } = self;
         builder.finish()
     }
 }

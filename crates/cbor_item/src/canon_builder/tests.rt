@@ -217,9 +217,12 @@ fn a_key_again(rt: HostRuntime) -> Result<(), Fail> {
     // {"aa": 0, 1: 0, "aa" ..
     let mut builder = CanonBuilder::new(alloc, KeyOrder::LengthFirst);
     begin(&mut builder, Major::Map, 3)?;
+    assert!(rt; builder.waiting_key().is_none());
     string(&mut builder, Major::Text, b"aa")?;
     assert!(rt; !builder.repeated());
+    assert!(rt; builder.waiting_key() == Some(b"\x62aa".as_slice()));
     leaf(&mut builder, Major::Unsigned, 0)?;
+    assert!(rt; builder.waiting_key().is_none());
     leaf(&mut builder, Major::Unsigned, 1)?;
     assert!(rt; !builder.repeated());
     leaf(&mut builder, Major::Unsigned, 0)?;

@@ -13,8 +13,9 @@ use Rattle.cbor_events.specs.ItemEvents.{ItemEventsView}
 use Rattle.cbor_item.specs.Parts.{plain as a_plain}
 use Rattle.cbor_reader.specs.declared.plain_items.PlainItems.{PlainItems}
 use Rattle.cbor_reader.specs.inner.Front.{IsFrontRead}
+use Rattle.cbor_reader.specs.inner.HeldKeys.{AreHeld}
 use Rattle.cbor_reader.specs.inner.Levels.{IsTaken, Level, frame, AreLevels, bytes_before, opens}
-use Rattle.cbor_reader.specs.inner.PlainItems.{AreApart, HaveBegun}
+use Rattle.cbor_reader.specs.inner.PlainItems.{AreApart, HaveBegun, sets}
 use Rattle.cbor_reader.specs.inner.Reading.{IsAt}
 use Rattle.cbor_reader.specs.inner.StrictFront.{IsStopped}
 
@@ -27,6 +28,7 @@ pub record IsDueAt (v : PlainItems) (b : Bounds) (e : ItemEventsView) (t : List 
   pub standing : v.builder.standing ≡ opens v.builder.order ls
   pub apart : AreApart v.builder.standing
   pub begun : HaveBegun v.starts ls
+  pub held : AreHeld (sets v) v.builder.standing
   pub places : length v.starts ≡ 257
 
 pub record IsDueSomewhere (v : PlainItems) (e : ItemEventsView) : Type 0 where

@@ -1,6 +1,6 @@
 -- What the plain reader keeps: what a builder holds, in which no two keys of an open map are the same, and where each open
 -- item began.
-use Rattle.std.specs.Prelude.{ℕ, suc, ◌≡◌, ◌++◌, List, [], ◌∷◌, length, slice_index_or, Result, OnOk}
+use Rattle.std.specs.Prelude.{ℕ, suc, ◌≡◌, ◌++◌, List, [], ◌∷◌, length, reverse, slice_index_or, Option, Result, OnOk, IfOk, MatchOption}
 use Rattle.cbor_head.specs.Head.{shortest_head, IsSimple}
 use Rattle.cbor_head.specs.Limits.{Bounds}
 use Rattle.cbor_head.specs.declared.major.Major.TheVariants as majors
@@ -12,6 +12,8 @@ use Rattle.cbor_item.specs.Parts.{Open, a_map, a_key, give, opened}
 use Rattle.cbor_reader.specs.declared.plain_items.PlainItems.{PlainItems}
 use Rattle.cbor_reader.specs.declared.plain_part.Part.{Part}
 use Rattle.cbor_reader.specs.declared.plain_part.Part.TheVariants.{Leaf, String, Begin, Break}
+use Rattle.cbor_reader.specs.declared.key_set.KeySet.{KeySet}
+use Rattle.cbor_reader.specs.inner.HeldKeys.{HasKeyBytes, AreHeld, AreHeldSoFar}
 use Rattle.cbor_reader.specs.inner.Levels as levels
 use Rattle.cbor_reader.specs.inner.Levels.{Level, bytes_before}
 use Rattle.cbor_reader.specs.inner.Path.{Standing, item_due, item_full, item_whole, StandsAt}
@@ -34,6 +36,30 @@ AreApart (c ∷ os) = HasKeysApart c × (IsRepeatedKey (c ∷ os) → ⊥) × Ar
 abbrev pub AreApartSoFar : List Open → Type 0
 AreApartSoFar [] = Unit {0}
 AreApartSoFar (c ∷ os) = HasKeysApart c × AreApart os
+
+-- ---- sets of keys
+
+-- the innermost first
+abbrev pub sets : PlainItems → List KeySet
+sets v = v.keys ∷ reverse v.outer.items
+
+-- one more, of no keys
+pub record AreKeysOpened (old new : List KeySet) : Type 0 where
+  pub fresh : KeySet
+  pub none : HasKeyBytes fresh []
+  pub are : new ≡ fresh ∷ old
+
+abbrev pub AreKeysBegun : Part → List KeySet → List KeySet → Type 0
+AreKeysBegun (Begin m n) old new = AreKeysOpened old new
+AreKeysBegun _ old new = new ≡ old
+
+-- of a key that has just come: it is fresh, and in its set now; or where it began
+abbrev pub AnswersKey : {E : Type 0} → PlainItems → PlainItems → ℕ → Result (Option ℕ) E → Type 0
+AnswersKey old new count result =
+    AreHeldSoFar (sets old) old.builder.standing
+    → IfOk result (λ o. MatchOption o
+    (AreHeld (sets new) new.builder.standing × (IsRepeatedKey new.builder.standing → ⊥))
+    (λ place. IsRepeatedKey old.builder.standing × (place ≡ slice_index_or old.starts count 0)))
 
 -- ---- places
 
@@ -80,6 +106,7 @@ pub record IsEndingAt (v : PlainItems) (b : Bounds) (e : ItemEventsView) (t : Li
   pub apart : AreApartSoFar v.builder.standing
   pub begun : HaveBegunIn v.starts standing
   pub place : HasItsPlace v.starts standing
+  pub held : AreHeldSoFar (sets v) v.builder.standing
 
 pub record IsEnding (v : PlainItems) (height count : ℕ) : Type 0 where
   pub b : Bounds

@@ -1,11 +1,12 @@
-use Rattle.std.proofs.Common.{◌≡◌, ◌++◌, ◌∙◌, ℕ, slice_index_or, length, map, sym, ap, refl, subst, arith}
+use Rattle.std.proofs.Common.{List, ◌≡◌, ◌++◌, ◌∙◌, ℕ, slice_index_or, length, map, sym, ap, refl, subst, arith}
 use Rattle.std.proofs.lemmas.List.{length-append, length-set}
 use Rattle.cbor_head.specs.Verdict.{refusal}
 use Rattle.cbor_head.specs.declared.reason.Reason.TheVariants.{RepeatedKey}
 use Rattle.cbor_events.specs.inner.Automaton.{at_item}
 use Rattle.cbor_item.specs.Built.{Built}
 use Rattle.cbor_reader.specs.inner.Levels.{frame}
-use Rattle.cbor_reader.specs.inner.PlainItems.{CanTake, IsGiven}
+use Rattle.cbor_reader.specs.inner.PlainItems.{CanTake, IsGiven, sets, AreKeysBegun}
+use Rattle.cbor_reader.specs.declared.key_set.KeySet.{KeySet}
 use Rattle.cbor_reader.proofs.PlainSteps.{refused-head, refused-part, place-room, came, part-taken, part-fits, part-no-memory, repeated-key, goes-or-not, given-order}
 use Rattle.cbor_reader.proofs.plain_front.next_part.Goals as goal
 
@@ -76,11 +77,12 @@ end_full-requires g c =
     let r = c.in-Ok-read_part.ensures s.b (map frame d.ls) s.t n.bytes c.in-Ok.event.width come in
     let k = part-taken c.args.items.now s.b c.args.events.now s.t d c.read_part.new.events from mid to c.in-Ok.event c.next_head.new.events n c.in-Ok-read_part.part r in
     let given = subst (λ (b : Built). IsGiven b c.in-Ok-read_part.part c.give.new.self.builder c.in-Ok-give.opened) c.begin_at.ensures.same c.in-Ok-give.ensures.given in
+    let keys = subst (λ (ss : List KeySet). AreKeysBegun c.in-Ok-read_part.part ss (sets c.give.new.self)) c.begin_at.ensures.sets c.in-Ok-give.ensures.sets in
     record {
       b = s.b;
       e = c.read_part.new.events;
       t = s.t ++ k.bytes;
-      ending = k.leads c.give.new.self c.open-height.result c.in-Ok.event.place c.in-Ok-give.opened c.open-height.ensures.count refl (c.give.ensures.same ∙ c.begin_at.ensures.starts) given;
+      ending = k.leads c.give.new.self c.open-height.result c.in-Ok.event.place c.in-Ok-give.opened c.open-height.ensures.count refl (c.give.ensures.same ∙ c.begin_at.ensures.starts) given keys;
       counted = c.open-open.ensures.count;
     }
 
@@ -114,8 +116,8 @@ repeated-requires g c =
     let most = k.at.limits.0 in
     omega (arith, c.open-open.ensures.within, depth, most, places, size)
 
-pub returns-in-None : goal.returns-in-None
-returns-in-None g c = λ b t d.
+pub returns-in-Ok-None : goal.returns-in-Ok-None
+returns-in-Ok-None g c = λ b t d.
     let n = c.in-Ok.ensures b (at_item (map frame d.ls)) t tt d.at in
     let from = g.R.Read.remaining c.args.reader.now in
     let mid = g.R.Read.remaining c.next_head.new.reader in
@@ -124,18 +126,44 @@ returns-in-None g c = λ b t d.
     let r = c.in-Ok-read_part.ensures b (map frame d.ls) t n.bytes c.in-Ok.event.width come in
     let k = part-taken c.args.items.now b c.args.events.now t d c.read_part.new.events from mid to c.in-Ok.event c.next_head.new.events n c.in-Ok-read_part.part r in
     let given = subst (λ (b : Built). IsGiven b c.in-Ok-read_part.part c.give.new.self.builder c.in-Ok-give.opened) c.begin_at.ensures.same c.in-Ok-give.ensures.given in
-    let ending = k.leads c.give.new.self c.open-height.result c.in-Ok.event.place c.in-Ok-give.opened c.open-height.ensures.count refl (c.give.ensures.same ∙ c.begin_at.ensures.starts) given in
+    let keys = subst (λ (ss : List KeySet). AreKeysBegun c.in-Ok-read_part.part ss (sets c.give.new.self)) c.begin_at.ensures.sets c.in-Ok-give.ensures.sets in
+    let ending = k.leads c.give.new.self c.open-height.result c.in-Ok.event.place c.in-Ok-give.opened c.open-height.ensures.count refl (c.give.ensures.same ∙ c.begin_at.ensures.starts) given keys in
     let ended = c.in-Ok-end_full.ensures.ends b c.read_part.new.events (t ++ k.bytes) ending c.open-open.ensures.count in
     let some = k.some in
     let places = d.places in
     let size : length c.end_full.new.self.starts ≡ 257 =
     ap length (c.end_full.ensures.same ∙ c.give.ensures.same ∙ c.begin_at.ensures.starts) ∙ length-set c.args.items.now.starts c.open-height.result c.in-Ok.event.place ∙ places in
+    let key = rw c.in-Ok-None.field-0-is at (c.in-Ok-None.ensures.answers ended.1.held) in
     record {
       bytes = k.bytes;
       some = some;
       consumed = k.consumed;
-      order = ended.0 ∙ given-order c.args.items.now.builder c.in-Ok-read_part.part c.give.new.self.builder c.in-Ok-give.opened given;
-      stands = goes-or-not c.end_full.new.self b c.read_part.new.events (t ++ k.bytes) c.open-open.result ended.1 (omega (arith, some, length-append t k.bytes)) size c.in-None.ensures c.open-open.ensures.count;
+      order = ap (λ (x : Built). x.order) c.repeated.ensures.same.0 ∙ ended.0 ∙ given-order c.args.items.now.builder c.in-Ok-read_part.part c.give.new.self.builder c.in-Ok-give.opened given;
+      stands = goes-or-not c.end_full.new.self c.repeated.new.self b c.read_part.new.events (t ++ k.bytes) c.open-open.result ended.1 (omega (arith, some, length-append t k.bytes)) c.repeated.ensures.same.0 c.repeated.ensures.same.1 size key
+          c.open-open.ensures.count;
+    }
+
+pub returns-in-Ok-Some : goal.returns-in-Ok-Some
+returns-in-Ok-Some g c = λ b t d.
+    let n = c.in-Ok.ensures b (at_item (map frame d.ls)) t tt d.at in
+    let from = g.R.Read.remaining c.args.reader.now in
+    let mid = g.R.Read.remaining c.next_head.new.reader in
+    let to = g.R.Read.remaining c.read_part.new.reader in
+    let come = came c.args.items.now b c.args.events.now t d c.read_part.new.events from mid to c.in-Ok.event c.next_head.new.events n in
+    let r = c.in-Ok-read_part.ensures b (map frame d.ls) t n.bytes c.in-Ok.event.width come in
+    let k = part-taken c.args.items.now b c.args.events.now t d c.read_part.new.events from mid to c.in-Ok.event c.next_head.new.events n c.in-Ok-read_part.part r in
+    let given = subst (λ (b : Built). IsGiven b c.in-Ok-read_part.part c.give.new.self.builder c.in-Ok-give.opened) c.begin_at.ensures.same c.in-Ok-give.ensures.given in
+    let keys = subst (λ (ss : List KeySet). AreKeysBegun c.in-Ok-read_part.part ss (sets c.give.new.self)) c.begin_at.ensures.sets c.in-Ok-give.ensures.sets in
+    let ending = k.leads c.give.new.self c.open-height.result c.in-Ok.event.place c.in-Ok-give.opened c.open-height.ensures.count refl (c.give.ensures.same ∙ c.begin_at.ensures.starts) given keys in
+    let ended = c.in-Ok-end_full.ensures.ends b c.read_part.new.events (t ++ k.bytes) ending c.open-open.ensures.count in
+    let some = k.some in
+    let key = rw c.in-Ok-Some.field-0-is at (c.in-Ok-Some.ensures.answers ended.1.held) in
+    record {
+      bytes = k.bytes;
+      consumed = k.consumed;
+      refused = repeated-key c.end_full.new.self b c.read_part.new.events (t ++ k.bytes) ended.1 (omega (arith, some, length-append t k.bytes)) c.in-Ok-Some.place c.new.result key.0
+          (key.1 ∙ ap (λ (i : ℕ). slice_index_or c.end_full.new.self.starts i 0) c.open-open.ensures.count)
+          (c.new.ensures ∙ ap (λ (x : ℕ). refusal RepeatedKey c.in-Ok-Some.place x) c.taken.ensures.taken) _;
     }
 
 pub returns : goal.returns
@@ -147,14 +175,5 @@ returns g c = λ b t d.
     let come = came c.args.items.now b c.args.events.now t d c.read_part.new.events from mid to c.in-Ok.event c.next_head.new.events n in
     let r = c.in-Ok-read_part.ensures b (map frame d.ls) t n.bytes c.in-Ok.event.width come in
     let k = part-taken c.args.items.now b c.args.events.now t d c.read_part.new.events from mid to c.in-Ok.event c.next_head.new.events n c.in-Ok-read_part.part r in
-    let given = subst (λ (b : Built). IsGiven b c.in-Ok-read_part.part c.give.new.self.builder c.in-Ok-give.opened) c.begin_at.ensures.same c.in-Ok-give.ensures.given in
-    let ending = k.leads c.give.new.self c.open-height.result c.in-Ok.event.place c.in-Ok-give.opened c.open-height.ensures.count refl (c.give.ensures.same ∙ c.begin_at.ensures.starts) given in
-    let ended = c.in-Ok-end_full.ensures.ends b c.read_part.new.events (t ++ k.bytes) ending c.open-open.ensures.count in
-    let some = k.some in
-    record {
-      bytes = k.bytes;
-      consumed = k.consumed;
-      refused = repeated-key c.end_full.new.self b c.read_part.new.events (t ++ k.bytes) ended.1 (omega (arith, some, length-append t k.bytes)) c.in-Some.place c.new.result c.in-Some.ensures.0
-          (c.in-Some.ensures.1 ∙ ap (λ (i : ℕ). slice_index_or c.end_full.new.self.starts i 0) c.open-open.ensures.count)
-          (c.new.ensures ∙ ap (λ (x : ℕ). refusal RepeatedKey c.in-Some.place x) c.taken.ensures.taken) _;
-    }
+    part-no-memory c.args.items.now b c.args.events.now t d c.read_part.new.events from mid to c.in-Ok.event c.next_head.new.events n c.in-Ok-read_part.part k c.no_memory-in-Err-repeated.result c.no_memory-in-Err-repeated.ensures.memory
+    c.no_memory-in-Err-repeated.ensures.place c.no_memory-in-Err-repeated.ensures.taken

@@ -6,7 +6,7 @@ use Rattle.cbor_reader.proofs.plain_front.read_plain_front.Goals as goal
 
 pub parts-init : goal.parts-init
 parts-init g c =
-    runs-first c.args.order c.new-items.result c.args.limits c.new-events.result (g.R.Read.remaining c.args.reader.now) c.new-items.ensures.built c.new-items.ensures.starts
+    runs-first c.args.order c.new-items.result c.args.limits c.new-events.result (g.R.Read.remaining c.args.reader.now) c.new-items.ensures.built c.new-items.ensures.starts c.new-items.ensures.held
     (starts-at c.args.limits c.new-events.result (omega arith, omega arith) c.new-events.ensures.live c.new-events.ensures.limits c.new-events.ensures.starts)
 
 pub next_part-requires : goal.next_part-requires

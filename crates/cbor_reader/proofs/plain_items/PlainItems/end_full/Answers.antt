@@ -17,10 +17,10 @@ end-requires-clause-distinct c =
 
 pub full-preserved : goal.full-preserved
 full-preserved c = (
-  c.full.invariant.0,
+  c.end_keys.ensures.same.1 ∙ c.full.invariant.0,
   λ b e t h counted.
       let k = c.full.invariant.1 b e t h counted in
-      (ap (λ (x : Built). x.order) c.in_ok-end.ensures ∙ k.0, ends-one c.full.self b e t c.full.left k.1 (omega (arith, counted, c.full-test.true)) _ c.in_ok-end.ensures refl),
+      (ap (λ (x : Built). x.order) (c.end_keys.ensures.same.0 ∙ c.in_ok-end.ensures) ∙ k.0, ends-one c.full.self b e t c.full.left k.1 (omega (arith, counted, c.full-test.true)) _ (c.end_keys.ensures.same.0 ∙ c.in_ok-end.ensures) c.end_keys.ensures.same.1 c.end_keys.ensures.sets),
 )
 
 pub returns-clause-ends : goal.returns-clause-ends
