@@ -21,8 +21,6 @@ pub record IsArraySoFar (r : Rules) (at d : ℕ) (w : Width) (n : ℕ) (done : S
 abbrev pub array_bytes : Width → ℕ → Spellings → List ℕ
 array_bytes w n done = head Array w n ++ spell_all done
 
-}
-
 pub array_whole : (w : Width) (done : Spellings) (r : Rules) (at d : ℕ) → IsArraySoFar r at d w (spellings_count done) done → IsSpelled (array w done) × (depth (array w done) ≤ suc d) × Never (Complains r at (array w done))
 array_whole w done r at d a = ((a.holds, a.spelled), omega (arith, a.within), λ c h. elim h [ inl x ↦ a.head_clean c x | inr x ↦ a.clean c x ])
 
@@ -40,8 +38,6 @@ pub record IsMapSoFar (r : Rules) (at d : ℕ) (w : Width) (n : ℕ) (done : Spe
 
 abbrev pub map_bytes : Width → ℕ → SpelledEntries → List ℕ
 map_bytes w n done = head Map w n ++ spell_entries done
-
-}
 
 pub map_whole : (w : Width) (done : SpelledEntries) (r : Rules) (at d : ℕ) → IsMapSoFar r at d w (entries_count done) done → IsSpelled (a_map w done) × (depth (a_map w done) ≤ suc d) × Never (Complains r at (a_map w done))
 map_whole w done r at d a = ((a.holds, a.spelled), omega (arith, a.within), λ c h. elim h [ inl x ↦ a.head_clean c x | inr x ↦ a.clean c x ])

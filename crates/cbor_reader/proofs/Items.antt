@@ -248,8 +248,6 @@ reads-next r b fs t bs from mid to new v c i = record {
 pub stops-next : (r : Rules) (b : Bounds) (fs : List Frame) (t : List ℕ) (bs : List ℕ) (from mid to : Option (List ℕ)) (f : Refusal) → Consumes from mid bs → StopsItem r b fs t bs mid to f → StopsItem r b fs t [] from to f
 stops-next r b fs t bs from mid to f c s = record { bytes = s.bytes; taken = extends-in [] [] bs s.bytes from mid to (extends-by bs from mid c) s.taken; read = s.read; why = s.why }
 
-}
-
 -- no break comes where none may
 pub no-end : (r : Rules) (b : Bounds) (fs : List Frame) (t : List ℕ) (ev : Event) (from to : Option (List ℕ)) (new : ItemEventsView) → IsNextHead r b (at_item fs) t ev from to new → ((next : State) → Ends fs next → ⊥) → ev.kind ≢ kinds.End
 no-end r b fs t ev from to new n none e = none n.next (subst (λ (k : EventKind). IsTaking b.depth (at_item fs) (mark_of ev.width k) n.bytes n.next) e n.taking).1

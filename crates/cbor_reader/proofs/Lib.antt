@@ -44,7 +44,6 @@ pub mod PathFrames
 pub mod Paths
 pub mod Payloads
 pub mod PlainSteps
-pub mod ReadItems
 pub mod QuickFronts
 pub mod QuickHeads
 pub mod QuickItems
