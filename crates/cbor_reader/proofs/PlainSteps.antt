@@ -33,7 +33,7 @@ use Rattle.cbor_events.proofs.Opens.{stack}
 use Rattle.cbor_item.specs.Built.{Built, built, TakesPart, IsContainer, IsInContainer, IsLeaf, IsRepeatedKey, HasDistinctKeysSoFar}
 use Rattle.cbor_item.specs.Parts.{Open, an_array, plain as a_plain, a_map as an_open_map, give, opened, close as close_open}
 use Rattle.cbor_item.specs.OpenValues as trees
-use Rattle.cbor_item.specs.OpenValues.{OpenValue, close as close_in_tree}
+use Rattle.cbor_item.specs.OpenValues.{OpenItem, OpenValue, close as close_in_tree}
 use Rattle.cbor_reader.specs.declared.plain_items.PlainItems.{PlainItems}
 use Rattle.cbor_reader.specs.declared.plain_part.Part.{Part}
 use Rattle.cbor_reader.specs.declared.plain_part.Part.TheVariants.{Leaf, String, Begin, Break}
@@ -342,8 +342,12 @@ module _ (v : PlainItems) (b : Bounds) (e : ItemEventsView) (t : List ℕ) (d : 
         refused = record {
           read = s.read;
           why = elim s.why [
-            | inl m ↦ inl (m.0, m.1, subst (IsUndecided plain b [] []) (sym all)
-                (undecided-in plain b [] (map frame d.ls) [] (bytes_before d.ls) lift s.bytes (subst (λ (y : List ℕ). IsUndecided plain b (map frame d.ls) y s.bytes) d.taken m.2)))
+            | inl m ↦ inl (
+              m.0,
+              m.1,
+              subst (IsUndecided plain b [] []) (sym all)
+                  (undecided-in plain b [] (map frame d.ls) [] (bytes_before d.ls) lift s.bytes (subst (λ (y : List ℕ). IsUndecided plain b (map frame d.ls) y s.bytes) d.taken m.2)),
+            )
             | inr c ↦ inr (subst (λ (y : List ℕ). HasCause plain b [] [] y to f) (sym all)
                 (cause-in plain b [] (map frame d.ls) [] (bytes_before d.ls) lift s.bytes to f (subst (λ (y : List ℕ). HasCause plain b (map frame d.ls) y s.bytes to f) d.taken c)))
           ];

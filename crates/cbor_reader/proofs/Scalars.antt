@@ -56,5 +56,4 @@ module _ (r : Rules) (b : Bounds) (fs : List Frame) (t x : List ℕ) (e : ItemEv
         value = refl;
         at = at-as b e (t ++ x) (t ++ head majors.Simple (shortest n) n) i.next (close fs) (ap (λ (y : List ℕ). t ++ y) bytes_are) f.follows.2 i.at;
       }
-
   -- ---- tags

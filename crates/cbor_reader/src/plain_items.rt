@@ -143,11 +143,7 @@ impl PlainItems {
 
     // Where the key began that has just come, if it is the same as an earlier key of its map; else
     // it is one of them now. So many containers are open.
-    pub(crate) fn repeated(
-        &mut self,
-        alloc: Global,
-        open: usize,
-    ) -> Result<Option<u64>, AllocError>
+    pub(crate) fn repeated(&mut self, alloc: Global, open: usize) -> Result<Option<u64>, AllocError>
         requires { «open» < length self.old.starts }
         ensures same { (self.new.builder ≡ self.old.builder)
             × (self.new.starts ≡ self.old.starts) × (self.new.tree ≡ self.old.tree) }

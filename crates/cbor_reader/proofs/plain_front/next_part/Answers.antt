@@ -187,8 +187,8 @@ returns-in-Ok-Some g c = λ b t d.
           (c.new.ensures ∙ ap (λ (x : ℕ). refusal RepeatedKey c.in-Ok-Some.place x) c.taken.ensures.taken) _;
     }
 
-pub returns : goal.returns
-returns g c = λ b t d.
+pub returns-in-Err-repeated : goal.returns-in-Err-repeated
+returns-in-Err-repeated g c = λ b t d.
     let n = c.in-Ok.ensures b (at_item (map frame d.ls)) t tt d.at in
     let from = g.R.Read.remaining c.args.reader.now in
     let mid = g.R.Read.remaining c.next_head.new.reader in
