@@ -102,8 +102,7 @@ int main(void) {
         printf("%-16u", (unsigned)depth);
         for (int i = 0; i < CALLS; i++) {
             printf(" %15zu", most[i]);
-            size_t said = NALTVIGO_STACK + (size_t)depth * NALTVIGO_STACK_A_LEVEL;
-            bad |= most[i] > (i == 1 ? NALTVIGO_STACK_CHECK_CANONICAL : said);
+            bad |= most[i] > NALTVIGO_STACK;
         }
         puts("");
     }

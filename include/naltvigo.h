@@ -39,8 +39,8 @@
  *    again. malloc and realloc align to 16 bytes, as C libraries for 64 bits do.
  *
  * Stack
- *  - Measured in the gate (c/stack.c), not proved: the figures are NALTVIGO_STACK and the two below it, some
- *    576 KiB at depth 256, 192 KiB at depth 64. On a thread with a small stack pass a smaller `depth`.
+ *  - A call needs at most NALTVIGO_STACK bytes, 64 KiB, at any depth, whether the input is accepted or
+ *    refused: measured in the gate (c/stack.c), not proved.
  *
  * Threads
  *  - No state is kept between calls, and none is shared: any number of threads may call at once, each with
@@ -168,11 +168,8 @@ struct naltvigo_event {
     uint32_t width;  /* how many bytes the argument has: 0, 1, 2, 4, 8, or NALTVIGO_NO_ARGUMENT */
 };
 
-/* What a call needs of the stack: this, and this again for each level of the `depth` that it is passed.
- * naltvigo_check_canonical needs no more than the third, at any depth. */
+/* What a call needs of the stack, in bytes. */
 #define NALTVIGO_STACK 65536
-#define NALTVIGO_STACK_A_LEVEL 2048
-#define NALTVIGO_STACK_CHECK_CANONICAL 65536
 
 /* The exports. No pointer may be null, whatever the length beside it. */
 uint32_t naltvigo_canonicalise_raw(const uint8_t *in, size_t in_length, uint32_t order, uint32_t depth,

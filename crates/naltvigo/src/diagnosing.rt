@@ -62,7 +62,9 @@ pub extern "C" fn naltvigo_diagnostic_raw(
     }
 }
 
-// The text; none where memory is refused.
+// The text; none where memory is refused. It has a frame of its own, which is gone as the tree is
+// given back.
+#[inline(never)]
 fn text_of(alloc: Global, tree: &Tree) -> Option<Vec<u8>>
     ensures { IfSome result (λ v. v.items ≡ text (view tree.now)) }
 {

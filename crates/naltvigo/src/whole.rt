@@ -13,7 +13,9 @@ use cbor_reader::laws::items_and_their_refusals;
 use cbor_reader::whole_tree;
 use std::alloc::Global;
 
-// The tree of the one valid item that the input is; else why it is none.
+// The tree of the one valid item that the input is; else why it is none. It has a frame of its own,
+// which is gone as the tree is given back.
+#[inline(never)]
 pub(crate) fn tree_of(alloc: Global, input: &[u8], limits: Limits) -> Result<Tree, Refusal>
     ensures accepted { IfOk result (λ tree. (s : Spelling)
         × IsValidItem limits.depth limits.bytes input.now s × (view tree ≡ value_of s)) }
