@@ -168,38 +168,36 @@ fn refuses_in_place_of_the_event(rt: HostRuntime) {
     for &(input, told, reason, place, read) in &REFUSED {
         let refusal = Refusal::new(reason, place, read);
         for part in [1, usize::MAX] {
-            let mut asked = Asked::new(input, part);
-            let mut reader = StrictReader::new(rt.alloc(), &mut asked, limits, KeyOrder::Bytewise);
+            let asked = Asked::new(input, part);
+            let mut reader = StrictReader::new(rt.alloc(), asked, limits, KeyOrder::Bytewise);
             for _ in 0..told {
                 assert!(rt;
                     reader.next().is_ok_and(|event| event.is_some()),
                     "{input:?}"
                 );
             }
-            // the same again, with nothing read and nothing kept
+            // the same again, with nothing taken and nothing kept
             for _ in 0..3 {
                 assert_eq!(rt; reader.next(), Err(refusal), "{input:?}");
                 assert_eq!(rt; reader.taken(), read, "{input:?}");
                 assert_eq!(rt; reader.piece(), b"".as_slice(), "{input:?}");
                 assert!(rt; reader.spans() == 0 && reader.kept() == 0, "{input:?}");
             }
-            let left = asked.rest.len() as u64;
-            assert_eq!(rt; left.saturating_add(read), input.len() as u64, "{input:?}");
         }
     }
 }
 
-// How many events are told of an item that is read whole.
-fn told(alloc: Global, reader: &mut Asked<'_>, limits: Limits) -> Result<usize, Refusal> {
+// How many events are told.
+fn told(alloc: Global, reader: &mut Asked<'_>, limits: Limits) -> usize {
     let mut reader = StrictReader::new(alloc, reader, limits, KeyOrder::Bytewise);
     let mut count: usize = 0;
     for _ in 0..1000 {
-        match reader.next()? {
-            Some(_) => count = count.saturating_add(1),
-            None => return Ok(count),
+        if !reader.next().is_ok_and(|event| event.is_some()) {
+            break;
         }
+        count = count.saturating_add(1);
     }
-    Ok(count)
+    count
 }
 
 // A head's first byte is asked for, then what is missing of its argument; of a payload what is left,
@@ -210,11 +208,11 @@ fn asks_for_what_is_missing(rt: HostRuntime) -> Result<(), Fail> {
     // {"hello": 1000}, and a byte that nothing asks for
     let map = b"\xa1\x65hello\x19\x03\xe8\x00";
     let mut asked = Asked::new(map, usize::MAX);
-    assert_eq!(rt; told(rt.alloc(), &mut asked, limits), Ok(4));
+    assert_eq!(rt; told(rt.alloc(), &mut asked, limits), 4);
     assert_eq!(rt; asked.counts.as_slice(), [1, 1, 5, 1, 2].as_slice());
     assert_eq!(rt; asked.rest, b"\x00".as_slice());
     let mut asked = Asked::new(map, 1);
-    assert_eq!(rt; told(rt.alloc(), &mut asked, limits), Ok(8));
+    assert_eq!(rt; told(rt.alloc(), &mut asked, limits), 8);
     assert_eq!(rt;
         asked.counts.as_slice(),
         [1, 1, 5, 4, 3, 2, 1, 1, 2, 1].as_slice()
@@ -223,7 +221,7 @@ fn asks_for_what_is_missing(rt: HostRuntime) -> Result<(), Fail> {
     let mut string = Vec::from_slice(rt.alloc(), b"\x59\x02\x58")?;
     string.resize(603, 0)?;
     let mut asked = Asked::new(&string, usize::MAX);
-    assert_eq!(rt; told(rt.alloc(), &mut asked, limits), Ok(3));
+    assert_eq!(rt; told(rt.alloc(), &mut asked, limits), 3);
     assert_eq!(rt; asked.counts.as_slice(), [1, 2, 512, 88].as_slice());
     Ok(())
 }
