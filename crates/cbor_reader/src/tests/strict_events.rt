@@ -1,44 +1,12 @@
-//! The strict reader event by event: what it tells, what it asks of its reader, what it keeps. What
-//! is kept was worked out by hand, from the bytes of the keys.
+//! The strict reader event by event: what it tells, and what it keeps. What is kept was worked out by
+//! hand, from the bytes of the keys.
 
 use super::limits;
 use crate::{KeyOrder, StrictReader};
-use arrayvec::ArrayVec;
 use cbor_events::{Event, EventKind};
-use cbor_head::{Limits, Reason, Refusal, Width};
+use cbor_head::{Limits, Width};
 use std::alloc::{AllocError, Global};
-use std::io;
-use std::io::Read;
 use std::test::Fail;
-
-// A reader that gives at most so many bytes a read, and notes how many each of the first reads was
-// asked for.
-#[derive(Drop)]
-struct Asked<'a> {
-    rest: &'a [u8],
-    part: usize,
-    counts: ArrayVec<usize, 16>,
-}
-
-impl<'a> Asked<'a> {
-    fn new(rest: &'a [u8], part: usize) -> Asked<'a> {
-        Asked {
-            rest,
-            part,
-            counts: ArrayVec::new(),
-        }
-    }
-}
-
-impl Read for Asked<'_> {
-    fn read(&mut self, buf: &mut [u8]) -> io::Result<usize> {
-        let _ = self.counts.try_push(buf.len());
-        let n = buf.len().min(self.rest.len()).min(self.part);
-        buf[..n].copy_from_slice(&self.rest[..n]);
-        self.rest = &self.rest[n..];
-        Ok(n)
-    }
-}
 
 // Behind an event: its place and kind, how many bytes were taken and containers are open, of how
 // many maps a key is kept, and how many bytes of keys.
@@ -133,97 +101,6 @@ fn tells_a_piece_and_the_end(rt: HostRuntime) {
     assert_eq!(rt; reader.next(), Ok(None));
     assert_eq!(rt; reader.next(), Ok(None));
     assert_eq!(rt; reader.taken(), 3);
-}
-
-// What is refused: the input, how many events are told before, the reason, the place and the bytes
-// read. One byte more is there.
-static REFUSED: [(&[u8], usize, Reason, u64, u64); 8] = [
-    // 0 in two bytes: its head is not told
-    (b"\x18\x00\x00", 0, Reason::NotShortest, 0, 2),
-    // [] in chunks
-    (b"\x9f\xff\x00", 0, Reason::Indefinite, 0, 1),
-    // {1: 0, 0: 0}: neither is a key that falls
-    (b"\xa2\x01\x00\x00\x00\x00", 3, Reason::KeyOrder, 3, 4),
-    // {1: 0, 1: 0}, nor one that is the same
-    (b"\xa2\x01\x00\x01\x00\x00", 3, Reason::KeyOrder, 3, 4),
-    // {"b": 0, "a": 0}: the piece with which the key ends is not told
-    (b"\xa2\x61b\x00\x61a\x00\x00", 5, Reason::KeyOrder, 4, 6),
-    // a text that is none
-    (b"\x61\xff\x00", 1, Reason::InvalidText, 1, 2),
-    // {{0: 0}: 0, {0: 0}: 0}
-    (
-        b"\xa2\xa1\x00\x00\x00\xa1\x00\x00\x00\x00",
-        7,
-        Reason::KeyOrder,
-        5,
-        8,
-    ),
-    // a break where an item is due
-    (b"\x81\xff\x00", 1, Reason::StrayBreak, 1, 2),
-];
-
-#[test]
-fn refuses_in_place_of_the_event(rt: HostRuntime) {
-    let limits = limits(&rt, 256, 1048576);
-    for &(input, told, reason, place, read) in &REFUSED {
-        let refusal = Refusal::new(reason, place, read);
-        for part in [1, usize::MAX] {
-            let asked = Asked::new(input, part);
-            let mut reader = StrictReader::new(rt.alloc(), asked, limits, KeyOrder::Bytewise);
-            for _ in 0..told {
-                assert!(rt;
-                    reader.next().is_ok_and(|event| event.is_some()),
-                    "{input:?}"
-                );
-            }
-            // the same again, with nothing taken and nothing kept
-            for _ in 0..3 {
-                assert_eq!(rt; reader.next(), Err(refusal), "{input:?}");
-                assert_eq!(rt; reader.taken(), read, "{input:?}");
-                assert_eq!(rt; reader.piece(), b"".as_slice(), "{input:?}");
-                assert!(rt; reader.spans() == 0 && reader.kept() == 0, "{input:?}");
-            }
-        }
-    }
-}
-
-// How many events are told.
-fn told(alloc: Global, reader: &mut Asked<'_>, limits: Limits) -> usize {
-    let mut reader = StrictReader::new(alloc, reader, limits, KeyOrder::Bytewise);
-    let mut count: usize = 0;
-    for _ in 0..1000 {
-        if !reader.next().is_ok_and(|event| event.is_some()) {
-            break;
-        }
-        count = count.saturating_add(1);
-    }
-    count
-}
-
-// A head's first byte is asked for, then what is missing of its argument; of a payload what is left,
-// at most 512 bytes.
-#[test]
-fn asks_for_what_is_missing(rt: HostRuntime) -> Result<(), Fail> {
-    let limits = limits(&rt, 256, 1048576);
-    // {"hello": 1000}, and a byte that nothing asks for
-    let map = b"\xa1\x65hello\x19\x03\xe8\x00";
-    let mut asked = Asked::new(map, usize::MAX);
-    assert_eq!(rt; told(rt.alloc(), &mut asked, limits), 4);
-    assert_eq!(rt; asked.counts.as_slice(), [1, 1, 5, 1, 2].as_slice());
-    assert_eq!(rt; asked.rest, b"\x00".as_slice());
-    let mut asked = Asked::new(map, 1);
-    assert_eq!(rt; told(rt.alloc(), &mut asked, limits), 8);
-    assert_eq!(rt;
-        asked.counts.as_slice(),
-        [1, 1, 5, 4, 3, 2, 1, 1, 2, 1].as_slice()
-    );
-    assert_eq!(rt; asked.rest, b"\x00".as_slice());
-    let mut string = Vec::from_slice(rt.alloc(), b"\x59\x02\x58")?;
-    string.resize(603, 0)?;
-    let mut asked = Asked::new(&string, usize::MAX);
-    assert_eq!(rt; told(rt.alloc(), &mut asked, limits), 3);
-    assert_eq!(rt; asked.counts.as_slice(), [1, 2, 512, 88].as_slice());
-    Ok(())
 }
 
 // 256 maps, each the key of the one before, around 0.
