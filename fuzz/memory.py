@@ -6,8 +6,7 @@
 A library between the program and the C library, built here by `cc`, counts the requests, adds up their
 bytes, and refuses one of them. Wanted is of `cborc`, whichever is refused: `out of memory` and status 3, with
 no more on standard output than the first bytes of what usually stands there, and OUT as it was; or all as
-usual; on some documents for each request of each command, and on each row of the conformance table as `canon`,
-`check` and `compare` judge it. Of the calls over readers, on each row: one call answers Memory, at a place
+usual. Of the calls over readers, on each row of the conformance table: one call answers Memory, at a place
 before the end of its usual answer, with as many bytes taken as it tells, and every other call answers as
 usual. And that a head asks for no memory by itself: behind a head of 2^64 - 1, 2^32 or 2^20 bytes, members or
 pairs, with nothing or little there, no more is asked for than behind a zero, but for a constant and so much a
@@ -15,6 +14,7 @@ byte that came. Ends with status 1 where anything else happens.
 """
 
 import argparse
+
 import os
 import re
 import subprocess
@@ -170,27 +170,6 @@ def refuse_in_turn(program):
     return told, usually, wrong
 
 
-def refuse_rows(program):
-    """The same of each row of the conformance table, for the requests that come as the item is judged."""
-    told, usually, wrong = 0, 0, []
-    for command in (["canon", "FILE", "OUT"], ["check", "FILE"], ["compare", "FILE", "FILE"]):
-        program.put("FILE", b"\0")
-        _, least, _ = program.run(command)
-        for given, depth, most in rows():
-            program.put("FILE", given)
-            words = [*command, "--depth", str(depth), "--bytes", str(most)]
-            usual, requests, _ = program.run(words)
-            for refused in range(max(least - 8, 1), requests + 1):
-                found, _, _ = program.run(words, refused)
-                if is_memory(found, usual):
-                    told += 1
-                elif found == usual:
-                    usually += 1
-                else:
-                    wrong.append(f"{given[:20].hex()}, {' '.join(words)}, request {refused}: {found} in place of {usual}")
-    return told, usually, wrong
-
-
 def promises():
     """Heads of great lengths, with nothing behind them or little, alone and in one another."""
     pairs = b"".join(bytes([key, 0]) for key in range(24))
@@ -315,9 +294,6 @@ def main():
             program = Program(given.program, folder)
             told, usually, found = refuse_in_turn(program)
             print(f"a request refused: {told} runs out of memory, {usually} as usual, {len(found)} else")
-            more, as_usual, others = refuse_rows(program)
-            print(f"a request refused on the rows: {more} runs out of memory, {as_usual} as usual, {len(others)} else")
-            found += others
             most, promised = count_promises(program)
             print(f"heads that promise much: at most {CONSTANT} bytes and {most:.0f} for each that came")
             wrong += found + promised
