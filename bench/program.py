@@ -22,6 +22,8 @@ COMMANDS = {
     "check of canonical": (["check"], "bytewise", None),
     "check --strict of canonical": (["check", "--strict"], "bytewise", None),
 }
+# Whose peak memory is told.
+MEASURED = ["canon", "check --strict of canonical"]
 TITLES = {
     "one": "the integer 0: the start of the program",
     "records": "records, shuffled text keys",
@@ -139,6 +141,10 @@ def speed(time, size):
     return f"{size / 1e6 / time:.1f}" if size > MIB // 16 else ""
 
 
+def mebibytes(size):
+    return "" if size is None else f"{size / MIB:.1f}"
+
+
 def milliseconds(time):
     return time if isinstance(time, str) else f"{1000 * time:.1f}"
 
@@ -150,16 +156,16 @@ def size_of(folder, name, command):
 def tell(cborc, folder):
     print(f"Processor time, least of {TURNS}. What is `of canonical` reads the canonical bytes, the others what stands here.\n")
     speeds = " | ".join(f"`{it}`, MB/s" for it in COMMANDS)
-    print(f"| input | bytes | `canon`, ms | {speeds} | `canon`, peak memory, MiB |")
-    print("| --- |" + " ---: |" * (len(COMMANDS) + 3))
+    peaks = " | ".join(f"`{it}`, peak memory, MiB" for it in MEASURED)
+    print(f"| input | bytes | `canon`, ms | {speeds} | {peaks} |")
+    print("| --- |" + " ---: |" * (len(COMMANDS) + len(MEASURED) + 2))
     times = {}
     for name, title in TITLES.items():
         for command in COMMANDS:
             times[name, command] = least_time(cborc, folder, name, command)
-        peak = peak_memory(words_of(cborc, folder, name, "canon"))
         cells = [title, f"{size_of(folder, name, 'canon'):,}", milliseconds(times[name, "canon"])]
         cells += [speed(times[name, it], size_of(folder, name, it)) for it in COMMANDS]
-        cells += ["" if peak is None else f"{peak / MIB:.1f}"]
+        cells += [mebibytes(peak_memory(words_of(cborc, folder, name, it))) for it in MEASURED]
         print(f"| {' | '.join(cells)} |", flush=True)
     return times
 

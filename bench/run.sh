@@ -1,12 +1,14 @@
 #!/usr/bin/env bash
 # Prints how long the library and the program take, as Markdown tables.
 #
-#   bench/run.sh [items] [program] [library]      all three without a word
+#   bench/run.sh [items] [program] [library] [strict]      all four without a word
 #
 # items    proves and runs items.rattle, a program over cbor_item, on trees made from a seed
 # program  proves cborc, makes files from a seed (inputs.py), and runs it on them (program.py)
 # library  builds the library for C, and times its calls in process beside plain C (library.c, floor.c)
 #          and libcbor, where Debian's libcbor-dev is installed
+# strict   proves and runs strict.rattle, a program over cbor_strict, and counts the instructions of
+#          read_strict from a reader beside those of plain C (strict.py, strict.c, floor.c), by valgrind
 #
 # The kit's rt has to be on the path. What rt says goes to standard error. All is done on a copy in
 # a temporary folder, which takes over what earlier checks of the clone kept, so that only what
@@ -48,16 +50,28 @@ library() {
         nested_many nested_keys keys_around_map bytes_16_mib
 }
 
-[ $# -gt 0 ] || set -- items program library
+strict() {
+    mkdir -p "$room/crates/strict/src" "$room/inputs"
+    cp "$root/bench/strict.rattle" "$room/crates/strict/src/main.rt"
+    echo "strict: cbor_head cbor_strict anyhow" >>"$room/crates.txt"
+    [ -e "$room/inputs/one.cbor" ] || python3 "$root/bench/inputs.py" "$room/inputs"
+    cd "$room/crates/strict"
+    rt run -- "$room/inputs/one.bytewise" 2>"$room/log" || { cat "$room/log" >&2; return 1; }
+    cc -O3 -o "$room/floor" "$root/bench/strict.c" "$root/bench/floor.c"
+    python3 "$root/bench/strict.py" out/strict "$room/floor" "$room/inputs" records map_100000 integers zeros text \
+        nested_many nested_keys keys_around_map
+}
+
+[ $# -gt 0 ] || set -- items program library strict
 date -u +'%Y-%m-%d, '"$(nproc) processors, load $(cut -d' ' -f1 /proc/loadavg)"
 for part; do
     case $part in
-        items | program | library)
+        items | program | library | strict)
             printf '\n## %s\n\n' "$part"
             ("$part")
             ;;
         *)
-            echo "usage: bench/run.sh [items] [program] [library]" >&2
+            echo "usage: bench/run.sh [items] [program] [library] [strict]" >&2
             exit 2
             ;;
     esac

@@ -2,6 +2,7 @@
  * between two steps as a program that stores it does, and compares the events. Prints how many checks there
  * were; the status is 0 where all hold. */
 #include "naltvigo.h"
+#include "checks.h"
 
 #include <stdio.h>
 #include <stdlib.h>
@@ -17,16 +18,6 @@ struct events_row {
     struct naltvigo_event events[64];
 };
 #include "events.h"
-
-static int checks, faults;
-
-static void check(int holds, const char *what, const char *of) {
-    checks++;
-    if (!holds) {
-        faults++;
-        fprintf(stderr, "FAIL %s: %s\n", what, of);
-    }
-}
 
 static const struct naltvigo_event unset = {77, 78, 79, 80};
 

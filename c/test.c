@@ -2,6 +2,7 @@
  * buffer near the answer's, numbers out of range, null pointers. Prints how many checks there were; the
  * status is 0 where all hold. */
 #include "naltvigo.h"
+#include "checks.h"
 
 #include <stdio.h>
 #include <stdlib.h>
@@ -23,16 +24,6 @@ struct pair {
     struct naltvigo_refusal refusal;
 };
 #include "rows.h"
-
-static int checks, faults;
-
-static void check(int holds, const char *what, const char *of) {
-    checks++;
-    if (!holds) {
-        faults++;
-        fprintf(stderr, "FAIL %s: %s\n", what, of);
-    }
-}
 
 static void *room_for(size_t n) {
     void *p = malloc(n ? n : 1);

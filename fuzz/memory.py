@@ -6,22 +6,26 @@
 A library between the program and the C library, built here by `cc`, counts the requests, adds up their
 bytes, and refuses one of them. Wanted is of `cborc`, whichever is refused: `out of memory` and status 3, with
 no more on standard output than the first bytes of what usually stands there, and OUT as it was; or all as
-usual. Of the calls over readers, on each row of the conformance table: one call answers Memory, at a place
+usual; on some documents for each request of each command, and on each row of the conformance table as `canon`,
+`check` and `compare` judge it. Of the calls over readers, on each row: one call answers Memory, at a place
 before the end of its usual answer, with as many bytes taken as it tells, and every other call answers as
-usual. And that a head asks for no memory by itself: behind a head of 2^64 - 1, 2^32 or 2^20 bytes, members or
+usual; the strict reader answers Memory again, and reads nothing behind it. And that a head asks for no memory by itself: behind a head of 2^64 - 1, 2^32 or 2^20 bytes, members or
 pairs, with nothing or little there, no more is asked for than behind a zero, but for a constant and so much a
 byte that came. Ends with status 1 where anything else happens.
 """
 
 import argparse
-
+import itertools
 import os
 import re
 import subprocess
 import sys
 import tempfile
+from concurrent.futures import ThreadPoolExecutor
 
-ROOT = os.path.dirname(os.path.dirname(os.path.abspath(__file__)))
+from run import PARTS
+from table import rows
+
 LIBRARY = r"""
 #define _GNU_SOURCE
 #include <dlfcn.h>
@@ -106,21 +110,32 @@ COMMANDS = [
     ["compare", "FILE", "FILE"],
     ["check", "--hex", "HEX"],
 ]
+# What judges an item, on the rows of the conformance table.
+JUDGING = [["canon", "FILE", "OUT"], ["check", "FILE"], ["compare", "FILE", "FILE"]]
 BEFORE = b"what was there"
 # What more may be asked for than for a zero: so many bytes, and so many for each byte that came.
 CONSTANT = 4096
 A_BYTE = 256
 
 
+def build_library(folder):
+    """Builds the library that counts and refuses."""
+    source, library = f"{folder}/counting.c", f"{folder}/counting.so"
+    with open(source, "w", encoding="utf-8") as file:
+        file.write(LIBRARY)
+    words = ["cc", "-shared", "-fPIC", "-O1", "-fno-builtin", "-o", library, source, "-ldl"]
+    subprocess.run(words, check=True)
+    return library
+
+
 class Program:
-    def __init__(self, program, folder):
+    """A program over files of a folder, with the library between it and the C library."""
+
+    def __init__(self, program, library, folder):
         self.program = os.path.abspath(program)
+        self.library = os.path.abspath(library)
         self.folder = os.path.abspath(folder)
-        self.library = f"{self.folder}/counting.so"
-        self.put("counting.c", LIBRARY.encode())
-        source = f"{self.folder}/counting.c"
-        words = ["cc", "-shared", "-fPIC", "-O1", "-fno-builtin", "-o", self.library, source, "-ldl"]
-        subprocess.run(words, check=True)
+        os.makedirs(self.folder, exist_ok=True)
 
     def put(self, name, content):
         with open(f"{self.folder}/{name}", "wb") as file:
@@ -142,6 +157,19 @@ class Program:
         return (ran.returncode, ran.stdout, ran.stderr, self.get("OUT")), requests, size
 
 
+def of_all(work, programs, cases):
+    """What each case gives, as many at a time as there are programs: the counts added up, and what went wrong."""
+    programs = list(programs)
+
+    def go_through(place):
+        return [work(programs[place], it) for it in itertools.islice(cases, place, None, len(programs))]
+
+    with ThreadPoolExecutor(len(programs)) as pool:
+        found = [it for part in pool.map(go_through, range(len(programs))) for it in part]
+    first, second, wrong = zip(*found)
+    return sum(first), sum(second), list(itertools.chain.from_iterable(wrong))
+
+
 def is_memory(given, usual):
     """Whether a run that was refused memory says so, and did nothing else."""
     status, out, err, kept = given
@@ -149,25 +177,40 @@ def is_memory(given, usual):
     return is_told and usual[1].startswith(out) and kept == BEFORE
 
 
-def refuse_in_turn(program):
-    """Refuses each request of each command on each document: how many runs said so, how many went
-    on as usual, and what went wrong."""
+def refuse_each(program, command, requests, usual, at):
+    """How many runs said that memory was refused, how many went on as usual, and what went wrong."""
     told, usually, wrong = 0, 0, []
-    for name, digits in DOCUMENTS.items():
-        program.put("FILE", bytes.fromhex(digits))
-        program.put("HEX", digits.encode())
-        for command in COMMANDS:
-            usual, requests, _ = program.run(command)
-            for refused in range(1, requests + 1):
-                given, _, _ = program.run(command, refused)
-                if is_memory(given, usual):
-                    told += 1
-                elif given == usual:
-                    usually += 1
-                else:
-                    at = f"{name}, {' '.join(command)}, request {refused}"
-                    wrong.append(f"{at}: {given} in place of {usual}")
+    for refused in requests:
+        given, _, _ = program.run(command, refused)
+        if is_memory(given, usual):
+            told += 1
+        elif given == usual:
+            usually += 1
+        else:
+            wrong.append(f"{at}, {' '.join(command)}, request {refused}: {given} in place of {usual}")
     return told, usually, wrong
+
+
+def refuse_in_turn(program, case):
+    """Refuses each request of a command on a document."""
+    (name, digits), command = case
+    program.put("FILE", bytes.fromhex(digits))
+    program.put("HEX", digits.encode())
+    usual, requests, _ = program.run(command)
+    return refuse_each(program, command, range(1, requests + 1), usual, name)
+
+
+def refuse_row(program, case):
+    """The same of a row of the conformance table, for the requests that come as the item is judged, and for one of
+    those before it, another one in each row."""
+    number, row, command = case
+    program.put("FILE", b"\0")
+    _, least, _ = program.run(command)
+    first = max(least - 8, 1)
+    program.put("FILE", row.given)
+    words = [*command, "--depth", str(row.depth), "--bytes", str(row.most)]
+    usual, requests, _ = program.run(words)
+    return refuse_each(program, words, [1 + number % first, *range(first, requests + 1)], usual, row.given[:20].hex())
 
 
 def promises():
@@ -222,30 +265,38 @@ def count_promises(program):
 # ---- the calls over readers
 
 
-def bytes_of(column):
-    """The bytes that hex digits spell; `3*00` stands for 000000."""
-    words = [word.split("*") for word in column.split()]
-    return bytes.fromhex("".join(word[0] if len(word) == 1 else int(word[0]) * word[1] for word in words))
-
-
-def rows():
-    """The inputs of the conformance table with their limits."""
-    table = f"{ROOT}/crates/cbor_reader/src/tests/conformance_table.rt"
-    with open(table, encoding="utf-8") as file:
-        lines = [a or b for a, b in re.findall(r'(?m)^    (?:r#"(.*)"#|"(.*)"),$', file.read())]
-    for line in lines:
-        if line.count("|") < 4:
-            continue
-        given, limits = line.split("|")[:2]
-        depth, most = (re.search(rf"{name} (\d+)", limits) for name in ("depth", "bytes"))
-        yield bytes_of(given), int(depth[1]) if depth else 256, int(most[1]) if most else 1 << 20
-
-
 def is_word(found, usual, length):
     """Whether a call answered Memory before the end of its usual answer, with the rest left to its reader."""
     memory = re.fullmatch(r"!19,(\d+),(\d+):(\d+)", found)
     left = int(usual.rpartition(":")[2])
     return memory and memory[1] == memory[2] and int(memory[1]) + int(memory[3]) == length and int(memory[3]) >= left
+
+
+def reads(asked, part, length):
+    """How many bytes come of so many reads."""
+    taken = 0
+    for count in asked:
+        taken += min(count, part, length - taken)
+    return taken
+
+
+def calls_of(word):
+    """The calls, what was asked for and how many bytes are left."""
+    calls, asked, left = word.split(":")
+    return calls.split(";")[:-1], [int(it) for it in asked.split("+")[:-1]], int(left)
+
+
+def is_calls(found, usual, part, length):
+    """Whether the strict reader gave the first of its usual answers, then Memory, and then the same, with no read."""
+    calls, asked, left = calls_of(found)
+    usual_calls, usual_asked, _ = calls_of(usual)
+    first = len(calls) - 3
+    memory = re.fullmatch(r"!19,(\d+),(\d+),(\d+),\d+,0,0,0", calls[first])
+    if not memory or len(set(memory.groups())) > 1 or calls[first:] != 3 * [calls[first]]:
+        return False
+    taken = int(memory[1])
+    is_front = calls[:first] == usual_calls[:first] and asked == usual_asked[: len(asked)]
+    return is_front and taken + left == length and taken == reads(asked, part, length)
 
 
 def is_sequence(found, usual):
@@ -258,28 +309,31 @@ def is_sequence(found, usual):
 def is_line(found, usual, length):
     """Whether all calls answered as usual but one, which was refused memory."""
     found, usual = found.split(" "), usual.split(" ")
-    others = [(a, b) for a, b in zip(found, usual, strict=True) if a != b]
-    if not others:
-        return True
-    last = found[-1] != usual[-1]
-    return len(others) == 1 and (is_sequence(*others[0]) if last else is_word(*others[0], length))
+    others = [place for place, pair in enumerate(zip(found, usual, strict=True)) if pair[0] != pair[1]]
+    if len(others) != 1:
+        return not others
+    found, usual = found[others[0]], usual[others[0]]
+    # three words and the calls in both orders for each part, and the sequence
+    part, word = divmod(others[0], 5)
+    if part == len(PARTS):
+        return is_sequence(found, usual)
+    return is_word(found, usual, length) if word < 3 else is_calls(found, usual, PARTS[part], length)
 
 
-def refuse_readers(program):
-    """Refuses each request on each row: how many were told, how many ended the driver, and what went wrong."""
+def refuse_readers(program, row):
+    """Refuses each request on a row: how many were told, how many ended the driver, and what went wrong."""
     told, ended, wrong = 0, 0, []
-    for given, depth, most in rows():
-        line = f"{depth} {most} {given.hex()}\n".encode()
-        (_, usual, _, _), requests, _ = program.run([], given=line)
-        for refused in range(1, requests + 1):
-            (status, out, _, _), _, _ = program.run([], refused, line)
-            if status == 1 and usual.startswith(out):
-                # the driver's own memory, or that of canonical bytes
-                ended += 1
-            elif status == 0 and is_line(out.decode()[:-1], usual.decode()[:-1], len(given)):
-                told += 1
-            else:
-                wrong.append(f"{given[:20].hex()}, request {refused}: {out} in place of {usual}")
+    line = f"{row.depth} {row.most} {row.given.hex()}\n".encode()
+    (_, usual, _, _), requests, _ = program.run([], given=line)
+    for refused in range(1, requests + 1):
+        (status, out, _, _), _, _ = program.run([], refused, line)
+        if status == 1 and usual.startswith(out):
+            # the driver's own memory, or that of canonical bytes
+            ended += 1
+        elif status == 0 and is_line(out.decode()[:-1], usual.decode()[:-1], len(row.given)):
+            told += 1
+        else:
+            wrong.append(f"{row.given[:20].hex()}, request {refused}: {out} in place of {usual}")
     return told, ended, wrong
 
 
@@ -290,15 +344,24 @@ def main():
     given = words.parse_args()
     wrong = []
     with tempfile.TemporaryDirectory() as folder:
+        library = build_library(folder)
+
+        def several(program):
+            return [Program(program, library, f"{folder}/{place}") for place in range(os.cpu_count() or 1)]
+
         if given.program:
-            program = Program(given.program, folder)
-            told, usually, found = refuse_in_turn(program)
+            programs = several(given.program)
+            cases = list(itertools.product(DOCUMENTS.items(), COMMANDS))
+            told, usually, found = of_all(refuse_in_turn, programs, cases)
             print(f"a request refused: {told} runs out of memory, {usually} as usual, {len(found)} else")
-            most, promised = count_promises(program)
+            cases = [(number, row, command) for command in JUDGING for number, row in enumerate(rows())]
+            told, usually, others = of_all(refuse_row, programs, cases)
+            print(f"a request refused on the rows: {told} runs out of memory, {usually} as usual, {len(others)} else")
+            most, promised = count_promises(programs[0])
             print(f"heads that promise much: at most {CONSTANT} bytes and {most:.0f} for each that came")
-            wrong += found + promised
+            wrong += found + others + promised
         if given.readers:
-            told, ended, found = refuse_readers(Program(given.readers, folder))
+            told, ended, found = of_all(refuse_readers, several(given.readers), rows())
             print(f"a request of the readers refused: {told} told or as usual, {ended} ended, {len(found)} else")
             wrong += found
     for line in wrong[:20]:

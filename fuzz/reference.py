@@ -6,6 +6,7 @@ verdict is then the complaint that ends first.
 """
 
 from collections import namedtuple
+from itertools import accumulate
 
 REASONS = {
     1: "Truncated", 2: "TooLong", 3: "Reserved", 4: "NoIndefinite", 5: "Float", 6: "BadSimple", 7: "StrayBreak",
@@ -15,6 +16,12 @@ REASONS = {
 
 # A refusal, with the offset of what is wrong and the count of the bytes that were taken.
 Refusal = namedtuple("Refusal", "reason place read")
+
+# A head or a break; its argument and width are "-" where it has none.
+Event = namedtuple("Event", "place end name argument width")
+
+# So many bytes in a row, from this place on: the first byte of a head, its argument, or a payload.
+Take = namedtuple("Take", "place count is_payload")
 
 # A complaint of valid or deterministic encoding; at equal ends one on a key comes last.
 Complaint = namedtuple("Complaint", "end is_key place reason")
@@ -120,6 +127,11 @@ class Form:
         self.is_cut = len(given) >= most
         self.at, self.value, self.size, self.broken = 0, None, None, None
         self.events, self.plain, self.strict = [], [], {BYTEWISE: [], LENGTH_FIRST: []}
+        self.takes = []
+        # of each array, map and tag the end of its head, its own end and whether it is a map
+        self.containers = []
+        # of each key that stands in no other one its start, its end, and where the map's next key or the map ends
+        self.keys, self.keys_around = [], 0
         try:
             self.value = self.item(0)
             self.size = self.at
@@ -133,8 +145,9 @@ class Form:
         for order in (BYTEWISE, LENGTH_FIRST):
             self.complain(end, False, place, reason, self.strict[order])
 
-    def take(self, count):
+    def take(self, count, is_payload=False):
         """So many bytes, or the end of the input or of the limit."""
+        self.takes.append(Take(self.at, count, is_payload))
         taken = self.bytes[self.at : self.at + count]
         self.at += len(taken)
         if len(taken) < count:
@@ -150,7 +163,7 @@ class Form:
         return int.from_bytes(self.take(size), "big"), size
 
     def event(self, place, name, argument, width):
-        self.events.append(b"%d %s %s %s\n" % (place, name.encode(), str(argument).encode(), str(width).encode()))
+        self.events.append(Event(place, self.at, name, argument, width))
 
     def told(self, place, major, argument, size, name=None):
         """A definite head, complete; a simple value has one spelling alone."""
@@ -199,10 +212,15 @@ class Form:
             return (major, count)
         if major in (BYTES, TEXT):
             return (major, self.payload(major, count) if count is not None else self.chunks(major))
+        opened = [self.at, None, major == MAP]
+        self.containers.append(opened)
         if major == TAG:
-            return (TAG, count, self.item(levels + 1))
-        members = self.members if major == ARRAY else self.pairs
-        return (major, tuple(members(count, levels + 1)))
+            found = (TAG, count, self.item(levels + 1))
+        else:
+            members = self.members if major == ARRAY else self.pairs
+            found = (major, tuple(members(count, levels + 1)))
+        opened[1] = self.at
+        return found
 
     def simple(self, place, first):
         number = first & 31
@@ -216,7 +234,7 @@ class Form:
 
     def payload(self, major, count):
         start = self.at
-        payload = self.take(count)
+        payload = self.take(count, True)
         front = valid_front(payload) if major == TEXT else count
         if front < count:
             self.complain(self.at, False, start + front, 10, self.plain)
@@ -247,10 +265,10 @@ class Form:
         return found
 
     def pairs(self, count, levels):
-        found, meanings, last = [], set(), None
+        found, meanings, last, kept = [], set(), None, []
         while count is None or len(found) < count:
             place = self.at
-            key = self.item(levels, may_close=count is None)
+            key = self.key(levels, kept, may_close=count is None)
             if key is None:
                 break
             spelled = self.bytes[place : self.at]
@@ -262,7 +280,52 @@ class Form:
                     self.complain(self.at, True, place, 16, self.strict[order])
             last = spelled
             found.append((key, self.item(levels)))
+        self.dropped(kept)
         return found
+
+    def key(self, levels, kept, may_close):
+        """The next key; `kept` has the one before it in this map."""
+        own = [self.at, None, None]
+        if not self.keys_around:
+            self.keys.append(own)
+        self.keys_around += 1
+        key = self.item(levels, may_close)
+        self.keys_around -= 1
+        if key is None:
+            # the break of the map is no key
+            if not self.keys_around:
+                self.keys.pop()
+        else:
+            own[1] = self.at
+            self.dropped(kept)
+            kept.append(own)
+        return key
+
+    def dropped(self, kept):
+        for key in kept:
+            key[2] = self.at
+        kept.clear()
+
+    def opened(self, of_maps=False):
+        """How many arrays, maps and tags, or maps alone, are open behind each count of bytes: from the head's end
+        until the last member or the break is complete."""
+        changes = [0] * (len(self.bytes) + 2)
+        for start, end, is_map in self.containers:
+            if is_map or not of_maps:
+                changes[start] += 1
+                changes[-1 if end is None else end] -= 1
+        return list(accumulate(changes))
+
+    def kept(self):
+        """How many bytes lie, behind each count of bytes, in the last complete key of an open map or in a key that
+        is not complete. What lies in a key within another one lies in that one, which is needed for longer."""
+        changes = [0] * (len(self.bytes) + 2)
+        for start, end, until in self.keys:
+            for place in range(start, len(self.bytes) if end is None else end):
+                changes[place + 1] += 1
+            if until is not None:
+                changes[until] -= end - start
+        return list(accumulate(changes))
 
     def verdict(self, complaints):
         """The complaint that ends first, else the break of form, else None."""
@@ -270,6 +333,11 @@ class Form:
             it = min(complaints)
             return Refusal(it.reason, it.place, it.end)
         return self.broken
+
+
+def listing(events):
+    """The lines of the events."""
+    return "".join(f"{it.place} {it.name} {it.argument} {it.width}\n" for it in events).encode()
 
 
 class Answers:

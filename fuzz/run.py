@@ -7,9 +7,10 @@
 Each input goes through the calls that must agree on it: canonicalise, in both orders, and what it answers
 once more; check_canonical, check_valid, compare, diagnostic. With the program every tenth goes through show,
 events, and check and check --strict over a sequence; with the readers each goes through read_tree and then
-encode, read_strict and Sequence, over readers that give 1, 2, 3 or 4096 bytes a read. The first disagreement
-is told with its input and the seed, and the status is 1. The time ends the run; what a seed tries is always
-the same.
+encode, read_strict, StrictReader call by call with what it asks of its reader, and Sequence, over readers that
+give 1, 2, 3 or 4096 bytes a read. First come the rows of the conformance table, whose answers were worked out
+by hand, and large maps out of order (large.py). The first disagreement is told with its input and the seed, and the status is 1. The time ends the run;
+what a seed tries is always the same.
 """
 
 import argparse
@@ -21,10 +22,16 @@ import sys
 import tempfile
 import time
 
+from calls import Strictly
 from items import Items
-from reference import BYTEWISE, LENGTH_FIRST, REASONS, Answers, Refusal, canonical, diagnostic, meaning
+from large import large_maps
+from reference import BYTEWISE, LENGTH_FIRST, REASONS, Answers, Refusal, canonical, diagnostic, listing, meaning
+from table import CALLS, rows
 
 OK, REFUSED, TOO_SMALL, DIFFERENT = 0, 1, 2, 6
+
+# How many bytes a read gives at most.
+PARTS = (1, 3, 4096)
 
 
 class Why(ctypes.Structure):
@@ -136,6 +143,8 @@ def read(answers, depth, most):
     if not answers.plain:
         both = ",".join(canonical(order, answers.value).hex() for order in (BYTEWISE, LENGTH_FIRST))
         words[0] = words[0].replace(":", f",{both}:")
+    strictly = Strictly(answers)
+    parts = [it for part in PARTS for it in words + [strictly.word(order, part) for order in (BYTEWISE, LENGTH_FIRST)]]
     items, rest = "", answers.given
     while rest or most == 0:
         it = Answers(rest, depth, most)
@@ -143,7 +152,7 @@ def read(answers, depth, most):
         if it.plain:
             break
         rest = rest[it.size :]
-    return " ".join(words * 3 + [items])
+    return " ".join(parts + [items])
 
 
 def line(refusal, before=""):
@@ -197,7 +206,7 @@ def try_program(program, answers, others, depth, most):
     shown = (1, b"", line(plain)) if plain else (0, diagnostic(answers.value) + b"\n", b"")
     expect("show", shown, program.run("show", *words, given=given))
     form = answers.whole(answers.form.broken)
-    listed = (1 if form else 0, b"".join(answers.form.events), line(form) if form else b"")
+    listed = (1 if form else 0, listing(answers.form.events), line(form) if form else b"")
     expect("events", listed, program.run("events", *words, given=given))
     inputs = [it for it in others if it] + [given]
     expect("check --seq", sequence(inputs, depth, most), program.run("check", "--seq", *words, given=b"".join(inputs)))
@@ -216,6 +225,31 @@ class Tries:
         self.last = Answers(b"\x00", 256, 1 << 20)
         self.count = self.accepted = 0
         self.tried = None
+
+    def table(self):
+        """The rows, on which the definitions of reference.py are tried too."""
+        for row in rows():
+            self.tried = row.given, row.depth, row.most
+            answers = Answers(*self.tried)
+            for order in (BYTEWISE, LENGTH_FIRST):
+                expect("the row's canonical bytes", row.canonical[order], answers.canonicalised(order))
+                expect("the row by the strict rules", row.strict[order], answers.strict[order] or answers.size)
+            try_library(self.library, answers, row.depth, row.most, len(row.given))
+            if self.readers:
+                self.readers.add(answers, row.depth, row.most)
+        for given, part, word in CALLS:
+            self.tried = given, 256, 1 << 20
+            answers = Answers(*self.tried)
+            expect("the calls by hand", word, Strictly(answers).word(BYTEWISE, part))
+            if self.readers:
+                self.readers.add(answers, *self.tried[1:])
+        if self.readers:
+            self.readers.flush()
+
+    def large(self):
+        for given in large_maps():
+            self.tried = given, 256, 1 << 20
+            try_library(self.library, Answers(*self.tried), 256, 1 << 20, len(given))
 
     def go_on(self, ends):
         while time.monotonic() < ends:
@@ -258,6 +292,8 @@ def main():
         readers = Readers(given.readers) if given.readers else None
         tries = Tries(Library(given.library), program, readers, given.seed)
         try:
+            tries.table()
+            tries.large()
             tries.go_on(time.monotonic() + given.seconds)
         except Disagreement as it:
             tried, depth, most = tries.tried

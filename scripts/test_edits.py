@@ -1,9 +1,10 @@
 #!/usr/bin/env python3
-"""Makes each edit of fuzz/edits on a copy, and runs the tests of its crate, which have to fail.
+"""Makes each edit of fuzz/edits on a copy, and runs the test that it names, which has to fail.
 
-These are wrong bodies that meet every contract: a read that failed is tried again, memory is asked for by the
-length in a head. The tests are built without a proof. An edit has the form of the must-fail edits of the crates,
-behind a first line with its crate.
+These are wrong bodies that no clause speaks against: a read that failed is tried again, single bytes are asked
+for, memory is asked for by the length in a head. The tests are built without a proof, one at a time, and each has
+to pass where nothing is edited. An edit has the form of the must-fail edits of the crates, behind lines with its
+crate and its test.
 
     scripts/test_edits.py [NAME ..]
 """
@@ -20,61 +21,82 @@ EDITS = os.path.join(ROOT, "fuzz", "edits")
 
 
 def read_edit(name):
-    """The crate, and the (file, old, new) of an edit."""
+    """The crate, the test, and the (file, old, new) of an edit."""
     with open(os.path.join(EDITS, name + ".edit"), encoding="utf-8") as file:
-        lines = file.read().splitlines()
-    crate, path, old, changes = lines[0].removeprefix("crate: "), None, None, []
-    for line in lines[1:]:
-        word, _, text = line.partition(": ")
-        if word == "file":
-            path = text
-        elif word == "old":
+        lines = [line.partition(": ") for line in file.read().splitlines()]
+    words, old, changes = {}, None, []
+    for word, _, text in lines:
+        if word == "old":
             old = text
+        elif word == "new":
+            changes.append((words["file"], old, text))
         else:
-            changes.append((path, old, text))
-    return crate, changes
+            words[word] = text
+    return words["crate"], words["test"], changes
 
 
-def tests_fail(room, name):
-    crate, changes = read_edit(name)
-    folder = os.path.join(room, "crates", crate)
-    kept = {}
-    for path, old, new in changes:
-        path = os.path.join(folder, path)
-        with open(path, encoding="utf-8") as file:
-            text = file.read()
-        kept.setdefault(path, text)
-        if text.count(old) != 1:
-            return f"stands {text.count(old)} times in {path}: {old}"
-        with open(path, "w", encoding="utf-8") as file:
-            file.write(text.replace(old, new))
+def change(path, edit):
+    with open(path, encoding="utf-8") as file:
+        text = file.read()
+    with open(path, "w", encoding="utf-8") as file:
+        file.write(edit(text))
+
+
+def keep_test(folder, test):
+    """Has all tests but one ignored."""
+    name = test.rpartition("::")[2]
+    for place, _, files in os.walk(os.path.join(folder, "src")):
+        for file in files:
+            change(os.path.join(place, file), lambda text: re.sub(rf"#\[test\](?!\n *fn {name}\()", "#[test]\n#[ignore]", text))
+
+
+def run_test(folder, test):
+    """Whether the test passed, and what was said."""
     ended = subprocess.run(["rt", "try", "--test"], cwd=folder, capture_output=True, text=True)
-    for path, text in kept.items():
-        with open(path, "w", encoding="utf-8") as file:
-            file.write(text)
     said = ended.stdout + ended.stderr
-    failed = re.findall(r"(?m)^.*(?:FAILED|failed|panicked).*$", said)
-    if ended.returncode == 0 or not failed:
-        return "no test failed: " + said[-2000:]
-    print(f"edits: {name}: {failed[0].strip()}")
-    return None
+    result = re.search(r"(?m)^test result: \w+\. (\d+) passed; (\d+) failed;", said)
+    if not result or f"test {test} ... " not in said or int(result[1]) + int(result[2]) != 1 or "no-answer" in said:
+        sys.exit(f"edits: {test} was to be run to its end, alone:\n{said[-2000:]}")
+    return result[1] == "1", said
+
+
+def refuses(name, folder, test, changes):
+    """Whether the test passes as the crate stands, and fails with the edit."""
+    is_passed, said = run_test(folder, test)
+    if not is_passed:
+        print(f"edits: {name}: {test} fails without the edit:\n{said[-2000:]}")
+        return False
+    for file, old, new in changes:
+        path = os.path.join(folder, file)
+        with open(path, encoding="utf-8") as text:
+            count = text.read().count(old)
+        if count != 1:
+            print(f"edits: {name}: stands {count} times in {file}: {old}")
+            return False
+        change(path, lambda text: text.replace(old, new))
+    is_passed, said = run_test(folder, test)
+    if is_passed:
+        print(f"edits: {name}: {test} passes with the edit")
+        return False
+    print(f"edits: {name}: {test} fails")
+    return True
 
 
 def main():
     names = sys.argv[1:] or sorted(it.removesuffix(".edit") for it in os.listdir(EDITS))
     wrong = 0
-    with tempfile.TemporaryDirectory() as room:
-        for part in ("crates", "crates.txt", "HANDLES"):
-            source, to = os.path.join(ROOT, part), os.path.join(room, part)
-            if os.path.isdir(source):
-                shutil.copytree(source, to, ignore=shutil.ignore_patterns("incremental"))
-            else:
-                shutil.copy(source, to)
-        for name in names:
-            why = tests_fail(room, name)
-            if why:
-                wrong += 1
-                print(f"edits: {name} passes: {why}")
+    for name in names:
+        crate, test, changes = read_edit(name)
+        with tempfile.TemporaryDirectory() as room:
+            for part in ("crates", "crates.txt", "HANDLES"):
+                source, to = os.path.join(ROOT, part), os.path.join(room, part)
+                if os.path.isdir(source):
+                    shutil.copytree(source, to, ignore=shutil.ignore_patterns("out", "must-fail", "proofs"))
+                else:
+                    shutil.copy(source, to)
+            folder = os.path.join(room, "crates", crate)
+            keep_test(folder, test)
+            wrong += not refuses(name, folder, test, changes)
     sys.exit(1 if wrong else 0)
 
 

@@ -2,14 +2,15 @@
 # Random inputs against the definitions, and each request for memory refused: scripts/test_hostile.sh [SECONDS]
 #
 # Runs fuzz/run.py for so many seconds (10), fuzz/memory.py, over the program and the readers as `rt ci`
-# built them, and the library for C; and scripts/test_edits.py. The last line is 'hostile use: all well', or the status is not 0.
+# built them, and the library for C; and scripts/test_edits.py. A C compiler and the binutils have to be
+# there. The last line is 'hostile use: all well', or the status is not 0.
 set -euo pipefail
 
 root=$(cd "$(dirname "${BASH_SOURCE[0]}")/.." && pwd)
-for tool in cc ld objcopy; do
+for tool in cc ar ld objcopy; do
     if ! command -v $tool >/dev/null; then
-        echo "hostile use: skipped whole, $tool is not installed"
-        exit 0
+        echo "hostile use: FAILED: $tool is not installed"
+        exit 1
     fi
 done
 dist=$(mktemp -d)

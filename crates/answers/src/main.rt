@@ -2,14 +2,23 @@
 //!
 //! An input line is a depth limit, a byte limit and the bytes in hex digits. The answers stand in a
 //! fixed order with spaces between: for readers that give at most 1, 3 and 4096 bytes a read, what
-//! `read_tree` and `read_strict` answer and the canonical bytes of the tree; then what a `Sequence`
-//! gives. A refusal is `!` and its reason, place and `read`; behind a colon stand the bytes that the
-//! reader has left.
+//! `read_tree` and `read_strict` answer and the canonical bytes of the tree, and what `StrictReader`
+//! answers call by call; then what a `Sequence` gives. A refusal is `!` and its reason, place and
+//! `read`; behind the last colon stand the bytes that the reader has left.
+//!
+//! A call of `StrictReader` ends with `;`: an event (name, argument, place, width, and the bytes of a
+//! piece), `none` or a refusal; then `taken`, `open`, `spans`, `kept` and the length of `piece`.
+//! Behind the calls stands for how many bytes each read was asked.
 #![tactic(auto)]
 
+mod asked;
+mod events;
 mod parts;
+mod writing;
 
+use crate::events::answer_events;
 use crate::parts::Parts;
+use crate::writing::{put_hex, put_refusal};
 use cbor_head::{Limits, Refusal};
 use cbor_item::encode;
 use cbor_reader::{KeyOrder, Sequence, Tree, read_strict, read_tree};
@@ -62,25 +71,13 @@ fn answer_line<W: Write>(alloc: Global, line: &str, out: &mut W) -> io::Result<(
     for part in PARTS {
         answer_tree(alloc, &bytes, part, limits, out)?;
         answer_strict(alloc, &bytes, part, limits, out)?;
+        for order in ORDERS {
+            let rest = &bytes[..];
+            answer_events(alloc, Parts { rest, part }, limits, order, out)?;
+        }
     }
     answer_sequence(alloc, &bytes, limits, out)?;
     writeln!(out)
-}
-
-fn put_refusal<W: Write>(refusal: Refusal, out: &mut W) -> io::Result<()> {
-    let Refusal {
-        reason,
-        place,
-        read,
-    } = refusal;
-    write!(out, "!{},{place},{read}", reason.number())
-}
-
-fn put_hex<W: Write>(bytes: &[u8], out: &mut W) -> io::Result<()> {
-    for byte in bytes {
-        write!(out, "{byte:02x}")?;
-    }
-    Ok(())
 }
 
 // The count and the canonical bytes in both orders.

@@ -1,6 +1,6 @@
 -- The next event, from one read after another.
 use Rattle.std.proofs.Common.{◌≡◌, ℕ, zero, suc, ◌+◌, ◌-◌, ◌<◌, ◌≤◌, Bool, true, false, true≢false, inl, inr, List, [], ◌∷◌, ◌++◌, length, take, drop, replicate, refl, sym, ap, subst, ◌∙◌, arith, append_assoc, append-nil, length-append, take_all}
-use Rattle.std.specs.Prelude.{Option, Some, None, Result, Ok, Err, IfSome, min}
+use Rattle.std.specs.Prelude.{Option, Some, None, Result, Ok, Err, min}
 use Rattle.std.specs.Io.KnownBytes.{Consumes}
 use Rattle.std.proofs.KnownBytes.{Consumes-trans}
 use lib.Seq.{drop-append_seam}
@@ -15,13 +15,11 @@ use Rattle.cbor_events.specs.inner.State.{wanted_at, state_of, is_in_payload, is
 use Rattle.cbor_events.specs.inner.Machine.{IsShown}
 use Rattle.cbor_events.specs.Bytes.{IsEventBytes}
 use Rattle.cbor_events.specs.MachineView.{MachineView}
-use Rattle.cbor_events.specs.Machine.{StandsFor, IsComplete, IsWhole, IsGiven, IsEvent, wanted, wanted_within}
+use Rattle.cbor_events.specs.Machine.{StandsFor, IsComplete, IsWhole, IsGiven, wanted, wanted_within}
 use Rattle.cbor_events.specs.inner.Taking.{IsTaking}
 use Rattle.cbor_events.specs.ItemEvents.{ItemEventsView, Call, machine_call, call, IsDue, IsKept, StandsBetween, IsNextEvent, IsEnd, IsCut, IsTooLong, HasFormError, IsNext}
 use Rattle.cbor_events.specs.inner.Reads.{HasRead, piece_by, piece_after, kind_size, piece_size}
 use Rattle.cbor_events.specs.declared.event.Event.{Event}
-use Rattle.cbor_events.specs.declared.event.Out.{Out}
-use Rattle.cbor_events.specs.declared.event.Out.TheVariants as outs
 use Rattle.cbor_events.specs.declared.event.EventKind.{EventKind}
 use Rattle.cbor_events.specs.declared.event.EventKind.TheVariants as kinds
 use Rattle.cbor_events.specs.declared.frame.Frame as frames
@@ -262,6 +260,14 @@ wants-short m h = go m.refusal h
     go None k = omega arith
     go (Some f) k = absurd (omega arith)
 
+-- what is wanted is within the limit and belongs to what is open, and nothing was refused
+pub wants-all : (m : MachineView) (n : ℕ) → 0 < n → n ≤ wanted m → (n ≤ m.due) × (n ≤ m.bytes - m.taken) × (m.refusal ≡ None)
+wants-all m n some h = go m.refusal h
+  where
+    go : (r : Option Refusal) → n ≤ wanted_within r (min (m.bytes - m.taken) m.due) → (n ≤ m.due) × (n ≤ m.bytes - m.taken) × (r ≡ None)
+    go None k = (omega arith, omega arith, refl)
+    go (Some f) k = absurd (omega (arith, some))
+
 -- ---- the front of a buffer
 
 pub front-again : (n : ℕ) (xs : List ℕ) → take n xs ≡ take (length (take n xs)) xs
@@ -278,10 +284,6 @@ wanted-room m h = go m.refusal
     go : (r : Option Refusal) → m.taken + wanted_within r (min (m.bytes - m.taken) m.due) ≤ m.bytes
     go None = omega arith
     go (Some f) = omega arith
-
-pub complete-nothing : (m : MachineView) (xs : List ℕ) → IsShown m → IsComplete m → length xs ≤ wanted m → xs ≡ []
-complete-nothing m [] shown c h = refl
-complete-nothing m (x ∷ xs) shown c h = absurd (complete-wants m shown (omega arith) c)
 
 -- ---- which buffer the bytes were read into
 
@@ -354,9 +356,3 @@ payload-answer (Ok (Some e)) from to old new kept buffer t ms held shown p size 
 payload-answer (Ok None) from to old new kept buffer t ms held shown p size h =
     absurd (no-payload-done old.inner.position (sym shown.in_payload ∙ p) (sym shown.complete ∙ h.complete.0))
 payload-answer (Err f) from to old new kept buffer t ms held shown p size h = refusal-as f _ (take held buffer) h
-
--- ---- a machine that told an event had refused nothing
-
-pub told-live : (m : Option Refusal) (out : Out) (P Q : Type 0) → IsEvent out → IfSome m (λ r. (out ≡ outs.Refused r) × P × Q) → m ≡ None
-told-live None out P Q e h = refl
-told-live (Some r) out P Q e h = absurd (subst IsEvent h.0 e)

@@ -23,6 +23,9 @@ pub run-more : (d : ℕ) (xs : List ℕ) (c : ℕ) (q t : State) → run d q xs 
 unfolding onwards
 run-more d xs c q t e = run-append d xs (c ∷ []) q ∙ ap (λ o. onwards o (λ u. run d u (c ∷ []))) e
 
+pub run-one : (d c : ℕ) (q u : State) → take_byte d q c ≡ goes u → run d q (c ∷ []) ≡ reached u []
+run-one d c q u e = ap (λ n. and_then n (λ v. run d v [])) e
+
 pub run-goes : (d i : ℕ) (xs : List ℕ) (q t u : State) → i < length xs → run d q (take i xs) ≡ reached t [] → take_byte d t (get_or xs i 0) ≡ goes u → run d q (take (i + 1) xs) ≡ reached u []
 run-goes d i xs q t u h e f =
     let front : take (i + 1) xs ≡ take i xs ++ get_or xs i 0 ∷ [] = rw add-one (take-suc xs i 0 h) in

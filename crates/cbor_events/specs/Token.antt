@@ -30,3 +30,9 @@ abbrev pub IsEventToken : Token → Type 0
 IsEventToken End = ⊥
 IsEventToken Refused = ⊥
 IsEventToken token = Unit {0}
+
+-- the head of a string of definite length
+abbrev pub IsStringToken : Token → Type 0
+IsStringToken Bytes = Unit {0}
+IsStringToken Text = Unit {0}
+IsStringToken token = ⊥

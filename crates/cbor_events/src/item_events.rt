@@ -1,15 +1,18 @@
 //! The events of one item, from a reader that each call is handed.
 
 ghost use Rattle.std.specs.Prelude.{◌≡◌, ◌≤◌, ◌<◌, ℕ, List, [], length, take, None, Some, OnOk};
-ghost use Rattle.std.specs.Prelude.{OnErr, IfErr, IfSome, Err};
+ghost use Rattle.std.specs.Prelude.{OnErr, IfErr, IfSome, Err, Option, false};
 ghost use Rattle.cbor_head.specs.Verdict.{refusal};
 ghost use Rattle.cbor_events.specs.Trace.{Mark};
 ghost use Rattle.cbor_events.specs.Marks.{IsProper};
 ghost use Rattle.cbor_events.specs.Reasons.{IsEventReason};
-ghost use Rattle.cbor_events.specs.Machine.{KeepsLimits, IsIdle};
+ghost use Rattle.cbor_events.specs.Reasons.{IsMachineReason};
+ghost use Rattle.cbor_events.specs.MachineView.{MachineView};
+ghost use Rattle.cbor_events.specs.Machine.{KeepsLimits, IsIdle, StandsFor, wanted};
 ghost use Rattle.cbor_events.specs.ItemEvents.{ItemEventsView, StandsBetween, IfTold, IsNext};
 ghost use Rattle.cbor_events.specs.ItemEvents.{machine_call, call};
-ghost use Rattle.cbor_events.specs.inner.Reads.{IsAsked, piece_after, piece_size};
+ghost use Rattle.cbor_events.specs.inner.Reads.{IsAsked, HasRead, piece_after, piece_size, kind_size};
+ghost use Rattle.cbor_events.specs.inner.Reads.{IsPartTaken, IsPartRead, IfPartTold, IfStopped};
 
 use crate::event::{Event, EventKind, Out};
 use crate::machine::{Machine, below_256, refusal_of};
@@ -142,17 +145,14 @@ enum Asked {
     Failed,
 }
 
-// Reads at most `want` bytes into the front of the buffer, by one call of `read`, or by none.
+// Reads at most `want` bytes into the front of the buffer, by one call of `read`.
 #[inline(always)]
 fn ask<R: Read>(reader: &mut R, buffer: &mut [u8], want: usize) -> Asked
-    requires { want ≤ length buffer.old }
-    ensures asked { IsAsked result want
+    requires some { 0 < want }
+    requires room { want ≤ length buffer.old }
+    ensures { IsAsked result want
         (R.remaining reader.old) (R.remaining reader.new) buffer.new }
-    ensures none { want ≡ 0 → reader.new ≡ reader.old }
 {
-    if want == 0 {
-        return Asked::Got(0);
-    }
     match reader.read(&mut buffer[..want]) {
         Ok(0) => Asked::End,
         Ok(n) => Asked::Got(n),
@@ -167,8 +167,166 @@ fn cut(reason: Reason, taken: u64) -> Refusal
     refusal_of(reason, taken, taken)
 }
 
-// Reads what the machine wants, one part after another, until it tells an event or stops.
+// What came of bytes that the machine wanted.
+#[derive(Clone, Copy)]
+enum Part {
+    Told(Event),
+    // No event is complete.
+    Open,
+    Stopped(Refusal),
+}
+
+// The same, made anew. What a call has left in memory is then read where the call was, and what comes
+// without it stays in registers.
 #[inline(always)]
+fn part_anew(part: Part) -> Part
+    ensures { result ≡ part }
+{
+    match part {
+        Part::Told(event) => Part::Told(event),
+        Part::Open => Part::Open,
+        Part::Stopped(refusal) => Part::Stopped(refusal),
+    }
+}
+
+#[inline(always)]
+fn answer_anew(answer: Result<Option<Event>, Refusal>) -> Result<Option<Event>, Refusal>
+    ensures { result ≡ answer }
+{
+    match answer {
+        Ok(Some(event)) => Ok(Some(event)),
+        Ok(None) => Ok(None),
+        Err(refusal) => Err(refusal),
+    }
+}
+
+// Hands the machine bytes that it wants.
+#[inline(always)]
+fn take_read(machine: &mut Machine, part: &[u8]) -> Part
+    requires some { 0 < length part.now }
+    requires wanted { length part.now ≤ wanted machine.old }
+    ensures answers { (t : List ℕ) (ms : List Mark) → StandsFor machine.old t ms
+        → IsPartTaken result machine.old machine.new t part.now ms }
+    ensures limits { KeepsLimits machine.old machine.new }
+    ensures proper { IfPartTold result (λ e. IsProper e.width e.kind) }
+    ensures piece { IfPartTold result (λ e. kind_size e.kind ≤ length part.now) }
+    ensures taken { IfStopped result (λ f. machine.new.taken ≡ f.read) }
+    ensures reason { IfStopped result (λ f. IsMachineReason f.reason) }
+    ensures progress { result ≡ Part.Open → machine.old.taken < machine.new.taken }
+{
+    if let Some(event) = machine.take_whole(part) {
+        return Part::Told(event);
+    }
+    if part.len() == 1 && machine.begin_head(part[0]) {
+        return Part::Open;
+    }
+    take_apart(machine, part)
+}
+
+// The same, whatever the bytes are.
+#[inline(never)]
+fn take_slowly(machine: &mut Machine, part: &[u8]) -> Part
+    requires some { 0 < length part.now }
+    requires wanted { length part.now ≤ wanted machine.old }
+    ensures answers { (t : List ℕ) (ms : List Mark) → StandsFor machine.old t ms
+        → IsPartTaken result machine.old machine.new t part.now ms }
+    ensures limits { KeepsLimits machine.old machine.new }
+    ensures proper { IfPartTold result (λ e. IsProper e.width e.kind) }
+    ensures piece { IfPartTold result (λ e. kind_size e.kind ≤ length part.now) }
+    ensures taken { IfStopped result (λ f. machine.new.taken ≡ f.read) }
+    ensures reason { IfStopped result (λ f. IsMachineReason f.reason) }
+    ensures progress { result ≡ Part.Open → machine.old.taken < machine.new.taken }
+{
+    match machine.take_part(part).out {
+        Out::Event(event) => Part::Told(event),
+        Out::More => Part::Open,
+        Out::Done => unreachable!(),
+        Out::Refused(refusal) => Part::Stopped(refusal),
+    }
+}
+
+// The same. Its own room in memory is no part of the caller's.
+#[inline(always)]
+fn take_apart(machine: &mut Machine, part: &[u8]) -> Part
+    requires some { 0 < length part.now }
+    requires wanted { length part.now ≤ wanted machine.old }
+    ensures answers { (t : List ℕ) (ms : List Mark) → StandsFor machine.old t ms
+        → IsPartTaken result machine.old machine.new t part.now ms }
+    ensures limits { KeepsLimits machine.old machine.new }
+    ensures proper { IfPartTold result (λ e. IsProper e.width e.kind) }
+    ensures piece { IfPartTold result (λ e. kind_size e.kind ≤ length part.now) }
+    ensures taken { IfStopped result (λ f. machine.new.taken ≡ f.read) }
+    ensures reason { IfStopped result (λ f. IsMachineReason f.reason) }
+    ensures progress { result ≡ Part.Open → machine.old.taken < machine.new.taken }
+{
+    part_anew(take_slowly(machine, part))
+}
+
+// Reads at most so many bytes that the machine wants, by one call of `read`.
+#[inline(always)]
+fn read_part<R: Read>(machine: &mut Machine, reader: &mut R, buffer: &mut [u8], want: usize) -> Part
+    requires some { 0 < want }
+    requires room { want ≤ length buffer.old }
+    requires wanted { want ≤ wanted machine.old }
+    requires within { machine.old.open_count ≤ machine.old.depth }
+    // Of a call that began where the machine was `was`, and the reader held `from`.
+    ensures answers { (was : MachineView) (from : Option (List ℕ)) (kept t : List ℕ)
+        (ms : List Mark) → StandsBetween was t ms
+        → HasRead from (R.remaining reader.old) machine.old t ms
+        → machine.old.depth ≡ was.depth
+        → IsPartRead result was machine.new from (R.remaining reader.new)
+        kept buffer.new t ms }
+    ensures limits { KeepsLimits machine.old machine.new }
+    ensures proper { IfPartTold result (λ e. IsProper e.width e.kind) }
+    ensures taken { IfStopped result (λ f. machine.new.taken ≡ f.read) }
+    ensures reason { IfStopped result (λ f. IsEventReason f.reason) }
+    ensures fits { IfPartTold result (λ e. kind_size e.kind ≤ length buffer.new) }
+    ensures same { length buffer.new ≡ length buffer.old }
+    ensures progress { result ≡ Part.Open → machine.old.taken < machine.new.taken }
+{
+    match ask(reader, buffer, want) {
+        Asked::End => Part::Stopped(cut(Reason::Truncated, machine.taken())),
+        Asked::Failed => Part::Stopped(cut(Reason::Read, machine.taken())),
+        Asked::Got(count) => {
+            below_256(&buffer[..count]);
+            take_read(machine, &buffer[..count])
+        }
+    }
+}
+
+// How many bytes are asked for, as many as the buffer has room for.
+#[inline(always)]
+fn due(machine: &Machine, buffer: &[u8]) -> usize
+    ensures wanted { result ≤ wanted machine.now }
+    ensures room { result ≤ length buffer.now }
+    ensures none { result ≡ 0 → 0 < length buffer.now → wanted machine.now ≡ 0 }
+    ensures idle { IsIdle machine.now → result ≡ 0 }
+{
+    machine.wanted().min(buffer.len() as u64) as usize
+}
+
+// Where nothing is wanted: the item is complete, or refused, or at the byte limit.
+#[inline(never)]
+fn at_end(machine: &mut Machine) -> Result<Option<Event>, Refusal>
+    requires { wanted machine.old ≡ 0 }
+    ensures answers { (was : MachineView) (from to : Option (List ℕ)) (kept t : List ℕ)
+        (ms : List Mark) → StandsBetween was t ms → HasRead from to machine.old t ms
+        → machine.old.depth ≡ was.depth
+        → IsNext result (machine_call was machine.new from to kept kept t ms) }
+    ensures limits { KeepsLimits machine.old machine.new }
+    ensures none { IfTold result (λ e. ⊥) }
+    ensures taken { IfErr result (λ f. machine.new.taken ≡ f.read) }
+    ensures reason { IfErr result (λ f. IsEventReason f.reason) }
+{
+    match machine.take_part(&[]).out {
+        Out::Done => Ok(None),
+        Out::Refused(refusal) => Err(refusal),
+        Out::More | Out::Event(_) => unreachable!(),
+    }
+}
+
+// Reads what the machine wants, one part after another, until it tells an event or stops.
+#[inline(never)]
 fn next_event<R: Read>(
     machine: &mut Machine,
     reader: &mut R,
@@ -176,9 +334,11 @@ fn next_event<R: Read>(
 ) -> Result<Option<Event>, Refusal>
     requires room { 0 < length buffer.old }
     requires within { machine.old.open_count ≤ machine.old.depth }
-    ensures answers { (kept t : List ℕ) (ms : List Mark) → StandsBetween machine.old t ms
-        → IsNext result (machine_call machine.old machine.new
-        (R.remaining reader.old) (R.remaining reader.new)
+    ensures answers { (was : MachineView) (from : Option (List ℕ)) (kept t : List ℕ)
+        (ms : List Mark) → StandsBetween was t ms
+        → HasRead from (R.remaining reader.old) machine.old t ms
+        → machine.old.depth ≡ was.depth
+        → IsNext result (machine_call was machine.new from (R.remaining reader.new)
         kept (piece_after result kept buffer.new) t ms) }
     ensures limits { KeepsLimits machine.old machine.new }
     ensures proper { IfTold result (λ e. IsProper e.width e.kind) }
@@ -189,21 +349,100 @@ fn next_event<R: Read>(
     ensures same { length buffer.new ≡ length buffer.old }
 {
     'reads: loop {
-        let want = machine.wanted().min(buffer.len() as u64) as usize;
-        match ask(reader, buffer, want) {
-            Asked::End => return Err(cut(Reason::Truncated, machine.taken())),
-            Asked::Failed => return Err(cut(Reason::Read, machine.taken())),
-            Asked::Got(count) => {
-                below_256(&buffer[..count]);
-                let step = machine.take_part(&buffer[..count]);
-                match step.out {
-                    Out::More => {}
-                    Out::Event(event) => return Ok(Some(event)),
-                    Out::Done => return Ok(None),
-                    Out::Refused(refusal) => return Err(refusal),
-                }
-            }
+        let want = due(machine, buffer);
+        if want == 0 {
+            return at_end(machine);
         }
+        match read_part(machine, reader, buffer, want) {
+            Part::Told(event) => return Ok(Some(event)),
+            Part::Open => {}
+            Part::Stopped(refusal) => return Err(refusal),
+        }
+    }
+}
+
+// The same. Its own room in memory is no part of the caller's.
+#[inline(always)]
+fn next_apart<R: Read>(
+    machine: &mut Machine,
+    reader: &mut R,
+    buffer: &mut [u8],
+) -> Result<Option<Event>, Refusal>
+    requires room { 0 < length buffer.old }
+    requires within { machine.old.open_count ≤ machine.old.depth }
+    ensures answers { (was : MachineView) (from : Option (List ℕ)) (kept t : List ℕ)
+        (ms : List Mark) → StandsBetween was t ms
+        → HasRead from (R.remaining reader.old) machine.old t ms
+        → machine.old.depth ≡ was.depth
+        → IsNext result (machine_call was machine.new from (R.remaining reader.new)
+        kept (piece_after result kept buffer.new) t ms) }
+    ensures limits { KeepsLimits machine.old machine.new }
+    ensures proper { IfTold result (λ e. IsProper e.width e.kind) }
+    ensures taken { IfErr result (λ f. machine.new.taken ≡ f.read) }
+    ensures reason { IfErr result (λ f. IsEventReason f.reason) }
+    ensures idle { IsIdle machine.old → reader.new ≡ reader.old }
+    ensures fits { piece_size result ≤ length buffer.new }
+    ensures same { length buffer.new ≡ length buffer.old }
+{
+    answer_anew(next_event(machine, reader, buffer))
+}
+
+// The same, where mostly one read is all that it takes.
+#[inline(always)]
+fn next_part<R: Read>(
+    machine: &mut Machine,
+    reader: &mut R,
+    buffer: &mut [u8],
+) -> Result<Option<Event>, Refusal>
+    requires room { 0 < length buffer.old }
+    requires within { machine.old.open_count ≤ machine.old.depth }
+    ensures answers { (was : MachineView) (from : Option (List ℕ)) (kept t : List ℕ)
+        (ms : List Mark) → StandsBetween was t ms
+        → HasRead from (R.remaining reader.old) machine.old t ms
+        → machine.old.depth ≡ was.depth
+        → IsNext result (machine_call was machine.new from (R.remaining reader.new)
+        kept (piece_after result kept buffer.new) t ms) }
+    ensures limits { KeepsLimits machine.old machine.new }
+    ensures proper { IfTold result (λ e. IsProper e.width e.kind) }
+    ensures taken { IfErr result (λ f. machine.new.taken ≡ f.read) }
+    ensures reason { IfErr result (λ f. IsEventReason f.reason) }
+    ensures idle { IsIdle machine.old → reader.new ≡ reader.old }
+    ensures fits { piece_size result ≤ length buffer.new }
+    ensures same { length buffer.new ≡ length buffer.old }
+{
+    let want = due(machine, buffer);
+    if want == 0 {
+        return next_apart(machine, reader, buffer);
+    }
+    match read_part(machine, reader, buffer, want) {
+        Part::Told(event) => Ok(Some(event)),
+        Part::Open => next_apart(machine, reader, buffer),
+        Part::Stopped(refusal) => Err(refusal),
+    }
+}
+
+// The next head or break.
+#[inline(always)]
+fn next_head<R: Read>(machine: &mut Machine, reader: &mut R) -> Result<Option<Event>, Refusal>
+    requires within { machine.old.open_count ≤ machine.old.depth }
+    ensures answers { (kept t : List ℕ) (ms : List Mark) → StandsBetween machine.old t ms
+        → machine.old.in_payload ≡ false
+        → IsNext result (machine_call machine.old machine.new
+        (R.remaining reader.old) (R.remaining reader.new) kept kept t ms) }
+    ensures limits { KeepsLimits machine.old machine.new }
+    ensures proper { IfTold result (λ e. IsProper e.width e.kind) }
+    ensures taken { IfErr result (λ f. machine.new.taken ≡ f.read) }
+    ensures reason { IfErr result (λ f. IsEventReason f.reason) }
+    ensures idle { IsIdle machine.old → reader.new ≡ reader.old }
+{
+    let mut head = [0; ARGUMENT];
+    if !machine.wants_head() {
+        return next_apart(machine, reader, &mut head);
+    }
+    match read_part(machine, reader, &mut head[..1], 1) {
+        Part::Told(event) => Ok(Some(event)),
+        Part::Open => next_part(machine, reader, &mut head),
+        Part::Stopped(refusal) => Err(refusal),
     }
 }
 
@@ -247,10 +486,9 @@ fn advance<R: Read>(
     ensures fits { held.new ≤ 512 }
 {
     if !machine.is_in_payload() {
-        let mut head = [0; ARGUMENT];
-        return next_event(machine, reader, &mut head);
+        return next_head(machine, reader);
     }
-    let answer = next_event(machine, reader, buffer);
+    let answer = next_part(machine, reader, buffer);
     *held = piece_len(&answer);
     answer
 }

@@ -1,7 +1,7 @@
 //! The machine that takes an item byte by byte.
 
-ghost use Rattle.std.specs.Prelude.{◌≡◌, ◌↔◌, ◌≤◌, ◌<◌, ◌+◌, ◌++◌, ℕ, List, [], length, take, min};
-ghost use Rattle.std.specs.Prelude.{true, Some, None, IfSome, IsTrue};
+ghost use Rattle.std.specs.Prelude.{◌≡◌, ◌↔◌, ◌≤◌, ◌<◌, ◌+◌, ◌++◌, ℕ, List, [], ◌∷◌, length, take};
+ghost use Rattle.std.specs.Prelude.{min, true, false, Some, None, IfSome, IsTrue};
 ghost use Rattle.cbor_head.specs.Value.{AreBytes};
 ghost use Rattle.cbor_head.specs.Verdict.{refusal};
 ghost use Rattle.cbor_events.specs.Trace.{Mark};
@@ -9,6 +9,8 @@ ghost use Rattle.cbor_events.specs.Reasons.{IsMachineReason};
 ghost use Rattle.cbor_events.specs.MachineView.{MachineView};
 ghost use Rattle.cbor_events.specs.Machine.{StandsFor, KeepsLimits, Stays, IsAnswer, IsComplete};
 ghost use Rattle.cbor_events.specs.Machine.{IsIdle, IsEvent, IsMore, IsDone, IfRefused, piece_of};
+ghost use Rattle.cbor_events.specs.Machine.{IsGiven};
+ghost use Rattle.cbor_events.specs.Marks.{IsProper, times};
 ghost use Rattle.cbor_events.specs.Machine.{wanted};
 ghost use Rattle.cbor_events.specs.inner.State.{IsFit, IsSettled, wanted_at, is_in_payload};
 ghost use Rattle.cbor_events.specs.inner.State.{is_done};
@@ -19,7 +21,8 @@ mod saved;
 use crate::event::{Event, Out, Step};
 use crate::nest::Nest;
 use crate::position::Position;
-use crate::walk::{Walked, walk};
+use crate::take_byte::long_at;
+use crate::walk::{Walked, walk, walk_whole};
 use cbor_head::{Limits, Reason, Refusal};
 pub use saved::{SavedFrame, SavedMachine};
 use std::marker::Model;
@@ -120,6 +123,69 @@ impl Machine {
         ensures { result ≡ self.now.in_payload }
     {
         matches!(self.position, Position::Payload(..))
+    }
+
+    /// Whether the first byte of an item's head is wanted.
+    #[inline(always)]
+    pub(crate) fn wants_head(&self) -> bool
+        ensures wanted { result ≡ true → wanted self.now ≡ 1 }
+        ensures idle { IsIdle self.now → result ≡ false }
+    {
+        self.refusal.is_none()
+            && matches!(self.position, Position::Item)
+            && self.taken < self.limits.bytes()
+    }
+
+    /// Takes the head, the argument or the part of a payload that stands whole in the input, which
+    /// is no longer than what is wanted. None, and nothing is taken, where it is not there.
+    #[inline(always)]
+    #[tactic(auto, using(crate::proofs::Frames::settled_fit))]
+    pub(crate) fn take_whole(&mut self, input: &[u8]) -> Option<Event>
+        requires some { 0 < length input.now }
+        requires wanted { length input.now ≤ wanted self.old }
+        ensures answers { IfSome result (λ e. (t : List ℕ) (ms : List Mark)
+            → StandsFor self.old t ms → IsGiven e self.new t input.now ms) }
+        ensures proper { IfSome result (λ e. IsProper e.width e.kind) }
+        ensures piece { IfSome result (λ e. times e.kind ≤ length input.now) }
+        ensures limits { KeepsLimits self.old self.new }
+        ensures none { result ≡ None → self.new ≡ self.old }
+    {
+        below_256(input);
+        let depth = usize::from(self.limits.depth());
+        let front = walk_whole(depth, &mut self.position, &mut self.nest, input)?;
+        let event = Event {
+            place: self.told,
+            width: front.width,
+            kind: front.kind,
+        };
+        self.taken += front.used as u64;
+        self.told = self.taken;
+        Some(event)
+    }
+
+    /// Takes the first byte of an item's head with an argument. False, and it is not taken, where it
+    /// is no such byte, or no item may have it there.
+    #[inline(always)]
+    pub(crate) fn begin_head(&mut self, c: u8) -> bool
+        requires { 0 < wanted self.old }
+        ensures begun { result ≡ true → (t : List ℕ) (ms : List Mark)
+            → StandsFor self.old t ms → StandsFor self.new (t ++ c ∷ []) ms }
+        ensures limits { KeepsLimits self.old self.new }
+        ensures taken { result ≡ true → self.new.taken ≡ self.old.taken + 1 }
+        ensures none { result ≡ false → self.new ≡ self.old }
+    {
+        let Position::Item = self.position else {
+            return false;
+        };
+        let depth = usize::from(self.limits.depth());
+        match long_at(depth, &self.nest, c) {
+            Some(position) => {
+                self.position = position;
+                self.taken += 1;
+                true
+            }
+            None => false,
+        }
     }
 
     /// Takes bytes from the front of the input until an event is complete, or a byte is refused, or

@@ -139,6 +139,7 @@ pub fn chunk_payload(kind: Numbered, n: u64, nest: &Nest) -> Position
 }
 
 /// Where it belongs behind a definite head.
+#[inline(always)]
 pub fn after(chunk: bool, kind: Numbered, n: u64, depth: usize, nest: &mut Nest) -> Position
     requires limit { depth ≤ MOST_OPEN }
     requires within { length nest.old ≤ depth }

@@ -1,6 +1,8 @@
 //! Tells how far bytes that come in pieces are UTF-8.
 
 ghost use Rattle.std.specs.Prelude.{◌≡◌, ℕ, ◌+◌, ◌^◌, ◌<◌, ◌≤◌, List, [], ◌++◌, length, MatchOption, MatchResult, IsUtf8};
+ghost use Rattle.std.specs.Prelude.{true};
+ghost use Rattle.std.specs.Str.{IsAscii};
 ghost use Rattle.std.specs.Str.Lossy.{utf8_valid_len};
 ghost use Rattle.arrayvec.specs.ArrayVec.{array_vec_len};
 ghost use Rattle.cbor_events.specs.inner.TextCheck.{IsUnfinished, IsFixed, IsOpen, IsJudged, IsFilled};
@@ -11,6 +13,9 @@ use std::marker::Model;
 
 #[cfg(test)]
 mod tests;
+
+// So many bytes are looked at one by one.
+const SHORT: usize = 24;
 
 /// Checks that bytes which come in pieces are UTF-8 as a whole, wherever the cuts fall. It takes
 /// no memory, and carries at most three bytes from one piece to the next.
@@ -111,10 +116,22 @@ enum Filled {
     Never,
 }
 
+// Whether the bytes are few, and all ASCII: then they are seen faster one by one.
+#[inline(always)]
+fn is_short_ascii(bytes: &[u8]) -> bool
+    ensures { result ≡ true → IsAscii bytes.now }
+{
+    bytes.len() <= SHORT && bytes.iter().all(|byte| byte.is_ascii())
+}
+
 // How far bytes that begin where a character does are UTF-8.
+#[inline(always)]
 fn judge(bytes: &[u8]) -> Front
     ensures { IsJudged bytes.now result }
 {
+    if is_short_ascii(bytes) {
+        return Front::Whole;
+    }
     match simdutf8::compat::from_utf8(bytes) {
         Ok(_) => Front::Whole,
         Err(e) => match e.error_len() {
@@ -144,6 +161,7 @@ fn join(carried: &[u8], more: &[u8]) -> ArrayVec<u8, 4>
 
 // What `piece` makes of the character that `carried` begins. The bytes of one are at most four, so
 // no more of a long piece is looked at here.
+#[inline(never)]
 fn fill(carried: &[u8], piece: &[u8]) -> Filled
     requires short { length carried.now < 4 }
     requires some { 0 < length carried.now }
@@ -163,6 +181,7 @@ fn fill(carried: &[u8], piece: &[u8]) -> Filled
 
 // Judges a piece that begins where a character does, and carries its unfinished tail. The answer is
 // its longest valid front where no further byte can make that longer.
+#[inline(always)]
 fn scan(carried: &mut ArrayVec<u8, 3>, piece: &[u8]) -> Option<usize>
     requires { carried.old.items ≡ [] }
     ensures found { MatchOption result
@@ -183,6 +202,7 @@ fn scan(carried: &mut ArrayVec<u8, 3>, piece: &[u8]) -> Option<usize>
 }
 
 // The same of the carried bytes and the piece that follows them.
+#[inline(always)]
 fn go_on(carried: &mut ArrayVec<u8, 3>, piece: &[u8]) -> Option<usize>
     requires unfinished { IsUnfinished carried.old.items }
     requires room { length carried.old.items + length piece.now < 2 ^ 64 }

@@ -1,6 +1,9 @@
 //! The bytes up to the next event.
 
 ghost use Rattle.std.specs.Prelude.{◌≡◌, ◌≤◌, ◌<◌, ◌+◌, [], take, length, min, true, false};
+ghost use Rattle.std.specs.Prelude.{None, IfSome};
+ghost use Rattle.cbor_events.specs.Marks.{times, IsProper};
+ghost use Rattle.cbor_events.specs.inner.Whole.{IsFront};
 ghost use Rattle.cbor_events.specs.inner.State.{state_of, IsFit, IsSettled};
 ghost use Rattle.cbor_events.specs.inner.State.{wanted_at, is_in_payload, is_done};
 ghost use Rattle.cbor_events.specs.declared.frame.TheConstants.{MOST_OPEN};
@@ -24,6 +27,81 @@ pub enum Walked {
     Told(Width, EventKind),
     /// The last of them may not stand there.
     Refused(Reason),
+}
+
+/// An event whose bytes stand whole at the front, and how many they are.
+#[derive(Clone, Copy)]
+pub struct Fronted {
+    pub used: usize,
+    pub width: Width,
+    pub kind: EventKind,
+}
+
+/// The head, the argument of the open head or the part of a payload that stands whole at the front;
+/// none where there is none, or no item may have it there.
+#[inline(always)]
+#[tactic(auto, using(crate::proofs::Frames::settled_fit))]
+pub fn walk_whole(
+    depth: usize,
+    position: &mut Position,
+    nest: &mut Nest,
+    input: &[u8],
+) -> Option<Fronted>
+    requires limit { depth ≤ MOST_OPEN }
+    requires within { length nest.old ≤ depth }
+    requires fits { IsFit depth nest.old position.old }
+    ensures used { IfSome result (λ e. IsFront e.used input.now) }
+    ensures wanted { IfSome result
+        (λ e. length input.now ≤ wanted_at position.old → e.used ≡ length input.now) }
+    ensures payload { is_in_payload position.old ≡ true → IfSome result
+        (λ e. e.used ≡ min (length input.now) (wanted_at position.old)) }
+    ensures spent { result ≡ None → is_in_payload position.old ≡ true → input.now ≡ [] }
+    ensures clear { IfSome result (λ e. IsSettled nest.new position.new) }
+    ensures proper { IfSome result (λ e. IsProper e.width e.kind) }
+    ensures piece { IfSome result (λ e. times e.kind ≤ e.used) }
+    ensures ran { IfSome result (λ e. IsWalked (Walked.Told e.width e.kind) depth
+        (state_of position.old nest.old) (state_of position.new nest.new)
+        (take e.used input.now)) }
+    ensures within { length nest.new ≤ depth }
+    ensures none { result ≡ None → (nest.new ≡ nest.old) × (position.new ≡ position.old) }
+{
+    match *position {
+        Position::Item => {
+            let whole = whole_head(depth, position, nest, input)?;
+            Some(Fronted {
+                used: whole.used,
+                width: whole.width,
+                kind: kind_by(whole.token, whole.number),
+            })
+        }
+        Position::Payload(chunk, kind, left) => {
+            if input.is_empty() {
+                return None;
+            }
+            let used = whole_piece(chunk, kind, left, depth, position, nest, input);
+            Some(Fronted {
+                used,
+                width: Width::Direct,
+                kind: EventKind::Piece(used),
+            })
+        }
+        Position::Head {
+            chunk,
+            kind,
+            width,
+            left,
+            argument: 0,
+        } => {
+            let number = whole_argument(left, input)?;
+            *position = after(chunk, kind, number, depth, nest);
+            Some(Fronted {
+                used: usize::from(left) + 1,
+                width,
+                kind: head_kind(chunk, kind, number),
+            })
+        }
+        _ => None,
+    }
 }
 
 /// Takes bytes until one completes an event or is refused.
@@ -50,35 +128,8 @@ pub fn walk(depth: usize, position: &mut Position, nest: &mut Nest, input: &[u8]
     ensures within { length nest.new ≤ depth }
     ensures fits { IsFit depth nest.new position.new }
 {
-    match *position {
-        Position::Item => {
-            if let Some(whole) = whole_head(depth, position, nest, input) {
-                let kind = kind_by(whole.token, whole.number);
-                return (whole.used, Walked::Told(whole.width, kind));
-            }
-        }
-        Position::Payload(chunk, kind, left) => {
-            if !input.is_empty() {
-                let n = whole_piece(chunk, kind, left, depth, position, nest, input);
-                return (n, Walked::Told(Width::Direct, EventKind::Piece(n)));
-            }
-        }
-        Position::Head {
-            chunk,
-            kind,
-            width,
-            left,
-            argument: 0,
-        } => {
-            if let Some(n) = whole_argument(left, input) {
-                *position = after(chunk, kind, n, depth, nest);
-                return (
-                    usize::from(left) + 1,
-                    Walked::Told(width, head_kind(chunk, kind, n)),
-                );
-            }
-        }
-        _ => {}
+    if let Some(front) = walk_whole(depth, position, nest, input) {
+        return (front.used, Walked::Told(front.width, front.kind));
     }
     walk_bytes(depth, position, nest, input)
 }

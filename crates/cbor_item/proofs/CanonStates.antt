@@ -2,10 +2,12 @@
 use Rattle.std.proofs.Common.{◌≡◌, ℕ, ◌<◌, Bool, true, false, List, [], ◌∷◌, length, refl, sym, ap, ◌∙◌, subst, arith}
 use Rattle.std.specs.Prelude.{IsTrue, reverse, take}
 use Rattle.std.proofs.lemmas.List.{length-reverse}
-use Rattle.cbor_item.specs.Built.{Built}
-use Rattle.cbor_item.specs.Parts.{Open, plain}
+use Rattle.cbor_head.specs.declared.order.KeyOrder.{KeyOrder}
+use Rattle.cbor_item.specs.Built.{Built, IsInContainer}
+use Rattle.cbor_item.specs.Parts.{Open, plain, an_array, a_map, a_key, a_string, close}
 use Rattle.cbor_item.specs.inner.BuilderState.{standing, IsLaid}
 use Rattle.cbor_item.specs.inner.CanonState.{if_sound, seen, IsNested, IsKept}
+use Rattle.cbor_item.specs.inner.Moved.{meant}
 use Rattle.cbor_item.specs.inner.Laid.{shape_open, opens, outer_spans}
 use Rattle.cbor_item.specs.declared.builder.frame.Frame.{Frame}
 use Rattle.cbor_item.specs.declared.builder.frame.Shape.{Shape}
@@ -47,13 +49,28 @@ laid_whole b w bs kept e p =
 -- ---- two at least are open, where a frame is below the innermost
 
 pub two_open : (b : Inside) (w : Built) (s : Shape) (P : List Open → Type 0) → seen b ≡ w → b.is_sound ≡ true → 0 < length b.core.below.items → b.core.top.shape ≡ s
-    → ((d : Open) (os : List Open) → P (shape_open b.core.out b.core.spans.items b.core.top.start s ∷ d ∷ os)) → P w.standing
+    → ((d : Open) (os : List Open) → P (shape_open (meant b.core.out) b.core.spans.items b.core.top.start s ∷ d ∷ os)) → P w.standing
 two_open b w s P e sound some is k =
     let l = length-reverse b.core.below.items in
     subst (λ (v : Built). P v.standing) e (subst (λ t. P (if_sound t (standing b.core))) (sym sound) (by_frames (reverse b.core.below.items) (omega (arith, l, some))))
   where
     by_frames : (fs : List Frame) → 0 < length fs
-        → P (shape_open b.core.out b.core.spans.items b.core.top.start b.core.top.shape ∷ opens (take b.core.top.from b.core.out) (outer_spans b.core.spans.items b.core.top.shape) fs)
+        → P (shape_open (meant b.core.out) b.core.spans.items b.core.top.start b.core.top.shape ∷ opens (take b.core.top.from (meant b.core.out)) (outer_spans b.core.spans.items b.core.top.shape) fs)
     by_frames [] h = absurd (omega (arith, h))
     by_frames (f ∷ fs) h =
-        subst (λ (t : Shape). P (shape_open b.core.out b.core.spans.items b.core.top.start t ∷ opens (take b.core.top.from b.core.out) (outer_spans b.core.spans.items b.core.top.shape) (f ∷ fs))) (sym is) (k _ _)
+        subst (λ (t : Shape). P (shape_open (meant b.core.out) b.core.spans.items b.core.top.start t ∷ opens (take b.core.top.from (meant b.core.out)) (outer_spans b.core.spans.items b.core.top.shape) (f ∷ fs))) (sym is) (k _ _)
+
+-- ---- what ends, or stays open
+
+nested_closed : (o : KeyOrder) (os : List Open) → IsInContainer os → IsNested os → IsNested (close o os)
+nested_closed o [] h n = absurd h
+nested_closed o (plain bs ∷ []) h n = absurd h
+nested_closed o (an_array k bs ∷ []) h n = absurd h
+nested_closed o (a_map ps ∷ []) h n = absurd h
+nested_closed o (a_key ps k ∷ []) h n = absurd h
+nested_closed o (a_string m bs ∷ []) h n = absurd h
+nested_closed o (c ∷ d ∷ os) h n = n.1
+
+pub nested_ended : (o : KeyOrder) (t : Bool) (old new : List Open) → (IsTrue t → new ≡ close o old) → (t ≡ false → new ≡ old) → IsInContainer old → IsNested old → IsNested new
+nested_ended o true old new c k h n = subst IsNested (sym (c refl)) (nested_closed o old h n)
+nested_ended o false old new c k h n = subst IsNested (sym (k refl)) n

@@ -5,13 +5,16 @@ pub mod Clean
 pub mod Counting
 pub mod Depth
 pub mod DistinctKeys
+pub mod Drafts
 pub mod Growth
+pub mod InPlace
 pub mod Induction
 pub mod KeyFronts
 pub mod Keys
 pub mod LookUp
 pub mod Loops
 pub mod Members
+pub mod Moved
 pub mod Neighbours
 pub mod Normal
 pub mod NormalValue
@@ -25,6 +28,7 @@ pub mod SortedSpans
 pub mod Sorting
 pub mod Sound
 pub mod Stable
+pub mod Standing
 pub mod Steps
 pub mod Strict
 pub mod Theorems

@@ -103,7 +103,7 @@ pub within_permuted : (out : List ℕ) (xs ys : List Span) → IsPermutation xs 
 within_permuted out xs ys m h =
     all_from (IsWithin out) ys (λ s i. all_at (IsWithin out) xs s h (contains_in xs s (Contains-permutation ys xs s (IsPermutation-sym xs ys m) (in_contains ys s i))))
 
-slices_join : (xs : List ℕ) (a b c : ℕ) → a ≤ b → b ≤ c → slice_range xs a b ++ slice_range xs b c ≡ slice_range xs a c
+pub slices_join : (xs : List ℕ) (a b c : ℕ) → a ≤ b → b ≤ c → slice_range xs a b ++ slice_range xs b c ≡ slice_range xs a c
 slices_join xs a b c h g =
     let n : a + (b - a) ≡ b = omega (arith, h) in
     let m : (b - a) + (c - b) ≡ c - a = omega (arith, h, g) in

@@ -6,5 +6,6 @@ pub mod Front
 pub mod Laid
 pub mod Levels
 pub mod Members
+pub mod Moved
 pub mod Repeats
 pub mod Walk

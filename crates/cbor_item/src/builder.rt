@@ -15,6 +15,8 @@ ghost use Rattle.cbor_item.specs.inner.Laid.{outer_spans};
 ghost use Rattle.cbor_item.specs.inner.BuilderState.{standing, innermost, IsLaid};
 ghost use Rattle.cbor_item.specs.inner.Repeats.{TellsOf, Tells};
 
+mod cuts;
+mod draft;
 pub(crate) mod frame;
 mod gather;
 mod look_up;
@@ -25,15 +27,24 @@ mod repeats;
 mod reserve;
 pub(crate) mod span;
 
+ghost use Rattle.std.specs.Prelude.{map, flat_map};
+ghost use Rattle.cbor_head.specs.Canonical.{in_order};
+ghost use Rattle.cbor_item.specs.Pairs.{HasDistinctBytes};
+ghost use Rattle.cbor_item.specs.Parts.{pair_bytes};
+ghost use Rattle.cbor_item.specs.inner.Laid.{Fits, pairs_from};
+ghost use Rattle.cbor_item.specs.inner.Moved.{meant, IsWhole, KeepsFront};
+ghost use Rattle.cbor_item.specs.inner.Moved.{AreSameKeys};
+ghost use Rattle.cbor_item.specs.declared.builder.frame.Shape.TheVariants.{Map};
+
+use crate::builder::draft::Draft;
 use crate::builder::frame::{Frame, Shape};
-use crate::builder::gather::ordered;
+use crate::builder::gather::put_in_order;
 use crate::builder::look_up::has_key;
 use crate::builder::member::complete;
 use crate::builder::opening::opening;
-use crate::builder::out::Out;
 use crate::builder::repeats::first_repeat;
 use crate::builder::reserve::push;
-use crate::builder::span::Span;
+use crate::builder::span::{Span, part};
 use crate::repeat::Repeat;
 use cbor_head::{KeyOrder, Major};
 use std::alloc::{AllocError, Global};
@@ -42,11 +53,10 @@ use std::alloc::{AllocError, Global};
 #[derive(Drop)]
 pub(crate) struct Core {
     pub(crate) order: KeyOrder,
-    pub(crate) out: Out,
+    pub(crate) out: Draft,
     pub(crate) spans: Vec<Span>,
     pub(crate) top: Frame,
     pub(crate) below: Vec<Frame>,
-    pub(crate) scratch: Out,
     pub(crate) sorting: Vec<Span>,
 }
 
@@ -58,7 +68,7 @@ impl Core {
     {
         Core {
             order,
-            out: Out::new(alloc),
+            out: Draft::new(alloc),
             spans: Vec::new(alloc),
             top: Frame {
                 from: 0,
@@ -67,7 +77,6 @@ impl Core {
                 rises: true,
             },
             below: Vec::new(alloc),
-            scratch: Out::new(alloc),
             sorting: Vec::new(alloc),
         }
     }
@@ -85,7 +94,13 @@ impl Core {
     {
         let at = self.out.len();
         self.out.head(major, n)?;
-        complete(&mut self.top, &mut self.spans, &self.out, self.order, at)
+        complete(
+            &mut self.top,
+            &mut self.spans,
+            &self.out.buf,
+            self.order,
+            at,
+        )
     }
 
     /// A whole string.
@@ -103,7 +118,13 @@ impl Core {
         let at = self.out.len();
         self.out.head(major, content.len() as u64)?;
         self.out.extend(content)?;
-        complete(&mut self.top, &mut self.spans, &self.out, self.order, at)
+        complete(
+            &mut self.top,
+            &mut self.spans,
+            &self.out.buf,
+            self.order,
+            at,
+        )
     }
 
     /// A string, an array, a map or a tag begins. The number is the tag's; for the others it says
@@ -134,7 +155,49 @@ impl Core {
         ensures extended { OnOk result
             (standing self.new ≡ extended content.now (standing self.old)) }
     {
-        self.out.extend(content)
+        self.out.extend(content)?;
+        Ok(())
+    }
+
+    // The pairs of the open map in order. False where two keys of it are equal.
+    fn order_pairs(&mut self, first: usize) -> Result<bool, AllocError>
+        requires whole { IsWhole self.old.out }
+        requires within { self.old.top.start ≤ length (meant self.old.out) }
+        requires fits { Fits self.old.order (meant self.old.out) self.old.spans.items
+            self.old.top.from self.old.top.start self.old.top.rises (Map first) }
+        requires keys { AreSameKeys self.old.out.buf (meant self.old.out)
+            (drop first self.old.spans.items) }
+        ensures order { self.new.order ≡ self.old.order }
+        ensures top { self.new.top ≡ self.old.top }
+        ensures below { self.new.below ≡ self.old.below }
+        ensures spans { self.new.spans ≡ self.old.spans }
+        ensures distinct { IfOk result (λ distinct. IsTrue distinct
+            ↔ HasDistinctBytes (pairs_from (meant self.old.out) self.old.spans.items first)) }
+        ensures whole { OnOk result (IsWhole self.new.out) }
+        ensures meant { IfOk result (λ distinct. IsTrue distinct
+            → meant self.new.out ≡ take self.old.top.start (meant self.old.out)
+            ++ flat_map pair_bytes (in_order self.old.order
+            (pairs_from (meant self.old.out) self.old.spans.items first))) }
+        ensures front { IfOk result (λ distinct. IsTrue distinct
+            → KeepsFront self.old.top.start self.old.out self.new.out) }
+        ensures kept { IfOk result (λ distinct. distinct ≡ false
+            → self.new.out ≡ self.old.out) }
+    {
+        if self.top.rises {
+            return Ok(true);
+        }
+        let order = self.order;
+        let distinct = put_in_order(
+            self.out.as_slice(),
+            order,
+            &self.spans[first..],
+            &mut self.sorting,
+        )?;
+        if !distinct {
+            return Ok(false);
+        }
+        self.out.rearrange(self.top.start, self.sorting.as_slice())?;
+        Ok(true)
     }
 
     // Puts the bytes of what is open in their final form. False where two keys of it are equal.
@@ -149,8 +212,11 @@ impl Core {
         ensures spans { IfOk result (λ distinct. IsTrue distinct
             → self.new.spans.items ≡ outer_spans self.old.spans.items self.old.top.shape) }
         ensures bytes { IfOk result (λ distinct. IsTrue distinct
-            → self.new.out ≡ take self.old.top.from self.old.out
+            → meant self.new.out ≡ take self.old.top.from (meant self.old.out)
             ++ closed self.old.order (innermost self.old)) }
+        ensures whole { OnOk result (IsWhole self.new.out) }
+        ensures front { IfOk result (λ distinct. IsTrue distinct
+            → KeepsFront self.old.top.from self.old.out self.new.out) }
         ensures kept { IfOk result (λ distinct. distinct ≡ false
             → (self.new.out ≡ self.old.out) × (self.new.spans.items ≡ self.old.spans.items)) }
     {
@@ -158,24 +224,15 @@ impl Core {
             from,
             start,
             shape,
-            rises,
+            rises: _,
         } = self.top;
         match shape {
             Shape::Plain | Shape::Key(..) => {}
             Shape::Array(n) => self.out.fill_head(from, start, Major::Array, n)?,
             Shape::Map(first) => {
                 let n = (self.spans.len() - first) as u64;
-                if !rises {
-                    if !ordered(
-                        &self.out,
-                        self.order,
-                        &self.spans[first..],
-                        &mut self.sorting,
-                        &mut self.scratch,
-                    )? {
-                        return Ok(false);
-                    }
-                    self.out.rewrite(start, self.scratch.as_slice())?;
+                if !self.order_pairs(first)? {
+                    return Ok(false);
                 }
                 self.spans.truncate(first);
                 self.out.fill_head(from, start, Major::Map, n)?;
@@ -208,7 +265,14 @@ impl Core {
         }
         if let Some(outer) = self.below.pop() {
             self.top = outer;
-            complete(&mut self.top, &mut self.spans, &self.out, self.order, from)?;
+            self.out.settle_member(from, &self.top, self.below.len())?;
+            complete(
+                &mut self.top,
+                &mut self.spans,
+                &self.out.buf,
+                self.order,
+                from,
+            )?;
         }
         Ok(true)
     }
@@ -220,7 +284,7 @@ impl Core {
     {
         match self.top.shape {
             Shape::Key(first, key, val) => has_key(
-                &self.out,
+                &self.out.buf,
                 self.order,
                 &self.spans[first..],
                 self.top.rises,
@@ -238,7 +302,7 @@ impl Core {
             (λ key. IsWaitingKey (standing self.now) key.now) }
     {
         match self.top.shape {
-            Shape::Key(_, key, _) => Some(&self.out.as_slice()[key..]),
+            Shape::Key(_, key, val) => Some(part(self.out.as_slice(), key, val)),
             _ => None,
         }
     }
@@ -249,6 +313,9 @@ impl Core {
         requires laid { IsLaid self }
         ensures { Tells (standing self) result }
     {
+        // Of keys it makes no difference: they lie as they are meant.
+        let len = self.out.len();
+        self.out.cut(len);
         let mut found = self.take_repeat();
         while let Some(outer) = self.below.pop() {
             self.top = outer;
@@ -260,9 +327,12 @@ impl Core {
     // The first repeated key of the innermost, whose bytes and spans are taken away.
     fn take_repeat(&mut self) -> Option<Repeat>
         requires laid { IsLaid self.old }
+        requires lies { self.old.out.buf ≡ meant self.old.out }
         ensures tells { TellsOf (innermost self.old) (vec_len self.old.below) result }
         ensures order { self.new.order ≡ self.old.order }
-        ensures out { self.new.out ≡ take self.old.top.from self.old.out }
+        ensures whole { IsWhole self.new.out }
+        ensures meant { meant self.new.out ≡ take self.old.top.from self.old.out.buf }
+        ensures lies { self.new.out.buf ≡ take self.old.top.from self.old.out.buf }
         ensures spans { self.new.spans.items ≡ outer_spans self.old.spans.items self.old.top.shape }
         ensures below { self.new.below.items ≡ self.old.below.items }
     {
@@ -292,7 +362,6 @@ impl Core {
             spans: _,
             top: _,
             below: _,
-            scratch: _,
             sorting: _,
         } = self;
         out.into_vec()

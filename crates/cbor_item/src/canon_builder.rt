@@ -78,10 +78,11 @@ impl CanonBuilder {
             (self.new ≡ built self.old.order
             (give (shortest_head major argument) self.old.standing)) }
     {
-        self.is_sound = false;
-        self.core.leaf(major, argument)?;
-        self.is_sound = true;
-        Ok(())
+        let done = self.core.leaf(major, argument);
+        if done.is_err() {
+            self.is_sound = false;
+        }
+        done
     }
 
     /// A whole string: what `begin_string`, `bytes` and `end_string` do in turn, in one step.
@@ -93,35 +94,40 @@ impl CanonBuilder {
             (self.new ≡ built self.old.order
             (give (shortest_head major (length content.now) ++ content.now) self.old.standing)) }
     {
-        self.is_sound = false;
-        self.core.string(major, content)?;
-        self.is_sound = true;
-        Ok(())
+        let done = self.core.string(major, content);
+        if done.is_err() {
+            self.is_sound = false;
+        }
+        done
     }
 
     /// A string begins.
+    #[inline(always)]
     pub fn begin_string(&mut self, major: Major) -> Result<(), AllocError>
         requires kind { IsStringType major }
         requires takes { TakesPart self.old.standing }
         ensures { OnOk result
             (self.new ≡ built self.old.order (opened major 0 ∷ self.old.standing)) }
     {
-        self.is_sound = false;
-        self.core.begin(major, 0)?;
-        self.is_sound = true;
-        Ok(())
+        let done = self.core.begin(major, 0);
+        if done.is_err() {
+            self.is_sound = false;
+        }
+        done
     }
 
     /// More of the string.
+    #[inline(always)]
     pub fn bytes(&mut self, content: &[u8]) -> Result<(), AllocError>
         requires string { IsInString self.old.standing }
         ensures { OnOk result
             (self.new ≡ built self.old.order (extended content.now self.old.standing)) }
     {
-        self.is_sound = false;
-        self.core.bytes(content)?;
-        self.is_sound = true;
-        Ok(())
+        let done = self.core.bytes(content);
+        if done.is_err() {
+            self.is_sound = false;
+        }
+        done
     }
 
     /// The string ends.
@@ -146,10 +152,11 @@ impl CanonBuilder {
         ensures { OnOk result
             (self.new ≡ built self.old.order (opened major number ∷ self.old.standing)) }
     {
-        self.is_sound = false;
-        self.core.begin(major, number)?;
-        self.is_sound = true;
-        Ok(())
+        let done = self.core.begin(major, number);
+        if done.is_err() {
+            self.is_sound = false;
+        }
+        done
     }
 
     /// The array, map or tag ends. No two keys of a map may be the same: `repeated` tells it of

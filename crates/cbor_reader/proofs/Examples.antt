@@ -7,7 +7,7 @@ use Rattle.std.proofs.lemmas.Str.{is_utf8-from_IsUtf8, IsUtf8-from_is_utf8}
 use Rattle.cbor_head.specs.Complaint.{plain, Complaint, complaint, Complains}
 use Rattle.cbor_head.specs.Spelling.{Spelling, unsigned, negative, text_chunks, a_map, spell, value_of, depth, IsSpelled}
 use Rattle.cbor_head.specs.Value as value
-use Rattle.cbor_head.specs.Value.{Value, Same, IsValid}
+use Rattle.cbor_head.specs.Value.{IsValid}
 use Rattle.cbor_head.specs.Canonical.{canonical}
 use Rattle.cbor_head.specs.Verdict.{IsVerdict, refused, refusal}
 use Rattle.cbor_head.specs.declared.order.KeyOrder.{KeyOrder}
@@ -18,7 +18,7 @@ use Rattle.cbor_head.specs.declared.width.Width.TheVariants.{Direct, One}
 use Rattle.cbor_head.proofs.Examples.{chunk, pairs}
 use Rattle.cbor_head.proofs.OneVerdict.{one_verdict}
 use Rattle.cbor_reader.specs.Canonicalise.{IsCanonicalOf}
-use Rattle.cbor_reader.specs.Headline.{BeginsWithCanonical}
+use Rattle.cbor_strict.specs.Readers.{BeginsWithCanonical}
 use Rattle.cbor_reader.specs.Size.{size}
 use Rattle.cbor_reader.proofs.CutShort.{too_long}
 use Rattle.cbor_reader.proofs.OneAnswer.{one_canonical}

@@ -29,47 +29,30 @@ use Rattle.cbor_events.specs.declared.position.Position.{Position}
 use Rattle.cbor_events.specs.declared.position.Position.TheVariants as positions
 use Rattle.cbor_events.specs.declared.token.Token.{Token}
 use Rattle.cbor_events.specs.declared.token.Token.TheVariants as tokens
-use Rattle.cbor_events.specs.inner.Automaton.{Frame, counted, indefinite_array, indefinite_map, State, at_item, close, expect, reached}
+use Rattle.cbor_events.specs.inner.Automaton.{Frame, State, at_item, close, expect}
 use Rattle.cbor_events.specs.inner.State.{state_of}
 use Rattle.cbor_events.specs.inner.Taking.{Ends, Follows, IsTaking}
 use Rattle.cbor_events.proofs.Frames.{position-done}
-use Rattle.cbor_events.proofs.Opens.{stack, opens as opens-stack}
+use Rattle.cbor_events.proofs.Opens.{stack}
 use Rattle.cbor_item.specs.Built.{Built, built, TakesPart, IsInContainer, HasDistinctKeysSoFar}
 use Rattle.cbor_item.specs.Parts.{Open, an_array, plain as a_plain, a_map as an_open_map, give, opened, close as close_open}
 use Rattle.cbor_reader.specs.inner.Levels.{IsTaken, Level, a_member, a_key, a_value, some_member, some_key, some_value, tagged, frame, level_open, AreLevels, bytes_before, opens, IsStanding, due, full, whole, IsBuilding, HasHeight, IsEvent, IsFed, BuildsBegun, IsBuiltFront}
-use Rattle.cbor_reader.specs.inner.Reading.{IsAt, IsHeadDue, IsNextHead, IsBegun, HasBegun, ReadsItem}
+use Rattle.cbor_strict.specs.inner.Reading.{IsAt, IsHeadDue, IsNextHead, IsBegun, ReadsItem}
 use Rattle.std.specs.Prelude.{Result, Ok, Err, IfOk}
 use Rattle.cbor_reader.specs.declared.slice_builder.Stopped.{Stopped}
-use Rattle.cbor_reader.proofs.Heads.{open_or}
-use Rattle.cbor_reader.proofs.Items.{definite, is-definite, proper-definite, never-open, reads-next, taking-some}
-use Rattle.cbor_reader.proofs.Arrays.{closes}
-use Rattle.cbor_reader.proofs.Loops.{array_bytes-whole, map_bytes-whole}
-use Rattle.cbor_reader.proofs.OpenEnds.{done_position}
+use Rattle.cbor_strict.proofs.Heads.{open_or}
+use Rattle.cbor_strict.proofs.Items.{definite, is-definite, proper-definite, never-open, reads-next, taking-some}
+use Rattle.cbor_strict.proofs.Arrays.{closes}
+use Rattle.cbor_strict.proofs.Loops.{array_bytes-whole, map_bytes-whole}
+use Rattle.cbor_strict.proofs.OpenEnds.{done_position}
 use Rattle.cbor_reader.proofs.Levels.{clean-anywhere, full-array, full-map, given, ended}
 use Rattle.cbor_reader.proofs.Valid.{count_bounded}
-use Rattle.cbor_reader.proofs.Scalars.{at-as, reads-unsigned, reads-negative, reads-simple}
-use Rattle.cbor_reader.proofs.SliceItems.{begun, told-event, told-live}
-use Rattle.cbor_reader.proofs.Steps.{next-head, limits-as}
+use Rattle.cbor_strict.proofs.Scalars.{at-as, reads-unsigned, reads-negative, reads-simple}
+use Rattle.cbor_strict.proofs.SliceItems.{begun, told-event, told-live}
+use Rattle.cbor_strict.proofs.Standing.{open-is, fewer-open, short-at}
+use Rattle.cbor_strict.proofs.Steps.{next-head, limits-as}
 
--- ---- what is open
-
--- so many containers are open as the automaton has frames
-pub open-is : (b : Bounds) (e : ItemEventsView) (t : List ℕ) (q : State) → IsAt b e t q → e.machine.open_count ≡ length (stack q)
-open-is b e t q a =
-    let begins = a.stands.stands.beginning in
-    a.stands.stands.counted begins.0 begins.1 begins.2
-    ∙ sym (opens-stack e.machine.depth begins.0 t begins.1 q a.marks begins.2 (a.stands.stands.inner.ran ∙ ap (λ (p : State). reached p a.marks) a.state))
-
-pub fewer-open : (fs : List Frame) → length (stack (close fs)) ≤ length fs
-fewer-open [] = omega arith
-fewer-open (counted zero ∷ fs) = omega (arith, fewer-open fs)
-fewer-open (counted (suc n) ∷ fs) = omega arith
-fewer-open (indefinite_array ∷ fs) = omega arith
-fewer-open (indefinite_map b ∷ fs) = omega arith
-
--- few bytes are taken
-pub short-at : (b : Bounds) (e : ItemEventsView) (t : List ℕ) (q : State) → IsAt b e t q → length t < 2 ^ 64
-short-at b e t q a = omega (arith, a.stands.stands.taken, a.stands.stands.limited, a.bytes, a.limits.1)
+-- ---- what stands
 
 module _ (o : KeyOrder) (d : ℕ) where
   pub standing-as : (t u : List ℕ) (q p : State) (os ps : List Open) (h k : ℕ) → t ≡ u → q ≡ p → os ≡ ps → h ≡ k → IsStanding o d t q os h → IsStanding o d u p ps k
@@ -292,9 +275,6 @@ module _ (b : Bounds) (o : KeyOrder) (ls : List Level) (token : Token) (old e : 
   fed-string other k new now n is number item builds none =
       let r = builds b fs t i.next.bytes e.width (begun-with other k is number item) in
       fed-item new now r.0 n (reads-next plain b fs t i.next.bytes (Some old.rest) (Some e.rest) (Some new.rest) (seen new) r.0 i.next.consumed r.1) r.2 none
-
-  pub string-begun : (other : Token) (k : ℕ) → token ≡ other → k ≡ e.number → kind_of other e.number ≢ kinds.End → HasBegun plain (seen e) (kind_of other k)
-  string-begun other k is number item = record { b = b; fs = fs; t = t; x = i.next.bytes; w = e.width; begun = begun-with other k is number item }
 
   -- ---- containers
 

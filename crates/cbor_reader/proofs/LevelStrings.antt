@@ -18,17 +18,17 @@ use Rattle.cbor_events.specs.declared.event.EventKind.TheVariants as kinds
 use Rattle.cbor_events.specs.declared.token.Token.{Token}
 use Rattle.cbor_events.specs.declared.token.Token.TheVariants as tokens
 use Rattle.cbor_events.specs.inner.Automaton.{Frame, close, close_string, in_chunks, payload}
-use Rattle.cbor_item.specs.Built.{Built, built, TakesPart, IsInString, IsStringType}
+use Rattle.cbor_item.specs.Built.{Built, built, TakesPart, IsInString}
 use Rattle.cbor_item.specs.Parts.{Open, a_string, give, opened, extended, close as close_open}
 use Rattle.cbor_reader.specs.inner.Levels.{TakesContent}
-use Rattle.cbor_reader.specs.inner.Reading.{IsAt, IsBegun, IsNextHead, ReadsItem, string_kind, string_major, string_value}
-use Rattle.cbor_reader.proofs.Leaves.{chunks_bytes}
-use Rattle.cbor_reader.proofs.Payloads.{none-come, part-comes, all-come}
-use Rattle.cbor_reader.proofs.SliceItems.{told-event, told-live}
-use Rattle.cbor_reader.proofs.Steps.{farther, limits-as}
+use Rattle.cbor_strict.specs.inner.Reading.{IsAt, IsBegun, IsNextHead, ReadsItem, string_kind, string_major, string_value}
+use Rattle.cbor_strict.proofs.Leaves.{chunks_bytes}
+use Rattle.cbor_strict.proofs.Payloads.{none-come, part-comes, all-come}
+use Rattle.cbor_strict.proofs.SliceItems.{told-event, told-live}
+use Rattle.cbor_strict.proofs.Steps.{farther, limits-as}
 use Rattle.cbor_reader.proofs.LevelEvents.{plain-head}
 use Rattle.cbor_events.specs.Trace.{Mark}
-use Rattle.cbor_reader.proofs.WholeStrings.{IsReadingChunks, reads-string, chunk-due, chunk-next, chunk-farther, chunks-end}
+use Rattle.cbor_strict.proofs.WholeStrings.{IsReadingChunks, reads-string, chunk-due, chunk-next, chunk-farther, chunks-end}
 
 -- ---- a payload
 
@@ -55,21 +55,17 @@ module _ (b : Bounds) (chunk : Bool) (m : Major) (fs : List Frame) (t : List ℕ
 
 -- ---- what a builder holds of a string
 
+pub in-string : (m : Major) (content : List ℕ) (os : List Open) → TakesPart os → IsInString (a_string m content ∷ os)
+in-string m content [] h = absurd h
+in-string m content (x ∷ os) h = tt
+
 pub string-canonical : (o : KeyOrder) (text : Bool) (content : List ℕ) → shortest_head (string_major text) (length content) ++ content ≡ canonical o (string_value text content)
 string-canonical o true content = refl
 string-canonical o false content = refl
 
-pub string-kind : (text : Bool) → IsStringType (string_major text)
-string-kind true = tt
-string-kind false = tt
-
 pub string-opens : (text : Bool) → opened (string_major text) 0 ≡ a_string (string_major text) []
 string-opens true = refl
 string-opens false = refl
-
-pub in-string : (m : Major) (content : List ℕ) (os : List Open) → TakesPart os → IsInString (a_string m content ∷ os)
-in-string m content [] h = absurd h
-in-string m content (x ∷ os) h = tt
 
 -- of one piece
 pub string-built : (g now : Built) (m : Major) (text : Bool) (content : List ℕ) → m ≡ string_major text → now ≡ built g.order (give (shortest_head m (length content) ++ content) g.standing)
@@ -100,13 +96,12 @@ chunked-ends g at now text content f e =
     e ∙ ap (λ (x : Built). built x.order (close_open x.order x.standing)) f ∙ ap (λ (x : List ℕ). built g.order (give x g.standing)) (string-canonical g.order text content)
 
 module _ (b : Bounds) (fs : List Frame) (t x : List ℕ) (text : Bool) (content : List ℕ) (start old new : SliceEventsView) (a : IsReadingChunks plain b fs t x text content (Some start.rest) (Some old.rest) (seen old)) (token : Token)
-    (limits : KeepsLimits old.machine new.machine) (live : IsRefusedTold token new) (told : (u : List ℕ) (ms : List Mark) → StandsBetween old.machine u ms → IsNextTold token old new u ms)
+    (limits : KeepsLimits old.machine new.machine) (live : IsRefusedTold token new) (told : IsNextTold token old new (t ++ chunks_bytes (string_major text) a.done) a.at.marks)
   where
     next-chunk : (token ≡ tokens.Refused → ⊥) → (token ≡ tokens.End → ⊥)
         → IsNextHead plain b (in_chunks (string_major text) fs) (t ++ chunks_bytes (string_major text) a.done) (event_of token new) (Some old.rest) (Some new.rest) (seen new)
     next-chunk f g =
-        plain-head b old new (t ++ chunks_bytes (string_major text) a.done) (in_chunks (string_major text) fs) token tt a.at limits live
-        (told (t ++ chunks_bytes (string_major text) a.done) a.at.marks a.at.stands) f g
+        plain-head b old new (t ++ chunks_bytes (string_major text) a.done) (in_chunks (string_major text) fs) token tt a.at limits live told f g
 
     -- the break
     pub chunks-over : token ≡ tokens.Break → ReadsItem plain b fs t x (Some start.rest) (Some new.rest) (seen new) (string_value text content)

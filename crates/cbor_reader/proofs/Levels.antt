@@ -17,13 +17,13 @@ use Rattle.cbor_events.specs.inner.Automaton.{State, counted, close}
 use Rattle.cbor_item.specs.Pairs.{HasDistinctBytes}
 use Rattle.cbor_item.specs.Parts.{Open, an_array, plain as a_plain, a_map as an_open_map, pair, give, close as close_open, closed, HasNoRepeats, AreKeysValid}
 use Rattle.cbor_item.proofs.Keys.{distinct_exactly}
-use Rattle.cbor_reader.specs.inner.Frame.{with_all, with_entries}
-use Rattle.cbor_reader.proofs.Frames.{count_with, entries_with}
-use Rattle.cbor_reader.proofs.Heads.{open_or}
-use Rattle.cbor_reader.proofs.Items.{is-definite}
-use Rattle.cbor_reader.proofs.Arrays.{closes}
-use Rattle.cbor_reader.proofs.Judged.{Never}
-use Rattle.cbor_reader.proofs.Loops.{array_bytes-more, array_bytes-whole, map_bytes-more, map_bytes-whole}
+use Rattle.cbor_strict.specs.inner.Frame.{with_all, with_entries}
+use Rattle.cbor_strict.proofs.Frames.{count_with, entries_with}
+use Rattle.cbor_strict.proofs.Heads.{open_or}
+use Rattle.cbor_strict.proofs.Items.{is-definite}
+use Rattle.cbor_strict.proofs.Arrays.{closes}
+use Rattle.cbor_strict.proofs.Judged.{Never}
+use Rattle.cbor_strict.proofs.Loops.{array_bytes-more, array_bytes-whole, map_bytes-more, map_bytes-whole}
 use Rattle.cbor_reader.proofs.Valid.{in_range_entries, valid_of}
 use Rattle.cbor_reader.specs.inner.Path.{Standing, item_due, item_full, item_whole, settle, StandsAt}
 use Rattle.cbor_reader.specs.inner.Levels.{IsClean, IsTaken, AreTaken, ArePairsTaken, Level, a_member, a_key, a_value, some_member, some_key, some_value, tagged, frame, AreLevels, bytes_before, opens, IsFull, IsStanding, due, full, whole}
@@ -206,9 +206,6 @@ full-tag o d e w n s holds h room = record {
 }
 
 -- ---- the bytes of a level
-
-longer : (xs ys zs : List ℕ) → length (xs ++ (ys ++ zs)) ≡ length xs + (length ys + length zs)
-longer xs ys zs = length-append xs (ys ++ zs) ∙ ap (λ (n : ℕ). length xs + n) (length-append ys zs)
 
 -- a definite array that is whole
 array-spelled : (w : Width) (n : ℕ) (done : Spellings) (s : Spelling) → Holds w n → spellings_count done + 1 ≡ n

@@ -8,9 +8,9 @@ use Rattle.cbor_head.specs.declared.reason.Reason.TheVariants.{Memory}
 use Rattle.cbor_head.specs.declared.reason.Refusal.{Refusal}
 use Rattle.cbor_reader.specs.Canonicalise.{IsCanonicalOf, IsRefusal, TellsItsValue}
 use Rattle.cbor_reader.specs.Headline.{IsValidItem}
-use Rattle.cbor_reader.specs.Refusals.{IsCanonicaliserReason}
+use Rattle.cbor_reader.specs.Canonicalise.{IsCanonicaliserReason}
 use Rattle.cbor_reader.proofs.Headline.{answers_exactly, refused_too_long, equal_exactly, again}
-use Rattle.cbor_reader.proofs.Reasons.{canonicaliser-reason}
+use Rattle.cbor_reader.proofs.CanonicaliserRefusals.{canonicaliser-reason}
 
 module _ {A : Type 0} (d n : ℕ) (o : KeyOrder) (input : List ℕ) (items : A → List ℕ) where
   abbrev pub IsAnswer : Result A Refusal → Type 0

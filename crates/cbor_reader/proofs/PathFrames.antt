@@ -5,7 +5,7 @@ use Rattle.cbor_head.specs.Head.{Holds, head}
 use Rattle.cbor_head.specs.Canonical.{canonical, canonical_entries}
 use Rattle.cbor_head.specs.Spelling.{Spelling, SpelledEntries, no_spellings, no_entries, entry, spell, spell_all, spell_entries, spellings_count, entries_count, value_of, entries_of}
 use Rattle.cbor_head.specs.Complaint as complaint
-use Rattle.cbor_head.specs.Complaint.{Rules, plain, Complaint, OfKey, Complains, ComplainsInEntries, IsRepeated}
+use Rattle.cbor_head.specs.Complaint.{plain, Complaint, ComplainsInEntries, IsRepeated}
 use Rattle.cbor_head.specs.declared.major.Major.TheVariants as majors
 use Rattle.cbor_head.specs.declared.order.KeyOrder.{KeyOrder}
 use Rattle.cbor_head.specs.declared.reason.Reason.TheVariants.{RepeatedKey}
@@ -16,19 +16,19 @@ use Rattle.cbor_item.specs.Pairs.{HasDistinctBytes}
 use Rattle.cbor_item.specs.Parts.{Open}
 use Rattle.cbor_item.proofs.Keys.{distinct_exactly, same_exactly}
 use Rattle.cbor_item.proofs.Sound.{IsSound, sound}
-use Rattle.cbor_reader.specs.inner.Frame as frames
-use Rattle.cbor_reader.specs.inner.Frame.{Frame, with_entries, keys_onto, before, IsFrame, depth_beside}
-use Rattle.cbor_reader.specs.inner.Judged.{IsJudged}
+use Rattle.cbor_strict.specs.inner.Frame as frames
+use Rattle.cbor_strict.specs.inner.Frame.{Frame, with_entries, keys_onto, before, IsFrame, depth_beside}
+use Rattle.cbor_strict.specs.inner.Judged.{IsJudged}
 use Rattle.cbor_reader.specs.inner.Levels.{IsTaken, ArePairsTaken, Level, a_member, a_key, a_value, some_member, some_key, some_value, tagged, level_bytes, level_open, IsLevel, AreLevels, bytes_before, opens}
-use Rattle.cbor_reader.specs.inner.OpenMaps.{placed, keys_at, open_keys, OnKeys, AreDistinct, OfClosed, ComplainsWithin, before_all, AreOpen, AreOpenDistinct}
+use Rattle.cbor_strict.specs.inner.OpenMaps.{placed, keys_at, open_keys, OnKeys, AreDistinct, OfClosed, ComplainsWithin, before_all, AreOpen, AreOpenDistinct}
 use Rattle.cbor_reader.specs.inner.PlainItems.{HasKeysApart, AreApart}
-use Rattle.cbor_reader.proofs.Heads.{open_or}
-use Rattle.cbor_reader.proofs.Judged.{Never, zero_item, zeros, zeros_count, zeros_spelled, zeros_flat, zero_pairs, pairs_count, pairs_spelled, pairs_flat, judged_key}
+use Rattle.cbor_strict.proofs.Heads.{open_or}
+use Rattle.cbor_strict.proofs.Judged.{Never, zero_item, zeros, zeros_count, zeros_spelled, zeros_flat, zero_pairs, pairs_count, pairs_spelled, pairs_flat, judged_key}
 use Rattle.cbor_reader.proofs.Levels.{no-count, spelled-all, within-all, clean-all, pairs-spelled, pairs-within, pairs-valid, pairs-more, entries-more, pairs-clean}
-use Rattle.cbor_reader.proofs.OpenKeys.{front_apart}
-use Rattle.cbor_reader.proofs.OpenMaps.{judged_within}
-use Rattle.cbor_reader.proofs.OpenSteps.{before_snoc, distinct_snoc, keys_with}
-use Rattle.cbor_reader.proofs.OpenWalk.{none_open, opens as one_opens}
+use Rattle.cbor_strict.proofs.OpenKeys.{front_apart}
+use Rattle.cbor_strict.proofs.OpenMaps.{judged_within}
+use Rattle.cbor_strict.proofs.OpenSteps.{before_snoc, distinct_snoc, keys_with}
+use Rattle.cbor_strict.proofs.OpenWalk.{none_open, opens as one_opens}
 use Rattle.cbor_reader.proofs.Paths.{distinct-more}
 use Rattle.cbor_reader.proofs.Valid.{in_range_of, in_range_entries, valid_of}
 

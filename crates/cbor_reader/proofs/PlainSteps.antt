@@ -2,7 +2,7 @@
 use Rattle.std.proofs.Common.{◌≡◌, ◌≢◌, ℕ, zero, suc, ◌+◌, ◌-◌, ◌^◌, ◌<◌, ◌≤◌, Bool, true, false, Option, Some, None, List, [], ◌∷◌, ◌++◌, length, map, get_or, set, refl, sym, ap, ap₂, ◌∙◌, subst, inl, inr, arith, append_assoc, append-nil}
 use Rattle.std.specs.Io.KnownBytes.{Consumes}
 use Rattle.std.proofs.KnownBytes.{Consumes-nil, Consumes-trans}
-use Rattle.std.specs.Prelude.{nat_lt}
+use Rattle.std.specs.Prelude.{nat_lt, IsSome}
 use Rattle.std.proofs.lemmas.List.{length-append, length-map}
 use Rattle.cbor_head.specs.Head.{Holds, IsSimple, head, shortest_head}
 use Rattle.cbor_head.specs.Canonical.{canonical}
@@ -10,7 +10,7 @@ use Rattle.cbor_head.specs.Limits.{Bounds, AreBounds}
 use Rattle.cbor_head.specs.Value.{Value}
 use Rattle.cbor_head.specs.Spelling.{array, a_map, no_spellings, no_entries, spell, spell_all, spell_entries, spellings_count, value_of}
 use Rattle.cbor_head.specs.Complaint as complaint
-use Rattle.cbor_head.specs.Complaint.{plain, Complaint, Complains}
+use Rattle.cbor_head.specs.Complaint.{plain, Complaint}
 use Rattle.cbor_head.specs.Verdict.{refusal}
 use Rattle.cbor_head.specs.declared.major.Major.{Major}
 use Rattle.cbor_head.specs.declared.major.Major.TheVariants as majors
@@ -37,36 +37,37 @@ use Rattle.cbor_item.specs.OpenValues.{OpenItem, OpenValue, close as close_in_tr
 use Rattle.cbor_reader.specs.declared.plain_items.PlainItems.{PlainItems}
 use Rattle.cbor_reader.specs.declared.plain_part.Part.{Part}
 use Rattle.cbor_reader.specs.declared.plain_part.Part.TheVariants.{Leaf, String, Begin, Break}
-use Rattle.cbor_reader.specs.inner.Judged.{IsJudged}
+use Rattle.cbor_strict.specs.inner.Judged.{IsJudged}
 use Rattle.cbor_reader.specs.inner.Levels.{IsTaken, Level, a_member, a_key, a_value, some_member, some_key, some_value, tagged, frame, level_open, AreLevels, bytes_before, opens}
-use Rattle.cbor_reader.specs.inner.OpenItems.{AreRefused}
+use Rattle.cbor_strict.specs.inner.OpenItems.{AreRefused}
 use Rattle.cbor_reader.specs.inner.Path.{Standing, item_due, item_full, item_whole, settle, StandsAt}
-use Rattle.cbor_reader.specs.declared.rules.Rules.TheVariants.{Plain}
-use Rattle.cbor_reader.specs.inner.Front.{IsFrontRead, IsFrontUnread}
+use Rattle.cbor_reader.specs.inner.Front.{IsFrontRead}
+use Rattle.cbor_strict.specs.inner.Front.{IsFrontUnread}
 use Rattle.cbor_reader.specs.inner.PlainFront.{IsStopped, IsDueAt, IsWholeAt, GoesOnOrNot, TakesNext, IsEncodedFront}
 use Rattle.cbor_reader.specs.inner.PlainItems.{AreApart, AreApartSoFar, HaveBegun, HaveBegunIn, HasItsPlace, CanTake, IsGiven, IsEndingAt, sets, AreKeysBegun}
 use Rattle.cbor_reader.specs.inner.PlainParts.{IsCome, leaf_value, IsLeafMajor, Begins, IsStill, ReadsPart}
-use Rattle.cbor_reader.specs.inner.Reading.{IsAt, IsUndecided, HasCause, IsBegun, IsNextHead, ReadsItem, StopsItem, StopsHead, string_value}
-use Rattle.cbor_reader.proofs.Arrays.{closes}
-use Rattle.cbor_reader.proofs.Fronts.{front-read, front-unread}
+use Rattle.cbor_strict.specs.inner.Reading.{IsAt, IsUndecided, HasCause, IsBegun, IsNextHead, ReadsItem, StopsItem, StopsHead, string_value}
+use Rattle.cbor_strict.proofs.Arrays.{closes}
+use Rattle.cbor_reader.proofs.Fronts.{front-read}
+use Rattle.cbor_strict.proofs.Fronts.{front-unread}
 use Rattle.cbor_reader.specs.declared.key_set.KeySet.{KeySet}
 use Rattle.cbor_reader.specs.inner.HeldKeys.{AreHeld, AreHeldSoFar}
 use Rattle.cbor_reader.proofs.HeldKeys.{held-given, held-opened, held-broken, held-popped, some-opens}
-use Rattle.cbor_reader.proofs.Heads.{open_or}
-use Rattle.cbor_reader.proofs.Items.{definite, is-definite, proper-definite, never-open, cause-in, undecided-in, stops-at-item, stops-next, reads-next, taking-some}
-use Rattle.cbor_reader.proofs.Judged.{judged_start, zero_item, zero_pairs}
-use Rattle.cbor_reader.proofs.LevelEvents.{open-is, fewer-open, short-at}
+use Rattle.cbor_strict.proofs.Heads.{open_or}
+use Rattle.cbor_strict.proofs.Items.{definite, is-definite, proper-definite, never-open, cause-in, undecided-in, stops-at-item, stops-next, reads-next, taking-some}
+use Rattle.cbor_strict.proofs.Judged.{judged_start, zero_item, zero_pairs}
+use Rattle.cbor_strict.proofs.Standing.{open-is, fewer-open, short-at}
 use Rattle.cbor_reader.proofs.LevelStrings.{string-canonical}
 use Rattle.cbor_reader.proofs.Levels.{clean-anywhere, full-array, full-map, settled}
-use Rattle.cbor_reader.proofs.Loops.{array_bytes-whole, map_bytes-whole}
-use Rattle.cbor_reader.proofs.OpenHeads.{HasHead, head_item, head_undecided}
+use Rattle.cbor_strict.proofs.Loops.{array_bytes-whole, map_bytes-whole}
+use Rattle.cbor_strict.proofs.OpenHeads.{HasHead, head_item, head_undecided}
 use Rattle.cbor_reader.specs.inner.TreeValues.{level_values, values_at, values_with, IsFullRight, IsTreeAt, IsTreeStep, IsForTree, TakesTreePart, MayEndIn}
 use Rattle.cbor_reader.proofs.TreeValues.{values-given, values-ended, settles-right, tree-step, tree-takes, tree-may-end}
 use Rattle.cbor_reader.proofs.PathFrames.{found_of_whole, repeat_found}
 use Rattle.cbor_reader.proofs.Paths.{given-apart, closed-apart, opened-apart, so-far, apart-now, ends-apart, settled-begun, settled-place, begun-more, begins-at}
-use Rattle.cbor_reader.proofs.Scalars.{at-as}
-use Rattle.cbor_reader.proofs.Steps.{at-reached, fault_of, farther}
-use Rattle.cbor_reader.proofs.Undecided.{item-undecided}
+use Rattle.cbor_strict.proofs.Scalars.{at-as}
+use Rattle.cbor_strict.proofs.Steps.{at-reached, fault_of, farther}
+use Rattle.cbor_strict.proofs.Undecided.{item-undecided}
 use Rattle.cbor_reader.proofs.Valid.{count_bounded}
 
 -- ---- heads
@@ -745,66 +746,86 @@ goes-or-not v now b e t (suc n) h some same starts same_tree places held same_co
     subst (λ (m : Bool). GoesOnOrNot m now b e t) (sym more)
     (goes-on v b e t h some now same starts same_tree places (apart-now v.builder.standing h.apart fresh) held.0 (omega (arith, same_count)))
 
--- ---- the whole
+-- ---- from part to part
 
-pub record IsRunning (o : KeyOrder) (v : PlainItems) (b : Bounds) (e : ItemEventsView) (from now : Option (List ℕ)) : Type 0 where
-  pub order : v.builder.order ≡ o
-  pub t : List ℕ
-  pub consumed : Consumes from now t
-  pub due : IsDueAt v b e t
+-- some parts were taken, and an item is due
+pub record TakesSoFar (old v : PlainItems) (b : Bounds) (e : ItemEventsView) (t : List ℕ) (from now : Option (List ℕ)) : Type 0 where
+  pub bytes : List ℕ
+  pub consumed : Consumes from now bytes
+  pub order : v.builder.order ≡ old.builder.order
+  pub kept : IsSome old.tree → IsSome v.tree
+  pub due : IsDueAt v b e (t ++ bytes)
 
-pub runs-first : (o : KeyOrder) (v : PlainItems) (b : Bounds) (e : ItemEventsView) (from : Option (List ℕ)) → v.builder ≡ built o (a_plain [] ∷ []) → length v.starts ≡ 257 → IsTreeAt v.tree (item_due []) → AreHeld (sets v) (a_plain [] ∷ []) → IsAt b e [] (at_item [])
-    → IsRunning o v b e from from
-runs-first o v b e from is places tree held at =
+pub takes-none : (v : PlainItems) (b : Bounds) (e : ItemEventsView) (t : List ℕ) (from : Option (List ℕ)) → IsDueAt v b e t → TakesSoFar v v b e t from from
+takes-none v b e t from d = record { bytes = []; consumed = Consumes-nil from; order = refl; kept = λ h. h; due = subst (IsDueAt v b e) (sym (append-nil t)) d }
+
+module _ (old v new : PlainItems) (b : Bounds) (e after : ItemEventsView) (t : List ℕ) (from now to : Option (List ℕ)) (h : TakesSoFar old v b e t from now) where
+  pub takes-on : TakesNext true v new b after (t ++ h.bytes) now to → TakesSoFar old new b after t from to
+  takes-on g = record {
+    bytes = h.bytes ++ g.bytes;
+    consumed = Consumes-trans from now to h.bytes g.bytes h.consumed g.consumed;
+    order = g.order ∙ h.order;
+    kept = λ some. g.kept (h.kept some);
+    due = subst (IsDueAt new b after) (append_assoc t h.bytes g.bytes) g.stands;
+  }
+
+  pub takes-farther : TakesNext true v new b after (t ++ h.bytes) now to → after.machine.bytes - after.machine.taken < e.machine.bytes - e.machine.taken
+  takes-farther g = farther b e after (t ++ h.bytes) ((t ++ h.bytes) ++ g.bytes) _ _ h.due.at g.stands.at (omega (arith, g.some, length-append (t ++ h.bytes) g.bytes))
+
+  -- the last part
+  pub takes-all : TakesNext false v new b after (t ++ h.bytes) now to → TakesNext false old new b after t from to
+  takes-all g = record {
+    bytes = h.bytes ++ g.bytes;
+    some = omega (arith, g.some, length-append h.bytes g.bytes);
+    consumed = Consumes-trans from now to h.bytes g.bytes h.consumed g.consumed;
+    order = g.order ∙ h.order;
+    kept = λ some. g.kept (h.kept some);
+    stands = subst (IsWholeAt new b after) (append_assoc t h.bytes g.bytes) g.stands;
+  }
+
+  pub takes-stopped : (f : Refusal) → IsStopped plain b (t ++ h.bytes) now to f → IsStopped plain b t from to f
+  takes-stopped f s = record {
+    bytes = h.bytes ++ s.bytes;
+    consumed = Consumes-trans from now to h.bytes s.bytes h.consumed s.consumed;
+    refused = subst (λ (x : List ℕ). AreRefused plain b x to f) (append_assoc t h.bytes s.bytes) s.refused;
+  }
+
+-- ---- the whole item
+
+-- before the first part
+pub due-first : (o : KeyOrder) (v : PlainItems) (b : Bounds) (e : ItemEventsView) → v.builder ≡ built o (a_plain [] ∷ []) → length v.starts ≡ 257 → IsTreeAt v.tree (item_due []) → AreHeld (sets v) (a_plain [] ∷ []) → IsAt b e [] (at_item [])
+    → IsDueAt v b e []
+due-first o v b e is places tree held at =
     let standing = ap (λ (g : Built). g.standing) is in
-    record {
-      order = ap (λ (g : Built). g.order) is;
-      t = [];
-      consumed = Consumes-nil from;
-      due = record { ls = []; levels = tt; taken = refl; at = at; standing = standing; apart = subst AreApart (sym standing) (tt, (λ x. x), tt); begun = tt; held = subst (AreHeld (sets v)) (sym standing) held; places = places; tree = tree };
-    }
+    record { ls = []; levels = tt; taken = refl; at = at; standing = standing; apart = subst AreApart (sym standing) (tt, (λ x. x), tt); begun = tt; held = subst (AreHeld (sets v)) (sym standing) held; places = places; tree = tree }
 
-pub runs-on : (o : KeyOrder) (old v : PlainItems) (b : Bounds) (e new : ItemEventsView) (from now to : Option (List ℕ)) → (h : IsRunning o old b e from now) → TakesNext true old v b new h.t now to → IsRunning o v b new from to
-runs-on o old v b e new from now to h g = record { order = g.order ∙ h.order; t = h.t ++ g.bytes; consumed = Consumes-trans from now to h.t g.bytes h.consumed g.consumed; due = g.stands }
-
-pub runs-farther : (o : KeyOrder) (old v : PlainItems) (b : Bounds) (e new : ItemEventsView) (from now to : Option (List ℕ)) → (h : IsRunning o old b e from now) → TakesNext true old v b new h.t now to
-    → new.machine.bytes - new.machine.taken < e.machine.bytes - e.machine.taken
-runs-farther o old v b e new from now to h g =
-    farther b e new h.t (h.t ++ g.bytes) _ _ h.due.at g.stands.at (omega (arith, g.some, length-append h.t g.bytes))
-
-pub front-whole : (o : KeyOrder) (old v : PlainItems) (b : Bounds) (e new : ItemEventsView) (from now to : Option (List ℕ)) (count : ℕ) → AreBounds b → (h : IsRunning o old b e from now) → (g : TakesNext false old v b new h.t now to)
-    → count ≡ new.machine.taken → IsFrontRead plain b from to (value_of g.stands.item) count
-front-whole o old v b e new from now to count l h g c =
+pub front-whole : (old v : PlainItems) (b : Bounds) (new : ItemEventsView) (from to : Option (List ℕ)) (count : ℕ) → AreBounds b → (g : TakesNext false old v b new [] from to) → count ≡ new.machine.taken
+    → IsFrontRead plain b from to (value_of g.stands.item) count
+front-whole old v b new from to count l g c =
     let x = g.stands in
-    let all : Consumes from to (h.t ++ g.bytes) = Consumes-trans from now to h.t g.bytes h.consumed g.consumed in
-    front-read Plain b from to new (value_of x.item) count l
+    front-read b from to new (value_of x.item) count l
     (record {
       item = x.item;
       spelled = x.is.spelled;
       within = omega (arith, x.is.within);
       clean = x.is.clean 0;
-      taken = record { more = spell x.item; consumed = subst (Consumes from to) x.taken all; are = refl };
+      taken = record { more = spell x.item; consumed = subst (Consumes from to) x.taken g.consumed; are = refl };
       value = refl;
-      at = at-as b new (h.t ++ g.bytes) (spell x.item) at_end at_end x.taken refl x.at;
+      at = at-as b new g.bytes (spell x.item) at_end at_end x.taken refl x.at;
     })
     c
 
-pub runs-out : (o : KeyOrder) (old v : PlainItems) (b : Bounds) (e new : ItemEventsView) (from now to : Option (List ℕ)) (out : List ℕ) (count : ℕ) → AreBounds b → (h : IsRunning o old b e from now) → TakesNext false old v b new h.t now to
+pub front-encoded : (o : KeyOrder) (old v : PlainItems) (b : Bounds) (new : ItemEventsView) (from to : Option (List ℕ)) (out : List ℕ) (count : ℕ) → AreBounds b → old.builder ≡ built o (a_plain [] ∷ []) → TakesNext false old v b new [] from to
     → ((bs : List ℕ) → v.builder.standing ≡ a_plain bs ∷ [] → out ≡ bs) → count ≡ new.machine.taken → IsEncodedFront b o from to out count
-runs-out o old v b e new from now to out count l h g out_is c =
+front-encoded o old v b new from to out count l is g out_is c =
     let x = g.stands in
     record {
       value = value_of x.item;
-      read = front-whole o old v b e new from now to count l h g c;
-      canonical_is = out_is _ x.standing ∙ ap (λ (p : KeyOrder). canonical p (value_of x.item)) (g.order ∙ h.order);
+      read = front-whole old v b new from to count l g c;
+      canonical_is = out_is _ x.standing ∙ ap (λ (p : KeyOrder). canonical p (value_of x.item)) (g.order ∙ ap (λ (y : Built). y.order) is);
     }
 
-pub runs-stop : (o : KeyOrder) (old : PlainItems) (b : Bounds) (e : ItemEventsView) (from now to : Option (List ℕ)) (f : Refusal) → (h : IsRunning o old b e from now) → IsStopped plain b h.t now to f → IsFrontUnread plain b from to f
-runs-stop o old b e from now to f h s =
+pub front-stopped : (b : Bounds) (from to : Option (List ℕ)) (f : Refusal) → IsStopped plain b [] from to f → IsFrontUnread plain b from to f
+front-stopped b from to f s =
     front-unread plain b from to f
-    (record {
-      bytes = h.t ++ s.bytes;
-      taken = record { more = h.t ++ s.bytes; consumed = Consumes-trans from now to h.t s.bytes h.consumed s.consumed; are = refl };
-      read = s.refused.read;
-      why = s.refused.why;
-    })
+    (record { bytes = s.bytes; taken = record { more = s.bytes; consumed = s.consumed; are = refl }; read = s.refused.read; why = s.refused.why })

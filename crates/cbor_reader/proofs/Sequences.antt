@@ -12,13 +12,12 @@ use Rattle.cbor_head.specs.Verdict.{accepted, refused, refusal, IsFormError, IsV
 use Rattle.cbor_head.specs.declared.reason.Reason.TheVariants.{Read, Memory, Truncated, TooLong}
 use Rattle.cbor_head.specs.declared.reason.Refusal.{Refusal}
 use Rattle.cbor_head.proofs.Accepted.{accepts_exactly}
-use Rattle.cbor_head.proofs.Beginnings.{item_decides}
 use Rattle.cbor_head.proofs.OneFirst.{after_head}
 use Rattle.cbor_head.proofs.OneVerdict.{one_verdict}
 use Rattle.cbor_head.proofs.ReadLaws.{length_spell}
-use Rattle.cbor_reader.specs.Readers.{IsRead, IsReadAs, IsUnread, of_verdict, of_reader, of_memory, Loses}
+use Rattle.cbor_strict.specs.Readers.{IsRead, IsReadAs, IsUnread, of_verdict, of_reader, of_memory, Loses}
 use Rattle.cbor_reader.specs.Sequence.{sequence_bytes, IsAccepted, IfRefused, EndsBefore, IsAtEnd, IsRefused, Given, given_by, items_of, HasGiven, GivesNext}
-use Rattle.cbor_reader.proofs.Accepted.{item_within_limit}
+use Rattle.cbor_strict.proofs.Accepted.{item_within_limit, front_accepted}
 use Rattle.cbor_reader.proofs.CutShort.{truncated}
 
 -- the refusal that says that the input ended before an item
@@ -42,10 +41,7 @@ module _ (d n : ℕ) (r : Rules) (input : List ℕ) (s : Spelling) (v : IsVerdic
   splits = let h = at_front in ap (λ (b : List ℕ). spell s ++ b) (ap (drop (length (spell s))) (sym h.1) ∙ drop-append_seam (spell s) h.0) ∙ h.1
 
 pub verdict_of : (d n : ℕ) (r : Rules) (s : Spelling) (rest : List ℕ) → IsAccepted d n r s → IsVerdict d n r (spell s ++ rest) (accepted s)
-verdict_of d n r s rest a =
-    let left = n - length (spell s) in
-    let size : n ≡ length (spell s) + left = omega (arith, a.fits) in
-    item_decides d n r (spell s ++ rest) (take left rest) s a.well_formed (ap (λ (k : ℕ). take k (spell s ++ rest)) size ∙ take-append-add (spell s) rest left) a.sound
+verdict_of d n r s rest a = front_accepted d n r s rest a.well_formed a.sound a.fits
 
 -- an accepted item is not refused
 pub not_both : (d n : ℕ) (r : Rules) (s : Spelling) (rest input : List ℕ) (f : Refusal) → IsAccepted d n r s → spell s ++ rest ≡ input → IsVerdict d n r input (refused f) → ⊥

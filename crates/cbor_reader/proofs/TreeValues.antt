@@ -4,11 +4,11 @@ use Rattle.std.proofs.lemmas.Bool.{false≢true}
 use Rattle.std.specs.Prelude.{IsSome}
 use Rattle.cbor_head.specs.Spelling.{Spelling, Spellings, SpelledEntries, unsigned, negative, bytes, text, byte_chunks, text_chunks, array, a_map, tag, simple, no_spellings, a_spelling, no_entries, entry, value_of, values_of, entries_of}
 use Rattle.cbor_head.specs.Value as value
-use Rattle.cbor_head.specs.Value.{Value, Values, Entries}
+use Rattle.cbor_head.specs.Value.{Value}
 use Rattle.cbor_item.specs.View as view
 use Rattle.cbor_item.specs.OpenValues as parts
-use Rattle.cbor_item.specs.OpenValues.{OpenItem, OpenValue, an_array, give, closed, close, standing, TakesValue, MayEnd, CanEnd, CanHold, IsWhole}
-use Rattle.cbor_reader.specs.inner.Frame.{with_all, with_entries}
+use Rattle.cbor_item.specs.OpenValues.{OpenItem, OpenValue, an_array, give, closed, close, TakesValue, MayEnd, CanEnd, CanHold, IsWhole}
+use Rattle.cbor_strict.specs.inner.Frame.{with_all, with_entries}
 use Rattle.cbor_reader.specs.inner.Levels.{Level, a_member, a_key, a_value, some_member, some_key, some_value, tagged}
 use Rattle.cbor_reader.specs.inner.Path.{Standing, item_due, item_full, item_whole, settle}
 use Rattle.cbor_reader.specs.declared.plain_part.Part.{Part}

@@ -1,5 +1,5 @@
 -- What an input becomes: the canonical bytes of its item, or the refusal (RFC 8949, sections 4.2 and 5.3).
-use Rattle.std.specs.Prelude.{ℕ, ◌^◌, ◌≡◌, ◌<◌, ◌≤◌, ◌↔◌, List, length, take}
+use Rattle.std.specs.Prelude.{ℕ, ◌^◌, ◌≡◌, ◌<◌, ◌≤◌, ◌↔◌, ◌⊎◌, List, length, take}
 use Rattle.cbor_head.specs.Value.{Same}
 use Rattle.cbor_head.specs.Spelling.{Spelling, IsItem, spell, value_of}
 use Rattle.cbor_head.specs.Beginning.{IsLongestBeginning}
@@ -9,7 +9,8 @@ use Rattle.cbor_head.specs.Verdict.{IsVerdict, accepted, refused, refusal}
 use Rattle.cbor_head.specs.declared.order.KeyOrder.{KeyOrder}
 use Rattle.cbor_head.specs.declared.reason.Reason.TheVariants.{Trailing, CanonicalTooLong, Memory}
 use Rattle.cbor_head.specs.declared.reason.Refusal.{Refusal}
-use Rattle.cbor_reader.specs.Refusals.{IsFreeBefore}
+use Rattle.cbor_head.specs.declared.reason.Reason.{Reason}
+use Rattle.cbor_strict.specs.Refusals.{IsFreeBefore, IsFormReason, IsComplaintReason}
 
 -- The whole input is one well-formed, valid item within depth d and n bytes, and out is the canonical bytes of its value, at
 -- most n bytes too.
@@ -40,3 +41,7 @@ pub data IsRefusal (d n : ℕ) (o : KeyOrder) (input : List ℕ) (f : Refusal) :
   -- memory was refused, somewhere on the longest beginning, where no complaint had ended before
   of_memory : (p : List ℕ) (taken : ℕ) → IsLongestBeginning d (take n input) p → taken ≤ length p
       → f ≡ refusal Memory taken taken → IsFreeBefore d plain p taken → IsRefusal d n o input f
+
+-- the reasons that the canonicaliser gives: 1 to 13, and 19
+abbrev pub IsCanonicaliserReason : Reason → Type 0
+IsCanonicaliserReason x = IsFormReason x ⊎ IsComplaintReason plain x ⊎ (x ≡ Trailing) ⊎ (x ≡ CanonicalTooLong) ⊎ (x ≡ Memory)

@@ -2,10 +2,6 @@ pub mod Canonicalise
 pub mod Comparing
 pub mod Headline
 pub mod inner
-pub mod KeptKeys
-pub mod Readers
-pub mod Refusals
 pub mod Sequence
 pub mod Size
-pub mod StrictReader
 pub mod WholeItem

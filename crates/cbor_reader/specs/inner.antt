@@ -1,21 +1,10 @@
 -- What private functions speak of; no public contract does.
-pub mod Frame
 pub mod Front
 pub mod HeldKeys
-pub mod Judged
-pub mod LastKeys
 pub mod Levels
 pub mod MapKeys
-pub mod OpenItems
-pub mod OpenMaps
 pub mod Path
 pub mod PlainFront
 pub mod PlainItems
 pub mod PlainParts
-pub mod Quick
-pub mod Reading
-pub mod Rules
-pub mod SliceChecks
-pub mod SliceFront
-pub mod StrictEvents
 pub mod TreeValues

@@ -7,7 +7,7 @@ ghost use Rattle.cbor_head.specs.Spelling.{Spelling, value_of};
 ghost use Rattle.cbor_head.specs.declared.reason.Reason.TheVariants as reasons;
 ghost use Rattle.cbor_reader.specs.Canonicalise.{IsCanonicalOf, IsRefusal, TellsItsValue};
 ghost use Rattle.cbor_reader.specs.Headline.{IsValidItem};
-ghost use Rattle.cbor_reader.specs.Refusals.{IsCanonicaliserReason};
+ghost use Rattle.cbor_reader.specs.Canonicalise.{IsCanonicaliserReason};
 
 use crate::whole_item::encoded_item;
 use cbor_head::{KeyOrder, Limits, Reason, Refusal};

@@ -13,7 +13,9 @@ ghost use Rattle.cbor_head.specs.declared.reason.Reason.TheVariants.{Memory, Tru
 ghost use Rattle.cbor_head.specs.declared.reason.Reason.TheVariants.{CanonicalTooLong};
 ghost use Rattle.cbor_reader.specs.Canonicalise.{IsCanonicalOf, IsRefusal};
 ghost use Rattle.cbor_reader.specs.Comparing.{MeanTheSame};
-ghost use Rattle.cbor_reader.specs.Headline.{IsValidItem, BeginsWithCanonical, StandsWithin};
+ghost use Rattle.cbor_reader.specs.Headline.{IsValidItem};
+ghost use Rattle.cbor_strict.specs.Readers.{BeginsWithCanonical};
+ghost use Rattle.cbor_strict.specs.Refusals.{StandsWithin};
 ghost use Rattle.cbor_reader.specs.Headline.{HasValidTexts};
 ghost use Rattle.cbor_reader.specs.Size.{size};
 ghost use Rattle.cbor_reader.specs.WholeItem.{IsWholeItem, IsItemRefusal};

@@ -1,9 +1,10 @@
 //! Readers of whole CBOR items, and of sequences of them.
 //!
 //! [`canonicalise`] answers the canonical bytes of an item (RFC 8949, section 4.2), [`read_tree`]
-//! reads one as a [`Tree`], [`read_strict`] and [`check_canonical`] accept canonical bytes alone,
-//! [`StrictReader`] tells the events of these, [`same_meaning`] compares two items, and
-//! [`Sequence`] reads one item after another (RFC 8742).
+//! reads one as a [`Tree`], [`same_meaning`] compares two items, and [`Sequence`] reads one item after
+//! another (RFC 8742). [`read_strict`], [`check_canonical`] and [`StrictReader`], which accept
+//! canonical bytes alone, are those of `cbor_strict`.
+//!
 //! Whatever is refused has one refusal, with its place. [`laws`] and [`sequence_laws`] have no code
 //! to run: their contracts are the laws of these answers.
 //!
@@ -25,29 +26,17 @@ mod ascii;
 mod canonicaliser;
 mod comparison;
 mod key_set;
-mod key_spans;
-mod last_keys;
 pub mod laws;
 mod next_head;
-mod open_items;
 mod payload;
 mod plain_front;
 mod plain_items;
 mod plain_part;
-mod quick;
-mod rises;
-mod rules;
 mod sequence;
 mod sequence_items;
 pub mod sequence_laws;
 mod slice_builder;
-mod slice_front;
-mod slice_heads;
 mod slice_tree;
-mod strict_events;
-mod strict_front;
-mod strict_reader;
-mod strict_slice;
 mod strings;
 #[cfg(test)]
 mod tests;
@@ -57,16 +46,12 @@ mod valid_front;
 mod valid_slice;
 mod whole_item;
 
-// How many containers can be open.
-const MOST_OPEN: usize = cbor_head::MAX_DEPTH as usize;
-
 pub use canonicaliser::canonicalise;
 pub use cbor_item::{KeyOrder, Tree};
+pub use cbor_strict::{StrictReader, check_canonical, read_strict};
 pub use comparison::{Side, same_meaning};
 pub use sequence::Sequence;
 pub use sequence_items::SequenceItems;
 pub use slice_tree::whole_tree;
-pub use strict_reader::{StrictReader, read_strict};
-pub use strict_slice::check_canonical;
 pub use tree_reader::read_tree;
 pub use valid_slice::check_valid;

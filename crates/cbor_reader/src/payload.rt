@@ -1,13 +1,12 @@
 //! The bytes of strings.
 
-ghost use Rattle.std.specs.Prelude.{◌≡◌, ◌+◌, ◌≤◌, ℕ, List, length, drop, true, false, IsUtf8};
-ghost use Rattle.std.specs.Prelude.{MatchResult, IfErr};
-ghost use Rattle.std.specs.Str.Lossy.{utf8_valid_len};
+ghost use Rattle.std.specs.Prelude.{◌≡◌, false};
 ghost use Rattle.cbor_events.specs.ItemEvents.{ItemEventsView};
-ghost use Rattle.cbor_reader.specs.inner.Reading.{IsPayloadDue, AnswersPayload};
+ghost use Rattle.cbor_strict.specs.inner.Reading.{IsPayloadDue, AnswersPayload};
 
 use cbor_events::ItemEvents;
 use cbor_head::{Reason, Refusal};
+use cbor_strict::check_text;
 use std::io::Read;
 
 // Memory is refused behind what was taken.
@@ -70,23 +69,8 @@ pub(crate) fn read_chunk<R: Read>(
     if !text {
         return Ok(());
     }
-    match check_text(into, from) {
+    match check_text(&into[from..]) {
         Ok(()) => Ok(()),
         Err(valid) => Err(Refusal::new(Reason::InvalidText, place + valid as u64, events.taken())),
-    }
-}
-
-// Whether the bytes from there on are UTF-8, or the length of their longest front that is.
-pub(crate) fn check_text(bytes: &[u8], from: usize) -> Result<(), usize>
-    requires { from ≤ length bytes.now }
-    ensures checked { MatchResult result
-        (λ _. IsUtf8 (drop from bytes.now))
-        (λ valid. ¬ (IsUtf8 (drop from bytes.now))
-        × (valid ≡ utf8_valid_len (drop from bytes.now))) }
-    ensures within { IfErr result (λ valid. from + valid ≤ length bytes.now) }
-{
-    match std::str::from_utf8(&bytes[from..]) {
-        Ok(_) => Ok(()),
-        Err(error) => Err(error.valid_up_to()),
     }
 }

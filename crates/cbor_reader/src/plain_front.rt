@@ -3,14 +3,15 @@
 ghost use Rattle.std.specs.Prelude.{◌≡◌, MatchResult};
 ghost use Rattle.cbor_head.specs.Complaint.{plain};
 ghost use Rattle.cbor_item.specs.View.{view};
-ghost use Rattle.cbor_reader.specs.inner.Front.{IsFrontRead, IsFrontUnread};
-ghost use Rattle.cbor_reader.specs.inner.PlainFront.{IsDueSomewhere, AnswersNextPart, IsEncodedFront};
+ghost use Rattle.cbor_reader.specs.inner.Front.{IsFrontRead};
+ghost use Rattle.cbor_strict.specs.inner.Front.{IsFrontUnread};
+ghost use Rattle.cbor_reader.specs.inner.PlainFront.{IsDueSomewhere, AnswersNextPart, AnswersParts};
+ghost use Rattle.cbor_reader.specs.inner.PlainFront.{IsEncodedFront};
 
 use crate::next_head::next_head;
 use crate::payload::no_memory;
 use crate::plain_items::PlainItems;
 use crate::plain_part::read_part;
-use crate::rules::Rules;
 use crate::slice_builder::BuiltFront;
 use cbor_events::ItemEvents;
 use cbor_head::{KeyOrder, Limits, Reason, Refusal};
@@ -33,16 +34,13 @@ pub(crate) fn read_plain_front<R: Read>(
 {
     let mut events = ItemEvents::new(limits);
     let mut items = PlainItems::new(alloc, order);
-    'parts: loop {
-        match next_part(alloc, &mut events, &mut items, reader) {
-            Ok(true) => {}
-            Ok(false) => {
-                let canonical = items.finish();
-                let size = events.taken();
-                return Ok(BuiltFront { canonical, size });
-            }
-            Err(refusal) => return Err(refusal),
+    match read_parts(alloc, &mut events, &mut items, reader) {
+        Ok(()) => {
+            let canonical = items.finish();
+            let size = events.taken();
+            Ok(BuiltFront { canonical, size })
         }
+        Err(refusal) => Err(refusal),
     }
 }
 
@@ -60,14 +58,31 @@ pub(crate) fn read_item_front<R: Read>(
 {
     let mut events = ItemEvents::new(limits);
     let mut items = PlainItems::with_tree(alloc, KeyOrder::Bytewise);
+    match read_parts(alloc, &mut events, &mut items, reader) {
+        Ok(()) => {
+            let item = items.into_item();
+            let size = events.taken();
+            Ok((item, size))
+        }
+        Err(refusal) => Err(refusal),
+    }
+}
+
+// Takes the parts of the item that are left.
+fn read_parts<R: Read>(
+    alloc: Global,
+    events: &mut ItemEvents,
+    items: &mut PlainItems,
+    reader: &mut R,
+) -> Result<(), Refusal>
+    requires { IsDueSomewhere items.old events.old }
+    ensures { AnswersParts items.old items.new events.old events.new
+        (R.remaining reader.old) (R.remaining reader.new) result }
+{
     'parts: loop {
-        match next_part(alloc, &mut events, &mut items, reader) {
+        match next_part(alloc, events, items, reader) {
             Ok(true) => {}
-            Ok(false) => {
-                let item = items.into_item();
-                let size = events.taken();
-                return Ok((item, size));
-            }
+            Ok(false) => return Ok(()),
             Err(refusal) => return Err(refusal),
         }
     }
@@ -85,7 +100,7 @@ fn next_part<R: Read>(
         (R.remaining reader.old) (R.remaining reader.new) result }
 {
     let height = events.open();
-    let event = match next_head(events, reader, Rules::Plain) {
+    let event = match next_head(events, reader) {
         Ok(event) => event,
         Err(refusal) => return Err(refusal),
     };

@@ -14,12 +14,12 @@ ghost use Rattle.cbor_reader.specs.inner.HeldKeys.{AreHeld};
 ghost use Rattle.cbor_reader.specs.inner.PlainItems.{CanTake, IsGiven, IsEnding, AnswersEnds};
 ghost use Rattle.cbor_reader.specs.inner.PlainItems.{sets, AreKeysBegun, AreKeysOpened, AnswersKey};
 
-use crate::MOST_OPEN;
 use crate::key_set::KeySet;
 use crate::plain_part::Part;
 use crate::tree_parts::{end_in_tree, give_to_tree};
 use cbor_head::{KeyOrder, Major};
 use cbor_item::{CanonBuilder, Item, TreeBuilder};
+use cbor_strict::MOST_OPEN;
 use std::alloc::{AllocError, Global};
 use std::mem;
 

@@ -6,7 +6,6 @@ ghost use Rattle.cbor_events.specs.inner.Automaton.{Frame};
 ghost use Rattle.cbor_events.specs.declared.event.Event.{Event as EventView};
 ghost use Rattle.cbor_reader.specs.inner.PlainParts.{HasCome, AnswersPart};
 
-use crate::rules::Rules;
 use crate::strings::read_string;
 use cbor_events::{Event, EventKind, ItemEvents};
 use cbor_head::{Major, Refusal};
@@ -42,13 +41,13 @@ pub(crate) fn read_part<R: Read>(
         EventKind::Negative(number) => Ok(Part::Leaf(Major::Negative, number)),
         EventKind::Simple(simple) => Ok(Part::Leaf(Major::Simple, u64::from(simple.number()))),
         EventKind::Bytes(length) => {
-            match read_string(alloc, events, reader, Rules::Plain, false, length) {
+            match read_string(alloc, events, reader, false, length) {
                 Ok(content) => Ok(Part::String(false, content)),
                 Err(refusal) => Err(refusal),
             }
         }
         EventKind::Text(length) => {
-            match read_string(alloc, events, reader, Rules::Plain, true, length) {
+            match read_string(alloc, events, reader, true, length) {
                 Ok(content) => Ok(Part::String(true, content)),
                 Err(refusal) => Err(refusal),
             }

@@ -5,15 +5,15 @@ ghost use Rattle.cbor_head.specs.Complaint.{plain, strict};
 ghost use Rattle.cbor_head.specs.Spelling.{spell, value_of};
 ghost use Rattle.cbor_head.specs.declared.reason.Reason.TheVariants as reasons;
 ghost use Rattle.cbor_item.specs.View.{view};
-ghost use Rattle.cbor_reader.specs.Readers.{IsRead, IsCanonicalFront, Loses};
+ghost use Rattle.cbor_strict.specs.Readers.{IsRead, IsCanonicalFront, Loses};
 ghost use Rattle.cbor_reader.specs.Sequence.{SequenceItemsView, IfGiven, IfRefused, is_last};
 ghost use Rattle.cbor_reader.specs.Sequence.{IsTaken, IsAtEnd, IsRefused, Given, HasGiven};
 ghost use Rattle.cbor_reader.specs.Sequence.{GivesNext};
 
-use crate::strict_reader::read_strict;
 use crate::tree_reader::read_tree;
 use cbor_head::{KeyOrder, Limits, Reason, Refusal};
 use cbor_item::Tree;
+use cbor_strict::read_strict;
 use std::alloc::Global;
 use std::io::Read;
 use std::marker::Model;

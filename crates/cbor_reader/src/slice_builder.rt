@@ -1,7 +1,7 @@
 //! The canonical bytes of the item at the front of a slice, from its events: no tree is made.
 
 ghost use Rattle.std.specs.Prelude.{◌≡◌, ◌+◌, ◌≤◌, ◌<◌, ◌∷◌, Bool, IsTrue, IfOk, IfSome, List, ℕ};
-ghost use Rattle.std.specs.Prelude.{Some, None, length};
+ghost use Rattle.std.specs.Prelude.{Some, None, length, ◌++◌, IsUtf8, true};
 ghost use Rattle.cbor_head.specs.Head.{shortest_head, IsSimple};
 ghost use Rattle.cbor_head.specs.Limits.{Bounds};
 ghost use Rattle.cbor_head.specs.declared.major.Major.TheVariants.{Simple};
@@ -9,20 +9,21 @@ ghost use Rattle.cbor_head.specs.declared.order.KeyOrder.{KeyOrder as Order};
 ghost use Rattle.cbor_events.specs.SliceView.{SliceEventsView, seen};
 ghost use Rattle.cbor_events.specs.inner.Automaton.{Frame, State, close_string, payload};
 ghost use Rattle.cbor_head.specs.declared.major.Major.{Major as MajorType};
-ghost use Rattle.cbor_item.specs.Built.{built, IsLeaf, IsContainer, TakesPart};
-ghost use Rattle.cbor_item.specs.Parts.{give, opened};
+ghost use Rattle.cbor_item.specs.Built.{built, IsLeaf, IsContainer, IsInString, TakesPart};
+ghost use Rattle.cbor_item.specs.Parts.{extended, give, opened};
 ghost use Rattle.cbor_head.specs.Complaint.{plain};
-ghost use Rattle.cbor_reader.specs.inner.Reading.{IsAt, IsPayloadDue, HasBegun, string_kind};
-ghost use Rattle.cbor_reader.specs.inner.Reading.{string_major};
+ghost use Rattle.cbor_strict.specs.inner.Reading.{IsAt, IsPayloadDue, HasBegun, string_kind};
+ghost use Rattle.cbor_strict.specs.inner.Reading.{string_major};
 ghost use Rattle.cbor_reader.specs.inner.Levels.{Level, bytes_before, IsBuilding, HasHeight};
 ghost use Rattle.cbor_reader.specs.inner.Levels.{IsEvent, HasEvent, IsFed, BuildsBegun};
-ghost use Rattle.cbor_reader.specs.inner.Levels.{TakesContent, IsBuiltFront};
+ghost use Rattle.cbor_reader.specs.inner.Levels.{TakesContent, IsBuiltFront, IsBuiltOn};
+ghost use Rattle.cbor_reader.specs.inner.Levels.{HasWhole, IsWhole};
 
 use crate::ascii::is_short_ascii;
-use crate::payload::check_text;
 use cbor_events::{SliceEvents, Token};
 use cbor_head::{KeyOrder, Limits, Major};
 use cbor_item::CanonBuilder;
+use cbor_strict::check_text;
 use std::alloc::{AllocError, Global};
 
 /// The canonical bytes of the item that a slice begins with, and how many bytes the item has.
@@ -56,6 +57,9 @@ pub(crate) fn build_front(
     let mut events = SliceEvents::new(bytes, limits);
     let mut builder = CanonBuilder::new(alloc, order);
     'events: loop {
+        if !take_wholes(&mut events, &mut builder) {
+            return None;
+        }
         let height = events.open();
         let token = events.next();
         match token {
@@ -75,6 +79,95 @@ pub(crate) fn build_front(
             return None;
         }
     }
+}
+
+// Takes what stands whole at the front, one item or head after the other, and ends what it makes
+// full. False where a string is no text, two keys of a map are the same, or memory is refused.
+#[inline(always)]
+fn take_wholes(events: &mut SliceEvents<'_>, builder: &mut CanonBuilder) -> bool
+    requires { HasHeight events.old builder.old events.old.machine.open_count }
+    ensures { IsTrue result → (b : Bounds) (o : Order) (t : List ℕ) (q : State)
+        → IsAt b (seen events.old) t q
+        → IsBuilding o b.depth t q builder.old events.old.machine.open_count
+        → IsBuiltOn b o t events.old.rest events.new builder.new }
+{
+    'wholes: loop {
+        let height = events.open();
+        let front = events.rest();
+        let Some(token) = events.next_whole() else {
+            return true;
+        };
+        let Ok(opened) = feed_whole(events, builder, token, front) else {
+            return false;
+        };
+        if !end_full(events, builder, height + opened) {
+            return false;
+        }
+    }
+}
+
+// Gives what was told whole to the builder; answers how many containers it opens. A string stood
+// at this front.
+#[inline(always)]
+fn feed_whole(
+    events: &SliceEvents<'_>,
+    builder: &mut CanonBuilder,
+    token: Token,
+    front: &[u8],
+) -> Result<usize, Stopped>
+    requires { HasWhole token events.now builder.old front.now }
+    ensures { (b : Bounds) (o : Order) (ls : List Level) (from : SliceEventsView)
+        → IsWhole b o ls token from events.now builder.old
+        → IfOk result (λ opened. (opened ≤ 1)
+        × IsFed b o (bytes_before ls) from.rest events.now builder.new (length ls + opened)) }
+{
+    let number = events.number();
+    match token {
+        Token::Unsigned => leaf(builder, Major::Unsigned, number),
+        Token::Negative => leaf(builder, Major::Negative, number),
+        Token::Simple => leaf(builder, Major::Simple, number),
+        Token::Bytes => give_string(builder, false, events.piece()),
+        Token::Text => {
+            let content = events.piece();
+            if !is_text(front, content, events.rest()) {
+                return Err(Stopped);
+            }
+            give_string(builder, true, content)
+        }
+        Token::Array => begin_container(builder, Major::Array, number),
+        Token::Map => begin_container(builder, Major::Map, number),
+        Token::Tag => begin_container(builder, Major::Tag, number),
+        _ => Err(Stopped),
+    }
+}
+
+// A whole string.
+#[inline(always)]
+fn give_string(builder: &mut CanonBuilder, text: bool, content: &[u8]) -> Result<usize, Stopped>
+    requires { TakesPart builder.old.standing }
+    ensures { IfOk result (λ opened. (opened ≡ 0) × (builder.new ≡ built builder.old.order
+        (give (shortest_head (string_major text) (length content.now) ++ content.now)
+        builder.old.standing))) }
+{
+    builder.string(string_type(text), content)?;
+    Ok(0)
+}
+
+// Whether a string is UTF-8. It stands before the rest, at the end of the front.
+#[inline(always)]
+fn is_text(front: &[u8], content: &[u8], rest: &[u8]) -> bool
+    requires { (head : List ℕ) × (front.now ≡ head ++ (content.now ++ rest.now)) }
+    ensures { IsTrue result → IsUtf8 content.now }
+{
+    let behind = content.len() + rest.len();
+    let from = front.len() - behind;
+    if is_short_ascii(&front[from..], content.len()) {
+        return true;
+    }
+    let Ok(()) = check_text(content) else {
+        return false;
+    };
+    true
 }
 
 // Ends the containers that the last event made full, the innermost first. False where two keys of
@@ -97,8 +190,9 @@ fn end_full(events: &SliceEvents<'_>, builder: &mut CanonBuilder, height: usize)
     true
 }
 
-// Gives an event to the builder, a string whole; answers how many containers it opens.
-#[inline(always)]
+// Gives an event that wasn't told whole to the builder, with the payload of a string; answers how
+// many containers it opens.
+#[inline(never)]
 fn feed(
     events: &mut SliceEvents<'_>,
     builder: &mut CanonBuilder,
@@ -112,16 +206,10 @@ fn feed(
 {
     let number = events.number();
     match token {
-        Token::Unsigned => leaf(builder, Major::Unsigned, number),
-        Token::Negative => leaf(builder, Major::Negative, number),
-        Token::Simple => leaf(builder, Major::Simple, number),
         Token::Bytes => build_string(events, builder, false, number),
         Token::Text => build_string(events, builder, true, number),
         Token::IndefiniteBytes => build_chunks(events, builder, false),
         Token::IndefiniteText => build_chunks(events, builder, true),
-        Token::Array => begin_container(builder, Major::Array, number),
-        Token::Map => begin_container(builder, Major::Map, number),
-        Token::Tag => begin_container(builder, Major::Tag, number),
         Token::IndefiniteArray => begin_container(builder, Major::Array, 0),
         Token::IndefiniteMap => begin_container(builder, Major::Map, 0),
         Token::Break => Ok(0),
@@ -194,6 +282,13 @@ fn build_chunks(
 {
     builder.begin_string(string_type(text))?;
     'chunks: loop {
+        let front = events.rest();
+        if events.next_chunk() {
+            if !give_chunk(events, builder, text, front) {
+                return Err(Stopped);
+            }
+            continue;
+        }
         match events.next() {
             Token::Chunk => {
                 let count = events.number();
@@ -207,6 +302,43 @@ fn build_chunks(
             _ => return Err(Stopped),
         }
     }
+}
+
+// Gives the chunk that was told last to the builder. It stood at this front. False where it is of
+// a text and no text, or memory is refused.
+#[inline(always)]
+fn give_chunk(
+    events: &SliceEvents<'_>,
+    builder: &mut CanonBuilder,
+    text: bool,
+    front: &[u8],
+) -> bool
+    requires string { IsInString builder.old.standing }
+    requires front { (head : List ℕ) × (front.now ≡ head ++ (events.now.piece ++ events.now.rest)) }
+    ensures text { IsTrue result → text ≡ true → IsUtf8 events.now.piece }
+    ensures given { IsTrue result → builder.new
+        ≡ built builder.old.order (extended events.now.piece builder.old.standing) }
+{
+    let content = events.piece();
+    if !is_content(text, front, content, events.rest()) {
+        return false;
+    }
+    let Ok(()) = builder.bytes(content) else {
+        return false;
+    };
+    true
+}
+
+// Whether a string of this type is UTF-8 where it is to be.
+#[inline(always)]
+fn is_content(text: bool, front: &[u8], content: &[u8], rest: &[u8]) -> bool
+    requires { (head : List ℕ) × (front.now ≡ head ++ (content.now ++ rest.now)) }
+    ensures { IsTrue result → text ≡ true → IsUtf8 content.now }
+{
+    if !text {
+        return true;
+    }
+    is_text(front, content, rest)
 }
 
 // A payload of so many bytes, whole, which is UTF-8 where it is of a text.
@@ -238,7 +370,7 @@ fn take_payload<'a>(
     if is_short_ascii(front, content.len()) {
         return Ok(content);
     }
-    match check_text(content, 0) {
+    match check_text(content) {
         Ok(()) => Ok(content),
         Err(_) => Err(Stopped),
     }

@@ -1,16 +1,15 @@
 //! Strings, of one piece or of chunks.
 
 ghost use Rattle.std.specs.Prelude.{◌≡◌, ℕ, List, true, IsUtf8, MatchResult, None};
+ghost use Rattle.cbor_head.specs.Complaint.{plain};
 ghost use Rattle.cbor_head.specs.Limits.{Bounds};
 ghost use Rattle.cbor_events.specs.inner.Automaton.{Frame};
 ghost use Rattle.cbor_head.specs.declared.width.Width.{Width};
-ghost use Rattle.cbor_reader.specs.inner.Reading.{HasBegun, IsBegun, ReadsItem};
-ghost use Rattle.cbor_reader.specs.inner.Reading.{StopsItem, string_kind, string_value};
-ghost use Rattle.cbor_reader.specs.inner.Rules.{rules_of};
+ghost use Rattle.cbor_strict.specs.inner.Reading.{HasBegun, IsBegun, ReadsItem};
+ghost use Rattle.cbor_strict.specs.inner.Reading.{StopsItem, string_kind, string_value};
 
 use crate::next_head::next_head;
 use crate::payload::read_chunk;
-use crate::rules::Rules;
 use cbor_events::{EventKind, ItemEvents};
 use cbor_head::Refusal;
 use std::alloc::Global;
@@ -21,18 +20,17 @@ pub(crate) fn read_string<R: Read>(
     alloc: Global,
     events: &mut ItemEvents,
     reader: &mut R,
-    rules: Rules,
     text: bool,
     length: Option<u64>,
 ) -> Result<Vec<u8>, Refusal>
-    requires { HasBegun (rules_of rules) events.old (string_kind text length) }
+    requires { HasBegun plain events.old (string_kind text length) }
     ensures { (b : Bounds) (fs : List Frame) (t x : List ℕ) (w : Width)
-        → IsBegun (rules_of rules) b fs t x events.old w (string_kind text length)
+        → IsBegun plain b fs t x events.old w (string_kind text length)
         → MatchResult result
-        (λ v. ReadsItem (rules_of rules) b fs t x
+        (λ v. ReadsItem plain b fs t x
         (R.remaining reader.old) (R.remaining reader.new) events.new (string_value text v.items)
         × (text ≡ true → IsUtf8 v.items))
-        (λ f. StopsItem (rules_of rules) b fs t x
+        (λ f. StopsItem plain b fs t x
         (R.remaining reader.old) (R.remaining reader.new) f) }
 {
     match length {
@@ -43,7 +41,7 @@ pub(crate) fn read_string<R: Read>(
                 Err(refusal) => Err(refusal),
             }
         }
-        None => read_chunks(alloc, events, reader, rules, text),
+        None => read_chunks(alloc, events, reader, text),
     }
 }
 
@@ -52,22 +50,21 @@ fn read_chunks<R: Read>(
     alloc: Global,
     events: &mut ItemEvents,
     reader: &mut R,
-    rules: Rules,
     text: bool,
 ) -> Result<Vec<u8>, Refusal>
-    requires { HasBegun (rules_of rules) events.old (string_kind text None) }
+    requires { HasBegun plain events.old (string_kind text None) }
     ensures { (b : Bounds) (fs : List Frame) (t x : List ℕ) (w : Width)
-        → IsBegun (rules_of rules) b fs t x events.old w (string_kind text None)
+        → IsBegun plain b fs t x events.old w (string_kind text None)
         → MatchResult result
-        (λ v. ReadsItem (rules_of rules) b fs t x
+        (λ v. ReadsItem plain b fs t x
         (R.remaining reader.old) (R.remaining reader.new) events.new (string_value text v.items)
         × (text ≡ true → IsUtf8 v.items))
-        (λ f. StopsItem (rules_of rules) b fs t x
+        (λ f. StopsItem plain b fs t x
         (R.remaining reader.old) (R.remaining reader.new) f) }
 {
     let mut content = Vec::new(alloc);
     'chunks: loop {
-        match next_head(events, reader, rules) {
+        match next_head(events, reader) {
             Ok(event) => match event.kind {
                 EventKind::Chunk(count) => match read_chunk(
                     events,

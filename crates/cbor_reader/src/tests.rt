@@ -9,8 +9,6 @@ mod keys;
 mod promises;
 mod sequence;
 mod sizes;
-mod slice;
-mod strict_events;
 mod thresholds;
 mod towers;
 mod whole;

@@ -20,7 +20,7 @@ replaces_kept (Some f) (Some g) (Some e) path bytes h r = (r.0, λ other apart. 
 
 pub put_kept : (path : List ℕ) (a b c : Option Files) (before after : Option (List ℕ)) (text : List ℕ) → KeepsFiles a b → IsPut path b c before after text → IsPut path a c before after text
 put_kept path a b c before after text h (printed s p k) = printed s p (keeps_keeps a b c h k)
-put_kept path a b c before after text h (written s r) = written s (replaces_kept a b c path text h r)
+put_kept path a b c before after text h (written s r o) = written s (replaces_kept a b c path text h r) o
 
 -- what a later state of the same files holds, an earlier one did
 pub held_before : (a b : Option Files) (path bytes : List ℕ) → KeepsFiles a b → Holds b path bytes → Holds a path bytes

@@ -1,6 +1,6 @@
 -- What `canon` writes, and why it writes nothing.
-use Rattle.std.specs.Prelude.{ℕ, ◌≡◌, ◌++◌, true, false, List, Option, codes}
-use Rattle.std.specs.Io.KnownBytes.{Appends}
+use Rattle.std.specs.Prelude.{ℕ, ◌≡◌, ◌++◌, true, false, List, Option, Some, codes}
+use Rattle.std.specs.Io.KnownBytes.{Appends, Keeps}
 use Rattle.hex.specs.Hex.{encode_lower}
 use Rattle.cbor_head.specs.declared.order.KeyOrder.{KeyOrder}
 use Rattle.cbor_reader.specs.Canonicalise.{IsCanonicalOf, IsRefusal}
@@ -30,10 +30,10 @@ IsNoText d n o input (faults.Refused f) = IsRefusal d n o input f
 IsNoText d n o input faults.Memory = Unit {0}
 IsNoText d n o input _ = ⊥
 
--- the text is where it belongs: standard output took it, and no file was changed; or the file holds it, and no other was changed
+-- the text is where it belongs: standard output took it, and no file was changed; or the file holds it, and no other was changed, and standard output took nothing
 pub data IsPut (path : List ℕ) (old new : Option Files) (before after : Option (List ℕ)) (text : List ℕ) : Type 0 where
   printed : is_stream path ≡ true → Appends before after text → KeepsFiles old new → IsPut path old new before after text
-  written : is_stream path ≡ false → ReplacesFile old new path text → IsPut path old new before after text
+  written : is_stream path ≡ false → ReplacesFile old new path text → Keeps before after → IsPut path old new before after text
 
 -- why it is not: standard output took not all of it, or the file was not written; or memory was refused
 abbrev pub IsNotPut : List ℕ → Fault → Type 0
@@ -57,3 +57,11 @@ IsNotCanonised o options source output held (faults.Refused f) =
 IsNotCanonised o options source output held faults.CannotPrint = IsNotPut output.path.now faults.CannotPrint
 IsNotCanonised o options source output held (faults.CannotWrite named) = IsNotPut output.path.now (faults.CannotWrite named)
 IsNotCanonised o options source output held fault = IsNoInput held source options.hex fault
+
+-- the first bytes are of a file that is one valid item, and the second of one that holds its canonical bytes
+pub record HoldsCanonical (d n : ℕ) (o : KeyOrder) (before after : Option (List ℕ)) : Type 0 where
+  pub input : List ℕ
+  pub canonical : List ℕ
+  pub read : before ≡ Some input
+  pub is : IsCanonicalOf d n o input canonical
+  pub written : after ≡ Some canonical

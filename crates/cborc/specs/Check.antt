@@ -5,7 +5,7 @@ use Rattle.cbor_head.specs.Complaint.{Rules, plain, strict}
 use Rattle.cbor_head.specs.Verdict.{refusal}
 use Rattle.cbor_head.specs.declared.reason.Reason.TheVariants.{Trailing}
 use Rattle.cbor_head.specs.declared.reason.Refusal.{Refusal}
-use Rattle.cbor_reader.specs.Readers.{IsRead, IsUnread}
+use Rattle.cbor_strict.specs.Readers.{IsRead, IsUnread}
 use Rattle.cborc.specs.Folder.{Files}
 use Rattle.cborc.specs.Input.{IsInput, IsNoInput}
 use Rattle.cborc.specs.declared.command_line.Accepted.{Accepted}

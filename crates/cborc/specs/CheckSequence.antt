@@ -6,7 +6,7 @@ use Rattle.cbor_head.specs.Limits.{Bounds}
 use Rattle.cbor_head.specs.Spelling.{Spelling}
 use Rattle.cbor_head.specs.declared.reason.Reason.TheVariants.{Read, Memory}
 use Rattle.cbor_head.specs.declared.reason.Refusal.{Refusal}
-use Rattle.cbor_reader.specs.Readers.{IsUnread}
+use Rattle.cbor_strict.specs.Readers.{IsUnread}
 use Rattle.cbor_reader.specs.Sequence.{sequence_bytes, StartsWithItems, EndsBefore, Given, AreGivenBy, HasGiven}
 use Rattle.cborc.specs.Folder.{Files}
 use Rattle.cborc.specs.Input.{IsInput, IsNoInput}

@@ -18,6 +18,7 @@ use Rattle.cborc.specs.declared.command_line.Options.{Options}
 use Rattle.cborc.specs.declared.command_line.Output.{Output}
 use Rattle.cborc.specs.declared.command_line.Request.{Request}
 use Rattle.cborc.specs.declared.command_line.Request.TheVariants.{Check, CheckSequence, Canon, Compare, Show, Events}
+use Rattle.cborc.specs.declared.command_line.Task.{Task}
 
 -- the order of keys that a word names
 abbrev pub order_named : Text → Option KeyOrder
@@ -108,3 +109,9 @@ HasOrder (name, rows) = (name ≡ codes "check") ⊎ (name ≡ codes "canon") �
 -- all that it asks for
 abbrev pub IsComplete : Text × List Row → Type 0
 IsComplete (name, rows) = HasFiles (name, rows) × HasOrder (name, rows) × HasLimits rows
+
+-- A subcommand, of this name and given these, asks for this task. None reads standard input twice.
+pub record AsksForTask (given : Text × List Row) (task : Task) : Type 0 where
+  pub request : AsksFor given task.request
+  pub manner : IsMannerOf given.1 task.manner
+  pub once : reads_stream_twice task.request ≡ false

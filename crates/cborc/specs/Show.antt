@@ -5,7 +5,7 @@ use Rattle.cbor_head.specs.Complaint.{plain}
 use Rattle.cbor_head.specs.Value.{Value}
 use Rattle.cbor_item.specs.View.{view}
 use Rattle.cbor_item.specs.declared.item.Item.{Item}
-use Rattle.cbor_reader.specs.Readers.{IsReadAs}
+use Rattle.cbor_strict.specs.Readers.{IsReadAs}
 use Rattle.cbor_diag.specs.Text.{text}
 use Rattle.cbor_diag.specs.IndentedText.{indented}
 use Rattle.cborc.specs.Check.{IsNotWhole}

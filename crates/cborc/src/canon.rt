@@ -1,6 +1,6 @@
 //! The subcommand `canon`: the canonical bytes of an item, from file to file.
 
-ghost use Rattle.std.specs.Prelude.{◌≡◌, OnOk, OnErr, IfOk, IfErr};
+ghost use Rattle.std.specs.Prelude.{◌≡◌, ◌≢◌, OnOk, OnErr, IfOk, IfErr};
 ghost use Rattle.cborc.specs.Canon.{in_form, IsCanonicalText, IsNoText, IsPut, IsNotPut, IsCanonised, IsNotCanonised};
 ghost use Rattle.cborc.specs.Folder.{KeepsFiles};
 
@@ -27,8 +27,10 @@ pub fn canon<'a, F: Folder, O: Write>(
     ensures written { OnOk result (IsCanonised order options source.now output.entry
         (F.held files.old) (F.held files.new) (O.contents out.old) (O.contents out.new)) }
     ensures untouched { OnErr result (KeepsFiles (F.held files.old) (F.held files.new)) }
+    ensures same { F.behind files.new ≡ F.behind files.old }
     ensures fault { IfErr result
         (IsNotCanonised order options source.now output.entry (F.held files.old)) }
+    ensures silent { IfErr result (λ fault. fault ≢ Fault.CannotPrint → out.new ≡ out.old) }
 {
     let limits = options.limits;
     let Output { path, form } = output;
@@ -78,7 +80,9 @@ fn put<'a, F: Folder, O: Write>(
     ensures put { OnOk result (IsPut path.now (F.held files.old) (F.held files.new)
         (O.contents out.old) (O.contents out.new) text.now) }
     ensures untouched { OnErr result (KeepsFiles (F.held files.old) (F.held files.new)) }
+    ensures same { F.behind files.new ≡ F.behind files.old }
     ensures fault { IfErr result (IsNotPut path.now) }
+    ensures silent { IfErr result (λ fault. fault ≢ Fault.CannotPrint → out.new ≡ out.old) }
 {
     if is_stream(path) {
         match out.write_all(text) {

@@ -1,6 +1,6 @@
 //! The subcommand `check`: whether a file is one item.
 
-ghost use Rattle.std.specs.Prelude.{◌≡◌, OnOk, IfOk, IfErr};
+ghost use Rattle.std.specs.Prelude.{◌≡◌, ◌≢◌, OnOk, IfOk, IfErr};
 ghost use Rattle.std.specs.Io.KnownBytes.{Appends};
 ghost use Rattle.cborc.specs.Check.{rules_of, accepted_bytes, IsWhole, IsNotWhole, IsChecked, IsNotChecked};
 ghost use Rattle.cborc.specs.Folder.{KeepsFiles};
@@ -27,7 +27,9 @@ pub fn check<'a, F: Folder, O: Write>(
         (F.held files.old) (O.contents out.old) (O.contents out.new)) }
     ensures fault { IfErr result
         (IsNotChecked (rules_of accepted) options source.now (F.held files.old)) }
+    ensures silent { IfErr result (λ fault. fault ≢ Fault.CannotPrint → out.new ≡ out.old) }
     ensures keeps { KeepsFiles (F.held files.old) (F.held files.new) }
+    ensures same { F.behind files.new ≡ F.behind files.old }
 {
     let limits = options.limits;
     let bytes = input::read_item(alloc, files, source, options)?;

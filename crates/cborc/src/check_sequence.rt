@@ -1,6 +1,6 @@
 //! `check --seq`: whether a file is a sequence of items (RFC 8742).
 
-ghost use Rattle.std.specs.Prelude.{◌≡◌, ◌+◌, ◌^◌, ◌<◌, ℕ, List, length, OnOk, IfOk, IfErr, None, true, false};
+ghost use Rattle.std.specs.Prelude.{◌≡◌, ◌≢◌, ◌+◌, ◌^◌, ◌<◌, ℕ, List, length, OnOk, IfOk, IfErr, None, true, false};
 ghost use Rattle.std.specs.Io.KnownBytes.{Appends};
 ghost use Rattle.cbor_reader.specs.Sequence.{IfGiven, IfRefused, is_last, IsAtEnd, IsRefused};
 ghost use Rattle.cborc.specs.Check.{rules_of};
@@ -30,7 +30,9 @@ pub fn check_sequence<'a, F: Folder, O: Write>(
         (F.held files.old) (O.contents out.old) (O.contents out.new)) }
     ensures fault { IfErr result
         (IsSequenceNotChecked (rules_of accepted) options source.now (F.held files.old)) }
+    ensures silent { IfErr result (λ fault. fault ≢ Fault.CannotPrint → out.new ≡ out.old) }
     ensures keeps { KeepsFiles (F.held files.old) (F.held files.new) }
+    ensures same { F.behind files.new ≡ F.behind files.old }
 {
     let limits = options.limits;
     let bytes = input::read_all(alloc, files, source, options)?;

@@ -1,8 +1,8 @@
 //! The words of the command line, and what they ask for.
 
-ghost use Rattle.std.specs.Prelude.{◌≡◌, codes, IfSome, IsSome};
-ghost use Rattle.clap.specs.Words.{first_of, found_of, rows_of, subcommand_rows_of};
-ghost use Rattle.cborc.specs.CommandLine.{order_named, AsksFor, HasLimits, reads_stream_twice, IsAcceptedOf, IsComplete, IsLayoutOf, IsMannerOf, IsOptionsOf, IsOutputOf};
+ghost use Rattle.std.specs.Prelude.{◌≡◌, List, codes, IfOk, IfSome, IsSome, IsSomeAnd};
+ghost use Rattle.clap.specs.Words.{Row, Text, first_of, found_of, rows_of, subcommand_rows_of};
+ghost use Rattle.cborc.specs.CommandLine.{order_named, AsksFor, AsksForTask, HasLimits, reads_stream_twice, IsAcceptedOf, IsComplete, IsLayoutOf, IsMannerOf, IsOptionsOf, IsOutputOf};
 
 use crate::folder::is_stream;
 use crate::grammar::command;
@@ -137,7 +137,9 @@ pub struct Options {
 
 /// What the words ask for, the program's name first. The error is a fault in the words, a request
 /// for help, or want of memory; the error's kind says which.
-pub fn parse<'a>(alloc: Global, words: &'a [String]) -> Result<Task<'a>, Error> {
+pub fn parse<'a>(alloc: Global, words: &'a [String]) -> Result<Task<'a>, Error>
+    ensures { IfOk result (λ task. (given : Text × List Row) × AsksForTask given task) }
+{
     let mut command = command(alloc)?;
     let matches = command.try_get_matches_from_mut(words)?;
     let Some(task) = task_of(&matches) else {
@@ -162,7 +164,7 @@ fn reads_stream_twice(request: &Request<'_>) -> bool
 }
 
 fn task_of<'a>(matches: &ArgMatches<'a>) -> Option<Task<'a>>
-    ensures value { IfSome result (λ task. IfSome (subcommand_rows_of matches.now)
+    ensures value { IfSome result (λ task. IsSomeAnd (subcommand_rows_of matches.now)
         (λ given. AsksFor given task.request × IsMannerOf given.1 task.manner)) }
     ensures some { IfSome (subcommand_rows_of matches.now)
         (λ given. IsComplete given → IsSome result) }
@@ -175,7 +177,7 @@ fn task_of<'a>(matches: &ArgMatches<'a>) -> Option<Task<'a>>
 }
 
 fn manner_asked(matches: &ArgMatches<'_>) -> Option<Manner>
-    ensures value { IfSome result (λ manner. IfSome (subcommand_rows_of matches.now)
+    ensures value { IfSome result (λ manner. IsSomeAnd (subcommand_rows_of matches.now)
         (λ given. IsMannerOf given.1 manner)) }
     ensures some { IsSome (subcommand_rows_of matches.now) → IsSome result }
 {

@@ -1,6 +1,6 @@
 //! The subcommand `compare`: whether the items in two files have the same value.
 
-ghost use Rattle.std.specs.Prelude.{IfOk, IfErr};
+ghost use Rattle.std.specs.Prelude.{◌≡◌, ◌≢◌, IfOk, IfErr};
 ghost use Rattle.cborc.specs.Compare.{IsTold, IsUntold, AreCompared, AreNotCompared};
 ghost use Rattle.cborc.specs.Folder.{KeepsFiles};
 
@@ -28,7 +28,9 @@ pub fn compare<'a, F: Folder, O: Write>(
         (F.held files.old) (O.contents out.old) (O.contents out.new)) }
     ensures fault { IfErr result
         (AreNotCompared options.now left.now right.now (F.held files.old)) }
+    ensures silent { IfErr result (λ fault. fault ≢ Fault.CannotPrint → out.new ≡ out.old) }
     ensures keeps { KeepsFiles (F.held files.old) (F.held files.new) }
+    ensures same { F.behind files.new ≡ F.behind files.old }
 {
     let first = input::read_item(alloc, files, left, *options)?;
     let second = input::read_item(alloc, files, right, *options)?;
@@ -52,6 +54,7 @@ fn tell<'a, O: Write>(
     ensures told { IfOk result (IsTold limits.depth limits.bytes left.now right.now
         (O.contents out.old) (O.contents out.new)) }
     ensures fault { IfErr result (IsUntold limits.depth limits.bytes left.now right.now) }
+    ensures silent { IfErr result (λ fault. fault ≢ Fault.CannotPrint → out.new ≡ out.old) }
 {
     let (line, status) = if same_meaning(alloc, left, right, limits)? {
         (b"same\n".as_slice(), Status::Accepted)

@@ -10,7 +10,8 @@ use std::io::{self, ErrorKind, Input, Read, Write};
 use std::os::unix::fs::{MetadataExt, OpenOptionsExt};
 use std::rt::Files;
 
-/// The files that a runtime reaches, and its standard input.
+/// The files that a runtime reaches, and its standard input. Other programs change them too, so that
+/// nothing can be told of what they hold: its `held` is left out.
 #[derive(Drop)]
 pub struct Disk<'a, R: Files + Input + AllocGlobal> {
     rt: &'a R,

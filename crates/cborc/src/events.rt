@@ -1,6 +1,6 @@
 //! The subcommand `events`: the listing of an item's events.
 
-ghost use Rattle.std.specs.Prelude.{length, OnOk, IfErr};
+ghost use Rattle.std.specs.Prelude.{◌≡◌, length, OnOk, IfErr};
 ghost use Rattle.cbor_diag.specs.Listing.{IsListed};
 ghost use Rattle.cborc.specs.Events.{IsNotListed, IsListedOf, IsNotListedOf};
 ghost use Rattle.cborc.specs.Folder.{KeepsFiles};
@@ -28,6 +28,7 @@ pub fn events<'a, F: Folder, O: Write>(
     ensures fault { IfErr result (IsNotListedOf options source.now
         (F.held files.old) (O.contents out.old) (O.contents out.new)) }
     ensures keeps { KeepsFiles (F.held files.old) (F.held files.new) }
+    ensures same { F.behind files.new ≡ F.behind files.old }
 {
     let limits = options.limits;
     let bytes = input::read_item(alloc, files, source, options)?;

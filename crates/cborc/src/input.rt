@@ -1,6 +1,6 @@
 //! The bytes of an input.
 
-ghost use Rattle.std.specs.Prelude.{◌+◌, IfOk, IfErr, true};
+ghost use Rattle.std.specs.Prelude.{◌≡◌, ◌+◌, IfOk, IfErr, true};
 ghost use Rattle.cborc.specs.Folder.{KeepsFiles};
 ghost use Rattle.cborc.specs.Input.{IsInput, StartsInput, IsNoInput};
 
@@ -22,6 +22,7 @@ pub fn read_item<'a, F: Folder>(
         (options.limits.bytes + 1) v.items) }
     ensures fault { IfErr result (IsNoInput (F.held files.old) path.now options.hex) }
     ensures keeps { KeepsFiles (F.held files.old) (F.held files.new) }
+    ensures same { F.behind files.new ≡ F.behind files.old }
 {
     let most = options.limits.bytes() + 1;
     if options.hex {
@@ -46,6 +47,7 @@ pub fn read_all<'a, F: Folder>(
     ensures whole { IfOk result (λ v. IsInput (F.held files.old) path.now options.hex v.items) }
     ensures fault { IfErr result (IsNoInput (F.held files.old) path.now options.hex) }
     ensures keeps { KeepsFiles (F.held files.old) (F.held files.new) }
+    ensures same { F.behind files.new ≡ F.behind files.old }
 {
     if options.hex {
         read_digits(alloc, files, path)
@@ -66,6 +68,7 @@ fn read_digits<'a, F: Folder>(
     ensures whole { IfOk result (λ v. IsInput (F.held files.old) path.now true v.items) }
     ensures fault { IfErr result (IsNoInput (F.held files.old) path.now true) }
     ensures keeps { KeepsFiles (F.held files.old) (F.held files.new) }
+    ensures same { F.behind files.new ≡ F.behind files.old }
 {
     match files.read(alloc, path) {
         Ok(text) => match decode_hex(alloc, text) {

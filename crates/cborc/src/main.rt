@@ -9,6 +9,7 @@
 #![tactic(auto)]
 
 mod canon;
+mod canon_in_memory;
 mod check;
 mod check_sequence;
 mod command_line;
@@ -17,6 +18,7 @@ mod disk;
 mod events;
 mod explanation;
 mod fault;
+mod files_in_memory;
 mod folder;
 mod grammar;
 mod hex_text;

@@ -1,10 +1,12 @@
 //! The program, over any folder and any two outputs.
 
 ghost use Rattle.std.specs.Prelude.{◌≡◌, ◌≢◌, ◌≤◌, ◌⊎◌, Ok, Err, OnErr, IfOk, IfErr};
+ghost use Rattle.std.specs.Io.KnownBytes.{Keeps};
 ghost use Rattle.clap.specs.Words.{kind_of};
 ghost use Rattle.cborc.specs.Answer.{IsDone, IsNotDone};
 ghost use Rattle.cborc.specs.Fault.{end_status, status_number};
 ghost use Rattle.cborc.specs.Folder.{KeepsFiles};
+ghost use Rattle.cborc.specs.Run.{IsSilent, IsAnswered, IsAnsweredQuietly, IsToldBy, IsWordsEnd, IsRun};
 
 use crate::canon::canon;
 use crate::check::check;
@@ -15,7 +17,7 @@ use crate::events::events;
 use crate::explanation::explain;
 use crate::fault::Fault;
 use crate::folder::Folder;
-use crate::memory::Memory;
+use crate::memory::{Kept, Memory};
 use crate::show::show;
 use crate::status::Status;
 use clap::error::ErrorKind;
@@ -33,7 +35,12 @@ pub fn run<F: Folder, O: Write, E: Write>(
     out: &mut O,
     err: &mut E,
 ) -> u8
-    ensures { result ≤ 3 }
+    ensures range { result ≤ 3 }
+    ensures leaves { IsRun (F.held files.old) (F.held files.new)
+        (O.contents out.old) (O.contents out.new) result }
+    ensures refused { result ≡ 1 → KeepsFiles (F.held files.old) (F.held files.new) }
+    ensures unchanged { result ≡ 2 → files.new ≡ files.old }
+    ensures unwritten { result ≡ 2 → Keeps (O.contents out.old) (O.contents out.new) }
 {
     match command_line::parse(alloc, words.as_slice()) {
         Ok(task) => perform(alloc, &task, files, out, err),
@@ -52,49 +59,80 @@ fn perform<F: Folder, O: Write, E: Write>(
     out: &mut O,
     err: &mut E,
 ) -> u8
-    ensures { result ≤ 3 }
+    ensures { IsToldBy task.now.manner task.now.request (F.held files.old)
+        (F.held files.new) (O.contents out.old) (O.contents out.new) result }
 {
     match task.manner {
         Manner::Plain => {
             let ended = answer(alloc, &task.request, files, out);
             end(flushed(ended, out), err)
         }
-        Manner::Quiet => {
-            let ended = answer_quietly(alloc, &task.request, files, out);
-            end(ended, &mut io::sink())
-        }
-        Manner::Explained => {
-            let mut memory = Memory::new(files);
-            let ended = answer(alloc, &task.request, &mut memory, out);
-            let ended = flushed(ended, out);
-            let status = end(ended, err);
-            if let Err(fault) = ended {
-                let _ = explain(alloc, &task.request, &fault, &memory, err);
-            }
-            status
-        }
+        Manner::Quiet => answer_quietly(alloc, &task.request, files, out),
+        Manner::Explained => answer_explained(alloc, &task.request, files, out, err),
     }
 }
 
-// The same with nothing told: standard output takes canonical bytes alone.
-fn answer_quietly<'a, F: Folder, O: Write>(
+// The same with an explanation, and its status.
+fn answer_explained<F: Folder, O: Write, E: Write>(
     alloc: Global,
-    request: &Request<'a>,
+    request: &Request<'_>,
     files: &mut F,
     out: &mut O,
-) -> Result<Status, Fault<'a>> {
+    err: &mut E,
+) -> u8
+    ensures { IsAnswered request.now (F.held files.old) (F.held files.new)
+        (O.contents out.old) (O.contents out.new) result }
+{
+    let mut kept = Kept::new();
+    let mut memory = Memory::new(files, &mut kept);
+    let ended = answer(alloc, request, &mut memory, out);
+    let sent = flushed(ended, out);
+    end_explained(alloc, request, sent, &memory, err)
+}
+
+// Writes the line of a fault and its explanation, and answers the status.
+fn end_explained<F: Folder, E: Write>(
+    alloc: Global,
+    request: &Request<'_>,
+    ended: Result<Status, Fault<'_>>,
+    memory: &Memory<'_, F>,
+    err: &mut E,
+) -> u8
+    ensures { result ≡ status_number (end_status ended.entry) }
+{
+    let status = end(ended, err);
+    if let Err(fault) = ended {
+        let _ = explain(alloc, request, &fault, memory, err);
+    }
+    status
+}
+
+// The same with nothing told, and its status: standard output takes canonical bytes alone.
+fn answer_quietly<F: Folder, O: Write>(
+    alloc: Global,
+    request: &Request<'_>,
+    files: &mut F,
+    out: &mut O,
+) -> u8
+    ensures { IsAnsweredQuietly request.now (F.held files.old) (F.held files.new)
+        (O.contents out.old) (O.contents out.new) result }
+{
     match request {
         Request::Canon { .. } => {
             let ended = answer(alloc, request, files, out);
-            flushed(ended, out)
+            end(flushed(ended, out), &mut io::sink())
         }
-        _ => answer(alloc, request, files, &mut io::sink()),
+        _ => {
+            let ended = answer(alloc, request, files, &mut io::sink());
+            end(ended, &mut io::sink())
+        }
     }
 }
 
 // The end, once all that was written to `out` is sent on.
 fn flushed<'a, O: Write>(ended: Result<Status, Fault<'a>>, out: &mut O) -> Result<Status, Fault<'a>>
-    ensures { (result ≡ ended.entry) ⊎ (result ≡ Err Fault.CannotPrint) }
+    ensures end { (result ≡ ended.entry) ⊎ (result ≡ Err Fault.CannotPrint) }
+    ensures keeps { Keeps (O.contents out.old) (O.contents out.new) }
 {
     match out.flush() {
         Ok(()) => ended,
@@ -127,7 +165,10 @@ fn answer<'a, F: Folder, O: Write>(
         (O.contents out.old) (O.contents out.new)) }
     ensures fault { IfErr result (IsNotDone request.now (F.held files.old)
         (O.contents out.old) (O.contents out.new)) }
+    ensures silent { IfErr result (λ fault. IsSilent request.now fault
+        (O.contents out.old) (O.contents out.new)) }
     ensures untouched { OnErr result (KeepsFiles (F.held files.old) (F.held files.new)) }
+    ensures same { F.behind files.new ≡ F.behind files.old }
 {
     match request {
         Request::Check {
@@ -187,6 +228,7 @@ fn explain_words<'a, O: Write, E: Write>(
     ensures misused { kind_of error.now ≢ ErrorKind.OutOfMemory
         → kind_of error.now ≢ ErrorKind.DisplayHelp → kind_of error.now ≢ ErrorKind.DisplayVersion
         → result ≡ Ok Status.Misused }
+    ensures ends { IsWordsEnd result (O.contents out.old) (O.contents out.new) }
 {
     if error.kind() == ErrorKind::OutOfMemory {
         return Err(Fault::Memory);

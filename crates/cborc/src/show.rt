@@ -1,6 +1,6 @@
 //! The subcommand `show`: the diagnostic text of an item.
 
-ghost use Rattle.std.specs.Prelude.{◌≡◌, OnOk, IfOk, IfErr};
+ghost use Rattle.std.specs.Prelude.{◌≡◌, ◌≢◌, OnOk, IfOk, IfErr};
 ghost use Rattle.cbor_head.specs.Complaint.{plain};
 ghost use Rattle.cborc.specs.Check.{IsNotWhole};
 ghost use Rattle.cborc.specs.Show.{IsTreeOf, IsShown, IsShownOf, IsNotShown};
@@ -29,7 +29,9 @@ pub fn show<'a, F: Folder, O: Write>(
     ensures shown { OnOk result (IsShownOf layout options source.now
         (F.held files.old) (O.contents out.old) (O.contents out.new)) }
     ensures fault { IfErr result (IsNotShown options source.now (F.held files.old)) }
+    ensures silent { IfErr result (λ fault. fault ≢ Fault.CannotPrint → out.new ≡ out.old) }
     ensures keeps { KeepsFiles (F.held files.old) (F.held files.new) }
+    ensures same { F.behind files.new ≡ F.behind files.old }
 {
     let limits = options.limits;
     let bytes = input::read_item(alloc, files, source, options)?;

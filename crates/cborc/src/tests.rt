@@ -9,6 +9,7 @@ mod events;
 mod explained;
 mod failures;
 mod hex_text;
+mod in_memory;
 mod items;
 mod quiet;
 mod refusals;

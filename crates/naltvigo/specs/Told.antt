@@ -5,7 +5,7 @@ use Rattle.cbor_head.specs.declared.order.KeyOrder.{KeyOrder}
 use Rattle.cbor_head.specs.declared.reason.Reason.TheVariants.{Memory}
 use Rattle.cbor_head.specs.declared.reason.Refusal.{Refusal}
 use Rattle.cbor_reader.specs.Canonicalise.{IsRefusal}
-use Rattle.cbor_reader.specs.Refusals.{IsCanonicaliserReason}
+use Rattle.cbor_reader.specs.Canonicalise.{IsCanonicaliserReason}
 use Rattle.naltvigo.specs.declared.status.NaltvigoRefusal.{NaltvigoRefusal}
 
 -- by the number of its reason

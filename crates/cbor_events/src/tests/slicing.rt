@@ -198,3 +198,44 @@ fn takes_payloads(rt: HostRuntime) {
     assert_eq!(rt; events.next(), Token::Refused);
     assert!(rt; events.next_payload().is_none());
 }
+
+// What is whole is told at once: a string with its payload, unless it is empty.
+#[test]
+fn tells_what_is_whole(rt: HostRuntime) {
+    // [1000, "a", h'', [_ 0]]
+    let bytes = b"\x84\x19\x03\xe8\x61a\x40\x9f\x00\xff";
+    let mut events = SliceEvents::new(bytes, limits(&rt, 2, 10));
+    let told = [
+        (Token::Array, 4, 1),
+        (Token::Unsigned, 1000, 4),
+        (Token::Text, 1, 6),
+    ];
+    for (token, number, taken) in told {
+        assert_eq!(rt; events.next_whole(), Some(token));
+        assert_eq!(rt; (events.number(), events.taken()), (number, taken));
+    }
+    assert!(rt; events.piece() == b"a".as_slice());
+    for (token, number) in [(Token::Bytes, 0), (Token::IndefiniteArray, 0)] {
+        assert_eq!(rt; events.next_whole(), None);
+        assert_eq!(rt; (events.next(), events.number()), (token, number));
+    }
+    assert_eq!(rt; events.next_whole(), Some(Token::Unsigned));
+    assert_eq!(rt; (events.next(), events.next()), (Token::Break, Token::End));
+    assert_eq!(rt; events.next_whole(), None);
+}
+
+#[test]
+fn tells_whole_chunks(rt: HostRuntime) {
+    // (_ "ab", "")
+    let mut events = SliceEvents::new(b"\x7f\x62ab\x60\xff", limits(&rt, 0, 6));
+    assert!(rt; !events.next_chunk());
+    assert_eq!(rt; events.next(), Token::IndefiniteText);
+    assert!(rt; events.next_chunk());
+    assert!(rt; events.piece() == b"ab".as_slice());
+    assert!(rt; !events.next_chunk());
+    assert_eq!(rt;
+        (events.next(), events.next()),
+        (Token::Chunk, Token::Break)
+    );
+    assert_eq!(rt; events.next(), Token::End);
+}

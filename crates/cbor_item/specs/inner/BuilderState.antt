@@ -2,6 +2,7 @@
 use Rattle.std.specs.Prelude.{List, ◌∷◌, reverse}
 use Rattle.cbor_item.specs.Parts.{Open}
 use Rattle.cbor_item.specs.inner.Laid.{shape_open, opens, Laid}
+use Rattle.cbor_item.specs.inner.Moved.{meant, IsWhole, Agrees}
 use Rattle.cbor_item.specs.declared.builder.Core.{Core}
 use Rattle.cbor_item.specs.declared.builder.frame.Frame.{Frame}
 
@@ -10,10 +11,10 @@ abbrev pub frames : Core → List Frame
 frames c = c.top ∷ reverse c.below.items
 
 abbrev pub standing : Core → List Open
-standing c = opens c.out c.spans.items (frames c)
+standing c = opens (meant c.out) c.spans.items (frames c)
 
 abbrev pub innermost : Core → Open
-innermost c = shape_open c.out c.spans.items c.top.start c.top.shape
+innermost c = shape_open (meant c.out) c.spans.items c.top.start c.top.shape
 
 abbrev pub IsLaid : Core → Type 0
-IsLaid c = Laid c.order c.out c.spans.items (frames c)
+IsLaid c = Laid c.order (meant c.out) c.spans.items (frames c) × IsWhole c.out × Agrees c.out.buf (meant c.out) c.spans.items (frames c)

@@ -2,7 +2,7 @@
 
 ghost use Rattle.std.specs.Prelude.{◌≡◌, ◌≢◌, ◌↔◌, ◌≤◌, [], IsTrue, IfOk, OnOk, map, flat_map};
 ghost use Rattle.std.specs.Prelude.{drop, length, slice_range, IsPermutation, IsSortedBy};
-ghost use Rattle.cbor_head.specs.Canonical.{in_order};
+ghost use Rattle.cbor_head.specs.Order.{key_lt};
 ghost use Rattle.cbor_head.specs.declared.order.KeyOrder.{KeyOrder};
 ghost use Rattle.cbor_item.specs.inner.Encoded.{DoNeighboursDiffer};
 ghost use Rattle.cbor_item.specs.Pairs.{HasDistinctBytes};
@@ -53,7 +53,7 @@ pub(crate) fn gather(out: &Out, spans: &[Span], into: &mut Out) -> Result<(), Al
 }
 
 /// The spans sorted by their keys, in `sorting`, or false where two keys are equal.
-fn put_in_order(
+pub(crate) fn put_in_order(
     bytes: &[u8],
     order: KeyOrder,
     spans: &[Span],
@@ -63,36 +63,11 @@ fn put_in_order(
     ensures permuted { OnOk result (IsPermutation spans.now sorting.new.items) }
     ensures distinct { IfOk result (λ distinct.
         IsTrue distinct ↔ HasDistinctBytes (map (span_pair bytes.now) spans.now)) }
-    ensures ordered { IfOk result (λ distinct. IsTrue distinct
-        → map (span_pair bytes.now) sorting.new.items
-        ≡ in_order order (map (span_pair bytes.now) spans.now)) }
+    ensures sorted { OnOk result (IsSortedBy
+        (λ x y. key_lt order (key_of bytes.now x) (key_of bytes.now y)) sorting.new.items) }
 {
     sorting.clear();
     sorting.extend_from_slice(spans)?;
     sort(bytes, order, sorting);
     Ok(differ(bytes, order, sorting.as_slice()))
-}
-
-/// The pairs in order, in `into`, or false where two keys are equal.
-pub(crate) fn ordered(
-    out: &Out,
-    order: KeyOrder,
-    spans: &[Span],
-    sorting: &mut Vec<Span>,
-    into: &mut Out,
-) -> Result<bool, AllocError>
-    requires fronted { AreFronted out.now spans.now }
-    requires within { AreWithin out.now spans.now }
-    ensures distinct { IfOk result (λ distinct.
-        IsTrue distinct ↔ HasDistinctBytes (map (span_pair out.now) spans.now)) }
-    ensures ordered { IfOk result (λ distinct. IsTrue distinct
-        → into.new ≡ flat_map pair_bytes (in_order order (map (span_pair out.now) spans.now))) }
-{
-    let distinct = put_in_order(out.as_slice(), order, spans, sorting)?;
-    if !distinct {
-        return Ok(false);
-    }
-    into.cut(0);
-    gather(out, sorting.as_slice(), into)?;
-    Ok(true)
 }

@@ -3,7 +3,7 @@
 ghost use Rattle.std.specs.Prelude.{ℕ, ◌≡◌, ◌≤◌, ◌++◌, ◌∷◌, [], IsTrue, OnOk, map, drop, length};
 ghost use Rattle.cbor_head.specs.declared.order.KeyOrder.{KeyOrder};
 ghost use Rattle.cbor_item.specs.Pairs.{IsRising};
-ghost use Rattle.cbor_item.specs.declared.builder.frame.Shape.TheVariants.{Key};
+ghost use Rattle.cbor_item.specs.declared.builder.frame.Shape.TheVariants.{Key, Map};
 ghost use Rattle.cbor_item.specs.inner.Front.{AreFronted, IsFronted};
 ghost use Rattle.cbor_item.specs.inner.Laid.{span_pair, Takes, shape_after, spans_after};
 ghost use Rattle.cbor_item.specs.inner.Laid.{KeepsRising};
@@ -64,22 +64,47 @@ pub(crate) fn complete(
         *n += 1;
         return Ok(());
     }
-    let bytes = out.as_slice();
     match frame.shape {
-        Shape::Plain | Shape::Array(_) => {}
-        Shape::Map(first) => frame.shape = Shape::Key(first, at, bytes.len()),
+        Shape::Map(first) => frame.shape = Shape::Key(first, at, out.len()),
         Shape::Key(first, key, val) => {
-            let span = Span {
-                front: front(out, key, val),
-                key,
-                val,
-                end: bytes.len(),
-            };
-            frame.rises = frame.rises && is_above(bytes, order, spans.as_slice(), first, &span);
-            frame.shape = Shape::Map(first);
-            push(spans, span)?;
+            return finish_pair(frame, spans, out, order, first, key, val);
         }
-        Shape::Content(_) => {}
+        Shape::Plain | Shape::Array(_) | Shape::Content(_) => {}
     }
     Ok(())
+}
+
+// The pair whose key stands from `key` to `val`, and whose value ends the buffer, is finished. It
+// is apart so that no room is made for a pair where none is finished.
+#[inline(always)]
+fn finish_pair(
+    frame: &mut Frame,
+    spans: &mut Vec<Span>,
+    out: &Out,
+    order: KeyOrder,
+    first: usize,
+    key: usize,
+    val: usize,
+) -> Result<(), AllocError>
+    requires first { first ≤ length spans.old.items }
+    requires key { (key ≤ val) × (val ≤ length out.now) }
+    requires fronted { AreFronted out.now (drop first spans.old.items) }
+    ensures from { frame.new.from ≡ frame.old.from }
+    ensures start { frame.new.start ≡ frame.old.start }
+    ensures shape { frame.new.shape ≡ Map first }
+    ensures spans { OnOk result
+        (spans.new.items ≡ spans_after out.now spans.old.items (Key first key val)) }
+    ensures rises { KeepsRising order out.now spans.old.items (Key first key val)
+        frame.old.rises frame.new.rises }
+{
+    let span = Span {
+        front: front(out, key, val),
+        key,
+        val,
+        end: out.len(),
+    };
+    let bytes = out.as_slice();
+    frame.rises = frame.rises && is_above(bytes, order, spans.as_slice(), first, &span);
+    frame.shape = Shape::Map(first);
+    push(spans, span)
 }

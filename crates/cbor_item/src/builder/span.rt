@@ -122,16 +122,18 @@ fn compare_bytewise(bytes: &[u8], x: &Span, y: &Span) -> Ordering
     if x.front > y.front {
         return Ordering::Greater;
     }
-    compare_long(bytes, x, y)
+    compare_long(bytes, x.key, x.val, y.key, y.val)
 }
 
+// The keys are given by their places, so that no span has to stand in memory for it.
 #[inline(never)]
-fn compare_long(bytes: &[u8], x: &Span, y: &Span) -> Ordering
-    ensures { result ≡ key_cmp KeyOrder.Bytewise (key_of bytes.now x.now) (key_of bytes.now y.now) }
+fn compare_long(bytes: &[u8], x: usize, x_end: usize, y: usize, y_end: usize) -> Ordering
+    ensures { result ≡ key_cmp KeyOrder.Bytewise
+        (slice_range bytes.now x x_end) (slice_range bytes.now y y_end) }
 {
     compare_keys(
         KeyOrder::Bytewise,
-        part(bytes, x.key, x.val),
-        part(bytes, y.key, y.val),
+        part(bytes, x, x_end),
+        part(bytes, y, y_end),
     )
 }

@@ -1,11 +1,9 @@
--- What is told of the item at the front of an input, by either rules.
+-- What is told of the item at the front of an input.
 use Rattle.std.specs.Prelude.{ℕ, ◌≤◌, List, Option, IfSome}
 use Rattle.cbor_head.specs.Complaint.{Rules}
 use Rattle.cbor_head.specs.Limits.{Bounds}
 use Rattle.cbor_head.specs.Value.{Value}
-use Rattle.cbor_head.specs.declared.reason.Refusal.{Refusal}
-use Rattle.cbor_reader.specs.Readers.{IsReadAs, IsUnread, Loses}
-use Rattle.cbor_reader.specs.Refusals.{IsReaderReason}
+use Rattle.cbor_strict.specs.Readers.{IsReadAs, Loses}
 use Rattle.cbor_reader.specs.Size.{size}
 use Rattle.cbor_reader.specs.inner.MapKeys.{HasCanonicalBytes}
 
@@ -15,8 +13,3 @@ pub record IsFrontRead (r : Rules) (b : Bounds) (from to : Option (List ℕ)) (v
   pub taken : Loses count from to
   pub bounded : size v ≤ count
   pub sound : HasCanonicalBytes v
-
-pub record IsFrontUnread (r : Rules) (b : Bounds) (from to : Option (List ℕ)) (f : Refusal) : Type 0 where
-  pub refused : IfSome from (λ input. IsUnread b.depth b.bytes r input f)
-  pub reason : IsReaderReason r f.reason
-  pub taken : Loses f.read from to

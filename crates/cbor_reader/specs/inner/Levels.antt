@@ -1,7 +1,7 @@
 -- What a builder holds of an item whose events it was given: the open containers, with what is complete in them.
 use Rattle.std.specs.Prelude.{ℕ, suc, ◌≡◌, ◌<◌, ◌≤◌, ◌+◌, ◌-◌, ◌++◌, Bool, true, false, List, [], ◌∷◌, length, map}
 use Rattle.std.specs.Io.KnownBytes.{Consumes}
-use Rattle.std.specs.Prelude.{Some, IsUtf8}
+use Rattle.std.specs.Prelude.{Some, None, IsUtf8}
 use Rattle.cbor_head.specs.Canonical.{canonical, canonical_all, canonical_entries}
 use Rattle.cbor_head.specs.Complaint.{plain, Complaint, Complains}
 use Rattle.cbor_head.specs.Head.{Holds, head, shortest_head}
@@ -12,16 +12,21 @@ use Rattle.cbor_head.specs.declared.major.Major.TheVariants.{Array, Map, Tag}
 use Rattle.cbor_head.specs.declared.order.KeyOrder.{KeyOrder}
 use Rattle.cbor_head.specs.declared.width.Width.{Width}
 use Rattle.cbor_head.specs.declared.width.Width.TheVariants.{Indefinite}
-use Rattle.cbor_events.specs.SliceEvents.{event_of}
+use Rattle.cbor_events.specs.SliceEvents.{event_of, IsNextTold}
 use Rattle.cbor_events.specs.SliceView.{SliceEventsView, seen}
 use Rattle.cbor_events.specs.declared.event.EventKind.{EventKind}
 use Rattle.cbor_events.specs.declared.token.Token.{Token}
+use Rattle.cbor_events.specs.declared.token.Token.TheVariants as tokens
+use Rattle.cbor_events.specs.Token.{IsStringToken}
+use Rattle.cbor_events.specs.Trace.{Mark}
+use Rattle.cbor_events.specs.Machine.{KeepsLimits}
+use Rattle.cbor_events.specs.ItemEvents.{StandsBetween}
 use Rattle.cbor_events.specs.inner.Automaton.{Frame, counted, indefinite_array, indefinite_map, State, at_item, close, done as at_end}
 use Rattle.cbor_item.specs.Built.{Built, built, IsInContainer}
 use Rattle.cbor_item.specs.Parts as parts
 use Rattle.cbor_item.specs.Parts.{Open, plain as a_plain, an_array, a_map, give, closed, HasNoRepeats}
-use Rattle.cbor_reader.specs.Readers.{IsRead}
-use Rattle.cbor_reader.specs.inner.Reading.{IsAt, IsNextHead, IsBegun, ReadsItem, ReadsPayload}
+use Rattle.cbor_strict.specs.Readers.{IsRead}
+use Rattle.cbor_strict.specs.inner.Reading.{IsAt, IsNextHead, IsBegun, ReadsItem, ReadsPayload}
 
 -- ---- items that were taken whole
 
@@ -165,6 +170,39 @@ pub record IsFed (b : Bounds) (o : KeyOrder) (t from : List ℕ) (e : SliceEvent
   pub next : State
   pub at : IsAt b (seen e) (t ++ bytes) next
   pub building : IsBuilding o b.depth (t ++ bytes) next given height
+
+-- more was taken, and given to the builder
+pub record IsBuiltOn (b : Bounds) (o : KeyOrder) (t from : List ℕ) (e : SliceEventsView) (given : Built) : Type 0 where
+  pub bytes : List ℕ
+  pub consumed : Consumes (Some from) (Some e.rest) bytes
+  pub next : State
+  pub at : IsAt b (seen e) (t ++ bytes) next
+  pub building : IsBuilding o b.depth (t ++ bytes) next given e.machine.open_count
+
+-- an item was due within these containers, and a string came, with its payload
+pub record HasString (b : Bounds) (o : KeyOrder) (ls : List Level) (token : Token) (old e : SliceEventsView) (given : Built) : Type 0 where
+  -- behind its head
+  pub between : SliceEventsView
+  pub head : IsEvent b o ls token old between given
+  pub payload : (u : List ℕ) (ns : List Mark) → StandsBetween between.machine u ns → IsNextTold tokens.Piece between e u ns
+  pub limits : KeepsLimits between.machine e.machine
+  pub live : e.refusal ≡ None
+  pub whole : between.number ≡ length e.piece
+  pub some : 0 < length e.piece
+
+-- an item was due within these containers, and this came, whole
+abbrev pub IsWhole : Bounds → KeyOrder → List Level → Token → SliceEventsView → SliceEventsView → Built → Type 0
+IsWhole b o ls tokens.Bytes old e given = HasString b o ls tokens.Bytes old e given
+IsWhole b o ls tokens.Text old e given = HasString b o ls tokens.Text old e given
+IsWhole b o ls token old e given = IsEvent b o ls token old e given
+
+pub record HasWhole (token : Token) (e : SliceEventsView) (given : Built) (front : List ℕ) : Type 0 where
+  pub b : Bounds
+  pub o : KeyOrder
+  pub ls : List Level
+  pub old : SliceEventsView
+  pub is : IsWhole b o ls token old e given
+  pub front_is : IsStringToken token → (head : List ℕ) × (front ≡ head ++ (e.piece ++ e.rest))
 
 -- an item that was begun is taken whole, and given to the builder
 abbrev pub BuildsBegun : EventKind → SliceEventsView → SliceEventsView → Built → Built → Type 0

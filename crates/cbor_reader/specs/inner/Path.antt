@@ -6,7 +6,7 @@ use Rattle.cbor_head.specs.Spelling.{Spelling, array, a_map, tag, no_spellings, 
 use Rattle.cbor_head.specs.declared.order.KeyOrder.{KeyOrder}
 use Rattle.cbor_events.specs.inner.Automaton.{State, at_item, close, done as at_end}
 use Rattle.cbor_item.specs.Parts.{Open, plain as a_plain}
-use Rattle.cbor_reader.specs.inner.Frame.{with_all, with_entries}
+use Rattle.cbor_strict.specs.inner.Frame.{with_all, with_entries}
 use Rattle.cbor_reader.specs.inner.Levels.{IsTaken, Level, a_member, a_key, a_value, some_member, some_key, some_value, tagged, frame, AreLevels, bytes_before, opens, IsFull}
 
 pub data Standing : Type 0 where

@@ -16,9 +16,9 @@ use Rattle.cbor_reader.specs.inner.Front.{IsFrontRead}
 use Rattle.cbor_reader.specs.inner.HeldKeys.{AreHeld}
 use Rattle.cbor_reader.specs.inner.Levels.{IsTaken, Level, frame, AreLevels, bytes_before, opens}
 use Rattle.cbor_reader.specs.inner.PlainItems.{AreApart, HaveBegun, sets}
-use Rattle.cbor_reader.specs.inner.OpenItems.{AreRefused}
+use Rattle.cbor_strict.specs.inner.OpenItems.{AreRefused}
 use Rattle.cbor_reader.specs.inner.Path.{item_due, item_whole}
-use Rattle.cbor_reader.specs.inner.Reading.{IsAt}
+use Rattle.cbor_strict.specs.inner.Reading.{IsAt}
 use Rattle.cbor_reader.specs.inner.TreeValues.{IsTreeAt}
 
 -- an item is due, behind the bytes t, and nothing read has a complaint
@@ -71,6 +71,12 @@ abbrev pub AnswersNextPart : PlainItems → PlainItems → ItemEventsView → It
 AnswersNextPart old new e after from to result =
     (b : Bounds) (t : List ℕ) → IsDueAt old b e t
     → MatchResult result (λ more. TakesNext more old new b after t from to) (λ f. IsStopped plain b t from to f)
+
+-- the parts that are left were taken, or it is refused at one
+abbrev pub AnswersParts : PlainItems → PlainItems → ItemEventsView → ItemEventsView → Option (List ℕ) → Option (List ℕ) → Result (Unit {0}) Refusal → Type 0
+AnswersParts old new e after from to result =
+    (b : Bounds) (t : List ℕ) → IsDueAt old b e t
+    → MatchResult result (λ u. TakesNext false old new b after t from to) (λ f. IsStopped plain b t from to f)
 
 -- the item was read by the plain rules, and these are its canonical bytes
 pub record IsEncodedFront (b : Bounds) (o : KeyOrder) (from to : Option (List ℕ)) (out : List ℕ) (count : ℕ) : Type 0 where

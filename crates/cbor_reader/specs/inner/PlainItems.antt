@@ -17,7 +17,7 @@ use Rattle.cbor_reader.specs.inner.HeldKeys.{HasKeyBytes, AreHeld, AreHeldSoFar}
 use Rattle.cbor_reader.specs.inner.Levels as levels
 use Rattle.cbor_reader.specs.inner.Levels.{Level, bytes_before}
 use Rattle.cbor_reader.specs.inner.Path.{Standing, item_due, item_full, item_whole, StandsAt}
-use Rattle.cbor_reader.specs.inner.Reading.{IsAt, string_major}
+use Rattle.cbor_strict.specs.inner.Reading.{IsAt, string_major}
 use Rattle.cbor_reader.specs.inner.TreeValues.{IsTreeAt}
 
 -- ---- keys

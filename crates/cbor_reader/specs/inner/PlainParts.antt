@@ -17,7 +17,7 @@ use Rattle.cbor_events.specs.declared.event.EventKind.{EventKind}
 use Rattle.cbor_events.specs.declared.event.EventKind.TheVariants as kinds
 use Rattle.cbor_reader.specs.declared.plain_part.Part.{Part}
 use Rattle.cbor_reader.specs.declared.plain_part.Part.TheVariants.{Leaf, String, Begin, Break}
-use Rattle.cbor_reader.specs.inner.Reading.{IsAt, ReadsItem, StopsItem, string_value}
+use Rattle.cbor_strict.specs.inner.Reading.{IsAt, ReadsItem, StopsItem, string_value}
 
 -- an event came where an item was due within these containers, behind t: its bytes are x
 pub record IsCome (b : Bounds) (fs : List Frame) (t x : List ℕ) (e : ItemEventsView) (w : Width) (kind : EventKind) : Type 0 where

@@ -10,7 +10,7 @@ use Rattle.cbor_reader.specs.inner.Path.{Standing, item_due, item_full, item_who
 use Rattle.cbor_reader.specs.declared.plain_part.Part.{Part}
 use Rattle.cbor_reader.specs.declared.plain_part.Part.TheVariants.{Leaf, String, Begin, Break}
 use Rattle.cbor_reader.specs.inner.PlainParts.{IsLeafMajor, leaf_value}
-use Rattle.cbor_reader.specs.inner.Reading.{string_value}
+use Rattle.cbor_strict.specs.inner.Reading.{string_value}
 
 -- the values of members, and of pairs
 abbrev pub member_values : Spellings → List Value

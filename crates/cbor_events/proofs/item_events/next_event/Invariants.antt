@@ -1,13 +1,16 @@
 use Rattle.std.proofs.Common.{◌≡◌, ◌-◌, ◌<◌, ◌≤◌, ℕ, List, length}
+use Rattle.std.specs.Prelude.{Option}
 use Rattle.cbor_events.specs.Trace.{Mark}
-use Rattle.cbor_events.specs.Machine.{StandsFor, IsIdle}
+use Rattle.cbor_events.specs.MachineView.{MachineView}
+use Rattle.cbor_events.specs.Machine.{IsIdle}
+use Rattle.cbor_events.specs.ItemEvents.{StandsBetween}
 use Rattle.cbor_events.specs.inner.Reads.{HasRead}
 use Rattle.cbor_events.proofs.item_events.next_event.Given as goal
 
 abbrev pub invariant-reads : goal.invariant-reads
 invariant-reads g l = record {
-  read : (t : List ℕ) (ms : List Mark) → StandsFor l.fn.machine t ms
-      → HasRead (g.R.Read.remaining l.fn.reader) (g.R.Read.remaining l.reader) l.machine t ms;
+  read : (was : MachineView) (from : Option (List ℕ)) (t : List ℕ) (ms : List Mark) → StandsBetween was t ms → l.fn.machine.depth ≡ was.depth → HasRead from (g.R.Read.remaining l.fn.reader) l.fn.machine t ms
+      → HasRead from (g.R.Read.remaining l.reader) l.machine t ms;
   depth : l.machine.depth ≡ l.fn.machine.depth;
   bytes : l.machine.bytes ≡ l.fn.machine.bytes;
   within : l.machine.open_count ≤ l.machine.depth;

@@ -1,4 +1,4 @@
-use Rattle.cbor_reader.proofs.StrictFronts.{own_answers_exactly}
+use Rattle.cbor_reader.proofs.OwnAnswers.{own_answers_exactly}
 use Rattle.cbor_reader.proofs.laws.own_answers_are_strictly_accepted.Goals as goal
 
 pub returns : goal.returns

@@ -1,7 +1,5 @@
-use Rattle.cbor_reader.specs.inner.Rules.{rules_of}
-use Rattle.cbor_reader.proofs.Steps.{next-head, bad-head, no-head, stops, limits-as, told, not-ended, head-open}
-use Rattle.std.proofs.Common.{ap, ◌∙◌}
-use Rattle.cbor_head.specs.Verdict.{refusal}
+use Rattle.cbor_head.specs.Complaint.{plain}
+use Rattle.cbor_strict.proofs.Steps.{next-head, no-head, stops, limits-as, told, not-ended, head-open}
 use Rattle.cbor_reader.proofs.next_head.next_head.Goals as goal
 
 pub unreachable-requires : goal.unreachable-requires
@@ -9,19 +7,13 @@ unreachable-requires g c =
     let a = c.requires.at in
     not-ended c.requires.b c.args.events.now c.next.new.self c.requires.t c.requires.q _ _ a c.in-Ok-None.field-0 c.in-Ok-None.field-0-is (head-open c.requires.q c.requires.due) (c.in-Ok-None.ensures.answers a.live c.requires.t a.marks a.stands)
 
-pub returns-in-None : goal.returns-in-None
-returns-in-None g c = λ b q t due a.
-    next-head (rules_of c.args.rules) b c.args.events.now c.next.new.self t q c.in-Ok-Some.event _ _ due a
+pub returns-in-Ok-Some : goal.returns-in-Ok-Some
+returns-in-Ok-Some g c = λ b q t due a.
+    next-head plain b c.args.events.now c.next.new.self t q c.in-Ok-Some.event _ _ due a
     (told b c.args.events.now c.next.new.self t q _ _ a c.in-Ok-Some.field-0 c.in-Ok-Some.event c.in-Ok-Some.field-0-is (c.in-Ok-Some.ensures.answers a.live t a.marks a.stands))
-    (limits-as _ _ c.next.ensures.limits) c.in-Ok-Some.ensures.live c.in-None.ensures
-
-pub returns-in-Some : goal.returns-in-Some
-returns-in-Some g c = λ b q t due a.
-    bad-head (rules_of c.args.rules) b c.args.events.now c.next.new.self t q c.in-Ok-Some.event _ _ _ c.in-Some.reason due a
-    (told b c.args.events.now c.next.new.self t q _ _ a c.in-Ok-Some.field-0 c.in-Ok-Some.event c.in-Ok-Some.field-0-is (c.in-Ok-Some.ensures.answers a.live t a.marks a.stands))
-    (limits-as _ _ c.next.ensures.limits) c.in-Some.ensures (c.new.ensures ∙ ap (λ x. refusal c.in-Some.reason c.in-Ok-Some.event.place x) c.taken.ensures.taken)
+    (limits-as _ _ c.next.ensures.limits) c.in-Ok-Some.ensures.live (λ reason fault. fault)
 
 pub returns-in-Err : goal.returns-in-Err
 returns-in-Err g c = λ b q t due a.
-    no-head (rules_of c.args.rules) b q t _ _ c.in-Err.refusal
+    no-head plain b q t _ _ c.in-Err.refusal
     (stops b c.args.events.now c.next.new.self t q _ _ c.in-Err.refusal a (limits-as _ _ c.next.ensures.limits) (c.in-Err.ensures.answers a.live t a.marks a.stands).1)

@@ -3,14 +3,14 @@ use Rattle.cbor_head.specs.Limits.{Bounds}
 use Rattle.cbor_head.specs.declared.width.Width.{Width}
 use Rattle.cbor_events.specs.inner.Automaton.{Frame}
 use Rattle.std.specs.Prelude.{None}
-use Rattle.cbor_reader.specs.inner.Reading.{IsBegun, string_kind}
-use Rattle.cbor_reader.specs.inner.Rules.{rules_of}
-use Rattle.cbor_reader.proofs.WholeStrings.{IsReadingChunks}
+use Rattle.cbor_strict.specs.inner.Reading.{IsBegun, string_kind}
+use Rattle.cbor_head.specs.Complaint.{plain}
+use Rattle.cbor_strict.proofs.WholeStrings.{IsReadingChunks}
 use Rattle.cbor_reader.proofs.strings.read_chunks.Given as goal
 
 abbrev pub invariant-chunks : goal.invariant-chunks
-invariant-chunks g l = (b : Bounds) (fs : List Frame) (t x : List ℕ) (w : Width) → IsBegun (rules_of l.fn.rules) b fs t x l.fn.events w (string_kind l.fn.text None)
-    → IsReadingChunks (rules_of l.fn.rules) b fs t x l.fn.text l.content.items (g.R.Read.remaining l.fn.reader) (g.R.Read.remaining l.reader) l.events
+invariant-chunks g l = (b : Bounds) (fs : List Frame) (t x : List ℕ) (w : Width) → IsBegun plain b fs t x l.fn.events w (string_kind l.fn.text None)
+    → IsReadingChunks plain b fs t x l.fn.text l.content.items (g.R.Read.remaining l.fn.reader) (g.R.Read.remaining l.reader) l.events
 
 abbrev pub decreases-chunks : goal.decreases-chunks
 decreases-chunks g l = l.events.machine.bytes - l.events.machine.taken

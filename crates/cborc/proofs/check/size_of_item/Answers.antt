@@ -1,6 +1,6 @@
 use Rattle.std.proofs.Common.{ap}
 use Rattle.std.proofs.lemmas.Result.{err_from_is_err_and}
-use Rattle.cbor_reader.specs.Readers.{of_verdict}
+use Rattle.cbor_strict.specs.Readers.{of_verdict}
 use Rattle.cborc.specs.Check.{rules_of}
 use Rattle.cborc.proofs.Whole.{is_unread, is_longer}
 use Rattle.cborc.proofs.check.size_of_item.Goals as goal

@@ -1,4 +1,4 @@
-use Rattle.std.proofs.Common.{◌≡◌, ◌≤◌, arith}
+use Rattle.std.proofs.Common.{◌≤◌, arith}
 use Rattle.cbor_events.proofs.Saved.{no-room}
 use Rattle.cbor_events.proofs.machine.saved.has_bytes_left.Goals as goal
 

@@ -1,27 +1,41 @@
-use Rattle.std.proofs.Common.{refl, ℕ, List, ◌++◌, append_assoc, length, ap, ◌∙◌}
+use Rattle.std.proofs.Common.{ℕ, List, ◌++◌, append_assoc, length, ap, ◌∙◌}
 use Rattle.std.specs.Prelude.{reverse}
 use Rattle.std.proofs.lemmas.Result.{on_ok_weaker}
 use Rattle.cbor_head.specs.Head.{shortest_head}
-use Rattle.cbor_item.proofs.Growth.{given_by, key_ready}
+use Rattle.cbor_item.specs.inner.Moved.{meant}
+use Rattle.cbor_item.proofs.Standing.{member_given, member_ready}
 use Rattle.cbor_item.proofs.builder.Core.string.Goals as goal
 
 pub returns-clause-laid : goal.returns-clause-laid
 returns-clause-laid c =
     let s = c.args.self.now in
     let e = c.complete.ensures in
-    on_ok_weaker c.complete.result (λ spans. (given_by s.order s.out (shortest_head c.args.major (length c.args.content.now) ++ c.args.content.now) s.spans.items s.top (reverse s.below.items)
-    c.extend.new.self c.complete.new.spans.items c.complete.new.frame c.extend.new.self c.len-at.result c.requires.laid c.requires.takes (c.in_ok-extend.ensures ∙ ap (λ (xs : List ℕ). xs ++ c.args.content.now) c.in_ok-head.ensures ∙ append_assoc s.out (shortest_head c.args.major (length c.args.content.now)) c.args.content.now) refl c.len-at.ensures
-    (e.from, e.start, e.shape, spans, e.rises)).0) e.spans
+    let h = c.in_ok-head.ensures in
+    let x = c.in_ok-extend.ensures in
+    let head = shortest_head c.args.major (length c.args.content.now) in
+    let meant_is = x.meant ∙ ap (λ (xs : List ℕ). xs ++ c.args.content.now) h.meant ∙ append_assoc (meant s.out) head c.args.content.now in
+    let lies_is = x.lies ∙ ap (λ (xs : List ℕ). xs ++ c.args.content.now) h.lies ∙ append_assoc s.out.buf head c.args.content.now in
+    on_ok_weaker c.complete.result (λ spans. (member_given s.order s.out c.extend.new.self (head ++ c.args.content.now) s.spans.items s.top (reverse s.below.items) c.len-at.result c.complete.new.spans.items c.complete.new.frame
+    c.requires.laid c.requires.takes x.whole meant_is lies_is c.len-at.ensures.meant (e.from, e.start, e.shape, spans, e.rises)).0) e.spans
 
 pub returns-clause-given : goal.returns-clause-given
 returns-clause-given c =
     let s = c.args.self.now in
     let e = c.complete.ensures in
-    on_ok_weaker c.complete.result (λ spans. (given_by s.order s.out (shortest_head c.args.major (length c.args.content.now) ++ c.args.content.now) s.spans.items s.top (reverse s.below.items)
-    c.extend.new.self c.complete.new.spans.items c.complete.new.frame c.extend.new.self c.len-at.result c.requires.laid c.requires.takes (c.in_ok-extend.ensures ∙ ap (λ (xs : List ℕ). xs ++ c.args.content.now) c.in_ok-head.ensures ∙ append_assoc s.out (shortest_head c.args.major (length c.args.content.now)) c.args.content.now) refl c.len-at.ensures
-    (e.from, e.start, e.shape, spans, e.rises)).1) e.spans
+    let h = c.in_ok-head.ensures in
+    let x = c.in_ok-extend.ensures in
+    let head = shortest_head c.args.major (length c.args.content.now) in
+    let meant_is = x.meant ∙ ap (λ (xs : List ℕ). xs ++ c.args.content.now) h.meant ∙ append_assoc (meant s.out) head c.args.content.now in
+    let lies_is = x.lies ∙ ap (λ (xs : List ℕ). xs ++ c.args.content.now) h.lies ∙ append_assoc s.out.buf head c.args.content.now in
+    on_ok_weaker c.complete.result (λ spans. (member_given s.order s.out c.extend.new.self (head ++ c.args.content.now) s.spans.items s.top (reverse s.below.items) c.len-at.result c.complete.new.spans.items c.complete.new.frame
+    c.requires.laid c.requires.takes x.whole meant_is lies_is c.len-at.ensures.meant (e.from, e.start, e.shape, spans, e.rises)).1) e.spans
 
 pub complete-requires-clause-within : goal.complete-requires-clause-within
 complete-requires-clause-within c =
     let s = c.args.self.now in
-    key_ready s.order s.out (shortest_head c.args.major (length c.args.content.now) ++ c.args.content.now) s.spans.items s.top (reverse s.below.items) c.extend.new.self c.requires.laid (c.in_ok-extend.ensures ∙ ap (λ (xs : List ℕ). xs ++ c.args.content.now) c.in_ok-head.ensures ∙ append_assoc s.out (shortest_head c.args.major (length c.args.content.now)) c.args.content.now)
+    let h = c.in_ok-head.ensures in
+    let x = c.in_ok-extend.ensures in
+    let head = shortest_head c.args.major (length c.args.content.now) in
+    let meant_is = x.meant ∙ ap (λ (xs : List ℕ). xs ++ c.args.content.now) h.meant ∙ append_assoc (meant s.out) head c.args.content.now in
+    let lies_is = x.lies ∙ ap (λ (xs : List ℕ). xs ++ c.args.content.now) h.lies ∙ append_assoc s.out.buf head c.args.content.now in
+    member_ready s.order s.out c.extend.new.self (head ++ c.args.content.now) s.spans.items s.top (reverse s.below.items) c.requires.laid x.whole meant_is lies_is

@@ -1,7 +1,7 @@
 use Rattle.std.proofs.Common.{arith, ◌↔◌, IsTrue, List, ◌++◌, map, sym, ap, ◌∙◌, subst, IsPermutation}
 use Rattle.cbor_item.specs.inner.Encoded.{DoNeighboursDiffer}
 use Rattle.cbor_item.specs.inner.Front.{key_of, AreFronted}
-use Rattle.cbor_item.proofs.KeyFronts.{are_bytes, fronted_permuted}
+use Rattle.cbor_item.proofs.KeyFronts.{are_bytes, fronted_permuted, sorted_keys}
 use Rattle.cbor_item.specs.declared.builder.span.Span.{Span}
 use Rattle.cbor_item.proofs.SortedSpans.{all_sorted}
 use Rattle.cbor_item.proofs.builder.gather.put_in_order.Goals as goal
@@ -18,12 +18,11 @@ returns-clause-distinct c =
     let d = subst (λ (xs : List Span). IsTrue c.differ.result ↔ DoNeighboursDiffer (map (key_of c.args.bytes.now) xs)) c.as_slice.ensures.value c.differ.ensures in
     ((λ t. a.distinct.0 (d.0 t)), (λ h. d.1 (a.distinct.1 h)))
 
-pub returns-clause-ordered : goal.returns-clause-ordered
-returns-clause-ordered c = λ t.
+pub returns-clause-sorted : goal.returns-clause-sorted
+returns-clause-sorted c =
     let e = c.in_ok-extend_from_slice.ensures.items ∙ ap (λ (xs : List Span). xs ++ c.args.spans.now) c.clear.ensures.items in
-    let a = all_sorted c.args.order c.args.bytes.now c.args.spans.now c.sort.new.spans.items (are_bytes c.args.bytes.now (λ i. omega (arith, c.type_inv.bytes i))) c.requires (subst (λ (xs : List Span). IsPermutation xs c.sort.new.spans.items) e c.sort.ensures.permuted) c.sort.ensures.sorted in
-    let d = subst (λ (xs : List Span). IsTrue c.differ.result ↔ DoNeighboursDiffer (map (key_of c.args.bytes.now) xs)) c.as_slice.ensures.value c.differ.ensures in
-    a.pairs (a.distinct.0 (d.0 t))
+    sorted_keys c.args.order c.args.bytes.now c.sort.new.spans.items (are_bytes c.args.bytes.now (λ i. omega (arith, c.type_inv.bytes i)))
+    (fronted_permuted c.args.bytes.now c.args.spans.now c.sort.new.spans.items (subst (λ (xs : List Span). IsPermutation xs c.sort.new.spans.items) e c.sort.ensures.permuted) c.requires) c.sort.ensures.sorted
 
 pub differ-requires : goal.differ-requires
 differ-requires c =

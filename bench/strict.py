@@ -1,0 +1,37 @@
+"""Counts the instructions of `read_strict` from a reader beside those of plain C, and prints Markdown.
+
+    python3 strict.py PROGRAM FLOOR FOLDER NAME..
+
+PROGRAM is strict.rattle, FLOOR strict.c; both read one file. Each count is callgrind's, of the canonical
+bytes NAME.bytewise of inputs.py, less that of the integer 0, a byte. Ends with status 1 where a file is
+refused.
+"""
+
+import os
+import subprocess
+import sys
+
+
+def instructions(program, path):
+    """Returns how many instructions a run takes."""
+    words = ["valgrind", "--tool=callgrind", "--callgrind-out-file=/dev/null", program, path]
+    ran = subprocess.run(words, stdout=subprocess.DEVNULL, stderr=subprocess.PIPE, text=True)
+    if ran.returncode:
+        sys.exit(f"{program} {path}: status {ran.returncode}")
+    return int(next(line.split()[-1] for line in ran.stderr.splitlines() if "Collected" in line))
+
+
+def main():
+    program, floor, folder, *names = sys.argv[1:]
+    zero = f"{folder}/one.bytewise"
+    starts = [instructions(it, zero) for it in (program, floor)]
+    print("| instructions a byte | `read_strict` | C | ratio |\n| --- | ---: | ---: | ---: |")
+    for name in names:
+        path = f"{folder}/{name}.bytewise"
+        size = os.path.getsize(path)
+        ours, plain = ((instructions(it, path) - start) / size for it, start in zip((program, floor), starts))
+        print(f"| {name} | {ours:.2f} | {plain:.2f} | {ours / plain:.2f} |", flush=True)
+
+
+if __name__ == "__main__":
+    main()

@@ -1,0 +1,45 @@
+-- What one read makes of a call for the next event.
+use Rattle.std.proofs.Common.{◌≡◌, ℕ, zero, suc, ◌<◌, ◌≤◌, inr, List, [], ◌++◌, length, take, refl, sym, subst, ◌∙◌, arith, append-nil}
+use Rattle.std.specs.Prelude.{Option, Some, None, Result, Ok, Err}
+use Rattle.std.specs.Io.KnownBytes.{Consumes}
+use Rattle.std.proofs.KnownBytes.{Consumes-nil}
+use Rattle.cbor_head.specs.Value.{AreBytes}
+use Rattle.cbor_head.specs.declared.reason.Refusal.{Refusal}
+use Rattle.cbor_events.specs.Trace.{Mark}
+use Rattle.cbor_events.specs.MachineView.{MachineView}
+use Rattle.cbor_events.specs.Machine.{StandsFor, wanted}
+use Rattle.cbor_events.specs.ItemEvents.{StandsBetween, IfTold, IsNext, machine_call}
+use Rattle.cbor_events.specs.inner.Reads.{HasRead, IsPartTaken, IsPartRead, piece_after}
+use Rattle.cbor_events.specs.declared.event.Event.{Event}
+use Rattle.cbor_events.specs.declared.item_events.Part.{Part}
+use Rattle.cbor_events.specs.declared.item_events.Part.TheVariants.{Told, Open, Stopped}
+use Rattle.cbor_events.proofs.NextEvents.{event-here, read-on, complete-wants, wanted-room}
+use Rattle.cbor_events.proofs.NextRefusals.{still-due, stopped-here}
+
+-- the bytes that were read are what the machine wanted, and stand in front of the buffer
+pub part-read : (p : Part) (from mid_from to : Option (List ℕ)) (was mid new : MachineView) (kept buffer t last : List ℕ) (ms : List Mark) → StandsBetween was t ms → (r : HasRead from mid_from mid t ms)
+    → mid.depth ≡ was.depth → new.depth ≡ mid.depth → new.bytes ≡ mid.bytes → Consumes mid_from to last → AreBytes last → 0 < length last → length last ≤ wanted mid → last ≡ take (length last) buffer
+    → IsPartTaken p mid new (t ++ r.bytes) last ms → IsPartRead p was new from to kept buffer t ms
+part-read (Told e) from mid_from to was mid new kept buffer t last ms h r mid_depth depth bytes c b some fits here g =
+    event-here e from mid_from to was mid new kept buffer t last ms h r mid_depth (depth ∙ mid_depth) c b some here g
+part-read Open from mid_from to was mid new kept buffer t last ms h r mid_depth depth bytes c b some fits here g = read-on from mid_from to mid new t last ms r c g
+part-read (Stopped f) from mid_from to was mid new kept buffer t last ms h r mid_depth depth bytes c b some fits here g =
+    let going = complete-wants mid r.stands.inner.shown (omega (arith, some, fits)) in (
+      still-due from mid_from was mid t ms h.stands r mid_depth going,
+      inr (stopped-here f (machine_call was new from to kept kept t ms) mid_from mid last r c b going depth (omega (arith, fits, wanted-room mid r.stands.limited, bytes)) g.0 g.1),
+    )
+
+pub some-read : (n want : ℕ) → 0 < want → (n ≡ 0 → want ≡ 0) → 0 < n
+some-read zero want some none = absurd (omega (arith, none refl, some))
+some-read (suc n) want some none = omega arith
+
+-- a call that has not read yet
+pub none-read : (from : Option (List ℕ)) (m : MachineView) (t : List ℕ) (ms : List Mark) → StandsFor m t ms → HasRead from from m t ms
+none-read from m t ms h = record { bytes = []; consumed = Consumes-nil from; stands = subst (λ xs. StandsFor m xs ms) (sym (append-nil t)) h }
+
+-- where no event is told the piece stays
+pub end-answer : (r : Result (Option Event) Refusal) (from to : Option (List ℕ)) (was new : MachineView) (kept buffer t : List ℕ) (ms : List Mark) → IfTold r (λ e. ⊥)
+    → IsNext r (machine_call was new from to kept kept t ms) → IsNext r (machine_call was new from to kept (piece_after r kept buffer) t ms)
+end-answer (Ok (Some e)) from to was new kept buffer t ms none h = absurd none
+end-answer (Ok None) from to was new kept buffer t ms none h = h
+end-answer (Err f) from to was new kept buffer t ms none h = h

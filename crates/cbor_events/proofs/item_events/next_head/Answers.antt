@@ -1,0 +1,27 @@
+use Rattle.std.proofs.Common.{refl, Some}
+use Rattle.std.specs.Prelude.{Ok}
+use Rattle.cbor_events.proofs.NextEvents.{head-answer}
+use Rattle.cbor_events.proofs.Parts.{none-read}
+use Rattle.cbor_events.proofs.item_events.next_head.Goals as goal
+
+pub returns-in-Told-clause-answers : goal.returns-in-Told-clause-answers
+returns-in-Told-clause-answers g c = λ kept t ms h p.
+    let m = c.args.machine.now in
+    head-answer (Ok (Some c.in-Told.event)) _ _ m c.read_part.new.machine kept c.read_part.new.buffer t ms p (c.in-Told.ensures.answers m _ kept t ms h (none-read _ m t ms h.stands) refl)
+
+pub returns-in-Stopped-clause-answers : goal.returns-in-Stopped-clause-answers
+returns-in-Stopped-clause-answers g c = λ kept t ms h p.
+    let m = c.args.machine.now in
+    c.in-Stopped.ensures.answers m _ kept t ms h (none-read _ m t ms h.stands) refl
+
+pub returns-then-not-wants_head-clause-answers : goal.returns-then-not-wants_head-clause-answers
+returns-then-not-wants_head-clause-answers g c = λ kept t ms h p.
+    let m = c.args.machine.now in
+    head-answer c.next_apart.result _ _ m c.next_apart.new.machine kept c.next_apart.new.buffer t ms p (c.next_apart.ensures.answers m _ kept t ms h (none-read _ m t ms h.stands) refl)
+
+pub returns-in-Open-clause-answers : goal.returns-in-Open-clause-answers
+returns-in-Open-clause-answers g c = λ kept t ms h p.
+    let m = c.args.machine.now in
+    let r = c.in-Open.ensures.answers m _ kept t ms h (none-read _ m t ms h.stands) refl in
+    head-answer c.next_part.result _ _ m c.next_part.new.machine kept c.next_part.new.buffer t ms p
+    (c.next_part.ensures.answers m _ kept t ms h r c.read_part.ensures.limits.depth)

@@ -1,0 +1,19 @@
+use Rattle.std.proofs.Common.{true, sym, ◌∙◌, arith}
+use Rattle.cbor_events.specs.inner.State.{major_of}
+use Rattle.cbor_events.proofs.WholeHeads.{chunk-run, payload-some}
+use Rattle.cbor_events.proofs.string_head.front_chunk.Goals as goal
+
+pub overflow_sub-used : goal.overflow_sub-used
+overflow_sub-used c = omega (arith, c.in_ok-argument.ensures.fewer, c.in_ok-first.ensures.cases.1)
+
+pub returns-clause-used : goal.returns-clause-used
+returns-clause-used c = (omega (arith, c.in_ok-argument.ensures.fewer, c.in_ok-first.ensures.cases.1), omega arith)
+
+pub returns-clause-there : goal.returns-clause-there
+returns-clause-there c = (omega arith, omega (arith, c.in_ok-argument.ensures.fewer, c.in_ok-first.ensures.cases.1))
+
+pub returns-clause-told : goal.returns-clause-told
+returns-clause-told c = λ d fs.
+    chunk-run d fs c.args.rest.now c.in_ok-first.first.now c.in_ok-first.behind.now c.in_ok-argument.argument.width c.in_ok-argument.argument.number c.in_ok-argument.argument.rest.now
+    c.args.kind c.numbered_at.result _ c.in_ok-first.ensures.cases.0 c.in_ok-argument.ensures.spelled (omega arith) c.numbered_at.ensures (sym c.is_same_string.ensures ∙ c.if-not-is_same_string.false)
+    (payload-some true (major_of c.args.kind) c.in_ok-argument.argument.number fs (omega arith))

@@ -1,0 +1,47 @@
+-- Which inputs are their own answers: those that the strict verdict accepts whole.
+use Rattle.std.proofs.Common.{ℕ, ◌+◌, ◌-◌, ◌≡◌, List, ◌++◌, length, take, drop, sym, ap, ◌∙◌, arith, [], subst, ◌^◌, ◌≤◌, ◌↔◌}
+use Rattle.std.proofs.Math.Seq.{take-append-add}
+use Rattle.std.proofs.lemmas.List.{append_assoc, append-nil, take-append-drop}
+use Rattle.cbor_head.specs.Spelling.{Spelling, spell, value_of}
+use Rattle.cbor_head.specs.Canonical.{canonical}
+use Rattle.cbor_head.specs.Complaint.{plain, strict}
+use Rattle.cbor_head.specs.Verdict.{accepted, IsVerdict}
+use Rattle.cbor_head.specs.declared.order.KeyOrder.{KeyOrder}
+use Rattle.cbor_head.proofs.Accepted.{accepts_exactly}
+use Rattle.cbor_reader.specs.Canonicalise.{IsCanonicalOf}
+use Rattle.cbor_reader.specs.Headline.{IsValidItem}
+use Rattle.cbor_strict.specs.Readers.{BeginsWithCanonical}
+use Rattle.cbor_strict.proofs.Accepted.{item_within_limit}
+use Rattle.cbor_reader.proofs.Headline.{front_range, front_valid, front_depth, answers_exactly}
+use Rattle.cbor_reader.proofs.ValidTexts.{plain_too}
+use Rattle.cbor_strict.proofs.StrictFronts.{strict_bytes, strict_value, strict_accepts, one_front}
+
+module _ (d n : ℕ) (o : KeyOrder) (input : List ℕ) where
+  own_answer_accepted : n ≤ 2 ^ 62 → IsCanonicalOf d n o input input → (s : Spelling) × IsVerdict d n (strict o) input (accepted s) × (spell s ≡ input)
+  own_answer_accepted m a =
+      let v = value_of a.item in
+      let begins : BeginsWithCanonical d n o input v = record {
+        range = front_range d n plain input a.item m a.verdict;
+        valid = front_valid d n input a.item a.verdict;
+        within = front_depth d n plain input a.item a.verdict;
+        fits = subst (λ (b : List ℕ). length b ≤ n) a.canonical_bytes a.fits;
+        rest = [];
+        begins = append-nil (canonical o v) ∙ sym a.canonical_bytes;
+      } in
+      let (s, h) = strict_accepts d n o input v begins in
+      (s, h, strict_bytes d n o input s h ∙ (one_front d n o input (value_of s) v (strict_value d n o input s h) begins).1 ∙ sym a.canonical_bytes)
+
+  accepted_own_answer : (s : Spelling) → IsVerdict d n (strict o) input (accepted s) → spell s ≡ input → IsCanonicalOf d n o input input
+  accepted_own_answer s v e =
+      let h = (accepts_exactly d n (strict o) input s).0 v in
+      let fits : length input ≤ n = subst (λ (b : List ℕ). length b ≤ n) e (item_within_limit d n (strict o) input s v) in
+      let i : IsValidItem d n input s = record {
+        well_formed = record { spelled = h.1.0; within = h.1.1; bytes_are = e };
+        valid = plain_too o s 0 h.2 (strict_value d n o input s v).valid;
+        fits = fits;
+      } in
+      (answers_exactly d n o input input).1 (s, i, sym e ∙ strict_bytes d n o input s v, fits)
+
+  -- it is its own answer exactly where the strict verdict accepts it whole
+  pub own_answers_exactly : n ≤ 2 ^ 62 → IsCanonicalOf d n o input input ↔ ((s : Spelling) × IsVerdict d n (strict o) input (accepted s) × (spell s ≡ input))
+  own_answers_exactly m = (own_answer_accepted m, (λ (s, v, e). accepted_own_answer s v e))

@@ -1,6 +1,0 @@
-use Rattle.cbor_reader.specs.inner.LastKeys.{seen}
-use Rattle.cbor_reader.proofs.KeptKeys.{opens_other}
-use Rattle.cbor_reader.proofs.last_keys.LastKeys.open_other.Goals as goal
-
-pub returns : goal.returns
-returns c = λ f fs p d h e. rw c.push.ensures.items (opens_other (seen c.args.self.now) f fs p d h e)

@@ -1,0 +1,349 @@
+-- What becomes of the open containers as an item ends in them, whatever is kept of them.
+use Rattle.std.proofs.Common.{◌≡◌, ℕ, suc, ◌+◌, ◌-◌, ◌≤◌, Bool, true, false, IsTrue, Option, Some, List, [], ◌∷◌, ◌++◌, length, refl, sym, ap, ◌∙◌, subst, inl, inr, arith, append_assoc, append-nil}
+use Rattle.std.specs.Prelude.{reverse, nat_lt, nat_le, ◌&&◌, if◌then◌else◌}
+use Rattle.std.proofs.lemmas.List.{length-append, length-map, length-reverse}
+use Rattle.cbor_head.specs.Head.{head}
+use Rattle.cbor_head.specs.Limits.{Bounds}
+use Rattle.cbor_head.specs.Order.{key_lt}
+use Rattle.cbor_head.specs.Spelling.{Spelling, Spellings, SpelledEntries, unsigned, negative, bytes, text, byte_chunks, text_chunks, array, a_map, tag, simple, no_spellings, a_spelling, no_entries, entry, spell, spellings_count, entries_count, IsSpelled, depth, IsItem}
+use Rattle.cbor_head.specs.Complaint as complaint
+use Rattle.cbor_head.specs.Complaint.{Rules, strict, OfCount, OfKey, Complains}
+use Rattle.cbor_head.specs.Verdict.{refusal}
+use Rattle.cbor_head.specs.declared.major.Major.TheVariants.{Array, Map, Tag}
+use Rattle.cbor_head.specs.declared.order.KeyOrder.{KeyOrder}
+use Rattle.cbor_head.specs.declared.reason.Refusal.{Refusal}
+use Rattle.cbor_head.specs.declared.reason.Reason.TheVariants as reasons
+use Rattle.cbor_head.specs.declared.width.Width.{Width}
+use Rattle.cbor_events.specs.Open.{open_after, open_in, open_in_entries}
+use Rattle.cbor_events.specs.inner.Automaton.{Frame as Container, at_item, counted, close, done as at_end}
+use Rattle.cbor_events.specs.inner.State.{state_of}
+use Rattle.cbor_events.specs.ItemEvents.{ItemEventsView}
+use Rattle.cbor_events.specs.declared.frame.Frame as frames
+use Rattle.cbor_events.specs.declared.position.Position.{Position}
+use Rattle.cbor_events.specs.declared.position.Position.TheVariants as positions
+use Rattle.cbor_strict.specs.inner.Frame.{Frame, a_member, a_key, a_content, tagged, with_all, with_entries, keys_onto, plug, before, OfFront}
+use Rattle.cbor_strict.specs.inner.Judged.{IsJudged}
+use Rattle.cbor_strict.specs.inner.OpenMaps.{placed, open_keys, AreDistinct, OfClosed, before_all, AreOpen, AreOpenDistinct}
+use Rattle.cbor_strict.specs.inner.Reading.{IsAt}
+use Rattle.cbor_strict.specs.inner.SliceChecks.{IsLastKey}
+use Rattle.cbor_strict.proofs.Frames.{spelled_plug, depth_plug}
+use Rattle.cbor_strict.proofs.Judged.{Never, judged_key}
+use Rattle.cbor_strict.proofs.OpenKeys.{on_keys_split, onto_keys, front_apart}
+use Rattle.cbor_strict.proofs.OpenMaps.{judged_within}
+use Rattle.cbor_strict.proofs.OpenSteps.{before_snoc, distinct_snoc, member_before, content_before, content_keys, map_closes, array_closes, tag_closes}
+use Rattle.cbor_strict.proofs.OpenWalk.{shuts, innermost, member_ends, key_ends, content_ends}
+use Rattle.cbor_strict.proofs.Scalars.{at-as}
+use Rattle.cbor_strict.proofs.SliceItems.{key-fresh, key-falls}
+use Rattle.cbor_strict.proofs.Steps.{at-reached}
+use Rattle.cbor_strict.specs.inner.LastKeys.{from_outside, last_key, IsFull, AreDefinite, still_open, ended_item}
+use Rattle.cbor_strict.specs.inner.OpenItems.{frames_in, bytes_before}
+use Rattle.cbor_strict.specs.inner.Reading.{HasCause}
+use Rattle.cbor_strict.proofs.KeptKeys.{full_bytes}
+
+-- ---- the containers
+
+pub outside_length : (fs : List Frame) → length (from_outside fs) ≡ length fs
+outside_length [] = refl
+outside_length (f ∷ fs) = omega (arith, outside_length fs, length-append (from_outside fs) (f ∷ []))
+
+pub frames_length : (fs : List Frame) → length (frames_in fs) ≡ length fs
+frames_length [] = refl
+frames_length (f ∷ fs) = omega (arith, frames_length fs)
+
+pub before_more : (fs : List Frame) (f : Frame) → bytes_before (f ∷ fs) ≡ bytes_before fs ++ before f
+before_more fs f = before_snoc (from_outside fs) f
+
+pub before_size : (fs : List Frame) (f : Frame) → length (bytes_before (f ∷ fs)) ≡ length (bytes_before fs) + length (before f)
+before_size fs f = ap length (before_more fs f) ∙ length-append (bytes_before fs) (before f)
+
+-- by the strict rules each has a length
+pub definite_of : (o : KeyOrder) (d : ℕ) (fs : List Frame) → AreOpen (strict o) d (from_outside fs) → AreDefinite fs
+definite_of o d [] h = tt
+definite_of o d (a_member w a b ∷ fs) h =
+    let i = innermost (strict o) d (from_outside fs) (a_member w a b) h in (
+      λ e. i.clean _ (inl (subst (λ (v : Width). OfCount (strict o) (length (bytes_before fs)) Array v (spellings_count a + suc (spellings_count b)) (complaint.complaint (length (bytes_before fs) + 1) (length (bytes_before fs)) reasons.Indefinite)) (sym e) refl)),
+      definite_of o d fs (shuts (strict o) d (from_outside fs) (a_member w a b) h),
+    )
+definite_of o d (a_key w a v b ∷ fs) h =
+    let i = innermost (strict o) d (from_outside fs) (a_key w a v b) h in (
+      λ e. i.clean _ (inl (subst (λ (v : Width). OfCount (strict o) (length (bytes_before fs)) Map v (entries_count a + suc (entries_count b)) (complaint.complaint (length (bytes_before fs) + 1) (length (bytes_before fs)) reasons.Indefinite)) (sym e) refl)),
+      definite_of o d fs (shuts (strict o) d (from_outside fs) (a_key w a v b) h),
+    )
+definite_of o d (a_content w a k b ∷ fs) h =
+    let i = innermost (strict o) d (from_outside fs) (a_content w a k b) h in (
+      λ e. i.clean _ (inl (subst (λ (v : Width). OfCount (strict o) (length (bytes_before fs)) Map v (entries_count a + suc (entries_count b)) (complaint.complaint (length (bytes_before fs) + 1) (length (bytes_before fs)) reasons.Indefinite)) (sym e) refl)),
+      definite_of o d fs (shuts (strict o) d (from_outside fs) (a_content w a k b) h),
+    )
+definite_of o d (tagged w n ∷ fs) h = definite_of o d fs (shuts (strict o) d (from_outside fs) (tagged w n) h)
+
+pub distinct_outer : (fs : List Frame) (f : Frame) (r : Rules) (at to : ℕ) → to ≡ at + length (before_all fs) → AreOpenDistinct r at (fs ++ f ∷ []) → AreOpenDistinct r at fs × AreDistinct r (open_keys to f)
+distinct_outer [] f r at to e h = let g : at ≡ to = omega (arith, e) in (tt, subst (λ (k : ℕ). AreDistinct r (open_keys k f)) g h.0)
+distinct_outer (g ∷ fs) f r at to e h =
+    let i = distinct_outer fs f r (at + length (before g)) to (omega (arith, e, length-append (before g) (before_all fs))) h.1 in
+    ((h.0, i.0), i.1)
+
+-- ---- what closes
+
+-- which containers are open still
+pub data StaysOpen : List Frame → Type 0 where
+  none_open : StaysOpen []
+  member_open : (w : Width) (a : Spellings) (t : Spelling) (b : Spellings) (gs : List Frame) → StaysOpen (a_member w a (a_spelling t b) ∷ gs)
+  key_open : (w : Width) (a : SpelledEntries) (v : Spelling) (b : SpelledEntries) (gs : List Frame) → StaysOpen (a_key w a v b ∷ gs)
+  content_open : (w : Width) (a : SpelledEntries) (k l m : Spelling) (b : SpelledEntries) (gs : List Frame) → StaysOpen (a_content w a k (entry l m b) ∷ gs)
+
+pub stays_open : (fs : List Frame) → StaysOpen (still_open fs)
+stays_open [] = none_open
+stays_open (a_member w a no_spellings ∷ fs) = stays_open fs
+stays_open (a_member w a (a_spelling t b) ∷ fs) = member_open w a t b fs
+stays_open (a_key w a v b ∷ fs) = key_open w a v b fs
+stays_open (a_content w a k no_entries ∷ fs) = stays_open fs
+stays_open (a_content w a k (entry l m b) ∷ fs) = content_open w a k l m b fs
+stays_open (tagged w n ∷ fs) = stays_open fs
+
+-- an item that has ended in these containers, in all of which nothing has a complaint
+pub record EndsClean (o : KeyOrder) (d : ℕ) (fs : List Frame) (s : Spelling) : Type 0 where
+  pub are : AreOpen (strict o) d (from_outside fs)
+  pub distinct : AreOpenDistinct (strict o) 0 (from_outside fs)
+  pub spelled : IsSpelled s
+  pub within : depth s ≤ are.left
+  pub clean : Never (Complains (strict o) (length (bytes_before fs)) s)
+
+pub level_back : (o : KeyOrder) (d : ℕ) (f : Frame) (fs : List Frame) (h : AreOpen (strict o) d (from_outside (f ∷ fs))) (out : AreOpen (strict o) d (from_outside fs)) → out.left ≡ suc h.left
+level_back o d f fs h out =
+    let a = h.levels in
+    let b = out.levels in
+    omega (arith, a, b, outside_length fs, outside_length (f ∷ fs))
+
+-- with the innermost, which is full
+closes_one : (o : KeyOrder) (d : ℕ) (f : Frame) (fs : List Frame) (s : Spelling) → EndsClean o d (f ∷ fs) s
+    → ((at : ℕ) → Never (OfClosed (strict o) at f) → AreDistinct (strict o) (open_keys at f) → Never (Complains (strict o) (at + length (before f)) s) → Never (Complains (strict o) at (plug f s)))
+    → EndsClean o d fs (plug f s)
+closes_one o d f fs s h step =
+    let i = innermost (strict o) d (from_outside fs) f h.are in
+    let u = distinct_outer (from_outside fs) f (strict o) 0 (length (bytes_before fs)) (omega arith) h.distinct in
+    let deep = depth_plug f s in
+    let flat = i.flat in
+    let low = h.within in
+    let room = level_back o d f fs h.are (shuts (strict o) d (from_outside fs) f h.are) in
+    record {
+      are = shuts (strict o) d (from_outside fs) f h.are;
+      distinct = u.0;
+      spelled = spelled_plug f s i.fits h.spelled;
+      within = omega (arith, deep, flat, low, room);
+      clean = step (length (bytes_before fs)) i.clean u.1 (subst (λ (k : ℕ). Never (Complains (strict o) k s)) (before_size fs f) h.clean);
+    }
+
+pub ends_closed : (o : KeyOrder) (d : ℕ) (fs : List Frame) (s : Spelling) → EndsClean o d fs s → EndsClean o d (still_open fs) (ended_item fs s)
+ends_closed o d [] s h = h
+ends_closed o d (a_member w a no_spellings ∷ fs) s h =
+    ends_closed o d fs (plug (a_member w a no_spellings) s) (closes_one o d (a_member w a no_spellings) fs s h (λ at clean distinct none. array_closes w a s (strict o) at clean none))
+ends_closed o d (a_member w a (a_spelling t b) ∷ fs) s h = h
+ends_closed o d (a_key w a v b ∷ fs) s h = h
+ends_closed o d (a_content w a k no_entries ∷ fs) s h =
+    ends_closed o d fs (plug (a_content w a k no_entries) s) (closes_one o d (a_content w a k no_entries) fs s h (λ at clean distinct none. map_closes w a k s (strict o) at clean distinct none))
+ends_closed o d (a_content w a k (entry l m b) ∷ fs) s h = h
+ends_closed o d (tagged w n ∷ fs) s h =
+    ends_closed o d fs (plug (tagged w n) s) (closes_one o d (tagged w n) fs s h (λ at clean distinct none. tag_closes w n s (strict o) at clean none))
+
+same_one : (f : Frame) (fs : List Frame) (s : Spelling) → IsFull f → bytes_before (f ∷ fs) ++ spell s ≡ bytes_before fs ++ spell (plug f s)
+same_one f fs s full =
+    ap (λ (x : List ℕ). x ++ spell s) (before_more fs f) ∙ append_assoc (bytes_before fs) (before f) (spell s) ∙ ap (λ (x : List ℕ). bytes_before fs ++ x) (sym (full_bytes f s full))
+
+pub ended_bytes : (fs : List Frame) (s : Spelling) → AreDefinite fs → bytes_before fs ++ spell s ≡ bytes_before (still_open fs) ++ spell (ended_item fs s)
+ended_bytes [] s d = refl
+ended_bytes (a_member w a no_spellings ∷ fs) s d = same_one (a_member w a no_spellings) fs s d.0 ∙ ended_bytes fs (plug (a_member w a no_spellings) s) d.1
+ended_bytes (a_member w a (a_spelling t b) ∷ fs) s d = refl
+ended_bytes (a_key w a v b ∷ fs) s d = refl
+ended_bytes (a_content w a k no_entries ∷ fs) s d = same_one (a_content w a k no_entries) fs s d.0 ∙ ended_bytes fs (plug (a_content w a k no_entries) s) d.1
+ended_bytes (a_content w a k (entry l m b) ∷ fs) s d = refl
+ended_bytes (tagged w n ∷ fs) s d = same_one (tagged w n) fs s tt ∙ ended_bytes fs (plug (tagged w n) s) d
+
+pub ended_state : (fs : List Frame) → close (frames_in fs) ≡ close (frames_in (still_open fs))
+ended_state [] = refl
+ended_state (a_member w a no_spellings ∷ fs) = ended_state fs
+ended_state (a_member w a (a_spelling t b) ∷ fs) = refl
+ended_state (a_key w a v b ∷ fs) = refl
+ended_state (a_content w a k no_entries ∷ fs) = ended_state fs
+ended_state (a_content w a k (entry l m b) ∷ fs) = refl
+ended_state (tagged w n ∷ fs) = ended_state fs
+
+-- ---- how many the events count
+
+item_length : (position : Position) (fr : List frames.Frame) (xs : List Container) → state_of position fr ≡ at_item xs → length fr ≡ length xs
+item_length positions.Item fr xs e = sym (length-map (reverse fr) _ ∙ length-reverse fr) ∙ same_length _ xs e
+  where
+    same_length : (xs ys : List Container) → at_item xs ≡ at_item ys → length xs ≡ length ys
+    same_length xs ys e = ap length (inside e)
+      where
+        inside : at_item xs ≡ at_item ys → xs ≡ ys
+        inside e = cc e
+item_length (positions.Head chunk kind width left argument) fr xs e = absurd (cc e)
+item_length positions.SimpleNumber fr xs e = absurd (cc e)
+item_length (positions.Payload chunk kind left) fr xs e = absurd (cc e)
+item_length (positions.Chunks kind) fr xs e = absurd (cc e)
+item_length positions.Done fr xs e = absurd (cc e)
+
+pub done_position : (position : Position) (fr : List frames.Frame) → state_of position fr ≡ at_end → position ≡ positions.Done
+done_position positions.Done fr e = refl
+done_position positions.Item fr e = absurd (cc e)
+done_position (positions.Head chunk kind width left argument) fr e = absurd (cc e)
+done_position positions.SimpleNumber fr e = absurd (cc e)
+done_position (positions.Payload chunk kind left) fr e = absurd (cc e)
+done_position (positions.Chunks kind) fr e = absurd (cc e)
+
+pub content_state : (n : ℕ) (xs : List Container) → close (counted (suc n + suc n) ∷ xs) ≡ at_item (counted (n + suc n) ∷ xs)
+content_state n xs = let e : suc n + suc n ≡ suc (n + suc n) = omega arith in ap (λ (k : ℕ). close (counted k ∷ xs)) e
+
+pub shut_count : (position : Position) (fr : List frames.Frame) (fs : List Frame) → state_of position fr ≡ close (frames_in fs) → (position ≡ positions.Done → length fr ≡ 0) → length fr ≡ length (still_open fs)
+shut_count position fr [] e none = none (done_position position fr e)
+shut_count position fr (a_member w a no_spellings ∷ fs) e none = shut_count position fr fs e none
+shut_count position fr (a_member w a (a_spelling t b) ∷ fs) e none = omega (arith, item_length position fr (counted (spellings_count b) ∷ frames_in fs) e, frames_length fs)
+shut_count position fr (a_key w a v b ∷ fs) e none = omega (arith, item_length position fr (counted (entries_count b + entries_count b) ∷ frames_in fs) e, frames_length fs)
+shut_count position fr (a_content w a k no_entries ∷ fs) e none = shut_count position fr fs e none
+shut_count position fr (a_content w a k (entry l m b) ∷ fs) e none = omega (arith, item_length position fr (counted (entries_count b + suc (entries_count b)) ∷ frames_in fs) (e ∙ content_state (entries_count b) (frames_in fs)), frames_length fs)
+shut_count position fr (tagged w n ∷ fs) e none = shut_count position fr fs e none
+
+not_below : (n : ℕ) → nat_lt n n ≡ false
+not_below n = grind arith
+
+none_within : (b : Bool) (n : ℕ) → (if b && false then suc n else 0) ≡ 0
+none_within true n = refl
+none_within false n = refl
+
+none_behind : (s : Spelling) → open_after (length (spell s)) s ≡ 0
+none_behind (array w ss) =
+    ap (λ (q : Bool). if nat_le (length (head Array w (spellings_count ss))) (length (spell (array w ss))) && q then suc (open_in (length (spell (array w ss))) (length (head Array w (spellings_count ss))) ss) else 0) (not_below (length (spell (array w ss))))
+    ∙ none_within (nat_le (length (head Array w (spellings_count ss))) (length (spell (array w ss)))) (open_in (length (spell (array w ss))) (length (head Array w (spellings_count ss))) ss)
+none_behind (a_map w es) =
+    ap (λ (q : Bool). if nat_le (length (head Map w (entries_count es))) (length (spell (a_map w es))) && q then suc (open_in_entries (length (spell (a_map w es))) (length (head Map w (entries_count es))) es) else 0) (not_below (length (spell (a_map w es))))
+    ∙ none_within (nat_le (length (head Map w (entries_count es))) (length (spell (a_map w es)))) (open_in_entries (length (spell (a_map w es))) (length (head Map w (entries_count es))) es)
+none_behind (tag w n s) =
+    ap (λ (q : Bool). if nat_le (length (head Tag w n)) (length (spell (tag w n s))) && q then suc (open_after (length (spell (tag w n s)) - length (head Tag w n)) s) else 0) (not_below (length (spell (tag w n s))))
+    ∙ none_within (nat_le (length (head Tag w n)) (length (spell (tag w n s)))) (open_after (length (spell (tag w n s)) - length (head Tag w n)) s)
+none_behind (unsigned w n) = refl
+none_behind (negative w n) = refl
+none_behind (bytes w q) = refl
+none_behind (text w q) = refl
+none_behind (byte_chunks cs) = refl
+none_behind (text_chunks cs) = refl
+none_behind (simple n) = refl
+
+pub open_so : (b : Bounds) (e : ItemEventsView) (t : List ℕ) (fs : List Frame) → (a : IsAt b e t (close (frames_in fs))) → e.machine.open_count ≡ length (still_open fs)
+open_so b e t fs a =
+    let m = e.machine in
+    let shown = a.stands.stands.inner.shown in
+    shown.open_count ∙ shut_count m.inner.position m.inner.frames fs a.state (λ d.
+    let complete = a.stands.stands.complete.0 (rw d at shown.complete, a.stands.stands.live) in
+    let all : spell complete.0 ≡ t = complete.1.bytes_are in
+    let counts = a.stands.stands.counted complete.0 [] (subst (IsItem m.depth complete.0) (sym (append-nil t)) complete.1) in
+    sym shown.open_count ∙ counts ∙ ap (λ (x : List ℕ). open_after (length x) complete.0) (sym all) ∙ none_behind complete.0)
+
+-- a key
+last_onto : (k v : Spelling) (es : SpelledEntries) (ks : List Spelling) → IsLastKey (last_key (entry k v es)) (keys_onto ks (entry k v es))
+last_onto k v no_entries ks = refl
+last_onto k v (entry l w es) ks = last_onto l w es (k ∷ ks)
+
+pub last_is : (a : SpelledEntries) → IsLastKey (last_key a) (keys_onto [] a)
+last_is no_entries = refl
+last_is (entry k v es) = last_onto k v es []
+
+-- ---- behind what closed
+
+-- the item that ended, in the containers that stay open
+pub record EndsIn (o : KeyOrder) (b : Bounds) (e : ItemEventsView) (t : List ℕ) (gs : List Frame) (s : Spelling) : Type 0 where
+  pub clean : EndsClean o b.depth gs s
+  pub taken : t ≡ bytes_before gs ++ spell s
+  pub at : IsAt b e t (close (frames_in gs))
+
+-- an item is due in these
+pub record IsDueIn (o : KeyOrder) (b : Bounds) (e : ItemEventsView) (t : List ℕ) (gs : List Frame) : Type 0 where
+  pub are : AreOpen (strict o) b.depth (from_outside gs)
+  pub distinct : AreOpenDistinct (strict o) 0 (from_outside gs)
+  pub taken : t ≡ bytes_before gs
+  pub at : IsAt b e t (at_item (frames_in gs))
+
+pub ends_in : (o : KeyOrder) (b : Bounds) (e : ItemEventsView) (t : List ℕ) (fs : List Frame) (s : Spelling) → EndsIn o b e t fs s → EndsIn o b e t (still_open fs) (ended_item fs s)
+ends_in o b e t fs s h = record {
+  clean = ends_closed o b.depth fs s h.clean;
+  taken = h.taken ∙ ended_bytes fs s (definite_of o b.depth fs h.clean.are);
+  at = at-as b e t t (close (frames_in fs)) (close (frames_in (still_open fs))) refl (ended_state fs) h.at;
+}
+
+module _ (o : KeyOrder) (b : Bounds) (e : ItemEventsView) (t : List ℕ) (gs : List Frame) (s : Spelling) where
+  -- where the next begins
+  next_bytes : (f : Frame) → EndsIn o b e t (f ∷ gs) s → t ≡ bytes_before gs ++ (before f ++ spell s)
+  next_bytes f m = m.taken ∙ ap (λ (y : List ℕ). y ++ spell s) (before_more gs f) ∙ append_assoc (bytes_before gs) (before f) (spell s)
+
+  clean_in : (f : Frame) → EndsIn o b e t (f ∷ gs) s → Never (Complains (strict o) (length (bytes_before gs) + length (before f)) s)
+  clean_in f m = subst (λ (n : ℕ). Never (Complains (strict o) n s)) (before_size gs f) m.clean.clean
+
+  pub member_next : (w : Width) (a : Spellings) (x : Spelling) (c : Spellings) → EndsIn o b e t (a_member w a (a_spelling x c) ∷ gs) s → IsDueIn o b e t (a_member w (with_all a (a_spelling s no_spellings)) c ∷ gs)
+  member_next w a x c m =
+      let f = a_member w a (a_spelling x c) in
+      let g = a_member w (with_all a (a_spelling s no_spellings)) c in
+      let u = distinct_outer (from_outside gs) f (strict o) 0 (length (bytes_before gs)) (omega arith) m.clean.distinct in
+      record {
+        are = member_ends (strict o) b.depth (from_outside gs) w a s x c m.clean.are m.clean.spelled m.clean.within (clean_in f m);
+        distinct = distinct_snoc (from_outside gs) g (strict o) 0 (length (bytes_before gs)) (omega arith) u.0 (λ q h. h);
+        taken = next_bytes f m ∙ ap (λ (y : List ℕ). bytes_before gs ++ y) (sym (member_before w a s x c)) ∙ sym (before_more gs g);
+        at = m.at;
+      }
+
+  pub content_next : (w : Width) (a : SpelledEntries) (key l x : Spelling) (c : SpelledEntries) → EndsIn o b e t (a_content w a key (entry l x c) ∷ gs) s → IsDueIn o b e t (a_key w (with_entries a (entry key s no_entries)) x c ∷ gs)
+  content_next w a key l x c m =
+      let f = a_content w a key (entry l x c) in
+      let g = a_key w (with_entries a (entry key s no_entries)) x c in
+      let at = length (bytes_before gs) in
+      let u = distinct_outer (from_outside gs) f (strict o) 0 at (omega arith) m.clean.distinct in
+      record {
+        are = content_ends (strict o) b.depth (from_outside gs) w a key s l x c m.clean.are m.clean.spelled m.clean.within (clean_in f m);
+        distinct = distinct_snoc (from_outside gs) g (strict o) 0 at (omega arith) u.0 (subst (AreDistinct (strict o)) (sym (content_keys w a key s l x x c at)) u.1);
+        taken = next_bytes f m ∙ ap (λ (y : List ℕ). bytes_before gs ++ y) (sym (content_before w a key s l x x c)) ∙ sym (before_more gs g);
+        at = at-as b e t t (close (frames_in (f ∷ gs))) (at_item (frames_in (g ∷ gs))) refl (content_state (entries_count c) (frames_in gs) ∙ ap (λ (n : ℕ). at_item (counted n ∷ frames_in gs)) (omega arith)) m.at;
+      }
+
+  pub key_next : (w : Width) (a : SpelledEntries) (v : Spelling) (c : SpelledEntries) → EndsIn o b e t (a_key w a v c ∷ gs) s → IsTrue (key_lt o (last_key a) (spell s)) → IsDueIn o b e t (a_content w a s c ∷ gs)
+  key_next w a v c m rises =
+      let f = a_key w a v c in
+      let g = a_content w a s c in
+      let at = length (bytes_before gs) in
+      let u = distinct_outer (from_outside gs) f (strict o) 0 at (omega arith) m.clean.distinct in
+      let fresh = key-fresh o (at + length (before f)) s (spell s) refl (keys_onto [] a) (last_key a) (last_is a) rises in
+      record {
+        are = key_ends (strict o) b.depth (from_outside gs) w a s v c m.clean.are m.clean.spelled m.clean.within (clean_in f m);
+        distinct = distinct_snoc (from_outside gs) g (strict o) 0 at (omega arith) u.0 (λ q y. elim (on_keys_split (open_keys at f) (placed (at + length (before f)) s ∷ []) (strict o) [] q y) [
+          | inl z ↦ u.1 q z
+          | inr (inl z) ↦ fresh q (subst (λ (ks : List Spelling). OfKey (strict o) (at + length (before f)) ks s q) (onto_keys a _ []) z)
+          | inr (inr z) ↦ absurd z
+        ]);
+        taken = next_bytes f m ∙ sym (before_more gs g);
+        at = m.at;
+      }
+
+  -- the key is why the whole is refused
+  pub key_refused : (w : Width) (a : SpelledEntries) (v : Spelling) (c : SpelledEntries) (to : Option (List ℕ)) (f : Refusal) → EndsIn o b e t (a_key w a v c ∷ gs) s → ¬ IsTrue (key_lt o (last_key a) (spell s))
+      → f ≡ refusal reasons.KeyOrder (length (bytes_before (a_key w a v c ∷ gs))) (length t) → HasCause (strict o) b [] [] t to f
+  key_refused w a v c to f m falls_so is =
+      let fr = a_key w a v c in
+      let at = length (bytes_before gs) in
+      let to0 = at + length (before fr) in
+      let bytes_are = next_bytes fr m in
+      let count_all : length t ≡ to0 + length (spell s) = omega (arith, ap length bytes_are, length-append (bytes_before gs) (before fr ++ spell s), length-append (before fr) (spell s)) in
+      let cmp = complaint.complaint (to0 + length (spell s)) to0 reasons.KeyOrder in
+      let i = innermost (strict o) b.depth (from_outside gs) fr m.clean.are in
+      let out = shuts (strict o) b.depth (from_outside gs) fr m.clean.are in
+      let u = distinct_outer (from_outside gs) fr (strict o) 0 at (omega arith) m.clean.distinct in
+      let falls = key-falls o to0 s (spell s) refl (keys_onto [] a) (last_key a) (last_is a) falls_so in
+      let none : Never (OfFront (strict o) at fr) = λ q y. elim (front_apart fr (strict o) at q y) [ inl z ↦ i.clean q z | inr z ↦ u.1 q z ] in
+      let one = judged_key fr (strict o) at m.clean.are.left i.fits i.flat none s cmp m.clean.spelled m.clean.within (clean_in fr m) falls in
+      let whole = judged_within (from_outside gs) (strict o) 0 at out.left (before fr ++ spell s) (Some cmp) (omega arith) out.path out.closed u.0
+      (subst (λ (n : ℕ). IsJudged (strict o) at n (before fr ++ spell s) (Some cmp)) (sym (level_back o b.depth fr gs m.clean.are out)) one) in
+      let level : length (from_outside gs) + out.left ≡ b.depth - 0 = (let levels = out.levels in omega (arith, levels)) in
+      record {
+        p = t;
+        last = [];
+        splits = sym (append-nil t);
+        found = Some cmp;
+        judged = subst (λ (n : ℕ). IsJudged (strict o) 0 n t (Some cmp)) level (subst (λ (x : List ℕ). IsJudged (strict o) 0 (length (from_outside gs) + out.left) x (Some cmp)) (sym bytes_are) whole);
+        cause = (is ∙ ap (λ (n : ℕ). refusal reasons.KeyOrder n (length t)) (before_size gs fr) ∙ ap (refusal reasons.KeyOrder to0) count_all, (at-reached b e t (close (frames_in (fr ∷ gs))) m.at).within);
+      }

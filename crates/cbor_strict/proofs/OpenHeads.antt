@@ -1,0 +1,344 @@
+-- What becomes of the open containers as a head comes.
+use Rattle.std.proofs.Common.{◌≡◌, ◌≢◌, ℕ, zero, suc, ◌+◌, ◌-◌, ◌<◌, ◌≤◌, ◌⊎◌, Bool, false, Option, Some, None, List, [], ◌∷◌, ◌++◌, length, replicate, refl, sym, ap, ◌∙◌, subst, inl, inr, arith, append_assoc, append-nil}
+use Rattle.std.proofs.lemmas.List.{length-append, nil_from_length}
+use Rattle.std.proofs.lemmas.Bool.{cases_lt}
+use Rattle.cbor_head.specs.Head.{Holds, head, shortest, shortest_head}
+use Rattle.cbor_head.specs.Limits.{Bounds}
+use Rattle.cbor_head.specs.Value.{Value}
+use Rattle.cbor_head.specs.Spelling.{Spelling, SpelledEntries, unsigned, negative, bytes, text, array, a_map, tag, simple, no_entries, spell, HoldsOrIndefinite, IsSpelled, depth}
+use Rattle.cbor_head.specs.Complaint as complaint
+use Rattle.cbor_head.specs.Complaint.{Rules, strict, OfHead, Complains}
+use Rattle.cbor_head.specs.Verdict.{refusal}
+use Rattle.cbor_head.specs.declared.major.Major.{Major}
+use Rattle.cbor_head.specs.declared.major.Major.TheVariants as majors
+use Rattle.cbor_head.specs.declared.order.KeyOrder.{KeyOrder}
+use Rattle.cbor_head.specs.declared.reason.Reason.{Reason}
+use Rattle.cbor_head.specs.declared.reason.Reason.TheVariants.{Memory}
+use Rattle.cbor_head.specs.declared.reason.Refusal.{Refusal}
+use Rattle.cbor_head.specs.declared.width.Width.{Width}
+use Rattle.cbor_head.specs.declared.width.Width.TheVariants.{Direct, One, Two, Four, Eight, Indefinite}
+use Rattle.cbor_head.proofs.Agree.{head_of, body, parts}
+use Rattle.cbor_events.specs.Trace.{Mark, a_head}
+use Rattle.cbor_events.specs.inner.Automaton.{Frame as Container, State, at_item, close, payload}
+use Rattle.cbor_events.specs.inner.Taking.{Follows, IsTaking}
+use Rattle.cbor_events.specs.ItemEvents.{ItemEventsView}
+use Rattle.cbor_events.specs.Marks.{mark_of}
+use Rattle.cbor_events.specs.declared.event.Event.{Event}
+use Rattle.cbor_events.specs.declared.event.EventKind.{EventKind}
+use Rattle.cbor_events.specs.declared.event.EventKind.TheVariants as kinds
+use Rattle.cbor_events.specs.TextCheck.{HasChecked}
+use Rattle.cbor_strict.specs.declared.last_keys.Due.TheVariants.{Member}
+use Rattle.cbor_strict.specs.declared.last_keys.LastKeys.{LastKeys}
+use Rattle.cbor_strict.specs.declared.open_items.OpenItems.{OpenItems}
+use Rattle.cbor_strict.specs.inner.Frame.{Frame, a_key, before}
+use Rattle.cbor_strict.specs.inner.LastKeys.{seen, from_outside, due_of, IsKept}
+use Rattle.cbor_strict.specs.inner.OpenItems.{frames_in, bytes_before, Stands, AreRefused, HasEnded, HasHeadCome, HasBegunIn, IsLeaf, IsMap, IsOther, short_head}
+use Rattle.cbor_strict.specs.inner.OpenMaps.{AreOpen, AreOpenDistinct}
+use Rattle.cbor_strict.specs.inner.Reading.{IsReached, IsUndecided, HasCause, OfMark, IsFault, IsBegun, ReadsItem, string_kind, string_major}
+use Rattle.cbor_strict.proofs.Heads.{zero_bytes, zero_length, open_or}
+use Rattle.cbor_strict.proofs.Items.{IsDefinite, definite, proper-definite, never-open, head-count, cause-in, undecided-in, head-judged, taking-some}
+use Rattle.cbor_strict.proofs.Judged.{Never, zero_item, zeros, zeros_count, zeros_spelled, zeros_flat, zero_pairs, pairs_count, pairs_spelled, pairs_flat, judged_head}
+use Rattle.cbor_strict.proofs.KeptKeys.{kept_levels, kept_spans}
+use Rattle.cbor_strict.proofs.OpenBegins.{lift, no_break, no_openers, leaf_reads, HasOpened, other_opens, pairs_open}
+use Rattle.cbor_strict.proofs.OpenEnds.{frames_length, before_more}
+use Rattle.cbor_strict.proofs.OpenItems.{around_as}
+use Rattle.cbor_strict.proofs.Scalars.{at-as}
+use Rattle.cbor_strict.proofs.Steps.{head-size, fault_of, at-reached}
+use Rattle.cbor_strict.proofs.Undecided.{last-apart}
+use Rattle.cbor_strict.proofs.WholeStrings.{string-head, string-due}
+
+-- ---- what is found of the item is found of the whole
+
+module _ (o : KeyOrder) (b : Bounds) (fs : List Frame) (are : AreOpen (strict o) b.depth (from_outside fs)) (distinct : AreOpenDistinct (strict o) 0 (from_outside fs)) where
+  pub refused_part : (m t : List ℕ) (to : Option (List ℕ)) (f : Refusal) → t ≡ bytes_before fs ++ m → f.read ≡ length t → HasCause (strict o) b (frames_in fs) (bytes_before fs) m to f → AreRefused (strict o) b t to f
+  refused_part m t to f e read h = record { read = read; why = inr (subst (λ (x : List ℕ). HasCause (strict o) b [] [] x to f) (sym e) (cause-in (strict o) b [] (frames_in fs) [] (bytes_before fs) (lift o b fs are distinct) m to f h)) }
+
+  pub memory_part : (m t : List ℕ) (to : Option (List ℕ)) (f : Refusal) (taken : ℕ) → t ≡ bytes_before fs ++ m → taken ≡ length t → f ≡ refusal Memory taken taken → IsReached b t → IsUndecided (strict o) b (frames_in fs) (bytes_before fs) m
+      → AreRefused (strict o) b t to f
+  memory_part m t to f taken e read is r u = record {
+    read = ap (λ (x : Refusal). x.read) is ∙ read;
+    why = inl (
+      (ap (λ (x : Refusal). x.reason) is, ap (λ (x : Refusal). x.place) is ∙ sym (ap (λ (x : Refusal). x.read) is)),
+      r,
+      subst (λ (x : List ℕ). IsUndecided (strict o) b [] [] x) (sym e) (undecided-in (strict o) b [] (frames_in fs) [] (bytes_before fs) (lift o b fs are distinct) m u),
+    );
+  }
+
+-- ---- the head has a complaint
+
+pub refused_head : (v : OpenItems) (b : Bounds) (event : Event) (t x : List ℕ) (e : ItemEventsView) (reason : Reason) (f : Refusal) (taken : ℕ) (to : Option (List ℕ)) → HasHeadCome v b event t x e
+    → IsFault (strict v.order) (mark_of event.width event.kind) reason → taken ≡ e.machine.taken → f ≡ refusal reason event.place taken → AreRefused (strict v.order) b (t ++ x) to f
+refused_head v b event t x e reason f taken to h fault all is =
+    let size : taken ≡ length t + length x = all ∙ h.at.stands.stands.taken ∙ length-append t x in
+    let f_is : f ≡ refusal reason (length t) (length t + length x) = is ∙ ap (λ (n : ℕ). refusal reason n taken) h.place ∙ ap (refusal reason (length t)) size in
+    let c = complaint.complaint (length t + length x) (length t) reason in
+    let of = head-size b.depth (at_item (frames_in h.fs)) h.next (mark_of event.width event.kind) x (strict v.order) (length t) reason h.taking fault in
+    let cause : HasCause (strict v.order) b (frames_in h.fs) t x to f = record {
+      p = x;
+      last = [];
+      splits = sym (append-nil x);
+      found = Some c;
+      judged = head-judged (strict v.order) (length t) b.depth (frames_in h.fs) (mark_of event.width event.kind) x h.next c h.taking of;
+      cause = (f_is, (at-reached b e (t ++ x) h.next h.at).within);
+    } in
+    refused_part v.order b h.fs h.around.are h.around.distinct x (t ++ x) to f (ap (λ (y : List ℕ). y ++ x) h.taken) (ap (λ (y : Refusal). y.read) f_is ∙ sym (length-append t x))
+    (subst (λ (y : List ℕ). HasCause (strict v.order) b (frames_in h.fs) y x to f) h.taken cause)
+
+-- ---- no memory for it
+
+-- an item with this head
+pub record HasHead (d : ℕ) (bs : List ℕ) : Type 0 where
+  pub item : Spelling
+  spelled : IsSpelled item
+  within : depth item ≤ d
+  head_is : head_of item ≡ bs
+
+pub head_item : (d : ℕ) (fs : List Container) (m : Major) (w : Width) (n : ℕ) (x : List ℕ) (next : State) → IsDefinite d fs m w n x next → HasHead (d - length fs) (head m w n)
+head_item d fs m w n x next i = go m i.follows
+  where
+    z : 0 < 24
+    z = omega arith
+
+    go : (m : Major) → Follows d fs m w n next → HasHead (d - length fs) (head m w n)
+    go majors.Unsigned f = record { item = unsigned w n; spelled = i.holds; within = omega arith; head_is = refl }
+    go majors.Negative f = record { item = negative w n; spelled = i.holds; within = omega arith; head_is = refl }
+    go majors.Bytes f = record { item = bytes w (replicate n 0); spelled = (subst (Holds w) (sym (zero_length n)) i.holds, zero_bytes n); within = omega arith; head_is = ap (head majors.Bytes w) (zero_length n) }
+    go majors.Text f = record { item = text w (replicate n 0); spelled = (subst (Holds w) (sym (zero_length n)) i.holds, zero_bytes n); within = omega arith; head_is = ap (head majors.Text w) (zero_length n) }
+    go majors.Array f =
+        let flat = zeros_flat n in
+        record { item = array w (zeros n); spelled = (subst (HoldsOrIndefinite w) (sym (zeros_count n)) (open_or w n i.holds), zeros_spelled n); within = omega (arith, f.0, flat); head_is = ap (head majors.Array w) (zeros_count n) }
+    go majors.Map f =
+        let flat = pairs_flat n in
+        record { item = a_map w (zero_pairs n); spelled = (subst (HoldsOrIndefinite w) (sym (pairs_count n)) (open_or w n i.holds), pairs_spelled n); within = omega (arith, f.0, flat); head_is = ap (head majors.Map w) (pairs_count n) }
+    go majors.Tag f = record { item = tag w n zero_item; spelled = (i.holds, z); within = omega (arith, f.0); head_is = refl }
+    go majors.Simple f = record { item = simple n; spelled = f.0; within = omega arith; head_is = ap (λ (v : Width). head majors.Simple v n) (sym f.1) }
+
+pub head_undecided : (r : Rules) (b : Bounds) (fs : List Container) (t x : List ℕ) → HasHead (b.depth - length fs) x → 0 < length x → IsUndecided r b fs t x
+head_undecided r b fs t x h some =
+    let k = last-apart x some in
+    record {
+      p = k.front;
+      last = k.last;
+      splits = k.splits;
+      byte = omega (arith, k.byte);
+      judged = judged_head r (length t) (b.depth - length fs) k.front h.item (k.last ++ body h.item)
+          (record { spelled = h.spelled; within = h.within; bytes_are = parts h.item ∙ ap (λ (y : List ℕ). y ++ body h.item) (h.head_is ∙ k.splits) ∙ append_assoc k.front k.last (body h.item) })
+          (omega (arith, ap length (h.head_is ∙ k.splits), length-append k.front k.last, k.byte));
+    }
+
+-- without complaint it is definite, and as short as can be
+record IsShort (d : ℕ) (fs : List Container) (x : List ℕ) (kind : EventKind) (next : State) : Type 0 where
+  major : Major
+  width : Width
+  number : ℕ
+  is : IsDefinite d fs major width number x next
+  short : x ≡ short_head kind
+
+abbrev width_number : Width → ℕ
+width_number Direct = 0
+width_number One = 1
+width_number Two = 2
+width_number Four = 3
+width_number Eight = 4
+width_number Indefinite = 5
+
+abbrev width_of : ℕ → Width
+width_of zero = Direct
+width_of (suc zero) = One
+width_of (suc (suc zero)) = Two
+width_of (suc (suc (suc zero))) = Four
+width_of (suc (suc (suc (suc zero)))) = Eight
+width_of _ = Indefinite
+
+width_back : (w : Width) → width_of (width_number w) ≡ w
+width_back Direct = refl
+width_back One = refl
+width_back Two = refl
+width_back Four = refl
+width_back Eight = refl
+width_back Indefinite = refl
+
+same_width : (v w : Width) → (v ≡ w) ⊎ (v ≡ w → ⊥)
+same_width v w = elim (cases_lt (width_number v) (width_number w)) [
+  | inl l ↦ inr (λ e. omega (arith, l, ap width_number e))
+  | inr l ↦ elim (cases_lt (width_number w) (width_number v)) [
+    | inl m ↦ inr (λ e. omega (arith, m, ap width_number e))
+    | inr m ↦
+        let e : width_number v ≡ width_number w = omega (arith, l, m) in
+        inl (sym (width_back v) ∙ ap width_of e ∙ width_back w)
+  ]
+]
+
+shortest_so : (o : KeyOrder) (at : ℕ) (m : Major) (w : Width) (n : ℕ) → Never (OfHead (strict o) at m w n) → w ≡ shortest n
+shortest_so o at m w n none = elim (same_width w (shortest n)) [ inl e ↦ e | inr f ↦ absurd (none _ (f, refl)) ]
+
+short_of : (o : KeyOrder) (b : Bounds) (fs : List Container) (t x : List ℕ) (e : ItemEventsView) (w : Width) (m : Major) (n : ℕ) (kind : EventKind) → mark_of w kind ≡ a_head m w n → w ≢ Indefinite → short_head kind ≡ shortest_head m n
+    → (i : IsBegun (strict o) b fs t x e w kind) → IsShort b.depth fs x kind i.next
+short_of o b fs t x e w m n kind is f short i =
+    let d = definite b.depth fs m w n x i.next f (subst (λ (y : Mark). IsTaking b.depth (at_item fs) y x i.next) is i.taking) in
+    let clean : Never (OfHead (strict o) (length t) m w n) =
+    λ c h. i.clean c (subst (λ (y : Mark). OfMark (strict o) (length t) (at_item fs) y c) (sym is) (head-count (strict o) (length t) m w n c f h)) in
+    record { major = m; width = w; number = n; is = d; short = d.bytes_are ∙ ap (λ (y : Width). head m y n) (shortest_so o (length t) m w n clean) ∙ sym short }
+
+short_begun : (o : KeyOrder) (b : Bounds) (fs : List Container) (t x : List ℕ) (e : ItemEventsView) (w : Width) (kind : EventKind) → (i : IsBegun (strict o) b fs t x e w kind) → IsShort b.depth fs x kind i.next
+short_begun o b fs t x e w (kinds.Unsigned n) i = short_of o b fs t x e w majors.Unsigned n (kinds.Unsigned n) refl (never-open b.depth fs majors.Unsigned w n x i.next tt i.taking) refl i
+short_begun o b fs t x e w (kinds.Negative n) i = short_of o b fs t x e w majors.Negative n (kinds.Negative n) refl (never-open b.depth fs majors.Negative w n x i.next tt i.taking) refl i
+short_begun o b fs t x e w (kinds.Simple n) i = short_of o b fs t x e w majors.Simple n (kinds.Simple n) refl (never-open b.depth fs majors.Simple w n x i.next tt i.taking) refl i
+short_begun o b fs t x e w (kinds.Tag n) i = short_of o b fs t x e w majors.Tag n (kinds.Tag n) refl (never-open b.depth fs majors.Tag w n x i.next tt i.taking) refl i
+short_begun o b fs t x e w (kinds.Bytes (Some n)) i = short_of o b fs t x e w majors.Bytes n (kinds.Bytes (Some n)) refl (proper-definite w i.proper) refl i
+short_begun o b fs t x e w (kinds.Text (Some n)) i = short_of o b fs t x e w majors.Text n (kinds.Text (Some n)) refl (proper-definite w i.proper) refl i
+short_begun o b fs t x e w (kinds.Array (Some n)) i = short_of o b fs t x e w majors.Array n (kinds.Array (Some n)) refl (proper-definite w i.proper) refl i
+short_begun o b fs t x e w (kinds.Map (Some n)) i = short_of o b fs t x e w majors.Map n (kinds.Map (Some n)) refl (proper-definite w i.proper) refl i
+short_begun o b fs t x e w (kinds.Bytes None) i = absurd (no_openers o b fs t x e w majors.Bytes 0 (kinds.Bytes None) refl i.proper i)
+short_begun o b fs t x e w (kinds.Text None) i = absurd (no_openers o b fs t x e w majors.Text 0 (kinds.Text None) refl i.proper i)
+short_begun o b fs t x e w (kinds.Array None) i = absurd (no_openers o b fs t x e w majors.Array 0 (kinds.Array None) refl i.proper i)
+short_begun o b fs t x e w (kinds.Map None) i = absurd (no_openers o b fs t x e w majors.Map 0 (kinds.Map None) refl i.proper i)
+short_begun o b fs t x e w (kinds.Chunk n) i = absurd i.taking
+short_begun o b fs t x e w (kinds.Piece n) i = absurd i.taking
+short_begun o b fs t x e w kinds.End i = absurd (i.item refl)
+
+-- the item that is due has begun
+-- the item that is due has begun
+pub begun_in : (v : OpenItems) (b : Bounds) (event : Event) (t x : List ℕ) (e : ItemEventsView) → (h : HasHeadCome v b event t x e) → ((reason : Reason) → IsFault (strict v.order) (mark_of event.width event.kind) reason → ⊥)
+    → IsBegun (strict v.order) b (frames_in h.fs) t x e event.width event.kind
+begun_in v b event t x e h fine = record {
+  next = h.next;
+  taking = h.taking;
+  item = λ g. no_break h.fs h.next (subst (λ (k : EventKind). IsTaking b.depth (at_item (frames_in h.fs)) (mark_of event.width k) x h.next) g h.taking).1;
+  clean = λ c g. let f = fault_of (at_item (frames_in h.fs)) (mark_of event.width event.kind) (strict v.order) (length t) c g in fine f.0 f.1;
+  proper = h.proper;
+  at = h.at;
+}
+
+pub head_no_memory : (v : OpenItems) (b : Bounds) (event : Event) (t x : List ℕ) (e : ItemEventsView) (f : Refusal) (taken : ℕ) (to : Option (List ℕ)) → HasHeadCome v b event t x e
+    → ((reason : Reason) → IsFault (strict v.order) (mark_of event.width event.kind) reason → ⊥) → taken ≡ e.machine.taken → f ≡ refusal Memory taken taken → AreRefused (strict v.order) b (t ++ x) to f
+unfolding begun_in
+head_no_memory v b event t x e f taken to h fine all is =
+    let i = begun_in v b event t x e h fine in
+    let k = short_begun v.order b (frames_in h.fs) t x e event.width event.kind i in
+    let it = subst (HasHead (b.depth - length (frames_in h.fs))) (sym k.is.bytes_are) (head_item b.depth (frames_in h.fs) k.major k.width k.number x h.next k.is) in
+    let some = taking-some b.depth (frames_in h.fs) (mark_of event.width event.kind) x h.next h.taking in
+    memory_part v.order b h.fs h.around.are h.around.distinct x (t ++ x) to f taken (ap (λ (y : List ℕ). y ++ x) h.taken) (all ∙ h.at.stands.stands.taken) is (at-reached b e (t ++ x) h.next h.at)
+    (head_undecided (strict v.order) b (frames_in h.fs) (bytes_before h.fs) x it some)
+
+-- what is kept now
+pub begun_kept : (v new : OpenItems) (b : Bounds) (event : Event) (t x : List ℕ) (e : ItemEventsView) → (h : HasHeadCome v b event t x e) → ((reason : Reason) → IsFault (strict v.order) (mark_of event.width event.kind) reason → ⊥)
+    → new.order ≡ v.order → new.left ≡ v.left → ((fs : List Frame) → IsKept (seen v.keys) fs [] → IsKept (seen new.keys) fs (short_head event.kind)) → HasBegunIn new b event.width event.kind t x e
+begun_kept v new b event t x e h fine same same_left kept =
+    let i = begun_in v b event t x e h fine in
+    let k = short_begun v.order b (frames_in h.fs) t x e event.width event.kind i in
+    record {
+      fs = h.fs;
+      around = around_as v.order new b h.fs (sym same) h.around.are h.around.distinct;
+      none = same_left ∙ h.none;
+      kept = subst (IsKept (seen new.keys) h.fs) (sym k.short) (kept h.fs h.kept);
+      taken = h.taken;
+      begun = subst (λ (o : KeyOrder). IsBegun (strict o) b (frames_in h.fs) t x e event.width event.kind) (sym same) i;
+    }
+
+-- ---- an item of one head
+
+same_bytes : (t x y more : List ℕ) (n : ℕ) → n ≡ length (t ++ x) → n ≡ length (t ++ y) → y ≡ x ++ more → y ≡ x
+same_bytes t x y more n e g is =
+    let none : more ≡ [] = nil_from_length more (omega (arith, e, g, length-append t x, length-append t y, ap length is, length-append x more)) in
+    is ∙ ap (λ (z : List ℕ). x ++ z) none ∙ append-nil x
+
+module _ (v : OpenItems) (b : Bounds) (w : Width) (kind : EventKind) (t x : List ℕ) (e : ItemEventsView) (h : HasBegunIn v b w kind t x e) where
+  read_ended : (u : Value) → ReadsItem (strict v.order) b (frames_in h.fs) t x None None e u → HasEnded v b e (t ++ x)
+  read_ended u m =
+      let same : spell m.item ≡ x = same_bytes t x (spell m.item) m.taken.more e.machine.taken (h.begun.at.stands.stands.taken) (m.at.stands.stands.taken) m.taken.are in
+      let low = m.within in
+      record {
+        fs = h.fs;
+        around = h.around;
+        item = m.item;
+        spelled = m.spelled;
+        within = omega (arith, low, frames_length h.fs);
+        clean = subst (λ (y : List ℕ). Never (Complains (strict v.order) (length y) m.item)) h.taken m.clean;
+        none = h.none;
+        kept = subst (IsKept (seen v.keys) h.fs) (sym same) h.kept;
+        taken = ap (λ (y : List ℕ). y ++ x) h.taken ∙ ap (λ (y : List ℕ). bytes_before h.fs ++ y) (sym same);
+        at = at-as b e (t ++ spell m.item) (t ++ x) (close (frames_in h.fs)) (close (frames_in h.fs)) (ap (λ (y : List ℕ). t ++ y) same) refl m.at;
+      }
+
+pub leaf_ended : (v : OpenItems) (b : Bounds) (w : Width) (kind : EventKind) (t x : List ℕ) (e : ItemEventsView) → (h : HasBegunIn v b w kind t x e) → IsLeaf kind → HasEnded v b e (t ++ x)
+leaf_ended v b w kind t x e h l = let r = leaf_reads v.order b (frames_in h.fs) t x e w None kind h.begun l in read_ended v b w kind t x e h r.0 r.1
+
+-- ---- a string opens
+
+pub string_begun : (v new : OpenItems) (b : Bounds) (w : Width) (kind : EventKind) (t x : List ℕ) (e : ItemEventsView) (is_text : Bool) (n : ℕ) → HasBegunIn v b w kind t x e → kind ≡ string_kind is_text (Some n) → 0 < n
+    → new.order ≡ v.order → new.keys ≡ v.keys → new.left ≡ n → new.is_text ≡ is_text → HasChecked new.check [] → Stands new b e (t ++ x)
+string_begun v new b w kind t x e is_text n h is some same_order same_keys left text_so checked =
+    let i = subst (IsBegun (strict v.order) b (frames_in h.fs) t x e w) is h.begun in
+    let k = string-head (strict v.order) b (frames_in h.fs) t x e w is_text n i in
+    let due = string-due (strict v.order) b (frames_in h.fs) t x e w is_text n i in
+    let bytes_are : x ≡ head (string_major new.is_text) w n ++ [] = k.bytes_are ∙ ap (λ (q : Bool). head (string_major q) w n) (sym text_so) ∙ sym (append-nil (head (string_major new.is_text) w n)) in
+    inr (inl (record {
+      fs = h.fs;
+      around = around_as v.order new b h.fs (sym same_order) h.around.are h.around.distinct;
+      w = w;
+      n = n;
+      q = [];
+      some = omega (arith, left, some);
+      count = omega (arith, left);
+      holds = k.holds;
+      clean = subst (λ (o : KeyOrder). Never (OfHead (strict o) (length (bytes_before h.fs)) (string_major new.is_text) w n)) (sym same_order)
+          (subst (λ (q : Bool). Never (OfHead (strict v.order) (length (bytes_before h.fs)) (string_major q) w n)) (sym text_so) (subst (λ (y : List ℕ). Never (OfHead (strict v.order) (length y) (string_major is_text) w n)) h.taken k.clean));
+      are_bytes = tt;
+      kept = subst (IsKept (seen new.keys) h.fs) bytes_are (subst (λ (y : LastKeys). IsKept (seen y) h.fs x) (sym same_keys) h.kept);
+      taken = ap (λ (y : List ℕ). y ++ x) h.taken ∙ ap (λ (y : List ℕ). bytes_before h.fs ++ y) bytes_are;
+      at = at-as b e (t ++ x) (t ++ x) (payload false (string_major is_text) n (frames_in h.fs)) (payload false (string_major new.is_text) new.left (frames_in h.fs)) refl
+          (ap (λ (q : Bool). payload false (string_major q) n (frames_in h.fs)) (sym text_so) ∙ ap (λ (y : ℕ). payload false (string_major new.is_text) y (frames_in h.fs)) (sym left)) due;
+      checked = λ q. checked;
+    }))
+
+-- ---- a container opens
+
+opened_in : (v new : OpenItems) (b : Bounds) (w : Width) (kind : EventKind) (t x : List ℕ) (e : ItemEventsView) (h : HasBegunIn v b w kind t x e) (f : Frame) → new.order ≡ v.order → new.left ≡ v.left → HasOpened v.order b h.fs t x e f
+    → IsKept (seen new.keys) (f ∷ h.fs) [] → Stands new b e (t ++ x)
+opened_in v new b w kind t x e h f same_order same_left m kept = inl (record {
+  fs = f ∷ h.fs;
+  around = around_as v.order new b (f ∷ h.fs) (sym same_order) m.are m.distinct;
+  none = same_left ∙ h.none;
+  kept = kept;
+  taken = ap (λ (y : List ℕ). y ++ x) h.taken ∙ ap (λ (y : List ℕ). bytes_before h.fs ++ y) (sym m.head_is) ∙ sym (before_more h.fs f);
+  at = m.at;
+})
+
+pub other_begun : (v new : OpenItems) (b : Bounds) (w : Width) (kind : EventKind) (t x : List ℕ) (e : ItemEventsView) → HasBegunIn v b w kind t x e → IsOther kind → new.order ≡ v.order → new.left ≡ v.left
+    → ((f : Frame) (fs : List Frame) (p : List ℕ) → due_of f ≡ Member → IsKept (seen v.keys) fs p → before f ≡ p → IsKept (seen new.keys) (f ∷ fs) []) → Stands new b e (t ++ x)
+other_begun v new b w kind t x e h l same_order same_left step =
+    let (f, due, m) = other_opens v.order b h.fs t x e w h.around.are h.around.distinct h.taken kind h.begun l in
+    opened_in v new b w kind t x e h f same_order same_left m (step f h.fs x due h.kept m.head_is)
+
+pub map_begun : (v new : OpenItems) (b : Bounds) (w : Width) (kind : EventKind) (t x : List ℕ) (e : ItemEventsView) → HasBegunIn v b w kind t x e → IsMap kind → new.order ≡ v.order → new.left ≡ v.left
+    → ((w : Width) (u : Spelling) (es : SpelledEntries) (fs : List Frame) (p : List ℕ) → IsKept (seen v.keys) fs p → before (a_key w no_entries u es) ≡ p → IsKept (seen new.keys) (a_key w no_entries u es ∷ fs) []) → Stands new b e (t ++ x)
+map_begun v new b w kind t x e h l same_order same_left step =
+    let (u, es, m) = pairs_open v.order b h.fs t x e w h.around.are h.around.distinct h.taken kind h.begun l in
+    opened_in v new b w kind t x e h (a_key w no_entries u es) same_order same_left m (step w u es h.fs x h.kept m.head_is)
+
+-- there is room for it
+module _ (v : OpenItems) (b : Bounds) (w : Width) (kind : EventKind) (t x : List ℕ) (e : ItemEventsView) (h : HasBegunIn v b w kind t x e) where
+  room_so : IsOther kind ⊎ IsMap kind → length h.fs < b.depth
+  room_so l = go kind h.begun l
+    where
+      go : (kind : EventKind) → IsBegun (strict v.order) b (frames_in h.fs) t x e w kind → IsOther kind ⊎ IsMap kind → length h.fs < b.depth
+      go (kinds.Array (Some n)) i l = let d = definite b.depth (frames_in h.fs) majors.Array w n x i.next (proper-definite w i.proper) i.taking in omega (arith, d.follows.0, frames_length h.fs)
+      go (kinds.Map (Some n)) i l = let d = definite b.depth (frames_in h.fs) majors.Map w n x i.next (proper-definite w i.proper) i.taking in omega (arith, d.follows.0, frames_length h.fs)
+      go (kinds.Tag n) i l = let d = definite b.depth (frames_in h.fs) majors.Tag w n x i.next (never-open b.depth (frames_in h.fs) majors.Tag w n x i.next tt i.taking) i.taking in omega (arith, d.follows.0, frames_length h.fs)
+      go (kinds.Array None) i l = elim l [ inl y ↦ absurd y | inr y ↦ absurd y ]
+      go (kinds.Map None) i l = elim l [ inl y ↦ absurd y | inr y ↦ absurd y ]
+      go (kinds.Unsigned n) i l = elim l [ inl y ↦ absurd y | inr y ↦ absurd y ]
+      go (kinds.Negative n) i l = elim l [ inl y ↦ absurd y | inr y ↦ absurd y ]
+      go (kinds.Simple n) i l = elim l [ inl y ↦ absurd y | inr y ↦ absurd y ]
+      go (kinds.Bytes n) i l = elim l [ inl y ↦ absurd y | inr y ↦ absurd y ]
+      go (kinds.Text n) i l = elim l [ inl y ↦ absurd y | inr y ↦ absurd y ]
+      go (kinds.Chunk n) i l = elim l [ inl y ↦ absurd y | inr y ↦ absurd y ]
+      go (kinds.Piece n) i l = elim l [ inl y ↦ absurd y | inr y ↦ absurd y ]
+      go kinds.End i l = elim l [ inl y ↦ absurd y | inr y ↦ absurd y ]
+
+  pub room_levels : IsOther kind ⊎ IsMap kind → length (seen v.keys).levels < 256
+  room_levels l = omega (arith, kept_levels (seen v.keys) h.fs x h.kept, room_so l, h.begun.at.limits.0)
+
+  pub room_spans : IsOther kind ⊎ IsMap kind → length (seen v.keys).spans < 256
+  room_spans l = omega (arith, kept_spans (seen v.keys) h.fs x h.kept, room_so l, h.begun.at.limits.0)

@@ -1,0 +1,186 @@
+-- What becomes of the open containers as an item ends.
+use Rattle.std.proofs.Common.{◌≡◌, ℕ, ◌+◌, ◌-◌, ◌≤◌, IsTrue, Option, List, [], ◌∷◌, ◌++◌, length, sym, ap, ◌∙◌, subst, inl, inr, arith, append-nil}
+use Rattle.std.proofs.lemmas.List.{length-append}
+use Rattle.cbor_head.specs.Limits.{Bounds}
+use Rattle.cbor_head.specs.Order.{key_lt}
+use Rattle.cbor_head.specs.Spelling.{Spelling, Spellings, SpelledEntries, no_spellings, a_spelling, no_entries, entry, spell}
+use Rattle.cbor_head.specs.Complaint.{strict, Complains}
+use Rattle.cbor_head.specs.Verdict.{refusal}
+use Rattle.cbor_head.specs.declared.order.KeyOrder.{KeyOrder}
+use Rattle.cbor_head.specs.declared.reason.Refusal.{Refusal}
+use Rattle.cbor_head.specs.declared.reason.Reason.TheVariants as reasons
+use Rattle.cbor_head.specs.declared.width.Width.{Width}
+use Rattle.cbor_events.specs.inner.Automaton.{close}
+use Rattle.cbor_events.specs.ItemEvents.{ItemEventsView}
+use Rattle.cbor_strict.specs.declared.last_keys.Due.{Due}
+use Rattle.cbor_strict.specs.declared.last_keys.Due.TheVariants.{Member, Key, Content}
+use Rattle.cbor_strict.specs.declared.last_keys.LastKeys.{LastKeys}
+use Rattle.cbor_strict.specs.declared.open_items.OpenItems.{OpenItems}
+use Rattle.cbor_strict.specs.inner.Frame.{Frame, a_member, a_key, a_content, with_all, with_entries, before}
+use Rattle.cbor_strict.specs.inner.LastKeys.{seen, from_outside, stands_in_key, last_key, kept_bytes, due_of, IsKept, AreDefinite, HasKeyEnded, still_open, ended_item}
+use Rattle.cbor_strict.specs.inner.OpenItems.{frames_in, bytes_before, AreOpenClean, Stands, AreRefused, HasEnded}
+use Rattle.cbor_strict.specs.inner.OpenMaps.{AreOpen, AreOpenDistinct}
+use Rattle.cbor_strict.specs.inner.Reading.{IsAt}
+use Rattle.cbor_strict.proofs.Judged.{Never}
+use Rattle.cbor_strict.proofs.KeptKeys.{either_way, kept_if_in, kept_if_out, kept_levels, kept_spans}
+use Rattle.cbor_strict.proofs.OpenSteps.{member_before}
+use Rattle.cbor_strict.proofs.OpenEnds.{definite_of, outside_length, StaysOpen, none_open, member_open, key_open, content_open, stays_open, EndsClean, open_so, EndsIn, IsDueIn, ends_in, member_next, content_next, key_next, key_refused}
+
+-- ---- behind what closed
+
+-- the item that ended, in the containers that stay open
+pub record HasClosed (o : KeyOrder) (b : Bounds) (e : ItemEventsView) (t : List ℕ) (keys : LastKeys) (gs : List Frame) (s : Spelling) : Type 0 where
+  pub clean : EndsClean o b.depth gs s
+  pub kept : IsKept (seen keys) gs (spell s)
+  pub taken : t ≡ bytes_before gs ++ spell s
+  pub at : IsAt b e t (close (frames_in gs))
+  pub stays : StaysOpen gs
+
+-- what the code knows as it closes
+pub record Closing (old : OpenItems) (keys : LastKeys) (count taken : ℕ) (due : Due) : Type 0 where
+  pub closed : (fs : List Frame) (s : Spelling) → IsKept (seen old.keys) fs (spell s) → AreDefinite fs → length (still_open fs) ≡ count → IsKept (seen keys) (still_open fs) (spell (ended_item fs s))
+  pub some : (f : Frame) (fs : List Frame) (p : List ℕ) → IsKept (seen keys) (f ∷ fs) p → due ≡ due_of f
+  pub none : (p : List ℕ) → IsKept (seen keys) [] p → due ≡ Member
+
+pub has_closed : (old : OpenItems) (keys : LastKeys) (count taken : ℕ) (due : Due) (b : Bounds) (e : ItemEventsView) (t : List ℕ) → Closing old keys count taken due → (h : HasEnded old b e t) → count ≡ e.machine.open_count
+    → HasClosed old.order b e t keys (still_open h.fs) (ended_item h.fs h.item)
+has_closed old keys count taken due b e t k h c =
+    let definite = definite_of old.order b.depth h.fs h.around.are in
+    let levels = h.around.are.levels in
+    let low = h.within in
+    let m = ends_in old.order b e t h.fs h.item (record {
+      clean = record { are = h.around.are; distinct = h.around.distinct; spelled = h.spelled; within = omega (arith, low, levels, outside_length h.fs); clean = h.clean };
+      taken = h.taken;
+      at = h.at;
+    }) in
+    record { clean = m.clean; kept = k.closed h.fs h.item h.kept definite (sym (open_so b e t h.fs h.at) ∙ sym c); taken = m.taken; at = m.at; stays = stays_open h.fs }
+
+ends_of : (o : KeyOrder) (b : Bounds) (e : ItemEventsView) (t : List ℕ) (keys : LastKeys) (gs : List Frame) (s : Spelling) → HasClosed o b e t keys gs s → EndsIn o b e t gs s
+ends_of o b e t keys gs s m = record { clean = m.clean; taken = m.taken; at = m.at }
+
+levels_small : (o : KeyOrder) (b : Bounds) (e : ItemEventsView) (t : List ℕ) (keys : LastKeys) (gs : List Frame) (s : Spelling) → HasClosed o b e t keys gs s → length gs ≤ b.depth
+levels_small o b e t keys gs s h = let levels = h.clean.are.levels in omega (arith, levels, outside_length gs)
+
+pub few_levels : (o : KeyOrder) (b : Bounds) (e : ItemEventsView) (t : List ℕ) (keys : LastKeys) (gs : List Frame) (s : Spelling) → HasClosed o b e t keys gs s → length (seen keys).levels ≤ 256
+few_levels o b e t keys gs s h = omega (arith, kept_levels (seen keys) gs (spell s) h.kept, levels_small o b e t keys gs s h, h.at.limits.0)
+
+pub few_spans : (o : KeyOrder) (b : Bounds) (e : ItemEventsView) (t : List ℕ) (keys : LastKeys) (gs : List Frame) (s : Spelling) → HasClosed o b e t keys gs s → length (seen keys).spans ≤ 256
+few_spans o b e t keys gs s h = omega (arith, kept_spans (seen keys) gs (spell s) h.kept, levels_small o b e t keys gs s h, h.at.limits.0)
+
+pub around_as : (o : KeyOrder) (new : OpenItems) (b : Bounds) (gs : List Frame) → o ≡ new.order → AreOpen (strict o) b.depth (from_outside gs) → AreOpenDistinct (strict o) 0 (from_outside gs) → AreOpenClean new b gs
+around_as o new b gs e x y =
+    record { are = subst (λ (p : KeyOrder). AreOpen (strict p) b.depth (from_outside gs)) e x; distinct = subst (λ (p : KeyOrder). AreOpenDistinct (strict p) 0 (from_outside gs)) e y }
+
+stands_due : (o : KeyOrder) (new : OpenItems) (b : Bounds) (e : ItemEventsView) (t : List ℕ) (gs : List Frame) → IsDueIn o b e t gs → o ≡ new.order → new.left ≡ 0 → IsKept (seen new.keys) gs [] → Stands new b e t
+stands_due o new b e t gs d same none kept = inl (record { fs = gs; around = around_as o new b gs same d.are d.distinct; none = none; kept = kept; taken = d.taken; at = d.at })
+
+-- a member
+member_kept : (k : LastKeys) (w : Width) (a : Spellings) (s t : Spelling) (b : Spellings) (fs : List Frame) → IsKept (seen k) (a_member w a (a_spelling t b) ∷ fs) (spell s)
+    → IsKept (seen k) (a_member w (with_all a (a_spelling s no_spellings)) b ∷ fs) []
+member_kept k w a s t b fs h =
+    let f = a_member w a (a_spelling t b) in
+    let g = a_member w (with_all a (a_spelling s no_spellings)) b in
+    record {
+      levels = h.levels;
+      spans = h.spans;
+      bytes = h.bytes ∙ elim (either_way (stands_in_key fs)) [
+        | inl i ↦ kept_if_in f fs (spell s) i ∙ ap (kept_bytes fs) (sym (member_before w a s t b) ∙ sym (append-nil (before g))) ∙ sym (kept_if_in g fs [] i)
+        | inr i ↦ kept_if_out f fs (spell s) i ∙ sym (kept_if_out g fs [] i)
+      ];
+      is_inside = h.is_inside;
+    }
+
+-- nothing more, or a member
+pub behind_member : (old new : OpenItems) (keys : LastKeys) (count taken : ℕ) (due : Due) (b : Bounds) (e : ItemEventsView) (t : List ℕ) → Closing old keys count taken due → (h : HasEnded old b e t)
+    → count ≡ e.machine.open_count → due ≡ Member → new.order ≡ old.order → new.keys ≡ keys → new.left ≡ old.left → Stands new b e t
+behind_member old new keys count taken due b e t k h c d same_order same_keys same_left = go (still_open h.fs) (ended_item h.fs h.item) (has_closed old keys count taken due b e t k h c).stays (has_closed old keys count taken due b e t k h c)
+  where
+    left_so : new.left ≡ 0
+    left_so = same_left ∙ h.none
+
+    go : (gs : List Frame) (s : Spelling) → StaysOpen gs → HasClosed old.order b e t keys gs s → Stands new b e t
+    go [] s none_open m =
+        let levels = m.clean.are.levels in
+        let low = m.clean.within in
+        inr (inr (record {
+          item = s;
+          spelled = m.clean.spelled;
+          within = omega (arith, levels, low);
+          clean = subst (λ (o : KeyOrder). Never (Complains (strict o) 0 s)) (sym same_order) m.clean.clean;
+          none = left_so;
+          kept = subst (λ (x : LastKeys). IsKept (seen x) [] (spell s)) (sym same_keys) m.kept;
+          taken = m.taken;
+          at = m.at;
+        }))
+    go _ s (member_open w a x c2 gs) m =
+        let g = a_member w (with_all a (a_spelling s no_spellings)) c2 in
+        stands_due old.order new b e t (g ∷ gs) (member_next old.order b e t gs s w a x c2 (ends_of old.order b e t keys _ s m)) (sym same_order) left_so
+        (subst (λ (y : LastKeys). IsKept (seen y) (g ∷ gs) []) (sym same_keys) (member_kept keys w a s x c2 gs m.kept))
+    go _ s (key_open w a v c2 gs) m = absurd (cc (sym d ∙ k.some (a_key w a v c2) gs (spell s) m.kept))
+    go _ s (content_open w a key l x c2 gs) m = absurd (cc (sym d ∙ k.some (a_content w a key (entry l x c2)) gs (spell s) m.kept))
+
+-- a content
+pub behind_content : (old new : OpenItems) (keys last : LastKeys) (count taken : ℕ) (due : Due) (b : Bounds) (e : ItemEventsView) (t : List ℕ) → Closing old keys count taken due → (h : HasEnded old b e t)
+    → count ≡ e.machine.open_count → due ≡ Content → new.order ≡ old.order → new.keys ≡ last → new.left ≡ old.left
+    → ((w : Width) (a : SpelledEntries) (k s l m : Spelling) (b : SpelledEntries) (fs : List Frame) → IsKept (seen keys) (a_content w a k (entry l m b) ∷ fs) (spell s) → IsKept (seen last) (a_key w (with_entries a (entry k s no_entries)) m b ∷ fs) [])
+    → Stands new b e t
+behind_content old new keys last count taken due b e t k h c d same_order same_keys same_left step = go (still_open h.fs) (ended_item h.fs h.item) (has_closed old keys count taken due b e t k h c).stays (has_closed old keys count taken due b e t k h c)
+  where
+    go : (gs : List Frame) (s : Spelling) → StaysOpen gs → HasClosed old.order b e t keys gs s → Stands new b e t
+    go [] s none_open m = absurd (cc (sym d ∙ k.none (spell s) m.kept))
+    go _ s (member_open w a x c2 gs) m = absurd (cc (sym d ∙ k.some (a_member w a (a_spelling x c2)) gs (spell s) m.kept))
+    go _ s (key_open w a v c2 gs) m = absurd (cc (sym d ∙ k.some (a_key w a v c2) gs (spell s) m.kept))
+    go _ s (content_open w a key l x c2 gs) m =
+        let g = a_key w (with_entries a (entry key s no_entries)) x c2 in
+        stands_due old.order new b e t (g ∷ gs) (content_next old.order b e t gs s w a key l x c2 (ends_of old.order b e t keys _ s m)) (sym same_order) (same_left ∙ h.none)
+        (subst (λ (y : LastKeys). IsKept (seen y) (g ∷ gs) []) (sym same_keys) (step w a key s l x c2 gs m.kept))
+
+-- a key
+pub key_has_ended : (old : OpenItems) (keys : LastKeys) (count taken : ℕ) (due : Due) (b : Bounds) (e : ItemEventsView) (t : List ℕ) → Closing old keys count taken due → (h : HasEnded old b e t)
+    → count ≡ e.machine.open_count → due ≡ Key → HasKeyEnded (seen keys)
+key_has_ended old keys count taken due b e t k h c d = go (still_open h.fs) (ended_item h.fs h.item) (has_closed old keys count taken due b e t k h c).stays (has_closed old keys count taken due b e t k h c)
+  where
+    go : (gs : List Frame) (s : Spelling) → StaysOpen gs → HasClosed old.order b e t keys gs s → HasKeyEnded (seen keys)
+    go [] s none_open m = absurd (cc (sym d ∙ k.none (spell s) m.kept))
+    go _ s (member_open w a x c2 gs) m = absurd (cc (sym d ∙ k.some (a_member w a (a_spelling x c2)) gs (spell s) m.kept))
+    go _ s (key_open w a v c2 gs) m = record { w = w; a = a; v = v; b = c2; fs = gs; s = s; kept = m.kept }
+    go _ s (content_open w a key l x c2 gs) m = absurd (cc (sym d ∙ k.some (a_content w a key (entry l x c2)) gs (spell s) m.kept))
+
+pub behind_key : (old new : OpenItems) (keys last : LastKeys) (count taken : ℕ) (due : Due) (b : Bounds) (e : ItemEventsView) (t : List ℕ) → Closing old keys count taken due → (h : HasEnded old b e t)
+    → count ≡ e.machine.open_count → due ≡ Key → new.order ≡ old.order → new.keys ≡ last → new.left ≡ old.left
+    → ((w : Width) (a : SpelledEntries) (v : Spelling) (b : SpelledEntries) (fs : List Frame) (s : Spelling) → IsKept (seen keys) (a_key w a v b ∷ fs) (spell s) → IsTrue (key_lt old.order (last_key a) (spell s)) × IsKept (seen last) (a_content w a s b ∷ fs) [])
+    → Stands new b e t
+behind_key old new keys last count taken due b e t k h c d same_order same_keys same_left step = go (still_open h.fs) (ended_item h.fs h.item) (has_closed old keys count taken due b e t k h c).stays (has_closed old keys count taken due b e t k h c)
+  where
+    go : (gs : List Frame) (s : Spelling) → StaysOpen gs → HasClosed old.order b e t keys gs s → Stands new b e t
+    go [] s none_open m = absurd (cc (sym d ∙ k.none (spell s) m.kept))
+    go _ s (member_open w a x c2 gs) m = absurd (cc (sym d ∙ k.some (a_member w a (a_spelling x c2)) gs (spell s) m.kept))
+    go _ s (content_open w a key l x c2 gs) m = absurd (cc (sym d ∙ k.some (a_content w a key (entry l x c2)) gs (spell s) m.kept))
+    go _ s (key_open w a v c2 gs) m =
+        let r = step w a v c2 gs s m.kept in
+        stands_due old.order new b e t (a_content w a s c2 ∷ gs) (key_next old.order b e t gs s w a v c2 (ends_of old.order b e t keys _ s m) r.0) (sym same_order) (same_left ∙ h.none)
+        (subst (λ (y : LastKeys). IsKept (seen y) (a_content w a s c2 ∷ gs) []) (sym same_keys) r.1)
+
+pub refused_key : (old : OpenItems) (keys : LastKeys) (count taken size : ℕ) (due : Due) (b : Bounds) (e : ItemEventsView) (t : List ℕ) (f : Refusal) → Closing old keys count taken due → (h : HasEnded old b e t)
+    → count ≡ e.machine.open_count → taken ≡ e.machine.taken → due ≡ Key
+    → ((w : Width) (a : SpelledEntries) (v : Spelling) (b : SpelledEntries) (fs : List Frame) (s : Spelling) → IsKept (seen keys) (a_key w a v b ∷ fs) (spell s) → ¬ IsTrue (key_lt old.order (last_key a) (spell s)) × (size ≡ length (spell s)))
+    → (size ≤ taken) × ((to : Option (List ℕ)) → f ≡ refusal reasons.KeyOrder (taken - size) taken → AreRefused (strict old.order) b t to f)
+refused_key old keys count taken size due b e t f k h c all d step = go (still_open h.fs) (ended_item h.fs h.item) (has_closed old keys count taken due b e t k h c).stays (has_closed old keys count taken due b e t k h c)
+  where
+    go : (gs : List Frame) (s : Spelling) → StaysOpen gs → HasClosed old.order b e t keys gs s → (size ≤ taken) × ((to : Option (List ℕ)) → f ≡ refusal reasons.KeyOrder (taken - size) taken → AreRefused (strict old.order) b t to f)
+    go [] s none_open m = absurd (cc (sym d ∙ k.none (spell s) m.kept))
+    go _ s (member_open w a x c2 gs) m = absurd (cc (sym d ∙ k.some (a_member w a (a_spelling x c2)) gs (spell s) m.kept))
+    go _ s (content_open w a key l x c2 gs) m = absurd (cc (sym d ∙ k.some (a_content w a key (entry l x c2)) gs (spell s) m.kept))
+    go _ s (key_open w a v c2 gs) m =
+        let fr = a_key w a v c2 in
+        let r = step w a v c2 gs s m.kept in
+        let size_is = r.1 in
+        let read : taken ≡ length t = all ∙ m.at.stands.stands.taken in
+        let count_all : taken ≡ length (bytes_before (fr ∷ gs)) + length (spell s) = read ∙ ap length m.taken ∙ length-append (bytes_before (fr ∷ gs)) (spell s) in
+        let place : taken - size ≡ length (bytes_before (fr ∷ gs)) = omega (arith, count_all, size_is) in (
+          omega (arith, count_all, size_is),
+          λ to is. record {
+            read = ap (λ (x : Refusal). x.read) is ∙ read;
+            why = inr (key_refused old.order b e t gs s w a v c2 to f (ends_of old.order b e t keys _ s m) r.0 (is ∙ ap (λ (n : ℕ). refusal reasons.KeyOrder n taken) place ∙ ap (refusal reasons.KeyOrder (length (bytes_before (fr ∷ gs)))) read));
+          },
+        )

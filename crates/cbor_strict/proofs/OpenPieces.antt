@@ -1,0 +1,159 @@
+-- What becomes of the open containers as the parts of a payload come.
+use Rattle.std.proofs.Common.{◌≡◌, ℕ, ◌+◌, ◌-◌, ◌<◌, ◌≤◌, Bool, true, false, Option, Some, None, List, [], ◌++◌, length, replicate, refl, sym, ap, ◌∙◌, subst, inl, inr, arith, append_assoc, append-nil}
+use Rattle.std.specs.Prelude.{IsUtf8}
+use Rattle.std.specs.Str.Lossy.{utf8_valid_len}
+use Rattle.std.proofs.lemmas.List.{length-append}
+use Rattle.cbor_head.specs.Head.{Holds, head}
+use Rattle.cbor_head.specs.Limits.{Bounds}
+use Rattle.cbor_head.specs.Value.{AreBytes}
+use Rattle.cbor_head.specs.Spelling.{spell}
+use Rattle.cbor_head.specs.Complaint as complaint
+use Rattle.cbor_head.specs.Complaint.{Rules, strict, OfHead, Complains}
+use Rattle.cbor_head.specs.Verdict.{refusal}
+use Rattle.cbor_head.specs.declared.major.Major.TheVariants as majors
+use Rattle.cbor_head.specs.declared.order.KeyOrder.{KeyOrder}
+use Rattle.cbor_head.specs.declared.reason.Reason.TheVariants.{Memory, InvalidText}
+use Rattle.cbor_head.specs.declared.reason.Refusal.{Refusal}
+use Rattle.cbor_head.specs.declared.width.Width.{Width}
+use Rattle.cbor_events.specs.inner.Automaton.{close, payload}
+use Rattle.cbor_events.specs.ItemEvents.{ItemEventsView}
+use Rattle.cbor_events.specs.TextCheck.{HasChecked}
+use Rattle.cbor_strict.specs.declared.last_keys.LastKeys.{LastKeys}
+use Rattle.cbor_strict.specs.declared.open_items.OpenItems.{OpenItems}
+use Rattle.cbor_strict.specs.inner.Frame.{Frame}
+use Rattle.cbor_strict.specs.inner.Judged.{IsJudged}
+use Rattle.cbor_strict.specs.inner.LastKeys.{seen, IsKept}
+use Rattle.cbor_strict.specs.inner.OpenItems.{frames_in, bytes_before, Stands, AreRefused, HasEnded, HasPartCome}
+use Rattle.cbor_strict.specs.inner.Reading.{IsAt, IsUndecided, string_major}
+use Rattle.cbor_strict.proofs.ByteLists.{bytes_join, bytes_front}
+use Rattle.cbor_strict.proofs.Heads.{zero_bytes, zero_length}
+use Rattle.cbor_strict.proofs.Judged.{Never}
+use Rattle.cbor_strict.proofs.Leaves.{text_complains}
+use Rattle.cbor_strict.proofs.OpenHeads.{refused_part, memory_part}
+use Rattle.cbor_strict.proofs.OpenItems.{around_as}
+use Rattle.cbor_strict.proofs.Scalars.{at-as}
+use Rattle.cbor_strict.proofs.Steps.{at-reached}
+use Rattle.cbor_strict.proofs.Undecided.{last-apart}
+use Rattle.cbor_strict.proofs.WholeStrings.{made_of, made-spells, made-spelled, made-flat, made-clean, so-far}
+
+-- a string whose payload goes on
+pub string_judged : (is_text : Bool) (w : Width) (n : ℕ) (p : List ℕ) (r : Rules) (at d : ℕ) → Holds w n → AreBytes p → length p < n → Never (OfHead r at (string_major is_text) w n) → IsJudged r at d (head (string_major is_text) w n ++ p) None
+string_judged is_text w n p r at d holds are_bytes short clean =
+    let more : List ℕ = replicate (n - length p) 0 in
+    let same : length (p ++ more) ≡ n = omega (arith, length-append p more, zero_length (n - length p), short) in
+    subst (λ (k : ℕ). IsJudged r at d (head (string_major is_text) w k ++ p) None) same
+    (so-far is_text w p more r at d (subst (Holds w) (sym same) holds) (bytes_join p more are_bytes (zero_bytes (n - length p))) (omega (arith, zero_length (n - length p), short))
+    (subst (λ (k : ℕ). Never (OfHead r at (string_major is_text) w k)) (sym same) clean))
+
+module _ (v : OpenItems) (b : Bounds) (old : ItemEventsView) (t x : List ℕ) (e : ItemEventsView) (h : HasPartCome v b old t x e) where
+  abbrev hd : List ℕ
+  hd = head (string_major v.is_text) h.due.w h.due.n
+
+  bytes_so : t ++ x ≡ bytes_before h.due.fs ++ (hd ++ (h.due.q ++ x))
+  bytes_so = ap (λ (y : List ℕ). y ++ x) h.due.taken ∙ append_assoc (bytes_before h.due.fs) (hd ++ h.due.q) x ∙ ap (λ (y : List ℕ). bytes_before h.due.fs ++ y) (append_assoc hd h.due.q x)
+
+  all_bytes : AreBytes (h.due.q ++ x)
+  all_bytes = bytes_join h.due.q x h.due.are_bytes h.are_bytes
+
+  -- the payload is among what was taken
+  pub part_room : (taken : ℕ) → taken ≡ e.machine.taken → length (h.due.q ++ x) ≤ taken
+  part_room taken all =
+      omega (arith, all, h.at.stands.stands.taken, ap length bytes_so, length-append (bytes_before h.due.fs) (hd ++ (h.due.q ++ x)), length-append hd (h.due.q ++ x))
+
+  pub part_no_memory : (f : Refusal) (taken : ℕ) (to : Option (List ℕ)) → taken ≡ e.machine.taken → f ≡ refusal Memory taken taken → AreRefused (strict v.order) b (t ++ x) to f
+  part_no_memory f taken to all is =
+      let k = last-apart (h.due.q ++ x) (omega (arith, length-append h.due.q x, h.some)) in
+      let count = h.due.count in
+      let fits = h.fits in
+      let undecided : IsUndecided (strict v.order) b (frames_in h.due.fs) (bytes_before h.due.fs) (hd ++ (h.due.q ++ x)) = record {
+        p = hd ++ k.front;
+        last = k.last;
+        splits = ap (λ (y : List ℕ). hd ++ y) k.splits ∙ sym (append_assoc hd k.front k.last);
+        byte = omega (arith, k.byte);
+        judged = string_judged v.is_text h.due.w h.due.n k.front (strict v.order) (length (bytes_before h.due.fs)) (b.depth - length (frames_in h.due.fs)) h.due.holds (bytes_front k.front k.last (subst AreBytes k.splits all_bytes))
+            (omega (arith, k.byte, ap length k.splits, length-append k.front k.last, length-append h.due.q x, count, fits)) h.due.clean;
+      } in
+      memory_part v.order b h.due.fs h.due.around.are h.due.around.distinct (hd ++ (h.due.q ++ x)) (t ++ x) to f taken bytes_so (all ∙ h.at.stands.stands.taken) is (at-reached b e (t ++ x) _ h.at) undecided
+
+  module _ (new : OpenItems) (keys : LastKeys) (same_order : new.order ≡ v.order) (same_keys : new.keys ≡ keys) (same_text : new.is_text ≡ v.is_text) (left : new.left + length x ≡ v.left)
+      (kept : (fs : List Frame) (p : List ℕ) → IsKept (seen v.keys) fs p → IsKept (seen keys) fs (p ++ x)) where
+    kept_so : IsKept (seen new.keys) h.due.fs (hd ++ (h.due.q ++ x))
+    kept_so = subst (λ (y : LastKeys). IsKept (seen y) h.due.fs (hd ++ (h.due.q ++ x))) (sym same_keys) (subst (IsKept (seen keys) h.due.fs) (append_assoc hd h.due.q x) (kept h.due.fs (hd ++ h.due.q) h.due.kept))
+
+    at_so : IsAt b e (t ++ x) (payload false (string_major v.is_text) new.left (frames_in h.due.fs))
+    at_so =
+        let rest : v.left - length x ≡ new.left = omega (arith, left) in
+        at-as b e (t ++ x) (t ++ x) _ (payload false (string_major v.is_text) new.left (frames_in h.due.fs)) refl (ap (λ (n : ℕ). payload false (string_major v.is_text) n (frames_in h.due.fs)) rest) h.at
+
+    -- more is due
+    pub part_goes_on : 0 < new.left → ((q : List ℕ) → v.is_text ≡ true → HasChecked v.check q → HasChecked new.check (q ++ x)) → Stands new b e (t ++ x)
+    part_goes_on some checked =
+        let count = h.due.count in
+        let heads : head (string_major v.is_text) h.due.w h.due.n ≡ head (string_major new.is_text) h.due.w h.due.n = ap (λ (y : Bool). head (string_major y) h.due.w h.due.n) (sym same_text) in
+        inr (inl (record {
+          fs = h.due.fs;
+          around = around_as v.order new b h.due.fs (sym same_order) h.due.around.are h.due.around.distinct;
+          w = h.due.w;
+          n = h.due.n;
+          q = h.due.q ++ x;
+          some = some;
+          count = omega (arith, count, left, length-append h.due.q x);
+          holds = h.due.holds;
+          clean = subst (λ (o : KeyOrder). Never (OfHead (strict o) (length (bytes_before h.due.fs)) (string_major new.is_text) h.due.w h.due.n)) (sym same_order)
+              (subst (λ (y : Bool). Never (OfHead (strict v.order) (length (bytes_before h.due.fs)) (string_major y) h.due.w h.due.n)) (sym same_text) h.due.clean);
+          are_bytes = all_bytes;
+          kept = subst (λ (y : List ℕ). IsKept (seen new.keys) h.due.fs (y ++ (h.due.q ++ x))) heads kept_so;
+          taken = bytes_so ∙ ap (λ (y : List ℕ). bytes_before h.due.fs ++ (y ++ (h.due.q ++ x))) heads;
+          at = at-as b e (t ++ x) (t ++ x) _ (payload false (string_major new.is_text) new.left (frames_in h.due.fs)) refl (ap (λ (y : Bool). payload false (string_major y) new.left (frames_in h.due.fs)) (sym same_text)) at_so;
+          checked = λ y. checked h.due.q (sym same_text ∙ y) (h.due.checked (sym same_text ∙ y));
+        }))
+
+    size_so : new.left ≡ 0 → length (h.due.q ++ x) ≡ h.due.n
+    size_so none = let count = h.due.count in omega (arith, none, count, left, length-append h.due.q x)
+
+    -- it is whole
+    pub part_ends : new.left ≡ 0 → (v.is_text ≡ true → IsUtf8 (h.due.q ++ x)) → HasEnded new b e (t ++ x)
+    part_ends none utf8 =
+        let q = h.due.q ++ x in
+        let size : h.due.n ≡ length q = sym (size_so none) in
+        let it = made_of v.is_text h.due.w q in
+        let it_is : hd ++ q ≡ spell it = ap (λ (k : ℕ). head (string_major v.is_text) h.due.w k ++ q) size ∙ sym (made-spells v.is_text h.due.w q) in
+        record {
+          fs = h.due.fs;
+          around = around_as v.order new b h.due.fs (sym same_order) h.due.around.are h.due.around.distinct;
+          item = it;
+          spelled = made-spelled v.is_text h.due.w q (subst (Holds h.due.w) size h.due.holds) all_bytes;
+          within = omega (arith, made-flat v.is_text h.due.w q);
+          clean = subst (λ (o : KeyOrder). Never (Complains (strict o) (length (bytes_before h.due.fs)) it)) (sym same_order)
+              (made-clean v.is_text h.due.w q (strict v.order) (length (bytes_before h.due.fs)) (subst (λ (k : ℕ). Never (OfHead (strict v.order) (length (bytes_before h.due.fs)) (string_major v.is_text) h.due.w k)) size h.due.clean) utf8);
+          none = none;
+          kept = subst (IsKept (seen new.keys) h.due.fs) it_is kept_so;
+          taken = bytes_so ∙ ap (λ (y : List ℕ). bytes_before h.due.fs ++ y) it_is;
+          at = at-as b e (t ++ x) (t ++ x) _ (close (frames_in h.due.fs)) refl (ap (λ (n : ℕ). payload false (string_major v.is_text) n (frames_in h.due.fs)) none) at_so;
+        }
+
+    -- it is no text
+    pub part_no_text : (f : Refusal) (taken place : ℕ) (to : Option (List ℕ)) → new.left ≡ 0 → v.is_text ≡ true → ¬ IsUtf8 (h.due.q ++ x) → taken ≡ e.machine.taken → place + length (h.due.q ++ x) ≡ taken + utf8_valid_len (h.due.q ++ x)
+        → f ≡ refusal InvalidText place taken → AreRefused (strict v.order) b (t ++ x) to f
+    part_no_text f taken place to none text_so no_text all place_is is =
+        let q = h.due.q ++ x in
+        let size : h.due.n ≡ length q = sym (size_so none) in
+        let at = length (bytes_before h.due.fs) in
+        let th = head majors.Text h.due.w (length q) in
+        let heads : hd ≡ th = ap (λ (y : Bool). head (string_major y) h.due.w h.due.n) text_so ∙ ap (head majors.Text h.due.w) size in
+        let read : taken ≡ length (t ++ x) = all ∙ h.at.stands.stands.taken in
+        let sized : taken ≡ at + length th + length q = omega (arith, read, ap length bytes_so, length-append (bytes_before h.due.fs) (hd ++ q), length-append hd q, ap length heads) in
+        let here : place ≡ at + length th + utf8_valid_len q = omega (arith, place_is, sized) in
+        let c = complaint.complaint (at + length th + length q) (at + length th + utf8_valid_len q) InvalidText in
+        let clean : Never (OfHead (strict v.order) at majors.Text h.due.w (length q)) =
+        subst (λ (k : ℕ). Never (OfHead (strict v.order) at majors.Text h.due.w k)) size (subst (λ (y : Bool). Never (OfHead (strict v.order) at (string_major y) h.due.w h.due.n)) text_so h.due.clean) in
+        refused_part v.order b h.due.fs h.due.around.are h.due.around.distinct (hd ++ q) (t ++ x) to f bytes_so (ap (λ (y : Refusal). y.read) is ∙ read)
+        (record {
+          p = hd ++ q;
+          last = [];
+          splits = sym (append-nil (hd ++ q));
+          found = Some c;
+          judged = subst (λ (y : List ℕ). IsJudged (strict v.order) at (b.depth - length (frames_in h.due.fs)) (y ++ q) (Some c)) (sym heads)
+              (text_complains h.due.w q (strict v.order) at (b.depth - length (frames_in h.due.fs)) c (subst (Holds h.due.w) size h.due.holds, all_bytes) clean (no_text, refl));
+          cause = (is ∙ ap (λ (n : ℕ). refusal InvalidText n taken) here ∙ ap (refusal InvalidText (at + length th + utf8_valid_len q)) sized, subst (λ (y : List ℕ). length y ≤ b.bytes) bytes_so (at-reached b e (t ++ x) _ h.at).within);
+        })

@@ -1,0 +1,167 @@
+-- Items of a slice, from its events.
+use Rattle.std.proofs.Common.{◌≡◌, ◌≢◌, ℕ, cond, ◌+◌, ◌<◌, ◌≤◌, Bool, true, IsTrue, Some, None, List, [], ◌∷◌, length, take, refl, sym, ap, ◌∙◌, subst, inl, inr, arith}
+use Rattle.std.proofs.lemmas.Bool.Decides.{nat_tests}
+use Rattle.std.specs.Ordering.{is_lt, ordering_then}
+use Rattle.std.specs.declared.cmp.Ordering.TheVariants.{Less, Equal, Greater}
+use Rattle.std.specs.Prelude.{nat_lt, ◌==◌}
+use Rattle.std.proofs.lemmas.List.{length-append}
+use Rattle.std.proofs.Math.Seq.{take-append_seam}
+use Rattle.cbor_head.specs.Limits.{Bounds}
+use Rattle.cbor_head.specs.Spelling.{Spelling, spell}
+use Rattle.cbor_head.specs.Order.{key_lt}
+use Rattle.cbor_head.specs.Complaint as complaint
+use Rattle.cbor_head.specs.Complaint.{Rules, strict, form, OfKey}
+use Rattle.cbor_head.specs.Verdict.{refusal}
+use Rattle.cbor_head.specs.declared.order.KeyOrder.{KeyOrder}
+use Rattle.cbor_head.specs.declared.order.KeyOrder.TheVariants.{Bytewise, LengthFirst}
+use Rattle.cbor_head.specs.declared.width.Width.{Width}
+use Rattle.cbor_head.specs.declared.width.Width.TheVariants.{Direct, One, Two, Four, Eight, Indefinite}
+use Rattle.cbor_head.specs.declared.reason.Reason.{Reason}
+use Rattle.cbor_head.specs.declared.reason.Reason.TheVariants as reasons
+use Rattle.cbor_head.specs.declared.reason.Refusal.{Refusal}
+use Rattle.cbor_head.proofs.ReadLaws.{length_spell}
+use Rattle.cbor_events.specs.Trace.{Mark, a_head, a_chunk, a_byte, a_break}
+use Rattle.cbor_events.specs.inner.Automaton.{Frame, State, at_item}
+use Rattle.cbor_events.specs.Marks.{mark_of}
+use Rattle.cbor_events.specs.ItemEvents.{IsNextEvent, IsEnd}
+use Rattle.cbor_events.specs.SliceEvents.{event_of, slice_call, IsNextTold, IsRefusedTold}
+use Rattle.cbor_events.specs.Machine.{KeepsLimits}
+use Rattle.cbor_events.specs.SliceView.{SliceEventsView}
+use Rattle.cbor_events.specs.Token.{kind_of}
+use Rattle.cbor_events.specs.declared.event.EventKind.TheVariants as kinds
+use Rattle.cbor_events.specs.declared.token.Token.{Token}
+use Rattle.cbor_events.specs.declared.token.Token.TheVariants as tokens
+use Rattle.cbor_strict.specs.inner.Reading.{IsAt, IsFault, IsHeadFault, IsHeadDue, IsNextHead, StopsHead, IsBegun}
+use Rattle.cbor_events.specs.SliceView.{seen}
+use Rattle.cbor_strict.specs.inner.SliceChecks.{IsOfBytes, TakesPayload, IsLastKey}
+use Rattle.cbor_strict.proofs.Judged.{Never}
+use Rattle.cbor_strict.proofs.Reasons.{never-read}
+use Rattle.cbor_strict.proofs.Steps.{Stops, limits-as, stops, next-head, bad-head}
+use Rattle.cbor_strict.proofs.Items.{begun-by}
+
+-- ---- what is told
+
+pub told-event : (token : Token) (old new : SliceEventsView) (t : List ℕ) (ms : List Mark) → (token ≡ tokens.Refused → ⊥) → (token ≡ tokens.End → ⊥) → IsNextTold token old new t ms
+    → IsNextEvent (event_of token new) (slice_call old new t ms)
+told-event tokens.Refused old new t ms no_refusal no_end n = absurd (no_refusal refl)
+told-event tokens.End old new t ms no_refusal no_end n = absurd (no_end refl)
+told-event token old new t ms no_refusal no_end n = n.is
+
+pub told-live : (token : Token) (new : SliceEventsView) → (token ≡ tokens.Refused → ⊥) → IsRefusedTold token new → new.refusal ≡ None
+told-live tokens.Refused new no_refusal h = absurd (no_refusal refl)
+told-live token new no_refusal h = h
+
+pub told-end : (token : Token) (old new : SliceEventsView) (t : List ℕ) (ms : List Mark) → token ≡ tokens.End → IsNextTold token old new t ms → IsEnd (slice_call old new t ms)
+told-end token old new t ms e n = (subst (λ x. IsNextTold x old new t ms) e n).is
+
+-- ---- a refusal
+
+some-same : {f g : Refusal} → Some f ≡ Some g → f ≡ g
+some-same e = cc
+
+pub other-reason : (f : Refusal) (reason : Reason) → f.reason ≡ reason → reason ≢ reasons.Read → reason ≢ reasons.Memory → IsOfBytes f
+other-reason f reason e no_read no_memory = record { no_read = λ g. no_read (sym e ∙ g); no_memory = λ g. no_memory (sym e ∙ g.0) }
+
+module _ (b : Bounds) (old new : SliceEventsView) (t : List ℕ) (q : State) (token : Token) (f : Refusal) (a : IsAt b (seen old) t q) (limits : KeepsLimits old.machine new.machine)
+    (n : IsNextTold token old new t a.marks) where
+  pub told-refusal : token ≡ tokens.Refused → new.refusal ≡ Some f → Stops b q t (Some old.rest) (Some new.rest) f × IsOfBytes f
+  told-refusal e is =
+      let r = (subst (λ x. IsNextTold x old new t a.marks) e n).is in
+      let same : r.0 ≡ f = some-same (sym r.1.is ∙ is) in
+      subst (λ (g : Refusal). Stops b q t (Some old.rest) (Some new.rest) g × IsOfBytes g) same (
+        stops b (seen old) (seen new) t q (Some old.rest) (Some new.rest) r.0 a (limits-as old.machine new.machine limits) (elim r.1.stands [ inl c ↦ inl c.1 | inr c ↦ inr c ]),
+        elim r.1.stands [
+          | inl c ↦ other-reason r.0 reasons.Truncated c.0 (λ g. cc g) (λ g. cc g)
+          | inr (inl c) ↦ other-reason r.0 reasons.TooLong (ap (λ (x : Refusal). x.reason) c.is) (λ g. cc g) (λ g. cc g)
+          | inr (inr c) ↦ record {
+            no_read = never-read new.machine.depth new.machine.bytes form _ r.0 (c.verdict []);
+            no_memory = λ g. let place = ap (λ (x : Refusal). x.place) c.is in let read = ap (λ (x : Refusal). x.read) c.is in omega (arith, place, read, g.1);
+          }
+        ],
+      )
+
+-- ---- a head
+
+fault-reason : (o : KeyOrder) (m : Mark) (reason : Reason) → IsFault (strict o) m reason → (reason ≢ reasons.Read) × (reason ≢ reasons.Memory)
+fault-reason o (a_head m w n) reason h = by-width w n h
+  where
+    by-width : (w : Width) (n : ℕ) → IsHeadFault w n reason → (reason ≢ reasons.Read) × (reason ≢ reasons.Memory)
+    by-width Indefinite n h = ((λ e. cc (sym h ∙ e)), (λ e. cc (sym h ∙ e)))
+    by-width Direct n h = ((λ e. cc (sym h.1 ∙ e)), (λ e. cc (sym h.1 ∙ e)))
+    by-width One n h = ((λ e. cc (sym h.1 ∙ e)), (λ e. cc (sym h.1 ∙ e)))
+    by-width Two n h = ((λ e. cc (sym h.1 ∙ e)), (λ e. cc (sym h.1 ∙ e)))
+    by-width Four n h = ((λ e. cc (sym h.1 ∙ e)), (λ e. cc (sym h.1 ∙ e)))
+    by-width Eight n h = ((λ e. cc (sym h.1 ∙ e)), (λ e. cc (sym h.1 ∙ e)))
+fault-reason o (a_chunk w n) reason h = by-width w n h
+  where
+    by-width : (w : Width) (n : ℕ) → IsHeadFault w n reason → (reason ≢ reasons.Read) × (reason ≢ reasons.Memory)
+    by-width Indefinite n h = ((λ e. cc (sym h ∙ e)), (λ e. cc (sym h ∙ e)))
+    by-width Direct n h = ((λ e. cc (sym h.1 ∙ e)), (λ e. cc (sym h.1 ∙ e)))
+    by-width One n h = ((λ e. cc (sym h.1 ∙ e)), (λ e. cc (sym h.1 ∙ e)))
+    by-width Two n h = ((λ e. cc (sym h.1 ∙ e)), (λ e. cc (sym h.1 ∙ e)))
+    by-width Four n h = ((λ e. cc (sym h.1 ∙ e)), (λ e. cc (sym h.1 ∙ e)))
+    by-width Eight n h = ((λ e. cc (sym h.1 ∙ e)), (λ e. cc (sym h.1 ∙ e)))
+fault-reason o a_byte reason h = absurd h
+fault-reason o a_break reason h = absurd h
+
+module _ (o : KeyOrder) (b : Bounds) (old new : SliceEventsView) (t : List ℕ) (q : State) (token : Token) (w : Width) (k : ℕ) (due : IsHeadDue q) (a : IsAt b (seen old) t q)
+    (limits : KeepsLimits old.machine new.machine) (n : IsNextTold token old new t a.marks) (no_refusal : token ≡ tokens.Refused → ⊥) (no_end : token ≡ tokens.End → ⊥)
+    (width : w ≡ new.width) (number : k ≡ new.number) where
+  event : IsNextEvent (event_of token new) (slice_call old new t a.marks)
+  event = told-event token old new t a.marks no_refusal no_end n
+
+  mark-is : mark_of w (kind_of token k) ≡ mark_of new.width (kind_of token new.number)
+  mark-is = ap (λ v. mark_of v (kind_of token k)) width ∙ ap (λ j. mark_of new.width (kind_of token j)) number
+
+  pub slice-head : IsRefusedTold token new → ((reason : Reason) → IsFault (strict o) (mark_of w (kind_of token k)) reason → ⊥)
+      → IsNextHead (strict o) b q t (event_of token new) (Some old.rest) (Some new.rest) (seen new)
+  slice-head live fine =
+      next-head (strict o) b (seen old) (seen new) t q (event_of token new) (Some old.rest) (Some new.rest) due a event (limits-as old.machine new.machine limits) (told-live token new no_refusal live)
+      (λ reason h. fine reason (subst (λ m. IsFault (strict o) m reason) (sym mark-is) h))
+
+  pub slice-bad-head : (f : Refusal) (reason : Reason) → IsFault (strict o) (mark_of w (kind_of token k)) reason → f ≡ refusal reason new.place new.machine.taken
+      → StopsHead (strict o) b q t (Some old.rest) (Some new.rest) f × IsOfBytes f
+  slice-bad-head f reason fault is =
+      let other = fault-reason o (mark_of w (kind_of token k)) reason fault in (
+        bad-head (strict o) b (seen old) (seen new) t q (event_of token new) (Some old.rest) (Some new.rest) f reason due a event (limits-as old.machine new.machine limits)
+            (subst (λ m. IsFault (strict o) m reason) mark-is fault) is,
+        other-reason f reason (ap (λ (x : Refusal). x.reason) is) other.0 other.1,
+      )
+
+-- ---- an item that is begun
+
+pub begun : (r : Rules) (b : Bounds) (fs : List Frame) (t : List ℕ) (token other : Token) (k : ℕ) (old new : SliceEventsView)
+    → (h : IsNextHead r b (at_item fs) t (event_of token new) (Some old.rest) (Some new.rest) (seen new)) → kind_of token new.number ≢ kinds.End → token ≡ other → k ≡ new.number
+    → IsBegun r b fs t h.bytes (seen new) new.width (kind_of other k)
+begun r b fs t token other k old new h item is number =
+    subst (λ j. IsBegun r b fs t h.bytes (seen new) new.width (kind_of other j)) (sym number)
+    (subst (λ x. IsBegun r b fs t h.bytes (seen new) new.width (kind_of x new.number)) is (begun-by r b fs t (event_of token new) (Some old.rest) (Some new.rest) (seen new) h item))
+
+-- ---- the bytes of a payload
+
+pub payload-front : (b : Bounds) (q : State) (t : List ℕ) (n : ℕ) (text : Bool) (old new : SliceEventsView) → (k : TakesPayload b q t n text old new) → take n old.rest ≡ k.reads.bytes
+payload-front b q t n text old new k =
+    ap (λ j. take j old.rest) (sym k.reads.count) ∙ ap (take (length k.reads.bytes)) k.reads.consumed ∙ take-append_seam k.reads.bytes new.rest
+
+pub payload-there : (b : Bounds) (q : State) (t : List ℕ) (n : ℕ) (text : Bool) (old new : SliceEventsView) → TakesPayload b q t n text old new → n ≤ length old.rest
+payload-there b q t n text old new k = omega (arith, k.reads.count, ap length k.reads.consumed, length-append k.reads.bytes new.rest)
+
+-- ---- keys
+
+some-more : (n : ℕ) → 0 < n → nat_lt 0 n ≡ true
+some-more n h = grind (arith, nat_tests)
+
+-- each key comes behind no bytes
+nothing-below : (o : KeyOrder) (key : List ℕ) → 0 < length key → IsTrue (key_lt o [] key)
+nothing-below o [] h = absurd (omega arith)
+nothing-below Bytewise (c ∷ cs) h = refl
+nothing-below LengthFirst (c ∷ cs) h = ap (λ b. is_lt (ordering_then (cond b Less (cond (0 == length (c ∷ cs)) Equal Greater)) Less)) (some-more (length (c ∷ cs)) h)
+
+module _ (o : KeyOrder) (at : ℕ) (k : Spelling) (key : List ℕ) (is : key ≡ spell k) where
+  pub key-fresh : (ks : List Spelling) (last : List ℕ) → IsLastKey last ks → IsTrue (key_lt o last key) → Never (OfKey (strict o) at ks k)
+  key-fresh [] last l f c x = x
+  key-fresh (p ∷ ps) last l f c x = x.0 (subst (λ y. IsTrue (key_lt o y (spell k))) l (subst (λ y. IsTrue (key_lt o last y)) is f))
+
+  pub key-falls : (ks : List Spelling) (last : List ℕ) → IsLastKey last ks → ¬ (IsTrue (key_lt o last key)) → OfKey (strict o) at ks k (complaint.complaint (at + length (spell k)) at reasons.KeyOrder)
+  key-falls [] last l f = absurd (f (subst (λ y. IsTrue (key_lt o y key)) (sym l) (nothing-below o key (omega (arith, ap length is, length_spell k)))))
+  key-falls (p ∷ ps) last l f = ((λ g. f (subst (λ y. IsTrue (key_lt o last y)) (sym is) (subst (λ y. IsTrue (key_lt o y (spell k))) (sym l) g))), refl)

@@ -1,0 +1,177 @@
+-- What the strict reader's state says of the bytes behind it.
+use Rattle.std.proofs.Common.{◌≡◌, ℕ, ◌+◌, ◌-◌, ◌<◌, ◌≤◌, Option, Some, None, List, [], ◌++◌, length, refl, sym, ap, ◌∙◌, subst, inl, inr, arith, append_assoc, append-nil}
+use Rattle.std.specs.Option.{IfSome}
+use Rattle.std.specs.Io.KnownBytes.{Consumes}
+use Rattle.std.proofs.KnownBytes.{Consumes-nil, Consumes-trans}
+use Rattle.std.proofs.lemmas.List.{length-append}
+use Rattle.cbor_head.specs.Head.{head}
+use Rattle.cbor_head.specs.Limits.{Bounds, AreBounds, bounds}
+use Rattle.std.specs.Prelude.{Ok, Err}
+use Rattle.cbor_head.specs.Spelling.{Spelling, IsItem}
+use Rattle.cbor_head.specs.Complaint.{strict}
+use Rattle.cbor_head.specs.Laws.{StartsWith}
+use Rattle.cbor_head.specs.Verdict.{IsWithout}
+use Rattle.cbor_head.specs.declared.order.KeyOrder.{KeyOrder}
+use Rattle.cbor_head.specs.declared.reason.Refusal.{Refusal}
+use Rattle.cbor_head.proofs.Agree.{same_complaints}
+use Rattle.cbor_events.specs.Trace.{Mark}
+use Rattle.cbor_events.specs.MachineView.{MachineView}
+use Rattle.cbor_events.specs.Marks.{marks_of}
+use Rattle.cbor_events.specs.Machine.{KeepsLimits}
+use Rattle.cbor_events.specs.ItemEvents.{ItemEventsView, StandsBetween}
+use Rattle.cbor_events.specs.declared.event.Event.{Event}
+use Rattle.cbor_events.specs.inner.Automaton.{reached}
+use Rattle.cbor_events.specs.inner.State.{state_of}
+use Rattle.cbor_strict.specs.declared.open_items.OpenItems.{OpenItems}
+use Rattle.cbor_strict.specs.Readers.{IsUnread}
+use Rattle.cbor_strict.specs.Refusals.{IsReaderReason}
+use Rattle.cbor_strict.specs.inner.Front.{IsFrontUnread}
+use Rattle.cbor_strict.specs.inner.Judged.{IsJudged}
+use Rattle.cbor_strict.specs.inner.OpenItems.{frames_in, bytes_before, Stands}
+use Rattle.cbor_strict.specs.inner.Reading.{string_major}
+use Rattle.cbor_strict.specs.StrictReader.{StrictEventsView, StandsStrictly, IsNextStrict, IsStrictRefusal, strict_call}
+use Rattle.cbor_strict.specs.inner.LastKeys.{seen, IsKept}
+use Rattle.cbor_strict.specs.inner.StrictEvents.{StandsSomewhere, IsStep, IsStopped, AnswersStep, IsLittle, bounds_of, piece_unless}
+use Rattle.cbor_strict.proofs.KeptReading.{stands_counted, stands_little}
+use Rattle.cbor_strict.proofs.Fronts.{front-unread, starts-at}
+use Rattle.cbor_strict.proofs.Judged.{judged_start}
+use Rattle.cbor_strict.proofs.OpenBegins.{lift}
+use Rattle.cbor_strict.proofs.OpenPieces.{string_judged}
+use Rattle.cbor_strict.proofs.OpenWalk.{none_open}
+
+-- ---- nothing has a complaint
+
+-- what was found of one item holds of each that starts alike
+none_within : (o : KeyOrder) (d : ℕ) (t : List ℕ) → IsJudged (strict o) 0 d t None → (s : Spelling) → StartsWith d s t → IsWithout (strict o) s (length t)
+none_within o d t j s i c h l =
+    let k = same_complaints d s j.item t i.0 j.rest i.1 j.is (strict o) c l h in
+    let late = j.finding.1 c k in
+    absurd (omega (arith, late, l))
+
+all_levels : (o : KeyOrder) (d : ℕ) (t : List ℕ) → IsJudged (strict o) 0 (d - 0) t None → IsJudged (strict o) 0 d t None
+all_levels o d t j = let e : d - 0 ≡ d = omega arith in subst (λ (n : ℕ). IsJudged (strict o) 0 n t None) e j
+
+pub stands_clean : (v : OpenItems) (b : Bounds) (e : ItemEventsView) (t : List ℕ) → Stands v b e t → (s : Spelling) → StartsWith b.depth s t → IsWithout (strict v.order) s (length t)
+stands_clean v b e t (inl h) =
+    none_within v.order b.depth t (subst (λ (x : List ℕ). IsJudged (strict v.order) 0 b.depth x None) (append-nil (bytes_before h.fs) ∙ sym h.taken) (all_levels v.order b.depth (bytes_before h.fs ++ [])
+    (lift v.order b h.fs h.around.are h.around.distinct [] None (judged_start (strict v.order) (length (bytes_before h.fs)) (b.depth - length (frames_in h.fs))))))
+stands_clean v b e t (inr (inl h)) =
+    let count = h.count in
+    let some = h.some in
+    none_within v.order b.depth t (subst (λ (x : List ℕ). IsJudged (strict v.order) 0 b.depth x None) (sym h.taken) (all_levels v.order b.depth (bytes_before h.fs ++ (head (string_major v.is_text) h.w h.n ++ h.q))
+    (lift v.order b h.fs h.around.are h.around.distinct (head (string_major v.is_text) h.w h.n ++ h.q) None
+    (string_judged v.is_text h.w h.n h.q (strict v.order) (length (bytes_before h.fs)) (b.depth - length (frames_in h.fs)) h.holds h.are_bytes (omega (arith, count, some)) h.clean))))
+stands_clean v b e t (inr (inr h)) = λ s i c k l.
+    let whole : IsItem b.depth h.item (t ++ []) = record { spelled = h.spelled; within = h.within; bytes_are = sym h.taken ∙ sym (append-nil t) } in
+    absurd (h.clean c (same_complaints b.depth s h.item t i.0 [] i.1 whole (strict v.order) c l k))
+
+-- ---- the marks of some bytes
+
+pub marks_same : (m : MachineView) (t : List ℕ) (ms ns : List Mark) → StandsBetween m t ms → StandsBetween m t ns → ms ≡ ns
+marks_same m t ms ns h k =
+    let e : reached (state_of m.inner.position m.inner.frames) ms ≡ reached (state_of m.inner.position m.inner.frames) ns = sym h.stands.inner.ran ∙ k.stands.inner.ran in
+    cc e
+
+-- ---- a refusal
+
+-- of what was taken before and now
+pub stopped_unread : (o : KeyOrder) (b : Bounds) (e : ItemEventsView) (t : List ℕ) (from to : Option (List ℕ)) (f : Refusal) → IsStopped (strict o) b e t from to f
+    → IfSome from (λ rest. IsUnread b.depth b.bytes (strict o) (t ++ rest) f) × IsReaderReason (strict o) f.reason
+stopped_unread o b e t None to f s = (tt, (stops None (front_none s.bytes)).reason)
+  where
+    stops : (before : Option (List ℕ)) → Consumes before to (t ++ s.bytes) → IsFrontUnread (strict o) b before to f
+    stops before k = front-unread (strict o) b before to f
+        (record { bytes = t ++ s.bytes; taken = record { more = t ++ s.bytes; consumed = k; are = refl }; read = s.refused.read; why = s.refused.why })
+
+    front_none : (bs : List ℕ) → Consumes None to (t ++ bs)
+    front_none bs = tt
+stopped_unread o b e t (Some rest) to f s = (r.refused, r.reason)
+  where
+    whole : (to : Option (List ℕ)) (bs : List ℕ) → Consumes (Some rest) to bs → Consumes (Some (t ++ rest)) to (t ++ bs)
+    whole None bs c = c
+    whole (Some left) bs c = ap (λ (x : List ℕ). t ++ x) c ∙ sym (append_assoc t bs left)
+
+    r : IsFrontUnread (strict o) b (Some (t ++ rest)) to f
+    r = front-unread (strict o) b (Some (t ++ rest)) to f
+        (record { bytes = t ++ s.bytes; taken = record { more = t ++ s.bytes; consumed = whole to s.bytes s.consumed; are = refl }; read = s.refused.read; why = s.refused.why })
+
+-- ---- before the first byte
+
+pub stands_first : (limits : Bounds) (e : ItemEventsView) (v : OpenItems) → AreBounds limits → e.refusal ≡ None → (e.machine.depth ≡ limits.depth) × (e.machine.bytes ≡ limits.bytes) → StandsBetween e.machine [] [] → v.left ≡ 0 → IsKept (seen v.keys) [] [] → Stands v limits e []
+stands_first limits e v within live same h none kept =
+    inl (record { fs = []; around = record { are = none_open (strict v.order) limits.depth; distinct = tt }; none = none; kept = kept; taken = refl; at = starts-at limits e within live same h })
+
+-- ---- what is told next
+
+-- as contracts see it
+abbrev pub shown : ItemEventsView → OpenItems → Option Refusal → StrictEventsView
+shown e v r = record {
+  machine = e.machine;
+  piece = piece_unless r e.piece;
+  order = v.order;
+  spans = length (seen v.keys).spans;
+  kept = length (seen v.keys).bytes;
+  refusal = r;
+  inner = record { events = e; items = v };
+}
+
+stands_strictly : (e : ItemEventsView) (v : OpenItems) (t : List ℕ) (ms : List Mark) → StandsBetween e.machine t ms → Stands v (bounds_of e.machine) e t → StandsStrictly (shown e v None) t ms
+stands_strictly e v t ms h s = record {
+  between = h;
+  clean = stands_clean v (bounds_of e.machine) e t s;
+  spans = λ i k. (stands_counted v (bounds_of e.machine) e t s i k).spans;
+  kept = λ i k. (stands_counted v (bounds_of e.machine) e t s i k).kept;
+  live = refl;
+  inner = record { machine_is = refl; order_is = refl; stands = s };
+}
+
+same_bounds : (old new : MachineView) → KeepsLimits old new → bounds_of old ≡ bounds_of new
+same_bounds old new h = ap (λ (d : ℕ). bounds d old.bytes) (sym h.depth) ∙ ap (bounds new.depth) (sym h.bytes)
+
+pub starts_strictly : (limits : Bounds) (e : ItemEventsView) (v : OpenItems) → AreBounds limits → e.refusal ≡ None → (e.machine.depth ≡ limits.depth) × (e.machine.bytes ≡ limits.bytes) → StandsBetween e.machine [] [] → v.left ≡ 0 → IsKept (seen v.keys) [] [] → StandsStrictly (shown e v None) [] []
+starts_strictly limits e v within live same h none kept = stands_strictly e v [] [] h (subst (λ (b : Bounds). Stands v b e []) (ap (λ (d : ℕ). bounds d limits.bytes) (sym same.0) ∙ ap (bounds e.machine.depth) (sym same.1)) (stands_first limits e v within live same h none kept))
+
+module _ (e after : ItemEventsView) (v new : OpenItems) (from to : Option (List ℕ)) (limits : KeepsLimits e.machine after.machine) where
+  told_strictly : (o : Option Event) (t : List ℕ) (ms : List Mark) → (StandsStrictly (shown e v None) t ms) → IsStep o new (bounds_of e.machine) e after t from to → IsNextStrict (Ok o) (strict_call (shown e v None) (shown after new None) from to t ms)
+  told_strictly (Some event) t ms h g =
+      subst (λ (ns : List Mark). IsNextStrict (Ok (Some event)) (strict_call (shown e v None) (shown after new None) from to t ns)) (marks_same e.machine t g.marks ms g.between h.between)
+      (record {
+        event = g.next;
+        stands = stands_strictly after new (t ++ g.next.bytes) (g.marks ++ marks_of event.width event.kind) g.next.stands (subst (λ (b : Bounds). Stands new b after (t ++ g.next.bytes)) (same_bounds e.machine after.machine limits) g.stands);
+      })
+  told_strictly None t ms h g =
+      subst (λ (ns : List Mark). IsNextStrict (Ok None) (strict_call (shown e v None) (shown after new None) from to t ns)) (marks_same e.machine t g.marks ms g.between h.between)
+      (record {
+        end = g.end;
+        stands = stands_strictly after new t g.marks g.end.stands (subst (λ (b : Bounds). Stands new b after t) (same_bounds e.machine after.machine limits) (inr (inr g.over)));
+      })
+
+  pub next_told : (o : Option Event) (r : Option Refusal) → AnswersStep v new e after from to (Ok o) → (t : List ℕ) (ms : List Mark) → StandsStrictly (shown e v r) t ms → IsNextStrict (Ok o) (strict_call (shown e v r) (shown after new r) from to t ms)
+  next_told o None answers t ms h = told_strictly o t ms h (answers (bounds_of e.machine) t h.inner.stands)
+  next_told o (Some f) answers t ms h = absurd (cc h.live)
+
+  pub next_refused : (f : Refusal) (r : Option Refusal) (last : StrictEventsView) → AnswersStep v new e after from to (Err f) → (t : List ℕ) (ms : List Mark) → StandsStrictly (shown e v r) t ms → IsStrictRefusal f (strict_call (shown e v r) last from to t ms)
+  next_refused f None last answers t ms h =
+      let s = answers (bounds_of e.machine) t h.inner.stands in
+      record { unfinished = s.unfinished; bytes = s.bytes; consumed = s.consumed; read = s.refused.read; verdict = (stopped_unread v.order (bounds_of e.machine) e t from to f s).0 }
+  next_refused f (Some x) last answers t ms h = absurd (cc h.live)
+
+  pub stands_next : (o : Option Event) → StandsSomewhere v e → AnswersStep v new e after from to (Ok o) → StandsSomewhere new after
+  stands_next (Some event) h answers = let g = answers h.b h.t h.stands in record { b = h.b; t = h.t ++ g.next.bytes; stands = g.stands }
+  stands_next None h answers = let g = answers h.b h.t h.stands in record { b = h.b; t = h.t; stands = inr (inr g.over) }
+
+  pub refused_reason : (f : Refusal) → StandsSomewhere v e → AnswersStep v new e after from to (Err f) → IsReaderReason (strict v.order) f.reason
+  refused_reason f h answers = (stopped_unread v.order h.b e h.t from to f (answers h.b h.t h.stands)).1
+
+pub somewhere_little : (e : ItemEventsView) (v : OpenItems) → StandsSomewhere v e → IsLittle v e
+somewhere_little e v h = stands_little v h.b e h.t h.stands
+
+-- ---- nothing was refused yet
+
+pub none_is : (r : Option Refusal) → ((f : Refusal) → r ≡ Some f → ⊥) → r ≡ None
+none_is None h = refl
+none_is (Some f) h = absurd (h f refl)
+
+pub never_some : (r : Option Refusal) (P : Refusal → Type 0) → r ≡ None → IfSome r P
+never_some None P e = tt
+never_some (Some f) P e = absurd (cc e)

@@ -1,0 +1,57 @@
+-- Where memory is refused: all but the last byte taken tells nothing against the item.
+use Rattle.std.proofs.Common.{ℕ, ◌≡◌, ◌<◌, ◌≤◌, Option, List, [], ◌∷◌, ◌++◌, length, refl, ap, arith, subst}
+use Rattle.std.proofs.lemmas.List.{length-append}
+use Rattle.cbor_head.specs.Limits.{Bounds}
+use Rattle.cbor_head.specs.Value.{Value, AreBytes}
+use Rattle.cbor_head.specs.Spelling.{spell}
+use Rattle.cbor_head.specs.Complaint.{Rules}
+use Rattle.cbor_head.proofs.ReadLaws.{length_spell}
+use Rattle.cbor_events.specs.inner.Automaton.{Frame}
+use Rattle.cbor_events.specs.ItemEvents.{ItemEventsView}
+use Rattle.cbor_strict.proofs.ByteLists.{bytes_front}
+use Rattle.cbor_strict.specs.inner.Reading.{IsUndecided, IsPart, ReadsItem}
+
+-- a list with its last byte apart
+pub record LastApart (xs : List ℕ) : Type 0 where
+  pub front : List ℕ
+  pub last : List ℕ
+  pub splits : xs ≡ front ++ last
+  pub byte : length last ≡ 1
+
+pub last-apart : (xs : List ℕ) → 0 < length xs → LastApart xs
+last-apart [] h = absurd (omega arith)
+last-apart (x ∷ []) h = record { front = []; last = x ∷ []; splits = refl; byte = refl }
+last-apart (x ∷ y ∷ ys) h =
+    let k = last-apart (y ∷ ys) (omega arith) in
+    record { front = x ∷ k.front; last = k.last; splits = ap (λ (zs : List ℕ). x ∷ zs) k.splits; byte = k.byte }
+
+-- behind an item without complaint
+pub item-undecided : (r : Rules) (b : Bounds) (fs : List Frame) (t x : List ℕ) (from to : Option (List ℕ)) (new : ItemEventsView) (v : Value) → (m : ReadsItem r b fs t x from to new v) → IsUndecided r b fs t (spell m.item)
+item-undecided r b fs t x from to new v m =
+    let k = last-apart (spell m.item) (length_spell m.item) in
+    let size = length-append k.front k.last in
+    record {
+      p = k.front;
+      last = k.last;
+      splits = k.splits;
+      byte = omega (arith, k.byte);
+      judged = record {
+        item = m.item;
+        rest = k.last;
+        is = record { spelled = m.spelled; within = m.within; bytes_are = k.splits };
+        finding = (omega (arith, k.byte, ap length k.splits, size), λ e g. absurd (m.clean e g));
+      };
+    }
+
+-- within a payload
+pub is-part : (n : ℕ) (bytes : List ℕ) → 0 < length bytes → length bytes ≤ n → AreBytes bytes → IsPart n bytes
+is-part n bytes some most h =
+    let k = last-apart bytes some in
+    record {
+      p = k.front;
+      last = k.last;
+      splits = k.splits;
+      byte = omega (arith, k.byte);
+      short = omega (arith, k.byte, most, ap length k.splits, length-append k.front k.last);
+      are_bytes = bytes_front k.front k.last (subst AreBytes k.splits h);
+    }

@@ -1,0 +1,46 @@
+-- What a reader's refusal can say: its reason, and what stands before its place.
+use Rattle.std.specs.Prelude.{ℕ, ◌≡◌, ◌≤◌, ◌⊎◌, List, length}
+use Rattle.cbor_head.specs.Complaint.{Rules, plain, strict, Complaint, Complains}
+use Rattle.cbor_head.specs.Laws.{StartsWith}
+use Rattle.cbor_head.specs.Spelling.{Spelling}
+use Rattle.cbor_head.specs.declared.reason.Reason.{Reason}
+use Rattle.cbor_head.specs.declared.reason.Refusal.{Refusal}
+use Rattle.cbor_head.specs.declared.reason.Reason.TheVariants.{Truncated, TooLong, Reserved, NoIndefinite, Float, BadSimple, StrayBreak, BadChunk, TooDeep, InvalidText, RepeatedKey, NotShortest, Indefinite, KeyOrder, Read, Memory}
+
+-- the reasons for which bytes are not well-formed within the limits (RFC 8949, section 3 and appendix F): 1 to 9
+abbrev pub IsFormReason : Reason → Type 0
+IsFormReason Truncated = Unit {0}
+IsFormReason TooLong = Unit {0}
+IsFormReason Reserved = Unit {0}
+IsFormReason NoIndefinite = Unit {0}
+IsFormReason Float = Unit {0}
+IsFormReason BadSimple = Unit {0}
+IsFormReason StrayBreak = Unit {0}
+IsFormReason BadChunk = Unit {0}
+IsFormReason TooDeep = Unit {0}
+IsFormReason _ = ⊥
+
+-- The reasons of complaints: by the plain rules 10 and 11 (sections 3.1 and 5.6); by the strict ones 10 and 14 to 16
+-- (section 4.2).
+abbrev pub IsComplaintReason : Rules → Reason → Type 0
+IsComplaintReason plain InvalidText = Unit {0}
+IsComplaintReason plain RepeatedKey = Unit {0}
+IsComplaintReason (strict o) InvalidText = Unit {0}
+IsComplaintReason (strict o) NotShortest = Unit {0}
+IsComplaintReason (strict o) Indefinite = Unit {0}
+IsComplaintReason (strict o) KeyOrder = Unit {0}
+IsComplaintReason _ _ = ⊥
+
+-- the reasons that a reader by these rules gives: those, 17 and 19
+abbrev pub IsReaderReason : Rules → Reason → Type 0
+IsReaderReason r x = IsFormReason x ⊎ IsComplaintReason r x ⊎ (x ≡ Read) ⊎ (x ≡ Memory)
+
+-- no complaint of an item that starts with p ends before this place
+abbrev pub IsFreeBefore : ℕ → Rules → List ℕ → ℕ → Type 0
+IsFreeBefore d r p place = (s : Spelling) (c : Complaint) → StartsWith d s p → Complains r 0 s c → place ≤ c.end
+
+-- a refusal's place is no later than the bytes read, which are no more than the limit and the input
+pub record StandsWithin (n : ℕ) (input : List ℕ) (f : Refusal) : Type 0 where
+  pub by_read : f.place ≤ f.read
+  pub in_limit : f.read ≤ n
+  pub in_input : f.read ≤ length input

@@ -1,0 +1,88 @@
+-- What the strict reader tells of the item at the front of an input, event by event (RFC 8949, section 4.2).
+use Rattle.std.specs.Prelude.{◌≡◌, ℕ, ◌++◌, List, length, Option, Some, None, Result, Ok, Err, IfSome}
+use Rattle.std.specs.Io.KnownBytes.{Consumes}
+use Rattle.cbor_head.specs.Spelling.{Spelling}
+use Rattle.cbor_head.specs.Complaint.{strict}
+use Rattle.cbor_head.specs.Laws.{StartsWith}
+use Rattle.cbor_head.specs.Verdict.{IsWithout}
+use Rattle.cbor_head.specs.declared.order.KeyOrder.{KeyOrder}
+use Rattle.cbor_head.specs.declared.reason.Refusal.{Refusal}
+use Rattle.cbor_events.specs.Trace.{Mark}
+use Rattle.cbor_events.specs.Marks.{marks_of}
+use Rattle.cbor_events.specs.MachineView.{MachineView}
+use Rattle.cbor_events.specs.Machine.{IsComplete}
+use Rattle.cbor_events.specs.ItemEvents.{StandsBetween, Call, machine_call, IsNextEvent, IsEnd}
+use Rattle.cbor_events.specs.declared.event.Event.{Event}
+use Rattle.cbor_strict.specs.KeptKeys.{open_maps, key_bytes}
+use Rattle.cbor_strict.specs.Readers.{IsUnread}
+use Rattle.cbor_strict.specs.inner.StrictEvents.{Inner, IsInner}
+
+-- what contracts see of the events of an item by the strict rules: how far the form was read, the bytes of the last piece, what
+-- is kept, and why no more is read
+pub record StrictEventsView : Type 0 where
+  pub machine : MachineView
+  pub piece : List ℕ
+  pub order : KeyOrder
+  -- of how many open maps the last key is kept, and how many bytes are
+  pub spans : ℕ
+  pub kept : ℕ
+  pub refusal : Option Refusal
+  -- what leads from one event to the next; no public clause looks into it
+  pub inner : Inner
+
+-- the reader, and the events that were read from it
+pub record StrictReaderView (R : Type 0) : Type 0 where
+  pub reader : R
+  pub events : StrictEventsView
+
+-- All events of t were told, by these marks, and nothing in t has a complaint.
+pub record StandsStrictly (v : StrictEventsView) (t : List ℕ) (ms : List Mark) : Type 0 where
+  pub between : StandsBetween v.machine t ms
+  -- no complaint ends within t, of any item that starts with t
+  pub clean : (s : Spelling) → StartsWith v.machine.depth s t → IsWithout (strict v.order) s (length t)
+  -- what is kept is what each such item tells: a span for each open map, and the bytes of keys that are still to be compared
+  pub spans : (s : Spelling) → StartsWith v.machine.depth s t → v.spans ≡ open_maps (length t) s
+  pub kept : (s : Spelling) → StartsWith v.machine.depth s t → v.kept ≡ key_bytes (length t) s
+  pub live : v.refusal ≡ None
+  -- the inner state is the one behind t
+  pub inner : IsInner v.inner v.machine v.order t
+
+-- One call for the next event: the events and what the reader holds, before it and after it; and what was taken and told before.
+pub record StrictCall : Type 0 where
+  pub old : StrictEventsView
+  pub new : StrictEventsView
+  pub held : Option (List ℕ)
+  pub left : Option (List ℕ)
+  pub taken : List ℕ
+  pub told : List Mark
+
+abbrev pub strict_call : StrictEventsView → StrictEventsView → Option (List ℕ) → Option (List ℕ) → List ℕ → List Mark → StrictCall
+strict_call from to before_it after_it t ms = record { old = from; new = to; held = before_it; left = after_it; taken = t; told = ms }
+
+-- the call as one for an event by form alone
+abbrev pub form_call : StrictCall → Call
+form_call c = machine_call c.old.machine c.new.machine c.held c.left c.old.piece c.new.piece c.taken c.told
+
+-- the next event, with which no complaint ends
+pub record IsNextClean (e : Event) (c : StrictCall) : Type 0 where
+  pub event : IsNextEvent e (form_call c)
+  pub stands : StandsStrictly c.new (c.taken ++ event.bytes) (c.told ++ marks_of e.width e.kind)
+
+-- all events were told, and nothing is read
+pub record IsCleanEnd (c : StrictCall) : Type 0 where
+  pub end : IsEnd (form_call c)
+  pub stands : StandsStrictly c.new c.taken c.told
+
+-- No more is told. The refusal is that of what was taken and what the reader held behind it, and what it has read the reader lost.
+pub record IsStrictRefusal (f : Refusal) (c : StrictCall) : Type 0 where
+  pub unfinished : ¬ IsComplete c.old.machine
+  pub bytes : List ℕ
+  pub consumed : Consumes c.held c.left bytes
+  pub read : f.read ≡ length (c.taken ++ bytes)
+  pub verdict : IfSome c.held (λ rest. IsUnread c.old.machine.depth c.old.machine.bytes (strict c.old.order) (c.taken ++ rest) f)
+
+-- what is answered where an event ended
+abbrev pub IsNextStrict : Result (Option Event) Refusal → StrictCall → Type 0
+IsNextStrict (Ok (Some e)) c = IsNextClean e c
+IsNextStrict (Ok None) c = IsCleanEnd c
+IsNextStrict (Err f) c = IsStrictRefusal f c

@@ -1,0 +1,166 @@
+-- What is kept of the keys of the maps that are open around an item. The open containers stand with the innermost first.
+use Rattle.std.specs.Prelude.{◌≡◌, ◌≢◌, ℕ, suc, ◌+◌, ◌++◌, Bool, true, false, if◌then◌else◌, IsTrue, List, [], ◌∷◌, length, Result, MatchResult}
+use Rattle.cbor_head.specs.Head.{head}
+use Rattle.cbor_head.specs.Order.{key_lt}
+use Rattle.cbor_head.specs.Spelling.{Spelling, SpelledEntries, no_spellings, no_entries, entry, spell, spell_entries, entries_count}
+use Rattle.cbor_head.specs.declared.major.Major.TheVariants.{Map}
+use Rattle.cbor_head.specs.declared.order.KeyOrder.{KeyOrder}
+use Rattle.cbor_head.specs.declared.width.Width.{Width}
+use Rattle.cbor_head.specs.declared.width.Width.TheVariants.{Indefinite}
+use Rattle.cbor_strict.specs.declared.last_keys.Due.{Due}
+use Rattle.cbor_strict.specs.declared.last_keys.Due.TheVariants.{Member, Key, Content}
+use Rattle.cbor_strict.specs.declared.last_keys.LastKeys.{LastKeys}
+use Rattle.cbor_strict.specs.declared.last_keys.Level.{Level}
+use Rattle.cbor_strict.specs.declared.last_keys.Span.{Span}
+use Rattle.cbor_strict.specs.inner.Frame.{Frame, a_member, a_key, a_content, tagged, plug, before}
+
+pub record KeysView : Type 0 where
+  pub levels : List Level
+  pub spans : List Span
+  pub bytes : List ℕ
+  pub is_inside : Bool
+
+abbrev pub seen : LastKeys → KeysView
+seen k = record { levels = k.levels.items; spans = k.spans.items; bytes = k.bytes.items; is_inside = k.is_inside }
+
+-- the same containers with the outermost first
+abbrev pub from_outside : List Frame → List Frame
+from_outside [] = []
+from_outside (f ∷ fs) = from_outside fs ++ f ∷ []
+
+abbrev pub is_key : Frame → Bool
+is_key (a_key w a v b) = true
+is_key (a_member w a b) = false
+is_key (a_content w a k b) = false
+is_key (tagged w n) = false
+
+-- the item in the innermost stands in a key that is not complete
+abbrev pub stands_in_key : List Frame → Bool
+stands_in_key [] = false
+stands_in_key (f ∷ fs) = if is_key f then true else stands_in_key fs
+
+abbrev pub due_of : Frame → Due
+due_of (a_member w a b) = Member
+due_of (a_key w a v b) = Key
+due_of (a_content w a k b) = Content
+due_of (tagged w n) = Member
+
+abbrev pub level_of : Frame → List Frame → Level
+level_of f fs = record { due = due_of f; is_inside = stands_in_key fs }
+
+abbrev pub levels_of : List Frame → List Level
+levels_of [] = []
+levels_of (f ∷ fs) = levels_of fs ++ level_of f fs ∷ []
+
+-- the bytes of the last key of these pairs, or none
+abbrev pub last_key : SpelledEntries → List ℕ
+last_key no_entries = []
+last_key (entry k v no_entries) = spell k
+last_key (entry k v (entry l w es)) = last_key (entry l w es)
+
+-- how many bytes stand before it
+abbrev pub before_last : SpelledEntries → ℕ
+before_last no_entries = 0
+before_last (entry k v no_entries) = 0
+before_last (entry k v (entry l w es)) = length (spell k ++ spell v) + before_last (entry l w es)
+
+-- the bytes of the last complete key of an open map
+abbrev pub complete_key : Frame → List ℕ
+complete_key (a_key w a v b) = last_key a
+complete_key (a_content w a k b) = spell k
+complete_key (a_member w a b) = []
+complete_key (tagged w n) = []
+
+-- The bytes that are kept where p was read of the item in the innermost container: the last complete key of each open map, up
+-- to the first key that is not complete; and of that key all.
+abbrev pub kept_bytes : List Frame → List ℕ → List ℕ
+kept_bytes [] p = []
+kept_bytes (f ∷ fs) p = if stands_in_key fs then kept_bytes fs (before f ++ p) else kept_bytes fs [] ++ (complete_key f ++ (if is_key f then p else []))
+
+-- where the bytes of a container begin, or would
+abbrev pub kept_before : List Frame → ℕ
+kept_before fs = length (kept_bytes fs [])
+
+abbrev pub span : ℕ → ℕ → ℕ → Span
+span from to next = record { from = from; to = to; next = next }
+
+-- where the last complete key of the innermost map lies, and where the next one begins
+abbrev pub spans_in : Frame → List Frame → List Span
+spans_in (a_member w a b) fs = []
+spans_in (tagged w n) fs = []
+spans_in (a_content w a k b) fs =
+    let from = kept_before fs + (if stands_in_key fs then length (head Map w (entries_count a + suc (entries_count b)) ++ spell_entries a) else 0) in
+    span from (from + length (spell k)) (from + length (spell k)) ∷ []
+spans_in (a_key w a v b) fs =
+    let from = kept_before fs + (if stands_in_key fs then length (head Map w (entries_count a + suc (entries_count b))) + before_last a else 0) in
+    span from (from + length (last_key a)) (kept_before fs + (if stands_in_key fs then length (before (a_key w a v b)) else length (last_key a))) ∷ []
+
+abbrev pub spans_of : List Frame → List Span
+spans_of [] = []
+spans_of (f ∷ fs) = spans_of fs ++ spans_in f fs
+
+-- What is kept where p was read of the item in the innermost of these containers.
+pub record IsKept (k : KeysView) (fs : List Frame) (p : List ℕ) : Type 0 where
+  pub levels : k.levels ≡ levels_of fs
+  pub spans : k.spans ≡ spans_of fs
+  pub bytes : k.bytes ≡ kept_bytes fs p
+  pub is_inside : k.is_inside ≡ stands_in_key fs
+
+-- ---- an item ends
+
+-- the frame of a container that has a length, whose last item is the one that is due
+abbrev pub IsFull : Frame → Type 0
+IsFull (a_member w a no_spellings) = w ≢ Indefinite
+IsFull (a_content w a k no_entries) = w ≢ Indefinite
+IsFull (tagged w n) = Unit {0}
+IsFull _ = ⊥
+
+abbrev pub AreDefinite : List Frame → Type 0
+AreDefinite [] = Unit {0}
+AreDefinite (a_member w a b ∷ fs) = (w ≢ Indefinite) × AreDefinite fs
+AreDefinite (a_key w a v b ∷ fs) = (w ≢ Indefinite) × AreDefinite fs
+AreDefinite (a_content w a k b ∷ fs) = (w ≢ Indefinite) × AreDefinite fs
+AreDefinite (tagged w n ∷ fs) = AreDefinite fs
+
+-- the containers that are open behind the last item in the innermost of them
+abbrev pub still_open : List Frame → List Frame
+still_open [] = []
+still_open (a_member w a no_spellings ∷ fs) = still_open fs
+still_open (a_content w a k no_entries ∷ fs) = still_open fs
+still_open (tagged w n ∷ fs) = still_open fs
+still_open (f ∷ fs) = f ∷ fs
+
+-- and the item that ends in those, with what closed around it
+abbrev pub ended_item : List Frame → Spelling → Spelling
+ended_item [] s = s
+ended_item (a_member w a no_spellings ∷ fs) s = ended_item fs (plug (a_member w a no_spellings) s)
+ended_item (a_content w a k no_entries ∷ fs) s = ended_item fs (plug (a_content w a k no_entries) s)
+ended_item (tagged w n ∷ fs) s = ended_item fs (plug (tagged w n) s)
+ended_item (f ∷ fs) s = s
+
+-- a key is complete in the innermost map
+pub record HasKeyEnded (k : KeysView) : Type 0 where
+  pub w : Width
+  pub a : SpelledEntries
+  pub v : Spelling
+  pub b : SpelledEntries
+  pub fs : List Frame
+  pub s : Spelling
+  pub kept : IsKept k (a_key w a v b ∷ fs) (spell s)
+
+-- it comes behind the one before, and is kept in its place; or it does not, and has so many bytes
+abbrev pub AnswersKeyEnd : KeyOrder → KeysView → KeysView → Result (Unit {0}) ℕ → Type 0
+AnswersKeyEnd o old new result =
+    (w : Width) (a : SpelledEntries) (v : Spelling) (b : SpelledEntries) (fs : List Frame) (s : Spelling) → IsKept old (a_key w a v b ∷ fs) (spell s)
+    → MatchResult result
+    (λ u. IsTrue (key_lt o (last_key a) (spell s)) × IsKept new (a_content w a s b ∷ fs) [])
+    (λ n. ¬ IsTrue (key_lt o (last_key a) (spell s)) × (n ≡ length (spell s)))
+
+-- the last complete key of the innermost map lies there, and its content is due
+abbrev pub with_key : KeysView → Bool → ℕ → ℕ → KeysView
+with_key k inside from to = record {
+  levels = k.levels ++ record { due = Content; is_inside = inside } ∷ [];
+  spans = k.spans ++ span from to to ∷ [];
+  bytes = k.bytes;
+  is_inside = inside;
+}

@@ -1,0 +1,237 @@
+-- Where the strict reader stands between two events: which containers are open, what was read of the item in the innermost, and
+-- what is kept. Nothing read has a complaint.
+use Rattle.std.specs.Prelude.{◌≡◌, ℕ, suc, ◌+◌, ◌-◌, ◌<◌, ◌≤◌, ◌⊎◌, ◌++◌, true, false, List, [], ◌∷◌, length, Option, Some, Result, MatchResult}
+use Rattle.cbor_head.specs.Head.{Holds, head, shortest_head}
+use Rattle.cbor_head.specs.Value.{AreBytes}
+use Rattle.cbor_head.specs.Spelling.{Spelling, spell, spellings_count, entries_count, IsSpelled, depth}
+use Rattle.cbor_head.specs.Complaint.{Rules, strict, Complaint, OfHead, Complains}
+use Rattle.cbor_head.specs.Limits.{Bounds}
+use Rattle.cbor_head.specs.declared.reason.Refusal.{Refusal}
+use Rattle.cbor_head.specs.declared.width.Width.{Width}
+use Rattle.cbor_events.specs.inner.Automaton.{Frame as Container, State, at_item, counted, close, payload, done as at_end}
+use Rattle.cbor_events.specs.inner.Taking.{IsTaking}
+use Rattle.cbor_events.specs.ItemEvents.{ItemEventsView}
+use Rattle.cbor_events.specs.Marks.{mark_of, IsProper}
+use Rattle.cbor_events.specs.TextCheck.{HasChecked}
+use Rattle.cbor_head.specs.declared.major.Major.TheVariants as majors
+use Rattle.cbor_events.specs.declared.event.Event.{Event}
+use Rattle.cbor_events.specs.declared.event.EventKind.{EventKind}
+use Rattle.cbor_events.specs.declared.event.EventKind.TheVariants as kinds
+use Rattle.cbor_strict.specs.declared.open_items.Begun.{Begun}
+use Rattle.cbor_strict.specs.declared.open_items.Begun.TheVariants.{Leaf, String, Map as BegunMap, Other}
+use Rattle.cbor_strict.specs.declared.open_items.OpenItems.{OpenItems}
+use Rattle.cbor_strict.specs.inner.Frame.{Frame, a_member, a_key, a_content, tagged}
+use Rattle.cbor_strict.specs.inner.LastKeys.{seen, from_outside, IsKept}
+use Rattle.cbor_strict.specs.inner.OpenMaps.{before_all, AreOpen, AreOpenDistinct}
+use Rattle.cbor_strict.specs.inner.Reading.{IsAt, IsMemory, IsReached, IsBegun, IsUndecided, HasCause, string_kind, string_major}
+
+-- an open container, as the events count what is due in it
+abbrev pub counted_in : Frame → Container
+counted_in (a_member w a b) = counted (spellings_count b)
+counted_in (a_key w a v b) = counted (suc (entries_count b + entries_count b))
+counted_in (a_content w a k b) = counted (entries_count b + entries_count b)
+counted_in (tagged w n) = counted 0
+
+abbrev pub frames_in : List Frame → List Container
+frames_in [] = []
+frames_in (f ∷ fs) = counted_in f ∷ frames_in fs
+
+-- the bytes before the item in the innermost
+abbrev pub bytes_before : List Frame → List ℕ
+bytes_before fs = before_all (from_outside fs)
+
+-- these containers are open, and nothing in them has a complaint
+pub record AreOpenClean (v : OpenItems) (b : Bounds) (fs : List Frame) : Type 0 where
+  pub are : AreOpen (strict v.order) b.depth (from_outside fs)
+  pub distinct : AreOpenDistinct (strict v.order) 0 (from_outside fs)
+
+-- an item is due
+pub record IsItemDue (v : OpenItems) (b : Bounds) (e : ItemEventsView) (t : List ℕ) : Type 0 where
+  pub fs : List Frame
+  pub around : AreOpenClean v b fs
+  pub none : v.left ≡ 0
+  pub kept : IsKept (seen v.keys) fs []
+  pub taken : t ≡ bytes_before fs
+  pub at : IsAt b e t (at_item (frames_in fs))
+
+-- the payload of a string is due, of which q was read
+pub record IsInString (v : OpenItems) (b : Bounds) (e : ItemEventsView) (t : List ℕ) : Type 0 where
+  pub fs : List Frame
+  pub around : AreOpenClean v b fs
+  pub w : Width
+  pub n : ℕ
+  pub q : List ℕ
+  pub some : 0 < v.left
+  pub count : length q + v.left ≡ n
+  pub holds : Holds w n
+  pub clean : (c : Complaint) → OfHead (strict v.order) (length (bytes_before fs)) (string_major v.is_text) w n c → ⊥
+  pub are_bytes : AreBytes q
+  pub kept : IsKept (seen v.keys) fs (head (string_major v.is_text) w n ++ q)
+  pub taken : t ≡ bytes_before fs ++ (head (string_major v.is_text) w n ++ q)
+  pub at : IsAt b e t (payload false (string_major v.is_text) v.left (frames_in fs))
+  pub checked : v.is_text ≡ true → HasChecked v.check q
+
+-- the item is complete
+pub record IsOver (v : OpenItems) (b : Bounds) (e : ItemEventsView) (t : List ℕ) : Type 0 where
+  pub item : Spelling
+  pub spelled : IsSpelled item
+  pub within : depth item ≤ b.depth
+  pub clean : (c : Complaint) → Complains (strict v.order) 0 item c → ⊥
+  pub none : v.left ≡ 0
+  pub kept : IsKept (seen v.keys) [] (spell item)
+  pub taken : t ≡ spell item
+  pub at : IsAt b e t at_end
+
+abbrev pub Stands : OpenItems → Bounds → ItemEventsView → List ℕ → Type 0
+Stands v b e t = IsItemDue v b e t ⊎ IsInString v b e t ⊎ IsOver v b e t
+
+-- The bytes are refused: memory, or what the item has within them.
+pub record AreRefused (r : Rules) (b : Bounds) (bytes : List ℕ) (to : Option (List ℕ)) (f : Refusal) : Type 0 where
+  pub read : f.read ≡ length bytes
+  pub why : (IsMemory f × IsReached b bytes × IsUndecided r b [] [] bytes) ⊎ HasCause r b [] [] bytes to f
+
+-- what is answered where these bytes are taken now
+abbrev pub Answers : Rules → OpenItems → Bounds → ItemEventsView → List ℕ → Result (Unit {0}) Refusal → Type 0
+Answers r new b e t result = MatchResult result (λ u. Stands new b e t) (λ f. (to : Option (List ℕ)) → AreRefused r b t to f)
+
+-- an item has ended in the innermost container, and what closes with it is still open
+pub record HasEnded (v : OpenItems) (b : Bounds) (e : ItemEventsView) (t : List ℕ) : Type 0 where
+  pub fs : List Frame
+  pub around : AreOpenClean v b fs
+  pub item : Spelling
+  pub spelled : IsSpelled item
+  pub within : depth item ≤ b.depth - length fs
+  pub clean : (c : Complaint) → Complains (strict v.order) (length (bytes_before fs)) item c → ⊥
+  pub none : v.left ≡ 0
+  pub kept : IsKept (seen v.keys) fs (spell item)
+  pub taken : t ≡ bytes_before fs ++ spell item
+  pub at : IsAt b e t (close (frames_in fs))
+
+-- some item has, and what the events count is known
+pub record IsItemEnded (v : OpenItems) (count taken : ℕ) : Type 0 where
+  pub b : Bounds
+  pub e : ItemEventsView
+  pub t : List ℕ
+  pub ended : HasEnded v b e t
+  pub counted : count ≡ e.machine.open_count
+  pub all : taken ≡ e.machine.taken
+
+abbrev pub AnswersEnd : OpenItems → OpenItems → ℕ → ℕ → Result (Unit {0}) Refusal → Type 0
+AnswersEnd old new count taken result =
+    (b : Bounds) (e : ItemEventsView) (t : List ℕ) → HasEnded old b e t → count ≡ e.machine.open_count → taken ≡ e.machine.taken
+    → Answers (strict old.order) new b e t result
+
+-- the head of the item that is due has come: its bytes are x
+pub record HasHeadCome (v : OpenItems) (b : Bounds) (event : Event) (t x : List ℕ) (e : ItemEventsView) : Type 0 where
+  pub fs : List Frame
+  pub around : AreOpenClean v b fs
+  pub none : v.left ≡ 0
+  pub kept : IsKept (seen v.keys) fs []
+  pub taken : t ≡ bytes_before fs
+  pub next : State
+  pub taking : IsTaking b.depth (at_item (frames_in fs)) (mark_of event.width event.kind) x next
+  pub proper : IsProper event.width event.kind
+  pub place : event.place ≡ length t
+  pub at : IsAt b e (t ++ x) next
+
+pub record IsHeadCome (v : OpenItems) (event : Event) (count taken : ℕ) : Type 0 where
+  pub b : Bounds
+  pub t : List ℕ
+  pub x : List ℕ
+  pub e : ItemEventsView
+  pub come : HasHeadCome v b event t x e
+  pub counted : count ≡ e.machine.open_count
+  pub all : taken ≡ e.machine.taken
+
+abbrev pub AnswersHead : OpenItems → OpenItems → Event → ℕ → ℕ → Result (Unit {0}) Refusal → Type 0
+AnswersHead old new event count taken result =
+    (b : Bounds) (t x : List ℕ) (e : ItemEventsView) → HasHeadCome old b event t x e → count ≡ e.machine.open_count → taken ≡ e.machine.taken
+    → Answers (strict old.order) new b e (t ++ x) result
+
+-- all but the keys is as it was
+pub record IsSameString (old new : OpenItems) : Type 0 where
+  pub order : new.order ≡ old.order
+  pub left : new.left ≡ old.left
+
+-- the bytes of a definite head, as short as can be
+abbrev pub short_head : EventKind → List ℕ
+short_head (kinds.Unsigned n) = shortest_head majors.Unsigned n
+short_head (kinds.Negative n) = shortest_head majors.Negative n
+short_head (kinds.Simple n) = shortest_head majors.Simple n
+short_head (kinds.Bytes (Some n)) = shortest_head majors.Bytes n
+short_head (kinds.Text (Some n)) = shortest_head majors.Text n
+short_head (kinds.Array (Some n)) = shortest_head majors.Array n
+short_head (kinds.Map (Some n)) = shortest_head majors.Map n
+short_head (kinds.Tag n) = shortest_head majors.Tag n
+short_head kind = []
+
+-- an item that ends with this head, if it is definite
+abbrev pub IsLeaf : EventKind → Type 0
+IsLeaf (kinds.Bytes (Some n)) = n ≡ 0
+IsLeaf (kinds.Text (Some n)) = n ≡ 0
+IsLeaf (kinds.Array (Some n)) = n ≡ 0
+IsLeaf (kinds.Map (Some n)) = n ≡ 0
+IsLeaf (kinds.Tag n) = ⊥
+IsLeaf kind = Unit {0}
+
+-- an array with members, or a tag
+abbrev pub IsOther : EventKind → Type 0
+IsOther (kinds.Array (Some n)) = 0 < n
+IsOther (kinds.Tag n) = Unit {0}
+IsOther kind = ⊥
+
+abbrev pub IsMap : EventKind → Type 0
+IsMap (kinds.Map (Some n)) = 0 < n
+IsMap kind = ⊥
+
+abbrev pub IsBegunBy : EventKind → Begun → Type 0
+IsBegunBy kind Leaf = IsLeaf kind
+IsBegunBy kind (String text n) = (kind ≡ string_kind text (Some n)) × (0 < n)
+IsBegunBy kind BegunMap = IsMap kind
+IsBegunBy kind Other = IsOther kind
+
+-- its head has no complaint, and is kept in a key
+pub record HasBegunIn (v : OpenItems) (b : Bounds) (w : Width) (kind : EventKind) (t x : List ℕ) (e : ItemEventsView) : Type 0 where
+  pub fs : List Frame
+  pub around : AreOpenClean v b fs
+  pub none : v.left ≡ 0
+  pub kept : IsKept (seen v.keys) fs x
+  pub taken : t ≡ bytes_before fs
+  pub begun : IsBegun (strict v.order) b (frames_in fs) t x e w kind
+
+pub record IsBegunIn (v : OpenItems) (kind : EventKind) (count taken : ℕ) : Type 0 where
+  pub b : Bounds
+  pub w : Width
+  pub t : List ℕ
+  pub x : List ℕ
+  pub e : ItemEventsView
+  pub has : HasBegunIn v b w kind t x e
+  pub counted : count ≡ e.machine.open_count
+  pub all : taken ≡ e.machine.taken
+
+abbrev pub AnswersBegun : OpenItems → OpenItems → EventKind → ℕ → ℕ → Result (Unit {0}) Refusal → Type 0
+AnswersBegun old new kind count taken result =
+    (b : Bounds) (w : Width) (t x : List ℕ) (e : ItemEventsView) → HasBegunIn old b w kind t x e → count ≡ e.machine.open_count → taken ≡ e.machine.taken
+    → Answers (strict old.order) new b e (t ++ x) result
+
+-- a part of the payload that is due has come
+pub record HasPartCome (v : OpenItems) (b : Bounds) (old : ItemEventsView) (t x : List ℕ) (e : ItemEventsView) : Type 0 where
+  pub due : IsInString v b old t
+  pub some : 0 < length x
+  pub fits : length x ≤ v.left
+  pub are_bytes : AreBytes x
+  pub at : IsAt b e (t ++ x) (payload false (string_major v.is_text) (v.left - length x) (frames_in due.fs))
+
+pub record IsPartCome (v : OpenItems) (x : List ℕ) (count taken : ℕ) : Type 0 where
+  pub b : Bounds
+  pub old : ItemEventsView
+  pub t : List ℕ
+  pub e : ItemEventsView
+  pub come : HasPartCome v b old t x e
+  pub counted : count ≡ e.machine.open_count
+  pub all : taken ≡ e.machine.taken
+
+abbrev pub AnswersPart : OpenItems → OpenItems → List ℕ → ℕ → ℕ → Result (Unit {0}) Refusal → Type 0
+AnswersPart v new x count taken result =
+    (b : Bounds) (old : ItemEventsView) (t : List ℕ) (e : ItemEventsView) → HasPartCome v b old t x e → count ≡ e.machine.open_count → taken ≡ e.machine.taken
+    → Answers (strict v.order) new b e (t ++ x) result

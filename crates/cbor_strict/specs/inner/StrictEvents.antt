@@ -1,0 +1,84 @@
+-- What is told of the item at the front of an input, event by event, by the strict rules.
+use Rattle.std.specs.Prelude.{◌≡◌, ℕ, ◌<◌, ◌≤◌, ◌++◌, List, [], length, Option, Some, None, Result, MatchResult, IfSome}
+use Rattle.std.specs.Io.KnownBytes.{Consumes}
+use Rattle.cbor_head.specs.Complaint.{Rules, strict}
+use Rattle.cbor_head.specs.Limits.{Bounds, bounds}
+use Rattle.cbor_head.specs.declared.order.KeyOrder.{KeyOrder}
+use Rattle.cbor_head.specs.declared.reason.Refusal.{Refusal}
+use Rattle.cbor_events.specs.Trace.{Mark}
+use Rattle.cbor_events.specs.MachineView.{MachineView}
+use Rattle.cbor_events.specs.Machine.{IsComplete}
+use Rattle.cbor_events.specs.ItemEvents.{ItemEventsView, StandsBetween, IsNextEvent, IsEnd, call}
+use Rattle.cbor_events.specs.declared.event.Event.{Event}
+use Rattle.cbor_strict.specs.declared.open_items.OpenItems.{OpenItems}
+use Rattle.cbor_strict.specs.Readers.{IsRead, Loses}
+use Rattle.cbor_strict.specs.inner.LastKeys.{seen}
+use Rattle.cbor_strict.specs.inner.OpenItems.{Stands, IsOver, AreRefused}
+
+-- some bytes are taken
+pub record StandsSomewhere (v : OpenItems) (e : ItemEventsView) : Type 0 where
+  pub b : Bounds
+  pub t : List ℕ
+  pub stands : Stands v b e t
+
+-- this event was told: its bytes are taken, and nothing read has a complaint
+pub record GoesOn (v : OpenItems) (b : Bounds) (e after : ItemEventsView) (t : List ℕ) (from to : Option (List ℕ)) (event : Event) : Type 0 where
+  pub marks : List Mark
+  pub between : StandsBetween e.machine t marks
+  pub next : IsNextEvent event (call e after from to t marks)
+  pub some : 0 < length next.bytes
+  pub stands : Stands v b after (t ++ next.bytes)
+
+-- the item is complete, and nothing was taken
+pub record HasCome (v : OpenItems) (b : Bounds) (e after : ItemEventsView) (t : List ℕ) (from to : Option (List ℕ)) : Type 0 where
+  pub marks : List Mark
+  pub between : StandsBetween e.machine t marks
+  pub end : IsEnd (call e after from to t marks)
+  pub over : IsOver v b after t
+
+abbrev pub IsStep : Option Event → OpenItems → Bounds → ItemEventsView → ItemEventsView → List ℕ → Option (List ℕ) → Option (List ℕ) → Type 0
+IsStep (Some event) v b e after t from to = GoesOn v b e after t from to event
+IsStep None v b e after t from to = HasCome v b e after t from to
+
+-- it is refused, with these bytes taken
+pub record IsStopped (r : Rules) (b : Bounds) (e : ItemEventsView) (t : List ℕ) (from to : Option (List ℕ)) (f : Refusal) : Type 0 where
+  pub unfinished : ¬ IsComplete e.machine
+  pub bytes : List ℕ
+  pub consumed : Consumes from to bytes
+  pub refused : AreRefused r b (t ++ bytes) to f
+
+abbrev pub AnswersStep : OpenItems → OpenItems → ItemEventsView → ItemEventsView → Option (List ℕ) → Option (List ℕ) → Result (Option Event) Refusal → Type 0
+AnswersStep old new e after from to result =
+    (b : Bounds) (t : List ℕ) → Stands old b e t → MatchResult result (λ told. IsStep told new b e after t from to) (λ f. IsStopped (strict old.order) b e t from to f)
+
+-- at most a span for each open container, and no byte that was not read
+pub record IsLittle (v : OpenItems) (e : ItemEventsView) : Type 0 where
+  pub spans : length (seen v.keys).spans ≤ e.machine.open_count
+  pub kept : length (seen v.keys).bytes ≤ e.machine.taken
+
+-- ---- what leads from one event to the next
+
+pub record Inner : Type 0 where
+  pub events : ItemEventsView
+  pub items : OpenItems
+
+abbrev pub bounds_of : MachineView → Bounds
+bounds_of m = bounds m.depth m.bytes
+
+-- t led to it
+pub record IsInner (inner : Inner) (m : MachineView) (order : KeyOrder) (t : List ℕ) : Type 0 where
+  pub machine_is : inner.events.machine ≡ m
+  pub order_is : inner.items.order ≡ order
+  pub stands : Stands inner.items (bounds_of m) inner.events t
+
+-- the bytes of the last piece, if nothing was refused
+abbrev pub piece_unless : Option Refusal → List ℕ → List ℕ
+piece_unless None piece = piece
+piece_unless (Some f) piece = []
+
+-- ---- the whole
+
+-- the whole item is read
+pub record IsStrictlyRead (r : Rules) (b : Bounds) (from to : Option (List ℕ)) (count : ℕ) : Type 0 where
+  pub read : IfSome from (λ input. IsRead b.depth b.bytes r input count)
+  pub taken : Loses count from to

@@ -1,0 +1,41 @@
+//! Readers that accept the deterministic encoding alone (RFC 8949, section 4.2).
+//!
+//! [`read_strict`] reads one item from a reader, [`StrictReader`] tells its events one by one, and
+//! [`check_canonical`] looks for one at the front of a slice. None makes the item, and none takes
+//! memory but for the last key of each open map; that of a slice takes none.
+//! [`check_text`] and [`is_ascii_front`] are what these and the readers of `cbor_reader` ask of the
+//! bytes of a text.
+//!
+//! ```
+//! // {"Amt": -2, "Fun": true}
+//! let canonical = b"\xa2\x63Amt\x21\x63Fun\xf5";
+//! assert_eq!(rt; check_canonical(canonical, limits, KeyOrder::Bytewise), Ok(11));
+//! // the key "Amt" does not rise: its place, and the bytes up to its end
+//! let turned = b"\xa2\x63Fun\xf5\x63Amt\x21";
+//! let refusal = Refusal::new(Reason::KeyOrder, 6, 10);
+//! assert_eq!(rt; check_canonical(turned, limits, KeyOrder::Bytewise), Err(refusal));
+//! ```
+#![tactic(auto)]
+
+mod key_spans;
+mod last_keys;
+mod open_items;
+mod quick;
+mod rises;
+mod slice_front;
+mod slice_heads;
+mod strict_events;
+mod strict_front;
+mod strict_reader;
+mod strict_slice;
+#[cfg(test)]
+mod tests;
+mod text;
+
+/// How many containers can be open.
+pub const MOST_OPEN: usize = cbor_head::MAX_DEPTH as usize;
+
+pub use cbor_head::KeyOrder;
+pub use strict_reader::{StrictReader, read_strict};
+pub use strict_slice::check_canonical;
+pub use text::{check_text, is_ascii_front};

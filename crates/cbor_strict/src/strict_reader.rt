@@ -1,0 +1,171 @@
+//! The item at the front of an input, if it is canonical: its length, or its events.
+
+ghost use Rattle.std.specs.Prelude.{◌≡◌, ◌≢◌, ◌≤◌, ℕ, List, [], length, None, Some, Err};
+ghost use Rattle.std.specs.Prelude.{IfOk, IfErr, IfSome, OnOk, OnErr, MatchResult};
+ghost use Rattle.cbor_head.specs.Complaint.{strict};
+ghost use Rattle.cbor_head.specs.declared.reason.Reason.TheVariants as reasons;
+ghost use Rattle.cbor_events.specs.Trace.{Mark};
+ghost use Rattle.cbor_events.specs.Marks.{IsProper};
+ghost use Rattle.cbor_events.specs.Machine.{KeepsLimits, IsIdle};
+ghost use Rattle.cbor_events.specs.ItemEvents.{IfTold};
+ghost use Rattle.cbor_strict.specs.Readers.{StaysWithinDepth};
+ghost use Rattle.cbor_strict.specs.Readers.{IsRead, IsUnread, IsCanonicalFront};
+ghost use Rattle.cbor_strict.specs.Readers.{HasNoCanonicalFront, Loses};
+ghost use Rattle.cbor_strict.specs.Refusals.{IsReaderReason};
+ghost use Rattle.cbor_strict.specs.StrictReader.{StrictReaderView, StandsStrictly};
+ghost use Rattle.cbor_strict.specs.StrictReader.{IsNextStrict, strict_call};
+
+use crate::strict_events::StrictEvents;
+use crate::strict_front::read_strict_front;
+use cbor_events::Event;
+use cbor_head::{KeyOrder, Limits, Refusal};
+use std::alloc::Global;
+use std::io::Read;
+use std::marker::Model;
+
+/// How many bytes the item has that the reader's bytes begin with, where they are its canonical
+/// bytes in this order (RFC 8949, sections 4.2.1 and 4.2.3).
+///
+/// No byte behind the item is read. The refusal is the one that the bytes within the limits call
+/// for, by the rules of the deterministic encoding; or `Read` or `Memory`, where the reader failed
+/// or memory was refused before: then the place is the count of the bytes taken. After a refusal as
+/// many bytes were taken as its `read` tells. Whatever was taken, no more containers were open than
+/// the depth limit allows.
+pub fn read_strict<R: Read>(
+    alloc: Global,
+    reader: &mut R,
+    limits: Limits,
+    order: KeyOrder,
+) -> Result<u64, Refusal>
+    ensures accepted { IfOk result (λ count. IfSome (R.remaining reader.old)
+        (λ input. IsRead limits.depth limits.bytes (strict order) input count)) }
+    ensures canonical { IfOk result (λ count. IfSome (R.remaining reader.old)
+        (λ input. IsCanonicalFront limits.depth limits.bytes order input count)) }
+    ensures taken { IfOk result
+        (λ count. Loses count (R.remaining reader.old) (R.remaining reader.new)) }
+    ensures refused { IfErr result (λ f. IfSome (R.remaining reader.old)
+        (λ input. IsUnread limits.depth limits.bytes (strict order) input f)) }
+    ensures reason { IfErr result (λ f. IsReaderReason (strict order) f.reason) }
+    ensures no_canonical { IfErr result (λ f. f.reason ≢ reasons.Read → f.reason ≢ reasons.Memory
+        → IfSome (R.remaining reader.old)
+        (HasNoCanonicalFront limits.depth limits.bytes order)) }
+    ensures within_depth { IfSome (R.remaining reader.old) (λ input. MatchResult result
+        (λ count. StaysWithinDepth limits.depth input count)
+        (λ f. StaysWithinDepth limits.depth input f.read)) }
+    ensures read { IfErr result
+        (λ f. Loses f.read (R.remaining reader.old) (R.remaining reader.new)) }
+{
+    match read_strict_front(alloc, reader, limits, order) {
+        Ok(count) => Ok(count),
+        Err(refusal) => Err(refusal),
+    }
+}
+
+/// A reader together with the events of the item that it is at, by the rules of the deterministic
+/// encoding in an order (RFC 8949, sections 4.2.1 and 4.2.3).
+///
+/// The events are those of [`EventReader`](cbor_events::EventReader), but where a complaint ends
+/// with one, as where a key is complete that does not rise, its refusal stands in its place. What
+/// is kept grows with the keys alone: of each open map the last complete key, and all of a key that
+/// is not complete, a byte of it once however many maps it holds.
+#[derive(Drop)]
+pub struct StrictReader<R> {
+    reader: R,
+    events: StrictEvents,
+}
+
+impl<R> Model for StrictReader<R> {
+    ghost Value = { StrictReaderView R };
+
+    ghost view = { λ e. record { reader = e.reader; events = e.events } };
+}
+
+impl<R: Read> StrictReader<R> {
+    /// The events of the item that the reader is at. Takes no memory.
+    pub fn new(alloc: Global, reader: R, limits: Limits, order: KeyOrder) -> StrictReader<R>
+        ensures starts { StandsStrictly result.events [] [] }
+        ensures limits { (result.events.machine.depth ≡ limits.depth)
+            × (result.events.machine.bytes ≡ limits.bytes) }
+        ensures order { result.events.order ≡ order }
+        ensures piece { result.events.piece ≡ [] }
+        ensures same { result.reader ≡ reader }
+    {
+        StrictReader {
+            reader,
+            events: StrictEvents::new(alloc, limits, order),
+        }
+    }
+
+    /// The next event, with its bytes read; none once the item is complete, and then nothing is
+    /// read.
+    ///
+    /// One byte of a head is asked for, then what is missing of its argument; of a payload what is
+    /// left, at most 512 bytes. The refusal is the one that [`read_strict`] answers of what was
+    /// taken and what the reader holds. After one every later call answers it again and reads
+    /// nothing.
+    pub fn next(&mut self) -> Result<Option<Event>, Refusal>
+        // For all bytes and marks that the events stood for.
+        ensures answers { (t : List ℕ) (ms : List Mark) → StandsStrictly self.old.events t ms
+            → IsNextStrict result (strict_call self.old.events self.new.events
+            (R.remaining self.old.reader) (R.remaining self.new.reader) t ms) }
+        ensures limits { KeepsLimits self.old.events.machine self.new.events.machine }
+        ensures order { self.new.events.order ≡ self.old.events.order }
+        ensures proper { IfTold result (λ e. IsProper e.width e.kind) }
+        ensures live { OnOk result (self.new.events.refusal ≡ None) }
+        ensures refused { IfErr result (λ f. (self.new.events.refusal ≡ Some f)
+            × (self.new.events.machine.taken ≡ f.read)
+            × IsReaderReason (strict self.old.events.order) f.reason) }
+        ensures emptied { OnErr result ((self.new.events.piece ≡ [])
+            × (self.new.events.spans ≡ 0) × (self.new.events.kept ≡ 0)) }
+
+        // Where nothing is wanted the reader is not touched, nor after a refusal.
+        ensures idle { IsIdle self.old.events.machine → self.new.reader ≡ self.old.reader }
+        ensures again { IfSome self.old.events.refusal
+            (λ f. (result ≡ Err f) × (self.new ≡ self.old)) }
+    {
+        self.events.next(&mut self.reader)
+    }
+
+    /// The bytes of the last `Piece`; none before one, and none after a refusal.
+    pub fn piece(&self) -> &[u8]
+        ensures piece { result.now ≡ self.now.events.piece }
+        ensures within { length result.now ≤ 512 }
+    {
+        self.events.piece()
+    }
+
+    /// How many arrays, maps and tags are open: from its head until its last member.
+    pub fn open(&self) -> usize
+        ensures count { result ≡ self.now.events.machine.open_count }
+        ensures within { result ≤ self.now.events.machine.depth }
+    {
+        self.events.open()
+    }
+
+    /// How many bytes were taken; after a refusal its `read`.
+    pub fn taken(&self) -> u64
+        ensures taken { result ≡ self.now.events.machine.taken }
+        ensures within { result ≤ self.now.events.machine.bytes }
+    {
+        self.events.taken()
+    }
+
+    /// Of how many maps the place of the last complete key is kept: of each that is open, and of
+    /// none after a refusal.
+    pub fn spans(&self) -> usize
+        ensures count { result ≡ self.now.events.spans }
+        ensures within { result ≤ self.now.events.machine.open_count }
+        ensures limited { result ≤ self.now.events.machine.depth }
+    {
+        self.events.spans()
+    }
+
+    /// How many bytes of keys are kept: those of the last complete key of each open map and of the
+    /// keys that are not complete, each once; none after a refusal.
+    pub fn kept(&self) -> u64
+        ensures count { result ≡ self.now.events.kept }
+        ensures within { result ≤ self.now.events.machine.taken }
+    {
+        self.events.kept()
+    }
+}
