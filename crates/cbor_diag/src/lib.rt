@@ -27,6 +27,3 @@ mod walk;
 
 pub use event_listing::listing;
 pub use text::{diagnostic, diagnostic_indented};
-
-#[cfg(test)]
-mod tests;

@@ -11,8 +11,6 @@ ghost use Rattle.cbor_events.specs.TextCheck.{TextView, HasChecked};
 use arrayvec::ArrayVec;
 use std::marker::Model;
 
-#[cfg(test)]
-mod tests;
 
 // So many bytes are looked at one by one.
 const SHORT: usize = 24;

@@ -38,8 +38,6 @@ pub mod sequence_laws;
 mod slice_builder;
 mod slice_tree;
 mod strings;
-#[cfg(test)]
-mod tests;
 mod tree_parts;
 mod tree_reader;
 mod valid_front;

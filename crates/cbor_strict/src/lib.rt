@@ -28,8 +28,6 @@ mod strict_events;
 mod strict_front;
 mod strict_reader;
 mod strict_slice;
-#[cfg(test)]
-mod tests;
 mod text;
 
 /// How many containers can be open.

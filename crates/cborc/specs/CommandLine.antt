@@ -6,19 +6,19 @@ use Rattle.cbor_head.specs.declared.limits.TheConstants.{MAX_DEPTH}
 use Rattle.cbor_head.specs.declared.order.KeyOrder.{KeyOrder}
 use Rattle.cbor_head.specs.declared.order.KeyOrder.TheVariants.{Bytewise, LengthFirst}
 use Rattle.clap.specs.Words.{Row, Text, first_of, one_of}
-use Rattle.cborc.specs.Folder.{is_stream}
-use Rattle.cborc.specs.declared.command_line.Accepted.{Accepted}
-use Rattle.cborc.specs.declared.command_line.Accepted.TheVariants.{Valid, Canonical}
-use Rattle.cborc.specs.declared.command_line.Form.TheVariants.{Raw, Hex}
-use Rattle.cborc.specs.declared.command_line.Layout.{Layout}
-use Rattle.cborc.specs.declared.command_line.Layout.TheVariants.{OneLine, Indented}
-use Rattle.cborc.specs.declared.command_line.Manner.{Manner}
-use Rattle.cborc.specs.declared.command_line.Manner.TheVariants.{Plain, Explained, Quiet}
-use Rattle.cborc.specs.declared.command_line.Options.{Options}
-use Rattle.cborc.specs.declared.command_line.Output.{Output}
-use Rattle.cborc.specs.declared.command_line.Request.{Request}
-use Rattle.cborc.specs.declared.command_line.Request.TheVariants.{Check, CheckSequence, Canon, Compare, Show, Events}
-use Rattle.cborc.specs.declared.command_line.Task.{Task}
+use Rattle.cborc_commands.specs.Folder.{is_stream}
+use Rattle.cborc_commands.specs.declared.request.Accepted.{Accepted}
+use Rattle.cborc_commands.specs.declared.request.Accepted.TheVariants.{Valid, Canonical}
+use Rattle.cborc_commands.specs.declared.request.Form.TheVariants.{Raw, Hex}
+use Rattle.cborc_commands.specs.declared.request.Layout.{Layout}
+use Rattle.cborc_commands.specs.declared.request.Layout.TheVariants.{OneLine, Indented}
+use Rattle.cborc_commands.specs.declared.request.Manner.{Manner}
+use Rattle.cborc_commands.specs.declared.request.Manner.TheVariants.{Plain, Explained, Quiet}
+use Rattle.cborc_commands.specs.declared.request.Options.{Options}
+use Rattle.cborc_commands.specs.declared.request.Output.{Output}
+use Rattle.cborc_commands.specs.declared.request.Request.{Request}
+use Rattle.cborc_commands.specs.declared.request.Request.TheVariants.{Check, CheckSequence, Canon, Compare, Show, Events}
+use Rattle.cborc_commands.specs.declared.request.Task.{Task}
 
 -- the order of keys that a word names
 abbrev pub order_named : Text → Option KeyOrder

@@ -8,32 +8,16 @@
 //! ```
 #![tactic(auto)]
 
-mod canon;
-mod canon_in_memory;
-mod check;
-mod check_sequence;
 mod command_line;
-mod compare;
 mod disk;
-mod events;
-mod explanation;
-mod fault;
-mod files_in_memory;
-mod folder;
 mod grammar;
-mod hex_text;
-mod input;
-mod memory;
 mod run;
-mod show;
-mod status;
 #[cfg(test)]
 mod tests;
-mod visible;
 
 use crate::disk::Disk;
-use crate::fault::Fault;
-use crate::run::{end, run};
+use crate::run::run;
+use cborc_commands::{Fault, end};
 use std::io::BufWriter;
 use std::process::ExitCode;
 use std::{env, io};

@@ -19,7 +19,7 @@ mod show;
 mod streams;
 mod strict;
 
-use crate::folder::{FileFault, Folder};
+use cborc_commands::{FileFault, Folder};
 use crate::run::run;
 use std::alloc::{AllocError, Global};
 use std::io::{ErrorKind, Write};

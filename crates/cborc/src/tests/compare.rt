@@ -1,7 +1,7 @@
 //! The subcommand `compare`, over a folder with two files.
 
 use super::{Outcome, bytes_of, is_line, words};
-use crate::folder::{FileFault, Folder};
+use cborc_commands::{FileFault, Folder};
 use crate::run::run;
 use std::alloc::{AllocError, Global};
 

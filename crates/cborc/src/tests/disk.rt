@@ -1,7 +1,7 @@
 //! The machine's files.
 
 use crate::disk::Disk;
-use crate::folder::{FileFault, Folder};
+use cborc_commands::{FileFault, Folder};
 use std::{env, fs, io, process};
 
 #[test]

@@ -2,7 +2,7 @@
 
 use super::compare::compared;
 use super::{bytes_of, ran};
-use crate::visible::Visible;
+use cborc_commands::Visible;
 use std::alloc::AllocError;
 
 const FLOAT: &str = "\

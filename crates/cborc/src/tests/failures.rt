@@ -1,8 +1,8 @@
 //! Files and outputs that fail.
 
 use super::{ran, run_with};
-use crate::fault::Fault;
-use crate::run::end;
+use cborc_commands::Fault;
+use cborc_commands::end;
 use std::alloc::AllocError;
 use std::io;
 use std::io::{ErrorKind, Write};

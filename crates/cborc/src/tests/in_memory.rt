@@ -1,8 +1,8 @@
 //! What a run leaves in each file.
 
 use super::{is_line, words};
-use crate::canon_in_memory::canon_in_memory;
-use crate::files_in_memory::FilesInMemory;
+use cborc_commands::canon_in_memory;
+use cborc_commands::FilesInMemory;
 use crate::run::run;
 use cbor_head::{KeyOrder, Limits};
 use std::alloc::{AllocError, Global};

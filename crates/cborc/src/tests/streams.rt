@@ -1,7 +1,7 @@
 //! Standard input and output as `-`, and inputs that have no end.
 
 use super::{ran, run_with};
-use crate::folder::{FileFault, Folder};
+use cborc_commands::{FileFault, Folder};
 use crate::run::run;
 use std::alloc::{AllocError, Global};
 

@@ -2,7 +2,7 @@ use Rattle.std.proofs.Common.{◌≡◌, false, sym, List, Option, Some, None}
 use Rattle.std.specs.Prelude.{IsSomeAnd}
 use Rattle.clap.specs.Words.{Row, Text}
 use Rattle.cborc.specs.CommandLine.{AsksFor, AsksForTask, IsMannerOf, reads_stream_twice}
-use Rattle.cborc.specs.declared.command_line.Task.{Task}
+use Rattle.cborc_commands.specs.declared.request.Task.{Task}
 use Rattle.cborc.proofs.command_line.parse.Goals as goal
 
 asks : (rows : Option (Text × List Row)) (task : Task) → reads_stream_twice task.request ≡ false

@@ -1,0 +1,112 @@
+//! Writers that stop.
+
+use super::{bytes, nested, tree};
+use cbor_diag::{diagnostic, diagnostic_indented};
+use cbor_head::{Reason, Refusal};
+use cbor_item::Item;
+use std::io;
+use std::io::{Error, ErrorKind, Write};
+use std::test::Fail;
+
+// Takes at most `step` bytes a write. Once, when it holds `room` of them, it fails or takes none,
+// and then goes on.
+#[derive(Drop)]
+struct Cup {
+    held: Vec<u8>,
+    room: usize,
+    step: usize,
+    fails: bool,
+    stopped: bool,
+}
+
+impl Write for Cup {
+    fn write(&mut self, buf: &[u8]) -> io::Result<usize> {
+        if self.held.len() == self.room && !self.stopped {
+            self.stopped = true;
+            if self.fails {
+                return Err(Error::from(ErrorKind::Interrupted));
+            }
+            return Ok(0);
+        }
+        let mut count = buf.len().min(self.step);
+        if !self.stopped && self.held.len() < self.room {
+            count = count.min(self.room - self.held.len());
+        }
+        self.held.extend_from_slice(&buf[..count])?;
+        Ok(count)
+    }
+
+    fn flush(&mut self) -> io::Result<()> {
+        Ok(())
+    }
+}
+
+const STOPS: [(usize, bool); 4] = [(1, false), (1, true), (10000, false), (10000, true)];
+
+fn empty_cup(held: Vec<u8>, room: usize, step: usize, fails: bool) -> Cup {
+    Cup {
+        held,
+        room,
+        step,
+        fails,
+        stopped: false,
+    }
+}
+
+fn write_at(place: usize) -> Result<u64, Refusal> {
+    Err(Refusal {
+        reason: Reason::Write,
+        place: place as u64,
+        read: 0,
+    })
+}
+
+#[test]
+fn writers_stop_at_each_place(rt: HostRuntime) -> Result<(), Fail> {
+    let alloc = rt.alloc();
+    let tree = tree(alloc, nested(alloc)?)?;
+    let line = b"[1, {\"b\": [2, 3], \"a\": 1, [4]: {}}, []]";
+    let lines =
+        b"[\n  1,\n  {\n    \"b\": [\n      2,\n      3\n    ],\n    \"a\": 1,\n    [\n      4\n    ]: {}\n  },\n  []\n]";
+    for (step, fails) in STOPS {
+        for room in 0..line.len() {
+            let mut cup = empty_cup(Vec::new(alloc), room, step, fails);
+            assert_eq!(rt; diagnostic(&tree, &mut cup), write_at(room));
+            assert_eq!(rt; cup.held.as_slice(), &line[..room]);
+        }
+        for room in 0..lines.len() {
+            let mut cup = empty_cup(Vec::new(alloc), room, step, fails);
+            assert_eq!(rt; diagnostic_indented(&tree, &mut cup), write_at(room));
+            assert_eq!(rt; cup.held.as_slice(), &lines[..room]);
+        }
+    }
+    Ok(())
+}
+
+#[test]
+fn the_third_number_is_cut_off(rt: HostRuntime) -> Result<(), Fail> {
+    let alloc = rt.alloc();
+    let numbers = vec![in alloc; Item::Unsigned(1), Item::Unsigned(2), Item::Unsigned(3)]?;
+    let tree = tree(alloc, Item::Array(numbers))?;
+    let mut cup = empty_cup(Vec::new(alloc), 5, 100, false);
+    assert_eq!(rt; diagnostic(&tree, &mut cup), write_at(5));
+    assert_eq!(rt; cup.held.as_slice(), b"[1, 2".as_slice());
+    Ok(())
+}
+
+// A byte string of more digits than wait at once: a stop in each of its writes.
+#[test]
+fn long_strings_are_cut_off(rt: HostRuntime) -> Result<(), Fail> {
+    let alloc = rt.alloc();
+    let tree = tree(alloc, bytes(alloc, &[0x5a; 700])?)?;
+    for (step, fails) in STOPS {
+        for room in [
+            0, 1, 2, 3, 511, 512, 513, 514, 515, 1025, 1026, 1027, 1401, 1402,
+        ] {
+            let mut cup = empty_cup(Vec::new(alloc), room, step, fails);
+            assert_eq!(rt; diagnostic(&tree, &mut cup), write_at(room));
+            assert_eq!(rt; cup.held.len(), room);
+        }
+    }
+    Ok(())
+}

@@ -1,0 +1,345 @@
+//! The listing against the tables, over readers and writers that give and take little at a time,
+//! or fail.
+
+ghost use Rattle.std.specs.Prelude.{◌<◌};
+
+use super::listing_tables::{items, refused};
+use cbor_diag::listing;
+use cbor_head::{Limits, Reason, Refusal};
+use std::alloc::{AllocError, Global};
+use std::io;
+use std::io::{Read, Write};
+use std::process::Abort;
+use std::test::Fail;
+
+// A reader that gives at most `part` bytes a read, and at one place fails once and then goes on.
+#[derive(Drop)]
+struct Source<'a> {
+    rest: &'a [u8],
+    part: usize,
+    // How many bytes it gives before it fails.
+    fails: Option<usize>,
+    // How many bytes each read was asked for.
+    asked: Vec<usize>,
+}
+
+impl<'a> Source<'a> {
+    fn new(alloc: Global, bytes: &'a [u8]) -> Source<'a> {
+        Source {
+            rest: bytes,
+            part: usize::MAX,
+            fails: None,
+            asked: Vec::new(alloc),
+        }
+    }
+}
+
+impl Read for Source<'_> {
+    fn read(&mut self, buf: &mut [u8]) -> io::Result<usize> {
+        self.asked.push(buf.len())?;
+        let mut n = buf.len().min(self.rest.len()).min(self.part);
+        match self.fails {
+            None => {}
+            Some(0) => {
+                self.fails = None;
+                return Err(io::Error::from(io::ErrorKind::Interrupted));
+            }
+            Some(left) => {
+                n = n.min(left);
+                self.fails = Some(left - n);
+            }
+        }
+        buf[..n].copy_from_slice(&self.rest[..n]);
+        self.rest = &self.rest[n..];
+        Ok(n)
+    }
+}
+
+// How a writer stops.
+#[derive(Clone, Copy, PartialEq)]
+enum Stop {
+    Fails,
+    TakesNothing,
+}
+
+// A writer that takes at most `part` bytes a write, and at one place stops once and then goes on.
+#[derive(Drop)]
+struct Sink {
+    held: Vec<u8>,
+    part: usize,
+    // How many bytes it takes before it stops, and how.
+    stops: Option<(usize, Stop)>,
+}
+
+impl Sink {
+    fn new(alloc: Global) -> Sink {
+        Sink {
+            held: Vec::new(alloc),
+            part: usize::MAX,
+            stops: None,
+        }
+    }
+}
+
+impl Write for Sink {
+    fn write(&mut self, buf: &[u8]) -> io::Result<usize> {
+        let mut n = buf.len().min(self.part);
+        match self.stops {
+            None => {}
+            Some((0, stop)) => {
+                self.stops = None;
+                return match stop {
+                    Stop::Fails => Err(io::Error::from(io::ErrorKind::Interrupted)),
+                    Stop::TakesNothing => Ok(0),
+                };
+            }
+            Some((left, stop)) => {
+                n = n.min(left);
+                self.stops = Some((left - n, stop));
+            }
+        }
+        self.held.extend_from_slice(&buf[..n])?;
+        Ok(n)
+    }
+
+    fn flush(&mut self) -> io::Result<()> {
+        Ok(())
+    }
+}
+
+fn limits<R: Abort>(rt: &R, depth: u16, bytes: u64) -> Limits {
+    Limits::new(depth, bytes).expect(rt, "limits")
+}
+
+// The value of a hex digit.
+fn digit<R: Abort>(rt: &R, c: u8) -> u8
+    ensures { result < 16 }
+{
+    match c {
+        b'0'..=b'9' => c - b'0',
+        b'a'..=b'f' => c - b'a' + 10,
+        _ => panic!(rt; "no hex digit"),
+    }
+}
+
+// The bytes of hex digits.
+fn bytes_of<R: Abort>(rt: &R, alloc: Global, text: &str) -> Result<Vec<u8>, AllocError> {
+    let mut bytes = Vec::new(alloc);
+    let mut high = None;
+    for c in text.bytes() {
+        let low = digit(rt, c);
+        match high {
+            None => high = Some(low),
+            Some(sixteens) => {
+                bytes.push(sixteens << 4 | low)?;
+                high = None;
+            }
+        }
+    }
+    assert!(rt; high.is_none(), "an odd digit in {text}");
+    Ok(bytes)
+}
+
+#[test]
+fn lists_items(rt: HostRuntime) -> Result<(), Fail> {
+    let limits = limits(&rt, 256, 1 << 20);
+    for &(hex, lines) in items() {
+        let mut bytes = bytes_of(&rt, rt.alloc(), hex)?;
+        let size = bytes.len() as u64;
+        // The bytes of an item, and a byte behind it.
+        bytes.push(0)?;
+        for (from, to) in [
+            (1, 1),
+            (1, usize::MAX),
+            (usize::MAX, 1),
+            (usize::MAX, usize::MAX),
+        ] {
+            let mut source = Source::new(rt.alloc(), &bytes);
+            source.part = from;
+            let mut sink = Sink::new(rt.alloc());
+            sink.part = to;
+            assert_eq!(rt; listing(&mut source, limits, &mut sink), Ok(size), "{hex}");
+            assert_eq!(rt; sink.held.as_slice(), lines.as_bytes(), "{hex}");
+            assert_eq!(rt; source.rest.len(), 1, "behind {hex}");
+        }
+    }
+    Ok(())
+}
+
+#[test]
+fn refuses_form_alone(rt: HostRuntime) -> Result<(), Fail> {
+    for &(hex, depth, most, reason, place, read, lines) in refused() {
+        let limits = limits(&rt, depth, most);
+        let bytes = bytes_of(&rt, rt.alloc(), hex)?;
+        for part in [1, usize::MAX] {
+            let mut source = Source::new(rt.alloc(), &bytes);
+            source.part = part;
+            let mut sink = Sink::new(rt.alloc());
+            let want = Refusal {
+                reason,
+                place,
+                read,
+            };
+            assert_eq!(rt; listing(&mut source, limits, &mut sink), Err(want), "{hex}");
+            assert_eq!(rt; sink.held.as_slice(), lines.as_bytes(), "{hex}");
+            assert_eq!(rt;
+                source.rest.len() as u64,
+                (bytes.len() as u64).saturating_sub(read),
+                "behind {hex}"
+            );
+        }
+    }
+    Ok(())
+}
+
+// Items, with each event's end and its line.
+const EVENTS: [(&str, &[(u64, &str)]); 3] = [
+    // 1([1, simple(32)])
+    (
+        "c18201f820",
+        &[
+            (1, "0 tag 1 0\n"),
+            (2, "1 array 2 0\n"),
+            (3, "2 unsigned 1 0\n"),
+            (5, "3 simple 32 1\n"),
+        ],
+    ),
+    // (_ h'0102', h'030405')
+    (
+        "5f42010243030405ff",
+        &[
+            (1, "0 bytes - -\n"),
+            (2, "1 chunk 2 0\n"),
+            (5, "4 chunk 3 0\n"),
+            (9, "8 end - -\n"),
+        ],
+    ),
+    // {256: "a"}
+    (
+        "a11901006161",
+        &[
+            (1, "0 map 1 0\n"),
+            (4, "1 unsigned 256 2\n"),
+            (5, "4 text 1 0\n"),
+        ],
+    ),
+];
+
+// The lines of the events that end within so many bytes.
+fn lines_within(alloc: Global, events: &[(u64, &str)], taken: u64) -> Result<Vec<u8>, AllocError> {
+    let mut lines = Vec::new(alloc);
+    for (end, line) in events {
+        if *end <= taken {
+            lines.extend_from_slice(line.as_bytes())?;
+        }
+    }
+    Ok(lines)
+}
+
+// The bytes taken when a line is written that goes on behind so many bytes of the listing.
+fn taken_at(events: &[(u64, &str)], place: usize) -> u64 {
+    let mut left = place;
+    for (end, line) in events {
+        if left < line.len() {
+            return *end;
+        }
+        left -= line.len();
+    }
+    0
+}
+
+#[test]
+fn a_failed_read_ends_the_listing(rt: HostRuntime) -> Result<(), Fail> {
+    let limits = limits(&rt, 256, 1 << 20);
+    for (hex, events) in EVENTS {
+        let bytes = bytes_of(&rt, rt.alloc(), hex)?;
+        for place in 0..bytes.len() {
+            let mut source = Source::new(rt.alloc(), &bytes);
+            source.fails = Some(place);
+            let mut sink = Sink::new(rt.alloc());
+            let taken = place as u64;
+            let want = Refusal {
+                reason: Reason::Read,
+                place: taken,
+                read: taken,
+            };
+            assert_eq!(rt;
+                listing(&mut source, limits, &mut sink),
+                Err(want),
+                "{hex} at {place}"
+            );
+            let lines = lines_within(rt.alloc(), events, taken)?;
+            assert_eq!(rt; sink.held.as_slice(), lines.as_slice(), "{hex} at {place}");
+            assert_eq!(rt; source.rest.len(), bytes.len() - place, "{hex} at {place}");
+        }
+    }
+    Ok(())
+}
+
+#[test]
+fn a_failed_write_ends_the_listing(rt: HostRuntime) -> Result<(), Fail> {
+    let limits = limits(&rt, 256, 1 << 20);
+    for (hex, events) in EVENTS {
+        let bytes = bytes_of(&rt, rt.alloc(), hex)?;
+        let lines = lines_within(rt.alloc(), events, u64::MAX)?;
+        for place in 0..lines.len() {
+            for (part, stop) in [
+                (1, Stop::Fails),
+                (4, Stop::Fails),
+                (usize::MAX, Stop::Fails),
+                (usize::MAX, Stop::TakesNothing),
+            ] {
+                let mut source = Source::new(rt.alloc(), &bytes);
+                let mut sink = Sink::new(rt.alloc());
+                sink.part = part;
+                sink.stops = Some((place, stop));
+                let read = taken_at(events, place);
+                let want = Refusal {
+                    reason: Reason::Write,
+                    place: place as u64,
+                    read,
+                };
+                assert_eq!(rt;
+                    listing(&mut source, limits, &mut sink),
+                    Err(want),
+                    "{hex} at {place}"
+                );
+                assert_eq!(rt; sink.held.as_slice(), &lines[..place], "{hex} at {place}");
+                // No byte behind the event was asked for.
+                let left = (bytes.len() as u64).saturating_sub(read);
+                assert_eq!(rt; source.rest.len() as u64, left, "{hex} at {place}");
+            }
+        }
+    }
+    Ok(())
+}
+
+#[test]
+fn stops_within_the_second_line(rt: HostRuntime) -> Result<(), Fail> {
+    // [1, 2, 3]
+    let bytes = bytes_of(&rt, rt.alloc(), "83010203")?;
+    let mut source = Source::new(rt.alloc(), &bytes);
+    let mut sink = Sink::new(rt.alloc());
+    sink.stops = Some((14, Stop::Fails));
+    let want = Refusal {
+        reason: Reason::Write,
+        place: 14,
+        read: 2,
+    };
+    let answer = listing(&mut source, limits(&rt, 256, 1 << 20), &mut sink);
+    assert_eq!(rt; answer, Err(want));
+    assert_eq!(rt; sink.held.as_slice(), b"0 array 3 0\n1 ".as_slice());
+    Ok(())
+}
+
+#[test]
+fn asks_for_what_is_due(rt: HostRuntime) -> Result<(), Fail> {
+    // {256: "a"}: a head, a head and its argument, a head and its payload.
+    let bytes = bytes_of(&rt, rt.alloc(), "a11901006161")?;
+    let mut source = Source::new(rt.alloc(), &bytes);
+    let mut sink = Sink::new(rt.alloc());
+    let answer = listing(&mut source, limits(&rt, 256, 1 << 20), &mut sink);
+    assert_eq!(rt; answer, Ok(6));
+    assert_eq!(rt; source.asked.as_slice(), [1, 1, 2, 1, 1].as_slice());
+    Ok(())
+}

@@ -1,0 +1,291 @@
+//! The event reader against the tables, over readers that give few bytes at a time, or fail.
+
+use super::refused::refused_rows;
+use super::tables::{accepted_rows, fronts_rows, not_valid_rows};
+use super::{Told, bytes_of, event, events_of, join, limits};
+use cbor_events::{Event, EventKind, EventReader, Out};
+use arrayvec::ArrayVec;
+use cbor_head::{Limits, Reason, Refusal, Width};
+use std::alloc::{AllocError, Global};
+use std::io;
+use std::io::Read;
+use std::process::Abort;
+use std::test::Fail;
+
+// A reader that gives at most so many bytes a read, and none beyond a cut with those before it. Where
+// it fails or ends, it does so once, and then goes on: a second read there is seen by what it gives.
+#[derive(Drop)]
+struct Parts<'a> {
+    rest: &'a [u8],
+    part: usize,
+    // The bytes before the cut, before the failure and before the end.
+    cut: usize,
+    fails: usize,
+    ends: usize,
+    // How many bytes the first reads were asked for, and how many reads were for none.
+    asked: ArrayVec<usize, 16>,
+    idle: usize,
+}
+
+impl<'a> Parts<'a> {
+    fn new(bytes: &'a [u8]) -> Parts<'a> {
+        Parts {
+            rest: bytes,
+            part: usize::MAX,
+            cut: usize::MAX,
+            fails: usize::MAX,
+            ends: usize::MAX,
+            asked: ArrayVec::new(),
+            idle: 0,
+        }
+    }
+}
+
+impl Read for Parts<'_> {
+    fn read(&mut self, buf: &mut [u8]) -> io::Result<usize> {
+        let _ = self.asked.try_push(buf.len());
+        if buf.is_empty() {
+            self.idle = self.idle.saturating_add(1);
+        }
+        if self.fails == 0 {
+            self.fails = usize::MAX;
+            return Err(io::Error::from(io::ErrorKind::Interrupted));
+        }
+        if self.ends == 0 {
+            self.ends = usize::MAX;
+            return Ok(0);
+        }
+        if self.cut == 0 {
+            self.cut = usize::MAX;
+        }
+        let n = buf
+            .len()
+            .min(self.rest.len())
+            .min(self.part)
+            .min(self.cut)
+            .min(self.fails)
+            .min(self.ends);
+        buf[..n].copy_from_slice(&self.rest[..n]);
+        self.rest = &self.rest[n..];
+        self.cut -= n;
+        self.fails -= n;
+        self.ends -= n;
+        Ok(n)
+    }
+}
+
+// What came of an item that was read, and the bytes of its payloads.
+#[derive(Drop)]
+struct Heard {
+    told: Told,
+    payloads: Vec<u8>,
+}
+
+fn hear<R: Read + Drop>(alloc: Global, limits: Limits, reader: R) -> Result<Heard, AllocError> {
+    let mut reader = EventReader::new(reader, limits);
+    let mut events = Vec::new(alloc);
+    let mut payloads = Vec::new(alloc);
+    let mut out = Out::More;
+    for _ in 0..1000 {
+        match reader.next() {
+            Ok(Some(event)) => {
+                if let EventKind::Piece(_) = event.kind {
+                    payloads.extend_from_slice(reader.piece())?;
+                }
+                join(&mut events, event)?;
+            }
+            Ok(None) => {
+                out = Out::Done;
+                break;
+            }
+            Err(refusal) => {
+                out = Out::Refused(refusal);
+                break;
+            }
+        }
+    }
+    // The last answer is given again.
+    let again = match reader.next() {
+        Ok(Some(event)) => Out::Event(event),
+        Ok(None) => Out::Done,
+        Err(refusal) => Out::Refused(refusal),
+    };
+    if again != out {
+        out = again;
+        events.clear();
+    }
+    Ok(Heard {
+        told: Told {
+            events,
+            out,
+            taken: reader.taken(),
+        },
+        payloads,
+    })
+}
+
+// The bytes at the places of the pieces.
+fn payloads_of(alloc: Global, bytes: &[u8], events: &[Event]) -> Result<Vec<u8>, AllocError> {
+    let mut payloads = Vec::new(alloc);
+    for event in events {
+        if let EventKind::Piece(n) = event.kind {
+            for byte in bytes.iter().skip(event.place as usize).take(n) {
+                payloads.push(*byte)?;
+            }
+        }
+    }
+    Ok(payloads)
+}
+
+// Reads the bytes, and a byte behind an item, whole, one by one, and with each cut, and looks for these
+// events and their payloads, this last answer, and what the reader has left.
+fn look_every_way(
+    rt: &impl Abort,
+    alloc: Global,
+    limits: Limits,
+    hex: &str,
+    events: &str,
+    out: Out,
+    taken: u64,
+) -> Result<(), Fail> {
+    let mut bytes = bytes_of(rt, alloc, hex)?;
+    let events = events_of(rt, alloc, events)?;
+    let payloads = payloads_of(alloc, &bytes, &events)?;
+    if out == Out::Done {
+        bytes.push(0)?;
+    }
+    for cut in 0..=bytes.len() {
+        for part in [1, usize::MAX] {
+            let mut parts = Parts::new(&bytes);
+            parts.cut = cut;
+            parts.part = part;
+            let heard = hear(alloc, limits, &mut parts)?;
+            assert!(rt; heard.told.events == events, "events of {hex} cut at {cut}");
+            assert!(rt;
+                heard.payloads == payloads,
+                "payloads of {hex} cut at {cut}"
+            );
+            assert_eq!(rt; heard.told.out, out, "{hex} cut at {cut}");
+            assert_eq!(rt; heard.told.taken, taken, "{hex} cut at {cut}");
+            let left = (bytes.len() as u64).saturating_sub(taken);
+            assert_eq!(rt; parts.rest.len() as u64, left, "{hex} cut at {cut}");
+            assert_eq!(rt; parts.idle, 0, "{hex} cut at {cut}");
+        }
+    }
+    Ok(())
+}
+
+fn refused(reason: Reason, place: u64, read: u64) -> Out {
+    Out::Refused(Refusal {
+        reason,
+        place,
+        read,
+    })
+}
+
+#[test]
+fn reads_items(rt: HostRuntime) -> Result<(), Fail> {
+    let limits = limits(&rt, 256, 1 << 20);
+    for &(hex, events) in accepted_rows() {
+        let taken = hex.len() as u64 / 2;
+        look_every_way(&rt, rt.alloc(), limits, hex, events, Out::Done, taken)?;
+    }
+    for &(hex, taken, events) in not_valid_rows() {
+        look_every_way(&rt, rt.alloc(), limits, hex, events, Out::Done, taken)?;
+    }
+    Ok(())
+}
+
+#[test]
+fn refuses_as_the_tables_say(rt: HostRuntime) -> Result<(), Fail> {
+    for &(hex, depth, bytes, reason, place, read, events) in refused_rows() {
+        let out = refused(reason, place, read);
+        let limits = limits(&rt, depth, bytes);
+        look_every_way(&rt, rt.alloc(), limits, hex, events, out, read)?;
+    }
+    for &(hex, events) in fronts_rows() {
+        let there = hex.len() as u64 / 2;
+        let out = refused(Reason::Truncated, there, there);
+        let limits = limits(&rt, 256, 1 << 20);
+        look_every_way(&rt, rt.alloc(), limits, hex, events, out, there)?;
+    }
+    Ok(())
+}
+
+// A reader that fails, or ends, once at each place: it is told there, and nothing more is read.
+#[test]
+fn a_failure_and_an_end_are_told_at_once(rt: HostRuntime) -> Result<(), Fail> {
+    let limits = limits(&rt, 256, 1 << 20);
+    for &(hex, _) in accepted_rows() {
+        let bytes = bytes_of(&rt, rt.alloc(), hex)?;
+        for place in 0..bytes.len() {
+            for reason in [Reason::Read, Reason::Truncated] {
+                let mut parts = Parts::new(&bytes);
+                if reason == Reason::Read {
+                    parts.fails = place;
+                } else {
+                    parts.ends = place;
+                }
+                let heard = hear(rt.alloc(), limits, &mut parts)?;
+                let taken = place as u64;
+                assert_eq!(rt;
+                    heard.told.out,
+                    refused(reason, taken, taken),
+                    "{hex} at {place}"
+                );
+                assert_eq!(rt; heard.told.taken, taken, "{hex} at {place}");
+                assert_eq!(rt; parts.rest.len(), bytes.len() - place, "{hex} at {place}");
+            }
+        }
+    }
+    Ok(())
+}
+
+// One byte of a head, what is missing of its argument, and a payload in parts; none at the limit.
+#[test]
+fn asks_for_what_it_needs(rt: HostRuntime) -> Result<(), Fail> {
+    // [256, "a string of 600 bytes"], and a byte behind
+    let mut bytes = bytes_of(&rt, rt.alloc(), "82190100790258")?;
+    for _ in 0..601 {
+        bytes.push(b'a')?;
+    }
+    let mut parts = Parts::new(&bytes);
+    let heard = hear(rt.alloc(), limits(&rt, 1, 607), &mut parts)?;
+    assert_eq!(rt; heard.told.out, Out::Done);
+    let text = [
+        event(0, Width::Direct, EventKind::Array(Some(2))),
+        event(1, Width::Two, EventKind::Unsigned(256)),
+        event(4, Width::Two, EventKind::Text(Some(600))),
+        event(7, Width::Direct, EventKind::Piece(600)),
+    ];
+    assert!(rt; heard.told.events[..] == text[..]);
+    assert_eq!(rt; parts.rest.len(), 1);
+    assert!(rt; parts.asked.as_slice() == [1, 1, 2, 1, 2, 512, 88].as_slice());
+
+    // the same, with a limit of 10 bytes
+    let mut parts = Parts::new(&bytes);
+    let heard = hear(rt.alloc(), limits(&rt, 1, 10), &mut parts)?;
+    assert_eq!(rt; heard.told.out, refused(Reason::TooLong, 10, 10));
+    assert!(rt; parts.asked.as_slice() == [1, 1, 2, 1, 2, 3].as_slice());
+
+    // 2^32, by a head of nine bytes
+    let bytes = bytes_of(&rt, rt.alloc(), "1b0000000100000000")?;
+    let mut parts = Parts::new(&bytes);
+    let heard = hear(rt.alloc(), limits(&rt, 1, 9), &mut parts)?;
+    assert_eq!(rt; heard.told.out, Out::Done);
+    assert!(rt; parts.asked.as_slice() == [1, 8].as_slice());
+    Ok(())
+}
+
+#[test]
+fn counts_what_is_open(rt: HostRuntime) {
+    // [["a"]]
+    let mut reader = EventReader::new(&b"\x81\x81\x61a"[..], limits(&rt, 2, 4));
+    for (open, taken, piece) in [(1, 1, 0), (2, 2, 0), (2, 3, 0), (0, 4, 1), (0, 4, 1)] {
+        let _ = reader.next();
+        assert_eq!(rt;
+            (reader.open(), reader.taken(), reader.piece().len()),
+            (open, taken, piece)
+        );
+    }
+}

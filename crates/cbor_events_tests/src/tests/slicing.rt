@@ -1,0 +1,241 @@
+//! The events of a slice against the tables.
+
+use super::refused::refused_rows;
+use super::tables::{accepted_rows, fronts_rows, not_valid_rows};
+use super::{bytes_of, event, events_of, limits};
+use cbor_events::{EventKind, SliceEvents, Token};
+use cbor_head::{Limits, Reason, Refusal, Simple, Width};
+use std::alloc::Global;
+use std::process::Abort;
+use std::test::Fail;
+
+// The event that is told, by its number.
+fn kind_of(rt: &impl Abort, token: Token, number: u64) -> EventKind {
+    match token {
+        Token::Unsigned => EventKind::Unsigned(number),
+        Token::Negative => EventKind::Negative(number),
+        Token::Simple => {
+            let number = u8::try_from(number).expect(rt, "a number below 256");
+            EventKind::Simple(Simple::new(number).expect(rt, "a simple value"))
+        }
+        Token::Bytes => EventKind::Bytes(Some(number)),
+        Token::Text => EventKind::Text(Some(number)),
+        Token::Chunk => EventKind::Chunk(number),
+        Token::Piece => EventKind::Piece(number as usize),
+        Token::Array => EventKind::Array(Some(number)),
+        Token::Map => EventKind::Map(Some(number)),
+        Token::Tag => EventKind::Tag(number),
+        Token::IndefiniteBytes => EventKind::Bytes(None),
+        Token::IndefiniteText => EventKind::Text(None),
+        Token::IndefiniteArray => EventKind::Array(None),
+        Token::IndefiniteMap => EventKind::Map(None),
+        Token::Break => EventKind::End,
+        Token::End | Token::Refused => panic!(rt; "no event is told"),
+    }
+}
+
+// Looks for these events of a slice, for the pieces at their places, and then for the end or this
+// refusal, with so many bytes taken, twice.
+fn look(
+    rt: &impl Abort,
+    alloc: Global,
+    limits: Limits,
+    bytes: &[u8],
+    text: &str,
+    refusal: Option<Refusal>,
+    taken: u64,
+) -> Result<(), Fail> {
+    let mut events = SliceEvents::new(bytes, limits);
+    for expected in &events_of(rt, alloc, text)? {
+        let token = events.next();
+        let kind = kind_of(rt, token, events.number());
+        let told = event(events.place(), events.width(), kind);
+        assert_eq!(rt; told, *expected, "of {text}");
+        let within = limits.bytes().min(bytes.len() as u64);
+        let left = within.saturating_sub(events.taken());
+        assert_eq!(rt; events.rest().len() as u64, left, "of {text}");
+        if let EventKind::Piece(count) = kind {
+            let there = bytes
+                .get(told.place as usize..)
+                .expect(rt, "a piece in the slice");
+            assert!(rt; there.get(..count) == Some(events.piece()), "of {text}");
+        }
+    }
+    for _ in 0..2 {
+        let last = events.next();
+        if refusal.is_some() {
+            assert_eq!(rt; last, Token::Refused, "of {text}");
+        } else {
+            assert_eq!(rt; last, Token::End, "of {text}");
+            assert_eq!(rt; events.open(), 0, "of {text}");
+        }
+        assert_eq!(rt; events.refusal(), refusal, "of {text}");
+        assert_eq!(rt; events.taken(), taken, "of {text}");
+    }
+    Ok(())
+}
+
+// A byte behind an item is not looked at.
+#[test]
+fn slices_items(rt: HostRuntime) -> Result<(), Fail> {
+    let limits = limits(&rt, 256, 1 << 20);
+    for &(hex, text) in accepted_rows() {
+        let mut bytes = bytes_of(&rt, rt.alloc(), hex)?;
+        let count = bytes.len() as u64;
+        bytes.push(0xff)?;
+        look(&rt, rt.alloc(), limits, &bytes, text, None, count)?;
+    }
+    for &(hex, taken, text) in not_valid_rows() {
+        let bytes = bytes_of(&rt, rt.alloc(), hex)?;
+        look(&rt, rt.alloc(), limits, &bytes, text, None, taken)?;
+    }
+    Ok(())
+}
+
+#[test]
+fn refuses_slices_that_begin_no_item(rt: HostRuntime) -> Result<(), Fail> {
+    for &(hex, depth, limit, reason, place, read, text) in refused_rows() {
+        let bytes = bytes_of(&rt, rt.alloc(), hex)?;
+        let refusal = Some(Refusal {
+            reason,
+            place,
+            read,
+        });
+        look(
+            &rt,
+            rt.alloc(),
+            limits(&rt, depth, limit),
+            &bytes,
+            text,
+            refusal,
+            read,
+        )?;
+    }
+    for &(hex, text) in fronts_rows() {
+        let bytes = bytes_of(&rt, rt.alloc(), hex)?;
+        let there = bytes.len() as u64;
+        let truncated = Some(Refusal {
+            reason: Reason::Truncated,
+            place: there,
+            read: there,
+        });
+        look(
+            &rt,
+            rt.alloc(),
+            limits(&rt, 256, 1 << 20),
+            &bytes,
+            text,
+            truncated,
+            there,
+        )?;
+    }
+    Ok(())
+}
+
+// Each front of an item is Truncated where it ends, and TooLong where the limit is.
+#[test]
+fn refuses_each_front(rt: HostRuntime) -> Result<(), Fail> {
+    for &(hex, _) in accepted_rows() {
+        let bytes = bytes_of(&rt, rt.alloc(), hex)?;
+        for cut in 0..bytes.len() {
+            let mut short = SliceEvents::new(&bytes[..cut], limits(&rt, 256, 1 << 20));
+            let mut limited = SliceEvents::new(&bytes, limits(&rt, 256, cut as u64));
+            for _ in 0..100 {
+                let _ = short.next();
+                let _ = limited.next();
+            }
+            let truncated = Refusal {
+                reason: Reason::Truncated,
+                place: cut as u64,
+                read: cut as u64,
+            };
+            assert_eq!(rt; short.refusal(), Some(truncated), "at {hex}");
+            let too_long = Refusal {
+                reason: Reason::TooLong,
+                ..truncated
+            };
+            assert_eq!(rt; limited.refusal(), Some(too_long), "at {hex}");
+        }
+    }
+    Ok(())
+}
+
+#[test]
+fn counts_what_is_open_in_a_slice(rt: HostRuntime) {
+    // [["a"]], and bytes behind it, of which one is within the limit
+    let mut events = SliceEvents::new(b"\x81\x81\x61a\xff\x00", limits(&rt, 2, 5));
+    for (open, taken, piece) in [(1, 1, 0), (2, 2, 0), (2, 3, 0), (0, 4, 1), (0, 4, 1)] {
+        let _ = events.next();
+        assert_eq!(rt;
+            (events.open(), events.taken(), events.piece().len()),
+            (open, taken, piece)
+        );
+    }
+}
+
+// A payload that is there whole comes at once; where none is due, or not all of it is there, nothing
+// is taken.
+#[test]
+fn takes_payloads(rt: HostRuntime) {
+    // ["ab", 1, "ab"], of which the last byte is missing
+    let mut events = SliceEvents::new(b"\x83\x62ab\x01\x62a", limits(&rt, 2, 100));
+    assert!(rt; events.next_payload().is_none());
+    assert_eq!(rt; events.next(), Token::Array);
+    assert_eq!(rt; events.next(), Token::Text);
+    let payload = events.next_payload();
+    assert!(rt; payload == Some(b"ab".as_slice()));
+    assert!(rt; events.piece() == b"ab".as_slice());
+    assert_eq!(rt;
+        (events.place(), events.number(), events.taken()),
+        (2, 2, 4)
+    );
+    assert_eq!(rt; events.width(), Width::Direct);
+    assert!(rt; events.next_payload().is_none());
+    assert_eq!(rt; events.next(), Token::Unsigned);
+    assert_eq!(rt; events.next(), Token::Text);
+    assert!(rt; events.next_payload().is_none());
+    assert_eq!(rt; (events.next(), events.taken()), (Token::Piece, 7));
+    assert_eq!(rt; events.next(), Token::Refused);
+    assert!(rt; events.next_payload().is_none());
+}
+
+// What is whole is told at once: a string with its payload, unless it is empty.
+#[test]
+fn tells_what_is_whole(rt: HostRuntime) {
+    // [1000, "a", h'', [_ 0]]
+    let bytes = b"\x84\x19\x03\xe8\x61a\x40\x9f\x00\xff";
+    let mut events = SliceEvents::new(bytes, limits(&rt, 2, 10));
+    let told = [
+        (Token::Array, 4, 1),
+        (Token::Unsigned, 1000, 4),
+        (Token::Text, 1, 6),
+    ];
+    for (token, number, taken) in told {
+        assert_eq!(rt; events.next_whole(), Some(token));
+        assert_eq!(rt; (events.number(), events.taken()), (number, taken));
+    }
+    assert!(rt; events.piece() == b"a".as_slice());
+    for (token, number) in [(Token::Bytes, 0), (Token::IndefiniteArray, 0)] {
+        assert_eq!(rt; events.next_whole(), None);
+        assert_eq!(rt; (events.next(), events.number()), (token, number));
+    }
+    assert_eq!(rt; events.next_whole(), Some(Token::Unsigned));
+    assert_eq!(rt; (events.next(), events.next()), (Token::Break, Token::End));
+    assert_eq!(rt; events.next_whole(), None);
+}
+
+#[test]
+fn tells_whole_chunks(rt: HostRuntime) {
+    // (_ "ab", "")
+    let mut events = SliceEvents::new(b"\x7f\x62ab\x60\xff", limits(&rt, 0, 6));
+    assert!(rt; !events.next_chunk());
+    assert_eq!(rt; events.next(), Token::IndefiniteText);
+    assert!(rt; events.next_chunk());
+    assert!(rt; events.piece() == b"ab".as_slice());
+    assert!(rt; !events.next_chunk());
+    assert_eq!(rt;
+        (events.next(), events.next()),
+        (Token::Chunk, Token::Break)
+    );
+    assert_eq!(rt; events.next(), Token::End);
+}

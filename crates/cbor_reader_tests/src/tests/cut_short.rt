@@ -1,0 +1,112 @@
+//! Items cut short, by the end of the input and by the byte limit, at every place: the first bytes
+//! of an item are truncated, and a limit within it makes it too long.
+
+use super::conformance::{BadRow, limits_of, row_of};
+use super::conformance_table::{PARTS, rows};
+use super::{Parts, bytes_of};
+use cbor_reader::{
+    KeyOrder, Sequence, Side, canonicalise, check_canonical, read_strict, read_tree, same_meaning,
+};
+use cbor_head::{Limits, Reason, Refusal};
+use std::alloc::Global;
+use std::test::Fail;
+
+// Whether each call that keeps to the plain rules refuses the input so, and takes as many bytes.
+fn plain_calls_refuse(alloc: Global, input: &[u8], limits: Limits, refusal: Refusal) -> bool {
+    for part in [1, usize::MAX] {
+        let mut reader = Parts { rest: input, part };
+        let answer = read_tree(alloc, &mut reader, limits);
+        let left = reader.rest.len() as u64;
+        if answer.err() != Some(refusal)
+            || left.checked_add(refusal.read) != Some(input.len() as u64)
+        {
+            return false;
+        }
+    }
+    let bytewise = canonicalise(alloc, input, limits, KeyOrder::Bytewise);
+    let length_first = canonicalise(alloc, input, limits, KeyOrder::LengthFirst);
+    bytewise == Err(refusal) && length_first == Err(refusal)
+}
+
+// The same of the calls that keep to the strict rules.
+fn strict_calls_refuse(alloc: Global, input: &[u8], limits: Limits, refusal: Refusal) -> bool {
+    for order in [KeyOrder::Bytewise, KeyOrder::LengthFirst] {
+        for part in [1, usize::MAX] {
+            let mut reader = Parts { rest: input, part };
+            let answer = read_strict(alloc, &mut reader, limits, order);
+            let left = reader.rest.len() as u64;
+            if answer != Err(refusal)
+                || left.checked_add(refusal.read) != Some(input.len() as u64)
+            {
+                return false;
+            }
+        }
+        if check_canonical(input, limits, order) != Err(refusal) {
+            return false;
+        }
+    }
+    true
+}
+
+// Whether a comparison refuses the side that was cut short, and a sequence the item; nothing at all
+// is the end of a sequence.
+fn others_refuse(
+    alloc: Global,
+    whole: &[u8],
+    cut: usize,
+    limits: Limits,
+    refusal: Refusal,
+) -> bool {
+    let front = &whole[..cut.min(whole.len())];
+    let left = same_meaning(alloc, front, whole, limits);
+    let right = same_meaning(alloc, whole, front, limits);
+    let mut items = Sequence::new(alloc, front, limits);
+    let is_told = match items.next() {
+        None => front.is_empty(),
+        Some(Ok(_)) => false,
+        Some(Err(given)) => given == refusal && !front.is_empty(),
+    };
+    left == Err((Side::Left, refusal)) && right == Err((Side::Right, refusal)) && is_told
+}
+
+// Whether an item is refused as it should be, where the input or the limit ends within it.
+fn is_cut_at(alloc: Global, item: &[u8], cut: usize, is_strict: bool) -> Option<bool> {
+    let wide = Limits::new(256, 1048576)?;
+    let short = Limits::new(256, cut as u64)?;
+    let truncated = Refusal::at(Reason::Truncated, cut as u64);
+    let too_long = Refusal::at(Reason::TooLong, cut as u64);
+    let front = &item[..cut.min(item.len())];
+    let is_plain = plain_calls_refuse(alloc, front, wide, truncated)
+        && plain_calls_refuse(alloc, item, short, too_long)
+        && others_refuse(alloc, item, cut, wide, truncated);
+    let is_strict = !is_strict
+        || strict_calls_refuse(alloc, front, wide, truncated)
+            && strict_calls_refuse(alloc, item, short, too_long);
+    Some(is_plain && is_strict)
+}
+
+// Each item of the conformance table that is accepted within the widest limits. The calls with the
+// strict rules are asked only about what is canonical in both orders.
+#[test]
+fn refuses_each_front_of_an_item(rt: HostRuntime) -> Result<(), Fail> {
+    for part in 0..PARTS {
+        for &line in rows(part) {
+            let Some((hex, column, plain, strict)) = row_of(line) else {
+                return Err(Fail::from(BadRow::Columns));
+            };
+            if limits_of(column).is_none() {
+                return Err(Fail::from(BadRow::Limits));
+            }
+            if !column.is_empty() || plain.contains(" at ") {
+                continue;
+            }
+            let item = bytes_of(rt.alloc(), hex)?;
+            let is_strict = plain == "same" && strict.is_empty();
+            for cut in 0..item.len() {
+                let is_right = is_cut_at(rt.alloc(), &item, cut, is_strict);
+                assert_eq!(rt; is_right, Some(true), "{line}, cut at {cut}");
+            }
+        }
+    }
+    Ok(())
+}

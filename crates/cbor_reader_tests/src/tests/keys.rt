@@ -1,0 +1,44 @@
+//! Keys about as long as those that take memory of their own.
+
+use super::limits;
+use cbor_reader::{KeyOrder, canonicalise};
+use cbor_head::{Reason, Refusal};
+use std::alloc::{AllocError, Global};
+use std::test::Fail;
+
+// A map of two byte strings of this length, h'07..' but for their ends, each with 0.
+fn map_of(alloc: Global, length: u8, ends: [u8; 2]) -> Result<Vec<u8>, AllocError> {
+    let mut bytes = Vec::new(alloc);
+    bytes.push(0xa2)?;
+    for end in ends {
+        bytes.push(0x40 | length)?;
+        for _ in 1..length {
+            bytes.push(7)?;
+        }
+        bytes.extend_from_slice(&[end, 0])?;
+    }
+    Ok(bytes)
+}
+
+// Two keys of each length are told apart by their last byte alone, and found to be equal.
+#[test]
+fn tells_keys_apart_at_each_length(rt: HostRuntime) -> Result<(), Fail> {
+    let alloc = rt.alloc();
+    for length in 1..23 {
+        let limits = limits(&rt, 256, 64);
+        let input = map_of(alloc, length, [1, 0])?;
+        let given = canonicalise(alloc, &input, limits, KeyOrder::Bytewise);
+        let wanted = map_of(alloc, length, [0, 1])?;
+        assert!(rt; given == Ok(wanted), "at {length}");
+        let input = map_of(alloc, length, [1, 1])?;
+        let given = canonicalise(alloc, &input, limits, KeyOrder::Bytewise);
+        let place = 3 + u64::from(length);
+        let refusal = Refusal {
+            reason: Reason::RepeatedKey,
+            place,
+            read: place + 1 + u64::from(length),
+        };
+        assert!(rt; given == Err(refusal), "at {length}");
+    }
+    Ok(())
+}

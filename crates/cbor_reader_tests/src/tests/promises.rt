@@ -1,0 +1,62 @@
+//! Heads that promise more than comes: a head asks for no memory by itself. All that these promise,
+//! at a byte a member, is more than a processor can address, so a call that asked for it would answer
+//! `Memory`.
+
+use super::limits;
+use cbor_reader::{KeyOrder, canonicalise, check_canonical, read_strict, read_tree, same_meaning};
+use cbor_head::{Limits, Reason, Refusal};
+use std::alloc::{AllocError, Global};
+use std::test::Fail;
+
+// The type's first byte with additional information 27, and a count: 2^40 and more.
+static PROMISES: [(u8, [u8; 8]); 4] = [
+    (0x9b, [0, 0, 1, 0, 0, 0, 0, 0]),
+    (0xbb, [0, 0, 1, 0, 0, 0, 0, 0]),
+    (0x9b, [0xff; 8]),
+    (0xbb, [0xff; 8]),
+];
+
+// 255 of these heads, each the first member, or the first key, of the one before, around 0.
+fn nested(alloc: Global, first: u8, count: &[u8; 8]) -> Result<Vec<u8>, AllocError> {
+    let mut bytes = Vec::new(alloc);
+    for _ in 0..255 {
+        bytes.push(first)?;
+        bytes.extend_from_slice(count)?;
+    }
+    bytes.push(0)?;
+    Ok(bytes)
+}
+
+// Whether each call says that the input is cut short.
+fn is_cut_short(alloc: Global, input: &[u8], limits: Limits) -> bool {
+    let refusal = Refusal::at(Reason::Truncated, input.len() as u64);
+    let read = read_tree(alloc, &mut &input[..], limits);
+    let mut answers = same_meaning(alloc, input, input, limits).is_err_and(|e| e.1 == refusal)
+        && read.err() == Some(refusal);
+    for order in [KeyOrder::Bytewise, KeyOrder::LengthFirst] {
+        let strict = read_strict(alloc, &mut &input[..], limits, order);
+        let checked = check_canonical(input, limits, order);
+        let canonical = canonicalise(alloc, input, limits, order);
+        answers = answers
+            && strict == Err(refusal)
+            && checked == Err(refusal)
+            && canonical == Err(refusal);
+    }
+    answers
+}
+
+#[test]
+fn take_no_memory_by_themselves(rt: HostRuntime) -> Result<(), Fail> {
+    let alloc = rt.alloc();
+    let limits = limits(&rt, 256, 1048576);
+    for (first, count) in &PROMISES {
+        let input = nested(alloc, *first, count)?;
+        assert!(rt; is_cut_short(alloc, &input, limits), "{first}, {count:?}");
+    }
+    // strings of 2^63 bytes, with one there
+    for first in [0x5b, 0x7b] {
+        let input = [first, 0x80, 0, 0, 0, 0, 0, 0, 0, b'a'];
+        assert!(rt; is_cut_short(alloc, &input, limits), "{first}");
+    }
+    Ok(())
+}

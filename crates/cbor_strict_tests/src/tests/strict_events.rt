@@ -1,0 +1,134 @@
+//! The strict reader event by event: what it tells, and what it keeps. What is kept was worked out by
+//! hand, from the bytes of the keys.
+
+use super::limits;
+use cbor_strict::{KeyOrder, StrictReader};
+use cbor_events::{Event, EventKind};
+use cbor_head::{Limits, Width};
+use std::alloc::{AllocError, Global};
+use std::test::Fail;
+
+// Behind an event: its place and kind, how many bytes were taken and containers are open, of how
+// many maps a key is kept, and how many bytes of keys.
+type Step = (u64, EventKind, u64, usize, usize, u64);
+
+// {{1: 0}: 0, {1: 1}: 0}
+fn two_maps() -> [Step; 9] {
+    [
+        (0, EventKind::Map(Some(2)), 1, 1, 1, 0),
+        // a1 of the first key
+        (1, EventKind::Map(Some(1)), 2, 2, 2, 1),
+        // a101, with the inner map's key
+        (2, EventKind::Unsigned(1), 3, 2, 2, 2),
+        // a10100, complete
+        (3, EventKind::Unsigned(0), 4, 1, 1, 3),
+        (4, EventKind::Unsigned(0), 5, 1, 1, 3),
+        // a10100, and a1, a101 of the second key
+        (5, EventKind::Map(Some(1)), 6, 2, 2, 4),
+        (6, EventKind::Unsigned(1), 7, 2, 2, 5),
+        // a10101 alone
+        (7, EventKind::Unsigned(1), 8, 1, 1, 3),
+        (8, EventKind::Unsigned(0), 9, 0, 0, 0),
+    ]
+}
+
+// [0, 0]
+fn no_keys() -> [Step; 3] {
+    [
+        (0, EventKind::Array(Some(2)), 1, 1, 0, 0),
+        (1, EventKind::Unsigned(0), 2, 1, 0, 0),
+        (2, EventKind::Unsigned(0), 3, 0, 0, 0),
+    ]
+}
+
+// {"ab": [{0: h'01'}]}
+fn keys_in_a_content() -> [Step; 7] {
+    [
+        (0, EventKind::Map(Some(1)), 1, 1, 1, 0),
+        (1, EventKind::Text(Some(2)), 2, 1, 1, 1),
+        (2, EventKind::Piece(2), 4, 1, 1, 3),
+        (4, EventKind::Array(Some(1)), 5, 2, 1, 3),
+        (5, EventKind::Map(Some(1)), 6, 3, 2, 3),
+        (6, EventKind::Unsigned(0), 7, 3, 2, 4),
+        (7, EventKind::Bytes(Some(1)), 8, 3, 2, 4),
+    ]
+}
+
+// Whether these are told, with this behind each.
+fn is_told(alloc: Global, limits: Limits, input: &[u8], steps: &[Step]) -> bool {
+    let mut reader = StrictReader::new(alloc, input, limits, KeyOrder::Bytewise);
+    for &(place, kind, taken, open, spans, kept) in steps {
+        let Ok(Some(event)) = reader.next() else {
+            return false;
+        };
+        let is_event = event.place == place && event.kind == kind && event.width == Width::Direct;
+        let is_kept = reader.spans() == spans && reader.kept() == kept;
+        if !is_event || !is_kept || reader.open() != open || reader.taken() != taken {
+            return false;
+        }
+    }
+    true
+}
+
+#[test]
+fn keeps_what_is_to_be_compared(rt: HostRuntime) {
+    let limits = limits(&rt, 256, 1048576);
+    let maps = b"\xa2\xa1\x01\x00\x00\xa1\x01\x01\x00";
+    assert!(rt; is_told(rt.alloc(), limits, maps, &two_maps()));
+    assert!(rt; is_told(rt.alloc(), limits, b"\x82\x00\x00", &no_keys()));
+    let content = b"\xa1\x62ab\x81\xa1\x00\x41\x01";
+    assert!(rt; is_told(rt.alloc(), limits, content, &keys_in_a_content()));
+}
+
+#[test]
+fn tells_a_piece_and_the_end(rt: HostRuntime) {
+    let limits = limits(&rt, 256, 1048576);
+    let mut reader = StrictReader::new(rt.alloc(), &b"\x62ab\x00"[..], limits, KeyOrder::Bytewise);
+    assert_eq!(rt; reader.piece(), b"".as_slice());
+    let head = Event {
+        place: 0,
+        width: Width::Direct,
+        kind: EventKind::Text(Some(2)),
+    };
+    assert_eq!(rt; reader.next(), Ok(Some(head)));
+    let piece = Event {
+        place: 1,
+        width: Width::Direct,
+        kind: EventKind::Piece(2),
+    };
+    assert_eq!(rt; reader.next(), Ok(Some(piece)));
+    assert_eq!(rt; reader.piece(), b"ab".as_slice());
+    assert_eq!(rt; reader.next(), Ok(None));
+    assert_eq!(rt; reader.next(), Ok(None));
+    assert_eq!(rt; reader.taken(), 3);
+}
+
+// 256 maps, each the key of the one before, around 0.
+fn tower(alloc: Global) -> Result<Vec<u8>, AllocError> {
+    let mut bytes = Vec::new(alloc);
+    for _ in 0..256 {
+        bytes.extend_from_slice(&[0xa1, 0x00])?;
+    }
+    bytes.push(0)?;
+    Ok(bytes)
+}
+
+#[test]
+fn stands_in_a_tower(rt: HostRuntime) -> Result<(), Fail> {
+    let input = tower(rt.alloc())?;
+    let whole = limits(&rt, 256, 1048576);
+    let mut reader = StrictReader::new(rt.alloc(), &input[..], whole, KeyOrder::Bytewise);
+    // a map and its key, 0, and its content is the next map
+    for level in 1..=256 {
+        for _ in 0..2 {
+            assert!(rt; reader.next().is_ok());
+        }
+        let kept = level as u64;
+        assert!(rt; reader.open() == level && reader.spans() == level && reader.kept() == kept);
+    }
+    assert!(rt; reader.next().is_ok());
+    assert!(rt; reader.open() == 0 && reader.spans() == 0 && reader.kept() == 0);
+    assert_eq!(rt; reader.next(), Ok(None));
+    assert_eq!(rt; reader.taken(), 513);
+    Ok(())
+}

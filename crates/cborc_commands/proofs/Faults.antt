@@ -1,0 +1,243 @@
+-- Which fault a part of a subcommand passes on, and what it tells of the whole.
+use Rattle.std.proofs.Common.{ℕ, ◌+◌, ◌≡◌, inl, List, length, take, Option, refl, sym, subst}
+use Rattle.std.specs.Prelude.{Result, Ok, Err, OnOk, IfOk, IfErr}
+use Rattle.cbor_diag.specs.Listing.{IsListed}
+use Rattle.cbor_head.specs.Complaint.{Rules, plain}
+use Rattle.cbor_head.specs.Value.{Value}
+use Rattle.cbor_item.specs.View.{view}
+use Rattle.cbor_item.specs.declared.item.Item.{Item}
+use Rattle.cbor_head.specs.declared.order.KeyOrder.{KeyOrder}
+use Rattle.cbor_head.specs.declared.reason.Reason.{Reason}
+use Rattle.cbor_head.specs.declared.reason.Reason.TheVariants as reasons
+use Rattle.cbor_head.specs.declared.reason.Refusal.{Refusal}
+use Rattle.cbor_reader.specs.Canonicalise.{IsCanonicalOf, IsRefusal}
+use Rattle.cbor_reader.specs.Comparing.{IsSideRefusal}
+use Rattle.cbor_strict.specs.Readers.{IsReadAs}
+use Rattle.cbor_reader.specs.WholeItem.{IsWholeItem}
+use Rattle.cbor_reader.specs.declared.comparison.Side.{Side}
+use Rattle.cbor_reader.specs.declared.comparison.Side.TheVariants.{Left, Right}
+use Rattle.cborc_commands.proofs.Files.{keeps_keeps, put_kept, input_before}
+use Rattle.cborc_commands.proofs.Fronts.{canonical_whole, refusal_whole, is_whole, is_not_whole, is_all_of, listed_whole, not_listed_whole, whole_item, item_refusal_whole}
+use Rattle.cborc_commands.specs.Canon.{IsCanonicalText, IsNoText, IsPut, IsCanonised, IsNotCanonised}
+use Rattle.cborc_commands.specs.Check.{accepted_bytes, IsWhole, IsNotWhole, IsChecked, IsUntoldOf, IsNotChecked}
+use Rattle.cborc_commands.specs.CheckSequence.{accepted_items, IsWholeSequence, IsRefusedAt, IsSequenceChecked, IsSequenceNotChecked}
+use Rattle.cborc_commands.specs.Compare.{IsTold, IsUntold, AreInputs, AreCompared, AreNotCompared}
+use Rattle.cborc_commands.specs.Events.{IsNotListed, IsListedOf, IsNotListedOf}
+use Rattle.cborc_commands.specs.Fault.{reason_fault, refusal_fault, at_item}
+use Rattle.cborc_commands.specs.Folder.{Files, KeepsFiles}
+use Rattle.cborc_commands.specs.Input.{IsInput, StartsInput}
+use Rattle.cborc_commands.specs.Show.{IsTreeOf, IsShown, IsShownOf, IsNotShown}
+use Rattle.cborc_commands.specs.declared.request.Layout.{Layout}
+use Rattle.cborc_commands.specs.declared.status.Status.{Status}
+use Rattle.cborc_commands.specs.declared.status.Status.TheVariants as statuses
+use Rattle.cborc_commands.specs.declared.request.Options.{Options}
+use Rattle.cborc_commands.specs.declared.request.Output.{Output}
+use Rattle.cborc_commands.specs.declared.fault.Fault.{Fault}
+use Rattle.cborc_commands.specs.declared.fault.Fault.TheVariants as faults
+use Rattle.std.specs.Io.KnownBytes.{Appends}
+
+-- what follows of an answer
+pub on_ok : (r : Result (Unit {0}) Fault) (P Q : Type 0) → (P → Q) → OnOk r P → OnOk r Q
+on_ok (Ok done) P Q f h = f h
+on_ok (Err fault) P Q f h = tt
+
+pub on_err : (r : Result (Unit {0}) Fault) (P Q : Fault → Type 0) → ((fault : Fault) → P fault → Q fault) → IfErr r P → IfErr r Q
+on_err (Ok done) P Q f h = tt
+on_err (Err fault) P Q f h = f fault h
+
+-- the fault of a refusal: the refusal, or want of memory
+pub refusal_is : (P : Fault → Type 0) (f : Refusal) (fault : Fault) → fault ≡ refusal_fault f → P (faults.Refused f) → P faults.Memory → P fault
+refusal_is P f fault e refused memory = subst P (sym e) (by_reason f.reason)
+  where
+    by_reason : (reason : Reason) → P (reason_fault f reason)
+    by_reason reasons.Memory = memory
+    by_reason _ = refused
+
+module _ (o : KeyOrder) (options : Options) (source : List ℕ) (output : Output) (held : Option Files) where
+  pub canonised : (mid new : Option Files) (before after : Option (List ℕ)) (bytes text : List ℕ) → StartsInput held source options.hex (options.limits.bytes + 1) bytes
+      → IsCanonicalText options.limits.depth options.limits.bytes o output.form bytes text → KeepsFiles held mid → IsPut output.path.now mid new before after text
+      → IsCanonised o options source output held new before after
+  canonised mid new before after bytes text s t k p = record {
+    input = s.input;
+    is = s.is;
+    text = text;
+    canonical = record {
+      canonical = t.canonical;
+      is = canonical_whole options.limits.depth options.limits.bytes s.input o t.canonical
+          (subst (λ (b : List ℕ). IsCanonicalOf options.limits.depth options.limits.bytes o b t.canonical) s.front t.is);
+      formed = t.formed;
+    };
+    put = put_kept output.path.now held mid new before after text k p;
+  }
+
+  pub no_text : (bytes : List ℕ) → StartsInput held source options.hex (options.limits.bytes + 1) bytes → (fault : Fault)
+      → IsNoText options.limits.depth options.limits.bytes o bytes fault → IsNotCanonised o options source output held fault
+  no_text bytes s (faults.Refused f) h = (
+    s.input,
+    s.is,
+    refusal_whole options.limits.depth options.limits.bytes s.input o f
+        (subst (λ (b : List ℕ). IsRefusal options.limits.depth options.limits.bytes o b f) s.front h),
+  )
+  no_text bytes s faults.Memory h = tt
+  no_text bytes s _ h = absurd h
+
+module _ (rules : Rules) (options : Options) (source : List ℕ) (held : Option Files) (bytes : List ℕ)
+    (s : StartsInput held source options.hex (options.limits.bytes + 1) bytes) where
+  whole_of : (size : ℕ) → IsWhole options.limits.depth options.limits.bytes rules bytes size → IsWhole options.limits.depth options.limits.bytes rules s.input size
+  whole_of size w =
+      is_whole options.limits.depth options.limits.bytes s.input rules size
+      (subst (λ (b : List ℕ). IsWhole options.limits.depth options.limits.bytes rules b size) s.front w)
+
+  pub checked : (size : ℕ) (before after : Option (List ℕ)) → IsWhole options.limits.depth options.limits.bytes rules bytes size
+      → Appends before after (accepted_bytes size) → IsChecked rules options source held before after
+  checked size before after w t = record { input = s.input; is = s.is; size = size; whole = whole_of size w; told = t }
+
+  pub untold : (size : ℕ) → IsWhole options.limits.depth options.limits.bytes rules bytes size → (fault : Fault) → fault ≡ faults.CannotPrint
+      → IsNotChecked rules options source held fault
+  untold size w fault e =
+      subst (IsNotChecked rules options source held) (sym e) (record { input = s.input; is = s.is; size = size; whole = whole_of size w })
+
+  pub not_checked : (f : Refusal) → IsNotWhole options.limits.depth options.limits.bytes rules bytes f → (fault : Fault) → fault ≡ refusal_fault f
+      → IsNotChecked rules options source held fault
+  not_checked f h fault e =
+      refusal_is (IsNotChecked rules options source held) f fault e (
+        s.input,
+        s.is,
+        is_not_whole options.limits.depth options.limits.bytes s.input rules f
+            (subst (λ (b : List ℕ). IsNotWhole options.limits.depth options.limits.bytes rules b f) s.front h),
+      ) tt
+
+-- the fault of an item of a sequence: its refusal, or want of memory
+pub item_refusal_is : (P : Fault → Type 0) (index start : ℕ) (f : Refusal) (fault : Fault) → fault ≡ at_item index start (refusal_fault f) → P (faults.RefusedItem index start f)
+    → P faults.Memory → P fault
+item_refusal_is P index start f fault e refused memory = subst P (sym e) (by_reason f.reason)
+  where
+    by_reason : (reason : Reason) → P (at_item index start (reason_fault f reason))
+    by_reason reasons.Memory = memory
+    by_reason _ = refused
+
+module _ (rules : Rules) (options : Options) (source : List ℕ) (held : Option Files) (input : List ℕ) (is : IsInput held source options.hex input) where
+  pub sequence_checked : (count : ℕ) (before after : Option (List ℕ)) → IsWholeSequence options.limits.depth options.limits.bytes rules input count
+      → Appends before after (accepted_items count) → IsSequenceChecked rules options source held before after
+  sequence_checked count before after w t = record { input = input; is = is; count = count; whole = w; told = t }
+
+  pub sequence_untold : (count : ℕ) → IsWholeSequence options.limits.depth options.limits.bytes rules input count → (fault : Fault) → fault ≡ faults.CannotPrint
+      → IsSequenceNotChecked rules options source held fault
+  sequence_untold count w fault e =
+      subst (IsSequenceNotChecked rules options source held) (sym e) (record { input = input; is = is; count = count; whole = w })
+
+  pub sequence_refused : (index start : ℕ) (f : Refusal) → IsRefusedAt options.limits.depth options.limits.bytes rules input index start f
+      → (fault : Fault) → fault ≡ at_item index start (refusal_fault f) → IsSequenceNotChecked rules options source held fault
+  sequence_refused index start f h fault e = item_refusal_is (IsSequenceNotChecked rules options source held) index start f fault e (input, is, h) tt
+
+module _ (options : Options) (source : List ℕ) (held : Option Files) (bytes : List ℕ) (s : StartsInput held source options.hex (options.limits.bytes + 1) bytes) where
+  -- ---- `show`
+
+  tree_whole : (v : Value) → IsReadAs options.limits.depth options.limits.bytes plain bytes v (length bytes)
+      → IsReadAs options.limits.depth options.limits.bytes plain s.input v (length s.input)
+  tree_whole v h =
+      is_all_of options.limits.depth options.limits.bytes s.input v
+      (subst (λ (b : List ℕ). IsReadAs options.limits.depth options.limits.bytes plain b v (length b)) s.front h)
+
+  pub shown_of : (layout : Layout) (tree : Item) (before after : Option (List ℕ)) → IsTreeOf options.limits.depth options.limits.bytes bytes tree → IsShown layout tree before after
+      → IsShownOf layout options source held before after
+  shown_of layout tree before after h w = record { input = s.input; is = s.is; value = view tree; whole = tree_whole (view tree) h; shown = w }
+
+  pub unshown : (tree : Item) → IsTreeOf options.limits.depth options.limits.bytes bytes tree → (fault : Fault) → fault ≡ faults.CannotPrint → IsNotShown options source held fault
+  unshown tree h fault e =
+      subst (IsNotShown options source held) (sym e) (record { input = s.input; is = s.is; value = view tree; whole = tree_whole (view tree) h })
+
+  pub not_shown : (f : Refusal) → IsNotWhole options.limits.depth options.limits.bytes plain bytes f → (fault : Fault) → fault ≡ refusal_fault f → IsNotShown options source held fault
+  not_shown f h fault e =
+      refusal_is (IsNotShown options source held) f fault e (
+        s.input,
+        s.is,
+        is_not_whole options.limits.depth options.limits.bytes s.input plain f
+            (subst (λ (b : List ℕ). IsNotWhole options.limits.depth options.limits.bytes plain b f) s.front h),
+      ) tt
+
+  -- ---- `events`
+
+  pub listed_of : (before after : Option (List ℕ)) → IsListed options.limits.depth options.limits.bytes bytes (length bytes) before after → IsListedOf options source held before after
+  listed_of before after h = record {
+    input = s.input;
+    is = s.is;
+    listed = listed_whole options.limits.depth options.limits.bytes s.input before after
+        (subst (λ (b : List ℕ). IsListed options.limits.depth options.limits.bytes b (length b) before after) s.front h);
+  }
+
+  listed_so : (before after : Option (List ℕ)) (fault : Fault) → IsNotListed options.limits.depth options.limits.bytes bytes before after fault
+      → IsNotListed options.limits.depth options.limits.bytes s.input before after fault
+  listed_so before after fault h =
+      not_listed_whole options.limits.depth options.limits.bytes s.input before after fault
+      (subst (λ (b : List ℕ). IsNotListed options.limits.depth options.limits.bytes b before after fault) s.front h)
+
+  pub not_listed_of : (before after : Option (List ℕ)) (fault : Fault) → IsNotListed options.limits.depth options.limits.bytes bytes before after fault
+      → IsNotListedOf options source held before after fault
+  not_listed_of before after (faults.Refused f) h = (s.input, s.is, listed_so before after (faults.Refused f) h)
+  not_listed_of before after faults.CannotPrint h = (s.input, s.is, listed_so before after faults.CannotPrint h)
+  not_listed_of before after _ h = absurd h
+
+-- ---- `compare`
+
+module _ (d n : ℕ) (left right : List ℕ) where
+  fronts_equal : IsWholeItem d n (take (n + 1) left) × IsWholeItem d n (take (n + 1) right) → (take (n + 1) left ≡ left) × (take (n + 1) right ≡ right)
+  fronts_equal (l, r) = (whole_item d n left l, whole_item d n right r)
+
+  same_fronts : (before after : Option (List ℕ)) (status : Status) → IsTold d n (take (n + 1) left) (take (n + 1) right) before after status
+      → (take (n + 1) left ≡ left) × (take (n + 1) right ≡ right) → IsTold d n left right before after status
+  same_fronts before after status h (l, r) =
+      subst (λ (x : List ℕ). IsTold d n left x before after status) r
+      (subst (λ (x : List ℕ). IsTold d n x (take (n + 1) right) before after status) l h)
+
+  pub told_whole : (before after : Option (List ℕ)) (status : Status) → IsTold d n (take (n + 1) left) (take (n + 1) right) before after status → IsTold d n left right before after status
+  told_whole before after statuses.Accepted h = same_fronts before after statuses.Accepted h (fronts_equal h.0)
+  told_whole before after statuses.Refused h = same_fronts before after statuses.Refused h (fronts_equal h.0)
+  told_whole before after _ h = absurd h
+
+  side_whole : (side : Side) (f : Refusal) → IsSideRefusal d n (take (n + 1) left) (take (n + 1) right) side f → IsSideRefusal d n left right side f
+  side_whole Left f h = item_refusal_whole d n left f h
+  side_whole Right f (l, h) = (subst (IsWholeItem d n) (whole_item d n left l) l, item_refusal_whole d n right f h)
+
+  pub untold_whole : (fault : Fault) → IsUntold d n (take (n + 1) left) (take (n + 1) right) fault → IsUntold d n left right fault
+  untold_whole (faults.LeftRefused f) h = side_whole Left f h
+  untold_whole (faults.RightRefused f) h = side_whole Right f h
+  untold_whole faults.Memory (side, f, h, e) = (side, f, side_whole side f h, e)
+  untold_whole faults.CannotPrint (l, r) = (subst (IsWholeItem d n) (whole_item d n left l) l, subst (IsWholeItem d n) (whole_item d n right r) r)
+  untold_whole _ h = absurd h
+
+module _ (options : Options) (left right : List ℕ) (old mid : Option Files) (keeps : KeepsFiles old mid) (first second : List ℕ)
+    (s : StartsInput old left options.hex (options.limits.bytes + 1) first) (t : StartsInput mid right options.hex (options.limits.bytes + 1) second) where
+  both : AreInputs old left right options s.input t.input
+  both = record { left_is = s.is; right_is = input_before old mid right options.hex t.input keeps t.is }
+
+  pub compared : (before after : Option (List ℕ)) (status : Status) → IsTold options.limits.depth options.limits.bytes first second before after status
+      → AreCompared options left right old before after status
+  compared before after status h = record {
+    first = s.input;
+    second = t.input;
+    are = both;
+    told = told_whole options.limits.depth options.limits.bytes s.input t.input before after status
+        (subst (λ (x : List ℕ). IsTold options.limits.depth options.limits.bytes (take (options.limits.bytes + 1) s.input) x before after status) t.front
+        (subst (λ (x : List ℕ). IsTold options.limits.depth options.limits.bytes x second before after status) s.front h));
+  }
+
+  pub not_compared : (fault : Fault) → IsUntold options.limits.depth options.limits.bytes first second fault → AreNotCompared options left right old fault
+  not_compared fault h =
+      inl (record {
+        first = s.input;
+        second = t.input;
+        are = both;
+        untold = untold_whole options.limits.depth options.limits.bytes s.input t.input fault
+            (subst (λ (x : List ℕ). IsUntold options.limits.depth options.limits.bytes (take (options.limits.bytes + 1) s.input) x fault) t.front
+            (subst (λ (x : List ℕ). IsUntold options.limits.depth options.limits.bytes x second fault) s.front h));
+      })
+
+-- what follows of an answer that carries something
+pub if_ok : {A : Type 0} → (r : Result A Fault) (P Q : A → Type 0) → ((a : A) → P a → Q a) → IfOk r P → IfOk r Q
+if_ok (Ok a) P Q f h = f a h
+if_ok (Err fault) P Q f h = tt
+
+pub if_err : {A : Type 0} → (r : Result A Fault) (P Q : Fault → Type 0) → ((fault : Fault) → P fault → Q fault) → IfErr r P → IfErr r Q
+if_err (Ok a) P Q f h = tt
+if_err (Err fault) P Q f h = f fault h

@@ -1,0 +1,43 @@
+-- What stays known of files from call to call.
+use Rattle.std.proofs.Common.{◌≡◌, List, ℕ, Bool, true, false, Option, Some, None, ◌∙◌, sym}
+use Rattle.cborc_commands.specs.Folder.{Files, Holds, KeepsFiles, ReplacesFile}
+use Rattle.cborc_commands.specs.Canon.{IsPut, printed, written}
+use Rattle.cborc_commands.specs.Input.{IsInput, IsNotHex, IsNoInput}
+use Rattle.cborc_commands.specs.declared.fault.Fault.{Fault}
+use Rattle.cborc_commands.specs.declared.fault.Fault.TheVariants as faults
+
+pub keeps_keeps : (a b c : Option Files) → KeepsFiles a b → KeepsFiles b c → KeepsFiles a c
+keeps_keeps None b c h k = tt
+keeps_keeps (Some f) None c h k = absurd h
+keeps_keeps (Some f) (Some g) None h k = absurd k
+keeps_keeps (Some f) (Some g) (Some e) h k = λ path. k path ∙ h path
+
+pub replaces_kept : (a b c : Option Files) (path bytes : List ℕ) → KeepsFiles a b → ReplacesFile b c path bytes → ReplacesFile a c path bytes
+replaces_kept None b c path bytes h r = tt
+replaces_kept (Some f) None c path bytes h r = absurd h
+replaces_kept (Some f) (Some g) None path bytes h r = absurd r
+replaces_kept (Some f) (Some g) (Some e) path bytes h r = (r.0, λ other apart. r.1 other apart ∙ h other)
+
+pub put_kept : (path : List ℕ) (a b c : Option Files) (before after : Option (List ℕ)) (text : List ℕ) → KeepsFiles a b → IsPut path b c before after text → IsPut path a c before after text
+put_kept path a b c before after text h (printed s p k) = printed s p (keeps_keeps a b c h k)
+put_kept path a b c before after text h (written s r o) = written s (replaces_kept a b c path text h r) o
+
+-- what a later state of the same files holds, an earlier one did
+pub held_before : (a b : Option Files) (path bytes : List ℕ) → KeepsFiles a b → Holds b path bytes → Holds a path bytes
+held_before None b path bytes k h = tt
+held_before (Some f) None path bytes k h = absurd k
+held_before (Some f) (Some g) path bytes k h = sym (k path) ∙ h
+
+pub input_before : (a b : Option Files) (path : List ℕ) (hex : Bool) (input : List ℕ) → KeepsFiles a b → IsInput b path hex input → IsInput a path hex input
+input_before a b path false input k h = held_before a b path input k h
+input_before a b path true input k (text, h, e) = (text, held_before a b path text k h, e)
+
+not_hex_before : (a b : Option Files) (path : List ℕ) (hex : Bool) → KeepsFiles a b → IsNotHex b path hex → IsNotHex a path hex
+not_hex_before a b path true k (text, h, e) = (text, held_before a b path text k h, e)
+not_hex_before a b path false k h = h
+
+pub no_input_before : (a b : Option Files) (path : List ℕ) (hex : Bool) (fault : Fault) → KeepsFiles a b → IsNoInput b path hex fault → IsNoInput a path hex fault
+no_input_before a b path hex (faults.CannotRead named) k h = h
+no_input_before a b path hex (faults.NotHex named) k (e, h) = (e, not_hex_before a b path hex k h)
+no_input_before a b path hex faults.Memory k h = tt
+no_input_before a b path hex _ k h = absurd h

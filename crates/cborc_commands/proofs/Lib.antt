@@ -1,0 +1,9 @@
+mod Faults
+mod Files
+mod Fronts
+mod InMemory
+mod Runs
+mod Sent
+mod Sequences
+mod Untold
+mod Whole

@@ -1,0 +1,74 @@
+-- What a run leaves, by the parts of its end.
+use Rattle.std.proofs.Common.{ℕ, ◌≡◌, ◌≢◌, ◌⊎◌, ◌∙◌, ap, inl, inr, refl, sym, subst, List, Option, None}
+use Rattle.std.specs.Prelude.{Result, Ok, Err, OnErr, IfOk, IfErr}
+use Rattle.std.specs.Borrow.{Bor}
+use Rattle.std.specs.Io.KnownBytes.{Keeps}
+use Rattle.cbor_head.specs.declared.order.KeyOrder.{KeyOrder}
+use Rattle.cborc_commands.specs.Answer.{IsDone, IsNotDone}
+use Rattle.cborc_commands.specs.Fault.{end_status, status_number}
+use Rattle.cborc_commands.specs.Folder.{Files, KeepsFiles}
+use Rattle.cborc_commands.specs.Told.{IsSilent, IsStatus, IsAnswered, done, stopped, IsAnsweredQuietly, IsToldBy}
+use Rattle.cborc_commands.specs.declared.request.Manner.{Manner}
+use Rattle.cborc_commands.specs.declared.request.Options.{Options}
+use Rattle.cborc_commands.specs.declared.request.Output.{Output}
+use Rattle.cborc_commands.specs.declared.request.Request.{Request}
+use Rattle.cborc_commands.specs.declared.request.Request.TheVariants.{Check, CheckSequence, Canon, Compare, Show, Events}
+use Rattle.cborc_commands.specs.declared.fault.Fault.{Fault}
+use Rattle.cborc_commands.specs.declared.fault.Fault.TheVariants as faults
+use Rattle.cborc_commands.specs.declared.status.Status.{Status}
+use Rattle.cborc_commands.proofs.Sent.{done_sent, not_done_sent, silent_sent}
+
+-- the end, once standard output sent on what it took, or did not
+abbrev IsSentOn : Result Status Fault → Result Status Fault → Type 0
+IsSentOn ended sent = (sent ≡ ended) ⊎ (sent ≡ Err faults.CannotPrint)
+
+status_sent : (ended sent : Result Status Fault) → IsSentOn ended sent → (status : ℕ) → status ≡ status_number (end_status sent) → IsStatus (end_status ended) status
+status_sent ended sent (inl e) status is = inl (is ∙ ap (λ (r : Result Status Fault). status_number (end_status r)) e)
+status_sent ended sent (inr e) status is = inr (is ∙ ap (λ (r : Result Status Fault). status_number (end_status r)) e)
+
+module _ (request : Request) (old new : Option Files) (before mid after : Option (List ℕ)) (keeps : Keeps mid after) where
+  pub answered_so : (ended sent : Result Status Fault) → IfOk ended (IsDone request old new before mid) → IfErr ended (IsNotDone request old before mid)
+      → OnErr ended (KeepsFiles old new) → IfErr ended (λ fault. IsSilent request fault before mid) → IsSentOn ended sent
+      → (status : ℕ) → status ≡ status_number (end_status sent) → IsAnswered request old new before after status
+  answered_so (Ok s) sent d n k q e status is = done s (done_sent before mid after keeps request old new s d) (status_sent (Ok s) sent e status is)
+  answered_so (Err fault) sent d n k q e status is =
+      stopped fault (not_done_sent before mid after keeps request old fault n) k (silent_sent before mid after keeps request fault q)
+      (status_sent (Err fault) sent e status is)
+
+-- an answer that is not told, but for the one of `canon`
+module _ (old new : Option Files) (before after : Option (List ℕ)) (keeps : Keeps before after) (status : ℕ) where
+  pub quietly : (request : Request) → ((source : Bor (List ℕ)) (output : Output) (order : KeyOrder) (options : Options) → request ≢ Canon source output order options)
+      → IsAnswered request old new None None status → IsAnsweredQuietly request old new before after status
+  quietly (Canon source output order options) apart h = absurd (apart source output order options refl)
+  quietly (Check source accepted options) apart h = (h, keeps)
+  quietly (CheckSequence source accepted options) apart h = (h, keeps)
+  quietly (Show source layout options) apart h = (h, keeps)
+  quietly (Events source options) apart h = (h, keeps)
+  quietly (Compare left right options) apart h = (h, keeps)
+
+  -- what standard output took is not known there
+  pub sunk : (request : Request) → ((source : Bor (List ℕ)) (output : Output) (order : KeyOrder) (options : Options) → request ≢ Canon source output order options)
+      → (ended : Result Status Fault) → IfOk ended (IsDone request old new None None) → IfErr ended (IsNotDone request old None None)
+      → OnErr ended (KeepsFiles old new) → IfErr ended (λ fault. IsSilent request fault None None) → status ≡ status_number (end_status ended)
+      → IsAnsweredQuietly request old new before after status
+  sunk request apart ended d n k q is = quietly request apart (answered_so request old new None None None tt ended ended d n k q (inl refl) status is)
+
+-- the manner by a known name
+module _ (request : Request) (old new : Option Files) (before after : Option (List ℕ)) (status : ℕ) where
+  pub told_as : (known manner : Manner) → manner ≡ known → IsToldBy known request old new before after status → IsToldBy manner request old new before after status
+  told_as known manner e h = subst (λ (m : Manner). IsToldBy m request old new before after status) (sym e) h
+
+  pub told_canon : (source : Bor (List ℕ)) (output : Output) (order : KeyOrder) (options : Options) → request ≡ Canon source output order options
+      → IsAnswered request old new before after status → IsAnsweredQuietly request old new before after status
+  told_canon source output order options e h =
+      subst (λ (r : Request). IsAnswered r old new before after status → IsAnsweredQuietly r old new before after status) (sym e) (λ k. k) h
+
+-- the answer of a folder that keeps what is read, which stands for the one behind it
+pub explained_so : (request : Request) (old first last new : Option Files) (before mid after : Option (List ℕ)) → Keeps mid after
+    → (ended sent : Result Status Fault) → IfOk ended (IsDone request first last before mid) → IfErr ended (IsNotDone request first before mid)
+    → OnErr ended (KeepsFiles first last) → IfErr ended (λ fault. IsSilent request fault before mid) → IsSentOn ended sent
+    → (status : ℕ) → status ≡ status_number (end_status sent) → first ≡ old → last ≡ new → IsAnswered request old new before after status
+explained_so request old first last new before mid after keeps ended sent d n k q e status is here there =
+    let told = answered_so request first last before mid after keeps ended sent d n k q e status is in
+    subst (λ (x : Option Files). IsAnswered request old x before after status) there
+    (subst (λ (x : Option Files). IsAnswered request x last before after status) here told)

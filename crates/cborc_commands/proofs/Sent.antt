@@ -1,0 +1,91 @@
+-- What standard output took stays told once it is sent on.
+use Rattle.std.proofs.Common.{ℕ, ◌≡◌, List, Option, Some, None, Result, Ok, Err, inl, inr, ◌⊎◌, ◌∙◌}
+use Rattle.std.specs.Io.KnownBytes.{Appends, Keeps}
+use Rattle.std.proofs.KnownBytes.{Keeps-trans}
+use Rattle.cbor_diag.specs.Listing.{IsListed, IsUnlisted, of_verdict, of_reader, of_writer}
+use Rattle.cbor_head.specs.declared.reason.Refusal.{Refusal}
+use Rattle.cborc_commands.specs.Answer.{IsDone, IsNotDone}
+use Rattle.cborc_commands.specs.Canon.{IsPut, printed, written}
+use Rattle.cborc_commands.specs.Compare.{IsTold}
+use Rattle.cborc_commands.specs.Events.{IsNotListed, IsNotListedOf}
+use Rattle.cborc_commands.specs.Folder.{Files}
+use Rattle.cborc_commands.specs.Told.{IsSilent}
+use Rattle.cborc_commands.specs.declared.request.Options.{Options}
+use Rattle.cborc_commands.specs.declared.request.Request.{Request}
+use Rattle.cborc_commands.specs.declared.request.Request.TheVariants.{Check, CheckSequence, Canon, Compare, Show, Events}
+use Rattle.cborc_commands.specs.declared.fault.Fault.{Fault}
+use Rattle.cborc_commands.specs.declared.fault.Fault.TheVariants as faults
+use Rattle.cborc_commands.specs.declared.status.Status.{Status}
+use Rattle.cborc_commands.specs.declared.status.Status.TheVariants as statuses
+
+pub appends_kept : (a b c : Option (List ℕ)) (bs : List ℕ) → Appends a b bs → Keeps b c → Appends a c bs
+appends_kept None b c bs h k = tt
+appends_kept (Some x) None c bs h k = absurd h
+appends_kept (Some x) (Some y) None bs h k = absurd k
+appends_kept (Some x) (Some y) (Some z) bs h k = k ∙ h
+
+module _ (before mid after : Option (List ℕ)) (keeps : Keeps mid after) where
+  put_sent : (path : List ℕ) (old new : Option Files) (text : List ℕ) → IsPut path old new before mid text → IsPut path old new before after text
+  put_sent path old new text (printed s p k) = printed s (appends_kept before mid after text p keeps) k
+  put_sent path old new text (written s r o) = written s r (Keeps-trans before mid after o keeps)
+
+  told_sent : (d n : ℕ) (left right : List ℕ) (s : Status) → IsTold d n left right before mid s → IsTold d n left right before after s
+  told_sent d n left right statuses.Accepted (a, m, t) = (a, m, appends_kept before mid after _ t keeps)
+  told_sent d n left right statuses.Refused (a, m, t) = (a, m, appends_kept before mid after _ t keeps)
+  told_sent d n left right _ h = absurd h
+
+  listed_sent : (d n : ℕ) (input : List ℕ) (count : ℕ) → IsListed d n input count before mid → IsListed d n input count before after
+  listed_sent d n input count h = record {
+    item = h.item;
+    verdict = h.verdict;
+    size = h.size;
+    written = appends_kept before mid after _ h.written keeps;
+  }
+
+  unlisted_sent : (d n : ℕ) (input : List ℕ) (f : Refusal) → IsUnlisted d n input f before mid → IsUnlisted d n input f before after
+  unlisted_sent d n input f (of_verdict out v l a) = of_verdict out v l (appends_kept before mid after out a keeps)
+  unlisted_sent d n input f (of_reader out e v l a) = of_reader out e v l (appends_kept before mid after out a keeps)
+  unlisted_sent d n input f (of_writer out e s a) = of_writer out e s (appends_kept before mid after out a keeps)
+
+  not_listed_sent : (d n : ℕ) (input : List ℕ) (fault : Fault) → IsNotListed d n input before mid fault → IsNotListed d n input before after fault
+  not_listed_sent d n input (faults.Refused f) (inl (h, l)) = inl (unlisted_sent d n input f h, l)
+  not_listed_sent d n input (faults.Refused f) (inr h) = inr (record { size = h.size; listed = listed_sent d n input h.size h.listed; followed = h.followed; is = h.is })
+  not_listed_sent d n input faults.CannotPrint (f, h, l, e) = (f, unlisted_sent d n input f h, l, e)
+  not_listed_sent d n input _ h = absurd h
+
+  events_sent : (options : Options) (source : List ℕ) (held : Option Files) (fault : Fault) → IsNotListedOf options source held before mid fault
+      → IsNotListedOf options source held before after fault
+  events_sent options source held (faults.Refused f) (input, is, h) = (input, is, not_listed_sent options.limits.depth options.limits.bytes input (faults.Refused f) h)
+  events_sent options source held faults.CannotPrint (input, is, h) = (input, is, not_listed_sent options.limits.depth options.limits.bytes input faults.CannotPrint h)
+  events_sent options source held (faults.CannotRead named) h = h
+  events_sent options source held (faults.NotHex named) h = h
+  events_sent options source held faults.Memory h = h
+  events_sent options source held _ h = absurd h
+
+  pub done_sent : (request : Request) (old new : Option Files) (s : Status) → IsDone request old new before mid s → IsDone request old new before after s
+  done_sent (Check source accepted options) old new statuses.Accepted (h, k) =
+      (record { input = h.input; is = h.is; size = h.size; whole = h.whole; told = appends_kept before mid after _ h.told keeps }, k)
+  done_sent (CheckSequence source accepted options) old new statuses.Accepted (h, k) =
+      (record { input = h.input; is = h.is; count = h.count; whole = h.whole; told = appends_kept before mid after _ h.told keeps }, k)
+  done_sent (Canon source output order options) old new statuses.Accepted h =
+      record { input = h.input; is = h.is; text = h.text; canonical = h.canonical; put = put_sent output.path.now old new h.text h.put }
+  done_sent (Show source layout options) old new statuses.Accepted (h, k) =
+      (record { input = h.input; is = h.is; value = h.value; whole = h.whole; shown = appends_kept before mid after _ h.shown keeps }, k)
+  done_sent (Events source options) old new statuses.Accepted (h, k) =
+      (record { input = h.input; is = h.is; listed = listed_sent _ _ h.input _ h.listed }, k)
+  done_sent (Compare left right options) old new s (h, k) =
+      (record { first = h.first; second = h.second; are = h.are; told = told_sent _ _ h.first h.second s h.told }, k)
+  done_sent _ old new _ h = absurd h
+
+  pub not_done_sent : (request : Request) (held : Option Files) (fault : Fault) → IsNotDone request held before mid fault → IsNotDone request held before after fault
+  not_done_sent (Check source accepted options) held fault h = h
+  not_done_sent (CheckSequence source accepted options) held fault h = h
+  not_done_sent (Canon source output order options) held fault h = h
+  not_done_sent (Show source layout options) held fault h = h
+  not_done_sent (Events source options) held fault h = events_sent options source.now held fault h
+  not_done_sent (Compare left right options) held fault h = h
+
+  pub silent_sent : (request : Request) (fault : Fault) → IsSilent request fault before mid → IsSilent request fault before after
+  silent_sent (Events source options) fault h = tt
+  silent_sent _ faults.CannotPrint h = tt
+  silent_sent _ _ h = Keeps-trans before mid after h keeps

@@ -1,0 +1,7 @@
+use Rattle.std.proofs.lemmas.Result.{err_from_is_err_and}
+use Rattle.cborc_commands.proofs.answer.answer.Goals as goal
+
+pub returns-in_err-events-in-Events-clause-fault : goal.returns-in_err-events-in-Events-clause-fault
+returns-in_err-events-in-Events-clause-fault g c =
+    let p = err_from_is_err_and c.from_residual-in_err-events-in-Events.result c.from_residual-in_err-events-in-Events.ensures.1 in
+    rw (p.1, p.2) (rw c.in-Events.is c.in_err-events-in-Events.ensures.fault)

@@ -1,0 +1,18 @@
+use Rattle.std.proofs.lemmas.Result.{err_from_is_err_and}
+use Rattle.cborc_commands.proofs.Faults.{on_ok, canonised, no_text}
+use Rattle.cborc_commands.proofs.canon.canon.Goals as goal
+
+pub returns-in_err-text-clause-fault : goal.returns-in_err-text-clause-fault
+returns-in_err-text-clause-fault g c =
+    let p = err_from_is_err_and c.from_residual-in_err-text.result c.from_residual-in_err-text.ensures.1 in
+    rw (p.1, p.2)
+    (no_text c.args.order c.args.options c.args.source.now c.args.output (g.F.Folder.held c.args.files.now) c.in_ok-bytes.bytes.items c.in_ok-bytes.ensures.front _
+    (rw (c.as_slice.ensures.value) at c.in_err-text.ensures.fault))
+
+pub returns-clause-written : goal.returns-clause-written
+returns-clause-written g c =
+    on_ok c.put.result _ _
+    (λ p. canonised c.args.order c.args.options c.args.source.now c.args.output (g.F.Folder.held c.args.files.now) (g.F.Folder.held c.read_item.new.files)
+    (g.F.Folder.held c.put.new.files) (g.O.Write.contents c.args.out.now) (g.O.Write.contents c.put.new.out) c.in_ok-bytes.bytes.items c.in_ok-text.text.items
+    c.in_ok-bytes.ensures.front (rw (c.as_slice.ensures.value) at c.in_ok-text.ensures.text) c.read_item.ensures.keeps (rw (c.as_slice-2.ensures.value) at p))
+    c.put.ensures.put

@@ -1,0 +1,66 @@
+-- What `check --seq` asks of a file's bytes (RFC 8742).
+use Rattle.std.specs.Prelude.{ℕ, ◌+◌, ◌≡◌, ◌≢◌, ◌<◌, ◌++◌, List, [], length, Option, codes, decimal}
+use Rattle.std.specs.Io.KnownBytes.{Appends}
+use Rattle.cbor_head.specs.Complaint.{Rules}
+use Rattle.cbor_head.specs.Limits.{Bounds}
+use Rattle.cbor_head.specs.Spelling.{Spelling}
+use Rattle.cbor_head.specs.declared.reason.Reason.TheVariants.{Read, Memory}
+use Rattle.cbor_head.specs.declared.reason.Refusal.{Refusal}
+use Rattle.cbor_strict.specs.Readers.{IsUnread}
+use Rattle.cbor_reader.specs.Sequence.{sequence_bytes, StartsWithItems, EndsBefore, Given, AreGivenBy, HasGiven}
+use Rattle.cborc_commands.specs.Folder.{Files}
+use Rattle.cborc_commands.specs.Input.{IsInput, IsNoInput}
+use Rattle.cborc_commands.specs.declared.request.Options.{Options}
+use Rattle.cborc_commands.specs.declared.fault.Fault.{Fault}
+use Rattle.cborc_commands.specs.declared.fault.Fault.TheVariants as faults
+
+-- the whole input is a sequence of so many items, each accepted by the rules within depth d and n bytes
+pub record IsWholeSequence (d n : ℕ) (rules : Rules) (input : List ℕ) (count : ℕ) : Type 0 where
+  pub items : List Spelling
+  pub starts : StartsWithItems d n rules input items []
+  pub count_is : count ≡ length items
+  -- the limit would let an item have a byte
+  pub some : 0 < n
+
+-- It isn't: behind the items before this one, counted from 1 and starting there, none is accepted.
+pub record IsRefusedAt (d n : ℕ) (rules : Rules) (input : List ℕ) (index start : ℕ) (f : Refusal) : Type 0 where
+  pub items : List Spelling
+  pub rest : List ℕ
+  pub starts : StartsWithItems d n rules input items rest
+  pub index_is : index ≡ length items + 1
+  pub start_is : start ≡ length (sequence_bytes items)
+  pub unread : IsUnread d n rules rest f
+  pub begun : f.reason ≢ Read → f.reason ≢ Memory → ¬ EndsBefore n rest
+
+-- by one rule so many items were given of the input
+pub record HasCounted (b : Bounds) (rules : Rules) (held : Option (List ℕ)) (input : List ℕ) (count : ℕ) : Type 0 where
+  pub given : List Given
+  pub run : HasGiven b held input given
+  pub by_one : AreGivenBy rules given
+  pub count_is : count ≡ length given
+
+-- the line of a sequence that is accepted, of so many items
+abbrev pub accepted_items : ℕ → List ℕ
+accepted_items count = codes "accepted " ++ decimal count ++ codes " items\n"
+
+-- the input at a path is a sequence of items that are accepted, and standard output took its line
+pub record IsSequenceChecked (rules : Rules) (options : Options) (source : List ℕ) (held : Option Files) (before after : Option (List ℕ)) : Type 0 where
+  pub input : List ℕ
+  pub is : IsInput held source options.hex input
+  pub count : ℕ
+  pub whole : IsWholeSequence options.limits.depth options.limits.bytes rules input count
+  pub told : Appends before after (accepted_items count)
+
+-- it is, and standard output took not all of its line
+pub record IsUntoldSequence (rules : Rules) (options : Options) (source : List ℕ) (held : Option Files) : Type 0 where
+  pub input : List ℕ
+  pub is : IsInput held source options.hex input
+  pub count : ℕ
+  pub whole : IsWholeSequence options.limits.depth options.limits.bytes rules input count
+
+-- why nothing is told: an item is refused, there is no input, or standard output failed
+abbrev pub IsSequenceNotChecked : Rules → Options → List ℕ → Option Files → Fault → Type 0
+IsSequenceNotChecked rules options source held (faults.RefusedItem index start f) =
+    (input : List ℕ) × IsInput held source options.hex input × IsRefusedAt options.limits.depth options.limits.bytes rules input index start f
+IsSequenceNotChecked rules options source held faults.CannotPrint = IsUntoldSequence rules options source held
+IsSequenceNotChecked rules options source held fault = IsNoInput held source options.hex fault

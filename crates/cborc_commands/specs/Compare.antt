@@ -1,0 +1,58 @@
+-- What `compare` tells of two inputs.
+use Rattle.std.specs.Prelude.{ℕ, ◌≡◌, ◌⊎◌, List, Option, codes}
+use Rattle.std.specs.Io.KnownBytes.{Appends}
+use Rattle.cbor_head.specs.declared.reason.Reason.TheVariants as reasons
+use Rattle.cbor_head.specs.declared.reason.Refusal.{Refusal}
+use Rattle.cbor_reader.specs.Comparing.{MeanTheSame, IsSideRefusal}
+use Rattle.cbor_reader.specs.WholeItem.{IsWholeItem}
+use Rattle.cbor_reader.specs.declared.comparison.Side.{Side}
+use Rattle.cbor_reader.specs.declared.comparison.Side.TheVariants.{Left, Right}
+use Rattle.cborc_commands.specs.Folder.{Files}
+use Rattle.cborc_commands.specs.Input.{IsInput, IsNoInput}
+use Rattle.cborc_commands.specs.declared.request.Options.{Options}
+use Rattle.cborc_commands.specs.declared.fault.Fault.{Fault}
+use Rattle.cborc_commands.specs.declared.fault.Fault.TheVariants as faults
+use Rattle.cborc_commands.specs.declared.status.Status.{Status}
+use Rattle.cborc_commands.specs.declared.status.Status.TheVariants.{Accepted, Refused}
+
+-- both are whole valid items within depth d and n bytes
+abbrev pub AreAccepted : ℕ → ℕ → List ℕ → List ℕ → Type 0
+AreAccepted d n left right = IsWholeItem d n left × IsWholeItem d n right
+
+-- they are, and the status and the line that standard output took say whether they mean the same
+abbrev pub IsTold : ℕ → ℕ → List ℕ → List ℕ → Option (List ℕ) → Option (List ℕ) → Status → Type 0
+IsTold d n left right old new Accepted = AreAccepted d n left right × MeanTheSame d n left right × Appends old new (codes "same\n")
+IsTold d n left right old new Refused = AreAccepted d n left right × ¬ MeanTheSame d n left right × Appends old new (codes "different\n")
+IsTold d n left right old new _ = ⊥
+
+-- why nothing is told: a side is refused, or standard output took not all of the line
+abbrev pub IsUntold : ℕ → ℕ → List ℕ → List ℕ → Fault → Type 0
+IsUntold d n left right (faults.LeftRefused f) = IsSideRefusal d n left right Left f
+IsUntold d n left right (faults.RightRefused f) = IsSideRefusal d n left right Right f
+IsUntold d n left right faults.Memory = (side : Side) × (f : Refusal) × IsSideRefusal d n left right side f × (f.reason ≡ reasons.Memory)
+IsUntold d n left right faults.CannotPrint = AreAccepted d n left right
+IsUntold d n left right _ = ⊥
+
+-- the inputs at two paths
+pub record AreInputs (held : Option Files) (left right : List ℕ) (options : Options) (first second : List ℕ) : Type 0 where
+  pub left_is : IsInput held left options.hex first
+  pub right_is : IsInput held right options.hex second
+
+-- both are accepted, and the status and the line tell whether they mean the same
+pub record AreCompared (options : Options) (left right : List ℕ) (held : Option Files) (before after : Option (List ℕ)) (status : Status) : Type 0 where
+  pub first : List ℕ
+  pub second : List ℕ
+  pub are : AreInputs held left right options first second
+  pub told : IsTold options.limits.depth options.limits.bytes first second before after status
+
+-- they are not, for this fault
+pub record AreUntold (options : Options) (left right : List ℕ) (held : Option Files) (fault : Fault) : Type 0 where
+  pub first : List ℕ
+  pub second : List ℕ
+  pub are : AreInputs held left right options first second
+  pub untold : IsUntold options.limits.depth options.limits.bytes first second fault
+
+-- Why nothing is told: there are both inputs, and one is refused or the line was not taken; or one of them is not there.
+abbrev pub AreNotCompared : Options → List ℕ → List ℕ → Option Files → Fault → Type 0
+AreNotCompared options left right held fault =
+    AreUntold options left right held fault ⊎ IsNoInput held left options.hex fault ⊎ IsNoInput held right options.hex fault

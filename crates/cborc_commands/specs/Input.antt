@@ -1,0 +1,32 @@
+-- What a subcommand takes of an input.
+use Rattle.std.specs.Prelude.{ℕ, ◌≡◌, Bool, true, false, List, take, Option, Ok, IsErr}
+use Rattle.std.specs.List.{filter}
+use Rattle.hex.specs.Hex.{decode_of}
+use Rattle.cborc_commands.specs.Folder.{Files, Holds}
+use Rattle.cborc_commands.specs.Hex.{is_kept}
+use Rattle.cborc_commands.specs.declared.fault.Fault.{Fault}
+use Rattle.cborc_commands.specs.declared.fault.Fault.TheVariants as faults
+
+-- The bytes that an input is: those that the file at this path holds, or, where its text is hex digits, those that they spell
+-- without its white space.
+abbrev pub IsInput : Option Files → List ℕ → Bool → List ℕ → Type 0
+IsInput held path false input = Holds held path input
+IsInput held path true input = (text : List ℕ) × Holds held path text × (decode_of (filter is_kept text) ≡ Ok input)
+
+-- these bytes are the input's first ones: all of them, or so many
+pub record StartsInput (held : Option Files) (path : List ℕ) (hex : Bool) (most : ℕ) (bytes : List ℕ) : Type 0 where
+  pub input : List ℕ
+  pub is : IsInput held path hex input
+  pub front : bytes ≡ take most input
+
+-- a text that was read spells no bytes
+abbrev pub IsNotHex : Option Files → List ℕ → Bool → Type 0
+IsNotHex held path true = (text : List ℕ) × Holds held path text × IsErr (decode_of (filter is_kept text))
+IsNotHex held path false = ⊥
+
+-- why there is no input: the file is not to be had, or is no hex text; or memory was refused
+abbrev pub IsNoInput : Option Files → List ℕ → Bool → Fault → Type 0
+IsNoInput held path hex (faults.CannotRead named) = named.now ≡ path
+IsNoInput held path hex (faults.NotHex named) = (named.now ≡ path) × IsNotHex held path hex
+IsNoInput held path hex faults.Memory = Unit {0}
+IsNoInput held path hex _ = ⊥

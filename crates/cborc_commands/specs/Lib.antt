@@ -1,0 +1,14 @@
+pub mod Answer
+pub mod Canon
+pub mod Check
+pub mod CheckSequence
+pub mod Compare
+pub mod Events
+pub mod Explained
+pub mod Fault
+pub mod Folder
+pub mod Hex
+pub mod InMemory
+pub mod Input
+pub mod Show
+pub mod Told

@@ -1,0 +1,42 @@
+-- What the answer to a request leaves, in the manner in which it is told.
+use Rattle.std.specs.Prelude.{ℕ, ◌≡◌, ◌⊎◌, List, Option, None}
+use Rattle.std.specs.Io.KnownBytes.{Keeps}
+use Rattle.cborc_commands.specs.Answer.{IsDone, IsNotDone}
+use Rattle.cborc_commands.specs.Fault.{fault_status, status_number}
+use Rattle.cborc_commands.specs.Folder.{Files, KeepsFiles}
+use Rattle.cborc_commands.specs.declared.request.Manner.{Manner}
+use Rattle.cborc_commands.specs.declared.request.Manner.TheVariants.{Quiet}
+use Rattle.cborc_commands.specs.declared.request.Request.{Request}
+use Rattle.cborc_commands.specs.declared.request.Request.TheVariants.{Canon, Events}
+use Rattle.cborc_commands.specs.declared.fault.Fault.{Fault}
+use Rattle.cborc_commands.specs.declared.fault.Fault.TheVariants as faults
+use Rattle.cborc_commands.specs.declared.status.Status.{Status}
+
+-- the faults after which standard output has what it had: all but its own; `events` writes lines before a refusal
+abbrev pub IsSilent : Request → Fault → Option (List ℕ) → Option (List ℕ) → Type 0
+IsSilent (Events source options) fault before after = Unit {0}
+IsSilent request faults.CannotPrint before after = Unit {0}
+IsSilent request fault before after = Keeps before after
+
+-- this status; or 3, where standard output did not send on what it took
+abbrev pub IsStatus : Status → ℕ → Type 0
+IsStatus s status = (status ≡ status_number s) ⊎ (status ≡ 3)
+
+-- what the answer to a request leaves
+pub data IsAnswered (request : Request) (old new : Option Files) (before after : Option (List ℕ)) (status : ℕ) : Type 0 where
+  -- it is done, and the status is that of its answer
+  done : (s : Status) → IsDone request old new before after s → IsStatus s status → IsAnswered request old new before after status
+  -- it is not done, for this fault, whose status it is; no file is changed
+  stopped : (fault : Fault) → IsNotDone request old before after fault → KeepsFiles old new → IsSilent request fault before after
+      → IsStatus (fault_status fault) status → IsAnswered request old new before after status
+
+-- the same with nothing told: standard output takes canonical bytes alone
+abbrev pub IsAnsweredQuietly : Request → Option Files → Option Files → Option (List ℕ) → Option (List ℕ) → ℕ → Type 0
+IsAnsweredQuietly (Canon source output order options) old new before after status =
+    IsAnswered (Canon source output order options) old new before after status
+IsAnsweredQuietly request old new before after status = IsAnswered request old new None None status × Keeps before after
+
+-- what a request leaves that is told in a manner; an explanation goes to standard error
+abbrev pub IsToldBy : Manner → Request → Option Files → Option Files → Option (List ℕ) → Option (List ℕ) → ℕ → Type 0
+IsToldBy Quiet request old new before after status = IsAnsweredQuietly request old new before after status
+IsToldBy _ request old new before after status = IsAnswered request old new before after status

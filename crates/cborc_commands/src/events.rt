@@ -1,0 +1,60 @@
+//! The subcommand `events`: the listing of an item's events.
+
+ghost use Rattle.std.specs.Prelude.{◌≡◌, length, OnOk, IfErr};
+ghost use Rattle.cbor_diag.specs.Listing.{IsListed};
+ghost use Rattle.cborc_commands.specs.Events.{IsNotListed, IsListedOf, IsNotListedOf};
+ghost use Rattle.cborc_commands.specs.Folder.{KeepsFiles};
+
+use crate::request::Options;
+use crate::fault::Fault;
+use crate::folder::Folder;
+use crate::input;
+use cbor_diag::listing;
+use cbor_head::{Limits, Reason, Refusal};
+use std::alloc::Global;
+use std::io::Write;
+
+/// Writes to `out` a line for each event of the item that the file `source` is, but for the pieces
+/// of payloads. What was written before a refusal stays.
+pub fn events<'a, F: Folder, O: Write>(
+    alloc: Global,
+    files: &mut F,
+    out: &mut O,
+    source: &'a str,
+    options: Options,
+) -> Result<(), Fault<'a>>
+    ensures listed { OnOk result (IsListedOf options source.now
+        (F.held files.old) (O.contents out.old) (O.contents out.new)) }
+    ensures fault { IfErr result (IsNotListedOf options source.now
+        (F.held files.old) (O.contents out.old) (O.contents out.new)) }
+    ensures keeps { KeepsFiles (F.held files.old) (F.held files.new) }
+    ensures same { F.behind files.new ≡ F.behind files.old }
+{
+    let limits = options.limits;
+    let bytes = input::read_item(alloc, files, source, options)?;
+    list(bytes.as_slice(), limits, out)
+}
+
+// Writes the lines of the item that all the bytes are; the refusal is that of its form, then
+// `Trailing`.
+fn list<'a, W: Write>(bytes: &[u8], limits: Limits, out: &mut W) -> Result<(), Fault<'a>>
+    ensures listed { OnOk result (IsListed limits.depth limits.bytes bytes.now
+        (length bytes.now) (W.contents out.old) (W.contents out.new)) }
+    ensures fault { IfErr result (IsNotListed limits.depth limits.bytes bytes.now
+        (W.contents out.old) (W.contents out.new)) }
+{
+    let mut reader = bytes;
+    match listing(&mut reader, limits, out) {
+        Ok(size) => {
+            if reader.is_empty() {
+                Ok(())
+            } else {
+                Err(Fault::Refused(Refusal::at(Reason::Trailing, size)))
+            }
+        }
+        Err(refusal) => match refusal.reason {
+            Reason::Write => Err(Fault::CannotPrint),
+            _ => Err(Fault::Refused(refusal)),
+        },
+    }
+}

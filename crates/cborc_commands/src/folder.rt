@@ -1,0 +1,62 @@
+//! Where files come from and go to.
+
+ghost use Rattle.std.specs.Prelude.{◌≡◌, Option, None, IfOk};
+ghost use Rattle.std.specs.Borrow.{GName};
+ghost use Rattle.cborc_commands.specs.Folder.{Files, is_stream, Holds, StartsFile, KeepsFiles, WritesFile};
+
+use std::alloc::Global;
+use std::io::ErrorKind;
+
+/// Why a file was not read or not written.
+#[derive(Clone, Copy, Debug, PartialEq, Eq)]
+pub enum FileFault {
+    /// The file is not to be had, or the folder failed.
+    Failed,
+    /// Memory was refused.
+    Memory,
+}
+
+/// Files by their paths. The path `-` is standard input where it is read, and is not written.
+pub trait Folder {
+    // What each path holds, where the folder tells.
+    ghost held: { Self → Option Files } = { λ _. None };
+
+    // The reference to the folder behind this one, where it passes all on to another.
+    ghost behind: { Self → Option GName } = { λ _. None };
+
+    /// Reads a file whole.
+    fn read(&mut self, alloc: Global, path: &str) -> Result<Vec<u8>, FileFault>
+        ensures gives { IfOk result (λ v. Holds (held self.old) path.now v.items) }
+        ensures keeps { KeepsFiles (held self.old) (held self.new) }
+        ensures same { behind self.new ≡ behind self.old };
+
+    /// Writes a file whole, in place of what it held, or leaves all files as they were.
+    fn write(&mut self, path: &str, bytes: &[u8]) -> Result<(), FileFault>
+        ensures writes { WritesFile (held self.old) (held self.new) result path.now bytes.now }
+        ensures same { behind self.new ≡ behind self.old };
+
+    /// Reads a file's first bytes, so many if it has them. A folder that can read less than a whole
+    /// file does so.
+    fn read_front(&mut self, alloc: Global, path: &str, most: u64) -> Result<Vec<u8>, FileFault>
+        ensures gives { IfOk result (λ v. StartsFile (held self.old) path.now most v.items) }
+        ensures keeps { KeepsFiles (held self.old) (held self.new) }
+        ensures same { behind self.new ≡ behind self.old }
+    {
+        let mut bytes = self.read(alloc, path)?;
+        bytes.truncate(most as usize);
+        Ok(bytes)
+    }
+
+    /// What kind of error the last call met that failed, if the folder tells.
+    fn cause(&self) -> Option<ErrorKind> {
+        None
+    }
+}
+
+/// Whether a path stands for a standard stream: `-` is standard input where it is read, and standard
+/// output where it is written.
+pub fn is_stream(path: &str) -> bool
+    ensures { result ≡ is_stream path.now }
+{
+    path == "-"
+}

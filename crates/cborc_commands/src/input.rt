@@ -1,0 +1,80 @@
+//! The bytes of an input.
+
+ghost use Rattle.std.specs.Prelude.{◌≡◌, ◌+◌, IfOk, IfErr, true};
+ghost use Rattle.cborc_commands.specs.Folder.{KeepsFiles};
+ghost use Rattle.cborc_commands.specs.Input.{IsInput, StartsInput, IsNoInput};
+
+use crate::request::Options;
+use crate::fault::Fault;
+use crate::folder::Folder;
+use crate::hex_text::decode_hex;
+use std::alloc::Global;
+
+/// The first bytes of the input at this path: as many as decide whether it is one item within the
+/// limits, the byte limit and one more. With `hex` its digits are read whole.
+pub fn read_item<'a, F: Folder>(
+    alloc: Global,
+    files: &mut F,
+    path: &'a str,
+    options: Options,
+) -> Result<Vec<u8>, Fault<'a>>
+    ensures front { IfOk result (λ v. StartsInput (F.held files.old) path.now options.hex
+        (options.limits.bytes + 1) v.items) }
+    ensures fault { IfErr result (IsNoInput (F.held files.old) path.now options.hex) }
+    ensures keeps { KeepsFiles (F.held files.old) (F.held files.new) }
+    ensures same { F.behind files.new ≡ F.behind files.old }
+{
+    let most = options.limits.bytes() + 1;
+    if options.hex {
+        let mut bytes = read_digits(alloc, files, path)?;
+        bytes.truncate(most as usize);
+        Ok(bytes)
+    } else {
+        match files.read_front(alloc, path, most) {
+            Ok(bytes) => Ok(bytes),
+            Err(fault) => Err(Fault::of_reading(path, fault)),
+        }
+    }
+}
+
+/// All bytes of the input at this path.
+pub fn read_all<'a, F: Folder>(
+    alloc: Global,
+    files: &mut F,
+    path: &'a str,
+    options: Options,
+) -> Result<Vec<u8>, Fault<'a>>
+    ensures whole { IfOk result (λ v. IsInput (F.held files.old) path.now options.hex v.items) }
+    ensures fault { IfErr result (IsNoInput (F.held files.old) path.now options.hex) }
+    ensures keeps { KeepsFiles (F.held files.old) (F.held files.new) }
+    ensures same { F.behind files.new ≡ F.behind files.old }
+{
+    if options.hex {
+        read_digits(alloc, files, path)
+    } else {
+        match files.read(alloc, path) {
+            Ok(bytes) => Ok(bytes),
+            Err(fault) => Err(Fault::of_reading(path, fault)),
+        }
+    }
+}
+
+// The bytes that the hex digits of the input spell.
+fn read_digits<'a, F: Folder>(
+    alloc: Global,
+    files: &mut F,
+    path: &'a str,
+) -> Result<Vec<u8>, Fault<'a>>
+    ensures whole { IfOk result (λ v. IsInput (F.held files.old) path.now true v.items) }
+    ensures fault { IfErr result (IsNoInput (F.held files.old) path.now true) }
+    ensures keeps { KeepsFiles (F.held files.old) (F.held files.new) }
+    ensures same { F.behind files.new ≡ F.behind files.old }
+{
+    match files.read(alloc, path) {
+        Ok(text) => match decode_hex(alloc, text) {
+            Ok(bytes) => Ok(bytes),
+            Err(error) => Err(Fault::of_hex(path, error)),
+        },
+        Err(fault) => Err(Fault::of_reading(path, fault)),
+    }
+}
