@@ -7,7 +7,7 @@ from collections import namedtuple
 from reference import Refusal
 
 ROOT = os.path.dirname(os.path.dirname(os.path.abspath(__file__)))
-TABLE = f"{ROOT}/crates/cbor_reader/src/tests/conformance_table.rt"
+TABLE = f"{ROOT}/crates/cbor_reader_tests/src/tests/conformance_table.rt"
 
 # By the two orders: the canonical bytes or a refusal, and how many bytes the strict reader takes or a refusal.
 Row = namedtuple("Row", "given depth most canonical strict")

@@ -28,7 +28,7 @@ HEADLINE = {("cbor_reader", "canonicalise"), ("cbor_strict", "read_strict")}
 
 # How many names a crate still takes from inner words of the crates below it. The
 # number may fall, and may not rise.
-DEBT_ALLOWED = {"cbor_strict": 28, "cbor_reader": 50, "cbor_diag": 2, "cbor_explain": 0, "cborc": 0, "naltvigo": 0}
+DEBT_ALLOWED = {"cbor_strict": 28, "cbor_reader": 50, "cbor_diag": 2, "cbor_explain": 0, "cborc_commands": 0, "cborc": 0, "naltvigo": 0}
 
 NAME = re.compile(r"[^\s(){}\[\],;]+")
 IMPORT = re.compile(r"^(?:pub )?use (Rattle\.[^\s.{]+(?:\.[^\s.{]+)*)(?:\.\{(.*)\}| as (\S+))?$")
@@ -198,11 +198,11 @@ def parse_source(path, crate, names, modules):
             head = re.sub(r"^impl\s*(<[^{]*?>)?\s*", "", head.replace("\n", " "))
             of_trait = " for " in head
             target = head.split(" for ")[-1].strip()
-            owner = (re.match(r"&?(?:mut )?(\w+)", target).group(1), of_trait)
+            owner = (re.match(r"&?(?:mut )?(\w+)", target).group(1), of_trait, False)
             owner_end = blocks(text, match.end() - 1)[1]
             place = match.end()
         elif match.group("trait"):
-            owner = (match.group("traitname"), False)
+            owner = (match.group("traitname"), False, True)
             owner_end = blocks(text, match.end() - 1)[1]
             place = match.end()
         elif match.group("ghost"):
@@ -220,7 +220,8 @@ def parse_source(path, crate, names, modules):
             if names is None:
                 is_public = True
             elif owner is not None:
-                is_public = bool(match.group("pub")) and owner[0] in names
+                # a method of a public trait is as public as the trait
+                is_public = (owner[2] or bool(match.group("pub"))) and owner[0] in names
             else:
                 is_public = bool(match.group("pub")) and (name in names or relative[0] in modules)
             function = Function(crate, name, is_public)

@@ -60,8 +60,8 @@ done
 
 # ---- the tests
 
-python3 "$c/rows.py" "$root/crates/cbor_reader/src/tests/conformance_table.rt" >"$room/rows.h"
-python3 "$c/events.py" "$root/crates/cbor_events/src/tests" >"$room/events.h"
+python3 "$c/rows.py" "$root/crates/cbor_reader_tests/src/tests/conformance_table.rt" >"$room/rows.h"
+python3 "$c/events.py" "$root/crates/cbor_events_tests/src/tests" >"$room/events.h"
 flags=(-std=c99 -pedantic -Wall -Wextra -Werror -D_POSIX_C_SOURCE=200112L "-I$dist/include" "-I$room")
 shared=("-L$dist/lib" -lnaltvigo "-Wl,-rpath,$dist/lib")
 run() {

@@ -4,7 +4,7 @@
 These are wrong bodies that no clause speaks against: a read that failed is tried again, single bytes are asked
 for, memory is asked for by the length in a head. The tests are built without a proof, one at a time, and each has
 to pass where nothing is edited. An edit has the form of the must-fail edits of the crates, behind lines with its
-crate and its test.
+crate, its test and the crate where that stands.
 
     scripts/test_edits.py [NAME ..]
 """
@@ -21,7 +21,7 @@ EDITS = os.path.join(ROOT, "fuzz", "edits")
 
 
 def read_edit(name):
-    """The crate, the test, and the (file, old, new) of an edit."""
+    """The crate, the crate of the test, the test, and the (file, old, new) of an edit."""
     with open(os.path.join(EDITS, name + ".edit"), encoding="utf-8") as file:
         lines = [line.partition(": ") for line in file.read().splitlines()]
     words, old, changes = {}, None, []
@@ -32,7 +32,7 @@ def read_edit(name):
             changes.append((words["file"], old, text))
         else:
             words[word] = text
-    return words["crate"], words["test"], changes
+    return words["crate"], words["tests"], words["test"], changes
 
 
 def change(path, edit):
@@ -60,9 +60,9 @@ def run_test(folder, test):
     return result[1] == "1", said
 
 
-def refuses(name, folder, test, changes):
+def refuses(name, folder, tests, test, changes):
     """Whether the test passes as the crate stands, and fails with the edit."""
-    is_passed, said = run_test(folder, test)
+    is_passed, said = run_test(tests, test)
     if not is_passed:
         print(f"edits: {name}: {test} fails without the edit:\n{said[-2000:]}")
         return False
@@ -74,7 +74,7 @@ def refuses(name, folder, test, changes):
             print(f"edits: {name}: stands {count} times in {file}: {old}")
             return False
         change(path, lambda text: text.replace(old, new))
-    is_passed, said = run_test(folder, test)
+    is_passed, said = run_test(tests, test)
     if is_passed:
         print(f"edits: {name}: {test} passes with the edit")
         return False
@@ -86,7 +86,7 @@ def main():
     names = sys.argv[1:] or sorted(it.removesuffix(".edit") for it in os.listdir(EDITS))
     wrong = 0
     for name in names:
-        crate, test, changes = read_edit(name)
+        crate, tests, test, changes = read_edit(name)
         with tempfile.TemporaryDirectory() as room:
             for part in ("crates", "crates.txt", "HANDLES"):
                 source, to = os.path.join(ROOT, part), os.path.join(room, part)
@@ -94,9 +94,9 @@ def main():
                     shutil.copytree(source, to, ignore=shutil.ignore_patterns("out", "must-fail", "proofs"))
                 else:
                     shutil.copy(source, to)
-            folder = os.path.join(room, "crates", crate)
-            keep_test(folder, test)
-            wrong += not refuses(name, folder, test, changes)
+            folder, tests = (os.path.join(room, "crates", it) for it in (crate, tests))
+            keep_test(tests, test)
+            wrong += not refuses(name, folder, tests, test, changes)
     sys.exit(1 if wrong else 0)
 
 

@@ -18,15 +18,16 @@ use Rattle.cbor_reader.specs.declared.comparison.Side.{Side}
 use Rattle.cbor_reader.specs.declared.comparison.Side.TheVariants.{Left, Right}
 use Rattle.cborc_commands.proofs.Files.{keeps_keeps, put_kept, input_before}
 use Rattle.cborc_commands.proofs.Fronts.{canonical_whole, refusal_whole, is_whole, is_not_whole, is_all_of, listed_whole, not_listed_whole, whole_item, item_refusal_whole}
-use Rattle.cborc_commands.specs.Canon.{IsCanonicalText, IsNoText, IsPut, IsCanonised, IsNotCanonised}
+use Rattle.cborc_commands.specs.Canon.{IsCanonicalText, IsPut, IsCanonised, IsNotCanonised}
+use Rattle.cborc_commands.specs.inner.Parts.{IsNoText, StartsInput, IsTreeOf, IsShown}
 use Rattle.cborc_commands.specs.Check.{accepted_bytes, IsWhole, IsNotWhole, IsChecked, IsUntoldOf, IsNotChecked}
 use Rattle.cborc_commands.specs.CheckSequence.{accepted_items, IsWholeSequence, IsRefusedAt, IsSequenceChecked, IsSequenceNotChecked}
 use Rattle.cborc_commands.specs.Compare.{IsTold, IsUntold, AreInputs, AreCompared, AreNotCompared}
 use Rattle.cborc_commands.specs.Events.{IsNotListed, IsListedOf, IsNotListedOf}
 use Rattle.cborc_commands.specs.Fault.{reason_fault, refusal_fault, at_item}
 use Rattle.cborc_commands.specs.Folder.{Files, KeepsFiles}
-use Rattle.cborc_commands.specs.Input.{IsInput, StartsInput}
-use Rattle.cborc_commands.specs.Show.{IsTreeOf, IsShown, IsShownOf, IsNotShown}
+use Rattle.cborc_commands.specs.Input.{IsInput}
+use Rattle.cborc_commands.specs.Show.{IsShownOf, IsNotShown}
 use Rattle.cborc_commands.specs.declared.request.Layout.{Layout}
 use Rattle.cborc_commands.specs.declared.status.Status.{Status}
 use Rattle.cborc_commands.specs.declared.status.Status.TheVariants as statuses

@@ -10,7 +10,8 @@ use Rattle.cbor_head.proofs.ReadLaws.{length_spell}
 use Rattle.cbor_strict.specs.Readers.{IsUnread}
 use Rattle.cbor_reader.specs.Sequence.{sequence_bytes, StartsWithItems, EndsBefore, IsAtEnd, IsRefused, Given, given_by, items_of, HasGiven, GivesNext}
 use Rattle.cbor_reader.proofs.SequenceLaws.{starts, by_one, one_more as also_by}
-use Rattle.cborc_commands.specs.CheckSequence.{IsWholeSequence, IsRefusedAt, HasCounted}
+use Rattle.cborc_commands.specs.CheckSequence.{IsWholeSequence, IsRefusedAt}
+use Rattle.cborc_commands.specs.inner.Parts.{HasCounted}
 
 pub none_yet : (b : Bounds) (rules : Rules) (input : List ℕ) → HasCounted b rules (Some input) input 0
 none_yet b rules input = record { given = []; run = starts b input; by_one = tt; count_is = refl }

@@ -24,12 +24,6 @@ pub record IsCanonicalText (d n : ℕ) (o : KeyOrder) (form : Form) (input text 
   pub is : IsCanonicalOf d n o input canonical
   pub formed : text ≡ in_form form canonical
 
--- why there is none: the input is refused, or memory was
-abbrev pub IsNoText : ℕ → ℕ → KeyOrder → List ℕ → Fault → Type 0
-IsNoText d n o input (faults.Refused f) = IsRefusal d n o input f
-IsNoText d n o input faults.Memory = Unit {0}
-IsNoText d n o input _ = ⊥
-
 -- the text is where it belongs: standard output took it, and no file was changed; or the file holds it, and no other was changed, and standard output took nothing
 pub data IsPut (path : List ℕ) (old new : Option Files) (before after : Option (List ℕ)) (text : List ℕ) : Type 0 where
   printed : is_stream path ≡ true → Appends before after text → KeepsFiles old new → IsPut path old new before after text

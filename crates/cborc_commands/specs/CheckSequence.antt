@@ -2,12 +2,11 @@
 use Rattle.std.specs.Prelude.{ℕ, ◌+◌, ◌≡◌, ◌≢◌, ◌<◌, ◌++◌, List, [], length, Option, codes, decimal}
 use Rattle.std.specs.Io.KnownBytes.{Appends}
 use Rattle.cbor_head.specs.Complaint.{Rules}
-use Rattle.cbor_head.specs.Limits.{Bounds}
 use Rattle.cbor_head.specs.Spelling.{Spelling}
 use Rattle.cbor_head.specs.declared.reason.Reason.TheVariants.{Read, Memory}
 use Rattle.cbor_head.specs.declared.reason.Refusal.{Refusal}
 use Rattle.cbor_strict.specs.Readers.{IsUnread}
-use Rattle.cbor_reader.specs.Sequence.{sequence_bytes, StartsWithItems, EndsBefore, Given, AreGivenBy, HasGiven}
+use Rattle.cbor_reader.specs.Sequence.{sequence_bytes, StartsWithItems, EndsBefore}
 use Rattle.cborc_commands.specs.Folder.{Files}
 use Rattle.cborc_commands.specs.Input.{IsInput, IsNoInput}
 use Rattle.cborc_commands.specs.declared.request.Options.{Options}
@@ -31,13 +30,6 @@ pub record IsRefusedAt (d n : ℕ) (rules : Rules) (input : List ℕ) (index sta
   pub start_is : start ≡ length (sequence_bytes items)
   pub unread : IsUnread d n rules rest f
   pub begun : f.reason ≢ Read → f.reason ≢ Memory → ¬ EndsBefore n rest
-
--- by one rule so many items were given of the input
-pub record HasCounted (b : Bounds) (rules : Rules) (held : Option (List ℕ)) (input : List ℕ) (count : ℕ) : Type 0 where
-  pub given : List Given
-  pub run : HasGiven b held input given
-  pub by_one : AreGivenBy rules given
-  pub count_is : count ≡ length given
 
 -- the line of a sequence that is accepted, of so many items
 abbrev pub accepted_items : ℕ → List ℕ

@@ -1,5 +1,5 @@
 -- What a subcommand takes of an input.
-use Rattle.std.specs.Prelude.{ℕ, ◌≡◌, Bool, true, false, List, take, Option, Ok, IsErr}
+use Rattle.std.specs.Prelude.{ℕ, ◌≡◌, Bool, true, false, List, Option, Ok, IsErr}
 use Rattle.std.specs.List.{filter}
 use Rattle.hex.specs.Hex.{decode_of}
 use Rattle.cborc_commands.specs.Folder.{Files, Holds}
@@ -12,12 +12,6 @@ use Rattle.cborc_commands.specs.declared.fault.Fault.TheVariants as faults
 abbrev pub IsInput : Option Files → List ℕ → Bool → List ℕ → Type 0
 IsInput held path false input = Holds held path input
 IsInput held path true input = (text : List ℕ) × Holds held path text × (decode_of (filter is_kept text) ≡ Ok input)
-
--- these bytes are the input's first ones: all of them, or so many
-pub record StartsInput (held : Option Files) (path : List ℕ) (hex : Bool) (most : ℕ) (bytes : List ℕ) : Type 0 where
-  pub input : List ℕ
-  pub is : IsInput held path hex input
-  pub front : bytes ≡ take most input
 
 -- a text that was read spells no bytes
 abbrev pub IsNotHex : Option Files → List ℕ → Bool → Type 0

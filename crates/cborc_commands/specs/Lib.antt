@@ -4,11 +4,11 @@ pub mod Check
 pub mod CheckSequence
 pub mod Compare
 pub mod Events
-pub mod Explained
 pub mod Fault
 pub mod Folder
 pub mod Hex
 pub mod InMemory
+pub mod inner
 pub mod Input
 pub mod Show
 pub mod Told

@@ -1,7 +1,8 @@
 //! The subcommand `canon`: the canonical bytes of an item, from file to file.
 
 ghost use Rattle.std.specs.Prelude.{◌≡◌, ◌≢◌, OnOk, OnErr, IfOk, IfErr};
-ghost use Rattle.cborc_commands.specs.Canon.{in_form, IsCanonicalText, IsNoText, IsPut, IsNotPut, IsCanonised, IsNotCanonised};
+ghost use Rattle.cborc_commands.specs.Canon.{in_form, IsCanonicalText, IsPut, IsNotPut, IsCanonised, IsNotCanonised};
+ghost use Rattle.cborc_commands.specs.inner.Parts.{IsNoText};
 ghost use Rattle.cborc_commands.specs.Folder.{KeepsFiles};
 
 use crate::request::{Form, Options, Output};

@@ -4,7 +4,8 @@ ghost use Rattle.std.specs.Prelude.{◌≡◌, ◌≢◌, ◌+◌, ◌^◌, ◌<
 ghost use Rattle.std.specs.Io.KnownBytes.{Appends};
 ghost use Rattle.cbor_reader.specs.Sequence.{IfGiven, IfRefused, is_last, IsAtEnd, IsRefused};
 ghost use Rattle.cborc_commands.specs.Check.{rules_of};
-ghost use Rattle.cborc_commands.specs.CheckSequence.{accepted_items, IsWholeSequence, IsRefusedAt, HasCounted};
+ghost use Rattle.cborc_commands.specs.CheckSequence.{accepted_items, IsWholeSequence, IsRefusedAt};
+ghost use Rattle.cborc_commands.specs.inner.Parts.{HasCounted};
 ghost use Rattle.cborc_commands.specs.CheckSequence.{IsSequenceChecked, IsSequenceNotChecked};
 ghost use Rattle.cborc_commands.specs.Folder.{KeepsFiles};
 

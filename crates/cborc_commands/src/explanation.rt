@@ -1,7 +1,7 @@
 //! What the line of a fault means, and what to do.
 
 ghost use Rattle.std.specs.Prelude.{◌≡◌};
-ghost use Rattle.cborc_commands.specs.Explained.{cause_text, options_of};
+ghost use Rattle.cborc_commands.specs.inner.Explained.{cause_text, options_of};
 
 use crate::request::{Options, Request};
 use crate::fault::Fault;

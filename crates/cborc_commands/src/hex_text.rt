@@ -4,7 +4,8 @@ ghost use Rattle.std.specs.Prelude.{◌≡◌, ◌⊎◌, IfOk, IfErr, Ok, Err};
 ghost use Rattle.std.specs.List.{filter};
 ghost use Rattle.hex.specs.Hex.{decode_of};
 ghost use Rattle.hex.specs.declared.error.FromHexError.TheVariants.{OutOfMemory};
-ghost use Rattle.cborc_commands.specs.Hex.{is_digit, is_kept, is_white};
+ghost use Rattle.cborc_commands.specs.inner.Hex.{is_digit};
+ghost use Rattle.cborc_commands.specs.Hex.{is_kept, is_white};
 
 use hex::FromHexError;
 use std::alloc::Global;

@@ -2,7 +2,8 @@
 
 ghost use Rattle.std.specs.Prelude.{◌≡◌, ◌+◌, IfOk, IfErr, true};
 ghost use Rattle.cborc_commands.specs.Folder.{KeepsFiles};
-ghost use Rattle.cborc_commands.specs.Input.{IsInput, StartsInput, IsNoInput};
+ghost use Rattle.cborc_commands.specs.Input.{IsInput, IsNoInput};
+ghost use Rattle.cborc_commands.specs.inner.Parts.{StartsInput};
 
 use crate::request::Options;
 use crate::fault::Fault;

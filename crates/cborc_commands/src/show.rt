@@ -3,7 +3,8 @@
 ghost use Rattle.std.specs.Prelude.{◌≡◌, ◌≢◌, OnOk, IfOk, IfErr};
 ghost use Rattle.cbor_head.specs.Complaint.{plain};
 ghost use Rattle.cborc_commands.specs.Check.{IsNotWhole};
-ghost use Rattle.cborc_commands.specs.Show.{IsTreeOf, IsShown, IsShownOf, IsNotShown};
+ghost use Rattle.cborc_commands.specs.Show.{IsShownOf, IsNotShown};
+ghost use Rattle.cborc_commands.specs.inner.Parts.{IsTreeOf, IsShown};
 ghost use Rattle.cborc_commands.specs.Folder.{KeepsFiles};
 
 use crate::request::{Layout, Options};

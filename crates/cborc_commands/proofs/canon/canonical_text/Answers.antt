@@ -1,5 +1,5 @@
 use Rattle.std.proofs.lemmas.Result.{err_from_is_err_and}
-use Rattle.cborc_commands.specs.Canon.{IsNoText}
+use Rattle.cborc_commands.specs.inner.Parts.{IsNoText}
 use Rattle.cborc_commands.proofs.Faults.{refusal_is}
 use Rattle.cborc_commands.proofs.canon.canonical_text.Goals as goal
 

@@ -1,6 +1,6 @@
 use Rattle.std.proofs.Common.{◌≡◌, ◌-◌, Some, false, length}
 use Rattle.cborc_commands.specs.Check.{rules_of}
-use Rattle.cborc_commands.specs.CheckSequence.{HasCounted}
+use Rattle.cborc_commands.specs.inner.Parts.{HasCounted}
 use Rattle.cborc_commands.proofs.check_sequence.count_items.Given as goal
 
 abbrev pub invariant-loop-answer : goal.invariant-loop-answer
