@@ -11,7 +11,6 @@ ghost use Rattle.cbor_events.specs.TextCheck.{TextView, HasChecked};
 use arrayvec::ArrayVec;
 use std::marker::Model;
 
-
 // So many bytes are looked at one by one.
 const SHORT: usize = 24;
 

@@ -7,8 +7,8 @@ ghost use Rattle.cborc_commands.specs.Folder.{KeepsFiles};
 ghost use Rattle.cborc.specs.Run.{IsWordsEnd, IsRun};
 
 use crate::command_line::parse;
-use clap::error::ErrorKind;
 use cborc_commands::{Fault, Folder, Status, end, flushed, perform};
+use clap::error::ErrorKind;
 use std::alloc::Global;
 use std::io::Write;
 

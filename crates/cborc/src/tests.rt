@@ -19,8 +19,8 @@ mod show;
 mod streams;
 mod strict;
 
-use cborc_commands::{FileFault, Folder};
 use crate::run::run;
+use cborc_commands::{FileFault, Folder};
 use std::alloc::{AllocError, Global};
 use std::io::{ErrorKind, Write};
 

@@ -102,7 +102,10 @@ fn answer_quietly<F: Folder, O: Write>(
 }
 
 /// The end, once all that was written to `out` is sent on.
-pub fn flushed<'a, O: Write>(ended: Result<Status, Fault<'a>>, out: &mut O) -> Result<Status, Fault<'a>>
+pub fn flushed<'a, O: Write>(
+    ended: Result<Status, Fault<'a>>,
+    out: &mut O,
+) -> Result<Status, Fault<'a>>
     ensures end { (result ≡ ended.entry) ⊎ (result ≡ Err Fault.CannotPrint) }
     ensures keeps { Keeps (O.contents out.old) (O.contents out.new) }
 {

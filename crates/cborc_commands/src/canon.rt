@@ -5,10 +5,10 @@ ghost use Rattle.cborc_commands.specs.Canon.{in_form, IsCanonicalText, IsPut, Is
 ghost use Rattle.cborc_commands.specs.inner.Parts.{IsNoText};
 ghost use Rattle.cborc_commands.specs.Folder.{KeepsFiles};
 
-use crate::request::{Form, Options, Output};
 use crate::fault::Fault;
 use crate::folder::{Folder, is_stream};
 use crate::input;
+use crate::request::{Form, Options, Output};
 use cbor_head::{KeyOrder, Limits};
 use cbor_reader::canonicalise;
 use std::alloc::{AllocError, Global};

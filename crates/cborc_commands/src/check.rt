@@ -5,10 +5,10 @@ ghost use Rattle.std.specs.Io.KnownBytes.{Appends};
 ghost use Rattle.cborc_commands.specs.Check.{rules_of, accepted_bytes, IsWhole, IsNotWhole, IsChecked, IsNotChecked};
 ghost use Rattle.cborc_commands.specs.Folder.{KeepsFiles};
 
-use crate::request::{Accepted, Options};
 use crate::fault::Fault;
 use crate::folder::Folder;
 use crate::input;
+use crate::request::{Accepted, Options};
 use cbor_head::{Limits, Reason, Refusal};
 use cbor_reader::{check_canonical, check_valid};
 use std::alloc::Global;

@@ -9,10 +9,10 @@ ghost use Rattle.cborc_commands.specs.inner.Parts.{HasCounted};
 ghost use Rattle.cborc_commands.specs.CheckSequence.{IsSequenceChecked, IsSequenceNotChecked};
 ghost use Rattle.cborc_commands.specs.Folder.{KeepsFiles};
 
-use crate::request::{Accepted, Options};
 use crate::fault::Fault;
 use crate::folder::Folder;
 use crate::input;
+use crate::request::{Accepted, Options};
 use cbor_head::{Limits, Refusal};
 use cbor_reader::SequenceItems;
 use std::alloc::Global;

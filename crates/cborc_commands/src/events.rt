@@ -5,10 +5,10 @@ ghost use Rattle.cbor_diag.specs.Listing.{IsListed};
 ghost use Rattle.cborc_commands.specs.Events.{IsNotListed, IsListedOf, IsNotListedOf};
 ghost use Rattle.cborc_commands.specs.Folder.{KeepsFiles};
 
-use crate::request::Options;
 use crate::fault::Fault;
 use crate::folder::Folder;
 use crate::input;
+use crate::request::Options;
 use cbor_diag::listing;
 use cbor_head::{Limits, Reason, Refusal};
 use std::alloc::Global;

@@ -3,11 +3,11 @@
 ghost use Rattle.std.specs.Prelude.{◌≡◌};
 ghost use Rattle.cborc_commands.specs.inner.Explained.{cause_text, options_of};
 
-use crate::request::{Options, Request};
 use crate::fault::Fault;
 use crate::folder::Folder;
 use crate::hex_text::{decode_hex, write_digits};
 use crate::memory::Memory;
+use crate::request::{Options, Request};
 use cbor_explain::write_sentences;
 use cbor_head::Refusal;
 use std::alloc::Global;

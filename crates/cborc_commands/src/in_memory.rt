@@ -6,9 +6,9 @@ ghost use Rattle.cborc_commands.specs.Folder.{is_stream};
 ghost use Rattle.cborc_commands.specs.InMemory.{files_of};
 
 use crate::canon::canon;
-use crate::request::{Form, Options, Output};
 use crate::fault::Fault;
 use crate::files_in_memory::FilesInMemory;
+use crate::request::{Form, Options, Output};
 use cbor_head::{KeyOrder, Limits};
 use std::alloc::Global;
 use std::io;

@@ -5,10 +5,10 @@ ghost use Rattle.cborc_commands.specs.Folder.{KeepsFiles};
 ghost use Rattle.cborc_commands.specs.Input.{IsInput, IsNoInput};
 ghost use Rattle.cborc_commands.specs.inner.Parts.{StartsInput};
 
-use crate::request::Options;
 use crate::fault::Fault;
 use crate::folder::Folder;
 use crate::hex_text::decode_hex;
+use crate::request::Options;
 use std::alloc::Global;
 
 /// The first bytes of the input at this path: as many as decide whether it is one item within the

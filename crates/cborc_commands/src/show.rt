@@ -7,10 +7,10 @@ ghost use Rattle.cborc_commands.specs.Show.{IsShownOf, IsNotShown};
 ghost use Rattle.cborc_commands.specs.inner.Parts.{IsTreeOf, IsShown};
 ghost use Rattle.cborc_commands.specs.Folder.{KeepsFiles};
 
-use crate::request::{Layout, Options};
 use crate::fault::Fault;
 use crate::folder::Folder;
 use crate::input;
+use crate::request::{Layout, Options};
 use cbor_diag::{diagnostic, diagnostic_indented};
 use cbor_head::{Limits, Reason, Refusal};
 use cbor_item::{Tree, write_whole};

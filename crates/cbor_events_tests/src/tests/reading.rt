@@ -3,8 +3,8 @@
 use super::refused::refused_rows;
 use super::tables::{accepted_rows, fronts_rows, not_valid_rows};
 use super::{Told, bytes_of, event, events_of, join, limits};
-use cbor_events::{Event, EventKind, EventReader, Out};
 use arrayvec::ArrayVec;
+use cbor_events::{Event, EventKind, EventReader, Out};
 use cbor_head::{Limits, Reason, Refusal, Width};
 use std::alloc::{AllocError, Global};
 use std::io;

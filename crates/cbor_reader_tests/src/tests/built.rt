@@ -3,8 +3,8 @@
 //! heads, and not by an encoder.
 
 use super::limits;
-use cbor_reader::{KeyOrder, canonicalise, check_valid};
 use cbor_head::{Reason, Refusal};
+use cbor_reader::{KeyOrder, canonicalise, check_valid};
 use std::alloc::{AllocError, Global};
 use std::process::Abort;
 use std::test::Fail;

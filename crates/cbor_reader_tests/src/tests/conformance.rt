@@ -3,11 +3,11 @@
 
 use super::conformance_table::{PAIRS, PARTS, rows};
 use super::{BadHex, bytes_of};
+use cbor_head::{Limits, Refusal};
+use cbor_item::{Tree, encode};
 use cbor_reader::{
     KeyOrder, Side, StrictReader, canonicalise, check_valid, read_strict, read_tree, same_meaning,
 };
-use cbor_head::{Limits, Refusal};
-use cbor_item::{Tree, encode};
 use std::alloc::{AllocError, Global};
 use std::io;
 use std::io::Read;

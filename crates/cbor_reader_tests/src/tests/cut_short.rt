@@ -4,10 +4,10 @@
 use super::conformance::{BadRow, limits_of, row_of};
 use super::conformance_table::{PARTS, rows};
 use super::{Parts, bytes_of};
+use cbor_head::{Limits, Reason, Refusal};
 use cbor_reader::{
     KeyOrder, Sequence, Side, canonicalise, check_canonical, read_strict, read_tree, same_meaning,
 };
-use cbor_head::{Limits, Reason, Refusal};
 use std::alloc::Global;
 use std::test::Fail;
 

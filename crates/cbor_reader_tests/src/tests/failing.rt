@@ -4,8 +4,8 @@
 use super::conformance::{BadRow, limits_of, row_of};
 use super::conformance_table::{PARTS, rows};
 use super::{bytes_of, limits};
-use cbor_reader::{KeyOrder, Sequence, Tree, read_strict, read_tree};
 use cbor_head::{Limits, Reason, Refusal};
+use cbor_reader::{KeyOrder, Sequence, Tree, read_strict, read_tree};
 use std::alloc::Global;
 use std::io;
 use std::io::{ErrorKind, Read};

@@ -1,8 +1,8 @@
 //! Keys about as long as those that take memory of their own.
 
 use super::limits;
-use cbor_reader::{KeyOrder, canonicalise};
 use cbor_head::{Reason, Refusal};
+use cbor_reader::{KeyOrder, canonicalise};
 use std::alloc::{AllocError, Global};
 use std::test::Fail;
 

@@ -3,8 +3,8 @@
 //! `Memory`.
 
 use super::limits;
-use cbor_reader::{KeyOrder, canonicalise, check_canonical, read_strict, read_tree, same_meaning};
 use cbor_head::{Limits, Reason, Refusal};
+use cbor_reader::{KeyOrder, canonicalise, check_canonical, read_strict, read_tree, same_meaning};
 use std::alloc::{AllocError, Global};
 use std::test::Fail;
 

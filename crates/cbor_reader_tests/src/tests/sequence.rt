@@ -1,9 +1,9 @@
 //! Sequences, over slices, over readers that give one byte a read, and over one that fails.
 
 use super::{Parts, limits};
-use cbor_reader::{KeyOrder, Sequence, SequenceItems, Tree};
 use cbor_head::{Reason, Refusal};
 use cbor_item::encode;
+use cbor_reader::{KeyOrder, Sequence, SequenceItems, Tree};
 use std::alloc::{AllocError, Global};
 use std::io;
 use std::io::{ErrorKind, Read};

@@ -2,8 +2,8 @@
 //! put together here, and not by an encoder.
 
 use super::{Parts, limits};
-use cbor_reader::{KeyOrder, canonicalise, read_strict, read_tree, same_meaning};
 use cbor_item::encode;
+use cbor_reader::{KeyOrder, canonicalise, read_strict, read_tree, same_meaning};
 use std::alloc::{AllocError, Global};
 use std::test::Fail;
 

@@ -2,9 +2,9 @@
 //! asked, of keys that take memory of their own, of runs of bytes that are moved or checked at once.
 
 use super::{Parts, limits};
-use cbor_reader::{KeyOrder, canonicalise, check_canonical, read_strict, read_tree};
 use cbor_head::{Limits, Reason, Refusal};
 use cbor_item::encode;
+use cbor_reader::{KeyOrder, canonicalise, check_canonical, read_strict, read_tree};
 use std::alloc::{AllocError, Global};
 use std::test::Fail;
 

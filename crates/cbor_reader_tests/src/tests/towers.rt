@@ -1,8 +1,8 @@
 //! Towers of each kind of container, in values and in keys, as deep as each depth limit allows, and
 //! a level deeper.
 
-use cbor_reader::{KeyOrder, canonicalise, check_canonical, read_strict, read_tree, same_meaning};
 use cbor_head::{Limits, Reason, Refusal};
+use cbor_reader::{KeyOrder, canonicalise, check_canonical, read_strict, read_tree, same_meaning};
 use std::alloc::{AllocError, Global};
 use std::test::Fail;
 

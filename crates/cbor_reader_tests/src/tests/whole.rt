@@ -1,9 +1,9 @@
 //! Trees of whole slices.
 
 use super::limits;
-use cbor_reader::whole_tree;
 use cbor_head::{Reason, Refusal};
 use cbor_item::Item;
+use cbor_reader::whole_tree;
 
 #[test]
 fn the_tree_of_all_bytes(rt: HostRuntime) {

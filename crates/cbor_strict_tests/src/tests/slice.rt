@@ -1,8 +1,8 @@
 //! The strict check of a slice: maps in keys, lengths with nothing behind them, and limits.
 
 use super::limits;
-use cbor_strict::{KeyOrder, check_canonical};
 use cbor_head::{Reason, Refusal};
+use cbor_strict::{KeyOrder, check_canonical};
 use std::alloc::{AllocError, Global};
 use std::process::Abort;
 use std::test::Fail;

@@ -2,9 +2,9 @@
 //! hand, from the bytes of the keys.
 
 use super::limits;
-use cbor_strict::{KeyOrder, StrictReader};
 use cbor_events::{Event, EventKind};
 use cbor_head::{Limits, Width};
+use cbor_strict::{KeyOrder, StrictReader};
 use std::alloc::{AllocError, Global};
 use std::test::Fail;
 

@@ -1,8 +1,8 @@
 //! An item of a reader that holds more.
 
 use super::limits;
-use cbor_strict::{KeyOrder, read_strict};
 use cbor_head::{Reason, Refusal};
+use cbor_strict::{KeyOrder, read_strict};
 
 #[test]
 fn reads_the_item_and_no_more(rt: HostRuntime) {

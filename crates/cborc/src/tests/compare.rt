@@ -1,8 +1,8 @@
 //! The subcommand `compare`, over a folder with two files.
 
 use super::{Outcome, bytes_of, is_line, words};
-use cborc_commands::{FileFault, Folder};
 use crate::run::run;
+use cborc_commands::{FileFault, Folder};
 use std::alloc::{AllocError, Global};
 
 // A folder with the files `a` and `b`. The path `full` wants memory, and any other file is not

@@ -1,8 +1,7 @@
 //! Files and outputs that fail.
 
 use super::{ran, run_with};
-use cborc_commands::Fault;
-use cborc_commands::end;
+use cborc_commands::{Fault, end};
 use std::alloc::AllocError;
 use std::io;
 use std::io::{ErrorKind, Write};

@@ -1,10 +1,9 @@
 //! What a run leaves in each file.
 
 use super::{is_line, words};
-use cborc_commands::canon_in_memory;
-use cborc_commands::FilesInMemory;
 use crate::run::run;
 use cbor_head::{KeyOrder, Limits};
+use cborc_commands::{FilesInMemory, canon_in_memory};
 use std::alloc::{AllocError, Global};
 use std::test::Fail;
 

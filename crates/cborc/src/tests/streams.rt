@@ -1,8 +1,8 @@
 //! Standard input and output as `-`, and inputs that have no end.
 
 use super::{ran, run_with};
-use cborc_commands::{FileFault, Folder};
 use crate::run::run;
+use cborc_commands::{FileFault, Folder};
 use std::alloc::{AllocError, Global};
 
 // The words, standard input, and standard output.
