@@ -1,16 +1,17 @@
 #!/usr/bin/env bash
-# Builds the library for C twice, and tests it: scripts/test_c.sh
+# Builds the library for C twice, and tests it: scripts/test_c.sh [FOLDER]
 #
 # The header against the crate; the conformance table and more from C, linked statically and to the shared
 # object, by each compiler, plain, under sanitizers and under valgrind; each request for memory refused;
-# threads; the stack; the examples. A C compiler and the binutils have to be there, and the kit's rt on the
-# path; the last line names what else was not there. It begins 'C: all well', or the status is not 0.
+# threads; the stack; the examples. The library stays in FOLDER, where one is given. A C compiler and the
+# binutils have to be there, and the kit's rt on the path; the last line names what else was not there. It
+# begins 'C: all well', or the status is not 0.
 set -euo pipefail
 
 root=$(cd "$(dirname "${BASH_SOURCE[0]}")/.." && pwd)
 room=$(mktemp -d)
 trap 'rm -rf "$room"' EXIT
-dist=$room/dist
+dist=${1:-$room/dist}
 c=$root/c
 
 say() { echo "C: $*"; }
