@@ -43,7 +43,7 @@ use crate::builder::look_up::has_key;
 use crate::builder::member::complete;
 use crate::builder::opening::opening;
 use crate::builder::repeats::first_repeat;
-use crate::builder::reserve::push;
+use crate::builder::reserve::push_copy;
 use crate::builder::span::{Span, part};
 use crate::repeat::Repeat;
 use cbor_head::{KeyOrder, Major};
@@ -140,7 +140,7 @@ impl Core {
         let from = self.out.len();
         self.out.head(major, n)?;
         let frame = opening(major, from, self.out.len(), self.spans.len());
-        push(&mut self.below, self.top)?;
+        push_copy(&mut self.below, &self.top)?;
         self.top = frame;
         Ok(())
     }
@@ -160,6 +160,7 @@ impl Core {
     }
 
     // The pairs of the open map in order. False where two keys of it are equal.
+    #[inline(never)]
     fn order_pairs(&mut self, first: usize) -> Result<bool, AllocError>
         requires whole { IsWhole self.old.out }
         requires within { self.old.top.start ≤ length (meant self.old.out) }
@@ -201,6 +202,7 @@ impl Core {
     }
 
     // Puts the bytes of what is open in their final form. False where two keys of it are equal.
+    #[inline(always)]
     fn close_top(&mut self) -> Result<bool, AllocError>
         requires laid { IsLaid self.old }
         requires closes { CanClose self.old.top.shape }
@@ -246,6 +248,7 @@ impl Core {
     }
 
     /// What is open ends. False where it is a map of which two keys are equal: it stays open then.
+    #[inline(always)]
     pub(crate) fn end(&mut self) -> Result<bool, AllocError>
         requires laid { IsLaid self.old }
         requires closes { CanClose self.old.top.shape }

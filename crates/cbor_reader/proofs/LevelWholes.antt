@@ -10,7 +10,7 @@ use Rattle.cbor_head.specs.Limits.{Bounds}
 use Rattle.cbor_head.specs.declared.major.Major.TheVariants as majors
 use Rattle.cbor_head.specs.declared.order.KeyOrder.{KeyOrder}
 use Rattle.cbor_events.specs.Machine.{KeepsLimits}
-use Rattle.cbor_events.specs.SliceEvents.{IsStringTold, IsWholeTold}
+use Rattle.cbor_events.specs.SliceEvents.{IsStringTold, IsWholeTold, IsRefusedTold}
 use Rattle.cbor_events.specs.SliceView.{SliceEventsView, seen}
 use Rattle.cbor_events.specs.Token.{IsEventToken}
 use Rattle.cbor_events.specs.declared.token.Token.{Token}
@@ -130,3 +130,24 @@ in-front front head content rest from e is =
     let at : from ≡ length head = omega (arith, is, ends-front front head content rest e) in
     let there : rest_from from front ≡ content ++ rest = rest-is from front ∙ ap (drop from) e ∙ ap (λ (k : ℕ). drop k (head ++ (content ++ rest))) at ∙ drop-append_seam head (content ++ rest) in
     ap (take (length content)) there ∙ take-append_seam content rest
+
+-- ---- what was told where nothing was refused
+
+pub told-live : (token : Token) (e : SliceEventsView) → IsEventToken token → e.refusal ≡ None → IsRefusedTold token e
+told-live Unsigned e is live = live
+told-live Negative e is live = live
+told-live Bytes e is live = live
+told-live Text e is live = live
+told-live Array e is live = live
+told-live Map e is live = live
+told-live Tag e is live = live
+told-live Simple e is live = live
+told-live Piece e is live = live
+told-live Chunk e is live = live
+told-live IndefiniteBytes e is live = live
+told-live IndefiniteText e is live = live
+told-live IndefiniteArray e is live = live
+told-live IndefiniteMap e is live = live
+told-live Break e is live = live
+told-live End e is live = absurd is
+told-live Refused e is live = absurd is

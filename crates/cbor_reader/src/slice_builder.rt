@@ -6,7 +6,11 @@ ghost use Rattle.cbor_head.specs.Head.{shortest_head, IsSimple};
 ghost use Rattle.cbor_head.specs.Limits.{Bounds};
 ghost use Rattle.cbor_head.specs.declared.major.Major.TheVariants.{Simple};
 ghost use Rattle.cbor_head.specs.declared.order.KeyOrder.{KeyOrder as Order};
+ghost use Rattle.cbor_events.specs.ItemEvents.{StandsBetween};
+ghost use Rattle.cbor_events.specs.Machine.{KeepsLimits};
+ghost use Rattle.cbor_events.specs.SliceEvents.{IsNextTold, IsRefusedTold};
 ghost use Rattle.cbor_events.specs.SliceView.{SliceEventsView, seen};
+ghost use Rattle.cbor_events.specs.Trace.{Mark};
 ghost use Rattle.cbor_events.specs.inner.Automaton.{Frame, State, close_string, payload};
 ghost use Rattle.cbor_head.specs.declared.major.Major.{Major as MajorType};
 ghost use Rattle.cbor_item.specs.Built.{built, IsLeaf, IsContainer, IsInString, TakesPart};
@@ -61,7 +65,7 @@ pub(crate) fn build_front(
             return None;
         }
         let height = events.open();
-        let token = events.next();
+        let token = next_event(&mut events);
         match token {
             Token::End => {
                 let canonical = builder.finish();
@@ -104,6 +108,21 @@ fn take_wholes(events: &mut SliceEvents<'_>, builder: &mut CanonBuilder) -> bool
             return false;
         }
     }
+}
+
+// What comes next, by the shorter way where its head tells of no length, or it is a break: that is
+// what is mostly there where nothing stands whole.
+#[inline(always)]
+fn next_event(events: &mut SliceEvents<'_>) -> Token
+    ensures answers { events.old.refusal ≡ None → (t : List ℕ) (ms : List Mark)
+        → StandsBetween events.old.machine t ms → IsNextTold result events.old events.new t ms }
+    ensures limits { KeepsLimits events.old.machine events.new.machine }
+    ensures refused { IsRefusedTold result events.new }
+{
+    if let Some(token) = events.next_open() {
+        return token;
+    }
+    events.next()
 }
 
 // Gives what was told whole to the builder; answers how many containers it opens. A string stood
@@ -192,7 +211,7 @@ fn end_full(events: &SliceEvents<'_>, builder: &mut CanonBuilder, height: usize)
 
 // Gives an event that wasn't told whole to the builder, with the payload of a string; answers how
 // many containers it opens.
-#[inline(never)]
+#[inline(always)]
 fn feed(
     events: &mut SliceEvents<'_>,
     builder: &mut CanonBuilder,

@@ -3,7 +3,7 @@
 ghost use Rattle.std.specs.Prelude.{◌≡◌, ◌++◌, List, ℕ, false, IsTrue, None, IfSome};
 ghost use Rattle.cbor_events.specs.Trace.{Mark};
 ghost use Rattle.cbor_events.specs.ItemEvents.{StandsBetween};
-ghost use Rattle.cbor_events.specs.SliceEvents.{IsStringTold, IsWholeTold};
+ghost use Rattle.cbor_events.specs.SliceEvents.{IsNextTold, IsStringTold, IsWholeTold};
 ghost use Rattle.cbor_events.specs.Machine.{KeepsLimits};
 ghost use Rattle.cbor_events.specs.Token.{IsEventToken, IsStringToken};
 
@@ -12,7 +12,7 @@ use crate::position::Position;
 use crate::slice_events::SliceEvents;
 use crate::string_head::{front_chunk, front_string};
 use crate::token::Token;
-use crate::whole::{front_head, take_head, whole_piece};
+use crate::whole::{front_head, take_head, whole_open, whole_piece};
 use cbor_head::Width;
 
 impl<'a> SliceEvents<'a> {
@@ -98,21 +98,43 @@ impl<'a> SliceEvents<'a> {
         let behind = &from[head.used..];
         below_256(from);
         below_256(behind);
-        let depth = usize::from(self.limits.depth());
-        let used = whole_piece(
-            true,
-            kind,
-            head.number - 1,
-            depth,
-            &mut self.position,
-            &mut self.nest,
-            behind,
-        );
+        // The position stays: behind the payload, too, a chunk may begin.
+        let used = head.number as usize;
         self.begin = behind.len();
         self.piece = &behind[..used];
         self.rest = &behind[used..];
         self.width = Width::Direct;
-        self.number = used as u64;
+        self.number = head.number;
         true
+    }
+
+    /// What comes next, where an item is due and one byte stands at the front that tells of no
+    /// length: the head of a string, an array or a map of indefinite length, or a break. It is told
+    /// as [`next`](SliceEvents::next) tells it. None, and nothing is taken, elsewhere.
+    #[inline(always)]
+    pub fn next_open(&mut self) -> Option<Token>
+        // For all bytes and marks that the events so far stand for.
+        ensures answers { IfSome result (λ token. (t : List ℕ) (ms : List Mark)
+            → StandsBetween self.old.machine t ms → IsNextTold token self.old self.new t ms) }
+        ensures event { IfSome result IsEventToken }
+        ensures live { IfSome result (λ token. self.new.refusal ≡ None) }
+        ensures limits { KeepsLimits self.old.machine self.new.machine }
+        ensures none { result ≡ None → self.new ≡ self.old }
+    {
+        if self.refusal.is_some() {
+            return None;
+        }
+        let Position::Item = self.position else {
+            return None;
+        };
+        let from = self.rest;
+        below_256(from);
+        let depth = usize::from(self.limits.depth());
+        let whole = whole_open(depth, &mut self.position, &mut self.nest, from)?;
+        self.begin = from.len();
+        self.rest = &from[whole.used..];
+        self.width = whole.width;
+        self.number = whole.number;
+        Some(whole.token)
     }
 }

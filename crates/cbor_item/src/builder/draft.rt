@@ -435,6 +435,7 @@ impl Draft {
 
     // The same of a member of what is open, with so many around it, where it is a key or all that
     // there is.
+    #[inline(always)]
     pub(crate) fn settle_member(
         &mut self,
         at: usize,

@@ -16,6 +16,19 @@ pub(crate) fn push<T: Copy>(list: &mut Vec<T>, last: T) -> Result<(), AllocError
     Ok(())
 }
 
+/// The same of what stands elsewhere. It is read once there is room, and so goes straight to its
+/// place.
+#[inline(always)]
+pub(crate) fn push_copy<T: Copy>(list: &mut Vec<T>, last: &T) -> Result<(), AllocError>
+    ensures { OnOk result (list.new.items ≡ list.old.items ++ last.now ∷ []) }
+{
+    if list.len() == list.capacity() {
+        make_place(list)?;
+    }
+    list.push_reserved(*last);
+    Ok(())
+}
+
 #[cold]
 #[inline(never)]
 fn make_place<T: Copy>(list: &mut Vec<T>) -> Result<(), AllocError>

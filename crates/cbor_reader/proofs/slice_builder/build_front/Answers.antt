@@ -27,8 +27,8 @@ returns-in-End c =
     let a = on.at in
     let building = on.building in
     let all = append_assoc t0 on.bytes c.take_wholes.new.events.rest ∙ ap (λ (x : List ℕ). t0 ++ x) (sym on.consumed) ∙ all0 in
-    let end = told-end c.next-token.result c.take_wholes.new.events c.next-token.new.self t a.marks c.in-End.is (c.next-token.ensures.answers a.live t a.marks a.stands) in
-    let (s, taken, bytes_are, standing) = item-whole c.args.order c.args.limits c.take_wholes.new.events c.next-token.new.self t q a c.take_wholes.new.builder.standing end building.1 in
+    let end = told-end c.next_event-token.result c.take_wholes.new.events c.next_event-token.new.events t a.marks c.in-End.is (c.next_event-token.ensures.answers a.live t a.marks a.stands) in
+    let (s, taken, bytes_are, standing) = item-whole c.args.order c.args.limits c.take_wholes.new.events c.next_event-token.new.events t q a c.take_wholes.new.builder.standing end building.1 in
     front-built c.args.order c.args.limits c.args.bytes.now c.take_wholes.new.events.rest c.finish-canonical.result.items c.taken-size.result s taken (ap (λ x. x ++ c.take_wholes.new.events.rest) (sym bytes_are) ∙ all)
     (c.finish-canonical.ensures.bytes _ standing) (c.taken-size.ensures.taken ∙ end.stands.stands.taken ∙ ap length bytes_are)
 
@@ -41,8 +41,8 @@ feed-requires c =
     let a = on.at in
     let building = on.building in
     let all = append_assoc t0 on.bytes c.take_wholes.new.events.rest ∙ ap (λ (x : List ℕ). t0 ++ x) (sym on.consumed) ∙ all0 in
-    let e = event-is c.args.limits c.args.order c.take_wholes.new.events c.next-token.new.self t q c.next-token.result c.take_wholes.new.builder a c.next-token.ensures.limits c.next-token.ensures.refused
-    (c.next-token.ensures.answers a.live t a.marks a.stands) c.in_default.not-Refused c.in_default.not-End building in
+    let e = event-is c.args.limits c.args.order c.take_wholes.new.events c.next_event-token.new.events t q c.next_event-token.result c.take_wholes.new.builder a c.next_event-token.ensures.limits c.next_event-token.ensures.refused
+    (c.next_event-token.ensures.answers a.live t a.marks a.stands) c.in_default.not-Refused c.in_default.not-End building in
     record { b = c.args.limits; o = c.args.order; ls = e.0; old = c.take_wholes.new.events; is = e.1 }
 
 pub overflow_add-height : goal.overflow_add-height
@@ -54,8 +54,8 @@ overflow_add-height c =
     let a = on.at in
     let building = on.building in
     let all = append_assoc t0 on.bytes c.take_wholes.new.events.rest ∙ ap (λ (x : List ℕ). t0 ++ x) (sym on.consumed) ∙ all0 in
-    let e = event-is c.args.limits c.args.order c.take_wholes.new.events c.next-token.new.self t q c.next-token.result c.take_wholes.new.builder a c.next-token.ensures.limits c.next-token.ensures.refused
-    (c.next-token.ensures.answers a.live t a.marks a.stands) c.in_default.not-Refused c.in_default.not-End building in
+    let e = event-is c.args.limits c.args.order c.take_wholes.new.events c.next_event-token.new.events t q c.next_event-token.result c.take_wholes.new.builder a c.next_event-token.ensures.limits c.next_event-token.ensures.refused
+    (c.next_event-token.ensures.answers a.live t a.marks a.stands) c.in_default.not-Refused c.in_default.not-End building in
     let f = c.in-Ok.ensures c.args.limits c.args.order e.0 c.take_wholes.new.events e.1 in
     omega (arith, f.0, c.open-height.ensures.within, a.depth, a.limits.0)
 
@@ -68,8 +68,8 @@ end_full-requires c =
     let a = on.at in
     let building = on.building in
     let all = append_assoc t0 on.bytes c.take_wholes.new.events.rest ∙ ap (λ (x : List ℕ). t0 ++ x) (sym on.consumed) ∙ all0 in
-    let e = event-is c.args.limits c.args.order c.take_wholes.new.events c.next-token.new.self t q c.next-token.result c.take_wholes.new.builder a c.next-token.ensures.limits c.next-token.ensures.refused
-    (c.next-token.ensures.answers a.live t a.marks a.stands) c.in_default.not-Refused c.in_default.not-End building in
+    let e = event-is c.args.limits c.args.order c.take_wholes.new.events c.next_event-token.new.events t q c.next_event-token.result c.take_wholes.new.builder a c.next_event-token.ensures.limits c.next_event-token.ensures.refused
+    (c.next_event-token.ensures.answers a.live t a.marks a.stands) c.in_default.not-Refused c.in_default.not-End building in
     let f = c.in-Ok.ensures c.args.limits c.args.order e.0 c.take_wholes.new.events e.1 in
     let same : length e.0 + c.in-Ok.opened ≡ c.open-height.result + c.in-Ok.opened = omega (arith, c.open-height.ensures.count, e.3) in
     fed-height c.args.limits c.args.order (bytes_before e.0) c.take_wholes.new.events.rest c.feed.new.events c.feed.new.builder _ _ same f.1
@@ -83,8 +83,8 @@ events-smaller c =
     let a = on.at in
     let building = on.building in
     let all = append_assoc t0 on.bytes c.take_wholes.new.events.rest ∙ ap (λ (x : List ℕ). t0 ++ x) (sym on.consumed) ∙ all0 in
-    let e = event-is c.args.limits c.args.order c.take_wholes.new.events c.next-token.new.self t q c.next-token.result c.take_wholes.new.builder a c.next-token.ensures.limits c.next-token.ensures.refused
-    (c.next-token.ensures.answers a.live t a.marks a.stands) c.in_default.not-Refused c.in_default.not-End building in
+    let e = event-is c.args.limits c.args.order c.take_wholes.new.events c.next_event-token.new.events t q c.next_event-token.result c.take_wholes.new.builder a c.next_event-token.ensures.limits c.next_event-token.ensures.refused
+    (c.next_event-token.ensures.answers a.live t a.marks a.stands) c.in_default.not-Refused c.in_default.not-End building in
     let f = c.in-Ok.ensures c.args.limits c.args.order e.0 c.take_wholes.new.events e.1 in
     omega (arith, fed-less c.args.limits c.args.order (bytes_before e.0) c.take_wholes.new.events c.feed.new.events c.feed.new.builder _ f.1, ap length on.consumed, length-append on.bytes c.take_wholes.new.events.rest)
 
@@ -97,8 +97,8 @@ events-preserved c =
     let a = on.at in
     let building = on.building in
     let all = append_assoc t0 on.bytes c.take_wholes.new.events.rest ∙ ap (λ (x : List ℕ). t0 ++ x) (sym on.consumed) ∙ all0 in
-    let e = event-is c.args.limits c.args.order c.take_wholes.new.events c.next-token.new.self t q c.next-token.result c.take_wholes.new.builder a c.next-token.ensures.limits c.next-token.ensures.refused
-    (c.next-token.ensures.answers a.live t a.marks a.stands) c.in_default.not-Refused c.in_default.not-End building in
+    let e = event-is c.args.limits c.args.order c.take_wholes.new.events c.next_event-token.new.events t q c.next_event-token.result c.take_wholes.new.builder a c.next_event-token.ensures.limits c.next_event-token.ensures.refused
+    (c.next_event-token.ensures.answers a.live t a.marks a.stands) c.in_default.not-Refused c.in_default.not-End building in
     let f = (c.in-Ok.ensures c.args.limits c.args.order e.0 c.take_wholes.new.events e.1).1 in
     let same : length e.0 + c.in-Ok.opened ≡ c.open-height.result + c.in-Ok.opened = omega (arith, c.open-height.ensures.count, e.3) in (
       bytes_before e.0 ++ f.bytes,
