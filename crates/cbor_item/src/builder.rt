@@ -103,9 +103,15 @@ impl Core {
         )
     }
 
-    /// A whole string.
+    /// A whole string: the first of these bytes.
     #[inline(always)]
-    pub(crate) fn string(&mut self, major: Major, content: &[u8]) -> Result<(), AllocError>
+    pub(crate) fn string(
+        &mut self,
+        major: Major,
+        front: &[u8],
+        count: usize,
+    ) -> Result<(), AllocError>
+        requires within { count ≤ length front.now }
         requires laid { IsLaid self.old }
         requires takes { Takes self.old.top.shape }
         requires kind { major ≢ Simple }
@@ -113,11 +119,11 @@ impl Core {
         ensures laid { OnOk result (IsLaid self.new) }
         ensures given { OnOk result
             (standing self.new
-            ≡ give (shortest_head major (length content.now) ++ content.now) (standing self.old)) }
+            ≡ give (shortest_head major count ++ take count front.now) (standing self.old)) }
     {
         let at = self.out.len();
-        self.out.head(major, content.len() as u64)?;
-        self.out.extend(content)?;
+        self.out.head(major, count as u64)?;
+        self.out.extend(front, count)?;
         complete(
             &mut self.top,
             &mut self.spans,
@@ -145,17 +151,18 @@ impl Core {
         Ok(())
     }
 
-    /// More of a string.
+    /// More of a string: the first of these bytes.
     #[inline(always)]
-    pub(crate) fn bytes(&mut self, content: &[u8]) -> Result<(), AllocError>
+    pub(crate) fn bytes(&mut self, front: &[u8], count: usize) -> Result<(), AllocError>
+        requires within { count ≤ length front.now }
         requires laid { IsLaid self.old }
         requires string { IsString self.old.top.shape }
         ensures order { self.new.order ≡ self.old.order }
         ensures laid { OnOk result (IsLaid self.new) }
         ensures extended { OnOk result
-            (standing self.new ≡ extended content.now (standing self.old)) }
+            (standing self.new ≡ extended (take count front.now) (standing self.old)) }
     {
-        self.out.extend(content)?;
+        self.out.extend(front, count)?;
         Ok(())
     }
 

@@ -1,7 +1,7 @@
 //! The public builder: canonical bytes from the parts of an item, without a tree.
 
 ghost use Rattle.std.specs.Prelude.{◌≡◌, ◌↔◌, ◌++◌, ◌∷◌, [], List, ℕ, false, length, IsTrue, OnOk};
-ghost use Rattle.std.specs.Prelude.{IfOk, MatchOption};
+ghost use Rattle.std.specs.Prelude.{◌≤◌, IfOk, MatchOption, take};
 ghost use Rattle.cbor_head.specs.Canonical.{canonical};
 ghost use Rattle.cbor_head.specs.Head.{shortest_head, IsSimple};
 ghost use Rattle.cbor_head.specs.Value.{Value};
@@ -94,7 +94,30 @@ impl CanonBuilder {
             (self.new ≡ built self.old.order
             (give (shortest_head major (length content.now) ++ content.now) self.old.standing)) }
     {
-        let done = self.core.string(major, content);
+        let done = self.core.string(major, content, content.len());
+        if done.is_err() {
+            self.is_sound = false;
+        }
+        done
+    }
+
+    /// The same of the first of these bytes. What follows them is not looked at, but a short string
+    /// is copied faster where something does.
+    #[inline(always)]
+    pub fn front_string(
+        &mut self,
+        major: Major,
+        front: &[u8],
+        count: usize,
+    ) -> Result<(), AllocError>
+        requires kind { IsStringType major }
+        requires within { count ≤ length front.now }
+        requires takes { TakesPart self.old.standing }
+        ensures { OnOk result
+            (self.new ≡ built self.old.order
+            (give (shortest_head major count ++ take count front.now) self.old.standing)) }
+    {
+        let done = self.core.string(major, front, count);
         if done.is_err() {
             self.is_sound = false;
         }
@@ -123,7 +146,22 @@ impl CanonBuilder {
         ensures { OnOk result
             (self.new ≡ built self.old.order (extended content.now self.old.standing)) }
     {
-        let done = self.core.bytes(content);
+        let done = self.core.bytes(content, content.len());
+        if done.is_err() {
+            self.is_sound = false;
+        }
+        done
+    }
+
+    /// The same of the first of these bytes.
+    #[inline(always)]
+    pub fn front_bytes(&mut self, front: &[u8], count: usize) -> Result<(), AllocError>
+        requires string { IsInString self.old.standing }
+        requires within { count ≤ length front.now }
+        ensures { OnOk result
+            (self.new ≡ built self.old.order (extended (take count front.now) self.old.standing)) }
+    {
+        let done = self.core.bytes(front, count);
         if done.is_err() {
             self.is_sound = false;
         }

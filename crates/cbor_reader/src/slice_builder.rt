@@ -1,7 +1,7 @@
 //! The canonical bytes of the item at the front of a slice, from its events: no tree is made.
 
 ghost use Rattle.std.specs.Prelude.{◌≡◌, ◌+◌, ◌≤◌, ◌<◌, ◌∷◌, Bool, IsTrue, IfOk, IfSome, List, ℕ};
-ghost use Rattle.std.specs.Prelude.{Some, None, length, ◌++◌, IsUtf8, true};
+ghost use Rattle.std.specs.Prelude.{Some, None, length, take, ◌++◌, IsUtf8, true};
 ghost use Rattle.cbor_head.specs.Head.{shortest_head, IsSimple};
 ghost use Rattle.cbor_head.specs.Limits.{Bounds};
 ghost use Rattle.cbor_head.specs.declared.major.Major.TheVariants.{Simple};
@@ -145,13 +145,14 @@ fn feed_whole(
         Token::Unsigned => leaf(builder, Major::Unsigned, number),
         Token::Negative => leaf(builder, Major::Negative, number),
         Token::Simple => leaf(builder, Major::Simple, number),
-        Token::Bytes => give_string(builder, false, events.piece()),
+        Token::Bytes => give_string(builder, false, front, events.piece(), events.rest()),
         Token::Text => {
             let content = events.piece();
-            if !is_text(front, content, events.rest()) {
+            let rest = events.rest();
+            if !is_text(front, content, rest) {
                 return Err(Stopped);
             }
-            give_string(builder, true, content)
+            give_string(builder, true, front, content, rest)
         }
         Token::Array => begin_container(builder, Major::Array, number),
         Token::Map => begin_container(builder, Major::Map, number),
@@ -160,16 +161,36 @@ fn feed_whole(
     }
 }
 
-// A whole string.
+// A whole string. It stands before the rest, at the end of the front.
 #[inline(always)]
-fn give_string(builder: &mut CanonBuilder, text: bool, content: &[u8]) -> Result<usize, Stopped>
-    requires { TakesPart builder.old.standing }
+fn give_string(
+    builder: &mut CanonBuilder,
+    text: bool,
+    front: &[u8],
+    content: &[u8],
+    rest: &[u8],
+) -> Result<usize, Stopped>
+    requires takes { TakesPart builder.old.standing }
+    requires front { (head : List ℕ) × (front.now ≡ head ++ (content.now ++ rest.now)) }
     ensures { IfOk result (λ opened. (opened ≡ 0) × (builder.new ≡ built builder.old.order
         (give (shortest_head (string_major text) (length content.now) ++ content.now)
         builder.old.standing))) }
 {
-    builder.string(string_type(text), content)?;
+    let tail = from_content(front, content, rest);
+    builder.front_string(string_type(text), tail, content.len())?;
     Ok(0)
+}
+
+// The end of the front from a string on, which stands there before the rest.
+#[inline(always)]
+fn from_content<'a>(front: &'a [u8], content: &[u8], rest: &[u8]) -> &'a [u8]
+    requires { (head : List ℕ) × (front.now ≡ head ++ (content.now ++ rest.now)) }
+    ensures part { take (length content.now) result.now ≡ content.now }
+    ensures within { length content.now ≤ length result.now }
+{
+    let behind = content.len() + rest.len();
+    let from = front.len() - behind;
+    &front[from..]
 }
 
 // Whether a string is UTF-8. It stands before the rest, at the end of the front.
@@ -178,9 +199,7 @@ fn is_text(front: &[u8], content: &[u8], rest: &[u8]) -> bool
     requires { (head : List ℕ) × (front.now ≡ head ++ (content.now ++ rest.now)) }
     ensures { IsTrue result → IsUtf8 content.now }
 {
-    let behind = content.len() + rest.len();
-    let from = front.len() - behind;
-    if is_short_ascii(&front[from..], content.len()) {
+    if is_short_ascii(from_content(front, content, rest), content.len()) {
         return true;
     }
     let Ok(()) = check_text(content) else {
@@ -339,10 +358,12 @@ fn give_chunk(
         ≡ built builder.old.order (extended events.now.piece builder.old.standing) }
 {
     let content = events.piece();
-    if !is_content(text, front, content, events.rest()) {
+    let rest = events.rest();
+    if !is_content(text, front, content, rest) {
         return false;
     }
-    let Ok(()) = builder.bytes(content) else {
+    let tail = from_content(front, content, rest);
+    let Ok(()) = builder.front_bytes(tail, content.len()) else {
         return false;
     };
     true

@@ -124,15 +124,16 @@ impl Draft {
         self.buf.head(major, n)
     }
 
-    // These bytes behind what is there.
+    // The first of these bytes behind what is there.
     #[inline(always)]
-    pub(crate) fn extend(&mut self, bytes: &[u8]) -> Result<(), AllocError>
-        requires { IsWhole self.old }
+    pub(crate) fn extend(&mut self, front: &[u8], count: usize) -> Result<(), AllocError>
+        requires whole { IsWhole self.old }
+        requires within { count ≤ length front.now }
         ensures whole { OnOk result (IsWhole self.new) }
-        ensures meant { OnOk result (meant self.new ≡ meant self.old ++ bytes.now) }
-        ensures lies { OnOk result (self.new.buf ≡ self.old.buf ++ bytes.now) }
+        ensures meant { OnOk result (meant self.new ≡ meant self.old ++ take count front.now) }
+        ensures lies { OnOk result (self.new.buf ≡ self.old.buf ++ take count front.now) }
     {
-        self.buf.extend(bytes)
+        self.buf.extend_front(front, count)
     }
 
     // The bytes up to `end` as they lie. Takes no memory.

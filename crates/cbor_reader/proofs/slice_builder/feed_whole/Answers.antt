@@ -84,14 +84,14 @@ returns-in-Tag c = λ b o ls from w.
     let i = subst (λ (x : Token). IsWhole b o ls x from c.args.events.now c.args.builder.now) c.in-Tag.is w in
     if-ok c.begin_container-in-Tag.result _ _ c.begin_container-in-Tag.ensures (λ n h. (omega (arith, h.0), fed-tag b o ls tokens.Tag from c.args.events.now c.args.builder.now i c.number-number.result c.begin_container-in-Tag.new.builder n refl c.number-number.ensures h.1 h.0))
 
-pub give_string-requires : goal.give_string-requires
-give_string-requires c =
+pub give_string-requires-clause-takes : goal.give_string-requires-clause-takes
+give_string-requires-clause-takes c =
     let r = c.requires in
     let i = subst (λ (x : Token). IsWhole r.b r.o r.ls x r.old c.args.events.now c.args.builder.now) c.in-Bytes.is r.is in
     takes-part r.b r.o r.ls tokens.Bytes r.old i.between c.args.builder.now i.head
 
-pub give_string-requires-in-Text : goal.give_string-requires-in-Text
-give_string-requires-in-Text c =
+pub give_string-requires-in-Text-clause-takes : goal.give_string-requires-in-Text-clause-takes
+give_string-requires-in-Text-clause-takes c =
     let r = c.requires in
     let i = subst (λ (x : Token). IsWhole r.b r.o r.ls x r.old c.args.events.now c.args.builder.now) c.in-Text.is r.is in
     takes-part r.b r.o r.ls tokens.Text r.old i.between c.args.builder.now i.head
@@ -99,7 +99,17 @@ give_string-requires-in-Text c =
 pub is_text-requires : goal.is_text-requires
 is_text-requires c =
     let f = c.requires.front_is (subst IsStringToken (sym c.in-Text.is) tt) in
-    (f.0, f.1 ∙ ap₂ (λ (x y : List ℕ). f.0 ++ (x ++ y)) (sym c.piece-content.ensures) (sym c.rest.ensures))
+    (f.0, f.1 ∙ ap₂ (λ (x y : List ℕ). f.0 ++ (x ++ y)) (sym c.piece-content.ensures) (sym c.rest-rest.ensures))
+
+pub give_string-requires-in-Text-clause-front : goal.give_string-requires-in-Text-clause-front
+give_string-requires-in-Text-clause-front c =
+    let f = c.requires.front_is (subst IsStringToken (sym c.in-Text.is) tt) in
+    (f.0, f.1 ∙ ap₂ (λ (x y : List ℕ). f.0 ++ (x ++ y)) (sym c.piece-content.ensures) (sym c.rest-rest.ensures))
+
+pub give_string-requires-clause-front : goal.give_string-requires-clause-front
+give_string-requires-clause-front c =
+    let f = c.requires.front_is (subst IsStringToken (sym c.in-Bytes.is) tt) in
+    (f.0, f.1 ∙ ap₂ (λ (x y : List ℕ). f.0 ++ (x ++ y)) (sym c.piece.ensures) (sym c.rest.ensures))
 
 pub returns-in-Bytes : goal.returns-in-Bytes
 returns-in-Bytes c = λ b o ls from w.

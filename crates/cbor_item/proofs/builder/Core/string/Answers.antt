@@ -1,4 +1,4 @@
-use Rattle.std.proofs.Common.{ℕ, List, ◌++◌, append_assoc, length, ap, ◌∙◌}
+use Rattle.std.proofs.Common.{ℕ, List, ◌++◌, append_assoc, take, ap, ◌∙◌}
 use Rattle.std.specs.Prelude.{reverse}
 use Rattle.std.proofs.lemmas.Result.{on_ok_weaker}
 use Rattle.cbor_head.specs.Head.{shortest_head}
@@ -12,10 +12,10 @@ returns-clause-laid c =
     let e = c.complete.ensures in
     let h = c.in_ok-head.ensures in
     let x = c.in_ok-extend.ensures in
-    let head = shortest_head c.args.major (length c.args.content.now) in
-    let meant_is = x.meant ∙ ap (λ (xs : List ℕ). xs ++ c.args.content.now) h.meant ∙ append_assoc (meant s.out) head c.args.content.now in
-    let lies_is = x.lies ∙ ap (λ (xs : List ℕ). xs ++ c.args.content.now) h.lies ∙ append_assoc s.out.buf head c.args.content.now in
-    on_ok_weaker c.complete.result (λ spans. (member_given s.order s.out c.extend.new.self (head ++ c.args.content.now) s.spans.items s.top (reverse s.below.items) c.len-at.result c.complete.new.spans.items c.complete.new.frame
+    let head = shortest_head c.args.major c.args.count in
+    let meant_is = x.meant ∙ ap (λ (xs : List ℕ). xs ++ (take c.args.count c.args.front.now)) h.meant ∙ append_assoc (meant s.out) head (take c.args.count c.args.front.now) in
+    let lies_is = x.lies ∙ ap (λ (xs : List ℕ). xs ++ (take c.args.count c.args.front.now)) h.lies ∙ append_assoc s.out.buf head (take c.args.count c.args.front.now) in
+    on_ok_weaker c.complete.result (λ spans. (member_given s.order s.out c.extend.new.self (head ++ (take c.args.count c.args.front.now)) s.spans.items s.top (reverse s.below.items) c.len-at.result c.complete.new.spans.items c.complete.new.frame
     c.requires.laid c.requires.takes x.whole meant_is lies_is c.len-at.ensures.meant (e.from, e.start, e.shape, spans, e.rises)).0) e.spans
 
 pub returns-clause-given : goal.returns-clause-given
@@ -24,10 +24,10 @@ returns-clause-given c =
     let e = c.complete.ensures in
     let h = c.in_ok-head.ensures in
     let x = c.in_ok-extend.ensures in
-    let head = shortest_head c.args.major (length c.args.content.now) in
-    let meant_is = x.meant ∙ ap (λ (xs : List ℕ). xs ++ c.args.content.now) h.meant ∙ append_assoc (meant s.out) head c.args.content.now in
-    let lies_is = x.lies ∙ ap (λ (xs : List ℕ). xs ++ c.args.content.now) h.lies ∙ append_assoc s.out.buf head c.args.content.now in
-    on_ok_weaker c.complete.result (λ spans. (member_given s.order s.out c.extend.new.self (head ++ c.args.content.now) s.spans.items s.top (reverse s.below.items) c.len-at.result c.complete.new.spans.items c.complete.new.frame
+    let head = shortest_head c.args.major c.args.count in
+    let meant_is = x.meant ∙ ap (λ (xs : List ℕ). xs ++ (take c.args.count c.args.front.now)) h.meant ∙ append_assoc (meant s.out) head (take c.args.count c.args.front.now) in
+    let lies_is = x.lies ∙ ap (λ (xs : List ℕ). xs ++ (take c.args.count c.args.front.now)) h.lies ∙ append_assoc s.out.buf head (take c.args.count c.args.front.now) in
+    on_ok_weaker c.complete.result (λ spans. (member_given s.order s.out c.extend.new.self (head ++ (take c.args.count c.args.front.now)) s.spans.items s.top (reverse s.below.items) c.len-at.result c.complete.new.spans.items c.complete.new.frame
     c.requires.laid c.requires.takes x.whole meant_is lies_is c.len-at.ensures.meant (e.from, e.start, e.shape, spans, e.rises)).1) e.spans
 
 pub complete-requires-clause-within : goal.complete-requires-clause-within
@@ -35,7 +35,7 @@ complete-requires-clause-within c =
     let s = c.args.self.now in
     let h = c.in_ok-head.ensures in
     let x = c.in_ok-extend.ensures in
-    let head = shortest_head c.args.major (length c.args.content.now) in
-    let meant_is = x.meant ∙ ap (λ (xs : List ℕ). xs ++ c.args.content.now) h.meant ∙ append_assoc (meant s.out) head c.args.content.now in
-    let lies_is = x.lies ∙ ap (λ (xs : List ℕ). xs ++ c.args.content.now) h.lies ∙ append_assoc s.out.buf head c.args.content.now in
-    member_ready s.order s.out c.extend.new.self (head ++ c.args.content.now) s.spans.items s.top (reverse s.below.items) c.requires.laid x.whole meant_is lies_is
+    let head = shortest_head c.args.major c.args.count in
+    let meant_is = x.meant ∙ ap (λ (xs : List ℕ). xs ++ (take c.args.count c.args.front.now)) h.meant ∙ append_assoc (meant s.out) head (take c.args.count c.args.front.now) in
+    let lies_is = x.lies ∙ ap (λ (xs : List ℕ). xs ++ (take c.args.count c.args.front.now)) h.lies ∙ append_assoc s.out.buf head (take c.args.count c.args.front.now) in
+    member_ready s.order s.out c.extend.new.self (head ++ (take c.args.count c.args.front.now)) s.spans.items s.top (reverse s.below.items) c.requires.laid x.whole meant_is lies_is
