@@ -1,12 +1,13 @@
 //! Heads of strings whose payload is there, straight from a slice.
 
-ghost use Rattle.std.specs.Prelude.{◌≡◌, ◌≤◌, ◌<◌, ◌+◌, List, ℕ, IfSome, length};
+ghost use Rattle.std.specs.Prelude.{◌≡◌, ◌≤◌, ◌<◌, ◌+◌, List, ℕ, IfSome, length, true};
+ghost use Rattle.cbor_events.specs.inner.Automaton as automaton;
 ghost use Rattle.cbor_events.specs.inner.Reads.{piece_by};
+ghost use Rattle.cbor_events.specs.inner.State.{major_of};
 ghost use Rattle.cbor_events.specs.inner.Whole.{IsFront, TellsString, TellsChunk};
 ghost use Rattle.cbor_events.specs.Token.{IsStringToken, kind_of};
 
-use crate::opening::{Numbered, numbered_at};
-use crate::take_byte::is_same_string;
+use crate::opening::Numbered;
 use crate::token::Token;
 use crate::whole::read_argument;
 use cbor_head::Width;
@@ -60,6 +61,20 @@ pub fn front_string(rest: &[u8]) -> Option<StringHead>
     })
 }
 
+// The high three bits of the head of a string of this type.
+#[inline(always)]
+fn string_bits(kind: Numbered) -> Option<u8>
+    ensures major { IfSome result (λ bits. major_of kind ≡ automaton.major_at bits) }
+    ensures same { IfSome result
+        (λ bits. automaton.is_major (major_of kind) (major_of kind) ≡ true) }
+{
+    match kind {
+        Numbered::Bytes => Some(2),
+        Numbered::Text => Some(3),
+        _ => None,
+    }
+}
+
 /// The same of a chunk of a string.
 #[inline(always)]
 pub fn front_chunk(kind: Numbered, rest: &[u8]) -> Option<StringHead>
@@ -69,7 +84,8 @@ pub fn front_chunk(kind: Numbered, rest: &[u8]) -> Option<StringHead>
 {
     let (first, behind) = rest.split_first()?;
     let c = *first;
-    if c >= 0xe0 || !is_same_string(kind, numbered_at(c / 32)) {
+    let bits = string_bits(kind)?;
+    if c / 32 != bits {
         return None;
     }
     let argument = read_argument(c % 32, behind)?;

@@ -169,6 +169,7 @@ impl CanonBuilder {
     }
 
     /// The string ends.
+    #[inline(always)]
     pub fn end_string(&mut self) -> Result<(), AllocError>
         requires string { IsInString self.old.standing }
         ensures { OnOk result

@@ -1,4 +1,5 @@
-use Rattle.std.proofs.Common.{true, sym, ◌∙◌, arith}
+use Rattle.std.proofs.Common.{◌≡◌, ◌/◌, true, ap, ◌∙◌, arith}
+use Rattle.cbor_events.specs.inner.Automaton.{major_at}
 use Rattle.cbor_events.specs.inner.State.{major_of}
 use Rattle.cbor_events.proofs.WholeHeads.{chunk-run, payload-some}
 use Rattle.cbor_events.proofs.string_head.front_chunk.Goals as goal
@@ -14,6 +15,7 @@ returns-clause-there c = (omega arith, omega (arith, c.in_ok-argument.ensures.fe
 
 pub returns-clause-told : goal.returns-clause-told
 returns-clause-told c = λ d fs.
+    let same : c.in_ok-bits.bits ≡ c.in_ok-first.first.now / 32 = omega arith in
     chunk-run d fs c.args.rest.now c.in_ok-first.first.now c.in_ok-first.behind.now c.in_ok-argument.argument.width c.in_ok-argument.argument.number c.in_ok-argument.argument.rest.now
-    c.args.kind c.numbered_at.result _ c.in_ok-first.ensures.cases.0 c.in_ok-argument.ensures.spelled (omega arith) c.numbered_at.ensures (sym c.is_same_string.ensures ∙ c.if-not-is_same_string.false)
+    c.args.kind c.args.kind _ c.in_ok-first.ensures.cases.0 c.in_ok-argument.ensures.spelled (omega arith) (c.in_ok-bits.ensures.major ∙ ap major_at same) c.in_ok-bits.ensures.same
     (payload-some true (major_of c.args.kind) c.in_ok-argument.argument.number fs (omega arith))
