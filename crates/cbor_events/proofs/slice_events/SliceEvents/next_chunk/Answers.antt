@@ -36,11 +36,11 @@ returns-clause-answers c = λ yes t ms h.
     let m = major_of c.in-Chunks.kind in
     let all : used - 1 + 1 ≡ used = omega (arith, there.0) in
     let piece : IsEventRun v.limits.depth (state_of p v.nest) (state_of v.position v.nest) (take used ys) Direct (kind_of tokens.Piece used)
-        = subst (λ q. IsEventRun v.limits.depth (state_of p v.nest) (state_of q v.nest) (take used ys) Direct (kind_of tokens.Piece used)) (sym here) (record {
-          ran = piece_last v.limits.depth true m (frames_of v.nest) (take used ys) (used - 1) (length-take-le used ys piece_fits ∙ sym all)
-              ∙ ap (λ n. reached (in_chunks m (frames_of v.nest)) (replicate n a_byte)) all;
-          proper = (refl, there.0);
-        }) in
+    = subst (λ q. IsEventRun v.limits.depth (state_of p v.nest) (state_of q v.nest) (take used ys) Direct (kind_of tokens.Piece used)) (sym here) (record {
+      ran = piece_last v.limits.depth true m (frames_of v.nest) (take used ys) (used - 1) (length-take-le used ys piece_fits ∙ sym all)
+          ∙ ap (λ n. reached (in_chunks m (frames_of v.nest)) (replicate n a_byte)) all;
+      proper = (refl, there.0);
+    }) in
     let mid : SliceEventsView = record {
       machine = record {
         depth = v.limits.depth;
