@@ -239,3 +239,17 @@ fn tells_whole_chunks(rt: HostRuntime) {
     );
     assert_eq!(rt; events.next(), Token::End);
 }
+
+#[test]
+fn tells_what_has_no_length(rt: HostRuntime) {
+    // [_ 0, {_ }]
+    let mut events = SliceEvents::new(b"\x9f\x00\xbf\xff\xff", limits(&rt, 2, 5));
+    assert_eq!(rt; events.next_open(), Some(Token::IndefiniteArray));
+    assert_eq!(rt; events.next_open(), None);
+    assert_eq!(rt; events.next(), Token::Unsigned);
+    assert_eq!(rt; events.next_open(), Some(Token::IndefiniteMap));
+    assert_eq!(rt; events.next_open(), Some(Token::Break));
+    assert_eq!(rt; (events.open(), events.place()), (1, 3));
+    assert_eq!(rt; events.next_open(), Some(Token::Break));
+    assert_eq!(rt; (events.next_open(), events.next()), (None, Token::End));
+}
