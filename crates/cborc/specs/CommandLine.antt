@@ -62,6 +62,16 @@ pub record IsMannerOf (rows : List Row) (manner : Manner) : Type 0 where
   pub explained : one_of (codes "quiet") rows ≡ Some (codes "false") → one_of (codes "explain") rows ≡ Some (codes "true") → manner ≡ Explained
   pub plain : one_of (codes "quiet") rows ≡ Some (codes "false") → one_of (codes "explain") rows ≡ Some (codes "false") → manner ≡ Plain
 
+-- it is not told at once to be quiet and to explain
+abbrev pub HasOneManner : List Row → Type 0
+HasOneManner rows = one_of (codes "quiet") rows ≡ Some (codes "true") → one_of (codes "explain") rows ≢ Some (codes "true")
+
+-- it is told both
+abbrev pub HasTwoManners : List Row → Type 0
+HasTwoManners rows =
+    (one_of (codes "quiet") rows ≢ None) × (one_of (codes "quiet") rows ≢ Some (codes "false"))
+    × (one_of (codes "explain") rows ≢ None) × (one_of (codes "explain") rows ≢ Some (codes "false"))
+
 -- whether a request would read standard input for two files
 abbrev pub reads_stream_twice : Request → Bool
 reads_stream_twice (Compare left right options) = is_stream left.now && is_stream right.now
@@ -110,8 +120,9 @@ HasOrder (name, rows) = (name ≡ codes "check") ⊎ (name ≡ codes "canon") �
 abbrev pub IsComplete : Text × List Row → Type 0
 IsComplete (name, rows) = HasFiles (name, rows) × HasOrder (name, rows) × HasLimits rows
 
--- A subcommand, of this name and given these, asks for this task. None reads standard input twice.
+-- A subcommand, of this name and given these, asks for this task. None reads standard input twice, or is told two manners.
 pub record AsksForTask (given : Text × List Row) (task : Task) : Type 0 where
   pub request : AsksFor given task.request
   pub manner : IsMannerOf given.1 task.manner
   pub once : reads_stream_twice task.request ≡ false
+  pub one_manner : HasOneManner given.1

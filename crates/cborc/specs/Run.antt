@@ -1,8 +1,10 @@
 -- What a run leaves: in the files, on standard output, and as its status.
-use Rattle.std.specs.Prelude.{ℕ, ◌≡◌, ◌⊎◌, List, Option, Result, Ok, Err}
+use Rattle.std.specs.Prelude.{ℕ, ◌≡◌, ◌≢◌, ◌⊎◌, List, Option, Result, Ok, Err}
 use Rattle.std.specs.Io.KnownBytes.{Keeps}
-use Rattle.clap.specs.Words.{Row, Text}
-use Rattle.cborc.specs.CommandLine.{AsksForTask}
+use Rattle.clap.specs.Words.{Text}
+use Rattle.clap.specs.declared.error.kind.ErrorKind.{ErrorKind}
+use Rattle.clap.specs.declared.error.kind.ErrorKind.TheVariants as kinds
+use Rattle.cborc.specs.Words.{AskFor, HasFault}
 use Rattle.cborc_commands.specs.Folder.{Files, KeepsFiles}
 use Rattle.cborc_commands.specs.Told.{IsToldBy}
 use Rattle.cborc_commands.specs.declared.request.Task.{Task}
@@ -11,21 +13,27 @@ use Rattle.cborc_commands.specs.declared.fault.Fault.TheVariants as faults
 use Rattle.cborc_commands.specs.declared.status.Status.{Status}
 use Rattle.cborc_commands.specs.declared.status.Status.TheVariants.{Accepted, Misused}
 
--- how a run ends whose words give no request: with a status, or for a fault; help alone is written to standard output
-abbrev pub IsWordsEnd : Result Status Fault → Option (List ℕ) → Option (List ℕ) → Type 0
-IsWordsEnd (Ok Misused) before after = Keeps before after
-IsWordsEnd (Ok Accepted) before after = Unit {0}
-IsWordsEnd (Ok _) before after = ⊥
-IsWordsEnd (Err faults.Memory) before after = Keeps before after
-IsWordsEnd (Err faults.CannotPrint) before after = Unit {0}
-IsWordsEnd (Err _) before after = ⊥
+-- the words call for help or for the version
+abbrev pub IsHelp : ErrorKind → Type 0
+IsHelp kind = (kind ≡ kinds.DisplayHelp) ⊎ (kind ≡ kinds.DisplayVersion)
 
--- what a run leaves
-pub data IsRun (old new : Option Files) (before after : Option (List ℕ)) (status : ℕ) : Type 0 where
-  -- the words of a subcommand ask for something, and it is answered
-  answered : (given : Text × List Row) (task : Task) → AsksForTask given task → IsToldBy task.manner task.request old new before after status
-      → IsRun old new before after status
+-- how a run ends whose words give no request, by the kind of their fault: with a status, or for a fault; help alone is written to standard output
+abbrev pub IsWordsEnd : ErrorKind → Result Status Fault → Option (List ℕ) → Option (List ℕ) → Type 0
+IsWordsEnd kind result before after =
+    ((result ≡ Ok Misused) × (kind ≢ kinds.OutOfMemory) × (IsHelp kind → ⊥) × Keeps before after)
+    ⊎ (((result ≡ Ok Accepted) ⊎ (result ≡ Err faults.CannotPrint)) × (kind ≢ kinds.OutOfMemory) × IsHelp kind)
+    ⊎ ((result ≡ Err faults.Memory) × (kind ≡ kinds.OutOfMemory) × Keeps before after)
+
+-- what a run with these words leaves
+pub data IsRun (words : List Text) (old new : Option Files) (before after : Option (List ℕ)) (status : ℕ) : Type 0 where
+  -- they ask for something, and it is answered
+  answered : (task : Task) → AskFor words task → IsToldBy task.manner task.request old new before after status
+      → IsRun words old new before after status
   -- they ask for help, which standard output takes, or not
-  helped : KeepsFiles old new → (status ≡ 0) ⊎ (status ≡ 3) → IsRun old new before after status
-  -- there is a fault in them, or memory was refused: nothing is written to standard output
-  misused : KeepsFiles old new → Keeps before after → (status ≡ 2) ⊎ (status ≡ 3) → IsRun old new before after status
+  helped : (kind : ErrorKind) → HasFault words kind → IsHelp kind → KeepsFiles old new → (status ≡ 0) ⊎ (status ≡ 3)
+      → IsRun words old new before after status
+  -- there is a fault in them: nothing is written to standard output, which may fail all the same
+  misused : (kind : ErrorKind) → HasFault words kind → (IsHelp kind → ⊥) → KeepsFiles old new → Keeps before after
+      → (status ≡ 2) ⊎ (status ≡ 3) → IsRun words old new before after status
+  -- memory was refused: nor is anything written then
+  starved : KeepsFiles old new → Keeps before after → status ≡ 3 → IsRun words old new before after status

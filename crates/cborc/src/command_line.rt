@@ -1,8 +1,9 @@
 //! The words of the command line, and what they ask for.
 
-ghost use Rattle.std.specs.Prelude.{◌≡◌, List, codes, IfOk, IfSome, IsSome, IsSomeAnd};
-ghost use Rattle.clap.specs.Words.{Row, Text, first_of, found_of, rows_of, subcommand_rows_of};
-ghost use Rattle.cborc.specs.CommandLine.{order_named, AsksFor, AsksForTask, HasLimits, reads_stream_twice, IsAcceptedOf, IsComplete, IsLayoutOf, IsMannerOf, IsOptionsOf, IsOutputOf};
+ghost use Rattle.std.specs.Prelude.{◌≡◌, ◌≢◌, codes, false, true, IfErr, IfOk, IfSome, IsSome, IsSomeAnd};
+ghost use Rattle.clap.specs.Words.{first_of, found_of, kind_of, rows_of, subcommand_rows_of};
+ghost use Rattle.cborc.specs.CommandLine.{order_named, AsksFor, HasLimits, HasOneManner, HasTwoManners, reads_stream_twice, IsAcceptedOf, IsComplete, IsLayoutOf, IsMannerOf, IsOptionsOf, IsOutputOf};
+ghost use Rattle.cborc.specs.Words.{texts_of, AskFor, HasFault};
 
 use crate::grammar::command;
 use cbor_head::{KeyOrder, Limits};
@@ -14,7 +15,9 @@ use std::alloc::Global;
 /// What the words ask for, the program's name first. The error is a fault in the words, a request
 /// for help, or want of memory; the error's kind says which.
 pub fn parse<'a>(alloc: Global, words: &'a [String]) -> Result<Task<'a>, Error>
-    ensures { IfOk result (λ task. (given : Text × List Row) × AsksForTask given task) }
+    ensures ok { IfOk result (AskFor (texts_of words.now)) }
+    ensures err { IfErr result (λ error. kind_of error ≢ ErrorKind.OutOfMemory
+        → HasFault (texts_of words.now) (kind_of error)) }
 {
     let mut command = command(alloc)?;
     let matches = command.try_get_matches_from_mut(words)?;
@@ -22,6 +25,10 @@ pub fn parse<'a>(alloc: Global, words: &'a [String]) -> Result<Task<'a>, Error>
         // Not met: clap has seen that all is there, in its range. The types do not say so.
         return Err(command.error(ErrorKind::MissingSubcommand, "a word is missing")?);
     };
+    if has_two_manners(&matches) {
+        let message = "the argument '--quiet' cannot be used with '--explain'";
+        return Err(command.error(ErrorKind::ArgumentConflict, message)?);
+    }
     if reads_stream_twice(&task.request) {
         let message = "standard input is read once: '-' may stand for A or for B";
         return Err(command.error(ErrorKind::ArgumentConflict, message)?);
@@ -37,6 +44,27 @@ fn reads_stream_twice(request: &Request<'_>) -> bool
         Request::Compare { left, right, .. } => is_stream(left) && is_stream(right),
         _ => false,
     }
+}
+
+// Whether the words ask to be quiet and to explain.
+fn has_two_manners(matches: &ArgMatches<'_>) -> bool
+    ensures yes { result ≡ true → IsSomeAnd (subcommand_rows_of matches.now)
+        (λ given. HasTwoManners given.1) }
+    ensures no { result ≡ false → IfSome (subcommand_rows_of matches.now)
+        (λ given. HasOneManner given.1) }
+{
+    match matches.subcommand() {
+        Some((_, given)) => are_two_manners(given),
+        None => false,
+    }
+}
+
+#[tactic(auto, using(crate::proofs::Rows::getters))]
+fn are_two_manners(given: &ArgMatches<'_>) -> bool
+    ensures yes { result ≡ true → HasTwoManners (rows_of (found_of given.now)) }
+    ensures no { result ≡ false → HasOneManner (rows_of (found_of given.now)) }
+{
+    given.get_flag("quiet") && given.get_flag("explain")
 }
 
 fn task_of<'a>(matches: &ArgMatches<'a>) -> Option<Task<'a>>

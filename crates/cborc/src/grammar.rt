@@ -1,5 +1,11 @@
 //! The words that the program takes: its subcommands, their options, and the texts of help.
 
+ghost use Rattle.std.specs.Prelude.{◌≡◌, ◌++◌, ◌∷◌, [], IfOk, false, codes};
+ghost use Rattle.std.specs.Borrow.{Bor};
+ghost use Rattle.clap.specs.Words.{app_of};
+ghost use Rattle.cborc.specs.Grammar as grammar;
+ghost use Rattle.cborc.specs.Grammar.{with_rules, HasRule, HasShape, IsGrammar, NamesOrders};
+
 use cbor_head::MAX_DEPTH;
 use clap::{Arg, ArgAction, Command};
 use std::alloc::{AllocError, Global};
@@ -28,7 +34,9 @@ Examples:
   cborc compare old.cbor new.cbor";
 
 /// The program's command line.
-pub fn command<'a>(alloc: Global) -> Result<Command<'a>, AllocError> {
+pub fn command<'a>(alloc: Global) -> Result<Command<'a>, AllocError>
+    ensures { IfOk result (λ command. IsGrammar (app_of command)) }
+{
     Command::new(alloc, "cborc")
         .about("Reads and writes deterministic CBOR (RFC 8949, section 4.2)")
         .version("0.1.0")
@@ -42,29 +50,25 @@ pub fn command<'a>(alloc: Global) -> Result<Command<'a>, AllocError> {
         .subcommand(compare(alloc)?)
 }
 
-fn check<'a>(alloc: Global) -> Result<Command<'a>, AllocError> {
-    let strict = Arg::new(alloc, "strict")
-        .long("strict")
-        .action(ArgAction::SetTrue)
-        .help("Accept canonical bytes alone");
-    let seq = Arg::new(alloc, "seq")
-        .long("seq")
-        .action(ArgAction::SetTrue)
-        .help("Read a sequence of items, with the limits on each");
+fn check<'a>(alloc: Global) -> Result<Command<'a>, AllocError>
+    ensures { IfOk result (λ command. (names : Bor _) × NamesOrders names × HasShape (grammar.check names) command) }
+{
     let command = Command::new(alloc, "check")
         .about("Checks that FILE is one valid item, or a sequence of them")
         .arg(file(alloc, "FILE", "The file to read, or - for standard input"))?
-        .arg(strict)?
-        .arg(seq)?
+        .arg(flag(alloc, "strict", "Accept canonical bytes alone"))?
+        .arg(flag(
+            alloc,
+            "seq",
+            "Read a sequence of items, with the limits on each",
+        ))?
         .arg(order(alloc, "The order of map keys, with --strict"))?;
     with_options(alloc, command)
 }
 
-fn canon<'a>(alloc: Global) -> Result<Command<'a>, AllocError> {
-    let hex_out = Arg::new(alloc, "hex-out")
-        .long("hex-out")
-        .action(ArgAction::SetTrue)
-        .help("Write hex digits, two for each byte, and a line feed");
+fn canon<'a>(alloc: Global) -> Result<Command<'a>, AllocError>
+    ensures { IfOk result (λ command. (names : Bor _) × NamesOrders names × HasShape (grammar.canon names) command) }
+{
     let command = Command::new(alloc, "canon")
         .about("Writes the canonical bytes of the item in IN to OUT")
         .arg(file(
@@ -73,16 +77,18 @@ fn canon<'a>(alloc: Global) -> Result<Command<'a>, AllocError> {
             "The file to read: one item, or - for standard input",
         ))?
         .arg(file(alloc, "OUT", "The file to write, or - for standard output"))?
-        .arg(hex_out)?
+        .arg(flag(
+            alloc,
+            "hex-out",
+            "Write hex digits, two for each byte, and a line feed",
+        ))?
         .arg(order(alloc, "The order of map keys"))?;
     with_options(alloc, command)
 }
 
-fn show<'a>(alloc: Global) -> Result<Command<'a>, AllocError> {
-    let indent = Arg::new(alloc, "indent")
-        .long("indent")
-        .action(ArgAction::SetTrue)
-        .help("Write one member or pair a line");
+fn show<'a>(alloc: Global) -> Result<Command<'a>, AllocError>
+    ensures { IfOk result (HasShape grammar.show) }
+{
     let command = Command::new(alloc, "show")
         .about("Writes the diagnostic text of the item in FILE")
         .arg(file(
@@ -90,11 +96,13 @@ fn show<'a>(alloc: Global) -> Result<Command<'a>, AllocError> {
             "FILE",
             "The file to read: one item, or - for standard input",
         ))?
-        .arg(indent)?;
+        .arg(flag(alloc, "indent", "Write one member or pair a line"))?;
     with_options(alloc, command)
 }
 
-fn events<'a>(alloc: Global) -> Result<Command<'a>, AllocError> {
+fn events<'a>(alloc: Global) -> Result<Command<'a>, AllocError>
+    ensures { IfOk result (HasShape grammar.events) }
+{
     let command = Command::new(alloc, "events")
         .about("Writes a line for each event of the item in FILE")
         .arg(file(
@@ -105,7 +113,9 @@ fn events<'a>(alloc: Global) -> Result<Command<'a>, AllocError> {
     with_options(alloc, command)
 }
 
-fn compare<'a>(alloc: Global) -> Result<Command<'a>, AllocError> {
+fn compare<'a>(alloc: Global) -> Result<Command<'a>, AllocError>
+    ensures { IfOk result (HasShape grammar.compare) }
+{
     let command = Command::new(alloc, "compare")
         .about("Says whether the items in A and B have the same value")
         .arg(file(alloc, "A", "The first file to read: one item, or -"))?
@@ -113,14 +123,27 @@ fn compare<'a>(alloc: Global) -> Result<Command<'a>, AllocError> {
     with_options(alloc, command)
 }
 
-fn file<'a>(alloc: Global, name: &'a str, help: &'a str) -> Arg<'a> {
+fn file<'a>(alloc: Global, name: &'a str, help: &'a str) -> Arg<'a>
+    ensures { HasRule (grammar.file name.entry.now) result }
+{
     Arg::new(alloc, name)
         .action(ArgAction::Set)
         .required(true)
         .help(help)
 }
 
-fn order<'a>(alloc: Global, help: &'a str) -> Arg<'a> {
+fn flag<'a>(alloc: Global, name: &'a str, help: &'a str) -> Arg<'a>
+    ensures { HasRule (grammar.flag name.entry.now) result }
+{
+    Arg::new(alloc, name)
+        .long(name)
+        .action(ArgAction::SetTrue)
+        .help(help)
+}
+
+fn order<'a>(alloc: Global, help: &'a str) -> Arg<'a>
+    ensures { (names : Bor _) × NamesOrders names × HasRule (grammar.order names) result }
+{
     Arg::new(alloc, "order")
         .long("order")
         .value_name("order")
@@ -131,34 +154,40 @@ fn order<'a>(alloc: Global, help: &'a str) -> Arg<'a> {
 }
 
 // The options that all subcommands take.
-fn with_options<'a>(alloc: Global, command: Command<'a>) -> Result<Command<'a>, AllocError> {
-    let depth = Arg::new(alloc, "depth")
+fn with_options<'a>(alloc: Global, command: Command<'a>) -> Result<Command<'a>, AllocError>
+    ensures { IfOk result (λ r. app_of r ≡ with_rules (app_of command.entry) grammar.options) }
+{
+    let hex = "Read hex digits, two for each byte, white space ignored";
+    let quiet = "Answer by the status alone";
+    let explain = "Say behind a refusal or fault what it means, and where it is";
+    command
+        .arg(depth(alloc))?
+        .arg(bytes(alloc))?
+        .arg(flag(alloc, "hex", hex))?
+        .arg(flag(alloc, "quiet", quiet))?
+        .arg(flag(alloc, "explain", explain))
+}
+
+fn depth<'a>(alloc: Global) -> Arg<'a>
+    ensures { HasRule grammar.depth result }
+{
+    Arg::new(alloc, "depth")
         .long("depth")
         .value_name("count")
         .action(ArgAction::Set)
         .value_parser(clap::value_parser!(u16).range(0..=i64::from(MAX_DEPTH)))
         .default_value("256")
-        .help("How deep arrays, maps and tags may nest, 0 to 256");
-    let bytes = Arg::new(alloc, "bytes")
+        .help("How deep arrays, maps and tags may nest, 0 to 256")
+}
+
+fn bytes<'a>(alloc: Global) -> Arg<'a>
+    ensures { HasRule grammar.bytes result }
+{
+    Arg::new(alloc, "bytes")
         .long("bytes")
         .value_name("count")
         .action(ArgAction::Set)
         .value_parser(clap::value_parser!(u64).range(0..=1 << 62))
         .default_value("1048576")
-        .help("How many bytes an item may have, 0 to 4611686018427387904");
-    let hex = Arg::new(alloc, "hex")
-        .long("hex")
-        .action(ArgAction::SetTrue)
-        .help("Read hex digits, two for each byte, white space ignored");
-    let quiet = Arg::new(alloc, "quiet")
-        .long("quiet")
-        .action(ArgAction::SetTrue)
-        .conflicts_with("explain")?
-        .help("Answer by the status alone");
-    let explain = Arg::new(alloc, "explain")
-        .long("explain")
-        .action(ArgAction::SetTrue)
-        .help("Say behind a refusal or fault what it means, and where it is");
-    let command = command.arg(depth)?.arg(bytes)?.arg(hex)?;
-    command.arg(quiet)?.arg(explain)
+        .help("How many bytes an item may have, 0 to 4611686018427387904")
 }

@@ -4,6 +4,7 @@ ghost use Rattle.std.specs.Prelude.{◌≡◌, ◌≢◌, ◌≤◌, ◌⊎◌, 
 ghost use Rattle.std.specs.Io.KnownBytes.{Keeps};
 ghost use Rattle.clap.specs.Words.{kind_of};
 ghost use Rattle.cborc_commands.specs.Folder.{KeepsFiles};
+ghost use Rattle.cborc.specs.Words.{texts_of};
 ghost use Rattle.cborc.specs.Run.{IsWordsEnd, IsRun};
 
 use crate::command_line::parse;
@@ -24,7 +25,7 @@ pub fn run<F: Folder, O: Write, E: Write>(
     err: &mut E,
 ) -> u8
     ensures range { result ≤ 3 }
-    ensures leaves { IsRun (F.held files.old) (F.held files.new)
+    ensures leaves { IsRun (texts_of words.items) (F.held files.old) (F.held files.new)
         (O.contents out.old) (O.contents out.new) result }
     ensures refused { result ≡ 1 → KeepsFiles (F.held files.old) (F.held files.new) }
     ensures unchanged { result ≡ 2 → files.new ≡ files.old }
@@ -51,7 +52,7 @@ fn explain_words<'a, O: Write, E: Write>(
     ensures misused { kind_of error.now ≢ ErrorKind.OutOfMemory
         → kind_of error.now ≢ ErrorKind.DisplayHelp → kind_of error.now ≢ ErrorKind.DisplayVersion
         → result ≡ Ok Status.Misused }
-    ensures ends { IsWordsEnd result (O.contents out.old) (O.contents out.new) }
+    ensures ends { IsWordsEnd (kind_of error.now) result (O.contents out.old) (O.contents out.new) }
 {
     if error.kind() == ErrorKind::OutOfMemory {
         return Err(Fault::Memory);

@@ -1,14 +1,37 @@
-use Rattle.std.proofs.Common.{◌≡◌, false, sym, List, Option, Some, None}
-use Rattle.std.specs.Prelude.{IsSomeAnd}
-use Rattle.clap.specs.Words.{Row, Text}
-use Rattle.cborc.specs.CommandLine.{AsksFor, AsksForTask, IsMannerOf, reads_stream_twice}
-use Rattle.cborc_commands.specs.declared.request.Task.{Task}
+use Rattle.std.proofs.Common.{refl, sym}
+use Rattle.clap.proofs.TakesLemmas.{passed_up}
+use Rattle.cborc.proofs.Asked.{asked, of_clap, of_missing, of_two_manners, of_two_streams}
+use Rattle.cborc.proofs.Builds.{free}
 use Rattle.cborc.proofs.command_line.parse.Goals as goal
 
-asks : (rows : Option (Text × List Row)) (task : Task) → reads_stream_twice task.request ≡ false
-    → IsSomeAnd rows (λ given. AsksFor given task.request × IsMannerOf given.1 task.manner) → (given : Text × List Row) × AsksForTask given task
-asks None task e h = absurd h
-asks (Some given) task e h = (given, record { request = h.0; manner = h.1; once = e })
+pub returns-in_err-matches-clause-err : goal.returns-in_err-matches-clause-err
+returns-in_err-matches-clause-err c =
+    let grammar = c.in_ok-command.ensures in
+    passed_up c.from_residual-in_err-matches.result c.in_err-matches.field-0.0 _ c.from_residual-in_err-matches.ensures.1
+    (of_clap _ grammar _ c.in_err-matches.field-0.0 (c.in_err-matches.ensures.kinds (free _ grammar)))
 
-pub returns : goal.returns
-returns c = asks _ c.in-Some.task (sym c.if-reads_stream_twice.ensures) c.in-Some.ensures.value
+pub returns-in_default-clause-err : goal.returns-in_default-clause-err
+returns-in_default-clause-err c known =
+    let grammar = c.in_ok-command.ensures in
+    let parsed = c.in_ok-matches.ensures in
+    of_missing _ grammar _ _ _ parsed.ok.2 (parsed.kinds (free _ grammar)) c.in_default.ensures.some c.in_ok-error.ensures.kind
+
+pub returns-then-has_two_manners-clause-err : goal.returns-then-has_two_manners-clause-err
+returns-then-has_two_manners-clause-err c known =
+    let grammar = c.in_ok-command.ensures in
+    let parsed = c.in_ok-matches.ensures in
+    of_two_manners _ grammar _ _ _ parsed.ok.2 (parsed.kinds (free _ grammar)) (c.if-has_two_manners.ensures.yes refl) c.in_ok-error-2.ensures.kind
+
+pub returns-then-reads_stream_twice-clause-err : goal.returns-then-reads_stream_twice-clause-err
+returns-then-reads_stream_twice-clause-err c known =
+    let grammar = c.in_ok-command.ensures in
+    let parsed = c.in_ok-matches.ensures in
+    of_two_streams _ grammar _ _ c.in-Some.task _ parsed.ok.2 (parsed.kinds (free _ grammar)) c.in-Some.ensures.value (sym c.if-reads_stream_twice.ensures)
+    c.in_ok-error-3.ensures.kind
+
+pub returns-clause-ok : goal.returns-clause-ok
+returns-clause-ok c =
+    let grammar = c.in_ok-command.ensures in
+    let parsed = c.in_ok-matches.ensures in
+    asked _ grammar _ _ c.in-Some.task parsed.ok.2 (parsed.kinds (free _ grammar)) c.in-Some.ensures.value (c.if-has_two_manners.ensures.no refl)
+    (sym c.if-reads_stream_twice.ensures)

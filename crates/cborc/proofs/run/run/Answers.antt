@@ -1,5 +1,20 @@
+use Rattle.std.proofs.Common.{◌≡◌, ◌≢◌, List, ap, rules, subst}
+use Rattle.clap.specs.Words.{Text, kind_of}
+use Rattle.clap.specs.declared.error.kind.ErrorKind.TheVariants.{OutOfMemory}
 use Rattle.cborc.specs.Run.{answered}
+use Rattle.cborc.specs.Words.{texts_of, AskFor, HasFault}
+use Rattle.cborc.proofs.Ends.{ends, keeps_files}
 use Rattle.cborc.proofs.run.run.Goals as goal
 
 pub returns-in-Ok-clause-leaves : goal.returns-in-Ok-clause-leaves
-returns-in-Ok-clause-leaves g c = answered c.in-Ok.ensures.0 c.in-Ok.task c.in-Ok.ensures.1 c.perform.ensures
+returns-in-Ok-clause-leaves g c =
+    let same : c.as_slice.result.now ≡ c.args.words.items = search rules in
+    answered c.in-Ok.task (subst (λ (words : List Text). AskFor words c.in-Ok.task) (ap texts_of same) c.in-Ok.ensures.ok) c.perform.ensures
+
+pub returns-clause-leaves : goal.returns-clause-leaves
+returns-clause-leaves g c =
+    let same : c.as_slice.result.now ≡ c.args.words.items = search rules in
+    let kind = kind_of c.in-Err.error in
+    let fault = subst (λ (words : List Text). kind ≢ OutOfMemory → HasFault words kind) (ap texts_of same) c.in-Err.ensures.err in
+    ends _ _ c.explain_words-ended.result c.flushed.result _ _ _ _ _ _ fault c.explain_words-ended.ensures.ends c.flushed.ensures.end (keeps_files _)
+    c.flushed.ensures.keeps c.end.ensures

@@ -1,0 +1,20 @@
+use Rattle.std.proofs.Common.{◌≡◌, ◌∙◌, ap, codes, rules}
+use Rattle.std.proofs.lemmas.Result.{IfOk-weaker}
+use Rattle.clap.specs.Words.{App, app_of, new_app}
+use Rattle.cborc.specs.Grammar as grammar
+use Rattle.cborc.specs.Grammar.{with_rules, HasRule}
+use Rattle.cborc.proofs.Builds.{adds_rule}
+use Rattle.cborc.proofs.grammar.canon.Goals as goal
+
+pub returns : goal.returns
+returns c =
+    let empty : app_of c.about.result ≡ new_app (codes "canon") = search rules in
+    let first : HasRule (grammar.file (codes "IN")) c.file.result = search rules in
+    let second : HasRule (grammar.file (codes "OUT")) c.file-2.result = search rules in
+    let third : HasRule (grammar.flag (codes "hex-out")) c.flag.result = search rules in
+    let names = c.order.ensures in
+    let one = adds_rule _ _ _ _ _ c.in_ok-arg.ensures empty first in
+    let two = adds_rule _ _ _ _ _ c.in_ok-arg-2.ensures one second in
+    let three = adds_rule _ _ _ _ _ c.in_ok-arg-3.ensures two third in
+    let command = adds_rule _ _ _ _ _ c.in_ok-command.ensures three names.2 in
+    IfOk-weaker c.with_options.result _ _ (λ r h. (names.0, names.1, h ∙ ap (λ (app : App). with_rules app grammar.options) command)) c.with_options.ensures
