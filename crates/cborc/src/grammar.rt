@@ -1,6 +1,6 @@
 //! The words that the program takes: its subcommands, their options, and the texts of help.
 
-ghost use Rattle.std.specs.Prelude.{◌≡◌, ◌++◌, ◌∷◌, [], IfOk, false, codes};
+ghost use Rattle.std.specs.Prelude.{◌≡◌, IfOk};
 ghost use Rattle.std.specs.Borrow.{Bor};
 ghost use Rattle.clap.specs.Words.{app_of};
 ghost use Rattle.cborc.specs.Grammar as grammar;
