@@ -218,6 +218,14 @@ static REFUSED: [(&str, u16, u64, Reason, u64, u64, &str); 51] = [
 ];
 
 // It stands behind a function, so that what a test owes does not hold all of its rows.
-pub fn refused_rows() -> &'static [(&'static str, u16, u64, Reason, u64, u64, &'static str)] {
+pub(super) fn refused_rows() -> &'static [(
+    &'static str,
+    u16,
+    u64,
+    Reason,
+    u64,
+    u64,
+    &'static str,
+)] {
     &REFUSED
 }

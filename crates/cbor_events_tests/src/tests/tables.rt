@@ -281,14 +281,14 @@ static FRONTS: [(&str, &str); 16] = [
 
 // The tables stand behind functions, so that what a test owes does not hold all of their rows.
 
-pub fn accepted_rows() -> &'static [(&'static str, &'static str)] {
+pub(super) fn accepted_rows() -> &'static [(&'static str, &'static str)] {
     &ACCEPTED
 }
 
-pub fn not_valid_rows() -> &'static [(&'static str, u64, &'static str)] {
+pub(super) fn not_valid_rows() -> &'static [(&'static str, u64, &'static str)] {
     &NOT_VALID
 }
 
-pub fn fronts_rows() -> &'static [(&'static str, &'static str)] {
+pub(super) fn fronts_rows() -> &'static [(&'static str, &'static str)] {
     &FRONTS
 }

@@ -6,6 +6,8 @@ ghost use Rattle.cbor_head.specs.declared.major.Major.TheVariants.{Simple};
 ghost use Rattle.cbor_item.specs.Built.{IsLeaf, IsStringType, IsContainer, TakesPart, IsInString};
 ghost use Rattle.cbor_item.specs.Built.{IsInContainer};
 
+mod fronts;
+
 use crate::builder::frame::Shape;
 use crate::canon_builder::CanonBuilder;
 use crate::{Item, KeyOrder, Repeat, Tree, encode};
@@ -488,31 +490,5 @@ fn pairs_of_each_length(rt: HostRuntime) -> Result<(), Fail> {
         }
         assert_eq!(rt; builder.finish().as_slice(), wanted.as_slice());
     }
-    Ok(())
-}
-
-#[test]
-fn takes_the_front_of_what_is_given(rt: HostRuntime) -> Result<(), Fail> {
-    // ["ab", 'x']
-    let mut builder = CanonBuilder::new(rt.alloc(), KeyOrder::Bytewise);
-    begin(&mut builder, Major::Array, 2)?;
-    if !takes_part(&builder) {
-        Err("no part is due")?;
-    }
-    builder.front_string(Major::Text, b"abc", 2)?;
-    if !takes_part(&builder) {
-        Err("no part is due")?;
-    }
-    builder.begin_string(Major::Bytes)?;
-    if !is_in_string(&builder) {
-        Err("no string is open")?;
-    }
-    builder.front_bytes(b"xyz", 1)?;
-    if !is_in_string(&builder) {
-        Err("no string is open")?;
-    }
-    builder.end_string()?;
-    assert!(rt; end(&mut builder)?);
-    assert_eq!(rt; builder.finish().as_slice(), b"\x82\x62ab\x41x".as_slice());
     Ok(())
 }
