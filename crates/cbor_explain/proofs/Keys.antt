@@ -7,7 +7,7 @@ use Rattle.std.proofs.lemmas.List.{drop_all, take_all, length-drop}
 use Rattle.std.proofs.lemmas.Bool.{cases_lt}
 use Rattle.cbor_head.specs.Complaint.{plain}
 use Rattle.cbor_head.specs.Value.{Value}
-use Rattle.cbor_strict.specs.Readers.{IsReadAs}
+use Rattle.cbor_judging.specs.Readers.{IsReadAs}
 use Rattle.cbor_diag.specs.Text.{text}
 use Rattle.cbor_explain.specs.Way.{IsKeyText, short, Writes}
 

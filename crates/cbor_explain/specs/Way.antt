@@ -3,7 +3,7 @@ use Rattle.std.specs.Prelude.{ℕ, ◌≡◌, Option, List, [], ◌∷◌, ◌++
 use Rattle.std.specs.Io.KnownBytes.{Appends}
 use Rattle.cbor_head.specs.Complaint.{plain}
 use Rattle.cbor_head.specs.Value.{Value}
-use Rattle.cbor_strict.specs.Readers.{IsReadAs}
+use Rattle.cbor_judging.specs.Readers.{IsReadAs}
 use Rattle.cbor_diag.specs.Text.{text}
 use Rattle.cbor_explain.specs.declared.way.Step.{Step}
 use Rattle.cbor_explain.specs.declared.way.Step.TheVariants.{Member, Key, Value as ValueOf, Content}

@@ -1,18 +1,14 @@
 -- What a refusal of the canonicaliser can say: where it stands, and its reason.
-use Rattle.std.proofs.Common.{ℕ, ◌+◌, ◌≤◌, List, [], ◌∷◌, length, take, ap, ◌∙◌, arith, inl, inr, ◌≡◌, ◌≢◌, ◌⊎◌, Option, Some, None, ◌++◌, sym, subst, Bool, true, false}
-use Rattle.std.proofs.lemmas.List.{length-append, length-take}
-use Rattle.std.proofs.lemmas.Str.{utf8_valid_len_le}
+use Rattle.std.proofs.Common.{ℕ, List, ap, arith, inl, inr}
 use Rattle.cbor_head.specs.Complaint.{plain}
 use Rattle.cbor_head.specs.declared.order.KeyOrder.{KeyOrder}
 use Rattle.cbor_head.specs.declared.reason.Refusal.{Refusal}
-use Rattle.cbor_reader.specs.Canonicalise.{IsRefusal, of_verdict, trailing, canonical_too_long, of_memory}
-use Rattle.cbor_strict.specs.Refusals.{StandsWithin}
-use Rattle.cbor_strict.proofs.Accepted.{item_within_limit}
+use Rattle.cbor_reader.specs.Canonicalise.{IsRefusal, of_verdict, trailing, canonical_too_long, of_memory, IsCanonicaliserReason}
+use Rattle.cbor_judging.specs.Refusals.{StandsWithin}
+use Rattle.cbor_judging.proofs.Accepted.{item_within_limit}
 use Rattle.cbor_reader.proofs.Headline.{valid_item}
-use Rattle.std.specs.Prelude.{◌==◌, ◌||◌, ◌&&◌, ◌%◌, nat_le, if◌then◌else◌}
-use Rattle.cbor_reader.specs.Canonicalise.{IsCanonicaliserReason}
-use Rattle.cbor_strict.proofs.Within.{longest_within, verdict_within}
-use Rattle.cbor_strict.proofs.Reasons.{verdict-reason}
+use Rattle.cbor_judging.proofs.Within.{longest_within, verdict_within}
+use Rattle.cbor_judging.proofs.Reasons.{verdict-reason}
 
 module _ (d n : ℕ) (input : List ℕ) where
   pub refusal_within : (o : KeyOrder) (f : Refusal) → IsRefusal d n o input f → StandsWithin n input f

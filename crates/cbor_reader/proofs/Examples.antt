@@ -18,7 +18,7 @@ use Rattle.cbor_head.specs.declared.width.Width.TheVariants.{Direct, One}
 use Rattle.cbor_head.proofs.Examples.{chunk, pairs}
 use Rattle.cbor_head.proofs.OneVerdict.{one_verdict}
 use Rattle.cbor_reader.specs.Canonicalise.{IsCanonicalOf}
-use Rattle.cbor_strict.specs.Readers.{BeginsWithCanonical}
+use Rattle.cbor_judging.specs.Readers.{BeginsWithCanonical}
 use Rattle.cbor_reader.specs.Size.{size}
 use Rattle.cbor_reader.proofs.CutShort.{too_long}
 use Rattle.cbor_reader.proofs.OneAnswer.{one_canonical}

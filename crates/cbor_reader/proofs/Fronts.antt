@@ -1,19 +1,18 @@
 -- What was read of the item that is due first is told of each reader, and of its known bytes.
-use Rattle.std.proofs.Common.{ℕ, ◌≡◌, ◌≤◌, Option, Some, None, List, [], length, refl, sym, ◌∙◌, arith, subst}
-use Rattle.std.specs.Option.{IfSome}
+use Rattle.std.proofs.Common.{ℕ, ◌≡◌, ◌≤◌, Option, List, [], length, sym, ◌∙◌, arith, subst}
 use Rattle.cbor_head.specs.Limits.{Bounds, AreBounds}
 use Rattle.cbor_head.specs.Value.{Value}
 use Rattle.cbor_head.specs.Spelling.{spell, value_of}
 use Rattle.cbor_head.specs.Complaint.{plain}
 use Rattle.cbor_events.specs.ItemEvents.{ItemEventsView}
 use Rattle.cbor_reader.specs.Size.{size}
-use Rattle.cbor_strict.specs.Readers.{IsReadAs}
+use Rattle.cbor_judging.specs.Readers.{IsReadAs}
 use Rattle.cbor_reader.specs.inner.Front.{IsFrontRead}
-use Rattle.cbor_strict.specs.inner.Reading.{ReadsItem}
+use Rattle.cbor_judging.specs.Reading.{ReadsItem}
 use Rattle.cbor_reader.proofs.MapKeys.{key_value}
 use Rattle.cbor_reader.proofs.Sizes.{size_bounded}
-use Rattle.cbor_strict.proofs.Tops.{item-read, loses}
-use Rattle.cbor_strict.proofs.Fronts.{known}
+use Rattle.cbor_judging.proofs.Tops.{item-read, loses}
+use Rattle.cbor_judging.proofs.Fronts.{known}
 
 pub front-read : (b : Bounds) (from to : Option (List ℕ)) (new : ItemEventsView) (v : Value) (count : ℕ) → AreBounds b → ReadsItem plain b [] [] [] from to new v → count ≡ new.machine.taken
     → IsFrontRead plain b from to v count

@@ -19,7 +19,7 @@ use Rattle.cbor_item.proofs.Sound.{IsSound as IsSoundValue, sound}
 use Rattle.cbor_item.proofs.Theorems.{canonical_spelled, canonical_again}
 use Rattle.cbor_reader.specs.Canonicalise.{IsCanonicalOf, IsRefusal}
 use Rattle.cbor_reader.specs.Headline.{IsValidItem}
-use Rattle.cbor_strict.proofs.Accepted.{item_within_limit}
+use Rattle.cbor_judging.proofs.Accepted.{item_within_limit}
 use Rattle.cbor_reader.proofs.OneAnswer.{only_memory}
 use Rattle.cbor_reader.proofs.ValidTexts.{plain_too}
 use Rattle.cbor_reader.proofs.Valid.{in_range_of, valid_of}

@@ -14,8 +14,9 @@ use Rattle.cbor_item.specs.Built.{HasKey, IsRepeatedKey, IsWaitingKey, IsContain
 use Rattle.cbor_item.specs.Parts.{Open, plain, an_array, a_map, a_key, a_string, pair, closed, give, close, opened}
 use Rattle.cbor_reader.specs.declared.key_set.KeySet.{KeySet}
 use Rattle.cbor_reader.specs.inner.HeldKeys.{IsAmong, HasKeyBytes, IsAdded, pair_keys, keys_before, AreHeld, AreHeldSoFar}
-use Rattle.cbor_reader.specs.inner.Levels as levels
-use Rattle.cbor_reader.specs.inner.Levels.{Level, frame, opens}
+use Rattle.cbor_judging.specs.Levels as levels
+use Rattle.cbor_judging.specs.Levels.{Level, frame}
+use Rattle.cbor_reader.specs.inner.Levels.{level_open, opens}
 use Rattle.cbor_reader.specs.inner.MapKeys.{is_in}
 use Rattle.cbor_reader.proofs.KeySets.{not_both, in_more, opposite}
 use Rattle.std.specs.Prelude.{map}
@@ -153,7 +154,7 @@ pub record HasOne (os : List Open) : Type 0 where
 
 pub some-opens : (o : KeyOrder) (ls : List Level) → HasOne (opens o ls)
 some-opens o [] = record { c = plain []; rest = []; are = refl }
-some-opens o (l ∷ ls) = record { c = levels.level_open o l; rest = opens o ls; are = refl }
+some-opens o (l ∷ ls) = record { c = level_open o l; rest = opens o ls; are = refl }
 
 pub held-popped : (o : KeyOrder) (ss now : List KeySet) (c : Open) (os : List Open) → HasOne os → ((s u : KeySet) (rest : List KeySet) → ss ≡ s ∷ u ∷ rest → now ≡ u ∷ rest) → AreHeldSoFar ss (c ∷ os)
     → AreHeldSoFar now (close o (c ∷ os))

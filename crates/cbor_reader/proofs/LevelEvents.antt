@@ -36,21 +36,22 @@ use Rattle.cbor_events.proofs.Frames.{position-done}
 use Rattle.cbor_events.proofs.Opens.{stack}
 use Rattle.cbor_item.specs.Built.{Built, built, TakesPart, IsInContainer, HasDistinctKeysSoFar}
 use Rattle.cbor_item.specs.Parts.{Open, an_array, plain as a_plain, a_map as an_open_map, give, opened, close as close_open}
-use Rattle.cbor_reader.specs.inner.Levels.{IsTaken, Level, a_member, a_key, a_value, some_member, some_key, some_value, tagged, frame, level_open, AreLevels, bytes_before, opens, IsStanding, due, full, whole, IsBuilding, HasHeight, IsEvent, IsFed, BuildsBegun, IsBuiltFront}
-use Rattle.cbor_strict.specs.inner.Reading.{IsAt, IsHeadDue, IsNextHead, IsBegun, ReadsItem}
+use Rattle.cbor_judging.specs.Levels.{IsTaken, Level, a_member, a_key, a_value, some_member, some_key, some_value, tagged, frame, AreLevels, bytes_before}
+use Rattle.cbor_reader.specs.inner.Levels.{level_open, opens, IsStanding, due, full, whole, IsBuilding, HasHeight, IsEvent, IsFed, BuildsBegun, IsBuiltFront}
+use Rattle.cbor_judging.specs.Reading.{IsAt, IsHeadDue, IsNextHead, IsBegun, ReadsItem}
 use Rattle.std.specs.Prelude.{Result, Ok, Err, IfOk}
 use Rattle.cbor_reader.specs.declared.slice_builder.Stopped.{Stopped}
-use Rattle.cbor_strict.proofs.Heads.{open_or}
-use Rattle.cbor_strict.proofs.Items.{definite, is-definite, proper-definite, never-open, reads-next, taking-some}
-use Rattle.cbor_strict.proofs.Arrays.{closes}
-use Rattle.cbor_strict.proofs.Loops.{array_bytes-whole, map_bytes-whole}
-use Rattle.cbor_strict.proofs.OpenEnds.{done_position}
-use Rattle.cbor_reader.proofs.Levels.{clean-anywhere, full-array, full-map, given, ended}
+use Rattle.cbor_judging.proofs.Heads.{open_or}
+use Rattle.cbor_judging.proofs.Items.{definite, is-definite, proper-definite, never-open, reads-next, taking-some}
+use Rattle.cbor_judging.proofs.Arrays.{closes}
+use Rattle.cbor_judging.proofs.Loops.{array_bytes-whole, map_bytes-whole}
+use Rattle.cbor_judging.proofs.Standing.{done_position, open-is, fewer-open, short-at}
+use Rattle.cbor_judging.proofs.Levels.{clean-anywhere}
+use Rattle.cbor_reader.proofs.Levels.{full-array, full-map, given, ended}
 use Rattle.cbor_reader.proofs.Valid.{count_bounded}
-use Rattle.cbor_strict.proofs.Scalars.{at-as, reads-unsigned, reads-negative, reads-simple}
-use Rattle.cbor_strict.proofs.SliceItems.{begun, told-event, told-live}
-use Rattle.cbor_strict.proofs.Standing.{open-is, fewer-open, short-at}
-use Rattle.cbor_strict.proofs.Steps.{next-head, limits-as}
+use Rattle.cbor_judging.proofs.Scalars.{at-as, reads-unsigned, reads-negative, reads-simple}
+use Rattle.cbor_judging.proofs.Slices.{begun, told-event, told-live}
+use Rattle.cbor_judging.proofs.Steps.{next-head, limits-as}
 
 -- ---- what stands
 

@@ -21,14 +21,14 @@ use Rattle.cbor_events.specs.inner.Automaton.{Frame, close, close_string, in_chu
 use Rattle.cbor_item.specs.Built.{Built, built, TakesPart, IsInString}
 use Rattle.cbor_item.specs.Parts.{Open, a_string, give, opened, extended, close as close_open}
 use Rattle.cbor_reader.specs.inner.Levels.{TakesContent}
-use Rattle.cbor_strict.specs.inner.Reading.{IsAt, IsBegun, IsNextHead, ReadsItem, string_kind, string_major, string_value}
-use Rattle.cbor_strict.proofs.Leaves.{chunks_bytes}
-use Rattle.cbor_strict.proofs.Payloads.{none-come, part-comes, all-come}
-use Rattle.cbor_strict.proofs.SliceItems.{told-event, told-live}
-use Rattle.cbor_strict.proofs.Steps.{farther, limits-as}
+use Rattle.cbor_judging.specs.Reading.{IsAt, IsBegun, IsNextHead, ReadsItem, string_kind, string_major, string_value}
+use Rattle.cbor_judging.proofs.Leaves.{chunks_bytes}
+use Rattle.cbor_judging.proofs.Payloads.{none-come, part-comes, all-come}
+use Rattle.cbor_judging.proofs.Slices.{told-event, told-live}
+use Rattle.cbor_judging.proofs.Steps.{farther, limits-as}
 use Rattle.cbor_reader.proofs.LevelEvents.{plain-head}
 use Rattle.cbor_events.specs.Trace.{Mark}
-use Rattle.cbor_strict.proofs.WholeStrings.{IsReadingChunks, reads-string, chunk-due, chunk-next, chunk-farther, chunks-end}
+use Rattle.cbor_judging.proofs.WholeStrings.{IsReadingChunks, reads-string, chunk-due, chunk-next, chunk-farther, chunks-end}
 
 -- ---- a payload
 

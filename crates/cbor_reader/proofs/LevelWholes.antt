@@ -14,18 +14,18 @@ use Rattle.cbor_events.specs.SliceEvents.{IsStringTold, IsWholeTold, IsRefusedTo
 use Rattle.cbor_events.specs.SliceView.{SliceEventsView, seen}
 use Rattle.cbor_events.specs.Token.{IsEventToken}
 use Rattle.cbor_events.specs.declared.token.Token.{Token}
-use Rattle.cbor_events.specs.declared.token.Token.TheVariants as tokens
 use Rattle.cbor_events.specs.declared.token.Token.TheVariants.{Bytes, Text, Unsigned, Negative, Array, Map, Tag, Simple, Piece, Chunk, IndefiniteBytes, IndefiniteText, IndefiniteArray, IndefiniteMap, Break, End, Refused}
 use Rattle.cbor_events.specs.inner.Automaton.{Frame, State}
 use Rattle.cbor_item.specs.Built.{Built, built}
 use Rattle.cbor_item.specs.Parts.{give}
-use Rattle.cbor_reader.specs.inner.Levels.{Level, bytes_before, IsBuilding, IsFed, IsBuiltOn, HasString, IsWhole}
-use Rattle.cbor_strict.specs.inner.Reading.{IsAt, string_major, string_value}
+use Rattle.cbor_judging.specs.Levels.{Level, bytes_before}
+use Rattle.cbor_reader.specs.inner.Levels.{IsBuilding, IsFed, IsBuiltOn, HasString, IsWhole}
+use Rattle.cbor_judging.specs.Reading.{IsAt, string_major, string_value}
 use Rattle.cbor_reader.proofs.LevelEvents.{event-is, fed-string, standing-as}
 use Rattle.cbor_reader.proofs.LevelStrings.{some-content, string-taken, string-built, chunk-opens, chunk-taken, chunk-less}
-use Rattle.cbor_strict.proofs.Scalars.{at-as}
-use Rattle.cbor_strict.proofs.WholeStrings.{IsReadingChunks, string-due}
-use Rattle.cbor_strict.proofs.Leaves.{chunks_bytes}
+use Rattle.cbor_judging.proofs.Scalars.{at-as}
+use Rattle.cbor_judging.proofs.WholeStrings.{IsReadingChunks, string-due}
+use Rattle.cbor_judging.proofs.Leaves.{chunks_bytes}
 
 -- nothing is taken
 pub built-nothing : (b : Bounds) (o : KeyOrder) (t : List ℕ) (q : State) (e : SliceEventsView) (g : Built) → IsAt b (seen e) t q → IsBuilding o b.depth t q g e.machine.open_count → IsBuiltOn b o t e.rest e g

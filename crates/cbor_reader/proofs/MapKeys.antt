@@ -6,7 +6,7 @@ use Rattle.cbor_head.specs.Complaint.{plain, Complains}
 use Rattle.cbor_item.proofs.Sound.{IsSound, sound}
 use Rattle.cbor_item.proofs.Depth.{depth-value_of}
 use Rattle.cbor_reader.specs.inner.MapKeys.{HasCanonicalBytes, IsKey}
-use Rattle.cbor_strict.proofs.Judged.{Never}
+use Rattle.cbor_judging.proofs.Judged.{Never}
 use Rattle.cbor_reader.proofs.Valid.{in_range_of, valid_of}
 
 -- the value of an item without complaint

@@ -1,7 +1,6 @@
 -- Which inputs are their own answers: those that the strict verdict accepts whole.
-use Rattle.std.proofs.Common.{ℕ, ◌+◌, ◌-◌, ◌≡◌, List, ◌++◌, length, take, drop, sym, ap, ◌∙◌, arith, [], subst, ◌^◌, ◌≤◌, ◌↔◌}
-use Rattle.std.proofs.Math.Seq.{take-append-add}
-use Rattle.std.proofs.lemmas.List.{append_assoc, append-nil, take-append-drop}
+use Rattle.std.proofs.Common.{ℕ, ◌≡◌, List, length, sym, ◌∙◌, [], subst, ◌^◌, ◌≤◌, ◌↔◌}
+use Rattle.std.proofs.lemmas.List.{append-nil}
 use Rattle.cbor_head.specs.Spelling.{Spelling, spell, value_of}
 use Rattle.cbor_head.specs.Canonical.{canonical}
 use Rattle.cbor_head.specs.Complaint.{plain, strict}
@@ -10,11 +9,11 @@ use Rattle.cbor_head.specs.declared.order.KeyOrder.{KeyOrder}
 use Rattle.cbor_head.proofs.Accepted.{accepts_exactly}
 use Rattle.cbor_reader.specs.Canonicalise.{IsCanonicalOf}
 use Rattle.cbor_reader.specs.Headline.{IsValidItem}
-use Rattle.cbor_strict.specs.Readers.{BeginsWithCanonical}
-use Rattle.cbor_strict.proofs.Accepted.{item_within_limit}
+use Rattle.cbor_judging.specs.Readers.{BeginsWithCanonical}
+use Rattle.cbor_judging.proofs.Accepted.{item_within_limit}
 use Rattle.cbor_reader.proofs.Headline.{front_range, front_valid, front_depth, answers_exactly}
 use Rattle.cbor_reader.proofs.ValidTexts.{plain_too}
-use Rattle.cbor_strict.proofs.StrictFronts.{strict_bytes, strict_value, strict_accepts, one_front}
+use Rattle.cbor_judging.proofs.CanonicalFronts.{strict_bytes, strict_value, strict_accepts, one_front}
 
 module _ (d n : ℕ) (o : KeyOrder) (input : List ℕ) where
   own_answer_accepted : n ≤ 2 ^ 62 → IsCanonicalOf d n o input input → (s : Spelling) × IsVerdict d n (strict o) input (accepted s) × (spell s ≡ input)

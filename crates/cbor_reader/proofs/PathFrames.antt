@@ -1,9 +1,9 @@
--- The open containers of a path as frames around the item in them: what is found of the item is found of the whole.
-use Rattle.std.proofs.Common.{◌≡◌, ℕ, suc, ◌+◌, ◌-◌, ◌^◌, ◌<◌, ◌≤◌, ◌⊎◌, Option, Some, List, [], ◌∷◌, ◌++◌, length, refl, sym, ap, ◌∙◌, subst, inl, inr, arith, append_assoc}
+-- The open containers in a builder that has no two keys that are the same: what is found of the item is found of the whole.
+use Rattle.std.proofs.Common.{◌≡◌, ℕ, suc, ◌+◌, ◌-◌, ◌^◌, ◌<◌, ◌⊎◌, Option, Some, List, [], ◌∷◌, ◌++◌, length, refl, sym, ap, ◌∙◌, subst, inl, inr, arith, append_assoc}
 use Rattle.std.proofs.lemmas.List.{length-append}
-use Rattle.cbor_head.specs.Head.{Holds, head}
+use Rattle.cbor_head.specs.Head.{head}
 use Rattle.cbor_head.specs.Canonical.{canonical, canonical_entries}
-use Rattle.cbor_head.specs.Spelling.{Spelling, SpelledEntries, no_spellings, no_entries, entry, spell, spell_all, spell_entries, spellings_count, entries_count, value_of, entries_of}
+use Rattle.cbor_head.specs.Spelling.{Spelling, SpelledEntries, no_entries, entry, spell, spell_entries, entries_count, value_of, entries_of}
 use Rattle.cbor_head.specs.Complaint as complaint
 use Rattle.cbor_head.specs.Complaint.{plain, Complaint, ComplainsInEntries, IsRepeated}
 use Rattle.cbor_head.specs.declared.major.Major.TheVariants as majors
@@ -16,97 +16,23 @@ use Rattle.cbor_item.specs.Pairs.{HasDistinctBytes}
 use Rattle.cbor_item.specs.Parts.{Open}
 use Rattle.cbor_item.proofs.Keys.{distinct_exactly, same_exactly}
 use Rattle.cbor_item.proofs.Sound.{IsSound, sound}
-use Rattle.cbor_strict.specs.inner.Frame as frames
-use Rattle.cbor_strict.specs.inner.Frame.{Frame, with_entries, keys_onto, before, IsFrame, depth_beside}
-use Rattle.cbor_strict.specs.inner.Judged.{IsJudged}
-use Rattle.cbor_reader.specs.inner.Levels.{IsTaken, ArePairsTaken, Level, a_member, a_key, a_value, some_member, some_key, some_value, tagged, level_bytes, level_open, IsLevel, AreLevels, bytes_before, opens}
-use Rattle.cbor_strict.specs.inner.OpenMaps.{placed, keys_at, open_keys, OnKeys, AreDistinct, OfClosed, ComplainsWithin, before_all, AreOpen, AreOpenDistinct}
+use Rattle.cbor_judging.specs.Frame as frames
+use Rattle.cbor_judging.specs.Frame.{Frame, with_entries, keys_onto, before, IsFrame, depth_beside}
+use Rattle.cbor_judging.specs.Judged.{IsJudged}
+use Rattle.cbor_judging.specs.Levels.{IsTaken, ArePairsTaken, Level, a_member, a_key, a_value, some_member, some_key, some_value, tagged, level_bytes, IsLevel, AreLevels, bytes_before}
+use Rattle.cbor_reader.specs.inner.Levels.{level_open, opens}
+use Rattle.cbor_judging.specs.OpenMaps.{placed, keys_at, open_keys, AreDistinct, before_all, AreOpenDistinct}
 use Rattle.cbor_reader.specs.inner.PlainItems.{HasKeysApart, AreApart}
-use Rattle.cbor_strict.proofs.Heads.{open_or}
-use Rattle.cbor_strict.proofs.Judged.{Never, zero_item, zeros, zeros_count, zeros_spelled, zeros_flat, zero_pairs, pairs_count, pairs_spelled, pairs_flat, judged_key}
-use Rattle.cbor_reader.proofs.Levels.{no-count, spelled-all, within-all, clean-all, pairs-spelled, pairs-within, pairs-valid, pairs-more, entries-more, pairs-clean}
-use Rattle.cbor_strict.proofs.OpenKeys.{front_apart}
-use Rattle.cbor_strict.proofs.OpenMaps.{judged_within}
-use Rattle.cbor_strict.proofs.OpenSteps.{before_snoc, distinct_snoc, keys_with}
-use Rattle.cbor_strict.proofs.OpenWalk.{none_open, opens as one_opens}
+use Rattle.cbor_judging.proofs.Judged.{zero_item, zero_pairs, judged_key}
+use Rattle.cbor_judging.proofs.Levels.{pairs-spelled, pairs-more, pairs-clean}
+use Rattle.cbor_reader.proofs.Levels.{pairs-valid, entries-more}
+use Rattle.cbor_judging.proofs.OpenKeys.{front_apart}
+use Rattle.cbor_judging.proofs.OpenSteps.{distinct_snoc, keys_with}
 use Rattle.cbor_reader.proofs.Paths.{distinct-more}
 use Rattle.cbor_reader.proofs.Valid.{in_range_of, in_range_entries, valid_of}
-
--- ---- one container
-
-abbrev pub frame_of : Level → Frame
-frame_of (a_member w left done) = frames.a_member w done (zeros left)
-frame_of (a_key w left done) = frames.a_key w done zero_item (zero_pairs left)
-frame_of (a_value w left done k) = frames.a_content w done k (zero_pairs left)
-frame_of (some_member done) = frames.a_member Indefinite done no_spellings
-frame_of (some_key done) = frames.a_key Indefinite done zero_item no_entries
-frame_of (some_value done k) = frames.a_content Indefinite done k no_entries
-frame_of (tagged w n) = frames.tagged w n
-
-frame_bytes : (l : Level) → before (frame_of l) ≡ level_bytes l
-frame_bytes (a_member w left done) = ap (λ (n : ℕ). head majors.Array w (spellings_count done + suc n) ++ spell_all done) (zeros_count left)
-frame_bytes (a_key w left done) = ap (λ (n : ℕ). head majors.Map w (entries_count done + suc n) ++ spell_entries done) (pairs_count left)
-frame_bytes (a_value w left done k) = ap (λ (n : ℕ). (head majors.Map w (entries_count done + suc n) ++ spell_entries done) ++ spell k) (pairs_count left)
-frame_bytes (some_member done) = refl
-frame_bytes (some_key done) = refl
-frame_bytes (some_value done k) = refl
-frame_bytes (tagged w n) = refl
-
--- each complete pair has no complaint within
-quiet : (d : ℕ) (es : SpelledEntries) (at : ℕ) → ArePairsTaken d es → Never (ComplainsWithin plain at es)
-quiet d no_entries at h c x = x
-quiet d (entry k v es) at h c (inl x) = h.0.clean at c x
-quiet d (entry k v es) at h c (inr (inl x)) = h.1.clean _ c x
-quiet d (entry k v es) at h c (inr (inr x)) = quiet d es _ h.2 c x
-
-record IsFitting (d : ℕ) (f : Frame) : Type 0 where
-  fits : IsFrame f
-  flat : depth_beside f ≤ d
-  clean : (at : ℕ) → Never (OfClosed plain at f)
-
-fitting : (d : ℕ) (l : Level) → IsLevel d l → IsFitting d (frame_of l)
-fitting d (a_member w left done) h = record {
-  fits = (open_or w _ (subst (λ (n : ℕ). Holds w (spellings_count done + suc n)) (sym (zeros_count left)) h.0), spelled-all d done h.1, zeros_spelled left);
-  flat = omega (arith, within-all d done h.1, zeros_flat left);
-  clean = λ at c x. elim x [ inl y ↦ no-count at majors.Array w _ c y | inr y ↦ clean-all d done _ h.1 c y ];
-}
-fitting d (a_key w left done) h =
-    let z : 0 < 24 = omega arith in
-    record {
-      fits = (open_or w _ (subst (λ (n : ℕ). Holds w (entries_count done + suc n)) (sym (pairs_count left)) h.0), pairs-spelled d done h.1, z, pairs_spelled left);
-      flat = omega (arith, pairs-within d done h.1, pairs_flat left);
-      clean = λ at c x. elim x [ inl y ↦ no-count at majors.Map w _ c y | inr y ↦ quiet d done _ h.1 c y ];
-    }
-fitting d (a_value w left done k) h = record {
-  fits = (open_or w _ (subst (λ (n : ℕ). Holds w (entries_count done + suc n)) (sym (pairs_count left)) h.0), pairs-spelled d done h.1, h.2.spelled, pairs_spelled left);
-  flat = omega (arith, pairs-within d done h.1, pairs_flat left, h.2.within);
-  clean = λ at c x. elim x [ inl y ↦ no-count at majors.Map w _ c y | inr (inl y) ↦ quiet d done _ h.1 c y | inr (inr y) ↦ h.2.clean _ c y ];
-}
-fitting d (some_member done) h = record {
-  fits = (tt, spelled-all d done h, tt);
-  flat = omega (arith, within-all d done h);
-  clean = λ at c x. elim x [ inl y ↦ y | inr y ↦ clean-all d done _ h c y ];
-}
-fitting d (some_key done) h =
-    let z : 0 < 24 = omega arith in
-    record {
-      fits = (tt, pairs-spelled d done h, z, tt);
-      flat = omega (arith, pairs-within d done h);
-      clean = λ at c x. elim x [ inl y ↦ y | inr y ↦ quiet d done _ h c y ];
-    }
-fitting d (some_value done k) h = record {
-  fits = (tt, pairs-spelled d done h.0, h.1.spelled, tt);
-  flat = omega (arith, pairs-within d done h.0, h.1.within);
-  clean = λ at c x. elim x [ inl y ↦ y | inr (inl y) ↦ quiet d done _ h.0 c y | inr (inr y) ↦ h.1.clean _ c y ];
-}
-fitting d (tagged w n) h = record { fits = h; flat = omega arith; clean = λ at c x. x }
+use Rattle.cbor_judging.proofs.LevelFrames.{frame_of, frame_bytes, fitting, keys_complain, path, found_of_whole}
 
 -- ---- its keys
-
-keys_complain : (es : SpelledEntries) (ks : List Spelling) (at : ℕ) (c : Complaint) → OnKeys plain ks (keys_at at es) c → ComplainsInEntries plain at ks es c
-keys_complain no_entries ks at c h = absurd h
-keys_complain (entry k v es) ks at c (inl h) = inr (inl h)
-keys_complain (entry k v es) ks at c (inr h) = inr (inr (inr (keys_complain es (k ∷ ks) _ c h)))
 
 -- those of complete pairs
 pairs_distinct : (o : KeyOrder) (d at : ℕ) (es : SpelledEntries) → ArePairsTaken d es → length (spell_entries es) < 2 ^ 64 → HasDistinctBytes (canonical_entries o (entries_of es)) → AreDistinct plain (keys_at at es)
@@ -150,28 +76,6 @@ level_distinct o d at (tagged w n) os h short apart fresh = λ c x. x
 
 -- ---- all of them, the outermost first
 
-pub path : List Level → List Frame
-path [] = []
-path (l ∷ ls) = path ls ++ frame_of l ∷ []
-
-path_length : (ls : List Level) → length (path ls) ≡ length ls
-unfolding path
-path_length [] = refl
-path_length (l ∷ ls) = omega (arith, path_length ls, length-append (path ls) (frame_of l ∷ []))
-
-path_bytes : (ls : List Level) → before_all (path ls) ≡ bytes_before ls
-unfolding path
-path_bytes [] = refl
-path_bytes (l ∷ ls) = before_snoc (path ls) (frame_of l) ∙ ap (λ (x : List ℕ). x ++ before (frame_of l)) (path_bytes ls) ∙ ap (λ (x : List ℕ). bytes_before ls ++ x) (frame_bytes l)
-
-path_open : (d : ℕ) (ls : List Level) → AreLevels d ls → AreOpen plain d (path ls)
-unfolding path
-path_open d [] h = none_open plain d
-path_open d (l ∷ ls) h =
-    let room = h.0 in
-    let i = fitting (d - suc (length ls)) l h.1 in
-    one_opens plain d (path ls) (frame_of l) (d - suc (length ls)) (path_open d ls h.2) (omega (arith, room, path_length ls)) i.fits i.flat (i.clean _)
-
 path_distinct : (o : KeyOrder) (d : ℕ) (ls : List Level) → AreLevels d ls → length (bytes_before ls) < 2 ^ 63 → AreApart (opens o ls) → AreOpenDistinct plain 0 (path ls)
 unfolding path
 path_distinct o d [] h short apart = tt
@@ -181,18 +85,10 @@ path_distinct o d (l ∷ ls) h short apart =
     (level_distinct o (d - suc (length ls)) _ l (opens o ls) h.1 (omega (arith, short, size)) apart.0 apart.1)
 
 -- what is found of the item is found of the whole
-pub found_of_whole : (o : KeyOrder) (d : ℕ) (ls : List Level) (p : List ℕ) (found : Option Complaint) → AreLevels d ls → length (bytes_before ls) < 2 ^ 63 → AreApart (opens o ls)
+-- what is found of the item is found of the whole
+pub found_within : (o : KeyOrder) (d : ℕ) (ls : List Level) (p : List ℕ) (found : Option Complaint) → AreLevels d ls → length (bytes_before ls) < 2 ^ 63 → AreApart (opens o ls)
     → IsJudged plain (length (bytes_before ls)) (d - length ls) p found → IsJudged plain 0 d (bytes_before ls ++ p) found
-found_of_whole o d ls p found h short apart j =
-    let are = path_open d ls h in
-    let levels = are.levels in
-    let size = path_length ls in
-    let room : d - length ls ≡ are.left = omega (arith, levels, size) in
-    let level : length (path ls) + are.left ≡ d = omega (arith, levels) in
-    subst (λ (n : ℕ). IsJudged plain 0 n (bytes_before ls ++ p) found) level
-    (subst (λ (x : List ℕ). IsJudged plain 0 (length (path ls) + are.left) (x ++ p) found) (path_bytes ls)
-    (judged_within (path ls) plain 0 (length (before_all (path ls))) are.left p found (omega arith) are.path are.closed (path_distinct o d ls h short apart)
-    (subst (λ (n : ℕ). IsJudged plain (length (before_all (path ls))) n p found) room (subst (λ (x : List ℕ). IsJudged plain (length x) (d - length ls) p found) (sym (path_bytes ls)) j))))
+found_within o d ls p found h short apart = found_of_whole d ls p found h (path_distinct o d ls h short apart)
 
 -- ---- a key that is the same as an earlier one
 
@@ -237,6 +133,6 @@ module _ (o : KeyOrder) (d : ℕ) (ls : List Level) (l : Level) (w : Width) (don
         let one : IsJudged plain at (suc (d - suc (length ls))) (before f ++ spell k) (Some c) =
         judged_key f plain at (d - suc (length ls)) fit.fits fit.flat (λ q x. elim (front_apart f plain at q x) [ inl y ↦ fit.clean at q y | inr y ↦ distinct q y ]) k c i.spelled i.within (i.clean _)
         (subst (λ (g : Frame). frames.OfKeyAt plain to g k c) (sym is) (of, refl)) in
-        let whole = found_of_whole o d ls (before f ++ spell k) (Some c) levels.2 (omega (arith, short, all)) apart.2 (subst (λ (n : ℕ). IsJudged plain at n (before f ++ spell k) (Some c)) level one) in
+        let whole = found_within o d ls (before f ++ spell k) (Some c) levels.2 (omega (arith, short, all)) apart.2 (subst (λ (n : ℕ). IsJudged plain at n (before f ++ spell k) (Some c)) level one) in
         subst (λ (n : ℕ). IsJudged plain 0 d (bytes_before (l ∷ ls) ++ spell k) (Some (complaint.complaint (n + length (spell k)) n RepeatedKey))) here
         (subst (λ (x : List ℕ). IsJudged plain 0 d x (Some c)) (sym (append_assoc (bytes_before ls) (before f) (spell k)) ∙ ap (λ (x : List ℕ). (bytes_before ls ++ x) ++ spell k) same) whole)

@@ -37,37 +37,35 @@ use Rattle.cbor_item.specs.OpenValues.{OpenItem, OpenValue, close as close_in_tr
 use Rattle.cbor_reader.specs.declared.plain_items.PlainItems.{PlainItems}
 use Rattle.cbor_reader.specs.declared.plain_part.Part.{Part}
 use Rattle.cbor_reader.specs.declared.plain_part.Part.TheVariants.{Leaf, String, Begin, Break}
-use Rattle.cbor_strict.specs.inner.Judged.{IsJudged}
-use Rattle.cbor_reader.specs.inner.Levels.{IsTaken, Level, a_member, a_key, a_value, some_member, some_key, some_value, tagged, frame, level_open, AreLevels, bytes_before, opens}
-use Rattle.cbor_strict.specs.inner.OpenItems.{AreRefused}
-use Rattle.cbor_reader.specs.inner.Path.{Standing, item_due, item_full, item_whole, settle, StandsAt}
+use Rattle.cbor_judging.specs.Judged.{IsJudged}
+use Rattle.cbor_judging.specs.Levels.{IsTaken, Level, a_member, a_key, a_value, some_member, some_key, some_value, tagged, frame, AreLevels, bytes_before, Standing, item_due, item_full, item_whole, settle}
+use Rattle.cbor_reader.specs.inner.Levels.{level_open, opens, StandsAt}
+use Rattle.cbor_judging.specs.Reading.{AreRefused, IsFrontUnread, IsAt, IsUndecided, HasCause, IsBegun, IsNextHead, ReadsItem, StopsItem, StopsHead, string_value}
 use Rattle.cbor_reader.specs.inner.Front.{IsFrontRead}
-use Rattle.cbor_strict.specs.inner.Front.{IsFrontUnread}
 use Rattle.cbor_reader.specs.inner.PlainFront.{IsStopped, IsDueAt, IsWholeAt, GoesOnOrNot, TakesNext, IsEncodedFront}
 use Rattle.cbor_reader.specs.inner.PlainItems.{AreApart, AreApartSoFar, HaveBegun, HaveBegunIn, HasItsPlace, CanTake, IsGiven, IsEndingAt, sets, AreKeysBegun}
 use Rattle.cbor_reader.specs.inner.PlainParts.{IsCome, leaf_value, IsLeafMajor, Begins, IsStill, ReadsPart}
-use Rattle.cbor_strict.specs.inner.Reading.{IsAt, IsUndecided, HasCause, IsBegun, IsNextHead, ReadsItem, StopsItem, StopsHead, string_value}
-use Rattle.cbor_strict.proofs.Arrays.{closes}
+use Rattle.cbor_judging.proofs.Arrays.{closes}
 use Rattle.cbor_reader.proofs.Fronts.{front-read}
-use Rattle.cbor_strict.proofs.Fronts.{front-unread}
+use Rattle.cbor_judging.proofs.Fronts.{front-unread}
 use Rattle.cbor_reader.specs.declared.key_set.KeySet.{KeySet}
 use Rattle.cbor_reader.specs.inner.HeldKeys.{AreHeld, AreHeldSoFar}
 use Rattle.cbor_reader.proofs.HeldKeys.{held-given, held-opened, held-broken, held-popped, some-opens}
-use Rattle.cbor_strict.proofs.Heads.{open_or}
-use Rattle.cbor_strict.proofs.Items.{definite, is-definite, proper-definite, never-open, cause-in, undecided-in, stops-at-item, stops-next, reads-next, taking-some}
-use Rattle.cbor_strict.proofs.Judged.{judged_start, zero_item, zero_pairs}
-use Rattle.cbor_strict.proofs.Standing.{open-is, fewer-open, short-at}
+use Rattle.cbor_judging.proofs.Heads.{open_or, Headed}
+use Rattle.cbor_judging.proofs.Items.{definite, is-definite, proper-definite, never-open, cause-in, undecided-in, stops-at-item, stops-next, reads-next, taking-some}
+use Rattle.cbor_judging.proofs.Judged.{judged_start, zero_item, zero_pairs}
+use Rattle.cbor_judging.proofs.Standing.{open-is, fewer-open, short-at}
 use Rattle.cbor_reader.proofs.LevelStrings.{string-canonical}
-use Rattle.cbor_reader.proofs.Levels.{clean-anywhere, full-array, full-map, settled}
-use Rattle.cbor_strict.proofs.Loops.{array_bytes-whole, map_bytes-whole}
-use Rattle.cbor_strict.proofs.OpenHeads.{HasHead, head_item, head_undecided}
+use Rattle.cbor_judging.proofs.Levels.{clean-anywhere}
+use Rattle.cbor_reader.proofs.Levels.{full-array, full-map, settled}
+use Rattle.cbor_judging.proofs.Loops.{array_bytes-whole, map_bytes-whole}
+use Rattle.cbor_judging.proofs.Undecided.{head-item, head-undecided, item-undecided}
 use Rattle.cbor_reader.specs.inner.TreeValues.{level_values, values_at, values_with, IsFullRight, IsTreeAt, IsTreeStep, IsForTree, TakesTreePart, MayEndIn}
 use Rattle.cbor_reader.proofs.TreeValues.{values-given, values-ended, settles-right, tree-step, tree-takes, tree-may-end}
-use Rattle.cbor_reader.proofs.PathFrames.{found_of_whole, repeat_found}
+use Rattle.cbor_reader.proofs.PathFrames.{found_within, repeat_found}
 use Rattle.cbor_reader.proofs.Paths.{given-apart, closed-apart, opened-apart, so-far, apart-now, ends-apart, settled-begun, settled-place, begun-more, begins-at}
-use Rattle.cbor_strict.proofs.Scalars.{at-as}
-use Rattle.cbor_strict.proofs.Steps.{at-reached, fault_of, farther}
-use Rattle.cbor_strict.proofs.Undecided.{item-undecided}
+use Rattle.cbor_judging.proofs.Scalars.{at-as}
+use Rattle.cbor_judging.proofs.Steps.{at-reached, fault_of, farther}
 use Rattle.cbor_reader.proofs.Valid.{count_bounded}
 
 -- ---- heads
@@ -91,7 +89,7 @@ mark-undecided b fs t x (a_head m w n) next h = go w h
     by : (v : Width) → v ≢ Indefinite → IsTaking b.depth (at_item fs) (a_head m v n) x next → IsUndecided plain b fs t x
     by v f g =
         let d = definite b.depth fs m v n x next f g in
-        head_undecided plain b fs t x (subst (HasHead (b.depth - length fs)) (sym d.bytes_are) (head_item b.depth fs m v n x next d)) some
+        head-undecided plain b fs t x (subst (Headed (b.depth - length fs)) (sym d.bytes_are) (head-item b.depth fs m v n x next d)) some
 
     go : (v : Width) → IsTaking b.depth (at_item fs) (a_head m v n) x next → IsUndecided plain b fs t x
     go Indefinite g = short-undecided b fs t x (omega (arith, ap length g.1))
@@ -331,7 +329,7 @@ module _ (v : PlainItems) (b : Bounds) (e : ItemEventsView) (t : List ℕ) (d : 
   lift p found j =
       let whole : b.depth ≡ b.depth - 0 = omega arith in
       subst (λ (n : ℕ). IsJudged plain 0 n (bytes_before d.ls ++ p) found) whole
-      (found_of_whole v.builder.order b.depth d.ls p found d.levels few (subst AreApart d.standing d.apart) (subst (λ (n : ℕ). IsJudged plain (length (bytes_before d.ls)) (b.depth - n) p found) (length-map d.ls frame) j))
+      (found_within v.builder.order b.depth d.ls p found d.levels few (subst AreApart d.standing d.apart) (subst (λ (n : ℕ). IsJudged plain (length (bytes_before d.ls)) (b.depth - n) p found) (length-map d.ls frame) j))
 
   -- an item that is refused
   pub refused-item : (from to : Option (List ℕ)) (f : Refusal) → StopsItem plain b (map frame d.ls) t [] from to f → IsStopped plain b t from to f

@@ -14,12 +14,11 @@ use Rattle.cbor_head.specs.declared.reason.Refusal.{Refusal}
 use Rattle.cbor_head.proofs.OneVerdict.{one_verdict}
 use Rattle.cbor_head.proofs.ReadLaws.{length_spell, unique}
 use Rattle.cbor_reader.specs.Headline.{IsValidItem}
-use Rattle.cbor_strict.specs.Readers.{BeginsWithCanonical}
-use Rattle.cbor_strict.specs.Readers.{IsUnread, of_verdict, of_reader, of_memory}
+use Rattle.cbor_judging.specs.Readers.{BeginsWithCanonical, IsUnread, of_verdict, of_reader, of_memory}
 use Rattle.cbor_reader.specs.Sequence.{sequence_bytes, IsAccepted, StartsWithItems, IsLongestSequence, EndsBefore, IsAtEnd, IsRefused, Given, given_by, items_of, AreGivenBy, HasGiven}
 use Rattle.cbor_reader.proofs.CutShort.{cut}
 use Rattle.cbor_reader.proofs.Sequences.{is_accepted, verdict_of, not_both, empty_is_truncated, verdict_before, splits}
-use Rattle.cbor_strict.proofs.StrictFronts.{strict_bytes, strict_value, strict_accepts}
+use Rattle.cbor_judging.proofs.CanonicalFronts.{strict_bytes, strict_value, strict_accepts}
 
 -- ---- items
 

@@ -1,5 +1,5 @@
 -- A tree builder that is given the parts of an item: what each does to the values that it holds.
-use Rattle.std.proofs.Common.{◌≡◌, ℕ, zero, suc, List, [], ◌∷◌, ◌++◌, Option, Some, None, refl, sym, ap, ap₂, ◌∙◌, subst}
+use Rattle.std.proofs.Common.{◌≡◌, zero, suc, List, [], ◌∷◌, ◌++◌, Option, Some, None, refl, sym, ap, ◌∙◌, subst}
 use Rattle.std.proofs.lemmas.Bool.{false≢true}
 use Rattle.std.specs.Prelude.{IsSome}
 use Rattle.cbor_head.specs.Spelling.{Spelling, Spellings, SpelledEntries, unsigned, negative, bytes, text, byte_chunks, text_chunks, array, a_map, tag, simple, no_spellings, a_spelling, no_entries, entry, value_of, values_of, entries_of}
@@ -8,9 +8,8 @@ use Rattle.cbor_head.specs.Value.{Value}
 use Rattle.cbor_item.specs.View as view
 use Rattle.cbor_item.specs.OpenValues as parts
 use Rattle.cbor_item.specs.OpenValues.{OpenItem, OpenValue, an_array, give, closed, close, TakesValue, MayEnd, CanEnd, CanHold, IsWhole}
-use Rattle.cbor_strict.specs.inner.Frame.{with_all, with_entries}
-use Rattle.cbor_reader.specs.inner.Levels.{Level, a_member, a_key, a_value, some_member, some_key, some_value, tagged}
-use Rattle.cbor_reader.specs.inner.Path.{Standing, item_due, item_full, item_whole, settle}
+use Rattle.cbor_judging.specs.Frame.{with_all, with_entries}
+use Rattle.cbor_judging.specs.Levels.{Level, a_member, a_key, a_value, some_member, some_key, some_value, tagged, Standing, item_due, item_full, item_whole, settle}
 use Rattle.cbor_reader.specs.declared.plain_part.Part.{Part}
 use Rattle.cbor_reader.specs.inner.TreeValues.{member_values, pair_values, level_value, level_values, full_value, values_at, IsContainer, IsFullRight, IsTreeAt, IsTreeStep, IsForTree, TakesTreePart, MayEndIn, IsWholeIn}
 

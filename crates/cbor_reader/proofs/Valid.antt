@@ -13,8 +13,8 @@ use Rattle.cbor_head.specs.declared.width.Width.TheVariants.{Indefinite}
 use Rattle.cbor_head.proofs.Counts.{holds_fits, values_count-of, entries_count-of}
 use Rattle.cbor_head.proofs.ReadLaws.{length_spell}
 use Rattle.cbor_item.proofs.Stable.{utf8_stable}
-use Rattle.cbor_strict.proofs.Judged.{Never}
-use Rattle.cbor_strict.proofs.ByteLists.{bytes_join}
+use Rattle.cbor_judging.proofs.Judged.{Never}
+use Rattle.cbor_judging.proofs.ByteLists.{bytes_join}
 
 -- ---- counts
 

@@ -13,20 +13,20 @@ use Rattle.cbor_head.specs.declared.order.KeyOrder.{KeyOrder}
 use Rattle.cbor_head.specs.declared.order.KeyOrder.TheVariants.{Bytewise}
 use Rattle.cbor_head.specs.declared.reason.Reason.TheVariants.{Read, Memory, Trailing, CanonicalTooLong}
 use Rattle.cbor_head.specs.declared.reason.Refusal.{Refusal}
-use Rattle.cbor_strict.specs.Readers.{IsReadAs, IsUnread, of_verdict, of_reader, of_memory, Loses}
+use Rattle.cbor_judging.specs.Readers.{IsReadAs, IsUnread, of_verdict, of_reader, of_memory, Loses}
 use Rattle.cbor_reader.specs.Canonicalise as whole
 use Rattle.cbor_reader.specs.Canonicalise.{IsCanonicalOf, IsRefusal}
 use Rattle.cbor_reader.specs.Headline.{IsValidItem}
-use Rattle.cbor_strict.specs.Refusals.{IsFreeBefore}
+use Rattle.cbor_judging.specs.Refusals.{IsFreeBefore}
 use Rattle.cbor_reader.specs.WholeItem.{IsWholeItem, IsItemRefusal, unread, trailing}
 use Rattle.cbor_reader.specs.inner.Levels.{IsBuiltFront}
 use Rattle.cbor_reader.specs.inner.PlainFront.{IsEncodedFront}
-use Rattle.cbor_strict.proofs.Accepted.{item_is_whole}
-use Rattle.cbor_strict.proofs.FreeBefore.{truncated-free}
+use Rattle.cbor_judging.proofs.Accepted.{item_is_whole}
+use Rattle.cbor_judging.proofs.FreeBefore.{truncated-free}
 use Rattle.cbor_reader.proofs.Headline.{valid_item, valid_item_accepted, answers_exactly}
 use Rattle.cbor_head.proofs.ReadLaws.{one_list}
 use Rattle.cbor_reader.proofs.OneAnswer.{one_item, no_both, one_refusal}
-use Rattle.cbor_strict.proofs.Reasons.{never-read}
+use Rattle.cbor_judging.proofs.Reasons.{never-read}
 
 -- ---- a refusal by a slice
 

@@ -10,7 +10,7 @@ use Rattle.cbor_head.specs.declared.order.KeyOrder.{KeyOrder}
 use Rattle.cbor_head.specs.declared.reason.Reason.TheVariants.{Trailing, CanonicalTooLong, Memory}
 use Rattle.cbor_head.specs.declared.reason.Refusal.{Refusal}
 use Rattle.cbor_head.specs.declared.reason.Reason.{Reason}
-use Rattle.cbor_strict.specs.Refusals.{IsFreeBefore, IsFormReason, IsComplaintReason}
+use Rattle.cbor_judging.specs.Refusals.{IsFreeBefore, IsFormReason, IsComplaintReason}
 
 -- The whole input is one well-formed, valid item within depth d and n bytes, and out is the canonical bytes of its value, at
 -- most n bytes too.

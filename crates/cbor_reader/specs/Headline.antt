@@ -1,5 +1,5 @@
 -- Which inputs are accepted (RFC 8949, sections 3 and 5.3).
-use Rattle.std.specs.Prelude.{ℕ, ◌≡◌, ◌≤◌, ◌++◌, List, length, take, IsUtf8}
+use Rattle.std.specs.Prelude.{ℕ, ◌≤◌, List, length, IsUtf8}
 use Rattle.std.specs.List.{AllByRecursion}
 use Rattle.cbor_head.specs.Spelling.{Spelling, Spellings, SpelledEntries, text, text_chunks, array, a_map, tag, no_spellings, a_spelling, no_entries, entry, IsItem}
 use Rattle.cbor_head.specs.Complaint.{plain, Complaint, Complains}

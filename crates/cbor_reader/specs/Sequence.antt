@@ -7,7 +7,7 @@ use Rattle.cbor_head.specs.Complaint.{Rules, Complaint, Complains}
 use Rattle.cbor_head.specs.Limits.{Bounds}
 use Rattle.cbor_head.specs.declared.reason.Reason.TheVariants.{Read, Memory}
 use Rattle.cbor_head.specs.declared.reason.Refusal.{Refusal}
-use Rattle.cbor_strict.specs.Readers.{IsReadAs, IsUnread, Loses}
+use Rattle.cbor_judging.specs.Readers.{IsReadAs, IsUnread, Loses}
 
 -- ---- sequences
 

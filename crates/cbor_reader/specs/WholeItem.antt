@@ -6,7 +6,7 @@ use Rattle.cbor_head.specs.Verdict.{IsVerdict, accepted, refusal}
 use Rattle.cbor_head.specs.declared.reason.Reason.TheVariants.{Trailing, Read}
 use Rattle.cbor_head.specs.declared.reason.Refusal.{Refusal}
 use Rattle.cbor_reader.specs.Headline.{IsValidItem}
-use Rattle.cbor_strict.specs.Readers.{IsUnread}
+use Rattle.cbor_judging.specs.Readers.{IsUnread}
 
 -- the whole input is one item: well-formed within depth d, valid, and of at most n bytes
 abbrev pub IsWholeItem : ℕ → ℕ → List ℕ → Type 0

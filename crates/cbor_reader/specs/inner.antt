@@ -3,7 +3,6 @@ pub mod Front
 pub mod HeldKeys
 pub mod Levels
 pub mod MapKeys
-pub mod Path
 pub mod PlainFront
 pub mod PlainItems
 pub mod PlainParts

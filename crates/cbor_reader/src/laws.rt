@@ -14,8 +14,8 @@ ghost use Rattle.cbor_head.specs.declared.reason.Reason.TheVariants.{CanonicalTo
 ghost use Rattle.cbor_reader.specs.Canonicalise.{IsCanonicalOf, IsRefusal};
 ghost use Rattle.cbor_reader.specs.Comparing.{MeanTheSame};
 ghost use Rattle.cbor_reader.specs.Headline.{IsValidItem};
-ghost use Rattle.cbor_strict.specs.Readers.{BeginsWithCanonical};
-ghost use Rattle.cbor_strict.specs.Refusals.{StandsWithin};
+ghost use Rattle.cbor_judging.specs.Readers.{BeginsWithCanonical};
+ghost use Rattle.cbor_judging.specs.Refusals.{StandsWithin};
 ghost use Rattle.cbor_reader.specs.Headline.{HasValidTexts};
 ghost use Rattle.cbor_reader.specs.Size.{size};
 ghost use Rattle.cbor_reader.specs.WholeItem.{IsWholeItem, IsItemRefusal};

@@ -1,7 +1,7 @@
 //! The next head of an item.
 
 ghost use Rattle.cbor_head.specs.Complaint.{plain};
-ghost use Rattle.cbor_strict.specs.inner.Reading.{HasHeadDue, AnswersHead};
+ghost use Rattle.cbor_judging.specs.Reading.{HasHeadDue, AnswersHead};
 
 use cbor_events::{Event, ItemEvents};
 use cbor_head::Refusal;

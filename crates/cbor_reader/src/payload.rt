@@ -2,7 +2,7 @@
 
 ghost use Rattle.std.specs.Prelude.{◌≡◌, false};
 ghost use Rattle.cbor_events.specs.ItemEvents.{ItemEventsView};
-ghost use Rattle.cbor_strict.specs.inner.Reading.{IsPayloadDue, AnswersPayload};
+ghost use Rattle.cbor_judging.specs.Reading.{IsPayloadDue, AnswersPayload};
 
 use cbor_events::ItemEvents;
 use cbor_head::{Reason, Refusal};

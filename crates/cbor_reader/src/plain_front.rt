@@ -4,7 +4,7 @@ ghost use Rattle.std.specs.Prelude.{◌≡◌, MatchResult};
 ghost use Rattle.cbor_head.specs.Complaint.{plain};
 ghost use Rattle.cbor_item.specs.View.{view};
 ghost use Rattle.cbor_reader.specs.inner.Front.{IsFrontRead};
-ghost use Rattle.cbor_strict.specs.inner.Front.{IsFrontUnread};
+ghost use Rattle.cbor_judging.specs.Reading.{IsFrontUnread};
 ghost use Rattle.cbor_reader.specs.inner.PlainFront.{IsDueSomewhere, AnswersNextPart, AnswersParts};
 ghost use Rattle.cbor_reader.specs.inner.PlainFront.{IsEncodedFront};
 

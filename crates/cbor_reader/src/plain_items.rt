@@ -6,7 +6,7 @@ ghost use Rattle.cbor_item.specs.Built.{built, IsRepeatedKey};
 ghost use Rattle.cbor_item.specs.Parts.{plain};
 ghost use Rattle.cbor_head.specs.Spelling.{Spelling, value_of};
 ghost use Rattle.cbor_item.specs.View.{view};
-ghost use Rattle.cbor_reader.specs.inner.Path.{item_due, item_whole};
+ghost use Rattle.cbor_judging.specs.Levels.{item_due, item_whole};
 ghost use Rattle.cbor_reader.specs.inner.TreeValues.{IsTreeAt, IsTreeStep, IsWholeIn, TakesTreePart};
 ghost use Rattle.cbor_reader.specs.inner.TreeValues.{values_with};
 ghost use Rattle.cbor_reader.specs.declared.key_set.KeySet.{KeySet as KeySetView};

@@ -4,7 +4,7 @@ ghost use Rattle.std.specs.Prelude.{◌≡◌, ℕ, List, length, true, false, N
 ghost use Rattle.cbor_head.specs.Complaint.{plain, strict};
 ghost use Rattle.cbor_head.specs.Spelling.{spell, value_of};
 ghost use Rattle.cbor_item.specs.View.{view};
-ghost use Rattle.cbor_strict.specs.Readers.{IsRead, IsCanonicalFront, Loses};
+ghost use Rattle.cbor_judging.specs.Readers.{IsRead, IsCanonicalFront, Loses};
 ghost use Rattle.cbor_reader.specs.Sequence.{SequenceView, IfGiven, IfRefused, is_last, IsTaken};
 ghost use Rattle.cbor_reader.specs.Sequence.{IsAtEnd, IsRefused, Given, HasGiven, GivesNext};
 

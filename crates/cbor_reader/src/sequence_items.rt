@@ -5,7 +5,7 @@ ghost use Rattle.cbor_head.specs.Complaint.{plain, strict};
 ghost use Rattle.cbor_head.specs.Spelling.{spell, value_of};
 ghost use Rattle.cbor_head.specs.declared.reason.Reason.TheVariants as reasons;
 ghost use Rattle.cbor_item.specs.View.{view};
-ghost use Rattle.cbor_strict.specs.Readers.{IsRead, IsCanonicalFront, Loses};
+ghost use Rattle.cbor_judging.specs.Readers.{IsRead, IsCanonicalFront, Loses};
 ghost use Rattle.cbor_reader.specs.Sequence.{SequenceItemsView, IfGiven, IfRefused, is_last};
 ghost use Rattle.cbor_reader.specs.Sequence.{IsTaken, IsAtEnd, IsRefused, Given, HasGiven};
 ghost use Rattle.cbor_reader.specs.Sequence.{GivesNext};

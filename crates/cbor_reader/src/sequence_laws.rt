@@ -11,8 +11,8 @@ ghost use Rattle.cbor_head.specs.declared.reason.Reason.TheVariants.{Memory, Rea
 ghost use Rattle.cbor_head.specs.declared.reason.Reason.TheVariants.{TooLong};
 ghost use Rattle.cbor_head.specs.declared.reason.Refusal.{Refusal};
 ghost use Rattle.cbor_reader.specs.Headline.{IsValidItem};
-ghost use Rattle.cbor_strict.specs.Readers.{BeginsWithCanonical};
-ghost use Rattle.cbor_strict.specs.Readers.{IsUnread};
+ghost use Rattle.cbor_judging.specs.Readers.{BeginsWithCanonical};
+ghost use Rattle.cbor_judging.specs.Readers.{IsUnread};
 ghost use Rattle.cbor_reader.specs.Sequence.{sequence_bytes, IsAccepted, StartsWithItems};
 ghost use Rattle.cbor_reader.specs.Sequence.{IsLongestSequence, EndsBefore, IsAtEnd, IsRefused};
 ghost use Rattle.cbor_reader.specs.Sequence.{Given, given_by, items_of, AreGivenBy, HasGiven};

@@ -5,8 +5,8 @@ ghost use Rattle.cbor_head.specs.Complaint.{plain};
 ghost use Rattle.cbor_head.specs.Limits.{Bounds};
 ghost use Rattle.cbor_events.specs.inner.Automaton.{Frame};
 ghost use Rattle.cbor_head.specs.declared.width.Width.{Width};
-ghost use Rattle.cbor_strict.specs.inner.Reading.{HasBegun, IsBegun, ReadsItem};
-ghost use Rattle.cbor_strict.specs.inner.Reading.{StopsItem, string_kind, string_value};
+ghost use Rattle.cbor_judging.specs.Reading.{HasBegun, IsBegun, ReadsItem};
+ghost use Rattle.cbor_judging.specs.Reading.{StopsItem, string_kind, string_value};
 
 use crate::next_head::next_head;
 use crate::payload::read_chunk;

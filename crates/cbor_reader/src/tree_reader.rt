@@ -3,8 +3,8 @@
 ghost use Rattle.std.specs.Prelude.{◌≡◌, ◌≤◌, ◌<◌, ◌^◌, ℕ, length, IfOk, IfErr, IfSome};
 ghost use Rattle.cbor_head.specs.Complaint.{plain};
 ghost use Rattle.cbor_item.specs.View.{view};
-ghost use Rattle.cbor_strict.specs.Readers.{IsReadAs, IsUnread, Loses};
-ghost use Rattle.cbor_strict.specs.Refusals.{IsReaderReason};
+ghost use Rattle.cbor_judging.specs.Readers.{IsReadAs, IsUnread, Loses};
+ghost use Rattle.cbor_judging.specs.Refusals.{IsReaderReason};
 ghost use Rattle.cbor_reader.specs.Size.{size};
 
 use crate::plain_front::read_item_front;

@@ -3,7 +3,7 @@
 ghost use Rattle.std.specs.Prelude.{◌≢◌, IfOk, IfErr};
 ghost use Rattle.cbor_head.specs.Complaint.{plain};
 ghost use Rattle.cbor_head.specs.declared.reason.Reason.TheVariants as reasons;
-ghost use Rattle.cbor_strict.specs.Readers.{IsUnread};
+ghost use Rattle.cbor_judging.specs.Readers.{IsUnread};
 ghost use Rattle.cbor_reader.specs.inner.Levels.{IsBuiltFront};
 
 use crate::plain_front::read_plain_front;

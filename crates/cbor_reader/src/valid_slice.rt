@@ -3,7 +3,7 @@
 ghost use Rattle.std.specs.Prelude.{◌≢◌, IfOk, IfErr};
 ghost use Rattle.cbor_head.specs.Complaint.{plain};
 ghost use Rattle.cbor_head.specs.declared.reason.Reason.TheVariants as reasons;
-ghost use Rattle.cbor_strict.specs.Readers.{IsRead, IsUnread};
+ghost use Rattle.cbor_judging.specs.Readers.{IsRead, IsUnread};
 
 use crate::valid_front::valid_front;
 use cbor_head::{KeyOrder, Limits, Refusal};

@@ -6,7 +6,7 @@ ghost use Rattle.cbor_head.specs.Complaint.{plain};
 ghost use Rattle.cbor_head.specs.Spelling.{Spelling, value_of};
 ghost use Rattle.cbor_head.specs.declared.reason.Reason.TheVariants as reasons;
 ghost use Rattle.cbor_reader.specs.Headline.{IsValidItem};
-ghost use Rattle.cbor_strict.specs.Readers.{IsUnread};
+ghost use Rattle.cbor_judging.specs.Readers.{IsUnread};
 ghost use Rattle.cbor_reader.specs.WholeItem.{IsItemRefusal};
 
 use crate::valid_front::valid_front;

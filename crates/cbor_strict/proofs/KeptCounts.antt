@@ -1,5 +1,5 @@
 -- How many maps are open, and how many bytes of keys are kept, is what each item that starts with the bytes read tells of them.
-use Rattle.std.proofs.Common.{◌≡◌, ◌≢◌, ℕ, zero, suc, ◌+◌, ◌-◌, ◌<◌, ◌≤◌, Bool, true, false, List, [], ◌∷◌, ◌++◌, length, refl, sym, ap, ◌∙◌, subst, arith, append_assoc, append-nil}
+use Rattle.std.proofs.Common.{◌≡◌, ◌≢◌, ℕ, suc, ◌+◌, ◌-◌, ◌<◌, ◌≤◌, Bool, true, false, List, [], ◌∷◌, ◌++◌, length, refl, sym, ap, ◌∙◌, subst, arith, append_assoc}
 use Rattle.std.specs.Prelude.{◌&&◌, nat_le, if◌then◌else◌}
 use Rattle.std.proofs.lemmas.Bool.{lt-ltb, le-ltb, le-leb}
 use Rattle.std.proofs.lemmas.List.{length-append}
@@ -13,10 +13,10 @@ use Rattle.cbor_head.proofs.Parts.{major, width, count, head_of, body, parts, ho
 use Rattle.cbor_head.proofs.ReadLaws.{unique, holds_or_open}
 use Rattle.cbor_events.specs.Open.{if_open}
 use Rattle.cbor_strict.specs.KeptKeys.{open_maps, open_maps_in, open_maps_in_entries, key_bytes, key_bytes_in, key_bytes_in_entries}
-use Rattle.cbor_strict.specs.inner.Frame.{Frame, a_member, a_key, a_content, tagged, with_all, with_entries, plug, before, behind, IsFrame}
+use Rattle.cbor_judging.specs.Frame.{Frame, a_member, a_key, a_content, tagged, with_all, with_entries, plug, before, behind, IsFrame}
 use Rattle.cbor_strict.specs.inner.LastKeys.{is_key, last_key, complete_key}
-use Rattle.cbor_strict.specs.inner.OpenMaps.{before_all}
-use Rattle.cbor_strict.proofs.Frames.{count_with, entries_with, spell_plug}
+use Rattle.cbor_judging.specs.OpenMaps.{before_all}
+use Rattle.cbor_judging.proofs.Frames.{count_with, entries_with, spell_plug}
 
 -- ---- what a path of containers counts, the outermost first
 

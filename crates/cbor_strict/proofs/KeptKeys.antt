@@ -12,10 +12,10 @@ use Rattle.cbor_strict.specs.declared.last_keys.Due.{Due}
 use Rattle.cbor_strict.specs.declared.last_keys.Due.TheVariants.{Member, Key, Content}
 use Rattle.cbor_strict.specs.declared.last_keys.Level.{Level}
 use Rattle.cbor_strict.specs.declared.last_keys.Span.{Span}
-use Rattle.cbor_strict.specs.inner.Frame.{Frame, a_member, a_key, a_content, tagged, with_entries, plug, before, behind}
+use Rattle.cbor_judging.specs.Frame.{Frame, a_member, a_key, a_content, tagged, with_entries, plug, before, behind}
 use Rattle.cbor_strict.specs.inner.LastKeys.{AreDefinite, still_open, ended_item, KeysView, is_key, stands_in_key, due_of, level_of, levels_of, last_key, before_last, complete_key, kept_bytes, kept_before, span, spans_in, spans_of, with_key, IsKept, IsFull}
-use Rattle.cbor_strict.proofs.Frames.{spell_plug}
-use Rattle.cbor_strict.proofs.OpenSteps.{content_before, pair_count}
+use Rattle.cbor_judging.proofs.Frames.{spell_plug}
+use Rattle.cbor_judging.proofs.OpenSteps.{content_before, pair_count}
 
 -- ---- in a key, or not
 

@@ -1,7 +1,7 @@
 -- What the strict reader keeps, by the items that start with the bytes it read.
 use Rattle.std.proofs.Common.{◌≡◌, ◌≢◌, ℕ, zero, suc, ◌+◌, ◌-◌, ◌<◌, ◌≤◌, Bool, true, false, true≢false, List, [], ◌∷◌, ◌++◌, length, refl, sym, ap, ◌∙◌, subst, inl, inr, arith, append_assoc, append-nil}
-use Rattle.std.specs.Prelude.{◌&&◌, nat_lt, nat_le, if◌then◌else◌}
-use Rattle.std.proofs.lemmas.Bool.{lt-ltb, le-ltb, lt-leb}
+use Rattle.std.specs.Prelude.{nat_lt, if◌then◌else◌}
+use Rattle.std.proofs.lemmas.Bool.{lt-ltb, lt-leb}
 use Rattle.std.proofs.lemmas.List.{length-append}
 use Rattle.cbor_head.specs.Head.{head, Holds}
 use Rattle.cbor_head.specs.Limits.{Bounds}
@@ -22,18 +22,18 @@ use Rattle.cbor_events.specs.inner.Automaton.{Frame as Container, State, at_item
 use Rattle.cbor_events.proofs.Opens.{stack}
 use Rattle.cbor_strict.specs.declared.open_items.OpenItems.{OpenItems}
 use Rattle.cbor_strict.specs.KeptKeys.{open_maps, open_maps_in, key_bytes, key_bytes_in, key_bytes_in_entries}
-use Rattle.cbor_strict.specs.inner.Frame.{Frame, a_member, a_key, a_content, tagged, before}
+use Rattle.cbor_judging.specs.Frame.{Frame, a_member, a_key, a_content, tagged, before}
 use Rattle.cbor_strict.specs.inner.LastKeys.{seen, from_outside, is_key, stands_in_key, last_key, complete_key, kept_bytes, spans_of, spans_in, IsKept}
 use Rattle.cbor_strict.specs.inner.OpenItems.{frames_in, bytes_before, Stands}
-use Rattle.cbor_strict.specs.inner.OpenMaps.{before_all, ArePath, AreClosedClean}
-use Rattle.cbor_strict.specs.inner.Reading.{IsAt, string_major}
+use Rattle.cbor_judging.specs.OpenMaps.{before_all, ArePath, AreClosedClean}
+use Rattle.cbor_judging.specs.Reading.{IsAt, string_major}
 use Rattle.cbor_strict.specs.inner.StrictEvents.{IsLittle}
-use Rattle.cbor_strict.proofs.Judged.{Never}
+use Rattle.cbor_judging.proofs.Judged.{Never}
 use Rattle.cbor_strict.proofs.KeptCounts.{Counts, AreAround, one_map, map_count, keys_size, path_counts, maps_past, keys_past}
 use Rattle.cbor_strict.proofs.KeptKeys.{either_way, kept_if_in, kept_if_out, kept_spans}
-use Rattle.cbor_strict.proofs.Standing.{open-is}
+use Rattle.cbor_judging.proofs.Standing.{open-is}
 use Rattle.cbor_strict.proofs.OpenEnds.{frames_length}
-use Rattle.cbor_strict.proofs.OpenSteps.{before_snoc}
+use Rattle.cbor_judging.proofs.OpenSteps.{before_snoc}
 
 -- ---- before an item
 

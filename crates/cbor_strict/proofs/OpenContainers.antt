@@ -14,9 +14,8 @@ use Rattle.cbor_head.specs.declared.major.Major.TheVariants.{Array, Map, Tag}
 use Rattle.cbor_head.specs.declared.reason.Refusal.{Refusal}
 use Rattle.cbor_head.proofs.Verdicts.{beginning_front}
 use Rattle.cbor_events.specs.Open.{open_after, open_in, open_in_entries}
-use Rattle.cbor_strict.specs.Readers.{StaysWithinDepth}
-use Rattle.cbor_strict.specs.Readers.{IsRead, IsUnread, of_verdict, of_reader, of_memory}
-use Rattle.cbor_strict.proofs.Accepted.{item_is_longest}
+use Rattle.cbor_judging.specs.Readers.{StaysWithinDepth, IsRead, IsUnread, of_verdict, of_reader, of_memory}
+use Rattle.cbor_judging.proofs.Accepted.{item_is_longest}
 use Rattle.cbor_strict.proofs.WholeInputs.{some-so}
 
 -- ---- no more than the item is deep

@@ -15,30 +15,30 @@ use Rattle.cbor_head.specs.declared.reason.Refusal.{Refusal}
 use Rattle.cbor_head.specs.declared.reason.Reason.TheVariants as reasons
 use Rattle.cbor_head.specs.declared.width.Width.{Width}
 use Rattle.cbor_events.specs.Open.{open_after, open_in, open_in_entries}
-use Rattle.cbor_events.specs.inner.Automaton.{Frame as Container, at_item, counted, close, done as at_end}
+use Rattle.cbor_events.specs.inner.Automaton.{Frame as Container, at_item, counted, close}
 use Rattle.cbor_events.specs.inner.State.{state_of}
 use Rattle.cbor_events.specs.ItemEvents.{ItemEventsView}
 use Rattle.cbor_events.specs.declared.frame.Frame as frames
 use Rattle.cbor_events.specs.declared.position.Position.{Position}
 use Rattle.cbor_events.specs.declared.position.Position.TheVariants as positions
-use Rattle.cbor_strict.specs.inner.Frame.{Frame, a_member, a_key, a_content, tagged, with_all, with_entries, keys_onto, plug, before, OfFront}
-use Rattle.cbor_strict.specs.inner.Judged.{IsJudged}
-use Rattle.cbor_strict.specs.inner.OpenMaps.{placed, open_keys, AreDistinct, OfClosed, before_all, AreOpen, AreOpenDistinct}
-use Rattle.cbor_strict.specs.inner.Reading.{IsAt}
+use Rattle.cbor_judging.specs.Frame.{Frame, a_member, a_key, a_content, tagged, with_all, with_entries, keys_onto, plug, before, OfFront}
+use Rattle.cbor_judging.specs.Judged.{IsJudged}
+use Rattle.cbor_judging.specs.OpenMaps.{placed, open_keys, AreDistinct, OfClosed, before_all, AreOpen, AreOpenDistinct}
+use Rattle.cbor_judging.specs.Reading.{IsAt, HasCause}
 use Rattle.cbor_strict.specs.inner.SliceChecks.{IsLastKey}
-use Rattle.cbor_strict.proofs.Frames.{spelled_plug, depth_plug}
-use Rattle.cbor_strict.proofs.Judged.{Never, judged_key}
-use Rattle.cbor_strict.proofs.OpenKeys.{on_keys_split, onto_keys, front_apart}
-use Rattle.cbor_strict.proofs.OpenMaps.{judged_within}
-use Rattle.cbor_strict.proofs.OpenSteps.{before_snoc, distinct_snoc, member_before, content_before, content_keys, map_closes, array_closes, tag_closes}
-use Rattle.cbor_strict.proofs.OpenWalk.{shuts, innermost, member_ends, key_ends, content_ends}
-use Rattle.cbor_strict.proofs.Scalars.{at-as}
+use Rattle.cbor_judging.proofs.Frames.{spelled_plug, depth_plug}
+use Rattle.cbor_judging.proofs.Judged.{Never, judged_key}
+use Rattle.cbor_judging.proofs.OpenKeys.{on_keys_split, onto_keys, front_apart}
+use Rattle.cbor_judging.proofs.OpenMaps.{judged_within}
+use Rattle.cbor_judging.proofs.OpenSteps.{before_snoc, distinct_snoc, member_before, content_before, content_keys, map_closes, array_closes, tag_closes}
+use Rattle.cbor_judging.proofs.OpenWalk.{shuts, innermost, member_ends, key_ends, content_ends}
+use Rattle.cbor_judging.proofs.Scalars.{at-as}
 use Rattle.cbor_strict.proofs.SliceItems.{key-fresh, key-falls}
-use Rattle.cbor_strict.proofs.Steps.{at-reached}
+use Rattle.cbor_judging.proofs.Steps.{at-reached}
 use Rattle.cbor_strict.specs.inner.LastKeys.{from_outside, last_key, IsFull, AreDefinite, still_open, ended_item}
 use Rattle.cbor_strict.specs.inner.OpenItems.{frames_in, bytes_before}
-use Rattle.cbor_strict.specs.inner.Reading.{HasCause}
 use Rattle.cbor_strict.proofs.KeptKeys.{full_bytes}
+use Rattle.cbor_judging.proofs.Standing.{done_position}
 
 -- ---- the containers
 
@@ -182,14 +182,6 @@ item_length positions.SimpleNumber fr xs e = absurd (cc e)
 item_length (positions.Payload chunk kind left) fr xs e = absurd (cc e)
 item_length (positions.Chunks kind) fr xs e = absurd (cc e)
 item_length positions.Done fr xs e = absurd (cc e)
-
-pub done_position : (position : Position) (fr : List frames.Frame) → state_of position fr ≡ at_end → position ≡ positions.Done
-done_position positions.Done fr e = refl
-done_position positions.Item fr e = absurd (cc e)
-done_position (positions.Head chunk kind width left argument) fr e = absurd (cc e)
-done_position positions.SimpleNumber fr e = absurd (cc e)
-done_position (positions.Payload chunk kind left) fr e = absurd (cc e)
-done_position (positions.Chunks kind) fr e = absurd (cc e)
 
 pub content_state : (n : ℕ) (xs : List Container) → close (counted (suc n + suc n) ∷ xs) ≡ at_item (counted (n + suc n) ∷ xs)
 content_state n xs = let e : suc n + suc n ≡ suc (n + suc n) = omega arith in ap (λ (k : ℕ). close (counted k ∷ xs)) e

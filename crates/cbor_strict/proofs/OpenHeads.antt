@@ -1,11 +1,11 @@
 -- What becomes of the open containers as a head comes.
-use Rattle.std.proofs.Common.{◌≡◌, ◌≢◌, ℕ, zero, suc, ◌+◌, ◌-◌, ◌<◌, ◌≤◌, ◌⊎◌, Bool, false, Option, Some, None, List, [], ◌∷◌, ◌++◌, length, replicate, refl, sym, ap, ◌∙◌, subst, inl, inr, arith, append_assoc, append-nil}
+use Rattle.std.proofs.Common.{◌≡◌, ◌≢◌, ℕ, zero, suc, ◌+◌, ◌-◌, ◌<◌, ◌⊎◌, Bool, false, Option, Some, None, List, [], ◌∷◌, ◌++◌, length, refl, sym, ap, ◌∙◌, subst, inl, inr, arith, append-nil}
 use Rattle.std.proofs.lemmas.List.{length-append, nil_from_length}
 use Rattle.std.proofs.lemmas.Bool.{cases_lt}
-use Rattle.cbor_head.specs.Head.{Holds, head, shortest, shortest_head}
+use Rattle.cbor_head.specs.Head.{head, shortest, shortest_head}
 use Rattle.cbor_head.specs.Limits.{Bounds}
 use Rattle.cbor_head.specs.Value.{Value}
-use Rattle.cbor_head.specs.Spelling.{Spelling, SpelledEntries, unsigned, negative, bytes, text, array, a_map, tag, simple, no_entries, spell, HoldsOrIndefinite, IsSpelled, depth}
+use Rattle.cbor_head.specs.Spelling.{Spelling, SpelledEntries, no_entries, spell}
 use Rattle.cbor_head.specs.Complaint as complaint
 use Rattle.cbor_head.specs.Complaint.{Rules, strict, OfHead, Complains}
 use Rattle.cbor_head.specs.Verdict.{refusal}
@@ -17,10 +17,9 @@ use Rattle.cbor_head.specs.declared.reason.Reason.TheVariants.{Memory}
 use Rattle.cbor_head.specs.declared.reason.Refusal.{Refusal}
 use Rattle.cbor_head.specs.declared.width.Width.{Width}
 use Rattle.cbor_head.specs.declared.width.Width.TheVariants.{Direct, One, Two, Four, Eight, Indefinite}
-use Rattle.cbor_head.proofs.Agree.{head_of, body, parts}
 use Rattle.cbor_events.specs.Trace.{Mark, a_head}
 use Rattle.cbor_events.specs.inner.Automaton.{Frame as Container, State, at_item, close, payload}
-use Rattle.cbor_events.specs.inner.Taking.{Follows, IsTaking}
+use Rattle.cbor_events.specs.inner.Taking.{IsTaking}
 use Rattle.cbor_events.specs.ItemEvents.{ItemEventsView}
 use Rattle.cbor_events.specs.Marks.{mark_of}
 use Rattle.cbor_events.specs.declared.event.Event.{Event}
@@ -30,22 +29,22 @@ use Rattle.cbor_events.specs.TextCheck.{HasChecked}
 use Rattle.cbor_strict.specs.declared.last_keys.Due.TheVariants.{Member}
 use Rattle.cbor_strict.specs.declared.last_keys.LastKeys.{LastKeys}
 use Rattle.cbor_strict.specs.declared.open_items.OpenItems.{OpenItems}
-use Rattle.cbor_strict.specs.inner.Frame.{Frame, a_key, before}
+use Rattle.cbor_judging.specs.Frame.{Frame, a_key, before}
 use Rattle.cbor_strict.specs.inner.LastKeys.{seen, from_outside, due_of, IsKept}
-use Rattle.cbor_strict.specs.inner.OpenItems.{frames_in, bytes_before, Stands, AreRefused, HasEnded, HasHeadCome, HasBegunIn, IsLeaf, IsMap, IsOther, short_head}
-use Rattle.cbor_strict.specs.inner.OpenMaps.{AreOpen, AreOpenDistinct}
-use Rattle.cbor_strict.specs.inner.Reading.{IsReached, IsUndecided, HasCause, OfMark, IsFault, IsBegun, ReadsItem, string_kind, string_major}
-use Rattle.cbor_strict.proofs.Heads.{zero_bytes, zero_length, open_or}
-use Rattle.cbor_strict.proofs.Items.{IsDefinite, definite, proper-definite, never-open, head-count, cause-in, undecided-in, head-judged, taking-some}
-use Rattle.cbor_strict.proofs.Judged.{Never, zero_item, zeros, zeros_count, zeros_spelled, zeros_flat, zero_pairs, pairs_count, pairs_spelled, pairs_flat, judged_head}
+use Rattle.cbor_strict.specs.inner.OpenItems.{frames_in, bytes_before, Stands, HasEnded, HasHeadCome, HasBegunIn, IsLeaf, IsMap, IsOther, short_head}
+use Rattle.cbor_judging.specs.Reading.{AreRefused, IsReached, IsUndecided, HasCause, OfMark, IsFault, IsBegun, ReadsItem, string_kind, string_major}
+use Rattle.cbor_judging.specs.OpenMaps.{AreOpen, AreOpenDistinct}
+use Rattle.cbor_judging.proofs.Heads.{Headed}
+use Rattle.cbor_judging.proofs.Items.{IsDefinite, definite, proper-definite, never-open, head-count, cause-in, undecided-in, head-judged, taking-some}
+use Rattle.cbor_judging.proofs.Judged.{Never}
 use Rattle.cbor_strict.proofs.KeptKeys.{kept_levels, kept_spans}
 use Rattle.cbor_strict.proofs.OpenBegins.{lift, no_break, no_openers, leaf_reads, HasOpened, other_opens, pairs_open}
 use Rattle.cbor_strict.proofs.OpenEnds.{frames_length, before_more}
 use Rattle.cbor_strict.proofs.OpenItems.{around_as}
-use Rattle.cbor_strict.proofs.Scalars.{at-as}
-use Rattle.cbor_strict.proofs.Steps.{head-size, fault_of, at-reached}
-use Rattle.cbor_strict.proofs.Undecided.{last-apart}
-use Rattle.cbor_strict.proofs.WholeStrings.{string-head, string-due}
+use Rattle.cbor_judging.proofs.Scalars.{at-as}
+use Rattle.cbor_judging.proofs.Steps.{head-size, fault_of, at-reached}
+use Rattle.cbor_judging.proofs.Undecided.{head-item, head-undecided}
+use Rattle.cbor_judging.proofs.WholeStrings.{string-head, string-due}
 
 -- ---- what is found of the item is found of the whole
 
@@ -85,46 +84,6 @@ refused_head v b event t x e reason f taken to h fault all is =
     (subst (λ (y : List ℕ). HasCause (strict v.order) b (frames_in h.fs) y x to f) h.taken cause)
 
 -- ---- no memory for it
-
--- an item with this head
-pub record HasHead (d : ℕ) (bs : List ℕ) : Type 0 where
-  pub item : Spelling
-  spelled : IsSpelled item
-  within : depth item ≤ d
-  head_is : head_of item ≡ bs
-
-pub head_item : (d : ℕ) (fs : List Container) (m : Major) (w : Width) (n : ℕ) (x : List ℕ) (next : State) → IsDefinite d fs m w n x next → HasHead (d - length fs) (head m w n)
-head_item d fs m w n x next i = go m i.follows
-  where
-    z : 0 < 24
-    z = omega arith
-
-    go : (m : Major) → Follows d fs m w n next → HasHead (d - length fs) (head m w n)
-    go majors.Unsigned f = record { item = unsigned w n; spelled = i.holds; within = omega arith; head_is = refl }
-    go majors.Negative f = record { item = negative w n; spelled = i.holds; within = omega arith; head_is = refl }
-    go majors.Bytes f = record { item = bytes w (replicate n 0); spelled = (subst (Holds w) (sym (zero_length n)) i.holds, zero_bytes n); within = omega arith; head_is = ap (head majors.Bytes w) (zero_length n) }
-    go majors.Text f = record { item = text w (replicate n 0); spelled = (subst (Holds w) (sym (zero_length n)) i.holds, zero_bytes n); within = omega arith; head_is = ap (head majors.Text w) (zero_length n) }
-    go majors.Array f =
-        let flat = zeros_flat n in
-        record { item = array w (zeros n); spelled = (subst (HoldsOrIndefinite w) (sym (zeros_count n)) (open_or w n i.holds), zeros_spelled n); within = omega (arith, f.0, flat); head_is = ap (head majors.Array w) (zeros_count n) }
-    go majors.Map f =
-        let flat = pairs_flat n in
-        record { item = a_map w (zero_pairs n); spelled = (subst (HoldsOrIndefinite w) (sym (pairs_count n)) (open_or w n i.holds), pairs_spelled n); within = omega (arith, f.0, flat); head_is = ap (head majors.Map w) (pairs_count n) }
-    go majors.Tag f = record { item = tag w n zero_item; spelled = (i.holds, z); within = omega (arith, f.0); head_is = refl }
-    go majors.Simple f = record { item = simple n; spelled = f.0; within = omega arith; head_is = ap (λ (v : Width). head majors.Simple v n) (sym f.1) }
-
-pub head_undecided : (r : Rules) (b : Bounds) (fs : List Container) (t x : List ℕ) → HasHead (b.depth - length fs) x → 0 < length x → IsUndecided r b fs t x
-head_undecided r b fs t x h some =
-    let k = last-apart x some in
-    record {
-      p = k.front;
-      last = k.last;
-      splits = k.splits;
-      byte = omega (arith, k.byte);
-      judged = judged_head r (length t) (b.depth - length fs) k.front h.item (k.last ++ body h.item)
-          (record { spelled = h.spelled; within = h.within; bytes_are = parts h.item ∙ ap (λ (y : List ℕ). y ++ body h.item) (h.head_is ∙ k.splits) ∙ append_assoc k.front k.last (body h.item) })
-          (omega (arith, ap length (h.head_is ∙ k.splits), length-append k.front k.last, k.byte));
-    }
 
 -- without complaint it is definite, and as short as can be
 record IsShort (d : ℕ) (fs : List Container) (x : List ℕ) (kind : EventKind) (next : State) : Type 0 where
@@ -216,10 +175,10 @@ unfolding begun_in
 head_no_memory v b event t x e f taken to h fine all is =
     let i = begun_in v b event t x e h fine in
     let k = short_begun v.order b (frames_in h.fs) t x e event.width event.kind i in
-    let it = subst (HasHead (b.depth - length (frames_in h.fs))) (sym k.is.bytes_are) (head_item b.depth (frames_in h.fs) k.major k.width k.number x h.next k.is) in
+    let it = subst (Headed (b.depth - length (frames_in h.fs))) (sym k.is.bytes_are) (head-item b.depth (frames_in h.fs) k.major k.width k.number x h.next k.is) in
     let some = taking-some b.depth (frames_in h.fs) (mark_of event.width event.kind) x h.next h.taking in
     memory_part v.order b h.fs h.around.are h.around.distinct x (t ++ x) to f taken (ap (λ (y : List ℕ). y ++ x) h.taken) (all ∙ h.at.stands.stands.taken) is (at-reached b e (t ++ x) h.next h.at)
-    (head_undecided (strict v.order) b (frames_in h.fs) (bytes_before h.fs) x it some)
+    (head-undecided (strict v.order) b (frames_in h.fs) (bytes_before h.fs) x it some)
 
 -- what is kept now
 pub begun_kept : (v new : OpenItems) (b : Bounds) (event : Event) (t x : List ℕ) (e : ItemEventsView) → (h : HasHeadCome v b event t x e) → ((reason : Reason) → IsFault (strict v.order) (mark_of event.width event.kind) reason → ⊥)

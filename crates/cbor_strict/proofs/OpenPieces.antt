@@ -20,21 +20,21 @@ use Rattle.cbor_events.specs.ItemEvents.{ItemEventsView}
 use Rattle.cbor_events.specs.TextCheck.{HasChecked}
 use Rattle.cbor_strict.specs.declared.last_keys.LastKeys.{LastKeys}
 use Rattle.cbor_strict.specs.declared.open_items.OpenItems.{OpenItems}
-use Rattle.cbor_strict.specs.inner.Frame.{Frame}
-use Rattle.cbor_strict.specs.inner.Judged.{IsJudged}
+use Rattle.cbor_judging.specs.Frame.{Frame}
+use Rattle.cbor_judging.specs.Judged.{IsJudged}
 use Rattle.cbor_strict.specs.inner.LastKeys.{seen, IsKept}
-use Rattle.cbor_strict.specs.inner.OpenItems.{frames_in, bytes_before, Stands, AreRefused, HasEnded, HasPartCome}
-use Rattle.cbor_strict.specs.inner.Reading.{IsAt, IsUndecided, string_major}
-use Rattle.cbor_strict.proofs.ByteLists.{bytes_join, bytes_front}
-use Rattle.cbor_strict.proofs.Heads.{zero_bytes, zero_length}
-use Rattle.cbor_strict.proofs.Judged.{Never}
-use Rattle.cbor_strict.proofs.Leaves.{text_complains}
+use Rattle.cbor_strict.specs.inner.OpenItems.{frames_in, bytes_before, Stands, HasEnded, HasPartCome}
+use Rattle.cbor_judging.specs.Reading.{AreRefused, IsAt, IsUndecided, string_major}
+use Rattle.cbor_judging.proofs.ByteLists.{bytes_join, bytes_front}
+use Rattle.cbor_judging.proofs.Heads.{zero_bytes, zero_length}
+use Rattle.cbor_judging.proofs.Judged.{Never}
+use Rattle.cbor_judging.proofs.Leaves.{text_complains}
 use Rattle.cbor_strict.proofs.OpenHeads.{refused_part, memory_part}
 use Rattle.cbor_strict.proofs.OpenItems.{around_as}
-use Rattle.cbor_strict.proofs.Scalars.{at-as}
-use Rattle.cbor_strict.proofs.Steps.{at-reached}
-use Rattle.cbor_strict.proofs.Undecided.{last-apart}
-use Rattle.cbor_strict.proofs.WholeStrings.{made_of, made-spells, made-spelled, made-flat, made-clean, so-far}
+use Rattle.cbor_judging.proofs.Scalars.{at-as}
+use Rattle.cbor_judging.proofs.Steps.{at-reached}
+use Rattle.cbor_judging.proofs.Undecided.{last-apart}
+use Rattle.cbor_judging.proofs.WholeStrings.{made_of, made-spells, made-spelled, made-flat, made-clean, so-far}
 
 -- a string whose payload goes on
 pub string_judged : (is_text : Bool) (w : Width) (n : ℕ) (p : List ℕ) (r : Rules) (at d : ℕ) → Holds w n → AreBytes p → length p < n → Never (OfHead r at (string_major is_text) w n) → IsJudged r at d (head (string_major is_text) w n ++ p) None

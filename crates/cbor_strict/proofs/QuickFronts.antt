@@ -5,9 +5,9 @@ use Rattle.cbor_head.specs.Spelling.{spell}
 use Rattle.cbor_head.specs.Complaint.{strict}
 use Rattle.cbor_head.specs.Verdict.{accepted, IsVerdict}
 use Rattle.cbor_head.specs.declared.order.KeyOrder.{KeyOrder}
-use Rattle.cbor_strict.specs.Readers.{IsRead}
+use Rattle.cbor_judging.specs.Readers.{IsRead}
 use Rattle.cbor_strict.specs.inner.Quick.{IsQuickFront}
-use Rattle.cbor_strict.proofs.Accepted.{front_accepted}
+use Rattle.cbor_judging.proofs.Accepted.{front_accepted}
 
 pub quick-read : (o : KeyOrder) (d n : ℕ) (input within : List ℕ) (count size levels : ℕ) → levels ≡ d → within ≡ take n input → size ≡ count → IsQuickFront o levels within count → IsRead d n (strict o) input size
 quick-read o d n input within count size levels deep is same p =

@@ -1,13 +1,12 @@
 -- The open containers of canonical items, as they stand in an array.
 use Rattle.std.proofs.Common.{◌≡◌, ℕ, zero, suc, ◌+◌, ◌-◌, ◌%◌, ◌<◌, ◌≤◌, List, [], ◌∷◌, ◌++◌, length, take, drop, get_or, sym, ap, ◌∙◌, subst, arith, length-append}
 use Rattle.std.specs.Prelude.{reverse, slice_range}
-use Rattle.std.proofs.Math.ListN.{set}
-use Rattle.std.proofs.Math.Seq.{take-suc, take-suc-set, drop-append_seam}
+use Rattle.std.proofs.Math.Seq.{take-suc, drop-append_seam}
 use Rattle.std.proofs.lemmas.List.{reverse-append, length-drop}
 use Rattle.cbor_head.specs.Spelling.{spell}
 use Rattle.cbor_head.specs.declared.order.KeyOrder.{KeyOrder}
 use Rattle.cbor_item.specs.Front.{front_of}
-use Rattle.cbor_strict.specs.inner.Quick.{IsBack, IsShortest, IsRoot, last_key, Ended, HasItem, IsItemThen, IsQuickFront, Opens, Leads, standing}
+use Rattle.cbor_strict.specs.inner.Quick.{IsBack, IsShortest, last_key, Ended, HasItem, IsItemThen, IsQuickFront, Opens, Leads, standing}
 use Rattle.cbor_strict.specs.declared.quick.level.Due.TheVariants.{Item, Key}
 use Rattle.cbor_strict.specs.declared.quick.level.Level.{Level}
 use Rattle.cbor_strict.specs.declared.quick.level.Levels.{Levels}

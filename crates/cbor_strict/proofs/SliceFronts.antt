@@ -8,14 +8,13 @@ use Rattle.cbor_head.specs.Verdict.{Answer, accepted, refused, IsVerdict}
 use Rattle.cbor_head.specs.declared.order.KeyOrder.{KeyOrder}
 use Rattle.cbor_head.specs.declared.reason.Refusal.{Refusal}
 use Rattle.cbor_head.proofs.OneVerdict.{one_verdict}
-use Rattle.cbor_events.specs.SliceView.{SliceEventsView}
+use Rattle.cbor_events.specs.SliceView.{SliceEventsView, seen}
 use Rattle.cbor_events.proofs.Slices.{verdict-within}
-use Rattle.cbor_strict.specs.Readers.{IsRead, IsUnread, of_verdict, of_reader, of_memory, IsCanonicalFront, HasNoCanonicalFront}
-use Rattle.cbor_events.specs.SliceView.{seen}
+use Rattle.cbor_judging.specs.Readers.{IsRead, IsUnread, of_verdict, of_reader, of_memory, IsCanonicalFront, HasNoCanonicalFront}
 use Rattle.cbor_strict.specs.inner.SliceFront.{IsOver, IsStopped}
-use Rattle.cbor_strict.proofs.Fronts.{front-unread}
-use Rattle.cbor_strict.proofs.StrictFronts.{strict_accepts}
-use Rattle.cbor_strict.proofs.Tops.{item-read}
+use Rattle.cbor_judging.proofs.Fronts.{front-unread}
+use Rattle.cbor_judging.proofs.CanonicalFronts.{strict_accepts}
+use Rattle.cbor_judging.proofs.Tops.{item-read}
 use Rattle.cbor_strict.proofs.WholeInputs.{front-canonical}
 
 module _ (o : KeyOrder) (b : Bounds) (input part : List ℕ) (new : SliceEventsView) (bounds : AreBounds b) (within : part ≡ take b.bytes input) where

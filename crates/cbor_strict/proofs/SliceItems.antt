@@ -1,5 +1,5 @@
 -- Items of a slice, from its events.
-use Rattle.std.proofs.Common.{◌≡◌, ◌≢◌, ℕ, cond, ◌+◌, ◌<◌, ◌≤◌, Bool, true, IsTrue, Some, None, List, [], ◌∷◌, length, take, refl, sym, ap, ◌∙◌, subst, inl, inr, arith}
+use Rattle.std.proofs.Common.{◌≡◌, ◌≢◌, ℕ, cond, ◌+◌, ◌<◌, ◌≤◌, Bool, true, IsTrue, Some, List, [], ◌∷◌, length, take, refl, sym, ap, ◌∙◌, subst, inl, inr, arith}
 use Rattle.std.proofs.lemmas.Bool.Decides.{nat_tests}
 use Rattle.std.specs.Ordering.{is_lt, ordering_then}
 use Rattle.std.specs.declared.cmp.Ordering.TheVariants.{Less, Equal, Greater}
@@ -21,38 +21,21 @@ use Rattle.cbor_head.specs.declared.reason.Reason.TheVariants as reasons
 use Rattle.cbor_head.specs.declared.reason.Refusal.{Refusal}
 use Rattle.cbor_head.proofs.ReadLaws.{length_spell}
 use Rattle.cbor_events.specs.Trace.{Mark, a_head, a_chunk, a_byte, a_break}
-use Rattle.cbor_events.specs.inner.Automaton.{Frame, State, at_item}
+use Rattle.cbor_events.specs.inner.Automaton.{State}
 use Rattle.cbor_events.specs.Marks.{mark_of}
-use Rattle.cbor_events.specs.ItemEvents.{IsNextEvent, IsEnd}
+use Rattle.cbor_events.specs.ItemEvents.{IsNextEvent}
 use Rattle.cbor_events.specs.SliceEvents.{event_of, slice_call, IsNextTold, IsRefusedTold}
 use Rattle.cbor_events.specs.Machine.{KeepsLimits}
-use Rattle.cbor_events.specs.SliceView.{SliceEventsView}
+use Rattle.cbor_events.specs.SliceView.{SliceEventsView, seen}
 use Rattle.cbor_events.specs.Token.{kind_of}
-use Rattle.cbor_events.specs.declared.event.EventKind.TheVariants as kinds
 use Rattle.cbor_events.specs.declared.token.Token.{Token}
 use Rattle.cbor_events.specs.declared.token.Token.TheVariants as tokens
-use Rattle.cbor_strict.specs.inner.Reading.{IsAt, IsFault, IsHeadFault, IsHeadDue, IsNextHead, StopsHead, IsBegun}
-use Rattle.cbor_events.specs.SliceView.{seen}
+use Rattle.cbor_judging.specs.Reading.{IsAt, IsFault, IsHeadFault, IsHeadDue, IsNextHead, StopsHead}
 use Rattle.cbor_strict.specs.inner.SliceChecks.{IsOfBytes, TakesPayload, IsLastKey}
-use Rattle.cbor_strict.proofs.Judged.{Never}
-use Rattle.cbor_strict.proofs.Reasons.{never-read}
-use Rattle.cbor_strict.proofs.Steps.{Stops, limits-as, stops, next-head, bad-head}
-use Rattle.cbor_strict.proofs.Items.{begun-by}
-
--- ---- what is told
-
-pub told-event : (token : Token) (old new : SliceEventsView) (t : List ℕ) (ms : List Mark) → (token ≡ tokens.Refused → ⊥) → (token ≡ tokens.End → ⊥) → IsNextTold token old new t ms
-    → IsNextEvent (event_of token new) (slice_call old new t ms)
-told-event tokens.Refused old new t ms no_refusal no_end n = absurd (no_refusal refl)
-told-event tokens.End old new t ms no_refusal no_end n = absurd (no_end refl)
-told-event token old new t ms no_refusal no_end n = n.is
-
-pub told-live : (token : Token) (new : SliceEventsView) → (token ≡ tokens.Refused → ⊥) → IsRefusedTold token new → new.refusal ≡ None
-told-live tokens.Refused new no_refusal h = absurd (no_refusal refl)
-told-live token new no_refusal h = h
-
-pub told-end : (token : Token) (old new : SliceEventsView) (t : List ℕ) (ms : List Mark) → token ≡ tokens.End → IsNextTold token old new t ms → IsEnd (slice_call old new t ms)
-told-end token old new t ms e n = (subst (λ x. IsNextTold x old new t ms) e n).is
+use Rattle.cbor_judging.proofs.Judged.{Never}
+use Rattle.cbor_judging.proofs.Reasons.{never-read}
+use Rattle.cbor_judging.proofs.Steps.{Stops, limits-as, stops, next-head, bad-head}
+use Rattle.cbor_judging.proofs.Slices.{told-event, told-live}
 
 -- ---- a refusal
 
@@ -127,15 +110,6 @@ module _ (o : KeyOrder) (b : Bounds) (old new : SliceEventsView) (t : List ℕ) 
             (subst (λ m. IsFault (strict o) m reason) mark-is fault) is,
         other-reason f reason (ap (λ (x : Refusal). x.reason) is) other.0 other.1,
       )
-
--- ---- an item that is begun
-
-pub begun : (r : Rules) (b : Bounds) (fs : List Frame) (t : List ℕ) (token other : Token) (k : ℕ) (old new : SliceEventsView)
-    → (h : IsNextHead r b (at_item fs) t (event_of token new) (Some old.rest) (Some new.rest) (seen new)) → kind_of token new.number ≢ kinds.End → token ≡ other → k ≡ new.number
-    → IsBegun r b fs t h.bytes (seen new) new.width (kind_of other k)
-begun r b fs t token other k old new h item is number =
-    subst (λ j. IsBegun r b fs t h.bytes (seen new) new.width (kind_of other j)) (sym number)
-    (subst (λ x. IsBegun r b fs t h.bytes (seen new) new.width (kind_of x new.number)) is (begun-by r b fs t (event_of token new) (Some old.rest) (Some new.rest) (seen new) h item))
 
 -- ---- the bytes of a payload
 

@@ -1,5 +1,5 @@
 -- The strict reader's events, one after another, until the item is complete or refused.
-use Rattle.std.proofs.Common.{◌≡◌, ℕ, ◌+◌, ◌-◌, ◌<◌, ◌≤◌, Option, Some, None, List, [], ◌++◌, length, refl, sym, ap, ◌∙◌, subst, arith, append_assoc, append-nil}
+use Rattle.std.proofs.Common.{◌≡◌, ℕ, ◌+◌, ◌-◌, ◌<◌, ◌≤◌, Option, Some, None, List, [], ◌++◌, length, refl, sym, ap, ◌∙◌, subst, arith, append-nil}
 use Rattle.std.specs.Option.{IfSome}
 use Rattle.std.specs.Prelude.{take}
 use Rattle.std.proofs.Math.Seq.{take-append-add}
@@ -17,13 +17,13 @@ use Rattle.cbor_events.specs.Trace.{Mark}
 use Rattle.cbor_events.specs.Marks.{marks_of}
 use Rattle.cbor_events.specs.Machine.{KeepsLimits, IsWhole}
 use Rattle.cbor_events.specs.declared.event.Event.{Event}
-use Rattle.cbor_strict.specs.Readers.{IsRead, IsUnread}
-use Rattle.cbor_strict.specs.Refusals.{IsReaderReason}
+use Rattle.cbor_judging.specs.Readers.{IsRead, IsUnread}
+use Rattle.cbor_judging.specs.Refusals.{IsReaderReason}
 use Rattle.cbor_strict.specs.StrictReader.{StrictEventsView, StandsStrictly, IsNextClean, IsCleanEnd, IsStrictRefusal, strict_call}
-use Rattle.cbor_strict.specs.inner.Front.{IsFrontUnread}
+use Rattle.cbor_judging.specs.Reading.{IsFrontUnread}
 use Rattle.cbor_strict.specs.inner.StrictEvents.{IsStrictlyRead}
 use Rattle.cbor_strict.proofs.StrictSteps.{event_some}
-use Rattle.cbor_strict.proofs.Tops.{loses}
+use Rattle.cbor_judging.proofs.Tops.{loses}
 
 -- what was read is known, and has no complaint
 pub record IsRunning (o : KeyOrder) (b : Bounds) (v : StrictEventsView) (from now : Option (List ℕ)) : Type 0 where

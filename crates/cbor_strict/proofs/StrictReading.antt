@@ -1,9 +1,7 @@
 -- What the strict reader's state says of the bytes behind it.
-use Rattle.std.proofs.Common.{◌≡◌, ℕ, ◌+◌, ◌-◌, ◌<◌, ◌≤◌, Option, Some, None, List, [], ◌++◌, length, refl, sym, ap, ◌∙◌, subst, inl, inr, arith, append_assoc, append-nil}
+use Rattle.std.proofs.Common.{◌≡◌, ℕ, ◌-◌, Option, Some, None, List, [], ◌++◌, length, refl, sym, ap, ◌∙◌, subst, inl, inr, arith, append_assoc, append-nil}
 use Rattle.std.specs.Option.{IfSome}
 use Rattle.std.specs.Io.KnownBytes.{Consumes}
-use Rattle.std.proofs.KnownBytes.{Consumes-nil, Consumes-trans}
-use Rattle.std.proofs.lemmas.List.{length-append}
 use Rattle.cbor_head.specs.Head.{head}
 use Rattle.cbor_head.specs.Limits.{Bounds, AreBounds, bounds}
 use Rattle.std.specs.Prelude.{Ok, Err}
@@ -23,21 +21,20 @@ use Rattle.cbor_events.specs.declared.event.Event.{Event}
 use Rattle.cbor_events.specs.inner.Automaton.{reached}
 use Rattle.cbor_events.specs.inner.State.{state_of}
 use Rattle.cbor_strict.specs.declared.open_items.OpenItems.{OpenItems}
-use Rattle.cbor_strict.specs.Readers.{IsUnread}
-use Rattle.cbor_strict.specs.Refusals.{IsReaderReason}
-use Rattle.cbor_strict.specs.inner.Front.{IsFrontUnread}
-use Rattle.cbor_strict.specs.inner.Judged.{IsJudged}
+use Rattle.cbor_judging.specs.Readers.{IsUnread}
+use Rattle.cbor_judging.specs.Refusals.{IsReaderReason}
+use Rattle.cbor_judging.specs.Reading.{IsFrontUnread, string_major}
+use Rattle.cbor_judging.specs.Judged.{IsJudged}
 use Rattle.cbor_strict.specs.inner.OpenItems.{frames_in, bytes_before, Stands}
-use Rattle.cbor_strict.specs.inner.Reading.{string_major}
 use Rattle.cbor_strict.specs.StrictReader.{StrictEventsView, StandsStrictly, IsNextStrict, IsStrictRefusal, strict_call}
 use Rattle.cbor_strict.specs.inner.LastKeys.{seen, IsKept}
 use Rattle.cbor_strict.specs.inner.StrictEvents.{StandsSomewhere, IsStep, IsStopped, AnswersStep, IsLittle, bounds_of, piece_unless}
 use Rattle.cbor_strict.proofs.KeptReading.{stands_counted, stands_little}
-use Rattle.cbor_strict.proofs.Fronts.{front-unread, starts-at}
-use Rattle.cbor_strict.proofs.Judged.{judged_start}
+use Rattle.cbor_judging.proofs.Fronts.{front-unread, starts-at}
+use Rattle.cbor_judging.proofs.Judged.{judged_start}
 use Rattle.cbor_strict.proofs.OpenBegins.{lift}
 use Rattle.cbor_strict.proofs.OpenPieces.{string_judged}
-use Rattle.cbor_strict.proofs.OpenWalk.{none_open}
+use Rattle.cbor_judging.proofs.OpenWalk.{none_open}
 
 -- ---- nothing has a complaint
 

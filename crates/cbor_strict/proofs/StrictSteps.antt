@@ -1,7 +1,5 @@
 -- From one event to the next, by the strict rules.
-use Rattle.std.proofs.Common.{◌≡◌, ℕ, zero, suc, ◌-◌, ◌<◌, ◌⊎◌, false, true≢false, Option, None, List, [], ◌++◌, length, replicate, refl, sym, ap, ◌∙◌, subst, inl, inr, arith, append_assoc, append-nil}
-use Rattle.std.specs.Io.KnownBytes.{Consumes}
-use Rattle.std.proofs.KnownBytes.{Consumes-nil, Consumes-trans}
+use Rattle.std.proofs.Common.{◌≡◌, ℕ, zero, suc, ◌-◌, ◌<◌, ◌⊎◌, false, true≢false, Option, None, List, [], ◌++◌, length, replicate, refl, sym, ap, ◌∙◌, subst, inl, inr, arith, append_assoc}
 use Rattle.std.proofs.lemmas.List.{length-append}
 use Rattle.cbor_head.specs.Head.{head}
 use Rattle.cbor_head.specs.Limits.{Bounds}
@@ -27,17 +25,17 @@ use Rattle.cbor_events.proofs.Rows.{total-append}
 use Rattle.cbor_events.proofs.Taking.{nothing-taken}
 use Rattle.cbor_strict.specs.declared.open_items.OpenItems.{OpenItems}
 use Rattle.cbor_strict.specs.inner.OpenItems.{frames_in, bytes_before, Stands, HasHeadCome, HasPartCome}
-use Rattle.cbor_strict.specs.inner.Reading.{IsAt, IsFormRefusal, HasCause, string_major}
+use Rattle.cbor_judging.specs.Reading.{IsAt, IsFormRefusal, HasCause, string_major}
 use Rattle.cbor_strict.specs.inner.StrictEvents.{HasCome, IsStopped}
-use Rattle.cbor_strict.proofs.Heads.{cut_head}
-use Rattle.cbor_strict.proofs.Items.{taking-some}
-use Rattle.cbor_strict.proofs.ByteLists.{bytes_join}
+use Rattle.cbor_judging.proofs.Heads.{cut_head}
+use Rattle.cbor_judging.proofs.Items.{taking-some}
+use Rattle.cbor_judging.proofs.ByteLists.{bytes_join}
 use Rattle.cbor_strict.proofs.OpenHeads.{refused_part}
-use Rattle.cbor_strict.proofs.OpenEnds.{done_position}
+use Rattle.cbor_judging.proofs.Standing.{done_position}
 use Rattle.cbor_strict.proofs.OpenPieces.{string_judged}
-use Rattle.cbor_strict.proofs.Payloads.{IsPiece, IsPayload, due-piece, none-come, part-fits, part-comes, part-cut}
-use Rattle.cbor_strict.proofs.Scalars.{at-as}
-use Rattle.cbor_strict.proofs.Steps.{SameLimits, at-run, next-at, due-by, head-taken, stops}
+use Rattle.cbor_judging.proofs.Payloads.{IsPiece, IsPayload, due-piece, none-come, part-fits, part-comes, part-cut}
+use Rattle.cbor_judging.proofs.Scalars.{at-as}
+use Rattle.cbor_judging.proofs.Steps.{SameLimits, at-run, next-at, due-by, head-taken, stops}
 
 -- ---- what an event can be
 

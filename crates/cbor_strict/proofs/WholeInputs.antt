@@ -9,8 +9,8 @@ use Rattle.cbor_head.specs.declared.order.KeyOrder.{KeyOrder}
 use Rattle.cbor_head.specs.declared.reason.Reason.TheVariants.{Read, Memory}
 use Rattle.cbor_head.specs.declared.reason.Refusal.{Refusal}
 use Rattle.cbor_head.proofs.OneVerdict.{one_verdict}
-use Rattle.cbor_strict.specs.Readers.{IsRead, IsReadAs, IsUnread, of_verdict, of_reader, of_memory, IsCanonicalFront, HasNoCanonicalFront}
-use Rattle.cbor_strict.proofs.StrictFronts.{strict_bytes, strict_value, strict_accepts}
+use Rattle.cbor_judging.specs.Readers.{IsRead, IsReadAs, IsUnread, of_verdict, of_reader, of_memory, IsCanonicalFront, HasNoCanonicalFront}
+use Rattle.cbor_judging.proofs.CanonicalFronts.{strict_bytes, strict_value, strict_accepts}
 
 -- of a known input
 pub some-so : (from : Option (List ℕ)) (P Q : List ℕ → Type 0) → ((input : List ℕ) → P input → Q input) → IfSome from P → IfSome from Q

@@ -1,5 +1,3 @@
 pub mod inner
 pub mod KeptKeys
-pub mod Readers
-pub mod Refusals
 pub mod StrictReader

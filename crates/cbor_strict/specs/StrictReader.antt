@@ -14,7 +14,7 @@ use Rattle.cbor_events.specs.Machine.{IsComplete}
 use Rattle.cbor_events.specs.ItemEvents.{StandsBetween, Call, machine_call, IsNextEvent, IsEnd}
 use Rattle.cbor_events.specs.declared.event.Event.{Event}
 use Rattle.cbor_strict.specs.KeptKeys.{open_maps, key_bytes}
-use Rattle.cbor_strict.specs.Readers.{IsUnread}
+use Rattle.cbor_judging.specs.Readers.{IsUnread}
 use Rattle.cbor_strict.specs.inner.StrictEvents.{Inner, IsInner}
 
 -- what contracts see of the events of an item by the strict rules: how far the form was read, the bytes of the last piece, what

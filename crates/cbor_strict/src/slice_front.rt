@@ -4,7 +4,7 @@ ghost use Rattle.std.specs.Prelude.{◌≡◌, ◌<◌, MatchResult, Ok, false, 
 ghost use Rattle.cbor_head.specs.Complaint.{strict};
 ghost use Rattle.cbor_head.specs.Limits.{Bounds};
 ghost use Rattle.cbor_head.specs.Verdict.{IsVerdict, refused};
-ghost use Rattle.cbor_strict.specs.Readers.{IsRead};
+ghost use Rattle.cbor_judging.specs.Readers.{IsRead};
 ghost use Rattle.cbor_strict.specs.inner.SliceFront.{StandsAt, StandsSomewhere, AnswersStep};
 ghost use Rattle.cbor_strict.specs.inner.SliceFront.{HasEnded, HasEndedSomewhere, Begins};
 

@@ -6,7 +6,7 @@ ghost use Rattle.cbor_head.specs.declared.reason.Reason.{Reason};
 ghost use Rattle.cbor_events.specs.Marks.{mark_of};
 ghost use Rattle.cbor_events.specs.Token.{kind_of};
 ghost use Rattle.cbor_events.specs.SliceView.{seen};
-ghost use Rattle.cbor_strict.specs.inner.Reading.{HasHeadDue, IsPayloadDue, IsFault};
+ghost use Rattle.cbor_judging.specs.Reading.{HasHeadDue, IsPayloadDue, IsFault};
 ghost use Rattle.cbor_strict.specs.inner.SliceChecks.{AnswersSliceHead, ChecksPayload};
 
 use crate::text::check_text;

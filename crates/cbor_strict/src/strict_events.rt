@@ -7,7 +7,7 @@ ghost use Rattle.cbor_events.specs.Trace.{Mark};
 ghost use Rattle.cbor_events.specs.Marks.{IsProper};
 ghost use Rattle.cbor_events.specs.Machine.{KeepsLimits, IsIdle};
 ghost use Rattle.cbor_events.specs.ItemEvents.{IfTold};
-ghost use Rattle.cbor_strict.specs.Refusals.{IsReaderReason};
+ghost use Rattle.cbor_judging.specs.Refusals.{IsReaderReason};
 ghost use Rattle.cbor_strict.specs.StrictReader.{StrictEventsView, StandsStrictly};
 ghost use Rattle.cbor_strict.specs.StrictReader.{IsNextStrict, strict_call};
 ghost use Rattle.cbor_strict.specs.inner.LastKeys.{seen};

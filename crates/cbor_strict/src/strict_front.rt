@@ -2,7 +2,7 @@
 
 ghost use Rattle.std.specs.Prelude.{MatchResult};
 ghost use Rattle.cbor_head.specs.Complaint.{strict};
-ghost use Rattle.cbor_strict.specs.inner.Front.{IsFrontUnread};
+ghost use Rattle.cbor_judging.specs.Reading.{IsFrontUnread};
 ghost use Rattle.cbor_strict.specs.inner.StrictEvents.{IsStrictlyRead};
 
 use crate::strict_events::StrictEvents;

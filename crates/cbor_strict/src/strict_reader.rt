@@ -8,10 +8,10 @@ ghost use Rattle.cbor_events.specs.Trace.{Mark};
 ghost use Rattle.cbor_events.specs.Marks.{IsProper};
 ghost use Rattle.cbor_events.specs.Machine.{KeepsLimits, IsIdle};
 ghost use Rattle.cbor_events.specs.ItemEvents.{IfTold};
-ghost use Rattle.cbor_strict.specs.Readers.{StaysWithinDepth};
-ghost use Rattle.cbor_strict.specs.Readers.{IsRead, IsUnread, IsCanonicalFront};
-ghost use Rattle.cbor_strict.specs.Readers.{HasNoCanonicalFront, Loses};
-ghost use Rattle.cbor_strict.specs.Refusals.{IsReaderReason};
+ghost use Rattle.cbor_judging.specs.Readers.{StaysWithinDepth};
+ghost use Rattle.cbor_judging.specs.Readers.{IsRead, IsUnread, IsCanonicalFront};
+ghost use Rattle.cbor_judging.specs.Readers.{HasNoCanonicalFront, Loses};
+ghost use Rattle.cbor_judging.specs.Refusals.{IsReaderReason};
 ghost use Rattle.cbor_strict.specs.StrictReader.{StrictReaderView, StandsStrictly};
 ghost use Rattle.cbor_strict.specs.StrictReader.{IsNextStrict, strict_call};
 

@@ -3,7 +3,7 @@
 ghost use Rattle.std.specs.Prelude.{◌≡◌, take, IfOk, IfErr};
 ghost use Rattle.cbor_head.specs.Complaint.{strict};
 ghost use Rattle.cbor_head.specs.Verdict.{IsVerdict, refused};
-ghost use Rattle.cbor_strict.specs.Readers.{IsRead, IsCanonicalFront, HasNoCanonicalFront};
+ghost use Rattle.cbor_judging.specs.Readers.{IsRead, IsCanonicalFront, HasNoCanonicalFront};
 
 use crate::quick::quick_front;
 use crate::slice_front::check_front;

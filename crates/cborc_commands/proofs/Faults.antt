@@ -12,7 +12,7 @@ use Rattle.cbor_head.specs.declared.reason.Reason.TheVariants as reasons
 use Rattle.cbor_head.specs.declared.reason.Refusal.{Refusal}
 use Rattle.cbor_reader.specs.Canonicalise.{IsCanonicalOf, IsRefusal}
 use Rattle.cbor_reader.specs.Comparing.{IsSideRefusal}
-use Rattle.cbor_strict.specs.Readers.{IsReadAs}
+use Rattle.cbor_judging.specs.Readers.{IsReadAs}
 use Rattle.cbor_reader.specs.WholeItem.{IsWholeItem}
 use Rattle.cbor_reader.specs.declared.comparison.Side.{Side}
 use Rattle.cbor_reader.specs.declared.comparison.Side.TheVariants.{Left, Right}

@@ -11,8 +11,8 @@ use Rattle.cbor_head.specs.declared.reason.Reason.TheVariants.{CanonicalTooLong,
 use Rattle.cbor_head.specs.declared.reason.Refusal.{Refusal}
 use Rattle.cbor_reader.specs.Canonicalise.{IsCanonicalOf, IsRefusal}
 use Rattle.cbor_reader.specs.Canonicalise as canonicalise
-use Rattle.cbor_strict.specs.Readers.{IsUnread, IsReadAs}
-use Rattle.cbor_strict.specs.Readers as readers
+use Rattle.cbor_judging.specs.Readers.{IsUnread, IsReadAs}
+use Rattle.cbor_judging.specs.Readers as readers
 use Rattle.cbor_reader.specs.WholeItem.{IsWholeItem, IsItemRefusal}
 use Rattle.cbor_reader.specs.WholeItem as items
 use Rattle.cbor_diag.specs.Listing.{IsListing, IsStopped, IsListed, IsUnlisted}

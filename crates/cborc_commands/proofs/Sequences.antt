@@ -7,7 +7,7 @@ use Rattle.cbor_head.specs.Limits.{Bounds}
 use Rattle.cbor_head.specs.Spelling.{Spelling, spell}
 use Rattle.cbor_head.specs.declared.reason.Refusal.{Refusal}
 use Rattle.cbor_head.proofs.ReadLaws.{length_spell}
-use Rattle.cbor_strict.specs.Readers.{IsUnread}
+use Rattle.cbor_judging.specs.Readers.{IsUnread}
 use Rattle.cbor_reader.specs.Sequence.{sequence_bytes, StartsWithItems, EndsBefore, IsAtEnd, IsRefused, Given, given_by, items_of, HasGiven, GivesNext}
 use Rattle.cbor_reader.proofs.SequenceLaws.{starts, by_one, one_more as also_by}
 use Rattle.cborc_commands.specs.CheckSequence.{IsWholeSequence, IsRefusedAt}

@@ -9,7 +9,7 @@ use Rattle.cbor_head.specs.Verdict.{refusal, accepted, IsVerdict}
 use Rattle.cbor_head.specs.declared.reason.Reason.TheVariants.{Trailing}
 use Rattle.cbor_head.specs.declared.reason.Refusal.{Refusal}
 use Rattle.cbor_head.specs.Value.{Value}
-use Rattle.cbor_strict.specs.Readers.{IsRead, IsReadAs, IsUnread, Loses}
+use Rattle.cbor_judging.specs.Readers.{IsRead, IsReadAs, IsUnread, Loses}
 use Rattle.cborc_commands.specs.Check.{IsNotWhole, unread, trailing}
 
 -- no more than the input is read

@@ -5,7 +5,7 @@ use Rattle.cbor_head.specs.Complaint.{Rules, plain, strict}
 use Rattle.cbor_head.specs.Verdict.{refusal}
 use Rattle.cbor_head.specs.declared.reason.Reason.TheVariants.{Trailing}
 use Rattle.cbor_head.specs.declared.reason.Refusal.{Refusal}
-use Rattle.cbor_strict.specs.Readers.{IsRead, IsUnread}
+use Rattle.cbor_judging.specs.Readers.{IsRead, IsUnread}
 use Rattle.cborc_commands.specs.Folder.{Files}
 use Rattle.cborc_commands.specs.Input.{IsInput, IsNoInput}
 use Rattle.cborc_commands.specs.declared.request.Accepted.{Accepted}

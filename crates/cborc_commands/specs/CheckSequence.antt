@@ -5,7 +5,7 @@ use Rattle.cbor_head.specs.Complaint.{Rules}
 use Rattle.cbor_head.specs.Spelling.{Spelling}
 use Rattle.cbor_head.specs.declared.reason.Reason.TheVariants.{Read, Memory}
 use Rattle.cbor_head.specs.declared.reason.Refusal.{Refusal}
-use Rattle.cbor_strict.specs.Readers.{IsUnread}
+use Rattle.cbor_judging.specs.Readers.{IsUnread}
 use Rattle.cbor_reader.specs.Sequence.{sequence_bytes, StartsWithItems, EndsBefore}
 use Rattle.cborc_commands.specs.Folder.{Files}
 use Rattle.cborc_commands.specs.Input.{IsInput, IsNoInput}

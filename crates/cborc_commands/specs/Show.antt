@@ -3,7 +3,7 @@ use Rattle.std.specs.Prelude.{ℕ, ◌++◌, List, length, codes, Option}
 use Rattle.std.specs.Io.KnownBytes.{Appends}
 use Rattle.cbor_head.specs.Complaint.{plain}
 use Rattle.cbor_head.specs.Value.{Value}
-use Rattle.cbor_strict.specs.Readers.{IsReadAs}
+use Rattle.cbor_judging.specs.Readers.{IsReadAs}
 use Rattle.cbor_diag.specs.Text.{text}
 use Rattle.cbor_diag.specs.IndentedText.{indented}
 use Rattle.cborc_commands.specs.Check.{IsNotWhole}

@@ -9,7 +9,7 @@ use Rattle.cbor_head.specs.declared.reason.Reason.TheVariants.{Trailing}
 use Rattle.cbor_head.specs.declared.reason.Refusal.{Refusal}
 use Rattle.cbor_reader.specs.Canonicalise.{IsCanonicalOf}
 use Rattle.cbor_reader.specs.Headline.{IsValidItem}
-use Rattle.cbor_strict.specs.Readers.{IsRead, IsCanonicalFront}
+use Rattle.cbor_judging.specs.Readers.{IsRead, IsCanonicalFront}
 use Rattle.cbor_reader.specs.WholeItem as whole
 use Rattle.cbor_reader.specs.WholeItem.{IsWholeItem, IsItemRefusal}
 use Rattle.naltvigo.specs.Checking.{of_verdict, trailing}

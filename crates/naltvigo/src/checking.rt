@@ -5,7 +5,7 @@ ghost use Rattle.cbor_head.specs.Complaint.{strict};
 ghost use Rattle.cbor_head.specs.Limits.{bounds, AreBounds};
 ghost use Rattle.cbor_head.specs.declared.reason.Reason.TheVariants as reasons;
 ghost use Rattle.cbor_reader.specs.Canonicalise.{IsCanonicalOf};
-ghost use Rattle.cbor_strict.specs.Readers.{IsRead, IsCanonicalFront};
+ghost use Rattle.cbor_judging.specs.Readers.{IsRead, IsCanonicalFront};
 ghost use Rattle.cbor_reader.specs.WholeItem.{IsWholeItem, IsItemRefusal};
 ghost use Rattle.naltvigo.specs.Settings.{key_order};
 ghost use Rattle.naltvigo.specs.Checking.{IsNotCanonical, IsNotValid, ItemLacksMemory};

@@ -3,7 +3,7 @@ use Rattle.std.specs.Prelude.{ℕ, ◌≤◌, List, Option, IfSome}
 use Rattle.cbor_head.specs.Complaint.{Rules}
 use Rattle.cbor_head.specs.Limits.{Bounds}
 use Rattle.cbor_head.specs.Value.{Value}
-use Rattle.cbor_strict.specs.Readers.{IsReadAs, Loses}
+use Rattle.cbor_judging.specs.Readers.{IsReadAs, Loses}
 use Rattle.cbor_reader.specs.Size.{size}
 use Rattle.cbor_reader.specs.inner.MapKeys.{HasCanonicalBytes}
 

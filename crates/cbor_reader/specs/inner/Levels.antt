@@ -1,17 +1,15 @@
--- What a builder holds of an item whose events it was given: the open containers, with what is complete in them.
-use Rattle.std.specs.Prelude.{ℕ, suc, ◌≡◌, ◌<◌, ◌≤◌, ◌+◌, ◌-◌, ◌++◌, Bool, true, false, List, [], ◌∷◌, length, map}
+-- What a builder holds of an item whose events it was given.
+use Rattle.std.specs.Prelude.{ℕ, suc, ◌≡◌, ◌<◌, ◌≤◌, ◌-◌, ◌++◌, Bool, true, List, [], ◌∷◌, length, map, Some, None, IsUtf8}
 use Rattle.std.specs.Io.KnownBytes.{Consumes}
-use Rattle.std.specs.Prelude.{Some, None, IsUtf8}
 use Rattle.cbor_head.specs.Canonical.{canonical, canonical_all, canonical_entries}
-use Rattle.cbor_head.specs.Complaint.{plain, Complaint, Complains}
-use Rattle.cbor_head.specs.Head.{Holds, head, shortest_head}
+use Rattle.cbor_head.specs.Complaint.{plain}
+use Rattle.cbor_head.specs.Head.{shortest_head}
 use Rattle.cbor_head.specs.Limits.{Bounds}
-use Rattle.cbor_head.specs.Spelling.{Spelling, Spellings, SpelledEntries, no_spellings, a_spelling, no_entries, entry, spell, spell_all, spell_entries, spellings_count, entries_count, IsSpelled, depth, value_of, values_of, entries_of}
+use Rattle.cbor_head.specs.Spelling.{Spelling, spell, spellings_count, IsSpelled, depth, value_of, values_of, entries_of}
 use Rattle.cbor_head.specs.Value.{Value}
-use Rattle.cbor_head.specs.declared.major.Major.TheVariants.{Array, Map, Tag}
+use Rattle.cbor_head.specs.declared.major.Major.TheVariants.{Tag}
 use Rattle.cbor_head.specs.declared.order.KeyOrder.{KeyOrder}
 use Rattle.cbor_head.specs.declared.width.Width.{Width}
-use Rattle.cbor_head.specs.declared.width.Width.TheVariants.{Indefinite}
 use Rattle.cbor_events.specs.SliceEvents.{event_of, IsNextTold}
 use Rattle.cbor_events.specs.SliceView.{SliceEventsView, seen}
 use Rattle.cbor_events.specs.declared.event.EventKind.{EventKind}
@@ -21,65 +19,15 @@ use Rattle.cbor_events.specs.Token.{IsStringToken}
 use Rattle.cbor_events.specs.Trace.{Mark}
 use Rattle.cbor_events.specs.Machine.{KeepsLimits}
 use Rattle.cbor_events.specs.ItemEvents.{StandsBetween}
-use Rattle.cbor_events.specs.inner.Automaton.{Frame, counted, indefinite_array, indefinite_map, State, at_item, close, done as at_end}
+use Rattle.cbor_events.specs.inner.Automaton.{Frame, State, at_item, close, done as at_end}
 use Rattle.cbor_item.specs.Built.{Built, built, IsInContainer}
 use Rattle.cbor_item.specs.Parts as parts
 use Rattle.cbor_item.specs.Parts.{Open, plain as a_plain, an_array, a_map, give, closed, HasNoRepeats}
-use Rattle.cbor_strict.specs.Readers.{IsRead}
-use Rattle.cbor_strict.specs.inner.Reading.{IsAt, IsNextHead, IsBegun, ReadsItem, ReadsPayload}
-
--- ---- items that were taken whole
-
--- no complaint, wherever it stands
-abbrev pub IsClean : Spelling → Type 0
-IsClean s = (at : ℕ) (c : Complaint) → Complains plain at s c → ⊥
-
-pub record IsTaken (d : ℕ) (s : Spelling) : Type 0 where
-  pub spelled : IsSpelled s
-  pub within : depth s ≤ d
-  pub clean : IsClean s
-
-abbrev pub AreTaken : ℕ → Spellings → Type 0
-AreTaken d no_spellings = Unit {0}
-AreTaken d (a_spelling s ss) = IsTaken d s × AreTaken d ss
-
--- keys that are the same are not looked for
-abbrev pub ArePairsTaken : ℕ → SpelledEntries → Type 0
-ArePairsTaken d no_entries = Unit {0}
-ArePairsTaken d (entry k v es) = IsTaken d k × IsTaken d v × ArePairsTaken d es
+use Rattle.cbor_judging.specs.Readers.{IsRead}
+use Rattle.cbor_judging.specs.Reading.{IsAt, IsNextHead, IsBegun, ReadsItem, ReadsPayload}
+use Rattle.cbor_judging.specs.Levels.{IsClean, IsTaken, Level, a_member, a_key, a_value, some_member, some_key, some_value, tagged, frame, AreLevels, bytes_before, Standing, item_due, item_full, item_whole}
 
 -- ---- open containers
-
--- Of an array the complete members, of a map the complete pairs, and the key where its value is due. So many members, or
--- pairs, follow the one that is due; or there is no length.
-pub data Level : Type 0 where
-  a_member : Width → ℕ → Spellings → Level
-  a_key : Width → ℕ → SpelledEntries → Level
-  a_value : Width → ℕ → SpelledEntries → Spelling → Level
-  some_member : Spellings → Level
-  some_key : SpelledEntries → Level
-  some_value : SpelledEntries → Spelling → Level
-  tagged : Width → ℕ → Level
-
--- the frame of the automaton
-abbrev pub frame : Level → Frame
-frame (a_member w left done) = counted left
-frame (a_key w left done) = counted (suc (left + left))
-frame (a_value w left done k) = counted (left + left)
-frame (some_member done) = indefinite_array
-frame (some_key done) = indefinite_map false
-frame (some_value done k) = indefinite_map true
-frame (tagged w n) = counted 0
-
--- its bytes so far
-abbrev pub level_bytes : Level → List ℕ
-level_bytes (a_member w left done) = head Array w (spellings_count done + suc left) ++ spell_all done
-level_bytes (a_key w left done) = head Map w (entries_count done + suc left) ++ spell_entries done
-level_bytes (a_value w left done k) = (head Map w (entries_count done + suc left) ++ spell_entries done) ++ spell k
-level_bytes (some_member done) = head Array Indefinite 0 ++ spell_all done
-level_bytes (some_key done) = head Map Indefinite 0 ++ spell_entries done
-level_bytes (some_value done k) = (head Map Indefinite 0 ++ spell_entries done) ++ spell k
-level_bytes (tagged w n) = head Tag w n
 
 -- what a builder holds of it
 abbrev pub level_open : KeyOrder → Level → Open
@@ -90,25 +38,6 @@ level_open o (some_member done) = an_array (spellings_count done) (canonical_all
 level_open o (some_key done) = a_map (canonical_entries o (entries_of done))
 level_open o (some_value done k) = parts.a_key (canonical_entries o (entries_of done)) (canonical o (value_of k))
 level_open o (tagged w n) = a_plain (shortest_head Tag n)
-
--- it holds what is complete, which nests no deeper than this
-abbrev pub IsLevel : ℕ → Level → Type 0
-IsLevel d (a_member w left done) = Holds w (spellings_count done + suc left) × AreTaken d done
-IsLevel d (a_key w left done) = Holds w (entries_count done + suc left) × ArePairsTaken d done
-IsLevel d (a_value w left done k) = Holds w (entries_count done + suc left) × ArePairsTaken d done × IsTaken d k
-IsLevel d (some_member done) = AreTaken d done
-IsLevel d (some_key done) = ArePairsTaken d done
-IsLevel d (some_value done k) = ArePairsTaken d done × IsTaken d k
-IsLevel d (tagged w n) = Holds w n
-
--- all of them, the innermost first
-abbrev pub AreLevels : ℕ → List Level → Type 0
-AreLevels d [] = Unit {0}
-AreLevels d (l ∷ ls) = (length ls < d) × IsLevel (d - suc (length ls)) l × AreLevels d ls
-
-abbrev pub bytes_before : List Level → List ℕ
-bytes_before [] = []
-bytes_before (l ∷ ls) = bytes_before ls ++ level_bytes l
 
 abbrev pub opens : KeyOrder → List Level → List Open
 opens o [] = a_plain [] ∷ []
@@ -123,6 +52,16 @@ pub record IsFull (o : KeyOrder) (d : ℕ) (c : Open) (s : Spelling) : Type 0 wh
   pub clean : HasNoRepeats c → IsClean s
   pub canonical_is : closed o c ≡ canonical o (value_of s)
   pub container : (other : Open) (os : List Open) → IsInContainer (c ∷ other ∷ os)
+
+-- behind the bytes t, in this state of the automaton, with this open in a builder, in so many containers
+abbrev pub StandsAt : KeyOrder → ℕ → List ℕ → State → List Open → ℕ → Standing → Type 0
+StandsAt o d t q os height (item_due ls) =
+    AreLevels d ls × (t ≡ bytes_before ls) × (q ≡ at_item (map frame ls)) × (os ≡ opens o ls) × (height ≡ length ls)
+StandsAt o d t q os height (item_full ls s) =
+    AreLevels d ls × (t ≡ bytes_before ls ++ spell s) × (q ≡ close (map frame ls))
+    × ((c : Open) × IsFull o (d - length ls) c s × (os ≡ c ∷ opens o ls)) × (height ≡ suc (length ls))
+StandsAt o d t q os height (item_whole s) =
+    IsTaken d s × (t ≡ spell s) × (q ≡ at_end) × (os ≡ a_plain (canonical o (value_of s)) ∷ []) × (height ≡ 0)
 
 -- behind the bytes t and in this state of the automaton, where so many containers are open in the builder
 pub data IsStanding (o : KeyOrder) (d : ℕ) (t : List ℕ) (q : State) (os : List Open) (height : ℕ) : Type 0 where

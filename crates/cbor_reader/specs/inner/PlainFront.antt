@@ -1,5 +1,5 @@
 -- What is told of the item at the front of an input, part by part, by the plain rules.
-use Rattle.std.specs.Prelude.{ℕ, ◌≡◌, ◌<◌, ◌++◌, Bool, true, false, List, [], ◌∷◌, length, map, Option, Result, MatchResult, IfSome, IsSome}
+use Rattle.std.specs.Prelude.{ℕ, ◌≡◌, ◌<◌, ◌++◌, Bool, true, false, List, [], ◌∷◌, length, map, Option, Result, MatchResult, IsSome}
 use Rattle.std.specs.Io.KnownBytes.{Consumes}
 use Rattle.cbor_head.specs.Canonical.{canonical}
 use Rattle.cbor_head.specs.Complaint.{Rules, plain}
@@ -14,11 +14,10 @@ use Rattle.cbor_item.specs.Parts.{plain as a_plain}
 use Rattle.cbor_reader.specs.declared.plain_items.PlainItems.{PlainItems}
 use Rattle.cbor_reader.specs.inner.Front.{IsFrontRead}
 use Rattle.cbor_reader.specs.inner.HeldKeys.{AreHeld}
-use Rattle.cbor_reader.specs.inner.Levels.{IsTaken, Level, frame, AreLevels, bytes_before, opens}
+use Rattle.cbor_judging.specs.Levels.{IsTaken, Level, frame, AreLevels, bytes_before, item_due, item_whole}
+use Rattle.cbor_reader.specs.inner.Levels.{opens}
 use Rattle.cbor_reader.specs.inner.PlainItems.{AreApart, HaveBegun, sets}
-use Rattle.cbor_strict.specs.inner.OpenItems.{AreRefused}
-use Rattle.cbor_reader.specs.inner.Path.{item_due, item_whole}
-use Rattle.cbor_strict.specs.inner.Reading.{IsAt}
+use Rattle.cbor_judging.specs.Reading.{AreRefused, IsAt}
 use Rattle.cbor_reader.specs.inner.TreeValues.{IsTreeAt}
 
 -- an item is due, behind the bytes t, and nothing read has a complaint

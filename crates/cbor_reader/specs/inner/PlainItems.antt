@@ -1,6 +1,6 @@
 -- What the plain reader keeps: what a builder holds, in which no two keys of an open map are the same, and where each open
 -- item began.
-use Rattle.std.specs.Prelude.{ℕ, suc, ◌≡◌, ◌<◌, ◌≤◌, ◌++◌, List, [], ◌∷◌, length, reverse, slice_index_or, Option, Result, OnOk, IfOk, MatchOption, IsSome}
+use Rattle.std.specs.Prelude.{ℕ, suc, ◌≡◌, ◌<◌, ◌++◌, List, [], ◌∷◌, length, reverse, slice_index_or, Option, Result, OnOk, IfOk, MatchOption, IsSome}
 use Rattle.cbor_head.specs.Head.{shortest_head, IsSimple}
 use Rattle.cbor_head.specs.Limits.{Bounds}
 use Rattle.cbor_head.specs.declared.major.Major.TheVariants as majors
@@ -14,10 +14,10 @@ use Rattle.cbor_reader.specs.declared.plain_part.Part.{Part}
 use Rattle.cbor_reader.specs.declared.plain_part.Part.TheVariants.{Leaf, String, Begin, Break}
 use Rattle.cbor_reader.specs.declared.key_set.KeySet.{KeySet}
 use Rattle.cbor_reader.specs.inner.HeldKeys.{HasKeyBytes, AreHeld, AreHeldSoFar}
-use Rattle.cbor_reader.specs.inner.Levels as levels
-use Rattle.cbor_reader.specs.inner.Levels.{Level, bytes_before}
-use Rattle.cbor_reader.specs.inner.Path.{Standing, item_due, item_full, item_whole, StandsAt}
-use Rattle.cbor_strict.specs.inner.Reading.{IsAt, string_major}
+use Rattle.cbor_judging.specs.Levels as levels
+use Rattle.cbor_judging.specs.Levels.{Level, bytes_before, Standing, item_due, item_full, item_whole}
+use Rattle.cbor_reader.specs.inner.Levels.{StandsAt}
+use Rattle.cbor_judging.specs.Reading.{IsAt, string_major}
 use Rattle.cbor_reader.specs.inner.TreeValues.{IsTreeAt}
 
 -- ---- keys

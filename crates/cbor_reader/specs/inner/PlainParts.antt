@@ -1,5 +1,5 @@
 -- What a part of an item is that was read, by the plain rules.
-use Rattle.std.specs.Prelude.{ℕ, ◌≡◌, ◌++◌, true, IsUtf8, List, [], length, Option, Some, None, Result, MatchResult}
+use Rattle.std.specs.Prelude.{ℕ, ◌≡◌, ◌++◌, true, IsUtf8, List, Option, Some, None, Result, MatchResult}
 use Rattle.cbor_head.specs.Complaint.{plain}
 use Rattle.cbor_head.specs.Head.{IsSimple}
 use Rattle.cbor_head.specs.Limits.{Bounds}
@@ -17,7 +17,7 @@ use Rattle.cbor_events.specs.declared.event.EventKind.{EventKind}
 use Rattle.cbor_events.specs.declared.event.EventKind.TheVariants as kinds
 use Rattle.cbor_reader.specs.declared.plain_part.Part.{Part}
 use Rattle.cbor_reader.specs.declared.plain_part.Part.TheVariants.{Leaf, String, Begin, Break}
-use Rattle.cbor_strict.specs.inner.Reading.{IsAt, ReadsItem, StopsItem, string_value}
+use Rattle.cbor_judging.specs.Reading.{IsAt, ReadsItem, StopsItem, string_value}
 
 -- an event came where an item was due within these containers, behind t: its bytes are x
 pub record IsCome (b : Bounds) (fs : List Frame) (t x : List ℕ) (e : ItemEventsView) (w : Width) (kind : EventKind) : Type 0 where

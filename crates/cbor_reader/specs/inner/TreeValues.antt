@@ -1,16 +1,15 @@
 -- What a tree builder holds where a reader of events stands.
-use Rattle.std.specs.Prelude.{ℕ, ◌≡◌, ◌++◌, true, List, [], ◌∷◌, Option, Some, None, IsUtf8}
+use Rattle.std.specs.Prelude.{◌≡◌, true, List, [], ◌∷◌, Option, Some, None, IsUtf8}
 use Rattle.cbor_head.specs.Spelling.{Spelling, Spellings, SpelledEntries, array, a_map, tag, no_spellings, a_spelling, no_entries, entry, value_of}
 use Rattle.cbor_head.specs.Value.{Value}
 use Rattle.cbor_item.specs.OpenValues as parts
 use Rattle.cbor_item.specs.Built.{IsContainer as IsOpener}
 use Rattle.cbor_item.specs.OpenValues.{OpenItem, OpenValue, the_whole, an_array, a_tag, standing, give, opened, TakesValue, MayEnd, IsWhole}
-use Rattle.cbor_reader.specs.inner.Levels.{Level, a_member, a_key, a_value, some_member, some_key, some_value, tagged}
-use Rattle.cbor_reader.specs.inner.Path.{Standing, item_due, item_full, item_whole}
+use Rattle.cbor_judging.specs.Levels.{Level, a_member, a_key, a_value, some_member, some_key, some_value, tagged, Standing, item_due, item_full, item_whole}
 use Rattle.cbor_reader.specs.declared.plain_part.Part.{Part}
 use Rattle.cbor_reader.specs.declared.plain_part.Part.TheVariants.{Leaf, String, Begin, Break}
 use Rattle.cbor_reader.specs.inner.PlainParts.{IsLeafMajor, leaf_value}
-use Rattle.cbor_strict.specs.inner.Reading.{string_value}
+use Rattle.cbor_judging.specs.Reading.{string_value}
 
 -- the values of members, and of pairs
 abbrev pub member_values : Spellings → List Value

@@ -12,7 +12,7 @@ use Rattle.cbor_strict.specs.declared.last_keys.Due.TheVariants.{Member, Key, Co
 use Rattle.cbor_strict.specs.declared.last_keys.LastKeys.{LastKeys}
 use Rattle.cbor_strict.specs.declared.last_keys.Level.{Level}
 use Rattle.cbor_strict.specs.declared.last_keys.Span.{Span}
-use Rattle.cbor_strict.specs.inner.Frame.{Frame, a_member, a_key, a_content, tagged, plug, before}
+use Rattle.cbor_judging.specs.Frame.{Frame, a_member, a_key, a_content, tagged, plug, before}
 
 pub record KeysView : Type 0 where
   pub levels : List Level

@@ -20,10 +20,10 @@ use Rattle.cbor_events.specs.declared.event.EventKind.TheVariants as kinds
 use Rattle.cbor_strict.specs.declared.open_items.Begun.{Begun}
 use Rattle.cbor_strict.specs.declared.open_items.Begun.TheVariants.{Leaf, String, Map as BegunMap, Other}
 use Rattle.cbor_strict.specs.declared.open_items.OpenItems.{OpenItems}
-use Rattle.cbor_strict.specs.inner.Frame.{Frame, a_member, a_key, a_content, tagged}
+use Rattle.cbor_judging.specs.Frame.{Frame, a_member, a_key, a_content, tagged}
 use Rattle.cbor_strict.specs.inner.LastKeys.{seen, from_outside, IsKept}
-use Rattle.cbor_strict.specs.inner.OpenMaps.{before_all, AreOpen, AreOpenDistinct}
-use Rattle.cbor_strict.specs.inner.Reading.{IsAt, IsMemory, IsReached, IsBegun, IsUndecided, HasCause, string_kind, string_major}
+use Rattle.cbor_judging.specs.OpenMaps.{before_all, AreOpen, AreOpenDistinct}
+use Rattle.cbor_judging.specs.Reading.{AreRefused, IsAt, IsBegun, string_kind, string_major}
 
 -- an open container, as the events count what is due in it
 abbrev pub counted_in : Frame → Container
@@ -84,11 +84,6 @@ pub record IsOver (v : OpenItems) (b : Bounds) (e : ItemEventsView) (t : List �
 
 abbrev pub Stands : OpenItems → Bounds → ItemEventsView → List ℕ → Type 0
 Stands v b e t = IsItemDue v b e t ⊎ IsInString v b e t ⊎ IsOver v b e t
-
--- The bytes are refused: memory, or what the item has within them.
-pub record AreRefused (r : Rules) (b : Bounds) (bytes : List ℕ) (to : Option (List ℕ)) (f : Refusal) : Type 0 where
-  pub read : f.read ≡ length bytes
-  pub why : (IsMemory f × IsReached b bytes × IsUndecided r b [] [] bytes) ⊎ HasCause r b [] [] bytes to f
 
 -- what is answered where these bytes are taken now
 abbrev pub Answers : Rules → OpenItems → Bounds → ItemEventsView → List ℕ → Result (Unit {0}) Refusal → Type 0

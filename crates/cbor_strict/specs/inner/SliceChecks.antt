@@ -10,7 +10,7 @@ use Rattle.cbor_events.specs.inner.Automaton.{Frame, State, close_string, payloa
 use Rattle.cbor_events.specs.SliceEvents.{event_of}
 use Rattle.cbor_events.specs.SliceView.{SliceEventsView, seen}
 use Rattle.cbor_events.specs.declared.token.Token.{Token}
-use Rattle.cbor_strict.specs.inner.Reading.{IsAt, IsMemory, IsHeadDue, IsNextHead, StopsHead, ReadsPayload, StopsPayload}
+use Rattle.cbor_judging.specs.Reading.{IsAt, IsMemory, IsHeadDue, IsNextHead, StopsHead, ReadsPayload, StopsPayload}
 
 -- no reader failed, and no memory was asked for
 pub record IsOfBytes (f : Refusal) : Type 0 where

@@ -11,9 +11,10 @@ use Rattle.cbor_events.specs.Machine.{IsComplete}
 use Rattle.cbor_events.specs.ItemEvents.{ItemEventsView, StandsBetween, IsNextEvent, IsEnd, call}
 use Rattle.cbor_events.specs.declared.event.Event.{Event}
 use Rattle.cbor_strict.specs.declared.open_items.OpenItems.{OpenItems}
-use Rattle.cbor_strict.specs.Readers.{IsRead, Loses}
+use Rattle.cbor_judging.specs.Readers.{IsRead, Loses}
 use Rattle.cbor_strict.specs.inner.LastKeys.{seen}
-use Rattle.cbor_strict.specs.inner.OpenItems.{Stands, IsOver, AreRefused}
+use Rattle.cbor_strict.specs.inner.OpenItems.{Stands, IsOver}
+use Rattle.cbor_judging.specs.Reading.{AreRefused}
 
 -- some bytes are taken
 pub record StandsSomewhere (v : OpenItems) (e : ItemEventsView) : Type 0 where

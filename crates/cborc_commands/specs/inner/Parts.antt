@@ -8,7 +8,7 @@ use Rattle.cbor_item.specs.View.{view}
 use Rattle.cbor_item.specs.declared.item.Item.{Item}
 use Rattle.cbor_reader.specs.Canonicalise.{IsRefusal}
 use Rattle.cbor_reader.specs.Sequence.{Given, AreGivenBy, HasGiven}
-use Rattle.cbor_strict.specs.Readers.{IsReadAs}
+use Rattle.cbor_judging.specs.Readers.{IsReadAs}
 use Rattle.cborc_commands.specs.Folder.{Files}
 use Rattle.cborc_commands.specs.Input.{IsInput}
 use Rattle.cborc_commands.specs.Show.{shown_text}

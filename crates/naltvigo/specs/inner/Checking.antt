@@ -4,7 +4,7 @@ use Rattle.cbor_head.specs.Complaint.{strict}
 use Rattle.cbor_head.specs.declared.order.KeyOrder.{KeyOrder}
 use Rattle.cbor_head.specs.declared.reason.Refusal.{Refusal}
 use Rattle.cbor_reader.specs.Canonicalise.{IsCanonicalOf}
-use Rattle.cbor_strict.specs.Readers.{IsRead, IsCanonicalFront}
+use Rattle.cbor_judging.specs.Readers.{IsRead, IsCanonicalFront}
 use Rattle.naltvigo.specs.Checking.{IsStrictRefusal}
 
 -- the input is its own answer

@@ -1,5 +1,5 @@
 use Rattle.cbor_head.specs.Complaint.{plain}
-use Rattle.cbor_strict.proofs.Steps.{next-head, no-head, stops, limits-as, told, not-ended, head-open}
+use Rattle.cbor_judging.proofs.Steps.{next-head, no-head, stops, limits-as, told, not-ended, head-open}
 use Rattle.cbor_reader.proofs.next_head.next_head.Goals as goal
 
 pub unreachable-requires : goal.unreachable-requires

@@ -3,7 +3,7 @@ use Rattle.std.proofs.lemmas.List.{length-drop, take_all}
 use Rattle.std.specs.Str.Lossy.{utf8_valid_len}
 use Rattle.cbor_head.specs.Verdict.{refusal}
 use Rattle.cbor_head.specs.declared.reason.Reason.TheVariants.{InvalidText}
-use Rattle.cbor_strict.proofs.Payloads.{payload-stops, grown-length, chunk-is-text, chunk-no-text}
+use Rattle.cbor_judging.proofs.Payloads.{payload-stops, grown-length, chunk-is-text, chunk-no-text}
 use Rattle.cbor_reader.proofs.payload.read_chunk.Goals as goal
 
 -- the part from there to the end

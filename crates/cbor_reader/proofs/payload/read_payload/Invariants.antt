@@ -2,8 +2,8 @@ use Rattle.std.proofs.Common.{ℕ, List, Bool}
 use Rattle.cbor_head.specs.Limits.{Bounds}
 use Rattle.cbor_head.specs.declared.major.Major.{Major}
 use Rattle.cbor_events.specs.inner.Automaton.{Frame, payload}
-use Rattle.cbor_strict.specs.inner.Reading.{IsAt}
-use Rattle.cbor_strict.proofs.Payloads.{HasCome}
+use Rattle.cbor_judging.specs.Reading.{IsAt}
+use Rattle.cbor_judging.proofs.Payloads.{HasCome}
 use Rattle.cbor_reader.proofs.payload.read_payload.Given as goal
 
 abbrev pub invariant-loop-left : goal.invariant-loop-left

@@ -1,11 +1,11 @@
-use Rattle.std.proofs.Common.{◌≡◌, ◌++◌, ◌+◌, ◌∙◌, ℕ, slice_index_or, Option, List, length, map, sym, ap, refl, subst, arith}
+use Rattle.std.proofs.Common.{◌≡◌, ◌++◌, ◌∙◌, ℕ, slice_index_or, Option, List, length, map, sym, ap, refl, subst, arith}
 use Rattle.std.proofs.lemmas.List.{length-append, length-set}
 use Rattle.std.specs.Prelude.{IsSome}
 use Rattle.cbor_head.specs.Verdict.{refusal}
 use Rattle.cbor_head.specs.declared.reason.Reason.TheVariants.{RepeatedKey}
 use Rattle.cbor_events.specs.inner.Automaton.{at_item}
 use Rattle.cbor_item.specs.Built.{Built}
-use Rattle.cbor_reader.specs.inner.Levels.{frame}
+use Rattle.cbor_judging.specs.Levels.{frame}
 use Rattle.cbor_reader.specs.inner.PlainItems.{CanTake, IsGiven, sets, AreKeysBegun}
 use Rattle.cbor_reader.specs.declared.key_set.KeySet.{KeySet}
 use Rattle.cbor_item.specs.OpenValues.{OpenItem}

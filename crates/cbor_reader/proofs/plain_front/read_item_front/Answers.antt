@@ -3,7 +3,7 @@ use Rattle.cbor_head.specs.Complaint.{plain}
 use Rattle.cbor_head.specs.Value.{Value}
 use Rattle.cbor_head.specs.declared.order.KeyOrder.TheVariants.{Bytewise}
 use Rattle.cbor_reader.specs.inner.Front.{IsFrontRead}
-use Rattle.cbor_strict.proofs.Fronts.{starts-at}
+use Rattle.cbor_judging.proofs.Fronts.{starts-at}
 use Rattle.cbor_reader.proofs.PlainSteps.{due-first, front-whole, front-stopped}
 use Rattle.cbor_reader.proofs.TreeValues.{whole-in}
 use Rattle.cbor_reader.proofs.plain_front.read_item_front.Goals as goal

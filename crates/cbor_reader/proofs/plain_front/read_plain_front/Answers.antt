@@ -1,7 +1,7 @@
 use Rattle.std.proofs.Common.{[], arith}
-use Rattle.cbor_reader.specs.inner.Path.{item_due}
+use Rattle.cbor_judging.specs.Levels.{item_due}
 use Rattle.cbor_reader.proofs.TreeValues.{no-tree}
-use Rattle.cbor_strict.proofs.Fronts.{starts-at}
+use Rattle.cbor_judging.proofs.Fronts.{starts-at}
 use Rattle.cbor_reader.proofs.PlainSteps.{due-first, front-encoded, front-stopped}
 use Rattle.cbor_reader.proofs.plain_front.read_plain_front.Goals as goal
 

@@ -3,9 +3,9 @@ use Rattle.std.specs.Prelude.{Some}
 use Rattle.cbor_events.specs.SliceView.{SliceEventsView, seen}
 use Rattle.cbor_item.specs.Built.{Built, IsInString}
 use Rattle.cbor_head.specs.Complaint.{plain}
-use Rattle.cbor_strict.specs.inner.Reading.{string_major, string_value}
+use Rattle.cbor_judging.specs.Reading.{string_major, string_value}
 use Rattle.cbor_reader.proofs.LevelStrings.{in-string, chunked-opens, chunked-more, chunked-ends, chunk-opens, chunk-taken, chunk-less, chunks-over}
-use Rattle.cbor_strict.proofs.WholeStrings.{IsReadingChunks, starts-chunks}
+use Rattle.cbor_judging.proofs.WholeStrings.{IsReadingChunks, starts-chunks}
 use Rattle.cbor_reader.proofs.LevelWholes.{chunk-whole}
 use Rattle.cbor_reader.proofs.slice_builder.build_chunks.Goals as goal
 

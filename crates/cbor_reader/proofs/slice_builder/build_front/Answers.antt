@@ -2,10 +2,11 @@ use Rattle.std.proofs.Common.{◌≡◌, ◌+◌, ◌++◌, ◌∙◌, ℕ, List
 use Rattle.std.proofs.lemmas.List.{length-append}
 use Rattle.cbor_events.specs.SliceView.{seen}
 use Rattle.cbor_events.specs.inner.Automaton.{at_item}
-use Rattle.cbor_reader.specs.inner.Levels.{bytes_before, IsStanding}
-use Rattle.cbor_strict.proofs.Fronts.{starts-at}
+use Rattle.cbor_judging.specs.Levels.{bytes_before}
+use Rattle.cbor_reader.specs.inner.Levels.{IsStanding}
+use Rattle.cbor_judging.proofs.Fronts.{starts-at}
 use Rattle.cbor_reader.proofs.LevelEvents.{starts-building, event-is, item-whole, front-built, fed-input, fed-less, fed-height}
-use Rattle.cbor_strict.proofs.SliceItems.{told-end}
+use Rattle.cbor_judging.proofs.Slices.{told-end}
 use Rattle.cbor_reader.proofs.slice_builder.build_front.Goals as goal
 
 pub events-init : goal.events-init

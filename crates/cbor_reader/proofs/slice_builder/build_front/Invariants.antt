@@ -2,7 +2,7 @@ use Rattle.std.proofs.Common.{ℕ, List, ◌≡◌, ◌++◌, length, take}
 use Rattle.cbor_events.specs.SliceView.{seen}
 use Rattle.cbor_events.specs.inner.Automaton.{State}
 use Rattle.cbor_reader.specs.inner.Levels.{IsBuilding}
-use Rattle.cbor_strict.specs.inner.Reading.{IsAt}
+use Rattle.cbor_judging.specs.Reading.{IsAt}
 use Rattle.cbor_reader.proofs.slice_builder.build_front.Given as goal
 
 abbrev pub invariant-events : goal.invariant-events

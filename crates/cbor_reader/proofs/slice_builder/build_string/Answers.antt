@@ -1,9 +1,9 @@
 use Rattle.std.proofs.Common.{refl, false}
 use Rattle.cbor_events.specs.SliceView.{seen}
 use Rattle.cbor_head.specs.Complaint.{plain}
-use Rattle.cbor_strict.specs.inner.Reading.{string_major, string_value}
+use Rattle.cbor_judging.specs.Reading.{string_major, string_value}
 use Rattle.cbor_reader.proofs.LevelStrings.{string-built, string-taken}
-use Rattle.cbor_strict.proofs.WholeStrings.{string-due}
+use Rattle.cbor_judging.proofs.WholeStrings.{string-due}
 use Rattle.cbor_reader.proofs.slice_builder.build_string.Goals as goal
 
 pub returns : goal.returns

@@ -1,4 +1,4 @@
-use Rattle.std.proofs.Common.{◌≡◌, subst, ap, sym, ◌∙◌}
+use Rattle.std.proofs.Common.{subst, ap, sym, ◌∙◌}
 use Rattle.cbor_events.specs.ItemEvents.{StandsBetween}
 use Rattle.cbor_events.specs.SliceEvents.{IsNextTold}
 use Rattle.cbor_events.specs.SliceView.{SliceEventsView}

@@ -1,6 +1,7 @@
 use Rattle.std.proofs.Common.{◌≡◌, ◌+◌, ◌++◌, ◌∙◌, ℕ, length, sym, subst, arith}
 use Rattle.cbor_events.specs.SliceView.{SliceEventsView}
-use Rattle.cbor_reader.specs.inner.Levels.{bytes_before, IsStanding, IsBuiltOn}
+use Rattle.cbor_judging.specs.Levels.{bytes_before}
+use Rattle.cbor_reader.specs.inner.Levels.{IsStanding, IsBuiltOn}
 use Rattle.cbor_reader.proofs.LevelEvents.{fed-less, fed-height}
 use Rattle.cbor_reader.proofs.LevelWholes.{built-nothing, built-more, whole-is}
 use Rattle.cbor_reader.proofs.slice_builder.take_wholes.Goals as goal

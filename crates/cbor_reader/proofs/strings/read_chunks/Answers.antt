@@ -1,10 +1,10 @@
 use Rattle.std.proofs.Common.{◌++◌, true}
 use Rattle.cbor_events.specs.inner.Automaton.{in_chunks}
-use Rattle.cbor_strict.specs.inner.Reading.{string_major}
+use Rattle.cbor_judging.specs.Reading.{string_major}
 use Rattle.cbor_head.specs.Complaint.{plain}
-use Rattle.cbor_strict.proofs.Leaves.{chunks_bytes}
-use Rattle.cbor_strict.proofs.Steps.{farther}
-use Rattle.cbor_strict.proofs.WholeStrings.{looks-plainly, starts-chunks, stops-chunk-head, chunk-kind, chunks-end, chunk-due, chunk-next, stops-chunk, chunk-farther}
+use Rattle.cbor_judging.proofs.Leaves.{chunks_bytes}
+use Rattle.cbor_judging.proofs.Steps.{farther}
+use Rattle.cbor_judging.proofs.WholeStrings.{looks-plainly, starts-chunks, stops-chunk-head, chunk-kind, chunks-end, chunk-due, chunk-next, stops-chunk, chunk-farther}
 use Rattle.cbor_reader.proofs.strings.read_chunks.Goals as goal
 
 pub chunks-init : goal.chunks-init

@@ -3,9 +3,9 @@ use Rattle.cbor_head.specs.Limits.{Bounds}
 use Rattle.cbor_head.specs.declared.width.Width.{Width}
 use Rattle.cbor_events.specs.inner.Automaton.{Frame}
 use Rattle.std.specs.Prelude.{None}
-use Rattle.cbor_strict.specs.inner.Reading.{IsBegun, string_kind}
+use Rattle.cbor_judging.specs.Reading.{IsBegun, string_kind}
 use Rattle.cbor_head.specs.Complaint.{plain}
-use Rattle.cbor_strict.proofs.WholeStrings.{IsReadingChunks}
+use Rattle.cbor_judging.proofs.WholeStrings.{IsReadingChunks}
 use Rattle.cbor_reader.proofs.strings.read_chunks.Given as goal
 
 abbrev pub invariant-chunks : goal.invariant-chunks

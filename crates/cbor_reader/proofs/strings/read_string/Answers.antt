@@ -1,7 +1,7 @@
 use Rattle.std.proofs.Common.{ℕ, ◌++◌, false, subst, Option}
-use Rattle.cbor_strict.specs.inner.Reading.{string_major, string_kind, IsBegun}
+use Rattle.cbor_judging.specs.Reading.{string_major, string_kind, IsBegun}
 use Rattle.cbor_head.specs.Complaint.{plain}
-use Rattle.cbor_strict.proofs.WholeStrings.{looks-plainly, string-due, reads-string, stops-string}
+use Rattle.cbor_judging.proofs.WholeStrings.{looks-plainly, string-due, reads-string, stops-string}
 use Rattle.cbor_reader.proofs.strings.read_string.Goals as goal
 
 pub returns-in-None : goal.returns-in-None

@@ -1,5 +1,5 @@
 use Rattle.std.proofs.Common.{rules}
-use Rattle.cbor_strict.proofs.Steps.{open-fault, IsHeadKind}
+use Rattle.cbor_judging.proofs.Steps.{open-fault, IsHeadKind}
 use Rattle.cbor_strict.proofs.open_items.head_fault.Goals as goal
 use Rattle.cbor_strict.proofs.open_items.head_fault.Goals.{in-Simple, in-Bytes2, in-Unsigned2}
 

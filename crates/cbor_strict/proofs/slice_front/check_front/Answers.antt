@@ -3,8 +3,8 @@ use Rattle.std.specs.Prelude.{Ok}
 use Rattle.cbor_head.specs.Complaint.{strict}
 use Rattle.cbor_events.specs.SliceView.{seen}
 use Rattle.cbor_strict.specs.inner.SliceFront.{IsStep}
-use Rattle.cbor_strict.proofs.Fronts.{starts-at}
-use Rattle.cbor_strict.proofs.OpenWalk.{none_open}
+use Rattle.cbor_judging.proofs.Fronts.{starts-at}
+use Rattle.cbor_judging.proofs.OpenWalk.{none_open}
 use Rattle.cbor_strict.proofs.SliceFronts.{slice-read, slice-unread}
 use Rattle.cbor_strict.proofs.slice_front.check_front.Goals as goal
 

@@ -3,9 +3,10 @@ use Rattle.std.specs.Prelude.{None, Some}
 use Rattle.cbor_events.specs.inner.Automaton.{payload}
 use Rattle.cbor_events.specs.SliceEvents.{event_of}
 use Rattle.cbor_events.specs.SliceView.{seen}
-use Rattle.cbor_strict.proofs.Steps.{limits-as, not-ended}
-use Rattle.cbor_strict.proofs.Payloads.{none-come, payload-open, part-fits, part-comes, part-cut, all-come}
-use Rattle.cbor_strict.proofs.SliceItems.{told-event, told-live, told-end, told-refusal}
+use Rattle.cbor_judging.proofs.Steps.{limits-as, not-ended}
+use Rattle.cbor_judging.proofs.Payloads.{none-come, payload-open, part-fits, part-comes, part-cut, all-come}
+use Rattle.cbor_judging.proofs.Slices.{told-event, told-live, told-end}
+use Rattle.cbor_strict.proofs.SliceItems.{told-refusal}
 use Rattle.cbor_strict.proofs.slice_heads.check_payload.Goals as goal
 
 pub loop-left-init : goal.loop-left-init

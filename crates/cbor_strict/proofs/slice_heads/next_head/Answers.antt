@@ -1,7 +1,7 @@
 use Rattle.std.proofs.Common.{ap, ◌∙◌}
 use Rattle.cbor_head.specs.Complaint.{strict}
 use Rattle.cbor_head.specs.Verdict.{refusal}
-use Rattle.cbor_strict.proofs.Steps.{no-head}
+use Rattle.cbor_judging.proofs.Steps.{no-head}
 use Rattle.cbor_strict.proofs.SliceItems.{told-refusal, slice-head, slice-bad-head}
 use Rattle.cbor_strict.proofs.slice_heads.next_head.Goals as goal
 

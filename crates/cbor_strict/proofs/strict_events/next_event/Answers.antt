@@ -2,9 +2,10 @@ use Rattle.std.proofs.Common.{◌<◌, ◌++◌, ◌∙◌, length, sym, subst}
 use Rattle.std.specs.Prelude.{Ok}
 use Rattle.cbor_head.specs.Complaint.{strict}
 use Rattle.cbor_events.specs.ItemEvents.{IsNext, call}
-use Rattle.cbor_strict.specs.inner.OpenItems.{Stands, AreRefused, HasPartCome}
-use Rattle.cbor_strict.proofs.Payloads.{IsPiece}
-use Rattle.cbor_strict.proofs.Steps.{limits-as}
+use Rattle.cbor_strict.specs.inner.OpenItems.{Stands, HasPartCome}
+use Rattle.cbor_judging.specs.Reading.{AreRefused}
+use Rattle.cbor_judging.proofs.Payloads.{IsPiece}
+use Rattle.cbor_judging.proofs.Steps.{limits-as}
 use Rattle.cbor_strict.proofs.StrictSteps.{head_told, piece_told, end_told, refusal_told, live_of, piece_is}
 use Rattle.cbor_strict.proofs.strict_events.next_event.Goals as goal
 

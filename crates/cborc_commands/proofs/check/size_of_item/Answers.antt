@@ -1,6 +1,6 @@
 use Rattle.std.proofs.Common.{ap}
 use Rattle.std.proofs.lemmas.Result.{err_from_is_err_and}
-use Rattle.cbor_strict.specs.Readers.{of_verdict}
+use Rattle.cbor_judging.specs.Readers.{of_verdict}
 use Rattle.cborc_commands.specs.Check.{rules_of}
 use Rattle.cborc_commands.proofs.Whole.{is_unread, is_longer}
 use Rattle.cborc_commands.proofs.check.size_of_item.Goals as goal

@@ -1,4 +1,4 @@
-use Rattle.std.proofs.Common.{sym, ◌∙◌, subst, List, ℕ, ◌<◌, ◌≤◌, length}
+use Rattle.std.proofs.Common.{sym, subst, List, ℕ, ◌<◌, ◌≤◌, length}
 use Rattle.std.proofs.lemmas.Result.{IfOk-weaker}
 use Rattle.cbor_reader.proofs.HeldKeys.{adds-short, adds-long}
 use Rattle.cbor_reader.proofs.key_set.KeySet.add.Goals as goal

@@ -1,4 +1,4 @@
-use Rattle.std.proofs.Common.{◌-◌, ◌≡◌, ℕ, List}
+use Rattle.std.proofs.Common.{◌≡◌, ℕ, List}
 use Rattle.std.specs.Prelude.{IsSome}
 use Rattle.cbor_head.specs.Limits.{Bounds}
 use Rattle.cbor_events.specs.ItemEvents.{ItemEventsView}

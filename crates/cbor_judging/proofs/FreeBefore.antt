@@ -1,0 +1,59 @@
+-- No complaint ends before a place of an input's longest beginning.
+use Rattle.std.proofs.Common.{ℕ, ◌+◌, ◌≡◌, ◌<◌, ◌≤◌, List, [], ◌∷◌, ◌++◌, length, take, drop, sym, ap, ◌∙◌, arith, subst, inl, inr, append_assoc, take-append-drop}
+use Rattle.std.proofs.lemmas.Bool.{cases_lt}
+use Rattle.cbor_head.specs.Spelling.{Spelling, IsItem}
+use Rattle.cbor_head.specs.Beginning.{IsLongestBeginning}
+use Rattle.cbor_head.specs.Complaint.{Rules, form, plain, strict, Complaint, Complains}
+use Rattle.cbor_head.specs.Verdict.{refused, refusal, IsFormError, IsVerdict, IsWithout}
+use Rattle.cbor_head.specs.declared.reason.Reason.TheVariants.{Truncated}
+use Rattle.cbor_head.specs.declared.reason.Refusal.{Refusal}
+use Rattle.cbor_head.proofs.Agree.{split_front, same_complaints}
+use Rattle.cbor_judging.specs.Refusals.{IsComplaintReason, IsFreeBefore}
+use Rattle.cbor_judging.proofs.Reasons.{complaint-reason}
+
+-- where one item has no complaint within q, none that starts with q has
+pub front-free : (d : ℕ) (r : Rules) (q p k : List ℕ) (s : Spelling) (rest : List ℕ) (place : ℕ) → IsItem d s (q ++ rest) → p ≡ q ++ k → ((c : Complaint) → Complains r 0 s c → length q < c.end) → place ≤ length q + 1
+    → IsFreeBefore d r p place
+front-free d r q p k s rest place item is none l = λ z c start holds.
+    let bytes_are : p ++ start.0 ≡ q ++ (k ++ start.0) = ap (λ (u : List ℕ). u ++ start.0) is ∙ append_assoc q k start.0 in
+    elim (cases_lt (length q) c.end) [
+      | inl h ↦ omega (arith, h, l)
+      | inr h ↦
+          let found = same_complaints d z s q (k ++ start.0) rest (subst (IsItem d z) bytes_are start.1) item r c h holds in
+          absurd (omega (arith, h, none c found))
+    ]
+
+without : (r : Rules) (s : Spelling) (t : ℕ) → IsWithout r s t → (c : Complaint) → Complains r 0 s c → t < c.end
+without r s t h c g = elim (cases_lt t c.end) [ inl l ↦ l | inr l ↦ absurd (h c g l) ]
+
+-- ---- the first k bytes, as a whole input, are truncated
+
+-- no complaint is named so
+not-truncated : (r : Rules) → IsComplaintReason r Truncated → ⊥
+not-truncated form h = h
+not-truncated plain h = h
+not-truncated (strict o) h = h
+
+truncated-place : (d n k : ℕ) (p behind : List ℕ) → IsFormError d n p behind (refusal Truncated k k) → length p ≡ k
+truncated-place d n k p [] (inl b) = absurd (cc (ap (λ (x : Refusal). x.reason) b.1))
+truncated-place d n k p [] (inr b) = sym (ap (λ (x : Refusal). x.place) b.1)
+truncated-place d n k p (c ∷ cs) b = sym (ap (λ (x : Refusal). x.place) b.2)
+
+pub truncated-free : (d n k : ℕ) (r : Rules) (input p : List ℕ) → IsLongestBeginning d (take n input) p → k ≤ length p → IsVerdict d n r (take k input) (refused (refusal Truncated k k)) → IsFreeBefore d r p k
+truncated-free d n k r input p g l v = elim v.decides [
+  | inl c ↦ absurd (not-truncated r (complaint-reason r 0 v.item c.0 c.1.holds (refusal Truncated k k) c.2))
+  | inr b ↦
+      let size : length v.p ≡ k = truncated-place d n k v.p v.longest.rest b.2 in
+      let (m, is, other) = split_front v.p (v.longest.rest ++ (drop n (take k input) ++ drop k input)) p (g.rest ++ drop n input) (sym short ∙ whole) (omega (arith, size, l)) in
+      front-free d r v.p p m v.item v.rest k v.starts is (without r v.item (length v.p) b.0) (omega (arith, size))
+]
+  where
+    short : input ≡ v.p ++ (v.longest.rest ++ (drop n (take k input) ++ drop k input))
+    short =
+        let cut : take k input ≡ v.p ++ (v.longest.rest ++ drop n (take k input)) =
+        sym (take-append-drop n (take k input)) ∙ ap (λ (u : List ℕ). u ++ drop n (take k input)) v.longest.splits ∙ append_assoc v.p v.longest.rest (drop n (take k input)) in
+        sym (take-append-drop k input) ∙ ap (λ (u : List ℕ). u ++ drop k input) cut ∙ append_assoc v.p (v.longest.rest ++ drop n (take k input)) (drop k input)
+        ∙ ap (λ (u : List ℕ). v.p ++ u) (append_assoc v.longest.rest (drop n (take k input)) (drop k input))
+
+    whole : input ≡ p ++ (g.rest ++ drop n input)
+    whole = sym (take-append-drop n input) ∙ ap (λ (u : List ℕ). u ++ drop n input) g.splits ∙ append_assoc p g.rest (drop n input)

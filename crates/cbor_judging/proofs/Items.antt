@@ -1,0 +1,253 @@
+-- An item in another: what is read and what is refused of it, for the whole.
+use Rattle.std.proofs.Common.{◌≡◌, ◌≢◌, ℕ, ◌+◌, ◌-◌, ◌<◌, ◌≤◌, Option, Some, None, List, [], ◌++◌, length, replicate, refl, sym, ap, ◌∙◌, subst, inl, inr, arith, append_assoc, append-nil}
+use Rattle.std.specs.Io.KnownBytes.{Consumes}
+use Rattle.std.proofs.KnownBytes.{Consumes-nil, Consumes-trans}
+use Rattle.cbor_head.specs.Head.{Holds, head, shortest}
+use Rattle.cbor_head.specs.Limits.{Bounds}
+use Rattle.cbor_head.specs.Value.{Value}
+use Rattle.cbor_head.specs.Spelling.{unsigned, negative, bytes, text, byte_chunks, text_chunks, tag, spell}
+use Rattle.cbor_head.specs.Complaint.{Rules, strict, Complaint, OfHead, OfIndefinite, OfCount}
+use Rattle.cbor_head.specs.declared.major.Major.{Major}
+use Rattle.cbor_head.specs.declared.major.Major.TheVariants as majors
+use Rattle.cbor_head.specs.declared.width.Width.{Width}
+use Rattle.cbor_head.specs.declared.width.Width.TheVariants.{Direct, One, Two, Four, Eight, Indefinite}
+use Rattle.cbor_head.specs.declared.reason.Refusal.{Refusal}
+use Rattle.cbor_head.proofs.OneFirst.{last, count_last}
+use Rattle.cbor_events.specs.Trace.{Mark, a_head, a_chunk, a_byte, a_break}
+use Rattle.cbor_events.specs.inner.Automaton.{Frame, State, at_item}
+use Rattle.cbor_events.specs.inner.Taking.{Follows, Opens, Ends, IsTaking}
+use Rattle.cbor_events.specs.Marks as marks
+use Rattle.cbor_events.specs.Marks.{mark_of}
+use Rattle.cbor_events.specs.ItemEvents.{ItemEventsView}
+use Rattle.cbor_events.specs.declared.event.Event.{Event}
+use Rattle.cbor_events.specs.declared.event.EventKind.{EventKind}
+use Rattle.cbor_events.specs.declared.event.EventKind.TheVariants as kinds
+use Rattle.cbor_events.proofs.Taking.{nothing-taken}
+use Rattle.cbor_judging.specs.Judged.{IsJudged}
+use Rattle.cbor_judging.specs.Reading.{Extends, IsFormRefusal, OfMark, IsBegun, ReadsItem, IsCause, HasCause, IsUndecided, StopsItem, IsNextHead, StopsHead}
+use Rattle.cbor_judging.proofs.Judged.{zero_item}
+use Rattle.cbor_judging.proofs.Leaves.{head_complains, array_head_complains, map_head_complains}
+use Rattle.cbor_judging.proofs.Heads.{open_or, zero_bytes, zero_length, cut_head}
+use Rattle.cbor_judging.proofs.Steps.{reached-as}
+
+-- ---- what was taken
+
+pub extends-none : (x : List ℕ) (from : Option (List ℕ)) → Extends x x from from
+extends-none x from = record { more = []; consumed = Consumes-nil from; are = sym (append-nil x) }
+
+pub extends-by : (bs : List ℕ) (from to : Option (List ℕ)) → Consumes from to bs → Extends [] bs from to
+extends-by bs from to c = record { more = bs; consumed = c; are = refl }
+
+pub extends-on : (x y bs z : List ℕ) (from mid to : Option (List ℕ)) → Extends x y from mid → Consumes mid to bs → z ≡ y ++ bs → Extends x z from to
+extends-on x y bs z from mid to e c is =
+    record { more = e.more ++ bs; consumed = Consumes-trans from mid to e.more bs e.consumed c; are = is ∙ ap (λ (u : List ℕ). u ++ bs) e.are ∙ append_assoc x e.more bs }
+
+-- what was read of a part
+pub extends-in : (x y e z : List ℕ) (from mid to : Option (List ℕ)) → Extends x (y ++ e) from mid → Extends e z mid to → Extends x (y ++ z) from to
+extends-in x y e z from mid to f g = extends-on x (y ++ e) g.more (y ++ z) from mid to f g.consumed (ap (λ (u : List ℕ). y ++ u) g.are ∙ sym (append_assoc y e g.more))
+
+-- ---- refusals
+
+cause-as : (b : Bounds) (all whole : List ℕ) (to : Option (List ℕ)) (at there : ℕ) (found : Option Complaint) (f : Refusal) → all ≡ whole → at ≡ there → IsCause b all to at found f → IsCause b whole to there found f
+cause-as b all whole to at there (Some c) f e g h = (h.0, subst (λ (xs : List ℕ). length xs ≤ b.bytes) e h.1)
+cause-as b all whole to at there None f e g h = (h.0 ∙ g, subst (λ (xs : List ℕ). IsFormRefusal b xs to f) e h.1)
+
+module _ (r : Rules) (b : Bounds) (fs gs : List Frame) (t y : List ℕ)
+    (lift : (p : List ℕ) (found : Option Complaint) → IsJudged r (length (t ++ y)) (b.depth - length gs) p found → IsJudged r (length t) (b.depth - length fs) (y ++ p) found)
+  where
+    -- why the part is refused is why the whole is
+    pub cause-in : (m : List ℕ) (to : Option (List ℕ)) (f : Refusal) → HasCause r b gs (t ++ y) m to f → HasCause r b fs t (y ++ m) to f
+    cause-in m to f h = record {
+      p = y ++ h.p;
+      last = h.last;
+      splits = ap (λ (u : List ℕ). y ++ u) h.splits ∙ sym (append_assoc y h.p h.last);
+      found = h.found;
+      judged = lift h.p h.found h.judged;
+      cause = cause-as b ((t ++ y) ++ m) (t ++ (y ++ m)) to (length ((t ++ y) ++ h.p)) (length (t ++ (y ++ h.p))) h.found f (append_assoc t y m) (ap length (append_assoc t y h.p)) h.cause;
+    }
+
+    -- what is undecided of the part is undecided of the whole
+    pub undecided-in : (m : List ℕ) → IsUndecided r b gs (t ++ y) m → IsUndecided r b fs t (y ++ m)
+    undecided-in m h = record {
+      p = y ++ h.p;
+      last = h.last;
+      splits = ap (λ (u : List ℕ). y ++ u) h.splits ∙ sym (append_assoc y h.p h.last);
+      byte = h.byte;
+      judged = lift h.p None h.judged;
+    }
+
+    pub stops-in : (x e : List ℕ) (from mid to : Option (List ℕ)) (f : Refusal) → Extends x (y ++ e) from mid → StopsItem r b gs (t ++ y) e mid to f → StopsItem r b fs t x from to f
+    stops-in x e from mid to f g s = record {
+      bytes = y ++ s.bytes;
+      taken = extends-in x y e s.bytes from mid to g s.taken;
+      read = s.read ∙ ap length (append_assoc t y s.bytes);
+      why = elim s.why [
+        | inl m ↦ inl (m.0, reached-as b ((t ++ y) ++ s.bytes) (t ++ (y ++ s.bytes)) (append_assoc t y s.bytes) m.1, undecided-in s.bytes m.2)
+        | inr c ↦ inr (cause-in s.bytes to f c)
+      ];
+    }
+
+-- ---- heads
+
+-- a definite head of an item
+pub record IsDefinite (d : ℕ) (fs : List Frame) (m : Major) (w : Width) (n : ℕ) (bs : List ℕ) (next : State) : Type 0 where
+  pub bytes_are : bs ≡ head m w n
+  pub holds : Holds w n
+  pub follows : Follows d fs m w n next
+
+pub definite : (d : ℕ) (fs : List Frame) (m : Major) (w : Width) (n : ℕ) (bs : List ℕ) (next : State) → w ≢ Indefinite → IsTaking d (at_item fs) (a_head m w n) bs next → IsDefinite d fs m w n bs next
+definite d fs m Indefinite n bs next f h = absurd (f refl)
+definite d fs m Direct n bs next f h = record { bytes_are = h.0; holds = h.1; follows = h.2 }
+definite d fs m One n bs next f h = record { bytes_are = h.0; holds = h.1; follows = h.2 }
+definite d fs m Two n bs next f h = record { bytes_are = h.0; holds = h.1; follows = h.2 }
+definite d fs m Four n bs next f h = record { bytes_are = h.0; holds = h.1; follows = h.2 }
+definite d fs m Eight n bs next f h = record { bytes_are = h.0; holds = h.1; follows = h.2 }
+
+pub is-definite : (w : Width) (n : ℕ) → Holds w n → w ≢ Indefinite
+is-definite w n h e = subst (λ (x : Width). Holds x n) e h
+
+pub proper-definite : (w : Width) → marks.IsDefinite w → w ≢ Indefinite
+proper-definite w h e = subst marks.IsDefinite e h
+
+-- what has no indefinite form
+abbrev pub IsPlainMajor : Major → Type 0
+IsPlainMajor majors.Unsigned = Unit {0}
+IsPlainMajor majors.Negative = Unit {0}
+IsPlainMajor majors.Tag = Unit {0}
+IsPlainMajor majors.Simple = Unit {0}
+IsPlainMajor _ = ⊥
+
+pub never-open : (d : ℕ) (fs : List Frame) (m : Major) (w : Width) (n : ℕ) (bs : List ℕ) (next : State) → IsPlainMajor m → IsTaking d (at_item fs) (a_head m w n) bs next → w ≢ Indefinite
+never-open d fs m w n bs next i h e = no m i (subst (λ (x : Width). IsTaking d (at_item fs) (a_head m x n) bs next) e h)
+  where
+    no : (m : Major) → IsPlainMajor m → IsTaking d (at_item fs) (a_head m Indefinite n) bs next → ⊥
+    no majors.Unsigned i h = h.2
+    no majors.Negative i h = h.2
+    no majors.Tag i h = h.2
+    no majors.Simple i h = h.2
+    no majors.Bytes i h = i
+    no majors.Text i h = i
+    no majors.Array i h = i
+    no majors.Map i h = i
+
+pub head-count : (r : Rules) (at : ℕ) (m : Major) (w : Width) (n : ℕ) (c : Complaint) → w ≢ Indefinite → OfHead r at m w n c → OfCount r at m w n c
+head-count r at m Indefinite n c f h = absurd (f refl)
+head-count r at m Direct n c f h = h
+head-count r at m One n c f h = h
+head-count r at m Two n c f h = h
+head-count r at m Four n c f h = h
+head-count r at m Eight n c f h = h
+
+-- a definite head with a complaint
+definite-judged : (r : Rules) (at d : ℕ) (fs : List Frame) (m : Major) (w : Width) (n : ℕ) (bs : List ℕ) (next : State) (c : Complaint) → IsDefinite d fs m w n bs next → OfHead r at m w n c
+    → IsJudged r at (d - length fs) (head m w n) (Some c)
+definite-judged r at d fs m w n bs next c i o = go m i.follows o (count_last r at m w n c (head-count r at m w n c (is-definite w n i.holds) o))
+  where
+    z : 0 < 24
+    z = omega arith
+
+    go : (m : Major) → Follows d fs m w n next → OfHead r at m w n c → last c ≡ at + length (head m w n) → IsJudged r at (d - length fs) (head m w n) (Some c)
+    go majors.Unsigned f o e = head_complains (unsigned w n) r at (d - length fs) c i.holds (omega arith) o e
+    go majors.Negative f o e = head_complains (negative w n) r at (d - length fs) c i.holds (omega arith) o e
+    go majors.Bytes f o e =
+        subst (λ (k : ℕ). IsJudged r at (d - length fs) (head majors.Bytes w k) (Some c)) (zero_length n)
+        (head_complains (bytes w (replicate n 0)) r at (d - length fs) c (subst (Holds w) (sym (zero_length n)) i.holds, zero_bytes n) (omega arith)
+        (subst (λ (k : ℕ). OfHead r at majors.Bytes w k c) (sym (zero_length n)) o) (subst (λ (k : ℕ). last c ≡ at + length (head majors.Bytes w k)) (sym (zero_length n)) e))
+    go majors.Text f o e =
+        subst (λ (k : ℕ). IsJudged r at (d - length fs) (head majors.Text w k) (Some c)) (zero_length n)
+        (head_complains (text w (replicate n 0)) r at (d - length fs) c (subst (Holds w) (sym (zero_length n)) i.holds, zero_bytes n) (omega arith)
+        (inl (subst (λ (k : ℕ). OfHead r at majors.Text w k c) (sym (zero_length n)) o)) (subst (λ (k : ℕ). last c ≡ at + length (head majors.Text w k)) (sym (zero_length n)) e))
+    go majors.Array f o e = array_head_complains w n r at (d - length fs) c (open_or w n i.holds) (omega (arith, f.0)) (head-count r at majors.Array w n c (is-definite w n i.holds) o)
+    go majors.Map f o e = map_head_complains w n r at (d - length fs) c (open_or w n i.holds) (omega (arith, f.0)) (head-count r at majors.Map w n c (is-definite w n i.holds) o)
+    go majors.Tag f o e = head_complains (tag w n zero_item) r at (d - length fs) c (i.holds, z) (omega (arith, f.0)) (inl o) e
+    go majors.Simple f o e = absurd (never-long r o f.1)
+      where
+        never-long : (r : Rules) → OfHead r at majors.Simple w n c → w ≡ shortest n → ⊥
+        never-long (strict order) o e = o.0 e
+        never-long _ o e = o
+
+opener-judged : (r : Rules) (at d : ℕ) (fs : List Frame) (m : Major) (next : State) (c : Complaint) → Opens d fs m next → OfIndefinite r at c → IsJudged r at (d - length fs) (head m Indefinite 0) (Some c)
+opener-judged r at d fs majors.Bytes next c f o = head_complains (byte_chunks []) r at (d - length fs) c tt (omega arith) (inl o) (count_last r at majors.Bytes Indefinite 0 c o)
+opener-judged r at d fs majors.Text next c f o = head_complains (text_chunks []) r at (d - length fs) c tt (omega arith) (inl o) (count_last r at majors.Text Indefinite 0 c o)
+opener-judged r at d fs majors.Array next c f o = array_head_complains Indefinite 0 r at (d - length fs) c tt (omega (arith, f.0)) o
+opener-judged r at d fs majors.Map next c f o = map_head_complains Indefinite 0 r at (d - length fs) c tt (omega (arith, f.0)) o
+opener-judged r at d fs _ next c f o = absurd f
+
+pub head-judged : (r : Rules) (at d : ℕ) (fs : List Frame) (mark : Mark) (bs : List ℕ) (next : State) (c : Complaint) → IsTaking d (at_item fs) mark bs next → OfMark r at (at_item fs) mark c → IsJudged r at (d - length fs) bs (Some c)
+head-judged r at d fs (a_head m Indefinite n) bs next c h o = subst (λ (xs : List ℕ). IsJudged r at (d - length fs) xs (Some c)) (sym h.1) (opener-judged r at d fs m next c h.2 o)
+head-judged r at d fs (a_head m Direct n) bs next c h o = subst (λ (xs : List ℕ). IsJudged r at (d - length fs) xs (Some c)) (sym h.0) (definite-judged r at d fs m Direct n bs next c (definite d fs m Direct n bs next (is-definite Direct n h.1) h) o)
+head-judged r at d fs (a_head m One n) bs next c h o = subst (λ (xs : List ℕ). IsJudged r at (d - length fs) xs (Some c)) (sym h.0) (definite-judged r at d fs m One n bs next c (definite d fs m One n bs next (is-definite One n h.1) h) o)
+head-judged r at d fs (a_head m Two n) bs next c h o = subst (λ (xs : List ℕ). IsJudged r at (d - length fs) xs (Some c)) (sym h.0) (definite-judged r at d fs m Two n bs next c (definite d fs m Two n bs next (is-definite Two n h.1) h) o)
+head-judged r at d fs (a_head m Four n) bs next c h o = subst (λ (xs : List ℕ). IsJudged r at (d - length fs) xs (Some c)) (sym h.0) (definite-judged r at d fs m Four n bs next c (definite d fs m Four n bs next (is-definite Four n h.1) h) o)
+head-judged r at d fs (a_head m Eight n) bs next c h o = subst (λ (xs : List ℕ). IsJudged r at (d - length fs) xs (Some c)) (sym h.0) (definite-judged r at d fs m Eight n bs next c (definite d fs m Eight n bs next (is-definite Eight n h.1) h) o)
+head-judged r at d fs (a_chunk w n) bs next c h o = absurd h
+head-judged r at d fs a_byte bs next c h o = absurd h
+head-judged r at d fs a_break bs next c h o = absurd o
+
+-- no head comes where an item is due
+pub stops-at-item : (r : Rules) (b : Bounds) (fs : List Frame) (t : List ℕ) (from to : Option (List ℕ)) (f : Refusal) → StopsHead r b (at_item fs) t from to f → StopsItem r b fs t [] from to f
+stops-at-item r b fs t from to f s = record {
+  bytes = s.bytes;
+  taken = extends-by s.bytes from to s.consumed;
+  read = s.read;
+  why = elim s.why [
+    | inl c ↦ inr (record {
+      p = c.p;
+      last = c.last;
+      splits = c.splits;
+      found = None;
+      judged = cut_head r (length t) b.depth fs c.begun c.p (nothing-taken b.depth (at_item fs) c.begun c.p tt c.are_bytes c.ran);
+      cause = (c.place, c.refused);
+    })
+    | inr c ↦ inr (record {
+      p = s.bytes;
+      last = [];
+      splits = sym (append-nil s.bytes);
+      found = Some c.complaint;
+      judged = head-judged r (length t) b.depth fs c.mark s.bytes c.next c.complaint c.taking c.of;
+      cause = (c.is, c.within);
+    })
+  ];
+}
+
+-- ---- the item that is due
+
+head-some : (m : Major) (w : Width) (n : ℕ) → 0 < length (head m w n)
+head-some m Direct n = omega arith
+head-some m One n = omega arith
+head-some m Two n = omega arith
+head-some m Four n = omega arith
+head-some m Eight n = omega arith
+head-some m Indefinite n = omega arith
+
+pub taking-some : (d : ℕ) (fs : List Frame) (mark : Mark) (bs : List ℕ) (next : State) → IsTaking d (at_item fs) mark bs next → 0 < length bs
+taking-some d fs (a_head m Indefinite n) bs next h = omega (arith, ap length h.1, head-some m Indefinite 0)
+taking-some d fs (a_head m Direct n) bs next h = omega (arith, ap length h.0, head-some m Direct n)
+taking-some d fs (a_head m One n) bs next h = omega (arith, ap length h.0, head-some m One n)
+taking-some d fs (a_head m Two n) bs next h = omega (arith, ap length h.0, head-some m Two n)
+taking-some d fs (a_head m Four n) bs next h = omega (arith, ap length h.0, head-some m Four n)
+taking-some d fs (a_head m Eight n) bs next h = omega (arith, ap length h.0, head-some m Eight n)
+taking-some d fs a_break bs next h = omega (arith, ap length h.0)
+taking-some d fs (a_chunk w n) bs next h = absurd h
+taking-some d fs a_byte bs next h = absurd h
+
+pub begun-by : (r : Rules) (b : Bounds) (fs : List Frame) (t : List ℕ) (ev : Event) (from to : Option (List ℕ)) (new : ItemEventsView) → (n : IsNextHead r b (at_item fs) t ev from to new) → ev.kind ≢ kinds.End → IsBegun r b fs t n.bytes new ev.width ev.kind
+begun-by r b fs t ev from to new n item = record { item = item; next = n.next; taking = n.taking; clean = n.clean; proper = n.proper; at = n.at }
+
+pub reads-next : (r : Rules) (b : Bounds) (fs : List Frame) (t : List ℕ) (bs : List ℕ) (from mid to : Option (List ℕ)) (new : ItemEventsView) (v : Value) → Consumes from mid bs → ReadsItem r b fs t bs mid to new v → ReadsItem r b fs t [] from to new v
+reads-next r b fs t bs from mid to new v c i = record {
+  item = i.item;
+  spelled = i.spelled;
+  within = i.within;
+  clean = i.clean;
+  taken = extends-in [] [] bs (spell i.item) from mid to (extends-by bs from mid c) i.taken;
+  value = i.value;
+  at = i.at;
+}
+
+pub stops-next : (r : Rules) (b : Bounds) (fs : List Frame) (t : List ℕ) (bs : List ℕ) (from mid to : Option (List ℕ)) (f : Refusal) → Consumes from mid bs → StopsItem r b fs t bs mid to f → StopsItem r b fs t [] from to f
+stops-next r b fs t bs from mid to f c s = record { bytes = s.bytes; taken = extends-in [] [] bs s.bytes from mid to (extends-by bs from mid c) s.taken; read = s.read; why = s.why }
+
+-- no break comes where none may
+pub no-end : (r : Rules) (b : Bounds) (fs : List Frame) (t : List ℕ) (ev : Event) (from to : Option (List ℕ)) (new : ItemEventsView) → IsNextHead r b (at_item fs) t ev from to new → ((next : State) → Ends fs next → ⊥) → ev.kind ≢ kinds.End
+no-end r b fs t ev from to new n none e = none n.next (subst (λ (k : EventKind). IsTaking b.depth (at_item fs) (mark_of ev.width k) n.bytes n.next) e n.taking).1

@@ -1,0 +1,165 @@
+-- What is found in a part is found in the whole.
+use Rattle.std.proofs.Common.{ℕ, zero, suc, ◌+◌, ◌≡◌, ◌<◌, ◌≤◌, ◌⊎◌, Option, Some, None, List, [], ◌++◌, length, refl, sym, ap, ◌∙◌, arith, inl, inr}
+use Rattle.std.proofs.lemmas.List.{length-append, append_assoc}
+use Rattle.std.proofs.lemmas.Bool.{cases_lt}
+use Rattle.cbor_head.specs.Spelling.{Spelling, Spellings, SpelledEntries, unsigned, no_spellings, a_spelling, no_entries, entry, spell, spellings_count, entries_count, IsSpelled, AreSpelled, AreEntriesSpelled, depth, depth_all, depth_entries, IsItem}
+use Rattle.cbor_head.specs.Complaint.{Rules, Complaint, Complains}
+use Rattle.cbor_head.specs.Verdict.{rank}
+use Rattle.cbor_judging.specs.Frame.{Frame, a_member, a_key, a_content, tagged, keys_onto, plug, before, behind, IsFrame, depth_beside, OfFront, OfKeyAt}
+use Rattle.cbor_judging.specs.Judged.{IsFinding, IsJudged}
+use Rattle.cbor_head.specs.declared.width.Width.TheVariants.{Direct}
+use Rattle.cbor_head.proofs.Agree.{head_of, body, parts, later}
+use Rattle.cbor_head.proofs.OneFirst.{bounded, key_last}
+use Rattle.cbor_judging.proofs.Frames.{spell_plug, spelled_plug, depth_plug, plug_split, plug_item, back_later, key_at_end}
+
+-- nothing of these
+abbrev pub Never : (Complaint → Type 0) → Type 0
+Never P = (c : Complaint) → P c → ⊥
+
+-- ---- one container
+
+pub bytes_in : (f : Frame) (s : Spelling) (p rest : List ℕ) → spell s ≡ p ++ rest → spell (plug f s) ≡ (before f ++ p) ++ (rest ++ behind f)
+bytes_in f s p rest e =
+    spell_plug f s ∙ ap (λ (x : List ℕ). before f ++ (x ++ behind f)) e ∙ ap (λ (x : List ℕ). before f ++ x) (append_assoc p rest (behind f)) ∙ sym (append_assoc (before f) p (rest ++ behind f))
+
+-- a complaint in a key comes before one on it
+ahead : (a e m n : ℕ) → a + m ≤ e → (a < e) ⊎ ((a ≡ e) × (m ≤ n))
+ahead a e m n h = elim (cases_lt a e) [ inl l ↦ inl l | inr l ↦ inr (omega (arith, h, l), omega (arith, h, l)) ]
+
+module _ (f : Frame) (r : Rules) (at d : ℕ) (fits : IsFrame f) (flat : depth_beside f ≤ d) (clean : Never (OfFront r at f)) where
+  finding_in : (s : Spelling) (p rest : List ℕ) (found : Option Complaint) → spell s ≡ p ++ rest
+      → IsFinding (Complains r (at + length (before f)) s) (at + length (before f) + length p) (at + length (before f) + length (spell s)) found
+      → IsFinding (Complains r at (plug f s)) (at + length (before f ++ p)) (at + length (spell (plug f s))) found
+  finding_in s p rest (Some c) e h =
+      let to = at + length (before f) in
+      let more = length-append (before f) p in
+      let size : length (spell s) ≡ length p + length rest = ap length e ∙ length-append p rest in
+      let ends : c.end ≤ to + length p = h.ends in
+      let least : c.end + rank c.reason ≤ to + length (spell s) = bounded s r to c h.holds in
+      record {
+        holds = plug_item f s r at to c refl (inl h.holds);
+        ends = omega (arith, ends, more);
+        first = λ x g l. elim (plug_split f s r at to x refl g) [
+          | inl y ↦ absurd (clean x y)
+          | inr (inl y) ↦ h.first x y (omega (arith, l, more))
+          | inr (inr (inl y)) ↦ ahead c.end x.end (rank c.reason) (rank x.reason) (omega (arith, least, key_at_end f s r to x y))
+          | inr (inr (inr y)) ↦ absurd (omega (arith, back_later f s r (to + length (spell s)) x y, l, more, size))
+        ];
+      }
+  finding_in s p rest None e h =
+      let to = at + length (before f) in
+      let more = length-append (before f) p in
+      let size : length (spell s) ≡ length p + length rest = ap length e ∙ length-append p rest in
+      let whole = ap length (spell_plug f s) ∙ length-append (before f) (spell s ++ behind f) in
+      let short : to + length p < to + length (spell s) = h.0 in (
+        omega (arith, short, more, whole, length-append (spell s) (behind f)),
+        λ x g. elim (plug_split f s r at to x refl g) [
+          | inl y ↦ absurd (clean x y)
+          | inr (inl y) ↦ omega (arith, h.1 x y, more)
+          | inr (inr (inl y)) ↦ omega (arith, key_at_end f s r to x y, short, more)
+          | inr (inr (inr y)) ↦ omega (arith, back_later f s r (to + length (spell s)) x y, short, more)
+        ],
+      )
+
+  -- what is found in the item is found in the container
+  pub judged_in : (p : List ℕ) (found : Option Complaint) → IsJudged r (at + length (before f)) d p found → IsJudged r at (suc d) (before f ++ p) found
+  judged_in p found j =
+      let deep = depth_plug f j.item in
+      let small = j.is.within in
+      record {
+        item = plug f j.item;
+        rest = j.rest ++ behind f;
+        is = record { spelled = spelled_plug f j.item fits j.is.spelled; within = omega (arith, deep, small, flat); bytes_are = bytes_in f j.item p j.rest j.is.bytes_are };
+        finding = finding_in j.item p j.rest found j.is.bytes_are j.finding;
+      }
+
+  -- a complaint on a key that has none within
+  pub judged_key : (k : Spelling) (c : Complaint) → IsSpelled k → depth k ≤ d → Never (Complains r (at + length (before f)) k) → OfKeyAt r (at + length (before f)) f k c
+      → IsJudged r at (suc d) (before f ++ spell k) (Some c)
+  judged_key k c h small none o =
+      let to = at + length (before f) in
+      let deep = depth_plug f k in
+      let more = length-append (before f) (spell k) in
+      let end = key_at_end f k r to c o in
+      record {
+        item = plug f k;
+        rest = behind f;
+        is = record { spelled = spelled_plug f k fits h; within = omega (arith, deep, small, flat); bytes_are = spell_plug f k ∙ sym (append_assoc (before f) (spell k) (behind f)) };
+        finding = record {
+          holds = plug_item f k r at to c refl (inr o);
+          ends = omega (arith, end, more);
+          first = λ x g l. elim (plug_split f k r at to x refl g) [
+            | inl y ↦ absurd (clean x y)
+            | inr (inl y) ↦ absurd (none x y)
+            | inr (inr (inl y)) ↦ inr (omega (arith, end, key_at_end f k r to x y), key_ranks f to k c x o y)
+            | inr (inr (inr y)) ↦ absurd (omega (arith, back_later f k r (to + length (spell k)) x y, l, more))
+          ];
+        };
+      }
+    where
+      key_ranks : (f : Frame) (to : ℕ) (k : Spelling) (c x : Complaint) → OfKeyAt r to f k c → OfKeyAt r to f k x → rank c.reason ≤ rank x.reason
+      key_ranks (a_key w a v b) to k c x o y =
+          let m = key_last r to (keys_onto [] a) k c o in
+          let n = key_last r to (keys_onto [] a) k x y in
+          let e = key_at_end (a_key w a v b) k r to c o in
+          let g = key_at_end (a_key w a v b) k r to x y in
+          omega (arith, m, n, e, g)
+      key_ranks (a_member w a b) to k c x o y = absurd o
+      key_ranks (a_content w a l b) to k c x o y = absurd o
+      key_ranks (tagged w n) to k c x o y = absurd o
+
+-- ---- members that may still come
+
+abbrev pub zero_item : Spelling
+zero_item = unsigned Direct 0
+
+abbrev pub zeros : ℕ → Spellings
+zeros zero = no_spellings
+zeros (suc n) = a_spelling zero_item (zeros n)
+
+abbrev pub zero_pairs : ℕ → SpelledEntries
+zero_pairs zero = no_entries
+zero_pairs (suc n) = entry zero_item zero_item (zero_pairs n)
+
+pub zeros_count : (n : ℕ) → spellings_count (zeros n) ≡ n
+zeros_count zero = refl
+zeros_count (suc n) = ap suc (zeros_count n)
+
+pub zeros_spelled : (n : ℕ) → AreSpelled (zeros n)
+zeros_spelled zero = tt
+zeros_spelled (suc n) = let h : 0 < 24 = omega arith in (h, zeros_spelled n)
+
+pub zeros_flat : (n : ℕ) → depth_all (zeros n) ≡ 0
+zeros_flat zero = refl
+zeros_flat (suc n) = omega (arith, zeros_flat n)
+
+pub pairs_count : (n : ℕ) → entries_count (zero_pairs n) ≡ n
+pairs_count zero = refl
+pairs_count (suc n) = ap suc (pairs_count n)
+
+pub pairs_spelled : (n : ℕ) → AreEntriesSpelled (zero_pairs n)
+pairs_spelled zero = tt
+pairs_spelled (suc n) = let h : 0 < 24 = omega arith in (h, h, pairs_spelled n)
+
+pub pairs_flat : (n : ℕ) → depth_entries (zero_pairs n) ≡ 0
+pairs_flat zero = refl
+pairs_flat (suc n) = omega (arith, pairs_flat n)
+
+-- ---- nothing yet
+
+pub judged_start : (r : Rules) (at d : ℕ) → IsJudged r at d [] None
+judged_start r at d =
+    let h : 0 < 24 = omega arith in
+    record {
+      item = zero_item;
+      rest = spell zero_item;
+      is = record { spelled = h; within = omega arith; bytes_are = refl };
+      finding = (omega arith, λ e g. omega (arith, later zero_item r at e g));
+    }
+
+-- within the head
+pub judged_head : (r : Rules) (at d : ℕ) (p : List ℕ) (s : Spelling) (rest : List ℕ) → IsItem d s (p ++ rest) → length p < length (head_of s) → IsJudged r at d p None
+judged_head r at d p s rest i l = record { item = s; rest = rest; is = i; finding = (omega (arith, l, longer s), λ e g. omega (arith, later s r at e g, l)) }
+  where
+    longer : (s : Spelling) → length (head_of s) ≤ length (spell s)
+    longer s = omega (arith, ap length (parts s) ∙ length-append (head_of s) (body s))

@@ -1,0 +1,181 @@
+-- Heads, payloads and chunks: the first complaint of an item, or none so far.
+use Rattle.std.proofs.Common.{ℕ, ◌+◌, ◌≡◌, ◌<◌, ◌≤◌, ◌⊎◌, Option, Some, None, List, [], ◌∷◌, ◌++◌, length, flat_map, refl, sym, ap, ◌∙◌, arith, subst, inl, inr}
+use Rattle.std.specs.List.{AllByRecursion}
+use Rattle.std.proofs.lemmas.List.{length-append, append_assoc, append-nil}
+use Rattle.std.proofs.lemmas.Grind.{flat_map-append}
+use Rattle.cbor_head.specs.Head.{head}
+use Rattle.cbor_head.specs.Spelling.{Chunk, IsChunk, Spelling, bytes, text, byte_chunks, text_chunks, array, a_map, spell, chunk_bytes, chunked, IsSpelled, HoldsOrIndefinite, spellings_count, entries_count, depth}
+use Rattle.cbor_head.specs.Complaint.{Rules, Complaint, OfHead, OfIndefinite, OfCount, OfPayload, OfString, OfChunks, Complains}
+use Rattle.cbor_judging.specs.Judged.{IsFinding, IsJudged}
+use Rattle.cbor_head.specs.declared.major.Major.{Major}
+use Rattle.cbor_head.specs.declared.major.Major.TheVariants.{Bytes, Text, Array, Map}
+use Rattle.cbor_head.specs.declared.width.Width.{Width}
+use Rattle.cbor_head.specs.declared.width.Width.TheVariants.{Indefinite}
+use Rattle.cbor_head.proofs.Agree.{head_of, body, parts, later, payload_end}
+use Rattle.cbor_head.proofs.OneFirst.{last, count_last, payload_last}
+use Rattle.cbor_judging.proofs.Judged.{Never, zeros, zeros_count, zeros_spelled, zeros_flat, zero_pairs, pairs_count, pairs_spelled, pairs_flat}
+
+-- ---- heads
+
+-- an item's complaint on its head comes first
+pub head_complains : (s : Spelling) (r : Rules) (at d : ℕ) (c : Complaint) → IsSpelled s → depth s ≤ d → Complains r at s c → last c ≡ at + length (head_of s) → IsJudged r at d (head_of s) (Some c)
+head_complains s r at d c h l o e =
+    let from : at + length (head_of s) ≤ c.end = later s r at c o in
+    record {
+      item = s;
+      rest = body s;
+      is = record { spelled = h; within = l; bytes_are = parts s };
+      finding = record { holds = o; ends = omega (arith, e); first = λ x g m. inr (omega (arith, e, from, m, later s r at x g), omega (arith, e, from)) };
+    }
+
+pub array_head_complains : (w : Width) (n : ℕ) (r : Rules) (at d : ℕ) (c : Complaint) → HoldsOrIndefinite w n → 1 ≤ d → OfCount r at Array w n c → IsJudged r at d (head Array w n) (Some c)
+array_head_complains w n r at d c h l o =
+    let i : HoldsOrIndefinite w (spellings_count (zeros n)) = subst (HoldsOrIndefinite w) (sym (zeros_count n)) h in
+    let p : OfCount r at Array w (spellings_count (zeros n)) c = subst (λ (m : ℕ). OfCount r at Array w m c) (sym (zeros_count n)) o in
+    subst (λ (m : ℕ). IsJudged r at d (head Array w m) (Some c)) (zeros_count n)
+    (head_complains (array w (zeros n)) r at d c (i, zeros_spelled n) (omega (arith, zeros_flat n, l)) (inl p) (count_last r at Array w (spellings_count (zeros n)) c p))
+
+pub map_head_complains : (w : Width) (n : ℕ) (r : Rules) (at d : ℕ) (c : Complaint) → HoldsOrIndefinite w n → 1 ≤ d → OfCount r at Map w n c → IsJudged r at d (head Map w n) (Some c)
+map_head_complains w n r at d c h l o =
+    let i : HoldsOrIndefinite w (entries_count (zero_pairs n)) = subst (HoldsOrIndefinite w) (sym (pairs_count n)) h in
+    let p : OfCount r at Map w (entries_count (zero_pairs n)) c = subst (λ (m : ℕ). OfCount r at Map w m c) (sym (pairs_count n)) o in
+    subst (λ (m : ℕ). IsJudged r at d (head Map w m) (Some c)) (pairs_count n)
+    (head_complains (a_map w (zero_pairs n)) r at d c (i, pairs_spelled n) (omega (arith, pairs_flat n, l)) (inl p) (count_last r at Map w (entries_count (zero_pairs n)) c p))
+
+-- ---- definite strings
+
+-- a payload that goes on
+pub bytes_so_far : (w : Width) (q more : List ℕ) (r : Rules) (at d : ℕ) → IsSpelled (bytes w (q ++ more)) → 0 < length more → Never (OfHead r at Bytes w (length (q ++ more)))
+    → IsJudged r at d (head Bytes w (length (q ++ more)) ++ q) None
+bytes_so_far w q more r at d h some clean =
+    let hd = head Bytes w (length (q ++ more)) in
+    record {
+      item = bytes w (q ++ more);
+      rest = more;
+      is = record { spelled = h; within = omega arith; bytes_are = sym (append_assoc hd q more) };
+      finding = (omega (arith, some, length-append hd (q ++ more), length-append q more, length-append hd q), λ e g. absurd (clean e g));
+    }
+
+pub text_so_far : (w : Width) (q more : List ℕ) (r : Rules) (at d : ℕ) → IsSpelled (text w (q ++ more)) → 0 < length more → Never (OfHead r at Text w (length (q ++ more)))
+    → IsJudged r at d (head Text w (length (q ++ more)) ++ q) None
+text_so_far w q more r at d h some clean =
+    let hd = head Text w (length (q ++ more)) in
+    record {
+      item = text w (q ++ more);
+      rest = more;
+      is = record { spelled = h; within = omega arith; bytes_are = sym (append_assoc hd q more) };
+      finding = (
+        omega (arith, some, length-append hd (q ++ more), length-append q more, length-append hd q),
+        λ e g. elim g [ inl x ↦ absurd (clean e x) | inr x ↦ omega (arith, some, payload_end r (at + length hd) (q ++ more) e x, length-append q more, length-append hd q) ],
+      );
+    }
+
+-- a whole payload that is no text
+pub text_complains : (w : Width) (q : List ℕ) (r : Rules) (at d : ℕ) (c : Complaint) → IsSpelled (text w q) → Never (OfHead r at Text w (length q)) → OfPayload r (at + length (head Text w (length q))) q c
+    → IsJudged r at d (head Text w (length q) ++ q) (Some c)
+text_complains w q r at d c h clean o =
+    let hd = head Text w (length q) in
+    let end = payload_end r (at + length hd) q c o in
+    let tight = payload_last r (at + length hd) q c o in
+    record {
+      item = text w q;
+      rest = [];
+      is = record { spelled = h; within = omega arith; bytes_are = sym (append-nil (hd ++ q)) };
+      finding = record {
+        holds = inr o;
+        ends = omega (arith, end, length-append hd q);
+        first = λ e g l. elim g [ inl x ↦ absurd (clean e x) | inr x ↦ inr (omega (arith, end, payload_end r (at + length hd) q e x), omega (arith, end, tight)) ];
+      };
+    }
+
+-- ---- chunks
+
+pub chunks_split : (ks ls : List Chunk) (r : Rules) (at to : ℕ) (m : Major) (c : Complaint) → to ≡ at + length (flat_map (chunk_bytes m) ks) → OfChunks r at m (ks ++ ls) c → OfChunks r at m ks c ⊎ OfChunks r to m ls c
+chunks_split [] ls r at to m c e h = let f : at ≡ to = omega arith in inr (subst (λ (n : ℕ). OfChunks r n m ls c) f h)
+chunks_split (k ∷ ks) ls r at to m c e (inl h) = inl (inl h)
+chunks_split (k ∷ ks) ls r at to m c e (inr h) =
+    elim (chunks_split ks ls r (at + length (chunk_bytes m k)) to m c (omega (arith, e, length-append (chunk_bytes m k) (flat_map (chunk_bytes m) ks))) h) [ inl x ↦ inl (inr x) | inr y ↦ inr y ]
+
+chunks_right : (ks ls : List Chunk) (r : Rules) (at to : ℕ) (m : Major) (c : Complaint) → to ≡ at + length (flat_map (chunk_bytes m) ks) → OfChunks r to m ls c → OfChunks r at m (ks ++ ls) c
+chunks_right [] ls r at to m c e h = let f : to ≡ at = omega arith in subst (λ (n : ℕ). OfChunks r n m ls c) f h
+chunks_right (k ∷ ks) ls r at to m c e h = inr (chunks_right ks ls r (at + length (chunk_bytes m k)) to m c (omega (arith, e, length-append (chunk_bytes m k) (flat_map (chunk_bytes m) ks))) h)
+
+pub are_chunks : (ks ls : List Chunk) → AllByRecursion IsChunk ks → AllByRecursion IsChunk ls → AllByRecursion IsChunk (ks ++ ls)
+are_chunks [] ls h i = i
+are_chunks (k ∷ ks) ls h i = (h.0, are_chunks ks ls h.1 i)
+
+abbrev pub chunks_bytes : Major → List Chunk → List ℕ
+chunks_bytes m done = head m Indefinite 0 ++ flat_map (chunk_bytes m) done
+
+-- the two kinds of chunked string
+pub record IsChunked (m : Major) (made : List Chunk → Spelling) : Type 0 where
+  pub bytes_are : (cs : List Chunk) → spell (made cs) ≡ chunked m cs
+  pub spelled : (cs : List Chunk) → AllByRecursion IsChunk cs → IsSpelled (made cs)
+  pub flat : (cs : List Chunk) → depth (made cs) ≡ 0
+  pub has : (r : Rules) (at : ℕ) (cs : List Chunk) (c : Complaint) → Complains r at (made cs) c → OfIndefinite r at c ⊎ OfChunks r (at + 1) m cs c
+  pub back : (r : Rules) (at : ℕ) (cs : List Chunk) (c : Complaint) → OfIndefinite r at c ⊎ OfChunks r (at + 1) m cs c → Complains r at (made cs) c
+  pub opener : length (head m Indefinite 0) ≡ 1
+
+pub bytes_chunked : IsChunked Bytes byte_chunks
+bytes_chunked = record { bytes_are = λ cs. refl; spelled = λ cs h. h; flat = λ cs. refl; has = λ r at cs c h. h; back = λ r at cs c h. h; opener = refl }
+
+pub text_chunked : IsChunked Text text_chunks
+text_chunked = record { bytes_are = λ cs. refl; spelled = λ cs h. h; flat = λ cs. refl; has = λ r at cs c h. h; back = λ r at cs c h. h; opener = refl }
+
+chunk_regroup : (h a p rest z : List ℕ) → (h ++ (a ++ ((p ++ rest) ++ []))) ++ z ≡ ((h ++ a) ++ p) ++ (rest ++ z)
+chunk_regroup h a p rest z =
+    ap (λ (x : List ℕ). (h ++ (a ++ x)) ++ z) (append-nil (p ++ rest)) ∙ ap (λ (x : List ℕ). x ++ z) (sym (append_assoc h a (p ++ rest)) ∙ sym (append_assoc (h ++ a) p rest)) ∙ append_assoc ((h ++ a) ++ p) rest z
+
+-- what the next chunk has, whole or cut behind p, is the string's
+pub chunk_judged : (m : Major) (made : List Chunk → Spelling) → IsChunked m made → (done : List Chunk) (r : Rules) (at d : ℕ) → AllByRecursion IsChunk done → Never (OfIndefinite r at) → Never (OfChunks r (at + 1) m done)
+    → (k : Chunk) (p rest : List ℕ) → IsChunk k → chunk_bytes m k ≡ p ++ rest → (found : Option Complaint)
+    → IsFinding (OfString r (at + length (chunks_bytes m done)) m k.width k.payload) (at + length (chunks_bytes m done) + length p) (at + length (chunks_bytes m done) + length (chunk_bytes m k)) found
+    → IsJudged r at d (chunks_bytes m done ++ p) found
+chunk_judged m made kind done r at d are clean_opener clean k p rest is e found h =
+    let to = at + length (chunks_bytes m done) in
+    let there : to ≡ at + 1 + length (flat_map (chunk_bytes m) done) = omega (arith, length-append (head m Indefinite 0) (flat_map (chunk_bytes m) done), kind.opener) in
+    let whole : spell (made (done ++ k ∷ [])) ≡ (chunks_bytes m done ++ p) ++ (rest ++ 0xff ∷ []) =
+    kind.bytes_are (done ++ k ∷ []) ∙ ap (λ (x : List ℕ). (head m Indefinite 0 ++ x) ++ (0xff ∷ [])) (flat_map-append (chunk_bytes m) done (k ∷ []))
+    ∙ ap (λ (x : List ℕ). (head m Indefinite 0 ++ (flat_map (chunk_bytes m) done ++ (x ++ []))) ++ (0xff ∷ [])) e
+    ∙ chunk_regroup (head m Indefinite 0) (flat_map (chunk_bytes m) done) p rest (0xff ∷ []) in
+    record {
+      item = made (done ++ k ∷ []);
+      rest = rest ++ 0xff ∷ [];
+      is = record { spelled = kind.spelled (done ++ k ∷ []) (are_chunks done (k ∷ []) are (is, tt)); within = omega (arith, kind.flat (done ++ k ∷ [])); bytes_are = whole };
+      finding = go found there (ap length whole ∙ length-append (chunks_bytes m done ++ p) (rest ++ 0xff ∷ []) ∙ ap (λ (n : ℕ). length (chunks_bytes m done ++ p) + n) (length-append rest (0xff ∷ []))) h;
+    }
+  where
+    split : (c : Complaint) → at + length (chunks_bytes m done) ≡ at + 1 + length (flat_map (chunk_bytes m) done) → Complains r at (made (done ++ k ∷ [])) c → OfString r (at + length (chunks_bytes m done)) m k.width k.payload c
+    split c there g = elim (kind.has r at (done ++ k ∷ []) c g) [
+      | inl x ↦ absurd (clean_opener c x)
+      | inr x ↦ elim (chunks_split done (k ∷ []) r (at + 1) (at + length (chunks_bytes m done)) m c there x) [
+        | inl y ↦ absurd (clean c y)
+        | inr y ↦ elim y [ inl z ↦ z | inr z ↦ absurd z ]
+      ]
+    ]
+
+    go : (found : Option Complaint) → at + length (chunks_bytes m done) ≡ at + 1 + length (flat_map (chunk_bytes m) done)
+        → length (spell (made (done ++ k ∷ []))) ≡ length (chunks_bytes m done ++ p) + (length rest + 1)
+        → IsFinding (OfString r (at + length (chunks_bytes m done)) m k.width k.payload) (at + length (chunks_bytes m done) + length p) (at + length (chunks_bytes m done) + length (chunk_bytes m k)) found
+        → IsFinding (Complains r at (made (done ++ k ∷ []))) (at + length (chunks_bytes m done ++ p)) (at + length (spell (made (done ++ k ∷ [])))) found
+    go (Some c) there size h =
+        let ends : c.end ≤ at + length (chunks_bytes m done) + length p = h.ends in
+        record {
+          holds = kind.back r at (done ++ k ∷ []) c (inr (chunks_right done (k ∷ []) r (at + 1) (at + length (chunks_bytes m done)) m c there (inl h.holds)));
+          ends = omega (arith, ends, length-append (chunks_bytes m done) p);
+          first = λ x g l. h.first x (split x there g) (omega (arith, l, length-append (chunks_bytes m done) p));
+        }
+    go None there size h = (omega (arith, size), λ x g. omega (arith, h.1 x (split x there g), length-append (chunks_bytes m done) p))
+
+-- between two chunks
+pub chunks_so_far : (m : Major) (made : List Chunk → Spelling) → IsChunked m made → (done : List Chunk) (r : Rules) (at d : ℕ) → AllByRecursion IsChunk done → Never (OfIndefinite r at) → Never (OfChunks r (at + 1) m done)
+    → IsJudged r at d (chunks_bytes m done) None
+chunks_so_far m made kind done r at d are clean_opener clean = record {
+  item = made done;
+  rest = 0xff ∷ [];
+  is = record { spelled = kind.spelled done are; within = omega (arith, kind.flat done); bytes_are = kind.bytes_are done };
+  finding = (
+    omega (arith, ap length (kind.bytes_are done) ∙ length-append (chunks_bytes m done) (0xff ∷ [])),
+    λ x g. elim (kind.has r at done x g) [ inl y ↦ absurd (clean_opener x y) | inr y ↦ absurd (clean x y) ],
+  );
+}

@@ -1,0 +1,134 @@
+-- The open containers with what is complete in them, as frames around the item that is due: what is found of the item is found of
+-- the whole.
+use Rattle.std.proofs.Common.{◌≡◌, ℕ, suc, ◌+◌, ◌-◌, ◌<◌, ◌≤◌, Option, List, [], ◌∷◌, ◌++◌, length, refl, sym, ap, ◌∙◌, subst, inl, inr, arith}
+use Rattle.std.proofs.lemmas.List.{length-append}
+use Rattle.cbor_head.specs.Head.{Holds, head}
+use Rattle.cbor_head.specs.Spelling.{Spelling, SpelledEntries, no_spellings, no_entries, entry, spell, spell_all, spell_entries, spellings_count, entries_count}
+use Rattle.cbor_head.specs.Complaint.{plain, Complaint, ComplainsInEntries}
+use Rattle.cbor_head.specs.declared.major.Major.TheVariants as majors
+use Rattle.cbor_head.specs.declared.width.Width.TheVariants.{Indefinite}
+use Rattle.cbor_judging.specs.Frame as frames
+use Rattle.cbor_judging.specs.Frame.{Frame, with_entries, keys_onto, before, IsFrame, depth_beside}
+use Rattle.cbor_judging.specs.Judged.{IsJudged}
+use Rattle.cbor_judging.specs.OpenMaps.{keys_at, OnKeys, OfClosed, ComplainsWithin, before_all, AreOpen, AreOpenDistinct}
+use Rattle.cbor_judging.proofs.Heads.{open_or}
+use Rattle.cbor_judging.proofs.Judged.{Never, zero_item, zeros, zeros_count, zeros_spelled, zeros_flat, zero_pairs, pairs_count, pairs_spelled, pairs_flat}
+use Rattle.cbor_judging.proofs.OpenMaps.{judged_within}
+use Rattle.cbor_judging.proofs.OpenSteps.{before_snoc}
+use Rattle.cbor_judging.proofs.OpenWalk.{none_open, opens as one_opens}
+use Rattle.cbor_judging.specs.Levels.{ArePairsTaken, Level, a_member, a_key, a_value, some_member, some_key, some_value, tagged, level_bytes, IsLevel, AreLevels, bytes_before}
+use Rattle.cbor_judging.proofs.Levels.{no-count, spelled-all, within-all, clean-all, pairs-spelled, pairs-within}
+
+-- ---- one container
+
+abbrev pub frame_of : Level → Frame
+frame_of (a_member w left done) = frames.a_member w done (zeros left)
+frame_of (a_key w left done) = frames.a_key w done zero_item (zero_pairs left)
+frame_of (a_value w left done k) = frames.a_content w done k (zero_pairs left)
+frame_of (some_member done) = frames.a_member Indefinite done no_spellings
+frame_of (some_key done) = frames.a_key Indefinite done zero_item no_entries
+frame_of (some_value done k) = frames.a_content Indefinite done k no_entries
+frame_of (tagged w n) = frames.tagged w n
+
+pub frame_bytes : (l : Level) → before (frame_of l) ≡ level_bytes l
+frame_bytes (a_member w left done) = ap (λ (n : ℕ). head majors.Array w (spellings_count done + suc n) ++ spell_all done) (zeros_count left)
+frame_bytes (a_key w left done) = ap (λ (n : ℕ). head majors.Map w (entries_count done + suc n) ++ spell_entries done) (pairs_count left)
+frame_bytes (a_value w left done k) = ap (λ (n : ℕ). (head majors.Map w (entries_count done + suc n) ++ spell_entries done) ++ spell k) (pairs_count left)
+frame_bytes (some_member done) = refl
+frame_bytes (some_key done) = refl
+frame_bytes (some_value done k) = refl
+frame_bytes (tagged w n) = refl
+
+-- each complete pair has no complaint within
+quiet : (d : ℕ) (es : SpelledEntries) (at : ℕ) → ArePairsTaken d es → Never (ComplainsWithin plain at es)
+quiet d no_entries at h c x = x
+quiet d (entry k v es) at h c (inl x) = h.0.clean at c x
+quiet d (entry k v es) at h c (inr (inl x)) = h.1.clean _ c x
+quiet d (entry k v es) at h c (inr (inr x)) = quiet d es _ h.2 c x
+
+pub record IsFitting (d : ℕ) (f : Frame) : Type 0 where
+  pub fits : IsFrame f
+  pub flat : depth_beside f ≤ d
+  pub clean : (at : ℕ) → Never (OfClosed plain at f)
+
+pub fitting : (d : ℕ) (l : Level) → IsLevel d l → IsFitting d (frame_of l)
+fitting d (a_member w left done) h = record {
+  fits = (open_or w _ (subst (λ (n : ℕ). Holds w (spellings_count done + suc n)) (sym (zeros_count left)) h.0), spelled-all d done h.1, zeros_spelled left);
+  flat = omega (arith, within-all d done h.1, zeros_flat left);
+  clean = λ at c x. elim x [ inl y ↦ no-count at majors.Array w _ c y | inr y ↦ clean-all d done _ h.1 c y ];
+}
+fitting d (a_key w left done) h =
+    let z : 0 < 24 = omega arith in
+    record {
+      fits = (open_or w _ (subst (λ (n : ℕ). Holds w (entries_count done + suc n)) (sym (pairs_count left)) h.0), pairs-spelled d done h.1, z, pairs_spelled left);
+      flat = omega (arith, pairs-within d done h.1, pairs_flat left);
+      clean = λ at c x. elim x [ inl y ↦ no-count at majors.Map w _ c y | inr y ↦ quiet d done _ h.1 c y ];
+    }
+fitting d (a_value w left done k) h = record {
+  fits = (open_or w _ (subst (λ (n : ℕ). Holds w (entries_count done + suc n)) (sym (pairs_count left)) h.0), pairs-spelled d done h.1, h.2.spelled, pairs_spelled left);
+  flat = omega (arith, pairs-within d done h.1, pairs_flat left, h.2.within);
+  clean = λ at c x. elim x [ inl y ↦ no-count at majors.Map w _ c y | inr (inl y) ↦ quiet d done _ h.1 c y | inr (inr y) ↦ h.2.clean _ c y ];
+}
+fitting d (some_member done) h = record {
+  fits = (tt, spelled-all d done h, tt);
+  flat = omega (arith, within-all d done h);
+  clean = λ at c x. elim x [ inl y ↦ y | inr y ↦ clean-all d done _ h c y ];
+}
+fitting d (some_key done) h =
+    let z : 0 < 24 = omega arith in
+    record {
+      fits = (tt, pairs-spelled d done h, z, tt);
+      flat = omega (arith, pairs-within d done h);
+      clean = λ at c x. elim x [ inl y ↦ y | inr y ↦ quiet d done _ h c y ];
+    }
+fitting d (some_value done k) h = record {
+  fits = (tt, pairs-spelled d done h.0, h.1.spelled, tt);
+  flat = omega (arith, pairs-within d done h.0, h.1.within);
+  clean = λ at c x. elim x [ inl y ↦ y | inr (inl y) ↦ quiet d done _ h.0 c y | inr (inr y) ↦ h.1.clean _ c y ];
+}
+fitting d (tagged w n) h = record { fits = h; flat = omega arith; clean = λ at c x. x }
+
+-- ---- its keys
+
+pub keys_complain : (es : SpelledEntries) (ks : List Spelling) (at : ℕ) (c : Complaint) → OnKeys plain ks (keys_at at es) c → ComplainsInEntries plain at ks es c
+keys_complain no_entries ks at c h = absurd h
+keys_complain (entry k v es) ks at c (inl h) = inr (inl h)
+keys_complain (entry k v es) ks at c (inr h) = inr (inr (inr (keys_complain es (k ∷ ks) _ c h)))
+
+-- ---- all of them, the outermost first
+
+unfoldable pub path : List Level → List Frame
+path [] = []
+path (l ∷ ls) = path ls ++ frame_of l ∷ []
+
+pub path_length : (ls : List Level) → length (path ls) ≡ length ls
+unfolding path
+path_length [] = refl
+path_length (l ∷ ls) = omega (arith, path_length ls, length-append (path ls) (frame_of l ∷ []))
+
+pub path_bytes : (ls : List Level) → before_all (path ls) ≡ bytes_before ls
+unfolding path
+path_bytes [] = refl
+path_bytes (l ∷ ls) = before_snoc (path ls) (frame_of l) ∙ ap (λ (x : List ℕ). x ++ before (frame_of l)) (path_bytes ls) ∙ ap (λ (x : List ℕ). bytes_before ls ++ x) (frame_bytes l)
+
+pub path_open : (d : ℕ) (ls : List Level) → AreLevels d ls → AreOpen plain d (path ls)
+unfolding path
+path_open d [] h = none_open plain d
+path_open d (l ∷ ls) h =
+    let room = h.0 in
+    let i = fitting (d - suc (length ls)) l h.1 in
+    one_opens plain d (path ls) (frame_of l) (d - suc (length ls)) (path_open d ls h.2) (omega (arith, room, path_length ls)) i.fits i.flat (i.clean _)
+
+-- what is found of the item is found of the whole
+pub found_of_whole : (d : ℕ) (ls : List Level) (p : List ℕ) (found : Option Complaint) → AreLevels d ls → AreOpenDistinct plain 0 (path ls) → IsJudged plain (length (bytes_before ls)) (d - length ls) p found
+    → IsJudged plain 0 d (bytes_before ls ++ p) found
+found_of_whole d ls p found h distinct j =
+    let are = path_open d ls h in
+    let levels = are.levels in
+    let size = path_length ls in
+    let room : d - length ls ≡ are.left = omega (arith, levels, size) in
+    let level : length (path ls) + are.left ≡ d = omega (arith, levels) in
+    subst (λ (n : ℕ). IsJudged plain 0 n (bytes_before ls ++ p) found) level
+    (subst (λ (x : List ℕ). IsJudged plain 0 (length (path ls) + are.left) (x ++ p) found) (path_bytes ls)
+    (judged_within (path ls) plain 0 (length (before_all (path ls))) are.left p found (omega arith) are.path are.closed distinct
+    (subst (λ (n : ℕ). IsJudged plain (length (before_all (path ls))) n p found) room (subst (λ (x : List ℕ). IsJudged plain (length x) (d - length ls) p found) (sym (path_bytes ls)) j))))

@@ -1,0 +1,100 @@
+-- The loop of a reader over a map's pairs.
+use Rattle.std.proofs.Common.{◌≡◌, ◌≢◌, ℕ, suc, ◌+◌, ◌-◌, ◌<◌, false, Option, Some, None, List, [], ◌∷◌, ◌++◌, length, refl, sym, ap, ◌∙◌, subst, arith, append-nil}
+use Rattle.cbor_head.specs.Head.{head}
+use Rattle.cbor_head.specs.Limits.{Bounds}
+use Rattle.cbor_head.specs.Value as value
+use Rattle.cbor_head.specs.Value.{Entries}
+use Rattle.cbor_head.specs.Spelling.{Spelling, SpelledEntries, a_map, no_entries, spell, entries_count, HoldsOrIndefinite, entries_of}
+use Rattle.cbor_head.specs.Complaint.{Rules}
+use Rattle.cbor_head.specs.declared.major.Major.TheVariants as majors
+use Rattle.cbor_head.specs.declared.width.Width.{Width}
+use Rattle.cbor_head.specs.declared.width.Width.TheVariants.{Indefinite}
+use Rattle.cbor_events.specs.Trace.{a_head}
+use Rattle.cbor_events.specs.inner.Automaton.{Frame, indefinite_map, State, at_item, close, expect}
+use Rattle.cbor_events.specs.inner.Taking.{IsTaking}
+use Rattle.cbor_events.specs.Marks.{count_of}
+use Rattle.cbor_events.specs.ItemEvents.{ItemEventsView}
+use Rattle.cbor_events.specs.declared.event.EventKind.TheVariants as kinds
+use Rattle.cbor_judging.specs.Frame.{keys_onto}
+use Rattle.cbor_judging.specs.Reading.{IsAt, Extends, IsBegun, ReadsItem}
+use Rattle.cbor_judging.proofs.Composition.{IsMapSoFar, map_bytes, map_whole}
+use Rattle.cbor_judging.proofs.Heads.{open_or}
+use Rattle.cbor_judging.proofs.Loops.{map_bytes-whole}
+use Rattle.cbor_judging.proofs.Items.{definite, proper-definite, extends-none}
+use Rattle.cbor_judging.proofs.Scalars.{at-as}
+use Rattle.cbor_judging.proofs.Arrays.{IsLeft, closes}
+
+-- how far the pairs are, where so many are left
+abbrev pub pairs_due : Option ℕ → List Frame → State
+pairs_due (Some left) fs = expect (left + left) fs
+pairs_due None fs = at_item (indefinite_map false ∷ fs)
+
+-- The pairs so far of a map that stands behind t, and of which x was read when from was left; so many are left.
+pub record IsReadingMap (r : Rules) (b : Bounds) (fs : List Frame) (t x : List ℕ) (w : Width) (n : ℕ) (left : Option ℕ) (es : Entries) (from now : Option (List ℕ)) (e : ItemEventsView) : Type 0 where
+  pub done : SpelledEntries
+  pub so_far : IsMapSoFar r (length t) (b.depth - suc (length fs)) w n done
+  pub taken : Extends x (map_bytes w n done) from now
+  pub at : IsAt b e (t ++ map_bytes w n done) (pairs_due left fs)
+  pub counts : IsLeft w n (entries_count done) left
+  pub values : entries_of done ≡ es
+  pub room : length fs < b.depth
+
+-- ---- the head
+
+pub starts-map : (r : Rules) (b : Bounds) (fs : List Frame) (t x : List ℕ) (w : Width) (count : Option ℕ) (from : Option (List ℕ)) (e : ItemEventsView)
+    → IsBegun r b fs t x e w (kinds.Map count) → IsReadingMap r b fs t x w (count_of count) count value.no_entries from from e
+starts-map r b fs t x w (Some n) from e i =
+    let f = definite b.depth fs majors.Map w n x i.next (proper-definite w i.proper) i.taking in
+    let bytes_are : x ≡ map_bytes w n no_entries = f.bytes_are ∙ sym (append-nil (head majors.Map w n)) in
+    record {
+      done = no_entries;
+      so_far = record { holds = open_or w n f.holds; spelled = tt; within = omega arith; head_clean = i.clean; clean = λ c h. h };
+      taken = subst (λ (y : List ℕ). Extends x y from from) bytes_are (extends-none x from);
+      at = at-as b e (t ++ x) (t ++ map_bytes w n no_entries) i.next (expect (n + n) fs) (ap (λ (y : List ℕ). t ++ y) bytes_are) f.follows.1 i.at;
+      counts = (proper-definite w i.proper, omega arith);
+      values = refl;
+      room = f.follows.0;
+    }
+starts-map r b fs t x w None from e i =
+    let taking = subst (λ (v : Width). IsTaking b.depth (at_item fs) (a_head majors.Map v 0) x i.next) i.proper i.taking in
+    let bytes_are : x ≡ map_bytes w 0 no_entries = taking.1 ∙ ap (λ (v : Width). head majors.Map v 0) (sym i.proper) ∙ sym (append-nil (head majors.Map w 0)) in
+    record {
+      done = no_entries;
+      so_far = record { holds = any_open w 0 i.proper; spelled = tt; within = omega arith; head_clean = i.clean; clean = λ c h. h };
+      taken = subst (λ (y : List ℕ). Extends x y from from) bytes_are (extends-none x from);
+      at = at-as b e (t ++ x) (t ++ map_bytes w 0 no_entries) i.next (at_item (indefinite_map false ∷ fs)) (ap (λ (y : List ℕ). t ++ y) bytes_are) taking.2.1 i.at;
+      counts = i.proper;
+      values = refl;
+      room = taking.2.0;
+    }
+  where
+    any_open : (w : Width) (n : ℕ) → w ≡ Indefinite → HoldsOrIndefinite w n
+    any_open w n e = subst (λ (v : Width). HoldsOrIndefinite v n) (sym e) tt
+
+-- ---- the pairs
+
+module _ (r : Rules) (b : Bounds) (fs : List Frame) (t x : List ℕ) (w : Width) (n : ℕ) (left : Option ℕ) (es : Entries) (from mid : Option (List ℕ)) (e : ItemEventsView)
+    (a : IsReadingMap r b fs t x w n left es from mid e) where
+  -- no pair is left
+  pub map-whole : left ≡ Some 0 → ReadsItem r b fs t x from mid e (value.map es)
+  map-whole none =
+      let counts : (w ≢ Indefinite) × (entries_count a.done + 0 ≡ n) = subst (IsLeft w n (entries_count a.done)) none a.counts in
+      let same : entries_count a.done ≡ n = omega (arith, counts.1) in
+      let whole = map_whole w a.done r (length t) (b.depth - suc (length fs)) (subst (λ (k : ℕ). IsMapSoFar r (length t) (b.depth - suc (length fs)) w k a.done) (sym same) a.so_far) in
+      let bytes_are : map_bytes w n a.done ≡ spell (a_map w a.done) = sym (map_bytes-whole w n a.done (closes w counts.0) same) in
+      let room : length fs < b.depth = a.room in
+      record {
+        item = a_map w a.done;
+        spelled = whole.0;
+        within = omega (arith, whole.1, room);
+        clean = whole.2;
+        taken = subst (λ (u : List ℕ). Extends x u from mid) bytes_are a.taken;
+        value = ap value.map a.values;
+        at = at-as b e (t ++ map_bytes w n a.done) (t ++ spell (a_map w a.done)) (pairs_due left fs) (close fs) (ap (λ (u : List ℕ). t ++ u) bytes_are) (ap (λ (l : Option ℕ). pairs_due l fs) none) a.at;
+      }
+
+-- with what is known of no keys
+pub starts-with : (r : Rules) (b : Bounds) (fs : List Frame) (t x : List ℕ) (w : Width) (n : ℕ) (from : Option (List ℕ)) (e : ItemEventsView) → IsBegun r b fs t x e w (kinds.Map (Some n)) → (P : List Spelling → Type 0) → P []
+    → (h : IsReadingMap r b fs t x w n (Some n) value.no_entries from from e) × P (keys_onto [] h.done)
+unfolding starts-map
+starts-with r b fs t x w n from e i P k = (starts-map r b fs t x w (Some n) from e i, k)

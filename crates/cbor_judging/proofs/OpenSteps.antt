@@ -1,0 +1,146 @@
+-- How the open containers change as members, keys and contents end, and what stays known of them.
+use Rattle.std.proofs.Common.{ℕ, suc, ◌+◌, ◌≡◌, ◌≤◌, ◌⊎◌, List, [], ◌∷◌, ◌++◌, length, refl, sym, ap, ◌∙◌, arith, subst, inl, inr}
+use Rattle.std.proofs.lemmas.List.{length-append, append_assoc, append-nil}
+use Rattle.cbor_head.specs.Head.{head}
+use Rattle.cbor_head.specs.Spelling.{Spelling, Spellings, SpelledEntries, no_spellings, a_spelling, no_entries, entry, spell, spell_all, spell_entries, spellings_count, entries_count}
+use Rattle.cbor_head.specs.Complaint.{Rules, Complaint, OfCount, Complains, ComplainsIn}
+use Rattle.cbor_head.specs.declared.major.Major.TheVariants.{Array, Map}
+use Rattle.cbor_head.specs.declared.width.Width.{Width}
+use Rattle.cbor_judging.specs.Frame.{Frame, a_member, a_key, a_content, tagged, with_all, with_entries, plug, before, IsFrame, depth_beside, OfKeyAt, OfBack}
+use Rattle.cbor_judging.specs.OpenMaps.{Placed, placed, keys_at, open_keys, AreDistinct, ComplainsWithin, OfClosed, before_all, ArePath, AreClosedClean, AreOpenDistinct}
+use Rattle.cbor_judging.proofs.Frames.{count_with, spell_with, entries_with, spell_entries_with, members_split, plug_split}
+use Rattle.cbor_judging.proofs.Judged.{Never}
+use Rattle.cbor_judging.proofs.OpenKeys.{front_apart}
+
+-- ---- one container more, within the others
+
+pub before_snoc : (fs : List Frame) (f : Frame) → before_all (fs ++ f ∷ []) ≡ before_all fs ++ before f
+before_snoc [] f = append-nil (before f)
+before_snoc (g ∷ fs) f = ap (λ (x : List ℕ). before g ++ x) (before_snoc fs f) ∙ sym (append_assoc (before g) (before_all fs) (before f))
+
+pub path_snoc : (fs : List Frame) (f : Frame) (d : ℕ) → ArePath (suc d) fs → IsFrame f → depth_beside f ≤ d → ArePath d (fs ++ f ∷ [])
+path_snoc [] f d h i l = (i, omega (arith, l), tt)
+path_snoc (g ∷ fs) f d h i l = (h.0, omega (arith, h.1, length-append fs (f ∷ [])), path_snoc fs f d h.2 i l)
+
+pub path_outer : (fs : List Frame) (f : Frame) (d : ℕ) → ArePath d (fs ++ f ∷ []) → ArePath (suc d) fs
+path_outer [] f d h = tt
+path_outer (g ∷ fs) f d h = (h.0, omega (arith, h.1, length-append fs (f ∷ [])), path_outer fs f d h.2)
+
+pub clean_snoc : (fs : List Frame) (f : Frame) (r : Rules) (at to : ℕ) → to ≡ at + length (before_all fs) → AreClosedClean r at fs → Never (OfClosed r to f) → AreClosedClean r at (fs ++ f ∷ [])
+clean_snoc [] f r at to e h i = let g : to ≡ at = omega (arith, e) in (subst (λ (k : ℕ). Never (OfClosed r k f)) g i, tt)
+clean_snoc (g ∷ fs) f r at to e h i = (h.0, clean_snoc fs f r (at + length (before g)) to (omega (arith, e, length-append (before g) (before_all fs))) h.1 i)
+
+pub clean_outer : (fs : List Frame) (f : Frame) (r : Rules) (at to : ℕ) → to ≡ at + length (before_all fs) → AreClosedClean r at (fs ++ f ∷ []) → AreClosedClean r at fs × Never (OfClosed r to f)
+clean_outer [] f r at to e h = let g : at ≡ to = omega (arith, e) in (tt, subst (λ (k : ℕ). Never (OfClosed r k f)) g h.0)
+clean_outer (g ∷ fs) f r at to e h =
+    let i = clean_outer fs f r (at + length (before g)) to (omega (arith, e, length-append (before g) (before_all fs))) h.1 in
+    ((h.0, i.0), i.1)
+
+pub distinct_snoc : (fs : List Frame) (f : Frame) (r : Rules) (at to : ℕ) → to ≡ at + length (before_all fs) → AreOpenDistinct r at fs → AreDistinct r (open_keys to f) → AreOpenDistinct r at (fs ++ f ∷ [])
+distinct_snoc [] f r at to e h i = let g : to ≡ at = omega (arith, e) in (subst (λ (k : ℕ). AreDistinct r (open_keys k f)) g i, tt)
+distinct_snoc (g ∷ fs) f r at to e h i = (h.0, distinct_snoc fs f r (at + length (before g)) to (omega (arith, e, length-append (before g) (before_all fs))) h.1 i)
+
+-- ---- a member, a key or a content ends
+
+pub member_count : (a : Spellings) (s : Spelling) (m : ℕ) → spellings_count (with_all a (a_spelling s no_spellings)) + suc m ≡ spellings_count a + suc (suc m)
+member_count a s m = omega (arith, count_with a (a_spelling s no_spellings))
+
+pub pair_count : (a : SpelledEntries) (k v : Spelling) (m : ℕ) → entries_count (with_entries a (entry k v no_entries)) + suc m ≡ entries_count a + suc (suc m)
+pair_count a k v m = omega (arith, entries_with a (entry k v no_entries))
+
+-- a member: the next is due
+pub member_before : (w : Width) (a : Spellings) (s t : Spelling) (b : Spellings) → before (a_member w (with_all a (a_spelling s no_spellings)) b) ≡ before (a_member w a (a_spelling t b)) ++ spell s
+member_before w a s t b =
+    ap (λ (n : ℕ). head Array w n ++ spell_all (with_all a (a_spelling s no_spellings))) (member_count a s (spellings_count b))
+    ∙ ap (λ (x : List ℕ). head Array w (spellings_count a + suc (suc (spellings_count b))) ++ x) (spell_with a (a_spelling s no_spellings) ∙ ap (λ (x : List ℕ). spell_all a ++ x) (append-nil (spell s)))
+    ∙ sym (append_assoc (head Array w (spellings_count a + suc (suc (spellings_count b)))) (spell_all a) (spell s))
+
+pub member_clean : (w : Width) (a : Spellings) (s t : Spelling) (b : Spellings) (r : Rules) (at : ℕ) → Never (OfClosed r at (a_member w a (a_spelling t b)))
+    → Never (Complains r (at + length (before (a_member w a (a_spelling t b)))) s) → Never (OfClosed r at (a_member w (with_all a (a_spelling s no_spellings)) b))
+member_clean w a s t b r at clean none c h =
+    let n = spellings_count a + suc (suc (spellings_count b)) in
+    let next = with_all a (a_spelling s no_spellings) in
+    let g : OfCount r at Array w n c ⊎ ComplainsIn r (at + length (head Array w n)) next c =
+    subst (λ (m : ℕ). OfCount r at Array w m c ⊎ ComplainsIn r (at + length (head Array w m)) next c) (member_count a s (spellings_count b)) h in
+    elim g [
+      | inl x ↦ clean c (inl x)
+      | inr x ↦ elim (members_split a (a_spelling s no_spellings) r (at + length (head Array w n)) (at + length (head Array w n ++ spell_all a)) c (omega (arith, length-append (head Array w n) (spell_all a))) x) [
+        | inl y ↦ clean c (inr y)
+        | inr y ↦ elim y [ inl z ↦ none c z | inr z ↦ absurd z ]
+      ]
+    ]
+
+pub key_clean : (w : Width) (a : SpelledEntries) (k v : Spelling) (b : SpelledEntries) (r : Rules) (at : ℕ) → Never (OfClosed r at (a_key w a v b)) → Never (Complains r (at + length (before (a_key w a v b))) k)
+    → Never (OfClosed r at (a_content w a k b))
+key_clean w a k v b r at clean none c h = elim h [ inl x ↦ clean c (inl x) | inr (inl x) ↦ clean c (inr x) | inr (inr x) ↦ none c x ]
+
+-- a content: the next key is due, and the completed keys are as before
+pub keys_with : (es fs : SpelledEntries) (at to : ℕ) → to ≡ at + length (spell_entries es) → keys_at at (with_entries es fs) ≡ keys_at at es ++ keys_at to fs
+keys_with no_entries fs at to e = let g : at ≡ to = omega (arith, e) in ap (λ (n : ℕ). keys_at n fs) g
+keys_with (entry k v es) fs at to e =
+    ap (λ (xs : List Placed). placed at k ∷ xs)
+    (keys_with es fs (at + length (spell k) + length (spell v)) to (omega (arith, e, length-append (spell k ++ spell v) (spell_entries es), length-append (spell k) (spell v))))
+
+within_with : (es fs : SpelledEntries) (r : Rules) (at to : ℕ) (c : Complaint) → to ≡ at + length (spell_entries es) → ComplainsWithin r at (with_entries es fs) c → ComplainsWithin r at es c ⊎ ComplainsWithin r to fs c
+within_with no_entries fs r at to c e h = let g : at ≡ to = omega (arith, e) in inr (subst (λ (n : ℕ). ComplainsWithin r n fs c) g h)
+within_with (entry k v es) fs r at to c e (inl h) = inl (inl h)
+within_with (entry k v es) fs r at to c e (inr (inl h)) = inl (inr (inl h))
+within_with (entry k v es) fs r at to c e (inr (inr h)) =
+    elim (within_with es fs r (at + length (spell k) + length (spell v)) to c (omega (arith, e, length-append (spell k ++ spell v) (spell_entries es), length-append (spell k) (spell v))) h) [ inl x ↦ inl (inr (inr x)) | inr x ↦ inr x ]
+
+pub content_before : (w : Width) (a : SpelledEntries) (k v l m o : Spelling) (b : SpelledEntries) → before (a_key w (with_entries a (entry k v no_entries)) o b) ≡ before (a_content w a k (entry l m b)) ++ spell v
+content_before w a k v l m o b =
+    let h = head Map w (entries_count a + suc (suc (entries_count b))) in
+    ap (λ (n : ℕ). head Map w n ++ spell_entries (with_entries a (entry k v no_entries))) (pair_count a k v (entries_count b))
+    ∙ ap (λ (x : List ℕ). h ++ x) (spell_entries_with a (entry k v no_entries) ∙ ap (λ (x : List ℕ). spell_entries a ++ x) (append-nil (spell k ++ spell v)) ∙ sym (append_assoc (spell_entries a) (spell k) (spell v)))
+    ∙ sym (append_assoc h (spell_entries a ++ spell k) (spell v))
+    ∙ ap (λ (x : List ℕ). x ++ spell v) (sym (append_assoc h (spell_entries a) (spell k)))
+
+pub content_keys : (w : Width) (a : SpelledEntries) (k v l m o : Spelling) (b : SpelledEntries) (at : ℕ) → open_keys at (a_key w (with_entries a (entry k v no_entries)) o b) ≡ open_keys at (a_content w a k (entry l m b))
+content_keys w a k v l m o b at =
+    let h = head Map w (entries_count a + suc (suc (entries_count b))) in
+    ap (λ (n : ℕ). keys_at (at + length (head Map w n)) (with_entries a (entry k v no_entries))) (pair_count a k v (entries_count b))
+    ∙ keys_with a (entry k v no_entries) (at + length h) (at + length (h ++ spell_entries a)) (omega (arith, length-append h (spell_entries a)))
+
+pub content_clean : (w : Width) (a : SpelledEntries) (k v l m o : Spelling) (b : SpelledEntries) (r : Rules) (at : ℕ) → Never (OfClosed r at (a_content w a k (entry l m b)))
+    → Never (Complains r (at + length (before (a_content w a k (entry l m b)))) v) → Never (OfClosed r at (a_key w (with_entries a (entry k v no_entries)) o b))
+content_clean w a k v l m o b r at clean none c h =
+    let n = entries_count a + suc (suc (entries_count b)) in
+    let h0 = head Map w n in
+    let here = at + length (h0 ++ spell_entries a) in
+    let next = with_entries a (entry k v no_entries) in
+    let there : here + length (spell k) ≡ at + length (h0 ++ spell_entries a ++ spell k) = omega (arith, length-append (h0 ++ spell_entries a) (spell k)) in
+    let g : OfCount r at Map w n c ⊎ ComplainsWithin r (at + length h0) next c =
+    subst (λ (m : ℕ). OfCount r at Map w m c ⊎ ComplainsWithin r (at + length (head Map w m)) next c) (pair_count a k v (entries_count b)) h in
+    elim g [
+      | inl x ↦ clean c (inl x)
+      | inr x ↦ elim (within_with a (entry k v no_entries) r (at + length h0) here c (omega (arith, length-append h0 (spell_entries a))) x) [
+        | inl y ↦ clean c (inr (inl y))
+        | inr (inl y) ↦ clean c (inr (inr y))
+        | inr (inr (inl y)) ↦ none c (subst (λ (m : ℕ). Complains r m v c) there y)
+        | inr (inr (inr y)) ↦ absurd y
+      ]
+    ]
+
+-- ---- a container closes: it is one item, without complaint where its keys have none
+
+-- with its last item whole, and nothing behind it
+closes : (f : Frame) (s : Spelling) (r : Rules) (at : ℕ) → Never (OfClosed r at f) → AreDistinct r (open_keys at f) → Never (Complains r (at + length (before f)) s)
+    → Never (OfKeyAt r (at + length (before f)) f s) → Never (OfBack r (at + length (before f) + length (spell s)) f s) → Never (Complains r at (plug f s))
+closes f s r at clean distinct none key back c h = elim (plug_split f s r at (at + length (before f)) c refl h) [
+  | inl x ↦ elim (front_apart f r at c x) [ inl y ↦ clean c y | inr y ↦ distinct c y ]
+  | inr (inl x) ↦ none c x
+  | inr (inr (inl x)) ↦ key c x
+  | inr (inr (inr x)) ↦ back c x
+]
+
+pub map_closes : (w : Width) (a : SpelledEntries) (k v : Spelling) (r : Rules) (at : ℕ) → Never (OfClosed r at (a_content w a k no_entries)) → AreDistinct r (open_keys at (a_content w a k no_entries))
+    → Never (Complains r (at + length (before (a_content w a k no_entries))) v) → Never (Complains r at (plug (a_content w a k no_entries) v))
+map_closes w a k v r at clean distinct none = closes (a_content w a k no_entries) v r at clean distinct none (λ c x. x) (λ c x. x)
+
+pub array_closes : (w : Width) (a : Spellings) (s : Spelling) (r : Rules) (at : ℕ) → Never (OfClosed r at (a_member w a no_spellings))
+    → Never (Complains r (at + length (before (a_member w a no_spellings))) s) → Never (Complains r at (plug (a_member w a no_spellings) s))
+array_closes w a s r at clean none = closes (a_member w a no_spellings) s r at clean (λ c x. x) none (λ c x. x) (λ c x. x)
+
+pub tag_closes : (w : Width) (n : ℕ) (s : Spelling) (r : Rules) (at : ℕ) → Never (OfClosed r at (tagged w n)) → Never (Complains r (at + length (before (tagged w n))) s) → Never (Complains r at (plug (tagged w n) s))
+tag_closes w n s r at clean none = closes (tagged w n) s r at clean (λ c x. x) none (λ c x. x) (λ c x. x)

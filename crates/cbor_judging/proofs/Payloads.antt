@@ -1,0 +1,290 @@
+-- Strings: a payload, the chunk that it is of, and the whole.
+use Rattle.std.proofs.Common.{◌≡◌, ℕ, zero, suc, ◌+◌, ◌-◌, ◌<◌, ◌≤◌, Bool, true, false, Option, None, List, [], ◌∷◌, ◌++◌, length, drop, replicate, refl, true≢false, sym, ap, ◌∙◌, subst, inl, inr, arith, append_assoc, append-nil}
+use Rattle.std.specs.Prelude.{IsUtf8}
+use Rattle.std.specs.Str.Lossy.{utf8_valid_len}
+use Rattle.std.proofs.lemmas.List.{length-append}
+use Rattle.std.proofs.Math.Seq.{drop-append_seam}
+use Rattle.std.specs.Io.KnownBytes.{Consumes}
+use Rattle.std.proofs.KnownBytes.{Consumes-nil, Consumes-trans}
+use Rattle.cbor_head.specs.Limits.{Bounds}
+use Rattle.cbor_head.specs.Value.{AreBytes}
+use Rattle.cbor_head.specs.Verdict.{refusal}
+use Rattle.cbor_head.specs.declared.major.Major.{Major}
+use Rattle.cbor_head.specs.declared.width.Width.{Width}
+use Rattle.cbor_head.specs.declared.reason.Refusal.{Refusal}
+use Rattle.cbor_head.specs.declared.reason.Reason.TheVariants.{InvalidText}
+use Rattle.cbor_events.specs.Trace.{Mark, a_byte}
+use Rattle.cbor_events.specs.inner.Automaton.{Frame, counted, indefinite_array, indefinite_map, Outcome, refused, telling, State, at_item, in_head, in_simple, in_payload, in_chunks, done as at_end, close, close_string, payload, run, reached}
+use Rattle.cbor_events.specs.inner.Taking.{IsTaking}
+use Rattle.cbor_events.specs.Marks.{marks_of}
+use Rattle.cbor_events.specs.inner.State.{state_of, is_in_payload}
+use Rattle.cbor_events.specs.ItemEvents as item_events
+use Rattle.cbor_events.specs.ItemEvents.{ItemEventsView, IsNextEvent, IsKept, call}
+use Rattle.cbor_events.specs.Bytes.{IsEventBytes}
+use Rattle.cbor_events.specs.declared.frame.Frame as frames
+use Rattle.cbor_events.specs.declared.position.Position.{Position}
+use Rattle.cbor_events.specs.declared.position.Position.TheVariants as positions
+use Rattle.cbor_events.proofs.Forward.{payload-byte}
+use Rattle.cbor_events.specs.declared.event.Event.{Event}
+use Rattle.cbor_events.specs.declared.event.EventKind.{EventKind}
+use Rattle.cbor_events.specs.declared.event.EventKind.TheVariants as kinds
+use Rattle.cbor_events.proofs.Taking.{IsClear, IsWithin, nothing-taken, first-mark, within-start}
+use Rattle.cbor_judging.specs.Reading.{IsAt, IsFormRefusal, IsMemory, ReadsPayload, StopsPayload}
+use Rattle.cbor_judging.proofs.Steps.{due-by, Stops, SameLimits, stands-reached, at-reached, reached-as, at-clear, next-at, since}
+use Rattle.cbor_judging.proofs.ByteLists.{bytes_join, bytes_back}
+use Rattle.cbor_judging.proofs.Scalars.{at-as}
+use Rattle.cbor_judging.proofs.Undecided.{is-part}
+
+-- ---- a part of a payload
+
+-- Of a payload of n bytes that stood behind t, so many have come.
+pub record HasCome (b : Bounds) (chunk : Bool) (m : Major) (fs : List Frame) (t : List ℕ) (left : ℕ) (old grown : List ℕ) (from now : Option (List ℕ)) (e : ItemEventsView) (n : ℕ) : Type 0 where
+  pub p : List ℕ
+  pub consumed : Consumes from now p
+  pub count : length p + left ≡ n
+  pub are_bytes : AreBytes p
+  pub grows : grown ≡ old ++ p
+  pub at : IsAt b e (t ++ p) (payload chunk m left fs)
+
+pub none-come : (b : Bounds) (chunk : Bool) (m : Major) (fs : List Frame) (t : List ℕ) (n : ℕ) (old : List ℕ) (from : Option (List ℕ)) (e : ItemEventsView) → IsAt b e t (payload chunk m n fs)
+    → HasCome b chunk m fs t n old old from from e n
+none-come b chunk m fs t n old from e a = record {
+  p = [];
+  consumed = Consumes-nil from;
+  count = omega arith;
+  are_bytes = tt;
+  grows = sym (append-nil old);
+  at = at-as b e t (t ++ []) (payload chunk m n fs) (payload chunk m n fs) (sym (append-nil t)) refl a;
+}
+
+-- a piece is due
+abbrev pub IsPiece : EventKind → Type 0
+IsPiece (kinds.Piece n) = Unit {0}
+IsPiece kind = ⊥
+
+abbrev pub IsPayload : State → Type 0
+IsPayload (in_payload chunk m n fs) = Unit {0}
+IsPayload q = ⊥
+
+pub due-piece : (position : Position) (fs : List frames.Frame) (kind : EventKind) → IsPayload (state_of position fs) → item_events.IsDue (is_in_payload position) kind → IsPiece kind
+due-piece (positions.Payload chunk type left) fs (kinds.Piece n) h d = tt
+due-piece (positions.Payload chunk type left) fs (kinds.Unsigned n) h d = absurd d
+due-piece (positions.Payload chunk type left) fs (kinds.Negative n) h d = absurd d
+due-piece (positions.Payload chunk type left) fs (kinds.Simple n) h d = absurd d
+due-piece (positions.Payload chunk type left) fs (kinds.Bytes n) h d = absurd d
+due-piece (positions.Payload chunk type left) fs (kinds.Text n) h d = absurd d
+due-piece (positions.Payload chunk type left) fs (kinds.Chunk n) h d = absurd d
+due-piece (positions.Payload chunk type left) fs (kinds.Array n) h d = absurd d
+due-piece (positions.Payload chunk type left) fs (kinds.Map n) h d = absurd d
+due-piece (positions.Payload chunk type left) fs (kinds.Tag n) h d = absurd d
+due-piece (positions.Payload chunk type left) fs kinds.End h d = absurd d
+due-piece positions.Item fs kind h d = absurd h
+due-piece (positions.Head chunk k width left argument) fs kind h d = absurd h
+due-piece positions.SimpleNumber fs kind h d = absurd h
+due-piece (positions.Chunks k) fs kind h d = absurd h
+due-piece positions.Done fs kind h d = absurd h
+
+-- the bytes of a piece
+record PieceBytes (w : Width) (kind : EventKind) (kept piece bs : List ℕ) : Type 0 where
+  same : piece ≡ bs
+  some : 0 < length bs
+  marks : marks_of w kind ≡ replicate (length bs) a_byte
+
+piece-bytes : (told : List Mark) (w : Width) (kind : EventKind) (kept piece bs : List ℕ) → IsPiece kind → IsKept kind kept piece bs → IsEventBytes told w kind bs → PieceBytes w kind kept piece bs
+piece-bytes told w (kinds.Piece n) kept piece bs h k e = record { same = k; some = omega (arith, e.0.1, e.1); marks = ap (λ (j : ℕ). replicate j a_byte) (sym e.1) }
+piece-bytes told w (kinds.Unsigned n) kept piece bs h k e = absurd h
+piece-bytes told w (kinds.Negative n) kept piece bs h k e = absurd h
+piece-bytes told w (kinds.Simple n) kept piece bs h k e = absurd h
+piece-bytes told w (kinds.Bytes n) kept piece bs h k e = absurd h
+piece-bytes told w (kinds.Text n) kept piece bs h k e = absurd h
+piece-bytes told w (kinds.Chunk n) kept piece bs h k e = absurd h
+piece-bytes told w (kinds.Array n) kept piece bs h k e = absurd h
+piece-bytes told w (kinds.Map n) kept piece bs h k e = absurd h
+piece-bytes told w (kinds.Tag n) kept piece bs h k e = absurd h
+piece-bytes told w kinds.End kept piece bs h k e = absurd h
+
+clear-close : (fs : List Frame) → IsClear (close fs)
+clear-close [] = tt
+clear-close (counted zero ∷ fs) = clear-close fs
+clear-close (counted (suc n) ∷ fs) = tt
+clear-close (indefinite_array ∷ fs) = tt
+clear-close (indefinite_map due ∷ fs) = tt
+
+clear-string : (chunk : Bool) (m : Major) (fs : List Frame) → IsClear (close_string chunk m fs)
+clear-string true m fs = tt
+clear-string false m fs = clear-close fs
+
+no-byte : (d : ℕ) (fs : List Frame) (cs : List ℕ) (u : State) → IsTaking d (close fs) a_byte cs u → ⊥
+no-byte d [] cs u h = h
+no-byte d (counted zero ∷ fs) cs u h = no-byte d fs cs u h
+no-byte d (counted (suc n) ∷ fs) cs u h = h
+no-byte d (indefinite_array ∷ fs) cs u h = h
+no-byte d (indefinite_map due ∷ fs) cs u h = h
+
+no-byte-behind : (d : ℕ) (chunk : Bool) (m : Major) (fs : List Frame) (cs : List ℕ) (u : State) → IsTaking d (close_string chunk m fs) a_byte cs u → ⊥
+no-byte-behind d true m fs cs u h = h
+no-byte-behind d false m fs cs u h = no-byte d fs cs u h
+
+untell : (o : Outcome) (u : State) (ms : List Mark) → telling a_byte o ≡ reached u (a_byte ∷ ms) → o ≡ reached u ms
+untell (refused r) u ms e = cc
+untell (reached q ns) u ms e = cc
+
+-- bytes that told so many bytes of a payload are its next
+part : (d : ℕ) (chunk : Bool) (m : Major) (fs : List Frame) (n : ℕ) (bs : List ℕ) (u : State) → AreBytes bs → run d (payload chunk m n fs) bs ≡ reached u (replicate (length bs) a_byte)
+    → (length bs ≤ n) × (u ≡ payload chunk m (n - length bs) fs)
+part d chunk m fs n [] u b e =
+    let same : payload chunk m n fs ≡ u = cc in
+    let none : n ≡ n - 0 = omega arith in
+    (omega arith, sym same ∙ ap (λ (j : ℕ). payload chunk m j fs) none)
+part d chunk m fs zero (c ∷ cs) u b e =
+    let q = close_string chunk m fs in
+    let f = first-mark d (c ∷ cs) q q u [] a_byte (replicate (length cs) a_byte) (within-start d q (clear-string chunk m fs)) b e in
+    absurd (no-byte-behind d chunk m fs f.0 f.1 f.2)
+part d chunk m fs (suc n) (c ∷ cs) u b e =
+    let rest = part d chunk m fs n cs u b.1 (untell (run d (payload chunk m n fs) cs) u (replicate (length cs) a_byte) (sym (payload-byte d chunk m n fs c cs) ∙ e)) in
+    let fits : length cs ≤ n = rest.0 in
+    let same : n - length cs ≡ suc n - suc (length cs) = omega arith in
+    (omega (arith, fits), rest.1 ∙ ap (λ (j : ℕ). payload chunk m j fs) same)
+
+module _ (b : Bounds) (chunk : Bool) (m : Major) (fs : List Frame) (t : List ℕ) (left : ℕ) (old grown : List ℕ) (from now : Option (List ℕ)) (e : ItemEventsView) (n : ℕ)
+    (h : HasCome b chunk m fs t left old grown from now e n) (some : 0 < left) where
+  payload-state : IsPayload (state_of e.machine.inner.position e.machine.inner.frames)
+  payload-state = subst IsPayload (sym h.at.state) (go left some)
+    where
+      go : (left : ℕ) → 0 < left → IsPayload (payload chunk m left fs)
+      go zero s = absurd (omega arith)
+      go (suc k) s = tt
+
+  -- it isn't at its end
+  pub payload-open : payload chunk m left fs ≡ at_end → ⊥
+  payload-open g = subst IsPayload (h.at.state ∙ g) payload-state
+
+  module _ (ev : Event) (to : Option (List ℕ)) (new : ItemEventsView) (same : SameLimits e.machine new.machine) (x : IsNextEvent ev (call e new now to (t ++ h.p) h.at.marks)) where
+    bytes-of : PieceBytes ev.width ev.kind e.piece new.piece x.bytes
+    bytes-of = piece-bytes h.at.marks ev.width ev.kind e.piece new.piece x.bytes (due-piece e.machine.inner.position e.machine.inner.frames ev.kind payload-state (due-by b e (t ++ h.p) (payload chunk m left fs) ev.kind h.at x.due)) x.piece_is x.are
+
+    taken-part : (length x.bytes ≤ left) × (state_of new.machine.inner.position new.machine.inner.frames ≡ payload chunk m (left - length x.bytes) fs)
+    taken-part =
+        part b.depth chunk m fs left x.bytes (state_of new.machine.inner.position new.machine.inner.frames) (bytes_back (t ++ h.p) x.bytes x.stands.stands.are_bytes)
+        (since b e new.machine (t ++ h.p) x.bytes (payload chunk m left fs) (marks_of ev.width ev.kind) h.at (same.depth ∙ h.at.depth) x.stands.stands.inner.ran
+        ∙ ap (λ (ms : List Mark). reached (state_of new.machine.inner.position new.machine.inner.frames) ms) bytes-of.marks)
+
+    pub part-fits : (0 < length new.piece) × (length new.piece ≤ left)
+    part-fits =
+        let size : length new.piece ≡ length x.bytes = ap length bytes-of.same in
+        (omega (arith, size, bytes-of.some), omega (arith, size, taken-part.0))
+
+    -- one part more
+    pub part-comes : (more : List ℕ) → new.refusal ≡ None → more ≡ grown ++ new.piece → HasCome b chunk m fs t (left - length new.piece) old more from to new n
+    part-comes more live g =
+        let size : length new.piece ≡ length x.bytes = ap length bytes-of.same in
+        let fits : length x.bytes ≤ left = taken-part.0 in
+        let came = h.count in
+        record {
+          p = h.p ++ x.bytes;
+          consumed = Consumes-trans from now to h.p x.bytes h.consumed x.consumed;
+          count = omega (arith, came, size, fits, length-append h.p x.bytes);
+          are_bytes = bytes_join h.p x.bytes h.are_bytes (bytes_back (t ++ h.p) x.bytes x.stands.stands.are_bytes);
+          grows = g ∙ ap (λ (u : List ℕ). u ++ new.piece) h.grows ∙ append_assoc old h.p new.piece ∙ ap (λ (u : List ℕ). old ++ (h.p ++ u)) bytes-of.same;
+          at = at-as b new ((t ++ h.p) ++ x.bytes) (t ++ (h.p ++ x.bytes)) (state_of new.machine.inner.position new.machine.inner.frames) (payload chunk m (left - length new.piece) fs) (append_assoc t h.p x.bytes)
+              (taken-part.1 ∙ ap (λ (j : ℕ). payload chunk m (left - j) fs) (sym size))
+              (next-at b e new (t ++ h.p) ((t ++ h.p) ++ x.bytes) (payload chunk m left fs) (h.at.marks ++ marks_of ev.width ev.kind) h.at same live x.stands);
+        }
+
+    -- no memory for it
+    pub part-memory : (f : Refusal) → f.read ≡ new.machine.taken → IsMemory f → StopsPayload b t n false from to f
+    part-memory f g i =
+        let size = length-append h.p x.bytes in
+        let came = h.count in
+        record {
+          bytes = h.p ++ x.bytes;
+          consumed = Consumes-trans from now to h.p x.bytes h.consumed x.consumed;
+          read = g ∙ x.stands.stands.taken ∙ ap length (append_assoc t h.p x.bytes);
+          why = inl (
+            i,
+            reached-as b ((t ++ h.p) ++ x.bytes) (t ++ (h.p ++ x.bytes)) (append_assoc t h.p x.bytes)
+                (stands-reached b new.machine ((t ++ h.p) ++ x.bytes) (h.at.marks ++ marks_of ev.width ev.kind) (same.depth ∙ h.at.depth) (same.bytes ∙ h.at.bytes) x.stands.stands),
+            is-part n (h.p ++ x.bytes) (omega (arith, size, bytes-of.some)) (omega (arith, size, taken-part.0, came))
+                (bytes_join h.p x.bytes h.are_bytes (bytes_back (t ++ h.p) x.bytes x.stands.stands.are_bytes)),
+          );
+        }
+
+  -- no part more
+  pub part-cut : (to : Option (List ℕ)) (f : Refusal) → Stops b (payload chunk m left fs) (t ++ h.p) now to f → StopsPayload b t n false from to f
+  part-cut to f s =
+      let c = s.cut in
+      let none : c.p ≡ [] = (go left some (nothing-taken b.depth (payload chunk m left fs) c.begun c.p (at-clear b e (t ++ h.p) (payload chunk m left fs) h.at) c.are_bytes c.ran)) in
+      let came = h.count in
+      record {
+        bytes = h.p ++ s.bytes;
+        consumed = Consumes-trans from now to h.p s.bytes h.consumed s.consumed;
+        read = s.read ∙ ap length (append_assoc t h.p s.bytes);
+        why = inr (inl (record {
+          p = h.p;
+          last = s.bytes;
+          splits = refl;
+          short = omega (arith, came, some);
+          are_bytes = h.are_bytes;
+          place = c.place ∙ ap (λ (u : List ℕ). length ((t ++ h.p) ++ u)) none ∙ ap length (append-nil (t ++ h.p));
+          refused = subst (λ (u : List ℕ). IsFormRefusal b u to f) (append_assoc t h.p s.bytes) c.refused;
+        }));
+      }
+    where
+      go : (left : ℕ) → 0 < left → IsWithin b.depth (payload chunk m left fs) s.cut.begun s.cut.p → s.cut.p ≡ []
+      go zero k w = absurd (omega arith)
+      go (suc j) k w = behind s.cut.begun w
+        where
+          behind : (u : State) → IsWithin b.depth (in_payload chunk m j fs) u s.cut.p → s.cut.p ≡ []
+          behind (in_head false l w i acc gs) taking = absurd (cc taking.0)
+          behind (in_head true l w i acc gs) taking = absurd (cc taking.0)
+          behind (in_simple gs) taking = absurd (cc taking.0)
+          behind (at_item gs) taking = taking.1
+          behind (in_payload c l i gs) taking = taking.1
+          behind (in_chunks l gs) taking = taking.1
+          behind at_end taking = taking.1
+
+-- all of it has come
+pub all-come : (b : Bounds) (chunk : Bool) (m : Major) (fs : List Frame) (t : List ℕ) (left : ℕ) (old grown : List ℕ) (from now : Option (List ℕ)) (e : ItemEventsView) (n : ℕ)
+    → HasCome b chunk m fs t left old grown from now e n → left ≡ 0 → ReadsPayload b (close_string chunk m fs) t n old grown from now e
+all-come b chunk m fs t left old grown from now e n h none = record {
+  bytes = h.p;
+  consumed = h.consumed;
+  count = omega (arith, h.count, none);
+  are_bytes = h.are_bytes;
+  grows = h.grows;
+  at = at-as b e (t ++ h.p) (t ++ h.p) (payload chunk m left fs) (close_string chunk m fs) refl (ap (λ (j : ℕ). payload chunk m j fs) none) h.at;
+}
+
+-- ---- a chunk
+
+pub payload-stops : (b : Bounds) (t : List ℕ) (n : ℕ) (text : Bool) (from to : Option (List ℕ)) (f : Refusal) → StopsPayload b t n false from to f → StopsPayload b t n text from to f
+payload-stops b t n text from to f s = record {
+  bytes = s.bytes;
+  consumed = s.consumed;
+  read = s.read;
+  why = elim s.why [ inl m ↦ inl m | inr (inl c) ↦ inr (inl c) | inr (inr x) ↦ absurd (true≢false (sym x.0)) ];
+}
+
+module _ (b : Bounds) (q : State) (t : List ℕ) (n : ℕ) (old grown : List ℕ) (from to : Option (List ℕ)) (new : ItemEventsView) (reads : ReadsPayload b q t n old grown from to new) where
+  pub behind-old : drop (length old) grown ≡ reads.bytes
+  behind-old = ap (drop (length old)) reads.grows ∙ drop-append_seam old reads.bytes
+
+  pub grown-length : length old ≤ length grown
+  grown-length = omega (arith, ap length reads.grows, length-append old reads.bytes)
+
+  pub chunk-is-text : (xs : List ℕ) → xs ≡ drop (length old) grown → IsUtf8 xs → IsUtf8 reads.bytes
+  chunk-is-text xs e h = subst IsUtf8 (e ∙ behind-old) h
+
+  pub chunk-no-text : (xs : List ℕ) (text : Bool) (f : Refusal) → xs ≡ drop (length old) grown → ¬ IsUtf8 xs → text ≡ true → f ≡ refusal InvalidText (length t + utf8_valid_len xs) new.machine.taken → StopsPayload b t n text from to f
+  chunk-no-text xs text f e h is_text is =
+      let same : xs ≡ reads.bytes = e ∙ behind-old in
+      let all : new.machine.taken ≡ length (t ++ reads.bytes) = reads.at.stands.stands.taken in
+      let taken : new.machine.taken ≡ length t + length reads.bytes = all ∙ length-append t reads.bytes in
+      let told : f ≡ refusal InvalidText (length t + utf8_valid_len reads.bytes) (length t + length reads.bytes) =
+      is ∙ ap (λ (ys : List ℕ). refusal InvalidText (length t + utf8_valid_len ys) new.machine.taken) same ∙ ap (refusal InvalidText (length t + utf8_valid_len reads.bytes)) taken in
+      record {
+        bytes = reads.bytes;
+        consumed = reads.consumed;
+        read = ap (λ (x : Refusal). x.read) is ∙ all;
+        why = inr (inr (is_text, record { count = reads.count; are_bytes = reads.are_bytes; no_text = λ u. h (subst IsUtf8 (sym same) u); is = told; within = (at-reached b new (t ++ reads.bytes) q reads.at).within }));
+      }

@@ -1,0 +1,179 @@
+-- Spelled items are bytes, so that each input has a longest beginning.
+use Rattle.std.proofs.Common.{ℕ, zero, suc, ◌*◌, ◌/◌, ◌^◌, ◌≡◌, ◌<◌, ◌≤◌, List, [], ◌∷◌, ◌++◌, length, flat_map, refl, sym, ap, ◌∙◌, arith, subst, inl, inr, append_assoc, mod-lt}
+use Rattle.std.specs.List.{AllByRecursion}
+use Rattle.std.specs.Int.{bytes_high_first, byte_at}
+use Rattle.std.proofs.lemmas.Bool.{cases_lt}
+use Rattle.cbor_head.specs.Head.{Holds, head, shortest, major_number, with_argument}
+use Rattle.cbor_head.specs.Value.{AreBytes}
+use Rattle.cbor_head.specs.Spelling.{Chunk, IsChunk, Spelling, Spellings, SpelledEntries, unsigned, negative, bytes, text, byte_chunks, text_chunks, array, a_map, tag, simple, no_spellings, a_spelling, no_entries, entry, spell, spell_all, spell_entries, spellings_count, entries_count, chunk_bytes, break_of, HoldsOrIndefinite, IsSpelled, AreSpelled, AreEntriesSpelled}
+use Rattle.cbor_head.specs.Beginning.{IsBeginning, IsLongestBeginning}
+use Rattle.cbor_head.specs.declared.major.Major.{Major}
+use Rattle.cbor_head.specs.declared.major.Major.TheVariants.{Unsigned, Negative, Bytes, Text, Array, Map, Tag, Simple}
+use Rattle.cbor_head.specs.declared.width.Width.{Width}
+use Rattle.cbor_head.specs.declared.width.Width.TheVariants.{Direct, One, Two, Four, Eight, Indefinite}
+use Rattle.cbor_head.proofs.Agree.{split_front}
+use Rattle.cbor_head.proofs.Parts.{holds_of}
+use Rattle.cbor_judging.proofs.ByteLists.{bytes_join, bytes_front}
+use Rattle.cbor_events.proofs.Longest.{longest_exists}
+
+-- ---- heads
+
+small_byte : (k n : ℕ) → byte_at k n < 256
+small_byte zero n = mod-lt n (omega arith)
+small_byte (suc i) n = mod-lt (n / 256 ^ suc i) (omega arith)
+
+high_bytes : (k n : ℕ) → AreBytes (bytes_high_first k n)
+high_bytes zero n = tt
+high_bytes (suc k) n = (small_byte k n, high_bytes k n)
+
+small_major : (m : Major) → major_number m < 8
+small_major Unsigned = omega arith
+small_major Negative = omega arith
+small_major Bytes = omega arith
+small_major Text = omega arith
+small_major Array = omega arith
+small_major Map = omega arith
+small_major Tag = omega arith
+small_major Simple = omega arith
+
+-- a width has room for the argument, where it is direct
+abbrev HasRoom : Width → ℕ → Type 0
+HasRoom Direct n = n < 24
+HasRoom _ n = Unit {0}
+
+argument_bytes : (w : Width) (k n : ℕ) → k < 8 → HasRoom w n → AreBytes (with_argument w (32 * k) n)
+argument_bytes Direct k n l h = (omega (arith, l, h), tt)
+argument_bytes One k n l h = (omega (arith, l), high_bytes 1 n)
+argument_bytes Two k n l h = (omega (arith, l), high_bytes 2 n)
+argument_bytes Four k n l h = (omega (arith, l), high_bytes 4 n)
+argument_bytes Eight k n l h = (omega (arith, l), high_bytes 8 n)
+argument_bytes Indefinite k n l h = (omega (arith, l), tt)
+
+head_bytes : (m : Major) (w : Width) (n : ℕ) → HasRoom w n → AreBytes (head m w n)
+head_bytes m w n h = argument_bytes w (major_number m) n (small_major m) h
+
+room : (w : Width) (n : ℕ) → Holds w n → HasRoom w n
+room Direct n h = h
+room One n h = tt
+room Two n h = tt
+room Four n h = tt
+room Eight n h = tt
+room Indefinite n h = tt
+
+open_room : (w : Width) (n : ℕ) → HoldsOrIndefinite w n → HasRoom w n
+open_room Direct n h = h
+open_room One n h = tt
+open_room Two n h = tt
+open_room Four n h = tt
+open_room Eight n h = tt
+open_room Indefinite n h = tt
+
+closer_bytes : (w : Width) → AreBytes (break_of w)
+closer_bytes Direct = tt
+closer_bytes One = tt
+closer_bytes Two = tt
+closer_bytes Four = tt
+closer_bytes Eight = tt
+closer_bytes Indefinite = (omega arith, tt)
+
+-- ---- items
+
+chunks_are_bytes : (m : Major) (cs : List Chunk) → AllByRecursion IsChunk cs → AreBytes (flat_map (chunk_bytes m) cs)
+chunks_are_bytes m [] h = tt
+chunks_are_bytes m (c ∷ cs) h =
+    bytes_join (chunk_bytes m c) (flat_map (chunk_bytes m) cs)
+    (bytes_join (head m c.width (length c.payload)) c.payload (head_bytes m c.width (length c.payload) (room c.width (length c.payload) h.0.0)) h.0.1)
+    (chunks_are_bytes m cs h.1)
+
+chunked_bytes : (m : Major) (cs : List Chunk) → AllByRecursion IsChunk cs → AreBytes ((head m Indefinite 0 ++ flat_map (chunk_bytes m) cs) ++ 0xff ∷ [])
+chunked_bytes m cs h =
+    bytes_join (head m Indefinite 0 ++ flat_map (chunk_bytes m) cs) (0xff ∷ [])
+    (bytes_join (head m Indefinite 0) (flat_map (chunk_bytes m) cs) (head_bytes m Indefinite 0 tt) (chunks_are_bytes m cs h))
+    (omega arith, tt)
+
+string_bytes : (m : Major) (w : Width) (q : List ℕ) → Holds w (length q) → AreBytes q → AreBytes (head m w (length q) ++ q)
+string_bytes m w q h g = bytes_join (head m w (length q)) q (head_bytes m w (length q) (room w (length q) h)) g
+
+mutual
+  spelled_bytes : (s : Spelling) → IsSpelled s → AreBytes (spell s)
+  spelled_bytes (unsigned w n) h = head_bytes Unsigned w n (room w n h)
+  spelled_bytes (negative w n) h = head_bytes Negative w n (room w n h)
+  spelled_bytes (bytes w q) h = string_bytes Bytes w q h.0 h.1
+  spelled_bytes (text w q) h = string_bytes Text w q h.0 h.1
+  spelled_bytes (byte_chunks cs) h = chunked_bytes Bytes cs h
+  spelled_bytes (text_chunks cs) h = chunked_bytes Text cs h
+  spelled_bytes (array w ss) h =
+      bytes_join (head Array w (spellings_count ss) ++ spell_all ss) (break_of w)
+      (bytes_join (head Array w (spellings_count ss)) (spell_all ss) (head_bytes Array w (spellings_count ss) (open_room w (spellings_count ss) h.0)) (spelled_all_bytes ss h.1))
+      (closer_bytes w)
+  spelled_bytes (a_map w es) h =
+      bytes_join (head Map w (entries_count es) ++ spell_entries es) (break_of w)
+      (bytes_join (head Map w (entries_count es)) (spell_entries es) (head_bytes Map w (entries_count es) (open_room w (entries_count es) h.0)) (spelled_entries_bytes es h.1))
+      (closer_bytes w)
+  spelled_bytes (tag w n s) h = bytes_join (head Tag w n) (spell s) (head_bytes Tag w n (room w n h.0)) (spelled_bytes s h.1)
+  spelled_bytes (simple n) h = head_bytes Simple (shortest n) n (open_room (shortest n) n (holds_of (simple n) h))
+
+  spelled_all_bytes : (ss : Spellings) → AreSpelled ss → AreBytes (spell_all ss)
+  spelled_all_bytes no_spellings h = tt
+  spelled_all_bytes (a_spelling s ss) h = bytes_join (spell s) (spell_all ss) (spelled_bytes s h.0) (spelled_all_bytes ss h.1)
+
+  spelled_entries_bytes : (es : SpelledEntries) → AreEntriesSpelled es → AreBytes (spell_entries es)
+  spelled_entries_bytes no_entries h = tt
+  spelled_entries_bytes (entry k v es) h =
+      bytes_join (spell k ++ spell v) (spell_entries es) (bytes_join (spell k) (spell v) (spelled_bytes k h.0) (spelled_bytes v h.1)) (spelled_entries_bytes es h.2)
+
+beginning_bytes : (d : ℕ) (p : List ℕ) → IsBeginning d p → AreBytes p
+beginning_bytes d p b = bytes_front p b.1 (subst AreBytes b.2.bytes_are (spelled_bytes b.0 b.2.spelled))
+
+-- ---- the longest beginning, whatever the input has
+
+-- its bytes, up to a number that is none
+record BytesInFront (b : List ℕ) : Type 0 where
+  front : List ℕ
+  behind : List ℕ
+  splits : b ≡ front ++ behind
+  are_bytes : AreBytes front
+  most : (q r : List ℕ) → AreBytes q → b ≡ q ++ r → length q ≤ length front
+
+bytes_in_front : (b : List ℕ) → BytesInFront b
+bytes_in_front [] = record { front = []; behind = []; splits = refl; are_bytes = tt; most = λ q r h e. shorter q r e }
+  where
+    shorter : (q r : List ℕ) → [] ≡ q ++ r → length q ≤ 0
+    shorter [] r e = omega arith
+    shorter (x ∷ q) r e = cc e
+bytes_in_front (c ∷ cs) = elim (cases_lt c 256) [
+  | inl l ↦
+      let k = bytes_in_front cs in
+      record { front = c ∷ k.front; behind = k.behind; splits = ap (λ (xs : List ℕ). c ∷ xs) k.splits; are_bytes = (l, k.are_bytes); most = λ q r h e. longer k q r h e }
+  | inr l ↦ record { front = []; behind = c ∷ cs; splits = refl; are_bytes = tt; most = λ q r h e. none l q r h e }
+]
+  where
+    longer : (k : BytesInFront cs) (q r : List ℕ) → AreBytes q → c ∷ cs ≡ q ++ r → length q ≤ suc (length k.front)
+    longer k [] r h e = omega arith
+    longer k (x ∷ q) r h e =
+        let rest : cs ≡ q ++ r = cc e in
+        let more = k.most q r h.1 rest in
+        omega (arith, more)
+
+    none : 256 ≤ c → (q r : List ℕ) → AreBytes q → c ∷ cs ≡ q ++ r → length q ≤ 0
+    none l [] r h e = omega arith
+    none l (x ∷ q) r h e =
+        let same : c ≡ x = cc e in
+        let small : x < 256 = h.0 in
+        absurd (omega (arith, l, same, small))
+
+pub longest_always : (d : ℕ) (b : List ℕ) → (x : List ℕ) × IsLongestBeginning d b x
+longest_always d b =
+    let k = bytes_in_front b in
+    let found = longest_exists d k.front k.are_bytes in
+    let g = found.1 in (
+      found.0,
+      record {
+        beginning = g.beginning;
+        rest = g.rest ++ k.behind;
+        splits = k.splits ∙ ap (λ (xs : List ℕ). xs ++ k.behind) g.splits ∙ append_assoc found.0 g.rest k.behind;
+        longest = λ q r i e.
+            let (m, f, h) = split_front q r k.front k.behind (sym e ∙ k.splits) (k.most q r (beginning_bytes d q i) e) in
+            g.longest q m i f;
+      },
+    )

@@ -1,0 +1,326 @@
+-- From one event to the next: which it can be, its bytes, and where it leads.
+use Rattle.std.proofs.Common.{◌≡◌, ℕ, zero, suc, ◌+◌, ◌-◌, ◌<◌, ◌≤◌, ◌⊎◌, Bool, Option, Some, None, List, [], ◌∷◌, ◌++◌, length, refl, sym, ap, ◌∙◌, subst, inl, inr, arith, append_assoc, append-nil}
+use Rattle.std.proofs.lemmas.List.{length-append}
+use Rattle.std.specs.Prelude.{Ok}
+use Rattle.std.specs.Io.KnownBytes.{Consumes}
+use Rattle.cbor_head.specs.Limits.{Bounds}
+use Rattle.cbor_head.specs.Complaint.{Rules, form, plain, strict, Complaint, complaint}
+use Rattle.cbor_head.specs.Beginning.{IsBeginning}
+use Rattle.cbor_head.specs.Verdict.{refusal, refused, IsVerdict}
+use Rattle.cbor_head.specs.declared.width.Width.{Width}
+use Rattle.cbor_head.specs.declared.width.Width.TheVariants.{Direct, One, Two, Four, Eight, Indefinite}
+use Rattle.cbor_head.specs.declared.order.KeyOrder.{KeyOrder}
+use Rattle.cbor_head.specs.declared.reason.Reason.{Reason}
+use Rattle.cbor_head.specs.declared.reason.Reason.TheVariants as reasons
+use Rattle.cbor_head.specs.declared.reason.Refusal.{Refusal}
+use Rattle.cbor_events.specs.Trace.{Mark, a_head, a_chunk, a_byte, a_break}
+use Rattle.cbor_events.specs.inner.Automaton.{State, start, at_item, in_head, in_simple, in_payload, in_chunks, done, run, reached}
+use Rattle.cbor_events.specs.inner.Taking.{IsTaking}
+use Rattle.cbor_events.specs.Marks.{mark_of, marks_of, times}
+use Rattle.cbor_events.specs.inner.State.{state_of, is_in_payload}
+use Rattle.cbor_events.specs.MachineView.{MachineView}
+use Rattle.cbor_events.specs.Machine.{KeepsLimits, StandsFor, before}
+use Rattle.cbor_events.specs.ItemEvents as item_events
+use Rattle.cbor_events.specs.ItemEvents.{ItemEventsView, StandsBetween, IsNextEvent, IsCut, IsTooLong, HasFormError, IsNext, call}
+use Rattle.cbor_events.specs.declared.event.Event.{Event}
+use Rattle.cbor_events.specs.declared.event.EventKind.{EventKind}
+use Rattle.cbor_events.specs.declared.event.EventKind.TheVariants as kinds
+use Rattle.cbor_events.specs.declared.frame.Frame as frames
+use Rattle.cbor_events.specs.declared.position.Position.{Position}
+use Rattle.cbor_events.specs.declared.position.Position.TheVariants as positions
+use Rattle.cbor_events.proofs.Frames.{position-done}
+use Rattle.cbor_events.proofs.Runs.{once-marks}
+use Rattle.cbor_events.proofs.Taking.{IsClear, mark-taken}
+use Rattle.cbor_judging.proofs.ByteLists.{bytes_back}
+use Rattle.cbor_judging.specs.Reading.{IsAt, IsReached, OfMark, IsHeadDue, IsNextHead, IsCutHead, StopsHead, IsFault}
+use Rattle.cbor_events.proofs.NextEvents.{whole-clear, run-rest}
+
+-- what has become of the limits
+pub record SameLimits (old new : MachineView) : Type 0 where
+  pub depth : new.depth ≡ old.depth
+  pub bytes : new.bytes ≡ old.bytes
+
+-- ---- where the events stand
+
+pub at-run : (b : Bounds) (e : ItemEventsView) (t : List ℕ) (q : State) → (a : IsAt b e t q) → run b.depth start t ≡ reached q a.marks
+at-run b e t q a = ap (λ (d : ℕ). run d start t) (sym a.depth) ∙ a.stands.stands.inner.ran ∙ ap (λ (u : State). reached u a.marks) a.state
+
+pub at-clear : (b : Bounds) (e : ItemEventsView) (t : List ℕ) (q : State) → IsAt b e t q → IsClear q
+at-clear b e t q a = whole-clear b.depth t q a.marks (at-run b e t q a) a.stands.whole
+
+pub stands-reached : (b : Bounds) (m : MachineView) (t : List ℕ) (ms : List Mark) → m.depth ≡ b.depth → m.bytes ≡ b.bytes → StandsFor m t ms → IsReached b t
+stands-reached b m t ms e f s = record {
+  begins = subst (λ (d : ℕ). IsBeginning d t) e s.beginning;
+  within = omega (arith, s.taken, s.limited, f);
+}
+
+pub at-reached : (b : Bounds) (e : ItemEventsView) (t : List ℕ) (q : State) → IsAt b e t q → IsReached b t
+at-reached b e t q a = stands-reached b e.machine t a.marks a.depth a.bytes a.stands.stands
+
+pub reached-as : (b : Bounds) (all whole : List ℕ) → all ≡ whole → IsReached b all → IsReached b whole
+reached-as b all whole e h = subst (IsReached b) e h
+
+pub next-at : (b : Bounds) (old new : ItemEventsView) (t u : List ℕ) (q : State) (ms : List Mark) → IsAt b old t q → SameLimits old.machine new.machine → new.refusal ≡ None → StandsBetween new.machine u ms
+    → IsAt b new u (state_of new.machine.inner.position new.machine.inner.frames)
+next-at b old new t u q ms a same live s =
+    record { live = live; limits = a.limits; depth = same.depth ∙ a.depth; bytes = same.bytes ∙ a.bytes; marks = ms; stands = s; state = refl }
+
+-- what is left falls
+pub farther : (b : Bounds) (e new : ItemEventsView) (t u : List ℕ) (q p : State) → IsAt b e t q → IsAt b new u p → length t < length u
+    → new.machine.bytes - new.machine.taken < e.machine.bytes - e.machine.taken
+farther b e new t u q p a z h =
+    let old : e.machine.taken ≡ length t = a.stands.stands.taken in
+    let now : new.machine.taken ≡ length u = z.stands.stands.taken in
+    let most : new.machine.taken ≤ new.machine.bytes = z.stands.stands.limited in
+    omega (arith, old, now, most, h, a.bytes, z.bytes)
+
+-- what a machine ran since
+pub since : (b : Bounds) (old : ItemEventsView) (new : MachineView) (t bs : List ℕ) (q : State) (ns : List Mark) → (a : IsAt b old t q) → new.depth ≡ b.depth
+    → run new.depth start (t ++ bs) ≡ reached (state_of new.inner.position new.inner.frames) (a.marks ++ ns) → run b.depth q bs ≡ reached (state_of new.inner.position new.inner.frames) ns
+since b old new t bs q ns a deep ran =
+    run-rest b.depth t bs q (state_of new.inner.position new.inner.frames) a.marks ns (at-run b old t q a) (ap (λ (d : ℕ). run d start (t ++ bs)) (sym deep) ∙ ran)
+
+-- ---- a head
+
+no_piece : (position : Position) (fs : List frames.Frame) (n : ℕ) → IsHeadDue (state_of position fs) → item_events.IsDue (is_in_payload position) (kinds.Piece n) → ⊥
+no_piece positions.Item fs n h d = d
+no_piece (positions.Head chunk kind width left argument) fs n h d = h
+no_piece positions.SimpleNumber fs n h d = h
+no_piece (positions.Payload chunk kind left) fs n h d = h
+no_piece (positions.Chunks kind) fs n h d = d
+no_piece positions.Done fs n h d = h
+
+once : (position : Position) (fs : List frames.Frame) (kind : EventKind) → IsHeadDue (state_of position fs) → item_events.IsDue (is_in_payload position) kind → times kind ≡ 1
+once position fs (kinds.Piece n) h d = absurd (no_piece position fs n h d)
+once position fs (kinds.Unsigned n) h d = refl
+once position fs (kinds.Negative n) h d = refl
+once position fs (kinds.Simple n) h d = refl
+once position fs (kinds.Bytes n) h d = refl
+once position fs (kinds.Text n) h d = refl
+once position fs (kinds.Chunk n) h d = refl
+once position fs (kinds.Array n) h d = refl
+once position fs (kinds.Map n) h d = refl
+once position fs (kinds.Tag n) h d = refl
+once position fs kinds.End h d = refl
+
+-- which event is due, by the inner state
+pub due-by : (b : Bounds) (e : ItemEventsView) (t : List ℕ) (q : State) (kind : EventKind) → IsAt b e t q → item_events.IsDue e.machine.in_payload kind → item_events.IsDue (is_in_payload e.machine.inner.position) kind
+due-by b e t q kind a d = subst (λ (x : Bool). item_events.IsDue x kind) a.stands.stands.inner.shown.in_payload d
+
+-- a head's one mark
+pub head-taken : (b : Bounds) (old new : ItemEventsView) (t : List ℕ) (q : State) (ev : Event) (from to : Option (List ℕ)) → IsHeadDue q → (a : IsAt b old t q)
+    → (n : IsNextEvent ev (call old new from to t a.marks)) → SameLimits old.machine new.machine
+    → IsTaking b.depth q (mark_of ev.width ev.kind) n.bytes (state_of new.machine.inner.position new.machine.inner.frames)
+head-taken b old new t q ev from to due a n same =
+    let one = once-marks ev.width ev.kind (once old.machine.inner.position old.machine.inner.frames ev.kind (subst IsHeadDue (sym a.state) due) (due-by b old t q ev.kind a n.due)) in
+    let u = state_of new.machine.inner.position new.machine.inner.frames in
+    let ran = since b old new.machine t n.bytes q (marks_of ev.width ev.kind) a (same.depth ∙ a.depth) n.stands.stands.inner.ran in
+    let clear = whole-clear new.machine.depth (t ++ n.bytes) u (a.marks ++ marks_of ev.width ev.kind) n.stands.stands.inner.ran n.stands.whole in
+    mark-taken b.depth q u n.bytes (mark_of ev.width ev.kind) (at-clear b old t q a) (bytes_back t n.bytes n.stands.stands.are_bytes) (ran ∙ ap (λ (ms : List Mark). reached u ms) one) clear
+
+-- ---- the head's complaint
+
+pub head-size : (d : ℕ) (q next : State) (m : Mark) (bs : List ℕ) (r : Rules) (at : ℕ) (reason : Reason) → IsTaking d q m bs next → IsFault r m reason → OfMark r at q m (complaint (at + length bs) at reason)
+head-size d (at_item fs) next (a_head m Indefinite n) bs (strict o) at reason h f = ap (λ (x : Reason). complaint (at + length bs) at x) f ∙ ap (λ (xs : List ℕ). complaint (at + length xs) at reasons.Indefinite) h.1
+head-size d (at_item fs) next (a_head m Direct n) bs (strict o) at reason h f = (f.0, ap (λ (x : Reason). complaint (at + length bs) at x) f.1 ∙ ap (λ (xs : List ℕ). complaint (at + length xs) at reasons.NotShortest) h.0)
+head-size d (at_item fs) next (a_head m One n) bs (strict o) at reason h f = (f.0, ap (λ (x : Reason). complaint (at + length bs) at x) f.1 ∙ ap (λ (xs : List ℕ). complaint (at + length xs) at reasons.NotShortest) h.0)
+head-size d (at_item fs) next (a_head m Two n) bs (strict o) at reason h f = (f.0, ap (λ (x : Reason). complaint (at + length bs) at x) f.1 ∙ ap (λ (xs : List ℕ). complaint (at + length xs) at reasons.NotShortest) h.0)
+head-size d (at_item fs) next (a_head m Four n) bs (strict o) at reason h f = (f.0, ap (λ (x : Reason). complaint (at + length bs) at x) f.1 ∙ ap (λ (xs : List ℕ). complaint (at + length xs) at reasons.NotShortest) h.0)
+head-size d (at_item fs) next (a_head m Eight n) bs (strict o) at reason h f = (f.0, ap (λ (x : Reason). complaint (at + length bs) at x) f.1 ∙ ap (λ (xs : List ℕ). complaint (at + length xs) at reasons.NotShortest) h.0)
+head-size d (in_chunks k fs) next (a_chunk Direct n) bs (strict o) at reason h f = (f.0, ap (λ (x : Reason). complaint (at + length bs) at x) f.1 ∙ ap (λ (xs : List ℕ). complaint (at + length xs) at reasons.NotShortest) h.0)
+head-size d (in_chunks k fs) next (a_chunk One n) bs (strict o) at reason h f = (f.0, ap (λ (x : Reason). complaint (at + length bs) at x) f.1 ∙ ap (λ (xs : List ℕ). complaint (at + length xs) at reasons.NotShortest) h.0)
+head-size d (in_chunks k fs) next (a_chunk Two n) bs (strict o) at reason h f = (f.0, ap (λ (x : Reason). complaint (at + length bs) at x) f.1 ∙ ap (λ (xs : List ℕ). complaint (at + length xs) at reasons.NotShortest) h.0)
+head-size d (in_chunks k fs) next (a_chunk Four n) bs (strict o) at reason h f = (f.0, ap (λ (x : Reason). complaint (at + length bs) at x) f.1 ∙ ap (λ (xs : List ℕ). complaint (at + length xs) at reasons.NotShortest) h.0)
+head-size d (in_chunks k fs) next (a_chunk Eight n) bs (strict o) at reason h f = (f.0, ap (λ (x : Reason). complaint (at + length bs) at x) f.1 ∙ ap (λ (xs : List ℕ). complaint (at + length xs) at reasons.NotShortest) h.0)
+head-size d (in_chunks k fs) next (a_chunk Indefinite n) bs (strict o) at reason h f = absurd h.1
+head-size d q next m bs form at reason h f = absurd f
+head-size d q next m bs plain at reason h f = absurd f
+head-size d (at_item fs) next (a_chunk w n) bs (strict o) at reason h f = absurd h
+head-size d q next a_byte bs (strict o) at reason h f = absurd f
+head-size d q next a_break bs (strict o) at reason h f = absurd f
+head-size d (in_chunks k fs) next (a_head m w n) bs (strict o) at reason h f = absurd h
+head-size d (in_payload c k zero fs) next (a_head m w n) bs (strict o) at reason h f = absurd h
+head-size d (in_payload c k (suc x) fs) next (a_head m w n) bs (strict o) at reason h f = absurd h
+head-size d (in_payload c k zero fs) next (a_chunk w n) bs (strict o) at reason h f = absurd h
+head-size d (in_payload c k (suc x) fs) next (a_chunk w n) bs (strict o) at reason h f = absurd h
+head-size d (in_head c k v x acc fs) next m bs (strict o) at reason h f = absurd h
+head-size d (in_simple fs) next m bs (strict o) at reason h f = absurd h
+head-size d done next m bs (strict o) at reason h f = absurd h
+
+pub fault_of : (q : State) (m : Mark) (r : Rules) (at : ℕ) (c : Complaint) → OfMark r at q m c → (reason : Reason) × IsFault r m reason
+fault_of (at_item fs) (a_head m Indefinite n) (strict o) at c h = (reasons.Indefinite, refl)
+fault_of (at_item fs) (a_head m Direct n) (strict o) at c h = (reasons.NotShortest, (h.0, refl))
+fault_of (at_item fs) (a_head m One n) (strict o) at c h = (reasons.NotShortest, (h.0, refl))
+fault_of (at_item fs) (a_head m Two n) (strict o) at c h = (reasons.NotShortest, (h.0, refl))
+fault_of (at_item fs) (a_head m Four n) (strict o) at c h = (reasons.NotShortest, (h.0, refl))
+fault_of (at_item fs) (a_head m Eight n) (strict o) at c h = (reasons.NotShortest, (h.0, refl))
+fault_of (in_chunks k fs) (a_chunk Direct n) (strict o) at c h = (reasons.NotShortest, (h.0, refl))
+fault_of (in_chunks k fs) (a_chunk One n) (strict o) at c h = (reasons.NotShortest, (h.0, refl))
+fault_of (in_chunks k fs) (a_chunk Two n) (strict o) at c h = (reasons.NotShortest, (h.0, refl))
+fault_of (in_chunks k fs) (a_chunk Four n) (strict o) at c h = (reasons.NotShortest, (h.0, refl))
+fault_of (in_chunks k fs) (a_chunk Eight n) (strict o) at c h = (reasons.NotShortest, (h.0, refl))
+fault_of (in_chunks k fs) (a_chunk Indefinite n) (strict o) at c h = (reasons.Indefinite, refl)
+fault_of _ _ _ at c h = absurd h
+
+-- ---- as the reader meets them
+
+pub next-head : (r : Rules) (b : Bounds) (old new : ItemEventsView) (t : List ℕ) (q : State) (ev : Event) (from to : Option (List ℕ)) → IsHeadDue q → (a : IsAt b old t q)
+    → IsNextEvent ev (call old new from to t a.marks) → SameLimits old.machine new.machine → new.refusal ≡ None
+    → ((reason : Reason) → IsFault r (mark_of ev.width ev.kind) reason → ⊥) → IsNextHead r b q t ev from to new
+next-head r b old new t q ev from to due a n same live fine = record {
+  bytes = n.bytes;
+  consumed = n.consumed;
+  place = n.place;
+  next = state_of new.machine.inner.position new.machine.inner.frames;
+  taking = head-taken b old new t q ev from to due a n same;
+  clean = λ c h. let f = fault_of q (mark_of ev.width ev.kind) r (length t) c h in fine f.0 f.1;
+  proper = n.are.0;
+  at = next-at b old new t (t ++ n.bytes) q (a.marks ++ marks_of ev.width ev.kind) a same live n.stands;
+}
+
+pub bad-head : (r : Rules) (b : Bounds) (old new : ItemEventsView) (t : List ℕ) (q : State) (ev : Event) (from to : Option (List ℕ)) (f : Refusal) (reason : Reason) → IsHeadDue q → (a : IsAt b old t q)
+    → IsNextEvent ev (call old new from to t a.marks) → SameLimits old.machine new.machine
+    → IsFault r (mark_of ev.width ev.kind) reason → f ≡ refusal reason ev.place new.machine.taken → StopsHead r b q t from to f
+bad-head r b old new t q ev from to f reason due a n same fault is =
+    let taking = head-taken b old new t q ev from to due a n same in
+    let taken : new.machine.taken ≡ length t + length n.bytes = n.stands.stands.taken ∙ length-append t n.bytes in
+    let c = complaint (length t + length n.bytes) (length t) reason in
+    let f_is : f ≡ refusal reason (length t) (length t + length n.bytes) = is ∙ ap (λ (x : ℕ). refusal reason x new.machine.taken) n.place ∙ ap (refusal reason (length t)) taken in
+    record {
+      bytes = n.bytes;
+      consumed = n.consumed;
+      read = ap (λ (x : Refusal). x.read) f_is ∙ sym (length-append t n.bytes);
+      why = inr (record { mark = mark_of ev.width ev.kind; next = state_of new.machine.inner.position new.machine.inner.frames; taking = taking; complaint = c; of = head-size b.depth q (state_of new.machine.inner.position new.machine.inner.frames) (mark_of ev.width ev.kind) n.bytes r (length t) reason taking fault; is = f_is; within = omega (arith, n.stands.stands.taken, n.stands.stands.limited, same.bytes, a.bytes) });
+    }
+
+-- ---- a refusal
+
+-- what was taken, and what of it told nothing
+pub record Stops (b : Bounds) (q : State) (t : List ℕ) (from to : Option (List ℕ)) (f : Refusal) : Type 0 where
+  pub bytes : List ℕ
+  pub consumed : Consumes from to bytes
+  pub read : f.read ≡ length (t ++ bytes)
+  pub cut : IsCutHead b q t bytes to f
+
+verdict-within : (b : Bounds) (d n : ℕ) (input : List ℕ) (f : Refusal) → d ≡ b.depth → n ≡ b.bytes → IsVerdict d n form input (refused f) → IsVerdict b.depth b.bytes form input (refused f)
+verdict-within b d n input f e g v = subst (λ (x : ℕ). IsVerdict x b.bytes form input (refused f)) e (subst (λ (x : ℕ). IsVerdict d x form input (refused f)) g v)
+
+module _ (b : Bounds) (old new : ItemEventsView) (t : List ℕ) (q : State) (from to : Option (List ℕ)) (f : Refusal) (a : IsAt b old t q) (same : SameLimits old.machine new.machine) where
+  abbrev now : MachineView
+  now = new.machine
+
+  deep : now.depth ≡ b.depth
+  deep = same.depth ∙ a.depth
+
+  most : now.bytes ≡ b.bytes
+  most = same.bytes ∙ a.bytes
+
+  -- where it told nothing
+  silent : (m : MachineView) (bs : List ℕ) → m.depth ≡ now.depth → StandsFor m (t ++ bs) a.marks → run b.depth q bs ≡ reached (state_of m.inner.position m.inner.frames) []
+  silent m bs e s = since b old m t bs q [] a (e ∙ deep) (s.inner.ran ∙ ap (λ (ms : List Mark). reached (state_of m.inner.position m.inner.frames) ms) (sym (append-nil a.marks)))
+
+  pub stops-cut : IsCut f (call old new from to t a.marks) → Stops b q t from to f
+  stops-cut c =
+      let place : f.place ≡ length (t ++ c.bytes) = ap (λ (x : Refusal). x.place) c.is in
+      let read : f.read ≡ length (t ++ c.bytes) = ap (λ (x : Refusal). x.read) c.is in
+      record {
+        bytes = c.bytes;
+        consumed = c.consumed;
+        read = read;
+        cut = record {
+          p = c.bytes;
+          last = [];
+          splits = sym (append-nil c.bytes);
+          are_bytes = bytes_back t c.bytes c.stands.are_bytes;
+          begun = state_of now.inner.position now.inner.frames;
+          ran = silent now c.bytes refl c.stands;
+          place = place;
+          refused = inr (verdict-within b now.depth now.bytes (t ++ c.bytes) _ deep most c.verdict, place ∙ sym read, c.reason);
+        };
+      }
+
+  pub stops-full : IsTooLong f (call old new from to t a.marks) → Stops b q t from to f
+  stops-full c =
+      record {
+        bytes = c.bytes;
+        consumed = c.consumed;
+        read = ap (λ (x : Refusal). x.read) c.is ∙ sym c.full;
+        cut = record {
+          p = c.bytes;
+          last = [];
+          splits = sym (append-nil c.bytes);
+          are_bytes = bytes_back t c.bytes c.stands.are_bytes;
+          begun = state_of now.inner.position now.inner.frames;
+          ran = silent (before now (length (t ++ c.bytes))) c.bytes refl c.stands;
+          place = ap (λ (x : Refusal). x.place) c.is ∙ sym c.full;
+          refused = inl (λ more. verdict-within b now.depth now.bytes ((t ++ c.bytes) ++ more) f deep most (c.verdict more));
+        };
+      }
+
+  pub stops-error : HasFormError f (call old new from to t a.marks) → Stops b q t from to f
+  stops-error c =
+      let all : t ++ (c.bytes ++ c.byte ∷ []) ≡ (t ++ c.bytes) ++ c.byte ∷ [] = sym (append_assoc t c.bytes (c.byte ∷ [])) in
+      record {
+        bytes = c.bytes ++ c.byte ∷ [];
+        consumed = c.consumed;
+        read = ap (λ (x : Refusal). x.read) c.is ∙ sym (ap length all ∙ length-append (t ++ c.bytes) (c.byte ∷ []));
+        cut = record {
+          p = c.bytes;
+          last = c.byte ∷ [];
+          splits = refl;
+          are_bytes = bytes_back t c.bytes c.stands.are_bytes;
+          begun = state_of now.inner.position now.inner.frames;
+          ran = silent (before now (length (t ++ c.bytes))) c.bytes refl c.stands;
+          place = ap (λ (x : Refusal). x.place) c.is;
+          refused = inl (λ more. subst (λ (xs : List ℕ). IsVerdict b.depth b.bytes form (xs ++ more) (refused f)) (sym all) (verdict-within b now.depth now.bytes (((t ++ c.bytes) ++ c.byte ∷ []) ++ more) f deep most (c.verdict more)));
+        };
+      }
+
+  pub stops : IsCut f (call old new from to t a.marks) ⊎ IsTooLong f (call old new from to t a.marks) ⊎ HasFormError f (call old new from to t a.marks) → Stops b q t from to f
+  stops h = elim h [ inl c ↦ stops-cut c | inr (inl c) ↦ stops-full c | inr (inr c) ↦ stops-error c ]
+
+-- a head that doesn't come
+pub no-head : (r : Rules) (b : Bounds) (q : State) (t : List ℕ) (from to : Option (List ℕ)) (f : Refusal) → Stops b q t from to f → StopsHead r b q t from to f
+no-head r b q t from to f s = record { bytes = s.bytes; consumed = s.consumed; read = s.read; why = inl s.cut }
+
+-- ---- as a reader meets them
+
+pub limits-as : (old new : MachineView) → KeepsLimits old new → SameLimits old new
+limits-as old new h = record { depth = h.depth; bytes = h.bytes }
+
+module _ (b : Bounds) (old new : ItemEventsView) (t : List ℕ) (q : State) (from to : Option (List ℕ)) (a : IsAt b old t q) where
+  -- the answer, as the item's event
+  pub told : (o : Option Event) (ev : Event) → o ≡ Some ev → IsNext (Ok o) (call old new from to t a.marks) → IsNextEvent ev (call old new from to t a.marks)
+  told o ev e n = subst (λ (x : Option Event). IsNext (Ok x) (call old new from to t a.marks)) e n
+
+  -- an item that is open has not ended
+  pub not-ended : (o : Option Event) → o ≡ None → (q ≡ done → ⊥) → IsNext (Ok o) (call old new from to t a.marks) → ⊥
+  not-ended o e f n =
+      let end = subst (λ (x : Option Event). IsNext (Ok x) (call old new from to t a.marks)) e n in
+      f (sym a.state ∙ ap (λ (p : Position). state_of p old.machine.inner.frames) (position-done old.machine.inner.position (sym a.stands.stands.inner.shown.complete ∙ end.complete.0)))
+
+pub head-open : (q : State) → IsHeadDue q → q ≡ done → ⊥
+head-open q h e = subst IsHeadDue e h
+
+-- ---- what the strict rules have against a head
+
+abbrev pub IsHeadKind : EventKind → Type 0
+IsHeadKind (kinds.Piece n) = ⊥
+IsHeadKind kinds.End = ⊥
+IsHeadKind kind = Unit {0}
+
+pub open-fault : (o : KeyOrder) (w : Width) (kind : EventKind) → w ≡ Indefinite → IsHeadKind kind → IsFault (strict o) (mark_of w kind) reasons.Indefinite
+open-fault o w kind e h = subst (λ (v : Width). IsFault (strict o) (mark_of v kind) reasons.Indefinite) (sym e) (go kind h)
+  where
+    go : (kind : EventKind) → IsHeadKind kind → IsFault (strict o) (mark_of Indefinite kind) reasons.Indefinite
+    go (kinds.Piece n) h = absurd h
+    go kinds.End h = absurd h
+    go (kinds.Unsigned n) h = refl
+    go (kinds.Negative n) h = refl
+    go (kinds.Simple n) h = refl
+    go (kinds.Bytes n) h = refl
+    go (kinds.Text n) h = refl
+    go (kinds.Chunk n) h = refl
+    go (kinds.Array n) h = refl
+    go (kinds.Map n) h = refl
+    go (kinds.Tag n) h = refl

@@ -1,0 +1,213 @@
+-- What was found of the one item that an input starts with is its verdict.
+use Rattle.std.proofs.Common.{ℕ, ◌+◌, ◌-◌, ◌≡◌, ◌≤◌, ◌⊎◌, Option, Some, None, List, [], ◌∷◌, ◌++◌, length, take, drop, refl, sym, ap, ◌∙◌, arith, subst, inl, inr, append_assoc, append-nil, take-append-drop}
+use Rattle.std.proofs.Math.Seq.{take-append_seam, drop-append_seam, take-append-add}
+use Rattle.std.proofs.lemmas.List.{length-append, nil_from_length}
+use Rattle.std.specs.Io.KnownBytes.{Consumes, IsAtEnd}
+use Rattle.cbor_head.specs.Limits.{Bounds}
+use Rattle.cbor_head.specs.Value.{Value}
+use Rattle.cbor_head.specs.Spelling.{spell, IsItem}
+use Rattle.cbor_head.specs.Beginning.{IsBeginning, IsLongestBeginning}
+use Rattle.cbor_head.specs.Complaint.{Rules, Complaint, form}
+use Rattle.cbor_head.specs.Verdict.{refusal, refused, IsFormError, IsVerdict}
+use Rattle.cbor_head.specs.declared.reason.Reason.{Reason}
+use Rattle.cbor_head.specs.declared.reason.Reason.TheVariants.{Truncated, Read, Memory}
+use Rattle.cbor_head.specs.declared.reason.Refusal.{Refusal}
+use Rattle.cbor_head.proofs.Agree.{split_front}
+use Rattle.cbor_head.proofs.Beginnings.{item_decides}
+use Rattle.cbor_events.proofs.Form.{no-complaint}
+use Rattle.cbor_events.specs.ItemEvents.{ItemEventsView}
+use Rattle.cbor_judging.specs.Judged.{IsJudged}
+use Rattle.cbor_judging.specs.Readers.{IsReadAs, IsUnread, of_verdict, of_reader, of_memory, Loses}
+use Rattle.cbor_judging.specs.Reading.{IsReached, IsMemory, IsCause, Extends, ReadsItem, IsUndecided, StopsItem}
+use Rattle.cbor_judging.specs.Refusals.{IsFreeBefore}
+use Rattle.cbor_judging.proofs.FreeBefore.{front-free}
+use Rattle.cbor_judging.proofs.Decisions.{complaint_decides, break_decides}
+use Rattle.cbor_judging.proofs.Within.{verdict_within}
+use Rattle.cbor_judging.proofs.SpelledBytes.{longest_always}
+
+-- ---- the first n bytes
+
+-- of more than it has
+cut_behind : (n : ℕ) (p rest : List ℕ) → length p ≤ n → take n (p ++ rest) ≡ p ++ take (n - length p) rest
+cut_behind n p rest l =
+    let e : n ≡ length p + (n - length p) = omega (arith, l) in
+    ap (λ (k : ℕ). take k (p ++ rest)) e ∙ take-append-add p rest (n - length p)
+
+-- two fronts of one length
+same_front : (p q x y : List ℕ) → p ++ x ≡ q ++ y → length p ≡ length q → p ≡ q
+same_front p q x y e l =
+    let (k, f, h) = split_front p x q y e (omega (arith, l)) in
+    let none : k ≡ [] = nil_from_length k (omega (arith, l, ap length f, length-append p k)) in
+    sym (f ∙ ap (λ (u : List ℕ). p ++ u) none ∙ append-nil p)
+
+-- what a reader that had all of the input lost
+pub record Lost (input bs : List ℕ) (to : Option (List ℕ)) : Type 0 where
+  pub rest : List ℕ
+  pub left : to ≡ Some rest
+  pub splits : input ≡ bs ++ rest
+
+pub lost : (input bs : List ℕ) (from to : Option (List ℕ)) → from ≡ Some input → Extends [] bs from to → Lost input bs to
+lost input bs from to e h = go to (subst (λ (f : Option (List ℕ)). Consumes f to h.more) e h.consumed)
+  where
+    go : (to : Option (List ℕ)) → Consumes (Some input) to h.more → Lost input bs to
+    go None c = absurd c
+    go (Some ys) c = record { rest = ys; left = refl; splits = c ∙ ap (λ (u : List ℕ). u ++ ys) (sym h.are) }
+
+-- ---- a form error
+
+-- its place is the length of the longest beginning
+break_place : (d n : ℕ) (p behind : List ℕ) (f : Refusal) → IsFormError d n p behind f → f.place ≡ length p
+break_place d n p [] f (inl b) = ap (λ (x : Refusal). x.place) b.1 ∙ sym b.0
+break_place d n p [] f (inr b) = ap (λ (x : Refusal). x.place) b.1
+break_place d n p (c ∷ cs) f b = ap (λ (x : Refusal). x.place) b.2
+
+-- what the form has against an input
+record BreaksAt (d n : ℕ) (input : List ℕ) (f : Refusal) : Type 0 where
+  p : List ℕ
+  longest : IsLongestBeginning d (take n input) p
+  breaks : IsFormError d n p longest.rest f
+
+breaks_at : (d n : ℕ) (input : List ℕ) (f : Refusal) → IsVerdict d n form input (refused f) → BreaksAt d n input f
+breaks_at d n input f v = elim v.decides [
+  | inl c ↦ absurd (no-complaint 0 v.item c.0 c.1.holds)
+  | inr b ↦ record { p = v.p; longest = v.longest; breaks = b.2 }
+]
+
+-- and the place of its refusal is where what has no complaint ends
+pub form_decides : (d n : ℕ) (r : Rules) (input p rest : List ℕ) (f : Refusal) → IsJudged r 0 d p None → input ≡ p ++ rest → f.place ≡ length p → IsVerdict d n form input (refused f)
+    → (IsVerdict d n r input (refused f)) × IsLongestBeginning d (take n input) p
+form_decides d n r input p rest f j e place v =
+    let b = breaks_at d n input f v in
+    let size : length b.p ≡ length p = sym (break_place d n b.p b.longest.rest f b.breaks) ∙ place in
+    let whole : input ≡ b.p ++ (b.longest.rest ++ drop n input) = sym (take-append-drop n input) ∙ ap (λ (u : List ℕ). u ++ drop n input) b.longest.splits ∙ append_assoc b.p b.longest.rest (drop n input) in
+    let same : p ≡ b.p = same_front p b.p rest (b.longest.rest ++ drop n input) (sym e ∙ whole) (sym size) in (
+      break_decides d n r input b.p f (subst (λ (u : List ℕ). IsJudged r 0 d u None) same j) b.longest b.breaks,
+      subst (IsLongestBeginning d (take n input)) (sym same) b.longest,
+    )
+
+-- ---- an item that is read
+
+module _ (r : Rules) (b : Bounds) (input : List ℕ) (from to : Option (List ℕ)) (known : from ≡ Some input) where
+  module _ (new : ItemEventsView) (v : Value) (i : ReadsItem r b [] [] [] from to new v) where
+    gone : Lost input (spell i.item) to
+    gone = lost input (spell i.item) from to known i.taken
+
+    fits : length (spell i.item) ≤ b.bytes
+    fits = omega (arith, i.at.stands.stands.taken, i.at.stands.stands.limited, i.at.bytes)
+
+    pub item-read : IsReadAs b.depth b.bytes r input v (length (spell i.item))
+    item-read = record {
+      read = record {
+        item = i.item;
+        verdict = item_decides b.depth b.bytes r input (take (b.bytes - length (spell i.item)) gone.rest) i.item
+            (record { spelled = i.spelled; within = omega (arith, i.within); bytes_are = refl })
+            (ap (take b.bytes) gone.splits ∙ cut_behind b.bytes (spell i.item) gone.rest fits)
+            i.clean;
+        size = refl;
+      };
+      value = sym i.value;
+    }
+
+  -- ---- a refusal
+
+  module _ (f : Refusal) (s : StopsItem r b [] [] [] from to f) where
+    left : Lost input s.bytes to
+    left = lost input s.bytes from to known s.taken
+
+    read-is : f.read ≡ length s.bytes
+    read-is = s.read
+
+    taken-are : take f.read input ≡ s.bytes
+    taken-are = ap (λ (k : ℕ). take k input) read-is ∙ ap (take (length s.bytes)) left.splits ∙ take-append_seam s.bytes left.rest
+
+    -- the bytes taken are within the longest beginning, if they are one
+    short : IsReached b s.bytes → (p : List ℕ) → IsLongestBeginning b.depth (take b.bytes input) p → f.read ≤ length p
+    short h p g = omega (arith, read-is, g.longest s.bytes (take (b.bytes - length s.bytes) left.rest) h.begins (ap (take b.bytes) left.splits ∙ cut_behind b.bytes s.bytes left.rest h.within))
+
+    flat : (reason : Reason) → f.reason ≡ reason → f.place ≡ f.read → f ≡ refusal reason f.read f.read
+    flat reason e g = ap (λ (x : Reason). refusal x f.place f.read) e ∙ ap (λ (k : ℕ). refusal reason k f.read) g
+
+    -- where all but the last byte taken tells nothing against the item, no complaint ends before
+    free : IsReached b s.bytes → IsUndecided r b [] [] s.bytes → (p : List ℕ) → IsLongestBeginning b.depth (take b.bytes input) p → IsFreeBefore b.depth r p f.read
+    free h u p g =
+        let front : take b.bytes input ≡ s.bytes ++ take (b.bytes - length s.bytes) left.rest = ap (take b.bytes) left.splits ∙ cut_behind b.bytes s.bytes left.rest h.within in
+        let (k, is, other) = split_front s.bytes (take (b.bytes - length s.bytes) left.rest) p g.rest (sym front ∙ g.splits) (omega (arith, read-is, short h p g)) in
+        let item : IsItem b.depth u.judged.item (u.p ++ u.judged.rest) = subst (λ (m : ℕ). IsItem m u.judged.item (u.p ++ u.judged.rest)) level u.judged.is in
+        front-free b.depth r u.p p (u.last ++ k) u.judged.item u.judged.rest f.read item (is ∙ ap (λ (v : List ℕ). v ++ k) u.splits ∙ append_assoc u.p u.last k)
+        (λ c held. omega (arith, u.judged.finding.1 c held)) (omega (arith, read-is, ap length u.splits, length-append u.p u.last, u.byte))
+      where
+        level : b.depth - 0 ≡ b.depth
+        level = omega arith
+
+    stopped-for-memory : IsMemory f → IsReached b s.bytes → IsUndecided r b [] [] s.bytes → IsUnread b.depth b.bytes r input f
+    stopped-for-memory m h u =
+        let g = longest_always b.depth (take b.bytes input) in
+        of_memory g.0 g.1 (short h g.0 g.1) (flat Memory m.0 m.1) (free h u g.0 g.1)
+
+    module _ (p last : List ℕ) (splits : s.bytes ≡ p ++ last) where
+      input-is : input ≡ p ++ (last ++ left.rest)
+      input-is = left.splits ∙ ap (λ (u : List ℕ). u ++ left.rest) splits ∙ append_assoc p last left.rest
+
+      shorter : length p ≤ length s.bytes
+      shorter = omega (arith, ap length splits, length-append p last)
+
+      stopped-by-complaint : (c : Complaint) → IsJudged r 0 b.depth p (Some c) → f ≡ refusal c.reason c.place c.end → length s.bytes ≤ b.bytes → IsUnread b.depth b.bytes r input f
+      stopped-by-complaint c j is l =
+          let g = longest_always b.depth (take b.bytes input) in
+          of_verdict (subst (λ (x : Refusal). IsVerdict b.depth b.bytes r input (refused x)) (sym is)
+          (complaint_decides b.depth b.bytes r input p (take (b.bytes - length p) (last ++ left.rest)) g.0 c j
+          (ap (take b.bytes) input-is ∙ cut_behind b.bytes p (last ++ left.rest) (omega (arith, l, shorter))) g.1))
+
+      -- the input ends, or the reader failed, within an item
+      cut : IsJudged r 0 b.depth p None → f.place ≡ length p → IsVerdict b.depth b.bytes form s.bytes (refused (refusal Truncated (length s.bytes) (length s.bytes))) → f.place ≡ f.read
+          → (f.reason ≡ Read) ⊎ ((f.reason ≡ Truncated) × IsAtEnd to) → IsUnread b.depth b.bytes r input f
+      cut j place v even why =
+          let all : length s.bytes ≡ length p = sym read-is ∙ sym even ∙ place in
+          let decided = form_decides b.depth b.bytes r s.bytes p last (refusal Truncated (length s.bytes) (length s.bytes)) j splits all v in
+          elim why [
+            | inl e ↦
+                let g = longest_always b.depth (take b.bytes input) in
+                let none : last ≡ [] = nil_from_length last (omega (arith, all, ap length splits, length-append p last)) in
+                let begins : IsBeginning b.depth s.bytes = subst (IsBeginning b.depth) (sym (splits ∙ ap (λ (u : List ℕ). p ++ u) none ∙ append-nil p)) (j.item, j.rest, j.is) in
+                let within : length s.bytes ≤ b.bytes = most v in
+                of_reader g.0 g.1 (short (record { begins = begins; within = within }) g.0 g.1) (flat Read e even)
+                (subst (λ (u : List ℕ). IsVerdict b.depth b.bytes r u (refused (refusal Truncated f.read f.read))) (sym taken-are)
+                (subst (λ (k : ℕ). IsVerdict b.depth b.bytes r s.bytes (refused (refusal Truncated k k))) (sym read-is) decided.0))
+            | inr e ↦
+                let end : left.rest ≡ [] = ended left.rest left.left e.1 in
+                let whole : input ≡ s.bytes = left.splits ∙ ap (λ (u : List ℕ). s.bytes ++ u) end ∙ append-nil s.bytes in
+                of_verdict (subst (λ (u : List ℕ). IsVerdict b.depth b.bytes r u (refused f)) (sym whole)
+                (subst (λ (x : Refusal). IsVerdict b.depth b.bytes r s.bytes (refused x)) (sym (flat Truncated e.0 even ∙ ap (λ (k : ℕ). refusal Truncated k k) read-is)) decided.0))
+          ]
+        where
+          ended : (rest : List ℕ) → to ≡ Some rest → IsAtEnd to → rest ≡ []
+          ended rest e h = subst IsAtEnd e h
+
+          most : IsVerdict b.depth b.bytes form s.bytes (refused (refusal Truncated (length s.bytes) (length s.bytes))) → length s.bytes ≤ b.bytes
+          most v = (verdict_within b.depth b.bytes s.bytes form (refusal Truncated (length s.bytes) (length s.bytes)) v).in_limit
+
+      stopped-by-cause : (found : Option Complaint) → IsJudged r 0 b.depth p found → IsCause b s.bytes to (length p) found f → IsUnread b.depth b.bytes r input f
+      stopped-by-cause (Some c) j h = stopped-by-complaint c j h.0 h.1
+      stopped-by-cause None j h = elim h.1 [
+        | inl w ↦ of_verdict (form_decides b.depth b.bytes r input p (last ++ left.rest) f j input-is h.0 (subst (λ (u : List ℕ). IsVerdict b.depth b.bytes form u (refused f)) (sym left.splits) (w left.rest))).0
+        | inr w ↦ cut j h.0 w.0 w.1 w.2
+      ]
+
+    pub item-unread : IsUnread b.depth b.bytes r input f
+    item-unread = elim s.why [
+      | inl m ↦ stopped-for-memory m.0 m.1 m.2
+      | inr h ↦ stopped-by-cause h.p h.last h.splits h.found (subst (λ (k : ℕ). IsJudged r 0 k h.p h.found) level h.judged) h.cause
+    ]
+      where
+        level : b.depth - 0 ≡ b.depth
+        level = omega arith
+
+-- ---- what the reader lost
+
+pub loses : (bs : List ℕ) (k : ℕ) (from to : Option (List ℕ)) → k ≡ length bs → Extends [] bs from to → Loses k from to
+loses bs k None to e h = tt
+loses bs k (Some xs) to e h =
+    let g = lost xs bs (Some xs) to refl h in (
+      g.left ∙ ap Some (sym (ap (drop k) g.splits ∙ ap (λ (j : ℕ). drop j (bs ++ g.rest)) e ∙ drop-append_seam bs g.rest)),
+      omega (arith, e, ap length g.splits, length-append bs g.rest),
+    )

@@ -1,0 +1,94 @@
+-- Where memory is refused: all but the last byte taken tells nothing against the item.
+use Rattle.std.proofs.Common.{ℕ, ◌-◌, ◌≡◌, ◌<◌, ◌≤◌, Option, List, [], ◌∷◌, ◌++◌, length, refl, sym, ap, ◌∙◌, append_assoc, arith, subst}
+use Rattle.std.proofs.lemmas.List.{length-append}
+use Rattle.cbor_head.specs.Limits.{Bounds}
+use Rattle.cbor_head.specs.Value.{Value, AreBytes}
+use Rattle.cbor_head.specs.Head.{head}
+use Rattle.cbor_head.specs.Spelling.{simple, spell}
+use Rattle.cbor_head.specs.Complaint.{Rules}
+use Rattle.cbor_head.specs.declared.major.Major.{Major}
+use Rattle.cbor_head.specs.declared.major.Major.TheVariants as majors
+use Rattle.cbor_head.specs.declared.width.Width.{Width}
+use Rattle.cbor_head.proofs.Agree.{body, parts}
+use Rattle.cbor_head.proofs.ReadLaws.{length_spell}
+use Rattle.cbor_events.specs.inner.Automaton.{Frame, State}
+use Rattle.cbor_events.specs.inner.Taking.{Follows}
+use Rattle.cbor_events.specs.ItemEvents.{ItemEventsView}
+use Rattle.cbor_judging.proofs.ByteLists.{bytes_front}
+use Rattle.cbor_judging.proofs.Heads.{Headed, headed}
+use Rattle.cbor_judging.proofs.Items.{IsDefinite}
+use Rattle.cbor_judging.proofs.Judged.{judged_head}
+use Rattle.cbor_judging.specs.Reading.{IsUndecided, IsPart, ReadsItem}
+
+-- a list with its last byte apart
+pub record LastApart (xs : List ℕ) : Type 0 where
+  pub front : List ℕ
+  pub last : List ℕ
+  pub splits : xs ≡ front ++ last
+  pub byte : length last ≡ 1
+
+pub last-apart : (xs : List ℕ) → 0 < length xs → LastApart xs
+last-apart [] h = absurd (omega arith)
+last-apart (x ∷ []) h = record { front = []; last = x ∷ []; splits = refl; byte = refl }
+last-apart (x ∷ y ∷ ys) h =
+    let k = last-apart (y ∷ ys) (omega arith) in
+    record { front = x ∷ k.front; last = k.last; splits = ap (λ (zs : List ℕ). x ∷ zs) k.splits; byte = k.byte }
+
+-- behind an item without complaint
+pub item-undecided : (r : Rules) (b : Bounds) (fs : List Frame) (t x : List ℕ) (from to : Option (List ℕ)) (new : ItemEventsView) (v : Value) → (m : ReadsItem r b fs t x from to new v) → IsUndecided r b fs t (spell m.item)
+item-undecided r b fs t x from to new v m =
+    let k = last-apart (spell m.item) (length_spell m.item) in
+    let size = length-append k.front k.last in
+    record {
+      p = k.front;
+      last = k.last;
+      splits = k.splits;
+      byte = omega (arith, k.byte);
+      judged = record {
+        item = m.item;
+        rest = k.last;
+        is = record { spelled = m.spelled; within = m.within; bytes_are = k.splits };
+        finding = (omega (arith, k.byte, ap length k.splits, size), λ e g. absurd (m.clean e g));
+      };
+    }
+
+-- within a payload
+pub is-part : (n : ℕ) (bytes : List ℕ) → 0 < length bytes → length bytes ≤ n → AreBytes bytes → IsPart n bytes
+is-part n bytes some most h =
+    let k = last-apart bytes some in
+    record {
+      p = k.front;
+      last = k.last;
+      splits = k.splits;
+      byte = omega (arith, k.byte);
+      short = omega (arith, k.byte, most, ap length k.splits, length-append k.front k.last);
+      are_bytes = bytes_front k.front k.last (subst AreBytes k.splits h);
+    }
+
+-- ---- a head
+
+pub head-item : (d : ℕ) (fs : List Frame) (m : Major) (w : Width) (n : ℕ) (x : List ℕ) (next : State) → IsDefinite d fs m w n x next → Headed (d - length fs) (head m w n)
+head-item d fs m w n x next i = go m i.follows
+  where
+    go : (m : Major) → Follows d fs m w n next → Headed (d - length fs) (head m w n)
+    go majors.Unsigned f = headed (d - length fs) majors.Unsigned w n tt i.holds (omega arith)
+    go majors.Negative f = headed (d - length fs) majors.Negative w n tt i.holds (omega arith)
+    go majors.Bytes f = headed (d - length fs) majors.Bytes w n tt i.holds (omega arith)
+    go majors.Text f = headed (d - length fs) majors.Text w n tt i.holds (omega arith)
+    go majors.Array f = headed (d - length fs) majors.Array w n tt i.holds (omega (arith, f.0))
+    go majors.Map f = headed (d - length fs) majors.Map w n tt i.holds (omega (arith, f.0))
+    go majors.Tag f = headed (d - length fs) majors.Tag w n tt i.holds (omega (arith, f.0))
+    go majors.Simple f = record { item = simple n; spelled = f.0; within = omega arith; head_is = ap (λ (v : Width). head majors.Simple v n) (sym f.1) }
+
+pub head-undecided : (r : Rules) (b : Bounds) (fs : List Frame) (t x : List ℕ) → Headed (b.depth - length fs) x → 0 < length x → IsUndecided r b fs t x
+head-undecided r b fs t x h some =
+    let k = last-apart x some in
+    record {
+      p = k.front;
+      last = k.last;
+      splits = k.splits;
+      byte = omega (arith, k.byte);
+      judged = judged_head r (length t) (b.depth - length fs) k.front h.item (k.last ++ body h.item)
+          (record { spelled = h.spelled; within = h.within; bytes_are = parts h.item ∙ ap (λ (y : List ℕ). y ++ body h.item) (h.head_is ∙ k.splits) ∙ append_assoc k.front k.last (body h.item) })
+          (omega (arith, ap length (h.head_is ∙ k.splits), length-append k.front k.last, k.byte));
+    }

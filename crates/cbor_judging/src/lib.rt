@@ -1,0 +1,8 @@
+//! What the bytes so far of an item tell of it (RFC 8949): the theory of every reader, whichever
+//! rules it goes by.
+//!
+//! A crate of definitions and lemmas: it has no call. `Judged` says what some bytes tell of an item
+//! that starts with them, its first complaint or none so far; `Frame` and `OpenMaps` have the
+//! containers that are open around it, `Reading` what the events of its bytes tell, `Refusals` and
+//! `Readers` what is answered of the item at the front of an input.
+#![tactic(auto)]
