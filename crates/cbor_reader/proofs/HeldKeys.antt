@@ -13,11 +13,10 @@ use Rattle.cbor_events.specs.inner.Taking.{Ends}
 use Rattle.cbor_item.specs.Built.{HasKey, IsRepeatedKey, IsWaitingKey, IsContainer}
 use Rattle.cbor_item.specs.Parts.{Open, plain, an_array, a_map, a_key, a_string, pair, closed, give, close, opened}
 use Rattle.cbor_reader.specs.declared.key_set.KeySet.{KeySet}
-use Rattle.cbor_reader.specs.inner.HeldKeys.{IsAmong, HasKeyBytes, IsAdded, pair_keys, keys_before, AreHeld, AreHeldSoFar}
+use Rattle.cbor_reader.specs.inner.HeldKeys.{is_in, IsAmong, HasKeyBytes, IsAdded, pair_keys, keys_before, AreHeld, AreHeldSoFar}
 use Rattle.cbor_judging.specs.Levels as levels
 use Rattle.cbor_judging.specs.Levels.{Level, frame}
 use Rattle.cbor_reader.specs.inner.Levels.{level_open, opens}
-use Rattle.cbor_reader.specs.inner.MapKeys.{is_in}
 use Rattle.cbor_reader.proofs.KeySets.{not_both, in_more, opposite}
 use Rattle.std.specs.Prelude.{map}
 

@@ -5,13 +5,11 @@ mod Examples
 pub mod Fronts
 pub mod Headline
 pub mod HeldKeys
-pub mod Keys
 pub mod KeySets
 pub mod LevelEvents
 pub mod Levels
 pub mod LevelStrings
 pub mod LevelWholes
-pub mod MapKeys
 pub mod OnAnswers
 pub mod OneAnswer
 pub mod OwnAnswers

@@ -2,7 +2,6 @@
 pub mod Front
 pub mod HeldKeys
 pub mod Levels
-pub mod MapKeys
 pub mod PlainFront
 pub mod PlainItems
 pub mod PlainParts

@@ -4,12 +4,7 @@ ghost use Rattle.std.specs.Prelude.{◌≡◌, ◌≤◌, ◌<◌, ℕ, length, 
 ghost use Rattle.std.specs.Ordering.{nat_cmp};
 ghost use Rattle.std.specs.Cmp.Lexicographic.{slice_cmp};
 ghost use Rattle.std.specs.BTreeSet.{Updates};
-ghost use Rattle.cbor_head.specs.Canonical.{canonical};
-ghost use Rattle.cbor_head.specs.Spelling.{Spelling, value_of};
-ghost use Rattle.cbor_head.specs.Value.{IsInRange, IsValid};
-ghost use Rattle.cbor_head.specs.declared.order.KeyOrder.TheVariants.{Bytewise};
-ghost use Rattle.cbor_reader.specs.inner.HeldKeys.{HasKeyBytes, IsAdded};
-ghost use Rattle.cbor_reader.specs.inner.MapKeys.{HasBytes, IsPut, is_in};
+ghost use Rattle.cbor_reader.specs.inner.HeldKeys.{HasKeyBytes, IsAdded, is_in};
 
 use arrayvec::ArrayVec;
 use std::alloc::{AllocError, Global};
@@ -29,8 +24,7 @@ pub(crate) struct KeySet {
 impl KeySet {
     // Of no keys.
     pub(crate) fn new(alloc: Global) -> KeySet
-        ensures keys { HasBytes result [] }
-        ensures bytes { HasKeyBytes result [] }
+        ensures { HasKeyBytes result [] }
     {
         KeySet {
             short: BTreeSet::new(alloc),
@@ -46,19 +40,6 @@ impl KeySet {
         match ArrayVec::try_from(bytes) {
             Ok(short) => insert_short(&mut self.short, short),
             Err(_) => insert_long(&mut self.long, Vec::from_slice(alloc, bytes)?),
-        }
-    }
-
-    // Whether the bytes were not there, where they are now.
-    pub(crate) fn insert(&mut self, bytes: Vec<u8>) -> Result<bool, AllocError>
-        ensures { (ks : List Spelling) (k : Spelling) → HasBytes self.old ks
-            → IsInRange (value_of k) → IsValid (value_of k)
-            → bytes.items ≡ canonical Bytewise (value_of k)
-            → IfOk result (IsPut ks k self.new) }
-    {
-        match ArrayVec::try_from(bytes.as_slice()) {
-            Ok(short) => insert_short(&mut self.short, short),
-            Err(_) => insert_long(&mut self.long, bytes),
         }
     }
 }

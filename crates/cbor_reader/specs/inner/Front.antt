@@ -2,10 +2,16 @@
 use Rattle.std.specs.Prelude.{ℕ, ◌≤◌, List, Option, IfSome}
 use Rattle.cbor_head.specs.Complaint.{Rules}
 use Rattle.cbor_head.specs.Limits.{Bounds}
-use Rattle.cbor_head.specs.Value.{Value}
+use Rattle.cbor_head.specs.Value.{Value, IsInRange, IsValid, depth}
+use Rattle.cbor_head.specs.declared.limits.TheConstants.{MAX_DEPTH}
 use Rattle.cbor_judging.specs.Readers.{IsReadAs, Loses}
 use Rattle.cbor_reader.specs.Size.{size}
-use Rattle.cbor_reader.specs.inner.MapKeys.{HasCanonicalBytes}
+
+-- a value that has canonical bytes, of no more depth than any item that is read
+pub record HasCanonicalBytes (v : Value) : Type 0 where
+  pub depth : depth v ≤ MAX_DEPTH
+  pub in_range : IsInRange v
+  pub valid : IsValid v
 
 -- What is read by these rules, whichever reader it is: what is told of a known input, and of each.
 pub record IsFrontRead (r : Rules) (b : Bounds) (from to : Option (List ℕ)) (v : Value) (count : ℕ) : Type 0 where

@@ -1,12 +1,18 @@
 -- The keys of the open containers, as sets of canonical bytes.
 use Rattle.std.specs.Prelude.{ℕ, ◌≡◌, ◌<◌, ◌≤◌, ◌⊎◌, ◌↔◌, Bool, true, false, List, [], ◌∷◌, length, Vec}
 use Rattle.std.specs.Global.{Global}
+use Rattle.std.specs.Ordering.{nat_cmp}
+use Rattle.std.specs.Cmp.Lexicographic.{slice_cmp}
+use Rattle.std.specs.BTreeSet.{BTreeSet, contains}
 use Rattle.arrayvec.specs.ArrayVec.{ArrayVec}
 use Rattle.cbor_head.specs.Canonical.{Pair}
 use Rattle.cbor_item.specs.Parts.{Open, a_map, a_key}
 use Rattle.cbor_reader.specs.declared.key_set.KeySet.{KeySet}
 use Rattle.cbor_reader.specs.declared.key_set.TheConstants.{SHORT_KEY}
-use Rattle.cbor_reader.specs.inner.MapKeys.{is_in}
+
+-- this is in a set of bytes
+abbrev pub is_in : {X : Type 0} → (X → List ℕ) → BTreeSet X → X → Bool
+is_in bytes = contains (λ x y. slice_cmp nat_cmp (bytes x) (bytes y))
 
 -- q is one of these
 abbrev pub IsAmong : List ℕ → List (List ℕ) → Type 0

@@ -1,1 +1,0 @@
--- The keys read so far.
