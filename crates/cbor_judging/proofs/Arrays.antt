@@ -16,7 +16,8 @@ use Rattle.cbor_events.specs.Marks.{count_of}
 use Rattle.cbor_events.specs.ItemEvents.{ItemEventsView}
 use Rattle.cbor_events.specs.declared.event.EventKind.TheVariants as kinds
 use Rattle.cbor_judging.specs.Reading.{IsAt, Extends, IsBegun, ReadsItem}
-use Rattle.cbor_judging.proofs.Composition.{IsArraySoFar, array_bytes, array_whole}
+use Rattle.cbor_judging.specs.SoFar.{IsArraySoFar, array_bytes}
+use Rattle.cbor_judging.proofs.Composition.{array_whole}
 use Rattle.cbor_judging.proofs.Heads.{open_or}
 use Rattle.cbor_judging.proofs.Loops.{array_bytes-whole}
 use Rattle.cbor_judging.proofs.Items.{definite, proper-definite, extends-none}

@@ -6,14 +6,14 @@ use Rattle.std.proofs.lemmas.Grind.{flat_map-append}
 use Rattle.cbor_head.specs.Head.{head}
 use Rattle.cbor_head.specs.Spelling.{Chunk, IsChunk, Spelling, bytes, text, byte_chunks, text_chunks, array, a_map, spell, chunk_bytes, chunked, IsSpelled, HoldsOrIndefinite, spellings_count, entries_count, depth}
 use Rattle.cbor_head.specs.Complaint.{Rules, Complaint, OfHead, OfIndefinite, OfCount, OfPayload, OfString, OfChunks, Complains}
-use Rattle.cbor_judging.specs.Judged.{IsFinding, IsJudged}
+use Rattle.cbor_judging.specs.Judged.{IsFinding, IsJudged, Never}
 use Rattle.cbor_head.specs.declared.major.Major.{Major}
 use Rattle.cbor_head.specs.declared.major.Major.TheVariants.{Bytes, Text, Array, Map}
 use Rattle.cbor_head.specs.declared.width.Width.{Width}
 use Rattle.cbor_head.specs.declared.width.Width.TheVariants.{Indefinite}
 use Rattle.cbor_head.proofs.Agree.{head_of, body, parts, later, payload_end}
 use Rattle.cbor_head.proofs.OneFirst.{last, count_last, payload_last}
-use Rattle.cbor_judging.proofs.Judged.{Never, zeros, zeros_count, zeros_spelled, zeros_flat, zero_pairs, pairs_count, pairs_spelled, pairs_flat}
+use Rattle.cbor_judging.proofs.Judged.{zeros, zeros_count, zeros_spelled, zeros_flat, zero_pairs, pairs_count, pairs_spelled, pairs_flat}
 
 -- ---- heads
 

@@ -9,10 +9,10 @@ use Rattle.cbor_head.specs.declared.major.Major.TheVariants as majors
 use Rattle.cbor_head.specs.declared.width.Width.TheVariants.{Indefinite}
 use Rattle.cbor_judging.specs.Frame as frames
 use Rattle.cbor_judging.specs.Frame.{Frame, with_entries, keys_onto, before, IsFrame, depth_beside}
-use Rattle.cbor_judging.specs.Judged.{IsJudged}
+use Rattle.cbor_judging.specs.Judged.{IsJudged, Never}
 use Rattle.cbor_judging.specs.OpenMaps.{keys_at, OnKeys, OfClosed, ComplainsWithin, before_all, AreOpen, AreOpenDistinct}
 use Rattle.cbor_judging.proofs.Heads.{open_or}
-use Rattle.cbor_judging.proofs.Judged.{Never, zero_item, zeros, zeros_count, zeros_spelled, zeros_flat, zero_pairs, pairs_count, pairs_spelled, pairs_flat}
+use Rattle.cbor_judging.proofs.Judged.{zero_item, zeros, zeros_count, zeros_spelled, zeros_flat, zero_pairs, pairs_count, pairs_spelled, pairs_flat}
 use Rattle.cbor_judging.proofs.OpenMaps.{judged_within}
 use Rattle.cbor_judging.proofs.OpenSteps.{before_snoc}
 use Rattle.cbor_judging.proofs.OpenWalk.{none_open, opens as one_opens}

@@ -14,7 +14,7 @@ use Rattle.cbor_judging.specs.Levels.{IsClean, IsTaken, AreTaken, ArePairsTaken}
 use Rattle.cbor_judging.proofs.Arrays.{closes}
 use Rattle.cbor_judging.proofs.Frames.{count_with, entries_with}
 use Rattle.cbor_judging.proofs.Items.{is-definite}
-use Rattle.cbor_judging.proofs.Judged.{Never}
+use Rattle.cbor_judging.specs.Judged.{Never}
 use Rattle.cbor_judging.proofs.Loops.{array_bytes-more, array_bytes-whole, map_bytes-more, map_bytes-whole}
 
 -- ---- complaints, wherever an item stands

@@ -11,6 +11,7 @@ pub mod Fronts
 pub mod Heads
 pub mod Items
 pub mod Judged
+pub mod LastKey
 pub mod Leaves
 pub mod LevelFrames
 pub mod Levels

@@ -7,7 +7,7 @@ use Rattle.cbor_head.specs.declared.major.Major.TheVariants.{Array, Map}
 use Rattle.cbor_head.specs.declared.width.Width.{Width}
 use Rattle.cbor_judging.specs.Frame.{with_all, with_entries}
 use Rattle.cbor_judging.proofs.Frames.{spell_with, spell_entries_with}
-use Rattle.cbor_judging.proofs.Composition.{array_bytes, map_bytes}
+use Rattle.cbor_judging.specs.SoFar.{array_bytes, map_bytes}
 
 pub array_bytes-more : (w : Width) (n : ℕ) (done : Spellings) (s : Spelling) → array_bytes w n (with_all done (a_spelling s no_spellings)) ≡ array_bytes w n done ++ spell s
 array_bytes-more w n done s =

@@ -17,7 +17,8 @@ use Rattle.cbor_events.specs.ItemEvents.{ItemEventsView}
 use Rattle.cbor_events.specs.declared.event.EventKind.TheVariants as kinds
 use Rattle.cbor_judging.specs.Frame.{keys_onto}
 use Rattle.cbor_judging.specs.Reading.{IsAt, Extends, IsBegun, ReadsItem}
-use Rattle.cbor_judging.proofs.Composition.{IsMapSoFar, map_bytes, map_whole}
+use Rattle.cbor_judging.specs.SoFar.{IsMapSoFar, map_bytes}
+use Rattle.cbor_judging.proofs.Composition.{map_whole}
 use Rattle.cbor_judging.proofs.Heads.{open_or}
 use Rattle.cbor_judging.proofs.Loops.{map_bytes-whole}
 use Rattle.cbor_judging.proofs.Items.{definite, proper-definite, extends-none}

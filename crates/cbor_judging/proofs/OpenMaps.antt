@@ -3,9 +3,9 @@ use Rattle.std.proofs.Common.{ℕ, suc, ◌+◌, ◌≡◌, ◌≤◌, Option, L
 use Rattle.std.proofs.lemmas.List.{length-append, append_assoc}
 use Rattle.cbor_head.specs.Complaint.{Rules, Complaint}
 use Rattle.cbor_judging.specs.Frame.{Frame, before, IsFrame, depth_beside}
-use Rattle.cbor_judging.specs.Judged.{IsJudged}
+use Rattle.cbor_judging.specs.Judged.{IsJudged, Never}
 use Rattle.cbor_judging.specs.OpenMaps.{open_keys, AreDistinct, OfClosed, before_all, ArePath, AreClosedClean, AreOpenDistinct}
-use Rattle.cbor_judging.proofs.Judged.{Never, judged_in}
+use Rattle.cbor_judging.proofs.Judged.{judged_in}
 use Rattle.cbor_judging.proofs.OpenKeys.{front_apart}
 
 -- ---- one container

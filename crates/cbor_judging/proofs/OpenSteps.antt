@@ -9,7 +9,7 @@ use Rattle.cbor_head.specs.declared.width.Width.{Width}
 use Rattle.cbor_judging.specs.Frame.{Frame, a_member, a_key, a_content, tagged, with_all, with_entries, plug, before, IsFrame, depth_beside, OfKeyAt, OfBack}
 use Rattle.cbor_judging.specs.OpenMaps.{Placed, placed, keys_at, open_keys, AreDistinct, ComplainsWithin, OfClosed, before_all, ArePath, AreClosedClean, AreOpenDistinct}
 use Rattle.cbor_judging.proofs.Frames.{count_with, spell_with, entries_with, spell_entries_with, members_split, plug_split}
-use Rattle.cbor_judging.proofs.Judged.{Never}
+use Rattle.cbor_judging.specs.Judged.{Never}
 use Rattle.cbor_judging.proofs.OpenKeys.{front_apart}
 
 -- ---- one container more, within the others

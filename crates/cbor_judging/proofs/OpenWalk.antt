@@ -9,7 +9,8 @@ use Rattle.cbor_head.specs.declared.width.Width.{Width}
 use Rattle.cbor_judging.specs.Frame.{Frame, a_member, a_key, a_content, tagged, with_all, with_entries, before, IsFrame, depth_beside}
 use Rattle.cbor_judging.specs.OpenMaps.{OfClosed, before_all, ArePath, AreOpen}
 use Rattle.cbor_judging.proofs.Frames.{depth_with, spelled_with, spelled_entries_with, depth_entries_with}
-use Rattle.cbor_judging.proofs.Judged.{Never, zero_item, zeros, zero_pairs, zeros_count, zeros_spelled, zeros_flat, pairs_count, pairs_spelled, pairs_flat}
+use Rattle.cbor_judging.specs.Judged.{Never}
+use Rattle.cbor_judging.proofs.Judged.{zero_item, zeros, zero_pairs, zeros_count, zeros_spelled, zeros_flat, pairs_count, pairs_spelled, pairs_flat}
 use Rattle.cbor_judging.proofs.OpenSteps.{path_snoc, path_outer, clean_snoc, clean_outer, member_count, pair_count, member_clean, key_clean, content_clean}
 
 module _ (r : Rules) (depth_limit : ℕ) where

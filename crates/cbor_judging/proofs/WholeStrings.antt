@@ -28,13 +28,12 @@ use Rattle.std.proofs.KnownBytes.{Consumes-trans}
 use Rattle.cbor_events.specs.inner.Automaton.{Frame, State, at_item, in_chunks, close, payload}
 use Rattle.cbor_events.specs.inner.Taking.{IsTaking}
 use Rattle.cbor_events.specs.ItemEvents.{ItemEventsView}
-use Rattle.cbor_judging.specs.Judged.{IsJudged}
+use Rattle.cbor_judging.specs.Judged.{IsJudged, Never}
 use Rattle.cbor_head.specs.declared.order.KeyOrder.{KeyOrder}
 use Rattle.cbor_judging.specs.Reading.{IsAt, IsFormRefusal, IsNoText, IsNextHead, Extends, IsBegun, OfMark, ReadsItem, StopsItem, HasCause, StopsHead, ReadsPayload, StopsPayload, string_major, string_kind, string_value}
 use Rattle.cbor_judging.proofs.Items.{definite, proper-definite, is-definite, head-count, extends-none, extends-on}
 use Rattle.cbor_judging.proofs.Scalars.{at-as}
 use Rattle.cbor_judging.proofs.Heads.{zero_bytes, zero_length}
-use Rattle.cbor_judging.proofs.Judged.{Never}
 use Rattle.cbor_judging.proofs.Leaves.{IsChunked, bytes_chunked, text_chunked, chunks_bytes, chunk_judged, bytes_so_far, text_so_far, text_complains}
 use Rattle.cbor_judging.proofs.Chunks.{chunk, AreChunksSoFar, cut_chunk, cut_payload, chunk_complains, chunks_more, chunks_whole}
 use Rattle.cbor_judging.proofs.ByteLists.{bytes_join}

@@ -1,7 +1,9 @@
 pub mod Frame
 pub mod Judged
+pub mod LastKey
 pub mod Levels
 pub mod OpenMaps
 pub mod Readers
 pub mod Reading
 pub mod Refusals
+pub mod SoFar

@@ -6,7 +6,7 @@ use Rattle.cbor_head.specs.Complaint.{Rules, Complains}
 use Rattle.cbor_head.specs.Verdict.{refused, refusal, IsFormError, IsVerdict}
 use Rattle.cbor_head.specs.declared.reason.Reason.TheVariants.{Truncated, TooLong}
 use Rattle.cbor_head.specs.declared.reason.Refusal.{Refusal}
-use Rattle.cbor_judging.proofs.Judged.{Never}
+use Rattle.cbor_judging.specs.Judged.{Never}
 
 -- where the first n bytes of the input are p, and the item goes on behind p
 pub cut : (d n : ℕ) (r : Rules) (input : List ℕ) (s : Spelling) (p q : List ℕ) (f : Refusal) → IsItem d s (p ++ q) → Never (Complains r 0 s) → 0 < length q → take n input ≡ p

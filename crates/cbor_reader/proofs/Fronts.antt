@@ -12,7 +12,7 @@ use Rattle.cbor_judging.specs.Reading.{ReadsItem}
 use Rattle.cbor_reader.proofs.Valid.{in_range_of, valid_of}
 use Rattle.cbor_item.proofs.Sound.{sound}
 use Rattle.cbor_item.proofs.Depth.{depth-value_of}
-use Rattle.cbor_judging.proofs.Judged.{Never}
+use Rattle.cbor_judging.specs.Judged.{Never}
 use Rattle.cbor_reader.proofs.Sizes.{size_bounded}
 use Rattle.cbor_judging.proofs.Tops.{item-read, loses}
 use Rattle.cbor_judging.proofs.Fronts.{known}

@@ -6,9 +6,8 @@ use Rattle.cbor_head.specs.Canonical.{canonical}
 use Rattle.cbor_head.specs.declared.order.KeyOrder.{KeyOrder}
 use Rattle.cbor_head.specs.declared.reason.Reason.TheVariants.{Memory}
 use Rattle.cbor_head.specs.declared.reason.Refusal.{Refusal}
-use Rattle.cbor_reader.specs.Canonicalise.{IsCanonicalOf, IsRefusal, TellsItsValue}
+use Rattle.cbor_reader.specs.Canonicalise.{IsCanonicalOf, IsRefusal, TellsItsValue, IsCanonicaliserReason}
 use Rattle.cbor_reader.specs.Headline.{IsValidItem}
-use Rattle.cbor_reader.specs.Canonicalise.{IsCanonicaliserReason}
 use Rattle.cbor_reader.proofs.Headline.{answers_exactly, refused_too_long, equal_exactly, again}
 use Rattle.cbor_reader.proofs.CanonicaliserRefusals.{canonicaliser-reason}
 

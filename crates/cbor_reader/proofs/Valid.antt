@@ -13,7 +13,7 @@ use Rattle.cbor_head.specs.declared.width.Width.TheVariants.{Indefinite}
 use Rattle.cbor_head.proofs.Counts.{holds_fits, values_count-of, entries_count-of}
 use Rattle.cbor_head.proofs.ReadLaws.{length_spell}
 use Rattle.cbor_item.proofs.Stable.{utf8_stable}
-use Rattle.cbor_judging.proofs.Judged.{Never}
+use Rattle.cbor_judging.specs.Judged.{Never}
 use Rattle.cbor_judging.proofs.ByteLists.{bytes_join}
 
 -- ---- counts

@@ -14,7 +14,8 @@ use Rattle.cbor_head.proofs.ReadLaws.{unique, holds_or_open}
 use Rattle.cbor_events.specs.Open.{if_open}
 use Rattle.cbor_strict.specs.KeptKeys.{open_maps, open_maps_in, open_maps_in_entries, key_bytes, key_bytes_in, key_bytes_in_entries}
 use Rattle.cbor_judging.specs.Frame.{Frame, a_member, a_key, a_content, tagged, with_all, with_entries, plug, before, behind, IsFrame}
-use Rattle.cbor_strict.specs.inner.LastKeys.{is_key, last_key, complete_key}
+use Rattle.cbor_strict.specs.inner.LastKeys.{is_key, complete_key}
+use Rattle.cbor_judging.specs.LastKey.{last_key}
 use Rattle.cbor_judging.specs.OpenMaps.{before_all}
 use Rattle.cbor_judging.proofs.Frames.{count_with, entries_with, spell_plug}
 

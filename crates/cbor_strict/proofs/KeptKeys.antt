@@ -13,9 +13,11 @@ use Rattle.cbor_strict.specs.declared.last_keys.Due.TheVariants.{Member, Key, Co
 use Rattle.cbor_strict.specs.declared.last_keys.Level.{Level}
 use Rattle.cbor_strict.specs.declared.last_keys.Span.{Span}
 use Rattle.cbor_judging.specs.Frame.{Frame, a_member, a_key, a_content, tagged, with_entries, plug, before, behind}
-use Rattle.cbor_strict.specs.inner.LastKeys.{AreDefinite, still_open, ended_item, KeysView, is_key, stands_in_key, due_of, level_of, levels_of, last_key, before_last, complete_key, kept_bytes, kept_before, span, spans_in, spans_of, with_key, IsKept, IsFull}
+use Rattle.cbor_strict.specs.inner.LastKeys.{AreDefinite, still_open, ended_item, KeysView, is_key, stands_in_key, due_of, level_of, levels_of, before_last, complete_key, kept_bytes, kept_before, span, spans_in, spans_of, with_key, IsKept, IsFull}
+use Rattle.cbor_judging.specs.LastKey.{last_key}
 use Rattle.cbor_judging.proofs.Frames.{spell_plug}
 use Rattle.cbor_judging.proofs.OpenSteps.{content_before, pair_count}
+use Rattle.cbor_judging.proofs.LastKey.{last_key_with}
 
 -- ---- in a key, or not
 
@@ -297,11 +299,6 @@ module _ (k : KeysView) (f : Frame) (fs : List Frame) (s : Spelling) (ls : List 
       go (a_key w a v b) full h d = absurd full
 
 -- ---- keys
-
-pub last_key_with : (a : SpelledEntries) (k v : Spelling) → last_key (with_entries a (entry k v no_entries)) ≡ spell k
-last_key_with no_entries k v = refl
-last_key_with (entry l m no_entries) k v = refl
-last_key_with (entry l m (entry n o es)) k v = last_key_with (entry n o es) k v
 
 pub before_last_with : (a : SpelledEntries) (k v : Spelling) → before_last (with_entries a (entry k v no_entries)) ≡ length (spell_entries a)
 before_last_with no_entries k v = refl

@@ -23,12 +23,13 @@ use Rattle.cbor_events.proofs.Opens.{stack}
 use Rattle.cbor_strict.specs.declared.open_items.OpenItems.{OpenItems}
 use Rattle.cbor_strict.specs.KeptKeys.{open_maps, open_maps_in, key_bytes, key_bytes_in, key_bytes_in_entries}
 use Rattle.cbor_judging.specs.Frame.{Frame, a_member, a_key, a_content, tagged, before}
-use Rattle.cbor_strict.specs.inner.LastKeys.{seen, from_outside, is_key, stands_in_key, last_key, complete_key, kept_bytes, spans_of, spans_in, IsKept}
+use Rattle.cbor_strict.specs.inner.LastKeys.{seen, from_outside, is_key, stands_in_key, complete_key, kept_bytes, spans_of, spans_in, IsKept}
+use Rattle.cbor_judging.specs.LastKey.{last_key}
 use Rattle.cbor_strict.specs.inner.OpenItems.{frames_in, bytes_before, Stands}
 use Rattle.cbor_judging.specs.OpenMaps.{before_all, ArePath, AreClosedClean}
 use Rattle.cbor_judging.specs.Reading.{IsAt, string_major}
 use Rattle.cbor_strict.specs.inner.StrictEvents.{IsLittle}
-use Rattle.cbor_judging.proofs.Judged.{Never}
+use Rattle.cbor_judging.specs.Judged.{Never}
 use Rattle.cbor_strict.proofs.KeptCounts.{Counts, AreAround, one_map, map_count, keys_size, path_counts, maps_past, keys_past}
 use Rattle.cbor_strict.proofs.KeptKeys.{either_way, kept_if_in, kept_if_out, kept_spans}
 use Rattle.cbor_judging.proofs.Standing.{open-is}

@@ -21,13 +21,13 @@ use Rattle.cbor_events.specs.Marks.{mark_of}
 use Rattle.cbor_events.specs.declared.event.EventKind.{EventKind}
 use Rattle.cbor_events.specs.declared.event.EventKind.TheVariants as kinds
 use Rattle.cbor_judging.specs.Frame.{Frame, a_member, a_key, a_content, tagged, before}
-use Rattle.cbor_judging.specs.Judged.{IsJudged}
+use Rattle.cbor_judging.specs.Judged.{IsJudged, Never}
 use Rattle.cbor_judging.specs.OpenMaps.{AreOpen, AreOpenDistinct}
 use Rattle.cbor_judging.specs.Reading.{IsAt, OfMark, IsBegun, ReadsItem, ReadsPayload, string_kind, string_major}
 use Rattle.cbor_judging.proofs.Arrays.{starts-array, array-whole}
 use Rattle.cbor_judging.proofs.Heads.{open_or}
 use Rattle.cbor_judging.proofs.Items.{definite, proper-definite, never-open, is-definite, head-count}
-use Rattle.cbor_judging.proofs.Judged.{Never, zero_item, zeros, zeros_count, zero_pairs, pairs_count}
+use Rattle.cbor_judging.proofs.Judged.{zero_item, zeros, zeros_count, zero_pairs, pairs_count}
 use Rattle.cbor_judging.proofs.Maps.{starts-with, map-whole}
 use Rattle.cbor_judging.proofs.OpenMaps.{judged_within}
 use Rattle.cbor_judging.proofs.OpenSteps.{distinct_snoc}

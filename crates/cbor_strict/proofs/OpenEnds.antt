@@ -22,20 +22,20 @@ use Rattle.cbor_events.specs.declared.frame.Frame as frames
 use Rattle.cbor_events.specs.declared.position.Position.{Position}
 use Rattle.cbor_events.specs.declared.position.Position.TheVariants as positions
 use Rattle.cbor_judging.specs.Frame.{Frame, a_member, a_key, a_content, tagged, with_all, with_entries, keys_onto, plug, before, OfFront}
-use Rattle.cbor_judging.specs.Judged.{IsJudged}
+use Rattle.cbor_judging.specs.Judged.{IsJudged, Never}
 use Rattle.cbor_judging.specs.OpenMaps.{placed, open_keys, AreDistinct, OfClosed, before_all, AreOpen, AreOpenDistinct}
 use Rattle.cbor_judging.specs.Reading.{IsAt, HasCause}
-use Rattle.cbor_strict.specs.inner.SliceChecks.{IsLastKey}
+use Rattle.cbor_judging.specs.LastKey.{last_key}
 use Rattle.cbor_judging.proofs.Frames.{spelled_plug, depth_plug}
-use Rattle.cbor_judging.proofs.Judged.{Never, judged_key}
+use Rattle.cbor_judging.proofs.Judged.{judged_key}
 use Rattle.cbor_judging.proofs.OpenKeys.{on_keys_split, onto_keys, front_apart}
 use Rattle.cbor_judging.proofs.OpenMaps.{judged_within}
 use Rattle.cbor_judging.proofs.OpenSteps.{before_snoc, distinct_snoc, member_before, content_before, content_keys, map_closes, array_closes, tag_closes}
 use Rattle.cbor_judging.proofs.OpenWalk.{shuts, innermost, member_ends, key_ends, content_ends}
 use Rattle.cbor_judging.proofs.Scalars.{at-as}
-use Rattle.cbor_strict.proofs.SliceItems.{key-fresh, key-falls}
+use Rattle.cbor_judging.proofs.LastKey.{key-fresh, key-falls, last_is}
 use Rattle.cbor_judging.proofs.Steps.{at-reached}
-use Rattle.cbor_strict.specs.inner.LastKeys.{from_outside, last_key, IsFull, AreDefinite, still_open, ended_item}
+use Rattle.cbor_strict.specs.inner.LastKeys.{from_outside, IsFull, AreDefinite, still_open, ended_item}
 use Rattle.cbor_strict.specs.inner.OpenItems.{frames_in, bytes_before}
 use Rattle.cbor_strict.proofs.KeptKeys.{full_bytes}
 use Rattle.cbor_judging.proofs.Standing.{done_position}
@@ -229,15 +229,6 @@ open_so b e t fs a =
     let all : spell complete.0 ≡ t = complete.1.bytes_are in
     let counts = a.stands.stands.counted complete.0 [] (subst (IsItem m.depth complete.0) (sym (append-nil t)) complete.1) in
     sym shown.open_count ∙ counts ∙ ap (λ (x : List ℕ). open_after (length x) complete.0) (sym all) ∙ none_behind complete.0)
-
--- a key
-last_onto : (k v : Spelling) (es : SpelledEntries) (ks : List Spelling) → IsLastKey (last_key (entry k v es)) (keys_onto ks (entry k v es))
-last_onto k v no_entries ks = refl
-last_onto k v (entry l w es) ks = last_onto l w es (k ∷ ks)
-
-pub last_is : (a : SpelledEntries) → IsLastKey (last_key a) (keys_onto [] a)
-last_is no_entries = refl
-last_is (entry k v es) = last_onto k v es []
 
 -- ---- behind what closed
 

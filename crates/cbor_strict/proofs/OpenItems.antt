@@ -17,11 +17,12 @@ use Rattle.cbor_strict.specs.declared.last_keys.Due.TheVariants.{Member, Key, Co
 use Rattle.cbor_strict.specs.declared.last_keys.LastKeys.{LastKeys}
 use Rattle.cbor_strict.specs.declared.open_items.OpenItems.{OpenItems}
 use Rattle.cbor_judging.specs.Frame.{Frame, a_member, a_key, a_content, with_all, with_entries, before}
-use Rattle.cbor_strict.specs.inner.LastKeys.{seen, from_outside, stands_in_key, last_key, kept_bytes, due_of, IsKept, AreDefinite, HasKeyEnded, still_open, ended_item}
+use Rattle.cbor_strict.specs.inner.LastKeys.{seen, from_outside, stands_in_key, kept_bytes, due_of, IsKept, AreDefinite, HasKeyEnded, still_open, ended_item}
+use Rattle.cbor_judging.specs.LastKey.{last_key}
 use Rattle.cbor_strict.specs.inner.OpenItems.{frames_in, bytes_before, AreOpenClean, Stands, HasEnded}
 use Rattle.cbor_judging.specs.Reading.{AreRefused, IsAt}
 use Rattle.cbor_judging.specs.OpenMaps.{AreOpen, AreOpenDistinct}
-use Rattle.cbor_judging.proofs.Judged.{Never}
+use Rattle.cbor_judging.specs.Judged.{Never}
 use Rattle.cbor_strict.proofs.KeptKeys.{either_way, kept_if_in, kept_if_out, kept_levels, kept_spans}
 use Rattle.cbor_judging.proofs.OpenSteps.{member_before}
 use Rattle.cbor_strict.proofs.OpenEnds.{definite_of, outside_length, StaysOpen, none_open, member_open, key_open, content_open, stays_open, EndsClean, open_so, EndsIn, IsDueIn, ends_in, member_next, content_next, key_next, key_refused}

@@ -18,7 +18,7 @@ use Rattle.cbor_item.proofs.Normal.{Holds-shortest, break_of-shortest}
 use Rattle.cbor_strict.specs.inner.Quick.{IsFine, AreFine, ArePairsFine, IsBack, HasMembers, HasPairs, HasValue, last_key, key_until, IsFronted, Awaits, Chain, Ended, HasItem, IsItemThen, TakesKey}
 use Rattle.cbor_strict.specs.declared.quick.level.Due.TheVariants.{Item, Key, Value}
 use Rattle.cbor_strict.specs.declared.quick.level.Level.{Level}
-use Rattle.cbor_strict.proofs.SliceItems.{key-fresh}
+use Rattle.cbor_judging.proofs.LastKey.{key-fresh}
 
 -- ---- items without a complaint
 

@@ -1,25 +1,16 @@
 -- Items of a slice, from its events.
-use Rattle.std.proofs.Common.{◌≡◌, ◌≢◌, ℕ, cond, ◌+◌, ◌<◌, ◌≤◌, Bool, true, IsTrue, Some, List, [], ◌∷◌, length, take, refl, sym, ap, ◌∙◌, subst, inl, inr, arith}
-use Rattle.std.proofs.lemmas.Bool.Decides.{nat_tests}
-use Rattle.std.specs.Ordering.{is_lt, ordering_then}
-use Rattle.std.specs.declared.cmp.Ordering.TheVariants.{Less, Equal, Greater}
-use Rattle.std.specs.Prelude.{nat_lt, ◌==◌}
+use Rattle.std.proofs.Common.{◌≡◌, ◌≢◌, ℕ, ◌≤◌, Bool, Some, List, [], length, take, sym, ap, ◌∙◌, subst, inl, inr, arith}
 use Rattle.std.proofs.lemmas.List.{length-append}
 use Rattle.std.proofs.Math.Seq.{take-append_seam}
 use Rattle.cbor_head.specs.Limits.{Bounds}
-use Rattle.cbor_head.specs.Spelling.{Spelling, spell}
-use Rattle.cbor_head.specs.Order.{key_lt}
-use Rattle.cbor_head.specs.Complaint as complaint
-use Rattle.cbor_head.specs.Complaint.{Rules, strict, form, OfKey}
+use Rattle.cbor_head.specs.Complaint.{strict, form}
 use Rattle.cbor_head.specs.Verdict.{refusal}
 use Rattle.cbor_head.specs.declared.order.KeyOrder.{KeyOrder}
-use Rattle.cbor_head.specs.declared.order.KeyOrder.TheVariants.{Bytewise, LengthFirst}
 use Rattle.cbor_head.specs.declared.width.Width.{Width}
 use Rattle.cbor_head.specs.declared.width.Width.TheVariants.{Direct, One, Two, Four, Eight, Indefinite}
 use Rattle.cbor_head.specs.declared.reason.Reason.{Reason}
 use Rattle.cbor_head.specs.declared.reason.Reason.TheVariants as reasons
 use Rattle.cbor_head.specs.declared.reason.Refusal.{Refusal}
-use Rattle.cbor_head.proofs.ReadLaws.{length_spell}
 use Rattle.cbor_events.specs.Trace.{Mark, a_head, a_chunk, a_byte, a_break}
 use Rattle.cbor_events.specs.inner.Automaton.{State}
 use Rattle.cbor_events.specs.Marks.{mark_of}
@@ -31,8 +22,7 @@ use Rattle.cbor_events.specs.Token.{kind_of}
 use Rattle.cbor_events.specs.declared.token.Token.{Token}
 use Rattle.cbor_events.specs.declared.token.Token.TheVariants as tokens
 use Rattle.cbor_judging.specs.Reading.{IsAt, IsFault, IsHeadFault, IsHeadDue, IsNextHead, StopsHead}
-use Rattle.cbor_strict.specs.inner.SliceChecks.{IsOfBytes, TakesPayload, IsLastKey}
-use Rattle.cbor_judging.proofs.Judged.{Never}
+use Rattle.cbor_strict.specs.inner.SliceChecks.{IsOfBytes, TakesPayload}
 use Rattle.cbor_judging.proofs.Reasons.{never-read}
 use Rattle.cbor_judging.proofs.Steps.{Stops, limits-as, stops, next-head, bad-head}
 use Rattle.cbor_judging.proofs.Slices.{told-event, told-live}
@@ -119,23 +109,3 @@ payload-front b q t n text old new k =
 
 pub payload-there : (b : Bounds) (q : State) (t : List ℕ) (n : ℕ) (text : Bool) (old new : SliceEventsView) → TakesPayload b q t n text old new → n ≤ length old.rest
 payload-there b q t n text old new k = omega (arith, k.reads.count, ap length k.reads.consumed, length-append k.reads.bytes new.rest)
-
--- ---- keys
-
-some-more : (n : ℕ) → 0 < n → nat_lt 0 n ≡ true
-some-more n h = grind (arith, nat_tests)
-
--- each key comes behind no bytes
-nothing-below : (o : KeyOrder) (key : List ℕ) → 0 < length key → IsTrue (key_lt o [] key)
-nothing-below o [] h = absurd (omega arith)
-nothing-below Bytewise (c ∷ cs) h = refl
-nothing-below LengthFirst (c ∷ cs) h = ap (λ b. is_lt (ordering_then (cond b Less (cond (0 == length (c ∷ cs)) Equal Greater)) Less)) (some-more (length (c ∷ cs)) h)
-
-module _ (o : KeyOrder) (at : ℕ) (k : Spelling) (key : List ℕ) (is : key ≡ spell k) where
-  pub key-fresh : (ks : List Spelling) (last : List ℕ) → IsLastKey last ks → IsTrue (key_lt o last key) → Never (OfKey (strict o) at ks k)
-  key-fresh [] last l f c x = x
-  key-fresh (p ∷ ps) last l f c x = x.0 (subst (λ y. IsTrue (key_lt o y (spell k))) l (subst (λ y. IsTrue (key_lt o last y)) is f))
-
-  pub key-falls : (ks : List Spelling) (last : List ℕ) → IsLastKey last ks → ¬ (IsTrue (key_lt o last key)) → OfKey (strict o) at ks k (complaint.complaint (at + length (spell k)) at reasons.KeyOrder)
-  key-falls [] last l f = absurd (f (subst (λ y. IsTrue (key_lt o y key)) (sym l) (nothing-below o key (omega (arith, ap length is, length_spell k)))))
-  key-falls (p ∷ ps) last l f = ((λ g. f (subst (λ y. IsTrue (key_lt o last y)) (sym is) (subst (λ y. IsTrue (key_lt o y (spell k))) (sym l) g))), refl)

@@ -26,13 +26,15 @@ use Rattle.cbor_strict.specs.declared.key_spans.Level.{Level}
 use Rattle.cbor_strict.specs.declared.last_keys.Due.{Due}
 use Rattle.cbor_strict.specs.declared.last_keys.Due.TheVariants.{Member, Key, Content}
 use Rattle.cbor_judging.specs.Frame.{Frame, a_member, a_key, a_content, tagged, with_entries, before}
-use Rattle.cbor_strict.specs.inner.LastKeys.{due_of, last_key, before_last, still_open, ended_item}
+use Rattle.cbor_strict.specs.inner.LastKeys.{due_of, before_last, still_open, ended_item}
+use Rattle.cbor_judging.specs.LastKey.{last_key}
 use Rattle.cbor_strict.specs.inner.OpenItems.{frames_in, bytes_before, IsLeaf, IsMap, IsOther}
 use Rattle.cbor_judging.specs.Reading.{IsAt, IsBegun, IsNextHead, IsPayloadDue, ReadsItem, StopsItem, StopsPayload, string_kind, string_major}
 use Rattle.cbor_strict.specs.inner.SliceChecks.{IsOfBytes, TakesPayload}
 use Rattle.cbor_strict.specs.inner.SliceFront.{a_level, level_at, levels_of, StandsAt, HasHead, HasEnded, IsOver, IsStopped, AreKeysWithin, IsBehind, DoesFall}
 use Rattle.cbor_judging.proofs.Items.{stops-in, begun-by, no-end, taking-some}
-use Rattle.cbor_strict.proofs.KeptKeys.{last_key_with, before_last_with, last_place}
+use Rattle.cbor_judging.proofs.LastKey.{last_key_with}
+use Rattle.cbor_strict.proofs.KeptKeys.{before_last_with, last_place}
 use Rattle.cbor_strict.proofs.OpenBegins.{room_left, lift, no_break, leaf_reads, HasOpened, other_opens, pairs_open}
 use Rattle.cbor_strict.proofs.OpenEnds.{outside_length, before_more, before_size, StaysOpen, none_open, member_open, key_open, content_open, stays_open, open_so, EndsIn, IsDueIn, ends_in, member_next, content_next, key_next, key_refused}
 use Rattle.cbor_judging.proofs.OpenSteps.{pair_count}

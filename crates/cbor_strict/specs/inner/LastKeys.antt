@@ -13,6 +13,7 @@ use Rattle.cbor_strict.specs.declared.last_keys.LastKeys.{LastKeys}
 use Rattle.cbor_strict.specs.declared.last_keys.Level.{Level}
 use Rattle.cbor_strict.specs.declared.last_keys.Span.{Span}
 use Rattle.cbor_judging.specs.Frame.{Frame, a_member, a_key, a_content, tagged, plug, before}
+use Rattle.cbor_judging.specs.LastKey.{last_key}
 
 pub record KeysView : Type 0 where
   pub levels : List Level
@@ -52,13 +53,7 @@ abbrev pub levels_of : List Frame → List Level
 levels_of [] = []
 levels_of (f ∷ fs) = levels_of fs ++ level_of f fs ∷ []
 
--- the bytes of the last key of these pairs, or none
-abbrev pub last_key : SpelledEntries → List ℕ
-last_key no_entries = []
-last_key (entry k v no_entries) = spell k
-last_key (entry k v (entry l w es)) = last_key (entry l w es)
-
--- how many bytes stand before it
+-- how many bytes stand before the last key of these pairs
 abbrev pub before_last : SpelledEntries → ℕ
 before_last no_entries = 0
 before_last (entry k v no_entries) = 0

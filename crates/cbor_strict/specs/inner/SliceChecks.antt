@@ -1,7 +1,6 @@
--- What is answered of a head or a payload of a slice, from its events; and the nearest of the keys before another.
-use Rattle.std.specs.Prelude.{◌≡◌, ◌≢◌, ℕ, Bool, true, List, [], ◌∷◌, Some, Result, MatchResult, IsUtf8}
+-- What is answered of a head or a payload of a slice, from its events.
+use Rattle.std.specs.Prelude.{◌≡◌, ◌≢◌, ℕ, Bool, true, List, [], Some, Result, MatchResult, IsUtf8}
 use Rattle.cbor_head.specs.Limits.{Bounds}
-use Rattle.cbor_head.specs.Spelling.{Spelling, spell}
 use Rattle.cbor_head.specs.Complaint.{Rules}
 use Rattle.cbor_head.specs.declared.major.Major.{Major}
 use Rattle.cbor_head.specs.declared.reason.Refusal.{Refusal}
@@ -33,10 +32,3 @@ abbrev pub ChecksPayload : Bool → SliceEventsView → ℕ → SliceEventsView 
 ChecksPayload text old n new result =
     (b : Bounds) (chunk : Bool) (m : Major) (fs : List Frame) (t : List ℕ) → IsAt b (seen old) t (payload chunk m n fs)
     → MatchResult result (λ u. TakesPayload b (close_string chunk m fs) t n text old new) (λ f. StopsPayload b t n text (Some old.rest) (Some new.rest) f × IsOfBytes f)
-
--- ---- keys
-
--- the bytes of the nearest key, or none before the first
-abbrev pub IsLastKey : List ℕ → List Spelling → Type 0
-IsLastKey last [] = last ≡ []
-IsLastKey last (k ∷ ks) = last ≡ spell k

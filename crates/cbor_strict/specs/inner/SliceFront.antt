@@ -26,7 +26,8 @@ use Rattle.cbor_strict.specs.declared.last_keys.Due.TheVariants.{Member, Key, Co
 use Rattle.cbor_strict.specs.declared.slice_front.Begun.{Begun}
 use Rattle.cbor_strict.specs.declared.slice_front.Begun.TheVariants as begins
 use Rattle.cbor_judging.specs.Frame.{Frame, a_member, a_key, a_content, tagged, before}
-use Rattle.cbor_strict.specs.inner.LastKeys.{from_outside, last_key, before_last}
+use Rattle.cbor_strict.specs.inner.LastKeys.{from_outside, before_last}
+use Rattle.cbor_judging.specs.LastKey.{last_key}
 use Rattle.cbor_strict.specs.inner.OpenItems.{frames_in, bytes_before, IsLeaf, IsMap, IsOther}
 use Rattle.cbor_judging.specs.OpenMaps.{AreOpen, AreOpenDistinct}
 use Rattle.cbor_judging.specs.Reading.{IsAt, IsBegun, ReadsItem, StopsItem, string_kind}
