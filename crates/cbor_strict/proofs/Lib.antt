@@ -18,7 +18,6 @@ pub mod Leaves
 pub mod Loops
 pub mod Maps
 pub mod OpenBegins
-pub mod OpenContainers
 pub mod OpenEnds
 pub mod OpenHeads
 pub mod OpenItems
