@@ -1,4 +1,4 @@
-use Rattle.std.proofs.Common.{◌≡◌, Some, length, refl, sym, ap, ◌∙◌, subst, arith}
+use Rattle.std.proofs.Common.{Some, length, refl, sym, ap, ◌∙◌, subst, arith}
 use Rattle.std.specs.Prelude.{Ok}
 use Rattle.cbor_head.specs.Complaint.{strict}
 use Rattle.cbor_events.specs.Machine.{KeepsLimits}
@@ -49,7 +49,7 @@ returns-in-Ok-clause-answers g c = λ t ms h.
 pub returns-in-Err-clause-answers : goal.returns-in-Err-clause-answers
 returns-in-Err-clause-answers g c = λ t ms h.
     subst (λ (o : StrictEventsView). IsStrictRefusal c.in-Err.refusal (strict_call o (shown c.next_event.new.events c.forget.new.self (Some c.in-Err.refusal)) (g.R.Read.remaining c.args.reader.now) (g.R.Read.remaining c.next_event.new.reader) t ms)) c.self.view_is
-    (next_refused c.self.inside.events c.next_event.new.events c.self.inside.items c.next_event.new.items _ _ c.in-Err.ensures.limits c.in-Err.refusal c.self.inside.refusal _ c.in-Err.ensures.answers t ms
+    (next_refused c.self.inside.events c.next_event.new.events c.self.inside.items c.next_event.new.items _ _ c.in-Err.ensures.limits c.in-Err.refusal c.self.inside.refusal c.forget.new.self c.in-Err.ensures.answers c.in-Err.ensures.at_once t ms
     (subst (λ (o : StrictEventsView). StandsStrictly o t ms) (sym c.self.view_is) h))
 
 pub returns-in-Err-clause-refused : goal.returns-in-Err-clause-refused
