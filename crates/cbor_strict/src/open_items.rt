@@ -66,7 +66,8 @@ impl OpenItems {
     // Nothing is kept any more, where nothing more is read.
     pub(crate) fn forget(&mut self)
         ensures order { self.new.order ≡ self.old.order }
-        ensures none { ((seen self.new.keys).spans ≡ []) × ((seen self.new.keys).bytes ≡ []) }
+        ensures none { ((seen self.new.keys).spans ≡ []) × ((seen self.new.keys).bytes ≡ [])
+            × ((seen self.new.keys).levels ≡ []) }
     {
         self.keys.forget();
     }

@@ -37,7 +37,11 @@ invariant_of-self-in-Err g c =
       );
       within = c.in-Err.ensures.limits.open_count;
       limited = c.in-Err.ensures.limits.taken;
-      little = record { spans = omega (arith, ap length c.forget.ensures.none.0); kept = omega (arith, ap length c.forget.ensures.none.1) };
+      little = record {
+        levels = omega (arith, ap length c.forget.ensures.none.2);
+        spans = omega (arith, ap length c.forget.ensures.none.0);
+        kept = omega (arith, ap length c.forget.ensures.none.1);
+      };
     }
 
 pub returns-in-Ok-clause-answers : goal.returns-in-Ok-clause-answers
