@@ -2,7 +2,7 @@
 use Rattle.std.specs.Prelude.{ℕ, ◌≡◌, ◌≤◌, List, length, take, drop, Option, Some, IfSome, ◌++◌}
 use Rattle.cbor_head.specs.Value.{Value, IsInRange, IsValid, depth}
 use Rattle.cbor_head.specs.Spelling.{Spelling, spell, value_of}
-use Rattle.cbor_head.specs.Beginning.{IsLongestBeginning, IsBeginning}
+use Rattle.cbor_head.specs.Beginning.{IsLongestBeginning}
 use Rattle.cbor_head.specs.Complaint.{Rules}
 use Rattle.cbor_head.specs.Verdict.{refusal, accepted, refused, IsVerdict}
 use Rattle.cbor_head.specs.declared.reason.Reason.TheVariants.{Truncated, Read, Memory}
@@ -10,8 +10,6 @@ use Rattle.cbor_head.specs.declared.reason.Refusal.{Refusal}
 use Rattle.cbor_head.specs.Canonical.{canonical}
 use Rattle.cbor_head.specs.declared.order.KeyOrder.{KeyOrder}
 use Rattle.cbor_judging.specs.Refusals.{IsFreeBefore}
-use Rattle.cbor_head.specs.Laws.{StartsWith}
-use Rattle.cbor_events.specs.Open.{open_after}
 
 -- the input's item, which has so many bytes, is accepted
 pub record IsRead (d n : ℕ) (r : Rules) (input : List ℕ) (count : ℕ) : Type 0 where
@@ -37,16 +35,6 @@ pub data IsUnread (d n : ℕ) (r : Rules) (input : List ℕ) (f : Refusal) : Typ
 -- a reader that had these bytes lost the first so many of them
 abbrev pub Loses : ℕ → Option (List ℕ) → Option (List ℕ) → Type 0
 Loses k old new = IfSome old (λ input. (new ≡ Some (drop k input)) × (k ≤ length input))
-
--- Of the input's first so many bytes all but at most the last begin an item within the depth; and behind none of these bytes
--- has an item that starts with them more containers open than that.
-pub record StaysWithinDepth (d : ℕ) (input : List ℕ) (count : ℕ) : Type 0 where
-  pub front : List ℕ
-  pub last : List ℕ
-  pub splits : take count input ≡ front ++ last
-  pub byte : length last ≤ 1
-  pub begins : IsBeginning d front
-  pub bounded : (k : ℕ) (s : Spelling) → k ≤ length front → StartsWith d s (take k front) → open_after k s ≤ d
 
 -- ---- canonical bytes
 

@@ -17,6 +17,7 @@ use Rattle.cbor_head.proofs.OneVerdict.{one_verdict}
 use Rattle.cbor_head.proofs.ReadLaws.{length_spell}
 use Rattle.cbor_judging.specs.Readers.{IsRead, IsReadAs, IsUnread, of_verdict, of_reader, of_memory, Loses}
 use Rattle.cbor_reader.specs.Sequence.{sequence_bytes, IsAccepted, IfRefused, EndsBefore, IsAtEnd, IsRefused, Given, given_by, items_of, HasGiven, GivesNext}
+use Rattle.cbor_judging.specs.Refusals.{IsReaderReason}
 use Rattle.cbor_judging.proofs.Accepted.{item_within_limit, front_accepted}
 use Rattle.cbor_reader.proofs.CutShort.{truncated}
 
@@ -114,6 +115,12 @@ module _ (r : Rules) (b : Bounds) where
   refused_as None from to f u l h = tt
   refused_as (Some (Ok x)) from to f u l h = tt
   refused_as (Some (Err g)) from to f u l h = subst (IsRefused r b from to) (sym h.0) (refused_so from to f u l h.1)
+
+-- what holds of the reader's reason
+pub reason_as : {A : Type 0} → (r : Rules) (answer : Option (Result A Refusal)) (f : Refusal) → IsReaderReason r f.reason → IfRefused answer (λ g. (g ≡ f) × ¬ IsBeforeItem f) → IfRefused answer (λ g. IsReaderReason r g.reason)
+reason_as r None f x h = tt
+reason_as r (Some (Ok given)) f x h = tt
+reason_as r (Some (Err g)) f x h = subst (λ (y : Refusal). IsReaderReason r y.reason) (sym h.0) x
 
 -- ---- a run of calls
 

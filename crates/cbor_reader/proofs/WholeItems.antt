@@ -1,6 +1,6 @@
 -- Whole inputs: from what is read of one to the item that it is, or the refusal; and from that to what `canonicalise` answers.
 use Rattle.std.proofs.Common.{ℕ, zero, suc, ◌-◌, ◌<◌, true, false, arith, ◌≡◌, ◌≢◌, ◌≤◌, Option, Some, List, length, refl, sym, ap, ◌∙◌, subst}
-use Rattle.std.specs.Prelude.{◌==◌}
+use Rattle.std.specs.Prelude.{◌==◌, ◌↔◌}
 use Rattle.std.proofs.lemmas.List.{length-drop}
 use Rattle.std.proofs.lemmas.Bool.Decides.{Decides-eqb}
 use Rattle.cbor_head.specs.Canonical.{canonical}
@@ -119,6 +119,32 @@ pub grows_too_long : (d n : ℕ) (o : KeyOrder) (input out : List ℕ) (f : Refu
     → f ≡ refusal CanonicalTooLong (length input) (length input) → IsRefusal d n o input f
 grows_too_long d n o input out f h l is =
     whole.canonical_too_long h.0 (valid_item_accepted d n input h.0 h.1) h.1.well_formed.bytes_are (subst (λ (b : List ℕ). n < length b) h.2 l) is
+
+-- ---- a tree, and what is answered
+
+pub tree_becomes : (d n : ℕ) (o : KeyOrder) (input out : List ℕ) (v : Value) → IsReadAs d n plain input v (length input) → IsCanonicalOf d n o input out ↔ ((out ≡ canonical o v) × (length out ≤ n))
+tree_becomes d n o input out v a = (
+  λ h.
+      let e = one_item d n input h.item a.read.item h.verdict a.read.verdict in
+      (h.canonical_bytes ∙ ap (λ (s : Spelling). canonical o (value_of s)) e ∙ ap (canonical o) (sym a.value), h.fits),
+  λ h. record {
+    item = a.read.item;
+    verdict = a.read.verdict;
+    whole = item_is_whole d n plain input a.read.item a.read.verdict (omega (arith, a.read.size));
+    canonical_bytes = h.0 ∙ ap (canonical o) a.value;
+    fits = h.1;
+  },
+)
+
+pub tree_too_long : (d n : ℕ) (o : KeyOrder) (input : List ℕ) (v : Value) → IsReadAs d n plain input v (length input) → n < length (canonical o v) → IsRefusal d n o input (refusal CanonicalTooLong (length input) (length input))
+tree_too_long d n o input v a l =
+    whole.canonical_too_long a.read.item a.read.verdict (item_is_whole d n plain input a.read.item a.read.verdict (omega (arith, a.read.size))) (subst (λ (w : Value). n < length (canonical o w)) a.value l) refl
+
+pub tree_followed : (d n : ℕ) (o : KeyOrder) (input : List ℕ) (v : Value) (count : ℕ) → IsReadAs d n plain input v count → count < length input → IsRefusal d n o input (refusal Trailing count count)
+tree_followed d n o input v count a l = whole.trailing a.read.item a.read.verdict (omega (arith, a.read.size, l)) (ap (λ (k : ℕ). refusal Trailing k k) a.read.size)
+
+pub tree_refused : (d n : ℕ) (o : KeyOrder) (input : List ℕ) (f : Refusal) → IsUnread d n plain input f → f.reason ≢ Read → IsRefusal d n o input f
+tree_refused d n o input f u g = item_refused d n o input f (unread u g)
 
 -- ---- an input is an item, or it isn't
 

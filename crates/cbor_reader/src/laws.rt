@@ -10,11 +10,12 @@ ghost use Rattle.cbor_head.specs.Verdict.{IsVerdict, accepted, refused, refusal}
 ghost use Rattle.cbor_head.specs.declared.order.KeyOrder.{KeyOrder};
 ghost use Rattle.cbor_head.specs.declared.reason.Refusal.{Refusal};
 ghost use Rattle.cbor_head.specs.declared.reason.Reason.TheVariants.{Memory, Truncated, TooLong};
-ghost use Rattle.cbor_head.specs.declared.reason.Reason.TheVariants.{CanonicalTooLong};
+ghost use Rattle.cbor_head.specs.declared.reason.Reason.TheVariants.{CanonicalTooLong, Trailing};
+ghost use Rattle.cbor_head.specs.declared.reason.Reason.TheVariants.{Read};
 ghost use Rattle.cbor_reader.specs.Canonicalise.{IsCanonicalOf, IsRefusal};
 ghost use Rattle.cbor_reader.specs.Comparing.{MeanTheSame};
 ghost use Rattle.cbor_reader.specs.Headline.{IsValidItem};
-ghost use Rattle.cbor_judging.specs.Readers.{BeginsWithCanonical};
+ghost use Rattle.cbor_judging.specs.Readers.{BeginsWithCanonical, IsReadAs, IsUnread};
 ghost use Rattle.cbor_judging.specs.Refusals.{StandsWithin};
 ghost use Rattle.cbor_reader.specs.Headline.{HasValidTexts};
 ghost use Rattle.cbor_reader.specs.Size.{size};
@@ -45,6 +46,24 @@ pub fn answered_are_valid_items()
     ensures refused { (d n : ℕ) (o : KeyOrder) (input : List ℕ) (f : Refusal) (s : Spelling)
         → IsRefusal d n o input f → f.reason ≢ Memory → IsValidItem d n input s
         → n < length (canonical o (value_of s)) }
+{}
+
+/// An input is answered as its tree is encoded. Where `read_tree` reads all of it as a value, the
+/// answer is the canonical bytes of this value, within the limit, and these alone; where they are
+/// longer, or bytes follow the item, that is the refusal; and what `read_tree` refuses for another
+/// cause than the reader is refused so.
+pub fn answers_are_encoded_trees()
+    ensures answer { (d n : ℕ) (o : KeyOrder) (input out : List ℕ) (v : Value)
+        → IsReadAs d n plain input v (length input)
+        → IsCanonicalOf d n o input out ↔ ((out ≡ canonical o v) × (length out ≤ n)) }
+    ensures too_long { (d n : ℕ) (o : KeyOrder) (input : List ℕ) (v : Value)
+        → IsReadAs d n plain input v (length input) → n < length (canonical o v)
+        → IsRefusal d n o input (refusal CanonicalTooLong (length input) (length input)) }
+    ensures followed { (d n : ℕ) (o : KeyOrder) (input : List ℕ) (v : Value) (count : ℕ)
+        → IsReadAs d n plain input v count → count < length input
+        → IsRefusal d n o input (refusal Trailing count count) }
+    ensures refused { (d n : ℕ) (o : KeyOrder) (input : List ℕ) (f : Refusal)
+        → IsUnread d n plain input f → f.reason ≢ Read → IsRefusal d n o input f }
 {}
 
 /// An item has no plain complaint, wherever it stands, exactly where each text and each chunk of

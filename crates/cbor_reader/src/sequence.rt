@@ -5,6 +5,7 @@ ghost use Rattle.cbor_head.specs.Complaint.{plain, strict};
 ghost use Rattle.cbor_head.specs.Spelling.{spell, value_of};
 ghost use Rattle.cbor_item.specs.View.{view};
 ghost use Rattle.cbor_judging.specs.Readers.{IsRead, IsCanonicalFront, Loses};
+ghost use Rattle.cbor_judging.specs.Refusals.{IsReaderReason};
 ghost use Rattle.cbor_reader.specs.Sequence.{SequenceView, IfGiven, IfRefused, is_last, IsTaken};
 ghost use Rattle.cbor_reader.specs.Sequence.{IsAtEnd, IsRefused, Given, HasGiven, GivesNext};
 
@@ -61,6 +62,7 @@ impl<R: Read> Sequence<R> {
             (R.remaining self.old.reader) (R.remaining self.new.reader) }
         ensures refused { IfRefused result (IsRefused plain self.old.items.limits
             (R.remaining self.old.reader) (R.remaining self.new.reader)) }
+        ensures reason { IfRefused result (λ f. IsReaderReason plain f.reason) }
         ensures limits { self.new.items.limits ≡ self.old.items.limits }
         ensures finished { self.new.items.finished ≡ is_last result }
         ensures again { self.old.items.finished ≡ true
@@ -91,6 +93,7 @@ impl<R: Read> Sequence<R> {
             (R.remaining self.old.reader) (R.remaining self.new.reader) }
         ensures refused { IfRefused result (IsRefused (strict order) self.old.items.limits
             (R.remaining self.old.reader) (R.remaining self.new.reader)) }
+        ensures reason { IfRefused result (λ f. IsReaderReason (strict order) f.reason) }
         ensures limits { self.new.items.limits ≡ self.old.items.limits }
         ensures finished { self.new.items.finished ≡ is_last result }
         ensures again { self.old.items.finished ≡ true

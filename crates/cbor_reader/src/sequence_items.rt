@@ -6,6 +6,7 @@ ghost use Rattle.cbor_head.specs.Spelling.{spell, value_of};
 ghost use Rattle.cbor_head.specs.declared.reason.Reason.TheVariants as reasons;
 ghost use Rattle.cbor_item.specs.View.{view};
 ghost use Rattle.cbor_judging.specs.Readers.{IsRead, IsCanonicalFront, Loses};
+ghost use Rattle.cbor_judging.specs.Refusals.{IsReaderReason};
 ghost use Rattle.cbor_reader.specs.Sequence.{SequenceItemsView, IfGiven, IfRefused, is_last};
 ghost use Rattle.cbor_reader.specs.Sequence.{IsTaken, IsAtEnd, IsRefused, Given, HasGiven};
 ghost use Rattle.cbor_reader.specs.Sequence.{GivesNext};
@@ -59,6 +60,7 @@ impl SequenceItems {
             → IsAtEnd self.old.limits.bytes (R.remaining reader.old) (R.remaining reader.new) }
         ensures refused { IfRefused result (IsRefused plain self.old.limits
             (R.remaining reader.old) (R.remaining reader.new)) }
+        ensures reason { IfRefused result (λ f. IsReaderReason plain f.reason) }
         ensures limits { self.new.limits ≡ self.old.limits }
         ensures finished { self.new.finished ≡ is_last result }
         ensures again { self.old.finished ≡ true
@@ -96,6 +98,7 @@ impl SequenceItems {
             → IsAtEnd self.old.limits.bytes (R.remaining reader.old) (R.remaining reader.new) }
         ensures refused { IfRefused result (IsRefused (strict order) self.old.limits
             (R.remaining reader.old) (R.remaining reader.new)) }
+        ensures reason { IfRefused result (λ f. IsReaderReason (strict order) f.reason) }
         ensures limits { self.new.limits ≡ self.old.limits }
         ensures finished { self.new.finished ≡ is_last result }
         ensures again { self.old.finished ≡ true

@@ -31,7 +31,7 @@ use Rattle.cbor_judging.specs.Reading.{IsAt, string_major}
 use Rattle.cbor_strict.specs.inner.StrictEvents.{IsLittle}
 use Rattle.cbor_judging.specs.Judged.{Never}
 use Rattle.cbor_strict.proofs.KeptCounts.{Counts, AreAround, one_map, map_count, keys_size, path_counts, maps_past, keys_past}
-use Rattle.cbor_strict.proofs.KeptKeys.{either_way, kept_if_in, kept_if_out, kept_spans}
+use Rattle.cbor_strict.proofs.KeptKeys.{either_way, kept_if_in, kept_if_out, kept_levels, kept_spans}
 use Rattle.cbor_judging.proofs.Standing.{open-is}
 use Rattle.cbor_strict.proofs.OpenEnds.{frames_length}
 use Rattle.cbor_judging.proofs.OpenSteps.{before_snoc}
@@ -233,6 +233,7 @@ keys_within (f ∷ gs) n = either_within (is_key f) (keys_size gs n) (length (co
 
 little : (v : OpenItems) (b : Bounds) (e : ItemEventsView) (t : List ℕ) (fs : List Frame) (p : List ℕ) (q : State) → IsKept (seen v.keys) fs p → t ≡ bytes_before fs ++ p → IsAt b e t q → length (stack q) ≡ length (frames_in fs) → IsLittle v e
 little v b e t fs p q k is at all = record {
+  levels = omega (arith, kept_levels (seen v.keys) fs p k, open-is b e t q at, all, frames_length fs);
   spans = omega (arith, kept_spans (seen v.keys) fs p k, open-is b e t q at, all, frames_length fs);
   kept = omega (arith, ap length k.bytes, kept_counted fs p, keys_within (from_outside fs) (length p), at.stands.stands.taken, ap length is, length-append (bytes_before fs) p);
 }
@@ -244,4 +245,4 @@ stands_little v b e t (inr (inl h)) = little v b e t h.fs (head (string_major v.
     payload_stack : (m : Major) (n : ℕ) (fs : List Container) → 0 < n → length (stack (payload false m n fs)) ≡ length fs
     payload_stack m zero fs l = absurd (omega (arith, l))
     payload_stack m (suc n) fs l = refl
-stands_little v b e t (inr (inr h)) = record { spans = omega (arith, ap length h.kept.spans); kept = omega (arith, ap length h.kept.bytes) }
+stands_little v b e t (inr (inr h)) = record { levels = omega (arith, ap length h.kept.levels); spans = omega (arith, ap length h.kept.spans); kept = omega (arith, ap length h.kept.bytes) }

@@ -3,7 +3,6 @@ pub mod KeptCounts
 pub mod KeptKeys
 pub mod KeptReading
 pub mod OpenBegins
-pub mod OpenContainers
 pub mod OpenEnds
 pub mod OpenHeads
 pub mod OpenItems

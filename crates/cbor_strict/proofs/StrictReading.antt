@@ -1,5 +1,5 @@
 -- What the strict reader's state says of the bytes behind it.
-use Rattle.std.proofs.Common.{◌≡◌, ℕ, ◌-◌, Option, Some, None, List, [], ◌++◌, length, refl, sym, ap, ◌∙◌, subst, inl, inr, arith, append_assoc, append-nil}
+use Rattle.std.proofs.Common.{◌≡◌, ℕ, ◌-◌, ◌≤◌, ◌⊎◌, Option, Some, None, List, [], ◌++◌, length, refl, sym, ap, ◌∙◌, subst, inl, inr, arith, append_assoc, append-nil}
 use Rattle.std.specs.Option.{IfSome}
 use Rattle.std.specs.Io.KnownBytes.{Consumes}
 use Rattle.cbor_head.specs.Head.{head}
@@ -16,8 +16,11 @@ use Rattle.cbor_events.specs.Trace.{Mark}
 use Rattle.cbor_events.specs.MachineView.{MachineView}
 use Rattle.cbor_events.specs.Marks.{marks_of}
 use Rattle.cbor_events.specs.Machine.{KeepsLimits}
-use Rattle.cbor_events.specs.ItemEvents.{ItemEventsView, StandsBetween}
+use Rattle.cbor_events.specs.Bytes.{IsBytesOf, last_type}
+use Rattle.cbor_events.specs.ItemEvents.{ItemEventsView, StandsBetween, Call, call, machine_call, IsNextEvent, IsCut, IsTooLong, HasFormError, IsKept as IsPieceKept}
 use Rattle.cbor_events.specs.declared.event.Event.{Event}
+use Rattle.cbor_events.specs.declared.event.EventKind.{EventKind}
+use Rattle.cbor_events.specs.declared.event.EventKind.TheVariants.{Piece}
 use Rattle.cbor_events.specs.inner.Automaton.{reached}
 use Rattle.cbor_events.specs.inner.State.{state_of}
 use Rattle.cbor_strict.specs.declared.open_items.OpenItems.{OpenItems}
@@ -26,7 +29,8 @@ use Rattle.cbor_judging.specs.Refusals.{IsReaderReason}
 use Rattle.cbor_judging.specs.Reading.{IsFrontUnread, string_major}
 use Rattle.cbor_judging.specs.Judged.{IsJudged}
 use Rattle.cbor_strict.specs.inner.OpenItems.{frames_in, bytes_before, Stands}
-use Rattle.cbor_strict.specs.StrictReader.{StrictEventsView, StandsStrictly, IsNextStrict, IsStrictRefusal, strict_call}
+use Rattle.cbor_judging.specs.Reading.{string_major}
+use Rattle.cbor_strict.specs.StrictReader.{StrictEventsView, StandsStrictly, IsNextStrict, IsStrictRefusal, IsAgainstEvent, StopsAtOnce, strict_call}
 use Rattle.cbor_strict.specs.inner.LastKeys.{seen, IsKept}
 use Rattle.cbor_strict.specs.inner.StrictEvents.{StandsSomewhere, IsStep, IsStopped, AnswersStep, IsLittle, bounds_of, piece_unless}
 use Rattle.cbor_strict.proofs.KeptReading.{stands_counted, stands_little}
@@ -98,6 +102,42 @@ pub stands_first : (limits : Bounds) (e : ItemEventsView) (v : OpenItems) → Ar
 stands_first limits e v within live same h none kept =
     inl (record { fs = []; around = record { are = none_open (strict v.order) limits.depth; distinct = tt }; none = none; kept = kept; taken = refl; at = starts-at limits e within live same h })
 
+-- ---- no event is left out before it
+
+-- the form refuses
+pub by_form : (o : KeyOrder) (f : Refusal) (c : Call) → IsCut f c ⊎ IsTooLong f c ⊎ HasFormError f c → StopsAtOnce o f c
+by_form o f c h = elim h [ inl x ↦ inl x | inr (inl x) ↦ inr (inl x) | inr (inr x) ↦ inr (inr (inl x)) ]
+
+-- an event is withheld
+pub by_event : (o : KeyOrder) (f : Refusal) (ev : Event) (c : Call) → IsNextEvent ev c → ((n : ℕ) → ev.kind ≡ Piece n → n ≤ 512) → f.read ≡ c.new.taken → IsAgainstEvent o f.reason → StopsAtOnce o f c
+by_event o f ev c h small read against = inr (inr (inr (record {
+  width = ev.width;
+  kind = ev.kind;
+  bytes = h.bytes;
+  consumed = h.consumed;
+  are = h.are;
+  piece = small;
+  read = read ∙ h.stands.stands.taken;
+  stands = h.stands;
+  against = against;
+})))
+
+pub small_piece : (ev : Event) (c : Call) (piece : List ℕ) → IsNextEvent ev c → piece ≡ c.new_piece → length piece ≤ 512 → (n : ℕ) → ev.kind ≡ Piece n → n ≤ 512
+small_piece ev c piece h is l n e =
+    let size : length h.bytes ≡ n = subst (λ (k : EventKind). IsBytesOf (last_type None c.told) ev.width k h.bytes) e h.are.1 in
+    let kept : c.new_piece ≡ h.bytes = subst (λ (k : EventKind). IsPieceKept k c.old_piece c.new_piece h.bytes) e h.piece_is in
+    let same = ap length (is ∙ kept) in
+    omega (arith, size, same, l)
+
+-- whatever piece is held
+stops_too : (o : KeyOrder) (f : Refusal) (m n : MachineView) (held left : Option (List ℕ)) (a b x y t : List ℕ) (ms : List Mark) → StopsAtOnce o f (machine_call m n held left a b t ms) → StopsAtOnce o f (machine_call m n held left x y t ms)
+stops_too o f m n held left a b x y t ms h = elim h [
+  | inl k ↦ inl (record { bytes = k.bytes; consumed = k.consumed; reason = k.reason; is = k.is; verdict = k.verdict; short = k.short; stands = k.stands; unfinished = k.unfinished })
+  | inr (inl k) ↦ inr (inl (record { bytes = k.bytes; consumed = k.consumed; is = k.is; full = k.full; verdict = k.verdict; stands = k.stands; unfinished = k.unfinished }))
+  | inr (inr (inl k)) ↦ inr (inr (inl (record { bytes = k.bytes; byte = k.byte; consumed = k.consumed; is = k.is; misplaced = k.misplaced; verdict = k.verdict; stands = k.stands; unfinished = k.unfinished })))
+  | inr (inr (inr k)) ↦ inr (inr (inr (record { width = k.width; kind = k.kind; bytes = k.bytes; consumed = k.consumed; are = k.are; piece = k.piece; read = k.read; stands = k.stands; against = k.against })))
+]
+
 -- ---- what is told next
 
 -- as contracts see it
@@ -147,11 +187,18 @@ module _ (e after : ItemEventsView) (v new : OpenItems) (from to : Option (List 
   next_told o None answers t ms h = told_strictly o t ms h (answers (bounds_of e.machine) t h.inner.stands)
   next_told o (Some f) answers t ms h = absurd (cc h.live)
 
-  pub next_refused : (f : Refusal) (r : Option Refusal) (last : StrictEventsView) → AnswersStep v new e after from to (Err f) → (t : List ℕ) (ms : List Mark) → StandsStrictly (shown e v r) t ms → IsStrictRefusal f (strict_call (shown e v r) last from to t ms)
-  next_refused f None last answers t ms h =
+  pub next_refused : (f : Refusal) (r : Option Refusal) (last : OpenItems) → AnswersStep v new e after from to (Err f) → ((t : List ℕ) (ms : List Mark) → StandsBetween e.machine t ms → StopsAtOnce v.order f (call e after from to t ms)) → (t : List ℕ) (ms : List Mark) → StandsStrictly (shown e v r) t ms → IsStrictRefusal f (strict_call (shown e v r) (shown after last (Some f)) from to t ms)
+  next_refused f None last answers stops t ms h =
       let s = answers (bounds_of e.machine) t h.inner.stands in
-      record { unfinished = s.unfinished; bytes = s.bytes; consumed = s.consumed; read = s.refused.read; verdict = (stopped_unread v.order (bounds_of e.machine) e t from to f s).0 }
-  next_refused f (Some x) last answers t ms h = absurd (cc h.live)
+      record {
+        unfinished = s.unfinished;
+        bytes = s.bytes;
+        consumed = s.consumed;
+        read = s.refused.read;
+        at_once = stops_too v.order f e.machine after.machine from to e.piece after.piece e.piece [] t ms (stops t ms h.between);
+        verdict = (stopped_unread v.order (bounds_of e.machine) e t from to f s).0;
+      }
+  next_refused f (Some x) last answers stops t ms h = absurd (cc h.live)
 
   pub stands_next : (o : Option Event) → StandsSomewhere v e → AnswersStep v new e after from to (Ok o) → StandsSomewhere new after
   stands_next (Some event) h answers = let g = answers h.b h.t h.stands in record { b = h.b; t = h.t ++ g.next.bytes; stands = g.stands }

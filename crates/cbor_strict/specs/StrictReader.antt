@@ -1,20 +1,27 @@
 -- What the strict reader tells of the item at the front of an input, event by event (RFC 8949, section 4.2).
-use Rattle.std.specs.Prelude.{◌≡◌, ℕ, ◌++◌, List, length, Option, Some, None, Result, Ok, Err, IfSome}
+use Rattle.std.specs.Prelude.{◌≡◌, ℕ, ◌≤◌, ◌⊎◌, ◌++◌, List, length, Option, Some, None, Result, Ok, Err, IfSome}
 use Rattle.std.specs.Io.KnownBytes.{Consumes}
 use Rattle.cbor_head.specs.Spelling.{Spelling}
 use Rattle.cbor_head.specs.Complaint.{strict}
 use Rattle.cbor_head.specs.Laws.{StartsWith}
 use Rattle.cbor_head.specs.Verdict.{IsWithout}
 use Rattle.cbor_head.specs.declared.order.KeyOrder.{KeyOrder}
+use Rattle.cbor_head.specs.declared.reason.Reason.{Reason}
+use Rattle.cbor_head.specs.declared.reason.Reason.TheVariants.{Memory}
 use Rattle.cbor_head.specs.declared.reason.Refusal.{Refusal}
+use Rattle.cbor_head.specs.declared.width.Width.{Width}
+use Rattle.cbor_events.specs.Bytes.{IsEventBytes}
 use Rattle.cbor_events.specs.Trace.{Mark}
 use Rattle.cbor_events.specs.Marks.{marks_of}
 use Rattle.cbor_events.specs.MachineView.{MachineView}
 use Rattle.cbor_events.specs.Machine.{IsComplete}
-use Rattle.cbor_events.specs.ItemEvents.{StandsBetween, Call, machine_call, IsNextEvent, IsEnd}
+use Rattle.cbor_events.specs.ItemEvents.{StandsBetween, Call, machine_call, IsNextEvent, IsEnd, IsCut, IsTooLong, HasFormError}
 use Rattle.cbor_events.specs.declared.event.Event.{Event}
+use Rattle.cbor_events.specs.declared.event.EventKind.{EventKind}
+use Rattle.cbor_events.specs.declared.event.EventKind.TheVariants.{Piece}
 use Rattle.cbor_strict.specs.KeptKeys.{open_maps, key_bytes}
 use Rattle.cbor_judging.specs.Readers.{IsUnread}
+use Rattle.cbor_judging.specs.Refusals.{IsComplaintReason}
 use Rattle.cbor_strict.specs.inner.StrictEvents.{Inner, IsInner}
 
 -- what contracts see of the events of an item by the strict rules: how far the form was read, the bytes of the last piece, what
@@ -73,12 +80,33 @@ pub record IsCleanEnd (c : StrictCall) : Type 0 where
   pub end : IsEnd (form_call c)
   pub stands : StandsStrictly c.new c.taken c.told
 
+-- what can be against an event that was read: a complaint that ends with it, or want of memory for it
+abbrev pub IsAgainstEvent : KeyOrder → Reason → Type 0
+IsAgainstEvent o reason = IsComplaintReason (strict o) reason ⊎ (reason ≡ Memory)
+
+-- The bytes of one event were read, of a payload at most 512, and it is not told.
+pub record IsWithheld (o : KeyOrder) (f : Refusal) (c : Call) : Type 0 where
+  pub width : Width
+  pub kind : EventKind
+  pub bytes : List ℕ
+  pub consumed : Consumes c.held c.left bytes
+  pub are : IsEventBytes c.told width kind bytes
+  pub piece : (n : ℕ) → kind ≡ Piece n → n ≤ 512
+  pub read : f.read ≡ length (c.taken ++ bytes)
+  pub stands : StandsBetween c.new (c.taken ++ bytes) (c.told ++ marks_of width kind)
+  pub against : IsAgainstEvent o f.reason
+
+-- No event was left out: behind what was told an event is withheld, or the form refuses before another one ends.
+abbrev pub StopsAtOnce : KeyOrder → Refusal → Call → Type 0
+StopsAtOnce o f c = IsCut f c ⊎ IsTooLong f c ⊎ HasFormError f c ⊎ IsWithheld o f c
+
 -- No more is told. The refusal is that of what was taken and what the reader held behind it, and what it has read the reader lost.
 pub record IsStrictRefusal (f : Refusal) (c : StrictCall) : Type 0 where
   pub unfinished : ¬ IsComplete c.old.machine
   pub bytes : List ℕ
   pub consumed : Consumes c.held c.left bytes
   pub read : f.read ≡ length (c.taken ++ bytes)
+  pub at_once : StopsAtOnce c.old.order f (form_call c)
   pub verdict : IfSome c.held (λ rest. IsUnread c.old.machine.depth c.old.machine.bytes (strict c.old.order) (c.taken ++ rest) f)
 
 -- what is answered where an event ended

@@ -85,8 +85,10 @@ impl LastKeys {
 
     // Nothing is kept any more.
     pub(crate) fn forget(&mut self)
-        ensures none { ((seen self.new).spans ≡ []) × ((seen self.new).bytes ≡ []) }
+        ensures none { ((seen self.new).spans ≡ []) × ((seen self.new).bytes ≡ [])
+            × ((seen self.new).levels ≡ []) }
     {
+        self.levels.clear();
         self.spans.clear();
         self.bytes.clear();
     }

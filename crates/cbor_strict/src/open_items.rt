@@ -1,12 +1,13 @@
 //! What the strict reader keeps of the items that are open, from event to event.
 
 ghost use Rattle.std.specs.Prelude.{◌≡◌, ◌<◌, ◌≤◌, ◌+◌, ◌^◌, ◌++◌, ℕ, true, List, [], length};
-ghost use Rattle.std.specs.Prelude.{OnOk, MatchOption, MatchResult, IsUtf8};
+ghost use Rattle.std.specs.Prelude.{OnOk, IfErr, MatchOption, MatchResult, IsUtf8};
 ghost use Rattle.std.specs.Str.Lossy.{utf8_valid_len};
 ghost use Rattle.cbor_head.specs.Head.{IsSimple, major_number, shortest_head};
 ghost use Rattle.cbor_head.specs.Complaint.{strict};
 ghost use Rattle.cbor_events.specs.Marks.{mark_of};
 ghost use Rattle.cbor_events.specs.TextCheck.{HasChecked};
+ghost use Rattle.cbor_strict.specs.StrictReader.{IsAgainstEvent};
 ghost use Rattle.cbor_judging.specs.Frame.{Frame};
 ghost use Rattle.cbor_strict.specs.inner.LastKeys.{IsKept, seen};
 ghost use Rattle.cbor_judging.specs.Reading.{IsFault};
@@ -65,7 +66,8 @@ impl OpenItems {
     // Nothing is kept any more, where nothing more is read.
     pub(crate) fn forget(&mut self)
         ensures order { self.new.order ≡ self.old.order }
-        ensures none { ((seen self.new.keys).spans ≡ []) × ((seen self.new.keys).bytes ≡ []) }
+        ensures none { ((seen self.new.keys).spans ≡ []) × ((seen self.new.keys).bytes ≡ [])
+            × ((seen self.new.keys).levels ≡ []) }
     {
         self.keys.forget();
     }
@@ -81,6 +83,7 @@ impl OpenItems {
         requires { IsHeadCome self.old event.now «open» taken }
         ensures order { self.new.order ≡ self.old.order }
         ensures answers { AnswersHead self.old self.new event.now «open» taken result }
+        ensures against { IfErr result (λ f. IsAgainstEvent self.old.order f.reason) }
     {
         match head_fault(event) {
             Some(reason) => return Err(Refusal::new(reason, event.place, taken)),
@@ -119,6 +122,7 @@ impl OpenItems {
         requires { IsBegunIn self.old kind «open» taken }
         ensures order { self.new.order ≡ self.old.order }
         ensures answers { AnswersBegun self.old self.new kind «open» taken result }
+        ensures against { IfErr result (λ f. IsAgainstEvent self.old.order f.reason) }
     {
         match what_begins(kind) {
             Begun::Leaf => return self.end_item(open, taken),
@@ -150,6 +154,7 @@ impl OpenItems {
         requires { IsPartCome self.old piece.now «open» taken }
         ensures order { self.new.order ≡ self.old.order }
         ensures answers { AnswersPart self.old self.new piece.now «open» taken result }
+        ensures against { IfErr result (λ f. IsAgainstEvent self.old.order f.reason) }
     {
         match self.keys.keep(piece) {
             Ok(()) => {}
@@ -205,6 +210,7 @@ impl OpenItems {
         requires { IsItemEnded self.old «open» taken }
         ensures order { self.new.order ≡ self.old.order }
         ensures answers { AnswersEnd self.old self.new «open» taken result }
+        ensures against { IfErr result (λ f. IsAgainstEvent self.old.order f.reason) }
     {
         self.keys.close(open);
         match self.keys.due() {

@@ -6,10 +6,10 @@ ghost use Rattle.cbor_head.specs.Complaint.{strict};
 ghost use Rattle.cbor_events.specs.Trace.{Mark};
 ghost use Rattle.cbor_events.specs.Marks.{IsProper};
 ghost use Rattle.cbor_events.specs.Machine.{KeepsLimits, IsIdle};
-ghost use Rattle.cbor_events.specs.ItemEvents.{IfTold};
+ghost use Rattle.cbor_events.specs.ItemEvents.{IfTold, StandsBetween, call};
 ghost use Rattle.cbor_judging.specs.Refusals.{IsReaderReason};
 ghost use Rattle.cbor_strict.specs.StrictReader.{StrictEventsView, StandsStrictly};
-ghost use Rattle.cbor_strict.specs.StrictReader.{IsNextStrict, strict_call};
+ghost use Rattle.cbor_strict.specs.StrictReader.{IsNextStrict, StopsAtOnce, strict_call};
 ghost use Rattle.cbor_strict.specs.inner.LastKeys.{seen};
 ghost use Rattle.cbor_strict.specs.inner.StrictEvents.{StandsSomewhere, AnswersStep, piece_unless};
 ghost use Rattle.cbor_strict.specs.inner.StrictEvents.{IsLittle};
@@ -156,6 +156,9 @@ fn next_event<R: Read>(
     ensures order { items.new.order ≡ items.old.order }
     ensures answers { AnswersStep items.old items.new events.old events.new
         (R.remaining reader.old) (R.remaining reader.new) result }
+    ensures at_once { IfErr result (λ f. (t : List ℕ) (ms : List Mark)
+        → StandsBetween events.old.machine t ms → StopsAtOnce items.old.order f
+        (call events.old events.new (R.remaining reader.old) (R.remaining reader.new) t ms)) }
     ensures limits { KeepsLimits events.old.machine events.new.machine }
     ensures proper { IfTold result (λ e. IsProper e.width e.kind) }
     ensures live { OnOk result (events.new.refusal ≡ None) }

@@ -1,14 +1,13 @@
 //! The item at the front of an input, if it is canonical: its length, or its events.
 
 ghost use Rattle.std.specs.Prelude.{◌≡◌, ◌≢◌, ◌≤◌, ℕ, List, [], length, None, Some, Err};
-ghost use Rattle.std.specs.Prelude.{IfOk, IfErr, IfSome, OnOk, OnErr, MatchResult};
+ghost use Rattle.std.specs.Prelude.{IfOk, IfErr, IfSome, OnOk, OnErr};
 ghost use Rattle.cbor_head.specs.Complaint.{strict};
 ghost use Rattle.cbor_head.specs.declared.reason.Reason.TheVariants as reasons;
 ghost use Rattle.cbor_events.specs.Trace.{Mark};
 ghost use Rattle.cbor_events.specs.Marks.{IsProper};
 ghost use Rattle.cbor_events.specs.Machine.{KeepsLimits, IsIdle};
 ghost use Rattle.cbor_events.specs.ItemEvents.{IfTold};
-ghost use Rattle.cbor_judging.specs.Readers.{StaysWithinDepth};
 ghost use Rattle.cbor_judging.specs.Readers.{IsRead, IsUnread, IsCanonicalFront};
 ghost use Rattle.cbor_judging.specs.Readers.{HasNoCanonicalFront, Loses};
 ghost use Rattle.cbor_judging.specs.Refusals.{IsReaderReason};
@@ -29,8 +28,8 @@ use std::marker::Model;
 /// No byte behind the item is read. The refusal is the one that the bytes within the limits call
 /// for, by the rules of the deterministic encoding; or `Read` or `Memory`, where the reader failed
 /// or memory was refused before: then the place is the count of the bytes taken. After a refusal as
-/// many bytes were taken as its `read` tells. Whatever was taken, no more containers were open than
-/// the depth limit allows.
+/// many bytes were taken as its `read` tells. No more containers are ever open than the depth limit
+/// allows: that is an invariant of the machine that it reads through.
 pub fn read_strict<R: Read>(
     alloc: Global,
     reader: &mut R,
@@ -49,9 +48,6 @@ pub fn read_strict<R: Read>(
     ensures no_canonical { IfErr result (λ f. f.reason ≢ reasons.Read → f.reason ≢ reasons.Memory
         → IfSome (R.remaining reader.old)
         (HasNoCanonicalFront limits.depth limits.bytes order)) }
-    ensures within_depth { IfSome (R.remaining reader.old) (λ input. MatchResult result
-        (λ count. StaysWithinDepth limits.depth input count)
-        (λ f. StaysWithinDepth limits.depth input f.read)) }
     ensures read { IfErr result
         (λ f. Loses f.read (R.remaining reader.old) (R.remaining reader.new)) }
 {

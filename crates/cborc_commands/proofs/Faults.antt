@@ -18,13 +18,13 @@ use Rattle.cbor_reader.specs.declared.comparison.Side.{Side}
 use Rattle.cbor_reader.specs.declared.comparison.Side.TheVariants.{Left, Right}
 use Rattle.cborc_commands.proofs.Files.{keeps_keeps, put_kept, input_before}
 use Rattle.cborc_commands.proofs.Fronts.{canonical_whole, refusal_whole, is_whole, is_not_whole, is_all_of, listed_whole, not_listed_whole, whole_item, item_refusal_whole}
-use Rattle.cborc_commands.specs.Canon.{IsCanonicalText, IsPut, IsCanonised, IsNotCanonised}
+use Rattle.cborc_commands.specs.Canon.{IsCanonicalText, IsPut, IsNotPut, IsCanonised, IsNotCanonised}
 use Rattle.cborc_commands.specs.inner.Parts.{IsNoText, StartsInput, IsTreeOf, IsShown}
 use Rattle.cborc_commands.specs.Check.{accepted_bytes, IsWhole, IsNotWhole, IsChecked, IsUntoldOf, IsNotChecked}
 use Rattle.cborc_commands.specs.CheckSequence.{accepted_items, IsWholeSequence, IsRefusedAt, IsSequenceChecked, IsSequenceNotChecked}
 use Rattle.cborc_commands.specs.Compare.{IsTold, IsUntold, AreInputs, AreCompared, AreNotCompared}
 use Rattle.cborc_commands.specs.Events.{IsNotListed, IsListedOf, IsNotListedOf}
-use Rattle.cborc_commands.specs.Fault.{reason_fault, refusal_fault, at_item}
+use Rattle.cborc_commands.specs.Fault.{IsOfInput, reason_fault, refusal_fault, at_item}
 use Rattle.cborc_commands.specs.Folder.{Files, KeepsFiles}
 use Rattle.cborc_commands.specs.Input.{IsInput}
 use Rattle.cborc_commands.specs.Show.{IsShownOf, IsNotShown}
@@ -47,29 +47,36 @@ on_err (Ok done) P Q f h = tt
 on_err (Err fault) P Q f h = f fault h
 
 -- the fault of a refusal: the refusal, or want of memory
-pub refusal_is : (P : Fault → Type 0) (f : Refusal) (fault : Fault) → fault ≡ refusal_fault f → P (faults.Refused f) → P faults.Memory → P fault
-refusal_is P f fault e refused memory = subst P (sym e) (by_reason f.reason)
+pub refusal_is : (P : Fault → Type 0) (f : Refusal) (fault : Fault) → fault ≡ refusal_fault f → (IsOfInput f.reason → P (faults.Refused f)) → P faults.Memory → P fault
+refusal_is P f fault e refused memory = subst P (sym e) (by_reason f.reason refl)
   where
-    by_reason : (reason : Reason) → P (reason_fault f reason)
-    by_reason reasons.Memory = memory
-    by_reason _ = refused
+    by_reason : (reason : Reason) → f.reason ≡ reason → P (reason_fault f reason)
+    by_reason reasons.Memory is = memory
+    by_reason reasons.Read is = memory
+    by_reason _ is = refused (subst IsOfInput (sym is) tt)
 
 module _ (o : KeyOrder) (options : Options) (source : List ℕ) (output : Output) (held : Option Files) where
+  text_whole : (bytes text : List ℕ) (s : StartsInput held source options.hex (options.limits.bytes + 1) bytes) → IsCanonicalText options.limits.depth options.limits.bytes o output.form bytes text
+      → IsCanonicalText options.limits.depth options.limits.bytes o output.form s.input text
+  text_whole bytes text s t = record {
+    canonical = t.canonical;
+    is = canonical_whole options.limits.depth options.limits.bytes s.input o t.canonical
+        (subst (λ (b : List ℕ). IsCanonicalOf options.limits.depth options.limits.bytes o b t.canonical) s.front t.is);
+    formed = t.formed;
+  }
+
   pub canonised : (mid new : Option Files) (before after : Option (List ℕ)) (bytes text : List ℕ) → StartsInput held source options.hex (options.limits.bytes + 1) bytes
       → IsCanonicalText options.limits.depth options.limits.bytes o output.form bytes text → KeepsFiles held mid → IsPut output.path.now mid new before after text
       → IsCanonised o options source output held new before after
-  canonised mid new before after bytes text s t k p = record {
-    input = s.input;
-    is = s.is;
-    text = text;
-    canonical = record {
-      canonical = t.canonical;
-      is = canonical_whole options.limits.depth options.limits.bytes s.input o t.canonical
-          (subst (λ (b : List ℕ). IsCanonicalOf options.limits.depth options.limits.bytes o b t.canonical) s.front t.is);
-      formed = t.formed;
-    };
-    put = put_kept output.path.now held mid new before after text k p;
-  }
+  canonised mid new before after bytes text s t k p =
+      record { input = s.input; is = s.is; text = text; canonical = text_whole bytes text s t; put = put_kept output.path.now held mid new before after text k p }
+
+  pub not_put : (bytes text : List ℕ) → StartsInput held source options.hex (options.limits.bytes + 1) bytes → IsCanonicalText options.limits.depth options.limits.bytes o output.form bytes text
+      → (fault : Fault) → IsNotPut output.path.now fault → IsNotCanonised o options source output held fault
+  not_put bytes text s t faults.CannotPrint h = (record { input = s.input; is = s.is; text = text; canonical = text_whole bytes text s t }, h)
+  not_put bytes text s t (faults.CannotWrite named) h = (record { input = s.input; is = s.is; text = text; canonical = text_whole bytes text s t }, h)
+  not_put bytes text s t faults.Memory h = tt
+  not_put bytes text s t _ h = absurd h
 
   pub no_text : (bytes : List ℕ) → StartsInput held source options.hex (options.limits.bytes + 1) bytes → (fault : Fault)
       → IsNoText options.limits.depth options.limits.bytes o bytes fault → IsNotCanonised o options source output held fault
@@ -77,7 +84,8 @@ module _ (o : KeyOrder) (options : Options) (source : List ℕ) (output : Output
     s.input,
     s.is,
     refusal_whole options.limits.depth options.limits.bytes s.input o f
-        (subst (λ (b : List ℕ). IsRefusal options.limits.depth options.limits.bytes o b f) s.front h),
+        (subst (λ (b : List ℕ). IsRefusal options.limits.depth options.limits.bytes o b f) s.front h.0),
+    h.1,
   )
   no_text bytes s faults.Memory h = tt
   no_text bytes s _ h = absurd h
@@ -101,21 +109,23 @@ module _ (rules : Rules) (options : Options) (source : List ℕ) (held : Option 
   pub not_checked : (f : Refusal) → IsNotWhole options.limits.depth options.limits.bytes rules bytes f → (fault : Fault) → fault ≡ refusal_fault f
       → IsNotChecked rules options source held fault
   not_checked f h fault e =
-      refusal_is (IsNotChecked rules options source held) f fault e (
+      refusal_is (IsNotChecked rules options source held) f fault e (λ own. (
         s.input,
         s.is,
         is_not_whole options.limits.depth options.limits.bytes s.input rules f
             (subst (λ (b : List ℕ). IsNotWhole options.limits.depth options.limits.bytes rules b f) s.front h),
-      ) tt
+        own,
+      )) tt
 
 -- the fault of an item of a sequence: its refusal, or want of memory
-pub item_refusal_is : (P : Fault → Type 0) (index start : ℕ) (f : Refusal) (fault : Fault) → fault ≡ at_item index start (refusal_fault f) → P (faults.RefusedItem index start f)
-    → P faults.Memory → P fault
-item_refusal_is P index start f fault e refused memory = subst P (sym e) (by_reason f.reason)
+pub item_refusal_is : (P : Fault → Type 0) (index start : ℕ) (f : Refusal) (fault : Fault) → fault ≡ at_item index start (refusal_fault f)
+    → (IsOfInput f.reason → P (faults.RefusedItem index start f)) → P faults.Memory → P fault
+item_refusal_is P index start f fault e refused memory = subst P (sym e) (by_reason f.reason refl)
   where
-    by_reason : (reason : Reason) → P (at_item index start (reason_fault f reason))
-    by_reason reasons.Memory = memory
-    by_reason _ = refused
+    by_reason : (reason : Reason) → f.reason ≡ reason → P (at_item index start (reason_fault f reason))
+    by_reason reasons.Memory is = memory
+    by_reason reasons.Read is = memory
+    by_reason _ is = refused (subst IsOfInput (sym is) tt)
 
 module _ (rules : Rules) (options : Options) (source : List ℕ) (held : Option Files) (input : List ℕ) (is : IsInput held source options.hex input) where
   pub sequence_checked : (count : ℕ) (before after : Option (List ℕ)) → IsWholeSequence options.limits.depth options.limits.bytes rules input count
@@ -129,7 +139,7 @@ module _ (rules : Rules) (options : Options) (source : List ℕ) (held : Option 
 
   pub sequence_refused : (index start : ℕ) (f : Refusal) → IsRefusedAt options.limits.depth options.limits.bytes rules input index start f
       → (fault : Fault) → fault ≡ at_item index start (refusal_fault f) → IsSequenceNotChecked rules options source held fault
-  sequence_refused index start f h fault e = item_refusal_is (IsSequenceNotChecked rules options source held) index start f fault e (input, is, h) tt
+  sequence_refused index start f h fault e = item_refusal_is (IsSequenceNotChecked rules options source held) index start f fault e (λ own. (input, is, h, own)) tt
 
 module _ (options : Options) (source : List ℕ) (held : Option Files) (bytes : List ℕ) (s : StartsInput held source options.hex (options.limits.bytes + 1) bytes) where
   -- ---- `show`
@@ -150,12 +160,13 @@ module _ (options : Options) (source : List ℕ) (held : Option Files) (bytes : 
 
   pub not_shown : (f : Refusal) → IsNotWhole options.limits.depth options.limits.bytes plain bytes f → (fault : Fault) → fault ≡ refusal_fault f → IsNotShown options source held fault
   not_shown f h fault e =
-      refusal_is (IsNotShown options source held) f fault e (
+      refusal_is (IsNotShown options source held) f fault e (λ own. (
         s.input,
         s.is,
         is_not_whole options.limits.depth options.limits.bytes s.input plain f
             (subst (λ (b : List ℕ). IsNotWhole options.limits.depth options.limits.bytes plain b f) s.front h),
-      ) tt
+        own,
+      )) tt
 
   -- ---- `events`
 
@@ -177,6 +188,7 @@ module _ (options : Options) (source : List ℕ) (held : Option Files) (bytes : 
       → IsNotListedOf options source held before after fault
   not_listed_of before after (faults.Refused f) h = (s.input, s.is, listed_so before after (faults.Refused f) h)
   not_listed_of before after faults.CannotPrint h = (s.input, s.is, listed_so before after faults.CannotPrint h)
+  not_listed_of before after faults.Memory h = tt
   not_listed_of before after _ h = absurd h
 
 -- ---- `compare`
@@ -201,8 +213,8 @@ module _ (d n : ℕ) (left right : List ℕ) where
   side_whole Right f (l, h) = (subst (IsWholeItem d n) (whole_item d n left l) l, item_refusal_whole d n right f h)
 
   pub untold_whole : (fault : Fault) → IsUntold d n (take (n + 1) left) (take (n + 1) right) fault → IsUntold d n left right fault
-  untold_whole (faults.LeftRefused f) h = side_whole Left f h
-  untold_whole (faults.RightRefused f) h = side_whole Right f h
+  untold_whole (faults.LeftRefused f) (h, own) = (side_whole Left f h, own)
+  untold_whole (faults.RightRefused f) (h, own) = (side_whole Right f h, own)
   untold_whole faults.Memory (side, f, h, e) = (side, f, side_whole side f h, e)
   untold_whole faults.CannotPrint (l, r) = (subst (IsWholeItem d n) (whole_item d n left l) l, subst (IsWholeItem d n) (whole_item d n right r) r)
   untold_whole _ h = absurd h

@@ -188,9 +188,10 @@ module _ (d n : ℕ) (whole : List ℕ) where
   }
 
   pub not_listed_whole : (old new : Option (List ℕ)) (fault : Fault) → IsNotListed d n (take (n + 1) whole) old new fault → IsNotListed d n whole old new fault
-  not_listed_whole old new (faults.Refused f) (inl (u, l)) = inl (unlisted_whole f old new u l, omega (arith, l, no_longer))
-  not_listed_whole old new (faults.Refused f) (inr h) = inr (followed_whole f old new h)
+  not_listed_whole old new (faults.Refused f) (own, told, inl (u, l)) = (own, told, inl (unlisted_whole f old new u l, omega (arith, l, no_longer)))
+  not_listed_whole old new (faults.Refused f) (own, told, inr h) = (own, told, inr (followed_whole f old new h))
   not_listed_whole old new faults.CannotPrint (f, u, l, e) = (f, unlisted_whole f old new u l, omega (arith, l, no_longer), e)
+  not_listed_whole old new faults.Memory h = tt
   not_listed_whole old new _ h = absurd h
 
   -- ---- what `compare` finds

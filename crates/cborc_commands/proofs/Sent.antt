@@ -48,9 +48,10 @@ module _ (before mid after : Option (List ℕ)) (keeps : Keeps mid after) where
   unlisted_sent d n input f (of_writer out e s a) = of_writer out e s (appends_kept before mid after out a keeps)
 
   not_listed_sent : (d n : ℕ) (input : List ℕ) (fault : Fault) → IsNotListed d n input before mid fault → IsNotListed d n input before after fault
-  not_listed_sent d n input (faults.Refused f) (inl (h, l)) = inl (unlisted_sent d n input f h, l)
-  not_listed_sent d n input (faults.Refused f) (inr h) = inr (record { size = h.size; listed = listed_sent d n input h.size h.listed; followed = h.followed; is = h.is })
+  not_listed_sent d n input (faults.Refused f) (own, told, inl (h, l)) = (own, told, inl (unlisted_sent d n input f h, l))
+  not_listed_sent d n input (faults.Refused f) (own, told, inr h) = (own, told, inr (record { size = h.size; listed = listed_sent d n input h.size h.listed; followed = h.followed; is = h.is }))
   not_listed_sent d n input faults.CannotPrint (f, h, l, e) = (f, unlisted_sent d n input f h, l, e)
+  not_listed_sent d n input faults.Memory h = tt
   not_listed_sent d n input _ h = absurd h
 
   events_sent : (options : Options) (source : List ℕ) (held : Option Files) (fault : Fault) → IsNotListedOf options source held before mid fault

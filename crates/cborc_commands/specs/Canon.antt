@@ -4,6 +4,7 @@ use Rattle.std.specs.Io.KnownBytes.{Appends, Keeps}
 use Rattle.hex.specs.Hex.{encode_lower}
 use Rattle.cbor_head.specs.declared.order.KeyOrder.{KeyOrder}
 use Rattle.cbor_reader.specs.Canonicalise.{IsCanonicalOf, IsRefusal}
+use Rattle.cborc_commands.specs.Fault.{IsOfInput}
 use Rattle.cborc_commands.specs.Folder.{Files, is_stream, KeepsFiles, ReplacesFile}
 use Rattle.cborc_commands.specs.Input.{IsInput, IsNoInput}
 use Rattle.cborc_commands.specs.declared.request.Form.{Form}
@@ -44,12 +45,20 @@ pub record IsCanonised (o : KeyOrder) (options : Options) (source : List ℕ) (o
   pub canonical : IsCanonicalText options.limits.depth options.limits.bytes o output.form input text
   pub put : IsPut output.path.now old new before after text
 
--- why they are not: the input is refused, there is none, or the text was not put there
+-- the input at a path has canonical bytes
+pub record HasText (o : KeyOrder) (options : Options) (source : List ℕ) (form : Form) (held : Option Files) : Type 0 where
+  pub input : List ℕ
+  pub is : IsInput held source options.hex input
+  pub text : List ℕ
+  pub canonical : IsCanonicalText options.limits.depth options.limits.bytes o form input text
+
+-- why they are not: the input is refused, there is none, or its text was not put there
 abbrev pub IsNotCanonised : KeyOrder → Options → List ℕ → Output → Option Files → Fault → Type 0
 IsNotCanonised o options source output held (faults.Refused f) =
-    (input : List ℕ) × IsInput held source options.hex input × IsRefusal options.limits.depth options.limits.bytes o input f
-IsNotCanonised o options source output held faults.CannotPrint = IsNotPut output.path.now faults.CannotPrint
-IsNotCanonised o options source output held (faults.CannotWrite named) = IsNotPut output.path.now (faults.CannotWrite named)
+    (input : List ℕ) × IsInput held source options.hex input × IsRefusal options.limits.depth options.limits.bytes o input f × IsOfInput f.reason
+IsNotCanonised o options source output held faults.CannotPrint = HasText o options source output.form held × IsNotPut output.path.now faults.CannotPrint
+IsNotCanonised o options source output held (faults.CannotWrite named) =
+    HasText o options source output.form held × IsNotPut output.path.now (faults.CannotWrite named)
 IsNotCanonised o options source output held fault = IsNoInput held source options.hex fault
 
 -- the first bytes are of a file that is one valid item, and the second of one that holds its canonical bytes

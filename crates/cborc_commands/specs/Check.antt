@@ -6,6 +6,7 @@ use Rattle.cbor_head.specs.Verdict.{refusal}
 use Rattle.cbor_head.specs.declared.reason.Reason.TheVariants.{Trailing}
 use Rattle.cbor_head.specs.declared.reason.Refusal.{Refusal}
 use Rattle.cbor_judging.specs.Readers.{IsRead, IsUnread}
+use Rattle.cborc_commands.specs.Fault.{IsOfInput}
 use Rattle.cborc_commands.specs.Folder.{Files}
 use Rattle.cborc_commands.specs.Input.{IsInput, IsNoInput}
 use Rattle.cborc_commands.specs.declared.request.Accepted.{Accepted}
@@ -52,6 +53,6 @@ pub record IsUntoldOf (rules : Rules) (options : Options) (source : List ℕ) (h
 -- why nothing is told: the input is refused, there is none, or standard output failed
 abbrev pub IsNotChecked : Rules → Options → List ℕ → Option Files → Fault → Type 0
 IsNotChecked rules options source held (faults.Refused f) =
-    (input : List ℕ) × IsInput held source options.hex input × IsNotWhole options.limits.depth options.limits.bytes rules input f
+    (input : List ℕ) × IsInput held source options.hex input × IsNotWhole options.limits.depth options.limits.bytes rules input f × IsOfInput f.reason
 IsNotChecked rules options source held faults.CannotPrint = IsUntoldOf rules options source held
 IsNotChecked rules options source held fault = IsNoInput held source options.hex fault

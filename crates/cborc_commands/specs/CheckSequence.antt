@@ -7,6 +7,7 @@ use Rattle.cbor_head.specs.declared.reason.Reason.TheVariants.{Read, Memory}
 use Rattle.cbor_head.specs.declared.reason.Refusal.{Refusal}
 use Rattle.cbor_judging.specs.Readers.{IsUnread}
 use Rattle.cbor_reader.specs.Sequence.{sequence_bytes, StartsWithItems, EndsBefore}
+use Rattle.cborc_commands.specs.Fault.{IsOfInput}
 use Rattle.cborc_commands.specs.Folder.{Files}
 use Rattle.cborc_commands.specs.Input.{IsInput, IsNoInput}
 use Rattle.cborc_commands.specs.declared.request.Options.{Options}
@@ -53,6 +54,6 @@ pub record IsUntoldSequence (rules : Rules) (options : Options) (source : List �
 -- why nothing is told: an item is refused, there is no input, or standard output failed
 abbrev pub IsSequenceNotChecked : Rules → Options → List ℕ → Option Files → Fault → Type 0
 IsSequenceNotChecked rules options source held (faults.RefusedItem index start f) =
-    (input : List ℕ) × IsInput held source options.hex input × IsRefusedAt options.limits.depth options.limits.bytes rules input index start f
+    (input : List ℕ) × IsInput held source options.hex input × IsRefusedAt options.limits.depth options.limits.bytes rules input index start f × IsOfInput f.reason
 IsSequenceNotChecked rules options source held faults.CannotPrint = IsUntoldSequence rules options source held
 IsSequenceNotChecked rules options source held fault = IsNoInput held source options.hex fault

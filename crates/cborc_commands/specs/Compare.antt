@@ -7,6 +7,7 @@ use Rattle.cbor_reader.specs.Comparing.{MeanTheSame, IsSideRefusal}
 use Rattle.cbor_reader.specs.WholeItem.{IsWholeItem}
 use Rattle.cbor_reader.specs.declared.comparison.Side.{Side}
 use Rattle.cbor_reader.specs.declared.comparison.Side.TheVariants.{Left, Right}
+use Rattle.cborc_commands.specs.Fault.{IsOfInput}
 use Rattle.cborc_commands.specs.Folder.{Files}
 use Rattle.cborc_commands.specs.Input.{IsInput, IsNoInput}
 use Rattle.cborc_commands.specs.declared.request.Options.{Options}
@@ -27,8 +28,8 @@ IsTold d n left right old new _ = ⊥
 
 -- why nothing is told: a side is refused, or standard output took not all of the line
 abbrev pub IsUntold : ℕ → ℕ → List ℕ → List ℕ → Fault → Type 0
-IsUntold d n left right (faults.LeftRefused f) = IsSideRefusal d n left right Left f
-IsUntold d n left right (faults.RightRefused f) = IsSideRefusal d n left right Right f
+IsUntold d n left right (faults.LeftRefused f) = IsSideRefusal d n left right Left f × IsOfInput f.reason
+IsUntold d n left right (faults.RightRefused f) = IsSideRefusal d n left right Right f × IsOfInput f.reason
 IsUntold d n left right faults.Memory = (side : Side) × (f : Refusal) × IsSideRefusal d n left right side f × (f.reason ≡ reasons.Memory)
 IsUntold d n left right faults.CannotPrint = AreAccepted d n left right
 IsUntold d n left right _ = ⊥
@@ -52,7 +53,9 @@ pub record AreUntold (options : Options) (left right : List ℕ) (held : Option 
   pub are : AreInputs held left right options first second
   pub untold : IsUntold options.limits.depth options.limits.bytes first second fault
 
--- Why nothing is told: there are both inputs, and one is refused or the line was not taken; or one of them is not there.
+-- Why nothing is told: there are both inputs, and one is refused or the line was not taken; or the left one is not there; or the
+-- right one, where the left one is.
 abbrev pub AreNotCompared : Options → List ℕ → List ℕ → Option Files → Fault → Type 0
 AreNotCompared options left right held fault =
-    AreUntold options left right held fault ⊎ IsNoInput held left options.hex fault ⊎ IsNoInput held right options.hex fault
+    AreUntold options left right held fault ⊎ IsNoInput held left options.hex fault
+    ⊎ ((first : List ℕ) × IsInput held left options.hex first × IsNoInput held right options.hex fault)

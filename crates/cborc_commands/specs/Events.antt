@@ -1,9 +1,10 @@
 -- Why `events` ends without the listing of a whole file.
-use Rattle.std.specs.Prelude.{ℕ, ◌≡◌, ◌<◌, ◌≤◌, ◌⊎◌, List, length, Option}
+use Rattle.std.specs.Prelude.{ℕ, ◌≡◌, ◌≢◌, ◌<◌, ◌≤◌, ◌⊎◌, List, length, Option}
 use Rattle.cbor_head.specs.Verdict.{refusal}
 use Rattle.cbor_head.specs.declared.reason.Reason.TheVariants.{Trailing, Write}
 use Rattle.cbor_head.specs.declared.reason.Refusal.{Refusal}
 use Rattle.cbor_diag.specs.Listing.{IsListed, IsUnlisted}
+use Rattle.cborc_commands.specs.Fault.{IsOfInput}
 use Rattle.cborc_commands.specs.Folder.{Files}
 use Rattle.cborc_commands.specs.Input.{IsInput, IsNoInput}
 use Rattle.cborc_commands.specs.declared.request.Options.{Options}
@@ -17,10 +18,13 @@ pub record IsFollowed (d n : ℕ) (input : List ℕ) (old new : Option (List ℕ
   pub followed : size < length input
   pub is : f ≡ refusal Trailing size size
 
--- the form is refused, or a byte follows the item; or standard output took not all of the lines; of the input, what was taken
+-- The form is refused, or a byte follows the item; or standard output took not all of the lines; of the input, what was taken. A
+-- read that failed would be told as want of memory.
 abbrev pub IsNotListed : ℕ → ℕ → List ℕ → Option (List ℕ) → Option (List ℕ) → Fault → Type 0
-IsNotListed d n input old new (faults.Refused f) = (IsUnlisted d n input f old new × (f.read ≤ length input)) ⊎ IsFollowed d n input old new f
+IsNotListed d n input old new (faults.Refused f) =
+    IsOfInput f.reason × (f.reason ≢ Write) × ((IsUnlisted d n input f old new × (f.read ≤ length input)) ⊎ IsFollowed d n input old new f)
 IsNotListed d n input old new faults.CannotPrint = (f : Refusal) × IsUnlisted d n input f old new × (f.read ≤ length input) × (f.reason ≡ Write)
+IsNotListed d n input old new faults.Memory = Unit {0}
 IsNotListed d n input old new _ = ⊥
 
 -- the input at a path is one well-formed item, and standard output took its listing

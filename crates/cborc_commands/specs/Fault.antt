@@ -10,9 +10,16 @@ use Rattle.cborc_commands.specs.declared.fault.Fault.TheVariants as faults
 use Rattle.cborc_commands.specs.declared.status.Status.{Status}
 use Rattle.cborc_commands.specs.declared.status.Status.TheVariants.{Accepted, Refused, Misused, Failed}
 
--- the fault of a refusal for this reason: want of memory is not the input's
+-- what refuses an input: neither want of memory nor a reader that failed
+abbrev pub IsOfInput : Reason → Type 0
+IsOfInput reasons.Memory = ⊥
+IsOfInput reasons.Read = ⊥
+IsOfInput _ = Unit {0}
+
+-- the fault of a refusal for this reason; no input is read from a reader that can fail
 abbrev pub reason_fault : Refusal → Reason → Fault
 reason_fault f reasons.Memory = faults.Memory
+reason_fault f reasons.Read = faults.Memory
 reason_fault f _ = faults.Refused f
 
 -- the fault of a refusal

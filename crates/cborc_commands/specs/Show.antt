@@ -7,6 +7,7 @@ use Rattle.cbor_judging.specs.Readers.{IsReadAs}
 use Rattle.cbor_diag.specs.Text.{text}
 use Rattle.cbor_diag.specs.IndentedText.{indented}
 use Rattle.cborc_commands.specs.Check.{IsNotWhole}
+use Rattle.cborc_commands.specs.Fault.{IsOfInput}
 use Rattle.cborc_commands.specs.Folder.{Files}
 use Rattle.cborc_commands.specs.Input.{IsInput, IsNoInput}
 use Rattle.cborc_commands.specs.declared.request.Layout.{Layout}
@@ -38,6 +39,6 @@ pub record IsUnshownOf (options : Options) (source : List ℕ) (held : Option Fi
 -- why it is not shown: the input is refused, there is none, or standard output failed
 abbrev pub IsNotShown : Options → List ℕ → Option Files → Fault → Type 0
 IsNotShown options source held (faults.Refused f) =
-    (input : List ℕ) × IsInput held source options.hex input × IsNotWhole options.limits.depth options.limits.bytes plain input f
+    (input : List ℕ) × IsInput held source options.hex input × IsNotWhole options.limits.depth options.limits.bytes plain input f × IsOfInput f.reason
 IsNotShown options source held faults.CannotPrint = IsUnshownOf options source held
 IsNotShown options source held fault = IsNoInput held source options.hex fault

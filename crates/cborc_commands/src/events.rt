@@ -54,7 +54,7 @@ fn list<'a, W: Write>(bytes: &[u8], limits: Limits, out: &mut W) -> Result<(), F
         }
         Err(refusal) => match refusal.reason {
             Reason::Write => Err(Fault::CannotPrint),
-            _ => Err(Fault::Refused(refusal)),
+            _ => Err(Fault::from(refusal)),
         },
     }
 }

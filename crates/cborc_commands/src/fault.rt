@@ -133,7 +133,8 @@ impl<'a> From<Refusal> for Fault<'a> {
 
     fn from(refusal: Refusal) -> Fault<'a> {
         match refusal.reason {
-            Reason::Memory => Fault::Memory,
+            // What is read are slices, so no read fails.
+            Reason::Memory | Reason::Read => Fault::Memory,
             _ => Fault::Refused(refusal),
         }
     }

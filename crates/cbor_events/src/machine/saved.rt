@@ -61,7 +61,7 @@ pub struct SavedMachine {
     pub chunk: u8,
     /// The number of the reason that the item was refused for, 2 to 9; 0 where it was not.
     pub reason: u8,
-    /// The open containers, the outermost first, and zeros behind them.
+    /// The open containers, the outermost first. What stands behind them is not looked at.
     pub frames: [SavedFrame; MOST_OPEN],
 }
 

@@ -52,8 +52,9 @@ abbrev pub AnswersStep : OpenItems → OpenItems → ItemEventsView → ItemEven
 AnswersStep old new e after from to result =
     (b : Bounds) (t : List ℕ) → Stands old b e t → MatchResult result (λ told. IsStep told new b e after t from to) (λ f. IsStopped (strict old.order) b e t from to f)
 
--- at most a span for each open container, and no byte that was not read
+-- at most a frame and a span for each open container, and no byte that was not read
 pub record IsLittle (v : OpenItems) (e : ItemEventsView) : Type 0 where
+  pub levels : length (seen v.keys).levels ≤ e.machine.open_count
   pub spans : length (seen v.keys).spans ≤ e.machine.open_count
   pub kept : length (seen v.keys).bytes ≤ e.machine.taken
 

@@ -9,6 +9,7 @@ use Rattle.cbor_item.specs.declared.item.Item.{Item}
 use Rattle.cbor_reader.specs.Canonicalise.{IsRefusal}
 use Rattle.cbor_reader.specs.Sequence.{Given, AreGivenBy, HasGiven}
 use Rattle.cbor_judging.specs.Readers.{IsReadAs}
+use Rattle.cborc_commands.specs.Fault.{IsOfInput}
 use Rattle.cborc_commands.specs.Folder.{Files}
 use Rattle.cborc_commands.specs.Input.{IsInput}
 use Rattle.cborc_commands.specs.Show.{shown_text}
@@ -24,7 +25,7 @@ pub record StartsInput (held : Option Files) (path : List ℕ) (hex : Bool) (mos
 
 -- why there is none: the input is refused, or memory was
 abbrev pub IsNoText : ℕ → ℕ → KeyOrder → List ℕ → Fault → Type 0
-IsNoText d n o input (faults.Refused f) = IsRefusal d n o input f
+IsNoText d n o input (faults.Refused f) = IsRefusal d n o input f × IsOfInput f.reason
 IsNoText d n o input faults.Memory = Unit {0}
 IsNoText d n o input _ = ⊥
 

@@ -6,6 +6,7 @@ use Rattle.cbor_strict.specs.inner.OpenItems.{Stands, HasPartCome}
 use Rattle.cbor_judging.specs.Reading.{AreRefused}
 use Rattle.cbor_judging.proofs.Payloads.{IsPiece}
 use Rattle.cbor_judging.proofs.Steps.{limits-as}
+use Rattle.cbor_strict.proofs.StrictReading.{by_form, by_event, small_piece}
 use Rattle.cbor_strict.proofs.StrictSteps.{head_told, piece_told, end_told, refusal_told, live_of, piece_is}
 use Rattle.cbor_strict.proofs.strict_events.next_event.Goals as goal
 
@@ -87,3 +88,20 @@ returns-in-Err-admit_head-clause-taken g c =
     let r = c.requires in
     let k = head_told c.args.items.now r.b c.args.events.now c.next.new.self r.t (g.R.Read.remaining c.args.reader.now) (g.R.Read.remaining c.next.new.reader) (limits-as _ _ c.next.ensures.limits) c.in-Ok-Some.ensures.live c.in-Ok-Some.event r.stands (λ ms st. subst (λ x. IsNext (Ok x) (call c.args.events.now c.next.new.self (g.R.Read.remaining c.args.reader.now) (g.R.Read.remaining c.next.new.reader) r.t ms)) c.in-Ok-Some.field-0-is (c.in-Ok-Some.ensures.answers (live_of c.args.items.now r.b c.args.events.now r.t r.stands) r.t ms st)) (λ y. let z = piece_is c.in-Ok-Some.event.kind y in c.in_default.not-Piece z.0 z.1) in
     k.come.at.stands.stands.taken ∙ sym (c.in-Err-admit_head.ensures.answers r.b r.t k.next.bytes c.next.new.self k.come c.open-open.ensures.count c.taken-taken.ensures.taken (g.R.Read.remaining c.next.new.reader)).read
+
+pub returns-in-Err-clause-at_once : goal.returns-in-Err-clause-at_once
+returns-in-Err-clause-at_once g c = λ t ms st.
+    by_form c.args.items.now.order c.in-Err.refusal _ (c.in-Err.ensures.answers (live_of c.args.items.now c.requires.b c.args.events.now c.requires.t c.requires.stands) t ms st).1
+
+pub returns-in-Err-admit_piece-clause-at_once : goal.returns-in-Err-admit_piece-clause-at_once
+returns-in-Err-admit_piece-clause-at_once g c = λ t ms st.
+    let r = c.requires in
+    let n = subst (λ x. IsNext (Ok x) (call c.args.events.now c.next.new.self (g.R.Read.remaining c.args.reader.now) (g.R.Read.remaining c.next.new.reader) t ms)) c.in-Ok-Some.field-0-is (c.in-Ok-Some.ensures.answers (live_of c.args.items.now r.b c.args.events.now r.t r.stands) t ms st) in
+    by_event c.args.items.now.order c.in-Err-admit_piece.refusal c.in-Ok-Some.event _ n (small_piece c.in-Ok-Some.event _ _ n c.piece.ensures.piece c.piece.ensures.within)
+    (sym (returns-in-Err-admit_piece-clause-taken g c)) c.in-Err-admit_piece.ensures.against
+
+pub returns-in-Err-admit_head-clause-at_once : goal.returns-in-Err-admit_head-clause-at_once
+returns-in-Err-admit_head-clause-at_once g c = λ t ms st.
+    let r = c.requires in
+    let n = subst (λ x. IsNext (Ok x) (call c.args.events.now c.next.new.self (g.R.Read.remaining c.args.reader.now) (g.R.Read.remaining c.next.new.reader) t ms)) c.in-Ok-Some.field-0-is (c.in-Ok-Some.ensures.answers (live_of c.args.items.now r.b c.args.events.now r.t r.stands) t ms st) in
+    by_event c.args.items.now.order c.in-Err-admit_head.refusal c.in-Ok-Some.event _ n (λ k is. absurd (c.in_default.not-Piece k is)) (sym (returns-in-Err-admit_head-clause-taken g c)) c.in-Err-admit_head.ensures.against

@@ -1,5 +1,3 @@
-use Rattle.cbor_head.specs.Complaint.{strict}
-use Rattle.cbor_strict.proofs.OpenContainers.{read-stays, unread-stays}
 use Rattle.cbor_strict.proofs.WholeInputs.{read-front-canonical, has-no-front}
 use Rattle.cbor_strict.proofs.strict_reader.read_strict.Goals as goal
 
@@ -8,9 +6,3 @@ returns-in-Ok-clause-canonical g c = read-front-canonical c.args.limits.depth c.
 
 pub returns-in-Err-clause-no_canonical : goal.returns-in-Err-clause-no_canonical
 returns-in-Err-clause-no_canonical g c = has-no-front c.args.limits.depth c.args.limits.bytes c.args.order _ c.in-Err.refusal c.in-Err.ensures.refused
-
-pub returns-in-Ok-clause-within_depth : goal.returns-in-Ok-clause-within_depth
-returns-in-Ok-clause-within_depth g c = read-stays c.args.limits.depth c.args.limits.bytes (strict c.args.order) _ c.in-Ok.count c.in-Ok.ensures.read
-
-pub returns-in-Err-clause-within_depth : goal.returns-in-Err-clause-within_depth
-returns-in-Err-clause-within_depth g c = unread-stays c.args.limits.depth c.args.limits.bytes (strict c.args.order) _ c.in-Err.refusal c.in-Err.ensures.refused

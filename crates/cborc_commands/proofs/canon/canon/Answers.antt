@@ -1,5 +1,5 @@
 use Rattle.std.proofs.lemmas.Result.{err_from_is_err_and}
-use Rattle.cborc_commands.proofs.Faults.{on_ok, canonised, no_text}
+use Rattle.cborc_commands.proofs.Faults.{on_ok, on_err, canonised, no_text, not_put}
 use Rattle.cborc_commands.proofs.canon.canon.Goals as goal
 
 pub returns-in_err-text-clause-fault : goal.returns-in_err-text-clause-fault
@@ -16,3 +16,10 @@ returns-clause-written g c =
     (g.F.Folder.held c.put.new.files) (g.O.Write.contents c.args.out.now) (g.O.Write.contents c.put.new.out) c.in_ok-bytes.bytes.items c.in_ok-text.text.items
     c.in_ok-bytes.ensures.front (rw (c.as_slice.ensures.value) at c.in_ok-text.ensures.text) c.read_item.ensures.keeps (rw (c.as_slice-2.ensures.value) at p))
     c.put.ensures.put
+
+pub returns-clause-fault : goal.returns-clause-fault
+returns-clause-fault g c =
+    on_err c.put.result _ _
+    (not_put c.args.order c.args.options c.args.source.now c.args.output (g.F.Folder.held c.args.files.now) c.in_ok-bytes.bytes.items c.in_ok-text.text.items
+    c.in_ok-bytes.ensures.front (rw (c.as_slice.ensures.value) at c.in_ok-text.ensures.text))
+    c.put.ensures.fault

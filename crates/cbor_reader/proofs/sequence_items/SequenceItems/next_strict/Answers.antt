@@ -1,5 +1,5 @@
 use Rattle.cbor_head.specs.Complaint.{strict}
-use Rattle.cbor_reader.proofs.Sequences.{at_end, refused_as, gives_count}
+use Rattle.cbor_reader.proofs.Sequences.{at_end, refused_as, reason_as, gives_count}
 use Rattle.cbor_reader.proofs.sequence_items.SequenceItems.next_strict.Goals as goal
 
 pub returns-in-Ok-clause-run : goal.returns-in-Ok-clause-run
@@ -11,3 +11,6 @@ returns-in-Err-clause-end g c = rw (← c.self.view_is) (λ none live. at_end (s
 
 pub returns-in-Err-clause-refused : goal.returns-in-Err-clause-refused
 returns-in-Err-clause-refused g c = rw (← c.self.view_is) (refused_as (strict c.args.order) c.self.inside.limits c.stop.result _ _ c.in-Err.refusal c.in-Err.ensures.refused c.in-Err.ensures.read c.stop.ensures.refused)
+
+pub returns-in-Err-clause-reason : goal.returns-in-Err-clause-reason
+returns-in-Err-clause-reason g c = reason_as (strict c.args.order) c.stop.result c.in-Err.refusal c.in-Err.ensures.reason c.stop.ensures.refused

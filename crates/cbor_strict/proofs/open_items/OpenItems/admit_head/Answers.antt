@@ -1,8 +1,38 @@
-use Rattle.std.proofs.Common.{◌++◌, subst}
+use Rattle.std.proofs.Common.{ℕ, ◌++◌, sym, subst, inl}
 use Rattle.cbor_head.specs.Complaint.{strict}
+use Rattle.cbor_head.specs.declared.order.KeyOrder.{KeyOrder}
+use Rattle.cbor_head.specs.declared.reason.Reason.{Reason}
+use Rattle.cbor_head.specs.declared.width.Width.{Width}
+use Rattle.cbor_head.specs.declared.width.Width.TheVariants.{Direct, One, Two, Four, Eight, Indefinite}
+use Rattle.cbor_events.specs.Trace.{Mark, a_head, a_chunk, a_byte, a_break}
+use Rattle.cbor_events.specs.Marks.{mark_of}
+use Rattle.cbor_judging.specs.Refusals.{IsComplaintReason}
+use Rattle.cbor_strict.specs.StrictReader.{IsAgainstEvent}
 use Rattle.cbor_strict.specs.inner.OpenItems.{Answers}
+use Rattle.cbor_judging.specs.Reading.{IsHeadFault, IsFault}
 use Rattle.cbor_strict.proofs.OpenHeads.{refused_head, head_no_memory, begun_kept}
 use Rattle.cbor_strict.proofs.open_items.OpenItems.admit_head.Goals as goal
+
+-- what the rules have against a head is a complaint
+head_reason : (o : KeyOrder) (w : Width) (n : ℕ) (reason : Reason) → IsHeadFault w n reason → IsComplaintReason (strict o) reason
+head_reason o Indefinite n reason h = subst (IsComplaintReason (strict o)) (sym h) tt
+head_reason o Direct n reason h = subst (IsComplaintReason (strict o)) (sym h.1) tt
+head_reason o One n reason h = subst (IsComplaintReason (strict o)) (sym h.1) tt
+head_reason o Two n reason h = subst (IsComplaintReason (strict o)) (sym h.1) tt
+head_reason o Four n reason h = subst (IsComplaintReason (strict o)) (sym h.1) tt
+head_reason o Eight n reason h = subst (IsComplaintReason (strict o)) (sym h.1) tt
+
+mark_reason : (o : KeyOrder) (m : Mark) (reason : Reason) → IsFault (strict o) m reason → IsComplaintReason (strict o) reason
+mark_reason o (a_head m w n) reason h = head_reason o w n reason h
+mark_reason o (a_chunk w n) reason h = head_reason o w n reason h
+mark_reason o a_byte reason h = absurd h
+mark_reason o a_break reason h = absurd h
+
+pub returns-in-Some-clause-against : goal.returns-in-Some-clause-against
+returns-in-Some-clause-against c =
+    let e = c.args.event.now in
+    let o = c.args.self.now.order in
+    subst (λ x. IsAgainstEvent o x.reason) (sym c.new.ensures) (inl (mark_reason o (mark_of e.width e.kind) c.in-Some.reason (c.in-Some.ensures o)))
 
 pub returns-in-Some-clause-answers : goal.returns-in-Some-clause-answers
 returns-in-Some-clause-answers c = λ b t x e h n m to. refused_head c.args.self.now b c.args.event.now t x e c.in-Some.reason _ c.args.taken to h (c.in-Some.ensures c.args.self.now.order) m c.new.ensures

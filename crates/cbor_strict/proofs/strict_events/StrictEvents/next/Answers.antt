@@ -37,7 +37,11 @@ invariant_of-self-in-Err g c =
       );
       within = c.in-Err.ensures.limits.open_count;
       limited = c.in-Err.ensures.limits.taken;
-      little = record { spans = omega (arith, ap length c.forget.ensures.none.0); kept = omega (arith, ap length c.forget.ensures.none.1) };
+      little = record {
+        levels = omega (arith, ap length c.forget.ensures.none.2);
+        spans = omega (arith, ap length c.forget.ensures.none.0);
+        kept = omega (arith, ap length c.forget.ensures.none.1);
+      };
     }
 
 pub returns-in-Ok-clause-answers : goal.returns-in-Ok-clause-answers
@@ -49,7 +53,7 @@ returns-in-Ok-clause-answers g c = λ t ms h.
 pub returns-in-Err-clause-answers : goal.returns-in-Err-clause-answers
 returns-in-Err-clause-answers g c = λ t ms h.
     subst (λ (o : StrictEventsView). IsStrictRefusal c.in-Err.refusal (strict_call o (shown c.next_event.new.events c.forget.new.self (Some c.in-Err.refusal)) (g.R.Read.remaining c.args.reader.now) (g.R.Read.remaining c.next_event.new.reader) t ms)) c.self.view_is
-    (next_refused c.self.inside.events c.next_event.new.events c.self.inside.items c.next_event.new.items _ _ c.in-Err.ensures.limits c.in-Err.refusal c.self.inside.refusal _ c.in-Err.ensures.answers t ms
+    (next_refused c.self.inside.events c.next_event.new.events c.self.inside.items c.next_event.new.items _ _ c.in-Err.ensures.limits c.in-Err.refusal c.self.inside.refusal c.forget.new.self c.in-Err.ensures.answers c.in-Err.ensures.at_once t ms
     (subst (λ (o : StrictEventsView). StandsStrictly o t ms) (sym c.self.view_is) h))
 
 pub returns-in-Err-clause-refused : goal.returns-in-Err-clause-refused
