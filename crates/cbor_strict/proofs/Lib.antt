@@ -1,6 +1,5 @@
 pub mod Accepted
 pub mod Arrays
-pub mod AsciiMasks
 pub mod ByteLists
 pub mod Chunks
 pub mod Composition
