@@ -5,13 +5,13 @@ use Rattle.cbor_head.specs.declared.major.Major.{Major}
 use Rattle.cbor_head.specs.declared.major.Major.TheVariants as majors
 use Rattle.cbor_head.specs.declared.width.Width.{Width}
 use Rattle.cbor_head.specs.declared.width.Width.TheVariants.{Direct, One, Two, Four, Eight, Indefinite}
-use Rattle.cbor_events.specs.Trace.{Mark, a_head, a_chunk, a_byte, a_break, size, total, within}
-use Rattle.cbor_events.specs.Marks.{mark_of, marks_of, IsProper, IsDefinite}
-use Rattle.cbor_events.specs.Event.{event, count_at, marks_in, event_size, joined_with, onto, joined, front_of, cut, IsRow}
-use Rattle.cbor_events.specs.declared.event.Event.{Event}
-use Rattle.cbor_events.specs.declared.event.EventKind.{EventKind}
-use Rattle.cbor_events.specs.declared.event.EventKind.TheVariants.{Unsigned, Negative, Simple, Bytes, Text, Chunk, Piece, Array, Map, Tag, End}
-use Rattle.cbor_events.proofs.Events.{le-leb, lt-leb, within-none, within-some}
+use Rattle.cbor_automaton.specs.Trace.{Mark, a_head, a_chunk, a_byte, a_break, size, total, within}
+use Rattle.cbor_automaton.specs.Marks.{mark_of, marks_of, IsProper, IsDefinite}
+use Rattle.cbor_automaton.specs.Event.{event, count_at, marks_in, event_size, joined_with, onto, joined, front_of, cut, IsRow}
+use Rattle.cbor_automaton.specs.declared.event.Event.{Event}
+use Rattle.cbor_automaton.specs.declared.event.EventKind.{EventKind}
+use Rattle.cbor_automaton.specs.declared.event.EventKind.TheVariants.{Unsigned, Negative, Simple, Bytes, Text, Chunk, Piece, Array, Map, Tag, End}
+use Rattle.cbor_automaton.proofs.Events.{le-leb, lt-leb, within-none, within-some}
 
 -- ---- the event of a mark
 

@@ -9,13 +9,13 @@ use Rattle.cbor_head.specs.declared.major.Major.{Major}
 use Rattle.cbor_head.specs.declared.major.Major.TheVariants as majors
 use Rattle.cbor_head.specs.declared.width.Width.{Width}
 use Rattle.cbor_head.specs.declared.width.Width.TheVariants.{Direct, One, Two, Four, Eight, Indefinite}
-use Rattle.cbor_events.specs.Trace.{Mark, a_head, a_chunk, a_byte, a_break, size, total, payload_marks, chunk_marks, opener, break_marks, trace, trace_all, trace_entries}
-use Rattle.cbor_events.specs.Marks.{marks_of, IsProper, IsDefinite}
-use Rattle.cbor_events.specs.Event.{event, count_at, payload_events, chunks_events, break_events, events, events_in, events_in_entries, marks_in, event_size, IsRow}
-use Rattle.cbor_events.specs.declared.event.Event.{Event}
-use Rattle.cbor_events.specs.declared.event.EventKind.{EventKind}
-use Rattle.cbor_events.specs.declared.event.EventKind.TheVariants.{Unsigned, Negative, Simple, Bytes, Text, Chunk as ChunkHead, Array, Map, Tag, End}
-use Rattle.cbor_events.proofs.Tiling.{head-size}
+use Rattle.cbor_automaton.specs.Trace.{Mark, a_head, a_chunk, a_byte, a_break, size, total, payload_marks, chunk_marks, opener, break_marks, trace, trace_all, trace_entries}
+use Rattle.cbor_automaton.specs.Marks.{marks_of, IsProper, IsDefinite}
+use Rattle.cbor_automaton.specs.Event.{event, count_at, payload_events, chunks_events, break_events, events, events_in, events_in_entries, marks_in, event_size, IsRow}
+use Rattle.cbor_automaton.specs.declared.event.Event.{Event}
+use Rattle.cbor_automaton.specs.declared.event.EventKind.{EventKind}
+use Rattle.cbor_automaton.specs.declared.event.EventKind.TheVariants.{Unsigned, Negative, Simple, Bytes, Text, Chunk as ChunkHead, Array, Map, Tag, End}
+use Rattle.cbor_automaton.proofs.Tiling.{head-size}
 use Rattle.cbor_events.proofs.Joining.{IsSingle, IsFresh, AreApart}
 
 pub total-append : (ms ns : List Mark) → total (ms ++ ns) ≡ total ms + total ns

@@ -2,15 +2,15 @@
 use Rattle.std.proofs.Common.{◌≡◌, ℕ, ◌+◌, List, [], ◌∷◌, ◌++◌, ◌≤◌, cond, length, drop, refl, sym, ap, ◌∙◌, subst, arith, append-nil}
 use Rattle.std.proofs.lemmas.Grind.{flat_map-append}
 use Rattle.cbor_head.specs.Spelling.{Spelling, IsItem}
-use Rattle.cbor_events.specs.Trace.{Mark, total, within}
-use Rattle.cbor_events.specs.Marks.{marks_of}
-use Rattle.cbor_events.specs.Event.{events, marks_in, event_size, front_of, joined, cut, IsRow, AreTold}
-use Rattle.cbor_events.specs.MachineView.{MachineView}
-use Rattle.cbor_events.specs.Machine.{StandsFor, IsWhole, IsGiven}
-use Rattle.cbor_events.specs.ItemEvents.{Call, StandsBetween, IsNextEvent, IsEnd}
-use Rattle.cbor_events.specs.Bytes.{IsEventBytes}
-use Rattle.cbor_events.proofs.Events.{le-leb}
-use Rattle.cbor_events.specs.declared.event.Event.{Event}
+use Rattle.cbor_automaton.specs.Trace.{Mark, total, within}
+use Rattle.cbor_automaton.specs.Marks.{marks_of}
+use Rattle.cbor_automaton.specs.Event.{events, marks_in, event_size, front_of, joined, cut, IsRow, AreTold}
+use Rattle.cbor_machine.specs.MachineView.{MachineView}
+use Rattle.cbor_machine.specs.Machine.{StandsFor, IsWhole, IsGiven}
+use Rattle.cbor_machine.specs.NextEvent.{Call, StandsBetween, IsNextEvent, IsEnd}
+use Rattle.cbor_automaton.specs.Bytes.{IsEventBytes}
+use Rattle.cbor_automaton.proofs.Events.{le-leb}
+use Rattle.cbor_automaton.specs.declared.event.Event.{Event}
 use Rattle.cbor_events.proofs.Joining.{rejoin, joined-rejoin, cut-rejoin}
 use Rattle.cbor_events.proofs.Rows.{total-append, row-append, events-row}
 

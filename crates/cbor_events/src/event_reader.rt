@@ -2,15 +2,15 @@
 
 ghost use Rattle.std.specs.Prelude.{◌≡◌, ◌≤◌, ℕ, List, [], length, None, Some, OnOk, OnErr, IfErr};
 ghost use Rattle.std.specs.Prelude.{IfSome, Err};
-ghost use Rattle.cbor_events.specs.Trace.{Mark};
-ghost use Rattle.cbor_events.specs.Marks.{IsProper};
-ghost use Rattle.cbor_events.specs.Reasons.{IsEventReason};
-ghost use Rattle.cbor_events.specs.Machine.{KeepsLimits, IsIdle};
-ghost use Rattle.cbor_events.specs.ItemEvents.{StandsBetween, IfTold, IsNext, call};
+ghost use Rattle.cbor_automaton.specs.Trace.{Mark};
+ghost use Rattle.cbor_automaton.specs.Marks.{IsProper};
+ghost use Rattle.cbor_automaton.specs.Reasons.{IsEventReason};
+ghost use Rattle.cbor_machine.specs.Machine.{KeepsLimits, IsIdle};
+ghost use Rattle.cbor_machine.specs.NextEvent.{StandsBetween, IfTold, IsNext, call};
 ghost use Rattle.cbor_events.specs.EventReader.{EventReaderView};
 
-use crate::event::Event;
 use crate::item_events::ItemEvents;
+use cbor_automaton::Event;
 use cbor_head::{Limits, Refusal};
 use std::io::Read;
 use std::marker::Model;

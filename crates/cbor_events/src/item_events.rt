@@ -3,20 +3,22 @@
 ghost use Rattle.std.specs.Prelude.{◌≡◌, ◌≤◌, ◌<◌, ℕ, List, [], length, take, None, Some, OnOk};
 ghost use Rattle.std.specs.Prelude.{OnErr, IfErr, IfSome, Err, Option, false};
 ghost use Rattle.cbor_head.specs.Verdict.{refusal};
-ghost use Rattle.cbor_events.specs.Trace.{Mark};
-ghost use Rattle.cbor_events.specs.Marks.{IsProper};
-ghost use Rattle.cbor_events.specs.Reasons.{IsEventReason};
-ghost use Rattle.cbor_events.specs.Reasons.{IsMachineReason};
-ghost use Rattle.cbor_events.specs.MachineView.{MachineView};
-ghost use Rattle.cbor_events.specs.Machine.{KeepsLimits, IsIdle, StandsFor, wanted};
-ghost use Rattle.cbor_events.specs.ItemEvents.{ItemEventsView, StandsBetween, IfTold, IsNext};
-ghost use Rattle.cbor_events.specs.ItemEvents.{machine_call, call};
-ghost use Rattle.cbor_events.specs.inner.Reads.{IsAsked, HasRead, piece_after, piece_size, kind_size};
+ghost use Rattle.cbor_automaton.specs.Trace.{Mark};
+ghost use Rattle.cbor_automaton.specs.Marks.{IsProper};
+ghost use Rattle.cbor_automaton.specs.Reasons.{IsEventReason};
+ghost use Rattle.cbor_automaton.specs.Reasons.{IsMachineReason};
+ghost use Rattle.cbor_machine.specs.MachineView.{MachineView};
+ghost use Rattle.cbor_machine.specs.Machine.{KeepsLimits, IsIdle, StandsFor, wanted};
+ghost use Rattle.cbor_machine.specs.NextEvent.{ItemEventsView, StandsBetween, IfTold, IsNext};
+ghost use Rattle.cbor_machine.specs.NextEvent.{machine_call, call};
+ghost use Rattle.cbor_events.specs.inner.Reads.{IsAsked};
+ghost use Rattle.cbor_machine.specs.inner.Calls.{HasRead, piece_after, piece_size};
+ghost use Rattle.cbor_automaton.specs.inner.Pieces.{kind_size};
 ghost use Rattle.cbor_events.specs.inner.Reads.{IsPartTaken, IsPartRead, IfPartTold, IfStopped};
 
-use crate::event::{Event, EventKind, Out};
-use crate::machine::{Machine, below_256, refusal_of};
+use cbor_automaton::{Event, EventKind};
 use cbor_head::{Limits, Reason, Refusal};
+use cbor_machine::{Machine, Out, below_256};
 use std::io::Read;
 use std::marker::Model;
 
@@ -164,7 +166,7 @@ fn ask<R: Read>(reader: &mut R, buffer: &mut [u8], want: usize) -> Asked
 fn cut(reason: Reason, taken: u64) -> Refusal
     ensures { result ≡ refusal reason taken taken }
 {
-    refusal_of(reason, taken, taken)
+    Refusal::new(reason, taken, taken)
 }
 
 // What came of bytes that the machine wanted.

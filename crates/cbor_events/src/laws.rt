@@ -5,15 +5,15 @@ ghost use Rattle.cbor_head.specs.Spelling.{Spelling, IsSpelled, IsItem, spell};
 ghost use Rattle.cbor_head.specs.Complaint.{form};
 ghost use Rattle.cbor_head.specs.Verdict.{IsVerdict, accepted, refused};
 ghost use Rattle.cbor_head.specs.declared.reason.Refusal.{Refusal};
-ghost use Rattle.cbor_events.specs.Trace.{Mark, total, trace};
+ghost use Rattle.cbor_automaton.specs.Trace.{Mark, total, trace};
 ghost use Rattle.cbor_head.specs.Value.{AreBytes};
 ghost use Rattle.cbor_head.specs.Beginning.{IsLongestBeginning};
-ghost use Rattle.cbor_events.specs.Marks.{marks_of};
-ghost use Rattle.cbor_events.specs.Event.{events, marks_in, joined, cut, AreTold};
-ghost use Rattle.cbor_events.specs.declared.event.Event.{Event};
-ghost use Rattle.cbor_events.specs.ItemEvents.{Call, StandsBetween, IsNextEvent, IsEnd};
-ghost use Rattle.cbor_events.specs.MachineView.{MachineView};
-ghost use Rattle.cbor_events.specs.Machine.{StandsFor, IsComplete, IsGiven, IsRefused};
+ghost use Rattle.cbor_automaton.specs.Marks.{marks_of};
+ghost use Rattle.cbor_automaton.specs.Event.{events, marks_in, joined, cut, AreTold};
+ghost use Rattle.cbor_automaton.specs.declared.event.Event.{Event};
+ghost use Rattle.cbor_machine.specs.NextEvent.{Call, StandsBetween, IsNextEvent, IsEnd};
+ghost use Rattle.cbor_machine.specs.MachineView.{MachineView};
+ghost use Rattle.cbor_machine.specs.Machine.{StandsFor, IsComplete, IsGiven, IsRefused};
 
 /// What a machine answers is the verdict of form: of its refusals, and of the item that is
 /// complete.

@@ -22,7 +22,6 @@
 //! ```
 #![tactic(auto)]
 
-mod ascii;
 mod canonicaliser;
 mod comparison;
 mod key_set;

@@ -3,8 +3,6 @@
 //! [`read_strict`] reads one item from a reader, [`StrictReader`] tells its events one by one, and
 //! [`check_canonical`] looks for one at the front of a slice. None makes the item, and none takes
 //! memory but for the last key of each open map; that of a slice takes none.
-//! [`check_text`] and [`is_ascii_front`] are what these and the readers of `cbor_reader` ask of the
-//! bytes of a text.
 //!
 //! ```
 //! // {"Amt": -2, "Fun": true}
@@ -28,7 +26,6 @@ mod strict_events;
 mod strict_front;
 mod strict_reader;
 mod strict_slice;
-mod text;
 
 /// How many containers can be open.
 pub const MOST_OPEN: usize = cbor_head::MAX_DEPTH as usize;
@@ -36,4 +33,3 @@ pub const MOST_OPEN: usize = cbor_head::MAX_DEPTH as usize;
 pub use cbor_head::KeyOrder;
 pub use strict_reader::{StrictReader, read_strict};
 pub use strict_slice::check_canonical;
-pub use text::{check_text, is_ascii_front};

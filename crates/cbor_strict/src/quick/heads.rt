@@ -5,9 +5,9 @@ ghost use Rattle.std.specs.Prelude.{IfSome, length};
 ghost use Rattle.std.specs.Str.{IsUtf8};
 ghost use Rattle.cbor_strict.specs.inner.Quick.{IsShortest, IsShortestHead, IsLeaf};
 
-use crate::text::is_ascii_front;
 use byteorder::{BigEndian, ByteOrder};
 use cbor_head::argument_bytes;
+use cbor_text::{check_text, is_ascii_front};
 
 /// An integer in one byte.
 #[inline(always)]
@@ -151,5 +151,5 @@ fn is_simple(first: u8, number: u64) -> bool
 fn is_text(bytes: &[u8]) -> bool
     ensures { result ≡ true → IsUtf8 bytes.now }
 {
-    simdutf8::compat::from_utf8(bytes).is_ok()
+    check_text(bytes).is_ok()
 }

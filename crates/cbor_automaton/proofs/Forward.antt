@@ -1,0 +1,266 @@
+-- The machine takes the bytes of an item, and tells its trace.
+use Rattle.std.proofs.Common.{◌≡◌, ℕ, zero, suc, max, ◌+◌, ◌*◌, ◌%◌, ◌^◌, ◌<◌, ◌≤◌, Bool, true, false, nat_lt, cond, List, [], ◌∷◌, ◌++◌, length, flat_map, refl, sym, ap, ◌∙◌, inl, inr, arith, mod-eq_of_lt, append_assoc, append-nil}
+use Rattle.std.proofs.lemmas.Bool.{lt-ltb, le-ltb, cases_lt}
+use Rattle.std.specs.List.{AllByRecursion}
+use Rattle.std.specs.Int.{byte_at, bytes_high_first}
+use Rattle.cbor_head.specs.Head.{Holds, IsSimple, head, major_number, shortest}
+use Rattle.cbor_head.specs.Spelling.{Chunk, IsChunk, Spelling, Spellings, SpelledEntries, unsigned, negative, bytes, text, byte_chunks, text_chunks, array, a_map, tag, simple, no_spellings, a_spelling, no_entries, entry, spellings_count, entries_count, spell, spell_all, spell_entries, chunk_bytes, string_bytes_of, IsSpelled, AreSpelled, AreEntriesSpelled, depth, depth_all, depth_entries}
+use Rattle.cbor_automaton.specs.Trace.{Mark, a_head, a_chunk, a_byte, a_break, payload_marks, chunk_marks, trace, trace_all, trace_entries}
+use Rattle.cbor_automaton.specs.inner.Automaton.{Frame, counted, indefinite_array, indefinite_map, State, at_item, in_head, in_simple, in_payload, in_chunks, Opening, direct, long, Next, refuses, goes, tells, numbered_tail, tail, opening, close, expect, close_string, payload, after, mark, has_room, enter, begin, in_string, is_major, take_byte, Outcome, telling, and_then, run}
+use Rattle.cbor_head.specs.declared.major.Major.{Major}
+use Rattle.cbor_head.specs.declared.major.Major.TheVariants.{Unsigned, Negative, Bytes, Text, Array, Map, Tag, Simple}
+use Rattle.cbor_head.specs.declared.width.Width.{Width}
+use Rattle.cbor_head.specs.declared.width.Width.TheVariants.{Direct, One, Two, Four, Eight, Indefinite}
+use Rattle.cbor_head.specs.declared.reason.Reason.TheVariants.{BadChunk, BadSimple}
+use Rattle.cbor_head.specs.Verdict.{initial_reason}
+use Rattle.cbor_automaton.proofs.FirstByte.{opening-first, opening-direct}
+use Rattle.cbor_automaton.proofs.Arguments.{byte_on}
+
+abbrev pub telling_all : List Mark → Outcome → Outcome
+telling_all [] o = o
+telling_all (m ∷ ms) o = telling m (telling_all ms o)
+
+pub telling_all-append : (ms ns : List Mark) (o : Outcome) → telling_all (ms ++ ns) o ≡ telling_all ms (telling_all ns o)
+telling_all-append [] ns o = refl
+telling_all-append (m ∷ ms) ns o = ap (telling m) (telling_all-append ms ns o)
+
+-- the bytes of an argument
+pub feed : (d : ℕ) (chunk : Bool) (m : Major) (w : Width) (k acc n : ℕ) (fs : List Frame) (rest : List ℕ)
+    → run d (in_head chunk m w k acc fs) (bytes_high_first (suc k) n ++ rest)
+    ≡ telling (mark chunk m w (acc * 256 ^ suc k + n % 256 ^ suc k)) (run d (after chunk m (acc * 256 ^ suc k + n % 256 ^ suc k) fs) rest)
+feed d chunk m w zero acc n fs rest =
+    let e : acc * 256 + n % 256 ≡ acc * 256 ^ 1 + n % 256 ^ 1 = omega arith in
+    ap (λ x. telling (mark chunk m w x) (run d (after chunk m x fs) rest)) e
+feed d chunk m w (suc k) acc n fs rest =
+    feed d chunk m w k (acc * 256 + byte_at (suc k) n) n fs rest
+    ∙ ap (λ x. telling (mark chunk m w x) (run d (after chunk m x fs) rest)) (byte_on (suc k) n acc)
+
+-- an argument that fits
+pub feed-fits : (d : ℕ) (chunk : Bool) (m : Major) (w : Width) (k n : ℕ) (fs : List Frame) (rest : List ℕ) → n < 256 ^ suc k
+    → run d (in_head chunk m w k 0 fs) (bytes_high_first (suc k) n ++ rest) ≡ telling (mark chunk m w n) (run d (after chunk m n fs) rest)
+feed-fits d chunk m w k n fs rest h =
+    let e : 0 * 256 ^ suc k + n % 256 ^ suc k ≡ n = omega (arith, mod-eq_of_lt h) in
+    feed d chunk m w k 0 n fs rest ∙ ap (λ x. telling (mark chunk m w x) (run d (after chunk m x fs) rest)) e
+
+-- Where a definite head of a type may begin.
+pub record Starts (d : ℕ) (q : State) (chunk : Bool) (m : Major) (fs : List Frame) : Type 0 where
+  pub direct : (n : ℕ) → n < 24 → take_byte d q (32 * major_number m + n) ≡ tells (mark chunk m Direct n) (after chunk m n fs)
+  pub one : take_byte d q (32 * major_number m + 24) ≡ goes (in_head chunk m One 0 0 fs)
+  pub two : take_byte d q (32 * major_number m + 25) ≡ goes (in_head chunk m Two 1 0 fs)
+  pub four : take_byte d q (32 * major_number m + 26) ≡ goes (in_head chunk m Four 3 0 fs)
+  pub eight : take_byte d q (32 * major_number m + 27) ≡ goes (in_head chunk m Eight 7 0 fs)
+
+pub step : (d : ℕ) (q : State) (c : ℕ) (next : Next) (rest : List ℕ) → take_byte d q c ≡ next → run d q (c ∷ rest) ≡ and_then next (λ t. run d t rest)
+step d q c next rest e = ap (λ o. and_then o (λ t. run d t rest)) e
+
+pub head-taken : (d : ℕ) (q : State) (chunk : Bool) (m : Major) (fs : List Frame) → Starts d q chunk m fs → (w : Width) (n : ℕ) (rest : List ℕ) → Holds w n
+    → run d q (head m w n ++ rest) ≡ telling (mark chunk m w n) (run d (after chunk m n fs) rest)
+head-taken d q chunk m fs starts Direct n rest h = step d q _ _ rest (starts.direct n h)
+head-taken d q chunk m fs starts One n rest h = step d q _ _ (bytes_high_first 1 n ++ rest) starts.one ∙ feed-fits d chunk m One 0 n fs rest h
+head-taken d q chunk m fs starts Two n rest h = step d q _ _ (bytes_high_first 2 n ++ rest) starts.two ∙ feed-fits d chunk m Two 1 n fs rest h
+head-taken d q chunk m fs starts Four n rest h = step d q _ _ (bytes_high_first 4 n ++ rest) starts.four ∙ feed-fits d chunk m Four 3 n fs rest h
+head-taken d q chunk m fs starts Eight n rest h = step d q _ _ (bytes_high_first 8 n ++ rest) starts.eight ∙ feed-fits d chunk m Eight 7 n fs rest h
+head-taken d q chunk m fs starts Indefinite n rest h = absurd h
+
+pub item_starts : (d : ℕ) (m : Major) (fs : List Frame) → ((k : ℕ) → tail m k ≡ numbered_tail m k) → has_room d fs m ≡ true → Starts d (at_item fs) false m fs
+item_starts d m fs plain room =
+    let begins : (c : ℕ) (o : Opening) (next : Next) → opening c ≡ o → begin d fs c o ≡ enter d fs m c next → take_byte d (at_item fs) c ≡ next =
+    λ c o next e f. ap (λ o. begin d fs c o) e ∙ f ∙ ap (λ b. cond b next (refuses (initial_reason c))) room in
+    record {
+      direct = λ n h. begins (32 * major_number m + n) (direct m n) (tells (a_head m Direct n) (after false m n fs)) (opening-direct m n h) refl;
+      one = begins (32 * major_number m + 24) (long m One) (goes (in_head false m One 0 0 fs)) (opening-first m 24 (omega arith) ∙ plain 0) refl;
+      two = begins (32 * major_number m + 25) (long m Two) (goes (in_head false m Two 1 0 fs)) (opening-first m 25 (omega arith) ∙ plain 1) refl;
+      four = begins (32 * major_number m + 26) (long m Four) (goes (in_head false m Four 3 0 fs)) (opening-first m 26 (omega arith) ∙ plain 2) refl;
+      eight = begins (32 * major_number m + 27) (long m Eight) (goes (in_head false m Eight 7 0 fs)) (opening-first m 27 (omega arith) ∙ plain 3) refl;
+    }
+
+pub chunk_starts : (d : ℕ) (m : Major) (fs : List Frame) → ((k : ℕ) → tail m k ≡ numbered_tail m k) → is_major m m ≡ true → Starts d (in_chunks m fs) true m fs
+chunk_starts d m fs plain same =
+    let begins : (c : ℕ) (o : Opening) (next : Next) → opening c ≡ o → in_string m fs o ≡ cond (is_major m m) next (refuses BadChunk) → take_byte d (in_chunks m fs) c ≡ next =
+    λ c o next e f. ap (λ o. in_string m fs o) e ∙ f ∙ ap (λ b. cond b next (refuses BadChunk)) same in
+    record {
+      direct = λ n h. begins (32 * major_number m + n) (direct m n) (tells (a_chunk Direct n) (after true m n fs)) (opening-direct m n h) refl;
+      one = begins (32 * major_number m + 24) (long m One) (goes (in_head true m One 0 0 fs)) (opening-first m 24 (omega arith) ∙ plain 0) refl;
+      two = begins (32 * major_number m + 25) (long m Two) (goes (in_head true m Two 1 0 fs)) (opening-first m 25 (omega arith) ∙ plain 1) refl;
+      four = begins (32 * major_number m + 26) (long m Four) (goes (in_head true m Four 3 0 fs)) (opening-first m 26 (omega arith) ∙ plain 2) refl;
+      eight = begins (32 * major_number m + 27) (long m Eight) (goes (in_head true m Eight 7 0 fs)) (opening-first m 27 (omega arith) ∙ plain 3) refl;
+    }
+
+-- the bytes of a payload
+pub payload-byte : (d : ℕ) (chunk : Bool) (m : Major) (n : ℕ) (fs : List Frame) (b : ℕ) (rest : List ℕ)
+    → run d (in_payload chunk m n fs) (b ∷ rest) ≡ telling a_byte (run d (payload chunk m n fs) rest)
+payload-byte d chunk m zero fs b rest = refl
+payload-byte d chunk m (suc n) fs b rest = refl
+
+pub payload-taken : (d : ℕ) (chunk : Bool) (m : Major) (fs : List Frame) (bs rest : List ℕ)
+    → run d (payload chunk m (length bs) fs) (bs ++ rest) ≡ telling_all (payload_marks bs) (run d (close_string chunk m fs) rest)
+payload-taken d chunk m fs [] rest = refl
+payload-taken d chunk m fs (b ∷ bs) rest = payload-byte d chunk m (length bs) fs b (bs ++ rest) ∙ ap (telling a_byte) (payload-taken d chunk m fs bs rest)
+
+-- a definite string, with what its head leads to
+pub string-taken : (d : ℕ) (q : State) (chunk : Bool) (m : Major) (fs : List Frame) → Starts d q chunk m fs → ((n : ℕ) → after chunk m n fs ≡ payload chunk m n fs)
+    → (w : Width) (bs rest : List ℕ) → Holds w (length bs)
+    → run d q (string_bytes_of m w bs ++ rest) ≡ telling_all (mark chunk m w (length bs) ∷ payload_marks bs) (run d (close_string chunk m fs) rest)
+string-taken d q chunk m fs starts leads w bs rest h =
+    ap (run d q) (append_assoc (head m w (length bs)) bs rest)
+    ∙ head-taken d q chunk m fs starts w (length bs) (bs ++ rest) h
+    ∙ ap (λ t. telling (mark chunk m w (length bs)) (run d t (bs ++ rest))) (leads (length bs))
+    ∙ ap (telling (mark chunk m w (length bs))) (payload-taken d chunk m fs bs rest)
+
+chunks-taken : (d : ℕ) (m : Major) (fs : List Frame) → Starts d (in_chunks m fs) true m fs → (cs : List Chunk) (rest : List ℕ) → AllByRecursion IsChunk cs
+    → run d (in_chunks m fs) (flat_map (chunk_bytes m) cs ++ rest) ≡ telling_all (flat_map chunk_marks cs) (run d (in_chunks m fs) rest)
+chunks-taken d m fs starts [] rest h = refl
+chunks-taken d m fs starts (c ∷ cs) rest h =
+    ap (run d (in_chunks m fs)) (append_assoc (chunk_bytes m c) (flat_map (chunk_bytes m) cs) rest)
+    ∙ string-taken d (in_chunks m fs) true m fs starts (λ n. refl) c.width c.payload (flat_map (chunk_bytes m) cs ++ rest) h.0.0
+    ∙ ap (telling_all (chunk_marks c)) (chunks-taken d m fs starts cs rest h.1)
+    ∙ sym (telling_all-append (chunk_marks c) (flat_map chunk_marks cs) (run d (in_chunks m fs) rest))
+
+pub close-counted : (n : ℕ) (fs : List Frame) → close (counted n ∷ fs) ≡ expect n fs
+close-counted zero fs = refl
+close-counted (suc n) fs = refl
+
+-- one item, and then more
+then-more : (d : ℕ) (q r t : State) (xs ys rest : List ℕ) (ms ns : List Mark)
+    → ((more : List ℕ) → run d q (xs ++ more) ≡ telling_all ms (run d r more)) → run d r (ys ++ rest) ≡ telling_all ns (run d t rest)
+    → run d q ((xs ++ ys) ++ rest) ≡ telling_all (ms ++ ns) (run d t rest)
+then-more d q r t xs ys rest ms ns first second =
+    ap (run d q) (append_assoc xs ys rest) ∙ first (ys ++ rest) ∙ ap (telling_all ms) second ∙ sym (telling_all-append ms ns (run d t rest))
+
+-- the head of an item of one head
+only-head : (d : ℕ) (m : Major) (fs : List Frame) → ((k : ℕ) → tail m k ≡ numbered_tail m k) → has_room d fs m ≡ true → (w : Width) (n : ℕ) (rest : List ℕ) → Holds w n
+    → run d (at_item fs) (head m w n ++ rest) ≡ telling (a_head m w n) (run d (after false m n fs) rest)
+only-head d m fs plain room w n rest h = head-taken d (at_item fs) false m fs (item_starts d m fs plain room) w n rest h
+
+pub simple-direct : (d n : ℕ) (fs : List Frame) (rest : List ℕ) → n < 24 → run d (at_item fs) (head Simple Direct n ++ rest) ≡ telling (a_head Simple Direct n) (run d (close fs) rest)
+simple-direct d n fs rest h = step d (at_item fs) (32 * 7 + n) (tells (a_head Simple Direct n) (close fs)) rest (ap (begin d fs (32 * 7 + n)) (opening-direct Simple n h))
+
+pub simple-one : (d n : ℕ) (fs : List Frame) (rest : List ℕ) → 32 ≤ n → n < 256 → run d (at_item fs) (head Simple One n ++ rest) ≡ telling (a_head Simple One n) (run d (close fs) rest)
+simple-one d n fs rest low high =
+    let is : n % 256 ≡ n = mod-eq_of_lt high in
+    ap (λ c. run d (in_simple fs) (c ∷ rest)) is
+    ∙ step d (in_simple fs) n (tells (a_head Simple One n) (close fs)) rest (ap (λ b. cond b (refuses BadSimple) (tells (a_head Simple One n) (close fs))) (le-ltb n 32 low))
+
+simple-taken : (d n : ℕ) (fs : List Frame) (rest : List ℕ) → IsSimple n → run d (at_item fs) (head Simple (shortest n) n ++ rest) ≡ telling (a_head Simple (shortest n) n) (run d (close fs) rest)
+simple-taken d n fs rest h = elim (cases_lt n 24) [
+  | inl l ↦
+      let e : shortest n ≡ Direct = rw (lt-ltb n 24 l) in
+      rw e (simple-direct d n fs rest l)
+  | inr l ↦
+      let e : shortest n ≡ One = rw (le-ltb n 24 l, lt-ltb n (2 ^ 8) h.0) in
+      rw e (simple-one d n fs rest (h.1 l) h.0)
+]
+
+-- an indefinite string
+indefinite-taken : (d : ℕ) (m : Major) (fs : List Frame) → Starts d (in_chunks m fs) true m fs → (cs : List Chunk) (rest : List ℕ) → AllByRecursion IsChunk cs
+    → run d (in_chunks m fs) ((flat_map (chunk_bytes m) cs ++ 0xff ∷ []) ++ rest) ≡ telling_all (flat_map chunk_marks cs ++ a_break ∷ []) (run d (close fs) rest)
+indefinite-taken d m fs starts cs rest h =
+    then-more d (in_chunks m fs) (in_chunks m fs) (close fs) (flat_map (chunk_bytes m) cs) (0xff ∷ []) rest (flat_map chunk_marks cs) (a_break ∷ [])
+    (λ more. chunks-taken d m fs starts cs more h) refl
+
+pub room-above : (d : ℕ) (fs : List Frame) (k : ℕ) → suc k + length fs ≤ d → nat_lt (length fs) d ≡ true
+room-above d fs k h = lt-ltb (length fs) d (omega arith)
+
+abbrev Within : ℕ → ℕ → ℕ → Type 0
+Within d fs k = k + fs ≤ d
+
+left_of : (a b n d : ℕ) → max a b + n ≤ d → a + n ≤ d
+left_of a b n d h = omega arith
+
+right_of : (a b n d : ℕ) → max a b + n ≤ d → b + n ≤ d
+right_of a b n d h = omega arith
+
+one-down : (a n d : ℕ) → suc a + n ≤ d → a + suc n ≤ d
+one-down a n d h = omega arith
+
+-- a container with a definite head
+counted-taken : (d : ℕ) (m : Major) (fs : List Frame) → ((k : ℕ) → tail m k ≡ numbered_tail m k) → has_room d fs m ≡ true → (w : Width) (n : ℕ) → Holds w n
+    → (q : State) → after false m n fs ≡ q → (xs : List ℕ) (ms : List Mark) (rest : List ℕ) → run d q (xs ++ rest) ≡ telling_all ms (run d (close fs) rest)
+    → run d (at_item fs) (((head m w n ++ xs) ++ []) ++ rest) ≡ telling_all ((a_head m w n ∷ ms) ++ []) (run d (close fs) rest)
+counted-taken d m fs plain room w n h q leads xs ms rest inner =
+    rw (append-nil (head m w n ++ xs), append-nil ms, append_assoc (head m w n) xs rest)
+    (only-head d m fs plain room w n (xs ++ rest) h ∙ ap (λ t. telling (a_head m w n) (run d t (xs ++ rest))) leads ∙ ap (telling (a_head m w n)) inner)
+
+-- a container without a length, behind its first byte
+open-taken : (d : ℕ) (q : State) (fs : List Frame) → ((rest : List ℕ) → run d q (0xff ∷ rest) ≡ telling a_break (run d (close fs) rest)) → (xs : List ℕ) (ms : List Mark) (rest : List ℕ)
+    → ((more : List ℕ) → run d q (xs ++ more) ≡ telling_all ms (run d q more)) → run d q ((xs ++ 0xff ∷ []) ++ rest) ≡ telling_all (ms ++ a_break ∷ []) (run d (close fs) rest)
+open-taken d q fs closes xs ms rest inner = then-more d q q (close fs) xs (0xff ∷ []) rest ms (a_break ∷ []) inner (closes rest)
+
+mutual
+  pub forward : (d : ℕ) (s : Spelling) (fs : List Frame) (rest : List ℕ) → IsSpelled s → depth s + length fs ≤ d
+      → run d (at_item fs) (spell s ++ rest) ≡ telling_all (trace s) (run d (close fs) rest)
+  forward d (unsigned w n) fs rest h b = only-head d Unsigned fs (λ k. refl) refl w n rest h
+  forward d (negative w n) fs rest h b = only-head d Negative fs (λ k. refl) refl w n rest h
+  forward d (bytes w payload) fs rest h b = string-taken d (at_item fs) false Bytes fs (item_starts d Bytes fs (λ k. refl) refl) (λ n. refl) w payload rest h.0
+  forward d (text w payload) fs rest h b = string-taken d (at_item fs) false Text fs (item_starts d Text fs (λ k. refl) refl) (λ n. refl) w payload rest h.0
+  forward d (byte_chunks cs) fs rest h b = ap (telling (a_head Bytes Indefinite 0)) (indefinite-taken d Bytes fs (chunk_starts d Bytes fs (λ k. refl) refl) cs rest h)
+  forward d (text_chunks cs) fs rest h b = ap (telling (a_head Text Indefinite 0)) (indefinite-taken d Text fs (chunk_starts d Text fs (λ k. refl) refl) cs rest h)
+  forward d (array Indefinite ss) fs rest h b =
+      step d (at_item fs) 0x9f (tells (a_head Array Indefinite 0) (at_item (indefinite_array ∷ fs))) ((spell_all ss ++ 0xff ∷ []) ++ rest)
+      (ap (λ b. cond b (tells (a_head Array Indefinite 0) (at_item (indefinite_array ∷ fs))) (refuses (initial_reason 0x9f))) (room-above d fs (depth_all ss) b))
+      ∙ ap (telling (a_head Array Indefinite 0)) (open-taken d (at_item (indefinite_array ∷ fs)) fs (λ r. refl) (spell_all ss) (trace_all ss) rest
+      (λ more. forward_open d ss fs more h.1 (one-down (depth_all ss) (length fs) d b)))
+  forward d (array w ss) fs rest h b =
+      counted-taken d Array fs (λ k. refl) (room-above d fs (depth_all ss) b) w (spellings_count ss) h.0 (expect (spellings_count ss) fs) refl (spell_all ss) (trace_all ss) rest
+      (forward_all d ss fs rest h.1 (one-down (depth_all ss) (length fs) d b))
+  forward d (a_map Indefinite es) fs rest h b =
+      step d (at_item fs) 0xbf (tells (a_head Map Indefinite 0) (at_item (indefinite_map false ∷ fs))) ((spell_entries es ++ 0xff ∷ []) ++ rest)
+      (ap (λ b. cond b (tells (a_head Map Indefinite 0) (at_item (indefinite_map false ∷ fs))) (refuses (initial_reason 0xbf))) (room-above d fs (depth_entries es) b))
+      ∙ ap (telling (a_head Map Indefinite 0)) (open-taken d (at_item (indefinite_map false ∷ fs)) fs (λ r. refl) (spell_entries es) (trace_entries es) rest
+      (λ more. forward_open_entries d es fs more h.1 (one-down (depth_entries es) (length fs) d b)))
+  forward d (a_map w es) fs rest h b =
+      counted-taken d Map fs (λ k. refl) (room-above d fs (depth_entries es) b) w (entries_count es) h.0 (expect (entries_count es + entries_count es) fs) refl (spell_entries es) (trace_entries es) rest
+      (forward_entries d es fs rest h.1 (one-down (depth_entries es) (length fs) d b))
+  forward d (tag w n s) fs rest h b =
+      ap (run d (at_item fs)) (append_assoc (head Tag w n) (spell s) rest)
+      ∙ only-head d Tag fs (λ k. refl) (room-above d fs (depth s) b) w n (spell s ++ rest) h.0
+      ∙ ap (telling (a_head Tag w n)) (forward d s (counted 0 ∷ fs) rest h.1 (one-down (depth s) (length fs) d b))
+  forward d (simple n) fs rest h b = simple-taken d n fs rest h
+
+  -- the members of an array of stated count
+  forward_all : (d : ℕ) (ss : Spellings) (fs : List Frame) (rest : List ℕ) → AreSpelled ss → depth_all ss + suc (length fs) ≤ d
+      → run d (expect (spellings_count ss) fs) (spell_all ss ++ rest) ≡ telling_all (trace_all ss) (run d (close fs) rest)
+  forward_all d no_spellings fs rest h b = refl
+  forward_all d (a_spelling s ss) fs rest h b =
+      let n = spellings_count ss in
+      then-more d (at_item (counted n ∷ fs)) (expect n fs) (close fs) (spell s) (spell_all ss) rest (trace s) (trace_all ss)
+      (λ more. forward d s (counted n ∷ fs) more h.0 (left_of (depth s) (depth_all ss) (suc (length fs)) d b)
+      ∙ ap (λ q. telling_all (trace s) (run d q more)) (close-counted n fs))
+      (forward_all d ss fs rest h.1 (right_of (depth s) (depth_all ss) (suc (length fs)) d b))
+
+  -- those of one without
+  forward_open : (d : ℕ) (ss : Spellings) (fs : List Frame) (rest : List ℕ) → AreSpelled ss → depth_all ss + suc (length fs) ≤ d
+      → run d (at_item (indefinite_array ∷ fs)) (spell_all ss ++ rest) ≡ telling_all (trace_all ss) (run d (at_item (indefinite_array ∷ fs)) rest)
+  forward_open d no_spellings fs rest h b = refl
+  forward_open d (a_spelling s ss) fs rest h b =
+      let q = at_item (indefinite_array ∷ fs) in
+      then-more d q q q (spell s) (spell_all ss) rest (trace s) (trace_all ss)
+      (λ more. forward d s (indefinite_array ∷ fs) more h.0 (left_of (depth s) (depth_all ss) (suc (length fs)) d b))
+      (forward_open d ss fs rest h.1 (right_of (depth s) (depth_all ss) (suc (length fs)) d b))
+
+  forward_entries : (d : ℕ) (es : SpelledEntries) (fs : List Frame) (rest : List ℕ) → AreEntriesSpelled es → depth_entries es + suc (length fs) ≤ d
+      → run d (expect (entries_count es + entries_count es) fs) (spell_entries es ++ rest) ≡ telling_all (trace_entries es) (run d (close fs) rest)
+  forward_entries d no_entries fs rest h b = refl
+  forward_entries d (entry k v es) fs rest h b =
+      let n = entries_count es + entries_count es in
+      let more_two : suc (entries_count es) + suc (entries_count es) ≡ suc (suc n) = omega arith in
+      let b' = left_of (max (depth k) (depth v)) (depth_entries es) (suc (length fs)) d b in
+      ap (λ c. run d (expect c fs) ((((spell k) ++ spell v) ++ spell_entries es) ++ rest)) more_two
+      ∙ then-more d (at_item (counted (suc n) ∷ fs)) (expect n fs) (close fs) (spell k ++ spell v) (spell_entries es) rest (trace k ++ trace v) (trace_entries es)
+      (λ more. then-more d (at_item (counted (suc n) ∷ fs)) (at_item (counted n ∷ fs)) (expect n fs) (spell k) (spell v) more (trace k) (trace v)
+      (λ more'. forward d k (counted (suc n) ∷ fs) more' h.0 (left_of (depth k) (depth v) (suc (length fs)) d b'))
+      (forward d v (counted n ∷ fs) more h.1 (right_of (depth k) (depth v) (suc (length fs)) d b')
+      ∙ ap (λ q. telling_all (trace v) (run d q more)) (close-counted n fs)))
+      (forward_entries d es fs rest h.2 (right_of (max (depth k) (depth v)) (depth_entries es) (suc (length fs)) d b))
+
+  forward_open_entries : (d : ℕ) (es : SpelledEntries) (fs : List Frame) (rest : List ℕ) → AreEntriesSpelled es → depth_entries es + suc (length fs) ≤ d
+      → run d (at_item (indefinite_map false ∷ fs)) (spell_entries es ++ rest) ≡ telling_all (trace_entries es) (run d (at_item (indefinite_map false ∷ fs)) rest)
+  forward_open_entries d no_entries fs rest h b = refl
+  forward_open_entries d (entry k v es) fs rest h b =
+      let q = at_item (indefinite_map false ∷ fs) in
+      let b' = left_of (max (depth k) (depth v)) (depth_entries es) (suc (length fs)) d b in
+      then-more d q q q (spell k ++ spell v) (spell_entries es) rest (trace k ++ trace v) (trace_entries es)
+      (λ more. then-more d q (at_item (indefinite_map true ∷ fs)) q (spell k) (spell v) more (trace k) (trace v)
+      (λ more'. forward d k (indefinite_map false ∷ fs) more' h.0 (left_of (depth k) (depth v) (suc (length fs)) d b'))
+      (forward d v (indefinite_map true ∷ fs) more h.1 (right_of (depth k) (depth v) (suc (length fs)) d b')))
+      (forward_open_entries d es fs rest h.2 (right_of (max (depth k) (depth v)) (depth_entries es) (suc (length fs)) d b))

@@ -1,0 +1,301 @@
+-- Each byte that the machine takes leads to a state that stands for the bytes so far.
+use Rattle.std.proofs.Common.{◌≡◌, ℕ, zero, suc, ◌+◌, ◌-◌, ◌*◌, ◌^◌, ◌<◌, Bool, true, false, nat_lt, cond, List, [], ◌∷◌, ◌++◌, length, flat_map, refl, sym, ap, ◌∙◌, subst, inl, inr, arith, append_assoc, append-nil, true≢false, mod-eq_of_lt}
+use Rattle.std.proofs.lemmas.Bool.{lt-ltb, le-ltb, cases_lt}
+use Rattle.std.specs.Int.{bytes_high_first}
+use Rattle.cbor_head.specs.Value.{AreBytes}
+use Rattle.cbor_head.specs.Head.{Holds, head, major_number, shortest}
+use Rattle.cbor_head.specs.Spelling.{byte_chunks, text_chunks, array, a_map, simple, no_spellings, spell_all, chunk_bytes}
+use Rattle.cbor_automaton.specs.Trace.{Mark, more_bytes}
+use Rattle.cbor_automaton.specs.inner.Automaton.{Frame, counted, indefinite_array, indefinite_map, State, at_item, in_head, in_simple, in_payload, in_chunks, done, Opening, direct, long, Next, refuses, goes, tells, numbered_tail, simple_tail, tail, indefinite_length, opening_of, opening, close, close_string, payload, after, has_room, break_at, begin, is_major, in_string, take_byte, Outcome, refused, reached, telling, and_then, run}
+use Rattle.cbor_head.specs.declared.major.Major.{Major}
+use Rattle.cbor_head.specs.declared.major.Major.TheVariants.{Unsigned, Negative, Bytes, Text, Array, Map, Tag, Simple}
+use Rattle.cbor_head.specs.declared.width.Width.{Width}
+use Rattle.cbor_head.specs.declared.width.Width.TheVariants.{Direct, One, Two, Four, Eight, Indefinite}
+use Rattle.cbor_head.specs.declared.reason.Reason.{Reason}
+use Rattle.cbor_automaton.proofs.FirstByte.{split}
+use Rattle.cbor_automaton.proofs.Arguments.{number, number-between, bytes-number}
+use Rattle.cbor_automaton.proofs.Stands.{Opened, IsString, IsNumbered, Chunked, Before, Stands, along, item-closes, paired, room-of, room-true, chunk-closes, head-done}
+
+abbrev pub StandsNext : ℕ → Next → List ℕ → Type 0
+StandsNext d (refuses r) p = Unit {0}
+StandsNext d (goes q) p = Stands d q p
+StandsNext d (tells m q) p = Stands d q p
+
+guarded : (d : ℕ) (p : List ℕ) (b : Bool) (next : Next) (r : Reason) → (b ≡ true → StandsNext d next p) → StandsNext d (cond b next (refuses r)) p
+guarded d p true next r h = h refl
+guarded d p false next r h = tt
+
+argument-made : (k : ℕ) (more : List ℕ) → length more ≡ k → AreBytes more → (bytes_high_first k (number 0 more) ≡ more) × (number 0 more < 256 ^ k)
+argument-made k more e h =
+    let b = (number-between 0 more h).1 in
+    let small : number 0 more < 256 ^ length more = omega (arith, b) in
+    (ap (λ j. bytes_high_first j (number 0 more)) (sym e) ∙ bytes-number 0 more h, subst (λ (j : ℕ). number 0 more < 256 ^ j) e small)
+
+-- the first byte of a head with an argument behind it
+long-begins : (d : ℕ) (chunk : Bool) (m : Major) (w : Width) (k : ℕ) (fs : List Frame) (p : List ℕ) (c : ℕ) → Before d chunk m fs p
+    → ((n : ℕ) → head m w n ≡ c ∷ bytes_high_first (suc k) n) → ((n : ℕ) → n < 256 ^ suc k → Holds w n) → Stands d (in_head chunk m w k 0 fs) (p ++ c ∷ [])
+long-begins d chunk m w k fs p c b made holds = (
+  p,
+  b,
+  λ more e hm.
+      let a = argument-made (suc k) more e hm in
+      (append_assoc p (c ∷ []) more ∙ ap (λ xs. p ++ (c ∷ xs)) (sym a.0) ∙ ap (λ xs. p ++ xs) (sym (made (number 0 more))), holds (number 0 more) a.1),
+)
+
+-- the first byte of an array or map without a length
+array-opens : (d : ℕ) (fs : List Frame) (p : List ℕ) → Opened d fs p → length fs < d → Opened d (indefinite_array ∷ fs) (p ++ 0x9f ∷ [])
+array-opens d fs p o room = (
+  p,
+  o,
+  room,
+  λ ss r h b. record {
+    item = array Indefinite ss;
+    spelled = (tt, h);
+    fits = omega arith;
+    bytes_are = sym (append_assoc p (0x9f ∷ []) (spell_all ss ++ 0xff ∷ [])) ∙ sym (append_assoc (p ++ 0x9f ∷ []) (spell_all ss) (0xff ∷ []));
+  },
+)
+
+map-opens : (d : ℕ) (fs : List Frame) (p : List ℕ) → Opened d fs p → length fs < d → Opened d (indefinite_map false ∷ fs) (p ++ 0xbf ∷ [])
+map-opens d fs p o room = (
+  p,
+  o,
+  room,
+  λ ss r h b.
+      let pairs = paired ss r in
+      let deep = pairs.depth_is in
+      record {
+        item = a_map Indefinite pairs.entries;
+        spelled = (tt, pairs.spelled h);
+        fits = omega (arith, deep, b);
+        bytes_are = ap (λ xs. p ++ (0xbf ∷ (xs ++ 0xff ∷ []))) pairs.bytes_are
+            ∙ sym (append_assoc p (0xbf ∷ []) (spell_all ss ++ 0xff ∷ [])) ∙ sym (append_assoc (p ++ 0xbf ∷ []) (spell_all ss) (0xff ∷ []));
+      },
+)
+
+chunks-open : (d : ℕ) (m : Major) (fs : List Frame) (p : List ℕ) (first : ℕ) → Opened d fs p → IsString m → head m Indefinite 0 ≡ first ∷ [] → Chunked d m fs (p ++ first ∷ [])
+chunks-open d Bytes fs p first o s e = (
+  p,
+  o,
+  tt,
+  λ cs h. record {
+    item = byte_chunks cs;
+    spelled = h;
+    fits = room-of d fs p o;
+    bytes_are = ap (λ xs. p ++ ((xs ++ flat_map (chunk_bytes Bytes) cs) ++ 0xff ∷ [])) e
+        ∙ sym (append_assoc p (first ∷ []) (flat_map (chunk_bytes Bytes) cs ++ 0xff ∷ [])) ∙ sym (append_assoc (p ++ first ∷ []) (flat_map (chunk_bytes Bytes) cs) (0xff ∷ []));
+  },
+)
+chunks-open d Text fs p first o s e = (
+  p,
+  o,
+  tt,
+  λ cs h. record {
+    item = text_chunks cs;
+    spelled = h;
+    fits = room-of d fs p o;
+    bytes_are = ap (λ xs. p ++ ((xs ++ flat_map (chunk_bytes Text) cs) ++ 0xff ∷ [])) e
+        ∙ sym (append_assoc p (first ∷ []) (flat_map (chunk_bytes Text) cs ++ 0xff ∷ [])) ∙ sym (append_assoc (p ++ first ∷ []) (flat_map (chunk_bytes Text) cs) (0xff ∷ []));
+  },
+)
+chunks-open d _ fs p first o s e = absurd s
+
+abbrev Keeps : ℕ → List Frame → List ℕ → ℕ → Opening → Type 0
+Keeps d fs p c opens = StandsNext d (begin d fs c opens) (p ++ c ∷ [])
+
+open-kept : (d : ℕ) (fs : List Frame) (p : List ℕ) (m : Major) → Opened d fs p → Keeps d fs p (32 * major_number m + 31) (indefinite_length m)
+open-kept d fs p Bytes o = chunks-open d Bytes fs p 0x5f o tt refl
+open-kept d fs p Text o = chunks-open d Text fs p 0x7f o tt refl
+open-kept d fs p Array o = guarded d (p ++ 0x9f ∷ []) (nat_lt (length fs) d) _ _ (λ e. array-opens d fs p o (room-true (length fs) d e))
+open-kept d fs p Map o = guarded d (p ++ 0xbf ∷ []) (nat_lt (length fs) d) _ _ (λ e. map-opens d fs p o (room-true (length fs) d e))
+open-kept d fs p _ o = tt
+
+numbered-kept : (d : ℕ) (fs : List Frame) (p : List ℕ) (m : Major) (k : ℕ) → IsNumbered m → Opened d fs p → Keeps d fs p (32 * major_number m + (24 + k)) (numbered_tail m k)
+numbered-kept d fs p m zero i o = guarded d _ (has_room d fs m) _ _ (λ e. long-begins d false m One 0 fs p _ (o, i, e) (λ n. refl) (λ n h. h))
+numbered-kept d fs p m (suc zero) i o = guarded d _ (has_room d fs m) _ _ (λ e. long-begins d false m Two 1 fs p _ (o, i, e) (λ n. refl) (λ n h. h))
+numbered-kept d fs p m (suc (suc zero)) i o = guarded d _ (has_room d fs m) _ _ (λ e. long-begins d false m Four 3 fs p _ (o, i, e) (λ n. refl) (λ n h. h))
+numbered-kept d fs p m (suc (suc (suc zero))) i o = guarded d _ (has_room d fs m) _ _ (λ e. long-begins d false m Eight 7 fs p _ (o, i, e) (λ n. refl) (λ n h. h))
+numbered-kept d fs p m (suc (suc (suc (suc (suc (suc (suc zero))))))) i o = open-kept d fs p m o
+numbered-kept d fs p m _ i o = tt
+
+break-kept : (d : ℕ) (fs : List Frame) (p : List ℕ) → Opened d fs p → StandsNext d (break_at fs 0xff) (p ++ 0xff ∷ [])
+break-kept d [] p o = tt
+break-kept d (counted n ∷ fs) p o = tt
+break-kept d (indefinite_map true ∷ fs) p o = tt
+break-kept d (indefinite_array ∷ fs) p o =
+    let room : length fs < d = o.2 in
+    let whole = o.3 no_spellings tt tt (omega arith) in
+    along d (close fs) _ _ (whole.bytes_are ∙ ap (λ xs. xs ++ 0xff ∷ []) (append-nil p)) (item-closes d fs o.0 whole.item o.1 whole.spelled whole.fits)
+break-kept d (indefinite_map false ∷ fs) p o =
+    let room : length fs < d = o.2 in
+    let whole = o.3 no_spellings refl tt (omega arith) in
+    along d (close fs) _ _ (whole.bytes_are ∙ ap (λ xs. xs ++ 0xff ∷ []) (append-nil p)) (item-closes d fs o.0 whole.item o.1 whole.spelled whole.fits)
+
+simple-kept : (d : ℕ) (fs : List Frame) (p : List ℕ) (k : ℕ) → Opened d fs p → Keeps d fs p (32 * 7 + (24 + k)) (simple_tail k)
+simple-kept d fs p zero o = (p, o, refl)
+simple-kept d fs p (suc (suc (suc (suc (suc (suc (suc zero))))))) o = break-kept d fs p o
+simple-kept d fs p _ o = tt
+
+tail-kept : (d : ℕ) (fs : List Frame) (p : List ℕ) (m : Major) (k : ℕ) → Opened d fs p → Keeps d fs p (32 * major_number m + (24 + k)) (tail m k)
+tail-kept d fs p Simple k o = simple-kept d fs p k o
+tail-kept d fs p Unsigned k o = numbered-kept d fs p Unsigned k tt o
+tail-kept d fs p Negative k o = numbered-kept d fs p Negative k tt o
+tail-kept d fs p Bytes k o = numbered-kept d fs p Bytes k tt o
+tail-kept d fs p Text k o = numbered-kept d fs p Text k tt o
+tail-kept d fs p Array k o = numbered-kept d fs p Array k tt o
+tail-kept d fs p Map k o = numbered-kept d fs p Map k tt o
+tail-kept d fs p Tag k o = numbered-kept d fs p Tag k tt o
+
+numbered-direct : (d : ℕ) (fs : List Frame) (p : List ℕ) (m : Major) (n : ℕ) → IsNumbered m → n < 24 → Opened d fs p → Keeps d fs p (32 * major_number m + n) (direct m n)
+numbered-direct d fs p m n i h o = guarded d _ (has_room d fs m) _ _ (λ e. head-done d false m Direct n fs p (o, i, e) h)
+
+direct-kept : (d : ℕ) (fs : List Frame) (p : List ℕ) (m : Major) (n : ℕ) → n < 24 → Opened d fs p → Keeps d fs p (32 * major_number m + n) (direct m n)
+direct-kept d fs p Simple n h o =
+    let e : shortest n ≡ Direct = rw (lt-ltb n 24 h) in
+    along d (close fs) _ _ (ap (λ w. p ++ head Simple w n) e) (item-closes d fs p (simple n) o (omega arith, λ l. absurd (omega arith)) (room-of d fs p o))
+direct-kept d fs p Unsigned n h o = numbered-direct d fs p Unsigned n tt h o
+direct-kept d fs p Negative n h o = numbered-direct d fs p Negative n tt h o
+direct-kept d fs p Bytes n h o = numbered-direct d fs p Bytes n tt h o
+direct-kept d fs p Text n h o = numbered-direct d fs p Text n tt h o
+direct-kept d fs p Array n h o = numbered-direct d fs p Array n tt h o
+direct-kept d fs p Map n h o = numbered-direct d fs p Map n tt h o
+direct-kept d fs p Tag n h o = numbered-direct d fs p Tag n tt h o
+
+first-kept : (d : ℕ) (fs : List Frame) (p : List ℕ) (m : Major) (low : ℕ) → Opened d fs p → Keeps d fs p (32 * major_number m + low) (opening_of m low)
+first-kept d fs p m low o = elim (cases_lt low 24) [
+  | inl h ↦ rw (lt-ltb low 24 h) (direct-kept d fs p m low h o)
+  | inr h ↦
+      let above : low ≡ 24 + (low - 24) = omega arith in
+      rw (le-ltb low 24 h) (subst (λ (x : ℕ). Keeps d fs p (32 * major_number m + x) (tail m (low - 24))) (sym above) (tail-kept d fs p m (low - 24) o))
+]
+
+item-kept : (d : ℕ) (fs : List Frame) (p : List ℕ) (c : ℕ) → Opened d fs p → c < 256 → Keeps d fs p c (opening c)
+item-kept d fs p c o h =
+    let s = split c h in
+    rw s.opens (subst (λ (x : ℕ). Keeps d fs p x (opening_of s.major s.low)) (sym s.made) (first-kept d fs p s.major s.low o))
+
+pub is_major-same : (m n : Major) → is_major m n ≡ true → m ≡ n
+is_major-same Bytes Bytes e = refl
+is_major-same Text Text e = refl
+is_major-same _ _ e = absurd (true≢false (sym e))
+
+abbrev KeepsChunk : ℕ → Major → List Frame → List ℕ → ℕ → Opening → Type 0
+KeepsChunk d m fs p c opens = StandsNext d (in_string m fs opens) (p ++ c ∷ [])
+
+long-chunk : (d : ℕ) (m n : Major) (w : Width) (k : ℕ) (fs : List Frame) (p : List ℕ) (more : ℕ) → Chunked d m fs p
+    → ((x : ℕ) → head n w x ≡ (32 * major_number n + more) ∷ bytes_high_first (suc k) x) → ((x : ℕ) → x < 256 ^ suc k → Holds w x) → more_bytes w - 1 ≡ k
+    → KeepsChunk d m fs p (32 * major_number n + more) (long n w)
+long-chunk d m n w k fs p more b made holds is =
+    rw is (guarded d _ (is_major m n) _ _ (λ e.
+    let same = is_major-same m n e in
+    long-begins d true m w k fs p (32 * major_number n + more) b (λ x. ap (λ j. head j w x) same ∙ made x) holds))
+
+chunk-tail-kept : (d : ℕ) (m n : Major) (fs : List Frame) (p : List ℕ) (k : ℕ) → Chunked d m fs p → KeepsChunk d m fs p (32 * major_number n + (24 + k)) (numbered_tail n k)
+chunk-tail-kept d m n fs p zero b = long-chunk d m n One 0 fs p 24 b (λ x. refl) (λ x h. h) refl
+chunk-tail-kept d m n fs p (suc zero) b = long-chunk d m n Two 1 fs p 25 b (λ x. refl) (λ x h. h) refl
+chunk-tail-kept d m n fs p (suc (suc zero)) b = long-chunk d m n Four 3 fs p 26 b (λ x. refl) (λ x h. h) refl
+chunk-tail-kept d m n fs p (suc (suc (suc zero))) b = long-chunk d m n Eight 7 fs p 27 b (λ x. refl) (λ x h. h) refl
+chunk-tail-kept d m n fs p (suc (suc (suc (suc (suc (suc (suc zero))))))) b = without n
+  where
+    without : (n : Major) → KeepsChunk d m fs p (32 * major_number n + 31) (indefinite_length n)
+    without Bytes = tt
+    without Text = tt
+    without Array = tt
+    without Map = tt
+    without _ = tt
+chunk-tail-kept d m n fs p _ b = tt
+
+chunk-simple-kept : (d : ℕ) (m : Major) (fs : List Frame) (p : List ℕ) (k : ℕ) → Chunked d m fs p → KeepsChunk d m fs p (32 * 7 + (24 + k)) (simple_tail k)
+chunk-simple-kept d m fs p (suc (suc (suc (suc (suc (suc (suc zero))))))) b =
+    let whole = b.3 [] tt in
+    along d (close fs) _ _ (whole.bytes_are ∙ ap (λ xs. xs ++ 0xff ∷ []) (append-nil p)) (item-closes d fs b.0 whole.item b.1 whole.spelled whole.fits)
+chunk-simple-kept d m fs p _ b = tt
+
+chunk-any-tail : (d : ℕ) (m n : Major) (fs : List Frame) (p : List ℕ) (k : ℕ) → Chunked d m fs p → KeepsChunk d m fs p (32 * major_number n + (24 + k)) (tail n k)
+chunk-any-tail d m Simple fs p k b = chunk-simple-kept d m fs p k b
+chunk-any-tail d m Unsigned fs p k b = chunk-tail-kept d m Unsigned fs p k b
+chunk-any-tail d m Negative fs p k b = chunk-tail-kept d m Negative fs p k b
+chunk-any-tail d m Bytes fs p k b = chunk-tail-kept d m Bytes fs p k b
+chunk-any-tail d m Text fs p k b = chunk-tail-kept d m Text fs p k b
+chunk-any-tail d m Array fs p k b = chunk-tail-kept d m Array fs p k b
+chunk-any-tail d m Map fs p k b = chunk-tail-kept d m Map fs p k b
+chunk-any-tail d m Tag fs p k b = chunk-tail-kept d m Tag fs p k b
+
+chunk-direct : (d : ℕ) (m n : Major) (fs : List Frame) (p : List ℕ) (x : ℕ) → x < 24 → Chunked d m fs p → KeepsChunk d m fs p (32 * major_number n + x) (direct n x)
+chunk-direct d m n fs p x h b =
+    guarded d _ (is_major m n) _ _ (λ e.
+    let same = is_major-same m n e in
+    subst (λ (j : Major). Stands d (payload true m x fs) (p ++ (32 * major_number j + x) ∷ [])) same (head-done d true m Direct x fs p b h))
+
+chunk-kept : (d : ℕ) (m n : Major) (fs : List Frame) (p : List ℕ) (low : ℕ) → Chunked d m fs p → KeepsChunk d m fs p (32 * major_number n + low) (opening_of n low)
+chunk-kept d m n fs p low b = elim (cases_lt low 24) [
+  | inl h ↦ rw (lt-ltb low 24 h) (chunk-direct d m n fs p low h b)
+  | inr h ↦
+      let above : low ≡ 24 + (low - 24) = omega arith in
+      rw (le-ltb low 24 h) (subst (λ (x : ℕ). KeepsChunk d m fs p (32 * major_number n + x) (tail n (low - 24))) (sym above) (chunk-any-tail d m n fs p (low - 24) b))
+]
+
+string-kept : (d : ℕ) (m : Major) (fs : List Frame) (p : List ℕ) (c : ℕ) → Chunked d m fs p → c < 256 → KeepsChunk d m fs p c (opening c)
+string-kept d m fs p c b h =
+    let s = split c h in
+    rw s.opens (subst (λ (x : ℕ). KeepsChunk d m fs p x (opening_of s.major s.low)) (sym s.made) (chunk-kept d m s.major fs p s.low b))
+
+simple-number-kept : (d : ℕ) (fs : List Frame) (p : List ℕ) (c : ℕ) → Stands d (in_simple fs) p → c < 256 → StandsNext d (take_byte d (in_simple fs) c) (p ++ c ∷ [])
+simple-number-kept d fs p c o h = elim (cases_lt c 32) [
+  | inl l ↦ rw (lt-ltb c 32 l) tt
+  | inr l ↦
+      let e : shortest c ≡ One = rw (le-ltb c 24 (omega arith), lt-ltb c (2 ^ 8) h) in
+      rw (le-ltb c 32 l)
+      (along d (close fs) _ _
+      (ap (λ w. o.0 ++ head Simple w c) e ∙ ap (λ x. o.0 ++ 0xf8 ∷ x ∷ []) (mod-eq_of_lt h) ∙ sym (append_assoc o.0 (0xf8 ∷ []) (c ∷ [])) ∙ ap (λ xs. xs ++ c ∷ []) (sym o.2))
+      (item-closes d fs o.0 (simple c) o.1 (h, λ _. l) (room-of d fs o.0 o.1)))
+]
+
+-- the machine's byte
+pub byte-kept : (d : ℕ) (q : State) (p : List ℕ) (c : ℕ) → Stands d q p → c < 256 → StandsNext d (take_byte d q c) (p ++ c ∷ [])
+byte-kept d (at_item fs) p c o h = item-kept d fs p c o h
+byte-kept d (in_head chunk m w zero acc fs) p c o h =
+    let whole = o.2 (c ∷ []) refl (h, tt) in
+    along d (after chunk m (acc * 256 + c) fs) _ _ (sym whole.0) (head-done d chunk m w (acc * 256 + c) fs o.0 o.1 whole.1)
+byte-kept d (in_head chunk m w (suc k) acc fs) p c o h = (
+  o.0,
+  o.1,
+  λ more e hm.
+      let whole = o.2 (c ∷ more) (ap suc e) (h, hm) in
+      (append_assoc p (c ∷ []) more ∙ whole.0, whole.1),
+)
+byte-kept d (in_simple fs) p c o h = simple-number-kept d fs p c o h
+byte-kept d (in_payload chunk m zero fs) p c o h =
+    let whole = o.3 (c ∷ []) refl (h, tt) in
+    along d (close_string chunk m fs) _ _ whole.bytes_are (chunk-closes d chunk m fs o.0 whole.chunk o.1 o.2 whole.is)
+byte-kept d (in_payload chunk m (suc n) fs) p c o h = (
+  o.0,
+  o.1,
+  o.2,
+  λ more e hm.
+      let whole = o.3 (c ∷ more) (ap suc e) (h, hm) in
+      record { chunk = whole.chunk; is = whole.is; bytes_are = whole.bytes_are ∙ sym (append_assoc p (c ∷ []) more) },
+)
+byte-kept d (in_chunks m fs) p c o h = string-kept d m fs p c o h
+byte-kept d done p c o h = tt
+
+abbrev pub StandsOutcome : ℕ → Outcome → List ℕ → Type 0
+StandsOutcome d (refused r) p = Unit {0}
+StandsOutcome d (reached q ms) p = Stands d q p
+
+telling-kept : (d : ℕ) (m : Mark) (o : Outcome) (p : List ℕ) → StandsOutcome d o p → StandsOutcome d (telling m o) p
+telling-kept d m (refused r) p h = tt
+telling-kept d m (reached q ms) p h = h
+
+then-kept : (d : ℕ) (next : Next) (bs p : List ℕ) → ((q : State) → Stands d q p → StandsOutcome d (run d q bs) (p ++ bs)) → StandsNext d next p
+    → StandsOutcome d (and_then next (λ t. run d t bs)) (p ++ bs)
+then-kept d (refuses r) bs p go h = tt
+then-kept d (goes q) bs p go h = go q h
+then-kept d (tells m q) bs p go h = telling-kept d m (run d q bs) (p ++ bs) (go q h)
+
+-- what the machine reaches stands for the bytes so far
+pub run-kept : (d : ℕ) (bs : List ℕ) (q : State) (p : List ℕ) → Stands d q p → AreBytes bs → StandsOutcome d (run d q bs) (p ++ bs)
+run-kept d [] q p o h = along d q _ _ (sym (append-nil p)) o
+run-kept d (c ∷ cs) q p o h =
+    subst (λ (xs : List ℕ). StandsOutcome d (run d q (c ∷ cs)) xs) (append_assoc p (c ∷ []) cs)
+    (then-kept d (take_byte d q c) cs (p ++ c ∷ []) (λ t s. run-kept d cs t (p ++ c ∷ []) s h.1) (byte-kept d q p c o h.0))

@@ -1,0 +1,308 @@
+-- One mark from where the machine stands: which it can be, its bytes, and where it leaves the machine.
+use Rattle.std.proofs.Common.{◌≡◌, ℕ, zero, suc, ◌+◌, ◌-◌, ◌*◌, ◌^◌, ◌<◌, ◌≤◌, Bool, true, false, nat_lt, cond, List, [], ◌∷◌, ◌++◌, length, refl, sym, ap, ◌∙◌, subst, inl, inr, arith, append_assoc, append-nil, mod-eq_of_lt}
+use Rattle.std.proofs.lemmas.Bool.{lt-ltb, le-ltb, ltb-true, cases_lt}
+use Rattle.std.specs.Int.{bytes_high_first}
+use Rattle.cbor_head.specs.Head.{Holds, IsSimple, head, major_number, shortest}
+use Rattle.cbor_head.specs.Value.{AreBytes}
+use Rattle.cbor_automaton.specs.Trace.{Mark, a_head, a_byte, more_bytes, payload_marks}
+use Rattle.cbor_automaton.specs.inner.Automaton.{Frame, counted, indefinite_array, indefinite_map, State, at_item, in_head, in_simple, in_payload, in_chunks, done, Opening, long, Next, refuses, goes, tells, numbered_tail, simple_tail, tail, indefinite_length, opening_of, opening, payload, after, has_room, break_at, begin, is_major, in_string, take_byte, Outcome, refused, reached, telling, and_then, run}
+use Rattle.cbor_automaton.specs.inner.Taking.{Follows, IsTaking}
+use Rattle.cbor_head.specs.declared.major.Major.{Major}
+use Rattle.cbor_head.specs.declared.major.Major.TheVariants.{Unsigned, Negative, Bytes, Text, Array, Map, Tag, Simple}
+use Rattle.cbor_head.specs.declared.width.Width.{Width}
+use Rattle.cbor_head.specs.declared.width.Width.TheVariants.{Direct, One, Two, Four, Eight, Indefinite}
+use Rattle.cbor_head.specs.declared.reason.Reason.{Reason}
+use Rattle.cbor_automaton.proofs.FirstByte.{split}
+use Rattle.cbor_automaton.proofs.Forward.{payload-byte}
+use Rattle.cbor_automaton.proofs.Arguments.{number, number-between, bytes-number}
+pub use Rattle.cbor_automaton.proofs.Events.{IsClear}
+pub use Rattle.cbor_automaton.proofs.Stands.{IsNumbered}
+use Rattle.cbor_automaton.proofs.Events.{close-clear, close_string-clear, payload-clear, after-clear}
+use Rattle.cbor_automaton.proofs.Kept.{is_major-same}
+
+-- the head so far, and the state that it was begun in
+abbrev pub IsWithin : ℕ → State → State → List ℕ → Type 0
+IsWithin d from (in_head false m w k acc fs) bs =
+    (from ≡ at_item fs) × IsNumbered m × (has_room d fs m ≡ true)
+    × ((more : List ℕ) → length more ≡ suc k → AreBytes more → (bs ++ more ≡ head m w (number acc more)) × Holds w (number acc more))
+IsWithin d from (in_head true m w k acc fs) bs =
+    (from ≡ in_chunks m fs)
+    × ((more : List ℕ) → length more ≡ suc k → AreBytes more → (bs ++ more ≡ head m w (number acc more)) × Holds w (number acc more))
+IsWithin d from (in_simple fs) bs = (from ≡ at_item fs) × (bs ≡ 0xf8 ∷ [])
+IsWithin d from q bs = (from ≡ q) × (bs ≡ [])
+
+abbrev pub IsTakingNext : ℕ → State → Next → List ℕ → Type 0
+IsTakingNext d from (refuses r) bs = Unit {0}
+IsTakingNext d from (goes q) bs = IsWithin d from q bs
+IsTakingNext d from (tells m q) bs = IsTaking d from m bs q × IsClear q
+
+-- ---- behind a head
+
+room : (d : ℕ) (fs : List Frame) → nat_lt (length fs) d ≡ true → length fs < d
+room d fs e = ltb-true (length fs) d e
+
+follows : (d : ℕ) (fs : List Frame) (m : Major) (w : Width) (n : ℕ) → IsNumbered m → has_room d fs m ≡ true → Follows d fs m w n (after false m n fs)
+follows d fs Unsigned w n k e = refl
+follows d fs Negative w n k e = refl
+follows d fs Bytes w n k e = refl
+follows d fs Text w n k e = refl
+follows d fs Array w n k e = (room d fs e, refl)
+follows d fs Map w n k e = (room d fs e, refl)
+follows d fs Tag w n k e = (room d fs e, refl)
+follows d fs Simple w n k e = absurd k
+
+follows-direct : (d : ℕ) (fs : List Frame) (m : Major) (n : ℕ) → n < 24 → has_room d fs m ≡ true → Follows d fs m Direct n (after false m n fs)
+follows-direct d fs Simple n h e = ((omega arith, λ l. absurd (omega arith)), rw (lt-ltb n 24 h) refl, refl)
+follows-direct d fs Unsigned n h e = refl
+follows-direct d fs Negative n h e = refl
+follows-direct d fs Bytes n h e = refl
+follows-direct d fs Text n h e = refl
+follows-direct d fs Array n h e = (room d fs e, refl)
+follows-direct d fs Map n h e = (room d fs e, refl)
+follows-direct d fs Tag n h e = (room d fs e, refl)
+
+definite : (d : ℕ) (fs : List Frame) (m : Major) (w : Width) (n : ℕ) (bs : List ℕ) (to : State) → bs ≡ head m w n → Holds w n → Follows d fs m w n to → IsTaking d (at_item fs) (a_head m w n) bs to
+definite d fs m Indefinite n bs to e h f = absurd h
+definite d fs m Direct n bs to e h f = (e, h, f)
+definite d fs m One n bs to e h f = (e, h, f)
+definite d fs m Two n bs to e h f = (e, h, f)
+definite d fs m Four n bs to e h f = (e, h, f)
+definite d fs m Eight n bs to e h f = (e, h, f)
+
+argument-made : (k : ℕ) (more : List ℕ) → length more ≡ k → AreBytes more → bytes_high_first k (number 0 more) ≡ more
+argument-made k more e h = ap (λ j. bytes_high_first j (number 0 more)) (sym e) ∙ bytes-number 0 more h
+
+-- ---- the first byte of an item
+
+guarded : (d : ℕ) (from : State) (bs : List ℕ) (b : Bool) (next : Next) (r : Reason) → (b ≡ true → IsTakingNext d from next bs) → IsTakingNext d from (cond b next (refuses r)) bs
+guarded d from bs true next r h = h refl
+guarded d from bs false next r h = tt
+
+long-head : (m : Major) (w : Width) (k c : ℕ) → ((n : ℕ) → head m w n ≡ c ∷ bytes_high_first (suc k) n) → ((n : ℕ) → n < 256 ^ suc k → Holds w n)
+    → (more : List ℕ) → length more ≡ suc k → AreBytes more → (c ∷ more ≡ head m w (number 0 more)) × Holds w (number 0 more)
+long-head m w k c made holds more e b =
+    let range = number-between 0 more b in
+    let fits : number 0 more < 256 ^ suc k = subst (λ j. number 0 more < 256 ^ j) e (omega (arith, range.1)) in
+    (ap (λ xs. c ∷ xs) (sym (argument-made (suc k) more e b)) ∙ sym (made (number 0 more)), holds (number 0 more) fits)
+
+item-long : (d : ℕ) (fs : List Frame) (m : Major) (w : Width) (k c : ℕ) → IsNumbered m → ((n : ℕ) → head m w n ≡ c ∷ bytes_high_first (suc k) n) → ((n : ℕ) → n < 256 ^ suc k → Holds w n)
+    → has_room d fs m ≡ true → IsWithin d (at_item fs) (in_head false m w k 0 fs) (c ∷ [])
+item-long d fs m w k c i made holds e = (refl, i, e, long-head m w k c made holds)
+
+abbrev IsTakingFirst : ℕ → List Frame → ℕ → Opening → Type 0
+IsTakingFirst d fs c o = IsTakingNext d (at_item fs) (begin d fs c o) (c ∷ [])
+
+open-taken : (d : ℕ) (fs : List Frame) (m : Major) → IsTakingFirst d fs (32 * major_number m + 31) (indefinite_length m)
+open-taken d fs Bytes = ((refl, refl, refl), tt)
+open-taken d fs Text = ((refl, refl, refl), tt)
+open-taken d fs Array = guarded d _ _ (nat_lt (length fs) d) _ _ (λ e. ((refl, refl, (room d fs e, refl)), tt))
+open-taken d fs Map = guarded d _ _ (nat_lt (length fs) d) _ _ (λ e. ((refl, refl, (room d fs e, refl)), tt))
+open-taken d fs _ = tt
+
+numbered-taken : (d : ℕ) (fs : List Frame) (m : Major) (k : ℕ) → IsNumbered m → IsTakingFirst d fs (32 * major_number m + (24 + k)) (numbered_tail m k)
+numbered-taken d fs m zero i = guarded d _ _ (has_room d fs m) _ _ (item-long d fs m One 0 _ i (λ n. refl) (λ n h. h))
+numbered-taken d fs m (suc zero) i = guarded d _ _ (has_room d fs m) _ _ (item-long d fs m Two 1 _ i (λ n. refl) (λ n h. h))
+numbered-taken d fs m (suc (suc zero)) i = guarded d _ _ (has_room d fs m) _ _ (item-long d fs m Four 3 _ i (λ n. refl) (λ n h. h))
+numbered-taken d fs m (suc (suc (suc zero))) i = guarded d _ _ (has_room d fs m) _ _ (item-long d fs m Eight 7 _ i (λ n. refl) (λ n h. h))
+numbered-taken d fs m (suc (suc (suc (suc (suc (suc (suc zero))))))) i = open-taken d fs m
+numbered-taken d fs m _ i = tt
+
+break-taken : (d : ℕ) (fs : List Frame) → IsTakingNext d (at_item fs) (break_at fs 0xff) (0xff ∷ [])
+break-taken d [] = tt
+break-taken d (counted n ∷ fs) = tt
+break-taken d (indefinite_map true ∷ fs) = tt
+break-taken d (indefinite_array ∷ fs) = ((refl, refl), close-clear fs)
+break-taken d (indefinite_map false ∷ fs) = ((refl, refl), close-clear fs)
+
+simple-taken : (d : ℕ) (fs : List Frame) (k : ℕ) → IsTakingFirst d fs (32 * 7 + (24 + k)) (simple_tail k)
+simple-taken d fs zero = (refl, refl)
+simple-taken d fs (suc (suc (suc (suc (suc (suc (suc zero))))))) = break-taken d fs
+simple-taken d fs _ = tt
+
+tail-taken : (d : ℕ) (fs : List Frame) (m : Major) (k : ℕ) → IsTakingFirst d fs (32 * major_number m + (24 + k)) (tail m k)
+tail-taken d fs Simple k = simple-taken d fs k
+tail-taken d fs Unsigned k = numbered-taken d fs Unsigned k tt
+tail-taken d fs Negative k = numbered-taken d fs Negative k tt
+tail-taken d fs Bytes k = numbered-taken d fs Bytes k tt
+tail-taken d fs Text k = numbered-taken d fs Text k tt
+tail-taken d fs Array k = numbered-taken d fs Array k tt
+tail-taken d fs Map k = numbered-taken d fs Map k tt
+tail-taken d fs Tag k = numbered-taken d fs Tag k tt
+
+first-taken : (d : ℕ) (fs : List Frame) (m : Major) (low : ℕ) → IsTakingFirst d fs (32 * major_number m + low) (opening_of m low)
+first-taken d fs m low = elim (cases_lt low 24) [
+  | inl h ↦ rw (lt-ltb low 24 h) (guarded d _ _ (has_room d fs m) _ _ (λ e. ((refl, h, follows-direct d fs m low h e), after-clear false m low fs)))
+  | inr h ↦
+      let above : 24 + (low - 24) ≡ low = omega arith in
+      rw (le-ltb low 24 h) (subst (λ (x : ℕ). IsTakingFirst d fs (32 * major_number m + x) (tail m (low - 24))) above (tail-taken d fs m (low - 24)))
+]
+
+item-taken : (d : ℕ) (fs : List Frame) (c : ℕ) → c < 256 → IsTakingFirst d fs c (opening c)
+item-taken d fs c h =
+    let s = split c h in
+    rw s.opens (subst (λ (x : ℕ). IsTakingFirst d fs x (opening_of s.major s.low)) (sym s.made) (first-taken d fs s.major s.low))
+
+-- ---- the first byte of a chunk
+
+abbrev IsTakingChunk : ℕ → Major → List Frame → ℕ → Opening → Type 0
+IsTakingChunk d m fs c o = IsTakingNext d (in_chunks m fs) (in_string m fs o) (c ∷ [])
+
+chunk-long : (d : ℕ) (m n : Major) (w : Width) (k : ℕ) (fs : List Frame) (more : ℕ) → ((x : ℕ) → head n w x ≡ (32 * major_number n + more) ∷ bytes_high_first (suc k) x) → ((x : ℕ) → x < 256 ^ suc k → Holds w x)
+    → more_bytes w - 1 ≡ k → IsTakingChunk d m fs (32 * major_number n + more) (long n w)
+chunk-long d m n w k fs more made holds is =
+    rw is (guarded d _ _ (is_major m n) _ _ (λ e. (refl, long-head m w k _ (λ x. ap (λ j. head j w x) (is_major-same m n e) ∙ made x) holds)))
+
+without-taken : (d : ℕ) (m n : Major) (fs : List Frame) → IsTakingChunk d m fs (32 * major_number n + 31) (indefinite_length n)
+without-taken d m Bytes fs = tt
+without-taken d m Text fs = tt
+without-taken d m Array fs = tt
+without-taken d m Map fs = tt
+without-taken d m _ fs = tt
+
+chunk-numbered : (d : ℕ) (m n : Major) (fs : List Frame) (k : ℕ) → IsTakingChunk d m fs (32 * major_number n + (24 + k)) (numbered_tail n k)
+chunk-numbered d m n fs zero = chunk-long d m n One 0 fs 24 (λ x. refl) (λ x h. h) refl
+chunk-numbered d m n fs (suc zero) = chunk-long d m n Two 1 fs 25 (λ x. refl) (λ x h. h) refl
+chunk-numbered d m n fs (suc (suc zero)) = chunk-long d m n Four 3 fs 26 (λ x. refl) (λ x h. h) refl
+chunk-numbered d m n fs (suc (suc (suc zero))) = chunk-long d m n Eight 7 fs 27 (λ x. refl) (λ x h. h) refl
+chunk-numbered d m n fs (suc (suc (suc (suc (suc (suc (suc zero))))))) = without-taken d m n fs
+chunk-numbered d m n fs _ = tt
+
+chunk-simple : (d : ℕ) (m : Major) (fs : List Frame) (k : ℕ) → IsTakingChunk d m fs (32 * 7 + (24 + k)) (simple_tail k)
+chunk-simple d m fs (suc (suc (suc (suc (suc (suc (suc zero))))))) = ((refl, refl), close-clear fs)
+chunk-simple d m fs _ = tt
+
+chunk-tail : (d : ℕ) (m n : Major) (fs : List Frame) (k : ℕ) → IsTakingChunk d m fs (32 * major_number n + (24 + k)) (tail n k)
+chunk-tail d m Simple fs k = chunk-simple d m fs k
+chunk-tail d m Unsigned fs k = chunk-numbered d m Unsigned fs k
+chunk-tail d m Negative fs k = chunk-numbered d m Negative fs k
+chunk-tail d m Bytes fs k = chunk-numbered d m Bytes fs k
+chunk-tail d m Text fs k = chunk-numbered d m Text fs k
+chunk-tail d m Array fs k = chunk-numbered d m Array fs k
+chunk-tail d m Map fs k = chunk-numbered d m Map fs k
+chunk-tail d m Tag fs k = chunk-numbered d m Tag fs k
+
+chunk-first : (d : ℕ) (m n : Major) (fs : List Frame) (low : ℕ) → IsTakingChunk d m fs (32 * major_number n + low) (opening_of n low)
+chunk-first d m n fs low = elim (cases_lt low 24) [
+  | inl h ↦ rw (lt-ltb low 24 h) (guarded d _ _ (is_major m n) _ _ (λ e. ((ap (λ j. (32 * major_number j + low) ∷ []) (sym (is_major-same m n e)), h, refl), payload-clear true m low fs)))
+  | inr h ↦
+      let above : 24 + (low - 24) ≡ low = omega arith in
+      rw (le-ltb low 24 h) (subst (λ (x : ℕ). IsTakingChunk d m fs (32 * major_number n + x) (tail n (low - 24))) above (chunk-tail d m n fs (low - 24)))
+]
+
+chunk-taken : (d : ℕ) (m : Major) (fs : List Frame) (c : ℕ) → c < 256 → IsTakingChunk d m fs c (opening c)
+chunk-taken d m fs c h =
+    let s = split c h in
+    rw s.opens (subst (λ (x : ℕ). IsTakingChunk d m fs x (opening_of s.major s.low)) (sym s.made) (chunk-first d m s.major fs s.low))
+
+-- ---- any byte
+
+-- the number of a simple value in a second byte
+long-simple : (c : ℕ) → 32 ≤ c → c < 256 → IsSimple c × (One ≡ shortest c)
+long-simple c l h = ((h, λ m. l), rw (le-ltb c 24 (omega arith), lt-ltb c 256 h) refl)
+
+pub byte-taken : (d : ℕ) (from q : State) (bs : List ℕ) (c : ℕ) → IsWithin d from q bs → c < 256 → IsTakingNext d from (take_byte d q c) (bs ++ c ∷ [])
+byte-taken d from (at_item fs) bs c e h = rw (e.0, e.1) (item-taken d fs c h)
+byte-taken d from (in_head false m w zero acc fs) bs c e h =
+    let whole = e.3 (c ∷ []) refl (h, tt) in
+    (rw e.0 (definite d fs m w (acc * 256 + c) _ _ whole.0 whole.1 (follows d fs m w (acc * 256 + c) e.1 e.2)), after-clear false m (acc * 256 + c) fs)
+byte-taken d from (in_head true m w zero acc fs) bs c e h =
+    let whole = e.1 (c ∷ []) refl (h, tt) in
+    (rw e.0 (whole.0, whole.1, refl), after-clear true m (acc * 256 + c) fs)
+byte-taken d from (in_head false m w (suc k) acc fs) bs c e h =
+    (e.0, e.1, e.2, λ more l hm. let whole = e.3 (c ∷ more) (ap suc l) (h, hm) in (append_assoc bs (c ∷ []) more ∙ whole.0, whole.1))
+byte-taken d from (in_head true m w (suc k) acc fs) bs c e h =
+    (e.0, λ more l hm. let whole = e.1 (c ∷ more) (ap suc l) (h, hm) in (append_assoc bs (c ∷ []) more ∙ whole.0, whole.1))
+byte-taken d from (in_simple fs) bs c e h = elim (cases_lt c 32) [
+  | inl l ↦ rw (lt-ltb c 32 l) tt
+  | inr l ↦
+      let s = long-simple c l h in
+      rw (le-ltb c 32 l, e.0) ((ap (λ xs. xs ++ c ∷ []) e.1 ∙ ap (λ x. 0xf8 ∷ x ∷ []) (sym (mod-eq_of_lt h)), h, (s.0, s.1, refl)), close-clear fs)
+]
+byte-taken d from (in_payload chunk m zero fs) bs c e h = rw (e.0, e.1) ((refl, refl), close_string-clear chunk m fs)
+byte-taken d from (in_payload chunk m (suc n) fs) bs c e h = rw (e.0, e.1) ((refl, refl), tt)
+byte-taken d from (in_chunks m fs) bs c e h = rw (e.0, e.1) (chunk-taken d m fs c h)
+byte-taken d from done bs c e h = tt
+
+pub within-start : (d : ℕ) (q : State) → IsClear q → IsWithin d q q []
+within-start d (at_item fs) h = (refl, refl)
+within-start d (in_head chunk m w k acc fs) h = absurd h
+within-start d (in_simple fs) h = absurd h
+within-start d (in_payload chunk m n fs) h = (refl, refl)
+within-start d (in_chunks m fs) h = (refl, refl)
+within-start d done h = (refl, refl)
+
+-- ---- runs
+
+-- bytes that told nothing are those of the head that is open; bytes whose one mark left a clear state are the mark's
+abbrev pub IsTakingRun : ℕ → State → Outcome → List ℕ → Type 0
+IsTakingRun d from (refused r) bs = Unit {0}
+IsTakingRun d from (reached q []) bs = IsWithin d from q bs
+IsTakingRun d from (reached q (m ∷ [])) bs = IsClear q → IsTaking d from m bs q
+IsTakingRun d from (reached q (m ∷ n ∷ ms)) bs = Unit {0}
+
+pub clear-nothing : (d : ℕ) (from q : State) (bs : List ℕ) → IsClear q → IsWithin d from q bs → (from ≡ q) × (bs ≡ [])
+clear-nothing d from (at_item fs) bs h p = p
+clear-nothing d from (in_head chunk m w k acc fs) bs h p = absurd h
+clear-nothing d from (in_simple fs) bs h p = absurd h
+clear-nothing d from (in_payload chunk m n fs) bs h p = p
+clear-nothing d from (in_chunks m fs) bs h p = p
+clear-nothing d from done bs h p = p
+
+telling-taken : (d : ℕ) (from q : State) (m : Mark) (o : Outcome) (bs cs : List ℕ) → IsTaking d from m bs q → IsTakingRun d q o cs → IsTakingRun d from (telling m o) (bs ++ cs)
+telling-taken d from q m (refused r) bs cs h k = tt
+telling-taken d from q m (reached t []) bs cs h k = λ clear.
+    let same = clear-nothing d q t cs clear k in
+    subst (λ xs. IsTaking d from m xs t) (sym (ap (λ xs. bs ++ xs) same.1 ∙ append-nil bs)) (subst (IsTaking d from m bs) same.0 h)
+telling-taken d from q m (reached t (n ∷ ns)) bs cs h k = tt
+
+then-taken : (d : ℕ) (from : State) (next : Next) (bs cs : List ℕ) → ((begun q : State) (pre : List ℕ) → IsWithin d begun q pre → IsTakingRun d begun (run d q cs) (pre ++ cs)) → IsTakingNext d from next bs
+    → IsTakingRun d from (and_then next (λ t. run d t cs)) (bs ++ cs)
+then-taken d from (refuses r) bs cs go h = tt
+then-taken d from (goes q) bs cs go h = go from q bs h
+then-taken d from (tells m q) bs cs go h = telling-taken d from q m (run d q cs) bs cs h.0 (go q q [] (within-start d q h.1))
+
+pub run-taken : (d : ℕ) (bs : List ℕ) (from q : State) (pre : List ℕ) → IsWithin d from q pre → AreBytes bs → IsTakingRun d from (run d q bs) (pre ++ bs)
+run-taken d [] from q pre h b = subst (IsWithin d from q) (sym (append-nil pre)) h
+run-taken d (c ∷ cs) from q pre h b =
+    subst (IsTakingRun d from (run d q (c ∷ cs))) (append_assoc pre (c ∷ []) cs)
+    (then-taken d from (take_byte d q c) (pre ++ c ∷ []) cs (λ begun t p k. run-taken d cs begun t p k b.1) (byte-taken d from q pre c h b.0))
+
+-- one mark, between states with no head open
+pub mark-taken : (d : ℕ) (q t : State) (bs : List ℕ) (m : Mark) → IsClear q → AreBytes bs → run d q bs ≡ reached t (m ∷ []) → IsClear t → IsTaking d q m bs t
+mark-taken d q t bs m h b e clear = subst (λ o. IsTakingRun d q o bs) e (run-taken d bs q q [] (within-start d q h) b) clear
+
+-- no mark: the head that is open
+pub nothing-taken : (d : ℕ) (q t : State) (bs : List ℕ) → IsClear q → AreBytes bs → run d q bs ≡ reached t [] → IsWithin d q t bs
+nothing-taken d q t bs h b e = subst (λ o. IsTakingRun d q o bs) e (run-taken d bs q q [] (within-start d q h) b)
+
+-- ---- more marks than one
+
+tells-first : (m n : Mark) (o : Outcome) (t : State) (ms : List Mark) → telling n o ≡ reached t (m ∷ ms) → (m ≡ n) × (o ≡ reached t ms)
+tells-first m n (refused r) t ms e = absurd (cc e)
+tells-first m n (reached q ns) t ms e = (cc e, cc e)
+
+then-first : (d : ℕ) (from : State) (next : Next) (bs cs : List ℕ) (t : State) (m : Mark) (ms : List Mark)
+    → ((q : State) (pre : List ℕ) → IsWithin d from q pre → run d q cs ≡ reached t (m ∷ ms) → (ds : List ℕ) × (u : State) × IsTaking d from m ds u)
+    → IsTakingNext d from next bs → and_then next (λ t. run d t cs) ≡ reached t (m ∷ ms) → (ds : List ℕ) × (u : State) × IsTaking d from m ds u
+then-first d from (refuses r) bs cs t m ms go h e = absurd (cc e)
+then-first d from (goes q) bs cs t m ms go h e = go q bs h e
+then-first d from (tells n q) bs cs t m ms go h e =
+    let f = tells-first m n (run d q cs) t ms e in
+    (bs, q, subst (λ x. IsTaking d from x bs q) (sym f.0) h.0)
+
+-- the first mark of a run is one that can be there
+pub first-mark : (d : ℕ) (bs : List ℕ) (from q t : State) (pre : List ℕ) (m : Mark) (ms : List Mark) → IsWithin d from q pre → AreBytes bs → run d q bs ≡ reached t (m ∷ ms)
+    → (cs : List ℕ) × (u : State) × IsTaking d from m cs u
+first-mark d [] from q t pre m ms h b e = absurd (cc e)
+first-mark d (c ∷ cs) from q t pre m ms h b e =
+    then-first d from (take_byte d q c) (pre ++ c ∷ []) cs t m ms (λ u p k f. first-mark d cs from u t p m ms k b.1 f) (byte-taken d from q pre c h b.0) e
+
+-- ---- payloads
+
+pub pieces-taken : (d : ℕ) (chunk : Bool) (m : Major) (n : ℕ) (fs : List Frame) (bs : List ℕ) → length bs ≤ n → run d (payload chunk m n fs) bs ≡ reached (payload chunk m (n - length bs) fs) (payload_marks bs)
+pieces-taken d chunk m n fs [] h = let e : n ≡ n - 0 = omega arith in ap (λ k. reached (payload chunk m k fs) []) e
+pieces-taken d chunk m zero fs (b ∷ bs) h = absurd (omega arith)
+pieces-taken d chunk m (suc n) fs (b ∷ bs) h =
+    let e : suc n - suc (length bs) ≡ n - length bs = omega arith in
+    payload-byte d chunk m n fs b bs ∙ ap (telling a_byte) (pieces-taken d chunk m n fs bs (omega arith))
+    ∙ ap (λ k. reached (payload chunk m k fs) (a_byte ∷ payload_marks bs)) (sym e)

@@ -1,0 +1,203 @@
+-- An automaton that takes an item byte by byte (RFC 8949, section 3 and appendix C).
+use Rattle.std.specs.Prelude.{ℕ, zero, suc, ◌+◌, ◌*◌, ◌-◌, ◌/◌, ◌%◌, Bool, true, false, not, nat_lt, if◌then◌else◌, List, [], ◌∷◌, length}
+use Rattle.cbor_automaton.specs.Trace.{Mark, a_head, a_chunk, a_byte, a_break, more_bytes}
+use Rattle.cbor_head.specs.Verdict.{initial_reason}
+use Rattle.cbor_head.specs.declared.major.Major.{Major}
+use Rattle.cbor_head.specs.declared.major.Major.TheVariants.{Unsigned, Negative, Bytes, Text, Array, Map, Tag, Simple}
+use Rattle.cbor_head.specs.declared.width.Width.{Width}
+use Rattle.cbor_head.specs.declared.width.Width.TheVariants.{Direct, One, Two, Four, Eight, Indefinite}
+use Rattle.cbor_head.specs.declared.reason.Reason.{Reason}
+use Rattle.cbor_head.specs.declared.reason.Reason.TheVariants.{BadSimple, BadChunk, Trailing}
+
+-- an open container
+pub data Frame : Type 0 where
+  -- so many members after the one that is due
+  counted : ℕ → Frame
+  indefinite_array : Frame
+  -- true: a value is due
+  indefinite_map : Bool → Frame
+
+-- Where the next byte belongs, and the open containers, the innermost first. A string's flag is true in a chunk.
+pub data State : Type 0 where
+  at_item : List Frame → State
+  -- so many bytes of the argument after the next one, and the number so far
+  in_head : Bool → Major → Width → ℕ → ℕ → List Frame → State
+  in_simple : List Frame → State
+  -- so many bytes of the payload after the next one
+  in_payload : Bool → Major → ℕ → List Frame → State
+  in_chunks : Major → List Frame → State
+  done : State
+
+-- before the first byte of an item
+abbrev pub start : State
+start = at_item []
+
+-- what a first byte begins
+pub data Opening : Type 0 where
+  direct : Major → ℕ → Opening
+  long : Major → Width → Opening
+  indefinite_string : Major → Opening
+  indefinite_container : Major → Frame → Opening
+  long_simple : Opening
+  breaks : Opening
+  bad : Opening
+
+-- what comes of a byte
+pub data Next : Type 0 where
+  refuses : Reason → Next
+  goes : State → Next
+  tells : Mark → State → Next
+
+-- the type by the high three bits
+abbrev pub major_at : ℕ → Major
+major_at zero = Unsigned
+major_at (suc zero) = Negative
+major_at (suc (suc zero)) = Bytes
+major_at (suc (suc (suc zero))) = Text
+major_at (suc (suc (suc (suc zero)))) = Array
+major_at (suc (suc (suc (suc (suc zero))))) = Map
+major_at (suc (suc (suc (suc (suc (suc zero)))))) = Tag
+major_at _ = Simple
+
+-- with the low five bits 31
+abbrev pub indefinite_length : Major → Opening
+indefinite_length Bytes = indefinite_string Bytes
+indefinite_length Text = indefinite_string Text
+indefinite_length Array = indefinite_container Array indefinite_array
+indefinite_length Map = indefinite_container Map (indefinite_map false)
+indefinite_length _ = bad
+
+-- by the low five bits above 23, for the types but simple values and for those
+abbrev pub numbered_tail : Major → ℕ → Opening
+numbered_tail major zero = long major One
+numbered_tail major (suc zero) = long major Two
+numbered_tail major (suc (suc zero)) = long major Four
+numbered_tail major (suc (suc (suc zero))) = long major Eight
+numbered_tail major (suc (suc (suc (suc (suc (suc (suc zero))))))) = indefinite_length major
+numbered_tail major _ = bad
+
+abbrev pub simple_tail : ℕ → Opening
+simple_tail zero = long_simple
+simple_tail (suc (suc (suc (suc (suc (suc (suc zero))))))) = breaks
+simple_tail _ = bad
+
+abbrev pub tail : Major → ℕ → Opening
+tail Simple k = simple_tail k
+tail major k = numbered_tail major k
+
+-- by the type and the low five bits
+abbrev pub opening_of : Major → ℕ → Opening
+opening_of major low = if nat_lt low 24 then direct major low else tail major (low - 24)
+
+abbrev pub opening : ℕ → Opening
+opening c = opening_of (major_at (c / 32)) (c % 32)
+
+-- an item is complete
+abbrev pub close : List Frame → State
+close [] = done
+close (counted zero ∷ fs) = close fs
+close (counted (suc n) ∷ fs) = at_item (counted n ∷ fs)
+close (indefinite_array ∷ fs) = at_item (indefinite_array ∷ fs)
+close (indefinite_map due ∷ fs) = at_item (indefinite_map (not due) ∷ fs)
+
+-- so many members are due
+abbrev pub expect : ℕ → List Frame → State
+expect zero fs = close fs
+expect (suc n) fs = at_item (counted n ∷ fs)
+
+-- a definite string is complete
+abbrev pub close_string : Bool → Major → List Frame → State
+close_string true major fs = in_chunks major fs
+close_string false major fs = close fs
+
+-- so many bytes of a definite string are due
+abbrev pub payload : Bool → Major → ℕ → List Frame → State
+payload chunk major zero fs = close_string chunk major fs
+payload chunk major (suc n) fs = in_payload chunk major n fs
+
+-- a definite head is complete
+abbrev pub after : Bool → Major → ℕ → List Frame → State
+after true major n fs = payload true major n fs
+after false Bytes n fs = payload false Bytes n fs
+after false Text n fs = payload false Text n fs
+after false Array n fs = expect n fs
+after false Map n fs = expect (n + n) fs
+after false Tag n fs = expect 1 fs
+after false _ n fs = close fs
+
+-- the mark of a definite head
+abbrev pub mark : Bool → Major → Width → ℕ → Mark
+mark true major w n = a_chunk w n
+mark false major w n = a_head major w n
+
+-- there is room for one more container, if it is one
+abbrev pub has_room : ℕ → List Frame → Major → Bool
+has_room d fs Array = nat_lt (length fs) d
+has_room d fs Map = nat_lt (length fs) d
+has_room d fs Tag = nat_lt (length fs) d
+has_room d fs _ = true
+
+-- the head of an item, if there is room for it
+abbrev pub enter : ℕ → List Frame → Major → ℕ → Next → Next
+enter d fs major c next = if has_room d fs major then next else refuses (initial_reason c)
+
+-- a break where an item is due
+abbrev pub break_at : List Frame → ℕ → Next
+break_at (indefinite_array ∷ fs) c = tells a_break (close fs)
+break_at (indefinite_map false ∷ fs) c = tells a_break (close fs)
+break_at _ c = refuses (initial_reason c)
+
+-- a byte where an item may begin
+abbrev pub begin : ℕ → List Frame → ℕ → Opening → Next
+begin d fs c (direct major n) = enter d fs major c (tells (a_head major Direct n) (after false major n fs))
+begin d fs c (long major w) = enter d fs major c (goes (in_head false major w (more_bytes w - 1) 0 fs))
+begin d fs c (indefinite_string major) = tells (a_head major Indefinite 0) (in_chunks major fs)
+begin d fs c (indefinite_container major frame) = enter d fs major c (tells (a_head major Indefinite 0) (at_item (frame ∷ fs)))
+begin d fs c long_simple = goes (in_simple fs)
+begin d fs c breaks = break_at fs c
+begin d fs c bad = refuses (initial_reason c)
+
+-- two strings of the same type
+abbrev pub is_major : Major → Major → Bool
+is_major Bytes Bytes = true
+is_major Text Text = true
+is_major _ _ = false
+
+-- a byte where a chunk may begin
+abbrev pub in_string : Major → List Frame → Opening → Next
+in_string major fs (direct m n) = if is_major major m then tells (a_chunk Direct n) (payload true major n fs) else refuses BadChunk
+in_string major fs (long m w) = if is_major major m then goes (in_head true major w (more_bytes w - 1) 0 fs) else refuses BadChunk
+in_string major fs breaks = tells a_break (close fs)
+in_string major fs _ = refuses BadChunk
+
+-- the next byte, within a depth
+abbrev pub take_byte : ℕ → State → ℕ → Next
+take_byte d (at_item fs) c = begin d fs c (opening c)
+take_byte d (in_head chunk major w zero acc fs) c = tells (mark chunk major w (acc * 256 + c)) (after chunk major (acc * 256 + c) fs)
+take_byte d (in_head chunk major w (suc k) acc fs) c = goes (in_head chunk major w k (acc * 256 + c) fs)
+take_byte d (in_simple fs) c = if nat_lt c 32 then refuses BadSimple else tells (a_head Simple One c) (close fs)
+take_byte d (in_payload chunk major zero fs) c = tells a_byte (close_string chunk major fs)
+take_byte d (in_payload chunk major (suc n) fs) c = tells a_byte (in_payload chunk major n fs)
+take_byte d (in_chunks major fs) c = in_string major fs (opening c)
+take_byte d done c = refuses Trailing
+
+-- the state after some bytes, and the marks that they complete
+pub data Outcome : Type 0 where
+  refused : Reason → Outcome
+  reached : State → List Mark → Outcome
+
+-- a mark before those of a run
+abbrev pub telling : Mark → Outcome → Outcome
+telling m (refused r) = refused r
+telling m (reached q ms) = reached q (m ∷ ms)
+
+-- what a byte leads to, and what the others do from there
+abbrev pub and_then : Next → (State → Outcome) → Outcome
+and_then (refuses r) f = refused r
+and_then (goes q) f = f q
+and_then (tells m q) f = telling m (f q)
+
+-- bytes from a state
+abbrev pub run : ℕ → State → List ℕ → Outcome
+run d q [] = reached q []
+run d q (c ∷ cs) = and_then (take_byte d q c) (λ t. run d t cs)

@@ -1,8 +1,0 @@
-use Rattle.std.proofs.Common.{◌≤◌, arith}
-use Rattle.cbor_events.proofs.Saved.{no-room}
-use Rattle.cbor_events.proofs.machine.saved.has_bytes_left.Goals as goal
-
-pub returns-in_default : goal.returns-in_default
-returns-in_default c =
-    let many : 8 ≤ c.args.left = omega arith in
-    (λ h. absurd (cc), λ h. absurd (no-room c.args.argument c.args.left many h))

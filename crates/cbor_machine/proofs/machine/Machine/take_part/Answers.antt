@@ -1,0 +1,110 @@
+use Rattle.std.proofs.Common.{subst, ◌≡◌, ◌+◌, ◌-◌, take, length, arith, ap, sym, refl, ◌∙◌, inl, inr}
+use Rattle.std.proofs.lemmas.List.{length-take}
+use Rattle.cbor_head.specs.Verdict.{refusal}
+use Rattle.cbor_head.specs.declared.reason.Reason.TheVariants.{TooLong}
+use Rattle.cbor_machine.specs.declared.step.Out.TheVariants as outs
+use Rattle.cbor_machine.specs.MachineView.{MachineView}
+use Rattle.cbor_machine.specs.inner.Steps.{Ran}
+use Rattle.cbor_machine.proofs.Standing.{are_bytes-take, fit-sound, front-walked, length-front, step-from, stopped, answered}
+use Rattle.cbor_automaton.specs.inner.State.{IsFit}
+use Rattle.cbor_machine.proofs.Reasons.{form-machine}
+use Rattle.cbor_automaton.proofs.Frames.{not-done}
+use Rattle.cbor_machine.proofs.machine.Machine.take_part.Goals as goal
+
+pub returns-in-Told-clause-walked : goal.returns-in-Told-clause-walked
+returns-in-Told-clause-walked c = λ live.
+    let u = c.walk-used.ensures.used in
+    let depth : c.from-depth.result ≡ c.self.inside.limits.depth = c.from-depth.ensures ∙ c.depth.ensures.depth in
+    let walked = rw c.in-Told.is at (front-walked _ _ _ _ _ _ _ _ depth u c.walk-used.ensures.walked) in
+    let len = length-front c.walk-used.result.0 c.part-end.result c.args.input.now u (omega (arith, c.part-end.ensures)) in
+    let live' = ap (λ (m : MachineView). m.refusal) c.self.view_is ∙ live in
+    let ran : Ran _ _ (take c.walk-used.result.0 c.args.input.now) _ = record { ran = walked; taken = ap (λ n. c.self.inside.taken + n) (sym len.1) } in
+    let settled = rw c.in-Told.is at c.walk-used.ensures.clear in
+    step-from (outs.Event (record { place = c.self.inside.told; width = c.in-Told.width; kind = c.in-Told.kind })) _ _ _ (take c.walk-used.result.0 c.args.input.now) c.self.view_is (ran, live', refl, refl, settled tt, rw c.in-Told.is at c.walk-used.ensures.proper)
+
+pub returns-in-Told-clause-answers : goal.returns-in-Told-clause-answers
+returns-in-Told-clause-answers c = λ t ms h.
+    let u = c.walk-used.ensures.used in
+    let len = length-front c.walk-used.result.0 c.part-end.result c.args.input.now u (omega (arith, c.part-end.ensures)) in
+    let depth : c.from-depth.result ≡ c.self.inside.limits.depth = c.from-depth.ensures ∙ c.depth.ensures.depth in
+    answered (outs.Event (record { place = c.self.inside.told; width = c.in-Told.width; kind = c.in-Told.kind })) _ _ t (take c.walk-used.result.0 c.args.input.now) ms h (are_bytes-take c.walk-used.result.0 c.args.input.now c.below_256.ensures)
+    (λ e. c.in_default-position.not-Done (ap (λ (m : MachineView). m.inner.position) c.self.view_is ∙ e)) (ap (λ (m : MachineView). m.depth) c.self.view_is) (fit-sound _ _ (record { open_count = refl; due = refl; in_payload = refl; complete = refl }) c.walk-used.ensures.fits) (omega arith)
+    (ap (λ n. c.self.inside.taken + n) (sym len.1) ∙ ap (λ (m : MachineView). m.taken + length (take c.walk-used.result.0 c.args.input.now)) c.self.view_is)
+    (omega (arith, length-take c.part-end.result c.args.input.now)) (returns-in-Told-clause-walked c h.live)
+
+pub returns-then-self-bytes-clause-walked : goal.returns-then-self-bytes-clause-walked
+returns-then-self-bytes-clause-walked c = λ live.
+    let u = c.walk-used.ensures.used in
+    let depth : c.from-depth.result ≡ c.self.inside.limits.depth = c.from-depth.ensures ∙ c.depth.ensures.depth in
+    let walked = rw c.in-More.is at (front-walked _ _ _ _ _ _ _ _ depth u c.walk-used.ensures.walked) in
+    let len = length-front c.walk-used.result.0 c.part-end.result c.args.input.now u (omega (arith, c.part-end.ensures)) in
+    let live' = ap (λ (m : MachineView). m.refusal) c.self.view_is ∙ live in
+    let ran : Ran _ _ (take c.walk-used.result.0 c.args.input.now) _ = record { ran = walked; taken = ap (λ n. c.self.inside.taken + n) (sym len.1) } in
+    step-from outs.More _ _ _ (take c.walk-used.result.0 c.args.input.now) c.self.view_is (ran, live', refl)
+
+pub returns-then-self-bytes-clause-answers : goal.returns-then-self-bytes-clause-answers
+returns-then-self-bytes-clause-answers c = λ t ms h.
+    let u = c.walk-used.ensures.used in
+    let len = length-front c.walk-used.result.0 c.part-end.result c.args.input.now u (omega (arith, c.part-end.ensures)) in
+    let depth : c.from-depth.result ≡ c.self.inside.limits.depth = c.from-depth.ensures ∙ c.depth.ensures.depth in
+    answered outs.More _ _ t (take c.walk-used.result.0 c.args.input.now) ms h (are_bytes-take c.walk-used.result.0 c.args.input.now c.below_256.ensures)
+    (λ e. c.in_default-position.not-Done (ap (λ (m : MachineView). m.inner.position) c.self.view_is ∙ e)) (ap (λ (m : MachineView). m.depth) c.self.view_is) (fit-sound _ _ (record { open_count = refl; due = refl; in_payload = refl; complete = refl }) c.walk-used.ensures.fits) (omega arith)
+    (ap (λ n. c.self.inside.taken + n) (sym len.1) ∙ ap (λ (m : MachineView). m.taken + length (take c.walk-used.result.0 c.args.input.now)) c.self.view_is)
+    (omega (arith, length-take c.part-end.result c.args.input.now)) (returns-then-self-bytes-clause-walked c h.live)
+
+pub returns-else-self-bytes-clause-walked : goal.returns-else-self-bytes-clause-walked
+returns-else-self-bytes-clause-walked c = λ live.
+    let u = c.walk-used.ensures.used in
+    let depth : c.from-depth.result ≡ c.self.inside.limits.depth = c.from-depth.ensures ∙ c.depth.ensures.depth in
+    let walked = rw c.in-More.is at (front-walked _ _ _ _ _ _ _ _ depth u c.walk-used.ensures.walked) in
+    let len = length-front c.walk-used.result.0 c.part-end.result c.args.input.now u (omega (arith, c.part-end.ensures)) in
+    let live' = ap (λ (m : MachineView). m.refusal) c.self.view_is ∙ live in
+    let ran : Ran _ _ (take c.walk-used.result.0 c.args.input.now) _ = record { ran = walked; taken = ap (λ n. c.self.inside.taken + n) (sym len.1) } in
+    rw c.refusal_of-refusal.ensures (step-from (outs.Refused (refusal TooLong c.bytes-bytes.result c.bytes-bytes.result)) _ _ _ (take c.walk-used.result.0 c.args.input.now) c.self.view_is
+    (refl, inl (ran, omega (arith, length-take c.part-end.result c.args.input.now), ap (λ n. refusal TooLong n n) c.bytes-bytes.ensures.bytes)))
+
+pub returns-else-self-bytes-clause-answers : goal.returns-else-self-bytes-clause-answers
+returns-else-self-bytes-clause-answers c = λ t ms h.
+    let u = c.walk-used.ensures.used in
+    let len = length-front c.walk-used.result.0 c.part-end.result c.args.input.now u (omega (arith, c.part-end.ensures)) in
+    let depth : c.from-depth.result ≡ c.self.inside.limits.depth = c.from-depth.ensures ∙ c.depth.ensures.depth in
+    rw c.refusal_of-refusal.ensures (answered (outs.Refused (refusal TooLong c.bytes-bytes.result c.bytes-bytes.result)) _ _ t (take c.walk-used.result.0 c.args.input.now) ms h (are_bytes-take c.walk-used.result.0 c.args.input.now c.below_256.ensures)
+    (λ e. c.in_default-position.not-Done (ap (λ (m : MachineView). m.inner.position) c.self.view_is ∙ e)) (ap (λ (m : MachineView). m.depth) c.self.view_is) (fit-sound _ _ (record { open_count = refl; due = refl; in_payload = refl; complete = refl }) c.walk-used.ensures.fits) (omega arith)
+    (ap (λ n. c.self.inside.taken + n) (sym len.1) ∙ ap (λ (m : MachineView). m.taken + length (take c.walk-used.result.0 c.args.input.now)) c.self.view_is)
+    (omega (arith, length-take c.part-end.result c.args.input.now)) (rw c.refusal_of-refusal.ensures at (returns-else-self-bytes-clause-walked c h.live)))
+
+pub returns-in-Refused-clause-walked : goal.returns-in-Refused-clause-walked
+returns-in-Refused-clause-walked c = λ live.
+    let u = c.walk-used.ensures.used in
+    let depth : c.from-depth.result ≡ c.self.inside.limits.depth = c.from-depth.ensures ∙ c.depth.ensures.depth in
+    let walked = rw c.in-Refused.is at (front-walked _ _ _ _ _ _ _ _ depth u c.walk-used.ensures.walked) in
+    let len = length-front c.walk-used.result.0 c.part-end.result c.args.input.now u (omega (arith, c.part-end.ensures)) in
+    rw c.refusal_of-refusal-in-Refused.ensures (step-from (outs.Refused (refusal c.in-Refused.reason (c.self.inside.taken + c.walk-used.result.0 - 1) (c.self.inside.taken + c.walk-used.result.0))) _ _ _ (take c.walk-used.result.0 c.args.input.now) c.self.view_is (refl, inr (stopped _ _ _ _ c.walk-used.result.0 walked len.1 refl)))
+
+pub returns-in-Refused-clause-answers : goal.returns-in-Refused-clause-answers
+returns-in-Refused-clause-answers c = λ t ms h.
+    let u = c.walk-used.ensures.used in
+    let len = length-front c.walk-used.result.0 c.part-end.result c.args.input.now u (omega (arith, c.part-end.ensures)) in
+    let depth : c.from-depth.result ≡ c.self.inside.limits.depth = c.from-depth.ensures ∙ c.depth.ensures.depth in
+    rw c.refusal_of-refusal-in-Refused.ensures (answered (outs.Refused (refusal c.in-Refused.reason (c.self.inside.taken + c.walk-used.result.0 - 1) (c.self.inside.taken + c.walk-used.result.0))) _ _ t (take c.walk-used.result.0 c.args.input.now) ms h (are_bytes-take c.walk-used.result.0 c.args.input.now c.below_256.ensures)
+    (λ e. c.in_default-position.not-Done (ap (λ (m : MachineView). m.inner.position) c.self.view_is ∙ e)) (ap (λ (m : MachineView). m.depth) c.self.view_is) (fit-sound _ _ (record { open_count = refl; due = refl; in_payload = refl; complete = refl }) c.walk-used.ensures.fits) (omega arith)
+    (ap (λ n. c.self.inside.taken + n) (sym len.1) ∙ ap (λ (m : MachineView). m.taken + length (take c.walk-used.result.0 c.args.input.now)) c.self.view_is)
+    (omega (arith, length-take c.part-end.result c.args.input.now)) (rw c.refusal_of-refusal-in-Refused.ensures at (returns-in-Refused-clause-walked c h.live)))
+
+pub returns-in-Refused-clause-reason : goal.returns-in-Refused-clause-reason
+returns-in-Refused-clause-reason c =
+    rw c.refusal_of-refusal-in-Refused.ensures (form-machine c.in-Refused.reason ((rw c.in-Refused.is at c.walk-used.ensures.reason) (not-done _ (λ e. c.in_default-position.not-Done e))))
+
+pub invariant_of-self-in-Refused : goal.invariant_of-self-in-Refused
+invariant_of-self-in-Refused c =
+    let depth : c.from-depth.result ≡ c.self.inside.limits.depth = c.from-depth.ensures ∙ c.depth.ensures.depth in
+    record {
+      within = omega (arith, c.walk-used.ensures.within, depth);
+      fits = subst (λ d. IsFit d c.walk-used.new.nest c.walk-used.new.position) depth c.walk-used.ensures.fits;
+      taken = omega (arith, length-take c.part-end.result c.args.input.now, c.walk-used.ensures.used, c.part-end.ensures, c.self.invariant.taken, c.bytes-bytes.ensures.bytes);
+      settled = λ e. absurd (cc);
+      stopped = rw c.refusal_of-refusal-in-Refused.ensures (
+        refl,
+        form-machine c.in-Refused.reason ((rw c.in-Refused.is at c.walk-used.ensures.reason) (not-done _ (λ e. c.in_default-position.not-Done e))),
+      );
+    }

@@ -1,0 +1,5 @@
+-- What private functions speak of; no public contract does.
+pub mod Calls
+pub mod Machine
+pub mod Saved
+pub mod Steps

@@ -1,0 +1,308 @@
+//! The machine that takes an item byte by byte.
+
+ghost use Rattle.std.specs.Prelude.{◌≡◌, ◌↔◌, ◌≤◌, ◌<◌, ◌+◌, ◌++◌, ℕ, List, [], ◌∷◌, length, take};
+ghost use Rattle.std.specs.Prelude.{min, true, false, Some, None, IfSome, IsTrue};
+ghost use Rattle.cbor_head.specs.Value.{AreBytes};
+ghost use Rattle.cbor_head.specs.Verdict.{refusal};
+ghost use Rattle.cbor_automaton.specs.Trace.{Mark};
+ghost use Rattle.cbor_automaton.specs.Reasons.{IsMachineReason};
+ghost use Rattle.cbor_machine.specs.MachineView.{MachineView};
+ghost use Rattle.cbor_machine.specs.Machine.{StandsFor, KeepsLimits, Stays, IsAnswer, IsComplete};
+ghost use Rattle.cbor_machine.specs.Machine.{IsIdle, IsEvent, IsMore, IsDone, IfRefused, piece_of};
+ghost use Rattle.cbor_machine.specs.Machine.{IsGiven};
+ghost use Rattle.cbor_automaton.specs.Marks.{IsProper, times};
+ghost use Rattle.cbor_machine.specs.Machine.{wanted};
+ghost use Rattle.cbor_automaton.specs.inner.State.{IsFit, IsSettled, wanted_at, is_in_payload};
+ghost use Rattle.cbor_automaton.specs.inner.State.{is_done};
+ghost use Rattle.cbor_machine.specs.inner.Steps.{IsStep};
+
+mod saved;
+
+use crate::step::{Out, Step};
+use cbor_automaton::{Event, Nest, Position, Walked, long_at, walk, walk_whole};
+use cbor_head::{Limits, Reason, Refusal};
+pub use saved::{SavedFrame, SavedMachine};
+use std::marker::Model;
+
+/// Takes one item byte by byte, in parts of any length, and tells its events.
+///
+/// It keeps the open containers and no byte of the item. No call takes memory.
+#[derive(Drop)]
+pub struct Machine {
+    limits: Limits,
+    taken: u64,
+    told: u64,
+    position: Position,
+    nest: Nest,
+    refusal: Option<Refusal>,
+}
+
+impl Model for Machine {
+    ghost Value = { MachineView };
+
+    ghost view = { λ m. record {
+      depth = m.limits.depth;
+      bytes = m.limits.bytes;
+      taken = m.taken;
+      told = m.told;
+      open_count = length m.nest;
+      due = wanted_at m.position;
+      in_payload = is_in_payload m.position;
+      complete = is_done m.position;
+      refusal = m.refusal;
+      inner = record { position = m.position; frames = m.nest };
+    } };
+
+    ghost invariant = { λ m. record {
+      within : length m.nest ≤ m.limits.depth;
+      fits : IsFit m.limits.depth m.nest m.position;
+      taken : m.taken ≤ m.limits.bytes;
+      settled : m.refusal ≡ None → IsSettled m.nest m.position → m.told ≡ m.taken;
+      stopped : IfSome m.refusal (λ r. (r.read ≡ m.taken) × IsMachineReason r.reason);
+    } };
+}
+
+impl Machine {
+    /// A machine before an item's first byte.
+    pub fn new(limits: Limits) -> Machine
+        ensures limits { (result.depth ≡ limits.depth) × (result.bytes ≡ limits.bytes) }
+        ensures starts { StandsFor result [] [] }
+    {
+        Machine {
+            limits,
+            taken: 0,
+            told: 0,
+            position: Position::Item,
+            nest: Nest::new(),
+            refusal: None,
+        }
+    }
+
+    /// How many arrays, maps and tags are open: from its head until its last member or its break.
+    pub fn open(&self) -> usize
+        ensures count { result ≡ self.now.open_count }
+        ensures within { result ≤ self.now.depth }
+    {
+        self.nest.len()
+    }
+
+    /// How many bytes were taken; after a refusal its `read`.
+    pub fn taken(&self) -> u64
+        ensures taken { result ≡ self.now.taken }
+        ensures within { result ≤ self.now.bytes }
+    {
+        self.taken
+    }
+
+    /// How many bytes more belong to the head or payload that is open, or to the next head's first
+    /// byte, within the byte limit: a step uses that many, whatever they are. None once the item is
+    /// complete or refused.
+    #[inline(always)]
+    pub fn wanted(&self) -> u64
+        ensures wanted { result ≡ wanted self.now }
+        ensures idle { IsIdle self.now → result ≡ 0 }
+    {
+        if self.refusal.is_some() {
+            return 0;
+        }
+        let room = self.limits.bytes() - self.taken;
+        match self.position {
+            Position::Head { left, .. } => room.min(u64::from(left) + 1),
+            Position::Payload(_, _, left) => if left < room { left + 1 } else { room },
+            Position::Done => 0,
+            Position::Item | Position::SimpleNumber | Position::Chunks(_) => room.min(1),
+        }
+    }
+
+    /// Whether the next bytes are those of a payload.
+    #[inline(always)]
+    pub fn is_in_payload(&self) -> bool
+        ensures { result ≡ self.now.in_payload }
+    {
+        matches!(self.position, Position::Payload(..))
+    }
+
+    /// Whether the first byte of an item's head is wanted.
+    #[inline(always)]
+    pub fn wants_head(&self) -> bool
+        ensures wanted { result ≡ true → wanted self.now ≡ 1 }
+        ensures idle { IsIdle self.now → result ≡ false }
+    {
+        self.refusal.is_none()
+            && matches!(self.position, Position::Item)
+            && self.taken < self.limits.bytes()
+    }
+
+    /// Takes the head, the argument or the part of a payload that stands whole in the input, which
+    /// is no longer than what is wanted. None, and nothing is taken, where it is not there.
+    #[inline(always)]
+    #[tactic(auto, using(crate::proofs::Standing::settled_fit))]
+    pub fn take_whole(&mut self, input: &[u8]) -> Option<Event>
+        requires some { 0 < length input.now }
+        requires wanted { length input.now ≤ wanted self.old }
+        ensures answers { IfSome result (λ e. (t : List ℕ) (ms : List Mark)
+            → StandsFor self.old t ms → IsGiven e self.new t input.now ms) }
+        ensures proper { IfSome result (λ e. IsProper e.width e.kind) }
+        ensures piece { IfSome result (λ e. times e.kind ≤ length input.now) }
+        ensures limits { KeepsLimits self.old self.new }
+        ensures none { result ≡ None → self.new ≡ self.old }
+    {
+        below_256(input);
+        let depth = usize::from(self.limits.depth());
+        let front = walk_whole(depth, &mut self.position, &mut self.nest, input)?;
+        let event = Event {
+            place: self.told,
+            width: front.width,
+            kind: front.kind,
+        };
+        self.taken += front.used as u64;
+        self.told = self.taken;
+        Some(event)
+    }
+
+    /// Takes the first byte of an item's head with an argument. False, and it is not taken, where it
+    /// is no such byte, or no item may have it there.
+    #[inline(always)]
+    pub fn begin_head(&mut self, c: u8) -> bool
+        requires { 0 < wanted self.old }
+        ensures begun { result ≡ true → (t : List ℕ) (ms : List Mark)
+            → StandsFor self.old t ms → StandsFor self.new (t ++ c ∷ []) ms }
+        ensures limits { KeepsLimits self.old self.new }
+        ensures taken { result ≡ true → self.new.taken ≡ self.old.taken + 1 }
+        ensures none { result ≡ false → self.new ≡ self.old }
+    {
+        let Position::Item = self.position else {
+            return false;
+        };
+        let depth = usize::from(self.limits.depth());
+        match long_at(depth, &self.nest, c) {
+            Some(position) => {
+                self.position = position;
+                self.taken += 1;
+                true
+            }
+            None => false,
+        }
+    }
+
+    /// Takes bytes from the front of the input until an event is complete, or a byte is refused, or
+    /// none is left. Once the item is complete, or refused, it uses nothing and answers the same.
+    pub fn step(&mut self, input: &[u8]) -> Step
+        ensures used { (result.used ≤ length input.now)
+            × (self.new.taken ≡ self.old.taken + result.used) }
+        ensures limits { KeepsLimits self.old self.new }
+
+        // For all bytes and marks that the machine stood for.
+        ensures answers { (t : List ℕ) (ms : List Mark) → StandsFor self.old t ms
+            → IsAnswer result.out self.new t (take result.used input.now) ms }
+
+        // What is wanted is used; of a payload the lesser of what is offered and what is wanted.
+        ensures wanted { (length input.now ≤ wanted self.old → result.used ≡ length input.now)
+            × (self.old.in_payload ≡ true
+            → result.used ≡ min (length input.now) (wanted self.old)) }
+        ensures event { (IsEvent result.out → 0 < result.used)
+            × (piece_of result.out ≤ result.used) }
+        ensures more { IsMore result.out → (result.used ≡ length input.now)
+            × (self.new.taken < self.new.bytes) × (0 < wanted self.old) }
+        ensures refused { IfRefused result.out (λ r. (self.new.refusal ≡ Some r)
+            × (self.new.taken ≡ r.read) × IsMachineReason r.reason) }
+        ensures stays { Stays result self.old self.new }
+    {
+        self.take_part(input)
+    }
+
+    /// A step, and what it does with the inner state.
+    #[inline(always)]
+    #[tactic(auto, using(crate::proofs::Standing::settled_fit))]
+    pub fn take_part(&mut self, input: &[u8]) -> Step
+        ensures used { result.used ≤ length input.now }
+        ensures taken { self.new.taken ≡ self.old.taken + result.used }
+        ensures limits { KeepsLimits self.old self.new }
+        ensures walked { self.old.refusal ≡ None
+            → IsStep result.out self.old self.new (take result.used input.now) }
+        ensures answers { (t : List ℕ) (ms : List Mark) → StandsFor self.old t ms
+            → IsAnswer result.out self.new t (take result.used input.now) ms }
+        ensures progress { IsEvent result.out → 0 < result.used }
+        ensures piece { piece_of result.out ≤ result.used }
+        ensures whole { IsMore result.out
+            → (result.used ≡ length input.now) × (self.new.taken < self.new.bytes) }
+        ensures done { IsDone result.out ↔ IsComplete self.old }
+        ensures stays { IsComplete self.old → (result.used ≡ 0) × (self.new ≡ self.old) }
+        ensures refused { IfRefused result.out
+            (λ r. (self.new.refusal ≡ Some r) × (self.new.taken ≡ r.read)) }
+        ensures reason { IfRefused result.out (λ r. IsMachineReason r.reason) }
+        ensures again { IfSome self.old.refusal
+            (λ r. (result.out ≡ Out.Refused r) × (result.used ≡ 0) × (self.new ≡ self.old)) }
+        ensures exact { length input.now ≤ wanted self.old → result.used ≡ length input.now }
+        ensures payload { self.old.in_payload ≡ true
+            → result.used ≡ min (length input.now) (wanted self.old) }
+        ensures idle { IsMore result.out → 0 < wanted self.old }
+    {
+        below_256(input);
+        if let Some(refusal) = self.refusal {
+            let out = Out::Refused(refusal);
+            return Step { used: 0, out };
+        }
+        if let Position::Done = self.position {
+            let out = Out::Done;
+            return Step { used: 0, out };
+        }
+        let bytes = self.limits.bytes();
+        let depth = usize::from(self.limits.depth());
+        let end = part(input.len(), bytes - self.taken);
+        let (used, walked) = walk(depth, &mut self.position, &mut self.nest, &input[..end]);
+        self.taken += used as u64;
+        match walked {
+            Walked::Told(width, kind) => {
+                let place = self.told;
+                self.told = self.taken;
+                let out = Out::Event(Event { place, width, kind });
+                Step { used, out }
+            }
+            Walked::More => {
+                if self.taken < bytes {
+                    let out = Out::More;
+                    return Step { used, out };
+                }
+                let refusal = refusal_of(Reason::TooLong, bytes, bytes);
+                self.refusal = Some(refusal);
+                let out = Out::Refused(refusal);
+                Step { used, out }
+            }
+            Walked::Refused(reason) => {
+                let refusal = refusal_of(reason, self.taken - 1, self.taken);
+                self.refusal = Some(refusal);
+                let out = Out::Refused(refusal);
+                Step { used, out }
+            }
+        }
+    }
+}
+
+// A refusal by its parts.
+pub(crate) fn refusal_of(reason: Reason, place: u64, read: u64) -> Refusal
+    ensures { result ≡ refusal reason place read }
+{
+    Refusal {
+        reason,
+        place,
+        read,
+    }
+}
+
+// The lesser of the two.
+#[inline(always)]
+fn part(len: usize, room: u64) -> usize
+    ensures { result ≡ min len room }
+{
+    if room < len as u64 {
+        room as usize
+    } else {
+        len
+    }
+}
+
+/// Bytes are below 256, as the contracts of a step ask of them. Nothing runs.
+pub fn below_256(bytes: &[u8])
+    ensures { AreBytes bytes.now }
+{}

@@ -1,0 +1,2 @@
+pub mod AsciiMasks
+pub mod TextFronts

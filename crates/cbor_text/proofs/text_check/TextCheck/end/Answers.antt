@@ -1,0 +1,20 @@
+use Rattle.std.proofs.Common.{◌≡◌, ◌-◌, ◌<◌, length, sym, subst, arith}
+use Rattle.std.proofs.lemmas.Bool.Decides.{nat_tests}
+use Rattle.cbor_text.specs.inner.TextCheck.{IsFixed, IsOpen}
+use Rattle.cbor_text.specs.TextCheck.{HasChecked, TextView}
+use Rattle.cbor_text.proofs.TextFronts.{answers, fixed-now, open-short}
+use Rattle.cbor_text.proofs.text_check.TextCheck.end.Goals as goal
+
+pub returns-in-Some : goal.returns-in-Some
+returns-in-Some c = λ bytes h.
+    let h' = subst (λ (v : TextView). HasChecked v bytes) (sym c.self.view_is) h in
+    let f : IsFixed bytes c.in-Some.n = rw c.in-Some.is at h'.inner.is in
+    answers bytes c.in-Some.n (fixed-now bytes c.in-Some.n f)
+
+pub returns-in-None-2 : goal.returns-in-None-2
+returns-in-None-2 c = λ bytes h.
+    let h' = subst (λ (v : TextView). HasChecked v bytes) (sym c.self.view_is) h in
+    let o : IsOpen bytes c.self.inside.carried.items = rw c.in-None.is at h'.inner.is in
+    let some : 0 < length c.self.inside.carried.items = grind (arith, nat_tests) in
+    let size : length bytes - length c.self.inside.carried.items ≡ c.self.inside.pushed - c.len.result = omega (arith, h'.pushed, c.len.ensures.value) in
+    answers bytes _ (open-short bytes c.self.inside.carried.items _ o some size)

@@ -1,0 +1,33 @@
+//! Short texts of ASCII, seen at once.
+
+ghost use Rattle.std.specs.Prelude.{◌≡◌, ◌<◌, ◌+◌, ◌↔◌, true, take};
+ghost use Rattle.std.specs.Str.{IsAscii};
+
+use std::simd::prelude::*;
+
+/// Whether the first byte and so many bytes behind it are ASCII.
+#[inline(always)]
+pub fn is_ascii_front(chunk: &[u8; 32], count: u8) -> bool
+    requires { count < 32 }
+    ensures { (result ≡ true) ↔ IsAscii (take (count + 1) chunk.now) }
+{
+    let high = u8x32::from_array(*chunk)
+        .simd_ge(u8x32::splat(0x80))
+        .to_bitmask();
+    high << (63 - count) == 0
+}
+
+/// Whether so many bytes in front are ASCII. False says nothing: fewer than 32 may stand there, or
+/// more be asked for.
+#[inline(always)]
+pub fn is_short_ascii(front: &[u8], count: usize) -> bool
+    ensures { result ≡ true → IsAscii (take count front.now) }
+{
+    if count == 0 || count > 32 {
+        return false;
+    }
+    match front.first_chunk::<32>() {
+        Some(chunk) => is_ascii_front(chunk, count as u8 - 1),
+        None => false,
+    }
+}
