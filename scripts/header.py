@@ -33,8 +33,8 @@ TYPES = {
 STRUCTS = {
     "naltvigo_refusal": (CRATE / "status.rt", "NaltvigoRefusal"),
     "naltvigo_event": (CRATE / "streaming.rt", "NaltvigoEvent"),
-    "naltvigo_frame": (ROOT / "crates" / "cbor_events" / "src" / "machine" / "saved.rt", "SavedFrame"),
-    "naltvigo_machine": (ROOT / "crates" / "cbor_events" / "src" / "machine" / "saved.rt", "SavedMachine"),
+    "naltvigo_frame": (ROOT / "crates" / "cbor_machine" / "src" / "machine" / "saved.rt", "SavedFrame"),
+    "naltvigo_machine": (ROOT / "crates" / "cbor_machine" / "src" / "machine" / "saved.rt", "SavedMachine"),
 }
 
 

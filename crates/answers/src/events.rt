@@ -3,7 +3,7 @@
 use crate::asked::Asked;
 use crate::parts::Parts;
 use crate::writing::{put_hex, put_refusal};
-use cbor_events::{Event, EventKind};
+use cbor_automaton::{Event, EventKind};
 use cbor_head::{KeyOrder, Limits, Refusal, Width};
 use cbor_reader::StrictReader;
 use std::alloc::Global;

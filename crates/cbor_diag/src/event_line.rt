@@ -6,7 +6,7 @@ ghost use Rattle.arrayvec.specs.ArrayVec.{array_vec_len};
 ghost use Rattle.cbor_diag.specs.Listing.{columns, argument_text, width_text, line};
 
 use arrayvec::ArrayVec;
-use cbor_events::{Event, EventKind};
+use cbor_automaton::{Event, EventKind};
 use cbor_head::Width;
 use itoa::Buffer;
 

@@ -3,7 +3,7 @@
 ghost use Rattle.std.specs.Prelude.{◌≡◌, ◌≤◌, length};
 
 use crate::way::Step;
-use cbor_events::{Event, EventKind};
+use cbor_automaton::{Event, EventKind};
 use std::alloc::{AllocError, Global};
 
 // A container that is open.

@@ -9,12 +9,12 @@ use Rattle.cbor_head.specs.Complaint.{Rules}
 use Rattle.cbor_head.specs.declared.major.Major.TheVariants as majors
 use Rattle.cbor_head.specs.declared.width.Width.{Width}
 use Rattle.cbor_head.specs.declared.width.Width.TheVariants.{Direct, One, Two, Four, Eight, Indefinite}
-use Rattle.cbor_events.specs.Trace.{a_head}
-use Rattle.cbor_events.specs.inner.Automaton.{Frame, indefinite_array, State, at_item, close, expect}
-use Rattle.cbor_events.specs.inner.Taking.{IsTaking}
-use Rattle.cbor_events.specs.Marks.{count_of}
-use Rattle.cbor_events.specs.ItemEvents.{ItemEventsView}
-use Rattle.cbor_events.specs.declared.event.EventKind.TheVariants as kinds
+use Rattle.cbor_automaton.specs.Trace.{a_head}
+use Rattle.cbor_automaton.specs.inner.Automaton.{Frame, indefinite_array, State, at_item, close, expect}
+use Rattle.cbor_automaton.specs.inner.Taking.{IsTaking}
+use Rattle.cbor_automaton.specs.Marks.{count_of}
+use Rattle.cbor_machine.specs.NextEvent.{ItemEventsView}
+use Rattle.cbor_automaton.specs.declared.event.EventKind.TheVariants as kinds
 use Rattle.cbor_judging.specs.Reading.{IsAt, Extends, IsBegun, ReadsItem}
 use Rattle.cbor_judging.specs.SoFar.{IsArraySoFar, array_bytes}
 use Rattle.cbor_judging.proofs.Composition.{array_whole}

@@ -11,9 +11,9 @@ use Rattle.cbor_head.specs.declared.width.Width.{Width}
 use Rattle.cbor_head.specs.declared.width.Width.TheVariants.{Indefinite}
 use Rattle.cbor_head.proofs.Agree.{string_later, payload_end}
 use Rattle.cbor_head.proofs.OneFirst.{payload_last}
-use Rattle.cbor_events.specs.inner.Automaton.{Frame, State, at_item, in_head, in_simple, in_payload, in_chunks, done as at_end}
-use Rattle.cbor_events.proofs.Arguments.{number}
-use Rattle.cbor_events.proofs.Taking.{IsWithin}
+use Rattle.cbor_automaton.specs.inner.Automaton.{Frame, State, at_item, in_head, in_simple, in_payload, in_chunks, done as at_end}
+use Rattle.cbor_automaton.proofs.Arguments.{number}
+use Rattle.cbor_automaton.proofs.Taking.{IsWithin}
 use Rattle.cbor_judging.specs.Judged.{IsJudged, Never}
 use Rattle.cbor_judging.proofs.Leaves.{IsChunked, chunks_bytes, chunk_judged, chunks_so_far, chunks_split, are_chunks}
 use Rattle.cbor_judging.proofs.Heads.{zero_bytes, zero_length}

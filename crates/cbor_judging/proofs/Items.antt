@@ -13,16 +13,16 @@ use Rattle.cbor_head.specs.declared.width.Width.{Width}
 use Rattle.cbor_head.specs.declared.width.Width.TheVariants.{Direct, One, Two, Four, Eight, Indefinite}
 use Rattle.cbor_head.specs.declared.reason.Refusal.{Refusal}
 use Rattle.cbor_head.proofs.OneFirst.{last, count_last}
-use Rattle.cbor_events.specs.Trace.{Mark, a_head, a_chunk, a_byte, a_break}
-use Rattle.cbor_events.specs.inner.Automaton.{Frame, State, at_item}
-use Rattle.cbor_events.specs.inner.Taking.{Follows, Opens, Ends, IsTaking}
-use Rattle.cbor_events.specs.Marks as marks
-use Rattle.cbor_events.specs.Marks.{mark_of}
-use Rattle.cbor_events.specs.ItemEvents.{ItemEventsView}
-use Rattle.cbor_events.specs.declared.event.Event.{Event}
-use Rattle.cbor_events.specs.declared.event.EventKind.{EventKind}
-use Rattle.cbor_events.specs.declared.event.EventKind.TheVariants as kinds
-use Rattle.cbor_events.proofs.Taking.{nothing-taken}
+use Rattle.cbor_automaton.specs.Trace.{Mark, a_head, a_chunk, a_byte, a_break}
+use Rattle.cbor_automaton.specs.inner.Automaton.{Frame, State, at_item}
+use Rattle.cbor_automaton.specs.inner.Taking.{Follows, Opens, Ends, IsTaking}
+use Rattle.cbor_automaton.specs.Marks as marks
+use Rattle.cbor_automaton.specs.Marks.{mark_of}
+use Rattle.cbor_machine.specs.NextEvent.{ItemEventsView}
+use Rattle.cbor_automaton.specs.declared.event.Event.{Event}
+use Rattle.cbor_automaton.specs.declared.event.EventKind.{EventKind}
+use Rattle.cbor_automaton.specs.declared.event.EventKind.TheVariants as kinds
+use Rattle.cbor_automaton.proofs.Taking.{nothing-taken}
 use Rattle.cbor_judging.specs.Judged.{IsJudged}
 use Rattle.cbor_judging.specs.Reading.{Extends, IsFormRefusal, OfMark, IsBegun, ReadsItem, IsCause, HasCause, IsUndecided, StopsItem, IsNextHead, StopsHead}
 use Rattle.cbor_judging.proofs.Judged.{zero_item}

@@ -13,22 +13,22 @@ use Rattle.cbor_head.specs.declared.major.Major.{Major}
 use Rattle.cbor_head.specs.declared.width.Width.{Width}
 use Rattle.cbor_head.specs.declared.reason.Refusal.{Refusal}
 use Rattle.cbor_head.specs.declared.reason.Reason.TheVariants.{InvalidText}
-use Rattle.cbor_events.specs.Trace.{Mark, a_byte}
-use Rattle.cbor_events.specs.inner.Automaton.{Frame, counted, indefinite_array, indefinite_map, Outcome, refused, telling, State, at_item, in_head, in_simple, in_payload, in_chunks, done as at_end, close, close_string, payload, run, reached}
-use Rattle.cbor_events.specs.inner.Taking.{IsTaking}
-use Rattle.cbor_events.specs.Marks.{marks_of}
-use Rattle.cbor_events.specs.inner.State.{state_of, is_in_payload}
-use Rattle.cbor_events.specs.ItemEvents as item_events
-use Rattle.cbor_events.specs.ItemEvents.{ItemEventsView, IsNextEvent, IsKept, call}
-use Rattle.cbor_events.specs.Bytes.{IsEventBytes}
-use Rattle.cbor_events.specs.declared.frame.Frame as frames
-use Rattle.cbor_events.specs.declared.position.Position.{Position}
-use Rattle.cbor_events.specs.declared.position.Position.TheVariants as positions
-use Rattle.cbor_events.proofs.Forward.{payload-byte}
-use Rattle.cbor_events.specs.declared.event.Event.{Event}
-use Rattle.cbor_events.specs.declared.event.EventKind.{EventKind}
-use Rattle.cbor_events.specs.declared.event.EventKind.TheVariants as kinds
-use Rattle.cbor_events.proofs.Taking.{IsClear, IsWithin, nothing-taken, first-mark, within-start}
+use Rattle.cbor_automaton.specs.Trace.{Mark, a_byte}
+use Rattle.cbor_automaton.specs.inner.Automaton.{Frame, counted, indefinite_array, indefinite_map, Outcome, refused, telling, State, at_item, in_head, in_simple, in_payload, in_chunks, done as at_end, close, close_string, payload, run, reached}
+use Rattle.cbor_automaton.specs.inner.Taking.{IsTaking}
+use Rattle.cbor_automaton.specs.Marks.{marks_of}
+use Rattle.cbor_automaton.specs.inner.State.{state_of, is_in_payload}
+use Rattle.cbor_machine.specs.NextEvent as item_events
+use Rattle.cbor_machine.specs.NextEvent.{ItemEventsView, IsNextEvent, IsKept, call}
+use Rattle.cbor_automaton.specs.Bytes.{IsEventBytes}
+use Rattle.cbor_automaton.specs.declared.frame.Frame as frames
+use Rattle.cbor_automaton.specs.declared.position.Position.{Position}
+use Rattle.cbor_automaton.specs.declared.position.Position.TheVariants as positions
+use Rattle.cbor_automaton.proofs.Forward.{payload-byte}
+use Rattle.cbor_automaton.specs.declared.event.Event.{Event}
+use Rattle.cbor_automaton.specs.declared.event.EventKind.{EventKind}
+use Rattle.cbor_automaton.specs.declared.event.EventKind.TheVariants as kinds
+use Rattle.cbor_automaton.proofs.Taking.{IsClear, IsWithin, nothing-taken, first-mark, within-start}
 use Rattle.cbor_judging.specs.Reading.{IsAt, IsFormRefusal, IsMemory, ReadsPayload, StopsPayload}
 use Rattle.cbor_judging.proofs.Steps.{due-by, Stops, SameLimits, stands-reached, at-reached, reached-as, at-clear, next-at, since}
 use Rattle.cbor_judging.proofs.ByteLists.{bytes_join, bytes_back}

@@ -13,7 +13,7 @@ use Rattle.cbor_head.specs.declared.major.Major.{Major}
 use Rattle.cbor_head.specs.declared.major.Major.TheVariants.{Unsigned, Negative, Bytes, Text, Array, Map, Tag, Simple}
 use Rattle.cbor_head.specs.declared.width.Width.{Width}
 use Rattle.cbor_head.specs.declared.width.Width.TheVariants.{Direct, One, Two, Four, Eight, Indefinite}
-use Rattle.cbor_events.specs.inner.Automaton.{Frame}
+use Rattle.cbor_automaton.specs.inner.Automaton.{Frame}
 use Rattle.cbor_judging.specs.Judged.{IsFinding}
 use Rattle.cbor_judging.specs.Reading.{IsFormRefusal, IsCause, HasCause, StopsItem}
 use Rattle.cbor_judging.specs.Refusals.{IsFormReason, IsComplaintReason, IsReaderReason}

@@ -7,9 +7,9 @@ use Rattle.cbor_head.specs.Spelling.{unsigned, negative, simple}
 use Rattle.cbor_head.specs.Complaint.{Rules}
 use Rattle.cbor_head.specs.declared.major.Major.TheVariants as majors
 use Rattle.cbor_head.specs.declared.width.Width.{Width}
-use Rattle.cbor_events.specs.inner.Automaton.{Frame, State, close}
-use Rattle.cbor_events.specs.ItemEvents.{ItemEventsView}
-use Rattle.cbor_events.specs.declared.event.EventKind.TheVariants as kinds
+use Rattle.cbor_automaton.specs.inner.Automaton.{Frame, State, close}
+use Rattle.cbor_machine.specs.NextEvent.{ItemEventsView}
+use Rattle.cbor_automaton.specs.declared.event.EventKind.TheVariants as kinds
 use Rattle.cbor_judging.specs.Reading.{IsAt, Extends, IsBegun, ReadsItem}
 use Rattle.cbor_judging.proofs.Items.{definite, never-open, is-definite, head-count, extends-none}
 

@@ -14,7 +14,7 @@ use Rattle.cbor_head.specs.declared.width.Width.TheVariants.{Direct, One, Two, F
 use Rattle.cbor_head.proofs.Agree.{split_front}
 use Rattle.cbor_head.proofs.Parts.{holds_of}
 use Rattle.cbor_judging.proofs.ByteLists.{bytes_join, bytes_front}
-use Rattle.cbor_events.proofs.Longest.{longest_exists}
+use Rattle.cbor_automaton.proofs.Longest.{longest_exists}
 
 -- ---- heads
 

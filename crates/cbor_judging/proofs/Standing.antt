@@ -1,14 +1,14 @@
 -- Between two events: how many containers are open, and that few bytes are taken.
 use Rattle.std.proofs.Common.{◌≡◌, ℕ, zero, suc, ◌^◌, ◌<◌, ◌≤◌, List, ◌∷◌, [], length, refl, sym, ap, ◌∙◌, arith}
 use Rattle.cbor_head.specs.Limits.{Bounds}
-use Rattle.cbor_events.specs.ItemEvents.{ItemEventsView}
-use Rattle.cbor_events.specs.inner.Automaton.{Frame, counted, indefinite_array, indefinite_map, State, close, reached, done as at_end}
-use Rattle.cbor_events.proofs.Opens.{stack, opens as opens-stack}
+use Rattle.cbor_machine.specs.NextEvent.{ItemEventsView}
+use Rattle.cbor_automaton.specs.inner.Automaton.{Frame, counted, indefinite_array, indefinite_map, State, close, reached, done as at_end}
+use Rattle.cbor_automaton.proofs.Opens.{stack, opens as opens-stack}
 use Rattle.cbor_judging.specs.Reading.{IsAt}
-use Rattle.cbor_events.specs.inner.State.{state_of}
-use Rattle.cbor_events.specs.declared.frame.Frame as frames
-use Rattle.cbor_events.specs.declared.position.Position.{Position}
-use Rattle.cbor_events.specs.declared.position.Position.TheVariants as positions
+use Rattle.cbor_automaton.specs.inner.State.{state_of}
+use Rattle.cbor_automaton.specs.declared.frame.Frame as frames
+use Rattle.cbor_automaton.specs.declared.position.Position.{Position}
+use Rattle.cbor_automaton.specs.declared.position.Position.TheVariants as positions
 
 -- so many containers are open as the automaton has frames
 pub open-is : (b : Bounds) (e : ItemEventsView) (t : List ℕ) (q : State) → IsAt b e t q → e.machine.open_count ≡ length (stack q)

@@ -13,27 +13,27 @@ use Rattle.cbor_head.specs.declared.order.KeyOrder.{KeyOrder}
 use Rattle.cbor_head.specs.declared.reason.Reason.{Reason}
 use Rattle.cbor_head.specs.declared.reason.Reason.TheVariants as reasons
 use Rattle.cbor_head.specs.declared.reason.Refusal.{Refusal}
-use Rattle.cbor_events.specs.Trace.{Mark, a_head, a_chunk, a_byte, a_break}
-use Rattle.cbor_events.specs.inner.Automaton.{State, start, at_item, in_head, in_simple, in_payload, in_chunks, done, run, reached}
-use Rattle.cbor_events.specs.inner.Taking.{IsTaking}
-use Rattle.cbor_events.specs.Marks.{mark_of, marks_of, times}
-use Rattle.cbor_events.specs.inner.State.{state_of, is_in_payload}
-use Rattle.cbor_events.specs.MachineView.{MachineView}
-use Rattle.cbor_events.specs.Machine.{KeepsLimits, StandsFor, before}
-use Rattle.cbor_events.specs.ItemEvents as item_events
-use Rattle.cbor_events.specs.ItemEvents.{ItemEventsView, StandsBetween, IsNextEvent, IsCut, IsTooLong, HasFormError, IsNext, call}
-use Rattle.cbor_events.specs.declared.event.Event.{Event}
-use Rattle.cbor_events.specs.declared.event.EventKind.{EventKind}
-use Rattle.cbor_events.specs.declared.event.EventKind.TheVariants as kinds
-use Rattle.cbor_events.specs.declared.frame.Frame as frames
-use Rattle.cbor_events.specs.declared.position.Position.{Position}
-use Rattle.cbor_events.specs.declared.position.Position.TheVariants as positions
-use Rattle.cbor_events.proofs.Frames.{position-done}
-use Rattle.cbor_events.proofs.Runs.{once-marks}
-use Rattle.cbor_events.proofs.Taking.{IsClear, mark-taken}
+use Rattle.cbor_automaton.specs.Trace.{Mark, a_head, a_chunk, a_byte, a_break}
+use Rattle.cbor_automaton.specs.inner.Automaton.{State, start, at_item, in_head, in_simple, in_payload, in_chunks, done, run, reached}
+use Rattle.cbor_automaton.specs.inner.Taking.{IsTaking}
+use Rattle.cbor_automaton.specs.Marks.{mark_of, marks_of, times}
+use Rattle.cbor_automaton.specs.inner.State.{state_of, is_in_payload}
+use Rattle.cbor_machine.specs.MachineView.{MachineView}
+use Rattle.cbor_machine.specs.Machine.{KeepsLimits, StandsFor, before}
+use Rattle.cbor_machine.specs.NextEvent as item_events
+use Rattle.cbor_machine.specs.NextEvent.{ItemEventsView, StandsBetween, IsNextEvent, IsCut, IsTooLong, HasFormError, IsNext, call}
+use Rattle.cbor_automaton.specs.declared.event.Event.{Event}
+use Rattle.cbor_automaton.specs.declared.event.EventKind.{EventKind}
+use Rattle.cbor_automaton.specs.declared.event.EventKind.TheVariants as kinds
+use Rattle.cbor_automaton.specs.declared.frame.Frame as frames
+use Rattle.cbor_automaton.specs.declared.position.Position.{Position}
+use Rattle.cbor_automaton.specs.declared.position.Position.TheVariants as positions
+use Rattle.cbor_automaton.proofs.Frames.{position-done}
+use Rattle.cbor_automaton.proofs.Runs.{once-marks}
+use Rattle.cbor_automaton.proofs.Taking.{IsClear, mark-taken}
 use Rattle.cbor_judging.proofs.ByteLists.{bytes_back}
 use Rattle.cbor_judging.specs.Reading.{IsAt, IsReached, OfMark, IsHeadDue, IsNextHead, IsCutHead, StopsHead, IsFault}
-use Rattle.cbor_events.proofs.NextEvents.{whole-clear, run-rest}
+use Rattle.cbor_machine.proofs.NextEvents.{whole-clear, run-rest}
 
 -- what has become of the limits
 pub record SameLimits (old new : MachineView) : Type 0 where

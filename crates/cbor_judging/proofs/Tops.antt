@@ -14,8 +14,8 @@ use Rattle.cbor_head.specs.declared.reason.Reason.TheVariants.{Truncated, Read, 
 use Rattle.cbor_head.specs.declared.reason.Refusal.{Refusal}
 use Rattle.cbor_head.proofs.Agree.{split_front}
 use Rattle.cbor_head.proofs.Beginnings.{item_decides}
-use Rattle.cbor_events.proofs.Form.{no-complaint}
-use Rattle.cbor_events.specs.ItemEvents.{ItemEventsView}
+use Rattle.cbor_machine.proofs.Form.{no-complaint}
+use Rattle.cbor_machine.specs.NextEvent.{ItemEventsView}
 use Rattle.cbor_judging.specs.Judged.{IsJudged}
 use Rattle.cbor_judging.specs.Readers.{IsReadAs, IsUnread, of_verdict, of_reader, of_memory, Loses}
 use Rattle.cbor_judging.specs.Reading.{IsReached, IsMemory, IsCause, Extends, ReadsItem, IsUndecided, StopsItem}

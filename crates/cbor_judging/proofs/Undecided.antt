@@ -11,9 +11,9 @@ use Rattle.cbor_head.specs.declared.major.Major.TheVariants as majors
 use Rattle.cbor_head.specs.declared.width.Width.{Width}
 use Rattle.cbor_head.proofs.Agree.{body, parts}
 use Rattle.cbor_head.proofs.ReadLaws.{length_spell}
-use Rattle.cbor_events.specs.inner.Automaton.{Frame, State}
-use Rattle.cbor_events.specs.inner.Taking.{Follows}
-use Rattle.cbor_events.specs.ItemEvents.{ItemEventsView}
+use Rattle.cbor_automaton.specs.inner.Automaton.{Frame, State}
+use Rattle.cbor_automaton.specs.inner.Taking.{Follows}
+use Rattle.cbor_machine.specs.NextEvent.{ItemEventsView}
 use Rattle.cbor_judging.proofs.ByteLists.{bytes_front}
 use Rattle.cbor_judging.proofs.Heads.{Headed, headed}
 use Rattle.cbor_judging.proofs.Items.{IsDefinite}

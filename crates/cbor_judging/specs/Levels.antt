@@ -7,7 +7,7 @@ use Rattle.cbor_head.specs.Spelling.{Spelling, Spellings, SpelledEntries, array,
 use Rattle.cbor_head.specs.declared.major.Major.TheVariants.{Array, Map, Tag}
 use Rattle.cbor_head.specs.declared.width.Width.{Width}
 use Rattle.cbor_head.specs.declared.width.Width.TheVariants.{Indefinite}
-use Rattle.cbor_events.specs.inner.Automaton.{Frame, counted, indefinite_array, indefinite_map}
+use Rattle.cbor_automaton.specs.inner.Automaton.{Frame, counted, indefinite_array, indefinite_map}
 use Rattle.cbor_judging.specs.Frame.{with_all, with_entries}
 
 -- ---- items that were taken whole

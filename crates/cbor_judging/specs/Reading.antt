@@ -18,15 +18,15 @@ use Rattle.cbor_head.specs.declared.reason.Refusal.{Refusal}
 use Rattle.cbor_head.specs.declared.reason.Reason.{Reason}
 use Rattle.cbor_head.specs.declared.reason.Reason.TheVariants as reasons
 use Rattle.cbor_head.specs.declared.reason.Reason.TheVariants.{Truncated, Read, Memory, InvalidText}
-use Rattle.cbor_events.specs.Trace.{Mark, a_head, a_chunk}
-use Rattle.cbor_events.specs.inner.Automaton.{Frame, State, at_item, in_chunks, close, close_string, payload, run, reached}
-use Rattle.cbor_events.specs.inner.Taking.{IsTaking}
-use Rattle.cbor_events.specs.Marks.{mark_of, IsProper}
-use Rattle.cbor_events.specs.inner.State.{state_of}
-use Rattle.cbor_events.specs.ItemEvents.{ItemEventsView, StandsBetween}
-use Rattle.cbor_events.specs.declared.event.Event.{Event}
-use Rattle.cbor_events.specs.declared.event.EventKind.{EventKind}
-use Rattle.cbor_events.specs.declared.event.EventKind.TheVariants as kinds
+use Rattle.cbor_automaton.specs.Trace.{Mark, a_head, a_chunk}
+use Rattle.cbor_automaton.specs.inner.Automaton.{Frame, State, at_item, in_chunks, close, close_string, payload, run, reached}
+use Rattle.cbor_automaton.specs.inner.Taking.{IsTaking}
+use Rattle.cbor_automaton.specs.Marks.{mark_of, IsProper}
+use Rattle.cbor_automaton.specs.inner.State.{state_of}
+use Rattle.cbor_machine.specs.NextEvent.{ItemEventsView, StandsBetween}
+use Rattle.cbor_automaton.specs.declared.event.Event.{Event}
+use Rattle.cbor_automaton.specs.declared.event.EventKind.{EventKind}
+use Rattle.cbor_automaton.specs.declared.event.EventKind.TheVariants as kinds
 use Rattle.cbor_judging.specs.Judged.{IsJudged}
 use Rattle.cbor_judging.specs.Readers.{IsUnread, Loses}
 use Rattle.cbor_judging.specs.Refusals.{IsReaderReason}

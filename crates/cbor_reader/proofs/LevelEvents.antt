@@ -16,24 +16,24 @@ use Rattle.cbor_head.specs.declared.width.Width.TheVariants.{Indefinite}
 use Rattle.cbor_head.proofs.Accepted.{accepts_exactly}
 use Rattle.cbor_head.proofs.Counts.{holds_fits}
 use Rattle.cbor_head.proofs.ReadLaws.{length_spell}
-use Rattle.cbor_events.specs.Trace.{a_head}
-use Rattle.cbor_events.specs.Machine.{KeepsLimits}
-use Rattle.cbor_events.specs.Marks.{mark_of, IsProper}
-use Rattle.cbor_events.specs.ItemEvents.{ItemEventsView, IsNextEvent, IsEnd}
-use Rattle.cbor_events.specs.SliceEvents.{event_of, slice_call, IsNextTold, IsRefusedTold}
-use Rattle.cbor_events.specs.Token.{kind_of}
-use Rattle.cbor_events.specs.SliceView.{SliceEventsView, seen}
-use Rattle.cbor_events.specs.declared.event.Event.{Event}
-use Rattle.cbor_events.specs.declared.event.EventKind.TheVariants as kinds
-use Rattle.cbor_events.specs.declared.position.Position.{Position}
-use Rattle.cbor_events.specs.declared.position.Position.TheVariants as positions
-use Rattle.cbor_events.specs.declared.token.Token.{Token}
-use Rattle.cbor_events.specs.declared.token.Token.TheVariants as tokens
-use Rattle.cbor_events.specs.inner.Automaton.{Frame, State, at_item, close, expect}
-use Rattle.cbor_events.specs.inner.State.{state_of}
-use Rattle.cbor_events.specs.inner.Taking.{Ends, Follows, IsTaking}
-use Rattle.cbor_events.proofs.Frames.{position-done}
-use Rattle.cbor_events.proofs.Opens.{stack}
+use Rattle.cbor_automaton.specs.Trace.{a_head}
+use Rattle.cbor_machine.specs.Machine.{KeepsLimits}
+use Rattle.cbor_automaton.specs.Marks.{mark_of, IsProper}
+use Rattle.cbor_machine.specs.NextEvent.{ItemEventsView, IsNextEvent, IsEnd}
+use Rattle.cbor_slices.specs.SliceEvents.{event_of, slice_call, IsNextTold, IsRefusedTold}
+use Rattle.cbor_automaton.specs.Token.{kind_of}
+use Rattle.cbor_slices.specs.SliceView.{SliceEventsView, seen}
+use Rattle.cbor_automaton.specs.declared.event.Event.{Event}
+use Rattle.cbor_automaton.specs.declared.event.EventKind.TheVariants as kinds
+use Rattle.cbor_automaton.specs.declared.position.Position.{Position}
+use Rattle.cbor_automaton.specs.declared.position.Position.TheVariants as positions
+use Rattle.cbor_automaton.specs.declared.token.Token.{Token}
+use Rattle.cbor_automaton.specs.declared.token.Token.TheVariants as tokens
+use Rattle.cbor_automaton.specs.inner.Automaton.{Frame, State, at_item, close, expect}
+use Rattle.cbor_automaton.specs.inner.State.{state_of}
+use Rattle.cbor_automaton.specs.inner.Taking.{Ends, Follows, IsTaking}
+use Rattle.cbor_automaton.proofs.Frames.{position-done}
+use Rattle.cbor_automaton.proofs.Opens.{stack}
 use Rattle.cbor_item.specs.Built.{Built, built, TakesPart, IsInContainer, HasDistinctKeysSoFar}
 use Rattle.cbor_item.specs.Parts.{Open, an_array, plain as a_plain, a_map as an_open_map, give, opened, close as close_open}
 use Rattle.cbor_judging.specs.Levels.{IsTaken, Level, a_member, a_key, a_value, some_member, some_key, some_value, tagged, frame, AreLevels, bytes_before}

@@ -9,15 +9,15 @@ use Rattle.cbor_head.specs.Limits.{Bounds}
 use Rattle.cbor_head.specs.declared.major.Major.{Major}
 use Rattle.cbor_head.specs.declared.order.KeyOrder.{KeyOrder}
 use Rattle.cbor_head.specs.declared.width.Width.{Width}
-use Rattle.cbor_events.specs.Machine.{KeepsLimits}
-use Rattle.cbor_events.specs.ItemEvents.{StandsBetween}
-use Rattle.cbor_events.specs.SliceEvents.{event_of, IsNextTold, IsRefusedTold}
-use Rattle.cbor_events.specs.SliceView.{SliceEventsView, seen}
-use Rattle.cbor_events.specs.Token.{kind_of}
-use Rattle.cbor_events.specs.declared.event.EventKind.TheVariants as kinds
-use Rattle.cbor_events.specs.declared.token.Token.{Token}
-use Rattle.cbor_events.specs.declared.token.Token.TheVariants as tokens
-use Rattle.cbor_events.specs.inner.Automaton.{Frame, close, close_string, in_chunks, payload}
+use Rattle.cbor_machine.specs.Machine.{KeepsLimits}
+use Rattle.cbor_machine.specs.NextEvent.{StandsBetween}
+use Rattle.cbor_slices.specs.SliceEvents.{event_of, IsNextTold, IsRefusedTold}
+use Rattle.cbor_slices.specs.SliceView.{SliceEventsView, seen}
+use Rattle.cbor_automaton.specs.Token.{kind_of}
+use Rattle.cbor_automaton.specs.declared.event.EventKind.TheVariants as kinds
+use Rattle.cbor_automaton.specs.declared.token.Token.{Token}
+use Rattle.cbor_automaton.specs.declared.token.Token.TheVariants as tokens
+use Rattle.cbor_automaton.specs.inner.Automaton.{Frame, close, close_string, in_chunks, payload}
 use Rattle.cbor_item.specs.Built.{Built, built, TakesPart, IsInString}
 use Rattle.cbor_item.specs.Parts.{Open, a_string, give, opened, extended, close as close_open}
 use Rattle.cbor_reader.specs.inner.Levels.{TakesContent}
@@ -27,7 +27,7 @@ use Rattle.cbor_judging.proofs.Payloads.{none-come, part-comes, all-come}
 use Rattle.cbor_judging.proofs.Slices.{told-event, told-live}
 use Rattle.cbor_judging.proofs.Steps.{farther, limits-as}
 use Rattle.cbor_reader.proofs.LevelEvents.{plain-head}
-use Rattle.cbor_events.specs.Trace.{Mark}
+use Rattle.cbor_automaton.specs.Trace.{Mark}
 use Rattle.cbor_judging.proofs.WholeStrings.{IsReadingChunks, reads-string, chunk-due, chunk-next, chunk-farther, chunks-end}
 
 -- ---- a payload

@@ -21,15 +21,15 @@ use Rattle.cbor_head.specs.declared.width.Width.{Width}
 use Rattle.cbor_head.specs.declared.width.Width.TheVariants.{Direct, One, Two, Four, Eight, Indefinite}
 use Rattle.cbor_head.proofs.Counts.{holds_fits}
 use Rattle.cbor_head.proofs.ReadLaws.{length_spell}
-use Rattle.cbor_events.specs.ItemEvents.{ItemEventsView}
-use Rattle.cbor_events.specs.Marks.{mark_of}
-use Rattle.cbor_events.specs.Trace.{Mark, a_head, a_chunk, a_byte, a_break}
-use Rattle.cbor_events.specs.declared.event.Event.{Event}
-use Rattle.cbor_events.specs.declared.event.EventKind.{EventKind}
-use Rattle.cbor_events.specs.declared.event.EventKind.TheVariants as kinds
-use Rattle.cbor_events.specs.inner.Automaton.{Frame, State, at_item, close, expect, done as at_end}
-use Rattle.cbor_events.specs.inner.Taking.{Ends, IsTaking}
-use Rattle.cbor_events.proofs.Opens.{stack}
+use Rattle.cbor_machine.specs.NextEvent.{ItemEventsView}
+use Rattle.cbor_automaton.specs.Marks.{mark_of}
+use Rattle.cbor_automaton.specs.Trace.{Mark, a_head, a_chunk, a_byte, a_break}
+use Rattle.cbor_automaton.specs.declared.event.Event.{Event}
+use Rattle.cbor_automaton.specs.declared.event.EventKind.{EventKind}
+use Rattle.cbor_automaton.specs.declared.event.EventKind.TheVariants as kinds
+use Rattle.cbor_automaton.specs.inner.Automaton.{Frame, State, at_item, close, expect, done as at_end}
+use Rattle.cbor_automaton.specs.inner.Taking.{Ends, IsTaking}
+use Rattle.cbor_automaton.proofs.Opens.{stack}
 use Rattle.cbor_item.specs.Built.{Built, built, TakesPart, IsContainer, IsInContainer, IsLeaf, IsRepeatedKey, HasDistinctKeysSoFar}
 use Rattle.cbor_item.specs.Parts.{Open, an_array, plain as a_plain, a_map as an_open_map, give, opened, close as close_open}
 use Rattle.cbor_item.specs.OpenValues as trees

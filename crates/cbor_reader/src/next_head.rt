@@ -3,7 +3,8 @@
 ghost use Rattle.cbor_head.specs.Complaint.{plain};
 ghost use Rattle.cbor_judging.specs.Reading.{HasHeadDue, AnswersHead};
 
-use cbor_events::{Event, ItemEvents};
+use cbor_automaton::Event;
+use cbor_events::ItemEvents;
 use cbor_head::Refusal;
 use std::io::Read;
 

@@ -1,12 +1,12 @@
 //! The bytes of strings.
 
 ghost use Rattle.std.specs.Prelude.{◌≡◌, false};
-ghost use Rattle.cbor_events.specs.ItemEvents.{ItemEventsView};
+ghost use Rattle.cbor_machine.specs.NextEvent.{ItemEventsView};
 ghost use Rattle.cbor_judging.specs.Reading.{IsPayloadDue, AnswersPayload};
 
 use cbor_events::ItemEvents;
 use cbor_head::{Reason, Refusal};
-use cbor_strict::check_text;
+use cbor_text::check_text;
 use std::io::Read;
 
 // Memory is refused behind what was taken.

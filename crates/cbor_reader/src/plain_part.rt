@@ -2,12 +2,13 @@
 
 ghost use Rattle.std.specs.Prelude.{ℕ, List, MatchResult};
 ghost use Rattle.cbor_head.specs.Limits.{Bounds};
-ghost use Rattle.cbor_events.specs.inner.Automaton.{Frame};
-ghost use Rattle.cbor_events.specs.declared.event.Event.{Event as EventView};
+ghost use Rattle.cbor_automaton.specs.inner.Automaton.{Frame};
+ghost use Rattle.cbor_automaton.specs.declared.event.Event.{Event as EventView};
 ghost use Rattle.cbor_reader.specs.inner.PlainParts.{HasCome, AnswersPart};
 
 use crate::strings::read_string;
-use cbor_events::{Event, EventKind, ItemEvents};
+use cbor_automaton::{Event, EventKind};
+use cbor_events::ItemEvents;
 use cbor_head::{Major, Refusal};
 use std::alloc::Global;
 use std::io::Read;

@@ -6,12 +6,12 @@ ghost use Rattle.cbor_head.specs.Head.{shortest_head, IsSimple};
 ghost use Rattle.cbor_head.specs.Limits.{Bounds};
 ghost use Rattle.cbor_head.specs.declared.major.Major.TheVariants.{Simple};
 ghost use Rattle.cbor_head.specs.declared.order.KeyOrder.{KeyOrder as Order};
-ghost use Rattle.cbor_events.specs.ItemEvents.{StandsBetween};
-ghost use Rattle.cbor_events.specs.Machine.{KeepsLimits};
-ghost use Rattle.cbor_events.specs.SliceEvents.{IsNextTold, IsRefusedTold};
-ghost use Rattle.cbor_events.specs.SliceView.{SliceEventsView, seen};
-ghost use Rattle.cbor_events.specs.Trace.{Mark};
-ghost use Rattle.cbor_events.specs.inner.Automaton.{Frame, State, close_string, payload};
+ghost use Rattle.cbor_machine.specs.NextEvent.{StandsBetween};
+ghost use Rattle.cbor_machine.specs.Machine.{KeepsLimits};
+ghost use Rattle.cbor_slices.specs.SliceEvents.{IsNextTold, IsRefusedTold};
+ghost use Rattle.cbor_slices.specs.SliceView.{SliceEventsView, seen};
+ghost use Rattle.cbor_automaton.specs.Trace.{Mark};
+ghost use Rattle.cbor_automaton.specs.inner.Automaton.{Frame, State, close_string, payload};
 ghost use Rattle.cbor_head.specs.declared.major.Major.{Major as MajorType};
 ghost use Rattle.cbor_item.specs.Built.{built, IsLeaf, IsContainer, IsInString, TakesPart};
 ghost use Rattle.cbor_item.specs.Parts.{extended, give, opened};
@@ -24,11 +24,12 @@ ghost use Rattle.cbor_reader.specs.inner.Levels.{IsEvent, HasEvent, IsFed, Build
 ghost use Rattle.cbor_reader.specs.inner.Levels.{TakesContent, IsBuiltFront, IsBuiltOn};
 ghost use Rattle.cbor_reader.specs.inner.Levels.{HasWhole, IsWhole};
 
-use crate::ascii::is_short_ascii;
-use cbor_events::{SliceEvents, Token};
+use cbor_text::is_short_ascii;
+use cbor_automaton::Token;
+use cbor_slices::SliceEvents;
 use cbor_head::{KeyOrder, Limits, Major};
 use cbor_item::CanonBuilder;
-use cbor_strict::check_text;
+use cbor_text::check_text;
 use std::alloc::{AllocError, Global};
 
 /// The canonical bytes of the item that a slice begins with, and how many bytes the item has.

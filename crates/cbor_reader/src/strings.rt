@@ -3,14 +3,15 @@
 ghost use Rattle.std.specs.Prelude.{◌≡◌, ℕ, List, true, IsUtf8, MatchResult, None};
 ghost use Rattle.cbor_head.specs.Complaint.{plain};
 ghost use Rattle.cbor_head.specs.Limits.{Bounds};
-ghost use Rattle.cbor_events.specs.inner.Automaton.{Frame};
+ghost use Rattle.cbor_automaton.specs.inner.Automaton.{Frame};
 ghost use Rattle.cbor_head.specs.declared.width.Width.{Width};
 ghost use Rattle.cbor_judging.specs.Reading.{HasBegun, IsBegun, ReadsItem};
 ghost use Rattle.cbor_judging.specs.Reading.{StopsItem, string_kind, string_value};
 
 use crate::next_head::next_head;
 use crate::payload::read_chunk;
-use cbor_events::{EventKind, ItemEvents};
+use cbor_automaton::EventKind;
+use cbor_events::ItemEvents;
 use cbor_head::Refusal;
 use std::alloc::Global;
 use std::io::Read;

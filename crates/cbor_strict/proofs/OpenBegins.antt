@@ -13,13 +13,13 @@ use Rattle.cbor_head.specs.declared.order.KeyOrder.{KeyOrder}
 use Rattle.cbor_head.specs.declared.reason.Reason.TheVariants as reasons
 use Rattle.cbor_head.specs.declared.width.Width.{Width}
 use Rattle.cbor_head.specs.declared.width.Width.TheVariants.{Indefinite}
-use Rattle.cbor_events.specs.Trace.{Mark, a_head}
-use Rattle.cbor_events.specs.inner.Automaton.{Frame as Container, State, at_item, counted, close, expect, payload}
-use Rattle.cbor_events.specs.inner.Taking.{Ends}
-use Rattle.cbor_events.specs.ItemEvents.{ItemEventsView}
-use Rattle.cbor_events.specs.Marks.{mark_of}
-use Rattle.cbor_events.specs.declared.event.EventKind.{EventKind}
-use Rattle.cbor_events.specs.declared.event.EventKind.TheVariants as kinds
+use Rattle.cbor_automaton.specs.Trace.{Mark, a_head}
+use Rattle.cbor_automaton.specs.inner.Automaton.{Frame as Container, State, at_item, counted, close, expect, payload}
+use Rattle.cbor_automaton.specs.inner.Taking.{Ends}
+use Rattle.cbor_machine.specs.NextEvent.{ItemEventsView}
+use Rattle.cbor_automaton.specs.Marks.{mark_of}
+use Rattle.cbor_automaton.specs.declared.event.EventKind.{EventKind}
+use Rattle.cbor_automaton.specs.declared.event.EventKind.TheVariants as kinds
 use Rattle.cbor_judging.specs.Frame.{Frame, a_member, a_key, a_content, tagged, before}
 use Rattle.cbor_judging.specs.Judged.{IsJudged, Never}
 use Rattle.cbor_judging.specs.OpenMaps.{AreOpen, AreOpenDistinct}

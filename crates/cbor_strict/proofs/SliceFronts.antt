@@ -8,8 +8,8 @@ use Rattle.cbor_head.specs.Verdict.{Answer, accepted, refused, IsVerdict}
 use Rattle.cbor_head.specs.declared.order.KeyOrder.{KeyOrder}
 use Rattle.cbor_head.specs.declared.reason.Refusal.{Refusal}
 use Rattle.cbor_head.proofs.OneVerdict.{one_verdict}
-use Rattle.cbor_events.specs.SliceView.{SliceEventsView, seen}
-use Rattle.cbor_events.proofs.Slices.{verdict-within}
+use Rattle.cbor_slices.specs.SliceView.{SliceEventsView, seen}
+use Rattle.cbor_slices.proofs.Slices.{verdict-within}
 use Rattle.cbor_judging.specs.Readers.{IsRead, IsUnread, of_verdict, of_reader, of_memory, IsCanonicalFront, HasNoCanonicalFront}
 use Rattle.cbor_strict.specs.inner.SliceFront.{IsOver, IsStopped}
 use Rattle.cbor_judging.proofs.Fronts.{front-unread}

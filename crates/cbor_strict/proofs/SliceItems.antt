@@ -11,16 +11,16 @@ use Rattle.cbor_head.specs.declared.width.Width.TheVariants.{Direct, One, Two, F
 use Rattle.cbor_head.specs.declared.reason.Reason.{Reason}
 use Rattle.cbor_head.specs.declared.reason.Reason.TheVariants as reasons
 use Rattle.cbor_head.specs.declared.reason.Refusal.{Refusal}
-use Rattle.cbor_events.specs.Trace.{Mark, a_head, a_chunk, a_byte, a_break}
-use Rattle.cbor_events.specs.inner.Automaton.{State}
-use Rattle.cbor_events.specs.Marks.{mark_of}
-use Rattle.cbor_events.specs.ItemEvents.{IsNextEvent}
-use Rattle.cbor_events.specs.SliceEvents.{event_of, slice_call, IsNextTold, IsRefusedTold}
-use Rattle.cbor_events.specs.Machine.{KeepsLimits}
-use Rattle.cbor_events.specs.SliceView.{SliceEventsView, seen}
-use Rattle.cbor_events.specs.Token.{kind_of}
-use Rattle.cbor_events.specs.declared.token.Token.{Token}
-use Rattle.cbor_events.specs.declared.token.Token.TheVariants as tokens
+use Rattle.cbor_automaton.specs.Trace.{Mark, a_head, a_chunk, a_byte, a_break}
+use Rattle.cbor_automaton.specs.inner.Automaton.{State}
+use Rattle.cbor_automaton.specs.Marks.{mark_of}
+use Rattle.cbor_machine.specs.NextEvent.{IsNextEvent}
+use Rattle.cbor_slices.specs.SliceEvents.{event_of, slice_call, IsNextTold, IsRefusedTold}
+use Rattle.cbor_machine.specs.Machine.{KeepsLimits}
+use Rattle.cbor_slices.specs.SliceView.{SliceEventsView, seen}
+use Rattle.cbor_automaton.specs.Token.{kind_of}
+use Rattle.cbor_automaton.specs.declared.token.Token.{Token}
+use Rattle.cbor_automaton.specs.declared.token.Token.TheVariants as tokens
 use Rattle.cbor_judging.specs.Reading.{IsAt, IsFault, IsHeadFault, IsHeadDue, IsNextHead, StopsHead}
 use Rattle.cbor_strict.specs.inner.SliceChecks.{IsOfBytes, TakesPayload}
 use Rattle.cbor_judging.proofs.Reasons.{never-read}

@@ -8,21 +8,21 @@ use Rattle.cbor_head.specs.Complaint.{strict}
 use Rattle.cbor_head.specs.declared.major.Major.{Major}
 use Rattle.cbor_head.specs.declared.reason.Refusal.{Refusal}
 use Rattle.cbor_head.specs.declared.width.Width.{Width}
-use Rattle.cbor_events.specs.Reasons.{IsEventReason}
-use Rattle.cbor_events.specs.inner.Automaton.{Frame, State, at_item, payload, done}
-use Rattle.cbor_events.specs.inner.State.{state_of}
-use Rattle.cbor_events.specs.inner.Taking.{IsTaking}
-use Rattle.cbor_events.specs.Trace.{Mark, a_byte, total}
-use Rattle.cbor_events.specs.Machine.{IsComplete}
-use Rattle.cbor_events.specs.Marks.{marks_of, mark_of, IsProper}
-use Rattle.cbor_events.specs.ItemEvents.{ItemEventsView, StandsBetween, IsNextEvent, IsEnd, IsCut, IsTooLong, HasFormError, Call, call, IsKept as IsPieceKept}
-use Rattle.cbor_events.specs.declared.event.Event.{Event}
-use Rattle.cbor_events.specs.declared.event.EventKind.{EventKind}
-use Rattle.cbor_events.specs.declared.event.EventKind.TheVariants as kinds
-use Rattle.cbor_events.specs.declared.position.Position.{Position}
-use Rattle.cbor_events.proofs.Frames.{position-done}
+use Rattle.cbor_automaton.specs.Reasons.{IsEventReason}
+use Rattle.cbor_automaton.specs.inner.Automaton.{Frame, State, at_item, payload, done}
+use Rattle.cbor_automaton.specs.inner.State.{state_of}
+use Rattle.cbor_automaton.specs.inner.Taking.{IsTaking}
+use Rattle.cbor_automaton.specs.Trace.{Mark, a_byte, total}
+use Rattle.cbor_machine.specs.Machine.{IsComplete}
+use Rattle.cbor_automaton.specs.Marks.{marks_of, mark_of, IsProper}
+use Rattle.cbor_machine.specs.NextEvent.{ItemEventsView, StandsBetween, IsNextEvent, IsEnd, IsCut, IsTooLong, HasFormError, Call, call, IsKept as IsPieceKept}
+use Rattle.cbor_automaton.specs.declared.event.Event.{Event}
+use Rattle.cbor_automaton.specs.declared.event.EventKind.{EventKind}
+use Rattle.cbor_automaton.specs.declared.event.EventKind.TheVariants as kinds
+use Rattle.cbor_automaton.specs.declared.position.Position.{Position}
+use Rattle.cbor_automaton.proofs.Frames.{position-done}
 use Rattle.cbor_events.proofs.Rows.{total-append}
-use Rattle.cbor_events.proofs.Taking.{nothing-taken}
+use Rattle.cbor_automaton.proofs.Taking.{nothing-taken}
 use Rattle.cbor_strict.specs.declared.open_items.OpenItems.{OpenItems}
 use Rattle.cbor_strict.specs.inner.OpenItems.{frames_in, bytes_before, Stands, HasHeadCome, HasPartCome}
 use Rattle.cbor_judging.specs.Reading.{IsAt, IsFormRefusal, HasCause, string_major}

@@ -3,7 +3,7 @@ use Rattle.std.specs.Prelude.{ℕ, ◌+◌, ◌-◌, nat_lt, if◌then◌else◌
 use Rattle.cbor_head.specs.Head.{head}
 use Rattle.cbor_head.specs.Spelling.{Spelling, Spellings, SpelledEntries, array, a_map, tag, no_spellings, a_spelling, no_entries, entry, spellings_count, entries_count, spell}
 use Rattle.cbor_head.specs.declared.major.Major.TheVariants.{Array, Map, Tag}
-use Rattle.cbor_events.specs.Open.{if_open}
+use Rattle.cbor_automaton.specs.Open.{if_open}
 
 -- the maps that are open after the first n bytes of an item, with those in a key that is not complete
 abbrev mutual

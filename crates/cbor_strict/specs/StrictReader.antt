@@ -10,15 +10,15 @@ use Rattle.cbor_head.specs.declared.reason.Reason.{Reason}
 use Rattle.cbor_head.specs.declared.reason.Reason.TheVariants.{Memory}
 use Rattle.cbor_head.specs.declared.reason.Refusal.{Refusal}
 use Rattle.cbor_head.specs.declared.width.Width.{Width}
-use Rattle.cbor_events.specs.Bytes.{IsEventBytes}
-use Rattle.cbor_events.specs.Trace.{Mark}
-use Rattle.cbor_events.specs.Marks.{marks_of}
-use Rattle.cbor_events.specs.MachineView.{MachineView}
-use Rattle.cbor_events.specs.Machine.{IsComplete}
-use Rattle.cbor_events.specs.ItemEvents.{StandsBetween, Call, machine_call, IsNextEvent, IsEnd, IsCut, IsTooLong, HasFormError}
-use Rattle.cbor_events.specs.declared.event.Event.{Event}
-use Rattle.cbor_events.specs.declared.event.EventKind.{EventKind}
-use Rattle.cbor_events.specs.declared.event.EventKind.TheVariants.{Piece}
+use Rattle.cbor_automaton.specs.Bytes.{IsEventBytes}
+use Rattle.cbor_automaton.specs.Trace.{Mark}
+use Rattle.cbor_automaton.specs.Marks.{marks_of}
+use Rattle.cbor_machine.specs.MachineView.{MachineView}
+use Rattle.cbor_machine.specs.Machine.{IsComplete}
+use Rattle.cbor_machine.specs.NextEvent.{StandsBetween, Call, machine_call, IsNextEvent, IsEnd, IsCut, IsTooLong, HasFormError}
+use Rattle.cbor_automaton.specs.declared.event.Event.{Event}
+use Rattle.cbor_automaton.specs.declared.event.EventKind.{EventKind}
+use Rattle.cbor_automaton.specs.declared.event.EventKind.TheVariants.{Piece}
 use Rattle.cbor_strict.specs.KeptKeys.{open_maps, key_bytes}
 use Rattle.cbor_judging.specs.Readers.{IsUnread}
 use Rattle.cbor_judging.specs.Refusals.{IsComplaintReason}

@@ -2,7 +2,7 @@
 
 ghost use Rattle.std.specs.Prelude.{◌≡◌, ◌<◌, ◌++◌, ◌∷◌, [], length, MatchResult};
 ghost use Rattle.cbor_head.specs.Limits.{Bounds};
-ghost use Rattle.cbor_events.specs.SliceView.{SliceEventsView};
+ghost use Rattle.cbor_slices.specs.SliceView.{SliceEventsView};
 ghost use Rattle.cbor_strict.specs.inner.SliceFront.{a_level, AreKeysWithin, IsBehind, DoesFall};
 ghost use Rattle.cbor_strict.specs.inner.SliceFront.{HasEnded, HasSomeEnded, AnswersEnd};
 

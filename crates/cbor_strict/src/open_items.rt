@@ -5,8 +5,8 @@ ghost use Rattle.std.specs.Prelude.{OnOk, IfErr, MatchOption, MatchResult, IsUtf
 ghost use Rattle.std.specs.Str.Lossy.{utf8_valid_len};
 ghost use Rattle.cbor_head.specs.Head.{IsSimple, major_number, shortest_head};
 ghost use Rattle.cbor_head.specs.Complaint.{strict};
-ghost use Rattle.cbor_events.specs.Marks.{mark_of};
-ghost use Rattle.cbor_events.specs.TextCheck.{HasChecked};
+ghost use Rattle.cbor_automaton.specs.Marks.{mark_of};
+ghost use Rattle.cbor_text.specs.TextCheck.{HasChecked};
 ghost use Rattle.cbor_strict.specs.StrictReader.{IsAgainstEvent};
 ghost use Rattle.cbor_judging.specs.Frame.{Frame};
 ghost use Rattle.cbor_strict.specs.inner.LastKeys.{IsKept, seen};
@@ -18,7 +18,8 @@ ghost use Rattle.cbor_strict.specs.inner.OpenItems.{AnswersBegun};
 ghost use Rattle.cbor_strict.specs.inner.OpenItems.{IsSameString, IsBegunBy, short_head};
 
 use crate::last_keys::{Due, LastKeys};
-use cbor_events::{Event, EventKind, TextCheck};
+use cbor_automaton::{Event, EventKind};
+use cbor_text::TextCheck;
 use cbor_head::{Head, KeyOrder, Major, Reason, Refusal, Width};
 use std::alloc::{AllocError, Global};
 

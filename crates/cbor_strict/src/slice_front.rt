@@ -10,7 +10,8 @@ ghost use Rattle.cbor_strict.specs.inner.SliceFront.{HasEnded, HasEndedSomewhere
 
 use crate::key_spans::{Behind, KeySpans};
 use crate::slice_heads::{check_string, next_head};
-use cbor_events::{SliceEvents, Token};
+use cbor_automaton::Token;
+use cbor_slices::SliceEvents;
 use cbor_head::{KeyOrder, Limits, Reason, Refusal};
 
 // How many bytes the item has.

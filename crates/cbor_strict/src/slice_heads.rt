@@ -3,14 +3,15 @@
 ghost use Rattle.std.specs.Prelude.{◌≡◌, false, IsSome, MatchOption, Some};
 ghost use Rattle.cbor_head.specs.Complaint.{strict};
 ghost use Rattle.cbor_head.specs.declared.reason.Reason.{Reason};
-ghost use Rattle.cbor_events.specs.Marks.{mark_of};
-ghost use Rattle.cbor_events.specs.Token.{kind_of};
-ghost use Rattle.cbor_events.specs.SliceView.{seen};
+ghost use Rattle.cbor_automaton.specs.Marks.{mark_of};
+ghost use Rattle.cbor_automaton.specs.Token.{kind_of};
+ghost use Rattle.cbor_slices.specs.SliceView.{seen};
 ghost use Rattle.cbor_judging.specs.Reading.{HasHeadDue, IsPayloadDue, IsFault};
 ghost use Rattle.cbor_strict.specs.inner.SliceChecks.{AnswersSliceHead, ChecksPayload};
 
-use crate::text::check_text;
-use cbor_events::{SliceEvents, Token};
+use cbor_text::check_text;
+use cbor_automaton::Token;
+use cbor_slices::SliceEvents;
 use cbor_head::{Head, KeyOrder, Major, Reason, Refusal, Width};
 
 // Why no more is told.

@@ -3,10 +3,10 @@
 ghost use Rattle.std.specs.Prelude.{◌≡◌, ◌≤◌, ℕ, List, [], length, None, Some, OnOk, OnErr};
 ghost use Rattle.std.specs.Prelude.{IfErr, IfSome, Err};
 ghost use Rattle.cbor_head.specs.Complaint.{strict};
-ghost use Rattle.cbor_events.specs.Trace.{Mark};
-ghost use Rattle.cbor_events.specs.Marks.{IsProper};
-ghost use Rattle.cbor_events.specs.Machine.{KeepsLimits, IsIdle};
-ghost use Rattle.cbor_events.specs.ItemEvents.{IfTold, StandsBetween, call};
+ghost use Rattle.cbor_automaton.specs.Trace.{Mark};
+ghost use Rattle.cbor_automaton.specs.Marks.{IsProper};
+ghost use Rattle.cbor_machine.specs.Machine.{KeepsLimits, IsIdle};
+ghost use Rattle.cbor_machine.specs.NextEvent.{IfTold, StandsBetween, call};
 ghost use Rattle.cbor_judging.specs.Refusals.{IsReaderReason};
 ghost use Rattle.cbor_strict.specs.StrictReader.{StrictEventsView, StandsStrictly};
 ghost use Rattle.cbor_strict.specs.StrictReader.{IsNextStrict, StopsAtOnce, strict_call};
@@ -15,7 +15,8 @@ ghost use Rattle.cbor_strict.specs.inner.StrictEvents.{StandsSomewhere, AnswersS
 ghost use Rattle.cbor_strict.specs.inner.StrictEvents.{IsLittle};
 
 use crate::open_items::OpenItems;
-use cbor_events::{Event, EventKind, ItemEvents};
+use cbor_automaton::{Event, EventKind};
+use cbor_events::ItemEvents;
 use cbor_head::{KeyOrder, Limits, Refusal};
 use std::alloc::Global;
 use std::io::Read;

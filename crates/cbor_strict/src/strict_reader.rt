@@ -4,10 +4,10 @@ ghost use Rattle.std.specs.Prelude.{◌≡◌, ◌≢◌, ◌≤◌, ℕ, List, 
 ghost use Rattle.std.specs.Prelude.{IfOk, IfErr, IfSome, OnOk, OnErr};
 ghost use Rattle.cbor_head.specs.Complaint.{strict};
 ghost use Rattle.cbor_head.specs.declared.reason.Reason.TheVariants as reasons;
-ghost use Rattle.cbor_events.specs.Trace.{Mark};
-ghost use Rattle.cbor_events.specs.Marks.{IsProper};
-ghost use Rattle.cbor_events.specs.Machine.{KeepsLimits, IsIdle};
-ghost use Rattle.cbor_events.specs.ItemEvents.{IfTold};
+ghost use Rattle.cbor_automaton.specs.Trace.{Mark};
+ghost use Rattle.cbor_automaton.specs.Marks.{IsProper};
+ghost use Rattle.cbor_machine.specs.Machine.{KeepsLimits, IsIdle};
+ghost use Rattle.cbor_machine.specs.NextEvent.{IfTold};
 ghost use Rattle.cbor_judging.specs.Readers.{IsRead, IsUnread, IsCanonicalFront};
 ghost use Rattle.cbor_judging.specs.Readers.{HasNoCanonicalFront, Loses};
 ghost use Rattle.cbor_judging.specs.Refusals.{IsReaderReason};
@@ -16,7 +16,7 @@ ghost use Rattle.cbor_strict.specs.StrictReader.{IsNextStrict, strict_call};
 
 use crate::strict_events::StrictEvents;
 use crate::strict_front::read_strict_front;
-use cbor_events::Event;
+use cbor_automaton::Event;
 use cbor_head::{KeyOrder, Limits, Refusal};
 use std::alloc::Global;
 use std::io::Read;

@@ -1,15 +1,16 @@
 //! The events of an item whose bytes come in parts.
 
 ghost use Rattle.std.specs.Prelude.{◌≡◌, ◌≢◌, ◌⊎◌, ◌≤◌, length, take};
-ghost use Rattle.cbor_events.specs.MachineView.{MachineView};
-ghost use Rattle.cbor_events.specs.Saved.{Holds};
+ghost use Rattle.cbor_machine.specs.MachineView.{MachineView};
+ghost use Rattle.cbor_machine.specs.Saved.{Holds};
 ghost use Rattle.cbor_head.specs.Limits.{bounds, AreBounds};
 ghost use Rattle.naltvigo.specs.Streaming.{IsToldEvent, IsToldOut, Starts, Streams};
 ghost use Rattle.naltvigo.specs.Streaming.{kind_number, number_of, width_number};
 
 use crate::settings::limits_of;
 use crate::status::{BAD_LIMITS, BAD_MACHINE, EVENT, MORE, NaltvigoRefusal, OK, REFUSED, told};
-use cbor_events::{Event, EventKind, Machine, Out, SavedMachine};
+use cbor_automaton::{Event, EventKind};
+use cbor_machine::{Machine, Out, SavedMachine};
 use cbor_head::Width;
 
 /// The kind of a chunk's head; below it are the major types.

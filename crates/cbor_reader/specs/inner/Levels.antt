@@ -10,16 +10,16 @@ use Rattle.cbor_head.specs.Value.{Value}
 use Rattle.cbor_head.specs.declared.major.Major.TheVariants.{Tag}
 use Rattle.cbor_head.specs.declared.order.KeyOrder.{KeyOrder}
 use Rattle.cbor_head.specs.declared.width.Width.{Width}
-use Rattle.cbor_events.specs.SliceEvents.{event_of, IsNextTold}
-use Rattle.cbor_events.specs.SliceView.{SliceEventsView, seen}
-use Rattle.cbor_events.specs.declared.event.EventKind.{EventKind}
-use Rattle.cbor_events.specs.declared.token.Token.{Token}
-use Rattle.cbor_events.specs.declared.token.Token.TheVariants as tokens
-use Rattle.cbor_events.specs.Token.{IsStringToken}
-use Rattle.cbor_events.specs.Trace.{Mark}
-use Rattle.cbor_events.specs.Machine.{KeepsLimits}
-use Rattle.cbor_events.specs.ItemEvents.{StandsBetween}
-use Rattle.cbor_events.specs.inner.Automaton.{Frame, State, at_item, close, done as at_end}
+use Rattle.cbor_slices.specs.SliceEvents.{event_of, IsNextTold}
+use Rattle.cbor_slices.specs.SliceView.{SliceEventsView, seen}
+use Rattle.cbor_automaton.specs.declared.event.EventKind.{EventKind}
+use Rattle.cbor_automaton.specs.declared.token.Token.{Token}
+use Rattle.cbor_automaton.specs.declared.token.Token.TheVariants as tokens
+use Rattle.cbor_automaton.specs.Token.{IsStringToken}
+use Rattle.cbor_automaton.specs.Trace.{Mark}
+use Rattle.cbor_machine.specs.Machine.{KeepsLimits}
+use Rattle.cbor_machine.specs.NextEvent.{StandsBetween}
+use Rattle.cbor_automaton.specs.inner.Automaton.{Frame, State, at_item, close, done as at_end}
 use Rattle.cbor_item.specs.Built.{Built, built, IsInContainer}
 use Rattle.cbor_item.specs.Parts as parts
 use Rattle.cbor_item.specs.Parts.{Open, plain as a_plain, an_array, a_map, give, closed, HasNoRepeats}

@@ -4,8 +4,8 @@ use Rattle.std.specs.Prelude.{ℕ, suc, ◌≡◌, ◌<◌, ◌++◌, List, [], 
 use Rattle.cbor_head.specs.Head.{shortest_head, IsSimple}
 use Rattle.cbor_head.specs.Limits.{Bounds}
 use Rattle.cbor_head.specs.declared.major.Major.TheVariants as majors
-use Rattle.cbor_events.specs.ItemEvents.{ItemEventsView}
-use Rattle.cbor_events.specs.inner.Automaton.{State}
+use Rattle.cbor_machine.specs.NextEvent.{ItemEventsView}
+use Rattle.cbor_automaton.specs.inner.Automaton.{State}
 use Rattle.cbor_item.specs.Built.{Built, built, TakesPart, IsContainer, IsLeaf, IsRepeatedKey}
 use Rattle.cbor_item.specs.Pairs.{HasDistinctBytes}
 use Rattle.cbor_item.specs.Parts.{Open, a_map, a_key, give, opened}

@@ -9,12 +9,12 @@ use Rattle.cbor_head.specs.declared.major.Major.{Major}
 use Rattle.cbor_head.specs.declared.major.Major.TheVariants as majors
 use Rattle.cbor_head.specs.declared.reason.Refusal.{Refusal}
 use Rattle.cbor_head.specs.declared.width.Width.{Width}
-use Rattle.cbor_events.specs.inner.Automaton.{Frame, State, at_item}
-use Rattle.cbor_events.specs.inner.Taking.{IsTaking}
-use Rattle.cbor_events.specs.ItemEvents.{ItemEventsView}
-use Rattle.cbor_events.specs.Marks.{mark_of, IsProper}
-use Rattle.cbor_events.specs.declared.event.EventKind.{EventKind}
-use Rattle.cbor_events.specs.declared.event.EventKind.TheVariants as kinds
+use Rattle.cbor_automaton.specs.inner.Automaton.{Frame, State, at_item}
+use Rattle.cbor_automaton.specs.inner.Taking.{IsTaking}
+use Rattle.cbor_machine.specs.NextEvent.{ItemEventsView}
+use Rattle.cbor_automaton.specs.Marks.{mark_of, IsProper}
+use Rattle.cbor_automaton.specs.declared.event.EventKind.{EventKind}
+use Rattle.cbor_automaton.specs.declared.event.EventKind.TheVariants as kinds
 use Rattle.cbor_reader.specs.declared.plain_part.Part.{Part}
 use Rattle.cbor_reader.specs.declared.plain_part.Part.TheVariants.{Leaf, String, Begin, Break}
 use Rattle.cbor_judging.specs.Reading.{IsAt, ReadsItem, StopsItem, string_value}

@@ -8,15 +8,15 @@ use Rattle.cbor_head.specs.Complaint.{Rules, strict, Complaint, OfHead, Complain
 use Rattle.cbor_head.specs.Limits.{Bounds}
 use Rattle.cbor_head.specs.declared.reason.Refusal.{Refusal}
 use Rattle.cbor_head.specs.declared.width.Width.{Width}
-use Rattle.cbor_events.specs.inner.Automaton.{Frame as Container, State, at_item, counted, close, payload, done as at_end}
-use Rattle.cbor_events.specs.inner.Taking.{IsTaking}
-use Rattle.cbor_events.specs.ItemEvents.{ItemEventsView}
-use Rattle.cbor_events.specs.Marks.{mark_of, IsProper}
-use Rattle.cbor_events.specs.TextCheck.{HasChecked}
+use Rattle.cbor_automaton.specs.inner.Automaton.{Frame as Container, State, at_item, counted, close, payload, done as at_end}
+use Rattle.cbor_automaton.specs.inner.Taking.{IsTaking}
+use Rattle.cbor_machine.specs.NextEvent.{ItemEventsView}
+use Rattle.cbor_automaton.specs.Marks.{mark_of, IsProper}
+use Rattle.cbor_text.specs.TextCheck.{HasChecked}
 use Rattle.cbor_head.specs.declared.major.Major.TheVariants as majors
-use Rattle.cbor_events.specs.declared.event.Event.{Event}
-use Rattle.cbor_events.specs.declared.event.EventKind.{EventKind}
-use Rattle.cbor_events.specs.declared.event.EventKind.TheVariants as kinds
+use Rattle.cbor_automaton.specs.declared.event.Event.{Event}
+use Rattle.cbor_automaton.specs.declared.event.EventKind.{EventKind}
+use Rattle.cbor_automaton.specs.declared.event.EventKind.TheVariants as kinds
 use Rattle.cbor_strict.specs.declared.open_items.Begun.{Begun}
 use Rattle.cbor_strict.specs.declared.open_items.Begun.TheVariants.{Leaf, String, Map as BegunMap, Other}
 use Rattle.cbor_strict.specs.declared.open_items.OpenItems.{OpenItems}

@@ -5,10 +5,10 @@ use Rattle.cbor_head.specs.Complaint.{Rules}
 use Rattle.cbor_head.specs.declared.major.Major.{Major}
 use Rattle.cbor_head.specs.declared.reason.Refusal.{Refusal}
 use Rattle.cbor_head.specs.declared.reason.Reason.TheVariants.{Read}
-use Rattle.cbor_events.specs.inner.Automaton.{Frame, State, close_string, payload}
-use Rattle.cbor_events.specs.SliceEvents.{event_of}
-use Rattle.cbor_events.specs.SliceView.{SliceEventsView, seen}
-use Rattle.cbor_events.specs.declared.token.Token.{Token}
+use Rattle.cbor_automaton.specs.inner.Automaton.{Frame, State, close_string, payload}
+use Rattle.cbor_slices.specs.SliceEvents.{event_of}
+use Rattle.cbor_slices.specs.SliceView.{SliceEventsView, seen}
+use Rattle.cbor_automaton.specs.declared.token.Token.{Token}
 use Rattle.cbor_judging.specs.Reading.{IsAt, IsMemory, IsHeadDue, IsNextHead, StopsHead, ReadsPayload, StopsPayload}
 
 -- no reader failed, and no memory was asked for

@@ -13,11 +13,11 @@ use Rattle.cbor_head.specs.declared.order.KeyOrder.{KeyOrder}
 use Rattle.cbor_head.specs.declared.reason.Reason.TheVariants as reasons
 use Rattle.cbor_head.specs.declared.reason.Refusal.{Refusal}
 use Rattle.cbor_head.specs.declared.width.Width.{Width}
-use Rattle.cbor_events.specs.inner.Automaton.{at_item, close}
-use Rattle.cbor_events.specs.SliceView.{SliceEventsView, seen}
-use Rattle.cbor_events.specs.Token.{kind_of}
-use Rattle.cbor_events.specs.declared.event.EventKind.{EventKind}
-use Rattle.cbor_events.specs.declared.token.Token.{Token}
+use Rattle.cbor_automaton.specs.inner.Automaton.{at_item, close}
+use Rattle.cbor_slices.specs.SliceView.{SliceEventsView, seen}
+use Rattle.cbor_automaton.specs.Token.{kind_of}
+use Rattle.cbor_automaton.specs.declared.event.EventKind.{EventKind}
+use Rattle.cbor_automaton.specs.declared.token.Token.{Token}
 use Rattle.cbor_strict.specs.declared.key_spans.Behind.{Behind}
 use Rattle.cbor_strict.specs.declared.key_spans.Behind.TheVariants as behinds
 use Rattle.cbor_strict.specs.declared.key_spans.Level.{Level}

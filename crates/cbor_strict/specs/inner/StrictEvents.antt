@@ -5,11 +5,11 @@ use Rattle.cbor_head.specs.Complaint.{Rules, strict}
 use Rattle.cbor_head.specs.Limits.{Bounds, bounds}
 use Rattle.cbor_head.specs.declared.order.KeyOrder.{KeyOrder}
 use Rattle.cbor_head.specs.declared.reason.Refusal.{Refusal}
-use Rattle.cbor_events.specs.Trace.{Mark}
-use Rattle.cbor_events.specs.MachineView.{MachineView}
-use Rattle.cbor_events.specs.Machine.{IsComplete}
-use Rattle.cbor_events.specs.ItemEvents.{ItemEventsView, StandsBetween, IsNextEvent, IsEnd, call}
-use Rattle.cbor_events.specs.declared.event.Event.{Event}
+use Rattle.cbor_automaton.specs.Trace.{Mark}
+use Rattle.cbor_machine.specs.MachineView.{MachineView}
+use Rattle.cbor_machine.specs.Machine.{IsComplete}
+use Rattle.cbor_machine.specs.NextEvent.{ItemEventsView, StandsBetween, IsNextEvent, IsEnd, call}
+use Rattle.cbor_automaton.specs.declared.event.Event.{Event}
 use Rattle.cbor_strict.specs.declared.open_items.OpenItems.{OpenItems}
 use Rattle.cbor_judging.specs.Readers.{IsRead, Loses}
 use Rattle.cbor_strict.specs.inner.LastKeys.{seen}

@@ -2,7 +2,7 @@
 //! hand, from the bytes of the keys.
 
 use super::limits;
-use cbor_events::{Event, EventKind};
+use cbor_automaton::{Event, EventKind};
 use cbor_head::{Limits, Width};
 use cbor_strict::{KeyOrder, StrictReader};
 use std::alloc::{AllocError, Global};

@@ -1,6 +1,6 @@
 //! Texts, and what is none (RFC 3629, section 4).
 
-use cbor_strict::{check_text, is_ascii_front};
+use cbor_text::{check_text, is_ascii_front};
 
 #[test]
 fn tells_how_far_a_text_goes(rt: HostRuntime) {

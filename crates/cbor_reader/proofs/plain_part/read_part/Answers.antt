@@ -1,4 +1,4 @@
-use Rattle.cbor_events.specs.declared.event.EventKind.TheVariants as kinds
+use Rattle.cbor_automaton.specs.declared.event.EventKind.TheVariants as kinds
 use Rattle.cbor_head.specs.Complaint.{plain}
 use Rattle.cbor_reader.proofs.PlainSteps.{come-begun, simple-begun}
 use Rattle.cbor_judging.proofs.Scalars.{reads-unsigned, reads-negative, reads-simple}

@@ -3,8 +3,8 @@ use Rattle.std.specs.Prelude.{Some, None}
 use Rattle.cbor_head.specs.Complaint.{plain}
 use Rattle.cbor_head.specs.Limits.{Bounds}
 use Rattle.cbor_head.specs.declared.width.Width.{Width}
-use Rattle.cbor_events.specs.SliceView.{seen}
-use Rattle.cbor_events.specs.inner.Automaton.{Frame}
+use Rattle.cbor_slices.specs.SliceView.{seen}
+use Rattle.cbor_automaton.specs.inner.Automaton.{Frame}
 use Rattle.cbor_judging.specs.Reading.{IsBegun, string_kind}
 use Rattle.cbor_reader.proofs.LevelStrings.{in_chunked}
 use Rattle.cbor_judging.proofs.WholeStrings.{IsReadingChunks}

@@ -1,6 +1,6 @@
 use Rattle.std.proofs.Common.{ℕ, List, ◌≡◌, ◌++◌, length, take}
-use Rattle.cbor_events.specs.SliceView.{seen}
-use Rattle.cbor_events.specs.inner.Automaton.{State}
+use Rattle.cbor_slices.specs.SliceView.{seen}
+use Rattle.cbor_automaton.specs.inner.Automaton.{State}
 use Rattle.cbor_reader.specs.inner.Levels.{IsBuilding}
 use Rattle.cbor_judging.specs.Reading.{IsAt}
 use Rattle.cbor_reader.proofs.slice_builder.build_front.Given as goal

@@ -1,5 +1,5 @@
 use Rattle.std.proofs.Common.{refl, false}
-use Rattle.cbor_events.specs.SliceView.{seen}
+use Rattle.cbor_slices.specs.SliceView.{seen}
 use Rattle.cbor_head.specs.Complaint.{plain}
 use Rattle.cbor_judging.specs.Reading.{string_major, string_value}
 use Rattle.cbor_reader.proofs.LevelStrings.{string-built, string-taken}

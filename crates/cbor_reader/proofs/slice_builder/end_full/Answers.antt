@@ -1,7 +1,7 @@
 use Rattle.std.proofs.Common.{◌-◌, ◌∙◌, ap, sym, subst, arith, IsTrue, List}
 use Rattle.cbor_item.specs.Built.{Built}
 use Rattle.cbor_item.specs.Parts.{Open, close}
-use Rattle.cbor_events.specs.SliceView.{seen}
+use Rattle.cbor_slices.specs.SliceView.{seen}
 use Rattle.cbor_head.specs.declared.order.KeyOrder.{KeyOrder}
 use Rattle.cbor_reader.specs.inner.Levels.{IsStanding}
 use Rattle.cbor_reader.proofs.LevelEvents.{to-end, has-ended, all-ended}

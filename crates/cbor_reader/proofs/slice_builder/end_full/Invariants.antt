@@ -1,8 +1,8 @@
 use Rattle.std.proofs.Common.{ℕ, List}
 use Rattle.cbor_head.specs.Limits.{Bounds}
 use Rattle.cbor_head.specs.declared.order.KeyOrder.{KeyOrder}
-use Rattle.cbor_events.specs.SliceView.{seen}
-use Rattle.cbor_events.specs.inner.Automaton.{State}
+use Rattle.cbor_slices.specs.SliceView.{seen}
+use Rattle.cbor_automaton.specs.inner.Automaton.{State}
 use Rattle.cbor_judging.specs.Reading.{IsAt}
 use Rattle.cbor_reader.specs.inner.Levels.{IsBuilding}
 use Rattle.cbor_reader.proofs.slice_builder.end_full.Given as goal

@@ -1,7 +1,7 @@
 use Rattle.std.proofs.Common.{subst, ap, sym, ◌∙◌}
-use Rattle.cbor_events.specs.ItemEvents.{StandsBetween}
-use Rattle.cbor_events.specs.SliceEvents.{IsNextTold}
-use Rattle.cbor_events.specs.SliceView.{SliceEventsView}
+use Rattle.cbor_machine.specs.NextEvent.{StandsBetween}
+use Rattle.cbor_slices.specs.SliceEvents.{IsNextTold}
+use Rattle.cbor_slices.specs.SliceView.{SliceEventsView}
 use Rattle.cbor_reader.proofs.LevelWholes.{told-live}
 use Rattle.cbor_reader.proofs.slice_builder.next_event.Goals as goal
 

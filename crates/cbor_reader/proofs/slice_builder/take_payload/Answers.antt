@@ -1,7 +1,7 @@
 use Rattle.std.proofs.Common.{◌≡◌, ◌∙◌, length, take, refl, sym, ap, subst, true≢false, arith}
 use Rattle.std.proofs.lemmas.Str.{IsUtf8-from_ascii}
 use Rattle.std.specs.Str.{IsAscii}
-use Rattle.cbor_events.specs.declared.token.Token.TheVariants.{Piece}
+use Rattle.cbor_automaton.specs.declared.token.Token.TheVariants.{Piece}
 use Rattle.cbor_reader.proofs.LevelStrings.{no-content, some-content}
 use Rattle.cbor_reader.proofs.slice_builder.take_payload.Goals as goal
 

@@ -1,5 +1,5 @@
 use Rattle.std.proofs.Common.{◌≡◌, ◌+◌, ◌++◌, ◌∙◌, ℕ, length, sym, subst, arith}
-use Rattle.cbor_events.specs.SliceView.{SliceEventsView}
+use Rattle.cbor_slices.specs.SliceView.{SliceEventsView}
 use Rattle.cbor_judging.specs.Levels.{bytes_before}
 use Rattle.cbor_reader.specs.inner.Levels.{IsStanding, IsBuiltOn}
 use Rattle.cbor_reader.proofs.LevelEvents.{fed-less, fed-height}

@@ -1,7 +1,7 @@
 use Rattle.std.proofs.Common.{[], ap, ◌∙◌, subst, arith}
 use Rattle.std.specs.Prelude.{Ok}
 use Rattle.cbor_head.specs.Complaint.{strict}
-use Rattle.cbor_events.specs.SliceView.{seen}
+use Rattle.cbor_slices.specs.SliceView.{seen}
 use Rattle.cbor_strict.specs.inner.SliceFront.{IsStep}
 use Rattle.cbor_judging.proofs.Fronts.{starts-at}
 use Rattle.cbor_judging.proofs.OpenWalk.{none_open}

@@ -1,5 +1,5 @@
 use Rattle.std.proofs.Common.{ap}
-use Rattle.cbor_events.specs.Token.{kind_of}
+use Rattle.cbor_automaton.specs.Token.{kind_of}
 use Rattle.cbor_strict.proofs.slice_front.what_begins.Goals as goal
 
 pub returns-in-Bytes : goal.returns-in-Bytes

@@ -1,8 +1,8 @@
 use Rattle.std.proofs.Common.{◌≡◌, ◌++◌, [], length, refl, ap, sym, arith, true≢false}
 use Rattle.std.specs.Prelude.{None, Some}
-use Rattle.cbor_events.specs.inner.Automaton.{payload}
-use Rattle.cbor_events.specs.SliceEvents.{event_of}
-use Rattle.cbor_events.specs.SliceView.{seen}
+use Rattle.cbor_automaton.specs.inner.Automaton.{payload}
+use Rattle.cbor_slices.specs.SliceEvents.{event_of}
+use Rattle.cbor_slices.specs.SliceView.{seen}
 use Rattle.cbor_judging.proofs.Steps.{limits-as, not-ended}
 use Rattle.cbor_judging.proofs.Payloads.{none-come, payload-open, part-fits, part-comes, part-cut, all-come}
 use Rattle.cbor_judging.proofs.Slices.{told-event, told-live, told-end}

@@ -2,9 +2,9 @@ use Rattle.std.proofs.Common.{ℕ, List, [], Bool}
 use Rattle.std.specs.Prelude.{Some}
 use Rattle.cbor_head.specs.Limits.{Bounds}
 use Rattle.cbor_head.specs.declared.major.Major.{Major}
-use Rattle.cbor_events.specs.inner.Automaton.{Frame, payload}
+use Rattle.cbor_automaton.specs.inner.Automaton.{Frame, payload}
 use Rattle.cbor_judging.specs.Reading.{IsAt}
-use Rattle.cbor_events.specs.SliceView.{seen}
+use Rattle.cbor_slices.specs.SliceView.{seen}
 use Rattle.cbor_judging.proofs.Payloads.{HasCome}
 use Rattle.cbor_strict.proofs.slice_heads.check_payload.Given as goal
 

@@ -4,7 +4,7 @@ use Rattle.std.specs.Str.Lossy.{utf8_valid_len}
 use Rattle.std.proofs.lemmas.List.{length-take-le}
 use Rattle.cbor_head.specs.Verdict.{refusal}
 use Rattle.cbor_head.specs.declared.reason.Reason.TheVariants.{InvalidText}
-use Rattle.cbor_events.specs.SliceView.{seen}
+use Rattle.cbor_slices.specs.SliceView.{seen}
 use Rattle.cbor_judging.proofs.Payloads.{payload-stops, chunk-no-text}
 use Rattle.cbor_strict.proofs.SliceItems.{payload-front, payload-there}
 use Rattle.cbor_strict.proofs.slice_heads.check_string.Goals as goal

@@ -4,8 +4,8 @@ use Rattle.cbor_head.specs.declared.order.KeyOrder.{KeyOrder}
 use Rattle.cbor_head.specs.declared.reason.Reason.{Reason}
 use Rattle.cbor_head.specs.declared.width.Width.{Width}
 use Rattle.cbor_head.specs.declared.width.Width.TheVariants.{Direct, One, Two, Four, Eight, Indefinite}
-use Rattle.cbor_events.specs.Trace.{Mark, a_head, a_chunk, a_byte, a_break}
-use Rattle.cbor_events.specs.Marks.{mark_of}
+use Rattle.cbor_automaton.specs.Trace.{Mark, a_head, a_chunk, a_byte, a_break}
+use Rattle.cbor_automaton.specs.Marks.{mark_of}
 use Rattle.cbor_judging.specs.Refusals.{IsComplaintReason}
 use Rattle.cbor_strict.specs.StrictReader.{IsAgainstEvent}
 use Rattle.cbor_strict.specs.inner.OpenItems.{Answers}
