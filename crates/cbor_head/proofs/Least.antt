@@ -1,7 +1,8 @@
 -- The shortest head is the least.
-use Rattle.std.proofs.Common.{ℕ, ◌^◌, ◌≡◌, ◌<◌, ◌≤◌, inl, inr, length, arith, subst, refl, sym, ap}
+use Rattle.std.proofs.Common.{ℕ, ◌+◌, ◌*◌, ◌^◌, ◌≡◌, ◌<◌, ◌≤◌, [], ◌∷◌, inl, inr, length, arith, subst, refl, sym, ap, ◌∙◌}
+use Rattle.std.specs.Prelude.{nat_lt, if◌then◌else◌}
 use Rattle.std.proofs.lemmas.Bool.{cases_lt, lt-ltb, le-ltb}
-use Rattle.cbor_head.specs.Head.{head, Holds, shortest}
+use Rattle.cbor_head.specs.Head.{head, Holds, shortest, shortest_head, major_number}
 use Rattle.cbor_head.specs.declared.major.Major.{Major}
 use Rattle.cbor_head.specs.declared.width.Width.{Width}
 use Rattle.cbor_head.specs.declared.width.Width.TheVariants.{Direct, One, Two, Four, Eight, Indefinite}
@@ -100,3 +101,9 @@ only m w n h = only_one m w n h (size n)
 
 pub least : (m : Major) (w : Width) (n : ℕ) → Holds w n → IsLeast m w n (shortest n)
 least m w n h = by_size m w n h (size n)
+
+-- a head of one byte
+pub one_byte : (m : Major) (n first : ℕ) → n < 24 → first ≡ major_number m → (32 * first + n) ∷ [] ≡ shortest_head m n
+one_byte m n first h e =
+    let direct : shortest n ≡ Direct = ap (λ b. if b then Direct else if nat_lt n (2 ^ 8) then One else if nat_lt n (2 ^ 16) then Two else if nat_lt n (2 ^ 32) then Four else Eight) (lt-ltb n 24 h) in
+    ap (λ (k : ℕ). (32 * k + n) ∷ []) e ∙ ap (λ (w : Width). head m w n) (sym direct)

@@ -5,7 +5,7 @@ use Rattle.cbor_head.specs.Value.{Entries, Same, Covered, AnyEntry}
 use Rattle.cbor_item.specs.declared.item.Item.{Item}
 use Rattle.cbor_item.specs.View.{view}
 use Rattle.cbor_item.specs.inner.Members.{entries_view}
-use Rattle.cbor_item.proofs.ByIndex.{at_read}
+use Rattle.cbor_buffer.proofs.ByIndex.{at_read}
 
 abbrev pub Pair : Type 0
 Pair = Item × Item

@@ -1,9 +1,9 @@
 -- The parts of a value make it.
-use Rattle.std.proofs.Common.{◌≡◌, List, [], ◌∷◌, ◌++◌, append_assoc, append-nil, refl, sym, ap, ap₂, ◌∙◌}
+use Rattle.std.proofs.Common.{◌≡◌, List, [], ◌∷◌, ◌++◌, append_assoc, append-nil, refl, sym, ap, ◌∙◌}
 use Rattle.cbor_head.specs.Value as value
 use Rattle.cbor_head.specs.Value.{Value, Values, Entries}
 use Rattle.cbor_item.specs.View.{values_of, entries_of}
-use Rattle.cbor_item.specs.OpenValues.{OpenValue, the_whole, an_array, a_map, a_key, a_tag, with_member, give, closed, run, after, parts_of, parts_of_all, parts_of_entries, ValuePart, end}
+use Rattle.cbor_item.specs.OpenValues.{OpenValue, an_array, a_map, a_key, a_tag, give, run, after, parts_of, parts_of_all, parts_of_entries, ValuePart, end}
 
 run-append : (ps qs : List ValuePart) (os : List OpenValue) → run (ps ++ qs) os ≡ run qs (run ps os)
 run-append [] qs os = refl

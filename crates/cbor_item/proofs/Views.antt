@@ -1,12 +1,7 @@
 -- An item's value, a level at a time.
-use Rattle.std.proofs.Common.{◌≡◌, ℕ, suc, List, [], ◌∷◌, ◌++◌, length, Vec, Global, String, Box, string_bytes, refl, ap, rules}
+use Rattle.std.proofs.Common.{◌≡◌, ℕ, suc, List, [], ◌∷◌, length, Vec, Global, String, Box, string_bytes, refl, ap, rules}
 use Rattle.cbor_head.specs.Value as value
 use Rattle.cbor_head.specs.Value.{Values, values_count, entries_count, SameValues}
-use Rattle.cbor_head.specs.Head.{shortest_head}
-use Rattle.cbor_head.specs.Canonical.{canonical, canonical_all, canonical_entries, in_order}
-use Rattle.cbor_head.specs.declared.order.KeyOrder.{KeyOrder}
-use Rattle.cbor_head.specs.declared.major.Major.TheVariants as Major
-use Rattle.cbor_item.specs.inner.Encoded.{joined}
 use Rattle.cbor_item.specs.View.{view}
 use Rattle.cbor_item.specs.inner.Members.{entries_view, values_view}
 use Rattle.cbor_item.specs.declared.item.Item.{Item, the_lemmas}
@@ -43,12 +38,6 @@ values_count-view (i ∷ is) = ap suc (values_count-view is)
 pub entries_count-view : (ps : List (Item × Item)) → entries_count (entries_view ps) ≡ length ps
 entries_count-view [] = refl
 entries_count-view (p ∷ ps) = ap suc (entries_count-view ps)
-
-pub canonical-Array : (o : KeyOrder) (v : Vec Item Global) (n : ℕ) → n ≡ length v.items → canonical o (view (Array v)) ≡ shortest_head Major.Array n ++ canonical_all o (values_view v.items)
-canonical-Array o v n e = rw (view-Array v, values_count-view v.items, e) refl
-
-pub canonical-Map : (o : KeyOrder) (v : Vec (Item × Item) Global) (n : ℕ) → n ≡ length v.items → canonical o (view (Map v)) ≡ shortest_head Major.Map n ++ joined (in_order o (canonical_entries o (entries_view v.items)))
-canonical-Map o v n e = rw (view-Map v, entries_count-view v.items, e) refl
 
 pub SameValues-count : (vs ws : Values) → SameValues vs ws → values_count vs ≡ values_count ws
 SameValues-count value.no_values value.no_values h = refl

@@ -1,23 +1,25 @@
 -- A walk over an item, a step at a time.
 use Rattle.std.proofs.Common.{◌≡◌, ◌↔◌, ℕ, suc, ◌+◌, ◌<◌, ◌^◌, List, [], ◌∷◌, ◌++◌, append_assoc, append-nil, length, map, Vec, Box, Global, refl, sym, ap, ◌∙◌, subst, arith}
+use Rattle.std.specs.Prelude.{flat_map, reverse, Some}
+use Rattle.std.proofs.lemmas.List.{reverse-append}
+use Rattle.cbor_head.specs.declared.major.Major.TheVariants as Major
 use Rattle.cbor_head.specs.Canonical.{Pair, canonical, canonical_all, canonical_entries, in_order}
 use Rattle.cbor_head.specs.Head.{shortest_head}
 use Rattle.cbor_head.specs.Value.{Value, values_count, IsInRange, AreInRange, AreEntriesInRange, IsValid, AreValid, AreEntriesValid, HasDistinctKeys}
 use Rattle.cbor_head.specs.declared.order.KeyOrder.{KeyOrder}
-use Rattle.cbor_head.specs.declared.major.Major.TheVariants as Major
-use Rattle.std.specs.Prelude.{flat_map, reverse, Some}
-use Rattle.std.proofs.lemmas.List.{reverse-append}
-use Rattle.cbor_item.specs.Built.{Built}
-use Rattle.cbor_item.specs.Parts.{Open, plain, an_array, a_map, pair, pair_bytes, with_member, closed, HasNoRepeats, AreKeysValid}
+use Rattle.cbor_builder.specs.Built.{Built}
+use Rattle.cbor_builder.specs.Parts.{Open, plain, an_array, a_map, pair, with_member, closed, HasNoRepeats}
+use Rattle.cbor_buffer.specs.Pairs.{pair_bytes}
+use Rattle.cbor_canonical.specs.Pairs.{AreKeysValid}
 use Rattle.cbor_item.specs.View.{view, values_of}
 use Rattle.cbor_item.specs.inner.Members.{entries_view}
 use Rattle.cbor_item.specs.inner.Walk.{flat, left, left_of_all, IsBegun, with_all, TakesAll, AreAllValid, LeadsAround, Leads, AreSoundAround, AreSound, size, size_all, size_entries, weight, Opens}
 use Rattle.cbor_item.specs.declared.item.Item.{Item}
 use Rattle.cbor_item.specs.declared.rest.Rest.{Rest}
 use Rattle.cbor_item.specs.declared.item.Item.TheVariants.{Array, Map, Tag}
-use Rattle.cbor_item.proofs.Keys.{distinct_exactly}
-use Rattle.cbor_item.proofs.Sound.{valid_apart}
-use Rattle.cbor_item.proofs.Told.{length-canonical_entries}
+use Rattle.cbor_canonical.proofs.Keys.{distinct_exactly}
+use Rattle.cbor_canonical.proofs.Sound.{valid_apart}
+use Rattle.cbor_canonical.proofs.Told.{length-canonical_entries}
 use Rattle.cbor_item.proofs.Views.{view-Array, view-Map, view-Tag}
 
 -- ---- what becomes of an open part

@@ -1,10 +1,5 @@
-pub mod Built
-pub mod CanonicalSpelling
-pub mod Front
 pub mod inner
 pub mod OpenValues
-pub mod Pairs
-pub mod Parts
 pub mod Refused
 pub mod Sent
 pub mod View

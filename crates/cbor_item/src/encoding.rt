@@ -3,15 +3,15 @@
 ghost use Rattle.std.specs.Prelude.{◌≡◌, ◌↔◌, IsSome, IfSome, IfOk, IfErr};
 ghost use Rattle.cbor_head.specs.Canonical.{canonical};
 ghost use Rattle.cbor_head.specs.Value.{IsInRange, IsValid};
-ghost use Rattle.cbor_item.specs.Built.{built, TakesPart};
+ghost use Rattle.cbor_builder.specs.Built.{built, TakesPart};
 ghost use Rattle.cbor_item.specs.Sent.{no_memory};
 ghost use Rattle.cbor_item.specs.View.{view};
 ghost use Rattle.cbor_item.specs.inner.Walk.{IsBegun};
 
-use crate::canon_builder::CanonBuilder;
 use crate::item::Item;
 use crate::rest::Rest;
 use crate::tree::Tree;
+use cbor_builder::CanonBuilder;
 use cbor_head::{KeyOrder, Major, Reason, Refusal};
 use std::alloc::{AllocError, Global};
 use std::slice;
@@ -21,23 +21,10 @@ pub fn encode(alloc: Global, tree: &Tree, order: KeyOrder) -> Result<Vec<u8>, Re
     ensures bytes { IfOk result (λ bytes. bytes.items ≡ canonical order (view tree.now)) }
     ensures refused { IfErr result (λ refusal. refusal ≡ no_memory) }
 {
-    match encode_valid(alloc, tree.item(), order) {
-        Ok(bytes) => Ok(bytes),
+    match encode_distinct(alloc, tree.item(), order) {
+        Ok(Some(bytes)) => Ok(bytes),
+        Ok(None) => unreachable!(),
         Err(_) => Err(Refusal::at(Reason::Memory, 0)),
-    }
-}
-
-/// The canonical bytes of an item that is known to be valid: for a reader that has compared the
-/// keys.
-pub fn encode_valid(alloc: Global, item: &Item, order: KeyOrder) -> Result<Vec<u8>, AllocError>
-    requires in_range { IsInRange (view item.now) }
-    requires valid { IsValid (view item.now) }
-    ensures { IfOk result (λ bytes. bytes.items ≡ canonical order (view item.now)) }
-{
-    match encode_distinct(alloc, item, order)? {
-        Some(bytes) => Ok(bytes),
-        // No valid item comes here.
-        None => Ok(Vec::new(alloc)),
     }
 }
 

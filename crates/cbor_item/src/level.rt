@@ -2,7 +2,7 @@
 
 ghost use Rattle.std.specs.Prelude.{◌≡◌, OnOk, IfOk};
 ghost use Rattle.cbor_head.specs.declared.major.Major.TheVariants as majors;
-ghost use Rattle.cbor_item.specs.Built.{IsContainer};
+ghost use Rattle.cbor_builder.specs.Built.{IsContainer};
 ghost use Rattle.cbor_item.specs.OpenValues.{CanHold, CanEnd, with_member, opened, closed};
 ghost use Rattle.cbor_item.specs.View.{view};
 ghost use Rattle.cbor_item.specs.inner.Levels.{level_value};

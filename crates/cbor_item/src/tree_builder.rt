@@ -2,13 +2,10 @@
 
 ghost use Rattle.std.specs.Prelude.{◌≡◌, ◌∷◌, [], List, OnOk};
 ghost use Rattle.cbor_head.specs.Value.{Value};
-ghost use Rattle.cbor_item.specs.Built.{IsContainer};
+ghost use Rattle.cbor_builder.specs.Built.{IsContainer};
 ghost use Rattle.cbor_item.specs.OpenValues.{the_whole, opened, give, close, run, parts_of};
 ghost use Rattle.cbor_item.specs.OpenValues.{standing, TakesValue, MayEnd, IsWhole};
 ghost use Rattle.cbor_item.specs.View.{view};
-
-#[cfg(test)]
-mod tests;
 
 use crate::item::Item;
 use crate::level::Level;

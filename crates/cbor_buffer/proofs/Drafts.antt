@@ -1,0 +1,308 @@
+-- What a draft's bytes are meant to be, as its steps change it.
+use Rattle.std.proofs.Common.{◌≡◌, ℕ, ◌+◌, ◌-◌, ◌≤◌, List, [], ◌∷◌, ◌++◌, append_assoc, append-nil, length, length-append, length-drop, take, drop, drop-drop, refl, sym, ap, ◌∙◌, subst, arith, inl, inr, map}
+use Rattle.std.specs.Prelude.{slice_range, reverse, flat_map}
+use Rattle.std.proofs.lemmas.List.{drop-append-le, drop_all, length-take-le, drop-take, take-take}
+use Rattle.std.proofs.Math.Seq.{drop-append_seam, take-append_seam}
+use Rattle.cbor_buffer.specs.inner.Moved.{rope, Run, gap, Blocks, meant, IsWhole, IsRope, IsLoose, IsFree, KeepsFront, Stays}
+use Rattle.cbor_buffer.specs.inner.Spans.{AreBehind, span_pair, AreWithin}
+use Rattle.cbor_buffer.specs.Pairs.{pair_bytes}
+use Rattle.cbor_buffer.specs.declared.span.Span.{Span}
+use Rattle.cbor_buffer.specs.declared.cuts.Cut.{Cut}
+use Rattle.cbor_buffer.specs.declared.draft.Draft.{Draft}
+use Rattle.cbor_buffer.specs.declared.draft.Region.{Region}
+use Rattle.cbor_buffer.proofs.Slices.{slice_all, slices_join, slice_take, slice_drop, slice_length, drop_alike, drop_behind, take_behind, nothing}
+use Rattle.cbor_buffer.proofs.Written.{take_front, drop_front}
+use Rattle.cbor_buffer.proofs.Moved.{rope_append, rope_front, rope_behind, rope_more, run_length, run_wider, blocks_run, blocks_longer, popped, limited}
+
+pub whole_rope : (d : Draft) → IsWhole d → IsRope d
+whole_rope d w = (run_wider 0 d.end 0 (length d.buf) 0 d.end d.cuts.items (omega arith) w.1 (blocks_run d.cuts.items (reverse d.regions.items) d.end w.0), w.1)
+
+pub rope_length : (d : Draft) → IsRope d → length (rope d.buf d.cuts.items) ≡ d.end
+rope_length d r = let l = run_length d.buf 0 (length d.buf) 0 d.end d.cuts.items (omega arith) r.0 in omega (arith, l)
+
+pub whole_length : (d : Draft) → IsWhole d → length d.buf ≡ length (meant d)
+whole_length d w =
+    let a = rope_length d (whole_rope d w) in
+    let b = length-append (rope d.buf d.cuts.items) (drop d.end d.buf) in
+    let c = length-drop d.end d.buf in
+    omega (arith, a, b, c, w.1)
+
+-- nothing is out of place
+pub plain : (d : Draft) → IsRope d → d.end ≡ 0 → meant d ≡ d.buf
+plain d r e = (λ i. nothing (rope d.buf d.cuts.items) (rope_length d r ∙ e) i ++ drop (e i) d.buf)
+
+-- ---- more behind it
+
+pub meant_with : (d : Draft) (buf x : List ℕ) → IsWhole d → buf ≡ d.buf ++ x → rope buf d.cuts.items ++ drop d.end buf ≡ meant d ++ x
+meant_with d buf x w e =
+    let a = rope_more d.buf x 0 d.end 0 d.end d.cuts.items w.1 (blocks_run d.cuts.items (reverse d.regions.items) d.end w.0) in
+    let b = drop-append-le d.end d.buf x w.1 in
+    ap (λ (xs : List ℕ). rope xs d.cuts.items ++ drop d.end xs) e ∙ (λ i. a i ++ b i) ∙ sym (append_assoc (rope d.buf d.cuts.items) (drop d.end d.buf) x)
+
+pub whole_more : (d : Draft) (buf x : List ℕ) → IsWhole d → buf ≡ d.buf ++ x → IsWhole (record d { buf = buf })
+whole_more d buf x w e = let l = length-append d.buf x in (w.0, omega (arith, w.1, l, ap length e))
+
+pub meant_more : (d : Draft) (buf x : List ℕ) → IsWhole d → buf ≡ d.buf ++ x → meant (record d { buf = buf }) ≡ meant d ++ x
+meant_more d buf x w e = meant_with d buf x w e
+
+-- ---- a head filled in behind all regions
+
+pub tail_filled : (d : Draft) (buf h : List ℕ) (from start : ℕ) → IsWhole d → d.end ≤ from → from ≤ start → start ≤ length d.buf → buf ≡ take from d.buf ++ (h ++ drop start d.buf)
+    → IsWhole (record d { buf = buf }) × (meant (record d { buf = buf }) ≡ take from (meant d) ++ (h ++ drop start (meant d)))
+tail_filled d buf h from start w g b n e =
+    let end = d.end in
+    let cs = d.cuts.items in
+    let run = blocks_run cs (reverse d.regions.items) end w.0 in
+    let X = h ++ drop start d.buf in
+    let A = rope d.buf cs in
+    let la = rope_length d (whole_rope d w) in
+    let lf = length-take-le from d.buf (omega (arith, b, n)) in
+    let lx = length-append (take from d.buf) X in
+    let long : end ≤ length buf = omega (arith, ap length e, lx, lf, g) in
+    let same : rope buf cs ≡ A = rope_front buf d.buf 0 end 0 end cs (ap (take end) e ∙ take_front end from d.buf X g (omega (arith, b, n))) long w.1 run in
+    let mid : drop end (take from d.buf) ≡ take (from - end) (drop end d.buf) =
+    let m : from ≡ end + (from - end) = omega (arith, g) in ap (λ (k : ℕ). drop end (take k d.buf)) m ∙ drop-take end (from - end) d.buf in
+    let rest : drop end buf ≡ take (from - end) (drop end d.buf) ++ X = ap (drop end) e ∙ drop-append-le end (take from d.buf) X (omega (arith, lf, g)) ∙ ap (λ (xs : List ℕ). xs ++ X) mid in
+    let front : take from (meant d) ≡ A ++ take (from - end) (drop end d.buf) = take_behind A (drop end d.buf) end from la g in
+    let s : end + (start - end) ≡ start = omega (arith, g, b) in
+    let back : drop start (meant d) ≡ drop start d.buf = drop_behind A (drop end d.buf) end start la (omega (arith, g, b)) ∙ drop-drop (start - end) end d.buf ∙ ap (λ (k : ℕ). drop k d.buf) s in (
+      (w.0, long),
+      (λ i. same i ++ rest i) ∙ sym (append_assoc A (take (from - end) (drop end d.buf)) X) ∙ (λ i. sym front i ++ (h ++ sym back i)),
+    )
+
+-- ---- in the gap of the last region
+
+gap_filled : (raw buf h : List ℕ) (cs : List Cut) (r : Region) (rs : List Region) (e from start : ℕ) → Blocks cs (r ∷ rs) e → e ≤ length raw → r.behind ≤ from → from ≤ start → start ≤ r.start → length h ≡ start - from
+    → buf ≡ take from raw ++ (h ++ drop start raw) → rope buf cs ++ drop e buf ≡ take from (rope raw cs ++ drop e raw) ++ (h ++ drop start (rope raw cs ++ drop e raw))
+gap_filled raw buf h cs r rs e from start b g hb hs hr lh eb =
+    let p = r.behind in
+    let m = r.start in
+    let ds = b.0 in
+    let bs = b.1 in
+    let Y = drop start raw in
+    let lf = length-take-le from raw (omega (arith, b.5, g, hs, hr)) in
+    let ly = length-drop start raw in
+    let l1 = length-append (take from raw) (h ++ Y) in
+    let l2 = length-append h Y in
+    let l3 = length-append (take from raw) h in
+    let long : length buf ≡ length raw = omega (arith, ap length eb, l1, l2, lf, ly, lh, hs, hr, b.5, g) in
+    let tf : take from buf ≡ take from raw = ap (take from) eb ∙ take_front from from raw (h ++ Y) (omega arith) (omega (arith, b.5, g, hs, hr)) in
+    let tp : take p buf ≡ take p raw = ap (take p) eb ∙ take_front p from raw (h ++ Y) hb (omega (arith, b.5, g, hs, hr)) in
+    let st : start ≡ length (take from raw ++ h) = omega (arith, l3, lf, lh, hs) in
+    let ts : drop start buf ≡ drop start raw = ap (drop start) (eb ∙ sym (append_assoc (take from raw) h Y)) ∙ ap (λ (k : ℕ). drop k ((take from raw ++ h) ++ Y)) st ∙ drop-append_seam (take from raw ++ h) Y in
+    let df : drop from buf ≡ h ++ Y = ap (drop from) eb ∙ drop_front from raw (h ++ Y) (omega (arith, b.5, g, hs, hr)) in
+    let mid : slice_range buf from start ≡ h = ap (take (start - from)) df ∙ ap (λ (k : ℕ). take k (h ++ Y)) (sym lh) ∙ take-append_seam h Y in
+    let A = rope raw ds in
+    let P = slice_range raw p from in
+    let S = slice_range raw from start in
+    let Q = slice_range raw start m in
+    let C = rope raw bs in
+    let D = drop e raw in
+    let a : rope buf ds ≡ A = rope_front buf raw 0 p 0 p ds tp (omega (arith, long, hb, b.5, g, hs, hr)) (omega (arith, hb, b.5, g, hs, hr)) (blocks_run ds rs p b.7) in
+    let pp : slice_range buf p from ≡ P = slice_take buf raw from p from tf (omega (arith, long, b.5, g, hs, hr)) (omega (arith, b.5, g, hs, hr)) hb (omega arith) in
+    let qq : slice_range buf start m ≡ Q = slice_drop buf raw start start m ts (omega arith) in
+    let cc' : rope buf bs ≡ C = rope_behind buf raw m e m e bs (drop_alike buf raw start m ts hr) b.6 in
+    let dd : drop e buf ≡ D = drop_alike buf raw start e ts (omega (arith, hr, b.5)) in
+    let split : (raw : List ℕ) → rope raw cs ++ drop e raw ≡ (rope raw ds ++ ((slice_range raw p from ++ (slice_range raw from start ++ slice_range raw start m)) ++ rope raw bs)) ++ drop e raw =
+    λ raw. ap (λ (xs : List Cut). rope raw xs ++ drop e raw) b.2 ∙ ap (λ (xs : List ℕ). xs ++ drop e raw) (rope_append raw ds (gap p m ∷ bs))
+    ∙ ap (λ (xs : List ℕ). (rope raw ds ++ (xs ++ rope raw bs)) ++ drop e raw) (sym (slices_join raw p from m hb (omega (arith, hs, hr))) ∙ ap (λ (xs : List ℕ). slice_range raw p from ++ xs) (sym (slices_join raw from start m hs hr))) in
+    let M = rope raw cs ++ drop e raw in
+    let was : M ≡ (A ++ P) ++ (S ++ (Q ++ (C ++ D))) = split raw ∙ regroup A P S Q C D in
+    let now : rope buf cs ++ drop e buf ≡ (A ++ P) ++ (h ++ (Q ++ (C ++ D))) =
+    split buf ∙ (λ i. (a i ++ ((pp i ++ (mid i ++ qq i)) ++ cc' i)) ++ dd i) ∙ regroup A P h Q C D in
+    let la = run_length raw 0 p 0 p ds (omega (arith, hb, b.5, g, hs, hr)) (blocks_run ds rs p b.7) in
+    let lp = slice_length raw p from (omega (arith, b.5, g, hs, hr)) in
+    let ls = slice_length raw from start (omega (arith, b.5, g, hr)) in
+    let lap = length-append A P in
+    let front : from ≡ length (A ++ P) = omega (arith, la, lp, lap, hb) in
+    let taken : take from M ≡ A ++ P = ap (take from) was ∙ ap (λ (k : ℕ). take k ((A ++ P) ++ (S ++ (Q ++ (C ++ D))))) front ∙ take-append_seam (A ++ P) (S ++ (Q ++ (C ++ D))) in
+    let laps = length-append (A ++ P) S in
+    let behind : start ≡ length ((A ++ P) ++ S) = omega (arith, front, laps, ls, hs) in
+    let dropped : drop start M ≡ Q ++ (C ++ D) =
+    ap (drop start) (was ∙ sym (append_assoc (A ++ P) S (Q ++ (C ++ D)))) ∙ ap (λ (k : ℕ). drop k (((A ++ P) ++ S) ++ (Q ++ (C ++ D)))) behind ∙ drop-append_seam ((A ++ P) ++ S) (Q ++ (C ++ D)) in
+    now ∙ (λ i. sym taken i ++ (h ++ sym dropped i))
+  where
+    regroup : (A P S Q C D : List ℕ) → (A ++ ((P ++ (S ++ Q)) ++ C)) ++ D ≡ (A ++ P) ++ (S ++ (Q ++ (C ++ D)))
+    regroup A P S Q C D = simp append_assoc
+
+pub free_filled : (d : Draft) (buf h : List ℕ) (from start : ℕ) → IsWhole d → IsFree d from start → from ≤ start → start ≤ length d.buf → length h ≡ start - from → buf ≡ take from d.buf ++ (h ++ drop start d.buf)
+    → IsWhole (record d { buf = buf }) × (meant (record d { buf = buf }) ≡ take from (meant d) ++ (h ++ drop start (meant d)))
+free_filled d buf h from start w f b n lh e =
+    let blocks = subst (λ (rs : List Region). Blocks d.cuts.items rs d.end) f.2 w.0 in
+    let lf = length-take-le from d.buf (omega (arith, b, n)) in
+    let ly = length-drop start d.buf in
+    let l1 = length-append (take from d.buf) (h ++ drop start d.buf) in
+    let l2 = length-append h (drop start d.buf) in (
+      (w.0, omega (arith, ap length e, l1, l2, lf, ly, lh, b, n, w.1)),
+      gap_filled d.buf buf h d.cuts.items f.0 f.1 d.end from start blocks w.1 f.3 b f.4 lh e,
+    )
+
+-- ---- what comes of settling
+
+pub settled : (d : Draft) (s0 s1 s2 bytes buf old : List ℕ) (n : ℕ) → s0 ≡ [] → s1 ≡ s0 ++ rope d.buf d.cuts.items → s2 ≡ s1 ++ slice_range d.buf d.end n → n ≡ length d.buf → bytes ≡ s2 → buf ≡ take 0 old ++ bytes
+    → buf ≡ meant d
+settled d s0 s1 s2 bytes buf old n e0 e1 e2 en eb e =
+    e ∙ eb ∙ e2 ∙ (λ i. (e1 ∙ ap (λ (xs : List ℕ). xs ++ rope d.buf d.cuts.items) e0) i ++ slice_all d.buf d.end n (sym en) i)
+
+-- what a loose draft is meant to be
+pub loose_meant : (d : Draft) (start : ℕ) (r : Region) (w : IsLoose d start r) → meant d ≡ rope d.buf w.0.0 ++ rope d.buf (gap r.behind r.start ∷ w.0.1)
+loose_meant d start r w =
+    let none : drop d.end d.buf ≡ [] = drop_all d.end d.buf (omega (arith, w.1)) in
+    (λ i. rope d.buf (w.0.2 i) ++ none i) ∙ append-nil (rope d.buf (w.0.0 ++ gap r.behind r.start ∷ w.0.1)) ∙ rope_append d.buf w.0.0 (gap r.behind r.start ∷ w.0.1)
+
+loose_front : (d : Draft) (start : ℕ) (r : Region) (w : IsLoose d start r) → length (rope d.buf w.0.0) ≡ r.behind
+loose_front d start r w =
+    let b = w.0 in
+    let l = run_length d.buf 0 r.behind 0 r.behind b.0 (omega (arith, b.4, b.5)) (blocks_run b.0 (reverse d.regions.items) r.behind b.7) in
+    omega (arith, l)
+
+pub loose_slice : (d : Draft) (start : ℕ) (r : Region) (w : IsLoose d start r) (key end : ℕ) → r.behind ≤ key
+    → take (end - key) (drop (key - r.behind) (rope d.buf (gap r.behind r.start ∷ w.0.1))) ≡ slice_range (meant d) key end
+loose_slice d start r w key end h =
+    sym (ap (λ (xs : List ℕ). slice_range xs key end) (loose_meant d start r w)
+    ∙ ap (take (end - key)) (drop_behind (rope d.buf w.0.0) (rope d.buf (gap r.behind r.start ∷ w.0.1)) r.behind key (loose_front d start r w) h))
+
+-- the cuts from its first on
+pub loose_cuts : (d : Draft) (start : ℕ) (r : Region) (w : IsLoose d start r) → drop r.first d.cuts.items ≡ gap r.behind r.start ∷ w.0.1
+loose_cuts d start r w =
+    let b = w.0 in ap (drop r.first) b.2 ∙ ap (λ (k : ℕ). drop k (b.0 ++ gap r.behind r.start ∷ b.1)) (sym b.3) ∙ drop-append_seam b.0 (gap r.behind r.start ∷ b.1)
+
+pub rebuilt : (d : Draft) (start : ℕ) (r : Region) (w : IsLoose d start r) (xs cs : List Cut) (rs : List Region) (G : List ℕ) → r.behind ≤ start → start ≤ length d.buf
+    → Run start (length d.buf) start xs (length d.buf) → rope d.buf xs ≡ G → cs ≡ (take r.first d.cuts.items ++ gap r.behind start ∷ []) ++ xs
+    → rs ≡ d.regions.items ++ record { behind = r.behind; start = start; first = r.first } ∷ []
+    → Blocks cs (reverse rs) (length d.buf) × (rope d.buf cs ++ drop (length d.buf) d.buf ≡ take start (meant d) ++ G)
+rebuilt d start r w xs cs rs G h n run g ec er =
+    let b = w.0 in
+    let raw = d.buf in
+    let front : take r.first d.cuts.items ≡ b.0 = ap (take r.first) b.2 ∙ ap (λ (k : ℕ). take k (b.0 ++ gap r.behind r.start ∷ b.1)) (sym b.3) ∙ take-append_seam b.0 (gap r.behind r.start ∷ b.1) in
+    let is : cs ≡ b.0 ++ gap r.behind start ∷ xs = ec ∙ ap (λ (ys : List Cut). (ys ++ gap r.behind start ∷ []) ++ xs) front ∙ append_assoc b.0 (gap r.behind start ∷ []) xs in
+    let none : drop (length raw) raw ≡ [] = drop_all (length raw) raw (omega arith) in
+    let A = rope raw b.0 in
+    let S = slice_range raw r.behind start in
+    let kept : take start (meant d) ≡ A ++ S =
+    ap (take start) (loose_meant d start r w) ∙ take_behind A (rope raw (gap r.behind r.start ∷ b.1)) r.behind start (loose_front d start r w) h
+    ∙ ap (λ (ys : List ℕ). A ++ ys) (limited raw (rope raw b.1) r.start (start - r.behind) r.behind start b.4 b.5 (omega (arith, h, w.2))
+    ∙ (let z : start - r.behind - (start - r.behind) ≡ 0 = omega arith in ap (λ (k : ℕ). S ++ take k (rope raw b.1)) z) ∙ append-nil S) in (
+      subst (λ (us : List Region). Blocks cs us (length raw)) (sym (popped rs d.regions.items _ er)) (b.0, xs, is, b.3, h, n, run, b.7),
+      (λ i. rope raw (is i) ++ none i) ∙ append-nil (rope raw (b.0 ++ gap r.behind start ∷ xs)) ∙ rope_append raw b.0 (gap r.behind start ∷ xs)
+          ∙ ap (λ (ys : List ℕ). A ++ (S ++ ys)) g ∙ sym (append_assoc A S G) ∙ ap (λ (ys : List ℕ). ys ++ G) (sym kept),
+    )
+
+-- ---- the same from what calls ensure
+
+pub same_meant : (d d' : Draft) → d'.buf ≡ d.buf → d'.cuts.items ≡ d.cuts.items → d'.end ≡ d.end → meant d' ≡ meant d
+same_meant d d' b c e = λ i. rope (b i) (c i) ++ drop (e i) (b i)
+
+pub rope_same : (d d' : Draft) → d'.buf ≡ d.buf → d'.cuts.items ≡ d.cuts.items → d'.end ≡ d.end → IsRope d → IsRope d'
+rope_same d d' b c e r =
+    (subst (λ (k : ℕ). Run 0 (length d'.buf) 0 d'.cuts.items k) (sym e) (subst (λ (xs : List Cut). Run 0 (length d'.buf) 0 xs d.end) (sym c) (subst (λ (xs : List ℕ). Run 0 (length xs) 0 d.cuts.items d.end) (sym b) r.0)), omega (arith, ap length b, e, r.1))
+
+pub loose_rope : (d : Draft) (start : ℕ) (r : Region) → IsLoose d start r → IsRope d
+loose_rope d start r w =
+    let run = blocks_run d.cuts.items (r ∷ reverse d.regions.items) (length d.buf) w.0 in
+    (subst (λ (k : ℕ). Run 0 (length d.buf) 0 d.cuts.items k) (sym w.1) run, omega (arith, w.1))
+
+-- what is behind all regions lies as it is meant
+pub tail_plain : (d : Draft) (n : ℕ) → IsWhole d → d.end ≤ n → drop n d.buf ≡ drop n (meant d)
+tail_plain d n w g =
+    let la = rope_length d (whole_rope d w) in
+    let s : d.end + (n - d.end) ≡ n = omega (arith, g) in
+    sym (drop_behind (rope d.buf d.cuts.items) (drop d.end d.buf) d.end n la g ∙ drop-drop (n - d.end) d.end d.buf ∙ ap (λ (k : ℕ). drop k d.buf) s)
+
+pub record Filled (d d' : Draft) (h : List ℕ) (from start : ℕ) : Type 0 where
+  pub whole : IsWhole d'
+  pub meant_is : meant d' ≡ take from (meant d) ++ (h ++ drop start (meant d))
+  pub front : KeepsFront from d d'
+  pub lies : d.buf ≡ meant d → d'.buf ≡ meant d'
+
+pub filled_behind : (d : Draft) (buf h : List ℕ) (from start : ℕ) → IsWhole d → d.end ≤ from → from ≤ start → start ≤ length d.buf → buf ≡ take from d.buf ++ (h ++ drop start d.buf)
+    → Filled d (record d { buf = buf }) h from start
+filled_behind d buf h from start w g b n e =
+    let t = tail_filled d buf h from start w g b n e in
+    record { whole = t.0; meant_is = t.1; front = inl (ap (take from) e ∙ take_front from from d.buf (h ++ drop start d.buf) (omega arith) (omega (arith, b, n))); lies = λ k. e ∙ (λ i. take from (k i) ++ (h ++ drop start (k i))) ∙ sym t.1 }
+
+pub filled_in_gap : (d m : Draft) (buf h : List ℕ) (from start : ℕ) → IsWhole m → m.buf ≡ d.buf → meant m ≡ meant d → IsFree m from start → from ≤ start → start ≤ length d.buf → length h ≡ start - from
+    → buf ≡ take from m.buf ++ (h ++ drop start m.buf) → Filled d (record m { buf = buf }) h from start
+filled_in_gap d m buf h from start w eb em f b n lh e =
+    let t = free_filled m buf h from start w f b (omega (arith, n, ap length eb)) lh e in
+    record {
+      whole = t.0;
+      meant_is = t.1 ∙ (λ i. take from (em i) ++ (h ++ drop start (em i)));
+      front = inl (ap (take from) e ∙ take_front from from m.buf (h ++ drop start m.buf) (omega arith) (omega (arith, b, n, ap length eb)) ∙ ap (take from) eb);
+      lies = λ k. let j = eb ∙ k ∙ sym em in e ∙ (λ i. take from (j i) ++ (h ++ drop start (j i))) ∙ sym t.1;
+    }
+
+pub filled_settled : (d m : Draft) (buf h : List ℕ) (from start : ℕ) → IsWhole d → IsWhole m → m.end ≡ 0 → meant m ≡ meant d → from ≤ start → start ≤ length d.buf
+    → buf ≡ take from m.buf ++ (h ++ drop start m.buf) → Filled d (record m { buf = buf }) h from start
+filled_settled d m buf h from start wd w z em b n e =
+    let ld = whole_length d wd in
+    let lm = whole_length m w in
+    let t = tail_filled m buf h from start w (omega (arith, z)) b (omega (arith, n, ld, lm, ap length em)) e in
+    record { whole = t.0; meant_is = t.1 ∙ (λ i. take from (em i) ++ (h ++ drop start (em i))); front = inr (sym (plain (record m { buf = buf }) (whole_rope (record m { buf = buf }) t.0) z)); lies = λ k. sym (plain (record m { buf = buf }) (whole_rope (record m { buf = buf }) t.0) z) }
+
+-- ---- spans put down
+
+pub pairs_same : (raw out : List ℕ) (n : ℕ) (ss : List Span) → drop n raw ≡ drop n out → AreBehind n ss → AreWithin out ss → map (span_pair raw) ss ≡ map (span_pair out) ss
+pairs_same raw out n [] e b w = refl
+pairs_same raw out n (s ∷ ss) e b w =
+    let k = slice_drop raw out n s.key s.val e b.0 in
+    let v = slice_drop raw out n s.val s.end e (omega (arith, b.0, w.0.0)) in
+    let r = pairs_same raw out n ss e b.1 w.1 in
+    λ i. record { key = k i; value = v i } ∷ r i
+
+pub within_same : (raw out : List ℕ) (ss : List Span) → length raw ≡ length out → AreWithin out ss → AreWithin raw ss
+within_same raw out [] e w = tt
+within_same raw out (s ∷ ss) e w = ((w.0.0, w.0.1, omega (arith, e, w.0.2)), within_same raw out ss e w.1)
+
+pub length_same : (d d' : Draft) → IsWhole d → IsWhole d' → meant d' ≡ meant d → length d'.buf ≡ length d.buf
+length_same d d' w w' e = let a = whole_length d w in let b = whole_length d' w' in omega (arith, a, b, ap length e)
+
+pub record PutDown (d d' : Draft) (start : ℕ) (ss : List Span) : Type 0 where
+  pub whole : IsWhole d'
+  pub meant_is : meant d' ≡ take start (meant d) ++ flat_map pair_bytes (map (span_pair (meant d)) ss)
+  pub front : KeepsFront start d d'
+  pub lies : d.buf ≡ meant d → d'.buf ≡ meant d'
+
+pub put_down : (d m : Draft) (buf : List ℕ) (start : ℕ) (ss : List Span) → IsWhole d → start ≤ length d.buf → AreBehind start ss → AreWithin (meant d) ss → IsWhole m → meant m ≡ meant d → m.end ≤ start → Stays d m
+    → buf ≡ take start m.buf ++ flat_map pair_bytes (map (span_pair m.buf) ss) → PutDown d (record m { buf = buf }) start ss
+put_down d m buf start ss wd n behind within w em g stays e =
+    let N = length m.buf in
+    let long = length_same d m wd w em in
+    let lm = whole_length m w in
+    let G' = flat_map pair_bytes (map (span_pair m.buf) ss) in
+    let G = flat_map pair_bytes (map (span_pair (meant d)) ss) in
+    let same : G' ≡ G = ap (flat_map pair_bytes) (pairs_same m.buf (meant m) start ss (tail_plain m start w g) behind (within_same (meant m) (meant d) ss (ap length em) within)) ∙ ap (λ (xs : List ℕ). flat_map pair_bytes (map (span_pair xs) ss)) em in
+    let full : buf ≡ take start m.buf ++ (G' ++ drop N m.buf) = e ∙ ap (λ (xs : List ℕ). take start m.buf ++ xs) (sym (append-nil G') ∙ ap (λ (xs : List ℕ). G' ++ xs) (sym (drop_all N m.buf (omega arith)))) in
+    let t = tail_filled m buf G' start N w g (omega (arith, n, long)) (omega arith) full in
+    let now = t.1 ∙ ap (λ (xs : List ℕ). take start (meant m) ++ (G' ++ xs)) (drop_all N (meant m) (omega (arith, lm))) ∙ ap (λ (xs : List ℕ). take start (meant m) ++ xs) (append-nil G') in
+    let is = now ∙ (λ i. take start (em i) ++ same i) in
+    let all : m.buf ≡ meant m → buf ≡ meant (record m { buf = buf }) = λ k. e ∙ ap (λ (xs : List ℕ). take start xs ++ G') k ∙ sym now in
+    record {
+      whole = t.0;
+      meant_is = is;
+      front = elim stays [
+        | inl k ↦ inl (ap (take start) e ∙ take_front start start m.buf G' (omega arith) (omega (arith, n, long)) ∙ ap (take start) k)
+        | inr k ↦ inr (all k)
+      ];
+      lies = λ k. elim stays [ inl j ↦ all (j ∙ k ∙ sym em) | inr j ↦ all j ];
+    }
+
+-- the last region taken off, and the cuts gone on to the end
+pub loosened : (d m : Draft) (r : Region) (n : ℕ) (cs : List Cut) → IsWhole d → d.regions.items ≡ m.regions.items ++ r ∷ [] → m.buf ≡ d.buf → m.cuts.items ≡ d.cuts.items → n ≡ length d.buf → cs ≡ m.cuts.items ++ gap d.end n ∷ []
+    → Blocks cs (r ∷ reverse m.regions.items) (length m.buf)
+loosened d m r n cs w er eb ec en e =
+    let N = length d.buf in
+    let rs = reverse m.regions.items in
+    let was = subst (λ (us : List Region). Blocks d.cuts.items us d.end) (popped d.regions.items m.regions.items r er) w.0 in
+    let long = blocks_longer d.cuts.items r rs d.end N was w.1 in
+    let cuts : cs ≡ d.cuts.items ++ gap d.end N ∷ [] = e ∙ (λ i. ec i ++ gap d.end (en i) ∷ []) in
+    subst (λ (k : ℕ). Blocks cs (r ∷ rs) k) (ap length (sym eb)) (subst (λ (us : List Cut). Blocks us (r ∷ rs) N) (sym cuts) long)
+
+-- a shorter front, through two steps
+pub front_shorter : (n k : ℕ) (d m d' : Draft) → n ≤ k → KeepsFront k d m → KeepsFront n m d' → (m.buf ≡ meant m → d'.buf ≡ meant d') → KeepsFront n d d'
+front_shorter n k d m d' h (inr e) f l = inr (l e)
+front_shorter n k d m d' h (inl e) (inr f) l = inr f
+front_shorter n k d m d' h (inl e) (inl f) l =
+    let a = sym (take-take n k m.buf h) in
+    let b = take-take n k d.buf h in
+    inl (f ∙ a ∙ ap (take n) e ∙ b)

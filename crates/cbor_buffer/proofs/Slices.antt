@@ -1,0 +1,81 @@
+-- Parts of byte lists.
+use Rattle.std.proofs.Common.{◌≡◌, ℕ, ◌+◌, ◌-◌, ◌≤◌, List, ◌++◌, length, length-drop, take, drop, take_all, take-append-drop, length-take, sym, ap, ◌∙◌, subst, arith, zero, suc, ◌<◌, [], ◌∷◌, drop-drop, get_or, refl}
+use Rattle.std.specs.Prelude.{slice_range}
+use Rattle.std.proofs.lemmas.List.{take-append-le, drop-append-le, take_rest, take-take, length-take-le}
+use Rattle.std.proofs.Math.Seq.{take-add, drop-append-add, take-append-add}
+
+-- a part of what stands in front
+pub slice_front : (xs ys : List ℕ) (s e : ℕ) → s ≤ e → e ≤ length xs → slice_range (xs ++ ys) s e ≡ slice_range xs s e
+slice_front xs ys s e h g =
+    let l = length-drop s xs in
+    let r : e - s ≤ length (drop s xs) = subst (λ (n : ℕ). e - s ≤ n) (sym l) (omega arith) in
+    ap (take (e - s)) (drop-append-le s xs ys (omega arith)) ∙ take-append-le (e - s) (drop s xs) ys r
+
+-- the same of what begins a longer list
+pub slice_within : (all out : List ℕ) (s e : ℕ) → take (length out) all ≡ out → s ≤ e → e ≤ length out → slice_range all s e ≡ slice_range out s e
+slice_within all out s e is h g =
+    let whole : all ≡ out ++ drop (length out) all = sym (take-append-drop (length out) all) ∙ ap (λ (xs : List ℕ). xs ++ drop (length out) all) is in
+    ap (λ (xs : List ℕ). slice_range xs s e) whole ∙ slice_front out (drop (length out) all) s e h g
+
+-- the first of a block that was read there
+pub block_part : (all out bytes block : List ℕ) (s e : ℕ) → take (length out) all ≡ out → s ≤ e → e ≤ length out → bytes ≡ out → length (take (e - s) (drop s bytes)) ≤ 32
+    → block ≡ take 32 (take (length all - s) (drop s all)) → take (length (take (e - s) (drop s bytes))) block ≡ slice_range out s e
+block_part all out bytes block s e is h g eb few read =
+    let l = length-take (e - s) (drop s bytes) in
+    let m = length-drop s bytes in
+    let n : length (take (e - s) (drop s bytes)) ≡ e - s = omega (arith, l, m, h, g, ap length eb) in
+    (λ i. take (n i) (read i)) ∙ ap (λ (xs : List ℕ). take (e - s) (take 32 xs)) (take_rest all s) ∙ take-take (e - s) 32 (drop s all) (omega (arith, n, few)) ∙ slice_within all out s e is h g
+
+-- the part to the end
+pub slice_all : (xs : List ℕ) (s n : ℕ) → length xs ≡ n → slice_range xs s n ≡ drop s xs
+slice_all xs s n e =
+    let l = length-drop s xs in take_all (n - s) (drop s xs) (omega (arith, l, e))
+
+pub slices_join : (xs : List ℕ) (a b c : ℕ) → a ≤ b → b ≤ c → slice_range xs a b ++ slice_range xs b c ≡ slice_range xs a c
+slices_join xs a b c h g =
+    let n : a + (b - a) ≡ b = omega (arith, h) in
+    let m : (b - a) + (c - b) ≡ c - a = omega (arith, h, g) in
+    let d : drop b xs ≡ drop (b - a) (drop a xs) = sym (drop-drop (b - a) a xs ∙ ap (λ k. drop k xs) n) in
+    ap (λ (ys : List ℕ). take (b - a) (drop a xs) ++ take (c - b) ys) d ∙ sym (take-add (b - a) (c - b) (drop a xs)) ∙ ap (λ k. take k (drop a xs)) m
+
+pub get_same : {X : Type 0} (xs : List X) (i : ℕ) (d e : X) → i < length xs → get_or xs i d ≡ get_or xs i e
+get_same [] i d e l = absurd (omega arith)
+get_same (x ∷ xs) zero d e l = refl
+get_same (x ∷ xs) (suc i) d e l = get_same xs i d e (omega arith)
+
+-- ---- parts of lists that are alike
+
+pub slice_take : (xs ys : List ℕ) (n s e : ℕ) → take n xs ≡ take n ys → n ≤ length xs → n ≤ length ys → s ≤ e → e ≤ n → slice_range xs s e ≡ slice_range ys s e
+slice_take xs ys n s e is a b h g =
+    let lx = length-take-le n xs a in
+    let ly = length-take-le n ys b in
+    slice_within xs (take n xs) s e (ap (λ k. take k xs) lx) h (omega (arith, lx, g))
+    ∙ ap (λ (zs : List ℕ). slice_range zs s e) is
+    ∙ sym (slice_within ys (take n ys) s e (ap (λ k. take k ys) ly) h (omega (arith, ly, g)))
+
+pub drop_alike : (xs ys : List ℕ) (n s : ℕ) → drop n xs ≡ drop n ys → n ≤ s → drop s xs ≡ drop s ys
+drop_alike xs ys n s is h =
+    let m : n + (s - n) ≡ s = omega (arith, h) in
+    sym (drop-drop (s - n) n xs ∙ ap (λ k. drop k xs) m) ∙ ap (drop (s - n)) is ∙ (drop-drop (s - n) n ys ∙ ap (λ k. drop k ys) m)
+
+pub slice_drop : (xs ys : List ℕ) (n s e : ℕ) → drop n xs ≡ drop n ys → n ≤ s → slice_range xs s e ≡ slice_range ys s e
+slice_drop xs ys n s e is h = ap (take (e - s)) (drop_alike xs ys n s is h)
+
+-- what stands behind a front
+pub drop_behind : (xs ys : List ℕ) (p n : ℕ) → length xs ≡ p → p ≤ n → drop n (xs ++ ys) ≡ drop (n - p) ys
+drop_behind xs ys p n l h =
+    let m : n ≡ length xs + (n - p) = omega (arith, l, h) in ap (λ k. drop k (xs ++ ys)) m ∙ drop-append-add xs ys (n - p)
+
+pub take_behind : (xs ys : List ℕ) (p n : ℕ) → length xs ≡ p → p ≤ n → take n (xs ++ ys) ≡ xs ++ take (n - p) ys
+take_behind xs ys p n l h =
+    let m : n ≡ length xs + (n - p) = omega (arith, l, h) in ap (λ k. take k (xs ++ ys)) m ∙ take-append-add xs ys (n - p)
+
+pub slice_length : (xs : List ℕ) (s e : ℕ) → e ≤ length xs → length (slice_range xs s e) ≡ e - s
+slice_length xs s e h =
+    let l = length-take (e - s) (drop s xs) in
+    let m = length-drop s xs in
+    omega (arith, l, m, h)
+
+pub nothing : (xs : List ℕ) → length xs ≡ 0 → xs ≡ []
+nothing [] h = refl
+nothing (x ∷ xs) h = absurd (omega (arith, h))

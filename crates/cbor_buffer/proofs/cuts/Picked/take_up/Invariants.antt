@@ -1,0 +1,11 @@
+use Rattle.std.proofs.Common.{ℕ, List, ◌≡◌, ◌≤◌, ◌++◌, length, take, drop}
+use Rattle.cbor_buffer.specs.inner.Moved.{rope, Run}
+use Rattle.cbor_buffer.specs.declared.cuts.Cut.{Cut}
+use Rattle.cbor_buffer.proofs.cuts.Picked.take_up.Given as goal
+
+abbrev pub invariant-loop-cut : goal.invariant-loop-cut
+invariant-loop-cut l =
+    (raw : List ℕ) → l.fn.self.high ≤ length raw
+    → (xs : List Cut) × (l.self.cuts.items ≡ l.fn.self.cuts.items ++ xs) × Run l.fn.self.low l.fn.self.high l.fn.self.end xs l.self.end
+    × (take l.fn.left (drop l.fn.skip (rope raw l.cuts)) ≡ rope raw xs ++ take l.left (drop l.skip (rope raw (drop l.cut-index l.cuts))))
+    × (l.self.low ≡ l.fn.self.low) × (l.self.high ≡ l.fn.self.high)

@@ -1,0 +1,14 @@
+use Rattle.std.proofs.Common.{◌≡◌, ◌≤◌, ◌∷◌, [], ◌++◌, Option, length, sym, ap, ◌∙◌, subst}
+use Rattle.std.specs.Prelude.{MatchOption}
+use Rattle.cbor_buffer.specs.declared.draft.Region.{Region}
+use Rattle.cbor_buffer.proofs.Drafts.{loosened}
+use Rattle.cbor_buffer.proofs.draft.Draft.loosen.Goals as goal
+
+pub returns-in-Some-clause-loose : goal.returns-in-Some-clause-loose
+returns-in-Some-clause-loose c =
+    let d = c.args.self.now in
+    let m = c.take_last.new.self in
+    let e = c.in_ok-last.ensures in
+    let r = c.in-Some.region in
+    let k = subst (λ (o : Option Region). MatchOption o (m.regions.items ≡ d.regions.items) (λ (r : Region). (d.regions.items ≡ m.regions.items ++ r ∷ []) × (c.args.start ≤ r.start))) c.in-Some.is e.last in
+    (loosened d m r c.len-end.result c.push.new.list.items c.requires.whole k.0 e.buf e.cuts c.len-end.ensures c.in_ok-push.ensures, c.len-end.ensures ∙ ap length (sym e.buf), k.1)

@@ -1,0 +1,10 @@
+use Rattle.std.proofs.Common.{◌≡◌, vec_len}
+use Rattle.cbor_buffer.specs.inner.Moved.{IsWhole}
+use Rattle.cbor_buffer.proofs.draft.Draft.merge.Given as goal
+
+abbrev pub invariant-merging : goal.invariant-merging
+invariant-merging l =
+    IsWhole l.self × (l.self.buf ≡ l.fn.self.buf) × (l.self.cuts.items ≡ l.fn.self.cuts.items) × (l.self.end ≡ l.fn.self.end)
+
+abbrev pub decreases-merging : goal.decreases-merging
+decreases-merging l = vec_len l.self.regions

@@ -1,0 +1,13 @@
+use Rattle.std.proofs.Common.{◌≡◌, ◌++◌, length, drop, map}
+use Rattle.std.specs.Prelude.{flat_map}
+use Rattle.cbor_buffer.specs.Pairs.{pair_bytes}
+use Rattle.cbor_buffer.specs.inner.Spans.{span_pair}
+use Rattle.cbor_buffer.specs.inner.Moved.{meant, rope, Run}
+use Rattle.cbor_buffer.proofs.draft.Draft.pick_all.Given as goal
+
+abbrev pub invariant-loop-span : goal.invariant-loop-span
+invariant-loop-span l =
+    (l.self.buf ≡ l.fn.self.buf) × (l.self.cuts ≡ l.fn.self.cuts) × (l.self.regions ≡ l.fn.self.regions) × (l.self.end ≡ l.fn.self.end) × (l.self.picked.low ≡ l.start)
+    × (l.self.picked.high ≡ length l.fn.self.buf) × Run l.start (length l.fn.self.buf) l.start l.self.picked.cuts.items l.self.picked.end
+    × (flat_map pair_bytes (map (span_pair (meant l.fn.self)) l.spans)
+    ≡ rope l.fn.self.buf l.self.picked.cuts.items ++ flat_map pair_bytes (map (span_pair (meant l.fn.self)) (drop l.span-index l.spans)))

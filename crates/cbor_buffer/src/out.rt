@@ -1,0 +1,366 @@
+//! The output: one buffer.
+
+ghost use Rattle.std.specs.Prelude.{◌≡◌, ◌≤◌, ◌<◌, ◌+◌, ◌++◌, ◌^◌, ◌∷◌, [], length, take, drop};
+ghost use Rattle.std.specs.Prelude.{slice_range, vec_len, OnOk};
+ghost use Rattle.cbor_head.specs.Head.{shortest_head, IsSimple, major_number};
+ghost use Rattle.cbor_head.specs.declared.major.Major.TheVariants.{Simple};
+
+use cbor_head::Major;
+use std::alloc::{AllocError, Global};
+use std::marker::Model;
+
+// The longest head.
+const HEAD: usize = 9;
+
+// So many bytes are copied in one piece.
+const BLOCK: usize = 32;
+
+// So many bytes of room lie behind what is written, where the buffer has grown for it.
+const SLACK: usize = 40;
+
+/// The bytes written so far. Room is left behind them, so that a head is written in one piece and a
+/// key's first bytes are read in one.
+#[derive(Drop)]
+pub struct Out {
+    buf: Vec<u8>,
+    len: usize,
+}
+
+impl Model for Out {
+    ghost use Rattle.std.specs.Prelude.{List, ℕ, ◌≤◌, take, vec_len};
+
+    ghost Value = { List ℕ };
+
+    ghost view = { λ b. take b.len b.buf.items };
+
+    ghost invariant = { λ b. b.len ≤ vec_len b.buf };
+}
+
+impl Out {
+    // Nothing, which takes no memory.
+    pub(crate) fn new(alloc: Global) -> Out
+        ensures { result ≡ [] }
+    {
+        Out {
+            buf: Vec::new(alloc),
+            len: 0,
+        }
+    }
+
+    #[inline(always)]
+    pub fn len(&self) -> usize
+        ensures { result ≡ length self.now }
+    {
+        self.len
+    }
+
+    // What is written.
+    #[inline(always)]
+    pub fn as_slice(&self) -> &[u8]
+        ensures { result.now ≡ self.now }
+    {
+        &self.buf[..self.len]
+    }
+
+    // What is written, and the room behind it.
+    #[inline(always)]
+    pub fn with_room(&self) -> &[u8]
+        ensures { take (length self.now) result.now ≡ self.now }
+    {
+        self.buf.as_slice()
+    }
+
+    pub(crate) fn into_vec(self) -> Vec<u8>
+        ensures { result.items ≡ self }
+    {
+        let Out { mut buf, len } = self;
+        buf.truncate(len);
+        buf
+    }
+
+    // The shortest head behind what is there.
+    #[inline(always)]
+    pub(crate) fn head(&mut self, major: Major, n: u64) -> Result<(), AllocError>
+        requires { major ≡ Simple → IsSimple n }
+        ensures { OnOk result (self.new ≡ self.old ++ shortest_head major n) }
+    {
+        make_room(&mut self.buf, self.len, HEAD)?;
+        self.len = put_head(&mut self.buf, self.len, major, n);
+        Ok(())
+    }
+
+    // These bytes behind what is there.
+    #[inline(always)]
+    pub(crate) fn extend(&mut self, bytes: &[u8]) -> Result<(), AllocError>
+        ensures { OnOk result (self.new ≡ self.old ++ bytes.now) }
+    {
+        make_room(&mut self.buf, self.len, bytes.len())?;
+        let end = self.len + bytes.len();
+        copy(bytes, &mut self.buf[self.len..end]);
+        self.len = end;
+        Ok(())
+    }
+
+    // The first of these bytes behind what is there. Up to 32 are copied by a piece of 32, where as
+    // many bytes are given.
+    #[inline(always)]
+    pub(crate) fn extend_front(&mut self, front: &[u8], count: usize) -> Result<(), AllocError>
+        requires { count ≤ length front.now }
+        ensures { OnOk result (self.new ≡ self.old ++ take count front.now) }
+    {
+        if count <= BLOCK {
+            if let Some(block) = front.first_chunk::<BLOCK>() {
+                return self.extend_block(block, count);
+            }
+        }
+        self.extend(&front[..count])
+    }
+
+    // What stands in another from `start` to `end`, behind what is there. Up to 32 bytes are copied
+    // by a piece of 32, where the room behind them allows it.
+    #[inline(always)]
+    pub(crate) fn extend_from(
+        &mut self,
+        other: &Out,
+        start: usize,
+        end: usize,
+    ) -> Result<(), AllocError>
+        requires begins { start ≤ end }
+        requires ends { end ≤ length other.now }
+        ensures { OnOk result (self.new ≡ self.old ++ slice_range other.now start end) }
+    {
+        let bytes = &other.as_slice()[start..end];
+        if bytes.len() <= BLOCK {
+            if let Some(block) = other.with_room()[start..].first_chunk::<BLOCK>() {
+                return self.extend_block(block, bytes.len());
+            }
+        }
+        self.extend(bytes)
+    }
+
+    // The first of these bytes behind what is there.
+    #[inline(always)]
+    fn extend_block(&mut self, block: &[u8; BLOCK], count: usize) -> Result<(), AllocError>
+        requires { count ≤ 32 }
+        ensures { OnOk result (self.new ≡ self.old ++ take count block.now) }
+    {
+        make_room(&mut self.buf, self.len, BLOCK)?;
+        self.buf[self.len..self.len + BLOCK].copy_from_slice(block);
+        self.len += count;
+        Ok(())
+    }
+
+    // What is written up to `end` alone.
+    pub(crate) fn cut(&mut self, end: usize)
+        requires { end ≤ length self.old }
+        ensures { self.new ≡ take end self.old }
+    {
+        self.len = end;
+    }
+
+    // These bytes in place of those from `start` on.
+    pub(crate) fn rewrite(&mut self, start: usize, bytes: &[u8]) -> Result<(), AllocError>
+        requires { start ≤ length self.old }
+        ensures { OnOk result (self.new ≡ take start self.old ++ bytes.now) }
+    {
+        self.len = start;
+        self.extend(bytes)
+    }
+
+    // The shortest head in place of what stands between `from` and `start`.
+    #[inline(always)]
+    pub(crate) fn fill_head(
+        &mut self,
+        from: usize,
+        start: usize,
+        major: Major,
+        n: u64,
+    ) -> Result<(), AllocError>
+        requires ends { start ≤ length self.old }
+        requires begins { from ≤ start }
+        requires simple { major ≡ Simple → IsSimple n }
+        ensures { OnOk result
+            (self.new ≡ take from self.old ++ (shortest_head major n ++ drop start self.old)) }
+    {
+        if n < 24 && start - from == 1 {
+            self.buf[from] = 32 * number(major) + n as u8;
+            return Ok(());
+        }
+        self.fill_long(from, start, major, n)
+    }
+
+    // The same, of any length: where it differs, what stands behind it is moved.
+    #[inline(never)]
+    fn fill_long(
+        &mut self,
+        from: usize,
+        start: usize,
+        major: Major,
+        n: u64,
+    ) -> Result<(), AllocError>
+        requires ends { start ≤ length self.old }
+        requires begins { from ≤ start }
+        requires simple { major ≡ Simple → IsSimple n }
+        ensures { OnOk result
+            (self.new ≡ take from self.old ++ (shortest_head major n ++ drop start self.old)) }
+    {
+        let (head, count) = head_bytes(major, n);
+        if count == start - from {
+            self.buf[from..start].copy_from_slice(&head[..count]);
+            return Ok(());
+        }
+        make_room(&mut self.buf, self.len, HEAD)?;
+        self.buf.copy_within(start..self.len, from + count);
+        self.buf[from..from + count].copy_from_slice(&head[..count]);
+        self.len = from + count + (self.len - start);
+        Ok(())
+    }
+}
+
+// The bytes in place of as many. Up to 32 are copied without a call.
+#[inline(always)]
+fn copy(bytes: &[u8], to: &mut [u8])
+    requires { length bytes.now ≡ length to.old }
+    ensures { to.new ≡ bytes.now }
+{
+    match bytes.len() {
+        0 => {}
+        1..=2 => copy_ends(bytes, to, 1),
+        3..=4 => copy_ends(bytes, to, 2),
+        5..=8 => copy_ends(bytes, to, 4),
+        9..=16 => copy_ends(bytes, to, 8),
+        17..=32 => copy_ends(bytes, to, 16),
+        _ => to.copy_from_slice(bytes),
+    }
+}
+
+// The first n and the last n, which meet.
+#[inline(always)]
+fn copy_ends(bytes: &[u8], to: &mut [u8], n: usize)
+    requires length { length bytes.now ≡ length to.old }
+    requires within { n ≤ length bytes.now }
+    requires meet { length bytes.now ≤ n + n }
+    ensures { to.new ≡ bytes.now }
+{
+    let at = bytes.len() - n;
+    to[..n].copy_from_slice(&bytes[..n]);
+    to[at..].copy_from_slice(&bytes[at..]);
+}
+
+// Room for n bytes more than the first `len`, and the slack behind them. These stay.
+#[inline(always)]
+fn make_room(buf: &mut Vec<u8>, len: usize, n: usize) -> Result<(), AllocError>
+    requires within { len ≤ vec_len buf.old }
+    requires few { n < 2 ^ 63 }
+    ensures room { OnOk result (len + n + 40 ≤ vec_len buf.new) }
+    ensures within { len ≤ vec_len buf.new }
+    ensures same { take len buf.new.items ≡ take len buf.old.items }
+{
+    if buf.len() - len < n + SLACK {
+        return grow(buf, len, n);
+    }
+    Ok(())
+}
+
+// The same, where the buffer is too short. It grows by a half at least, so that all growths
+// together cost no more than what is written in the end.
+#[cold]
+#[inline(never)]
+fn grow(buf: &mut Vec<u8>, len: usize, n: usize) -> Result<(), AllocError>
+    requires within { len ≤ vec_len buf.old }
+    requires few { n < 2 ^ 63 }
+    ensures room { OnOk result (len + n + 40 ≤ vec_len buf.new) }
+    ensures within { len ≤ vec_len buf.new }
+    ensures same { take len buf.new.items ≡ take len buf.old.items }
+{
+    let size = buf.len();
+    let more = (size / 2).max(n).max(SLACK);
+    buf.resize(size.saturating_add(more).saturating_add(SLACK), 0)
+}
+
+// The shortest head behind the first `len` bytes, where there is room for any. Answers where it
+// ends. Each width has a write of its own, so that the argument is written as one word.
+#[inline(always)]
+fn put_head(buf: &mut Vec<u8>, len: usize, major: Major, n: u64) -> usize
+    requires room { len + 9 ≤ vec_len buf.old }
+    ensures within { result ≤ vec_len buf.new }
+    ensures head { take result buf.new.items ≡ take len buf.old.items ++ shortest_head major n }
+{
+    let first = 32 * number(major);
+    if n < 24 {
+        put(buf, len, &[first + n as u8])
+    } else if n < 0x100 {
+        put(buf, len, &[first + 24, n as u8])
+    } else if n < 0x1_0000 {
+        let [a, b] = (n as u16).to_be_bytes();
+        put(buf, len, &[first + 25, a, b])
+    } else if n < 0x1_0000_0000 {
+        let [a, b, c, d] = (n as u32).to_be_bytes();
+        put(buf, len, &[first + 26, a, b, c, d])
+    } else {
+        let [a, b, c, d, e, f, g, h] = n.to_be_bytes();
+        put(buf, len, &[first + 27, a, b, c, d, e, f, g, h])
+    }
+}
+
+// These bytes behind the first `len`, where there is room for them. Answers where they end.
+#[inline(always)]
+fn put(buf: &mut Vec<u8>, len: usize, bytes: &[u8]) -> usize
+    requires room { len + length bytes.now ≤ vec_len buf.old }
+    ensures end { result ≡ len + length bytes.now }
+    ensures same { vec_len buf.new ≡ vec_len buf.old }
+    ensures bytes { take result buf.new.items ≡ take len buf.old.items ++ bytes.now }
+{
+    let end = len + bytes.len();
+    buf[len..end].copy_from_slice(bytes);
+    end
+}
+
+// The bytes of the shortest head, with zeros behind them, and their count.
+#[inline(always)]
+fn head_bytes(major: Major, n: u64) -> ([u8; 9], usize)
+    ensures count { result.1 ≡ length (shortest_head major n) }
+    ensures few { result.1 ≤ 9 }
+    ensures bytes { take result.1 result.0 ≡ shortest_head major n }
+{
+    let first = 32 * number(major);
+    if n < 24 {
+        ([first + n as u8, 0, 0, 0, 0, 0, 0, 0, 0], 1)
+    } else if n < 0x100 {
+        ([first + 24, n as u8, 0, 0, 0, 0, 0, 0, 0], 2)
+    } else if n < 0x1_0000 {
+        let [a, b] = (n as u16).to_be_bytes();
+        ([first + 25, a, b, 0, 0, 0, 0, 0, 0], 3)
+    } else if n < 0x1_0000_0000 {
+        let [a, b, c, d] = (n as u32).to_be_bytes();
+        ([first + 26, a, b, c, d, 0, 0, 0, 0], 5)
+    } else {
+        let [a, b, c, d, e, f, g, h] = n.to_be_bytes();
+        ([first + 27, a, b, c, d, e, f, g, h], 9)
+    }
+}
+
+/// How many bytes the shortest head has.
+pub(crate) fn head_len(major: Major, n: u64) -> usize
+    ensures { result ≡ length (shortest_head major n) }
+{
+    head_bytes(major, n).1
+}
+
+// The number in the high three bits of a head.
+#[inline(always)]
+fn number(major: Major) -> u8
+    ensures number { result ≡ major_number major }
+    ensures few { result ≤ 7 }
+{
+    match major {
+        Major::Unsigned => 0,
+        Major::Negative => 1,
+        Major::Bytes => 2,
+        Major::Text => 3,
+        Major::Array => 4,
+        Major::Map => 5,
+        Major::Tag => 6,
+        Major::Simple => 7,
+    }
+}

@@ -1,0 +1,40 @@
+//! One more element, for which there mostly is room.
+
+ghost use Rattle.std.specs.Prelude.{◌≡◌, ◌<◌, ◌++◌, ◌∷◌, [], OnOk, vec_len, vec_capacity};
+
+use std::alloc::AllocError;
+
+/// One more behind the others.
+#[inline(always)]
+pub fn push<T: Copy>(list: &mut Vec<T>, last: T) -> Result<(), AllocError>
+    ensures { OnOk result (list.new.items ≡ list.old.items ++ last ∷ []) }
+{
+    if list.len() == list.capacity() {
+        make_place(list)?;
+    }
+    list.push_reserved(last);
+    Ok(())
+}
+
+/// The same of what stands elsewhere. It is read once there is room, and so goes straight to its
+/// place.
+#[inline(always)]
+pub fn push_copy<T: Copy>(list: &mut Vec<T>, last: &T) -> Result<(), AllocError>
+    ensures { OnOk result (list.new.items ≡ list.old.items ++ last.now ∷ []) }
+{
+    if list.len() == list.capacity() {
+        make_place(list)?;
+    }
+    list.push_reserved(*last);
+    Ok(())
+}
+
+#[cold]
+#[inline(never)]
+fn make_place<T: Copy>(list: &mut Vec<T>) -> Result<(), AllocError>
+    ensures same { list.new.items ≡ list.old.items }
+    ensures len { vec_len list.new ≡ vec_len list.old }
+    ensures place { OnOk result (vec_len list.new < vec_capacity list.new) }
+{
+    list.reserve(1)
+}

@@ -1,0 +1,270 @@
+-- What stands open when the buffer grows.
+use Rattle.std.proofs.Common.{◌≡◌, ℕ, suc, ◌+◌, ◌-◌, ◌≤◌, Bool, List, [], ◌∷◌, ◌++◌, append_assoc, length, length-append, length-drop, take, drop, take-append-drop, length-take, drop-drop, refl, sym, ap, ◌∙◌, subst, arith, map}
+use Rattle.std.specs.Prelude.{slice_range, flat_map, reverse}
+use Rattle.std.proofs.lemmas.List.{take-append-le, drop-append-le, map-append, length-map, reverse-append}
+use Rattle.std.proofs.Math.Seq.{drop-append_seam}
+use Rattle.cbor_head.specs.declared.major.Major.TheVariants as of_major
+use Rattle.cbor_head.specs.Canonical.{in_order}
+use Rattle.cbor_head.specs.declared.order.KeyOrder.{KeyOrder}
+use Rattle.cbor_head.specs.Head.{shortest_head}
+use Rattle.cbor_canonical.specs.Pairs.{IsRising}
+use Rattle.cbor_buffer.proofs.Written.{take_front, drop_front}
+use Rattle.cbor_builder.specs.Parts.{plain, an_array, a_map, a_key, a_string, pair, with_member, with_content, give, extended, close, closed}
+use Rattle.cbor_buffer.specs.Pairs.{pair_bytes}
+use Rattle.cbor_buffer.specs.inner.Spans.{span_pair, AreWithin}
+use Rattle.cbor_builder.specs.inner.Laid.{pairs_from, Tile, shape_open, outer_spans, opens, Fits, Laid, Takes, IsString, shape_after, span, spans_after, KeepsRising, Stands, Completed}
+use Rattle.cbor_canonical.specs.Front.{front_of}
+use Rattle.cbor_builder.specs.inner.Front.{AreFronted}
+use Rattle.cbor_buffer.specs.declared.span.Span.{Span}
+use Rattle.cbor_builder.specs.declared.frame.Frame.{Frame}
+use Rattle.cbor_builder.specs.declared.frame.Shape.{Shape}
+use Rattle.cbor_builder.specs.declared.frame.Shape.TheVariants.{Plain, Array, Map, Key, Content}
+use Rattle.cbor_buffer.proofs.Slices.{slice_all, slice_front}
+
+pub tile_le : (a : ℕ) (ss : List Span) (n : ℕ) → Tile a ss n → a ≤ n
+tile_le a [] n t = omega (arith, t)
+tile_le a (s ∷ ss) n t = let r = tile_le s.end ss n t.3 in omega (arith, t.0, t.1, t.2, r)
+
+pub tile_within : (out : List ℕ) (a : ℕ) (ss : List Span) (n : ℕ) → Tile a ss n → n ≤ length out → AreWithin out ss
+tile_within out a [] n t l = tt
+tile_within out a (s ∷ ss) n t l = let r = tile_le s.end ss n t.3 in ((t.1, t.2, omega (arith, r, l)), tile_within out s.end ss n t.3 l)
+
+-- finished pairs stay
+pub pairs_stay : (out b : List ℕ) (a : ℕ) (ss : List Span) (n : ℕ) → Tile a ss n → n ≤ length out → map (span_pair (out ++ b)) ss ≡ map (span_pair out) ss
+pairs_stay out b a [] n t l = refl
+pairs_stay out b a (s ∷ ss) n t l =
+    let r = tile_le s.end ss n t.3 in
+    let k = slice_front out b s.key s.val t.1 (omega (arith, t.2, r, l)) in
+    let c = slice_front out b s.val s.end t.2 (omega (arith, r, l)) in
+    let rest = pairs_stay out b s.end ss n t.3 l in
+    λ i. record { key = k i; value = c i } ∷ rest i
+
+pub tile_more : (out : List ℕ) (a : ℕ) (ss : List Span) (key val : ℕ) → Tile a ss key → key ≤ val → val ≤ length out → Tile a (ss ++ span out key val ∷ []) (length out)
+tile_more out a [] key val t h g = (sym t, h, g, refl)
+tile_more out a (s ∷ ss) key val t h g = (t.0, t.1, t.2, tile_more out s.end ss key val t.3 h g)
+
+-- fronts stay right
+pub fronted_stay : (out b : List ℕ) (a : ℕ) (ss : List Span) (n : ℕ) → Tile a ss n → n ≤ length out → AreFronted out ss → AreFronted (out ++ b) ss
+fronted_stay out b a [] n t l h = tt
+fronted_stay out b a (s ∷ ss) n t l h =
+    let r = tile_le s.end ss n t.3 in
+    (h.0 ∙ ap front_of (sym (slice_front out b s.key s.val t.1 (omega (arith, t.2, r, l)))), fronted_stay out b s.end ss n t.3 l h.1)
+
+pub fronted_more : (out : List ℕ) (ss : List Span) (key val : ℕ) → AreFronted out ss → AreFronted out (ss ++ span out key val ∷ [])
+fronted_more out [] key val h = (refl, tt)
+fronted_more out (s ∷ ss) key val h = (h.0, fronted_more out ss key val h.1)
+
+-- the parts up to an end, joined
+pub tile_joins : (out : List ℕ) (a : ℕ) (ss : List Span) (n : ℕ) → Tile a ss n → n ≡ length out → flat_map pair_bytes (map (span_pair out) ss) ≡ drop a out
+tile_joins out a [] n t e =
+    let l = length-drop a out in none (drop a out) (omega (arith, t, e, l))
+  where
+    none : (xs : List ℕ) → length xs ≡ 0 → [] ≡ xs
+    none [] h = refl
+    none (x ∷ xs) h = absurd (omega (arith, h))
+tile_joins out a (s ∷ ss) n t e =
+    let r = tile_le s.end ss n t.3 in
+    ap (λ (xs : List ℕ). (slice_range out s.key s.val ++ slice_range out s.val s.end) ++ xs) (tile_joins out s.end ss n t.3 e)
+    ∙ append_assoc (slice_range out s.key s.val) (slice_range out s.val s.end) (drop s.end out)
+    ∙ ap (λ (xs : List ℕ). slice_range out s.key s.val ++ xs) (part_rest out s.val s.end t.2)
+    ∙ part_rest out s.key s.val t.1
+    ∙ ap (λ k. drop k out) t.0
+  where
+    part_rest : (out : List ℕ) (a b : ℕ) → a ≤ b → slice_range out a b ++ drop b out ≡ drop a out
+    part_rest out a b h =
+        let n : a + (b - a) ≡ b = omega (arith, h) in
+        let d : drop b out ≡ drop (b - a) (drop a out) = sym (drop-drop (b - a) a out ∙ ap (λ k. drop k out) n) in
+        ap (λ (xs : List ℕ). take (b - a) (drop a out) ++ xs) d ∙ take-append-drop (b - a) (drop a out)
+
+-- ---- one more finished member
+
+abbrev pub Given : KeyOrder → List ℕ → List ℕ → List Span → ℕ → ℕ → Bool → Bool → Shape → List Frame → Type 0
+Given o out b ss from start was now s fs =
+    Stands o (out ++ b) (spans_after (out ++ b) ss s) (record { from = from; start = start; shape = shape_after (length out) (length (out ++ b)) s; rises = now } ∷ fs)
+    (with_member b (shape_open out ss start s) ∷ opens (take from out) (outer_spans ss s) fs)
+
+given_at : (o : KeyOrder) (out b : List ℕ) (ss : List Span) (from start : ℕ) (was now : Bool) (s : Shape) (fs : List Frame)
+    → from ≤ start → start ≤ length out → Fits o out ss from start was s → Laid o (take from out) (outer_spans ss s) fs → Takes s
+    → KeepsRising o (out ++ b) ss s was now → Given o out b ss from start was now s fs
+given_at o out b ss from start was now Plain fs h g fits outer takes keeps =
+    let n = length-append out b in
+    let t = take-append-le from out b (omega (arith, h, g)) in (
+      (h, omega (arith, n, g), fits, subst (λ (xs : List ℕ). Laid o xs ss fs) (sym t) outer),
+      (λ i. plain (drop-append-le start out b g i) ∷ opens (t i) ss fs),
+    )
+given_at o out b ss from start was now (Array k) fs h g fits outer takes keeps =
+    let n = length-append out b in
+    let t = take-append-le from out b (omega (arith, h, g)) in (
+      (h, omega (arith, n, g), takes, subst (λ (xs : List ℕ). Laid o xs ss fs) (sym t) outer),
+      (λ i. an_array (suc k) (drop-append-le start out b g i) ∷ opens (t i) ss fs),
+    )
+given_at o out b ss from start was now (Map first) fs h g fits outer takes keeps =
+    let n = length-append out b in
+    let t = take-append-le from out b (omega (arith, h, g)) in
+    let stay = pairs_stay out b start (drop first ss) (length out) fits.1 (omega arith) in (
+      (
+        h,
+        omega (arith, n, g),
+        (
+          fits.0,
+          fits.1,
+          omega (arith, n),
+          refl,
+          (λ r. subst (IsRising o) (sym stay) (fits.2 (sym keeps ∙ r))),
+          fronted_stay out b start (drop first ss) (length out) fits.1 (omega arith) fits.3,
+        ),
+        subst (λ (xs : List ℕ). Laid o xs (take first ss) fs) (sym t) outer,
+      ),
+      (λ i. a_key (stay i) (drop-append_seam out b i) ∷ opens (t i) (take first ss) fs),
+    )
+given_at o out b ss from start was now (Key first at val) fs h g fits outer takes keeps =
+    let end = length (out ++ b) in
+    let new = span (out ++ b) at val in
+    let n = length-append out b in
+    let t = take-append-le from out b (omega (arith, h, g)) in
+    let ts : take first (ss ++ new ∷ []) ≡ take first ss = take-append-le first ss (new ∷ []) fits.0 in
+    let ds : drop first (ss ++ new ∷ []) ≡ drop first ss ++ new ∷ [] = drop-append-le first ss (new ∷ []) fits.0 in
+    let stay = pairs_stay out b start (drop first ss) at fits.1 (omega (arith, fits.2, fits.3)) in
+    let long = length-append ss (new ∷ []) in
+    let key : slice_range (out ++ b) at val ≡ drop at out = slice_front out b at val fits.2 (omega (arith, fits.3)) ∙ slice_all out at val (sym fits.3) in
+    let content : slice_range (out ++ b) val end ≡ b = slice_all (out ++ b) val end refl ∙ ap (λ k. drop k (out ++ b)) fits.3 ∙ drop-append_seam out b in
+    let tile : Tile start (drop first ss ++ new ∷ []) end = tile_more (out ++ b) start (drop first ss) at val fits.1 fits.2 (omega (arith, fits.3, n)) in (
+      (
+        h,
+        omega (arith, n, g),
+        (
+          omega (arith, long, fits.0),
+          subst (λ (xs : List Span). Tile start xs end) (sym ds) tile,
+          (λ r. subst (λ (xs : List Span). IsRising o (map (span_pair (out ++ b)) xs)) (sym ds) ((keeps r).1 (subst (IsRising o) (sym stay) (fits.4 (keeps r).0)))),
+          subst (AreFronted (out ++ b)) (sym ds) (fronted_more (out ++ b) (drop first ss) at val (fronted_stay out b start (drop first ss) at fits.1 (omega (arith, fits.2, fits.3)) fits.5)),
+        ),
+        subst (λ (xs : List Span). Laid o (take from (out ++ b)) xs fs) (sym ts) (subst (λ (xs : List ℕ). Laid o xs (take first ss) fs) (sym t) outer),
+      ),
+      (λ i. a_map (map (span_pair (out ++ b)) (ds i)) ∷ opens (t i) (ts i) fs)
+          ∙ (λ i. a_map (map-append (span_pair (out ++ b)) (drop first ss) (new ∷ []) i) ∷ opens (take from out) (take first ss) fs)
+          ∙ (λ i. a_map (stay i ++ pair (key i) (content i) ∷ []) ∷ opens (take from out) (take first ss) fs),
+    )
+given_at o out b ss from start was now (Content m) fs h g fits outer takes keeps = absurd takes
+
+pub given : (o : KeyOrder) (out b : List ℕ) (ss : List Span) (f : Frame) (fs : List Frame) (out' : List ℕ) (ss' : List Span) (f' : Frame)
+    → Laid o out ss (f ∷ fs) → Takes f.shape → out' ≡ out ++ b → Completed o ss (length out) f out' ss' f'
+    → Stands o out' ss' (f' ∷ fs) (give b (opens out ss (f ∷ fs)))
+given o out b ss f fs out' ss' f' laid takes e =
+    subst (λ (xs : List ℕ). Completed o ss (length out) f xs ss' f' → Stands o xs ss' (f' ∷ fs) (give b (opens out ss (f ∷ fs)))) (sym e) at_once
+  where
+    at_once : Completed o ss (length out) f (out ++ b) ss' f' → Stands o (out ++ b) ss' (f' ∷ fs) (give b (opens out ss (f ∷ fs)))
+    at_once c =
+        let is : record { from = f.from; start = f.start; shape = shape_after (length out) (length (out ++ b)) f.shape; rises = f'.rises } ≡ f' =
+        λ i. record { from = sym c.0 i; start = sym c.1 i; shape = sym c.2 i; rises = f'.rises } in
+        subst (λ (g : Frame). Stands o (out ++ b) ss' (g ∷ fs) (give b (opens out ss (f ∷ fs)))) is
+        (subst (λ (xs : List Span). Stands o (out ++ b) xs (record { from = f.from; start = f.start; shape = shape_after (length out) (length (out ++ b)) f.shape; rises = f'.rises } ∷ fs) (give b (opens out ss (f ∷ fs)))) (sym c.3)
+        (given_at o out b ss f.from f.start f.rises f'.rises f.shape fs laid.0 laid.1 laid.2 laid.3 takes c.4))
+
+-- what a map with a waiting key is ready for, when its value stands behind it
+pub key_ready : (o : KeyOrder) (out b : List ℕ) (ss : List Span) (f : Frame) (fs : List Frame) (bytes : List ℕ) → Laid o out ss (f ∷ fs) → bytes ≡ out ++ b
+    → (first a val : ℕ) → f.shape ≡ Key first a val → (first ≤ length ss) × (a ≤ val) × (val ≤ length bytes) × AreFronted bytes (drop first ss)
+key_ready o out b ss f fs bytes laid eb first a val e =
+    let fits = subst (Fits o out ss f.from f.start f.rises) e laid.2 in
+    let n = length-append out b in (
+      fits.0,
+      fits.2,
+      omega (arith, fits.3, n, ap length eb),
+      subst (λ (xs : List ℕ). AreFronted xs (drop first ss)) (sym eb) (fronted_stay out b f.start (drop first ss) a fits.1 (omega (arith, fits.2, fits.3)) fits.5),
+    )
+
+-- the same of what holds what ends
+pub outer_ready : (o : KeyOrder) (out : List ℕ) (ss ss1 : List Span) (f g : Frame) (fs below : List Frame) (bytes x : List ℕ) → below ≡ g ∷ fs → Laid o out ss (f ∷ below)
+    → bytes ≡ take f.from out ++ x → ss1 ≡ outer_spans ss f.shape
+    → (first a val : ℕ) → g.shape ≡ Key first a val → (first ≤ length ss1) × (a ≤ val) × (val ≤ length bytes) × AreFronted bytes (drop first ss1)
+outer_ready o out ss ss1 f g fs below bytes x eb laid e es first a val is =
+    let l = subst (λ (gs : List Frame). Laid o out ss (f ∷ gs)) eb laid in
+    subst (λ (us : List Span). (first ≤ length us) × (a ≤ val) × (val ≤ length bytes) × AreFronted bytes (drop first us)) (sym es)
+    (key_ready o (take f.from out) x (outer_spans ss f.shape) g fs bytes l.3 e first a val is)
+
+-- ---- more of a string
+
+pub lengthened : (o : KeyOrder) (out b : List ℕ) (ss : List Span) (f : Frame) (fs : List Frame) → Laid o out ss (f ∷ fs) → IsString f.shape
+    → Stands o (out ++ b) ss (f ∷ fs) (extended b (opens out ss (f ∷ fs)))
+lengthened o out b ss f fs laid string = by_shape f.shape laid.2 laid.3 string
+  where
+    by_shape : (s : Shape) → Fits o out ss f.from f.start f.rises s → Laid o (take f.from out) (outer_spans ss s) fs → IsString s
+        → Stands o (out ++ b) ss (record { from = f.from; start = f.start; shape = s; rises = f.rises } ∷ fs) (with_content b (shape_open out ss f.start s) ∷ opens (take f.from out) (outer_spans ss s) fs)
+    by_shape Plain fits outer h = absurd h
+    by_shape (Array n) fits outer h = absurd h
+    by_shape (Map first) fits outer h = absurd h
+    by_shape (Key first at val) fits outer h = absurd h
+    by_shape (Content m) fits outer h =
+        let l = length-append out b in
+        let t = take-append-le f.from out b (omega (arith, laid.0, laid.1)) in
+        ((laid.0, omega (arith, l, laid.1), fits, subst (λ (xs : List ℕ). Laid o xs ss fs) (sym t) outer), (λ i. a_string m (drop-append-le f.start out b laid.1 i) ∷ opens (t i) ss fs))
+
+-- ---- what ends
+
+-- what closes is given to what holds it
+pub ended : (o : KeyOrder) (out : List ℕ) (ss : List Span) (f g : Frame) (fs : List Frame) (out' : List ℕ) (ss' : List Span) (g' : Frame)
+    → Laid o out ss (f ∷ g ∷ fs) → Takes g.shape → out' ≡ take f.from out ++ closed o (shape_open out ss f.start f.shape)
+    → Completed o (outer_spans ss f.shape) f.from g out' ss' g'
+    → Stands o out' ss' (g' ∷ fs) (close o (opens out ss (f ∷ g ∷ fs)))
+ended o out ss f g fs out' ss' g' laid takes e c =
+    let l = length-take f.from out in
+    let n : f.from ≡ length (take f.from out) = omega (arith, l, laid.0, laid.1) in
+    given o (take f.from out) (closed o (shape_open out ss f.start f.shape)) (outer_spans ss f.shape) g fs out' ss' g' laid.3 takes e
+    (subst (λ k. Completed o (outer_spans ss f.shape) k g out' ss' g') n c)
+
+-- nothing is open any more
+pub finished : (o : KeyOrder) (out : List ℕ) (ss : List Span) (f : Frame) (fs : List Frame) → Laid o out ss (f ∷ fs) → (bs : List ℕ)
+    → opens out ss (f ∷ fs) ≡ plain bs ∷ [] → out ≡ bs
+finished o out ss f [] laid bs e =
+    let c : shape_open out ss f.start f.shape ≡ plain bs = cc in
+    by_shape f.shape laid.2 laid.3 c
+  where
+    by_shape : (s : Shape) → Fits o out ss f.from f.start f.rises s → take f.from out ≡ [] → shape_open out ss f.start s ≡ plain bs → out ≡ bs
+    by_shape Plain fits none c =
+        let d : drop f.start out ≡ bs = cc in
+        sym (take-append-drop f.from out) ∙ (λ i. none i ++ drop (sym fits i) out) ∙ d
+    by_shape (Array n) fits none c = cc
+    by_shape (Map first) fits none c = cc
+    by_shape (Key first at val) fits none c = cc
+    by_shape (Content m) fits none c = cc
+finished o out ss f (g ∷ fs) laid bs e = cc
+
+-- ---- the same from what calls ensure
+
+pub given_by : (o : KeyOrder) (out b : List ℕ) (ss : List Span) (f : Frame) (fs : List Frame) (out' : List ℕ) (ss' : List Span) (f' : Frame) (bytes : List ℕ) (at : ℕ)
+    → Laid o out ss (f ∷ fs) → Takes f.shape → out' ≡ out ++ b → bytes ≡ out' → at ≡ length out → Completed o ss at f bytes ss' f'
+    → Stands o out' ss' (f' ∷ fs) (give b (opens out ss (f ∷ fs)))
+given_by o out b ss f fs out' ss' f' bytes at laid takes e eb ea c =
+    given o out b ss f fs out' ss' f' laid takes e
+    (subst (λ (xs : List ℕ). Completed o ss (length out) f xs ss' f') eb (subst (λ k. Completed o ss k f bytes ss' f') ea c))
+
+-- the frames of a builder whose outer frame was taken from the end of a list
+pub taken : (below below' : List Frame) (g : Frame) → below ≡ below' ++ g ∷ [] → reverse below ≡ g ∷ reverse below'
+taken below below' g e = ap reverse e ∙ reverse-append below' (g ∷ [])
+
+pub ended_by : (o : KeyOrder) (out : List ℕ) (ss : List Span) (f g : Frame) (fs below : List Frame) (out' : List ℕ) (ss1 ss' : List Span) (g' : Frame) (bytes : List ℕ) (at : ℕ)
+    → below ≡ g ∷ fs → Laid o out ss (f ∷ below) → Takes g.shape → out' ≡ take f.from out ++ closed o (shape_open out ss f.start f.shape)
+    → ss1 ≡ outer_spans ss f.shape → bytes ≡ out' → at ≡ f.from → Completed o ss1 at g bytes ss' g'
+    → Stands o out' ss' (g' ∷ fs) (close o (opens out ss (f ∷ below)))
+ended_by o out ss f g fs below out' ss1 ss' g' bytes at eb laid takes e es ex ea c =
+    subst (λ (gs : List Frame). Stands o out' ss' (g' ∷ fs) (close o (opens out ss (f ∷ gs)))) (sym eb)
+    (ended o out ss f g fs out' ss' g' (subst (λ (gs : List Frame). Laid o out ss (f ∷ gs)) eb laid) takes e
+    (subst (λ (xs : List ℕ). Completed o (outer_spans ss f.shape) f.from g xs ss' g') ex
+    (subst (λ (us : List Span). Completed o us f.from g bytes ss' g') es (subst (λ k. Completed o ss1 k g bytes ss' g') ea c))))
+
+-- ---- the bytes of a map that closes
+
+count : (out : List ℕ) (ss : List Span) (first n : ℕ) → n ≡ length ss - first → n ≡ length (pairs_from out ss first)
+count out ss first n e =
+    let l = length-drop first ss in
+    let m = length-map (drop first ss) (span_pair out) in
+    omega (arith, e, l, m)
+
+pub map_sorted : (o : KeyOrder) (out : List ℕ) (ss : List Span) (from start first n : ℕ) (mid new : List ℕ) → from ≤ start → start ≤ length out → n ≡ length ss - first
+    → mid ≡ take start out ++ flat_map pair_bytes (in_order o (pairs_from out ss first)) → new ≡ take from mid ++ (shortest_head of_major.Map n ++ drop start mid)
+    → new ≡ take from out ++ closed o (a_map (pairs_from out ss first))
+map_sorted o out ss from start first n mid new h g e em en =
+    let x = flat_map pair_bytes (in_order o (pairs_from out ss first)) in
+    let c = count out ss first n e in
+    let a = ap (take from) em ∙ take_front from start out x h g in
+    let b = ap (drop start) em ∙ drop_front start out x g in
+    en ∙ (λ i. a i ++ (shortest_head of_major.Map (c i) ++ b i))

@@ -1,0 +1,367 @@
+-- Keys lie as they are meant, whatever else does not.
+use Rattle.std.proofs.Common.{◌≡◌, ◌≢◌, ◌↔◌, get_or, zero, IsPermutation, IsSortedBy, ℕ, suc, ◌+◌, ◌-◌, ◌<◌, ◌≤◌, Bool, List, [], ◌∷◌, ◌++◌, length, length-take, take, drop, take-append-drop, map, refl, sym, ap, ◌∙◌, subst, arith, inl, inr, Option, Some, None}
+use Rattle.std.specs.Prelude.{IsTrue, slice_range, flat_map}
+use Rattle.std.specs.List.{AllByRecursion}
+use Rattle.std.proofs.lemmas.List.{take-append-le, drop-append-le}
+use Rattle.std.proofs.Math.Seq.{drop-append_seam}
+use Rattle.std.proofs.lemmas.List.Sorted.{IsPermutation-sym, IsPermutation-map, Contains-permutation}
+use Rattle.cbor_head.specs.Canonical.{Pair, in_order}
+use Rattle.cbor_head.specs.Order.{key_lt}
+use Rattle.cbor_head.specs.declared.order.KeyOrder.{KeyOrder}
+use Rattle.cbor_builder.specs.Built.{HasKey, IsRepeatedKey, IsWaitingKey, keys_so_far, AreOpenKeysDifferent, IsRepeatTold, AreAllDifferent, IsFirstRepeat}
+use Rattle.cbor_canonical.specs.Pairs.{IsRising, HasDistinctBytes}
+use Rattle.cbor_builder.specs.Parts.{Open}
+use Rattle.cbor_buffer.specs.Pairs.{pair_bytes}
+use Rattle.cbor_canonical.specs.Front.{front_of}
+use Rattle.cbor_builder.specs.inner.Front.{key_of, AreFronted}
+use Rattle.cbor_buffer.specs.inner.Spans.{span_pair, AreBehind}
+use Rattle.cbor_builder.specs.inner.Laid.{pairs_from, Tile, shape_open, outer_spans, opens, Fits, Laid, Takes, IsString, shape_after, span, spans_after, KeepsRising, Completed}
+use Rattle.cbor_builder.specs.inner.InPlace.{IsSameKey, AreSameKeys, HasSameKeys, Agrees, WaitsSame}
+use Rattle.cbor_builder.specs.inner.Repeats.{Tells}
+use Rattle.cbor_buffer.specs.declared.span.Span.{Span}
+use Rattle.cbor_builder.specs.declared.frame.Frame.{Frame}
+use Rattle.cbor_builder.specs.declared.frame.Shape.{Shape}
+use Rattle.cbor_builder.specs.declared.frame.Shape.TheVariants.{Plain, Array, Map, Key, Content}
+use Rattle.cbor_builder.specs.declared.repeat.Repeat.{Repeat}
+use Rattle.cbor_buffer.proofs.Slices.{slice_front, slice_all, nothing}
+use Rattle.cbor_builder.proofs.Growth.{tile_le, tile_joins}
+use Rattle.cbor_canonical.proofs.Members.{in_contains, contains_in, all_at, all_from}
+use Rattle.cbor_builder.proofs.SortedPairs.{sorted_is_in_order, sorted_view}
+use Rattle.cbor_canonical.proofs.Sorting.{in_order-rising}
+use Rattle.cbor_builder.proofs.OpenRepeats.{opens_length}
+
+-- ---- where all lies as it is meant
+
+pub keys_refl : (raw out : List ℕ) (ss : List Span) → raw ≡ out → AreSameKeys raw out ss
+keys_refl raw out [] e = tt
+keys_refl raw out (s ∷ ss) e = (ap (λ (xs : List ℕ). key_of xs s) e, keys_refl raw out ss e)
+
+pub shape_refl : (raw out : List ℕ) (ss : List Span) (s : Shape) → raw ≡ out → HasSameKeys raw out ss s
+shape_refl raw out ss Plain e = tt
+shape_refl raw out ss (Array n) e = tt
+shape_refl raw out ss (Map first) e = keys_refl raw out (drop first ss) e
+shape_refl raw out ss (Key first at val) e = (keys_refl raw out (drop first ss) e, ap (drop at) e)
+shape_refl raw out ss (Content m) e = tt
+
+pub agrees_refl : (raw out : List ℕ) (ss : List Span) (fs : List Frame) → raw ≡ out → Agrees raw out ss fs
+agrees_refl raw out ss [] e = tt
+agrees_refl raw out ss (f ∷ []) e = e
+agrees_refl raw out ss (f ∷ g ∷ fs) e = (shape_refl raw out ss f.shape e, agrees_refl (take f.from raw) (take f.from out) (outer_spans ss f.shape) (g ∷ fs) (ap (take f.from) e))
+
+pub waits_refl : (raw out : List ℕ) (ss : List Span) (s : Shape) → raw ≡ out → WaitsSame raw out ss s
+waits_refl raw out ss Plain e = tt
+waits_refl raw out ss (Array n) e = tt
+waits_refl raw out ss (Map first) e = tt
+waits_refl raw out ss (Key first at val) e = (keys_refl raw out (drop first ss) e, ap (λ (xs : List ℕ). slice_range xs at val) e)
+waits_refl raw out ss (Content m) e = tt
+
+-- of the innermost
+pub top_keys : (raw out : List ℕ) (ss : List Span) (f : Frame) (fs : List Frame) → Agrees raw out ss (f ∷ fs) → HasSameKeys raw out ss f.shape
+top_keys raw out ss f [] a = shape_refl raw out ss f.shape a
+top_keys raw out ss f (g ∷ fs) a = a.0
+
+pub outer_agrees : (raw out : List ℕ) (ss : List Span) (f : Frame) (fs : List Frame) → Agrees raw out ss (f ∷ fs) → Agrees (take f.from raw) (take f.from out) (outer_spans ss f.shape) fs
+outer_agrees raw out ss f [] a = tt
+outer_agrees raw out ss f (g ∷ fs) a = a.1
+
+-- ---- what goes by the keys alone
+
+pub keys_flip : (raw out : List ℕ) (ss : List Span) → AreSameKeys raw out ss → AreSameKeys out raw ss
+keys_flip raw out [] h = tt
+keys_flip raw out (s ∷ ss) h = (sym h.0, keys_flip raw out ss h.1)
+
+pub keys_more : (raw out : List ℕ) (ss : List Span) (s : Span) → AreSameKeys raw out ss → IsSameKey raw out s → AreSameKeys raw out (ss ++ s ∷ [])
+keys_more raw out [] s h e = (e, tt)
+keys_more raw out (t ∷ ss) s h e = (h.0, keys_more raw out ss s h.1 e)
+
+pub rising_keys : (o : KeyOrder) (raw out : List ℕ) (ss : List Span) → AreSameKeys raw out ss → IsRising o (map (span_pair raw) ss) → IsRising o (map (span_pair out) ss)
+rising_keys o raw out [] h r = tt
+rising_keys o raw out (s ∷ ss) h r = (each ss h.1 r.0, rising_keys o raw out ss h.1 r.1)
+  where
+    each : (ts : List Span) → AreSameKeys raw out ts → AllByRecursion (λ (q : Pair). IsTrue (key_lt o (key_of raw s) q.key)) (map (span_pair raw) ts)
+        → AllByRecursion (λ (q : Pair). IsTrue (key_lt o (key_of out s) q.key)) (map (span_pair out) ts)
+    each [] k a = tt
+    each (t ∷ ts) k a = (subst (λ (x : List ℕ). IsTrue (key_lt o (key_of out s) x)) k.0 (subst (λ (x : List ℕ). IsTrue (key_lt o x (key_of raw t))) h.0 a.0), each ts k.1 a.1)
+
+pub fronted_keys : (raw out : List ℕ) (ss : List Span) → AreSameKeys raw out ss → AreFronted out ss → AreFronted raw ss
+fronted_keys raw out [] h f = tt
+fronted_keys raw out (s ∷ ss) h f = (f.0 ∙ ap front_of (sym h.0), fronted_keys raw out ss h.1 f.1)
+
+pub has_keys : (raw out : List ℕ) (ss : List Span) (k l : List ℕ) → AreSameKeys raw out ss → k ≡ l → HasKey (map (span_pair raw) ss) k → HasKey (map (span_pair out) ss) l
+has_keys raw out [] k l h e n = n
+has_keys raw out (s ∷ ss) k l h e (inl is) = inl (sym h.0 ∙ is ∙ e)
+has_keys raw out (s ∷ ss) k l h e (inr n) = inr (has_keys raw out ss k l h.1 e n)
+
+pub own_same : (raw out : List ℕ) (ss : List Span) → AreSameKeys raw out ss → map (λ (p : Pair). p.key) (map (span_pair raw) ss) ≡ map (λ (p : Pair). p.key) (map (span_pair out) ss)
+own_same raw out [] h = refl
+own_same raw out (s ∷ ss) h = let k = h.0 in let r = own_same raw out ss h.1 in λ i. k i ∷ r i
+
+pub open_keys : (raw out : List ℕ) (ss : List Span) (start : ℕ) (s : Shape) → HasSameKeys raw out ss s → keys_so_far (shape_open raw ss start s) ≡ keys_so_far (shape_open out ss start s)
+open_keys raw out ss start Plain h = refl
+open_keys raw out ss start (Array n) h = refl
+open_keys raw out ss start (Map first) h = own_same raw out (drop first ss) h
+open_keys raw out ss start (Key first at val) h = let k = own_same raw out (drop first ss) h.0 in let d = h.1 in λ i. k i ++ d i ∷ []
+open_keys raw out ss start (Content m) h = refl
+
+-- ---- the whole standing by the bytes as they lie
+
+fits_raw : (o : KeyOrder) (raw out : List ℕ) (ss : List Span) (from start : ℕ) (rises : Bool) (s : Shape) → length raw ≡ length out → HasSameKeys raw out ss s → Fits o out ss from start rises s → Fits o raw ss from start rises s
+fits_raw o raw out ss from start rises Plain l h f = f
+fits_raw o raw out ss from start rises (Array n) l h f = f
+fits_raw o raw out ss from start rises (Map first) l h f =
+    let back = keys_flip raw out (drop first ss) h in
+    (f.0, subst (Tile start (drop first ss)) (sym l) f.1, (λ t. rising_keys o out raw (drop first ss) back (f.2 t)), fronted_keys raw out (drop first ss) h f.3)
+fits_raw o raw out ss from start rises (Key first at val) l h f =
+    let back = keys_flip raw out (drop first ss) h.0 in
+    (f.0, f.1, f.2, f.3 ∙ sym l, (λ t. rising_keys o out raw (drop first ss) back (f.4 t)), fronted_keys raw out (drop first ss) h.0 f.5)
+fits_raw o raw out ss from start rises (Content m) l h f = f
+
+pub laid_raw : (o : KeyOrder) (raw out : List ℕ) (ss : List Span) (fs : List Frame) → length raw ≡ length out → Agrees raw out ss fs → Laid o out ss fs → Laid o raw ss fs
+laid_raw o raw out ss [] l a laid = nothing raw (l ∙ ap length laid)
+laid_raw o raw out ss (f ∷ fs) l a laid =
+    let x = length-take f.from raw in
+    let y = length-take f.from out in (
+      laid.0,
+      omega (arith, l, laid.1),
+      fits_raw o raw out ss f.from f.start f.rises f.shape l (top_keys raw out ss f fs a) laid.2,
+      laid_raw o (take f.from raw) (take f.from out) (outer_spans ss f.shape) fs (omega (arith, x, y, l)) (outer_agrees raw out ss f fs a) laid.3,
+    )
+
+different_raw : (raw out : List ℕ) (ss : List Span) (fs : List Frame) → Agrees raw out ss fs → AreOpenKeysDifferent (opens raw ss fs) → AreOpenKeysDifferent (opens out ss fs)
+different_raw raw out ss [] a d = tt
+different_raw raw out ss (f ∷ fs) a d = (
+  subst AreAllDifferent (open_keys raw out ss f.start f.shape (top_keys raw out ss f fs a)) d.0,
+  different_raw (take f.from raw) (take f.from out) (outer_spans ss f.shape) fs (outer_agrees raw out ss f fs a) d.1,
+)
+
+told_at : (raw out : List ℕ) (ss : List Span) (fs : List Frame) (outside pair : ℕ) → Agrees raw out ss fs → IsRepeatTold (opens raw ss fs) outside pair → IsRepeatTold (opens out ss fs) outside pair
+told_at raw out ss [] outside pair a t = t
+told_at raw out ss (f ∷ fs) outside pair a (inl t) = inl (told_at (take f.from raw) (take f.from out) (outer_spans ss f.shape) fs outside pair (outer_agrees raw out ss f fs a) t)
+told_at raw out ss (f ∷ fs) outside pair a (inr t) =
+    let m = opens_length (take f.from raw) (outer_spans ss f.shape) fs in
+    let n = opens_length (take f.from out) (outer_spans ss f.shape) fs in
+    inr (
+      different_raw (take f.from raw) (take f.from out) (outer_spans ss f.shape) fs (outer_agrees raw out ss f fs a) t.0,
+      t.1 ∙ ap (λ (k : ℕ). k - 1) (m ∙ sym n),
+      subst (λ (ks : List (List ℕ)). IsFirstRepeat ks pair) (open_keys raw out ss f.start f.shape (top_keys raw out ss f fs a)) t.2,
+    )
+
+pub tells_raw : (raw out : List ℕ) (ss : List Span) (fs : List Frame) (r : Option Repeat) → Agrees raw out ss fs → Tells (opens raw ss fs) r → Tells (opens out ss fs) r
+tells_raw raw out ss fs None a t = different_raw raw out ss fs a t
+tells_raw raw out ss fs (Some t) a h = told_at raw out ss fs t.outside t.pair a h
+
+-- ---- one more member
+
+pub keys_stay : (raw out x y : List ℕ) (a : ℕ) (ss : List Span) (n : ℕ) → Tile a ss n → n ≤ length raw → n ≤ length out → AreSameKeys raw out ss → AreSameKeys (raw ++ x) (out ++ y) ss
+keys_stay raw out x y a [] n t l m h = tt
+keys_stay raw out x y a (s ∷ ss) n t l m h =
+    let r = tile_le s.end ss n t.3 in
+    (slice_front raw x s.key s.val t.1 (omega (arith, t.2, r, l)) ∙ h.0 ∙ sym (slice_front out y s.key s.val t.1 (omega (arith, t.2, r, m))), keys_stay raw out x y s.end ss n t.3 l m h.1)
+
+-- the key that waits, and those before it, when its value stands behind it
+pub waits_stay : (o : KeyOrder) (raw out x y : List ℕ) (ss : List Span) (f : Frame) (fs : List Frame) → length raw ≡ length out → Laid o out ss (f ∷ fs) → Agrees raw out ss (f ∷ fs)
+    → WaitsSame (raw ++ x) (out ++ y) ss f.shape
+waits_stay o raw out x y ss f fs l laid a = by_shape f.shape laid.2 (top_keys raw out ss f fs a)
+  where
+    by_shape : (s : Shape) → Fits o out ss f.from f.start f.rises s → HasSameKeys raw out ss s → WaitsSame (raw ++ x) (out ++ y) ss s
+    by_shape Plain fits h = tt
+    by_shape (Array n) fits h = tt
+    by_shape (Map first) fits h = tt
+    by_shape (Key first at val) fits h = (
+      keys_stay raw out x y f.start (drop first ss) at fits.1 (omega (arith, l, fits.2, fits.3)) (omega (arith, fits.2, fits.3)) h.0,
+      slice_front raw x at val fits.2 (omega (arith, l, fits.3)) ∙ slice_all raw at val (l ∙ sym fits.3) ∙ h.1 ∙ sym (slice_front out y at val fits.2 (omega (arith, fits.3)) ∙ slice_all out at val (sym fits.3)),
+    )
+    by_shape (Content m) fits h = tt
+
+pub agrees_given : (o : KeyOrder) (raw out x y : List ℕ) (ss : List Span) (from start : ℕ) (was now : Bool) (s : Shape) (fs : List Frame)
+    → from ≤ start → start ≤ length out → length raw ≡ length out → Fits o out ss from start was s → Takes s
+    → Agrees raw out ss (record { from = from; start = start; shape = s; rises = was } ∷ fs)
+    → ((first : ℕ) → s ≡ Map first → x ≡ y) → (fs ≡ [] → x ≡ y)
+    → Agrees (raw ++ x) (out ++ y) (spans_after (out ++ y) ss s) (record { from = from; start = start; shape = shape_after (length out) (length (out ++ y)) s; rises = now } ∷ fs)
+agrees_given o raw out x y ss from start was now s [] h g l fits takes a key last = let e = last refl in λ i. a i ++ e i
+agrees_given o raw out x y ss from start was now s (f ∷ fs) h g l fits takes a key last = by_shape s fits takes a.0 a.1 key
+  where
+    outer : (us : List Span) → Agrees (take from raw) (take from out) us (f ∷ fs) → Agrees (take from (raw ++ x)) (take from (out ++ y)) us (f ∷ fs)
+    outer us b =
+        subst (λ (zs : List ℕ). Agrees zs (take from (out ++ y)) us (f ∷ fs)) (sym (take-append-le from raw x (omega (arith, h, g, l))))
+        (subst (λ (zs : List ℕ). Agrees (take from raw) zs us (f ∷ fs)) (sym (take-append-le from out y (omega (arith, h, g)))) b)
+
+    by_shape : (s : Shape) → Fits o out ss from start was s → Takes s → HasSameKeys raw out ss s → Agrees (take from raw) (take from out) (outer_spans ss s) (f ∷ fs) → ((first : ℕ) → s ≡ Map first → x ≡ y)
+        → Agrees (raw ++ x) (out ++ y) (spans_after (out ++ y) ss s) (record { from = from; start = start; shape = shape_after (length out) (length (out ++ y)) s; rises = now } ∷ f ∷ fs)
+    by_shape Plain fits takes k b key = (tt, outer ss b)
+    by_shape (Array n) fits takes k b key = (tt, outer ss b)
+    by_shape (Map first) fits takes k b key = (
+      (
+        keys_stay raw out x y start (drop first ss) (length out) fits.1 (omega (arith, l)) (omega arith) k,
+        ap (λ (n : ℕ). drop n (raw ++ x)) (sym l) ∙ drop-append_seam raw x ∙ key first refl ∙ sym (drop-append_seam out y),
+      ),
+      outer (take first ss) b,
+    )
+    by_shape (Key first at val) fits takes k b key =
+        let new = span (out ++ y) at val in
+        let ts : take first (ss ++ new ∷ []) ≡ take first ss = take-append-le first ss (new ∷ []) fits.0 in
+        let ds : drop first (ss ++ new ∷ []) ≡ drop first ss ++ new ∷ [] = drop-append-le first ss (new ∷ []) fits.0 in
+        let same : slice_range (raw ++ x) at val ≡ slice_range (out ++ y) at val =
+        slice_front raw x at val fits.2 (omega (arith, l, fits.3)) ∙ slice_all raw at val (l ∙ sym fits.3) ∙ k.1 ∙ sym (slice_front out y at val fits.2 (omega (arith, fits.3)) ∙ slice_all out at val (sym fits.3)) in
+        let stay = keys_stay raw out x y start (drop first ss) at fits.1 (omega (arith, l, fits.2, fits.3)) (omega (arith, fits.2, fits.3)) k.0 in (
+          subst (AreSameKeys (raw ++ x) (out ++ y)) (sym ds) (keys_more (raw ++ x) (out ++ y) (drop first ss) new stay same),
+          subst (λ (us : List Span). Agrees (take from (raw ++ x)) (take from (out ++ y)) us (f ∷ fs)) (sym ts) (outer (take first ss) b),
+        )
+    by_shape (Content m) fits takes k b key = absurd takes
+
+-- what was done by the bytes as they lie was done by them as they are meant
+pub completed_same : (o : KeyOrder) (raw out : List ℕ) (ss : List Span) (at : ℕ) (f : Frame) (ss' : List Span) (f' : Frame) → length raw ≡ length out → WaitsSame raw out ss f.shape
+    → Completed o ss at f raw ss' f' → Completed o ss at f out ss' f'
+completed_same o raw out ss at f ss' f' l w c =
+    (c.0, c.1, c.2 ∙ ap (λ (n : ℕ). shape_after at n f.shape) l, c.3 ∙ spans f.shape w, rises f.shape w c.4)
+  where
+    spans : (s : Shape) → WaitsSame raw out ss s → spans_after raw ss s ≡ spans_after out ss s
+    spans Plain w = refl
+    spans (Array n) w = refl
+    spans (Map first) w = refl
+    spans (Key first a val) w = let k = w.1 in λ i. ss ++ record { front = front_of (k i); key = a; val = val; end = l i } ∷ []
+    spans (Content m) w = refl
+
+    rises : (s : Shape) → WaitsSame raw out ss s → KeepsRising o raw ss s f.rises f'.rises → KeepsRising o out ss s f.rises f'.rises
+    rises Plain w k = k
+    rises (Array n) w k = k
+    rises (Map first) w k = k
+    rises (Key first a val) w k = λ t. (
+      (k t).0,
+      (λ r.
+          let old = drop first ss in
+          let was = (k t).1 (rising_keys o out raw old (keys_flip raw out old w.0) r) in
+          let q = w.1 in
+          let new : span raw a val ≡ span out a val = λ i. record { front = front_of (q i); key = a; val = val; end = l i } in
+          subst (λ (s : Span). IsRising o (map (span_pair out) (old ++ s ∷ []))) new
+          (rising_keys o raw out (old ++ span raw a val ∷ []) (keys_more raw out old (span raw a val) w.0 w.1) was)),
+    )
+    rises (Content m) w k = k
+
+pub ready_same : (raw out : List ℕ) (ss : List Span) (s : Shape) → length raw ≡ length out → WaitsSame raw out ss s
+    → ((first a val : ℕ) → s ≡ Key first a val → (first ≤ length ss) × (a ≤ val) × (val ≤ length out) × AreFronted out (drop first ss))
+    → (first a val : ℕ) → s ≡ Key first a val → (first ≤ length ss) × (a ≤ val) × (val ≤ length raw) × AreFronted raw (drop first ss)
+ready_same raw out ss s l w h first a val e =
+    let k = subst (WaitsSame raw out ss) e w in
+    let r = h first a val e in
+    (r.0, r.1, omega (arith, l, r.2), fronted_keys raw out (drop first ss) k.0 r.3)
+
+-- the same from what calls ensure
+pub agrees_by : (o : KeyOrder) (raw out x y : List ℕ) (ss : List Span) (f : Frame) (fs : List Frame) (raw' out' : List ℕ) (at : ℕ) (ss' : List Span) (f' : Frame)
+    → Laid o out ss (f ∷ fs) → length raw ≡ length out → Agrees raw out ss (f ∷ fs) → Takes f.shape → ((first : ℕ) → f.shape ≡ Map first → x ≡ y) → (fs ≡ [] → x ≡ y)
+    → raw' ≡ raw ++ x → out' ≡ out ++ y → at ≡ length out → Completed o ss at f out' ss' f' → Agrees raw' out' ss' (f' ∷ fs)
+agrees_by o raw out x y ss f fs raw' out' at ss' f' laid l a takes key last er eo ea c =
+    let made = agrees_given o raw out x y ss f.from f.start f.rises f'.rises f.shape fs laid.0 laid.1 l laid.2 takes a key last in
+    let shape : shape_after (length out) (length (out ++ y)) f.shape ≡ f'.shape = (λ i. shape_after (sym ea i) (length (sym eo i)) f.shape) ∙ sym c.2 in
+    let frame : record { from = f.from; start = f.start; shape = shape_after (length out) (length (out ++ y)) f.shape; rises = f'.rises } ≡ f' =
+    λ i. record { from = sym c.0 i; start = sym c.1 i; shape = shape i; rises = f'.rises } in
+    let spans : spans_after (out ++ y) ss f.shape ≡ ss' = ap (λ (xs : List ℕ). spans_after xs ss f.shape) (sym eo) ∙ sym c.3 in
+    subst (λ (xs : List ℕ). Agrees xs out' ss' (f' ∷ fs)) (sym er)
+    (subst (λ (xs : List ℕ). Agrees (raw ++ x) xs ss' (f' ∷ fs)) (sym eo)
+    (subst (λ (us : List Span). Agrees (raw ++ x) (out ++ y) us (f' ∷ fs)) spans
+    (subst (λ (g : Frame). Agrees (raw ++ x) (out ++ y) (spans_after (out ++ y) ss f.shape) (g ∷ fs)) frame made)))
+
+pub waits_by : (o : KeyOrder) (raw out x y : List ℕ) (ss : List Span) (f : Frame) (fs : List Frame) (raw' out' : List ℕ) → length raw ≡ length out → Laid o out ss (f ∷ fs) → Agrees raw out ss (f ∷ fs)
+    → raw' ≡ raw ++ x → out' ≡ out ++ y → WaitsSame raw' out' ss f.shape
+waits_by o raw out x y ss f fs raw' out' l laid a er eo =
+    subst (λ (xs : List ℕ). WaitsSame xs out' ss f.shape) (sym er) (subst (λ (xs : List ℕ). WaitsSame (raw ++ x) xs ss f.shape) (sym eo) (waits_stay o raw out x y ss f fs l laid a))
+
+-- ---- more of a string
+
+pub agrees_longer : (raw out x : List ℕ) (ss : List Span) (f : Frame) (fs : List Frame) → f.from ≤ length raw → f.from ≤ length out → IsString f.shape → Agrees raw out ss (f ∷ fs) → Agrees (raw ++ x) (out ++ x) ss (f ∷ fs)
+agrees_longer raw out x ss f [] h g s a = λ i. a i ++ x
+agrees_longer raw out x ss f (e ∷ fs) h g s a = (
+  by_shape f.shape s,
+  subst (λ (xs : List ℕ). Agrees xs (take f.from (out ++ x)) (outer_spans ss f.shape) (e ∷ fs)) (sym (take-append-le f.from raw x h))
+      (subst (λ (xs : List ℕ). Agrees (take f.from raw) xs (outer_spans ss f.shape) (e ∷ fs)) (sym (take-append-le f.from out x g)) a.1),
+)
+  where
+    by_shape : (s : Shape) → IsString s → HasSameKeys (raw ++ x) (out ++ x) ss s
+    by_shape Plain h = absurd h
+    by_shape (Array n) h = absurd h
+    by_shape (Map first) h = absurd h
+    by_shape (Key first at val) h = absurd h
+    by_shape (Content m) h = tt
+
+-- ---- nothing else is open
+
+pub alone : (raw out : List ℕ) (ss : List Span) (f : Frame) (fs : List Frame) (c : Open) → Agrees raw out ss (f ∷ fs) → opens out ss (f ∷ fs) ≡ c ∷ [] → raw ≡ out
+alone raw out ss f [] c a e = a
+alone raw out ss f (g ∷ fs) c a e = cc
+
+-- ---- a key that waits
+
+pub waiting_same : (raw out : List ℕ) (ss : List Span) (f : Frame) (fs : List Frame) (first at val : ℕ) → Agrees raw out ss (f ∷ fs) → f.shape ≡ Key first at val
+    → AreSameKeys raw out (drop first ss) × (drop at raw ≡ drop at out)
+waiting_same raw out ss f fs first at val a e = subst (HasSameKeys raw out ss) e (top_keys raw out ss f fs a)
+
+-- ---- sorted by the keys
+
+pub distinct_keys : (raw out : List ℕ) (ss : List Span) → AreSameKeys raw out ss → HasDistinctBytes (map (span_pair raw) ss) → HasDistinctBytes (map (span_pair out) ss)
+distinct_keys raw out [] h r = tt
+distinct_keys raw out (s ∷ ss) h r = (each ss h.1 r.0, distinct_keys raw out ss h.1 r.1)
+  where
+    each : (ts : List Span) → AreSameKeys raw out ts → AllByRecursion (λ (q : Pair). q.key ≢ key_of raw s) (map (span_pair raw) ts) → AllByRecursion (λ (q : Pair). q.key ≢ key_of out s) (map (span_pair out) ts)
+    each [] k a = tt
+    each (t ∷ ts) k a = ((λ e. a.0 (k.0 ∙ e ∙ sym h.0)), each ts k.1 a.1)
+
+pub distinct_iff : (raw out bytes : List ℕ) (us xs : List Span) (t : Bool) → bytes ≡ raw → us ≡ xs → AreSameKeys raw out xs → (IsTrue t ↔ HasDistinctBytes (map (span_pair bytes) us)) → (IsTrue t ↔ HasDistinctBytes (map (span_pair out) xs))
+distinct_iff raw out bytes us xs t eb eu h d =
+    let e = subst (λ (zs : List ℕ). IsTrue t ↔ HasDistinctBytes (map (span_pair zs) xs)) eb (subst (λ (zs : List Span). IsTrue t ↔ HasDistinctBytes (map (span_pair bytes) zs)) eu d) in
+    ((λ p. distinct_keys raw out xs h (e.0 p)), (λ p. e.1 (distinct_keys out raw xs (keys_flip raw out xs h) p)))
+
+pub keys_permuted : (raw out : List ℕ) (xs ys : List Span) → IsPermutation xs ys → AreSameKeys raw out xs → AreSameKeys raw out ys
+keys_permuted raw out xs ys m h =
+    all_from (IsSameKey raw out) ys (λ s i. all_at (IsSameKey raw out) xs s h (contains_in xs s (Contains-permutation ys xs s (IsPermutation-sym xs ys m) (in_contains ys s i))))
+
+pub behind_permuted : (n : ℕ) (xs ys : List Span) → IsPermutation xs ys → AreBehind n xs → AreBehind n ys
+behind_permuted n xs ys m h =
+    all_from (λ (s : Span). n ≤ s.key) ys (λ s i. all_at (λ (s : Span). n ≤ s.key) xs s h (contains_in xs s (Contains-permutation ys xs s (IsPermutation-sym xs ys m) (in_contains ys s i))))
+
+key_at : (raw out : List ℕ) (ss : List Span) (i : ℕ) (d : Span) → AreSameKeys raw out ss → i < length ss → key_of raw (get_or ss i d) ≡ key_of out (get_or ss i d)
+key_at raw out [] i d h l = absurd (omega (arith, l))
+key_at raw out (s ∷ ss) zero d h l = h.0
+key_at raw out (s ∷ ss) (suc i) d h l = key_at raw out ss i d h.1 (omega (arith, l))
+
+-- spans sorted by their keys as they lie are the pairs in order as they are meant
+pub order_meant : (o : KeyOrder) (raw out : List ℕ) (xs ys : List Span) → AreSameKeys raw out xs → IsPermutation xs ys → IsSortedBy (λ x y. key_lt o (key_of raw x) (key_of raw y)) ys → HasDistinctBytes (map (span_pair out) xs)
+    → map (span_pair out) ys ≡ in_order o (map (span_pair out) xs)
+order_meant o raw out xs ys h m s d =
+    let k = keys_permuted raw out xs ys m h in
+    let sorted : IsSortedBy (λ x y. key_lt o (key_of out x) (key_of out y)) ys =
+    λ j e l g. (let a = key_at raw out ys (j + 1) e k g in let b = key_at raw out ys j e k (omega (arith, g)) in (λ i. key_lt o (sym a i) (sym b i)) ∙ s j e l g) in
+    sorted_is_in_order o (map (span_pair out) xs) (map (span_pair out) ys) d (IsPermutation-map (span_pair out) xs ys m) (sorted_view (span_pair out) o ys sorted)
+
+pub tile_behind : (a : ℕ) (ss : List Span) (n : ℕ) → Tile a ss n → AreBehind a ss
+tile_behind a [] n t = tt
+tile_behind a (s ∷ ss) n t = (omega (arith, t.0), behind_less s.end ss (omega (arith, t.0, t.1, t.2)) (tile_behind s.end ss n t.3))
+  where
+    behind_less : (m : ℕ) (us : List Span) → a ≤ m → AreBehind m us → AreBehind a us
+    behind_less m [] h b = tt
+    behind_less m (u ∷ us) h b = (omega (arith, h, b.0), behind_less m us h b.1)
+
+-- pairs whose keys rise are in order
+pub risen : (o : KeyOrder) (out : List ℕ) (ss : List Span) (start first : ℕ) → Tile start (drop first ss) (length out) → IsRising o (pairs_from out ss first)
+    → out ≡ take start out ++ flat_map pair_bytes (in_order o (pairs_from out ss first))
+risen o out ss start first t r =
+    sym (take-append-drop start out)
+    ∙ ap (λ (xs : List ℕ). take start out ++ xs) (sym (tile_joins out start (drop first ss) (length out) t refl) ∙ ap (flat_map pair_bytes) (sym (in_order-rising o (pairs_from out ss first) r)))
+
+-- ---- the key that waits
+
+pub repeated_same : (raw out : List ℕ) (ss us : List Span) (start first key val : ℕ) (s : Shape) (os : List Open) (t : Bool) → s ≡ Key first key val → us ≡ drop first ss → HasSameKeys raw out ss s → val ≡ length raw
+    → (IsTrue t ↔ HasKey (map (span_pair raw) us) (slice_range raw key val)) → (IsTrue t ↔ IsRepeatedKey (shape_open out ss start s ∷ os))
+repeated_same raw out ss us start first key val s os t e eu h l d =
+    let k = subst (HasSameKeys raw out ss) e h in
+    let is : slice_range raw key val ≡ drop key out = slice_all raw key val (sym l) ∙ k.1 in
+    let one = subst (λ (xs : List Span). IsTrue t ↔ HasKey (map (span_pair raw) xs) (slice_range raw key val)) eu d in
+    subst (λ (s : Shape). IsTrue t ↔ IsRepeatedKey (shape_open out ss start s ∷ os)) (sym e) (
+      (λ p. has_keys raw out (drop first ss) (slice_range raw key val) (drop key out) k.0 is (one.0 p)),
+      (λ n. one.1 (has_keys out raw (drop first ss) (drop key out) (slice_range raw key val) (keys_flip raw out (drop first ss) k.0) (sym is) n)),
+    )
+
+pub waiting_is : (raw out : List ℕ) (ss : List Span) (start first key val : ℕ) (s : Shape) (os : List Open) → s ≡ Key first key val → HasSameKeys raw out ss s → val ≡ length raw
+    → IsWaitingKey (shape_open out ss start s ∷ os) (slice_range raw key val)
+waiting_is raw out ss start first key val s os e h l =
+    let k = subst (HasSameKeys raw out ss) e h in
+    subst (λ (s : Shape). IsWaitingKey (shape_open out ss start s ∷ os) (slice_range raw key val)) (sym e) (slice_all raw key val (sym l) ∙ k.1)

@@ -1,0 +1,13 @@
+pub mod CanonStates
+pub mod FirstRepeat
+pub mod Growth
+pub mod InPlace
+pub mod LookUp
+pub mod Loops
+pub mod Neighbours
+pub mod OpenRepeats
+pub mod PartsMade
+pub mod Ranks
+pub mod SortedPairs
+pub mod SortedSpans
+pub mod Standing

@@ -1,0 +1,80 @@
+-- Spans ranked by the fronts of their keys.
+use Rattle.std.proofs.Common.{◌≡◌, ℕ, zero, suc, ◌+◌, ◌<◌, ◌≤◌, List, [], ◌∷◌, length, drop, get_or, refl, sym, ap, ◌∙◌, arith, Bool, Bor, IsPermutation, IsSortedBy}
+use Rattle.std.specs.declared.cmp.Ordering.{Ordering}
+use Rattle.std.specs.declared.cmp.Ordering.TheVariants.{Less, Equal, Greater}
+use Rattle.std.specs.Ordering.{nat_cmp, is_lt, ordering_then, ordering_reverse, MatchOrdering}
+use Rattle.std.specs.Cmp.{IsTotalOrder, IsStrictWeakOrder}
+use Rattle.std.specs.Cmp.Lexicographic.{slice_cmp}
+use Rattle.std.specs.Fn.{Called, ComparesAs}
+use Rattle.std.proofs.lemmas.Fn.{always_returns_same}
+use Rattle.std.proofs.lemmas.List.Sorted.{ranks_by, IsPermutation-sym, Contains-permutation}
+use Rattle.std.proofs.lemmas.Cmp.{nat_cmp_total, on_total, then_total, ranked}
+use denote.Param.Members.{Mut}
+use Rattle.cbor_canonical.proofs.Members.{all_at, all_from, in_contains, contains_in}
+use Rattle.cbor_head.specs.Order.{key_cmp, key_lt}
+use Rattle.cbor_head.specs.Value.{AreBytes}
+use Rattle.cbor_head.specs.declared.order.KeyOrder.{KeyOrder}
+use Rattle.cbor_head.specs.declared.order.KeyOrder.TheVariants.{Bytewise, LengthFirst}
+use Rattle.cbor_canonical.proofs.Orders.{key_cmp_total}
+use Rattle.cbor_canonical.specs.Front.{front_of}
+use Rattle.cbor_builder.specs.inner.Front.{key_of, IsFronted, AreFronted, by_front, rank, ranked_by}
+use Rattle.cbor_buffer.specs.declared.span.Span.{Span}
+use Rattle.cbor_canonical.proofs.KeyFronts.{bytes_slice, front_less}
+
+agree_front : (a b : ℕ) (xs ys : List ℕ) → AreBytes xs → AreBytes ys → a ≡ front_of xs → b ≡ front_of ys → by_front (a, xs) (b, ys) ≡ key_cmp Bytewise xs ys
+agree_front a b xs ys h g e f = go (nat_cmp a b) refl (ranked a b (nat_cmp a b) refl)
+  where
+    go : (r : Ordering) → nat_cmp a b ≡ r → MatchOrdering r (a < b) (a ≡ b) (b < a) → ordering_then (nat_cmp a b) (slice_cmp nat_cmp xs ys) ≡ slice_cmp nat_cmp xs ys
+    go Less c m = ap (λ (r : Ordering). ordering_then r (slice_cmp nat_cmp xs ys)) c ∙ sym (front_less 8 xs ys h g (omega (arith, m, e, f)))
+    go Equal c m = ap (λ (r : Ordering). ordering_then r (slice_cmp nat_cmp xs ys)) c
+    go Greater c m =
+        ap (λ (r : Ordering). ordering_then r (slice_cmp nat_cmp xs ys)) c
+        ∙ sym ((key_cmp_total Bytewise).antisymm xs ys ∙ ap ordering_reverse (front_less 8 ys xs g h (omega (arith, m, e, f))))
+
+-- with the right fronts, the ranks are the order of the keys
+pub agree : (o : KeyOrder) (a b : ℕ) (xs ys : List ℕ) → AreBytes xs → AreBytes ys → a ≡ front_of xs → b ≡ front_of ys → rank o (a, xs) (b, ys) ≡ key_cmp o xs ys
+agree LengthFirst a b xs ys h g e f = ap (ordering_then (nat_cmp (length xs) (length ys))) (agree_front a b xs ys h g e f)
+agree Bytewise a b xs ys h g e f = agree_front a b xs ys h g e f
+
+front_total : IsTotalOrder by_front
+front_total = then_total (on_total (λ (p : ℕ × List ℕ). p.0) nat_cmp_total) (on_total (λ (p : ℕ × List ℕ). p.1) (key_cmp_total Bytewise))
+
+pub rank_total : (o : KeyOrder) → IsTotalOrder (rank o)
+rank_total Bytewise = front_total
+rank_total LengthFirst = then_total (on_total (λ (p : ℕ × List ℕ). length p.1) nat_cmp_total) front_total
+
+pub agree_spans : (o : KeyOrder) (out : List ℕ) (x y : Span) → AreBytes out → IsFronted out x → IsFronted out y → rank o (ranked_by out x) (ranked_by out y) ≡ key_cmp o (key_of out x) (key_of out y)
+agree_spans o out x y h a b = agree o x.front y.front (key_of out x) (key_of out y) (bytes_slice out x.key x.val h) (bytes_slice out y.key y.val h) a b
+
+pub fronted_at : (out : List ℕ) (ks : List Span) (i : ℕ) (d : Span) → AreFronted out ks → i < length ks → IsFronted out (get_or ks i d)
+fronted_at out [] i d h l = absurd (omega (arith, l))
+fronted_at out (k ∷ ks) zero d h l = h.0
+fronted_at out (k ∷ ks) (suc i) d h l = fronted_at out ks i d h.1 (omega (arith, l))
+
+pub fronted_drop : (out : List ℕ) (n : ℕ) (ks : List Span) (i : ℕ) (d : Span) → AreFronted out (drop n ks) → n ≤ i → i < length ks → IsFronted out (get_or ks i d)
+fronted_drop out zero ks i d h g l = fronted_at out ks i d h l
+fronted_drop out (suc n) [] i d h g l = absurd (omega (arith, l))
+fronted_drop out (suc n) (k ∷ ks) zero d h g l = absurd (omega (arith, g))
+fronted_drop out (suc n) (k ∷ ks) (suc i) d h g l = fronted_drop out n ks i d h (omega (arith, g)) (omega (arith, l))
+
+-- ---- what a sort by ranks leaves
+
+pub sorted_by_rank : (o : KeyOrder) (out : List ℕ) {F : Type 0} {g : Mut F (Bor Span × (Bor Span × Unit {0})) Ordering} {f : F} (ys : List Span)
+    → ((lt : Span → Span → Bool) → IsStrictWeakOrder lt → ComparesAs g lt f → IsSortedBy lt ys)
+    → ((a : Bor Span × (Bor Span × Unit {0})) (r : Ordering) (f' : F) → Called g f a r f' → (r ≡ rank o (ranked_by out a.0.now) (ranked_by out a.1.0.now)) × (f' ≡ f))
+    → IsSortedBy (λ x y. is_lt (rank o (ranked_by out x) (ranked_by out y))) ys
+sorted_by_rank o out {g = g} {f = f} ys s h =
+    s (λ x y. is_lt (rank o (ranked_by out x) (ranked_by out y))) (ranks_by (rank_total o) (ranked_by out))
+    (always_returns_same g (λ a r. is_lt r ≡ is_lt (rank o (ranked_by out a.0.now) (ranked_by out a.1.0.now))) f (λ a r f' k. (ap is_lt (h a r f' k).0, (h a r f' k).1)))
+
+pub fronted_permuted : (out : List ℕ) (xs ys : List Span) → IsPermutation xs ys → AreFronted out xs → AreFronted out ys
+fronted_permuted out xs ys m h =
+    all_from (IsFronted out) ys (λ s i. all_at (IsFronted out) xs s h (contains_in xs s (Contains-permutation ys xs s (IsPermutation-sym xs ys m) (in_contains ys s i))))
+
+-- where the fronts are right, it is sorted by the keys
+pub sorted_keys : (o : KeyOrder) (out : List ℕ) (ys : List Span) → AreBytes out → AreFronted out ys
+    → IsSortedBy (λ x y. is_lt (rank o (ranked_by out x) (ranked_by out y))) ys → IsSortedBy (λ x y. key_lt o (key_of out x) (key_of out y)) ys
+sorted_keys o out ys b h s = λ k d l g.
+    let upper = fronted_at out ys (k + 1) d h g in
+    let lower = fronted_at out ys k d h (omega (arith, g)) in
+    sym (ap is_lt (agree_spans o out (get_or ys (k + 1) d) (get_or ys k d) b upper lower)) ∙ s k d l g

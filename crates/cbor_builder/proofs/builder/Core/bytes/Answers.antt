@@ -1,0 +1,16 @@
+use Rattle.std.proofs.Common.{take}
+use Rattle.std.specs.Prelude.{reverse}
+use Rattle.cbor_builder.proofs.Standing.{member_longer}
+use Rattle.cbor_builder.proofs.builder.Core.bytes.Goals as goal
+
+pub returns-clause-laid : goal.returns-clause-laid
+returns-clause-laid c =
+    let s = c.args.self.now in
+    let e = c.in_ok-extend.ensures in
+    (member_longer s.order s.out c.extend.new.self (take c.args.count c.args.front.now) s.spans.items s.top (reverse s.below.items) c.requires.laid c.requires.string e.whole e.meant e.lies).0
+
+pub returns-clause-extended : goal.returns-clause-extended
+returns-clause-extended c =
+    let s = c.args.self.now in
+    let e = c.in_ok-extend.ensures in
+    (member_longer s.order s.out c.extend.new.self (take c.args.count c.args.front.now) s.spans.items s.top (reverse s.below.items) c.requires.laid c.requires.string e.whole e.meant e.lies).1

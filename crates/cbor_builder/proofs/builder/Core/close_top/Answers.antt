@@ -1,0 +1,54 @@
+use Rattle.std.proofs.Common.{◌≡◌, ◌-◌, ◌++◌, ℕ, take, length, length-append, sym, ap, ◌∙◌, subst, arith}
+use Rattle.std.specs.Prelude.{flat_map, reverse}
+use Rattle.std.proofs.lemmas.List.{length-take-le}
+use Rattle.cbor_head.specs.Canonical.{in_order}
+use Rattle.cbor_builder.specs.Parts.{closed, HasNoRepeats}
+use Rattle.cbor_buffer.specs.Pairs.{pair_bytes}
+use Rattle.cbor_builder.specs.inner.Laid.{shape_open, pairs_from}
+use Rattle.cbor_buffer.specs.inner.Moved.{meant}
+use Rattle.cbor_builder.specs.inner.InPlace.{HasSameKeys}
+use Rattle.cbor_builder.specs.declared.frame.Shape.{Shape}
+use Rattle.cbor_buffer.proofs.Drafts.{whole_length, front_shorter}
+use Rattle.cbor_builder.proofs.Growth.{map_sorted}
+use Rattle.cbor_builder.proofs.InPlace.{top_keys}
+use Rattle.cbor_builder.proofs.Loops.{holds}
+use Rattle.cbor_builder.proofs.builder.Core.close_top.Goals as goal
+
+pub fill_head-requires-clause-ends : goal.fill_head-requires-clause-ends
+fill_head-requires-clause-ends c = let l = whole_length c.args.self.now.out c.requires.laid.1 in omega (arith, l, c.requires.laid.0.1)
+
+pub order_pairs-requires-clause-keys : goal.order_pairs-requires-clause-keys
+order_pairs-requires-clause-keys c =
+    let s = c.args.self.now in
+    subst (HasSameKeys s.out.buf (meant s.out) s.spans.items) c.in-Map.is (top_keys s.out.buf (meant s.out) s.spans.items s.top (reverse s.below.items) c.requires.laid.2)
+
+pub fill_head-requires-in-Map-clause-ends : goal.fill_head-requires-in-Map-clause-ends
+fill_head-requires-in-Map-clause-ends c =
+    let s = c.args.self.now in
+    let k = c.in_ok-order_pairs-in-Map.ensures in
+    let pairs = flat_map pair_bytes (in_order s.order (pairs_from (meant s.out) s.spans.items c.in-Map.first)) in
+    let a = whole_length c.order_pairs.new.self.out k.whole in
+    let b = length-append (take s.top.start (meant s.out)) pairs in
+    let n = length-take-le s.top.start (meant s.out) c.requires.laid.0.1 in
+    omega (arith, a, b, n, ap length (k.meant c.if-not-branch.false))
+
+pub returns-in_ok-fill_head-in-Map-clause-distinct : goal.returns-in_ok-fill_head-in-Map-clause-distinct
+returns-in_ok-fill_head-in-Map-clause-distinct c =
+    let s = c.args.self.now in
+    holds (subst (λ (h : Shape). HasNoRepeats (shape_open (meant s.out) s.spans.items s.top.start h)) (sym c.in-Map.is) (c.in_ok-order_pairs-in-Map.ensures.distinct.0 c.if-not-branch.false))
+
+pub returns-in_ok-fill_head-in-Map-clause-bytes : goal.returns-in_ok-fill_head-in-Map-clause-bytes
+returns-in_ok-fill_head-in-Map-clause-bytes c = λ t.
+    let s = c.args.self.now in
+    let f = s.top in
+    let k = c.in_ok-order_pairs-in-Map.ensures in
+    subst (λ (h : Shape). meant c.fill_head-in-Map.new.self ≡ take f.from (meant s.out) ++ closed s.order (shape_open (meant s.out) s.spans.items f.start h)) (sym c.in-Map.is)
+    (map_sorted s.order (meant s.out) s.spans.items f.from f.start c.in-Map.first (c.len.result - c.in-Map.first) (meant c.order_pairs.new.self.out) (meant c.fill_head-in-Map.new.self) c.requires.laid.0.0 c.requires.laid.0.1
+    (ap (λ (n : ℕ). n - c.in-Map.first) (c.len.ensures ∙ s.spans.ok.0)) (k.meant c.if-not-branch.false) c.in_ok-fill_head-in-Map.ensures.meant)
+
+pub returns-in_ok-fill_head-in-Map-clause-front : goal.returns-in_ok-fill_head-in-Map-clause-front
+returns-in_ok-fill_head-in-Map-clause-front c = λ t.
+    let s = c.args.self.now in
+    let k = c.in_ok-order_pairs-in-Map.ensures in
+    let h = c.in_ok-fill_head-in-Map.ensures in
+    front_shorter s.top.from s.top.start s.out c.order_pairs.new.self.out c.fill_head-in-Map.new.self c.requires.laid.0.0 (k.front c.if-not-branch.false) h.front h.lies

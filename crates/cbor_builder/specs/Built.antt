@@ -1,0 +1,120 @@
+-- What contracts see of a builder, and when it takes the next part.
+use Rattle.std.specs.Prelude.{ℕ, suc, ◌≡◌, ◌<◌, ◌-◌, ◌^◌, ◌⊎◌, List, [], ◌∷◌, ◌++◌, length, map, slice_index_or}
+use Rattle.cbor_head.specs.Value.{Value, Entries, HasEntry, Same}
+use Rattle.cbor_head.specs.Canonical.{Pair}
+use Rattle.cbor_head.specs.declared.order.KeyOrder.{KeyOrder}
+use Rattle.cbor_head.specs.declared.major.Major.{Major}
+use Rattle.cbor_head.specs.declared.major.Major.TheVariants.{Unsigned, Negative, Bytes, Text, Array, Map, Tag, Simple}
+use Rattle.cbor_builder.specs.Parts.{Open, plain, an_array, a_map, a_key, a_string, HasNoRepeats}
+
+-- the order of keys, and what is open, the innermost first: nothing, after a call was refused memory
+pub record Built : Type 0 where
+  pub order : KeyOrder
+  pub standing : List Open
+
+abbrev pub built : KeyOrder → List Open → Built
+built o os = record { order = o; standing = os }
+
+-- ---- kinds of items
+
+-- the item is its head (RFC 8949, section 3.1, major types 0, 1 and 7)
+abbrev pub IsLeaf : Major → Type 0
+IsLeaf Unsigned = Unit {0}
+IsLeaf Negative = Unit {0}
+IsLeaf Simple = Unit {0}
+IsLeaf _ = ⊥
+
+-- major types 2 and 3
+abbrev pub IsStringType : Major → Type 0
+IsStringType Bytes = Unit {0}
+IsStringType Text = Unit {0}
+IsStringType _ = ⊥
+
+-- major types 4, 5 and 6
+abbrev pub IsContainer : Major → Type 0
+IsContainer Array = Unit {0}
+IsContainer Map = Unit {0}
+IsContainer Tag = Unit {0}
+IsContainer _ = ⊥
+
+-- ---- what may follow
+
+-- one more member fits: it is no string, and an array's count stays below 2^64
+abbrev pub CanHold : Open → Type 0
+CanHold (an_array n bs) = suc n < 2 ^ 64
+CanHold (a_string m bs) = ⊥
+CanHold c = Unit {0}
+
+-- a part may begin
+abbrev pub TakesPart : List Open → Type 0
+TakesPart [] = ⊥
+TakesPart (c ∷ os) = CanHold c
+
+-- a string is open, in something that holds it
+abbrev pub IsInString : List Open → Type 0
+IsInString (a_string m bs ∷ c ∷ os) = Unit {0}
+IsInString _ = ⊥
+
+-- an array, a map or a tag is open, and no key waits for its value
+abbrev pub IsInContainer : List Open → Type 0
+IsInContainer (an_array n bs ∷ c ∷ os) = Unit {0}
+IsInContainer (a_map ps ∷ c ∷ os) = Unit {0}
+IsInContainer (plain bs ∷ c ∷ os) = Unit {0}
+IsInContainer _ = ⊥
+
+-- no two keys of the innermost are equal, where it is a map
+abbrev pub HasDistinctKeysSoFar : List Open → Type 0
+HasDistinctKeysSoFar [] = Unit {0}
+HasDistinctKeysSoFar (c ∷ os) = HasNoRepeats c
+
+-- ---- repeated keys
+
+-- one of the pairs has this key
+abbrev pub HasKey : List Pair → List ℕ → Type 0
+HasKey [] k = ⊥
+HasKey (p ∷ ps) k = (p.key ≡ k) ⊎ HasKey ps k
+
+-- the key that waits for its value is equal to an earlier key of its map
+abbrev pub IsRepeatedKey : List Open → Type 0
+IsRepeatedKey (a_key ps k ∷ os) = HasKey ps k
+IsRepeatedKey _ = ⊥
+
+-- this key waits for its value
+abbrev pub IsWaitingKey : List Open → List ℕ → Type 0
+IsWaitingKey (a_key ps k ∷ os) q = q ≡ k
+IsWaitingKey _ q = ⊥
+
+-- one of the entries has a key that is the same (RFC 8949, section 5.6.1)
+abbrev pub HasSameKey : Entries → Value → Type 0
+HasSameKey es k = (l : Value) × (w : Value) × HasEntry es l w × Same l k
+
+-- ---- which repeated key is told
+
+-- the complete keys of what is open, as they came; the last may wait for its value
+abbrev pub keys_so_far : Open → List (List ℕ)
+keys_so_far (a_map ps) = map (λ (p : Pair). p.key) ps
+keys_so_far (a_key ps k) = map (λ (p : Pair). p.key) ps ++ k ∷ []
+keys_so_far c = []
+
+-- the key at i is equal to an earlier one
+abbrev pub IsRepeatAt : List (List ℕ) → ℕ → Type 0
+IsRepeatAt ks i = (j : ℕ) × (j < i) × (i < length ks) × (slice_index_or ks j [] ≡ slice_index_or ks i [])
+
+-- no two are equal
+abbrev pub AreAllDifferent : List (List ℕ) → Type 0
+AreAllDifferent ks = (i : ℕ) → IsRepeatAt ks i → ⊥
+
+abbrev pub IsFirstRepeat : List (List ℕ) → ℕ → Type 0
+IsFirstRepeat ks i = IsRepeatAt ks i × ((j : ℕ) → j < i → IsRepeatAt ks j → ⊥)
+
+-- no open map has two equal keys
+abbrev pub AreOpenKeysDifferent : List Open → Type 0
+AreOpenKeysDifferent [] = Unit {0}
+AreOpenKeysDifferent (c ∷ os) = AreAllDifferent (keys_so_far c) × AreOpenKeysDifferent os
+
+-- of the outermost open map with two equal keys: how many containers are open around it, and the number of the pair whose key is
+-- the first that is equal to an earlier one. Around all is the whole, which is no container.
+abbrev pub IsRepeatTold : List Open → ℕ → ℕ → Type 0
+IsRepeatTold [] outside pair = ⊥
+IsRepeatTold (c ∷ os) outside pair =
+    IsRepeatTold os outside pair ⊎ (AreOpenKeysDifferent os × (outside ≡ length os - 1) × IsFirstRepeat (keys_so_far c) pair)

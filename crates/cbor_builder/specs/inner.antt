@@ -1,0 +1,8 @@
+-- What private functions speak of; no public contract does.
+pub mod BuilderState
+pub mod CanonState
+pub mod Front
+pub mod InPlace
+pub mod Laid
+pub mod Neighbours
+pub mod Repeats

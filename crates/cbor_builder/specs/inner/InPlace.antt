@@ -1,0 +1,33 @@
+-- Keys that lie as they are meant.
+use Rattle.std.specs.Prelude.{ℕ, ◌≡◌, List, [], ◌∷◌, slice_range, take, drop}
+use Rattle.std.specs.List.{AllByRecursion}
+use Rattle.cbor_builder.specs.inner.Front.{key_of}
+use Rattle.cbor_builder.specs.inner.Laid.{outer_spans}
+use Rattle.cbor_buffer.specs.declared.span.Span.{Span}
+use Rattle.cbor_builder.specs.declared.frame.Frame.{Frame}
+use Rattle.cbor_builder.specs.declared.frame.Shape.{Shape}
+use Rattle.cbor_builder.specs.declared.frame.Shape.TheVariants.{Map, Key}
+
+-- ---- keys lie as they are meant
+
+abbrev pub IsSameKey : List ℕ → List ℕ → Span → Type 0
+IsSameKey raw out s = key_of raw s ≡ key_of out s
+
+abbrev pub AreSameKeys : List ℕ → List ℕ → List Span → Type 0
+AreSameKeys raw out ss = AllByRecursion (IsSameKey raw out) ss
+
+abbrev pub HasSameKeys : List ℕ → List ℕ → List Span → Shape → Type 0
+HasSameKeys raw out ss (Map first) = AreSameKeys raw out (drop first ss)
+HasSameKeys raw out ss (Key first at val) = AreSameKeys raw out (drop first ss) × (drop at raw ≡ drop at out)
+HasSameKeys raw out ss s = Unit {0}
+
+-- The keys of all that is open lie as they are meant, and all does where nothing else is open.
+abbrev pub Agrees : List ℕ → List ℕ → List Span → List Frame → Type 0
+Agrees raw out ss [] = Unit {0}
+Agrees raw out ss (f ∷ []) = raw ≡ out
+Agrees raw out ss (f ∷ g ∷ fs) = HasSameKeys raw out ss f.shape × Agrees (take f.from raw) (take f.from out) (outer_spans ss f.shape) (g ∷ fs)
+
+-- the key that waits, and those before it
+abbrev pub WaitsSame : List ℕ → List ℕ → List Span → Shape → Type 0
+WaitsSame raw out ss (Key first at val) = AreSameKeys raw out (drop first ss) × (slice_range raw at val ≡ slice_range out at val)
+WaitsSame raw out ss s = Unit {0}

@@ -1,0 +1,125 @@
+-- What a builder's buffer, spans and frames stand for.
+use Rattle.std.specs.Prelude.{ℕ, suc, Bool, true, IsTrue, ◌≡◌, ◌≢◌, ◌≤◌, ◌<◌, ◌^◌, ◌++◌, List, [], ◌∷◌, length, slice_range, map, take, drop}
+use Rattle.cbor_head.specs.declared.major.Major.TheVariants as of_major
+use Rattle.cbor_head.specs.Canonical.{Pair}
+use Rattle.cbor_head.specs.declared.order.KeyOrder.{KeyOrder}
+use Rattle.cbor_head.specs.declared.major.Major.{Major}
+use Rattle.cbor_head.specs.declared.major.Major.TheVariants.{Simple}
+use Rattle.cbor_canonical.specs.Pairs.{IsRising}
+use Rattle.cbor_builder.specs.Parts.{Open, plain, an_array, a_map, a_key, a_string}
+use Rattle.cbor_canonical.specs.Front.{front_of}
+use Rattle.cbor_builder.specs.inner.Front.{AreFronted}
+use Rattle.cbor_buffer.specs.declared.span.Span.{Span}
+use Rattle.cbor_builder.specs.declared.frame.Frame.{Frame}
+use Rattle.cbor_builder.specs.declared.frame.Shape.{Shape}
+use Rattle.cbor_builder.specs.declared.frame.Shape.TheVariants.{Plain, Array, Map, Key, Content}
+use Rattle.cbor_buffer.specs.inner.Spans.{span_pair}
+
+-- the pairs of the map whose spans begin at an index
+abbrev pub pairs_from : List ℕ → List Span → ℕ → List Pair
+pairs_from out ss first = map (span_pair out) (drop first ss)
+
+-- the spans lie one behind the other from a to n
+abbrev pub Tile : ℕ → List Span → ℕ → Type 0
+Tile a [] n = a ≡ n
+Tile a (s ∷ ss) n = (s.key ≡ a) × (s.key ≤ s.val) × (s.val ≤ s.end) × Tile s.end ss n
+
+-- what is open, where its bytes end the buffer and its pairs end the spans
+abbrev pub shape_open : List ℕ → List Span → ℕ → Shape → Open
+shape_open out ss start Plain = plain (drop start out)
+shape_open out ss start (Array n) = an_array n (drop start out)
+shape_open out ss start (Map first) = a_map (pairs_from out ss first)
+shape_open out ss start (Key first at val) = a_key (pairs_from out ss first) (drop at out)
+shape_open out ss start (Content m) = a_string m (drop start out)
+
+-- the spans of what holds it
+abbrev pub outer_spans : List Span → Shape → List Span
+outer_spans ss (Map first) = take first ss
+outer_spans ss (Key first at val) = take first ss
+outer_spans ss s = ss
+
+-- what stands open, the innermost first: each frame sees the buffer up to where the next one begins
+abbrev pub opens : List ℕ → List Span → List Frame → List Open
+opens out ss [] = []
+opens out ss (f ∷ fs) = shape_open out ss f.start f.shape ∷ opens (take f.from out) (outer_spans ss f.shape) fs
+
+abbrev pub Rises : KeyOrder → List ℕ → List Span → ℕ → Bool → Type 0
+Rises o out ss first rises = IsTrue rises → IsRising o (pairs_from out ss first)
+
+-- What a frame asks of the buffer up to its end: the spans of a map tile what it has so far, and where they are known to
+-- rise they do. Of a plain one the content is all.
+abbrev pub Fits : KeyOrder → List ℕ → List Span → ℕ → ℕ → Bool → Shape → Type 0
+Fits o out ss from start rises Plain = start ≡ from
+Fits o out ss from start rises (Array n) = n < 2 ^ 64
+Fits o out ss from start rises (Map first) = (first ≤ length ss) × Tile start (drop first ss) (length out) × Rises o out ss first rises × AreFronted out (drop first ss)
+Fits o out ss from start rises (Key first at val) =
+    (first ≤ length ss) × Tile start (drop first ss) at × (at ≤ val) × (val ≡ length out) × Rises o out ss first rises × AreFronted out (drop first ss)
+Fits o out ss from start rises (Content m) = m ≢ Simple
+
+-- the invariant
+abbrev pub Laid : KeyOrder → List ℕ → List Span → List Frame → Type 0
+Laid o out ss [] = out ≡ []
+Laid o out ss (f ∷ fs) =
+    (f.from ≤ f.start) × (f.start ≤ length out) × Fits o out ss f.from f.start f.rises f.shape × Laid o (take f.from out) (outer_spans ss f.shape) fs
+
+-- a part may be given: no string is open, and the count stays in range
+abbrev pub Takes : Shape → Type 0
+Takes (Content m) = ⊥
+Takes (Array n) = suc n < 2 ^ 64
+Takes s = Unit {0}
+
+-- there is one that holds what closes, and it takes it
+abbrev pub OuterTakes : List Frame → Type 0
+OuterTakes [] = ⊥
+OuterTakes (f ∷ fs) = Takes f.shape
+
+-- a string is open
+abbrev pub IsString : Shape → Type 0
+IsString (Content m) = Unit {0}
+IsString s = ⊥
+
+-- no key waits for its value
+abbrev pub CanClose : Shape → Type 0
+CanClose (Key first at val) = ⊥
+CanClose s = Unit {0}
+
+-- ---- one more member, from at to end
+
+abbrev pub shape_after : ℕ → ℕ → Shape → Shape
+shape_after at end (Array n) = Array (suc n)
+shape_after at end (Map first) = Key first at end
+shape_after at end (Key first a val) = Map first
+shape_after at end s = s
+
+-- the pair that ends the buffer
+abbrev pub span : List ℕ → ℕ → ℕ → Span
+span out key val = record { front = front_of (slice_range out key val); key = key; val = val; end = length out }
+
+abbrev pub spans_after : List ℕ → List Span → Shape → List Span
+spans_after out ss (Key first at val) = ss ++ span out at val ∷ []
+spans_after out ss s = ss
+
+-- where the keys rise then, they rose before, and the new one is above them
+abbrev pub KeepsRising : KeyOrder → List ℕ → List Span → Shape → Bool → Bool → Type 0
+KeepsRising o out ss (Key first at val) was now =
+    IsTrue now → IsTrue was × (IsRising o (pairs_from out ss first) → IsRising o (map (span_pair out) (drop first ss ++ span out at val ∷ [])))
+KeepsRising o out ss s was now = now ≡ was
+
+-- ---- what begins
+
+abbrev pub opening_frame : Major → ℕ → ℕ → ℕ → Frame
+opening_frame of_major.Array from end spans = record { from = from; start = end; shape = Array 0; rises = true }
+opening_frame of_major.Map from end spans = record { from = from; start = end; shape = Map spans; rises = true }
+opening_frame of_major.Tag from end spans = record { from = from; start = from; shape = Plain; rises = true }
+opening_frame m from end spans = record { from = from; start = end; shape = Content m; rises = true }
+
+-- ---- what a builder's parts stand for, and the invariant with it
+
+abbrev pub Stands : KeyOrder → List ℕ → List Span → List Frame → List Open → Type 0
+Stands o out ss fs os = Laid o out ss fs × (opens out ss fs ≡ os)
+
+-- what has been done to the innermost for one more member
+abbrev pub Completed : KeyOrder → List Span → ℕ → Frame → List ℕ → List Span → Frame → Type 0
+Completed o ss at f out ss' f' =
+    (f'.from ≡ f.from) × (f'.start ≡ f.start) × (f'.shape ≡ shape_after at (length out) f.shape)
+    × (ss' ≡ spans_after out ss f.shape) × KeepsRising o out ss f.shape f.rises f'.rises

@@ -1,0 +1,277 @@
+//! The public builder: canonical bytes from the parts of an item, without a tree.
+
+ghost use Rattle.std.specs.Prelude.{◌≡◌, ◌↔◌, ◌++◌, ◌∷◌, [], List, ℕ, false, length, IsTrue, OnOk};
+ghost use Rattle.std.specs.Prelude.{◌≤◌, IfOk, MatchOption, take};
+ghost use Rattle.cbor_head.specs.Canonical.{canonical};
+ghost use Rattle.cbor_head.specs.Head.{shortest_head, IsSimple};
+ghost use Rattle.cbor_head.specs.Value.{Value};
+ghost use Rattle.cbor_head.specs.declared.major.Major.TheVariants.{Simple};
+ghost use Rattle.cbor_builder.specs.Built.{built, IsLeaf, IsStringType, IsContainer, TakesPart};
+ghost use Rattle.cbor_builder.specs.Built.{IsInString, IsInContainer, HasDistinctKeysSoFar};
+ghost use Rattle.cbor_builder.specs.Built.{IsRepeatedKey, IsWaitingKey, AreOpenKeysDifferent};
+ghost use Rattle.cbor_builder.specs.Built.{IsRepeatTold};
+ghost use Rattle.cbor_builder.specs.Parts.{Part, Makes, run, plain, give, opened, extended, close};
+
+use crate::builder::Core;
+use crate::repeat::Repeat;
+use cbor_head::{KeyOrder, Major};
+use std::alloc::{AllocError, Global};
+use std::marker::Model;
+
+/// Canonical bytes (RFC 8949, sections 4.2.1 and 4.2.3) from the parts of one item as they come,
+/// without a tree. A map's pairs are put in order as the map ends. After a call has been refused
+/// memory the builder may only be dropped.
+///
+/// ```
+/// // {1: [2], 0: "a"}
+/// let mut builder = CanonBuilder::new(alloc, KeyOrder::Bytewise);
+/// builder.begin(Major::Map, 0)?;
+/// builder.leaf(Major::Unsigned, 1)?;
+/// builder.begin(Major::Array, 0)?;
+/// builder.leaf(Major::Unsigned, 2)?;
+/// builder.end()?;
+/// builder.leaf(Major::Unsigned, 0)?;
+/// builder.string(Major::Text, b"a")?;
+/// builder.end()?;
+/// // {0: "a", 1: [2]}
+/// assert_eq!(rt; builder.finish().as_slice(), b"\xa2\x00\x61a\x01\x81\x02");
+/// ```
+#[derive(Drop)]
+pub struct CanonBuilder {
+    core: Core,
+    is_sound: bool,
+}
+
+impl Model for CanonBuilder {
+    ghost use Rattle.cbor_builder.specs.Built.{Built};
+
+    ghost Value = { Built };
+
+    ghost use Rattle.cbor_builder.specs.inner.CanonState.{seen, IsKept};
+
+    ghost view = { seen };
+
+    ghost invariant = { IsKept };
+}
+
+impl CanonBuilder {
+    /// A builder that has been given nothing. Takes no memory.
+    pub fn new(alloc: Global, order: KeyOrder) -> CanonBuilder
+        ensures { result ≡ built order (plain [] ∷ []) }
+    {
+        CanonBuilder {
+            core: Core::new(alloc, order),
+            is_sound: true,
+        }
+    }
+
+    /// An integer or a simple value.
+    #[inline(always)]
+    pub fn leaf(&mut self, major: Major, argument: u64) -> Result<(), AllocError>
+        requires kind { IsLeaf major }
+        requires simple { major ≡ Simple → IsSimple argument }
+        requires takes { TakesPart self.old.standing }
+        ensures { OnOk result
+            (self.new ≡ built self.old.order
+            (give (shortest_head major argument) self.old.standing)) }
+    {
+        let done = self.core.leaf(major, argument);
+        if done.is_err() {
+            self.is_sound = false;
+        }
+        done
+    }
+
+    /// A whole string: what `begin_string`, `bytes` and `end_string` do in turn, in one step.
+    #[inline(always)]
+    pub fn string(&mut self, major: Major, content: &[u8]) -> Result<(), AllocError>
+        requires kind { IsStringType major }
+        requires takes { TakesPart self.old.standing }
+        ensures { OnOk result
+            (self.new ≡ built self.old.order
+            (give (shortest_head major (length content.now) ++ content.now) self.old.standing)) }
+    {
+        let done = self.core.string(major, content, content.len());
+        if done.is_err() {
+            self.is_sound = false;
+        }
+        done
+    }
+
+    /// The same of the first of these bytes. What follows them is not looked at, but a short string
+    /// is copied faster where something does.
+    #[inline(always)]
+    pub fn front_string(
+        &mut self,
+        major: Major,
+        front: &[u8],
+        count: usize,
+    ) -> Result<(), AllocError>
+        requires kind { IsStringType major }
+        requires within { count ≤ length front.now }
+        requires takes { TakesPart self.old.standing }
+        ensures { OnOk result
+            (self.new ≡ built self.old.order
+            (give (shortest_head major count ++ take count front.now) self.old.standing)) }
+    {
+        let done = self.core.string(major, front, count);
+        if done.is_err() {
+            self.is_sound = false;
+        }
+        done
+    }
+
+    /// A string begins.
+    #[inline(always)]
+    pub fn begin_string(&mut self, major: Major) -> Result<(), AllocError>
+        requires kind { IsStringType major }
+        requires takes { TakesPart self.old.standing }
+        ensures { OnOk result
+            (self.new ≡ built self.old.order (opened major 0 ∷ self.old.standing)) }
+    {
+        let done = self.core.begin(major, 0);
+        if done.is_err() {
+            self.is_sound = false;
+        }
+        done
+    }
+
+    /// More of the string.
+    #[inline(always)]
+    pub fn bytes(&mut self, content: &[u8]) -> Result<(), AllocError>
+        requires string { IsInString self.old.standing }
+        ensures { OnOk result
+            (self.new ≡ built self.old.order (extended content.now self.old.standing)) }
+    {
+        let done = self.core.bytes(content, content.len());
+        if done.is_err() {
+            self.is_sound = false;
+        }
+        done
+    }
+
+    /// The same of the first of these bytes.
+    #[inline(always)]
+    pub fn front_bytes(&mut self, front: &[u8], count: usize) -> Result<(), AllocError>
+        requires string { IsInString self.old.standing }
+        requires within { count ≤ length front.now }
+        ensures { OnOk result
+            (self.new ≡ built self.old.order (extended (take count front.now) self.old.standing)) }
+    {
+        let done = self.core.bytes(front, count);
+        if done.is_err() {
+            self.is_sound = false;
+        }
+        done
+    }
+
+    /// The string ends.
+    #[inline(always)]
+    pub fn end_string(&mut self) -> Result<(), AllocError>
+        requires string { IsInString self.old.standing }
+        ensures { OnOk result
+            (self.new ≡ built self.old.order (close self.old.order self.old.standing)) }
+    {
+        self.is_sound = false;
+        // No string has keys that could be equal.
+        let _ = self.core.end()?;
+        self.is_sound = true;
+        Ok(())
+    }
+
+    /// An array, a map or a tag begins. The number is the tag's; of an array or a map it may be the
+    /// count that is expected, for which the head then has room.
+    #[inline(always)]
+    pub fn begin(&mut self, major: Major, number: u64) -> Result<(), AllocError>
+        requires kind { IsContainer major }
+        requires takes { TakesPart self.old.standing }
+        ensures { OnOk result
+            (self.new ≡ built self.old.order (opened major number ∷ self.old.standing)) }
+    {
+        let done = self.core.begin(major, number);
+        if done.is_err() {
+            self.is_sound = false;
+        }
+        done
+    }
+
+    /// The array, map or tag ends. No two keys of a map may be the same: `repeated` tells it of
+    /// each.
+    pub fn end(&mut self) -> Result<(), AllocError>
+        requires container { IsInContainer self.old.standing }
+        requires distinct { HasDistinctKeysSoFar self.old.standing }
+        ensures { OnOk result
+            (self.new ≡ built self.old.order (close self.old.order self.old.standing)) }
+    {
+        self.is_sound = false;
+        // No two keys are the same.
+        let _ = self.core.end()?;
+        self.is_sound = true;
+        Ok(())
+    }
+
+    /// The array, map or tag ends, where its keys haven't been looked at: false where two keys of
+    /// the map are the same. Then it stays open, and `first_repeat` tells which. A map of n pairs
+    /// whose keys don't come in order takes some n log n comparisons.
+    #[inline(always)]
+    pub fn end_if_distinct(&mut self) -> Result<bool, AllocError>
+        requires container { IsInContainer self.old.standing }
+        ensures distinct { IfOk result
+            (λ distinct. IsTrue distinct ↔ HasDistinctKeysSoFar self.old.standing) }
+        ensures ended { IfOk result (λ distinct. IsTrue distinct
+            → self.new ≡ built self.old.order (close self.old.order self.old.standing)) }
+        ensures kept { IfOk result (λ distinct. distinct ≡ false → self.new ≡ self.old) }
+    {
+        self.is_sound = false;
+        let is_distinct = self.core.end()?;
+        self.is_sound = true;
+        Ok(is_distinct)
+    }
+
+    /// Whether the part that was just completed is a key that is the same as an earlier key of its
+    /// map. Takes no memory. Where the keys come in order it costs one comparison; else it looks at
+    /// each earlier key of the map: to tell all keys of a large map apart, `end_if_distinct` does
+    /// it once for all.
+    pub fn repeated(&self) -> bool
+        ensures { IsTrue result ↔ IsRepeatedKey self.now.standing }
+    {
+        self.is_sound && self.core.repeated()
+    }
+
+    /// The canonical bytes of the key that was just completed, where its value is still to come.
+    /// Takes no memory.
+    pub fn waiting_key(&self) -> Option<&[u8]>
+        ensures { MatchOption result ((q : List ℕ) → IsWaitingKey self.now.standing q → ⊥)
+            (λ key. IsWaitingKey self.now.standing key.now) }
+    {
+        if self.is_sound {
+            self.core.waiting_key()
+        } else {
+            None
+        }
+    }
+
+    /// Which repeated key is to be told where the parts end before the item: of the open maps, from
+    /// the outermost in, the first that has two equal keys, and of it the first key that is equal
+    /// to an earlier one. A key that waits for its value is one of its map's. None where the keys
+    /// of each open map differ. Takes no memory, and some n log n comparisons for n pairs.
+    pub fn first_repeat(self) -> Option<Repeat>
+        ensures { MatchOption result (AreOpenKeysDifferent self.standing)
+            (λ repeat. IsRepeatTold self.standing repeat.outside repeat.pair) }
+    {
+        let CanonBuilder { core, is_sound } = self;
+        if is_sound { core.first_repeat() } else { None }
+    }
+
+    /// The bytes, once the item is whole: the canonical bytes of the value that the parts make.
+    /// Takes no memory.
+    pub fn finish(self) -> Vec<u8>
+        ensures bytes { (bs : List ℕ) → self.standing ≡ plain bs ∷ [] → result.items ≡ bs }
+        ensures canonical { (v : Value) (ps : List Part) → Makes v ps
+            → self.standing ≡ run self.order ps (plain [] ∷ [])
+            → result.items ≡ canonical self.order v }
+    {
+        let CanonBuilder { core, is_sound: _ } = self;
+        core.finish()
+    }
+}

@@ -1,0 +1,44 @@
+//! What is open.
+
+ghost use Rattle.std.specs.Prelude.{List, ◌≡◌, length};
+ghost use Rattle.cbor_builder.specs.inner.Repeats.{first_of};
+
+use cbor_buffer::span::Span;
+use cbor_head::Major;
+
+/// What is open, and how far it has come.
+#[derive(Clone, Copy)]
+pub(crate) enum Shape {
+    /// The item itself, or a tag's content behind the tag's head.
+    Plain,
+    /// An array of so many members so far.
+    Array(u64),
+    /// A map whose pairs are the spans from this index on.
+    Map(usize),
+    /// The same with a key that waits for its value: it begins at the second and ends at the third.
+    Key(usize, usize, usize),
+    /// A string.
+    Content(Major),
+}
+
+/// An open part of the buffer: room for a head from `from` on, content from `start` on.
+#[derive(Clone, Copy)]
+pub(crate) struct Frame {
+    pub(crate) from: usize,
+    pub(crate) start: usize,
+    pub(crate) shape: Shape,
+    /// Of a map, whether the keys of its pairs rise so far.
+    pub(crate) rises: bool,
+}
+
+impl Frame {
+    // The index from which on the spans are those of its pairs.
+    pub(crate) fn first_span(&self, spans: &[Span]) -> usize
+        ensures { result ≡ first_of spans.now self.now.shape }
+    {
+        match self.shape {
+            Shape::Map(first) | Shape::Key(first, ..) => first,
+            _ => spans.len(),
+        }
+    }
+}

@@ -1,0 +1,144 @@
+//! A finished member of what is open.
+
+ghost use Rattle.std.specs.Prelude.{ℕ, ◌≡◌, ◌≤◌, ◌++◌, ◌∷◌, [], IsTrue, OnOk, map, drop, length};
+ghost use Rattle.cbor_head.specs.declared.order.KeyOrder.{KeyOrder};
+ghost use Rattle.cbor_canonical.specs.Pairs.{IsRising};
+ghost use Rattle.cbor_builder.specs.declared.frame.Shape.TheVariants.{Key, Map};
+ghost use Rattle.cbor_builder.specs.inner.Front.{AreFronted, IsFronted};
+ghost use Rattle.cbor_buffer.specs.inner.Spans.{span_pair};
+ghost use Rattle.cbor_builder.specs.inner.Laid.{Takes, shape_after, spans_after};
+ghost use Rattle.cbor_builder.specs.inner.Laid.{KeepsRising};
+ghost use Rattle.cbor_buffer.specs.inner.Moved.{meant, IsWhole, IsSettled, Stays};
+
+use crate::frame::{Frame, Shape};
+use crate::ranking::{compare, front};
+use cbor_buffer::draft::Draft;
+use cbor_buffer::out::Out;
+use cbor_buffer::reserve::push;
+use cbor_buffer::span::Span;
+use cbor_head::KeyOrder;
+use std::alloc::AllocError;
+
+/// Whether a pair's key is above those of the spans from an index on, where they rise.
+#[inline(always)]
+pub(crate) fn is_above(
+    bytes: &[u8],
+    order: KeyOrder,
+    spans: &[Span],
+    first: usize,
+    next: &Span,
+) -> bool
+    requires first { first ≤ length spans.now }
+    requires fronted { AreFronted bytes.now (drop first spans.now) }
+    requires next { IsFronted bytes.now next.now }
+    ensures { IsTrue result → IsRising order (map (span_pair bytes.now) (drop first spans.now))
+        → IsRising order (map (span_pair bytes.now) (drop first spans.now ++ next.now ∷ [])) }
+{
+    if spans.len() <= first {
+        return true;
+    }
+    match spans.last() {
+        Some(last) => compare(bytes, order, last, next).is_lt(),
+        None => true,
+    }
+}
+
+/// A member that begins at `at` and ends the buffer is finished.
+#[inline(always)]
+pub(crate) fn complete(
+    frame: &mut Frame,
+    spans: &mut Vec<Span>,
+    out: &Out,
+    order: KeyOrder,
+    at: usize,
+) -> Result<(), AllocError>
+    requires takes { Takes frame.old.shape }
+    requires within { (first a val : ℕ) → frame.old.shape ≡ Key first a val
+        → (first ≤ length spans.old.items) × (a ≤ val) × (val ≤ length out.now)
+        × AreFronted out.now (drop first spans.old.items) }
+    ensures from { frame.new.from ≡ frame.old.from }
+    ensures start { frame.new.start ≡ frame.old.start }
+    ensures shape { frame.new.shape ≡ shape_after at (length out.now) frame.old.shape }
+    ensures spans { OnOk result
+        (spans.new.items ≡ spans_after out.now spans.old.items frame.old.shape) }
+    ensures rises { KeepsRising order out.now spans.old.items frame.old.shape
+        frame.old.rises frame.new.rises }
+{
+    if let Shape::Array(n) = &mut frame.shape {
+        *n += 1;
+        return Ok(());
+    }
+    match frame.shape {
+        Shape::Map(first) => frame.shape = Shape::Key(first, at, out.len()),
+        Shape::Key(first, key, val) => {
+            return finish_pair(frame, spans, out, order, first, key, val);
+        }
+        Shape::Plain | Shape::Array(_) | Shape::Content(_) => {}
+    }
+    Ok(())
+}
+
+// The pair whose key stands from `key` to `val`, and whose value ends the buffer, is finished. It
+// is apart so that no room is made for a pair where none is finished.
+#[inline(always)]
+fn finish_pair(
+    frame: &mut Frame,
+    spans: &mut Vec<Span>,
+    out: &Out,
+    order: KeyOrder,
+    first: usize,
+    key: usize,
+    val: usize,
+) -> Result<(), AllocError>
+    requires first { first ≤ length spans.old.items }
+    requires key { (key ≤ val) × (val ≤ length out.now) }
+    requires fronted { AreFronted out.now (drop first spans.old.items) }
+    ensures from { frame.new.from ≡ frame.old.from }
+    ensures start { frame.new.start ≡ frame.old.start }
+    ensures shape { frame.new.shape ≡ Map first }
+    ensures spans { OnOk result
+        (spans.new.items ≡ spans_after out.now spans.old.items (Key first key val)) }
+    ensures rises { KeepsRising order out.now spans.old.items (Key first key val)
+        frame.old.rises frame.new.rises }
+{
+    let span = Span {
+        front: front(out, key, val),
+        key,
+        val,
+        end: out.len(),
+    };
+    let bytes = out.as_slice();
+    frame.rises = frame.rises && is_above(bytes, order, spans.as_slice(), first, &span);
+    frame.shape = Shape::Map(first);
+    push(spans, span)
+}
+
+/// The bytes from `at` on, of a member of what is open, lie as they are meant, where it is a key or,
+/// with nothing around, all that there is.
+#[inline(always)]
+pub(crate) fn settle_member(
+    out: &mut Draft,
+    at: usize,
+    holder: &Frame,
+    around: usize,
+) -> Result<(), AllocError>
+    requires { IsWhole out.old }
+    ensures whole { OnOk result (IsWhole out.new) }
+    ensures meant { OnOk result (meant out.new ≡ meant out.old) }
+    ensures stays { OnOk result (Stays out.old out.new) }
+    ensures key { OnOk result ((first : ℕ) → holder.now.shape ≡ Map first
+        → IsSettled at out.new) }
+    ensures last { OnOk result (around ≡ 0 → IsSettled at out.new) }
+{
+    if around == 0 {
+        out.settle(at)?;
+        return Ok(());
+    }
+    match holder.shape {
+        Shape::Map(_) => {
+            out.settle(at)?;
+            Ok(())
+        }
+        _ => Ok(()),
+    }
+}

@@ -1,0 +1,112 @@
+-- The normal spelling means the same value, and is as deep.
+use Rattle.std.proofs.Common.{◌≡◌, suc, max, true, false, inl, inr, refl, sym, ap, ◌∙◌, subst, arith}
+use Rattle.std.specs.Prelude.{if◌then◌else◌}
+use Rattle.cbor_head.specs.Value as value
+use Rattle.cbor_head.specs.Value.{Value, Values, Entries, HasEntry, Same, SameValues}
+use Rattle.cbor_head.specs.Spelling.{Spelling, SpelledEntries, no_entries, entry, spell, value_of, values_of, entries_of, depth, depth_all, depth_entries}
+use Rattle.cbor_head.specs.Order.{key_lt}
+use Rattle.cbor_head.specs.declared.order.KeyOrder.{KeyOrder}
+use Rattle.cbor_canonical.proofs.Induction.{AllOf, AllIn, by_cases}
+use Rattle.cbor_canonical.proofs.Sameness.{HasSame, IsSameOf, Same-maps}
+use Rattle.cbor_canonical.proofs.Normal.{put_entry, normal, normal_all, normal_entries}
+
+-- ---- the value
+
+abbrev Means : KeyOrder → Value → Type 0
+Means o v = Same v (value_of (normal o v))
+
+entry_put : (o : KeyOrder) (k v : Spelling) (es : SpelledEntries) (a b : Value) → HasEntry (value.entry (value_of k) (value_of v) (entries_of es)) a b → HasEntry (entries_of (put_entry o k v es)) a b
+entry_put o k v no_entries a b h = h
+entry_put o k v (entry k' v' es) a b h =
+    elim (key_lt o (spell k) (spell k')) as (λ t. HasEntry (entries_of (if t then entry k v (entry k' v' es) else entry k' v' (put_entry o k v es))) a b) [
+      | true ↦ h
+      | false ↦ elim h [
+        | inl e ↦ inr (entry_put o k v es a b (inl e))
+        | inr g ↦ elim g [ inl e ↦ inl e | inr l ↦ inr (entry_put o k v es a b (inr l)) ]
+      ]
+    ]
+
+put_entry_has : (o : KeyOrder) (k v : Spelling) (es : SpelledEntries) (a b : Value) → HasEntry (entries_of (put_entry o k v es)) a b → HasEntry (value.entry (value_of k) (value_of v) (entries_of es)) a b
+put_entry_has o k v no_entries a b h = h
+put_entry_has o k v (entry k' v' es) a b h =
+    let split : HasEntry (entries_of (if key_lt o (spell k) (spell k') then entry k v (entry k' v' es) else entry k' v' (put_entry o k v es))) a b → HasEntry (value.entry (value_of k) (value_of v) (entries_of (entry k' v' es))) a b =
+    elim (key_lt o (spell k) (spell k')) as (λ t. HasEntry (entries_of (if t then entry k v (entry k' v' es) else entry k' v' (put_entry o k v es))) a b → HasEntry (value.entry (value_of k) (value_of v) (entries_of (entry k' v' es))) a b) [
+      | true ↦ λ g. g
+      | false ↦ λ g. elim g [
+        | inl e ↦ inr (inl e)
+        | inr l ↦ elim (put_entry_has o k v es a b l) [ inl e ↦ inl e | inr m ↦ inr (inr m) ]
+      ]
+    ] in
+    split h
+
+means_forth : (o : KeyOrder) (es : Entries) → AllIn (Means o) es → (k v : Value) → HasEntry es k v → HasSame (entries_of (normal_entries o es)) k v
+means_forth o value.no_entries a k v h = absurd h
+means_forth o (value.entry k' v' es) a k v (inl e) = (
+  value_of (normal o k'),
+  value_of (normal o v'),
+  entry_put o (normal o k') (normal o v') (normal_entries o es) _ _ (inl (refl, refl)),
+  subst (λ u. Same u (value_of (normal o k'))) (sym e.0) a.0,
+  subst (λ u. Same u (value_of (normal o v'))) (sym e.1) a.1,
+)
+means_forth o (value.entry k' v' es) a k v (inr h) =
+    let r = means_forth o es a.2 k v h in
+    (r.0, r.1, entry_put o (normal o k') (normal o v') (normal_entries o es) r.0 r.1 (inr r.2), r.3, r.4)
+
+means_back : (o : KeyOrder) (es : Entries) → AllIn (Means o) es → (k v : Value) → HasEntry (entries_of (normal_entries o es)) k v → IsSameOf es k v
+means_back o value.no_entries a k v h = absurd h
+means_back o (value.entry k' v' es) a k v h = elim (put_entry_has o (normal o k') (normal o v') (normal_entries o es) k v h) [
+  | inl e ↦ (k', v', inl (refl, refl), subst (λ u. Same k' u) (sym e.0) a.0, subst (λ u. Same v' u) (sym e.1) a.1)
+  | inr g ↦ let r = means_back o es a.2 k v g in (r.0, r.1, inr r.2, r.3, r.4)
+]
+
+means_all : (o : KeyOrder) (vs : Values) → AllOf (Means o) vs → SameValues vs (values_of (normal_all o vs))
+means_all o value.no_values a = tt
+means_all o (value.a_value v vs) a = (a.0, means_all o vs a.1)
+
+pub value_of-normal : (o : KeyOrder) (v : Value) → Same v (value_of (normal o v))
+value_of-normal o = by_cases {P = Means o} (record {
+  at_unsigned = λ n. refl;
+  at_negative = λ n. refl;
+  at_bytes = λ s. refl;
+  at_text = λ s. refl;
+  at_array = λ vs a. means_all o vs a;
+  at_map = λ es a. Same-maps es (entries_of (normal_entries o es)) (record { forth = means_forth o es a; back = means_back o es a });
+  at_tag = λ n v p. (refl, p);
+  at_simple = λ n. refl;
+})
+
+-- ---- the depth
+
+abbrev AsDeep : KeyOrder → Value → Type 0
+AsDeep o v = depth (normal o v) ≡ value.depth v
+
+depth-put_entry : (o : KeyOrder) (k v : Spelling) (es : SpelledEntries) → depth_entries (put_entry o k v es) ≡ max (max (depth k) (depth v)) (depth_entries es)
+depth-put_entry o k v no_entries = refl
+depth-put_entry o k v (entry k' v' es) =
+    let ih = depth-put_entry o k v es in
+    elim (key_lt o (spell k) (spell k')) as (λ b. depth_entries (if b then entry k v (entry k' v' es) else entry k' v' (put_entry o k v es)) ≡ max (max (depth k) (depth v)) (depth_entries (entry k' v' es))) [
+      | true ↦ refl
+      | false ↦ omega (arith, ih)
+    ]
+
+deep_all : (o : KeyOrder) (vs : Values) → AllOf (AsDeep o) vs → depth_all (normal_all o vs) ≡ value.depth_all vs
+deep_all o value.no_values a = refl
+deep_all o (value.a_value v vs) a = let e = a.0 in let r = deep_all o vs a.1 in λ i. max (e i) (r i)
+
+deep_entries : (o : KeyOrder) (es : Entries) → AllIn (AsDeep o) es → depth_entries (normal_entries o es) ≡ value.depth_entries es
+deep_entries o value.no_entries a = refl
+deep_entries o (value.entry k v es) a =
+    let r = deep_entries o es a.2 in
+    depth-put_entry o (normal o k) (normal o v) (normal_entries o es) ∙ (λ i. max (max (a.0 i) (a.1 i)) (r i))
+
+pub depth-normal : (o : KeyOrder) (v : Value) → depth (normal o v) ≡ value.depth v
+depth-normal o = by_cases {P = AsDeep o} (record {
+  at_unsigned = λ n. refl;
+  at_negative = λ n. refl;
+  at_bytes = λ s. refl;
+  at_text = λ s. refl;
+  at_array = λ vs a. ap suc (deep_all o vs a);
+  at_map = λ es a. ap suc (deep_entries o es a);
+  at_tag = λ n v p. ap suc p;
+  at_simple = λ n. refl;
+})

@@ -1,0 +1,15 @@
+use Rattle.cbor_head.specs.Canonical.{canonical_entries}
+use Rattle.cbor_canonical.proofs.Members.{in_contains, contains_in}
+use Rattle.cbor_canonical.proofs.Sorting.{rising_unique, in_order_rising, in_order_permutes}
+use Rattle.cbor_canonical.proofs.Told.{distinct_bytes}
+use Rattle.cbor_canonical.proofs.laws.pairs_in_the_one_order.Goals as goal
+
+pub returns-clause-rising : goal.returns-clause-rising
+returns-clause-rising c = λ o es h d. in_order_rising o (canonical_entries o es) (distinct_bytes o es h d)
+
+pub returns-clause-same_pairs : goal.returns-clause-same_pairs
+returns-clause-same_pairs c = λ o es. in_order_permutes o (canonical_entries o es)
+
+pub returns-clause-one : goal.returns-clause-one
+returns-clause-one c = λ o ps qs u v f.
+    rising_unique o ps qs u v (λ p m. contains_in qs p ((f p).0 (in_contains ps p m))) (λ p m. contains_in ps p ((f p).1 (in_contains qs p m)))

@@ -1,0 +1,3 @@
+pub mod CanonicalSpelling
+pub mod Front
+pub mod Pairs

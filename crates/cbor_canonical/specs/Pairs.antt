@@ -1,0 +1,22 @@
+-- Lists of encoded pairs, by their keys.
+use Rattle.std.specs.Prelude.{◌≢◌, IsTrue, List, [], ◌∷◌}
+use Rattle.std.specs.List.{AllByRecursion}
+use Rattle.cbor_head.specs.Order.{key_lt}
+use Rattle.cbor_head.specs.Canonical.{Pair}
+use Rattle.cbor_head.specs.declared.order.KeyOrder.{KeyOrder}
+use Rattle.cbor_head.specs.Value.{Entries, no_entries, entry, IsValid}
+
+-- each key comes before all that follow it
+abbrev pub IsRising : KeyOrder → List Pair → Type 0
+IsRising o [] = Unit {0}
+IsRising o (p ∷ ps) = AllByRecursion (λ q. IsTrue (key_lt o p.key q.key)) ps × IsRising o ps
+
+-- no two keys have the same bytes
+abbrev pub HasDistinctBytes : List Pair → Type 0
+HasDistinctBytes [] = Unit {0}
+HasDistinctBytes (p ∷ ps) = AllByRecursion (λ q. q.key ≢ p.key) ps × HasDistinctBytes ps
+
+-- the keys are valid, whatever stands behind them
+abbrev pub AreKeysValid : Entries → Type 0
+AreKeysValid no_entries = Unit {0}
+AreKeysValid (entry k v es) = IsValid k × AreKeysValid es

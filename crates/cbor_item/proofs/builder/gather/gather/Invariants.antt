@@ -1,8 +1,0 @@
-use Rattle.std.proofs.Common.{◌≡◌, ◌++◌, drop, map}
-use Rattle.std.specs.Prelude.{flat_map}
-use Rattle.cbor_item.specs.Parts.{pair_bytes}
-use Rattle.cbor_item.specs.inner.Laid.{span_pair}
-use Rattle.cbor_item.proofs.builder.gather.gather.Given as goal
-
-abbrev pub invariant-loop-span : goal.invariant-loop-span
-invariant-loop-span l = flat_map pair_bytes (map (span_pair l.out) l.spans) ≡ l.into ++ flat_map pair_bytes (map (span_pair l.out) (drop l.span-index l.spans))

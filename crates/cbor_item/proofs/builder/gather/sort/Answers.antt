@@ -1,6 +1,0 @@
-use Rattle.std.proofs.Common.{rules, of_calls}
-use Rattle.cbor_item.proofs.KeyFronts.{sorted_by_rank}
-use Rattle.cbor_item.proofs.builder.gather.sort.Goals as goal
-
-pub returns-clause-sorted : goal.returns-clause-sorted
-returns-clause-sorted c = sorted_by_rank c.args.order c.args.bytes.now c.sort_unstable_by.new.self.items c.sort_unstable_by.ensures.sorted (λ a r q k. search (rules, of_calls))

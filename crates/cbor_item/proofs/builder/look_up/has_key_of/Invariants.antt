@@ -1,9 +1,0 @@
-use Rattle.std.proofs.Common.{◌↔◌, drop, map}
-use Rattle.cbor_item.specs.Built.{HasKey}
-use Rattle.cbor_item.specs.inner.Front.{key_of}
-use Rattle.cbor_item.specs.inner.Laid.{span_pair}
-use Rattle.cbor_item.proofs.builder.look_up.has_key_of.Given as goal
-
-abbrev pub invariant-loop-span : goal.invariant-loop-span
-invariant-loop-span l =
-    HasKey (map (span_pair l.bytes) l.spans) (key_of l.bytes l.wanted) ↔ HasKey (map (span_pair l.bytes) (drop l.span-index l.spans)) (key_of l.bytes l.wanted)

@@ -1,5 +1,0 @@
-use Rattle.cbor_item.proofs.Depth.{depth-value_of}
-use Rattle.cbor_item.proofs.laws.spelling_is_as_deep_as_its_value.Goals as goal
-
-pub returns : goal.returns
-returns c = depth-value_of

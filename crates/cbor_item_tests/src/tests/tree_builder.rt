@@ -1,0 +1,31 @@
+//! An item from its parts.
+
+use super::text;
+use cbor_head::Major;
+use cbor_item::{Item, KeyOrder, Tree, TreeBuilder, encode};
+use std::test::Fail;
+
+// {"a": 1, "b": [2, 3]} of RFC 8949, appendix A, within a tag.
+#[test]
+fn parts_make_an_item(rt: HostRuntime) -> Result<(), Fail> {
+    let alloc = rt.alloc();
+    let mut builder = TreeBuilder::new(alloc);
+    builder.begin(Major::Tag, 55799)?;
+    builder.begin(Major::Map, 0)?;
+    builder.leaf(text(alloc, "a")?)?;
+    builder.leaf(Item::Unsigned(1))?;
+    builder.leaf(text(alloc, "b")?)?;
+    builder.begin(Major::Array, u64::MAX)?;
+    builder.leaf(Item::Unsigned(2))?;
+    builder.leaf(Item::Unsigned(3))?;
+    builder.end()?;
+    builder.end()?;
+    builder.end()?;
+    let Ok(tree) = Tree::of(alloc, builder.finish()) else {
+        panic!(rt; "no tree")
+    };
+    let bytes = encode(alloc, &tree, KeyOrder::Bytewise)?;
+    let expected = b"\xd9\xd9\xf7\xa2\x61\x61\x01\x61\x62\x82\x02\x03";
+    assert_eq!(rt; bytes.as_slice(), expected.as_slice());
+    Ok(())
+}
