@@ -9,9 +9,9 @@ use Rattle.cbor_head.specs.Complaint.{strict}
 use Rattle.cbor_head.specs.Verdict.{accepted, IsVerdict}
 use Rattle.cbor_head.specs.declared.order.KeyOrder.{KeyOrder}
 use Rattle.cbor_head.proofs.Accepted.{accepts_exactly}
-use Rattle.cbor_item.proofs.Depth.{depth-value_of}
-use Rattle.cbor_item.proofs.Told.{told}
-use Rattle.cbor_item.proofs.Theorems.{canonical_spelled, strict_exactly}
+use Rattle.cbor_canonical.proofs.Depth.{depth-value_of}
+use Rattle.cbor_canonical.proofs.Told.{told}
+use Rattle.cbor_canonical.proofs.Theorems.{canonical_spelled, strict_exactly}
 use Rattle.cbor_judging.specs.Readers.{BeginsWithCanonical}
 use Rattle.cbor_judging.proofs.Accepted.{item_within_limit}
 

@@ -7,9 +7,9 @@ use Rattle.cbor_head.specs.Spelling.{Spelling, value_of}
 use Rattle.cbor_head.specs.Value.{Same}
 use Rattle.cbor_head.specs.declared.order.KeyOrder.{KeyOrder}
 use Rattle.cbor_head.specs.declared.order.KeyOrder.TheVariants.{Bytewise}
-use Rattle.cbor_item.proofs.Keys.{same_exactly}
-use Rattle.cbor_item.proofs.Sameness.{Same-refl, Same-sym, Same-trans}
-use Rattle.cbor_item.proofs.Sound.{IsSound as IsSoundValue, sound}
+use Rattle.cbor_canonical.proofs.Keys.{same_exactly}
+use Rattle.cbor_canonical.proofs.Sameness.{Same-refl, Same-sym, Same-trans}
+use Rattle.cbor_canonical.proofs.Sound.{IsSound as IsSoundValue, sound}
 use Rattle.cbor_reader.specs.Canonicalise.{IsCanonicalOf}
 use Rattle.cbor_reader.specs.Comparing.{MeanTheSame}
 use Rattle.cbor_reader.specs.Headline.{IsValidItem}

@@ -10,8 +10,8 @@ use Rattle.cbor_judging.specs.Readers.{IsReadAs}
 use Rattle.cbor_reader.specs.inner.Front.{IsFrontRead, HasCanonicalBytes}
 use Rattle.cbor_judging.specs.Reading.{ReadsItem}
 use Rattle.cbor_reader.proofs.Valid.{in_range_of, valid_of}
-use Rattle.cbor_item.proofs.Sound.{sound}
-use Rattle.cbor_item.proofs.Depth.{depth-value_of}
+use Rattle.cbor_canonical.proofs.Sound.{sound}
+use Rattle.cbor_canonical.proofs.Depth.{depth-value_of}
 use Rattle.cbor_judging.specs.Judged.{Never}
 use Rattle.cbor_reader.proofs.Sizes.{size_bounded}
 use Rattle.cbor_judging.proofs.Tops.{item-read, loses}

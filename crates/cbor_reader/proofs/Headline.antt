@@ -13,10 +13,10 @@ use Rattle.cbor_head.specs.declared.reason.Reason.TheVariants.{Memory}
 use Rattle.cbor_head.specs.declared.reason.Refusal.{Refusal}
 use Rattle.cbor_head.proofs.Accepted.{accepts_exactly}
 use Rattle.cbor_head.proofs.ReadLaws.{one_list}
-use Rattle.cbor_item.proofs.Depth.{depth-value_of}
-use Rattle.cbor_item.proofs.Keys.{same_exactly}
-use Rattle.cbor_item.proofs.Sound.{IsSound as IsSoundValue, sound}
-use Rattle.cbor_item.proofs.Theorems.{canonical_spelled, canonical_again}
+use Rattle.cbor_canonical.proofs.Depth.{depth-value_of}
+use Rattle.cbor_canonical.proofs.Keys.{same_exactly}
+use Rattle.cbor_canonical.proofs.Sound.{IsSound as IsSoundValue, sound}
+use Rattle.cbor_canonical.proofs.Theorems.{canonical_spelled, canonical_again}
 use Rattle.cbor_reader.specs.Canonicalise.{IsCanonicalOf, IsRefusal}
 use Rattle.cbor_reader.specs.Headline.{IsValidItem}
 use Rattle.cbor_judging.proofs.Accepted.{item_within_limit}

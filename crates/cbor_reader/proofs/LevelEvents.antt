@@ -34,8 +34,8 @@ use Rattle.cbor_automaton.specs.inner.State.{state_of}
 use Rattle.cbor_automaton.specs.inner.Taking.{Ends, Follows, IsTaking}
 use Rattle.cbor_automaton.proofs.Frames.{position-done}
 use Rattle.cbor_automaton.proofs.Opens.{stack}
-use Rattle.cbor_item.specs.Built.{Built, built, TakesPart, IsInContainer, HasDistinctKeysSoFar}
-use Rattle.cbor_item.specs.Parts.{Open, an_array, plain as a_plain, a_map as an_open_map, give, opened, close as close_open}
+use Rattle.cbor_builder.specs.Built.{Built, built, TakesPart, IsInContainer, HasDistinctKeysSoFar}
+use Rattle.cbor_builder.specs.Parts.{Open, an_array, plain as a_plain, a_map as an_open_map, give, opened, close as close_open}
 use Rattle.cbor_judging.specs.Levels.{IsTaken, Level, a_member, a_key, a_value, some_member, some_key, some_value, tagged, frame, AreLevels, bytes_before}
 use Rattle.cbor_reader.specs.inner.Levels.{level_open, opens, IsStanding, due, full, whole, IsBuilding, HasHeight, IsEvent, IsFed, BuildsBegun, IsBuiltFront}
 use Rattle.cbor_judging.specs.Reading.{IsAt, IsHeadDue, IsNextHead, IsBegun, ReadsItem}

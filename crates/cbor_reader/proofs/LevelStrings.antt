@@ -18,8 +18,8 @@ use Rattle.cbor_automaton.specs.declared.event.EventKind.TheVariants as kinds
 use Rattle.cbor_automaton.specs.declared.token.Token.{Token}
 use Rattle.cbor_automaton.specs.declared.token.Token.TheVariants as tokens
 use Rattle.cbor_automaton.specs.inner.Automaton.{Frame, close, close_string, in_chunks, payload}
-use Rattle.cbor_item.specs.Built.{Built, built, TakesPart, IsInString}
-use Rattle.cbor_item.specs.Parts.{Open, a_string, give, opened, extended, close as close_open}
+use Rattle.cbor_builder.specs.Built.{Built, built, TakesPart, IsInString}
+use Rattle.cbor_builder.specs.Parts.{Open, a_string, give, opened, extended, close as close_open}
 use Rattle.cbor_reader.specs.inner.Levels.{TakesContent}
 use Rattle.cbor_judging.specs.Reading.{IsAt, IsBegun, IsNextHead, ReadsItem, string_kind, string_major, string_value}
 use Rattle.cbor_judging.proofs.Leaves.{chunks_bytes}

@@ -16,8 +16,8 @@ use Rattle.cbor_automaton.specs.Token.{IsEventToken}
 use Rattle.cbor_automaton.specs.declared.token.Token.{Token}
 use Rattle.cbor_automaton.specs.declared.token.Token.TheVariants.{Bytes, Text, Unsigned, Negative, Array, Map, Tag, Simple, Piece, Chunk, IndefiniteBytes, IndefiniteText, IndefiniteArray, IndefiniteMap, Break, End, Refused}
 use Rattle.cbor_automaton.specs.inner.Automaton.{Frame, State}
-use Rattle.cbor_item.specs.Built.{Built, built}
-use Rattle.cbor_item.specs.Parts.{give}
+use Rattle.cbor_builder.specs.Built.{Built, built}
+use Rattle.cbor_builder.specs.Parts.{give}
 use Rattle.cbor_judging.specs.Levels.{Level, bytes_before}
 use Rattle.cbor_reader.specs.inner.Levels.{IsBuilding, IsFed, IsBuiltOn, HasString, IsWhole}
 use Rattle.cbor_judging.specs.Reading.{IsAt, string_major, string_value}

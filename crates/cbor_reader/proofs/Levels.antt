@@ -12,9 +12,10 @@ use Rattle.cbor_head.specs.declared.width.Width.{Width}
 use Rattle.cbor_head.specs.declared.width.Width.TheVariants.{Indefinite}
 use Rattle.cbor_head.proofs.Counts.{values_count-of}
 use Rattle.cbor_automaton.specs.inner.Automaton.{State, counted, close}
-use Rattle.cbor_item.specs.Pairs.{HasDistinctBytes}
-use Rattle.cbor_item.specs.Parts.{Open, an_array, plain as a_plain, a_map as an_open_map, pair, give, close as close_open, closed, HasNoRepeats, AreKeysValid}
-use Rattle.cbor_item.proofs.Keys.{distinct_exactly}
+use Rattle.cbor_canonical.specs.Pairs.{HasDistinctBytes}
+use Rattle.cbor_builder.specs.Parts.{Open, an_array, plain as a_plain, a_map as an_open_map, pair, give, close as close_open, closed, HasNoRepeats}
+use Rattle.cbor_canonical.specs.Pairs.{AreKeysValid}
+use Rattle.cbor_canonical.proofs.Keys.{distinct_exactly}
 use Rattle.cbor_judging.specs.Frame.{with_all, with_entries}
 use Rattle.cbor_judging.proofs.Heads.{open_or}
 use Rattle.cbor_judging.proofs.Loops.{array_bytes-more, map_bytes-more}

@@ -11,11 +11,11 @@ use Rattle.cbor_head.specs.declared.order.KeyOrder.{KeyOrder}
 use Rattle.cbor_head.specs.declared.reason.Reason.TheVariants.{RepeatedKey}
 use Rattle.cbor_head.specs.declared.width.Width.{Width}
 use Rattle.cbor_head.specs.declared.width.Width.TheVariants.{Indefinite}
-use Rattle.cbor_item.specs.Built.{HasKey, IsRepeatedKey}
-use Rattle.cbor_item.specs.Pairs.{HasDistinctBytes}
-use Rattle.cbor_item.specs.Parts.{Open}
-use Rattle.cbor_item.proofs.Keys.{distinct_exactly, same_exactly}
-use Rattle.cbor_item.proofs.Sound.{IsSound, sound}
+use Rattle.cbor_builder.specs.Built.{HasKey, IsRepeatedKey}
+use Rattle.cbor_canonical.specs.Pairs.{HasDistinctBytes}
+use Rattle.cbor_builder.specs.Parts.{Open}
+use Rattle.cbor_canonical.proofs.Keys.{distinct_exactly, same_exactly}
+use Rattle.cbor_canonical.proofs.Sound.{IsSound, sound}
 use Rattle.cbor_judging.specs.Frame as frames
 use Rattle.cbor_judging.specs.Frame.{Frame, with_entries, keys_onto, before, IsFrame, depth_beside}
 use Rattle.cbor_judging.specs.Judged.{IsJudged}

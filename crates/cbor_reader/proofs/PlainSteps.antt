@@ -30,8 +30,8 @@ use Rattle.cbor_automaton.specs.declared.event.EventKind.TheVariants as kinds
 use Rattle.cbor_automaton.specs.inner.Automaton.{Frame, State, at_item, close, expect, done as at_end}
 use Rattle.cbor_automaton.specs.inner.Taking.{Ends, IsTaking}
 use Rattle.cbor_automaton.proofs.Opens.{stack}
-use Rattle.cbor_item.specs.Built.{Built, built, TakesPart, IsContainer, IsInContainer, IsLeaf, IsRepeatedKey, HasDistinctKeysSoFar}
-use Rattle.cbor_item.specs.Parts.{Open, an_array, plain as a_plain, a_map as an_open_map, give, opened, close as close_open}
+use Rattle.cbor_builder.specs.Built.{Built, built, TakesPart, IsContainer, IsInContainer, IsLeaf, IsRepeatedKey, HasDistinctKeysSoFar}
+use Rattle.cbor_builder.specs.Parts.{Open, an_array, plain as a_plain, a_map as an_open_map, give, opened, close as close_open}
 use Rattle.cbor_item.specs.OpenValues as trees
 use Rattle.cbor_item.specs.OpenValues.{OpenItem, OpenValue, close as close_in_tree}
 use Rattle.cbor_reader.specs.declared.plain_items.PlainItems.{PlainItems}

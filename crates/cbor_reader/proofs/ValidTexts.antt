@@ -10,7 +10,7 @@ use Rattle.cbor_head.specs.declared.major.Major.{Major}
 use Rattle.cbor_head.specs.declared.major.Major.TheVariants.{Bytes, Text, Array, Map}
 use Rattle.cbor_head.specs.declared.width.Width.{Width}
 use Rattle.cbor_head.specs.declared.width.Width.TheVariants.{Indefinite}
-use Rattle.cbor_item.proofs.Stable.{utf8_stable}
+use Rattle.cbor_canonical.proofs.Stable.{utf8_stable}
 use Rattle.cbor_reader.specs.Headline.{HasValidTexts, HaveValidTexts, EntriesHaveValidTexts}
 use Rattle.cbor_judging.specs.Judged.{Never}
 use Rattle.cbor_reader.proofs.Valid.{valid_of}

@@ -2,8 +2,8 @@
 
 ghost use Rattle.std.specs.Prelude.{◌≡◌, ◌<◌, ◌≤◌, ◌∷◌, ◌↔◌, [], ℕ, List, IfOk, IsSome, IsTrue, None, length};
 ghost use Rattle.std.specs.Prelude.{slice_set, OnOk, MatchOption};
-ghost use Rattle.cbor_item.specs.Built.{built, IsRepeatedKey};
-ghost use Rattle.cbor_item.specs.Parts.{plain};
+ghost use Rattle.cbor_builder.specs.Built.{built, IsRepeatedKey};
+ghost use Rattle.cbor_builder.specs.Parts.{plain};
 ghost use Rattle.cbor_head.specs.Spelling.{Spelling, value_of};
 ghost use Rattle.cbor_item.specs.View.{view};
 ghost use Rattle.cbor_judging.specs.Levels.{item_due, item_whole};
@@ -18,7 +18,8 @@ use crate::key_set::KeySet;
 use crate::plain_part::Part;
 use crate::tree_parts::{end_in_tree, give_to_tree};
 use cbor_head::{KeyOrder, Major};
-use cbor_item::{CanonBuilder, Item, TreeBuilder};
+use cbor_builder::CanonBuilder;
+use cbor_item::{Item, TreeBuilder};
 use cbor_strict::MOST_OPEN;
 use std::alloc::{AllocError, Global};
 use std::mem;

@@ -14,7 +14,7 @@ use Rattle.cbor_head.specs.declared.major.Major.TheVariants.{Bytes, Text}
 use Rattle.cbor_head.specs.declared.width.Width.{Width}
 use Rattle.cbor_head.specs.declared.width.Width.TheVariants.{Direct, One, Two, Four, Eight}
 use Rattle.cbor_head.proofs.HeadBack.{front_number}
-use Rattle.cbor_item.proofs.Normal.{Holds-shortest}
+use Rattle.cbor_canonical.proofs.Normal.{Holds-shortest}
 use Rattle.cbor_strict.specs.inner.Quick.{IsItemThen, IsShortest, IsShortestHead}
 
 -- a list of bytes, by place

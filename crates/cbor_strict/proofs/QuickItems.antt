@@ -13,8 +13,8 @@ use Rattle.cbor_head.specs.declared.major.Major.TheVariants.{Array, Map, Tag}
 use Rattle.cbor_head.specs.declared.width.Width.{Width}
 use Rattle.cbor_head.specs.declared.width.Width.TheVariants.{Indefinite}
 use Rattle.cbor_head.proofs.ReadLaws.{holds_or_open}
-use Rattle.cbor_item.specs.Front.{front_of}
-use Rattle.cbor_item.proofs.Normal.{Holds-shortest, break_of-shortest}
+use Rattle.cbor_canonical.specs.Front.{front_of}
+use Rattle.cbor_canonical.proofs.Normal.{Holds-shortest, break_of-shortest}
 use Rattle.cbor_strict.specs.inner.Quick.{IsFine, AreFine, ArePairsFine, IsBack, HasMembers, HasPairs, HasValue, last_key, key_until, IsFronted, Awaits, Chain, Ended, HasItem, IsItemThen, TakesKey}
 use Rattle.cbor_strict.specs.declared.quick.level.Due.TheVariants.{Item, Key, Value}
 use Rattle.cbor_strict.specs.declared.quick.level.Level.{Level}

@@ -11,8 +11,8 @@ use mir.Val.{bool_byte}
 use Rattle.cbor_head.specs.Head.{Holds, shortest, with_argument}
 use Rattle.cbor_head.specs.declared.width.Width.{Width}
 use Rattle.cbor_head.specs.declared.width.Width.TheVariants.{Direct, One, Two, Four, Eight, Indefinite}
-use Rattle.cbor_item.proofs.KeyFronts.{are_bytes, bytes_drop}
-use Rattle.cbor_item.proofs.Normal.{Holds-shortest}
+use Rattle.cbor_canonical.proofs.KeyFronts.{are_bytes, bytes_drop}
+use Rattle.cbor_canonical.proofs.Normal.{Holds-shortest}
 use Rattle.cbor_strict.specs.inner.Quick.{IsItemThen, IsShortest, IsShortestHead, IsLeaf}
 use Rattle.cbor_strict.proofs.QuickHeads.{ByPlace, direct, an-unsigned, a-negative, a-simple, some-bytes, a-text, no-array, no-map}
 use Rattle.cbor_strict.proofs.QuickLevels.{rest-is}

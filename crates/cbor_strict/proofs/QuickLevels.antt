@@ -5,7 +5,7 @@ use Rattle.std.proofs.Math.Seq.{take-suc, drop-append_seam}
 use Rattle.std.proofs.lemmas.List.{reverse-append, length-drop}
 use Rattle.cbor_head.specs.Spelling.{spell}
 use Rattle.cbor_head.specs.declared.order.KeyOrder.{KeyOrder}
-use Rattle.cbor_item.specs.Front.{front_of}
+use Rattle.cbor_canonical.specs.Front.{front_of}
 use Rattle.cbor_strict.specs.inner.Quick.{IsBack, IsShortest, last_key, Ended, HasItem, IsItemThen, IsQuickFront, Opens, Leads, standing}
 use Rattle.cbor_strict.specs.declared.quick.level.Due.TheVariants.{Item, Key}
 use Rattle.cbor_strict.specs.declared.quick.level.Level.{Level}

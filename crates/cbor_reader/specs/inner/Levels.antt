@@ -20,9 +20,9 @@ use Rattle.cbor_automaton.specs.Trace.{Mark}
 use Rattle.cbor_machine.specs.Machine.{KeepsLimits}
 use Rattle.cbor_machine.specs.NextEvent.{StandsBetween}
 use Rattle.cbor_automaton.specs.inner.Automaton.{Frame, State, at_item, close, done as at_end}
-use Rattle.cbor_item.specs.Built.{Built, built, IsInContainer}
-use Rattle.cbor_item.specs.Parts as parts
-use Rattle.cbor_item.specs.Parts.{Open, plain as a_plain, an_array, a_map, give, closed, HasNoRepeats}
+use Rattle.cbor_builder.specs.Built.{Built, built, IsInContainer}
+use Rattle.cbor_builder.specs.Parts as parts
+use Rattle.cbor_builder.specs.Parts.{Open, plain as a_plain, an_array, a_map, give, closed, HasNoRepeats}
 use Rattle.cbor_judging.specs.Readers.{IsRead}
 use Rattle.cbor_judging.specs.Reading.{IsAt, IsNextHead, IsBegun, ReadsItem, ReadsPayload}
 use Rattle.cbor_judging.specs.Levels.{IsClean, IsTaken, Level, a_member, a_key, a_value, some_member, some_key, some_value, tagged, frame, AreLevels, bytes_before, Standing, item_due, item_full, item_whole}

@@ -6,9 +6,9 @@ use Rattle.cbor_head.specs.Limits.{Bounds}
 use Rattle.cbor_head.specs.declared.major.Major.TheVariants as majors
 use Rattle.cbor_machine.specs.NextEvent.{ItemEventsView}
 use Rattle.cbor_automaton.specs.inner.Automaton.{State}
-use Rattle.cbor_item.specs.Built.{Built, built, TakesPart, IsContainer, IsLeaf, IsRepeatedKey}
-use Rattle.cbor_item.specs.Pairs.{HasDistinctBytes}
-use Rattle.cbor_item.specs.Parts.{Open, a_map, a_key, give, opened}
+use Rattle.cbor_builder.specs.Built.{Built, built, TakesPart, IsContainer, IsLeaf, IsRepeatedKey}
+use Rattle.cbor_canonical.specs.Pairs.{HasDistinctBytes}
+use Rattle.cbor_builder.specs.Parts.{Open, a_map, a_key, give, opened}
 use Rattle.cbor_reader.specs.declared.plain_items.PlainItems.{PlainItems}
 use Rattle.cbor_reader.specs.declared.plain_part.Part.{Part}
 use Rattle.cbor_reader.specs.declared.plain_part.Part.TheVariants.{Leaf, String, Begin, Break}

@@ -3,7 +3,7 @@ use Rattle.std.specs.Prelude.{◌≡◌, true, List, [], ◌∷◌, Option, Some
 use Rattle.cbor_head.specs.Spelling.{Spelling, Spellings, SpelledEntries, array, a_map, tag, no_spellings, a_spelling, no_entries, entry, value_of}
 use Rattle.cbor_head.specs.Value.{Value}
 use Rattle.cbor_item.specs.OpenValues as parts
-use Rattle.cbor_item.specs.Built.{IsContainer as IsOpener}
+use Rattle.cbor_builder.specs.Built.{IsContainer as IsOpener}
 use Rattle.cbor_item.specs.OpenValues.{OpenItem, OpenValue, the_whole, an_array, a_tag, standing, give, opened, TakesValue, MayEnd, IsWhole}
 use Rattle.cbor_judging.specs.Levels.{Level, a_member, a_key, a_value, some_member, some_key, some_value, tagged, Standing, item_due, item_full, item_whole}
 use Rattle.cbor_reader.specs.declared.plain_part.Part.{Part}

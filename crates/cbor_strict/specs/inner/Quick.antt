@@ -5,7 +5,7 @@ use Rattle.cbor_head.specs.Spelling.{Spelling, Spellings, SpelledEntries, IsSpel
 use Rattle.cbor_head.specs.Complaint.{strict, Complaint, Complains, ComplainsIn, ComplainsInEntries}
 use Rattle.cbor_head.specs.Order.{key_lt}
 use Rattle.cbor_head.specs.declared.order.KeyOrder.{KeyOrder}
-use Rattle.cbor_item.specs.Front.{front_of}
+use Rattle.cbor_canonical.specs.Front.{front_of}
 use Rattle.cbor_judging.specs.LastKey.{IsLastKey}
 use Rattle.cbor_strict.specs.declared.quick.level.Due.{Due}
 use Rattle.cbor_strict.specs.declared.quick.level.Due.TheVariants.{Item, Key, Value}

@@ -2,7 +2,7 @@
 
 ghost use Rattle.std.specs.Prelude.{◌≡◌, ◌≤◌, ◌<◌, ◌+◌, ◌-◌, ◌∷◌, ◌^◌, ℕ, suc, List, true, length};
 ghost use Rattle.std.specs.Prelude.{IsTrue, slice_range};
-ghost use Rattle.cbor_item.specs.Front.{front_of};
+ghost use Rattle.cbor_canonical.specs.Front.{front_of};
 ghost use Rattle.cbor_head.specs.Order.{key_lt};
 ghost use Rattle.cbor_strict.specs.inner.Quick.{IsBack, IsFronted, IsRoot, Opens, Advances};
 ghost use Rattle.cbor_strict.specs.inner.Quick.{Leads, TakesKey, last_key, standing, around};
@@ -11,7 +11,7 @@ use crate::MOST_OPEN;
 use crate::quick::heads::shortest_argument;
 use crate::quick::level::{Due, Level, Levels, Next, Step};
 use cbor_head::KeyOrder;
-use cbor_item::{compare_keys, key_front};
+use cbor_canonical::{compare_keys, key_front};
 use std::cmp::Ordering;
 
 impl Level {

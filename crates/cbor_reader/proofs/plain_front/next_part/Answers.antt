@@ -4,7 +4,7 @@ use Rattle.std.specs.Prelude.{IsSome}
 use Rattle.cbor_head.specs.Verdict.{refusal}
 use Rattle.cbor_head.specs.declared.reason.Reason.TheVariants.{RepeatedKey}
 use Rattle.cbor_automaton.specs.inner.Automaton.{at_item}
-use Rattle.cbor_item.specs.Built.{Built}
+use Rattle.cbor_builder.specs.Built.{Built}
 use Rattle.cbor_judging.specs.Levels.{frame}
 use Rattle.cbor_reader.specs.inner.PlainItems.{CanTake, IsGiven, sets, AreKeysBegun}
 use Rattle.cbor_reader.specs.declared.key_set.KeySet.{KeySet}

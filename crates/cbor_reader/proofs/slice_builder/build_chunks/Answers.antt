@@ -1,7 +1,7 @@
 use Rattle.std.proofs.Common.{[], ◌++◌, ◌-◌, ◌<◌, ◌∙◌, refl, true, sym, ap, subst}
 use Rattle.std.specs.Prelude.{Some}
 use Rattle.cbor_slices.specs.SliceView.{SliceEventsView, seen}
-use Rattle.cbor_item.specs.Built.{Built, IsInString}
+use Rattle.cbor_builder.specs.Built.{Built, IsInString}
 use Rattle.cbor_head.specs.Complaint.{plain}
 use Rattle.cbor_judging.specs.Reading.{string_major, string_value}
 use Rattle.cbor_reader.proofs.LevelStrings.{in-string, chunked-opens, chunked-more, chunked-ends, chunk-opens, chunk-taken, chunk-less, chunks-over}

@@ -1,6 +1,6 @@
 use Rattle.std.proofs.Common.{◌-◌, ◌∙◌, ap, sym, subst, arith, IsTrue, List}
-use Rattle.cbor_item.specs.Built.{Built}
-use Rattle.cbor_item.specs.Parts.{Open, close}
+use Rattle.cbor_builder.specs.Built.{Built}
+use Rattle.cbor_builder.specs.Parts.{Open, close}
 use Rattle.cbor_slices.specs.SliceView.{seen}
 use Rattle.cbor_head.specs.declared.order.KeyOrder.{KeyOrder}
 use Rattle.cbor_reader.specs.inner.Levels.{IsStanding}

@@ -3,8 +3,8 @@ use Rattle.std.specs.Prelude.{IsUtf8}
 use Rattle.cbor_head.specs.Head.{shortest_head}
 use Rattle.cbor_head.specs.declared.major.Major.TheVariants as majors
 use Rattle.cbor_automaton.specs.Token.{IsStringToken}
-use Rattle.cbor_item.specs.Built.{built}
-use Rattle.cbor_item.specs.Parts.{give}
+use Rattle.cbor_builder.specs.Built.{built}
+use Rattle.cbor_builder.specs.Parts.{give}
 use Rattle.cbor_automaton.specs.declared.token.Token.{Token}
 use Rattle.cbor_automaton.specs.declared.token.Token.TheVariants as tokens
 use Rattle.cbor_reader.specs.inner.Levels.{IsWhole}

@@ -1,7 +1,7 @@
 use Rattle.std.proofs.Common.{List, ℕ, ◌++◌, sym, subst, ap, ap₂, ◌∙◌}
 use Rattle.std.specs.Prelude.{IsUtf8}
-use Rattle.cbor_item.specs.Built.{built}
-use Rattle.cbor_item.specs.Parts.{extended}
+use Rattle.cbor_builder.specs.Built.{built}
+use Rattle.cbor_builder.specs.Parts.{extended}
 use Rattle.cbor_reader.proofs.slice_builder.give_chunk.Goals as goal
 
 pub is_content-requires : goal.is_content-requires

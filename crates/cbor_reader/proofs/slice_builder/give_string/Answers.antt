@@ -1,8 +1,8 @@
 use Rattle.std.proofs.Common.{◌++◌, ℕ, List, length, refl, ap₂, ◌∙◌}
 use Rattle.cbor_head.specs.Head.{shortest_head}
 use Rattle.cbor_head.specs.declared.major.Major.{Major}
-use Rattle.cbor_item.specs.Built.{built}
-use Rattle.cbor_item.specs.Parts.{give}
+use Rattle.cbor_builder.specs.Built.{built}
+use Rattle.cbor_builder.specs.Parts.{give}
 use Rattle.cbor_reader.proofs.slice_builder.give_string.Goals as goal
 
 pub returns : goal.returns

@@ -1,5 +1,5 @@
 use Rattle.std.proofs.Common.{◌∙◌, ap, subst, sym, arith}
-use Rattle.cbor_item.specs.Built.{Built}
+use Rattle.cbor_builder.specs.Built.{Built}
 use Rattle.cbor_item.specs.OpenValues.{close}
 use Rattle.cbor_reader.proofs.PlainSteps.{ends-next, ends-in-tree, ends-one, ends-all}
 use Rattle.std.specs.Prelude.{IsSome}

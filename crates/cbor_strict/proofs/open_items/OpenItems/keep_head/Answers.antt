@@ -1,5 +1,5 @@
 use Rattle.std.proofs.Common.{[], sym, subst, OnOk, ◌∙◌}
-use Rattle.cbor_item.proofs.Written.{one_byte}
+use Rattle.cbor_head.proofs.Least.{one_byte}
 use Rattle.cbor_strict.proofs.KeptKeys.{keeps_none}
 use Rattle.cbor_strict.specs.inner.LastKeys.{IsKept, seen}
 use Rattle.cbor_strict.specs.inner.OpenItems.{short_head}

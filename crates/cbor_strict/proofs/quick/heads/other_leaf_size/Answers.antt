@@ -1,7 +1,7 @@
 use Rattle.std.proofs.Common.{◌≡◌, ◌≤◌, ◌⊎◌, ◌∷◌, take, refl, sym, ◌∙◌, inl, inr, arith}
 use Rattle.std.proofs.lemmas.Bool.{leb-true}
 use Rattle.cbor_head.specs.Value.{AreBytes}
-use Rattle.cbor_item.proofs.KeyFronts.{are_bytes}
+use Rattle.cbor_canonical.proofs.KeyFronts.{are_bytes}
 use Rattle.cbor_strict.proofs.QuickLeaves.{empty-size, leaf-empty, leaf-number, leaf-value, leaf-bytes, leaf-text}
 use Rattle.cbor_strict.proofs.quick.heads.other_leaf_size.Goals as goal
 use Rattle.cbor_strict.proofs.quick.heads.other_leaf_size.Goals.{then-first-lt64-via-then-first-lt64, then-first-lt64-via-else-first-lt64+then-is_simple, then-first-ge224, else-first-ge224, then-first-lt96-via-then-first-lt96, then-first-lt96-via-else-first-lt96+then-is_text}

@@ -3,8 +3,8 @@ use Rattle.std.specs.Prelude.{slice_range}
 use Rattle.std.specs.Ordering.{is_lt}
 use Rattle.std.proofs.lemmas.Bool.{ltb-true}
 use Rattle.cbor_head.specs.Order.{key_lt}
-use Rattle.cbor_item.specs.Front.{front_of}
-use Rattle.cbor_item.proofs.KeyFronts.{are_bytes, bytes_slice, front_less}
+use Rattle.cbor_canonical.specs.Front.{front_of}
+use Rattle.cbor_canonical.proofs.KeyFronts.{are_bytes, bytes_slice, front_less}
 use Rattle.cbor_strict.specs.inner.Quick.{last_key}
 use Rattle.cbor_strict.proofs.quick.level.Level.rises.Goals as goal
 
