@@ -1,0 +1,2 @@
+pub mod PathLevels
+pub mod PathSteps

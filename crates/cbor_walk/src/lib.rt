@@ -1,0 +1,4 @@
+//! One walk over an item.
+#![tactic(auto)]
+
+pub mod laws;
