@@ -1,2 +1,4 @@
+pub mod CellSteps
+pub mod KeyOrder
 pub mod PathLevels
 pub mod PathSteps

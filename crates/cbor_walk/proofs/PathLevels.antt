@@ -1,17 +1,17 @@
 -- What is found of an item is found of the open containers around it.
-use Rattle.std.proofs.Common.{◌≡◌, ℕ, suc, ◌+◌, ◌-◌, ◌<◌, ◌≤◌, ◌⊎◌, Option, List, [], ◌∷◌, ◌++◌, length, refl, sym, ap, ◌∙◌, subst, inl, inr, arith, append_assoc}
+use Rattle.std.proofs.Common.{◌≡◌, ℕ, suc, ◌+◌, ◌-◌, ◌<◌, ◌≤◌, ◌⊎◌, Option, Some, List, [], ◌∷◌, ◌++◌, length, refl, sym, ap, ◌∙◌, subst, inl, inr, arith, append_assoc}
 use Rattle.std.proofs.lemmas.List.{length-append}
 use Rattle.cbor_head.specs.Head.{head}
 use Rattle.cbor_head.specs.Complaint.{Rules, Complaint, OfCount, OfKey, Complains, ComplainsIn, ComplainsInEntries}
-use Rattle.cbor_head.specs.Spelling.{Spelling, SpelledEntries, spell, spell_all, spell_entries, spellings_count, entries_count, HoldsOrIndefinite}
+use Rattle.cbor_head.specs.Spelling.{Spelling, SpelledEntries, spell, IsSpelled, depth, spell_all, spell_entries, spellings_count, entries_count, HoldsOrIndefinite}
 use Rattle.cbor_head.specs.declared.major.Major.TheVariants.{Array, Map}
 use Rattle.cbor_head.specs.declared.width.Width.{Width}
 use Rattle.cbor_strict.specs.inner.Frame as frames
-use Rattle.cbor_strict.specs.inner.Frame.{Frame, before, keys_onto, IsFrame, depth_beside, OfFront}
+use Rattle.cbor_strict.specs.inner.Frame.{Frame, before, keys_onto, IsFrame, depth_beside, OfFront, OfKeyAt}
 use Rattle.cbor_strict.specs.inner.Judged.{IsJudged}
 use Rattle.cbor_strict.proofs.Composition.{array_bytes, map_bytes, IsMapSoFar}
-use Rattle.cbor_strict.proofs.Judged.{Never, zero_item, zeros, zeros_count, zeros_spelled, zeros_flat, zero_pairs, pairs_count, pairs_spelled, pairs_flat, judged_in}
-use Rattle.cbor_walk.specs.Path.{Level, a_member, a_key, a_value, tagged, level_bytes, IsValueDue, IsClean, bytes_before, AreClean}
+use Rattle.cbor_strict.proofs.Judged.{Never, zero_item, zeros, zeros_count, zeros_spelled, zeros_flat, zero_pairs, pairs_count, pairs_spelled, pairs_flat, judged_in, judged_key}
+use Rattle.cbor_walk.specs.Path.{Level, a_member, a_key, a_value, tagged, level_bytes, IsValueDue, IsClean, bytes_before, AreClean, HasEnded}
 
 -- ---- a level as a frame, in which zeros stand for what is still to come
 
@@ -69,6 +69,17 @@ module _ (r : Rules) (at d : ℕ) where
       subst (λ (x : List ℕ). IsJudged r at (suc d) (x ++ p) found) (before_frame l)
       (judged_in (frame_of l) r at d (frame_fits l h) (frame_flat l h) (front_clean l h) p found (subst (λ (x : List ℕ). IsJudged r (at + length x) d p found) (sym (before_frame l)) j))
 
+  -- a complaint on the key that was due
+  pub judged_key_level : (w : Width) (left : ℕ) (done : SpelledEntries) (k : Spelling) (c : Complaint) → IsClean r at d (a_key w left done) → IsSpelled k → depth k ≤ d
+      → Never (Complains r (at + length (level_bytes (a_key w left done))) k) → OfKey r (at + length (level_bytes (a_key w left done))) (keys_onto [] done) k c
+      → IsJudged r at (suc d) (level_bytes (a_key w left done) ++ spell k) (Some c)
+  judged_key_level w left done k c h i low none o =
+      let l = a_key w left done in
+      let e = sym (before_frame l) in
+      subst (λ (x : List ℕ). IsJudged r at (suc d) (x ++ spell k) (Some c)) (before_frame l)
+      (judged_key (frame_of l) r at d (frame_fits l h) (frame_flat l h) (front_clean l h) k c i low (subst (λ (x : List ℕ). Never (Complains r (at + length x) k)) e none)
+      (subst (λ (x : List ℕ). OfKey r (at + length x) (keys_onto [] done) k c) e o))
+
 -- what is found of it is found of the whole
 pub judged_path : (r : Rules) (d : ℕ) (ls : List Level) → AreClean r d ls → (p : List ℕ) (found : Option Complaint) → IsJudged r (length (bytes_before ls)) (d - length ls) p found → IsJudged r 0 d (bytes_before ls ++ p) found
 judged_path r d [] h p found j = let e : d - 0 ≡ d = omega arith in subst (λ (n : ℕ). IsJudged r 0 n p found) e j
@@ -80,3 +91,15 @@ judged_path r d (l ∷ ls) h p found j =
     let e : suc (d - suc (length ls)) ≡ d - length ls = omega (arith, below) in
     subst (λ (x : List ℕ). IsJudged r 0 d x found) (sym (append_assoc (bytes_before ls) (level_bytes l) p))
     (judged_path r d ls h.2 (level_bytes l ++ p) found (subst (λ (n : ℕ). IsJudged r at n (level_bytes l ++ p) found) e one))
+
+pub judged_key_path : (r : Rules) (d : ℕ) (w : Width) (left : ℕ) (done : SpelledEntries) (ls : List Level) (k : Spelling) (c : Complaint) → HasEnded r d (a_key w left done ∷ ls) k
+    → OfKey r (length (bytes_before (a_key w left done ∷ ls))) (keys_onto [] done) k c → IsJudged r 0 d (bytes_before (a_key w left done ∷ ls) ++ spell k) (Some c)
+judged_key_path r d w left done ls k c h o =
+    let l = a_key w left done in
+    let at = length (bytes_before ls) in
+    let size = length-append (bytes_before ls) (level_bytes l) in
+    let below : length ls < d = h.around.0 in
+    let one = judged_key_level r at (d - suc (length ls)) w left done k c h.around.1 h.spelled h.within (subst (λ (n : ℕ). Never (Complains r n k)) size h.clean) (subst (λ (n : ℕ). OfKey r n (keys_onto [] done) k c) size o) in
+    let e : suc (d - suc (length ls)) ≡ d - length ls = omega (arith, below) in
+    subst (λ (x : List ℕ). IsJudged r 0 d x (Some c)) (sym (append_assoc (bytes_before ls) (level_bytes l) (spell k)))
+    (judged_path r d ls h.around.2 (level_bytes l ++ spell k) (Some c) (subst (λ (n : ℕ). IsJudged r at n (level_bytes l ++ spell k) (Some c)) e one))

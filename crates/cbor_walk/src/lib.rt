@@ -1,4 +1,14 @@
-//! One walk over an item.
+//! One walk over an item, in one loop and without recursion.
+//!
+//! [`canonical_front`] goes over the canonical bytes at the front of a slice once. It holds a
+//! [`Level`] for each open container in cells that are made as they are wanted, so that depth that
+//! is not used costs nothing; at the first byte, head, text or key that is none of a canonical item
+//! it stops with the refusal.
 #![tactic(auto)]
 
-pub mod laws;
+mod any_item;
+mod argument;
+mod fast;
+mod level;
+mod stack;
+mod walk;
