@@ -1,2 +1,3 @@
+pub mod PathForm
 pub mod PathLevels
 pub mod PathSteps
