@@ -1,3 +1,4 @@
 pub mod PathForm
 pub mod PathLevels
 pub mod PathSteps
+pub mod PathVerdict
