@@ -1,4 +1,5 @@
 pub mod PathForm
 pub mod PathLevels
 pub mod PathSteps
+pub mod PathStops
 pub mod PathVerdict
