@@ -1,3 +1,4 @@
+pub mod FirstBytes
 pub mod PathForm
 pub mod PathLevels
 pub mod PathSteps
