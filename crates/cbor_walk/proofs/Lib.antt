@@ -1,3 +1,4 @@
+pub mod CutHeads
 pub mod FirstBytes
 pub mod PathForm
 pub mod PathLevels
