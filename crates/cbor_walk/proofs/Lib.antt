@@ -1,5 +1,6 @@
 pub mod CutHeads
 pub mod FirstBytes
+pub mod HeadComplaints
 pub mod PathForm
 pub mod PathLevels
 pub mod PathSteps
