@@ -7,6 +7,7 @@ use Rattle.cbor_head.specs.declared.order.KeyOrder.{KeyOrder}
 use Rattle.cbor_head.specs.declared.reason.Reason.{Reason}
 use Rattle.cbor_head.specs.declared.reason.Reason.TheVariants.{Reserved, NoIndefinite, Float, StrayBreak, TooDeep}
 use Rattle.cbor_head.specs.declared.reason.Refusal.{Refusal}
+use Rattle.cbor_head.specs.Value.{AreBytes}
 use Rattle.cbor_events.specs.inner.Whole.{IsArgument}
 use Rattle.cbor_strict.specs.inner.Quick.{IsLeaf}
 use Rattle.cbor_walk.specs.Path.{Level, bytes_before, AreClean}
@@ -52,7 +53,7 @@ pub record OpensHere (room : Bool) (b : List ℕ) (due : Due) (left used : ℕ) 
 -- The bytes that are left at this place of an input are refused so, within whatever containers are open there.
 abbrev pub IsRefusedHere : Bool → List ℕ → ℕ → Refusal → Type 0
 IsRefusedHere room b at f =
-    (o : KeyOrder) (d : ℕ) (ls : List Level) → AreClean (strict o) d ls → at ≡ length (bytes_before ls) → (room ≡ true → length ls < d) → (room ≡ false → d ≤ length ls) → IsStopped (strict o) d (bytes_before ls ++ b) f
+    (o : KeyOrder) (d : ℕ) (ls : List Level) → AreClean (strict o) d ls → at ≡ length (bytes_before ls) → (room ≡ true → length ls < d) → (room ≡ false → d ≤ length ls) → AreBytes (bytes_before ls ++ b) → IsStopped (strict o) d (bytes_before ls ++ b) f
 
 abbrev pub IsAny : List ℕ → ℕ → Bool → Any → Type 0
 IsAny b at room (Leaf used) = (0 < used) × IsLeaf room b used
