@@ -1,4 +1,5 @@
 pub mod AnyItem
+pub mod AnyRefusals
 pub mod CellSteps
 pub mod CutHeads
 pub mod FirstBytes
@@ -9,4 +10,3 @@ pub mod PathLevels
 pub mod PathSteps
 pub mod PathStops
 pub mod PathVerdict
-pub mod Taking
