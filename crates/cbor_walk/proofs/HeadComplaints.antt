@@ -1,5 +1,5 @@
 -- What the rules have against a head comes first of all that they have against its item.
-use Rattle.std.proofs.Common.{◌≡◌, ◌≢◌, ℕ, ◌+◌, ◌<◌, ◌≤◌, Some, List, [], ◌∷◌, length, replicate, refl, sym, ap, ◌∙◌, subst, inl, arith}
+use Rattle.std.proofs.Common.{◌≡◌, ◌≢◌, ℕ, ◌+◌, ◌<◌, ◌≤◌, Some, List, [], length, replicate, refl, sym, ap, ◌∙◌, subst, inl, arith}
 use Rattle.cbor_head.specs.Complaint.{Rules, form, plain, strict, Complaint, complaint, OfHead, OfIndefinite, OfCount}
 use Rattle.cbor_head.specs.Head.{Holds, head, shortest}
 use Rattle.cbor_head.specs.Spelling.{unsigned, negative, bytes, text, byte_chunks, text_chunks, tag}
@@ -8,7 +8,7 @@ use Rattle.cbor_head.specs.declared.major.Major.TheVariants.{Unsigned, Negative,
 use Rattle.cbor_head.specs.declared.order.KeyOrder.{KeyOrder}
 use Rattle.cbor_head.specs.declared.reason.Reason.TheVariants.{NotShortest, Indefinite as IndefiniteReason}
 use Rattle.cbor_head.specs.declared.width.Width.{Width}
-use Rattle.cbor_head.specs.declared.width.Width.TheVariants.{Direct, One, Two, Four, Eight, Indefinite}
+use Rattle.cbor_head.specs.declared.width.Width.TheVariants.{Indefinite}
 use Rattle.cbor_head.proofs.OneFirst.{last}
 use Rattle.cbor_events.proofs.Taking.{IsNumbered}
 use Rattle.cbor_strict.specs.inner.Judged.{IsJudged}
