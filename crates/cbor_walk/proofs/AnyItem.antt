@@ -52,7 +52,7 @@ module _ (low : ℕ) (behind : List ℕ) (w : Width) (n : ℕ) (rest : List ℕ)
   shortest_argument e = record { spelled = λ first. a.spelled first ∙ ap (λ (v : Width). with_argument v first n ++ rest) e; range = below w n a.holds }
 
 -- the low bits of each width
-low_bits : (low : ℕ) (behind : List ℕ) (w : Width) (n : ℕ) (rest : List ℕ) → IsArgument low behind w n rest → low ≤ 24 → (low ≡ 24 → 32 ≤ n) → w ≡ shortest n
+pub low_bits : (low : ℕ) (behind : List ℕ) (w : Width) (n : ℕ) (rest : List ℕ) → IsArgument low behind w n rest → low ≤ 24 → (low ≡ 24 → 32 ≤ n) → w ≡ shortest n
 low_bits low behind Direct n rest a l wide = let h : n < 24 = a.holds in sym (small h)
   where
     small : n < 24 → shortest n ≡ Direct
@@ -71,7 +71,7 @@ low_bits low behind Eight n rest a l wide = let e : 0 + low ≡ 0 + 27 = ap (λ 
 low_bits low behind Indefinite n rest a l wide = absurd a.holds
 
 -- the byte behind f8
-number_byte : (behind : List ℕ) (w : Width) (n : ℕ) (rest : List ℕ) → IsArgument 24 behind w n rest → behind ≡ (n % 256) ∷ rest
+pub number_byte : (behind : List ℕ) (w : Width) (n : ℕ) (rest : List ℕ) → IsArgument 24 behind w n rest → behind ≡ (n % 256) ∷ rest
 number_byte behind One n rest a = ap (drop 1) (a.spelled 0)
 number_byte behind Direct n rest a = let e : 0 + 24 ≡ 0 + n = ap (λ (xs : List ℕ). get_or xs 0 0) (a.spelled 0) in let h : n < 24 = a.holds in absurd (omega (arith, e, h))
 number_byte behind Two n rest a = let e : 0 + 24 ≡ 0 + 25 = ap (λ (xs : List ℕ). get_or xs 0 0) (a.spelled 0) in absurd (omega (arith, e))
@@ -81,7 +81,7 @@ number_byte behind Indefinite n rest a = absurd a.holds
 
 -- ---- the major type
 
-fits : (m : Major) (low c d : ℕ) → c ≡ 32 * major_number m + low → low < 32 → (128 ≤ c → c < 224 → 1 ≤ d) → takes m ≤ d
+pub fits : (m : Major) (low c d : ℕ) → c ≡ 32 * major_number m + low → low < 32 → (128 ≤ c → c < 224 → 1 ≤ d) → takes m ≤ d
 fits Array low c d e l room = room (omega (arith, e)) (omega (arith, e, l))
 fits Map low c d e l room = room (omega (arith, e)) (omega (arith, e, l))
 fits Tag low c d e l room = room (omega (arith, e)) (omega (arith, e, l))
@@ -91,7 +91,7 @@ fits Bytes low c d e l room = omega arith
 fits Text low c d e l room = omega arith
 fits Simple low c d e l room = omega arith
 
-numbered : (m : Major) (low c : ℕ) → c ≡ 32 * major_number m + low → c < 224 → IsNumbered m
+pub numbered : (m : Major) (low c : ℕ) → c ≡ 32 * major_number m + low → c < 224 → IsNumbered m
 numbered Simple low c e l = absurd (omega (arith, e, l))
 numbered Unsigned low c e l = tt
 numbered Negative low c e l = tt
@@ -122,6 +122,18 @@ module _ (room : Bool) (first : ℕ) (behind : List ℕ) (w : Width) (n : ℕ) (
         omega (arith, e, fewer),
         subst (IsLeaf room (first ∷ behind)) same (leaf-value room first behind n rest s fewer l (omega (arith, h)) (omega (arith, l, h)) (λ k. wide (omega (arith, l, h, k)))),
       )
+
+  module _ (used : ℕ) (e : used ≡ suc (length behind) - length rest) (inside : n ≤ length rest) (all : AreBytes (first ∷ behind)) where
+    with_payload : IsLeaf room (first ∷ behind) (1 + (length behind - length rest) + length (take n rest)) → (0 < used + length (take n rest)) × IsLeaf room (first ∷ behind) (used + length (take n rest))
+    with_payload l =
+        let same : 1 + (length behind - length rest) + length (take n rest) ≡ used + length (take n rest) = omega (arith, e, fewer) in
+        (omega (arith, e, fewer), subst (IsLeaf room (first ∷ behind)) same l)
+
+    pub some_bytes : 64 ≤ first → first < 96 → (0 < used + length (take n rest)) × IsLeaf room (first ∷ behind) (used + length (take n rest))
+    some_bytes l h = with_payload (leaf-bytes room first behind n rest s fewer (take n rest) refl inside all l h)
+
+    pub a_text : 96 ≤ first → first < 128 → IsUtf8 (take n rest) → (0 < used + length (take n rest)) × IsLeaf room (first ∷ behind) (used + length (take n rest))
+    a_text l h u = with_payload (leaf-text room first behind n rest s fewer (take n rest) refl inside all l h u)
 
   module _ (used : ℕ) (e : used ≡ suc (length behind) - length rest) (is_room : room ≡ true) where
     same_used : 1 + (length behind - length rest) ≡ used

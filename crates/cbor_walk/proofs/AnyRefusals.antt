@@ -13,6 +13,7 @@ use Rattle.cbor_head.specs.declared.major.Major.TheVariants.{Bytes, Text, Array,
 use Rattle.cbor_head.specs.declared.order.KeyOrder.{KeyOrder}
 use Rattle.cbor_head.specs.declared.reason.Reason.{Reason}
 use Rattle.cbor_head.specs.declared.reason.Reason.TheVariants as reasons
+use Rattle.cbor_head.specs.declared.reason.Refusal.{Refusal}
 use Rattle.cbor_head.specs.declared.width.Width.{Width}
 use Rattle.cbor_head.specs.declared.width.Width.TheVariants.{Indefinite}
 use Rattle.cbor_events.specs.inner.Whole.{IsArgument}
@@ -22,13 +23,22 @@ use Rattle.cbor_strict.proofs.ByteLists.{bytes_back, bytes_front}
 use Rattle.cbor_strict.proofs.Judged.{Never, judged_start}
 use Rattle.cbor_strict.proofs.Leaves.{text_complains}
 use Rattle.cbor_walk.specs.Path.{Level, a_member, a_key, a_value, tagged, bytes_before, AreClean}
-use Rattle.cbor_walk.specs.Items.{IsMisplaced, IsPlaced, IsRefusedHere}
+use Rattle.cbor_walk.specs.Items.{IsMisplaced, IsPlaced, IsRefusedHere, IsAny}
+use Rattle.cbor_walk.specs.declared.any_item.Any.{Any}
+use Rattle.cbor_walk.specs.declared.any_item.Any.TheVariants as any
 use Rattle.cbor_walk.specs.Stop.{HasComplaint, IsStopped}
 use Rattle.cbor_walk.proofs.AnyItem.{low_bits, number_byte, fits as fits_in, numbered, spells, ends_here}
 use Rattle.cbor_walk.proofs.CutHeads.{head_cut, bytes_cut, text_cut}
 use Rattle.cbor_walk.proofs.FirstBytes.{MayBreak, reserved, no_indefinite, a_float, stray_break, too_deep, bad_simple}
 use Rattle.cbor_walk.proofs.HeadComplaints.{IsOpener as MayOpen, not_shortest, shortest_clean, indefinite_length}
 use Rattle.cbor_walk.proofs.PathStops.{complaint_here}
+
+-- what is answered
+pub refuses : (room : Bool) (at : ℕ) (b c : List ℕ) (f : Refusal) (result : Any) → b ≡ c → result ≡ any.Refused f → IsRefusedHere room c at f → IsAny b at room result
+refuses room at b c f result e is h = subst (IsAny b at room) (sym is) (subst (λ (x : List ℕ). IsRefusedHere room x at f) (sym e) h)
+
+pub answers : (room : Bool) (at : ℕ) (b c : List ℕ) (result answer : Any) → b ≡ c → result ≡ answer → IsAny c at room answer → IsAny b at room result
+answers room at b c result answer e is h = subst (IsAny b at room) (sym is) (subst (λ (x : List ℕ). IsAny x at room answer) (sym e) h)
 
 -- by the strict rules each open container has a length
 no_break : (o : KeyOrder) (d : ℕ) (ls : List Level) → AreClean (strict o) d ls → MayBreak ls → ⊥
@@ -48,22 +58,22 @@ module _ (room : Bool) (first : ℕ) (behind : List ℕ) (at : ℕ) where
   -- the first byte may not stand there
   pub misplaced_here : (reason : Reason) → IsMisplaced first room reason → IsRefusedHere room (first ∷ behind) at (refusal reason at (at + 1))
   misplaced_here reasons.Reserved h = λ o d ls clean here fits full are.
-      subst (λ (n : ℕ). IsStopped (strict o) d (bytes_before ls ++ first ∷ behind) (refusal reasons.Reserved n) (sym here) (inr (inl (reserved (strict o) d ls clean (bytes_before ls ++ first ∷ behind) are first behind refl h.0 h.1)))
+      subst (λ (n : ℕ). IsStopped (strict o) d (bytes_before ls ++ first ∷ behind) (refusal reasons.Reserved n (n + 1))) (sym here) (inr (inl (reserved (strict o) d ls clean (bytes_before ls ++ first ∷ behind) are first behind refl h.0 h.1)))
   misplaced_here reasons.NoIndefinite h = λ o d ls clean here fits full are.
-      subst (λ (n : ℕ). IsStopped (strict o) d (bytes_before ls ++ first ∷ behind) (refusal reasons.NoIndefinite n) (sym here) (inr (inl (no_indefinite (strict o) d ls clean (bytes_before ls ++ first ∷ behind) are first behind refl h.0 h.1)))
+      subst (λ (n : ℕ). IsStopped (strict o) d (bytes_before ls ++ first ∷ behind) (refusal reasons.NoIndefinite n (n + 1))) (sym here) (inr (inl (no_indefinite (strict o) d ls clean (bytes_before ls ++ first ∷ behind) are first behind refl h.0 h.1)))
   misplaced_here reasons.Float h = λ o d ls clean here fits full are.
-      subst (λ (n : ℕ). IsStopped (strict o) d (bytes_before ls ++ first ∷ behind) (refusal reasons.Float n) (sym here) (inr (inl (a_float (strict o) d ls clean (bytes_before ls ++ first ∷ behind) are first behind refl h.0 h.1)))
+      subst (λ (n : ℕ). IsStopped (strict o) d (bytes_before ls ++ first ∷ behind) (refusal reasons.Float n (n + 1))) (sym here) (inr (inl (a_float (strict o) d ls clean (bytes_before ls ++ first ∷ behind) are first behind refl h.0 h.1)))
   misplaced_here reasons.StrayBreak h = λ o d ls clean here fits full are.
-      subst (λ (n : ℕ). IsStopped (strict o) d (bytes_before ls ++ first ∷ behind) (refusal reasons.StrayBreak n) (sym here) (inr (inl (stray_break (strict o) d ls clean (bytes_before ls ++ first ∷ behind) are first behind refl h (no_break o d ls clean))))
+      subst (λ (n : ℕ). IsStopped (strict o) d (bytes_before ls ++ first ∷ behind) (refusal reasons.StrayBreak n (n + 1))) (sym here) (inr (inl (stray_break (strict o) d ls clean (bytes_before ls ++ first ∷ behind) are first behind refl h (no_break o d ls clean))))
   misplaced_here reasons.TooDeep h = λ o d ls clean here fits full are.
-      subst (λ (n : ℕ). IsStopped (strict o) d (bytes_before ls ++ first ∷ behind) (refusal reasons.TooDeep n) (sym here) (inr (inl (too_deep (strict o) d ls clean (bytes_before ls ++ first ∷ behind) are first behind refl (full h.0) h.1 h.2 h.3)))
+      subst (λ (n : ℕ). IsStopped (strict o) d (bytes_before ls ++ first ∷ behind) (refusal reasons.TooDeep n (n + 1))) (sym here) (inr (inl (too_deep (strict o) d ls clean (bytes_before ls ++ first ∷ behind) are first behind refl (full h.0) h.1 h.2 h.3)))
   misplaced_here _ h = absurd h
 
   -- no length is told
   pub endless_here : first % 32 ≡ 31 → 64 ≤ first → first < 192 → (128 ≤ first → first < 224 → room ≡ true) → IsRefusedHere room (first ∷ behind) at (refusal reasons.Indefinite at (at + 1))
   endless_here low l h is_room = λ o d ls clean here fits full are.
       let deep : 128 ≤ first → 1 ≤ d - length ls = λ k. let r : length ls < d = fits (is_room k (omega (arith, h))) in omega (arith, r) in
-      subst (λ (n : ℕ). IsStopped (strict o) d (bytes_before ls ++ first ∷ behind) (refusal reasons.Indefinite n) (sym here) (inl (elim (cases_lt first 96) [
+      subst (λ (n : ℕ). IsStopped (strict o) d (bytes_before ls ++ first ∷ behind) (refusal reasons.Indefinite n (n + 1))) (sym here) (inl (elim (cases_lt first 96) [
         | inl k ↦ opens o d ls clean Bytes tt (omega (arith, low, l, k))
         | inr k ↦ elim (cases_lt first 128) [
           | inl j ↦ opens o d ls clean Text tt (omega (arith, low, k, j))
@@ -80,7 +90,7 @@ module _ (room : Bool) (first : ℕ) (behind : List ℕ) (at : ℕ) where
   pub cut_here : 24 ≤ first % 32 → first % 32 < 28 → first < 249 → (128 ≤ first → first < 224 → room ≡ true) → length behind < 2 ^ (first % 32 - 24) → (end : ℕ) → end ≡ at + suc (length behind)
       → IsRefusedHere room (first ∷ behind) at (refusal reasons.Truncated end end)
   cut_here l h small is_room short end e = ends_here room (first ∷ behind) at end e (λ o d ls fits are.
-  head_cut (strict o) (length (bytes_before ls)) d ls first behind l (omega (arith, h)) (kind (cases_lt first 224)) (λ k j. fits (is_room k j)) are.1 short)
+      head_cut (strict o) (length (bytes_before ls)) d ls first behind l (omega (arith, h)) (kind (cases_lt first 224)) (λ k j. fits (is_room k j)) are.1 short)
     where
       kind : (first < 224) ⊎ (224 ≤ first) → (first < 224) ⊎ (first ≡ 0xf8)
       kind (inl k) = inl k

@@ -1,7 +1,7 @@
 //! Short items and short heads at the front of a slice: fast, and where one isn't found, nothing is
 //! said.
 
-ghost use Rattle.std.specs.Prelude.{◌≡◌, ◌<◌, ◌≤◌, ◌*◌, ◌^◌, ◌∷◌, ℕ, List, length, IfSome, false};
+ghost use Rattle.std.specs.Prelude.{◌≡◌, ◌<◌, ◌≤◌, ◌*◌, ◌^◌, ◌∷◌, ◌⊎◌, ℕ, List, length, IfSome, true, false};
 ghost use Rattle.cbor_strict.specs.inner.Quick.{IsShortestHead, IsLeaf};
 ghost use Rattle.cbor_walk.specs.Items.{IsShortOpener};
 
@@ -46,6 +46,14 @@ fn shortest_size(low: u8, behind: &[u8]) -> usize
     }
 }
 
+// An integer in one byte.
+#[inline(always)]
+fn is_short_integer(first: u8) -> bool
+    ensures { result ≡ true → (first < 24) ⊎ ((32 ≤ first) × (first < 56)) }
+{
+    first < 0x18 || first >= 0x20 && first < 0x38
+}
+
 /// How many bytes the integer, simple value or short ASCII text has that stands there, in its
 /// shortest form; 0 says nothing.
 #[inline(always)]
@@ -54,7 +62,7 @@ pub(crate) fn fast_leaf(first: u8, rest: &[u8]) -> usize
     ensures inside { result ≤ length rest.now }
     ensures leaf { 0 < result → IsLeaf false rest.now result }
 {
-    if first < 0x18 || first >= 0x20 && first < 0x38 {
+    if is_short_integer(first) {
         return 1;
     }
     if first >= 0x60 && first < 0x78 {
