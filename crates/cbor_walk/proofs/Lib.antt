@@ -10,3 +10,4 @@ pub mod PathLevels
 pub mod PathSteps
 pub mod PathStops
 pub mod PathVerdict
+pub mod Taking

@@ -8,7 +8,11 @@
 
 mod any_item;
 mod argument;
+mod canonical;
 mod fast;
 mod level;
 mod stack;
+mod take;
 mod walk;
+
+pub use canonical::canonical_front;

@@ -1,13 +1,15 @@
 //! The walk.
 
-ghost use Rattle.std.specs.Prelude.{◌≡◌, ◌≤◌, ◌<◌, ◌^◌, length};
+ghost use Rattle.std.specs.Prelude.{◌≡◌, ◌≤◌, ◌<◌, ◌+◌, ◌^◌, length};
 ghost use Rattle.cbor_walk.specs.Cells.{standing, StandsAt};
+ghost use Rattle.cbor_head.specs.Verdict.{refusal};
+ghost use Rattle.cbor_head.specs.declared.reason.Reason.TheVariants as reasons;
+ghost use Rattle.cbor_walk.specs.declared.walk.Walked.TheVariants as walked;
 ghost use Rattle.cbor_walk.specs.Walked.{IsWalked};
 
-use crate::any_item::{Any, any_item};
-use crate::fast::{fast_leaf, fast_opener};
 use crate::level::{Level, Next};
 use crate::stack::Stack;
+use crate::take::{Taken, take_next};
 use cbor_head::{KeyOrder, Reason, Refusal};
 
 /// How a walk ends.
@@ -36,50 +38,27 @@ pub(crate) fn walk(
     ensures { StandsAt order depth input.now (standing stack.old cells.old) start
         → IsWalked order depth input.now stack.new cells.new result }
 {
-    let mut rest = &input[start..];
+    let mut at = start;
     'items: loop {
-        let at = input.len() - rest.len();
-        let first = match rest.first() {
-            Some(first) => *first,
-            None => return refused_at_the_end(at),
-        };
-        let used = fast_leaf(first, rest);
-        if used > 0 {
-            rest = &rest[used..];
-        } else {
-            if let Some((due, left)) = fast_opener(first) {
-                if stack.height < depth && stack.height < cells.len() {
-                    stack.push(cells, Level::new(due, left, at + 1));
-                    rest = &rest[1..];
-                    continue;
+        match take_next(&input[at..], at, cells, stack, depth) {
+            Taken::Head(used) => at += used,
+            Taken::Item(used) => {
+                at += used;
+                match stack.complete(cells, input, order, at) {
+                    Next::Item => {}
+                    Next::Done => return Walked::Whole(at),
+                    Next::Falls => return falls(stack.top.key, at),
                 }
             }
-            match any_item(rest, at, stack.height < depth) {
-                Any::Leaf(used) => rest = &rest[used..],
-                Any::Opens(due, left, used) => {
-                    if stack.height >= cells.len() {
-                        return Walked::Full(at);
-                    }
-                    stack.push(cells, Level::new(due, left, at + used));
-                    rest = &rest[used..];
-                    continue;
-                }
-                Any::Refused(refusal) => return Walked::Refused(refusal),
-            }
-        }
-        let at = input.len() - rest.len();
-        match stack.complete(cells, input, order, at) {
-            Next::Item => {}
-            Next::Done => return Walked::Whole(at),
-            Next::Falls => {
-                let place = stack.top.key as u64;
-                return Walked::Refused(Refusal::new(Reason::KeyOrder, place, at as u64));
-            }
+            Taken::Refused(refusal) => return Walked::Refused(refusal),
+            Taken::Full => return Walked::Full(at),
         }
     }
 }
 
 #[cold]
-fn refused_at_the_end(at: usize) -> Walked {
-    Walked::Refused(Refusal::at(Reason::Truncated, at as u64))
+fn falls(place: usize, at: usize) -> Walked
+    ensures { result ≡ walked.Refused (refusal reasons.KeyOrder place at) }
+{
+    Walked::Refused(Refusal::new(Reason::KeyOrder, place as u64, at as u64))
 }
