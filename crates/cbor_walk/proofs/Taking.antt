@@ -1,7 +1,7 @@
 -- What is taken where an item is due, in the cells.
 use Rattle.std.proofs.Common.{◌≡◌, ◌≢◌, ℕ, zero, suc, ◌+◌, ◌-◌, ◌^◌, ◌<◌, ◌≤◌, ◌⊎◌, Bool, true, false, List, [], ◌∷◌, ◌++◌, length, take, drop, refl, sym, ap, ◌∙◌, subst, inl, inr, arith, append_assoc, append-nil, length-drop}
 use Rattle.std.specs.Prelude.{reverse, slice_range}
-use Rattle.std.proofs.Math.Seq.{drop-append_seam}
+use Rattle.std.proofs.Math.Seq.{drop-append_seam, take-length}
 use Rattle.std.proofs.lemmas.Bool.Decides.{nat_tests}
 use Rattle.std.proofs.lemmas.List.{length-append, length-reverse, length-take-le, drop-drop}
 use Rattle.cbor_head.specs.Complaint.{strict, OfCount, OfHead}
@@ -155,3 +155,9 @@ short_opens first behind Key left h =
     let small = h.1 in
     (omega (arith, small), ap (λ (x : ℕ). x ∷ behind) h.0 ∙ ap (λ (w : Width). head Map w (suc left) ++ behind) (sym (direct (suc left) h.1)))
 short_opens first behind Value left h = absurd h
+
+-- the same levels in other cells
+pub in_more_cells : (o : KeyOrder) (d : ℕ) (input : List ℕ) (k : Stack) (few more : List Level) (at : ℕ) → StandsAt o d input (standing k few) at → k.height ≡ length few → take (length few) more ≡ few → StandsAt o d input (standing k more) at
+in_more_cells o d input k few more at s h e =
+    let same : take k.height few ≡ take k.height more = ap (λ (n : ℕ). take n few) h ∙ take-length few ∙ sym e ∙ ap (λ (n : ℕ). take n more) (sym h) in
+    subst (λ (x : List Level). StandsAt o d input (k.top ∷ reverse x) at) same s

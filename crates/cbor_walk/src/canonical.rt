@@ -1,6 +1,6 @@
 //! The canonical item at the front of a slice.
 
-ghost use Rattle.std.specs.Prelude.{◌≤◌, IfOk, IfErr, length};
+ghost use Rattle.std.specs.Prelude.{◌≡◌, ◌≤◌, IfOk, IfErr, length, take};
 ghost use Rattle.cbor_head.specs.Complaint.{strict};
 ghost use Rattle.cbor_walk.specs.Cells.{IsWhole};
 ghost use Rattle.cbor_walk.specs.Stop.{IsStopped};
@@ -51,12 +51,21 @@ fn deeper(
     ensures whole { IfOk result (IsWhole order depth input.now) }
     ensures refused { IfErr result (IsStopped (strict order) depth input.now) }
 {
-    let mut cells = [Level::new(Due::Item, 0, 0); MOST];
-    cells[..few.len()].copy_from_slice(few);
+    let mut cells = spread(few);
     let mut stack = stack;
     match walk(input, at, &mut cells, &mut stack, depth, order) {
         Walked::Whole(at) => Ok(at),
         Walked::Refused(refusal) => Err(refusal),
         Walked::Full(_) => unreachable!(),
     }
+}
+
+// All cells, of which these are the first.
+fn spread(few: &[Level]) -> [Level; MOST]
+    requires { length few.now ≤ 256 }
+    ensures { take (length few.now) result ≡ few.now }
+{
+    let mut cells = [Level::new(Due::Item, 0, 0); MOST];
+    cells[..few.len()].copy_from_slice(few);
+    cells
 }
