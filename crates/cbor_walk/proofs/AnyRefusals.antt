@@ -1,0 +1,170 @@
+-- Why nothing may stand where an item is due.
+use Rattle.std.proofs.Common.{◌≡◌, ◌≢◌, ℕ, suc, ◌+◌, ◌-◌, ◌*◌, ◌^◌, ◌%◌, ◌<◌, ◌≤◌, ◌⊎◌, Bool, true, false, None, Some, List, [], ◌∷◌, ◌++◌, length, take, drop, refl, sym, ap, ◌∙◌, subst, inl, inr, arith, append_assoc, append-nil, take-append-drop}
+use Rattle.std.specs.Prelude.{IsUtf8}
+use Rattle.std.specs.Str.Lossy.{utf8_valid_len}
+use Rattle.std.proofs.lemmas.Bool.{cases_lt}
+use Rattle.std.proofs.lemmas.List.{length-append, length-take-le}
+use Rattle.cbor_head.specs.Complaint.{strict, complaint}
+use Rattle.cbor_head.specs.Head.{Holds, head, major_number, shortest, with_argument}
+use Rattle.cbor_head.specs.Value.{AreBytes}
+use Rattle.cbor_head.specs.Verdict.{refusal}
+use Rattle.cbor_head.specs.declared.major.Major.{Major}
+use Rattle.cbor_head.specs.declared.major.Major.TheVariants.{Bytes, Text, Array, Map}
+use Rattle.cbor_head.specs.declared.order.KeyOrder.{KeyOrder}
+use Rattle.cbor_head.specs.declared.reason.Reason.{Reason}
+use Rattle.cbor_head.specs.declared.reason.Reason.TheVariants as reasons
+use Rattle.cbor_head.specs.declared.reason.Refusal.{Refusal}
+use Rattle.cbor_head.specs.declared.width.Width.{Width}
+use Rattle.cbor_head.specs.declared.width.Width.TheVariants.{Indefinite}
+use Rattle.cbor_events.specs.inner.Whole.{IsArgument}
+use Rattle.cbor_events.proofs.FirstByte.{split}
+use Rattle.cbor_strict.specs.inner.Judged.{IsJudged}
+use Rattle.cbor_strict.proofs.ByteLists.{bytes_back, bytes_front}
+use Rattle.cbor_strict.proofs.Judged.{Never, judged_start}
+use Rattle.cbor_strict.proofs.Leaves.{text_complains}
+use Rattle.cbor_walk.specs.Path.{Level, a_member, a_key, a_value, tagged, bytes_before, AreClean}
+use Rattle.cbor_walk.specs.Items.{IsMisplaced, IsPlaced, IsRefusedHere, IsAny}
+use Rattle.cbor_walk.specs.declared.any_item.Any.{Any}
+use Rattle.cbor_walk.specs.declared.any_item.Any.TheVariants as any
+use Rattle.cbor_walk.specs.Stop.{HasComplaint, IsStopped}
+use Rattle.cbor_walk.proofs.AnyItem.{low_bits, number_byte, fits as fits_in, numbered, spells, ends_here}
+use Rattle.cbor_walk.proofs.CutHeads.{head_cut, bytes_cut, text_cut}
+use Rattle.cbor_walk.proofs.FirstBytes.{MayBreak, reserved, no_indefinite, a_float, stray_break, too_deep, bad_simple}
+use Rattle.cbor_walk.proofs.HeadComplaints.{IsOpener as MayOpen, not_shortest, shortest_clean, indefinite_length}
+use Rattle.cbor_walk.proofs.PathStops.{complaint_here}
+
+-- what is answered
+pub refuses : (room : Bool) (at : ℕ) (b c : List ℕ) (f : Refusal) (result : Any) → b ≡ c → result ≡ any.Refused f → IsRefusedHere room c at f → IsAny b at room result
+refuses room at b c f result e is h = subst (IsAny b at room) (sym is) (subst (λ (x : List ℕ). IsRefusedHere room x at f) (sym e) h)
+
+pub answers : (room : Bool) (at : ℕ) (b c : List ℕ) (result answer : Any) → b ≡ c → result ≡ answer → IsAny c at room answer → IsAny b at room result
+answers room at b c result answer e is h = subst (IsAny b at room) (sym is) (subst (λ (x : List ℕ). IsAny x at room answer) (sym e) h)
+
+-- by the strict rules each open container has a length
+no_break : (o : KeyOrder) (d : ℕ) (ls : List Level) → AreClean (strict o) d ls → MayBreak ls → ⊥
+no_break o d (a_member Indefinite left done ∷ ls) h b = h.1.head_clean _ refl
+no_break o d (a_key Indefinite left done ∷ ls) h b = h.1.head_clean _ refl
+no_break o d [] h b = b
+no_break o d (a_member w left done ∷ ls) h b = b
+no_break o d (a_key w left done ∷ ls) h b = b
+no_break o d (a_value w left done k ∷ ls) h b = b
+no_break o d (tagged w n ∷ ls) h b = b
+
+-- nothing is left
+pub nothing_here : (room : Bool) (at end : ℕ) → end ≡ at + 0 → IsRefusedHere room [] at (refusal reasons.Truncated end end)
+nothing_here room at end e = ends_here room [] at end e (λ o d ls fits are. judged_start (strict o) (length (bytes_before ls)) (d - length ls))
+
+module _ (room : Bool) (first : ℕ) (behind : List ℕ) (at : ℕ) where
+  -- the first byte may not stand there
+  pub misplaced_here : (reason : Reason) → IsMisplaced first room reason → IsRefusedHere room (first ∷ behind) at (refusal reason at (at + 1))
+  misplaced_here reasons.Reserved h = λ o d ls clean here fits full are.
+      subst (λ (n : ℕ). IsStopped (strict o) d (bytes_before ls ++ first ∷ behind) (refusal reasons.Reserved n (n + 1))) (sym here) (inr (inl (reserved (strict o) d ls clean (bytes_before ls ++ first ∷ behind) are first behind refl h.0 h.1)))
+  misplaced_here reasons.NoIndefinite h = λ o d ls clean here fits full are.
+      subst (λ (n : ℕ). IsStopped (strict o) d (bytes_before ls ++ first ∷ behind) (refusal reasons.NoIndefinite n (n + 1))) (sym here) (inr (inl (no_indefinite (strict o) d ls clean (bytes_before ls ++ first ∷ behind) are first behind refl h.0 h.1)))
+  misplaced_here reasons.Float h = λ o d ls clean here fits full are.
+      subst (λ (n : ℕ). IsStopped (strict o) d (bytes_before ls ++ first ∷ behind) (refusal reasons.Float n (n + 1))) (sym here) (inr (inl (a_float (strict o) d ls clean (bytes_before ls ++ first ∷ behind) are first behind refl h.0 h.1)))
+  misplaced_here reasons.StrayBreak h = λ o d ls clean here fits full are.
+      subst (λ (n : ℕ). IsStopped (strict o) d (bytes_before ls ++ first ∷ behind) (refusal reasons.StrayBreak n (n + 1))) (sym here) (inr (inl (stray_break (strict o) d ls clean (bytes_before ls ++ first ∷ behind) are first behind refl h (no_break o d ls clean))))
+  misplaced_here reasons.TooDeep h = λ o d ls clean here fits full are.
+      subst (λ (n : ℕ). IsStopped (strict o) d (bytes_before ls ++ first ∷ behind) (refusal reasons.TooDeep n (n + 1))) (sym here) (inr (inl (too_deep (strict o) d ls clean (bytes_before ls ++ first ∷ behind) are first behind refl (full h.0) h.1 h.2 h.3)))
+  misplaced_here _ h = absurd h
+
+  -- no length is told
+  pub endless_here : first % 32 ≡ 31 → 64 ≤ first → first < 192 → (128 ≤ first → first < 224 → room ≡ true) → IsRefusedHere room (first ∷ behind) at (refusal reasons.Indefinite at (at + 1))
+  endless_here low l h is_room = λ o d ls clean here fits full are.
+      let deep : 128 ≤ first → 1 ≤ d - length ls = λ k. let r : length ls < d = fits (is_room k (omega (arith, h))) in omega (arith, r) in
+      subst (λ (n : ℕ). IsStopped (strict o) d (bytes_before ls ++ first ∷ behind) (refusal reasons.Indefinite n (n + 1))) (sym here) (inl (elim (cases_lt first 96) [
+        | inl k ↦ opens o d ls clean Bytes tt (omega (arith, low, l, k))
+        | inr k ↦ elim (cases_lt first 128) [
+          | inl j ↦ opens o d ls clean Text tt (omega (arith, low, k, j))
+          | inr j ↦ elim (cases_lt first 160) [ inl i ↦ opens o d ls clean Array (deep j) (omega (arith, low, j, i)) | inr i ↦ opens o d ls clean Map (deep j) (omega (arith, low, i, h)) ]
+        ]
+      ]))
+    where
+      opens : (o : KeyOrder) (d : ℕ) (ls : List Level) → AreClean (strict o) d ls → (m : Major) → MayOpen m (d - length ls) → 32 * major_number m + 31 ≡ first
+          → HasComplaint (strict o) d (bytes_before ls ++ first ∷ behind) (refusal reasons.Indefinite (length (bytes_before ls)) (length (bytes_before ls) + 1))
+      opens o d ls clean m i e =
+          complaint_here (strict o) d ls clean (bytes_before ls ++ first ∷ behind) (head m Indefinite 0) behind (ap (λ (x : ℕ). bytes_before ls ++ x ∷ behind) (sym e)) _ (indefinite_length o (length (bytes_before ls)) (d - length ls) m i)
+
+  -- the argument is cut
+  pub cut_here : 24 ≤ first % 32 → first % 32 < 28 → first < 249 → (128 ≤ first → first < 224 → room ≡ true) → length behind < 2 ^ (first % 32 - 24) → (end : ℕ) → end ≡ at + suc (length behind)
+      → IsRefusedHere room (first ∷ behind) at (refusal reasons.Truncated end end)
+  cut_here l h small is_room short end e = ends_here room (first ∷ behind) at end e (λ o d ls fits are.
+      head_cut (strict o) (length (bytes_before ls)) d ls first behind l (omega (arith, h)) (kind (cases_lt first 224)) (λ k j. fits (is_room k j)) are.1 short)
+    where
+      kind : (first < 224) ⊎ (224 ≤ first) → (first < 224) ⊎ (first ≡ 0xf8)
+      kind (inl k) = inl k
+      kind (inr k) = inr (omega (arith, k, l, small))
+
+  module _ (w : Width) (n : ℕ) (rest : List ℕ) (a : IsArgument (first % 32) behind w n rest) where
+    -- there is no such simple value
+    pub no_simple_here : first ≡ 0xf8 → n < 32 → IsRefusedHere room (first ∷ behind) at (refusal reasons.BadSimple (at + 1) (at + 2))
+    no_simple_here e small = λ o d ls clean here fits full are.
+        let low : first % 32 ≡ 24 = omega (arith, e) in
+        let byte = number_byte behind w n rest (subst (λ (k : ℕ). IsArgument k behind w n rest) low a) in
+        let splits : bytes_before ls ++ first ∷ behind ≡ bytes_before ls ++ 0xf8 ∷ (n % 256) ∷ rest = ap (λ (x : ℕ). bytes_before ls ++ x ∷ behind) e ∙ ap (λ (x : List ℕ). bytes_before ls ++ 0xf8 ∷ x) byte in
+        let two : at + 2 ≡ length (bytes_before ls) + 1 + 1 = omega (arith, here) in
+        let one : at + 1 ≡ length (bytes_before ls) + 1 = omega (arith, here) in
+        subst (λ (k : ℕ). IsStopped (strict o) d (bytes_before ls ++ first ∷ behind) (refusal reasons.BadSimple (at + 1) k)) (sym two) (subst (λ (k : ℕ). IsStopped (strict o) d (bytes_before ls ++ first ∷ behind) (refusal reasons.BadSimple k (length (bytes_before ls) + 1 + 1))) (sym one)
+        (inr (inl (bad_simple (strict o) d ls clean (bytes_before ls ++ first ∷ behind) are (n % 256) rest splits (omega (arith, small))))))
+
+    -- a shorter head holds it
+    pub long_here : first < 249 → (first ≡ 0xf8 → 32 ≤ n) → (128 ≤ first → first < 224 → room ≡ true) → w ≢ shortest n → (used : ℕ) → used ≡ suc (length behind) - length rest → length rest ≤ length behind
+        → IsRefusedHere room (first ∷ behind) at (refusal reasons.NotShortest at (at + used))
+    long_here small wide is_room long used u fewer = λ o d ls clean here fits full are. elim (cases_lt first 224) [
+      | inr k ↦ absurd (long (low_bits (first % 32) behind w n rest a (omega (arith, k, small)) (λ e. wide (omega (arith, k, small, e)))))
+      | inl k ↦
+          let s = split first (omega (arith, k)) in
+          let low_is : s.low ≡ first % 32 = omega (arith, s.made, s.fits) in
+          let is = spells first behind (32 * major_number s.major) w n rest a (omega (arith, s.made, low_is)) in
+          let room_in : 128 ≤ first → first < 224 → 1 ≤ d - length ls = λ i j. let r : length ls < d = fits (is_room i j) in omega (arith, r) in
+          let j = not_shortest o (length (bytes_before ls)) (d - length ls) s.major w n (numbered s.major s.low first s.made k) a.holds (fits_in s.major s.low first (d - length ls) s.made s.fits room_in) long in
+          let size : length (head s.major w n) ≡ used = omega (arith, u, fewer, ap length is, length-append (head s.major w n) rest) in
+          let end : length (bytes_before ls) + length (head s.major w n) ≡ at + used = omega (arith, here, size) in
+          subst (λ (x : ℕ). IsStopped (strict o) d (bytes_before ls ++ first ∷ behind) (refusal reasons.NotShortest x (at + used))) (sym here) (subst (λ (x : ℕ). IsStopped (strict o) d (bytes_before ls ++ first ∷ behind) (refusal reasons.NotShortest (length (bytes_before ls)) x)) end
+          (inl (complaint_here (strict o) d ls clean (bytes_before ls ++ first ∷ behind) (head s.major w n) rest (ap (λ (x : List ℕ). bytes_before ls ++ x) is) _ j)))
+    ]
+
+    -- ---- strings
+
+    module _ (fewer : length rest ≤ length behind) (short : w ≡ shortest n) (l : 64 ≤ first) (h : first < 128) where
+      string_is : (base : ℕ) → base + first % 32 ≡ first → first ∷ behind ≡ with_argument w base n ++ rest
+      string_is base e = spells first behind base w n rest a e
+
+      -- the payload is cut
+      pub payload_cut_here : length rest < n → (end : ℕ) → end ≡ at + suc (length behind) → IsRefusedHere room (first ∷ behind) at (refusal reasons.Truncated end end)
+      payload_cut_here less end e = ends_here room (first ∷ behind) at end e (λ o d ls fits are. elim (cases_lt first 96) [
+        | inl k ↦
+            let is = string_is 64 (omega (arith, l, k)) in
+            subst (λ (x : List ℕ). IsJudged (strict o) (length (bytes_before ls)) (d - length ls) x None) (sym is)
+            (bytes_cut (strict o) (length (bytes_before ls)) (d - length ls) w n rest a.holds (bytes_back (head Bytes w n) rest (subst AreBytes is are)) less (shortest_clean (strict o) (length (bytes_before ls)) Bytes w n short))
+        | inr k ↦
+            let is = string_is 96 (omega (arith, k, h)) in
+            subst (λ (x : List ℕ). IsJudged (strict o) (length (bytes_before ls)) (d - length ls) x None) (sym is)
+            (text_cut (strict o) (length (bytes_before ls)) (d - length ls) w n rest a.holds (bytes_back (head Text w n) rest (subst AreBytes is are)) less (shortest_clean (strict o) (length (bytes_before ls)) Text w n short))
+      ])
+
+      -- the text is none
+      pub no_text_here : 96 ≤ first → n ≤ length rest → (used valid end : ℕ) → used ≡ suc (length behind) - length rest → (IsUtf8 (take n rest) → ⊥) → valid ≡ utf8_valid_len (take n rest) → end ≡ used + n
+          → IsRefusedHere room (first ∷ behind) at (refusal reasons.InvalidText (at + used + valid) (at + end))
+      no_text_here k inside used valid end u none valid_is end_is = λ o d ls clean here fits full are.
+          let q = take n rest in
+          let is = string_is 96 (omega (arith, k, h)) in
+          let count : length q ≡ n = length-take-le n rest inside in
+          let hd = head Text w n in
+          let size : length hd ≡ used = omega (arith, u, fewer, ap length is, length-append hd rest) in
+          let all : AreBytes (hd ++ rest) = subst AreBytes is (bytes_back (bytes_before ls) (first ∷ behind) are) in
+          let bytes : AreBytes q = bytes_front q (drop n rest) (subst AreBytes (sym (take-append-drop n rest)) (bytes_back hd rest all)) in
+          let to = length (bytes_before ls) + length (head Text w (length q)) in
+          let same : head Text w (length q) ≡ hd = ap (head Text w) count in
+          let c = complaint (to + length q) (to + utf8_valid_len q) reasons.InvalidText in
+          let j = text_complains w q (strict o) (length (bytes_before ls)) (d - length ls) c (subst (Holds w) (sym count) a.holds, bytes)
+          (shortest_clean (strict o) (length (bytes_before ls)) Text w (length q) (short ∙ ap shortest (sym count))) (none, refl) in
+          let there : to ≡ at + used = omega (arith, here, ap length same, size) in
+          let place : to + utf8_valid_len q ≡ at + used + valid = omega (arith, there, valid_is) in
+          let read : to + length q ≡ at + end = omega (arith, there, count, end_is) in
+          let splits : bytes_before ls ++ first ∷ behind ≡ bytes_before ls ++ ((head Text w (length q) ++ q) ++ drop n rest) =
+          ap (λ (x : List ℕ). bytes_before ls ++ x) (is ∙ ap (λ (x : List ℕ). hd ++ x) (sym (take-append-drop n rest)) ∙ sym (append_assoc hd q (drop n rest)) ∙ ap (λ (x : List ℕ). (x ++ q) ++ drop n rest) (sym same)) in
+          let found = complaint_here (strict o) d ls clean (bytes_before ls ++ first ∷ behind) (head Text w (length q) ++ q) (drop n rest) splits c j in
+          inl (subst (λ (x : ℕ). HasComplaint (strict o) d (bytes_before ls ++ first ∷ behind) (refusal reasons.InvalidText (at + used + valid) x)) read
+          (subst (λ (x : ℕ). HasComplaint (strict o) d (bytes_before ls ++ first ∷ behind) (refusal reasons.InvalidText x (to + length q))) place found))

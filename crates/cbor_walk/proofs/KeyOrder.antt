@@ -1,0 +1,19 @@
+-- The order of two keys by the numbers in front of them.
+use Rattle.std.proofs.Common.{◌≡◌, ℕ, ◌<◌, ◌≤◌, Bool, true, false, nat_lt, List, sym, ap, ◌∙◌, arith, refl}
+use Rattle.std.specs.Prelude.{slice_range}
+use Rattle.std.specs.Ordering.{is_lt, nat_cmp, ordering_then}
+use Rattle.std.specs.declared.cmp.Ordering.{Ordering}
+use Rattle.std.proofs.lemmas.Bool.{cases_lt, lt-ltb, le-ltb}
+use Rattle.std.proofs.lemmas.Bool.Decides.{nat_tests}
+use Rattle.cbor_head.specs.Value.{AreBytes}
+use Rattle.cbor_head.specs.Order.{key_lt}
+use Rattle.cbor_head.specs.declared.order.KeyOrder.TheVariants.{Bytewise}
+use Rattle.cbor_item.specs.Front.{front_of}
+use Rattle.cbor_item.proofs.KeyFronts.{agree}
+
+front_decides : (a b : ℕ) (r : Ordering) → (a ≡ b → ⊥) → nat_lt a b ≡ is_lt (ordering_then (nat_cmp a b) r)
+front_decides a b r apart = grind (arith, nat_tests)
+
+-- where they differ, they decide
+pub by_front : (a b : ℕ) (xs ys : List ℕ) → AreBytes xs → AreBytes ys → a ≡ front_of xs → b ≡ front_of ys → (a ≡ b → ⊥) → nat_lt a b ≡ key_lt Bytewise xs ys
+by_front a b xs ys h g e f apart = front_decides a b _ apart ∙ ap is_lt (agree Bytewise a b xs ys h g e f)

@@ -1,0 +1,13 @@
+pub mod AnyItem
+pub mod AnyRefusals
+pub mod CellSteps
+pub mod CutHeads
+pub mod FirstBytes
+pub mod HeadComplaints
+pub mod KeyOrder
+pub mod PathForm
+pub mod PathLevels
+pub mod PathSteps
+pub mod PathStops
+pub mod PathVerdict
+pub mod Taking

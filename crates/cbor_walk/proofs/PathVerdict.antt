@@ -1,0 +1,115 @@
+-- Where the walk ends is the verdict.
+use Rattle.std.proofs.Common.{◌≡◌, ◌≢◌, ℕ, ◌-◌, ◌<◌, ◌≤◌, Bool, true, false, List, [], ◌∷◌, ◌++◌, length, take, refl, sym, ap, ◌∙◌, subst, inl, inr, arith, append_assoc, append-nil}
+use Rattle.std.specs.Prelude.{◌==◌, ◌||◌, ◌&&◌, ◌%◌, nat_le, if◌then◌else◌}
+use Rattle.std.proofs.lemmas.Bool.{cases_lt}
+use Rattle.std.proofs.lemmas.List.{length-append, length-take}
+use Rattle.cbor_head.specs.Beginning.{IsBeginning, MayFollow, IsLongestBeginning}
+use Rattle.cbor_head.specs.Complaint.{Rules, form, plain, strict}
+use Rattle.cbor_head.specs.Spelling.{Spelling, spell, depth}
+use Rattle.cbor_head.specs.Verdict.{initial_reason, refusal, accepted, refused, IsReasonAt, IsVerdict}
+use Rattle.cbor_head.specs.declared.reason.Reason.{Reason}
+use Rattle.cbor_head.specs.declared.reason.Reason.TheVariants.{Truncated, TooLong, Reserved, NoIndefinite, Float, StrayBreak, TooDeep}
+use Rattle.cbor_head.specs.declared.reason.Refusal.{Refusal}
+use Rattle.cbor_head.proofs.Agree.{split_front}
+use Rattle.cbor_head.proofs.Beginnings.{item_decides}
+use Rattle.cbor_events.specs.Reasons.{IsFormReason}
+use Rattle.cbor_events.proofs.Beginnings.{shorter}
+use Rattle.cbor_strict.specs.Refusals.{IsComplaintReason}
+use Rattle.cbor_strict.proofs.Decisions.{complaint_decides, break_decides}
+use Rattle.cbor_strict.proofs.Reasons.{complaint-reason}
+use Rattle.cbor_strict.proofs.SpelledBytes.{longest_always}
+use Rattle.cbor_walk.specs.Path.{HasEnded}
+use Rattle.cbor_walk.specs.Stop.{HasComplaint, HasBadByte, EndsWithin, IsStopped}
+
+-- ---- reasons
+
+initial_form : (c : ℕ) → IsFormReason (initial_reason c)
+initial_form c = chain (c == 0xff) ((c == 0xf9) || (c == 0xfa) || (c == 0xfb)) ((c == 0x1f) || (c == 0x3f) || (c == 0xdf)) (nat_le 28 (c % 32) && nat_le (c % 32) 30)
+  where
+    chain : (u v w x : Bool) → IsFormReason (if u then StrayBreak else if v then Float else if w then NoIndefinite else if x then Reserved else TooDeep)
+    chain true v w x = tt
+    chain false true w x = tt
+    chain false false true x = tt
+    chain false false false true = tt
+    chain false false false false = tt
+
+byte_reason : (d : ℕ) (p : List ℕ) (c : ℕ) (reason : Reason) → IsReasonAt d p c reason → IsFormReason reason
+byte_reason d p c reason (inl b) = subst IsFormReason (sym b.1) (initial_form c)
+byte_reason d p c reason (inr (inl b)) = subst IsFormReason (sym b.2) tt
+byte_reason d p c reason (inr (inr b)) = subst IsFormReason (sym b.2) tt
+
+-- a complaint and a bad byte are no end of the input
+pub bad_byte_differs : (r : Rules) (d : ℕ) (b : List ℕ) (f : Refusal) → HasBadByte r d b f → f.reason ≢ Truncated
+bad_byte_differs r d b f h e = subst IsFormReason e (byte_reason d h.p h.byte f.reason h.reason)
+
+pub complaint_differs : (r : Rules) (d : ℕ) (b : List ℕ) (f : Refusal) → HasComplaint r d b f → f.reason ≢ Truncated
+complaint_differs r d b f h e = none r (subst (IsComplaintReason r) e (complaint-reason r 0 h.judged.item h.complaint h.judged.finding.holds f h.is))
+  where
+    none : (r : Rules) → IsComplaintReason r Truncated → ⊥
+    none form h = h
+    none plain h = h
+    none (strict o) h = h
+
+-- ---- the longest beginning
+
+-- a beginning that a byte may not follow
+stands_longest : (d : ℕ) (p : List ℕ) (byte : ℕ) (rest : List ℕ) → IsBeginning d p → (MayFollow d p byte → ⊥) → IsLongestBeginning d (p ++ byte ∷ rest) p
+stands_longest d p byte rest b misplaced = record {
+  beginning = b;
+  rest = byte ∷ rest;
+  splits = refl;
+  longest = λ x y i e. elim (cases_lt (length p) (length x)) [
+    | inr k ↦ k
+    | inl k ↦
+        let (z, f, g) = split_front (p ++ byte ∷ []) rest x y (append_assoc p (byte ∷ []) rest ∙ e) (omega (arith, k, length-append p (byte ∷ []))) in
+        absurd (misplaced (shorter d (p ++ byte ∷ []) z (subst (IsBeginning d) f i)))
+  ];
+}
+
+-- all that there is
+abbrev whole_longest : (d : ℕ) (b : List ℕ) → IsBeginning d b → IsLongestBeginning d b b
+whole_longest d b i = record { beginning = i; rest = []; splits = sym (append-nil b); longest = λ x y h e. omega (arith, ap length e, length-append x y) }
+
+-- ---- the verdict, of an input within n bytes
+
+-- the end of the input is that of the limit, if it comes there
+pub record IsAnswered (n : ℕ) (b : List ℕ) (f g : Refusal) : Type 0 where
+  pub too_long : f.reason ≡ Truncated → length b ≡ n → g ≡ refusal TooLong n n
+  pub same : (f.reason ≡ Truncated → length b ≢ n) → g ≡ f
+
+module _ (r : Rules) (d n : ℕ) (input : List ℕ) where
+  pub complaint_stops : (f : Refusal) → HasComplaint r d (take n input) f → IsVerdict d n r input (refused f)
+  complaint_stops f h =
+      let (q, g) = longest_always d (take n input) in
+      subst (λ (x : Refusal). IsVerdict d n r input (refused x)) (sym h.is) (complaint_decides d n r input h.p h.rest q h.complaint h.judged h.splits g)
+
+  pub bad_byte_stops : (f : Refusal) → HasBadByte r d (take n input) f → IsVerdict d n r input (refused f)
+  bad_byte_stops f h =
+      let g = stands_longest d h.p h.byte h.rest (h.judged.item, h.judged.rest, h.judged.is) h.misplaced in
+      let longest : IsLongestBeginning d (take n input) h.p = record { beginning = g.beginning; rest = h.byte ∷ h.rest; splits = h.splits; longest = λ x y i e. g.longest x y i (sym h.splits ∙ e) } in
+      break_decides d n r input h.p f h.judged longest (f.reason, h.reason, h.is)
+
+  module _ (f : Refusal) (h : EndsWithin r d (take n input) f) where
+    abbrev longest : IsLongestBeginning d (take n input) (take n input)
+    longest = whole_longest d (take n input) (h.judged.item, h.judged.rest, h.judged.is)
+
+    pub end_stops : length (take n input) < n → IsVerdict d n r input (refused f)
+    end_stops l = break_decides d n r input (take n input) f h.judged longest (inr (l, h.is))
+
+    pub limit_stops : length (take n input) ≡ n → IsVerdict d n r input (refused (refusal TooLong n n))
+    limit_stops e = break_decides d n r input (take n input) (refusal TooLong n n) h.judged longest (inl (e, refl))
+
+  pub stopped : (f : Refusal) → IsStopped r d (take n input) f → (g : Refusal) → IsAnswered n (take n input) f g → IsVerdict d n r input (refused g)
+  stopped f (inl h) g a = subst (λ (x : Refusal). IsVerdict d n r input (refused x)) (sym (a.same (λ e. absurd (complaint_differs r d (take n input) f h e)))) (complaint_stops f h)
+  stopped f (inr (inl h)) g a = subst (λ (x : Refusal). IsVerdict d n r input (refused x)) (sym (a.same (λ e. absurd (bad_byte_differs r d (take n input) f h e)))) (bad_byte_stops f h)
+  stopped f (inr (inr h)) g a = elim (cases_lt (length (take n input)) n) [
+    | inl l ↦ subst (λ (x : Refusal). IsVerdict d n r input (refused x)) (sym (a.same (λ e same. omega (arith, l, same)))) (end_stops f h l)
+    | inr l ↦
+        let all : length (take n input) ≡ n = omega (arith, l, length-take n input) in
+        subst (λ (x : Refusal). IsVerdict d n r input (refused x)) (sym (a.too_long (ap (λ (x : Refusal). x.reason) h.is) all)) (limit_stops f h all)
+  ]
+
+  pub accepts : (s : Spelling) (rest : List ℕ) → HasEnded r d [] s → take n input ≡ spell s ++ rest → IsVerdict d n r input (accepted s)
+  accepts s rest h e =
+      let small : depth s ≤ d - 0 = h.within in
+      item_decides d n r input rest s (record { spelled = h.spelled; within = omega (arith, small); bytes_are = refl }) e h.clean

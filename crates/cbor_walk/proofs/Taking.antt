@@ -1,0 +1,163 @@
+-- What is taken where an item is due, in the cells.
+use Rattle.std.proofs.Common.{◌≡◌, ◌≢◌, ℕ, zero, suc, ◌+◌, ◌-◌, ◌^◌, ◌<◌, ◌≤◌, ◌⊎◌, Bool, true, false, List, [], ◌∷◌, ◌++◌, length, take, drop, refl, sym, ap, ◌∙◌, subst, inl, inr, arith, append_assoc, append-nil, length-drop}
+use Rattle.std.specs.Prelude.{reverse, slice_range}
+use Rattle.std.proofs.Math.Seq.{drop-append_seam, take-length}
+use Rattle.std.proofs.lemmas.Bool.Decides.{nat_tests}
+use Rattle.std.proofs.lemmas.List.{length-append, length-reverse, length-take-le, drop-drop}
+use Rattle.cbor_head.specs.Complaint.{strict, OfCount, OfHead}
+use Rattle.cbor_head.specs.Head.{Holds, head, shortest, shortest_head}
+use Rattle.cbor_head.specs.Spelling.{Spelling, spell, no_spellings, no_entries, HoldsOrIndefinite}
+use Rattle.cbor_head.specs.declared.major.Major.{Major}
+use Rattle.cbor_head.specs.declared.major.Major.TheVariants.{Array, Map, Tag}
+use Rattle.cbor_head.specs.declared.order.KeyOrder.{KeyOrder}
+use Rattle.cbor_head.specs.declared.width.Width.{Width}
+use Rattle.cbor_head.specs.declared.width.Width.TheVariants.{Direct, One, Two, Four, Eight, Indefinite}
+use Rattle.cbor_item.specs.Front.{front_of}
+use Rattle.cbor_item.proofs.Normal.{Holds-shortest}
+use Rattle.cbor_strict.specs.inner.Quick.{IsLeaf}
+use Rattle.cbor_strict.proofs.Composition.{array_bytes, map_bytes}
+use Rattle.cbor_strict.proofs.Heads.{open_or}
+use Rattle.cbor_strict.proofs.Judged.{Never}
+use Rattle.cbor_walk.specs.Path as path
+use Rattle.cbor_walk.specs.Path.{a_member, a_key, tagged, level_bytes, bytes_before, AreClean}
+use Rattle.cbor_walk.specs.Cells.{a_level, last_key, HoldsKey, AreCells, StandsAt, HasEndedAt, standing, around}
+use Rattle.cbor_walk.specs.Items.{IsOpener, IsShortOpener}
+use Rattle.cbor_walk.specs.declared.level.Due.{Due}
+use Rattle.cbor_walk.specs.declared.level.Due.TheVariants.{Item, Key, Value}
+use Rattle.cbor_walk.specs.declared.level.Level.{Level}
+use Rattle.cbor_walk.specs.declared.stack.Stack.{Stack}
+
+-- ---- how many are open
+
+pub cells_count : (input : List ℕ) (ls : List path.Level) (cs : List Level) → AreCells input ls cs → length cs ≡ suc (length ls)
+cells_count input [] (c ∷ []) a = refl
+cells_count input [] [] a = absurd a
+cells_count input [] (c ∷ e ∷ cs) a = absurd a
+cells_count input (l ∷ ls) [] a = absurd a
+cells_count input (l ∷ ls) (c ∷ cs) a = ap suc (cells_count input ls cs a.1)
+
+pub standing_count : (s : Stack) (cells : List Level) → s.height ≤ length cells → length (standing s cells) ≡ suc s.height
+standing_count s cells l = ap suc (length-reverse (take s.height cells) ∙ length-take-le s.height cells l)
+
+-- ---- heads in their shortest form
+
+never_long : (o : KeyOrder) (at : ℕ) (m : Major) (w : Width) (n : ℕ) → Holds w n → w ≡ shortest n → Never (OfCount (strict o) at m w n)
+never_long o at m Indefinite n h e c x = h
+never_long o at m Direct n h e c x = x.0 e
+never_long o at m One n h e c x = x.0 e
+never_long o at m Two n h e c x = x.0 e
+never_long o at m Four n h e c x = x.0 e
+never_long o at m Eight n h e c x = x.0 e
+
+definite : (w : Width) (n : ℕ) → Holds w n → w ≢ Indefinite
+definite w n h e = subst (λ (v : Width). Holds v n) e h
+
+from_none : (left : ℕ) → 0 + suc left ≡ suc left
+from_none left = omega arith
+
+no_bytes : (xs : List ℕ) (at : ℕ) → slice_range xs at at ≡ []
+no_bytes xs at = let e : at - at ≡ 0 = omega arith in ap (λ (n : ℕ). take n (drop at xs)) e
+
+module _ (o : KeyOrder) (d : ℕ) (input : List ℕ) (cs : List Level) (at : ℕ) (s : StandsAt o d input cs at) where
+  pub rest_is : drop at input ≡ s.rest
+  rest_is = ap (λ (n : ℕ). drop n input) s.here ∙ ap (drop (length (bytes_before s.ls))) s.bytes ∙ drop-append_seam (bytes_before s.ls) s.rest
+
+  pub whole_is : input ≡ bytes_before s.ls ++ drop at input
+  whole_is = s.bytes ∙ ap (λ (x : List ℕ). bytes_before s.ls ++ x) (sym rest_is)
+
+  pub leaf_ends : (room : Bool) (used : ℕ) → IsLeaf room (drop at input) used → (room ≡ true → length s.ls < d) → HasEndedAt o d input cs (at + used)
+  leaf_ends room used leaf fits =
+      let b = drop at input in
+      let i = leaf.item o (d - length s.ls) (λ e. let l : length s.ls < d = fits e in omega (arith, l)) in
+      let inside = leaf.inside in
+      let here = s.here in
+      let size : length (spell i.item) ≡ used = omega (arith, ap length i.bytes, length-append (spell i.item) (drop used b), length-drop used b, inside) in
+      record {
+        ls = s.ls;
+        item = i.item;
+        ended = record { around = s.clean; spelled = i.fine.spelled; within = i.fine.within; clean = i.fine.clean (length (bytes_before s.ls)) };
+        are = s.are;
+        rest = drop used b;
+        bytes = whole_is ∙ ap (λ (x : List ℕ). bytes_before s.ls ++ x) i.bytes ∙ sym (append_assoc (bytes_before s.ls) (spell i.item) (drop used b));
+        here = omega (arith, here, size, length-append (bytes_before s.ls) (spell i.item));
+      }
+
+  -- a container opens, whose head these bytes are
+  module _ (used : ℕ) (inside : used ≤ length (drop at input)) (room : length s.ls < d) where
+    opened : (l : path.Level) (c : Level) (hs : List ℕ) → drop at input ≡ hs ++ drop used (drop at input) → level_bytes l ≡ hs → path.IsClean (strict o) (length (bytes_before s.ls)) (d - suc (length s.ls)) l
+        → (at + used ≡ length (bytes_before (l ∷ s.ls)) → AreCells input (l ∷ s.ls) (c ∷ cs)) → StandsAt o d input (c ∷ cs) (at + used)
+    opened l c hs e is clean are =
+        let b = drop at input in
+        let before = s.here in
+        let size : length hs ≡ used = omega (arith, ap length e, length-append hs (drop used b), length-drop used b, inside) in
+        let here : at + used ≡ length (bytes_before (l ∷ s.ls)) = omega (arith, before, size, ap length is, length-append (bytes_before s.ls) (level_bytes l)) in
+        record {
+          ls = l ∷ s.ls;
+          clean = (room, clean, s.clean);
+          are = are here;
+          rest = drop used b;
+          bytes = whole_is ∙ ap (λ (x : List ℕ). bytes_before s.ls ++ x) (e ∙ ap (λ (x : List ℕ). x ++ drop used b) (sym is)) ∙ sym (append_assoc (bytes_before s.ls) (level_bytes l) (drop used b));
+          here = here;
+        }
+
+    pub opener_opens : (due : Due) (left : ℕ) → IsOpener due left (drop at input) (drop used (drop at input)) → StandsAt o d input (a_level due left (at + used) ∷ cs) (at + used)
+    opener_opens Item left (inl h) =
+        let n = suc left in
+        let w = shortest n in
+        let holds = Holds-shortest n h.0 in
+        let from = from_none left in
+        opened (a_member w left no_spellings) (a_level Item left (at + used)) (head Array w n) h.1 (append-nil (head Array w (0 + suc left)) ∙ ap (head Array w) from)
+        (record {
+          holds = subst (HoldsOrIndefinite w) (sym from) (open_or w n holds);
+          spelled = tt;
+          within = omega arith;
+          head_clean = subst (λ (k : ℕ). Never (OfCount (strict o) (length (bytes_before s.ls)) Array w k)) (sym from) (never_long o (length (bytes_before s.ls)) Array w n holds refl);
+          clean = λ c x. x;
+        })
+        (λ here. ((definite w n holds, refl, refl), s.are))
+    opener_opens Item left (inr (none, (n, range, e))) =
+        let w = shortest n in
+        opened (tagged w n) (a_level Item left (at + used)) (head Tag w n) e refl (Holds-shortest n range, λ c x. x.0 refl) (λ here. ((refl, none), s.are))
+    opener_opens Key left h =
+        let n = suc left in
+        let w = shortest n in
+        let holds = Holds-shortest n h.0 in
+        let from = from_none left in
+        let l = a_key w left no_entries in
+        let c = a_level Key left (at + used) in
+        opened l c (head Map w n) h.1 (append-nil (head Map w (0 + suc left)) ∙ ap (head Map w) from)
+        (record {
+          holds = subst (HoldsOrIndefinite w) (sym from) (open_or w n holds);
+          spelled = tt;
+          within = omega arith;
+          head_clean = subst (λ (k : ℕ). Never (OfCount (strict o) (length (bytes_before s.ls)) Map w k)) (sym from) (never_long o (length (bytes_before s.ls)) Map w n holds refl);
+          clean = λ x y. y;
+        })
+        (λ here. (
+          (definite w n holds, record { due = refl; left = refl; begins = here ∙ length-append (bytes_before s.ls) (level_bytes l); holds = record { is = no_bytes input (at + used); fronted = ap front_of (sym (no_bytes input (at + used))) } }),
+          s.are,
+        ))
+    opener_opens Value left h = absurd h
+
+-- as many as the stack's height
+pub height_is : (o : KeyOrder) (d : ℕ) (input : List ℕ) (k : Stack) (cells : List Level) (at : ℕ) (s : StandsAt o d input (standing k cells) at) → k.height ≤ length cells → length s.ls ≡ k.height
+height_is o d input k cells at s l = omega (arith, cells_count input s.ls (standing k cells) s.are, standing_count k cells l)
+
+direct : (n : ℕ) → n < 24 → shortest n ≡ Direct
+direct n h = grind (arith, nat_tests)
+
+-- the head of a short container
+pub short_opens : (first : ℕ) (behind : List ℕ) (due : Due) (left : ℕ) → IsShortOpener first due left → IsOpener due left (first ∷ behind) behind
+short_opens first behind Item left h =
+    let small = h.1 in
+    inl (omega (arith, small), ap (λ (x : ℕ). x ∷ behind) h.0 ∙ ap (λ (w : Width). head Array w (suc left) ++ behind) (sym (direct (suc left) h.1)))
+short_opens first behind Key left h =
+    let small = h.1 in
+    (omega (arith, small), ap (λ (x : ℕ). x ∷ behind) h.0 ∙ ap (λ (w : Width). head Map w (suc left) ++ behind) (sym (direct (suc left) h.1)))
+short_opens first behind Value left h = absurd h
+
+-- the same levels in other cells
+pub in_more_cells : (o : KeyOrder) (d : ℕ) (input : List ℕ) (k : Stack) (few more : List Level) (at : ℕ) → StandsAt o d input (standing k few) at → k.height ≡ length few → take (length few) more ≡ few → StandsAt o d input (standing k more) at
+in_more_cells o d input k few more at s h e =
+    let same : take k.height few ≡ take k.height more = ap (λ (n : ℕ). take n few) h ∙ take-length few ∙ sym e ∙ ap (λ (n : ℕ). take n more) (sym h) in
+    subst (λ (x : List Level). StandsAt o d input (k.top ∷ reverse x) at) same s

@@ -1,0 +1,109 @@
+use Rattle.std.proofs.Common.{◌≡◌, ◌⊎◌, ℕ, suc, ◌+◌, ◌-◌, ◌%◌, ◌<◌, ◌≤◌, Bool, true, List, [], ◌∷◌, length, refl, sym, ap, ◌∙◌, subst, inl, inr, arith}
+use Rattle.std.proofs.lemmas.Bool.{cases_lt}
+use Rattle.std.proofs.lemmas.List.{nil_from_length}
+use Rattle.cbor_walk.specs.Items.{IsAny}
+use Rattle.cbor_walk.specs.declared.any_item.Any.TheVariants as any
+use Rattle.cbor_walk.specs.declared.level.Due.TheVariants.{Item, Key}
+use Rattle.cbor_walk.proofs.AnyItem.{any_leaf, a_tag, an_array, a_map, an_empty}
+use Rattle.cbor_walk.proofs.AnyRefusals.{refuses, answers, nothing_here, misplaced_here, endless_here, cut_here, no_simple_here, long_here}
+use Rattle.cbor_walk.proofs.any_item.any_item.Goals as goal
+use Rattle.cbor_walk.proofs.any_item.any_item.Goals.{else-first-via-then-first+else-head-lt32, else-first-via-else-first, then-first-lt64-via-then-first-lt64, then-first-lt64-via-else-first-lt64+then-first-ge224}
+
+pub returns-in_default : goal.returns-in_default
+returns-in_default c =
+    let none : c.args.rest.now ≡ [] = nil_from_length c.args.rest.now c.in_default.ensures.cases in
+    refuses c.args.room c.args.at c.args.rest.now [] _ c.refused.result none c.refused.ensures (nothing_here c.args.room c.args.at (c.args.at + length c.args.rest.now) (ap (λ (x : List ℕ). c.args.at + length x) none))
+
+pub returns-in-Some-misplaced : goal.returns-in-Some-misplaced
+returns-in-Some-misplaced c =
+    let split = c.in-Some.ensures.cases.0 in
+    refuses c.args.room c.args.at c.args.rest.now (c.in-Some.first.now ∷ c.in-Some.behind.now) _ c.refused-in-Some-misplaced.result split c.refused-in-Some-misplaced.ensures
+    (misplaced_here c.args.room c.in-Some.first.now c.in-Some.behind.now c.args.at c.in-Some-misplaced.reason c.in-Some-misplaced.ensures)
+
+pub returns-then-low-eq31 : goal.returns-then-low-eq31
+returns-then-low-eq31 c =
+    let split = c.in-Some.ensures.cases.0 in
+    let first = c.in-Some.first.now in
+    let low : (64 ≤ first) × (first < 192) = elim c.in_default-misplaced.ensures.low [ inl l ↦ absurd (omega (arith, l, c.if-low-eq31.true)) | inr l ↦ (l.1, l.2) ] in
+    refuses c.args.room c.args.at c.args.rest.now (first ∷ c.in-Some.behind.now) _ c.refused-then-low-eq31.result split c.refused-then-low-eq31.ensures
+    (endless_here c.args.room first c.in-Some.behind.now c.args.at c.if-low-eq31.true low.0 low.1 c.in_default-misplaced.ensures.fits)
+
+pub returns-in_default-read_argument : goal.returns-in_default-read_argument
+returns-in_default-read_argument c =
+    let split = c.in-Some.ensures.cases.0 in
+    let first = c.in-Some.first.now in
+    let low : first % 32 < 28 = elim c.in_default-misplaced.ensures.low [ inl l ↦ l | inr l ↦ absurd (c.if-low-eq31.false l.0) ] in
+    refuses c.args.room c.args.at c.args.rest.now (first ∷ c.in-Some.behind.now) _ c.refused-in_default-read_argument.result split c.refused-in_default-read_argument.ensures
+    (cut_here c.args.room first c.in-Some.behind.now c.args.at (c.in_default-read_argument.ensures.long refl) low c.in_default-misplaced.ensures.no_float c.in_default-misplaced.ensures.fits
+    (c.in_default-read_argument.ensures.cut refl) (c.args.at + length c.args.rest.now) (ap (λ (x : List ℕ). c.args.at + length x) split))
+
+pub returns-then-head-lt32 : goal.returns-then-head-lt32
+returns-then-head-lt32 c =
+    let split = c.in-Some.ensures.cases.0 in
+    let h = c.in-Some-read_argument.head in
+    refuses c.args.room c.args.at c.args.rest.now (c.in-Some.first.now ∷ c.in-Some.behind.now) _ c.refused-then-head-lt32.result split c.refused-then-head-lt32.ensures
+    (no_simple_here c.args.room c.in-Some.first.now c.in-Some.behind.now c.args.at h.width h.number h.rest.now c.in-Some-read_argument.ensures.spelled c.if-first.true c.if-head-lt32.true)
+
+pub returns-then-not-is_shortest : goal.returns-then-not-is_shortest
+returns-then-not-is_shortest c =
+    let split = c.in-Some.ensures.cases.0 in
+    let h = c.in-Some-read_argument.head in
+    let wide : c.in-Some.first.now ≡ 248 → 32 ≤ h.number = λ e. elim c.else-first.branch [ else-first-via-then-first+else-head-lt32 w ↦ w.if-head-lt32.false | else-first-via-else-first w ↦ absurd (w.if-first.false e) ] in
+    refuses c.args.room c.args.at c.args.rest.now (c.in-Some.first.now ∷ c.in-Some.behind.now) _ c.refused-then-not-is_shortest.result split c.refused-then-not-is_shortest.ensures
+    (long_here c.args.room c.in-Some.first.now c.in-Some.behind.now c.args.at h.width h.number h.rest.now c.in-Some-read_argument.ensures.spelled c.in_default-misplaced.ensures.no_float wide c.in_default-misplaced.ensures.fits
+    (c.is_shortest.ensures.long c.if-not-is_shortest.true) (length c.args.rest.now - length h.rest.now) (ap (λ (x : List ℕ). length x - length h.rest.now) split) c.in-Some-read_argument.ensures.fewer)
+
+pub returns-then-first-lt64 : goal.returns-then-first-lt64
+returns-then-first-lt64 c =
+    let split = c.in-Some.ensures.cases.0 in
+    let h = c.in-Some-read_argument.head in
+    let used = length c.args.rest.now - length h.rest.now in
+    let wide : c.in-Some.first.now ≡ 248 → 32 ≤ h.number = λ e. elim c.else-first.branch [ else-first-via-then-first+else-head-lt32 w ↦ w.if-head-lt32.false | else-first-via-else-first w ↦ absurd (w.if-first.false e) ] in
+    let kind : (c.in-Some.first.now < 64) ⊎ (224 ≤ c.in-Some.first.now) =
+    elim c.then-first-lt64.branch [ then-first-lt64-via-then-first-lt64 w ↦ inl w.if-first-lt64.true | then-first-lt64-via-else-first-lt64+then-first-ge224 w ↦ inr w.if-first-ge224.true ] in
+    answers c.args.room c.args.at c.args.rest.now (c.in-Some.first.now ∷ c.in-Some.behind.now) (any.Leaf used) (any.Leaf used) split refl
+    (any_leaf c.args.room c.in-Some.first.now c.in-Some.behind.now h.width h.number h.rest.now c.in-Some-read_argument.ensures.spelled c.in-Some-read_argument.ensures.fewer (c.is_shortest.ensures.short c.if-not-is_shortest.false)
+    used (ap (λ (x : List ℕ). length x - length h.rest.now) split) c.in_default-misplaced.ensures wide kind)
+
+pub any_string-requires-clause-head : goal.any_string-requires-clause-head
+any_string-requires-clause-head c =
+    let low : 64 ≤ c.in-Some.first.now = c.if-first-lt64.false in
+    record {
+      first = c.in-Some.first.now;
+      behind = c.in-Some.behind.now;
+      is = c.in-Some.ensures.cases.0;
+      low = low;
+      high = c.if-first-lt128.true;
+      argument = c.in-Some-read_argument.ensures.spelled;
+      fewer = c.in-Some-read_argument.ensures.fewer;
+      short = c.is_shortest.ensures.short c.if-not-is_shortest.false;
+    }
+
+pub returns : goal.returns
+returns c =
+    let split = c.in-Some.ensures.cases.0 in
+    let first = c.in-Some.first.now in
+    let behind = c.in-Some.behind.now in
+    let h = c.in-Some-read_argument.head in
+    let used = length c.args.rest.now - length h.rest.now in
+    let u = ap (λ (x : List ℕ). length x - length h.rest.now) split in
+    let low : 128 ≤ first = c.if-first-lt128.false in
+    let high : first < 224 = c.if-first-ge224.false in
+    let room : c.args.room ≡ true = c.in_default-misplaced.ensures.fits low high in
+    let a = c.in-Some-read_argument.ensures.spelled in
+    let fewer = c.in-Some-read_argument.ensures.fewer in
+    let short = c.is_shortest.ensures.short c.if-not-is_shortest.false in
+    let o = c.any_container.ensures in
+    let result = c.any_container.result in
+    elim (cases_lt first 192) [
+      | inr k ↦ answers c.args.room c.args.at c.args.rest.now (first ∷ behind) result (any.Opens Item 0 used) split (o.tag k) (a_tag c.args.room first behind h.width h.number h.rest.now a fewer short used u room k high)
+      | inl k ↦ elim (cases_lt 0 h.number) [
+        | inr z ↦
+            let none : h.number ≡ 0 = omega (arith, z) in
+            answers c.args.room c.args.at c.args.rest.now (first ∷ behind) result (any.Leaf used) split (o.none k none) (an_empty c.args.room first behind h.width h.number h.rest.now a fewer short used u room low k none)
+        | inl z ↦ elim (cases_lt first 160) [
+          | inl j ↦ answers c.args.room c.args.at c.args.rest.now (first ∷ behind) result (any.Opens Item (h.number - 1) used) split (o.array j z) (an_array c.args.room first behind h.width h.number h.rest.now a fewer short used u room low j z)
+          | inr j ↦ answers c.args.room c.args.at c.args.rest.now (first ∷ behind) result (any.Opens Key (h.number - 1) used) split (o.map j k z) (a_map c.args.room first behind h.width h.number h.rest.now a fewer short used u room j k z)
+        ]
+      ]
+    ]

@@ -1,0 +1,7 @@
+use Rattle.std.proofs.Common.{◌≡◌}
+use Rattle.cbor_walk.proofs.Taking.{in_more_cells}
+use Rattle.cbor_walk.proofs.canonical.deeper.Goals as goal
+
+pub returns-in-Refused-clause-refused : goal.returns-in-Refused-clause-refused
+returns-in-Refused-clause-refused c =
+    c.in-Refused.ensures (in_more_cells c.args.order c.args.depth c.args.input.now c.args.stack c.args.few.now c.spread-cells.result c.args.at c.requires.full.stands c.requires.full.height c.spread-cells.ensures)

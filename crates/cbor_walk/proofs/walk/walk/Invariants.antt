@@ -1,0 +1,14 @@
+use Rattle.std.proofs.Common.{ℕ, ◌-◌, ◌≤◌, length}
+use Rattle.cbor_walk.specs.Cells.{standing, StandsAt}
+use Rattle.cbor_walk.proofs.walk.walk.Given as goal
+
+abbrev pub invariant-items : goal.invariant-items
+invariant-items l = record {
+  inside : l.at ≤ length l.input;
+  cells : l.stack.height ≤ length l.cells;
+  depth : l.stack.height ≤ l.depth;
+  stands : StandsAt l.order l.depth l.input (standing l.fn.stack l.fn.cells) l.start → StandsAt l.order l.depth l.input (standing l.stack l.cells) l.at;
+}
+
+abbrev pub decreases-items : goal.decreases-items
+decreases-items l = length l.input - l.at

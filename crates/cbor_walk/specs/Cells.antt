@@ -1,0 +1,134 @@
+-- What the walk holds of the open containers, and what an item that is whole makes of it.
+use Rattle.std.specs.Prelude.{◌≡◌, ◌≢◌, ℕ, ◌+◌, ◌-◌, ◌≤◌, Bool, true, false, List, [], ◌∷◌, ◌++◌, length, take, slice_range, reverse}
+use Rattle.cbor_head.specs.Complaint.{strict}
+use Rattle.cbor_head.specs.Order.{key_lt}
+use Rattle.cbor_head.specs.Spelling.{Spelling, spell}
+use Rattle.cbor_head.specs.Verdict.{refusal}
+use Rattle.cbor_head.specs.declared.order.KeyOrder.{KeyOrder}
+use Rattle.cbor_head.specs.declared.reason.Reason.TheVariants as reasons
+use Rattle.cbor_head.specs.declared.width.Width.TheVariants.{Indefinite}
+use Rattle.cbor_item.specs.Front.{front_of}
+use Rattle.cbor_strict.specs.inner.LastKeys as keys
+use Rattle.cbor_walk.specs.Path as path
+use Rattle.cbor_walk.specs.Path.{level_bytes, bytes_before, AreClean, HasEnded}
+use Rattle.cbor_walk.specs.Stop.{HasComplaint}
+use Rattle.cbor_walk.specs.declared.level.Due.{Due}
+use Rattle.cbor_walk.specs.declared.level.Due.TheVariants.{Item, Key, Value}
+use Rattle.cbor_walk.specs.declared.level.Level.{Level}
+use Rattle.cbor_walk.specs.declared.level.Step.{Step}
+use Rattle.cbor_walk.specs.declared.level.Step.TheVariants as steps
+use Rattle.cbor_walk.specs.declared.level.Next.{Next}
+use Rattle.cbor_walk.specs.declared.level.Next.TheVariants as nexts
+use Rattle.cbor_walk.specs.declared.stack.Stack.{Stack}
+
+-- ---- a level
+
+-- a container that begins, whose first key begins there
+abbrev pub a_level : Due → ℕ → ℕ → Level
+a_level due left at = record { due = due; left = left; key = at; last = at; last_end = at; front = 0 }
+
+abbrev pub last_key : List ℕ → Level → List ℕ
+last_key input c = slice_range input c.last c.last_end
+
+-- the key that is due, if it ends there
+abbrev pub key_at : List ℕ → Level → ℕ → List ℕ
+key_at input c at = slice_range input c.key at
+
+-- the number is the front of the last key
+abbrev pub IsFronted : List ℕ → Level → Type 0
+IsFronted input c = c.front ≡ front_of (last_key input c)
+
+-- it holds this last key
+pub record HoldsKey (input : List ℕ) (c : Level) (key : List ℕ) : Type 0 where
+  pub is : last_key input c ≡ key
+  pub fronted : IsFronted input c
+
+-- what is held of a map whose key is due, behind so many bytes
+pub record IsKeyDue (input : List ℕ) (c : Level) (more : ℕ) (key : List ℕ) (at : ℕ) : Type 0 where
+  pub due : c.due ≡ Key
+  pub left : c.left ≡ more
+  pub begins : c.key ≡ at
+  pub holds : HoldsKey input c key
+
+pub record IsValueDue (input : List ℕ) (c : Level) (more : ℕ) (key : List ℕ) : Type 0 where
+  pub due : c.due ≡ Value
+  pub left : c.left ≡ more
+  pub holds : HoldsKey input c key
+
+-- what is held of an open container that stands there
+abbrev pub IsCell : List ℕ → ℕ → path.Level → Level → Type 0
+IsCell input at (path.a_member w left done) c = (w ≢ Indefinite) × (c.due ≡ Item) × (c.left ≡ left)
+IsCell input at (path.tagged w n) c = (c.due ≡ Item) × (c.left ≡ 0)
+IsCell input at (path.a_key w left done) c = (w ≢ Indefinite) × IsKeyDue input c left (keys.last_key done) (at + length (level_bytes (path.a_key w left done)))
+IsCell input at (path.a_value w left done k) c = (w ≢ Indefinite) × IsValueDue input c left (spell k)
+
+-- of all of them, and of the input itself
+abbrev pub AreCells : List ℕ → List path.Level → List Level → Type 0
+AreCells input [] (c ∷ []) = (c.due ≡ Item) × (c.left ≡ 0)
+AreCells input (l ∷ ls) (c ∷ cs) = IsCell input (length (bytes_before ls)) l c × AreCells input ls cs
+AreCells input _ _ = ⊥
+
+-- ---- where the walk stands
+
+-- an item is due within these containers, in which nothing has a complaint
+pub record StandsAt (o : KeyOrder) (d : ℕ) (input : List ℕ) (cs : List Level) (at : ℕ) : Type 0 where
+  pub ls : List path.Level
+  pub clean : AreClean (strict o) d ls
+  pub are : AreCells input ls cs
+  pub rest : List ℕ
+  pub bytes : input ≡ bytes_before ls ++ rest
+  pub here : at ≡ length (bytes_before ls)
+
+-- an item is whole within them
+pub record HasEndedAt (o : KeyOrder) (d : ℕ) (input : List ℕ) (cs : List Level) (at : ℕ) : Type 0 where
+  pub ls : List path.Level
+  pub item : Spelling
+  pub ended : HasEnded (strict o) d ls item
+  pub are : AreCells input ls cs
+  pub rest : List ℕ
+  pub bytes : input ≡ (bytes_before ls ++ spell item) ++ rest
+  pub here : at ≡ length (bytes_before ls ++ spell item)
+
+-- the input's item is whole
+pub record IsWhole (o : KeyOrder) (d : ℕ) (input : List ℕ) (at : ℕ) : Type 0 where
+  pub item : Spelling
+  pub ended : HasEnded (strict o) d [] item
+  pub rest : List ℕ
+  pub bytes : input ≡ spell item ++ rest
+  pub here : at ≡ length (spell item)
+
+-- the innermost of these has ended with the item; or it was the input's item
+abbrev pub HasClosed : KeyOrder → ℕ → List ℕ → List Level → ℕ → Type 0
+HasClosed o d input [] at = IsWhole o d input at
+HasClosed o d input (c ∷ cs) at = HasEndedAt o d input (c ∷ cs) at
+
+-- the refusal of a key that begins there
+abbrev pub Falls : KeyOrder → ℕ → List ℕ → ℕ → ℕ → Type 0
+Falls o d input place at = HasComplaint (strict o) d input (refusal reasons.KeyOrder place at)
+
+-- ---- what the calls do
+
+-- the key that was due ends there: whether it comes behind the last one
+abbrev pub TakesKey : Bool → KeyOrder → List ℕ → ℕ → Level → Level → Type 0
+TakesKey true o input at old new =
+    (new.due ≡ Value) × (new.left ≡ old.left) × HoldsKey input new (key_at input old at) × (IsFronted input old → key_lt o (last_key input old) (key_at input old at) ≡ true)
+TakesKey false o input at old new = (new ≡ old) × (old.key ≤ at → IsFronted input old → key_lt o (last_key input old) (key_at input old at) ≡ false)
+
+-- an item of it is whole, which ends there
+abbrev pub Advances : Step → KeyOrder → List ℕ → ℕ → Level → Level → Type 0
+Advances steps.Next o input at old new = (d : ℕ) (cs : List Level) → HasEndedAt o d input (old ∷ cs) at → StandsAt o d input (new ∷ cs) at
+Advances steps.Full o input at old new = (d : ℕ) (cs : List Level) → HasEndedAt o d input (old ∷ cs) at → HasClosed o d input cs at
+Advances steps.Falls o input at old new = (d : ℕ) (cs : List Level) → HasEndedAt o d input (old ∷ cs) at → Falls o d input new.key at
+
+-- the containers around the innermost one; the last of them is the input itself
+abbrev pub around : Stack → List Level → List Level
+around s cells = reverse (take s.height cells)
+
+abbrev pub standing : Stack → List Level → List Level
+standing s cells = s.top ∷ around s cells
+
+-- from what has ended, that is what is due
+abbrev pub Leads : Next → KeyOrder → List ℕ → ℕ → List Level → Stack → List Level → Type 0
+Leads nexts.Item o input at old new cells = (d : ℕ) → HasClosed o d input old at → StandsAt o d input (standing new cells) at
+Leads nexts.Done o input at old new cells = (d : ℕ) → HasClosed o d input old at → IsWhole o d input at
+Leads nexts.Falls o input at old new cells = (d : ℕ) → HasClosed o d input old at → Falls o d input new.top.key at

@@ -1,0 +1,5 @@
+pub mod Cells
+pub mod Items
+pub mod Path
+pub mod Stop
+pub mod Walked

@@ -1,0 +1,139 @@
+//! What stands where an item is due, if it is no short item: slower, and exactly.
+
+ghost use Rattle.std.specs.Prelude.{◌≡◌, ◌≤◌, ◌<◌, ◌+◌, ◌-◌, ◌^◌, ◌∷◌, ℕ, List, length, MatchOption, MatchResult, IfErr, IsUtf8};
+ghost use Rattle.std.specs.Str.Lossy.{utf8_valid_len};
+ghost use Rattle.cbor_head.specs.Verdict.{refusal};
+ghost use Rattle.cbor_walk.specs.declared.any_item.Any.TheVariants as any;
+ghost use Rattle.cbor_walk.specs.Items.{IsPlaced, IsMisplaced, IsAny, IsStringHead};
+
+use crate::argument::{Argument, is_shortest, read_argument};
+use crate::level::Due;
+use cbor_head::{Reason, Refusal};
+
+/// What stands where an item is due.
+#[derive(Clone, Copy)]
+pub(crate) enum Any {
+    /// An item that ends behind so many bytes.
+    Leaf(usize),
+    /// The head, of so many bytes, of a container in which this is due, and so many members or pairs
+    /// more.
+    Opens(Due, u64, usize),
+    /// Nothing that may stand there.
+    Refused(Refusal),
+}
+
+/// What stands there, at this place of the input, where one more container may open or not.
+#[inline(never)]
+pub(crate) fn any_item(rest: &[u8], at: usize, room: bool) -> Any
+    requires { at + length rest.now < 2 ^ 63 }
+    ensures { IsAny rest.now at room result }
+{
+    let end = at + rest.len();
+    let Some((first, behind)) = rest.split_first() else {
+        return refused(Reason::Truncated, end, end);
+    };
+    let first = *first;
+    if let Some(reason) = misplaced(first, room) {
+        return refused(reason, at, at + 1);
+    }
+    let low = first % 32;
+    if low == 31 {
+        return refused(Reason::Indefinite, at, at + 1);
+    }
+    let Some(head) = read_argument(low, behind) else {
+        return refused(Reason::Truncated, end, end);
+    };
+    if first == 0xf8 && head.number < 32 {
+        return refused(Reason::BadSimple, at + 1, at + 2);
+    }
+    let used = rest.len() - head.rest.len();
+    if !is_shortest(head.width, head.number) {
+        return refused(Reason::NotShortest, at, at + used);
+    }
+    if first < 0x40 || first >= 0xe0 {
+        return Any::Leaf(used);
+    }
+    if first < 0x80 {
+        return any_string(rest, head, at, room);
+    }
+    any_container(first, head.number, used)
+}
+
+fn refused(reason: Reason, place: usize, read: usize) -> Any
+    ensures { result ≡ any.Refused (refusal reason place read) }
+{
+    Any::Refused(Refusal::new(reason, place as u64, read as u64))
+}
+
+// Why no item may have this first byte there.
+fn misplaced(first: u8, room: bool) -> Option<Reason>
+    ensures { MatchOption result (IsPlaced first room) (IsMisplaced first room) }
+{
+    let low = first % 32;
+    if low > 27 && low < 31 {
+        return Some(Reason::Reserved);
+    }
+    if first == 0xff {
+        return Some(Reason::StrayBreak);
+    }
+    if low == 31 && (first < 0x40 || first >= 0xc0) {
+        return Some(Reason::NoIndefinite);
+    }
+    if first > 0xf8 {
+        return Some(Reason::Float);
+    }
+    if first >= 0x80 && first < 0xe0 && !room {
+        return Some(Reason::TooDeep);
+    }
+    None
+}
+
+// The container with this head.
+fn any_container(first: u8, number: u64, used: usize) -> Any
+    ensures tag { 192 ≤ first → result ≡ any.Opens Due.Item 0 used }
+    ensures none { first < 192 → number ≡ 0 → result ≡ any.Leaf used }
+    ensures array { first < 160 → 0 < number → result ≡ any.Opens Due.Item (number - 1) used }
+    ensures map { 160 ≤ first → first < 192 → 0 < number → result ≡ any.Opens Due.Key (number - 1) used }
+{
+    if first >= 0xc0 {
+        return Any::Opens(Due::Item, 0, used);
+    }
+    if number == 0 {
+        return Any::Leaf(used);
+    }
+    let due = if first < 0xa0 { Due::Item } else { Due::Key };
+    Any::Opens(due, number - 1, used)
+}
+
+// The string with this head.
+fn any_string(rest: &[u8], head: Argument<'_>, at: usize, room: bool) -> Any
+    requires place { at + length rest.now < 2 ^ 63 }
+    requires head { IsStringHead rest.now head }
+    ensures { IsAny rest.now at room result }
+{
+    let used = rest.len() - head.rest.len();
+    if head.number > head.rest.len() as u64 {
+        return refused(Reason::Truncated, at + rest.len(), at + rest.len());
+    }
+    let payload = &head.rest[..head.number as usize];
+    let end = used + payload.len();
+    if rest[0] >= 0x60 {
+        if let Err(valid) = check_text(payload) {
+            return refused(Reason::InvalidText, at + used + valid, at + end);
+        }
+    }
+    Any::Leaf(end)
+}
+
+// Whether the bytes are UTF-8, or the length of their longest front that is.
+fn check_text(bytes: &[u8]) -> Result<(), usize>
+    ensures checked { MatchResult result
+        (λ _. IsUtf8 bytes.now)
+        (λ valid. ¬ (IsUtf8 bytes.now) × (valid ≡ utf8_valid_len bytes.now)) }
+    ensures within { IfErr result (λ valid. valid ≤ length bytes.now) }
+{
+    match simdutf8::compat::from_utf8(bytes) {
+        Ok(_) => Ok(()),
+        Err(error) => Err(error.valid_up_to()),
+    }
+}

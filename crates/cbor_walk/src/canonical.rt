@@ -1,0 +1,71 @@
+//! The canonical item at the front of a slice.
+
+ghost use Rattle.std.specs.Prelude.{◌≡◌, ◌≤◌, IfOk, IfErr, length, take};
+ghost use Rattle.cbor_head.specs.Complaint.{strict};
+ghost use Rattle.cbor_walk.specs.Cells.{IsWhole};
+ghost use Rattle.cbor_walk.specs.Stop.{IsStopped};
+ghost use Rattle.cbor_walk.specs.Walked.{IsFull};
+
+use crate::level::{Due, Level};
+use crate::stack::Stack;
+use crate::walk::{Walked, walk};
+use cbor_head::{KeyOrder, MAX_DEPTH, Refusal};
+
+// Most items are no deeper than this.
+const FEW: usize = 16;
+
+const MOST: usize = MAX_DEPTH as usize;
+
+/// How many bytes the item has that the input begins with, where they are its canonical bytes in
+/// this order and it is no deeper than this; else the refusal, in which the end of the input is
+/// `Truncated` (RFC 8949, sections 4.2.1 and 4.2.3).
+///
+/// It goes over the bytes once, without recursion, and takes no memory.
+pub fn canonical_front(input: &[u8], depth: usize, order: KeyOrder) -> Result<usize, Refusal>
+    requires { depth ≤ 256 }
+    ensures whole { IfOk result (IsWhole order depth input.now) }
+    ensures refused { IfErr result (IsStopped (strict order) depth input.now) }
+{
+    let mut cells = [Level::new(Due::Item, 0, 0); FEW];
+    let mut stack = Stack::new();
+    match walk(input, 0, &mut cells, &mut stack, depth, order) {
+        Walked::Whole(at) => Ok(at),
+        Walked::Refused(refusal) => Err(refusal),
+        Walked::Full(at) => deeper(input, at, &cells, stack, depth, order),
+    }
+}
+
+// The same, from the place where the cells are too few.
+#[inline(never)]
+fn deeper(
+    input: &[u8],
+    at: usize,
+    few: &[Level],
+    stack: Stack,
+    depth: usize,
+    order: KeyOrder,
+) -> Result<usize, Refusal>
+    requires depth { depth ≤ 256 }
+    requires full { IsFull order depth input.now stack few.now at }
+    requires few { length few.now ≤ 256 }
+    ensures whole { IfOk result (IsWhole order depth input.now) }
+    ensures refused { IfErr result (IsStopped (strict order) depth input.now) }
+{
+    let mut cells = spread(few);
+    let mut stack = stack;
+    match walk(input, at, &mut cells, &mut stack, depth, order) {
+        Walked::Whole(at) => Ok(at),
+        Walked::Refused(refusal) => Err(refusal),
+        Walked::Full(_) => unreachable!(),
+    }
+}
+
+// All cells, of which these are the first.
+fn spread(few: &[Level]) -> [Level; MOST]
+    requires { length few.now ≤ 256 }
+    ensures { take (length few.now) result ≡ few.now }
+{
+    let mut cells = [Level::new(Due::Item, 0, 0); MOST];
+    cells[..few.len()].copy_from_slice(few);
+    cells
+}

@@ -1,0 +1,18 @@
+//! One walk over an item, in one loop and without recursion.
+//!
+//! [`canonical_front`] goes over the canonical bytes at the front of a slice once. It holds a
+//! [`Level`] for each open container in cells that are made as they are wanted, so that depth that
+//! is not used costs nothing; at the first byte, head, text or key that is none of a canonical item
+//! it stops with the refusal.
+#![tactic(auto)]
+
+mod any_item;
+mod argument;
+mod canonical;
+mod fast;
+mod level;
+mod stack;
+mod take;
+mod walk;
+
+pub use canonical::canonical_front;

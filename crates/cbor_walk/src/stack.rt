@@ -1,0 +1,186 @@
+//! The open containers of an item, in cells that are lent.
+
+ghost use Rattle.std.specs.Prelude.{◌≡◌, ◌≤◌, ◌<◌, ◌-◌, ◌∷◌, ℕ, suc, List, IsTrue, true, length, slice_range};
+ghost use Rattle.cbor_item.specs.Front.{front_of};
+ghost use Rattle.cbor_head.specs.Order.{key_lt};
+ghost use Rattle.cbor_walk.specs.Cells.{a_level, key_at, last_key, IsFronted, TakesKey, Advances};
+ghost use Rattle.cbor_walk.specs.Cells.{Leads, standing, around};
+
+use crate::level::{Due, Level, Next, Step};
+use cbor_head::KeyOrder;
+use cbor_item::{compare_keys, key_front};
+use std::cmp::Ordering;
+
+impl Level {
+    #[inline(always)]
+    pub(crate) fn new(due: Due, left: u64, at: usize) -> Level
+        ensures { result ≡ a_level due left at }
+    {
+        Level {
+            due,
+            left,
+            key: at,
+            last: at,
+            last_end: at,
+            front: 0,
+        }
+    }
+
+    // An item of it is whole, which ends there.
+    #[inline(always)]
+    fn advance(&mut self, input: &[u8], order: KeyOrder, at: usize) -> Step
+        requires { at ≤ length input.now }
+        ensures { Advances result order input.now at self.old self.new }
+    {
+        match self.due {
+            Due::Item => {
+                if self.left == 0 {
+                    return Step::Full;
+                }
+                self.left -= 1;
+            }
+            Due::Key => {
+                if !self.take_key(input, order, at) {
+                    return Step::Falls;
+                }
+            }
+            Due::Value => {
+                if self.left == 0 {
+                    return Step::Full;
+                }
+                self.left -= 1;
+                self.key = at;
+                self.due = Due::Key;
+            }
+        }
+        Step::Next
+    }
+
+    // The key that is due ends there. Whether it comes behind the last one.
+    #[inline(always)]
+    fn take_key(&mut self, input: &[u8], order: KeyOrder, at: usize) -> bool
+        requires { at ≤ length input.now }
+        ensures { TakesKey result order input.now at self.old self.new }
+    {
+        if self.key > at {
+            return false;
+        }
+        let front = key_front(input, self.key, at);
+        if !self.rises(input, order, front, at) {
+            return false;
+        }
+        self.due = Due::Value;
+        self.front = front;
+        self.last = self.key;
+        self.last_end = at;
+        true
+    }
+
+    // Whether the key that ends there, and has this front, comes behind the last one.
+    #[inline(always)]
+    fn rises(&self, input: &[u8], order: KeyOrder, front: u64, at: usize) -> bool
+        requires { front ≡ front_of (key_at input.now self.now at) }
+        ensures { IsFronted input.now self.now
+            → result ≡ key_lt order (last_key input.now self.now) (key_at input.now self.now at) }
+    {
+        if let KeyOrder::Bytewise = order {
+            if self.front != front {
+                return self.front < front;
+            }
+        }
+        let last = part(input, self.last, self.last_end);
+        comes_behind(order, last, part(input, self.key, at))
+    }
+}
+
+// Whether the second key comes behind the first.
+#[inline(always)]
+fn comes_behind(order: KeyOrder, last: &[u8], key: &[u8]) -> bool
+    ensures { result ≡ key_lt order last.now key.now }
+{
+    compare_keys(order, last, key) == Ordering::Less
+}
+
+// What stands from `start` to `end`, as far as the bytes go.
+#[inline(always)]
+fn part(bytes: &[u8], start: usize, end: usize) -> &[u8]
+    ensures { result.now ≡ slice_range bytes.now start end }
+{
+    let end = end.min(bytes.len());
+    let start = start.min(end);
+    &bytes[start..end]
+}
+
+/// How many containers are open, and the innermost; those around it lie in the first so many of the
+/// cells that each call is lent. The first level is the input itself, with one item due.
+#[derive(Clone, Copy)]
+pub(crate) struct Stack {
+    pub(crate) height: usize,
+    pub(crate) top: Level,
+}
+
+impl Stack {
+    /// The input alone.
+    pub(crate) fn new() -> Stack
+        ensures height { result.height ≡ 0 }
+        ensures top { result.top ≡ a_level Due.Item 0 0 }
+    {
+        Stack {
+            height: 0,
+            top: Level::new(Due::Item, 0, 0),
+        }
+    }
+
+    /// One more container opens.
+    #[inline(always)]
+    pub(crate) fn push(&mut self, cells: &mut [Level], level: Level)
+        requires { self.old.height < length cells.old }
+        ensures height { self.new.height ≡ suc self.old.height }
+        ensures levels { standing self.new cells.new ≡ level ∷ standing self.old cells.old }
+    {
+        cells[self.height] = self.top;
+        self.height += 1;
+        self.top = level;
+    }
+
+    /// An item is whole, which ends there: with it the containers whose last member it was.
+    #[inline(always)]
+    pub(crate) fn complete(
+        &mut self,
+        cells: &[Level],
+        input: &[u8],
+        order: KeyOrder,
+        at: usize,
+    ) -> Next
+        requires end { at ≤ length input.now }
+        requires cells { self.old.height ≤ length cells.now }
+        ensures fewer { self.new.height ≤ self.old.height }
+        ensures leads { Leads result order input.now at (standing self.old cells.now) self.new cells.now }
+    {
+        match self.top.advance(input, order, at) {
+            Step::Next => Next::Item,
+            Step::Full => self.close(cells, input, order, at),
+            Step::Falls => Next::Falls,
+        }
+    }
+
+    // The same, where the innermost container is whole.
+    #[inline(never)]
+    fn close(&mut self, cells: &[Level], input: &[u8], order: KeyOrder, at: usize) -> Next
+        requires end { at ≤ length input.now }
+        requires cells { self.old.height ≤ length cells.now }
+        ensures fewer { self.new.height ≤ self.old.height }
+        ensures leads { Leads result order input.now at (around self.old cells.now) self.new cells.now }
+    {
+        'levels: while self.height > 0 {
+            self.height -= 1;
+            self.top = cells[self.height];
+            match self.top.advance(input, order, at) {
+                Step::Next => return Next::Item,
+                Step::Full => {}
+                Step::Falls => return Next::Falls,
+            }
+        }
+        Next::Done
+    }
+}

@@ -1,0 +1,78 @@
+//! The next item, or the next head of a container that has items.
+
+ghost use Rattle.std.specs.Prelude.{◌≡◌, ◌≤◌, ◌<◌, ◌+◌, ◌^◌, length};
+ghost use Rattle.cbor_walk.specs.Walked.{Takes};
+
+use crate::any_item::{Any, any_item};
+use crate::fast::{fast_leaf, fast_opener};
+use crate::level::Level;
+use crate::stack::Stack;
+use cbor_head::Refusal;
+
+/// What was taken where an item was due.
+#[derive(Clone, Copy)]
+pub(crate) enum Taken {
+    /// The head, of so many bytes, of a container that has items. It is open now.
+    Head(usize),
+    /// An item of so many bytes.
+    Item(usize),
+    /// Nothing that may stand there.
+    Refused(Refusal),
+    /// Nothing: a container may open, and there is no cell for its level.
+    Full,
+}
+
+/// Takes what stands at the front of these bytes, at this place of the input.
+#[inline(always)]
+pub(crate) fn take_next(
+    rest: &[u8],
+    at: usize,
+    cells: &mut [Level],
+    stack: &mut Stack,
+    depth: usize,
+) -> Taken
+    requires place { at + length rest.now < 2 ^ 63 }
+    requires cells { stack.old.height ≤ length cells.old }
+    requires depth { stack.old.height ≤ depth }
+    ensures cells { stack.new.height ≤ length cells.new }
+    ensures depth { stack.new.height ≤ depth }
+    ensures takes { Takes result depth rest.now at stack.old cells.old stack.new cells.new }
+{
+    let Some((first, _)) = rest.split_first() else {
+        return take_any(rest, at, cells, stack, depth);
+    };
+    let first = *first;
+    let used = fast_leaf(first, rest);
+    if used > 0 {
+        return Taken::Item(used);
+    }
+    if let Some((due, left)) = fast_opener(first) {
+        if stack.height < depth && stack.height < cells.len() {
+            stack.push(cells, Level::new(due, left, at + 1));
+            return Taken::Head(1);
+        }
+    }
+    take_any(rest, at, cells, stack, depth)
+}
+
+// The same, slower, of anything.
+fn take_any(rest: &[u8], at: usize, cells: &mut [Level], stack: &mut Stack, depth: usize) -> Taken
+    requires place { at + length rest.now < 2 ^ 63 }
+    requires cells { stack.old.height ≤ length cells.old }
+    requires depth { stack.old.height ≤ depth }
+    ensures cells { stack.new.height ≤ length cells.new }
+    ensures depth { stack.new.height ≤ depth }
+    ensures takes { Takes result depth rest.now at stack.old cells.old stack.new cells.new }
+{
+    match any_item(rest, at, stack.height < depth) {
+        Any::Leaf(used) => Taken::Item(used),
+        Any::Opens(due, left, used) => {
+            if stack.height >= cells.len() {
+                return Taken::Full;
+            }
+            stack.push(cells, Level::new(due, left, at + used));
+            Taken::Head(used)
+        }
+        Any::Refused(refusal) => Taken::Refused(refusal),
+    }
+}

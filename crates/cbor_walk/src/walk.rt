@@ -1,0 +1,64 @@
+//! The walk.
+
+ghost use Rattle.std.specs.Prelude.{◌≡◌, ◌≤◌, ◌<◌, ◌+◌, ◌^◌, length};
+ghost use Rattle.cbor_walk.specs.Cells.{standing, StandsAt};
+ghost use Rattle.cbor_head.specs.Verdict.{refusal};
+ghost use Rattle.cbor_head.specs.declared.reason.Reason.TheVariants as reasons;
+ghost use Rattle.cbor_walk.specs.declared.walk.Walked.TheVariants as walked;
+ghost use Rattle.cbor_walk.specs.Walked.{IsWalked};
+
+use crate::level::{Level, Next};
+use crate::stack::Stack;
+use crate::take::{Taken, take_next};
+use cbor_head::{KeyOrder, Reason, Refusal};
+
+/// How a walk ends.
+#[derive(Clone, Copy)]
+pub(crate) enum Walked {
+    /// The item is whole, and ends there.
+    Whole(usize),
+    /// It is refused.
+    Refused(Refusal),
+    /// More levels are wanted than there are cells. An item is due there.
+    Full(usize),
+}
+
+/// Goes over the item, from the place where another is due in the open containers to its end.
+pub(crate) fn walk(
+    input: &[u8],
+    start: usize,
+    cells: &mut [Level],
+    stack: &mut Stack,
+    depth: usize,
+    order: KeyOrder,
+) -> Walked
+    requires start { start ≤ length input.now }
+    requires cells { stack.old.height ≤ length cells.old }
+    requires depth { stack.old.height ≤ depth }
+    ensures { StandsAt order depth input.now (standing stack.old cells.old) start
+        → IsWalked order depth input.now stack.new cells.new result }
+{
+    let mut at = start;
+    'items: loop {
+        match take_next(&input[at..], at, cells, stack, depth) {
+            Taken::Head(used) => at += used,
+            Taken::Item(used) => {
+                at += used;
+                match stack.complete(cells, input, order, at) {
+                    Next::Item => {}
+                    Next::Done => return Walked::Whole(at),
+                    Next::Falls => return falls(stack.top.key, at),
+                }
+            }
+            Taken::Refused(refusal) => return Walked::Refused(refusal),
+            Taken::Full => return Walked::Full(at),
+        }
+    }
+}
+
+#[cold]
+fn falls(place: usize, at: usize) -> Walked
+    ensures { result ≡ walked.Refused (refusal reasons.KeyOrder place at) }
+{
+    Walked::Refused(Refusal::new(Reason::KeyOrder, place as u64, at as u64))
+}
