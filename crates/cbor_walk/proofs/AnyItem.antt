@@ -17,15 +17,16 @@ use Rattle.cbor_head.specs.declared.reason.Reason.{Reason}
 use Rattle.cbor_head.specs.declared.reason.Reason.TheVariants as reasons
 use Rattle.cbor_head.specs.declared.width.Width.{Width}
 use Rattle.cbor_head.specs.declared.width.Width.TheVariants.{Direct, One, Two, Four, Eight, Indefinite}
-use Rattle.cbor_events.specs.inner.Whole.{IsArgument}
-use Rattle.cbor_events.proofs.FirstByte.{Split, split}
-use Rattle.cbor_events.proofs.Taking.{IsNumbered}
-use Rattle.cbor_strict.specs.inner.Judged.{IsJudged}
+use Rattle.cbor_automaton.specs.inner.Whole.{IsArgument}
+use Rattle.cbor_automaton.proofs.FirstByte.{Split, split}
+use Rattle.cbor_automaton.proofs.Taking.{IsNumbered}
+use Rattle.cbor_judging.specs.Judged.{IsJudged}
 use Rattle.cbor_strict.specs.inner.Quick.{IsShortest, IsLeaf}
-use Rattle.cbor_strict.proofs.ByteLists.{bytes_back}
-use Rattle.cbor_strict.proofs.Heads.{takes}
-use Rattle.cbor_strict.proofs.Judged.{Never, judged_start}
-use Rattle.cbor_strict.proofs.Leaves.{text_complains}
+use Rattle.cbor_judging.proofs.ByteLists.{bytes_back}
+use Rattle.cbor_judging.proofs.Heads.{takes}
+use Rattle.cbor_judging.specs.Judged.{Never}
+use Rattle.cbor_judging.proofs.Judged.{judged_start}
+use Rattle.cbor_judging.proofs.Leaves.{text_complains}
 use Rattle.cbor_strict.proofs.QuickLevels.{rest-is}
 use Rattle.cbor_strict.proofs.QuickLeaves.{leaf-number, leaf-value, leaf-empty, leaf-bytes, leaf-text}
 use Rattle.cbor_walk.specs.Path.{Level, a_member, a_key, a_value, tagged, bytes_before, AreClean}

@@ -16,12 +16,13 @@ use Rattle.cbor_head.specs.declared.reason.Reason.TheVariants as reasons
 use Rattle.cbor_head.specs.declared.reason.Refusal.{Refusal}
 use Rattle.cbor_head.specs.declared.width.Width.{Width}
 use Rattle.cbor_head.specs.declared.width.Width.TheVariants.{Indefinite}
-use Rattle.cbor_events.specs.inner.Whole.{IsArgument}
-use Rattle.cbor_events.proofs.FirstByte.{split}
-use Rattle.cbor_strict.specs.inner.Judged.{IsJudged}
-use Rattle.cbor_strict.proofs.ByteLists.{bytes_back, bytes_front}
-use Rattle.cbor_strict.proofs.Judged.{Never, judged_start}
-use Rattle.cbor_strict.proofs.Leaves.{text_complains}
+use Rattle.cbor_automaton.specs.inner.Whole.{IsArgument}
+use Rattle.cbor_automaton.proofs.FirstByte.{split}
+use Rattle.cbor_judging.specs.Judged.{IsJudged}
+use Rattle.cbor_judging.proofs.ByteLists.{bytes_back, bytes_front}
+use Rattle.cbor_judging.specs.Judged.{Never}
+use Rattle.cbor_judging.proofs.Judged.{judged_start}
+use Rattle.cbor_judging.proofs.Leaves.{text_complains}
 use Rattle.cbor_walk.specs.Path.{Level, a_member, a_key, a_value, tagged, bytes_before, AreClean}
 use Rattle.cbor_walk.specs.Items.{IsMisplaced, IsPlaced, IsRefusedHere, IsAny}
 use Rattle.cbor_walk.specs.declared.any_item.Any.{Any}

@@ -11,12 +11,12 @@ use Rattle.cbor_head.specs.declared.order.KeyOrder.{KeyOrder}
 use Rattle.cbor_head.specs.declared.reason.Reason.TheVariants as reasons
 use Rattle.cbor_head.specs.declared.width.Width.{Width}
 use Rattle.cbor_head.specs.declared.width.Width.TheVariants.{Indefinite}
-use Rattle.cbor_item.specs.Front.{front_of}
-use Rattle.cbor_strict.specs.inner.Frame.{keys_onto}
-use Rattle.cbor_strict.specs.inner.LastKeys as keys
-use Rattle.cbor_strict.proofs.KeptKeys.{last_key_with}
-use Rattle.cbor_strict.proofs.OpenEnds.{last_is}
-use Rattle.cbor_strict.proofs.SliceItems.{key-fresh, key-falls}
+use Rattle.cbor_canonical.specs.Front.{front_of}
+use Rattle.cbor_judging.specs.Frame.{keys_onto}
+use Rattle.cbor_judging.specs.LastKey as keys
+use Rattle.cbor_judging.proofs.LastKey.{last_key_with}
+use Rattle.cbor_judging.proofs.LastKey.{last_is}
+use Rattle.cbor_judging.proofs.LastKey.{key-fresh, key-falls}
 use Rattle.cbor_walk.specs.Path as path
 use Rattle.cbor_walk.specs.Path.{a_member, a_key, a_value, tagged, level_bytes, bytes_before, AreClean, HasEnded}
 use Rattle.cbor_walk.specs.Cells.{last_key, key_at, IsFronted, HoldsKey, IsKeyDue, IsValueDue, IsCell, AreCells, StandsAt, HasEndedAt, IsWhole, HasClosed, Falls, TakesKey}

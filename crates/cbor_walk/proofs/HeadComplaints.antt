@@ -10,11 +10,12 @@ use Rattle.cbor_head.specs.declared.reason.Reason.TheVariants.{NotShortest, Inde
 use Rattle.cbor_head.specs.declared.width.Width.{Width}
 use Rattle.cbor_head.specs.declared.width.Width.TheVariants.{Indefinite}
 use Rattle.cbor_head.proofs.OneFirst.{last}
-use Rattle.cbor_events.proofs.Taking.{IsNumbered}
-use Rattle.cbor_strict.specs.inner.Judged.{IsJudged}
-use Rattle.cbor_strict.proofs.Heads.{open_or, takes, zero_bytes, zero_length}
-use Rattle.cbor_strict.proofs.Judged.{Never, zero_item}
-use Rattle.cbor_strict.proofs.Leaves.{head_complains, array_head_complains, map_head_complains}
+use Rattle.cbor_automaton.proofs.Taking.{IsNumbered}
+use Rattle.cbor_judging.specs.Judged.{IsJudged}
+use Rattle.cbor_judging.proofs.Heads.{open_or, takes, zero_bytes, zero_length}
+use Rattle.cbor_judging.specs.Judged.{Never}
+use Rattle.cbor_judging.proofs.Judged.{zero_item}
+use Rattle.cbor_judging.proofs.Leaves.{head_complains, array_head_complains, map_head_complains}
 
 -- ---- a definite head
 

@@ -6,11 +6,12 @@ use Rattle.cbor_head.specs.Complaint.{Rules, Complaint, OfCount, OfKey, Complain
 use Rattle.cbor_head.specs.Spelling.{Spelling, SpelledEntries, spell, IsSpelled, depth, spell_all, spell_entries, spellings_count, entries_count, HoldsOrIndefinite}
 use Rattle.cbor_head.specs.declared.major.Major.TheVariants.{Array, Map}
 use Rattle.cbor_head.specs.declared.width.Width.{Width}
-use Rattle.cbor_strict.specs.inner.Frame as frames
-use Rattle.cbor_strict.specs.inner.Frame.{Frame, before, keys_onto, IsFrame, depth_beside, OfFront, OfKeyAt}
-use Rattle.cbor_strict.specs.inner.Judged.{IsJudged}
-use Rattle.cbor_strict.proofs.Composition.{array_bytes, map_bytes, IsMapSoFar}
-use Rattle.cbor_strict.proofs.Judged.{Never, zero_item, zeros, zeros_count, zeros_spelled, zeros_flat, zero_pairs, pairs_count, pairs_spelled, pairs_flat, judged_in, judged_key}
+use Rattle.cbor_judging.specs.Frame as frames
+use Rattle.cbor_judging.specs.Frame.{Frame, before, keys_onto, IsFrame, depth_beside, OfFront, OfKeyAt}
+use Rattle.cbor_judging.specs.Judged.{IsJudged}
+use Rattle.cbor_judging.specs.SoFar.{array_bytes, map_bytes, IsMapSoFar}
+use Rattle.cbor_judging.specs.Judged.{Never}
+use Rattle.cbor_judging.proofs.Judged.{zero_item, zeros, zeros_count, zeros_spelled, zeros_flat, zero_pairs, pairs_count, pairs_spelled, pairs_flat, judged_in, judged_key}
 use Rattle.cbor_walk.specs.Path.{Level, a_member, a_key, a_value, tagged, level_bytes, IsValueDue, IsClean, bytes_before, AreClean, HasEnded}
 
 -- ---- a level as a frame, in which zeros stand for what is still to come

@@ -7,12 +7,13 @@ use Rattle.cbor_head.specs.Spelling.{Spelling, Spellings, SpelledEntries, array,
 use Rattle.cbor_head.specs.declared.major.Major.TheVariants.{Array, Map, Tag}
 use Rattle.cbor_head.specs.declared.width.Width.{Width}
 use Rattle.cbor_head.specs.declared.width.Width.TheVariants.{Indefinite}
-use Rattle.cbor_strict.specs.inner.Frame.{with_all, with_entries, keys_onto}
-use Rattle.cbor_strict.proofs.Arrays.{closes}
-use Rattle.cbor_strict.proofs.Composition.{IsArraySoFar, IsMapSoFar, array_bytes, map_bytes, array_whole, map_whole}
-use Rattle.cbor_strict.proofs.Frames.{count_with, spelled_with, depth_with, entries_with, spelled_entries_with, depth_entries_with, members_split, entries_split}
-use Rattle.cbor_strict.proofs.Judged.{Never}
-use Rattle.cbor_strict.proofs.Loops.{array_bytes-more, array_bytes-whole, map_bytes-more, map_bytes-whole}
+use Rattle.cbor_judging.specs.Frame.{with_all, with_entries, keys_onto}
+use Rattle.cbor_judging.proofs.Arrays.{closes}
+use Rattle.cbor_judging.specs.SoFar.{IsArraySoFar, IsMapSoFar, array_bytes, map_bytes}
+use Rattle.cbor_judging.proofs.Composition.{array_whole, map_whole}
+use Rattle.cbor_judging.proofs.Frames.{count_with, spelled_with, depth_with, entries_with, spelled_entries_with, depth_entries_with, members_split, entries_split}
+use Rattle.cbor_judging.specs.Judged.{Never}
+use Rattle.cbor_judging.proofs.Loops.{array_bytes-more, array_bytes-whole, map_bytes-more, map_bytes-whole}
 use Rattle.cbor_walk.specs.Path.{Level, a_member, a_key, a_value, tagged, level_bytes, IsValueDue, IsClean, bytes_before, AreClean, HasEnded}
 
 -- ---- what came is one more

@@ -12,12 +12,12 @@ use Rattle.cbor_head.specs.declared.reason.Reason.TheVariants.{Truncated, TooLon
 use Rattle.cbor_head.specs.declared.reason.Refusal.{Refusal}
 use Rattle.cbor_head.proofs.Agree.{split_front}
 use Rattle.cbor_head.proofs.Beginnings.{item_decides}
-use Rattle.cbor_events.specs.Reasons.{IsFormReason}
-use Rattle.cbor_events.proofs.Beginnings.{shorter}
-use Rattle.cbor_strict.specs.Refusals.{IsComplaintReason}
-use Rattle.cbor_strict.proofs.Decisions.{complaint_decides, break_decides}
-use Rattle.cbor_strict.proofs.Reasons.{complaint-reason}
-use Rattle.cbor_strict.proofs.SpelledBytes.{longest_always}
+use Rattle.cbor_automaton.specs.Reasons.{IsFormReason}
+use Rattle.cbor_automaton.proofs.Beginnings.{shorter}
+use Rattle.cbor_judging.specs.Refusals.{IsComplaintReason}
+use Rattle.cbor_judging.proofs.Decisions.{complaint_decides, break_decides}
+use Rattle.cbor_judging.proofs.Reasons.{complaint-reason}
+use Rattle.cbor_judging.proofs.SpelledBytes.{longest_always}
 use Rattle.cbor_walk.specs.Path.{HasEnded}
 use Rattle.cbor_walk.specs.Stop.{HasComplaint, HasBadByte, EndsWithin, IsStopped}
 

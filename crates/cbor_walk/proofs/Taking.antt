@@ -12,12 +12,12 @@ use Rattle.cbor_head.specs.declared.major.Major.TheVariants.{Array, Map, Tag}
 use Rattle.cbor_head.specs.declared.order.KeyOrder.{KeyOrder}
 use Rattle.cbor_head.specs.declared.width.Width.{Width}
 use Rattle.cbor_head.specs.declared.width.Width.TheVariants.{Direct, One, Two, Four, Eight, Indefinite}
-use Rattle.cbor_item.specs.Front.{front_of}
-use Rattle.cbor_item.proofs.Normal.{Holds-shortest}
+use Rattle.cbor_canonical.specs.Front.{front_of}
+use Rattle.cbor_canonical.proofs.Normal.{Holds-shortest}
 use Rattle.cbor_strict.specs.inner.Quick.{IsLeaf}
-use Rattle.cbor_strict.proofs.Composition.{array_bytes, map_bytes}
-use Rattle.cbor_strict.proofs.Heads.{open_or}
-use Rattle.cbor_strict.proofs.Judged.{Never}
+use Rattle.cbor_judging.specs.SoFar.{array_bytes, map_bytes}
+use Rattle.cbor_judging.proofs.Heads.{open_or}
+use Rattle.cbor_judging.specs.Judged.{Never}
 use Rattle.cbor_walk.specs.Path as path
 use Rattle.cbor_walk.specs.Path.{a_member, a_key, tagged, level_bytes, bytes_before, AreClean}
 use Rattle.cbor_walk.specs.Cells.{a_level, last_key, HoldsKey, AreCells, StandsAt, HasEndedAt, standing, around}

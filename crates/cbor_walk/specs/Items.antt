@@ -8,7 +8,7 @@ use Rattle.cbor_head.specs.declared.reason.Reason.{Reason}
 use Rattle.cbor_head.specs.declared.reason.Reason.TheVariants.{Reserved, NoIndefinite, Float, StrayBreak, TooDeep}
 use Rattle.cbor_head.specs.declared.reason.Refusal.{Refusal}
 use Rattle.cbor_head.specs.Value.{AreBytes}
-use Rattle.cbor_events.specs.inner.Whole.{IsArgument}
+use Rattle.cbor_automaton.specs.inner.Whole.{IsArgument}
 use Rattle.cbor_strict.specs.inner.Quick.{IsLeaf}
 use Rattle.cbor_walk.specs.Path.{Level, bytes_before, AreClean}
 use Rattle.cbor_walk.specs.Stop.{IsStopped}

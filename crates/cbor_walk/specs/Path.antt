@@ -5,8 +5,8 @@ use Rattle.cbor_head.specs.Complaint.{Rules, Complaint, OfHead, OfKey, Complains
 use Rattle.cbor_head.specs.Spelling.{Spelling, Spellings, SpelledEntries, spell, spellings_count, entries_count, IsSpelled, depth}
 use Rattle.cbor_head.specs.declared.major.Major.TheVariants.{Tag}
 use Rattle.cbor_head.specs.declared.width.Width.{Width}
-use Rattle.cbor_strict.specs.inner.Frame.{keys_onto}
-use Rattle.cbor_strict.proofs.Composition.{IsArraySoFar, IsMapSoFar, array_bytes, map_bytes}
+use Rattle.cbor_judging.specs.Frame.{keys_onto}
+use Rattle.cbor_judging.specs.SoFar.{IsArraySoFar, IsMapSoFar, array_bytes, map_bytes}
 
 -- An open container: of an array its complete members, of a map its complete pairs, and the key whose value is due. So many
 -- members, or pairs, follow the one that is due; where there is no length, none is counted.

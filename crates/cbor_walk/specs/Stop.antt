@@ -5,7 +5,7 @@ use Rattle.cbor_head.specs.Complaint.{Rules, Complaint}
 use Rattle.cbor_head.specs.Verdict.{IsReasonAt, refusal}
 use Rattle.cbor_head.specs.declared.reason.Reason.TheVariants.{Truncated}
 use Rattle.cbor_head.specs.declared.reason.Refusal.{Refusal}
-use Rattle.cbor_strict.specs.inner.Judged.{IsJudged}
+use Rattle.cbor_judging.specs.Judged.{IsJudged}
 
 -- The item that they begin has this complaint first.
 pub record HasComplaint (r : Rules) (d : ℕ) (b : List ℕ) (f : Refusal) : Type 0 where

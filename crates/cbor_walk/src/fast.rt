@@ -7,7 +7,7 @@ ghost use Rattle.cbor_walk.specs.Items.{IsShortOpener};
 
 use crate::level::Due;
 use cbor_head::argument_bytes;
-use cbor_strict::is_ascii_front;
+use cbor_text::is_ascii_front;
 
 // Below this, as a number from its first byte on, the argument behind these low bits is not in its
 // shortest form.
