@@ -19,17 +19,7 @@ use Rattle.cbor_canonical.proofs.Orders.{key_cmp_total}
 use Rattle.cbor_canonical.specs.Front.{front_of}
 use Rattle.cbor_builder.specs.inner.Front.{key_of, IsFronted, AreFronted, by_front, rank, ranked_by}
 use Rattle.cbor_buffer.specs.declared.span.Span.{Span}
-use Rattle.cbor_canonical.proofs.KeyFronts.{bytes_slice, front_less}
-
-agree_front : (a b : ℕ) (xs ys : List ℕ) → AreBytes xs → AreBytes ys → a ≡ front_of xs → b ≡ front_of ys → by_front (a, xs) (b, ys) ≡ key_cmp Bytewise xs ys
-agree_front a b xs ys h g e f = go (nat_cmp a b) refl (ranked a b (nat_cmp a b) refl)
-  where
-    go : (r : Ordering) → nat_cmp a b ≡ r → MatchOrdering r (a < b) (a ≡ b) (b < a) → ordering_then (nat_cmp a b) (slice_cmp nat_cmp xs ys) ≡ slice_cmp nat_cmp xs ys
-    go Less c m = ap (λ (r : Ordering). ordering_then r (slice_cmp nat_cmp xs ys)) c ∙ sym (front_less 8 xs ys h g (omega (arith, m, e, f)))
-    go Equal c m = ap (λ (r : Ordering). ordering_then r (slice_cmp nat_cmp xs ys)) c
-    go Greater c m =
-        ap (λ (r : Ordering). ordering_then r (slice_cmp nat_cmp xs ys)) c
-        ∙ sym ((key_cmp_total Bytewise).antisymm xs ys ∙ ap ordering_reverse (front_less 8 ys xs g h (omega (arith, m, e, f))))
+use Rattle.cbor_canonical.proofs.KeyFronts.{bytes_slice, agree_front}
 
 -- with the right fronts, the ranks are the order of the keys
 pub agree : (o : KeyOrder) (a b : ℕ) (xs ys : List ℕ) → AreBytes xs → AreBytes ys → a ≡ front_of xs → b ≡ front_of ys → rank o (a, xs) (b, ys) ≡ key_cmp o xs ys

@@ -1,14 +1,17 @@
 -- The first eight bytes of a key as a number.
-use Rattle.std.proofs.Common.{◌≡◌, ℕ, zero, suc, ◌-◌, ◌*◌, ◌/◌, ◌^◌, ◌<◌, ◌≤◌, List, [], ◌∷◌, length, take, drop, get_or, w64, refl, ap, ◌∙◌, arith, inl, inr, lit<, pow-suc, mul-le-mul_left, mul-suc}
+use Rattle.std.proofs.Common.{◌≡◌, ℕ, zero, suc, ◌-◌, ◌*◌, ◌/◌, ◌^◌, ◌<◌, ◌≤◌, List, [], ◌∷◌, length, take, drop, get_or, w64, refl, sym, ap, ◌∙◌, arith, inl, inr, lit<, pow-suc, mul-le-mul_left, mul-suc}
 use Rattle.std.specs.Prelude.{slice_range, slice_index}
 use Rattle.std.specs.Int.{from_be_bytes}
 use Rattle.std.specs.declared.cmp.Ordering.{Ordering}
 use Rattle.std.specs.declared.cmp.Ordering.TheVariants.{Less, Equal, Greater}
-use Rattle.std.specs.Ordering.{nat_cmp, ordering_then, MatchOrdering}
+use Rattle.std.specs.Ordering.{nat_cmp, ordering_then, ordering_reverse, MatchOrdering}
 use Rattle.std.specs.Cmp.Lexicographic.{slice_cmp}
 use Rattle.std.proofs.lemmas.Bool.{cases_lt}
 use Rattle.std.proofs.lemmas.Cmp.{ranked}
+use Rattle.cbor_head.specs.Order.{key_cmp}
 use Rattle.cbor_head.specs.Value.{AreBytes}
+use Rattle.cbor_head.specs.declared.order.KeyOrder.TheVariants.{Bytewise}
+use Rattle.cbor_canonical.proofs.Orders.{key_cmp_total}
 use Rattle.cbor_canonical.specs.Front.{digits, front_of}
 
 -- ---- bytes
@@ -65,6 +68,17 @@ front_less (suc n) (x ∷ xs) (y ∷ ys) h g l = go (front_less n xs ys h.1 g.1)
         let more = mul-le-mul_left (256 ^ n) next in
         let d = mul-suc (256 ^ n) y in
         absurd (omega (arith, l, b, more, d))
+
+-- numbers that are the fronts of two keys, and these where the fronts are equal, are in the order of the keys
+pub agree_front : (a b : ℕ) (xs ys : List ℕ) → AreBytes xs → AreBytes ys → a ≡ front_of xs → b ≡ front_of ys → ordering_then (nat_cmp a b) (slice_cmp nat_cmp xs ys) ≡ key_cmp Bytewise xs ys
+agree_front a b xs ys h g e f = go (nat_cmp a b) refl (ranked a b (nat_cmp a b) refl)
+  where
+    go : (r : Ordering) → nat_cmp a b ≡ r → MatchOrdering r (a < b) (a ≡ b) (b < a) → ordering_then (nat_cmp a b) (slice_cmp nat_cmp xs ys) ≡ slice_cmp nat_cmp xs ys
+    go Less c m = ap (λ (r : Ordering). ordering_then r (slice_cmp nat_cmp xs ys)) c ∙ sym (front_less 8 xs ys h g (omega (arith, m, e, f)))
+    go Equal c m = ap (λ (r : Ordering). ordering_then r (slice_cmp nat_cmp xs ys)) c
+    go Greater c m =
+        ap (λ (r : Ordering). ordering_then r (slice_cmp nat_cmp xs ys)) c
+        ∙ sym ((key_cmp_total Bytewise).antisymm xs ys ∙ ap ordering_reverse (front_less 8 ys xs g h (omega (arith, m, e, f))))
 
 -- ---- the number itself
 

@@ -18,14 +18,7 @@ pub mod OpenEnds
 pub mod OpenHeads
 pub mod OpenItems
 pub mod OpenPieces
-pub mod QuickFronts
-pub mod QuickHeads
-pub mod QuickItems
-pub mod QuickLeaves
-pub mod QuickLevels
 pub mod SliceFronts
-pub mod SliceItems
-pub mod SliceSteps
 pub mod StrictLoop
 pub mod StrictReading
 pub mod StrictSteps

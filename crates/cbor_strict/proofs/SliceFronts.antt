@@ -17,24 +17,6 @@ use Rattle.cbor_judging.proofs.CanonicalFronts.{strict_accepts}
 use Rattle.cbor_judging.proofs.Tops.{item-read}
 use Rattle.cbor_strict.proofs.WholeInputs.{front-canonical}
 
-module _ (o : KeyOrder) (b : Bounds) (input part : List ℕ) (new : SliceEventsView) (bounds : AreBounds b) (within : part ≡ take b.bytes input) where
-  -- a verdict on what is there within the limit
-  of-all : (a : Answer) → IsVerdict b.depth b.bytes (strict o) part a → IsVerdict b.depth b.bytes (strict o) input a
-  of-all a v = verdict-within b.depth b.bytes (strict o) input a (subst (λ xs. IsVerdict b.depth b.bytes (strict o) xs a) within v)
-
-  pub slice-read : (count : ℕ) → IsOver o part b new → count ≡ new.machine.taken → IsRead b.depth b.bytes (strict o) input count
-  slice-read count k e =
-      let f = item-read (strict o) b part (Some part) (Some new.rest) refl (seen new) k.value k.reads in
-      record { item = f.read.item; verdict = of-all (accepted f.read.item) f.read.verdict; size = e ∙ k.reads.at.stands.stands.taken ∙ f.read.size }
-
-  pub slice-unread : (f : Refusal) → IsStopped o part b new f → IsVerdict b.depth b.bytes (strict o) input (refused f)
-  slice-unread f s = go (front-unread (strict o) b (Some part) (Some new.rest) f s.0).refused
-    where
-      go : IsUnread b.depth b.bytes (strict o) part f → IsVerdict b.depth b.bytes (strict o) input (refused f)
-      go (of_verdict v) = of-all (refused f) v
-      go (of_reader p l m is v) = absurd (s.1.no_read (ap (λ (x : Refusal). x.reason) is))
-      go (of_memory p l m is free) = absurd (s.1.no_memory (ap (λ (x : Refusal). x.reason) is, ap (λ (x : Refusal). x.place) is ∙ sym (ap (λ (x : Refusal). x.read) is)))
-
 pub read-front : (d n : ℕ) (o : KeyOrder) (input : List ℕ) (count : ℕ) → IsRead d n (strict o) input count → IsCanonicalFront d n o input count
 read-front d n o input count r = front-canonical d n o (Some input) (value_of r.item) count count (record { read = r; value = refl }) refl
 

@@ -15,13 +15,9 @@
 //! ```
 #![tactic(auto)]
 
-mod key_spans;
 mod last_keys;
 mod open_items;
-mod quick;
 mod rises;
-mod slice_front;
-mod slice_heads;
 mod strict_events;
 mod strict_front;
 mod strict_reader;

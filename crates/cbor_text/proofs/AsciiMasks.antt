@@ -1,8 +1,9 @@
 -- The low bits of a mask of bytes that are not ASCII.
-use Rattle.std.proofs.Common.{◌≡◌, ℕ, zero, suc, ◌+◌, ◌-◌, ◌*◌, ◌/◌, ◌%◌, ◌^◌, ◌<◌, ◌≤◌, Bool, true, false, cond, leb, List, [], ◌∷◌, map, length, take, get_or, replicate, eqb, eqb-true, refl, sym, ap, ◌∙◌, arith, leb-false, mul_assoc, mul-div_cancel, pow-suc}
+use Rattle.std.proofs.Common.{◌≡◌, ℕ, zero, suc, ◌+◌, ◌-◌, ◌*◌, ◌/◌, ◌%◌, ◌^◌, ◌<◌, ◌≤◌, Bool, true, false, cond, leb, List, [], ◌∷◌, map, length, take, get_or, replicate, eqb, eqb-true, refl, sym, ap, ◌∙◌, subst, arith, leb-false, mul_assoc, mul-div_cancel, pow-suc}
 use Rattle.std.proofs.lemmas.Bool.{leb-true}
 use Rattle.std.proofs.lemmas.Nat.{pow-add}
-use Rattle.std.proofs.lemmas.List.{length-map}
+use Rattle.std.proofs.lemmas.List.{length-map, take-take}
+use Rattle.std.specs.Str.{IsAscii}
 use Rattle.std.proofs.lemmas.Simd.{mask_l-mod, length-zip2}
 use lib.Lanes.{zip2, mask_l, top}
 
@@ -100,3 +101,10 @@ ascii-mask xs count long small h =
     let whole : mask_l ms ≡ q.0 * 2 ^ (count + 1) = ap (λ n. mask_l (map (top 7) (zip2 at_least (replicate n 128) xs))) (sym long) ∙ q.1 in
     let zeros : mask_l ms % 2 ^ 64 * 2 ^ (63 - count) % 2 ^ 64 ≡ 0 = ap (λ m. m * 2 ^ (63 - count) % 2 ^ 64) (mask_l-mod ms 64 size) ∙ shifted-out (mask_l ms) q.0 (63 - count) (count + 1) (omega (arith, small)) whole in
     ap (λ m. eqb m 0) zeros
+
+-- ---- a chunk and what it is of
+
+-- the same of what the mask was made of
+pub short_ascii : (front chunk : List ℕ) (count last : ℕ) → last + 1 ≡ count → count ≤ 32 → chunk ≡ take 32 front → IsAscii (take (last + 1) chunk) → IsAscii (take count front)
+short_ascii front chunk count last one small is h =
+    subst IsAscii (ap (take (last + 1)) is ∙ take-take (last + 1) 32 front (omega (arith, one, small)) ∙ ap (λ k. take k front) one) h

@@ -21,14 +21,14 @@ use Rattle.cbor_automaton.specs.inner.Whole.{IsArgument}
 use Rattle.cbor_automaton.proofs.FirstByte.{Split, split}
 use Rattle.cbor_automaton.proofs.Taking.{IsNumbered}
 use Rattle.cbor_judging.specs.Judged.{IsJudged}
-use Rattle.cbor_strict.specs.inner.Quick.{IsShortest, IsLeaf}
+use Rattle.cbor_walk.specs.Leaves.{IsShortest, IsLeaf}
 use Rattle.cbor_judging.proofs.ByteLists.{bytes_back}
 use Rattle.cbor_judging.proofs.Heads.{takes}
 use Rattle.cbor_judging.specs.Judged.{Never}
 use Rattle.cbor_judging.proofs.Judged.{judged_start}
 use Rattle.cbor_judging.proofs.Leaves.{text_complains}
-use Rattle.cbor_strict.proofs.QuickLevels.{rest-is}
-use Rattle.cbor_strict.proofs.QuickLeaves.{leaf-number, leaf-value, leaf-empty, leaf-bytes, leaf-text}
+use Rattle.cbor_walk.proofs.ShortHeads.{rest-is}
+use Rattle.cbor_walk.proofs.ShortLeaves.{leaf-number, leaf-value, leaf-empty, leaf-bytes, leaf-text}
 use Rattle.cbor_walk.specs.Path.{Level, a_member, a_key, a_value, tagged, bytes_before, AreClean}
 use Rattle.cbor_walk.specs.Items.{IsMisplaced, IsPlaced, IsOpener, OpensHere, IsRefusedHere}
 use Rattle.cbor_walk.specs.Stop.{HasBadByte, EndsWithin}

@@ -9,11 +9,11 @@ use Rattle.cbor_head.specs.Value.{AreBytes}
 use Rattle.cbor_head.specs.Order.{key_lt}
 use Rattle.cbor_head.specs.declared.order.KeyOrder.TheVariants.{Bytewise}
 use Rattle.cbor_canonical.specs.Front.{front_of}
-use Rattle.cbor_builder.proofs.Ranks.{agree}
+use Rattle.cbor_canonical.proofs.KeyFronts.{agree_front}
 
 front_decides : (a b : ℕ) (r : Ordering) → (a ≡ b → ⊥) → nat_lt a b ≡ is_lt (ordering_then (nat_cmp a b) r)
 front_decides a b r apart = grind (arith, nat_tests)
 
 -- where they differ, they decide
 pub by_front : (a b : ℕ) (xs ys : List ℕ) → AreBytes xs → AreBytes ys → a ≡ front_of xs → b ≡ front_of ys → (a ≡ b → ⊥) → nat_lt a b ≡ key_lt Bytewise xs ys
-by_front a b xs ys h g e f apart = front_decides a b _ apart ∙ ap is_lt (agree Bytewise a b xs ys h g e f)
+by_front a b xs ys h g e f apart = front_decides a b _ apart ∙ ap is_lt (agree_front a b xs ys h g e f)

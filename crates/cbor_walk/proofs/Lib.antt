@@ -10,4 +10,6 @@ pub mod PathLevels
 pub mod PathSteps
 pub mod PathStops
 pub mod PathVerdict
+pub mod ShortHeads
+pub mod ShortLeaves
 pub mod Taking

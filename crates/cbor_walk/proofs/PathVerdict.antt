@@ -19,7 +19,7 @@ use Rattle.cbor_judging.proofs.Decisions.{complaint_decides, break_decides}
 use Rattle.cbor_judging.proofs.Reasons.{complaint-reason}
 use Rattle.cbor_judging.proofs.SpelledBytes.{longest_always}
 use Rattle.cbor_walk.specs.Path.{HasEnded}
-use Rattle.cbor_walk.specs.Stop.{HasComplaint, HasBadByte, EndsWithin, IsStopped}
+use Rattle.cbor_walk.specs.Stop.{HasComplaint, HasBadByte, EndsWithin, IsStopped, IsAnswered}
 
 -- ---- reasons
 
@@ -71,11 +71,6 @@ abbrev whole_longest : (d : ℕ) (b : List ℕ) → IsBeginning d b → IsLonges
 whole_longest d b i = record { beginning = i; rest = []; splits = sym (append-nil b); longest = λ x y h e. omega (arith, ap length e, length-append x y) }
 
 -- ---- the verdict, of an input within n bytes
-
--- the end of the input is that of the limit, if it comes there
-pub record IsAnswered (n : ℕ) (b : List ℕ) (f g : Refusal) : Type 0 where
-  pub too_long : f.reason ≡ Truncated → length b ≡ n → g ≡ refusal TooLong n n
-  pub same : (f.reason ≡ Truncated → length b ≢ n) → g ≡ f
 
 module _ (r : Rules) (d n : ℕ) (input : List ℕ) where
   pub complaint_stops : (f : Refusal) → HasComplaint r d (take n input) f → IsVerdict d n r input (refused f)

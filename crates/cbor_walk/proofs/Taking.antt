@@ -14,7 +14,7 @@ use Rattle.cbor_head.specs.declared.width.Width.{Width}
 use Rattle.cbor_head.specs.declared.width.Width.TheVariants.{Direct, One, Two, Four, Eight, Indefinite}
 use Rattle.cbor_canonical.specs.Front.{front_of}
 use Rattle.cbor_canonical.proofs.Normal.{Holds-shortest}
-use Rattle.cbor_strict.specs.inner.Quick.{IsLeaf}
+use Rattle.cbor_walk.specs.Leaves.{IsLeaf}
 use Rattle.cbor_judging.specs.SoFar.{array_bytes, map_bytes}
 use Rattle.cbor_judging.proofs.Heads.{open_or}
 use Rattle.cbor_judging.specs.Judged.{Never}

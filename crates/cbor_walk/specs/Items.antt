@@ -9,7 +9,7 @@ use Rattle.cbor_head.specs.declared.reason.Reason.TheVariants.{Reserved, NoIndef
 use Rattle.cbor_head.specs.declared.reason.Refusal.{Refusal}
 use Rattle.cbor_head.specs.Value.{AreBytes}
 use Rattle.cbor_automaton.specs.inner.Whole.{IsArgument}
-use Rattle.cbor_strict.specs.inner.Quick.{IsLeaf}
+use Rattle.cbor_walk.specs.Leaves.{IsLeaf}
 use Rattle.cbor_walk.specs.Path.{Level, bytes_before, AreClean}
 use Rattle.cbor_walk.specs.Stop.{IsStopped}
 use Rattle.cbor_walk.specs.declared.any_item.Any.{Any}

@@ -1,9 +1,9 @@
 -- Why a walk over an item goes no further: what the bytes, all that there are of an input within its limit, have against it.
-use Rattle.std.specs.Prelude.{◌≡◌, ℕ, ◌+◌, ◌++◌, ◌⊎◌, List, ◌∷◌, length, Some, None}
+use Rattle.std.specs.Prelude.{◌≡◌, ◌≢◌, ℕ, ◌+◌, ◌++◌, ◌⊎◌, List, ◌∷◌, length, Some, None}
 use Rattle.cbor_head.specs.Beginning.{MayFollow}
 use Rattle.cbor_head.specs.Complaint.{Rules, Complaint}
 use Rattle.cbor_head.specs.Verdict.{IsReasonAt, refusal}
-use Rattle.cbor_head.specs.declared.reason.Reason.TheVariants.{Truncated}
+use Rattle.cbor_head.specs.declared.reason.Reason.TheVariants.{Truncated, TooLong}
 use Rattle.cbor_head.specs.declared.reason.Refusal.{Refusal}
 use Rattle.cbor_judging.specs.Judged.{IsJudged}
 
@@ -34,3 +34,8 @@ pub record EndsWithin (r : Rules) (d : ℕ) (b : List ℕ) (f : Refusal) : Type 
 
 abbrev pub IsStopped : Rules → ℕ → List ℕ → Refusal → Type 0
 IsStopped r d b f = HasComplaint r d b f ⊎ HasBadByte r d b f ⊎ EndsWithin r d b f
+
+-- the end of the input is that of the limit, if it comes there
+pub record IsAnswered (n : ℕ) (b : List ℕ) (f g : Refusal) : Type 0 where
+  pub too_long : f.reason ≡ Truncated → length b ≡ n → g ≡ refusal TooLong n n
+  pub same : (f.reason ≡ Truncated → length b ≢ n) → g ≡ f

@@ -1,7 +1,6 @@
 //! What stands where an item is due, if it is no short item: slower, and exactly.
 
-ghost use Rattle.std.specs.Prelude.{◌≡◌, ◌≤◌, ◌<◌, ◌+◌, ◌-◌, ◌^◌, ◌∷◌, ℕ, List, length, MatchOption, MatchResult, IfErr, IsUtf8};
-ghost use Rattle.std.specs.Str.Lossy.{utf8_valid_len};
+ghost use Rattle.std.specs.Prelude.{◌≡◌, ◌≤◌, ◌<◌, ◌+◌, ◌-◌, ◌^◌, ◌∷◌, ℕ, List, length, MatchOption};
 ghost use Rattle.cbor_head.specs.Verdict.{refusal};
 ghost use Rattle.cbor_walk.specs.declared.any_item.Any.TheVariants as any;
 ghost use Rattle.cbor_walk.specs.Items.{IsPlaced, IsMisplaced, IsAny, IsStringHead};
@@ -9,6 +8,7 @@ ghost use Rattle.cbor_walk.specs.Items.{IsPlaced, IsMisplaced, IsAny, IsStringHe
 use crate::argument::{Argument, is_shortest, read_argument};
 use crate::level::Due;
 use cbor_head::{Reason, Refusal};
+use cbor_text::check_text;
 
 /// What stands where an item is due.
 #[derive(Clone, Copy)]
@@ -123,17 +123,4 @@ fn any_string(rest: &[u8], head: Argument<'_>, at: usize, room: bool) -> Any
         }
     }
     Any::Leaf(end)
-}
-
-// Whether the bytes are UTF-8, or the length of their longest front that is.
-fn check_text(bytes: &[u8]) -> Result<(), usize>
-    ensures checked { MatchResult result
-        (λ _. IsUtf8 bytes.now)
-        (λ valid. ¬ (IsUtf8 bytes.now) × (valid ≡ utf8_valid_len bytes.now)) }
-    ensures within { IfErr result (λ valid. valid ≤ length bytes.now) }
-{
-    match simdutf8::compat::from_utf8(bytes) {
-        Ok(_) => Ok(()),
-        Err(error) => Err(error.valid_up_to()),
-    }
 }

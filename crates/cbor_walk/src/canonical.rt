@@ -1,27 +1,65 @@
 //! The canonical item at the front of a slice.
 
-ghost use Rattle.std.specs.Prelude.{◌≡◌, ◌≤◌, IfOk, IfErr, length, take};
+ghost use Rattle.std.specs.Prelude.{◌≡◌, ◌≤◌, IfOk, IfErr, MatchResult, length, take};
 ghost use Rattle.cbor_head.specs.Complaint.{strict};
+ghost use Rattle.cbor_head.specs.Verdict.{IsVerdict, refused};
+ghost use Rattle.cbor_judging.specs.Readers.{IsRead};
 ghost use Rattle.cbor_walk.specs.Cells.{IsWhole};
-ghost use Rattle.cbor_walk.specs.Stop.{IsStopped};
+ghost use Rattle.cbor_walk.specs.Stop.{IsStopped, IsAnswered};
 ghost use Rattle.cbor_walk.specs.Walked.{IsFull};
 
 use crate::level::{Due, Level};
 use crate::stack::Stack;
 use crate::walk::{Walked, walk};
-use cbor_head::{KeyOrder, MAX_DEPTH, Refusal};
+use cbor_head::{KeyOrder, Limits, MAX_DEPTH, Reason, Refusal};
 
 // Most items are no deeper than this.
 const FEW: usize = 16;
 
 const MOST: usize = MAX_DEPTH as usize;
 
-/// How many bytes the item has that the input begins with, where they are its canonical bytes in
-/// this order and it is no deeper than this; else the refusal, in which the end of the input is
-/// `Truncated` (RFC 8949, sections 4.2.1 and 4.2.3).
+/// How many bytes the item has that the slice begins with, where they are its canonical bytes in
+/// this order (RFC 8949, sections 4.2.1 and 4.2.3); else the refusal that the bytes within the
+/// limits call for, by the rules of the deterministic encoding.
 ///
 /// It goes over the bytes once, without recursion, and takes no memory.
-pub fn canonical_front(input: &[u8], depth: usize, order: KeyOrder) -> Result<usize, Refusal>
+pub fn canonical_front(bytes: &[u8], limits: Limits, order: KeyOrder) -> Result<u64, Refusal>
+    ensures { MatchResult result
+        (λ count. IsRead limits.depth limits.bytes (strict order) bytes.now count)
+        (λ f. IsVerdict limits.depth limits.bytes (strict order) bytes.now (refused f)) }
+{
+    let input = within(bytes, limits.bytes());
+    match whole_front(input, usize::from(limits.depth()), order) {
+        Ok(count) => Ok(count as u64),
+        Err(refusal) => Err(at_the_limit(refusal, input, limits.bytes())),
+    }
+}
+
+// The bytes within a limit.
+fn within(bytes: &[u8], limit: u64) -> &[u8]
+    ensures { result.now ≡ take limit bytes.now }
+{
+    if limit < bytes.len() as u64 {
+        &bytes[..limit as usize]
+    } else {
+        bytes
+    }
+}
+
+// Where the input ends by the limit within an item, it is too long.
+fn at_the_limit(refusal: Refusal, input: &[u8], limit: u64) -> Refusal
+    ensures { IsAnswered limit input.now refusal result }
+{
+    if let Reason::Truncated = refusal.reason {
+        if input.len() as u64 == limit {
+            return Refusal::at(Reason::TooLong, limit);
+        }
+    }
+    refusal
+}
+
+// The same of all of an input, at whose end an item is `Truncated`.
+fn whole_front(input: &[u8], depth: usize, order: KeyOrder) -> Result<usize, Refusal>
     requires { depth ≤ 256 }
     ensures whole { IfOk result (IsWhole order depth input.now) }
     ensures refused { IfErr result (IsStopped (strict order) depth input.now) }

@@ -2,7 +2,7 @@
 //! said.
 
 ghost use Rattle.std.specs.Prelude.{◌≡◌, ◌<◌, ◌≤◌, ◌*◌, ◌^◌, ◌∷◌, ◌⊎◌, ℕ, List, length, IfSome, true, false};
-ghost use Rattle.cbor_strict.specs.inner.Quick.{IsShortestHead, IsLeaf};
+ghost use Rattle.cbor_walk.specs.Leaves.{IsShortestHead, IsLeaf};
 ghost use Rattle.cbor_walk.specs.Items.{IsShortOpener};
 
 use crate::level::Due;

@@ -3,8 +3,4 @@ use Rattle.cbor_text.proofs.AsciiMasks.{short_ascii}
 use Rattle.cbor_text.proofs.ascii.is_short_ascii.Goals as goal
 
 pub returns-in-Some : goal.returns-in-Some
-returns-in-Some c = λ e.
-    let front = c.args.front.now in
-    let last = c.args.count - 1 in
-    let one : last + 1 ≡ c.args.count = omega arith in
-    subst IsAscii (ap (take (last + 1)) c.in-Some.ensures.cases.same ∙ take-take (last + 1) 32 front (omega arith) ∙ ap (λ k. take k front) one) (c.is_ascii_front.ensures.0 e)
+returns-in-Some c = λ e. short_ascii c.args.front.now c.in-Some.chunk.now c.args.count (c.args.count - 1) (omega arith) (omega arith) c.in-Some.ensures.cases.same (c.is_ascii_front.ensures.0 e)

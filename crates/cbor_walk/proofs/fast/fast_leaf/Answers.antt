@@ -1,7 +1,7 @@
 use Rattle.std.proofs.Common.{◌≡◌, ◌⊎◌, ◌<◌, ◌≤◌, ◌+◌, ◌-◌, ◌%◌, ◌∷◌, ℕ, suc, false, List, length, take, drop, get_or, sym, ap, ◌∙◌, subst, inl, inr, arith}
 use Rattle.std.proofs.lemmas.List.{take-take, take_rest}
-use Rattle.cbor_strict.specs.inner.Quick.{IsShortestHead, IsLeaf}
-use Rattle.cbor_strict.proofs.QuickLeaves.{one-byte, leaf-ascii, leaf-integer, leaf-simple}
+use Rattle.cbor_walk.specs.Leaves.{IsShortestHead, IsLeaf}
+use Rattle.cbor_walk.proofs.ShortLeaves.{one-byte, leaf-ascii, leaf-integer, leaf-simple}
 use Rattle.cbor_walk.proofs.fast.fast_leaf.Goals as goal
 
 pub returns-then-is_short_integer-clause-leaf : goal.returns-then-is_short_integer-clause-leaf

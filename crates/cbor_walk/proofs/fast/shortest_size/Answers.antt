@@ -1,7 +1,7 @@
 use Rattle.std.proofs.Common.{◌+◌, ◌≤◌, w64, sym, subst, arith}
 use Rattle.std.specs.Int.{from_be_bytes}
-use Rattle.cbor_strict.specs.inner.Quick.{IsShortestHead}
-use Rattle.cbor_strict.proofs.QuickHeads.{IsLeast, IsSize, shortest-head}
+use Rattle.cbor_walk.specs.Leaves.{IsShortestHead}
+use Rattle.cbor_walk.proofs.ShortHeads.{IsLeast, IsSize, shortest-head}
 use Rattle.cbor_walk.proofs.fast.shortest_size.Goals as goal
 
 pub returns-else-from_be_bytes-least : goal.returns-else-from_be_bytes-least

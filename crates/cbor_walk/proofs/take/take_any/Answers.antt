@@ -2,7 +2,7 @@ use Rattle.std.proofs.Common.{◌≡◌, ◌+◌, ◌<◌, ◌≤◌, ℕ, true,
 use Rattle.std.proofs.lemmas.Bool.{ltb-true, ltb-false}
 use Rattle.cbor_head.specs.Complaint.{strict}
 use Rattle.cbor_head.specs.Value.{AreBytes}
-use Rattle.cbor_strict.specs.inner.Quick.{IsLeaf}
+use Rattle.cbor_walk.specs.Leaves.{IsLeaf}
 use Rattle.cbor_walk.specs.Path.{bytes_before}
 use Rattle.cbor_walk.specs.Cells.{standing, StandsAt}
 use Rattle.cbor_walk.specs.Items.{IsOpener}

@@ -1,5 +1,5 @@
 use Rattle.std.proofs.Common.{◌≡◌, ◌+◌, ◌<◌, ◌≤◌, ℕ, false, true, true≢false, List, ◌∷◌, length, drop, refl, sym, ap, ◌∙◌, subst, arith}
-use Rattle.cbor_strict.specs.inner.Quick.{IsLeaf}
+use Rattle.cbor_walk.specs.Leaves.{IsLeaf}
 use Rattle.cbor_walk.specs.Cells.{standing, StandsAt}
 use Rattle.cbor_walk.specs.Items.{IsOpener}
 use Rattle.cbor_walk.specs.declared.level.Level.{Level}

@@ -1,0 +1,147 @@
+-- Items without members, from their first byte.
+use Rattle.std.proofs.Common.{◌≡◌, ℕ, zero, suc, ◌+◌, ◌-◌, ◌%◌, ◌<◌, ◌≤◌, ◌⊎◌, Bool, true, false, List, [], ◌∷◌, ◌++◌, length, take, drop, get_or, refl, sym, ap, ◌∙◌, subst, inl, inr, arith}
+use Rattle.std.specs.Prelude.{IsUtf8}
+use Rattle.std.specs.Str.{IsAscii}
+use Rattle.std.proofs.lemmas.Str.{IsUtf8-from_ascii}
+use Rattle.std.proofs.lemmas.Bool.{cases_lt}
+use Rattle.std.proofs.lemmas.List.{length-take-le, take-append-drop, drop-drop}
+use Rattle.cbor_head.specs.Value.{AreBytes}
+use Rattle.cbor_head.specs.declared.order.KeyOrder.{KeyOrder}
+use mir.Val.{bool_byte}
+use Rattle.cbor_head.specs.Head.{Holds, shortest, with_argument}
+use Rattle.cbor_head.specs.declared.width.Width.{Width}
+use Rattle.cbor_head.specs.declared.width.Width.TheVariants.{Direct, One, Two, Four, Eight, Indefinite}
+use Rattle.cbor_canonical.proofs.KeyFronts.{are_bytes, bytes_drop}
+use Rattle.cbor_canonical.proofs.Normal.{Holds-shortest}
+use Rattle.cbor_walk.specs.Leaves.{IsItemThen, IsShortest, IsShortestHead, IsLeaf}
+use Rattle.cbor_walk.proofs.ShortHeads.{ByPlace, direct, an-unsigned, a-negative, a-simple, some-bytes, a-text, no-array, no-map}
+use Rattle.cbor_walk.proofs.ShortHeads.{rest-is}
+
+take-bytes : (n : ℕ) (xs : List ℕ) → AreBytes xs → AreBytes (take n xs)
+take-bytes zero xs h = tt
+take-bytes (suc n) [] h = tt
+take-bytes (suc n) (x ∷ xs) h = (h.0, take-bytes n xs h.1)
+
+-- the argument of a head of at most two bytes
+small-argument : (w : Width) (low n : ℕ) (behind rest : List ℕ) → Holds w n → (0 + low) ∷ behind ≡ with_argument w 0 n ++ rest → low ≤ 24 → (n < 256) × (low < 24 → n ≡ low)
+small-argument Direct low n behind rest h e l = let f : 0 + low ≡ 0 + n = ap (λ (xs : List ℕ). get_or xs 0 0) e in (omega (arith, h), λ k. omega (arith, f))
+small-argument One low n behind rest h e l = let f : 0 + low ≡ 0 + 24 = ap (λ (xs : List ℕ). get_or xs 0 0) e in (omega (arith, h), λ k. absurd (omega (arith, f, k)))
+small-argument Two low n behind rest h e l = let f : 0 + low ≡ 0 + 25 = ap (λ (xs : List ℕ). get_or xs 0 0) e in absurd (omega (arith, f, l))
+small-argument Four low n behind rest h e l = let f : 0 + low ≡ 0 + 26 = ap (λ (xs : List ℕ). get_or xs 0 0) e in absurd (omega (arith, f, l))
+small-argument Eight low n behind rest h e l = let f : 0 + low ≡ 0 + 27 = ap (λ (xs : List ℕ). get_or xs 0 0) e in absurd (omega (arith, f, l))
+small-argument Indefinite low n behind rest h e l = absurd h
+
+-- a size that is 1 where there is room
+pub empty-size : (room : Bool) (k : ℕ) → k ≡ bool_byte room → 0 < k → (k ≡ 1) × (room ≡ true)
+empty-size true k e l = (e, refl)
+empty-size false k e l = absurd (omega (arith, e, l))
+
+-- an integer of either type
+module _ (o : KeyOrder) (d first : ℕ) (behind rest : List ℕ) (n : ℕ) where
+  pub an-integer : first < 64 → IsShortest (first % 32) behind n rest → IsItemThen o d (first ∷ behind) rest
+  an-integer l s = elim (cases_lt first 32) [
+    | inl p ↦ let e : first % 32 ≡ first = omega (arith, p) in subst (λ c. IsItemThen o d (c ∷ behind) rest) e (an-unsigned o d (first % 32) behind rest n s)
+    | inr p ↦ let e : 32 + first % 32 ≡ first = omega (arith, p, l) in subst (λ c. IsItemThen o d (c ∷ behind) rest) e (a-negative o d (first % 32) behind rest n s)
+  ]
+
+-- in one byte
+pub one-byte : (o : KeyOrder) (d first : ℕ) (behind : List ℕ) → (first < 24) ⊎ ((32 ≤ first) × (first < 56)) → IsItemThen o d (first ∷ behind) behind
+one-byte o d first behind (inl h) = an-integer o d first behind behind (first % 32) (omega arith) (direct (first % 32) behind (omega arith))
+one-byte o d first behind (inr h) = an-integer o d first behind behind (first % 32) (omega (arith, h.1)) (direct (first % 32) behind (omega (arith, h.0, h.1)))
+
+module _ (room : Bool) (first : ℕ) (behind : List ℕ) where
+  pub leaf-integer : (size : ℕ) → first < 64 → IsShortestHead (first % 32) behind size → IsLeaf room (first ∷ behind) size
+  leaf-integer size l h =
+      let some = h.some in
+      let inside = h.inside in
+      let e : size ≡ suc (size - 1) = omega (arith, some) in
+      record {
+        inside = omega (arith, some, inside);
+        item = λ o d r. subst (λ k. IsItemThen o d (first ∷ behind) (drop k (first ∷ behind))) (sym e) (an-integer o d first behind (drop (size - 1) behind) h.number l h.shortest);
+      }
+
+  pub leaf-simple : 224 ≤ first → first < 248 → IsLeaf room (first ∷ behind) 1
+  leaf-simple l h = record {
+    inside = omega arith;
+    item = λ o d r. let e : 224 + first % 32 ≡ first = omega (arith, l, h) in subst (λ c. IsItemThen o d (c ∷ behind) behind) e
+        (a-simple o d (first % 32) behind behind (first % 32) (direct (first % 32) behind (omega (arith, l, h))) (omega arith, λ k. absurd (omega (arith, l, h, k))));
+  }
+
+  pub leaf-ascii : (count : ℕ) (chunk : List ℕ) → first ≡ 96 + count → count < 24 → count ≤ length behind → ByPlace behind → take (count + 1) chunk ≡ take (count + 1) (first ∷ behind) → IsAscii (take (count + 1) chunk)
+      → IsLeaf room (first ∷ behind) (1 + count)
+  leaf-ascii count chunk is small l h same ascii =
+      let p = take count behind in
+      let one : count + 1 ≡ suc count = omega arith in
+      let two : 1 + count ≡ suc count = omega arith in
+      let whole : IsAscii (first ∷ p) = subst IsAscii (same ∙ ap (λ k. take k (first ∷ behind)) one) ascii in
+      let text : IsUtf8 p = IsUtf8-from_ascii p (λ i. whole (suc i)) in
+      let s : IsShortest count behind count (p ++ drop count behind) = subst (IsShortest count behind count) (sym (take-append-drop count behind)) (direct count behind small) in
+      let size : length p ≡ count = length-take-le count behind l in
+      record {
+        inside = omega (arith, l);
+        item = λ o d r. subst (λ k. IsItemThen o d (first ∷ behind) (drop k (first ∷ behind))) (sym two)
+            (subst (λ c. IsItemThen o d (c ∷ behind) (drop count behind)) (sym is) (a-text o d count behind p (drop count behind) count s (sym size) (take-bytes count behind (are_bytes behind h)) text));
+      }
+
+  pub leaf-empty : (size : ℕ) → (first ≡ 128) ⊎ (first ≡ 160) → size ≡ 1 → room ≡ true → IsLeaf room (first ∷ behind) size
+  leaf-empty size which e there_is = record {
+    inside = omega (arith, e);
+    item = λ o d r. subst (λ k. IsItemThen o d (first ∷ behind) (drop k (first ∷ behind))) (sym e) (elim which [
+      | inl is ↦ subst (λ c. IsItemThen o d (c ∷ behind) behind) (sym is) (no-array o d behind (r there_is))
+      | inr is ↦ subst (λ c. IsItemThen o d (c ∷ behind) behind) (sym is) (no-map o d behind (r there_is))
+    ]);
+  }
+
+  -- behind a head in its shortest form
+  module _ (n : ℕ) (rest : List ℕ) (s : IsShortest (first % 32) behind n rest) (fewer : length rest ≤ length behind) where
+    here : drop (1 + (length behind - length rest)) (first ∷ behind) ≡ rest
+    here = let e : first ≡ (first - first % 32) + first % 32 = omega arith in rest-is first behind _ rest (ap (λ c. c ∷ behind) e ∙ s.spelled (first - first % 32)) fewer
+
+    pub leaf-number : first < 64 → IsLeaf room (first ∷ behind) (1 + (length behind - length rest))
+    leaf-number l = record { inside = omega (arith, fewer); item = λ o d r. subst (IsItemThen o d (first ∷ behind)) (sym here) (an-integer o d first behind rest n l s) }
+
+    pub leaf-value : 224 ≤ first → first < 256 → first % 32 ≤ 24 → (first % 32 ≡ 24 → 32 ≤ n) → IsLeaf room (first ∷ behind) (1 + (length behind - length rest))
+    leaf-value l h low wide =
+        let small = small-argument (shortest n) (first % 32) n behind rest (Holds-shortest n s.range) (s.spelled 0) low in
+        let made : 224 + first % 32 ≡ first = omega (arith, l, h) in
+        record {
+          inside = omega (arith, fewer);
+          item = λ o d r. subst (IsItemThen o d (first ∷ behind)) (sym here)
+              (subst (λ c. IsItemThen o d (c ∷ behind) rest) made
+              (a-simple o d (first % 32) behind rest n s (small.0, λ k. elim (cases_lt (first % 32) 24) [ inl q ↦ absurd (omega (arith, small.1 q, q, k)) | inr q ↦ wide (omega (arith, low, q)) ])));
+        }
+
+    module _ (p : List ℕ) (is : p ≡ take n rest) (inside : n ≤ length rest) (all : AreBytes (first ∷ behind)) where
+      size : n ≡ length p
+      size = sym (ap length is ∙ length-take-le n rest inside)
+
+      split : p ++ drop n rest ≡ rest
+      split = ap (λ (x : List ℕ). x ++ drop n rest) is ∙ take-append-drop n rest
+
+      there : drop (1 + (length behind - length rest) + length p) (first ∷ behind) ≡ drop n rest
+      there =
+          let e : 1 + (length behind - length rest) + length p ≡ (1 + (length behind - length rest)) + n = omega (arith, size) in
+          ap (λ k. drop k (first ∷ behind)) e ∙ sym (drop-drop n (1 + (length behind - length rest)) (first ∷ behind)) ∙ ap (drop n) here
+
+      bytes-first : 64 ≤ first → first < 96 → 64 + first % 32 ≡ first
+      bytes-first l h = omega (arith, l, h)
+
+      text-first : 96 ≤ first → first < 128 → 96 + first % 32 ≡ first
+      text-first l h = omega (arith, l, h)
+
+      bytes : AreBytes p
+      bytes = subst AreBytes (sym is) (take-bytes n rest (subst AreBytes here (bytes_drop (1 + (length behind - length rest)) (first ∷ behind) all)))
+
+      pub leaf-bytes : 64 ≤ first → first < 96 → IsLeaf room (first ∷ behind) (1 + (length behind - length rest) + length p)
+      leaf-bytes l h = record {
+        inside = omega (arith, fewer, inside, size);
+        item = λ o d r. subst (IsItemThen o d (first ∷ behind)) (sym there)
+            (subst (λ c. IsItemThen o d (c ∷ behind) (drop n rest)) (bytes-first l h) (some-bytes o d (first % 32) behind p (drop n rest) n (subst (IsShortest (first % 32) behind n) (sym split) s) size bytes));
+      }
+
+      pub leaf-text : 96 ≤ first → first < 128 → IsUtf8 p → IsLeaf room (first ∷ behind) (1 + (length behind - length rest) + length p)
+      leaf-text l h u = record {
+        inside = omega (arith, fewer, inside, size);
+        item = λ o d r. subst (IsItemThen o d (first ∷ behind)) (sym there)
+            (subst (λ c. IsItemThen o d (c ∷ behind) (drop n rest)) (text-first l h) (a-text o d (first % 32) behind p (drop n rest) n (subst (IsShortest (first % 32) behind n) (sym split) s) size bytes u));
+      }
