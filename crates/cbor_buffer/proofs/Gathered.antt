@@ -8,8 +8,6 @@ use Rattle.cbor_buffer.specs.inner.Spans.{span_pair, IsWithin, AreWithin}
 use Rattle.cbor_buffer.specs.declared.span.Span.{Span}
 use Rattle.cbor_buffer.proofs.Slices.{get_same, slices_join}
 
--- ---- pairs put one behind the other
-
 pub within_at : (out : List ℕ) (ks : List Span) (i : ℕ) (d : Span) → AreWithin out ks → i < length ks → IsWithin out (get_or ks i d)
 within_at out [] i d h l = absurd (omega (arith, l))
 within_at out (k ∷ ks) zero d h l = h.0

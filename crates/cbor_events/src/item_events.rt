@@ -18,7 +18,7 @@ ghost use Rattle.cbor_events.specs.inner.Reads.{IsPartTaken, IsPartRead, IfPartT
 
 use cbor_automaton::{Event, EventKind};
 use cbor_head::{Limits, Reason, Refusal};
-use cbor_machine::{Machine, Out, below_256};
+use cbor_machine::{Machine, Out, below_256, take_part};
 use std::io::Read;
 use std::marker::Model;
 
@@ -239,7 +239,7 @@ fn take_slowly(machine: &mut Machine, part: &[u8]) -> Part
     ensures reason { IfStopped result (λ f. IsMachineReason f.reason) }
     ensures progress { result ≡ Part.Open → machine.old.taken < machine.new.taken }
 {
-    match machine.take_part(part).out {
+    match take_part(machine, part).out {
         Out::Event(event) => Part::Told(event),
         Out::More => Part::Open,
         Out::Done => unreachable!(),
@@ -320,7 +320,7 @@ fn at_end(machine: &mut Machine) -> Result<Option<Event>, Refusal>
     ensures taken { IfErr result (λ f. machine.new.taken ≡ f.read) }
     ensures reason { IfErr result (λ f. IsEventReason f.reason) }
 {
-    match machine.take_part(&[]).out {
+    match take_part(machine, &[]).out {
         Out::Done => Ok(None),
         Out::Refused(refusal) => Err(refusal),
         Out::More | Out::Event(_) => unreachable!(),

@@ -13,11 +13,12 @@
 //! machine.step(&[0xe8, 0x00]); // 1000, at place 1, with one byte used
 //! ```
 //!
-//! [`SavedMachine`] is a machine as plain numbers, to be kept where no machine can be.
+//! [`SavedMachine`] is a machine as plain numbers, to be kept where no machine can be. [`take_part`] is
+//! a step whose contract says more: for the crates that are made of a machine.
 #![tactic(auto)]
 
 mod machine;
 mod step;
 
-pub use machine::{Machine, SavedFrame, SavedMachine, below_256};
+pub use machine::{Machine, SavedFrame, SavedMachine, below_256, take_part};
 pub use step::{Out, Step};

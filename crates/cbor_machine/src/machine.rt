@@ -211,10 +211,10 @@ impl Machine {
         self.take_part(input)
     }
 
-    /// A step, and what it does with the inner state.
+    // A step, and what it does with the inner state.
     #[inline(always)]
     #[tactic(auto, using(crate::proofs::Standing::settled_fit))]
-    pub fn take_part(&mut self, input: &[u8]) -> Step
+    pub(crate) fn take_part(&mut self, input: &[u8]) -> Step
         ensures used { result.used ≤ length input.now }
         ensures taken { self.new.taken ≡ self.old.taken + result.used }
         ensures limits { KeepsLimits self.old self.new }
@@ -277,6 +277,29 @@ impl Machine {
             }
         }
     }
+}
+
+/// A step, and what it does with the inner state.
+#[inline(always)]
+pub fn take_part(machine: &mut Machine, input: &[u8]) -> Step
+    ensures used { result.used ≤ length input.now }
+    ensures taken { machine.new.taken ≡ machine.old.taken + result.used }
+    ensures limits { KeepsLimits machine.old machine.new }
+    ensures walked { machine.old.refusal ≡ None
+        → IsStep result.out machine.old machine.new (take result.used input.now) }
+    ensures answers { (t : List ℕ) (ms : List Mark) → StandsFor machine.old t ms
+        → IsAnswer result.out machine.new t (take result.used input.now) ms }
+    ensures progress { IsEvent result.out → 0 < result.used }
+    ensures piece { piece_of result.out ≤ result.used }
+    ensures done { IsDone result.out ↔ IsComplete machine.old }
+    ensures stays { IsComplete machine.old → (result.used ≡ 0) × (machine.new ≡ machine.old) }
+    ensures refused { IfRefused result.out
+        (λ r. (machine.new.refusal ≡ Some r) × (machine.new.taken ≡ r.read)) }
+    ensures reason { IfRefused result.out (λ r. IsMachineReason r.reason) }
+    ensures exact { length input.now ≤ wanted machine.old → result.used ≡ length input.now }
+    ensures idle { IsMore result.out → 0 < wanted machine.old }
+{
+    machine.take_part(input)
 }
 
 // A refusal by its parts.

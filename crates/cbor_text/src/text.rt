@@ -3,8 +3,6 @@
 ghost use Rattle.std.specs.Prelude.{◌≡◌, ◌≤◌, length, IsUtf8, MatchResult, IfErr};
 ghost use Rattle.std.specs.Str.Lossy.{utf8_valid_len};
 
-use crate::text_check::{Front, judge};
-
 /// Whether the bytes are UTF-8, or the length of their longest front that is.
 pub fn check_text(bytes: &[u8]) -> Result<(), usize>
     ensures checked { MatchResult result
@@ -12,9 +10,8 @@ pub fn check_text(bytes: &[u8]) -> Result<(), usize>
         (λ valid. ¬ (IsUtf8 bytes.now) × (valid ≡ utf8_valid_len bytes.now)) }
     ensures within { IfErr result (λ valid. valid ≤ length bytes.now) }
 {
-    match judge(bytes) {
-        Front::Whole => Ok(()),
-        Front::Open(valid) => Err(valid),
-        Front::Fixed(valid) => Err(valid),
+    match simdutf8::compat::from_utf8(bytes) {
+        Ok(_) => Ok(()),
+        Err(error) => Err(error.valid_up_to()),
     }
 }

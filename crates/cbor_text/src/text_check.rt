@@ -92,13 +92,13 @@ impl TextCheck {
     }
 }
 
-/// How far some bytes are UTF-8.
+// How far some bytes are UTF-8.
 #[derive(Clone, Copy)]
-pub enum Front {
+enum Front {
     Whole,
-    /// So many of them, and the rest may begin a character.
+    // So many of them, and the rest may begin a character.
     Open(usize),
-    /// So many of them, whatever follows.
+    // So many of them, whatever follows.
     Fixed(usize),
 }
 
@@ -121,9 +121,9 @@ fn are_few_ascii(bytes: &[u8]) -> bool
     bytes.len() <= SHORT && bytes.iter().all(|byte| byte.is_ascii())
 }
 
-/// How far bytes that begin where a character does are UTF-8.
+// How far bytes that begin where a character does are UTF-8.
 #[inline(always)]
-pub fn judge(bytes: &[u8]) -> Front
+fn judge(bytes: &[u8]) -> Front
     ensures { IsJudged bytes.now result }
 {
     if are_few_ascii(bytes) {

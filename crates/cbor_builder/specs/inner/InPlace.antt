@@ -8,8 +8,6 @@ use Rattle.cbor_builder.specs.declared.frame.Frame.{Frame}
 use Rattle.cbor_builder.specs.declared.frame.Shape.{Shape}
 use Rattle.cbor_builder.specs.declared.frame.Shape.TheVariants.{Map, Key}
 
--- ---- keys lie as they are meant
-
 abbrev pub IsSameKey : List ℕ → List ℕ → Span → Type 0
 IsSameKey raw out s = key_of raw s ≡ key_of out s
 

@@ -8,18 +8,18 @@ use Rattle.cbor_events.proofs.item_events.take_slowly.Goals as goal
 pub returns-in-Event-clause-answers : goal.returns-in-Event-clause-answers
 returns-in-Event-clause-answers c = λ t ms h.
     let all = all-used c.take_part.result.used c.args.part.now (c.take_part.ensures.exact c.requires.wanted) in
-    rw c.in-Event.event-is (subst (λ xs. IsGiven c.in-Event.event c.take_part.new.self t xs ms) all (rw c.in-Event.is at (c.take_part.ensures.answers t ms h)))
+    rw c.in-Event.event-is (subst (λ xs. IsGiven c.in-Event.event c.take_part.new.machine t xs ms) all (rw c.in-Event.is at (c.take_part.ensures.answers t ms h)))
 
 pub returns-in-More-clause-answers : goal.returns-in-More-clause-answers
 returns-in-More-clause-answers c = λ t ms h.
     let all = all-used c.take_part.result.used c.args.part.now (c.take_part.ensures.exact c.requires.wanted) in
-    subst (λ xs. StandsFor c.take_part.new.self (t ++ xs) ms) all (rw c.in-More.is at (c.take_part.ensures.answers t ms h))
+    subst (λ xs. StandsFor c.take_part.new.machine (t ++ xs) ms) all (rw c.in-More.is at (c.take_part.ensures.answers t ms h))
 
 pub returns-in-Refused-clause-answers : goal.returns-in-Refused-clause-answers
 returns-in-Refused-clause-answers c = λ t ms h.
     let f = c.in-Refused.refusal in
     let all = all-used c.take_part.result.used c.args.part.now (c.take_part.ensures.exact c.requires.wanted) in
     let live = wants-all c.args.machine.now _ c.requires.some c.requires.wanted in (
-      subst (λ xs. IsRefused f c.take_part.new.self t xs ms) all (rw c.in-Refused.is at (c.take_part.ensures.answers t ms h)),
-      subst (λ xs. IsStep (outs.Refused f) c.args.machine.now c.take_part.new.self xs) all (rw c.in-Refused.is at (c.take_part.ensures.walked live.2)),
+      subst (λ xs. IsRefused f c.take_part.new.machine t xs ms) all (rw c.in-Refused.is at (c.take_part.ensures.answers t ms h)),
+      subst (λ xs. IsStep (outs.Refused f) c.args.machine.now c.take_part.new.machine xs) all (rw c.in-Refused.is at (c.take_part.ensures.walked live.2)),
     )

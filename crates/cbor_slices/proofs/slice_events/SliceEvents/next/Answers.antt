@@ -4,6 +4,7 @@ use Rattle.std.proofs.lemmas.List.{length-drop}
 use Rattle.cbor_slices.specs.SliceEvents.{IsNextTold}
 use Rattle.cbor_machine.specs.NextEvent.{StandsBetween}
 use Rattle.cbor_automaton.specs.inner.State.{is_in_payload}
+use Rattle.cbor_automaton.specs.Token.{IsEventToken}
 use Rattle.cbor_slices.specs.SliceView.{SliceEventsView}
 use Rattle.cbor_slices.specs.inner.Slices.{told_at}
 use Rattle.cbor_automaton.specs.declared.token.Token.TheVariants.{Piece}

@@ -1,6 +1,7 @@
 use Rattle.std.proofs.Common.{◌≡◌, ◌-◌, subst, length, refl, ap, sym, arith, ◌∙◌}
 use Rattle.std.specs.Prelude.{None}
 use Rattle.std.proofs.lemmas.List.{length-drop}
+use Rattle.cbor_automaton.specs.Token.{IsEventToken}
 use Rattle.cbor_slices.specs.SliceView.{SliceEventsView}
 use Rattle.cbor_slices.specs.inner.Slices.{told_at, IsSpent}
 use Rattle.cbor_slices.specs.SliceEvents.{IsNextTold}

@@ -5,6 +5,7 @@ use Rattle.cbor_automaton.specs.inner.State.{IsFit, IsSettled}
 use Rattle.cbor_automaton.specs.inner.Walk.{IsTold, IsEnded}
 use Rattle.cbor_head.specs.Verdict.{refusal}
 use Rattle.cbor_head.specs.declared.reason.Refusal.{Refusal}
+use Rattle.cbor_automaton.specs.Token.{IsEventToken}
 use Rattle.cbor_slices.specs.SliceView.{SliceEventsView}
 use Rattle.cbor_slices.specs.inner.Slices.{told_at, IsSpent}
 use Rattle.cbor_machine.proofs.Feeding.{rest_from, rest-is}
