@@ -15,7 +15,7 @@ use Rattle.cbor_head.specs.declared.order.KeyOrder.{KeyOrder}
 use Rattle.cbor_head.specs.declared.reason.Reason.TheVariants.{Memory, InvalidText}
 use Rattle.cbor_head.specs.declared.reason.Refusal.{Refusal}
 use Rattle.cbor_head.specs.declared.width.Width.{Width}
-use Rattle.cbor_events.specs.inner.Automaton.{close, payload}
+use Rattle.cbor_judging.specs.Place.{close, payload}
 use Rattle.cbor_events.specs.ItemEvents.{ItemEventsView}
 use Rattle.cbor_events.specs.TextCheck.{HasChecked}
 use Rattle.cbor_strict.specs.declared.last_keys.LastKeys.{LastKeys}

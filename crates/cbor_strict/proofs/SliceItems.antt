@@ -12,7 +12,7 @@ use Rattle.cbor_head.specs.declared.reason.Reason.{Reason}
 use Rattle.cbor_head.specs.declared.reason.Reason.TheVariants as reasons
 use Rattle.cbor_head.specs.declared.reason.Refusal.{Refusal}
 use Rattle.cbor_events.specs.Trace.{Mark, a_head, a_chunk, a_byte, a_break}
-use Rattle.cbor_events.specs.inner.Automaton.{State}
+use Rattle.cbor_judging.specs.Place.{Place}
 use Rattle.cbor_events.specs.Marks.{mark_of}
 use Rattle.cbor_events.specs.ItemEvents.{IsNextEvent}
 use Rattle.cbor_events.specs.SliceEvents.{event_of, slice_call, IsNextTold, IsRefusedTold}
@@ -35,7 +35,7 @@ some-same e = cc
 pub other-reason : (f : Refusal) (reason : Reason) → f.reason ≡ reason → reason ≢ reasons.Read → reason ≢ reasons.Memory → IsOfBytes f
 other-reason f reason e no_read no_memory = record { no_read = λ g. no_read (sym e ∙ g); no_memory = λ g. no_memory (sym e ∙ g.0) }
 
-module _ (b : Bounds) (old new : SliceEventsView) (t : List ℕ) (q : State) (token : Token) (f : Refusal) (a : IsAt b (seen old) t q) (limits : KeepsLimits old.machine new.machine)
+module _ (b : Bounds) (old new : SliceEventsView) (t : List ℕ) (q : Place) (token : Token) (f : Refusal) (a : IsAt b (seen old) t q) (limits : KeepsLimits old.machine new.machine)
     (n : IsNextTold token old new t a.marks) where
   pub told-refusal : token ≡ tokens.Refused → new.refusal ≡ Some f → Stops b q t (Some old.rest) (Some new.rest) f × IsOfBytes f
   told-refusal e is =
@@ -77,7 +77,7 @@ fault-reason o (a_chunk w n) reason h = by-width w n h
 fault-reason o a_byte reason h = absurd h
 fault-reason o a_break reason h = absurd h
 
-module _ (o : KeyOrder) (b : Bounds) (old new : SliceEventsView) (t : List ℕ) (q : State) (token : Token) (w : Width) (k : ℕ) (due : IsHeadDue q) (a : IsAt b (seen old) t q)
+module _ (o : KeyOrder) (b : Bounds) (old new : SliceEventsView) (t : List ℕ) (q : Place) (token : Token) (w : Width) (k : ℕ) (due : IsHeadDue q) (a : IsAt b (seen old) t q)
     (limits : KeepsLimits old.machine new.machine) (n : IsNextTold token old new t a.marks) (no_refusal : token ≡ tokens.Refused → ⊥) (no_end : token ≡ tokens.End → ⊥)
     (width : w ≡ new.width) (number : k ≡ new.number) where
   event : IsNextEvent (event_of token new) (slice_call old new t a.marks)
@@ -103,9 +103,9 @@ module _ (o : KeyOrder) (b : Bounds) (old new : SliceEventsView) (t : List ℕ) 
 
 -- ---- the bytes of a payload
 
-pub payload-front : (b : Bounds) (q : State) (t : List ℕ) (n : ℕ) (text : Bool) (old new : SliceEventsView) → (k : TakesPayload b q t n text old new) → take n old.rest ≡ k.reads.bytes
+pub payload-front : (b : Bounds) (q : Place) (t : List ℕ) (n : ℕ) (text : Bool) (old new : SliceEventsView) → (k : TakesPayload b q t n text old new) → take n old.rest ≡ k.reads.bytes
 payload-front b q t n text old new k =
     ap (λ j. take j old.rest) (sym k.reads.count) ∙ ap (take (length k.reads.bytes)) k.reads.consumed ∙ take-append_seam k.reads.bytes new.rest
 
-pub payload-there : (b : Bounds) (q : State) (t : List ℕ) (n : ℕ) (text : Bool) (old new : SliceEventsView) → TakesPayload b q t n text old new → n ≤ length old.rest
+pub payload-there : (b : Bounds) (q : Place) (t : List ℕ) (n : ℕ) (text : Bool) (old new : SliceEventsView) → TakesPayload b q t n text old new → n ≤ length old.rest
 payload-there b q t n text old new k = omega (arith, k.reads.count, ap length k.reads.consumed, length-append k.reads.bytes new.rest)

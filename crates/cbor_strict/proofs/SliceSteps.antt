@@ -15,7 +15,7 @@ use Rattle.cbor_head.specs.declared.order.KeyOrder.{KeyOrder}
 use Rattle.cbor_head.specs.declared.reason.Reason.TheVariants as reasons
 use Rattle.cbor_head.specs.declared.reason.Refusal.{Refusal}
 use Rattle.cbor_head.specs.declared.width.Width.{Width}
-use Rattle.cbor_events.specs.inner.Automaton.{Frame as Container, at_item, close, close_string, payload}
+use Rattle.cbor_judging.specs.Place.{Container, at_item, close, close_string, payload}
 use Rattle.cbor_events.specs.Marks.{mark_of}
 use Rattle.cbor_events.specs.SliceEvents.{event_of}
 use Rattle.cbor_events.specs.SliceView.{SliceEventsView, seen}

@@ -1,7 +1,7 @@
 use Rattle.std.proofs.Common.{arith}
 use Rattle.cbor_head.specs.Complaint.{strict}
 use Rattle.cbor_events.specs.Token.{kind_of}
-use Rattle.cbor_events.specs.inner.Automaton.{at_item}
+use Rattle.cbor_judging.specs.Place.{at_item}
 use Rattle.cbor_strict.specs.inner.OpenItems.{frames_in, bytes_before}
 use Rattle.cbor_judging.proofs.Items.{stops-at-item}
 use Rattle.cbor_strict.proofs.SliceSteps.{stopped, head_come, head_farther, leaf_ended, string_due, string_ended, string_stopped, string_less, map_opened, other_opened, room}

@@ -1,6 +1,6 @@
 use Rattle.std.proofs.Common.{◌≡◌, ◌++◌, [], length, refl, ap, sym, arith, true≢false}
 use Rattle.std.specs.Prelude.{None, Some}
-use Rattle.cbor_events.specs.inner.Automaton.{payload}
+use Rattle.cbor_judging.specs.Place.{payload}
 use Rattle.cbor_events.specs.SliceEvents.{event_of}
 use Rattle.cbor_events.specs.SliceView.{seen}
 use Rattle.cbor_judging.proofs.Steps.{limits-as, not-ended}
