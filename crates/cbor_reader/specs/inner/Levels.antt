@@ -53,7 +53,7 @@ pub record IsFull (o : KeyOrder) (d : ℕ) (c : Open) (s : Spelling) : Type 0 wh
   pub canonical_is : closed o c ≡ canonical o (value_of s)
   pub container : (other : Open) (os : List Open) → IsInContainer (c ∷ other ∷ os)
 
--- behind the bytes t, in this state of the automaton, with this open in a builder, in so many containers
+-- behind the bytes t, at this place, with this open in a builder, in so many containers
 abbrev pub StandsAt : KeyOrder → ℕ → List ℕ → Place → List Open → ℕ → Standing → Type 0
 StandsAt o d t q os height (item_due ls) =
     AreLevels d ls × (t ≡ bytes_before ls) × (q ≡ at_item (map frame ls)) × (os ≡ opens o ls) × (height ≡ length ls)
@@ -63,7 +63,7 @@ StandsAt o d t q os height (item_full ls s) =
 StandsAt o d t q os height (item_whole s) =
     IsTaken d s × (t ≡ spell s) × (q ≡ at_end) × (os ≡ a_plain (canonical o (value_of s)) ∷ []) × (height ≡ 0)
 
--- behind the bytes t and in this state of the automaton, where so many containers are open in the builder
+-- behind the bytes t and at this place, where so many containers are open in the builder
 pub data IsStanding (o : KeyOrder) (d : ℕ) (t : List ℕ) (q : Place) (os : List Open) (height : ℕ) : Type 0 where
   -- an item is due
   due : (ls : List Level) → AreLevels d ls → t ≡ bytes_before ls → q ≡ at_item (map frame ls) → os ≡ opens o ls → height ≡ length ls → IsStanding o d t q os height
