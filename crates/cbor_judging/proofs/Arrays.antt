@@ -10,8 +10,7 @@ use Rattle.cbor_head.specs.declared.major.Major.TheVariants as majors
 use Rattle.cbor_head.specs.declared.width.Width.{Width}
 use Rattle.cbor_head.specs.declared.width.Width.TheVariants.{Direct, One, Two, Four, Eight, Indefinite}
 use Rattle.cbor_automaton.specs.Trace.{a_head}
-use Rattle.cbor_automaton.specs.inner.Automaton.{Frame, indefinite_array, State, at_item, close, expect}
-use Rattle.cbor_automaton.specs.inner.Taking.{IsTaking}
+use Rattle.cbor_judging.specs.Place.{Container, indefinite_array, Place, at_item, close, expect, IsTaking}
 use Rattle.cbor_automaton.specs.Marks.{count_of}
 use Rattle.cbor_machine.specs.NextEvent.{ItemEventsView}
 use Rattle.cbor_automaton.specs.declared.event.EventKind.TheVariants as kinds
@@ -28,12 +27,12 @@ abbrev pub IsLeft : Width → ℕ → ℕ → Option ℕ → Type 0
 IsLeft w n done (Some left) = (w ≢ Indefinite) × (done + left ≡ n)
 IsLeft w n done None = w ≡ Indefinite
 
-abbrev pub members_due : Option ℕ → List Frame → State
+abbrev pub members_due : Option ℕ → List Container → Place
 members_due (Some left) fs = expect left fs
 members_due None fs = at_item (indefinite_array ∷ fs)
 
 -- The members so far of an array that stands behind t, and of which x was read when from was left; so many are left.
-pub record IsReadingArray (r : Rules) (b : Bounds) (fs : List Frame) (t x : List ℕ) (w : Width) (n : ℕ) (left : Option ℕ) (vs : Values) (from now : Option (List ℕ)) (e : ItemEventsView) : Type 0 where
+pub record IsReadingArray (r : Rules) (b : Bounds) (fs : List Container) (t x : List ℕ) (w : Width) (n : ℕ) (left : Option ℕ) (vs : Values) (from now : Option (List ℕ)) (e : ItemEventsView) : Type 0 where
   pub done : Spellings
   pub so_far : IsArraySoFar r (length t) (b.depth - suc (length fs)) w n done
   pub taken : Extends x (array_bytes w n done) from now
@@ -44,7 +43,7 @@ pub record IsReadingArray (r : Rules) (b : Bounds) (fs : List Frame) (t x : List
 
 -- ---- the head
 
-pub starts-array : (r : Rules) (b : Bounds) (fs : List Frame) (t x : List ℕ) (w : Width) (count : Option ℕ) (from : Option (List ℕ)) (e : ItemEventsView)
+pub starts-array : (r : Rules) (b : Bounds) (fs : List Container) (t x : List ℕ) (w : Width) (count : Option ℕ) (from : Option (List ℕ)) (e : ItemEventsView)
     → IsBegun r b fs t x e w (kinds.Array count) → IsReadingArray r b fs t x w (count_of count) count value.no_values from from e
 starts-array r b fs t x w (Some n) from e i =
     let f = definite b.depth fs majors.Array w n x i.next (proper-definite w i.proper) i.taking in
@@ -84,7 +83,7 @@ closes Two f = refl
 closes Four f = refl
 closes Eight f = refl
 
-module _ (r : Rules) (b : Bounds) (fs : List Frame) (t x : List ℕ) (w : Width) (n : ℕ) (left : Option ℕ) (vs : Values) (from mid : Option (List ℕ)) (e : ItemEventsView)
+module _ (r : Rules) (b : Bounds) (fs : List Container) (t x : List ℕ) (w : Width) (n : ℕ) (left : Option ℕ) (vs : Values) (from mid : Option (List ℕ)) (e : ItemEventsView)
     (a : IsReadingArray r b fs t x w n left vs from mid e) where
   -- no member is left
   pub array-whole : left ≡ Some 0 → ReadsItem r b fs t x from mid e (value.array vs)

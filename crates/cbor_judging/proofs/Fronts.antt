@@ -4,7 +4,7 @@ use Rattle.std.specs.Option.{IfSome}
 use Rattle.cbor_head.specs.Limits.{Bounds, AreBounds}
 use Rattle.cbor_head.specs.Complaint.{Rules}
 use Rattle.cbor_head.specs.declared.reason.Refusal.{Refusal}
-use Rattle.cbor_automaton.specs.inner.Automaton.{at_item}
+use Rattle.cbor_judging.specs.Place.{at_item}
 use Rattle.cbor_machine.specs.NextEvent.{ItemEventsView, StandsBetween}
 use Rattle.cbor_judging.specs.Readers.{IsUnread}
 use Rattle.cbor_judging.specs.Reading.{IsFrontUnread, IsAt, StopsItem}

@@ -1,5 +1,5 @@
 -- An item in another: what is read and what is refused of it, for the whole.
-use Rattle.std.proofs.Common.{◌≡◌, ◌≢◌, ℕ, ◌+◌, ◌-◌, ◌<◌, ◌≤◌, Option, Some, None, List, [], ◌++◌, length, replicate, refl, sym, ap, ◌∙◌, subst, inl, inr, arith, append_assoc, append-nil}
+use Rattle.std.proofs.Common.{◌≡◌, ◌≢◌, ℕ, ◌+◌, ◌-◌, ◌<◌, ◌≤◌, Option, Some, None, List, [], ◌++◌, length, map, replicate, refl, sym, ap, ◌∙◌, subst, inl, inr, arith, append_assoc, append-nil}
 use Rattle.std.specs.Io.KnownBytes.{Consumes}
 use Rattle.std.proofs.KnownBytes.{Consumes-nil, Consumes-trans}
 use Rattle.cbor_head.specs.Head.{Holds, head, shortest}
@@ -14,8 +14,7 @@ use Rattle.cbor_head.specs.declared.width.Width.TheVariants.{Direct, One, Two, F
 use Rattle.cbor_head.specs.declared.reason.Refusal.{Refusal}
 use Rattle.cbor_head.proofs.OneFirst.{last, count_last}
 use Rattle.cbor_automaton.specs.Trace.{Mark, a_head, a_chunk, a_byte, a_break}
-use Rattle.cbor_automaton.specs.inner.Automaton.{Frame, State, at_item}
-use Rattle.cbor_automaton.specs.inner.Taking.{Follows, Opens, Ends, IsTaking}
+use Rattle.cbor_judging.specs.Place.{Container, Place, at_item, Follows, Opens, Ends, IsTaking}
 use Rattle.cbor_automaton.specs.Marks as marks
 use Rattle.cbor_automaton.specs.Marks.{mark_of}
 use Rattle.cbor_machine.specs.NextEvent.{ItemEventsView}
@@ -24,11 +23,12 @@ use Rattle.cbor_automaton.specs.declared.event.EventKind.{EventKind}
 use Rattle.cbor_automaton.specs.declared.event.EventKind.TheVariants as kinds
 use Rattle.cbor_automaton.proofs.Taking.{nothing-taken}
 use Rattle.cbor_judging.specs.Judged.{IsJudged}
-use Rattle.cbor_judging.specs.Reading.{Extends, IsFormRefusal, OfMark, IsBegun, ReadsItem, IsCause, HasCause, IsUndecided, StopsItem, IsNextHead, StopsHead}
+use Rattle.cbor_judging.specs.Reading.{Extends, IsFormRefusal, OfMark, IsBegun, ReadsItem, IsCause, HasCause, IsUndecided, StopsItem, IsNextHead, IsCutHead, StopsHead, frame_at, state_at}
 use Rattle.cbor_judging.proofs.Judged.{zero_item}
 use Rattle.cbor_judging.proofs.Leaves.{head_complains, array_head_complains, map_head_complains}
 use Rattle.cbor_judging.proofs.Heads.{open_or, zero_bytes, zero_length, cut_head}
 use Rattle.cbor_judging.proofs.Steps.{reached-as}
+use Rattle.std.proofs.lemmas.List.{length-map}
 
 -- ---- what was taken
 
@@ -52,7 +52,7 @@ cause-as : (b : Bounds) (all whole : List ℕ) (to : Option (List ℕ)) (at ther
 cause-as b all whole to at there (Some c) f e g h = (h.0, subst (λ (xs : List ℕ). length xs ≤ b.bytes) e h.1)
 cause-as b all whole to at there None f e g h = (h.0 ∙ g, subst (λ (xs : List ℕ). IsFormRefusal b xs to f) e h.1)
 
-module _ (r : Rules) (b : Bounds) (fs gs : List Frame) (t y : List ℕ)
+module _ (r : Rules) (b : Bounds) (fs gs : List Container) (t y : List ℕ)
     (lift : (p : List ℕ) (found : Option Complaint) → IsJudged r (length (t ++ y)) (b.depth - length gs) p found → IsJudged r (length t) (b.depth - length fs) (y ++ p) found)
   where
     -- why the part is refused is why the whole is
@@ -90,12 +90,12 @@ module _ (r : Rules) (b : Bounds) (fs gs : List Frame) (t y : List ℕ)
 -- ---- heads
 
 -- a definite head of an item
-pub record IsDefinite (d : ℕ) (fs : List Frame) (m : Major) (w : Width) (n : ℕ) (bs : List ℕ) (next : State) : Type 0 where
+pub record IsDefinite (d : ℕ) (fs : List Container) (m : Major) (w : Width) (n : ℕ) (bs : List ℕ) (next : Place) : Type 0 where
   pub bytes_are : bs ≡ head m w n
   pub holds : Holds w n
   pub follows : Follows d fs m w n next
 
-pub definite : (d : ℕ) (fs : List Frame) (m : Major) (w : Width) (n : ℕ) (bs : List ℕ) (next : State) → w ≢ Indefinite → IsTaking d (at_item fs) (a_head m w n) bs next → IsDefinite d fs m w n bs next
+pub definite : (d : ℕ) (fs : List Container) (m : Major) (w : Width) (n : ℕ) (bs : List ℕ) (next : Place) → w ≢ Indefinite → IsTaking d (at_item fs) (a_head m w n) bs next → IsDefinite d fs m w n bs next
 definite d fs m Indefinite n bs next f h = absurd (f refl)
 definite d fs m Direct n bs next f h = record { bytes_are = h.0; holds = h.1; follows = h.2 }
 definite d fs m One n bs next f h = record { bytes_are = h.0; holds = h.1; follows = h.2 }
@@ -117,7 +117,7 @@ IsPlainMajor majors.Tag = Unit {0}
 IsPlainMajor majors.Simple = Unit {0}
 IsPlainMajor _ = ⊥
 
-pub never-open : (d : ℕ) (fs : List Frame) (m : Major) (w : Width) (n : ℕ) (bs : List ℕ) (next : State) → IsPlainMajor m → IsTaking d (at_item fs) (a_head m w n) bs next → w ≢ Indefinite
+pub never-open : (d : ℕ) (fs : List Container) (m : Major) (w : Width) (n : ℕ) (bs : List ℕ) (next : Place) → IsPlainMajor m → IsTaking d (at_item fs) (a_head m w n) bs next → w ≢ Indefinite
 never-open d fs m w n bs next i h e = no m i (subst (λ (x : Width). IsTaking d (at_item fs) (a_head m x n) bs next) e h)
   where
     no : (m : Major) → IsPlainMajor m → IsTaking d (at_item fs) (a_head m Indefinite n) bs next → ⊥
@@ -139,7 +139,7 @@ head-count r at m Four n c f h = h
 head-count r at m Eight n c f h = h
 
 -- a definite head with a complaint
-definite-judged : (r : Rules) (at d : ℕ) (fs : List Frame) (m : Major) (w : Width) (n : ℕ) (bs : List ℕ) (next : State) (c : Complaint) → IsDefinite d fs m w n bs next → OfHead r at m w n c
+definite-judged : (r : Rules) (at d : ℕ) (fs : List Container) (m : Major) (w : Width) (n : ℕ) (bs : List ℕ) (next : Place) (c : Complaint) → IsDefinite d fs m w n bs next → OfHead r at m w n c
     → IsJudged r at (d - length fs) (head m w n) (Some c)
 definite-judged r at d fs m w n bs next c i o = go m i.follows o (count_last r at m w n c (head-count r at m w n c (is-definite w n i.holds) o))
   where
@@ -166,14 +166,14 @@ definite-judged r at d fs m w n bs next c i o = go m i.follows o (count_last r a
         never-long (strict order) o e = o.0 e
         never-long _ o e = o
 
-opener-judged : (r : Rules) (at d : ℕ) (fs : List Frame) (m : Major) (next : State) (c : Complaint) → Opens d fs m next → OfIndefinite r at c → IsJudged r at (d - length fs) (head m Indefinite 0) (Some c)
+opener-judged : (r : Rules) (at d : ℕ) (fs : List Container) (m : Major) (next : Place) (c : Complaint) → Opens d fs m next → OfIndefinite r at c → IsJudged r at (d - length fs) (head m Indefinite 0) (Some c)
 opener-judged r at d fs majors.Bytes next c f o = head_complains (byte_chunks []) r at (d - length fs) c tt (omega arith) (inl o) (count_last r at majors.Bytes Indefinite 0 c o)
 opener-judged r at d fs majors.Text next c f o = head_complains (text_chunks []) r at (d - length fs) c tt (omega arith) (inl o) (count_last r at majors.Text Indefinite 0 c o)
 opener-judged r at d fs majors.Array next c f o = array_head_complains Indefinite 0 r at (d - length fs) c tt (omega (arith, f.0)) o
 opener-judged r at d fs majors.Map next c f o = map_head_complains Indefinite 0 r at (d - length fs) c tt (omega (arith, f.0)) o
 opener-judged r at d fs _ next c f o = absurd f
 
-pub head-judged : (r : Rules) (at d : ℕ) (fs : List Frame) (mark : Mark) (bs : List ℕ) (next : State) (c : Complaint) → IsTaking d (at_item fs) mark bs next → OfMark r at (at_item fs) mark c → IsJudged r at (d - length fs) bs (Some c)
+pub head-judged : (r : Rules) (at d : ℕ) (fs : List Container) (mark : Mark) (bs : List ℕ) (next : Place) (c : Complaint) → IsTaking d (at_item fs) mark bs next → OfMark r at (at_item fs) mark c → IsJudged r at (d - length fs) bs (Some c)
 head-judged r at d fs (a_head m Indefinite n) bs next c h o = subst (λ (xs : List ℕ). IsJudged r at (d - length fs) xs (Some c)) (sym h.1) (opener-judged r at d fs m next c h.2 o)
 head-judged r at d fs (a_head m Direct n) bs next c h o = subst (λ (xs : List ℕ). IsJudged r at (d - length fs) xs (Some c)) (sym h.0) (definite-judged r at d fs m Direct n bs next c (definite d fs m Direct n bs next (is-definite Direct n h.1) h) o)
 head-judged r at d fs (a_head m One n) bs next c h o = subst (λ (xs : List ℕ). IsJudged r at (d - length fs) xs (Some c)) (sym h.0) (definite-judged r at d fs m One n bs next c (definite d fs m One n bs next (is-definite One n h.1) h) o)
@@ -184,8 +184,14 @@ head-judged r at d fs (a_chunk w n) bs next c h o = absurd h
 head-judged r at d fs a_byte bs next c h o = absurd h
 head-judged r at d fs a_break bs next c h o = absurd o
 
+-- what was taken of a head that is cut tells nothing against the item
+pub cut-judged : (r : Rules) (b : Bounds) (fs : List Container) (t taken : List ℕ) (to : Option (List ℕ)) (f : Refusal) → (c : IsCutHead b (at_item fs) t taken to f) → IsJudged r (length t) (b.depth - length fs) c.p None
+cut-judged r b fs t taken to f c =
+    subst (λ (n : ℕ). IsJudged r (length t) (b.depth - n) c.p None) (length-map fs frame_at)
+    (cut_head r (length t) b.depth (map frame_at fs) c.begun c.p (nothing-taken b.depth (state_at (at_item fs)) c.begun c.p tt c.are_bytes c.ran))
+
 -- no head comes where an item is due
-pub stops-at-item : (r : Rules) (b : Bounds) (fs : List Frame) (t : List ℕ) (from to : Option (List ℕ)) (f : Refusal) → StopsHead r b (at_item fs) t from to f → StopsItem r b fs t [] from to f
+pub stops-at-item : (r : Rules) (b : Bounds) (fs : List Container) (t : List ℕ) (from to : Option (List ℕ)) (f : Refusal) → StopsHead r b (at_item fs) t from to f → StopsItem r b fs t [] from to f
 stops-at-item r b fs t from to f s = record {
   bytes = s.bytes;
   taken = extends-by s.bytes from to s.consumed;
@@ -196,7 +202,7 @@ stops-at-item r b fs t from to f s = record {
       last = c.last;
       splits = c.splits;
       found = None;
-      judged = cut_head r (length t) b.depth fs c.begun c.p (nothing-taken b.depth (at_item fs) c.begun c.p tt c.are_bytes c.ran);
+      judged = cut-judged r b fs t s.bytes to f c;
       cause = (c.place, c.refused);
     })
     | inr c ↦ inr (record {
@@ -220,7 +226,7 @@ head-some m Four n = omega arith
 head-some m Eight n = omega arith
 head-some m Indefinite n = omega arith
 
-pub taking-some : (d : ℕ) (fs : List Frame) (mark : Mark) (bs : List ℕ) (next : State) → IsTaking d (at_item fs) mark bs next → 0 < length bs
+pub taking-some : (d : ℕ) (fs : List Container) (mark : Mark) (bs : List ℕ) (next : Place) → IsTaking d (at_item fs) mark bs next → 0 < length bs
 taking-some d fs (a_head m Indefinite n) bs next h = omega (arith, ap length h.1, head-some m Indefinite 0)
 taking-some d fs (a_head m Direct n) bs next h = omega (arith, ap length h.0, head-some m Direct n)
 taking-some d fs (a_head m One n) bs next h = omega (arith, ap length h.0, head-some m One n)
@@ -231,10 +237,10 @@ taking-some d fs a_break bs next h = omega (arith, ap length h.0)
 taking-some d fs (a_chunk w n) bs next h = absurd h
 taking-some d fs a_byte bs next h = absurd h
 
-pub begun-by : (r : Rules) (b : Bounds) (fs : List Frame) (t : List ℕ) (ev : Event) (from to : Option (List ℕ)) (new : ItemEventsView) → (n : IsNextHead r b (at_item fs) t ev from to new) → ev.kind ≢ kinds.End → IsBegun r b fs t n.bytes new ev.width ev.kind
+pub begun-by : (r : Rules) (b : Bounds) (fs : List Container) (t : List ℕ) (ev : Event) (from to : Option (List ℕ)) (new : ItemEventsView) → (n : IsNextHead r b (at_item fs) t ev from to new) → ev.kind ≢ kinds.End → IsBegun r b fs t n.bytes new ev.width ev.kind
 begun-by r b fs t ev from to new n item = record { item = item; next = n.next; taking = n.taking; clean = n.clean; proper = n.proper; at = n.at }
 
-pub reads-next : (r : Rules) (b : Bounds) (fs : List Frame) (t : List ℕ) (bs : List ℕ) (from mid to : Option (List ℕ)) (new : ItemEventsView) (v : Value) → Consumes from mid bs → ReadsItem r b fs t bs mid to new v → ReadsItem r b fs t [] from to new v
+pub reads-next : (r : Rules) (b : Bounds) (fs : List Container) (t : List ℕ) (bs : List ℕ) (from mid to : Option (List ℕ)) (new : ItemEventsView) (v : Value) → Consumes from mid bs → ReadsItem r b fs t bs mid to new v → ReadsItem r b fs t [] from to new v
 reads-next r b fs t bs from mid to new v c i = record {
   item = i.item;
   spelled = i.spelled;
@@ -245,9 +251,9 @@ reads-next r b fs t bs from mid to new v c i = record {
   at = i.at;
 }
 
-pub stops-next : (r : Rules) (b : Bounds) (fs : List Frame) (t : List ℕ) (bs : List ℕ) (from mid to : Option (List ℕ)) (f : Refusal) → Consumes from mid bs → StopsItem r b fs t bs mid to f → StopsItem r b fs t [] from to f
+pub stops-next : (r : Rules) (b : Bounds) (fs : List Container) (t : List ℕ) (bs : List ℕ) (from mid to : Option (List ℕ)) (f : Refusal) → Consumes from mid bs → StopsItem r b fs t bs mid to f → StopsItem r b fs t [] from to f
 stops-next r b fs t bs from mid to f c s = record { bytes = s.bytes; taken = extends-in [] [] bs s.bytes from mid to (extends-by bs from mid c) s.taken; read = s.read; why = s.why }
 
 -- no break comes where none may
-pub no-end : (r : Rules) (b : Bounds) (fs : List Frame) (t : List ℕ) (ev : Event) (from to : Option (List ℕ)) (new : ItemEventsView) → IsNextHead r b (at_item fs) t ev from to new → ((next : State) → Ends fs next → ⊥) → ev.kind ≢ kinds.End
+pub no-end : (r : Rules) (b : Bounds) (fs : List Container) (t : List ℕ) (ev : Event) (from to : Option (List ℕ)) (new : ItemEventsView) → IsNextHead r b (at_item fs) t ev from to new → ((next : Place) → Ends fs next → ⊥) → ev.kind ≢ kinds.End
 no-end r b fs t ev from to new n none e = none n.next (subst (λ (k : EventKind). IsTaking b.depth (at_item fs) (mark_of ev.width k) n.bytes n.next) e n.taking).1

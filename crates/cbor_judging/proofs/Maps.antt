@@ -10,8 +10,7 @@ use Rattle.cbor_head.specs.declared.major.Major.TheVariants as majors
 use Rattle.cbor_head.specs.declared.width.Width.{Width}
 use Rattle.cbor_head.specs.declared.width.Width.TheVariants.{Indefinite}
 use Rattle.cbor_automaton.specs.Trace.{a_head}
-use Rattle.cbor_automaton.specs.inner.Automaton.{Frame, indefinite_map, State, at_item, close, expect}
-use Rattle.cbor_automaton.specs.inner.Taking.{IsTaking}
+use Rattle.cbor_judging.specs.Place.{Container, indefinite_map, Place, at_item, close, expect, IsTaking}
 use Rattle.cbor_automaton.specs.Marks.{count_of}
 use Rattle.cbor_machine.specs.NextEvent.{ItemEventsView}
 use Rattle.cbor_automaton.specs.declared.event.EventKind.TheVariants as kinds
@@ -26,12 +25,12 @@ use Rattle.cbor_judging.proofs.Scalars.{at-as}
 use Rattle.cbor_judging.proofs.Arrays.{IsLeft, closes}
 
 -- how far the pairs are, where so many are left
-abbrev pub pairs_due : Option ℕ → List Frame → State
+abbrev pub pairs_due : Option ℕ → List Container → Place
 pairs_due (Some left) fs = expect (left + left) fs
 pairs_due None fs = at_item (indefinite_map false ∷ fs)
 
 -- The pairs so far of a map that stands behind t, and of which x was read when from was left; so many are left.
-pub record IsReadingMap (r : Rules) (b : Bounds) (fs : List Frame) (t x : List ℕ) (w : Width) (n : ℕ) (left : Option ℕ) (es : Entries) (from now : Option (List ℕ)) (e : ItemEventsView) : Type 0 where
+pub record IsReadingMap (r : Rules) (b : Bounds) (fs : List Container) (t x : List ℕ) (w : Width) (n : ℕ) (left : Option ℕ) (es : Entries) (from now : Option (List ℕ)) (e : ItemEventsView) : Type 0 where
   pub done : SpelledEntries
   pub so_far : IsMapSoFar r (length t) (b.depth - suc (length fs)) w n done
   pub taken : Extends x (map_bytes w n done) from now
@@ -42,7 +41,7 @@ pub record IsReadingMap (r : Rules) (b : Bounds) (fs : List Frame) (t x : List �
 
 -- ---- the head
 
-pub starts-map : (r : Rules) (b : Bounds) (fs : List Frame) (t x : List ℕ) (w : Width) (count : Option ℕ) (from : Option (List ℕ)) (e : ItemEventsView)
+pub starts-map : (r : Rules) (b : Bounds) (fs : List Container) (t x : List ℕ) (w : Width) (count : Option ℕ) (from : Option (List ℕ)) (e : ItemEventsView)
     → IsBegun r b fs t x e w (kinds.Map count) → IsReadingMap r b fs t x w (count_of count) count value.no_entries from from e
 starts-map r b fs t x w (Some n) from e i =
     let f = definite b.depth fs majors.Map w n x i.next (proper-definite w i.proper) i.taking in
@@ -74,7 +73,7 @@ starts-map r b fs t x w None from e i =
 
 -- ---- the pairs
 
-module _ (r : Rules) (b : Bounds) (fs : List Frame) (t x : List ℕ) (w : Width) (n : ℕ) (left : Option ℕ) (es : Entries) (from mid : Option (List ℕ)) (e : ItemEventsView)
+module _ (r : Rules) (b : Bounds) (fs : List Container) (t x : List ℕ) (w : Width) (n : ℕ) (left : Option ℕ) (es : Entries) (from mid : Option (List ℕ)) (e : ItemEventsView)
     (a : IsReadingMap r b fs t x w n left es from mid e) where
   -- no pair is left
   pub map-whole : left ≡ Some 0 → ReadsItem r b fs t x from mid e (value.map es)
@@ -95,7 +94,7 @@ module _ (r : Rules) (b : Bounds) (fs : List Frame) (t x : List ℕ) (w : Width)
       }
 
 -- with what is known of no keys
-pub starts-with : (r : Rules) (b : Bounds) (fs : List Frame) (t x : List ℕ) (w : Width) (n : ℕ) (from : Option (List ℕ)) (e : ItemEventsView) → IsBegun r b fs t x e w (kinds.Map (Some n)) → (P : List Spelling → Type 0) → P []
+pub starts-with : (r : Rules) (b : Bounds) (fs : List Container) (t x : List ℕ) (w : Width) (n : ℕ) (from : Option (List ℕ)) (e : ItemEventsView) → IsBegun r b fs t x e w (kinds.Map (Some n)) → (P : List Spelling → Type 0) → P []
     → (h : IsReadingMap r b fs t x w n (Some n) value.no_entries from from e) × P (keys_onto [] h.done)
 unfolding starts-map
 starts-with r b fs t x w n from e i P k = (starts-map r b fs t x w (Some n) from e i, k)

@@ -14,8 +14,13 @@ use Rattle.cbor_head.specs.declared.width.Width.{Width}
 use Rattle.cbor_head.specs.declared.reason.Refusal.{Refusal}
 use Rattle.cbor_head.specs.declared.reason.Reason.TheVariants.{InvalidText}
 use Rattle.cbor_automaton.specs.Trace.{Mark, a_byte}
-use Rattle.cbor_automaton.specs.inner.Automaton.{Frame, counted, indefinite_array, indefinite_map, Outcome, refused, telling, State, at_item, in_head, in_simple, in_payload, in_chunks, done as at_end, close, close_string, payload, run, reached}
-use Rattle.cbor_automaton.specs.inner.Taking.{IsTaking}
+use Rattle.cbor_judging.specs.Place.{Container, Place, at_item, in_payload, in_chunks, done as at_end, close_string, payload}
+use Rattle.cbor_automaton.specs.inner.Automaton as automaton
+use Rattle.cbor_automaton.specs.inner.Automaton.{State, Outcome, refused, telling, run, reached}
+use Rattle.cbor_automaton.specs.inner.Taking as taking
+use Rattle.cbor_judging.specs.Reading.{frame_at, state_at}
+use Rattle.cbor_judging.proofs.Places.{place_of, place-back, payload-at, clear-at}
+use Rattle.std.specs.Prelude.{map}
 use Rattle.cbor_automaton.specs.Marks.{marks_of}
 use Rattle.cbor_automaton.specs.inner.State.{state_of, is_in_payload}
 use Rattle.cbor_machine.specs.NextEvent as item_events
@@ -30,7 +35,7 @@ use Rattle.cbor_automaton.specs.declared.event.EventKind.{EventKind}
 use Rattle.cbor_automaton.specs.declared.event.EventKind.TheVariants as kinds
 use Rattle.cbor_automaton.proofs.Taking.{IsClear, IsWithin, nothing-taken, first-mark, within-start}
 use Rattle.cbor_judging.specs.Reading.{IsAt, IsFormRefusal, IsMemory, ReadsPayload, StopsPayload}
-use Rattle.cbor_judging.proofs.Steps.{due-by, Stops, SameLimits, stands-reached, at-reached, reached-as, at-clear, next-at, since}
+use Rattle.cbor_judging.proofs.Steps.{due-by, Stops, SameLimits, stands-reached, at-reached, reached-as, next-at, place_in, since}
 use Rattle.cbor_judging.proofs.ByteLists.{bytes_join, bytes_back}
 use Rattle.cbor_judging.proofs.Scalars.{at-as}
 use Rattle.cbor_judging.proofs.Undecided.{is-part}
@@ -38,7 +43,7 @@ use Rattle.cbor_judging.proofs.Undecided.{is-part}
 -- ---- a part of a payload
 
 -- Of a payload of n bytes that stood behind t, so many have come.
-pub record HasCome (b : Bounds) (chunk : Bool) (m : Major) (fs : List Frame) (t : List ℕ) (left : ℕ) (old grown : List ℕ) (from now : Option (List ℕ)) (e : ItemEventsView) (n : ℕ) : Type 0 where
+pub record HasCome (b : Bounds) (chunk : Bool) (m : Major) (fs : List Container) (t : List ℕ) (left : ℕ) (old grown : List ℕ) (from now : Option (List ℕ)) (e : ItemEventsView) (n : ℕ) : Type 0 where
   pub p : List ℕ
   pub consumed : Consumes from now p
   pub count : length p + left ≡ n
@@ -46,7 +51,7 @@ pub record HasCome (b : Bounds) (chunk : Bool) (m : Major) (fs : List Frame) (t 
   pub grows : grown ≡ old ++ p
   pub at : IsAt b e (t ++ p) (payload chunk m left fs)
 
-pub none-come : (b : Bounds) (chunk : Bool) (m : Major) (fs : List Frame) (t : List ℕ) (n : ℕ) (old : List ℕ) (from : Option (List ℕ)) (e : ItemEventsView) → IsAt b e t (payload chunk m n fs)
+pub none-come : (b : Bounds) (chunk : Bool) (m : Major) (fs : List Container) (t : List ℕ) (n : ℕ) (old : List ℕ) (from : Option (List ℕ)) (e : ItemEventsView) → IsAt b e t (payload chunk m n fs)
     → HasCome b chunk m fs t n old old from from e n
 none-come b chunk m fs t n old from e a = record {
   p = [];
@@ -62,27 +67,47 @@ abbrev pub IsPiece : EventKind → Type 0
 IsPiece (kinds.Piece n) = Unit {0}
 IsPiece kind = ⊥
 
-abbrev pub IsPayload : State → Type 0
+-- bytes of a payload are due
+abbrev pub IsPayload : Place → Type 0
 IsPayload (in_payload chunk m n fs) = Unit {0}
 IsPayload q = ⊥
 
-pub due-piece : (position : Position) (fs : List frames.Frame) (kind : EventKind) → IsPayload (state_of position fs) → item_events.IsDue (is_in_payload position) kind → IsPiece kind
-due-piece (positions.Payload chunk type left) fs (kinds.Piece n) h d = tt
-due-piece (positions.Payload chunk type left) fs (kinds.Unsigned n) h d = absurd d
-due-piece (positions.Payload chunk type left) fs (kinds.Negative n) h d = absurd d
-due-piece (positions.Payload chunk type left) fs (kinds.Simple n) h d = absurd d
-due-piece (positions.Payload chunk type left) fs (kinds.Bytes n) h d = absurd d
-due-piece (positions.Payload chunk type left) fs (kinds.Text n) h d = absurd d
-due-piece (positions.Payload chunk type left) fs (kinds.Chunk n) h d = absurd d
-due-piece (positions.Payload chunk type left) fs (kinds.Array n) h d = absurd d
-due-piece (positions.Payload chunk type left) fs (kinds.Map n) h d = absurd d
-due-piece (positions.Payload chunk type left) fs (kinds.Tag n) h d = absurd d
-due-piece (positions.Payload chunk type left) fs kinds.End h d = absurd d
-due-piece positions.Item fs kind h d = absurd h
-due-piece (positions.Head chunk k width left argument) fs kind h d = absurd h
-due-piece positions.SimpleNumber fs kind h d = absurd h
-due-piece (positions.Chunks k) fs kind h d = absurd h
-due-piece positions.Done fs kind h d = absurd h
+due-piece : (position : Position) (fs : List frames.Frame) (q : Place) (kind : EventKind) → state_of position fs ≡ state_at q → IsPayload q → item_events.IsDue (is_in_payload position) kind → IsPiece kind
+due-piece (positions.Payload chunk type left) fs q (kinds.Piece n) e h d = tt
+due-piece (positions.Payload chunk type left) fs q (kinds.Unsigned n) e h d = absurd d
+due-piece (positions.Payload chunk type left) fs q (kinds.Negative n) e h d = absurd d
+due-piece (positions.Payload chunk type left) fs q (kinds.Simple n) e h d = absurd d
+due-piece (positions.Payload chunk type left) fs q (kinds.Bytes n) e h d = absurd d
+due-piece (positions.Payload chunk type left) fs q (kinds.Text n) e h d = absurd d
+due-piece (positions.Payload chunk type left) fs q (kinds.Chunk n) e h d = absurd d
+due-piece (positions.Payload chunk type left) fs q (kinds.Array n) e h d = absurd d
+due-piece (positions.Payload chunk type left) fs q (kinds.Map n) e h d = absurd d
+due-piece (positions.Payload chunk type left) fs q (kinds.Tag n) e h d = absurd d
+due-piece (positions.Payload chunk type left) fs q kinds.End e h d = absurd d
+due-piece positions.Item fs (in_payload c m n gs) kind e h d = absurd (cc e)
+due-piece positions.Item fs (at_item gs) kind e h d = absurd h
+due-piece positions.Item fs (in_chunks m gs) kind e h d = absurd h
+due-piece positions.Item fs at_end kind e h d = absurd h
+due-piece (positions.Head chunk k width left argument) fs (in_payload c m n gs) kind e h d = absurd (cc e)
+due-piece (positions.Head chunk k width left argument) fs (at_item gs) kind e h d = absurd h
+due-piece (positions.Head chunk k width left argument) fs (in_chunks m gs) kind e h d = absurd h
+due-piece (positions.Head chunk k width left argument) fs at_end kind e h d = absurd h
+due-piece positions.SimpleNumber fs (in_payload c m n gs) kind e h d = absurd (cc e)
+due-piece positions.SimpleNumber fs (at_item gs) kind e h d = absurd h
+due-piece positions.SimpleNumber fs (in_chunks m gs) kind e h d = absurd h
+due-piece positions.SimpleNumber fs at_end kind e h d = absurd h
+due-piece (positions.Chunks k) fs (in_payload c m n gs) kind e h d = absurd (cc e)
+due-piece (positions.Chunks k) fs (at_item gs) kind e h d = absurd h
+due-piece (positions.Chunks k) fs (in_chunks m gs) kind e h d = absurd h
+due-piece (positions.Chunks k) fs at_end kind e h d = absurd h
+due-piece positions.Done fs (in_payload c m n gs) kind e h d = absurd (cc e)
+due-piece positions.Done fs (at_item gs) kind e h d = absurd h
+due-piece positions.Done fs (in_chunks m gs) kind e h d = absurd h
+due-piece positions.Done fs at_end kind e h d = absurd h
+
+-- the next event is a piece
+pub piece-due : (b : Bounds) (e : ItemEventsView) (t : List ℕ) (q : Place) (kind : EventKind) → IsAt b e t q → IsPayload q → item_events.IsDue e.machine.in_payload kind → IsPiece kind
+piece-due b e t q kind a h d = due-piece e.machine.inner.position e.machine.inner.frames q kind a.state h (due-by b e t q kind a d)
 
 -- the bytes of a piece
 record PieceBytes (w : Width) (kind : EventKind) (kept piece bs : List ℕ) : Type 0 where
@@ -103,25 +128,25 @@ piece-bytes told w (kinds.Map n) kept piece bs h k e = absurd h
 piece-bytes told w (kinds.Tag n) kept piece bs h k e = absurd h
 piece-bytes told w kinds.End kept piece bs h k e = absurd h
 
-clear-close : (fs : List Frame) → IsClear (close fs)
+clear-close : (fs : List automaton.Frame) → IsClear (automaton.close fs)
 clear-close [] = tt
-clear-close (counted zero ∷ fs) = clear-close fs
-clear-close (counted (suc n) ∷ fs) = tt
-clear-close (indefinite_array ∷ fs) = tt
-clear-close (indefinite_map due ∷ fs) = tt
+clear-close (automaton.counted zero ∷ fs) = clear-close fs
+clear-close (automaton.counted (suc n) ∷ fs) = tt
+clear-close (automaton.indefinite_array ∷ fs) = tt
+clear-close (automaton.indefinite_map due ∷ fs) = tt
 
-clear-string : (chunk : Bool) (m : Major) (fs : List Frame) → IsClear (close_string chunk m fs)
+clear-string : (chunk : Bool) (m : Major) (fs : List automaton.Frame) → IsClear (automaton.close_string chunk m fs)
 clear-string true m fs = tt
 clear-string false m fs = clear-close fs
 
-no-byte : (d : ℕ) (fs : List Frame) (cs : List ℕ) (u : State) → IsTaking d (close fs) a_byte cs u → ⊥
+no-byte : (d : ℕ) (fs : List automaton.Frame) (cs : List ℕ) (u : State) → taking.IsTaking d (automaton.close fs) a_byte cs u → ⊥
 no-byte d [] cs u h = h
-no-byte d (counted zero ∷ fs) cs u h = no-byte d fs cs u h
-no-byte d (counted (suc n) ∷ fs) cs u h = h
-no-byte d (indefinite_array ∷ fs) cs u h = h
-no-byte d (indefinite_map due ∷ fs) cs u h = h
+no-byte d (automaton.counted zero ∷ fs) cs u h = no-byte d fs cs u h
+no-byte d (automaton.counted (suc n) ∷ fs) cs u h = h
+no-byte d (automaton.indefinite_array ∷ fs) cs u h = h
+no-byte d (automaton.indefinite_map due ∷ fs) cs u h = h
 
-no-byte-behind : (d : ℕ) (chunk : Bool) (m : Major) (fs : List Frame) (cs : List ℕ) (u : State) → IsTaking d (close_string chunk m fs) a_byte cs u → ⊥
+no-byte-behind : (d : ℕ) (chunk : Bool) (m : Major) (fs : List automaton.Frame) (cs : List ℕ) (u : State) → taking.IsTaking d (automaton.close_string chunk m fs) a_byte cs u → ⊥
 no-byte-behind d true m fs cs u h = h
 no-byte-behind d false m fs cs u h = no-byte d fs cs u h
 
@@ -130,26 +155,26 @@ untell (refused r) u ms e = cc
 untell (reached q ns) u ms e = cc
 
 -- bytes that told so many bytes of a payload are its next
-part : (d : ℕ) (chunk : Bool) (m : Major) (fs : List Frame) (n : ℕ) (bs : List ℕ) (u : State) → AreBytes bs → run d (payload chunk m n fs) bs ≡ reached u (replicate (length bs) a_byte)
-    → (length bs ≤ n) × (u ≡ payload chunk m (n - length bs) fs)
+part : (d : ℕ) (chunk : Bool) (m : Major) (fs : List automaton.Frame) (n : ℕ) (bs : List ℕ) (u : State) → AreBytes bs → run d (automaton.payload chunk m n fs) bs ≡ reached u (replicate (length bs) a_byte)
+    → (length bs ≤ n) × (u ≡ automaton.payload chunk m (n - length bs) fs)
 part d chunk m fs n [] u b e =
-    let same : payload chunk m n fs ≡ u = cc in
+    let same : automaton.payload chunk m n fs ≡ u = cc in
     let none : n ≡ n - 0 = omega arith in
-    (omega arith, sym same ∙ ap (λ (j : ℕ). payload chunk m j fs) none)
+    (omega arith, sym same ∙ ap (λ (j : ℕ). automaton.payload chunk m j fs) none)
 part d chunk m fs zero (c ∷ cs) u b e =
-    let q = close_string chunk m fs in
+    let q = automaton.close_string chunk m fs in
     let f = first-mark d (c ∷ cs) q q u [] a_byte (replicate (length cs) a_byte) (within-start d q (clear-string chunk m fs)) b e in
     absurd (no-byte-behind d chunk m fs f.0 f.1 f.2)
 part d chunk m fs (suc n) (c ∷ cs) u b e =
-    let rest = part d chunk m fs n cs u b.1 (untell (run d (payload chunk m n fs) cs) u (replicate (length cs) a_byte) (sym (payload-byte d chunk m n fs c cs) ∙ e)) in
+    let rest = part d chunk m fs n cs u b.1 (untell (run d (automaton.payload chunk m n fs) cs) u (replicate (length cs) a_byte) (sym (payload-byte d chunk m n fs c cs) ∙ e)) in
     let fits : length cs ≤ n = rest.0 in
     let same : n - length cs ≡ suc n - suc (length cs) = omega arith in
-    (omega (arith, fits), rest.1 ∙ ap (λ (j : ℕ). payload chunk m j fs) same)
+    (omega (arith, fits), rest.1 ∙ ap (λ (j : ℕ). automaton.payload chunk m j fs) same)
 
-module _ (b : Bounds) (chunk : Bool) (m : Major) (fs : List Frame) (t : List ℕ) (left : ℕ) (old grown : List ℕ) (from now : Option (List ℕ)) (e : ItemEventsView) (n : ℕ)
+module _ (b : Bounds) (chunk : Bool) (m : Major) (fs : List Container) (t : List ℕ) (left : ℕ) (old grown : List ℕ) (from now : Option (List ℕ)) (e : ItemEventsView) (n : ℕ)
     (h : HasCome b chunk m fs t left old grown from now e n) (some : 0 < left) where
-  payload-state : IsPayload (state_of e.machine.inner.position e.machine.inner.frames)
-  payload-state = subst IsPayload (sym h.at.state) (go left some)
+  payload-here : IsPayload (payload chunk m left fs)
+  payload-here = go left some
     where
       go : (left : ℕ) → 0 < left → IsPayload (payload chunk m left fs)
       go zero s = absurd (omega arith)
@@ -157,17 +182,19 @@ module _ (b : Bounds) (chunk : Bool) (m : Major) (fs : List Frame) (t : List ℕ
 
   -- it isn't at its end
   pub payload-open : payload chunk m left fs ≡ at_end → ⊥
-  payload-open g = subst IsPayload (h.at.state ∙ g) payload-state
+  payload-open g = subst IsPayload g payload-here
 
   module _ (ev : Event) (to : Option (List ℕ)) (new : ItemEventsView) (same : SameLimits e.machine new.machine) (x : IsNextEvent ev (call e new now to (t ++ h.p) h.at.marks)) where
     bytes-of : PieceBytes ev.width ev.kind e.piece new.piece x.bytes
-    bytes-of = piece-bytes h.at.marks ev.width ev.kind e.piece new.piece x.bytes (due-piece e.machine.inner.position e.machine.inner.frames ev.kind payload-state (due-by b e (t ++ h.p) (payload chunk m left fs) ev.kind h.at x.due)) x.piece_is x.are
+    bytes-of = piece-bytes h.at.marks ev.width ev.kind e.piece new.piece x.bytes (piece-due b e (t ++ h.p) (payload chunk m left fs) ev.kind h.at payload-here x.due) x.piece_is x.are
 
-    taken-part : (length x.bytes ≤ left) × (state_of new.machine.inner.position new.machine.inner.frames ≡ payload chunk m (left - length x.bytes) fs)
+    taken-part : (length x.bytes ≤ left) × (state_of new.machine.inner.position new.machine.inner.frames ≡ state_at (payload chunk m (left - length x.bytes) fs))
     taken-part =
-        part b.depth chunk m fs left x.bytes (state_of new.machine.inner.position new.machine.inner.frames) (bytes_back (t ++ h.p) x.bytes x.stands.stands.are_bytes)
-        (since b e new.machine (t ++ h.p) x.bytes (payload chunk m left fs) (marks_of ev.width ev.kind) h.at (same.depth ∙ h.at.depth) x.stands.stands.inner.ran
-        ∙ ap (λ (ms : List Mark). reached (state_of new.machine.inner.position new.machine.inner.frames) ms) bytes-of.marks)
+        let u = state_of new.machine.inner.position new.machine.inner.frames in
+        let ran = since b e new.machine (t ++ h.p) x.bytes (payload chunk m left fs) (marks_of ev.width ev.kind) h.at (same.depth ∙ h.at.depth) x.stands.stands.inner.ran ∙ ap (λ (ms : List Mark). reached u ms) bytes-of.marks in
+        let k = part b.depth chunk m (map frame_at fs) left x.bytes u (bytes_back (t ++ h.p) x.bytes x.stands.stands.are_bytes)
+        (ap (λ (s : State). run b.depth s x.bytes) (payload-at chunk m left fs) ∙ ran) in
+        (k.0, k.1 ∙ payload-at chunk m (left - length x.bytes) fs)
 
     pub part-fits : (0 < length new.piece) × (length new.piece ≤ left)
     part-fits =
@@ -186,8 +213,8 @@ module _ (b : Bounds) (chunk : Bool) (m : Major) (fs : List Frame) (t : List ℕ
           count = omega (arith, came, size, fits, length-append h.p x.bytes);
           are_bytes = bytes_join h.p x.bytes h.are_bytes (bytes_back (t ++ h.p) x.bytes x.stands.stands.are_bytes);
           grows = g ∙ ap (λ (u : List ℕ). u ++ new.piece) h.grows ∙ append_assoc old h.p new.piece ∙ ap (λ (u : List ℕ). old ++ (h.p ++ u)) bytes-of.same;
-          at = at-as b new ((t ++ h.p) ++ x.bytes) (t ++ (h.p ++ x.bytes)) (state_of new.machine.inner.position new.machine.inner.frames) (payload chunk m (left - length new.piece) fs) (append_assoc t h.p x.bytes)
-              (taken-part.1 ∙ ap (λ (j : ℕ). payload chunk m (left - j) fs) (sym size))
+          at = at-as b new ((t ++ h.p) ++ x.bytes) (t ++ (h.p ++ x.bytes)) (place_in new) (payload chunk m (left - length new.piece) fs) (append_assoc t h.p x.bytes)
+              (ap place_of taken-part.1 ∙ place-back (payload chunk m (left - length x.bytes) fs) ∙ ap (λ (j : ℕ). payload chunk m (left - j) fs) (sym size))
               (next-at b e new (t ++ h.p) ((t ++ h.p) ++ x.bytes) (payload chunk m left fs) (h.at.marks ++ marks_of ev.width ev.kind) h.at same live x.stands);
         }
 
@@ -213,7 +240,7 @@ module _ (b : Bounds) (chunk : Bool) (m : Major) (fs : List Frame) (t : List ℕ
   pub part-cut : (to : Option (List ℕ)) (f : Refusal) → Stops b (payload chunk m left fs) (t ++ h.p) now to f → StopsPayload b t n false from to f
   part-cut to f s =
       let c = s.cut in
-      let none : c.p ≡ [] = (go left some (nothing-taken b.depth (payload chunk m left fs) c.begun c.p (at-clear b e (t ++ h.p) (payload chunk m left fs) h.at) c.are_bytes c.ran)) in
+      let none : c.p ≡ [] = (go left some (nothing-taken b.depth (state_at (payload chunk m left fs)) c.begun c.p (clear-at (payload chunk m left fs)) c.are_bytes c.ran)) in
       let came = h.count in
       record {
         bytes = h.p ++ s.bytes;
@@ -230,21 +257,21 @@ module _ (b : Bounds) (chunk : Bool) (m : Major) (fs : List Frame) (t : List ℕ
         }));
       }
     where
-      go : (left : ℕ) → 0 < left → IsWithin b.depth (payload chunk m left fs) s.cut.begun s.cut.p → s.cut.p ≡ []
+      go : (left : ℕ) → 0 < left → IsWithin b.depth (state_at (payload chunk m left fs)) s.cut.begun s.cut.p → s.cut.p ≡ []
       go zero k w = absurd (omega arith)
       go (suc j) k w = behind s.cut.begun w
         where
-          behind : (u : State) → IsWithin b.depth (in_payload chunk m j fs) u s.cut.p → s.cut.p ≡ []
-          behind (in_head false l w i acc gs) taking = absurd (cc taking.0)
-          behind (in_head true l w i acc gs) taking = absurd (cc taking.0)
-          behind (in_simple gs) taking = absurd (cc taking.0)
-          behind (at_item gs) taking = taking.1
-          behind (in_payload c l i gs) taking = taking.1
-          behind (in_chunks l gs) taking = taking.1
-          behind at_end taking = taking.1
+          behind : (u : State) → IsWithin b.depth (state_at (in_payload chunk m j fs)) u s.cut.p → s.cut.p ≡ []
+          behind (automaton.in_head false l w i acc gs) taking = absurd (cc taking.0)
+          behind (automaton.in_head true l w i acc gs) taking = absurd (cc taking.0)
+          behind (automaton.in_simple gs) taking = absurd (cc taking.0)
+          behind (automaton.at_item gs) taking = taking.1
+          behind (automaton.in_payload c l i gs) taking = taking.1
+          behind (automaton.in_chunks l gs) taking = taking.1
+          behind automaton.done taking = taking.1
 
 -- all of it has come
-pub all-come : (b : Bounds) (chunk : Bool) (m : Major) (fs : List Frame) (t : List ℕ) (left : ℕ) (old grown : List ℕ) (from now : Option (List ℕ)) (e : ItemEventsView) (n : ℕ)
+pub all-come : (b : Bounds) (chunk : Bool) (m : Major) (fs : List Container) (t : List ℕ) (left : ℕ) (old grown : List ℕ) (from now : Option (List ℕ)) (e : ItemEventsView) (n : ℕ)
     → HasCome b chunk m fs t left old grown from now e n → left ≡ 0 → ReadsPayload b (close_string chunk m fs) t n old grown from now e
 all-come b chunk m fs t left old grown from now e n h none = record {
   bytes = h.p;
@@ -265,7 +292,7 @@ payload-stops b t n text from to f s = record {
   why = elim s.why [ inl m ↦ inl m | inr (inl c) ↦ inr (inl c) | inr (inr x) ↦ absurd (true≢false (sym x.0)) ];
 }
 
-module _ (b : Bounds) (q : State) (t : List ℕ) (n : ℕ) (old grown : List ℕ) (from to : Option (List ℕ)) (new : ItemEventsView) (reads : ReadsPayload b q t n old grown from to new) where
+module _ (b : Bounds) (q : Place) (t : List ℕ) (n : ℕ) (old grown : List ℕ) (from to : Option (List ℕ)) (new : ItemEventsView) (reads : ReadsPayload b q t n old grown from to new) where
   pub behind-old : drop (length old) grown ≡ reads.bytes
   behind-old = ap (drop (length old)) reads.grows ∙ drop-append_seam old reads.bytes
 

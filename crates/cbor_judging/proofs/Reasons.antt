@@ -13,7 +13,7 @@ use Rattle.cbor_head.specs.declared.major.Major.{Major}
 use Rattle.cbor_head.specs.declared.major.Major.TheVariants.{Unsigned, Negative, Bytes, Text, Array, Map, Tag, Simple}
 use Rattle.cbor_head.specs.declared.width.Width.{Width}
 use Rattle.cbor_head.specs.declared.width.Width.TheVariants.{Direct, One, Two, Four, Eight, Indefinite}
-use Rattle.cbor_automaton.specs.inner.Automaton.{Frame}
+use Rattle.cbor_judging.specs.Place.{Container}
 use Rattle.cbor_judging.specs.Judged.{IsFinding}
 use Rattle.cbor_judging.specs.Reading.{IsFormRefusal, IsCause, HasCause, StopsItem}
 use Rattle.cbor_judging.specs.Refusals.{IsFormReason, IsComplaintReason, IsReaderReason}
@@ -149,12 +149,12 @@ form-refusal : (b : Bounds) (all : List ℕ) (to : Option (List ℕ)) (f : Refus
 form-refusal b all to f (inl v) = inl (form-reason b.depth b.bytes (all ++ []) f (v []))
 form-refusal b all to f (inr v) = elim v.2 [ inl e ↦ inr e | inr e ↦ inl (subst IsFormReason (sym e.0) tt) ]
 
-cause-reason : (r : Rules) (b : Bounds) (fs : List Frame) (t taken : List ℕ) (to : Option (List ℕ)) (f : Refusal) → HasCause r b fs t taken to f → IsReaderReason r f.reason
+cause-reason : (r : Rules) (b : Bounds) (fs : List Container) (t taken : List ℕ) (to : Option (List ℕ)) (f : Refusal) → HasCause r b fs t taken to f → IsReaderReason r f.reason
 cause-reason r b fs t taken to f h = go h.found h.judged.finding h.cause
   where
     go : (found : Option Complaint) → IsFinding (Complains r (length t) h.judged.item) (length t + length h.p) (length t + length (spell h.judged.item)) found → IsCause b (t ++ taken) to (length (t ++ h.p)) found f → IsReaderReason r f.reason
     go (Some c) g k = inr (inl (complaint-reason r (length t) h.judged.item c g.holds f k.0))
     go None g k = elim (form-refusal b (t ++ taken) to f k.1) [ inl e ↦ inl e | inr e ↦ inr (inr (inl e)) ]
 
-pub reader-reason : (r : Rules) (b : Bounds) (fs : List Frame) (t x : List ℕ) (from to : Option (List ℕ)) (f : Refusal) → StopsItem r b fs t x from to f → IsReaderReason r f.reason
+pub reader-reason : (r : Rules) (b : Bounds) (fs : List Container) (t x : List ℕ) (from to : Option (List ℕ)) (f : Refusal) → StopsItem r b fs t x from to f → IsReaderReason r f.reason
 reader-reason r b fs t x from to f s = elim s.why [ inl m ↦ inr (inr (inr m.0.0)) | inr h ↦ cause-reason r b fs t s.bytes to f h ]

@@ -7,16 +7,16 @@ use Rattle.cbor_head.specs.Spelling.{unsigned, negative, simple}
 use Rattle.cbor_head.specs.Complaint.{Rules}
 use Rattle.cbor_head.specs.declared.major.Major.TheVariants as majors
 use Rattle.cbor_head.specs.declared.width.Width.{Width}
-use Rattle.cbor_automaton.specs.inner.Automaton.{Frame, State, close}
+use Rattle.cbor_judging.specs.Place.{Container, Place, close}
 use Rattle.cbor_machine.specs.NextEvent.{ItemEventsView}
 use Rattle.cbor_automaton.specs.declared.event.EventKind.TheVariants as kinds
 use Rattle.cbor_judging.specs.Reading.{IsAt, Extends, IsBegun, ReadsItem}
 use Rattle.cbor_judging.proofs.Items.{definite, never-open, is-definite, head-count, extends-none}
 
-pub at-as : (b : Bounds) (e : ItemEventsView) (t u : List ℕ) (p q : State) → t ≡ u → p ≡ q → IsAt b e t p → IsAt b e u q
-at-as b e t u p q f g a = subst (λ (x : State). IsAt b e u x) g (subst (λ (x : List ℕ). IsAt b e x p) f a)
+pub at-as : (b : Bounds) (e : ItemEventsView) (t u : List ℕ) (p q : Place) → t ≡ u → p ≡ q → IsAt b e t p → IsAt b e u q
+at-as b e t u p q f g a = subst (λ (x : Place). IsAt b e u x) g (subst (λ (x : List ℕ). IsAt b e x p) f a)
 
-module _ (r : Rules) (b : Bounds) (fs : List Frame) (t x : List ℕ) (e : ItemEventsView) (w : Width) (n : ℕ) (from : Option (List ℕ)) where
+module _ (r : Rules) (b : Bounds) (fs : List Container) (t x : List ℕ) (e : ItemEventsView) (w : Width) (n : ℕ) (from : Option (List ℕ)) where
   pub reads-unsigned : IsBegun r b fs t x e w (kinds.Unsigned n) → ReadsItem r b fs t x from from e (value.unsigned n)
   reads-unsigned i =
       let f = definite b.depth fs majors.Unsigned w n x i.next (never-open b.depth fs majors.Unsigned w n x i.next tt i.taking) i.taking in

@@ -3,7 +3,7 @@ use Rattle.std.proofs.Common.{◌≡◌, ◌≢◌, ℕ, Some, None, List, refl,
 use Rattle.cbor_head.specs.Limits.{Bounds}
 use Rattle.cbor_head.specs.Complaint.{Rules}
 use Rattle.cbor_automaton.specs.Trace.{Mark}
-use Rattle.cbor_automaton.specs.inner.Automaton.{Frame, at_item}
+use Rattle.cbor_judging.specs.Place.{Container, at_item}
 use Rattle.cbor_machine.specs.NextEvent.{IsNextEvent, IsEnd}
 use Rattle.cbor_slices.specs.SliceEvents.{event_of, slice_call, IsNextTold, IsRefusedTold}
 use Rattle.cbor_slices.specs.SliceView.{SliceEventsView, seen}
@@ -27,7 +27,7 @@ told-live token new no_refusal h = h
 pub told-end : (token : Token) (old new : SliceEventsView) (t : List ℕ) (ms : List Mark) → token ≡ tokens.End → IsNextTold token old new t ms → IsEnd (slice_call old new t ms)
 told-end token old new t ms e n = (subst (λ x. IsNextTold x old new t ms) e n).is
 
-pub begun : (r : Rules) (b : Bounds) (fs : List Frame) (t : List ℕ) (token other : Token) (k : ℕ) (old new : SliceEventsView)
+pub begun : (r : Rules) (b : Bounds) (fs : List Container) (t : List ℕ) (token other : Token) (k : ℕ) (old new : SliceEventsView)
     → (h : IsNextHead r b (at_item fs) t (event_of token new) (Some old.rest) (Some new.rest) (seen new)) → kind_of token new.number ≢ kinds.End → token ≡ other → k ≡ new.number
     → IsBegun r b fs t h.bytes (seen new) new.width (kind_of other k)
 begun r b fs t token other k old new h item is number =

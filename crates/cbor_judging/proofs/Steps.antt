@@ -14,8 +14,9 @@ use Rattle.cbor_head.specs.declared.reason.Reason.{Reason}
 use Rattle.cbor_head.specs.declared.reason.Reason.TheVariants as reasons
 use Rattle.cbor_head.specs.declared.reason.Refusal.{Refusal}
 use Rattle.cbor_automaton.specs.Trace.{Mark, a_head, a_chunk, a_byte, a_break}
-use Rattle.cbor_automaton.specs.inner.Automaton.{State, start, at_item, in_head, in_simple, in_payload, in_chunks, done, run, reached}
-use Rattle.cbor_automaton.specs.inner.Taking.{IsTaking}
+use Rattle.cbor_judging.specs.Place.{Place, at_item, in_payload, in_chunks, done, IsTaking}
+use Rattle.cbor_automaton.specs.inner.Automaton as automaton
+use Rattle.cbor_automaton.specs.inner.Automaton.{State, start, run, reached}
 use Rattle.cbor_automaton.specs.Marks.{mark_of, marks_of, times}
 use Rattle.cbor_automaton.specs.inner.State.{state_of, is_in_payload}
 use Rattle.cbor_machine.specs.MachineView.{MachineView}
@@ -31,6 +32,8 @@ use Rattle.cbor_automaton.specs.declared.position.Position.TheVariants as positi
 use Rattle.cbor_automaton.proofs.Frames.{position-done}
 use Rattle.cbor_automaton.proofs.Runs.{once-marks}
 use Rattle.cbor_automaton.proofs.Taking.{IsClear, mark-taken}
+use Rattle.cbor_judging.specs.Reading.{state_at}
+use Rattle.cbor_judging.proofs.Places.{place_of, state-back, one-place, clear-at, taking-at}
 use Rattle.cbor_judging.proofs.ByteLists.{bytes_back}
 use Rattle.cbor_judging.specs.Reading.{IsAt, IsReached, OfMark, IsHeadDue, IsNextHead, IsCutHead, StopsHead, IsFault}
 use Rattle.cbor_machine.proofs.NextEvents.{whole-clear, run-rest}
@@ -42,11 +45,17 @@ pub record SameLimits (old new : MachineView) : Type 0 where
 
 -- ---- where the events stand
 
-pub at-run : (b : Bounds) (e : ItemEventsView) (t : List ℕ) (q : State) → (a : IsAt b e t q) → run b.depth start t ≡ reached q a.marks
+pub at-run : (b : Bounds) (e : ItemEventsView) (t : List ℕ) (q : Place) → (a : IsAt b e t q) → run b.depth start t ≡ reached (state_at q) a.marks
 at-run b e t q a = ap (λ (d : ℕ). run d start t) (sym a.depth) ∙ a.stands.stands.inner.ran ∙ ap (λ (u : State). reached u a.marks) a.state
 
-pub at-clear : (b : Bounds) (e : ItemEventsView) (t : List ℕ) (q : State) → IsAt b e t q → IsClear q
-at-clear b e t q a = whole-clear b.depth t q a.marks (at-run b e t q a) a.stands.whole
+-- the same bytes lead to one place
+pub same-place : (b : Bounds) (e new : ItemEventsView) (t : List ℕ) (p q : Place) → IsAt b e t p → IsAt b new t q → p ≡ q
+same-place b e new t p q h k = one-place p q (cc (sym (at-run b e t p h) ∙ at-run b new t q k))
+
+pub same-marks : (m : MachineView) (t : List ℕ) (ms ns : List Mark) → StandsBetween m t ms → StandsBetween m t ns → ms ≡ ns
+same-marks m t ms ns h k =
+    let e : reached (state_of m.inner.position m.inner.frames) ms ≡ reached (state_of m.inner.position m.inner.frames) ns = sym h.stands.inner.ran ∙ k.stands.inner.ran in
+    cc e
 
 pub stands-reached : (b : Bounds) (m : MachineView) (t : List ℕ) (ms : List Mark) → m.depth ≡ b.depth → m.bytes ≡ b.bytes → StandsFor m t ms → IsReached b t
 stands-reached b m t ms e f s = record {
@@ -54,19 +63,32 @@ stands-reached b m t ms e f s = record {
   within = omega (arith, s.taken, s.limited, f);
 }
 
-pub at-reached : (b : Bounds) (e : ItemEventsView) (t : List ℕ) (q : State) → IsAt b e t q → IsReached b t
+pub at-reached : (b : Bounds) (e : ItemEventsView) (t : List ℕ) (q : Place) → IsAt b e t q → IsReached b t
 at-reached b e t q a = stands-reached b e.machine t a.marks a.depth a.bytes a.stands.stands
 
 pub reached-as : (b : Bounds) (all whole : List ℕ) → all ≡ whole → IsReached b all → IsReached b whole
 reached-as b all whole e h = subst (IsReached b) e h
 
-pub next-at : (b : Bounds) (old new : ItemEventsView) (t u : List ℕ) (q : State) (ms : List Mark) → IsAt b old t q → SameLimits old.machine new.machine → new.refusal ≡ None → StandsBetween new.machine u ms
-    → IsAt b new u (state_of new.machine.inner.position new.machine.inner.frames)
-next-at b old new t u q ms a same live s =
-    record { live = live; limits = a.limits; depth = same.depth ∙ a.depth; bytes = same.bytes ∙ a.bytes; marks = ms; stands = s; state = refl }
+-- where the next event leads
+next-clear : (new : MachineView) (u : List ℕ) (ms : List Mark) → StandsBetween new u ms → IsClear (state_of new.inner.position new.inner.frames)
+next-clear new u ms s = whole-clear new.depth u (state_of new.inner.position new.inner.frames) ms s.stands.inner.ran s.whole
+
+abbrev pub place_in : ItemEventsView → Place
+place_in e = place_of (state_of e.machine.inner.position e.machine.inner.frames)
+
+pub next-at : (b : Bounds) (old new : ItemEventsView) (t u : List ℕ) (q : Place) (ms : List Mark) → IsAt b old t q → SameLimits old.machine new.machine → new.refusal ≡ None → StandsBetween new.machine u ms → IsAt b new u (place_in new)
+next-at b old new t u q ms a same live s = record {
+  live = live;
+  limits = a.limits;
+  depth = same.depth ∙ a.depth;
+  bytes = same.bytes ∙ a.bytes;
+  marks = ms;
+  stands = s;
+  state = sym (state-back (state_of new.machine.inner.position new.machine.inner.frames) (next-clear new.machine u ms s));
+}
 
 -- what is left falls
-pub farther : (b : Bounds) (e new : ItemEventsView) (t u : List ℕ) (q p : State) → IsAt b e t q → IsAt b new u p → length t < length u
+pub farther : (b : Bounds) (e new : ItemEventsView) (t u : List ℕ) (q p : Place) → IsAt b e t q → IsAt b new u p → length t < length u
     → new.machine.bytes - new.machine.taken < e.machine.bytes - e.machine.taken
 farther b e new t u q p a z h =
     let old : e.machine.taken ≡ length t = a.stands.stands.taken in
@@ -75,14 +97,26 @@ farther b e new t u q p a z h =
     omega (arith, old, now, most, h, a.bytes, z.bytes)
 
 -- what a machine ran since
-pub since : (b : Bounds) (old : ItemEventsView) (new : MachineView) (t bs : List ℕ) (q : State) (ns : List Mark) → (a : IsAt b old t q) → new.depth ≡ b.depth
-    → run new.depth start (t ++ bs) ≡ reached (state_of new.inner.position new.inner.frames) (a.marks ++ ns) → run b.depth q bs ≡ reached (state_of new.inner.position new.inner.frames) ns
+pub since : (b : Bounds) (old : ItemEventsView) (new : MachineView) (t bs : List ℕ) (q : Place) (ns : List Mark) → (a : IsAt b old t q) → new.depth ≡ b.depth
+    → run new.depth start (t ++ bs) ≡ reached (state_of new.inner.position new.inner.frames) (a.marks ++ ns) → run b.depth (state_at q) bs ≡ reached (state_of new.inner.position new.inner.frames) ns
 since b old new t bs q ns a deep ran =
-    run-rest b.depth t bs q (state_of new.inner.position new.inner.frames) a.marks ns (at-run b old t q a) (ap (λ (d : ℕ). run d start (t ++ bs)) (sym deep) ∙ ran)
+    run-rest b.depth t bs (state_at q) (state_of new.inner.position new.inner.frames) a.marks ns (at-run b old t q a) (ap (λ (d : ℕ). run d start (t ++ bs)) (sym deep) ∙ ran)
 
 -- ---- a head
 
-no_piece : (position : Position) (fs : List frames.Frame) (n : ℕ) → IsHeadDue (state_of position fs) → item_events.IsDue (is_in_payload position) (kinds.Piece n) → ⊥
+-- a head's event stands for one mark
+abbrev IsHeadState : State → Type 0
+IsHeadState (automaton.at_item fs) = Unit {0}
+IsHeadState (automaton.in_chunks m fs) = Unit {0}
+IsHeadState _ = ⊥
+
+head-state : (q : Place) → IsHeadDue q → IsHeadState (state_at q)
+head-state (at_item cs) h = tt
+head-state (in_chunks m cs) h = tt
+head-state (in_payload chunk m n cs) h = absurd h
+head-state done h = absurd h
+
+no_piece : (position : Position) (fs : List frames.Frame) (n : ℕ) → IsHeadState (state_of position fs) → item_events.IsDue (is_in_payload position) (kinds.Piece n) → ⊥
 no_piece positions.Item fs n h d = d
 no_piece (positions.Head chunk kind width left argument) fs n h d = h
 no_piece positions.SimpleNumber fs n h d = h
@@ -90,7 +124,7 @@ no_piece (positions.Payload chunk kind left) fs n h d = h
 no_piece (positions.Chunks kind) fs n h d = d
 no_piece positions.Done fs n h d = h
 
-once : (position : Position) (fs : List frames.Frame) (kind : EventKind) → IsHeadDue (state_of position fs) → item_events.IsDue (is_in_payload position) kind → times kind ≡ 1
+once : (position : Position) (fs : List frames.Frame) (kind : EventKind) → IsHeadState (state_of position fs) → item_events.IsDue (is_in_payload position) kind → times kind ≡ 1
 once position fs (kinds.Piece n) h d = absurd (no_piece position fs n h d)
 once position fs (kinds.Unsigned n) h d = refl
 once position fs (kinds.Negative n) h d = refl
@@ -104,23 +138,25 @@ once position fs (kinds.Tag n) h d = refl
 once position fs kinds.End h d = refl
 
 -- which event is due, by the inner state
-pub due-by : (b : Bounds) (e : ItemEventsView) (t : List ℕ) (q : State) (kind : EventKind) → IsAt b e t q → item_events.IsDue e.machine.in_payload kind → item_events.IsDue (is_in_payload e.machine.inner.position) kind
+pub due-by : (b : Bounds) (e : ItemEventsView) (t : List ℕ) (q : Place) (kind : EventKind) → IsAt b e t q → item_events.IsDue e.machine.in_payload kind → item_events.IsDue (is_in_payload e.machine.inner.position) kind
 due-by b e t q kind a d = subst (λ (x : Bool). item_events.IsDue x kind) a.stands.stands.inner.shown.in_payload d
 
 -- a head's one mark
-pub head-taken : (b : Bounds) (old new : ItemEventsView) (t : List ℕ) (q : State) (ev : Event) (from to : Option (List ℕ)) → IsHeadDue q → (a : IsAt b old t q)
+pub head-taken : (b : Bounds) (old new : ItemEventsView) (t : List ℕ) (q : Place) (ev : Event) (from to : Option (List ℕ)) → IsHeadDue q → (a : IsAt b old t q)
     → (n : IsNextEvent ev (call old new from to t a.marks)) → SameLimits old.machine new.machine
-    → IsTaking b.depth q (mark_of ev.width ev.kind) n.bytes (state_of new.machine.inner.position new.machine.inner.frames)
+    → IsTaking b.depth q (mark_of ev.width ev.kind) n.bytes (place_in new)
 head-taken b old new t q ev from to due a n same =
-    let one = once-marks ev.width ev.kind (once old.machine.inner.position old.machine.inner.frames ev.kind (subst IsHeadDue (sym a.state) due) (due-by b old t q ev.kind a n.due)) in
+    let one = once-marks ev.width ev.kind (once old.machine.inner.position old.machine.inner.frames ev.kind (subst IsHeadState (sym a.state) (head-state q due)) (due-by b old t q ev.kind a n.due)) in
     let u = state_of new.machine.inner.position new.machine.inner.frames in
     let ran = since b old new.machine t n.bytes q (marks_of ev.width ev.kind) a (same.depth ∙ a.depth) n.stands.stands.inner.ran in
-    let clear = whole-clear new.machine.depth (t ++ n.bytes) u (a.marks ++ marks_of ev.width ev.kind) n.stands.stands.inner.ran n.stands.whole in
-    mark-taken b.depth q u n.bytes (mark_of ev.width ev.kind) (at-clear b old t q a) (bytes_back t n.bytes n.stands.stands.are_bytes) (ran ∙ ap (λ (ms : List Mark). reached u ms) one) clear
+    taking-at b.depth q (mark_of ev.width ev.kind) n.bytes u (
+    mark-taken b.depth (state_at q) u n.bytes (mark_of ev.width ev.kind) (clear-at q) (bytes_back t n.bytes n.stands.stands.are_bytes) (ran ∙ ap (λ (ms : List Mark). reached u ms) one)
+    (next-clear new.machine (t ++ n.bytes) (a.marks ++ marks_of ev.width ev.kind) n.stands)
+    )
 
 -- ---- the head's complaint
 
-pub head-size : (d : ℕ) (q next : State) (m : Mark) (bs : List ℕ) (r : Rules) (at : ℕ) (reason : Reason) → IsTaking d q m bs next → IsFault r m reason → OfMark r at q m (complaint (at + length bs) at reason)
+pub head-size : (d : ℕ) (q next : Place) (m : Mark) (bs : List ℕ) (r : Rules) (at : ℕ) (reason : Reason) → IsTaking d q m bs next → IsFault r m reason → OfMark r at q m (complaint (at + length bs) at reason)
 head-size d (at_item fs) next (a_head m Indefinite n) bs (strict o) at reason h f = ap (λ (x : Reason). complaint (at + length bs) at x) f ∙ ap (λ (xs : List ℕ). complaint (at + length xs) at reasons.Indefinite) h.1
 head-size d (at_item fs) next (a_head m Direct n) bs (strict o) at reason h f = (f.0, ap (λ (x : Reason). complaint (at + length bs) at x) f.1 ∙ ap (λ (xs : List ℕ). complaint (at + length xs) at reasons.NotShortest) h.0)
 head-size d (at_item fs) next (a_head m One n) bs (strict o) at reason h f = (f.0, ap (λ (x : Reason). complaint (at + length bs) at x) f.1 ∙ ap (λ (xs : List ℕ). complaint (at + length xs) at reasons.NotShortest) h.0)
@@ -143,11 +179,9 @@ head-size d (in_payload c k zero fs) next (a_head m w n) bs (strict o) at reason
 head-size d (in_payload c k (suc x) fs) next (a_head m w n) bs (strict o) at reason h f = absurd h
 head-size d (in_payload c k zero fs) next (a_chunk w n) bs (strict o) at reason h f = absurd h
 head-size d (in_payload c k (suc x) fs) next (a_chunk w n) bs (strict o) at reason h f = absurd h
-head-size d (in_head c k v x acc fs) next m bs (strict o) at reason h f = absurd h
-head-size d (in_simple fs) next m bs (strict o) at reason h f = absurd h
 head-size d done next m bs (strict o) at reason h f = absurd h
 
-pub fault_of : (q : State) (m : Mark) (r : Rules) (at : ℕ) (c : Complaint) → OfMark r at q m c → (reason : Reason) × IsFault r m reason
+pub fault_of : (q : Place) (m : Mark) (r : Rules) (at : ℕ) (c : Complaint) → OfMark r at q m c → (reason : Reason) × IsFault r m reason
 fault_of (at_item fs) (a_head m Indefinite n) (strict o) at c h = (reasons.Indefinite, refl)
 fault_of (at_item fs) (a_head m Direct n) (strict o) at c h = (reasons.NotShortest, (h.0, refl))
 fault_of (at_item fs) (a_head m One n) (strict o) at c h = (reasons.NotShortest, (h.0, refl))
@@ -164,21 +198,21 @@ fault_of _ _ _ at c h = absurd h
 
 -- ---- as the reader meets them
 
-pub next-head : (r : Rules) (b : Bounds) (old new : ItemEventsView) (t : List ℕ) (q : State) (ev : Event) (from to : Option (List ℕ)) → IsHeadDue q → (a : IsAt b old t q)
+pub next-head : (r : Rules) (b : Bounds) (old new : ItemEventsView) (t : List ℕ) (q : Place) (ev : Event) (from to : Option (List ℕ)) → IsHeadDue q → (a : IsAt b old t q)
     → IsNextEvent ev (call old new from to t a.marks) → SameLimits old.machine new.machine → new.refusal ≡ None
     → ((reason : Reason) → IsFault r (mark_of ev.width ev.kind) reason → ⊥) → IsNextHead r b q t ev from to new
 next-head r b old new t q ev from to due a n same live fine = record {
   bytes = n.bytes;
   consumed = n.consumed;
   place = n.place;
-  next = state_of new.machine.inner.position new.machine.inner.frames;
+  next = place_in new;
   taking = head-taken b old new t q ev from to due a n same;
   clean = λ c h. let f = fault_of q (mark_of ev.width ev.kind) r (length t) c h in fine f.0 f.1;
   proper = n.are.0;
   at = next-at b old new t (t ++ n.bytes) q (a.marks ++ marks_of ev.width ev.kind) a same live n.stands;
 }
 
-pub bad-head : (r : Rules) (b : Bounds) (old new : ItemEventsView) (t : List ℕ) (q : State) (ev : Event) (from to : Option (List ℕ)) (f : Refusal) (reason : Reason) → IsHeadDue q → (a : IsAt b old t q)
+pub bad-head : (r : Rules) (b : Bounds) (old new : ItemEventsView) (t : List ℕ) (q : Place) (ev : Event) (from to : Option (List ℕ)) (f : Refusal) (reason : Reason) → IsHeadDue q → (a : IsAt b old t q)
     → IsNextEvent ev (call old new from to t a.marks) → SameLimits old.machine new.machine
     → IsFault r (mark_of ev.width ev.kind) reason → f ≡ refusal reason ev.place new.machine.taken → StopsHead r b q t from to f
 bad-head r b old new t q ev from to f reason due a n same fault is =
@@ -190,13 +224,13 @@ bad-head r b old new t q ev from to f reason due a n same fault is =
       bytes = n.bytes;
       consumed = n.consumed;
       read = ap (λ (x : Refusal). x.read) f_is ∙ sym (length-append t n.bytes);
-      why = inr (record { mark = mark_of ev.width ev.kind; next = state_of new.machine.inner.position new.machine.inner.frames; taking = taking; complaint = c; of = head-size b.depth q (state_of new.machine.inner.position new.machine.inner.frames) (mark_of ev.width ev.kind) n.bytes r (length t) reason taking fault; is = f_is; within = omega (arith, n.stands.stands.taken, n.stands.stands.limited, same.bytes, a.bytes) });
+      why = inr (record { mark = mark_of ev.width ev.kind; next = place_in new; taking = taking; complaint = c; of = head-size b.depth q (place_in new) (mark_of ev.width ev.kind) n.bytes r (length t) reason taking fault; is = f_is; within = omega (arith, n.stands.stands.taken, n.stands.stands.limited, same.bytes, a.bytes) });
     }
 
 -- ---- a refusal
 
 -- what was taken, and what of it told nothing
-pub record Stops (b : Bounds) (q : State) (t : List ℕ) (from to : Option (List ℕ)) (f : Refusal) : Type 0 where
+pub record Stops (b : Bounds) (q : Place) (t : List ℕ) (from to : Option (List ℕ)) (f : Refusal) : Type 0 where
   pub bytes : List ℕ
   pub consumed : Consumes from to bytes
   pub read : f.read ≡ length (t ++ bytes)
@@ -205,7 +239,7 @@ pub record Stops (b : Bounds) (q : State) (t : List ℕ) (from to : Option (List
 verdict-within : (b : Bounds) (d n : ℕ) (input : List ℕ) (f : Refusal) → d ≡ b.depth → n ≡ b.bytes → IsVerdict d n form input (refused f) → IsVerdict b.depth b.bytes form input (refused f)
 verdict-within b d n input f e g v = subst (λ (x : ℕ). IsVerdict x b.bytes form input (refused f)) e (subst (λ (x : ℕ). IsVerdict d x form input (refused f)) g v)
 
-module _ (b : Bounds) (old new : ItemEventsView) (t : List ℕ) (q : State) (from to : Option (List ℕ)) (f : Refusal) (a : IsAt b old t q) (same : SameLimits old.machine new.machine) where
+module _ (b : Bounds) (old new : ItemEventsView) (t : List ℕ) (q : Place) (from to : Option (List ℕ)) (f : Refusal) (a : IsAt b old t q) (same : SameLimits old.machine new.machine) where
   abbrev now : MachineView
   now = new.machine
 
@@ -216,7 +250,7 @@ module _ (b : Bounds) (old new : ItemEventsView) (t : List ℕ) (q : State) (fro
   most = same.bytes ∙ a.bytes
 
   -- where it told nothing
-  silent : (m : MachineView) (bs : List ℕ) → m.depth ≡ now.depth → StandsFor m (t ++ bs) a.marks → run b.depth q bs ≡ reached (state_of m.inner.position m.inner.frames) []
+  silent : (m : MachineView) (bs : List ℕ) → m.depth ≡ now.depth → StandsFor m (t ++ bs) a.marks → run b.depth (state_at q) bs ≡ reached (state_of m.inner.position m.inner.frames) []
   silent m bs e s = since b old m t bs q [] a (e ∙ deep) (s.inner.ran ∙ ap (λ (ms : List Mark). reached (state_of m.inner.position m.inner.frames) ms) (sym (append-nil a.marks)))
 
   pub stops-cut : IsCut f (call old new from to t a.marks) → Stops b q t from to f
@@ -280,7 +314,7 @@ module _ (b : Bounds) (old new : ItemEventsView) (t : List ℕ) (q : State) (fro
   stops h = elim h [ inl c ↦ stops-cut c | inr (inl c) ↦ stops-full c | inr (inr c) ↦ stops-error c ]
 
 -- a head that doesn't come
-pub no-head : (r : Rules) (b : Bounds) (q : State) (t : List ℕ) (from to : Option (List ℕ)) (f : Refusal) → Stops b q t from to f → StopsHead r b q t from to f
+pub no-head : (r : Rules) (b : Bounds) (q : Place) (t : List ℕ) (from to : Option (List ℕ)) (f : Refusal) → Stops b q t from to f → StopsHead r b q t from to f
 no-head r b q t from to f s = record { bytes = s.bytes; consumed = s.consumed; read = s.read; why = inl s.cut }
 
 -- ---- as a reader meets them
@@ -288,7 +322,7 @@ no-head r b q t from to f s = record { bytes = s.bytes; consumed = s.consumed; r
 pub limits-as : (old new : MachineView) → KeepsLimits old new → SameLimits old new
 limits-as old new h = record { depth = h.depth; bytes = h.bytes }
 
-module _ (b : Bounds) (old new : ItemEventsView) (t : List ℕ) (q : State) (from to : Option (List ℕ)) (a : IsAt b old t q) where
+module _ (b : Bounds) (old new : ItemEventsView) (t : List ℕ) (q : Place) (from to : Option (List ℕ)) (a : IsAt b old t q) where
   -- the answer, as the item's event
   pub told : (o : Option Event) (ev : Event) → o ≡ Some ev → IsNext (Ok o) (call old new from to t a.marks) → IsNextEvent ev (call old new from to t a.marks)
   told o ev e n = subst (λ (x : Option Event). IsNext (Ok x) (call old new from to t a.marks)) e n
@@ -297,9 +331,9 @@ module _ (b : Bounds) (old new : ItemEventsView) (t : List ℕ) (q : State) (fro
   pub not-ended : (o : Option Event) → o ≡ None → (q ≡ done → ⊥) → IsNext (Ok o) (call old new from to t a.marks) → ⊥
   not-ended o e f n =
       let end = subst (λ (x : Option Event). IsNext (Ok x) (call old new from to t a.marks)) e n in
-      f (sym a.state ∙ ap (λ (p : Position). state_of p old.machine.inner.frames) (position-done old.machine.inner.position (sym a.stands.stands.inner.shown.complete ∙ end.complete.0)))
+      f (one-place q done (sym a.state ∙ ap (λ (p : Position). state_of p old.machine.inner.frames) (position-done old.machine.inner.position (sym a.stands.stands.inner.shown.complete ∙ end.complete.0))))
 
-pub head-open : (q : State) → IsHeadDue q → q ≡ done → ⊥
+pub head-open : (q : Place) → IsHeadDue q → q ≡ done → ⊥
 head-open q h e = subst IsHeadDue e h
 
 -- ---- what the strict rules have against a head

@@ -11,8 +11,7 @@ use Rattle.cbor_head.specs.declared.major.Major.TheVariants as majors
 use Rattle.cbor_head.specs.declared.width.Width.{Width}
 use Rattle.cbor_head.proofs.Agree.{body, parts}
 use Rattle.cbor_head.proofs.ReadLaws.{length_spell}
-use Rattle.cbor_automaton.specs.inner.Automaton.{Frame, State}
-use Rattle.cbor_automaton.specs.inner.Taking.{Follows}
+use Rattle.cbor_judging.specs.Place.{Container, Place, Follows}
 use Rattle.cbor_machine.specs.NextEvent.{ItemEventsView}
 use Rattle.cbor_judging.proofs.ByteLists.{bytes_front}
 use Rattle.cbor_judging.proofs.Heads.{Headed, headed}
@@ -35,7 +34,7 @@ last-apart (x ∷ y ∷ ys) h =
     record { front = x ∷ k.front; last = k.last; splits = ap (λ (zs : List ℕ). x ∷ zs) k.splits; byte = k.byte }
 
 -- behind an item without complaint
-pub item-undecided : (r : Rules) (b : Bounds) (fs : List Frame) (t x : List ℕ) (from to : Option (List ℕ)) (new : ItemEventsView) (v : Value) → (m : ReadsItem r b fs t x from to new v) → IsUndecided r b fs t (spell m.item)
+pub item-undecided : (r : Rules) (b : Bounds) (fs : List Container) (t x : List ℕ) (from to : Option (List ℕ)) (new : ItemEventsView) (v : Value) → (m : ReadsItem r b fs t x from to new v) → IsUndecided r b fs t (spell m.item)
 item-undecided r b fs t x from to new v m =
     let k = last-apart (spell m.item) (length_spell m.item) in
     let size = length-append k.front k.last in
@@ -67,7 +66,7 @@ is-part n bytes some most h =
 
 -- ---- a head
 
-pub head-item : (d : ℕ) (fs : List Frame) (m : Major) (w : Width) (n : ℕ) (x : List ℕ) (next : State) → IsDefinite d fs m w n x next → Headed (d - length fs) (head m w n)
+pub head-item : (d : ℕ) (fs : List Container) (m : Major) (w : Width) (n : ℕ) (x : List ℕ) (next : Place) → IsDefinite d fs m w n x next → Headed (d - length fs) (head m w n)
 head-item d fs m w n x next i = go m i.follows
   where
     go : (m : Major) → Follows d fs m w n next → Headed (d - length fs) (head m w n)
@@ -80,7 +79,7 @@ head-item d fs m w n x next i = go m i.follows
     go majors.Tag f = headed (d - length fs) majors.Tag w n tt i.holds (omega (arith, f.0))
     go majors.Simple f = record { item = simple n; spelled = f.0; within = omega arith; head_is = ap (λ (v : Width). head majors.Simple v n) (sym f.1) }
 
-pub head-undecided : (r : Rules) (b : Bounds) (fs : List Frame) (t x : List ℕ) → Headed (b.depth - length fs) x → 0 < length x → IsUndecided r b fs t x
+pub head-undecided : (r : Rules) (b : Bounds) (fs : List Container) (t x : List ℕ) → Headed (b.depth - length fs) x → 0 < length x → IsUndecided r b fs t x
 head-undecided r b fs t x h some =
     let k = last-apart x some in
     record {

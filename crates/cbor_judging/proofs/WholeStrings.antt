@@ -25,8 +25,7 @@ use Rattle.cbor_automaton.specs.declared.event.EventKind.TheVariants as kinds
 use Rattle.cbor_head.proofs.OneFirst.{count_last}
 use Rattle.cbor_head.proofs.Agree.{string_later}
 use Rattle.std.proofs.KnownBytes.{Consumes-trans}
-use Rattle.cbor_automaton.specs.inner.Automaton.{Frame, State, at_item, in_chunks, close, payload}
-use Rattle.cbor_automaton.specs.inner.Taking.{IsTaking}
+use Rattle.cbor_judging.specs.Place.{Container, Place, at_item, in_chunks, close, payload, IsTaking}
 use Rattle.cbor_machine.specs.NextEvent.{ItemEventsView}
 use Rattle.cbor_judging.specs.Judged.{IsJudged, Never}
 use Rattle.cbor_head.specs.declared.order.KeyOrder.{KeyOrder}
@@ -39,6 +38,8 @@ use Rattle.cbor_judging.proofs.Chunks.{chunk, AreChunksSoFar, cut_chunk, cut_pay
 use Rattle.cbor_judging.proofs.ByteLists.{bytes_join}
 use Rattle.cbor_automaton.proofs.Taking.{nothing-taken}
 use Rattle.cbor_judging.proofs.Steps.{reached-as}
+use Rattle.cbor_judging.specs.Reading.{frame_at, state_at}
+use Rattle.std.specs.Prelude.{map}
 
 -- the rules look for what is no text
 abbrev pub LooksAtText : Rules → Type 0
@@ -52,13 +53,13 @@ is-text (strict o) at q c u h = h.0 u
 -- ---- of one piece
 
 -- the head of a definite string
-pub record StringHead (r : Rules) (b : Bounds) (fs : List Frame) (t x : List ℕ) (w : Width) (text : Bool) (n : ℕ) (next : State) : Type 0 where
+pub record StringHead (r : Rules) (b : Bounds) (fs : List Container) (t x : List ℕ) (w : Width) (text : Bool) (n : ℕ) (next : Place) : Type 0 where
   pub bytes_are : x ≡ head (string_major text) w n
   pub holds : Holds w n
   pub follows : next ≡ payload false (string_major text) n fs
   pub clean : Never (OfHead r (length t) (string_major text) w n)
 
-pub string-head : (r : Rules) (b : Bounds) (fs : List Frame) (t x : List ℕ) (e : ItemEventsView) (w : Width) (text : Bool) (n : ℕ) → (i : IsBegun r b fs t x e w (string_kind text (Some n))) → StringHead r b fs t x w text n i.next
+pub string-head : (r : Rules) (b : Bounds) (fs : List Container) (t x : List ℕ) (e : ItemEventsView) (w : Width) (text : Bool) (n : ℕ) → (i : IsBegun r b fs t x e w (string_kind text (Some n))) → StringHead r b fs t x w text n i.next
 string-head r b fs t x e w true n i =
     let f = definite b.depth fs majors.Text w n x i.next (proper-definite w i.proper) i.taking in
     record { bytes_are = f.bytes_are; holds = f.holds; follows = f.follows; clean = λ c h. i.clean c (head-count r (length t) majors.Text w n c (is-definite w n f.holds) h) }
@@ -95,7 +96,7 @@ pub so-far : (text : Bool) (w : Width) (q more : List ℕ) (r : Rules) (at d : �
 so-far true w q more r at d h g some clean = text_so_far w q more r at d (h, g) some clean
 so-far false w q more r at d h g some clean = bytes_so_far w q more r at d (h, g) some clean
 
-text-judged : (r : Rules) (b : Bounds) (fs : List Frame) (t x : List ℕ) (w : Width) (n : ℕ) (next : State) (to : Option (List ℕ)) (f : Refusal) → LooksAtText r → StringHead r b fs t x w true n next
+text-judged : (r : Rules) (b : Bounds) (fs : List Container) (t x : List ℕ) (w : Width) (n : ℕ) (next : Place) (to : Option (List ℕ)) (f : Refusal) → LooksAtText r → StringHead r b fs t x w true n next
     → (q : List ℕ) → IsNoText b (t ++ x) n q f → HasCause r b fs t (x ++ q) to f
 text-judged r b fs t x w n next to f looks h q y =
     let head_as : x ≡ head majors.Text w (length q) = h.bytes_are ∙ ap (head majors.Text w) (sym y.count) in
@@ -112,11 +113,11 @@ text-judged r b fs t x w n next to f looks h q y =
       cause = (y.is ∙ ap (λ (k : ℕ). refusal InvalidText (k + utf8_valid_len q) (k + length q)) there, subst (λ (u : List ℕ). length u ≤ b.bytes) (append_assoc t x q) y.within);
     }
 
-no-text : (r : Rules) (b : Bounds) (fs : List Frame) (t x : List ℕ) (w : Width) (text : Bool) (n : ℕ) (next : State) (to : Option (List ℕ)) (f : Refusal) → LooksAtText r → StringHead r b fs t x w text n next → text ≡ true
+no-text : (r : Rules) (b : Bounds) (fs : List Container) (t x : List ℕ) (w : Width) (text : Bool) (n : ℕ) (next : Place) (to : Option (List ℕ)) (f : Refusal) → LooksAtText r → StringHead r b fs t x w text n next → text ≡ true
     → (q : List ℕ) → IsNoText b (t ++ x) n q f → HasCause r b fs t (x ++ q) to f
 no-text r b fs t x w text n next to f looks h e q y = text-judged r b fs t x w n next to f looks (subst (λ (v : Bool). StringHead r b fs t x w v n next) e h) q y
 
-module _ (r : Rules) (b : Bounds) (fs : List Frame) (t x : List ℕ) (e : ItemEventsView) (w : Width) (text : Bool) (n : ℕ) (i : IsBegun r b fs t x e w (string_kind text (Some n))) where
+module _ (r : Rules) (b : Bounds) (fs : List Container) (t x : List ℕ) (e : ItemEventsView) (w : Width) (text : Bool) (n : ℕ) (i : IsBegun r b fs t x e w (string_kind text (Some n))) where
   head-is : StringHead r b fs t x w text n i.next
   head-is = string-head r b fs t x e w text n i
 
@@ -179,7 +180,7 @@ module _ (r : Rules) (b : Bounds) (fs : List Frame) (t x : List ℕ) (e : ItemEv
 -- ---- of chunks
 
 -- The chunks so far of a string that stands behind t, and of which x was read when from was left.
-pub record IsReadingChunks (r : Rules) (b : Bounds) (fs : List Frame) (t x : List ℕ) (text : Bool) (content : List ℕ) (from now : Option (List ℕ)) (e : ItemEventsView) : Type 0 where
+pub record IsReadingChunks (r : Rules) (b : Bounds) (fs : List Container) (t x : List ℕ) (text : Bool) (content : List ℕ) (from now : Option (List ℕ)) (e : ItemEventsView) : Type 0 where
   pub done : List Chunk
   pub so_far : AreChunksSoFar r (length t) (string_major text) done
   pub taken : Extends x (chunks_bytes (string_major text) done) from now
@@ -200,12 +201,12 @@ chunks-value true ks = refl
 chunks-value false ks = refl
 
 -- the opener
-record Opener (r : Rules) (b : Bounds) (fs : List Frame) (t x : List ℕ) (text : Bool) (next : State) : Type 0 where
+record Opener (r : Rules) (b : Bounds) (fs : List Container) (t x : List ℕ) (text : Bool) (next : Place) : Type 0 where
   bytes_are : x ≡ head (string_major text) Indefinite 0
   follows : next ≡ in_chunks (string_major text) fs
   clean : Never (OfIndefinite r (length t))
 
-opener-is : (r : Rules) (b : Bounds) (fs : List Frame) (t x : List ℕ) (e : ItemEventsView) (w : Width) (text : Bool) → (i : IsBegun r b fs t x e w (string_kind text None)) → Opener r b fs t x text i.next
+opener-is : (r : Rules) (b : Bounds) (fs : List Container) (t x : List ℕ) (e : ItemEventsView) (w : Width) (text : Bool) → (i : IsBegun r b fs t x e w (string_kind text None)) → Opener r b fs t x text i.next
 opener-is r b fs t x e w true i =
     let h = subst (λ (v : Width). IsTaking b.depth (at_item fs) (a_head majors.Text v 0) x i.next) i.proper i.taking in
     record { bytes_are = h.1; follows = h.2; clean = λ c g. i.clean c (subst (λ (v : Width). OfCount r (length t) majors.Text v 0 c) (sym i.proper) g) }
@@ -213,7 +214,7 @@ opener-is r b fs t x e w false i =
     let h = subst (λ (v : Width). IsTaking b.depth (at_item fs) (a_head majors.Bytes v 0) x i.next) i.proper i.taking in
     record { bytes_are = h.1; follows = h.2; clean = λ c g. i.clean c (subst (λ (v : Width). OfCount r (length t) majors.Bytes v 0 c) (sym i.proper) g) }
 
-pub starts-chunks : (r : Rules) (b : Bounds) (fs : List Frame) (t x : List ℕ) (e : ItemEventsView) (w : Width) (text : Bool) (from : Option (List ℕ)) → IsBegun r b fs t x e w (string_kind text None)
+pub starts-chunks : (r : Rules) (b : Bounds) (fs : List Container) (t x : List ℕ) (e : ItemEventsView) (w : Width) (text : Bool) (from : Option (List ℕ)) → IsBegun r b fs t x e w (string_kind text None)
     → IsReadingChunks r b fs t x text [] from from e
 starts-chunks r b fs t x e w text from i =
     let h = opener-is r b fs t x e w text i in
@@ -236,7 +237,7 @@ head-some m Four n = omega arith
 head-some m Eight n = omega arith
 head-some m Indefinite n = omega arith
 
-pub chunk-or-end : (d : ℕ) (m : Major) (fs : List Frame) (w : Width) (kind : EventKind) (bs : List ℕ) (next : State) → IsTaking d (in_chunks m fs) (mark_of w kind) bs next → ((n : ℕ) × (kind ≡ kinds.Chunk n)) ⊎ (kind ≡ kinds.End)
+pub chunk-or-end : (d : ℕ) (m : Major) (fs : List Container) (w : Width) (kind : EventKind) (bs : List ℕ) (next : Place) → IsTaking d (in_chunks m fs) (mark_of w kind) bs next → ((n : ℕ) × (kind ≡ kinds.Chunk n)) ⊎ (kind ≡ kinds.End)
 chunk-or-end d m fs w (kinds.Chunk n) bs next h = inl (n, refl)
 chunk-or-end d m fs w kinds.End bs next h = inr refl
 chunk-or-end d m fs w (kinds.Unsigned n) bs next h = absurd h
@@ -285,20 +286,20 @@ chunk-head-judged m made kind done r at d a w n c h o =
     of-string majors.Simple o = o
 
 -- a chunk's head
-record ChunkHead (r : Rules) (at : ℕ) (m : Major) (fs : List Frame) (w : Width) (n : ℕ) (bs : List ℕ) (next : State) : Type 0 where
+record ChunkHead (r : Rules) (at : ℕ) (m : Major) (fs : List Container) (w : Width) (n : ℕ) (bs : List ℕ) (next : Place) : Type 0 where
   bytes_are : bs ≡ head m w n
   holds : Holds w n
   follows : next ≡ payload true m n fs
   clean : Never (OfHead r at m w n)
 
-chunk-head : (r : Rules) (b : Bounds) (m : Major) (fs : List Frame) (t : List ℕ) (ev : Event) (from to : Option (List ℕ)) (new : ItemEventsView) (k : ℕ) → (n : IsNextHead r b (in_chunks m fs) t ev from to new) → ev.kind ≡ kinds.Chunk k
+chunk-head : (r : Rules) (b : Bounds) (m : Major) (fs : List Container) (t : List ℕ) (ev : Event) (from to : Option (List ℕ)) (new : ItemEventsView) (k : ℕ) → (n : IsNextHead r b (in_chunks m fs) t ev from to new) → ev.kind ≡ kinds.Chunk k
     → ChunkHead r (length t) m fs ev.width k n.bytes n.next
 chunk-head r b m fs t ev from to new k n e =
     let h = subst (λ (x : EventKind). IsTaking b.depth (in_chunks m fs) (mark_of ev.width x) n.bytes n.next) e n.taking in
     let f = subst (λ (x : EventKind). (c : Complaint) → OfMark r (length t) (in_chunks m fs) (mark_of ev.width x) c → ⊥) e n.clean in
     record { bytes_are = h.0; holds = h.1; follows = h.2; clean = f }
 
-module _ (r : Rules) (b : Bounds) (fs : List Frame) (t x : List ℕ) (text : Bool) (content : List ℕ) (from mid : Option (List ℕ)) (e : ItemEventsView) (a : IsReadingChunks r b fs t x text content from mid e) where
+module _ (r : Rules) (b : Bounds) (fs : List Container) (t x : List ℕ) (text : Bool) (content : List ℕ) (from mid : Option (List ℕ)) (e : ItemEventsView) (a : IsReadingChunks r b fs t x text content from mid e) where
   there : length (t ++ chunks_bytes (string_major text) a.done) ≡ length t + length (chunks_bytes (string_major text) a.done)
   there = length-append t (chunks_bytes (string_major text) a.done)
 
@@ -316,8 +317,8 @@ module _ (r : Rules) (b : Bounds) (fs : List Frame) (t x : List ℕ) (text : Boo
             last = c.last;
             splits = ap (λ (u : List ℕ). y ++ u) c.splits ∙ sym (append_assoc y c.p c.last);
             found = None;
-            judged = cut_chunk (string_major text) (chunks_of text) (is-chunked text) a.done r (length t) (b.depth - length fs) a.so_far b.depth fs c.begun c.p
-                (nothing-taken b.depth (in_chunks (string_major text) fs) c.begun c.p tt c.are_bytes c.ran);
+            judged = cut_chunk (string_major text) (chunks_of text) (is-chunked text) a.done r (length t) (b.depth - length fs) a.so_far b.depth (map frame_at fs) c.begun c.p
+                (nothing-taken b.depth (state_at (in_chunks (string_major text) fs)) c.begun c.p tt c.are_bytes c.ran);
             cause = (c.place ∙ ap length (append_assoc t y c.p), subst (λ (u : List ℕ). IsFormRefusal b u to f) (append_assoc t y s.bytes) c.refused);
           })
           | inr c ↦ inr (record {
@@ -331,7 +332,7 @@ module _ (r : Rules) (b : Bounds) (fs : List Frame) (t x : List ℕ) (text : Boo
         ];
       }
     where
-      go : (c : Complaint) (next : State) (bs : List ℕ) (mark : Mark) → IsTaking b.depth (in_chunks (string_major text) fs) mark bs next → OfMark r (length t + length (chunks_bytes (string_major text) a.done)) (in_chunks (string_major text) fs) mark c
+      go : (c : Complaint) (next : Place) (bs : List ℕ) (mark : Mark) → IsTaking b.depth (in_chunks (string_major text) fs) mark bs next → OfMark r (length t + length (chunks_bytes (string_major text) a.done)) (in_chunks (string_major text) fs) mark c
           → IsJudged r (length t) (b.depth - length fs) (chunks_bytes (string_major text) a.done ++ bs) (Some c)
       go c next bs (a_chunk w n) h o =
           subst (λ (u : List ℕ). IsJudged r (length t) (b.depth - length fs) (chunks_bytes (string_major text) a.done ++ u) (Some c)) (sym h.0)

@@ -7,7 +7,7 @@ use Rattle.cbor_head.specs.Spelling.{Spelling, Spellings, SpelledEntries, array,
 use Rattle.cbor_head.specs.declared.major.Major.TheVariants.{Array, Map, Tag}
 use Rattle.cbor_head.specs.declared.width.Width.{Width}
 use Rattle.cbor_head.specs.declared.width.Width.TheVariants.{Indefinite}
-use Rattle.cbor_automaton.specs.inner.Automaton.{Frame, counted, indefinite_array, indefinite_map}
+use Rattle.cbor_judging.specs.Place.{Container, counted, indefinite_array, indefinite_map}
 use Rattle.cbor_judging.specs.Frame.{with_all, with_entries}
 
 -- ---- items that were taken whole
@@ -43,8 +43,8 @@ pub data Level : Type 0 where
   some_value : SpelledEntries → Spelling → Level
   tagged : Width → ℕ → Level
 
--- the frame of the automaton
-abbrev pub frame : Level → Frame
+-- the container, as events count what is due in it
+abbrev pub frame : Level → Container
 frame (a_member w left done) = counted left
 frame (a_key w left done) = counted (suc (left + left))
 frame (a_value w left done k) = counted (left + left)

@@ -3,6 +3,7 @@ pub mod Judged
 pub mod LastKey
 pub mod Levels
 pub mod OpenMaps
+pub mod Place
 pub mod Readers
 pub mod Reading
 pub mod Refusals

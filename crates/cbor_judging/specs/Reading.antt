@@ -1,5 +1,5 @@
 -- What the readers' own functions answer of one item, which may lie within others, from its events.
-use Rattle.std.specs.Prelude.{◌≡◌, ◌≢◌, ℕ, ◌+◌, ◌-◌, ◌<◌, ◌≤◌, ◌⊎◌, ◌++◌, Bool, true, false, List, [], length, Option, Some, None, IfSome, Result, MatchResult, IsUtf8}
+use Rattle.std.specs.Prelude.{◌≡◌, ◌≢◌, ℕ, ◌+◌, ◌-◌, ◌<◌, ◌≤◌, ◌⊎◌, ◌++◌, Bool, true, false, List, [], length, Option, Some, None, IfSome, Result, MatchResult, IsUtf8, map}
 use Rattle.std.specs.Str.Lossy.{utf8_valid_len}
 use Rattle.std.specs.Io.KnownBytes.{Consumes, IsAtEnd}
 use Rattle.cbor_head.specs.Limits.{Bounds, AreBounds}
@@ -19,8 +19,9 @@ use Rattle.cbor_head.specs.declared.reason.Reason.{Reason}
 use Rattle.cbor_head.specs.declared.reason.Reason.TheVariants as reasons
 use Rattle.cbor_head.specs.declared.reason.Reason.TheVariants.{Truncated, Read, Memory, InvalidText}
 use Rattle.cbor_automaton.specs.Trace.{Mark, a_head, a_chunk}
-use Rattle.cbor_automaton.specs.inner.Automaton.{Frame, State, at_item, in_chunks, close, close_string, payload, run, reached}
-use Rattle.cbor_automaton.specs.inner.Taking.{IsTaking}
+use Rattle.cbor_judging.specs.Place.{Container, counted, indefinite_array, indefinite_map, Place, at_item, in_payload, in_chunks, done, close, close_string, payload, IsTaking}
+use Rattle.cbor_automaton.specs.inner.Automaton as automaton
+use Rattle.cbor_automaton.specs.inner.Automaton.{State, run, reached}
 use Rattle.cbor_automaton.specs.Marks.{mark_of, IsProper}
 use Rattle.cbor_automaton.specs.inner.State.{state_of}
 use Rattle.cbor_machine.specs.NextEvent.{ItemEventsView, StandsBetween}
@@ -31,15 +32,30 @@ use Rattle.cbor_judging.specs.Judged.{IsJudged}
 use Rattle.cbor_judging.specs.Readers.{IsUnread, Loses}
 use Rattle.cbor_judging.specs.Refusals.{IsReaderReason}
 
--- Between two events: the bytes t are taken, within these limits, and the events stand in this state.
-pub record IsAt (b : Bounds) (e : ItemEventsView) (t : List ℕ) (q : State) : Type 0 where
+-- ---- a place, as the automaton has it
+
+abbrev pub frame_at : Container → automaton.Frame
+frame_at (counted n) = automaton.counted n
+frame_at indefinite_array = automaton.indefinite_array
+frame_at (indefinite_map due) = automaton.indefinite_map due
+
+abbrev pub state_at : Place → State
+state_at (at_item cs) = automaton.at_item (map frame_at cs)
+state_at (in_payload chunk m n cs) = automaton.in_payload chunk m n (map frame_at cs)
+state_at (in_chunks m cs) = automaton.in_chunks m (map frame_at cs)
+state_at done = automaton.done
+
+-- ---- between two events
+
+-- The bytes t are taken, within these limits, and the events stand at this place.
+pub record IsAt (b : Bounds) (e : ItemEventsView) (t : List ℕ) (q : Place) : Type 0 where
   pub live : e.refusal ≡ None
   pub limits : AreBounds b
   pub depth : e.machine.depth ≡ b.depth
   pub bytes : e.machine.bytes ≡ b.bytes
   pub marks : List Mark
   pub stands : StandsBetween e.machine t marks
-  pub state : state_of e.machine.inner.position e.machine.inner.frames ≡ q
+  pub state : state_of e.machine.inner.position e.machine.inner.frames ≡ state_at q
 
 -- Of what is read, x was taken before, and all of y is now: the reader lost what y has behind x.
 pub record Extends (x y : List ℕ) (from to : Option (List ℕ)) : Type 0 where
@@ -56,14 +72,14 @@ IsFormRefusal b all to f =
 -- ---- an item
 
 -- the complaint on the head of an event
-abbrev pub OfMark : Rules → ℕ → State → Mark → Complaint → Type 0
+abbrev pub OfMark : Rules → ℕ → Place → Mark → Complaint → Type 0
 OfMark r at (at_item fs) (a_head m w n) c = OfCount r at m w n c
 OfMark r at (in_chunks m fs) (a_chunk w n) c = OfHead r at m w n c
 OfMark r at q m c = ⊥
 
 -- The head of an item within these open containers was read: its bytes are x, behind t, and it has no complaint.
-pub record IsBegun (r : Rules) (b : Bounds) (fs : List Frame) (t x : List ℕ) (e : ItemEventsView) (w : Width) (kind : EventKind) : Type 0 where
-  pub next : State
+pub record IsBegun (r : Rules) (b : Bounds) (fs : List Container) (t x : List ℕ) (e : ItemEventsView) (w : Width) (kind : EventKind) : Type 0 where
+  pub next : Place
   pub taking : IsTaking b.depth (at_item fs) (mark_of w kind) x next
   pub item : kind ≢ kinds.End
   pub clean : (c : Complaint) → OfMark r (length t) (at_item fs) (mark_of w kind) c → ⊥
@@ -72,7 +88,7 @@ pub record IsBegun (r : Rules) (b : Bounds) (fs : List Frame) (t x : List ℕ) (
 
 -- An item within these open containers, which stands behind t, and of which x was read before the call: it is read whole, and
 -- has no complaint.
-pub record ReadsItem (r : Rules) (b : Bounds) (fs : List Frame) (t x : List ℕ) (from to : Option (List ℕ)) (new : ItemEventsView) (v : Value) : Type 0 where
+pub record ReadsItem (r : Rules) (b : Bounds) (fs : List Container) (t x : List ℕ) (from to : Option (List ℕ)) (new : ItemEventsView) (v : Value) : Type 0 where
   pub item : Spelling
   pub spelled : IsSpelled item
   pub within : depth item ≤ b.depth - length fs
@@ -93,7 +109,7 @@ IsCause b all to at (Some c) f = (f ≡ refusal c.reason c.place c.end) × (leng
 IsCause b all to at None f = (f.place ≡ at) × IsFormRefusal b all to f
 
 -- of the bytes taken of the item, p is a beginning, and has this complaint first, or none
-pub record HasCause (r : Rules) (b : Bounds) (fs : List Frame) (t bytes : List ℕ) (to : Option (List ℕ)) (f : Refusal) : Type 0 where
+pub record HasCause (r : Rules) (b : Bounds) (fs : List Container) (t bytes : List ℕ) (to : Option (List ℕ)) (f : Refusal) : Type 0 where
   pub p : List ℕ
   pub last : List ℕ
   pub splits : bytes ≡ p ++ last
@@ -106,7 +122,7 @@ abbrev pub IsMemory : Refusal → Type 0
 IsMemory f = (f.reason ≡ Memory) × (f.place ≡ f.read)
 
 -- Of the bytes taken of the item, all but at most the last byte have no complaint, and the item goes on behind them.
-pub record IsUndecided (r : Rules) (b : Bounds) (fs : List Frame) (t bytes : List ℕ) : Type 0 where
+pub record IsUndecided (r : Rules) (b : Bounds) (fs : List Container) (t bytes : List ℕ) : Type 0 where
   pub p : List ℕ
   pub last : List ℕ
   pub splits : bytes ≡ p ++ last
@@ -114,7 +130,7 @@ pub record IsUndecided (r : Rules) (b : Bounds) (fs : List Frame) (t bytes : Lis
   pub judged : IsJudged r (length t) (b.depth - length fs) p None
 
 -- The same item is refused, and so many bytes were taken as the refusal tells.
-pub record StopsItem (r : Rules) (b : Bounds) (fs : List Frame) (t x : List ℕ) (from to : Option (List ℕ)) (f : Refusal) : Type 0 where
+pub record StopsItem (r : Rules) (b : Bounds) (fs : List Container) (t x : List ℕ) (from to : Option (List ℕ)) (f : Refusal) : Type 0 where
   pub bytes : List ℕ
   pub taken : Extends x bytes from to
   pub read : f.read ≡ length (t ++ bytes)
@@ -123,7 +139,7 @@ pub record StopsItem (r : Rules) (b : Bounds) (fs : List Frame) (t x : List ℕ)
 -- some item is begun
 pub record HasBegun (r : Rules) (e : ItemEventsView) (kind : EventKind) : Type 0 where
   pub b : Bounds
-  pub fs : List Frame
+  pub fs : List Container
   pub t : List ℕ
   pub x : List ℕ
   pub w : Width
@@ -137,51 +153,51 @@ pub record AreRefused (r : Rules) (b : Bounds) (bytes : List ℕ) (to : Option (
 -- ---- one event
 
 -- a head or a break may come
-abbrev pub IsHeadDue : State → Type 0
+abbrev pub IsHeadDue : Place → Type 0
 IsHeadDue (at_item fs) = Unit {0}
 IsHeadDue (in_chunks m fs) = Unit {0}
 IsHeadDue _ = ⊥
 
 pub record HasHeadDue (e : ItemEventsView) : Type 0 where
   pub b : Bounds
-  pub q : State
+  pub q : Place
   pub due : IsHeadDue q
   pub t : List ℕ
   pub at : IsAt b e t q
 
 -- the next event, without complaint
-pub record IsNextHead (r : Rules) (b : Bounds) (q : State) (t : List ℕ) (e : Event) (from to : Option (List ℕ)) (new : ItemEventsView) : Type 0 where
+pub record IsNextHead (r : Rules) (b : Bounds) (q : Place) (t : List ℕ) (e : Event) (from to : Option (List ℕ)) (new : ItemEventsView) : Type 0 where
   pub bytes : List ℕ
   pub consumed : Consumes from to bytes
   pub place : e.place ≡ length t
-  pub next : State
+  pub next : Place
   pub taking : IsTaking b.depth q (mark_of e.width e.kind) bytes next
   pub clean : (c : Complaint) → OfMark r (length t) q (mark_of e.width e.kind) c → ⊥
   pub proper : IsProper e.width e.kind
   pub at : IsAt b new (t ++ bytes) next
 
 -- p told nothing, and what is behind it is refused, whatever else comes; or nothing comes
-pub record IsCutHead (b : Bounds) (q : State) (t bytes : List ℕ) (to : Option (List ℕ)) (f : Refusal) : Type 0 where
+pub record IsCutHead (b : Bounds) (q : Place) (t bytes : List ℕ) (to : Option (List ℕ)) (f : Refusal) : Type 0 where
   pub p : List ℕ
   pub last : List ℕ
   pub splits : bytes ≡ p ++ last
   pub are_bytes : AreBytes p
   pub begun : State
-  pub ran : run b.depth q p ≡ reached begun []
+  pub ran : run b.depth (state_at q) p ≡ reached begun []
   pub place : f.place ≡ length (t ++ p)
   pub refused : IsFormRefusal b (t ++ bytes) to f
 
 -- the head has a complaint
-pub record HasHeadComplaint (r : Rules) (b : Bounds) (q : State) (t bytes : List ℕ) (f : Refusal) : Type 0 where
+pub record HasHeadComplaint (r : Rules) (b : Bounds) (q : Place) (t bytes : List ℕ) (f : Refusal) : Type 0 where
   pub mark : Mark
-  pub next : State
+  pub next : Place
   pub taking : IsTaking b.depth q mark bytes next
   pub complaint : Complaint
   pub of : OfMark r (length t) q mark complaint
   pub is : f ≡ refusal complaint.reason complaint.place complaint.end
   pub within : length (t ++ bytes) ≤ b.bytes
 
-pub record StopsHead (r : Rules) (b : Bounds) (q : State) (t : List ℕ) (from to : Option (List ℕ)) (f : Refusal) : Type 0 where
+pub record StopsHead (r : Rules) (b : Bounds) (q : Place) (t : List ℕ) (from to : Option (List ℕ)) (f : Refusal) : Type 0 where
   pub bytes : List ℕ
   pub consumed : Consumes from to bytes
   pub read : f.read ≡ length (t ++ bytes)
@@ -189,7 +205,7 @@ pub record StopsHead (r : Rules) (b : Bounds) (q : State) (t : List ℕ) (from t
 
 abbrev pub AnswersHead : Rules → ItemEventsView → Option (List ℕ) → Option (List ℕ) → ItemEventsView → Result Event Refusal → Type 0
 AnswersHead r e from to new result =
-    (b : Bounds) (q : State) (t : List ℕ) → IsHeadDue q → IsAt b e t q
+    (b : Bounds) (q : Place) (t : List ℕ) → IsHeadDue q → IsAt b e t q
     → MatchResult result (λ event. IsNextHead r b q t event from to new) (λ f. StopsHead r b q t from to f)
 
 -- ---- strings
@@ -212,12 +228,12 @@ pub record IsPayloadDue (e : ItemEventsView) (n : ℕ) : Type 0 where
   pub b : Bounds
   pub chunk : Bool
   pub m : Major
-  pub fs : List Frame
+  pub fs : List Container
   pub t : List ℕ
   pub at : IsAt b e t (payload chunk m n fs)
 
 -- it is read, and put behind what was there
-pub record ReadsPayload (b : Bounds) (q : State) (t : List ℕ) (n : ℕ) (old grown : List ℕ) (from to : Option (List ℕ)) (new : ItemEventsView) : Type 0 where
+pub record ReadsPayload (b : Bounds) (q : Place) (t : List ℕ) (n : ℕ) (old grown : List ℕ) (from to : Option (List ℕ)) (new : ItemEventsView) : Type 0 where
   pub bytes : List ℕ
   pub consumed : Consumes from to bytes
   pub count : length bytes ≡ n
@@ -260,7 +276,7 @@ pub record StopsPayload (b : Bounds) (t : List ℕ) (n : ℕ) (text : Bool) (fro
 
 abbrev pub AnswersPayload : Bool → ItemEventsView → ℕ → List ℕ → List ℕ → Option (List ℕ) → Option (List ℕ) → ItemEventsView → Result (Unit {0}) Refusal → Type 0
 AnswersPayload text e n old grown from to new result =
-    (b : Bounds) (chunk : Bool) (m : Major) (fs : List Frame) (t : List ℕ) → IsAt b e t (payload chunk m n fs)
+    (b : Bounds) (chunk : Bool) (m : Major) (fs : List Container) (t : List ℕ) → IsAt b e t (payload chunk m n fs)
     → MatchResult result (λ u. (reads : ReadsPayload b (close_string chunk m fs) t n old grown from to new) × (text ≡ true → IsUtf8 reads.bytes)) (λ f. StopsPayload b t n text from to f)
 
 -- ---- heads

@@ -8,8 +8,7 @@ use Rattle.cbor_head.specs.Canonical.{Pair}
 use Rattle.cbor_head.specs.declared.major.Major.{Major}
 use Rattle.cbor_head.specs.declared.major.Major.TheVariants as majors
 use Rattle.cbor_head.specs.declared.order.KeyOrder.{KeyOrder}
-use Rattle.cbor_automaton.specs.inner.Automaton.{State}
-use Rattle.cbor_automaton.specs.inner.Taking.{Ends}
+use Rattle.cbor_judging.specs.Place.{Place, Ends}
 use Rattle.cbor_builder.specs.Built.{HasKey, IsRepeatedKey, IsWaitingKey, IsContainer}
 use Rattle.cbor_builder.specs.Parts.{Open, plain, an_array, a_map, a_key, a_string, pair, closed, give, close, opened}
 use Rattle.cbor_reader.specs.declared.key_set.KeySet.{KeySet}
@@ -94,7 +93,7 @@ held-opened majors.Text n s ss os i e h = absurd i
 held-opened majors.Simple n s ss os i e h = absurd i
 
 -- no key waits where a break may come
-pub held-broken : (o : KeyOrder) (ss : List KeySet) (ls : List Level) (next : State) → Ends (map frame ls) next → AreHeld ss (opens o ls) → AreHeldSoFar ss (opens o ls)
+pub held-broken : (o : KeyOrder) (ss : List KeySet) (ls : List Level) (next : Place) → Ends (map frame ls) next → AreHeld ss (opens o ls) → AreHeldSoFar ss (opens o ls)
 held-broken o ss [] next e h = absurd e
 held-broken o [] (l ∷ ls) next e h = absurd h
 held-broken o (s ∷ ss) (levels.some_member done ∷ ls) next e h = h

@@ -1,5 +1,5 @@
 -- A builder that is given an item's events: what each event does to it.
-use Rattle.std.proofs.Common.{◌≡◌, ◌≢◌, ℕ, zero, suc, ◌+◌, ◌-◌, ◌^◌, ◌<◌, ◌≤◌, true, Some, List, [], ◌∷◌, ◌++◌, length, map, take, refl, sym, ap, ap₂, ◌∙◌, subst, arith, append_assoc, append-nil}
+use Rattle.std.proofs.Common.{◌≡◌, ◌≢◌, ℕ, zero, suc, ◌+◌, ◌-◌, ◌^◌, ◌<◌, ◌≤◌, Some, List, [], ◌∷◌, ◌++◌, length, map, take, refl, sym, ap, ap₂, ◌∙◌, subst, arith, append_assoc, append-nil}
 use Rattle.std.proofs.lemmas.List.{length-append, length-map}
 use Rattle.cbor_head.specs.Head.{Holds, IsSimple, head, shortest_head}
 use Rattle.cbor_head.specs.Limits.{Bounds}
@@ -25,15 +25,9 @@ use Rattle.cbor_automaton.specs.Token.{kind_of}
 use Rattle.cbor_slices.specs.SliceView.{SliceEventsView, seen}
 use Rattle.cbor_automaton.specs.declared.event.Event.{Event}
 use Rattle.cbor_automaton.specs.declared.event.EventKind.TheVariants as kinds
-use Rattle.cbor_automaton.specs.declared.position.Position.{Position}
-use Rattle.cbor_automaton.specs.declared.position.Position.TheVariants as positions
 use Rattle.cbor_automaton.specs.declared.token.Token.{Token}
 use Rattle.cbor_automaton.specs.declared.token.Token.TheVariants as tokens
-use Rattle.cbor_automaton.specs.inner.Automaton.{Frame, State, at_item, close, expect}
-use Rattle.cbor_automaton.specs.inner.State.{state_of}
-use Rattle.cbor_automaton.specs.inner.Taking.{Ends, Follows, IsTaking}
-use Rattle.cbor_automaton.proofs.Frames.{position-done}
-use Rattle.cbor_automaton.proofs.Opens.{stack}
+use Rattle.cbor_judging.specs.Place.{Container, Place, at_item, close, expect, Ends, Follows, IsTaking, open_at}
 use Rattle.cbor_builder.specs.Built.{Built, built, TakesPart, IsInContainer, HasDistinctKeysSoFar}
 use Rattle.cbor_builder.specs.Parts.{Open, an_array, plain as a_plain, a_map as an_open_map, give, opened, close as close_open}
 use Rattle.cbor_judging.specs.Levels.{IsTaken, Level, a_member, a_key, a_value, some_member, some_key, some_value, tagged, frame, AreLevels, bytes_before}
@@ -45,7 +39,7 @@ use Rattle.cbor_judging.proofs.Heads.{open_or}
 use Rattle.cbor_judging.proofs.Items.{definite, is-definite, proper-definite, never-open, reads-next, taking-some}
 use Rattle.cbor_judging.proofs.Arrays.{closes}
 use Rattle.cbor_judging.proofs.Loops.{array_bytes-whole, map_bytes-whole}
-use Rattle.cbor_judging.proofs.Standing.{done_position, open-is, fewer-open, short-at}
+use Rattle.cbor_judging.proofs.Standing.{fewer-open, is-complete, is-done, open-is, short-at}
 use Rattle.cbor_judging.proofs.Levels.{clean-anywhere}
 use Rattle.cbor_reader.proofs.Levels.{full-array, full-map, given, ended}
 use Rattle.cbor_reader.proofs.Valid.{count_bounded}
@@ -56,17 +50,17 @@ use Rattle.cbor_judging.proofs.Steps.{next-head, limits-as}
 -- ---- what stands
 
 module _ (o : KeyOrder) (d : ℕ) where
-  pub standing-as : (t u : List ℕ) (q p : State) (os ps : List Open) (h k : ℕ) → t ≡ u → q ≡ p → os ≡ ps → h ≡ k → IsStanding o d t q os h → IsStanding o d u p ps k
+  pub standing-as : (t u : List ℕ) (q p : Place) (os ps : List Open) (h k : ℕ) → t ≡ u → q ≡ p → os ≡ ps → h ≡ k → IsStanding o d t q os h → IsStanding o d u p ps k
   standing-as t u q p os ps h k e f g j s =
       subst (λ (x : ℕ). IsStanding o d u p ps x) j (subst (λ (x : List Open). IsStanding o d u p x h) g
-      (subst (λ (x : State). IsStanding o d u x os h) f (subst (λ (x : List ℕ). IsStanding o d x q os h) e s)))
+      (subst (λ (x : Place). IsStanding o d u x os h) f (subst (λ (x : List ℕ). IsStanding o d x q os h) e s)))
 
-module _ (o : KeyOrder) (b : Bounds) (e : ItemEventsView) (t : List ℕ) (q : State) (a : IsAt b e t q) where
+module _ (o : KeyOrder) (b : Bounds) (e : ItemEventsView) (t : List ℕ) (q : Place) (a : IsAt b e t q) where
   due-open : (ls : List Level) → q ≡ at_item (map frame ls) → e.machine.open_count ≡ length ls
-  due-open ls f = open-is b e t q a ∙ ap (λ (p : State). length (stack p)) f ∙ length-map ls frame
+  due-open ls f = open-is b e t q a ∙ ap (λ (p : Place). length (open_at p)) f ∙ length-map ls frame
 
   full-open : (ls : List Level) → q ≡ close (map frame ls) → e.machine.open_count ≤ length ls
-  full-open ls f = omega (arith, open-is b e t q a, ap (λ (p : State). length (stack p)) f, fewer-open (map frame ls), length-map ls frame)
+  full-open ls f = omega (arith, open-is b e t q a, ap (λ (p : Place). length (open_at p)) f, fewer-open (map frame ls), length-map ls frame)
 
   -- more are open in the builder: the innermost is to end
   pub to-end : (os : List Open) (h : ℕ) → e.machine.open_count < h → IsStanding o b.depth t q os h → IsInContainer os
@@ -89,19 +83,19 @@ module _ (o : KeyOrder) (b : Bounds) (e : ItemEventsView) (t : List ℕ) (q : St
   all-ended os h least (due ls l t_is q_is os_is h_is) = due ls l t_is q_is os_is (due-open ls q_is)
   all-ended os h least (full ls s c l f t_is q_is os_is h_is) = absurd (omega (arith, least, full-open ls q_is, h_is))
   all-ended os h least (whole s i t_is q_is os_is h_is) =
-      whole s i t_is q_is os_is (open-is b e t q a ∙ ap (λ (p : State). length (stack p)) q_is)
+      whole s i t_is q_is os_is (open-is b e t q a ∙ ap (λ (p : Place). length (open_at p)) q_is)
 
 -- ---- the next event
 
 -- it has no complaint of the plain rules by itself
-pub plain-head : (b : Bounds) (old new : SliceEventsView) (t : List ℕ) (q : State) (token : Token) → IsHeadDue q → (a : IsAt b (seen old) t q) → KeepsLimits old.machine new.machine → IsRefusedTold token new
+pub plain-head : (b : Bounds) (old new : SliceEventsView) (t : List ℕ) (q : Place) (token : Token) → IsHeadDue q → (a : IsAt b (seen old) t q) → KeepsLimits old.machine new.machine → IsRefusedTold token new
     → IsNextTold token old new t a.marks → (token ≡ tokens.Refused → ⊥) → (token ≡ tokens.End → ⊥) → IsNextHead plain b q t (event_of token new) (Some old.rest) (Some new.rest) (seen new)
 plain-head b old new t q token head_due a limits live told no_refusal no_end =
     next-head plain b (seen old) (seen new) t q (event_of token new) (Some old.rest) (Some new.rest) head_due a (told-event token old new t a.marks no_refusal no_end told) (limits-as old.machine new.machine limits)
     (told-live token new no_refusal live) (λ reason h. h)
 
 -- an item is due within these containers
-pub record IsDueWithin (o : KeyOrder) (d : ℕ) (t : List ℕ) (q : State) (os : List Open) (height : ℕ) : Type 0 where
+pub record IsDueWithin (o : KeyOrder) (d : ℕ) (t : List ℕ) (q : Place) (os : List Open) (height : ℕ) : Type 0 where
   pub ls : List Level
   pub levels : AreLevels d ls
   pub bytes_are : t ≡ bytes_before ls
@@ -109,20 +103,16 @@ pub record IsDueWithin (o : KeyOrder) (d : ℕ) (t : List ℕ) (q : State) (os :
   pub standing : os ≡ opens o ls
   pub height_is : height ≡ length ls
 
-module _ (o : KeyOrder) (b : Bounds) (old new : SliceEventsView) (t : List ℕ) (q : State) (a : IsAt b (seen old) t q) (os : List Open) where
+module _ (o : KeyOrder) (b : Bounds) (old new : SliceEventsView) (t : List ℕ) (q : Place) (a : IsAt b (seen old) t q) (os : List Open) where
   pub event-due : (ev : Event) → IsNextEvent ev (slice_call old new t a.marks) → IsStanding o b.depth t q os old.machine.open_count → IsDueWithin o b.depth t q os old.machine.open_count
   event-due ev n (due ls l t_is q_is os_is h_is) = record { ls = ls; levels = l; bytes_are = t_is; state = q_is; standing = os_is; height_is = h_is }
   event-due ev n (full ls s c l f t_is q_is os_is h_is) = absurd (omega (arith, h_is, full-open o b (seen old) t q a ls q_is))
   event-due ev n (whole s i t_is q_is os_is h_is) =
-      let at_its_end : old.machine.inner.position ≡ positions.Done = done_position old.machine.inner.position old.machine.inner.frames (a.state ∙ q_is) in
-      let complete : old.machine.complete ≡ true = rw at_its_end at a.stands.stands.inner.shown.complete in
-      absurd (n.unfinished (complete, a.stands.stands.live))
+      absurd (n.unfinished (is-complete b (seen old) t (subst (IsAt b (seen old) t) q_is a)))
 
   -- or the item is whole
   pub item-whole : IsEnd (slice_call old new t a.marks) → IsStanding o b.depth t q os old.machine.open_count → (s : Spelling) × IsTaken b.depth s × (t ≡ spell s) × (os ≡ a_plain (canonical o (value_of s)) ∷ [])
-  item-whole n (due ls l t_is q_is os_is h_is) =
-      let is_over = position-done old.machine.inner.position (sym a.stands.stands.inner.shown.complete ∙ n.complete.0) in
-      absurd (cc (sym q_is ∙ sym a.state ∙ ap (λ (p : Position). state_of p old.machine.inner.frames) is_over))
+  item-whole n (due ls l t_is q_is os_is h_is) = absurd (cc (sym q_is ∙ is-done b (seen old) t q a n.complete))
   item-whole n (full ls s c l f t_is q_is os_is h_is) = absurd (omega (arith, h_is, full-open o b (seen old) t q a ls q_is))
   item-whole n (whole s i t_is q_is os_is h_is) = (s, i, t_is, os_is)
 
@@ -139,7 +129,7 @@ front-built o b input rest out size s i e f g = record {
 }
 
 -- an event came where an item was due
-pub event-is : (b : Bounds) (o : KeyOrder) (old new : SliceEventsView) (t : List ℕ) (q : State) (token : Token) (g : Built) → (a : IsAt b (seen old) t q) → KeepsLimits old.machine new.machine → IsRefusedTold token new
+pub event-is : (b : Bounds) (o : KeyOrder) (old new : SliceEventsView) (t : List ℕ) (q : Place) (token : Token) (g : Built) → (a : IsAt b (seen old) t q) → KeepsLimits old.machine new.machine → IsRefusedTold token new
     → IsNextTold token old new t a.marks → (token ≡ tokens.Refused → ⊥) → (token ≡ tokens.End → ⊥) → IsBuilding o b.depth t q g old.machine.open_count
     → (ls : List Level) × IsEvent b o ls token old new g × (t ≡ bytes_before ls) × (old.machine.open_count ≡ length ls)
 event-is b o old new t q token g a limits live told no_refusal no_end building =
@@ -149,7 +139,7 @@ event-is b o old new t q token g a limits live told no_refusal no_end building =
       record {
         levels = d.levels;
         next = subst (λ (x : List ℕ). IsNextHead plain b (at_item (map frame d.ls)) x (event_of token new) (Some old.rest) (Some new.rest) (seen new)) d.bytes_are
-            (subst (λ (p : State). IsNextHead plain b p t (event_of token new) (Some old.rest) (Some new.rest) (seen new)) d.state next);
+            (subst (λ (p : Place). IsNextHead plain b p t (event_of token new) (Some old.rest) (Some new.rest) (seen new)) d.state next);
         order = building.0;
         standing = d.standing;
       },
@@ -177,7 +167,7 @@ if-ok (Err x) P Q h f = tt
 -- ---- what an event does
 
 module _ (b : Bounds) (o : KeyOrder) (ls : List Level) (token : Token) (old e : SliceEventsView) (g : Built) (i : IsEvent b o ls token old e g) where
-  abbrev fs : List Frame
+  abbrev fs : List Container
   fs = map frame ls
 
   abbrev t : List ℕ
@@ -288,7 +278,7 @@ module _ (b : Bounds) (o : KeyOrder) (ls : List Level) (token : Token) (old e : 
 
     -- the head of a definite one
     fed-definite : (c : Open) → opened m k ≡ c → (w : Width) → w ≢ Indefinite → IsTaking b.depth (at_item fs) (a_head m w k) i.next.bytes i.next.next
-        → ((next : State) → Holds w k → Follows b.depth fs m w k next → IsStanding o b.depth (t ++ head m w k) next (c ∷ opens o ls) (suc (length ls))) → IsFed b o t old.rest e now (length ls + n)
+        → ((next : Place) → Holds w k → Follows b.depth fs m w k next → IsStanding o b.depth (t ++ head m w k) next (c ∷ opens o ls) (suc (length ls))) → IsFed b o t old.rest e now (length ls + n)
     fed-definite c f w w_is taking s =
         let h = definite b.depth fs m w k i.next.bytes i.next.next w_is taking in
         fed-open c f (subst (λ (x : List ℕ). IsStanding o b.depth (t ++ x) i.next.next (c ∷ opens o ls) (suc (length ls))) (sym h.bytes_are) (s i.next.next h.holds h.follows))
@@ -296,7 +286,7 @@ module _ (b : Bounds) (o : KeyOrder) (ls : List Level) (token : Token) (old e : 
   room-for : (length fs < b.depth) → length ls < b.depth
   room-for r = omega (arith, r, length-map ls frame)
 
-  array-begins : (k : ℕ) (w : Width) (next : State) → Holds w k → (length fs < b.depth) → next ≡ expect k fs → IsStanding o b.depth (t ++ head majors.Array w k) next (an_array 0 [] ∷ opens o ls) (suc (length ls))
+  array-begins : (k : ℕ) (w : Width) (next : Place) → Holds w k → (length fs < b.depth) → next ≡ expect k fs → IsStanding o b.depth (t ++ head majors.Array w k) next (an_array 0 [] ∷ opens o ls) (suc (length ls))
   array-begins zero w next holds room follows =
       full ls (array w no_spellings) (an_array 0 []) i.levels
       (full-array o (b.depth - length ls) 0 w no_spellings 0 [] refl refl tt (open_or w 0 holds) (omega (arith, room-for room)))
@@ -306,7 +296,7 @@ module _ (b : Bounds) (o : KeyOrder) (ls : List Level) (token : Token) (old e : 
       due (a_member w left no_spellings ∷ ls) (room-for room, (subst (Holds w) count holds, tt), i.levels)
       (ap (λ (x : List ℕ). t ++ x) (ap (head majors.Array w) count ∙ sym (append-nil (head majors.Array w (0 + suc left))))) follows refl refl
 
-  map-begins : (k : ℕ) (w : Width) (next : State) → Holds w k → (length fs < b.depth) → next ≡ expect (k + k) fs → IsStanding o b.depth (t ++ head majors.Map w k) next (an_open_map [] ∷ opens o ls) (suc (length ls))
+  map-begins : (k : ℕ) (w : Width) (next : Place) → Holds w k → (length fs < b.depth) → next ≡ expect (k + k) fs → IsStanding o b.depth (t ++ head majors.Map w k) next (an_open_map [] ∷ opens o ls) (suc (length ls))
   map-begins zero w next holds room follows =
       full ls (a_map w no_entries) (an_open_map []) i.levels
       (full-map o (b.depth - length ls) 0 w no_entries [] refl tt (open_or w 0 holds) (omega (arith, room-for room)) (omega arith))

@@ -17,7 +17,7 @@ use Rattle.cbor_automaton.specs.Token.{kind_of}
 use Rattle.cbor_automaton.specs.declared.event.EventKind.TheVariants as kinds
 use Rattle.cbor_automaton.specs.declared.token.Token.{Token}
 use Rattle.cbor_automaton.specs.declared.token.Token.TheVariants as tokens
-use Rattle.cbor_automaton.specs.inner.Automaton.{Frame, close, close_string, in_chunks, payload}
+use Rattle.cbor_judging.specs.Place.{Container, close, close_string, in_chunks, payload}
 use Rattle.cbor_builder.specs.Built.{Built, built, TakesPart, IsInString}
 use Rattle.cbor_builder.specs.Parts.{Open, a_string, give, opened, extended, close as close_open}
 use Rattle.cbor_reader.specs.inner.Levels.{TakesContent}
@@ -32,7 +32,7 @@ use Rattle.cbor_judging.proofs.WholeStrings.{IsReadingChunks, reads-string, chun
 
 -- ---- a payload
 
-module _ (b : Bounds) (chunk : Bool) (m : Major) (fs : List Frame) (t : List ℕ) (n : ℕ) (old : SliceEventsView) (a : IsAt b (seen old) t (payload chunk m n fs)) where
+module _ (b : Bounds) (chunk : Bool) (m : Major) (fs : List Container) (t : List ℕ) (n : ℕ) (old : SliceEventsView) (a : IsAt b (seen old) t (payload chunk m n fs)) where
   pub no-content : n ≡ 0 → (text : Bool) → TakesContent b (close_string chunk m fs) t n text [] old old
   no-content none text =
       let reads = all-come b chunk m fs t n [] [] (Some old.rest) (Some old.rest) (seen old) n (none-come b chunk m fs t n [] (Some old.rest) (seen old) a) none in
@@ -73,7 +73,7 @@ pub string-built : (g now : Built) (m : Major) (text : Bool) (content : List ℕ
 string-built g now m text content is e =
     e ∙ ap (λ (j : Major). built g.order (give (shortest_head j (length content) ++ content) g.standing)) is ∙ ap (λ (x : List ℕ). built g.order (give x g.standing)) (string-canonical g.order text content)
 
-pub string-taken : (b : Bounds) (fs : List Frame) (t x : List ℕ) (w : Width) (text : Bool) (n : ℕ) (old new : SliceEventsView) (content : List ℕ) → (i : IsBegun plain b fs t x (seen old) w (string_kind text (Some n)))
+pub string-taken : (b : Bounds) (fs : List Container) (t x : List ℕ) (w : Width) (text : Bool) (n : ℕ) (old new : SliceEventsView) (content : List ℕ) → (i : IsBegun plain b fs t x (seen old) w (string_kind text (Some n)))
     → TakesContent b (close fs) (t ++ x) n text content old new → ReadsItem plain b fs t x (Some old.rest) (Some new.rest) (seen new) (string_value text content)
 string-taken b fs t x w text n old new content i k = (reads-string plain b fs t x (seen old) w text n i content (Some old.rest) (Some new.rest) (seen new) k.reads k.utf8).0
 
@@ -95,7 +95,7 @@ pub chunked-ends : (g at now : Built) (text : Bool) (content : List ℕ) → at 
 chunked-ends g at now text content f e =
     e ∙ ap (λ (x : Built). built x.order (close_open x.order x.standing)) f ∙ ap (λ (x : List ℕ). built g.order (give x g.standing)) (string-canonical g.order text content)
 
-module _ (b : Bounds) (fs : List Frame) (t x : List ℕ) (text : Bool) (content : List ℕ) (start old new : SliceEventsView) (a : IsReadingChunks plain b fs t x text content (Some start.rest) (Some old.rest) (seen old)) (token : Token)
+module _ (b : Bounds) (fs : List Container) (t x : List ℕ) (text : Bool) (content : List ℕ) (start old new : SliceEventsView) (a : IsReadingChunks plain b fs t x text content (Some start.rest) (Some old.rest) (seen old)) (token : Token)
     (limits : KeepsLimits old.machine new.machine) (live : IsRefusedTold token new) (told : IsNextTold token old new (t ++ chunks_bytes (string_major text) a.done) a.at.marks)
   where
     next-chunk : (token ≡ tokens.Refused → ⊥) → (token ≡ tokens.End → ⊥)

@@ -15,7 +15,7 @@ use Rattle.cbor_slices.specs.SliceView.{SliceEventsView, seen}
 use Rattle.cbor_automaton.specs.Token.{IsEventToken}
 use Rattle.cbor_automaton.specs.declared.token.Token.{Token}
 use Rattle.cbor_automaton.specs.declared.token.Token.TheVariants.{Bytes, Text, Unsigned, Negative, Array, Map, Tag, Simple, Piece, Chunk, IndefiniteBytes, IndefiniteText, IndefiniteArray, IndefiniteMap, Break, End, Refused}
-use Rattle.cbor_automaton.specs.inner.Automaton.{Frame, State}
+use Rattle.cbor_judging.specs.Place.{Container, Place}
 use Rattle.cbor_builder.specs.Built.{Built, built}
 use Rattle.cbor_builder.specs.Parts.{give}
 use Rattle.cbor_judging.specs.Levels.{Level, bytes_before}
@@ -28,7 +28,7 @@ use Rattle.cbor_judging.proofs.WholeStrings.{IsReadingChunks, string-due}
 use Rattle.cbor_judging.proofs.Leaves.{chunks_bytes}
 
 -- nothing is taken
-pub built-nothing : (b : Bounds) (o : KeyOrder) (t : List ℕ) (q : State) (e : SliceEventsView) (g : Built) → IsAt b (seen e) t q → IsBuilding o b.depth t q g e.machine.open_count → IsBuiltOn b o t e.rest e g
+pub built-nothing : (b : Bounds) (o : KeyOrder) (t : List ℕ) (q : Place) (e : SliceEventsView) (g : Built) → IsAt b (seen e) t q → IsBuilding o b.depth t q g e.machine.open_count → IsBuiltOn b o t e.rest e g
 built-nothing b o t q e g a s = record {
   bytes = [];
   consumed = refl;
@@ -51,7 +51,7 @@ built-more b o t from u old new g now last h f same x s =
     }
 
 -- what came where an item was due
-module _ (b : Bounds) (o : KeyOrder) (old new : SliceEventsView) (t : List ℕ) (q : State) (g : Built) (a : IsAt b (seen old) t q) (limits : KeepsLimits old.machine new.machine) (live : new.refusal ≡ None)
+module _ (b : Bounds) (o : KeyOrder) (old new : SliceEventsView) (t : List ℕ) (q : Place) (g : Built) (a : IsAt b (seen old) t q) (limits : KeepsLimits old.machine new.machine) (live : new.refusal ≡ None)
     (building : IsBuilding o b.depth t q g old.machine.open_count)
   where
     pub whole-is : (token : Token) → IsWholeTold token old new t a.marks → IsEventToken token → (ls : List Level) × IsWhole b o ls token old new g × (t ≡ bytes_before ls) × (old.machine.open_count ≡ length ls)
@@ -108,7 +108,7 @@ string-whole b o ls false old new g now n s utf8 is none =
     none
 
 -- a chunk that came with its payload
-pub chunk-whole : (b : Bounds) (fs : List Frame) (t x : List ℕ) (text : Bool) (content : List ℕ) (start old new : SliceEventsView) → (a : IsReadingChunks plain b fs t x text content (Some start.rest) (Some old.rest) (seen old))
+pub chunk-whole : (b : Bounds) (fs : List Container) (t x : List ℕ) (text : Bool) (content : List ℕ) (start old new : SliceEventsView) → (a : IsReadingChunks plain b fs t x text content (Some start.rest) (Some old.rest) (seen old))
     → IsStringTold Chunk old new (t ++ chunks_bytes (string_major text) a.done) a.at.marks → new.refusal ≡ None → (text ≡ true → IsUtf8 new.piece)
     → IsReadingChunks plain b fs t x text (content ++ new.piece) (Some start.rest) (Some new.rest) (seen new) × (new.machine.bytes - new.machine.taken < old.machine.bytes - old.machine.taken)
 chunk-whole b fs t x text content start old new a s live utf8 =

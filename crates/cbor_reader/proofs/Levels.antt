@@ -11,7 +11,7 @@ use Rattle.cbor_head.specs.declared.order.KeyOrder.{KeyOrder}
 use Rattle.cbor_head.specs.declared.width.Width.{Width}
 use Rattle.cbor_head.specs.declared.width.Width.TheVariants.{Indefinite}
 use Rattle.cbor_head.proofs.Counts.{values_count-of}
-use Rattle.cbor_automaton.specs.inner.Automaton.{State, counted, close}
+use Rattle.cbor_judging.specs.Place.{Place, counted, close}
 use Rattle.cbor_canonical.specs.Pairs.{HasDistinctBytes}
 use Rattle.cbor_builder.specs.Parts.{Open, an_array, plain as a_plain, a_map as an_open_map, pair, give, close as close_open, closed, HasNoRepeats}
 use Rattle.cbor_canonical.specs.Pairs.{AreKeysValid}
@@ -171,7 +171,7 @@ module _ (o : KeyOrder) (d : ℕ) where
     refl,
   )
 
-  standing-of : (t : List ℕ) (q : State) (os : List Open) (height : ℕ) (x : Standing) → StandsAt o d t q os height x → IsStanding o d t q os height
+  standing-of : (t : List ℕ) (q : Place) (os : List Open) (height : ℕ) (x : Standing) → StandsAt o d t q os height x → IsStanding o d t q os height
   standing-of t q os height (item_due ls) k = due ls k.0 k.1 k.2 k.3 k.4
   standing-of t q os height (item_full ls s) k = full ls s k.3.0 k.0 k.3.1 k.1 k.2 k.3.2 k.4
   standing-of t q os height (item_whole s) k = whole s k.0 k.1 k.2 k.3 k.4

@@ -27,9 +27,7 @@ use Rattle.cbor_automaton.specs.Trace.{Mark, a_head, a_chunk, a_byte, a_break}
 use Rattle.cbor_automaton.specs.declared.event.Event.{Event}
 use Rattle.cbor_automaton.specs.declared.event.EventKind.{EventKind}
 use Rattle.cbor_automaton.specs.declared.event.EventKind.TheVariants as kinds
-use Rattle.cbor_automaton.specs.inner.Automaton.{Frame, State, at_item, close, expect, done as at_end}
-use Rattle.cbor_automaton.specs.inner.Taking.{Ends, IsTaking}
-use Rattle.cbor_automaton.proofs.Opens.{stack}
+use Rattle.cbor_judging.specs.Place.{Container, Place, at_item, close, expect, done as at_end, Ends, IsTaking, open_at}
 use Rattle.cbor_builder.specs.Built.{Built, built, TakesPart, IsContainer, IsInContainer, IsLeaf, IsRepeatedKey, HasDistinctKeysSoFar}
 use Rattle.cbor_builder.specs.Parts.{Open, an_array, plain as a_plain, a_map as an_open_map, give, opened, close as close_open}
 use Rattle.cbor_item.specs.OpenValues as trees
@@ -71,16 +69,16 @@ use Rattle.cbor_reader.proofs.Valid.{count_bounded}
 -- ---- heads
 
 -- a head has no complaint of the plain rules by itself
-pub come-begun : (b : Bounds) (fs : List Frame) (t x : List ℕ) (e : ItemEventsView) (w : Width) (kind other : EventKind) → kind ≡ other → other ≢ kinds.End → IsCome b fs t x e w kind → IsBegun plain b fs t x e w other
+pub come-begun : (b : Bounds) (fs : List Container) (t x : List ℕ) (e : ItemEventsView) (w : Width) (kind other : EventKind) → kind ≡ other → other ≢ kinds.End → IsCome b fs t x e w kind → IsBegun plain b fs t x e w other
 come-begun b fs t x e w kind other same item i =
     let j = subst (IsCome b fs t x e w) same i in
     record { next = j.next; taking = j.taking; item = item; clean = λ c h. (fault_of (at_item fs) (mark_of w other) plain (length t) c h).1; proper = j.proper; at = j.at }
 
-short-undecided : (b : Bounds) (fs : List Frame) (t x : List ℕ) → length x ≤ 1 → IsUndecided plain b fs t x
+short-undecided : (b : Bounds) (fs : List Container) (t x : List ℕ) → length x ≤ 1 → IsUndecided plain b fs t x
 short-undecided b fs t x l = record { p = []; last = x; splits = refl; byte = l; judged = judged_start plain (length t) (b.depth - length fs) }
 
 -- all but the last byte of a head tells nothing
-mark-undecided : (b : Bounds) (fs : List Frame) (t x : List ℕ) (mark : Mark) (next : State) → IsTaking b.depth (at_item fs) mark x next → IsUndecided plain b fs t x
+mark-undecided : (b : Bounds) (fs : List Container) (t x : List ℕ) (mark : Mark) (next : Place) → IsTaking b.depth (at_item fs) mark x next → IsUndecided plain b fs t x
 mark-undecided b fs t x (a_head m w n) next h = go w h
   where
     some : 0 < length x
@@ -139,16 +137,16 @@ begins-container (kinds.Chunk n) m k h = absurd h
 begins-container (kinds.Piece n) m k h = absurd h
 begins-container kinds.End m k h = absurd h
 
-pub simple-begun : (b : Bounds) (fs : List Frame) (t x : List ℕ) (e : ItemEventsView) (w : Width) (n : ℕ) → IsBegun plain b fs t x e w (kinds.Simple n) → IsSimple n
+pub simple-begun : (b : Bounds) (fs : List Container) (t x : List ℕ) (e : ItemEventsView) (w : Width) (n : ℕ) → IsBegun plain b fs t x e w (kinds.Simple n) → IsSimple n
 simple-begun b fs t x e w n i = (definite b.depth fs majors.Simple w n x i.next (never-open b.depth fs majors.Simple w n x i.next tt i.taking) i.taking).follows.0
 
 -- ---- where a part leads
 
-stands-as : (o : KeyOrder) (d : ℕ) (x : Standing) (t u : List ℕ) (q p : State) (os ps : List Open) (h k : ℕ) → t ≡ u → q ≡ p → os ≡ ps → h ≡ k → StandsAt o d t q os h x → StandsAt o d u p ps k x
+stands-as : (o : KeyOrder) (d : ℕ) (x : Standing) (t u : List ℕ) (q p : Place) (os ps : List Open) (h k : ℕ) → t ≡ u → q ≡ p → os ≡ ps → h ≡ k → StandsAt o d t q os h x → StandsAt o d u p ps k x
 stands-as o d x t u q p os ps h k e f g j s =
-    subst (λ (n : ℕ). StandsAt o d u p ps n x) j (subst (λ (y : List Open). StandsAt o d u p y h x) g (subst (λ (y : State). StandsAt o d u y os h x) f (subst (λ (y : List ℕ). StandsAt o d y q os h x) e s)))
+    subst (λ (n : ℕ). StandsAt o d u p ps n x) j (subst (λ (y : List Open). StandsAt o d u p y h x) g (subst (λ (y : Place). StandsAt o d u y os h x) f (subst (λ (y : List ℕ). StandsAt o d y q os h x) e s)))
 
-record IsPlaced (o : KeyOrder) (d : ℕ) (t : List ℕ) (q : State) (os : List Open) (height : ℕ) (xs : List ℕ) (vs : List OpenValue) : Type 0 where
+record IsPlaced (o : KeyOrder) (d : ℕ) (t : List ℕ) (q : Place) (os : List Open) (height : ℕ) (xs : List ℕ) (vs : List OpenValue) : Type 0 where
   standing : Standing
   stands : StandsAt o d t q os height standing
   begun : HaveBegunIn xs standing
@@ -157,13 +155,13 @@ record IsPlaced (o : KeyOrder) (d : ℕ) (t : List ℕ) (q : State) (os : List O
   values : vs ≡ values_at standing
 
 module _ (o : KeyOrder) (b : Bounds) (ls : List Level) (levels : AreLevels b.depth ls) (xs : List ℕ) (begun : HaveBegun xs ls) (here : get_or xs (length ls) 0 ≡ length (bytes_before ls)) where
-  abbrev fs : List Frame
+  abbrev fs : List Container
   fs = map frame ls
 
   room-for : length fs < b.depth → length ls < b.depth
   room-for r = omega (arith, r, length-map ls frame)
 
-  array-begins : (k : ℕ) (w : Width) (next : State) → Holds w k → length fs < b.depth → next ≡ expect k fs → IsPlaced o b.depth (bytes_before ls ++ head majors.Array w k) next (an_array 0 [] ∷ opens o ls) (suc (length ls)) xs (trees.an_array [] ∷ level_values ls)
+  array-begins : (k : ℕ) (w : Width) (next : Place) → Holds w k → length fs < b.depth → next ≡ expect k fs → IsPlaced o b.depth (bytes_before ls ++ head majors.Array w k) next (an_array 0 [] ∷ opens o ls) (suc (length ls)) xs (trees.an_array [] ∷ level_values ls)
   array-begins zero w next holds room follows = record {
     standing = item_full ls (array w no_spellings);
     stands = (
@@ -195,7 +193,7 @@ module _ (o : KeyOrder) (b : Bounds) (ls : List Level) (levels : AreLevels b.dep
         values = refl;
       }
 
-  map-begins : (k : ℕ) (w : Width) (next : State) → Holds w k → length fs < b.depth → next ≡ expect (k + k) fs → IsPlaced o b.depth (bytes_before ls ++ head majors.Map w k) next (an_open_map [] ∷ opens o ls) (suc (length ls)) xs (trees.a_map [] ∷ level_values ls)
+  map-begins : (k : ℕ) (w : Width) (next : Place) → Holds w k → length fs < b.depth → next ≡ expect (k + k) fs → IsPlaced o b.depth (bytes_before ls ++ head majors.Map w k) next (an_open_map [] ∷ opens o ls) (suc (length ls)) xs (trees.a_map [] ∷ level_values ls)
   map-begins zero w next holds room follows = record {
     standing = item_full ls (a_map w no_entries);
     stands = (
@@ -277,7 +275,7 @@ module _ (o : KeyOrder) (b : Bounds) (ls : List Level) (levels : AreLevels b.dep
     opens-by kinds.End m k i g = absurd g
 
 -- the break
-breaks : (o : KeyOrder) (b : Bounds) (ls : List Level) (next : State) (xs : List ℕ) → AreLevels b.depth ls → HaveBegun xs ls → length (bytes_before ls) < 2 ^ 63 → Ends (map frame ls) next
+breaks : (o : KeyOrder) (b : Bounds) (ls : List Level) (next : Place) (xs : List ℕ) → AreLevels b.depth ls → HaveBegun xs ls → length (bytes_before ls) < 2 ^ 63 → Ends (map frame ls) next
     → IsPlaced o b.depth (bytes_before ls ++ 0xff ∷ []) next (opens o ls) (length ls) xs (level_values ls)
 breaks o b [] next xs h begun s x = absurd x
 breaks o b (some_member done ∷ ms) next xs h begun s x = record {
@@ -390,7 +388,7 @@ module _ (v : PlainItems) (b : Bounds) (e : ItemEventsView) (t : List ℕ) (d : 
   -- ---- a part that was read
 
   module _ (new : ItemEventsView) (from mid to : Option (List ℕ)) (ev : Event) (after : ItemEventsView) (n : IsNextHead plain b (at_item (map frame d.ls)) t ev from mid after) where
-    abbrev gs : List Frame
+    abbrev gs : List Container
     gs = map frame d.ls
 
     abbrev pub came : IsCome b gs t n.bytes after ev.width ev.kind
@@ -402,7 +400,7 @@ module _ (v : PlainItems) (b : Bounds) (e : ItemEventsView) (t : List ℕ) (d : 
       pub some : 0 < length bytes
       pub consumed : Consumes from to bytes
       pub undecided : IsUndecided plain b [] [] (t ++ bytes)
-      pub q : State
+      pub q : Place
       pub at : IsAt b new (t ++ bytes) q
       pub leads : (now : PlainItems) (height place count : ℕ) → height ≡ e.machine.open_count → place ≡ ev.place → now.starts ≡ set v.starts height place → IsGiven v.builder part now.builder count
           → IsTreeStep (values_with part) v.tree now.tree → AreKeysBegun count (sets v) (sets now) → IsEndingAt now b new (t ++ bytes) (height + count)
@@ -420,7 +418,7 @@ module _ (v : PlainItems) (b : Bounds) (e : ItemEventsView) (t : List ℕ) (d : 
           let room = place-room height same in
           ap (λ (xs : List ℕ). get_or xs (length d.ls) 0) starts ∙ ap (λ (i : ℕ). get_or (set v.starts height place) i 0) (sym level) ∙ begins-at v.starts height place room ∙ same_place ∙ n.place ∙ ap length d.taken
 
-      placed-ending : (part : Part) (vs : List OpenValue) → values_with part (level_values d.ls) ≡ vs → IsTreeStep (values_with part) v.tree now.tree → (x : List ℕ) (q : State) (os : List Open) (count : ℕ) → IsAt b new (t ++ x) q → (l : IsPlaced v.builder.order b.depth (bytes_before d.ls ++ x) q os (length d.ls + count) now.starts vs) → now.builder ≡ built v.builder.order os
+      placed-ending : (part : Part) (vs : List OpenValue) → values_with part (level_values d.ls) ≡ vs → IsTreeStep (values_with part) v.tree now.tree → (x : List ℕ) (q : Place) (os : List Open) (count : ℕ) → IsAt b new (t ++ x) q → (l : IsPlaced v.builder.order b.depth (bytes_before d.ls ++ x) q os (length d.ls + count) now.starts vs) → now.builder ≡ built v.builder.order os
           → AreApartSoFar os → AreHeldSoFar (sets now) os → IsEndingAt now b new (t ++ x) (height + count)
       placed-ending part vs vs_are step x q os count at l is apart held = record {
         q = q;
@@ -551,14 +549,14 @@ module _ (v : PlainItems) (b : Bounds) (e : ItemEventsView) (t : List ℕ) (d : 
 -- ---- containers that end
 
 module _ (v : PlainItems) (b : Bounds) (e : ItemEventsView) (t : List ℕ) (height : ℕ) (h : IsEndingAt v b e t height) where
-  counts : e.machine.open_count ≡ length (stack h.q)
+  counts : e.machine.open_count ≡ length (open_at h.q)
   counts = open-is b e t h.q h.at
 
   full-count : (ls : List Level) → h.q ≡ close (map frame ls) → e.machine.open_count ≤ length ls
-  full-count ls f = omega (arith, counts, ap (λ (p : State). length (stack p)) f, fewer-open (map frame ls), length-map ls frame)
+  full-count ls f = omega (arith, counts, ap (λ (p : Place). length (open_at p)) f, fewer-open (map frame ls), length-map ls frame)
 
   due-count : (ls : List Level) → h.q ≡ at_item (map frame ls) → e.machine.open_count ≡ length ls
-  due-count ls f = counts ∙ ap (λ (p : State). length (stack p)) f ∙ length-map ls frame
+  due-count ls f = counts ∙ ap (λ (p : Place). length (open_at p)) f ∙ length-map ls frame
 
   -- more are open in the builder: the innermost is to end
   pub ends-next : e.machine.open_count < height → IsInContainer v.builder.standing × HasDistinctKeysSoFar v.builder.standing
@@ -625,7 +623,7 @@ module _ (v : PlainItems) (b : Bounds) (e : ItemEventsView) (t : List ℕ) (heig
       go : (x : Standing) → StandsAt v.builder.order b.depth t h.q v.builder.standing height x → height ≡ e.machine.open_count
       go (item_due ls) s = s.4 ∙ sym (due-count ls s.2)
       go (item_full ls u) s = absurd (omega (arith, least, full-count ls s.2, s.4))
-      go (item_whole u) s = s.4 ∙ sym (counts ∙ ap (λ (p : State). length (stack p)) s.2)
+      go (item_whole u) s = s.4 ∙ sym (counts ∙ ap (λ (p : Place). length (open_at p)) s.2)
 
 -- ---- what follows
 

@@ -2,7 +2,7 @@
 
 ghost use Rattle.std.specs.Prelude.{ℕ, List, MatchResult};
 ghost use Rattle.cbor_head.specs.Limits.{Bounds};
-ghost use Rattle.cbor_automaton.specs.inner.Automaton.{Frame};
+ghost use Rattle.cbor_judging.specs.Place.{Container};
 ghost use Rattle.cbor_automaton.specs.declared.event.Event.{Event as EventView};
 ghost use Rattle.cbor_reader.specs.inner.PlainParts.{HasCome, AnswersPart};
 

@@ -11,7 +11,7 @@ ghost use Rattle.cbor_machine.specs.Machine.{KeepsLimits};
 ghost use Rattle.cbor_slices.specs.SliceEvents.{IsNextTold, IsRefusedTold};
 ghost use Rattle.cbor_slices.specs.SliceView.{SliceEventsView, seen};
 ghost use Rattle.cbor_automaton.specs.Trace.{Mark};
-ghost use Rattle.cbor_automaton.specs.inner.Automaton.{Frame, State, close_string, payload};
+ghost use Rattle.cbor_judging.specs.Place.{Container, Place, close_string, payload};
 ghost use Rattle.cbor_head.specs.declared.major.Major.{Major as MajorType};
 ghost use Rattle.cbor_builder.specs.Built.{built, IsLeaf, IsContainer, IsInString, TakesPart};
 ghost use Rattle.cbor_builder.specs.Parts.{extended, give, opened};
@@ -92,7 +92,7 @@ pub(crate) fn build_front(
 #[inline(always)]
 fn take_wholes(events: &mut SliceEvents<'_>, builder: &mut CanonBuilder) -> bool
     requires { HasHeight events.old builder.old events.old.machine.open_count }
-    ensures { IsTrue result → (b : Bounds) (o : Order) (t : List ℕ) (q : State)
+    ensures { IsTrue result → (b : Bounds) (o : Order) (t : List ℕ) (q : Place)
         → IsAt b (seen events.old) t q
         → IsBuilding o b.depth t q builder.old events.old.machine.open_count
         → IsBuiltOn b o t events.old.rest events.new builder.new }
@@ -215,7 +215,7 @@ fn is_text(front: &[u8], content: &[u8], rest: &[u8]) -> bool
 #[inline(always)]
 fn end_full(events: &SliceEvents<'_>, builder: &mut CanonBuilder, height: usize) -> bool
     requires { HasHeight events.now builder.old height }
-    ensures { IsTrue result → (b : Bounds) (o : Order) (t : List ℕ) (q : State)
+    ensures { IsTrue result → (b : Bounds) (o : Order) (t : List ℕ) (q : Place)
         → IsAt b (seen events.now) t q → IsBuilding o b.depth t q builder.old height
         → IsBuilding o b.depth t q builder.new events.now.machine.open_count }
 {
@@ -392,7 +392,7 @@ fn take_payload<'a>(
 ) -> Result<&'a [u8], Stopped>
     requires { IsPayloadDue (seen events.old) count }
     ensures { IfOk result (λ content.
-        (b : Bounds) (chunk : Bool) (m : MajorType) (fs : List Frame) (t : List ℕ)
+        (b : Bounds) (chunk : Bool) (m : MajorType) (fs : List Container) (t : List ℕ)
         → IsAt b (seen events.old) t (payload chunk m count fs)
         → TakesContent b (close_string chunk m fs) t count text content.now events.old events.new) }
 {

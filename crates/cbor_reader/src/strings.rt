@@ -3,7 +3,7 @@
 ghost use Rattle.std.specs.Prelude.{◌≡◌, ℕ, List, true, IsUtf8, MatchResult, None};
 ghost use Rattle.cbor_head.specs.Complaint.{plain};
 ghost use Rattle.cbor_head.specs.Limits.{Bounds};
-ghost use Rattle.cbor_automaton.specs.inner.Automaton.{Frame};
+ghost use Rattle.cbor_judging.specs.Place.{Container};
 ghost use Rattle.cbor_head.specs.declared.width.Width.{Width};
 ghost use Rattle.cbor_judging.specs.Reading.{HasBegun, IsBegun, ReadsItem};
 ghost use Rattle.cbor_judging.specs.Reading.{StopsItem, string_kind, string_value};
@@ -25,7 +25,7 @@ pub(crate) fn read_string<R: Read>(
     length: Option<u64>,
 ) -> Result<Vec<u8>, Refusal>
     requires { HasBegun plain events.old (string_kind text length) }
-    ensures { (b : Bounds) (fs : List Frame) (t x : List ℕ) (w : Width)
+    ensures { (b : Bounds) (fs : List Container) (t x : List ℕ) (w : Width)
         → IsBegun plain b fs t x events.old w (string_kind text length)
         → MatchResult result
         (λ v. ReadsItem plain b fs t x
@@ -54,7 +54,7 @@ fn read_chunks<R: Read>(
     text: bool,
 ) -> Result<Vec<u8>, Refusal>
     requires { HasBegun plain events.old (string_kind text None) }
-    ensures { (b : Bounds) (fs : List Frame) (t x : List ℕ) (w : Width)
+    ensures { (b : Bounds) (fs : List Container) (t x : List ℕ) (w : Width)
         → IsBegun plain b fs t x events.old w (string_kind text None)
         → MatchResult result
         (λ v. ReadsItem plain b fs t x

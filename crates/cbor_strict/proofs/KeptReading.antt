@@ -18,8 +18,7 @@ use Rattle.cbor_head.specs.declared.width.Width.TheVariants.{Indefinite}
 use Rattle.cbor_head.proofs.Parts.{major, width, count, head_of, body, parts, holds_of, one_head, as_bytes, as_text}
 use Rattle.cbor_head.proofs.ReadLaws.{unique, length_spell, length_head, holds_or_open}
 use Rattle.cbor_machine.specs.NextEvent.{ItemEventsView}
-use Rattle.cbor_automaton.specs.inner.Automaton.{Frame as Container, State, at_item, payload}
-use Rattle.cbor_automaton.proofs.Opens.{stack}
+use Rattle.cbor_judging.specs.Place.{Container, Place, at_item, payload, open_at}
 use Rattle.cbor_strict.specs.declared.open_items.OpenItems.{OpenItems}
 use Rattle.cbor_strict.specs.KeptKeys.{open_maps, open_maps_in, key_bytes, key_bytes_in, key_bytes_in_entries}
 use Rattle.cbor_judging.specs.Frame.{Frame, a_member, a_key, a_content, tagged, before}
@@ -231,7 +230,7 @@ keys_within (f ∷ gs) n = either_within (is_key f) (keys_size gs n) (length (co
     either_within true y k m g h e = omega (arith, g, h, e)
     either_within false y k m g h e = omega (arith, g, h, e)
 
-little : (v : OpenItems) (b : Bounds) (e : ItemEventsView) (t : List ℕ) (fs : List Frame) (p : List ℕ) (q : State) → IsKept (seen v.keys) fs p → t ≡ bytes_before fs ++ p → IsAt b e t q → length (stack q) ≡ length (frames_in fs) → IsLittle v e
+little : (v : OpenItems) (b : Bounds) (e : ItemEventsView) (t : List ℕ) (fs : List Frame) (p : List ℕ) (q : Place) → IsKept (seen v.keys) fs p → t ≡ bytes_before fs ++ p → IsAt b e t q → length (open_at q) ≡ length (frames_in fs) → IsLittle v e
 little v b e t fs p q k is at all = record {
   levels = omega (arith, kept_levels (seen v.keys) fs p k, open-is b e t q at, all, frames_length fs);
   spans = omega (arith, kept_spans (seen v.keys) fs p k, open-is b e t q at, all, frames_length fs);
@@ -242,7 +241,7 @@ pub stands_little : (v : OpenItems) (b : Bounds) (e : ItemEventsView) (t : List 
 stands_little v b e t (inl h) = little v b e t h.fs [] (at_item (frames_in h.fs)) h.kept (h.taken ∙ sym (append-nil (bytes_before h.fs))) h.at refl
 stands_little v b e t (inr (inl h)) = little v b e t h.fs (head (string_major v.is_text) h.w h.n ++ h.q) _ h.kept h.taken h.at (payload_stack (string_major v.is_text) v.left (frames_in h.fs) h.some)
   where
-    payload_stack : (m : Major) (n : ℕ) (fs : List Container) → 0 < n → length (stack (payload false m n fs)) ≡ length fs
+    payload_stack : (m : Major) (n : ℕ) (fs : List Container) → 0 < n → length (open_at (payload false m n fs)) ≡ length fs
     payload_stack m zero fs l = absurd (omega (arith, l))
     payload_stack m (suc n) fs l = refl
 stands_little v b e t (inr (inr h)) = record { levels = omega (arith, ap length h.kept.levels); spans = omega (arith, ap length h.kept.spans); kept = omega (arith, ap length h.kept.bytes) }

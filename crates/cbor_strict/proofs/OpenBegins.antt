@@ -14,8 +14,7 @@ use Rattle.cbor_head.specs.declared.reason.Reason.TheVariants as reasons
 use Rattle.cbor_head.specs.declared.width.Width.{Width}
 use Rattle.cbor_head.specs.declared.width.Width.TheVariants.{Indefinite}
 use Rattle.cbor_automaton.specs.Trace.{Mark, a_head}
-use Rattle.cbor_automaton.specs.inner.Automaton.{Frame as Container, State, at_item, counted, close, expect, payload}
-use Rattle.cbor_automaton.specs.inner.Taking.{Ends}
+use Rattle.cbor_judging.specs.Place.{Container, Place, at_item, counted, close, expect, payload, Ends}
 use Rattle.cbor_machine.specs.NextEvent.{ItemEventsView}
 use Rattle.cbor_automaton.specs.Marks.{mark_of}
 use Rattle.cbor_automaton.specs.declared.event.EventKind.{EventKind}
@@ -55,7 +54,7 @@ module _ (o : KeyOrder) (b : Bounds) (fs : List Frame) (are : AreOpen (strict o)
 -- ---- an item of one head
 
 -- no break may come where an item is due
-pub no_break : (fs : List Frame) (next : State) → Ends (frames_in fs) next → ⊥
+pub no_break : (fs : List Frame) (next : Place) → Ends (frames_in fs) next → ⊥
 no_break [] next h = h
 no_break (a_member w a b ∷ fs) next h = h
 no_break (a_key w a v b ∷ fs) next h = h

@@ -1,26 +1,19 @@
 -- What becomes of the open containers as an item ends in them, whatever is kept of them.
-use Rattle.std.proofs.Common.{◌≡◌, ℕ, suc, ◌+◌, ◌-◌, ◌≤◌, Bool, true, false, IsTrue, Option, Some, List, [], ◌∷◌, ◌++◌, length, refl, sym, ap, ◌∙◌, subst, inl, inr, arith, append_assoc, append-nil}
-use Rattle.std.specs.Prelude.{reverse, nat_lt, nat_le, ◌&&◌, if◌then◌else◌}
-use Rattle.std.proofs.lemmas.List.{length-append, length-map, length-reverse}
-use Rattle.cbor_head.specs.Head.{head}
+use Rattle.std.proofs.Common.{◌≡◌, ℕ, suc, ◌+◌, ◌-◌, ◌≤◌, IsTrue, Option, Some, List, [], ◌∷◌, ◌++◌, length, refl, sym, ap, ◌∙◌, subst, inl, inr, arith, append_assoc, append-nil}
+use Rattle.std.proofs.lemmas.List.{length-append}
 use Rattle.cbor_head.specs.Limits.{Bounds}
 use Rattle.cbor_head.specs.Order.{key_lt}
-use Rattle.cbor_head.specs.Spelling.{Spelling, Spellings, SpelledEntries, unsigned, negative, bytes, text, byte_chunks, text_chunks, array, a_map, tag, simple, no_spellings, a_spelling, no_entries, entry, spell, spellings_count, entries_count, IsSpelled, depth, IsItem}
+use Rattle.cbor_head.specs.Spelling.{Spelling, Spellings, SpelledEntries, no_spellings, a_spelling, no_entries, entry, spell, spellings_count, entries_count, IsSpelled, depth}
 use Rattle.cbor_head.specs.Complaint as complaint
 use Rattle.cbor_head.specs.Complaint.{Rules, strict, OfCount, OfKey, Complains}
 use Rattle.cbor_head.specs.Verdict.{refusal}
-use Rattle.cbor_head.specs.declared.major.Major.TheVariants.{Array, Map, Tag}
+use Rattle.cbor_head.specs.declared.major.Major.TheVariants.{Array, Map}
 use Rattle.cbor_head.specs.declared.order.KeyOrder.{KeyOrder}
 use Rattle.cbor_head.specs.declared.reason.Refusal.{Refusal}
 use Rattle.cbor_head.specs.declared.reason.Reason.TheVariants as reasons
 use Rattle.cbor_head.specs.declared.width.Width.{Width}
-use Rattle.cbor_automaton.specs.Open.{open_after, open_in, open_in_entries}
-use Rattle.cbor_automaton.specs.inner.Automaton.{Frame as Container, at_item, counted, close}
-use Rattle.cbor_automaton.specs.inner.State.{state_of}
+use Rattle.cbor_judging.specs.Place.{Container, at_item, counted, close, Place, open_at}
 use Rattle.cbor_machine.specs.NextEvent.{ItemEventsView}
-use Rattle.cbor_automaton.specs.declared.frame.Frame as frames
-use Rattle.cbor_automaton.specs.declared.position.Position.{Position}
-use Rattle.cbor_automaton.specs.declared.position.Position.TheVariants as positions
 use Rattle.cbor_judging.specs.Frame.{Frame, a_member, a_key, a_content, tagged, with_all, with_entries, keys_onto, plug, before, OfFront}
 use Rattle.cbor_judging.specs.Judged.{IsJudged, Never}
 use Rattle.cbor_judging.specs.OpenMaps.{placed, open_keys, AreDistinct, OfClosed, before_all, AreOpen, AreOpenDistinct}
@@ -38,7 +31,7 @@ use Rattle.cbor_judging.proofs.Steps.{at-reached}
 use Rattle.cbor_strict.specs.inner.LastKeys.{from_outside, IsFull, AreDefinite, still_open, ended_item}
 use Rattle.cbor_strict.specs.inner.OpenItems.{frames_in, bytes_before}
 use Rattle.cbor_strict.proofs.KeptKeys.{full_bytes}
-use Rattle.cbor_judging.proofs.Standing.{done_position}
+use Rattle.cbor_judging.proofs.Standing.{open-is}
 
 -- ---- the containers
 
@@ -169,66 +162,20 @@ ended_state (tagged w n ∷ fs) = ended_state fs
 
 -- ---- how many the events count
 
-item_length : (position : Position) (fr : List frames.Frame) (xs : List Container) → state_of position fr ≡ at_item xs → length fr ≡ length xs
-item_length positions.Item fr xs e = sym (length-map (reverse fr) _ ∙ length-reverse fr) ∙ same_length _ xs e
-  where
-    same_length : (xs ys : List Container) → at_item xs ≡ at_item ys → length xs ≡ length ys
-    same_length xs ys e = ap length (inside e)
-      where
-        inside : at_item xs ≡ at_item ys → xs ≡ ys
-        inside e = cc e
-item_length (positions.Head chunk kind width left argument) fr xs e = absurd (cc e)
-item_length positions.SimpleNumber fr xs e = absurd (cc e)
-item_length (positions.Payload chunk kind left) fr xs e = absurd (cc e)
-item_length (positions.Chunks kind) fr xs e = absurd (cc e)
-item_length positions.Done fr xs e = absurd (cc e)
-
 pub content_state : (n : ℕ) (xs : List Container) → close (counted (suc n + suc n) ∷ xs) ≡ at_item (counted (n + suc n) ∷ xs)
 content_state n xs = let e : suc n + suc n ≡ suc (n + suc n) = omega arith in ap (λ (k : ℕ). close (counted k ∷ xs)) e
 
-pub shut_count : (position : Position) (fr : List frames.Frame) (fs : List Frame) → state_of position fr ≡ close (frames_in fs) → (position ≡ positions.Done → length fr ≡ 0) → length fr ≡ length (still_open fs)
-shut_count position fr [] e none = none (done_position position fr e)
-shut_count position fr (a_member w a no_spellings ∷ fs) e none = shut_count position fr fs e none
-shut_count position fr (a_member w a (a_spelling t b) ∷ fs) e none = omega (arith, item_length position fr (counted (spellings_count b) ∷ frames_in fs) e, frames_length fs)
-shut_count position fr (a_key w a v b ∷ fs) e none = omega (arith, item_length position fr (counted (entries_count b + entries_count b) ∷ frames_in fs) e, frames_length fs)
-shut_count position fr (a_content w a k no_entries ∷ fs) e none = shut_count position fr fs e none
-shut_count position fr (a_content w a k (entry l m b) ∷ fs) e none = omega (arith, item_length position fr (counted (entries_count b + suc (entries_count b)) ∷ frames_in fs) (e ∙ content_state (entries_count b) (frames_in fs)), frames_length fs)
-shut_count position fr (tagged w n ∷ fs) e none = shut_count position fr fs e none
-
-not_below : (n : ℕ) → nat_lt n n ≡ false
-not_below n = grind arith
-
-none_within : (b : Bool) (n : ℕ) → (if b && false then suc n else 0) ≡ 0
-none_within true n = refl
-none_within false n = refl
-
-none_behind : (s : Spelling) → open_after (length (spell s)) s ≡ 0
-none_behind (array w ss) =
-    ap (λ (q : Bool). if nat_le (length (head Array w (spellings_count ss))) (length (spell (array w ss))) && q then suc (open_in (length (spell (array w ss))) (length (head Array w (spellings_count ss))) ss) else 0) (not_below (length (spell (array w ss))))
-    ∙ none_within (nat_le (length (head Array w (spellings_count ss))) (length (spell (array w ss)))) (open_in (length (spell (array w ss))) (length (head Array w (spellings_count ss))) ss)
-none_behind (a_map w es) =
-    ap (λ (q : Bool). if nat_le (length (head Map w (entries_count es))) (length (spell (a_map w es))) && q then suc (open_in_entries (length (spell (a_map w es))) (length (head Map w (entries_count es))) es) else 0) (not_below (length (spell (a_map w es))))
-    ∙ none_within (nat_le (length (head Map w (entries_count es))) (length (spell (a_map w es)))) (open_in_entries (length (spell (a_map w es))) (length (head Map w (entries_count es))) es)
-none_behind (tag w n s) =
-    ap (λ (q : Bool). if nat_le (length (head Tag w n)) (length (spell (tag w n s))) && q then suc (open_after (length (spell (tag w n s)) - length (head Tag w n)) s) else 0) (not_below (length (spell (tag w n s))))
-    ∙ none_within (nat_le (length (head Tag w n)) (length (spell (tag w n s)))) (open_after (length (spell (tag w n s)) - length (head Tag w n)) s)
-none_behind (unsigned w n) = refl
-none_behind (negative w n) = refl
-none_behind (bytes w q) = refl
-none_behind (text w q) = refl
-none_behind (byte_chunks cs) = refl
-none_behind (text_chunks cs) = refl
-none_behind (simple n) = refl
+still_count : (fs : List Frame) → length (open_at (close (frames_in fs))) ≡ length (still_open fs)
+still_count [] = refl
+still_count (a_member w a no_spellings ∷ fs) = still_count fs
+still_count (a_member w a (a_spelling t b) ∷ fs) = ap suc (frames_length fs)
+still_count (a_key w a v b ∷ fs) = ap suc (frames_length fs)
+still_count (a_content w a k no_entries ∷ fs) = still_count fs
+still_count (a_content w a k (entry l m b) ∷ fs) = ap (λ (q : Place). length (open_at q)) (content_state (entries_count b) (frames_in fs)) ∙ ap suc (frames_length fs)
+still_count (tagged w n ∷ fs) = still_count fs
 
 pub open_so : (b : Bounds) (e : ItemEventsView) (t : List ℕ) (fs : List Frame) → (a : IsAt b e t (close (frames_in fs))) → e.machine.open_count ≡ length (still_open fs)
-open_so b e t fs a =
-    let m = e.machine in
-    let shown = a.stands.stands.inner.shown in
-    shown.open_count ∙ shut_count m.inner.position m.inner.frames fs a.state (λ d.
-    let complete = a.stands.stands.complete.0 (rw d at shown.complete, a.stands.stands.live) in
-    let all : spell complete.0 ≡ t = complete.1.bytes_are in
-    let counts = a.stands.stands.counted complete.0 [] (subst (IsItem m.depth complete.0) (sym (append-nil t)) complete.1) in
-    sym shown.open_count ∙ counts ∙ ap (λ (x : List ℕ). open_after (length x) complete.0) (sym all) ∙ none_behind complete.0)
+open_so b e t fs a = open-is b e t (close (frames_in fs)) a ∙ still_count fs
 
 -- ---- behind what closed
 

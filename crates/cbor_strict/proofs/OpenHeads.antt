@@ -18,8 +18,7 @@ use Rattle.cbor_head.specs.declared.reason.Refusal.{Refusal}
 use Rattle.cbor_head.specs.declared.width.Width.{Width}
 use Rattle.cbor_head.specs.declared.width.Width.TheVariants.{Direct, One, Two, Four, Eight, Indefinite}
 use Rattle.cbor_automaton.specs.Trace.{Mark, a_head}
-use Rattle.cbor_automaton.specs.inner.Automaton.{Frame as Container, State, at_item, close, payload}
-use Rattle.cbor_automaton.specs.inner.Taking.{IsTaking}
+use Rattle.cbor_judging.specs.Place.{Container, Place, at_item, close, payload, IsTaking}
 use Rattle.cbor_machine.specs.NextEvent.{ItemEventsView}
 use Rattle.cbor_automaton.specs.Marks.{mark_of}
 use Rattle.cbor_automaton.specs.declared.event.Event.{Event}
@@ -86,7 +85,7 @@ refused_head v b event t x e reason f taken to h fault all is =
 -- ---- no memory for it
 
 -- without complaint it is definite, and as short as can be
-record IsShort (d : ℕ) (fs : List Container) (x : List ℕ) (kind : EventKind) (next : State) : Type 0 where
+record IsShort (d : ℕ) (fs : List Container) (x : List ℕ) (kind : EventKind) (next : Place) : Type 0 where
   major : Major
   width : Width
   number : ℕ

@@ -15,7 +15,7 @@ use Rattle.cbor_head.specs.declared.order.KeyOrder.{KeyOrder}
 use Rattle.cbor_head.specs.declared.reason.Reason.TheVariants.{Memory, InvalidText}
 use Rattle.cbor_head.specs.declared.reason.Refusal.{Refusal}
 use Rattle.cbor_head.specs.declared.width.Width.{Width}
-use Rattle.cbor_automaton.specs.inner.Automaton.{close, payload}
+use Rattle.cbor_judging.specs.Place.{close, payload}
 use Rattle.cbor_machine.specs.NextEvent.{ItemEventsView}
 use Rattle.cbor_text.specs.TextCheck.{HasChecked}
 use Rattle.cbor_strict.specs.declared.last_keys.LastKeys.{LastKeys}

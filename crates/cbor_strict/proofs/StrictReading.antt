@@ -16,13 +16,8 @@ use Rattle.cbor_automaton.specs.Trace.{Mark}
 use Rattle.cbor_machine.specs.MachineView.{MachineView}
 use Rattle.cbor_automaton.specs.Marks.{marks_of}
 use Rattle.cbor_machine.specs.Machine.{KeepsLimits}
-use Rattle.cbor_automaton.specs.Bytes.{IsBytesOf, last_type}
-use Rattle.cbor_machine.specs.NextEvent.{ItemEventsView, StandsBetween, Call, call, machine_call, IsNextEvent, IsCut, IsTooLong, HasFormError, IsKept as IsPieceKept}
+use Rattle.cbor_machine.specs.NextEvent.{ItemEventsView, StandsBetween}
 use Rattle.cbor_automaton.specs.declared.event.Event.{Event}
-use Rattle.cbor_automaton.specs.declared.event.EventKind.{EventKind}
-use Rattle.cbor_automaton.specs.declared.event.EventKind.TheVariants.{Piece}
-use Rattle.cbor_automaton.specs.inner.Automaton.{reached}
-use Rattle.cbor_automaton.specs.inner.State.{state_of}
 use Rattle.cbor_strict.specs.declared.open_items.OpenItems.{OpenItems}
 use Rattle.cbor_judging.specs.Readers.{IsUnread}
 use Rattle.cbor_judging.specs.Refusals.{IsReaderReason}
@@ -39,6 +34,7 @@ use Rattle.cbor_judging.proofs.Judged.{judged_start}
 use Rattle.cbor_strict.proofs.OpenBegins.{lift}
 use Rattle.cbor_strict.proofs.OpenPieces.{string_judged}
 use Rattle.cbor_judging.proofs.OpenWalk.{none_open}
+use Rattle.cbor_judging.proofs.Steps.{same-marks}
 
 -- ---- nothing has a complaint
 
@@ -65,13 +61,6 @@ stands_clean v b e t (inr (inl h)) =
 stands_clean v b e t (inr (inr h)) = λ s i c k l.
     let whole : IsItem b.depth h.item (t ++ []) = record { spelled = h.spelled; within = h.within; bytes_are = sym h.taken ∙ sym (append-nil t) } in
     absurd (h.clean c (same_complaints b.depth s h.item t i.0 [] i.1 whole (strict v.order) c l k))
-
--- ---- the marks of some bytes
-
-pub marks_same : (m : MachineView) (t : List ℕ) (ms ns : List Mark) → StandsBetween m t ms → StandsBetween m t ns → ms ≡ ns
-marks_same m t ms ns h k =
-    let e : reached (state_of m.inner.position m.inner.frames) ms ≡ reached (state_of m.inner.position m.inner.frames) ns = sym h.stands.inner.ran ∙ k.stands.inner.ran in
-    cc e
 
 -- ---- a refusal
 
@@ -171,13 +160,13 @@ starts_strictly limits e v within live same h none kept = stands_strictly e v []
 module _ (e after : ItemEventsView) (v new : OpenItems) (from to : Option (List ℕ)) (limits : KeepsLimits e.machine after.machine) where
   told_strictly : (o : Option Event) (t : List ℕ) (ms : List Mark) → (StandsStrictly (shown e v None) t ms) → IsStep o new (bounds_of e.machine) e after t from to → IsNextStrict (Ok o) (strict_call (shown e v None) (shown after new None) from to t ms)
   told_strictly (Some event) t ms h g =
-      subst (λ (ns : List Mark). IsNextStrict (Ok (Some event)) (strict_call (shown e v None) (shown after new None) from to t ns)) (marks_same e.machine t g.marks ms g.between h.between)
+      subst (λ (ns : List Mark). IsNextStrict (Ok (Some event)) (strict_call (shown e v None) (shown after new None) from to t ns)) (same-marks e.machine t g.marks ms g.between h.between)
       (record {
         event = g.next;
         stands = stands_strictly after new (t ++ g.next.bytes) (g.marks ++ marks_of event.width event.kind) g.next.stands (subst (λ (b : Bounds). Stands new b after (t ++ g.next.bytes)) (same_bounds e.machine after.machine limits) g.stands);
       })
   told_strictly None t ms h g =
-      subst (λ (ns : List Mark). IsNextStrict (Ok None) (strict_call (shown e v None) (shown after new None) from to t ns)) (marks_same e.machine t g.marks ms g.between h.between)
+      subst (λ (ns : List Mark). IsNextStrict (Ok None) (strict_call (shown e v None) (shown after new None) from to t ns)) (same-marks e.machine t g.marks ms g.between h.between)
       (record {
         end = g.end;
         stands = stands_strictly after new t g.marks g.end.stands (subst (λ (b : Bounds). Stands new b after t) (same_bounds e.machine after.machine limits) (inr (inr g.over)));

@@ -9,9 +9,7 @@ use Rattle.cbor_head.specs.declared.major.Major.{Major}
 use Rattle.cbor_head.specs.declared.reason.Refusal.{Refusal}
 use Rattle.cbor_head.specs.declared.width.Width.{Width}
 use Rattle.cbor_automaton.specs.Reasons.{IsEventReason}
-use Rattle.cbor_automaton.specs.inner.Automaton.{Frame, State, at_item, payload, done}
-use Rattle.cbor_automaton.specs.inner.State.{state_of}
-use Rattle.cbor_automaton.specs.inner.Taking.{IsTaking}
+use Rattle.cbor_judging.specs.Place.{Container, Place, at_item, payload, done, IsTaking}
 use Rattle.cbor_automaton.specs.Trace.{Mark, a_byte, total}
 use Rattle.cbor_machine.specs.Machine.{IsComplete}
 use Rattle.cbor_automaton.specs.Marks.{marks_of, mark_of, IsProper}
@@ -19,23 +17,22 @@ use Rattle.cbor_machine.specs.NextEvent.{ItemEventsView, StandsBetween, IsNextEv
 use Rattle.cbor_automaton.specs.declared.event.Event.{Event}
 use Rattle.cbor_automaton.specs.declared.event.EventKind.{EventKind}
 use Rattle.cbor_automaton.specs.declared.event.EventKind.TheVariants as kinds
-use Rattle.cbor_automaton.specs.declared.position.Position.{Position}
-use Rattle.cbor_automaton.proofs.Frames.{position-done}
 use Rattle.cbor_events.proofs.Rows.{total-append}
-use Rattle.cbor_automaton.proofs.Taking.{nothing-taken}
 use Rattle.cbor_strict.specs.declared.open_items.OpenItems.{OpenItems}
 use Rattle.cbor_strict.specs.inner.OpenItems.{frames_in, bytes_before, Stands, HasHeadCome, HasPartCome}
 use Rattle.cbor_judging.specs.Reading.{IsAt, IsFormRefusal, HasCause, string_major}
 use Rattle.cbor_strict.specs.inner.StrictEvents.{HasCome, IsStopped}
-use Rattle.cbor_judging.proofs.Heads.{cut_head}
 use Rattle.cbor_judging.proofs.Items.{taking-some}
 use Rattle.cbor_judging.proofs.ByteLists.{bytes_join}
 use Rattle.cbor_strict.proofs.OpenHeads.{refused_part}
-use Rattle.cbor_judging.proofs.Standing.{done_position}
 use Rattle.cbor_strict.proofs.OpenPieces.{string_judged}
-use Rattle.cbor_judging.proofs.Payloads.{IsPiece, IsPayload, due-piece, none-come, part-fits, part-comes, part-cut}
+use Rattle.cbor_judging.proofs.Payloads.{IsPiece, IsPayload, none-come, part-fits, part-comes, part-cut}
 use Rattle.cbor_judging.proofs.Scalars.{at-as}
-use Rattle.cbor_judging.proofs.Steps.{SameLimits, at-run, next-at, due-by, head-taken, stops}
+use Rattle.cbor_judging.proofs.Steps.{SameLimits, next-at, head-taken, stops}
+use Rattle.cbor_judging.proofs.Standing.{is-complete, is-done}
+use Rattle.cbor_judging.proofs.Payloads.{piece-due}
+use Rattle.cbor_judging.proofs.Items.{cut-judged}
+use Rattle.cbor_judging.proofs.Steps.{same-place}
 
 -- ---- what an event can be
 
@@ -52,22 +49,16 @@ piece_bytes (kinds.Map n) h kept piece bytes k = absurd h
 piece_bytes (kinds.Tag n) h kept piece bytes k = absurd h
 piece_bytes kinds.End h kept piece bytes k = absurd h
 
-payload_not_done : (m : Major) (n : ℕ) (fs : List Frame) → 0 < n → payload false m n fs ≡ done → ⊥
+payload_not_done : (m : Major) (n : ℕ) (fs : List Container) → 0 < n → payload false m n fs ≡ done → ⊥
 payload_not_done m zero fs l e = absurd (omega (arith, l))
 payload_not_done m (suc n) fs l e = cc e
 
-payload_so : (m : Major) (n : ℕ) (fs : List Frame) → 0 < n → IsPayload (payload false m n fs)
+payload_so : (m : Major) (n : ℕ) (fs : List Container) → 0 < n → IsPayload (payload false m n fs)
 payload_so m zero fs l = absurd (omega (arith, l))
 payload_so m (suc n) fs l = tt
 
--- at its end nothing more is told
-over_complete : (b : Bounds) (e : ItemEventsView) (t : List ℕ) → IsAt b e t done → IsComplete e.machine
-over_complete b e t a =
-    (rw (done_position e.machine.inner.position e.machine.inner.frames a.state) at a.stands.stands.inner.shown.complete, a.stands.stands.live)
-
-not_over : (b : Bounds) (e : ItemEventsView) (t : List ℕ) (q : State) → IsAt b e t q → (q ≡ done → ⊥) → IsComplete e.machine → ⊥
-not_over b e t q a f c =
-    f (sym a.state ∙ ap (λ (p : Position). state_of p e.machine.inner.frames) (position-done e.machine.inner.position (sym a.stands.stands.inner.shown.complete ∙ c.0)))
+not_over : (b : Bounds) (e : ItemEventsView) (t : List ℕ) (q : Place) → IsAt b e t q → (q ≡ done → ⊥) → IsComplete e.machine → ⊥
+not_over b e t q a f c = f (is-done b e t q a c)
 
 module _ (v : OpenItems) (b : Bounds) (e new : ItemEventsView) (t : List ℕ) (from to : Option (List ℕ)) (same : SameLimits e.machine new.machine) (live : new.refusal ≡ None) where
   -- an event that is no part of a payload
@@ -102,8 +93,8 @@ module _ (v : OpenItems) (b : Bounds) (e new : ItemEventsView) (t : List ℕ) (f
       }
   head_told ev (inr (inl h)) next none =
       let n = next h.at.marks h.at.stands in
-      absurd (none (due-piece e.machine.inner.position e.machine.inner.frames ev.kind (subst IsPayload (sym h.at.state) (payload_so (string_major v.is_text) v.left (frames_in h.fs) h.some)) (due-by b e t _ ev.kind h.at n.due)))
-  head_told ev (inr (inr h)) next none = absurd ((next h.at.marks h.at.stands).unfinished (over_complete b e t h.at))
+      absurd (none (piece-due b e t _ ev.kind h.at (payload_so (string_major v.is_text) v.left (frames_in h.fs) h.some) n.due))
+  head_told ev (inr (inr h)) next none = absurd ((next h.at.marks h.at.stands).unfinished (is-complete b e t h.at))
 
   -- a part of a payload
   pub record PieceTold (ev : Event) (piece : List ℕ) : Type 0 where
@@ -119,7 +110,7 @@ module _ (v : OpenItems) (b : Bounds) (e new : ItemEventsView) (t : List ℕ) (f
       let n = next t h.at.marks h.at.stands in
       absurd (no_piece ev.kind is _ _ (head-taken b e new t (at_item (frames_in h.fs)) ev from to tt h.at n same))
     where
-      no_piece : (kind : EventKind) → IsPiece kind → (bs : List ℕ) (q : State) → IsTaking b.depth (at_item (frames_in h.fs)) (mark_of ev.width kind) bs q → ⊥
+      no_piece : (kind : EventKind) → IsPiece kind → (bs : List ℕ) (q : Place) → IsTaking b.depth (at_item (frames_in h.fs)) (mark_of ev.width kind) bs q → ⊥
       no_piece (kinds.Piece k) is bs q taking = taking
       no_piece (kinds.Unsigned k) is bs q taking = is
       no_piece (kinds.Negative k) is bs q taking = is
@@ -131,7 +122,7 @@ module _ (v : OpenItems) (b : Bounds) (e new : ItemEventsView) (t : List ℕ) (f
       no_piece (kinds.Map k) is bs q taking = is
       no_piece (kinds.Tag k) is bs q taking = is
       no_piece kinds.End is bs q taking = is
-  piece_told ev (inr (inr h)) next is = absurd ((next t h.at.marks h.at.stands).unfinished (over_complete b e t h.at))
+  piece_told ev (inr (inr h)) next is = absurd ((next t h.at.marks h.at.stands).unfinished (is-complete b e t h.at))
   piece_told ev (inr (inl h)) next is =
       let m = string_major v.is_text in
       let k = none-come b false m (frames_in h.fs) t v.left [] from e h.at in
@@ -162,8 +153,7 @@ module _ (v : OpenItems) (b : Bounds) (e new : ItemEventsView) (t : List ℕ) (f
   end_told (inr (inr h)) next =
       let n = next h.at.marks h.at.stands in
       let a = next-at b e new t t done h.at.marks h.at same live n.stands in
-      let state : state_of new.machine.inner.position new.machine.inner.frames ≡ done = cc (sym (at-run b new t _ a) ∙ at-run b e t done h.at) in
-      record { marks = h.at.marks; between = h.at.stands; end = n; over = record { item = h.item; spelled = h.spelled; within = h.within; clean = h.clean; none = h.none; kept = h.kept; taken = h.taken; at = at-as b new t t _ done refl state a } }
+      record { marks = h.at.marks; between = h.at.stands; end = n; over = record { item = h.item; spelled = h.spelled; within = h.within; clean = h.clean; none = h.none; kept = h.kept; taken = h.taken; at = at-as b new t t _ done refl (same-place b new e t _ done a h.at) a } }
 
 -- ---- a refusal of the events
 
@@ -178,7 +168,7 @@ module _ (v : OpenItems) (b : Bounds) (e new : ItemEventsView) (t : List ℕ) (f
         last = c.last;
         splits = c.splits;
         found = None;
-        judged = cut_head (strict v.order) (length t) b.depth (frames_in h.fs) c.begun c.p (nothing-taken b.depth (at_item (frames_in h.fs)) c.begun c.p tt c.are_bytes c.ran);
+        judged = cut-judged (strict v.order) b (frames_in h.fs) t s.bytes to f c;
         cause = (c.place, c.refused);
       } in
       record {
@@ -187,7 +177,7 @@ module _ (v : OpenItems) (b : Bounds) (e new : ItemEventsView) (t : List ℕ) (f
         consumed = s.consumed;
         refused = refused_part v.order b h.fs h.around.are h.around.distinct s.bytes (t ++ s.bytes) to f (ap (λ (y : List ℕ). y ++ s.bytes) h.taken) s.read (subst (λ (y : List ℕ). HasCause (strict v.order) b (frames_in h.fs) y s.bytes to f) h.taken cause);
       }
-  refusal_told (inr (inr h)) next = absurd ((next t h.at.marks h.at.stands).0 (over_complete b e t h.at))
+  refusal_told (inr (inr h)) next = absurd ((next t h.at.marks h.at.stands).0 (is-complete b e t h.at))
   refusal_told (inr (inl h)) next =
       let m = string_major v.is_text in
       let k = none-come b false m (frames_in h.fs) t v.left [] from e h.at in

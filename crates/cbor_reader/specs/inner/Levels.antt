@@ -19,7 +19,7 @@ use Rattle.cbor_automaton.specs.Token.{IsStringToken}
 use Rattle.cbor_automaton.specs.Trace.{Mark}
 use Rattle.cbor_machine.specs.Machine.{KeepsLimits}
 use Rattle.cbor_machine.specs.NextEvent.{StandsBetween}
-use Rattle.cbor_automaton.specs.inner.Automaton.{Frame, State, at_item, close, done as at_end}
+use Rattle.cbor_judging.specs.Place.{Container, Place, at_item, close, done as at_end}
 use Rattle.cbor_builder.specs.Built.{Built, built, IsInContainer}
 use Rattle.cbor_builder.specs.Parts as parts
 use Rattle.cbor_builder.specs.Parts.{Open, plain as a_plain, an_array, a_map, give, closed, HasNoRepeats}
@@ -53,8 +53,8 @@ pub record IsFull (o : KeyOrder) (d : ℕ) (c : Open) (s : Spelling) : Type 0 wh
   pub canonical_is : closed o c ≡ canonical o (value_of s)
   pub container : (other : Open) (os : List Open) → IsInContainer (c ∷ other ∷ os)
 
--- behind the bytes t, in this state of the automaton, with this open in a builder, in so many containers
-abbrev pub StandsAt : KeyOrder → ℕ → List ℕ → State → List Open → ℕ → Standing → Type 0
+-- behind the bytes t, at this place, with this open in a builder, in so many containers
+abbrev pub StandsAt : KeyOrder → ℕ → List ℕ → Place → List Open → ℕ → Standing → Type 0
 StandsAt o d t q os height (item_due ls) =
     AreLevels d ls × (t ≡ bytes_before ls) × (q ≡ at_item (map frame ls)) × (os ≡ opens o ls) × (height ≡ length ls)
 StandsAt o d t q os height (item_full ls s) =
@@ -63,8 +63,8 @@ StandsAt o d t q os height (item_full ls s) =
 StandsAt o d t q os height (item_whole s) =
     IsTaken d s × (t ≡ spell s) × (q ≡ at_end) × (os ≡ a_plain (canonical o (value_of s)) ∷ []) × (height ≡ 0)
 
--- behind the bytes t and in this state of the automaton, where so many containers are open in the builder
-pub data IsStanding (o : KeyOrder) (d : ℕ) (t : List ℕ) (q : State) (os : List Open) (height : ℕ) : Type 0 where
+-- behind the bytes t and at this place, where so many containers are open in the builder
+pub data IsStanding (o : KeyOrder) (d : ℕ) (t : List ℕ) (q : Place) (os : List Open) (height : ℕ) : Type 0 where
   -- an item is due
   due : (ls : List Level) → AreLevels d ls → t ≡ bytes_before ls → q ≡ at_item (map frame ls) → os ≡ opens o ls → height ≡ length ls → IsStanding o d t q os height
   -- the innermost container is to end
@@ -73,7 +73,7 @@ pub data IsStanding (o : KeyOrder) (d : ℕ) (t : List ℕ) (q : State) (os : Li
   -- the item is whole
   whole : (s : Spelling) → IsTaken d s → t ≡ spell s → q ≡ at_end → os ≡ a_plain (canonical o (value_of s)) ∷ [] → height ≡ 0 → IsStanding o d t q os height
 
-abbrev pub IsBuilding : KeyOrder → ℕ → List ℕ → State → Built → ℕ → Type 0
+abbrev pub IsBuilding : KeyOrder → ℕ → List ℕ → Place → Built → ℕ → Type 0
 IsBuilding o d t q b height = (b.order ≡ o) × IsStanding o d t q b.standing height
 
 -- ---- what the builder's functions take and answer
@@ -83,7 +83,7 @@ pub record HasHeight (e : SliceEventsView) (given : Built) (height : ℕ) : Type
   pub b : Bounds
   pub o : KeyOrder
   pub t : List ℕ
-  pub q : State
+  pub q : Place
   pub at : IsAt b (seen e) t q
   pub building : IsBuilding o b.depth t q given height
 
@@ -106,7 +106,7 @@ pub record IsFed (b : Bounds) (o : KeyOrder) (t from : List ℕ) (e : SliceEvent
   pub bytes : List ℕ
   pub consumed : Consumes (Some from) (Some e.rest) bytes
   pub some : 0 < length bytes
-  pub next : State
+  pub next : Place
   pub at : IsAt b (seen e) (t ++ bytes) next
   pub building : IsBuilding o b.depth (t ++ bytes) next given height
 
@@ -114,7 +114,7 @@ pub record IsFed (b : Bounds) (o : KeyOrder) (t from : List ℕ) (e : SliceEvent
 pub record IsBuiltOn (b : Bounds) (o : KeyOrder) (t from : List ℕ) (e : SliceEventsView) (given : Built) : Type 0 where
   pub bytes : List ℕ
   pub consumed : Consumes (Some from) (Some e.rest) bytes
-  pub next : State
+  pub next : Place
   pub at : IsAt b (seen e) (t ++ bytes) next
   pub building : IsBuilding o b.depth (t ++ bytes) next given e.machine.open_count
 
@@ -146,11 +146,11 @@ pub record HasWhole (token : Token) (e : SliceEventsView) (given : Built) (front
 -- an item that was begun is taken whole, and given to the builder
 abbrev pub BuildsBegun : EventKind → SliceEventsView → SliceEventsView → Built → Built → Type 0
 BuildsBegun kind old new given now =
-    (b : Bounds) (fs : List Frame) (t x : List ℕ) (w : Width) → IsBegun plain b fs t x (seen old) w kind
+    (b : Bounds) (fs : List Container) (t x : List ℕ) (w : Width) → IsBegun plain b fs t x (seen old) w kind
     → (v : Value) × ReadsItem plain b fs t x (Some old.rest) (Some new.rest) (seen new) v × (now ≡ built given.order (give (canonical given.order v) given.standing))
 
 -- the payload that was due, as one piece
-pub record TakesContent (b : Bounds) (q : State) (t : List ℕ) (n : ℕ) (text : Bool) (content : List ℕ) (old new : SliceEventsView) : Type 0 where
+pub record TakesContent (b : Bounds) (q : Place) (t : List ℕ) (n : ℕ) (text : Bool) (content : List ℕ) (old new : SliceEventsView) : Type 0 where
   pub reads : ReadsPayload b q t n [] content (Some old.rest) (Some new.rest) (seen new)
   pub utf8 : text ≡ true → IsUtf8 reads.bytes
 

@@ -5,7 +5,7 @@ use Rattle.cbor_head.specs.Head.{shortest_head, IsSimple}
 use Rattle.cbor_head.specs.Limits.{Bounds}
 use Rattle.cbor_head.specs.declared.major.Major.TheVariants as majors
 use Rattle.cbor_machine.specs.NextEvent.{ItemEventsView}
-use Rattle.cbor_automaton.specs.inner.Automaton.{State}
+use Rattle.cbor_judging.specs.Place.{Place}
 use Rattle.cbor_builder.specs.Built.{Built, built, TakesPart, IsContainer, IsLeaf, IsRepeatedKey}
 use Rattle.cbor_canonical.specs.Pairs.{HasDistinctBytes}
 use Rattle.cbor_builder.specs.Parts.{Open, a_map, a_key, give, opened}
@@ -101,7 +101,7 @@ IsGiven g Break now count = (now ≡ g) × (count ≡ 0)
 
 -- so many are open in the builder, where the events have these bytes
 pub record IsEndingAt (v : PlainItems) (b : Bounds) (e : ItemEventsView) (t : List ℕ) (height : ℕ) : Type 0 where
-  pub q : State
+  pub q : Place
   pub at : IsAt b e t q
   pub standing : Standing
   pub stands : StandsAt v.builder.order b.depth t q v.builder.standing height standing

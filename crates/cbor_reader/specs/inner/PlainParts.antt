@@ -9,8 +9,7 @@ use Rattle.cbor_head.specs.declared.major.Major.{Major}
 use Rattle.cbor_head.specs.declared.major.Major.TheVariants as majors
 use Rattle.cbor_head.specs.declared.reason.Refusal.{Refusal}
 use Rattle.cbor_head.specs.declared.width.Width.{Width}
-use Rattle.cbor_automaton.specs.inner.Automaton.{Frame, State, at_item}
-use Rattle.cbor_automaton.specs.inner.Taking.{IsTaking}
+use Rattle.cbor_judging.specs.Place.{Container, Place, at_item, IsTaking}
 use Rattle.cbor_machine.specs.NextEvent.{ItemEventsView}
 use Rattle.cbor_automaton.specs.Marks.{mark_of, IsProper}
 use Rattle.cbor_automaton.specs.declared.event.EventKind.{EventKind}
@@ -20,15 +19,15 @@ use Rattle.cbor_reader.specs.declared.plain_part.Part.TheVariants.{Leaf, String,
 use Rattle.cbor_judging.specs.Reading.{IsAt, ReadsItem, StopsItem, string_value}
 
 -- an event came where an item was due within these containers, behind t: its bytes are x
-pub record IsCome (b : Bounds) (fs : List Frame) (t x : List ℕ) (e : ItemEventsView) (w : Width) (kind : EventKind) : Type 0 where
-  pub next : State
+pub record IsCome (b : Bounds) (fs : List Container) (t x : List ℕ) (e : ItemEventsView) (w : Width) (kind : EventKind) : Type 0 where
+  pub next : Place
   pub taking : IsTaking b.depth (at_item fs) (mark_of w kind) x next
   pub proper : IsProper w kind
   pub at : IsAt b e (t ++ x) next
 
 pub record HasCome (e : ItemEventsView) (kind : EventKind) : Type 0 where
   pub b : Bounds
-  pub fs : List Frame
+  pub fs : List Container
   pub t : List ℕ
   pub x : List ℕ
   pub w : Width
@@ -61,7 +60,7 @@ pub record IsStill (old new : ItemEventsView) (from to : Option (List ℕ)) : Ty
   pub reader : to ≡ from
 
 -- a part that was read
-abbrev pub ReadsPart : Bounds → List Frame → List ℕ → List ℕ → EventKind → ItemEventsView → ItemEventsView → Option (List ℕ) → Option (List ℕ) → Part → Type 0
+abbrev pub ReadsPart : Bounds → List Container → List ℕ → List ℕ → EventKind → ItemEventsView → ItemEventsView → Option (List ℕ) → Option (List ℕ) → Part → Type 0
 ReadsPart b fs t x kind old new from to (Leaf m n) = IsLeafMajor m n × ReadsItem plain b fs t x from to new (leaf_value m n)
 ReadsPart b fs t x kind old new from to (String is_text content) =
     (is_text ≡ true → IsUtf8 content.items) × ReadsItem plain b fs t x from to new (string_value is_text content.items)
@@ -70,5 +69,5 @@ ReadsPart b fs t x kind old new from to Break = (kind ≡ kinds.End) × IsStill 
 
 abbrev pub AnswersPart : ItemEventsView → EventKind → Option (List ℕ) → Option (List ℕ) → ItemEventsView → Result Part Refusal → Type 0
 AnswersPart e kind from to new result =
-    (b : Bounds) (fs : List Frame) (t x : List ℕ) (w : Width) → IsCome b fs t x e w kind
+    (b : Bounds) (fs : List Container) (t x : List ℕ) (w : Width) → IsCome b fs t x e w kind
     → MatchResult result (ReadsPart b fs t x kind e new from to) (λ f. StopsItem plain b fs t x from to f)

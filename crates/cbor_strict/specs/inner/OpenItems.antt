@@ -8,8 +8,7 @@ use Rattle.cbor_head.specs.Complaint.{Rules, strict, Complaint, OfHead, Complain
 use Rattle.cbor_head.specs.Limits.{Bounds}
 use Rattle.cbor_head.specs.declared.reason.Refusal.{Refusal}
 use Rattle.cbor_head.specs.declared.width.Width.{Width}
-use Rattle.cbor_automaton.specs.inner.Automaton.{Frame as Container, State, at_item, counted, close, payload, done as at_end}
-use Rattle.cbor_automaton.specs.inner.Taking.{IsTaking}
+use Rattle.cbor_judging.specs.Place.{Container, Place, at_item, counted, close, payload, done as at_end, IsTaking}
 use Rattle.cbor_machine.specs.NextEvent.{ItemEventsView}
 use Rattle.cbor_automaton.specs.Marks.{mark_of, IsProper}
 use Rattle.cbor_text.specs.TextCheck.{HasChecked}
@@ -123,7 +122,7 @@ pub record HasHeadCome (v : OpenItems) (b : Bounds) (event : Event) (t x : List 
   pub none : v.left ≡ 0
   pub kept : IsKept (seen v.keys) fs []
   pub taken : t ≡ bytes_before fs
-  pub next : State
+  pub next : Place
   pub taking : IsTaking b.depth (at_item (frames_in fs)) (mark_of event.width event.kind) x next
   pub proper : IsProper event.width event.kind
   pub place : event.place ≡ length t

@@ -3,7 +3,7 @@ use Rattle.std.proofs.lemmas.List.{length-append, length-set}
 use Rattle.std.specs.Prelude.{IsSome}
 use Rattle.cbor_head.specs.Verdict.{refusal}
 use Rattle.cbor_head.specs.declared.reason.Reason.TheVariants.{RepeatedKey}
-use Rattle.cbor_automaton.specs.inner.Automaton.{at_item}
+use Rattle.cbor_judging.specs.Place.{at_item}
 use Rattle.cbor_builder.specs.Built.{Built}
 use Rattle.cbor_judging.specs.Levels.{frame}
 use Rattle.cbor_reader.specs.inner.PlainItems.{CanTake, IsGiven, sets, AreKeysBegun}

@@ -1,7 +1,7 @@
 use Rattle.std.proofs.Common.{◌≡◌, ◌+◌, ◌++◌, ◌∙◌, ℕ, List, [], length, append_assoc, sym, ap, subst, arith}
 use Rattle.std.proofs.lemmas.List.{length-append}
 use Rattle.cbor_slices.specs.SliceView.{seen}
-use Rattle.cbor_automaton.specs.inner.Automaton.{at_item}
+use Rattle.cbor_judging.specs.Place.{at_item}
 use Rattle.cbor_judging.specs.Levels.{bytes_before}
 use Rattle.cbor_reader.specs.inner.Levels.{IsStanding}
 use Rattle.cbor_judging.proofs.Fronts.{starts-at}

@@ -1,5 +1,5 @@
 use Rattle.std.proofs.Common.{◌++◌, true}
-use Rattle.cbor_automaton.specs.inner.Automaton.{in_chunks}
+use Rattle.cbor_judging.specs.Place.{in_chunks}
 use Rattle.cbor_judging.specs.Reading.{string_major}
 use Rattle.cbor_head.specs.Complaint.{plain}
 use Rattle.cbor_judging.proofs.Leaves.{chunks_bytes}

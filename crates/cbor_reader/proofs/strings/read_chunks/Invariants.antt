@@ -1,7 +1,7 @@
 use Rattle.std.proofs.Common.{ℕ, List, ◌-◌}
 use Rattle.cbor_head.specs.Limits.{Bounds}
 use Rattle.cbor_head.specs.declared.width.Width.{Width}
-use Rattle.cbor_automaton.specs.inner.Automaton.{Frame}
+use Rattle.cbor_judging.specs.Place.{Container}
 use Rattle.std.specs.Prelude.{None}
 use Rattle.cbor_judging.specs.Reading.{IsBegun, string_kind}
 use Rattle.cbor_head.specs.Complaint.{plain}
@@ -9,7 +9,7 @@ use Rattle.cbor_judging.proofs.WholeStrings.{IsReadingChunks}
 use Rattle.cbor_reader.proofs.strings.read_chunks.Given as goal
 
 abbrev pub invariant-chunks : goal.invariant-chunks
-invariant-chunks g l = (b : Bounds) (fs : List Frame) (t x : List ℕ) (w : Width) → IsBegun plain b fs t x l.fn.events w (string_kind l.fn.text None)
+invariant-chunks g l = (b : Bounds) (fs : List Container) (t x : List ℕ) (w : Width) → IsBegun plain b fs t x l.fn.events w (string_kind l.fn.text None)
     → IsReadingChunks plain b fs t x l.fn.text l.content.items (g.R.Read.remaining l.fn.reader) (g.R.Read.remaining l.reader) l.events
 
 abbrev pub decreases-chunks : goal.decreases-chunks
