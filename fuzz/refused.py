@@ -3,8 +3,8 @@
 From whichever request on memory is refused, `Tree::of` gives back the item that it was given, `encode` answers Memory
 at 0, `encode_to` has written nothing, a builder gives nothing, a sequence gives the first of its items, then Memory,
 and then none, and `same_meaning` names the side that it was at, behind bytes that it took: the left one, and from
-some request on the right one. And the calls that take no memory make no request: as many are made, of the same
-sizes, whether these are called or not.
+some request on the right one. And the calls that take no memory make no request: as many are made whether these
+are called or not.
 """
 
 import os
@@ -30,7 +30,7 @@ class Driver:
         self.program, self.library, self.folder = os.path.abspath(program), library, folder
 
     def run(self, digits, idle=0, refused_from=0):
-        """The status, the words of the answer, and what was asked for."""
+        """The status, the words of the answer, and how much was asked for."""
         counts = f"{self.folder}/counts"
         with open(counts, "w", encoding="utf-8"):
             pass
@@ -38,7 +38,8 @@ class Driver:
         line = f"memory {idle} 64 65536 {digits}\n".encode()
         ran = subprocess.run([self.program], env=env, input=line, capture_output=True)
         with open(counts, encoding="utf-8") as file:
-            return ran.returncode, ran.stdout.decode().split(), file.read()
+            first, *others = file.read().split()
+        return ran.returncode, ran.stdout.decode().split(), (first, len(others))
 
 
 def is_items(found, usual):
