@@ -23,6 +23,7 @@ import sys
 import tempfile
 from concurrent.futures import ThreadPoolExecutor
 
+from refused import refuse_calls
 from run import PARTS
 from table import rows
 
@@ -35,18 +36,20 @@ LIBRARY = r"""
 #include <stdlib.h>
 #include <unistd.h>
 
-static unsigned long requests, bytes, refused;
+static unsigned long requests, bytes, refused, refused_from;
 
 __attribute__((constructor)) static void begin(void) {
     const char *word = getenv("REFUSED_REQUEST");
     refused = word ? strtoul(word, NULL, 10) : 0;
+    word = getenv("REFUSED_FROM");
+    refused_from = word ? strtoul(word, NULL, 10) : 0;
     requests = bytes = 0;
 }
 
 static int is_refused(size_t size) {
     requests += 1;
     bytes += size;
-    if (requests != refused) return 0;
+    if (requests != refused && (refused_from == 0 || requests < refused_from)) return 0;
     errno = ENOMEM;
     return 1;
 }
@@ -363,6 +366,9 @@ def main():
         if given.readers:
             told, ended, found = of_all(refuse_readers, several(given.readers), rows())
             print(f"a request of the readers refused: {told} told or as usual, {ended} ended, {len(found)} else")
+            wrong += found
+            told, found = refuse_calls(given.readers, library, folder)
+            print(f"memory refused to calls over whole items: {told} told, {len(found)} else")
             wrong += found
     for line in wrong[:20]:
         print(line)

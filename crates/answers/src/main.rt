@@ -9,14 +9,18 @@
 //! A call of `StrictReader` ends with `;`: an event (name, argument, place, width, and the bytes of a
 //! piece), `none` or a refusal; then `taken`, `open`, `spans`, `kept` and the length of `piece`.
 //! Behind the calls stands for how many bytes each read was asked.
+//!
+//! A line that begins with `memory` and a count has what [`memory`] says, of a valid item.
 #![tactic(auto)]
 
 mod asked;
 mod events;
+mod memory;
 mod parts;
 mod writing;
 
 use crate::events::answer_events;
+use crate::memory::answer_memory;
 use crate::parts::Parts;
 use crate::writing::{put_hex, put_refusal};
 use cbor_head::{Limits, Refusal};
@@ -58,6 +62,13 @@ fn malformed() -> io::Error {
 
 fn answer_line<W: Write>(alloc: Global, line: &str, out: &mut W) -> io::Result<()> {
     let mut words = line.split(' ');
+    let idle = match line.strip_prefix("memory ") {
+        Some(rest) => {
+            words = rest.split(' ');
+            words.next().and_then(|word| word.parse::<u32>().ok())
+        }
+        None => None,
+    };
     let depth = words.next().and_then(|word| word.parse::<u16>().ok());
     let most = words.next().and_then(|word| word.parse::<u64>().ok());
     let limits = match (depth, most) {
@@ -68,6 +79,9 @@ fn answer_line<W: Write>(alloc: Global, line: &str, out: &mut W) -> io::Result<(
         Some(digits) => hex::decode(alloc, digits).map_err(|_| malformed())?,
         None => return Err(malformed()),
     };
+    if let Some(idle) = idle {
+        return answer_memory(alloc, &bytes, limits, idle, out);
+    }
     for part in PARTS {
         answer_tree(alloc, &bytes, part, limits, out)?;
         answer_strict(alloc, &bytes, part, limits, out)?;

@@ -1,9 +1,10 @@
 //! A machine as plain numbers, to be kept where no machine can be.
 
-ghost use Rattle.std.specs.Prelude.{◌≡◌, ◌↔◌, ℕ, ◌*◌, ◌+◌, ◌^◌, ◌<◌, ◌≤◌, IfSome, IsTrue, Some, Bool, length, map, take};
+ghost use Rattle.std.specs.Prelude.{◌≡◌, ◌↔◌, ℕ, ◌*◌, ◌+◌, ◌^◌, ◌<◌, ◌≤◌, ◌-◌, IfSome, IsTrue, Some, Bool, length, map, take};
+ghost use Rattle.std.specs.Prelude.{drop};
 ghost use Rattle.cbor_machine.specs.MachineView.{MachineView};
 ghost use Rattle.cbor_automaton.specs.Reasons.{IsMachineReason};
-ghost use Rattle.cbor_machine.specs.Saved.{Holds};
+ghost use Rattle.cbor_machine.specs.Saved.{Holds, no_frames};
 ghost use Rattle.cbor_machine.specs.inner.Saved.{flag_at, frame_at, frame_by, kind_at, position_by, position_in};
 ghost use Rattle.cbor_machine.specs.inner.Saved.{refusal_by, width_at};
 ghost use Rattle.cbor_automaton.specs.inner.Nest.{due_frame};
@@ -58,14 +59,16 @@ pub struct SavedMachine {
     pub chunk: u8,
     /// The number of the reason that the item was refused for, 2 to 9; 0 where it was not.
     pub reason: u8,
-    /// The open containers, the outermost first. What stands behind them is not looked at.
+    /// The open containers, the outermost first, and zeros behind them.
     pub frames: [SavedFrame; MOST_OPEN],
 }
 
 impl Machine {
     /// The machine as plain numbers.
     pub fn save(&self) -> SavedMachine
-        ensures { Holds result self.now }
+        ensures holds { Holds result self.now }
+        ensures zeros { drop self.now.open_count result.frames
+            ≡ no_frames (MOST_OPEN - self.now.open_count) }
     {
         let codes = codes_of(self.position);
         let (reason, place) = refusal_codes(self.refusal);
@@ -228,7 +231,8 @@ fn refusal_codes(refusal: Option<Refusal>) -> (u8, u64)
 
 fn saved_frames(frames: &[Frame]) -> [SavedFrame; MOST_OPEN]
     requires { length frames.now ≤ MOST_OPEN }
-    ensures { map frame_at (take (length frames.now) result) ≡ frames.now }
+    ensures held { map frame_at (take (length frames.now) result) ≡ frames.now }
+    ensures zeros { drop (length frames.now) result ≡ no_frames (MOST_OPEN - length frames.now) }
 {
     let mut saved = [SavedFrame { left: 0, kind: 0 }; MOST_OPEN];
     for (i, frame) in frames.iter().enumerate() {

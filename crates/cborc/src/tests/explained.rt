@@ -59,6 +59,16 @@ refused 10 InvalidText at 3
   at $[0]
 ";
 
+// Behind a string in chunks.
+const RESERVED: &str = "\
+refused 3 Reserved at 5
+  No item begins with this byte: its low five bits are reserved.
+  The input may be no CBOR, or hex text, which needs --hex.
+  bytes from 0: 82 7f 61 61 ff 1c
+                               ^^
+  at $[1]
+";
+
 const OTHER_DIGIT: &str = "\
 not hex: in
   With --hex the input is hex digits, two for each byte, and white space.
@@ -72,7 +82,7 @@ not hex: in
 ";
 
 // The words, the file as hex, and what stands on standard error.
-static EXPLAINED: [(&str, &str, &str); 6] = [
+static EXPLAINED: [(&str, &str, &str); 8] = [
     ("check --explain in", "a161618200f90000", FLOAT),
     ("canon --explain in out", "a2616100616101", REPEATED),
     ("show --explain in", "d81882", TRUNCATED),
@@ -83,6 +93,13 @@ static EXPLAINED: [(&str, &str, &str); 6] = [
     ),
     ("check --seq --explain in", "00820102 81ff", OF_SEQUENCE),
     ("check --explain in", "816261ff", TEXT),
+    ("events --explain in", "827f6161ff1c", RESERVED),
+    // the digits of 0082010281ff
+    (
+        "check --seq --hex --explain in",
+        "303038323031303238316666",
+        OF_SEQUENCE,
+    ),
 ];
 
 // The words, and what stands on standard error of a file that is not to be had.

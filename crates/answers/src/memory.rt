@@ -1,0 +1,124 @@
+//! What the calls over whole items answer where memory is refused from some request on.
+
+use crate::writing::{put_hex, put_refusal};
+use cbor_head::{KeyOrder, Limits, Major};
+use cbor_builder::CanonBuilder;
+use cbor_item::{Tree, encode, encode_to, same};
+use cbor_reader::{Sequence, Side, StrictReader, same_meaning, whole_tree};
+use std::alloc::{AllocError, Global};
+use std::io::{self, ErrorKind, Write};
+
+/// The answers of `Tree::of`, and whether the item is the one that was given; `encode`; `encode_to`,
+/// and how many bytes its writer took; a `CanonBuilder`; `next_strict` until it gives none; and
+/// `same_meaning` of the bytes and the same bytes. So many times each call that takes no memory is
+/// made beside them.
+pub(crate) fn answer_memory<W: Write>(
+    alloc: Global,
+    bytes: &[u8],
+    limits: Limits,
+    idle: u32,
+    out: &mut W,
+) -> io::Result<()> {
+    let tree = whole_tree(alloc, bytes, limits).map_err(|_| refused())?;
+    let twin = whole_tree(alloc, bytes, limits).map_err(|_| refused())?;
+    call_idle(alloc, bytes, limits, &twin, idle);
+    let tree = if idle > 0 {
+        Tree::from_valid(tree.into_item())
+    } else {
+        tree
+    };
+    let tree = match Tree::of(alloc, tree.into_item()) {
+        Ok(tree) => {
+            write!(out, "ok")?;
+            tree
+        }
+        Err((item, reason)) => {
+            write!(out, "!{}", reason.number())?;
+            Tree::from_valid(item)
+        }
+    };
+    write!(out, ",{} ", same(&tree, &twin))?;
+    put_encoded(alloc, &tree, out)?;
+    match build(alloc, idle) {
+        Ok(bytes) => put_hex(&bytes, out)?,
+        Err(_) => write!(out, "!")?,
+    }
+    write!(out, " ")?;
+    put_items(alloc, bytes, limits, out)?;
+    match same_meaning(alloc, bytes, bytes, limits) {
+        Ok(is_same) => writeln!(out, " {is_same}"),
+        Err((side, refusal)) => {
+            write!(
+                out,
+                " {}",
+                if side == Side::Left { "left" } else { "right" }
+            )?;
+            put_refusal(refusal, out)?;
+            writeln!(out)
+        }
+    }
+}
+
+// The driver's own memory was refused.
+fn refused() -> io::Error {
+    io::Error::from(ErrorKind::OutOfMemory)
+}
+
+// The calls that take no memory.
+fn call_idle(alloc: Global, bytes: &[u8], limits: Limits, tree: &Tree, idle: u32) {
+    for _ in 0..idle {
+        let _ = Sequence::new(alloc, bytes, limits);
+        let events = StrictReader::new(alloc, bytes, limits, KeyOrder::Bytewise);
+        let _ = events.piece().len();
+        let _ = events.open();
+        let _ = events.taken();
+        let _ = events.spans();
+        let _ = events.kept();
+        let builder = CanonBuilder::new(alloc, KeyOrder::Bytewise);
+        let _ = builder.repeated();
+        let _ = builder.finish();
+        let _ = same(tree, tree);
+        let _ = tree.item();
+    }
+}
+
+fn put_encoded<W: Write>(alloc: Global, tree: &Tree, out: &mut W) -> io::Result<()> {
+    match encode(alloc, tree, KeyOrder::Bytewise) {
+        Ok(bytes) => put_hex(&bytes, out)?,
+        Err(refusal) => put_refusal(refusal, out)?,
+    }
+    write!(out, " ")?;
+    let mut taken = [0; 256];
+    let mut writer = &mut taken[..];
+    match encode_to(alloc, tree, KeyOrder::LengthFirst, &mut writer) {
+        Ok(count) => write!(out, "{count}")?,
+        Err(refusal) => put_refusal(refusal, out)?,
+    }
+    write!(out, ":{} ", 256usize.saturating_sub(writer.len()))
+}
+
+// An array of a number and a string; `repeated` is asked behind each part, where it is asked at all.
+fn build(alloc: Global, idle: u32) -> Result<Vec<u8>, AllocError> {
+    let mut builder = CanonBuilder::new(alloc, KeyOrder::Bytewise);
+    builder.begin(Major::Array, 2)?;
+    builder.leaf(Major::Unsigned, 1)?;
+    builder.string(Major::Bytes, &[7; 40])?;
+    builder.end()?;
+    for _ in 0..idle {
+        let _ = builder.repeated();
+    }
+    Ok(builder.finish())
+}
+
+// The counts of the sequence's items, each with a comma.
+fn put_items<W: Write>(alloc: Global, bytes: &[u8], limits: Limits, out: &mut W) -> io::Result<()> {
+    let mut sequence = Sequence::new(alloc, bytes, limits);
+    for _ in 0..=bytes.len() {
+        match sequence.next_strict(KeyOrder::Bytewise) {
+            Some(Ok(count)) => write!(out, "{count},")?,
+            Some(Err(refusal)) => put_refusal(refusal, out)?,
+            None => break,
+        }
+    }
+    Ok(())
+}

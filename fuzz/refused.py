@@ -1,0 +1,100 @@
+"""Refuses memory from each request on, to the calls over whole items, for fuzz/memory.py.
+
+From whichever request on memory is refused, `Tree::of` gives back the item that it was given, `encode` answers Memory
+at 0, `encode_to` has written nothing, a builder gives nothing, a sequence gives the first of its items, then Memory,
+and then none, and `same_meaning` names the side that it was at, behind bytes that it took: the left one, and from
+some request on the right one. And the calls that take no memory make no request: as many are made whether these
+are called or not.
+"""
+
+import os
+import re
+import subprocess
+
+# Valid items, some of them canonical bytes.
+DOCUMENTS = [
+    "a2a2186400200000a1a1010000a10080",
+    "a8626161010a021864032004617a0581186406812007f408",
+    "845f42010243030405ff7f657374726561646d696e67ff5818" + "07" * 24 + "c249010000000000000000",
+    "a3016162021863a103810400",
+    "a25820" + "07" * 32 + "005821" + "07" * 33 + "00",
+    "98" + "28" + "1a00012345" * 40,
+]
+MEMORY = re.compile(r"!19,(\d+),(\d+)")
+
+
+class Driver:
+    """The driver of the readers (crates/answers), with a library that refuses between it and the C library."""
+
+    def __init__(self, program, library, folder):
+        self.program, self.library, self.folder = os.path.abspath(program), library, folder
+
+    def run(self, digits, idle=0, refused_from=0):
+        """The status, the words of the answer, and how much was asked for."""
+        counts = f"{self.folder}/counts"
+        with open(counts, "w", encoding="utf-8"):
+            pass
+        env = {"LD_PRELOAD": self.library, "REFUSED_FROM": str(refused_from), "COUNTS": counts}
+        line = f"memory {idle} 64 65536 {digits}\n".encode()
+        ran = subprocess.run([self.program], env=env, input=line, capture_output=True)
+        with open(counts, encoding="utf-8") as file:
+            first, *others = file.read().split()
+        return ran.returncode, ran.stdout.decode().split(), (first, len(others))
+
+
+def is_items(found, usual):
+    items, refused, rest = found.partition("!")
+    memory = MEMORY.fullmatch(refused + rest)
+    return memory and memory[1] == memory[2] and usual.startswith(items)
+
+
+def is_side(found, length):
+    memory = re.fullmatch(r"(left|right)!19,(\d+),(\d+)", found)
+    return memory and memory[2] == memory[3] and 0 < int(memory[2]) <= length
+
+
+def is_refused(place, found, usual, length):
+    """Whether a call's answer is that of one that was refused memory."""
+    return [
+        lambda: found == "!19,true",
+        lambda: found == "!19,0,0",
+        lambda: found == "!19,0,0:0",
+        lambda: found == "!",
+        lambda: is_items(found, usual),
+        lambda: is_side(found, length),
+    ][place]()
+
+
+def go_through(driver, digits):
+    """How many answers were Memory, and what went wrong."""
+    status, usual, asked = driver.run(digits)
+    wrong, told, sides = [], 0, []
+    if status != 0 or len(usual) != 6:
+        return 0, [f"{digits}: {status} {usual}"]
+    if driver.run(digits, idle=9) != (status, usual, asked):
+        wrong.append(f"{digits}: other answers or requests beside calls that take no memory")
+    for refused in range(1, 1000):
+        status, found, _ = driver.run(digits, refused_from=refused)
+        if found == usual:
+            break
+        if status != 0:
+            # the driver's own memory
+            continue
+        for place, (word, before) in enumerate(zip(found, usual, strict=True)):
+            if word != before:
+                told += 1
+                if not is_refused(place, word, before, len(digits) // 2):
+                    wrong.append(f"{digits}, from request {refused}: {word} in place of {before}")
+        sides.append(found[5].partition("!")[0])
+    # the left one, then the right one
+    named = [it for it in sides if it in ("left", "right")]
+    if sorted(named) != named or set(named) != {"left", "right"}:
+        wrong.append(f"{digits}: the sides {named}")
+    return told, wrong
+
+
+def refuse_calls(program, library, folder):
+    """How many answers of the driver were Memory, and what went wrong."""
+    driver = Driver(program, library, folder)
+    found = [go_through(driver, digits) for digits in DOCUMENTS]
+    return sum(told for told, _ in found), [line for _, lines in found for line in lines]
