@@ -2,9 +2,9 @@
 # Random inputs against the definitions, and each request for memory refused:
 # scripts/test_hostile.sh [SECONDS [FOLDER]]
 #
-# Runs fuzz/run.py for so many seconds (10) and fuzz/memory.py, over the program and the readers as `rt ci`
-# built them and the library for C, which stands in FOLDER or else is built; and scripts/test_edits.py. A C
-# compiler and the binutils have to be there. The last line is 'hostile use: all well', or the status is not 0.
+# Runs fuzz/memory.py, and fuzz/run.py for so many seconds (10), over the program and the readers as `rt ci`
+# built them and the library for C, which stands in FOLDER or else is built. A C compiler and the binutils have
+# to be there. The last line is 'hostile use: all well', or the status is not 0.
 set -euo pipefail
 
 root=$(cd "$(dirname "${BASH_SOURCE[0]}")/.." && pwd)
@@ -21,7 +21,6 @@ if [ -z "$dist" ]; then
     "$root/scripts/build_c.sh" "$dist"
 fi
 built=(--program "$root/crates/cborc/out/cborc" --readers "$root/crates/answers/out/answers")
-python3 "$root/fuzz/run.py" --library "$dist/lib/libnaltvigo.so" "${built[@]}" --seconds "${1:-10}"
 python3 "$root/fuzz/memory.py" "${built[@]}"
-python3 "$root/scripts/test_edits.py"
+python3 "$root/fuzz/run.py" --library "$dist/lib/libnaltvigo.so" "${built[@]}" --seconds "${1:-10}"
 echo 'hostile use: all well'
