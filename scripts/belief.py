@@ -3,7 +3,8 @@
 
 A definition in `crates/*/specs/` belongs on the line of belief where a public contract or a public law
 reaches it, directly or through other definitions; what only private functions speak of belongs in
-`specs/inner/`, and what nothing reaches belongs nowhere. This script computes the closure from the
+`specs/inner/`, and what nothing reaches belongs nowhere. In machinery and theory crates, whose readers are other
+crates here, `specs/` holds what those cite too. This script computes the closure from the
 clauses in `src/` and the definitions in `specs/`. It counts too, for each crate, the names that it takes from
 `specs/inner/` and the lemmas that it takes from `proofs/` of other crates, also through a name for the module;
 but those of a theory crate are there to be taken.
@@ -29,7 +30,7 @@ from sources import CRATES, IMPORT, NAME, OF_MODELS, ROOT, Exports, Module, Sour
 # The calls whose contracts are the headline, and a crate that hands each of them out.
 HEADLINE = [("cbor_reader", "canonicalise"), ("cbor_reader", "read_strict")]
 # Crates that only crates of ours see: of what they hand out that alone is public which another crate hands on.
-MACHINERY = {"cbor_machine", "cbor_buffer", "cbor_slices"}
+MACHINERY = {"cbor_automaton", "cbor_machine", "cbor_slices", "cbor_buffer"}
 # Crates of specs and proofs alone, made to be taken from.
 THEORY = {"cbor_judging"}
 
@@ -50,26 +51,22 @@ class Tree:
         self.functions = [it for source in self.sources for it in source.functions]
         self.exports = Exports(self.sources)
         self.programs = {it for it in self.crates if (CRATES / it / "src" / "main.rt").exists()}
-        # what a user's crate hands out, and what any crate does
-        self.public = self.handed_out(set(self.crates) - MACHINERY - THEORY)
-        self.interface = self.handed_out(set(self.crates))
+        users = set(self.crates) - MACHINERY - THEORY - self.programs
+        self.handed_out = {it for crate in users for it in self.exports.of_crate(crate).values()}
 
-    def handed_out(self, crates):
-        return {it for crate in crates - self.programs for it in self.exports.of_crate(crate).values()}
-
-    def is_open(self, function, handed_out):
-        """Whether those who see these items see the function's contract. Of a program all functions count."""
+    def is_public(self, function):
+        """Whether users see the function's contract. Of a program all functions count."""
         if function.crate in self.programs:
             return True
         owner = function.owner
         if owner is None:
-            return function.is_pub and (function.crate, function.module, function.name) in handed_out
-        if (function.crate, owner.name) not in {(crate, name) for crate, _, name in handed_out}:
+            return function.is_pub and (function.crate, function.module, function.name) in self.handed_out
+        if (function.crate, owner.name) not in {(crate, name) for crate, _, name in self.handed_out}:
             return False
         if owner.of_trait:
             # a method of a trait is seen where the trait is; a trait that no crate of ours declares is std's
             is_ours = any(f"trait {owner.of_trait}" in it.text for it in self.sources)
-            is_seen = not is_ours or owner.of_trait in {name for _, _, name in handed_out}
+            is_seen = not is_ours or owner.of_trait in {name for _, _, name in self.handed_out}
             return is_seen and function.name not in OF_MODELS
         return function.is_pub or owner.is_trait
 
@@ -138,9 +135,11 @@ class Tree:
         kind = self.named(self.modules[definition.module], line.partition(":")[2].split()[0])
         return bool(kind) and kind[0].inner()
 
-    def closure(self, functions, opened=False):
-        """Each definition that the contracts reach, with what it was reached from; fields `inner` opened or not."""
-        came, queue = {}, deque()
+    def closure(self, functions, opened=False, proved=()):
+        """Each definition that the contracts reach, with what it was reached from; fields `inner` opened or not. With
+        what proofs name, also what that reaches."""
+        named = [it for it in self.definitions() if it.key in proved]
+        came, queue = {it.key: "proofs" for it in named}, deque(named)
         for function in functions:
             for clause in function.clauses:
                 for definition in self.named(function.scope, clause):
@@ -229,16 +228,17 @@ class Takings:
 # ---- faults
 
 
-def faults_of_places(tree, interface, private, taken):
+def faults_of_places(tree, public, private, proved):
     """Definitions on the wrong side of the line, or on none."""
     for definition in tree.definitions():
-        if definition.inner() and definition.key in interface:
-            yield f"{definition.at()} is reached from public contracts ({interface[definition.key]}), and stands in inner/"
-        elif not definition.inner() and definition.key not in interface:
-            reached = "private functions alone" if definition.key in private else "nothing"
-            yield f"{definition.at()} is reached from {reached}, and stands on the line of belief"
-        elif definition.key not in private and definition.key not in taken:
+        is_users = definition.module.split(".")[1] not in MACHINERY | THEORY
+        if definition.key not in private and definition.key not in proved:
             yield f"{definition.at()} is reached from nothing"
+        elif definition.inner() and definition.key in public:
+            yield f"{definition.at()} is reached from public contracts ({public[definition.key]}), and stands in inner/"
+        elif is_users and not definition.inner() and definition.key not in public:
+            reached = "private functions" if definition.key in private else "proofs"
+            yield f"{definition.at()} is reached from {reached} alone, and stands on the line of belief"
         for line in definition.lines:
             if line.strip().startswith("pub inner :") and not tree.is_inner_field(definition, line):
                 yield f"{definition.at()} has a field inner whose type does not stand in inner/"
@@ -264,23 +264,22 @@ def main():
         for names in takings.of_crate(sys.argv[2]):
             print("\n".join(sorted(f"{module}.{name}" for module, name in names)), end="\n\n")
         return 0
-    public = tree.closure([it for it in tree.functions if tree.is_open(it, tree.public)])
-    interface = tree.closure([it for it in tree.functions if tree.is_open(it, tree.interface)])
+    public = tree.closure([it for it in tree.functions if tree.is_public(it)])
     private = tree.closure(tree.functions, opened=True)
     calls, faults = tree.headline()
     headline = tree.closure(calls)
     if word == "--why":
         for definition in [it for it in tree.definitions() if it.name == sys.argv[2]]:
-            came = next((it for it in (public, interface, private) if definition.key in it), {})
+            came = next((it for it in (public, private) if definition.key in it), {})
             key, way = definition.key, []
             while isinstance(key, tuple):
                 way.append(".".join(key))
                 key = came.get(key, "nothing")
             print(" <- ".join([*way, key]))
         return 0
-    named_in_proofs = {it for module in takings.files if module.split(".")[2] == "proofs" for it in imported(tree, takings.files[module])}
-    faults += [*faults_of_places(tree, interface, private, named_in_proofs), *faults_of_crates(tree)]
-    counts = reading.Counts(tree.definitions(), headline, public, {it: takings.of_crate(it) for it in tree.crates})
+    in_proofs = {it for module, file in takings.files.items() if ".proofs." in module for it in imported(tree, file)}
+    faults += [*faults_of_places(tree, public, private, tree.closure([], True, in_proofs)), *faults_of_crates(tree)]
+    counts = reading.Counts(tree.definitions(), headline, public, {it: takings.of_crate(it) for it in tree.crates}, THEORY)
     if word == "--write":
         counts.write()
         counts.print_totals()

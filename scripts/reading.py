@@ -28,8 +28,12 @@ def by_crate(names):
 
 
 class Counts:
-    def __init__(self, definitions, headline, public, taken):
+    """What was counted: `headline` and `public` have the definitions that are reached, `taken` by crate the inner names
+    and the lemmas that it takes."""
+
+    def __init__(self, definitions, headline, public, taken, theory):
         self.definitions, self.headline, self.public, self.taken = definitions, headline, public, taken
+        self.theory = theory
         self.headline_lines = lines_of(it for it in definitions if it.key in headline)
         self.public_lines = lines_of(it for it in definitions if it.key in public)
         self.names, self.lemmas = (sum(len(it[kind]) for it in taken.values()) for kind in (0, 1))
@@ -46,7 +50,9 @@ class Counts:
         for crate, (names, lemmas) in self.taken.items():
             if names or lemmas:
                 print(f"{crate} takes {len(names)} inner names and {len(lemmas)} lemmas of other crates")
-        print(f"taken in all: {self.names} inner names and {self.lemmas} lemmas")
+        by_theory = [sum(len(self.taken[it][kind]) for it in self.theory & set(self.taken)) for kind in (0, 1)]
+        of_these = f", of which theory takes {by_theory[0]} and {by_theory[1]}" if any(by_theory) else ""
+        print(f"taken in all: {self.names} inner names and {self.lemmas} lemmas{of_these}")
 
     # ---- docs/READING.md
 
