@@ -88,5 +88,6 @@ def main():
 
 
 if __name__ == "__main__":
-    sys.stdin.reconfigure(errors="replace")
+    for stream in (sys.stdin, sys.stdout):
+        stream.reconfigure(encoding="utf-8", errors="replace")
     main()
