@@ -3,15 +3,19 @@
 
     fuzz/memory.py [--program crates/cborc/out/cborc] [--readers crates/answers/out/answers]
 
-A library between the program and the C library, built here by `cc`, counts the requests, adds up their
-bytes, and refuses one of them. Wanted is of `cborc`, whichever is refused: `out of memory` and status 3, with
-no more on standard output than the first bytes of what usually stands there, and OUT as it was; or all as
-usual; on some documents for each request of each command, and on each row of the conformance table as `canon`,
-`check` and `compare` judge it. Of the calls over readers, on each row: one call answers Memory, at a place
-before the end of its usual answer, with as many bytes taken as it tells, and every other call answers as
-usual; the strict reader answers Memory again, and reads nothing behind it. And that a head asks for no memory by itself: behind a head of 2^64 - 1, 2^32 or 2^20 bytes, members or
-pairs, with nothing or little there, no more is asked for than behind a zero, but for a constant and so much a
-byte that came. Ends with status 1 where anything else happens.
+A library between the program and the C library (counting.c), built here by `cc`, lists the requests and refuses
+one of them. Wanted is of `cborc`, whichever is refused: `out of memory` and status 3, with no more on standard
+output than the first bytes of what usually stands there, and OUT as it was; or all as usual; on some documents by
+each command, and on the rows of the conformance table as `canon`, `check` and `compare` judge them. Of the calls
+over readers, on the rows: one call answers Memory, at a place before the end of its usual answer, with as many
+bytes taken as it tells, and every other call answers as usual; the strict reader answers Memory again, and reads
+nothing behind it. And that a head asks for no memory by itself: behind a head of 2^64 - 1, 2^32 or 2^20 bytes,
+members or pairs, with nothing or little there, no more is asked for than behind a zero, but for a constant and so
+much a byte that came. Ends with status 1 where anything else happens.
+
+An input is left out where one before it makes the same requests by the same command: of the same kinds and sizes, and
+from the same calls, as far as the stack tells. What all inputs of a command begin with, as its words are read, is
+refused in the first alone.
 """
 
 import argparse
@@ -21,6 +25,7 @@ import re
 import subprocess
 import sys
 import tempfile
+from collections import namedtuple
 from concurrent.futures import ThreadPoolExecutor
 
 from refused import refuse_calls
@@ -121,13 +126,15 @@ CONSTANT = 4096
 A_BYTE = 256
 
 
+# What a run is given: the file, the words, and standard input.
+Case = namedtuple("Case", "file words given", defaults=[b""])
+
+
 def build_library(folder):
     """Builds the library that counts and refuses."""
-    source, library = f"{folder}/counting.c", f"{folder}/counting.so"
-    with open(source, "w", encoding="utf-8") as file:
-        file.write(LIBRARY)
-    words = ["cc", "-shared", "-fPIC", "-O1", "-fno-builtin", "-o", library, source, "-ldl"]
-    subprocess.run(words, check=True)
+    source = os.path.join(os.path.dirname(os.path.abspath(__file__)), "counting.c")
+    library = f"{folder}/counting.so"
+    subprocess.run(["cc", "-shared", "-fPIC", "-O1", "-fno-builtin", "-o", library, source, "-ldl"], check=True)
     return library
 
 
@@ -148,29 +155,58 @@ class Program:
         with open(f"{self.folder}/{name}", "rb") as file:
             return file.read()
 
-    def run(self, command, refused=0, given=b""):
-        """What a run answers (status, outputs, the file OUT), and its requests and their bytes."""
+    def run(self, case, refused=0):
+        """What a run answers (status, outputs, the file OUT), its requests and their bytes."""
+        self.put("FILE", case.file)
+        self.put("HEX", case.file.hex().encode())
         self.put("OUT", BEFORE)
         self.put("counts", b"")
-        counts = f"{self.folder}/counts"
-        env = {"LD_PRELOAD": self.library, "REFUSED_REQUEST": str(refused), "COUNTS": counts}
-        words = [self.program, *command]
-        ran = subprocess.run(words, cwd=self.folder, env=env, input=given, capture_output=True)
-        requests, size = map(int, self.get("counts").split())
-        return (ran.returncode, ran.stdout, ran.stderr, self.get("OUT")), requests, size
+        env = {"LD_PRELOAD": self.library, "REFUSED_REQUEST": str(refused), "COUNTS": f"{self.folder}/counts"}
+        words = [self.program, *case.words]
+        ran = subprocess.run(words, cwd=self.folder, env=env, input=case.given, capture_output=True)
+        size, *asked = self.get("counts").split()
+        return (ran.returncode, ran.stdout, ran.stderr, self.get("OUT")), asked, int(size)
 
 
 def of_all(work, programs, cases):
-    """What each case gives, as many at a time as there are programs: the counts added up, and what went wrong."""
-    programs = list(programs)
+    """What each case gives, as many at a time as there are programs."""
+    cases = list(cases)
 
     def go_through(place):
-        return [work(programs[place], it) for it in itertools.islice(cases, place, None, len(programs))]
+        return [work(programs[place], it) for it in cases[place :: len(programs)]]
 
     with ThreadPoolExecutor(len(programs)) as pool:
-        found = [it for part in pool.map(go_through, range(len(programs))) for it in part]
-    first, second, wrong = zip(*found)
-    return sum(first), sum(second), list(itertools.chain.from_iterable(wrong))
+        parts = list(pool.map(go_through, range(len(programs))))
+    return [parts[place % len(parts)][place // len(parts)] for place in range(len(cases))]
+
+
+def unlike(programs, cases):
+    """The cases of a command that make other requests than those before them, and the first request to refuse."""
+    cases, found = list(cases), {}
+    for case, asked in zip(cases, of_all(lambda program, it: program.run(it)[1], programs, cases)):
+        found.setdefault(tuple(asked), case)
+    common = len(os.path.commonprefix([*found]))
+    return [(case, common + 1 if place else 1) for place, case in enumerate(found.values())]
+
+
+def refuse_all(programs, cases, judge):
+    """Refuses the requests of cases, each a case and the first to refuse: how many runs told it, how many went on or
+    ended otherwise as they may, and what went wrong."""
+
+    def refuse(program, case):
+        case, first = case
+        usual, asked, _ = program.run(case)
+        found = [(refused, program.run(case, refused)[0]) for refused in range(first, len(asked) + 1)]
+        return [(judge(case, it, usual), case, refused, it, usual) for refused, it in found]
+
+    runs = list(itertools.chain.from_iterable(of_all(refuse, programs, cases)))
+    verdicts = [it[0] for it in runs]
+    wrong = [
+        f"{case.file[:20].hex()}, {' '.join(case.words)}, request {refused}: {found} in place of {usual}"
+        for verdict, case, refused, found, usual in runs
+        if verdict == "wrong"
+    ]
+    return verdicts.count("told"), verdicts.count("may"), wrong
 
 
 def is_memory(given, usual):
@@ -180,40 +216,18 @@ def is_memory(given, usual):
     return is_told and usual[1].startswith(out) and kept == BEFORE
 
 
-def refuse_each(program, command, requests, usual, at):
-    """How many runs said that memory was refused, how many went on as usual, and what went wrong."""
-    told, usually, wrong = 0, 0, []
-    for refused in requests:
-        given, _, _ = program.run(command, refused)
-        if is_memory(given, usual):
-            told += 1
-        elif given == usual:
-            usually += 1
-        else:
-            wrong.append(f"{at}, {' '.join(command)}, request {refused}: {given} in place of {usual}")
-    return told, usually, wrong
+def judge_program(_, given, usual):
+    return "told" if is_memory(given, usual) else "may" if given == usual else "wrong"
 
 
-def refuse_in_turn(program, case):
-    """Refuses each request of a command on a document."""
-    (name, digits), command = case
-    program.put("FILE", bytes.fromhex(digits))
-    program.put("HEX", digits.encode())
-    usual, requests, _ = program.run(command)
-    return refuse_each(program, command, range(1, requests + 1), usual, name)
+def documents_of(command):
+    for digits in DOCUMENTS.values():
+        yield Case(bytes.fromhex(digits), command)
 
 
-def refuse_row(program, case):
-    """The same of a row of the conformance table, for the requests that come as the item is judged, and for one of
-    those before it, another one in each row."""
-    number, row, command = case
-    program.put("FILE", b"\0")
-    _, least, _ = program.run(command)
-    first = max(least - 8, 1)
-    program.put("FILE", row.given)
-    words = [*command, "--depth", str(row.depth), "--bytes", str(row.most)]
-    usual, requests, _ = program.run(words)
-    return refuse_each(program, words, [1 + number % first, *range(first, requests + 1)], usual, row.given[:20].hex())
+def rows_of(command):
+    for row in rows():
+        yield Case(row.given, [*command, "--depth", str(row.depth), "--bytes", str(row.most)])
 
 
 def promises():
@@ -251,11 +265,9 @@ def count_promises(program):
     for command in COMMANDS:
         if "HEX" in command:
             continue
-        program.put("FILE", b"\0")
-        _, _, least = program.run(command)
+        _, _, least = program.run(Case(b"\0", command))
         for document in promises():
-            program.put("FILE", document)
-            given, _, size = program.run(command)
+            given, _, size = program.run(Case(document, command))
             more = size - least
             most = max(most, (more - CONSTANT) / len(document))
             is_small = more <= CONSTANT + A_BYTE * len(document)
@@ -323,21 +335,19 @@ def is_line(found, usual, length):
     return is_word(found, usual, length) if word < 3 else is_calls(found, usual, PARTS[part], length)
 
 
-def refuse_readers(program, row):
-    """Refuses each request on a row: how many were told, how many ended the driver, and what went wrong."""
-    told, ended, wrong = 0, 0, []
-    line = f"{row.depth} {row.most} {row.given.hex()}\n".encode()
-    (_, usual, _, _), requests, _ = program.run([], given=line)
-    for refused in range(1, requests + 1):
-        (status, out, _, _), _, _ = program.run([], refused, line)
-        if status == 1 and usual.startswith(out):
-            # the driver's own memory, or that of canonical bytes
-            ended += 1
-        elif status == 0 and is_line(out.decode()[:-1], usual.decode()[:-1], len(row.given)):
-            told += 1
-        else:
-            wrong.append(f"{row.given[:20].hex()}, request {refused}: {out} in place of {usual}")
-    return told, ended, wrong
+def lines():
+    """What the driver of the readers is given, a row a run."""
+    for row in rows():
+        yield Case(row.given, [], f"{row.depth} {row.most} {row.given.hex()}\n".encode())
+
+
+def judge_reader(case, given, usual):
+    (status, out, _, _), usual = given, usual[1]
+    if status == 1 and usual.startswith(out):
+        # the driver's own memory, or that of canonical bytes
+        return "may"
+    is_told = status == 0 and is_line(out.decode()[:-1], usual.decode()[:-1], len(case.file))
+    return "told" if is_told else "wrong"
 
 
 def main():
@@ -354,17 +364,17 @@ def main():
 
         if given.program:
             programs = several(given.program)
-            cases = list(itertools.product(DOCUMENTS.items(), COMMANDS))
-            told, usually, found = of_all(refuse_in_turn, programs, cases)
-            print(f"a request refused: {told} runs out of memory, {usually} as usual, {len(found)} else")
-            cases = [(number, row, command) for command in JUDGING for number, row in enumerate(rows())]
-            told, usually, others = of_all(refuse_row, programs, cases)
-            print(f"a request refused on the rows: {told} runs out of memory, {usually} as usual, {len(others)} else")
-            most, promised = count_promises(programs[0])
+            for name, commands, inputs in (("documents", COMMANDS, documents_of), ("rows", JUDGING, rows_of)):
+                cases = [it for command in commands for it in unlike(programs, inputs(command))]
+                told, usually, found = refuse_all(programs, cases, judge_program)
+                print(f"a request refused on {name}: {told} runs out of memory, {usually} as usual, {len(found)} else")
+                wrong += found
+            most, found = count_promises(programs[0])
             print(f"heads that promise much: at most {CONSTANT} bytes and {most:.0f} for each that came")
-            wrong += found + others + promised
+            wrong += found
         if given.readers:
-            told, ended, found = of_all(refuse_readers, several(given.readers), rows())
+            readers = several(given.readers)
+            told, ended, found = refuse_all(readers, unlike(readers, lines()), judge_reader)
             print(f"a request of the readers refused: {told} told or as usual, {ended} ended, {len(found)} else")
             wrong += found
             told, found = refuse_calls(given.readers, library, folder)

@@ -1,13 +1,15 @@
 #!/usr/bin/env bash
-# Makes the library for C and its shared object: scripts/build_c.sh [FOLDER]
+# Makes the library for C and its shared object: scripts/build_c.sh [FOLDER [ARCHIVE]]
 #
 # FOLDER (dist without one) gets include/naltvigo.h, lib/libnaltvigo.a, lib/libnaltvigo.so with its
 # version, and lib/pkgconfig/naltvigo.pc. Only naltvigo_* is seen of either. The kit's rt has to be on the
-# path; of a C compiler (CC) the linker alone is used. Two runs make equal bytes.
+# path; of a C compiler (CC) the linker alone is used. Two runs make equal bytes. ARCHIVE is what an earlier
+# run compiled, crates/naltvigo/out/libnaltvigo.a; without one it is compiled.
 set -euo pipefail
 
 root=$(cd "$(dirname "${BASH_SOURCE[0]}")/.." && pwd)
 dist=${1:-$root/dist}
+archive=${2:-}
 kit=$(dirname "$(rt doc)")
 header=$root/include/naltvigo.h
 version_of() { sed -n "s/^#define NALTVIGO_VERSION_$1 //p" "$header"; }
@@ -22,23 +24,33 @@ trap 'rm -rf "$room" "$log"' EXIT
 # the compiler is called as rt does it, and they are not proved again, unless that fails.
 make_archive() {
     cd "$root/crates/naltvigo"
-    if [ -e ../cbor_reader/out/rlib/stamp ] || [ ! -e ../cbor_reader/out/rlib/cbor_reader.rlib ]; then
+    local name names
+    names=$(sed -n 's/^naltvigo staticlib: //p' "$root/crates.txt")
+    name=${names##* }
+    if [ -e "../$name/out/rlib/stamp" ] || [ ! -e "../$name/out/rlib/$name.rlib" ]; then
         rt lib
         return
     fi
     local words=(--crate-name naltvigo src/lib.rt --crate-type staticlib)
     words+=(--extern "std=$kit/rlibs/std.rlib" -L "dependency=$kit/rlibs")
-    for name in $(sed -n 's/^naltvigo staticlib: //p' "$root/crates.txt"); do
-        words+=(--extern "$name=../$name/out/rlib/$name.rlib" -L "dependency=../$name/out/rlib")
+    for name in $names; do
+        words+=(--extern "$name=../$name/out/rlib/$name.rlib")
+    done
+    for name in ../*/out/rlib; do
+        words+=(-L "dependency=$name")
     done
     words+=(--antt-project "$kit/rattle/logic/antt-project.json" --logic-built "$kit/logic_built" --jobs 2)
     words+=(--links naltvigo= --toolchain "$kit/toolchain" --backend llvm)
     "$kit/bin/rattle" build "${words[@]}" -o out/libnaltvigo.a || rt lib
 }
-(make_archive) >"$log" 2>&1 || { cat "$log" >&2; exit 1; }
+if [ -z "$archive" ]; then
+    (make_archive) >"$log" 2>&1 || { cat "$log" >&2; exit 1; }
+    archive=$root/crates/naltvigo/out/libnaltvigo.a
+fi
+archive=$(realpath "$archive")
 
 # One object, in which the kit's calls of malloc, realloc and free, and all else, are local names.
-(cd "$room" && ar x "$root/crates/naltvigo/out/libnaltvigo.a" && ar x "$kit/c/liblibc_c.a" heap.pic.o)
+(cd "$room" && ar x "$archive" && ar x "$kit/c/liblibc_c.a" heap.pic.o)
 ld -r -o "$room/all.o" "$room"/naltvigo*.o "$room/heap.pic.o"
 objcopy --wildcard --keep-global-symbol='naltvigo_*' "$room/all.o"
 

@@ -1,11 +1,12 @@
 #!/usr/bin/env bash
-# Builds the library for C twice, and tests it: scripts/test_c.sh [FOLDER]
+# Tests the library for C: scripts/test_c.sh [FOLDER]
 #
 # The header against the crate; the conformance table and more from C, linked statically and to the shared
 # object, by each compiler, plain, under sanitizers and under valgrind; each request for memory refused;
-# threads; the stack; the examples. The library stays in FOLDER, where one is given. A C compiler and the
-# binutils have to be there, and the kit's rt on the path; the last line names what else was not there. It
-# begins 'C: all well', or the status is not 0.
+# threads; the stack; the examples. The library stands in FOLDER, as scripts/build_c.sh made it last, and is put
+# together once more, for equal bytes; without FOLDER it is built, twice. A C compiler and the binutils have to
+# be there, and the kit's rt on the path; the last line names what else was not there. It begins 'C: all well',
+# or the status is not 0.
 set -euo pipefail
 
 root=$(cd "$(dirname "${BASH_SOURCE[0]}")/.." && pwd)
@@ -33,8 +34,12 @@ for it in ar ld objcopy nm; do
 done
 export CC=${compilers[0]}
 
-"$root/scripts/build_c.sh" "$dist"
-"$root/scripts/build_c.sh" "$room/again"
+if [ $# = 0 ]; then
+    "$root/scripts/build_c.sh" "$dist"
+    "$root/scripts/build_c.sh" "$room/again"
+else
+    "$root/scripts/build_c.sh" "$room/again" "$root/crates/naltvigo/out/libnaltvigo.a"
+fi
 diff -r "$dist" "$room/again" >/dev/null || fail 'two builds differ'
 say 'two builds give equal bytes'
 

@@ -1,35 +1,28 @@
 //! The program, over a folder in memory.
 
-mod appendix;
 mod command_line;
-mod compare;
-mod cut_heads;
 mod disk;
-mod events;
 mod explained;
 mod failures;
-mod hex_text;
+mod help;
 mod in_memory;
 mod items;
-mod quiet;
-mod refusals;
-mod scalars;
-mod sequences;
-mod show;
+mod refused;
+mod rows;
 mod streams;
-mod strict;
 
 use crate::run::run;
 use cborc_commands::{FileFault, Folder};
 use std::alloc::{AllocError, Global};
 use std::io::{ErrorKind, Write};
 
-// A folder with one file to read, which is standard input too, and which keeps what is written. The
-// path `locked` is not permitted, `folder` is a folder, `full` wants memory, and any other file is
-// not there.
+// A folder with two files to read, of which the first is standard input too, and which keeps what is
+// written. The path `locked` is not permitted, `folder` is a folder, `full` wants memory, and any
+// other file is not there.
 #[derive(Drop)]
 struct Shelf<'a> {
-    bytes: &'a [u8],
+    first: &'a [u8],
+    second: &'a [u8],
     written: Vec<(String, Vec<u8>)>,
     cause: Option<ErrorKind>,
 }
@@ -37,7 +30,8 @@ struct Shelf<'a> {
 impl<'a> Folder for Shelf<'a> {
     fn read(&mut self, alloc: Global, path: &str) -> Result<Vec<u8>, FileFault> {
         match path {
-            "in" | "-" => Vec::from_slice(alloc, self.bytes).map_err(|_| FileFault::Memory),
+            "in" | "a" | "-" => Vec::from_slice(alloc, self.first).map_err(|_| FileFault::Memory),
+            "b" => Vec::from_slice(alloc, self.second).map_err(|_| FileFault::Memory),
             "full" => Err(FileFault::Memory),
             _ => Err(self.fail(path)),
         }
@@ -95,6 +89,14 @@ impl Outcome {
         }
     }
 
+    // Whether it wrote just these bytes, to the file `out` or to standard output.
+    fn left(&self, is_file: bool, bytes: &[u8]) -> bool {
+        if is_file {
+            return self.wrote("out", bytes);
+        }
+        self.written.is_empty() && self.out.as_slice() == bytes
+    }
+
     // Whether it ended well and wrote just this line, on standard output.
     fn printed(&self, line: &str) -> bool {
         let quiet = self.status == 0 && self.written.is_empty() && self.err.is_empty();
@@ -125,17 +127,21 @@ fn words(alloc: Global, line: &str) -> Result<Vec<String>, AllocError> {
     Ok(words)
 }
 
-// Runs the words of a line over these outputs and a file `in` that holds the bytes; answers the
-// status and what was written.
+// Runs the words of a line over these outputs and the files of a row; answers the status and what
+// was written.
 fn run_with<O: Write, E: Write>(
     alloc: Global,
     line: &str,
-    bytes: &[u8],
+    files: &str,
     out: &mut O,
     err: &mut E,
 ) -> Result<(u8, Vec<(String, Vec<u8>)>), AllocError> {
+    let (first, second) = files.split_once(" / ").unwrap_or((files, ""));
+    let first = bytes_of(alloc, line, first)?;
+    let second = bytes_of(alloc, line, second)?;
     let mut files = Shelf {
-        bytes,
+        first: first.as_slice(),
+        second: second.as_slice(),
         written: Vec::new(alloc),
         cause: None,
     };
@@ -144,12 +150,21 @@ fn run_with<O: Write, E: Write>(
     Ok((status, written))
 }
 
+// A file's bytes: its text, as `--hex` reads it, or else what hex digits stand for.
+fn bytes_of(alloc: Global, line: &str, file: &str) -> Result<Vec<u8>, AllocError> {
+    if line.split_whitespace().any(|word| word == "--hex") {
+        Vec::from_slice(alloc, file.as_bytes())
+    } else {
+        hex::decode(alloc, file).map_err(|_| AllocError)
+    }
+}
+
 // The same, with outputs that take all. A run that ends for want of memory, and was not to, is an
 // error here: so a test ends where an allocation is made to fail.
-fn ran(alloc: Global, line: &str, bytes: &[u8]) -> Result<Outcome, AllocError> {
+fn ran(alloc: Global, line: &str, files: &str) -> Result<Outcome, AllocError> {
     let mut out = Vec::with_capacity(alloc, 2048)?;
     let mut err = Vec::with_capacity(alloc, 2048)?;
-    let (status, written) = run_with(alloc, line, bytes, &mut out, &mut err)?;
+    let (status, written) = run_with(alloc, line, files, &mut out, &mut err)?;
     if status == 3 && err.as_slice() == b"out of memory\n".as_slice() && !line.contains("full") {
         return Err(AllocError);
     }
@@ -159,31 +174,4 @@ fn ran(alloc: Global, line: &str, bytes: &[u8]) -> Result<Outcome, AllocError> {
         err,
         written,
     })
-}
-
-// The same, over a file of the bytes of a table's hex.
-fn ran_on(alloc: Global, line: &str, digits: &str) -> Result<Outcome, AllocError> {
-    let bytes = bytes_of(alloc, digits)?;
-    ran(alloc, line, bytes.as_slice())
-}
-
-// Whether `check` accepts the bytes of a table's hex, all of them, with these options.
-fn is_accepted(alloc: Global, options: &str, digits: &str) -> Result<bool, AllocError> {
-    let line = format!(in alloc; "check in {options}")?;
-    let ran = ran_on(alloc, line.as_str(), digits)?;
-    let wanted = format!(in alloc; "accepted {} bytes", digits.len() / 2)?;
-    Ok(ran.printed(wanted.as_str()))
-}
-
-// Whether `canon` turns the bytes of a table's hex into others, with these options.
-fn is_turned(alloc: Global, options: &str, digits: &str, wanted: &str) -> Result<bool, AllocError> {
-    let line = format!(in alloc; "canon in out {options}")?;
-    let ran = ran_on(alloc, line.as_str(), digits)?;
-    let wanted = bytes_of(alloc, wanted)?;
-    Ok(ran.wrote("out", wanted.as_slice()))
-}
-
-// The bytes of a table's hex.
-fn bytes_of(alloc: Global, text: &str) -> Result<Vec<u8>, AllocError> {
-    hex::decode(alloc, text).map_err(|_| AllocError)
 }

@@ -44,7 +44,24 @@ static CHECK_SEQUENCE: [&str; 5] = [
 ];
 
 // The words, and what standard error begins with.
-static FAULTS: [(&str, &str); 39] = [
+static FAULTS: [(&str, &str); 44] = [
+    (
+        "compare",
+        "error: the following required arguments were not provided:\n  <A>\n  <B>\n",
+    ),
+    (
+        "compare a",
+        "error: the following required arguments were not provided:\n  <B>\n",
+    ),
+    ("compare a b c", "error: unexpected argument 'c' found\n"),
+    (
+        "compare --order length a b",
+        "error: unexpected argument '--order' found\n",
+    ),
+    (
+        "compare --strict a b",
+        "error: unexpected argument '--strict' found\n",
+    ),
     (
         "compare - -",
         "error: standard input is read once: '-' may stand for A or for B\n",
@@ -191,147 +208,30 @@ static FAULTS: [(&str, &str); 39] = [
     ),
 ];
 
-const HELP: &str = "\
-Reads and writes deterministic CBOR (RFC 8949, section 4.2)
-
-Usage: cborc <COMMAND>
-
-Commands:
-  show     Writes the diagnostic text of the item in FILE
-  events   Writes a line for each event of the item in FILE
-  check    Checks that FILE is one valid item, or a sequence of them
-  canon    Writes the canonical bytes of the item in IN to OUT
-  compare  Says whether the items in A and B have the same value
-  help     Print this message or the help of the given subcommand(s)
-
-Options:
-  -h, --help     Print help
-  -V, --version  Print version
-
-Accepted is one item of well-formed and valid CBOR (RFC 8949) in any spelling, but for floating-point
-numbers: integers, byte and text strings, arrays, maps without equal keys, tags, simple values. FILE,
-IN, A or B may be - for standard input, OUT for standard output.
-
-Status: 0 accepted or same, 1 refused or different, 2 a fault in the words, 3 where a file, its hex,
-the output or memory fails.
-
-Examples:
-  cborc show message.cbor
-  cborc events --hex message.hex
-  cborc check --strict --explain message.cbor
-  cborc canon message.cbor - | sha256sum
-  cborc compare old.cbor new.cbor
-";
-
-const VERSION: &str = "\
-cborc 0.1.0
-Orders of keys: bytewise (RFC 8949, section 4.2.1), length (section 4.2.3)
-Limits: depth 0 to 256, bytes 0 to 4611686018427387904
-Proved with rattle-kit-13b: each function is safe, returns, and meets its contract
-";
-
-const HELP_OF_CANON: &str = "\
-Writes the canonical bytes of the item in IN to OUT
-
-Usage: cborc canon [OPTIONS] <IN> <OUT>
-
-Arguments:
-  <IN>   The file to read: one item, or - for standard input
-  <OUT>  The file to write, or - for standard output
-
-Options:
-      --hex-out        Write hex digits, two for each byte, and a line feed
-      --order <order>  The order of map keys [default: bytewise] [possible values: bytewise, length]
-      --depth <count>  How deep arrays, maps and tags may nest, 0 to 256 [default: 256]
-      --bytes <count>  How many bytes an item may have, 0 to 4611686018427387904 [default: 1048576]
-      --hex            Read hex digits, two for each byte, white space ignored
-      --quiet          Answer by the status alone
-      --explain        Say behind a refusal or fault what it means, and where it is
-  -h, --help           Print help
-";
-
-const HELP_OF_CHECK: &str = "\
-Checks that FILE is one valid item, or a sequence of them
-
-Usage: cborc check [OPTIONS] <FILE>
-
-Arguments:
-  <FILE>  The file to read, or - for standard input
-
-Options:
-      --strict         Accept canonical bytes alone
-      --seq            Read a sequence of items, with the limits on each
-      --order <order>  The order of map keys, with --strict [default: bytewise] [possible values: bytewise, length]
-      --depth <count>  How deep arrays, maps and tags may nest, 0 to 256 [default: 256]
-      --bytes <count>  How many bytes an item may have, 0 to 4611686018427387904 [default: 1048576]
-      --hex            Read hex digits, two for each byte, white space ignored
-      --quiet          Answer by the status alone
-      --explain        Say behind a refusal or fault what it means, and where it is
-  -h, --help           Print help
-";
-
-// The words, and what stands on standard output.
-static HELPS: [(&str, &str); 12] = [
-    ("--version", VERSION),
-    ("-V", "cborc 0.1.0\n"),
-    ("--help", HELP),
-    ("-h", HELP),
-    ("help", HELP),
-    ("canon --help", HELP_OF_CANON),
-    ("canon -h", HELP_OF_CANON),
-    ("help canon", HELP_OF_CANON),
-    ("canon absent --help", HELP_OF_CANON),
-    ("check --help", HELP_OF_CHECK),
-    ("help check", HELP_OF_CHECK),
-    ("check --strict absent -h", HELP_OF_CHECK),
-];
-
 #[test]
 fn takes_options_anywhere(rt: HostRuntime) -> Result<(), AllocError> {
     for &line in &CANON {
-        let ran = ran(rt.alloc(), line, zero(line))?;
+        let ran = ran(rt.alloc(), line, "00")?;
         assert!(rt; ran.wrote("out", b"\x00"), "{line}");
     }
     for &line in &CHECK {
-        let ran = ran(rt.alloc(), line, zero(line))?;
+        let ran = ran(rt.alloc(), line, "00")?;
         assert!(rt; ran.printed("accepted 1 bytes"), "{line}");
     }
     for &line in &CHECK_SEQUENCE {
-        let ran = ran(rt.alloc(), line, zero(line))?;
+        let ran = ran(rt.alloc(), line, "00")?;
         assert!(rt; ran.printed("accepted 1 items"), "{line}");
     }
     Ok(())
 }
 
-// A file that holds 0, as these words read it.
-fn zero(line: &str) -> &'static [u8] {
-    if line.contains("--hex") {
-        b"00"
-    } else {
-        b"\x00"
-    }
-}
-
 #[test]
 fn faults_in_the_words(rt: HostRuntime) -> Result<(), AllocError> {
     for &(line, wanted) in &FAULTS {
-        let ran = ran(rt.alloc(), line, b"\x00")?;
+        let ran = ran(rt.alloc(), line, "00")?;
         let quiet = ran.out.is_empty() && ran.written.is_empty();
         let told = ran.err.starts_with(wanted.as_bytes());
         assert!(rt; ran.status == 2 && quiet && told, "{line}");
-    }
-    Ok(())
-}
-
-#[test]
-fn helps(rt: HostRuntime) -> Result<(), AllocError> {
-    for &(line, wanted) in &HELPS {
-        let ran = ran(rt.alloc(), line, b"\x00")?;
-        let quiet = ran.err.is_empty() && ran.written.is_empty();
-        assert!(rt;
-            ran.status == 0 && quiet && ran.out.as_slice() == wanted.as_bytes(),
-            "{line}"
-        );
     }
     Ok(())
 }

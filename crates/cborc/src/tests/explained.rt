@@ -1,7 +1,6 @@
 //! `--explain`: what stands behind the line of a refusal or fault.
 
-use super::compare::compared;
-use super::{bytes_of, ran};
+use super::ran;
 use cborc_commands::Visible;
 use std::alloc::AllocError;
 
@@ -91,7 +90,7 @@ static EXPLAINED: [(&str, &str, &str); 8] = [
         "9200000000000000000000000000000000000001",
         TRAILING,
     ),
-    ("check --seq --explain in", "00820102 81ff", OF_SEQUENCE),
+    ("check --seq --explain in", "0082010281ff", OF_SEQUENCE),
     ("check --explain in", "816261ff", TEXT),
     ("events --explain in", "827f6161ff1c", RESERVED),
     // the digits of 0082010281ff
@@ -102,66 +101,10 @@ static EXPLAINED: [(&str, &str, &str); 8] = [
     ),
 ];
 
-// The words, and what stands on standard error of a file that is not to be had.
-static CAUSES: [(&str, &str); 9] = [
-    (
-        "check --explain absent",
-        "cannot read absent\n  There is no such file or folder.\n",
-    ),
-    (
-        "canon --explain absent out",
-        "cannot read absent\n  There is no such file or folder.\n",
-    ),
-    (
-        "show --explain folder",
-        "cannot read folder\n  It is a folder.\n",
-    ),
-    (
-        "events --explain locked",
-        "cannot read locked\n  It is not permitted.\n",
-    ),
-    (
-        "compare --explain in odd",
-        "cannot read odd\n  The cause is not known.\n",
-    ),
-    (
-        "check --seq --explain silent",
-        "cannot read silent\n  The cause is not known.\n",
-    ),
-    (
-        "canon --explain in locked",
-        "cannot write locked\n  It is not permitted.\n",
-    ),
-    (
-        "canon --explain in folder",
-        "cannot write folder\n  It is a folder.\n",
-    ),
-    ("canon in folder", "cannot write folder\n"),
-];
-
-#[test]
-fn explains_why_a_file_is_not_to_be_had(rt: HostRuntime) -> Result<(), AllocError> {
-    for &(line, wanted) in &CAUSES {
-        let ran = ran(rt.alloc(), line, b"\x00")?;
-        assert!(rt;
-            ran.status == 3 && ran.err.as_slice() == wanted.as_bytes(),
-            "{line}"
-        );
-    }
-    Ok(())
-}
-
 #[test]
 fn explains_refusals(rt: HostRuntime) -> Result<(), AllocError> {
-    let alloc = rt.alloc();
-    for &(line, digits, wanted) in &EXPLAINED {
-        let digits = digits.split_whitespace();
-        let mut joined = String::new(alloc);
-        for part in digits {
-            joined.push_str(part)?;
-        }
-        let bytes = bytes_of(alloc, joined.as_str())?;
-        let ran = ran(alloc, line, bytes.as_slice())?;
+    for &(line, file, wanted) in &EXPLAINED {
+        let ran = ran(rt.alloc(), line, file)?;
         assert_eq!(rt; ran.err.as_slice(), wanted.as_bytes(), "{line}");
     }
     Ok(())
@@ -170,7 +113,7 @@ fn explains_refusals(rt: HostRuntime) -> Result<(), AllocError> {
 #[test]
 fn explains_text_that_is_no_hex(rt: HostRuntime) -> Result<(), AllocError> {
     for (text, wanted) in [("00\n0g", OTHER_DIGIT), ("00 ", ""), ("000", ODD)] {
-        let ran = ran(rt.alloc(), "check --explain --hex in", text.as_bytes())?;
+        let ran = ran(rt.alloc(), "check --explain --hex in", text)?;
         assert_eq!(rt; ran.err.as_slice(), wanted.as_bytes(), "{text}");
     }
     Ok(())
@@ -179,10 +122,10 @@ fn explains_text_that_is_no_hex(rt: HostRuntime) -> Result<(), AllocError> {
 #[test]
 fn explains_either_side(rt: HostRuntime) -> Result<(), AllocError> {
     let alloc = rt.alloc();
-    let left = compared(alloc, "compare --explain a b", b"\x1f", b"\x00")?;
+    let left = ran(alloc, "compare --explain a b", "1f / 00")?;
     let shown = b"bytes from 0: 1f\n".as_slice();
     assert!(rt; left.err.windows(shown.len()).any(|part| part == shown));
-    let right = compared(alloc, "compare --explain a b", b"\x00", b"\x1e")?;
+    let right = ran(alloc, "compare --explain a b", "00 / 1e")?;
     let shown = b"bytes from 0: 1e\n".as_slice();
     assert!(rt; right.err.windows(shown.len()).any(|part| part == shown));
     Ok(())

@@ -1,51 +1,10 @@
-//! Files and outputs that fail.
+//! Outputs that fail, and words that are not to be had.
 
-use super::{ran, run_with};
+use super::run_with;
 use cborc_commands::{Fault, end};
 use std::alloc::AllocError;
 use std::io;
 use std::io::{ErrorKind, Write};
-
-// The words, the file, the status, and the line on standard error.
-static ROWS: [(&str, &[u8], u8, &str); 23] = [
-    ("canon absent out", b"\x00", 3, "cannot read absent"),
-    ("canon --hex absent out", b"\x00", 3, "cannot read absent"),
-    ("canon full out", b"\x00", 3, "out of memory"),
-    ("canon in locked", b"\x00", 3, "cannot write locked"),
-    ("canon in full", b"\x00", 3, "out of memory"),
-    ("canon absent locked", b"\x00", 3, "cannot read absent"),
-    (
-        "canon in locked",
-        b"\x00\x00",
-        1,
-        "refused 12 Trailing at 1",
-    ),
-    ("canon --hex in locked", b"0", 3, "not hex: in"),
-    ("check absent", b"\x00", 3, "cannot read absent"),
-    ("check --strict absent", b"\x00", 3, "cannot read absent"),
-    ("check --hex absent", b"\x00", 3, "cannot read absent"),
-    ("check full", b"\x00", 3, "out of memory"),
-    ("check --seq absent", b"\x00", 3, "cannot read absent"),
-    ("show absent", b"\x00", 3, "cannot read absent"),
-    ("show --hex in", b"0", 3, "not hex: in"),
-    ("events absent", b"\x00", 3, "cannot read absent"),
-    ("events full", b"\x00", 3, "out of memory"),
-    ("show full", b"\x00", 3, "out of memory"),
-    ("check --seq full", b"\x00", 3, "out of memory"),
-    ("check --seq --hex in", b"0", 3, "not hex: in"),
-    ("check --hex in", b"0", 3, "not hex: in"),
-    ("show folder", b"\x00", 3, "cannot read folder"),
-    ("canon in absent/out", b"\x00", 3, "cannot write absent/out"),
-];
-
-#[test]
-fn names_the_file(rt: HostRuntime) -> Result<(), AllocError> {
-    for &(line, bytes, status, wanted) in &ROWS {
-        let ran = ran(rt.alloc(), line, bytes)?;
-        assert!(rt; ran.stopped(status, wanted), "{line}");
-    }
-    Ok(())
-}
 
 // An output that takes so many bytes and then fails.
 #[derive(Drop)]
@@ -69,26 +28,26 @@ impl Write for Short {
 }
 
 // The words, the file, and the status.
-static STATUSES: [(&str, &[u8], u8); 10] = [
-    ("canon in out", b"\x00", 0),
-    ("canon in out", b"\x00\x00", 1),
-    ("canon in", b"\x00", 2),
-    ("", b"\x00", 2),
-    ("canon absent out", b"\x00", 3),
-    ("check in", b"\x00", 0),
-    ("check --strict in", b"\x18\x00", 1),
-    ("check absent", b"\x00", 3),
-    ("check --seq in", b"\x00\x00", 0),
-    ("check --seq in", b"\x00\xff", 1),
+static STATUSES: [(&str, &str, u8); 10] = [
+    ("canon in out", "00", 0),
+    ("canon in out", "0000", 1),
+    ("canon in", "00", 2),
+    ("", "00", 2),
+    ("canon absent out", "00", 3),
+    ("check in", "00", 0),
+    ("check --strict in", "1800", 1),
+    ("check absent", "00", 3),
+    ("check --seq in", "0000", 0),
+    ("check --seq in", "00ff", 1),
 ];
 
 #[test]
 fn standard_error_fails(rt: HostRuntime) -> Result<(), AllocError> {
-    for &(line, bytes, wanted) in &STATUSES {
+    for &(line, file, wanted) in &STATUSES {
         for left in [0, 3] {
             let mut out = Short { left: 64 };
             let mut err = Short { left };
-            let (status, _) = run_with(rt.alloc(), line, bytes, &mut out, &mut err)?;
+            let (status, _) = run_with(rt.alloc(), line, file, &mut out, &mut err)?;
             if status == 3 && wanted != 3 {
                 return Err(AllocError);
             }
@@ -123,7 +82,7 @@ fn standard_output_fails(rt: HostRuntime) -> Result<(), AllocError> {
     for &(line, left) in &PRINTED {
         let mut out = Short { left };
         let mut err = Vec::with_capacity(rt.alloc(), 2048)?;
-        let (status, _) = run_with(rt.alloc(), line, b"\x00", &mut out, &mut err)?;
+        let (status, _) = run_with(rt.alloc(), line, "00", &mut out, &mut err)?;
         if err.as_slice() == b"out of memory\n".as_slice() {
             return Err(AllocError);
         }

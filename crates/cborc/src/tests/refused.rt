@@ -1,10 +1,10 @@
 //! Which bytes are refused, for what reason and where, by each subcommand that reads an item.
 
-use super::ran_on;
-use std::alloc::AllocError;
+use super::ran;
+use std::alloc::{AllocError, Global};
 
-// The options, the file, and the line of the refusal, by the reason's number.
-static REFUSED: [(&str, &str, &str); 86] = [
+// The options, the file, and the line of the refusal, by the number of its reason.
+static REFUSED: [(&str, &str, &str); 98] = [
     ("", "", "refused 1 Truncated at 0"),
     ("", "18", "refused 1 Truncated at 1"),
     ("", "1bffffffffffffff", "refused 1 Truncated at 8"),
@@ -18,6 +18,10 @@ static REFUSED: [(&str, &str, &str); 86] = [
     ("", "5bffffffffffffffff", "refused 1 Truncated at 9"),
     ("", "bb8000000000000000", "refused 1 Truncated at 9"),
     ("", "62ff", "refused 1 Truncated at 2"),
+    ("", "7bffffffffffffffff", "refused 1 Truncated at 9"),
+    ("", "9bffffffffffffffff", "refused 1 Truncated at 9"),
+    ("", "bbffffffffffffffff", "refused 1 Truncated at 9"),
+    ("", "81", "refused 1 Truncated at 1"),
     ("--bytes 8", "1bffffffffffffffff", "refused 2 TooLong at 8"),
     ("--bytes 8", "1bffffffffffffff", "refused 2 TooLong at 8"),
     ("--bytes 1", "1864", "refused 2 TooLong at 1"),
@@ -44,6 +48,12 @@ static REFUSED: [(&str, &str, &str); 86] = [
     ("", "dc", "refused 3 Reserved at 0"),
     ("", "fc", "refused 3 Reserved at 0"),
     ("--depth 0", "9c", "refused 3 Reserved at 0"),
+    ("", "811c", "refused 3 Reserved at 1"),
+    ("", "a11c", "refused 3 Reserved at 1"),
+    ("", "c11c", "refused 3 Reserved at 1"),
+    ("", "9f1c", "refused 3 Reserved at 1"),
+    ("", "a1001c", "refused 3 Reserved at 2"),
+    ("", "bf001c", "refused 3 Reserved at 2"),
     ("", "1f", "refused 4 NoIndefinite at 0"),
     ("", "3f", "refused 4 NoIndefinite at 0"),
     ("", "df", "refused 4 NoIndefinite at 0"),
@@ -68,6 +78,8 @@ static REFUSED: [(&str, &str, &str); 86] = [
     ("", "5f6100ff", "refused 8 BadChunk at 1"),
     ("", "5f00ff", "refused 8 BadChunk at 1"),
     ("", "5f5f4100ffff", "refused 8 BadChunk at 1"),
+    ("", "5f1c", "refused 8 BadChunk at 1"),
+    ("", "7f1c", "refused 8 BadChunk at 1"),
     ("--depth 1", "c1c100", "refused 9 TooDeep at 1"), // 1(1(0))
     ("--depth 0", "9f", "refused 9 TooDeep at 0"),
     ("--depth 2", "818180", "refused 9 TooDeep at 2"), // [[[]]]
@@ -97,14 +109,88 @@ static REFUSED: [(&str, &str, &str); 86] = [
     ("", "a1010200", "refused 12 Trailing at 3"),
 ];
 
+// The same, of the strict rules.
+static NOT_CANONICAL: [(&str, &str, &str); 24] = [
+    ("", "a1", "refused 1 Truncated at 1"),
+    ("", "811c", "refused 3 Reserved at 1"),
+    ("", "a11c", "refused 3 Reserved at 1"),
+    ("", "c11c", "refused 3 Reserved at 1"),
+    ("", "a1001c", "refused 3 Reserved at 2"),
+    ("", "1f", "refused 4 NoIndefinite at 0"),
+    ("", "61ff", "refused 10 InvalidText at 1"),
+    ("", "a26261610061ff00", "refused 10 InvalidText at 6"), // before its key order
+    ("", "a1010200", "refused 12 Trailing at 3"), // {1: 2} and a byte
+    ("", "1800", "refused 14 NotShortest at 0"), // 0
+    ("", "1900ff", "refused 14 NotShortest at 0"), // 255
+    ("", "5800", "refused 14 NotShortest at 0"), // h''
+    ("", "7801ff", "refused 14 NotShortest at 0"), // before its text
+    ("", "811817", "refused 14 NotShortest at 1"), // [23]
+    ("", "d80100", "refused 14 NotShortest at 0"), // 1(0)
+    ("", "a20100180100", "refused 14 NotShortest at 3"), // {1: 0, 1: 0}
+    ("", "a2186400180100", "refused 14 NotShortest at 4"), // {100: 0, 1: 0}
+    ("", "9fff", "refused 15 Indefinite at 0"), // []
+    (
+        "",
+        "7f657374726561646d696e67ff",
+        "refused 15 Indefinite at 0",
+    ), // "streaming"
+    ("", "a201000100", "refused 16 KeyOrder at 3"), // {1: 0, 1: 0}
+    ("", "a202000100", "refused 16 KeyOrder at 3"), // {2: 0, 1: 0}
+    ("", "a2a0008000", "refused 16 KeyOrder at 3"), // {{}: 0, []: 0}
+    ("", "a2a201000000000000", "refused 16 KeyOrder at 4"), // {{1: 0, 0: 0}: 0, 0: 0}
+    ("--order length", "a21864002000", "refused 16 KeyOrder at 4"), // {100: 0, -1: 0}
+];
+
+// What no option `--hex` reads.
+static NOT_HEX: [&str; 9] = [
+    "180", "18 0 ", "0", "0g", "0x00", "18,00", "18\x0b00", "18\x0c00", "éé",
+];
+
+// Which row some command does not refuse as it says, by its file.
+fn first_accepted(
+    alloc: Global,
+    commands: &[&str],
+    rows: &[(&str, &'static str, &str)],
+) -> Result<Option<&'static str>, AllocError> {
+    for &(options, file, refusal) in rows {
+        for command in commands {
+            let line = format!(in alloc; "{command} {options}")?;
+            if !ran(alloc, line.as_str(), file)?.stopped(1, refusal) {
+                return Ok(Some(file));
+            }
+        }
+    }
+    Ok(None)
+}
+
 #[test]
 fn refuses(rt: HostRuntime) -> Result<(), AllocError> {
-    let alloc = rt.alloc();
-    for &(options, given, wanted) in &REFUSED {
-        for words in ["canon in out", "check in"] {
-            let line = format!(in alloc; "{words} {options}")?;
-            let ran = ran_on(alloc, line.as_str(), given)?;
-            assert!(rt; ran.stopped(1, wanted), "{line} {given}");
+    let commands = [
+        "canon in out",
+        "canon --hex in out",
+        "check in",
+        "check --hex in",
+        "show in",
+    ];
+    let accepted = first_accepted(rt.alloc(), &commands, &REFUSED)?;
+    assert_eq!(rt; accepted, None);
+    Ok(())
+}
+
+#[test]
+fn refuses_what_is_not_canonical(rt: HostRuntime) -> Result<(), AllocError> {
+    let commands = ["check --strict in", "check --strict --hex in"];
+    let accepted = first_accepted(rt.alloc(), &commands, &NOT_CANONICAL)?;
+    assert_eq!(rt; accepted, None);
+    Ok(())
+}
+
+#[test]
+fn reads_hex_digits_alone(rt: HostRuntime) -> Result<(), AllocError> {
+    for &text in &NOT_HEX {
+        for line in ["canon --hex in out", "check --hex in"] {
+            let ran = ran(rt.alloc(), line, text)?;
+            assert!(rt; ran.stopped(3, "not hex: in"), "{text} {line}");
         }
     }
     Ok(())
