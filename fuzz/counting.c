@@ -1,6 +1,6 @@
 // Stands between a program and the C library: counts the requests for memory, refuses the one whose number is in
-// REFUSED_REQUEST, and writes to the file COUNTS how many bytes were asked for, and each request: its kind and size,
-// and a number for the calls that it came from.
+// REFUSED_REQUEST, or all from that in REFUSED_FROM on, and writes to the file COUNTS how many bytes were asked for,
+// and each request: its kind and size, and a number for the calls that it came from.
 #define _GNU_SOURCE
 #include <dlfcn.h>
 #include <errno.h>
@@ -14,7 +14,7 @@
 // NEAR: how many words of the stack are looked at.
 enum { LISTED = 1 << 16, NEAR = 64 };
 
-static unsigned long requests, bytes, refused;
+static unsigned long requests, bytes, refused, refused_from;
 static struct {
     char kind;
     size_t size;
@@ -53,6 +53,8 @@ static uint32_t calls(void) {
 __attribute__((constructor)) static void begin(void) {
     const char *word = getenv("REFUSED_REQUEST");
     refused = word ? strtoul(word, NULL, 10) : 0;
+    word = getenv("REFUSED_FROM");
+    refused_from = word ? strtoul(word, NULL, 10) : 0;
     requests = bytes = 0;
     dl_iterate_phdr(find_text, NULL);
 }
@@ -65,7 +67,7 @@ static int is_refused(char kind, size_t size) {
     }
     requests += 1;
     bytes += size;
-    if (requests != refused) return 0;
+    if (requests != refused && (refused_from == 0 || requests < refused_from)) return 0;
     errno = ENOMEM;
     return 1;
 }

@@ -32,66 +32,6 @@ from refused import refuse_calls
 from run import PARTS
 from table import rows
 
-LIBRARY = r"""
-#define _GNU_SOURCE
-#include <dlfcn.h>
-#include <errno.h>
-#include <fcntl.h>
-#include <stdio.h>
-#include <stdlib.h>
-#include <unistd.h>
-
-static unsigned long requests, bytes, refused, refused_from;
-
-__attribute__((constructor)) static void begin(void) {
-    const char *word = getenv("REFUSED_REQUEST");
-    refused = word ? strtoul(word, NULL, 10) : 0;
-    word = getenv("REFUSED_FROM");
-    refused_from = word ? strtoul(word, NULL, 10) : 0;
-    requests = bytes = 0;
-}
-
-static int is_refused(size_t size) {
-    requests += 1;
-    bytes += size;
-    if (requests != refused && (refused_from == 0 || requests < refused_from)) return 0;
-    errno = ENOMEM;
-    return 1;
-}
-
-#define NEXT(name) \
-    static __typeof__(&name) next; \
-    if (!next) next = (__typeof__(&name))dlsym(RTLD_NEXT, #name)
-
-void *malloc(size_t size) {
-    NEXT(malloc);
-    return is_refused(size) ? NULL : next(size);
-}
-
-void *realloc(void *old, size_t size) {
-    NEXT(realloc);
-    return is_refused(size) ? NULL : next(old, size);
-}
-
-void *aligned_alloc(size_t align, size_t size) {
-    NEXT(aligned_alloc);
-    return is_refused(size) ? NULL : next(align, size);
-}
-
-int posix_memalign(void **to, size_t align, size_t size) {
-    NEXT(posix_memalign);
-    return is_refused(size) ? ENOMEM : next(to, align, size);
-}
-
-__attribute__((destructor)) static void end(void) {
-    char line[64];
-    unsigned long counted = requests, size = bytes;
-    int n = snprintf(line, sizeof line, "%lu %lu\n", counted, size);
-    int file = open(getenv("COUNTS"), O_WRONLY);
-    if (file < 0 || write(file, line, n) < 0) _exit(99);
-}
-"""
-
 # Valid items, and what else reaches each way to an end, in hex.
 DOCUMENTS = {
     "a map": "bf6346756ef563416d7421ff",

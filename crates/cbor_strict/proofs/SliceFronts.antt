@@ -11,7 +11,6 @@ use Rattle.cbor_head.proofs.OneVerdict.{one_verdict}
 use Rattle.cbor_slices.specs.SliceView.{SliceEventsView, seen}
 use Rattle.cbor_slices.proofs.Slices.{verdict-within}
 use Rattle.cbor_judging.specs.Readers.{IsRead, IsUnread, of_verdict, of_reader, of_memory, IsCanonicalFront, HasNoCanonicalFront}
-use Rattle.cbor_strict.specs.inner.SliceFront.{IsOver, IsStopped}
 use Rattle.cbor_judging.proofs.Fronts.{front-unread}
 use Rattle.cbor_judging.proofs.CanonicalFronts.{strict_accepts}
 use Rattle.cbor_judging.proofs.Tops.{item-read}
