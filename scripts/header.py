@@ -21,6 +21,7 @@ TYPES = {
     "&mut [u8]": ["uint8_t *", "size_t"],
     "&mut u32": ["uint32_t *"],
     "&mut usize": ["size_t *"],
+    "&mut u64": ["uint64_t *"],
     "&mut NaltvigoRefusal": ["struct naltvigo_refusal *"],
     "&mut NaltvigoEvent": ["struct naltvigo_event *"],
     "&mut SavedMachine": ["struct naltvigo_machine *"],
@@ -46,6 +47,7 @@ def constants_of_crate():
     found = {}
     for path in CRATE.glob("*.rt"):
         found |= {n: int(v) for n, v in re.findall(r"(?m)^pub const (\w+): u32 = (\d+);", path.read_text())}
+    found["VERSION_NUMBER"] = int(re.search(r"pub const VERSION: u32 = (0x[0-9a-f_]+);", (CRATE / "naming.rt").read_text())[1], 16)
     reasons = (ROOT / "crates" / "cbor_head" / "src" / "reason.rt").read_text()
     found |= {snake(n): int(v) for n, v in re.findall(r"(?m)^    (\w+) = (\d+),", reasons)}
     orders = (CRATE / "settings.rt").read_text()
@@ -54,7 +56,8 @@ def constants_of_crate():
     found["DEPTH_MAX"] = int(re.search(r"MAX_DEPTH: u16 = (\d+);", limits)[1])
     found["BYTES_MAX"] = 1 << int(re.search(r"bytes <= 1 << (\d+)", limits)[1])
     names = (ROOT / "crates" / "cbor_head" / "specs" / "Printed.antt").read_text()
-    found["NAME_MAX"] = max(len(name) for name in re.findall(r'^reason_name \w+ = codes "(\w+)"', names, re.M))
+    # with a zero byte at the end
+    found["NAME_MAX"] = 1 + max(len(name) for name in re.findall(r'^reason_name \w+ = codes "(\w+)"', names, re.M))
     return found
 
 
@@ -63,6 +66,8 @@ def constants_of_header(text):
     found["DEPTH_MAX"] = int(re.search(r"#define NALTVIGO_DEPTH_MAX UINT32_C\((\d+)\)", text)[1])
     found["BYTES_MAX"] = 1 << int(re.search(r"#define NALTVIGO_BYTES_MAX \(UINT64_C\(1\) << (\d+)\)", text)[1])
     found["NAME_MAX"] = int(re.search(r"#define NALTVIGO_NAME_MAX (\d+)", text)[1])
+    parts = [int(re.search(rf"#define NALTVIGO_VERSION_{part} (\d+)", text)[1]) for part in ("MAJOR", "MINOR", "PATCH")]
+    found["VERSION_NUMBER"] = parts[0] << 16 | parts[1] << 8 | parts[2]
     return found
 
 
@@ -78,7 +83,7 @@ def exports_of_crate():
 def exports_of_header(text):
     found = {}
     for answer, name, given in re.findall(r"(?m)^(\w+) (naltvigo_\w+)\(([^)]*)\);", text):
-        kinds = [re.sub(r"\w+$", "", " ".join(it.split())).strip() for it in given.split(",")]
+        kinds = [re.sub(r"\w+$", "", " ".join(it.split())).strip() for it in given.split(",") if it != "void"]
         found[name] = [answer] + kinds
     return found
 
