@@ -1,5 +1,6 @@
 #!/usr/bin/env python3
-"""Holds include/naltvigo.h against crates/naltvigo: the constants, the struct, the exports' signatures.
+"""Holds include/naltvigo.h against crates/naltvigo, the constants, structs and exports' signatures; and the numbers that the
+bindings repeat against the header.
 
     scripts/header.py [ROOT]    says what differs, and fails where something does
 """
@@ -100,6 +101,22 @@ def struct_of_header(name, text):
     return [(field, kind.strip() + (size or "")) for kind, field, size in found]
 
 
+def numbers_of_bindings():
+    """What the bindings repeat of the header, by file."""
+    files = {
+        "bindings/python/src/naltvigo/_library.py": r"^(\w+) = (\d+)$",
+        "bindings/rust/src/raw.rs": r"^pub const (\w+): \w+ = (\d+);$",
+    }
+    for file, pattern in files.items():
+        path = ROOT / file
+        if path.exists():
+            text = path.read_text(encoding="utf-8")
+            # as Python assigns several at once
+            for names, values in re.findall(r"(?m)^([A-Z_]+(?:, [A-Z_]+)+) = (\d+(?:, \d+)+)$", text):
+                yield from ((file, *it) for it in zip(names.split(", "), map(int, values.split(", "))))
+            yield from ((file, name, int(value)) for name, value in re.findall(f"(?m){pattern}", text))
+
+
 def differences(what, crate, header):
     crate, header = dict(crate), dict(header)
     for name in sorted(crate.keys() | header.keys()):
@@ -117,6 +134,9 @@ def main():
         found += differences(f"field of {name}", struct_of_crate(name), struct_of_header(name, text))
         if struct_of_crate(name) != struct_of_header(name, text):
             found.append(f"struct {name}: the fields or their order differ")
+    for file, name, value in numbers_of_bindings():
+        if name in constants_of_header(text) and constants_of_header(text)[name] != value:
+            found.append(f"{file} has {value} for {name}")
     for line in found:
         print(f"naltvigo.h: {line}")
     return 1 if found else 0

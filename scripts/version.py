@@ -17,17 +17,18 @@ PLACES = [
     ("crates/cborc/src/grammar.rt", r'\.version\("', r'"\)'),
     ("crates/cborc/src/tests/command_line.rt", r'const VERSION: &str = "\\\ncborc ', r"\n"),
     ("crates/cborc/src/tests/command_line.rt", r'"-V", "cborc ', r'\\n"'),
-    ("share/cborc.1", r'^\.TH CBORC 1 "[^"]*" "cborc ', r'"'),
+    ("share/cborc.1", r'(?m:^)\.TH CBORC 1 "[^"]*" "cborc ', r'"'),
     ("include/naltvigo.h", r'#define NALTVIGO_VERSION "', r'"'),
-    ("bindings/python/pyproject.toml", r'(?m)^version = "', r'"'),
-    ("bindings/rust/Cargo.toml", r'(?m)^version = "', r'"'),
+    ("bindings/python/pyproject.toml", r'(?m:^)version = "', r'"'),
+    ("bindings/rust/Cargo.toml", r'(?m:^)version = "', r'"'),
 ]
 
-# The three numbers by themselves.
+# One of the three numbers by itself: a file, what stands before it, and which one.
 NUMBERS = [
-    ("include/naltvigo.h", r"#define NALTVIGO_VERSION_MAJOR "),
-    ("include/naltvigo.h", r"#define NALTVIGO_VERSION_MINOR "),
-    ("include/naltvigo.h", r"#define NALTVIGO_VERSION_PATCH "),
+    ("include/naltvigo.h", r"#define NALTVIGO_VERSION_MAJOR ", 0),
+    ("include/naltvigo.h", r"#define NALTVIGO_VERSION_MINOR ", 1),
+    ("include/naltvigo.h", r"#define NALTVIGO_VERSION_PATCH ", 2),
+    ("bindings/python/src/naltvigo/_library.py", r"(?m:^)MAJOR = ", 0),
 ]
 
 
@@ -36,8 +37,8 @@ def places(version):
     numbers = [int(number) for number in version.split(".")]
     for file, before, behind in PLACES:
         yield file, f"({before})([0-9.]+)({behind})", version
-    for (file, before), number in zip(NUMBERS, numbers):
-        yield file, f"({before})([0-9]+)()", str(number)
+    for file, before, which in NUMBERS:
+        yield file, f"({before})([0-9]+)()", str(numbers[which])
     # a byte each
     yield "crates/naltvigo/src/naming.rt", "(pub const VERSION: u32 = )(0x[0-9a-f_]+)(;)", "0x%02x_%02x_%02x" % tuple(numbers)
 
