@@ -120,7 +120,10 @@ fn texts() {
     let error = check(b"\xf9\x3e\x00", &Options::default()).unwrap_err();
     let wanted = "refused 5 Float at 0: A floating-point number begins here; floats are not part of this profile.";
     assert_eq!(error.to_string(), wanted);
-    assert_eq!((library_version() >> 16).to_string(), env!("CARGO_PKG_VERSION_MAJOR"));
+    assert_eq!(
+        (library_version() >> 16).to_string(),
+        env!("CARGO_PKG_VERSION_MAJOR")
+    );
 }
 
 #[test]
