@@ -28,7 +28,7 @@ that out.
 ITEM = re.compile(
     r"(?P<docs>(?:^[ \t]*///[^\n]*\n)*)(?P<marks>(?:^[ \t]*#\[[^\n]*\n)*)"
     r"^[ \t]*(?:(?P<impl>(?:unsafe )?impl\b[^;{]*)\{|pub trait (?P<trait>\w+)[^;{]*\{"
-    r"|(?P<public>pub )?(?:final )?(?:const )?(?:unsafe )?(?:extern \"C\" )?fn (?P<name>\w+))",
+    r"|(?:pub\([^)]*\) )?(?P<public>pub )?(?:final )?(?:const )?(?:unsafe )?(?:extern \"C\" )?fn (?P<name>\w+))",
     re.M,
 )
 CLAUSE = re.compile(r"\b(requires|ensures)\b\*?\s*(\w+)?\s*\{|\bghost\b[^;{]*[;{]|\{|;")
@@ -172,7 +172,7 @@ def section(crate, words_of):
     if not rows:
         return ""
     lines = [f"## `{crate}`", "", about[1] if about else "", "", "| Call | What it answers | Clauses |", "|---|---|---|", *rows, ""]
-    told = [(word, *words_of[crate][word]) for word in words_of[crate] if word in reached]
+    told = [(word, *words_of[crate][word]) for word in words_of[crate] if word in reached and words_of[crate][word][1]]
     if told:
         lines += ["| Word | In `specs/` | What it says |", "|---|---|---|"]
         lines += [f"| `{word}` | {file} | {first_sentence(comment)} |".replace("\\", "\\\\") for word, file, comment in told]
