@@ -20,7 +20,7 @@
  * Changed since 1.0
  *  - The order and the two limits are one `const struct naltvigo_options *`, null for the defaults. Each call
  *    with the three numbers stands as it was under its name with `_raw` behind it, so a caller of 1.0
- *    compiles with that rename; but `_raw` takes no null pointer.
+ *    compiles with that rename; but `_raw` takes no null pointer, and diagnostic text as uint8_t.
  *  - naltvigo_reason_name writes a zero byte behind the name, and NALTVIGO_NAME_MAX counts it.
  *  - New: naltvigo_next_valid, naltvigo_next_canonical, naltvigo_status_name, naltvigo_version.
  *

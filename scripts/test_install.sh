@@ -107,9 +107,16 @@ if have dpkg-deb; then
         dpkg-deb -x "$room"/packages/*.deb "$fresh"
     fi
     use 'the Debian package' "$fresh/usr"
+    if [ "$(id -u)" = 0 ] && have chroot && have ldd; then
+        # as a machine with nothing but the C library has it
+        for file in $(ldd "$fresh/usr/bin/cborc" | grep -o '/[^ ]*'); do
+            install -D "$file" "$fresh$file"
+        done
+        [ "$(chroot "$fresh" /usr/bin/cborc canon - - <"$room/streamed.cbor" | xxd_of)" = $wanted ] || fail 'the program, with the package as root'
+    fi
     if [ -e "$fresh/var/lib/dpkg/info/naltvigo.list" ]; then
         dpkg --root="$fresh" -r naltvigo >/dev/null 2>&1
-        [ -z "$(find "$fresh/usr" -type f 2>/dev/null)" ] || fail 'the Debian package leaves something'
+        [ -z "$(find "$fresh/usr" -name '*cborc*' -o -name '*naltvigo*' 2>/dev/null)" ] || fail 'the Debian package leaves something'
     fi
 fi
 listed=$(printf ', %s' "${missing[@]}")
