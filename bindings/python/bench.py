@@ -24,8 +24,9 @@ CLAIMS = bytes.fromhex(
 )
 
 
-def least(call, number=20000):
-    return min(timeit.repeat(call, number=number, repeat=7)) / number * 1e6
+def least(call, number=500, repeat=400):
+    """The least of many short runs, which a busy machine disturbs little, in microseconds a call."""
+    return min(timeit.repeat(call, number=number, repeat=repeat)) / number * 1e6
 
 
 def library():
