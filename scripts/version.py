@@ -11,12 +11,12 @@ from pathlib import Path
 
 ROOT = Path(__file__).resolve().parent.parent
 
-# Each place: a file, and what stands before and behind the version there.
+# Each place: a file, or a pattern of files of which one has it, and what stands before and behind the version there.
 PLACES = [
     ("crates/cborc/src/grammar.rt", r'const VERSION: &str = "\\\n', r"\n"),
     ("crates/cborc/src/grammar.rt", r'\.version\("', r'"\)'),
-    ("crates/cborc/src/tests/command_line.rt", r'const VERSION: &str = "\\\ncborc ', r"\n"),
-    ("crates/cborc/src/tests/command_line.rt", r'"-V", "cborc ', r'\\n"'),
+    ("crates/cborc/src/tests/*.rt", r'const VERSION: &str = "\\\ncborc ', r"\n"),
+    ("crates/cborc/src/tests/*.rt", r'"-V", "cborc ', r'\\n"'),
     ("share/cborc.1", r'(?m:^)\.TH CBORC 1 "[^"]*" "cborc ', r'"'),
     ("include/naltvigo.h", r'#define NALTVIGO_VERSION "', r'"'),
     ("bindings/python/pyproject.toml", r'(?m:^)version = "', r'"'),
@@ -51,13 +51,13 @@ def main():
         (ROOT / "VERSION").write_text(version + "\n")
     faults = []
     for file, pattern, wanted in places(version):
-        path = ROOT / file
-        text = path.read_text(encoding="utf-8")
-        found = re.findall(pattern, text)
+        texts = {path: path.read_text(encoding="utf-8") for path in sorted(ROOT.glob(file))}
+        found = [(path, match[1]) for path, text in texts.items() for match in re.findall(pattern, text)]
         if len(found) != 1:
             faults.append(f"{file}: {len(found)} places have the version behind {pattern}, and not one")
         elif found[0][1] != wanted and len(sys.argv) > 1:
-            path.write_text(re.sub(pattern, rf"\g<1>{wanted}\g<3>", text), encoding="utf-8")
+            path = found[0][0]
+            path.write_text(re.sub(pattern, rf"\g<1>{wanted}\g<3>", texts[path]), encoding="utf-8")
         elif found[0][1] != wanted:
             faults.append(f"{file}: {found[0][1]}, and not {wanted}")
     if not re.search(rf"(?m)^## {re.escape(version)}\b", (ROOT / "CHANGELOG.md").read_text()):
