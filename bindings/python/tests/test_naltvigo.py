@@ -10,6 +10,7 @@ import pickle
 import re
 import sys
 import threading
+import time
 import unittest
 from pathlib import Path
 
@@ -267,22 +268,26 @@ class Rest(unittest.TestCase):
         self.assertEqual(faults, [])
 
     def test_the_lock_is_not_held(self):
-        # a thread counts while one call works; with the lock held it could not
-        data = b"\x9f" + b"\xa1\x00\x00" * (1 << 20) + b"\xff"
+        # no thread gives way by itself for ten seconds, so another one counts only while a call has let go of the lock
+        data = b"\x9f" + b"\xa1\x00\x00" * (1 << 22) + b"\xff"
         counted, done = [0], threading.Event()
 
         def count():
             while not done.is_set():
                 counted[0] += 1
+                time.sleep(0)
 
+        interval = sys.getswitchinterval()
+        sys.setswitchinterval(10)
         thread = threading.Thread(target=count)
         thread.start()
-        before = counted[0]
         try:
+            before = counted[0]
             naltvigo.check(data, max_bytes=1 << 30)
-        finally:
             after = counted[0]
+        finally:
             done.set()
+            sys.setswitchinterval(interval)
             thread.join()
         self.assertGreater(after, before)
 
