@@ -31,6 +31,8 @@ PYTHONDONTWRITEBYTECODE=1 python3 "$root/bindings/python/build_wheel.py" "$room/
 cmp "$room/wheel/$wheel" "$room/again/$wheel" || fail 'two wheels differ'
 if python3 -m pip --version >/dev/null 2>&1; then
     python3 -m pip install -q --no-index --no-deps --target "$room/site" --root-user-action ignore "$room/wheel/$wheel" || fail 'pip takes no such wheel'
+    python3 -m pip wheel -q --no-index --no-deps -w "$room/by_pip" "$root/bindings/python" || fail 'pip makes no wheel'
+    cmp "$room/wheel/$wheel" "$room/by_pip/$wheel" || fail 'pip makes another wheel'
 else
     missing+=(pip)
     python3 -m zipfile -e "$room/wheel/$wheel" "$room/site"
