@@ -2,9 +2,9 @@
  * FOLDER/NAME.bytewise, beside plain C (floor.c) and, where it is there, libcbor; prints a row of a Markdown
  * table for each, in MB/s of processor time, the best of some calls. */
 #define _POSIX_C_SOURCE 199309L
+#include "../c/options.h"
 #include "floor.h"
 
-#include <naltvigo.h>
 #include <stdio.h>
 #include <stdlib.h>
 #include <string.h>
@@ -43,7 +43,7 @@ static struct naltvigo_refusal why;
 
 static int canonicalise(void) {
     size_t needed;
-    uint32_t s = naltvigo_canonicalise(in.at, in.length, 0, 256, NALTVIGO_BYTES_MAX, out.at, out.length, &needed, &why);
+    uint32_t s = naltvigo_canonicalise(in.at, in.length, OPTIONS(0, 256, NALTVIGO_BYTES_MAX), out.at, out.length, &needed, &why);
     return s == NALTVIGO_OK && needed == canonical.length && memcmp(out.at, canonical.at, needed) == 0;
 }
 static int plain_canonicalise(void) {
@@ -55,13 +55,13 @@ static int plain_canonicalise(void) {
     return same;
 }
 static int check_canonical(void) {
-    return naltvigo_check_canonical(canonical.at, canonical.length, 0, 256, NALTVIGO_BYTES_MAX, &why) == NALTVIGO_OK;
+    return naltvigo_check_canonical(canonical.at, canonical.length, OPTIONS(0, 256, NALTVIGO_BYTES_MAX), &why) == NALTVIGO_OK;
 }
 static int plain_check_canonical(void) { return floor_strict(canonical.at, canonical.length); }
-static int check_valid(void) { return naltvigo_check_valid(in.at, in.length, 256, NALTVIGO_BYTES_MAX, &why) == NALTVIGO_OK; }
+static int check_valid(void) { return naltvigo_check_valid(in.at, in.length, LIMITS(256, NALTVIGO_BYTES_MAX), &why) == NALTVIGO_OK; }
 static int compare(void) {
     uint32_t side;
-    return naltvigo_compare(in.at, in.length, canonical.at, canonical.length, 256, NALTVIGO_BYTES_MAX, &side, &why) == NALTVIGO_OK;
+    return naltvigo_compare(in.at, in.length, canonical.at, canonical.length, LIMITS(256, NALTVIGO_BYTES_MAX), &side, &why) == NALTVIGO_OK;
 }
 #ifdef HAS_LIBCBOR
 static int load(int again) {

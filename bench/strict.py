@@ -25,7 +25,7 @@ def main():
     program, floor, folder, *names = sys.argv[1:]
     zero = f"{folder}/one.bytewise"
     starts = [instructions(it, zero) for it in (program, floor)]
-    print("| instructions a byte | `read_strict` | C | ratio |\n| --- | ---: | ---: | ---: |")
+    print("| input | `read_strict` | C | ratio |\n| --- | ---: | ---: | ---: |")
     for name in names:
         path = f"{folder}/{name}.bytewise"
         size = os.path.getsize(path)

@@ -1,7 +1,7 @@
 /* Feeds a machine of naltvigo.h each row of the events' tables, byte by byte and in larger parts, copied
  * between two steps as a program that stores it does, and compares the events. Prints how many checks there
  * were; the status is 0 where all hold. */
-#include "naltvigo.h"
+#include "options.h"
 #include "checks.h"
 
 #include <stdio.h>
@@ -33,7 +33,7 @@ static void feed(const struct events_row *row, const uint8_t *in, size_t n, size
     size_t count = 0, at = 0, used;
     uint32_t status;
     memset(&machine, 0xaa, sizeof machine);
-    check(naltvigo_machine_start(row->depth, row->bytes, &machine) == NALTVIGO_OK, "start", row->given);
+    check(naltvigo_machine_start(LIMITS(row->depth, row->bytes), &machine) == NALTVIGO_OK, "start", row->given);
     do {
         struct naltvigo_event event = unset;
         size_t offered = n - at < part ? n - at : part;
@@ -71,9 +71,9 @@ static void refuses_other_numbers(void) {
     struct naltvigo_event event = unset;
     struct naltvigo_refusal why = {77, 78, 79};
     size_t used;
-    check(naltvigo_machine_start(257, 8, &machine) == NALTVIGO_BAD_LIMITS, "depth", "257");
-    check(naltvigo_machine_start(2, NALTVIGO_BYTES_MAX + 1, &machine) == NALTVIGO_BAD_LIMITS, "bytes", "too many");
-    check(naltvigo_machine_start(2, 8, &machine) == NALTVIGO_OK, "start", "2 8");
+    check(naltvigo_machine_start(LIMITS(257, 8), &machine) == NALTVIGO_BAD_LIMITS, "depth", "257");
+    check(naltvigo_machine_start(LIMITS(2, NALTVIGO_BYTES_MAX + 1), &machine) == NALTVIGO_BAD_LIMITS, "bytes", "too many");
+    check(naltvigo_machine_start(LIMITS(2, 8), &machine) == NALTVIGO_OK, "start", "2 8");
     for (int i = 0; i < 4; i++) {
         broken = machine;
         if (i == 0) broken.open = 3;

@@ -1,6 +1,6 @@
 /* Refuses the Nth malloc or realloc of each call for each N, and counts what is given back. Linked with
  * --wrap=malloc,realloc,free. */
-#include "naltvigo.h"
+#include "options.h"
 
 #include <stdio.h>
 #include <string.h>
@@ -39,12 +39,12 @@ static size_t needed;
 static uint32_t side;
 static struct naltvigo_refusal why;
 
-static uint32_t canonicalise(void) { return naltvigo_canonicalise(in, sizeof in, 0, 256, 1000, out, sizeof out, &needed, &why); }
-static uint32_t length_first(void) { return naltvigo_canonicalise(in, sizeof in, 1, 256, 1000, out, sizeof out, &needed, &why); }
-static uint32_t check_valid(void) { return naltvigo_check_valid(in, sizeof in, 256, 1000, &why); }
-static uint32_t compare(void) { return naltvigo_compare(in, sizeof in, in, sizeof in, 256, 1000, &side, &why); }
-static uint32_t diagnostic(void) { return naltvigo_diagnostic(in, sizeof in, 256, 1000, (char *)out, sizeof out, &needed, &why); }
-static uint32_t check_canonical(void) { return naltvigo_check_canonical(in, sizeof in, 0, 256, 1000, &why); }
+static uint32_t canonicalise(void) { return naltvigo_canonicalise(in, sizeof in, OPTIONS(0, 256, 1000), out, sizeof out, &needed, &why); }
+static uint32_t length_first(void) { return naltvigo_canonicalise(in, sizeof in, OPTIONS(1, 256, 1000), out, sizeof out, &needed, &why); }
+static uint32_t check_valid(void) { return naltvigo_check_valid(in, sizeof in, LIMITS(256, 1000), &why); }
+static uint32_t compare(void) { return naltvigo_compare(in, sizeof in, in, sizeof in, LIMITS(256, 1000), &side, &why); }
+static uint32_t diagnostic(void) { return naltvigo_diagnostic(in, sizeof in, LIMITS(256, 1000), (char *)out, sizeof out, &needed, &why); }
+static uint32_t check_canonical(void) { return naltvigo_check_canonical(in, sizeof in, OPTIONS(0, 256, 1000), &why); }
 
 static int refuse_each(const char *name, uint32_t (*call)(void), uint32_t status) {
     uint8_t before[sizeof out], answer[sizeof out];

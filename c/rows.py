@@ -1,6 +1,6 @@
 """Prints a C header of the conformance table of cbor_reader's tests: rows.py TABLE > rows.h
 
-The table's own text says what its columns are.
+The table's own text says what its columns are. `rows_of` and `pairs_of` are the table for Python's tests.
 """
 
 import re
@@ -16,7 +16,7 @@ def hex_of(column):
 def refusal_of(column):
     """The reason, the place and the count of `12 Trailing at 1, read 1`."""
     found = re.fullmatch(r"(\d+) \w+ at (\d+), read (\d+)", column)
-    return found and "{" + ", ".join(found.groups()) + "}"
+    return found and tuple(int(number) for number in found.groups())
 
 
 def by_order(column):
@@ -24,43 +24,72 @@ def by_order(column):
 
 
 def row(line):
+    """The input in hex, the limits, and for each order: the canonical bytes, or the refusal, and the strict refusal."""
     given, limits, plain, strict, _ = [column.strip() for column in line.split("|", 4)]
     given = hex_of(given)
     depth = re.search(r"depth (\d+)", limits)
     most = re.search(r"bytes (\d+)", limits)
     answers = []
     for plain_one, strict_one in zip(by_order(plain), by_order(strict)):
-        canonical = refusal_of(plain_one)
-        canonical = ("0", canonical) if canonical else ('"%s"' % (given if plain_one == "same" else hex_of(plain_one)), "{0, 0, 0}")
+        refusal = refusal_of(plain_one)
+        canonical = None if refusal else given if plain_one == "same" else hex_of(plain_one)
         taken = re.fullmatch(r"taken (\d+)", strict_one)
         whole = taken and int(taken[1]) == len(given) // 2
         if taken and not whole:
             strict_one = f"12 Trailing at {taken[1]}, read {taken[1]}"
         is_own = whole or not strict_one and plain_one == "same"
-        own = "{0, 0, 0}" if is_own else refusal_of(strict_one or plain_one)
-        answers.append("{%s, %s, %s}" % (*canonical, own))
-    limits = depth[1] if depth else "256", most[1] if most else "1048576"
-    return '    {"%s", %s, %s, {%s}},' % (given, *limits, ", ".join(answers))
+        own = None if is_own else refusal_of(strict_one or plain_one)
+        answers.append((canonical, refusal, own))
+    return given, int(depth[1]) if depth else 256, int(most[1]) if most else 1048576, answers
 
 
 def pair(line):
+    """The two inputs in hex, and 'same', 'different', or the side that is refused and its refusal."""
     left, right, answer = [column.strip() for column in line.split("|")[:3]]
     found = re.fullmatch(r"(left|right) (.*)", answer)
-    status = {"same": "NALTVIGO_OK", "different": "NALTVIGO_DIFFERENT"}.get(answer, "NALTVIGO_REFUSED")
-    side = "NALTVIGO_RIGHT" if found and found[1] == "right" else "NALTVIGO_LEFT"
-    return '    {"%s", "%s", %s, %s, %s},' % (
-        hex_of(left), hex_of(right), status, side, refusal_of(found[2]) if found else "{0, 0, 0}")
+    return hex_of(left), hex_of(right), (found[1], refusal_of(found[2])) if found else (answer, None)
 
 
-text = open(sys.argv[1], encoding="utf-8").read()
-lines = re.findall(r'(?m)^    (?:r#"(.*)"#|"(.*)"),$', text)
-lines = [(a or b) for a, b in lines]
-rows = [line for line in lines if line.count("|") >= 4]
-pairs = [line for line in lines if line.count("|") == 3]
-if len(rows) < 200 or len(pairs) < 5:
-    sys.exit(f"{sys.argv[1]}: {len(rows)} rows and {len(pairs)} pairs: where is the table?")
-print("static const struct row rows[] = {")
-print("\n".join(map(row, rows)))
-print("};\nstatic const struct pair pairs[] = {")
-print("\n".join(map(pair, pairs)))
-print("};")
+def lines_of(path):
+    with open(path, encoding="utf-8") as file:
+        return [a or b for a, b in re.findall(r'(?m)^    (?:r#"(.*)"#|"(.*)"),$', file.read())]
+
+
+def rows_of(path):
+    found = [row(line) for line in lines_of(path) if line.count("|") >= 4]
+    if len(found) < 200:
+        sys.exit(f"{path}: {len(found)} rows: where is the table?")
+    return found
+
+
+def pairs_of(path):
+    found = [pair(line) for line in lines_of(path) if line.count("|") == 3]
+    if len(found) < 5:
+        sys.exit(f"{path}: {len(found)} pairs: where is the table?")
+    return found
+
+
+def refusal_in_c(refusal):
+    return "{%d, %d, %d}" % (refusal or (0, 0, 0))
+
+
+def row_in_c(given, depth, most, answers):
+    texts = []
+    for canonical, refusal, own in answers:
+        shown = "0" if canonical is None else f'"{canonical}"'
+        texts.append("{%s, %s, %s}" % (shown, refusal_in_c(refusal), refusal_in_c(own)))
+    return '    {"%s", %d, %d, {%s}},' % (given, depth, most, ", ".join(texts))
+
+
+def pair_in_c(left, right, answer):
+    status = {"same": "NALTVIGO_OK", "different": "NALTVIGO_DIFFERENT"}.get(answer[0], "NALTVIGO_REFUSED")
+    side = "NALTVIGO_RIGHT" if answer[0] == "right" else "NALTVIGO_LEFT"
+    return '    {"%s", "%s", %s, %s, %s},' % (left, right, status, side, refusal_in_c(answer[1]))
+
+
+if __name__ == "__main__":
+    print("static const struct row rows[] = {")
+    print("\n".join(row_in_c(*it) for it in rows_of(sys.argv[1])))
+    print("};\nstatic const struct pair pairs[] = {")
+    print("\n".join(pair_in_c(*it) for it in pairs_of(sys.argv[1])))
+    print("};")

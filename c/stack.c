@@ -1,6 +1,6 @@
 /* Measures the stack that each call needs, on a thread whose stack was painted before, over items that nest
  * to the depth that the call is passed; prints the most, and fails where it is more than the header says. */
-#include "naltvigo.h"
+#include "options.h"
 
 #include <pthread.h>
 #include <stdio.h>
@@ -21,7 +21,7 @@ static void events(void) {
     struct naltvigo_event event;
     struct naltvigo_refusal why;
     size_t used, at = 0;
-    naltvigo_machine_start(depth, 1 << 20, &machine);
+    naltvigo_machine_start(LIMITS(depth, 1 << 20), &machine);
     while (naltvigo_machine_step(&machine, in + at, length - at, &used, &event, &why) == NALTVIGO_EVENT) at += used;
 }
 
@@ -30,11 +30,11 @@ static void *work(void *unused) {
     size_t needed;
     uint32_t side;
     switch (call) {
-    case 0: naltvigo_canonicalise(in, length, 0, depth, 1 << 20, out, sizeof out, &needed, &why); break;
-    case 1: naltvigo_check_canonical(in, length, 0, depth, 1 << 20, &why); break;
-    case 2: naltvigo_check_valid(in, length, depth, 1 << 20, &why); break;
-    case 3: naltvigo_compare(in, length, in, length, depth, 1 << 20, &side, &why); break;
-    case 4: naltvigo_diagnostic(in, length, depth, 1 << 20, (char *)out, sizeof out, &needed, &why); break;
+    case 0: naltvigo_canonicalise(in, length, OPTIONS(0, depth, 1 << 20), out, sizeof out, &needed, &why); break;
+    case 1: naltvigo_check_canonical(in, length, OPTIONS(0, depth, 1 << 20), &why); break;
+    case 2: naltvigo_check_valid(in, length, LIMITS(depth, 1 << 20), &why); break;
+    case 3: naltvigo_compare(in, length, in, length, LIMITS(depth, 1 << 20), &side, &why); break;
+    case 4: naltvigo_diagnostic(in, length, LIMITS(depth, 1 << 20), (char *)out, sizeof out, &needed, &why); break;
     default: events();
     }
     return unused;

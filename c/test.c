@@ -1,7 +1,7 @@
 /* Calls each function of naltvigo.h as a C program does: every row of the conformance table, every size of
  * buffer near the answer's, numbers out of range, null pointers. Prints how many checks there were; the
  * status is 0 where all hold. */
-#include "naltvigo.h"
+#include "options.h"
 #include "checks.h"
 
 #include <stdio.h>
@@ -59,13 +59,13 @@ static void becomes(const struct row *row, uint32_t order, const uint8_t *in, si
     size_t m, needed = 999;
     uint8_t *wanted = unhex(row->by_order[order].canonical, &m);
     struct naltvigo_refusal why = unset;
-    uint32_t s = naltvigo_canonicalise(in, n, order, row->depth, row->bytes, NULL, 0, &needed, &why);
+    uint32_t s = naltvigo_canonicalise(in, n, OPTIONS(order, row->depth, row->bytes), NULL, 0, &needed, &why);
     check(s == NALTVIGO_TOO_SMALL && needed == m && are_equal(why, unset), "asked for the length", row->given);
     for (size_t room = m - 1; room <= m + 3; room += room == m + 1 ? 2 : 1) {
         uint8_t *out = room_for(room);
         memset(out, 0xaa, room);
         needed = 999;
-        s = naltvigo_canonicalise(in, n, order, row->depth, row->bytes, out, room, &needed, &why);
+        s = naltvigo_canonicalise(in, n, OPTIONS(order, row->depth, row->bytes), out, room, &needed, &why);
         check(needed == m && are_equal(why, unset), "needed", row->given);
         if (room < m) {
             check(s == NALTVIGO_TOO_SMALL && all_are(out, room, 0xaa), "too small", row->given);
@@ -75,10 +75,10 @@ static void becomes(const struct row *row, uint32_t order, const uint8_t *in, si
         }
         free(out);
     }
-    s = naltvigo_check_canonical(wanted, m, order, row->depth, row->bytes, &why);
+    s = naltvigo_check_canonical(wanted, m, OPTIONS(order, row->depth, row->bytes), &why);
     check(s == NALTVIGO_OK && are_equal(why, unset), "the answer is canonical", row->given);
     uint32_t side = 9;
-    s = naltvigo_compare(in, n, wanted, m, row->depth, row->bytes, &side, &why);
+    s = naltvigo_compare(in, n, wanted, m, LIMITS(row->depth, row->bytes), &side, &why);
     check(s == NALTVIGO_OK && side == 9 && are_equal(why, unset), "the answer means the same", row->given);
     free(wanted);
 }
@@ -88,7 +88,7 @@ static void is_refused(const struct row *row, uint32_t order, const uint8_t *in,
     size_t needed = 999;
     uint8_t out[600];
     memset(out, 0xaa, sizeof out);
-    uint32_t s = naltvigo_canonicalise(in, n, order, row->depth, row->bytes, out, sizeof out, &needed, &why);
+    uint32_t s = naltvigo_canonicalise(in, n, OPTIONS(order, row->depth, row->bytes), out, sizeof out, &needed, &why);
     check(s == NALTVIGO_REFUSED && are_equal(why, wanted) && needed == 0, "refused", row->given);
     check(all_are(out, sizeof out, 0xaa), "kept", row->given);
 }
@@ -96,16 +96,16 @@ static void is_refused(const struct row *row, uint32_t order, const uint8_t *in,
 static void is_valid_or_not(const struct row *row, const uint8_t *in, size_t n) {
     struct naltvigo_refusal why = unset, wanted = row->by_order[0].refusal;
     size_t needed;
-    uint32_t s = naltvigo_check_valid(in, n, row->depth, row->bytes, &why);
+    uint32_t s = naltvigo_check_valid(in, n, LIMITS(row->depth, row->bytes), &why);
     /* the limit on canonical bytes is canonicalise's alone */
     if (row->by_order[0].canonical || wanted.reason == NALTVIGO_CANONICAL_TOO_LONG) {
         check(s == NALTVIGO_OK && are_equal(why, unset), "valid", row->given);
-        s = naltvigo_diagnostic(in, n, row->depth, row->bytes, NULL, 0, &needed, &why);
+        s = naltvigo_diagnostic(in, n, LIMITS(row->depth, row->bytes), NULL, 0, &needed, &why);
         check(s == NALTVIGO_TOO_SMALL && needed > 0 && are_equal(why, unset), "text", row->given);
     } else {
         check(s == NALTVIGO_REFUSED && are_equal(why, wanted), "invalid", row->given);
         why = unset;
-        s = naltvigo_diagnostic(in, n, row->depth, row->bytes, NULL, 0, &needed, &why);
+        s = naltvigo_diagnostic(in, n, LIMITS(row->depth, row->bytes), NULL, 0, &needed, &why);
         check(s == NALTVIGO_REFUSED && are_equal(why, wanted) && needed == 0, "no text", row->given);
     }
 }
@@ -119,7 +119,7 @@ static void answers(const struct row *row) {
         else
             is_refused(row, order, in, n);
         struct naltvigo_refusal why = {0, 0, 0};
-        uint32_t s = naltvigo_check_canonical(in, n, order, row->depth, row->bytes, &why);
+        uint32_t s = naltvigo_check_canonical(in, n, OPTIONS(order, row->depth, row->bytes), &why);
         uint32_t wanted = row->by_order[order].strict.reason ? NALTVIGO_REFUSED : NALTVIGO_OK;
         check(s == wanted && are_equal(why, row->by_order[order].strict), "strict", row->given);
     }
@@ -132,7 +132,7 @@ static void compares(const struct pair *pair) {
     uint8_t *left = unhex(pair->left, &n), *right = unhex(pair->right, &m);
     struct naltvigo_refusal why = {0, 0, 0};
     uint32_t side = 0;
-    uint32_t s = naltvigo_compare(left, n, right, m, 256, 1 << 20, &side, &why);
+    uint32_t s = naltvigo_compare(left, n, right, m, LIMITS(256, 1 << 20), &side, &why);
     check(s == pair->status && side == pair->side && are_equal(why, pair->refusal), "compare", pair->left);
     free(left);
     free(right);
@@ -146,7 +146,7 @@ static void reads(const char *given, const char *wanted) {
     for (size_t room = m - 1; room <= m + 1; room++) {
         char *out = room_for(room);
         memset(out, 7, room);
-        uint32_t s = naltvigo_diagnostic(in, n, 256, 1 << 20, out, room, &needed, &why);
+        uint32_t s = naltvigo_diagnostic(in, n, LIMITS(256, 1 << 20), out, room, &needed, &why);
         check(needed == m && are_equal(why, unset), "length of the text", given);
         if (room < m)
             check(s == NALTVIGO_TOO_SMALL && all_are((uint8_t *)out, room, 7), "text too small", given);
@@ -178,13 +178,13 @@ static void numbers_out_of_range(void) {
         uint32_t order = numbers[i].order, depth = numbers[i].depth, wanted = numbers[i].status, side = 9;
         uint64_t bytes = numbers[i].bytes;
         needed = 999;
-        uint32_t s = naltvigo_canonicalise(&one, 1, order, depth, bytes, out, sizeof out, &needed, &why);
+        uint32_t s = naltvigo_canonicalise(&one, 1, OPTIONS(order, depth, bytes), out, sizeof out, &needed, &why);
         check(s == wanted && needed == (s == NALTVIGO_OK), "numbers", "canonicalise");
-        check(naltvigo_check_canonical(&one, 1, order, depth, bytes, &why) == wanted, "numbers", "canonical");
+        check(naltvigo_check_canonical(&one, 1, OPTIONS(order, depth, bytes), &why) == wanted, "numbers", "canonical");
         if (wanted == NALTVIGO_BAD_ORDER) continue;
-        check(naltvigo_check_valid(&one, 1, depth, bytes, &why) == wanted, "numbers", "valid");
-        check(naltvigo_compare(&one, 1, &one, 1, depth, bytes, &side, &why) == wanted, "numbers", "compare");
-        s = naltvigo_diagnostic(&one, 1, depth, bytes, (char *)out, sizeof out, &needed, &why);
+        check(naltvigo_check_valid(&one, 1, LIMITS(depth, bytes), &why) == wanted, "numbers", "valid");
+        check(naltvigo_compare(&one, 1, &one, 1, LIMITS(depth, bytes), &side, &why) == wanted, "numbers", "compare");
+        s = naltvigo_diagnostic(&one, 1, LIMITS(depth, bytes), (char *)out, sizeof out, &needed, &why);
         check(s == wanted && side == 9, "numbers", "diagnostic");
     }
     check(are_equal(why, unset), "numbers", "refusal untouched");
@@ -195,19 +195,19 @@ static void nothing_at_all(void) {
     uint32_t side = 9;
     struct naltvigo_refusal why = unset;
     const struct naltvigo_refusal truncated = {NALTVIGO_TRUNCATED, 0, 0};
-    uint32_t s = naltvigo_canonicalise(NULL, 0, 0, 256, 100, NULL, 0, &needed, &why);
+    uint32_t s = naltvigo_canonicalise(NULL, 0, OPTIONS(0, 256, 100), NULL, 0, &needed, &why);
     check(s == NALTVIGO_REFUSED && are_equal(why, truncated) && needed == 0, "NULL", "canonicalise");
     why = unset;
-    s = naltvigo_check_canonical(NULL, 0, 0, 256, 100, &why);
+    s = naltvigo_check_canonical(NULL, 0, OPTIONS(0, 256, 100), &why);
     check(s == NALTVIGO_REFUSED && are_equal(why, truncated), "NULL", "canonical");
     why = unset;
-    s = naltvigo_check_valid(NULL, 0, 256, 100, &why);
+    s = naltvigo_check_valid(NULL, 0, LIMITS(256, 100), &why);
     check(s == NALTVIGO_REFUSED && are_equal(why, truncated), "NULL", "valid");
     why = unset;
-    s = naltvigo_compare(NULL, 0, NULL, 0, 256, 100, &side, &why);
+    s = naltvigo_compare(NULL, 0, NULL, 0, LIMITS(256, 100), &side, &why);
     check(s == NALTVIGO_REFUSED && are_equal(why, truncated) && side == NALTVIGO_LEFT, "NULL", "compare");
     why = unset;
-    s = naltvigo_diagnostic(NULL, 0, 256, 100, NULL, 0, &needed, &why);
+    s = naltvigo_diagnostic(NULL, 0, LIMITS(256, 100), NULL, 0, &needed, &why);
     check(s == NALTVIGO_REFUSED && are_equal(why, truncated), "NULL", "diagnostic");
 }
 
@@ -219,14 +219,78 @@ static void names(void) {
     char name[NALTVIGO_NAME_MAX];
     for (uint32_t r = 1; r <= 19; r++) {
         size_t n = strlen(wanted[r - 1]);
-        check(naltvigo_reason_name(r, name, sizeof name) == n && memcmp(name, wanted[r - 1], n) == 0, "name", wanted[r - 1]);
         memset(name, 7, sizeof name);
-        check(naltvigo_reason_name(r, name, n - 1) == n && all_are((uint8_t *)name, n, 7), "short name", wanted[r - 1]);
+        check(naltvigo_reason_name(r, name, sizeof name) == n && strcmp(name, wanted[r - 1]) == 0, "name", wanted[r - 1]);
+        check(all_are((uint8_t *)name + n + 1, sizeof name - n - 1, 7), "kept behind the name", wanted[r - 1]);
+        memset(name, 7, sizeof name);
+        check(naltvigo_reason_name(r, name, n) == n && all_are((uint8_t *)name, n, 7), "short name", wanted[r - 1]);
         check(naltvigo_reason_name(r, NULL, 0) == n, "name's length", wanted[r - 1]);
     }
-    check(naltvigo_reason_name(0, name, sizeof name) == 0, "name", "0");
-    check(naltvigo_reason_name(20, name, sizeof name) == 0, "name", "20");
-    check(naltvigo_reason_name(UINT32_MAX, name, sizeof name) == 0, "name", "2^32 - 1");
+    static const uint32_t none[] = {0, 20, UINT32_MAX};
+    for (size_t i = 0; i < 3; i++) {
+        memset(name, 7, sizeof name);
+        check(naltvigo_reason_name(none[i], name, sizeof name) == 0 && name[0] == 0 && name[1] == 7, "no name", "");
+    }
+    check(strcmp(naltvigo_status_name(NALTVIGO_OK), "OK") == 0, "status", "OK");
+    check(strcmp(naltvigo_status_name(NALTVIGO_BAD_MACHINE), "BAD_MACHINE") == 0, "status", "BAD_MACHINE");
+    check(strcmp(naltvigo_status_name(10), "") == 0, "status", "10");
+    check(naltvigo_version() == NALTVIGO_VERSION_NUMBER, "version", NALTVIGO_VERSION);
+}
+
+/* Items behind one another, and why the next one is none. */
+static void sequences(void) {
+    /* [_ 1], "a", {2: 0}, and a break */
+    static const uint8_t in[] = {0x9f, 1, 0xff, 0x61, 0x61, 0xa1, 2, 0, 0xff};
+    static const uint64_t sizes[] = {3, 2, 3};
+    const struct naltvigo_refusal stray = {NALTVIGO_STRAY_BREAK, 0, 1}, indefinite = {NALTVIGO_INDEFINITE, 0, 1};
+    const struct naltvigo_refusal truncated = {NALTVIGO_TRUNCATED, 0, 0}, too_long = {NALTVIGO_TOO_LONG, 2, 2};
+    size_t at = 0;
+    uint64_t taken = 9;
+    struct naltvigo_refusal why = unset;
+    for (size_t i = 0; i < 3; i++) {
+        check(naltvigo_next_valid(in + at, sizeof in - at, NULL, &taken, &why) == NALTVIGO_OK, "next valid", "");
+        check(taken == sizes[i] && are_equal(why, unset), "taken", "");
+        uint32_t s = naltvigo_next_canonical(in + at, sizeof in - at, NULL, &taken, &why);
+        check(s == (i ? NALTVIGO_OK : NALTVIGO_REFUSED) && taken == (i ? sizes[i] : 0), "next canonical", "");
+        check(are_equal(why, i ? unset : indefinite), "next canonical's refusal", "");
+        why = unset;
+        at += sizes[i];
+    }
+    check(naltvigo_next_valid(in + at, 1, NULL, &taken, &why) == NALTVIGO_REFUSED, "no next", "");
+    check(taken == 0 && are_equal(why, stray), "no next's refusal", "");
+    check(naltvigo_next_valid(NULL, 0, NULL, &taken, &why) == NALTVIGO_REFUSED && are_equal(why, truncated), "NULL", "next");
+    check(naltvigo_next_canonical(NULL, 0, NULL, &taken, &why) == NALTVIGO_REFUSED && are_equal(why, truncated), "NULL", "next");
+    check(naltvigo_next_valid(in, 9, LIMITS(0, 9), &taken, &why) == NALTVIGO_REFUSED && why.reason == NALTVIGO_TOO_DEEP, "depth", "");
+    check(naltvigo_next_valid(in, 9, LIMITS(1, 2), &taken, &why) == NALTVIGO_REFUSED && are_equal(why, too_long), "bytes", "");
+    why = unset;
+    taken = 9;
+    check(naltvigo_next_valid(in, 9, LIMITS(257, 2), &taken, &why) == NALTVIGO_BAD_LIMITS && taken == 0, "limits", "next");
+    taken = 9;
+    check(naltvigo_next_canonical(in, 9, OPTIONS(2, 1, 2), &taken, &why) == NALTVIGO_BAD_ORDER && taken == 0, "order", "next");
+    check(naltvigo_next_canonical(in, 9, OPTIONS(1, 1, UINT64_MAX), &taken, &why) == NALTVIGO_BAD_LIMITS, "limits", "next");
+    check(are_equal(why, unset), "untold", "next");
+}
+
+/* What a null pointer for the options stands for: bytewise, 64 levels, 2^20 bytes. */
+static void defaults(void) {
+    const uint8_t keys[] = {0xa2, 0x20, 0, 0x18, 0x64, 0}; /* {-1: 0, 100: 0} */
+    struct naltvigo_refusal why = unset;
+    check(naltvigo_check_canonical(keys, sizeof keys, NULL, &why) == NALTVIGO_REFUSED && why.reason == NALTVIGO_KEY_ORDER, "defaults", "order");
+    check(naltvigo_check_canonical(keys, sizeof keys, OPTIONS(1, 64, 100), &why) == NALTVIGO_OK, "defaults", "length first");
+    uint8_t tower[66];
+    memset(tower, 0x81, sizeof tower);
+    tower[64] = 0x80;
+    check(naltvigo_check_valid(tower, 65, NULL, &why) == NALTVIGO_REFUSED && why.place == 64, "defaults", "65 levels");
+    tower[63] = 0x80;
+    check(naltvigo_check_valid(tower, 64, NULL, &why) == NALTVIGO_OK, "defaults", "64 levels");
+    size_t most = (size_t)1 << 20;
+    uint8_t *text = room_for(most + 1);
+    memset(text, 'a', most + 1);
+    memcpy(text, "\x7a\x00\x0f\xff\xfb", 5);
+    check(naltvigo_check_valid(text, most, NULL, &why) == NALTVIGO_OK, "defaults", "2^20 bytes");
+    text[4]++;
+    check(naltvigo_check_valid(text, most + 1, NULL, &why) == NALTVIGO_REFUSED && why.reason == NALTVIGO_TOO_LONG, "defaults", "2^20 + 1 bytes");
+    free(text);
 }
 
 int main(void) {
@@ -243,6 +307,8 @@ int main(void) {
     reads("a26161016162820203", "{\"a\": 1, \"b\": [2, 3]}");
     numbers_out_of_range();
     nothing_at_all();
+    sequences();
+    defaults();
     names();
     printf("%d checks, %d fail\n", checks, faults);
     return faults != 0;

@@ -1,5 +1,5 @@
 /* Eight threads canonicalise one shared input, each into a buffer of its own. */
-#include "naltvigo.h"
+#include "options.h"
 
 #include <pthread.h>
 #include <stdio.h>
@@ -13,7 +13,7 @@ static void *work(void *bad) {
         uint8_t out[32];
         size_t needed;
         struct naltvigo_refusal why;
-        uint32_t s = naltvigo_canonicalise(in, sizeof in, 0, 256, 100, out, sizeof out, &needed, &why);
+        uint32_t s = naltvigo_canonicalise(in, sizeof in, OPTIONS(0, 256, 100), out, sizeof out, &needed, &why);
         if (s != NALTVIGO_OK || needed != sizeof wanted || memcmp(out, wanted, needed) != 0) *(int *)bad = 1;
     }
     return NULL;

@@ -90,6 +90,21 @@ class Library:
     def check_valid(self, given, depth, most):
         return self.judged(self.calls.naltvigo_check_valid_raw, given, *self.limits(depth, most))
 
+    def next(self, call, given, *words):
+        why, taken = Why(), ctypes.c_uint64(9)
+        status = call(given, ctypes.c_size_t(len(given)), *words, ctypes.byref(taken), ctypes.byref(why))
+        if status == REFUSED:
+            expect("bytes taken of what was refused", 0, taken.value)
+            return why.refusal()
+        expect("status", OK, status)
+        return taken.value
+
+    def next_valid(self, given, depth, most):
+        return self.next(self.calls.naltvigo_next_valid_raw, given, *self.limits(depth, most))
+
+    def next_canonical(self, given, order, depth, most):
+        return self.next(self.calls.naltvigo_next_canonical_raw, given, ctypes.c_uint32(order), *self.limits(depth, most))
+
     def compare(self, left, right, depth, most):
         why, side = Why(), ctypes.c_uint32(9)
         words = left, ctypes.c_size_t(len(left)), right, ctypes.c_size_t(len(right)), *self.limits(depth, most)
@@ -168,10 +183,13 @@ def try_library(library, answers, depth, most, room):
         strict = answers.whole(answers.strict[order])
         expect(f"check_canonical, order {order}", strict, library.check_canonical(given, order, depth, most))
         expect(f"canonical as it stands, order {order}", strict is None, found == given)
+        first = answers.strict[order] or answers.size
+        expect(f"next_canonical, order {order}", first, library.next_canonical(given, order, depth, most))
         if isinstance(found, bytes):
             expect(f"canonicalise once more, order {order}", found, library.canonicalise(found, order, depth, most, len(found)))
     plain = answers.whole(answers.plain)
     expect("check_valid", plain, library.check_valid(given, depth, most))
+    expect("next_valid", answers.plain or answers.size, library.next_valid(given, depth, most))
     expect("diagnostic", plain or diagnostic(answers.value), library.diagnostic(given, depth, most, room))
 
 

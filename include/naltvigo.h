@@ -10,12 +10,19 @@
  *     uint8_t out[512];
  *     size_t needed;
  *     struct naltvigo_refusal why;
- *     switch (naltvigo_canonicalise(in, n, NALTVIGO_BYTEWISE, 64, 65536, out, sizeof out, &needed, &why)) {
+ *     switch (naltvigo_canonicalise(in, n, NULL, out, sizeof out, &needed, &why)) {
  *     case NALTVIGO_OK:        // the canonical bytes are out[0 .. needed)
  *     case NALTVIGO_TOO_SMALL: // call again with room for `needed` bytes
  *     case NALTVIGO_REFUSED:   // why.reason at the offset why.place
- *     default:                 // no memory, or numbers out of range: nothing is known of the input
+ *     default:                 // no memory, or options out of range: nothing is known of the input
  *     }
+ *
+ * Changed since 1.0
+ *  - The order and the two limits are one `const struct naltvigo_options *`, null for the defaults. Each call
+ *    with the three numbers stands as it was under its name with `_raw` behind it, so a caller of 1.0
+ *    compiles with that rename; but `_raw` takes no null pointer, and diagnostic text as uint8_t.
+ *  - naltvigo_reason_name writes a zero byte behind the name, and NALTVIGO_NAME_MAX counts it.
+ *  - New: naltvigo_next_valid, naltvigo_next_canonical, naltvigo_status_name, naltvigo_version.
  *
  * What a caller owes
  *  - `in` has `in_length` readable bytes, `out` has `out_length` writable ones, each at most PTRDIFF_MAX.
@@ -24,8 +31,8 @@
  *  - `out`, `*needed`, `*side` and `*refusal` overlap neither an input nor one another, and nobody else
  *    reads or writes them, or writes an input, during the call. They need no first value.
  *  - No call comes from a signal handler, nor from the child of a fork of a process with threads, since
- *    malloc may not be called there. (naltvigo_check_canonical, naltvigo_reason_name
- *    and the calls of a machine call no malloc.)
+ *    malloc may not be called there. (naltvigo_check_canonical, naltvigo_next_canonical, the names and the
+ *    calls of a machine call no malloc.)
  *
  * Ownership
  *  - The library keeps no pointer after a call, and hands none out: there is nothing to free.
@@ -33,8 +40,8 @@
  * Memory
  *  - From malloc, realloc and free of the program, all of it given back before the call returns; at most in
  *    proportion to the bytes that came, since a length in a head takes none. docs/SPEED.md has figures.
- *  - naltvigo_check_canonical, naltvigo_reason_name and the calls of a machine take none at all, by proof:
- *    they are handed no allocator.
+ *  - naltvigo_check_canonical, naltvigo_next_canonical, naltvigo_reason_name and the calls of a machine take
+ *    none at all, by proof: they are handed no allocator.
  *  - A call to which malloc answers NULL answers NALTVIGO_NO_MEMORY, with `out` as it was, and may be tried
  *    again. malloc and realloc align to 16 bytes, as C libraries for 64 bits do.
  *
@@ -46,9 +53,10 @@
  *  - No state is kept between calls, and none is shared: any number of threads may call at once, each with
  *    outputs of its own; inputs may be shared.
  *
- * Limits
- *  - Each call takes two: `depth`, how deep arrays, maps and tags may nest, 0 to NALTVIGO_DEPTH_MAX, and
- *    `bytes`, how many bytes an item may have, 0 to NALTVIGO_BYTES_MAX.
+ * Options
+ *  - Null, or a struct that begins as naltvigo_defaults(): the order of keys, which the calls that do not ask
+ *    for it leave unread, and two limits: `depth`, how deep arrays, maps and tags may nest, 0 to
+ *    NALTVIGO_DEPTH_MAX, and `bytes`, how many bytes an item may have, 0 to NALTVIGO_BYTES_MAX.
  *
  * All sizes, places and counts are bytes.
  */
@@ -63,9 +71,14 @@ extern "C" {
 #endif
 
 /* The version of this header. The shared object's name changes with the first number. */
-#define NALTVIGO_VERSION_MAJOR 1
+#define NALTVIGO_VERSION_MAJOR 2
 #define NALTVIGO_VERSION_MINOR 0
-#define NALTVIGO_VERSION "1.0"
+#define NALTVIGO_VERSION_PATCH 0
+#define NALTVIGO_VERSION "2.0.0"
+
+/* The same as one number, which a newer version has greater: a byte each for the three. */
+#define NALTVIGO_VERSION_NUMBER \
+    ((uint32_t)(NALTVIGO_VERSION_MAJOR << 16 | NALTVIGO_VERSION_MINOR << 8 | NALTVIGO_VERSION_PATCH))
 
 /* What a call answers. New numbers may come: take any other one for a failure. */
 enum {
@@ -90,6 +103,19 @@ enum {
 /* The greatest limits. */
 #define NALTVIGO_DEPTH_MAX UINT32_C(256)
 #define NALTVIGO_BYTES_MAX (UINT64_C(1) << 62)
+
+/* The order of keys, and the limits on an item. */
+struct naltvigo_options {
+    uint64_t bytes; /* how many bytes the item, and its canonical bytes, may have; 2^20 by default */
+    uint32_t depth; /* how deep its arrays, maps and tags may nest; 64 by default */
+    uint32_t order; /* NALTVIGO_BYTEWISE by default */
+};
+
+/* The options that a null pointer stands for. Change a copy: new members may come, with defaults. */
+static inline struct naltvigo_options naltvigo_defaults(void) {
+    struct naltvigo_options options = {UINT64_C(1) << 20, 64, NALTVIGO_BYTEWISE};
+    return options;
+}
 
 /* Which input of two `*refusal` is of. */
 enum { NALTVIGO_LEFT = 0, NALTVIGO_RIGHT = 1 };
@@ -185,6 +211,11 @@ uint32_t naltvigo_compare_raw(const uint8_t *left, size_t left_length, const uin
 uint32_t naltvigo_diagnostic_raw(const uint8_t *in, size_t in_length, uint32_t depth, uint64_t bytes,
                                  uint8_t *out, size_t out_length, size_t *needed,
                                  struct naltvigo_refusal *refusal);
+uint32_t naltvigo_next_valid_raw(const uint8_t *in, size_t in_length, uint32_t depth, uint64_t bytes,
+                                 uint64_t *taken, struct naltvigo_refusal *refusal);
+uint32_t naltvigo_next_canonical_raw(const uint8_t *in, size_t in_length, uint32_t order, uint32_t depth,
+                                     uint64_t bytes, uint64_t *taken, struct naltvigo_refusal *refusal);
+uint32_t naltvigo_version_raw(void);
 size_t naltvigo_reason_name_raw(uint32_t reason, uint8_t *out, size_t out_length);
 uint32_t naltvigo_machine_start_raw(uint32_t depth, uint64_t bytes, struct naltvigo_machine *machine);
 uint32_t naltvigo_machine_step_raw(struct naltvigo_machine *machine, const uint8_t *in, size_t in_length,
@@ -205,12 +236,13 @@ uint32_t naltvigo_machine_step_raw(struct naltvigo_machine *machine, const uint8
  *
  * Answers OK, TOO_SMALL, REFUSED (reasons 1 to 13), NO_MEMORY, BAD_ORDER, BAD_LIMITS.
  */
-static inline uint32_t naltvigo_canonicalise(const uint8_t *in, size_t in_length, uint32_t order,
-                                             uint32_t depth, uint64_t bytes, uint8_t *out,
+static inline uint32_t naltvigo_canonicalise(const uint8_t *in, size_t in_length,
+                                             const struct naltvigo_options *options, uint8_t *out,
                                              size_t out_length, size_t *needed,
                                              struct naltvigo_refusal *refusal) {
+    const struct naltvigo_options with = options ? *options : naltvigo_defaults();
     uint8_t none[2] = {0, 0};
-    return naltvigo_canonicalise_raw(in_length ? in : none, in_length, order, depth, bytes,
+    return naltvigo_canonicalise_raw(in_length ? in : none, in_length, with.order, with.depth, with.bytes,
                                      out_length ? out : none + 1, out_length, needed, refusal);
 }
 
@@ -222,11 +254,13 @@ static inline uint32_t naltvigo_canonicalise(const uint8_t *in, size_t in_length
  *
  * Answers OK, REFUSED (reasons 1 to 10, 12, 14 to 16), BAD_ORDER, BAD_LIMITS.
  */
-static inline uint32_t naltvigo_check_canonical(const uint8_t *in, size_t in_length, uint32_t order,
-                                                uint32_t depth, uint64_t bytes,
+static inline uint32_t naltvigo_check_canonical(const uint8_t *in, size_t in_length,
+                                                const struct naltvigo_options *options,
                                                 struct naltvigo_refusal *refusal) {
+    const struct naltvigo_options with = options ? *options : naltvigo_defaults();
     const uint8_t none = 0;
-    return naltvigo_check_canonical_raw(in_length ? in : &none, in_length, order, depth, bytes, refusal);
+    return naltvigo_check_canonical_raw(in_length ? in : &none, in_length, with.order, with.depth, with.bytes,
+                                        refusal);
 }
 
 /*
@@ -234,10 +268,46 @@ static inline uint32_t naltvigo_check_canonical(const uint8_t *in, size_t in_len
  *
  * Answers OK, REFUSED (reasons 1 to 12), NO_MEMORY, BAD_LIMITS.
  */
-static inline uint32_t naltvigo_check_valid(const uint8_t *in, size_t in_length, uint32_t depth,
-                                            uint64_t bytes, struct naltvigo_refusal *refusal) {
+static inline uint32_t naltvigo_check_valid(const uint8_t *in, size_t in_length,
+                                            const struct naltvigo_options *options,
+                                            struct naltvigo_refusal *refusal) {
+    const struct naltvigo_options with = options ? *options : naltvigo_defaults();
     const uint8_t none = 0;
-    return naltvigo_check_valid_raw(in_length ? in : &none, in_length, depth, bytes, refusal);
+    return naltvigo_check_valid_raw(in_length ? in : &none, in_length, with.depth, with.bytes, refusal);
+}
+
+/*
+ * naltvigo_next_valid: the item at the front of the input, as in a sequence of items (RFC 8742).
+ *
+ * OK where the input begins with a well-formed, valid item, however it is spelled: `*taken` is the count of
+ * its bytes, at least 1, and what follows them is not looked at. `*taken` is 0 where the status is not OK. A
+ * sequence is read by calls until no byte is left; what becomes of each item, naltvigo_canonicalise of its
+ * `*taken` bytes or another call says. An input without a byte is REFUSED, by TRUNCATED at 0.
+ *
+ * Answers OK, REFUSED (reasons 1 to 11), NO_MEMORY, BAD_LIMITS.
+ */
+static inline uint32_t naltvigo_next_valid(const uint8_t *in, size_t in_length,
+                                           const struct naltvigo_options *options, uint64_t *taken,
+                                           struct naltvigo_refusal *refusal) {
+    const struct naltvigo_options with = options ? *options : naltvigo_defaults();
+    const uint8_t none = 0;
+    return naltvigo_next_valid_raw(in_length ? in : &none, in_length, with.depth, with.bytes, taken, refusal);
+}
+
+/*
+ * naltvigo_next_canonical: the same of an item in its canonical bytes, in this order of keys.
+ *
+ * It takes no memory.
+ *
+ * Answers OK, REFUSED (reasons 1 to 10, 14 to 16), BAD_ORDER, BAD_LIMITS.
+ */
+static inline uint32_t naltvigo_next_canonical(const uint8_t *in, size_t in_length,
+                                               const struct naltvigo_options *options, uint64_t *taken,
+                                               struct naltvigo_refusal *refusal) {
+    const struct naltvigo_options with = options ? *options : naltvigo_defaults();
+    const uint8_t none = 0;
+    return naltvigo_next_canonical_raw(in_length ? in : &none, in_length, with.order, with.depth, with.bytes,
+                                       taken, refusal);
 }
 
 /*
@@ -254,11 +324,12 @@ static inline uint32_t naltvigo_check_valid(const uint8_t *in, size_t in_length,
  * Answers OK, DIFFERENT, REFUSED (reasons 1 to 12), NO_MEMORY, BAD_LIMITS.
  */
 static inline uint32_t naltvigo_compare(const uint8_t *left, size_t left_length, const uint8_t *right,
-                                        size_t right_length, uint32_t depth, uint64_t bytes,
+                                        size_t right_length, const struct naltvigo_options *options,
                                         uint32_t *side, struct naltvigo_refusal *refusal) {
+    const struct naltvigo_options with = options ? *options : naltvigo_defaults();
     const uint8_t none = 0;
     return naltvigo_compare_raw(left_length ? left : &none, left_length, right_length ? right : &none,
-                                right_length, depth, bytes, side, refusal);
+                                right_length, with.depth, with.bytes, side, refusal);
 }
 
 /*
@@ -270,11 +341,13 @@ static inline uint32_t naltvigo_compare(const uint8_t *left, size_t left_length,
  *
  * Answers OK, TOO_SMALL, REFUSED (reasons 1 to 12), NO_MEMORY, BAD_LIMITS.
  */
-static inline uint32_t naltvigo_diagnostic(const uint8_t *in, size_t in_length, uint32_t depth,
-                                           uint64_t bytes, char *out, size_t out_length, size_t *needed,
+static inline uint32_t naltvigo_diagnostic(const uint8_t *in, size_t in_length,
+                                           const struct naltvigo_options *options, char *out,
+                                           size_t out_length, size_t *needed,
                                            struct naltvigo_refusal *refusal) {
+    const struct naltvigo_options with = options ? *options : naltvigo_defaults();
     uint8_t none[2] = {0, 0};
-    return naltvigo_diagnostic_raw(in_length ? in : none, in_length, depth, bytes,
+    return naltvigo_diagnostic_raw(in_length ? in : none, in_length, with.depth, with.bytes,
                                    out_length ? (uint8_t *)out : none + 1, out_length, needed, refusal);
 }
 
@@ -283,8 +356,10 @@ static inline uint32_t naltvigo_diagnostic(const uint8_t *in, size_t in_length, 
  *
  * Answers OK, BAD_LIMITS. It takes no memory.
  */
-static inline uint32_t naltvigo_machine_start(uint32_t depth, uint64_t bytes, struct naltvigo_machine *machine) {
-    return naltvigo_machine_start_raw(depth, bytes, machine);
+static inline uint32_t naltvigo_machine_start(const struct naltvigo_options *options,
+                                              struct naltvigo_machine *machine) {
+    const struct naltvigo_options with = options ? *options : naltvigo_defaults();
+    return naltvigo_machine_start_raw(with.depth, with.bytes, machine);
 }
 
 /*
@@ -306,18 +381,39 @@ static inline uint32_t naltvigo_machine_step(struct naltvigo_machine *machine, c
     return naltvigo_machine_step_raw(machine, in_length ? in : &none, in_length, used, event, refusal);
 }
 
-/* The length of the longest name of a reason. */
-#define NALTVIGO_NAME_MAX 16
+/* What the longest name of a reason needs, the zero byte at its end included. */
+#define NALTVIGO_NAME_MAX 17
 
 /*
- * naltvigo_reason_name: the name of a reason, as "TooDeep", in ASCII and with no zero byte at its end.
+ * naltvigo_reason_name: the name of a reason, as "TooDeep", in ASCII and with a zero byte at its end.
  *
- * Answers its length, and writes it where `out` has room for all of it; 0 for a number that is no reason's.
+ * Answers its length without the zero byte, and writes both where `out` has room for both. A number that is
+ * no reason's has the empty name.
  */
 static inline size_t naltvigo_reason_name(uint32_t reason, char *out, size_t out_length) {
     uint8_t none = 0;
     return naltvigo_reason_name_raw(reason, out_length ? (uint8_t *)out : &none, out_length);
 }
+
+/* naltvigo_status_name: the name of a status, as "TOO_SMALL", which lasts; "" for a number that is none's. */
+static inline const char *naltvigo_status_name(uint32_t status) {
+    switch (status) {
+    case NALTVIGO_OK: return "OK";
+    case NALTVIGO_REFUSED: return "REFUSED";
+    case NALTVIGO_TOO_SMALL: return "TOO_SMALL";
+    case NALTVIGO_NO_MEMORY: return "NO_MEMORY";
+    case NALTVIGO_BAD_ORDER: return "BAD_ORDER";
+    case NALTVIGO_BAD_LIMITS: return "BAD_LIMITS";
+    case NALTVIGO_DIFFERENT: return "DIFFERENT";
+    case NALTVIGO_EVENT: return "EVENT";
+    case NALTVIGO_MORE: return "MORE";
+    case NALTVIGO_BAD_MACHINE: return "BAD_MACHINE";
+    default: return "";
+    }
+}
+
+/* naltvigo_version: the version of the library that runs, as NALTVIGO_VERSION_NUMBER is the header's. */
+static inline uint32_t naltvigo_version(void) { return naltvigo_version_raw(); }
 
 #ifdef __cplusplus
 }

@@ -2,9 +2,10 @@
 # Makes the library for C and its shared object: scripts/build_c.sh [FOLDER [ARCHIVE]]
 #
 # FOLDER (dist without one) gets include/naltvigo.h, lib/libnaltvigo.a, lib/libnaltvigo.so with its
-# version, and lib/pkgconfig/naltvigo.pc. Only naltvigo_* is seen of either. The kit's rt has to be on the
-# path; of a C compiler (CC) the linker alone is used. Two runs make equal bytes. ARCHIVE is what an earlier
-# run compiled, crates/naltvigo/out/libnaltvigo.a; without one it is compiled.
+# version, and what pkg-config and CMake ask for, in lib/pkgconfig and lib/cmake. Only naltvigo_* is seen of
+# either library. The kit's rt has to be on the path; of a C compiler (CC) the linker alone is used. Two runs
+# make equal bytes. ARCHIVE is what an earlier run compiled, crates/naltvigo/out/libnaltvigo.a; without one it is
+# compiled.
 set -euo pipefail
 
 root=$(cd "$(dirname "${BASH_SOURCE[0]}")/.." && pwd)
@@ -12,9 +13,8 @@ dist=${1:-$root/dist}
 archive=${2:-}
 kit=$(dirname "$(rt doc)")
 header=$root/include/naltvigo.h
-version_of() { sed -n "s/^#define NALTVIGO_VERSION_$1 //p" "$header"; }
-major=$(version_of MAJOR)
-version=$major.$(version_of MINOR)
+version=$(cat "$root/VERSION")
+major=${version%%.*}
 
 log=$(mktemp)
 room=$(mktemp -d)
@@ -55,7 +55,7 @@ ld -r -o "$room/all.o" "$room"/naltvigo*.o "$room/heap.pic.o"
 objcopy --wildcard --keep-global-symbol='naltvigo_*' "$room/all.o"
 
 rm -rf "$dist"
-mkdir -p "$dist/include" "$dist/lib/pkgconfig"
+mkdir -p "$dist/include" "$dist/lib/pkgconfig" "$dist/lib/cmake/naltvigo"
 cp "$header" "$dist/include"
 ar rcsD "$dist/lib/libnaltvigo.a" "$room/all.o"
 echo '{ global: naltvigo_*; local: *; };' >"$room/exports"
@@ -63,11 +63,6 @@ echo '{ global: naltvigo_*; local: *; };' >"$room/exports"
     -Wl,--version-script="$room/exports" -Wl,--gc-sections -Wl,-z,defs -Wl,-z,relro -Wl,-z,now -Wl,-z,noexecstack
 ln -s "libnaltvigo.so.$version" "$dist/lib/libnaltvigo.so.$major"
 ln -s "libnaltvigo.so.$major" "$dist/lib/libnaltvigo.so"
-cat >"$dist/lib/pkgconfig/naltvigo.pc" <<PC
-prefix=\${pcfiledir}/../..
-Name: naltvigo
-Description: deterministic CBOR (RFC 8949), proved
-Version: $version
-Cflags: -I\${prefix}/include
-Libs: -L\${prefix}/lib -lnaltvigo
-PC
+for file in pkgconfig/naltvigo.pc cmake/naltvigo/naltvigo-config.cmake cmake/naltvigo/naltvigo-config-version.cmake; do
+    sed "s/@VERSION@/$version/; s/@MAJOR@/$major/" "$root/share/${file##*/}.in" >"$dist/lib/$file"
+done

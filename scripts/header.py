@@ -1,5 +1,6 @@
 #!/usr/bin/env python3
-"""Holds include/naltvigo.h against crates/naltvigo: the constants, the struct, the exports' signatures.
+"""Holds include/naltvigo.h against crates/naltvigo, the constants, structs and exports' signatures; and the numbers that the
+bindings repeat against the header.
 
     scripts/header.py [ROOT]    says what differs, and fails where something does
 """
@@ -21,6 +22,7 @@ TYPES = {
     "&mut [u8]": ["uint8_t *", "size_t"],
     "&mut u32": ["uint32_t *"],
     "&mut usize": ["size_t *"],
+    "&mut u64": ["uint64_t *"],
     "&mut NaltvigoRefusal": ["struct naltvigo_refusal *"],
     "&mut NaltvigoEvent": ["struct naltvigo_event *"],
     "&mut SavedMachine": ["struct naltvigo_machine *"],
@@ -46,6 +48,7 @@ def constants_of_crate():
     found = {}
     for path in CRATE.glob("*.rt"):
         found |= {n: int(v) for n, v in re.findall(r"(?m)^pub const (\w+): u32 = (\d+);", path.read_text())}
+    found["VERSION_NUMBER"] = int(re.search(r"pub const VERSION: u32 = (0x[0-9a-f_]+);", (CRATE / "naming.rt").read_text())[1], 16)
     reasons = (ROOT / "crates" / "cbor_head" / "src" / "reason.rt").read_text()
     found |= {snake(n): int(v) for n, v in re.findall(r"(?m)^    (\w+) = (\d+),", reasons)}
     orders = (CRATE / "settings.rt").read_text()
@@ -54,7 +57,8 @@ def constants_of_crate():
     found["DEPTH_MAX"] = int(re.search(r"MAX_DEPTH: u16 = (\d+);", limits)[1])
     found["BYTES_MAX"] = 1 << int(re.search(r"bytes <= 1 << (\d+)", limits)[1])
     names = (ROOT / "crates" / "cbor_head" / "specs" / "Printed.antt").read_text()
-    found["NAME_MAX"] = max(len(name) for name in re.findall(r'^reason_name \w+ = codes "(\w+)"', names, re.M))
+    # with a zero byte at the end
+    found["NAME_MAX"] = 1 + max(len(name) for name in re.findall(r'^reason_name \w+ = codes "(\w+)"', names, re.M))
     return found
 
 
@@ -63,6 +67,8 @@ def constants_of_header(text):
     found["DEPTH_MAX"] = int(re.search(r"#define NALTVIGO_DEPTH_MAX UINT32_C\((\d+)\)", text)[1])
     found["BYTES_MAX"] = 1 << int(re.search(r"#define NALTVIGO_BYTES_MAX \(UINT64_C\(1\) << (\d+)\)", text)[1])
     found["NAME_MAX"] = int(re.search(r"#define NALTVIGO_NAME_MAX (\d+)", text)[1])
+    parts = [int(re.search(rf"#define NALTVIGO_VERSION_{part} (\d+)", text)[1]) for part in ("MAJOR", "MINOR", "PATCH")]
+    found["VERSION_NUMBER"] = parts[0] << 16 | parts[1] << 8 | parts[2]
     return found
 
 
@@ -78,7 +84,7 @@ def exports_of_crate():
 def exports_of_header(text):
     found = {}
     for answer, name, given in re.findall(r"(?m)^(\w+) (naltvigo_\w+)\(([^)]*)\);", text):
-        kinds = [re.sub(r"\w+$", "", " ".join(it.split())).strip() for it in given.split(",")]
+        kinds = [re.sub(r"\w+$", "", " ".join(it.split())).strip() for it in given.split(",") if it != "void"]
         found[name] = [answer] + kinds
     return found
 
@@ -93,6 +99,22 @@ def struct_of_header(name, text):
     body = re.search(r"struct %s \{(.*?)\};" % name, text, re.S)[1]
     found = re.findall(r"([\w ]+?) (\w+)(\[\w+\])?;", body)
     return [(field, kind.strip() + (size or "")) for kind, field, size in found]
+
+
+def numbers_of_bindings():
+    """What the bindings repeat of the header, by file."""
+    files = {
+        "bindings/python/src/naltvigo/_library.py": r"^(\w+) = (\d+)$",
+        "bindings/rust/src/raw.rs": r"^pub const (\w+): \w+ = (\d+);$",
+    }
+    for file, pattern in files.items():
+        path = ROOT / file
+        if path.exists():
+            text = path.read_text(encoding="utf-8")
+            # as Python assigns several at once
+            for names, values in re.findall(r"(?m)^([A-Z_]+(?:, [A-Z_]+)+) = (\d+(?:, \d+)+)$", text):
+                yield from ((file, *it) for it in zip(names.split(", "), map(int, values.split(", "))))
+            yield from ((file, name, int(value)) for name, value in re.findall(f"(?m){pattern}", text))
 
 
 def differences(what, crate, header):
@@ -112,6 +134,9 @@ def main():
         found += differences(f"field of {name}", struct_of_crate(name), struct_of_header(name, text))
         if struct_of_crate(name) != struct_of_header(name, text):
             found.append(f"struct {name}: the fields or their order differ")
+    for file, name, value in numbers_of_bindings():
+        if name in constants_of_header(text) and constants_of_header(text)[name] != value:
+            found.append(f"{file} has {value} for {name}")
     for line in found:
         print(f"naltvigo.h: {line}")
     return 1 if found else 0

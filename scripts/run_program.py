@@ -62,7 +62,9 @@ def words():
     if run(["compare", "-", "-"]).returncode != 2:
         faults.append("standard input twice: status 2 wanted")
     version = run(["--version"])
-    if version.returncode != 0 or not version.stdout.startswith(b"cborc 0.1.0\n"):
+    with open(os.path.join(ROOT, "VERSION"), "rb") as file:
+        wanted = b"cborc " + file.read()
+    if version.returncode != 0 or not version.stdout.startswith(wanted):
         faults.append("--version")
 
 

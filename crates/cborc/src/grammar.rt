@@ -12,7 +12,7 @@ use std::alloc::{AllocError, Global};
 
 /// What `--version` prints behind the program's name.
 const VERSION: &str = "\
-0.1.0
+2.0.0
 Orders of keys: bytewise (RFC 8949, section 4.2.1), length (section 4.2.3)
 Limits: depth 0 to 256, bytes 0 to 4611686018427387904
 Proved with rattle-kit-13b: each function is safe, returns, and meets its contract";
@@ -39,7 +39,7 @@ pub fn command<'a>(alloc: Global) -> Result<Command<'a>, AllocError>
 {
     Command::new(alloc, "cborc")
         .about("Reads and writes deterministic CBOR (RFC 8949, section 4.2)")
-        .version("0.1.0")
+        .version("2.0.0")
         .long_version(VERSION)
         .after_help(BELOW_HELP)
         .subcommand_required(true)

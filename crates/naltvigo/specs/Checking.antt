@@ -18,7 +18,7 @@ pub data IsStrictRefusal (d n : ℕ) (o : KeyOrder) (input : List ℕ) (f : Refu
   trailing : (item : Spelling) → IsVerdict d n (strict o) input (accepted item) → length (spell item) < length input
       → f ≡ refusal Trailing (length (spell item)) (length (spell item)) → IsStrictRefusal d n o input f
 
--- it is told
+-- the input is not one item in its canonical bytes, and this is told of it
 pub record IsNotCanonical (d n : ℕ) (o : KeyOrder) (input : List ℕ) (c : NaltvigoRefusal) : Type 0 where
   pub why : Refusal
   pub refused : IsStrictRefusal d n o input why

@@ -1,30 +1,54 @@
-//! The names of reasons.
+//! The names of reasons, and the library's version.
 
-ghost use Rattle.std.specs.Prelude.{◌≡◌, ◌≢◌, ◌⊎◌, ◌<◌, ◌≤◌, None, IfSome, length, take, drop};
+ghost use Rattle.std.specs.Prelude.{◌≡◌, ◌≢◌, ◌⊎◌, ◌<◌, ◌≤◌, ◌+◌, ◌++◌, ◌∷◌, []};
+ghost use Rattle.std.specs.Prelude.{None, IfSome, length, take, drop};
 ghost use Rattle.cbor_head.specs.Reason.{reason_number};
 ghost use Rattle.cbor_head.specs.Printed.{reason_name};
 ghost use Rattle.cbor_head.specs.declared.reason.Reason.{Reason};
 
 use cbor_head::Reason;
 
-/// Writes the name of the reason of this number to the front of `out`, if all of it has room, and
-/// answers its length; 0 for a number that is no reason's.
+/// The library's version: a byte each for its three numbers.
+pub const VERSION: u32 = 0x02_00_00;
+
+/// The version, as in `NALTVIGO_VERSION_NUMBER` of the header that goes with this library.
+#[unsafe(no_mangle)]
+pub extern "C" fn naltvigo_version_raw() -> u32
+    ensures { result ≡ VERSION }
+{
+    VERSION
+}
+
+/// Writes the name of the reason of this number and a zero byte behind it to the front of `out`, if
+/// both have room, and answers the name's length. The name is empty for a number that is no
+/// reason's.
 #[unsafe(no_mangle)]
 pub extern "C" fn naltvigo_reason_name_raw(number: u32, out: &mut [u8]) -> usize
     ensures named { result ≢ 0 → (r : Reason) × (number ≡ reason_number r)
         × (result ≡ length (reason_name r))
-        × (result ≤ length out.old → take result out.new ≡ reason_name r) }
-    ensures unnamed { result ≡ 0 → (number ≡ 0) ⊎ (19 < number) }
-    ensures kept { (length out.old < result → out.new ≡ out.old)
-        × (drop result out.new ≡ drop result out.old) }
+        × (result < length out.old → take (1 + result) out.new ≡ reason_name r ++ 0 ∷ []) }
+    ensures unnamed { result ≡ 0 → ((number ≡ 0) ⊎ (19 < number))
+        × (0 < length out.old → take 1 out.new ≡ 0 ∷ []) }
+    ensures kept { (length out.old ≤ result → out.new ≡ out.old)
+        × (drop (1 + result) out.new ≡ drop (1 + result) out.old) }
 {
-    let Some(reason) = reason_numbered(number) else {
-        return 0;
-    };
-    let name = name_of(reason);
+    match reason_numbered(number) {
+        Some(reason) => write_name(name_of(reason), out),
+        None => write_name(b"", out),
+    }
+}
+
+// Writes the name and a zero byte behind it, if both have room, and answers the name's length.
+fn write_name(name: &[u8], out: &mut [u8]) -> usize
+    ensures count { result ≡ length name.now }
+    ensures written { result < length out.old → take (1 + result) out.new ≡ name.now ++ 0 ∷ [] }
+    ensures kept { (length out.old ≤ result → out.new ≡ out.old)
+        × (drop (1 + result) out.new ≡ drop (1 + result) out.old) }
+{
     let count = name.len();
-    if count <= out.len() {
+    if count < out.len() {
         out[..count].copy_from_slice(name);
+        out[count] = 0;
     }
     count
 }

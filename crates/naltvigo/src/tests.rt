@@ -1,10 +1,12 @@
 //! Each export once, as Rattle calls it.
 
 use crate::comparing::{LEFT, RIGHT};
+use crate::naming::VERSION;
 use crate::status::{BAD_LIMITS, BAD_ORDER, DIFFERENT, NaltvigoRefusal, OK, REFUSED, TOO_SMALL};
 use crate::{
     naltvigo_canonicalise_raw, naltvigo_check_canonical_raw, naltvigo_check_valid_raw,
-    naltvigo_compare_raw, naltvigo_diagnostic_raw, naltvigo_reason_name_raw,
+    naltvigo_compare_raw, naltvigo_diagnostic_raw, naltvigo_next_canonical_raw,
+    naltvigo_next_valid_raw, naltvigo_reason_name_raw, naltvigo_version_raw,
 };
 use std::rt::HostRuntime;
 
@@ -141,8 +143,36 @@ fn text_in_a_buffer(rt: HostRuntime) {
 
 #[test]
 fn names(rt: HostRuntime) {
-    let mut out = [0u8; 8];
+    let mut out = [7u8; 10];
     assert_eq!(&rt; naltvigo_reason_name_raw(12, &mut out), 8);
-    assert_eq!(&rt; out, *b"Trailing");
+    assert_eq!(&rt; out, *b"Trailing\0\x07");
+    assert_eq!(&rt; naltvigo_reason_name_raw(12, &mut out[..8]), 8);
     assert_eq!(&rt; naltvigo_reason_name_raw(20, &mut out), 0);
+    assert_eq!(&rt; out[0], 0);
+    assert_eq!(&rt; naltvigo_version_raw(), VERSION);
+}
+
+// `[_ 1]` and 0, as a sequence.
+#[test]
+fn items_behind_one_another(rt: HostRuntime) {
+    let alloc = rt.alloc();
+    let items = [0x9f, 0x01, 0xff, 0x00];
+    let mut taken = 9;
+    let mut why = NONE;
+    assert_eq!(&rt;
+        naltvigo_next_valid_raw(alloc, &items, 256, 100, &mut taken, &mut why),
+        OK
+    );
+    assert_eq!(&rt; taken, 3);
+    assert_eq!(&rt;
+        naltvigo_next_canonical_raw(&items[3..], 0, 256, 100, &mut taken, &mut why),
+        OK
+    );
+    assert_eq!(&rt; taken, 1);
+    assert_eq!(&rt;
+        naltvigo_next_canonical_raw(&items, 0, 256, 100, &mut taken, &mut why),
+        REFUSED
+    );
+    // Indefinite
+    assert_eq!(&rt; (taken, why.reason, why.place, why.read), (0, 15, 0, 1));
 }

@@ -36,7 +36,7 @@ Examples:
 ";
 
 const VERSION: &str = "\
-cborc 0.1.0
+cborc 2.0.0
 Orders of keys: bytewise (RFC 8949, section 4.2.1), length (section 4.2.3)
 Limits: depth 0 to 256, bytes 0 to 4611686018427387904
 Proved with rattle-kit-13b: each function is safe, returns, and meets its contract
@@ -103,7 +103,7 @@ Options:
 // The words, and what stands on standard output.
 static HELPS: [(&str, &str); 14] = [
     ("--version", VERSION),
-    ("-V", "cborc 0.1.0\n"),
+    ("-V", "cborc 2.0.0\n"),
     ("--help", HELP),
     ("-h", HELP),
     ("help", HELP),

@@ -1,0 +1,299 @@
+"""Tests of the package, as it is installed. The repository's tables of inputs and answers are its vectors.
+
+python3 -m unittest discover bindings/python/tests
+"""
+
+import array
+import ctypes
+import doctest
+import pickle
+import re
+import sys
+import threading
+import time
+import unittest
+from pathlib import Path
+
+import naltvigo
+from naltvigo import Refused, _calls, _library, _reasons, _refused, _streams
+
+ROOT = Path(__file__).resolve().parents[3]
+sys.path.insert(0, str(ROOT / "c"))
+from rows import pairs_of, rows_of  # noqa: E402
+
+TABLE = ROOT / "crates/cbor_reader_tests/src/tests/conformance_table.rt"
+EVENTS = ROOT / "crates/cbor_events_tests/src/tests/tables.rt"
+ORDERS = ("bytewise", "length")
+
+
+def load_tests(loader, tests, pattern):
+    for module in (naltvigo, _calls, _refused, _streams):
+        tests.addTests(doctest.DocTestSuite(module))
+    tests.addTests(doctest.DocFileSuite(str(ROOT / "bindings/python/README.md"), module_relative=False))
+    return tests
+
+
+def answer_of(call, *words, **more):
+    """What a call answers, or the refusal as three numbers."""
+    try:
+        return call(*words, **more)
+    except Refused as refused:
+        return (refused.reason, refused.place, refused.read)
+
+
+class Rows(unittest.TestCase):
+    """Each row of the conformance table, by each call that it speaks of."""
+
+    def rows(self):
+        for given, depth, most, answers in rows_of(TABLE):
+            for order, (canonical, refusal, strict) in zip(ORDERS, answers):
+                yield bytes.fromhex(given), dict(depth=depth, max_bytes=most), order, canonical, refusal, strict
+
+    def test_canonicalise(self):
+        for data, limits, order, canonical, refusal, _ in self.rows():
+            wanted = refusal or bytes.fromhex(canonical)
+            for buffer in (data, bytearray(data), memoryview(data)):
+                with self.subTest(data=data.hex(), order=order):
+                    self.assertEqual(answer_of(naltvigo.canonicalise, buffer, order=order, **limits), wanted)
+
+    def test_check_canonical(self):
+        for data, limits, order, _, _, strict in self.rows():
+            with self.subTest(data=data.hex(), order=order):
+                self.assertEqual(answer_of(naltvigo.check_canonical, data, order=order, **limits), strict)
+
+    def test_check_and_diagnostic(self):
+        for data, limits, _, canonical, refusal, _ in self.rows():
+            with self.subTest(data=data.hex()):
+                # the limit on canonical bytes is that of canonicalise alone
+                wanted = None if refusal and refusal[0] == 13 else refusal
+                self.assertEqual(answer_of(naltvigo.check, data, **limits), wanted)
+                text = answer_of(naltvigo.diagnostic, data, **limits)
+                self.assertEqual(text, wanted) if wanted else self.assertIsInstance(text, str)
+                if canonical is not None:
+                    self.assertTrue(naltvigo.same(data, bytes.fromhex(canonical), **limits))
+
+    def test_items(self):
+        for data, limits, _, _, refusal, _ in self.rows():
+            with self.subTest(data=data.hex()):
+                if refusal is None and data:
+                    self.assertEqual(list(naltvigo.items(data, **limits)), [data])
+                    self.assertEqual(list(naltvigo.items(data + data, **limits)), [data, data])
+
+    def test_pairs(self):
+        for left, right, (answer, refusal) in pairs_of(TABLE):
+            with self.subTest(left=left, right=right):
+                words = bytes.fromhex(left), bytes.fromhex(right)
+                if refusal is None:
+                    self.assertIs(naltvigo.same(*words, depth=256), answer == "same")
+                    continue
+                with self.assertRaises(Refused) as raised:
+                    naltvigo.same(*words, depth=256)
+                error = raised.exception
+                self.assertEqual((error.side, error.reason, error.place, error.read), (answer, *refusal))
+                self.assertTrue(str(error).startswith(f"{answer} refused "))
+
+
+class Events(unittest.TestCase):
+    def rows(self):
+        text = EVENTS.read_text(encoding="utf-8")
+        body = text[text.index("static ACCEPTED") :].split("\n];")[0]
+        return re.findall(r'// (.*)\n\s*\(\s*"([0-9a-f]*)",\s*"([^"]*)",?\s*\)', body)
+
+    def told(self, chunks):
+        joined = []
+        for event in naltvigo.events(chunks, depth=256):
+            if event.kind == "piece" and joined and joined[-1].kind == "piece":
+                last = joined.pop()
+                event = last._replace(number=last.number + event.number, data=last.data + event.data)
+            joined.append(event)
+        return joined
+
+    def test_rows(self):
+        rows = self.rows()
+        self.assertGreater(len(rows), 40)
+        for _, given, wanted in rows:
+            data = bytes.fromhex(given)
+            for chunks in (data, [data], [bytes([byte]) for byte in data], [b"", data[:2], bytearray(data[2:]), b""]):
+                with self.subTest(given=given):
+                    told = self.told(chunks)
+                    words = " ".join(
+                        " ".join(str("-" if it is None else it) for it in (e.place, e.kind, e.number, e.width)) for e in told
+                    )
+                    self.assertEqual(words.replace("break", "end"), " ".join(wanted.split()))
+                    for event in told:
+                        if event.kind == "piece":
+                            self.assertEqual(event.data, data[event.place : event.place + event.number])
+
+    def test_texts(self):
+        for text, given, _ in self.rows():
+            # some comments tell of a missing length, which values have not, or of a text in other words; and some
+            # rows are well-formed alone
+            if not re.search(r"_|\.\.|U\+", text) and answer_of(naltvigo.check, bytes.fromhex(given)) is None:
+                with self.subTest(given=given):
+                    self.assertEqual(naltvigo.diagnostic(bytes.fromhex(given)), text)
+
+    def test_refusals_come_behind_the_events_before_them(self):
+        for chunks, kinds, refusal in (
+            ([b"\x82\x01"], ["array", "unsigned"], (1, 2, 2)),
+            ([], [], (1, 0, 0)),
+            ([b"\x82\x01", b"\xf9"], ["array", "unsigned"], (5, 2, 3)),
+            ([b"\x01\x02"], ["unsigned"], (12, 1, 1)),
+            ([b"\x01", b"", b"\x02"], ["unsigned"], (12, 1, 1)),
+        ):
+            told = []
+            with self.assertRaises(Refused) as raised:
+                for event in naltvigo.events(chunks):
+                    told.append(event.kind)
+            self.assertEqual(told, kinds)
+            error = raised.exception
+            self.assertEqual((error.reason, error.place, error.read), refusal)
+
+    def test_limits(self):
+        self.assertEqual(answer_of(lambda: list(naltvigo.events(b"\x82\x01", max_bytes=2))), (2, 2, 2))
+        self.assertEqual(answer_of(lambda: list(naltvigo.events(b"\x81\x80", depth=1))), (9, 1, 2))
+
+    def test_a_chunk_that_changes(self):
+        # an event's data stay, and a bytearray may change behind its event
+        chunk = bytearray(b"\x42ab")
+        event = list(naltvigo.events([chunk]))[1]
+        chunk[1:] = b"xy"
+        self.assertEqual(event.data, b"ab")
+
+
+class Sequences(unittest.TestCase):
+    def test_refused_behind_those_before(self):
+        found = []
+        with self.assertRaises(Refused) as raised:
+            for item in naltvigo.items(b"\x18\x00\x61a\xff"):
+                found.append(item)
+        self.assertEqual(found, [b"\x18\x00", b"\x61a"])
+        error = raised.exception
+        self.assertEqual((error.item, error.start, error.reason, error.place, error.read), (3, 4, 7, 0, 1))
+        self.assertTrue(str(error).startswith("item 3 refused 7 StrayBreak at 0: "))
+
+    def test_canonical_ones(self):
+        self.assertEqual(list(naltvigo.items(b"\x00\x61a", canonical=True)), [b"\x00", b"\x61a"])
+        self.assertEqual(answer_of(lambda: list(naltvigo.items(b"\x18\x00", canonical=True))), (14, 0, 2))
+        keys = b"\xa2\x20\x00\x18\x64\x00"
+        self.assertEqual(list(naltvigo.items(keys, canonical=True, order="length")), [keys])
+        self.assertEqual(answer_of(lambda: list(naltvigo.items(keys, canonical=True)))[0], 16)
+
+    def test_none(self):
+        self.assertEqual(list(naltvigo.items(b"")), [])
+
+
+class Words(unittest.TestCase):
+    """What is given beside the input."""
+
+    CALLS = ("canonicalise", "check", "check_canonical", "diagnostic", "items", "events")
+
+    def test_limits_out_of_range(self):
+        for name in self.CALLS:
+            for words in (dict(depth=-1), dict(depth=257), dict(depth=1 << 32), dict(max_bytes=-1), dict(max_bytes=(1 << 62) + 1)):
+                with self.subTest(name=name, words=words), self.assertRaises(ValueError) as raised:
+                    getattr(naltvigo, name)(b"\x00", **words)
+                self.assertNotIsInstance(raised.exception, Refused)
+        self.assertEqual(naltvigo.canonicalise(b"\x00", depth=0, max_bytes=1 << 62), b"\x00")
+
+    def test_orders(self):
+        for name in ("canonicalise", "check_canonical", "items"):
+            with self.subTest(name=name), self.assertRaises(ValueError):
+                getattr(naltvigo, name)(b"\x00", order="shortest")
+
+    def test_no_buffer(self):
+        for name in self.CALLS:
+            for data in ("text", 7, None):
+                with self.subTest(name=name, data=data), self.assertRaises(TypeError):
+                    list(getattr(naltvigo, name)(data) or ())
+
+    def test_other_buffers(self):
+        self.assertEqual(naltvigo.canonicalise(array.array("B", b"\x18\x00")), b"\x00")
+        self.assertEqual(naltvigo.canonicalise(memoryview(b"\x18-\x00-")[::2]), b"\x00")
+
+    def test_defaults(self):
+        self.assertEqual(answer_of(naltvigo.check, b"\x81" * 64 + b"\x80"), (9, 64, 65))
+        self.assertIsNone(answer_of(naltvigo.check, b"\x81" * 63 + b"\x80"))
+        text = b"\x7a\x00\x0f\xff\xfb" + b"a" * 0xFFFFB
+        self.assertIsNone(answer_of(naltvigo.check, text))
+        self.assertEqual(answer_of(naltvigo.check, b"\x81" + text), (2, 1 << 20, 1 << 20))
+
+
+class Rest(unittest.TestCase):
+    def test_answers_of_all_sizes(self):
+        # on both sides of the buffers that are kept, and answers longer than their input
+        for count in (0, 1, 255, 256, 4090, 4091, 4092, 4093, 4096, 70000):
+            with self.subTest(count=count):
+                data = b"\x9f" + b"\x00" * count + b"\xff"
+                head = b"\x80" if count == 0 else None
+                answer = naltvigo.canonicalise(data)
+                self.assertEqual(answer[-count:] if count else b"", b"\x00" * count)
+                if head:
+                    self.assertEqual(answer, head)
+                self.assertEqual(naltvigo.canonicalise(answer), answer)
+                self.assertEqual(naltvigo.diagnostic(data), "[" + ", ".join("0" * count) + "]")
+
+    def test_refused(self):
+        with self.assertRaises(Refused) as raised:
+            naltvigo.canonicalise(b"\xa2\x00\x01\x00\x02")
+        error = pickle.loads(pickle.dumps(raised.exception))
+        self.assertEqual((error.reason, error.name, error.place, error.read), (11, "RepeatedKey", 3, 4))
+        self.assertEqual(str(error), str(raised.exception))
+        self.assertIsInstance(error, ValueError)
+
+    def test_names_are_those_of_the_library(self):
+        export = _library._LIBRARY.naltvigo_reason_name_raw
+        export.restype = ctypes.c_size_t
+        for number, (name, _, _) in _reasons.REASONS.items():
+            out = ctypes.create_string_buffer(17)
+            self.assertEqual(export(ctypes.c_uint32(number), out, ctypes.c_size_t(17)), len(name))
+            self.assertEqual(out.value.decode(), name)
+        self.assertEqual(export(ctypes.c_uint32(len(_reasons.REASONS) + 1), out, ctypes.c_size_t(17)), 0)
+
+    def test_threads(self):
+        faults = []
+
+        def work(number):
+            for turn in range(3000):
+                data = b"\x9f" + bytes([number]) * (turn % 40) + b"\xff"
+                if naltvigo.diagnostic(data).count(str(number)) != turn % 40:
+                    faults.append(data)
+                if answer_of(naltvigo.check, bytes([number, number])) != (12, 1, 1):
+                    faults.append(number)
+
+        threads = [threading.Thread(target=work, args=(number,)) for number in range(1, 9)]
+        for thread in threads:
+            thread.start()
+        for thread in threads:
+            thread.join()
+        self.assertEqual(faults, [])
+
+    def test_the_lock_is_not_held(self):
+        # no thread gives way by itself for ten seconds, so another one counts only while a call has let go of the lock
+        data = b"\x9f" + b"\xa1\x00\x00" * (1 << 22) + b"\xff"
+        counted, done = [0], threading.Event()
+
+        def count():
+            while not done.is_set():
+                counted[0] += 1
+                time.sleep(0)
+
+        interval = sys.getswitchinterval()
+        sys.setswitchinterval(10)
+        thread = threading.Thread(target=count)
+        thread.start()
+        try:
+            before = counted[0]
+            naltvigo.check(data, max_bytes=1 << 30)
+            after = counted[0]
+        finally:
+            done.set()
+            sys.setswitchinterval(interval)
+            thread.join()
+        self.assertGreater(after, before)
+
+    def test_version(self):
+        self.assertEqual(naltvigo.__version__, (ROOT / "VERSION").read_text().strip())
+
+
+if __name__ == "__main__":
+    unittest.main()

@@ -1,0 +1,232 @@
+//! The calls on whole items.
+
+use crate::options::Options;
+use crate::raw::{self, DIFFERENT, OK, TOO_SMALL};
+use crate::reason::Reason;
+use crate::refused::{NotWritten, Refused, Side};
+use alloc::string::String;
+use alloc::vec::Vec;
+
+// SAFETY, of each call below: a slice's pointer is not null and stands for as many bytes as its
+// length; what is written to is borrowed for the call alone, and lies apart.
+
+/// The canonical bytes of the one valid item that `input` is.
+///
+/// Equal answers in one order mean equal values, and an answer is its own answer.
+pub fn canonicalise(input: &[u8], options: &Options) -> Result<Vec<u8>, Refused> {
+    written(input.len(), |out| canonicalise_into(input, options, out))
+}
+
+/// Writes the canonical bytes to the front of `out`, and answers their count. Where it answers an
+/// error, `out` is as it was.
+pub fn canonicalise_into(
+    input: &[u8],
+    options: &Options,
+    out: &mut [u8],
+) -> Result<usize, NotWritten> {
+    let (mut needed, mut refusal) = (0, raw::Refusal::default());
+    let status = unsafe {
+        raw::naltvigo_canonicalise_raw(
+            input.as_ptr(),
+            input.len(),
+            options.order(),
+            options.depth(),
+            options.bytes(),
+            out.as_mut_ptr(),
+            out.len(),
+            &mut needed,
+            &mut refusal,
+        )
+    };
+    match status {
+        OK => Ok(needed),
+        TOO_SMALL => Err(NotWritten::TooSmall(needed)),
+        _ => Err(NotWritten::Refused(Refused::of(refusal))),
+    }
+}
+
+/// The diagnostic text (RFC 8949, section 8) of the one valid item that `input` is.
+///
+/// ```
+/// use naltvigo::{diagnostic, Options};
+///
+/// assert_eq!(diagnostic(b"\xa1\x61a\x41a", &Options::default())?, r#"{"a": h'61'}"#);
+/// # Ok::<(), naltvigo::Refused>(())
+/// ```
+pub fn diagnostic(input: &[u8], options: &Options) -> Result<String, Refused> {
+    let text = written(input.len().saturating_mul(4), |out| {
+        let (mut needed, mut refusal) = (0, raw::Refusal::default());
+        let status = unsafe {
+            raw::naltvigo_diagnostic_raw(
+                input.as_ptr(),
+                input.len(),
+                options.depth(),
+                options.bytes(),
+                out.as_mut_ptr(),
+                out.len(),
+                &mut needed,
+                &mut refusal,
+            )
+        };
+        match status {
+            OK => Ok(needed),
+            TOO_SMALL => Err(NotWritten::TooSmall(needed)),
+            _ => Err(NotWritten::Refused(Refused::of(refusal))),
+        }
+    })?;
+    // It is UTF-8, since texts are; no proof of this crate's says so.
+    Ok(String::from_utf8(text).expect("diagnostic text is UTF-8"))
+}
+
+/// Whether `input` is one valid item, however it is spelled.
+pub fn check(input: &[u8], options: &Options) -> Result<(), Refused> {
+    let mut refusal = raw::Refusal::default();
+    let status = unsafe {
+        raw::naltvigo_check_valid_raw(
+            input.as_ptr(),
+            input.len(),
+            options.depth(),
+            options.bytes(),
+            &mut refusal,
+        )
+    };
+    accepted(status, refusal)
+}
+
+/// Whether `input` is one valid item in its canonical bytes. It takes no memory.
+///
+/// ```
+/// use naltvigo::{check_canonical, Options, Reason};
+///
+/// assert!(check_canonical(b"\x00", &Options::default()).is_ok());
+/// let refused = check_canonical(b"\x18\x00", &Options::default()).unwrap_err();
+/// assert_eq!(refused.reason, Reason::NotShortest);
+/// ```
+pub fn check_canonical(input: &[u8], options: &Options) -> Result<(), Refused> {
+    let mut refusal = raw::Refusal::default();
+    let status = unsafe {
+        raw::naltvigo_check_canonical_raw(
+            input.as_ptr(),
+            input.len(),
+            options.order(),
+            options.depth(),
+            options.bytes(),
+            &mut refusal,
+        )
+    };
+    accepted(status, refusal)
+}
+
+/// Whether two valid items have the same value: maps by their pairs in any order (RFC 8949,
+/// section 5.6.1). The limits are for each of the two; the left one is judged first.
+///
+/// ```
+/// use naltvigo::{same, Options};
+///
+/// assert_eq!(same(b"\x18\x00", b"\x00", &Options::default()), Ok(true));
+/// assert_eq!(same(b"\x61a", b"\x41a", &Options::default()), Ok(false));
+/// ```
+pub fn same(left: &[u8], right: &[u8], options: &Options) -> Result<bool, (Side, Refused)> {
+    let (mut side, mut refusal) = (0, raw::Refusal::default());
+    let status = unsafe {
+        raw::naltvigo_compare_raw(
+            left.as_ptr(),
+            left.len(),
+            right.as_ptr(),
+            right.len(),
+            options.depth(),
+            options.bytes(),
+            &mut side,
+            &mut refusal,
+        )
+    };
+    match status {
+        OK => Ok(true),
+        DIFFERENT => Ok(false),
+        _ if side == 0 => Err((Side::Left, Refused::of(refusal))),
+        _ => Err((Side::Right, Refused::of(refusal))),
+    }
+}
+
+/// The items of a sequence (RFC 8742), each as it is spelled, with the limits on each.
+///
+/// ```
+/// use naltvigo::{items, Options};
+///
+/// let found: Result<Vec<&[u8]>, _> = items(b"\x18\x00\x61a", &Options::default()).collect();
+/// assert_eq!(found?, [b"\x18\x00", b"\x61a"]);
+/// # Ok::<(), naltvigo::Refused>(())
+/// ```
+pub fn items<'a>(input: &'a [u8], options: &Options) -> Items<'a> {
+    Items {
+        left: input,
+        options: *options,
+    }
+}
+
+/// The items of a sequence, as [`items`] gives them. A refusal, whose place counts from its item's
+/// first byte, is the last that comes.
+#[derive(Clone, Debug)]
+pub struct Items<'a> {
+    left: &'a [u8],
+    options: Options,
+}
+
+impl<'a> Iterator for Items<'a> {
+    type Item = Result<&'a [u8], Refused>;
+
+    fn next(&mut self) -> Option<Self::Item> {
+        if self.left.is_empty() {
+            return None;
+        }
+        let (mut taken, mut refusal) = (0, raw::Refusal::default());
+        let status = unsafe {
+            raw::naltvigo_next_valid_raw(
+                self.left.as_ptr(),
+                self.left.len(),
+                self.options.depth(),
+                self.options.bytes(),
+                &mut taken,
+                &mut refusal,
+            )
+        };
+        if status != OK {
+            self.left = &[];
+            return Some(Err(Refused::of(refusal)));
+        }
+        let (item, left) = self.left.split_at(taken as usize);
+        self.left = left;
+        Some(Ok(item))
+    }
+}
+
+fn accepted(status: u32, refusal: raw::Refusal) -> Result<(), Refused> {
+    match status {
+        OK => Ok(()),
+        _ => Err(Refused::of(refusal)),
+    }
+}
+
+// What is written to a buffer of this room, or else of the room that is asked for.
+fn written(
+    room: usize,
+    mut write: impl FnMut(&mut [u8]) -> Result<usize, NotWritten>,
+) -> Result<Vec<u8>, Refused> {
+    let mut out = Vec::new();
+    let mut room = room;
+    loop {
+        if out.try_reserve_exact(room).is_err() {
+            return Err(Refused::at(Reason::Memory, 0));
+        }
+        out.resize(room, 0);
+        match write(&mut out) {
+            Ok(count) => {
+                out.truncate(count);
+                return Ok(out);
+            }
+            Err(NotWritten::TooSmall(needed)) => room = needed,
+            Err(NotWritten::Refused(refused)) => return Err(refused),
+        }
+        out.clear();
+    }
+}

@@ -1,0 +1,173 @@
+//! The events of an item.
+
+use crate::options::Options;
+use crate::raw::{self, EVENT, MORE, OK};
+use crate::reason::Reason;
+use crate::refused::Refused;
+
+/// An event of an item.
+#[derive(Clone, Copy, Debug, PartialEq, Eq)]
+pub struct Event<'a> {
+    /// The offset of its first byte, from the item's first one.
+    pub place: u64,
+    /// How many bytes its argument has: 0, 1, 2, 4 or 8; none without a length, and for a break.
+    pub width: Option<u8>,
+    /// What it is.
+    pub kind: Kind<'a>,
+}
+
+/// What an event is. A length or count is none where the item has indefinite length.
+#[derive(Clone, Copy, Debug, PartialEq, Eq)]
+#[allow(missing_docs)]
+pub enum Kind<'a> {
+    Unsigned(u64),
+    /// The number -1 - n.
+    Negative(u64),
+    Bytes(Option<u64>),
+    Text(Option<u64>),
+    Array(Option<u64>),
+    Map(Option<u64>),
+    Tag(u64),
+    Simple(u8),
+    /// The head of a chunk of a string of indefinite length.
+    Chunk(u64),
+    /// Some bytes of a payload.
+    Piece(&'a [u8]),
+    /// The end of what has indefinite length.
+    Break,
+}
+
+/// What a step of a machine tells.
+#[derive(Clone, Copy, Debug, PartialEq, Eq)]
+pub enum Step<'a> {
+    /// An event is complete.
+    Event(Event<'a>),
+    /// All of the part was used, and more is due.
+    More,
+    /// The item is complete, and all its events were told.
+    Done,
+    /// The item is refused.
+    Refused(Refused),
+}
+
+/// A machine that takes one item in parts of any length, and tells its events. It takes no memory.
+///
+/// Form alone is judged: neither UTF-8, nor repeated keys, nor the canonical spelling.
+#[derive(Clone, Debug)]
+pub struct Machine(raw::Machine);
+
+impl Machine {
+    /// A machine before an item's first byte; of the options it takes the limits.
+    pub fn new(options: &Options) -> Machine {
+        Machine(raw::Machine::new(options))
+    }
+
+    /// How many bytes were taken.
+    pub fn taken(&self) -> u64 {
+        self.0.taken
+    }
+
+    /// Takes bytes from the front of a part until an event is complete, or none is left: how many,
+    /// and what is told. Once the item is complete, or refused, it takes none and answers the same.
+    pub fn step<'a>(&mut self, part: &'a [u8]) -> (usize, Step<'a>) {
+        let (mut used, mut event) = (0, raw::Event::default());
+        let mut refusal = raw::Refusal::default();
+        // SAFETY: as of the calls; the machine is one, since none but the library writes it.
+        let status = unsafe {
+            raw::naltvigo_machine_step_raw(
+                &mut self.0,
+                part.as_ptr(),
+                part.len(),
+                &mut used,
+                &mut event,
+                &mut refusal,
+            )
+        };
+        let told = match status {
+            EVENT => Step::Event(told(&event, &part[..used])),
+            MORE => Step::More,
+            OK => Step::Done,
+            _ => Step::Refused(Refused::of(refusal)),
+        };
+        (used, told)
+    }
+}
+
+// The event as Rust has it, of which these were the last bytes.
+fn told<'a>(event: &raw::Event, used: &'a [u8]) -> Event<'a> {
+    let width = u8::try_from(event.width).ok().filter(|&width| width < 255);
+    let number = event.number;
+    let length = width.map(|_| number);
+    let kind = match event.kind {
+        0 => Kind::Unsigned(number),
+        1 => Kind::Negative(number),
+        2 => Kind::Bytes(length),
+        3 => Kind::Text(length),
+        4 => Kind::Array(length),
+        5 => Kind::Map(length),
+        6 => Kind::Tag(number),
+        7 => Kind::Simple(number as u8),
+        8 => Kind::Chunk(number),
+        9 => Kind::Piece(&used[used.len() - number as usize..]),
+        _ => Kind::Break,
+    };
+    Event {
+        place: event.place,
+        width,
+        kind,
+    }
+}
+
+/// The events of the one item that a slice is.
+///
+/// A refusal is the last that comes: what is wrong with the item's form, a byte behind it, or that
+/// the slice ends within it.
+///
+/// ```
+/// use naltvigo::{Events, Kind, Options};
+///
+/// let kinds: Result<Vec<Kind>, _> =
+///     Events::new(b"\x82\x01\x42ab", &Options::default()).map(|event| Ok(event?.kind)).collect();
+/// let wanted = [Kind::Array(Some(2)), Kind::Unsigned(1), Kind::Bytes(Some(2)), Kind::Piece(b"ab")];
+/// assert_eq!(kinds?, wanted);
+/// # Ok::<(), naltvigo::Refused>(())
+/// ```
+#[derive(Clone, Debug)]
+pub struct Events<'a> {
+    machine: Machine,
+    left: &'a [u8],
+    ended: bool,
+}
+
+impl<'a> Events<'a> {
+    /// The events of this slice; of the options it takes the limits.
+    pub fn new(input: &'a [u8], options: &Options) -> Events<'a> {
+        Events {
+            machine: Machine::new(options),
+            left: input,
+            ended: false,
+        }
+    }
+}
+
+impl<'a> Iterator for Events<'a> {
+    type Item = Result<Event<'a>, Refused>;
+
+    fn next(&mut self) -> Option<Self::Item> {
+        if self.ended {
+            return None;
+        }
+        let (used, told) = self.machine.step(self.left);
+        self.left = &self.left[used..];
+        let taken = self.machine.taken();
+        self.ended = !matches!(told, Step::Event(_));
+        match told {
+            Step::Event(event) => Some(Ok(event)),
+            Step::Refused(refused) => Some(Err(refused)),
+            // all was offered, so the item is cut off
+            Step::More => Some(Err(Refused::at(Reason::Truncated, taken))),
+            Step::Done if self.left.is_empty() => None,
+            Step::Done => Some(Err(Refused::at(Reason::Trailing, taken))),
+        }
+    }
+}

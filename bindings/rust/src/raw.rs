@@ -1,0 +1,145 @@
+//! The exports of `naltvigo.h`. `scripts/header.py` compares the numbers with it.
+
+use crate::options::Options;
+
+pub const OK: u32 = 0;
+pub const TOO_SMALL: u32 = 2;
+pub const DIFFERENT: u32 = 6;
+pub const EVENT: u32 = 7;
+pub const MORE: u32 = 8;
+
+pub const DEPTH_MAX: usize = 256;
+
+#[repr(C)]
+#[derive(Default)]
+pub struct Refusal {
+    pub reason: u32,
+    pub place: u64,
+    pub read: u64,
+}
+
+#[repr(C)]
+#[derive(Default)]
+pub struct Event {
+    pub place: u64,
+    pub number: u64,
+    pub kind: u32,
+    pub width: u32,
+}
+
+#[repr(C)]
+#[derive(Clone, Copy, Debug)]
+pub struct Frame {
+    pub left: u64,
+    pub kind: u8,
+}
+
+#[repr(C)]
+#[derive(Clone, Debug)]
+pub struct Machine {
+    pub bytes: u64,
+    pub taken: u64,
+    pub told: u64,
+    pub number: u64,
+    pub place: u64,
+    pub depth: u16,
+    pub open: u16,
+    pub position: u8,
+    pub kind: u8,
+    pub width: u8,
+    pub left: u8,
+    pub chunk: u8,
+    pub reason: u8,
+    pub frames: [Frame; DEPTH_MAX],
+}
+
+impl Machine {
+    pub fn new(options: &Options) -> Machine {
+        let mut machine = Machine {
+            bytes: 0,
+            taken: 0,
+            told: 0,
+            number: 0,
+            place: 0,
+            depth: 0,
+            open: 0,
+            position: 0,
+            kind: 0,
+            width: 0,
+            left: 0,
+            chunk: 0,
+            reason: 0,
+            frames: [Frame { left: 0, kind: 0 }; DEPTH_MAX],
+        };
+        // SAFETY: the pointer is that of a whole machine. Options are in range, so it answers OK.
+        unsafe { naltvigo_machine_start_raw(options.depth(), options.bytes(), &mut machine) };
+        machine
+    }
+}
+
+extern "C" {
+    pub fn naltvigo_version_raw() -> u32;
+    pub fn naltvigo_canonicalise_raw(
+        input: *const u8,
+        input_length: usize,
+        order: u32,
+        depth: u32,
+        bytes: u64,
+        out: *mut u8,
+        out_length: usize,
+        needed: *mut usize,
+        refusal: *mut Refusal,
+    ) -> u32;
+    pub fn naltvigo_check_canonical_raw(
+        input: *const u8,
+        input_length: usize,
+        order: u32,
+        depth: u32,
+        bytes: u64,
+        refusal: *mut Refusal,
+    ) -> u32;
+    pub fn naltvigo_check_valid_raw(
+        input: *const u8,
+        input_length: usize,
+        depth: u32,
+        bytes: u64,
+        refusal: *mut Refusal,
+    ) -> u32;
+    pub fn naltvigo_next_valid_raw(
+        input: *const u8,
+        input_length: usize,
+        depth: u32,
+        bytes: u64,
+        taken: *mut u64,
+        refusal: *mut Refusal,
+    ) -> u32;
+    pub fn naltvigo_compare_raw(
+        left: *const u8,
+        left_length: usize,
+        right: *const u8,
+        right_length: usize,
+        depth: u32,
+        bytes: u64,
+        side: *mut u32,
+        refusal: *mut Refusal,
+    ) -> u32;
+    pub fn naltvigo_diagnostic_raw(
+        input: *const u8,
+        input_length: usize,
+        depth: u32,
+        bytes: u64,
+        out: *mut u8,
+        out_length: usize,
+        needed: *mut usize,
+        refusal: *mut Refusal,
+    ) -> u32;
+    pub fn naltvigo_machine_start_raw(depth: u32, bytes: u64, machine: *mut Machine) -> u32;
+    pub fn naltvigo_machine_step_raw(
+        machine: *mut Machine,
+        input: *const u8,
+        input_length: usize,
+        used: *mut usize,
+        event: *mut Event,
+        refusal: *mut Refusal,
+    ) -> u32;
+}

@@ -1,0 +1,142 @@
+//! What no row of the table says.
+
+use naltvigo::{
+    canonicalise, check, check_canonical, diagnostic, items, library_version, same, Events, Kind,
+    Machine, Options, Order, Reason, Refused, Side, Step,
+};
+use std::thread;
+
+fn refused(reason: Reason, place: u64, read: u64) -> Refused {
+    Refused {
+        reason,
+        place,
+        read,
+    }
+}
+
+#[test]
+fn nothing_at_all() {
+    let options = Options::default();
+    let truncated = refused(Reason::Truncated, 0, 0);
+    assert_eq!(canonicalise(b"", &options), Err(truncated));
+    assert_eq!(check(b"", &options), Err(truncated));
+    assert_eq!(check_canonical(b"", &options), Err(truncated));
+    assert_eq!(diagnostic(b"", &options), Err(truncated));
+    assert_eq!(same(b"", b"\x00", &options), Err((Side::Left, truncated)));
+    assert_eq!(same(b"\x00", b"", &options), Err((Side::Right, truncated)));
+    assert_eq!(items(b"", &options).count(), 0);
+    assert_eq!(Events::new(b"", &options).next(), Some(Err(truncated)));
+}
+
+#[test]
+fn defaults() {
+    let options = Options::default();
+    let tower = |levels: usize| [vec![0x81; levels - 1], vec![0x80]].concat();
+    assert_eq!(check(&tower(64), &options), Ok(()));
+    assert_eq!(
+        check(&tower(65), &options),
+        Err(refused(Reason::TooDeep, 64, 65))
+    );
+    // {-1: 0, 100: 0}
+    let keys = b"\xa2\x20\x00\x18\x64\x00";
+    assert_eq!(
+        check_canonical(keys, &options).unwrap_err().reason,
+        Reason::KeyOrder
+    );
+    assert_eq!(
+        check_canonical(keys, &options.with_order(Order::LengthFirst)),
+        Ok(())
+    );
+    assert!(options.with_limits(256, 1 << 62).is_some());
+    assert!(options.with_limits(257, 1).is_none());
+    assert!(options.with_limits(1, (1 << 62) + 1).is_none());
+}
+
+// An answer that is longer than its input.
+#[test]
+fn longer_answers() {
+    let given = [vec![0x9f], vec![0; 70_000], vec![0xff]].concat();
+    let answer = canonicalise(&given, &Options::default()).unwrap();
+    assert_eq!(answer[..5], [0x9a, 0x00, 0x01, 0x11, 0x70]);
+    assert_eq!(answer.len(), 70_005);
+    // simple(255), of which each has 11 letters
+    let simples = [vec![0x98, 100], [0xf8, 0xff].repeat(100)].concat();
+    let text = diagnostic(&simples, &Options::default()).unwrap();
+    assert_eq!(text, format!("[{}]", ["simple(255)"; 100].join(", ")));
+}
+
+#[test]
+fn a_sequence_ends_at_a_refusal() {
+    let mut found = items(b"\x18\x00\xff\x00", &Options::default());
+    assert_eq!(found.next(), Some(Ok(&b"\x18\x00"[..])));
+    assert_eq!(found.next(), Some(Err(refused(Reason::StrayBreak, 0, 1))));
+    assert_eq!(found.next(), None);
+}
+
+#[test]
+fn events_and_what_follows_them() {
+    let options = Options::default();
+    // {_ "a": (_ h'01')}, and a byte
+    let mut events = Events::new(b"\xbf\x61a\x5f\x41\x01\xff\xff\x00", &options);
+    let mut next = || {
+        events
+            .next()
+            .map(|event| event.map(|it| (it.place, it.width, it.kind)))
+    };
+    assert_eq!(next(), Some(Ok((0, None, Kind::Map(None)))));
+    assert_eq!(next(), Some(Ok((1, Some(0), Kind::Text(Some(1))))));
+    assert_eq!(next(), Some(Ok((2, Some(0), Kind::Piece(b"a")))));
+    assert_eq!(next(), Some(Ok((3, None, Kind::Bytes(None)))));
+    assert_eq!(next(), Some(Ok((4, Some(0), Kind::Chunk(1)))));
+    assert_eq!(next(), Some(Ok((5, Some(0), Kind::Piece(b"\x01")))));
+    assert_eq!(next(), Some(Ok((6, None, Kind::Break))));
+    assert_eq!(next(), Some(Ok((7, None, Kind::Break))));
+    assert_eq!(next(), Some(Err(refused(Reason::Trailing, 8, 8))));
+    assert_eq!(next(), None);
+    let last = Events::new(b"\x82\x01", &options).last();
+    assert_eq!(last, Some(Err(refused(Reason::Truncated, 2, 2))));
+    let short = options.with_limits(1, 2).unwrap();
+    let last = Events::new(b"\x82\x01", &short).last();
+    assert_eq!(last, Some(Err(refused(Reason::TooLong, 2, 2))));
+}
+
+#[test]
+fn a_machine_by_single_bytes() {
+    let mut machine = Machine::new(&Options::default());
+    assert_eq!(machine.step(b"\x19"), (1, Step::More));
+    let copy = machine.clone();
+    for mut machine in [machine, copy] {
+        assert_eq!(machine.step(b"\x01"), (1, Step::More));
+        let (used, told) = machine.step(b"\x00\x00");
+        assert_eq!(used, 1);
+        assert!(matches!(told, Step::Event(event) if event.kind == Kind::Unsigned(256)));
+        assert_eq!(machine.step(b"\x00"), (0, Step::Done));
+        assert_eq!(machine.taken(), 3);
+    }
+}
+
+#[test]
+fn texts() {
+    let error = check(b"\xf9\x3e\x00", &Options::default()).unwrap_err();
+    let wanted = "refused 5 Float at 0: A floating-point number begins here; floats are not part of this profile.";
+    assert_eq!(error.to_string(), wanted);
+    assert_eq!(
+        (library_version() >> 16).to_string(),
+        env!("CARGO_PKG_VERSION_MAJOR")
+    );
+}
+
+#[test]
+fn threads() {
+    let work = |number: u8| {
+        for turn in 0..2000 {
+            let given = [vec![0x9f], vec![number; turn % 20], vec![0xff]].concat();
+            let answer = canonicalise(&given, &Options::default()).unwrap();
+            assert_eq!(
+                answer,
+                [vec![0x80 + (turn % 20) as u8], vec![number; turn % 20]].concat()
+            );
+        }
+    };
+    thread::scope(|scope| (1..9).for_each(|number| drop(scope.spawn(move || work(number)))));
+}

@@ -1,0 +1,177 @@
+//! Each row of the repository's conformance table, by each call that it speaks of. The table's own
+//! text says what its columns are.
+
+use naltvigo::{
+    canonicalise, canonicalise_into, check, check_canonical, diagnostic, items, same, NotWritten,
+    Options, Order, Reason, Refused, Side,
+};
+use std::fs;
+
+const TABLE: &str = concat!(
+    env!("CARGO_MANIFEST_DIR"),
+    "/../../crates/cbor_reader_tests/src/tests/conformance_table.rt"
+);
+
+// The lines of the table with so many columns.
+fn lines(columns: usize) -> Vec<Vec<String>> {
+    let text = fs::read_to_string(TABLE).expect("the table of the repository");
+    let inner = |line: &str| {
+        let line = line.strip_prefix("    ")?.strip_suffix(',')?;
+        let raw = line
+            .strip_prefix("r#\"")
+            .and_then(|it| it.strip_suffix("\"#"));
+        raw.or_else(|| line.strip_prefix('"')?.strip_suffix('"'))
+            .map(str::to_owned)
+    };
+    let lines = text.lines().filter_map(inner);
+    let split = |line: String| {
+        let parts: Vec<String> = line
+            .splitn(5, '|')
+            .map(|part| part.trim().to_owned())
+            .collect();
+        (parts.len() == columns).then_some(parts)
+    };
+    lines.filter_map(split).collect()
+}
+
+// The bytes that hex digits spell; `3*00` stands for 000000.
+fn unhex(column: &str) -> Vec<u8> {
+    let digits: String = column
+        .split_whitespace()
+        .map(|word| match word.split_once('*') {
+            Some((count, digits)) => digits.repeat(count.parse().unwrap()),
+            None => word.to_owned(),
+        })
+        .collect();
+    let byte = |at| u8::from_str_radix(&digits[at..at + 2], 16).unwrap();
+    (0..digits.len()).step_by(2).map(byte).collect()
+}
+
+// The number, the place and the count of `12 Trailing at 1, read 1`.
+fn refusal(column: &str) -> Option<(u8, u64, u64)> {
+    let (number, rest) = column.split_once(' ')?;
+    let (_, rest) = rest.split_once(" at ")?;
+    let (place, read) = rest.split_once(", read ")?;
+    Some((
+        number.parse().ok()?,
+        place.parse().ok()?,
+        read.parse().ok()?,
+    ))
+}
+
+fn numbers(refused: Refused) -> (u8, u64, u64) {
+    (refused.reason.number(), refused.place, refused.read)
+}
+
+fn limit(limits: &str, name: &str) -> Option<u64> {
+    let mut words = limits.split_whitespace().skip_while(|word| *word != name);
+    words.nth(1)?.trim_end_matches(',').parse().ok()
+}
+
+fn one_row(row: &[String], order: Order, place: usize) {
+    let given = unhex(&row[0]);
+    let depth = limit(&row[1], "depth").unwrap_or(256) as u16;
+    let bytes = limit(&row[1], "bytes").unwrap_or(1 << 20);
+    let options = Options::default()
+        .with_limits(depth, bytes)
+        .unwrap()
+        .with_order(order);
+    let half = |column: &str| {
+        let parts: Vec<&str> = column.split('/').map(str::trim).collect();
+        parts[place.min(parts.len() - 1)].to_owned()
+    };
+    let (plain, strict) = (half(&row[2]), half(&row[3]));
+    match refusal(&plain) {
+        Some(wanted) => {
+            assert_eq!(
+                canonicalise(&given, &options).map_err(numbers),
+                Err(wanted),
+                "{row:?}"
+            );
+            let checked = check(&given, &options).map_err(numbers);
+            // the limit on canonical bytes is that of canonicalise alone
+            let valid = wanted.0 == Reason::CanonicalTooLong.number();
+            assert_eq!(checked, if valid { Ok(()) } else { Err(wanted) }, "{row:?}");
+        }
+        None => {
+            let wanted = if plain == "same" {
+                given.clone()
+            } else {
+                unhex(&plain)
+            };
+            assert_eq!(
+                canonicalise(&given, &options),
+                Ok(wanted.clone()),
+                "{row:?}"
+            );
+            assert_eq!(check(&given, &options), Ok(()), "{row:?}");
+            assert_eq!(same(&given, &wanted, &options), Ok(true), "{row:?}");
+            assert_eq!(check_canonical(&wanted, &options), Ok(()), "{row:?}");
+            assert!(diagnostic(&given, &options).is_ok());
+            let twice = [&given[..], &given[..]].concat();
+            let found: Result<Vec<&[u8]>, _> = items(&twice, &options).collect();
+            assert_eq!(found, Ok(vec![&given[..]; 2]), "{row:?}");
+            for room in [wanted.len() - 1, wanted.len(), wanted.len() + 3] {
+                let mut out = vec![7; room];
+                let answer = canonicalise_into(&given, &options, &mut out);
+                if room < wanted.len() {
+                    assert_eq!(answer, Err(NotWritten::TooSmall(wanted.len())));
+                    assert!(out.iter().all(|&byte| byte == 7));
+                } else {
+                    assert_eq!(answer, Ok(wanted.len()));
+                    assert_eq!(out[..wanted.len()], wanted);
+                    assert!(out[wanted.len()..].iter().all(|&byte| byte == 7));
+                }
+            }
+        }
+    }
+    let found = check_canonical(&given, &options).map_err(numbers);
+    let wanted = match strict
+        .strip_prefix("taken ")
+        .map(|count| count.parse::<u64>().unwrap())
+    {
+        Some(count) if count == given.len() as u64 => Ok(()),
+        Some(count) => Err((12, count, count)),
+        None if strict.is_empty() && plain == "same" => Ok(()),
+        None => Err(refusal(if strict.is_empty() { &plain } else { &strict }).unwrap()),
+    };
+    assert_eq!(found, wanted, "{row:?}");
+}
+
+#[test]
+fn rows() {
+    let rows = lines(5);
+    assert!(rows.len() > 200);
+    for row in &rows {
+        one_row(row, Order::Bytewise, 0);
+        one_row(row, Order::LengthFirst, 1);
+    }
+}
+
+#[test]
+fn pairs() {
+    let pairs = lines(4);
+    assert!(pairs.len() > 4);
+    let options = Options::default().with_limits(256, 1 << 20).unwrap();
+    for pair in &pairs {
+        let wanted = match pair[2].as_str() {
+            "same" => Ok(true),
+            "different" => Ok(false),
+            answer => {
+                let (side, rest) = answer.split_once(' ').unwrap();
+                let side = if side == "left" {
+                    Side::Left
+                } else {
+                    Side::Right
+                };
+                Err((side, refusal(rest).unwrap()))
+            }
+        };
+        let found = same(&unhex(&pair[0]), &unhex(&pair[1]), &options);
+        assert_eq!(
+            found.map_err(|(side, refused)| (side, numbers(refused))),
+            wanted,
+            "{pair:?}"
+        );
+    }
+}

@@ -1,0 +1,94 @@
+//! The item at the front of a buffer, as in a sequence of items (RFC 8742).
+
+ghost use Rattle.std.specs.Prelude.{◌≡◌, ◌≢◌, ◌↔◌, ◌⊎◌, ◌<◌, ◌≤◌};
+ghost use Rattle.cbor_head.specs.Complaint.{plain, strict};
+ghost use Rattle.cbor_head.specs.Limits.{bounds, AreBounds};
+ghost use Rattle.cbor_judging.specs.Readers.{HasNoCanonicalFront, IsCanonicalFront, IsRead};
+ghost use Rattle.naltvigo.specs.Settings.{key_order};
+ghost use Rattle.naltvigo.specs.Sequence.{FrontLacksMemory, IsNoCanonicalFront, IsNoValidFront};
+
+use crate::settings::{limits_of, order_numbered};
+use crate::status::{BAD_LIMITS, BAD_ORDER, NO_MEMORY, NaltvigoRefusal, OK, REFUSED, tell, told};
+use cbor_reader::{check_canonical, check_valid};
+use std::alloc::Global;
+
+/// Whether `input` begins with one valid item; `taken` becomes the count of its bytes, and 0 where
+/// the answer is not `OK`.
+#[unsafe(no_mangle)]
+pub extern "C" fn naltvigo_next_valid_raw(
+    alloc: Global,
+    input: &[u8],
+    depth: u32,
+    bytes: u64,
+    taken: &mut u64,
+    refusal: &mut NaltvigoRefusal,
+) -> u32
+    ensures accepted { result ≡ OK → IsRead depth bytes plain input.now taken.new }
+    ensures refused { result ≡ REFUSED → IsNoValidFront depth bytes input.now refusal.new }
+    ensures no_memory { result ≡ NO_MEMORY → FrontLacksMemory depth bytes input.now refusal.new }
+    ensures bad_limits { result ≡ BAD_LIMITS → ¬ AreBounds (bounds depth bytes) }
+    ensures in_range { result ≢ BAD_LIMITS → AreBounds (bounds depth bytes) }
+    ensures statuses { (result ≡ OK) ⊎ (result ≡ REFUSED)
+        ⊎ (result ≡ NO_MEMORY) ⊎ (result ≡ BAD_LIMITS) }
+    ensures no_count { result ≢ OK → taken.new ≡ 0 }
+    ensures untold { result ≢ REFUSED → result ≢ NO_MEMORY → refusal.new ≡ refusal.old }
+{
+    *taken = 0;
+    let Some(limits) = limits_of(depth, bytes) else {
+        return BAD_LIMITS;
+    };
+    match check_valid(alloc, input, limits) {
+        Ok(count) => {
+            *taken = count;
+            OK
+        }
+        Err(reason) => tell(reason, refusal),
+    }
+}
+
+/// Whether `input` begins with one valid item in its canonical bytes; `taken` becomes their count,
+/// and 0 where the answer is not `OK`. It takes no memory.
+#[unsafe(no_mangle)]
+pub extern "C" fn naltvigo_next_canonical_raw(
+    input: &[u8],
+    order: u32,
+    depth: u32,
+    bytes: u64,
+    taken: &mut u64,
+    refusal: &mut NaltvigoRefusal,
+) -> u32
+    ensures accepted { result ≡ OK
+        → IsRead depth bytes (strict (key_order order)) input.now taken.new }
+    ensures canonical { result ≡ OK
+        → IsCanonicalFront depth bytes (key_order order) input.now taken.new }
+    ensures refused { result ≡ REFUSED
+        → IsNoCanonicalFront depth bytes (key_order order) input.now refusal.new }
+    ensures no_canonical { result ≡ REFUSED
+        → HasNoCanonicalFront depth bytes (key_order order) input.now }
+    ensures bad_order { (result ≡ BAD_ORDER) ↔ (1 < order) }
+    ensures bad_limits { result ≡ BAD_LIMITS → ¬ AreBounds (bounds depth bytes) }
+    ensures in_range { result ≢ BAD_ORDER → result ≢ BAD_LIMITS
+        → (order ≤ 1) × AreBounds (bounds depth bytes) }
+    ensures statuses { (result ≡ OK) ⊎ (result ≡ REFUSED)
+        ⊎ (result ≡ BAD_ORDER) ⊎ (result ≡ BAD_LIMITS) }
+    ensures no_count { result ≢ OK → taken.new ≡ 0 }
+    ensures untold { result ≢ REFUSED → refusal.new ≡ refusal.old }
+{
+    *taken = 0;
+    let Some(order) = order_numbered(order) else {
+        return BAD_ORDER;
+    };
+    let Some(limits) = limits_of(depth, bytes) else {
+        return BAD_LIMITS;
+    };
+    match check_canonical(input, limits, order) {
+        Ok(count) => {
+            *taken = count;
+            OK
+        }
+        Err(reason) => {
+            *refusal = told(reason);
+            REFUSED
+        }
+    }
+}

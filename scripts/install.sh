@@ -1,0 +1,65 @@
+#!/usr/bin/env bash
+# Installs the program and the library for C: scripts/install.sh [PREFIX]
+#
+# PREFIX (/usr/local for root, else ~/.local) gets bin/cborc, its man page and completions, include/naltvigo.h, both
+# libraries, what pkg-config and CMake ask for, and a list of all that in share/naltvigo, by which scripts/uninstall.sh
+# removes it. Both are proved and built first, which takes the kit's rt; PROGRAM and DIST name a program and a folder as
+# build_c.sh makes it that stand built. With DESTDIR all goes below that folder, as it is to stand at PREFIX.
+set -euo pipefail
+
+root=$(cd "$(dirname "${BASH_SOURCE[0]}")/.." && pwd)
+[ "$(id -u)" = 0 ] && prefix=/usr/local || prefix=$HOME/.local
+prefix=${1:-$prefix}
+case $prefix in /*) ;; *) prefix=$PWD/$prefix ;; esac
+prefix=${prefix%/}
+to=${DESTDIR:-}$prefix
+room=$(mktemp -d)
+trap 'rm -rf "$room"' EXIT
+
+program=${PROGRAM:-}
+dist=${DIST:-}
+if [ -z "$program" ] || [ -z "$dist" ]; then
+    command -v rt >/dev/null || { echo "install: rt, the prover of a Rattle kit, is not on the path; the README says what it is" >&2; exit 1; }
+fi
+if [ -z "$program" ]; then
+    (cd "$root/crates/cborc" && rt run -- --version) >"$room/log" 2>&1 || { cat "$room/log" >&2; exit 1; }
+    program=$root/crates/cborc/out/cborc
+fi
+if [ -z "$dist" ]; then
+    dist=$room/dist
+    "$root/scripts/build_c.sh" "$dist"
+fi
+
+files=()
+put() { # FILE TO [MODE]
+    install -D -m "${3:-644}" "$1" "$to/$2"
+    files+=("$2")
+}
+put "$program" bin/cborc 755
+put "$root/share/cborc.1" share/man/man1/cborc.1
+put "$root/share/cborc.bash" share/bash-completion/completions/cborc
+put "$root/share/_cborc" share/zsh/site-functions/_cborc
+put "$root/share/cborc.fish" share/fish/vendor_completions.d/cborc.fish
+for file in README.md CHANGELOG.md LICENSE-MIT LICENSE-APACHE docs/C.md; do
+    put "$root/$file" "share/doc/naltvigo/${file##*/}"
+done
+while IFS= read -r file; do
+    case $file in *.so.*.*.*) mode=755 ;; *) mode=644 ;; esac
+    put "$dist/$file" "$file" $mode
+done < <(cd "$dist" && find . -type f | sed 's|^\./||' | sort)
+while IFS= read -r file; do
+    ln -sfn "$(readlink "$dist/$file")" "$to/$file"
+    files+=("$file")
+done < <(cd "$dist" && find . -type l | sed 's|^\./||' | sort)
+put "$root/scripts/uninstall.sh" share/naltvigo/uninstall.sh 755
+printf '%s\n' "${files[@]}" share/naltvigo/files >"$to/share/naltvigo/files"
+[ -z "${DESTDIR:-}" ] || exit 0
+
+echo "installed below $prefix; scripts/uninstall.sh $prefix removes it"
+case :$PATH: in *":$prefix/bin:"*) ;; *) echo "$prefix/bin is not in PATH" ;; esac
+PATH=$PATH:/sbin:/usr/sbin
+if command -v ldconfig >/dev/null && ldconfig -v -N -X 2>/dev/null | grep -q "^$prefix/lib:"; then
+    ldconfig 2>/dev/null || echo "run ldconfig as root, so that the loader finds the shared object"
+else
+    echo "the loader does not look in $prefix/lib: link with -Wl,-rpath,$prefix/lib, or with the archive"
+fi

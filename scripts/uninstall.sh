@@ -1,0 +1,27 @@
+#!/usr/bin/env bash
+# Removes what scripts/install.sh, or an archive, put below a prefix: scripts/uninstall.sh [PREFIX]
+#
+# PREFIX is as with install.sh; as PREFIX/share/naltvigo/uninstall.sh it needs none. Nothing else is touched, and folders
+# only where they are empty then.
+set -euo pipefail
+
+here=$(cd "$(dirname "${BASH_SOURCE[0]}")" && pwd)
+if [ -e "$here/files" ]; then
+    prefix=${here%/share/naltvigo}
+else
+    [ "$(id -u)" = 0 ] && prefix=/usr/local || prefix=$HOME/.local
+fi
+prefix=${1:-$prefix}
+list=$prefix/share/naltvigo/files
+[ -e "$list" ] || { echo "uninstall: nothing is installed below $prefix: $list is not there" >&2; exit 1; }
+mapfile -t files <"$list"
+for file in "${files[@]}"; do
+    rm -f "$prefix/$file"
+done
+for file in "${files[@]}"; do
+    folder=${file%/*}
+    while [ "$folder" != "$file" ] && rmdir "$prefix/$folder" 2>/dev/null; do
+        case $folder in */*) folder=${folder%/*} ;; *) break ;; esac
+    done
+done
+echo "removed from $prefix"

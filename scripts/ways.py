@@ -1,0 +1,192 @@
+#!/usr/bin/env python3
+"""Writes the table 'The way of a byte' of docs/ARCHITECTURE.md: which files a call goes through, from the sources.
+
+    scripts/ways.py            writes it, between its two marks
+    scripts/ways.py --check    fails where it is not what this would write
+
+A way follows calls of functions by the names that a file brings in, and of methods where one type in sight has a method of
+that name; so a method that several types have is not followed.
+"""
+
+import re
+import sys
+
+from proved import CRATES, ITEM, ROOT, behind, crates
+
+# The calls whose ways are shown: a crate that hands the call out is not named, since crates are split.
+CALLS = [
+    "canonicalise", "check_valid", "check_canonical", "same_meaning", "read_tree", "read_strict", "Sequence::next",
+    "StrictReader::next", "Machine::step", "EventReader::next", "SliceEvents::next", "Tree::of", "encode",
+    "CanonBuilder::end", "TreeBuilder::end", "diagnostic", "listing", "explain", "perform", "run",
+]
+
+# Heads, limits and reasons: each way takes them.
+EVERYWHERE = "cbor_head"
+
+BEGIN, END = "<!-- written by scripts/ways.py -->", "<!-- end -->"
+
+
+class File:
+    """A source file: the functions and types that it has, and what its names stand for."""
+
+    def __init__(self, crate, path):
+        self.crate, self.path = crate, path
+        self.parts = path.relative_to(CRATES / crate / "src").with_suffix("").parts
+        self.text = path.read_text(encoding="utf-8")
+        self.plain = re.sub(r"//[^\n]*|\"(?:[^\"\\]|\\.)*\"", "", self.text)
+        self.types = set(re.findall(r"(?m)^(?:pub(?:\(crate\))? )?(?:struct|enum|trait) (\w+)", self.plain))
+        self.bodies, self.brings = {}, {}
+        self.read_functions()
+        for used in re.findall(r"(?m)^(?:pub(?:\(\w+\))? )?use ([^;]+);", self.plain):
+            self.bring(re.sub(r"\s+", " ", used))
+
+    def bring(self, used):
+        head, _, inner = used.partition("{")
+        for item in inner.rstrip("} ").split(",") if inner else [used.rpartition("::")[2]]:
+            item = item.strip()
+            name, _, alias = item.partition(" as ")
+            if name:
+                self.brings[alias or name.rpartition("::")[2]] = (head if inner else used.rpartition("::")[0] + "::") + name
+
+    def read_functions(self):
+        place, owner, end = 0, None, -1
+        while True:
+            match = ITEM.search(self.plain, place)
+            if not match:
+                return
+            place = match.end()
+            if match.start() >= end:
+                owner = None
+            if match["impl"] or match["trait"]:
+                end = behind(self.plain, match.end() - 1)
+                of = re.sub(r"^(unsafe )?impl\s*(<[^{]*?>)?\s*", "", (match["impl"] or "").replace("\n", " "))
+                of = of.split(" for ")[-1]
+                owner = match["trait"] or re.match(r"&?(?:mut )?(\w+)", of)[1]
+                continue
+            start = self.body_from(match.end())
+            if start is not None:
+                place = behind(self.plain, start)
+                # of several functions of one name the first stands
+                self.bodies.setdefault((owner, match["name"]), self.plain[start:place])
+
+    def body_from(self, place):
+        """Where the body begins of a function whose signature goes on here, behind its clauses."""
+        clause = re.compile(r"\b(?:requires|ensures)\b\*?\s*\w*\s*\{|\bghost\b[^;{]*[;{]|\{|;")
+        while True:
+            match = clause.search(self.plain, place)
+            if not match or match[0] == ";":
+                return None
+            if match[0] == "{":
+                return match.end() - 1
+            place = match.end() if match[0].endswith(";") else behind(self.plain, match.end() - 1)
+
+
+class Sources:
+    def __init__(self):
+        self.files = {}
+        for crate in crates():
+            for path in sorted((CRATES / crate / "src").rglob("*.rt")):
+                file = File(crate, path)
+                if not any("test" in part for part in file.parts):
+                    self.files[crate, file.parts] = file
+
+    def named(self, file, name):
+        """The file that has what a name stands for, or none."""
+        if name in file.types or (None, name) in file.bodies:
+            return file
+        return self.at(file, file.brings[name]) if name in file.brings else None
+
+    def at(self, file, path):
+        """The file that a path leads to."""
+        words = [word for word in path.replace(" ", "").split("::") if word]
+        if (file.crate, (words[0],)) in self.files:
+            words.insert(0, "crate")
+        crate = file.crate if words[0] in ("crate", "super", "self") else words[0]
+        if crate not in {key[0] for key in self.files}:
+            return None
+        name, modules = words[-1], tuple(words[1:-1])
+        if words[0] == "super":
+            modules = file.parts[:-2] + modules
+        found = self.files.get((crate, modules)) or self.files.get((crate, ("lib",)))
+        return self.named(found, name) if found and found is not file else None
+
+    def way(self, file, owner, name):
+        """The files of its crate in the order in which a function and what it calls reach them; and what these call or use
+        of other crates."""
+        crate, order, others, seen, waiting = file.crate, [], [], set(), [(file, owner, name)]
+        while waiting:
+            file, owner, name = waiting.pop()
+            if (file.path, owner, name) in seen:
+                continue
+            seen.add((file.path, owner, name))
+            if file.crate != crate:
+                other = (file.crate, owner or name)
+                others += [other] if other not in others and file.crate != EVERYWHERE else []
+                continue
+            if file not in order:
+                order.append(file)
+            waiting += reversed(self.called(file, owner, file.bodies[owner, name]))
+        return order, others
+
+    def called(self, file, owner, body):
+        in_sight = {word: self.named(file, word) for word in {*file.brings, *file.types}}
+        found = []
+        for dot, path, name in re.findall(r"(\.)?((?:\w+::)*)(\w+)(?:::<[^>]*>)?\(", body):
+            if dot:
+                own = (owner, name) in file.bodies and re.search(rf"\bself\.{name}\(", body)
+                others = [(of, word) for word, of in in_sight.items() if of and word != owner and (word, name) in of.bodies]
+                holders = [(file, owner)] if own else others
+                if len(holders) == 1:
+                    found.append((holders[0][0], holders[0][1], name))
+                continue
+            if path:
+                word = path.split("::")[-2]
+                word = owner if word == "Self" else word
+                of = self.named(file, word) if word else None
+                if of and (word, name) in of.bodies:
+                    found.append((of, word, name))
+                continue
+            of = self.named(file, name)
+            if of and (None, name) in of.bodies:
+                found.append((of, None, name))
+        return found
+
+    def start(self, call):
+        owner, _, name = call.rpartition("::")
+        for file in self.files.values():
+            if (owner or None, name) in file.bodies and re.search(rf"pub fn {name}\b", file.plain):
+                return file, owner or None, name
+        return None
+
+
+def shown(order, others):
+    """The files of the crate, and by crate what is used of others."""
+    by_crate = {}
+    for crate, name in others:
+        by_crate.setdefault(crate, []).append(f"`{name}`")
+    files = ", ".join("/".join(file.parts) for file in order)
+    return f"`{order[0].crate}`: {files} | {'; '.join(f'{crate}: ' + ', '.join(names) for crate, names in by_crate.items())}"
+
+
+def main():
+    sources = Sources()
+    lines = [BEGIN, "", "| Call | Files, in the order in which its calls reach them | Of other crates |", "|---|---|---|"]
+    for call in CALLS:
+        start = sources.start(call)
+        if start:
+            lines.append(f"| `{call}` | {shown(*sources.way(*start))} |")
+    path = ROOT / "docs" / "ARCHITECTURE.md"
+    text = path.read_text(encoding="utf-8")
+    before, _, rest = text.partition(BEGIN)
+    _, _, after = rest.partition(END)
+    made = before + "\n".join(lines) + "\n\n" + END + after
+    if "--check" not in sys.argv:
+        path.write_text(made, encoding="utf-8")
+    elif made != text:
+        print("docs/ARCHITECTURE.md: the way of a byte is not what scripts/ways.py writes: run it")
+        return 1
+    return 0
+
+
+if __name__ == "__main__":
+    sys.exit(main())
