@@ -115,8 +115,8 @@ class Tree:
         return [it for it in found if it is not None]
 
     def text(self, definition, opened):
-        """A definition's text. A field `inner` of an inner type is left out, but where it is opened: a call's
-        contract gives it and takes it, and no reader opens it."""
+        """A definition's text. A field `inner`, of an inner type or of machinery's, is left out, but where it is opened:
+        a call's contract gives it and takes it, and no reader opens it."""
         if opened:
             return "\n".join(definition.lines)
         kept, skipping = [], None
@@ -133,7 +133,7 @@ class Tree:
         if not line.strip().startswith("pub inner :"):
             return False
         kind = self.named(self.modules[definition.module], line.partition(":")[2].split()[0])
-        return bool(kind) and kind[0].inner()
+        return bool(kind) and (kind[0].inner() or kind[0].module.split(".")[1] in MACHINERY)
 
     def closure(self, functions, opened=False, proved=()):
         """Each definition that the contracts reach, with what it was reached from; fields `inner` opened or not. With
@@ -241,7 +241,7 @@ def faults_of_places(tree, public, private, proved):
             yield f"{definition.at()} is reached from {reached} alone, and stands on the line of belief"
         for line in definition.lines:
             if line.strip().startswith("pub inner :") and not tree.is_inner_field(definition, line):
-                yield f"{definition.at()} has a field inner whose type does not stand in inner/"
+                yield f"{definition.at()} has a field inner whose type stands neither in inner/ nor in machinery"
 
 
 def faults_of_crates(tree):
