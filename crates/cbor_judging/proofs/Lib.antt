@@ -22,6 +22,7 @@ pub mod OpenMaps
 pub mod OpenSteps
 pub mod OpenWalk
 pub mod Payloads
+pub mod Placed
 pub mod Places
 pub mod Reasons
 pub mod Scalars

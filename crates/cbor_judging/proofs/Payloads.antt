@@ -150,7 +150,7 @@ no-byte-behind : (d : ℕ) (chunk : Bool) (m : Major) (fs : List automaton.Frame
 no-byte-behind d true m fs cs u h = h
 no-byte-behind d false m fs cs u h = no-byte d fs cs u h
 
-untell : (o : Outcome) (u : State) (ms : List Mark) → telling a_byte o ≡ reached u (a_byte ∷ ms) → o ≡ reached u ms
+pub untell : (o : Outcome) (u : State) (ms : List Mark) → telling a_byte o ≡ reached u (a_byte ∷ ms) → o ≡ reached u ms
 untell (refused r) u ms e = cc
 untell (reached q ns) u ms e = cc
 

@@ -82,7 +82,7 @@ close-at (counted (suc n) ∷ cs) = refl
 close-at (indefinite_array ∷ cs) = refl
 close-at (indefinite_map due ∷ cs) = refl
 
-expect-at : (n : ℕ) (cs : List Container) → automaton.expect n (map frame_at cs) ≡ state_at (expect n cs)
+pub expect-at : (n : ℕ) (cs : List Container) → automaton.expect n (map frame_at cs) ≡ state_at (expect n cs)
 expect-at zero cs = close-at cs
 expect-at (suc n) cs = refl
 

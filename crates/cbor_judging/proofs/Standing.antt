@@ -37,7 +37,7 @@ short-at b e t q a = omega (arith, a.stands.stands.taken, a.stands.stands.limite
 
 -- ---- behind the whole item
 
-done_position : (position : Position) (fr : List frames.Frame) → state_of position fr ≡ automaton.done → position ≡ positions.Done
+pub done_position : (position : Position) (fr : List frames.Frame) → state_of position fr ≡ automaton.done → position ≡ positions.Done
 done_position positions.Done fr e = refl
 done_position positions.Item fr e = absurd (cc e)
 done_position (positions.Head chunk kind width left argument) fr e = absurd (cc e)

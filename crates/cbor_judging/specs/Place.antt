@@ -1,12 +1,15 @@
 -- Where an item stands between two events: which containers are open and what is due; and where each event leads (RFC 8949,
 -- section 3).
-use Rattle.std.specs.Prelude.{◌≡◌, ℕ, zero, suc, ◌+◌, ◌<◌, Bool, true, false, not, List, [], ◌∷◌, length}
+use Rattle.std.specs.Prelude.{◌≡◌, ℕ, zero, suc, ◌+◌, ◌<◌, ◌++◌, Bool, true, false, not, List, [], ◌∷◌, length}
 use Rattle.cbor_head.specs.Head.{Holds, IsSimple, head, shortest}
 use Rattle.cbor_head.specs.declared.major.Major.{Major}
 use Rattle.cbor_head.specs.declared.major.Major.TheVariants.{Unsigned, Negative, Bytes, Text, Array, Map, Tag, Simple}
 use Rattle.cbor_head.specs.declared.width.Width.{Width}
 use Rattle.cbor_head.specs.declared.width.Width.TheVariants.{Indefinite}
-use Rattle.cbor_automaton.specs.Trace.{Mark, a_head, a_chunk, a_byte, a_break}
+use Rattle.cbor_events.specs.Trace.{Mark, a_head, a_chunk, a_byte, a_break}
+use Rattle.cbor_events.specs.Marks.{mark_of, marks_of}
+use Rattle.cbor_events.specs.ItemEvents.{Call, IsDue}
+use Rattle.cbor_events.specs.declared.event.Event.{Event}
 
 -- an open container
 pub data Container : Type 0 where
@@ -95,3 +98,17 @@ IsTaking d (in_chunks m cs) a_break bs to = (bs ≡ 0xff ∷ []) × (to ≡ clos
 IsTaking d (in_payload chunk m zero cs) a_byte bs to = (length bs ≡ 1) × (to ≡ close_string chunk m cs)
 IsTaking d (in_payload chunk m (suc n) cs) a_byte bs to = (length bs ≡ 1) × (to ≡ in_payload chunk m n cs)
 IsTaking d _ _ bs to = ⊥
+
+-- ---- where the events told lead
+
+-- of an item whose bytes so far are these, with these marks
+pub data IsPlaced (d : ℕ) : List ℕ → List Mark → Place → Type 0 where
+  begins : IsPlaced d [] [] (at_item [])
+  leads_on : (t bs : List ℕ) (ms : List Mark) (m : Mark) (p q : Place) → IsPlaced d t ms p → IsTaking d p m bs q → IsPlaced d (t ++ bs) (ms ++ m ∷ []) q
+
+-- from this place an event led to another
+pub record LeadsOn (e : Event) (c : Call) (bs : List ℕ) (p : Place) : Type 0 where
+  pub to : Place
+  pub placed : IsPlaced c.new.depth (c.taken ++ bs) (c.told ++ marks_of e.width e.kind) to
+  -- a head or a break is one mark; a piece is as many as it has bytes
+  pub taking : IsDue false e.kind → IsTaking c.old.depth p (mark_of e.width e.kind) bs to
