@@ -1,42 +1,32 @@
 -- What stands where an item is due, from its first byte and its argument.
-use Rattle.std.proofs.Common.{◌≡◌, ◌≢◌, ℕ, zero, suc, ◌+◌, ◌-◌, ◌*◌, ◌^◌, ◌%◌, ◌<◌, ◌≤◌, ◌⊎◌, Bool, true, false, None, List, [], ◌∷◌, ◌++◌, length, take, drop, get_or, refl, sym, ap, ◌∙◌, subst, inl, inr, arith, append_assoc, append-nil, take-append-drop}
+use Rattle.std.proofs.Common.{◌≡◌, ℕ, suc, ◌+◌, ◌-◌, ◌*◌, ◌^◌, ◌%◌, ◌<◌, ◌≤◌, ◌⊎◌, Bool, true, None, List, [], ◌∷◌, ◌++◌, length, take, drop, get_or, refl, sym, ap, ◌∙◌, subst, inl, inr, arith, append-nil}
 use Rattle.std.specs.Prelude.{IsUtf8}
-use Rattle.std.specs.Str.Lossy.{utf8_valid_len}
 use Rattle.std.proofs.lemmas.Bool.{cases_lt}
 use Rattle.std.proofs.lemmas.Bool.Decides.{nat_tests}
-use Rattle.std.proofs.lemmas.List.{length-append, length-take-le, length-drop}
-use Rattle.cbor_head.specs.Complaint.{strict, complaint}
-use Rattle.cbor_head.specs.Head.{Holds, head, major_number, shortest, shortest_head, with_argument}
+use Rattle.std.proofs.lemmas.List.{length-append}
+use Rattle.cbor_head.specs.Complaint.{strict}
+use Rattle.cbor_head.specs.Head.{Holds, major_number, shortest, shortest_head, with_argument}
 use Rattle.cbor_head.specs.Value.{AreBytes}
-use Rattle.cbor_head.specs.Spelling.{spell}
 use Rattle.cbor_head.specs.Verdict.{refusal}
 use Rattle.cbor_head.specs.declared.major.Major.{Major}
 use Rattle.cbor_head.specs.declared.major.Major.TheVariants.{Unsigned, Negative, Bytes, Text, Array, Map, Tag, Simple}
 use Rattle.cbor_head.specs.declared.order.KeyOrder.{KeyOrder}
-use Rattle.cbor_head.specs.declared.reason.Reason.{Reason}
 use Rattle.cbor_head.specs.declared.reason.Reason.TheVariants as reasons
 use Rattle.cbor_head.specs.declared.width.Width.{Width}
 use Rattle.cbor_head.specs.declared.width.Width.TheVariants.{Direct, One, Two, Four, Eight, Indefinite}
 use Rattle.cbor_automaton.specs.inner.Whole.{IsArgument}
-use Rattle.cbor_automaton.proofs.FirstByte.{Split, split}
 use Rattle.cbor_automaton.proofs.Taking.{IsNumbered}
 use Rattle.cbor_judging.specs.Judged.{IsJudged}
 use Rattle.cbor_walk.specs.Leaves.{IsShortest, IsLeaf}
 use Rattle.cbor_judging.proofs.ByteLists.{bytes_back}
 use Rattle.cbor_judging.proofs.Heads.{takes}
-use Rattle.cbor_judging.specs.Judged.{Never}
-use Rattle.cbor_judging.proofs.Judged.{judged_start}
-use Rattle.cbor_judging.proofs.Leaves.{text_complains}
 use Rattle.cbor_walk.proofs.ShortHeads.{rest-is}
 use Rattle.cbor_walk.proofs.ShortLeaves.{leaf-number, leaf-value, leaf-empty, leaf-bytes, leaf-text}
-use Rattle.cbor_walk.specs.Path.{Level, a_member, a_key, a_value, tagged, bytes_before, AreClean}
-use Rattle.cbor_walk.specs.Items.{IsMisplaced, IsPlaced, IsOpener, OpensHere, IsRefusedHere}
-use Rattle.cbor_walk.specs.Stop.{HasBadByte, EndsWithin}
+use Rattle.cbor_walk.specs.Path.{Level, bytes_before}
+use Rattle.cbor_walk.specs.Items.{IsPlaced, OpensHere, IsRefusedHere}
+use Rattle.cbor_walk.specs.Stop.{EndsWithin}
 use Rattle.cbor_walk.specs.declared.level.Due.TheVariants.{Item, Key}
-use Rattle.cbor_walk.proofs.CutHeads.{head_cut, bytes_cut, text_cut}
-use Rattle.cbor_walk.proofs.FirstBytes.{MayBreak, reserved, no_indefinite, a_float, stray_break, too_deep, bad_simple}
-use Rattle.cbor_walk.proofs.HeadComplaints.{not_shortest, shortest_clean, indefinite_length}
-use Rattle.cbor_walk.proofs.PathStops.{complaint_here, end_here}
+use Rattle.cbor_walk.proofs.PathStops.{end_here}
 
 -- ---- arguments
 

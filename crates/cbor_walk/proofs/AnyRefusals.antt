@@ -1,5 +1,5 @@
 -- Why nothing may stand where an item is due.
-use Rattle.std.proofs.Common.{◌≡◌, ◌≢◌, ℕ, suc, ◌+◌, ◌-◌, ◌*◌, ◌^◌, ◌%◌, ◌<◌, ◌≤◌, ◌⊎◌, Bool, true, false, None, Some, List, [], ◌∷◌, ◌++◌, length, take, drop, refl, sym, ap, ◌∙◌, subst, inl, inr, arith, append_assoc, append-nil, take-append-drop}
+use Rattle.std.proofs.Common.{◌≡◌, ◌≢◌, ℕ, suc, ◌+◌, ◌-◌, ◌*◌, ◌^◌, ◌%◌, ◌<◌, ◌≤◌, ◌⊎◌, Bool, true, None, List, [], ◌∷◌, ◌++◌, length, take, drop, refl, sym, ap, ◌∙◌, subst, inl, inr, arith, append_assoc, take-append-drop}
 use Rattle.std.specs.Prelude.{IsUtf8}
 use Rattle.std.specs.Str.Lossy.{utf8_valid_len}
 use Rattle.std.proofs.lemmas.Bool.{cases_lt}
@@ -20,11 +20,10 @@ use Rattle.cbor_automaton.specs.inner.Whole.{IsArgument}
 use Rattle.cbor_automaton.proofs.FirstByte.{split}
 use Rattle.cbor_judging.specs.Judged.{IsJudged}
 use Rattle.cbor_judging.proofs.ByteLists.{bytes_back, bytes_front}
-use Rattle.cbor_judging.specs.Judged.{Never}
 use Rattle.cbor_judging.proofs.Judged.{judged_start}
 use Rattle.cbor_judging.proofs.Leaves.{text_complains}
 use Rattle.cbor_walk.specs.Path.{Level, a_member, a_key, a_value, tagged, bytes_before, AreClean}
-use Rattle.cbor_walk.specs.Items.{IsMisplaced, IsPlaced, IsRefusedHere, IsAny}
+use Rattle.cbor_walk.specs.Items.{IsMisplaced, IsRefusedHere, IsAny}
 use Rattle.cbor_walk.specs.declared.any_item.Any.{Any}
 use Rattle.cbor_walk.specs.declared.any_item.Any.TheVariants as any
 use Rattle.cbor_walk.specs.Stop.{HasComplaint, IsStopped}

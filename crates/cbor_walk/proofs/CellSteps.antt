@@ -1,11 +1,11 @@
 -- What an item that is whole makes of the cells, one container at a time.
-use Rattle.std.proofs.Common.{◌≡◌, ◌≢◌, ℕ, zero, suc, ◌+◌, ◌-◌, ◌<◌, ◌≤◌, Bool, true, false, true≢false, IsTrue, List, [], ◌∷◌, ◌++◌, length, take, drop, refl, sym, ap, ◌∙◌, subst, arith, append_assoc}
+use Rattle.std.proofs.Common.{◌≡◌, ◌≢◌, ℕ, zero, suc, ◌+◌, ◌-◌, ◌≤◌, true, false, true≢false, IsTrue, List, [], ◌∷◌, ◌++◌, length, take, drop, refl, sym, ap, ◌∙◌, arith, append_assoc}
 use Rattle.std.specs.Prelude.{slice_range}
 use Rattle.std.proofs.Math.Seq.{take-append_seam, drop-append_seam}
 use Rattle.std.proofs.lemmas.List.{length-append}
 use Rattle.cbor_head.specs.Complaint.{strict, complaint}
 use Rattle.cbor_head.specs.Order.{key_lt}
-use Rattle.cbor_head.specs.Spelling.{Spelling, SpelledEntries, array, a_map, tag, spell, IsSpelled}
+use Rattle.cbor_head.specs.Spelling.{Spelling, SpelledEntries, array, a_map, tag, spell}
 use Rattle.cbor_head.specs.Verdict.{refusal}
 use Rattle.cbor_head.specs.declared.order.KeyOrder.{KeyOrder}
 use Rattle.cbor_head.specs.declared.reason.Reason.TheVariants as reasons
@@ -19,8 +19,7 @@ use Rattle.cbor_judging.proofs.LastKey.{last_is}
 use Rattle.cbor_judging.proofs.LastKey.{key-fresh, key-falls}
 use Rattle.cbor_walk.specs.Path as path
 use Rattle.cbor_walk.specs.Path.{a_member, a_key, a_value, tagged, level_bytes, bytes_before, AreClean, HasEnded}
-use Rattle.cbor_walk.specs.Cells.{last_key, key_at, IsFronted, HoldsKey, IsKeyDue, IsValueDue, IsCell, AreCells, StandsAt, HasEndedAt, IsWhole, HasClosed, Falls, TakesKey}
-use Rattle.cbor_walk.specs.declared.level.Due.{Due}
+use Rattle.cbor_walk.specs.Cells.{last_key, key_at, IsKeyDue, AreCells, StandsAt, HasEndedAt, HasClosed, Falls, TakesKey}
 use Rattle.cbor_walk.specs.declared.level.Due.TheVariants.{Item, Key, Value}
 use Rattle.cbor_walk.specs.declared.level.Level.{Level}
 use Rattle.cbor_walk.proofs.PathLevels.{judged_key_path}

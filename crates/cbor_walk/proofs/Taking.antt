@@ -1,12 +1,12 @@
 -- What is taken where an item is due, in the cells.
-use Rattle.std.proofs.Common.{◌≡◌, ◌≢◌, ℕ, zero, suc, ◌+◌, ◌-◌, ◌^◌, ◌<◌, ◌≤◌, ◌⊎◌, Bool, true, false, List, [], ◌∷◌, ◌++◌, length, take, drop, refl, sym, ap, ◌∙◌, subst, inl, inr, arith, append_assoc, append-nil, length-drop}
+use Rattle.std.proofs.Common.{◌≡◌, ◌≢◌, ℕ, suc, ◌+◌, ◌-◌, ◌<◌, ◌≤◌, Bool, true, List, [], ◌∷◌, ◌++◌, length, take, drop, refl, sym, ap, ◌∙◌, subst, inl, inr, arith, append_assoc, append-nil, length-drop}
 use Rattle.std.specs.Prelude.{reverse, slice_range}
 use Rattle.std.proofs.Math.Seq.{drop-append_seam, take-length}
 use Rattle.std.proofs.lemmas.Bool.Decides.{nat_tests}
-use Rattle.std.proofs.lemmas.List.{length-append, length-reverse, length-take-le, drop-drop}
-use Rattle.cbor_head.specs.Complaint.{strict, OfCount, OfHead}
-use Rattle.cbor_head.specs.Head.{Holds, head, shortest, shortest_head}
-use Rattle.cbor_head.specs.Spelling.{Spelling, spell, no_spellings, no_entries, HoldsOrIndefinite}
+use Rattle.std.proofs.lemmas.List.{length-append, length-reverse, length-take-le}
+use Rattle.cbor_head.specs.Complaint.{strict, OfCount}
+use Rattle.cbor_head.specs.Head.{Holds, head, shortest}
+use Rattle.cbor_head.specs.Spelling.{spell, no_spellings, no_entries, HoldsOrIndefinite}
 use Rattle.cbor_head.specs.declared.major.Major.{Major}
 use Rattle.cbor_head.specs.declared.major.Major.TheVariants.{Array, Map, Tag}
 use Rattle.cbor_head.specs.declared.order.KeyOrder.{KeyOrder}
@@ -15,12 +15,11 @@ use Rattle.cbor_head.specs.declared.width.Width.TheVariants.{Direct, One, Two, F
 use Rattle.cbor_canonical.specs.Front.{front_of}
 use Rattle.cbor_canonical.proofs.Normal.{Holds-shortest}
 use Rattle.cbor_walk.specs.Leaves.{IsLeaf}
-use Rattle.cbor_judging.specs.SoFar.{array_bytes, map_bytes}
 use Rattle.cbor_judging.proofs.Heads.{open_or}
 use Rattle.cbor_judging.specs.Judged.{Never}
 use Rattle.cbor_walk.specs.Path as path
 use Rattle.cbor_walk.specs.Path.{a_member, a_key, tagged, level_bytes, bytes_before, AreClean}
-use Rattle.cbor_walk.specs.Cells.{a_level, last_key, HoldsKey, AreCells, StandsAt, HasEndedAt, standing, around}
+use Rattle.cbor_walk.specs.Cells.{a_level, AreCells, StandsAt, HasEndedAt, standing}
 use Rattle.cbor_walk.specs.Items.{IsOpener, IsShortOpener}
 use Rattle.cbor_walk.specs.declared.level.Due.{Due}
 use Rattle.cbor_walk.specs.declared.level.Due.TheVariants.{Item, Key, Value}

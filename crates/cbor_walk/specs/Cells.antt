@@ -1,5 +1,5 @@
 -- What the walk holds of the open containers, and what an item that is whole makes of it.
-use Rattle.std.specs.Prelude.{◌≡◌, ◌≢◌, ℕ, ◌+◌, ◌-◌, ◌≤◌, Bool, true, false, List, [], ◌∷◌, ◌++◌, length, take, slice_range, reverse}
+use Rattle.std.specs.Prelude.{◌≡◌, ◌≢◌, ℕ, ◌+◌, ◌≤◌, Bool, true, false, List, [], ◌∷◌, ◌++◌, length, take, slice_range, reverse}
 use Rattle.cbor_head.specs.Complaint.{strict}
 use Rattle.cbor_head.specs.Order.{key_lt}
 use Rattle.cbor_head.specs.Spelling.{Spelling, spell}

@@ -1,7 +1,6 @@
-use Rattle.std.proofs.Common.{◌≡◌, ◌⊎◌, ℕ, suc, ◌+◌, ◌-◌, ◌%◌, ◌<◌, ◌≤◌, Bool, true, List, [], ◌∷◌, length, refl, sym, ap, ◌∙◌, subst, inl, inr, arith}
+use Rattle.std.proofs.Common.{◌≡◌, ◌⊎◌, ℕ, ◌+◌, ◌-◌, ◌%◌, ◌<◌, ◌≤◌, true, List, [], ◌∷◌, length, refl, ap, inl, inr, arith}
 use Rattle.std.proofs.lemmas.Bool.{cases_lt}
 use Rattle.std.proofs.lemmas.List.{nil_from_length}
-use Rattle.cbor_walk.specs.Items.{IsAny}
 use Rattle.cbor_walk.specs.declared.any_item.Any.TheVariants as any
 use Rattle.cbor_walk.specs.declared.level.Due.TheVariants.{Item, Key}
 use Rattle.cbor_walk.proofs.AnyItem.{any_leaf, a_tag, an_array, a_map, an_empty}

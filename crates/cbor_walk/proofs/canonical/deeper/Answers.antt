@@ -1,4 +1,3 @@
-use Rattle.std.proofs.Common.{◌≡◌}
 use Rattle.cbor_walk.proofs.Taking.{in_more_cells}
 use Rattle.cbor_walk.proofs.canonical.deeper.Goals as goal
 

@@ -1,4 +1,4 @@
-use Rattle.std.proofs.Common.{◌≡◌, ◌+◌, ◌<◌, ◌≤◌, ℕ, false, true, true≢false, List, ◌∷◌, length, drop, refl, sym, ap, ◌∙◌, subst, arith}
+use Rattle.std.proofs.Common.{◌+◌, ◌<◌, ◌≤◌, ℕ, false, true≢false, List, ◌∷◌, length, drop, sym, ap, ◌∙◌, subst, arith}
 use Rattle.cbor_walk.specs.Leaves.{IsLeaf}
 use Rattle.cbor_walk.specs.Cells.{standing, StandsAt}
 use Rattle.cbor_walk.specs.Items.{IsOpener}

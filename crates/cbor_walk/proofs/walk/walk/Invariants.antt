@@ -1,4 +1,4 @@
-use Rattle.std.proofs.Common.{ℕ, ◌-◌, ◌≤◌, length}
+use Rattle.std.proofs.Common.{◌-◌, ◌≤◌, length}
 use Rattle.cbor_walk.specs.Cells.{standing, StandsAt}
 use Rattle.cbor_walk.proofs.walk.walk.Given as goal
 
