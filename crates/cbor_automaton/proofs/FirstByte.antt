@@ -2,7 +2,7 @@
 use Rattle.std.proofs.Common.{◌≡◌, ℕ, zero, suc, ◌+◌, ◌-◌, ◌*◌, ◌/◌, ◌%◌, ◌<◌, cond, refl, ap, ap₂, ◌∙◌, arith, mod-lt}
 use Rattle.std.proofs.lemmas.Bool.{lt-ltb}
 use Rattle.cbor_head.specs.Head.{major_number}
-use Rattle.cbor_automaton.specs.inner.Automaton.{direct, major_at, opening, opening_of, tail}
+use Rattle.cbor_automaton.specs.Automaton.{direct, major_at, opening, opening_of, tail}
 use Rattle.cbor_head.specs.declared.major.Major.{Major}
 use Rattle.cbor_head.specs.declared.major.Major.TheVariants.{Unsigned, Negative, Bytes, Text, Array, Map, Tag, Simple}
 

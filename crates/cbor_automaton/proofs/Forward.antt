@@ -6,7 +6,7 @@ use Rattle.std.specs.Int.{byte_at, bytes_high_first}
 use Rattle.cbor_head.specs.Head.{Holds, IsSimple, head, major_number, shortest}
 use Rattle.cbor_head.specs.Spelling.{Chunk, IsChunk, Spelling, Spellings, SpelledEntries, unsigned, negative, bytes, text, byte_chunks, text_chunks, array, a_map, tag, simple, no_spellings, a_spelling, no_entries, entry, spellings_count, entries_count, spell, spell_all, spell_entries, chunk_bytes, string_bytes_of, IsSpelled, AreSpelled, AreEntriesSpelled, depth, depth_all, depth_entries}
 use Rattle.cbor_automaton.specs.Trace.{Mark, a_head, a_chunk, a_byte, a_break, payload_marks, chunk_marks, trace, trace_all, trace_entries}
-use Rattle.cbor_automaton.specs.inner.Automaton.{Frame, counted, indefinite_array, indefinite_map, State, at_item, in_head, in_simple, in_payload, in_chunks, Opening, direct, long, Next, refuses, goes, tells, numbered_tail, tail, opening, close, expect, close_string, payload, after, mark, has_room, enter, begin, in_string, is_major, take_byte, Outcome, telling, and_then, run}
+use Rattle.cbor_automaton.specs.Automaton.{Frame, counted, indefinite_array, indefinite_map, State, at_item, in_head, in_simple, in_payload, in_chunks, Opening, direct, long, Next, refuses, goes, tells, numbered_tail, tail, opening, close, expect, close_string, payload, after, mark, has_room, enter, begin, in_string, is_major, take_byte, Outcome, telling, and_then, run}
 use Rattle.cbor_head.specs.declared.major.Major.{Major}
 use Rattle.cbor_head.specs.declared.major.Major.TheVariants.{Unsigned, Negative, Bytes, Text, Array, Map, Tag, Simple}
 use Rattle.cbor_head.specs.declared.width.Width.{Width}

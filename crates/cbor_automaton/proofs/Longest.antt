@@ -7,7 +7,7 @@ use Rattle.cbor_head.specs.Value.{AreBytes}
 use Rattle.cbor_head.specs.Beginning.{IsBeginning, MayFollow, IsLongestBeginning}
 use Rattle.cbor_head.specs.declared.reason.Reason.{Reason}
 use Rattle.cbor_automaton.specs.Trace.{Mark}
-use Rattle.cbor_automaton.specs.inner.Automaton.{start, State, Next, refuses, goes, tells, take_byte, run, reached, and_then}
+use Rattle.cbor_automaton.specs.Automaton.{start, State, Next, refuses, goes, tells, take_byte, run, reached, and_then}
 use Rattle.cbor_automaton.proofs.Forward.{telling_all}
 use Rattle.cbor_automaton.proofs.Beginnings.{onwards, run-append, reached-begins, shorter, telling_all-reached}
 use Rattle.cbor_automaton.proofs.Refusals.{taken-follows, IsTaken}

@@ -2,11 +2,11 @@
 use Rattle.std.proofs.Common.{◌≡◌, ℕ, zero, suc, ◌+◌, ◌-◌, ◌≤◌, ◌<◌, true, false, List, [], ◌∷◌, ◌++◌, map, take, drop, length, get_or, refl, sym, ap, ◌∙◌, arith}
 use Rattle.std.proofs.lemmas.List.{length-map, length-append, length-take-le, map-append}
 use Rattle.std.proofs.Math.Seq.{take-suc}
-use Rattle.cbor_automaton.specs.inner.Automaton as automaton
-use Rattle.cbor_automaton.specs.inner.Automaton.{at_item, close, break_at, tells, indefinite_array, indefinite_map, counted}
+use Rattle.cbor_automaton.specs.Automaton as automaton
+use Rattle.cbor_automaton.specs.Automaton.{at_item, close, break_at, tells, indefinite_array, indefinite_map, counted}
 use Rattle.cbor_automaton.specs.Trace.{a_break}
-use Rattle.cbor_automaton.specs.inner.State.{frame_of, frames_of}
-use Rattle.cbor_automaton.specs.inner.Nest.{level_frame, levels, nested, IsRooted, advanced, ends_by_break}
+use Rattle.cbor_automaton.specs.State.{frame_of, frames_of}
+use Rattle.cbor_automaton.specs.Nest.{level_frame, levels, nested, IsRooted, advanced, ends_by_break}
 use Rattle.cbor_automaton.specs.declared.frame.Frame.{Frame}
 use Rattle.cbor_automaton.specs.declared.frame.Frame.TheVariants.{Tag}
 use Rattle.cbor_automaton.specs.declared.nest.Level.{Level}

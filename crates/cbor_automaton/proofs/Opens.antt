@@ -13,7 +13,7 @@ use Rattle.cbor_head.specs.declared.major.Major.TheVariants.{Unsigned, Negative,
 use Rattle.cbor_head.specs.declared.width.Width.{Width}
 use Rattle.cbor_head.specs.declared.width.Width.TheVariants.{Direct, One, Two, Four, Eight, Indefinite}
 use Rattle.cbor_automaton.specs.Trace.{Mark, a_head, chunk_marks, trace}
-use Rattle.cbor_automaton.specs.inner.Automaton.{Frame, counted, indefinite_array, indefinite_map, State, start, at_item, in_head, in_simple, in_payload, in_chunks, done, close, expect, payload, after, has_room, mark, refuses, tail, numbered_tail, take_byte, goes, tells, Outcome, refused, reached, telling, run}
+use Rattle.cbor_automaton.specs.Automaton.{Frame, counted, indefinite_array, indefinite_map, State, start, at_item, in_head, in_simple, in_payload, in_chunks, done, close, expect, payload, after, has_room, mark, refuses, tail, numbered_tail, take_byte, goes, tells, Outcome, refused, reached, telling, run}
 use Rattle.cbor_automaton.specs.Open.{if_open, open_after, open_in, open_in_entries}
 use Rattle.cbor_automaton.proofs.Forward.{Starts, item_starts, chunk_starts, step, head-taken, string-taken, telling_all, forward, close-counted, room-above}
 use Rattle.cbor_automaton.proofs.Stands.{is_odd, not-not, double-even}

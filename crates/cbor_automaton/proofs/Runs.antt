@@ -3,8 +3,8 @@ use Rattle.std.proofs.Common.{◌≡◌, ℕ, zero, suc, ◌+◌, ◌-◌, ◌�
 use Rattle.std.proofs.Math.Seq.{take-suc, take-append-add}
 use Rattle.cbor_head.specs.declared.major.Major.{Major}
 use Rattle.cbor_automaton.specs.Trace.{Mark, a_byte, size, total}
-use Rattle.cbor_automaton.specs.inner.Automaton as automaton
-use Rattle.cbor_automaton.specs.inner.Automaton.{payload, close_string, State, start, at_item, in_head, in_simple, in_payload, in_chunks, done, Next, refuses, goes, tells, take_byte, and_then, telling, run, reached}
+use Rattle.cbor_automaton.specs.Automaton as automaton
+use Rattle.cbor_automaton.specs.Automaton.{payload, close_string, State, start, at_item, in_head, in_simple, in_payload, in_chunks, done, Next, refuses, goes, tells, take_byte, and_then, telling, run, reached}
 use Rattle.cbor_automaton.specs.Marks.{mark_of, marks_of, times}
 use Rattle.cbor_automaton.specs.declared.event.EventKind.{EventKind}
 use Rattle.cbor_head.specs.declared.width.Width.{Width}

@@ -9,8 +9,8 @@ use Rattle.cbor_head.specs.declared.major.Major.TheVariants.{Unsigned, Negative,
 use Rattle.cbor_head.specs.declared.width.Width.{Width}
 use Rattle.cbor_head.specs.declared.width.Width.TheVariants.{Direct, One, Two, Four, Eight, Indefinite}
 use Rattle.cbor_automaton.specs.Trace.{Mark, a_head, a_chunk, a_byte, a_break, more_bytes, size, total}
-use Rattle.cbor_automaton.specs.inner.Automaton.{Frame, counted, indefinite_array, indefinite_map, close, expect, close_string, payload, State, start, at_item, in_head, in_simple, in_payload, in_chunks, done, Next, refuses, goes, tells, take_byte, and_then, run, reached}
-use Rattle.cbor_automaton.specs.inner.Taking.{IsTaking, Follows, Opens, Ends}
+use Rattle.cbor_automaton.specs.Automaton.{Frame, counted, indefinite_array, indefinite_map, close, expect, close_string, payload, State, start, at_item, in_head, in_simple, in_payload, in_chunks, done, Next, refuses, goes, tells, take_byte, and_then, run, reached}
+use Rattle.cbor_automaton.specs.Taking.{IsTaking, Follows, Opens, Ends}
 use Rattle.cbor_automaton.specs.Marks.{mark_of, marks_of, IsProper}
 use Rattle.cbor_automaton.specs.Bytes.{type_behind, last_type, IsChunkHead, IsMarkBytes, IsBytesOf, IsEventBytes}
 use Rattle.cbor_automaton.specs.declared.event.EventKind.{EventKind}

@@ -9,10 +9,10 @@ use Rattle.cbor_head.specs.declared.major.Major.TheVariants.{Simple}
 use Rattle.cbor_head.specs.declared.width.Width.{Width}
 use Rattle.cbor_head.specs.declared.width.Width.TheVariants.{Direct, One, Two, Four, Eight, Indefinite}
 use Rattle.cbor_automaton.specs.Trace.{Mark, a_head, a_chunk}
-use Rattle.cbor_automaton.specs.inner.Automaton.{Frame, State, at_item, in_head, in_payload, in_chunks, after, payload, close, tail, numbered_tail, major_at, has_room, is_major, take_byte, tells, and_then, run, reached, telling}
+use Rattle.cbor_automaton.specs.Automaton.{Frame, State, at_item, in_head, in_payload, in_chunks, after, payload, close, tail, numbered_tail, major_at, has_room, is_major, take_byte, tells, and_then, run, reached, telling}
 use Rattle.cbor_automaton.specs.Marks.{marks_of, IsDefinite, IsProper}
-use Rattle.cbor_automaton.specs.inner.State.{major_of}
-use Rattle.cbor_automaton.specs.inner.Whole.{IsArgument, IsArgumentLeft, IsEventRun, IsStringType}
+use Rattle.cbor_automaton.specs.State.{major_of}
+use Rattle.cbor_automaton.specs.Whole.{IsArgument, IsArgumentLeft, IsEventRun, IsStringType}
 use Rattle.cbor_automaton.specs.declared.opening.Numbered.{Numbered}
 use Rattle.cbor_automaton.specs.declared.opening.Numbered.TheVariants as numbered
 use Rattle.cbor_automaton.specs.declared.event.EventKind.{EventKind}

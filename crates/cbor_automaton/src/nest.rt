@@ -1,10 +1,10 @@
 //! The open containers, with the innermost one apart.
 
 ghost use Rattle.std.specs.Prelude.{◌≡◌, ◌≤◌, ◌<◌, ◌++◌, ◌∷◌, [], length, false, None, IfSome};
-ghost use Rattle.cbor_automaton.specs.inner.Automaton as automaton;
-ghost use Rattle.cbor_automaton.specs.inner.State.{frame_of, frames_of, state_of, IsSettled};
-ghost use Rattle.cbor_automaton.specs.inner.Nest.{due_frame, level_frame, IsAdvanced, IsEnded};
-ghost use Rattle.cbor_automaton.specs.inner.Nest.{IsStray, ends_by_break, position_after};
+ghost use Rattle.cbor_automaton.specs.Automaton as automaton;
+ghost use Rattle.cbor_automaton.specs.State.{frame_of, frames_of, state_of, IsSettled};
+ghost use Rattle.cbor_automaton.specs.Nest.{due_frame, level_frame, IsAdvanced, IsEnded};
+ghost use Rattle.cbor_automaton.specs.Nest.{IsStray, ends_by_break, position_after};
 
 use crate::frame::{Frame, MOST_OPEN};
 use arrayvec::ArrayVec;
@@ -54,7 +54,7 @@ impl Model for Nest {
 
     ghost Value = { List Frame };
 
-    ghost use Rattle.cbor_automaton.specs.inner.Nest.{nested, IsRooted};
+    ghost use Rattle.cbor_automaton.specs.Nest.{nested, IsRooted};
 
     ghost view = { λ n. nested n.outer n.height n.top };
 

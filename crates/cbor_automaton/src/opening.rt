@@ -3,8 +3,8 @@
 ghost use Rattle.std.specs.Prelude.{◌≡◌, ◌<◌};
 ghost use Rattle.cbor_head.specs.Verdict.{initial_reason};
 ghost use Rattle.cbor_automaton.specs.Reasons.{IsFormReason};
-ghost use Rattle.cbor_automaton.specs.inner.Automaton as automaton;
-ghost use Rattle.cbor_automaton.specs.inner.State.{major_of, opened, IsOpeningDefinite};
+ghost use Rattle.cbor_automaton.specs.Automaton as automaton;
+ghost use Rattle.cbor_automaton.specs.State.{major_of, opened, IsOpeningDefinite};
 
 use cbor_head::{Reason, Simple, Width};
 

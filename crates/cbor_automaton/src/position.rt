@@ -1,9 +1,9 @@
 //! Where the next byte belongs.
 
 ghost use Rattle.std.specs.Prelude.{◌≡◌, ◌≤◌, ◌⊎◌, length, false, true};
-ghost use Rattle.cbor_automaton.specs.inner.Automaton as automaton;
+ghost use Rattle.cbor_automaton.specs.Automaton as automaton;
 ghost use Rattle.cbor_automaton.specs.declared.frame.TheConstants.{MOST_OPEN};
-ghost use Rattle.cbor_automaton.specs.inner.State.{frames_of, state_of, major_of, IsSettled};
+ghost use Rattle.cbor_automaton.specs.State.{frames_of, state_of, major_of, IsSettled};
 
 use crate::nest::{Due, Nest};
 use crate::opening::Numbered;

@@ -3,13 +3,13 @@
 ghost use Rattle.std.specs.Prelude.{◌≡◌, ◌≤◌, ◌+◌, ◌-◌, length, false, IfSome};
 ghost use Rattle.cbor_head.specs.declared.width.Width as width;
 ghost use Rattle.cbor_automaton.specs.Trace.{more_bytes};
-ghost use Rattle.cbor_automaton.specs.inner.Automaton as automaton;
+ghost use Rattle.cbor_automaton.specs.Automaton as automaton;
 ghost use Rattle.cbor_automaton.specs.Marks.{mark_of, times, IsDefinite, IsProper};
 ghost use Rattle.cbor_automaton.specs.declared.frame.TheConstants.{MOST_OPEN};
-ghost use Rattle.cbor_automaton.specs.inner.State.{frames_of, state_of, major_of, next_of, IsFit};
-ghost use Rattle.cbor_automaton.specs.inner.State.{IsNextFit, IsRefusal, IsOnce, IsNextSettled};
-ghost use Rattle.cbor_automaton.specs.inner.State.{IsToldSettled, IsNextOpen, IsNextProper};
-ghost use Rattle.cbor_automaton.specs.inner.State.{IsNextReason, IsSettled, is_done, head_left, next_left};
+ghost use Rattle.cbor_automaton.specs.State.{frames_of, state_of, major_of, next_of, IsFit};
+ghost use Rattle.cbor_automaton.specs.State.{IsNextFit, IsRefusal, IsOnce, IsNextSettled};
+ghost use Rattle.cbor_automaton.specs.State.{IsToldSettled, IsNextOpen, IsNextProper};
+ghost use Rattle.cbor_automaton.specs.State.{IsNextReason, IsSettled, is_done, head_left, next_left};
 
 use crate::event::EventKind;
 use crate::nest::{Due, Nest};

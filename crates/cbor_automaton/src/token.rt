@@ -2,7 +2,7 @@
 
 ghost use Rattle.std.specs.Prelude.{◌≡◌};
 ghost use Rattle.cbor_automaton.specs.Token.{kind_of};
-ghost use Rattle.cbor_automaton.specs.inner.Whole.{IsNumberOf};
+ghost use Rattle.cbor_automaton.specs.Whole.{IsNumberOf};
 
 use crate::event::EventKind;
 use cbor_head::Simple;

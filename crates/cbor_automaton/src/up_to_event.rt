@@ -3,12 +3,12 @@
 ghost use Rattle.std.specs.Prelude.{◌≡◌, ◌≤◌, ◌<◌, ◌+◌, [], take, length, min, true, false};
 ghost use Rattle.std.specs.Prelude.{None, IfSome};
 ghost use Rattle.cbor_automaton.specs.Marks.{times, IsProper};
-ghost use Rattle.cbor_automaton.specs.inner.Whole.{IsFront};
-ghost use Rattle.cbor_automaton.specs.inner.State.{state_of, IsFit, IsSettled};
-ghost use Rattle.cbor_automaton.specs.inner.State.{wanted_at, is_in_payload, is_done};
+ghost use Rattle.cbor_automaton.specs.Whole.{IsFront};
+ghost use Rattle.cbor_automaton.specs.State.{state_of, IsFit, IsSettled};
+ghost use Rattle.cbor_automaton.specs.State.{wanted_at, is_in_payload, is_done};
 ghost use Rattle.cbor_automaton.specs.declared.frame.TheConstants.{MOST_OPEN};
-ghost use Rattle.cbor_automaton.specs.inner.Walk.{IsTold, IsEnded, IsWalkedProper, IsWalkedReason};
-ghost use Rattle.cbor_automaton.specs.inner.Walk.{IsWalked, told_times};
+ghost use Rattle.cbor_automaton.specs.Walk.{IsTold, IsEnded, IsWalkedProper, IsWalkedReason};
+ghost use Rattle.cbor_automaton.specs.Walk.{IsWalked, told_times};
 
 use crate::event::EventKind;
 use crate::nest::Nest;

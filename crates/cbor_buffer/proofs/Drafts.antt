@@ -3,8 +3,8 @@ use Rattle.std.proofs.Common.{◌≡◌, ℕ, ◌+◌, ◌-◌, ◌≤◌, List,
 use Rattle.std.specs.Prelude.{slice_range, reverse, flat_map}
 use Rattle.std.proofs.lemmas.List.{drop-append-le, drop_all, length-take-le, drop-take, take-take}
 use Rattle.std.proofs.Math.Seq.{drop-append_seam, take-append_seam}
-use Rattle.cbor_buffer.specs.inner.Moved.{rope, Run, gap, Blocks, meant, IsWhole, IsRope, IsLoose, IsFree, KeepsFront, Stays}
-use Rattle.cbor_buffer.specs.inner.Spans.{AreBehind, span_pair, AreWithin}
+use Rattle.cbor_buffer.specs.Moved.{rope, Run, gap, Blocks, meant, IsWhole, IsRope, IsLoose, IsFree, KeepsFront, Stays}
+use Rattle.cbor_buffer.specs.Spans.{AreBehind, span_pair, AreWithin}
 use Rattle.cbor_buffer.specs.Pairs.{pair_bytes}
 use Rattle.cbor_buffer.specs.declared.span.Span.{Span}
 use Rattle.cbor_buffer.specs.declared.cuts.Cut.{Cut}

@@ -4,7 +4,7 @@ use Rattle.std.specs.Prelude.{slice_range, flat_map}
 use Rattle.std.proofs.lemmas.List.{drop_all}
 use Rattle.cbor_buffer.specs.Pairs.{pair_bytes}
 use Rattle.cbor_buffer.proofs.ByIndex.{at_read}
-use Rattle.cbor_buffer.specs.inner.Spans.{span_pair, IsWithin, AreWithin}
+use Rattle.cbor_buffer.specs.Spans.{span_pair, IsWithin, AreWithin}
 use Rattle.cbor_buffer.specs.declared.span.Span.{Span}
 use Rattle.cbor_buffer.proofs.Slices.{get_same, slices_join}
 

@@ -4,8 +4,8 @@ use Rattle.std.specs.Prelude.{slice_range, reverse, option_to_list}
 use Rattle.std.proofs.lemmas.Grind.{flat_map-append}
 use Rattle.std.proofs.lemmas.List.{take-append-le, drop_all, reverse-append, length-reverse, take-take}
 use Rattle.std.proofs.lemmas.Bool.{cases_lt}
-use Rattle.cbor_buffer.specs.inner.Moved.{piece, rope, IsInside, AreInside, Run, gap, Blocks, IsAdded}
-use Rattle.cbor_buffer.specs.inner.Spans.{AreBehind}
+use Rattle.cbor_buffer.specs.Moved.{piece, rope, IsInside, AreInside, Run, gap, Blocks, IsAdded}
+use Rattle.cbor_buffer.specs.Spans.{AreBehind}
 use Rattle.cbor_buffer.specs.declared.span.Span.{Span}
 use Rattle.cbor_buffer.specs.declared.cuts.Cut.{Cut}
 use Rattle.cbor_buffer.specs.declared.cuts.Picked.{Picked}

@@ -1,2 +1,3 @@
-pub mod inner
+pub mod Moved
 pub mod Pairs
+pub mod Spans

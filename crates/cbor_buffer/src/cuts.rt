@@ -4,7 +4,7 @@ ghost use Rattle.std.specs.Prelude.{◌≡◌, ◌≤◌, ◌<◌, ◌-◌, ◌+
 ghost use Rattle.std.specs.Prelude.{length, slice_range, slice_index_or};
 ghost use Rattle.std.specs.Prelude.{ℕ, List, take, drop};
 ghost use Rattle.cbor_buffer.specs.declared.cuts.Cut.{Cut as ACut};
-ghost use Rattle.cbor_buffer.specs.inner.Moved.{rope, Run, AreInside, IsPicked, IsAdded};
+ghost use Rattle.cbor_buffer.specs.Moved.{rope, Run, AreInside, IsPicked, IsAdded};
 
 use crate::out::Out;
 use crate::reserve::push;

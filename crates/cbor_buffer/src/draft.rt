@@ -5,11 +5,11 @@ ghost use Rattle.std.specs.Prelude.{map, flat_map, ◌∷◌, ◌-◌, MatchOpti
 ghost use Rattle.cbor_head.specs.Head.{shortest_head, IsSimple};
 ghost use Rattle.cbor_head.specs.declared.major.Major.TheVariants.{Simple};
 ghost use Rattle.cbor_buffer.specs.Pairs.{pair_bytes};
-ghost use Rattle.cbor_buffer.specs.inner.Spans.{span_pair, AreWithin};
-ghost use Rattle.cbor_buffer.specs.inner.Moved.{meant, IsWhole, IsRope, IsLoose, IsFree, KeepsFront, Stays};
-ghost use Rattle.cbor_buffer.specs.inner.Moved.{IsSettled};
-ghost use Rattle.cbor_buffer.specs.inner.Moved.{rope, Run};
-ghost use Rattle.cbor_buffer.specs.inner.Spans.{AreBehind};
+ghost use Rattle.cbor_buffer.specs.Spans.{span_pair, AreWithin};
+ghost use Rattle.cbor_buffer.specs.Moved.{meant, IsWhole, IsRope, IsLoose, IsFree, KeepsFront, Stays};
+ghost use Rattle.cbor_buffer.specs.Moved.{IsSettled};
+ghost use Rattle.cbor_buffer.specs.Moved.{rope, Run};
+ghost use Rattle.cbor_buffer.specs.Spans.{AreBehind};
 
 use crate::cuts::{Cut, Picked, emit};
 use crate::out::{Out, head_len};

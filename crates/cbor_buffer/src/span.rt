@@ -2,7 +2,7 @@
 
 ghost use Rattle.std.specs.Prelude.{◌≡◌, [], OnOk, map, flat_map};
 ghost use Rattle.cbor_buffer.specs.Pairs.{pair_bytes};
-ghost use Rattle.cbor_buffer.specs.inner.Spans.{span_pair, AreWithin};
+ghost use Rattle.cbor_buffer.specs.Spans.{span_pair, AreWithin};
 
 use crate::out::Out;
 use std::alloc::AllocError;

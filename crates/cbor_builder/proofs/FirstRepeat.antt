@@ -20,7 +20,7 @@ use Rattle.cbor_head.specs.declared.order.KeyOrder.{KeyOrder}
 use Rattle.cbor_builder.specs.Built.{HasKey, IsRepeatAt, AreAllDifferent, IsFirstRepeat}
 use Rattle.cbor_canonical.specs.Pairs.{HasDistinctBytes}
 use Rattle.cbor_builder.specs.inner.Front.{key_of, IsFronted, AreFronted, rank, ranked_by}
-use Rattle.cbor_buffer.specs.inner.Spans.{no_span}
+use Rattle.cbor_buffer.specs.Spans.{no_span}
 use Rattle.cbor_builder.specs.inner.Repeats.{nth, by_number, AreNumbered, IsTie, IsLeastSoFar}
 use Rattle.cbor_buffer.specs.declared.span.Span.{Span}
 use Rattle.cbor_builder.proofs.Ranks.{rank_total, agree_spans, fronted_at, fronted_permuted}

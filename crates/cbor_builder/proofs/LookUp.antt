@@ -13,7 +13,7 @@ use Rattle.cbor_head.specs.declared.order.KeyOrder.{KeyOrder}
 use Rattle.cbor_builder.specs.Built.{HasKey, HasSameKey}
 use Rattle.cbor_canonical.specs.Pairs.{IsRising, AreKeysValid}
 use Rattle.cbor_builder.specs.inner.Front.{key_of, IsFronted, AreFronted, rank, ranked_by}
-use Rattle.cbor_buffer.specs.inner.Spans.{span_pair}
+use Rattle.cbor_buffer.specs.Spans.{span_pair}
 use Rattle.cbor_buffer.specs.declared.span.Span.{Span}
 use Rattle.cbor_buffer.proofs.ByIndex.{at_read}
 use Rattle.cbor_canonical.proofs.Keys.{same_exactly}

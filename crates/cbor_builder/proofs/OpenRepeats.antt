@@ -9,7 +9,7 @@ use Rattle.cbor_builder.specs.Parts.{Open}
 use Rattle.cbor_head.specs.Canonical.{Pair}
 use Rattle.cbor_head.specs.declared.order.KeyOrder.{KeyOrder}
 use Rattle.cbor_builder.specs.inner.Front.{key_of}
-use Rattle.cbor_buffer.specs.inner.Spans.{span_pair}
+use Rattle.cbor_buffer.specs.Spans.{span_pair}
 use Rattle.cbor_builder.specs.inner.Laid.{pairs_from, shape_open, outer_spans, opens, Fits}
 use Rattle.cbor_builder.specs.inner.Repeats.{first_of, TellsOf, Tells}
 use Rattle.cbor_buffer.specs.declared.span.Span.{Span}

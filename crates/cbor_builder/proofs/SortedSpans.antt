@@ -19,7 +19,7 @@ use Rattle.cbor_canonical.proofs.Orders.{key_cmp_total, tied, lt_trans}
 use Rattle.cbor_builder.proofs.Neighbours.{differ_at, keys-map, differ_from_distinct, rising_from_differ, distinct_permuted}
 use Rattle.cbor_builder.proofs.SortedPairs.{sorted_is_in_order, sorted_view}
 use Rattle.cbor_canonical.proofs.Sorting.{rises_at, rising_cons, rising_distinct}
-use Rattle.cbor_buffer.specs.inner.Spans.{span_pair, IsWithin, AreWithin}
+use Rattle.cbor_buffer.specs.Spans.{span_pair, IsWithin, AreWithin}
 use Rattle.cbor_builder.specs.inner.Front.{key_of, AreFronted, rank, ranked_by}
 use Rattle.cbor_head.specs.Value.{AreBytes}
 use Rattle.cbor_builder.proofs.Ranks.{agree_spans, fronted_at, sorted_keys, fronted_permuted}

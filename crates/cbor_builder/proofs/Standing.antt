@@ -4,7 +4,7 @@ use Rattle.cbor_head.specs.declared.order.KeyOrder.{KeyOrder}
 use Rattle.cbor_builder.specs.Parts.{closed, close, give, extended}
 use Rattle.cbor_builder.specs.inner.Front.{AreFronted}
 use Rattle.cbor_builder.specs.inner.Laid.{shape_open, outer_spans, opens, Laid, Takes, Completed, Stands, IsString}
-use Rattle.cbor_buffer.specs.inner.Moved.{meant, IsWhole, IsSettled, KeepsFront, Stays}
+use Rattle.cbor_buffer.specs.Moved.{meant, IsWhole, IsSettled, KeepsFront, Stays}
 use Rattle.cbor_builder.specs.inner.InPlace.{Agrees, WaitsSame}
 use Rattle.cbor_buffer.specs.declared.draft.Draft.{Draft}
 use Rattle.cbor_buffer.specs.declared.span.Span.{Span}

@@ -19,7 +19,7 @@ ghost use Rattle.cbor_head.specs.Canonical.{in_order};
 ghost use Rattle.cbor_canonical.specs.Pairs.{HasDistinctBytes};
 ghost use Rattle.cbor_buffer.specs.Pairs.{pair_bytes};
 ghost use Rattle.cbor_builder.specs.inner.Laid.{Fits, pairs_from};
-ghost use Rattle.cbor_buffer.specs.inner.Moved.{meant, IsWhole, KeepsFront};
+ghost use Rattle.cbor_buffer.specs.Moved.{meant, IsWhole, KeepsFront};
 ghost use Rattle.cbor_builder.specs.inner.InPlace.{AreSameKeys};
 ghost use Rattle.cbor_builder.specs.declared.frame.Shape.TheVariants.{Map};
 

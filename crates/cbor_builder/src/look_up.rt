@@ -4,7 +4,7 @@ ghost use Rattle.std.specs.Prelude.{◌≡◌, ◌↔◌, ◌≤◌, IsTrue, map
 ghost use Rattle.cbor_head.specs.declared.order.KeyOrder.{KeyOrder};
 ghost use Rattle.cbor_builder.specs.Built.{HasKey};
 ghost use Rattle.cbor_builder.specs.inner.Front.{AreFronted, IsFronted, key_of};
-ghost use Rattle.cbor_buffer.specs.inner.Spans.{span_pair};
+ghost use Rattle.cbor_buffer.specs.Spans.{span_pair};
 ghost use Rattle.cbor_canonical.specs.Pairs.{IsRising};
 
 use crate::member::is_above;

@@ -5,10 +5,10 @@ ghost use Rattle.cbor_head.specs.declared.order.KeyOrder.{KeyOrder};
 ghost use Rattle.cbor_canonical.specs.Pairs.{IsRising};
 ghost use Rattle.cbor_builder.specs.declared.frame.Shape.TheVariants.{Key, Map};
 ghost use Rattle.cbor_builder.specs.inner.Front.{AreFronted, IsFronted};
-ghost use Rattle.cbor_buffer.specs.inner.Spans.{span_pair};
+ghost use Rattle.cbor_buffer.specs.Spans.{span_pair};
 ghost use Rattle.cbor_builder.specs.inner.Laid.{Takes, shape_after, spans_after};
 ghost use Rattle.cbor_builder.specs.inner.Laid.{KeepsRising};
-ghost use Rattle.cbor_buffer.specs.inner.Moved.{meant, IsWhole, IsSettled, Stays};
+ghost use Rattle.cbor_buffer.specs.Moved.{meant, IsWhole, IsSettled, Stays};
 
 use crate::frame::{Frame, Shape};
 use crate::ranking::{compare, front};

@@ -5,7 +5,7 @@ ghost use Rattle.cbor_head.specs.Order.{key_lt};
 ghost use Rattle.cbor_head.specs.declared.order.KeyOrder.{KeyOrder};
 ghost use Rattle.cbor_builder.specs.inner.Neighbours.{DoNeighboursDiffer};
 ghost use Rattle.cbor_canonical.specs.Pairs.{HasDistinctBytes};
-ghost use Rattle.cbor_buffer.specs.inner.Spans.{span_pair};
+ghost use Rattle.cbor_buffer.specs.Spans.{span_pair};
 ghost use Rattle.cbor_builder.specs.inner.Front.{key_of, AreFronted, rank, ranked_by};
 ghost use Rattle.std.specs.Ordering.{is_lt};
 

@@ -9,7 +9,7 @@ use Rattle.cbor_automaton.specs.Trace.{Mark}
 use Rattle.cbor_machine.specs.MachineView.{MachineView}
 use Rattle.cbor_machine.specs.Machine.{StandsFor, wanted}
 use Rattle.cbor_machine.specs.NextEvent.{StandsBetween, IfTold, IsNext, machine_call}
-use Rattle.cbor_machine.specs.inner.Calls.{HasRead, piece_after}
+use Rattle.cbor_machine.specs.Calls.{HasRead, piece_after}
 use Rattle.cbor_events.specs.inner.Reads.{IsPartTaken, IsPartRead}
 use Rattle.cbor_automaton.specs.declared.event.Event.{Event}
 use Rattle.cbor_events.specs.declared.item_events.Part.{Part}

@@ -12,8 +12,8 @@ ghost use Rattle.cbor_machine.specs.Machine.{KeepsLimits, IsIdle, StandsFor, wan
 ghost use Rattle.cbor_machine.specs.NextEvent.{ItemEventsView, StandsBetween, IfTold, IsNext};
 ghost use Rattle.cbor_machine.specs.NextEvent.{machine_call, call};
 ghost use Rattle.cbor_events.specs.inner.Reads.{IsAsked};
-ghost use Rattle.cbor_machine.specs.inner.Calls.{HasRead, piece_after, piece_size};
-ghost use Rattle.cbor_automaton.specs.inner.Pieces.{kind_size};
+ghost use Rattle.cbor_machine.specs.Calls.{HasRead, piece_after, piece_size};
+ghost use Rattle.cbor_automaton.specs.Pieces.{kind_size};
 ghost use Rattle.cbor_events.specs.inner.Reads.{IsPartTaken, IsPartRead, IfPartTold, IfStopped};
 
 use cbor_automaton::{Event, EventKind};

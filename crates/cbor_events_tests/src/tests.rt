@@ -2,7 +2,7 @@
 
 ghost use Rattle.std.specs.Prelude.{◌≡◌, ◌≤◌, ◌<◌, length};
 ghost use Rattle.cbor_machine.specs.Machine.{IsMore};
-ghost use Rattle.cbor_machine.specs.inner.Steps.{Goes};
+ghost use Rattle.cbor_machine.specs.Steps.{Goes};
 
 mod reading;
 mod refused;

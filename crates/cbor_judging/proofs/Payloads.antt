@@ -15,14 +15,14 @@ use Rattle.cbor_head.specs.declared.reason.Refusal.{Refusal}
 use Rattle.cbor_head.specs.declared.reason.Reason.TheVariants.{InvalidText}
 use Rattle.cbor_automaton.specs.Trace.{Mark, a_byte}
 use Rattle.cbor_judging.specs.Place.{Container, Place, at_item, in_payload, in_chunks, done as at_end, close_string, payload}
-use Rattle.cbor_automaton.specs.inner.Automaton as automaton
-use Rattle.cbor_automaton.specs.inner.Automaton.{State, Outcome, refused, telling, run, reached}
-use Rattle.cbor_automaton.specs.inner.Taking as taking
+use Rattle.cbor_automaton.specs.Automaton as automaton
+use Rattle.cbor_automaton.specs.Automaton.{State, Outcome, refused, telling, run, reached}
+use Rattle.cbor_automaton.specs.Taking as taking
 use Rattle.cbor_judging.specs.Reading.{frame_at, state_at}
 use Rattle.cbor_judging.proofs.Places.{place_of, place-back, payload-at, clear-at}
 use Rattle.std.specs.Prelude.{map}
 use Rattle.cbor_automaton.specs.Marks.{marks_of}
-use Rattle.cbor_automaton.specs.inner.State.{state_of, is_in_payload}
+use Rattle.cbor_automaton.specs.State.{state_of, is_in_payload}
 use Rattle.cbor_machine.specs.NextEvent as item_events
 use Rattle.cbor_machine.specs.NextEvent.{ItemEventsView, IsNextEvent, IsKept, call}
 use Rattle.cbor_automaton.specs.Bytes.{IsEventBytes}

@@ -3,15 +3,15 @@ use Rattle.std.proofs.Common.{◌≡◌, ℕ, zero, suc, ◌^◌, ◌<◌, ◌�
 use Rattle.cbor_head.specs.Limits.{Bounds}
 use Rattle.cbor_machine.specs.NextEvent.{ItemEventsView}
 use Rattle.cbor_judging.specs.Place.{Container, counted, indefinite_array, indefinite_map, Place, close, done, open_at}
-use Rattle.cbor_automaton.specs.inner.Automaton as automaton
-use Rattle.cbor_automaton.specs.inner.Automaton.{State, reached}
+use Rattle.cbor_automaton.specs.Automaton as automaton
+use Rattle.cbor_automaton.specs.Automaton.{State, reached}
 use Rattle.cbor_machine.specs.Machine.{IsComplete}
 use Rattle.cbor_automaton.proofs.Frames.{position-done}
 use Rattle.cbor_automaton.proofs.Opens.{opens as opens-stack}
 use Rattle.cbor_judging.specs.Reading.{state_at}
 use Rattle.cbor_judging.proofs.Places.{open-frames, one-place}
 use Rattle.cbor_judging.specs.Reading.{IsAt}
-use Rattle.cbor_automaton.specs.inner.State.{state_of}
+use Rattle.cbor_automaton.specs.State.{state_of}
 use Rattle.cbor_automaton.specs.declared.frame.Frame as frames
 use Rattle.cbor_automaton.specs.declared.position.Position.{Position}
 use Rattle.cbor_automaton.specs.declared.position.Position.TheVariants as positions

@@ -15,10 +15,10 @@ use Rattle.cbor_head.specs.declared.reason.Reason.TheVariants as reasons
 use Rattle.cbor_head.specs.declared.reason.Refusal.{Refusal}
 use Rattle.cbor_automaton.specs.Trace.{Mark, a_head, a_chunk, a_byte, a_break}
 use Rattle.cbor_judging.specs.Place.{Place, at_item, in_payload, in_chunks, done, IsTaking}
-use Rattle.cbor_automaton.specs.inner.Automaton as automaton
-use Rattle.cbor_automaton.specs.inner.Automaton.{State, start, run, reached}
+use Rattle.cbor_automaton.specs.Automaton as automaton
+use Rattle.cbor_automaton.specs.Automaton.{State, start, run, reached}
 use Rattle.cbor_automaton.specs.Marks.{mark_of, marks_of, times}
-use Rattle.cbor_automaton.specs.inner.State.{state_of, is_in_payload}
+use Rattle.cbor_automaton.specs.State.{state_of, is_in_payload}
 use Rattle.cbor_machine.specs.MachineView.{MachineView}
 use Rattle.cbor_machine.specs.Machine.{KeepsLimits, StandsFor, before}
 use Rattle.cbor_machine.specs.NextEvent as item_events

@@ -5,7 +5,7 @@ use Rattle.std.proofs.Math.Seq.{take-add, take-length}
 use Rattle.cbor_automaton.specs.Trace.{Mark}
 use Rattle.cbor_machine.specs.MachineView.{MachineView}
 use Rattle.cbor_machine.specs.Machine.{StandsFor, IsAnswer, IsMore}
-use Rattle.cbor_machine.specs.inner.Steps.{Goes}
+use Rattle.cbor_machine.specs.Steps.{Goes}
 use Rattle.cbor_machine.specs.declared.step.Out.{Out}
 use Rattle.cbor_machine.specs.declared.step.Out.TheVariants as outs
 

@@ -9,17 +9,17 @@ use Rattle.cbor_head.specs.declared.reason.Refusal.{Refusal}
 use Rattle.cbor_head.specs.declared.major.Major.{Major}
 use Rattle.cbor_head.specs.declared.width.Width.{Width}
 use Rattle.cbor_automaton.specs.Trace.{Mark, a_head, a_chunk, a_byte, a_break, size, total}
-use Rattle.cbor_automaton.specs.inner.Automaton.{Frame, State, start, at_item, in_head, in_simple, in_payload, in_chunks, done, run, Outcome, refused, reached, telling}
+use Rattle.cbor_automaton.specs.Automaton.{Frame, State, start, at_item, in_head, in_simple, in_payload, in_chunks, done, run, Outcome, refused, reached, telling}
 use Rattle.cbor_automaton.specs.Marks.{mark_of, marks_of}
-use Rattle.cbor_automaton.specs.inner.State.{wanted_at, state_of, is_in_payload, is_done}
+use Rattle.cbor_automaton.specs.State.{wanted_at, state_of, is_in_payload, is_done}
 use Rattle.cbor_machine.specs.inner.Machine.{IsShown}
 use Rattle.cbor_automaton.specs.Bytes.{IsEventBytes}
 use Rattle.cbor_machine.specs.MachineView.{MachineView}
 use Rattle.cbor_machine.specs.Machine.{StandsFor, IsComplete, IsWhole, IsGiven, wanted, wanted_within}
-use Rattle.cbor_automaton.specs.inner.Taking.{IsTaking}
+use Rattle.cbor_automaton.specs.Taking.{IsTaking}
 use Rattle.cbor_machine.specs.NextEvent.{ItemEventsView, Call, machine_call, call, IsDue, IsKept, StandsBetween, IsNextEvent, IsEnd, IsCut, IsTooLong, HasFormError, IsNext}
-use Rattle.cbor_machine.specs.inner.Calls.{HasRead, piece_after, piece_size}
-use Rattle.cbor_automaton.specs.inner.Pieces.{piece_by, kind_size}
+use Rattle.cbor_machine.specs.Calls.{HasRead, piece_after, piece_size}
+use Rattle.cbor_automaton.specs.Pieces.{piece_by, kind_size}
 use Rattle.cbor_automaton.specs.declared.event.Event.{Event}
 use Rattle.cbor_automaton.specs.declared.event.EventKind.{EventKind}
 use Rattle.cbor_automaton.specs.declared.event.EventKind.TheVariants as kinds

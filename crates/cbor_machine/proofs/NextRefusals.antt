@@ -12,13 +12,13 @@ use Rattle.cbor_head.specs.declared.reason.Reason.{Reason}
 use Rattle.cbor_head.specs.declared.reason.Reason.TheVariants.{Read, Truncated, TooLong}
 use Rattle.cbor_head.specs.declared.reason.Refusal.{Refusal}
 use Rattle.cbor_automaton.specs.Trace.{Mark}
-use Rattle.cbor_automaton.specs.inner.Automaton.{State, start, done, take_byte, run, reached}
-use Rattle.cbor_automaton.specs.inner.State.{state_of, is_done}
+use Rattle.cbor_automaton.specs.Automaton.{State, start, done, take_byte, run, reached}
+use Rattle.cbor_automaton.specs.State.{state_of, is_done}
 use Rattle.cbor_machine.specs.inner.Machine.{IsShown}
 use Rattle.cbor_machine.specs.MachineView.{MachineView}
 use Rattle.cbor_machine.specs.Machine.{StandsFor, IsComplete, IsWhole, before, IsRefused}
-use Rattle.cbor_machine.specs.inner.Steps.{Ran, Stopped, IsStep}
-use Rattle.cbor_machine.specs.inner.Calls.{HasRead}
+use Rattle.cbor_machine.specs.Steps.{Ran, Stopped, IsStep}
+use Rattle.cbor_machine.specs.Calls.{HasRead}
 use Rattle.cbor_machine.specs.NextEvent.{Call, IsCut, IsTooLong, HasFormError}
 use Rattle.cbor_machine.specs.declared.step.Out.TheVariants as outs
 use Rattle.cbor_automaton.proofs.Beginnings.{item-done}

@@ -7,15 +7,15 @@ use Rattle.cbor_head.specs.Verdict.{refusal}
 use Rattle.cbor_head.specs.declared.reason.Reason.TheVariants.{TooLong}
 use Rattle.cbor_head.specs.declared.reason.Refusal.{Refusal}
 use Rattle.cbor_automaton.specs.Trace.{Mark, total}
-use Rattle.cbor_automaton.specs.inner.Automaton.{State, start, at_item, in_head, in_simple, in_payload, in_chunks, done, refuses, take_byte, run, reached}
+use Rattle.cbor_automaton.specs.Automaton.{State, start, at_item, in_head, in_simple, in_payload, in_chunks, done, refuses, take_byte, run, reached}
 use Rattle.cbor_automaton.specs.Marks.{marks_of}
-use Rattle.cbor_automaton.specs.inner.State.{state_of, is_done, IsFit, IsSettled}
+use Rattle.cbor_automaton.specs.State.{state_of, is_done, IsFit, IsSettled}
 use Rattle.cbor_machine.specs.inner.Machine.{IsShown}
-use Rattle.cbor_automaton.specs.inner.Walk.{IsWalked}
+use Rattle.cbor_automaton.specs.Walk.{IsWalked}
 use Rattle.cbor_machine.specs.MachineView.{MachineView}
 use Rattle.cbor_machine.specs.Machine.{IsWhole, StandsFor, IsGiven, before, IsRefused, IsAnswer}
-use Rattle.cbor_machine.specs.inner.Steps.{Ran, Stopped, IsStep}
-use Rattle.cbor_automaton.specs.inner.Automaton as automaton
+use Rattle.cbor_machine.specs.Steps.{Ran, Stopped, IsStep}
+use Rattle.cbor_automaton.specs.Automaton as automaton
 use Rattle.cbor_machine.specs.declared.step.Out.{Out}
 use Rattle.cbor_machine.specs.declared.step.Out.TheVariants as outs
 use Rattle.cbor_automaton.specs.declared.event.Event.{Event}

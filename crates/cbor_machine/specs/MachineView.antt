@@ -1,7 +1,7 @@
 -- What contracts see of a machine.
 use Rattle.std.specs.Prelude.{ℕ, Bool, Option}
 use Rattle.cbor_head.specs.declared.reason.Refusal.{Refusal}
-use Rattle.cbor_automaton.specs.inner.State.{Inner}
+use Rattle.cbor_automaton.specs.State.{Inner}
 
 pub record MachineView : Type 0 where
   -- the limits

@@ -12,9 +12,9 @@ ghost use Rattle.cbor_machine.specs.Machine.{IsIdle, IsEvent, IsMore, IsDone, If
 ghost use Rattle.cbor_machine.specs.Machine.{IsGiven};
 ghost use Rattle.cbor_automaton.specs.Marks.{IsProper, times};
 ghost use Rattle.cbor_machine.specs.Machine.{wanted};
-ghost use Rattle.cbor_automaton.specs.inner.State.{IsFit, IsSettled, wanted_at, is_in_payload};
-ghost use Rattle.cbor_automaton.specs.inner.State.{is_done};
-ghost use Rattle.cbor_machine.specs.inner.Steps.{IsStep};
+ghost use Rattle.cbor_automaton.specs.State.{IsFit, IsSettled, wanted_at, is_in_payload};
+ghost use Rattle.cbor_automaton.specs.State.{is_done};
+ghost use Rattle.cbor_machine.specs.Steps.{IsStep};
 
 mod saved;
 

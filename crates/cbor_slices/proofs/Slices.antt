@@ -12,20 +12,20 @@ use Rattle.cbor_head.specs.declared.reason.Reason.{Reason}
 use Rattle.cbor_head.specs.declared.reason.Reason.TheVariants.{Truncated, TooLong}
 use Rattle.cbor_head.specs.declared.reason.Refusal.{Refusal}
 use Rattle.cbor_automaton.specs.Trace.{Mark}
-use Rattle.cbor_automaton.specs.inner.Automaton.{State, start, run, reached}
+use Rattle.cbor_automaton.specs.Automaton.{State, start, run, reached}
 use Rattle.cbor_machine.specs.inner.Machine.{IsShown}
-use Rattle.cbor_automaton.specs.inner.State.{state_of, wanted_at, is_in_payload, is_done, IsSettled, IsFit}
-use Rattle.cbor_automaton.specs.inner.Walk.{IsWalked, IsWalkedProper}
+use Rattle.cbor_automaton.specs.State.{state_of, wanted_at, is_in_payload, is_done, IsSettled, IsFit}
+use Rattle.cbor_automaton.specs.Walk.{IsWalked, IsWalkedProper}
 use Rattle.cbor_machine.specs.MachineView.{MachineView}
-use Rattle.cbor_machine.specs.inner.Steps.{IsStep}
+use Rattle.cbor_machine.specs.Steps.{IsStep}
 use Rattle.cbor_machine.specs.Machine.{StandsFor, IsComplete, IsGiven, IsRefused}
-use Rattle.cbor_machine.specs.inner.Calls.{HasRead}
-use Rattle.cbor_automaton.specs.inner.Pieces.{piece_by}
+use Rattle.cbor_machine.specs.Calls.{HasRead}
+use Rattle.cbor_automaton.specs.Pieces.{piece_by}
 use Rattle.cbor_machine.specs.NextEvent.{StandsBetween, machine_call, IsDue, IsNextEvent, IsCut, IsTooLong, HasFormError}
 use Rattle.cbor_slices.specs.SliceView.{SliceEventsView}
 use Rattle.cbor_slices.specs.SliceEvents.{event_of, slice_call, NextTold, IsNextTold, IsStringTold, IsWholeTold, IsWholePiece, IsCutShort}
 use Rattle.cbor_slices.specs.inner.Slices.{IsSpent}
-use Rattle.cbor_automaton.specs.inner.Whole.{IsEventRun}
+use Rattle.cbor_automaton.specs.Whole.{IsEventRun}
 use Rattle.cbor_automaton.specs.Token.{IsEventToken, IsStringToken, kind_of}
 use Rattle.cbor_machine.specs.declared.step.Out.TheVariants as outs
 use Rattle.cbor_automaton.specs.declared.frame.Frame.{Frame}

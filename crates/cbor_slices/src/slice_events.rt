@@ -3,14 +3,14 @@
 ghost use Rattle.std.specs.Prelude.{◌≡◌, ◌≤◌, ◌<◌, ◌⊎◌, List, [], ℕ, length, take, min};
 ghost use Rattle.std.specs.Prelude.{None, Some, IfSome, IsSome, true};
 ghost use Rattle.cbor_automaton.specs.Trace.{Mark};
-ghost use Rattle.cbor_automaton.specs.inner.State.{state_of, IsFit, IsSettled};
-ghost use Rattle.cbor_automaton.specs.inner.Walk.{IsTold, IsEnded, IsWalkedProper};
-ghost use Rattle.cbor_automaton.specs.inner.Walk.{IsWalked, told_times};
-ghost use Rattle.cbor_automaton.specs.inner.Pieces.{kind_size, piece_by};
+ghost use Rattle.cbor_automaton.specs.State.{state_of, IsFit, IsSettled};
+ghost use Rattle.cbor_automaton.specs.Walk.{IsTold, IsEnded, IsWalkedProper};
+ghost use Rattle.cbor_automaton.specs.Walk.{IsWalked, told_times};
+ghost use Rattle.cbor_automaton.specs.Pieces.{kind_size, piece_by};
 ghost use Rattle.cbor_machine.specs.Machine.{KeepsLimits};
 ghost use Rattle.cbor_machine.specs.NextEvent.{StandsBetween};
 ghost use Rattle.cbor_automaton.specs.Token.{kind_of, IsEventToken};
-ghost use Rattle.cbor_automaton.specs.inner.Whole.{IsFront, TellsFront, LeavesPiece};
+ghost use Rattle.cbor_automaton.specs.Whole.{IsFront, TellsFront, LeavesPiece};
 ghost use Rattle.cbor_slices.specs.SliceEvents.{IsNextTold, IsProperTold, IsRefusedTold};
 ghost use Rattle.cbor_automaton.specs.declared.frame.TheConstants.{MOST_OPEN};
 ghost use Rattle.cbor_slices.specs.inner.Slices.{IsSpent};
@@ -60,7 +60,7 @@ pub struct SliceEvents<'a> {
 
 impl<'a> Model for SliceEvents<'a> {
     ghost use Rattle.std.specs.Prelude.{◌≡◌, ◌≤◌, ◌-◌, length, None, IfSome};
-    ghost use Rattle.cbor_automaton.specs.inner.State.{wanted_at, is_in_payload, is_done};
+    ghost use Rattle.cbor_automaton.specs.State.{wanted_at, is_in_payload, is_done};
     ghost use Rattle.cbor_slices.specs.SliceView.{SliceEventsView};
     ghost use Rattle.cbor_slices.specs.inner.Slices.{IsWithin, told_at};
 

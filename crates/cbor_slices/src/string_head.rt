@@ -1,10 +1,10 @@
 //! Heads of strings whose payload is there, straight from a slice.
 
 ghost use Rattle.std.specs.Prelude.{◌≡◌, ◌≤◌, ◌<◌, ◌+◌, List, ℕ, IfSome, length, true};
-ghost use Rattle.cbor_automaton.specs.inner.Automaton as automaton;
-ghost use Rattle.cbor_automaton.specs.inner.Pieces.{piece_by};
-ghost use Rattle.cbor_automaton.specs.inner.State.{major_of};
-ghost use Rattle.cbor_automaton.specs.inner.Whole.{IsFront};
+ghost use Rattle.cbor_automaton.specs.Automaton as automaton;
+ghost use Rattle.cbor_automaton.specs.Pieces.{piece_by};
+ghost use Rattle.cbor_automaton.specs.State.{major_of};
+ghost use Rattle.cbor_automaton.specs.Whole.{IsFront};
 ghost use Rattle.cbor_slices.specs.inner.StringHeads.{TellsString, TellsChunk};
 ghost use Rattle.cbor_automaton.specs.Token.{IsStringToken, kind_of};
 

@@ -14,17 +14,17 @@ use Rattle.cbor_head.specs.declared.order.KeyOrder.{KeyOrder}
 use Rattle.cbor_head.specs.declared.reason.Reason.TheVariants as reasons
 use Rattle.cbor_head.specs.declared.width.Width.{Width}
 use Rattle.cbor_head.specs.declared.width.Width.TheVariants.{Direct, One, Two, Four, Eight, Indefinite}
-use Rattle.cbor_automaton.specs.inner.Whole.{IsArgument}
+use Rattle.cbor_automaton.specs.Whole.{IsArgument}
 use Rattle.cbor_automaton.proofs.Taking.{IsNumbered}
 use Rattle.cbor_judging.specs.Judged.{IsJudged}
-use Rattle.cbor_walk.specs.Leaves.{IsShortest, IsLeaf}
+use Rattle.cbor_walk.specs.inner.Leaves.{IsShortest, IsLeaf}
 use Rattle.cbor_judging.proofs.ByteLists.{bytes_back}
 use Rattle.cbor_judging.proofs.Heads.{takes}
 use Rattle.cbor_walk.proofs.ShortHeads.{rest-is}
 use Rattle.cbor_walk.proofs.ShortLeaves.{leaf-number, leaf-value, leaf-empty, leaf-bytes, leaf-text}
-use Rattle.cbor_walk.specs.Path.{Level, bytes_before}
-use Rattle.cbor_walk.specs.Items.{IsPlaced, OpensHere, IsRefusedHere}
-use Rattle.cbor_walk.specs.Stop.{EndsWithin}
+use Rattle.cbor_walk.specs.inner.Path.{Level, bytes_before}
+use Rattle.cbor_walk.specs.inner.Items.{IsPlaced, OpensHere, IsRefusedHere}
+use Rattle.cbor_walk.specs.inner.Stop.{EndsWithin}
 use Rattle.cbor_walk.specs.declared.level.Due.TheVariants.{Item, Key}
 use Rattle.cbor_walk.proofs.PathStops.{end_here}
 

@@ -16,17 +16,17 @@ use Rattle.cbor_head.specs.declared.reason.Reason.TheVariants as reasons
 use Rattle.cbor_head.specs.declared.reason.Refusal.{Refusal}
 use Rattle.cbor_head.specs.declared.width.Width.{Width}
 use Rattle.cbor_head.specs.declared.width.Width.TheVariants.{Indefinite}
-use Rattle.cbor_automaton.specs.inner.Whole.{IsArgument}
+use Rattle.cbor_automaton.specs.Whole.{IsArgument}
 use Rattle.cbor_automaton.proofs.FirstByte.{split}
 use Rattle.cbor_judging.specs.Judged.{IsJudged}
 use Rattle.cbor_judging.proofs.ByteLists.{bytes_back, bytes_front}
 use Rattle.cbor_judging.proofs.Judged.{judged_start}
 use Rattle.cbor_judging.proofs.Leaves.{text_complains}
-use Rattle.cbor_walk.specs.Path.{Level, a_member, a_key, a_value, tagged, bytes_before, AreClean}
-use Rattle.cbor_walk.specs.Items.{IsMisplaced, IsRefusedHere, IsAny}
+use Rattle.cbor_walk.specs.inner.Path.{Level, a_member, a_key, a_value, tagged, bytes_before, AreClean}
+use Rattle.cbor_walk.specs.inner.Items.{IsMisplaced, IsRefusedHere, IsAny}
 use Rattle.cbor_walk.specs.declared.any_item.Any.{Any}
 use Rattle.cbor_walk.specs.declared.any_item.Any.TheVariants as any
-use Rattle.cbor_walk.specs.Stop.{HasComplaint, IsStopped}
+use Rattle.cbor_walk.specs.inner.Stop.{HasComplaint, IsStopped}
 use Rattle.cbor_walk.proofs.AnyItem.{low_bits, number_byte, fits as fits_in, numbered, spells, ends_here}
 use Rattle.cbor_walk.proofs.CutHeads.{head_cut, bytes_cut, text_cut}
 use Rattle.cbor_walk.proofs.FirstBytes.{MayBreak, reserved, no_indefinite, a_float, stray_break, too_deep, bad_simple}

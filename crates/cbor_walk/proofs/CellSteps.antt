@@ -17,9 +17,9 @@ use Rattle.cbor_judging.specs.LastKey as keys
 use Rattle.cbor_judging.proofs.LastKey.{last_key_with}
 use Rattle.cbor_judging.proofs.LastKey.{last_is}
 use Rattle.cbor_judging.proofs.LastKey.{key-fresh, key-falls}
-use Rattle.cbor_walk.specs.Path as path
-use Rattle.cbor_walk.specs.Path.{a_member, a_key, a_value, tagged, level_bytes, bytes_before, AreClean, HasEnded}
-use Rattle.cbor_walk.specs.Cells.{last_key, key_at, IsKeyDue, AreCells, StandsAt, HasEndedAt, HasClosed, Falls, TakesKey}
+use Rattle.cbor_walk.specs.inner.Path as path
+use Rattle.cbor_walk.specs.inner.Path.{a_member, a_key, a_value, tagged, level_bytes, bytes_before, AreClean, HasEnded}
+use Rattle.cbor_walk.specs.inner.Cells.{last_key, key_at, IsKeyDue, AreCells, StandsAt, HasEndedAt, HasClosed, Falls, TakesKey}
 use Rattle.cbor_walk.specs.declared.level.Due.TheVariants.{Item, Key, Value}
 use Rattle.cbor_walk.specs.declared.level.Level.{Level}
 use Rattle.cbor_walk.proofs.PathLevels.{judged_key_path}

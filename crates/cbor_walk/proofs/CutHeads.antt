@@ -9,7 +9,7 @@ use Rattle.cbor_head.specs.declared.major.Major.{Major}
 use Rattle.cbor_head.specs.declared.major.Major.TheVariants.{Unsigned, Negative, Bytes, Text, Array, Map, Tag, Simple}
 use Rattle.cbor_head.specs.declared.width.Width.{Width}
 use Rattle.cbor_head.specs.declared.width.Width.TheVariants.{One, Two, Four, Eight}
-use Rattle.cbor_automaton.specs.inner.Automaton.{Frame, State, at_item, in_head, in_simple, goes, numbered_tail, tail, has_room, take_byte, and_then, run, reached}
+use Rattle.cbor_automaton.specs.Automaton.{Frame, State, at_item, in_head, in_simple, goes, numbered_tail, tail, has_room, take_byte, and_then, run, reached}
 use Rattle.cbor_automaton.proofs.FirstByte.{split}
 use Rattle.cbor_automaton.proofs.Forward.{item_starts, room-above}
 use Rattle.cbor_automaton.proofs.Taking.{nothing-taken}
@@ -18,7 +18,7 @@ use Rattle.cbor_judging.proofs.ByteLists.{bytes_join}
 use Rattle.cbor_judging.proofs.Heads.{cut_head, zero_bytes, zero_length}
 use Rattle.cbor_judging.specs.Judged.{Never}
 use Rattle.cbor_judging.proofs.Leaves.{bytes_so_far, text_so_far}
-use Rattle.cbor_walk.specs.Path.{Level}
+use Rattle.cbor_walk.specs.inner.Path.{Level}
 use Rattle.cbor_walk.proofs.PathForm.{containers, containers_count}
 
 -- ---- a head

@@ -11,11 +11,11 @@ use Rattle.cbor_head.specs.declared.major.Major.TheVariants.{Array, Map, Tag, Si
 use Rattle.cbor_head.specs.declared.reason.Reason.{Reason}
 use Rattle.cbor_head.specs.declared.reason.Reason.TheVariants.{Reserved, NoIndefinite, Float, BadSimple, StrayBreak, TooDeep}
 use Rattle.cbor_head.specs.declared.width.Width.TheVariants.{Indefinite}
-use Rattle.cbor_automaton.specs.inner.Automaton.{Frame, at_item, in_simple, Opening, direct, long, indefinite_string, indefinite_container, long_simple, breaks, bad, refuses, major_at, tail, numbered_tail, opening, opening_of, has_room, begin, take_byte, run, reached}
+use Rattle.cbor_automaton.specs.Automaton.{Frame, at_item, in_simple, Opening, direct, long, indefinite_string, indefinite_container, long_simple, breaks, bad, refuses, major_at, tail, numbered_tail, opening, opening_of, has_room, begin, take_byte, run, reached}
 use Rattle.cbor_judging.specs.Judged.{IsJudged}
 use Rattle.cbor_judging.proofs.Judged.{judged_start, judged_head}
-use Rattle.cbor_walk.specs.Path.{Level, a_member, a_key, a_value, tagged, bytes_before, AreClean}
-use Rattle.cbor_walk.specs.Stop.{HasBadByte}
+use Rattle.cbor_walk.specs.inner.Path.{Level, a_member, a_key, a_value, tagged, bytes_before, AreClean}
+use Rattle.cbor_walk.specs.inner.Stop.{HasBadByte}
 use Rattle.cbor_walk.proofs.PathForm.{containers, containers_count}
 use Rattle.cbor_walk.proofs.PathStops.{bad_byte_here}
 

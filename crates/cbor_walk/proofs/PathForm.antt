@@ -10,12 +10,12 @@ use Rattle.cbor_head.specs.declared.major.Major.TheVariants.{Array, Map, Tag}
 use Rattle.cbor_head.specs.declared.width.Width.{Width}
 use Rattle.cbor_head.specs.declared.width.Width.TheVariants.{Indefinite}
 use Rattle.cbor_automaton.specs.Trace.{Mark, a_head, trace}
-use Rattle.cbor_automaton.specs.inner.Automaton.{Frame, counted, indefinite_array, indefinite_map, State, start, at_item, refuses, tells, close, expect, after, has_room, numbered_tail, tail, and_then, run, reached}
+use Rattle.cbor_automaton.specs.Automaton.{Frame, counted, indefinite_array, indefinite_map, State, start, at_item, refuses, tells, close, expect, after, has_room, numbered_tail, tail, and_then, run, reached}
 use Rattle.cbor_automaton.proofs.Beginnings.{onwards, run-append, telling_all-reached}
 use Rattle.cbor_automaton.proofs.Forward.{forward, head-taken, item_starts, room-above, telling_all}
 use Rattle.cbor_judging.specs.SoFar.{array_bytes, map_bytes}
 use Rattle.cbor_judging.proofs.Judged.{judged_start}
-use Rattle.cbor_walk.specs.Path.{Level, a_member, a_key, a_value, tagged, level_bytes, IsClean, bytes_before, AreClean}
+use Rattle.cbor_walk.specs.inner.Path.{Level, a_member, a_key, a_value, tagged, level_bytes, IsClean, bytes_before, AreClean}
 use Rattle.cbor_walk.proofs.PathLevels.{judged_path}
 
 -- ---- the frames

@@ -12,7 +12,7 @@ use Rattle.cbor_judging.specs.Judged.{IsJudged}
 use Rattle.cbor_judging.specs.SoFar.{array_bytes, map_bytes}
 use Rattle.cbor_judging.specs.Judged.{Never}
 use Rattle.cbor_judging.proofs.Judged.{zero_item, zeros, zeros_count, zeros_spelled, zeros_flat, zero_pairs, pairs_count, pairs_spelled, pairs_flat, judged_in, judged_key}
-use Rattle.cbor_walk.specs.Path.{Level, a_member, a_key, a_value, tagged, level_bytes, IsValueDue, IsClean, bytes_before, AreClean, HasEnded}
+use Rattle.cbor_walk.specs.inner.Path.{Level, a_member, a_key, a_value, tagged, level_bytes, IsValueDue, IsClean, bytes_before, AreClean, HasEnded}
 
 -- ---- a level as a frame, in which zeros stand for what is still to come
 

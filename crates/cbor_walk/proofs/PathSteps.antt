@@ -14,7 +14,7 @@ use Rattle.cbor_judging.proofs.Composition.{array_whole, map_whole}
 use Rattle.cbor_judging.proofs.Frames.{count_with, spelled_with, depth_with, entries_with, spelled_entries_with, depth_entries_with, members_split, entries_split}
 use Rattle.cbor_judging.specs.Judged.{Never}
 use Rattle.cbor_judging.proofs.Loops.{array_bytes-more, array_bytes-whole, map_bytes-more, map_bytes-whole}
-use Rattle.cbor_walk.specs.Path.{Level, a_member, a_key, a_value, tagged, level_bytes, IsValueDue, bytes_before, AreClean, HasEnded}
+use Rattle.cbor_walk.specs.inner.Path.{Level, a_member, a_key, a_value, tagged, level_bytes, IsValueDue, bytes_before, AreClean, HasEnded}
 
 -- ---- what came is one more
 

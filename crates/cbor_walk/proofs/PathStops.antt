@@ -6,13 +6,13 @@ use Rattle.cbor_head.specs.Verdict.{refusal}
 use Rattle.cbor_head.specs.declared.reason.Reason.{Reason}
 use Rattle.cbor_head.specs.declared.reason.Reason.TheVariants.{Truncated}
 use Rattle.cbor_automaton.specs.Trace.{Mark}
-use Rattle.cbor_automaton.specs.inner.Automaton.{State, at_item, refuses, take_byte, run, reached}
+use Rattle.cbor_automaton.specs.Automaton.{State, at_item, refuses, take_byte, run, reached}
 use Rattle.cbor_automaton.proofs.Refusals.{IsUnfinished, refuses-rightly}
 use Rattle.cbor_automaton.proofs.Runs.{run-on}
 use Rattle.cbor_judging.specs.Judged.{IsJudged}
 use Rattle.cbor_judging.proofs.ByteLists.{bytes_front, bytes_back}
-use Rattle.cbor_walk.specs.Path.{Level, bytes_before, AreClean}
-use Rattle.cbor_walk.specs.Stop.{HasComplaint, HasBadByte, EndsWithin}
+use Rattle.cbor_walk.specs.inner.Path.{Level, bytes_before, AreClean}
+use Rattle.cbor_walk.specs.inner.Stop.{HasComplaint, HasBadByte, EndsWithin}
 use Rattle.cbor_walk.proofs.PathForm.{containers, path_run}
 use Rattle.cbor_walk.proofs.PathLevels.{judged_path}
 

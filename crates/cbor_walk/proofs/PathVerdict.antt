@@ -18,8 +18,8 @@ use Rattle.cbor_judging.specs.Refusals.{IsComplaintReason}
 use Rattle.cbor_judging.proofs.Decisions.{complaint_decides, break_decides}
 use Rattle.cbor_judging.proofs.Reasons.{complaint-reason}
 use Rattle.cbor_judging.proofs.SpelledBytes.{longest_always}
-use Rattle.cbor_walk.specs.Path.{HasEnded}
-use Rattle.cbor_walk.specs.Stop.{HasComplaint, HasBadByte, EndsWithin, IsStopped, IsAnswered}
+use Rattle.cbor_walk.specs.inner.Path.{HasEnded}
+use Rattle.cbor_walk.specs.inner.Stop.{HasComplaint, HasBadByte, EndsWithin, IsStopped, IsAnswered}
 
 -- ---- reasons
 

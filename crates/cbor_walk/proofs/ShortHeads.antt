@@ -16,7 +16,7 @@ use Rattle.cbor_head.specs.declared.width.Width.{Width}
 use Rattle.cbor_head.specs.declared.width.Width.TheVariants.{Direct, One, Two, Four, Eight}
 use Rattle.cbor_head.proofs.HeadBack.{front_number}
 use Rattle.cbor_canonical.proofs.Normal.{Holds-shortest}
-use Rattle.cbor_walk.specs.Leaves.{IsItemThen, IsShortest, IsShortestHead}
+use Rattle.cbor_walk.specs.inner.Leaves.{IsItemThen, IsShortest, IsShortestHead}
 
 -- a list of bytes, by place
 abbrev pub ByPlace : List ℕ → Type 0

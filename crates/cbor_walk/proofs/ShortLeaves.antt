@@ -13,7 +13,7 @@ use Rattle.cbor_head.specs.declared.width.Width.{Width}
 use Rattle.cbor_head.specs.declared.width.Width.TheVariants.{Direct, One, Two, Four, Eight, Indefinite}
 use Rattle.cbor_canonical.proofs.KeyFronts.{are_bytes, bytes_drop}
 use Rattle.cbor_canonical.proofs.Normal.{Holds-shortest}
-use Rattle.cbor_walk.specs.Leaves.{IsItemThen, IsShortest, IsShortestHead, IsLeaf}
+use Rattle.cbor_walk.specs.inner.Leaves.{IsItemThen, IsShortest, IsShortestHead, IsLeaf}
 use Rattle.cbor_walk.proofs.ShortHeads.{ByPlace, direct, an-unsigned, a-negative, a-simple, some-bytes, a-text, no-array, no-map}
 use Rattle.cbor_walk.proofs.ShortHeads.{rest-is}
 

@@ -14,13 +14,13 @@ use Rattle.cbor_head.specs.declared.width.Width.{Width}
 use Rattle.cbor_head.specs.declared.width.Width.TheVariants.{Direct, One, Two, Four, Eight, Indefinite}
 use Rattle.cbor_canonical.specs.Front.{front_of}
 use Rattle.cbor_canonical.proofs.Normal.{Holds-shortest}
-use Rattle.cbor_walk.specs.Leaves.{IsLeaf}
+use Rattle.cbor_walk.specs.inner.Leaves.{IsLeaf}
 use Rattle.cbor_judging.proofs.Heads.{open_or}
 use Rattle.cbor_judging.specs.Judged.{Never}
-use Rattle.cbor_walk.specs.Path as path
-use Rattle.cbor_walk.specs.Path.{a_member, a_key, tagged, level_bytes, bytes_before, AreClean}
-use Rattle.cbor_walk.specs.Cells.{a_level, AreCells, StandsAt, HasEndedAt, standing}
-use Rattle.cbor_walk.specs.Items.{IsOpener, IsShortOpener}
+use Rattle.cbor_walk.specs.inner.Path as path
+use Rattle.cbor_walk.specs.inner.Path.{a_member, a_key, tagged, level_bytes, bytes_before, AreClean}
+use Rattle.cbor_walk.specs.inner.Cells.{a_level, AreCells, StandsAt, HasEndedAt, standing}
+use Rattle.cbor_walk.specs.inner.Items.{IsOpener, IsShortOpener}
 use Rattle.cbor_walk.specs.declared.level.Due.{Due}
 use Rattle.cbor_walk.specs.declared.level.Due.TheVariants.{Item, Key, Value}
 use Rattle.cbor_walk.specs.declared.level.Level.{Level}

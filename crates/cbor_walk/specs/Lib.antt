@@ -1,6 +1,1 @@
-pub mod Cells
-pub mod Items
-pub mod Leaves
-pub mod Path
-pub mod Stop
-pub mod Walked
+pub mod inner

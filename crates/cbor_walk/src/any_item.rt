@@ -3,7 +3,7 @@
 ghost use Rattle.std.specs.Prelude.{◌≡◌, ◌≤◌, ◌<◌, ◌+◌, ◌-◌, ◌^◌, ◌∷◌, ℕ, List, length, MatchOption};
 ghost use Rattle.cbor_head.specs.Verdict.{refusal};
 ghost use Rattle.cbor_walk.specs.declared.any_item.Any.TheVariants as any;
-ghost use Rattle.cbor_walk.specs.Items.{IsPlaced, IsMisplaced, IsAny, IsStringHead};
+ghost use Rattle.cbor_walk.specs.inner.Items.{IsPlaced, IsMisplaced, IsAny, IsStringHead};
 
 use crate::argument::{Argument, is_shortest, read_argument};
 use crate::level::Due;

@@ -4,9 +4,9 @@ ghost use Rattle.std.specs.Prelude.{◌≡◌, ◌≤◌, IfOk, IfErr, MatchResu
 ghost use Rattle.cbor_head.specs.Complaint.{strict};
 ghost use Rattle.cbor_head.specs.Verdict.{IsVerdict, refused};
 ghost use Rattle.cbor_judging.specs.Readers.{IsRead};
-ghost use Rattle.cbor_walk.specs.Cells.{IsWhole};
-ghost use Rattle.cbor_walk.specs.Stop.{IsStopped, IsAnswered};
-ghost use Rattle.cbor_walk.specs.Walked.{IsFull};
+ghost use Rattle.cbor_walk.specs.inner.Cells.{IsWhole};
+ghost use Rattle.cbor_walk.specs.inner.Stop.{IsStopped, IsAnswered};
+ghost use Rattle.cbor_walk.specs.inner.Walked.{IsFull};
 
 use crate::level::{Due, Level};
 use crate::stack::Stack;

@@ -2,8 +2,8 @@
 //! said.
 
 ghost use Rattle.std.specs.Prelude.{◌≡◌, ◌<◌, ◌≤◌, ◌*◌, ◌^◌, ◌∷◌, ◌⊎◌, ℕ, List, length, IfSome, true, false};
-ghost use Rattle.cbor_walk.specs.Leaves.{IsShortestHead, IsLeaf};
-ghost use Rattle.cbor_walk.specs.Items.{IsShortOpener};
+ghost use Rattle.cbor_walk.specs.inner.Leaves.{IsShortestHead, IsLeaf};
+ghost use Rattle.cbor_walk.specs.inner.Items.{IsShortOpener};
 
 use crate::level::Due;
 use cbor_head::argument_bytes;

@@ -3,8 +3,8 @@
 ghost use Rattle.std.specs.Prelude.{◌≡◌, ◌≤◌, ◌<◌, ◌-◌, ◌∷◌, ℕ, suc, List, IsTrue, true, length, slice_range};
 ghost use Rattle.cbor_canonical.specs.Front.{front_of};
 ghost use Rattle.cbor_head.specs.Order.{key_lt};
-ghost use Rattle.cbor_walk.specs.Cells.{a_level, key_at, last_key, IsFronted, TakesKey, Advances};
-ghost use Rattle.cbor_walk.specs.Cells.{Leads, standing, around};
+ghost use Rattle.cbor_walk.specs.inner.Cells.{a_level, key_at, last_key, IsFronted, TakesKey, Advances};
+ghost use Rattle.cbor_walk.specs.inner.Cells.{Leads, standing, around};
 
 use crate::level::{Due, Level, Next, Step};
 use cbor_head::KeyOrder;

@@ -1,11 +1,11 @@
 //! The walk.
 
 ghost use Rattle.std.specs.Prelude.{◌≡◌, ◌≤◌, ◌<◌, ◌+◌, ◌^◌, length};
-ghost use Rattle.cbor_walk.specs.Cells.{standing, StandsAt};
+ghost use Rattle.cbor_walk.specs.inner.Cells.{standing, StandsAt};
 ghost use Rattle.cbor_head.specs.Verdict.{refusal};
 ghost use Rattle.cbor_head.specs.declared.reason.Reason.TheVariants as reasons;
 ghost use Rattle.cbor_walk.specs.declared.walk.Walked.TheVariants as walked;
-ghost use Rattle.cbor_walk.specs.Walked.{IsWalked};
+ghost use Rattle.cbor_walk.specs.inner.Walked.{IsWalked};
 
 use crate::level::{Level, Next};
 use crate::stack::Stack;

@@ -2,7 +2,7 @@
 use Rattle.std.specs.Prelude.{List, ◌∷◌, reverse}
 use Rattle.cbor_builder.specs.Parts.{Open}
 use Rattle.cbor_builder.specs.inner.Laid.{shape_open, opens, Laid}
-use Rattle.cbor_buffer.specs.inner.Moved.{meant, IsWhole}
+use Rattle.cbor_buffer.specs.Moved.{meant, IsWhole}
 use Rattle.cbor_builder.specs.inner.InPlace.{Agrees}
 use Rattle.cbor_builder.specs.declared.builder.Core.{Core}
 use Rattle.cbor_builder.specs.declared.frame.Frame.{Frame}

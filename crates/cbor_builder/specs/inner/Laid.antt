@@ -13,7 +13,7 @@ use Rattle.cbor_buffer.specs.declared.span.Span.{Span}
 use Rattle.cbor_builder.specs.declared.frame.Frame.{Frame}
 use Rattle.cbor_builder.specs.declared.frame.Shape.{Shape}
 use Rattle.cbor_builder.specs.declared.frame.Shape.TheVariants.{Plain, Array, Map, Key, Content}
-use Rattle.cbor_buffer.specs.inner.Spans.{span_pair}
+use Rattle.cbor_buffer.specs.Spans.{span_pair}
 
 -- the pairs of the map whose spans begin at an index
 abbrev pub pairs_from : List ℕ → List Span → ℕ → List Pair

@@ -10,7 +10,7 @@ use Rattle.cbor_buffer.specs.declared.span.Span.{Span}
 use Rattle.cbor_builder.specs.declared.frame.Shape.{Shape}
 use Rattle.cbor_builder.specs.declared.frame.Shape.TheVariants.{Map, Key}
 use Rattle.cbor_builder.specs.declared.repeat.Repeat.{Repeat}
-use Rattle.cbor_buffer.specs.inner.Spans.{no_span}
+use Rattle.cbor_buffer.specs.Spans.{no_span}
 
 abbrev pub nth : List Span → ℕ → Span
 nth ss i = slice_index_or ss i no_span

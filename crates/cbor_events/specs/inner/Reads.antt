@@ -6,9 +6,9 @@ use Rattle.cbor_automaton.specs.Trace.{Mark}
 use Rattle.cbor_machine.specs.MachineView.{MachineView}
 use Rattle.cbor_machine.specs.Machine.{StandsFor, IsGiven, IsRefused}
 use Rattle.cbor_machine.specs.NextEvent.{machine_call, IsNext, IsNextEvent}
-use Rattle.cbor_automaton.specs.inner.Pieces.{piece_by}
-use Rattle.cbor_machine.specs.inner.Calls.{HasRead}
-use Rattle.cbor_machine.specs.inner.Steps.{IsStep}
+use Rattle.cbor_automaton.specs.Pieces.{piece_by}
+use Rattle.cbor_machine.specs.Calls.{HasRead}
+use Rattle.cbor_machine.specs.Steps.{IsStep}
 use Rattle.cbor_machine.specs.declared.step.Out.TheVariants as outs
 use Rattle.cbor_automaton.specs.declared.event.Event.{Event}
 use Rattle.cbor_events.specs.declared.item_events.Asked.{Asked}

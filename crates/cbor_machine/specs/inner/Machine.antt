@@ -2,8 +2,8 @@
 use Rattle.std.specs.Prelude.{◌≡◌, ℕ, List, length}
 use Rattle.cbor_automaton.specs.Trace.{Mark}
 use Rattle.cbor_machine.specs.MachineView.{MachineView}
-use Rattle.cbor_automaton.specs.inner.Automaton.{start, run, reached}
-use Rattle.cbor_automaton.specs.inner.State.{state_of, wanted_at, is_in_payload, is_done}
+use Rattle.cbor_automaton.specs.Automaton.{start, run, reached}
+use Rattle.cbor_automaton.specs.State.{state_of, wanted_at, is_in_payload, is_done}
 
 -- what the view shows is what the inner state has
 pub record IsShown (m : MachineView) : Type 0 where

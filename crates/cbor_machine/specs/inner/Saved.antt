@@ -8,7 +8,7 @@ use Rattle.cbor_head.specs.declared.width.Width.{Width}
 use Rattle.cbor_head.specs.declared.width.Width.TheVariants as widths
 use Rattle.cbor_machine.specs.MachineView.{MachineView}
 use Rattle.cbor_machine.specs.inner.Machine.{IsShown}
-use Rattle.cbor_automaton.specs.inner.State.{IsFit, IsSettled}
+use Rattle.cbor_automaton.specs.State.{IsFit, IsSettled}
 use Rattle.cbor_automaton.specs.declared.frame.Frame.{Frame}
 use Rattle.cbor_automaton.specs.declared.frame.Frame.TheVariants as frames
 use Rattle.cbor_machine.specs.declared.machine.saved.SavedFrame.{SavedFrame}

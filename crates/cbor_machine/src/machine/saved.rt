@@ -7,8 +7,8 @@ ghost use Rattle.cbor_automaton.specs.Reasons.{IsMachineReason};
 ghost use Rattle.cbor_machine.specs.Saved.{Holds, no_frames};
 ghost use Rattle.cbor_machine.specs.inner.Saved.{flag_at, frame_at, frame_by, kind_at, position_by, position_in};
 ghost use Rattle.cbor_machine.specs.inner.Saved.{refusal_by, width_at};
-ghost use Rattle.cbor_automaton.specs.inner.Nest.{due_frame};
-ghost use Rattle.cbor_automaton.specs.inner.State.{IsFit, IsSettled};
+ghost use Rattle.cbor_automaton.specs.Nest.{due_frame};
+ghost use Rattle.cbor_automaton.specs.State.{IsFit, IsSettled};
 
 use crate::machine::{Machine, refusal_of};
 use cbor_automaton::{Due, Frame, MOST_OPEN, Nest, Numbered, Position, has_room};

@@ -3,7 +3,7 @@ use Rattle.std.specs.Prelude.{◌≡◌, ℕ, ◌-◌, ◌≤◌, true, List, []
 use Rattle.cbor_head.specs.declared.reason.Refusal.{Refusal}
 use Rattle.cbor_automaton.specs.Marks.{count_of}
 use Rattle.cbor_slices.specs.SliceView.{SliceEventsView}
-use Rattle.cbor_automaton.specs.inner.State.{IsFit, IsSettled}
+use Rattle.cbor_automaton.specs.State.{IsFit, IsSettled}
 use Rattle.cbor_automaton.specs.declared.event.EventKind.{EventKind}
 use Rattle.cbor_automaton.specs.declared.event.EventKind.TheVariants as kinds
 use Rattle.cbor_automaton.specs.declared.frame.Frame.{Frame}

@@ -1,6 +1,6 @@
 use Rattle.std.proofs.Common.{arith, length, ap, ◌∙◌, sym}
-use Rattle.cbor_automaton.specs.inner.Automaton.{reached}
-use Rattle.cbor_automaton.specs.inner.State.{state_of}
+use Rattle.cbor_automaton.specs.Automaton.{reached}
+use Rattle.cbor_automaton.specs.State.{state_of}
 use Rattle.cbor_automaton.proofs.Runs.{run-goes, run-tells, once-marks}
 use Rattle.cbor_automaton.proofs.Frames.{wanted-head, still-going}
 use Rattle.cbor_automaton.proofs.up_to_event.walk_bytes.Goals as goal

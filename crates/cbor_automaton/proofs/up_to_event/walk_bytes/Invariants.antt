@@ -1,6 +1,6 @@
 use Rattle.std.proofs.Common.{◌≡◌, ◌≤◌, ◌+◌, [], length, take, false}
-use Rattle.cbor_automaton.specs.inner.Automaton.{run, reached}
-use Rattle.cbor_automaton.specs.inner.State.{state_of, IsFit, IsSettled, head_left, is_done}
+use Rattle.cbor_automaton.specs.Automaton.{run, reached}
+use Rattle.cbor_automaton.specs.State.{state_of, IsFit, IsSettled, head_left, is_done}
 use Rattle.cbor_automaton.proofs.up_to_event.walk_bytes.Given as goal
 
 abbrev pub invariant-loop-i : goal.invariant-loop-i

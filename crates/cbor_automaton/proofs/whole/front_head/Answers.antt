@@ -1,6 +1,6 @@
 use Rattle.std.proofs.Common.{◌∙◌, sym, ap, arith, refl, inl, inr}
-use Rattle.cbor_automaton.specs.inner.Automaton.{has_room}
-use Rattle.cbor_automaton.specs.inner.State.{frames_of}
+use Rattle.cbor_automaton.specs.Automaton.{has_room}
+use Rattle.cbor_automaton.specs.State.{frames_of}
 use Rattle.cbor_automaton.proofs.whole.front_head.Goals as goal
 
 pub overflow_sub-used : goal.overflow_sub-used

@@ -1,7 +1,7 @@
 use Rattle.std.proofs.Common.{ℕ, take, sym, subst}
-use Rattle.cbor_automaton.specs.inner.Automaton.{at_item}
-use Rattle.cbor_automaton.specs.inner.State.{frames_of, state_of}
-use Rattle.cbor_automaton.specs.inner.Whole.{IsEventRun}
+use Rattle.cbor_automaton.specs.Automaton.{at_item}
+use Rattle.cbor_automaton.specs.State.{frames_of, state_of}
+use Rattle.cbor_automaton.specs.Whole.{IsEventRun}
 use Rattle.cbor_automaton.specs.Token.{kind_of}
 use Rattle.cbor_automaton.specs.declared.token.Token.TheVariants.{Simple}
 use Rattle.cbor_automaton.proofs.WholeHeads.{simple-run}

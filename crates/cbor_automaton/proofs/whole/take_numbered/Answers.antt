@@ -1,7 +1,7 @@
 use Rattle.std.proofs.Common.{ℕ, ◌∙◌, ◌/◌, take, ap, sym, subst, arith}
-use Rattle.cbor_automaton.specs.inner.Automaton.{at_item, has_room}
-use Rattle.cbor_automaton.specs.inner.State.{frames_of, state_of}
-use Rattle.cbor_automaton.specs.inner.Whole.{IsEventRun, IsStringType}
+use Rattle.cbor_automaton.specs.Automaton.{at_item, has_room}
+use Rattle.cbor_automaton.specs.State.{frames_of, state_of}
+use Rattle.cbor_automaton.specs.Whole.{IsEventRun, IsStringType}
 use Rattle.cbor_automaton.specs.Token.{kind_of}
 use Rattle.cbor_automaton.proofs.WholeHeads.{numbered-run, string-at}
 use Rattle.cbor_automaton.proofs.whole.take_numbered.Goals as goal

@@ -1,6 +1,6 @@
 use Rattle.std.proofs.Common.{◌≡◌, true, ◌∙◌, sym, ap, arith}
-use Rattle.cbor_automaton.specs.inner.Automaton.{payload}
-use Rattle.cbor_automaton.specs.inner.State.{frames_of, state_of, major_of}
+use Rattle.cbor_automaton.specs.Automaton.{payload}
+use Rattle.cbor_automaton.specs.State.{frames_of, state_of, major_of}
 use Rattle.cbor_automaton.proofs.WholeHeads.{chunk-run, payload-some}
 use Rattle.cbor_automaton.proofs.whole.whole_chunk.Goals as goal
 

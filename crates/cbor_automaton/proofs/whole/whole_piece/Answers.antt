@@ -1,8 +1,8 @@
 use Rattle.std.proofs.Common.{◌+◌, ◌∙◌, take, length, arith, sym, ap, refl, replicate}
 use Rattle.std.proofs.lemmas.List.{length-take-le}
-use Rattle.cbor_automaton.specs.inner.Automaton.{reached}
+use Rattle.cbor_automaton.specs.Automaton.{reached}
 use Rattle.cbor_automaton.specs.Trace.{a_byte}
-use Rattle.cbor_automaton.specs.inner.State.{frames_of, major_of}
+use Rattle.cbor_automaton.specs.State.{frames_of, major_of}
 use Rattle.cbor_automaton.proofs.Runs.{piece_part, piece_last}
 use Rattle.cbor_automaton.proofs.whole.whole_piece.Goals as goal
 

@@ -1,5 +1,5 @@
 use Rattle.std.proofs.Common.{◌≡◌, ◌++◌, drop}
-use Rattle.cbor_buffer.specs.inner.Moved.{rope}
+use Rattle.cbor_buffer.specs.Moved.{rope}
 use Rattle.cbor_buffer.proofs.cuts.emit.Given as goal
 
 abbrev pub invariant-loop-cut : goal.invariant-loop-cut

@@ -1,5 +1,5 @@
 use Rattle.std.proofs.Common.{arith}
-use Rattle.cbor_buffer.specs.inner.Spans.{no_span}
+use Rattle.cbor_buffer.specs.Spans.{no_span}
 use Rattle.cbor_buffer.proofs.Gathered.{gathered_at, gathered_all, within_at}
 use Rattle.cbor_buffer.proofs.span.gather.Goals as goal
 

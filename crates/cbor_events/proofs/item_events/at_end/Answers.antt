@@ -1,7 +1,7 @@
 use Rattle.std.proofs.Common.{[], ◌++◌, inr, refl, arith, subst}
 use Rattle.std.proofs.KnownBytes.{Consumes-nil}
 use Rattle.cbor_machine.specs.Machine.{IsComplete, IsRefused}
-use Rattle.cbor_machine.specs.inner.Steps.{IsStep}
+use Rattle.cbor_machine.specs.Steps.{IsStep}
 use Rattle.cbor_machine.specs.declared.step.Out.TheVariants as outs
 use Rattle.cbor_machine.specs.NextEvent.{machine_call}
 use Rattle.cbor_machine.proofs.NextEvents.{end-here, all-used}

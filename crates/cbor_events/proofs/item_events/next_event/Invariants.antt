@@ -4,7 +4,7 @@ use Rattle.cbor_automaton.specs.Trace.{Mark}
 use Rattle.cbor_machine.specs.MachineView.{MachineView}
 use Rattle.cbor_machine.specs.Machine.{IsIdle}
 use Rattle.cbor_machine.specs.NextEvent.{StandsBetween}
-use Rattle.cbor_machine.specs.inner.Calls.{HasRead}
+use Rattle.cbor_machine.specs.Calls.{HasRead}
 use Rattle.cbor_events.proofs.item_events.next_event.Given as goal
 
 abbrev pub invariant-reads : goal.invariant-reads

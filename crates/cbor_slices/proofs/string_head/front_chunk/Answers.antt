@@ -1,6 +1,6 @@
 use Rattle.std.proofs.Common.{◌≡◌, ◌/◌, true, ap, ◌∙◌, arith}
-use Rattle.cbor_automaton.specs.inner.Automaton.{major_at}
-use Rattle.cbor_automaton.specs.inner.State.{major_of}
+use Rattle.cbor_automaton.specs.Automaton.{major_at}
+use Rattle.cbor_automaton.specs.State.{major_of}
 use Rattle.cbor_automaton.proofs.WholeHeads.{chunk-run, payload-some}
 use Rattle.cbor_slices.proofs.string_head.front_chunk.Goals as goal
 

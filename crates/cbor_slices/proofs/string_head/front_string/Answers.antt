@@ -1,5 +1,5 @@
 use Rattle.std.proofs.Common.{◌≡◌, ◌/◌, ◌-◌, false, refl, ap, arith}
-use Rattle.cbor_automaton.specs.inner.Automaton.{in_payload, major_at}
+use Rattle.cbor_automaton.specs.Automaton.{in_payload, major_at}
 use Rattle.cbor_head.specs.declared.major.Major.TheVariants as majors
 use Rattle.cbor_automaton.specs.declared.event.EventKind.TheVariants as kinds
 use Rattle.cbor_automaton.specs.declared.opening.Numbered.TheVariants as numbered

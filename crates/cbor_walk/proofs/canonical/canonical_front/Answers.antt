@@ -1,7 +1,7 @@
 use Rattle.std.proofs.Common.{◌≡◌, ℕ, List, [], take, sym, ap, ◌∙◌, subst}
 use Rattle.cbor_head.specs.Complaint.{strict}
-use Rattle.cbor_walk.specs.Path.{HasEnded}
-use Rattle.cbor_walk.specs.Stop.{IsStopped, IsAnswered}
+use Rattle.cbor_walk.specs.inner.Path.{HasEnded}
+use Rattle.cbor_walk.specs.inner.Stop.{IsStopped, IsAnswered}
 use Rattle.cbor_walk.proofs.PathVerdict.{stopped, accepts}
 use Rattle.cbor_walk.proofs.canonical.canonical_front.Goals as goal
 

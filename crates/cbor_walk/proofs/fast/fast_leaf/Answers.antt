@@ -1,6 +1,6 @@
 use Rattle.std.proofs.Common.{◌≡◌, ◌⊎◌, ◌<◌, ◌≤◌, ◌+◌, ◌-◌, ◌%◌, ◌∷◌, ℕ, suc, false, List, length, take, drop, get_or, sym, ap, ◌∙◌, subst, arith}
 use Rattle.std.proofs.lemmas.List.{take-take, take_rest}
-use Rattle.cbor_walk.specs.Leaves.{IsShortestHead, IsLeaf}
+use Rattle.cbor_walk.specs.inner.Leaves.{IsShortestHead, IsLeaf}
 use Rattle.cbor_walk.proofs.ShortLeaves.{one-byte, leaf-ascii, leaf-integer, leaf-simple}
 use Rattle.cbor_walk.proofs.fast.fast_leaf.Goals as goal
 

@@ -1,6 +1,6 @@
 use Rattle.std.proofs.Common.{◌+◌, ◌≤◌, w64, sym, subst, arith}
 use Rattle.std.specs.Int.{from_be_bytes}
-use Rattle.cbor_walk.specs.Leaves.{IsShortestHead}
+use Rattle.cbor_walk.specs.inner.Leaves.{IsShortestHead}
 use Rattle.cbor_walk.proofs.ShortHeads.{IsLeast, IsSize, shortest-head}
 use Rattle.cbor_walk.proofs.fast.shortest_size.Goals as goal
 

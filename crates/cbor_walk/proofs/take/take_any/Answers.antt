@@ -2,11 +2,11 @@ use Rattle.std.proofs.Common.{◌≡◌, ◌+◌, ◌<◌, ◌≤◌, ℕ, nat_l
 use Rattle.std.proofs.lemmas.Bool.{ltb-true, ltb-false}
 use Rattle.cbor_head.specs.Complaint.{strict}
 use Rattle.cbor_head.specs.Value.{AreBytes}
-use Rattle.cbor_walk.specs.Leaves.{IsLeaf}
-use Rattle.cbor_walk.specs.Path.{bytes_before}
-use Rattle.cbor_walk.specs.Cells.{standing, StandsAt}
-use Rattle.cbor_walk.specs.Items.{IsOpener}
-use Rattle.cbor_walk.specs.Stop.{IsStopped}
+use Rattle.cbor_walk.specs.inner.Leaves.{IsLeaf}
+use Rattle.cbor_walk.specs.inner.Path.{bytes_before}
+use Rattle.cbor_walk.specs.inner.Cells.{standing, StandsAt}
+use Rattle.cbor_walk.specs.inner.Items.{IsOpener}
+use Rattle.cbor_walk.specs.inner.Stop.{IsStopped}
 use Rattle.cbor_walk.specs.declared.level.Level.{Level}
 use Rattle.cbor_walk.proofs.Taking.{leaf_ends, opener_opens, height_is, whole_is}
 use Rattle.cbor_walk.proofs.take.take_any.Goals as goal

@@ -1,7 +1,7 @@
 use Rattle.std.proofs.Common.{◌+◌, ◌<◌, ◌≤◌, ℕ, false, true≢false, List, ◌∷◌, length, drop, sym, ap, ◌∙◌, subst, arith}
-use Rattle.cbor_walk.specs.Leaves.{IsLeaf}
-use Rattle.cbor_walk.specs.Cells.{standing, StandsAt}
-use Rattle.cbor_walk.specs.Items.{IsOpener}
+use Rattle.cbor_walk.specs.inner.Leaves.{IsLeaf}
+use Rattle.cbor_walk.specs.inner.Cells.{standing, StandsAt}
+use Rattle.cbor_walk.specs.inner.Items.{IsOpener}
 use Rattle.cbor_walk.specs.declared.level.Level.{Level}
 use Rattle.cbor_walk.proofs.Taking.{leaf_ends, opener_opens, short_opens, height_is}
 use Rattle.cbor_walk.proofs.take.take_next.Goals as goal

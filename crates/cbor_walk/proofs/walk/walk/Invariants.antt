@@ -1,5 +1,5 @@
 use Rattle.std.proofs.Common.{◌-◌, ◌≤◌, length}
-use Rattle.cbor_walk.specs.Cells.{standing, StandsAt}
+use Rattle.cbor_walk.specs.inner.Cells.{standing, StandsAt}
 use Rattle.cbor_walk.proofs.walk.walk.Given as goal
 
 abbrev pub invariant-items : goal.invariant-items

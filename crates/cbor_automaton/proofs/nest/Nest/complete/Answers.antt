@@ -1,7 +1,7 @@
 use Rattle.std.proofs.Common.{sym, ap, ◌∙◌}
-use Rattle.cbor_automaton.specs.inner.Automaton.{close}
-use Rattle.cbor_automaton.specs.inner.State.{frame_of, frames_of}
-use Rattle.cbor_automaton.specs.inner.Nest.{level_frame, advanced}
+use Rattle.cbor_automaton.specs.Automaton.{close}
+use Rattle.cbor_automaton.specs.State.{frame_of, frames_of}
+use Rattle.cbor_automaton.specs.Nest.{level_frame, advanced}
 use Rattle.cbor_automaton.proofs.Nests.{goes-on}
 use Rattle.cbor_automaton.proofs.nest.Nest.complete.Goals as goal
 

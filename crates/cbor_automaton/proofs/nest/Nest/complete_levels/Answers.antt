@@ -1,6 +1,6 @@
 use Rattle.std.proofs.Common.{sym, ap, ◌∙◌}
-use Rattle.cbor_automaton.specs.inner.State.{frame_of}
-use Rattle.cbor_automaton.specs.inner.Nest.{level_frame, advanced}
+use Rattle.cbor_automaton.specs.State.{frame_of}
+use Rattle.cbor_automaton.specs.Nest.{level_frame, advanced}
 use Rattle.cbor_automaton.proofs.Nests.{goes-on}
 use Rattle.cbor_automaton.proofs.nest.Nest.complete_levels.Goals as goal
 

@@ -1,7 +1,7 @@
 use Rattle.std.proofs.Common.{◌≡◌, ◌≤◌, length}
-use Rattle.cbor_automaton.specs.inner.Automaton.{close}
-use Rattle.cbor_automaton.specs.inner.State.{frames_of}
-use Rattle.cbor_automaton.specs.inner.Nest.{nested, IsRooted}
+use Rattle.cbor_automaton.specs.Automaton.{close}
+use Rattle.cbor_automaton.specs.State.{frames_of}
+use Rattle.cbor_automaton.specs.Nest.{nested, IsRooted}
 use Rattle.cbor_automaton.proofs.nest.Nest.complete_levels.Given as goal
 
 abbrev pub invariant-levels : goal.invariant-levels

@@ -1,6 +1,6 @@
 use Rattle.std.proofs.Common.{sym, ap, ◌∙◌, arith}
-use Rattle.cbor_automaton.specs.inner.Automaton.{break_at}
-use Rattle.cbor_automaton.specs.inner.State.{frames_of}
+use Rattle.cbor_automaton.specs.Automaton.{break_at}
+use Rattle.cbor_automaton.specs.State.{frames_of}
 use Rattle.cbor_automaton.proofs.Nests.{ends-here}
 use Rattle.cbor_automaton.proofs.nest.Nest.end.Goals as goal
 

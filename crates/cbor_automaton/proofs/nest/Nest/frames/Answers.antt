@@ -1,5 +1,5 @@
 use Rattle.std.proofs.Common.{◌-◌, ◌++◌, ◌∷◌, [], map, take, drop, ap, ◌∙◌, arith, take_all}
-use Rattle.cbor_automaton.specs.inner.Nest.{level_frame}
+use Rattle.cbor_automaton.specs.Nest.{level_frame}
 use Rattle.cbor_automaton.proofs.Nests.{all-frames}
 use Rattle.cbor_automaton.proofs.nest.Nest.frames.Goals as goal
 

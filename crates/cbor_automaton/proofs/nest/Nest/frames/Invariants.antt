@@ -1,5 +1,5 @@
 use Rattle.std.proofs.Common.{◌≡◌, ◌-◌, map, take, drop}
-use Rattle.cbor_automaton.specs.inner.Nest.{level_frame}
+use Rattle.cbor_automaton.specs.Nest.{level_frame}
 use Rattle.cbor_automaton.proofs.nest.Nest.frames.Given as goal
 
 abbrev pub invariant-loop-level : goal.invariant-loop-level

@@ -1,5 +1,5 @@
 use Rattle.std.proofs.Common.{ℕ, List, ◌≡◌, ◌≤◌, ◌++◌, length, take, drop}
-use Rattle.cbor_buffer.specs.inner.Moved.{rope, Run}
+use Rattle.cbor_buffer.specs.Moved.{rope, Run}
 use Rattle.cbor_buffer.specs.declared.cuts.Cut.{Cut}
 use Rattle.cbor_buffer.proofs.cuts.Picked.take_up.Given as goal
 

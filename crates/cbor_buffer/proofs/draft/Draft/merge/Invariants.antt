@@ -1,5 +1,5 @@
 use Rattle.std.proofs.Common.{◌≡◌, vec_len}
-use Rattle.cbor_buffer.specs.inner.Moved.{IsWhole}
+use Rattle.cbor_buffer.specs.Moved.{IsWhole}
 use Rattle.cbor_buffer.proofs.draft.Draft.merge.Given as goal
 
 abbrev pub invariant-merging : goal.invariant-merging

@@ -2,9 +2,9 @@ use Rattle.std.proofs.Common.{ℕ, List, ◌∷◌, ◌-◌, ◌++◌, length, t
 use Rattle.std.specs.Prelude.{slice_index_or, flat_map}
 use Rattle.std.specs.Global.{Vec}
 use Rattle.std.proofs.lemmas.List.{take_rest}
-use Rattle.cbor_buffer.specs.inner.Spans.{span_pair}
-use Rattle.cbor_buffer.specs.inner.Moved.{rope, Run, gap, meant}
-use Rattle.cbor_buffer.specs.inner.Spans.{no_span}
+use Rattle.cbor_buffer.specs.Spans.{span_pair}
+use Rattle.cbor_buffer.specs.Moved.{rope, Run, gap, meant}
+use Rattle.cbor_buffer.specs.Spans.{no_span}
 use Rattle.cbor_buffer.specs.Pairs.{pair_bytes}
 use Rattle.cbor_buffer.specs.declared.cuts.Cut.{Cut}
 use Rattle.cbor_buffer.proofs.Drafts.{loose_cuts, loose_slice}

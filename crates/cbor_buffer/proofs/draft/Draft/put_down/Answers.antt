@@ -1,6 +1,6 @@
 use Rattle.std.proofs.Common.{ℕ, List, ◌++◌, take, length, ap, ◌∙◌, arith}
 use Rattle.std.proofs.lemmas.Result.{on_ok_weaker}
-use Rattle.cbor_buffer.specs.inner.Moved.{meant}
+use Rattle.cbor_buffer.specs.Moved.{meant}
 use Rattle.cbor_buffer.proofs.Drafts.{put_down, within_same, whole_length, length_same}
 use Rattle.cbor_buffer.proofs.draft.Draft.put_down.Goals as goal
 

@@ -1,5 +1,5 @@
 use Rattle.std.proofs.Common.{length, sym, subst}
-use Rattle.cbor_buffer.specs.inner.Moved.{AreInside}
+use Rattle.cbor_buffer.specs.Moved.{AreInside}
 use Rattle.cbor_buffer.proofs.Moved.{run_inside}
 use Rattle.cbor_buffer.proofs.draft.Draft.settle_all.Goals as goal
 

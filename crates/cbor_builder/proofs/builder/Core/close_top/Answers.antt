@@ -5,7 +5,7 @@ use Rattle.cbor_head.specs.Canonical.{in_order}
 use Rattle.cbor_builder.specs.Parts.{closed, HasNoRepeats}
 use Rattle.cbor_buffer.specs.Pairs.{pair_bytes}
 use Rattle.cbor_builder.specs.inner.Laid.{shape_open, pairs_from}
-use Rattle.cbor_buffer.specs.inner.Moved.{meant}
+use Rattle.cbor_buffer.specs.Moved.{meant}
 use Rattle.cbor_builder.specs.inner.InPlace.{HasSameKeys}
 use Rattle.cbor_builder.specs.declared.frame.Shape.{Shape}
 use Rattle.cbor_buffer.proofs.Drafts.{whole_length, front_shorter}

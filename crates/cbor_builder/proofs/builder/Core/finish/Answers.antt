@@ -1,7 +1,7 @@
 use Rattle.std.proofs.Common.{◌∙◌}
 use Rattle.std.specs.Prelude.{reverse}
 use Rattle.cbor_builder.specs.Parts.{plain}
-use Rattle.cbor_buffer.specs.inner.Moved.{meant}
+use Rattle.cbor_buffer.specs.Moved.{meant}
 use Rattle.cbor_builder.proofs.Growth.{finished}
 use Rattle.cbor_builder.proofs.InPlace.{alone}
 use Rattle.cbor_builder.proofs.builder.Core.finish.Goals as goal

@@ -3,7 +3,7 @@ use Rattle.std.specs.Prelude.{reverse}
 use Rattle.std.specs.Option.{option_or}
 use Rattle.cbor_builder.specs.inner.BuilderState.{standing}
 use Rattle.cbor_builder.specs.inner.Laid.{opens, Laid}
-use Rattle.cbor_buffer.specs.inner.Moved.{meant, IsWhole}
+use Rattle.cbor_buffer.specs.Moved.{meant, IsWhole}
 use Rattle.cbor_builder.specs.inner.Repeats.{Tells}
 use Rattle.cbor_builder.specs.declared.repeat.Repeat.{Repeat}
 use Rattle.cbor_builder.proofs.builder.Core.first_repeat.Given as goal

@@ -4,9 +4,9 @@ use Rattle.std.proofs.lemmas.List.{take_rest}
 use Rattle.cbor_buffer.specs.Pairs.{pair_bytes}
 use Rattle.cbor_builder.specs.inner.Front.{AreFronted, key_of}
 use Rattle.cbor_builder.specs.inner.Laid.{pairs_from}
-use Rattle.cbor_buffer.specs.inner.Spans.{span_pair, AreWithin}
-use Rattle.cbor_buffer.specs.inner.Moved.{meant}
-use Rattle.cbor_buffer.specs.inner.Spans.{AreBehind}
+use Rattle.cbor_buffer.specs.Spans.{span_pair, AreWithin}
+use Rattle.cbor_buffer.specs.Moved.{meant}
+use Rattle.cbor_buffer.specs.Spans.{AreBehind}
 use Rattle.cbor_buffer.specs.declared.span.Span.{Span}
 use Rattle.cbor_buffer.proofs.Drafts.{whole_length}
 use Rattle.cbor_builder.proofs.Growth.{tile_within}

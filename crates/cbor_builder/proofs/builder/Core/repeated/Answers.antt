@@ -3,8 +3,8 @@ use Rattle.std.proofs.lemmas.List.{take_rest}
 use Rattle.cbor_canonical.specs.Pairs.{IsRising}
 use Rattle.cbor_builder.specs.inner.Front.{AreFronted}
 use Rattle.cbor_builder.specs.inner.Laid.{Fits}
-use Rattle.cbor_buffer.specs.inner.Spans.{span_pair}
-use Rattle.cbor_buffer.specs.inner.Moved.{meant}
+use Rattle.cbor_buffer.specs.Spans.{span_pair}
+use Rattle.cbor_buffer.specs.Moved.{meant}
 use Rattle.cbor_buffer.specs.declared.span.Span.{Span}
 use Rattle.cbor_buffer.proofs.Drafts.{whole_length}
 use Rattle.cbor_builder.proofs.InPlace.{top_keys, waiting_same, fronted_keys, rising_keys, keys_flip, repeated_same}

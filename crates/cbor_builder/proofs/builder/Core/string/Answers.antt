@@ -2,7 +2,7 @@ use Rattle.std.proofs.Common.{ℕ, List, ◌++◌, append_assoc, take, ap, ◌�
 use Rattle.std.specs.Prelude.{reverse}
 use Rattle.std.proofs.lemmas.Result.{on_ok_weaker}
 use Rattle.cbor_head.specs.Head.{shortest_head}
-use Rattle.cbor_buffer.specs.inner.Moved.{meant}
+use Rattle.cbor_buffer.specs.Moved.{meant}
 use Rattle.cbor_builder.proofs.Standing.{member_given, member_ready}
 use Rattle.cbor_builder.proofs.builder.Core.string.Goals as goal
 

@@ -2,7 +2,7 @@ use Rattle.std.proofs.Common.{◌≡◌, ℕ, vec_len, Option, sym, ap, ◌∙�
 use Rattle.std.specs.Prelude.{MatchOption}
 use Rattle.cbor_builder.specs.Built.{keys_so_far, AreAllDifferent, IsFirstRepeat}
 use Rattle.cbor_builder.specs.inner.Laid.{shape_open, opens}
-use Rattle.cbor_buffer.specs.inner.Moved.{meant}
+use Rattle.cbor_buffer.specs.Moved.{meant}
 use Rattle.cbor_builder.specs.inner.Repeats.{first_of, TellsOf}
 use Rattle.cbor_builder.specs.declared.builder.Core.{Core}
 use Rattle.cbor_builder.proofs.OpenRepeats.{own_keys, told_of, searched, rising_different}

@@ -3,7 +3,7 @@ use Rattle.std.specs.Prelude.{reverse, slice_range}
 use Rattle.cbor_builder.specs.Built.{IsWaitingKey}
 use Rattle.cbor_builder.specs.inner.BuilderState.{standing}
 use Rattle.cbor_builder.specs.inner.Laid.{Fits}
-use Rattle.cbor_buffer.specs.inner.Moved.{meant}
+use Rattle.cbor_buffer.specs.Moved.{meant}
 use Rattle.cbor_buffer.proofs.Drafts.{whole_length}
 use Rattle.cbor_builder.proofs.InPlace.{top_keys, waiting_is}
 use Rattle.cbor_builder.proofs.builder.Core.waiting_key.Goals as goal

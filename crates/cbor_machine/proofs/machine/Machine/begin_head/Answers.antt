@@ -1,8 +1,8 @@
 use Rattle.std.proofs.Common.{◌≡◌, ◌+◌, [], ◌∷◌, arith, ap, sym, refl, ◌∙◌, subst}
 use Rattle.cbor_machine.specs.MachineView.{MachineView}
-use Rattle.cbor_automaton.specs.inner.Automaton.{at_item, run, reached}
-use Rattle.cbor_automaton.specs.inner.State.{state_of, frames_of, wanted_at, IsFit}
-use Rattle.cbor_machine.specs.inner.Steps.{Ran}
+use Rattle.cbor_automaton.specs.Automaton.{at_item, run, reached}
+use Rattle.cbor_automaton.specs.State.{state_of, frames_of, wanted_at, IsFit}
+use Rattle.cbor_machine.specs.Steps.{Ran}
 use Rattle.cbor_machine.specs.declared.step.Out.TheVariants as outs
 use Rattle.cbor_machine.proofs.NextEvents.{wants-all}
 use Rattle.cbor_automaton.proofs.Runs.{run-one}

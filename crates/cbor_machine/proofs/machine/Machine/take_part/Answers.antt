@@ -4,9 +4,9 @@ use Rattle.cbor_head.specs.Verdict.{refusal}
 use Rattle.cbor_head.specs.declared.reason.Reason.TheVariants.{TooLong}
 use Rattle.cbor_machine.specs.declared.step.Out.TheVariants as outs
 use Rattle.cbor_machine.specs.MachineView.{MachineView}
-use Rattle.cbor_machine.specs.inner.Steps.{Ran}
+use Rattle.cbor_machine.specs.Steps.{Ran}
 use Rattle.cbor_machine.proofs.Standing.{are_bytes-take, fit-sound, front-walked, length-front, step-from, stopped, answered}
-use Rattle.cbor_automaton.specs.inner.State.{IsFit}
+use Rattle.cbor_automaton.specs.State.{IsFit}
 use Rattle.cbor_machine.proofs.Reasons.{form-machine}
 use Rattle.cbor_automaton.proofs.Frames.{not-done}
 use Rattle.cbor_machine.proofs.machine.Machine.take_part.Goals as goal

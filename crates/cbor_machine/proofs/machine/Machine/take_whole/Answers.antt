@@ -1,8 +1,8 @@
 use Rattle.std.proofs.Common.{◌≡◌, ◌+◌, length, arith, ap, refl, ◌∙◌, subst}
 use Rattle.cbor_machine.specs.MachineView.{MachineView}
-use Rattle.cbor_automaton.specs.inner.State.{state_of, wanted_at}
-use Rattle.cbor_machine.specs.inner.Steps.{Ran}
-use Rattle.cbor_automaton.specs.inner.Walk.{IsWalked}
+use Rattle.cbor_automaton.specs.State.{state_of, wanted_at}
+use Rattle.cbor_machine.specs.Steps.{Ran}
+use Rattle.cbor_automaton.specs.Walk.{IsWalked}
 use Rattle.cbor_machine.specs.declared.step.Out.TheVariants as outs
 use Rattle.cbor_automaton.specs.declared.up_to_event.Walked.TheVariants.{Told}
 use Rattle.cbor_automaton.proofs.Frames.{settled_fit}

@@ -3,7 +3,7 @@ use Rattle.std.specs.Prelude.{None}
 use Rattle.std.proofs.lemmas.List.{length-drop}
 use Rattle.cbor_slices.specs.SliceEvents.{IsNextTold}
 use Rattle.cbor_machine.specs.NextEvent.{StandsBetween}
-use Rattle.cbor_automaton.specs.inner.State.{is_in_payload}
+use Rattle.cbor_automaton.specs.State.{is_in_payload}
 use Rattle.cbor_automaton.specs.Token.{IsEventToken}
 use Rattle.cbor_slices.specs.SliceView.{SliceEventsView}
 use Rattle.cbor_slices.specs.inner.Slices.{told_at}

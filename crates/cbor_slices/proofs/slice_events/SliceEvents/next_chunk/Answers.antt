@@ -5,9 +5,9 @@ use Rattle.cbor_slices.specs.SliceView.{SliceEventsView}
 use Rattle.cbor_head.specs.declared.width.Width.TheVariants.{Direct}
 use Rattle.cbor_automaton.specs.Token.{kind_of}
 use Rattle.cbor_automaton.specs.Trace.{a_byte}
-use Rattle.cbor_automaton.specs.inner.Automaton.{in_chunks, reached}
-use Rattle.cbor_automaton.specs.inner.State.{frames_of, major_of, state_of, wanted_at, is_in_payload, is_done, IsSettled}
-use Rattle.cbor_automaton.specs.inner.Whole.{IsEventRun}
+use Rattle.cbor_automaton.specs.Automaton.{in_chunks, reached}
+use Rattle.cbor_automaton.specs.State.{frames_of, major_of, state_of, wanted_at, is_in_payload, is_done, IsSettled}
+use Rattle.cbor_automaton.specs.Whole.{IsEventRun}
 use Rattle.cbor_slices.specs.inner.Slices.{told_at}
 use Rattle.cbor_automaton.specs.declared.position.Position.TheVariants as positions
 use Rattle.cbor_automaton.specs.declared.token.Token.TheVariants as tokens

@@ -1,7 +1,7 @@
 use Rattle.std.proofs.Common.{◌≡◌, ◌-◌, true≢false, length, refl, ap, sym, arith, ◌∙◌}
 use Rattle.std.specs.Prelude.{None}
 use Rattle.std.proofs.lemmas.List.{length-drop}
-use Rattle.cbor_automaton.specs.inner.State.{is_in_payload}
+use Rattle.cbor_automaton.specs.State.{is_in_payload}
 use Rattle.cbor_slices.specs.inner.Slices.{told_at}
 use Rattle.cbor_machine.proofs.Feeding.{rest_from, rest-is}
 use Rattle.cbor_slices.proofs.Slices.{no-refusal, no-piece, run-from, event-next}

@@ -2,7 +2,7 @@ use Rattle.std.proofs.Common.{◌≡◌, ◌-◌, ◌++◌, ℕ, List, false, tr
 use Rattle.std.specs.Prelude.{None}
 use Rattle.std.proofs.lemmas.List.{length-drop, length-take-le, take-append-drop}
 use Rattle.cbor_slices.specs.SliceView.{SliceEventsView}
-use Rattle.cbor_automaton.specs.inner.State.{frames_of, wanted_at, is_in_payload, is_done}
+use Rattle.cbor_automaton.specs.State.{frames_of, wanted_at, is_in_payload, is_done}
 use Rattle.cbor_slices.specs.inner.Slices.{told_at}
 use Rattle.cbor_automaton.specs.declared.position.Position.TheVariants as positions
 use Rattle.cbor_automaton.specs.declared.token.Token.TheVariants as tokens

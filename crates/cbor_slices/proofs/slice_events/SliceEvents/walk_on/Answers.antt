@@ -1,8 +1,8 @@
 use Rattle.std.proofs.Common.{◌≡◌, ℕ, ◌+◌, ◌-◌, ◌<◌, length, refl, ap, sym, subst, arith, ◌∙◌}
 use Rattle.std.specs.Prelude.{None, Some}
 use Rattle.std.proofs.lemmas.List.{length-drop, nil_from_length}
-use Rattle.cbor_automaton.specs.inner.State.{IsFit, IsSettled}
-use Rattle.cbor_automaton.specs.inner.Walk.{IsTold, IsEnded}
+use Rattle.cbor_automaton.specs.State.{IsFit, IsSettled}
+use Rattle.cbor_automaton.specs.Walk.{IsTold, IsEnded}
 use Rattle.cbor_head.specs.Verdict.{refusal}
 use Rattle.cbor_head.specs.declared.reason.Refusal.{Refusal}
 use Rattle.cbor_automaton.specs.Token.{IsEventToken}

@@ -1,5 +1,5 @@
 use Rattle.std.proofs.Common.{◌-◌, refl, arith, subst}
-use Rattle.cbor_walk.specs.Cells.{TakesKey}
+use Rattle.cbor_walk.specs.inner.Cells.{TakesKey}
 use Rattle.cbor_walk.specs.declared.level.Due.TheVariants.{Key}
 use Rattle.cbor_walk.specs.declared.level.Level.{Level}
 use Rattle.cbor_walk.proofs.CellSteps.{item_full, item_next, value_full, value_next, key_next, key_falls}

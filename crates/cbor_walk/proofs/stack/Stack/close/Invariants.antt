@@ -1,5 +1,5 @@
 use Rattle.std.proofs.Common.{ℕ, ◌≤◌}
-use Rattle.cbor_walk.specs.Cells.{HasClosed, around}
+use Rattle.cbor_walk.specs.inner.Cells.{HasClosed, around}
 use Rattle.cbor_walk.proofs.stack.Stack.close.Given as goal
 
 abbrev pub invariant-levels : goal.invariant-levels

@@ -7,9 +7,9 @@ use Rattle.cbor_automaton.specs.Trace.{Mark}
 use Rattle.cbor_automaton.specs.Marks.{marks_of, IsProper}
 use Rattle.cbor_machine.specs.MachineView.{MachineView}
 use Rattle.cbor_machine.specs.Machine.{StandsFor}
-use Rattle.cbor_automaton.specs.inner.Automaton as automaton
-use Rattle.cbor_automaton.specs.inner.Automaton.{run, take_byte, reached}
-use Rattle.cbor_automaton.specs.inner.State.{state_of, IsSettled}
+use Rattle.cbor_automaton.specs.Automaton as automaton
+use Rattle.cbor_automaton.specs.Automaton.{run, take_byte, reached}
+use Rattle.cbor_automaton.specs.State.{state_of, IsSettled}
 use Rattle.cbor_machine.specs.declared.step.Out.{Out}
 use Rattle.cbor_machine.specs.declared.step.Out.TheVariants as outs
 

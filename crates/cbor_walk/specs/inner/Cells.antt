@@ -9,9 +9,9 @@ use Rattle.cbor_head.specs.declared.reason.Reason.TheVariants as reasons
 use Rattle.cbor_head.specs.declared.width.Width.TheVariants.{Indefinite}
 use Rattle.cbor_canonical.specs.Front.{front_of}
 use Rattle.cbor_judging.specs.LastKey as keys
-use Rattle.cbor_walk.specs.Path as path
-use Rattle.cbor_walk.specs.Path.{level_bytes, bytes_before, AreClean, HasEnded}
-use Rattle.cbor_walk.specs.Stop.{HasComplaint}
+use Rattle.cbor_walk.specs.inner.Path as path
+use Rattle.cbor_walk.specs.inner.Path.{level_bytes, bytes_before, AreClean, HasEnded}
+use Rattle.cbor_walk.specs.inner.Stop.{HasComplaint}
 use Rattle.cbor_walk.specs.declared.level.Due.{Due}
 use Rattle.cbor_walk.specs.declared.level.Due.TheVariants.{Item, Key, Value}
 use Rattle.cbor_walk.specs.declared.level.Level.{Level}

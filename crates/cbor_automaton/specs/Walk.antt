@@ -1,6 +1,6 @@
 -- What comes of some bytes.
 use Rattle.std.specs.Prelude.{◌≡◌, ℕ, ◌++◌, List, [], ◌∷◌}
-use Rattle.cbor_automaton.specs.inner.Automaton.{State, refuses, take_byte, run, reached}
+use Rattle.cbor_automaton.specs.Automaton.{State, refuses, take_byte, run, reached}
 use Rattle.cbor_automaton.specs.Reasons.{IsFormReason}
 use Rattle.cbor_automaton.specs.Marks.{marks_of, times, IsProper}
 use Rattle.cbor_automaton.specs.declared.up_to_event.Walked.{Walked}

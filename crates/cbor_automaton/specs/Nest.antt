@@ -1,10 +1,10 @@
 -- The open containers, with the innermost one apart.
 use Rattle.std.specs.Prelude.{◌≡◌, ℕ, ◌≤◌, Bool, true, false, List, [], ◌∷◌, ◌++◌, map, take, drop, length}
-use Rattle.cbor_automaton.specs.inner.Automaton as automaton
-use Rattle.cbor_automaton.specs.inner.Automaton.{indefinite_array, indefinite_map}
+use Rattle.cbor_automaton.specs.Automaton as automaton
+use Rattle.cbor_automaton.specs.Automaton.{indefinite_array, indefinite_map}
 use Rattle.cbor_head.specs.Verdict.{initial_reason}
 use Rattle.cbor_automaton.specs.Trace.{a_break}
-use Rattle.cbor_automaton.specs.inner.State.{frames_of, state_of}
+use Rattle.cbor_automaton.specs.State.{frames_of, state_of}
 use Rattle.cbor_automaton.specs.declared.frame.Frame.{Frame}
 use Rattle.cbor_automaton.specs.declared.frame.TheConstants.{MOST_OPEN}
 use Rattle.cbor_automaton.specs.declared.frame.Frame.TheVariants.{Array, IndefiniteArray, Map, IndefiniteMap, Tag}

@@ -3,7 +3,7 @@ use Rattle.std.specs.Prelude.{ℕ, ◌++◌, List, Option, Some, Result, Ok}
 use Rattle.std.specs.Io.KnownBytes.{Consumes}
 use Rattle.cbor_head.specs.declared.reason.Refusal.{Refusal}
 use Rattle.cbor_automaton.specs.Trace.{Mark}
-use Rattle.cbor_automaton.specs.inner.Pieces.{kind_size, piece_by}
+use Rattle.cbor_automaton.specs.Pieces.{kind_size, piece_by}
 use Rattle.cbor_automaton.specs.declared.event.Event.{Event}
 use Rattle.cbor_machine.specs.MachineView.{MachineView}
 use Rattle.cbor_machine.specs.Machine.{StandsFor}

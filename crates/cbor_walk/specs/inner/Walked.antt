@@ -3,8 +3,8 @@ use Rattle.std.specs.Prelude.{◌≡◌, ℕ, ◌+◌, ◌<◌, ◌≤◌, List,
 use Rattle.cbor_head.specs.Complaint.{strict}
 use Rattle.cbor_head.specs.Value.{AreBytes}
 use Rattle.cbor_head.specs.declared.order.KeyOrder.{KeyOrder}
-use Rattle.cbor_walk.specs.Cells.{standing, StandsAt, HasEndedAt, IsWhole}
-use Rattle.cbor_walk.specs.Stop.{IsStopped}
+use Rattle.cbor_walk.specs.inner.Cells.{standing, StandsAt, HasEndedAt, IsWhole}
+use Rattle.cbor_walk.specs.inner.Stop.{IsStopped}
 use Rattle.cbor_walk.specs.declared.level.Level.{Level}
 use Rattle.cbor_walk.specs.declared.stack.Stack.{Stack}
 use Rattle.cbor_walk.specs.declared.take.Taken.{Taken}

@@ -8,10 +8,10 @@ use Rattle.cbor_head.specs.declared.reason.Reason.{Reason}
 use Rattle.cbor_head.specs.declared.reason.Reason.TheVariants.{Reserved, NoIndefinite, Float, StrayBreak, TooDeep}
 use Rattle.cbor_head.specs.declared.reason.Refusal.{Refusal}
 use Rattle.cbor_head.specs.Value.{AreBytes}
-use Rattle.cbor_automaton.specs.inner.Whole.{IsArgument}
-use Rattle.cbor_walk.specs.Leaves.{IsLeaf}
-use Rattle.cbor_walk.specs.Path.{Level, bytes_before, AreClean}
-use Rattle.cbor_walk.specs.Stop.{IsStopped}
+use Rattle.cbor_automaton.specs.Whole.{IsArgument}
+use Rattle.cbor_walk.specs.inner.Leaves.{IsLeaf}
+use Rattle.cbor_walk.specs.inner.Path.{Level, bytes_before, AreClean}
+use Rattle.cbor_walk.specs.inner.Stop.{IsStopped}
 use Rattle.cbor_walk.specs.declared.any_item.Any.{Any}
 use Rattle.cbor_walk.specs.declared.any_item.Any.TheVariants.{Leaf, Opens, Refused}
 use Rattle.cbor_walk.specs.declared.argument.Argument.{Argument}

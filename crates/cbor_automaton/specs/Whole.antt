@@ -4,9 +4,9 @@ use Rattle.cbor_head.specs.Head.{Holds, IsSimple, with_argument}
 use Rattle.cbor_head.specs.declared.major.Major.{Major}
 use Rattle.cbor_head.specs.declared.major.Major.TheVariants as majors
 use Rattle.cbor_head.specs.declared.width.Width.{Width}
-use Rattle.cbor_automaton.specs.inner.Automaton.{Frame, State, in_head, after, mark, run, reached, has_room, major_at}
+use Rattle.cbor_automaton.specs.Automaton.{Frame, State, in_head, after, mark, run, reached, has_room, major_at}
 use Rattle.cbor_automaton.specs.Marks.{marks_of, IsProper}
-use Rattle.cbor_automaton.specs.inner.Pieces.{piece_by}
+use Rattle.cbor_automaton.specs.Pieces.{piece_by}
 use Rattle.cbor_automaton.specs.declared.event.EventKind.{EventKind}
 use Rattle.cbor_automaton.specs.Token.{kind_of}
 use Rattle.cbor_automaton.specs.declared.token.Token.{Token}

@@ -2,8 +2,8 @@
 use Rattle.std.specs.Prelude.{◌≡◌, ℕ, suc, ◌⊎◌, ◌+◌, ◌*◌, ◌^◌, ◌≤◌, Bool, List, [], map, reverse}
 use Rattle.cbor_head.specs.declared.major.Major.{Major}
 use Rattle.cbor_head.specs.declared.major.Major.TheVariants as majors
-use Rattle.cbor_automaton.specs.inner.Automaton as automaton
-use Rattle.cbor_automaton.specs.inner.Automaton.{State}
+use Rattle.cbor_automaton.specs.Automaton as automaton
+use Rattle.cbor_automaton.specs.Automaton.{State}
 use Rattle.cbor_automaton.specs.Reasons.{IsFormReason}
 use Rattle.cbor_automaton.specs.Marks.{mark_of, times, IsDefinite, IsProper}
 use Rattle.cbor_automaton.specs.declared.frame.Frame.{Frame}
