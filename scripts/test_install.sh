@@ -48,19 +48,21 @@ CMAKE
 
 # Uses what stands below a prefix, in an environment that knows of no other.
 use() { # NAME PREFIX
-    local prefix=$2 page found
+    local prefix=$2 page found used='the program'
     [ "$("$prefix/bin/cborc" --version | head -1)" = "cborc $version" ] || fail "$1: the program's version"
     [ "$("$prefix/bin/cborc" canon "$room/streamed.cbor" - | xxd_of)" = $wanted ] || fail "$1: the program"
     page=$(find "$prefix/share/man/man1" -name 'cborc.1*')
     if have man; then
         found=$(MANPAGER=cat MANWIDTH=80 man -l "$page" 2>&1) || fail "$1: the man page"
         grep -q 'canonicalise CBOR' <<<"$found" || fail "$1: the man page says nothing"
+        used+=', its man page'
     fi
     if have pkg-config; then
         [ "$(PKG_CONFIG_PATH=$prefix/lib/pkgconfig pkg-config --modversion naltvigo)" = "$version" ] || fail "$1: pkg-config's version"
         # shellcheck disable=SC2046
         "$cc" "$room/project/canonicalise.c" $(PKG_CONFIG_PATH=$prefix/lib/pkgconfig pkg-config --cflags --libs naltvigo) -o "$room/program"
         [ "$(LD_LIBRARY_PATH=$prefix/lib "$room/program" "$room/streamed.cbor" | xxd_of)" = $wanted ] || fail "$1: a C program, by pkg-config"
+        used+=', C by pkg-config'
     fi
     if have cmake; then
         rm -rf "$room/build"
@@ -69,8 +71,9 @@ use() { # NAME PREFIX
         for kind in shared static; do
             [ "$("$room/build/$kind" "$room/streamed.cbor" | xxd_of)" = $wanted ] || fail "$1: the CMake project, $kind"
         done
+        used+=', C by CMake'
     fi
-    say "$1: the program, its man page, C by pkg-config and by CMake"
+    say "$1: $used"
 }
 
 # ---- into a prefix, beside what is there

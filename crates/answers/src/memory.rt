@@ -1,8 +1,8 @@
 //! What the calls over whole items answer where memory is refused from some request on.
 
 use crate::writing::{put_hex, put_refusal};
-use cbor_head::{KeyOrder, Limits, Major};
 use cbor_builder::CanonBuilder;
+use cbor_head::{KeyOrder, Limits, Major};
 use cbor_item::{Tree, encode, encode_to, same};
 use cbor_reader::{Sequence, Side, StrictReader, same_meaning, whole_tree};
 use std::alloc::{AllocError, Global};

@@ -8,29 +8,29 @@ use Rattle.cbor_head.specs.declared.major.Major.{Major}
 use Rattle.cbor_head.specs.declared.major.Major.TheVariants as majors
 use Rattle.cbor_head.specs.declared.width.Width.{Width}
 use Rattle.cbor_head.specs.declared.width.Width.TheVariants.{Direct, One, Two, Four, Eight, Indefinite}
-use Rattle.cbor_events.specs.Trace.{Mark, a_head, a_chunk, a_byte, a_break}
-use Rattle.cbor_events.specs.inner.Automaton as automaton
-use Rattle.cbor_events.specs.inner.Automaton.{State, Outcome, run, reached}
-use Rattle.cbor_events.proofs.Beginnings.{onwards, run-append, telling_all-reached}
-use Rattle.cbor_events.proofs.Forward.{telling_all, payload-byte, head-taken, item_starts, chunk_starts, simple-direct, simple-one}
+use Rattle.cbor_automaton.specs.Trace.{Mark, a_head, a_chunk, a_byte, a_break}
+use Rattle.cbor_automaton.specs.Automaton as automaton
+use Rattle.cbor_automaton.specs.Automaton.{State, Outcome, run, reached}
+use Rattle.cbor_automaton.proofs.Beginnings.{onwards, run-append, telling_all-reached}
+use Rattle.cbor_automaton.proofs.Forward.{telling_all, payload-byte, head-taken, item_starts, chunk_starts, simple-direct, simple-one}
 use Rattle.cbor_judging.specs.Place.{Container, counted, indefinite_array, indefinite_map, Place, at_item, in_payload, in_chunks, done, close, expect, payload, Follows, Opens, Ends, IsTaking, IsPlaced, begins, leads_on, LeadsOn, open_at}
-use Rattle.cbor_events.proofs.Taking.{IsClear, first-mark, within-start, mark-taken}
+use Rattle.cbor_automaton.proofs.Taking.{IsClear, first-mark, within-start, mark-taken}
 use Rattle.cbor_head.specs.Value.{AreBytes}
 use Rattle.cbor_judging.proofs.Payloads.{untell}
-use Rattle.cbor_events.specs.Bytes.{IsEventBytes}
-use Rattle.cbor_events.specs.Marks.{mark_of, marks_of, times}
-use Rattle.cbor_events.specs.Machine.{IsComplete}
-use Rattle.cbor_events.specs.MachineView.{MachineView}
-use Rattle.cbor_events.specs.ItemEvents.{Call, StandsBetween, IsNextEvent, IsDue}
-use Rattle.cbor_events.specs.declared.event.Event.{Event}
-use Rattle.cbor_events.specs.declared.event.EventKind.{EventKind}
-use Rattle.cbor_events.specs.declared.event.EventKind.TheVariants as kinds
-use Rattle.cbor_events.specs.declared.position.Position.{Position}
-use Rattle.cbor_events.specs.inner.State.{state_of}
-use Rattle.cbor_events.proofs.Frames.{position-done}
-use Rattle.cbor_events.proofs.NextEvents.{whole-clear, run-rest}
-use Rattle.cbor_events.proofs.Opens.{opens as opens-stack}
-use Rattle.cbor_events.proofs.Runs.{once-marks}
+use Rattle.cbor_automaton.specs.Bytes.{IsEventBytes}
+use Rattle.cbor_automaton.specs.Marks.{mark_of, marks_of, times}
+use Rattle.cbor_machine.specs.Machine.{IsComplete}
+use Rattle.cbor_machine.specs.MachineView.{MachineView}
+use Rattle.cbor_machine.specs.NextEvent.{Call, StandsBetween, IsNextEvent, IsDue}
+use Rattle.cbor_automaton.specs.declared.event.Event.{Event}
+use Rattle.cbor_automaton.specs.declared.event.EventKind.{EventKind}
+use Rattle.cbor_automaton.specs.declared.event.EventKind.TheVariants as kinds
+use Rattle.cbor_automaton.specs.declared.position.Position.{Position}
+use Rattle.cbor_automaton.specs.State.{state_of}
+use Rattle.cbor_automaton.proofs.Frames.{position-done}
+use Rattle.cbor_machine.proofs.NextEvents.{whole-clear, run-rest}
+use Rattle.cbor_automaton.proofs.Opens.{opens as opens-stack}
+use Rattle.cbor_automaton.proofs.Runs.{once-marks}
 use Rattle.cbor_judging.proofs.ByteLists.{bytes_back}
 use Rattle.cbor_judging.proofs.Standing.{done_position}
 use Rattle.cbor_judging.specs.Reading.{frame_at, state_at}

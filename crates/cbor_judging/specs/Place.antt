@@ -6,10 +6,10 @@ use Rattle.cbor_head.specs.declared.major.Major.{Major}
 use Rattle.cbor_head.specs.declared.major.Major.TheVariants.{Unsigned, Negative, Bytes, Text, Array, Map, Tag, Simple}
 use Rattle.cbor_head.specs.declared.width.Width.{Width}
 use Rattle.cbor_head.specs.declared.width.Width.TheVariants.{Indefinite}
-use Rattle.cbor_events.specs.Trace.{Mark, a_head, a_chunk, a_byte, a_break}
-use Rattle.cbor_events.specs.Marks.{mark_of, marks_of}
-use Rattle.cbor_events.specs.ItemEvents.{Call, IsDue}
-use Rattle.cbor_events.specs.declared.event.Event.{Event}
+use Rattle.cbor_automaton.specs.Trace.{Mark, a_head, a_chunk, a_byte, a_break}
+use Rattle.cbor_automaton.specs.Marks.{mark_of, marks_of}
+use Rattle.cbor_machine.specs.NextEvent.{Call, IsDue}
+use Rattle.cbor_automaton.specs.declared.event.Event.{Event}
 
 -- an open container
 pub data Container : Type 0 where

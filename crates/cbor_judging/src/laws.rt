@@ -1,11 +1,11 @@
 //! The law of places. Nothing here runs: its contract is the law.
 
 ghost use Rattle.std.specs.Prelude.{◌≡◌, ◌↔◌, List, [], ℕ, length};
-ghost use Rattle.cbor_events.specs.Trace.{Mark};
-ghost use Rattle.cbor_events.specs.ItemEvents.{Call, StandsBetween, IsNextEvent};
-ghost use Rattle.cbor_events.specs.Machine.{IsComplete};
-ghost use Rattle.cbor_events.specs.MachineView.{MachineView};
-ghost use Rattle.cbor_events.specs.declared.event.Event.{Event};
+ghost use Rattle.cbor_automaton.specs.Trace.{Mark};
+ghost use Rattle.cbor_machine.specs.NextEvent.{Call, StandsBetween, IsNextEvent};
+ghost use Rattle.cbor_machine.specs.Machine.{IsComplete};
+ghost use Rattle.cbor_machine.specs.MachineView.{MachineView};
+ghost use Rattle.cbor_automaton.specs.declared.event.Event.{Event};
 ghost use Rattle.cbor_judging.specs.Place.{Place, at_item, done, open_at, IsPlaced, LeadsOn};
 
 /// Where an item stands between two events, and where each event leads: before the first byte an

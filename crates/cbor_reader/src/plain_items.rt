@@ -17,8 +17,8 @@ ghost use Rattle.cbor_reader.specs.inner.PlainItems.{sets, AreKeysBegun, AreKeys
 use crate::key_set::KeySet;
 use crate::plain_part::Part;
 use crate::tree_parts::{end_in_tree, give_to_tree};
-use cbor_head::{KeyOrder, Major};
 use cbor_builder::CanonBuilder;
+use cbor_head::{KeyOrder, Major};
 use cbor_item::{Item, TreeBuilder};
 use cbor_strict::MOST_OPEN;
 use std::alloc::{AllocError, Global};

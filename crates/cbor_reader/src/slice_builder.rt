@@ -24,12 +24,11 @@ ghost use Rattle.cbor_reader.specs.inner.Levels.{IsEvent, HasEvent, IsFed, Build
 ghost use Rattle.cbor_reader.specs.inner.Levels.{TakesContent, IsBuiltFront, IsBuiltOn};
 ghost use Rattle.cbor_reader.specs.inner.Levels.{HasWhole, IsWhole};
 
-use cbor_text::is_short_ascii;
 use cbor_automaton::Token;
-use cbor_slices::SliceEvents;
-use cbor_head::{KeyOrder, Limits, Major};
 use cbor_builder::CanonBuilder;
-use cbor_text::check_text;
+use cbor_head::{KeyOrder, Limits, Major};
+use cbor_slices::SliceEvents;
+use cbor_text::{check_text, is_short_ascii};
 use std::alloc::{AllocError, Global};
 
 /// The canonical bytes of the item that a slice begins with, and how many bytes the item has.

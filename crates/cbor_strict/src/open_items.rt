@@ -19,8 +19,8 @@ ghost use Rattle.cbor_strict.specs.inner.OpenItems.{IsSameString, IsBegunBy, sho
 
 use crate::last_keys::{Due, LastKeys};
 use cbor_automaton::{Event, EventKind};
-use cbor_text::TextCheck;
 use cbor_head::{Head, KeyOrder, Major, Reason, Refusal, Width};
+use cbor_text::TextCheck;
 use std::alloc::{AllocError, Global};
 
 /// The open containers, the last key of each map among them, and how far a string was read.

@@ -7,8 +7,8 @@ ghost use Rattle.cbor_walk.specs.inner.Cells.{a_level, key_at, last_key, IsFront
 ghost use Rattle.cbor_walk.specs.inner.Cells.{Leads, standing, around};
 
 use crate::level::{Due, Level, Next, Step};
-use cbor_head::KeyOrder;
 use cbor_canonical::{compare_keys, key_front};
+use cbor_head::KeyOrder;
 use std::cmp::Ordering;
 
 impl Level {

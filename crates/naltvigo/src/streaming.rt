@@ -10,8 +10,8 @@ ghost use Rattle.naltvigo.specs.Streaming.{kind_number, number_of, width_number}
 use crate::settings::limits_of;
 use crate::status::{BAD_LIMITS, BAD_MACHINE, EVENT, MORE, NaltvigoRefusal, OK, REFUSED, told};
 use cbor_automaton::{Event, EventKind};
-use cbor_machine::{Machine, Out, SavedMachine};
 use cbor_head::Width;
+use cbor_machine::{Machine, Out, SavedMachine};
 
 /// The kind of a chunk's head; below it are the major types.
 pub const CHUNK: u32 = 8;

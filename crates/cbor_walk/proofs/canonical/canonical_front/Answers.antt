@@ -24,7 +24,7 @@ returns-in-Err c =
     let f = c.in-Err.refusal in
     let g = c.at_the_limit.result in
     stopped (strict c.args.order) c.args.limits.depth c.args.limits.bytes c.args.bytes.now f
-        (subst (λ k. IsStopped (strict c.args.order) k (take c.args.limits.bytes c.args.bytes.now) f) d
-          (subst (λ (xs : List ℕ). IsStopped (strict c.args.order) c.from.result xs f) input c.in-Err.ensures.refused)) g
-        (subst (λ n. IsAnswered n (take c.args.limits.bytes c.args.bytes.now) f g) c.bytes-in-Err.ensures.bytes
-          (subst (λ (xs : List ℕ). IsAnswered c.bytes-in-Err.result xs f g) input c.at_the_limit.ensures))
+    (subst (λ k. IsStopped (strict c.args.order) k (take c.args.limits.bytes c.args.bytes.now) f) d
+    (subst (λ (xs : List ℕ). IsStopped (strict c.args.order) c.from.result xs f) input c.in-Err.ensures.refused)) g
+    (subst (λ n. IsAnswered n (take c.args.limits.bytes c.args.bytes.now) f g) c.bytes-in-Err.ensures.bytes
+    (subst (λ (xs : List ℕ). IsAnswered c.bytes-in-Err.result xs f g) input c.at_the_limit.ensures))
