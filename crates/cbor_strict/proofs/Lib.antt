@@ -1,15 +1,3 @@
-pub mod Accepted
-pub mod Arrays
-pub mod ByteLists
-pub mod Chunks
-pub mod Composition
-pub mod Decisions
-pub mod Frames
-pub mod FreeBefore
-pub mod Fronts
-pub mod Heads
-pub mod Items
-pub mod Judged
 pub mod KeptCounts
 pub mod KeptKeys
 pub mod KeptReading
