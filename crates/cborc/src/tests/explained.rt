@@ -80,7 +80,7 @@ not hex: in
   line 1, column 4: the last digit stands alone
 ";
 
-// The words, the file as hex, and what stands on standard error.
+// The words, the file as hex (with `--hex` its text), and what stands on standard error.
 static EXPLAINED: [(&str, &str, &str); 8] = [
     ("check --explain in", "a161618200f90000", FLOAT),
     ("canon --explain in out", "a2616100616101", REPEATED),
@@ -93,10 +93,9 @@ static EXPLAINED: [(&str, &str, &str); 8] = [
     ("check --seq --explain in", "0082010281ff", OF_SEQUENCE),
     ("check --explain in", "816261ff", TEXT),
     ("events --explain in", "827f6161ff1c", RESERVED),
-    // the digits of 0082010281ff
     (
         "check --seq --hex --explain in",
-        "303038323031303238316666",
+        "0082010281ff",
         OF_SEQUENCE,
     ),
 ];
