@@ -227,9 +227,9 @@ mutual
       inl (agree k m i.0 j.0 p (front_both (spell k) (spell v ++ (spell_entries es ++ break_of w)) (spell m) (spell o ++ (spell_entries fs ++ break_of w)) p b) r at c l h)
   agree_entries (entry k v es) (entry m o fs) before i j w n p both r at c l (inr (inl h)) =
       let b = recut p (pairs_assoc (spell k) (spell v) (spell_entries es) (break_of w)) (pairs_assoc (spell m) (spell o) (spell_entries fs) (break_of w)) both in
-      let end = key_end r at before k c h in
+      let end = key_end r.keys at before k c h in
       let q = past_item k m i.0 j.0 (spell v ++ (spell_entries es ++ break_of w)) (spell o ++ (spell_entries fs ++ break_of w)) p b (omega arith) in
-      inr (inl (subst (λ (k : Spelling). OfKey r at before k c) q.same h))
+      inr (inl (subst (λ (k : Spelling). OfKey r.keys at before k c) q.same h))
   agree_entries (entry k v es) (entry m o fs) before i j w n p both r at c l (inr (inr (inl h))) =
       let b = recut p (pairs_assoc (spell k) (spell v) (spell_entries es) (break_of w)) (pairs_assoc (spell m) (spell o) (spell_entries fs) (break_of w)) both in
       let end = later v r (at + length (spell k)) c h in

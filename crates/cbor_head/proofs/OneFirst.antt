@@ -4,7 +4,7 @@ use Rattle.std.proofs.lemmas.List.{length-append}
 use Rattle.std.proofs.lemmas.Str.{IsUtf8-nil}
 use Rattle.cbor_head.specs.Head.{head}
 use Rattle.cbor_head.specs.Spelling.{Chunk, Spelling, Spellings, SpelledEntries, unsigned, negative, bytes, text, byte_chunks, text_chunks, array, a_map, tag, simple, no_spellings, a_spelling, no_entries, entry, spell, spell_all, spell_entries, spellings_count, entries_count, chunk_bytes, break_of, IsItem}
-use Rattle.cbor_head.specs.Complaint.{Rules, form, plain, strict, Complaint, OfHead, OfIndefinite, OfCount, OfPayload, OfString, OfChunks, OfKey, Complains, ComplainsIn, ComplainsInEntries}
+use Rattle.cbor_head.specs.Complaint.{KeyRule, unasked, distinct, rising, Rules, Complaint, OfHead, OfIndefinite, OfCount, OfPayload, OfString, OfChunks, OfKey, Complains, ComplainsIn, ComplainsInEntries}
 use Rattle.cbor_head.specs.Verdict.{rank, IsFirstComplaint}
 use Rattle.cbor_head.specs.declared.major.Major.{Major}
 use Rattle.cbor_head.specs.declared.major.Major.TheVariants.{Unsigned, Negative, Bytes, Text, Array, Map, Tag}
@@ -20,12 +20,10 @@ abbrev pub last : Complaint → ℕ
 last c = c.end + rank c.reason
 
 head_last : (r : Rules) (at : ℕ) (m : Major) (w : Width) (n : ℕ) (c : Complaint) → OfHead r at m w n c → last c ≡ at + length (head m w n)
-head_last (strict o) at m w n c h = ap last h.1 ∙ omega arith
-head_last _ at m w n c h = absurd h
+head_last r at m w n c h = ap last h.2 ∙ omega arith
 
 opener_last : (r : Rules) (at : ℕ) (c : Complaint) → OfIndefinite r at c → last c ≡ at + 1
-opener_last (strict o) at c h = ap last h ∙ omega arith
-opener_last _ at c h = absurd h
+opener_last r at c h = ap last h.1 ∙ omega arith
 
 pub count_last : (r : Rules) (at : ℕ) (m : Major) (w : Width) (n : ℕ) (c : Complaint) → OfCount r at m w n c → last c ≡ at + length (head m w n)
 count_last r at m Indefinite n c h = opener_last r at c h
@@ -36,8 +34,7 @@ count_last r at m Four n c h = head_last r at m Four n c h
 count_last r at m Eight n c h = head_last r at m Eight n c h
 
 pub payload_last : (r : Rules) (at : ℕ) (q : List ℕ) (c : Complaint) → OfPayload r at q c → last c ≡ at + length q
-payload_last form at q c h = absurd h
-payload_last _ at q c h = ap last h.1 ∙ omega arith
+payload_last r at q c h = ap last h.2 ∙ omega arith
 
 pub string_last : (r : Rules) (at : ℕ) (m : Major) (w : Width) (q : List ℕ) (c : Complaint) → OfString r at m w q c → last c ≤ at + length (head m w (length q) ++ q)
 string_last r at Text w q c (inl h) = omega (arith, head_last r at Text w (length q) c h, length-append (head Text w (length q)) q)
@@ -49,11 +46,11 @@ chunks_last r at m [] c h = absurd h
 chunks_last r at m (k ∷ ks) c (inl h) = omega (arith, string_last r at m k.width k.payload c h, length-append (chunk_bytes m k) (flat_map (chunk_bytes m) ks))
 chunks_last r at m (k ∷ ks) c (inr h) = omega (arith, chunks_last r (at + length (chunk_bytes m k)) m ks c h, length-append (chunk_bytes m k) (flat_map (chunk_bytes m) ks))
 
-pub key_last : (r : Rules) (at : ℕ) (before : List Spelling) (k : Spelling) (c : Complaint) → OfKey r at before k c → last c ≡ at + length (spell k) + 1
-key_last form at before k c h = absurd h
-key_last plain at before k c h = ap last h.1
-key_last (strict o) at [] k c h = absurd h
-key_last (strict o) at (b ∷ bs) k c h = ap last h.1
+pub key_last : (r : KeyRule) (at : ℕ) (before : List Spelling) (k : Spelling) (c : Complaint) → OfKey r at before k c → last c ≡ at + length (spell k) + 1
+key_last unasked at before k c h = absurd h
+key_last distinct at before k c h = ap last h.1
+key_last (rising o) at [] k c h = absurd h
+key_last (rising o) at (b ∷ bs) k c h = ap last h.1
 
 -- the length of three lists joined
 length-three : (a b c : List ℕ) → length (a ++ b ++ c) ≡ length a + length b + length c
@@ -86,18 +83,16 @@ mutual
   pub bounded_entries : (es : SpelledEntries) (before : List Spelling) (r : Rules) (at : ℕ) (c : Complaint) → ComplainsInEntries r at before es c → last c ≤ at + length (spell_entries es)
   bounded_entries no_entries before r at c h = absurd h
   bounded_entries (entry k v es) before r at c (inl h) = omega (arith, bounded k r at c h, length-three (spell k) (spell v) (spell_entries es))
-  bounded_entries (entry k v es) before r at c (inr (inl h)) = omega (arith, key_last r at before k c h, length_spell v, length-three (spell k) (spell v) (spell_entries es))
+  bounded_entries (entry k v es) before r at c (inr (inl h)) = omega (arith, key_last r.keys at before k c h, length_spell v, length-three (spell k) (spell v) (spell_entries es))
   bounded_entries (entry k v es) before r at c (inr (inr (inl h))) = omega (arith, bounded v r (at + length (spell k)) c h, length-three (spell k) (spell v) (spell_entries es))
   bounded_entries (entry k v es) before r at c (inr (inr (inr h))) = omega (arith, bounded_entries es (k ∷ before) r (at + length (spell k) + length (spell v)) c h, length-three (spell k) (spell v) (spell_entries es))
 
 -- two complaints of a head are one
 same_head : (r : Rules) (at : ℕ) (m : Major) (w : Width) (n : ℕ) (c e : Complaint) → OfHead r at m w n c → OfHead r at m w n e → c ≡ e
-same_head (strict o) at m w n c e h i = h.1 ∙ sym i.1
-same_head _ at m w n c e h i = absurd h
+same_head r at m w n c e h i = h.2 ∙ sym i.2
 
 same_opener : (r : Rules) (at : ℕ) (c e : Complaint) → OfIndefinite r at c → OfIndefinite r at e → c ≡ e
-same_opener (strict o) at c e h i = h ∙ sym i
-same_opener _ at c e h i = absurd h
+same_opener r at c e h i = h.1 ∙ sym i.1
 
 same_count : (r : Rules) (at : ℕ) (m : Major) (w : Width) (n : ℕ) (c e : Complaint) → OfCount r at m w n c → OfCount r at m w n e → c ≡ e
 same_count r at m Indefinite n c e h i = same_opener r at c e h i
@@ -108,15 +103,12 @@ same_count r at m Four n c e h i = same_head r at m Four n c e h i
 same_count r at m Eight n c e h i = same_head r at m Eight n c e h i
 
 same_payload : (r : Rules) (at : ℕ) (q : List ℕ) (c e : Complaint) → OfPayload r at q c → OfPayload r at q e → c ≡ e
-same_payload form at q c e h i = absurd h
-same_payload _ at q c e h i = h.1 ∙ sym i.1
+same_payload r at q c e h i = h.2 ∙ sym i.2
 
 -- no bytes are a text
 payload_some : (r : Rules) (at : ℕ) (q : List ℕ) (c : Complaint) → OfPayload r at q c → 0 < length q
-payload_some form at q c h = absurd h
-payload_some plain at [] c h = absurd (h.0 IsUtf8-nil)
-payload_some (strict o) at [] c h = absurd (h.0 IsUtf8-nil)
-payload_some _ at (x ∷ q) c h = omega arith
+payload_some r at [] c h = absurd (h.1 IsUtf8-nil)
+payload_some r at (x ∷ q) c h = omega arith
 
 same_string : (r : Rules) (at : ℕ) (m : Major) (w : Width) (q : List ℕ) (c e : Complaint) → c.end ≡ e.end → OfString r at m w q c → OfString r at m w q e → c ≡ e
 same_string r at Text w q c e f (inl h) (inl i) = same_head r at Text w (length q) c e h i
@@ -132,11 +124,11 @@ same_chunks r at m (k ∷ ks) c e f (inl h) (inr i) = absurd (omega (arith, stri
 same_chunks r at m (k ∷ ks) c e f (inr h) (inl i) = absurd (omega (arith, string_last r at m k.width k.payload e i, chunks_later r (at + length (chunk_bytes m k)) m ks c h))
 same_chunks r at m (k ∷ ks) c e f (inr h) (inr i) = same_chunks r (at + length (chunk_bytes m k)) m ks c e f h i
 
-same_key : (r : Rules) (at : ℕ) (before : List Spelling) (k : Spelling) (c e : Complaint) → OfKey r at before k c → OfKey r at before k e → c ≡ e
-same_key form at before k c e h i = absurd h
-same_key plain at before k c e h i = h.1 ∙ sym i.1
-same_key (strict o) at [] k c e h i = absurd h
-same_key (strict o) at (b ∷ bs) k c e h i = h.1 ∙ sym i.1
+same_key : (r : KeyRule) (at : ℕ) (before : List Spelling) (k : Spelling) (c e : Complaint) → OfKey r at before k c → OfKey r at before k e → c ≡ e
+same_key unasked at before k c e h i = absurd h
+same_key distinct at before k c e h i = h.1 ∙ sym i.1
+same_key (rising o) at [] k c e h i = absurd h
+same_key (rising o) at (b ∷ bs) k c e h i = h.1 ∙ sym i.1
 
 pub after_head : (s : Spelling) (r : Rules) (at : ℕ) (c : Complaint) → Complains r at s c → at < c.end
 after_head s r at c h = omega (arith, later s r at c h, length_head (major s) (width s) (count s))
@@ -180,19 +172,19 @@ mutual
   pub apart_entries : (es : SpelledEntries) (before : List Spelling) (r : Rules) (at : ℕ) (c e : Complaint) → c.end ≡ e.end → rank c.reason ≡ rank e.reason → ComplainsInEntries r at before es c → ComplainsInEntries r at before es e → c ≡ e
   apart_entries no_entries before r at c e f g h i = absurd h
   apart_entries (entry k v es) before r at c e f g (inl h) (inl i) = apart k r at c e f g h i
-  apart_entries (entry k v es) before r at c e f g (inl h) (inr (inl i)) = absurd (omega (arith, bounded k r at c h, key_last r at before k e i, key_end r at before k e i))
+  apart_entries (entry k v es) before r at c e f g (inl h) (inr (inl i)) = absurd (omega (arith, bounded k r at c h, key_last r.keys at before k e i, key_end r.keys at before k e i))
   apart_entries (entry k v es) before r at c e f g (inl h) (inr (inr (inl i))) = absurd (omega (arith, bounded k r at c h, after_head v r (at + length (spell k)) e i))
   apart_entries (entry k v es) before r at c e f g (inl h) (inr (inr (inr i))) = absurd (omega (arith, bounded k r at c h, later_entries es (k ∷ before) r (at + length (spell k) + length (spell v)) e i))
-  apart_entries (entry k v es) before r at c e f g (inr (inl h)) (inl i) = absurd (omega (arith, bounded k r at e i, key_last r at before k c h, key_end r at before k c h))
-  apart_entries (entry k v es) before r at c e f g (inr (inl h)) (inr (inl i)) = same_key r at before k c e h i
-  apart_entries (entry k v es) before r at c e f g (inr (inl h)) (inr (inr (inl i))) = absurd (omega (arith, key_last r at before k c h, key_end r at before k c h, after_head v r (at + length (spell k)) e i))
-  apart_entries (entry k v es) before r at c e f g (inr (inl h)) (inr (inr (inr i))) = absurd (omega (arith, key_last r at before k c h, key_end r at before k c h, later_entries es (k ∷ before) r (at + length (spell k) + length (spell v)) e i))
+  apart_entries (entry k v es) before r at c e f g (inr (inl h)) (inl i) = absurd (omega (arith, bounded k r at e i, key_last r.keys at before k c h, key_end r.keys at before k c h))
+  apart_entries (entry k v es) before r at c e f g (inr (inl h)) (inr (inl i)) = same_key r.keys at before k c e h i
+  apart_entries (entry k v es) before r at c e f g (inr (inl h)) (inr (inr (inl i))) = absurd (omega (arith, key_last r.keys at before k c h, key_end r.keys at before k c h, after_head v r (at + length (spell k)) e i))
+  apart_entries (entry k v es) before r at c e f g (inr (inl h)) (inr (inr (inr i))) = absurd (omega (arith, key_last r.keys at before k c h, key_end r.keys at before k c h, later_entries es (k ∷ before) r (at + length (spell k) + length (spell v)) e i))
   apart_entries (entry k v es) before r at c e f g (inr (inr (inl h))) (inl i) = absurd (omega (arith, bounded k r at e i, after_head v r (at + length (spell k)) c h))
-  apart_entries (entry k v es) before r at c e f g (inr (inr (inl h))) (inr (inl i)) = absurd (omega (arith, key_last r at before k e i, key_end r at before k e i, after_head v r (at + length (spell k)) c h))
+  apart_entries (entry k v es) before r at c e f g (inr (inr (inl h))) (inr (inl i)) = absurd (omega (arith, key_last r.keys at before k e i, key_end r.keys at before k e i, after_head v r (at + length (spell k)) c h))
   apart_entries (entry k v es) before r at c e f g (inr (inr (inl h))) (inr (inr (inl i))) = apart v r (at + length (spell k)) c e f g h i
   apart_entries (entry k v es) before r at c e f g (inr (inr (inl h))) (inr (inr (inr i))) = absurd (omega (arith, bounded v r (at + length (spell k)) c h, later_entries es (k ∷ before) r (at + length (spell k) + length (spell v)) e i))
   apart_entries (entry k v es) before r at c e f g (inr (inr (inr h))) (inl i) = absurd (omega (arith, bounded k r at e i, later_entries es (k ∷ before) r (at + length (spell k) + length (spell v)) c h))
-  apart_entries (entry k v es) before r at c e f g (inr (inr (inr h))) (inr (inl i)) = absurd (omega (arith, key_last r at before k e i, key_end r at before k e i, later_entries es (k ∷ before) r (at + length (spell k) + length (spell v)) c h))
+  apart_entries (entry k v es) before r at c e f g (inr (inr (inr h))) (inr (inl i)) = absurd (omega (arith, key_last r.keys at before k e i, key_end r.keys at before k e i, later_entries es (k ∷ before) r (at + length (spell k) + length (spell v)) c h))
   apart_entries (entry k v es) before r at c e f g (inr (inr (inr h))) (inr (inr (inl i))) = absurd (omega (arith, bounded v r (at + length (spell k)) e i, later_entries es (k ∷ before) r (at + length (spell k) + length (spell v)) c h))
   apart_entries (entry k v es) before r at c e f g (inr (inr (inr h))) (inr (inr (inr i))) = apart_entries es (k ∷ before) r (at + length (spell k) + length (spell v)) c e f g h i
 

@@ -137,7 +137,7 @@ split_character = text_chunks (chunk Direct (0xc3 ∷ []) ∷ chunk Direct (0xbc
 
 split_character-plain : IsFirstComplaint plain split_character 6 (complaint 3 2 InvalidText)
 unfolding utf8_valid_len is_utf8 chars encode_utf8
-split_character-plain = first_of _ _ _ _ (inr (inl (inr ((λ u. cc (is_utf8-from_IsUtf8 (0xc3 ∷ []) u)), refl)))) (omega arith) (λ e h. grind arith)
+split_character-plain = first_of _ _ _ _ (inr (inl (inr (refl, (λ u. cc (is_utf8-from_IsUtf8 (0xc3 ∷ []) u)), refl)))) (omega arith) (λ e h. grind arith)
 
 split_character-verdict : IsVerdict 256 1048576 plain (0x7f ∷ 0x61 ∷ 0xc3 ∷ 0x61 ∷ 0xbc ∷ 0xff ∷ []) (refused (refusal InvalidText 2 3))
 split_character-verdict = on_beginning _ _ _ _ split_character [] _ refl (search arith) (omega arith) refl (inl (_, split_character-plain, refl))
@@ -149,7 +149,7 @@ no_text = a_map Direct (pairs ((text Direct (0xff ∷ []), unsigned Direct 0) �
 
 no_text-plain : IsFirstComplaint plain no_text 3 (complaint 3 2 InvalidText)
 unfolding utf8_valid_len is_utf8 chars encode_utf8
-no_text-plain = first_of _ _ _ _ (inr (inl (inr ((λ u. cc (is_utf8-from_IsUtf8 (0xff ∷ []) u)), refl)))) (omega arith) (λ e h. grind arith)
+no_text-plain = first_of _ _ _ _ (inr (inl (inr (refl, (λ u. cc (is_utf8-from_IsUtf8 (0xff ∷ []) u)), refl)))) (omega arith) (λ e h. grind arith)
 
 no_text-verdict : IsVerdict 256 1048576 plain (0xa1 ∷ 0x61 ∷ 0xff ∷ []) (refused (refusal InvalidText 2 3))
 no_text-verdict = on_beginning _ _ _ _ no_text (0x00 ∷ []) _ refl (search arith) (omega arith) refl (inl (_, no_text-plain, refl))
@@ -193,5 +193,5 @@ stray_break =
       item = unsigned Direct 0;
       rest = 0x00 ∷ [];
       starts = zero;
-      decides = inr ((λ c h l. absurd h), (λ e. absurd (omega (arith, ap length e))), (StrayBreak, inl ((unsigned Direct 0, [], zero), refl), refl));
+      decides = inr ((λ c h l. cc h.0), (λ e. absurd (omega (arith, ap length e))), (StrayBreak, inl ((unsigned Direct 0, [], zero), refl), refl));
     }

@@ -1,5 +1,5 @@
 -- What is wrong with a well-formed item (RFC 8949, sections 3.1, 4.2 and 5.3.1).
-use Rattle.std.specs.Prelude.{ℕ, ◌+◌, ◌≡◌, ◌≢◌, ◌⊎◌, IsTrue, List, [], ◌∷◌, length, IsUtf8}
+use Rattle.std.specs.Prelude.{ℕ, ◌+◌, ◌≡◌, ◌≢◌, ◌⊎◌, Bool, true, false, IsTrue, List, [], ◌∷◌, length, IsUtf8}
 use Rattle.std.specs.Str.Lossy.{utf8_valid_len}
 use Rattle.cbor_head.specs.Head.{head, shortest}
 use Rattle.cbor_head.specs.Value.{Same}
@@ -13,14 +13,33 @@ use Rattle.cbor_head.specs.declared.width.Width.TheVariants.{Indefinite}
 use Rattle.cbor_head.specs.declared.reason.Reason.{Reason}
 use Rattle.cbor_head.specs.declared.reason.Reason.TheVariants.{InvalidText, RepeatedKey, NotShortest, Indefinite as IndefiniteReason, KeyOrder as KeyOrderReason}
 
+-- what is asked of the keys of a map
+pub data KeyRule : Type 0 where
+  unasked : KeyRule
+  -- that no two are the same
+  distinct : KeyRule
+  -- that each comes after the one before it
+  rising : KeyOrder → KeyRule
+
 -- which complaints count
-pub data Rules : Type 0 where
-  -- none
-  form : Rules
-  -- texts and keys
-  plain : Rules
-  -- the deterministic encoding in an order
-  strict : KeyOrder → Rules
+pub record Rules : Type 0 where
+  -- that texts are UTF-8
+  pub texts : Bool
+  -- that heads are the shortest, and lengths definite
+  pub heads : Bool
+  pub keys : KeyRule
+
+-- none
+abbrev pub form : Rules
+form = record { texts = false; heads = false; keys = unasked }
+
+-- texts and keys
+abbrev pub plain : Rules
+plain = record { texts = true; heads = false; keys = distinct }
+
+-- the deterministic encoding in an order
+abbrev pub strict : KeyOrder → Rules
+strict o = record { texts = true; heads = true; keys = rising o }
 
 -- a fault of an item: where it ends, its place and its reason
 pub record Complaint : Type 0 where
@@ -34,13 +53,11 @@ complaint end place reason = record { end = end; place = place; reason = reason 
 
 -- a definite head, at a place, that is not the shortest (section 4.2.1)
 abbrev pub OfHead : Rules → ℕ → Major → Width → ℕ → Complaint → Type 0
-OfHead (strict o) at major w n c = (w ≢ shortest n) × (c ≡ complaint (at + length (head major w n)) at NotShortest)
-OfHead _ at major w n c = ⊥
+OfHead r at major w n c = IsTrue r.heads × (w ≢ shortest n) × (c ≡ complaint (at + length (head major w n)) at NotShortest)
 
 -- an opener without length (section 4.2.1)
 abbrev pub OfIndefinite : Rules → ℕ → Complaint → Type 0
-OfIndefinite (strict o) at c = c ≡ complaint (at + 1) at IndefiniteReason
-OfIndefinite _ at c = ⊥
+OfIndefinite r at c = IsTrue r.heads × (c ≡ complaint (at + 1) at IndefiniteReason)
 
 -- the head of an array or map, definite or not
 abbrev pub OfCount : Rules → ℕ → Major → Width → ℕ → Complaint → Type 0
@@ -49,8 +66,7 @@ OfCount r at major w n c = OfHead r at major w n c
 
 -- a payload, at a place, that is not UTF-8 (section 3.1); its place is behind the longest front that is
 abbrev pub OfPayload : Rules → ℕ → List ℕ → Complaint → Type 0
-OfPayload form at payload c = ⊥
-OfPayload _ at payload c = ¬ IsUtf8 payload × (c ≡ complaint (at + length payload) (at + utf8_valid_len payload) InvalidText)
+OfPayload r at payload c = IsTrue r.texts × ¬ IsUtf8 payload × (c ≡ complaint (at + length payload) (at + utf8_valid_len payload) InvalidText)
 
 -- a definite string, or a chunk, at a place
 abbrev pub OfString : Rules → ℕ → Major → Width → List ℕ → Complaint → Type 0
@@ -68,11 +84,11 @@ IsRepeated [] k = ⊥
 IsRepeated (b ∷ bs) k = Same (value_of b) (value_of k) ⊎ IsRepeated bs k
 
 -- a key at a place, where these keys stand before it, the nearest first (sections 5.6 and 4.2.1)
-abbrev pub OfKey : Rules → ℕ → List Spelling → Spelling → Complaint → Type 0
-OfKey form at before k c = ⊥
-OfKey plain at before k c = IsRepeated before k × (c ≡ complaint (at + length (spell k)) at RepeatedKey)
-OfKey (strict o) at [] k c = ⊥
-OfKey (strict o) at (b ∷ bs) k c = ¬ IsTrue (key_lt o (spell b) (spell k)) × (c ≡ complaint (at + length (spell k)) at KeyOrderReason)
+abbrev pub OfKey : KeyRule → ℕ → List Spelling → Spelling → Complaint → Type 0
+OfKey unasked at before k c = ⊥
+OfKey distinct at before k c = IsRepeated before k × (c ≡ complaint (at + length (spell k)) at RepeatedKey)
+OfKey (rising o) at [] k c = ⊥
+OfKey (rising o) at (b ∷ bs) k c = ¬ IsTrue (key_lt o (spell b) (spell k)) × (c ≡ complaint (at + length (spell k)) at KeyOrderReason)
 
 -- s, at a place, has this complaint
 abbrev mutual
@@ -97,5 +113,5 @@ abbrev mutual
   pub ComplainsInEntries : Rules → ℕ → List Spelling → SpelledEntries → Complaint → Type 0
   ComplainsInEntries r at before no_entries c = ⊥
   ComplainsInEntries r at before (entry k v es) c =
-      Complains r at k c ⊎ OfKey r at before k c ⊎ Complains r (at + length (spell k)) v c
+      Complains r at k c ⊎ OfKey r.keys at before k c ⊎ Complains r (at + length (spell k)) v c
       ⊎ ComplainsInEntries r (at + length (spell k) + length (spell v)) (k ∷ before) es c

@@ -186,7 +186,7 @@ back_later (a_content w a k b) s r at c h = later_entries b (k ∷ keys_onto [] 
 back_later (tagged w n) s r at c h = absurd h
 
 pub key_at_end : (f : Frame) (s : Spelling) (r : Rules) (at : ℕ) (c : Complaint) → OfKeyAt r at f s c → c.end ≡ at + length (spell s)
-key_at_end (a_key w a v b) s r at c h = key_end r at (keys_onto [] a) s c h
+key_at_end (a_key w a v b) s r at c h = key_end r.keys at (keys_onto [] a) s c h
 key_at_end (a_member w a b) s r at c h = absurd h
 key_at_end (a_content w a k b) s r at c h = absurd h
 key_at_end (tagged w n) s r at c h = absurd h

@@ -3,12 +3,12 @@ use Rattle.std.proofs.Common.{ℕ, ◌+◌, ◌≡◌, ◌<◌, ◌≤◌, List,
 use Rattle.std.proofs.lemmas.Bool.{cases_lt}
 use Rattle.cbor_head.specs.Spelling.{Spelling, IsItem}
 use Rattle.cbor_head.specs.Beginning.{IsLongestBeginning}
-use Rattle.cbor_head.specs.Complaint.{Rules, form, plain, strict, Complaint, Complains}
+use Rattle.cbor_head.specs.Complaint.{Rules, Complaint, Complains}
 use Rattle.cbor_head.specs.Verdict.{refused, refusal, IsFormError, IsVerdict, IsWithout}
 use Rattle.cbor_head.specs.declared.reason.Reason.TheVariants.{Truncated}
 use Rattle.cbor_head.specs.declared.reason.Refusal.{Refusal}
 use Rattle.cbor_head.proofs.Agree.{split_front, same_complaints}
-use Rattle.cbor_judging.specs.Refusals.{IsComplaintReason, IsFreeBefore}
+use Rattle.cbor_judging.specs.Refusals.{IsFreeBefore}
 use Rattle.cbor_judging.proofs.Reasons.{complaint-reason}
 
 -- where one item has no complaint within q, none that starts with q has
@@ -28,12 +28,6 @@ without r s t h c g = elim (cases_lt t c.end) [ inl l ↦ l | inr l ↦ absurd (
 
 -- ---- the first k bytes, as a whole input, are truncated
 
--- no complaint is named so
-not-truncated : (r : Rules) → IsComplaintReason r Truncated → ⊥
-not-truncated form h = h
-not-truncated plain h = h
-not-truncated (strict o) h = h
-
 truncated-place : (d n k : ℕ) (p behind : List ℕ) → IsFormError d n p behind (refusal Truncated k k) → length p ≡ k
 truncated-place d n k p [] (inl b) = absurd (cc (ap (λ (x : Refusal). x.reason) b.1))
 truncated-place d n k p [] (inr b) = sym (ap (λ (x : Refusal). x.place) b.1)
@@ -41,7 +35,7 @@ truncated-place d n k p (c ∷ cs) b = sym (ap (λ (x : Refusal). x.place) b.2)
 
 pub truncated-free : (d n k : ℕ) (r : Rules) (input p : List ℕ) → IsLongestBeginning d (take n input) p → k ≤ length p → IsVerdict d n r (take k input) (refused (refusal Truncated k k)) → IsFreeBefore d r p k
 truncated-free d n k r input p g l v = elim v.decides [
-  | inl c ↦ absurd (not-truncated r (complaint-reason r 0 v.item c.0 c.1.holds (refusal Truncated k k) c.2))
+  | inl c ↦ absurd (complaint-reason r 0 v.item c.0 c.1.holds (refusal Truncated k k) c.2)
   | inr b ↦
       let size : length v.p ≡ k = truncated-place d n k v.p v.longest.rest b.2 in
       let (m, is, other) = split_front v.p (v.longest.rest ++ (drop n (take k input) ++ drop k input)) p (g.rest ++ drop n input) (sym short ∙ whole) (omega (arith, size, l)) in

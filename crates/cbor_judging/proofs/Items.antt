@@ -2,11 +2,11 @@
 use Rattle.std.proofs.Common.{◌≡◌, ◌≢◌, ℕ, ◌+◌, ◌-◌, ◌<◌, ◌≤◌, Option, Some, None, List, [], ◌++◌, length, map, replicate, refl, sym, ap, ◌∙◌, subst, inl, inr, arith, append_assoc, append-nil}
 use Rattle.std.specs.Io.KnownBytes.{Consumes}
 use Rattle.std.proofs.KnownBytes.{Consumes-nil, Consumes-trans}
-use Rattle.cbor_head.specs.Head.{Holds, head, shortest}
+use Rattle.cbor_head.specs.Head.{Holds, head}
 use Rattle.cbor_head.specs.Limits.{Bounds}
 use Rattle.cbor_head.specs.Value.{Value}
 use Rattle.cbor_head.specs.Spelling.{unsigned, negative, bytes, text, byte_chunks, text_chunks, tag, spell}
-use Rattle.cbor_head.specs.Complaint.{Rules, strict, Complaint, OfHead, OfIndefinite, OfCount}
+use Rattle.cbor_head.specs.Complaint.{Rules, Complaint, OfHead, OfIndefinite, OfCount}
 use Rattle.cbor_head.specs.declared.major.Major.{Major}
 use Rattle.cbor_head.specs.declared.major.Major.TheVariants as majors
 use Rattle.cbor_head.specs.declared.width.Width.{Width}
@@ -160,11 +160,7 @@ definite-judged r at d fs m w n bs next c i o = go m i.follows o (count_last r a
     go majors.Array f o e = array_head_complains w n r at (d - length fs) c (open_or w n i.holds) (omega (arith, f.0)) (head-count r at majors.Array w n c (is-definite w n i.holds) o)
     go majors.Map f o e = map_head_complains w n r at (d - length fs) c (open_or w n i.holds) (omega (arith, f.0)) (head-count r at majors.Map w n c (is-definite w n i.holds) o)
     go majors.Tag f o e = head_complains (tag w n zero_item) r at (d - length fs) c (i.holds, z) (omega (arith, f.0)) (inl o) e
-    go majors.Simple f o e = absurd (never-long r o f.1)
-      where
-        never-long : (r : Rules) → OfHead r at majors.Simple w n c → w ≡ shortest n → ⊥
-        never-long (strict order) o e = o.0 e
-        never-long _ o e = o
+    go majors.Simple f o e = absurd (o.1 f.1)
 
 opener-judged : (r : Rules) (at d : ℕ) (fs : List Container) (m : Major) (next : Place) (c : Complaint) → Opens d fs m next → OfIndefinite r at c → IsJudged r at (d - length fs) (head m Indefinite 0) (Some c)
 opener-judged r at d fs majors.Bytes next c f o = head_complains (byte_chunks []) r at (d - length fs) c tt (omega arith) (inl o) (count_last r at majors.Bytes Indefinite 0 c o)

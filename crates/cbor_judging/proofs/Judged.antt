@@ -95,8 +95,8 @@ module _ (f : Frame) (r : Rules) (at d : ℕ) (fits : IsFrame f) (flat : depth_b
     where
       key_ranks : (f : Frame) (to : ℕ) (k : Spelling) (c x : Complaint) → OfKeyAt r to f k c → OfKeyAt r to f k x → rank c.reason ≤ rank x.reason
       key_ranks (a_key w a v b) to k c x o y =
-          let m = key_last r to (keys_onto [] a) k c o in
-          let n = key_last r to (keys_onto [] a) k x y in
+          let m = key_last r.keys to (keys_onto [] a) k c o in
+          let n = key_last r.keys to (keys_onto [] a) k x y in
           let e = key_at_end (a_key w a v b) k r to c o in
           let g = key_at_end (a_key w a v b) k r to x y in
           omega (arith, m, n, e, g)

@@ -7,7 +7,7 @@ use Rattle.std.specs.Prelude.{nat_lt, ◌==◌}
 use Rattle.cbor_head.specs.Spelling.{Spelling, SpelledEntries, no_entries, entry, spell}
 use Rattle.cbor_head.specs.Order.{key_lt}
 use Rattle.cbor_head.specs.Complaint as complaint
-use Rattle.cbor_head.specs.Complaint.{strict, OfKey}
+use Rattle.cbor_head.specs.Complaint.{rising, OfKey}
 use Rattle.cbor_head.specs.declared.order.KeyOrder.{KeyOrder}
 use Rattle.cbor_head.specs.declared.order.KeyOrder.TheVariants.{Bytewise, LengthFirst}
 use Rattle.cbor_head.specs.declared.reason.Reason.TheVariants as reasons
@@ -44,10 +44,10 @@ nothing-below Bytewise (c ∷ cs) h = refl
 nothing-below LengthFirst (c ∷ cs) h = ap (λ b. is_lt (ordering_then (cond b Less (cond (0 == length (c ∷ cs)) Equal Greater)) Less)) (some-more (length (c ∷ cs)) h)
 
 module _ (o : KeyOrder) (at : ℕ) (k : Spelling) (key : List ℕ) (is : key ≡ spell k) where
-  pub key-fresh : (ks : List Spelling) (last : List ℕ) → IsLastKey last ks → IsTrue (key_lt o last key) → Never (OfKey (strict o) at ks k)
+  pub key-fresh : (ks : List Spelling) (last : List ℕ) → IsLastKey last ks → IsTrue (key_lt o last key) → Never (OfKey (rising o) at ks k)
   key-fresh [] last l f c x = x
   key-fresh (p ∷ ps) last l f c x = x.0 (subst (λ y. IsTrue (key_lt o y (spell k))) l (subst (λ y. IsTrue (key_lt o last y)) is f))
 
-  pub key-falls : (ks : List Spelling) (last : List ℕ) → IsLastKey last ks → ¬ (IsTrue (key_lt o last key)) → OfKey (strict o) at ks k (complaint.complaint (at + length (spell k)) at reasons.KeyOrder)
+  pub key-falls : (ks : List Spelling) (last : List ℕ) → IsLastKey last ks → ¬ (IsTrue (key_lt o last key)) → OfKey (rising o) at ks k (complaint.complaint (at + length (spell k)) at reasons.KeyOrder)
   key-falls [] last l f = absurd (f (subst (λ y. IsTrue (key_lt o y key)) (sym l) (nothing-below o key (omega (arith, ap length is, length_spell k)))))
   key-falls (p ∷ ps) last l f = ((λ g. f (subst (λ y. IsTrue (key_lt o last y)) (sym is) (subst (λ y. IsTrue (key_lt o y (spell k))) (sym l) g))), refl)

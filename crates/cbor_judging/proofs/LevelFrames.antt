@@ -72,21 +72,21 @@ fitting d (a_value w left done k) h = record {
 fitting d (some_member done) h = record {
   fits = (tt, spelled-all d done h, tt);
   flat = omega (arith, within-all d done h);
-  clean = λ at c x. elim x [ inl y ↦ y | inr y ↦ clean-all d done _ h c y ];
+  clean = λ at c x. elim x [ inl y ↦ cc y.0 | inr y ↦ clean-all d done _ h c y ];
 }
 fitting d (some_key done) h =
     let z : 0 < 24 = omega arith in
     record {
       fits = (tt, pairs-spelled d done h, z, tt);
       flat = omega (arith, pairs-within d done h);
-      clean = λ at c x. elim x [ inl y ↦ y | inr y ↦ quiet d done _ h c y ];
+      clean = λ at c x. elim x [ inl y ↦ cc y.0 | inr y ↦ quiet d done _ h c y ];
     }
 fitting d (some_value done k) h = record {
   fits = (tt, pairs-spelled d done h.0, h.1.spelled, tt);
   flat = omega (arith, pairs-within d done h.0, h.1.within);
-  clean = λ at c x. elim x [ inl y ↦ y | inr (inl y) ↦ quiet d done _ h.0 c y | inr (inr y) ↦ h.1.clean _ c y ];
+  clean = λ at c x. elim x [ inl y ↦ cc y.0 | inr (inl y) ↦ quiet d done _ h.0 c y | inr (inr y) ↦ h.1.clean _ c y ];
 }
-fitting d (tagged w n) h = record { fits = h; flat = omega arith; clean = λ at c x. x }
+fitting d (tagged w n) h = record { fits = h; flat = omega arith; clean = λ at c x. cc x.0 }
 
 -- ---- its keys
 

@@ -20,42 +20,42 @@ use Rattle.cbor_judging.proofs.Loops.{array_bytes-more, array_bytes-whole, map_b
 -- ---- complaints, wherever an item stands
 
 pub no-count : (at : ℕ) (m : Major) (w : Width) (n : ℕ) → Never (OfCount plain at m w n)
-no-count at m Direct n c h = h
-no-count at m One n c h = h
-no-count at m Two n c h = h
-no-count at m Four n c h = h
-no-count at m Eight n c h = h
-no-count at m Indefinite n c h = h
+no-count at m Direct n c h = cc h.0
+no-count at m One n c h = cc h.0
+no-count at m Two n c h = cc h.0
+no-count at m Four n c h = cc h.0
+no-count at m Eight n c h = cc h.0
+no-count at m Indefinite n c h = cc h.0
 
 chunks-move : (m : Major) (ks : List Chunk) (at to : ℕ) (c : Complaint) → OfChunks plain at m ks c → (e : Complaint) × OfChunks plain to m ks e
 chunks-move m [] at to c h = absurd h
 chunks-move m (k ∷ ks) at to c (inr h) = let r = chunks-move m ks (at + length (chunk_bytes m k)) (to + length (chunk_bytes m k)) c h in (r.0, inr r.1)
-chunks-move majors.Text (k ∷ ks) at to c (inl (inl h)) = absurd h
-chunks-move majors.Text (k ∷ ks) at to c (inl (inr h)) = (_, inl (inr (h.0, refl)))
-chunks-move majors.Unsigned (k ∷ ks) at to c (inl h) = absurd h
-chunks-move majors.Negative (k ∷ ks) at to c (inl h) = absurd h
-chunks-move majors.Bytes (k ∷ ks) at to c (inl h) = absurd h
-chunks-move majors.Array (k ∷ ks) at to c (inl h) = absurd h
-chunks-move majors.Map (k ∷ ks) at to c (inl h) = absurd h
-chunks-move majors.Tag (k ∷ ks) at to c (inl h) = absurd h
-chunks-move majors.Simple (k ∷ ks) at to c (inl h) = absurd h
+chunks-move majors.Text (k ∷ ks) at to c (inl (inl h)) = absurd (cc h.0)
+chunks-move majors.Text (k ∷ ks) at to c (inl (inr h)) = (_, inl (inr (h.0, h.1, refl)))
+chunks-move majors.Unsigned (k ∷ ks) at to c (inl h) = absurd (cc h.0)
+chunks-move majors.Negative (k ∷ ks) at to c (inl h) = absurd (cc h.0)
+chunks-move majors.Bytes (k ∷ ks) at to c (inl h) = absurd (cc h.0)
+chunks-move majors.Array (k ∷ ks) at to c (inl h) = absurd (cc h.0)
+chunks-move majors.Map (k ∷ ks) at to c (inl h) = absurd (cc h.0)
+chunks-move majors.Tag (k ∷ ks) at to c (inl h) = absurd (cc h.0)
+chunks-move majors.Simple (k ∷ ks) at to c (inl h) = absurd (cc h.0)
 
 mutual
   moves : (s : Spelling) (at to : ℕ) (c : Complaint) → Complains plain at s c → (e : Complaint) × Complains plain to s e
-  moves (unsigned w n) at to c h = absurd h
-  moves (negative w n) at to c h = absurd h
-  moves (bytes w q) at to c h = absurd h
-  moves (text w q) at to c (inl h) = absurd h
-  moves (text w q) at to c (inr h) = (_, inr (h.0, refl))
-  moves (byte_chunks ks) at to c (inl h) = absurd h
+  moves (unsigned w n) at to c h = absurd (cc h.0)
+  moves (negative w n) at to c h = absurd (cc h.0)
+  moves (bytes w q) at to c h = absurd (cc h.0)
+  moves (text w q) at to c (inl h) = absurd (cc h.0)
+  moves (text w q) at to c (inr h) = (_, inr (h.0, h.1, refl))
+  moves (byte_chunks ks) at to c (inl h) = absurd (cc h.0)
   moves (byte_chunks ks) at to c (inr h) = let r = chunks-move majors.Bytes ks (at + 1) (to + 1) c h in (r.0, inr r.1)
-  moves (text_chunks ks) at to c (inl h) = absurd h
+  moves (text_chunks ks) at to c (inl h) = absurd (cc h.0)
   moves (text_chunks ks) at to c (inr h) = let r = chunks-move majors.Text ks (at + 1) (to + 1) c h in (r.0, inr r.1)
   moves (array w ss) at to c (inl h) = absurd (no-count at majors.Array w (spellings_count ss) c h)
   moves (array w ss) at to c (inr h) = let r = moves-in ss _ (to + length (head majors.Array w (spellings_count ss))) c h in (r.0, inr r.1)
   moves (a_map w es) at to c (inl h) = absurd (no-count at majors.Map w (entries_count es) c h)
   moves (a_map w es) at to c (inr h) = let r = moves-entries es [] _ (to + length (head majors.Map w (entries_count es))) c h in (r.0, inr r.1)
-  moves (tag w n s) at to c (inl h) = absurd h
+  moves (tag w n s) at to c (inl h) = absurd (cc h.0)
   moves (tag w n s) at to c (inr h) = let r = moves s _ (to + length (head majors.Tag w n)) c h in (r.0, inr r.1)
   moves (simple n) at to c h = absurd h
 

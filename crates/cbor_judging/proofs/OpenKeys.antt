@@ -56,4 +56,4 @@ front_apart (a_content w a k b) r at c (inr (inr (inr h))) =
     let here = at + length (h0 ++ spell_entries a) in
     let xs = keys_at (at + length h0) a in
     let last = placed here k ∷ [] in
-    inr (on_keys_right xs last r [] c (inl (subst (λ (ks : List Spelling). OfKey r here ks k c) (sym (onto_keys a (at + length h0) [])) h)))
+    inr (on_keys_right xs last r [] c (inl (subst (λ (ks : List Spelling). OfKey r.keys here ks k c) (sym (onto_keys a (at + length h0) [])) h)))

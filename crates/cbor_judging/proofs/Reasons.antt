@@ -1,13 +1,13 @@
 -- Which reasons a refusal has.
-use Rattle.std.proofs.Common.{ℕ, ◌+◌, ◌≡◌, ◌≢◌, ◌⊎◌, Option, Some, None, List, [], ◌∷◌, ◌++◌, length, sym, subst, inl, inr, Bool, true, false}
+use Rattle.std.proofs.Common.{ℕ, ◌+◌, ◌≡◌, ◌≢◌, ◌⊎◌, Option, Some, None, List, [], ◌∷◌, ◌++◌, length, refl, sym, subst, inl, inr, Bool, true, false}
 use Rattle.std.specs.Prelude.{◌==◌, ◌||◌, ◌&&◌, ◌%◌, nat_le, if◌then◌else◌}
 use Rattle.cbor_head.specs.Head.{head}
 use Rattle.cbor_head.specs.Spelling.{Chunk, Spelling, Spellings, SpelledEntries, unsigned, negative, bytes, text, byte_chunks, text_chunks, array, a_map, tag, simple, no_spellings, a_spelling, no_entries, entry, spell, chunk_bytes, spellings_count, entries_count}
-use Rattle.cbor_head.specs.Complaint.{Rules, form, plain, strict, Complaint, OfHead, OfIndefinite, OfCount, OfPayload, OfString, OfChunks, OfKey, Complains, ComplainsIn, ComplainsInEntries}
+use Rattle.cbor_head.specs.Complaint.{KeyRule, unasked, distinct, rising, Rules, form, Complaint, OfHead, OfIndefinite, OfCount, OfPayload, OfString, OfChunks, OfKey, Complains, ComplainsIn, ComplainsInEntries}
 use Rattle.cbor_head.specs.Limits.{Bounds}
 use Rattle.cbor_head.specs.Verdict.{initial_reason, refusal, refused, IsReasonAt, IsFormError, IsVerdict}
 use Rattle.cbor_head.specs.declared.reason.Reason.{Reason}
-use Rattle.cbor_head.specs.declared.reason.Reason.TheVariants.{Read, StrayBreak, Float, NoIndefinite, Reserved, TooDeep}
+use Rattle.cbor_head.specs.declared.reason.Reason.TheVariants.{InvalidText, RepeatedKey, NotShortest, Indefinite as IndefiniteReason, KeyOrder, Read, StrayBreak, Float, NoIndefinite, Reserved, TooDeep}
 use Rattle.cbor_head.specs.declared.reason.Refusal.{Refusal}
 use Rattle.cbor_head.specs.declared.major.Major.{Major}
 use Rattle.cbor_head.specs.declared.major.Major.TheVariants.{Unsigned, Negative, Bytes, Text, Array, Map, Tag, Simple}
@@ -23,14 +23,10 @@ by-reason : (r : Rules) (c e : Complaint) → c ≡ e → IsComplaintReason r e.
 by-reason r c e h g = subst (λ (x : Complaint). IsComplaintReason r x.reason) (sym h) g
 
 of-head : (r : Rules) (at : ℕ) (m : Major) (w : Width) (n : ℕ) (c : Complaint) → OfHead r at m w n c → IsComplaintReason r c.reason
-of-head form at m w n c h = absurd h
-of-head plain at m w n c h = absurd h
-of-head (strict o) at m w n c h = by-reason (strict o) c _ h.1 tt
+of-head r at m w n c h = by-reason r c _ h.2 h.0
 
 of-opener : (r : Rules) (at : ℕ) (c : Complaint) → OfIndefinite r at c → IsComplaintReason r c.reason
-of-opener form at c h = absurd h
-of-opener plain at c h = absurd h
-of-opener (strict o) at c h = by-reason (strict o) c _ h tt
+of-opener r at c h = by-reason r c _ h.1 h.0
 
 of-count : (r : Rules) (at : ℕ) (m : Major) (w : Width) (n : ℕ) (c : Complaint) → OfCount r at m w n c → IsComplaintReason r c.reason
 of-count r at m Indefinite n c h = of-opener r at c h
@@ -41,9 +37,7 @@ of-count r at m Four n c h = of-head r at m Four n c h
 of-count r at m Eight n c h = of-head r at m Eight n c h
 
 of-payload : (r : Rules) (at : ℕ) (q : List ℕ) (c : Complaint) → OfPayload r at q c → IsComplaintReason r c.reason
-of-payload form at q c h = absurd h
-of-payload plain at q c h = by-reason plain c _ h.1 tt
-of-payload (strict o) at q c h = by-reason (strict o) c _ h.1 tt
+of-payload r at q c h = by-reason r c _ h.2 h.0
 
 of-string : (r : Rules) (at : ℕ) (m : Major) (w : Width) (q : List ℕ) (c : Complaint) → OfString r at m w q c → IsComplaintReason r c.reason
 of-string r at Text w q c (inl h) = of-head r at Text w (length q) c h
@@ -61,11 +55,11 @@ of-chunks r at m [] c h = absurd h
 of-chunks r at m (k ∷ ks) c (inl h) = of-string r at m k.width k.payload c h
 of-chunks r at m (k ∷ ks) c (inr h) = of-chunks r (at + length (chunk_bytes m k)) m ks c h
 
-of-key : (r : Rules) (at : ℕ) (ks : List Spelling) (k : Spelling) (c : Complaint) → OfKey r at ks k c → IsComplaintReason r c.reason
-of-key form at ks k c h = absurd h
-of-key plain at ks k c h = by-reason plain c _ h.1 tt
-of-key (strict o) at [] k c h = absurd h
-of-key (strict o) at (b ∷ bs) k c h = by-reason (strict o) c _ h.1 tt
+of-key : (r : Rules) (keys : KeyRule) → r.keys ≡ keys → (at : ℕ) (ks : List Spelling) (k : Spelling) (c : Complaint) → OfKey keys at ks k c → IsComplaintReason r c.reason
+of-key r unasked e at ks k c h = absurd h
+of-key r distinct e at ks k c h = by-reason r c _ h.1 e
+of-key r (rising o) e at [] k c h = absurd h
+of-key r (rising o) e at (b ∷ bs) k c h = by-reason r c _ h.1 (o, e)
 
 mutual
   complains : (r : Rules) (at : ℕ) (s : Spelling) (c : Complaint) → Complains r at s c → IsComplaintReason r c.reason
@@ -93,7 +87,7 @@ mutual
   complains_in_entries : (r : Rules) (at : ℕ) (ks : List Spelling) (es : SpelledEntries) (c : Complaint) → ComplainsInEntries r at ks es c → IsComplaintReason r c.reason
   complains_in_entries r at ks no_entries c h = absurd h
   complains_in_entries r at ks (entry k v es) c (inl h) = complains r at k c h
-  complains_in_entries r at ks (entry k v es) c (inr (inl h)) = of-key r at ks k c h
+  complains_in_entries r at ks (entry k v es) c (inr (inl h)) = of-key r r.keys refl at ks k c h
   complains_in_entries r at ks (entry k v es) c (inr (inr (inl h))) = complains r (at + length (spell k)) v c h
   complains_in_entries r at ks (entry k v es) c (inr (inr (inr h))) = complains_in_entries r (at + length (spell k) + length (spell v)) (k ∷ ks) es c h
 
@@ -130,17 +124,20 @@ verdict-reason d n r input f v = elim v.decides [
 ]
 
 -- by form alone it has no complaint
+none-by-form : (reason : Reason) → ¬ IsComplaintReason form reason
+none-by-form InvalidText h = cc h
+none-by-form NotShortest h = cc h
+none-by-form IndefiniteReason h = cc h
+none-by-form RepeatedKey h = cc h
+none-by-form KeyOrder h = cc h.1
+none-by-form _ h = h
+
 pub form-reason : (d n : ℕ) (input : List ℕ) (f : Refusal) → IsVerdict d n form input (refused f) → IsFormReason f.reason
-form-reason d n input f v = elim (verdict-reason d n form input f v) [ inl h ↦ h | inr h ↦ absurd (h) ]
+form-reason d n input f v = elim (verdict-reason d n form input f v) [ inl h ↦ h | inr h ↦ absurd (none-by-form f.reason h) ]
 
 -- no verdict names a reader that failed
 pub never-read : (d n : ℕ) (r : Rules) (input : List ℕ) (f : Refusal) → IsVerdict d n r input (refused f) → f.reason ≢ Read
-never-read d n r input f v e = elim (verdict-reason d n r input f v) [ inl h ↦ subst IsFormReason e h | inr h ↦ no r (subst (IsComplaintReason r) e h) ]
-  where
-    no : (r : Rules) → IsComplaintReason r Read → ⊥
-    no form h = h
-    no plain h = h
-    no (strict o) h = h
+never-read d n r input f v e = elim (verdict-reason d n r input f v) [ inl h ↦ subst IsFormReason e h | inr h ↦ subst (IsComplaintReason r) e h ]
 
 -- ---- the readers
 

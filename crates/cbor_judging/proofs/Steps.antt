@@ -4,7 +4,7 @@ use Rattle.std.proofs.lemmas.List.{length-append}
 use Rattle.std.specs.Prelude.{Ok}
 use Rattle.std.specs.Io.KnownBytes.{Consumes}
 use Rattle.cbor_head.specs.Limits.{Bounds}
-use Rattle.cbor_head.specs.Complaint.{Rules, form, plain, strict, Complaint, complaint}
+use Rattle.cbor_head.specs.Complaint.{Rules, form, strict, Complaint, complaint}
 use Rattle.cbor_head.specs.Beginning.{IsBeginning}
 use Rattle.cbor_head.specs.Verdict.{refusal, refused, IsVerdict}
 use Rattle.cbor_head.specs.declared.width.Width.{Width}
@@ -157,43 +157,41 @@ head-taken b old new t q ev from to due a n same =
 -- ---- the head's complaint
 
 pub head-size : (d : ℕ) (q next : Place) (m : Mark) (bs : List ℕ) (r : Rules) (at : ℕ) (reason : Reason) → IsTaking d q m bs next → IsFault r m reason → OfMark r at q m (complaint (at + length bs) at reason)
-head-size d (at_item fs) next (a_head m Indefinite n) bs (strict o) at reason h f = ap (λ (x : Reason). complaint (at + length bs) at x) f ∙ ap (λ (xs : List ℕ). complaint (at + length xs) at reasons.Indefinite) h.1
-head-size d (at_item fs) next (a_head m Direct n) bs (strict o) at reason h f = (f.0, ap (λ (x : Reason). complaint (at + length bs) at x) f.1 ∙ ap (λ (xs : List ℕ). complaint (at + length xs) at reasons.NotShortest) h.0)
-head-size d (at_item fs) next (a_head m One n) bs (strict o) at reason h f = (f.0, ap (λ (x : Reason). complaint (at + length bs) at x) f.1 ∙ ap (λ (xs : List ℕ). complaint (at + length xs) at reasons.NotShortest) h.0)
-head-size d (at_item fs) next (a_head m Two n) bs (strict o) at reason h f = (f.0, ap (λ (x : Reason). complaint (at + length bs) at x) f.1 ∙ ap (λ (xs : List ℕ). complaint (at + length xs) at reasons.NotShortest) h.0)
-head-size d (at_item fs) next (a_head m Four n) bs (strict o) at reason h f = (f.0, ap (λ (x : Reason). complaint (at + length bs) at x) f.1 ∙ ap (λ (xs : List ℕ). complaint (at + length xs) at reasons.NotShortest) h.0)
-head-size d (at_item fs) next (a_head m Eight n) bs (strict o) at reason h f = (f.0, ap (λ (x : Reason). complaint (at + length bs) at x) f.1 ∙ ap (λ (xs : List ℕ). complaint (at + length xs) at reasons.NotShortest) h.0)
-head-size d (in_chunks k fs) next (a_chunk Direct n) bs (strict o) at reason h f = (f.0, ap (λ (x : Reason). complaint (at + length bs) at x) f.1 ∙ ap (λ (xs : List ℕ). complaint (at + length xs) at reasons.NotShortest) h.0)
-head-size d (in_chunks k fs) next (a_chunk One n) bs (strict o) at reason h f = (f.0, ap (λ (x : Reason). complaint (at + length bs) at x) f.1 ∙ ap (λ (xs : List ℕ). complaint (at + length xs) at reasons.NotShortest) h.0)
-head-size d (in_chunks k fs) next (a_chunk Two n) bs (strict o) at reason h f = (f.0, ap (λ (x : Reason). complaint (at + length bs) at x) f.1 ∙ ap (λ (xs : List ℕ). complaint (at + length xs) at reasons.NotShortest) h.0)
-head-size d (in_chunks k fs) next (a_chunk Four n) bs (strict o) at reason h f = (f.0, ap (λ (x : Reason). complaint (at + length bs) at x) f.1 ∙ ap (λ (xs : List ℕ). complaint (at + length xs) at reasons.NotShortest) h.0)
-head-size d (in_chunks k fs) next (a_chunk Eight n) bs (strict o) at reason h f = (f.0, ap (λ (x : Reason). complaint (at + length bs) at x) f.1 ∙ ap (λ (xs : List ℕ). complaint (at + length xs) at reasons.NotShortest) h.0)
-head-size d (in_chunks k fs) next (a_chunk Indefinite n) bs (strict o) at reason h f = absurd h.1
-head-size d q next m bs form at reason h f = absurd f
-head-size d q next m bs plain at reason h f = absurd f
-head-size d (at_item fs) next (a_chunk w n) bs (strict o) at reason h f = absurd h
-head-size d q next a_byte bs (strict o) at reason h f = absurd f
-head-size d q next a_break bs (strict o) at reason h f = absurd f
-head-size d (in_chunks k fs) next (a_head m w n) bs (strict o) at reason h f = absurd h
-head-size d (in_payload c k zero fs) next (a_head m w n) bs (strict o) at reason h f = absurd h
-head-size d (in_payload c k (suc x) fs) next (a_head m w n) bs (strict o) at reason h f = absurd h
-head-size d (in_payload c k zero fs) next (a_chunk w n) bs (strict o) at reason h f = absurd h
-head-size d (in_payload c k (suc x) fs) next (a_chunk w n) bs (strict o) at reason h f = absurd h
-head-size d done next m bs (strict o) at reason h f = absurd h
+head-size d (at_item fs) next (a_head m Indefinite n) bs r at reason h f = (f.0, ap (λ (x : Reason). complaint (at + length bs) at x) f.1 ∙ ap (λ (xs : List ℕ). complaint (at + length xs) at reasons.Indefinite) h.1)
+head-size d (at_item fs) next (a_head m Direct n) bs r at reason h f = (f.0, f.1.0, ap (λ (x : Reason). complaint (at + length bs) at x) f.1.1 ∙ ap (λ (xs : List ℕ). complaint (at + length xs) at reasons.NotShortest) h.0)
+head-size d (at_item fs) next (a_head m One n) bs r at reason h f = (f.0, f.1.0, ap (λ (x : Reason). complaint (at + length bs) at x) f.1.1 ∙ ap (λ (xs : List ℕ). complaint (at + length xs) at reasons.NotShortest) h.0)
+head-size d (at_item fs) next (a_head m Two n) bs r at reason h f = (f.0, f.1.0, ap (λ (x : Reason). complaint (at + length bs) at x) f.1.1 ∙ ap (λ (xs : List ℕ). complaint (at + length xs) at reasons.NotShortest) h.0)
+head-size d (at_item fs) next (a_head m Four n) bs r at reason h f = (f.0, f.1.0, ap (λ (x : Reason). complaint (at + length bs) at x) f.1.1 ∙ ap (λ (xs : List ℕ). complaint (at + length xs) at reasons.NotShortest) h.0)
+head-size d (at_item fs) next (a_head m Eight n) bs r at reason h f = (f.0, f.1.0, ap (λ (x : Reason). complaint (at + length bs) at x) f.1.1 ∙ ap (λ (xs : List ℕ). complaint (at + length xs) at reasons.NotShortest) h.0)
+head-size d (in_chunks k fs) next (a_chunk Direct n) bs r at reason h f = (f.0, f.1.0, ap (λ (x : Reason). complaint (at + length bs) at x) f.1.1 ∙ ap (λ (xs : List ℕ). complaint (at + length xs) at reasons.NotShortest) h.0)
+head-size d (in_chunks k fs) next (a_chunk One n) bs r at reason h f = (f.0, f.1.0, ap (λ (x : Reason). complaint (at + length bs) at x) f.1.1 ∙ ap (λ (xs : List ℕ). complaint (at + length xs) at reasons.NotShortest) h.0)
+head-size d (in_chunks k fs) next (a_chunk Two n) bs r at reason h f = (f.0, f.1.0, ap (λ (x : Reason). complaint (at + length bs) at x) f.1.1 ∙ ap (λ (xs : List ℕ). complaint (at + length xs) at reasons.NotShortest) h.0)
+head-size d (in_chunks k fs) next (a_chunk Four n) bs r at reason h f = (f.0, f.1.0, ap (λ (x : Reason). complaint (at + length bs) at x) f.1.1 ∙ ap (λ (xs : List ℕ). complaint (at + length xs) at reasons.NotShortest) h.0)
+head-size d (in_chunks k fs) next (a_chunk Eight n) bs r at reason h f = (f.0, f.1.0, ap (λ (x : Reason). complaint (at + length bs) at x) f.1.1 ∙ ap (λ (xs : List ℕ). complaint (at + length xs) at reasons.NotShortest) h.0)
+head-size d (in_chunks k fs) next (a_chunk Indefinite n) bs r at reason h f = absurd h.1
+head-size d (at_item fs) next (a_chunk w n) bs r at reason h f = absurd h
+head-size d q next a_byte bs r at reason h f = absurd f.1
+head-size d q next a_break bs r at reason h f = absurd f.1
+head-size d (in_chunks k fs) next (a_head m w n) bs r at reason h f = absurd h
+head-size d (in_payload c k zero fs) next (a_head m w n) bs r at reason h f = absurd h
+head-size d (in_payload c k (suc x) fs) next (a_head m w n) bs r at reason h f = absurd h
+head-size d (in_payload c k zero fs) next (a_chunk w n) bs r at reason h f = absurd h
+head-size d (in_payload c k (suc x) fs) next (a_chunk w n) bs r at reason h f = absurd h
+head-size d done next m bs r at reason h f = absurd h
 
 pub fault_of : (q : Place) (m : Mark) (r : Rules) (at : ℕ) (c : Complaint) → OfMark r at q m c → (reason : Reason) × IsFault r m reason
-fault_of (at_item fs) (a_head m Indefinite n) (strict o) at c h = (reasons.Indefinite, refl)
-fault_of (at_item fs) (a_head m Direct n) (strict o) at c h = (reasons.NotShortest, (h.0, refl))
-fault_of (at_item fs) (a_head m One n) (strict o) at c h = (reasons.NotShortest, (h.0, refl))
-fault_of (at_item fs) (a_head m Two n) (strict o) at c h = (reasons.NotShortest, (h.0, refl))
-fault_of (at_item fs) (a_head m Four n) (strict o) at c h = (reasons.NotShortest, (h.0, refl))
-fault_of (at_item fs) (a_head m Eight n) (strict o) at c h = (reasons.NotShortest, (h.0, refl))
-fault_of (in_chunks k fs) (a_chunk Direct n) (strict o) at c h = (reasons.NotShortest, (h.0, refl))
-fault_of (in_chunks k fs) (a_chunk One n) (strict o) at c h = (reasons.NotShortest, (h.0, refl))
-fault_of (in_chunks k fs) (a_chunk Two n) (strict o) at c h = (reasons.NotShortest, (h.0, refl))
-fault_of (in_chunks k fs) (a_chunk Four n) (strict o) at c h = (reasons.NotShortest, (h.0, refl))
-fault_of (in_chunks k fs) (a_chunk Eight n) (strict o) at c h = (reasons.NotShortest, (h.0, refl))
-fault_of (in_chunks k fs) (a_chunk Indefinite n) (strict o) at c h = (reasons.Indefinite, refl)
+fault_of (at_item fs) (a_head m Indefinite n) r at c h = (reasons.Indefinite, (h.0, refl))
+fault_of (at_item fs) (a_head m Direct n) r at c h = (reasons.NotShortest, (h.0, (h.1, refl)))
+fault_of (at_item fs) (a_head m One n) r at c h = (reasons.NotShortest, (h.0, (h.1, refl)))
+fault_of (at_item fs) (a_head m Two n) r at c h = (reasons.NotShortest, (h.0, (h.1, refl)))
+fault_of (at_item fs) (a_head m Four n) r at c h = (reasons.NotShortest, (h.0, (h.1, refl)))
+fault_of (at_item fs) (a_head m Eight n) r at c h = (reasons.NotShortest, (h.0, (h.1, refl)))
+fault_of (in_chunks k fs) (a_chunk Direct n) r at c h = (reasons.NotShortest, (h.0, (h.1, refl)))
+fault_of (in_chunks k fs) (a_chunk One n) r at c h = (reasons.NotShortest, (h.0, (h.1, refl)))
+fault_of (in_chunks k fs) (a_chunk Two n) r at c h = (reasons.NotShortest, (h.0, (h.1, refl)))
+fault_of (in_chunks k fs) (a_chunk Four n) r at c h = (reasons.NotShortest, (h.0, (h.1, refl)))
+fault_of (in_chunks k fs) (a_chunk Eight n) r at c h = (reasons.NotShortest, (h.0, (h.1, refl)))
+fault_of (in_chunks k fs) (a_chunk Indefinite n) r at c h = (reasons.Indefinite, (h.0, refl))
 fault_of _ _ _ at c h = absurd h
 
 -- ---- as the reader meets them
@@ -349,12 +347,12 @@ open-fault o w kind e h = subst (λ (v : Width). IsFault (strict o) (mark_of v k
     go : (kind : EventKind) → IsHeadKind kind → IsFault (strict o) (mark_of Indefinite kind) reasons.Indefinite
     go (kinds.Piece n) h = absurd h
     go kinds.End h = absurd h
-    go (kinds.Unsigned n) h = refl
-    go (kinds.Negative n) h = refl
-    go (kinds.Simple n) h = refl
-    go (kinds.Bytes n) h = refl
-    go (kinds.Text n) h = refl
-    go (kinds.Chunk n) h = refl
-    go (kinds.Array n) h = refl
-    go (kinds.Map n) h = refl
-    go (kinds.Tag n) h = refl
+    go (kinds.Unsigned n) h = (refl, refl)
+    go (kinds.Negative n) h = (refl, refl)
+    go (kinds.Simple n) h = (refl, refl)
+    go (kinds.Bytes n) h = (refl, refl)
+    go (kinds.Text n) h = (refl, refl)
+    go (kinds.Chunk n) h = (refl, refl)
+    go (kinds.Array n) h = (refl, refl)
+    go (kinds.Map n) h = (refl, refl)
+    go (kinds.Tag n) h = (refl, refl)

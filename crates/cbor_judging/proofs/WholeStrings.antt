@@ -1,6 +1,6 @@
 -- Strings of one piece, and strings of chunks.
 use Rattle.std.proofs.Common.{◌≡◌, ℕ, ◌+◌, ◌-◌, ◌<◌, ◌≤◌, ◌⊎◌, Bool, true, false, true≢false, Option, Some, None, List, [], ◌∷◌, ◌++◌, length, replicate, flat_map, refl, sym, ap, ◌∙◌, subst, inl, inr, arith, append_assoc, append-nil}
-use Rattle.std.specs.Prelude.{IsUtf8}
+use Rattle.std.specs.Prelude.{IsTrue, IsUtf8}
 use Rattle.std.specs.Str.Lossy.{utf8_valid_len}
 use Rattle.std.proofs.lemmas.List.{length-append}
 use Rattle.std.proofs.lemmas.Grind.{flat_map-append}
@@ -9,7 +9,7 @@ use Rattle.cbor_head.specs.Head.{Holds, head}
 use Rattle.cbor_head.specs.Limits.{Bounds}
 use Rattle.cbor_head.specs.Value.{AreBytes}
 use Rattle.cbor_head.specs.Spelling.{Chunk, Spelling, bytes, text as a_text, byte_chunks, text_chunks, spell, chunk_bytes, chunks_joined, IsSpelled, depth, value_of}
-use Rattle.cbor_head.specs.Complaint.{Rules, form, plain, strict, Complaint, complaint, OfHead, OfIndefinite, OfCount, OfPayload, OfString, Complains}
+use Rattle.cbor_head.specs.Complaint.{Rules, Complaint, complaint, OfHead, OfIndefinite, OfCount, OfPayload, OfString, Complains}
 use Rattle.cbor_head.specs.Verdict.{refusal}
 use Rattle.cbor_head.specs.declared.major.Major.{Major}
 use Rattle.cbor_head.specs.declared.major.Major.TheVariants as majors
@@ -28,7 +28,6 @@ use Rattle.std.proofs.KnownBytes.{Consumes-trans}
 use Rattle.cbor_judging.specs.Place.{Container, Place, at_item, in_chunks, close, payload, IsTaking}
 use Rattle.cbor_machine.specs.NextEvent.{ItemEventsView}
 use Rattle.cbor_judging.specs.Judged.{IsJudged, Never}
-use Rattle.cbor_head.specs.declared.order.KeyOrder.{KeyOrder}
 use Rattle.cbor_judging.specs.Reading.{IsAt, IsFormRefusal, IsNoText, IsNextHead, Extends, IsBegun, OfMark, ReadsItem, StopsItem, HasCause, StopsHead, ReadsPayload, StopsPayload, string_major, string_kind, string_value}
 use Rattle.cbor_judging.proofs.Items.{definite, proper-definite, is-definite, head-count, extends-none, extends-on}
 use Rattle.cbor_judging.proofs.Scalars.{at-as}
@@ -41,14 +40,8 @@ use Rattle.cbor_judging.proofs.Steps.{reached-as}
 use Rattle.cbor_judging.specs.Reading.{frame_at, state_at}
 use Rattle.std.specs.Prelude.{map}
 
--- the rules look for what is no text
-abbrev pub LooksAtText : Rules → Type 0
-LooksAtText r = (at : ℕ) (q : List ℕ) → ¬ IsUtf8 q → OfPayload r at q (complaint (at + length q) (at + utf8_valid_len q) InvalidText)
-
 is-text : (r : Rules) (at : ℕ) (q : List ℕ) (c : Complaint) → IsUtf8 q → OfPayload r at q c → ⊥
-is-text form at q c u h = h
-is-text plain at q c u h = h.0 u
-is-text (strict o) at q c u h = h.0 u
+is-text r at q c u h = h.1 u
 
 -- ---- of one piece
 
@@ -96,7 +89,7 @@ pub so-far : (text : Bool) (w : Width) (q more : List ℕ) (r : Rules) (at d : �
 so-far true w q more r at d h g some clean = text_so_far w q more r at d (h, g) some clean
 so-far false w q more r at d h g some clean = bytes_so_far w q more r at d (h, g) some clean
 
-text-judged : (r : Rules) (b : Bounds) (fs : List Container) (t x : List ℕ) (w : Width) (n : ℕ) (next : Place) (to : Option (List ℕ)) (f : Refusal) → LooksAtText r → StringHead r b fs t x w true n next
+text-judged : (r : Rules) (b : Bounds) (fs : List Container) (t x : List ℕ) (w : Width) (n : ℕ) (next : Place) (to : Option (List ℕ)) (f : Refusal) → IsTrue r.texts → StringHead r b fs t x w true n next
     → (q : List ℕ) → IsNoText b (t ++ x) n q f → HasCause r b fs t (x ++ q) to f
 text-judged r b fs t x w n next to f looks h q y =
     let head_as : x ≡ head majors.Text w (length q) = h.bytes_are ∙ ap (head majors.Text w) (sym y.count) in
@@ -109,11 +102,11 @@ text-judged r b fs t x w n next to f looks h q y =
       splits = sym (append-nil (x ++ q));
       found = Some c;
       judged = subst (λ (u : List ℕ). IsJudged r (length t) (b.depth - length fs) (u ++ q) (Some c)) (sym head_as)
-          (text_complains w q r (length t) (b.depth - length fs) c (subst (Holds w) (sym y.count) h.holds, y.are_bytes) (subst (λ (k : ℕ). Never (OfHead r (length t) majors.Text w k)) (sym y.count) h.clean) (looks at q y.no_text));
+          (text_complains w q r (length t) (b.depth - length fs) c (subst (Holds w) (sym y.count) h.holds, y.are_bytes) (subst (λ (k : ℕ). Never (OfHead r (length t) majors.Text w k)) (sym y.count) h.clean) (looks, y.no_text, refl));
       cause = (y.is ∙ ap (λ (k : ℕ). refusal InvalidText (k + utf8_valid_len q) (k + length q)) there, subst (λ (u : List ℕ). length u ≤ b.bytes) (append_assoc t x q) y.within);
     }
 
-no-text : (r : Rules) (b : Bounds) (fs : List Container) (t x : List ℕ) (w : Width) (text : Bool) (n : ℕ) (next : Place) (to : Option (List ℕ)) (f : Refusal) → LooksAtText r → StringHead r b fs t x w text n next → text ≡ true
+no-text : (r : Rules) (b : Bounds) (fs : List Container) (t x : List ℕ) (w : Width) (text : Bool) (n : ℕ) (next : Place) (to : Option (List ℕ)) (f : Refusal) → IsTrue r.texts → StringHead r b fs t x w text n next → text ≡ true
     → (q : List ℕ) → IsNoText b (t ++ x) n q f → HasCause r b fs t (x ++ q) to f
 no-text r b fs t x w text n next to f looks h e q y = text-judged r b fs t x w n next to f looks (subst (λ (v : Bool). StringHead r b fs t x w v n next) e h) q y
 
@@ -153,7 +146,7 @@ module _ (r : Rules) (b : Bounds) (fs : List Container) (t x : List ℕ) (e : It
       (so-far text w p more r (length t) (b.depth - length fs) (subst (Holds w) (sym same) head-is.holds) (bytes_join p more are_bytes (zero_bytes (n - length p))) (omega (arith, zero_length (n - length p), short))
       (subst (λ (k : ℕ). Never (OfHead r (length t) (string_major text) w k)) (sym same) head-is.clean))
 
-  pub stops-string : LooksAtText r → (from to : Option (List ℕ)) (f : Refusal) → StopsPayload b (t ++ x) n text from to f → StopsItem r b fs t x from to f
+  pub stops-string : IsTrue r.texts → (from to : Option (List ℕ)) (f : Refusal) → StopsPayload b (t ++ x) n text from to f → StopsItem r b fs t x from to f
   stops-string looks from to f s = record {
     bytes = x ++ s.bytes;
     taken = record { more = s.bytes; consumed = s.consumed; are = refl };
@@ -425,7 +418,7 @@ module _ (r : Rules) (b : Bounds) (fs : List Container) (t x : List ℕ) (text :
           ap (λ (u : List ℕ). y ++ (n.bytes ++ u)) e ∙ ap (λ (u : List ℕ). y ++ u) (sym (append_assoc n.bytes p last)) ∙ sym (append_assoc y (n.bytes ++ p) last)
 
       -- it is refused
-      pub stops-chunk : LooksAtText r → (to : Option (List ℕ)) (f : Refusal) → StopsPayload b ((t ++ chunks_bytes (string_major text) a.done) ++ n.bytes) k text mid2 to f → StopsItem r b fs t x from to f
+      pub stops-chunk : IsTrue r.texts → (to : Option (List ℕ)) (f : Refusal) → StopsPayload b ((t ++ chunks_bytes (string_major text) a.done) ++ n.bytes) k text mid2 to f → StopsItem r b fs t x from to f
       stops-chunk looks to f s =
           let y = chunks_bytes (string_major text) a.done in
           let regroup : ((t ++ y) ++ n.bytes) ++ s.bytes ≡ t ++ (y ++ (n.bytes ++ s.bytes)) = append_assoc (t ++ y) n.bytes s.bytes ∙ append_assoc t y (n.bytes ++ s.bytes) in
@@ -466,7 +459,7 @@ module _ (r : Rules) (b : Bounds) (fs : List Container) (t x : List ℕ) (text :
                     judged = subst (λ (u : List ℕ). IsJudged r (length t) (b.depth - length fs) (y ++ (u ++ q)) (Some c)) (sym head_as)
                         (chunk_complains (string_major text) (chunks_of text) (is-chunked text) a.done r (length t) (b.depth - length fs) a.so_far ev.width q c
                         (subst (Holds ev.width) (sym v.count) hd.holds, v.are_bytes) (subst (λ (j : ℕ). Never (OfHead r (length t + length y) (string_major text) ev.width j)) (sym v.count) clean-head)
-                        (of-text text ev.width q r (length t + length y) c z.0 (looks at q v.no_text)) (looks at q v.no_text));
+                        (of-text text ev.width q r (length t + length y) c z.0 (looks, v.no_text, refl)) (looks, v.no_text, refl));
                     cause = (v.is ∙ ap (λ (j : ℕ). refusal InvalidText (j + utf8_valid_len q) (j + length q)) here, subst (λ (u : List ℕ). length u ≤ b.bytes) regroup v.within);
                   })
             ];
@@ -476,10 +469,3 @@ module _ (r : Rules) (b : Bounds) (fs : List Container) (t x : List ℕ) (text :
       chunk-farther q =
           let y = t ++ chunks_bytes (string_major text) a.done in
           omega (arith, length-append (y ++ n.bytes) q, length-append y n.bytes, ap length hd.bytes_are, head-some (string_major text) ev.width k)
-
--- each reader's rules do
-pub looks-plainly : LooksAtText plain
-looks-plainly at q h = (h, refl)
-
-pub looks-strictly : (o : KeyOrder) → LooksAtText (strict o)
-looks-strictly o at q h = (h, refl)

@@ -3,7 +3,7 @@ use Rattle.std.proofs.Common.{ℕ, ◌+◌, ◌≤◌, List, [], ◌∷◌, leng
 use Rattle.std.proofs.lemmas.List.{length-append, length-take}
 use Rattle.std.proofs.lemmas.Str.{utf8_valid_len_le}
 use Rattle.cbor_head.specs.Spelling.{Chunk, Spelling, Spellings, SpelledEntries, unsigned, negative, bytes, text, byte_chunks, text_chunks, array, a_map, tag, simple, no_spellings, a_spelling, no_entries, entry, spellings_count, entries_count, chunk_bytes}
-use Rattle.cbor_head.specs.Complaint.{Rules, form, plain, strict, Complaint, OfHead, OfIndefinite, OfCount, OfPayload, OfString, OfChunks, OfKey, Complains, ComplainsIn, ComplainsInEntries}
+use Rattle.cbor_head.specs.Complaint.{KeyRule, unasked, distinct, rising, Rules, Complaint, OfHead, OfIndefinite, OfCount, OfPayload, OfString, OfChunks, OfKey, Complains, ComplainsIn, ComplainsInEntries}
 use Rattle.cbor_head.specs.Verdict.{IsFormError, IsVerdict, refused}
 use Rattle.cbor_head.specs.Beginning.{IsLongestBeginning}
 use Rattle.cbor_head.specs.declared.major.Major.{Major}
@@ -16,20 +16,17 @@ use Rattle.cbor_judging.specs.Refusals.{StandsWithin}
 -- ---- complaints
 
 head_place : (r : Rules) (at : ℕ) (m : Major) (w : Width) (n : ℕ) (c : Complaint) → OfHead r at m w n c → c.place ≤ c.end
-head_place (strict o) at m w n c h = omega (arith, ap (λ (c : Complaint). c.end) h.1, ap (λ (c : Complaint). c.place) h.1)
-head_place _ at m w n c h = absurd h
+head_place r at m w n c h = omega (arith, ap (λ (c : Complaint). c.end) h.2, ap (λ (c : Complaint). c.place) h.2)
 
 opener_place : (r : Rules) (at : ℕ) (c : Complaint) → OfIndefinite r at c → c.place ≤ c.end
-opener_place (strict o) at c h = omega (arith, ap (λ (c : Complaint). c.end) h, ap (λ (c : Complaint). c.place) h)
-opener_place _ at c h = absurd h
+opener_place r at c h = omega (arith, ap (λ (c : Complaint). c.end) h.1, ap (λ (c : Complaint). c.place) h.1)
 
 count_place : (r : Rules) (at : ℕ) (m : Major) (w : Width) (n : ℕ) (c : Complaint) → OfCount r at m w n c → c.place ≤ c.end
 count_place r at m Indefinite n c h = opener_place r at c h
 count_place r at m w n c h = head_place r at m w n c h
 
 payload_place : (r : Rules) (at : ℕ) (q : List ℕ) (c : Complaint) → OfPayload r at q c → c.place ≤ c.end
-payload_place form at q c h = absurd h
-payload_place _ at q c h = omega (arith, ap (λ (c : Complaint). c.end) h.1, ap (λ (c : Complaint). c.place) h.1, utf8_valid_len_le q)
+payload_place r at q c h = omega (arith, ap (λ (c : Complaint). c.end) h.2, ap (λ (c : Complaint). c.place) h.2, utf8_valid_len_le q)
 
 string_place : (r : Rules) (at : ℕ) (m : Major) (w : Width) (q : List ℕ) (c : Complaint) → OfString r at m w q c → c.place ≤ c.end
 string_place r at Text w q c (inl h) = head_place r at Text w (length q) c h
@@ -41,11 +38,11 @@ chunks_place r at m [] c h = absurd h
 chunks_place r at m (k ∷ ks) c (inl h) = string_place r at m k.width k.payload c h
 chunks_place r at m (k ∷ ks) c (inr h) = chunks_place r (at + length (chunk_bytes m k)) m ks c h
 
-key_place : (r : Rules) (at : ℕ) (before : List Spelling) (k : Spelling) (c : Complaint) → OfKey r at before k c → c.place ≤ c.end
-key_place form at before k c h = absurd h
-key_place plain at before k c h = omega (arith, ap (λ (c : Complaint). c.end) h.1, ap (λ (c : Complaint). c.place) h.1)
-key_place (strict o) at [] k c h = absurd h
-key_place (strict o) at (b ∷ bs) k c h = omega (arith, ap (λ (c : Complaint). c.end) h.1, ap (λ (c : Complaint). c.place) h.1)
+key_place : (r : KeyRule) (at : ℕ) (before : List Spelling) (k : Spelling) (c : Complaint) → OfKey r at before k c → c.place ≤ c.end
+key_place unasked at before k c h = absurd h
+key_place distinct at before k c h = omega (arith, ap (λ (c : Complaint). c.end) h.1, ap (λ (c : Complaint). c.place) h.1)
+key_place (rising o) at [] k c h = absurd h
+key_place (rising o) at (b ∷ bs) k c h = omega (arith, ap (λ (c : Complaint). c.end) h.1, ap (λ (c : Complaint). c.place) h.1)
 
 mutual
   place_by_end : (s : Spelling) (r : Rules) (at : ℕ) (c : Complaint) → Complains r at s c → c.place ≤ c.end
@@ -73,7 +70,7 @@ mutual
   places_in_entries : (es : SpelledEntries) (before : List Spelling) (r : Rules) (at : ℕ) (c : Complaint) → ComplainsInEntries r at before es c → c.place ≤ c.end
   places_in_entries no_entries before r at c h = absurd h
   places_in_entries (entry k v es) before r at c (inl h) = place_by_end k r at c h
-  places_in_entries (entry k v es) before r at c (inr (inl h)) = key_place r at before k c h
+  places_in_entries (entry k v es) before r at c (inr (inl h)) = key_place r.keys at before k c h
   places_in_entries (entry k v es) before r at c (inr (inr (inl h))) = place_by_end v r _ c h
   places_in_entries (entry k v es) before r at c (inr (inr (inr h))) = places_in_entries es (k ∷ before) r _ c h
 

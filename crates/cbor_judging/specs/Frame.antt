@@ -71,12 +71,12 @@ OfFront r at (a_key w a v b) c =
 OfFront r at (a_content w a k b) c =
     OfCount r at Map w (entries_count a + suc (entries_count b)) c ⊎ ComplainsInEntries r (at + length (head Map w (entries_count a + suc (entries_count b)))) [] a c
     ⊎ Complains r (at + length (head Map w (entries_count a + suc (entries_count b)) ++ spell_entries a)) k c
-    ⊎ OfKey r (at + length (head Map w (entries_count a + suc (entries_count b)) ++ spell_entries a)) (keys_onto [] a) k c
+    ⊎ OfKey r.keys (at + length (head Map w (entries_count a + suc (entries_count b)) ++ spell_entries a)) (keys_onto [] a) k c
 OfFront r at (tagged w n) c = OfHead r at Tag w n c
 
 -- a complaint on the item as a key
 abbrev pub OfKeyAt : Rules → ℕ → Frame → Spelling → Complaint → Type 0
-OfKeyAt r at (a_key w a v b) s c = OfKey r at (keys_onto [] a) s c
+OfKeyAt r at (a_key w a v b) s c = OfKey r.keys at (keys_onto [] a) s c
 OfKeyAt r at _ s c = ⊥
 
 -- a complaint of what stands behind the item

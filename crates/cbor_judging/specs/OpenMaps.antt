@@ -38,7 +38,7 @@ onto ks (x ∷ xs) = onto (x.key ∷ ks) xs
 -- a complaint on one of these keys, behind others
 abbrev pub OnKeys : Rules → List Spelling → List Placed → Complaint → Type 0
 OnKeys r ks [] c = ⊥
-OnKeys r ks (x ∷ xs) c = OfKey r x.place ks x.key c ⊎ OnKeys r (x.key ∷ ks) xs c
+OnKeys r ks (x ∷ xs) c = OfKey r.keys x.place ks x.key c ⊎ OnKeys r (x.key ∷ ks) xs c
 
 -- no complaint is on any of these keys: by the plain rules, no two of them are the same
 abbrev pub AreDistinct : Rules → List Placed → Type 0

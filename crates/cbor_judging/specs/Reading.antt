@@ -1,5 +1,5 @@
 -- What the readers' own functions answer of one item, which may lie within others, from its events.
-use Rattle.std.specs.Prelude.{◌≡◌, ◌≢◌, ℕ, ◌+◌, ◌-◌, ◌<◌, ◌≤◌, ◌⊎◌, ◌++◌, Bool, true, false, List, [], length, Option, Some, None, IfSome, Result, MatchResult, IsUtf8, map}
+use Rattle.std.specs.Prelude.{◌≡◌, ◌≢◌, ℕ, ◌+◌, ◌-◌, ◌<◌, ◌≤◌, ◌⊎◌, ◌++◌, Bool, true, false, List, [], length, Option, Some, None, IfSome, IsTrue, Result, MatchResult, IsUtf8, map}
 use Rattle.std.specs.Str.Lossy.{utf8_valid_len}
 use Rattle.std.specs.Io.KnownBytes.{Consumes, IsAtEnd}
 use Rattle.cbor_head.specs.Limits.{Bounds, AreBounds}
@@ -7,7 +7,7 @@ use Rattle.cbor_head.specs.Value as value
 use Rattle.cbor_head.specs.Value.{Value, AreBytes}
 use Rattle.cbor_head.specs.Spelling.{Spelling, spell, IsSpelled, depth, value_of}
 use Rattle.cbor_head.specs.Head.{shortest}
-use Rattle.cbor_head.specs.Complaint.{Rules, form, strict, Complaint, OfHead, OfCount, Complains}
+use Rattle.cbor_head.specs.Complaint.{Rules, form, Complaint, OfHead, OfCount, Complains}
 use Rattle.cbor_head.specs.Beginning.{IsBeginning}
 use Rattle.cbor_head.specs.Verdict.{refusal, refused, IsVerdict}
 use Rattle.cbor_head.specs.declared.major.Major.{Major}
@@ -281,16 +281,20 @@ AnswersPayload text e n old grown from to new result =
 
 -- ---- heads
 
--- what the strict rules have against a head of this width and argument
+-- what rules that ask for the shortest heads have against one of this width and argument
 abbrev pub IsHeadFault : Width → ℕ → Reason → Type 0
 IsHeadFault Indefinite n reason = reason ≡ reasons.Indefinite
 IsHeadFault w n reason = (w ≢ shortest n) × (reason ≡ reasons.NotShortest)
 
+-- the same of a mark, if it has a head
+abbrev pub IsMarkFault : Mark → Reason → Type 0
+IsMarkFault (a_head m w n) reason = IsHeadFault w n reason
+IsMarkFault (a_chunk w n) reason = IsHeadFault w n reason
+IsMarkFault m reason = ⊥
+
 -- what the rules have against a mark
 abbrev pub IsFault : Rules → Mark → Reason → Type 0
-IsFault (strict o) (a_head m w n) reason = IsHeadFault w n reason
-IsFault (strict o) (a_chunk w n) reason = IsHeadFault w n reason
-IsFault r m reason = ⊥
+IsFault r m reason = IsTrue r.heads × IsMarkFault m reason
 
 -- ---- the whole
 

@@ -1,8 +1,9 @@
 -- What a reader's refusal can say: its reason, and what stands before its place.
-use Rattle.std.specs.Prelude.{ℕ, ◌≡◌, ◌≤◌, ◌⊎◌, List, length}
-use Rattle.cbor_head.specs.Complaint.{Rules, plain, strict, Complaint, Complains}
+use Rattle.std.specs.Prelude.{ℕ, ◌≡◌, ◌≤◌, ◌⊎◌, IsTrue, List, length}
+use Rattle.cbor_head.specs.Complaint.{distinct, rising, Rules, Complaint, Complains}
 use Rattle.cbor_head.specs.Laws.{StartsWith}
 use Rattle.cbor_head.specs.Spelling.{Spelling}
+use Rattle.cbor_head.specs.declared.order.KeyOrder as order
 use Rattle.cbor_head.specs.declared.reason.Reason.{Reason}
 use Rattle.cbor_head.specs.declared.reason.Refusal.{Refusal}
 use Rattle.cbor_head.specs.declared.reason.Reason.TheVariants.{Truncated, TooLong, Reserved, NoIndefinite, Float, BadSimple, StrayBreak, BadChunk, TooDeep, InvalidText, RepeatedKey, NotShortest, Indefinite, KeyOrder, Read, Memory}
@@ -20,16 +21,15 @@ IsFormReason BadChunk = Unit {0}
 IsFormReason TooDeep = Unit {0}
 IsFormReason _ = ⊥
 
--- The reasons of complaints: by the plain rules 10 and 11 (sections 3.1 and 5.6); by the strict ones 10 and 14 to 16
--- (section 4.2).
+-- The reasons of complaints: of texts 10 (section 3.1), of heads 14 and 15 (section 4.2.1), of keys 11 (section 5.6) or 16
+-- (section 4.2.1).
 abbrev pub IsComplaintReason : Rules → Reason → Type 0
-IsComplaintReason plain InvalidText = Unit {0}
-IsComplaintReason plain RepeatedKey = Unit {0}
-IsComplaintReason (strict o) InvalidText = Unit {0}
-IsComplaintReason (strict o) NotShortest = Unit {0}
-IsComplaintReason (strict o) Indefinite = Unit {0}
-IsComplaintReason (strict o) KeyOrder = Unit {0}
-IsComplaintReason _ _ = ⊥
+IsComplaintReason r InvalidText = IsTrue r.texts
+IsComplaintReason r NotShortest = IsTrue r.heads
+IsComplaintReason r Indefinite = IsTrue r.heads
+IsComplaintReason r RepeatedKey = r.keys ≡ distinct
+IsComplaintReason r KeyOrder = (o : order.KeyOrder) × (r.keys ≡ rising o)
+IsComplaintReason r _ = ⊥
 
 -- the reasons that a reader by these rules gives: those, 17 and 19
 abbrev pub IsReaderReason : Rules → Reason → Type 0

@@ -21,23 +21,23 @@ use Rattle.cbor_machine.specs.Machine.{StandsFor, IsComplete, IsRefused}
 use Rattle.cbor_automaton.proofs.Runs.{take-behind}
 
 no-count : (at : ℕ) (m : Major) (w : Width) (n : ℕ) (c : Complaint) → ¬ OfCount form at m w n c
-no-count at m Indefinite n c h = h
-no-count at m Direct n c h = h
-no-count at m One n c h = h
-no-count at m Two n c h = h
-no-count at m Four n c h = h
-no-count at m Eight n c h = h
+no-count at m Indefinite n c h = cc h.0
+no-count at m Direct n c h = cc h.0
+no-count at m One n c h = cc h.0
+no-count at m Two n c h = cc h.0
+no-count at m Four n c h = cc h.0
+no-count at m Eight n c h = cc h.0
 
 no-string : (at : ℕ) (m : Major) (w : Width) (payload : List ℕ) (c : Complaint) → ¬ OfString form at m w payload c
-no-string at Text w payload c (inl h) = h
-no-string at Text w payload c (inr h) = h
-no-string at Unsigned w payload c h = h
-no-string at Negative w payload c h = h
-no-string at Bytes w payload c h = h
-no-string at Array w payload c h = h
-no-string at Map w payload c h = h
-no-string at Tag w payload c h = h
-no-string at Simple w payload c h = h
+no-string at Text w payload c (inl h) = cc h.0
+no-string at Text w payload c (inr h) = cc h.0
+no-string at Unsigned w payload c h = cc h.0
+no-string at Negative w payload c h = cc h.0
+no-string at Bytes w payload c h = cc h.0
+no-string at Array w payload c h = cc h.0
+no-string at Map w payload c h = cc h.0
+no-string at Tag w payload c h = cc h.0
+no-string at Simple w payload c h = cc h.0
 
 no-chunks : (at : ℕ) (m : Major) (ks : List Chunk) (c : Complaint) → ¬ OfChunks form at m ks c
 no-chunks at m [] c h = h
@@ -46,19 +46,19 @@ no-chunks at m (k ∷ ks) c (inr h) = no-chunks (at + length (chunk_bytes m k)) 
 
 mutual
   pub no-complaint : (at : ℕ) (s : Spelling) (c : Complaint) → ¬ Complains form at s c
-  no-complaint at (unsigned w n) c h = h
-  no-complaint at (negative w n) c h = h
-  no-complaint at (bytes w payload) c h = h
+  no-complaint at (unsigned w n) c h = cc h.0
+  no-complaint at (negative w n) c h = cc h.0
+  no-complaint at (bytes w payload) c h = cc h.0
   no-complaint at (text w payload) c h = no-string at Text w payload c h
-  no-complaint at (byte_chunks ks) c (inl h) = h
+  no-complaint at (byte_chunks ks) c (inl h) = cc h.0
   no-complaint at (byte_chunks ks) c (inr h) = no-chunks (at + 1) Bytes ks c h
-  no-complaint at (text_chunks ks) c (inl h) = h
+  no-complaint at (text_chunks ks) c (inl h) = cc h.0
   no-complaint at (text_chunks ks) c (inr h) = no-chunks (at + 1) Text ks c h
   no-complaint at (array w ss) c (inl h) = no-count at Array w (spellings_count ss) c h
   no-complaint at (array w ss) c (inr h) = none-in (at + length (head Array w (spellings_count ss))) ss c h
   no-complaint at (a_map w es) c (inl h) = no-count at Map w (entries_count es) c h
   no-complaint at (a_map w es) c (inr h) = none-in-entries (at + length (head Map w (entries_count es))) [] es c h
-  no-complaint at (tag w n s) c (inl h) = h
+  no-complaint at (tag w n s) c (inl h) = cc h.0
   no-complaint at (tag w n s) c (inr h) = no-complaint (at + length (head Tag w n)) s c h
   no-complaint at (simple n) c h = h
 

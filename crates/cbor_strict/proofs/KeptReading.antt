@@ -171,7 +171,7 @@ kept_counted (f ∷ fs) p = elim (either_way (stands_in_key fs)) [
 
 definite_if : (o : KeyOrder) (at : ℕ) (m : Major) (w : Width) (n : ℕ) → Never (OfCount (strict o) at m w n) → w ≢ Indefinite
 definite_if o at m w n h e =
-    h (complaint.complaint (at + 1) at reasons.Indefinite) (subst (λ (v : Width). OfCount (strict o) at m v n (complaint.complaint (at + 1) at reasons.Indefinite)) (sym e) refl)
+    h (complaint.complaint (at + 1) at reasons.Indefinite) (subst (λ (v : Width). OfCount (strict o) at m v n (complaint.complaint (at + 1) at reasons.Indefinite)) (sym e) (refl, refl))
 
 around_path : (o : KeyOrder) (left : ℕ) (gs : List Frame) (at : ℕ) → ArePath left gs → AreClosedClean (strict o) at gs → AreAround gs
 around_path o left [] at h c = tt

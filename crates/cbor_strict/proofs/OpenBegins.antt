@@ -66,7 +66,7 @@ pub no_openers : (o : KeyOrder) (b : Bounds) (fs : List Container) (t x : List �
 no_openers o b fs t x e w m n kind is opener i =
     i.clean (complaint.complaint (length t + 1) (length t) reasons.Indefinite)
     (subst (λ (y : Mark). OfMark (strict o) (length t) (at_item fs) y (complaint.complaint (length t + 1) (length t) reasons.Indefinite)) (sym is)
-    (subst (λ (y : Width). OfMark (strict o) (length t) (at_item fs) (a_head m y n) (complaint.complaint (length t + 1) (length t) reasons.Indefinite)) (sym opener) refl))
+    (subst (λ (y : Width). OfMark (strict o) (length t) (at_item fs) (a_head m y n) (complaint.complaint (length t + 1) (length t) reasons.Indefinite)) (sym opener) (refl, refl)))
 
 module _ (o : KeyOrder) (b : Bounds) (gs : List Container) (t x : List ℕ) (e : ItemEventsView) (w : Width) (from : Option (List ℕ)) where
   string_reads : (is_text : Bool) (n : ℕ) → n ≡ 0 → IsBegun (strict o) b gs t x e w (string_kind is_text (Some n)) → (v : Value) × ReadsItem (strict o) b gs t x from from e v

@@ -5,7 +5,7 @@ use Rattle.cbor_head.specs.Limits.{Bounds}
 use Rattle.cbor_head.specs.Order.{key_lt}
 use Rattle.cbor_head.specs.Spelling.{Spelling, Spellings, SpelledEntries, no_spellings, a_spelling, no_entries, entry, spell, spellings_count, entries_count, IsSpelled, depth}
 use Rattle.cbor_head.specs.Complaint as complaint
-use Rattle.cbor_head.specs.Complaint.{Rules, strict, OfCount, OfKey, Complains}
+use Rattle.cbor_head.specs.Complaint.{rising, Rules, strict, OfCount, OfKey, Complains}
 use Rattle.cbor_head.specs.Verdict.{refusal}
 use Rattle.cbor_head.specs.declared.major.Major.TheVariants.{Array, Map}
 use Rattle.cbor_head.specs.declared.order.KeyOrder.{KeyOrder}
@@ -54,17 +54,17 @@ pub definite_of : (o : KeyOrder) (d : ℕ) (fs : List Frame) → AreOpen (strict
 definite_of o d [] h = tt
 definite_of o d (a_member w a b ∷ fs) h =
     let i = innermost (strict o) d (from_outside fs) (a_member w a b) h in (
-      λ e. i.clean _ (inl (subst (λ (v : Width). OfCount (strict o) (length (bytes_before fs)) Array v (spellings_count a + suc (spellings_count b)) (complaint.complaint (length (bytes_before fs) + 1) (length (bytes_before fs)) reasons.Indefinite)) (sym e) refl)),
+      λ e. i.clean _ (inl (subst (λ (v : Width). OfCount (strict o) (length (bytes_before fs)) Array v (spellings_count a + suc (spellings_count b)) (complaint.complaint (length (bytes_before fs) + 1) (length (bytes_before fs)) reasons.Indefinite)) (sym e) (refl, refl))),
       definite_of o d fs (shuts (strict o) d (from_outside fs) (a_member w a b) h),
     )
 definite_of o d (a_key w a v b ∷ fs) h =
     let i = innermost (strict o) d (from_outside fs) (a_key w a v b) h in (
-      λ e. i.clean _ (inl (subst (λ (v : Width). OfCount (strict o) (length (bytes_before fs)) Map v (entries_count a + suc (entries_count b)) (complaint.complaint (length (bytes_before fs) + 1) (length (bytes_before fs)) reasons.Indefinite)) (sym e) refl)),
+      λ e. i.clean _ (inl (subst (λ (v : Width). OfCount (strict o) (length (bytes_before fs)) Map v (entries_count a + suc (entries_count b)) (complaint.complaint (length (bytes_before fs) + 1) (length (bytes_before fs)) reasons.Indefinite)) (sym e) (refl, refl))),
       definite_of o d fs (shuts (strict o) d (from_outside fs) (a_key w a v b) h),
     )
 definite_of o d (a_content w a k b ∷ fs) h =
     let i = innermost (strict o) d (from_outside fs) (a_content w a k b) h in (
-      λ e. i.clean _ (inl (subst (λ (v : Width). OfCount (strict o) (length (bytes_before fs)) Map v (entries_count a + suc (entries_count b)) (complaint.complaint (length (bytes_before fs) + 1) (length (bytes_before fs)) reasons.Indefinite)) (sym e) refl)),
+      λ e. i.clean _ (inl (subst (λ (v : Width). OfCount (strict o) (length (bytes_before fs)) Map v (entries_count a + suc (entries_count b)) (complaint.complaint (length (bytes_before fs) + 1) (length (bytes_before fs)) reasons.Indefinite)) (sym e) (refl, refl))),
       definite_of o d fs (shuts (strict o) d (from_outside fs) (a_content w a k b) h),
     )
 definite_of o d (tagged w n ∷ fs) h = definite_of o d fs (shuts (strict o) d (from_outside fs) (tagged w n) h)
@@ -243,7 +243,7 @@ module _ (o : KeyOrder) (b : Bounds) (e : ItemEventsView) (t : List ℕ) (gs : L
         are = key_ends (strict o) b.depth (from_outside gs) w a s v c m.clean.are m.clean.spelled m.clean.within (clean_in f m);
         distinct = distinct_snoc (from_outside gs) g (strict o) 0 at (omega arith) u.0 (λ q y. elim (on_keys_split (open_keys at f) (placed (at + length (before f)) s ∷ []) (strict o) [] q y) [
           | inl z ↦ u.1 q z
-          | inr (inl z) ↦ fresh q (subst (λ (ks : List Spelling). OfKey (strict o) (at + length (before f)) ks s q) (onto_keys a _ []) z)
+          | inr (inl z) ↦ fresh q (subst (λ (ks : List Spelling). OfKey (rising o) (at + length (before f)) ks s q) (onto_keys a _ []) z)
           | inr (inr z) ↦ absurd z
         ]);
         taken = next_bytes f m ∙ sym (before_more gs g);

@@ -128,7 +128,7 @@ same_width v w = elim (cases_lt (width_number v) (width_number w)) [
 ]
 
 shortest_so : (o : KeyOrder) (at : ℕ) (m : Major) (w : Width) (n : ℕ) → Never (OfHead (strict o) at m w n) → w ≡ shortest n
-shortest_so o at m w n none = elim (same_width w (shortest n)) [ inl e ↦ e | inr f ↦ absurd (none _ (f, refl)) ]
+shortest_so o at m w n none = elim (same_width w (shortest n)) [ inl e ↦ e | inr f ↦ absurd (none _ (refl, f, refl)) ]
 
 short_of : (o : KeyOrder) (b : Bounds) (fs : List Container) (t x : List ℕ) (e : ItemEventsView) (w : Width) (m : Major) (n : ℕ) (kind : EventKind) → mark_of w kind ≡ a_head m w n → w ≢ Indefinite → short_head kind ≡ shortest_head m n
     → (i : IsBegun (strict o) b fs t x e w kind) → IsShort b.depth fs x kind i.next

@@ -153,6 +153,6 @@ module _ (v : OpenItems) (b : Bounds) (old : ItemEventsView) (t x : List ℕ) (e
           splits = sym (append-nil (hd ++ q));
           found = Some c;
           judged = subst (λ (y : List ℕ). IsJudged (strict v.order) at (b.depth - length (frames_in h.due.fs)) (y ++ q) (Some c)) (sym heads)
-              (text_complains h.due.w q (strict v.order) at (b.depth - length (frames_in h.due.fs)) c (subst (Holds h.due.w) size h.due.holds, all_bytes) clean (no_text, refl));
+              (text_complains h.due.w q (strict v.order) at (b.depth - length (frames_in h.due.fs)) c (subst (Holds h.due.w) size h.due.holds, all_bytes) clean (refl, no_text, refl));
           cause = (is ∙ ap (λ (n : ℕ). refusal InvalidText n taken) here ∙ ap (refusal InvalidText (at + length th + utf8_valid_len q)) sized, subst (λ (y : List ℕ). length y ≤ b.bytes) bytes_so (at-reached b e (t ++ x) _ h.at).within);
         })

@@ -1,19 +1,14 @@
 -- What is told of the item at the front of a slice.
-use Rattle.std.proofs.Common.{◌≡◌, ℕ, List, take, refl, sym, ap, ◌∙◌, subst}
+use Rattle.std.proofs.Common.{◌≡◌, ℕ, List, refl}
 use Rattle.std.specs.Prelude.{Some, Result, Ok, Err, MatchResult, IfOk, IfErr}
-use Rattle.cbor_head.specs.Limits.{Bounds, AreBounds}
 use Rattle.cbor_head.specs.Spelling.{Spelling, value_of}
 use Rattle.cbor_head.specs.Complaint.{strict}
-use Rattle.cbor_head.specs.Verdict.{Answer, accepted, refused, IsVerdict}
+use Rattle.cbor_head.specs.Verdict.{accepted, refused, IsVerdict}
 use Rattle.cbor_head.specs.declared.order.KeyOrder.{KeyOrder}
 use Rattle.cbor_head.specs.declared.reason.Refusal.{Refusal}
 use Rattle.cbor_head.proofs.OneVerdict.{one_verdict}
-use Rattle.cbor_slices.specs.SliceView.{SliceEventsView, seen}
-use Rattle.cbor_slices.proofs.Slices.{verdict-within}
-use Rattle.cbor_judging.specs.Readers.{IsRead, IsUnread, of_verdict, of_reader, of_memory, IsCanonicalFront, HasNoCanonicalFront}
-use Rattle.cbor_judging.proofs.Fronts.{front-unread}
+use Rattle.cbor_judging.specs.Readers.{IsRead, IsCanonicalFront, HasNoCanonicalFront}
 use Rattle.cbor_judging.proofs.CanonicalFronts.{strict_accepts}
-use Rattle.cbor_judging.proofs.Tops.{item-read}
 use Rattle.cbor_strict.proofs.WholeInputs.{front-canonical}
 
 pub read-front : (d n : ℕ) (o : KeyOrder) (input : List ℕ) (count : ℕ) → IsRead d n (strict o) input count → IsCanonicalFront d n o input count

@@ -2,7 +2,7 @@
 //!
 //! [`check_text`] answers it of a slice, and [`TextCheck`] of bytes that come in pieces: how long
 //! their longest front is that is UTF-8, however they are cut. [`is_ascii_front`] and
-//! [`is_short_ascii`] see at once that a short text is ASCII.
+//! [`is_short_ascii`] see at once that a short text is ASCII, and [`is_text_front`] asks them first.
 #![tactic(auto)]
 
 mod ascii;
@@ -10,5 +10,5 @@ mod text;
 mod text_check;
 
 pub use ascii::{is_ascii_front, is_short_ascii};
-pub use text::check_text;
+pub use text::{check_text, is_text_front};
 pub use text_check::TextCheck;

@@ -1,7 +1,9 @@
 //! Whether bytes are texts.
 
-ghost use Rattle.std.specs.Prelude.{◌≡◌, ◌≤◌, length, IsUtf8, MatchResult, IfErr};
+ghost use Rattle.std.specs.Prelude.{◌≡◌, ◌≤◌, ◌↔◌, length, take, true, IsUtf8, MatchResult, IfErr};
 ghost use Rattle.std.specs.Str.Lossy.{utf8_valid_len};
+
+use crate::ascii::is_short_ascii;
 
 /// Whether the bytes are UTF-8, or the length of their longest front that is.
 pub fn check_text(bytes: &[u8]) -> Result<(), usize>
@@ -14,4 +16,17 @@ pub fn check_text(bytes: &[u8]) -> Result<(), usize>
         Ok(_) => Ok(()),
         Err(error) => Err(error.valid_up_to()),
     }
+}
+
+/// Whether so many bytes in front are UTF-8. Of up to 32 bytes of ASCII it sees it at once, where
+/// 32 stand there.
+#[inline(always)]
+pub fn is_text_front(front: &[u8], count: usize) -> bool
+    requires { count ≤ length front.now }
+    ensures { (result ≡ true) ↔ IsUtf8 (take count front.now) }
+{
+    if is_short_ascii(front, count) {
+        return true;
+    }
+    check_text(&front[..count]).is_ok()
 }

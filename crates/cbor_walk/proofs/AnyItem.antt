@@ -139,16 +139,14 @@ module _ (room : Bool) (first : ℕ) (behind : List ℕ) (w : Width) (n : ℕ) (
         is ∙ ap (λ (x : List ℕ). with_argument (shortest n) base n ++ x) (sym (back _ is))
 
     pub a_tag : 192 ≤ first → first < 224 → OpensHere room (first ∷ behind) Item 0 used
-    a_tag l h = record { fits = is_room; some = omega (arith, e, fewer); inside = omega (arith, e); opener = inr (refl, (n, s.range, opens 192 (omega (arith, l, h)))) }
+    a_tag l h = record { fits = is_room; opens = record { some = omega (arith, e, fewer); inside = omega (arith, e); opener = inr (refl, (n, s.range, opens 192 (omega (arith, l, h)))) } }
 
     pub an_array : 128 ≤ first → first < 160 → 0 < n → OpensHere room (first ∷ behind) Item (n - 1) used
     an_array l h some =
         let m : n ≡ suc (n - 1) = omega (arith, some) in
         record {
           fits = is_room;
-          some = omega (arith, e, fewer);
-          inside = omega (arith, e);
-          opener = inl (subst (λ (k : ℕ). (k < 2 ^ 64) × (first ∷ behind ≡ shortest_head Array k ++ drop used (first ∷ behind))) m (s.range, opens 128 (omega (arith, l, h))));
+          opens = record { some = omega (arith, e, fewer); inside = omega (arith, e); opener = inl (subst (λ (k : ℕ). (k < 2 ^ 64) × (first ∷ behind ≡ shortest_head Array k ++ drop used (first ∷ behind))) m (s.range, opens 128 (omega (arith, l, h)))) };
         }
 
     pub a_map : 160 ≤ first → first < 192 → 0 < n → OpensHere room (first ∷ behind) Key (n - 1) used
@@ -156,9 +154,7 @@ module _ (room : Bool) (first : ℕ) (behind : List ℕ) (w : Width) (n : ℕ) (
         let m : n ≡ suc (n - 1) = omega (arith, some) in
         record {
           fits = is_room;
-          some = omega (arith, e, fewer);
-          inside = omega (arith, e);
-          opener = subst (λ (k : ℕ). (k < 2 ^ 64) × (first ∷ behind ≡ shortest_head Map k ++ drop used (first ∷ behind))) m (s.range, opens 160 (omega (arith, l, h)));
+          opens = record { some = omega (arith, e, fewer); inside = omega (arith, e); opener = subst (λ (k : ℕ). (k < 2 ^ 64) × (first ∷ behind ≡ shortest_head Map k ++ drop used (first ∷ behind))) m (s.range, opens 160 (omega (arith, l, h))) };
         }
 
     -- without members: the head is one byte

@@ -42,8 +42,8 @@ answers room at b c result answer e is h = subst (IsAny b at room) (sym is) (sub
 
 -- by the strict rules each open container has a length
 no_break : (o : KeyOrder) (d : ℕ) (ls : List Level) → AreClean (strict o) d ls → MayBreak ls → ⊥
-no_break o d (a_member Indefinite left done ∷ ls) h b = h.1.head_clean _ refl
-no_break o d (a_key Indefinite left done ∷ ls) h b = h.1.head_clean _ refl
+no_break o d (a_member Indefinite left done ∷ ls) h b = h.1.head_clean _ (refl, refl)
+no_break o d (a_key Indefinite left done ∷ ls) h b = h.1.head_clean _ (refl, refl)
 no_break o d [] h b = b
 no_break o d (a_member w left done ∷ ls) h b = b
 no_break o d (a_key w left done ∷ ls) h b = b
@@ -159,7 +159,7 @@ module _ (room : Bool) (first : ℕ) (behind : List ℕ) (at : ℕ) where
           let same : head Text w (length q) ≡ hd = ap (head Text w) count in
           let c = complaint (to + length q) (to + utf8_valid_len q) reasons.InvalidText in
           let j = text_complains w q (strict o) (length (bytes_before ls)) (d - length ls) c (subst (Holds w) (sym count) a.holds, bytes)
-          (shortest_clean (strict o) (length (bytes_before ls)) Text w (length q) (short ∙ ap shortest (sym count))) (none, refl) in
+          (shortest_clean (strict o) (length (bytes_before ls)) Text w (length q) (short ∙ ap shortest (sym count))) (refl, none, refl) in
           let there : to ≡ at + used = omega (arith, here, ap length same, size) in
           let place : to + utf8_valid_len q ≡ at + used + valid = omega (arith, there, valid_is) in
           let read : to + length q ≡ at + end = omega (arith, there, count, end_is) in

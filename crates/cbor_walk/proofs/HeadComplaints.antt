@@ -1,6 +1,6 @@
 -- What the rules have against a head comes first of all that they have against its item.
-use Rattle.std.proofs.Common.{◌≡◌, ◌≢◌, ℕ, ◌+◌, ◌<◌, ◌≤◌, Some, List, [], length, replicate, refl, sym, ap, ◌∙◌, subst, inl, arith}
-use Rattle.cbor_head.specs.Complaint.{Rules, form, plain, strict, Complaint, complaint, OfHead, OfIndefinite, OfCount}
+use Rattle.std.proofs.Common.{◌≡◌, ◌≢◌, ℕ, ◌+◌, ◌<◌, ◌≤◌, Some, List, [], length, replicate, refl, sym, subst, inl, arith}
+use Rattle.cbor_head.specs.Complaint.{Rules, strict, Complaint, complaint, OfHead, OfIndefinite, OfCount}
 use Rattle.cbor_head.specs.Head.{Holds, head, shortest}
 use Rattle.cbor_head.specs.Spelling.{unsigned, negative, bytes, text, byte_chunks, text_chunks, tag}
 use Rattle.cbor_head.specs.declared.major.Major.{Major}
@@ -9,7 +9,7 @@ use Rattle.cbor_head.specs.declared.order.KeyOrder.{KeyOrder}
 use Rattle.cbor_head.specs.declared.reason.Reason.TheVariants.{NotShortest, Indefinite as IndefiniteReason}
 use Rattle.cbor_head.specs.declared.width.Width.{Width}
 use Rattle.cbor_head.specs.declared.width.Width.TheVariants.{Indefinite}
-use Rattle.cbor_head.proofs.OneFirst.{last}
+use Rattle.cbor_head.proofs.OneFirst.{count_last}
 use Rattle.cbor_automaton.proofs.Taking.{IsNumbered}
 use Rattle.cbor_judging.specs.Judged.{IsJudged}
 use Rattle.cbor_judging.proofs.Heads.{open_or, takes, zero_bytes, zero_length}
@@ -18,10 +18,6 @@ use Rattle.cbor_judging.proofs.Judged.{zero_item}
 use Rattle.cbor_judging.proofs.Leaves.{head_complains, array_head_complains, map_head_complains}
 
 -- ---- a definite head
-
-head_last : (r : Rules) (at : ℕ) (m : Major) (w : Width) (n : ℕ) (c : Complaint) → OfHead r at m w n c → last c ≡ at + length (head m w n)
-head_last (strict o) at m w n c h = ap last h.1 ∙ omega arith
-head_last _ at m w n c h = absurd h
 
 of_count : (r : Rules) (at : ℕ) (m : Major) (w : Width) (n : ℕ) (c : Complaint) → Holds w n → OfHead r at m w n c → OfCount r at m w n c
 of_count r at m Indefinite n c h o = absurd h
@@ -39,31 +35,29 @@ module _ (r : Rules) (at d : ℕ) (w : Width) (n : ℕ) (c : Complaint) (holds :
   spelled = subst (Holds w) (sym (zero_length n)) holds
 
   pub head_judged : (m : Major) → IsNumbered m → takes m ≤ d → OfHead r at m w n c → IsJudged r at d (head m w n) (Some c)
-  head_judged Unsigned i l o = head_complains (unsigned w n) r at d c holds (omega arith) o (head_last r at Unsigned w n c o)
-  head_judged Negative i l o = head_complains (negative w n) r at d c holds (omega arith) o (head_last r at Negative w n c o)
+  head_judged Unsigned i l o = head_complains (unsigned w n) r at d c holds (omega arith) o (count_last r at Unsigned w n c (of_count r at Unsigned w n c holds o))
+  head_judged Negative i l o = head_complains (negative w n) r at d c holds (omega arith) o (count_last r at Negative w n c (of_count r at Negative w n c holds o))
   head_judged Bytes i l o =
       subst (λ (k : ℕ). IsJudged r at d (head Bytes w k) (Some c)) (zero_length n)
-      (head_complains (bytes w zero_payload) r at d c (spelled, zero_bytes n) (omega arith) (of_string Bytes o) (head_last r at Bytes w (length zero_payload) c (of_string Bytes o)))
+      (head_complains (bytes w zero_payload) r at d c (spelled, zero_bytes n) (omega arith) (of_string Bytes o) (count_last r at Bytes w (length zero_payload) c (of_count r at Bytes w (length zero_payload) c spelled (of_string Bytes o))))
   head_judged Text i l o =
       subst (λ (k : ℕ). IsJudged r at d (head Text w k) (Some c)) (zero_length n)
-      (head_complains (text w zero_payload) r at d c (spelled, zero_bytes n) (omega arith) (inl (of_string Text o)) (head_last r at Text w (length zero_payload) c (of_string Text o)))
+      (head_complains (text w zero_payload) r at d c (spelled, zero_bytes n) (omega arith) (inl (of_string Text o)) (count_last r at Text w (length zero_payload) c (of_count r at Text w (length zero_payload) c spelled (of_string Text o))))
   head_judged Array i l o = array_head_complains w n r at d c (open_or w n holds) l (of_count r at Array w n c holds o)
   head_judged Map i l o = map_head_complains w n r at d c (open_or w n holds) l (of_count r at Map w n c holds o)
   head_judged Tag i l o =
       let z : 0 < 24 = omega arith in
-      head_complains (tag w n zero_item) r at d c (holds, z) (omega (arith, l)) (inl o) (head_last r at Tag w n c o)
+      head_complains (tag w n zero_item) r at d c (holds, z) (omega (arith, l)) (inl o) (count_last r at Tag w n c (of_count r at Tag w n c holds o))
   head_judged Simple i l o = absurd i
 
 -- longer than it need be
 pub not_shortest : (o : KeyOrder) (at d : ℕ) (m : Major) (w : Width) (n : ℕ) → IsNumbered m → Holds w n → takes m ≤ d → w ≢ shortest n
     → IsJudged (strict o) at d (head m w n) (Some (complaint (at + length (head m w n)) at NotShortest))
-not_shortest o at d m w n i h l long = head_judged (strict o) at d w n (complaint (at + length (head m w n)) at NotShortest) h m i l (long, refl)
+not_shortest o at d m w n i h l long = head_judged (strict o) at d w n (complaint (at + length (head m w n)) at NotShortest) h m i l (refl, long, refl)
 
 -- and else nothing is to be said against it
 pub shortest_clean : (r : Rules) (at : ℕ) (m : Major) (w : Width) (n : ℕ) → w ≡ shortest n → Never (OfHead r at m w n)
-shortest_clean (strict o) at m w n e c h = h.0 e
-shortest_clean form at m w n e c h = h
-shortest_clean plain at m w n e c h = h
+shortest_clean r at m w n e c h = h.1 e
 
 -- ---- an opener without length
 
@@ -75,16 +69,12 @@ IsOpener Array d = 1 ≤ d
 IsOpener Map d = 1 ≤ d
 IsOpener _ d = ⊥
 
-opener_last : (r : Rules) (at : ℕ) (c : Complaint) → OfIndefinite r at c → last c ≡ at + 1
-opener_last (strict o) at c h = ap last h ∙ omega arith
-opener_last _ at c h = absurd h
-
 pub opener_judged : (r : Rules) (at d : ℕ) (m : Major) (c : Complaint) → IsOpener m d → OfIndefinite r at c → IsJudged r at d (head m Indefinite 0) (Some c)
-opener_judged r at d Bytes c i o = head_complains (byte_chunks []) r at d c tt (omega arith) (inl o) (opener_last r at c o)
-opener_judged r at d Text c i o = head_complains (text_chunks []) r at d c tt (omega arith) (inl o) (opener_last r at c o)
+opener_judged r at d Bytes c i o = head_complains (byte_chunks []) r at d c tt (omega arith) (inl o) (count_last r at Bytes Indefinite 0 c o)
+opener_judged r at d Text c i o = head_complains (text_chunks []) r at d c tt (omega arith) (inl o) (count_last r at Text Indefinite 0 c o)
 opener_judged r at d Array c i o = array_head_complains Indefinite 0 r at d c tt i o
 opener_judged r at d Map c i o = map_head_complains Indefinite 0 r at d c tt i o
 opener_judged r at d _ c i o = absurd i
 
 pub indefinite_length : (o : KeyOrder) (at d : ℕ) (m : Major) → IsOpener m d → IsJudged (strict o) at d (head m Indefinite 0) (Some (complaint (at + 1) at IndefiniteReason))
-indefinite_length o at d m i = opener_judged (strict o) at d m (complaint (at + 1) at IndefiniteReason) i refl
+indefinite_length o at d m i = opener_judged (strict o) at d m (complaint (at + 1) at IndefiniteReason) i (refl, refl)

@@ -48,10 +48,10 @@ module _ (r : Rules) (at d : ℕ) where
 
   front_value : (w : Width) (n m : ℕ) (done : SpelledEntries) (k : Spelling) → n ≡ m → IsValueDue r at d w m done k → (c : Complaint)
       → OfCount r at Map w n c ⊎ ComplainsInEntries r (at + length (head Map w n)) [] done c
-      ⊎ Complains r (at + length (head Map w n ++ spell_entries done)) k c ⊎ OfKey r (at + length (head Map w n ++ spell_entries done)) (keys_onto [] done) k c → ⊥
+      ⊎ Complains r (at + length (head Map w n ++ spell_entries done)) k c ⊎ OfKey r.keys (at + length (head Map w n ++ spell_entries done)) (keys_onto [] done) k c → ⊥
   front_value w n m done k e h c g =
       let f = subst (λ (x : ℕ). OfCount r at Map w x c ⊎ ComplainsInEntries r (at + length (head Map w x)) [] done c
-      ⊎ Complains r (at + length (head Map w x ++ spell_entries done)) k c ⊎ OfKey r (at + length (head Map w x ++ spell_entries done)) (keys_onto [] done) k c) e g in
+      ⊎ Complains r (at + length (head Map w x ++ spell_entries done)) k c ⊎ OfKey r.keys (at + length (head Map w x ++ spell_entries done)) (keys_onto [] done) k c) e g in
       elim f [ inl x ↦ h.so_far.head_clean c x | inr (inl x) ↦ h.so_far.clean c x | inr (inr (inl x)) ↦ h.clean c x | inr (inr (inr x)) ↦ h.fits c x ]
 
   front_clean : (l : Level) → IsClean r at d l → Never (OfFront r at (frame_of l))
@@ -72,14 +72,14 @@ module _ (r : Rules) (at d : ℕ) where
 
   -- a complaint on the key that was due
   pub judged_key_level : (w : Width) (left : ℕ) (done : SpelledEntries) (k : Spelling) (c : Complaint) → IsClean r at d (a_key w left done) → IsSpelled k → depth k ≤ d
-      → Never (Complains r (at + length (level_bytes (a_key w left done))) k) → OfKey r (at + length (level_bytes (a_key w left done))) (keys_onto [] done) k c
+      → Never (Complains r (at + length (level_bytes (a_key w left done))) k) → OfKey r.keys (at + length (level_bytes (a_key w left done))) (keys_onto [] done) k c
       → IsJudged r at (suc d) (level_bytes (a_key w left done) ++ spell k) (Some c)
   judged_key_level w left done k c h i low none o =
       let l = a_key w left done in
       let e = sym (before_frame l) in
       subst (λ (x : List ℕ). IsJudged r at (suc d) (x ++ spell k) (Some c)) (before_frame l)
       (judged_key (frame_of l) r at d (frame_fits l h) (frame_flat l h) (front_clean l h) k c i low (subst (λ (x : List ℕ). Never (Complains r (at + length x) k)) e none)
-      (subst (λ (x : List ℕ). OfKey r (at + length x) (keys_onto [] done) k c) e o))
+      (subst (λ (x : List ℕ). OfKey r.keys (at + length x) (keys_onto [] done) k c) e o))
 
 -- what is found of it is found of the whole
 pub judged_path : (r : Rules) (d : ℕ) (ls : List Level) → AreClean r d ls → (p : List ℕ) (found : Option Complaint) → IsJudged r (length (bytes_before ls)) (d - length ls) p found → IsJudged r 0 d (bytes_before ls ++ p) found
@@ -94,13 +94,13 @@ judged_path r d (l ∷ ls) h p found j =
     (judged_path r d ls h.2 (level_bytes l ++ p) found (subst (λ (n : ℕ). IsJudged r at n (level_bytes l ++ p) found) e one))
 
 pub judged_key_path : (r : Rules) (d : ℕ) (w : Width) (left : ℕ) (done : SpelledEntries) (ls : List Level) (k : Spelling) (c : Complaint) → HasEnded r d (a_key w left done ∷ ls) k
-    → OfKey r (length (bytes_before (a_key w left done ∷ ls))) (keys_onto [] done) k c → IsJudged r 0 d (bytes_before (a_key w left done ∷ ls) ++ spell k) (Some c)
+    → OfKey r.keys (length (bytes_before (a_key w left done ∷ ls))) (keys_onto [] done) k c → IsJudged r 0 d (bytes_before (a_key w left done ∷ ls) ++ spell k) (Some c)
 judged_key_path r d w left done ls k c h o =
     let l = a_key w left done in
     let at = length (bytes_before ls) in
     let size = length-append (bytes_before ls) (level_bytes l) in
     let below : length ls < d = h.around.0 in
-    let one = judged_key_level r at (d - suc (length ls)) w left done k c h.around.1 h.spelled h.within (subst (λ (n : ℕ). Never (Complains r n k)) size h.clean) (subst (λ (n : ℕ). OfKey r n (keys_onto [] done) k c) size o) in
+    let one = judged_key_level r at (d - suc (length ls)) w left done k c h.around.1 h.spelled h.within (subst (λ (n : ℕ). Never (Complains r n k)) size h.clean) (subst (λ (n : ℕ). OfKey r.keys n (keys_onto [] done) k c) size o) in
     let e : suc (d - suc (length ls)) ≡ d - length ls = omega (arith, below) in
     subst (λ (x : List ℕ). IsJudged r 0 d x (Some c)) (sym (append_assoc (bytes_before ls) (level_bytes l) (spell k)))
     (judged_path r d ls h.around.2 (level_bytes l ++ spell k) (Some c) (subst (λ (n : ℕ). IsJudged r at n (level_bytes l ++ spell k) (Some c)) e one))

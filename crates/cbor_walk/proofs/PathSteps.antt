@@ -99,7 +99,7 @@ module _ (r : Rules) (d : ℕ) (ls : List Level) where
       bytes_on ls (array_bytes w n done) (level_bytes (a_member w left (more_members done s))) (spell s)
       (ap (λ (m : ℕ). array_bytes w m (more_members done s)) (sym (member_count done s left)) ∙ array_bytes-more w n done s)
 
-  pub key_next : (w : Width) (left : ℕ) (done : SpelledEntries) (k : Spelling) → HasEnded r d (a_key w left done ∷ ls) k → Never (OfKey r (length (bytes_before (a_key w left done ∷ ls))) (keys_onto [] done) k)
+  pub key_next : (w : Width) (left : ℕ) (done : SpelledEntries) (k : Spelling) → HasEnded r d (a_key w left done ∷ ls) k → Never (OfKey r.keys (length (bytes_before (a_key w left done ∷ ls))) (keys_onto [] done) k)
       → AreClean r d (a_value w left done k ∷ ls)
   key_next w left done k h fits = (
     h.around.0,
@@ -108,7 +108,7 @@ module _ (r : Rules) (d : ℕ) (ls : List Level) where
       spelled = h.spelled;
       within = h.within;
       clean = clean_in (a_key w left done) k h;
-      fits = subst (λ (n : ℕ). Never (OfKey r n (keys_onto [] done) k)) (length-append (bytes_before ls) (level_bytes (a_key w left done))) fits;
+      fits = subst (λ (n : ℕ). Never (OfKey r.keys n (keys_onto [] done) k)) (length-append (bytes_before ls) (level_bytes (a_key w left done))) fits;
     },
     h.around.2,
   )

@@ -4,7 +4,7 @@ use Rattle.std.specs.Prelude.{◌==◌, ◌||◌, ◌&&◌, ◌%◌, nat_le, if�
 use Rattle.std.proofs.lemmas.Bool.{cases_lt}
 use Rattle.std.proofs.lemmas.List.{length-append, length-take}
 use Rattle.cbor_head.specs.Beginning.{IsBeginning, MayFollow, IsLongestBeginning}
-use Rattle.cbor_head.specs.Complaint.{Rules, form, plain, strict}
+use Rattle.cbor_head.specs.Complaint.{Rules}
 use Rattle.cbor_head.specs.Spelling.{Spelling, spell, depth}
 use Rattle.cbor_head.specs.Verdict.{initial_reason, refusal, accepted, refused, IsReasonAt, IsVerdict}
 use Rattle.cbor_head.specs.declared.reason.Reason.{Reason}
@@ -43,12 +43,7 @@ pub bad_byte_differs : (r : Rules) (d : ℕ) (b : List ℕ) (f : Refusal) → Ha
 bad_byte_differs r d b f h e = subst IsFormReason e (byte_reason d h.p h.byte f.reason h.reason)
 
 pub complaint_differs : (r : Rules) (d : ℕ) (b : List ℕ) (f : Refusal) → HasComplaint r d b f → f.reason ≢ Truncated
-complaint_differs r d b f h e = none r (subst (IsComplaintReason r) e (complaint-reason r 0 h.judged.item h.complaint h.judged.finding.holds f h.is))
-  where
-    none : (r : Rules) → IsComplaintReason r Truncated → ⊥
-    none form h = h
-    none plain h = h
-    none (strict o) h = h
+complaint_differs r d b f h e = subst (IsComplaintReason r) e (complaint-reason r 0 h.judged.item h.complaint h.judged.finding.holds f h.is)
 
 -- ---- the longest beginning
 

@@ -1,20 +1,20 @@
 -- Items without members, from their first byte.
-use Rattle.std.proofs.Common.{◌≡◌, ℕ, zero, suc, ◌+◌, ◌-◌, ◌%◌, ◌<◌, ◌≤◌, ◌⊎◌, Bool, true, false, List, [], ◌∷◌, ◌++◌, length, take, drop, get_or, refl, sym, ap, ◌∙◌, subst, inl, inr, arith}
+use Rattle.std.proofs.Common.{◌≡◌, ℕ, zero, suc, ◌+◌, ◌-◌, ◌%◌, ◌<◌, ◌≤◌, ◌⊎◌, Bool, true, false, List, [], ◌∷◌, ◌++◌, length, take, drop, get_or, length-drop, refl, sym, ap, ◌∙◌, subst, inl, inr, arith}
 use Rattle.std.specs.Prelude.{IsUtf8}
-use Rattle.std.specs.Str.{IsAscii}
-use Rattle.std.proofs.lemmas.Str.{IsUtf8-from_ascii}
 use Rattle.std.proofs.lemmas.Bool.{cases_lt}
 use Rattle.std.proofs.lemmas.List.{length-take-le, take-append-drop, drop-drop}
+use Rattle.byteorder.specs.Endian.{big_number}
 use Rattle.cbor_head.specs.Value.{AreBytes}
 use Rattle.cbor_head.specs.declared.order.KeyOrder.{KeyOrder}
 use mir.Val.{bool_byte}
 use Rattle.cbor_head.specs.Head.{Holds, shortest, with_argument}
 use Rattle.cbor_head.specs.declared.width.Width.{Width}
 use Rattle.cbor_head.specs.declared.width.Width.TheVariants.{Direct, One, Two, Four, Eight, Indefinite}
-use Rattle.cbor_canonical.proofs.KeyFronts.{are_bytes, bytes_drop}
+use Rattle.cbor_canonical.proofs.KeyFronts.{bytes_drop}
 use Rattle.cbor_canonical.proofs.Normal.{Holds-shortest}
+use Rattle.cbor_walk.specs.inner.Items.{IsShortString}
 use Rattle.cbor_walk.specs.inner.Leaves.{IsItemThen, IsShortest, IsShortestHead, IsLeaf}
-use Rattle.cbor_walk.proofs.ShortHeads.{ByPlace, direct, an-unsigned, a-negative, a-simple, some-bytes, a-text, no-array, no-map}
+use Rattle.cbor_walk.proofs.ShortHeads.{ByPlace, direct, an-unsigned, a-negative, a-simple, some-bytes, a-text, no-array, no-map, of-one}
 use Rattle.cbor_walk.proofs.ShortHeads.{rest-is}
 
 take-bytes : (n : ℕ) (xs : List ℕ) → AreBytes xs → AreBytes (take n xs)
@@ -44,10 +44,9 @@ module _ (o : KeyOrder) (d first : ℕ) (behind rest : List ℕ) (n : ℕ) where
     | inr p ↦ let e : 32 + first % 32 ≡ first = omega (arith, p, l) in subst (λ c. IsItemThen o d (c ∷ behind) rest) e (a-negative o d (first % 32) behind rest n s)
   ]
 
--- in one byte
-pub one-byte : (o : KeyOrder) (d first : ℕ) (behind : List ℕ) → (first < 24) ⊎ ((32 ≤ first) × (first < 56)) → IsItemThen o d (first ∷ behind) behind
-one-byte o d first behind (inl h) = an-integer o d first behind behind (first % 32) (omega arith) (direct (first % 32) behind (omega arith))
-one-byte o d first behind (inr h) = an-integer o d first behind behind (first % 32) (omega (arith, h.1)) (direct (first % 32) behind (omega (arith, h.0, h.1)))
+-- the head of one byte
+pub one-byte-head : (low : ℕ) (behind : List ℕ) → low < 24 → IsShortestHead low behind 1
+one-byte-head low behind h = record { some = omega arith; inside = omega arith; number = low; shortest = direct low behind h }
 
 module _ (room : Bool) (first : ℕ) (behind : List ℕ) where
   pub leaf-integer : (size : ℕ) → first < 64 → IsShortestHead (first % 32) behind size → IsLeaf room (first ∷ behind) size
@@ -66,22 +65,6 @@ module _ (room : Bool) (first : ℕ) (behind : List ℕ) where
     item = λ o d r. let e : 224 + first % 32 ≡ first = omega (arith, l, h) in subst (λ c. IsItemThen o d (c ∷ behind) behind) e
         (a-simple o d (first % 32) behind behind (first % 32) (direct (first % 32) behind (omega (arith, l, h))) (omega arith, λ k. absurd (omega (arith, l, h, k))));
   }
-
-  pub leaf-ascii : (count : ℕ) (chunk : List ℕ) → first ≡ 96 + count → count < 24 → count ≤ length behind → ByPlace behind → take (count + 1) chunk ≡ take (count + 1) (first ∷ behind) → IsAscii (take (count + 1) chunk)
-      → IsLeaf room (first ∷ behind) (1 + count)
-  leaf-ascii count chunk is small l h same ascii =
-      let p = take count behind in
-      let one : count + 1 ≡ suc count = omega arith in
-      let two : 1 + count ≡ suc count = omega arith in
-      let whole : IsAscii (first ∷ p) = subst IsAscii (same ∙ ap (λ k. take k (first ∷ behind)) one) ascii in
-      let text : IsUtf8 p = IsUtf8-from_ascii p (λ i. whole (suc i)) in
-      let s : IsShortest count behind count (p ++ drop count behind) = subst (IsShortest count behind count) (sym (take-append-drop count behind)) (direct count behind small) in
-      let size : length p ≡ count = length-take-le count behind l in
-      record {
-        inside = omega (arith, l);
-        item = λ o d r. subst (λ k. IsItemThen o d (first ∷ behind) (drop k (first ∷ behind))) (sym two)
-            (subst (λ c. IsItemThen o d (c ∷ behind) (drop count behind)) (sym is) (a-text o d count behind p (drop count behind) count s (sym size) (take-bytes count behind (are_bytes behind h)) text));
-      }
 
   pub leaf-empty : (size : ℕ) → (first ≡ 128) ⊎ (first ≡ 160) → size ≡ 1 → room ≡ true → IsLeaf room (first ∷ behind) size
   leaf-empty size which e there_is = record {
@@ -145,3 +128,67 @@ module _ (room : Bool) (first : ℕ) (behind : List ℕ) where
         item = λ o d r. subst (IsItemThen o d (first ∷ behind)) (sym there)
             (subst (λ c. IsItemThen o d (c ∷ behind) (drop n rest)) (text-first l h) (a-text o d (first % 32) behind p (drop n rest) n (subst (IsShortest (first % 32) behind n) (sym split) s) size bytes u));
       }
+
+-- a string of up to 255 bytes
+module _ (room : Bool) (first : ℕ) (b : List ℕ) (payload end : ℕ) (s : IsShortString first b payload end) (all : AreBytes b) where
+  abbrev content : List ℕ
+  content = take s.count s.rest
+
+  within : s.count ≤ length s.rest
+  within =
+      let fewer = s.fewer in
+      let begins = s.begins in
+      let size = s.size in
+      let inside = s.inside in
+      omega (arith, fewer, begins, size, inside, ap length s.is)
+
+  ends : 1 + (length s.behind - length s.rest) + length content ≡ end
+  ends =
+      let begins = s.begins in
+      let size = s.size in
+      omega (arith, begins, size, length-take-le s.count s.rest within)
+
+  back : IsLeaf room (first ∷ s.behind) (1 + (length s.behind - length s.rest) + length content) → IsLeaf room b end
+  back l = subst (λ (x : List ℕ). IsLeaf room x end) (sym s.is) (subst (IsLeaf room (first ∷ s.behind)) ends l)
+
+  pub short-bytes : 64 ≤ first → first < 96 → IsLeaf room b end
+  short-bytes l h = back (leaf-bytes room first s.behind s.count s.rest s.head s.fewer content refl within (subst AreBytes s.is all) l h)
+
+  pub short-text : 96 ≤ first → first < 128 → (front : List ℕ) → front ≡ drop payload b → IsUtf8 (take (end - payload) front) → IsLeaf room b end
+  short-text l h front is u =
+      let begins = s.begins in
+      let size = s.size in
+      let count : end - payload ≡ s.count = omega (arith, size) in
+      let there : front ≡ s.rest = is ∙ ap (λ (k : ℕ). drop k b) begins ∙ ap (drop (1 + (length s.behind - length s.rest))) s.is ∙ here room first s.behind s.count s.rest s.head s.fewer in
+      let text : IsUtf8 content = subst (λ (k : ℕ). IsUtf8 (take k s.rest)) count (subst (λ (x : List ℕ). IsUtf8 (take (end - payload) x)) there u) in
+      back (leaf-text room first s.behind s.count s.rest s.head s.fewer content refl within (subst AreBytes s.is all) l h text)
+
+-- whose head has one byte or two
+pub one-byte-string : (first : ℕ) (behind b : List ℕ) (end : ℕ) → b ≡ first ∷ behind → first % 32 < 24 → end ≡ 1 + first % 32 → end ≤ length b → IsShortString first b 1 end
+one-byte-string first behind b end is low e l = record {
+  behind = behind;
+  is = is;
+  count = first % 32;
+  rest = behind;
+  head = direct (first % 32) behind low;
+  fewer = omega arith;
+  begins = omega arith;
+  size = e;
+  inside = l;
+}
+
+pub two-byte-string : (first n : ℕ) (behind b : List ℕ) (end : ℕ) → b ≡ first ∷ behind → first % 32 ≡ 24 → 1 ≤ length behind → ByPlace behind → n ≡ get_or behind 0 0 → 24 ≤ n → end ≡ 2 + n → end ≤ length b → IsShortString first b 2 end
+two-byte-string first n behind b end is low some all n_is wide e l =
+    let big : big_number 1 behind ≡ n = omega (arith, n_is) in
+    let more : 24 ≤ big_number 1 behind = omega (arith, big, wide) in
+    record {
+      behind = behind;
+      is = is;
+      count = big_number 1 behind;
+      rest = drop 1 behind;
+      head = subst (λ (k : ℕ). IsShortest k behind (big_number 1 behind) (drop 1 behind)) (sym low) (of-one behind all some more);
+      fewer = omega (arith, length-drop 1 behind);
+      begins = omega (arith, length-drop 1 behind, some);
+      size = omega (arith, e, big);
+      inside = l;
+    }

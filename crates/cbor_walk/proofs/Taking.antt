@@ -1,11 +1,11 @@
 -- What is taken where an item is due, in the cells.
 use Rattle.std.proofs.Common.{◌≡◌, ◌≢◌, ℕ, suc, ◌+◌, ◌-◌, ◌<◌, ◌≤◌, Bool, true, List, [], ◌∷◌, ◌++◌, length, take, drop, refl, sym, ap, ◌∙◌, subst, inl, inr, arith, append_assoc, append-nil, length-drop}
-use Rattle.std.specs.Prelude.{reverse, slice_range}
+use Rattle.std.specs.Prelude.{◌^◌, reverse, slice_range}
 use Rattle.std.proofs.Math.Seq.{drop-append_seam, take-length}
 use Rattle.std.proofs.lemmas.Bool.Decides.{nat_tests}
 use Rattle.std.proofs.lemmas.List.{length-append, length-reverse, length-take-le}
 use Rattle.cbor_head.specs.Complaint.{strict, OfCount}
-use Rattle.cbor_head.specs.Head.{Holds, head, shortest}
+use Rattle.cbor_head.specs.Head.{Holds, head, shortest, shortest_head}
 use Rattle.cbor_head.specs.Spelling.{spell, no_spellings, no_entries, HoldsOrIndefinite}
 use Rattle.cbor_head.specs.declared.major.Major.{Major}
 use Rattle.cbor_head.specs.declared.major.Major.TheVariants.{Array, Map, Tag}
@@ -14,13 +14,13 @@ use Rattle.cbor_head.specs.declared.width.Width.{Width}
 use Rattle.cbor_head.specs.declared.width.Width.TheVariants.{Direct, One, Two, Four, Eight, Indefinite}
 use Rattle.cbor_canonical.specs.Front.{front_of}
 use Rattle.cbor_canonical.proofs.Normal.{Holds-shortest}
-use Rattle.cbor_walk.specs.inner.Leaves.{IsLeaf}
+use Rattle.cbor_walk.specs.inner.Leaves.{IsLeaf, IsShortestHead}
 use Rattle.cbor_judging.proofs.Heads.{open_or}
 use Rattle.cbor_judging.specs.Judged.{Never}
 use Rattle.cbor_walk.specs.inner.Path as path
 use Rattle.cbor_walk.specs.inner.Path.{a_member, a_key, tagged, level_bytes, bytes_before, AreClean}
 use Rattle.cbor_walk.specs.inner.Cells.{a_level, AreCells, StandsAt, HasEndedAt, standing}
-use Rattle.cbor_walk.specs.inner.Items.{IsOpener, IsShortOpener}
+use Rattle.cbor_walk.specs.inner.Items.{IsOpener, OpensWith}
 use Rattle.cbor_walk.specs.declared.level.Due.{Due}
 use Rattle.cbor_walk.specs.declared.level.Due.TheVariants.{Item, Key, Value}
 use Rattle.cbor_walk.specs.declared.level.Level.{Level}
@@ -42,11 +42,11 @@ standing_count s cells l = ap suc (length-reverse (take s.height cells) ∙ leng
 
 never_long : (o : KeyOrder) (at : ℕ) (m : Major) (w : Width) (n : ℕ) → Holds w n → w ≡ shortest n → Never (OfCount (strict o) at m w n)
 never_long o at m Indefinite n h e c x = h
-never_long o at m Direct n h e c x = x.0 e
-never_long o at m One n h e c x = x.0 e
-never_long o at m Two n h e c x = x.0 e
-never_long o at m Four n h e c x = x.0 e
-never_long o at m Eight n h e c x = x.0 e
+never_long o at m Direct n h e c x = x.1 e
+never_long o at m One n h e c x = x.1 e
+never_long o at m Two n h e c x = x.1 e
+never_long o at m Four n h e c x = x.1 e
+never_long o at m Eight n h e c x = x.1 e
 
 definite : (w : Width) (n : ℕ) → Holds w n → w ≢ Indefinite
 definite w n h e = subst (λ (v : Width). Holds v n) e h
@@ -116,7 +116,7 @@ module _ (o : KeyOrder) (d : ℕ) (input : List ℕ) (cs : List Level) (at : ℕ
         (λ here. ((definite w n holds, refl, refl), s.are))
     opener_opens Item left (inr (none, (n, range, e))) =
         let w = shortest n in
-        opened (tagged w n) (a_level Item left (at + used)) (head Tag w n) e refl (Holds-shortest n range, λ c x. x.0 refl) (λ here. ((refl, none), s.are))
+        opened (tagged w n) (a_level Item left (at + used)) (head Tag w n) e refl (Holds-shortest n range, λ c x. x.1 refl) (λ here. ((refl, none), s.are))
     opener_opens Key left h =
         let n = suc left in
         let w = shortest n in
@@ -146,14 +146,35 @@ direct : (n : ℕ) → n < 24 → shortest n ≡ Direct
 direct n h = grind (arith, nat_tests)
 
 -- the head of a short container
-pub short_opens : (first : ℕ) (behind : List ℕ) (due : Due) (left : ℕ) → IsShortOpener first due left → IsOpener due left (first ∷ behind) behind
-short_opens first behind Item left h =
-    let small = h.1 in
-    inl (omega (arith, small), ap (λ (x : ℕ). x ∷ behind) h.0 ∙ ap (λ (w : Width). head Array w (suc left) ++ behind) (sym (direct (suc left) h.1)))
-short_opens first behind Key left h =
-    let small = h.1 in
-    (omega (arith, small), ap (λ (x : ℕ). x ∷ behind) h.0 ∙ ap (λ (w : Width). head Map w (suc left) ++ behind) (sym (direct (suc left) h.1)))
-short_opens first behind Value left h = absurd h
+pub short_opens : (first : ℕ) (behind : List ℕ) (due : Due) (left : ℕ) → IsOpener due left (first ∷ behind) behind → OpensWith due left 1 (first ∷ behind)
+short_opens first behind due left h = record { some = omega arith; inside = omega arith; opener = h }
+
+pub short_array : (low : ℕ) (behind : List ℕ) → 0 < low → low < 24 → OpensWith Item (low - 1) 1 ((128 + low) ∷ behind)
+short_array low behind some small =
+    let n : suc (low - 1) ≡ low = omega (arith, some) in
+    short_opens (128 + low) behind Item (low - 1)
+    (inl (subst (λ (k : ℕ). (k < 2 ^ 64) × ((128 + low) ∷ behind ≡ shortest_head Array k ++ behind)) (sym n) (omega (arith, small), ap (λ (w : Width). head Array w low ++ behind) (sym (direct low small)))))
+
+pub short_map : (low : ℕ) (behind : List ℕ) → 0 < low → low < 24 → OpensWith Key (low - 1) 1 ((160 + low) ∷ behind)
+short_map low behind some small =
+    let n : suc (low - 1) ≡ low = omega (arith, some) in
+    short_opens (160 + low) behind Key (low - 1)
+    (subst (λ (k : ℕ). (k < 2 ^ 64) × ((160 + low) ∷ behind ≡ shortest_head Map k ++ behind)) (sym n) (omega (arith, small), ap (λ (w : Width). head Map w low ++ behind) (sym (direct low small))))
+
+-- the head of a tag
+pub tag_opens : (low size : ℕ) (behind : List ℕ) → IsShortestHead low behind size → OpensWith Item 0 size ((192 + low) ∷ behind)
+tag_opens low size behind h =
+    let some = h.some in
+    let inside = h.inside in
+    let e : size ≡ suc (size - 1) = omega (arith, some) in
+    record {
+      some = some;
+      inside = omega (arith, some, inside);
+      opener = inr (refl, (h.number, h.shortest.range, subst (λ (k : ℕ). (192 + low) ∷ behind ≡ shortest_head Tag h.number ++ drop k ((192 + low) ∷ behind)) (sym e) (h.shortest.spelled 192)));
+    }
+
+pub short_tag : (low : ℕ) (behind : List ℕ) → low < 24 → OpensWith Item 0 1 ((192 + low) ∷ behind)
+short_tag low behind small = short_opens (192 + low) behind Item 0 (inr (refl, (low, omega (arith, small), ap (λ (w : Width). head Tag w low ++ behind) (sym (direct low small)))))
 
 -- the same levels in other cells
 pub in_more_cells : (o : KeyOrder) (d : ℕ) (input : List ℕ) (k : Stack) (few more : List Level) (at : ℕ) → StandsAt o d input (standing k few) at → k.height ≡ length few → take (length few) more ≡ few → StandsAt o d input (standing k more) at

@@ -1,13 +1,67 @@
 //! Short items and short heads at the front of a slice: fast, and where one isn't found, nothing is
 //! said.
 
-ghost use Rattle.std.specs.Prelude.{◌≡◌, ◌<◌, ◌≤◌, ◌*◌, ◌^◌, ◌∷◌, ◌⊎◌, ℕ, List, length, IfSome, true, false};
-ghost use Rattle.cbor_walk.specs.inner.Leaves.{IsShortestHead, IsLeaf};
-ghost use Rattle.cbor_walk.specs.inner.Items.{IsShortOpener};
+ghost use Rattle.std.specs.Prelude.{◌≡◌, ◌<◌, ◌≤◌, ◌-◌, ◌*◌, ◌/◌, ◌^◌, ◌∷◌, ℕ, List, IfSome};
+ghost use Rattle.cbor_walk.specs.inner.Leaves.{IsShortestHead, HasShortestHead};
+ghost use Rattle.cbor_walk.specs.inner.Items.{IsShortFront, IsShortString};
 
 use crate::level::Due;
 use cbor_head::argument_bytes;
-use cbor_text::is_ascii_front;
+use cbor_text::is_text_front;
+
+/// What the fast ways find.
+#[derive(Clone, Copy)]
+pub(crate) enum Short {
+    /// An item of so many bytes.
+    Item(usize),
+    /// The head, of so many bytes, of a container in which this is due, and so many members or pairs
+    /// more.
+    Opens(Due, u64, usize),
+    /// Nothing is said.
+    Other,
+}
+
+/// What stands there, if it is a short item or head in its shortest form.
+#[inline(always)]
+pub(crate) fn short_front(first: u8, rest: &[u8]) -> Short
+    requires { (behind : List ℕ) × (rest.now ≡ first ∷ behind) }
+    ensures { IsShortFront result rest.now }
+{
+    match first / 32 {
+        0 | 1 => integer(first, rest),
+        2 | 3 => string(first, rest),
+        4 | 5 => container(first, rest),
+        6 => tag(first, rest),
+        _ => simple(first, rest),
+    }
+}
+
+#[inline(always)]
+fn integer(first: u8, rest: &[u8]) -> Short
+    requires front { (behind : List ℕ) × (rest.now ≡ first ∷ behind) }
+    requires kind { first < 64 }
+    ensures { IsShortFront result rest.now }
+{
+    let size = head_size(first, rest);
+    if size > 0 {
+        Short::Item(size)
+    } else {
+        Short::Other
+    }
+}
+
+// How many bytes the head has that stands there, in its shortest form; 0 says nothing.
+#[inline(always)]
+fn head_size(first: u8, rest: &[u8]) -> usize
+    requires { (behind : List ℕ) × (rest.now ≡ first ∷ behind) }
+    ensures { 0 < result → HasShortestHead first result rest.now }
+{
+    let low = first % 32;
+    if low < 24 {
+        return 1;
+    }
+    shortest_size(low, &rest[1..])
+}
 
 // Below this, as a number from its first byte on, the argument behind these low bits is not in its
 // shortest form.
@@ -46,50 +100,81 @@ fn shortest_size(low: u8, behind: &[u8]) -> usize
     }
 }
 
-// An integer in one byte.
+// A string of up to 255 bytes.
 #[inline(always)]
-fn is_short_integer(first: u8) -> bool
-    ensures { result ≡ true → (first < 24) ⊎ ((32 ≤ first) × (first < 56)) }
+fn string(first: u8, rest: &[u8]) -> Short
+    requires front { (behind : List ℕ) × (rest.now ≡ first ∷ behind) }
+    requires kind { (64 ≤ first) × (first < 128) }
+    ensures { IsShortFront result rest.now }
 {
-    first < 0x18 || first >= 0x20 && first < 0x38
+    let Some((payload, end)) = short_string(first, rest) else {
+        return Short::Other;
+    };
+    if first < 0x60 || is_text_front(&rest[payload..], end - payload) {
+        return Short::Item(end);
+    }
+    Short::Other
 }
 
-/// How many bytes the integer, simple value or short ASCII text has that stands there, in its
-/// shortest form; 0 says nothing.
+// Where the payload begins and ends of a string of up to 255 bytes, if all of it is there.
 #[inline(always)]
-pub(crate) fn fast_leaf(first: u8, rest: &[u8]) -> usize
+fn short_string(first: u8, rest: &[u8]) -> Option<(usize, usize)>
     requires { (behind : List ℕ) × (rest.now ≡ first ∷ behind) }
-    ensures inside { result ≤ length rest.now }
-    ensures leaf { 0 < result → IsLeaf false rest.now result }
-{
-    if is_short_integer(first) {
-        return 1;
-    }
-    if first >= 0x60 && first < 0x78 {
-        if let Some(chunk) = rest.first_chunk::<32>() {
-            let count = first - 0x60;
-            if is_ascii_front(chunk, count) {
-                return 1 + usize::from(count);
-            }
-        }
-    } else if first < 0x40 {
-        return shortest_size(first % 32, &rest[1..]);
-    } else if first >= 0xe0 && first < 0xf8 {
-        return 1;
-    }
-    0
-}
-
-/// What is due in the array or map of 1 to 23 members or pairs whose head this is, and how many more;
-/// none says nothing.
-#[inline(always)]
-pub(crate) fn fast_opener(first: u8) -> Option<(Due, u64)>
-    ensures { IfSome result (λ r. IsShortOpener first r.0 r.1) }
+    ensures { IfSome result (λ r. IsShortString first rest.now r.0 r.1) }
 {
     let low = first % 32;
-    if first < 0x80 || first >= 0xc0 || low == 0 || low > 23 {
+    let (payload, end) = if low < 24 {
+        (1, 1 + usize::from(low))
+    } else if low == 24 && rest.len() > 1 && rest[1] >= 24 {
+        (2, 2 + usize::from(rest[1]))
+    } else {
+        return None;
+    };
+    if end > rest.len() {
         return None;
     }
+    Some((payload, end))
+}
+
+// An array or map of 1 to 23 members or pairs.
+#[inline(always)]
+fn container(first: u8, rest: &[u8]) -> Short
+    requires front { (behind : List ℕ) × (rest.now ≡ first ∷ behind) }
+    requires kind { (128 ≤ first) × (first < 192) }
+    ensures { IsShortFront result rest.now }
+{
+    let low = first % 32;
+    if low == 0 || low > 23 {
+        return Short::Other;
+    }
     let due = if first < 0xa0 { Due::Item } else { Due::Key };
-    Some((due, u64::from(low) - 1))
+    Short::Opens(due, u64::from(low) - 1, 1)
+}
+
+#[inline(always)]
+fn tag(first: u8, rest: &[u8]) -> Short
+    requires front { (behind : List ℕ) × (rest.now ≡ first ∷ behind) }
+    requires kind { (192 ≤ first) × (first < 224) }
+    ensures { IsShortFront result rest.now }
+{
+    let size = head_size(first, rest);
+    if size > 0 {
+        Short::Opens(Due::Item, 0, size)
+    } else {
+        Short::Other
+    }
+}
+
+// A simple value of one byte.
+#[inline(always)]
+fn simple(first: u8, rest: &[u8]) -> Short
+    requires front { (behind : List ℕ) × (rest.now ≡ first ∷ behind) }
+    requires kind { 224 ≤ first }
+    ensures { IsShortFront result rest.now }
+{
+    if first < 0xf8 {
+        Short::Item(1)
+    } else {
+        Short::Other
+    }
 }

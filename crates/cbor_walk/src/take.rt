@@ -4,7 +4,7 @@ ghost use Rattle.std.specs.Prelude.{◌≡◌, ◌≤◌, ◌<◌, ◌+◌, ◌^
 ghost use Rattle.cbor_walk.specs.inner.Walked.{Takes};
 
 use crate::any_item::{Any, any_item};
-use crate::fast::{fast_leaf, fast_opener};
+use crate::fast::{Short, short_front};
 use crate::level::Level;
 use crate::stack::Stack;
 use cbor_head::Refusal;
@@ -41,16 +41,15 @@ pub(crate) fn take_next(
     let Some((first, _)) = rest.split_first() else {
         return take_any(rest, at, cells, stack, depth);
     };
-    let first = *first;
-    let used = fast_leaf(first, rest);
-    if used > 0 {
-        return Taken::Item(used);
-    }
-    if let Some((due, left)) = fast_opener(first) {
-        if stack.height < depth && stack.height < cells.len() {
-            stack.push(cells, Level::new(due, left, at + 1));
-            return Taken::Head(1);
+    match short_front(*first, rest) {
+        Short::Item(used) => return Taken::Item(used),
+        Short::Opens(due, left, used) => {
+            if stack.height < depth && stack.height < cells.len() {
+                stack.push(cells, Level::new(due, left, at + used));
+                return Taken::Head(used);
+            }
         }
+        Short::Other => {}
     }
     take_any(rest, at, cells, stack, depth)
 }

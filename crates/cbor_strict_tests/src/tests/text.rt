@@ -1,6 +1,6 @@
 //! Texts, and what is none (RFC 3629, section 4).
 
-use cbor_text::{check_text, is_ascii_front};
+use cbor_text::{check_text, is_ascii_front, is_text_front};
 
 #[test]
 fn tells_how_far_a_text_goes(rt: HostRuntime) {
@@ -21,4 +21,12 @@ fn looks_at_so_many_bytes_in_front(rt: HostRuntime) {
     chunk[5] = 0x80;
     assert!(rt; is_ascii_front(&chunk, 4));
     assert!(rt; !is_ascii_front(&chunk, 5) && !is_ascii_front(&chunk, 31));
+}
+
+#[test]
+fn looks_at_a_text_in_front(rt: HostRuntime) {
+    // "a" and U+00FC, and then a byte that begins no text
+    assert!(rt; is_text_front(b"a\xc3\xbc\xff", 3));
+    assert!(rt; !is_text_front(b"a\xc3\xbc\xff", 2) && !is_text_front(b"a\xc3\xbc\xff", 4));
+    assert!(rt; is_text_front(&[b'~'; 40], 32) && is_text_front(b"", 0));
 }

@@ -1,5 +1,5 @@
 -- What stands where an item is due, by the rules of the deterministic encoding.
-use Rattle.std.specs.Prelude.{◌≡◌, ℕ, suc, ◌+◌, ◌^◌, ◌%◌, ◌<◌, ◌≤◌, ◌⊎◌, ◌++◌, Bool, true, false, List, ◌∷◌, length, drop}
+use Rattle.std.specs.Prelude.{◌≡◌, ℕ, suc, ◌+◌, ◌-◌, ◌^◌, ◌%◌, ◌<◌, ◌≤◌, ◌⊎◌, ◌++◌, Bool, true, false, List, ◌∷◌, length, drop}
 use Rattle.cbor_head.specs.Complaint.{strict}
 use Rattle.cbor_head.specs.Head.{shortest, shortest_head}
 use Rattle.cbor_head.specs.declared.major.Major.TheVariants.{Array, Map, Tag}
@@ -9,12 +9,14 @@ use Rattle.cbor_head.specs.declared.reason.Reason.TheVariants.{Reserved, NoIndef
 use Rattle.cbor_head.specs.declared.reason.Refusal.{Refusal}
 use Rattle.cbor_head.specs.Value.{AreBytes}
 use Rattle.cbor_automaton.specs.Whole.{IsArgument}
-use Rattle.cbor_walk.specs.inner.Leaves.{IsLeaf}
+use Rattle.cbor_walk.specs.inner.Leaves.{IsLeaf, IsShortest}
 use Rattle.cbor_walk.specs.inner.Path.{Level, bytes_before, AreClean}
 use Rattle.cbor_walk.specs.inner.Stop.{IsStopped}
 use Rattle.cbor_walk.specs.declared.any_item.Any.{Any}
 use Rattle.cbor_walk.specs.declared.any_item.Any.TheVariants.{Leaf, Opens, Refused}
 use Rattle.cbor_walk.specs.declared.argument.Argument.{Argument}
+use Rattle.cbor_walk.specs.declared.fast.Short.{Short}
+use Rattle.cbor_walk.specs.declared.fast.Short.TheVariants as short
 use Rattle.cbor_walk.specs.declared.level.Due.{Due}
 use Rattle.cbor_walk.specs.declared.level.Due.TheVariants.{Item, Key, Value}
 
@@ -43,12 +45,16 @@ IsOpener Item left b rest = ((suc left < 2 ^ 64) × (b ≡ shortest_head Array (
 IsOpener Key left b rest = (suc left < 2 ^ 64) × (b ≡ shortest_head Map (suc left) ++ rest)
 IsOpener Value left b rest = ⊥
 
--- it takes so many bytes, and there is room for it
-pub record OpensHere (room : Bool) (b : List ℕ) (due : Due) (left used : ℕ) : Type 0 where
-  pub fits : room ≡ true
+-- it takes so many bytes
+pub record OpensWith (due : Due) (left used : ℕ) (b : List ℕ) : Type 0 where
   pub some : 0 < used
   pub inside : used ≤ length b
   pub opener : IsOpener due left b (drop used b)
+
+-- and there is room for it
+pub record OpensHere (room : Bool) (b : List ℕ) (due : Due) (left used : ℕ) : Type 0 where
+  pub fits : room ≡ true
+  pub opens : OpensWith due left used b
 
 -- The bytes that are left at this place of an input are refused so, within whatever containers are open there.
 abbrev pub IsRefusedHere : Bool → List ℕ → ℕ → Refusal → Type 0
@@ -71,8 +77,21 @@ pub record IsStringHead (b : List ℕ) (head : Argument) : Type 0 where
   pub fewer : length head.rest.now ≤ length behind
   pub short : head.width ≡ shortest head.number
 
--- the first byte is the head of an array or map in which this is due, and so many members or pairs more
-abbrev pub IsShortOpener : ℕ → Due → ℕ → Type 0
-IsShortOpener first Item left = (first ≡ 128 + suc left) × (suc left < 24)
-IsShortOpener first Key left = (first ≡ 160 + suc left) × (suc left < 24)
-IsShortOpener first Value left = ⊥
+-- ---- what the fast ways find
+
+-- a string with this first byte stands in front, its head in its shortest form and all of its payload, which lies there
+pub record IsShortString (first : ℕ) (b : List ℕ) (payload end : ℕ) : Type 0 where
+  pub behind : List ℕ
+  pub is : b ≡ first ∷ behind
+  pub count : ℕ
+  pub rest : List ℕ
+  pub head : IsShortest (first % 32) behind count rest
+  pub fewer : length rest ≤ length behind
+  pub begins : payload ≡ 1 + (length behind - length rest)
+  pub size : end ≡ payload + count
+  pub inside : end ≤ length b
+
+abbrev pub IsShortFront : Short → List ℕ → Type 0
+IsShortFront (short.Item used) b = (0 < used) × IsLeaf false b used
+IsShortFront (short.Opens due left used) b = OpensWith due left used b
+IsShortFront short.Other b = Unit {0}

@@ -1,5 +1,5 @@
 -- Items without members in their shortest form, at the front of some bytes.
-use Rattle.std.specs.Prelude.{ℕ, ◌+◌, ◌-◌, ◌^◌, ◌≡◌, ◌<◌, ◌≤◌, Bool, true, List, ◌∷◌, ◌++◌, length, drop}
+use Rattle.std.specs.Prelude.{ℕ, ◌+◌, ◌-◌, ◌^◌, ◌%◌, ◌≡◌, ◌<◌, ◌≤◌, Bool, true, List, ◌∷◌, ◌++◌, length, drop}
 use Rattle.cbor_head.specs.Head.{with_argument, shortest}
 use Rattle.cbor_head.specs.Spelling.{Spelling, IsSpelled, spell, depth}
 use Rattle.cbor_head.specs.Complaint.{strict, Complaint, Complains}
@@ -28,6 +28,10 @@ pub record IsShortestHead (low : ℕ) (behind : List ℕ) (size : ℕ) : Type 0 
   pub inside : size - 1 ≤ length behind
   pub number : ℕ
   pub shortest : IsShortest low behind number (drop (size - 1) behind)
+
+-- the head with this first byte, in its shortest form, stands in front and is this long
+abbrev pub HasShortestHead : ℕ → ℕ → List ℕ → Type 0
+HasShortestHead first size b = (behind : List ℕ) × (b ≡ first ∷ behind) × IsShortestHead (first % 32) behind size
 
 -- so many bytes are an item, which needs this much room
 pub record IsLeaf (room : Bool) (b : List ℕ) (used : ℕ) : Type 0 where

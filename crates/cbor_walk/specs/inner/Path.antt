@@ -29,7 +29,7 @@ pub record IsValueDue (r : Rules) (at d : ℕ) (w : Width) (n : ℕ) (done : Spe
   pub spelled : IsSpelled k
   pub within : depth k ≤ d
   pub clean : (c : Complaint) → Complains r (at + length (map_bytes w n done)) k c → ⊥
-  pub fits : (c : Complaint) → OfKey r (at + length (map_bytes w n done)) (keys_onto [] done) k c → ⊥
+  pub fits : (c : Complaint) → OfKey r.keys (at + length (map_bytes w n done)) (keys_onto [] done) k c → ⊥
 
 -- what is complete in it nests no deeper than this, and nothing has a complaint
 abbrev pub IsClean : Rules → ℕ → ℕ → Level → Type 0

@@ -30,12 +30,12 @@ returns-else-stack-cells-clause-takes c =
     let cells = c.args.cells.now in
     let d = c.args.depth in
     let h = c.in-Opens.ensures in (
-      (h.some, h.inside),
+      (h.opens.some, h.opens.inside),
       λ o input e are s.
           let cs = standing k cells in
           let room : length s.ls < d = omega (arith, ltb-true _ _ h.fits, height_is o d input k cells c.args.at s c.requires.cells) in
-          let inside : c.in-Opens.used ≤ length (drop c.args.at input) = subst (λ (x : List ℕ). c.in-Opens.used ≤ length x) e h.inside in
-          let opener = subst (λ (x : List ℕ). IsOpener c.in-Opens.due c.in-Opens.left x (drop c.in-Opens.used x)) e h.opener in
+          let inside : c.in-Opens.used ≤ length (drop c.args.at input) = subst (λ (x : List ℕ). c.in-Opens.used ≤ length x) e h.opens.inside in
+          let opener = subst (λ (x : List ℕ). IsOpener c.in-Opens.due c.in-Opens.left x (drop c.in-Opens.used x)) e h.opens.opener in
           subst (λ (x : List Level). StandsAt o d input x (c.args.at + c.in-Opens.used)) (sym (c.push.ensures.levels ∙ ap (λ (l : Level). l ∷ cs) c.new.ensures))
           (opener_opens o d input cs c.args.at s c.in-Opens.used inside room c.in-Opens.due c.in-Opens.left opener),
     )

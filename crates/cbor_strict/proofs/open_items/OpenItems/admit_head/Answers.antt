@@ -1,4 +1,4 @@
-use Rattle.std.proofs.Common.{ℕ, ◌++◌, sym, subst, inl}
+use Rattle.std.proofs.Common.{ℕ, ◌++◌, refl, sym, subst, inl}
 use Rattle.cbor_head.specs.Complaint.{strict}
 use Rattle.cbor_head.specs.declared.order.KeyOrder.{KeyOrder}
 use Rattle.cbor_head.specs.declared.reason.Reason.{Reason}
@@ -15,18 +15,18 @@ use Rattle.cbor_strict.proofs.open_items.OpenItems.admit_head.Goals as goal
 
 -- what the rules have against a head is a complaint
 head_reason : (o : KeyOrder) (w : Width) (n : ℕ) (reason : Reason) → IsHeadFault w n reason → IsComplaintReason (strict o) reason
-head_reason o Indefinite n reason h = subst (IsComplaintReason (strict o)) (sym h) tt
-head_reason o Direct n reason h = subst (IsComplaintReason (strict o)) (sym h.1) tt
-head_reason o One n reason h = subst (IsComplaintReason (strict o)) (sym h.1) tt
-head_reason o Two n reason h = subst (IsComplaintReason (strict o)) (sym h.1) tt
-head_reason o Four n reason h = subst (IsComplaintReason (strict o)) (sym h.1) tt
-head_reason o Eight n reason h = subst (IsComplaintReason (strict o)) (sym h.1) tt
+head_reason o Indefinite n reason h = subst (IsComplaintReason (strict o)) (sym h) refl
+head_reason o Direct n reason h = subst (IsComplaintReason (strict o)) (sym h.1) refl
+head_reason o One n reason h = subst (IsComplaintReason (strict o)) (sym h.1) refl
+head_reason o Two n reason h = subst (IsComplaintReason (strict o)) (sym h.1) refl
+head_reason o Four n reason h = subst (IsComplaintReason (strict o)) (sym h.1) refl
+head_reason o Eight n reason h = subst (IsComplaintReason (strict o)) (sym h.1) refl
 
 mark_reason : (o : KeyOrder) (m : Mark) (reason : Reason) → IsFault (strict o) m reason → IsComplaintReason (strict o) reason
-mark_reason o (a_head m w n) reason h = head_reason o w n reason h
-mark_reason o (a_chunk w n) reason h = head_reason o w n reason h
-mark_reason o a_byte reason h = absurd h
-mark_reason o a_break reason h = absurd h
+mark_reason o (a_head m w n) reason h = head_reason o w n reason h.1
+mark_reason o (a_chunk w n) reason h = head_reason o w n reason h.1
+mark_reason o a_byte reason h = absurd h.1
+mark_reason o a_break reason h = absurd h.1
 
 pub returns-in-Some-clause-against : goal.returns-in-Some-clause-against
 returns-in-Some-clause-against c =
