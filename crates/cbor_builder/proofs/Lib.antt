@@ -2,6 +2,7 @@ pub mod CanonStates
 pub mod FirstRepeat
 pub mod Growth
 pub mod InPlace
+pub mod Inserted
 pub mod LookUp
 pub mod Loops
 pub mod Neighbours

@@ -192,7 +192,8 @@ impl Core {
         if !distinct {
             return Ok(false);
         }
-        self.out.rearrange(self.top.start, self.sorting.as_slice())?;
+        let count = self.spans.len() - first;
+        self.out.rearrange(self.top.start, &self.sorting[..count])?;
         Ok(true)
     }
 

@@ -7,6 +7,7 @@
 mod builder;
 mod canon_builder;
 mod frame;
+mod insertion;
 pub mod laws;
 mod look_up;
 mod member;

@@ -24,7 +24,7 @@ use Rattle.cbor_canonical.proofs.Normal.{normal, normal_all, normal_entries, pai
 
 count_clean : (o : KeyOrder) (at : ℕ) (m : Major) (w : Width) (n : ℕ) (c : Complaint) → Holds w n → w ≡ shortest n → OfCount (strict o) at m w n c → ⊥
 count_clean o at m Indefinite n c h e x = absurd h
-count_clean o at m _ n c h e x = x.0 e
+count_clean o at m _ n c h e x = x.1 e
 
 -- a count, in the shortest head of what it is
 shortest_clean : (o : KeyOrder) (at : ℕ) (m : Major) (n k : ℕ) (c : Complaint) → k ≡ n → n < 2 ^ 64 → OfCount (strict o) at m (shortest n) k c → ⊥
@@ -43,7 +43,7 @@ abbrev IsBelow : KeyOrder → List Spelling → SpelledEntries → Type 0
 IsBelow o [] es = Unit {0}
 IsBelow o (b ∷ bs) es = (p : Pair) → In p (pairs es) → IsTrue (key_lt o (spell b) p.key)
 
-key_clean : (o : KeyOrder) (before : List Spelling) (k v : Spelling) (es : SpelledEntries) (at : ℕ) (c : Complaint) → IsBelow o before (entry k v es) → OfKey (strict o) at before k c → ⊥
+key_clean : (o : KeyOrder) (before : List Spelling) (k v : Spelling) (es : SpelledEntries) (at : ℕ) (c : Complaint) → IsBelow o before (entry k v es) → OfKey (strict o).keys at before k c → ⊥
 key_clean o [] k v es at c b x = x
 key_clean o (b' ∷ bs) k v es at c b x = x.0 (b (record { key = spell k; value = spell v }) (inl refl))
 
@@ -66,10 +66,10 @@ rising o es h = subst (IsRising o) (sym (pairs-normal o es)) (in_order_rising o 
 
 pub IsClean-normal : (o : KeyOrder) (v : Value) → IsSound v → IsClean o (normal o v)
 IsClean-normal o = by_cases {P = Cleans o} (record {
-  at_unsigned = λ n h at c x. x.0 refl;
-  at_negative = λ n h at c x. x.0 refl;
-  at_bytes = λ s h at c x. x.0 refl;
-  at_text = λ s h at c x. elim x [ inl y ↦ y.0 refl | inr y ↦ y.0 h.valid ];
+  at_unsigned = λ n h at c x. x.1 refl;
+  at_negative = λ n h at c x. x.1 refl;
+  at_bytes = λ s h at c x. x.1 refl;
+  at_text = λ s h at c x. elim x [ inl y ↦ y.1 refl | inr y ↦ y.1 h.valid ];
   at_array = λ vs a h at c x. elim x [
     | inl y ↦ shortest_clean o at Array (values_count vs) _ c (spellings_count-normal o vs) h.range.0 y
     | inr y ↦ clean_all o vs a h.range.1 h.valid _ c y
@@ -78,6 +78,6 @@ IsClean-normal o = by_cases {P = Cleans o} (record {
     | inl y ↦ shortest_clean o at Map (value.entries_count es) _ c (entries_count-normal o es) h.range.0 y
     | inr y ↦ entries_clean o [] (normal_entries o es) tt (rising o es h) (all_clean o es a h.range.1 h.valid.0) _ c y
   ];
-  at_tag = λ n v p h at c x. elim x [ inl y ↦ y.0 refl | inr y ↦ p (sound v h.range.1 h.valid) _ c y ];
+  at_tag = λ n v p h at c x. elim x [ inl y ↦ y.1 refl | inr y ↦ p (sound v h.range.1 h.valid) _ c y ];
   at_simple = λ n h at c x. x;
 })

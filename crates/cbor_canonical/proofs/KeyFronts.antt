@@ -39,7 +39,7 @@ positive : (n : ℕ) → 0 < 256 ^ n
 positive zero = lit< tt
 positive (suc n) = let p = positive n in let e = pow-suc 256 n in omega (arith, p, e)
 
-below : (n : ℕ) (xs : List ℕ) → AreBytes xs → digits n xs < 256 ^ n
+pub below : (n : ℕ) (xs : List ℕ) → AreBytes xs → digits n xs < 256 ^ n
 below zero xs h = lit< tt
 below (suc n) [] h = positive (suc n)
 below (suc n) (x ∷ xs) h =

@@ -3,6 +3,7 @@ pub mod Clean
 pub mod Depth
 pub mod Induction
 pub mod KeyFronts
+pub mod KeyWords
 pub mod Keys
 pub mod Members
 pub mod Normal

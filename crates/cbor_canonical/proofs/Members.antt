@@ -20,7 +20,7 @@ in_contains [] x m = absurd m
 in_contains (y ∷ ys) x (inl e) = (zero, omega arith, sym e)
 in_contains (y ∷ ys) x (inr m) = let r = in_contains ys x m in (suc r.0, omega arith, r.2)
 
-at_in : {X : Type 0} (xs : List X) (x : X) (k : ℕ) → k < length xs → get_or xs k x ≡ x → In x xs
+pub at_in : {X : Type 0} (xs : List X) (x : X) (k : ℕ) → k < length xs → get_or xs k x ≡ x → In x xs
 at_in [] x k l e = absurd (omega arith)
 at_in (y ∷ ys) x zero l e = inl (sym e)
 at_in (y ∷ ys) x (suc k) l e = inr (at_in ys x k (omega arith) e)

@@ -41,7 +41,7 @@ below_all o (entry k v es) b bs at n p m =
 -- ---- heads
 
 head_clean : (o : KeyOrder) (at : ℕ) (m : Major) (w : Width) (n : ℕ) → ((c : Complaint) → OfHead (strict o) at m w n c → ⊥) → w ≡ shortest n
-head_clean o at m w n f = width_stable w (shortest n) (λ e. f _ (e, refl))
+head_clean o at m w n f = width_stable w (shortest n) (λ e. f _ (refl, e, refl))
 
 -- a count in its shortest head, of what the value has as many of
 record IsCounted (w : Width) (n k : ℕ) : Type 0 where
@@ -50,7 +50,7 @@ record IsCounted (w : Width) (n k : ℕ) : Type 0 where
   fits : k < 2 ^ 64
 
 counted : (o : KeyOrder) (at : ℕ) (m : Major) (w : Width) (n k : ℕ) → k ≡ n → HoldsOrIndefinite w n → ((c : Complaint) → OfCount (strict o) at m w n c → ⊥) → IsCounted w n k
-counted o at m Indefinite n k e h f = absurd (f _ refl)
+counted o at m Indefinite n k e h f = absurd (f _ (refl, refl))
 counted o at m Direct n k e h f = record { shortest_is = head_clean o at m Direct n f; count = e; fits = omega arith }
 counted o at m One n k e h f = record { shortest_is = head_clean o at m One n f; count = e; fits = omega arith }
 counted o at m Two n k e h f = record { shortest_is = head_clean o at m Two n f; count = e; fits = omega arith }
@@ -106,11 +106,11 @@ module _ (o : KeyOrder) where
     strict_spelling (bytes w s) at h f =
         record { sound = sound (value.bytes s) (holds_fits w (length s) h.0, h.1) tt; bytes_are = ap (λ v. spell (bytes v s)) (head_clean o at Bytes w (length s) f) }
     strict_spelling (text w s) at h f = record {
-      sound = sound (value.text s) (holds_fits w (length s) h.0, h.1) (utf8_stable s (λ n. f _ (inr (n, refl))));
+      sound = sound (value.text s) (holds_fits w (length s) h.0, h.1) (utf8_stable s (λ n. f _ (inr (refl, n, refl))));
       bytes_are = ap (λ v. spell (text v s)) (head_clean o at Text w (length s) (λ c x. f c (inl x)));
     }
-    strict_spelling (byte_chunks cs) at h f = absurd (f _ (inl refl))
-    strict_spelling (text_chunks cs) at h f = absurd (f _ (inl refl))
+    strict_spelling (byte_chunks cs) at h f = absurd (f _ (inl (refl, refl)))
+    strict_spelling (text_chunks cs) at h f = absurd (f _ (inl (refl, refl)))
     strict_spelling (array w ss) at h f =
         strict_array o w ss (counted o at Array w (spellings_count ss) _ (values_count-of ss) h.0 (λ c x. f c (inl x))) (strict_spellings ss _ h.1 (λ c x. f c (inr x)))
     strict_spelling (a_map w es) at h f =

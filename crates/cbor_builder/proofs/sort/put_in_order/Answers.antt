@@ -1,32 +1,14 @@
-use Rattle.std.proofs.Common.{arith, ◌↔◌, IsTrue, List, ◌++◌, map, sym, ap, ◌∙◌, subst, IsPermutation}
-use Rattle.cbor_builder.specs.inner.Neighbours.{DoNeighboursDiffer}
-use Rattle.cbor_builder.specs.inner.Front.{key_of, AreFronted}
-use Rattle.cbor_canonical.proofs.KeyFronts.{are_bytes}
-use Rattle.cbor_builder.proofs.Ranks.{fronted_permuted, sorted_keys}
+use Rattle.std.proofs.Common.{List, length, take, IsTrue, IsPermutation, Bool, Ok, Err}
+use Rattle.std.specs.Result.{IfOk, OnOk}
+use Rattle.std.specs.declared.result.Result.{Result}
+use Rattle.std.specs.declared.alloc.AllocError.{AllocError}
 use Rattle.cbor_buffer.specs.declared.span.Span.{Span}
-use Rattle.cbor_builder.proofs.SortedSpans.{all_sorted}
+use Rattle.cbor_builder.proofs.Inserted.{whole_permuted}
 use Rattle.cbor_builder.proofs.sort.put_in_order.Goals as goal
 
-pub returns-clause-permuted : goal.returns-clause-permuted
-returns-clause-permuted c =
-    let e = c.in_ok-extend_from_slice.ensures.items ∙ ap (λ (xs : List Span). xs ++ c.args.spans.now) c.clear.ensures.items in
-    subst (λ (xs : List Span). IsPermutation xs c.sort.new.spans.items) e c.sort.ensures.permuted
+in_places : (r : Result Bool AllocError) (xs ys : List Span) → OnOk r (IsPermutation xs ys) → IfOk r (λ distinct. IsTrue distinct → IsPermutation xs (take (length xs) ys))
+in_places (Ok d) xs ys m = λ t. whole_permuted xs ys m
+in_places (Err e) xs ys m = tt
 
-pub returns-clause-distinct : goal.returns-clause-distinct
-returns-clause-distinct c =
-    let e = c.in_ok-extend_from_slice.ensures.items ∙ ap (λ (xs : List Span). xs ++ c.args.spans.now) c.clear.ensures.items in
-    let a = all_sorted c.args.order c.args.bytes.now c.args.spans.now c.sort.new.spans.items (are_bytes c.args.bytes.now (λ i. omega (arith, c.type_inv.bytes i))) c.requires (subst (λ (xs : List Span). IsPermutation xs c.sort.new.spans.items) e c.sort.ensures.permuted) c.sort.ensures.sorted in
-    let d = subst (λ (xs : List Span). IsTrue c.differ.result ↔ DoNeighboursDiffer (map (key_of c.args.bytes.now) xs)) c.as_slice.ensures.value c.differ.ensures in
-    ((λ t. a.distinct.0 (d.0 t)), (λ h. d.1 (a.distinct.1 h)))
-
-pub returns-clause-sorted : goal.returns-clause-sorted
-returns-clause-sorted c =
-    let e = c.in_ok-extend_from_slice.ensures.items ∙ ap (λ (xs : List Span). xs ++ c.args.spans.now) c.clear.ensures.items in
-    sorted_keys c.args.order c.args.bytes.now c.sort.new.spans.items (are_bytes c.args.bytes.now (λ i. omega (arith, c.type_inv.bytes i)))
-    (fronted_permuted c.args.bytes.now c.args.spans.now c.sort.new.spans.items (subst (λ (xs : List Span). IsPermutation xs c.sort.new.spans.items) e c.sort.ensures.permuted) c.requires) c.sort.ensures.sorted
-
-pub differ-requires : goal.differ-requires
-differ-requires c =
-    let e = c.in_ok-extend_from_slice.ensures.items ∙ ap (λ (xs : List Span). xs ++ c.args.spans.now) c.clear.ensures.items in
-    subst (AreFronted c.args.bytes.now) (sym c.as_slice.ensures.value)
-    (fronted_permuted c.args.bytes.now c.args.spans.now c.sort.new.spans.items (subst (λ (xs : List Span). IsPermutation xs c.sort.new.spans.items) e c.sort.ensures.permuted) c.requires)
+pub returns-then-spans-gt-FEW-clause-permuted : goal.returns-then-spans-gt-FEW-clause-permuted
+returns-then-spans-gt-FEW-clause-permuted c = in_places c.sort_many.result c.args.spans.now c.sort_many.new.sorting.items c.sort_many.ensures.permuted

@@ -1,0 +1,220 @@
+-- Spans put in order one by one.
+use Rattle.std.proofs.Common.{◌≡◌, ℕ, zero, suc, ◌+◌, ◌-◌, ◌<◌, ◌≤◌, List, [], ◌∷◌, ◌++◌, length, length-take, take, drop, get_or, set, map, refl, sym, ap, ◌∙◌, subst, arith, inl, inr, IsPermutation, IsSortedBy, false}
+use Rattle.std.specs.Prelude.{IsTrue}
+use Rattle.std.specs.List.{AllByRecursion, insert}
+use Rattle.std.proofs.lemmas.List.{take_all, take_more, take-take}
+use Rattle.std.proofs.lemmas.Bool.{false_from_ne_true}
+use Rattle.std.proofs.lemmas.List.Sorted.{IsPermutation-trans, IsPermutation-append_comm, IsPermutation-append_right, IsPermutation-map, length_permutation}
+use Rattle.std.specs.declared.cmp.Ordering.{Ordering}
+use Rattle.std.specs.declared.cmp.Ordering.TheVariants.{Less, Greater}
+use Rattle.std.specs.Ordering.{is_lt, ordering_reverse}
+use Rattle.cbor_head.specs.Order.{key_cmp, key_lt}
+use Rattle.cbor_head.specs.Value.{AreBytes}
+use Rattle.cbor_head.specs.Canonical.{Pair}
+use Rattle.cbor_head.specs.declared.order.KeyOrder.{KeyOrder}
+use Rattle.cbor_canonical.specs.Pairs.{HasDistinctBytes, IsRising}
+use Rattle.cbor_canonical.proofs.Orders.{key_cmp_total, lt_irrefl, lt_trans}
+use Rattle.cbor_buffer.specs.Spans.{span_pair}
+use Rattle.cbor_buffer.specs.declared.span.Span.{Span}
+use Rattle.cbor_builder.specs.Built.{HasKey}
+use Rattle.cbor_builder.specs.inner.Front.{key_of, IsFronted, AreFronted, rank, ranked_by}
+use Rattle.cbor_builder.specs.inner.Insertion.{in_front}
+use Rattle.cbor_builder.proofs.Ranks.{agree_spans, fronted_at}
+use Rattle.cbor_builder.proofs.Neighbours.{distinct_permuted}
+
+-- ---- a list with one more at a place
+
+-- the last one stands where one more does
+pub free_place : (n : ℕ) (ss : List Span) → n + 1 ≡ length ss → (h : Span) × (ss ≡ insert (take n ss) n h)
+free_place zero [] e = absurd (omega (arith, e))
+free_place zero (s ∷ []) e = (s, refl)
+free_place zero (s ∷ t ∷ ss) e = absurd (omega (arith, e))
+free_place (suc n) [] e = absurd (omega (arith, e))
+free_place (suc n) (s ∷ ss) e = let r = free_place n ss (omega (arith, e)) in (r.0, ap (λ (us : List Span). s ∷ us) r.1)
+
+pub set_free : (ss : List Span) (n : ℕ) (h s : Span) → n ≤ length ss → set (insert ss n h) n s ≡ insert ss n s
+set_free ss zero h s l = refl
+set_free [] (suc n) h s l = absurd (omega (arith, l))
+set_free (x ∷ ss) (suc n) h s l = ap (λ (us : List Span). x ∷ us) (set_free ss n h s (omega (arith, l)))
+
+-- one is doubled, and it makes no difference which of the two
+doubled : (ss : List Span) (n : ℕ) (s : Span) → n < length ss → s ≡ get_or ss n s → insert ss (suc n) s ≡ insert ss n s
+doubled [] n s l e = absurd (omega (arith, l))
+doubled (x ∷ ss) zero s l e = let f : s ≡ x = e in ap (λ (t : Span). t ∷ s ∷ ss) (sym f) ∙ ap (λ (t : Span). s ∷ t ∷ ss) f
+doubled (x ∷ ss) (suc n) s l e = ap (λ (us : List Span). x ∷ us) (doubled ss n s (omega (arith, l)) e)
+
+pub get_free : (ss : List Span) (n : ℕ) (h d : Span) → n < length ss → get_or (insert ss (suc n) h) n d ≡ get_or ss n d
+get_free [] n h d l = absurd (omega (arith, l))
+get_free (x ∷ ss) zero h d l = refl
+get_free (x ∷ ss) (suc n) h d l = get_free ss n h d (omega (arith, l))
+
+-- the free place moves one to the front
+pub free_moved : (ss us : List Span) (at n : ℕ) (h s : Span) → suc n ≡ at → n < length ss → us ≡ insert ss at h → s ≡ get_or us n s → (s ≡ get_or ss n s) × (set us at s ≡ insert ss n s)
+free_moved ss us at n h s q l e r =
+    let stands : us ≡ insert ss (suc n) h = e ∙ ap (λ k. insert ss k h) (sym q) in
+    let same : s ≡ get_or ss n s = r ∙ ap (λ (ts : List Span). get_or ts n s) stands ∙ get_free ss n h s l in
+    (same, ap (λ k. set us k s) (sym q) ∙ ap (λ (ts : List Span). set ts (suc n) s) stands ∙ set_free ss (suc n) h s (omega (arith, l)) ∙ doubled ss n s l same)
+
+-- those in front of the last of the first ones
+pub in_front_taken : (n : ℕ) (us : List Span) → n < length us → in_front (take (n + 1) us) ≡ take n us
+in_front_taken n us l =
+    let len : length (take (n + 1) us) - 1 ≡ n = let t = length-take (n + 1) us in omega (arith, t, l) in
+    ap (λ k. take k (take (n + 1) us)) len ∙ take-take n (n + 1) us (omega arith)
+
+pub taken_front : (n : ℕ) (us ts : List Span) → length us ≡ n → take n (us ++ ts) ≡ us
+taken_front zero [] ts e = refl
+taken_front zero (s ∷ us) ts e = absurd (omega (arith, e))
+taken_front (suc n) [] ts e = absurd (omega (arith, e))
+taken_front (suc n) (s ∷ us) ts e = ap (λ (xs : List Span). s ∷ xs) (taken_front n us ts (omega (arith, e)))
+
+-- ---- order
+
+-- each is above the next one
+abbrev pub AreAbove : KeyOrder → List ℕ → Span → List Span → Type 0
+AreAbove o out next ss = AllByRecursion (λ s. IsTrue (key_lt o (key_of out next) (key_of out s))) ss
+
+abbrev pub AreBelow : KeyOrder → List ℕ → Span → List Span → Type 0
+AreBelow o out next ss = AllByRecursion (λ s. IsTrue (key_lt o (key_of out s) (key_of out next))) ss
+
+pub above_more : (o : KeyOrder) (out : List ℕ) (next : Span) (ss : List Span) (at n : ℕ) (s : Span) → suc n ≡ at → n < length ss → s ≡ get_or ss n s
+    → IsTrue (key_lt o (key_of out next) (key_of out s)) → AreAbove o out next (drop at ss) → AreAbove o out next (drop n ss)
+above_more o out next ss at n s q l e h a = go ss n l e (subst (λ k. AreAbove o out next (drop k ss)) (sym q) a)
+  where
+    go : (ss : List Span) (n : ℕ) → n < length ss → s ≡ get_or ss n s → AreAbove o out next (drop (suc n) ss) → AreAbove o out next (drop n ss)
+    go [] n l e a = absurd (omega (arith, l))
+    go (x ∷ ss) zero l e a = (subst (λ (t : Span). IsTrue (key_lt o (key_of out next) (key_of out t))) e h, a)
+    go (x ∷ ss) (suc n) l e a = go ss n (omega (arith, l)) e a
+
+pub none_below : (o : KeyOrder) (out : List ℕ) (next : Span) (ss : List Span) (at : ℕ) → at ≤ 0 → AreBelow o out next (take at ss)
+none_below o out next ss zero l = tt
+none_below o out next ss (suc n) l = absurd (omega (arith, l))
+
+mapped_at : (P : Pair → Type 0) (f : Span → Pair) (ss : List Span) (n : ℕ) (s : Span) → n < length ss → s ≡ get_or ss n s → AllByRecursion P (map f ss) → P (f s)
+mapped_at P f [] n s l e a = absurd (omega (arith, l))
+mapped_at P f (x ∷ ss) zero s l e a = subst (λ (t : Span). P (f t)) (sym e) a.0
+mapped_at P f (x ∷ ss) (suc n) s l e a = mapped_at P f ss n s (omega (arith, l)) e a.1
+
+-- where the last of the first ones is below, all of them are
+pub below_all : (o : KeyOrder) (out : List ℕ) (next : Span) (ss : List Span) (at n : ℕ) (s : Span) → suc n ≡ at → n < length ss → s ≡ get_or ss n s
+    → IsTrue (key_lt o (key_of out s) (key_of out next)) → IsRising o (map (span_pair out) ss) → AreBelow o out next (take at ss)
+below_all o out next ss at n s q l e h r = subst (λ k. AreBelow o out next (take k ss)) q (go ss n l e r)
+  where
+    go : (ss : List Span) (n : ℕ) → n < length ss → s ≡ get_or ss n s → IsRising o (map (span_pair out) ss) → AreBelow o out next (take (suc n) ss)
+    go [] n l e r = absurd (omega (arith, l))
+    go (x ∷ ss) zero l e r = (subst (λ (t : Span). IsTrue (key_lt o (key_of out t) (key_of out next))) e h, tt)
+    go (x ∷ ss) (suc n) l e r =
+        let less = mapped_at (λ q. IsTrue (key_lt o (key_of out x) q.key)) (span_pair out) ss n s (omega (arith, l)) e r.0 in
+        (lt_trans o (key_of out x) (key_of out s) (key_of out next) less h, go ss n (omega (arith, l)) e r.1)
+
+all_inserted : (P : Pair → Type 0) (f : Span → Pair) (ss : List Span) (n : ℕ) (y : Span) → AllByRecursion P (map f ss) → P (f y) → AllByRecursion P (map f (insert ss n y))
+all_inserted P f ss zero y a h = (h, a)
+all_inserted P f [] (suc n) y a h = (h, tt)
+all_inserted P f (x ∷ ss) (suc n) y a h = (a.0, all_inserted P f ss n y a.1 h)
+
+all_mapped : (o : KeyOrder) (out : List ℕ) (next : Span) (ss : List Span) → AreAbove o out next ss → AllByRecursion (λ q. IsTrue (key_lt o (key_of out next) q.key)) (map (span_pair out) ss)
+all_mapped o out next [] a = tt
+all_mapped o out next (s ∷ ss) a = (a.0, all_mapped o out next ss a.1)
+
+-- between those below and those above it keeps them rising
+pub inserted_rises : (o : KeyOrder) (out : List ℕ) (next : Span) (ss : List Span) (n : ℕ) → IsRising o (map (span_pair out) ss) → AreBelow o out next (take n ss) → AreAbove o out next (drop n ss)
+    → IsRising o (map (span_pair out) (insert ss n next))
+inserted_rises o out next ss zero r b a = (all_mapped o out next ss a, r)
+inserted_rises o out next [] (suc n) r b a = (tt, tt)
+inserted_rises o out next (x ∷ ss) (suc n) r b a =
+    (all_inserted (λ q. IsTrue (key_lt o (key_of out x) q.key)) (span_pair out) ss n next r.0 b.0, inserted_rises o out next ss n r.1 b.1 a)
+
+not_less : (o : KeyOrder) (k l : List ℕ) → IsTrue (key_lt o k l) → key_lt o l k ≡ false
+not_less o k l h = false_from_ne_true (key_lt o l k) (λ t. lt_irrefl o k (lt_trans o k l k h t))
+
+-- rising keys are sorted
+pub rising_sorted : (o : KeyOrder) (out : List ℕ) (ss : List Span) → IsRising o (map (span_pair out) ss) → IsSortedBy (λ x y. key_lt o (key_of out x) (key_of out y)) ss
+rising_sorted o out ss r = λ k d l h.
+    let next : suc k ≡ k + 1 = omega arith in
+    subst (λ j. key_lt o (key_of out (get_or ss j d)) (key_of out (get_or ss k d)) ≡ false) next (go ss k d (omega (arith, h)) r)
+  where
+    go : (ss : List Span) (k : ℕ) (d : Span) → suc k < length ss → IsRising o (map (span_pair out) ss) → key_lt o (key_of out (get_or ss (suc k) d)) (key_of out (get_or ss k d)) ≡ false
+    go [] k d h r = absurd (omega (arith, h))
+    go (s ∷ []) k d h r = absurd (omega (arith, h))
+    go (s ∷ t ∷ ss) zero d h r = not_less o (key_of out s) (key_of out t) r.0.0
+    go (s ∷ t ∷ ss) (suc k) d h r = go (t ∷ ss) k d (omega (arith, h)) r.1
+
+-- ---- what a comparison tells
+
+-- of one that stands in a list, and the next
+pub ranked_key : (o : KeyOrder) (out : List ℕ) (ss : List Span) (n : ℕ) (s next : Span) (r : Ordering) → AreBytes out → AreFronted out ss → IsFronted out next → n < length ss → s ≡ get_or ss n s
+    → r ≡ rank o (ranked_by out s) (ranked_by out next) → r ≡ key_cmp o (key_of out s) (key_of out next)
+ranked_key o out ss n s next r b f g l e h = h ∙ agree_spans o out s next b (subst (IsFronted out) (sym e) (fronted_at out ss n s f l)) g
+
+pub less_key : (o : KeyOrder) (k l : List ℕ) → Less ≡ key_cmp o k l → IsTrue (key_lt o k l)
+less_key o k l e = sym (ap is_lt e)
+
+pub greater_key : (o : KeyOrder) (k l : List ℕ) → Greater ≡ key_cmp o k l → IsTrue (key_lt o l k)
+greater_key o k l e = ap is_lt ((key_cmp_total o).antisymm l k ∙ ap ordering_reverse (sym e))
+
+-- ---- equal keys
+
+pub has_key_at : (out k : List ℕ) (ss : List Span) (n : ℕ) (s : Span) → n < length ss → s ≡ get_or ss n s → key_of out s ≡ k → HasKey (map (span_pair out) ss) k
+has_key_at out k [] n s l e h = absurd (omega (arith, l))
+has_key_at out k (x ∷ ss) zero s l e h = inl (ap (key_of out) (sym e) ∙ h)
+has_key_at out k (x ∷ ss) (suc n) s l e h = inr (has_key_at out k ss n s (omega (arith, l)) e h)
+
+no_key : (out : List ℕ) (next : Span) (ss : List Span) → HasDistinctBytes (map (span_pair out) (next ∷ ss)) → HasKey (map (span_pair out) ss) (key_of out next) → ⊥
+no_key out next [] d h = h
+no_key out next (s ∷ ss) d (inl e) = d.0.0 e
+no_key out next (s ∷ ss) d (inr h) = no_key out next ss (d.0.1, d.1.1) h
+
+all_taken : {X : Type 0} (P : X → Type 0) (n : ℕ) (xs : List X) → AllByRecursion P xs → AllByRecursion P (take n xs)
+all_taken P zero xs a = tt
+all_taken P (suc n) [] a = tt
+all_taken P (suc n) (x ∷ xs) a = (a.0, all_taken P n xs a.1)
+
+taken_of : (out k : List ℕ) (n : ℕ) (ss : List Span) → AllByRecursion (λ q. q.key ≡ k → ⊥) (map (span_pair out) ss) → AllByRecursion (λ q. q.key ≡ k → ⊥) (map (span_pair out) (take n ss))
+taken_of out k zero ss a = tt
+taken_of out k (suc n) [] a = tt
+taken_of out k (suc n) (s ∷ ss) a = (a.0, taken_of out k n ss a.1)
+
+distinct_taken : (out : List ℕ) (n : ℕ) (ss : List Span) → HasDistinctBytes (map (span_pair out) ss) → HasDistinctBytes (map (span_pair out) (take n ss))
+distinct_taken out zero ss d = tt
+distinct_taken out (suc n) [] d = tt
+distinct_taken out (suc n) (s ∷ ss) d = (taken_of out (key_of out s) n ss d.0, distinct_taken out n ss d.1)
+
+-- ---- a turn of the loop
+
+one_more : (ss : List Span) (n : ℕ) (next : Span) → n < length ss → next ≡ get_or ss n next → IsPermutation (take (n + 1) ss) (next ∷ take n ss)
+one_more ss n next l e =
+    subst (λ (us : List Span). IsPermutation us (next ∷ take n ss)) (sym (take_more ss n next l ∙ ap (λ (s : Span). take n ss ++ s ∷ []) (sym e)))
+    (IsPermutation-append_comm (take n ss) (next ∷ []))
+
+pub more_permuted : (ss us ts : List Span) (n : ℕ) (next : Span) → n < length ss → next ≡ get_or ss n next → IsPermutation (take n ss) us → IsPermutation (next ∷ us) ts → IsPermutation (take (n + 1) ss) ts
+more_permuted ss us ts n next l e m p =
+    IsPermutation-trans _ _ _ (one_more ss n next l e) (IsPermutation-trans _ _ _ (IsPermutation-append_right (next ∷ []) (take n ss) us m) p)
+
+pub repeats : (o : KeyOrder) (out : List ℕ) (ss us : List Span) (n : ℕ) (next : Span) → n < length ss → next ≡ get_or ss n next → IsPermutation (take n ss) us
+    → HasKey (map (span_pair out) us) (key_of out next) → HasDistinctBytes (map (span_pair out) ss) → ⊥
+repeats o out ss us n next l e m h d =
+    let f = span_pair out in
+    let moved = IsPermutation-trans _ _ _ (one_more ss n next l e) (IsPermutation-append_right (next ∷ []) (take n ss) us m) in
+    no_key out next us (distinct_permuted o (map f (take (n + 1) ss)) (map f (next ∷ us)) (IsPermutation-map f (take (n + 1) ss) (next ∷ us) moved) (distinct_taken out (n + 1) ss d)) h
+
+pub fronted_taken : (out : List ℕ) (n : ℕ) (ss : List Span) → AreFronted out ss → AreFronted out (take n ss)
+fronted_taken out n ss f = all_taken _ n ss f
+
+-- ---- the first places
+
+-- as many as were given, through the lists that stand for them
+same_places : (given xs items places : List Span) (n : ℕ) → given ≡ xs → length xs ≡ n → places ≡ items → take (length given) items ≡ take n places
+same_places given xs items places n e l p = ap (λ k. take k items) (ap length e ∙ l) ∙ ap (take n) (sym p)
+
+pub places_permuted : (given xs items places : List Span) (n : ℕ) → given ≡ xs → length xs ≡ n → places ≡ items → IsPermutation given (take (length given) items) → IsPermutation xs (take n places)
+places_permuted given xs items places n e l p m =
+    subst (λ (us : List Span). IsPermutation us (take n places)) e (subst (IsPermutation given) (same_places given xs items places n e l p) m)
+
+pub places_sorted : (o : KeyOrder) (bytes raw : List ℕ) (given xs items places : List Span) (n : ℕ) → bytes ≡ raw → given ≡ xs → length xs ≡ n → places ≡ items
+    → IsSortedBy (λ x y. key_lt o (key_of bytes x) (key_of bytes y)) (take (length given) items) → IsSortedBy (λ x y. key_lt o (key_of raw x) (key_of raw y)) (take n places)
+places_sorted o bytes raw given xs items places n b e l p s =
+    subst (λ (bs : List ℕ). IsSortedBy (λ x y. key_lt o (key_of bs x) (key_of bs y)) (take n places)) b
+    (subst (IsSortedBy (λ x y. key_lt o (key_of bytes x) (key_of bytes y))) (same_places given xs items places n e l p) s)
+
+pub whole_permuted : (xs ys : List Span) → IsPermutation xs ys → IsPermutation xs (take (length xs) ys)
+whole_permuted xs ys m =
+    let l = length_permutation xs ys m in subst (IsPermutation xs) (sym (take_all (length xs) ys (omega (arith, l)))) m
