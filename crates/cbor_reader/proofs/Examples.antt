@@ -33,7 +33,7 @@ item_becomes o s input out h l e m none f k =
 -- ---- 0, in two bytes
 
 zero_becomes : IsCanonicalOf 256 1048576 Bytewise (0x18 ∷ 0x00 ∷ []) (0x00 ∷ [])
-zero_becomes = item_becomes Bytewise (unsigned One 0) _ _ (omega arith) (omega arith) refl (omega arith) (λ c x. x) refl (omega arith)
+zero_becomes = item_becomes Bytewise (unsigned One 0) _ _ (omega arith) (omega arith) refl (omega arith) (λ c x. cc x.0) refl (omega arith)
 
 -- it isn't its own answer, though the plain verdict accepts it whole
 not_its_own : IsCanonicalOf 256 1048576 Bytewise (0x18 ∷ 0x00 ∷ []) (0x18 ∷ 0x00 ∷ []) → ⊥
@@ -73,13 +73,13 @@ split_value = IsUtf8-from_is_utf8 (0xc3 ∷ 0xbc ∷ []) refl
 
 split_item : ((c : Complaint) → Complains plain 0 split_character c → ⊥) → ⊥
 unfolding utf8_valid_len is_utf8 chars encode_utf8
-split_item f = f (complaint 3 2 InvalidText) (inr (inl (inr ((λ u. cc (is_utf8-from_IsUtf8 (0xc3 ∷ []) u)), refl))))
+split_item f = f (complaint 3 2 InvalidText) (inr (inl (inr (refl, (λ u. cc (is_utf8-from_IsUtf8 (0xc3 ∷ []) u)), refl))))
 
 -- ---- 100, of which the first byte comes: as many as the limit, that is too long and not truncated
 
 cut_at_limit : IsVerdict 256 1 plain (0x18 ∷ 0x64 ∷ []) (refused (refusal Truncated 1 1)) → ⊥
 cut_at_limit v =
-    let w = too_long 256 plain (unsigned One 100) (0x18 ∷ 0x64 ∷ []) 1 (record { spelled = omega arith; within = omega arith; bytes_are = refl }) (λ c x. x) (omega arith) [] in
+    let w = too_long 256 plain (unsigned One 100) (0x18 ∷ 0x64 ∷ []) 1 (record { spelled = omega arith; within = omega arith; bytes_are = refl }) (λ c x. cc x.0) (omega arith) [] in
     let e = one_verdict 256 1 plain (0x18 ∷ 0x64 ∷ []) (refused (refusal Truncated 1 1)) (refused (refusal TooLong 1 1)) v w in
     let f : refusal Truncated 1 1 ≡ refusal TooLong 1 1 = cc e in
     let g : Truncated ≡ TooLong = ap (λ (f : Refusal). f.reason) f in

@@ -92,7 +92,7 @@ pub plain-head : (b : Bounds) (old new : SliceEventsView) (t : List ℕ) (q : Pl
     → IsNextTold token old new t a.marks → (token ≡ tokens.Refused → ⊥) → (token ≡ tokens.End → ⊥) → IsNextHead plain b q t (event_of token new) (Some old.rest) (Some new.rest) (seen new)
 plain-head b old new t q token head_due a limits live told no_refusal no_end =
     next-head plain b (seen old) (seen new) t q (event_of token new) (Some old.rest) (Some new.rest) head_due a (told-event token old new t a.marks no_refusal no_end told) (limits-as old.machine new.machine limits)
-    (told-live token new no_refusal live) (λ reason h. h)
+    (told-live token new no_refusal live) (λ reason h. cc h.0)
 
 -- an item is due within these containers
 pub record IsDueWithin (o : KeyOrder) (d : ℕ) (t : List ℕ) (q : Place) (os : List Open) (height : ℕ) : Type 0 where

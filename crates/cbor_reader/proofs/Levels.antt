@@ -76,7 +76,7 @@ full-tag : (o : KeyOrder) (d e : ℕ) (w : Width) (n : ℕ) (s : Spelling) → H
 full-tag o d e w n s holds h room = record {
   spelled = (holds, h.spelled);
   within = omega (arith, h.within, room);
-  clean = λ u at c x. elim x [ inl y ↦ absurd y | inr y ↦ h.clean _ c y ];
+  clean = λ u at c x. elim x [ inl y ↦ cc y.0 | inr y ↦ h.clean _ c y ];
   canonical_is = refl;
   container = λ other os. tt;
 }

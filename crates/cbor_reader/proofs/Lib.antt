@@ -22,4 +22,5 @@ pub mod Sizes
 pub mod TreeValues
 pub mod Valid
 pub mod ValidTexts
+mod ViewFronts
 pub mod WholeItems

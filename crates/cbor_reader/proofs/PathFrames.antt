@@ -45,7 +45,7 @@ key_distinct : (o : KeyOrder) (d at to : ℕ) (es : SpelledEntries) (k : Spellin
     → HasDistinctBytes (canonical_entries o (entries_of es)) → (HasKey (canonical_entries o (entries_of es)) (canonical o (value_of k)) → ⊥) → AreDistinct plain (keys_at at es ++ placed to k ∷ [])
 key_distinct o d at to es k e h i short apart fresh =
     let z : 0 < 24 = omega arith in
-    let zero_taken : IsTaken d zero_item = record { spelled = z; within = omega arith; clean = λ at c x. x } in
+    let zero_taken : IsTaken d zero_item = record { spelled = z; within = omega arith; clean = λ at c x. cc x.0 } in
     let more = with_entries es (entry k zero_item no_entries) in
     let size : length (spell_entries more) < 2 ^ 64 = omega (arith, short, with_size es (entry k zero_item no_entries), length-append (spell k ++ spell zero_item) [], length-append (spell k) (spell zero_item)) in
     subst (AreDistinct plain) (keys_with es (entry k zero_item no_entries) at to e)

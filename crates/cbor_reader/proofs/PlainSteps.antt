@@ -72,7 +72,7 @@ use Rattle.cbor_reader.proofs.Valid.{count_bounded}
 pub come-begun : (b : Bounds) (fs : List Container) (t x : List ℕ) (e : ItemEventsView) (w : Width) (kind other : EventKind) → kind ≡ other → other ≢ kinds.End → IsCome b fs t x e w kind → IsBegun plain b fs t x e w other
 come-begun b fs t x e w kind other same item i =
     let j = subst (IsCome b fs t x e w) same i in
-    record { next = j.next; taking = j.taking; item = item; clean = λ c h. (fault_of (at_item fs) (mark_of w other) plain (length t) c h).1; proper = j.proper; at = j.at }
+    record { next = j.next; taking = j.taking; item = item; clean = λ c h. cc (fault_of (at_item fs) (mark_of w other) plain (length t) c h).1.0; proper = j.proper; at = j.at }
 
 short-undecided : (b : Bounds) (fs : List Container) (t x : List ℕ) → length x ≤ 1 → IsUndecided plain b fs t x
 short-undecided b fs t x l = record { p = []; last = x; splits = refl; byte = l; judged = judged_start plain (length t) (b.depth - length fs) }

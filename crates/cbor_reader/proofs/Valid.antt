@@ -44,7 +44,7 @@ chunks_fit m cs l =
 joined_text : (cs : List Chunk) (at : ℕ) → Never (OfChunks plain at Text cs) → IsUtf8 (chunks_joined cs)
 joined_text [] at f = IsUtf8-nil
 joined_text (k ∷ ks) at f =
-    IsUtf8-append k.payload (chunks_joined ks) (utf8_stable k.payload (λ n. f _ (inl (inr (n, refl))))) (joined_text ks (at + length (chunk_bytes Text k)) (λ c x. f c (inr x)))
+    IsUtf8-append k.payload (chunks_joined ks) (utf8_stable k.payload (λ n. f _ (inl (inr (refl, n, refl))))) (joined_text ks (at + length (chunk_bytes Text k)) (λ c x. f c (inr x)))
 
 -- ---- keys
 
@@ -105,7 +105,7 @@ mutual
   valid_of (unsigned w n) at f = tt
   valid_of (negative w n) at f = tt
   valid_of (bytes w q) at f = tt
-  valid_of (text w q) at f = utf8_stable q (λ n. f _ (inr (n, refl)))
+  valid_of (text w q) at f = utf8_stable q (λ n. f _ (inr (refl, n, refl)))
   valid_of (byte_chunks cs) at f = tt
   valid_of (text_chunks cs) at f = joined_text cs (at + 1) (λ c x. f c (inr x))
   valid_of (array w ss) at f = valid_all ss _ (λ c x. f c (inr x))

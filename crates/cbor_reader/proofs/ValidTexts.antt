@@ -1,5 +1,6 @@
 -- What has no complaint on a text has valid texts, and a valid value in valid texts has no plain complaint.
 use Rattle.std.proofs.Common.{ℕ, ◌↔◌, List, [], ◌∷◌, refl, inl, inr, IsUtf8}
+use Rattle.std.specs.Prelude.{IsTrue}
 use Rattle.std.specs.List.{AllByRecursion}
 use Rattle.cbor_head.specs.Value as value
 use Rattle.cbor_head.specs.Value.{Value, Entries, HasEntry, HasDistinctKeys, Same, IsValid, AreValid, AreEntriesValid}
@@ -15,16 +16,19 @@ use Rattle.cbor_reader.specs.Headline.{HasValidTexts, HaveValidTexts, EntriesHav
 use Rattle.cbor_judging.specs.Judged.{Never}
 use Rattle.cbor_reader.proofs.Valid.{valid_of}
 
--- ---- without complaint on a text, by rules that judge texts
+-- ---- without complaint on a text, by rules that ask for them to be UTF-8
 
-module _ (r : Rules) (judges : (at : ℕ) (q : List ℕ) → Never (OfPayload r at q) → IsUtf8 q) where
+module _ (r : Rules) (asks : IsTrue r.texts) where
+  judged : (at : ℕ) (q : List ℕ) → Never (OfPayload r at q) → IsUtf8 q
+  judged at q f = utf8_stable q (λ n. f _ (asks, n, refl))
+
   chunks_valid : (cs : List Chunk) (at : ℕ) → Never (OfChunks r at Text cs) → AllByRecursion (λ (c : Chunk). IsUtf8 c.payload) cs
   chunks_valid [] at f = tt
-  chunks_valid (k ∷ ks) at f = (judges _ k.payload (λ c x. f c (inl (inr x))), chunks_valid ks _ (λ c x. f c (inr x)))
+  chunks_valid (k ∷ ks) at f = (judged _ k.payload (λ c x. f c (inl (inr x))), chunks_valid ks _ (λ c x. f c (inr x)))
 
   mutual
     texts_valid : (s : Spelling) (at : ℕ) → Never (Complains r at s) → HasValidTexts s
-    texts_valid (text w q) at f = judges _ q (λ c x. f c (inr x))
+    texts_valid (text w q) at f = judged _ q (λ c x. f c (inr x))
     texts_valid (text_chunks cs) at f = chunks_valid cs _ (λ c x. f c (inr x))
     texts_valid (array w ss) at f = texts_all ss _ (λ c x. f c (inr x))
     texts_valid (a_map w es) at f = texts_entries es [] _ (λ c x. f c (inr x))
@@ -60,36 +64,36 @@ none_repeated (b ∷ bs) k v es a (inr r) = none_repeated bs k v es a.1 r
 
 no_chunk : (cs : List Chunk) (at : ℕ) → AllByRecursion (λ (c : Chunk). IsUtf8 c.payload) cs → Never (OfChunks plain at Text cs)
 no_chunk [] at u c x = x
-no_chunk (k ∷ ks) at u c (inl (inl x)) = x
-no_chunk (k ∷ ks) at u c (inl (inr x)) = x.0 u.0
+no_chunk (k ∷ ks) at u c (inl (inl x)) = cc x.0
+no_chunk (k ∷ ks) at u c (inl (inr x)) = x.1 u.0
 no_chunk (k ∷ ks) at u c (inr x) = no_chunk ks _ u.1 c x
 
 no_byte_chunk : (cs : List Chunk) (at : ℕ) → Never (OfChunks plain at Bytes cs)
 no_byte_chunk [] at c x = x
-no_byte_chunk (k ∷ ks) at c (inl x) = x
+no_byte_chunk (k ∷ ks) at c (inl x) = cc x.0
 no_byte_chunk (k ∷ ks) at c (inr x) = no_byte_chunk ks _ c x
 
 no_count : (at : ℕ) (m : Major) (w : Width) (n : ℕ) → Never (OfCount plain at m w n)
-no_count at m Indefinite n c x = x
-no_count at m _ n c x = x
+no_count at m Indefinite n c x = cc x.0
+no_count at m _ n c x = cc x.0
 
 mutual
   none_plain : (s : Spelling) (at : ℕ) → HasValidTexts s → IsValid (value_of s) → Never (Complains plain at s)
-  none_plain (text w q) at u v c (inl x) = x
-  none_plain (text w q) at u v c (inr x) = x.0 u
-  none_plain (byte_chunks cs) at u v c (inl x) = x
+  none_plain (text w q) at u v c (inl x) = cc x.0
+  none_plain (text w q) at u v c (inr x) = x.1 u
+  none_plain (byte_chunks cs) at u v c (inl x) = cc x.0
   none_plain (byte_chunks cs) at u v c (inr x) = no_byte_chunk cs _ c x
-  none_plain (text_chunks cs) at u v c (inl x) = x
+  none_plain (text_chunks cs) at u v c (inl x) = cc x.0
   none_plain (text_chunks cs) at u v c (inr x) = no_chunk cs _ u c x
   none_plain (array w ss) at u v c (inl x) = no_count at Array w (spellings_count ss) c x
   none_plain (array w ss) at u v c (inr x) = none_in ss _ u v c x
   none_plain (a_map w es) at u v c (inl x) = no_count at Map w (entries_count es) c x
   none_plain (a_map w es) at u v c (inr x) = none_in_entries es [] _ u v.0 v.1 tt c x
-  none_plain (tag w n s) at u v c (inl x) = x
+  none_plain (tag w n s) at u v c (inl x) = cc x.0
   none_plain (tag w n s) at u v c (inr x) = none_plain s _ u v c x
-  none_plain (unsigned w n) at u v c x = x
-  none_plain (negative w n) at u v c x = x
-  none_plain (bytes w q) at u v c x = x
+  none_plain (unsigned w n) at u v c x = cc x.0
+  none_plain (negative w n) at u v c x = cc x.0
+  none_plain (bytes w q) at u v c x = cc x.0
   none_plain (simple n) at u v c x = x
 
   none_in : (ss : Spellings) (at : ℕ) → HaveValidTexts ss → AreValid (values_of ss) → Never (ComplainsIn plain at ss)
@@ -109,10 +113,10 @@ mutual
 -- without plain complaint, exactly: valid texts, of a valid value
 pub plain_exactly : (s : Spelling) (at : ℕ) → Never (Complains plain at s) ↔ (HasValidTexts s × IsValid (value_of s))
 plain_exactly s at = (
-  (λ f. (texts_valid plain (λ b q g. utf8_stable q (λ n. g _ (n, refl))) s at f, valid_of s at f)),
+  (λ f. (texts_valid plain refl s at f, valid_of s at f)),
   (λ h. none_plain s at h.0 h.1),
 )
 
 -- without strict complaint, of a valid value: without plain complaint
 pub plain_too : (o : KeyOrder) (s : Spelling) (at : ℕ) → Never (Complains (strict o) at s) → IsValid (value_of s) → Never (Complains plain at s)
-plain_too o s at f v = none_plain s at (texts_valid (strict o) (λ b q g. utf8_stable q (λ n. g _ (n, refl))) s at f) v
+plain_too o s at f v = none_plain s at (texts_valid (strict o) refl s at f) v

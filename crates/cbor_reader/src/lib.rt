@@ -41,6 +41,7 @@ mod tree_parts;
 mod tree_reader;
 mod valid_front;
 mod valid_slice;
+mod view_reader;
 mod whole_item;
 
 pub use canonicaliser::canonicalise;
@@ -52,3 +53,4 @@ pub use sequence_items::SequenceItems;
 pub use slice_tree::whole_tree;
 pub use tree_reader::read_tree;
 pub use valid_slice::check_valid;
+pub use view_reader::read_view;

@@ -28,7 +28,7 @@ use cbor_automaton::Token;
 use cbor_builder::CanonBuilder;
 use cbor_head::{KeyOrder, Limits, Major};
 use cbor_slices::SliceEvents;
-use cbor_text::{check_text, is_short_ascii};
+use cbor_text::is_text_front;
 use std::alloc::{AllocError, Global};
 
 /// The canonical bytes of the item that a slice begins with, and how many bytes the item has.
@@ -200,13 +200,7 @@ fn is_text(front: &[u8], content: &[u8], rest: &[u8]) -> bool
     requires { (head : List ℕ) × (front.now ≡ head ++ (content.now ++ rest.now)) }
     ensures { IsTrue result → IsUtf8 content.now }
 {
-    if is_short_ascii(from_content(front, content, rest), content.len()) {
-        return true;
-    }
-    let Ok(()) = check_text(content) else {
-        return false;
-    };
-    true
+    is_text_front(from_content(front, content, rest), content.len())
 }
 
 // Ends the containers that the last event made full, the innermost first. False where two keys of
@@ -405,14 +399,8 @@ fn take_payload<'a>(
     if content.len() as u64 != count {
         return Err(Stopped);
     }
-    if !text {
-        return Ok(content);
+    if text && !is_text_front(front, content.len()) {
+        return Err(Stopped);
     }
-    if is_short_ascii(front, content.len()) {
-        return Ok(content);
-    }
-    match check_text(content) {
-        Ok(()) => Ok(content),
-        Err(_) => Err(Stopped),
-    }
+    Ok(content)
 }

@@ -3,10 +3,12 @@
 
 use super::conformance_table::{PAIRS, PARTS, rows};
 use super::{BadHex, bytes_of};
+use bumpalo::Bump;
 use cbor_head::{Limits, Refusal};
 use cbor_item::{Tree, encode};
 use cbor_reader::{
-    KeyOrder, Side, StrictReader, canonicalise, check_valid, read_strict, read_tree, same_meaning,
+    KeyOrder, Side, StrictReader, canonicalise, check_valid, read_strict, read_tree, read_view,
+    same_meaning,
 };
 use std::alloc::{AllocError, Global};
 use std::io;
@@ -168,6 +170,29 @@ fn reads_trees(rt: HostRuntime) -> Result<(), Fail> {
                 let is_right = is_read_right(rt.alloc(), &input, plain, answer, taken)?;
                 assert!(rt; is_right, "{line}");
             }
+        }
+    }
+    Ok(())
+}
+
+#[test]
+fn reads_views(rt: HostRuntime) -> Result<(), Fail> {
+    for part in 0..PARTS {
+        for &line in rows(part) {
+            let Some((hex, column, plain, _)) = row_of(line) else {
+                return Err(Fail::from(BadRow::Columns));
+            };
+            let Some(limits) = limits_of(column) else {
+                return Err(Fail::from(BadRow::Limits));
+            };
+            let input = bytes_of(rt.alloc(), hex)?;
+            let arena = Bump::new(rt.alloc());
+            let (answer, taken) = match read_view(rt.alloc(), &input, limits, &arena) {
+                Ok((view, count)) => (Ok((view.to_tree(rt.alloc())?, count)), count),
+                Err(refusal) => (Err(refusal), refusal.read),
+            };
+            let is_right = is_read_right(rt.alloc(), &input, plain, answer, taken)?;
+            assert!(rt; is_right, "{line}");
         }
     }
     Ok(())

@@ -11,7 +11,7 @@ pub returns-in-Ok-Some : goal.returns-in-Ok-Some
 returns-in-Ok-Some g c = λ b q t due a.
     next-head plain b c.args.events.now c.next.new.self t q c.in-Ok-Some.event _ _ due a
     (told b c.args.events.now c.next.new.self t q _ _ a c.in-Ok-Some.field-0 c.in-Ok-Some.event c.in-Ok-Some.field-0-is (c.in-Ok-Some.ensures.answers a.live t a.marks a.stands))
-    (limits-as _ _ c.next.ensures.limits) c.in-Ok-Some.ensures.live (λ reason fault. fault)
+    (limits-as _ _ c.next.ensures.limits) c.in-Ok-Some.ensures.live (λ reason fault. cc fault.0)
 
 pub returns-in-Err : goal.returns-in-Err
 returns-in-Err g c = λ b q t due a.

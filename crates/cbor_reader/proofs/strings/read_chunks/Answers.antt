@@ -1,10 +1,10 @@
-use Rattle.std.proofs.Common.{◌++◌, true}
+use Rattle.std.proofs.Common.{◌++◌, true, refl}
 use Rattle.cbor_judging.specs.Place.{in_chunks}
 use Rattle.cbor_judging.specs.Reading.{string_major}
 use Rattle.cbor_head.specs.Complaint.{plain}
 use Rattle.cbor_judging.proofs.Leaves.{chunks_bytes}
 use Rattle.cbor_judging.proofs.Steps.{farther}
-use Rattle.cbor_judging.proofs.WholeStrings.{looks-plainly, starts-chunks, stops-chunk-head, chunk-kind, chunks-end, chunk-due, chunk-next, stops-chunk, chunk-farther}
+use Rattle.cbor_judging.proofs.WholeStrings.{starts-chunks, stops-chunk-head, chunk-kind, chunks-end, chunk-due, chunk-next, stops-chunk, chunk-farther}
 use Rattle.cbor_reader.proofs.strings.read_chunks.Goals as goal
 
 pub chunks-init : goal.chunks-init
@@ -46,7 +46,7 @@ returns-in-Err-read_chunk g c = λ b fs t x w i.
     let h = c.chunks.invariant b fs t x w i in
     let n = c.in-Ok.ensures b (in_chunks (string_major c.args.text) fs) (t ++ chunks_bytes (string_major c.args.text) h.done) tt h.at in
     let due = chunk-due plain b fs t x c.args.text c.chunks.content.items _ _ c.chunks.events h c.in-Ok.event _ c.next_head.new.events n c.in-Chunk.count c.in-Chunk.is in
-    stops-chunk plain b fs t x c.args.text c.chunks.content.items _ _ c.chunks.events h c.in-Ok.event _ c.next_head.new.events n c.in-Chunk.count c.in-Chunk.is looks-plainly _ c.in-Err-read_chunk.refusal
+    stops-chunk plain b fs t x c.args.text c.chunks.content.items _ _ c.chunks.events h c.in-Ok.event _ c.next_head.new.events n c.in-Chunk.count c.in-Chunk.is refl _ c.in-Err-read_chunk.refusal
     (c.in-Err-read_chunk.ensures b true (string_major c.args.text) fs _ due)
 
 pub returns-in-End : goal.returns-in-End

@@ -1,7 +1,7 @@
-use Rattle.std.proofs.Common.{ℕ, ◌++◌, false, subst, Option}
+use Rattle.std.proofs.Common.{ℕ, ◌++◌, false, refl, subst, Option}
 use Rattle.cbor_judging.specs.Reading.{string_major, string_kind, IsBegun}
 use Rattle.cbor_head.specs.Complaint.{plain}
-use Rattle.cbor_judging.proofs.WholeStrings.{looks-plainly, string-due, reads-string, stops-string}
+use Rattle.cbor_judging.proofs.WholeStrings.{string-due, reads-string, stops-string}
 use Rattle.cbor_reader.proofs.strings.read_string.Goals as goal
 
 pub returns-in-None : goal.returns-in-None
@@ -18,4 +18,4 @@ pub returns-in-Err : goal.returns-in-Err
 returns-in-Err g c = λ b fs t x w i.
     let j = subst (λ (o : Option ℕ). IsBegun plain b fs t x c.args.events.now w (string_kind c.args.text o)) c.in-Some.is i in
     let due = string-due plain b fs t x c.args.events.now w c.args.text c.in-Some.count j in
-    stops-string plain b fs t x c.args.events.now w c.args.text c.in-Some.count j looks-plainly _ _ c.in-Err.refusal (c.in-Err.ensures b false (string_major c.args.text) fs (t ++ x) due)
+    stops-string plain b fs t x c.args.events.now w c.args.text c.in-Some.count j refl _ _ c.in-Err.refusal (c.in-Err.ensures b false (string_major c.args.text) fs (t ++ x) due)

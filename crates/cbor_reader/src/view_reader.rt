@@ -1,0 +1,58 @@
+//! The item at the front of a slice, as a view.
+
+ghost use Rattle.std.specs.Prelude.{◌≢◌, ◌≤◌, ◌^◌, IfOk, IfErr};
+ghost use Rattle.cbor_head.specs.Complaint.{plain};
+ghost use Rattle.cbor_head.specs.Value.{depth, IsInRange, IsValid};
+ghost use Rattle.cbor_head.specs.declared.limits.TheConstants.{MAX_DEPTH};
+ghost use Rattle.cbor_head.specs.declared.reason.Reason.TheVariants as reasons;
+ghost use Rattle.cbor_judging.specs.Readers.{IsReadAs, IsUnread};
+ghost use Rattle.cbor_view.specs.Seen.{seen};
+
+use crate::valid_slice::check_valid;
+use bumpalo::Bump;
+use cbor_head::{Limits, Reason, Refusal};
+use cbor_view::View;
+use std::alloc::Global;
+
+/// The view of the well-formed, valid item that the slice begins with, and how many bytes it has
+/// (RFC 8949, sections 3 and 5.3.1). The pairs of a map keep their order.
+///
+/// It answers as [`read_tree`](crate::read_tree) does of a reader over the slice, with the refusal
+/// that the bytes within the limits call for; or `Memory`, where it was refused before or the view
+/// could not be kept, at the count of the bytes taken. A string in one piece lies in the slice. All
+/// else lies in the arena, what a refused read left there too, and is given up with it.
+pub fn read_view<'a>(
+    alloc: Global,
+    bytes: &'a [u8],
+    limits: Limits,
+    arena: &'a Bump,
+) -> Result<(View<'a>, u64), Refusal>
+    ensures accepted { IfOk result (λ answer.
+        IsReadAs limits.depth limits.bytes plain bytes.now (seen answer.0) answer.1) }
+    // What `View::to_tree` asks for.
+    ensures depth { IfOk result (λ answer. depth (seen answer.0) ≤ MAX_DEPTH) }
+    ensures in_range { IfOk result (λ answer. IsInRange (seen answer.0)) }
+    ensures valid { IfOk result (λ answer. IsValid (seen answer.0)) }
+    ensures refused { IfErr result
+        (λ f. IsUnread limits.depth limits.bytes plain bytes.now f) }
+    ensures no_read { IfErr result (λ f. f.reason ≢ reasons.Read) }
+{
+    let count = match check_valid(alloc, bytes, limits) {
+        Ok(count) => count,
+        Err(refusal) => return Err(refusal),
+    };
+    check_limits(limits);
+    match View::from_valid(alloc, bytes, arena) {
+        Ok(view) => Ok((view, count)),
+        Err(_) => Err(Refusal::at(Reason::Memory, count)),
+    }
+}
+
+// What any limits keep to.
+fn check_limits(limits: Limits)
+    ensures depth { limits.depth ≤ MAX_DEPTH }
+    ensures bytes { limits.bytes ≤ 2 ^ 62 }
+{
+    let _depth = limits.depth();
+    let _bytes = limits.bytes();
+}

@@ -1,0 +1,83 @@
+-- Looking up a value by its key, and a member by its index.
+use Rattle.std.proofs.Common.{◌≡◌, ℕ, zero, suc, ◌+◌, ◌<◌, ◌≤◌, List, [], ◌∷◌, length, drop, get_or, slice_get, Option, Some, None, Bor, ◌⊎◌, inl, inr, refl, sym, ap, ◌∙◌, subst, arith, ◌↔◌, ℤ, pos, negsuc}
+use Rattle.std.proofs.lemmas.Option.{slice_get-get_or}
+use Rattle.std.specs.Prelude.{option_map, MatchOption, IfSome}
+use Rattle.cbor_head.specs.Value as value
+use Rattle.cbor_head.specs.Value.{Value, HasEntry, Same, map, IsValid, AreEntriesValid}
+use Rattle.cbor_view.specs.Kinds.{integer}
+use Rattle.cbor_item.specs.View.{values_of}
+use Rattle.cbor_view.specs.Lookup.{HasValueAt, member_at}
+use Rattle.cbor_view.specs.Seen.{seen, seen_all}
+use Rattle.cbor_view.specs.declared.view.View.{View}
+use Rattle.cbor_view.specs.inner.Pairs.{Pair, entries}
+use Rattle.cbor_view.proofs.Pairs.{at_read, drop_all, valid_pair}
+
+-- what these pairs have at the key, the others have
+abbrev pub LeadsBehind : Value → List Pair → List Pair → Type 0
+LeadsBehind k ps rest = (v : Value) → HasValueAt (map (entries ps)) k v → HasValueAt (map (entries rest)) k v
+
+has_behind : (k : Value) (ps : List Pair) (p : Pair) (rest : List Pair) → ps ≡ p ∷ rest → (Same (seen p.0) k → ⊥) → LeadsBehind k ps rest
+has_behind k ps p rest e miss v h =
+    let at = subst (λ (ps : List Pair). HasValueAt (map (entries ps)) k v) e h in
+    elim at.1 [ inl s ↦ absurd (miss (subst (λ (l : Value). Same l k) s.0 at.2)) | inr m ↦ (at.0, m, at.2) ]
+
+pub looked_on : (k : Value) (ps : List Pair) (i : ℕ) (p : Pair) → slice_get ps i ≡ Some p → LeadsBehind k ps (drop i ps) → (Same (seen p.0) k → ⊥) → LeadsBehind k ps (drop (i + 1) ps)
+looked_on k ps i p e inv miss = λ v h. has_behind k (drop i ps) p (drop (i + 1) ps) (at_read ps i p e) miss v (inv v h)
+
+has_pair : (ps : List Pair) (i : ℕ) (p : Pair) → slice_get ps i ≡ Some p → HasEntry (entries ps) (seen p.0) (seen p.1)
+has_pair [] i p e = absurd (cc e)
+has_pair (q ∷ ps) zero p e = let is : p ≡ q = cc e in inl (ap (λ (p : Pair). seen p.0) is, ap (λ (p : Pair). seen p.1) is)
+has_pair (q ∷ ps) (suc i) p e = inr (has_pair ps i p e)
+
+pub found_at : (k : Value) (ps : List Pair) (i : ℕ) (p : Pair) → slice_get ps i ≡ Some p → Same (seen p.0) k → HasValueAt (map (entries ps)) k (seen p.1)
+found_at k ps i p e s = (seen p.0, has_pair ps i p e, s)
+
+pub none_behind : (k : Value) (ps : List Pair) (i : ℕ) → length ps ≤ i → LeadsBehind k ps (drop i ps) → (v : Value) → HasValueAt (map (entries ps)) k v → ⊥
+none_behind k ps i l inv v h = (subst (λ (ps : List Pair). HasValueAt (map (entries ps)) k v) (drop_all ps i l) (inv v h)).1
+
+-- ---- the same of a pair that was read by its index
+
+pub looked_by : (k : Value) (ps : List Pair) (i : ℕ) (d : Pair) → i < length ps → LeadsBehind k ps (drop i ps) → (Same (seen (get_or ps i d).0) k → ⊥) → LeadsBehind k ps (drop (i + 1) ps)
+looked_by k ps i d l inv miss = looked_on k ps i (get_or ps i d) (slice_get-get_or ps i d l) inv miss
+
+pub found_by : (k : Value) (ps : List Pair) (i : ℕ) (d : Pair) → i < length ps → Same (seen (get_or ps i d).0) k → HasValueAt (map (entries ps)) k (seen (get_or ps i d).1)
+found_by k ps i d l s = found_at k ps i (get_or ps i d) (slice_get-get_or ps i d l) s
+
+pub valid_by : (ps : List Pair) (i : ℕ) (d : Pair) → AreEntriesValid (entries ps) → i < length ps → IsValid (seen (get_or ps i d).0)
+valid_by ps i d h l = (valid_pair ps i (get_or ps i d) h (slice_get-get_or ps i d l)).0
+
+-- ---- members
+
+none_at : (vs : List View) (i : ℕ) → length vs ≤ i → None ≡ member_at (values_of (seen_all vs)) i
+none_at [] i l = refl
+none_at (v ∷ vs) zero l = absurd (omega arith)
+none_at (v ∷ vs) (suc i) l = none_at vs i (omega arith)
+
+some_at : (vs : List View) (i : ℕ) (v : View) → i < length vs → v ≡ get_or vs i v → Some (seen v) ≡ member_at (values_of (seen_all vs)) i
+some_at [] i v l e = absurd (omega arith)
+some_at (w ∷ vs) zero v l e = ap (λ (v : View). Some (seen v)) e
+some_at (w ∷ vs) (suc i) v l e = some_at vs i v (omega arith) e
+
+-- a member that was read by its index
+pub member_read : (vs : List View) (i : ℕ) (o : Option (Bor View)) (P : Bor View → Type 0) → MatchOption o (length vs ≤ i) (λ v. (i < length vs) × P v) → IfSome o (λ v. v.now ≡ get_or vs i v.now)
+    → option_map (λ (v : Bor View). seen v.now) o ≡ member_at (values_of (seen_all vs)) i
+member_read vs i None P m e = none_at vs i m
+member_read vs i (Some v) P m e = some_at vs i v.now m.0 e
+
+-- ---- keys without members
+
+pub same_text : (v : Value) (s : List ℕ) → Same v (value.text s) ↔ (v ≡ value.text s)
+same_text (value.text t) s = ((λ e. ap value.text e), (λ e. cc e))
+same_text _ s = ((λ h. absurd h), (λ e. absurd (cc e)))
+
+same_unsigned : (v : Value) (k : ℕ) → Same v (value.unsigned k) ↔ (v ≡ value.unsigned k)
+same_unsigned (value.unsigned n) k = ((λ e. ap value.unsigned e), (λ e. cc e))
+same_unsigned _ k = ((λ h. absurd h), (λ e. absurd (cc e)))
+
+same_negative : (v : Value) (k : ℕ) → Same v (value.negative k) ↔ (v ≡ value.negative k)
+same_negative (value.negative n) k = ((λ e. ap value.negative e), (λ e. cc e))
+same_negative _ k = ((λ h. absurd h), (λ e. absurd (cc e)))
+
+pub same_integer : (v : Value) (z : ℤ) → Same v (integer z) ↔ (v ≡ integer z)
+same_integer v (pos n) = same_unsigned v n
+same_integer v (negsuc n) = same_negative v n

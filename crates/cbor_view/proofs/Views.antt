@@ -1,0 +1,55 @@
+-- A view's value, a level at a time.
+use Rattle.std.proofs.Common.{◌≡◌, ℕ, List, map, drop, Option, Some, None, Bor, ap, sym, subst, ◌∙◌, rules}
+use Rattle.cbor_head.specs.Value as value
+use Rattle.cbor_item.specs.OpenValues.{closed, CanEnd}
+use Rattle.cbor_item.specs.View.{values_of, entries_of}
+use Rattle.cbor_view.specs.Seen.{seen, open_value}
+use Rattle.cbor_view.specs.inner.Levels.{open_view}
+use Rattle.cbor_view.specs.declared.level.Level.{Level}
+use Rattle.cbor_view.specs.declared.level.Level.TheVariants as levels
+use Rattle.cbor_view.specs.declared.view.View.{View, the_lemmas}
+use Rattle.cbor_view.specs.declared.view.View.TheVariants.{Unsigned, Negative, Bytes, Text, Simple}
+use Rattle.cbor_view.specs.declared.view.View.TheViews.{Array, Map, Tag}
+
+pub seen-Unsigned : (n : ℕ) → seen (Unsigned n) ≡ value.unsigned n
+seen-Unsigned n = search (rules, the_lemmas)
+
+pub seen-Negative : (n : ℕ) → seen (Negative n) ≡ value.negative n
+seen-Negative n = search (rules, the_lemmas)
+
+pub seen-Bytes : (r : Bor (List ℕ)) → seen (Bytes r) ≡ value.bytes r.now
+seen-Bytes r = search (rules, the_lemmas)
+
+pub seen-Text : (r : Bor (List ℕ)) → seen (Text r) ≡ value.text r.now
+seen-Text r = search (rules, the_lemmas)
+
+pub seen-Simple : (n : ℕ) → seen (Simple n) ≡ value.simple n
+seen-Simple n = search (rules, the_lemmas)
+
+pub seen-Array : (r : Bor (List View)) → seen (Array r) ≡ value.array (values_of (map seen r.now))
+seen-Array r = search (rules, the_lemmas)
+
+pub seen-Map : (r : Bor (List (View × View))) → seen (Map r) ≡ value.map (entries_of (map (λ p. (seen p.0, seen p.1)) r.now))
+seen-Map r = search (rules, the_lemmas)
+
+pub seen-Tag : (n : ℕ) (r : Bor View) → seen (Tag n r) ≡ value.tag n (seen r.now)
+seen-Tag n r = search (rules, the_lemmas)
+
+-- the value of the array that ends
+pub ended-array : (top : Level) (first : ℕ) (ms : List View) (ps : List (View × View)) (r : Bor (List View))
+    → top ≡ levels.Array first → r.now ≡ drop first ms → seen (Array r) ≡ closed (open_value (open_view top ms ps))
+ended-array top first ms ps r is e =
+    seen-Array r ∙ ap (λ vs. value.array (values_of (map seen vs))) e ∙ sym (ap (λ l. closed (open_value (open_view l ms ps))) is)
+
+map-of : (key : Option View) (first : ℕ) (ms : List View) (ps : List (View × View)) (r : Bor (List (View × View)))
+    → CanEnd (open_value (open_view (levels.Map first key) ms ps)) → r.now ≡ drop first ps
+    → seen (Map r) ≡ closed (open_value (open_view (levels.Map first key) ms ps))
+map-of None first ms ps r can e = seen-Map r ∙ ap (λ (qs : List (View × View)). value.map (entries_of (map (λ p. (seen p.0, seen p.1)) qs))) e
+map-of (Some k) first ms ps r can e = absurd can
+
+-- the value of the map that ends
+pub ended-map : (top : Level) (first : ℕ) (key : Option View) (ms : List View) (ps : List (View × View)) (r : Bor (List (View × View)))
+    → CanEnd (open_value (open_view top ms ps)) → top ≡ levels.Map first key → r.now ≡ drop first ps
+    → seen (Map r) ≡ closed (open_value (open_view top ms ps))
+ended-map top first key ms ps r can is e =
+    map-of key first ms ps r (subst (λ l. CanEnd (open_value (open_view l ms ps))) is can) e ∙ sym (ap (λ l. closed (open_value (open_view l ms ps))) is)

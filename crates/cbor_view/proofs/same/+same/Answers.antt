@@ -1,0 +1,85 @@
+use Rattle.std.proofs.Common.{◌≡◌, ◌↔◌, Bool, IsTrue, get_or, slice_get, Some, sym, ap, ◌∙◌, subst, arith, rules}
+use Rattle.std.proofs.lemmas.Option.{get_or_from_slice_get, slice_get-get_or}
+use Rattle.cbor_head.specs.Value.{Same, SameValues, Covered, IsValid}
+use Rattle.cbor_item.specs.View.{values_of}
+use Rattle.cbor_builder.proofs.Loops.{was_true, was_false, holds, fails}
+use Rattle.cbor_view.specs.Seen.{seen, seen_all}
+use Rattle.cbor_view.specs.inner.Pairs.{Pair, IsSamePair, IsMet, entries}
+use Rattle.cbor_view.specs.declared.view.View.TheVariants.{Unsigned}
+use Rattle.cbor_view.specs.declared.view.View.{the_lemmas}
+use Rattle.cbor_view.proofs.Pairs.{values_counted, same_counted, valid_pair, covered_on, met_on, met_at, counts_differ, pair_misses, all_met, values_decide, keys_differ}
+use Rattle.cbor_view.proofs.same.+same.Goals as goal
+use Rattle.cbor_view.proofs.same.+same.Goals.{are_same_maps-else-not-is_pair-via-then-not-is_pair+else-not-is_among, are_same_maps-else-not-is_pair-via-else-not-is_pair}
+
+pub are_same-returns-then-xs-ys : goal.are_same-returns-then-xs-ys
+are_same-returns-then-xs-ys t c =
+    let xs = c.args.xs.now in
+    let ys = c.args.ys.now in
+    fails (λ (h : SameValues (values_of (seen_all xs)) (values_of (seen_all ys))).
+    c.if-xs-ys.true (sym (values_counted xs) ∙ same_counted (values_of (seen_all xs)) (values_of (seen_all ys)) h ∙ values_counted ys))
+
+pub are_same_maps-returns-then-xs-ys : goal.are_same_maps-returns-then-xs-ys
+are_same_maps-returns-then-xs-ys t c = fails (counts_differ c.args.xs.now c.args.ys.now c.requires.left c.requires.right c.if-xs-ys.true)
+
+pub are_same_maps-returns-then-not-is_among : goal.are_same_maps-returns-then-not-is_among
+are_same_maps-returns-then-not-is_among t c =
+    let xs = c.args.xs.now in
+    let i = c.loop-i.i in
+    let p = get_or xs i (Unsigned 0, Unsigned 0) in
+    let at : slice_get xs i ≡ Some p = slice_get-get_or xs i (Unsigned 0, Unsigned 0) (omega arith) in
+    fails (pair_misses xs c.args.ys.now i p c.requires.left c.requires.right at c.loop-i.invariant (was_false c.is_among.result c.if-not-is_among.true (c.is_among.ensures p at)))
+
+pub are_same_maps-loop-i-preserved : goal.are_same_maps-loop-i-preserved
+are_same_maps-loop-i-preserved t c =
+    let xs = c.args.xs.now in
+    let ys = c.args.ys.now in
+    let i = c.loop-i.i in
+    let p = get_or xs i (Unsigned 0, Unsigned 0) in
+    let q = get_or ys i (Unsigned 0, Unsigned 0) in
+    let at : slice_get xs i ≡ Some p = slice_get-get_or xs i (Unsigned 0, Unsigned 0) (omega arith) in
+    let other : slice_get ys i ≡ Some q = slice_get-get_or ys i (Unsigned 0, Unsigned 0) (omega arith) in
+    covered_on (Covered (entries xs) (entries ys)) (entries ys) xs i p at c.loop-i.invariant
+    (elim c.else-not-is_pair.branch [
+      | are_same_maps-else-not-is_pair-via-then-not-is_pair+else-not-is_among w ↦ was_true w.is_among.result w.if-not-is_among.false (w.is_among.ensures p at)
+      | are_same_maps-else-not-is_pair-via-else-not-is_pair w ↦ met_at p ys i q other (was_true c.is_pair.result w.if-not-is_pair.false (c.is_pair.ensures p q at other))
+    ])
+
+pub are_same_maps-returns : goal.are_same_maps-returns
+are_same_maps-returns t c = holds (all_met c.args.xs.now c.args.ys.now c.loop-i.i c.requires.left c.requires.right (omega arith) (omega arith) c.loop-i.invariant)
+
+pub is_among-returns-then-is_pair : goal.is_among-returns-then-is_pair
+is_among-returns-then-is_pair t c = λ p at.
+    let ys = c.args.ys.now in
+    let j = c.loop-j.j in
+    let q = get_or ys j (Unsigned 0, Unsigned 0) in
+    let other : slice_get ys j ≡ Some q = slice_get-get_or ys j (Unsigned 0, Unsigned 0) (omega arith) in
+    holds (met_at p ys j q other (was_true c.is_pair.result c.if-is_pair.true (c.is_pair.ensures p q at other)))
+
+pub is_among-loop-j-preserved : goal.is_among-loop-j-preserved
+is_among-loop-j-preserved t c = λ p at.
+    let ys = c.args.ys.now in
+    let j = c.loop-j.j in
+    let q = get_or ys j (Unsigned 0, Unsigned 0) in
+    let other : slice_get ys j ≡ Some q = slice_get-get_or ys j (Unsigned 0, Unsigned 0) (omega arith) in
+    met_on (IsMet p ys) p ys j q other (c.loop-j.invariant p at) (was_false c.is_pair.result c.if-is_pair.false (c.is_pair.ensures p q at other))
+
+pub is_pair-is_same-requires : goal.is_pair-is_same-requires
+is_pair-is_same-requires t c =
+    let p = valid_pair c.args.xs.now c.args.i _ c.requires.left (slice_get-get_or c.args.xs.now c.args.i (Unsigned 0, Unsigned 0) c.requires.within) in
+    let q = valid_pair c.args.ys.now c.args.j _ c.requires.right (slice_get-get_or c.args.ys.now c.args.j (Unsigned 0, Unsigned 0) c.requires.other) in
+    (search (rules, the_lemmas), (p.0, q.0))
+
+pub is_pair-is_same-requires-then-is_same : goal.is_pair-is_same-requires-then-is_same
+is_pair-is_same-requires-then-is_same t c =
+    let p = valid_pair c.args.xs.now c.args.i _ c.requires.left (slice_get-get_or c.args.xs.now c.args.i (Unsigned 0, Unsigned 0) c.requires.within) in
+    let q = valid_pair c.args.ys.now c.args.j _ c.requires.right (slice_get-get_or c.args.ys.now c.args.j (Unsigned 0, Unsigned 0) c.requires.other) in
+    (search (rules, the_lemmas), (p.1, q.1))
+
+pub is_pair-returns-then-is_same : goal.is_pair-returns-then-is_same
+is_pair-returns-then-is_same t c = λ p q at other.
+    values_decide (Unsigned 0, Unsigned 0) c.args.xs.now c.args.ys.now c.args.i c.args.j p q c.is_same-then-is_same.result at other (was_true c.is_same.result c.if-is_same.true c.is_same.ensures) c.is_same-then-is_same.ensures
+
+pub is_pair-returns-else-is_same : goal.is_pair-returns-else-is_same
+is_pair-returns-else-is_same t c = λ p q at other.
+    let differ = keys_differ (Unsigned 0, Unsigned 0) c.args.xs.now c.args.ys.now c.args.i c.args.j p q at other (was_false c.is_same.result c.if-is_same.false c.is_same.ensures) in
+    subst (λ (b : Bool). IsTrue b ↔ IsSamePair p q) (sym c.if-is_same.false) (fails differ)

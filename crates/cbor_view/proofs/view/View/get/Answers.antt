@@ -1,0 +1,33 @@
+use Rattle.std.proofs.Common.{◌≡◌, get_or, sym, ap, ◌∙◌, subst, arith}
+use Rattle.cbor_head.specs.Value as value
+use Rattle.cbor_head.specs.Value.{Value, IsValid}
+use Rattle.cbor_builder.proofs.Loops.{was_true, was_false}
+use Rattle.cbor_view.specs.Lookup.{HasValueAt}
+use Rattle.cbor_view.specs.Seen.{seen}
+use Rattle.cbor_view.specs.inner.Pairs.{entries}
+use Rattle.cbor_view.specs.declared.view.View.TheVariants.{Unsigned}
+use Rattle.cbor_view.proofs.Lookups.{looked_by, found_by, valid_by, none_behind}
+use Rattle.cbor_view.proofs.Views.{seen-Map}
+use Rattle.cbor_view.proofs.view.View.get.Goals as goal
+
+pub same-requires-clause-left : goal.same-requires-clause-left
+same-requires-clause-left c =
+    let is : seen c.args.self.now ≡ value.map (entries c.in-Map.pairs.now) = ap seen c.in-Map.is ∙ seen-Map c.in-Map.pairs in
+    let h = subst IsValid is c.requires.map in
+    valid_by c.in-Map.pairs.now c.loop-found.found-index (Unsigned 0, Unsigned 0) h.0 c.loop-found-test.true
+
+pub returns-then-same : goal.returns-then-same
+returns-then-same c =
+    let is : seen c.args.self.now ≡ value.map (entries c.in-Map.pairs.now) = ap seen c.in-Map.is ∙ seen-Map c.in-Map.pairs in
+    let ps = c.in-Map.pairs.now in
+    subst (λ (v : Value). HasValueAt v (seen c.args.key.now) (seen (get_or ps c.loop-found.found-index (Unsigned 0, Unsigned 0)).1)) (sym is)
+    (found_by (seen c.args.key.now) c.in-Map.pairs.now c.loop-found.found-index (Unsigned 0, Unsigned 0) c.loop-found-test.true (was_true c.same.result c.if-same.true c.same.ensures))
+
+pub loop-found-preserved : goal.loop-found-preserved
+loop-found-preserved c =
+    looked_by (seen c.args.key.now) c.in-Map.pairs.now c.loop-found.found-index (Unsigned 0, Unsigned 0) c.loop-found-test.true c.loop-found.invariant (was_false c.same.result c.if-same.false c.same.ensures)
+
+pub returns : goal.returns
+returns c =
+    let is : seen c.args.self.now ≡ value.map (entries c.in-Map.pairs.now) = ap seen c.in-Map.is ∙ seen-Map c.in-Map.pairs in
+    λ v h. none_behind (seen c.args.key.now) c.in-Map.pairs.now c.loop-found.found-index (omega arith) c.loop-found.invariant v (subst (λ (w : Value). HasValueAt w (seen c.args.key.now) v) is h)

@@ -1,0 +1,5 @@
+pub mod Front
+pub mod Kinds
+pub mod Lookup
+pub mod Seen
+pub mod inner

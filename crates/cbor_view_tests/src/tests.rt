@@ -1,0 +1,4 @@
+//! Views that are read, and views that are built.
+
+mod built;
+mod read;

@@ -1,0 +1,124 @@
+//! Views that are read from slices.
+
+use bumpalo::Bump;
+use cbor_head::{Limits, Reason, Refusal};
+use cbor_item::{Item, same};
+use cbor_reader::{read_tree, read_view};
+use cbor_view::View;
+use std::process::Abort;
+use std::test::Fail;
+
+fn limits(rt: &impl Abort) -> Limits {
+    Limits::new(256, 1 << 20).expect(rt, "limits")
+}
+
+// An input, and what it is read as: how many bytes are taken, and bytes of the same tree, or the
+// reason, the place and how many bytes are read.
+#[derive(Clone, Copy)]
+enum Wanted {
+    Tree(u64, &'static [u8]),
+    Refused(Reason, u64, u64),
+}
+
+static TABLE: [(&[u8], Wanted); 3] = [
+    // a byte string in chunks
+    (b"\x5f\x41\x61\xff", Wanted::Tree(4, b"\x41\x61")),
+    // keys that differ in a tag alone, in their order
+    (
+        b"\xa2\xc1\x01\x00\x01\x01",
+        Wanted::Tree(6, b"\xa2\xc1\x01\x00\x01\x01"),
+    ),
+    (b"\x61\xff", Wanted::Refused(Reason::InvalidText, 1, 2)),
+];
+
+#[test]
+fn reads_as_trees_are_read(rt: HostRuntime) -> Result<(), Fail> {
+    let alloc = rt.alloc();
+    for (input, wanted) in &TABLE {
+        let arena = Bump::new(alloc);
+        let answer = read_view(alloc, input, limits(&rt), &arena);
+        match (answer, *wanted) {
+            (Ok((view, count)), Wanted::Tree(taken, mut bytes)) => {
+                let (tree, _) = read_tree(alloc, &mut bytes, limits(&rt))?;
+                assert!(rt; count == taken && same(&view.to_tree(alloc)?, &tree));
+            }
+            (Err(refusal), Wanted::Refused(reason, place, read)) => {
+                assert_eq!(rt; refusal, Refusal::new(reason, place, read));
+            }
+            _ => panic!(rt; "another verdict"),
+        }
+    }
+    Ok(())
+}
+
+// {1(1): 0, 1: 1}: the pairs keep the order of the input.
+#[test]
+fn keeps_the_order_of_pairs(rt: HostRuntime) -> Result<(), Fail> {
+    let arena = Bump::new(rt.alloc());
+    let input = b"\xa2\xc1\x01\x00\x01\x01";
+    let (view, _) = read_view(rt.alloc(), input, limits(&rt), &arena)?;
+    let [(tagged, zero), (one, _)] = view.as_map().ok_or("no map")? else {
+        panic!(rt; "not two pairs")
+    };
+    assert!(rt; tagged.as_tag().is_some() && zero.as_u64() == Some(0));
+    assert!(rt; one.as_u64() == Some(1));
+    Ok(())
+}
+
+// A text in one piece takes nothing of the arena; one in chunks does.
+#[test]
+fn leaves_strings_in_the_input(rt: HostRuntime) -> Result<(), Fail> {
+    let arena = Bump::new(rt.alloc());
+    let (whole, _) = read_view(rt.alloc(), b"\x63abc", limits(&rt), &arena)?;
+    assert!(rt; matches!(whole, View::Text("abc")) && arena.allocated_bytes() == 0);
+    let chunks = b"\x7f\x61a\x62bc\xff";
+    let (joined, _) = read_view(rt.alloc(), chunks, limits(&rt), &arena)?;
+    assert!(rt; matches!(joined, View::Text("abc")) && arena.allocated_bytes() > 0);
+    Ok(())
+}
+
+// {[1, {}]: "a", {2: 3, 4: 5}: "b"}, looked up by the same keys, spelled in other ways
+#[test]
+fn looks_up_by_views(rt: HostRuntime) -> Result<(), Fail> {
+    let arena = Bump::new(rt.alloc());
+    let input = b"\xa2\x82\x01\xa0\x61a\xa2\x02\x03\x04\x05\x61b";
+    let (map, _) = read_view(rt.alloc(), input, limits(&rt), &arena)?;
+    // [1, {}], and {4: 5, 2: 3}
+    let (array, _) = read_view(rt.alloc(), b"\x9f\x18\x01\xbf\xff\xff", limits(&rt), &arena)?;
+    let (turned, _) = read_view(rt.alloc(), b"\xa2\x04\x05\x02\x03", limits(&rt), &arena)?;
+    let (other, _) = read_view(rt.alloc(), b"\xa1\x04\x05", limits(&rt), &arena)?;
+    assert!(rt; matches!(map.get(&array), Some(View::Text("a"))));
+    assert!(rt; matches!(map.get(&turned), Some(View::Text("b"))));
+    assert!(rt; map.get(&other).is_none());
+    assert!(rt; turned.same(&turned) && !turned.same(&other));
+    Ok(())
+}
+
+// ["a", h'01', {1(0): null}]
+#[test]
+fn is_read_as_an_item(rt: HostRuntime) -> Result<(), Fail> {
+    let arena = Bump::new(rt.alloc());
+    let input = b"\x83\x61a\x41\x01\xa1\xc1\x00\xf6";
+    let (view, _) = read_view(rt.alloc(), input, limits(&rt), &arena)?;
+    let Item::Array(items) = view.to_item(rt.alloc())? else {
+        panic!(rt; "no array")
+    };
+    assert_eq!(rt; items.len(), 3);
+    Ok(())
+}
+
+// One arena for many items: each view is given up before the next.
+#[test]
+fn takes_an_arena_in_turn(rt: HostRuntime) -> Result<(), Fail> {
+    let mut arena = Bump::new(rt.alloc());
+    let mut sum = 0;
+    for input in [b"\x82\x01\x02", b"\x82\x03\x04"] {
+        let (view, _) = read_view(rt.alloc(), input, limits(&rt), &arena)?;
+        for member in view.as_array().ok_or("no array")? {
+            sum = member.as_u64().ok_or("no number")?.max(sum);
+        }
+        arena.reset().ok().ok_or("not reset")?;
+    }
+    assert_eq!(rt; sum, 4);
+    Ok(())
+}
