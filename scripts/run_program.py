@@ -15,6 +15,8 @@ import subprocess
 import sys
 import tempfile
 
+import completions
+
 ROOT = os.path.dirname(os.path.dirname(os.path.abspath(__file__)))
 COMMANDS = ["show", "events", "check", "canon", "compare"]
 faults = []
@@ -131,9 +133,68 @@ def files():
     holds("new", b"\x00", here + ["new"])
 
 
+def sequences():
+    expect("canon of a sequence", run(["canon", "--seq", "-", "-"], b"\x18\x00\x9f\xff"), 0, b"\x00\x80")
+    expect("a sequence shown", run(["show", "--seq", "-"], b"\x00\x81\x01"), 0, b"0\n[1]\n")
+    refused = b"item 3 refused 1 Truncated at 1\n"
+    expect("a sequence shown in part", run(["show", "--seq", "-"], b"\x00\x81\x01\x18"), 1, b"0\n[1]\n", refused)
+    item = write("sequence", b"\x00\x81\x01\x18")
+    expect("a sequence refused", run(["canon", "--seq", "sequence", "sequence"]), 1, b"", refused)
+    with open(item, "rb") as file:
+        if file.read() != b"\x00\x81\x01\x18":
+            faults.append("a sequence that is refused was changed")
+    os.remove(item)
+
+
+def leftovers():
+    """What a run leaves that was ended amid its work, and that no such thing hinders a later one."""
+    path = write("out", b"\x80")
+    before = set(os.listdir(FOLDER))
+    ended = run(["canon", "-", "out"], b"\x82\x00\x00", preexec_fn=lambda: resource.setrlimit(resource.RLIMIT_FSIZE, (1, 1)))
+    left = set(os.listdir(FOLDER)) - before
+    if ended.returncode != -signal.SIGXFSZ or len(left) != 1:
+        faults.append(f"ended by a signal: status {ended.returncode}, left {sorted(left)}")
+    for name in left:
+        if not re.fullmatch(r"out\.[0-9a-f]{16}\.tmp", name):
+            faults.append(f"a run that was ended left {name}")
+    for number in range(3000):
+        write(f"out.{number:016x}.tmp", b"")
+        write(f".cborc-{number}.tmp", b"")
+    expect("beside leftovers", run(["canon", "-", "out"], b"\x18\x00"), 0)
+    with open(path, "rb") as file:
+        if file.read() != b"\x00":
+            faults.append("beside leftovers OUT was not written")
+    longest = "n" * 255
+    expect("the longest name", run(["canon", "-", longest], b"\x00"), 0)
+    for name in os.listdir(FOLDER):
+        if name.endswith(".tmp") or name in ("out", longest):
+            os.remove(os.path.join(FOLDER, name))
+
+
+def links():
+    """Links that lead to no file: what they lead to is made, and they stay."""
+    os.mkdir(os.path.join(FOLDER, "deep"))
+    os.symlink("deep/first", os.path.join(FOLDER, "dangling"))
+    os.symlink("second", os.path.join(FOLDER, "deep", "first"))
+    expect("OUT is a dangling link", run(["canon", "-", "dangling"], b"\x18\x00"), 0)
+    for link in ("dangling", "deep/first"):
+        if not os.path.islink(os.path.join(FOLDER, link)):
+            faults.append(f"the link {link} was replaced")
+    with open(os.path.join(FOLDER, "deep", "second"), "rb") as file:
+        if file.read() != b"\x00" or sorted(os.listdir(os.path.join(FOLDER, "deep"))) != ["first", "second"]:
+            faults.append("what a dangling link leads to was not made")
+    os.symlink("round", os.path.join(FOLDER, "round"))
+    told = b"cannot write round\n  Links lead round in a circle.\n"
+    expect("a circle of links", run(["canon", "--explain", "-", "round"], b"\x00"), 3, b"", told)
+    os.symlink("nowhere/file", os.path.join(FOLDER, "astray"))
+    told = b"cannot write astray\n  A new file beside it was not to be made. There is no such file or folder.\n"
+    expect("a link into no folder", run(["canon", "--explain", "-", "astray"], b"\x00"), 3, b"", told)
+
+
 def explained():
     ended = run(["check", "--explain", "-"], b"\xa1\x61a\x82\x00\xf9\x00\x00")
     lines = b"""refused 5 Float at 5
+  in standard input
   A floating-point number begins here; floats are not part of this profile.
   Write it as an integer, a text, or a tag over integers.
   bytes from 0: a1 61 61 82 00 f9 00 00
@@ -145,17 +206,23 @@ def explained():
 def causes():
     os.mkdir(os.path.join(FOLDER, "folder"))
     item = write("item", b"\x00")
+    beside = b"  A new file beside it was not to be made."
     absent, folder = b"  There is no such file or folder.\n", b"  It is a folder.\n"
     expect("why: no file", run(["check", "--explain", "absent"]), 3, b"", b"cannot read absent\n" + absent)
     expect("why: a folder", run(["show", "--explain", "folder"]), 3, b"", b"cannot read folder\n" + folder)
     expect("a folder", run(["show", "folder"]), 3, b"", b"cannot read folder\n")
-    expect("why: no folder", run(["canon", "--explain", "-", "absent/out"], b"\x00"), 3, b"", b"cannot write absent/out\n" + absent)
+    expect("why: no folder", run(["canon", "--explain", "-", "absent/out"], b"\x00"), 3, b"", b"cannot write absent/out\n" + beside + b" There is no such file or folder.\n")
     expect("why: OUT is a folder", run(["canon", "--explain", "-", "folder"], b"\x00"), 3, b"", b"cannot write folder\n" + folder)
     expect("why: the path has a file in it", run(["check", "--explain", "item/x"]), 3, b"", b"cannot read item/x\n  A part of the path is no folder.\n")
     expect("why: a path with an escape", run(["check", "--explain", "a\x1b[0m"]), 3, b"", b"cannot read a\\u001b[0m\n" + absent)
     if os.geteuid() != 0:
         os.chmod(item, 0)
         expect("why: not permitted", run(["check", "--explain", "item"]), 3, b"", b"cannot read item\n  It is not permitted.\n")
+        write("folder/out", b"")
+        os.chmod(os.path.join(FOLDER, "folder"), 0o555)
+        told = b"cannot write folder/out\n" + beside + b" It is not permitted.\n"
+        expect("why: the folder is not to be written", run(["canon", "--explain", "-", "folder/out"], b"\x00"), 3, b"", told)
+        os.chmod(os.path.join(FOLDER, "folder"), 0o755)
 
 
 def options_of(command):
@@ -190,8 +257,9 @@ def pages():
 
 PROGRAM = os.path.abspath(sys.argv[1]) if len(sys.argv) > 1 else built()
 with tempfile.TemporaryDirectory() as FOLDER:
-    for part in (words, streams, outputs_that_fail, files, explained, causes, pages):
+    for part in (words, streams, outputs_that_fail, files, sequences, leftovers, links, explained, causes, pages):
         part()
+faults += completions.faults()
 for fault in faults:
     print("program:", fault)
 if faults:

@@ -4,7 +4,8 @@
 These are wrong bodies that no clause speaks against: a read that failed is tried again, single bytes are asked
 for, memory is asked for by the length in a head. The tests are built without a proof, one at a time, and each has
 to pass where nothing is edited. An edit has the form of the must-fail edits of the crates, behind lines with its
-crate, its test and the crate where that stands.
+crate, its test and the crate where that stands. One that the compiler refuses, so that no prover sees it, has the
+name of that error in a line 'refused': it has to be refused so.
 
     scripts/test_edits.py [NAME ..]
 """
@@ -21,7 +22,7 @@ EDITS = os.path.join(ROOT, "fuzz", "edits")
 
 
 def read_edit(name):
-    """The crate, the crate of the test, the test, and the (file, old, new) of an edit."""
+    """The crate, the crate of the test, the test, the compiler's error if it is to refuse it, and the (file, old, new)."""
     with open(os.path.join(EDITS, name + ".edit"), encoding="utf-8") as file:
         lines = [line.partition(": ") for line in file.read().splitlines()]
     words, old, changes = {}, None, []
@@ -32,7 +33,7 @@ def read_edit(name):
             changes.append((words["file"], old, text))
         else:
             words[word] = text
-    return words["crate"], words["tests"], words["test"], changes
+    return words["crate"], words["tests"], words["test"], words.get("refused"), changes
 
 
 def change(path, edit):
@@ -50,18 +51,33 @@ def keep_test(folder, test):
             change(os.path.join(place, file), lambda text: re.sub(rf"#\[test\](?!\n *fn {name}\()", "#[test]\n#[ignore]", text))
 
 
+def try_tests(folder):
+    """What is said of the tests."""
+    ended = subprocess.run(["rt", "try", "--test"], cwd=folder, capture_output=True, text=True)
+    return ended.stdout + ended.stderr
+
+
 def run_test(folder, test):
     """Whether the test passed, and what was said."""
-    ended = subprocess.run(["rt", "try", "--test"], cwd=folder, capture_output=True, text=True)
-    said = ended.stdout + ended.stderr
+    said = try_tests(folder)
     result = re.search(r"(?m)^test result: \w+\. (\d+) passed; (\d+) failed;", said)
     if not result or f"test {test} ... " not in said or int(result[1]) + int(result[2]) != 1 or "no-answer" in said:
         sys.exit(f"edits: {test} was to be run to its end, alone:\n{said[-2000:]}")
     return result[1] == "1", said
 
 
-def refuses(name, folder, tests, test, changes):
-    """Whether the test passes as the crate stands, and fails with the edit."""
+def is_refused(name, tests, error):
+    """Whether the compiler has this error, and no test ran."""
+    said = try_tests(tests)
+    if f"error[{error}]" not in said or "test result:" in said:
+        print(f"edits: {name}: the compiler was to say {error}:\n{said[-2000:]}")
+        return False
+    print(f"edits: {name}: {error}")
+    return True
+
+
+def refuses(name, folder, tests, test, error, changes):
+    """Whether the test passes as the crate stands, and with the edit fails, or is not compiled."""
     is_passed, said = run_test(tests, test)
     if not is_passed:
         print(f"edits: {name}: {test} fails without the edit:\n{said[-2000:]}")
@@ -74,6 +90,8 @@ def refuses(name, folder, tests, test, changes):
             print(f"edits: {name}: stands {count} times in {file}: {old}")
             return False
         change(path, lambda text: text.replace(old, new))
+    if error:
+        return is_refused(name, tests, error)
     is_passed, said = run_test(tests, test)
     if is_passed:
         print(f"edits: {name}: {test} passes with the edit")
@@ -86,7 +104,7 @@ def main():
     names = sys.argv[1:] or sorted(it.removesuffix(".edit") for it in os.listdir(EDITS))
     wrong = 0
     for name in names:
-        crate, tests, test, changes = read_edit(name)
+        crate, tests, test, error, changes = read_edit(name)
         with tempfile.TemporaryDirectory() as room:
             for part in ("crates", "crates.txt", "HANDLES"):
                 source, to = os.path.join(ROOT, part), os.path.join(room, part)
@@ -96,7 +114,7 @@ def main():
                     shutil.copy(source, to)
             folder, tests = (os.path.join(room, "crates", it) for it in (crate, tests))
             keep_test(tests, test)
-            wrong += not refuses(name, folder, tests, test, changes)
+            wrong += not refuses(name, folder, tests, test, error, changes)
     sys.exit(1 if wrong else 0)
 
 

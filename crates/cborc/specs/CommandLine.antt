@@ -17,7 +17,7 @@ use Rattle.cborc_commands.specs.declared.request.Manner.TheVariants.{Plain, Expl
 use Rattle.cborc_commands.specs.declared.request.Options.{Options}
 use Rattle.cborc_commands.specs.declared.request.Output.{Output}
 use Rattle.cborc_commands.specs.declared.request.Request.{Request}
-use Rattle.cborc_commands.specs.declared.request.Request.TheVariants.{Check, CheckSequence, Canon, Compare, Show, Events}
+use Rattle.cborc_commands.specs.declared.request.Request.TheVariants.{Check, CheckSequence, Canon, CanonSequence, Compare, Show, ShowSequence, Events}
 use Rattle.cborc_commands.specs.declared.request.Task.{Task}
 
 -- the order of keys that a word names
@@ -77,21 +77,33 @@ abbrev pub reads_stream_twice : Request → Bool
 reads_stream_twice (Compare left right options) = is_stream left.now && is_stream right.now
 reads_stream_twice _ = false
 
+-- the file is one item; or a sequence of them
+abbrev pub IsOneItem : List Row → Type 0
+IsOneItem rows = one_of (codes "seq") rows ≢ Some (codes "true")
+
+abbrev pub IsSequence : List Row → Type 0
+IsSequence rows = one_of (codes "seq") rows ≢ Some (codes "false")
+
 -- what a subcommand, of this name and given these, asks for
 abbrev pub AsksFor : Text × List Row → Request → Type 0
 AsksFor (name, rows) (Check source accepted options) =
-    (name ≡ codes "check") × (one_of (codes "seq") rows ≢ Some (codes "true"))
+    (name ≡ codes "check") × IsOneItem rows
     × (first_of (codes "FILE") rows ≡ Some source.now) × IsAcceptedOf rows (Some accepted) × IsOptionsOf rows options
 AsksFor (name, rows) (CheckSequence source accepted options) =
-    (name ≡ codes "check") × (one_of (codes "seq") rows ≢ Some (codes "false"))
+    (name ≡ codes "check") × IsSequence rows
     × (first_of (codes "FILE") rows ≡ Some source.now) × IsAcceptedOf rows (Some accepted) × IsOptionsOf rows options
 AsksFor (name, rows) (Canon source output order options) =
-    (name ≡ codes "canon") × (first_of (codes "IN") rows ≡ Some source.now) × IsOutputOf rows output
+    (name ≡ codes "canon") × IsOneItem rows × (first_of (codes "IN") rows ≡ Some source.now) × IsOutputOf rows output
+    × (order_given rows ≡ Some order) × IsOptionsOf rows options
+AsksFor (name, rows) (CanonSequence source output order options) =
+    (name ≡ codes "canon") × IsSequence rows × (first_of (codes "IN") rows ≡ Some source.now) × IsOutputOf rows output
     × (order_given rows ≡ Some order) × IsOptionsOf rows options
 AsksFor (name, rows) (Compare left right options) =
     (name ≡ codes "compare") × (first_of (codes "A") rows ≡ Some left.now) × (first_of (codes "B") rows ≡ Some right.now) × IsOptionsOf rows options
 AsksFor (name, rows) (Show source layout options) =
-    (name ≡ codes "show") × (first_of (codes "FILE") rows ≡ Some source.now) × IsLayoutOf rows layout × IsOptionsOf rows options
+    (name ≡ codes "show") × IsOneItem rows × (first_of (codes "FILE") rows ≡ Some source.now) × IsLayoutOf rows layout × IsOptionsOf rows options
+AsksFor (name, rows) (ShowSequence source layout options) =
+    (name ≡ codes "show") × IsSequence rows × (first_of (codes "FILE") rows ≡ Some source.now) × IsLayoutOf rows layout × IsOptionsOf rows options
 AsksFor (name, rows) (Events source options) =
     (name ≡ codes "events") × (first_of (codes "FILE") rows ≡ Some source.now) × IsOptionsOf rows options
 

@@ -28,6 +28,10 @@ option name default values = record (new_rule name) {
   parser = Some values;
 }
 
+-- whether the file is a sequence
+abbrev pub sequence : Rule
+sequence = flag (codes "seq")
+
 -- an order of keys, one of these names
 abbrev pub order : Bor (List (Bor Text)) → Rule
 order names = option (codes "order") (codes "bytewise") (parser.Names names)
@@ -51,18 +55,18 @@ abbrev pub subcommand : Text → List Rule → Shape
 subcommand name rules = record (new_shape name) { rules = rules ++ options }
 
 abbrev pub show : Shape
-show = subcommand (codes "show") (file (codes "FILE") ∷ flag (codes "indent") ∷ [])
+show = subcommand (codes "show") (file (codes "FILE") ∷ flag (codes "indent") ∷ sequence ∷ [])
 
 abbrev pub events : Shape
 events = subcommand (codes "events") (file (codes "FILE") ∷ [])
 
 abbrev pub check : Bor (List (Bor Text)) → Shape
 check names = subcommand (codes "check")
-    (file (codes "FILE") ∷ flag (codes "strict") ∷ flag (codes "seq") ∷ order names ∷ [])
+    (file (codes "FILE") ∷ flag (codes "strict") ∷ sequence ∷ order names ∷ [])
 
 abbrev pub canon : Bor (List (Bor Text)) → Shape
 canon names = subcommand (codes "canon")
-    (file (codes "IN") ∷ file (codes "OUT") ∷ flag (codes "hex-out") ∷ order names ∷ [])
+    (file (codes "IN") ∷ file (codes "OUT") ∷ flag (codes "hex-out") ∷ sequence ∷ order names ∷ [])
 
 abbrev pub compare : Shape
 compare = subcommand (codes "compare") (file (codes "A") ∷ file (codes "B") ∷ [])

@@ -146,12 +146,25 @@ fn canon_of<'a>(given: &ArgMatches<'a>) -> Option<Request<'a>>
     ensures value { IfSome result (AsksFor (codes "canon", rows_of (found_of given.now))) }
     ensures some { IsComplete (codes "canon", rows_of (found_of given.now)) → IsSome result }
 {
-    Some(Request::Canon {
-        source: given.get_str("IN")?,
-        output: output_of(given)?,
-        order: order_of(given.get_str("order")?)?,
-        options: options_of(given)?,
-    })
+    let source = given.get_str("IN")?;
+    let output = output_of(given)?;
+    let order = order_of(given.get_str("order")?)?;
+    let options = options_of(given)?;
+    if given.get_flag("seq") {
+        Some(Request::CanonSequence {
+            source,
+            output,
+            order,
+            options,
+        })
+    } else {
+        Some(Request::Canon {
+            source,
+            output,
+            order,
+            options,
+        })
+    }
 }
 
 #[tactic(auto, using(crate::proofs::Rows::getters))]
@@ -173,11 +186,22 @@ fn show_of<'a>(given: &ArgMatches<'a>) -> Option<Request<'a>>
     ensures value { IfSome result (AsksFor (codes "show", rows_of (found_of given.now))) }
     ensures some { IsComplete (codes "show", rows_of (found_of given.now)) → IsSome result }
 {
-    Some(Request::Show {
-        source: given.get_str("FILE")?,
-        layout: layout_of(given),
-        options: options_of(given)?,
-    })
+    let source = given.get_str("FILE")?;
+    let layout = layout_of(given);
+    let options = options_of(given)?;
+    if given.get_flag("seq") {
+        Some(Request::ShowSequence {
+            source,
+            layout,
+            options,
+        })
+    } else {
+        Some(Request::Show {
+            source,
+            layout,
+            options,
+        })
+    }
 }
 
 #[tactic(auto, using(crate::proofs::Rows::getters))]

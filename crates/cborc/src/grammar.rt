@@ -31,6 +31,7 @@ Examples:
   cborc events --hex message.hex
   cborc check --strict --explain message.cbor
   cborc canon message.cbor - | sha256sum
+  cborc show --seq records.cbor
   cborc compare old.cbor new.cbor";
 
 /// The program's command line.
@@ -57,11 +58,7 @@ fn check<'a>(alloc: Global) -> Result<Command<'a>, AllocError>
         .about("Checks that FILE is one valid item, or a sequence of them")
         .arg(file(alloc, "FILE", "The file to read, or - for standard input"))?
         .arg(flag(alloc, "strict", "Accept canonical bytes alone"))?
-        .arg(flag(
-            alloc,
-            "seq",
-            "Read a sequence of items, with the limits on each",
-        ))?
+        .arg(sequence(alloc))?
         .arg(order(alloc, "The order of map keys, with --strict"))?;
     with_options(alloc, command)
 }
@@ -70,18 +67,15 @@ fn canon<'a>(alloc: Global) -> Result<Command<'a>, AllocError>
     ensures { IfOk result (λ command. (names : Bor _) × NamesOrders names × HasShape (grammar.canon names) command) }
 {
     let command = Command::new(alloc, "canon")
-        .about("Writes the canonical bytes of the item in IN to OUT")
-        .arg(file(
-            alloc,
-            "IN",
-            "The file to read: one item, or - for standard input",
-        ))?
+        .about("Writes the canonical bytes of the item in IN, or of each of a sequence, to OUT")
+        .arg(file(alloc, "IN", "The file to read, or - for standard input"))?
         .arg(file(alloc, "OUT", "The file to write, or - for standard output"))?
         .arg(flag(
             alloc,
             "hex-out",
             "Write hex digits, two for each byte, and a line feed",
         ))?
+        .arg(sequence(alloc))?
         .arg(order(alloc, "The order of map keys"))?;
     with_options(alloc, command)
 }
@@ -90,13 +84,10 @@ fn show<'a>(alloc: Global) -> Result<Command<'a>, AllocError>
     ensures { IfOk result (HasShape grammar.show) }
 {
     let command = Command::new(alloc, "show")
-        .about("Writes the diagnostic text of the item in FILE")
-        .arg(file(
-            alloc,
-            "FILE",
-            "The file to read: one item, or - for standard input",
-        ))?
-        .arg(flag(alloc, "indent", "Write one member or pair a line"))?;
+        .about("Writes the diagnostic text of the item in FILE, or of each of a sequence")
+        .arg(file(alloc, "FILE", "The file to read, or - for standard input"))?
+        .arg(flag(alloc, "indent", "Write one member or pair a line"))?
+        .arg(sequence(alloc))?;
     with_options(alloc, command)
 }
 
@@ -139,6 +130,16 @@ fn flag<'a>(alloc: Global, name: &'a str, help: &'a str) -> Arg<'a>
         .long(name)
         .action(ArgAction::SetTrue)
         .help(help)
+}
+
+fn sequence<'a>(alloc: Global) -> Arg<'a>
+    ensures { HasRule grammar.sequence result }
+{
+    flag(
+        alloc,
+        "seq",
+        "Read a sequence of items, with the limits on each",
+    )
 }
 
 fn order<'a>(alloc: Global, help: &'a str) -> Arg<'a>

@@ -11,6 +11,7 @@
 mod command_line;
 mod disk;
 mod grammar;
+mod replacement;
 mod run;
 #[cfg(test)]
 mod tests;

@@ -12,19 +12,19 @@ mod rows;
 mod streams;
 
 use crate::run::run;
-use cborc_commands::{FileFault, Folder};
+use cborc_commands::{Cause, FileFault, Folder};
 use std::alloc::{AllocError, Global};
 use std::io::{ErrorKind, Write};
 
 // A folder with two files to read, of which the first is standard input too, and which keeps what is
 // written. The path `locked` is not permitted, `folder` is a folder, `full` wants memory, and any
-// other file is not there.
+// other file is not there. No new file is made in the folders `locked` and `absent`.
 #[derive(Drop)]
 struct Shelf<'a> {
     first: &'a [u8],
     second: &'a [u8],
     written: Vec<(String, Vec<u8>)>,
-    cause: Option<ErrorKind>,
+    cause: Option<Cause>,
 }
 
 impl<'a> Folder for Shelf<'a> {
@@ -40,25 +40,27 @@ impl<'a> Folder for Shelf<'a> {
     fn write(&mut self, path: &str, bytes: &[u8]) -> Result<(), FileFault> {
         match path {
             "full" => Err(FileFault::Memory),
-            "locked" | "folder" | "absent/out" => Err(self.fail(path)),
+            "locked" | "folder" | "locked/out" | "absent/out" => Err(self.fail(path)),
             _ => self.keep(path, bytes).map_err(|_| FileFault::Memory),
         }
     }
 
-    fn cause(&self) -> Option<ErrorKind> {
+    fn cause(&self) -> Option<Cause> {
         self.cause
     }
 }
 
 impl<'a> Shelf<'a> {
     fn fail(&mut self, path: &str) -> FileFault {
-        self.cause = match path {
-            "locked" => Some(ErrorKind::PermissionDenied),
+        let kind = match path {
+            "locked" | "locked/out" => Some(ErrorKind::PermissionDenied),
             "folder" => Some(ErrorKind::IsADirectory),
             "odd" => Some(ErrorKind::Other),
             "silent" => None,
             _ => Some(ErrorKind::NotFound),
         };
+        let beside = path.ends_with("/out");
+        self.cause = kind.map(|kind| Cause { kind, beside });
         FileFault::Failed
     }
 

@@ -16,17 +16,15 @@ use Rattle.cbor_judging.specs.Readers.{IsReadAs}
 use Rattle.cbor_reader.specs.WholeItem.{IsWholeItem}
 use Rattle.cbor_reader.specs.declared.comparison.Side.{Side}
 use Rattle.cbor_reader.specs.declared.comparison.Side.TheVariants.{Left, Right}
-use Rattle.cborc_commands.proofs.Files.{keeps_keeps, put_kept, input_before}
+use Rattle.cborc_commands.proofs.Files.{put_kept, input_before}
 use Rattle.cborc_commands.proofs.Fronts.{canonical_whole, refusal_whole, is_whole, is_not_whole, is_all_of, listed_whole, not_listed_whole, whole_item, item_refusal_whole}
 use Rattle.cborc_commands.specs.Canon.{IsCanonicalText, IsPut, IsNotPut, IsCanonised, IsNotCanonised}
 use Rattle.cborc_commands.specs.inner.Parts.{IsNoText, StartsInput, IsTreeOf, IsShown}
-use Rattle.cborc_commands.specs.Check.{accepted_bytes, IsWhole, IsNotWhole, IsChecked, IsUntoldOf, IsNotChecked}
-use Rattle.cborc_commands.specs.CheckSequence.{accepted_items, IsWholeSequence, IsRefusedAt, IsSequenceChecked, IsSequenceNotChecked}
+use Rattle.cborc_commands.specs.Check.{accepted_bytes, IsWhole, IsNotWhole, IsChecked, IsNotChecked}
 use Rattle.cborc_commands.specs.Compare.{IsTold, IsUntold, AreInputs, AreCompared, AreNotCompared}
 use Rattle.cborc_commands.specs.Events.{IsNotListed, IsListedOf, IsNotListedOf}
-use Rattle.cborc_commands.specs.Fault.{IsOfInput, reason_fault, refusal_fault, at_item}
+use Rattle.cborc_commands.specs.Fault.{IsOfInput, reason_fault, refusal_fault}
 use Rattle.cborc_commands.specs.Folder.{Files, KeepsFiles}
-use Rattle.cborc_commands.specs.Input.{IsInput}
 use Rattle.cborc_commands.specs.Show.{IsShownOf, IsNotShown}
 use Rattle.cborc_commands.specs.declared.request.Layout.{Layout}
 use Rattle.cborc_commands.specs.declared.status.Status.{Status}
@@ -116,30 +114,6 @@ module _ (rules : Rules) (options : Options) (source : List ℕ) (held : Option 
             (subst (λ (b : List ℕ). IsNotWhole options.limits.depth options.limits.bytes rules b f) s.front h),
         own,
       )) tt
-
--- the fault of an item of a sequence: its refusal, or want of memory
-pub item_refusal_is : (P : Fault → Type 0) (index start : ℕ) (f : Refusal) (fault : Fault) → fault ≡ at_item index start (refusal_fault f)
-    → (IsOfInput f.reason → P (faults.RefusedItem index start f)) → P faults.Memory → P fault
-item_refusal_is P index start f fault e refused memory = subst P (sym e) (by_reason f.reason refl)
-  where
-    by_reason : (reason : Reason) → f.reason ≡ reason → P (at_item index start (reason_fault f reason))
-    by_reason reasons.Memory is = memory
-    by_reason reasons.Read is = memory
-    by_reason _ is = refused (subst IsOfInput (sym is) tt)
-
-module _ (rules : Rules) (options : Options) (source : List ℕ) (held : Option Files) (input : List ℕ) (is : IsInput held source options.hex input) where
-  pub sequence_checked : (count : ℕ) (before after : Option (List ℕ)) → IsWholeSequence options.limits.depth options.limits.bytes rules input count
-      → Appends before after (accepted_items count) → IsSequenceChecked rules options source held before after
-  sequence_checked count before after w t = record { input = input; is = is; count = count; whole = w; told = t }
-
-  pub sequence_untold : (count : ℕ) → IsWholeSequence options.limits.depth options.limits.bytes rules input count → (fault : Fault) → fault ≡ faults.CannotPrint
-      → IsSequenceNotChecked rules options source held fault
-  sequence_untold count w fault e =
-      subst (IsSequenceNotChecked rules options source held) (sym e) (record { input = input; is = is; count = count; whole = w })
-
-  pub sequence_refused : (index start : ℕ) (f : Refusal) → IsRefusedAt options.limits.depth options.limits.bytes rules input index start f
-      → (fault : Fault) → fault ≡ at_item index start (refusal_fault f) → IsSequenceNotChecked rules options source held fault
-  sequence_refused index start f h fault e = item_refusal_is (IsSequenceNotChecked rules options source held) index start f fault e (λ own. (input, is, h, own)) tt
 
 module _ (options : Options) (source : List ℕ) (held : Option Files) (bytes : List ℕ) (s : StartsInput held source options.hex (options.limits.bytes + 1) bytes) where
   -- ---- `show`

@@ -1,5 +1,5 @@
 -- What stays known of files from call to call.
-use Rattle.std.proofs.Common.{◌≡◌, List, ℕ, Bool, true, false, Option, Some, None, ◌∙◌, sym}
+use Rattle.std.proofs.Common.{List, ℕ, Bool, true, false, Option, Some, None, ◌∙◌, sym}
 use Rattle.cborc_commands.specs.Folder.{Files, Holds, KeepsFiles, ReplacesFile}
 use Rattle.cborc_commands.specs.Canon.{IsPut, printed, written}
 use Rattle.cborc_commands.specs.Input.{IsInput, IsNotHex, IsNoInput}

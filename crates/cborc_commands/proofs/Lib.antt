@@ -2,8 +2,10 @@ mod Faults
 mod Files
 mod Fronts
 mod InMemory
+mod Items
 mod Runs
 mod Sent
-mod Sequences
+mod Stopped
+mod Taken
 mod Untold
 mod Whole

@@ -12,7 +12,7 @@ use Rattle.cborc_commands.specs.declared.request.Manner.{Manner}
 use Rattle.cborc_commands.specs.declared.request.Options.{Options}
 use Rattle.cborc_commands.specs.declared.request.Output.{Output}
 use Rattle.cborc_commands.specs.declared.request.Request.{Request}
-use Rattle.cborc_commands.specs.declared.request.Request.TheVariants.{Check, CheckSequence, Canon, Compare, Show, Events}
+use Rattle.cborc_commands.specs.declared.request.Request.TheVariants.{Check, CheckSequence, Canon, CanonSequence, Compare, Show, ShowSequence, Events}
 use Rattle.cborc_commands.specs.declared.fault.Fault.{Fault}
 use Rattle.cborc_commands.specs.declared.fault.Fault.TheVariants as faults
 use Rattle.cborc_commands.specs.declared.status.Status.{Status}
@@ -35,33 +35,42 @@ module _ (request : Request) (old new : Option Files) (before mid after : Option
       stopped fault (not_done_sent before mid after keeps request old fault n) k (silent_sent before mid after keeps request fault q)
       (status_sent (Err fault) sent e status is)
 
--- an answer that is not told, but for the one of `canon`
+-- an answer that is not told, but for those of `canon` and `canon --seq`
 module _ (old new : Option Files) (before after : Option (List ℕ)) (keeps : Keeps before after) (status : ℕ) where
   pub quietly : (request : Request) → ((source : Bor (List ℕ)) (output : Output) (order : KeyOrder) (options : Options) → request ≢ Canon source output order options)
-      → IsAnswered request old new None None status → IsAnsweredQuietly request old new before after status
-  quietly (Canon source output order options) apart h = absurd (apart source output order options refl)
-  quietly (Check source accepted options) apart h = (h, keeps)
-  quietly (CheckSequence source accepted options) apart h = (h, keeps)
-  quietly (Show source layout options) apart h = (h, keeps)
-  quietly (Events source options) apart h = (h, keeps)
-  quietly (Compare left right options) apart h = (h, keeps)
+      → ((source : Bor (List ℕ)) (output : Output) (order : KeyOrder) (options : Options) → request ≢ CanonSequence source output order options) → IsAnswered request old new None None status → IsAnsweredQuietly request old new before after status
+  quietly (Canon source output order options) one all h = absurd (one source output order options refl)
+  quietly (CanonSequence source output order options) one all h = absurd (all source output order options refl)
+  quietly (Check source accepted options) one all h = (h, keeps)
+  quietly (CheckSequence source accepted options) one all h = (h, keeps)
+  quietly (Show source layout options) one all h = (h, keeps)
+  quietly (ShowSequence source layout options) one all h = (h, keeps)
+  quietly (Events source options) one all h = (h, keeps)
+  quietly (Compare left right options) one all h = (h, keeps)
 
   -- what standard output took is not known there
   pub sunk : (request : Request) → ((source : Bor (List ℕ)) (output : Output) (order : KeyOrder) (options : Options) → request ≢ Canon source output order options)
-      → (ended : Result Status Fault) → IfOk ended (IsDone request old new None None) → IfErr ended (IsNotDone request old None None)
+      → ((source : Bor (List ℕ)) (output : Output) (order : KeyOrder) (options : Options) → request ≢ CanonSequence source output order options) → (ended : Result Status Fault) → IfOk ended (IsDone request old new None None) → IfErr ended (IsNotDone request old None None)
       → OnErr ended (KeepsFiles old new) → IfErr ended (λ fault. IsSilent request fault None None) → status ≡ status_number (end_status ended)
       → IsAnsweredQuietly request old new before after status
-  sunk request apart ended d n k q is = quietly request apart (answered_so request old new None None None tt ended ended d n k q (inl refl) status is)
+  sunk request one all ended d n k q is = quietly request one all (answered_so request old new None None None tt ended ended d n k q (inl refl) status is)
 
 -- the manner by a known name
 module _ (request : Request) (old new : Option Files) (before after : Option (List ℕ)) (status : ℕ) where
   pub told_as : (known manner : Manner) → manner ≡ known → IsToldBy known request old new before after status → IsToldBy manner request old new before after status
   told_as known manner e h = subst (λ (m : Manner). IsToldBy m request old new before after status) (sym e) h
 
-  pub told_canon : (source : Bor (List ℕ)) (output : Output) (order : KeyOrder) (options : Options) → request ≡ Canon source output order options
-      → IsAnswered request old new before after status → IsAnsweredQuietly request old new before after status
-  told_canon source output order options e h =
-      subst (λ (r : Request). IsAnswered r old new before after status → IsAnsweredQuietly r old new before after status) (sym e) (λ k. k) h
+  -- the request is to write canonical bytes
+  abbrev pub WritesCanonical : Type 0
+  WritesCanonical =
+      ((source : Bor (List ℕ)) × (output : Output) × (order : KeyOrder) × (options : Options) × (request ≡ Canon source output order options))
+      ⊎ ((source : Bor (List ℕ)) × (output : Output) × (order : KeyOrder) × (options : Options) × (request ≡ CanonSequence source output order options))
+
+  pub told_canon : WritesCanonical → IsAnswered request old new before after status → IsAnsweredQuietly request old new before after status
+  told_canon (inl one) h =
+      subst (λ (r : Request). IsAnswered r old new before after status → IsAnsweredQuietly r old new before after status) (sym one.4) (λ k. k) h
+  told_canon (inr all) h =
+      subst (λ (r : Request). IsAnswered r old new before after status → IsAnsweredQuietly r old new before after status) (sym all.4) (λ k. k) h
 
 -- the answer of a folder that keeps what is read, which stands for the one behind it
 pub explained_so : (request : Request) (old first last new : Option Files) (before mid after : Option (List ℕ)) → Keeps mid after

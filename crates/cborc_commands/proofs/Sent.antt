@@ -1,5 +1,5 @@
 -- What standard output took stays told once it is sent on.
-use Rattle.std.proofs.Common.{ℕ, ◌≡◌, List, Option, Some, None, Result, Ok, Err, inl, inr, ◌⊎◌, ◌∙◌}
+use Rattle.std.proofs.Common.{ℕ, List, Option, Some, None, inl, inr, ◌∙◌}
 use Rattle.std.specs.Io.KnownBytes.{Appends, Keeps}
 use Rattle.std.proofs.KnownBytes.{Keeps-trans}
 use Rattle.cbor_diag.specs.Listing.{IsListed, IsUnlisted, of_verdict, of_reader, of_writer}
@@ -9,10 +9,12 @@ use Rattle.cborc_commands.specs.Canon.{IsPut, printed, written}
 use Rattle.cborc_commands.specs.Compare.{IsTold}
 use Rattle.cborc_commands.specs.Events.{IsNotListed, IsNotListedOf}
 use Rattle.cborc_commands.specs.Folder.{Files}
+use Rattle.cborc_commands.specs.ShowSequence.{IsSequenceNotShown}
 use Rattle.cborc_commands.specs.Told.{IsSilent}
+use Rattle.cborc_commands.specs.declared.request.Layout.{Layout}
 use Rattle.cborc_commands.specs.declared.request.Options.{Options}
 use Rattle.cborc_commands.specs.declared.request.Request.{Request}
-use Rattle.cborc_commands.specs.declared.request.Request.TheVariants.{Check, CheckSequence, Canon, Compare, Show, Events}
+use Rattle.cborc_commands.specs.declared.request.Request.TheVariants.{Check, CheckSequence, Canon, CanonSequence, Compare, Show, ShowSequence, Events}
 use Rattle.cborc_commands.specs.declared.fault.Fault.{Fault}
 use Rattle.cborc_commands.specs.declared.fault.Fault.TheVariants as faults
 use Rattle.cborc_commands.specs.declared.status.Status.{Status}
@@ -63,6 +65,24 @@ module _ (before mid after : Option (List ℕ)) (keeps : Keeps mid after) where
   events_sent options source held faults.Memory h = h
   events_sent options source held _ h = absurd h
 
+  shown_sent : (layout : Layout) (options : Options) (source : List ℕ) (held : Option Files) (fault : Fault) → IsSequenceNotShown layout options source held before mid fault
+      → IsSequenceNotShown layout options source held before after fault
+  shown_sent layout options source held (faults.RefusedItem index start f) h = record {
+    input = h.input;
+    is = h.is;
+    items = h.items;
+    rest = h.rest;
+    goes_on = h.goes_on;
+    refused = h.refused;
+    of_input = h.of_input;
+    shown = appends_kept before mid after _ h.shown keeps;
+  }
+  shown_sent layout options source held faults.CannotPrint h = h
+  shown_sent layout options source held (faults.CannotRead named) h = h
+  shown_sent layout options source held (faults.NotHex named) h = h
+  shown_sent layout options source held faults.Memory h = h
+  shown_sent layout options source held _ h = absurd h
+
   pub done_sent : (request : Request) (old new : Option Files) (s : Status) → IsDone request old new before mid s → IsDone request old new before after s
   done_sent (Check source accepted options) old new statuses.Accepted (h, k) =
       (record { input = h.input; is = h.is; size = h.size; whole = h.whole; told = appends_kept before mid after _ h.told keeps }, k)
@@ -70,8 +90,12 @@ module _ (before mid after : Option (List ℕ)) (keeps : Keeps mid after) where
       (record { input = h.input; is = h.is; count = h.count; whole = h.whole; told = appends_kept before mid after _ h.told keeps }, k)
   done_sent (Canon source output order options) old new statuses.Accepted h =
       record { input = h.input; is = h.is; text = h.text; canonical = h.canonical; put = put_sent output.path.now old new h.text h.put }
+  done_sent (CanonSequence source output order options) old new statuses.Accepted h =
+      record { input = h.input; is = h.is; items = h.items; all = h.all; put = put_sent output.path.now old new _ h.put }
   done_sent (Show source layout options) old new statuses.Accepted (h, k) =
       (record { input = h.input; is = h.is; value = h.value; whole = h.whole; shown = appends_kept before mid after _ h.shown keeps }, k)
+  done_sent (ShowSequence source layout options) old new statuses.Accepted (h, k) =
+      (record { input = h.input; is = h.is; items = h.items; all = h.all; shown = appends_kept before mid after _ h.shown keeps }, k)
   done_sent (Events source options) old new statuses.Accepted (h, k) =
       (record { input = h.input; is = h.is; listed = listed_sent _ _ h.input _ h.listed }, k)
   done_sent (Compare left right options) old new s (h, k) =
@@ -82,11 +106,14 @@ module _ (before mid after : Option (List ℕ)) (keeps : Keeps mid after) where
   not_done_sent (Check source accepted options) held fault h = h
   not_done_sent (CheckSequence source accepted options) held fault h = h
   not_done_sent (Canon source output order options) held fault h = h
+  not_done_sent (CanonSequence source output order options) held fault h = h
   not_done_sent (Show source layout options) held fault h = h
+  not_done_sent (ShowSequence source layout options) held fault h = shown_sent layout options source.now held fault h
   not_done_sent (Events source options) held fault h = events_sent options source.now held fault h
   not_done_sent (Compare left right options) held fault h = h
 
   pub silent_sent : (request : Request) (fault : Fault) → IsSilent request fault before mid → IsSilent request fault before after
   silent_sent (Events source options) fault h = tt
+  silent_sent (ShowSequence source layout options) fault h = tt
   silent_sent _ faults.CannotPrint h = tt
   silent_sent _ _ h = Keeps-trans before mid after h keeps

@@ -7,10 +7,9 @@ use Rattle.cbor_head.specs.Complaint.{Rules}
 use Rattle.cbor_head.specs.Spelling.{Spelling, spell}
 use Rattle.cbor_head.specs.Verdict.{refusal, accepted, IsVerdict}
 use Rattle.cbor_head.specs.declared.reason.Reason.TheVariants.{Trailing}
-use Rattle.cbor_head.specs.declared.reason.Refusal.{Refusal}
 use Rattle.cbor_head.specs.Value.{Value}
-use Rattle.cbor_judging.specs.Readers.{IsRead, IsReadAs, IsUnread, Loses}
-use Rattle.cborc_commands.specs.Check.{IsNotWhole, unread, trailing}
+use Rattle.cbor_judging.specs.Readers.{IsRead, IsReadAs, Loses}
+use Rattle.cborc_commands.specs.Check.{IsNotWhole, trailing}
 
 -- no more than the input is read
 pub read_within : (d n : ℕ) (r : Rules) (input : List ℕ) (size : ℕ) → IsRead d n r input size → size ≤ length input
@@ -25,9 +24,6 @@ read_within d n r input size h =
 
 -- by rules that are known by two names
 module _ (d n : ℕ) (rules known : Rules) (same : rules ≡ known) (input : List ℕ) where
-  pub is_unread : (f : Refusal) → IsUnread d n known input f → IsNotWhole d n rules input f
-  is_unread f h = unread (subst (λ r. IsUnread d n r input f) (sym same) h)
-
   some_left : (k : ℕ) → false ≡ (k == 0) → 0 < k
   some_left zero e = cc e
   some_left (suc k) e = omega arith

@@ -1,14 +1,16 @@
 -- What comes of a request.
 use Rattle.std.specs.Prelude.{ℕ, List, Option}
 use Rattle.cborc_commands.specs.Canon.{IsCanonised, IsNotCanonised}
+use Rattle.cborc_commands.specs.CanonSequence.{IsSequenceCanonised, IsSequenceNotCanonised}
 use Rattle.cborc_commands.specs.Check.{rules_of, IsChecked, IsNotChecked}
 use Rattle.cborc_commands.specs.CheckSequence.{IsSequenceChecked, IsSequenceNotChecked}
 use Rattle.cborc_commands.specs.Compare.{AreCompared, AreNotCompared}
 use Rattle.cborc_commands.specs.Events.{IsListedOf, IsNotListedOf}
 use Rattle.cborc_commands.specs.Folder.{Files, KeepsFiles}
 use Rattle.cborc_commands.specs.Show.{IsShownOf, IsNotShown}
+use Rattle.cborc_commands.specs.ShowSequence.{IsSequenceShown, IsSequenceNotShown}
 use Rattle.cborc_commands.specs.declared.request.Request.{Request}
-use Rattle.cborc_commands.specs.declared.request.Request.TheVariants.{Check, CheckSequence, Canon, Compare, Show, Events}
+use Rattle.cborc_commands.specs.declared.request.Request.TheVariants.{Check, CheckSequence, Canon, CanonSequence, Compare, Show, ShowSequence, Events}
 use Rattle.cborc_commands.specs.declared.fault.Fault.{Fault}
 use Rattle.cborc_commands.specs.declared.status.Status.{Status}
 use Rattle.cborc_commands.specs.declared.status.Status.TheVariants.{Accepted}
@@ -19,7 +21,11 @@ IsDone (Check source accepted options) old new before after Accepted = IsChecked
 IsDone (CheckSequence source accepted options) old new before after Accepted =
     IsSequenceChecked (rules_of accepted) options source.now old before after × KeepsFiles old new
 IsDone (Canon source output order options) old new before after Accepted = IsCanonised order options source.now output old new before after
+IsDone (CanonSequence source output order options) old new before after Accepted =
+    IsSequenceCanonised order options source.now output old new before after
 IsDone (Show source layout options) old new before after Accepted = IsShownOf layout options source.now old before after × KeepsFiles old new
+IsDone (ShowSequence source layout options) old new before after Accepted =
+    IsSequenceShown layout options source.now old before after × KeepsFiles old new
 IsDone (Events source options) old new before after Accepted = IsListedOf options source.now old before after × KeepsFiles old new
 IsDone (Compare left right options) old new before after status = AreCompared options left.now right.now old before after status × KeepsFiles old new
 IsDone _ old new before after _ = ⊥
@@ -29,6 +35,8 @@ abbrev pub IsNotDone : Request → Option Files → Option (List ℕ) → Option
 IsNotDone (Check source accepted options) held before after fault = IsNotChecked (rules_of accepted) options source.now held fault
 IsNotDone (CheckSequence source accepted options) held before after fault = IsSequenceNotChecked (rules_of accepted) options source.now held fault
 IsNotDone (Canon source output order options) held before after fault = IsNotCanonised order options source.now output held fault
+IsNotDone (CanonSequence source output order options) held before after fault = IsSequenceNotCanonised order options source.now output held fault
 IsNotDone (Show source layout options) held before after fault = IsNotShown options source.now held fault
+IsNotDone (ShowSequence source layout options) held before after fault = IsSequenceNotShown layout options source.now held before after fault
 IsNotDone (Events source options) held before after fault = IsNotListedOf options source.now held before after fault
 IsNotDone (Compare left right options) held before after fault = AreNotCompared options left.now right.now held fault

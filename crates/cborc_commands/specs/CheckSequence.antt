@@ -1,15 +1,15 @@
 -- What `check --seq` asks of a file's bytes (RFC 8742).
-use Rattle.std.specs.Prelude.{ℕ, ◌+◌, ◌≡◌, ◌≢◌, ◌<◌, ◌++◌, List, [], length, Option, codes, decimal}
+use Rattle.std.specs.Prelude.{ℕ, ◌≡◌, ◌++◌, List, length, Option, codes, decimal}
 use Rattle.std.specs.Io.KnownBytes.{Appends}
 use Rattle.cbor_head.specs.Complaint.{Rules}
 use Rattle.cbor_head.specs.Spelling.{Spelling}
-use Rattle.cbor_head.specs.declared.reason.Reason.TheVariants.{Read, Memory}
 use Rattle.cbor_head.specs.declared.reason.Refusal.{Refusal}
 use Rattle.cbor_judging.specs.Readers.{IsUnread}
-use Rattle.cbor_reader.specs.Sequence.{sequence_bytes, StartsWithItems, EndsBefore}
+use Rattle.cbor_reader.specs.Sequence.{IsAccepted}
 use Rattle.cborc_commands.specs.Fault.{IsOfInput}
 use Rattle.cborc_commands.specs.Folder.{Files}
 use Rattle.cborc_commands.specs.Input.{IsInput, IsNoInput}
+use Rattle.cborc_commands.specs.Sequences.{AreAll, GoesOn}
 use Rattle.cborc_commands.specs.declared.request.Options.{Options}
 use Rattle.cborc_commands.specs.declared.fault.Fault.{Fault}
 use Rattle.cborc_commands.specs.declared.fault.Fault.TheVariants as faults
@@ -17,20 +17,15 @@ use Rattle.cborc_commands.specs.declared.fault.Fault.TheVariants as faults
 -- the whole input is a sequence of so many items, each accepted by the rules within depth d and n bytes
 pub record IsWholeSequence (d n : ℕ) (rules : Rules) (input : List ℕ) (count : ℕ) : Type 0 where
   pub items : List Spelling
-  pub starts : StartsWithItems d n rules input items []
+  pub all : AreAll (IsAccepted d n rules) n input items
   pub count_is : count ≡ length items
-  -- the limit would let an item have a byte
-  pub some : 0 < n
 
--- It isn't: behind the items before this one, counted from 1 and starting there, none is accepted.
+-- it isn't: behind items that are accepted comes, with this index and starting there, what is refused
 pub record IsRefusedAt (d n : ℕ) (rules : Rules) (input : List ℕ) (index start : ℕ) (f : Refusal) : Type 0 where
   pub items : List Spelling
   pub rest : List ℕ
-  pub starts : StartsWithItems d n rules input items rest
-  pub index_is : index ≡ length items + 1
-  pub start_is : start ≡ length (sequence_bytes items)
+  pub goes_on : GoesOn (IsAccepted d n rules) n input items rest index start
   pub unread : IsUnread d n rules rest f
-  pub begun : f.reason ≢ Read → f.reason ≢ Memory → ¬ EndsBefore n rest
 
 -- the line of a sequence that is accepted, of so many items
 abbrev pub accepted_items : ℕ → List ℕ

@@ -1,5 +1,6 @@
 pub mod Answer
 pub mod Canon
+pub mod CanonSequence
 pub mod Check
 pub mod CheckSequence
 pub mod Compare
@@ -10,5 +11,7 @@ pub mod Hex
 pub mod InMemory
 pub mod inner
 pub mod Input
+pub mod Sequences
 pub mod Show
+pub mod ShowSequence
 pub mod Told

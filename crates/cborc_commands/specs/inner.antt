@@ -1,4 +1,5 @@
 -- What private functions speak of; no public contract does.
 pub mod Explained
 pub mod Hex
+pub mod Items
 pub mod Parts

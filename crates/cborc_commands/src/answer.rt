@@ -8,6 +8,7 @@ ghost use Rattle.cborc_commands.specs.Folder.{KeepsFiles};
 ghost use Rattle.cborc_commands.specs.Told.{IsSilent, IsAnswered, IsAnsweredQuietly, IsToldBy};
 
 use crate::canon::canon;
+use crate::canon_sequence::canon_sequence;
 use crate::check::check;
 use crate::check_sequence::check_sequence;
 use crate::compare::compare;
@@ -18,6 +19,7 @@ use crate::folder::Folder;
 use crate::memory::{Kept, Memory};
 use crate::request::{Manner, Request, Task};
 use crate::show::show;
+use crate::show_sequence::show_sequence;
 use crate::status::Status;
 use std::alloc::Global;
 use std::io::{self, Write};
@@ -90,7 +92,7 @@ fn answer_quietly<F: Folder, O: Write>(
         (O.contents out.old) (O.contents out.new) result }
 {
     match request {
-        Request::Canon { .. } => {
+        Request::Canon { .. } | Request::CanonSequence { .. } => {
             let ended = answer(alloc, request, files, out);
             end(flushed(ended, out), &mut io::sink())
         }
@@ -171,12 +173,29 @@ fn answer<'a, F: Folder, O: Write>(
             canon(alloc, files, out, source, *output, *order, *options)?;
             Ok(Status::Accepted)
         }
+        Request::CanonSequence {
+            source,
+            output,
+            order,
+            options,
+        } => {
+            canon_sequence(alloc, files, out, source, *output, *order, *options)?;
+            Ok(Status::Accepted)
+        }
         Request::Show {
             source,
             layout,
             options,
         } => {
             show(alloc, files, out, source, *layout, *options)?;
+            Ok(Status::Accepted)
+        }
+        Request::ShowSequence {
+            source,
+            layout,
+            options,
+        } => {
+            show_sequence(alloc, files, out, source, *layout, *options)?;
             Ok(Status::Accepted)
         }
         Request::Events { source, options } => {

@@ -40,8 +40,8 @@ pub fn canon<'a, F: Folder, O: Write>(
     put(files, out, path, text.as_slice())
 }
 
-// The canonical bytes of the item that all the bytes are, in the form that is asked for.
-fn canonical_text<'a>(
+/// The canonical bytes of the item that all the bytes are, in the form that is asked for.
+pub(crate) fn canonical_text<'a>(
     alloc: Global,
     bytes: &[u8],
     limits: Limits,
@@ -71,8 +71,8 @@ fn hex_line(alloc: Global, bytes: &[u8]) -> Result<Vec<u8>, AllocError>
     Ok(text)
 }
 
-// Puts the text where it belongs: for the path `-` behind what standard output took.
-fn put<'a, F: Folder, O: Write>(
+/// Puts the text where it belongs: for the path `-` behind what standard output took.
+pub(crate) fn put<'a, F: Folder, O: Write>(
     files: &mut F,
     out: &mut O,
     path: &'a str,

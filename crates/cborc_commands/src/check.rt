@@ -2,6 +2,7 @@
 
 ghost use Rattle.std.specs.Prelude.{◌≡◌, ◌≢◌, OnOk, IfOk, IfErr};
 ghost use Rattle.std.specs.Io.KnownBytes.{Appends};
+ghost use Rattle.cbor_judging.specs.Readers.{IsRead, IsUnread};
 ghost use Rattle.cborc_commands.specs.Check.{rules_of, accepted_bytes, IsWhole, IsNotWhole, IsChecked, IsNotChecked};
 ghost use Rattle.cborc_commands.specs.Folder.{KeepsFiles};
 
@@ -61,10 +62,7 @@ fn size_of_item(
     ensures refused { IfErr result
         (IsNotWhole limits.depth limits.bytes (rules_of accepted) bytes.now) }
 {
-    let size = match accepted {
-        Accepted::Valid => check_valid(alloc, bytes, limits)?,
-        Accepted::Canonical(order) => check_canonical(bytes, limits, order)?,
-    };
+    let size = size_at_front(alloc, bytes, accepted, limits)?;
     if size == bytes.len() as u64 {
         Ok(size)
     } else {
@@ -73,5 +71,23 @@ fn size_of_item(
             place: size,
             read: size,
         })
+    }
+}
+
+/// How many bytes the item has that the bytes begin with.
+pub(crate) fn size_at_front(
+    alloc: Global,
+    bytes: &[u8],
+    accepted: Accepted,
+    limits: Limits,
+) -> Result<u64, Refusal>
+    ensures accepted { IfOk result
+        (IsRead limits.depth limits.bytes (rules_of accepted) bytes.now) }
+    ensures refused { IfErr result
+        (IsUnread limits.depth limits.bytes (rules_of accepted) bytes.now) }
+{
+    match accepted {
+        Accepted::Valid => check_valid(alloc, bytes, limits),
+        Accepted::Canonical(order) => check_canonical(bytes, limits, order),
     }
 }

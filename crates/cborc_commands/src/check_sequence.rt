@@ -1,22 +1,23 @@
 //! `check --seq`: whether a file is a sequence of items (RFC 8742).
 
-ghost use Rattle.std.specs.Prelude.{◌≡◌, ◌≢◌, ◌+◌, ◌^◌, ◌<◌, ℕ, List, length, OnOk, IfOk, IfErr, None, true, false};
+ghost use Rattle.std.specs.Prelude.{◌≡◌, ◌≢◌, ℕ, List, [], Option, OnOk, IfErr};
 ghost use Rattle.std.specs.Io.KnownBytes.{Appends};
-ghost use Rattle.cbor_reader.specs.Sequence.{IfGiven, IfRefused, is_last, IsAtEnd, IsRefused};
+ghost use Rattle.cbor_reader.specs.Sequence.{IsAccepted};
 ghost use Rattle.cborc_commands.specs.Check.{rules_of};
-ghost use Rattle.cborc_commands.specs.CheckSequence.{accepted_items, IsWholeSequence, IsRefusedAt};
-ghost use Rattle.cborc_commands.specs.inner.Parts.{HasCounted};
+ghost use Rattle.cborc_commands.specs.CheckSequence.{accepted_items};
 ghost use Rattle.cborc_commands.specs.CheckSequence.{IsSequenceChecked, IsSequenceNotChecked};
 ghost use Rattle.cborc_commands.specs.Folder.{KeepsFiles};
+ghost use Rattle.cborc_commands.specs.inner.Items.{IsUncounted};
 
+use crate::check::size_at_front;
 use crate::fault::Fault;
 use crate::folder::Folder;
 use crate::input;
 use crate::request::{Accepted, Options};
-use cbor_head::{Limits, Refusal};
-use cbor_reader::SequenceItems;
+use crate::sequence::{ItemWriter, write_items};
+use cbor_head::Limits;
 use std::alloc::Global;
-use std::io::{Read, Write};
+use std::io::{self, Write};
 
 /// Writes to `out` how many items the sequence has that the file `source` is.
 pub fn check_sequence<'a, F: Folder, O: Write>(
@@ -37,10 +38,9 @@ pub fn check_sequence<'a, F: Folder, O: Write>(
 {
     let limits = options.limits;
     let bytes = input::read_all(alloc, files, source, options)?;
-    match count_items(alloc, bytes.as_slice(), accepted, limits) {
-        Ok(count) => tell(out, count),
-        Err(item) => Err(Fault::of_item(item.index, item.start, item.refusal)),
-    }
+    let counted = CountedItems { accepted };
+    let count = write_items(alloc, &counted, bytes.as_slice(), limits, &mut io::sink())?;
+    tell(out, count)
 }
 
 // Writes the line of a sequence that is accepted, of so many items.
@@ -55,82 +55,29 @@ fn tell<'a, O: Write>(out: &mut O, count: usize) -> Result<(), Fault<'a>>
     }
 }
 
-// An item of a sequence, counted from 1, that is refused.
+// Items that are only counted.
 #[derive(Clone, Copy)]
-struct RefusedItem {
-    index: usize,
-    // Where it starts in the input.
-    start: usize,
-    refusal: Refusal,
-}
-
-// How many items the sequence has that all the bytes are; or which one is refused.
-fn count_items(
-    alloc: Global,
-    bytes: &[u8],
+struct CountedItems {
+    // Which ones are accepted.
     accepted: Accepted,
-    limits: Limits,
-) -> Result<usize, RefusedItem>
-    ensures whole { IfOk result
-        (IsWholeSequence limits.depth limits.bytes (rules_of accepted) bytes.now) }
-    ensures refused { IfErr result (λ item. IsRefusedAt limits.depth limits.bytes
-        (rules_of accepted) bytes.now item.index item.start item.refusal) }
-{
-    has_a_length(bytes);
-    let mut rest = bytes;
-    let mut items = SequenceItems::new(alloc, limits);
-    let mut count = 0;
-    let mut start = 0;
-    while let Some(answer) = skip_item(&mut items, &mut rest, accepted) {
-        match answer {
-            Ok(()) => {
-                count += 1;
-                start = bytes.len() - rest.len();
-            }
-            Err(refusal) => {
-                return Err(RefusedItem {
-                    index: count + 1,
-                    start,
-                    refusal,
-                });
-            }
-        }
-    }
-    Ok(count)
 }
 
-// The length of a slice is a number, and so is one more.
-fn has_a_length(bytes: &[u8])
-    ensures { length bytes.now + 1 < 2 ^ 64 }
-{
-    let _ = bytes.len();
-}
+impl ItemWriter for CountedItems {
+    ghost takes = { λ counted b. IsAccepted b.depth b.bytes (rules_of counted.accepted) };
 
-// Reads the next item, by the rules that are asked for, and drops it.
-fn skip_item<R: Read>(
-    items: &mut SequenceItems,
-    reader: &mut R,
-    accepted: Accepted,
-) -> Option<Result<(), Refusal>>
-    ensures item { IfGiven result (λ _. (input : List ℕ) (count : ℕ)
-        → HasCounted items.old.limits (rules_of accepted) (R.remaining reader.old) input count
-        → HasCounted items.old.limits (rules_of accepted) (R.remaining reader.new)
-        input (count + 1)) }
-    ensures end { result ≡ None → items.old.finished ≡ false
-        → IsAtEnd items.old.limits.bytes (R.remaining reader.old) (R.remaining reader.new) }
-    ensures refused { IfRefused result (IsRefused (rules_of accepted) items.old.limits
-        (R.remaining reader.old) (R.remaining reader.new)) }
-    ensures limits { items.new.limits ≡ items.old.limits }
-    ensures finished { items.new.finished ≡ is_last result }
-{
-    match accepted {
-        Accepted::Valid => match items.next(reader)? {
-            Ok(_) => Some(Ok(())),
-            Err(refusal) => Some(Err(refusal)),
-        },
-        Accepted::Canonical(order) => match items.next_strict(reader, order)? {
-            Ok(_) => Some(Ok(())),
-            Err(refusal) => Some(Err(refusal)),
-        },
+    ghost text = { λ _ _. [] };
+
+    ghost stops = { λ counted b bytes fault before after.
+        IsUncounted b (rules_of counted.accepted) bytes fault };
+
+    fn write_item<'f, W: Write>(
+        &self,
+        alloc: Global,
+        bytes: &[u8],
+        limits: Limits,
+        _out: &mut W,
+    ) -> Result<usize, Fault<'f>> {
+        let size = size_at_front(alloc, bytes, self.accepted, limits)?;
+        Ok(size as usize)
     }
 }

@@ -1,20 +1,22 @@
 //! What the line of a fault means, and what to do.
 
 ghost use Rattle.std.specs.Prelude.{◌≡◌};
-ghost use Rattle.cborc_commands.specs.inner.Explained.{cause_text, options_of};
+ghost use Rattle.cborc_commands.specs.inner.Explained.{cause_text, memory_text, options_of};
+ghost use Rattle.cborc_commands.specs.inner.Explained.{reads_whole, right_of, source_of};
 
 use crate::fault::Fault;
-use crate::folder::Folder;
+use crate::folder::{Cause, Folder, is_stream};
 use crate::hex_text::{decode_hex, write_digits};
 use crate::memory::Memory;
 use crate::request::{Options, Request};
+use crate::visible::Visible;
 use cbor_explain::write_sentences;
 use cbor_head::Refusal;
 use std::alloc::Global;
 use std::io::{self, ErrorKind, Write};
 
-/// Writes what the line of a fault means and what to do, and of a refusal the bytes around its
-/// place and the way there. What was read for the request stands in the memory.
+/// Writes what the line of a fault means and what to do, and of a refusal the file, the bytes around
+/// its place and the way there. What was read for the request stands in the memory.
 pub fn explain<F: Folder, E: Write>(
     alloc: Global,
     request: &Request<'_>,
@@ -24,18 +26,23 @@ pub fn explain<F: Folder, E: Write>(
 ) -> io::Result<()> {
     let options = options_of(request);
     match fault {
-        Fault::Refused(refusal) | Fault::RightRefused(refusal) => {
+        Fault::Refused(refusal) => {
+            write_file(source_of(request), None, err)?;
+            explain_refusal(alloc, memory.last(), options, 0, *refusal, err)
+        }
+        Fault::RightRefused(refusal) => {
+            write_file(right_of(request), None, err)?;
             explain_refusal(alloc, memory.last(), options, 0, *refusal, err)
         }
         Fault::LeftRefused(refusal) => {
+            write_file(source_of(request), None, err)?;
             explain_refusal(alloc, memory.earlier(), options, 0, *refusal, err)
         }
         Fault::RefusedItem { start, refusal, .. } => {
+            write_file(source_of(request), Some(*start), err)?;
             explain_refusal(alloc, memory.last(), options, *start, *refusal, err)
         }
-        Fault::CannotRead(_) | Fault::CannotWrite(_) => {
-            writeln!(err, "  {}", cause_text(memory.cause()))
-        }
+        Fault::CannotRead(_) | Fault::CannotWrite(_) => write_cause(memory.cause(), err),
         Fault::NotHex(_) => {
             writeln!(
                 err,
@@ -44,8 +51,83 @@ pub fn explain<F: Folder, E: Write>(
             write_digits(memory.last().unwrap_or(&[]), err)
         }
         Fault::CannotPrint => writeln!(err, "  It is closed or full, or was closed early."),
-        Fault::Memory => writeln!(err, "  A lower --bytes asks for less memory."),
+        Fault::Memory => writeln!(err, "  {}", memory_text(reads_whole(request))),
         Fault::NotText => Ok(()),
+    }
+}
+
+// Writes which file is refused, and of an item of a sequence where it starts there.
+fn write_file<E: Write>(path: &str, start: Option<usize>, err: &mut E) -> io::Result<()> {
+    if is_stream(path) {
+        write!(err, "  in standard input")?;
+    } else {
+        write!(err, "  in {}", Visible(path))?;
+    }
+    match start {
+        Some(start) => writeln!(err, ", where the item starts at {start}"),
+        None => writeln!(err),
+    }
+}
+
+// Writes what kept a file from being read or written.
+fn write_cause<E: Write>(cause: Option<Cause>, err: &mut E) -> io::Result<()> {
+    match cause {
+        Some(Cause { kind, beside: true }) => writeln!(
+            err,
+            "  A new file beside it was not to be made. {}",
+            cause_text(Some(kind))
+        ),
+        Some(Cause { kind, .. }) => writeln!(err, "  {}", cause_text(Some(kind))),
+        None => writeln!(err, "  {}", cause_text(None)),
+    }
+}
+
+// The path of the file that a request reads, or reads first.
+fn source_of<'a>(request: &Request<'a>) -> &'a str
+    ensures { result.now ≡ source_of request.now }
+{
+    match request {
+        Request::Check { source, .. }
+        | Request::CheckSequence { source, .. }
+        | Request::Show { source, .. }
+        | Request::ShowSequence { source, .. }
+        | Request::Events { source, .. }
+        | Request::Canon { source, .. }
+        | Request::CanonSequence { source, .. } => source,
+        Request::Compare { left, .. } => left,
+    }
+}
+
+// The path of the file that it reads last.
+fn right_of<'a>(request: &Request<'a>) -> &'a str
+    ensures { result.now ≡ right_of request.now }
+{
+    match request {
+        Request::Compare { right, .. } => right,
+        _ => source_of(request),
+    }
+}
+
+// Whether a request holds its whole input, whatever the limit on an item is.
+fn reads_whole(request: &Request<'_>) -> bool
+    ensures { result ≡ reads_whole request.now }
+{
+    match request {
+        Request::CheckSequence { .. }
+        | Request::ShowSequence { .. }
+        | Request::CanonSequence { .. } => true,
+        _ => options_of(request).hex,
+    }
+}
+
+// What asks for less memory.
+fn memory_text(reads_whole: bool) -> &'static str
+    ensures { result.now ≡ memory_text reads_whole }
+{
+    if reads_whole {
+        "The whole input is held here, whatever --bytes is: a part of it asks for less."
+    } else {
+        "A lower --bytes asks for less memory."
     }
 }
 
@@ -57,8 +139,10 @@ fn options_of(request: &Request<'_>) -> Options
         Request::Check { options, .. }
         | Request::CheckSequence { options, .. }
         | Request::Show { options, .. }
+        | Request::ShowSequence { options, .. }
         | Request::Events { options, .. }
         | Request::Canon { options, .. }
+        | Request::CanonSequence { options, .. }
         | Request::Compare { options, .. } => *options,
     }
 }
@@ -111,6 +195,8 @@ fn cause_text(cause: Option<ErrorKind>) -> &'static str
         Some(ErrorKind::ReadOnlyFilesystem) => "The file system is read-only.",
         Some(ErrorKind::StorageFull) | Some(ErrorKind::QuotaExceeded) => "The disk is full.",
         Some(ErrorKind::InvalidInput) => "The path has a NUL.",
+        Some(ErrorKind::InvalidFilename) => "The name is too long.",
+        Some(ErrorKind::FilesystemLoop) => "Links lead round in a circle.",
         _ => "The cause is not known.",
     }
 }

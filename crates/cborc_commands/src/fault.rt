@@ -69,11 +69,11 @@ impl<'a> Fault<'a> {
         }
     }
 
-    /// The fault of an item of a sequence, of this number and starting there, that is refused.
-    pub fn of_item(index: usize, start: usize, refusal: Refusal) -> Fault<'a>
-        ensures { result ≡ at_item index start (refusal_fault refusal) }
+    /// The fault, told of the item of this number of a sequence, which starts there in the input.
+    pub fn at_item(self, index: usize, start: usize) -> Fault<'a>
+        ensures { result ≡ at_item index start self.entry }
     {
-        match Fault::from(refusal) {
+        match self {
             Fault::Refused(refusal) => Fault::RefusedItem {
                 index,
                 start,

@@ -16,6 +16,15 @@ pub enum FileFault {
     Memory,
 }
 
+/// What a call met that failed.
+#[derive(Clone, Copy, Debug, PartialEq, Eq)]
+pub struct Cause {
+    /// The kind of its error.
+    pub kind: ErrorKind,
+    /// Whether it is that of a new file beside the one to be written, which was to take its place.
+    pub beside: bool,
+}
+
 /// Files by their paths. The path `-` is standard input where it is read, and is not written.
 pub trait Folder {
     // What each path holds, where the folder tells.
@@ -47,8 +56,8 @@ pub trait Folder {
         Ok(bytes)
     }
 
-    /// What kind of error the last call met that failed, if the folder tells.
-    fn cause(&self) -> Option<ErrorKind> {
+    /// What the last call met that failed, if the folder tells.
+    fn cause(&self) -> Option<Cause> {
         None
     }
 }

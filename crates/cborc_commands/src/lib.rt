@@ -8,6 +8,7 @@
 
 mod answer;
 pub mod canon;
+pub mod canon_sequence;
 pub mod check;
 pub mod check_sequence;
 pub mod compare;
@@ -21,14 +22,16 @@ mod in_memory;
 mod input;
 mod memory;
 mod request;
+mod sequence;
 pub mod show;
+pub mod show_sequence;
 mod status;
 mod visible;
 
 pub use answer::{end, flushed, perform};
 pub use fault::Fault;
 pub use files_in_memory::FilesInMemory;
-pub use folder::{FileFault, Folder, is_stream};
+pub use folder::{Cause, FileFault, Folder, is_stream};
 pub use in_memory::canon_in_memory;
 pub use request::{Accepted, Form, Layout, Manner, Options, Output, Request, Task};
 pub use status::Status;

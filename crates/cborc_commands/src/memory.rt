@@ -3,9 +3,8 @@
 ghost use Rattle.std.specs.Prelude.{◌≡◌, Some, IfOk, MatchResult};
 ghost use Rattle.cborc_commands.specs.Folder.{Holds, StartsFile, KeepsFiles, WritesFile};
 
-use crate::folder::{FileFault, Folder};
+use crate::folder::{Cause, FileFault, Folder};
 use std::alloc::Global;
-use std::io::ErrorKind;
 
 /// The last two things that were read.
 #[derive(Drop)]
@@ -81,7 +80,7 @@ impl<'a, F: Folder> Folder for Memory<'a, F> {
         self.files.write(path, bytes)
     }
 
-    fn cause(&self) -> Option<ErrorKind> {
+    fn cause(&self) -> Option<Cause> {
         self.files.cause()
     }
 }

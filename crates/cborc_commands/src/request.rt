@@ -52,6 +52,15 @@ pub enum Request<'a> {
         /// How the file is read.
         options: Options,
     },
+    /// The diagnostic text of each item of a sequence in a file.
+    ShowSequence {
+        /// The path of the file to read.
+        source: &'a str,
+        /// How the text is laid out.
+        layout: Layout,
+        /// How the file is read.
+        options: Options,
+    },
     /// The events of the item in a file.
     Events {
         /// The path of the file to read.
@@ -61,6 +70,17 @@ pub enum Request<'a> {
     },
     /// The canonical bytes of the item in one file, written to another.
     Canon {
+        /// The path of the file to read.
+        source: &'a str,
+        /// Where the canonical bytes belong, and in which form.
+        output: Output<'a>,
+        /// The order of keys in the canonical bytes.
+        order: KeyOrder,
+        /// How the file is read.
+        options: Options,
+    },
+    /// The canonical bytes of each item of a sequence in one file, written to another.
+    CanonSequence {
         /// The path of the file to read.
         source: &'a str,
         /// Where the canonical bytes belong, and in which form.

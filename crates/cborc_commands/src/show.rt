@@ -54,8 +54,8 @@ fn tree_of(alloc: Global, bytes: &[u8], limits: Limits) -> Result<Tree, Refusal>
     }
 }
 
-// Writes the text of the tree and a line feed.
-fn print<'a, O: Write>(tree: &Tree, layout: Layout, out: &mut O) -> Result<(), Fault<'a>>
+/// Writes the text of the tree and a line feed.
+pub(crate) fn print<'a, O: Write>(tree: &Tree, layout: Layout, out: &mut O) -> Result<(), Fault<'a>>
     ensures shown { OnOk result
         (IsShown layout tree.now (O.contents out.old) (O.contents out.new)) }
     ensures fault { IfErr result (λ fault. fault ≡ Fault.CannotPrint) }

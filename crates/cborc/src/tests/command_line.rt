@@ -4,7 +4,7 @@ use super::ran;
 use std::alloc::AllocError;
 
 // The options stand before or behind the files.
-static CANON: [&str; 15] = [
+static CANON: [&str; 17] = [
     "canon in out",
     "canon --hex in out",
     "canon in --hex out",
@@ -18,6 +18,8 @@ static CANON: [&str; 15] = [
     "canon --order bytewise in out",
     "canon in --order=length out",
     "canon in out --hex --order length",
+    "canon --seq in out",
+    "canon in out --order length --seq --bytes 1",
     "canon -- in out",
     "canon --hex -- in out",
 ];
@@ -44,7 +46,7 @@ static CHECK_SEQUENCE: [&str; 5] = [
 ];
 
 // The words, and what standard error begins with.
-static FAULTS: [(&str, &str); 44] = [
+static FAULTS: [(&str, &str); 46] = [
     (
         "compare",
         "error: the following required arguments were not provided:\n  <A>\n  <B>\n",
@@ -191,8 +193,16 @@ static FAULTS: [(&str, &str); 44] = [
         "error: the argument '--seq' cannot be used multiple times\n",
     ),
     (
-        "canon --seq in out",
+        "compare --seq a b",
         "error: unexpected argument '--seq' found\n",
+    ),
+    (
+        "canon --seq --seq in out",
+        "error: the argument '--seq' cannot be used multiple times\n",
+    ),
+    (
+        "show --seq=1 in",
+        "error: unexpected value '1' for '--seq' found; no more were expected\n",
     ),
     (
         "check --order in",

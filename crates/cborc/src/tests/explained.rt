@@ -6,6 +6,7 @@ use std::alloc::AllocError;
 
 const FLOAT: &str = "\
 refused 5 Float at 5
+  in in
   A floating-point number begins here; floats are not part of this profile.
   Write it as an integer, a text, or a tag over integers.
   bytes from 0: a1 61 61 82 00 f9 00 00
@@ -15,6 +16,7 @@ refused 5 Float at 5
 
 const REPEATED: &str = "\
 refused 11 RepeatedKey at 4
+  in in
   This key is the same as an earlier key of its map.
   Leave out one of the two pairs.
   bytes from 0: a2 61 61 00 61 61 01
@@ -24,6 +26,7 @@ refused 11 RepeatedKey at 4
 
 const TRUNCATED: &str = "\
 refused 1 Truncated at 3
+  in in
   The input ends within the item.
   Look whether the input was cut, or a length is wrong.
   bytes from 0: d8 18 82
@@ -33,6 +36,7 @@ refused 1 Truncated at 3
 
 const TRAILING: &str = "\
 refused 12 Trailing at 19
+  in in
   The item is complete, and a byte follows it.
   For several items in a row there is check --seq.
   bytes from 11: 00 00 00 00 00 00 00 00 01
@@ -42,6 +46,18 @@ refused 12 Trailing at 19
 
 const OF_SEQUENCE: &str = "\
 item 3 refused 7 StrayBreak at 1
+  in in, where the item starts at 4
+  A break (ff) stands where an item must begin.
+  Look whether a length is wrong, or the value of a key is missing.
+  bytes from 0: 81 ff
+                   ^^
+  at $[0]
+";
+
+// Of standard input: hex text, with white space in it.
+const OF_STREAM: &str = "\
+item 3 refused 7 StrayBreak at 1
+  in standard input, where the item starts at 4
   A break (ff) stands where an item must begin.
   Look whether a length is wrong, or the value of a key is missing.
   bytes from 0: 81 ff
@@ -51,6 +67,7 @@ item 3 refused 7 StrayBreak at 1
 
 const TEXT: &str = "\
 refused 10 InvalidText at 3
+  in in
   A text string, or a chunk of one, is not UTF-8 from here on.
   Write the text in UTF-8, or its bytes as a byte string.
   bytes from 0: 81 62 61 ff
@@ -61,6 +78,7 @@ refused 10 InvalidText at 3
 // Behind a string in chunks.
 const RESERVED: &str = "\
 refused 3 Reserved at 5
+  in in
   No item begins with this byte: its low five bits are reserved.
   The input may be no CBOR, or hex text, which needs --hex.
   bytes from 0: 82 7f 61 61 ff 1c
@@ -81,7 +99,7 @@ not hex: in
 ";
 
 // The words, the file as hex (with `--hex` its text), and what stands on standard error.
-static EXPLAINED: [(&str, &str, &str); 8] = [
+static EXPLAINED: [(&str, &str, &str); 10] = [
     ("check --explain in", "a161618200f90000", FLOAT),
     ("canon --explain in out", "a2616100616101", REPEATED),
     ("show --explain in", "d81882", TRUNCATED),
@@ -91,6 +109,12 @@ static EXPLAINED: [(&str, &str, &str); 8] = [
         TRAILING,
     ),
     ("check --seq --explain in", "0082010281ff", OF_SEQUENCE),
+    ("canon --seq --explain in -", "0082010281ff", OF_SEQUENCE),
+    (
+        "show --seq --explain --hex -",
+        " 0\n0 820102 81 ff",
+        OF_STREAM,
+    ),
     ("check --explain in", "816261ff", TEXT),
     ("events --explain in", "827f6161ff1c", RESERVED),
     (
@@ -122,9 +146,18 @@ fn explains_text_that_is_no_hex(rt: HostRuntime) -> Result<(), AllocError> {
 fn explains_either_side(rt: HostRuntime) -> Result<(), AllocError> {
     let alloc = rt.alloc();
     let left = ran(alloc, "compare --explain a b", "1f / 00")?;
+    assert!(rt;
+        left.err
+            .starts_with(b"left refused 4 NoIndefinite at 0\n  in a\n")
+    );
     let shown = b"bytes from 0: 1f\n".as_slice();
     assert!(rt; left.err.windows(shown.len()).any(|part| part == shown));
     let right = ran(alloc, "compare --explain a b", "00 / 1e")?;
+    assert!(rt;
+        right
+            .err
+            .starts_with(b"right refused 3 Reserved at 0\n  in b\n")
+    );
     let shown = b"bytes from 0: 1e\n".as_slice();
     assert!(rt; right.err.windows(shown.len()).any(|part| part == shown));
     Ok(())

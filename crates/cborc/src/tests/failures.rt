@@ -58,7 +58,7 @@ fn standard_error_fails(rt: HostRuntime) -> Result<(), AllocError> {
 }
 
 // The words, and how many bytes standard output takes of what they print of a file that holds 0.
-static PRINTED: [(&str, usize); 16] = [
+static PRINTED: [(&str, usize); 19] = [
     ("help", 0),
     ("help", 1),
     ("help", 20),
@@ -73,6 +73,9 @@ static PRINTED: [(&str, usize); 16] = [
     ("show in", 0),
     ("show in", 1),
     ("show --indent in", 1),
+    ("show --seq in", 0),
+    ("show --seq in", 1),
+    ("canon --seq in -", 0),
     ("events in", 0),
     ("events in", 14),
 ];

@@ -9,10 +9,10 @@ Reads and writes deterministic CBOR (RFC 8949, section 4.2)
 Usage: cborc <COMMAND>
 
 Commands:
-  show     Writes the diagnostic text of the item in FILE
+  show     Writes the diagnostic text of the item in FILE, or of each of a sequence
   events   Writes a line for each event of the item in FILE
   check    Checks that FILE is one valid item, or a sequence of them
-  canon    Writes the canonical bytes of the item in IN to OUT
+  canon    Writes the canonical bytes of the item in IN, or of each of a sequence, to OUT
   compare  Says whether the items in A and B have the same value
   help     Print this message or the help of the given subcommand(s)
 
@@ -32,6 +32,7 @@ Examples:
   cborc events --hex message.hex
   cborc check --strict --explain message.cbor
   cborc canon message.cbor - | sha256sum
+  cborc show --seq records.cbor
   cborc compare old.cbor new.cbor
 ";
 
@@ -43,16 +44,17 @@ Proved with rattle-kit-13b: each function is safe, returns, and meets its contra
 ";
 
 const HELP_OF_CANON: &str = "\
-Writes the canonical bytes of the item in IN to OUT
+Writes the canonical bytes of the item in IN, or of each of a sequence, to OUT
 
 Usage: cborc canon [OPTIONS] <IN> <OUT>
 
 Arguments:
-  <IN>   The file to read: one item, or - for standard input
+  <IN>   The file to read, or - for standard input
   <OUT>  The file to write, or - for standard output
 
 Options:
       --hex-out        Write hex digits, two for each byte, and a line feed
+      --seq            Read a sequence of items, with the limits on each
       --order <order>  The order of map keys [default: bytewise] [possible values: bytewise, length]
       --depth <count>  How deep arrays, maps and tags may nest, 0 to 256 [default: 256]
       --bytes <count>  How many bytes an item may have, 0 to 4611686018427387904 [default: 1048576]

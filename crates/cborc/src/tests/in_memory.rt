@@ -17,7 +17,7 @@ fn files(alloc: Global, input: &[u8]) -> Result<FilesInMemory, AllocError> {
 }
 
 // The words, the file `in` before, the status, and what `in` and `out` hold afterwards.
-static ROWS: [(&str, &[u8], u8, &[u8], &[u8]); 15] = [
+static ROWS: [(&str, &[u8], u8, &[u8], &[u8]); 18] = [
     ("canon in out", b"\x18\x00", 0, b"\x18\x00", b"\x00"),
     ("canon in in", b"\x18\x00", 0, b"\x00", b"\x05"),
     (
@@ -37,6 +37,15 @@ static ROWS: [(&str, &[u8], u8, &[u8], &[u8]); 15] = [
     ),
     ("canon --quiet in out", b"\x18\x00", 0, b"\x18\x00", b"\x00"),
     ("canon in -", b"\x18\x00", 0, b"\x18\x00", b"\x05"),
+    (
+        "canon --seq in out",
+        b"\x18\x00\x20",
+        0,
+        b"\x18\x00\x20",
+        b"\x00\x20",
+    ),
+    ("canon --seq in in", b"\x18\x00", 0, b"\x00", b"\x05"),
+    ("canon --seq in out", b"\x00\xff", 1, b"\x00\xff", b"\x05"),
     ("canon in out", b"\x00\x00", 1, b"\x00\x00", b"\x05"),
     ("canon in in", b"\xff", 1, b"\xff", b"\x05"),
     ("canon --explain in out", b"\xff", 1, b"\xff", b"\x05"),

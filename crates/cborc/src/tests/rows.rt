@@ -13,7 +13,7 @@ use std::test::Fail;
 // 4. What is written to standard output, or by `canon` to `out`: a line, or the bytes as hex digits
 //    where `canon` writes them.
 // 5. The line on standard error, if there is one.
-static ROWS: [&str; 147] = [
+static ROWS: [&str; 187] = [
     // What `events` prints: a line for each event, those before a refusal too.
     "events in | bf6346756ef563416d7421ff | 0 | 0 map - -\n1 text 3 0\n5 simple 21 0\n6 text 3 0\n10 negative 1 0\n11 end - -",
     "events in | 5f42010243030405ff | 0 | 0 bytes - -\n1 chunk 2 0\n4 chunk 3 0\n8 end - -",
@@ -56,6 +56,44 @@ static ROWS: [&str; 147] = [
     "check --seq --strict in | 009fff | 1 |  | item 2 refused 15 Indefinite at 0", // 0, [] without length
     "check --seq --strict --order length in | a21864002000 | 1 |  | item 1 refused 16 KeyOrder at 4", // {100: 0, -1: 0}
     "check --seq --strict --order bytewise in | 00a22000186400 | 1 |  | item 2 refused 16 KeyOrder at 3", // 0, {-1: 0, 100: 0}
+    // The canonical bytes of each item of a sequence, one behind another: all of them or none.
+    "canon --seq in out |  | 0 | ",
+    "canon --seq in out | 1800 | 0 | 00", // 0 in two bytes
+    "canon --seq in out | 18007f657374726561646d696e67ffbf190003040102ff | 0 | 006973747265616d696e67a201020304", // 0, "streaming", {3: 4, 1: 2}
+    "canon in out --seq --order length | a8626161010a021864032004617a0581186406812007f40800 | 0 | a80a022004f408186403617a05812007626161018118640600",
+    "canon --seq --order bytewise in out | a8626161010a021864032004617a0581186406812007f40800 | 0 | a80a021864032004617a056261610181186406812007f40800",
+    "canon --seq --bytes 2 in out | 180081001864 | 0 | 0081001864", // 0, [0], 100
+    "canon --seq --hex in out | 18 00\n9fff\n | 0 | 0080",
+    "canon --seq - - | 18009fff | 0 | 0080",
+    "canon --seq --hex-out in - | 18009fff | 0 | 00\n80", // a line an item
+    "canon --seq --quiet in out | 18009fff | 0 | 0080",
+    "canon --seq --quiet in - | 18009fff | 0 | 0080",
+    "canon --seq --quiet in out | 00ff | 1 | ",
+    "canon --seq in out | 00810118 | 1 |  | item 3 refused 1 Truncated at 1", // 0, [1], and a number that is cut off
+    "canon --seq in out | 00a201000100 | 1 |  | item 2 refused 11 RepeatedKey at 3", // 0, {1: 0, 1: 0}
+    "canon --seq --bytes 1 in out | 00011864 | 1 |  | item 3 refused 2 TooLong at 1", // 0, 1, 100 in two bytes
+    "canon --seq --bytes 0 in out |  | 1 |  | item 1 refused 2 TooLong at 0",
+    "canon --seq --depth 1 in - | 808180 | 1 |  | item 2 refused 9 TooDeep at 1", // [], [[]]
+    "canon --seq in - | 00ff00 | 1 |  | item 2 refused 7 StrayBreak at 0", // 0, a break, 0
+    "canon --seq absent out | 00 | 3 |  | cannot read absent",
+    "canon --seq in locked | 00 | 3 |  | cannot write locked",
+    "canon --seq in locked | 00ff | 1 |  | item 2 refused 7 StrayBreak at 0",
+    "canon --seq in full | 00 | 3 |  | out of memory",
+    "canon --seq --hex in out | 0 | 3 |  | not hex: in",
+    // The text of each item of a sequence, a line an item; those before a refusal stay.
+    "show --seq in |  | 0 | ",
+    "show --seq in | 00 | 0 | 0",
+    "show in --seq | 001bffffffffffffffff820001 | 0 | 0\n18446744073709551615\n[0, 1]",
+    "show --seq --bytes 1 in | 000120 | 0 | 0\n1\n-1",
+    "show --seq --hex - | 00 01\n | 0 | 0\n1",
+    "show --seq --indent in | 820181028000 | 0 | [\n  1,\n  [\n    2\n  ]\n]\n[]\n0",
+    "show --seq in | 00810118 | 1 | 0\n[1] | item 3 refused 1 Truncated at 1", // 0, [1], and a number that is cut off
+    "show --seq in | ff | 1 |  | item 1 refused 7 StrayBreak at 0",
+    "show --seq --bytes 0 in |  | 1 |  | item 1 refused 2 TooLong at 0",
+    "show --seq in | 00a201000100 | 1 | 0 | item 2 refused 11 RepeatedKey at 3", // 0, {1: 0, 1: 0}
+    "show --seq --quiet in | 00ff | 1 | ",
+    "show --seq absent | 00 | 3 |  | cannot read absent",
+    "show --seq --hex in | 0 | 3 |  | not hex: in",
     // `compare`: files of one value, of different values, and refused.
     "compare a b | a201020304 / bf190003040102ff | 0 | same", // {1: 2, 3: 4}
     "compare a b | 5f4161ff / 4161 | 0 | same", // h'61'
@@ -171,6 +209,10 @@ static ROWS: [&str; 147] = [
     "check --seq --explain silent | 00 | 3 |  | cannot read silent\n  The cause is not known.",
     "canon --explain in locked | 00 | 3 |  | cannot write locked\n  It is not permitted.",
     "canon --explain in folder | 00 | 3 |  | cannot write folder\n  It is a folder.",
+    "canon --explain in locked/out | 00 | 3 |  | cannot write locked/out\n  A new file beside it was not to be made. It is not permitted.",
+    "canon --explain --seq full out | 00 | 3 |  | out of memory\n  The whole input is held here, whatever --bytes is: a part of it asks for less.",
+    "check --explain --hex full | 00 | 3 |  | out of memory\n  The whole input is held here, whatever --bytes is: a part of it asks for less.",
+    "show --explain full | 00 | 3 |  | out of memory\n  A lower --bytes asks for less memory.",
     "canon in folder | 00 | 3 |  | cannot write folder",
 ];
 

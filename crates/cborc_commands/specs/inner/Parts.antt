@@ -1,13 +1,11 @@
 -- What the parts of a command answer.
 use Rattle.std.specs.Prelude.{ℕ, ◌≡◌, Bool, List, length, take, Option}
 use Rattle.std.specs.Io.KnownBytes.{Appends}
-use Rattle.cbor_head.specs.Complaint.{Rules, plain}
-use Rattle.cbor_head.specs.Limits.{Bounds}
+use Rattle.cbor_head.specs.Complaint.{plain}
 use Rattle.cbor_head.specs.declared.order.KeyOrder.{KeyOrder}
 use Rattle.cbor_item.specs.View.{view}
 use Rattle.cbor_item.specs.declared.item.Item.{Item}
 use Rattle.cbor_reader.specs.Canonicalise.{IsRefusal}
-use Rattle.cbor_reader.specs.Sequence.{Given, AreGivenBy, HasGiven}
 use Rattle.cbor_judging.specs.Readers.{IsReadAs}
 use Rattle.cborc_commands.specs.Fault.{IsOfInput}
 use Rattle.cborc_commands.specs.Folder.{Files}
@@ -28,13 +26,6 @@ abbrev pub IsNoText : ℕ → ℕ → KeyOrder → List ℕ → Fault → Type 0
 IsNoText d n o input (faults.Refused f) = IsRefusal d n o input f × IsOfInput f.reason
 IsNoText d n o input faults.Memory = Unit {0}
 IsNoText d n o input _ = ⊥
-
--- by one rule so many items were given of the input
-pub record HasCounted (b : Bounds) (rules : Rules) (held : Option (List ℕ)) (input : List ℕ) (count : ℕ) : Type 0 where
-  pub given : List Given
-  pub run : HasGiven b held input given
-  pub by_one : AreGivenBy rules given
-  pub count_is : count ≡ length given
 
 -- the whole input is the item of this tree, accepted by the plain rules within depth d and n bytes
 abbrev pub IsTreeOf : ℕ → ℕ → List ℕ → Item → Type 0

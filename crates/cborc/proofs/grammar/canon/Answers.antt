@@ -12,9 +12,11 @@ returns c =
     let first : HasRule (grammar.file (codes "IN")) c.file.result = search rules in
     let second : HasRule (grammar.file (codes "OUT")) c.file-2.result = search rules in
     let third : HasRule (grammar.flag (codes "hex-out")) c.flag.result = search rules in
+    let fourth : HasRule grammar.sequence c.sequence.result = search rules in
     let names = c.order.ensures in
     let one = adds_rule _ _ _ _ _ c.in_ok-arg.ensures empty first in
     let two = adds_rule _ _ _ _ _ c.in_ok-arg-2.ensures one second in
     let three = adds_rule _ _ _ _ _ c.in_ok-arg-3.ensures two third in
-    let command = adds_rule _ _ _ _ _ c.in_ok-command.ensures three names.2 in
+    let four = adds_rule _ _ _ _ _ c.in_ok-arg-4.ensures three fourth in
+    let command = adds_rule _ _ _ _ _ c.in_ok-command.ensures four names.2 in
     IfOk-weaker c.with_options.result _ _ (λ r h. (names.0, names.1, h ∙ ap (λ (app : App). with_rules app grammar.options) command)) c.with_options.ensures

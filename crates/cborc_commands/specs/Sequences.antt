@@ -1,0 +1,22 @@
+-- Inputs that are sequences of items (RFC 8742), by what is asked of each item.
+use Rattle.std.specs.Prelude.{ℕ, ◌+◌, ◌≡◌, ◌<◌, ◌++◌, List, [], length}
+use Rattle.std.specs.List.{AllByRecursion}
+use Rattle.cbor_head.specs.Spelling.{Spelling}
+use Rattle.cbor_reader.specs.Sequence.{sequence_bytes, EndsBefore}
+
+-- the input starts with these items, of each of which this holds, and rest follows
+pub record StartsWithEach (P : Spelling → Type 0) (input : List ℕ) (items : List Spelling) (rest : List ℕ) : Type 0 where
+  pub each : AllByRecursion P items
+  pub bytes : sequence_bytes items ++ rest ≡ input
+
+-- the whole input is these items, and a limit of n bytes would let an item have one
+pub record AreAll (P : Spelling → Type 0) (n : ℕ) (input : List ℕ) (items : List Spelling) : Type 0 where
+  pub starts : StartsWithEach P input items []
+  pub some : 0 < n
+
+-- Behind these items the input goes on with rest, where one more is due: counted from 1 it has this index, and starts there.
+pub record GoesOn (P : Spelling → Type 0) (n : ℕ) (input : List ℕ) (items : List Spelling) (rest : List ℕ) (index start : ℕ) : Type 0 where
+  pub starts : StartsWithEach P input items rest
+  pub index_is : index ≡ length items + 1
+  pub start_is : start ≡ length (sequence_bytes items)
+  pub begun : ¬ EndsBefore n rest

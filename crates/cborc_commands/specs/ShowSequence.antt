@@ -1,0 +1,59 @@
+-- What `show --seq` asks of a file's bytes, and what it writes (RFC 8742).
+use Rattle.std.specs.Prelude.{ℕ, ◌<◌, List, length, flat_map, Option}
+use Rattle.std.specs.Io.KnownBytes.{Appends}
+use Rattle.cbor_head.specs.Complaint.{plain}
+use Rattle.cbor_head.specs.Spelling.{Spelling, value_of}
+use Rattle.cbor_head.specs.declared.reason.Refusal.{Refusal}
+use Rattle.cbor_judging.specs.Readers.{IsUnread}
+use Rattle.cbor_reader.specs.Sequence.{IsAccepted}
+use Rattle.cborc_commands.specs.Fault.{IsOfInput}
+use Rattle.cborc_commands.specs.Folder.{Files}
+use Rattle.cborc_commands.specs.Input.{IsInput, IsNoInput}
+use Rattle.cborc_commands.specs.Sequences.{StartsWithEach, AreAll, GoesOn}
+use Rattle.cborc_commands.specs.Show.{shown_text}
+use Rattle.cborc_commands.specs.declared.request.Layout.{Layout}
+use Rattle.cborc_commands.specs.declared.request.Options.{Options}
+use Rattle.cborc_commands.specs.declared.fault.Fault.{Fault}
+use Rattle.cborc_commands.specs.declared.fault.Fault.TheVariants as faults
+
+-- the text of an item in a layout, and a line feed
+abbrev pub item_text : Layout → Spelling → List ℕ
+item_text layout item = shown_text layout (value_of item)
+
+-- those of each item, one behind another
+abbrev pub item_texts : Layout → List Spelling → List ℕ
+item_texts layout items = flat_map (item_text layout) items
+
+-- the input at a path is a sequence of valid items, and standard output took their texts
+pub record IsSequenceShown (layout : Layout) (options : Options) (source : List ℕ) (held : Option Files) (before after : Option (List ℕ)) : Type 0 where
+  pub input : List ℕ
+  pub is : IsInput held source options.hex input
+  pub items : List Spelling
+  pub all : AreAll (IsAccepted options.limits.depth options.limits.bytes plain) options.limits.bytes input items
+  pub shown : Appends before after (item_texts layout items)
+
+-- It isn't: behind valid items, whose texts standard output took, comes what is refused, with this index and starting there.
+pub record HasUnshownItem (layout : Layout) (options : Options) (source : List ℕ) (held : Option Files) (before after : Option (List ℕ)) (index start : ℕ) (f : Refusal) : Type 0 where
+  pub input : List ℕ
+  pub is : IsInput held source options.hex input
+  pub items : List Spelling
+  pub rest : List ℕ
+  pub goes_on : GoesOn (IsAccepted options.limits.depth options.limits.bytes plain) options.limits.bytes input items rest index start
+  pub refused : IsUnread options.limits.depth options.limits.bytes plain rest f
+  pub of_input : IsOfInput f.reason
+  pub shown : Appends before after (item_texts layout items)
+
+-- it starts with valid items, and standard output took not all of their texts
+pub record IsSequenceUnshown (options : Options) (source : List ℕ) (held : Option Files) : Type 0 where
+  pub input : List ℕ
+  pub is : IsInput held source options.hex input
+  pub items : List Spelling
+  pub rest : List ℕ
+  pub starts : StartsWithEach (IsAccepted options.limits.depth options.limits.bytes plain) input items rest
+  pub some : 0 < length items
+
+-- why it is not shown whole: an item is refused, there is no input, or standard output failed
+abbrev pub IsSequenceNotShown : Layout → Options → List ℕ → Option Files → Option (List ℕ) → Option (List ℕ) → Fault → Type 0
+IsSequenceNotShown layout options source held before after (faults.RefusedItem index start f) = HasUnshownItem layout options source held before after index start f
+IsSequenceNotShown layout options source held before after faults.CannotPrint = IsSequenceUnshown options source held
+IsSequenceNotShown layout options source held before after fault = IsNoInput held source options.hex fault

@@ -1,0 +1,84 @@
+-- What is written of the items of a sequence, one behind another.
+use Rattle.std.specs.Prelude.{ℕ, ◌≡◌, ◌++◌, List, length, flat_map, Option}
+use Rattle.std.specs.Io.KnownBytes.{Appends}
+use Rattle.cbor_head.specs.Complaint.{Rules, plain}
+use Rattle.cbor_head.specs.Limits.{Bounds}
+use Rattle.cbor_head.specs.Spelling.{Spelling, spell}
+use Rattle.cbor_head.specs.declared.order.KeyOrder.{KeyOrder}
+use Rattle.cbor_judging.specs.Readers.{IsUnread}
+use Rattle.cbor_reader.specs.Sequence.{IsAccepted}
+use Rattle.cborc_commands.specs.CanonSequence.{HasCanonicalBytes, canonical_texts, IsUncanonical, IsUncanonicalAt}
+use Rattle.cborc_commands.specs.Fault.{IsOfInput, at_item}
+use Rattle.cborc_commands.specs.Sequences.{AreAll, GoesOn}
+use Rattle.cborc_commands.specs.declared.fault.Fault.{Fault}
+use Rattle.cborc_commands.specs.declared.fault.Fault.TheVariants as faults
+use Rattle.cborc_commands.specs.declared.request.Form.{Form}
+
+-- the item at the front of these bytes, which has so many, is taken, and its text was written
+pub record IsWritten (takes : Spelling → Type 0) (text : Spelling → List ℕ) (bytes : List ℕ) (size : ℕ) (before after : Option (List ℕ)) : Type 0 where
+  pub item : Spelling
+  pub rest : List ℕ
+  pub taken : takes item
+  pub bytes_are : spell item ++ rest ≡ bytes
+  pub size_is : size ≡ length (spell item)
+  pub written : Appends before after (text item)
+
+-- the whole input is a sequence of so many items that are taken, and their texts were written
+pub record AreWritten (takes : Spelling → Type 0) (text : Spelling → List ℕ) (n : ℕ) (input : List ℕ) (before after : Option (List ℕ)) (count : ℕ) : Type 0 where
+  pub items : List Spelling
+  pub all : AreAll takes n input items
+  pub count_is : count ≡ length items
+  pub written : Appends before after (flat_map text items)
+
+-- It isn't: behind items that are taken, whose texts were written, none is taken.
+pub record AreStopped (takes : Spelling → Type 0) (text : Spelling → List ℕ) (stops : List ℕ → Fault → Option (List ℕ) → Option (List ℕ) → Type 0) (n : ℕ)
+    (input : List ℕ) (before after : Option (List ℕ)) (fault : Fault) : Type 0 where
+  pub items : List Spelling
+  pub rest : List ℕ
+  pub index : ℕ
+  pub start : ℕ
+  pub goes_on : GoesOn takes n input items rest index start
+  -- what the output had taken by then
+  pub middle : Option (List ℕ)
+  pub written : Appends before middle (flat_map text items)
+  -- why
+  pub cause : Fault
+  pub stopped : stops rest cause middle after
+  pub fault_is : fault ≡ at_item index start cause
+
+-- ---- why the item at the front of these bytes is not taken
+
+-- to be counted: it is refused, or memory was
+abbrev pub IsUncounted : Bounds → Rules → List ℕ → Fault → Type 0
+IsUncounted b rules bytes (faults.Refused f) = IsUnread b.depth b.bytes rules bytes f × IsOfInput f.reason
+IsUncounted b rules bytes faults.Memory = Unit {0}
+IsUncounted b rules bytes _ = ⊥
+
+-- to be written as canonical bytes: the same, or the output failed
+abbrev pub IsUnwritten : Bounds → KeyOrder → List ℕ → Fault → Type 0
+IsUnwritten b o bytes (faults.Refused f) = IsUncanonical b.depth b.bytes o bytes f × IsOfInput f.reason
+IsUnwritten b o bytes faults.CannotPrint = Unit {0}
+IsUnwritten b o bytes faults.Memory = Unit {0}
+IsUnwritten b o bytes _ = ⊥
+
+-- to be shown: it is refused, and the output took nothing; or it is accepted, and the output failed; or memory was refused
+abbrev pub IsItemNotShown : Bounds → List ℕ → Fault → Option (List ℕ) → Option (List ℕ) → Type 0
+IsItemNotShown b bytes (faults.Refused f) before after = IsUnread b.depth b.bytes plain bytes f × IsOfInput f.reason × (after ≡ before)
+IsItemNotShown b bytes faults.CannotPrint before after =
+    (item : Spelling) × (rest : List ℕ) × IsAccepted b.depth b.bytes plain item × (spell item ++ rest ≡ bytes)
+IsItemNotShown b bytes faults.Memory before after = Unit {0}
+IsItemNotShown b bytes _ before after = ⊥
+
+-- ---- the canonical bytes of all
+
+-- the input is a sequence of items that have canonical bytes, and the text is these
+pub record IsTextOfAll (b : Bounds) (o : KeyOrder) (form : Form) (input text : List ℕ) : Type 0 where
+  pub items : List Spelling
+  pub all : AreAll (HasCanonicalBytes b.depth b.bytes o) b.bytes input items
+  pub text_is : text ≡ canonical_texts o form items
+
+-- why there is none: an item is refused, or memory was
+abbrev pub IsNoTextOfAll : Bounds → KeyOrder → List ℕ → Fault → Type 0
+IsNoTextOfAll b o input (faults.RefusedItem index start f) = IsUncanonicalAt b.depth b.bytes o input index start f × IsOfInput f.reason
+IsNoTextOfAll b o input faults.Memory = Unit {0}
+IsNoTextOfAll b o input _ = ⊥

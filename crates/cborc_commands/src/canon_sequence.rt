@@ -1,0 +1,101 @@
+//! `canon --seq`: the canonical bytes of each item of a sequence (RFC 8742), from file to file.
+
+ghost use Rattle.std.specs.Prelude.{◌≡◌, ◌≢◌, OnOk, OnErr, IfOk, IfErr};
+ghost use Rattle.cbor_head.specs.Limits.{Bounds};
+ghost use Rattle.cborc_commands.specs.CanonSequence.{HasCanonicalBytes, canonical_text};
+ghost use Rattle.cborc_commands.specs.CanonSequence.{IsSequenceCanonised};
+ghost use Rattle.cborc_commands.specs.CanonSequence.{IsSequenceNotCanonised};
+ghost use Rattle.cborc_commands.specs.Folder.{KeepsFiles};
+ghost use Rattle.cborc_commands.specs.inner.Items.{IsTextOfAll, IsNoTextOfAll, IsUnwritten};
+
+use crate::canon::{canonical_text, put};
+use crate::fault::Fault;
+use crate::folder::Folder;
+use crate::input;
+use crate::request::{Form, Options, Output};
+use crate::sequence::{ItemWriter, write_items};
+use cbor_head::{KeyOrder, Limits};
+use cbor_reader::check_valid;
+use std::alloc::Global;
+use std::io::Write;
+
+/// Writes the canonical bytes of each item of the sequence that the file `source` is to the output,
+/// one behind another: those of all, or none, so that a file there is replaced whole or left as it
+/// was.
+pub fn canon_sequence<'a, F: Folder, O: Write>(
+    alloc: Global,
+    files: &mut F,
+    out: &mut O,
+    source: &'a str,
+    output: Output<'a>,
+    order: KeyOrder,
+    options: Options,
+) -> Result<(), Fault<'a>>
+    ensures written { OnOk result (IsSequenceCanonised order options source.now output.entry
+        (F.held files.old) (F.held files.new) (O.contents out.old) (O.contents out.new)) }
+    ensures untouched { OnErr result (KeepsFiles (F.held files.old) (F.held files.new)) }
+    ensures same { F.behind files.new ≡ F.behind files.old }
+    ensures fault { IfErr result
+        (IsSequenceNotCanonised order options source.now output.entry (F.held files.old)) }
+    ensures silent { IfErr result (λ fault. fault ≢ Fault.CannotPrint → out.new ≡ out.old) }
+{
+    let limits = options.limits;
+    let Output { path, form } = output;
+    let bytes = input::read_all(alloc, files, source, options)?;
+    let text = text_of_all(alloc, bytes.as_slice(), limits, order, form)?;
+    put(files, out, path, text.as_slice())
+}
+
+// The canonical bytes of each item of the sequence that all the bytes are, one behind another.
+fn text_of_all<'a>(
+    alloc: Global,
+    bytes: &[u8],
+    limits: Limits,
+    order: KeyOrder,
+    form: Form,
+) -> Result<Vec<u8>, Fault<'a>>
+    ensures text { IfOk result (λ v. IsTextOfAll limits order form bytes.now v.items) }
+    ensures fault { IfErr result (IsNoTextOfAll limits order bytes.now) }
+{
+    let canonical = CanonicalItems { order, form };
+    let mut text = Vec::new(alloc);
+    match write_items(alloc, &canonical, bytes, limits, &mut text) {
+        Ok(_) => Ok(text),
+        Err(fault) => match fault {
+            // A vector takes all that there is memory for.
+            Fault::CannotPrint => Err(Fault::Memory),
+            _ => Err(fault),
+        },
+    }
+}
+
+// Items of which the canonical bytes are written.
+#[derive(Clone, Copy)]
+struct CanonicalItems {
+    order: KeyOrder,
+    form: Form,
+}
+
+impl ItemWriter for CanonicalItems {
+    ghost takes = { λ canonical b. HasCanonicalBytes b.depth b.bytes canonical.order };
+
+    ghost text = { λ canonical. canonical_text canonical.order canonical.form };
+
+    ghost stops = { λ canonical b bytes fault before after.
+        IsUnwritten b canonical.order bytes fault };
+
+    fn write_item<'f, W: Write>(
+        &self,
+        alloc: Global,
+        bytes: &[u8],
+        limits: Limits,
+        out: &mut W,
+    ) -> Result<usize, Fault<'f>> {
+        let size = check_valid(alloc, bytes, limits)? as usize;
+        let text = canonical_text(alloc, &bytes[..size], limits, self.order, self.form)?;
+        match out.write_all(text.as_slice()) {
+            Ok(()) => Ok(size),
+            Err(_) => Err(Fault::CannotPrint),
+        }
+    }
+}

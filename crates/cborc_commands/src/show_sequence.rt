@@ -1,0 +1,71 @@
+//! `show --seq`: the diagnostic text of each item of a sequence (RFC 8742).
+
+ghost use Rattle.std.specs.Prelude.{◌≡◌, OnOk, IfErr};
+ghost use Rattle.cbor_head.specs.Complaint.{plain};
+ghost use Rattle.cbor_reader.specs.Sequence.{IsAccepted};
+ghost use Rattle.cborc_commands.specs.ShowSequence.{item_text, IsSequenceShown};
+ghost use Rattle.cborc_commands.specs.ShowSequence.{IsSequenceNotShown};
+ghost use Rattle.cborc_commands.specs.Folder.{KeepsFiles};
+ghost use Rattle.cborc_commands.specs.inner.Items.{IsItemNotShown};
+
+use crate::fault::Fault;
+use crate::folder::Folder;
+use crate::input;
+use crate::request::{Layout, Options};
+use crate::sequence::{ItemWriter, write_items};
+use crate::show::print;
+use cbor_head::Limits;
+use cbor_reader::read_tree;
+use std::alloc::Global;
+use std::io::Write;
+
+/// Writes to `out` the diagnostic text of each item of the sequence that the file `source` is, with
+/// a line feed behind each. What was written before a refusal stays.
+pub fn show_sequence<'a, F: Folder, O: Write>(
+    alloc: Global,
+    files: &mut F,
+    out: &mut O,
+    source: &'a str,
+    layout: Layout,
+    options: Options,
+) -> Result<(), Fault<'a>>
+    ensures shown { OnOk result (IsSequenceShown layout options source.now
+        (F.held files.old) (O.contents out.old) (O.contents out.new)) }
+    ensures fault { IfErr result (IsSequenceNotShown layout options source.now
+        (F.held files.old) (O.contents out.old) (O.contents out.new)) }
+    ensures keeps { KeepsFiles (F.held files.old) (F.held files.new) }
+    ensures same { F.behind files.new ≡ F.behind files.old }
+{
+    let limits = options.limits;
+    let bytes = input::read_all(alloc, files, source, options)?;
+    write_items(alloc, &ShownItems { layout }, bytes.as_slice(), limits, out)?;
+    Ok(())
+}
+
+// Items of which the diagnostic text is written.
+#[derive(Clone, Copy)]
+struct ShownItems {
+    layout: Layout,
+}
+
+impl ItemWriter for ShownItems {
+    ghost takes = { λ shown b. IsAccepted b.depth b.bytes plain };
+
+    ghost text = { λ shown. item_text shown.layout };
+
+    ghost stops = { λ shown b bytes fault before after.
+        IsItemNotShown b bytes fault before after };
+
+    fn write_item<'f, W: Write>(
+        &self,
+        alloc: Global,
+        bytes: &[u8],
+        limits: Limits,
+        out: &mut W,
+    ) -> Result<usize, Fault<'f>> {
+        let mut reader = bytes;
+        let (tree, size) = read_tree(alloc, &mut reader, limits)?;
+        print(&tree, self.layout, out)?;
+        Ok(size as usize)
+    }
+}
