@@ -200,6 +200,12 @@ class Words(unittest.TestCase):
             with self.subTest(name=name), self.assertRaises(ValueError):
                 getattr(naltvigo, name)(b"\x00", order="shortest")
 
+    def test_kinds_of_keys(self):
+        self.assertEqual(naltvigo.canonicalise(b"\x00", keys="any"), b"\x00")
+        for name in ("canonicalise", "check", "check_canonical", "diagnostic", "items"):
+            with self.subTest(name=name), self.assertRaises(ValueError):
+                getattr(naltvigo, name)(b"\x00", keys="texts")
+
     def test_no_buffer(self):
         for name in self.CALLS:
             for data in ("text", 7, None):

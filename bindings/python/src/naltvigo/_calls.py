@@ -21,6 +21,7 @@ from ._library import (
     give_back,
     room_for,
     rooms,
+    wrong_keys,
     wrong_limits,
     wrong_order,
 )
@@ -29,11 +30,12 @@ from ._refused import refusal
 Buffer = Union[bytes, bytearray, memoryview]
 
 
-def canonicalise(data: Buffer, *, order: str = "bytewise", depth: int = 64, max_bytes: int = 1 << 20) -> bytes:
+def canonicalise(data: Buffer, *, order: str = "bytewise", depth: int = 64, max_bytes: int = 1 << 20, keys: str = "any") -> bytes:
     """The canonical bytes of the one valid item that `data` is.
 
     Equal answers in one order mean equal values, and an answer is its own answer. `order` is that of map keys:
-    'bytewise' (RFC 8949, section 4.2.1) or 'length', the shorter key first (section 4.2.3).
+    'bytewise' (RFC 8949, section 4.2.1) or 'length', the shorter key first (section 4.2.3). `keys`, here and below,
+    says which items may be keys: 'any', the one choice so far.
 
     >>> canonicalise(b"\\x9f\\x18\\x01\\xff")      # [1], without a length and with a 1 of two bytes
     b'\\x81\\x01'
@@ -47,6 +49,8 @@ def canonicalise(data: Buffer, *, order: str = "bytewise", depth: int = 64, max_
         raise wrong_order(order)
     if not (0 <= depth <= DEPTH_MAX and 0 <= max_bytes <= BYTES_MAX):
         raise wrong_limits(depth, max_bytes)
+    if keys != "any":
+        raise wrong_keys(keys)
     length = len(data)
     room = room_for(length)
     status = canonicalise_raw(data, length, number, depth, max_bytes, room.out_at, room.size, room.needed_at, room.why_at)
@@ -63,7 +67,7 @@ def canonicalise(data: Buffer, *, order: str = "bytewise", depth: int = 64, max_
     raise _failed(status, room, depth, max_bytes)
 
 
-def check(data: Buffer, *, depth: int = 64, max_bytes: int = 1 << 20) -> None:
+def check(data: Buffer, *, depth: int = 64, max_bytes: int = 1 << 20, keys: str = "any") -> None:
     """Returns where `data` is one valid item, however it is spelled; else raises Refused.
 
     >>> check(b"\\x18\\x00")
@@ -77,6 +81,8 @@ one of the two pairs.
         data = as_bytes(data)
     if not (0 <= depth <= DEPTH_MAX and 0 <= max_bytes <= BYTES_MAX):
         raise wrong_limits(depth, max_bytes)
+    if keys != "any":
+        raise wrong_keys(keys)
     room = room_for(0)
     status = check_valid_raw(data, len(data), depth, max_bytes, room.why_at)
     if status != OK:
@@ -84,7 +90,7 @@ one of the two pairs.
     give_back(room)
 
 
-def check_canonical(data: Buffer, *, order: str = "bytewise", depth: int = 64, max_bytes: int = 1 << 20) -> None:
+def check_canonical(data: Buffer, *, order: str = "bytewise", depth: int = 64, max_bytes: int = 1 << 20, keys: str = "any") -> None:
     """Returns where `data` is one valid item in its canonical bytes; else raises Refused. It takes no memory.
 
     >>> check_canonical(b"\\x00")
@@ -101,6 +107,8 @@ canonicalise writes the item in canonical bytes.
         raise wrong_order(order)
     if not (0 <= depth <= DEPTH_MAX and 0 <= max_bytes <= BYTES_MAX):
         raise wrong_limits(depth, max_bytes)
+    if keys != "any":
+        raise wrong_keys(keys)
     room = room_for(0)
     status = check_canonical_raw(data, len(data), number, depth, max_bytes, room.why_at)
     if status != OK:
@@ -108,7 +116,7 @@ canonicalise writes the item in canonical bytes.
     give_back(room)
 
 
-def same(left: Buffer, right: Buffer, *, depth: int = 64, max_bytes: int = 1 << 20) -> bool:
+def same(left: Buffer, right: Buffer, *, depth: int = 64, max_bytes: int = 1 << 20, keys: str = "any") -> bool:
     """Whether two valid items have the same value: maps by their pairs in any order (RFC 8949, section 5.6.1).
 
     The limits are for each of the two. `Refused.side` says which input is refused; the left one is judged first.
@@ -121,6 +129,8 @@ def same(left: Buffer, right: Buffer, *, depth: int = 64, max_bytes: int = 1 << 
     left, right = as_bytes(left), as_bytes(right)
     if not (0 <= depth <= DEPTH_MAX and 0 <= max_bytes <= BYTES_MAX):
         raise wrong_limits(depth, max_bytes)
+    if keys != "any":
+        raise wrong_keys(keys)
     room = room_for(0)
     status = compare_raw(left, len(left), right, len(right), depth, max_bytes, room.side_at, room.why_at)
     if status not in (OK, DIFFERENT):
@@ -129,7 +139,7 @@ def same(left: Buffer, right: Buffer, *, depth: int = 64, max_bytes: int = 1 << 
     return status == OK
 
 
-def diagnostic(data: Buffer, *, depth: int = 64, max_bytes: int = 1 << 20) -> str:
+def diagnostic(data: Buffer, *, depth: int = 64, max_bytes: int = 1 << 20, keys: str = "any") -> str:
     """The diagnostic text (RFC 8949, section 8) of the one valid item that `data` is, its pairs in their order.
 
     >>> diagnostic(bytes.fromhex("a26161018202f64161"))      # a key that is an array
@@ -138,6 +148,8 @@ def diagnostic(data: Buffer, *, depth: int = 64, max_bytes: int = 1 << 20) -> st
     data = as_bytes(data)
     if not (0 <= depth <= DEPTH_MAX and 0 <= max_bytes <= BYTES_MAX):
         raise wrong_limits(depth, max_bytes)
+    if keys != "any":
+        raise wrong_keys(keys)
     room = room_for(4 * len(data))
     status = diagnostic_raw(data, len(data), depth, max_bytes, room.out_at, room.size, room.needed_at, room.why_at)
     if status == TOO_SMALL:

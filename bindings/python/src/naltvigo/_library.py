@@ -130,5 +130,9 @@ def wrong_limits(depth: Any, max_bytes: Any) -> Exception:
     return SystemError("naltvigo: a status that it does not have")
 
 
+def wrong_keys(keys: Any) -> Exception:
+    return ValueError(f"keys is 'any', and not {keys!r}")
+
+
 def wrong_order(order: Any) -> Exception:
     return ValueError(f"order is 'bytewise' or 'length', and not {order!r}")

@@ -18,6 +18,7 @@ from ._library import (
     machine_step_raw,
     next_canonical_raw,
     next_valid_raw,
+    wrong_keys,
     wrong_limits,
     wrong_order,
 )
@@ -112,7 +113,13 @@ def _event(told: Told, part: bytes, at: int) -> Event:
 
 
 def items(
-    data: Buffer, *, canonical: bool = False, order: str = "bytewise", depth: int = 64, max_bytes: int = 1 << 20
+    data: Buffer,
+    *,
+    canonical: bool = False,
+    order: str = "bytewise",
+    depth: int = 64,
+    max_bytes: int = 1 << 20,
+    keys: str = "any",
 ) -> Iterator[bytes]:
     """The items of a sequence (RFC 8742), each as it is spelled; with `canonical` none but in its canonical bytes.
 
@@ -128,6 +135,8 @@ def items(
         raise wrong_order(order)
     if not (0 <= depth <= DEPTH_MAX and 0 <= max_bytes <= BYTES_MAX):
         raise wrong_limits(depth, max_bytes)
+    if keys != "any":
+        raise wrong_keys(keys)
     return _items(as_bytes(data), number if canonical else None, depth, max_bytes)
 
 
