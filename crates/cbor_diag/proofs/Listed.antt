@@ -5,6 +5,7 @@ use Rattle.std.specs.Io.KnownBytes.{Consumes, Appends, IsAtEnd}
 use Rattle.std.proofs.KnownBytes.{Consumes-nil, Consumes-trans, Appends-nil, Appends-trans}
 use Rattle.std.proofs.lemmas.List.{length-take-le}
 use lib.Seq.{drop-append_seam, take-append_seam}
+use Rattle.cbor_head.specs.Limits.{Bounds, bounds}
 use Rattle.cbor_head.specs.Spelling.{Spelling, spell, IsItem}
 use Rattle.cbor_head.specs.Complaint.{form}
 use Rattle.cbor_head.specs.Verdict.{refusal, accepted, refused, IsVerdict}
@@ -109,22 +110,22 @@ known (Some xs) (Some ys) bs P h f = subst P (sym h) (f ys refl)
 -- ---- the item is complete
 
 -- the whole item is the one that is accepted
-accepted-item : (d n : ℕ) (t more : List ℕ) (s : Spelling) → IsItem d s t → (a : Spelling) → IsVerdict d n form (t ++ more) (accepted a) → a ≡ s
-accepted-item d n t more s i a v =
-    let sound = (accepts_exactly d n form (t ++ more) a).0 v in
-    let all : spell a ++ (sound.0 ++ drop n (t ++ more)) ≡ spell s ++ more =
-    sym (append_assoc (spell a) sound.0 (drop n (t ++ more))) ∙ ap (λ l. l ++ drop n (t ++ more)) sound.1.2 ∙ take-append-drop n (t ++ more) ∙ ap (λ l. l ++ more) (sym i.bytes_are) in
+accepted-item : (limits : Bounds) (t more : List ℕ) (s : Spelling) → IsItem limits.depth s t → (a : Spelling) → IsVerdict limits form (t ++ more) (accepted a) → a ≡ s
+accepted-item limits t more s i a v =
+    let sound = (accepts_exactly limits form (t ++ more) a).0 v in
+    let all : spell a ++ (sound.0 ++ drop limits.bytes (t ++ more)) ≡ spell s ++ more =
+    sym (append_assoc (spell a) sound.0 (drop limits.bytes (t ++ more))) ∙ ap (λ l. l ++ drop limits.bytes (t ++ more)) sound.1.2 ∙ take-append-drop limits.bytes (t ++ more) ∙ ap (λ l. l ++ more) (sym i.bytes_are) in
     (unique a s sound.1.0 i.spelled _ _ all).0
 
 pub all-listed : (m new : MachineView) (from now to old out : Option (List ℕ)) (written count : ℕ) (kept piece : List ℕ) (h : HasListed m from now old out written)
-    → IsEnd (call_of m new now to kept piece h.t h.marks) → count ≡ new.taken → IfSome from (λ input. IsListed m.depth m.bytes input count old out)
+    → IsEnd (call_of m new now to kept piece h.t h.marks) → count ≡ new.taken → IfSome from (λ input. IsListed (bounds m.depth m.bytes) input count old out)
 all-listed m new from now to old out written count kept piece h end e =
     let whole = next-all (call_of m new now to kept piece h.t h.marks) h.told h.are_told h.between end in
     let s = whole.0 in
-    known from now h.t (λ input. IsListed m.depth m.bytes input count old out) h.taken
+    known from now h.t (λ input. IsListed (bounds m.depth m.bytes) input count old out) h.taken
     (λ rest k. let v = complete-verdict m h.t h.marks h.between.stands end.complete rest in record {
       item = s;
-      verdict = subst (λ (a : Spelling). IsVerdict m.depth m.bytes form (h.t ++ rest) (accepted a)) (accepted-item m.depth m.bytes h.t rest s whole.1 v.0 v.1) v.1;
+      verdict = subst (λ (a : Spelling). IsVerdict (bounds m.depth m.bytes) form (h.t ++ rest) (accepted a)) (accepted-item (bounds m.depth m.bytes) h.t rest s whole.1 v.0 v.1) v.1;
       size = e ∙ end.stands.stands.taken ∙ sym (ap length whole.1.bytes_are);
       written = subst (Appends old out) (sym (lines-joined h.told) ∙ ap lines whole.2) h.listed;
     })
@@ -150,19 +151,19 @@ front-listed : (d k : ℕ) (t rest out : List ℕ) → k ≡ length t → IsList
 front-listed d k t rest out e h = subst (λ (xs : List ℕ). IsListing d xs out) (sym (front-is k t rest e)) h
 
 cut-unlisted : (m new : MachineView) (from now to old out : Option (List ℕ)) (written : ℕ) (kept piece : List ℕ) (h : HasListed m from now old out written) (f : Refusal) → IsCut f (call_of m new now to kept piece h.t h.marks)
-    → IfSome from (λ input. IsUnlisted new.depth new.bytes input f old out)
+    → IfSome from (λ input. IsUnlisted (bounds new.depth new.bytes) input f old out)
 cut-unlisted m new from now to old out written kept piece h f i =
     let all = h.t ++ i.bytes in
     let size : f.read ≡ length all = ap (λ (r : Refusal). r.read) i.is in
     let place : f.place ≡ length all = ap (λ (r : Refusal). r.place) i.is in
     let listing : IsListing new.depth all (lines h.told) = listing-of new all h.marks h.told i.stands h.are_told in
-    known from to all (λ input. IsUnlisted new.depth new.bytes input f old out) (Consumes-trans from now to h.t i.bytes h.taken i.consumed)
+    known from to all (λ input. IsUnlisted (bounds new.depth new.bytes) input f old out) (Consumes-trans from now to h.t i.bytes h.taken i.consumed)
     (λ rest k. elim i.reason [
       | inl failed ↦
           of_reader (lines h.told)
           (i.is ∙ ap (λ r. refusal r (length all) (length all)) failed ∙ ap (λ n. refusal Read n n) (sym size))
-          (subst (λ (n : ℕ). IsVerdict new.depth new.bytes form (take n (all ++ rest)) (refused (refusal Truncated n n))) (sym size)
-          (subst (λ (xs : List ℕ). IsVerdict new.depth new.bytes form xs (refused (refusal Truncated (length all) (length all)))) (sym (front-is (length all) all rest refl)) i.verdict))
+          (subst (λ (n : ℕ). IsVerdict (bounds new.depth new.bytes) form (take n (all ++ rest)) (refused (refusal Truncated n n))) (sym size)
+          (subst (λ (xs : List ℕ). IsVerdict (bounds new.depth new.bytes) form xs (refused (refusal Truncated (length all) (length all)))) (sym (front-is (length all) all rest refl)) i.verdict))
           (front-listed new.depth f.read all rest (lines h.told) size listing)
           h.listed
       | inr ended ↦
@@ -170,17 +171,17 @@ cut-unlisted m new from now to old out written kept piece h f i =
           let whole : all ++ rest ≡ all = ap (λ (xs : List ℕ). all ++ xs) empty ∙ append-nil all in
           let is : f ≡ refusal Truncated (length all) (length all) = i.is ∙ ap (λ r. refusal r (length all) (length all)) ended.0 in
           of_verdict (lines h.told)
-          (subst (λ (xs : List ℕ). IsVerdict new.depth new.bytes form xs (refused f)) (sym whole) (subst (λ (r : Refusal). IsVerdict new.depth new.bytes form all (refused r)) (sym is) i.verdict))
+          (subst (λ (xs : List ℕ). IsVerdict (bounds new.depth new.bytes) form xs (refused f)) (sym whole) (subst (λ (r : Refusal). IsVerdict (bounds new.depth new.bytes) form all (refused r)) (sym is) i.verdict))
           (front-listed new.depth f.place all rest (lines h.told) place listing)
           h.listed
     ])
 
 long-unlisted : (m new : MachineView) (from now to old out : Option (List ℕ)) (written : ℕ) (kept piece : List ℕ) (h : HasListed m from now old out written) (f : Refusal) → IsTooLong f (call_of m new now to kept piece h.t h.marks)
-    → IfSome from (λ input. IsUnlisted new.depth new.bytes input f old out)
+    → IfSome from (λ input. IsUnlisted (bounds new.depth new.bytes) input f old out)
 long-unlisted m new from now to old out written kept piece h f i =
     let all = h.t ++ i.bytes in
     let place : f.place ≡ length all = ap (λ (r : Refusal). r.place) i.is ∙ sym i.full in
-    known from to all (λ input. IsUnlisted new.depth new.bytes input f old out) (Consumes-trans from now to h.t i.bytes h.taken i.consumed)
+    known from to all (λ input. IsUnlisted (bounds new.depth new.bytes) input f old out) (Consumes-trans from now to h.t i.bytes h.taken i.consumed)
     (λ rest k. of_verdict (lines h.told) (i.verdict rest)
     (front-listed new.depth f.place all rest (lines h.told) place (listing-of (before new (length all)) all h.marks h.told i.stands h.are_told)) h.listed)
 
@@ -191,17 +192,17 @@ broken-taken m new from now to old out written kept piece h f i =
     subst (Consumes from to) (sym (append_assoc h.t i.bytes (i.byte ∷ []))) (Consumes-trans from now to h.t (i.bytes ++ i.byte ∷ []) h.taken i.consumed)
 
 broken-unlisted : (m new : MachineView) (from now to old out : Option (List ℕ)) (written : ℕ) (kept piece : List ℕ) (h : HasListed m from now old out written) (f : Refusal) → HasFormError f (call_of m new now to kept piece h.t h.marks)
-    → IfSome from (λ input. IsUnlisted new.depth new.bytes input f old out)
+    → IfSome from (λ input. IsUnlisted (bounds new.depth new.bytes) input f old out)
 broken-unlisted m new from now to old out written kept piece h f i =
     let all = h.t ++ i.bytes in
     let place : f.place ≡ length all = ap (λ (r : Refusal). r.place) i.is in
-    known from to (all ++ i.byte ∷ []) (λ input. IsUnlisted new.depth new.bytes input f old out) (broken-taken m new from now to old out written kept piece h f i)
+    known from to (all ++ i.byte ∷ []) (λ input. IsUnlisted (bounds new.depth new.bytes) input f old out) (broken-taken m new from now to old out written kept piece h f i)
     (λ rest k. of_verdict (lines h.told) (i.verdict rest)
     (subst (λ (xs : List ℕ). IsListing new.depth (take f.place xs) (lines h.told)) (sym (append_assoc all (i.byte ∷ []) rest))
     (front-listed new.depth f.place all (i.byte ∷ rest) (lines h.told) place (listing-of (before new (length all)) all h.marks h.told i.stands h.are_told))) h.listed)
 
 pub refused-unlisted : (m new : MachineView) (from now to old out : Option (List ℕ)) (written : ℕ) (kept piece : List ℕ) (h : HasListed m from now old out written) (f : Refusal)
-    → IsCut f (call_of m new now to kept piece h.t h.marks) ⊎ IsTooLong f (call_of m new now to kept piece h.t h.marks) ⊎ HasFormError f (call_of m new now to kept piece h.t h.marks) → IfSome from (λ input. IsUnlisted new.depth new.bytes input f old out)
+    → IsCut f (call_of m new now to kept piece h.t h.marks) ⊎ IsTooLong f (call_of m new now to kept piece h.t h.marks) ⊎ HasFormError f (call_of m new now to kept piece h.t h.marks) → IfSome from (λ input. IsUnlisted (bounds new.depth new.bytes) input f old out)
 refused-unlisted m new from now to old out written kept piece h f (inl i) = cut-unlisted m new from now to old out written kept piece h f i
 refused-unlisted m new from now to old out written kept piece h f (inr (inl i)) = long-unlisted m new from now to old out written kept piece h f i
 refused-unlisted m new from now to old out written kept piece h f (inr (inr i)) = broken-unlisted m new from now to old out written kept piece h f i
@@ -242,7 +243,7 @@ stops-within m new now to kept piece t ms es e count s told next short =
 
 pub stopped-unlisted : (m new : MachineView) (from now to old mid out : Option (List ℕ)) (written count : ℕ) (kept piece : List ℕ) (e : Event) (h : HasListed m from now old mid written) (f : Refusal)
     → IsNextEvent e (call_of m new now to kept piece h.t h.marks) → count < length (line e) → Appends mid out (take count (line e)) → f ≡ refusal Write (min (written + count) (2 ^ 64 - 1)) new.taken
-    → IfSome from (λ input. IsUnlisted new.depth new.bytes input f old out)
+    → IfSome from (λ input. IsUnlisted (bounds new.depth new.bytes) input f old out)
 stopped-unlisted m new from now to old mid out written count kept piece e h f next short wrote is =
     let all = h.t ++ next.bytes in
     let read : f.read ≡ length all = ap (λ (r : Refusal). r.read) is ∙ next.stands.stands.taken in
@@ -250,7 +251,7 @@ stopped-unlisted m new from now to old mid out written count kept piece e h f ne
     let size : length (stopped_lines h.told e count) ≡ length (lines h.told) + count = length-append (lines h.told) (take count (line e)) ∙ ap (λ n. length (lines h.told) + n) (length-take-le count (line e) fits) in
     let was = h.count in
     let place : min (written + count) (2 ^ 64 - 1) ≡ min (length (stopped_lines h.told e count)) (2 ^ 64 - 1) = omega (arith, size, was) in
-    known from to all (λ input. IsUnlisted new.depth new.bytes input f old out) (Consumes-trans from now to h.t next.bytes h.taken next.consumed)
+    known from to all (λ input. IsUnlisted (bounds new.depth new.bytes) input f old out) (Consumes-trans from now to h.t next.bytes h.taken next.consumed)
     (λ rest k. of_writer (stopped_lines h.told e count)
     (is ∙ ap (λ n. refusal Write n new.taken) place ∙ ap (λ n. refusal Write (min (length (stopped_lines h.told e count)) (2 ^ 64 - 1)) n) (sym (ap (λ (r : Refusal). r.read) is)))
     (subst (λ (xs : List ℕ). IsStopped new.depth xs (stopped_lines h.told e count)) (sym (front-is f.read all rest read))
@@ -273,11 +274,11 @@ pub no-event : (m new : MachineView) (now to : Option (List ℕ)) (kept piece t 
 no-event m new now to kept piece t ms v is h = subst (λ (x : Option Event). IsNext (Ok x) (call_of m new now to kept piece t ms)) is h
 
 pub listed-within : (d n : ℕ) (m : MachineView) (from old out : Option (List ℕ)) (count : ℕ) → m.depth ≡ d → m.bytes ≡ n
-    → IfSome from (λ input. IsListed m.depth m.bytes input count old out) → IfSome from (λ input. IsListed d n input count old out)
+    → IfSome from (λ input. IsListed (bounds m.depth m.bytes) input count old out) → IfSome from (λ input. IsListed (bounds d n) input count old out)
 listed-within d n m from old out count depth bytes h =
-    subst (λ (k : ℕ). IfSome from (λ input. IsListed k n input count old out)) depth (subst (λ (k : ℕ). IfSome from (λ input. IsListed m.depth k input count old out)) bytes h)
+    subst (λ (k : ℕ). IfSome from (λ input. IsListed (bounds k n) input count old out)) depth (subst (λ (k : ℕ). IfSome from (λ input. IsListed (bounds m.depth k) input count old out)) bytes h)
 
 pub unlisted-within : (d n : ℕ) (m : MachineView) (from old out : Option (List ℕ)) (f : Refusal) → m.depth ≡ d → m.bytes ≡ n
-    → IfSome from (λ input. IsUnlisted m.depth m.bytes input f old out) → IfSome from (λ input. IsUnlisted d n input f old out)
+    → IfSome from (λ input. IsUnlisted (bounds m.depth m.bytes) input f old out) → IfSome from (λ input. IsUnlisted (bounds d n) input f old out)
 unlisted-within d n m from old out f depth bytes h =
-    subst (λ (k : ℕ). IfSome from (λ input. IsUnlisted k n input f old out)) depth (subst (λ (k : ℕ). IfSome from (λ input. IsUnlisted m.depth k input f old out)) bytes h)
+    subst (λ (k : ℕ). IfSome from (λ input. IsUnlisted (bounds k n) input f old out)) depth (subst (λ (k : ℕ). IfSome from (λ input. IsUnlisted (bounds m.depth k) input f old out)) bytes h)

@@ -1,6 +1,7 @@
 -- The listing of an item: a line for each of its events but the pieces of payloads.
 use Rattle.std.specs.Prelude.{◌≡◌, ℕ, ◌+◌, ◌<◌, ◌≤◌, ◌++◌, List, [], ◌∷◌, length, take, drop, flat_map, Option, Some, None, IfSome, codes, decimal}
 use Rattle.std.specs.Io.KnownBytes.{Appends}
+use Rattle.cbor_head.specs.Limits.{Bounds}
 use Rattle.cbor_head.specs.Spelling.{Spelling, IsItem, spell}
 use Rattle.cbor_head.specs.Beginning.{IsBeginning}
 use Rattle.cbor_head.specs.Complaint.{form}
@@ -82,24 +83,24 @@ pub record IsStopped (d : ℕ) (t out : List ℕ) : Type 0 where
   pub is : out ≡ lines earlier ++ take part (line last)
 
 -- the item at the front of the input b is accepted, and its listing was written
-pub record IsListed (d n : ℕ) (b : List ℕ) (count : ℕ) (old new : Option (List ℕ)) : Type 0 where
+pub record IsListed (limits : Bounds) (b : List ℕ) (count : ℕ) (old new : Option (List ℕ)) : Type 0 where
   pub item : Spelling
-  pub verdict : IsVerdict d n form b (accepted item)
+  pub verdict : IsVerdict limits form b (accepted item)
   pub size : count ≡ length (spell item)
   pub written : Appends old new (lines (events 0 item))
 
 -- the input b is refused, and something was written
-pub data IsUnlisted (d n : ℕ) (b : List ℕ) (f : Refusal) (old new : Option (List ℕ)) : Type 0 where
+pub data IsUnlisted (limits : Bounds) (b : List ℕ) (f : Refusal) (old new : Option (List ℕ)) : Type 0 where
   -- the verdict of form: the listing of the bytes in front of its place
-  of_verdict : (out : List ℕ) → IsVerdict d n form b (refused f)
-      → IsListing d (take f.place b) out → Appends old new out → IsUnlisted d n b f old new
+  of_verdict : (out : List ℕ) → IsVerdict limits form b (refused f)
+      → IsListing limits.depth (take f.place b) out → Appends old new out → IsUnlisted limits b f old new
   -- the reader failed: the listing of the bytes taken; as a whole input, these are Truncated
   of_reader : (out : List ℕ) → f ≡ refusal Read f.read f.read
-      → IsVerdict d n form (take f.read b) (refused (refusal Truncated f.read f.read))
-      → IsListing d (take f.read b) out → Appends old new out → IsUnlisted d n b f old new
+      → IsVerdict limits form (take f.read b) (refused (refusal Truncated f.read f.read))
+      → IsListing limits.depth (take f.read b) out → Appends old new out → IsUnlisted limits b f old new
   -- the writer failed or took nothing: the listing of the bytes taken, up to the place
   of_writer : (out : List ℕ) → f ≡ refusal Write (capped (length out)) f.read
-      → IsStopped d (take f.read b) out → Appends old new out → IsUnlisted d n b f old new
+      → IsStopped limits.depth (take f.read b) out → Appends old new out → IsUnlisted limits b f old new
 
 -- the reasons of a reader of events, and that the writer failed
 abbrev pub IsListingReason : Reason → Type 0

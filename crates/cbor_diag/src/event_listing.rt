@@ -32,12 +32,12 @@ pub fn listing<R: Read, W: Write>(
     writer: &mut W,
 ) -> Result<u64, Refusal>
     ensures listed { IfOk result (λ count. IfSome (R.remaining reader.old)
-        (λ input. IsListed limits.depth limits.bytes input count
+        (λ input. IsListed limits input count
         (W.contents writer.old) (W.contents writer.new))) }
     ensures taken { IfOk result
         (λ count. Loses count (R.remaining reader.old) (R.remaining reader.new)) }
     ensures refused { IfErr result (λ f. IfSome (R.remaining reader.old)
-        (λ input. IsUnlisted limits.depth limits.bytes input f
+        (λ input. IsUnlisted limits input f
         (W.contents writer.old) (W.contents writer.new))) }
     ensures reasons { IfErr result (λ f. IsListingReason f.reason) }
     ensures read { IfErr result

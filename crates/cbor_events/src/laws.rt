@@ -1,6 +1,7 @@
 //! The laws of events. Nothing here runs: each contract is a law.
 
 ghost use Rattle.std.specs.Prelude.{◌≡◌, ◌++◌, List, [], ◌∷◌, ℕ, length};
+ghost use Rattle.cbor_head.specs.Limits.{bounds};
 ghost use Rattle.cbor_head.specs.Spelling.{Spelling, IsSpelled, IsItem, spell};
 ghost use Rattle.cbor_head.specs.Complaint.{form};
 ghost use Rattle.cbor_head.specs.Verdict.{IsVerdict, accepted, refused};
@@ -20,10 +21,10 @@ ghost use Rattle.cbor_machine.specs.Machine.{StandsFor, IsComplete, IsGiven, IsR
 pub fn machine_verdict()
     ensures refuses { (r : Refusal) (m : MachineView) (t bs : List ℕ) (ms : List Mark)
         → IsRefused r m t bs ms → (more : List ℕ)
-        → IsVerdict m.depth m.bytes form ((t ++ bs) ++ more) (refused r) }
+        → IsVerdict (bounds m.depth m.bytes) form ((t ++ bs) ++ more) (refused r) }
     ensures accepts { (m : MachineView) (t : List ℕ) (ms : List Mark)
         → StandsFor m t ms → IsComplete m → (more : List ℕ)
-        → (s : Spelling) × IsVerdict m.depth m.bytes form (t ++ more) (accepted s) }
+        → (s : Spelling) × IsVerdict (bounds m.depth m.bytes) form (t ++ more) (accepted s) }
 {}
 
 /// The events that a machine told, neighbouring pieces joined, are those of each item that starts

@@ -2,6 +2,7 @@
 use Rattle.std.specs.Prelude.{ℕ, ◌≡◌, Option, List, [], ◌∷◌, ◌++◌, drop, codes, decimal}
 use Rattle.std.specs.Io.KnownBytes.{Appends}
 use Rattle.cbor_head.specs.Complaint.{plain}
+use Rattle.cbor_head.specs.Limits.{bounds}
 use Rattle.cbor_head.specs.Value.{Value}
 use Rattle.cbor_judging.specs.Readers.{IsReadAs}
 use Rattle.cbor_diag.specs.Text.{text}
@@ -10,7 +11,7 @@ use Rattle.cbor_explain.specs.declared.way.Step.TheVariants.{Member, Key, Value 
 
 -- the text of the key that stands at a place: its diagnostic text where it is a valid item of at most 64 bytes, else its place
 pub data IsKeyText (item : List ℕ) (place : ℕ) (t : List ℕ) : Type 0 where
-  short : (v : Value) (count : ℕ) → IsReadAs 256 64 plain (drop place item) v count → t ≡ codes "." ++ text v → IsKeyText item place t
+  short : (v : Value) (count : ℕ) → IsReadAs (bounds 256 64) plain (drop place item) v count → t ≡ codes "." ++ text v → IsKeyText item place t
   long : t ≡ codes ".(the key at " ++ decimal place ++ codes ")" → IsKeyText item place t
 
 -- the text of a step

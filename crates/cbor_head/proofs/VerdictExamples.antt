@@ -7,6 +7,7 @@ use Rattle.std.specs.Str.Lossy.{utf8_valid_len}
 use Rattle.std.proofs.lemmas.Str.{is_utf8-from_IsUtf8}
 use Rattle.cbor_head.specs.Beginning.{IsBeginning}
 use Rattle.cbor_head.specs.Complaint.{Rules, form, plain, strict, Complaint, complaint, Complains}
+use Rattle.cbor_head.specs.Limits.{bounds}
 use Rattle.cbor_head.specs.Read.{read}
 use Rattle.cbor_head.specs.Spelling.{Spelling, unsigned, negative, text, text_chunks, array, a_map, IsItem, IsSpelled, spell, depth}
 use Rattle.cbor_head.specs.Verdict.{IsFirstComplaint, IsVerdict, Decides, Answer, rank, accepted, refused, refusal}
@@ -21,7 +22,7 @@ first_of : (r : Rules) (s : Spelling) (t : ℕ) (c : Complaint) → Complains r 
 first_of r s t c h l f = record { holds = h; ends = l; first = λ e i m. f e i }
 
 -- the verdict where the first n bytes of the input are a beginning
-on_beginning : (n : ℕ) (r : Rules) (input p : List ℕ) (s : Spelling) (rest : List ℕ) (a : Answer) → take n input ≡ p → IsSpelled s → depth s ≤ 256 → spell s ≡ p ++ rest → Decides 256 n r p [] s a → IsVerdict 256 n r input a
+on_beginning : (n : ℕ) (r : Rules) (input p : List ℕ) (s : Spelling) (rest : List ℕ) (a : Answer) → take n input ≡ p → IsSpelled s → depth s ≤ 256 → spell s ≡ p ++ rest → Decides (bounds 256 n) r p [] s a → IsVerdict (bounds 256 n) r input a
 on_beginning n r input p s rest a e k l m h =
     let i : IsItem 256 s (p ++ rest) = record { spelled = k; within = l; bytes_are = m } in
     record {
@@ -43,7 +44,7 @@ on_beginning n r input p s rest a e k l m h =
 abbrev in_order : Spelling
 in_order = a_map Direct (pairs ((unsigned Direct 1, unsigned Direct 2) ∷ (unsigned Direct 3, unsigned Direct 4) ∷ []))
 
-in_order-accepted : IsVerdict 256 1048576 (strict Bytewise) (0xa2 ∷ 0x01 ∷ 0x02 ∷ 0x03 ∷ 0x04 ∷ []) (accepted in_order)
+in_order-accepted : IsVerdict (bounds 256 1048576) (strict Bytewise) (0xa2 ∷ 0x01 ∷ 0x02 ∷ 0x03 ∷ 0x04 ∷ []) (accepted in_order)
 in_order-accepted = on_beginning _ _ _ _ in_order [] _ refl (search arith) (omega arith) refl (refl, refl, λ c h l. grind arith)
 
 -- ---- {1: 0, 1: 0}, the second key in a longer head: the same key, in other bytes
@@ -54,13 +55,13 @@ repeated = a_map Direct (pairs ((unsigned Direct 1, unsigned Direct 0) ∷ (unsi
 repeated-plain : IsFirstComplaint plain repeated 6 (complaint 5 3 RepeatedKey)
 repeated-plain = first_of _ _ _ _ (search arith) (omega arith) (λ e h. grind arith)
 
-repeated-plain_verdict : IsVerdict 256 1048576 plain (0xa2 ∷ 0x01 ∷ 0x00 ∷ 0x18 ∷ 0x01 ∷ 0x00 ∷ []) (refused (refusal RepeatedKey 3 5))
+repeated-plain_verdict : IsVerdict (bounds 256 1048576) plain (0xa2 ∷ 0x01 ∷ 0x00 ∷ 0x18 ∷ 0x01 ∷ 0x00 ∷ []) (refused (refusal RepeatedKey 3 5))
 repeated-plain_verdict = on_beginning _ _ _ _ repeated [] _ refl (search arith) (omega arith) refl (inl (_, repeated-plain, refl))
 
 repeated-strict : IsFirstComplaint (strict Bytewise) repeated 6 (complaint 5 3 NotShortest)
 repeated-strict = first_of _ _ _ _ (search arith) (omega arith) (λ e h. grind arith)
 
-repeated-strict_verdict : IsVerdict 256 1048576 (strict Bytewise) (0xa2 ∷ 0x01 ∷ 0x00 ∷ 0x18 ∷ 0x01 ∷ 0x00 ∷ []) (refused (refusal NotShortest 3 5))
+repeated-strict_verdict : IsVerdict (bounds 256 1048576) (strict Bytewise) (0xa2 ∷ 0x01 ∷ 0x00 ∷ 0x18 ∷ 0x01 ∷ 0x00 ∷ []) (refused (refusal NotShortest 3 5))
 repeated-strict_verdict = on_beginning _ _ _ _ repeated [] _ refl (search arith) (omega arith) refl (inl (_, repeated-strict, refl))
 
 -- ---- {1: 0, 1: 0}, in shortest heads
@@ -71,7 +72,7 @@ equal_keys = a_map Direct (pairs ((unsigned Direct 1, unsigned Direct 0) ∷ (un
 equal_keys-strict : IsFirstComplaint (strict Bytewise) equal_keys 5 (complaint 4 3 KeyOrder)
 equal_keys-strict = first_of _ _ _ _ (search arith) (omega arith) (λ e h. grind arith)
 
-equal_keys-verdict : IsVerdict 256 1048576 (strict Bytewise) (0xa2 ∷ 0x01 ∷ 0x00 ∷ 0x01 ∷ 0x00 ∷ []) (refused (refusal KeyOrder 3 4))
+equal_keys-verdict : IsVerdict (bounds 256 1048576) (strict Bytewise) (0xa2 ∷ 0x01 ∷ 0x00 ∷ 0x01 ∷ 0x00 ∷ []) (refused (refusal KeyOrder 3 4))
 equal_keys-verdict = on_beginning _ _ _ _ equal_keys [] _ refl (search arith) (omega arith) refl (inl (_, equal_keys-strict, refl))
 
 -- ---- {{1: 0, 0: 0}: 0, 0: 0}: keys out of order within a key, and then behind it
@@ -85,7 +86,7 @@ keys_within-outer = search arith
 keys_within-strict : IsFirstComplaint (strict Bytewise) keys_within 9 (complaint 5 4 KeyOrder)
 keys_within-strict = first_of _ _ _ _ (search arith) (omega arith) (λ e h. grind arith)
 
-keys_within-verdict : IsVerdict 256 1048576 (strict Bytewise) (0xa2 ∷ 0xa2 ∷ 0x01 ∷ 0x00 ∷ 0x00 ∷ 0x00 ∷ 0x00 ∷ 0x00 ∷ 0x00 ∷ []) (refused (refusal KeyOrder 4 5))
+keys_within-verdict : IsVerdict (bounds 256 1048576) (strict Bytewise) (0xa2 ∷ 0xa2 ∷ 0x01 ∷ 0x00 ∷ 0x00 ∷ 0x00 ∷ 0x00 ∷ 0x00 ∷ 0x00 ∷ []) (refused (refusal KeyOrder 4 5))
 keys_within-verdict = on_beginning _ _ _ _ keys_within [] _ refl (search arith) (omega arith) refl (inl (_, keys_within-strict, refl))
 
 -- ---- {100: 0, 1: 0}, the second key in a longer head and out of order: at one end, the complaint on the key comes last
@@ -99,7 +100,7 @@ long_and_late-key = search arith
 long_and_late-strict : IsFirstComplaint (strict Bytewise) long_and_late 7 (complaint 6 4 NotShortest)
 long_and_late-strict = first_of _ _ _ _ (search arith) (omega arith) (λ e h. grind arith)
 
-long_and_late-verdict : IsVerdict 256 1048576 (strict Bytewise) (0xa2 ∷ 0x18 ∷ 0x64 ∷ 0x00 ∷ 0x18 ∷ 0x01 ∷ 0x00 ∷ []) (refused (refusal NotShortest 4 6))
+long_and_late-verdict : IsVerdict (bounds 256 1048576) (strict Bytewise) (0xa2 ∷ 0x18 ∷ 0x64 ∷ 0x00 ∷ 0x18 ∷ 0x01 ∷ 0x00 ∷ []) (refused (refusal NotShortest 4 6))
 long_and_late-verdict = on_beginning _ _ _ _ long_and_late [] _ refl (search arith) (omega arith) refl (inl (_, long_and_late-strict, refl))
 
 -- ---- {100: 0, -1: 0}: in order bytewise, and not by length
@@ -107,13 +108,13 @@ long_and_late-verdict = on_beginning _ _ _ _ long_and_late [] _ refl (search ari
 abbrev by_length : Spelling
 by_length = a_map Direct (pairs ((unsigned One 100, unsigned Direct 0) ∷ (negative Direct 0, unsigned Direct 0) ∷ []))
 
-by_length-bytewise : IsVerdict 256 1048576 (strict Bytewise) (0xa2 ∷ 0x18 ∷ 0x64 ∷ 0x00 ∷ 0x20 ∷ 0x00 ∷ []) (accepted by_length)
+by_length-bytewise : IsVerdict (bounds 256 1048576) (strict Bytewise) (0xa2 ∷ 0x18 ∷ 0x64 ∷ 0x00 ∷ 0x20 ∷ 0x00 ∷ []) (accepted by_length)
 by_length-bytewise = on_beginning _ _ _ _ by_length [] _ refl (search arith) (omega arith) refl (refl, refl, λ c h l. grind arith)
 
 by_length-first : IsFirstComplaint (strict LengthFirst) by_length 6 (complaint 5 4 KeyOrder)
 by_length-first = first_of _ _ _ _ (search arith) (omega arith) (λ e h. grind arith)
 
-by_length-verdict : IsVerdict 256 1048576 (strict LengthFirst) (0xa2 ∷ 0x18 ∷ 0x64 ∷ 0x00 ∷ 0x20 ∷ 0x00 ∷ []) (refused (refusal KeyOrder 4 5))
+by_length-verdict : IsVerdict (bounds 256 1048576) (strict LengthFirst) (0xa2 ∷ 0x18 ∷ 0x64 ∷ 0x00 ∷ 0x20 ∷ 0x00 ∷ []) (refused (refusal KeyOrder 4 5))
 by_length-verdict = on_beginning _ _ _ _ by_length [] _ refl (search arith) (omega arith) refl (inl (_, by_length-first, refl))
 
 -- ---- [], without a length
@@ -121,13 +122,13 @@ by_length-verdict = on_beginning _ _ _ _ by_length [] _ refl (search arith) (ome
 abbrev open_array : Spelling
 open_array = array Indefinite (members [])
 
-open_array-plain : IsVerdict 256 1048576 plain (0x9f ∷ 0xff ∷ []) (accepted open_array)
+open_array-plain : IsVerdict (bounds 256 1048576) plain (0x9f ∷ 0xff ∷ []) (accepted open_array)
 open_array-plain = on_beginning _ _ _ _ open_array [] _ refl (search arith) (omega arith) refl (refl, refl, λ c h l. grind arith)
 
 open_array-strict : IsFirstComplaint (strict Bytewise) open_array 2 (complaint 1 0 IndefiniteReason)
 open_array-strict = first_of _ _ _ _ (search arith) (omega arith) (λ e h. grind arith)
 
-open_array-verdict : IsVerdict 256 1048576 (strict Bytewise) (0x9f ∷ 0xff ∷ []) (refused (refusal IndefiniteReason 0 1))
+open_array-verdict : IsVerdict (bounds 256 1048576) (strict Bytewise) (0x9f ∷ 0xff ∷ []) (refused (refusal IndefiniteReason 0 1))
 open_array-verdict = on_beginning _ _ _ _ open_array [] _ refl (search arith) (omega arith) refl (inl (_, open_array-strict, refl))
 
 -- ---- a character split between two chunks: UTF-8 when joined, and neither chunk is
@@ -139,7 +140,7 @@ split_character-plain : IsFirstComplaint plain split_character 6 (complaint 3 2 
 unfolding utf8_valid_len is_utf8 chars encode_utf8
 split_character-plain = first_of _ _ _ _ (inr (inl (inr (refl, (λ u. cc (is_utf8-from_IsUtf8 (0xc3 ∷ []) u)), refl)))) (omega arith) (λ e h. grind arith)
 
-split_character-verdict : IsVerdict 256 1048576 plain (0x7f ∷ 0x61 ∷ 0xc3 ∷ 0x61 ∷ 0xbc ∷ 0xff ∷ []) (refused (refusal InvalidText 2 3))
+split_character-verdict : IsVerdict (bounds 256 1048576) plain (0x7f ∷ 0x61 ∷ 0xc3 ∷ 0x61 ∷ 0xbc ∷ 0xff ∷ []) (refused (refusal InvalidText 2 3))
 split_character-verdict = on_beginning _ _ _ _ split_character [] _ refl (search arith) (omega arith) refl (inl (_, split_character-plain, refl))
 
 -- ---- a key that is not UTF-8, and the input ends before its value
@@ -151,7 +152,7 @@ no_text-plain : IsFirstComplaint plain no_text 3 (complaint 3 2 InvalidText)
 unfolding utf8_valid_len is_utf8 chars encode_utf8
 no_text-plain = first_of _ _ _ _ (inr (inl (inr (refl, (λ u. cc (is_utf8-from_IsUtf8 (0xff ∷ []) u)), refl)))) (omega arith) (λ e h. grind arith)
 
-no_text-verdict : IsVerdict 256 1048576 plain (0xa1 ∷ 0x61 ∷ 0xff ∷ []) (refused (refusal InvalidText 2 3))
+no_text-verdict : IsVerdict (bounds 256 1048576) plain (0xa1 ∷ 0x61 ∷ 0xff ∷ []) (refused (refusal InvalidText 2 3))
 no_text-verdict = on_beginning _ _ _ _ no_text (0x00 ∷ []) _ refl (search arith) (omega arith) refl (inl (_, no_text-plain, refl))
 
 -- ---- a text that is not UTF-8 so far, and the input ends within it
@@ -159,7 +160,7 @@ no_text-verdict = on_beginning _ _ _ _ no_text (0x00 ∷ []) _ refl (search arit
 abbrev cut_text : Spelling
 cut_text = text Direct (0xff ∷ 0x00 ∷ [])
 
-cut_text-verdict : IsVerdict 256 1048576 plain (0x62 ∷ 0xff ∷ []) (refused (refusal Truncated 2 2))
+cut_text-verdict : IsVerdict (bounds 256 1048576) plain (0x62 ∷ 0xff ∷ []) (refused (refusal Truncated 2 2))
 cut_text-verdict = on_beginning _ _ _ _ cut_text (0x00 ∷ []) _ refl (search arith) (omega arith) refl (inr ((λ c h l. grind arith), (λ e. absurd (omega (arith, ap length e))), inr (omega arith, refl)))
 
 -- ---- 100, with a byte limit of 1
@@ -167,7 +168,7 @@ cut_text-verdict = on_beginning _ _ _ _ cut_text (0x00 ∷ []) _ refl (search ar
 abbrev number : Spelling
 number = unsigned One 100
 
-number-verdict : IsVerdict 256 1 plain (0x18 ∷ 0x64 ∷ []) (refused (refusal TooLong 1 1))
+number-verdict : IsVerdict (bounds 256 1) plain (0x18 ∷ 0x64 ∷ []) (refused (refusal TooLong 1 1))
 number-verdict = on_beginning _ _ _ _ number (0x64 ∷ []) _ refl (search arith) (omega arith) refl (inr ((λ c h l. grind arith), (λ e. absurd (omega (arith, ap length e))), inl (refl, refl)))
 
 -- ---- a break where an item is due
@@ -184,7 +185,7 @@ no_front_of_break (b ∷ q) x g f =
     let e : b ≡ 0xff = cc f in
     absurd (not_beginning q (subst (λ (b : ℕ). IsBeginning 256 (b ∷ q)) e g))
 
-stray_break : IsVerdict 256 1048576 form (0xff ∷ []) (refused (refusal StrayBreak 0 1))
+stray_break : IsVerdict (bounds 256 1048576) form (0xff ∷ []) (refused (refusal StrayBreak 0 1))
 stray_break =
     let zero : IsItem 256 (unsigned Direct 0) (0x00 ∷ []) = record { spelled = omega arith; within = omega arith; bytes_are = refl } in
     record {

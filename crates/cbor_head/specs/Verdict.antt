@@ -1,5 +1,6 @@
 -- What is answered of an input: the item that it starts with, or the refusal.
 use Rattle.std.specs.Prelude.{ℕ, ◌+◌, ◌≡◌, ◌≢◌, ◌<◌, ◌≤◌, ◌⊎◌, ◌++◌, ◌==◌, ◌||◌, ◌&&◌, ◌%◌, nat_le, if◌then◌else◌, List, [], ◌∷◌, length, take}
+use Rattle.cbor_head.specs.Limits.{Bounds}
 use Rattle.cbor_head.specs.Spelling.{Spelling, spell, IsItem}
 use Rattle.cbor_head.specs.Beginning.{MayFollow, IsLongestBeginning}
 use Rattle.cbor_head.specs.Complaint.{Rules, Complaint, Complains}
@@ -28,9 +29,9 @@ IsReasonAt d p c reason =
     ⊎ (¬ MayFollow d p 0x00 × ¬ MayFollow d p 0x20 × (reason ≡ BadChunk))
 
 -- the form error behind p, where these are the next of the first n bytes
-abbrev pub IsFormError : ℕ → ℕ → List ℕ → List ℕ → Refusal → Type 0
-IsFormError d n p (c ∷ rest) f = (reason : Reason) × IsReasonAt d p c reason × (f ≡ refusal reason (length p) (length p + 1))
-IsFormError d n p [] f = ((length p ≡ n) × (f ≡ refusal TooLong n n)) ⊎ ((length p < n) × (f ≡ refusal Truncated (length p) (length p)))
+abbrev pub IsFormError : Bounds → List ℕ → List ℕ → Refusal → Type 0
+IsFormError limits p (c ∷ rest) f = (reason : Reason) × IsReasonAt limits.depth p c reason × (f ≡ refusal reason (length p) (length p + 1))
+IsFormError limits p [] f = ((length p ≡ limits.bytes) × (f ≡ refusal TooLong limits.bytes limits.bytes)) ⊎ ((length p < limits.bytes) × (f ≡ refusal Truncated (length p) (length p)))
 
 -- complaints on a key come last at equal ends
 abbrev pub rank : Reason → ℕ
@@ -54,21 +55,21 @@ pub data Answer : Type 0 where
   refused : Refusal → Answer
 
 -- what an item that starts with p has answered, where p has these bytes behind it
-abbrev pub Decides : ℕ → ℕ → Rules → List ℕ → List ℕ → Spelling → Answer → Type 0
-Decides d n rules p behind s (accepted t) = (t ≡ s) × (spell s ≡ p) × IsWithout rules s (length p)
-Decides d n rules p behind s (refused f) =
+abbrev pub Decides : Bounds → Rules → List ℕ → List ℕ → Spelling → Answer → Type 0
+Decides limits rules p behind s (accepted t) = (t ≡ s) × (spell s ≡ p) × IsWithout rules s (length p)
+Decides limits rules p behind s (refused f) =
     ((c : Complaint) × IsFirstComplaint rules s (length p) c × (f ≡ refusal c.reason c.place c.end))
-    ⊎ (IsWithout rules s (length p) × (spell s ≢ p) × IsFormError d n p behind f)
+    ⊎ (IsWithout rules s (length p) × (spell s ≢ p) × IsFormError limits p behind f)
 
 -- what is answered of an input, within a depth and so many bytes
-pub record IsVerdict (d n : ℕ) (rules : Rules) (input : List ℕ) (answer : Answer) : Type 0 where
+pub record IsVerdict (limits : Bounds) (rules : Rules) (input : List ℕ) (answer : Answer) : Type 0 where
   -- the longest beginning, and an item that starts with it
   pub p : List ℕ
-  pub longest : IsLongestBeginning d (take n input) p
+  pub longest : IsLongestBeginning limits.depth (take limits.bytes input) p
   pub item : Spelling
   pub rest : List ℕ
-  pub starts : IsItem d item (p ++ rest)
-  pub decides : Decides d n rules p longest.rest item answer
+  pub starts : IsItem limits.depth item (p ++ rest)
+  pub decides : Decides limits rules p longest.rest item answer
 
 -- Examples, the plain verdict within 256 levels unless said; each is a row of the conformance table, and
 -- proofs/VerdictExamples has others, proved:

@@ -6,6 +6,7 @@ ghost use Rattle.cbor_head.specs.Beginning.{IsBeginning, IsLongestBeginning};
 ghost use Rattle.cbor_head.specs.Complaint.{Rules, Complaint, Complains};
 ghost use Rattle.cbor_head.specs.Head.{Holds, head, shortest};
 ghost use Rattle.cbor_head.specs.Laws.{IsAtFront, IsFrontWithoutComplaint, StartsWith};
+ghost use Rattle.cbor_head.specs.Limits.{Bounds};
 ghost use Rattle.cbor_head.specs.Read.{Front, front, read_head, read};
 ghost use Rattle.cbor_head.specs.Spelling.{Spelling, IsSpelled, IsItem, HoldsOrIndefinite, spell};
 ghost use Rattle.cbor_head.specs.Value.{AreBytes};
@@ -85,16 +86,16 @@ pub fn first_complaint_is_one()
 /// An input has one verdict, whichever item is asked of those that start with its longest
 /// beginning.
 pub fn verdict_is_one()
-    ensures one { (d n : ℕ) (r : Rules) (input : List ℕ) (x y : Answer)
-        → IsVerdict d n r input x → IsVerdict d n r input y → x ≡ y }
-    ensures each { (d n : ℕ) (r : Rules) (p behind : List ℕ) (s t : Spelling)
-        → StartsWith d s p → StartsWith d t p
-        → (x : Answer) → Decides d n r p behind s x → Decides d n r p behind t x }
+    ensures one { (limits : Bounds) (r : Rules) (input : List ℕ) (x y : Answer)
+        → IsVerdict limits r input x → IsVerdict limits r input y → x ≡ y }
+    ensures each { (limits : Bounds) (r : Rules) (p behind : List ℕ) (s t : Spelling)
+        → StartsWith limits.depth s p → StartsWith limits.depth t p
+        → (x : Answer) → Decides limits r p behind s x → Decides limits r p behind t x }
 {}
 
 /// What is accepted: exactly an item, well-formed within the depth and without complaint, that the
 /// input's first bytes, as many as the limit allows, begin with.
 pub fn acceptance_is_exact()
-    ensures { (d n : ℕ) (r : Rules) (input : List ℕ) (s : Spelling)
-        → IsVerdict d n r input (accepted s) ↔ IsFrontWithoutComplaint d n r input s }
+    ensures { (limits : Bounds) (r : Rules) (input : List ℕ) (s : Spelling)
+        → IsVerdict limits r input (accepted s) ↔ IsFrontWithoutComplaint limits r input s }
 {}

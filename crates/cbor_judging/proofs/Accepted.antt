@@ -2,33 +2,34 @@
 use Rattle.std.proofs.Common.{ℕ, ◌+◌, ◌-◌, ◌≡◌, ◌≤◌, List, [], ◌++◌, length, take, sym, ap, ◌∙◌, arith}
 use Rattle.std.proofs.lemmas.List.{append-nil, length-append, length-take, nil_from_length, take_all}
 use Rattle.std.proofs.Math.Seq.{take-append-add}
+use Rattle.cbor_head.specs.Limits.{Bounds}
 use Rattle.cbor_head.specs.Spelling.{Spelling, spell, IsItem}
 use Rattle.cbor_head.specs.Complaint.{Rules, Complaint, Complains}
 use Rattle.cbor_head.specs.Verdict.{accepted, IsVerdict}
 use Rattle.cbor_head.proofs.Beginnings.{item_decides}
 
-module _ (d n : ℕ) (r : Rules) (input : List ℕ) (s : Spelling) (v : IsVerdict d n r input (accepted s)) where
+module _ (limits : Bounds) (r : Rules) (input : List ℕ) (s : Spelling) (v : IsVerdict limits r input (accepted s)) where
   -- it is the longest beginning
   pub item_is_longest : spell s ≡ v.p
   item_is_longest = ap spell v.decides.0 ∙ v.decides.1
 
-  splits : take n input ≡ spell s ++ v.longest.rest
+  splits : take limits.bytes input ≡ spell s ++ v.longest.rest
   splits = v.longest.splits ∙ ap (λ (p : List ℕ). p ++ v.longest.rest) (sym item_is_longest)
 
-  pub item_within_limit : length (spell s) ≤ n
-  item_within_limit = omega (arith, ap length splits, length-append (spell s) v.longest.rest, length-take n input)
+  pub item_within_limit : length (spell s) ≤ limits.bytes
+  item_within_limit = omega (arith, ap length splits, length-append (spell s) v.longest.rest, length-take limits.bytes input)
 
   -- with nothing behind it
   pub item_is_whole : length input ≤ length (spell s) → spell s ≡ input
   item_is_whole l =
-      let size : length (take n input) ≡ length (spell s) + length v.longest.rest = ap length splits ∙ length-append (spell s) v.longest.rest in
-      let none : v.longest.rest ≡ [] = nil_from_length v.longest.rest (omega (arith, size, length-take n input, l)) in
-      let all : take n input ≡ input = take_all n input (omega (arith, l, item_within_limit)) in
+      let size : length (take limits.bytes input) ≡ length (spell s) + length v.longest.rest = ap length splits ∙ length-append (spell s) v.longest.rest in
+      let none : v.longest.rest ≡ [] = nil_from_length v.longest.rest (omega (arith, size, length-take limits.bytes input, l)) in
+      let all : take limits.bytes input ≡ input = take_all limits.bytes input (omega (arith, l, item_within_limit)) in
       sym (append-nil (spell s)) ∙ ap (λ (x : List ℕ). spell s ++ x) (sym none) ∙ sym splits ∙ all
 
 -- an item without complaint at the front of an input is accepted
-pub front_accepted : (d n : ℕ) (r : Rules) (s : Spelling) (rest : List ℕ) → IsItem d s (spell s) → ((c : Complaint) → Complains r 0 s c → ⊥) → length (spell s) ≤ n → IsVerdict d n r (spell s ++ rest) (accepted s)
-front_accepted d n r s rest well_formed sound fits =
-    let left = n - length (spell s) in
-    let size : n ≡ length (spell s) + left = omega (arith, fits) in
-    item_decides d n r (spell s ++ rest) (take left rest) s well_formed (ap (λ (k : ℕ). take k (spell s ++ rest)) size ∙ take-append-add (spell s) rest left) sound
+pub front_accepted : (limits : Bounds) (r : Rules) (s : Spelling) (rest : List ℕ) → IsItem limits.depth s (spell s) → ((c : Complaint) → Complains r 0 s c → ⊥) → length (spell s) ≤ limits.bytes → IsVerdict limits r (spell s ++ rest) (accepted s)
+front_accepted limits r s rest well_formed sound fits =
+    let left = limits.bytes - length (spell s) in
+    let size : limits.bytes ≡ length (spell s) + left = omega (arith, fits) in
+    item_decides limits r (spell s ++ rest) (take left rest) s well_formed (ap (λ (k : ℕ). take k (spell s ++ rest)) size ∙ take-append-add (spell s) rest left) sound

@@ -2,6 +2,7 @@
 use Rattle.std.proofs.Common.{ℕ, ◌+◌, ◌-◌, ◌≡◌, List, ◌++◌, length, take, drop, sym, ap, ◌∙◌, arith}
 use Rattle.std.proofs.Math.Seq.{take-append-add}
 use Rattle.std.proofs.lemmas.List.{append_assoc, take-append-drop}
+use Rattle.cbor_head.specs.Limits.{Bounds}
 use Rattle.cbor_head.specs.Value.{Value, Same}
 use Rattle.cbor_head.specs.Spelling.{Spelling, spell, value_of}
 use Rattle.cbor_head.specs.Canonical.{canonical}
@@ -15,34 +16,34 @@ use Rattle.cbor_canonical.proofs.Theorems.{canonical_spelled, strict_exactly}
 use Rattle.cbor_judging.specs.Readers.{BeginsWithCanonical}
 use Rattle.cbor_judging.proofs.Accepted.{item_within_limit}
 
-module _ (d n : ℕ) (o : KeyOrder) (input : List ℕ) where
+module _ (limits : Bounds) (o : KeyOrder) (input : List ℕ) where
   -- an item that is accepted is spelled canonically
-  pub strict_bytes : (s : Spelling) → IsVerdict d n (strict o) input (accepted s) → spell s ≡ canonical o (value_of s)
-  strict_bytes s v = let h = (accepts_exactly d n (strict o) input s).0 v in (strict_exactly o s h.1.0 h.2).canonical_is.bytes_are
+  pub strict_bytes : (s : Spelling) → IsVerdict limits (strict o) input (accepted s) → spell s ≡ canonical o (value_of s)
+  strict_bytes s v = let h = (accepts_exactly limits (strict o) input s).0 v in (strict_exactly o s h.1.0 h.2).canonical_is.bytes_are
 
-  pub strict_value : (s : Spelling) → IsVerdict d n (strict o) input (accepted s) → BeginsWithCanonical d n o input (value_of s)
+  pub strict_value : (s : Spelling) → IsVerdict limits (strict o) input (accepted s) → BeginsWithCanonical limits o input (value_of s)
   strict_value s v =
-      let h = (accepts_exactly d n (strict o) input s).0 v in
+      let h = (accepts_exactly limits (strict o) input s).0 v in
       let k = strict_exactly o s h.1.0 h.2 in
       let bytes_are = k.canonical_is.bytes_are in
       record {
         range = k.range;
         valid = k.valid;
         within = omega (arith, depth-value_of s, h.1.1);
-        fits = omega (arith, ap length bytes_are, item_within_limit d n (strict o) input s v);
-        rest = h.0 ++ drop n input;
-        begins = ap (λ (b : List ℕ). b ++ (h.0 ++ drop n input)) (sym bytes_are) ∙ sym (append_assoc (spell s) h.0 (drop n input))
-            ∙ ap (λ (b : List ℕ). b ++ drop n input) h.1.2 ∙ take-append-drop n input;
+        fits = omega (arith, ap length bytes_are, item_within_limit limits (strict o) input s v);
+        rest = h.0 ++ drop limits.bytes input;
+        begins = ap (λ (b : List ℕ). b ++ (h.0 ++ drop limits.bytes input)) (sym bytes_are) ∙ sym (append_assoc (spell s) h.0 (drop limits.bytes input))
+            ∙ ap (λ (b : List ℕ). b ++ drop limits.bytes input) h.1.2 ∙ take-append-drop limits.bytes input;
       }
 
-  pub strict_accepts : (v : Value) → BeginsWithCanonical d n o input v → (s : Spelling) × IsVerdict d n (strict o) input (accepted s)
+  pub strict_accepts : (v : Value) → BeginsWithCanonical limits o input v → (s : Spelling) × IsVerdict limits (strict o) input (accepted s)
   strict_accepts v h =
       let (s, k) = canonical_spelled o v h.range h.valid in
-      let left = n - length (canonical o v) in
-      let size : length (canonical o v) + left ≡ n = omega (arith, h.fits) in
-      let front : spell s ++ take left h.rest ≡ take n input =
+      let left = limits.bytes - length (canonical o v) in
+      let size : length (canonical o v) + left ≡ limits.bytes = omega (arith, h.fits) in
+      let front : spell s ++ take left h.rest ≡ take limits.bytes input =
       ap (λ (b : List ℕ). b ++ take left h.rest) k.bytes_are ∙ sym (take-append-add (canonical o v) h.rest left) ∙ (λ i. take (size i) (h.begins i)) in
-      (s, (accepts_exactly d n (strict o) input s).1 (take left h.rest, (k.spelled, omega (arith, k.as_deep, h.within), front), k.clean 0))
+      (s, (accepts_exactly limits (strict o) input s).1 (take left h.rest, (k.spelled, omega (arith, k.as_deep, h.within), front), k.clean 0))
 
-  pub one_front : (v w : Value) → BeginsWithCanonical d n o input v → BeginsWithCanonical d n o input w → Same v w × (canonical o v ≡ canonical o w)
+  pub one_front : (v w : Value) → BeginsWithCanonical limits o input v → BeginsWithCanonical limits o input w → Same v w × (canonical o v ≡ canonical o w)
   one_front v w h k = let r = told o o v w h.range k.range h.rest k.rest (h.begins ∙ sym k.begins) in (r.same, r.bytes_are)

@@ -2,6 +2,7 @@
 use Rattle.std.proofs.Common.{ℕ, ◌+◌, ◌≡◌, ◌<◌, ◌≤◌, Some, None, List, ◌++◌, length, take, refl, sym, ap, ◌∙◌, arith, subst, inl, inr}
 use Rattle.std.proofs.lemmas.List.{append_assoc}
 use Rattle.std.proofs.lemmas.Bool.{cases_lt}
+use Rattle.cbor_head.specs.Limits.{Bounds}
 use Rattle.cbor_head.specs.Spelling.{Spelling, spell, IsItem}
 use Rattle.cbor_head.specs.Complaint.{Rules, Complaint, Complains}
 use Rattle.cbor_head.specs.Verdict.{refusal, refused, IsFormError, IsFirstComplaint, IsVerdict}
@@ -23,20 +24,20 @@ first_further r s t u c l f =
     record { holds = f.holds; ends = omega (arith, e, l); first = λ x h m. elim (cases_lt t x.end) [ inl k ↦ inl (omega (arith, e, k)) | inr k ↦ f.first x h k ] }
 
 -- a complaint, wherever it was found first
-pub complaint_decides : (d n : ℕ) (r : Rules) (input p u q : List ℕ) (c : Complaint) → IsJudged r 0 d p (Some c) → take n input ≡ p ++ u → IsLongestBeginning d (take n input) q
-    → IsVerdict d n r input (refused (refusal c.reason c.place c.end))
-complaint_decides d n r input p u q c j e g =
+pub complaint_decides : (limits : Bounds) (r : Rules) (input p u q : List ℕ) (c : Complaint) → IsJudged r 0 limits.depth p (Some c) → take limits.bytes input ≡ p ++ u → IsLongestBeginning limits.depth (take limits.bytes input) q
+    → IsVerdict limits r input (refused (refusal c.reason c.place c.end))
+complaint_decides limits r input p u q c j e g =
     let l = g.longest p u (j.item, j.rest, j.is) e in
     let (k, f, h) = split_front p u q g.rest (sym e ∙ g.splits) l in
     let (t, z, i) = g.beginning in
-    let m : IsItem d t (p ++ (k ++ z)) = subst (IsItem d t) (ap (λ (x : List ℕ). x ++ z) f ∙ append_assoc p k z) i in
-    let first = first_for_each d j.item t p j.rest (k ++ z) j.is m r c (first_at_start r j.item p c j.finding) in
+    let m : IsItem limits.depth t (p ++ (k ++ z)) = subst (IsItem limits.depth t) (ap (λ (x : List ℕ). x ++ z) f ∙ append_assoc p k z) i in
+    let first = first_for_each limits.depth j.item t p j.rest (k ++ z) j.is m r c (first_at_start r j.item p c j.finding) in
     record { p = q; longest = g; item = t; rest = z; starts = i; decides = inl (c, first_further r t (length p) (length q) c l first, refl) }
 
 -- a form error behind what has no complaint so far
-pub break_decides : (d n : ℕ) (r : Rules) (input p : List ℕ) (f : Refusal) → IsJudged r 0 d p None → (g : IsLongestBeginning d (take n input) p) → IsFormError d n p g.rest f
-    → IsVerdict d n r input (refused f)
-break_decides d n r input p f j g b =
+pub break_decides : (limits : Bounds) (r : Rules) (input p : List ℕ) (f : Refusal) → IsJudged r 0 limits.depth p None → (g : IsLongestBeginning limits.depth (take limits.bytes input) p) → IsFormError limits p g.rest f
+    → IsVerdict limits r input (refused f)
+break_decides limits r input p f j g b =
     let short : 0 + length p < 0 + length (spell j.item) = j.finding.0 in
     record {
       p = p;

@@ -1,6 +1,7 @@
 -- No complaint ends before a place of an input's longest beginning.
 use Rattle.std.proofs.Common.{ℕ, ◌+◌, ◌≡◌, ◌<◌, ◌≤◌, List, [], ◌∷◌, ◌++◌, length, take, drop, sym, ap, ◌∙◌, arith, subst, inl, inr, append_assoc, take-append-drop}
 use Rattle.std.proofs.lemmas.Bool.{cases_lt}
+use Rattle.cbor_head.specs.Limits.{Bounds}
 use Rattle.cbor_head.specs.Spelling.{Spelling, IsItem}
 use Rattle.cbor_head.specs.Beginning.{IsLongestBeginning}
 use Rattle.cbor_head.specs.Complaint.{Rules, Complaint, Complains}
@@ -28,26 +29,26 @@ without r s t h c g = elim (cases_lt t c.end) [ inl l ↦ l | inr l ↦ absurd (
 
 -- ---- the first k bytes, as a whole input, are truncated
 
-truncated-place : (d n k : ℕ) (p behind : List ℕ) → IsFormError d n p behind (refusal Truncated k k) → length p ≡ k
-truncated-place d n k p [] (inl b) = absurd (cc (ap (λ (x : Refusal). x.reason) b.1))
-truncated-place d n k p [] (inr b) = sym (ap (λ (x : Refusal). x.place) b.1)
-truncated-place d n k p (c ∷ cs) b = sym (ap (λ (x : Refusal). x.place) b.2)
+truncated-place : (limits : Bounds) (k : ℕ) (p behind : List ℕ) → IsFormError limits p behind (refusal Truncated k k) → length p ≡ k
+truncated-place limits k p [] (inl b) = absurd (cc (ap (λ (x : Refusal). x.reason) b.1))
+truncated-place limits k p [] (inr b) = sym (ap (λ (x : Refusal). x.place) b.1)
+truncated-place limits k p (c ∷ cs) b = sym (ap (λ (x : Refusal). x.place) b.2)
 
-pub truncated-free : (d n k : ℕ) (r : Rules) (input p : List ℕ) → IsLongestBeginning d (take n input) p → k ≤ length p → IsVerdict d n r (take k input) (refused (refusal Truncated k k)) → IsFreeBefore d r p k
-truncated-free d n k r input p g l v = elim v.decides [
+pub truncated-free : (limits : Bounds) (k : ℕ) (r : Rules) (input p : List ℕ) → IsLongestBeginning limits.depth (take limits.bytes input) p → k ≤ length p → IsVerdict limits r (take k input) (refused (refusal Truncated k k)) → IsFreeBefore limits.depth r p k
+truncated-free limits k r input p g l v = elim v.decides [
   | inl c ↦ absurd (complaint-reason r 0 v.item c.0 c.1.holds (refusal Truncated k k) c.2)
   | inr b ↦
-      let size : length v.p ≡ k = truncated-place d n k v.p v.longest.rest b.2 in
-      let (m, is, other) = split_front v.p (v.longest.rest ++ (drop n (take k input) ++ drop k input)) p (g.rest ++ drop n input) (sym short ∙ whole) (omega (arith, size, l)) in
-      front-free d r v.p p m v.item v.rest k v.starts is (without r v.item (length v.p) b.0) (omega (arith, size))
+      let size : length v.p ≡ k = truncated-place limits k v.p v.longest.rest b.2 in
+      let (m, is, other) = split_front v.p (v.longest.rest ++ (drop limits.bytes (take k input) ++ drop k input)) p (g.rest ++ drop limits.bytes input) (sym short ∙ whole) (omega (arith, size, l)) in
+      front-free limits.depth r v.p p m v.item v.rest k v.starts is (without r v.item (length v.p) b.0) (omega (arith, size))
 ]
   where
-    short : input ≡ v.p ++ (v.longest.rest ++ (drop n (take k input) ++ drop k input))
+    short : input ≡ v.p ++ (v.longest.rest ++ (drop limits.bytes (take k input) ++ drop k input))
     short =
-        let cut : take k input ≡ v.p ++ (v.longest.rest ++ drop n (take k input)) =
-        sym (take-append-drop n (take k input)) ∙ ap (λ (u : List ℕ). u ++ drop n (take k input)) v.longest.splits ∙ append_assoc v.p v.longest.rest (drop n (take k input)) in
-        sym (take-append-drop k input) ∙ ap (λ (u : List ℕ). u ++ drop k input) cut ∙ append_assoc v.p (v.longest.rest ++ drop n (take k input)) (drop k input)
-        ∙ ap (λ (u : List ℕ). v.p ++ u) (append_assoc v.longest.rest (drop n (take k input)) (drop k input))
+        let cut : take k input ≡ v.p ++ (v.longest.rest ++ drop limits.bytes (take k input)) =
+        sym (take-append-drop limits.bytes (take k input)) ∙ ap (λ (u : List ℕ). u ++ drop limits.bytes (take k input)) v.longest.splits ∙ append_assoc v.p v.longest.rest (drop limits.bytes (take k input)) in
+        sym (take-append-drop k input) ∙ ap (λ (u : List ℕ). u ++ drop k input) cut ∙ append_assoc v.p (v.longest.rest ++ drop limits.bytes (take k input)) (drop k input)
+        ∙ ap (λ (u : List ℕ). v.p ++ u) (append_assoc v.longest.rest (drop limits.bytes (take k input)) (drop k input))
 
-    whole : input ≡ p ++ (g.rest ++ drop n input)
-    whole = sym (take-append-drop n input) ∙ ap (λ (u : List ℕ). u ++ drop n input) g.splits ∙ append_assoc p g.rest (drop n input)
+    whole : input ≡ p ++ (g.rest ++ drop limits.bytes input)
+    whole = sym (take-append-drop limits.bytes input) ∙ ap (λ (u : List ℕ). u ++ drop limits.bytes input) g.splits ∙ append_assoc p g.rest (drop limits.bytes input)

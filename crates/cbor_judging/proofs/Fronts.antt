@@ -21,7 +21,7 @@ known (Some input) P f = f input refl
 
 pub front-unread : (r : Rules) (b : Bounds) (from to : Option (List ℕ)) (f : Refusal) → StopsItem r b [] [] [] from to f → IsFrontUnread r b from to f
 front-unread r b from to f s = record {
-  refused = known from (λ input. IsUnread b.depth b.bytes r input f) (λ input k. item-unread r b input from to k f s);
+  refused = known from (λ input. IsUnread b r input f) (λ input k. item-unread r b input from to k f s);
   reason = reader-reason r b [] [] [] from to f s;
   taken = loses s.bytes f.read from to s.read s.taken;
 }

@@ -102,12 +102,12 @@ initial-form c = chain (c == 0xff) ((c == 0xf9) || (c == 0xfa) || (c == 0xfb)) (
     chain false false false false = tt
 
 -- a form error
-pub breaks-form : (d n : ℕ) (p behind : List ℕ) (f : Refusal) → IsFormError d n p behind f → IsFormReason f.reason
-breaks-form d n p [] f (inl h) = subst (λ (x : Refusal). IsFormReason x.reason) (sym h.1) tt
-breaks-form d n p [] f (inr h) = subst (λ (x : Refusal). IsFormReason x.reason) (sym h.1) tt
-breaks-form d n p (c ∷ cs) f h = subst (λ (x : Refusal). IsFormReason x.reason) (sym h.2) (go h.0 h.1)
+pub breaks-form : (limits : Bounds) (p behind : List ℕ) (f : Refusal) → IsFormError limits p behind f → IsFormReason f.reason
+breaks-form limits p [] f (inl h) = subst (λ (x : Refusal). IsFormReason x.reason) (sym h.1) tt
+breaks-form limits p [] f (inr h) = subst (λ (x : Refusal). IsFormReason x.reason) (sym h.1) tt
+breaks-form limits p (c ∷ cs) f h = subst (λ (x : Refusal). IsFormReason x.reason) (sym h.2) (go h.0 h.1)
   where
-    go : (reason : Reason) → IsReasonAt d p c reason → IsFormReason reason
+    go : (reason : Reason) → IsReasonAt limits.depth p c reason → IsFormReason reason
     go reason (inl b) = subst IsFormReason (sym b.1) (initial-form c)
     go reason (inr (inl b)) = subst IsFormReason (sym b.2) tt
     go reason (inr (inr b)) = subst IsFormReason (sym b.2) tt
@@ -117,10 +117,10 @@ pub complaint-reason : (r : Rules) (at : ℕ) (s : Spelling) (c : Complaint) →
 complaint-reason r at s c h f is = subst (λ (x : Refusal). IsComplaintReason r x.reason) (sym is) (complains r at s c h)
 
 -- a verdict
-pub verdict-reason : (d n : ℕ) (r : Rules) (input : List ℕ) (f : Refusal) → IsVerdict d n r input (refused f) → IsFormReason f.reason ⊎ IsComplaintReason r f.reason
-verdict-reason d n r input f v = elim v.decides [
+pub verdict-reason : (limits : Bounds) (r : Rules) (input : List ℕ) (f : Refusal) → IsVerdict limits r input (refused f) → IsFormReason f.reason ⊎ IsComplaintReason r f.reason
+verdict-reason limits r input f v = elim v.decides [
   | inl c ↦ inr (complaint-reason r 0 v.item c.0 c.1.holds f c.2)
-  | inr b ↦ inl (breaks-form d n v.p v.longest.rest f b.2)
+  | inr b ↦ inl (breaks-form limits v.p v.longest.rest f b.2)
 ]
 
 -- by form alone it has no complaint
@@ -132,18 +132,18 @@ none-by-form RepeatedKey h = cc h
 none-by-form KeyOrder h = cc h.1
 none-by-form _ h = h
 
-pub form-reason : (d n : ℕ) (input : List ℕ) (f : Refusal) → IsVerdict d n form input (refused f) → IsFormReason f.reason
-form-reason d n input f v = elim (verdict-reason d n form input f v) [ inl h ↦ h | inr h ↦ absurd (none-by-form f.reason h) ]
+pub form-reason : (limits : Bounds) (input : List ℕ) (f : Refusal) → IsVerdict limits form input (refused f) → IsFormReason f.reason
+form-reason limits input f v = elim (verdict-reason limits form input f v) [ inl h ↦ h | inr h ↦ absurd (none-by-form f.reason h) ]
 
 -- no verdict names a reader that failed
-pub never-read : (d n : ℕ) (r : Rules) (input : List ℕ) (f : Refusal) → IsVerdict d n r input (refused f) → f.reason ≢ Read
-never-read d n r input f v e = elim (verdict-reason d n r input f v) [ inl h ↦ subst IsFormReason e h | inr h ↦ subst (IsComplaintReason r) e h ]
+pub never-read : (limits : Bounds) (r : Rules) (input : List ℕ) (f : Refusal) → IsVerdict limits r input (refused f) → f.reason ≢ Read
+never-read limits r input f v e = elim (verdict-reason limits r input f v) [ inl h ↦ subst IsFormReason e h | inr h ↦ subst (IsComplaintReason r) e h ]
 
 -- ---- the readers
 
 -- what the form has against the bytes, or the reader
 form-refusal : (b : Bounds) (all : List ℕ) (to : Option (List ℕ)) (f : Refusal) → IsFormRefusal b all to f → IsFormReason f.reason ⊎ (f.reason ≡ Read)
-form-refusal b all to f (inl v) = inl (form-reason b.depth b.bytes (all ++ []) f (v []))
+form-refusal b all to f (inl v) = inl (form-reason b (all ++ []) f (v []))
 form-refusal b all to f (inr v) = elim v.2 [ inl e ↦ inr e | inr e ↦ inl (subst IsFormReason (sym e.0) tt) ]
 
 cause-reason : (r : Rules) (b : Bounds) (fs : List Container) (t taken : List ℕ) (to : Option (List ℕ)) (f : Refusal) → HasCause r b fs t taken to f → IsReaderReason r f.reason

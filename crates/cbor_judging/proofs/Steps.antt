@@ -3,7 +3,7 @@ use Rattle.std.proofs.Common.{◌≡◌, ℕ, zero, suc, ◌+◌, ◌-◌, ◌<�
 use Rattle.std.proofs.lemmas.List.{length-append}
 use Rattle.std.specs.Prelude.{Ok}
 use Rattle.std.specs.Io.KnownBytes.{Consumes}
-use Rattle.cbor_head.specs.Limits.{Bounds}
+use Rattle.cbor_head.specs.Limits.{Bounds, bounds}
 use Rattle.cbor_head.specs.Complaint.{Rules, form, strict, Complaint, complaint}
 use Rattle.cbor_head.specs.Beginning.{IsBeginning}
 use Rattle.cbor_head.specs.Verdict.{refusal, refused, IsVerdict}
@@ -234,8 +234,8 @@ pub record Stops (b : Bounds) (q : Place) (t : List ℕ) (from to : Option (List
   pub read : f.read ≡ length (t ++ bytes)
   pub cut : IsCutHead b q t bytes to f
 
-verdict-within : (b : Bounds) (d n : ℕ) (input : List ℕ) (f : Refusal) → d ≡ b.depth → n ≡ b.bytes → IsVerdict d n form input (refused f) → IsVerdict b.depth b.bytes form input (refused f)
-verdict-within b d n input f e g v = subst (λ (x : ℕ). IsVerdict x b.bytes form input (refused f)) e (subst (λ (x : ℕ). IsVerdict d x form input (refused f)) g v)
+verdict-within : (b : Bounds) (d n : ℕ) (input : List ℕ) (f : Refusal) → d ≡ b.depth → n ≡ b.bytes → IsVerdict (bounds d n) form input (refused f) → IsVerdict b form input (refused f)
+verdict-within b d n input f e g v = subst (λ (x : ℕ). IsVerdict (bounds x b.bytes) form input (refused f)) e (subst (λ (x : ℕ). IsVerdict (bounds d x) form input (refused f)) g v)
 
 module _ (b : Bounds) (old new : ItemEventsView) (t : List ℕ) (q : Place) (from to : Option (List ℕ)) (f : Refusal) (a : IsAt b old t q) (same : SameLimits old.machine new.machine) where
   abbrev now : MachineView
@@ -304,7 +304,7 @@ module _ (b : Bounds) (old new : ItemEventsView) (t : List ℕ) (q : Place) (fro
           begun = state_of now.inner.position now.inner.frames;
           ran = silent (before now (length (t ++ c.bytes))) c.bytes refl c.stands;
           place = ap (λ (x : Refusal). x.place) c.is;
-          refused = inl (λ more. subst (λ (xs : List ℕ). IsVerdict b.depth b.bytes form (xs ++ more) (refused f)) (sym all) (verdict-within b now.depth now.bytes (((t ++ c.bytes) ++ c.byte ∷ []) ++ more) f deep most (c.verdict more)));
+          refused = inl (λ more. subst (λ (xs : List ℕ). IsVerdict b form (xs ++ more) (refused f)) (sym all) (verdict-within b now.depth now.bytes (((t ++ c.bytes) ++ c.byte ∷ []) ++ more) f deep most (c.verdict more)));
         };
       }
 

@@ -56,33 +56,33 @@ lost input bs from to e h = go to (subst (λ (f : Option (List ℕ)). Consumes f
 -- ---- a form error
 
 -- its place is the length of the longest beginning
-break_place : (d n : ℕ) (p behind : List ℕ) (f : Refusal) → IsFormError d n p behind f → f.place ≡ length p
-break_place d n p [] f (inl b) = ap (λ (x : Refusal). x.place) b.1 ∙ sym b.0
-break_place d n p [] f (inr b) = ap (λ (x : Refusal). x.place) b.1
-break_place d n p (c ∷ cs) f b = ap (λ (x : Refusal). x.place) b.2
+break_place : (limits : Bounds) (p behind : List ℕ) (f : Refusal) → IsFormError limits p behind f → f.place ≡ length p
+break_place limits p [] f (inl b) = ap (λ (x : Refusal). x.place) b.1 ∙ sym b.0
+break_place limits p [] f (inr b) = ap (λ (x : Refusal). x.place) b.1
+break_place limits p (c ∷ cs) f b = ap (λ (x : Refusal). x.place) b.2
 
 -- what the form has against an input
-record BreaksAt (d n : ℕ) (input : List ℕ) (f : Refusal) : Type 0 where
+record BreaksAt (limits : Bounds) (input : List ℕ) (f : Refusal) : Type 0 where
   p : List ℕ
-  longest : IsLongestBeginning d (take n input) p
-  breaks : IsFormError d n p longest.rest f
+  longest : IsLongestBeginning limits.depth (take limits.bytes input) p
+  breaks : IsFormError limits p longest.rest f
 
-breaks_at : (d n : ℕ) (input : List ℕ) (f : Refusal) → IsVerdict d n form input (refused f) → BreaksAt d n input f
-breaks_at d n input f v = elim v.decides [
+breaks_at : (limits : Bounds) (input : List ℕ) (f : Refusal) → IsVerdict limits form input (refused f) → BreaksAt limits input f
+breaks_at limits input f v = elim v.decides [
   | inl c ↦ absurd (no-complaint 0 v.item c.0 c.1.holds)
   | inr b ↦ record { p = v.p; longest = v.longest; breaks = b.2 }
 ]
 
 -- and the place of its refusal is where what has no complaint ends
-pub form_decides : (d n : ℕ) (r : Rules) (input p rest : List ℕ) (f : Refusal) → IsJudged r 0 d p None → input ≡ p ++ rest → f.place ≡ length p → IsVerdict d n form input (refused f)
-    → (IsVerdict d n r input (refused f)) × IsLongestBeginning d (take n input) p
-form_decides d n r input p rest f j e place v =
-    let b = breaks_at d n input f v in
-    let size : length b.p ≡ length p = sym (break_place d n b.p b.longest.rest f b.breaks) ∙ place in
-    let whole : input ≡ b.p ++ (b.longest.rest ++ drop n input) = sym (take-append-drop n input) ∙ ap (λ (u : List ℕ). u ++ drop n input) b.longest.splits ∙ append_assoc b.p b.longest.rest (drop n input) in
-    let same : p ≡ b.p = same_front p b.p rest (b.longest.rest ++ drop n input) (sym e ∙ whole) (sym size) in (
-      break_decides d n r input b.p f (subst (λ (u : List ℕ). IsJudged r 0 d u None) same j) b.longest b.breaks,
-      subst (IsLongestBeginning d (take n input)) (sym same) b.longest,
+pub form_decides : (limits : Bounds) (r : Rules) (input p rest : List ℕ) (f : Refusal) → IsJudged r 0 limits.depth p None → input ≡ p ++ rest → f.place ≡ length p → IsVerdict limits form input (refused f)
+    → (IsVerdict limits r input (refused f)) × IsLongestBeginning limits.depth (take limits.bytes input) p
+form_decides limits r input p rest f j e place v =
+    let b = breaks_at limits input f v in
+    let size : length b.p ≡ length p = sym (break_place limits b.p b.longest.rest f b.breaks) ∙ place in
+    let whole : input ≡ b.p ++ (b.longest.rest ++ drop limits.bytes input) = sym (take-append-drop limits.bytes input) ∙ ap (λ (u : List ℕ). u ++ drop limits.bytes input) b.longest.splits ∙ append_assoc b.p b.longest.rest (drop limits.bytes input) in
+    let same : p ≡ b.p = same_front p b.p rest (b.longest.rest ++ drop limits.bytes input) (sym e ∙ whole) (sym size) in (
+      break_decides limits r input b.p f (subst (λ (u : List ℕ). IsJudged r 0 limits.depth u None) same j) b.longest b.breaks,
+      subst (IsLongestBeginning limits.depth (take limits.bytes input)) (sym same) b.longest,
     )
 
 -- ---- an item that is read
@@ -95,11 +95,11 @@ module _ (r : Rules) (b : Bounds) (input : List ℕ) (from to : Option (List ℕ
     fits : length (spell i.item) ≤ b.bytes
     fits = omega (arith, i.at.stands.stands.taken, i.at.stands.stands.limited, i.at.bytes)
 
-    pub item-read : IsReadAs b.depth b.bytes r input v (length (spell i.item))
+    pub item-read : IsReadAs b r input v (length (spell i.item))
     item-read = record {
       read = record {
         item = i.item;
-        verdict = item_decides b.depth b.bytes r input (take (b.bytes - length (spell i.item)) gone.rest) i.item
+        verdict = item_decides b r input (take (b.bytes - length (spell i.item)) gone.rest) i.item
             (record { spelled = i.spelled; within = omega (arith, i.within); bytes_are = refl })
             (ap (take b.bytes) gone.splits ∙ cut_behind b.bytes (spell i.item) gone.rest fits)
             i.clean;
@@ -139,7 +139,7 @@ module _ (r : Rules) (b : Bounds) (input : List ℕ) (from to : Option (List ℕ
         level : b.depth - 0 ≡ b.depth
         level = omega arith
 
-    stopped-for-memory : IsMemory f → IsReached b s.bytes → IsUndecided r b [] [] s.bytes → IsUnread b.depth b.bytes r input f
+    stopped-for-memory : IsMemory f → IsReached b s.bytes → IsUndecided r b [] [] s.bytes → IsUnread b r input f
     stopped-for-memory m h u =
         let g = longest_always b.depth (take b.bytes input) in
         of_memory g.0 g.1 (short h g.0 g.1) (flat Memory m.0 m.1) (free h u g.0 g.1)
@@ -151,19 +151,19 @@ module _ (r : Rules) (b : Bounds) (input : List ℕ) (from to : Option (List ℕ
       shorter : length p ≤ length s.bytes
       shorter = omega (arith, ap length splits, length-append p last)
 
-      stopped-by-complaint : (c : Complaint) → IsJudged r 0 b.depth p (Some c) → f ≡ refusal c.reason c.place c.end → length s.bytes ≤ b.bytes → IsUnread b.depth b.bytes r input f
+      stopped-by-complaint : (c : Complaint) → IsJudged r 0 b.depth p (Some c) → f ≡ refusal c.reason c.place c.end → length s.bytes ≤ b.bytes → IsUnread b r input f
       stopped-by-complaint c j is l =
           let g = longest_always b.depth (take b.bytes input) in
-          of_verdict (subst (λ (x : Refusal). IsVerdict b.depth b.bytes r input (refused x)) (sym is)
-          (complaint_decides b.depth b.bytes r input p (take (b.bytes - length p) (last ++ left.rest)) g.0 c j
+          of_verdict (subst (λ (x : Refusal). IsVerdict b r input (refused x)) (sym is)
+          (complaint_decides b r input p (take (b.bytes - length p) (last ++ left.rest)) g.0 c j
           (ap (take b.bytes) input-is ∙ cut_behind b.bytes p (last ++ left.rest) (omega (arith, l, shorter))) g.1))
 
       -- the input ends, or the reader failed, within an item
-      cut : IsJudged r 0 b.depth p None → f.place ≡ length p → IsVerdict b.depth b.bytes form s.bytes (refused (refusal Truncated (length s.bytes) (length s.bytes))) → f.place ≡ f.read
-          → (f.reason ≡ Read) ⊎ ((f.reason ≡ Truncated) × IsAtEnd to) → IsUnread b.depth b.bytes r input f
+      cut : IsJudged r 0 b.depth p None → f.place ≡ length p → IsVerdict b form s.bytes (refused (refusal Truncated (length s.bytes) (length s.bytes))) → f.place ≡ f.read
+          → (f.reason ≡ Read) ⊎ ((f.reason ≡ Truncated) × IsAtEnd to) → IsUnread b r input f
       cut j place v even why =
           let all : length s.bytes ≡ length p = sym read-is ∙ sym even ∙ place in
-          let decided = form_decides b.depth b.bytes r s.bytes p last (refusal Truncated (length s.bytes) (length s.bytes)) j splits all v in
+          let decided = form_decides b r s.bytes p last (refusal Truncated (length s.bytes) (length s.bytes)) j splits all v in
           elim why [
             | inl e ↦
                 let g = longest_always b.depth (take b.bytes input) in
@@ -171,29 +171,29 @@ module _ (r : Rules) (b : Bounds) (input : List ℕ) (from to : Option (List ℕ
                 let begins : IsBeginning b.depth s.bytes = subst (IsBeginning b.depth) (sym (splits ∙ ap (λ (u : List ℕ). p ++ u) none ∙ append-nil p)) (j.item, j.rest, j.is) in
                 let within : length s.bytes ≤ b.bytes = most v in
                 of_reader g.0 g.1 (short (record { begins = begins; within = within }) g.0 g.1) (flat Read e even)
-                (subst (λ (u : List ℕ). IsVerdict b.depth b.bytes r u (refused (refusal Truncated f.read f.read))) (sym taken-are)
-                (subst (λ (k : ℕ). IsVerdict b.depth b.bytes r s.bytes (refused (refusal Truncated k k))) (sym read-is) decided.0))
+                (subst (λ (u : List ℕ). IsVerdict b r u (refused (refusal Truncated f.read f.read))) (sym taken-are)
+                (subst (λ (k : ℕ). IsVerdict b r s.bytes (refused (refusal Truncated k k))) (sym read-is) decided.0))
             | inr e ↦
                 let end : left.rest ≡ [] = ended left.rest left.left e.1 in
                 let whole : input ≡ s.bytes = left.splits ∙ ap (λ (u : List ℕ). s.bytes ++ u) end ∙ append-nil s.bytes in
-                of_verdict (subst (λ (u : List ℕ). IsVerdict b.depth b.bytes r u (refused f)) (sym whole)
-                (subst (λ (x : Refusal). IsVerdict b.depth b.bytes r s.bytes (refused x)) (sym (flat Truncated e.0 even ∙ ap (λ (k : ℕ). refusal Truncated k k) read-is)) decided.0))
+                of_verdict (subst (λ (u : List ℕ). IsVerdict b r u (refused f)) (sym whole)
+                (subst (λ (x : Refusal). IsVerdict b r s.bytes (refused x)) (sym (flat Truncated e.0 even ∙ ap (λ (k : ℕ). refusal Truncated k k) read-is)) decided.0))
           ]
         where
           ended : (rest : List ℕ) → to ≡ Some rest → IsAtEnd to → rest ≡ []
           ended rest e h = subst IsAtEnd e h
 
-          most : IsVerdict b.depth b.bytes form s.bytes (refused (refusal Truncated (length s.bytes) (length s.bytes))) → length s.bytes ≤ b.bytes
-          most v = (verdict_within b.depth b.bytes s.bytes form (refusal Truncated (length s.bytes) (length s.bytes)) v).in_limit
+          most : IsVerdict b form s.bytes (refused (refusal Truncated (length s.bytes) (length s.bytes))) → length s.bytes ≤ b.bytes
+          most v = (verdict_within b s.bytes form (refusal Truncated (length s.bytes) (length s.bytes)) v).in_limit
 
-      stopped-by-cause : (found : Option Complaint) → IsJudged r 0 b.depth p found → IsCause b s.bytes to (length p) found f → IsUnread b.depth b.bytes r input f
+      stopped-by-cause : (found : Option Complaint) → IsJudged r 0 b.depth p found → IsCause b s.bytes to (length p) found f → IsUnread b r input f
       stopped-by-cause (Some c) j h = stopped-by-complaint c j h.0 h.1
       stopped-by-cause None j h = elim h.1 [
-        | inl w ↦ of_verdict (form_decides b.depth b.bytes r input p (last ++ left.rest) f j input-is h.0 (subst (λ (u : List ℕ). IsVerdict b.depth b.bytes form u (refused f)) (sym left.splits) (w left.rest))).0
+        | inl w ↦ of_verdict (form_decides b r input p (last ++ left.rest) f j input-is h.0 (subst (λ (u : List ℕ). IsVerdict b form u (refused f)) (sym left.splits) (w left.rest))).0
         | inr w ↦ cut j h.0 w.0 w.1 w.2
       ]
 
-    pub item-unread : IsUnread b.depth b.bytes r input f
+    pub item-unread : IsUnread b r input f
     item-unread = elim s.why [
       | inl m ↦ stopped-for-memory m.0 m.1 m.2
       | inr h ↦ stopped-by-cause h.p h.last h.splits h.found (subst (λ (k : ℕ). IsJudged r 0 k h.p h.found) level h.judged) h.cause

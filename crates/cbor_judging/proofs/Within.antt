@@ -2,6 +2,7 @@
 use Rattle.std.proofs.Common.{ℕ, ◌+◌, ◌≤◌, List, [], ◌∷◌, length, take, ap, ◌∙◌, arith, inl, inr}
 use Rattle.std.proofs.lemmas.List.{length-append, length-take}
 use Rattle.std.proofs.lemmas.Str.{utf8_valid_len_le}
+use Rattle.cbor_head.specs.Limits.{Bounds}
 use Rattle.cbor_head.specs.Spelling.{Chunk, Spelling, Spellings, SpelledEntries, unsigned, negative, bytes, text, byte_chunks, text_chunks, array, a_map, tag, simple, no_spellings, a_spelling, no_entries, entry, spellings_count, entries_count, chunk_bytes}
 use Rattle.cbor_head.specs.Complaint.{KeyRule, unasked, distinct, rising, Rules, Complaint, OfHead, OfIndefinite, OfCount, OfPayload, OfString, OfChunks, OfKey, Complains, ComplainsIn, ComplainsInEntries}
 use Rattle.cbor_head.specs.Verdict.{IsFormError, IsVerdict, refused}
@@ -76,14 +77,14 @@ mutual
 
 -- ---- refusals
 
-module _ (d n : ℕ) (input : List ℕ) where
-  pub longest_within : (p : List ℕ) (g : IsLongestBeginning d (take n input) p) → (length p + length g.rest ≤ n) × (length p + length g.rest ≤ length input)
+module _ (limits : Bounds) (input : List ℕ) where
+  pub longest_within : (p : List ℕ) (g : IsLongestBeginning limits.depth (take limits.bytes input) p) → (length p + length g.rest ≤ limits.bytes) × (length p + length g.rest ≤ length input)
   longest_within p g =
       let size = ap length g.splits ∙ length-append p g.rest in
-      let small = length-take n input in
+      let small = length-take limits.bytes input in
       (omega (arith, size, small), omega (arith, size, small))
 
-  break_within : (p behind : List ℕ) (f : Refusal) → length p + length behind ≤ n → length p + length behind ≤ length input → IsFormError d n p behind f → StandsWithin n input f
+  break_within : (p behind : List ℕ) (f : Refusal) → length p + length behind ≤ limits.bytes → length p + length behind ≤ length input → IsFormError limits p behind f → StandsWithin limits.bytes input f
   break_within p [] f l m (inl b) =
       let place = ap (λ (f : Refusal). f.place) b.1 in let read = ap (λ (f : Refusal). f.read) b.1 in
       record { by_read = omega (arith, place, read); in_limit = omega (arith, read); in_input = omega (arith, read, b.0, m) }
@@ -94,7 +95,7 @@ module _ (d n : ℕ) (input : List ℕ) where
       let place = ap (λ (f : Refusal). f.place) b.2 in let read = ap (λ (f : Refusal). f.read) b.2 in
       record { by_read = omega (arith, place, read); in_limit = omega (arith, read, l); in_input = omega (arith, read, m) }
 
-  pub verdict_within : (r : Rules) (f : Refusal) → IsVerdict d n r input (refused f) → StandsWithin n input f
+  pub verdict_within : (r : Rules) (f : Refusal) → IsVerdict limits r input (refused f) → StandsWithin limits.bytes input f
   verdict_within r f v =
       let w = longest_within v.p v.longest in
       elim v.decides [

@@ -1,5 +1,6 @@
 -- What the readers answer of the item at the front of an input.
 use Rattle.std.specs.Prelude.{ℕ, ◌≡◌, ◌≤◌, List, length, take, drop, Option, Some, IfSome, ◌++◌}
+use Rattle.cbor_head.specs.Limits.{Bounds}
 use Rattle.cbor_head.specs.Value.{Value, IsInRange, IsValid, depth}
 use Rattle.cbor_head.specs.Spelling.{Spelling, spell, value_of}
 use Rattle.cbor_head.specs.Beginning.{IsLongestBeginning}
@@ -12,25 +13,25 @@ use Rattle.cbor_head.specs.declared.order.KeyOrder.{KeyOrder}
 use Rattle.cbor_judging.specs.Refusals.{IsFreeBefore}
 
 -- the input's item, which has so many bytes, is accepted
-pub record IsRead (d n : ℕ) (r : Rules) (input : List ℕ) (count : ℕ) : Type 0 where
+pub record IsRead (limits : Bounds) (r : Rules) (input : List ℕ) (count : ℕ) : Type 0 where
   pub item : Spelling
-  pub verdict : IsVerdict d n r input (accepted item)
+  pub verdict : IsVerdict limits r input (accepted item)
   pub size : count ≡ length (spell item)
 
 -- and this is its value
-pub record IsReadAs (d n : ℕ) (r : Rules) (input : List ℕ) (v : Value) (count : ℕ) : Type 0 where
-  pub read : IsRead d n r input count
+pub record IsReadAs (limits : Bounds) (r : Rules) (input : List ℕ) (v : Value) (count : ℕ) : Type 0 where
+  pub read : IsRead limits r input count
   pub value : v ≡ value_of read.item
 
 -- The refusal of an input: the verdict; or what came in between.
-pub data IsUnread (d n : ℕ) (r : Rules) (input : List ℕ) (f : Refusal) : Type 0 where
-  of_verdict : IsVerdict d n r input (refused f) → IsUnread d n r input f
+pub data IsUnread (limits : Bounds) (r : Rules) (input : List ℕ) (f : Refusal) : Type 0 where
+  of_verdict : IsVerdict limits r input (refused f) → IsUnread limits r input f
   -- the reader failed within an item without complaint: of the bytes taken, as a whole input, the verdict is Truncated
-  of_reader : (p : List ℕ) → IsLongestBeginning d (take n input) p → f.read ≤ length p → f ≡ refusal Read f.read f.read
-      → IsVerdict d n r (take f.read input) (refused (refusal Truncated f.read f.read)) → IsUnread d n r input f
+  of_reader : (p : List ℕ) → IsLongestBeginning limits.depth (take limits.bytes input) p → f.read ≤ length p → f ≡ refusal Read f.read f.read
+      → IsVerdict limits r (take f.read input) (refused (refusal Truncated f.read f.read)) → IsUnread limits r input f
   -- memory was refused, somewhere on the longest beginning, where no complaint had ended before
-  of_memory : (p : List ℕ) → IsLongestBeginning d (take n input) p → f.read ≤ length p → f ≡ refusal Memory f.read f.read
-      → IsFreeBefore d r p f.read → IsUnread d n r input f
+  of_memory : (p : List ℕ) → IsLongestBeginning limits.depth (take limits.bytes input) p → f.read ≤ length p → f ≡ refusal Memory f.read f.read
+      → IsFreeBefore limits.depth r p f.read → IsUnread limits r input f
 
 -- a reader that had these bytes lost the first so many of them
 abbrev pub Loses : ℕ → Option (List ℕ) → Option (List ℕ) → Type 0
@@ -39,21 +40,21 @@ Loses k old new = IfSome old (λ input. (new ≡ Some (drop k input)) × (k ≤ 
 -- ---- canonical bytes
 
 -- the input begins with the canonical bytes, at most n, of this value, a valid one of depth at most d
-pub record BeginsWithCanonical (d n : ℕ) (o : KeyOrder) (input : List ℕ) (v : Value) : Type 0 where
+pub record BeginsWithCanonical (limits : Bounds) (o : KeyOrder) (input : List ℕ) (v : Value) : Type 0 where
   pub range : IsInRange v
   pub valid : IsValid v
-  pub within : depth v ≤ d
-  pub fits : length (canonical o v) ≤ n
+  pub within : depth v ≤ limits.depth
+  pub fits : length (canonical o v) ≤ limits.bytes
   -- what follows them
   pub rest : List ℕ
   pub begins : canonical o v ++ rest ≡ input
 
 -- the input begins with the canonical bytes, so many, of a valid value within the limits
-pub record IsCanonicalFront (d n : ℕ) (o : KeyOrder) (input : List ℕ) (count : ℕ) : Type 0 where
+pub record IsCanonicalFront (limits : Bounds) (o : KeyOrder) (input : List ℕ) (count : ℕ) : Type 0 where
   pub value : Value
-  pub begins : BeginsWithCanonical d n o input value
+  pub begins : BeginsWithCanonical limits o input value
   pub size : count ≡ length (canonical o value)
 
 -- it begins so with no value's
-abbrev pub HasNoCanonicalFront : ℕ → ℕ → KeyOrder → List ℕ → Type 0
-HasNoCanonicalFront d n o input = (v : Value) → ¬ BeginsWithCanonical d n o input v
+abbrev pub HasNoCanonicalFront : Bounds → KeyOrder → List ℕ → Type 0
+HasNoCanonicalFront limits o input = (v : Value) → ¬ BeginsWithCanonical limits o input v

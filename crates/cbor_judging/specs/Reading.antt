@@ -66,8 +66,8 @@ pub record Extends (x y : List ℕ) (from to : Option (List ℕ)) : Type 0 where
 -- The form of what was taken is refused: whatever may follow; or the input ended there, or the reader failed.
 abbrev pub IsFormRefusal : Bounds → List ℕ → Option (List ℕ) → Refusal → Type 0
 IsFormRefusal b all to f =
-    ((more : List ℕ) → IsVerdict b.depth b.bytes form (all ++ more) (refused f))
-    ⊎ (IsVerdict b.depth b.bytes form all (refused (refusal Truncated (length all) (length all))) × (f.place ≡ f.read) × ((f.reason ≡ Read) ⊎ ((f.reason ≡ Truncated) × IsAtEnd to)))
+    ((more : List ℕ) → IsVerdict b form (all ++ more) (refused f))
+    ⊎ (IsVerdict b form all (refused (refusal Truncated (length all) (length all))) × (f.place ≡ f.read) × ((f.reason ≡ Read) ⊎ ((f.reason ≡ Truncated) × IsAtEnd to)))
 
 -- ---- an item
 
@@ -300,6 +300,6 @@ IsFault r m reason = IsTrue r.heads × IsMarkFault m reason
 
 -- The item at the front of an input is refused: what is told of a known input, and of each.
 pub record IsFrontUnread (r : Rules) (b : Bounds) (from to : Option (List ℕ)) (f : Refusal) : Type 0 where
-  pub refused : IfSome from (λ input. IsUnread b.depth b.bytes r input f)
+  pub refused : IfSome from (λ input. IsUnread b r input f)
   pub reason : IsReaderReason r f.reason
   pub taken : Loses f.read from to

@@ -3,6 +3,7 @@ use Rattle.std.proofs.Common.{◌≡◌, ℕ, ◌+◌, ◌-◌, List, [], ◌∷
 use Rattle.std.proofs.lemmas.Bool.{cases_lt}
 use Rattle.std.proofs.lemmas.List.{length-append}
 use Rattle.cbor_head.specs.Head.{head}
+use Rattle.cbor_head.specs.Limits.{bounds}
 use Rattle.cbor_head.specs.Spelling.{Chunk, Spelling, Spellings, SpelledEntries, unsigned, negative, bytes, text, byte_chunks, text_chunks, array, a_map, tag, simple, no_spellings, a_spelling, no_entries, entry, spellings_count, entries_count, chunk_bytes, IsItem, spell}
 use Rattle.cbor_head.specs.Beginning.{IsLongestBeginning}
 use Rattle.cbor_head.specs.Complaint.{form, Complaint, OfCount, OfString, OfChunks, Complains, ComplainsIn, ComplainsInEntries}
@@ -75,7 +76,7 @@ mutual
   none-in-entries at before (entry k v es) c (inr (inr (inr h))) = none-in-entries (at + length (spell k) + length (spell v)) (k ∷ before) es c h
 
 -- a refusal is the verdict of form on each input that goes on from there
-pub refusal-verdict : (r : Refusal) (m : MachineView) (t bs : List ℕ) (ms : List Mark) → IsRefused r m t bs ms → (more : List ℕ) → IsVerdict m.depth m.bytes form ((t ++ bs) ++ more) (verdict.refused r)
+pub refusal-verdict : (r : Refusal) (m : MachineView) (t bs : List ℕ) (ms : List Mark) → IsRefused r m t bs ms → (more : List ℕ) → IsVerdict (bounds m.depth m.bytes) form ((t ++ bs) ++ more) (verdict.refused r)
 refusal-verdict r m t bs ms h more =
     let start = h.stands.beginning in
     record {
@@ -110,7 +111,7 @@ whole-longest d s t more i = record {
 }
 
 -- where the machine is complete, the item is accepted
-pub complete-verdict : (m : MachineView) (t : List ℕ) (ms : List Mark) → StandsFor m t ms → IsComplete m → (more : List ℕ) → (s : Spelling) × IsVerdict m.depth m.bytes form (t ++ more) (verdict.accepted s)
+pub complete-verdict : (m : MachineView) (t : List ℕ) (ms : List Mark) → StandsFor m t ms → IsComplete m → (more : List ℕ) → (s : Spelling) × IsVerdict (bounds m.depth m.bytes) form (t ++ more) (verdict.accepted s)
 complete-verdict m t ms h c more =
     let w = h.complete.0 c in
     let limit = h.limited in

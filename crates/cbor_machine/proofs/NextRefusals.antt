@@ -3,6 +3,7 @@ use Rattle.std.proofs.Common.{◌≡◌, ℕ, ◌+◌, ◌<◌, ◌≤◌, ◌�
 use Rattle.std.specs.Prelude.{Option}
 use Rattle.std.specs.Io.KnownBytes.{Consumes, IsAtEnd}
 use Rattle.std.proofs.KnownBytes.{Consumes-trans}
+use Rattle.cbor_head.specs.Limits.{Bounds, bounds}
 use Rattle.cbor_head.specs.Value.{AreBytes}
 use Rattle.cbor_head.specs.Beginning.{IsBeginning}
 use Rattle.cbor_head.specs.Spelling.{IsItem}
@@ -29,9 +30,9 @@ use Rattle.cbor_machine.proofs.Standing.{are_bytes-append, meant, shown-before, 
 use Rattle.cbor_machine.proofs.Form.{no-complaint, refusal-verdict}
 
 -- a beginning that is the whole input, within the limit, and no item
-cut-verdict : (d n : ℕ) (p : List ℕ) → IsBeginning d p → ¬ IsWhole d p → length p < n → IsVerdict d n form p (refused (refusal Truncated (length p) (length p)))
-cut-verdict d n p b unfinished short =
-    let all : take n p ≡ p = take_all n p (omega arith) in
+cut-verdict : (limits : Bounds) (p : List ℕ) → IsBeginning limits.depth p → ¬ IsWhole limits.depth p → length p < limits.bytes → IsVerdict limits form p (refused (refusal Truncated (length p) (length p)))
+cut-verdict limits p b unfinished short =
+    let all : take limits.bytes p ≡ p = take_all limits.bytes p (omega arith) in
     record {
       p = p;
       longest = record { beginning = b; rest = []; splits = all ∙ sym (append-nil p); longest = λ q r h e. omega (arith, ap length (sym all ∙ e), length-append q r) };
@@ -79,7 +80,7 @@ cut-here f c mid_from r lost reason is short going =
       consumed = subst (Consumes c.held c.left) (append-nil r.bytes) (Consumes-trans _ _ _ _ _ r.consumed lost);
       reason = reason;
       is = is ∙ ap (λ n. refusal f.reason n n) taken;
-      verdict = cut-verdict c.new.depth c.new.bytes (t ++ r.bytes) r.stands.beginning unfinished (omega (arith, taken));
+      verdict = cut-verdict (bounds c.new.depth c.new.bytes) (t ++ r.bytes) r.stands.beginning unfinished (omega (arith, taken));
       short = omega (arith, taken);
       stands = r.stands;
       unfinished = unfinished;
@@ -129,8 +130,8 @@ module _ (f : Refusal) (c : Call) (mid_from : Option (List ℕ)) (mid : MachineV
       (record { shown = shown-before new _ shown; empty = λ p. absurd (subst (λ p. IsUnfinished (state_of p new.inner.frames)) p u) })
       ref.stands.bounded refl (omega (arith, taken-there xs)) ref.stands.next refl
 
-  judged : (xs more : List ℕ) → xs ≡ (t ++ r.bytes) ++ last → IsVerdict new.depth new.bytes form (xs ++ more) (refused f)
-  judged xs more e = subst (λ (ys : List ℕ). IsVerdict new.depth new.bytes form (ys ++ more) (refused f)) (sym e) (refusal-verdict f new (t ++ r.bytes) last ms ref more)
+  judged : (xs more : List ℕ) → xs ≡ (t ++ r.bytes) ++ last → IsVerdict (bounds new.depth new.bytes) form (xs ++ more) (refused f)
+  judged xs more e = subst (λ (ys : List ℕ). IsVerdict (bounds new.depth new.bytes) form (ys ++ more) (refused f)) (sym e) (refusal-verdict f new (t ++ r.bytes) last ms ref more)
 
   lost : Consumes c.held c.left (r.bytes ++ last)
   lost = Consumes-trans _ _ _ _ _ r.consumed lost_last

@@ -1,5 +1,6 @@
 -- What a machine stands for: the bytes taken so far, and the marks told.
 use Rattle.std.specs.Prelude.{true, ◌≡◌, ◌↔◌, ◌⊎◌, ℕ, ◌-◌, ◌≤◌, ◌++◌, min, List, length, take, drop, Option, Some, None, IfSome}
+use Rattle.cbor_head.specs.Limits.{Bounds, bounds}
 use Rattle.cbor_head.specs.Value.{AreBytes}
 use Rattle.cbor_head.specs.Spelling.{Spelling, IsItem}
 use Rattle.cbor_head.specs.Beginning.{IsBeginning, IsLongestBeginning}
@@ -76,9 +77,9 @@ pub record IsGiven (e : Event) (m : MachineView) (t bs : List ℕ) (ms : List Ma
   pub bytes : IsEventBytes ms e.width e.kind (drop e.place (t ++ bs))
 
 -- the longest beginning of the input is p, and behind it the form has this error
-pub record FormErrorBehind (d n : ℕ) (input p : List ℕ) (r : Refusal) : Type 0 where
-  pub longest : IsLongestBeginning d (take n input) p
-  pub error : IsFormError d n p longest.rest r
+pub record FormErrorBehind (limits : Bounds) (input p : List ℕ) (r : Refusal) : Type 0 where
+  pub longest : IsLongestBeginning limits.depth (take limits.bytes input) p
+  pub error : IsFormError limits p longest.rest r
 
 -- the machine before it refused anything, when it had taken so many bytes
 abbrev pub before : MachineView → ℕ → MachineView
@@ -94,7 +95,7 @@ pub record IsRefused (r : Refusal) (m : MachineView) (t bs : List ℕ) (ms : Lis
   pub unfinished : ¬ IsWhole m.depth (t ++ front)
   -- whatever may follow
   pub error : (more : List ℕ)
-      → FormErrorBehind m.depth m.bytes ((t ++ bs) ++ more) (t ++ front) r
+      → FormErrorBehind (bounds m.depth m.bytes) ((t ++ bs) ++ more) (t ++ front) r
 
 -- what a step answers, of a machine that stood for t and ms and has now used bs
 abbrev pub IsAnswer : Out → MachineView → List ℕ → List ℕ → List Mark → Type 0

@@ -3,6 +3,7 @@ use Rattle.std.specs.Prelude.{◌≡◌, ℕ, ◌+◌, ◌<◌, ◌⊎◌, ◌++
 use Rattle.std.specs.Io.KnownBytes.{Consumes, IsAtEnd}
 use Rattle.cbor_head.specs.Beginning.{MayFollow}
 use Rattle.cbor_head.specs.Complaint.{form}
+use Rattle.cbor_head.specs.Limits.{bounds}
 use Rattle.cbor_head.specs.Verdict.{refusal, refused, IsVerdict}
 use Rattle.cbor_head.specs.declared.reason.Reason.TheVariants.{Read, Truncated, TooLong}
 use Rattle.cbor_head.specs.declared.reason.Refusal.{Refusal}
@@ -98,7 +99,7 @@ pub record IsCut (f : Refusal) (c : Call) : Type 0 where
   pub consumed : Consumes c.held c.left bytes
   pub reason : (f.reason ≡ Read) ⊎ ((f.reason ≡ Truncated) × IsAtEnd c.left)
   pub is : f ≡ refusal f.reason (length (c.taken ++ bytes)) (length (c.taken ++ bytes))
-  pub verdict : IsVerdict c.new.depth c.new.bytes form (c.taken ++ bytes)
+  pub verdict : IsVerdict (bounds c.new.depth c.new.bytes) form (c.taken ++ bytes)
       (refused (refusal Truncated (length (c.taken ++ bytes)) (length (c.taken ++ bytes))))
   pub short : length (c.taken ++ bytes) < c.new.bytes
   pub stands : StandsFor c.new (c.taken ++ bytes) c.told
@@ -112,7 +113,7 @@ pub record IsTooLong (f : Refusal) (c : Call) : Type 0 where
   pub full : length (c.taken ++ bytes) ≡ c.new.bytes
   -- whatever may follow
   pub verdict : (more : List ℕ)
-      → IsVerdict c.new.depth c.new.bytes form ((c.taken ++ bytes) ++ more) (refused f)
+      → IsVerdict (bounds c.new.depth c.new.bytes) form ((c.taken ++ bytes) ++ more) (refused f)
   pub stands : StandsFor (before c.new (length (c.taken ++ bytes))) (c.taken ++ bytes) c.told
   pub unfinished : ¬ IsWhole c.new.depth (c.taken ++ bytes)
 
@@ -125,7 +126,7 @@ pub record HasFormError (f : Refusal) (c : Call) : Type 0 where
   pub misplaced : ¬ MayFollow c.new.depth (c.taken ++ bytes) byte
   -- whatever may follow
   pub verdict : (more : List ℕ)
-      → IsVerdict c.new.depth c.new.bytes form ((c.taken ++ bytes ++ byte ∷ []) ++ more) (refused f)
+      → IsVerdict (bounds c.new.depth c.new.bytes) form ((c.taken ++ bytes ++ byte ∷ []) ++ more) (refused f)
   -- where the machine stood
   pub stands : StandsFor (before c.new (length (c.taken ++ bytes))) (c.taken ++ bytes) c.told
   pub unfinished : ¬ IsWhole c.new.depth (c.taken ++ bytes)

@@ -1,6 +1,7 @@
 -- The verdict on a front of an item without complaint.
 use Rattle.std.proofs.Common.{ℕ, ◌≡◌, ◌<◌, List, [], ◌++◌, length, take, drop, refl, sym, ap, ◌∙◌, arith, inl, inr}
 use Rattle.std.proofs.lemmas.List.{append-nil, length-append, length-drop, length-take-le, take-append-drop, take-append-le, take_all}
+use Rattle.cbor_head.specs.Limits.{Bounds, bounds}
 use Rattle.cbor_head.specs.Spelling.{Spelling, IsItem}
 use Rattle.cbor_head.specs.Complaint.{Rules, Complains}
 use Rattle.cbor_head.specs.Verdict.{refused, refusal, IsFormError, IsVerdict}
@@ -9,9 +10,9 @@ use Rattle.cbor_head.specs.declared.reason.Refusal.{Refusal}
 use Rattle.cbor_judging.specs.Judged.{Never}
 
 -- where the first n bytes of the input are p, and the item goes on behind p
-pub cut : (d n : ℕ) (r : Rules) (input : List ℕ) (s : Spelling) (p q : List ℕ) (f : Refusal) → IsItem d s (p ++ q) → Never (Complains r 0 s) → 0 < length q → take n input ≡ p
-    → IsFormError d n p [] f → IsVerdict d n r input (refused f)
-cut d n r input s p q f i none l e b = record {
+pub cut : (limits : Bounds) (r : Rules) (input : List ℕ) (s : Spelling) (p q : List ℕ) (f : Refusal) → IsItem limits.depth s (p ++ q) → Never (Complains r 0 s) → 0 < length q → take limits.bytes input ≡ p
+    → IsFormError limits p [] f → IsVerdict limits r input (refused f)
+cut limits r input s p q f i none l e b = record {
   p = p;
   longest = record {
     beginning = (s, q, i);
@@ -36,11 +37,11 @@ module _ (d : ℕ) (r : Rules) (s : Spelling) (b : List ℕ) (k : ℕ) (i : IsIt
   goes_on = omega (arith, small, length-drop k b)
 
   -- the input ends there
-  pub truncated : (n : ℕ) → k < n → IsVerdict d n r (take k b) (refused (refusal Truncated k k))
+  pub truncated : (n : ℕ) → k < n → IsVerdict (bounds d n) r (take k b) (refused (refusal Truncated k k))
   truncated n m =
-      cut d n r (take k b) s (take k b) (drop k b) _ parted none goes_on (take_all n (take k b) (omega (arith, front_size, m)))
+      cut (bounds d n) r (take k b) s (take k b) (drop k b) _ parted none goes_on (take_all n (take k b) (omega (arith, front_size, m)))
       (inr (omega (arith, front_size, m), ap (λ (j : ℕ). refusal Truncated j j) (sym front_size)))
 
   -- so many bytes are the limit
-  pub too_long : (rest : List ℕ) → IsVerdict d k r (b ++ rest) (refused (refusal TooLong k k))
-  too_long rest = cut d k r (b ++ rest) s (take k b) (drop k b) _ parted none goes_on (take-append-le k b rest (omega (arith, small))) (inl (front_size, refl))
+  pub too_long : (rest : List ℕ) → IsVerdict (bounds d k) r (b ++ rest) (refused (refusal TooLong k k))
+  too_long rest = cut (bounds d k) r (b ++ rest) s (take k b) (drop k b) _ parted none goes_on (take-append-le k b rest (omega (arith, small))) (inl (front_size, refl))

@@ -5,6 +5,7 @@ use Rattle.std.specs.Str.{chars, is_utf8}
 use Rattle.std.specs.Str.Lossy.{utf8_valid_len}
 use Rattle.std.proofs.lemmas.Str.{is_utf8-from_IsUtf8, IsUtf8-from_is_utf8}
 use Rattle.cbor_head.specs.Complaint.{plain, Complaint, complaint, Complains}
+use Rattle.cbor_head.specs.Limits.{bounds}
 use Rattle.cbor_head.specs.Spelling.{Spelling, unsigned, negative, text_chunks, a_map, spell, value_of, depth, IsSpelled}
 use Rattle.cbor_head.specs.Value as value
 use Rattle.cbor_head.specs.Value.{IsValid}
@@ -26,17 +27,17 @@ use Rattle.cbor_reader.proofs.Headline.{answers_exactly}
 
 -- within 256 levels and 2^20 bytes
 item_becomes : (o : KeyOrder) (s : Spelling) (input out : List ℕ) → IsSpelled s → depth s ≤ 256 → spell s ≡ input → length input ≤ 1048576 → ((c : Complaint) → Complains plain 0 s c → ⊥)
-    → canonical o (value_of s) ≡ out → length out ≤ 1048576 → IsCanonicalOf 256 1048576 o input out
+    → canonical o (value_of s) ≡ out → length out ≤ 1048576 → IsCanonicalOf (bounds 256 1048576) o input out
 item_becomes o s input out h l e m none f k =
     (answers_exactly 256 1048576 o input out).1 (s, record { well_formed = record { spelled = h; within = l; bytes_are = e }; valid = none; fits = m }, sym f, k)
 
 -- ---- 0, in two bytes
 
-zero_becomes : IsCanonicalOf 256 1048576 Bytewise (0x18 ∷ 0x00 ∷ []) (0x00 ∷ [])
+zero_becomes : IsCanonicalOf (bounds 256 1048576) Bytewise (0x18 ∷ 0x00 ∷ []) (0x00 ∷ [])
 zero_becomes = item_becomes Bytewise (unsigned One 0) _ _ (omega arith) (omega arith) refl (omega arith) (λ c x. cc x.0) refl (omega arith)
 
 -- it isn't its own answer, though the plain verdict accepts it whole
-not_its_own : IsCanonicalOf 256 1048576 Bytewise (0x18 ∷ 0x00 ∷ []) (0x18 ∷ 0x00 ∷ []) → ⊥
+not_its_own : IsCanonicalOf (bounds 256 1048576) Bytewise (0x18 ∷ 0x00 ∷ []) (0x18 ∷ 0x00 ∷ []) → ⊥
 not_its_own a =
     let e = one_canonical 256 1048576 Bytewise (0x18 ∷ 0x00 ∷ []) (0x18 ∷ 0x00 ∷ []) (0x00 ∷ []) a zero_becomes in
     omega (arith, ap (length {A = ℕ}) e)
@@ -49,13 +50,13 @@ by_length = a_map Direct (pairs ((negative Direct 0, unsigned Direct 0) ∷ (uns
 abbrev bytewise : Spelling
 bytewise = a_map Direct (pairs ((unsigned One 100, unsigned Direct 0) ∷ (negative Direct 0, unsigned Direct 0) ∷ []))
 
-becomes_by_length : IsCanonicalOf 256 1048576 LengthFirst (0xa2 ∷ 0x18 ∷ 0x64 ∷ 0x00 ∷ 0x20 ∷ 0x00 ∷ []) (0xa2 ∷ 0x20 ∷ 0x00 ∷ 0x18 ∷ 0x64 ∷ 0x00 ∷ [])
+becomes_by_length : IsCanonicalOf (bounds 256 1048576) LengthFirst (0xa2 ∷ 0x18 ∷ 0x64 ∷ 0x00 ∷ 0x20 ∷ 0x00 ∷ []) (0xa2 ∷ 0x20 ∷ 0x00 ∷ 0x18 ∷ 0x64 ∷ 0x00 ∷ [])
 becomes_by_length = item_becomes LengthFirst bytewise _ _ (search arith) (omega arith) refl (omega arith) (λ c x. grind arith) refl (omega arith)
 
-becomes_bytewise : IsCanonicalOf 256 1048576 Bytewise (0xa2 ∷ 0x20 ∷ 0x00 ∷ 0x18 ∷ 0x64 ∷ 0x00 ∷ []) (0xa2 ∷ 0x18 ∷ 0x64 ∷ 0x00 ∷ 0x20 ∷ 0x00 ∷ [])
+becomes_bytewise : IsCanonicalOf (bounds 256 1048576) Bytewise (0xa2 ∷ 0x20 ∷ 0x00 ∷ 0x18 ∷ 0x64 ∷ 0x00 ∷ []) (0xa2 ∷ 0x18 ∷ 0x64 ∷ 0x00 ∷ 0x20 ∷ 0x00 ∷ [])
 becomes_bytewise = item_becomes Bytewise by_length _ _ (search arith) (omega arith) refl (omega arith) (λ c x. grind arith) refl (omega arith)
 
-stays_bytewise : IsCanonicalOf 256 1048576 Bytewise (0xa2 ∷ 0x18 ∷ 0x64 ∷ 0x00 ∷ 0x20 ∷ 0x00 ∷ []) (0xa2 ∷ 0x18 ∷ 0x64 ∷ 0x00 ∷ 0x20 ∷ 0x00 ∷ [])
+stays_bytewise : IsCanonicalOf (bounds 256 1048576) Bytewise (0xa2 ∷ 0x18 ∷ 0x64 ∷ 0x00 ∷ 0x20 ∷ 0x00 ∷ []) (0xa2 ∷ 0x18 ∷ 0x64 ∷ 0x00 ∷ 0x20 ∷ 0x00 ∷ [])
 stays_bytewise = item_becomes Bytewise bytewise _ _ (search arith) (omega arith) refl (omega arith) (λ c x. grind arith) refl (omega arith)
 
 -- their answers are equal and their values not, but the same
@@ -77,7 +78,7 @@ split_item f = f (complaint 3 2 InvalidText) (inr (inl (inr (refl, (λ u. cc (is
 
 -- ---- 100, of which the first byte comes: as many as the limit, that is too long and not truncated
 
-cut_at_limit : IsVerdict 256 1 plain (0x18 ∷ 0x64 ∷ []) (refused (refusal Truncated 1 1)) → ⊥
+cut_at_limit : IsVerdict (bounds 256 1) plain (0x18 ∷ 0x64 ∷ []) (refused (refusal Truncated 1 1)) → ⊥
 cut_at_limit v =
     let w = too_long 256 plain (unsigned One 100) (0x18 ∷ 0x64 ∷ []) 1 (record { spelled = omega arith; within = omega arith; bytes_are = refl }) (λ c x. cc x.0) (omega arith) [] in
     let e = one_verdict 256 1 plain (0x18 ∷ 0x64 ∷ []) (refused (refusal Truncated 1 1)) (refused (refusal TooLong 1 1)) v w in
@@ -87,7 +88,7 @@ cut_at_limit v =
 
 -- ---- {1: 2} with a byte behind it
 
-begins_a_map : BeginsWithCanonical 256 1048576 Bytewise (0xa1 ∷ 0x01 ∷ 0x02 ∷ 0x00 ∷ []) (value.map (value.entry (value.unsigned 1) (value.unsigned 2) value.no_entries))
+begins_a_map : BeginsWithCanonical (bounds 256 1048576) Bytewise (0xa1 ∷ 0x01 ∷ 0x02 ∷ 0x00 ∷ []) (value.map (value.entry (value.unsigned 1) (value.unsigned 2) value.no_entries))
 begins_a_map = record { range = search arith; valid = search arith; within = omega arith; fits = omega arith; rest = 0x00 ∷ []; begins = refl }
 
 -- ---- as large as its item

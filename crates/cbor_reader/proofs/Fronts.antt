@@ -29,8 +29,8 @@ front-read b from to new v count l i e =
     let sized : count ≡ length (spell i.item) = e ∙ i.at.stands.stands.taken in
     let flat = i.within in
     record {
-      read = known from (λ input. IsReadAs b.depth b.bytes plain input v count)
-          (λ input k. subst (IsReadAs b.depth b.bytes plain input v) (sym sized) (item-read plain b input from to k new v i));
+      read = known from (λ input. IsReadAs b plain input v count)
+          (λ input k. subst (IsReadAs b plain input v) (sym sized) (item-read plain b input from to k new v i));
       taken = loses (spell i.item) count from to sized i.taken;
       bounded = subst (λ (w : Value). size w ≤ count) i.value (subst (λ (n : ℕ). size (value_of i.item) ≤ n) (sym sized) (size_bounded i.item));
       sound = subst HasCanonicalBytes i.value

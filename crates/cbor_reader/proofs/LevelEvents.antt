@@ -122,9 +122,9 @@ starts-building o b e g a is = (ap (λ (x : Built). x.order) is, due [] tt refl 
 
 -- the item that is whole is the one at the front
 pub front-built : (o : KeyOrder) (b : Bounds) (input rest out : List ℕ) (size : ℕ) (s : Spelling) → IsTaken b.depth s → spell s ++ rest ≡ take b.bytes input → out ≡ canonical o (value_of s) → size ≡ length (spell s)
-    → IsBuiltFront b.depth b.bytes o input out size
+    → IsBuiltFront b o input out size
 front-built o b input rest out size s i e f g = record {
-  read = record { item = s; verdict = (accepts_exactly b.depth b.bytes plain input s).1 (rest, (i.spelled, i.within, e), i.clean 0); size = g };
+  read = record { item = s; verdict = (accepts_exactly b plain input s).1 (rest, (i.spelled, i.within, e), i.clean 0); size = g };
   canonical_is = f;
 }
 

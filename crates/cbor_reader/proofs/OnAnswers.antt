@@ -1,6 +1,7 @@
 -- The headline's clauses on a result, where it is known to be the answer.
 use Rattle.std.proofs.Common.{ℕ, ◌^◌, ◌≡◌, ◌≢◌, ◌<◌, ◌≤◌, List, length, Result, Ok, Err}
 use Rattle.std.specs.Result.{MatchResult, IfOk, IfErr}
+use Rattle.cbor_head.specs.Limits.{Bounds}
 use Rattle.cbor_head.specs.Spelling.{Spelling, value_of}
 use Rattle.cbor_head.specs.Canonical.{canonical}
 use Rattle.cbor_head.specs.declared.order.KeyOrder.{KeyOrder}
@@ -11,26 +12,26 @@ use Rattle.cbor_reader.specs.Headline.{IsValidItem}
 use Rattle.cbor_reader.proofs.Headline.{answers_exactly, refused_too_long, equal_exactly, again}
 use Rattle.cbor_reader.proofs.CanonicaliserRefusals.{canonicaliser-reason}
 
-module _ {A : Type 0} (d n : ℕ) (o : KeyOrder) (input : List ℕ) (items : A → List ℕ) where
+module _ {A : Type 0} (limits : Bounds) (o : KeyOrder) (input : List ℕ) (items : A → List ℕ) where
   abbrev pub IsAnswer : Result A Refusal → Type 0
-  IsAnswer r = MatchResult r (λ v. IsCanonicalOf d n o input (items v)) (λ f. IsRefusal d n o input f)
+  IsAnswer r = MatchResult r (λ v. IsCanonicalOf limits o input (items v)) (λ f. IsRefusal limits o input f)
 
-  pub ok_item : (r : Result A Refusal) → IsAnswer r → IfOk r (λ v. (s : Spelling) × IsValidItem d n input s × (items v ≡ canonical o (value_of s)) × (length (items v) ≤ n))
-  ok_item (Ok v) a = (answers_exactly d n o input (items v)).0 a
+  pub ok_item : (r : Result A Refusal) → IsAnswer r → IfOk r (λ v. (s : Spelling) × IsValidItem limits input s × (items v ≡ canonical o (value_of s)) × (length (items v) ≤ limits.bytes))
+  ok_item (Ok v) a = (answers_exactly limits o input (items v)).0 a
   ok_item (Err f) a = tt
 
-  pub err_item : (r : Result A Refusal) → IsAnswer r → IfErr r (λ f. f.reason ≢ Memory → (s : Spelling) → IsValidItem d n input s → n < length (canonical o (value_of s)))
+  pub err_item : (r : Result A Refusal) → IsAnswer r → IfErr r (λ f. f.reason ≢ Memory → (s : Spelling) → IsValidItem limits input s → limits.bytes < length (canonical o (value_of s)))
   err_item (Ok v) a = tt
-  err_item (Err f) a = λ h s i. refused_too_long d n o input f s a h i
+  err_item (Err f) a = λ h s i. refused_too_long limits o input f s a h i
 
-  pub ok_equal : (r : Result A Refusal) → n ≤ 2 ^ 62 → IsAnswer r → IfOk r (λ v. TellsItsValue d o input (items v))
-  ok_equal (Ok v) l a = λ e m y b s t k i h j. equal_exactly d n e m o input y (items v) b s t l k a i h j
+  pub ok_equal : (r : Result A Refusal) → limits.bytes ≤ 2 ^ 62 → IsAnswer r → IfOk r (λ v. TellsItsValue limits.depth o input (items v))
+  ok_equal (Ok v) l a = λ others y b s t k i h j. equal_exactly limits others o input y (items v) b s t l k a i h j
   ok_equal (Err f) l a = tt
 
   pub err_reason : (r : Result A Refusal) → IsAnswer r → IfErr r (λ f. IsCanonicaliserReason f.reason)
   err_reason (Ok v) a = tt
-  err_reason (Err f) a = canonicaliser-reason d n o input f a
+  err_reason (Err f) a = canonicaliser-reason limits o input f a
 
-  pub ok_again : (r : Result A Refusal) → n ≤ 2 ^ 62 → IsAnswer r → IfOk r (λ v. IsCanonicalOf d n o (items v) (items v))
-  ok_again (Ok v) l a = again d n o input (items v) l a
+  pub ok_again : (r : Result A Refusal) → limits.bytes ≤ 2 ^ 62 → IsAnswer r → IfOk r (λ v. IsCanonicalOf limits o (items v) (items v))
+  ok_again (Ok v) l a = again limits o input (items v) l a
   ok_again (Err f) l a = tt

@@ -1,5 +1,6 @@
 -- An input has one answer but for want of memory.
 use Rattle.std.proofs.Common.{ℕ, ◌≡◌, ◌≢◌, List, length, sym, ap, ◌∙◌, arith}
+use Rattle.cbor_head.specs.Limits.{Bounds}
 use Rattle.cbor_head.specs.Spelling.{Spelling, spell, value_of}
 use Rattle.cbor_head.specs.Canonical.{canonical}
 use Rattle.cbor_head.specs.Complaint.{plain}
@@ -10,39 +11,39 @@ use Rattle.cbor_head.specs.declared.reason.Refusal.{Refusal}
 use Rattle.cbor_head.proofs.OneVerdict.{one_verdict}
 use Rattle.cbor_reader.specs.Canonicalise.{IsCanonicalOf, IsRefusal, of_verdict, trailing, canonical_too_long, of_memory}
 
-pub one_item : (d n : ℕ) (input : List ℕ) (s t : Spelling) → IsVerdict d n plain input (accepted s) → IsVerdict d n plain input (accepted t) → s ≡ t
-one_item d n input s t v w = let e = one_verdict d n plain input (accepted s) (accepted t) v w in cc e
+pub one_item : (limits : Bounds) (input : List ℕ) (s t : Spelling) → IsVerdict limits plain input (accepted s) → IsVerdict limits plain input (accepted t) → s ≡ t
+one_item limits input s t v w = let e = one_verdict limits plain input (accepted s) (accepted t) v w in cc e
 
-pub no_both : (d n : ℕ) (input : List ℕ) (s : Spelling) (f : Refusal) → IsVerdict d n plain input (accepted s) → IsVerdict d n plain input (refused f) → ⊥
-no_both d n input s f v w = let e = one_verdict d n plain input (accepted s) (refused f) v w in cc e
+pub no_both : (limits : Bounds) (input : List ℕ) (s : Spelling) (f : Refusal) → IsVerdict limits plain input (accepted s) → IsVerdict limits plain input (refused f) → ⊥
+no_both limits input s f v w = let e = one_verdict limits plain input (accepted s) (refused f) v w in cc e
 
-one_refused : (d n : ℕ) (input : List ℕ) (f g : Refusal) → IsVerdict d n plain input (refused f) → IsVerdict d n plain input (refused g) → f ≡ g
-one_refused d n input f g v w = let e = one_verdict d n plain input (refused f) (refused g) v w in cc e
+one_refused : (limits : Bounds) (input : List ℕ) (f g : Refusal) → IsVerdict limits plain input (refused f) → IsVerdict limits plain input (refused g) → f ≡ g
+one_refused limits input f g v w = let e = one_verdict limits plain input (refused f) (refused g) v w in cc e
 
-pub one_canonical : (d n : ℕ) (o : KeyOrder) (input x y : List ℕ) → IsCanonicalOf d n o input x → IsCanonicalOf d n o input y → x ≡ y
-one_canonical d n o input x y v w =
-    v.canonical_bytes ∙ ap (λ (s : Spelling). canonical o (value_of s)) (one_item d n input v.item w.item v.verdict w.verdict) ∙ sym w.canonical_bytes
+pub one_canonical : (limits : Bounds) (o : KeyOrder) (input x y : List ℕ) → IsCanonicalOf limits o input x → IsCanonicalOf limits o input y → x ≡ y
+one_canonical limits o input x y v w =
+    v.canonical_bytes ∙ ap (λ (s : Spelling). canonical o (value_of s)) (one_item limits input v.item w.item v.verdict w.verdict) ∙ sym w.canonical_bytes
 
-pub one_refusal : (d n : ℕ) (o : KeyOrder) (input : List ℕ) (f g : Refusal) → IsRefusal d n o input f → IsRefusal d n o input g → f.reason ≢ Memory → g.reason ≢ Memory → f ≡ g
-one_refusal d n o input f g (of_verdict v) (of_verdict w) h i = one_refused d n input f g v w
-one_refusal d n o input f g (of_verdict v) (trailing t w m k) h i = absurd (no_both d n input t f w v)
-one_refusal d n o input f g (of_verdict v) (canonical_too_long t w u m k) h i = absurd (no_both d n input t f w v)
-one_refusal d n o input f g (trailing s v l e) (of_verdict w) h i = absurd (no_both d n input s g v w)
-one_refusal d n o input f g (trailing s v l e) (trailing t w m k) h i =
-    e ∙ ap (λ (s : Spelling). refusal Trailing (length (spell s)) (length (spell s))) (one_item d n input s t v w) ∙ sym k
-one_refusal d n o input f g (trailing s v l e) (canonical_too_long t w u m k) h i =
-    absurd (omega (arith, l, ap (λ (s : Spelling). length (spell s)) (one_item d n input s t v w), ap length u))
-one_refusal d n o input f g (canonical_too_long s v u l e) (of_verdict w) h i = absurd (no_both d n input s g v w)
-one_refusal d n o input f g (canonical_too_long s v u l e) (trailing t w m k) h i =
-    absurd (omega (arith, m, ap (λ (s : Spelling). length (spell s)) (one_item d n input s t v w), ap length u))
-one_refusal d n o input f g (canonical_too_long s v u l e) (canonical_too_long t w x m k) h i = e ∙ sym k
-one_refusal d n o input f g (of_memory p t l m e free) b h i = absurd (h (ap (λ (f : Refusal). f.reason) e))
-one_refusal d n o input f g _ (of_memory p t l m e free) h i = absurd (i (ap (λ (f : Refusal). f.reason) e))
+pub one_refusal : (limits : Bounds) (o : KeyOrder) (input : List ℕ) (f g : Refusal) → IsRefusal limits o input f → IsRefusal limits o input g → f.reason ≢ Memory → g.reason ≢ Memory → f ≡ g
+one_refusal limits o input f g (of_verdict v) (of_verdict w) h i = one_refused limits input f g v w
+one_refusal limits o input f g (of_verdict v) (trailing t w m k) h i = absurd (no_both limits input t f w v)
+one_refusal limits o input f g (of_verdict v) (canonical_too_long t w u m k) h i = absurd (no_both limits input t f w v)
+one_refusal limits o input f g (trailing s v l e) (of_verdict w) h i = absurd (no_both limits input s g v w)
+one_refusal limits o input f g (trailing s v l e) (trailing t w m k) h i =
+    e ∙ ap (λ (s : Spelling). refusal Trailing (length (spell s)) (length (spell s))) (one_item limits input s t v w) ∙ sym k
+one_refusal limits o input f g (trailing s v l e) (canonical_too_long t w u m k) h i =
+    absurd (omega (arith, l, ap (λ (s : Spelling). length (spell s)) (one_item limits input s t v w), ap length u))
+one_refusal limits o input f g (canonical_too_long s v u l e) (of_verdict w) h i = absurd (no_both limits input s g v w)
+one_refusal limits o input f g (canonical_too_long s v u l e) (trailing t w m k) h i =
+    absurd (omega (arith, m, ap (λ (s : Spelling). length (spell s)) (one_item limits input s t v w), ap length u))
+one_refusal limits o input f g (canonical_too_long s v u l e) (canonical_too_long t w x m k) h i = e ∙ sym k
+one_refusal limits o input f g (of_memory p t l m e free) b h i = absurd (h (ap (λ (f : Refusal). f.reason) e))
+one_refusal limits o input f g _ (of_memory p t l m e free) h i = absurd (i (ap (λ (f : Refusal). f.reason) e))
 
-pub only_memory : (d n : ℕ) (o : KeyOrder) (input x : List ℕ) (f : Refusal) → IsCanonicalOf d n o input x → IsRefusal d n o input f → f.reason ≡ Memory
-only_memory d n o input x f v (of_verdict w) = absurd (no_both d n input v.item f v.verdict w)
-only_memory d n o input x f v (trailing t w m k) =
-    absurd (omega (arith, m, ap (λ (s : Spelling). length (spell s)) (one_item d n input v.item t v.verdict w), ap length v.whole))
-only_memory d n o input x f v (canonical_too_long t w u m k) =
-    absurd (omega (arith, m, v.fits, ap length v.canonical_bytes, ap (λ (s : Spelling). length (canonical o (value_of s))) (one_item d n input v.item t v.verdict w)))
-only_memory d n o input x f v (of_memory p t l m e free) = ap (λ (f : Refusal). f.reason) e
+pub only_memory : (limits : Bounds) (o : KeyOrder) (input x : List ℕ) (f : Refusal) → IsCanonicalOf limits o input x → IsRefusal limits o input f → f.reason ≡ Memory
+only_memory limits o input x f v (of_verdict w) = absurd (no_both limits input v.item f v.verdict w)
+only_memory limits o input x f v (trailing t w m k) =
+    absurd (omega (arith, m, ap (λ (s : Spelling). length (spell s)) (one_item limits input v.item t v.verdict w), ap length v.whole))
+only_memory limits o input x f v (canonical_too_long t w u m k) =
+    absurd (omega (arith, m, v.fits, ap length v.canonical_bytes, ap (λ (s : Spelling). length (canonical o (value_of s))) (one_item limits input v.item t v.verdict w)))
+only_memory limits o input x f v (of_memory p t l m e free) = ap (λ (f : Refusal). f.reason) e

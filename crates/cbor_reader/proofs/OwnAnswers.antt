@@ -1,6 +1,7 @@
 -- Which inputs are their own answers: those that the strict verdict accepts whole.
 use Rattle.std.proofs.Common.{ℕ, ◌≡◌, List, length, sym, ◌∙◌, [], subst, ◌^◌, ◌≤◌, ◌↔◌}
 use Rattle.std.proofs.lemmas.List.{append-nil}
+use Rattle.cbor_head.specs.Limits.{Bounds}
 use Rattle.cbor_head.specs.Spelling.{Spelling, spell, value_of}
 use Rattle.cbor_head.specs.Canonical.{canonical}
 use Rattle.cbor_head.specs.Complaint.{plain, strict}
@@ -15,32 +16,32 @@ use Rattle.cbor_reader.proofs.Headline.{front_range, front_valid, front_depth, a
 use Rattle.cbor_reader.proofs.ValidTexts.{plain_too}
 use Rattle.cbor_judging.proofs.CanonicalFronts.{strict_bytes, strict_value, strict_accepts, one_front}
 
-module _ (d n : ℕ) (o : KeyOrder) (input : List ℕ) where
-  own_answer_accepted : n ≤ 2 ^ 62 → IsCanonicalOf d n o input input → (s : Spelling) × IsVerdict d n (strict o) input (accepted s) × (spell s ≡ input)
+module _ (limits : Bounds) (o : KeyOrder) (input : List ℕ) where
+  own_answer_accepted : limits.bytes ≤ 2 ^ 62 → IsCanonicalOf limits o input input → (s : Spelling) × IsVerdict limits (strict o) input (accepted s) × (spell s ≡ input)
   own_answer_accepted m a =
       let v = value_of a.item in
-      let begins : BeginsWithCanonical d n o input v = record {
-        range = front_range d n plain input a.item m a.verdict;
-        valid = front_valid d n input a.item a.verdict;
-        within = front_depth d n plain input a.item a.verdict;
-        fits = subst (λ (b : List ℕ). length b ≤ n) a.canonical_bytes a.fits;
+      let begins : BeginsWithCanonical limits o input v = record {
+        range = front_range limits plain input a.item m a.verdict;
+        valid = front_valid limits input a.item a.verdict;
+        within = front_depth limits plain input a.item a.verdict;
+        fits = subst (λ (b : List ℕ). length b ≤ limits.bytes) a.canonical_bytes a.fits;
         rest = [];
         begins = append-nil (canonical o v) ∙ sym a.canonical_bytes;
       } in
-      let (s, h) = strict_accepts d n o input v begins in
-      (s, h, strict_bytes d n o input s h ∙ (one_front d n o input (value_of s) v (strict_value d n o input s h) begins).1 ∙ sym a.canonical_bytes)
+      let (s, h) = strict_accepts limits o input v begins in
+      (s, h, strict_bytes limits o input s h ∙ (one_front limits o input (value_of s) v (strict_value limits o input s h) begins).1 ∙ sym a.canonical_bytes)
 
-  accepted_own_answer : (s : Spelling) → IsVerdict d n (strict o) input (accepted s) → spell s ≡ input → IsCanonicalOf d n o input input
+  accepted_own_answer : (s : Spelling) → IsVerdict limits (strict o) input (accepted s) → spell s ≡ input → IsCanonicalOf limits o input input
   accepted_own_answer s v e =
-      let h = (accepts_exactly d n (strict o) input s).0 v in
-      let fits : length input ≤ n = subst (λ (b : List ℕ). length b ≤ n) e (item_within_limit d n (strict o) input s v) in
-      let i : IsValidItem d n input s = record {
+      let h = (accepts_exactly limits (strict o) input s).0 v in
+      let fits : length input ≤ limits.bytes = subst (λ (b : List ℕ). length b ≤ limits.bytes) e (item_within_limit limits (strict o) input s v) in
+      let i : IsValidItem limits input s = record {
         well_formed = record { spelled = h.1.0; within = h.1.1; bytes_are = e };
-        valid = plain_too o s 0 h.2 (strict_value d n o input s v).valid;
+        valid = plain_too o s 0 h.2 (strict_value limits o input s v).valid;
         fits = fits;
       } in
-      (answers_exactly d n o input input).1 (s, i, sym e ∙ strict_bytes d n o input s v, fits)
+      (answers_exactly limits o input input).1 (s, i, sym e ∙ strict_bytes limits o input s v, fits)
 
   -- it is its own answer exactly where the strict verdict accepts it whole
-  pub own_answers_exactly : n ≤ 2 ^ 62 → IsCanonicalOf d n o input input ↔ ((s : Spelling) × IsVerdict d n (strict o) input (accepted s) × (spell s ≡ input))
+  pub own_answers_exactly : limits.bytes ≤ 2 ^ 62 → IsCanonicalOf limits o input input ↔ ((s : Spelling) × IsVerdict limits (strict o) input (accepted s) × (spell s ≡ input))
   own_answers_exactly m = (own_answer_accepted m, (λ (s, v, e). accepted_own_answer s v e))

@@ -6,7 +6,7 @@ use Rattle.std.proofs.lemmas.List.{append_assoc, append-nil, nil_from_length, le
 use Rattle.cbor_head.specs.Spelling.{Spelling, simple, spell, value_of, IsItem}
 use Rattle.cbor_head.specs.Canonical.{canonical}
 use Rattle.cbor_head.specs.Complaint.{Rules, plain, strict}
-use Rattle.cbor_head.specs.Limits.{Bounds}
+use Rattle.cbor_head.specs.Limits.{Bounds, bounds}
 use Rattle.cbor_head.specs.Verdict.{accepted, refused, refusal, IsVerdict}
 use Rattle.cbor_head.specs.declared.order.KeyOrder.{KeyOrder}
 use Rattle.cbor_head.specs.declared.reason.Reason.TheVariants.{Read, Memory, Truncated, TooLong}
@@ -22,36 +22,36 @@ use Rattle.cbor_judging.proofs.CanonicalFronts.{strict_bytes, strict_value, stri
 
 -- ---- items
 
-pub plain_items : (d n : ℕ) (s : Spelling) → IsAccepted d n plain s ↔ IsValidItem d n (spell s) s
-plain_items d n s = ((λ a. record { well_formed = a.well_formed; valid = a.sound; fits = a.fits }), (λ a. record { well_formed = a.well_formed; sound = a.valid; fits = a.fits }))
+pub plain_items : (limits : Bounds) (s : Spelling) → IsAccepted limits plain s ↔ IsValidItem limits (spell s) s
+plain_items limits s = ((λ a. record { well_formed = a.well_formed; valid = a.sound; fits = a.fits }), (λ a. record { well_formed = a.well_formed; sound = a.valid; fits = a.fits }))
 
 -- the verdict on the bytes of an accepted item
-alone : (d n : ℕ) (r : Rules) (s : Spelling) → IsAccepted d n r s → IsVerdict d n r (spell s) (accepted s)
-alone d n r s a = subst (λ (b : List ℕ). IsVerdict d n r b (accepted s)) (append-nil (spell s)) (verdict_of d n r s [] a)
+alone : (limits : Bounds) (r : Rules) (s : Spelling) → IsAccepted limits r s → IsVerdict limits r (spell s) (accepted s)
+alone limits r s a = subst (λ (b : List ℕ). IsVerdict limits r b (accepted s)) (append-nil (spell s)) (verdict_of limits r s [] a)
 
-pub strict_items : (d n : ℕ) (o : KeyOrder) (s : Spelling) → IsItem d s (spell s) → IsAccepted d n (strict o) s ↔ (BeginsWithCanonical d n o (spell s) (value_of s) × (spell s ≡ canonical o (value_of s)))
-strict_items d n o s i = (there, back)
+pub strict_items : (limits : Bounds) (o : KeyOrder) (s : Spelling) → IsItem limits.depth s (spell s) → IsAccepted limits (strict o) s ↔ (BeginsWithCanonical limits o (spell s) (value_of s) × (spell s ≡ canonical o (value_of s)))
+strict_items limits o s i = (there, back)
   where
-    there : IsAccepted d n (strict o) s → BeginsWithCanonical d n o (spell s) (value_of s) × (spell s ≡ canonical o (value_of s))
-    there a = (strict_value d n o (spell s) s (alone d n (strict o) s a), strict_bytes d n o (spell s) s (alone d n (strict o) s a))
+    there : IsAccepted limits (strict o) s → BeginsWithCanonical limits o (spell s) (value_of s) × (spell s ≡ canonical o (value_of s))
+    there a = (strict_value limits o (spell s) s (alone limits (strict o) s a), strict_bytes limits o (spell s) s (alone limits (strict o) s a))
 
-    back : BeginsWithCanonical d n o (spell s) (value_of s) × (spell s ≡ canonical o (value_of s)) → IsAccepted d n (strict o) s
+    back : BeginsWithCanonical limits o (spell s) (value_of s) × (spell s ≡ canonical o (value_of s)) → IsAccepted limits (strict o) s
     back (h, e) =
-        let t = strict_accepts d n o (spell s) (value_of s) h in
-        let a = is_accepted d n (strict o) (spell s) t.0 t.1 in
-        let same : t.0 ≡ s = (unique t.0 s a.well_formed.spelled i.spelled _ [] (splits d n (strict o) (spell s) t.0 t.1 ∙ sym (append-nil (spell s)))).0 in
-        subst (IsAccepted d n (strict o)) same a
+        let t = strict_accepts limits o (spell s) (value_of s) h in
+        let a = is_accepted limits (strict o) (spell s) t.0 t.1 in
+        let same : t.0 ≡ s = (unique t.0 s a.well_formed.spelled i.spelled _ [] (splits limits (strict o) (spell s) t.0 t.1 ∙ sym (append-nil (spell s)))).0 in
+        subst (IsAccepted limits (strict o)) same a
 
 -- ---- runs
 
 pub starts : (b : Bounds) (input : List ℕ) → HasGiven b (Some input) input []
 starts b input = record { rest = input; holds = refl; each = tt; bytes = refl }
 
-given_by_one : (b : Bounds) (r : Rules) (given : List Given) → AllByRecursion (λ g. IsAccepted b.depth b.bytes g.rules g.item) given → AreGivenBy r given → AllByRecursion (IsAccepted b.depth b.bytes r) (items_of given)
+given_by_one : (b : Bounds) (r : Rules) (given : List Given) → AllByRecursion (λ g. IsAccepted b g.rules g.item) given → AreGivenBy r given → AllByRecursion (IsAccepted b r) (items_of given)
 given_by_one b r [] h a = tt
-given_by_one b r (g ∷ gs) h a = (subst (λ (x : Rules). IsAccepted b.depth b.bytes x g.item) a.0 h.0, given_by_one b r gs h.1 a.1)
+given_by_one b r (g ∷ gs) h a = (subst (λ (x : Rules). IsAccepted b x g.item) a.0 h.0, given_by_one b r gs h.1 a.1)
 
-pub by_one : (r : Rules) (b : Bounds) (held : Option (List ℕ)) (input : List ℕ) (given : List Given) → (run : HasGiven b held input given) → AreGivenBy r given → StartsWithItems b.depth b.bytes r input (items_of given) run.rest
+pub by_one : (r : Rules) (b : Bounds) (held : Option (List ℕ)) (input : List ℕ) (given : List Given) → (run : HasGiven b held input given) → AreGivenBy r given → StartsWithItems b r input (items_of given) run.rest
 by_one r b held input given run a = record { each = given_by_one b r given run.each a; bytes = run.bytes }
 
 pub one_more : (r : Rules) (given : List Given) (s : Spelling) → AreGivenBy r given → AreGivenBy r (given ++ given_by r s ∷ [])
@@ -60,29 +60,29 @@ one_more r (g ∷ gs) s h = (h.0, one_more r gs s h.1)
 
 -- ---- the longest
 
-module _ (d n : ℕ) (r : Rules) where
+module _ (limits : Bounds) (r : Rules) where
   -- behind it no item is accepted
-  beginning : (items others : List Spelling) (rest behind : List ℕ) (f : Refusal) → AllByRecursion (IsAccepted d n r) items → AllByRecursion (IsAccepted d n r) others
-      → sequence_bytes items ++ rest ≡ sequence_bytes others ++ behind → IsVerdict d n r rest (refused f) → (more : List Spelling) × (others ++ more ≡ items)
+  beginning : (items others : List Spelling) (rest behind : List ℕ) (f : Refusal) → AllByRecursion (IsAccepted limits r) items → AllByRecursion (IsAccepted limits r) others
+      → sequence_bytes items ++ rest ≡ sequence_bytes others ++ behind → IsVerdict limits r rest (refused f) → (more : List Spelling) × (others ++ more ≡ items)
   beginning items [] rest behind f h k e w = (items, refl)
-  beginning [] (t ∷ ts) rest behind f h k e w = absurd (not_both d n r t (sequence_bytes ts ++ behind) rest f k.0 (sym (append_assoc (spell t) (sequence_bytes ts) behind) ∙ sym e) w)
+  beginning [] (t ∷ ts) rest behind f h k e w = absurd (not_both limits r t (sequence_bytes ts ++ behind) rest f k.0 (sym (append_assoc (spell t) (sequence_bytes ts) behind) ∙ sym e) w)
   beginning (s ∷ ss) (t ∷ ts) rest behind f h k e w =
       let u = unique s t h.0.well_formed.spelled k.0.well_formed.spelled (sequence_bytes ss ++ rest) (sequence_bytes ts ++ behind)
       (sym (append_assoc (spell s) (sequence_bytes ss) rest) ∙ e ∙ append_assoc (spell t) (sequence_bytes ts) behind) in
       let (more, is) = beginning ss ts rest behind f h.1 k.1 u.1 w in
       (more, ap (λ (x : Spelling). x ∷ (ts ++ more)) (sym u.0) ∙ ap (λ (xs : List Spelling). s ∷ xs) is)
 
-  pub longest_by : (input : List ℕ) (items : List Spelling) (rest : List ℕ) (f : Refusal) → StartsWithItems d n r input items rest → IsVerdict d n r rest (refused f) → IsLongestSequence d n r input items rest
+  pub longest_by : (input : List ℕ) (items : List Spelling) (rest : List ℕ) (f : Refusal) → StartsWithItems limits r input items rest → IsVerdict limits r rest (refused f) → IsLongestSequence limits r input items rest
   longest_by input items rest f h w = record { starts = h; longest = λ others behind k. beginning items others rest behind f h.each k.each (h.bytes ∙ sym k.bytes) w }
 
   -- nothing follows what ends where it ends
-  same_left : (items : List Spelling) (rest behind : List ℕ) → sequence_bytes items ++ rest ≡ sequence_bytes items ++ behind → AllByRecursion (IsAccepted d n r) items → rest ≡ behind
+  same_left : (items : List Spelling) (rest behind : List ℕ) → sequence_bytes items ++ rest ≡ sequence_bytes items ++ behind → AllByRecursion (IsAccepted limits r) items → rest ≡ behind
   same_left [] rest behind e h = e
   same_left (s ∷ ss) rest behind e h =
       same_left ss rest behind (unique s s h.0.well_formed.spelled h.0.well_formed.spelled (sequence_bytes ss ++ rest) (sequence_bytes ss ++ behind)
       (sym (append_assoc (spell s) (sequence_bytes ss) rest) ∙ e ∙ append_assoc (spell s) (sequence_bytes ss) behind)).1 h.1
 
-  pub one_longest : (input rest behind : List ℕ) (items others : List Spelling) → IsLongestSequence d n r input items rest → IsLongestSequence d n r input others behind → (items ≡ others) × (rest ≡ behind)
+  pub one_longest : (input rest behind : List ℕ) (items others : List Spelling) → IsLongestSequence limits r input items rest → IsLongestSequence limits r input others behind → (items ≡ others) × (rest ≡ behind)
   one_longest input rest behind items others a b =
       let x = a.longest others behind b.starts in
       let y = b.longest items rest a.starts in
@@ -94,40 +94,40 @@ module _ (b : Bounds) (held to : Option (List ℕ)) (input : List ℕ) (given : 
   ended_so : IsAtEnd b.bytes held to → EndsBefore b.bytes run.rest
   ended_so e = subst (λ (x : Option (List ℕ)). IfSome x (EndsBefore b.bytes)) run.holds e.ends
 
-  pub longest_at_end : (r : Rules) → AreGivenBy r given → IsAtEnd b.bytes held to → IsLongestSequence b.depth b.bytes r input (items_of given) []
+  pub longest_at_end : (r : Rules) → AreGivenBy r given → IsAtEnd b.bytes held to → IsLongestSequence b r input (items_of given) []
   longest_at_end r a e =
       let (none, l) = ended_so e in
-      longest_by b.depth b.bytes r input (items_of given) [] (refusal Truncated 0 0) (subst (StartsWithItems b.depth b.bytes r input (items_of given)) none (by_one r b held input given run a)) (empty_is_truncated b.depth b.bytes r l)
+      longest_by b r input (items_of given) [] (refusal Truncated 0 0) (subst (StartsWithItems b r input (items_of given)) none (by_one r b held input given run a)) (empty_is_truncated b r l)
 
   pub whole_at_end : IsAtEnd b.bytes held to → sequence_bytes (items_of given) ≡ input
   whole_at_end e = sym (append-nil (sequence_bytes (items_of given))) ∙ ap (λ (x : List ℕ). sequence_bytes (items_of given) ++ x) (sym (ended_so e).0) ∙ run.bytes
 
-  verdict_only : (r : Rules) (rest : List ℕ) (f : Refusal) → IsUnread b.depth b.bytes r rest f → f.reason ≢ Read → f.reason ≢ Memory → IsVerdict b.depth b.bytes r rest (refused f)
+  verdict_only : (r : Rules) (rest : List ℕ) (f : Refusal) → IsUnread b r rest f → f.reason ≢ Read → f.reason ≢ Memory → IsVerdict b r rest (refused f)
   verdict_only r rest f (of_verdict w) x y = w
   verdict_only r rest f (of_reader p l m is w) x y = absurd (x (ap (λ (g : Refusal). g.reason) is))
   verdict_only r rest f (of_memory p l m is free) x y = absurd (y (ap (λ (g : Refusal). g.reason) is))
 
-  pub verdict_on_rest : (r : Rules) (f : Refusal) → IsRefused r b held to f → f.reason ≢ Read → f.reason ≢ Memory → IsVerdict b.depth b.bytes r run.rest (refused f)
-  verdict_on_rest r f u x y = verdict_only r run.rest f (subst (λ (x : Option (List ℕ)). IfSome x (λ rest. IsUnread b.depth b.bytes r rest f)) run.holds u.unread) x y
+  pub verdict_on_rest : (r : Rules) (f : Refusal) → IsRefused r b held to f → f.reason ≢ Read → f.reason ≢ Memory → IsVerdict b r run.rest (refused f)
+  verdict_on_rest r f u x y = verdict_only r run.rest f (subst (λ (x : Option (List ℕ)). IfSome x (λ rest. IsUnread b r rest f)) run.holds u.unread) x y
 
-  pub longest_at_refusal : (r : Rules) (f : Refusal) → AreGivenBy r given → IsRefused r b held to f → f.reason ≢ Read → f.reason ≢ Memory → IsLongestSequence b.depth b.bytes r input (items_of given) run.rest
-  longest_at_refusal r f a u x y = longest_by b.depth b.bytes r input (items_of given) run.rest f (by_one r b held input given run a) (verdict_on_rest r f u x y)
+  pub longest_at_refusal : (r : Rules) (f : Refusal) → AreGivenBy r given → IsRefused r b held to f → f.reason ≢ Read → f.reason ≢ Memory → IsLongestSequence b r input (items_of given) run.rest
+  longest_at_refusal r f a u x y = longest_by b r input (items_of given) run.rest f (by_one r b held input given run a) (verdict_on_rest r f u x y)
 
 -- ---- no item
 
-pub ends_exactly : (d n : ℕ) (r : Rules) (input : List ℕ) → EndsBefore n input ↔ IsVerdict d n r input (refused (refusal Truncated 0 0))
-ends_exactly d n r input = ((λ (e, l). subst (λ (b : List ℕ). IsVerdict d n r b (refused (refusal Truncated 0 0))) (sym e) (empty_is_truncated d n r l)), (λ w. verdict_before d n r input (refusal Truncated 0 0) w (refl, refl)))
+pub ends_exactly : (limits : Bounds) (r : Rules) (input : List ℕ) → EndsBefore limits.bytes input ↔ IsVerdict limits r input (refused (refusal Truncated 0 0))
+ends_exactly limits r input = ((λ (e, l). subst (λ (b : List ℕ). IsVerdict limits r b (refused (refusal Truncated 0 0))) (sym e) (empty_is_truncated limits r l)), (λ w. verdict_before limits r input (refusal Truncated 0 0) w (refl, refl)))
 
-pub no_bytes : (d : ℕ) (r : Rules) (input : List ℕ) → IsVerdict d 0 r input (refused (refusal TooLong 0 0))
-no_bytes d r input = cut d 0 r input (simple 0) [] (spell (simple 0)) (refusal TooLong 0 0) (record { spelled = omega arith; within = omega arith; bytes_are = refl }) (λ c h. h) (length_spell (simple 0)) refl (inl (refl, refl))
+pub no_bytes : (d : ℕ) (r : Rules) (input : List ℕ) → IsVerdict (bounds d 0) r input (refused (refusal TooLong 0 0))
+no_bytes d r input = cut (bounds d 0) r input (simple 0) [] (spell (simple 0)) (refusal TooLong 0 0) (record { spelled = omega arith; within = omega arith; bytes_are = refl }) (λ c h. h) (length_spell (simple 0)) refl (inl (refl, refl))
 
 same_refusal : {a b : Refusal} → refused a ≡ refused b → a ≡ b
 same_refusal e = cc e
 
-pub no_bytes_told : (d : ℕ) (r : Rules) (input : List ℕ) (f : Refusal) → IsUnread d 0 r input f → f.reason ≢ Memory → f ≡ refusal TooLong 0 0
-no_bytes_told d r input f (of_verdict w) y = same_refusal (one_verdict d 0 r input (refused f) (refused (refusal TooLong 0 0)) w (no_bytes d r input))
+pub no_bytes_told : (d : ℕ) (r : Rules) (input : List ℕ) (f : Refusal) → IsUnread (bounds d 0) r input f → f.reason ≢ Memory → f ≡ refusal TooLong 0 0
+no_bytes_told d r input f (of_verdict w) y = same_refusal (one_verdict (bounds d 0) r input (refused f) (refused (refusal TooLong 0 0)) w (no_bytes d r input))
 no_bytes_told d r input f (of_reader p l m is w) y =
-    let h = same_refusal (one_verdict d 0 r (take f.read input) (refused (refusal Truncated f.read f.read)) (refused (refusal TooLong 0 0)) w (no_bytes d r (take f.read input))) in
+    let h = same_refusal (one_verdict (bounds d 0) r (take f.read input) (refused (refusal Truncated f.read f.read)) (refused (refusal TooLong 0 0)) w (no_bytes d r (take f.read input))) in
     absurd (apart (ap (λ (g : Refusal). g.reason) h))
   where
     apart : Truncated ≡ TooLong → ⊥

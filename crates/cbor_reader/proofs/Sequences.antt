@@ -27,26 +27,26 @@ IsBeforeItem f = (f.reason ≡ Truncated) × (f.read ≡ 0)
 
 -- ---- an item at the front
 
-module _ (d n : ℕ) (r : Rules) (input : List ℕ) (s : Spelling) (v : IsVerdict d n r input (accepted s)) where
-  pub is_accepted : IsAccepted d n r s
+module _ (limits : Bounds) (r : Rules) (input : List ℕ) (s : Spelling) (v : IsVerdict limits r input (accepted s)) where
+  pub is_accepted : IsAccepted limits r s
   is_accepted =
-      let h = (accepts_exactly d n r input s).0 v in
-      record { well_formed = record { spelled = h.1.0; within = h.1.1; bytes_are = refl }; sound = h.2; fits = item_within_limit d n r input s v }
+      let h = (accepts_exactly limits r input s).0 v in
+      record { well_formed = record { spelled = h.1.0; within = h.1.1; bytes_are = refl }; sound = h.2; fits = item_within_limit limits r input s v }
 
   at_front : (rest : List ℕ) × (spell s ++ rest ≡ input)
   at_front =
-      let h = (accepts_exactly d n r input s).0 v in
-      (h.0 ++ drop n input, sym (append_assoc (spell s) h.0 (drop n input)) ∙ ap (λ (b : List ℕ). b ++ drop n input) h.1.2 ∙ take-append-drop n input)
+      let h = (accepts_exactly limits r input s).0 v in
+      (h.0 ++ drop limits.bytes input, sym (append_assoc (spell s) h.0 (drop limits.bytes input)) ∙ ap (λ (b : List ℕ). b ++ drop limits.bytes input) h.1.2 ∙ take-append-drop limits.bytes input)
 
   pub splits : spell s ++ drop (length (spell s)) input ≡ input
   splits = let h = at_front in ap (λ (b : List ℕ). spell s ++ b) (ap (drop (length (spell s))) (sym h.1) ∙ drop-append_seam (spell s) h.0) ∙ h.1
 
-pub verdict_of : (d n : ℕ) (r : Rules) (s : Spelling) (rest : List ℕ) → IsAccepted d n r s → IsVerdict d n r (spell s ++ rest) (accepted s)
-verdict_of d n r s rest a = front_accepted d n r s rest a.well_formed a.sound a.fits
+pub verdict_of : (limits : Bounds) (r : Rules) (s : Spelling) (rest : List ℕ) → IsAccepted limits r s → IsVerdict limits r (spell s ++ rest) (accepted s)
+verdict_of limits r s rest a = front_accepted limits r s rest a.well_formed a.sound a.fits
 
 -- an accepted item is not refused
-pub not_both : (d n : ℕ) (r : Rules) (s : Spelling) (rest input : List ℕ) (f : Refusal) → IsAccepted d n r s → spell s ++ rest ≡ input → IsVerdict d n r input (refused f) → ⊥
-not_both d n r s rest input f a e w = apart (one_verdict d n r input (accepted s) (refused f) (subst (λ (b : List ℕ). IsVerdict d n r b (accepted s)) e (verdict_of d n r s rest a)) w)
+pub not_both : (limits : Bounds) (r : Rules) (s : Spelling) (rest input : List ℕ) (f : Refusal) → IsAccepted limits r s → spell s ++ rest ≡ input → IsVerdict limits r input (refused f) → ⊥
+not_both limits r s rest input f a e w = apart (one_verdict limits r input (accepted s) (refused f) (subst (λ (b : List ℕ). IsVerdict limits r b (accepted s)) e (verdict_of limits r s rest a)) w)
   where
     apart : {t : Spelling} {g : Refusal} → accepted t ≡ refused g → ⊥
     apart e = cc e
@@ -54,22 +54,22 @@ not_both d n r s rest input f a e w = apart (one_verdict d n r input (accepted s
 -- ---- the end of the input
 
 -- an input without bytes is truncated, where the limit would let it have one
-pub empty_is_truncated : (d n : ℕ) (r : Rules) → 0 < n → IsVerdict d n r [] (refused (refusal Truncated 0 0))
-empty_is_truncated d n r l = truncated d r (simple 0) (spell (simple 0)) 0 (record { spelled = omega arith; within = omega arith; bytes_are = refl }) (λ c h. h) (length_spell (simple 0)) n l
+pub empty_is_truncated : (limits : Bounds) (r : Rules) → 0 < limits.bytes → IsVerdict limits r [] (refused (refusal Truncated 0 0))
+empty_is_truncated limits r l = truncated limits.depth r (simple 0) (spell (simple 0)) 0 (record { spelled = omega arith; within = omega arith; bytes_are = refl }) (λ c h. h) (length_spell (simple 0)) limits.bytes l
 
-module _ (d n : ℕ) (r : Rules) (input : List ℕ) where
+module _ (limits : Bounds) (r : Rules) (input : List ℕ) where
   -- none of what breaks the form reads nothing, but the end
-  break_before : (p behind : List ℕ) (f : Refusal) → take n input ≡ p ++ behind → IsFormError d n p behind f → IsBeforeItem f → EndsBefore n input
+  break_before : (p behind : List ℕ) (f : Refusal) → take limits.bytes input ≡ p ++ behind → IsFormError limits p behind f → IsBeforeItem f → EndsBefore limits.bytes input
   break_before p [] f e (inl b) (x, y) = absurd (apart (sym x ∙ ap (λ (g : Refusal). g.reason) b.1))
     where
       apart : Truncated ≡ TooLong → ⊥
       apart e = cc e
   break_before p [] f e (inr b) (x, y) =
       let none : length p ≡ 0 = sym (ap (λ (g : Refusal). g.read) b.1) ∙ y in
-      (nil_from_length input (omega (arith, none, b.0, ap length e, length-append p [], length-take n input)), omega (arith, none, b.0))
+      (nil_from_length input (omega (arith, none, b.0, ap length e, length-append p [], length-take limits.bytes input)), omega (arith, none, b.0))
   break_before p (c ∷ rest) f e b (x, y) = let h : f.read ≡ length p + 1 = ap (λ (g : Refusal). g.read) b.2 in absurd (omega (arith, y, h))
 
-  pub verdict_before : (f : Refusal) → IsVerdict d n r input (refused f) → IsBeforeItem f → EndsBefore n input
+  pub verdict_before : (f : Refusal) → IsVerdict limits r input (refused f) → IsBeforeItem f → EndsBefore limits.bytes input
   verdict_before f v h = elim v.decides [
     | inl x ↦
         let later : 0 < x.0.end = after_head v.item r 0 x.0 x.1.holds in
@@ -78,7 +78,7 @@ module _ (d n : ℕ) (r : Rules) (input : List ℕ) where
     | inr x ↦ break_before v.p v.longest.rest f v.longest.splits x.2 h
   ]
 
-  ends_so : (f : Refusal) → IsUnread d n r input f → IsBeforeItem f → EndsBefore n input
+  ends_so : (f : Refusal) → IsUnread limits r input f → IsBeforeItem f → EndsBefore limits.bytes input
   ends_so f (of_verdict w) h = verdict_before f w h
   ends_so f (of_reader p l m is w) h = absurd (apart (sym h.0 ∙ ap (λ (g : Refusal). g.reason) is))
     where
@@ -89,9 +89,9 @@ module _ (d n : ℕ) (r : Rules) (input : List ℕ) where
       apart : Truncated ≡ Memory → ⊥
       apart e = cc e
 
-  begun_so : (f : Refusal) → IsUnread d n r input f → ¬ IsBeforeItem f → f.reason ≢ Read → f.reason ≢ Memory → ¬ EndsBefore n input
+  begun_so : (f : Refusal) → IsUnread limits r input f → ¬ IsBeforeItem f → f.reason ≢ Read → f.reason ≢ Memory → ¬ EndsBefore limits.bytes input
   begun_so f (of_verdict w) h x y = λ (e, l).
-      let same : f ≡ refusal Truncated 0 0 = given (one_verdict d n r input (refused f) (refused (refusal Truncated 0 0)) w (subst (λ (b : List ℕ). IsVerdict d n r b (refused (refusal Truncated 0 0))) (sym e) (empty_is_truncated d n r l))) in
+      let same : f ≡ refusal Truncated 0 0 = given (one_verdict limits r input (refused f) (refused (refusal Truncated 0 0)) w (subst (λ (b : List ℕ). IsVerdict limits r b (refused (refusal Truncated 0 0))) (sym e) (empty_is_truncated limits r l))) in
       h (ap (λ (g : Refusal). g.reason) same, ap (λ (g : Refusal). g.read) same)
     where
       given : {a b : Refusal} → refused a ≡ refused b → a ≡ b
@@ -102,15 +102,15 @@ module _ (d n : ℕ) (r : Rules) (input : List ℕ) where
 -- ---- what a call answers
 
 module _ (r : Rules) (b : Bounds) where
-  pub at_end : (from to : Option (List ℕ)) (f : Refusal) → IfSome from (λ input. IsUnread b.depth b.bytes r input f) → Loses f.read from to → IsBeforeItem f → IsAtEnd b.bytes from to
+  pub at_end : (from to : Option (List ℕ)) (f : Refusal) → IfSome from (λ input. IsUnread b r input f) → Loses f.read from to → IsBeforeItem f → IsAtEnd b.bytes from to
   at_end None to f u l h = record { ends = tt; taken = tt }
-  at_end (Some input) to f u l h = record { ends = ends_so b.depth b.bytes r input f u h; taken = subst (λ (k : ℕ). Loses k (Some input) to) h.1 l }
+  at_end (Some input) to f u l h = record { ends = ends_so b r input f u h; taken = subst (λ (k : ℕ). Loses k (Some input) to) h.1 l }
 
-  refused_so : (from to : Option (List ℕ)) (f : Refusal) → IfSome from (λ input. IsUnread b.depth b.bytes r input f) → Loses f.read from to → ¬ IsBeforeItem f → IsRefused r b from to f
+  refused_so : (from to : Option (List ℕ)) (f : Refusal) → IfSome from (λ input. IsUnread b r input f) → Loses f.read from to → ¬ IsBeforeItem f → IsRefused r b from to f
   refused_so None to f u l h = record { unread = tt; begun = λ x y. tt; taken = tt }
-  refused_so (Some input) to f u l h = record { unread = u; begun = begun_so b.depth b.bytes r input f u h; taken = l }
+  refused_so (Some input) to f u l h = record { unread = u; begun = begun_so b r input f u h; taken = l }
 
-  pub refused_as : {A : Type 0} → (answer : Option (Result A Refusal)) (from to : Option (List ℕ)) (f : Refusal) → IfSome from (λ input. IsUnread b.depth b.bytes r input f) → Loses f.read from to
+  pub refused_as : {A : Type 0} → (answer : Option (Result A Refusal)) (from to : Option (List ℕ)) (f : Refusal) → IfSome from (λ input. IsUnread b r input f) → Loses f.read from to
       → IfRefused answer (λ g. (g ≡ f) × ¬ IsBeforeItem f) → IfRefused answer (IsRefused r b from to)
   refused_as None from to f u l h = tt
   refused_as (Some (Ok x)) from to f u l h = tt
@@ -136,20 +136,20 @@ bytes_with (h ∷ hs) g more =
     ∙ sym (append_assoc (spell h.item) (sequence_bytes (items_of hs)) (spell g.item ++ more))
 
 module _ (r : Rules) (b : Bounds) (from to : Option (List ℕ)) (input : List ℕ) (given : List Given) (run : HasGiven b from input given) where
-  goes_on : (s : Spelling) (count : ℕ) → IsVerdict b.depth b.bytes r run.rest (accepted s) → count ≡ length (spell s) → Loses count (Some run.rest) to → HasGiven b to input (given ++ given_by r s ∷ [])
+  goes_on : (s : Spelling) (count : ℕ) → IsVerdict b r run.rest (accepted s) → count ≡ length (spell s) → Loses count (Some run.rest) to → HasGiven b to input (given ++ given_by r s ∷ [])
   goes_on s count v size lost = record {
     rest = drop (length (spell s)) run.rest;
     holds = lost.0 ∙ ap (λ (k : ℕ). Some (drop k run.rest)) size;
-    each = all_with (λ g. IsAccepted b.depth b.bytes g.rules g.item) given (given_by r s) run.each (is_accepted b.depth b.bytes r run.rest s v);
-    bytes = bytes_with given (given_by r s) (drop (length (spell s)) run.rest) ∙ ap (λ (x : List ℕ). sequence_bytes (items_of given) ++ x) (splits b.depth b.bytes r run.rest s v) ∙ run.bytes;
+    each = all_with (λ g. IsAccepted b g.rules g.item) given (given_by r s) run.each (is_accepted b r run.rest s v);
+    bytes = bytes_with given (given_by r s) (drop (length (spell s)) run.rest) ∙ ap (λ (x : List ℕ). sequence_bytes (items_of given) ++ x) (splits b r run.rest s v) ∙ run.bytes;
   }
 
-  pub gives_value : (v : Value) (count : ℕ) → IfSome from (λ held. IsReadAs b.depth b.bytes r held v count) → Loses count from to → GivesNext r b to input given (λ s. v ≡ value_of s)
+  pub gives_value : (v : Value) (count : ℕ) → IfSome from (λ held. IsReadAs b r held v count) → Loses count from to → GivesNext r b to input given (λ s. v ≡ value_of s)
   gives_value v count h lost =
-      let i : IsReadAs b.depth b.bytes r run.rest v count = subst (λ (x : Option (List ℕ)). IfSome x (λ held. IsReadAs b.depth b.bytes r held v count)) run.holds h in
+      let i : IsReadAs b r run.rest v count = subst (λ (x : Option (List ℕ)). IfSome x (λ held. IsReadAs b r held v count)) run.holds h in
       record { item = i.read.item; told = i.value; run = goes_on i.read.item count i.read.verdict i.read.size (subst (λ (x : Option (List ℕ)). Loses count x to) run.holds lost) }
 
-  pub gives_count : (count : ℕ) → IfSome from (λ held. IsRead b.depth b.bytes r held count) → Loses count from to → GivesNext r b to input given (λ s. count ≡ length (spell s))
+  pub gives_count : (count : ℕ) → IfSome from (λ held. IsRead b r held count) → Loses count from to → GivesNext r b to input given (λ s. count ≡ length (spell s))
   gives_count count h lost =
-      let i : IsRead b.depth b.bytes r run.rest count = subst (λ (x : Option (List ℕ)). IfSome x (λ held. IsRead b.depth b.bytes r held count)) run.holds h in
+      let i : IsRead b r run.rest count = subst (λ (x : Option (List ℕ)). IfSome x (λ held. IsRead b r held count)) run.holds h in
       record { item = i.item; told = i.size; run = goes_on i.item count i.verdict i.size (subst (λ (x : Option (List ℕ)). Loses count x to) run.holds lost) }

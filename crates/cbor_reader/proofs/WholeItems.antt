@@ -30,21 +30,21 @@ use Rattle.cbor_judging.proofs.Reasons.{never-read}
 
 -- ---- a refusal by a slice
 
-pub unread-slice : (d n : ℕ) (input : List ℕ) (f : Refusal) → IsUnread d n plain input f → f.reason ≢ Read → IsItemRefusal d n input f
-unread-slice d n input f h g = unread h g
+pub unread-slice : (limits : Bounds) (input : List ℕ) (f : Refusal) → IsUnread limits plain input f → f.reason ≢ Read → IsItemRefusal limits input f
+unread-slice limits input f h g = unread h g
 
 -- memory was refused within the longest beginning
-pub given-up-unread : (d n : ℕ) (input : List ℕ) (f g : Refusal) → IsUnread d n plain input f → f.reason ≡ Read → g ≡ refusal Memory f.read f.read → IsUnread d n plain input g
-given-up-unread d n input f g (of_verdict w) e is = absurd (never-read d n plain input f w e)
-given-up-unread d n input f g (of_reader p l m h w) e is = subst (IsUnread d n plain input) (sym is) (of_memory p l m refl (truncated-free d n f.read plain input p l m w))
-given-up-unread d n input f g (of_memory p l m h x) e is = subst (IsUnread d n plain input) (sym is) (of_memory p l m refl x)
+pub given-up-unread : (limits : Bounds) (input : List ℕ) (f g : Refusal) → IsUnread limits plain input f → f.reason ≡ Read → g ≡ refusal Memory f.read f.read → IsUnread limits plain input g
+given-up-unread limits input f g (of_verdict w) e is = absurd (never-read limits plain input f w e)
+given-up-unread limits input f g (of_reader p l m h w) e is = subst (IsUnread limits plain input) (sym is) (of_memory p l m refl (truncated-free limits f.read plain input p l m w))
+given-up-unread limits input f g (of_memory p l m h x) e is = subst (IsUnread limits plain input) (sym is) (of_memory p l m refl x)
 
-pub given-up : (d n : ℕ) (input : List ℕ) (f g : Refusal) → IsUnread d n plain input f → f.reason ≡ Read → g ≡ refusal Memory f.read f.read → IsItemRefusal d n input g
-given-up d n input f g h e is = unread (given-up-unread d n input f g h e is) (λ x. cc (sym (ap (λ (r : Refusal). r.reason) is) ∙ x))
+pub given-up : (limits : Bounds) (input : List ℕ) (f g : Refusal) → IsUnread limits plain input f → f.reason ≡ Read → g ≡ refusal Memory f.read f.read → IsItemRefusal limits input g
+given-up limits input f g h e is = unread (given-up-unread limits input f g h e is) (λ x. cc (sym (ap (λ (r : Refusal). r.reason) is) ∙ x))
 
 -- ---- behind an item that is read
 
-module _ (d n : ℕ) (input rest : List ℕ) (v : Value) (size : ℕ) (a : IsReadAs d n plain input v size) (t : Loses size (Some input) (Some rest)) where
+module _ (limits : Bounds) (input rest : List ℕ) (v : Value) (size : ℕ) (a : IsReadAs limits plain input v size) (t : Loses size (Some input) (Some rest)) where
   behind : length rest ≡ length input - size
   behind = ap length (inside t.0) ∙ length-drop size input
     where
@@ -58,102 +58,102 @@ module _ (d n : ℕ) (input rest : List ℕ) (v : Value) (size : ℕ) (a : IsRea
   none-left : (k : ℕ) → true ≡ (k == 0) → k ≡ 0
   none-left k e = (Decides-eqb k 0).0 (sym e)
 
-  pub trails : (f : Refusal) → false ≡ (length rest == 0) → f ≡ refusal Trailing size size → IsItemRefusal d n input f
+  pub trails : (f : Refusal) → false ≡ (length rest == 0) → f ≡ refusal Trailing size size → IsItemRefusal limits input f
   trails f e is =
       trailing a.read.item a.read.verdict (omega (arith, a.read.size, behind, some-left (length rest) e))
       (is ∙ ap (λ (k : ℕ). refusal Trailing k k) a.read.size)
 
-  pub all-of-it : true ≡ (length rest == 0) → (s : Spelling) × IsValidItem d n input s × (v ≡ value_of s)
+  pub all-of-it : true ≡ (length rest == 0) → (s : Spelling) × IsValidItem limits input s × (v ≡ value_of s)
   all-of-it all =
       let ends : length input ≤ length (spell a.read.item) = omega (arith, a.read.size, behind, none-left (length rest) all) in (
         a.read.item,
-        valid_item d n input a.read.item a.read.verdict (item_is_whole d n plain input a.read.item a.read.verdict ends),
+        valid_item limits input a.read.item a.read.verdict (item_is_whole limits plain input a.read.item a.read.verdict ends),
         a.value,
       )
 
 -- ---- behind an item that was built
 
 -- by whichever reader
-pub built-of : (b : Bounds) (o : KeyOrder) (input out : List ℕ) (to : Option (List ℕ)) (count : ℕ) → IsEncodedFront b o (Some input) to out count → IsBuiltFront b.depth b.bytes o input out count
+pub built-of : (b : Bounds) (o : KeyOrder) (input out : List ℕ) (to : Option (List ℕ)) (count : ℕ) → IsEncodedFront b o (Some input) to out count → IsBuiltFront b o input out count
 built-of b o input out to count e = record { read = e.read.read.read; canonical_is = e.canonical_is ∙ ap (canonical o) e.read.read.value }
 
-module _ (d n : ℕ) (o : KeyOrder) (input out : List ℕ) (size : ℕ) (f : IsBuiltFront d n o input out size) where
-  pub built-trails : (r : Refusal) → size < length input → r ≡ refusal Trailing size size → IsItemRefusal d n input r
+module _ (limits : Bounds) (o : KeyOrder) (input out : List ℕ) (size : ℕ) (f : IsBuiltFront limits o input out size) where
+  pub built-trails : (r : Refusal) → size < length input → r ≡ refusal Trailing size size → IsItemRefusal limits input r
   built-trails r more is = trailing f.read.item f.read.verdict (omega (arith, more, f.read.size)) (is ∙ ap (λ (k : ℕ). refusal Trailing k k) f.read.size)
 
-  pub built-whole : length input ≤ size → (s : Spelling) × IsValidItem d n input s × (out ≡ canonical o (value_of s))
+  pub built-whole : length input ≤ size → (s : Spelling) × IsValidItem limits input s × (out ≡ canonical o (value_of s))
   built-whole all = (
     f.read.item,
-    valid_item d n input f.read.item f.read.verdict (item_is_whole d n plain input f.read.item f.read.verdict (omega (arith, all, f.read.size))),
+    valid_item limits input f.read.item f.read.verdict (item_is_whole limits plain input f.read.item f.read.verdict (omega (arith, all, f.read.size))),
     f.canonical_is,
   )
 
 -- ---- the refusal of an item, and that of its canonical bytes
 
-pub item_refused : (d n : ℕ) (o : KeyOrder) (input : List ℕ) (f : Refusal) → IsItemRefusal d n input f → IsRefusal d n o input f
-item_refused d n o input f (unread (of_verdict w) g) = whole.of_verdict w
-item_refused d n o input f (unread (of_reader p l m is w) g) = absurd (g (ap (λ (x : Refusal). x.reason) is))
-item_refused d n o input f (unread (of_memory p l m is x) g) = whole.of_memory p f.read l m is x
-item_refused d n o input f (trailing s v l is) = whole.trailing s v l is
+pub item_refused : (limits : Bounds) (o : KeyOrder) (input : List ℕ) (f : Refusal) → IsItemRefusal limits input f → IsRefusal limits o input f
+item_refused limits o input f (unread (of_verdict w) g) = whole.of_verdict w
+item_refused limits o input f (unread (of_reader p l m is w) g) = absurd (g (ap (λ (x : Refusal). x.reason) is))
+item_refused limits o input f (unread (of_memory p l m is x) g) = whole.of_memory p f.read l m is x
+item_refused limits o input f (trailing s v l is) = whole.trailing s v l is
 
-pub refused_item : (d n : ℕ) (o : KeyOrder) (input : List ℕ) (f : Refusal) → IsRefusal d n o input f → f.reason ≢ CanonicalTooLong → IsItemRefusal d n input f
-refused_item d n o input f (whole.of_verdict w) g = unread (of_verdict w) (never-read d n plain input f w)
-refused_item d n o input f (whole.trailing s v l is) g = trailing s v l is
-refused_item d n o input f (whole.canonical_too_long s v w l is) g = absurd (g (ap (λ (x : Refusal). x.reason) is))
-refused_item d n o input f (whole.of_memory p taken l m is x) g =
+pub refused_item : (limits : Bounds) (o : KeyOrder) (input : List ℕ) (f : Refusal) → IsRefusal limits o input f → f.reason ≢ CanonicalTooLong → IsItemRefusal limits input f
+refused_item limits o input f (whole.of_verdict w) g = unread (of_verdict w) (never-read limits plain input f w)
+refused_item limits o input f (whole.trailing s v l is) g = trailing s v l is
+refused_item limits o input f (whole.canonical_too_long s v w l is) g = absurd (g (ap (λ (x : Refusal). x.reason) is))
+refused_item limits o input f (whole.of_memory p taken l m is x) g =
     let read : f.read ≡ taken = ap (λ (x : Refusal). x.read) is in
-    unread (of_memory p l (omega (arith, m, read)) (is ∙ ap (λ (k : ℕ). refusal Memory k k) (sym read)) (subst (IsFreeBefore d plain p) (sym read) x)) (λ e. apart (sym (ap (λ (x : Refusal). x.reason) is) ∙ e))
+    unread (of_memory p l (omega (arith, m, read)) (is ∙ ap (λ (k : ℕ). refusal Memory k k) (sym read)) (subst (IsFreeBefore limits.depth plain p) (sym read) x)) (λ e. apart (sym (ap (λ (x : Refusal). x.reason) is) ∙ e))
   where
     apart : Memory ≡ Read → ⊥
     apart e = cc e
 
-pub item_refused_once : (d n : ℕ) (input : List ℕ) (f g : Refusal) → IsItemRefusal d n input f → IsItemRefusal d n input g → f.reason ≢ Memory → g.reason ≢ Memory → f ≡ g
-item_refused_once d n input f g h i = one_refusal d n Bytewise input f g (item_refused d n Bytewise input f h) (item_refused d n Bytewise input g i)
+pub item_refused_once : (limits : Bounds) (input : List ℕ) (f g : Refusal) → IsItemRefusal limits input f → IsItemRefusal limits input g → f.reason ≢ Memory → g.reason ≢ Memory → f ≡ g
+item_refused_once limits input f g h i = one_refusal limits Bytewise input f g (item_refused limits Bytewise input f h) (item_refused limits Bytewise input g i)
 
 -- ---- within the limit, or past it
 
-pub becomes : (d n : ℕ) (o : KeyOrder) (input out : List ℕ) → (s : Spelling) × IsValidItem d n input s × (out ≡ canonical o (value_of s)) → length out ≤ n → IsCanonicalOf d n o input out
-becomes d n o input out h l = (answers_exactly d n o input out).1 (h.0, h.1, h.2, l)
+pub becomes : (limits : Bounds) (o : KeyOrder) (input out : List ℕ) → (s : Spelling) × IsValidItem limits input s × (out ≡ canonical o (value_of s)) → length out ≤ limits.bytes → IsCanonicalOf limits o input out
+becomes limits o input out h l = (answers_exactly limits o input out).1 (h.0, h.1, h.2, l)
 
-pub grows_too_long : (d n : ℕ) (o : KeyOrder) (input out : List ℕ) (f : Refusal) → (s : Spelling) × IsValidItem d n input s × (out ≡ canonical o (value_of s)) → n < length out
-    → f ≡ refusal CanonicalTooLong (length input) (length input) → IsRefusal d n o input f
-grows_too_long d n o input out f h l is =
-    whole.canonical_too_long h.0 (valid_item_accepted d n input h.0 h.1) h.1.well_formed.bytes_are (subst (λ (b : List ℕ). n < length b) h.2 l) is
+pub grows_too_long : (limits : Bounds) (o : KeyOrder) (input out : List ℕ) (f : Refusal) → (s : Spelling) × IsValidItem limits input s × (out ≡ canonical o (value_of s)) → limits.bytes < length out
+    → f ≡ refusal CanonicalTooLong (length input) (length input) → IsRefusal limits o input f
+grows_too_long limits o input out f h l is =
+    whole.canonical_too_long h.0 (valid_item_accepted limits input h.0 h.1) h.1.well_formed.bytes_are (subst (λ (b : List ℕ). limits.bytes < length b) h.2 l) is
 
 -- ---- a tree, and what is answered
 
-pub tree_becomes : (d n : ℕ) (o : KeyOrder) (input out : List ℕ) (v : Value) → IsReadAs d n plain input v (length input) → IsCanonicalOf d n o input out ↔ ((out ≡ canonical o v) × (length out ≤ n))
-tree_becomes d n o input out v a = (
+pub tree_becomes : (limits : Bounds) (o : KeyOrder) (input out : List ℕ) (v : Value) → IsReadAs limits plain input v (length input) → IsCanonicalOf limits o input out ↔ ((out ≡ canonical o v) × (length out ≤ limits.bytes))
+tree_becomes limits o input out v a = (
   λ h.
-      let e = one_item d n input h.item a.read.item h.verdict a.read.verdict in
+      let e = one_item limits input h.item a.read.item h.verdict a.read.verdict in
       (h.canonical_bytes ∙ ap (λ (s : Spelling). canonical o (value_of s)) e ∙ ap (canonical o) (sym a.value), h.fits),
   λ h. record {
     item = a.read.item;
     verdict = a.read.verdict;
-    whole = item_is_whole d n plain input a.read.item a.read.verdict (omega (arith, a.read.size));
+    whole = item_is_whole limits plain input a.read.item a.read.verdict (omega (arith, a.read.size));
     canonical_bytes = h.0 ∙ ap (canonical o) a.value;
     fits = h.1;
   },
 )
 
-pub tree_too_long : (d n : ℕ) (o : KeyOrder) (input : List ℕ) (v : Value) → IsReadAs d n plain input v (length input) → n < length (canonical o v) → IsRefusal d n o input (refusal CanonicalTooLong (length input) (length input))
-tree_too_long d n o input v a l =
-    whole.canonical_too_long a.read.item a.read.verdict (item_is_whole d n plain input a.read.item a.read.verdict (omega (arith, a.read.size))) (subst (λ (w : Value). n < length (canonical o w)) a.value l) refl
+pub tree_too_long : (limits : Bounds) (o : KeyOrder) (input : List ℕ) (v : Value) → IsReadAs limits plain input v (length input) → limits.bytes < length (canonical o v) → IsRefusal limits o input (refusal CanonicalTooLong (length input) (length input))
+tree_too_long limits o input v a l =
+    whole.canonical_too_long a.read.item a.read.verdict (item_is_whole limits plain input a.read.item a.read.verdict (omega (arith, a.read.size))) (subst (λ (w : Value). limits.bytes < length (canonical o w)) a.value l) refl
 
-pub tree_followed : (d n : ℕ) (o : KeyOrder) (input : List ℕ) (v : Value) (count : ℕ) → IsReadAs d n plain input v count → count < length input → IsRefusal d n o input (refusal Trailing count count)
-tree_followed d n o input v count a l = whole.trailing a.read.item a.read.verdict (omega (arith, a.read.size, l)) (ap (λ (k : ℕ). refusal Trailing k k) a.read.size)
+pub tree_followed : (limits : Bounds) (o : KeyOrder) (input : List ℕ) (v : Value) (count : ℕ) → IsReadAs limits plain input v count → count < length input → IsRefusal limits o input (refusal Trailing count count)
+tree_followed limits o input v count a l = whole.trailing a.read.item a.read.verdict (omega (arith, a.read.size, l)) (ap (λ (k : ℕ). refusal Trailing k k) a.read.size)
 
-pub tree_refused : (d n : ℕ) (o : KeyOrder) (input : List ℕ) (f : Refusal) → IsUnread d n plain input f → f.reason ≢ Read → IsRefusal d n o input f
-tree_refused d n o input f u g = item_refused d n o input f (unread u g)
+pub tree_refused : (limits : Bounds) (o : KeyOrder) (input : List ℕ) (f : Refusal) → IsUnread limits plain input f → f.reason ≢ Read → IsRefusal limits o input f
+tree_refused limits o input f u g = item_refused limits o input f (unread u g)
 
 -- ---- an input is an item, or it isn't
 
-pub only_item : (d n : ℕ) (input : List ℕ) (s t : Spelling) → IsValidItem d n input s → IsValidItem d n input t → s ≡ t
-only_item d n input s t i j = one_list s t i.well_formed.spelled j.well_formed.spelled (i.well_formed.bytes_are ∙ sym j.well_formed.bytes_are)
+pub only_item : (limits : Bounds) (input : List ℕ) (s t : Spelling) → IsValidItem limits input s → IsValidItem limits input t → s ≡ t
+only_item limits input s t i j = one_list s t i.well_formed.spelled j.well_formed.spelled (i.well_formed.bytes_are ∙ sym j.well_formed.bytes_are)
 
-pub refused_for_memory : (d n : ℕ) (input : List ℕ) (f : Refusal) → IsWholeItem d n input → IsItemRefusal d n input f → f.reason ≡ Memory
-refused_for_memory d n input f (s, i) (unread (of_verdict w) g) = absurd (no_both d n input s f (valid_item_accepted d n input s i) w)
-refused_for_memory d n input f (s, i) (unread (of_reader p l m is w) g) = absurd (g (ap (λ (x : Refusal). x.reason) is))
-refused_for_memory d n input f (s, i) (unread (of_memory p l m is x) g) = ap (λ (x : Refusal). x.reason) is
-refused_for_memory d n input f (s, i) (trailing t w l is) =
-    absurd (omega (arith, l, ap (λ (s : Spelling). length (spell s)) (one_item d n input s t (valid_item_accepted d n input s i) w), ap length i.well_formed.bytes_are))
+pub refused_for_memory : (limits : Bounds) (input : List ℕ) (f : Refusal) → IsWholeItem limits input → IsItemRefusal limits input f → f.reason ≡ Memory
+refused_for_memory limits input f (s, i) (unread (of_verdict w) g) = absurd (no_both limits input s f (valid_item_accepted limits input s i) w)
+refused_for_memory limits input f (s, i) (unread (of_reader p l m is w) g) = absurd (g (ap (λ (x : Refusal). x.reason) is))
+refused_for_memory limits input f (s, i) (unread (of_memory p l m is x) g) = ap (λ (x : Refusal). x.reason) is
+refused_for_memory limits input f (s, i) (trailing t w l is) =
+    absurd (omega (arith, l, ap (λ (s : Spelling). length (spell s)) (one_item limits input s t (valid_item_accepted limits input s i) w), ap length i.well_formed.bytes_are))

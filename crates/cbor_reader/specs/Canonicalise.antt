@@ -1,5 +1,6 @@
 -- What an input becomes: the canonical bytes of its item, or the refusal (RFC 8949, sections 4.2 and 5.3).
 use Rattle.std.specs.Prelude.{ℕ, ◌^◌, ◌≡◌, ◌<◌, ◌≤◌, ◌↔◌, ◌⊎◌, List, length, take}
+use Rattle.cbor_head.specs.Limits.{Bounds}
 use Rattle.cbor_head.specs.Value.{Same}
 use Rattle.cbor_head.specs.Spelling.{Spelling, IsItem, spell, value_of}
 use Rattle.cbor_head.specs.Beginning.{IsLongestBeginning}
@@ -14,33 +15,33 @@ use Rattle.cbor_judging.specs.Refusals.{IsFreeBefore, IsFormReason, IsComplaintR
 
 -- The whole input is one well-formed, valid item within depth d and n bytes, and out is the canonical bytes of its value, at
 -- most n bytes too.
-pub record IsCanonicalOf (d n : ℕ) (o : KeyOrder) (input out : List ℕ) : Type 0 where
+pub record IsCanonicalOf (limits : Bounds) (o : KeyOrder) (input out : List ℕ) : Type 0 where
   pub item : Spelling
-  pub verdict : IsVerdict d n plain input (accepted item)
+  pub verdict : IsVerdict limits plain input (accepted item)
   pub whole : spell item ≡ input
   pub canonical_bytes : out ≡ canonical o (value_of item)
-  pub fits : length out ≤ n
+  pub fits : length out ≤ limits.bytes
 
 -- The answers to this input and to another, in one order and within whichever limits, are equal exactly if the two are items of
 -- the same value.
 abbrev pub TellsItsValue : ℕ → KeyOrder → List ℕ → List ℕ → Type 0
 TellsItsValue d o input out =
-    (e m : ℕ) (other b : List ℕ) (s t : Spelling) → m ≤ 2 ^ 62 → IsItem d s input → IsCanonicalOf e m o other b → IsItem e t other
+    (limits : Bounds) (other b : List ℕ) (s t : Spelling) → limits.bytes ≤ 2 ^ 62 → IsItem d s input → IsCanonicalOf limits o other b → IsItem limits.depth t other
     → (out ≡ b) ↔ Same (value_of s) (value_of t)
 
 -- the refusal of an input that has none, or of one for which memory was refused
-pub data IsRefusal (d n : ℕ) (o : KeyOrder) (input : List ℕ) (f : Refusal) : Type 0 where
+pub data IsRefusal (limits : Bounds) (o : KeyOrder) (input : List ℕ) (f : Refusal) : Type 0 where
   -- the plain verdict
-  of_verdict : IsVerdict d n plain input (refused f) → IsRefusal d n o input f
+  of_verdict : IsVerdict limits plain input (refused f) → IsRefusal limits o input f
   -- a byte follows the item
-  trailing : (item : Spelling) → IsVerdict d n plain input (accepted item) → length (spell item) < length input
-      → f ≡ refusal Trailing (length (spell item)) (length (spell item)) → IsRefusal d n o input f
-  -- the item's canonical bytes are more than n
-  canonical_too_long : (item : Spelling) → IsVerdict d n plain input (accepted item) → spell item ≡ input
-      → n < length (canonical o (value_of item)) → f ≡ refusal CanonicalTooLong (length input) (length input) → IsRefusal d n o input f
+  trailing : (item : Spelling) → IsVerdict limits plain input (accepted item) → length (spell item) < length input
+      → f ≡ refusal Trailing (length (spell item)) (length (spell item)) → IsRefusal limits o input f
+  -- the item's canonical bytes are more than limits.bytes
+  canonical_too_long : (item : Spelling) → IsVerdict limits plain input (accepted item) → spell item ≡ input
+      → limits.bytes < length (canonical o (value_of item)) → f ≡ refusal CanonicalTooLong (length input) (length input) → IsRefusal limits o input f
   -- memory was refused, somewhere on the longest beginning, where no complaint had ended before
-  of_memory : (p : List ℕ) (taken : ℕ) → IsLongestBeginning d (take n input) p → taken ≤ length p
-      → f ≡ refusal Memory taken taken → IsFreeBefore d plain p taken → IsRefusal d n o input f
+  of_memory : (p : List ℕ) (taken : ℕ) → IsLongestBeginning limits.depth (take limits.bytes input) p → taken ≤ length p
+      → f ≡ refusal Memory taken taken → IsFreeBefore limits.depth plain p taken → IsRefusal limits o input f
 
 -- the reasons that the canonicaliser gives: 1 to 13, and 19
 abbrev pub IsCanonicaliserReason : Reason → Type 0

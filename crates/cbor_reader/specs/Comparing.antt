@@ -1,5 +1,6 @@
 -- When two inputs mean the same, and which side is refused (RFC 8949, section 5.6.1).
 use Rattle.std.specs.Prelude.{ℕ, List}
+use Rattle.cbor_head.specs.Limits.{Bounds}
 use Rattle.cbor_head.specs.Spelling.{Spelling, value_of}
 use Rattle.cbor_head.specs.Value.{Same}
 use Rattle.cbor_head.specs.declared.reason.Refusal.{Refusal}
@@ -9,14 +10,14 @@ use Rattle.cbor_reader.specs.Headline.{IsValidItem}
 use Rattle.cbor_reader.specs.WholeItem.{IsWholeItem, IsItemRefusal}
 
 -- both are whole valid items within the limits, of the same value
-pub record MeanTheSame (d n : ℕ) (left right : List ℕ) : Type 0 where
+pub record MeanTheSame (limits : Bounds) (left right : List ℕ) : Type 0 where
   pub left_item : Spelling
   pub right_item : Spelling
-  pub left_whole : IsValidItem d n left left_item
-  pub right_whole : IsValidItem d n right right_item
+  pub left_whole : IsValidItem limits left left_item
+  pub right_whole : IsValidItem limits right right_item
   pub same : Same (value_of left_item) (value_of right_item)
 
 -- the refusal of this side: of the left one, or of the right one where the left is accepted
-abbrev pub IsSideRefusal : ℕ → ℕ → List ℕ → List ℕ → Side → Refusal → Type 0
-IsSideRefusal d n left right Left f = IsItemRefusal d n left f
-IsSideRefusal d n left right Right f = IsWholeItem d n left × IsItemRefusal d n right f
+abbrev pub IsSideRefusal : Bounds → List ℕ → List ℕ → Side → Refusal → Type 0
+IsSideRefusal limits left right Left f = IsItemRefusal limits left f
+IsSideRefusal limits left right Right f = IsWholeItem limits left × IsItemRefusal limits right f

@@ -1,14 +1,15 @@
 -- Which inputs are accepted (RFC 8949, sections 3 and 5.3).
 use Rattle.std.specs.Prelude.{ℕ, ◌≤◌, List, length, IsUtf8}
 use Rattle.std.specs.List.{AllByRecursion}
+use Rattle.cbor_head.specs.Limits.{Bounds}
 use Rattle.cbor_head.specs.Spelling.{Spelling, Spellings, SpelledEntries, text, text_chunks, array, a_map, tag, no_spellings, a_spelling, no_entries, entry, IsItem}
 use Rattle.cbor_head.specs.Complaint.{plain, Complaint, Complains}
 
 -- the whole input is this one item: well-formed within depth d, valid, and of at most n bytes
-pub record IsValidItem (d n : ℕ) (input : List ℕ) (s : Spelling) : Type 0 where
-  pub well_formed : IsItem d s input
+pub record IsValidItem (limits : Bounds) (input : List ℕ) (s : Spelling) : Type 0 where
+  pub well_formed : IsItem limits.depth s input
   pub valid : (c : Complaint) → Complains plain 0 s c → ⊥
-  pub fits : length input ≤ n
+  pub fits : length input ≤ limits.bytes
 
 -- each text, and each chunk of one, is UTF-8 (sections 3.1 and 3.2.3)
 abbrev mutual

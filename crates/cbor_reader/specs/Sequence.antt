@@ -16,20 +16,20 @@ abbrev pub sequence_bytes : List Spelling → List ℕ
 sequence_bytes items = flat_map spell items
 
 -- an item that is accepted: well-formed within depth d, without complaint by the rules, and of at most n bytes
-pub record IsAccepted (d n : ℕ) (r : Rules) (item : Spelling) : Type 0 where
-  pub well_formed : IsItem d item (spell item)
+pub record IsAccepted (limits : Bounds) (r : Rules) (item : Spelling) : Type 0 where
+  pub well_formed : IsItem limits.depth item (spell item)
   pub sound : (c : Complaint) → Complains r 0 item c → ⊥
-  pub fits : length (spell item) ≤ n
+  pub fits : length (spell item) ≤ limits.bytes
 
 -- the input starts with a sequence of accepted items, and rest follows it
-pub record StartsWithItems (d n : ℕ) (r : Rules) (input : List ℕ) (items : List Spelling) (rest : List ℕ) : Type 0 where
-  pub each : AllByRecursion (IsAccepted d n r) items
+pub record StartsWithItems (limits : Bounds) (r : Rules) (input : List ℕ) (items : List Spelling) (rest : List ℕ) : Type 0 where
+  pub each : AllByRecursion (IsAccepted limits r) items
   pub bytes : sequence_bytes items ++ rest ≡ input
 
 -- the longest such sequence: any other is a beginning of it
-pub record IsLongestSequence (d n : ℕ) (r : Rules) (input : List ℕ) (items : List Spelling) (rest : List ℕ) : Type 0 where
-  pub starts : StartsWithItems d n r input items rest
-  pub longest : (others : List Spelling) (behind : List ℕ) → StartsWithItems d n r input others behind → (more : List Spelling) × (others ++ more ≡ items)
+pub record IsLongestSequence (limits : Bounds) (r : Rules) (input : List ℕ) (items : List Spelling) (rest : List ℕ) : Type 0 where
+  pub starts : StartsWithItems limits r input items rest
+  pub longest : (others : List Spelling) (behind : List ℕ) → StartsWithItems limits r input others behind → (more : List Spelling) × (others ++ more ≡ items)
 
 -- ---- one call
 
@@ -60,7 +60,7 @@ is_last (Some (Err f)) = true
 -- the item at the front of what the reader holds is accepted, with this value, and the reader lost just its bytes
 pub record IsTaken (r : Rules) (b : Bounds) (from to : Option (List ℕ)) (v : Value) : Type 0 where
   pub count : ℕ
-  pub read : IfSome from (λ input. IsReadAs b.depth b.bytes r input v count)
+  pub read : IfSome from (λ input. IsReadAs b r input v count)
   pub taken : Loses count from to
 
 -- the input ends before an item's first byte, and the limit would let it have one
@@ -75,7 +75,7 @@ pub record IsAtEnd (n : ℕ) (from to : Option (List ℕ)) : Type 0 where
 -- What the reader holds is refused by its verdict, which is not that it ended before an item; or what came in between is told.
 -- The reader lost as many bytes as the refusal tells.
 pub record IsRefused (r : Rules) (b : Bounds) (from to : Option (List ℕ)) (f : Refusal) : Type 0 where
-  pub unread : IfSome from (λ input. IsUnread b.depth b.bytes r input f)
+  pub unread : IfSome from (λ input. IsUnread b r input f)
   pub begun : f.reason ≢ Read → f.reason ≢ Memory → IfSome from (λ input. ¬ EndsBefore b.bytes input)
   pub taken : Loses f.read from to
 
@@ -103,7 +103,7 @@ AreGivenBy r given = AllByRecursion (λ g. g.rules ≡ r) given
 pub record HasGiven (b : Bounds) (held : Option (List ℕ)) (input : List ℕ) (given : List Given) : Type 0 where
   pub rest : List ℕ
   pub holds : held ≡ Some rest
-  pub each : AllByRecursion (λ g. IsAccepted b.depth b.bytes g.rules g.item) given
+  pub each : AllByRecursion (λ g. IsAccepted b g.rules g.item) given
   pub bytes : sequence_bytes (items_of given) ++ rest ≡ input
 
 -- the run goes on with an item of which this is told

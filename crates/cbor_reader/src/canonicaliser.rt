@@ -27,18 +27,18 @@ pub fn canonicalise(
     order: KeyOrder,
 ) -> Result<Vec<u8>, Refusal>
     ensures answer { MatchResult result
-        (λ v. IsCanonicalOf limits.depth limits.bytes order bytes.now v.items)
-        (λ f. IsRefusal limits.depth limits.bytes order bytes.now f) }
+        (λ v. IsCanonicalOf limits order bytes.now v.items)
+        (λ f. IsRefusal limits order bytes.now f) }
     ensures accepted { IfOk result (λ v. (s : Spelling)
-        × IsValidItem limits.depth limits.bytes bytes.now s
+        × IsValidItem limits bytes.now s
         × (v.items ≡ canonical order (value_of s)) × (length v.items ≤ limits.bytes)) }
     ensures refused { IfErr result (λ f. f.reason ≢ reasons.Memory
-        → (s : Spelling) → IsValidItem limits.depth limits.bytes bytes.now s
+        → (s : Spelling) → IsValidItem limits bytes.now s
         → limits.bytes < length (canonical order (value_of s))) }
     ensures reason { IfErr result (λ f. IsCanonicaliserReason f.reason) }
     ensures equal { IfOk result (λ v. TellsItsValue limits.depth order bytes.now v.items) }
     ensures again { IfOk result
-        (λ v. IsCanonicalOf limits.depth limits.bytes order v.items v.items) }
+        (λ v. IsCanonicalOf limits order v.items v.items) }
 {
     canonical_bytes(alloc, bytes, limits, order)
 }
@@ -51,8 +51,8 @@ fn canonical_bytes(
     order: KeyOrder,
 ) -> Result<Vec<u8>, Refusal>
     ensures { MatchResult result
-        (λ v. IsCanonicalOf limits.depth limits.bytes order bytes.now v.items)
-        (λ f. IsRefusal limits.depth limits.bytes order bytes.now f) }
+        (λ v. IsCanonicalOf limits order bytes.now v.items)
+        (λ f. IsRefusal limits order bytes.now f) }
 {
     let canonical = encoded_item(alloc, bytes, limits, order)?;
     if canonical.len() as u64 > limits.bytes() {

@@ -1,6 +1,7 @@
 //! Whether two inputs mean the same.
 
 ghost use Rattle.std.specs.Prelude.{◌≡◌, ◌≢◌, ◌↔◌, ◌≤◌, ◌^◌, ℕ, List, IsTrue, IfOk, IfErr};
+ghost use Rattle.cbor_head.specs.Limits.{bounds};
 ghost use Rattle.cbor_head.specs.Spelling.{Spelling, value_of};
 ghost use Rattle.cbor_head.specs.Value.{Same};
 ghost use Rattle.cbor_head.specs.declared.order.KeyOrder.{KeyOrder};
@@ -38,20 +39,20 @@ pub fn same_meaning(
     limits: Limits,
 ) -> Result<bool, (Side, Refusal)>
     ensures answer { IfOk result (λ same. IsTrue same
-        ↔ MeanTheSame limits.depth limits.bytes left.now right.now) }
-    ensures accepted { IfOk result (λ _. IsWholeItem limits.depth limits.bytes left.now
-        × IsWholeItem limits.depth limits.bytes right.now) }
+        ↔ MeanTheSame limits left.now right.now) }
+    ensures accepted { IfOk result (λ _. IsWholeItem limits left.now
+        × IsWholeItem limits right.now) }
     ensures values { IfOk result (λ same. (s t : Spelling)
-        → IsValidItem limits.depth limits.bytes left.now s
-        → IsValidItem limits.depth limits.bytes right.now t
+        → IsValidItem limits left.now s
+        → IsValidItem limits right.now t
         → IsTrue same ↔ Same (value_of s) (value_of t)) }
     ensures refused { IfErr result (λ e.
-        IsSideRefusal limits.depth limits.bytes left.now right.now e.0 e.1) }
+        IsSideRefusal limits left.now right.now e.0 e.1) }
     ensures only { IfErr result (λ e. e.1.reason ≢ reasons.Memory
-        → IsWholeItem limits.depth limits.bytes left.now
-        → ¬ IsWholeItem limits.depth limits.bytes right.now) }
+        → IsWholeItem limits left.now
+        → ¬ IsWholeItem limits right.now) }
     ensures equal { IfOk result (λ same. (n : ℕ) (o : KeyOrder) (a b : List ℕ) → n ≤ 2 ^ 62
-        → IsCanonicalOf limits.depth n o left.now a → IsCanonicalOf limits.depth n o right.now b
+        → IsCanonicalOf (bounds limits.depth n) o left.now a → IsCanonicalOf (bounds limits.depth n) o right.now b
         → IsTrue same ↔ (a ≡ b)) }
 {
     let left = match encoded_item(alloc, left, limits, KeyOrder::Bytewise) {

@@ -3,6 +3,7 @@
 ghost use Rattle.std.specs.Prelude.{◌≡◌, ◌≢◌, ◌↔◌, ◌≤◌, ◌<◌, ◌^◌, ◌++◌, ℕ, List, length, take};
 ghost use Rattle.cbor_head.specs.Canonical.{canonical};
 ghost use Rattle.cbor_head.specs.Complaint.{Rules, Complaint, Complains, plain, strict};
+ghost use Rattle.cbor_head.specs.Limits.{Bounds, bounds};
 ghost use Rattle.cbor_head.specs.Spelling.{Spelling, IsItem, spell, value_of};
 ghost use Rattle.cbor_head.specs.Value as value;
 ghost use Rattle.cbor_head.specs.Value.{Value, Same, IsInRange, IsValid};
@@ -23,29 +24,29 @@ ghost use Rattle.cbor_reader.specs.WholeItem.{IsWholeItem, IsItemRefusal};
 
 /// An input has one answer but where memory is refused.
 pub fn one_answer()
-    ensures bytes { (d n : ℕ) (o : KeyOrder) (input x y : List ℕ)
-        → IsCanonicalOf d n o input x → IsCanonicalOf d n o input y → x ≡ y }
-    ensures refusal { (d n : ℕ) (o : KeyOrder) (input : List ℕ) (f g : Refusal)
-        → IsRefusal d n o input f → IsRefusal d n o input g
+    ensures bytes { (limits : Bounds) (o : KeyOrder) (input x y : List ℕ)
+        → IsCanonicalOf limits o input x → IsCanonicalOf limits o input y → x ≡ y }
+    ensures refusal { (limits : Bounds) (o : KeyOrder) (input : List ℕ) (f g : Refusal)
+        → IsRefusal limits o input f → IsRefusal limits o input g
         → f.reason ≢ Memory → g.reason ≢ Memory → f ≡ g }
-    ensures either { (d n : ℕ) (o : KeyOrder) (input x : List ℕ) (f : Refusal)
-        → IsCanonicalOf d n o input x → IsRefusal d n o input f → f.reason ≡ Memory }
+    ensures either { (limits : Bounds) (o : KeyOrder) (input x : List ℕ) (f : Refusal)
+        → IsCanonicalOf limits o input x → IsRefusal limits o input f → f.reason ≡ Memory }
 {}
 
 /// Canonical bytes are answered exactly of an input that is one well-formed, valid item within the
 /// limits whose canonical bytes are within the byte limit too; and they are the canonical bytes of
 /// its value. Such an input is refused for want of memory only.
 pub fn answered_are_valid_items()
-    ensures accepted { (d n : ℕ) (o : KeyOrder) (input : List ℕ)
-        → ((out : List ℕ) × IsCanonicalOf d n o input out)
-        ↔ ((s : Spelling) × IsValidItem d n input s × (length (canonical o (value_of s)) ≤ n)) }
-    ensures answer { (d n : ℕ) (o : KeyOrder) (input out : List ℕ)
-        → IsCanonicalOf d n o input out
-        ↔ ((s : Spelling) × IsValidItem d n input s
-        × (out ≡ canonical o (value_of s)) × (length out ≤ n)) }
-    ensures refused { (d n : ℕ) (o : KeyOrder) (input : List ℕ) (f : Refusal) (s : Spelling)
-        → IsRefusal d n o input f → f.reason ≢ Memory → IsValidItem d n input s
-        → n < length (canonical o (value_of s)) }
+    ensures accepted { (limits : Bounds) (o : KeyOrder) (input : List ℕ)
+        → ((out : List ℕ) × IsCanonicalOf limits o input out)
+        ↔ ((s : Spelling) × IsValidItem limits input s × (length (canonical o (value_of s)) ≤ limits.bytes)) }
+    ensures answer { (limits : Bounds) (o : KeyOrder) (input out : List ℕ)
+        → IsCanonicalOf limits o input out
+        ↔ ((s : Spelling) × IsValidItem limits input s
+        × (out ≡ canonical o (value_of s)) × (length out ≤ limits.bytes)) }
+    ensures refused { (limits : Bounds) (o : KeyOrder) (input : List ℕ) (f : Refusal) (s : Spelling)
+        → IsRefusal limits o input f → f.reason ≢ Memory → IsValidItem limits input s
+        → limits.bytes < length (canonical o (value_of s)) }
 {}
 
 /// An input is answered as its tree is encoded. Where `read_tree` reads all of it as a value, the
@@ -53,17 +54,17 @@ pub fn answered_are_valid_items()
 /// longer, or bytes follow the item, that is the refusal; and what `read_tree` refuses for another
 /// cause than the reader is refused so.
 pub fn answers_are_encoded_trees()
-    ensures answer { (d n : ℕ) (o : KeyOrder) (input out : List ℕ) (v : Value)
-        → IsReadAs d n plain input v (length input)
-        → IsCanonicalOf d n o input out ↔ ((out ≡ canonical o v) × (length out ≤ n)) }
-    ensures too_long { (d n : ℕ) (o : KeyOrder) (input : List ℕ) (v : Value)
-        → IsReadAs d n plain input v (length input) → n < length (canonical o v)
-        → IsRefusal d n o input (refusal CanonicalTooLong (length input) (length input)) }
-    ensures followed { (d n : ℕ) (o : KeyOrder) (input : List ℕ) (v : Value) (count : ℕ)
-        → IsReadAs d n plain input v count → count < length input
-        → IsRefusal d n o input (refusal Trailing count count) }
-    ensures refused { (d n : ℕ) (o : KeyOrder) (input : List ℕ) (f : Refusal)
-        → IsUnread d n plain input f → f.reason ≢ Read → IsRefusal d n o input f }
+    ensures answer { (limits : Bounds) (o : KeyOrder) (input out : List ℕ) (v : Value)
+        → IsReadAs limits plain input v (length input)
+        → IsCanonicalOf limits o input out ↔ ((out ≡ canonical o v) × (length out ≤ limits.bytes)) }
+    ensures too_long { (limits : Bounds) (o : KeyOrder) (input : List ℕ) (v : Value)
+        → IsReadAs limits plain input v (length input) → limits.bytes < length (canonical o v)
+        → IsRefusal limits o input (refusal CanonicalTooLong (length input) (length input)) }
+    ensures followed { (limits : Bounds) (o : KeyOrder) (input : List ℕ) (v : Value) (count : ℕ)
+        → IsReadAs limits plain input v count → count < length input
+        → IsRefusal limits o input (refusal Trailing count count) }
+    ensures refused { (limits : Bounds) (o : KeyOrder) (input : List ℕ) (f : Refusal)
+        → IsUnread limits plain input f → f.reason ≢ Read → IsRefusal limits o input f }
 {}
 
 /// An item has no plain complaint, wherever it stands, exactly where each text and each chunk of
@@ -72,45 +73,46 @@ pub fn answers_are_encoded_trees()
 pub fn valid_items()
     ensures complaints { (s : Spelling) (at : ℕ) → ((c : Complaint) → Complains plain at s c → ⊥)
         ↔ (HasValidTexts s × IsValid (value_of s)) }
-    ensures verdict { (d n : ℕ) (input : List ℕ) (s : Spelling) → IsValidItem d n input s
-        ↔ (IsVerdict d n plain input (accepted s) × (spell s ≡ input)) }
-    ensures value { (d n : ℕ) (input : List ℕ) (s : Spelling) → n ≤ 2 ^ 62 → IsValidItem d n input s
-        → IsInRange (value_of s) × IsValid (value_of s) × (value.depth (value_of s) ≤ d) }
+    ensures verdict { (limits : Bounds) (input : List ℕ) (s : Spelling) → IsValidItem limits input s
+        ↔ (IsVerdict limits plain input (accepted s) × (spell s ≡ input)) }
+    ensures value { (limits : Bounds) (input : List ℕ) (s : Spelling) → limits.bytes ≤ 2 ^ 62 → IsValidItem limits input s
+        → IsInRange (value_of s) × IsValid (value_of s) × (value.depth (value_of s) ≤ limits.depth) }
 {}
 
 /// Two accepted inputs get equal answers in one order, within whichever limits, exactly if they are
 /// items of the same value.
 pub fn equal_answers_of_same_values()
-    ensures { (d n e m : ℕ) (o : KeyOrder) (x y a b : List ℕ) (s t : Spelling)
-        → n ≤ 2 ^ 62 → m ≤ 2 ^ 62
-        → IsCanonicalOf d n o x a → IsItem d s x → IsCanonicalOf e m o y b → IsItem e t y
+    ensures { (limits others : Bounds) (o : KeyOrder) (x y a b : List ℕ) (s t : Spelling)
+        → limits.bytes ≤ 2 ^ 62 → others.bytes ≤ 2 ^ 62
+        → IsCanonicalOf limits o x a → IsItem limits.depth s x
+        → IsCanonicalOf others o y b → IsItem others.depth t y
         → (a ≡ b) ↔ Same (value_of s) (value_of t) }
 {}
 
 /// An answer, given again as input in the same order and within the same limits, is its own answer.
 pub fn answer_again_is_itself()
-    ensures { (d n : ℕ) (o : KeyOrder) (input out : List ℕ) → n ≤ 2 ^ 62
-        → IsCanonicalOf d n o input out → IsCanonicalOf d n o out out }
+    ensures { (limits : Bounds) (o : KeyOrder) (input out : List ℕ) → limits.bytes ≤ 2 ^ 62
+        → IsCanonicalOf limits o input out → IsCanonicalOf limits o out out }
 {}
 
 /// An input is its own answer exactly where the strict verdict in this order accepts it whole.
 pub fn own_answers_are_strictly_accepted()
-    ensures { (d n : ℕ) (o : KeyOrder) (input : List ℕ) → n ≤ 2 ^ 62
-        → IsCanonicalOf d n o input input
-        ↔ ((s : Spelling) × IsVerdict d n (strict o) input (accepted s) × (spell s ≡ input)) }
+    ensures { (limits : Bounds) (o : KeyOrder) (input : List ℕ) → limits.bytes ≤ 2 ^ 62
+        → IsCanonicalOf limits o input input
+        ↔ ((s : Spelling) × IsVerdict limits (strict o) input (accepted s) × (spell s ≡ input)) }
 {}
 
 /// The plain verdict accepts an item whose value is in range, valid, and within the depth, and that
 /// has no more bytes than the limit.
 pub fn plainly_accepted_values()
-    ensures range { (d n : ℕ) (input : List ℕ) (s : Spelling) → n ≤ 2 ^ 62
-        → IsVerdict d n plain input (accepted s) → IsInRange (value_of s) }
-    ensures valid { (d n : ℕ) (input : List ℕ) (s : Spelling)
-        → IsVerdict d n plain input (accepted s) → IsValid (value_of s) }
-    ensures depth { (d n : ℕ) (input : List ℕ) (s : Spelling)
-        → IsVerdict d n plain input (accepted s) → value.depth (value_of s) ≤ d }
-    ensures fits { (d n : ℕ) (input : List ℕ) (s : Spelling)
-        → IsVerdict d n plain input (accepted s) → length (spell s) ≤ n }
+    ensures range { (limits : Bounds) (input : List ℕ) (s : Spelling) → limits.bytes ≤ 2 ^ 62
+        → IsVerdict limits plain input (accepted s) → IsInRange (value_of s) }
+    ensures valid { (limits : Bounds) (input : List ℕ) (s : Spelling)
+        → IsVerdict limits plain input (accepted s) → IsValid (value_of s) }
+    ensures depth { (limits : Bounds) (input : List ℕ) (s : Spelling)
+        → IsVerdict limits plain input (accepted s) → value.depth (value_of s) ≤ limits.depth }
+    ensures fits { (limits : Bounds) (input : List ℕ) (s : Spelling)
+        → IsVerdict limits plain input (accepted s) → length (spell s) ≤ limits.bytes }
 {}
 
 /// A value has no more items, at every depth, and string bytes together than its item has bytes.
@@ -122,17 +124,17 @@ pub fn values_are_no_larger_than_their_items()
 /// value within the limits. What it accepts is just these bytes, and their value is the same. No
 /// input begins so in two ways.
 pub fn strictly_accepted_fronts()
-    ensures accepted { (d n : ℕ) (o : KeyOrder) (input : List ℕ)
-        → ((s : Spelling) × IsVerdict d n (strict o) input (accepted s))
-        ↔ ((v : Value) × BeginsWithCanonical d n o input v) }
-    ensures value { (d n : ℕ) (o : KeyOrder) (input : List ℕ) (s : Spelling)
-        → IsVerdict d n (strict o) input (accepted s)
-        → BeginsWithCanonical d n o input (value_of s) }
-    ensures taken { (d n : ℕ) (o : KeyOrder) (input : List ℕ) (s : Spelling) (v : Value)
-        → IsVerdict d n (strict o) input (accepted s) → BeginsWithCanonical d n o input v
+    ensures accepted { (limits : Bounds) (o : KeyOrder) (input : List ℕ)
+        → ((s : Spelling) × IsVerdict limits (strict o) input (accepted s))
+        ↔ ((v : Value) × BeginsWithCanonical limits o input v) }
+    ensures value { (limits : Bounds) (o : KeyOrder) (input : List ℕ) (s : Spelling)
+        → IsVerdict limits (strict o) input (accepted s)
+        → BeginsWithCanonical limits o input (value_of s) }
+    ensures taken { (limits : Bounds) (o : KeyOrder) (input : List ℕ) (s : Spelling) (v : Value)
+        → IsVerdict limits (strict o) input (accepted s) → BeginsWithCanonical limits o input v
         → (spell s ≡ canonical o v) × Same (value_of s) v }
-    ensures one { (d n : ℕ) (o : KeyOrder) (input : List ℕ) (v w : Value)
-        → BeginsWithCanonical d n o input v → BeginsWithCanonical d n o input w
+    ensures one { (limits : Bounds) (o : KeyOrder) (input : List ℕ) (v w : Value)
+        → BeginsWithCanonical limits o input v → BeginsWithCanonical limits o input w
         → Same v w × (canonical o v ≡ canonical o w) }
 {}
 
@@ -140,48 +142,48 @@ pub fn strictly_accepted_fronts()
 /// truncated where the input ends behind them and the limit is more; as too long where they are the
 /// limit, whatever follows the item.
 pub fn items_cut_short()
-    ensures truncated { (d n : ℕ) (r : Rules) (s : Spelling) (b : List ℕ) (k : ℕ)
-        → IsItem d s b → ((c : Complaint) → Complains r 0 s c → ⊥)
-        → k < length b → k < n → IsVerdict d n r (take k b) (refused (refusal Truncated k k)) }
+    ensures truncated { (limits : Bounds) (r : Rules) (s : Spelling) (b : List ℕ) (k : ℕ)
+        → IsItem limits.depth s b → ((c : Complaint) → Complains r 0 s c → ⊥)
+        → k < length b → k < limits.bytes → IsVerdict limits r (take k b) (refused (refusal Truncated k k)) }
     ensures too_long { (d : ℕ) (r : Rules) (s : Spelling) (b rest : List ℕ) (k : ℕ)
         → IsItem d s b → ((c : Complaint) → Complains r 0 s c → ⊥)
-        → k < length b → IsVerdict d k r (b ++ rest) (refused (refusal TooLong k k)) }
+        → k < length b → IsVerdict (bounds d k) r (b ++ rest) (refused (refusal TooLong k k)) }
 {}
 
 /// A refusal's place is no later than the bytes read, and these are no more than the limit and no
 /// more than the input has.
 pub fn refusals_stand_within_the_input()
-    ensures verdict { (d n : ℕ) (r : Rules) (input : List ℕ) (f : Refusal)
-        → IsVerdict d n r input (refused f) → StandsWithin n input f }
-    ensures answer { (d n : ℕ) (o : KeyOrder) (input : List ℕ) (f : Refusal)
-        → IsRefusal d n o input f → StandsWithin n input f }
+    ensures verdict { (limits : Bounds) (r : Rules) (input : List ℕ) (f : Refusal)
+        → IsVerdict limits r input (refused f) → StandsWithin limits.bytes input f }
+    ensures answer { (limits : Bounds) (o : KeyOrder) (input : List ℕ) (f : Refusal)
+        → IsRefusal limits o input f → StandsWithin limits.bytes input f }
 {}
 
 /// On the inputs that are whole valid items within the limits, to mean the same is an equivalence.
 pub fn meaning_is_an_equivalence()
-    ensures reflexive { (d n : ℕ) (x : List ℕ) → IsWholeItem d n x → MeanTheSame d n x x }
-    ensures symmetric { (d n : ℕ) (x y : List ℕ) → MeanTheSame d n x y → MeanTheSame d n y x }
-    ensures transitive { (d n : ℕ) (x y z : List ℕ)
-        → MeanTheSame d n x y → MeanTheSame d n y z → MeanTheSame d n x z }
+    ensures reflexive { (limits : Bounds) (x : List ℕ) → IsWholeItem limits x → MeanTheSame limits x x }
+    ensures symmetric { (limits : Bounds) (x y : List ℕ) → MeanTheSame limits x y → MeanTheSame limits y x }
+    ensures transitive { (limits : Bounds) (x y z : List ℕ)
+        → MeanTheSame limits x y → MeanTheSame limits y z → MeanTheSame limits x z }
 {}
 
 /// Two inputs whose canonical bytes are within the limit too mean the same exactly if these are
 /// equal, in whichever order of keys.
 pub fn same_meaning_of_equal_answers()
-    ensures { (d n : ℕ) (o : KeyOrder) (x y a b : List ℕ) → n ≤ 2 ^ 62
-        → IsCanonicalOf d n o x a → IsCanonicalOf d n o y b → MeanTheSame d n x y ↔ (a ≡ b) }
+    ensures { (limits : Bounds) (o : KeyOrder) (x y a b : List ℕ) → limits.bytes ≤ 2 ^ 62
+        → IsCanonicalOf limits o x a → IsCanonicalOf limits o y b → MeanTheSame limits x y ↔ (a ≡ b) }
 {}
 
 /// An input is a whole valid item, or has one refusal, but where memory is refused. Its canonical
 /// bytes are refused as it is, or where it is such an item and they are longer than the limit.
 pub fn items_and_their_refusals()
-    ensures one { (d n : ℕ) (input : List ℕ) (f g : Refusal)
-        → IsItemRefusal d n input f → IsItemRefusal d n input g
+    ensures one { (limits : Bounds) (input : List ℕ) (f g : Refusal)
+        → IsItemRefusal limits input f → IsItemRefusal limits input g
         → f.reason ≢ Memory → g.reason ≢ Memory → f ≡ g }
-    ensures either { (d n : ℕ) (input : List ℕ) (f : Refusal)
-        → IsWholeItem d n input → IsItemRefusal d n input f → f.reason ≡ Memory }
-    ensures refused { (d n : ℕ) (o : KeyOrder) (input : List ℕ) (f : Refusal)
-        → IsItemRefusal d n input f → IsRefusal d n o input f }
-    ensures canonical { (d n : ℕ) (o : KeyOrder) (input : List ℕ) (f : Refusal)
-        → IsRefusal d n o input f → f.reason ≢ CanonicalTooLong → IsItemRefusal d n input f }
+    ensures either { (limits : Bounds) (input : List ℕ) (f : Refusal)
+        → IsWholeItem limits input → IsItemRefusal limits input f → f.reason ≡ Memory }
+    ensures refused { (limits : Bounds) (o : KeyOrder) (input : List ℕ) (f : Refusal)
+        → IsItemRefusal limits input f → IsRefusal limits o input f }
+    ensures canonical { (limits : Bounds) (o : KeyOrder) (input : List ℕ) (f : Refusal)
+        → IsRefusal limits o input f → f.reason ≢ CanonicalTooLong → IsItemRefusal limits input f }
 {}

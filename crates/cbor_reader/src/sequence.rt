@@ -81,10 +81,10 @@ impl<R: Read> Sequence<R> {
     /// first byte, and for ever after that or after a refusal.
     pub fn next_strict(&mut self, order: KeyOrder) -> Option<Result<u64, Refusal>>
         ensures item { IfGiven result (λ count. IfSome (R.remaining self.old.reader) (λ input.
-            IsRead self.old.items.limits.depth self.old.items.limits.bytes
+            IsRead self.old.items.limits
             (strict order) input count)) }
         ensures canonical { IfGiven result (λ count. IfSome (R.remaining self.old.reader) (λ input.
-            IsCanonicalFront self.old.items.limits.depth self.old.items.limits.bytes
+            IsCanonicalFront self.old.items.limits
             order input count)) }
         ensures taken { IfGiven result (λ count.
             Loses count (R.remaining self.old.reader) (R.remaining self.new.reader)) }

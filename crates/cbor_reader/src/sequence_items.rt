@@ -89,9 +89,9 @@ impl SequenceItems {
         order: KeyOrder,
     ) -> Option<Result<u64, Refusal>>
         ensures item { IfGiven result (λ count. IfSome (R.remaining reader.old) (λ input.
-            IsRead self.old.limits.depth self.old.limits.bytes (strict order) input count)) }
+            IsRead self.old.limits (strict order) input count)) }
         ensures canonical { IfGiven result (λ count. IfSome (R.remaining reader.old) (λ input.
-            IsCanonicalFront self.old.limits.depth self.old.limits.bytes order input count)) }
+            IsCanonicalFront self.old.limits order input count)) }
         ensures taken { IfGiven result (λ count.
             Loses count (R.remaining reader.old) (R.remaining reader.new)) }
         ensures end { result ≡ None → self.old.finished ≡ false

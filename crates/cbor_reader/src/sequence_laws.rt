@@ -3,7 +3,7 @@
 ghost use Rattle.std.specs.Prelude.{◌≡◌, ◌≢◌, ◌↔◌, ℕ, Option, Some, List, [], ◌∷◌, ◌++◌};
 ghost use Rattle.cbor_head.specs.Canonical.{canonical};
 ghost use Rattle.cbor_head.specs.Complaint.{Rules, plain, strict};
-ghost use Rattle.cbor_head.specs.Limits.{Bounds};
+ghost use Rattle.cbor_head.specs.Limits.{Bounds, bounds};
 ghost use Rattle.cbor_head.specs.Spelling.{Spelling, IsItem, spell, value_of};
 ghost use Rattle.cbor_head.specs.Verdict.{IsVerdict, refused, refusal};
 ghost use Rattle.cbor_head.specs.declared.order.KeyOrder.{KeyOrder};
@@ -20,11 +20,11 @@ ghost use Rattle.cbor_reader.specs.Sequence.{Given, given_by, items_of, AreGiven
 /// The items of a sequence: by the plain rules the valid items within the limits; by the strict
 /// ones, in an order, the items within the limits that are spelled by their canonical bytes.
 pub fn items_of_sequences()
-    ensures plain { (d n : ℕ) (s : Spelling)
-        → IsAccepted d n plain s ↔ IsValidItem d n (spell s) s }
-    ensures strict { (d n : ℕ) (o : KeyOrder) (s : Spelling) → IsItem d s (spell s)
-        → IsAccepted d n (strict o) s
-        ↔ (BeginsWithCanonical d n o (spell s) (value_of s)
+    ensures plain { (limits : Bounds) (s : Spelling)
+        → IsAccepted limits plain s ↔ IsValidItem limits (spell s) s }
+    ensures strict { (limits : Bounds) (o : KeyOrder) (s : Spelling) → IsItem limits.depth s (spell s)
+        → IsAccepted limits (strict o) s
+        ↔ (BeginsWithCanonical limits o (spell s) (value_of s)
         × (spell s ≡ canonical o (value_of s))) }
 {}
 
@@ -34,7 +34,7 @@ pub fn runs_of_calls()
     ensures starts { (b : Bounds) (input : List ℕ) → HasGiven b (Some input) input [] }
     ensures by_one { (r : Rules) (b : Bounds) (held : Option (List ℕ)) (input : List ℕ)
         (given : List Given) → (run : HasGiven b held input given) → AreGivenBy r given
-        → StartsWithItems b.depth b.bytes r input (items_of given) run.rest }
+        → StartsWithItems b r input (items_of given) run.rest }
     ensures one_more { (r : Rules) (given : List Given) (s : Spelling) → AreGivenBy r given
         → AreGivenBy r (given ++ given_by r s ∷ []) }
 {}
@@ -46,20 +46,20 @@ pub fn longest_sequences()
     ensures ended { (r : Rules) (b : Bounds) (held to : Option (List ℕ)) (input : List ℕ)
         (given : List Given) → HasGiven b held input given → AreGivenBy r given
         → IsAtEnd b.bytes held to
-        → IsLongestSequence b.depth b.bytes r input (items_of given) [] }
+        → IsLongestSequence b r input (items_of given) [] }
     ensures whole { (b : Bounds) (held to : Option (List ℕ)) (input : List ℕ)
         (given : List Given) → HasGiven b held input given
         → IsAtEnd b.bytes held to → sequence_bytes (items_of given) ≡ input }
     ensures refused { (r : Rules) (b : Bounds) (held to : Option (List ℕ)) (input : List ℕ)
         (given : List Given) (f : Refusal) → (run : HasGiven b held input given)
         → AreGivenBy r given → IsRefused r b held to f → f.reason ≢ Read → f.reason ≢ Memory
-        → IsLongestSequence b.depth b.bytes r input (items_of given) run.rest }
+        → IsLongestSequence b r input (items_of given) run.rest }
     ensures verdict { (r : Rules) (b : Bounds) (held to : Option (List ℕ)) (input : List ℕ)
         (given : List Given) (f : Refusal) → (run : HasGiven b held input given)
         → IsRefused r b held to f → f.reason ≢ Read → f.reason ≢ Memory
-        → IsVerdict b.depth b.bytes r run.rest (refused f) }
-    ensures one { (d n : ℕ) (r : Rules) (input rest behind : List ℕ) (items others : List Spelling)
-        → IsLongestSequence d n r input items rest → IsLongestSequence d n r input others behind
+        → IsVerdict b r run.rest (refused f) }
+    ensures one { (limits : Bounds) (r : Rules) (input rest behind : List ℕ) (items others : List Spelling)
+        → IsLongestSequence limits r input items rest → IsLongestSequence limits r input others behind
         → (items ≡ others) × (rest ≡ behind) }
 {}
 
@@ -67,10 +67,10 @@ pub fn longest_sequences()
 /// limit of 0 the verdict on each input is that it is too long at 0, and no other refusal is told
 /// but of memory.
 pub fn inputs_without_an_item()
-    ensures ended { (d n : ℕ) (r : Rules) (input : List ℕ)
-        → EndsBefore n input ↔ IsVerdict d n r input (refused (refusal Truncated 0 0)) }
+    ensures ended { (limits : Bounds) (r : Rules) (input : List ℕ)
+        → EndsBefore limits.bytes input ↔ IsVerdict limits r input (refused (refusal Truncated 0 0)) }
     ensures no_bytes { (d : ℕ) (r : Rules) (input : List ℕ)
-        → IsVerdict d 0 r input (refused (refusal TooLong 0 0)) }
+        → IsVerdict (bounds d 0) r input (refused (refusal TooLong 0 0)) }
     ensures told { (d : ℕ) (r : Rules) (input : List ℕ) (f : Refusal)
-        → IsUnread d 0 r input f → f.reason ≢ Memory → f ≡ refusal TooLong 0 0 }
+        → IsUnread (bounds d 0) r input f → f.reason ≢ Memory → f ≡ refusal TooLong 0 0 }
 {}

@@ -57,7 +57,7 @@ pub(crate) fn build_front(
     order: KeyOrder,
 ) -> Option<BuiltFront>
     ensures { IfSome result (λ f.
-        IsBuiltFront limits.depth limits.bytes order bytes.now f.canonical.items f.size) }
+        IsBuiltFront limits order bytes.now f.canonical.items f.size) }
 {
     let mut events = SliceEvents::new(bytes, limits);
     let mut builder = CanonBuilder::new(alloc, order);

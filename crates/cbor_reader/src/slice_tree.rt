@@ -20,8 +20,8 @@ use std::alloc::Global;
 /// before, at the count of the bytes taken.
 pub fn whole_tree(alloc: Global, bytes: &[u8], limits: Limits) -> Result<Tree, Refusal>
     ensures accepted { IfOk result (λ tree. (s : Spelling)
-        × IsValidItem limits.depth limits.bytes bytes.now s × (view tree ≡ value_of s)) }
-    ensures refused { IfErr result (IsItemRefusal limits.depth limits.bytes bytes.now) }
+        × IsValidItem limits bytes.now s × (view tree ≡ value_of s)) }
+    ensures refused { IfErr result (IsItemRefusal limits bytes.now) }
 {
     let mut rest = bytes;
     let (tree, size) = match read_tree(alloc, &mut rest, limits) {

@@ -27,12 +27,12 @@ pub fn read_tree<R: Read>(
     limits: Limits,
 ) -> Result<(Tree, u64), Refusal>
     ensures accepted { IfOk result (λ answer. IfSome (R.remaining reader.old)
-        (λ input. IsReadAs limits.depth limits.bytes plain input (view answer.0) answer.1)) }
+        (λ input. IsReadAs limits plain input (view answer.0) answer.1)) }
     ensures taken { IfOk result
         (λ answer. Loses answer.1 (R.remaining reader.old) (R.remaining reader.new)) }
     ensures bounded { IfOk result (λ answer. size (view answer.0) ≤ answer.1) }
     ensures refused { IfErr result (λ f. IfSome (R.remaining reader.old)
-        (λ input. IsUnread limits.depth limits.bytes plain input f)) }
+        (λ input. IsUnread limits plain input f)) }
     ensures reason { IfErr result (λ f. IsReaderReason plain f.reason) }
     ensures read { IfErr result
         (λ f. Loses f.read (R.remaining reader.old) (R.remaining reader.new)) }

@@ -21,9 +21,9 @@ pub(crate) fn valid_front(
     order: KeyOrder,
 ) -> Result<BuiltFront, Refusal>
     ensures accepted { IfOk result (λ f.
-        IsBuiltFront limits.depth limits.bytes order bytes.now f.canonical.items f.size) }
+        IsBuiltFront limits order bytes.now f.canonical.items f.size) }
     ensures refused { IfErr result
-        (λ f. IsUnread limits.depth limits.bytes plain bytes.now f) }
+        (λ f. IsUnread limits plain bytes.now f) }
     ensures no_read { IfErr result (λ f. f.reason ≢ reasons.Read) }
 {
     match build_front(alloc, bytes, limits, order) {
@@ -40,9 +40,9 @@ fn read_again(
     order: KeyOrder,
 ) -> Result<BuiltFront, Refusal>
     ensures accepted { IfOk result (λ f.
-        IsBuiltFront limits.depth limits.bytes order bytes.now f.canonical.items f.size) }
+        IsBuiltFront limits order bytes.now f.canonical.items f.size) }
     ensures refused { IfErr result
-        (λ f. IsUnread limits.depth limits.bytes plain bytes.now f) }
+        (λ f. IsUnread limits plain bytes.now f) }
     ensures no_read { IfErr result (λ f. f.reason ≢ reasons.Read) }
 {
     let mut rest = bytes;

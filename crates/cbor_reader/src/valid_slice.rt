@@ -17,9 +17,9 @@ use std::alloc::Global;
 /// memory is taken for the item's canonical bytes, by which equal keys are found.
 pub fn check_valid(alloc: Global, bytes: &[u8], limits: Limits) -> Result<u64, Refusal>
     ensures accepted { IfOk result
-        (λ count. IsRead limits.depth limits.bytes plain bytes.now count) }
+        (λ count. IsRead limits plain bytes.now count) }
     ensures refused { IfErr result
-        (λ f. IsUnread limits.depth limits.bytes plain bytes.now f) }
+        (λ f. IsUnread limits plain bytes.now f) }
     ensures no_read { IfErr result (λ f. f.reason ≢ reasons.Read) }
 {
     match valid_front(alloc, bytes, limits, KeyOrder::Bytewise) {

@@ -3,6 +3,7 @@
 ghost use Rattle.std.specs.Prelude.{◌≡◌, ◌≢◌, ℕ, List, IfOk, IfErr};
 ghost use Rattle.cbor_head.specs.Canonical.{canonical};
 ghost use Rattle.cbor_head.specs.Complaint.{plain};
+ghost use Rattle.cbor_head.specs.Limits.{Bounds};
 ghost use Rattle.cbor_head.specs.Spelling.{Spelling, value_of};
 ghost use Rattle.cbor_head.specs.declared.reason.Reason.TheVariants as reasons;
 ghost use Rattle.cbor_reader.specs.Headline.{IsValidItem};
@@ -21,9 +22,9 @@ pub(crate) fn encoded_item(
     order: KeyOrder,
 ) -> Result<Vec<u8>, Refusal>
     ensures encoded { IfOk result (λ v. (s : Spelling)
-        × IsValidItem limits.depth limits.bytes bytes.now s
+        × IsValidItem limits bytes.now s
         × (v.items ≡ canonical order (value_of s))) }
-    ensures refused { IfErr result (IsItemRefusal limits.depth limits.bytes bytes.now) }
+    ensures refused { IfErr result (IsItemRefusal limits bytes.now) }
 {
     match valid_front(alloc, bytes, limits, order) {
         Ok(front) => {
@@ -38,10 +39,10 @@ pub(crate) fn encoded_item(
 
 // A refusal by a reader that does not fail: a slice doesn't, though `Read` can't say so.
 pub(crate) fn of_slice(refusal: Refusal) -> Refusal
-    ensures whole { (d n : ℕ) (input : List ℕ)
-        → IsUnread d n plain input refusal → IsItemRefusal d n input result }
-    ensures unread { (d n : ℕ) (input : List ℕ)
-        → IsUnread d n plain input refusal → IsUnread d n plain input result }
+    ensures whole { (limits : Bounds) (input : List ℕ)
+        → IsUnread limits plain input refusal → IsItemRefusal limits input result }
+    ensures unread { (limits : Bounds) (input : List ℕ)
+        → IsUnread limits plain input refusal → IsUnread limits plain input result }
     ensures no_read { result.reason ≢ reasons.Read }
 {
     match refusal.reason {

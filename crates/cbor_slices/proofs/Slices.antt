@@ -4,6 +4,7 @@ use Rattle.std.proofs.lemmas.List.{length-take-le, take-append-drop, take-take}
 use Rattle.std.specs.Prelude.{Option, Some, None, IfSome, min}
 use Rattle.std.specs.Option.{is_some}
 use Rattle.std.specs.Io.KnownBytes.{Consumes}
+use Rattle.cbor_head.specs.Limits.{Bounds, bounds}
 use Rattle.cbor_head.specs.Value.{AreBytes}
 use Rattle.cbor_head.specs.Complaint.{form}
 use Rattle.cbor_head.specs.Verdict.{refusal, refused, IsVerdict, Answer}
@@ -49,9 +50,9 @@ use Rattle.cbor_automaton.proofs.Frames.{position-done}
 -- ---- the slice as the whole input
 
 -- a verdict is about the bytes within the limit
-pub verdict-within : (d n : ℕ) (rules : Rules) (input : List ℕ) (a : Answer) → IsVerdict d n rules (take n input) a → IsVerdict d n rules input a
-verdict-within d n rules input a v =
-    let same : take n (take n input) ≡ take n input = take-take n n input (omega arith) in
+pub verdict-within : (limits : Bounds) (rules : Rules) (input : List ℕ) (a : Answer) → IsVerdict limits rules (take limits.bytes input) a → IsVerdict limits rules input a
+verdict-within limits rules input a v =
+    let same : take limits.bytes (take limits.bytes input) ≡ take limits.bytes input = take-take limits.bytes limits.bytes input (omega arith) in
     record {
       p = v.p;
       longest = record { beginning = v.longest.beginning; rest = v.longest.rest; splits = sym same ∙ v.longest.splits; longest = λ q r b e. v.longest.longest q r b (same ∙ e) };
@@ -68,24 +69,24 @@ Stops f old new t ms =
 
 -- the verdict of form, where the slice ends
 cut-judged : (f : Refusal) (old new : SliceEventsView) (t : List ℕ) (ms : List Mark) → f.reason ≡ Truncated → new.rest ≡ [] → IsCut f (slice_call old new t ms)
-    → (input : List ℕ) → take new.machine.bytes input ≡ t ++ old.rest → IsVerdict new.machine.depth new.machine.bytes form input (refused f)
+    → (input : List ℕ) → take new.machine.bytes input ≡ t ++ old.rest → IsVerdict (bounds new.machine.depth new.machine.bytes) form input (refused f)
 cut-judged f old new t ms why nothing k input e =
     let all : t ++ k.bytes ≡ take new.machine.bytes input = ap (λ xs. t ++ xs) (sym (append-nil k.bytes) ∙ ap (λ xs. k.bytes ++ xs) (sym nothing) ∙ sym k.consumed) ∙ sym e in
     let is : refusal Truncated (length (t ++ k.bytes)) (length (t ++ k.bytes)) ≡ f = ap (λ r. refusal r (length (t ++ k.bytes)) (length (t ++ k.bytes))) (sym why) ∙ sym k.is in
-    verdict-within new.machine.depth new.machine.bytes form input (refused f)
-    (subst (λ g. IsVerdict new.machine.depth new.machine.bytes form (take new.machine.bytes input) (refused g)) is
-    (subst (λ xs. IsVerdict new.machine.depth new.machine.bytes form xs (refused (refusal Truncated (length (t ++ k.bytes)) (length (t ++ k.bytes))))) all k.verdict))
+    verdict-within (bounds new.machine.depth new.machine.bytes) form input (refused f)
+    (subst (λ g. IsVerdict (bounds new.machine.depth new.machine.bytes) form (take new.machine.bytes input) (refused g)) is
+    (subst (λ xs. IsVerdict (bounds new.machine.depth new.machine.bytes) form xs (refused (refusal Truncated (length (t ++ k.bytes)) (length (t ++ k.bytes))))) all k.verdict))
 
 -- and where the limit does, or a byte may not stand there
 stop-judged : (f : Refusal) (old new : SliceEventsView) (t : List ℕ) (ms : List Mark) → IsTooLong f (slice_call old new t ms) ⊎ HasFormError f (slice_call old new t ms)
-    → (input : List ℕ) → take new.machine.bytes input ≡ t ++ old.rest → IsVerdict new.machine.depth new.machine.bytes form input (refused f)
+    → (input : List ℕ) → take new.machine.bytes input ≡ t ++ old.rest → IsVerdict (bounds new.machine.depth new.machine.bytes) form input (refused f)
 stop-judged f old new t ms (inl k) input e =
     let all : (t ++ k.bytes) ++ new.rest ≡ take new.machine.bytes input = append_assoc t k.bytes new.rest ∙ ap (λ xs. t ++ xs) (sym k.consumed) ∙ sym e in
-    verdict-within new.machine.depth new.machine.bytes form input (refused f) (subst (λ xs. IsVerdict new.machine.depth new.machine.bytes form xs (refused f)) all (k.verdict new.rest))
+    verdict-within (bounds new.machine.depth new.machine.bytes) form input (refused f) (subst (λ xs. IsVerdict (bounds new.machine.depth new.machine.bytes) form xs (refused f)) all (k.verdict new.rest))
 stop-judged f old new t ms (inr k) input e =
     let all : (t ++ k.bytes ++ k.byte ∷ []) ++ new.rest ≡ take new.machine.bytes input =
     ap (λ xs. xs ++ new.rest) (append_assoc t k.bytes (k.byte ∷ [])) ∙ append_assoc t (k.bytes ++ k.byte ∷ []) new.rest ∙ ap (λ xs. t ++ xs) (sym k.consumed) ∙ sym e in
-    verdict-within new.machine.depth new.machine.bytes form input (refused f) (subst (λ xs. IsVerdict new.machine.depth new.machine.bytes form xs (refused f)) all (k.verdict new.rest))
+    verdict-within (bounds new.machine.depth new.machine.bytes) form input (refused f) (subst (λ xs. IsVerdict (bounds new.machine.depth new.machine.bytes) form xs (refused f)) all (k.verdict new.rest))
 
 -- a refusal is given again
 pub stopped-refusal : (r : Option Refusal) (n : ℕ) → true ≡ is_some r → IfSome r (λ f. f.read ≡ n) → (x : Refusal) × (r ≡ Some x) × (n ≡ x.read)
@@ -217,7 +218,7 @@ module _ (f : Refusal) (old now new : SliceEventsView) (used : ℕ) (t : List �
   moved : new.machine.taken ≡ old.machine.taken + length (take used old.rest)
   moved = taken ∙ ap (λ k. old.machine.taken + k) (sym (length-take-le used old.rest fits))
 
-  refusal-next : Stops f old new t ms → ((input : List ℕ) → take new.machine.bytes input ≡ t ++ old.rest → IsVerdict new.machine.depth new.machine.bytes form input (refused f)) → IsNextTold Refused now new t ms
+  refusal-next : Stops f old new t ms → ((input : List ℕ) → take new.machine.bytes input ≡ t ++ old.rest → IsVerdict (bounds new.machine.depth new.machine.bytes) form input (refused f)) → IsNextTold Refused now new t ms
   refusal-next stops judged =
       subst (λ (v : SliceEventsView). IsNextTold Refused v new t ms) same
       (record { is = (f, record { is = is; unfinished = incomplete; stands = stops; verdict = judged }); whole = tt })

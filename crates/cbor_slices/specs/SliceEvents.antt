@@ -1,6 +1,7 @@
 -- What is told of an item that is read from a slice.
 use Rattle.std.specs.Prelude.{◌≡◌, ℕ, ◌<◌, ◌⊎◌, ◌++◌, List, length, take, min, Some, None}
 use Rattle.cbor_head.specs.Complaint.{form}
+use Rattle.cbor_head.specs.Limits.{bounds}
 use Rattle.cbor_head.specs.Verdict.{IsVerdict, refused}
 use Rattle.cbor_head.specs.declared.reason.Reason.TheVariants.{Truncated}
 use Rattle.cbor_head.specs.declared.reason.Refusal.{Refusal}
@@ -34,7 +35,7 @@ pub record IsRefusal (f : Refusal) (old new : SliceEventsView) (t : List ℕ) (m
   -- where it stands: the slice ends within the item, or the limit does, or a byte may not stand there
   pub stands : IsCutShort f old new t ms ⊎ IsTooLong f (slice_call old new t ms) ⊎ HasFormError f (slice_call old new t ms)
   -- the verdict of form, of every input whose bytes within the limit are those that were taken and those that were left
-  pub verdict : (input : List ℕ) → take new.machine.bytes input ≡ t ++ old.rest → IsVerdict new.machine.depth new.machine.bytes form input (refused f)
+  pub verdict : (input : List ℕ) → take new.machine.bytes input ≡ t ++ old.rest → IsVerdict (bounds new.machine.depth new.machine.bytes) form input (refused f)
 
 -- where the events so far told ms of the bytes t: the end, the refusal or the next event
 abbrev pub NextTold : Token → SliceEventsView → SliceEventsView → List ℕ → List Mark → Type 0

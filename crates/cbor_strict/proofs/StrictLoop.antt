@@ -6,7 +6,7 @@ use Rattle.std.proofs.Math.Seq.{take-append-add}
 use Rattle.std.specs.Io.KnownBytes.{Consumes}
 use Rattle.std.proofs.KnownBytes.{Consumes-nil, Consumes-trans}
 use Rattle.std.proofs.lemmas.List.{length-append}
-use Rattle.cbor_head.specs.Limits.{Bounds}
+use Rattle.cbor_head.specs.Limits.{Bounds, bounds}
 use Rattle.cbor_head.specs.Spelling.{Spelling, spell}
 use Rattle.cbor_head.specs.Complaint.{strict, Complaint, Complains}
 use Rattle.cbor_head.specs.declared.order.KeyOrder.{KeyOrder}
@@ -73,7 +73,7 @@ module _ (o : KeyOrder) (b : Bounds) (v new : StrictEventsView) (from now to : O
       record {
         read = front_read from to lost (λ rest. record {
           item = s;
-          verdict = (accepts_exactly b.depth b.bytes (strict o) (h.t ++ rest) s).1
+          verdict = (accepts_exactly b (strict o) (h.t ++ rest) s).1
               (take (b.bytes - length h.t) rest, (w.1.spelled, omega (arith, w.1.within, h.depth), cut rest s (omega (arith, c, all, limit, l.bytes, h.bytes)) whole), none);
           size = all ∙ ap length (sym whole);
         });
@@ -86,10 +86,10 @@ module _ (o : KeyOrder) (b : Bounds) (v new : StrictEventsView) (from now to : O
           let sum : length h.t + left ≡ b.bytes = omega (arith, l) in
           ap (λ (x : List ℕ). x ++ take left rest) e ∙ sym (take-append-add h.t rest left) ∙ ap (λ (m : ℕ). take m (h.t ++ rest)) sum
 
-      front_read : (from to : Option (List ℕ)) → Consumes from to h.t → ((rest : List ℕ) → IsRead b.depth b.bytes (strict o) (h.t ++ rest) count) → IfSome from (λ input. IsRead b.depth b.bytes (strict o) input count)
+      front_read : (from to : Option (List ℕ)) → Consumes from to h.t → ((rest : List ℕ) → IsRead b (strict o) (h.t ++ rest) count) → IfSome from (λ input. IsRead b (strict o) input count)
       front_read None to c r = tt
       front_read (Some input) None c r = absurd c
-      front_read (Some input) (Some rest) c r = subst (λ (x : List ℕ). IsRead b.depth b.bytes (strict o) x count) (sym c) (r rest)
+      front_read (Some input) (Some rest) c r = subst (λ (x : List ℕ). IsRead b (strict o) x count) (sym c) (r rest)
 
   -- it is refused
   pub runs_stop : (f : Refusal) → IsStrictRefusal f (strict_call v new now to h.t h.ms) → IsReaderReason (strict v.order) f.reason → IsFrontUnread (strict o) b from to f
@@ -101,10 +101,10 @@ module _ (o : KeyOrder) (b : Bounds) (v new : StrictEventsView) (from now to : O
         taken = loses (h.t ++ n.bytes) f.read from to n.read (record { more = h.t ++ n.bytes; consumed = lost; are = refl });
       }
     where
-      here : (input : List ℕ) → IsUnread v.machine.depth v.machine.bytes (strict v.order) input f → IsUnread b.depth b.bytes (strict o) input f
-      here input u = subst (λ (p : KeyOrder). IsUnread b.depth b.bytes (strict p) input f) h.order (subst (λ (m : ℕ). IsUnread b.depth m (strict v.order) input f) h.bytes (subst (λ (m : ℕ). IsUnread m v.machine.bytes (strict v.order) input f) h.depth u))
+      here : (input : List ℕ) → IsUnread (bounds v.machine.depth v.machine.bytes) (strict v.order) input f → IsUnread b (strict o) input f
+      here input u = subst (λ (p : KeyOrder). IsUnread b (strict p) input f) h.order (subst (λ (m : ℕ). IsUnread (bounds b.depth m) (strict v.order) input f) h.bytes (subst (λ (m : ℕ). IsUnread (bounds m v.machine.bytes) (strict v.order) input f) h.depth u))
 
-      whole_input : (from now : Option (List ℕ)) → Consumes from now h.t → IfSome now (λ rest. IsUnread v.machine.depth v.machine.bytes (strict v.order) (h.t ++ rest) f) → IfSome from (λ input. IsUnread b.depth b.bytes (strict o) input f)
+      whole_input : (from now : Option (List ℕ)) → Consumes from now h.t → IfSome now (λ rest. IsUnread (bounds v.machine.depth v.machine.bytes) (strict v.order) (h.t ++ rest) f) → IfSome from (λ input. IsUnread b (strict o) input f)
       whole_input None now c u = tt
       whole_input (Some input) None c u = absurd c
-      whole_input (Some input) (Some rest) c u = here input (subst (λ (x : List ℕ). IsUnread v.machine.depth v.machine.bytes (strict v.order) x f) (sym c) u)
+      whole_input (Some input) (Some rest) c u = here input (subst (λ (x : List ℕ). IsUnread (bounds v.machine.depth v.machine.bytes) (strict v.order) x f) (sym c) u)

@@ -69,7 +69,7 @@ stands_clean v b e t (inr (inr h)) = λ s i c k l.
 
 -- of what was taken before and now
 pub stopped_unread : (o : KeyOrder) (b : Bounds) (e : ItemEventsView) (t : List ℕ) (from to : Option (List ℕ)) (f : Refusal) → IsStopped (strict o) b e t from to f
-    → IfSome from (λ rest. IsUnread b.depth b.bytes (strict o) (t ++ rest) f) × IsReaderReason (strict o) f.reason
+    → IfSome from (λ rest. IsUnread b (strict o) (t ++ rest) f) × IsReaderReason (strict o) f.reason
 stopped_unread o b e t None to f s = (tt, (stops None (front_none s.bytes)).reason)
   where
     stops : (before : Option (List ℕ)) → Consumes before to (t ++ s.bytes) → IsFrontUnread (strict o) b before to f

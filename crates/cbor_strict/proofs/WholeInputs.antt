@@ -1,6 +1,7 @@
 -- From what is read of an input to the answers that are public.
 use Rattle.std.proofs.Common.{ℕ, ◌≡◌, ◌≢◌, Option, Some, None, List, length, sym, ap, ◌∙◌, subst}
 use Rattle.std.specs.Option.{IfSome}
+use Rattle.cbor_head.specs.Limits.{Bounds}
 use Rattle.cbor_head.specs.Value.{Value}
 use Rattle.cbor_head.specs.Spelling.{Spelling, value_of}
 use Rattle.cbor_head.specs.Complaint.{strict}
@@ -19,28 +20,28 @@ some-so (Some x) P Q f h = f x h
 
 -- ---- strictly
 
-read-canonical : (d n : ℕ) (o : KeyOrder) (input : List ℕ) (count : ℕ) → IsRead d n (strict o) input count → IsCanonicalFront d n o input count
-read-canonical d n o input count i = record {
+read-canonical : (limits : Bounds) (o : KeyOrder) (input : List ℕ) (count : ℕ) → IsRead limits (strict o) input count → IsCanonicalFront limits o input count
+read-canonical limits o input count i = record {
   value = value_of i.item;
-  begins = strict_value d n o input i.item i.verdict;
-  size = i.size ∙ ap length (strict_bytes d n o input i.item i.verdict);
+  begins = strict_value limits o input i.item i.verdict;
+  size = i.size ∙ ap length (strict_bytes limits o input i.item i.verdict);
 }
 
-no-front : (d n : ℕ) (o : KeyOrder) (input : List ℕ) (f : Refusal) → IsUnread d n (strict o) input f → f.reason ≢ Read → f.reason ≢ Memory → HasNoCanonicalFront d n o input
-no-front d n o input f (of_verdict w) g h = λ v b. apart (one_verdict d n (strict o) input (accepted (strict_accepts d n o input v b).0) (refused f) (strict_accepts d n o input v b).1 w)
+no-front : (limits : Bounds) (o : KeyOrder) (input : List ℕ) (f : Refusal) → IsUnread limits (strict o) input f → f.reason ≢ Read → f.reason ≢ Memory → HasNoCanonicalFront limits o input
+no-front limits o input f (of_verdict w) g h = λ v b. apart (one_verdict limits (strict o) input (accepted (strict_accepts limits o input v b).0) (refused f) (strict_accepts limits o input v b).1 w)
   where
     apart : {s : Spelling} → accepted s ≡ refused f → ⊥
     apart e = cc e
-no-front d n o input f (of_reader p l m is w) g h = absurd (g (ap (λ (x : Refusal). x.reason) is))
-no-front d n o input f (of_memory p l m is w) g h = absurd (h (ap (λ (x : Refusal). x.reason) is))
+no-front limits o input f (of_reader p l m is w) g h = absurd (g (ap (λ (x : Refusal). x.reason) is))
+no-front limits o input f (of_memory p l m is w) g h = absurd (h (ap (λ (x : Refusal). x.reason) is))
 
-pub has-no-front : (d n : ℕ) (o : KeyOrder) (from : Option (List ℕ)) (f : Refusal) → IfSome from (λ input. IsUnread d n (strict o) input f) → f.reason ≢ Read → f.reason ≢ Memory → IfSome from (HasNoCanonicalFront d n o)
-has-no-front d n o from f h e g = some-so from (λ input. IsUnread d n (strict o) input f) (HasNoCanonicalFront d n o) (λ input i. no-front d n o input f i e g) h
+pub has-no-front : (limits : Bounds) (o : KeyOrder) (from : Option (List ℕ)) (f : Refusal) → IfSome from (λ input. IsUnread limits (strict o) input f) → f.reason ≢ Read → f.reason ≢ Memory → IfSome from (HasNoCanonicalFront limits o)
+has-no-front limits o from f h e g = some-so from (λ input. IsUnread limits (strict o) input f) (HasNoCanonicalFront limits o) (λ input i. no-front limits o input f i e g) h
 
-pub front-canonical : (d n : ℕ) (o : KeyOrder) (from : Option (List ℕ)) (v : Value) (count k : ℕ) → IfSome from (λ input. IsReadAs d n (strict o) input v count) → k ≡ count → IfSome from (λ input. IsCanonicalFront d n o input k)
-front-canonical d n o from v count k h e =
-    some-so from (λ input. IsReadAs d n (strict o) input v count) (λ input. IsCanonicalFront d n o input k)
-    (λ input i. subst (IsCanonicalFront d n o input) (sym e) (read-canonical d n o input count i.read)) h
+pub front-canonical : (limits : Bounds) (o : KeyOrder) (from : Option (List ℕ)) (v : Value) (count k : ℕ) → IfSome from (λ input. IsReadAs limits (strict o) input v count) → k ≡ count → IfSome from (λ input. IsCanonicalFront limits o input k)
+front-canonical limits o from v count k h e =
+    some-so from (λ input. IsReadAs limits (strict o) input v count) (λ input. IsCanonicalFront limits o input k)
+    (λ input i. subst (IsCanonicalFront limits o input) (sym e) (read-canonical limits o input count i.read)) h
 
-pub read-front-canonical : (d n : ℕ) (o : KeyOrder) (from : Option (List ℕ)) (count : ℕ) → IfSome from (λ input. IsRead d n (strict o) input count) → IfSome from (λ input. IsCanonicalFront d n o input count)
-read-front-canonical d n o from count h = some-so from (λ input. IsRead d n (strict o) input count) (λ input. IsCanonicalFront d n o input count) (λ input i. read-canonical d n o input count i) h
+pub read-front-canonical : (limits : Bounds) (o : KeyOrder) (from : Option (List ℕ)) (count : ℕ) → IfSome from (λ input. IsRead limits (strict o) input count) → IfSome from (λ input. IsCanonicalFront limits o input count)
+read-front-canonical limits o from count h = some-so from (λ input. IsRead limits (strict o) input count) (λ input. IsCanonicalFront limits o input count) (λ input i. read-canonical limits o input count i) h

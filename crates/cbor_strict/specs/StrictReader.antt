@@ -1,6 +1,7 @@
 -- What the strict reader tells of the item at the front of an input, event by event (RFC 8949, section 4.2).
 use Rattle.std.specs.Prelude.{◌≡◌, ℕ, ◌≤◌, ◌⊎◌, ◌++◌, List, length, Option, Some, None, Result, Ok, Err, IfSome}
 use Rattle.std.specs.Io.KnownBytes.{Consumes}
+use Rattle.cbor_head.specs.Limits.{bounds}
 use Rattle.cbor_head.specs.Spelling.{Spelling}
 use Rattle.cbor_head.specs.Complaint.{strict}
 use Rattle.cbor_head.specs.Laws.{StartsWith}
@@ -107,7 +108,7 @@ pub record IsStrictRefusal (f : Refusal) (c : StrictCall) : Type 0 where
   pub consumed : Consumes c.held c.left bytes
   pub read : f.read ≡ length (c.taken ++ bytes)
   pub at_once : StopsAtOnce c.old.order f (form_call c)
-  pub verdict : IfSome c.held (λ rest. IsUnread c.old.machine.depth c.old.machine.bytes (strict c.old.order) (c.taken ++ rest) f)
+  pub verdict : IfSome c.held (λ rest. IsUnread (bounds c.old.machine.depth c.old.machine.bytes) (strict c.old.order) (c.taken ++ rest) f)
 
 -- what is answered where an event ended
 abbrev pub IsNextStrict : Result (Option Event) Refusal → StrictCall → Type 0

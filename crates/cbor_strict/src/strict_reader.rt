@@ -37,17 +37,17 @@ pub fn read_strict<R: Read>(
     order: KeyOrder,
 ) -> Result<u64, Refusal>
     ensures accepted { IfOk result (λ count. IfSome (R.remaining reader.old)
-        (λ input. IsRead limits.depth limits.bytes (strict order) input count)) }
+        (λ input. IsRead limits (strict order) input count)) }
     ensures canonical { IfOk result (λ count. IfSome (R.remaining reader.old)
-        (λ input. IsCanonicalFront limits.depth limits.bytes order input count)) }
+        (λ input. IsCanonicalFront limits order input count)) }
     ensures taken { IfOk result
         (λ count. Loses count (R.remaining reader.old) (R.remaining reader.new)) }
     ensures refused { IfErr result (λ f. IfSome (R.remaining reader.old)
-        (λ input. IsUnread limits.depth limits.bytes (strict order) input f)) }
+        (λ input. IsUnread limits (strict order) input f)) }
     ensures reason { IfErr result (λ f. IsReaderReason (strict order) f.reason) }
     ensures no_canonical { IfErr result (λ f. f.reason ≢ reasons.Read → f.reason ≢ reasons.Memory
         → IfSome (R.remaining reader.old)
-        (HasNoCanonicalFront limits.depth limits.bytes order)) }
+        (HasNoCanonicalFront limits order)) }
     ensures read { IfErr result
         (λ f. Loses f.read (R.remaining reader.old) (R.remaining reader.new)) }
 {

@@ -17,13 +17,13 @@ use cbor_walk::canonical_front;
 /// of the slice.
 pub fn check_canonical(bytes: &[u8], limits: Limits, order: KeyOrder) -> Result<u64, Refusal>
     ensures accepted { IfOk result
-        (λ count. IsRead limits.depth limits.bytes (strict order) bytes.now count) }
+        (λ count. IsRead limits (strict order) bytes.now count) }
     ensures canonical { IfOk result
-        (λ count. IsCanonicalFront limits.depth limits.bytes order bytes.now count) }
+        (λ count. IsCanonicalFront limits order bytes.now count) }
     ensures refused { IfErr result
-        (λ f. IsVerdict limits.depth limits.bytes (strict order) bytes.now (refused f)) }
+        (λ f. IsVerdict limits (strict order) bytes.now (refused f)) }
     ensures no_canonical { IfErr result
-        (λ f. HasNoCanonicalFront limits.depth limits.bytes order bytes.now) }
+        (λ f. HasNoCanonicalFront limits order bytes.now) }
 {
     canonical_front(bytes, limits, order)
 }

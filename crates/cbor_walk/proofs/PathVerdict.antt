@@ -5,6 +5,7 @@ use Rattle.std.proofs.lemmas.Bool.{cases_lt}
 use Rattle.std.proofs.lemmas.List.{length-append, length-take}
 use Rattle.cbor_head.specs.Beginning.{IsBeginning, MayFollow, IsLongestBeginning}
 use Rattle.cbor_head.specs.Complaint.{Rules}
+use Rattle.cbor_head.specs.Limits.{Bounds}
 use Rattle.cbor_head.specs.Spelling.{Spelling, spell, depth}
 use Rattle.cbor_head.specs.Verdict.{initial_reason, refusal, accepted, refused, IsReasonAt, IsVerdict}
 use Rattle.cbor_head.specs.declared.reason.Reason.{Reason}
@@ -67,39 +68,39 @@ whole_longest d b i = record { beginning = i; rest = []; splits = sym (append-ni
 
 -- ---- the verdict, of an input within n bytes
 
-module _ (r : Rules) (d n : ℕ) (input : List ℕ) where
-  pub complaint_stops : (f : Refusal) → HasComplaint r d (take n input) f → IsVerdict d n r input (refused f)
+module _ (r : Rules) (limits : Bounds) (input : List ℕ) where
+  pub complaint_stops : (f : Refusal) → HasComplaint r limits.depth (take limits.bytes input) f → IsVerdict limits r input (refused f)
   complaint_stops f h =
-      let (q, g) = longest_always d (take n input) in
-      subst (λ (x : Refusal). IsVerdict d n r input (refused x)) (sym h.is) (complaint_decides d n r input h.p h.rest q h.complaint h.judged h.splits g)
+      let (q, g) = longest_always limits.depth (take limits.bytes input) in
+      subst (λ (x : Refusal). IsVerdict limits r input (refused x)) (sym h.is) (complaint_decides limits r input h.p h.rest q h.complaint h.judged h.splits g)
 
-  pub bad_byte_stops : (f : Refusal) → HasBadByte r d (take n input) f → IsVerdict d n r input (refused f)
+  pub bad_byte_stops : (f : Refusal) → HasBadByte r limits.depth (take limits.bytes input) f → IsVerdict limits r input (refused f)
   bad_byte_stops f h =
-      let g = stands_longest d h.p h.byte h.rest (h.judged.item, h.judged.rest, h.judged.is) h.misplaced in
-      let longest : IsLongestBeginning d (take n input) h.p = record { beginning = g.beginning; rest = h.byte ∷ h.rest; splits = h.splits; longest = λ x y i e. g.longest x y i (sym h.splits ∙ e) } in
-      break_decides d n r input h.p f h.judged longest (f.reason, h.reason, h.is)
+      let g = stands_longest limits.depth h.p h.byte h.rest (h.judged.item, h.judged.rest, h.judged.is) h.misplaced in
+      let longest : IsLongestBeginning limits.depth (take limits.bytes input) h.p = record { beginning = g.beginning; rest = h.byte ∷ h.rest; splits = h.splits; longest = λ x y i e. g.longest x y i (sym h.splits ∙ e) } in
+      break_decides limits r input h.p f h.judged longest (f.reason, h.reason, h.is)
 
-  module _ (f : Refusal) (h : EndsWithin r d (take n input) f) where
-    abbrev longest : IsLongestBeginning d (take n input) (take n input)
-    longest = whole_longest d (take n input) (h.judged.item, h.judged.rest, h.judged.is)
+  module _ (f : Refusal) (h : EndsWithin r limits.depth (take limits.bytes input) f) where
+    abbrev longest : IsLongestBeginning limits.depth (take limits.bytes input) (take limits.bytes input)
+    longest = whole_longest limits.depth (take limits.bytes input) (h.judged.item, h.judged.rest, h.judged.is)
 
-    pub end_stops : length (take n input) < n → IsVerdict d n r input (refused f)
-    end_stops l = break_decides d n r input (take n input) f h.judged longest (inr (l, h.is))
+    pub end_stops : length (take limits.bytes input) < limits.bytes → IsVerdict limits r input (refused f)
+    end_stops l = break_decides limits r input (take limits.bytes input) f h.judged longest (inr (l, h.is))
 
-    pub limit_stops : length (take n input) ≡ n → IsVerdict d n r input (refused (refusal TooLong n n))
-    limit_stops e = break_decides d n r input (take n input) (refusal TooLong n n) h.judged longest (inl (e, refl))
+    pub limit_stops : length (take limits.bytes input) ≡ limits.bytes → IsVerdict limits r input (refused (refusal TooLong limits.bytes limits.bytes))
+    limit_stops e = break_decides limits r input (take limits.bytes input) (refusal TooLong limits.bytes limits.bytes) h.judged longest (inl (e, refl))
 
-  pub stopped : (f : Refusal) → IsStopped r d (take n input) f → (g : Refusal) → IsAnswered n (take n input) f g → IsVerdict d n r input (refused g)
-  stopped f (inl h) g a = subst (λ (x : Refusal). IsVerdict d n r input (refused x)) (sym (a.same (λ e. absurd (complaint_differs r d (take n input) f h e)))) (complaint_stops f h)
-  stopped f (inr (inl h)) g a = subst (λ (x : Refusal). IsVerdict d n r input (refused x)) (sym (a.same (λ e. absurd (bad_byte_differs r d (take n input) f h e)))) (bad_byte_stops f h)
-  stopped f (inr (inr h)) g a = elim (cases_lt (length (take n input)) n) [
-    | inl l ↦ subst (λ (x : Refusal). IsVerdict d n r input (refused x)) (sym (a.same (λ e same. omega (arith, l, same)))) (end_stops f h l)
+  pub stopped : (f : Refusal) → IsStopped r limits.depth (take limits.bytes input) f → (g : Refusal) → IsAnswered limits.bytes (take limits.bytes input) f g → IsVerdict limits r input (refused g)
+  stopped f (inl h) g a = subst (λ (x : Refusal). IsVerdict limits r input (refused x)) (sym (a.same (λ e. absurd (complaint_differs r limits.depth (take limits.bytes input) f h e)))) (complaint_stops f h)
+  stopped f (inr (inl h)) g a = subst (λ (x : Refusal). IsVerdict limits r input (refused x)) (sym (a.same (λ e. absurd (bad_byte_differs r limits.depth (take limits.bytes input) f h e)))) (bad_byte_stops f h)
+  stopped f (inr (inr h)) g a = elim (cases_lt (length (take limits.bytes input)) limits.bytes) [
+    | inl l ↦ subst (λ (x : Refusal). IsVerdict limits r input (refused x)) (sym (a.same (λ e same. omega (arith, l, same)))) (end_stops f h l)
     | inr l ↦
-        let all : length (take n input) ≡ n = omega (arith, l, length-take n input) in
-        subst (λ (x : Refusal). IsVerdict d n r input (refused x)) (sym (a.too_long (ap (λ (x : Refusal). x.reason) h.is) all)) (limit_stops f h all)
+        let all : length (take limits.bytes input) ≡ limits.bytes = omega (arith, l, length-take limits.bytes input) in
+        subst (λ (x : Refusal). IsVerdict limits r input (refused x)) (sym (a.too_long (ap (λ (x : Refusal). x.reason) h.is) all)) (limit_stops f h all)
   ]
 
-  pub accepts : (s : Spelling) (rest : List ℕ) → HasEnded r d [] s → take n input ≡ spell s ++ rest → IsVerdict d n r input (accepted s)
+  pub accepts : (s : Spelling) (rest : List ℕ) → HasEnded r limits.depth [] s → take limits.bytes input ≡ spell s ++ rest → IsVerdict limits r input (accepted s)
   accepts s rest h e =
-      let small : depth s ≤ d - 0 = h.within in
-      item_decides d n r input rest s (record { spelled = h.spelled; within = omega (arith, small); bytes_are = refl }) e h.clean
+      let small : depth s ≤ limits.depth - 0 = h.within in
+      item_decides limits r input rest s (record { spelled = h.spelled; within = omega (arith, small); bytes_are = refl }) e h.clean

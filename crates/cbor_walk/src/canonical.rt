@@ -25,8 +25,8 @@ const MOST: usize = MAX_DEPTH as usize;
 /// It goes over the bytes once, without recursion, and takes no memory.
 pub fn canonical_front(bytes: &[u8], limits: Limits, order: KeyOrder) -> Result<u64, Refusal>
     ensures { MatchResult result
-        (λ count. IsRead limits.depth limits.bytes (strict order) bytes.now count)
-        (λ f. IsVerdict limits.depth limits.bytes (strict order) bytes.now (refused f)) }
+        (λ count. IsRead limits (strict order) bytes.now count)
+        (λ f. IsVerdict limits (strict order) bytes.now (refused f)) }
 {
     let input = within(bytes, limits.bytes());
     match whole_front(input, usize::from(limits.depth()), order) {

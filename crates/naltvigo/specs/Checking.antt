@@ -1,6 +1,7 @@
 -- Why an input is not one item, as C is told it.
 use Rattle.std.specs.Prelude.{ℕ, ◌≡◌, ◌≢◌, ◌<◌, List, length}
 use Rattle.cbor_head.specs.Complaint.{strict}
+use Rattle.cbor_head.specs.Limits.{Bounds}
 use Rattle.cbor_head.specs.Spelling.{Spelling, spell}
 use Rattle.cbor_head.specs.Verdict.{IsVerdict, accepted, refused, refusal}
 use Rattle.cbor_head.specs.declared.order.KeyOrder.{KeyOrder}
@@ -11,29 +12,29 @@ use Rattle.naltvigo.specs.Told.{IsTold}
 use Rattle.naltvigo.specs.declared.status.NaltvigoRefusal.{NaltvigoRefusal}
 
 -- The refusal of an input that is not, within depth d and n bytes, one item in its canonical bytes (RFC 8949, section 4.2).
-pub data IsStrictRefusal (d n : ℕ) (o : KeyOrder) (input : List ℕ) (f : Refusal) : Type 0 where
+pub data IsStrictRefusal (limits : Bounds) (o : KeyOrder) (input : List ℕ) (f : Refusal) : Type 0 where
   -- the strict verdict
-  of_verdict : IsVerdict d n (strict o) input (refused f) → IsStrictRefusal d n o input f
+  of_verdict : IsVerdict limits (strict o) input (refused f) → IsStrictRefusal limits o input f
   -- a byte follows the item
-  trailing : (item : Spelling) → IsVerdict d n (strict o) input (accepted item) → length (spell item) < length input
-      → f ≡ refusal Trailing (length (spell item)) (length (spell item)) → IsStrictRefusal d n o input f
+  trailing : (item : Spelling) → IsVerdict limits (strict o) input (accepted item) → length (spell item) < length input
+      → f ≡ refusal Trailing (length (spell item)) (length (spell item)) → IsStrictRefusal limits o input f
 
 -- the input is not one item in its canonical bytes, and this is told of it
-pub record IsNotCanonical (d n : ℕ) (o : KeyOrder) (input : List ℕ) (c : NaltvigoRefusal) : Type 0 where
+pub record IsNotCanonical (limits : Bounds) (o : KeyOrder) (input : List ℕ) (c : NaltvigoRefusal) : Type 0 where
   pub why : Refusal
-  pub refused : IsStrictRefusal d n o input why
+  pub refused : IsStrictRefusal limits o input why
   pub told : IsTold why c
 
 -- the input is no one valid item within depth d and n bytes, and this is told of it
-pub record IsNotValid (d n : ℕ) (input : List ℕ) (c : NaltvigoRefusal) : Type 0 where
+pub record IsNotValid (limits : Bounds) (input : List ℕ) (c : NaltvigoRefusal) : Type 0 where
   pub why : Refusal
-  pub refused : IsItemRefusal d n input why
+  pub refused : IsItemRefusal limits input why
   pub not_memory : why.reason ≢ Memory
   pub told : IsTold why c
 
 -- memory was refused before that could be known, and this is told
-pub record ItemLacksMemory (d n : ℕ) (input : List ℕ) (c : NaltvigoRefusal) : Type 0 where
+pub record ItemLacksMemory (limits : Bounds) (input : List ℕ) (c : NaltvigoRefusal) : Type 0 where
   pub why : Refusal
-  pub refused : IsItemRefusal d n input why
+  pub refused : IsItemRefusal limits input why
   pub memory : why.reason ≡ Memory
   pub told : IsTold why c

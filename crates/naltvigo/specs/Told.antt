@@ -1,5 +1,6 @@
 -- A refusal as C has it.
 use Rattle.std.specs.Prelude.{ℕ, ◌≡◌, ◌≢◌, List}
+use Rattle.cbor_head.specs.Limits.{Bounds}
 use Rattle.cbor_head.specs.Reason.{reason_number}
 use Rattle.cbor_head.specs.declared.order.KeyOrder.{KeyOrder}
 use Rattle.cbor_head.specs.declared.reason.Reason.TheVariants.{Memory}
@@ -13,16 +14,16 @@ abbrev pub IsTold : Refusal → NaltvigoRefusal → Type 0
 IsTold f c = (c.reason ≡ reason_number f.reason) × (c.place ≡ f.place) × (c.read ≡ f.read)
 
 -- the input has no canonical bytes within depth d and n bytes, and this is told of it
-pub record IsRefused (d n : ℕ) (o : KeyOrder) (input : List ℕ) (c : NaltvigoRefusal) : Type 0 where
+pub record IsRefused (limits : Bounds) (o : KeyOrder) (input : List ℕ) (c : NaltvigoRefusal) : Type 0 where
   pub refusal : Refusal
-  pub refused : IsRefusal d n o input refusal
+  pub refused : IsRefusal limits o input refusal
   pub reason : IsCanonicaliserReason refusal.reason
   pub not_memory : refusal.reason ≢ Memory
   pub told : IsTold refusal c
 
 -- memory was refused before that could be known, and this is told
-pub record LacksMemory (d n : ℕ) (o : KeyOrder) (input : List ℕ) (c : NaltvigoRefusal) : Type 0 where
+pub record LacksMemory (limits : Bounds) (o : KeyOrder) (input : List ℕ) (c : NaltvigoRefusal) : Type 0 where
   pub refusal : Refusal
-  pub refused : IsRefusal d n o input refusal
+  pub refused : IsRefusal limits o input refusal
   pub memory : refusal.reason ≡ Memory
   pub told : IsTold refusal c

@@ -32,24 +32,24 @@ pub extern "C" fn naltvigo_canonicalise_raw(
     needed: &mut usize,
     refusal: &mut NaltvigoRefusal,
 ) -> u32
-    ensures written { result ≡ OK → IsCanonicalOf depth bytes (key_order order)
+    ensures written { result ≡ OK → IsCanonicalOf (bounds depth bytes) (key_order order)
         input.now (take needed.new out.new) }
-    ensures accepted { result ≡ OK → (s : Spelling) × IsValidItem depth bytes input.now s
+    ensures accepted { result ≡ OK → (s : Spelling) × IsValidItem (bounds depth bytes) input.now s
         × (take needed.new out.new ≡ canonical (key_order order) (value_of s))
         × (needed.new ≤ bytes) }
     ensures equal { result ≡ OK → TellsItsValue depth (key_order order)
         input.now (take needed.new out.new) }
-    ensures again { result ≡ OK → IsCanonicalOf depth bytes (key_order order)
+    ensures again { result ≡ OK → IsCanonicalOf (bounds depth bytes) (key_order order)
         (take needed.new out.new) (take needed.new out.new) }
     ensures room { result ≡ OK → needed.new ≤ length out.old }
     ensures too_small { result ≡ TOO_SMALL → (x : List ℕ)
-        × IsCanonicalOf depth bytes (key_order order) input.now x
+        × IsCanonicalOf (bounds depth bytes) (key_order order) input.now x
         × (needed.new ≡ length x) × (length out.old < length x) }
-    ensures refused { result ≡ REFUSED → IsRefused depth bytes (key_order order)
+    ensures refused { result ≡ REFUSED → IsRefused (bounds depth bytes) (key_order order)
         input.now refusal.new }
-    ensures none { result ≡ REFUSED → (s : Spelling) → IsValidItem depth bytes input.now s
+    ensures none { result ≡ REFUSED → (s : Spelling) → IsValidItem (bounds depth bytes) input.now s
         → bytes < length (canonical (key_order order) (value_of s)) }
-    ensures no_memory { result ≡ NO_MEMORY → LacksMemory depth bytes (key_order order)
+    ensures no_memory { result ≡ NO_MEMORY → LacksMemory (bounds depth bytes) (key_order order)
         input.now refusal.new }
     ensures bad_order { (result ≡ BAD_ORDER) ↔ (1 < order) }
     ensures bad_limits { result ≡ BAD_LIMITS → ¬ AreBounds (bounds depth bytes) }

@@ -28,15 +28,15 @@ pub extern "C" fn naltvigo_check_canonical_raw(
     bytes: u64,
     refusal: &mut NaltvigoRefusal,
 ) -> u32
-    ensures own { result ≡ OK → IsCanonicalOf depth bytes (key_order order) input.now input.now }
+    ensures own { result ≡ OK → IsCanonicalOf (bounds depth bytes) (key_order order) input.now input.now }
     ensures accepted { result ≡ OK
-        → IsRead depth bytes (strict (key_order order)) input.now (length input.now) }
+        → IsRead (bounds depth bytes) (strict (key_order order)) input.now (length input.now) }
     ensures canonical { result ≡ OK
-        → IsCanonicalFront depth bytes (key_order order) input.now (length input.now) }
+        → IsCanonicalFront (bounds depth bytes) (key_order order) input.now (length input.now) }
     ensures refused { result ≡ REFUSED
-        → IsNotCanonical depth bytes (key_order order) input.now refusal.new }
+        → IsNotCanonical (bounds depth bytes) (key_order order) input.now refusal.new }
     ensures not_own { result ≡ REFUSED
-        → ¬ IsCanonicalOf depth bytes (key_order order) input.now input.now }
+        → ¬ IsCanonicalOf (bounds depth bytes) (key_order order) input.now input.now }
     ensures bad_order { (result ≡ BAD_ORDER) ↔ (1 < order) }
     ensures bad_limits { result ≡ BAD_LIMITS → ¬ AreBounds (bounds depth bytes) }
     ensures in_range { result ≢ BAD_ORDER → result ≢ BAD_LIMITS
@@ -69,10 +69,10 @@ pub extern "C" fn naltvigo_check_valid_raw(
     bytes: u64,
     refusal: &mut NaltvigoRefusal,
 ) -> u32
-    ensures accepted { result ≡ OK → IsWholeItem depth bytes input.now }
-    ensures refused { result ≡ REFUSED → IsNotValid depth bytes input.now refusal.new }
-    ensures not_accepted { result ≡ REFUSED → ¬ IsWholeItem depth bytes input.now }
-    ensures no_memory { result ≡ NO_MEMORY → ItemLacksMemory depth bytes input.now refusal.new }
+    ensures accepted { result ≡ OK → IsWholeItem (bounds depth bytes) input.now }
+    ensures refused { result ≡ REFUSED → IsNotValid (bounds depth bytes) input.now refusal.new }
+    ensures not_accepted { result ≡ REFUSED → ¬ IsWholeItem (bounds depth bytes) input.now }
+    ensures no_memory { result ≡ NO_MEMORY → ItemLacksMemory (bounds depth bytes) input.now refusal.new }
     ensures bad_limits { (result ≡ BAD_LIMITS) → ¬ AreBounds (bounds depth bytes) }
     ensures in_range { result ≢ BAD_LIMITS → AreBounds (bounds depth bytes) }
     ensures statuses { (result ≡ OK) ⊎ (result ≡ REFUSED)
@@ -90,8 +90,8 @@ pub extern "C" fn naltvigo_check_valid_raw(
 
 // The item at the front is all of the input; else why it is not one in its canonical bytes.
 fn check_own_bytes(input: &[u8], limits: Limits, order: KeyOrder) -> Result<(), Refusal>
-    ensures own { IfOk result (λ _. IsOwnAnswer limits.depth limits.bytes order input.now) }
-    ensures refused { IfErr result (IsNotOwn limits.depth limits.bytes order input.now) }
+    ensures own { IfOk result (λ _. IsOwnAnswer limits order input.now) }
+    ensures refused { IfErr result (IsNotOwn limits order input.now) }
 {
     own_answers_are_strictly_accepted();
     verdict_is_one();
@@ -104,10 +104,10 @@ fn check_own_bytes(input: &[u8], limits: Limits, order: KeyOrder) -> Result<(), 
 
 // The input is one valid item; else why it is none.
 fn check_whole_item(alloc: Global, input: &[u8], limits: Limits) -> Result<(), Refusal>
-    ensures accepted { IfOk result (λ _. IsWholeItem limits.depth limits.bytes input.now) }
-    ensures refused { IfErr result (IsItemRefusal limits.depth limits.bytes input.now) }
+    ensures accepted { IfOk result (λ _. IsWholeItem limits input.now) }
+    ensures refused { IfErr result (IsItemRefusal limits input.now) }
     ensures not_accepted { IfErr result (λ f. f.reason ≢ reasons.Memory
-        → ¬ IsWholeItem limits.depth limits.bytes input.now) }
+        → ¬ IsWholeItem limits input.now) }
 {
     valid_items();
     items_and_their_refusals();

@@ -32,18 +32,18 @@ pub extern "C" fn naltvigo_compare_raw(
     side: &mut u32,
     refusal: &mut NaltvigoRefusal,
 ) -> u32
-    ensures same { result ≡ OK → MeanTheSame depth bytes left.now right.now }
-    ensures different { result ≡ DIFFERENT → ¬ MeanTheSame depth bytes left.now right.now }
+    ensures same { result ≡ OK → MeanTheSame (bounds depth bytes) left.now right.now }
+    ensures different { result ≡ DIFFERENT → ¬ MeanTheSame (bounds depth bytes) left.now right.now }
     ensures accepted { (result ≡ OK) ⊎ (result ≡ DIFFERENT)
-        → IsWholeItem depth bytes left.now × IsWholeItem depth bytes right.now }
+        → IsWholeItem (bounds depth bytes) left.now × IsWholeItem (bounds depth bytes) right.now }
     ensures equal { result ≡ OK → (n : ℕ) (o : KeyOrder) (a b : List ℕ) → n ≤ 2 ^ 62
-        → IsCanonicalOf depth n o left.now a → IsCanonicalOf depth n o right.now b → a ≡ b }
+        → IsCanonicalOf (bounds depth n) o left.now a → IsCanonicalOf (bounds depth n) o right.now b → a ≡ b }
     ensures unequal { result ≡ DIFFERENT → (n : ℕ) (o : KeyOrder) (a b : List ℕ) → n ≤ 2 ^ 62
-        → IsCanonicalOf depth n o left.now a → IsCanonicalOf depth n o right.now b → a ≢ b }
+        → IsCanonicalOf (bounds depth n) o left.now a → IsCanonicalOf (bounds depth n) o right.now b → a ≢ b }
     ensures refused { result ≡ REFUSED
-        → IsSideRefused depth bytes left.now right.now side.new refusal.new }
+        → IsSideRefused (bounds depth bytes) left.now right.now side.new refusal.new }
     ensures no_memory { result ≡ NO_MEMORY
-        → SideLacksMemory depth bytes left.now right.now side.new refusal.new }
+        → SideLacksMemory (bounds depth bytes) left.now right.now side.new refusal.new }
     ensures bad_limits { result ≡ BAD_LIMITS → ¬ AreBounds (bounds depth bytes) }
     ensures in_range { result ≢ BAD_LIMITS → AreBounds (bounds depth bytes) }
     ensures statuses { (result ≡ OK) ⊎ (result ≡ DIFFERENT) ⊎ (result ≡ REFUSED)

@@ -29,13 +29,13 @@ pub extern "C" fn naltvigo_diagnostic_raw(
     needed: &mut usize,
     refusal: &mut NaltvigoRefusal,
 ) -> u32
-    ensures written { result ≡ OK → IsTextOf depth bytes input.now (take needed.new out.new) }
+    ensures written { result ≡ OK → IsTextOf (bounds depth bytes) input.now (take needed.new out.new) }
     ensures room { result ≡ OK → needed.new ≤ length out.old }
-    ensures too_small { result ≡ TOO_SMALL → (x : List ℕ) × IsTextOf depth bytes input.now x
+    ensures too_small { result ≡ TOO_SMALL → (x : List ℕ) × IsTextOf (bounds depth bytes) input.now x
         × (needed.new ≡ length x) × (length out.old < length x) }
-    ensures refused { result ≡ REFUSED → IsNotValid depth bytes input.now refusal.new }
-    ensures not_accepted { result ≡ REFUSED → ¬ IsWholeItem depth bytes input.now }
-    ensures no_memory { result ≡ NO_MEMORY → TextLacksMemory depth bytes input.now refusal.new }
+    ensures refused { result ≡ REFUSED → IsNotValid (bounds depth bytes) input.now refusal.new }
+    ensures not_accepted { result ≡ REFUSED → ¬ IsWholeItem (bounds depth bytes) input.now }
+    ensures no_memory { result ≡ NO_MEMORY → TextLacksMemory (bounds depth bytes) input.now refusal.new }
     ensures bad_limits { result ≡ BAD_LIMITS → ¬ AreBounds (bounds depth bytes) }
     ensures in_range { result ≢ BAD_LIMITS → AreBounds (bounds depth bytes) }
     ensures statuses { (result ≡ OK) ⊎ (result ≡ REFUSED) ⊎ (result ≡ TOO_SMALL)

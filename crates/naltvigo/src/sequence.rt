@@ -23,9 +23,9 @@ pub extern "C" fn naltvigo_next_valid_raw(
     taken: &mut u64,
     refusal: &mut NaltvigoRefusal,
 ) -> u32
-    ensures accepted { result ≡ OK → IsRead depth bytes plain input.now taken.new }
-    ensures refused { result ≡ REFUSED → IsNoValidFront depth bytes input.now refusal.new }
-    ensures no_memory { result ≡ NO_MEMORY → FrontLacksMemory depth bytes input.now refusal.new }
+    ensures accepted { result ≡ OK → IsRead (bounds depth bytes) plain input.now taken.new }
+    ensures refused { result ≡ REFUSED → IsNoValidFront (bounds depth bytes) input.now refusal.new }
+    ensures no_memory { result ≡ NO_MEMORY → FrontLacksMemory (bounds depth bytes) input.now refusal.new }
     ensures bad_limits { result ≡ BAD_LIMITS → ¬ AreBounds (bounds depth bytes) }
     ensures in_range { result ≢ BAD_LIMITS → AreBounds (bounds depth bytes) }
     ensures statuses { (result ≡ OK) ⊎ (result ≡ REFUSED)
@@ -58,13 +58,13 @@ pub extern "C" fn naltvigo_next_canonical_raw(
     refusal: &mut NaltvigoRefusal,
 ) -> u32
     ensures accepted { result ≡ OK
-        → IsRead depth bytes (strict (key_order order)) input.now taken.new }
+        → IsRead (bounds depth bytes) (strict (key_order order)) input.now taken.new }
     ensures canonical { result ≡ OK
-        → IsCanonicalFront depth bytes (key_order order) input.now taken.new }
+        → IsCanonicalFront (bounds depth bytes) (key_order order) input.now taken.new }
     ensures refused { result ≡ REFUSED
-        → IsNoCanonicalFront depth bytes (key_order order) input.now refusal.new }
+        → IsNoCanonicalFront (bounds depth bytes) (key_order order) input.now refusal.new }
     ensures no_canonical { result ≡ REFUSED
-        → HasNoCanonicalFront depth bytes (key_order order) input.now }
+        → HasNoCanonicalFront (bounds depth bytes) (key_order order) input.now }
     ensures bad_order { (result ≡ BAD_ORDER) ↔ (1 < order) }
     ensures bad_limits { result ≡ BAD_LIMITS → ¬ AreBounds (bounds depth bytes) }
     ensures in_range { result ≢ BAD_ORDER → result ≢ BAD_LIMITS

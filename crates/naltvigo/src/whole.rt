@@ -18,10 +18,10 @@ use std::alloc::Global;
 #[inline(never)]
 pub(crate) fn tree_of(alloc: Global, input: &[u8], limits: Limits) -> Result<Tree, Refusal>
     ensures accepted { IfOk result (λ tree. (s : Spelling)
-        × IsValidItem limits.depth limits.bytes input.now s × (view tree ≡ value_of s)) }
-    ensures refused { IfErr result (IsItemRefusal limits.depth limits.bytes input.now) }
+        × IsValidItem limits input.now s × (view tree ≡ value_of s)) }
+    ensures refused { IfErr result (IsItemRefusal limits input.now) }
     ensures not_accepted { IfErr result (λ f. f.reason ≢ reasons.Memory
-        → ¬ IsWholeItem limits.depth limits.bytes input.now) }
+        → ¬ IsWholeItem limits input.now) }
 {
     items_and_their_refusals();
     match whole_tree(alloc, input, limits) {

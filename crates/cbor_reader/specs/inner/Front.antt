@@ -15,7 +15,7 @@ pub record HasCanonicalBytes (v : Value) : Type 0 where
 
 -- What is read by these rules, whichever reader it is: what is told of a known input, and of each.
 pub record IsFrontRead (r : Rules) (b : Bounds) (from to : Option (List ℕ)) (v : Value) (count : ℕ) : Type 0 where
-  pub read : IfSome from (λ input. IsReadAs b.depth b.bytes r input v count)
+  pub read : IfSome from (λ input. IsReadAs b r input v count)
   pub taken : Loses count from to
   pub bounded : size v ≤ count
   pub sound : HasCanonicalBytes v

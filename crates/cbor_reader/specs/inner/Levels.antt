@@ -155,6 +155,6 @@ pub record TakesContent (b : Bounds) (q : Place) (t : List ℕ) (n : ℕ) (text 
   pub utf8 : text ≡ true → IsUtf8 reads.bytes
 
 -- the item at the front of the input, accepted by the plain rules, and its canonical bytes
-pub record IsBuiltFront (d n : ℕ) (o : KeyOrder) (input out : List ℕ) (size : ℕ) : Type 0 where
-  pub read : IsRead d n plain input size
+pub record IsBuiltFront (limits : Bounds) (o : KeyOrder) (input out : List ℕ) (size : ℕ) : Type 0 where
+  pub read : IsRead limits plain input size
   pub canonical_is : out ≡ canonical o (value_of read.item)

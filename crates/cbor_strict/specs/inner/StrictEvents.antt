@@ -82,5 +82,5 @@ piece_unless (Some f) piece = []
 
 -- the whole item is read
 pub record IsStrictlyRead (r : Rules) (b : Bounds) (from to : Option (List ℕ)) (count : ℕ) : Type 0 where
-  pub read : IfSome from (λ input. IsRead b.depth b.bytes r input count)
+  pub read : IfSome from (λ input. IsRead b r input count)
   pub taken : Loses count from to

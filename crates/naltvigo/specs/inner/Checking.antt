@@ -1,5 +1,6 @@
 -- What the strict check of a whole input answers.
 use Rattle.std.specs.Prelude.{ℕ, List, length}
+use Rattle.cbor_head.specs.Limits.{Bounds}
 use Rattle.cbor_head.specs.Complaint.{strict}
 use Rattle.cbor_head.specs.declared.order.KeyOrder.{KeyOrder}
 use Rattle.cbor_head.specs.declared.reason.Refusal.{Refusal}
@@ -8,12 +9,12 @@ use Rattle.cbor_judging.specs.Readers.{IsRead, IsCanonicalFront}
 use Rattle.naltvigo.specs.Checking.{IsStrictRefusal}
 
 -- the input is its own answer
-pub record IsOwnAnswer (d n : ℕ) (o : KeyOrder) (input : List ℕ) : Type 0 where
-  pub own : IsCanonicalOf d n o input input
-  pub accepted : IsRead d n (strict o) input (length input)
-  pub canonical : IsCanonicalFront d n o input (length input)
+pub record IsOwnAnswer (limits : Bounds) (o : KeyOrder) (input : List ℕ) : Type 0 where
+  pub own : IsCanonicalOf limits o input input
+  pub accepted : IsRead limits (strict o) input (length input)
+  pub canonical : IsCanonicalFront limits o input (length input)
 
 -- it isn't
-pub record IsNotOwn (d n : ℕ) (o : KeyOrder) (input : List ℕ) (f : Refusal) : Type 0 where
-  pub refused : IsStrictRefusal d n o input f
-  pub not_own : ¬ IsCanonicalOf d n o input input
+pub record IsNotOwn (limits : Bounds) (o : KeyOrder) (input : List ℕ) (f : Refusal) : Type 0 where
+  pub refused : IsStrictRefusal limits o input f
+  pub not_own : ¬ IsCanonicalOf limits o input input

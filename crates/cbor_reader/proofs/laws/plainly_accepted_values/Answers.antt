@@ -4,13 +4,13 @@ use Rattle.cbor_reader.proofs.Headline.{front_range, front_valid, front_depth}
 use Rattle.cbor_reader.proofs.laws.plainly_accepted_values.Goals as goal
 
 pub returns-clause-range : goal.returns-clause-range
-returns-clause-range c = λ d n input s. front_range d n plain input s
+returns-clause-range c = λ limits input s. front_range limits plain input s
 
 pub returns-clause-valid : goal.returns-clause-valid
 returns-clause-valid c = front_valid
 
 pub returns-clause-depth : goal.returns-clause-depth
-returns-clause-depth c = λ d n input s. front_depth d n plain input s
+returns-clause-depth c = λ limits input s. front_depth limits plain input s
 
 pub returns-clause-fits : goal.returns-clause-fits
-returns-clause-fits c = λ d n input s. item_within_limit d n plain input s
+returns-clause-fits c = λ limits input s. item_within_limit limits plain input s

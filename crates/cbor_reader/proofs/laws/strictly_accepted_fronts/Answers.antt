@@ -4,15 +4,15 @@ use Rattle.cbor_judging.proofs.CanonicalFronts.{strict_bytes, strict_value, stri
 use Rattle.cbor_reader.proofs.laws.strictly_accepted_fronts.Goals as goal
 
 pub returns-clause-accepted : goal.returns-clause-accepted
-returns-clause-accepted c = λ d n o input. ((λ (s, h). (value_of s, strict_value d n o input s h)), (λ (v, h). strict_accepts d n o input v h))
+returns-clause-accepted c = λ limits o input. ((λ (s, h). (value_of s, strict_value limits o input s h)), (λ (v, h). strict_accepts limits o input v h))
 
 pub returns-clause-value : goal.returns-clause-value
 returns-clause-value c = strict_value
 
 pub returns-clause-taken : goal.returns-clause-taken
-returns-clause-taken c = λ d n o input s v h b.
-    let r = one_front d n o input (value_of s) v (strict_value d n o input s h) b in
-    (strict_bytes d n o input s h ∙ r.1, r.0)
+returns-clause-taken c = λ limits o input s v h b.
+    let r = one_front limits o input (value_of s) v (strict_value limits o input s h) b in
+    (strict_bytes limits o input s h ∙ r.1, r.0)
 
 pub returns-clause-one : goal.returns-clause-one
 returns-clause-one c = one_front

@@ -4,13 +4,13 @@ use Rattle.cbor_reader.proofs.WholeItems.{unread-slice, given-up, given-up-unrea
 use Rattle.cbor_reader.proofs.whole_item.of_slice.Goals as goal
 
 pub returns-in-Read-clause-whole : goal.returns-in-Read-clause-whole
-returns-in-Read-clause-whole c = λ d n input h. given-up d n input c.args.refusal c.at.result h c.in-Read.is c.at.ensures
+returns-in-Read-clause-whole c = λ limits input h. given-up limits input c.args.refusal c.at.result h c.in-Read.is c.at.ensures
 
 pub returns-in-Read-clause-unread : goal.returns-in-Read-clause-unread
-returns-in-Read-clause-unread c = λ d n input h. given-up-unread d n input c.args.refusal c.at.result h c.in-Read.is c.at.ensures
+returns-in-Read-clause-unread c = λ limits input h. given-up-unread limits input c.args.refusal c.at.result h c.in-Read.is c.at.ensures
 
 pub returns-in-Read-clause-no_read : goal.returns-in-Read-clause-no_read
 returns-in-Read-clause-no_read c = λ e. cc (sym (ap (λ (f : Refusal). f.reason) c.at.ensures) ∙ e)
 
 pub returns-in_default-clause-whole : goal.returns-in_default-clause-whole
-returns-in_default-clause-whole c = λ d n input h. unread-slice d n input c.args.refusal h c.in_default.not-Read
+returns-in_default-clause-whole c = λ limits input h. unread-slice limits input c.args.refusal h c.in_default.not-Read

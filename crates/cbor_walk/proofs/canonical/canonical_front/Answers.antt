@@ -12,7 +12,7 @@ returns-in-Ok c =
     let w = c.in-Ok.ensures.whole in
     record {
       item = w.item;
-      verdict = accepts (strict c.args.order) c.args.limits.depth c.args.limits.bytes c.args.bytes.now w.item w.rest
+      verdict = accepts (strict c.args.order) c.args.limits c.args.bytes.now w.item w.rest
           (subst (λ k. HasEnded (strict c.args.order) k [] w.item) d w.ended) (sym input ∙ w.bytes);
       size = w.here;
     }
@@ -23,7 +23,7 @@ returns-in-Err c =
     let input : c.within-input.result.now ≡ take c.args.limits.bytes c.args.bytes.now = c.within-input.ensures ∙ ap (λ n. take n c.args.bytes.now) c.bytes.ensures.bytes in
     let f = c.in-Err.refusal in
     let g = c.at_the_limit.result in
-    stopped (strict c.args.order) c.args.limits.depth c.args.limits.bytes c.args.bytes.now f
+    stopped (strict c.args.order) c.args.limits c.args.bytes.now f
     (subst (λ k. IsStopped (strict c.args.order) k (take c.args.limits.bytes c.args.bytes.now) f) d
     (subst (λ (xs : List ℕ). IsStopped (strict c.args.order) c.from.result xs f) input c.in-Err.ensures.refused)) g
     (subst (λ n. IsAnswered n (take c.args.limits.bytes c.args.bytes.now) f g) c.bytes-in-Err.ensures.bytes

@@ -4,18 +4,18 @@ use Rattle.naltvigo.proofs.checking.check_whole_item.Goals as goal
 
 pub returns-in-Ok-clause-refused : goal.returns-in-Ok-clause-refused
 returns-in-Ok-clause-refused c =
-    is-followed c.args.limits.depth c.args.limits.bytes c.args.input.now c.in-Ok.size c.at.result c.in-Ok.ensures.accepted c.if-size-input.true c.at.ensures
+    is-followed c.args.limits c.args.input.now c.in-Ok.size c.at.result c.in-Ok.ensures.accepted c.if-size-input.true c.at.ensures
 
 pub returns-in-Ok-clause-not_accepted : goal.returns-in-Ok-clause-not_accepted
 returns-in-Ok-clause-not_accepted c =
     λ h w. h
     (c.items_and_their_refusals.ensures.either _ _ c.args.input.now _ w
-    (is-followed c.args.limits.depth c.args.limits.bytes c.args.input.now c.in-Ok.size c.at.result c.in-Ok.ensures.accepted c.if-size-input.true c.at.ensures))
+    (is-followed c.args.limits c.args.input.now c.in-Ok.size c.at.result c.in-Ok.ensures.accepted c.if-size-input.true c.at.ensures))
 
 pub returns-in-Ok-2-clause-accepted : goal.returns-in-Ok-2-clause-accepted
 returns-in-Ok-2-clause-accepted c =
-    is-whole c.args.limits.depth c.args.limits.bytes c.args.input.now c.in-Ok.size c.in-Ok.ensures.accepted c.if-size-input.false
-    (c.valid_items.ensures.verdict c.args.limits.depth c.args.limits.bytes c.args.input.now)
+    is-whole c.args.limits c.args.input.now c.in-Ok.size c.in-Ok.ensures.accepted c.if-size-input.false
+    (c.valid_items.ensures.verdict c.args.limits c.args.input.now)
 
 pub returns-in-Err-clause-refused : goal.returns-in-Err-clause-refused
 returns-in-Err-clause-refused c = unread c.in-Err.ensures.refused c.in-Err.ensures.no_read

@@ -7,6 +7,6 @@ use Rattle.naltvigo.proofs.sequence.naltvigo_next_canonical_raw.Goals as goal
 
 pub returns-in-Err-clause-no_canonical : goal.returns-in-Err-clause-no_canonical
 returns-in-Err-clause-no_canonical c = λ _.
-    subst (λ (b : Bounds). HasNoCanonicalFront b.depth b.bytes (key_order c.args.order) c.args.input.now) c.in-Some-limits_of.ensures.value.0
-    (subst (λ (o : KeyOrder). HasNoCanonicalFront c.in-Some-limits_of.limits.depth c.in-Some-limits_of.limits.bytes o c.args.input.now)
+    subst (λ (b : Bounds). HasNoCanonicalFront b (key_order c.args.order) c.args.input.now) c.in-Some-limits_of.ensures.value.0
+    (subst (λ (o : KeyOrder). HasNoCanonicalFront c.in-Some-limits_of.limits o c.args.input.now)
     c.in-Some.ensures.value.0 c.in-Err.ensures.no_canonical)
