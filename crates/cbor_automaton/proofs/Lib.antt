@@ -3,14 +3,11 @@ pub mod Beginnings
 pub mod Events
 pub mod FirstByte
 pub mod Forward
-pub mod Frames
 pub mod Kept
 pub mod Longest
-pub mod Nests
 pub mod Opens
 pub mod Refusals
 pub mod Runs
 pub mod Stands
 pub mod Taking
 pub mod Tiling
-pub mod WholeHeads

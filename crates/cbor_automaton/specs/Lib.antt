@@ -2,13 +2,8 @@ pub mod Automaton
 pub mod Bytes
 pub mod Event
 pub mod Marks
-pub mod Nest
 pub mod Open
 pub mod Pieces
 pub mod Reasons
-pub mod State
 pub mod Taking
-pub mod Token
 pub mod Trace
-pub mod Walk
-pub mod Whole

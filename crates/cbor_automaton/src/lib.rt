@@ -1,34 +1,11 @@
-//! The bytes of a CBOR item, one after another: where each belongs, and what it tells.
+//! The automaton of well-formed items: which byte may come next, and which event it completes
+//! (RFC 8949, section 3).
 //!
-//! A [`Position`] says where the next byte belongs (an item is due; within a head; within a payload;
-//! between chunks; a simple value's number is due; done), a [`Nest`] has the open containers, at most
-//! as many as the depth limit. [`walk`] takes bytes until one completes an [`Event`] or may not stand
-//! there, [`walk_whole`] a head or a payload that stands whole at the front; the other calls take
-//! one part of an item, of which the caller knows that it is due (RFC 8949, section 3).
-//!
-//! `cbor_machine` and `cbor_slices` are made of these, and a user calls those. A position and a
-//! nest by themselves are no item's: what bytes led to them is said by the machine's contracts.
+//! A crate of definitions and lemmas, and of the [`Event`] that they speak of: `Automaton` takes a
+//! byte from one state to the next, `Trace` and `Marks` say what the bytes of an item tell. The
+//! calls that go by it are in `cbor_steps`.
 #![tactic(auto)]
 
 mod event;
-mod frame;
-mod nest;
-mod opening;
-mod position;
-mod take_byte;
-mod token;
-mod up_to_event;
-mod whole;
 
 pub use event::{Event, EventKind};
-pub use frame::{Frame, MOST_OPEN};
-pub use nest::{Due, Frames, Nest};
-pub use opening::Numbered;
-pub use position::{Position, has_room};
-pub use take_byte::long_at;
-pub use token::Token;
-pub use up_to_event::{Fronted, Walked, walk, walk_whole};
-pub use whole::{
-    Argument, DefiniteHead, Whole, front_head, read_argument, take_head, whole_chunk, whole_open,
-    whole_piece,
-};

@@ -13,7 +13,7 @@ use Rattle.cbor_builder.specs.Parts.{plain, an_array, a_map, a_key, a_string, pa
 use Rattle.cbor_buffer.specs.Pairs.{pair_bytes}
 use Rattle.cbor_buffer.specs.Spans.{span_pair, AreWithin}
 use Rattle.cbor_builder.specs.inner.Laid.{pairs_from, Tile, shape_open, outer_spans, opens, Fits, Laid, Takes, IsString, shape_after, span, spans_after, KeepsRising, Stands, Completed}
-use Rattle.cbor_canonical.specs.Front.{front_of}
+use Rattle.cbor_keys.specs.Front.{front_of}
 use Rattle.cbor_builder.specs.inner.Front.{AreFronted}
 use Rattle.cbor_buffer.specs.declared.span.Span.{Span}
 use Rattle.cbor_builder.specs.declared.frame.Frame.{Frame}

@@ -12,7 +12,7 @@ use Rattle.cbor_builder.specs.Built.{HasKey, IsRepeatedKey, IsWaitingKey, keys_s
 use Rattle.cbor_canonical.specs.Pairs.{IsRising, HasDistinctBytes}
 use Rattle.cbor_builder.specs.Parts.{Open}
 use Rattle.cbor_buffer.specs.Pairs.{pair_bytes}
-use Rattle.cbor_canonical.specs.Front.{front_of}
+use Rattle.cbor_keys.specs.Front.{front_of}
 use Rattle.cbor_builder.specs.inner.Front.{key_of, AreFronted}
 use Rattle.cbor_buffer.specs.Spans.{span_pair, AreBehind}
 use Rattle.cbor_builder.specs.inner.Laid.{pairs_from, Tile, shape_open, outer_spans, opens, Fits, Laid, Takes, IsString, shape_after, span, spans_after, KeepsRising, Completed}

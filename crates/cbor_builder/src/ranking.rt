@@ -1,14 +1,14 @@
 //! How the pairs of a map stand to each other.
 
 ghost use Rattle.std.specs.Prelude.{◌≡◌, ◌≤◌, length, slice_range};
-ghost use Rattle.cbor_canonical.specs.Front.{front_of};
+ghost use Rattle.cbor_keys.specs.Front.{front_of};
 ghost use Rattle.cbor_builder.specs.inner.Front.{key_of, by_front, rank, ranked_by};
 ghost use Rattle.cbor_head.specs.Order.{key_cmp};
 
 use cbor_buffer::out::Out;
 use cbor_buffer::span::Span;
-use cbor_canonical::{compare_keys, key_front};
 use cbor_head::KeyOrder;
+use cbor_keys::{compare_keys, key_front};
 use std::cmp::Ordering;
 
 /// What stands from `start` to `end`, as far as the bytes go.

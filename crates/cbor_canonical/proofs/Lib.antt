@@ -2,8 +2,6 @@ pub mod Agreement
 pub mod Clean
 pub mod Depth
 pub mod Induction
-pub mod KeyFronts
-pub mod KeyWords
 pub mod Keys
 pub mod Members
 pub mod Normal

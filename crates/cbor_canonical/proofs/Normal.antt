@@ -11,7 +11,7 @@ use Rattle.cbor_head.specs.declared.order.KeyOrder.{KeyOrder}
 use Rattle.cbor_head.specs.declared.major.Major.TheVariants.{Unsigned, Array, Map, Tag}
 use Rattle.cbor_head.specs.declared.width.Width.TheVariants.{Direct, One, Two, Four, Eight}
 use Rattle.cbor_head.proofs.Least.{least}
-use Rattle.cbor_head.proofs.ReadLaws.{holds_or_open}
+use Rattle.cbor_grammar.proofs.ReadLaws.{holds_or_open}
 use Rattle.cbor_canonical.proofs.Induction.{AllOf, AllIn, AllIn-every, by_cases}
 
 abbrev pub put_entry : KeyOrder → Spelling → Spelling → SpelledEntries → SpelledEntries

@@ -14,7 +14,7 @@ use Rattle.cbor_head.specs.declared.major.Major.{Major}
 use Rattle.cbor_head.specs.declared.major.Major.TheVariants.{Unsigned, Negative, Bytes, Text, Array, Map, Tag}
 use Rattle.cbor_head.specs.declared.width.Width.{Width}
 use Rattle.cbor_head.specs.declared.width.Width.TheVariants.{Direct, One, Two, Four, Eight, Indefinite}
-use Rattle.cbor_head.proofs.Counts.{holds_fits, values_count-of, entries_count-of}
+use Rattle.cbor_grammar.proofs.Counts.{holds_fits, values_count-of, entries_count-of}
 use Rattle.cbor_canonical.specs.Pairs.{IsRising}
 use Rattle.cbor_canonical.proofs.Members.{In}
 use Rattle.cbor_canonical.proofs.Orders.{lt_trans}

@@ -5,7 +5,7 @@ use Rattle.cbor_head.specs.Spelling.{Spelling, spell, value_of, IsSpelled}
 use Rattle.cbor_head.specs.Canonical.{canonical}
 use Rattle.cbor_head.specs.Complaint.{strict, Complaint, Complains}
 use Rattle.cbor_head.specs.declared.order.KeyOrder.{KeyOrder}
-use Rattle.cbor_head.proofs.ReadLaws.{unique}
+use Rattle.cbor_grammar.proofs.ReadLaws.{unique}
 use Rattle.cbor_canonical.specs.CanonicalSpelling.{IsCanonicalSpelling}
 use Rattle.cbor_canonical.proofs.Sound.{IsSound, sound}
 use Rattle.cbor_canonical.proofs.Normal.{normal, spell-normal, IsSpelled-normal}

@@ -4,7 +4,7 @@ use Rattle.cbor_head.specs.Value.{Value, Entries, no_entries, entry, HasEntry, H
 use Rattle.cbor_head.specs.Spelling.{spell, value_of}
 use Rattle.cbor_head.specs.Canonical.{Pair, canonical, canonical_entries}
 use Rattle.cbor_head.specs.declared.order.KeyOrder.{KeyOrder}
-use Rattle.cbor_head.proofs.ReadLaws.{unique}
+use Rattle.cbor_grammar.proofs.ReadLaws.{unique}
 use Rattle.cbor_canonical.specs.Pairs.{HasDistinctBytes}
 use Rattle.cbor_canonical.proofs.Members.{In, all_from}
 use Rattle.cbor_canonical.proofs.Sound.{ranges_at}

@@ -1,3 +1,2 @@
 pub mod CanonicalSpelling
-pub mod Front
 pub mod Pairs

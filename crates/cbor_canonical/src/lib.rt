@@ -1,12 +1,8 @@
-//! Canonical bytes: the order of encoded keys, and the laws of sameness and of canonical bytes.
+//! Canonical bytes: the laws of sameness, of canonical bytes and of the order of keys.
 //!
-//! [`laws`] has no code to run: its contracts say of every value and spelling (RFC 8949, sections
-//! 4.2.1, 4.2.3 and 5.6.1) what the crates above rest on.
+//! A crate of definitions and lemmas: it has no call but a law, in [`laws`], whose contracts say of
+//! every value and spelling (RFC 8949, sections 4.2.1, 4.2.3 and 5.6.1) what the crates above rest
+//! on.
 #![tactic(auto)]
 
-mod fronts;
-mod key_order;
 pub mod laws;
-
-pub use fronts::key_front;
-pub use key_order::compare_keys;

@@ -12,18 +12,18 @@ use Rattle.cbor_head.specs.Verdict.{refusal, accepted, refused, IsVerdict}
 use Rattle.cbor_head.specs.declared.width.Width.{Width}
 use Rattle.cbor_head.specs.declared.reason.Reason.TheVariants.{Read, Write, Truncated}
 use Rattle.cbor_head.specs.declared.reason.Refusal.{Refusal}
-use Rattle.cbor_head.proofs.Accepted.{accepts_exactly}
-use Rattle.cbor_head.proofs.ReadLaws.{unique}
+use Rattle.cbor_grammar.proofs.Accepted.{accepts_exactly}
+use Rattle.cbor_grammar.proofs.ReadLaws.{unique}
 use Rattle.cbor_automaton.specs.Trace.{Mark, total}
 use Rattle.cbor_automaton.specs.Marks.{marks_of, IsProper}
 use Rattle.cbor_automaton.specs.Event.{joined, AreTold}
-use Rattle.cbor_machine.specs.Machine.{StandsFor, before}
-use Rattle.cbor_machine.specs.MachineView.{MachineView}
-use Rattle.cbor_machine.specs.NextEvent.{Call, StandsBetween, IsNext, IsNextEvent, IsEnd, IsCut, IsTooLong, HasFormError}
+use Rattle.cbor_standing.specs.Machine.{StandsFor, before}
+use Rattle.cbor_standing.specs.MachineView.{MachineView}
+use Rattle.cbor_standing.specs.NextEvent.{Call, StandsBetween, IsNext, IsNextEvent, IsEnd, IsCut, IsTooLong, HasFormError}
 use Rattle.cbor_automaton.specs.declared.event.Event.{Event}
 use Rattle.cbor_automaton.specs.declared.event.EventKind.{EventKind}
 use Rattle.cbor_automaton.specs.declared.event.EventKind.TheVariants.{Unsigned, Negative, Simple, Bytes, Text, Chunk, Piece, Array, Map, Tag, End}
-use Rattle.cbor_machine.proofs.Form.{complete-verdict}
+use Rattle.cbor_standing.proofs.Form.{complete-verdict}
 use Rattle.cbor_events.proofs.Joining.{bytes-total}
 use Rattle.cbor_events.proofs.Rows.{total-append}
 use Rattle.cbor_events.proofs.Told.{told-none, told-joined, next-more, next-all}

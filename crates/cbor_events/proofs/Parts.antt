@@ -6,16 +6,16 @@ use Rattle.std.proofs.KnownBytes.{Consumes-nil}
 use Rattle.cbor_head.specs.Value.{AreBytes}
 use Rattle.cbor_head.specs.declared.reason.Refusal.{Refusal}
 use Rattle.cbor_automaton.specs.Trace.{Mark}
-use Rattle.cbor_machine.specs.MachineView.{MachineView}
-use Rattle.cbor_machine.specs.Machine.{StandsFor, wanted}
-use Rattle.cbor_machine.specs.NextEvent.{StandsBetween, IfTold, IsNext, machine_call}
-use Rattle.cbor_machine.specs.Calls.{HasRead, piece_after}
+use Rattle.cbor_standing.specs.MachineView.{MachineView}
+use Rattle.cbor_standing.specs.Machine.{StandsFor, wanted}
+use Rattle.cbor_standing.specs.NextEvent.{StandsBetween, IfTold, IsNext, machine_call}
+use Rattle.cbor_standing.specs.Calls.{HasRead, piece_after}
 use Rattle.cbor_events.specs.inner.Reads.{IsPartTaken, IsPartRead}
 use Rattle.cbor_automaton.specs.declared.event.Event.{Event}
 use Rattle.cbor_events.specs.declared.item_events.Part.{Part}
 use Rattle.cbor_events.specs.declared.item_events.Part.TheVariants.{Told, Open, Stopped}
-use Rattle.cbor_machine.proofs.NextEvents.{event-here, read-on, complete-wants, wanted-room}
-use Rattle.cbor_machine.proofs.NextRefusals.{still-due, stopped-here}
+use Rattle.cbor_standing.proofs.NextEvents.{event-here, read-on, complete-wants, wanted-room}
+use Rattle.cbor_standing.proofs.NextRefusals.{still-due, stopped-here}
 
 -- the bytes that were read are what the machine wanted, and stand in front of the buffer
 pub part-read : (p : Part) (from mid_from to : Option (List ℕ)) (was mid new : MachineView) (kept buffer t last : List ℕ) (ms : List Mark) → StandsBetween was t ms → (r : HasRead from mid_from mid t ms)

@@ -5,9 +5,9 @@ use Rattle.cbor_head.specs.Spelling.{Spelling, IsItem}
 use Rattle.cbor_automaton.specs.Trace.{Mark, total, within}
 use Rattle.cbor_automaton.specs.Marks.{marks_of}
 use Rattle.cbor_automaton.specs.Event.{events, marks_in, event_size, front_of, joined, cut, IsRow, AreTold}
-use Rattle.cbor_machine.specs.MachineView.{MachineView}
-use Rattle.cbor_machine.specs.Machine.{StandsFor, IsWhole, IsGiven}
-use Rattle.cbor_machine.specs.NextEvent.{Call, StandsBetween, IsNextEvent, IsEnd}
+use Rattle.cbor_standing.specs.MachineView.{MachineView}
+use Rattle.cbor_standing.specs.Machine.{StandsFor, IsWhole, IsGiven}
+use Rattle.cbor_standing.specs.NextEvent.{Call, StandsBetween, IsNextEvent, IsEnd}
 use Rattle.cbor_automaton.specs.Bytes.{IsEventBytes}
 use Rattle.cbor_automaton.proofs.Events.{le-leb}
 use Rattle.cbor_automaton.specs.declared.event.Event.{Event}

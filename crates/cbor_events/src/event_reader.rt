@@ -5,8 +5,8 @@ ghost use Rattle.std.specs.Prelude.{IfSome, Err};
 ghost use Rattle.cbor_automaton.specs.Trace.{Mark};
 ghost use Rattle.cbor_automaton.specs.Marks.{IsProper};
 ghost use Rattle.cbor_automaton.specs.Reasons.{IsEventReason};
-ghost use Rattle.cbor_machine.specs.Machine.{KeepsLimits, IsIdle};
-ghost use Rattle.cbor_machine.specs.NextEvent.{StandsBetween, IfTold, IsNext, call};
+ghost use Rattle.cbor_standing.specs.Machine.{KeepsLimits, IsIdle};
+ghost use Rattle.cbor_standing.specs.NextEvent.{StandsBetween, IfTold, IsNext, call};
 ghost use Rattle.cbor_events.specs.EventReader.{EventReaderView};
 
 use crate::item_events::ItemEvents;

@@ -7,12 +7,12 @@ ghost use Rattle.cbor_automaton.specs.Trace.{Mark};
 ghost use Rattle.cbor_automaton.specs.Marks.{IsProper};
 ghost use Rattle.cbor_automaton.specs.Reasons.{IsEventReason};
 ghost use Rattle.cbor_automaton.specs.Reasons.{IsMachineReason};
-ghost use Rattle.cbor_machine.specs.MachineView.{MachineView};
-ghost use Rattle.cbor_machine.specs.Machine.{KeepsLimits, IsIdle, StandsFor, wanted};
-ghost use Rattle.cbor_machine.specs.NextEvent.{ItemEventsView, StandsBetween, IfTold, IsNext};
-ghost use Rattle.cbor_machine.specs.NextEvent.{machine_call, call};
+ghost use Rattle.cbor_standing.specs.MachineView.{MachineView};
+ghost use Rattle.cbor_standing.specs.Machine.{KeepsLimits, IsIdle, StandsFor, wanted};
+ghost use Rattle.cbor_standing.specs.NextEvent.{ItemEventsView, StandsBetween, IfTold, IsNext};
+ghost use Rattle.cbor_standing.specs.NextEvent.{machine_call, call};
 ghost use Rattle.cbor_events.specs.inner.Reads.{IsAsked};
-ghost use Rattle.cbor_machine.specs.Calls.{HasRead, piece_after, piece_size};
+ghost use Rattle.cbor_standing.specs.Calls.{HasRead, piece_after, piece_size};
 ghost use Rattle.cbor_automaton.specs.Pieces.{kind_size};
 ghost use Rattle.cbor_events.specs.inner.Reads.{IsPartTaken, IsPartRead, IfPartTold, IfStopped};
 

@@ -12,9 +12,9 @@ ghost use Rattle.cbor_head.specs.Beginning.{IsLongestBeginning};
 ghost use Rattle.cbor_automaton.specs.Marks.{marks_of};
 ghost use Rattle.cbor_automaton.specs.Event.{events, marks_in, joined, cut, AreTold};
 ghost use Rattle.cbor_automaton.specs.declared.event.Event.{Event};
-ghost use Rattle.cbor_machine.specs.NextEvent.{Call, StandsBetween, IsNextEvent, IsEnd};
-ghost use Rattle.cbor_machine.specs.MachineView.{MachineView};
-ghost use Rattle.cbor_machine.specs.Machine.{StandsFor, IsComplete, IsGiven, IsRefused};
+ghost use Rattle.cbor_standing.specs.NextEvent.{Call, StandsBetween, IsNextEvent, IsEnd};
+ghost use Rattle.cbor_standing.specs.MachineView.{MachineView};
+ghost use Rattle.cbor_standing.specs.Machine.{StandsFor, IsComplete, IsGiven, IsRefused};
 
 /// What a machine answers is the verdict of form: of its refusals, and of the item that is
 /// complete.

@@ -1,8 +1,8 @@
 //! The machine against the tables of its format, and a caller of it.
 
 ghost use Rattle.std.specs.Prelude.{◌≡◌, ◌≤◌, ◌<◌, length};
-ghost use Rattle.cbor_machine.specs.Machine.{IsMore};
-ghost use Rattle.cbor_machine.specs.Steps.{Goes};
+ghost use Rattle.cbor_standing.specs.Machine.{IsMore};
+ghost use Rattle.cbor_standing.specs.Steps.{Goes};
 
 mod reading;
 mod refused;

@@ -12,13 +12,12 @@
 //! ```
 //!
 //! [`Head`] is such a head, [`Limits`] bounds an item, and [`Refusal`] says why bytes are not
-//! accepted and where. [`laws`] has no code to run: its contracts are the laws of the model. Those
-//! of heads are in [`head_laws`], with a function that reads a head's bytes back.
+//! accepted and where. The laws of heads are in [`head_laws`], with a function that reads a head's
+//! bytes back; those of items, of their bytes and of verdicts in `cbor_grammar`.
 #![tactic(auto)]
 
 mod head;
 pub mod head_laws;
-pub mod laws;
 mod limits;
 mod major;
 mod order;

@@ -23,8 +23,9 @@ mod within;
 mod write;
 
 pub use cbor_builder::{CanonBuilder, Repeat};
-pub use cbor_canonical::{compare_keys, key_front, laws};
+pub use cbor_canonical::laws;
 pub use cbor_head::KeyOrder;
+pub use cbor_keys::{compare_keys, key_front};
 pub use compare::same;
 pub use encoding::encode;
 pub use item::Item;

@@ -6,7 +6,7 @@ use Rattle.cbor_head.specs.Limits.{Bounds}
 use Rattle.cbor_head.specs.Spelling.{Spelling, spell, IsItem}
 use Rattle.cbor_head.specs.Complaint.{Rules, Complaint, Complains}
 use Rattle.cbor_head.specs.Verdict.{accepted, IsVerdict}
-use Rattle.cbor_head.proofs.Beginnings.{item_decides}
+use Rattle.cbor_grammar.proofs.Beginnings.{item_decides}
 
 module _ (limits : Bounds) (r : Rules) (input : List ℕ) (s : Spelling) (v : IsVerdict limits r input (accepted s)) where
   -- it is the longest beginning

@@ -9,7 +9,7 @@ use Rattle.cbor_head.specs.Canonical.{canonical}
 use Rattle.cbor_head.specs.Complaint.{strict}
 use Rattle.cbor_head.specs.Verdict.{accepted, IsVerdict}
 use Rattle.cbor_head.specs.declared.order.KeyOrder.{KeyOrder}
-use Rattle.cbor_head.proofs.Accepted.{accepts_exactly}
+use Rattle.cbor_grammar.proofs.Accepted.{accepts_exactly}
 use Rattle.cbor_canonical.proofs.Depth.{depth-value_of}
 use Rattle.cbor_canonical.proofs.Told.{told}
 use Rattle.cbor_canonical.proofs.Theorems.{canonical_spelled, strict_exactly}

@@ -9,8 +9,8 @@ use Rattle.cbor_head.specs.declared.major.Major.{Major}
 use Rattle.cbor_head.specs.declared.major.Major.TheVariants.{Text}
 use Rattle.cbor_head.specs.declared.width.Width.{Width}
 use Rattle.cbor_head.specs.declared.width.Width.TheVariants.{Indefinite}
-use Rattle.cbor_head.proofs.Agree.{string_later, payload_end}
-use Rattle.cbor_head.proofs.OneFirst.{payload_last}
+use Rattle.cbor_grammar.proofs.Agree.{string_later, payload_end}
+use Rattle.cbor_grammar.proofs.OneFirst.{payload_last}
 use Rattle.cbor_automaton.specs.Automaton.{Frame, State, at_item, in_head, in_simple, in_payload, in_chunks, done as at_end}
 use Rattle.cbor_automaton.proofs.Arguments.{number}
 use Rattle.cbor_automaton.proofs.Taking.{IsWithin}

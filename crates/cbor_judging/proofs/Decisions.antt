@@ -9,8 +9,8 @@ use Rattle.cbor_head.specs.Verdict.{refusal, refused, IsFormError, IsFirstCompla
 use Rattle.cbor_head.specs.Beginning.{IsLongestBeginning}
 use Rattle.cbor_head.specs.declared.reason.Refusal.{Refusal}
 use Rattle.cbor_judging.specs.Judged.{IsFirstOf, IsJudged}
-use Rattle.cbor_head.proofs.Agree.{split_front}
-use Rattle.cbor_head.proofs.OneFirst.{first_for_each}
+use Rattle.cbor_grammar.proofs.Agree.{split_front}
+use Rattle.cbor_grammar.proofs.OneFirst.{first_for_each}
 
 pub first_at_start : (r : Rules) (s : Spelling) (p : List ℕ) (c : Complaint) → IsFirstOf (Complains r 0 s) (0 + length p) c → IsFirstComplaint r s (length p) c
 first_at_start r s p c f =

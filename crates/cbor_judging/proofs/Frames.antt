@@ -6,8 +6,8 @@ use Rattle.cbor_head.specs.Spelling.{Spelling, Spellings, SpelledEntries, no_spe
 use Rattle.cbor_head.specs.Complaint.{Rules, Complaint, OfCount, Complains, ComplainsIn, ComplainsInEntries}
 use Rattle.cbor_judging.specs.Frame.{Frame, a_member, a_key, a_content, tagged, with_all, with_entries, keys_onto, plug, before, behind, IsFrame, depth_beside, OfFront, OfKeyAt, OfBack}
 use Rattle.cbor_head.specs.declared.major.Major.TheVariants.{Array, Map, Tag}
-use Rattle.cbor_head.proofs.Agree.{key_end, later_in, later_entries}
-use Rattle.cbor_head.proofs.OneFirst.{after_head}
+use Rattle.cbor_grammar.proofs.Agree.{key_end, later_in, later_entries}
+use Rattle.cbor_grammar.proofs.OneFirst.{after_head}
 
 -- ---- members of two lists
 

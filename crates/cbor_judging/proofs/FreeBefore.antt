@@ -8,7 +8,7 @@ use Rattle.cbor_head.specs.Complaint.{Rules, Complaint, Complains}
 use Rattle.cbor_head.specs.Verdict.{refused, refusal, IsFormError, IsVerdict, IsWithout}
 use Rattle.cbor_head.specs.declared.reason.Reason.TheVariants.{Truncated}
 use Rattle.cbor_head.specs.declared.reason.Refusal.{Refusal}
-use Rattle.cbor_head.proofs.Agree.{split_front, same_complaints}
+use Rattle.cbor_grammar.proofs.Agree.{split_front, same_complaints}
 use Rattle.cbor_judging.specs.Refusals.{IsFreeBefore}
 use Rattle.cbor_judging.proofs.Reasons.{complaint-reason}
 

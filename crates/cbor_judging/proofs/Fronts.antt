@@ -5,7 +5,7 @@ use Rattle.cbor_head.specs.Limits.{Bounds, AreBounds}
 use Rattle.cbor_head.specs.Complaint.{Rules}
 use Rattle.cbor_head.specs.declared.reason.Refusal.{Refusal}
 use Rattle.cbor_judging.specs.Place.{at_item}
-use Rattle.cbor_machine.specs.NextEvent.{ItemEventsView, StandsBetween}
+use Rattle.cbor_standing.specs.NextEvent.{ItemEventsView, StandsBetween}
 use Rattle.cbor_judging.specs.Readers.{IsUnread}
 use Rattle.cbor_judging.specs.Reading.{IsFrontUnread, IsAt, StopsItem}
 use Rattle.cbor_judging.proofs.Reasons.{reader-reason}

@@ -10,7 +10,7 @@ use Rattle.cbor_head.specs.declared.major.Major.{Major}
 use Rattle.cbor_head.specs.declared.major.Major.TheVariants.{Unsigned, Negative, Bytes, Text, Array, Map, Tag, Simple}
 use Rattle.cbor_head.specs.declared.width.Width.{Width}
 use Rattle.cbor_head.specs.declared.width.Width.TheVariants.{Direct, One, Two, Four, Eight, Indefinite}
-use Rattle.cbor_head.proofs.Agree.{head_of, body, parts}
+use Rattle.cbor_grammar.proofs.Agree.{head_of, body, parts}
 use Rattle.cbor_automaton.specs.Automaton.{Frame, State, at_item, in_head, in_simple, in_payload, in_chunks, done, has_room}
 use Rattle.cbor_automaton.proofs.Arguments.{number}
 use Rattle.cbor_automaton.proofs.Taking.{IsNumbered, IsWithin}

@@ -8,8 +8,8 @@ use Rattle.cbor_head.specs.Verdict.{rank}
 use Rattle.cbor_judging.specs.Frame.{Frame, a_member, a_key, a_content, tagged, keys_onto, plug, before, behind, IsFrame, depth_beside, OfFront, OfKeyAt}
 use Rattle.cbor_judging.specs.Judged.{IsFinding, IsJudged, Never}
 use Rattle.cbor_head.specs.declared.width.Width.TheVariants.{Direct}
-use Rattle.cbor_head.proofs.Agree.{head_of, body, parts, later}
-use Rattle.cbor_head.proofs.OneFirst.{bounded, key_last}
+use Rattle.cbor_grammar.proofs.Agree.{head_of, body, parts, later}
+use Rattle.cbor_grammar.proofs.OneFirst.{bounded, key_last}
 use Rattle.cbor_judging.proofs.Frames.{spell_plug, spelled_plug, depth_plug, plug_split, plug_item, back_later, key_at_end}
 
 -- ---- one container

@@ -11,7 +11,7 @@ use Rattle.cbor_head.specs.Complaint.{rising, OfKey}
 use Rattle.cbor_head.specs.declared.order.KeyOrder.{KeyOrder}
 use Rattle.cbor_head.specs.declared.order.KeyOrder.TheVariants.{Bytewise, LengthFirst}
 use Rattle.cbor_head.specs.declared.reason.Reason.TheVariants as reasons
-use Rattle.cbor_head.proofs.ReadLaws.{length_spell}
+use Rattle.cbor_grammar.proofs.ReadLaws.{length_spell}
 use Rattle.cbor_judging.specs.Frame.{with_entries, keys_onto}
 use Rattle.cbor_judging.specs.Judged.{Never}
 use Rattle.cbor_judging.specs.LastKey.{last_key, IsLastKey}

@@ -11,8 +11,8 @@ use Rattle.cbor_head.specs.declared.major.Major.{Major}
 use Rattle.cbor_head.specs.declared.major.Major.TheVariants.{Bytes, Text, Array, Map}
 use Rattle.cbor_head.specs.declared.width.Width.{Width}
 use Rattle.cbor_head.specs.declared.width.Width.TheVariants.{Indefinite}
-use Rattle.cbor_head.proofs.Agree.{head_of, body, parts, later, payload_end}
-use Rattle.cbor_head.proofs.OneFirst.{last, count_last, payload_last}
+use Rattle.cbor_grammar.proofs.Agree.{head_of, body, parts, later, payload_end}
+use Rattle.cbor_grammar.proofs.OneFirst.{last, count_last, payload_last}
 use Rattle.cbor_judging.proofs.Judged.{zeros, zeros_count, zeros_spelled, zeros_flat, zero_pairs, pairs_count, pairs_spelled, pairs_flat}
 
 -- ---- heads

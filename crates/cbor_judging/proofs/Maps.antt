@@ -12,7 +12,7 @@ use Rattle.cbor_head.specs.declared.width.Width.TheVariants.{Indefinite}
 use Rattle.cbor_automaton.specs.Trace.{a_head}
 use Rattle.cbor_judging.specs.Place.{Container, indefinite_map, Place, at_item, close, expect, IsTaking}
 use Rattle.cbor_automaton.specs.Marks.{count_of}
-use Rattle.cbor_machine.specs.NextEvent.{ItemEventsView}
+use Rattle.cbor_standing.specs.NextEvent.{ItemEventsView}
 use Rattle.cbor_automaton.specs.declared.event.EventKind.TheVariants as kinds
 use Rattle.cbor_judging.specs.Frame.{keys_onto}
 use Rattle.cbor_judging.specs.Reading.{IsAt, Extends, IsBegun, ReadsItem}

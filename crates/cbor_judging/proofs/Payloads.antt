@@ -22,13 +22,13 @@ use Rattle.cbor_judging.specs.Reading.{frame_at, state_at}
 use Rattle.cbor_judging.proofs.Places.{place_of, place-back, payload-at, clear-at}
 use Rattle.std.specs.Prelude.{map}
 use Rattle.cbor_automaton.specs.Marks.{marks_of}
-use Rattle.cbor_automaton.specs.State.{state_of, is_in_payload}
-use Rattle.cbor_machine.specs.NextEvent as item_events
-use Rattle.cbor_machine.specs.NextEvent.{ItemEventsView, IsNextEvent, IsKept, call}
+use Rattle.cbor_steps.specs.State.{state_of, is_in_payload}
+use Rattle.cbor_standing.specs.NextEvent as item_events
+use Rattle.cbor_standing.specs.NextEvent.{ItemEventsView, IsNextEvent, IsKept, call}
 use Rattle.cbor_automaton.specs.Bytes.{IsEventBytes}
-use Rattle.cbor_automaton.specs.declared.frame.Frame as frames
-use Rattle.cbor_automaton.specs.declared.position.Position.{Position}
-use Rattle.cbor_automaton.specs.declared.position.Position.TheVariants as positions
+use Rattle.cbor_steps.specs.declared.frame.Frame as frames
+use Rattle.cbor_steps.specs.declared.position.Position.{Position}
+use Rattle.cbor_steps.specs.declared.position.Position.TheVariants as positions
 use Rattle.cbor_automaton.proofs.Forward.{payload-byte}
 use Rattle.cbor_automaton.specs.declared.event.Event.{Event}
 use Rattle.cbor_automaton.specs.declared.event.EventKind.{EventKind}

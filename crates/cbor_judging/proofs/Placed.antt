@@ -19,16 +19,16 @@ use Rattle.cbor_head.specs.Value.{AreBytes}
 use Rattle.cbor_judging.proofs.Payloads.{untell}
 use Rattle.cbor_automaton.specs.Bytes.{IsEventBytes}
 use Rattle.cbor_automaton.specs.Marks.{mark_of, marks_of, times}
-use Rattle.cbor_machine.specs.Machine.{IsComplete}
-use Rattle.cbor_machine.specs.MachineView.{MachineView}
-use Rattle.cbor_machine.specs.NextEvent.{Call, StandsBetween, IsNextEvent, IsDue}
+use Rattle.cbor_standing.specs.Machine.{IsComplete}
+use Rattle.cbor_standing.specs.MachineView.{MachineView}
+use Rattle.cbor_standing.specs.NextEvent.{Call, StandsBetween, IsNextEvent, IsDue}
 use Rattle.cbor_automaton.specs.declared.event.Event.{Event}
 use Rattle.cbor_automaton.specs.declared.event.EventKind.{EventKind}
 use Rattle.cbor_automaton.specs.declared.event.EventKind.TheVariants as kinds
-use Rattle.cbor_automaton.specs.declared.position.Position.{Position}
-use Rattle.cbor_automaton.specs.State.{state_of}
-use Rattle.cbor_automaton.proofs.Frames.{position-done}
-use Rattle.cbor_machine.proofs.NextEvents.{whole-clear, run-rest}
+use Rattle.cbor_steps.specs.declared.position.Position.{Position}
+use Rattle.cbor_steps.specs.State.{state_of}
+use Rattle.cbor_steps.proofs.Frames.{position-done}
+use Rattle.cbor_standing.proofs.NextEvents.{whole-clear, run-rest}
 use Rattle.cbor_automaton.proofs.Opens.{opens as opens-stack}
 use Rattle.cbor_automaton.proofs.Runs.{once-marks}
 use Rattle.cbor_judging.proofs.ByteLists.{bytes_back}

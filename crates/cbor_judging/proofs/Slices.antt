@@ -4,13 +4,13 @@ use Rattle.cbor_head.specs.Limits.{Bounds}
 use Rattle.cbor_head.specs.Complaint.{Rules}
 use Rattle.cbor_automaton.specs.Trace.{Mark}
 use Rattle.cbor_judging.specs.Place.{Container, at_item}
-use Rattle.cbor_machine.specs.NextEvent.{IsNextEvent, IsEnd}
+use Rattle.cbor_standing.specs.NextEvent.{IsNextEvent, IsEnd}
 use Rattle.cbor_slices.specs.SliceEvents.{event_of, slice_call, IsNextTold, IsRefusedTold}
 use Rattle.cbor_slices.specs.SliceView.{SliceEventsView, seen}
-use Rattle.cbor_automaton.specs.Token.{kind_of}
+use Rattle.cbor_steps.specs.Token.{kind_of}
 use Rattle.cbor_automaton.specs.declared.event.EventKind.TheVariants as kinds
-use Rattle.cbor_automaton.specs.declared.token.Token.{Token}
-use Rattle.cbor_automaton.specs.declared.token.Token.TheVariants as tokens
+use Rattle.cbor_steps.specs.declared.token.Token.{Token}
+use Rattle.cbor_steps.specs.declared.token.Token.TheVariants as tokens
 use Rattle.cbor_judging.specs.Reading.{IsNextHead, IsBegun}
 use Rattle.cbor_judging.proofs.Items.{begun-by}
 

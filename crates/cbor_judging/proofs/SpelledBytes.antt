@@ -11,8 +11,8 @@ use Rattle.cbor_head.specs.declared.major.Major.{Major}
 use Rattle.cbor_head.specs.declared.major.Major.TheVariants.{Unsigned, Negative, Bytes, Text, Array, Map, Tag, Simple}
 use Rattle.cbor_head.specs.declared.width.Width.{Width}
 use Rattle.cbor_head.specs.declared.width.Width.TheVariants.{Direct, One, Two, Four, Eight, Indefinite}
-use Rattle.cbor_head.proofs.Agree.{split_front}
-use Rattle.cbor_head.proofs.Parts.{holds_of}
+use Rattle.cbor_grammar.proofs.Agree.{split_front}
+use Rattle.cbor_grammar.proofs.Parts.{holds_of}
 use Rattle.cbor_judging.proofs.ByteLists.{bytes_join, bytes_front}
 use Rattle.cbor_automaton.proofs.Longest.{longest_exists}
 

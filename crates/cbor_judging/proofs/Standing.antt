@@ -1,20 +1,20 @@
 -- Between two events: how many containers are open, and that few bytes are taken.
 use Rattle.std.proofs.Common.{◌≡◌, ℕ, zero, suc, ◌^◌, ◌<◌, ◌≤◌, List, ◌∷◌, [], length, refl, sym, ap, ◌∙◌, arith}
 use Rattle.cbor_head.specs.Limits.{Bounds}
-use Rattle.cbor_machine.specs.NextEvent.{ItemEventsView}
+use Rattle.cbor_standing.specs.NextEvent.{ItemEventsView}
 use Rattle.cbor_judging.specs.Place.{Container, counted, indefinite_array, indefinite_map, Place, close, done, open_at}
 use Rattle.cbor_automaton.specs.Automaton as automaton
 use Rattle.cbor_automaton.specs.Automaton.{State, reached}
-use Rattle.cbor_machine.specs.Machine.{IsComplete}
-use Rattle.cbor_automaton.proofs.Frames.{position-done}
+use Rattle.cbor_standing.specs.Machine.{IsComplete}
+use Rattle.cbor_steps.proofs.Frames.{position-done}
 use Rattle.cbor_automaton.proofs.Opens.{opens as opens-stack}
 use Rattle.cbor_judging.specs.Reading.{state_at}
 use Rattle.cbor_judging.proofs.Places.{open-frames, one-place}
 use Rattle.cbor_judging.specs.Reading.{IsAt}
-use Rattle.cbor_automaton.specs.State.{state_of}
-use Rattle.cbor_automaton.specs.declared.frame.Frame as frames
-use Rattle.cbor_automaton.specs.declared.position.Position.{Position}
-use Rattle.cbor_automaton.specs.declared.position.Position.TheVariants as positions
+use Rattle.cbor_steps.specs.State.{state_of}
+use Rattle.cbor_steps.specs.declared.frame.Frame as frames
+use Rattle.cbor_steps.specs.declared.position.Position.{Position}
+use Rattle.cbor_steps.specs.declared.position.Position.TheVariants as positions
 
 -- so many containers are open as the automaton has frames
 pub open-is : (b : Bounds) (e : ItemEventsView) (t : List ℕ) (q : Place) → IsAt b e t q → e.machine.open_count ≡ length (open_at q)

@@ -18,25 +18,25 @@ use Rattle.cbor_judging.specs.Place.{Place, at_item, in_payload, in_chunks, done
 use Rattle.cbor_automaton.specs.Automaton as automaton
 use Rattle.cbor_automaton.specs.Automaton.{State, start, run, reached}
 use Rattle.cbor_automaton.specs.Marks.{mark_of, marks_of, times}
-use Rattle.cbor_automaton.specs.State.{state_of, is_in_payload}
-use Rattle.cbor_machine.specs.MachineView.{MachineView}
-use Rattle.cbor_machine.specs.Machine.{KeepsLimits, StandsFor, before}
-use Rattle.cbor_machine.specs.NextEvent as item_events
-use Rattle.cbor_machine.specs.NextEvent.{ItemEventsView, StandsBetween, IsNextEvent, IsCut, IsTooLong, HasFormError, IsNext, call}
+use Rattle.cbor_steps.specs.State.{state_of, is_in_payload}
+use Rattle.cbor_standing.specs.MachineView.{MachineView}
+use Rattle.cbor_standing.specs.Machine.{KeepsLimits, StandsFor, before}
+use Rattle.cbor_standing.specs.NextEvent as item_events
+use Rattle.cbor_standing.specs.NextEvent.{ItemEventsView, StandsBetween, IsNextEvent, IsCut, IsTooLong, HasFormError, IsNext, call}
 use Rattle.cbor_automaton.specs.declared.event.Event.{Event}
 use Rattle.cbor_automaton.specs.declared.event.EventKind.{EventKind}
 use Rattle.cbor_automaton.specs.declared.event.EventKind.TheVariants as kinds
-use Rattle.cbor_automaton.specs.declared.frame.Frame as frames
-use Rattle.cbor_automaton.specs.declared.position.Position.{Position}
-use Rattle.cbor_automaton.specs.declared.position.Position.TheVariants as positions
-use Rattle.cbor_automaton.proofs.Frames.{position-done}
+use Rattle.cbor_steps.specs.declared.frame.Frame as frames
+use Rattle.cbor_steps.specs.declared.position.Position.{Position}
+use Rattle.cbor_steps.specs.declared.position.Position.TheVariants as positions
+use Rattle.cbor_steps.proofs.Frames.{position-done}
 use Rattle.cbor_automaton.proofs.Runs.{once-marks}
 use Rattle.cbor_automaton.proofs.Taking.{IsClear, mark-taken}
 use Rattle.cbor_judging.specs.Reading.{state_at}
 use Rattle.cbor_judging.proofs.Places.{place_of, state-back, one-place, clear-at, taking-at}
 use Rattle.cbor_judging.proofs.ByteLists.{bytes_back}
 use Rattle.cbor_judging.specs.Reading.{IsAt, IsReached, OfMark, IsHeadDue, IsNextHead, IsCutHead, StopsHead, IsFault}
-use Rattle.cbor_machine.proofs.NextEvents.{whole-clear, run-rest}
+use Rattle.cbor_standing.proofs.NextEvents.{whole-clear, run-rest}
 
 -- what has become of the limits
 pub record SameLimits (old new : MachineView) : Type 0 where

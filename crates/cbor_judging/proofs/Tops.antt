@@ -12,10 +12,10 @@ use Rattle.cbor_head.specs.Verdict.{refusal, refused, IsFormError, IsVerdict}
 use Rattle.cbor_head.specs.declared.reason.Reason.{Reason}
 use Rattle.cbor_head.specs.declared.reason.Reason.TheVariants.{Truncated, Read, Memory}
 use Rattle.cbor_head.specs.declared.reason.Refusal.{Refusal}
-use Rattle.cbor_head.proofs.Agree.{split_front}
-use Rattle.cbor_head.proofs.Beginnings.{item_decides}
-use Rattle.cbor_machine.proofs.Form.{no-complaint}
-use Rattle.cbor_machine.specs.NextEvent.{ItemEventsView}
+use Rattle.cbor_grammar.proofs.Agree.{split_front}
+use Rattle.cbor_grammar.proofs.Beginnings.{item_decides}
+use Rattle.cbor_standing.proofs.Form.{no-complaint}
+use Rattle.cbor_standing.specs.NextEvent.{ItemEventsView}
 use Rattle.cbor_judging.specs.Judged.{IsJudged}
 use Rattle.cbor_judging.specs.Readers.{IsReadAs, IsUnread, of_verdict, of_reader, of_memory, Loses}
 use Rattle.cbor_judging.specs.Reading.{IsReached, IsMemory, IsCause, Extends, ReadsItem, IsUndecided, StopsItem}

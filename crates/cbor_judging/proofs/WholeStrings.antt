@@ -22,11 +22,11 @@ use Rattle.cbor_automaton.specs.Marks.{mark_of}
 use Rattle.cbor_automaton.specs.declared.event.Event.{Event}
 use Rattle.cbor_automaton.specs.declared.event.EventKind.{EventKind}
 use Rattle.cbor_automaton.specs.declared.event.EventKind.TheVariants as kinds
-use Rattle.cbor_head.proofs.OneFirst.{count_last}
-use Rattle.cbor_head.proofs.Agree.{string_later}
+use Rattle.cbor_grammar.proofs.OneFirst.{count_last}
+use Rattle.cbor_grammar.proofs.Agree.{string_later}
 use Rattle.std.proofs.KnownBytes.{Consumes-trans}
 use Rattle.cbor_judging.specs.Place.{Container, Place, at_item, in_chunks, close, payload, IsTaking}
-use Rattle.cbor_machine.specs.NextEvent.{ItemEventsView}
+use Rattle.cbor_standing.specs.NextEvent.{ItemEventsView}
 use Rattle.cbor_judging.specs.Judged.{IsJudged, Never}
 use Rattle.cbor_judging.specs.Reading.{IsAt, IsFormRefusal, IsNoText, IsNextHead, Extends, IsBegun, OfMark, ReadsItem, StopsItem, HasCause, StopsHead, ReadsPayload, StopsPayload, string_major, string_kind, string_value}
 use Rattle.cbor_judging.proofs.Items.{definite, proper-definite, is-definite, head-count, extends-none, extends-on}

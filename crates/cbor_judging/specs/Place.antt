@@ -8,7 +8,7 @@ use Rattle.cbor_head.specs.declared.width.Width.{Width}
 use Rattle.cbor_head.specs.declared.width.Width.TheVariants.{Indefinite}
 use Rattle.cbor_automaton.specs.Trace.{Mark, a_head, a_chunk, a_byte, a_break}
 use Rattle.cbor_automaton.specs.Marks.{mark_of, marks_of}
-use Rattle.cbor_machine.specs.NextEvent.{Call, IsDue}
+use Rattle.cbor_standing.specs.NextEvent.{Call, IsDue}
 use Rattle.cbor_automaton.specs.declared.event.Event.{Event}
 
 -- an open container

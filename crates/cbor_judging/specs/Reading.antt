@@ -23,8 +23,8 @@ use Rattle.cbor_judging.specs.Place.{Container, counted, indefinite_array, indef
 use Rattle.cbor_automaton.specs.Automaton as automaton
 use Rattle.cbor_automaton.specs.Automaton.{State, run, reached}
 use Rattle.cbor_automaton.specs.Marks.{mark_of, IsProper}
-use Rattle.cbor_automaton.specs.State.{state_of}
-use Rattle.cbor_machine.specs.NextEvent.{ItemEventsView, StandsBetween}
+use Rattle.cbor_steps.specs.State.{state_of}
+use Rattle.cbor_standing.specs.NextEvent.{ItemEventsView, StandsBetween}
 use Rattle.cbor_automaton.specs.declared.event.Event.{Event}
 use Rattle.cbor_automaton.specs.declared.event.EventKind.{EventKind}
 use Rattle.cbor_automaton.specs.declared.event.EventKind.TheVariants as kinds

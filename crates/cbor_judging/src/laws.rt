@@ -2,9 +2,9 @@
 
 ghost use Rattle.std.specs.Prelude.{◌≡◌, ◌↔◌, List, [], ℕ, length};
 ghost use Rattle.cbor_automaton.specs.Trace.{Mark};
-ghost use Rattle.cbor_machine.specs.NextEvent.{Call, StandsBetween, IsNextEvent};
-ghost use Rattle.cbor_machine.specs.Machine.{IsComplete};
-ghost use Rattle.cbor_machine.specs.MachineView.{MachineView};
+ghost use Rattle.cbor_standing.specs.NextEvent.{Call, StandsBetween, IsNextEvent};
+ghost use Rattle.cbor_standing.specs.Machine.{IsComplete};
+ghost use Rattle.cbor_standing.specs.MachineView.{MachineView};
 ghost use Rattle.cbor_automaton.specs.declared.event.Event.{Event};
 ghost use Rattle.cbor_judging.specs.Place.{Place, at_item, done, open_at, IsPlaced, LeadsOn};
 

@@ -1,7 +1,2 @@
 pub mod inner
-pub mod Calls
-pub mod Machine
-pub mod MachineView
-pub mod NextEvent
 pub mod Saved
-pub mod Steps

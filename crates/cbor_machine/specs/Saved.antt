@@ -1,6 +1,6 @@
 -- The machine that the numbers of a saved one hold.
 use Rattle.std.specs.Prelude.{ℕ, ◌≡◌, List, replicate}
-use Rattle.cbor_machine.specs.MachineView.{MachineView}
+use Rattle.cbor_standing.specs.MachineView.{MachineView}
 use Rattle.cbor_machine.specs.inner.Saved.{IsHeld}
 use Rattle.cbor_machine.specs.declared.machine.saved.SavedFrame.{SavedFrame}
 use Rattle.cbor_machine.specs.declared.machine.saved.SavedMachine.{SavedMachine}

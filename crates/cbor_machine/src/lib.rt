@@ -18,7 +18,6 @@
 #![tactic(auto)]
 
 mod machine;
-mod step;
 
+pub use cbor_standing::{Out, Step};
 pub use machine::{Machine, SavedFrame, SavedMachine, below_256, take_part};
-pub use step::{Out, Step};

@@ -6,21 +6,22 @@ ghost use Rattle.cbor_head.specs.Value.{AreBytes};
 ghost use Rattle.cbor_head.specs.Verdict.{refusal};
 ghost use Rattle.cbor_automaton.specs.Trace.{Mark};
 ghost use Rattle.cbor_automaton.specs.Reasons.{IsMachineReason};
-ghost use Rattle.cbor_machine.specs.MachineView.{MachineView};
-ghost use Rattle.cbor_machine.specs.Machine.{StandsFor, KeepsLimits, Stays, IsAnswer, IsComplete};
-ghost use Rattle.cbor_machine.specs.Machine.{IsIdle, IsEvent, IsMore, IsDone, IfRefused, piece_of};
-ghost use Rattle.cbor_machine.specs.Machine.{IsGiven};
+ghost use Rattle.cbor_standing.specs.MachineView.{MachineView};
+ghost use Rattle.cbor_standing.specs.Machine.{StandsFor, KeepsLimits, Stays, IsAnswer, IsComplete};
+ghost use Rattle.cbor_standing.specs.Machine.{IsIdle, IsEvent, IsMore, IsDone, IfRefused, piece_of};
+ghost use Rattle.cbor_standing.specs.Machine.{IsGiven};
 ghost use Rattle.cbor_automaton.specs.Marks.{IsProper, times};
-ghost use Rattle.cbor_machine.specs.Machine.{wanted};
-ghost use Rattle.cbor_automaton.specs.State.{IsFit, IsSettled, wanted_at, is_in_payload};
-ghost use Rattle.cbor_automaton.specs.State.{is_done};
-ghost use Rattle.cbor_machine.specs.Steps.{IsStep};
+ghost use Rattle.cbor_standing.specs.Machine.{wanted};
+ghost use Rattle.cbor_steps.specs.State.{IsFit, IsSettled, wanted_at, is_in_payload};
+ghost use Rattle.cbor_steps.specs.State.{is_done};
+ghost use Rattle.cbor_standing.specs.Steps.{IsStep};
 
 mod saved;
 
-use crate::step::{Out, Step};
-use cbor_automaton::{Event, Nest, Position, Walked, long_at, walk, walk_whole};
+use cbor_automaton::Event;
 use cbor_head::{Limits, Reason, Refusal};
+use cbor_standing::{Out, Step};
+use cbor_steps::{Nest, Position, Walked, long_at, walk, walk_whole};
 pub use saved::{SavedFrame, SavedMachine};
 use std::marker::Model;
 
@@ -136,7 +137,7 @@ impl Machine {
     /// Takes the head, the argument or the part of a payload that stands whole in the input, which
     /// is no longer than what is wanted. None, and nothing is taken, where it is not there.
     #[inline(always)]
-    #[tactic(auto, using(crate::proofs::Standing::settled_fit))]
+    #[tactic(auto, using(crate::proofs::Settled::settled_fit))]
     pub fn take_whole(&mut self, input: &[u8]) -> Option<Event>
         requires some { 0 < length input.now }
         requires wanted { length input.now ≤ wanted self.old }
@@ -213,7 +214,7 @@ impl Machine {
 
     // A step, and what it does with the inner state.
     #[inline(always)]
-    #[tactic(auto, using(crate::proofs::Standing::settled_fit))]
+    #[tactic(auto, using(crate::proofs::Settled::settled_fit))]
     pub(crate) fn take_part(&mut self, input: &[u8]) -> Step
         ensures used { result.used ≤ length input.now }
         ensures taken { self.new.taken ≡ self.old.taken + result.used }

@@ -16,8 +16,8 @@ use Rattle.cbor_head.specs.declared.order.KeyOrder.TheVariants.{Bytewise, Length
 use Rattle.cbor_head.specs.declared.reason.Reason.TheVariants.{Truncated, TooLong, InvalidText}
 use Rattle.cbor_head.specs.declared.reason.Refusal.{Refusal}
 use Rattle.cbor_head.specs.declared.width.Width.TheVariants.{Direct, One}
-use Rattle.cbor_head.proofs.Examples.{chunk, pairs}
-use Rattle.cbor_head.proofs.OneVerdict.{one_verdict}
+use Rattle.cbor_grammar.proofs.Examples.{chunk, pairs}
+use Rattle.cbor_grammar.proofs.OneVerdict.{one_verdict}
 use Rattle.cbor_reader.specs.Canonicalise.{IsCanonicalOf}
 use Rattle.cbor_judging.specs.Readers.{BeginsWithCanonical}
 use Rattle.cbor_reader.specs.Size.{size}

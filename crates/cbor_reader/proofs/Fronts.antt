@@ -4,7 +4,7 @@ use Rattle.cbor_head.specs.Limits.{Bounds, AreBounds}
 use Rattle.cbor_head.specs.Value.{Value}
 use Rattle.cbor_head.specs.Spelling.{Spelling, spell, value_of, depth, IsSpelled}
 use Rattle.cbor_head.specs.Complaint.{plain, Complains}
-use Rattle.cbor_machine.specs.NextEvent.{ItemEventsView}
+use Rattle.cbor_standing.specs.NextEvent.{ItemEventsView}
 use Rattle.cbor_reader.specs.Size.{size}
 use Rattle.cbor_judging.specs.Readers.{IsReadAs}
 use Rattle.cbor_reader.specs.inner.Front.{IsFrontRead, HasCanonicalBytes}

@@ -12,8 +12,8 @@ use Rattle.cbor_head.specs.Verdict.{accepted, IsVerdict}
 use Rattle.cbor_head.specs.declared.order.KeyOrder.{KeyOrder}
 use Rattle.cbor_head.specs.declared.reason.Reason.TheVariants.{Memory}
 use Rattle.cbor_head.specs.declared.reason.Refusal.{Refusal}
-use Rattle.cbor_head.proofs.Accepted.{accepts_exactly}
-use Rattle.cbor_head.proofs.ReadLaws.{one_list}
+use Rattle.cbor_grammar.proofs.Accepted.{accepts_exactly}
+use Rattle.cbor_grammar.proofs.ReadLaws.{one_list}
 use Rattle.cbor_canonical.proofs.Depth.{depth-value_of}
 use Rattle.cbor_canonical.proofs.Keys.{same_exactly}
 use Rattle.cbor_canonical.proofs.Sound.{IsSound as IsSoundValue, sound}

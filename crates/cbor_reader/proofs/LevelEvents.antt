@@ -13,20 +13,20 @@ use Rattle.cbor_head.specs.declared.major.Major.TheVariants as majors
 use Rattle.cbor_head.specs.declared.order.KeyOrder.{KeyOrder}
 use Rattle.cbor_head.specs.declared.width.Width.{Width}
 use Rattle.cbor_head.specs.declared.width.Width.TheVariants.{Indefinite}
-use Rattle.cbor_head.proofs.Accepted.{accepts_exactly}
-use Rattle.cbor_head.proofs.Counts.{holds_fits}
-use Rattle.cbor_head.proofs.ReadLaws.{length_spell}
+use Rattle.cbor_grammar.proofs.Accepted.{accepts_exactly}
+use Rattle.cbor_grammar.proofs.Counts.{holds_fits}
+use Rattle.cbor_grammar.proofs.ReadLaws.{length_spell}
 use Rattle.cbor_automaton.specs.Trace.{a_head}
-use Rattle.cbor_machine.specs.Machine.{KeepsLimits}
+use Rattle.cbor_standing.specs.Machine.{KeepsLimits}
 use Rattle.cbor_automaton.specs.Marks.{mark_of, IsProper}
-use Rattle.cbor_machine.specs.NextEvent.{ItemEventsView, IsNextEvent, IsEnd}
+use Rattle.cbor_standing.specs.NextEvent.{ItemEventsView, IsNextEvent, IsEnd}
 use Rattle.cbor_slices.specs.SliceEvents.{event_of, slice_call, IsNextTold, IsRefusedTold}
-use Rattle.cbor_automaton.specs.Token.{kind_of}
+use Rattle.cbor_steps.specs.Token.{kind_of}
 use Rattle.cbor_slices.specs.SliceView.{SliceEventsView, seen}
 use Rattle.cbor_automaton.specs.declared.event.Event.{Event}
 use Rattle.cbor_automaton.specs.declared.event.EventKind.TheVariants as kinds
-use Rattle.cbor_automaton.specs.declared.token.Token.{Token}
-use Rattle.cbor_automaton.specs.declared.token.Token.TheVariants as tokens
+use Rattle.cbor_steps.specs.declared.token.Token.{Token}
+use Rattle.cbor_steps.specs.declared.token.Token.TheVariants as tokens
 use Rattle.cbor_judging.specs.Place.{Container, Place, at_item, close, expect, Ends, Follows, IsTaking, open_at}
 use Rattle.cbor_builder.specs.Built.{Built, built, TakesPart, IsInContainer, HasDistinctKeysSoFar}
 use Rattle.cbor_builder.specs.Parts.{Open, an_array, plain as a_plain, a_map as an_open_map, give, opened, close as close_open}

@@ -9,14 +9,14 @@ use Rattle.cbor_head.specs.Limits.{Bounds}
 use Rattle.cbor_head.specs.declared.major.Major.{Major}
 use Rattle.cbor_head.specs.declared.order.KeyOrder.{KeyOrder}
 use Rattle.cbor_head.specs.declared.width.Width.{Width}
-use Rattle.cbor_machine.specs.Machine.{KeepsLimits}
-use Rattle.cbor_machine.specs.NextEvent.{StandsBetween}
+use Rattle.cbor_standing.specs.Machine.{KeepsLimits}
+use Rattle.cbor_standing.specs.NextEvent.{StandsBetween}
 use Rattle.cbor_slices.specs.SliceEvents.{event_of, IsNextTold, IsRefusedTold}
 use Rattle.cbor_slices.specs.SliceView.{SliceEventsView, seen}
-use Rattle.cbor_automaton.specs.Token.{kind_of}
+use Rattle.cbor_steps.specs.Token.{kind_of}
 use Rattle.cbor_automaton.specs.declared.event.EventKind.TheVariants as kinds
-use Rattle.cbor_automaton.specs.declared.token.Token.{Token}
-use Rattle.cbor_automaton.specs.declared.token.Token.TheVariants as tokens
+use Rattle.cbor_steps.specs.declared.token.Token.{Token}
+use Rattle.cbor_steps.specs.declared.token.Token.TheVariants as tokens
 use Rattle.cbor_judging.specs.Place.{Container, close, close_string, in_chunks, payload}
 use Rattle.cbor_builder.specs.Built.{Built, built, TakesPart, IsInString}
 use Rattle.cbor_builder.specs.Parts.{Open, a_string, give, opened, extended, close as close_open}

@@ -3,18 +3,18 @@ use Rattle.std.proofs.Common.{◌≡◌, ℕ, ◌+◌, ◌-◌, ◌<◌, Bool, t
 use Rattle.std.specs.Prelude.{None, IsUtf8}
 use Rattle.std.proofs.lemmas.List.{length-append}
 use Rattle.std.proofs.Math.Seq.{drop-append_seam, take-append_seam}
-use Rattle.cbor_machine.proofs.Feeding.{rest_from, rest-is}
+use Rattle.cbor_standing.proofs.Feeding.{rest_from, rest-is}
 use Rattle.cbor_head.specs.Complaint.{plain}
 use Rattle.cbor_head.specs.Head.{shortest_head}
 use Rattle.cbor_head.specs.Limits.{Bounds}
 use Rattle.cbor_head.specs.declared.major.Major.TheVariants as majors
 use Rattle.cbor_head.specs.declared.order.KeyOrder.{KeyOrder}
-use Rattle.cbor_machine.specs.Machine.{KeepsLimits}
+use Rattle.cbor_standing.specs.Machine.{KeepsLimits}
 use Rattle.cbor_slices.specs.SliceEvents.{IsStringTold, IsWholeTold, IsRefusedTold}
 use Rattle.cbor_slices.specs.SliceView.{SliceEventsView, seen}
-use Rattle.cbor_automaton.specs.Token.{IsEventToken}
-use Rattle.cbor_automaton.specs.declared.token.Token.{Token}
-use Rattle.cbor_automaton.specs.declared.token.Token.TheVariants.{Bytes, Text, Unsigned, Negative, Array, Map, Tag, Simple, Piece, Chunk, IndefiniteBytes, IndefiniteText, IndefiniteArray, IndefiniteMap, Break, End, Refused}
+use Rattle.cbor_steps.specs.Token.{IsEventToken}
+use Rattle.cbor_steps.specs.declared.token.Token.{Token}
+use Rattle.cbor_steps.specs.declared.token.Token.TheVariants.{Bytes, Text, Unsigned, Negative, Array, Map, Tag, Simple, Piece, Chunk, IndefiniteBytes, IndefiniteText, IndefiniteArray, IndefiniteMap, Break, End, Refused}
 use Rattle.cbor_judging.specs.Place.{Container, Place}
 use Rattle.cbor_builder.specs.Built.{Built, built}
 use Rattle.cbor_builder.specs.Parts.{give}

@@ -10,7 +10,7 @@ use Rattle.cbor_head.specs.declared.major.Major.TheVariants as majors
 use Rattle.cbor_head.specs.declared.order.KeyOrder.{KeyOrder}
 use Rattle.cbor_head.specs.declared.width.Width.{Width}
 use Rattle.cbor_head.specs.declared.width.Width.TheVariants.{Indefinite}
-use Rattle.cbor_head.proofs.Counts.{values_count-of}
+use Rattle.cbor_grammar.proofs.Counts.{values_count-of}
 use Rattle.cbor_judging.specs.Place.{Place, counted, close}
 use Rattle.cbor_canonical.specs.Pairs.{HasDistinctBytes}
 use Rattle.cbor_builder.specs.Parts.{Open, an_array, plain as a_plain, a_map as an_open_map, pair, give, close as close_open, closed, HasNoRepeats}

@@ -8,7 +8,7 @@ use Rattle.cbor_head.specs.Verdict.{accepted, refused, refusal, IsVerdict}
 use Rattle.cbor_head.specs.declared.order.KeyOrder.{KeyOrder}
 use Rattle.cbor_head.specs.declared.reason.Reason.TheVariants.{Trailing, Memory}
 use Rattle.cbor_head.specs.declared.reason.Refusal.{Refusal}
-use Rattle.cbor_head.proofs.OneVerdict.{one_verdict}
+use Rattle.cbor_grammar.proofs.OneVerdict.{one_verdict}
 use Rattle.cbor_reader.specs.Canonicalise.{IsCanonicalOf, IsRefusal, of_verdict, trailing, canonical_too_long, of_memory}
 
 pub one_item : (limits : Bounds) (input : List ℕ) (s t : Spelling) → IsVerdict limits plain input (accepted s) → IsVerdict limits plain input (accepted t) → s ≡ t

@@ -7,7 +7,7 @@ use Rattle.cbor_head.specs.Canonical.{canonical}
 use Rattle.cbor_head.specs.Complaint.{plain, strict}
 use Rattle.cbor_head.specs.Verdict.{accepted, IsVerdict}
 use Rattle.cbor_head.specs.declared.order.KeyOrder.{KeyOrder}
-use Rattle.cbor_head.proofs.Accepted.{accepts_exactly}
+use Rattle.cbor_grammar.proofs.Accepted.{accepts_exactly}
 use Rattle.cbor_reader.specs.Canonicalise.{IsCanonicalOf}
 use Rattle.cbor_reader.specs.Headline.{IsValidItem}
 use Rattle.cbor_judging.specs.Readers.{BeginsWithCanonical}

@@ -19,9 +19,9 @@ use Rattle.cbor_head.specs.declared.reason.Reason.TheVariants.{Memory, RepeatedK
 use Rattle.cbor_head.specs.declared.reason.Refusal.{Refusal}
 use Rattle.cbor_head.specs.declared.width.Width.{Width}
 use Rattle.cbor_head.specs.declared.width.Width.TheVariants.{Direct, One, Two, Four, Eight, Indefinite}
-use Rattle.cbor_head.proofs.Counts.{holds_fits}
-use Rattle.cbor_head.proofs.ReadLaws.{length_spell}
-use Rattle.cbor_machine.specs.NextEvent.{ItemEventsView}
+use Rattle.cbor_grammar.proofs.Counts.{holds_fits}
+use Rattle.cbor_grammar.proofs.ReadLaws.{length_spell}
+use Rattle.cbor_standing.specs.NextEvent.{ItemEventsView}
 use Rattle.cbor_automaton.specs.Marks.{mark_of}
 use Rattle.cbor_automaton.specs.Trace.{Mark, a_head, a_chunk, a_byte, a_break}
 use Rattle.cbor_automaton.specs.declared.event.Event.{Event}

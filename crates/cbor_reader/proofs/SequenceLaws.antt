@@ -11,8 +11,8 @@ use Rattle.cbor_head.specs.Verdict.{accepted, refused, refusal, IsVerdict}
 use Rattle.cbor_head.specs.declared.order.KeyOrder.{KeyOrder}
 use Rattle.cbor_head.specs.declared.reason.Reason.TheVariants.{Read, Memory, Truncated, TooLong}
 use Rattle.cbor_head.specs.declared.reason.Refusal.{Refusal}
-use Rattle.cbor_head.proofs.OneVerdict.{one_verdict}
-use Rattle.cbor_head.proofs.ReadLaws.{length_spell, unique}
+use Rattle.cbor_grammar.proofs.OneVerdict.{one_verdict}
+use Rattle.cbor_grammar.proofs.ReadLaws.{length_spell, unique}
 use Rattle.cbor_reader.specs.Headline.{IsValidItem}
 use Rattle.cbor_judging.specs.Readers.{BeginsWithCanonical, IsUnread, of_verdict, of_reader, of_memory}
 use Rattle.cbor_reader.specs.Sequence.{sequence_bytes, IsAccepted, StartsWithItems, IsLongestSequence, EndsBefore, IsAtEnd, IsRefused, Given, given_by, items_of, AreGivenBy, HasGiven}

@@ -11,10 +11,10 @@ use Rattle.cbor_head.specs.Limits.{Bounds}
 use Rattle.cbor_head.specs.Verdict.{accepted, refused, refusal, IsFormError, IsVerdict}
 use Rattle.cbor_head.specs.declared.reason.Reason.TheVariants.{Read, Memory, Truncated, TooLong}
 use Rattle.cbor_head.specs.declared.reason.Refusal.{Refusal}
-use Rattle.cbor_head.proofs.Accepted.{accepts_exactly}
-use Rattle.cbor_head.proofs.OneFirst.{after_head}
-use Rattle.cbor_head.proofs.OneVerdict.{one_verdict}
-use Rattle.cbor_head.proofs.ReadLaws.{length_spell}
+use Rattle.cbor_grammar.proofs.Accepted.{accepts_exactly}
+use Rattle.cbor_grammar.proofs.OneFirst.{after_head}
+use Rattle.cbor_grammar.proofs.OneVerdict.{one_verdict}
+use Rattle.cbor_grammar.proofs.ReadLaws.{length_spell}
 use Rattle.cbor_judging.specs.Readers.{IsRead, IsReadAs, IsUnread, of_verdict, of_reader, of_memory, Loses}
 use Rattle.cbor_reader.specs.Sequence.{sequence_bytes, IsAccepted, IfRefused, EndsBefore, IsAtEnd, IsRefused, Given, given_by, items_of, HasGiven, GivesNext}
 use Rattle.cbor_judging.specs.Refusals.{IsReaderReason}

@@ -7,7 +7,7 @@ use Rattle.cbor_head.specs.declared.major.Major.{Major}
 use Rattle.cbor_head.specs.declared.major.Major.TheVariants.{Bytes, Text, Array, Map, Tag}
 use Rattle.cbor_head.specs.declared.width.Width.{Width}
 use Rattle.cbor_head.specs.declared.width.Width.TheVariants.{Indefinite}
-use Rattle.cbor_head.proofs.ReadLaws.{length_head, length_spell}
+use Rattle.cbor_grammar.proofs.ReadLaws.{length_head, length_spell}
 use Rattle.cbor_reader.specs.Size.{size, size_all, size_entries}
 use Rattle.cbor_reader.proofs.Valid.{joined_bounded}
 

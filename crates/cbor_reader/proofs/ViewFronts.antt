@@ -8,7 +8,7 @@ use Rattle.cbor_head.specs.Value.{Value, IsInRange, IsValid, depth}
 use Rattle.cbor_head.specs.Verdict.{refusal, IsWithout}
 use Rattle.cbor_head.specs.declared.reason.Reason.TheVariants.{Memory}
 use Rattle.cbor_head.specs.declared.reason.Refusal.{Refusal}
-use Rattle.cbor_head.proofs.Accepted.{accepts_exactly}
+use Rattle.cbor_grammar.proofs.Accepted.{accepts_exactly}
 use Rattle.cbor_judging.specs.Readers.{IsRead, IsReadAs, IsUnread, of_memory}
 use Rattle.cbor_judging.proofs.FreeBefore.{front-free}
 use Rattle.cbor_view.specs.Front.{IsSound, BeginsWithItem}

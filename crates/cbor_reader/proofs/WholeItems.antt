@@ -24,7 +24,7 @@ use Rattle.cbor_reader.specs.inner.PlainFront.{IsEncodedFront}
 use Rattle.cbor_judging.proofs.Accepted.{item_is_whole}
 use Rattle.cbor_judging.proofs.FreeBefore.{truncated-free}
 use Rattle.cbor_reader.proofs.Headline.{valid_item, valid_item_accepted, answers_exactly}
-use Rattle.cbor_head.proofs.ReadLaws.{one_list}
+use Rattle.cbor_grammar.proofs.ReadLaws.{one_list}
 use Rattle.cbor_reader.proofs.OneAnswer.{one_item, no_both, one_refusal}
 use Rattle.cbor_judging.proofs.Reasons.{never-read}
 

@@ -6,8 +6,8 @@ ghost use Rattle.cbor_head.specs.Head.{shortest_head, IsSimple};
 ghost use Rattle.cbor_head.specs.Limits.{Bounds};
 ghost use Rattle.cbor_head.specs.declared.major.Major.TheVariants.{Simple};
 ghost use Rattle.cbor_head.specs.declared.order.KeyOrder.{KeyOrder as Order};
-ghost use Rattle.cbor_machine.specs.NextEvent.{StandsBetween};
-ghost use Rattle.cbor_machine.specs.Machine.{KeepsLimits};
+ghost use Rattle.cbor_standing.specs.NextEvent.{StandsBetween};
+ghost use Rattle.cbor_standing.specs.Machine.{KeepsLimits};
 ghost use Rattle.cbor_slices.specs.SliceEvents.{IsNextTold, IsRefusedTold};
 ghost use Rattle.cbor_slices.specs.SliceView.{SliceEventsView, seen};
 ghost use Rattle.cbor_automaton.specs.Trace.{Mark};
@@ -24,10 +24,10 @@ ghost use Rattle.cbor_reader.specs.inner.Levels.{IsEvent, HasEvent, IsFed, Build
 ghost use Rattle.cbor_reader.specs.inner.Levels.{TakesContent, IsBuiltFront, IsBuiltOn};
 ghost use Rattle.cbor_reader.specs.inner.Levels.{HasWhole, IsWhole};
 
-use cbor_automaton::Token;
 use cbor_builder::CanonBuilder;
 use cbor_head::{KeyOrder, Limits, Major};
 use cbor_slices::SliceEvents;
+use cbor_steps::Token;
 use cbor_text::is_text_front;
 use std::alloc::{AllocError, Global};
 

@@ -14,38 +14,38 @@ use Rattle.cbor_head.specs.declared.reason.Reason.TheVariants.{Truncated, TooLon
 use Rattle.cbor_head.specs.declared.reason.Refusal.{Refusal}
 use Rattle.cbor_automaton.specs.Trace.{Mark}
 use Rattle.cbor_automaton.specs.Automaton.{State, start, run, reached}
-use Rattle.cbor_machine.specs.inner.Machine.{IsShown}
-use Rattle.cbor_automaton.specs.State.{state_of, wanted_at, is_in_payload, is_done, IsSettled, IsFit}
-use Rattle.cbor_automaton.specs.Walk.{IsWalked, IsWalkedProper}
-use Rattle.cbor_machine.specs.MachineView.{MachineView}
-use Rattle.cbor_machine.specs.Steps.{IsStep}
-use Rattle.cbor_machine.specs.Machine.{StandsFor, IsComplete, IsGiven, IsRefused}
-use Rattle.cbor_machine.specs.Calls.{HasRead}
+use Rattle.cbor_standing.specs.inner.Machine.{IsShown}
+use Rattle.cbor_steps.specs.State.{state_of, wanted_at, is_in_payload, is_done, IsSettled, IsFit}
+use Rattle.cbor_steps.specs.Walk.{IsWalked, IsWalkedProper}
+use Rattle.cbor_standing.specs.MachineView.{MachineView}
+use Rattle.cbor_standing.specs.Steps.{IsStep}
+use Rattle.cbor_standing.specs.Machine.{StandsFor, IsComplete, IsGiven, IsRefused}
+use Rattle.cbor_standing.specs.Calls.{HasRead}
 use Rattle.cbor_automaton.specs.Pieces.{piece_by}
-use Rattle.cbor_machine.specs.NextEvent.{StandsBetween, machine_call, IsDue, IsNextEvent, IsCut, IsTooLong, HasFormError}
+use Rattle.cbor_standing.specs.NextEvent.{StandsBetween, machine_call, IsDue, IsNextEvent, IsCut, IsTooLong, HasFormError}
 use Rattle.cbor_slices.specs.SliceView.{SliceEventsView}
 use Rattle.cbor_slices.specs.SliceEvents.{event_of, slice_call, NextTold, IsNextTold, IsStringTold, IsWholeTold, IsWholePiece, IsCutShort}
 use Rattle.cbor_slices.specs.inner.Slices.{IsSpent}
-use Rattle.cbor_automaton.specs.Whole.{IsEventRun}
-use Rattle.cbor_automaton.specs.Token.{IsEventToken, IsStringToken, kind_of}
-use Rattle.cbor_machine.specs.declared.step.Out.TheVariants as outs
-use Rattle.cbor_automaton.specs.declared.frame.Frame.{Frame}
-use Rattle.cbor_automaton.specs.declared.opening.Numbered.{Numbered}
-use Rattle.cbor_automaton.specs.declared.position.Position.{Position}
-use Rattle.cbor_automaton.specs.declared.position.Position.TheVariants as positions
-use Rattle.cbor_automaton.specs.declared.position.Position.TheVariants.{Done}
+use Rattle.cbor_steps.specs.Whole.{IsEventRun}
+use Rattle.cbor_steps.specs.Token.{IsEventToken, IsStringToken, kind_of}
+use Rattle.cbor_standing.specs.declared.step.Out.TheVariants as outs
+use Rattle.cbor_steps.specs.declared.frame.Frame.{Frame}
+use Rattle.cbor_steps.specs.declared.opening.Numbered.{Numbered}
+use Rattle.cbor_steps.specs.declared.position.Position.{Position}
+use Rattle.cbor_steps.specs.declared.position.Position.TheVariants as positions
+use Rattle.cbor_steps.specs.declared.position.Position.TheVariants.{Done}
 use Rattle.cbor_automaton.specs.declared.event.EventKind.{EventKind}
 use Rattle.cbor_head.specs.declared.width.Width.{Width}
-use Rattle.cbor_automaton.specs.declared.up_to_event.Walked.{Walked}
-use Rattle.cbor_automaton.specs.declared.up_to_event.Walked.TheVariants as walked
-use Rattle.cbor_automaton.specs.declared.token.Token.{Token}
-use Rattle.cbor_automaton.specs.declared.token.Token.TheVariants.{Bytes, Text, Piece, End, Refused}
-use Rattle.cbor_machine.proofs.NextEvents.{event-here, front-again}
-use Rattle.cbor_machine.proofs.NextRefusals.{cut-here, cut-is, stopped-here}
+use Rattle.cbor_steps.specs.declared.up_to_event.Walked.{Walked}
+use Rattle.cbor_steps.specs.declared.up_to_event.Walked.TheVariants as walked
+use Rattle.cbor_steps.specs.declared.token.Token.{Token}
+use Rattle.cbor_steps.specs.declared.token.Token.TheVariants.{Bytes, Text, Piece, End, Refused}
+use Rattle.cbor_standing.proofs.NextEvents.{event-here, front-again}
+use Rattle.cbor_standing.proofs.NextRefusals.{cut-here, cut-is, stopped-here}
 use Rattle.cbor_automaton.proofs.Refusals.{IsUnfinished}
 use Rattle.cbor_automaton.proofs.Runs.{silent-unfinished, sane-run}
-use Rattle.cbor_machine.proofs.Standing.{IsSound, fit-sound, are_bytes-take, answered, stopped, unfinished-position}
-use Rattle.cbor_automaton.proofs.Frames.{position-done}
+use Rattle.cbor_standing.proofs.Standing.{IsSound, fit-sound, are_bytes-take, answered, stopped, unfinished-position}
+use Rattle.cbor_steps.proofs.Frames.{position-done}
 
 -- ---- the slice as the whole input
 

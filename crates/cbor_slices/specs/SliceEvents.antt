@@ -8,13 +8,13 @@ use Rattle.cbor_head.specs.declared.reason.Refusal.{Refusal}
 use Rattle.cbor_automaton.specs.Trace.{Mark}
 use Rattle.cbor_automaton.specs.Marks.{IsProper}
 use Rattle.cbor_automaton.specs.Event.{event}
-use Rattle.cbor_machine.specs.Machine.{IsComplete, KeepsLimits, wanted}
-use Rattle.cbor_machine.specs.NextEvent.{StandsBetween, IsNextEvent, IsEnd, IsCut, IsTooLong, HasFormError, Call, call}
+use Rattle.cbor_standing.specs.Machine.{IsComplete, KeepsLimits, wanted}
+use Rattle.cbor_standing.specs.NextEvent.{StandsBetween, IsNextEvent, IsEnd, IsCut, IsTooLong, HasFormError, Call, call}
 use Rattle.cbor_slices.specs.SliceView.{SliceEventsView, seen}
-use Rattle.cbor_automaton.specs.Token.{kind_of}
+use Rattle.cbor_steps.specs.Token.{kind_of}
 use Rattle.cbor_automaton.specs.declared.event.Event.{Event}
-use Rattle.cbor_automaton.specs.declared.token.Token.{Token}
-use Rattle.cbor_automaton.specs.declared.token.Token.TheVariants.{Bytes, Text, Piece, End, Refused}
+use Rattle.cbor_steps.specs.declared.token.Token.{Token}
+use Rattle.cbor_steps.specs.declared.token.Token.TheVariants.{Bytes, Text, Piece, End, Refused}
 
 -- the call that led from old to new, of a reader over the slice
 abbrev pub slice_call : SliceEventsView → SliceEventsView → List ℕ → List Mark → Call

@@ -2,8 +2,8 @@
 use Rattle.std.specs.Prelude.{ℕ, List, Option}
 use Rattle.cbor_head.specs.declared.width.Width.{Width}
 use Rattle.cbor_head.specs.declared.reason.Refusal.{Refusal}
-use Rattle.cbor_machine.specs.MachineView.{MachineView}
-use Rattle.cbor_machine.specs.NextEvent.{ItemEventsView}
+use Rattle.cbor_standing.specs.MachineView.{MachineView}
+use Rattle.cbor_standing.specs.NextEvent.{ItemEventsView}
 
 pub record SliceEventsView : Type 0 where
   -- what was taken and told

@@ -1,10 +1,11 @@
 //! An event as a token and a number.
 
 ghost use Rattle.std.specs.Prelude.{◌≡◌, ℕ};
-ghost use Rattle.cbor_automaton.specs.Token.{kind_of, IsEventToken};
+ghost use Rattle.cbor_steps.specs.Token.{kind_of, IsEventToken};
 ghost use Rattle.cbor_slices.specs.inner.Slices.{number_in};
 
-use cbor_automaton::{EventKind, Token};
+use cbor_automaton::EventKind;
+use cbor_steps::Token;
 
 /// What is told of an event.
 pub fn token_of(kind: &EventKind) -> Token

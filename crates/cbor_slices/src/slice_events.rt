@@ -3,27 +3,27 @@
 ghost use Rattle.std.specs.Prelude.{◌≡◌, ◌≤◌, ◌<◌, ◌⊎◌, List, [], ℕ, length, take, min};
 ghost use Rattle.std.specs.Prelude.{None, Some, IfSome, IsSome, true};
 ghost use Rattle.cbor_automaton.specs.Trace.{Mark};
-ghost use Rattle.cbor_automaton.specs.State.{state_of, IsFit, IsSettled};
-ghost use Rattle.cbor_automaton.specs.Walk.{IsTold, IsEnded, IsWalkedProper};
-ghost use Rattle.cbor_automaton.specs.Walk.{IsWalked, told_times};
+ghost use Rattle.cbor_steps.specs.State.{state_of, IsFit, IsSettled};
+ghost use Rattle.cbor_steps.specs.Walk.{IsTold, IsEnded, IsWalkedProper};
+ghost use Rattle.cbor_steps.specs.Walk.{IsWalked, told_times};
 ghost use Rattle.cbor_automaton.specs.Pieces.{kind_size, piece_by};
-ghost use Rattle.cbor_machine.specs.Machine.{KeepsLimits};
-ghost use Rattle.cbor_machine.specs.NextEvent.{StandsBetween};
-ghost use Rattle.cbor_automaton.specs.Token.{kind_of, IsEventToken};
-ghost use Rattle.cbor_automaton.specs.Whole.{IsFront, TellsFront, LeavesPiece};
+ghost use Rattle.cbor_standing.specs.Machine.{KeepsLimits};
+ghost use Rattle.cbor_standing.specs.NextEvent.{StandsBetween};
+ghost use Rattle.cbor_steps.specs.Token.{kind_of, IsEventToken};
+ghost use Rattle.cbor_steps.specs.Whole.{IsFront, TellsFront, LeavesPiece};
 ghost use Rattle.cbor_slices.specs.SliceEvents.{IsNextTold, IsProperTold, IsRefusedTold};
-ghost use Rattle.cbor_automaton.specs.declared.frame.TheConstants.{MOST_OPEN};
+ghost use Rattle.cbor_steps.specs.declared.frame.TheConstants.{MOST_OPEN};
 ghost use Rattle.cbor_slices.specs.inner.Slices.{IsSpent};
 
 mod strings;
 
 use crate::event_token::{number_of, token_of};
-use cbor_automaton::{
+use cbor_head::{Limits, Reason, Refusal, Width};
+use cbor_machine::below_256;
+use cbor_steps::{
     Nest, Position, Token, Walked, front_head, take_head, walk, whole_chunk, whole_open,
     whole_piece,
 };
-use cbor_head::{Limits, Reason, Refusal, Width};
-use cbor_machine::below_256;
 use std::marker::Model;
 
 /// The events of one item, from a slice that begins with it.
@@ -60,7 +60,7 @@ pub struct SliceEvents<'a> {
 
 impl<'a> Model for SliceEvents<'a> {
     ghost use Rattle.std.specs.Prelude.{◌≡◌, ◌≤◌, ◌-◌, length, None, IfSome};
-    ghost use Rattle.cbor_automaton.specs.State.{wanted_at, is_in_payload, is_done};
+    ghost use Rattle.cbor_steps.specs.State.{wanted_at, is_in_payload, is_done};
     ghost use Rattle.cbor_slices.specs.SliceView.{SliceEventsView};
     ghost use Rattle.cbor_slices.specs.inner.Slices.{IsWithin, told_at};
 

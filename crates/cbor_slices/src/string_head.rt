@@ -3,13 +3,13 @@
 ghost use Rattle.std.specs.Prelude.{◌≡◌, ◌≤◌, ◌<◌, ◌+◌, List, ℕ, IfSome, length, true};
 ghost use Rattle.cbor_automaton.specs.Automaton as automaton;
 ghost use Rattle.cbor_automaton.specs.Pieces.{piece_by};
-ghost use Rattle.cbor_automaton.specs.State.{major_of};
-ghost use Rattle.cbor_automaton.specs.Whole.{IsFront};
+ghost use Rattle.cbor_steps.specs.State.{major_of};
+ghost use Rattle.cbor_steps.specs.Whole.{IsFront};
 ghost use Rattle.cbor_slices.specs.inner.StringHeads.{TellsString, TellsChunk};
-ghost use Rattle.cbor_automaton.specs.Token.{IsStringToken, kind_of};
+ghost use Rattle.cbor_steps.specs.Token.{IsStringToken, kind_of};
 
-use cbor_automaton::{Numbered, Token, read_argument};
 use cbor_head::Width;
+use cbor_steps::{Numbered, Token, read_argument};
 
 /// The head of a string that isn't empty and stands whole at the front, and what it tells.
 #[derive(Clone, Copy)]

@@ -15,9 +15,9 @@ use Rattle.cbor_head.specs.declared.order.KeyOrder.{KeyOrder}
 use Rattle.cbor_head.specs.declared.reason.Reason.TheVariants as reasons
 use Rattle.cbor_head.specs.declared.width.Width.{Width}
 use Rattle.cbor_head.specs.declared.width.Width.TheVariants.{Indefinite}
-use Rattle.cbor_head.proofs.Parts.{major, width, count, head_of, body, parts, holds_of, one_head, as_bytes, as_text}
-use Rattle.cbor_head.proofs.ReadLaws.{unique, length_spell, length_head, holds_or_open}
-use Rattle.cbor_machine.specs.NextEvent.{ItemEventsView}
+use Rattle.cbor_grammar.proofs.Parts.{major, width, count, head_of, body, parts, holds_of, one_head, as_bytes, as_text}
+use Rattle.cbor_grammar.proofs.ReadLaws.{unique, length_spell, length_head, holds_or_open}
+use Rattle.cbor_standing.specs.NextEvent.{ItemEventsView}
 use Rattle.cbor_judging.specs.Place.{Container, Place, at_item, payload, open_at}
 use Rattle.cbor_strict.specs.declared.open_items.OpenItems.{OpenItems}
 use Rattle.cbor_strict.specs.KeptKeys.{open_maps, open_maps_in, key_bytes, key_bytes_in, key_bytes_in_entries}

@@ -13,7 +13,7 @@ use Rattle.cbor_head.specs.declared.reason.Refusal.{Refusal}
 use Rattle.cbor_head.specs.declared.reason.Reason.TheVariants as reasons
 use Rattle.cbor_head.specs.declared.width.Width.{Width}
 use Rattle.cbor_judging.specs.Place.{Container, at_item, counted, close, Place, open_at}
-use Rattle.cbor_machine.specs.NextEvent.{ItemEventsView}
+use Rattle.cbor_standing.specs.NextEvent.{ItemEventsView}
 use Rattle.cbor_judging.specs.Frame.{Frame, a_member, a_key, a_content, tagged, with_all, with_entries, keys_onto, plug, before, OfFront}
 use Rattle.cbor_judging.specs.Judged.{IsJudged, Never}
 use Rattle.cbor_judging.specs.OpenMaps.{placed, open_keys, AreDistinct, OfClosed, before_all, AreOpen, AreOpenDistinct}

@@ -11,7 +11,7 @@ use Rattle.cbor_head.specs.declared.reason.Refusal.{Refusal}
 use Rattle.cbor_head.specs.declared.reason.Reason.TheVariants as reasons
 use Rattle.cbor_head.specs.declared.width.Width.{Width}
 use Rattle.cbor_judging.specs.Place.{close}
-use Rattle.cbor_machine.specs.NextEvent.{ItemEventsView}
+use Rattle.cbor_standing.specs.NextEvent.{ItemEventsView}
 use Rattle.cbor_strict.specs.declared.last_keys.Due.{Due}
 use Rattle.cbor_strict.specs.declared.last_keys.Due.TheVariants.{Member, Key, Content}
 use Rattle.cbor_strict.specs.declared.last_keys.LastKeys.{LastKeys}

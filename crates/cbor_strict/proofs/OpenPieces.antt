@@ -16,7 +16,7 @@ use Rattle.cbor_head.specs.declared.reason.Reason.TheVariants.{Memory, InvalidTe
 use Rattle.cbor_head.specs.declared.reason.Refusal.{Refusal}
 use Rattle.cbor_head.specs.declared.width.Width.{Width}
 use Rattle.cbor_judging.specs.Place.{close, payload}
-use Rattle.cbor_machine.specs.NextEvent.{ItemEventsView}
+use Rattle.cbor_standing.specs.NextEvent.{ItemEventsView}
 use Rattle.cbor_text.specs.TextCheck.{HasChecked}
 use Rattle.cbor_strict.specs.declared.last_keys.LastKeys.{LastKeys}
 use Rattle.cbor_strict.specs.declared.open_items.OpenItems.{OpenItems}

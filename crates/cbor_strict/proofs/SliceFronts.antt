@@ -7,7 +7,7 @@ use Rattle.cbor_head.specs.Complaint.{strict}
 use Rattle.cbor_head.specs.Verdict.{accepted, refused, IsVerdict}
 use Rattle.cbor_head.specs.declared.order.KeyOrder.{KeyOrder}
 use Rattle.cbor_head.specs.declared.reason.Refusal.{Refusal}
-use Rattle.cbor_head.proofs.OneVerdict.{one_verdict}
+use Rattle.cbor_grammar.proofs.OneVerdict.{one_verdict}
 use Rattle.cbor_judging.specs.Readers.{IsRead, IsCanonicalFront, HasNoCanonicalFront}
 use Rattle.cbor_judging.proofs.CanonicalFronts.{strict_accepts}
 use Rattle.cbor_strict.proofs.WholeInputs.{front-canonical}

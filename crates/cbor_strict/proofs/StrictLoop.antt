@@ -11,11 +11,11 @@ use Rattle.cbor_head.specs.Spelling.{Spelling, spell}
 use Rattle.cbor_head.specs.Complaint.{strict, Complaint, Complains}
 use Rattle.cbor_head.specs.declared.order.KeyOrder.{KeyOrder}
 use Rattle.cbor_head.specs.declared.reason.Refusal.{Refusal}
-use Rattle.cbor_head.proofs.Accepted.{accepts_exactly}
-use Rattle.cbor_head.proofs.OneFirst.{bounded}
+use Rattle.cbor_grammar.proofs.Accepted.{accepts_exactly}
+use Rattle.cbor_grammar.proofs.OneFirst.{bounded}
 use Rattle.cbor_automaton.specs.Trace.{Mark}
 use Rattle.cbor_automaton.specs.Marks.{marks_of}
-use Rattle.cbor_machine.specs.Machine.{KeepsLimits, IsWhole}
+use Rattle.cbor_standing.specs.Machine.{KeepsLimits, IsWhole}
 use Rattle.cbor_automaton.specs.declared.event.Event.{Event}
 use Rattle.cbor_judging.specs.Readers.{IsRead, IsUnread}
 use Rattle.cbor_judging.specs.Refusals.{IsReaderReason}

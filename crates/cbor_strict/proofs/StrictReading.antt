@@ -11,13 +11,13 @@ use Rattle.cbor_head.specs.Laws.{StartsWith}
 use Rattle.cbor_head.specs.Verdict.{IsWithout}
 use Rattle.cbor_head.specs.declared.order.KeyOrder.{KeyOrder}
 use Rattle.cbor_head.specs.declared.reason.Refusal.{Refusal}
-use Rattle.cbor_head.proofs.Agree.{same_complaints}
+use Rattle.cbor_grammar.proofs.Agree.{same_complaints}
 use Rattle.cbor_automaton.specs.Trace.{Mark}
 use Rattle.cbor_automaton.specs.Bytes.{IsBytesOf, last_type}
-use Rattle.cbor_machine.specs.MachineView.{MachineView}
+use Rattle.cbor_standing.specs.MachineView.{MachineView}
 use Rattle.cbor_automaton.specs.Marks.{marks_of}
-use Rattle.cbor_machine.specs.Machine.{KeepsLimits}
-use Rattle.cbor_machine.specs.NextEvent.{ItemEventsView, StandsBetween, Call, call, machine_call, IsCut, IsTooLong, HasFormError, IsNextEvent, IsKept as IsPieceKept}
+use Rattle.cbor_standing.specs.Machine.{KeepsLimits}
+use Rattle.cbor_standing.specs.NextEvent.{ItemEventsView, StandsBetween, Call, call, machine_call, IsCut, IsTooLong, HasFormError, IsNextEvent, IsKept as IsPieceKept}
 use Rattle.cbor_automaton.specs.declared.event.Event.{Event}
 use Rattle.cbor_automaton.specs.declared.event.EventKind.{EventKind}
 use Rattle.cbor_automaton.specs.declared.event.EventKind.TheVariants.{Piece}

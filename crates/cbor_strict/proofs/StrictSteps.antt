@@ -11,9 +11,9 @@ use Rattle.cbor_head.specs.declared.width.Width.{Width}
 use Rattle.cbor_automaton.specs.Reasons.{IsEventReason}
 use Rattle.cbor_judging.specs.Place.{Container, Place, at_item, payload, done, IsTaking}
 use Rattle.cbor_automaton.specs.Trace.{Mark, a_byte, total}
-use Rattle.cbor_machine.specs.Machine.{IsComplete}
+use Rattle.cbor_standing.specs.Machine.{IsComplete}
 use Rattle.cbor_automaton.specs.Marks.{marks_of, mark_of, IsProper}
-use Rattle.cbor_machine.specs.NextEvent.{ItemEventsView, StandsBetween, IsNextEvent, IsEnd, IsCut, IsTooLong, HasFormError, Call, call, IsKept as IsPieceKept}
+use Rattle.cbor_standing.specs.NextEvent.{ItemEventsView, StandsBetween, IsNextEvent, IsEnd, IsCut, IsTooLong, HasFormError, Call, call, IsKept as IsPieceKept}
 use Rattle.cbor_automaton.specs.declared.event.Event.{Event}
 use Rattle.cbor_automaton.specs.declared.event.EventKind.{EventKind}
 use Rattle.cbor_automaton.specs.declared.event.EventKind.TheVariants as kinds

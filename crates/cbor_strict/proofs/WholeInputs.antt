@@ -9,7 +9,7 @@ use Rattle.cbor_head.specs.Verdict.{accepted, refused}
 use Rattle.cbor_head.specs.declared.order.KeyOrder.{KeyOrder}
 use Rattle.cbor_head.specs.declared.reason.Reason.TheVariants.{Read, Memory}
 use Rattle.cbor_head.specs.declared.reason.Refusal.{Refusal}
-use Rattle.cbor_head.proofs.OneVerdict.{one_verdict}
+use Rattle.cbor_grammar.proofs.OneVerdict.{one_verdict}
 use Rattle.cbor_judging.specs.Readers.{IsRead, IsReadAs, IsUnread, of_verdict, of_reader, of_memory, IsCanonicalFront, HasNoCanonicalFront}
 use Rattle.cbor_judging.proofs.CanonicalFronts.{strict_bytes, strict_value, strict_accepts}
 

@@ -3,8 +3,8 @@
 ghost use Rattle.std.specs.Prelude.{◌↔◌, IsTrue};
 ghost use Rattle.cbor_head.specs.Order.{key_lt};
 
-use cbor_canonical::compare_keys;
 use cbor_head::KeyOrder;
+use cbor_keys::compare_keys;
 use std::cmp::Ordering;
 
 // Whether a key comes behind another.

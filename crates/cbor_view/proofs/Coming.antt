@@ -5,7 +5,7 @@ use Rattle.std.specs.List.{AllByRecursion}
 use Rattle.cbor_head.specs.Read.{read}
 use Rattle.cbor_head.specs.Spelling.{Spelling, IsSpelled, depth, spell, value_of}
 use Rattle.cbor_head.specs.Value.{Value}
-use Rattle.cbor_head.proofs.ReadLaws.{length_spell, break_none, reads}
+use Rattle.cbor_grammar.proofs.ReadLaws.{length_spell, break_none, reads}
 use Rattle.cbor_item.specs.OpenValues.{OpenValue, the_whole, with_member, closed, give, close, CanHold, CanEnd, TakesValue, MayEnd, IsWhole}
 use Rattle.cbor_view.specs.Front.{IsSound, BeginsWithItem}
 use Rattle.cbor_view.specs.inner.Coming.{IsCounted, IsComing, AreComing, Opens, IsOpened, IsTaken, TakesAll, Leads, IsUnderway, IsOneLess, StandsAt, HasNext, with_all, values_coming, values_around, bytes_of, bytes_around, end_of}

@@ -9,7 +9,7 @@ use Rattle.cbor_head.specs.declared.major.Major.{Major}
 use Rattle.cbor_head.specs.declared.major.Major.TheVariants.{Unsigned, Negative, Bytes, Text, Array, Map, Tag, Simple}
 use Rattle.cbor_head.specs.declared.width.Width.{Width}
 use Rattle.cbor_head.specs.declared.width.Width.TheVariants.{Direct, One, Two, Four, Eight, Indefinite}
-use Rattle.cbor_head.proofs.ReadLaws.{length_chunk}
+use Rattle.cbor_grammar.proofs.ReadLaws.{length_chunk}
 use Rattle.cbor_builder.specs.Built.{IsStringType}
 use Rattle.cbor_view.specs.inner.Fronts.{BeginsWithHead, BeginsWithString, BeginsWithChunks, IsJoined, IsJoining}
 

@@ -9,8 +9,8 @@ use Rattle.cbor_head.specs.declared.major.Major.{Major}
 use Rattle.cbor_head.specs.declared.major.Major.TheVariants.{Unsigned, Negative, Bytes, Text, Array, Map, Tag, Simple}
 use Rattle.cbor_head.specs.declared.width.Width.{Width}
 use Rattle.cbor_head.specs.declared.width.Width.TheVariants.{Direct, One, Two, Four, Eight, Indefinite}
-use Rattle.cbor_head.proofs.Parts.{major, width, count, head_of, body, parts, holds_of, SameHead, one_head, as_byte_chunks, as_text_chunks, as_array, as_map}
-use Rattle.cbor_head.proofs.ReadLaws.{length_spell}
+use Rattle.cbor_grammar.proofs.Parts.{major, width, count, head_of, body, parts, holds_of, SameHead, one_head, as_byte_chunks, as_text_chunks, as_array, as_map}
+use Rattle.cbor_grammar.proofs.ReadLaws.{length_spell}
 use Rattle.cbor_builder.specs.Built.{IsStringType}
 use Rattle.cbor_item.specs.OpenValues as made
 use Rattle.cbor_item.specs.OpenValues.{OpenValue, an_array, a_tag, give}

@@ -10,7 +10,7 @@ use Rattle.cbor_head.specs.Value as value
 use Rattle.cbor_head.specs.Value.{Value, AreValid, AreEntriesValid}
 use Rattle.cbor_head.specs.declared.major.Major.TheVariants.{Array, Map, Tag}
 use Rattle.cbor_head.specs.declared.width.Width.{Width}
-use Rattle.cbor_head.proofs.ReadLaws.{length_head}
+use Rattle.cbor_grammar.proofs.ReadLaws.{length_head}
 use Rattle.cbor_item.specs.OpenValues as parts
 use Rattle.cbor_item.specs.OpenValues.{OpenValue, an_array, a_tag, closed, CanEnd}
 use Rattle.cbor_item.specs.View.{values_of, entries_of}

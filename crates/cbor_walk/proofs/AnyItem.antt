@@ -14,7 +14,7 @@ use Rattle.cbor_head.specs.declared.order.KeyOrder.{KeyOrder}
 use Rattle.cbor_head.specs.declared.reason.Reason.TheVariants as reasons
 use Rattle.cbor_head.specs.declared.width.Width.{Width}
 use Rattle.cbor_head.specs.declared.width.Width.TheVariants.{Direct, One, Two, Four, Eight, Indefinite}
-use Rattle.cbor_automaton.specs.Whole.{IsArgument}
+use Rattle.cbor_steps.specs.Whole.{IsArgument}
 use Rattle.cbor_automaton.proofs.Taking.{IsNumbered}
 use Rattle.cbor_judging.specs.Judged.{IsJudged}
 use Rattle.cbor_walk.specs.inner.Leaves.{IsShortest, IsLeaf}

@@ -6,8 +6,8 @@ use Rattle.std.proofs.lemmas.Bool.Decides.{nat_tests}
 use Rattle.cbor_head.specs.Value.{AreBytes}
 use Rattle.cbor_head.specs.Order.{key_lt}
 use Rattle.cbor_head.specs.declared.order.KeyOrder.TheVariants.{Bytewise}
-use Rattle.cbor_canonical.specs.Front.{front_of}
-use Rattle.cbor_canonical.proofs.KeyFronts.{agree_front}
+use Rattle.cbor_keys.specs.Front.{front_of}
+use Rattle.cbor_keys.proofs.KeyFronts.{agree_front}
 
 front_decides : (a b : ℕ) (r : Ordering) → (a ≡ b → ⊥) → nat_lt a b ≡ is_lt (ordering_then (nat_cmp a b) r)
 front_decides a b r apart = grind (arith, nat_tests)

@@ -11,8 +11,8 @@ use Rattle.cbor_head.specs.Verdict.{initial_reason, refusal, accepted, refused, 
 use Rattle.cbor_head.specs.declared.reason.Reason.{Reason}
 use Rattle.cbor_head.specs.declared.reason.Reason.TheVariants.{Truncated, TooLong, Reserved, NoIndefinite, Float, StrayBreak, TooDeep}
 use Rattle.cbor_head.specs.declared.reason.Refusal.{Refusal}
-use Rattle.cbor_head.proofs.Agree.{split_front}
-use Rattle.cbor_head.proofs.Beginnings.{item_decides}
+use Rattle.cbor_grammar.proofs.Agree.{split_front}
+use Rattle.cbor_grammar.proofs.Beginnings.{item_decides}
 use Rattle.cbor_automaton.specs.Reasons.{IsFormReason}
 use Rattle.cbor_automaton.proofs.Beginnings.{shorter}
 use Rattle.cbor_judging.specs.Refusals.{IsComplaintReason}

@@ -10,7 +10,7 @@ use mir.Val.{bool_byte}
 use Rattle.cbor_head.specs.Head.{Holds, shortest, with_argument}
 use Rattle.cbor_head.specs.declared.width.Width.{Width}
 use Rattle.cbor_head.specs.declared.width.Width.TheVariants.{Direct, One, Two, Four, Eight, Indefinite}
-use Rattle.cbor_canonical.proofs.KeyFronts.{bytes_drop}
+use Rattle.cbor_keys.proofs.KeyFronts.{bytes_drop}
 use Rattle.cbor_canonical.proofs.Normal.{Holds-shortest}
 use Rattle.cbor_walk.specs.inner.Items.{IsShortString}
 use Rattle.cbor_walk.specs.inner.Leaves.{IsItemThen, IsShortest, IsShortestHead, IsLeaf}

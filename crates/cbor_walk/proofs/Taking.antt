@@ -12,7 +12,7 @@ use Rattle.cbor_head.specs.declared.major.Major.TheVariants.{Array, Map, Tag}
 use Rattle.cbor_head.specs.declared.order.KeyOrder.{KeyOrder}
 use Rattle.cbor_head.specs.declared.width.Width.{Width}
 use Rattle.cbor_head.specs.declared.width.Width.TheVariants.{Direct, One, Two, Four, Eight, Indefinite}
-use Rattle.cbor_canonical.specs.Front.{front_of}
+use Rattle.cbor_keys.specs.Front.{front_of}
 use Rattle.cbor_canonical.proofs.Normal.{Holds-shortest}
 use Rattle.cbor_walk.specs.inner.Leaves.{IsLeaf, IsShortestHead}
 use Rattle.cbor_judging.proofs.Heads.{open_or}

@@ -1,14 +1,14 @@
 //! The open containers of an item, in cells that are lent.
 
 ghost use Rattle.std.specs.Prelude.{◌≡◌, ◌≤◌, ◌<◌, ◌-◌, ◌∷◌, ℕ, suc, List, IsTrue, true, length, slice_range};
-ghost use Rattle.cbor_canonical.specs.Front.{front_of};
+ghost use Rattle.cbor_keys.specs.Front.{front_of};
 ghost use Rattle.cbor_head.specs.Order.{key_lt};
 ghost use Rattle.cbor_walk.specs.inner.Cells.{a_level, key_at, last_key, IsFronted, TakesKey, Advances};
 ghost use Rattle.cbor_walk.specs.inner.Cells.{Leads, standing, around};
 
 use crate::level::{Due, Level, Next, Step};
-use cbor_canonical::{compare_keys, key_front};
 use cbor_head::KeyOrder;
+use cbor_keys::{compare_keys, key_front};
 use std::cmp::Ordering;
 
 impl Level {

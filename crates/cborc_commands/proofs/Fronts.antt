@@ -17,7 +17,7 @@ use Rattle.cbor_reader.specs.WholeItem.{IsWholeItem, IsItemRefusal}
 use Rattle.cbor_reader.specs.WholeItem as items
 use Rattle.cbor_diag.specs.Listing.{IsListing, IsStopped, IsListed, IsUnlisted}
 use Rattle.cbor_diag.specs.Listing as listing
-use Rattle.cbor_machine.proofs.Form.{no-complaint}
+use Rattle.cbor_standing.proofs.Form.{no-complaint}
 use Rattle.cborc_commands.specs.Check.{IsWhole, IsNotWhole}
 use Rattle.cborc_commands.specs.Check as check
 use Rattle.cborc_commands.specs.Events.{IsFollowed, IsNotListed}

@@ -5,7 +5,7 @@ use Rattle.std.specs.Io.KnownBytes.{Appends}
 use Rattle.std.proofs.Math.Seq.{drop-append_seam}
 use Rattle.std.proofs.lemmas.List.{append_assoc, append-nil, length-append, length-take, length-drop, take_all}
 use Rattle.cbor_head.specs.Spelling.{Spelling, spell}
-use Rattle.cbor_head.proofs.ReadLaws.{length_spell}
+use Rattle.cbor_grammar.proofs.ReadLaws.{length_spell}
 use Rattle.cbor_reader.specs.Sequence.{sequence_bytes}
 use Rattle.cborc_commands.specs.Sequences.{StartsWithEach}
 use Rattle.cborc_commands.specs.inner.Items.{IsWritten}

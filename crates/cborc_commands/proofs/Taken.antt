@@ -10,7 +10,7 @@ use Rattle.cbor_head.specs.Verdict.{accepted, refused, refusal, IsVerdict}
 use Rattle.cbor_head.specs.declared.order.KeyOrder.{KeyOrder}
 use Rattle.cbor_head.specs.declared.reason.Reason.TheVariants as reasons
 use Rattle.cbor_head.specs.declared.reason.Refusal.{Refusal}
-use Rattle.cbor_head.proofs.OneVerdict.{one_verdict}
+use Rattle.cbor_grammar.proofs.OneVerdict.{one_verdict}
 use Rattle.cbor_judging.specs.Readers.{IsRead}
 use Rattle.cbor_reader.specs.Canonicalise.{IsRefusal, of_verdict, trailing, canonical_too_long, of_memory}
 use Rattle.cbor_reader.specs.Sequence.{IsAccepted}

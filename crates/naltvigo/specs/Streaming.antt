@@ -1,15 +1,15 @@
 -- What a machine tells of an item, as C has it.
 use Rattle.std.specs.Prelude.{ℕ, ◌≡◌, List, []}
-use Rattle.cbor_machine.specs.Machine.{StandsFor, KeepsLimits, IsAnswer}
-use Rattle.cbor_machine.specs.MachineView.{MachineView}
+use Rattle.cbor_standing.specs.Machine.{StandsFor, KeepsLimits, IsAnswer}
+use Rattle.cbor_standing.specs.MachineView.{MachineView}
 use Rattle.cbor_automaton.specs.Marks.{count_of}
 use Rattle.cbor_machine.specs.Saved.{Holds}
 use Rattle.cbor_automaton.specs.Trace.{Mark}
 use Rattle.cbor_automaton.specs.declared.event.Event.{Event}
 use Rattle.cbor_automaton.specs.declared.event.EventKind.{EventKind}
 use Rattle.cbor_automaton.specs.declared.event.EventKind.TheVariants as kinds
-use Rattle.cbor_machine.specs.declared.step.Out.{Out}
-use Rattle.cbor_machine.specs.declared.step.Out.TheVariants as outs
+use Rattle.cbor_standing.specs.declared.step.Out.{Out}
+use Rattle.cbor_standing.specs.declared.step.Out.TheVariants as outs
 use Rattle.cbor_machine.specs.declared.machine.saved.SavedMachine.{SavedMachine}
 use Rattle.cbor_head.specs.declared.width.Width.{Width}
 use Rattle.cbor_head.specs.declared.width.Width.TheVariants as widths

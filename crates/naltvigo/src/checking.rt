@@ -13,7 +13,7 @@ ghost use Rattle.naltvigo.specs.inner.Checking.{IsOwnAnswer, IsNotOwn};
 
 use crate::settings::{limits_of, order_numbered};
 use crate::status::{BAD_LIMITS, BAD_ORDER, NO_MEMORY, NaltvigoRefusal, OK, REFUSED, tell, told};
-use cbor_head::laws::verdict_is_one;
+use cbor_grammar::laws::verdict_is_one;
 use cbor_head::{KeyOrder, Limits, Reason, Refusal};
 use cbor_reader::laws::{items_and_their_refusals, own_answers_are_strictly_accepted, valid_items};
 use cbor_reader::{check_canonical, check_valid};

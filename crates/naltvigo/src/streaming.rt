@@ -1,7 +1,7 @@
 //! The events of an item whose bytes come in parts.
 
 ghost use Rattle.std.specs.Prelude.{◌≡◌, ◌≢◌, ◌⊎◌, ◌≤◌, length, take};
-ghost use Rattle.cbor_machine.specs.MachineView.{MachineView};
+ghost use Rattle.cbor_standing.specs.MachineView.{MachineView};
 ghost use Rattle.cbor_machine.specs.Saved.{Holds};
 ghost use Rattle.cbor_head.specs.Limits.{bounds, AreBounds};
 ghost use Rattle.naltvigo.specs.Streaming.{IsToldEvent, IsToldOut, Starts, Streams};

@@ -6,7 +6,7 @@ use Rattle.std.specs.Ordering.{nat_cmp, then_cmp, on}
 use Rattle.cbor_head.specs.Order.{key_cmp}
 use Rattle.cbor_head.specs.declared.order.KeyOrder.{KeyOrder}
 use Rattle.cbor_head.specs.declared.order.KeyOrder.TheVariants.{Bytewise, LengthFirst}
-pub use Rattle.cbor_canonical.specs.Front.{front_of}
+pub use Rattle.cbor_keys.specs.Front.{front_of}
 use Rattle.cbor_buffer.specs.declared.span.Span.{Span}
 
 abbrev pub key_of : List ℕ → Span → List ℕ

@@ -3,13 +3,13 @@ use Rattle.std.specs.Prelude.{◌≡◌, ℕ, ◌<◌, ◌≤◌, ◌++◌, List
 use Rattle.std.specs.Io.KnownBytes.{Consumes, IsAtEnd}
 use Rattle.cbor_head.specs.declared.reason.Refusal.{Refusal}
 use Rattle.cbor_automaton.specs.Trace.{Mark}
-use Rattle.cbor_machine.specs.MachineView.{MachineView}
-use Rattle.cbor_machine.specs.Machine.{StandsFor, IsGiven, IsRefused}
-use Rattle.cbor_machine.specs.NextEvent.{machine_call, IsNext, IsNextEvent}
+use Rattle.cbor_standing.specs.MachineView.{MachineView}
+use Rattle.cbor_standing.specs.Machine.{StandsFor, IsGiven, IsRefused}
+use Rattle.cbor_standing.specs.NextEvent.{machine_call, IsNext, IsNextEvent}
 use Rattle.cbor_automaton.specs.Pieces.{piece_by}
-use Rattle.cbor_machine.specs.Calls.{HasRead}
-use Rattle.cbor_machine.specs.Steps.{IsStep}
-use Rattle.cbor_machine.specs.declared.step.Out.TheVariants as outs
+use Rattle.cbor_standing.specs.Calls.{HasRead}
+use Rattle.cbor_standing.specs.Steps.{IsStep}
+use Rattle.cbor_standing.specs.declared.step.Out.TheVariants as outs
 use Rattle.cbor_automaton.specs.declared.event.Event.{Event}
 use Rattle.cbor_events.specs.declared.item_events.Asked.{Asked}
 use Rattle.cbor_events.specs.declared.item_events.Asked.TheVariants.{Got, End, Failed}

@@ -6,17 +6,17 @@ use Rattle.cbor_head.specs.declared.reason.Reason.TheVariants.{TooLong, Reserved
 use Rattle.cbor_head.specs.declared.reason.Refusal.{Refusal}
 use Rattle.cbor_head.specs.declared.width.Width.{Width}
 use Rattle.cbor_head.specs.declared.width.Width.TheVariants as widths
-use Rattle.cbor_machine.specs.MachineView.{MachineView}
-use Rattle.cbor_machine.specs.inner.Machine.{IsShown}
-use Rattle.cbor_automaton.specs.State.{IsFit, IsSettled}
-use Rattle.cbor_automaton.specs.declared.frame.Frame.{Frame}
-use Rattle.cbor_automaton.specs.declared.frame.Frame.TheVariants as frames
+use Rattle.cbor_standing.specs.MachineView.{MachineView}
+use Rattle.cbor_standing.specs.inner.Machine.{IsShown}
+use Rattle.cbor_steps.specs.State.{IsFit, IsSettled}
+use Rattle.cbor_steps.specs.declared.frame.Frame.{Frame}
+use Rattle.cbor_steps.specs.declared.frame.Frame.TheVariants as frames
 use Rattle.cbor_machine.specs.declared.machine.saved.SavedFrame.{SavedFrame}
 use Rattle.cbor_machine.specs.declared.machine.saved.SavedMachine.{SavedMachine}
-use Rattle.cbor_automaton.specs.declared.opening.Numbered.{Numbered}
-use Rattle.cbor_automaton.specs.declared.opening.Numbered.TheVariants as numbered
-use Rattle.cbor_automaton.specs.declared.position.Position.{Position}
-use Rattle.cbor_automaton.specs.declared.position.Position.TheVariants as positions
+use Rattle.cbor_steps.specs.declared.opening.Numbered.{Numbered}
+use Rattle.cbor_steps.specs.declared.opening.Numbered.TheVariants as numbered
+use Rattle.cbor_steps.specs.declared.position.Position.{Position}
+use Rattle.cbor_steps.specs.declared.position.Position.TheVariants as positions
 
 abbrev pub flag_at : ℕ → Bool
 flag_at (suc zero) = true

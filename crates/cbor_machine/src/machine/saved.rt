@@ -2,17 +2,17 @@
 
 ghost use Rattle.std.specs.Prelude.{◌≡◌, ◌↔◌, ℕ, ◌*◌, ◌+◌, ◌^◌, ◌<◌, ◌≤◌, ◌-◌, IfSome, IsTrue, Some, Bool, length, map, take};
 ghost use Rattle.std.specs.Prelude.{drop};
-ghost use Rattle.cbor_machine.specs.MachineView.{MachineView};
+ghost use Rattle.cbor_standing.specs.MachineView.{MachineView};
 ghost use Rattle.cbor_automaton.specs.Reasons.{IsMachineReason};
 ghost use Rattle.cbor_machine.specs.Saved.{Holds, no_frames};
 ghost use Rattle.cbor_machine.specs.inner.Saved.{flag_at, frame_at, frame_by, kind_at, position_by, position_in};
 ghost use Rattle.cbor_machine.specs.inner.Saved.{refusal_by, width_at};
-ghost use Rattle.cbor_automaton.specs.Nest.{due_frame};
-ghost use Rattle.cbor_automaton.specs.State.{IsFit, IsSettled};
+ghost use Rattle.cbor_steps.specs.Nest.{due_frame};
+ghost use Rattle.cbor_steps.specs.State.{IsFit, IsSettled};
 
 use crate::machine::{Machine, refusal_of};
-use cbor_automaton::{Due, Frame, MOST_OPEN, Nest, Numbered, Position, has_room};
 use cbor_head::{Limits, Reason, Refusal, Width};
+use cbor_steps::{Due, Frame, MOST_OPEN, Nest, Numbered, Position, has_room};
 
 /// An open container of a saved machine.
 #[repr(C)]

@@ -13,12 +13,12 @@ use Rattle.cbor_head.specs.declared.width.Width.{Width}
 use Rattle.cbor_slices.specs.SliceEvents.{event_of, IsNextTold}
 use Rattle.cbor_slices.specs.SliceView.{SliceEventsView, seen}
 use Rattle.cbor_automaton.specs.declared.event.EventKind.{EventKind}
-use Rattle.cbor_automaton.specs.declared.token.Token.{Token}
-use Rattle.cbor_automaton.specs.declared.token.Token.TheVariants as tokens
-use Rattle.cbor_automaton.specs.Token.{IsStringToken}
+use Rattle.cbor_steps.specs.declared.token.Token.{Token}
+use Rattle.cbor_steps.specs.declared.token.Token.TheVariants as tokens
+use Rattle.cbor_steps.specs.Token.{IsStringToken}
 use Rattle.cbor_automaton.specs.Trace.{Mark}
-use Rattle.cbor_machine.specs.Machine.{KeepsLimits}
-use Rattle.cbor_machine.specs.NextEvent.{StandsBetween}
+use Rattle.cbor_standing.specs.Machine.{KeepsLimits}
+use Rattle.cbor_standing.specs.NextEvent.{StandsBetween}
 use Rattle.cbor_judging.specs.Place.{Container, Place, at_item, close, done as at_end}
 use Rattle.cbor_builder.specs.Built.{Built, built, IsInContainer}
 use Rattle.cbor_builder.specs.Parts as parts

@@ -3,12 +3,12 @@ use Rattle.std.specs.Prelude.{◌≡◌, ℕ, ◌-◌, ◌≤◌, true, List, []
 use Rattle.cbor_head.specs.declared.reason.Refusal.{Refusal}
 use Rattle.cbor_automaton.specs.Marks.{count_of}
 use Rattle.cbor_slices.specs.SliceView.{SliceEventsView}
-use Rattle.cbor_automaton.specs.State.{IsFit, IsSettled}
+use Rattle.cbor_steps.specs.State.{IsFit, IsSettled}
 use Rattle.cbor_automaton.specs.declared.event.EventKind.{EventKind}
 use Rattle.cbor_automaton.specs.declared.event.EventKind.TheVariants as kinds
-use Rattle.cbor_automaton.specs.declared.frame.Frame.{Frame}
-use Rattle.cbor_automaton.specs.declared.frame.TheConstants.{MOST_OPEN}
-use Rattle.cbor_automaton.specs.declared.position.Position.{Position}
+use Rattle.cbor_steps.specs.declared.frame.Frame.{Frame}
+use Rattle.cbor_steps.specs.declared.frame.TheConstants.{MOST_OPEN}
+use Rattle.cbor_steps.specs.declared.position.Position.{Position}
 
 -- how many bytes the events stand for
 abbrev pub told_at : Option Refusal → ℕ → ℕ → ℕ → ℕ

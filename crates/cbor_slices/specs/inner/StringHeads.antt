@@ -1,11 +1,11 @@
 -- The head of a string that is taken with its payload.
 use Rattle.std.specs.Prelude.{ℕ, ◌-◌, true, false, List, take}
-use Rattle.cbor_automaton.specs.Token.{kind_of}
+use Rattle.cbor_steps.specs.Token.{kind_of}
 use Rattle.cbor_automaton.specs.Automaton.{Frame, at_item, in_chunks, in_payload}
-use Rattle.cbor_automaton.specs.State.{major_of}
-use Rattle.cbor_automaton.specs.Whole.{IsEventRun}
-use Rattle.cbor_automaton.specs.declared.opening.Numbered.{Numbered}
-use Rattle.cbor_automaton.specs.declared.token.Token.TheVariants as tokens
+use Rattle.cbor_steps.specs.State.{major_of}
+use Rattle.cbor_steps.specs.Whole.{IsEventRun}
+use Rattle.cbor_steps.specs.declared.opening.Numbered.{Numbered}
+use Rattle.cbor_steps.specs.declared.token.Token.TheVariants as tokens
 use Rattle.cbor_slices.specs.declared.string_head.StringHead.{StringHead}
 
 -- where an item is due, the head of a string, whose payload then is due

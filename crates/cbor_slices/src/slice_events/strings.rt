@@ -2,16 +2,16 @@
 
 ghost use Rattle.std.specs.Prelude.{◌≡◌, ◌++◌, List, ℕ, false, IsTrue, None, IfSome};
 ghost use Rattle.cbor_automaton.specs.Trace.{Mark};
-ghost use Rattle.cbor_machine.specs.NextEvent.{StandsBetween};
+ghost use Rattle.cbor_standing.specs.NextEvent.{StandsBetween};
 ghost use Rattle.cbor_slices.specs.SliceEvents.{IsNextTold, IsStringTold, IsWholeTold};
-ghost use Rattle.cbor_machine.specs.Machine.{KeepsLimits};
-ghost use Rattle.cbor_automaton.specs.Token.{IsEventToken, IsStringToken};
+ghost use Rattle.cbor_standing.specs.Machine.{KeepsLimits};
+ghost use Rattle.cbor_steps.specs.Token.{IsEventToken, IsStringToken};
 
 use crate::slice_events::SliceEvents;
 use crate::string_head::{front_chunk, front_string};
-use cbor_automaton::{Position, Token, front_head, take_head, whole_open, whole_piece};
 use cbor_head::Width;
 use cbor_machine::below_256;
+use cbor_steps::{Position, Token, front_head, take_head, whole_open, whole_piece};
 
 impl<'a> SliceEvents<'a> {
     /// What comes next, where an item is due and its definite head stands whole at the front. A

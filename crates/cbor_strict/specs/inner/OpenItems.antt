@@ -9,7 +9,7 @@ use Rattle.cbor_head.specs.Limits.{Bounds}
 use Rattle.cbor_head.specs.declared.reason.Refusal.{Refusal}
 use Rattle.cbor_head.specs.declared.width.Width.{Width}
 use Rattle.cbor_judging.specs.Place.{Container, Place, at_item, counted, close, payload, done as at_end, IsTaking}
-use Rattle.cbor_machine.specs.NextEvent.{ItemEventsView}
+use Rattle.cbor_standing.specs.NextEvent.{ItemEventsView}
 use Rattle.cbor_automaton.specs.Marks.{mark_of, IsProper}
 use Rattle.cbor_text.specs.TextCheck.{HasChecked}
 use Rattle.cbor_head.specs.declared.major.Major.TheVariants as majors

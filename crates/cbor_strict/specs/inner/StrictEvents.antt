@@ -6,9 +6,9 @@ use Rattle.cbor_head.specs.Limits.{Bounds, bounds}
 use Rattle.cbor_head.specs.declared.order.KeyOrder.{KeyOrder}
 use Rattle.cbor_head.specs.declared.reason.Refusal.{Refusal}
 use Rattle.cbor_automaton.specs.Trace.{Mark}
-use Rattle.cbor_machine.specs.MachineView.{MachineView}
-use Rattle.cbor_machine.specs.Machine.{IsComplete}
-use Rattle.cbor_machine.specs.NextEvent.{ItemEventsView, StandsBetween, IsNextEvent, IsEnd, call}
+use Rattle.cbor_standing.specs.MachineView.{MachineView}
+use Rattle.cbor_standing.specs.Machine.{IsComplete}
+use Rattle.cbor_standing.specs.NextEvent.{ItemEventsView, StandsBetween, IsNextEvent, IsEnd, call}
 use Rattle.cbor_automaton.specs.declared.event.Event.{Event}
 use Rattle.cbor_strict.specs.declared.open_items.OpenItems.{OpenItems}
 use Rattle.cbor_judging.specs.Readers.{IsRead, Loses}

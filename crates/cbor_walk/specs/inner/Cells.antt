@@ -7,7 +7,7 @@ use Rattle.cbor_head.specs.Verdict.{refusal}
 use Rattle.cbor_head.specs.declared.order.KeyOrder.{KeyOrder}
 use Rattle.cbor_head.specs.declared.reason.Reason.TheVariants as reasons
 use Rattle.cbor_head.specs.declared.width.Width.TheVariants.{Indefinite}
-use Rattle.cbor_canonical.specs.Front.{front_of}
+use Rattle.cbor_keys.specs.Front.{front_of}
 use Rattle.cbor_judging.specs.LastKey as keys
 use Rattle.cbor_walk.specs.inner.Path as path
 use Rattle.cbor_walk.specs.inner.Path.{level_bytes, bytes_before, AreClean, HasEnded}

@@ -8,7 +8,7 @@ use Rattle.cbor_head.specs.declared.reason.Reason.{Reason}
 use Rattle.cbor_head.specs.declared.reason.Reason.TheVariants.{Reserved, NoIndefinite, Float, StrayBreak, TooDeep}
 use Rattle.cbor_head.specs.declared.reason.Refusal.{Refusal}
 use Rattle.cbor_head.specs.Value.{AreBytes}
-use Rattle.cbor_automaton.specs.Whole.{IsArgument}
+use Rattle.cbor_steps.specs.Whole.{IsArgument}
 use Rattle.cbor_walk.specs.inner.Leaves.{IsLeaf, IsShortest}
 use Rattle.cbor_walk.specs.inner.Path.{Level, bytes_before, AreClean}
 use Rattle.cbor_walk.specs.inner.Stop.{IsStopped}

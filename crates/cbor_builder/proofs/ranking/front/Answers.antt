@@ -1,5 +1,5 @@
 use Rattle.std.proofs.Common.{length, length-take, ap, ◌∙◌, arith}
-use Rattle.cbor_canonical.specs.Front.{front_of}
+use Rattle.cbor_keys.specs.Front.{front_of}
 use Rattle.cbor_buffer.proofs.Slices.{slice_within}
 use Rattle.cbor_builder.proofs.ranking.front.Goals as goal
 

@@ -1,5 +1,5 @@
 use Rattle.std.proofs.Common.{arith}
-use Rattle.cbor_canonical.proofs.KeyFronts.{are_bytes}
+use Rattle.cbor_keys.proofs.KeyFronts.{are_bytes}
 use Rattle.cbor_builder.proofs.FirstRepeat.{first_found, all_fronted}
 use Rattle.cbor_builder.proofs.repeats.first_repeat.Goals as goal
 

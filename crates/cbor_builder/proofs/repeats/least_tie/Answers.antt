@@ -1,7 +1,7 @@
 use Rattle.std.proofs.Common.{◌+◌, length, min, Some, refl, sym, ap, ◌∙◌, subst, arith}
 use Rattle.cbor_builder.specs.inner.Repeats.{IsLeastSoFar, nth}
 use Rattle.cbor_buffer.specs.Spans.{no_span}
-use Rattle.cbor_canonical.proofs.KeyFronts.{are_bytes}
+use Rattle.cbor_keys.proofs.KeyFronts.{are_bytes}
 use Rattle.cbor_builder.proofs.FirstRepeat.{least_passed, least_met, least_end}
 use Rattle.cbor_builder.proofs.repeats.least_tie.Goals as goal
 use Rattle.cbor_builder.proofs.repeats.least_tie.Goals.{then-is_eq, else-is_eq}

@@ -1,7 +1,7 @@
 use Rattle.std.proofs.Common.{arith, ◌↔◌, IsTrue, List, ◌++◌, map, sym, ap, ◌∙◌, subst, IsPermutation}
 use Rattle.cbor_builder.specs.inner.Neighbours.{DoNeighboursDiffer}
 use Rattle.cbor_builder.specs.inner.Front.{key_of, AreFronted}
-use Rattle.cbor_canonical.proofs.KeyFronts.{are_bytes}
+use Rattle.cbor_keys.proofs.KeyFronts.{are_bytes}
 use Rattle.cbor_builder.proofs.Ranks.{fronted_permuted, sorted_keys}
 use Rattle.cbor_buffer.specs.declared.span.Span.{Span}
 use Rattle.cbor_builder.proofs.SortedSpans.{all_sorted}

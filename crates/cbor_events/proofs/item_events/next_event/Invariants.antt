@@ -1,10 +1,10 @@
 use Rattle.std.proofs.Common.{◌≡◌, ◌-◌, ◌<◌, ◌≤◌, ℕ, List, length}
 use Rattle.std.specs.Prelude.{Option}
 use Rattle.cbor_automaton.specs.Trace.{Mark}
-use Rattle.cbor_machine.specs.MachineView.{MachineView}
-use Rattle.cbor_machine.specs.Machine.{IsIdle}
-use Rattle.cbor_machine.specs.NextEvent.{StandsBetween}
-use Rattle.cbor_machine.specs.Calls.{HasRead}
+use Rattle.cbor_standing.specs.MachineView.{MachineView}
+use Rattle.cbor_standing.specs.Machine.{IsIdle}
+use Rattle.cbor_standing.specs.NextEvent.{StandsBetween}
+use Rattle.cbor_standing.specs.Calls.{HasRead}
 use Rattle.cbor_events.proofs.item_events.next_event.Given as goal
 
 abbrev pub invariant-reads : goal.invariant-reads

@@ -1,8 +1,8 @@
 use Rattle.std.proofs.Common.{◌<◌, inl, inr, length, take, refl, ap, arith, ◌++◌, length-take}
 use Rattle.cbor_head.specs.declared.reason.Refusal.{Refusal}
-use Rattle.cbor_machine.specs.Machine.{wanted}
-use Rattle.cbor_machine.proofs.NextEvents.{complete-wants, wants-short, front-again}
-use Rattle.cbor_machine.proofs.NextRefusals.{still-due, cut-is, cut-here}
+use Rattle.cbor_standing.specs.Machine.{wanted}
+use Rattle.cbor_standing.proofs.NextEvents.{complete-wants, wants-short, front-again}
+use Rattle.cbor_standing.proofs.NextRefusals.{still-due, cut-is, cut-here}
 use Rattle.cbor_events.proofs.Parts.{part-read, some-read}
 use Rattle.cbor_events.proofs.item_events.read_part.Goals as goal
 

@@ -1,5 +1,5 @@
 use Rattle.std.proofs.Common.{arith, refl}
-use Rattle.cbor_automaton.specs.declared.token.Token.TheVariants as tokens
+use Rattle.cbor_steps.specs.declared.token.Token.TheVariants as tokens
 use Rattle.cbor_reader.proofs.LevelEvents.{takes-part, if-ok, fed-string, fed-some-array, fed-some-map, fed-break}
 use Rattle.cbor_reader.proofs.slice_builder.feed.Goals as goal
 

@@ -2,11 +2,11 @@ use Rattle.std.proofs.Common.{◌++◌, ℕ, List, length, true, false, true≢f
 use Rattle.std.specs.Prelude.{IsUtf8}
 use Rattle.cbor_head.specs.Head.{shortest_head}
 use Rattle.cbor_head.specs.declared.major.Major.TheVariants as majors
-use Rattle.cbor_automaton.specs.Token.{IsStringToken}
+use Rattle.cbor_steps.specs.Token.{IsStringToken}
 use Rattle.cbor_builder.specs.Built.{built}
 use Rattle.cbor_builder.specs.Parts.{give}
-use Rattle.cbor_automaton.specs.declared.token.Token.{Token}
-use Rattle.cbor_automaton.specs.declared.token.Token.TheVariants as tokens
+use Rattle.cbor_steps.specs.declared.token.Token.{Token}
+use Rattle.cbor_steps.specs.declared.token.Token.TheVariants as tokens
 use Rattle.cbor_reader.specs.inner.Levels.{IsWhole}
 use Rattle.cbor_reader.proofs.LevelEvents.{takes-part, if-ok, simple-number, fed-unsigned, fed-negative, fed-simple, fed-array, fed-map, fed-tag}
 use Rattle.cbor_reader.proofs.LevelWholes.{string-whole}

@@ -1,6 +1,6 @@
 use Rattle.std.proofs.Common.{◌+◌, ◌-◌, length, refl, ap, ◌∙◌, arith}
 use Rattle.std.proofs.lemmas.List.{length-drop}
-use Rattle.cbor_machine.proofs.Feeding.{rest-is}
+use Rattle.cbor_standing.proofs.Feeding.{rest-is}
 use Rattle.cbor_reader.proofs.LevelWholes.{ends-front, in-front}
 use Rattle.cbor_reader.proofs.slice_builder.from_content.Goals as goal
 

@@ -1,5 +1,5 @@
 use Rattle.std.proofs.Common.{subst, ap, sym, ◌∙◌}
-use Rattle.cbor_machine.specs.NextEvent.{StandsBetween}
+use Rattle.cbor_standing.specs.NextEvent.{StandsBetween}
 use Rattle.cbor_slices.specs.SliceEvents.{IsNextTold}
 use Rattle.cbor_slices.specs.SliceView.{SliceEventsView}
 use Rattle.cbor_reader.proofs.LevelWholes.{told-live}

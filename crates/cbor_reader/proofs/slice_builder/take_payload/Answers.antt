@@ -1,7 +1,7 @@
 use Rattle.std.proofs.Common.{◌≡◌, ◌∙◌, length, take, refl, sym, ap, subst, true≢false, arith}
 use Rattle.std.specs.Prelude.{IsUtf8}
 use Rattle.std.proofs.lemmas.List.{length-take}
-use Rattle.cbor_automaton.specs.declared.token.Token.TheVariants.{Piece}
+use Rattle.cbor_steps.specs.declared.token.Token.TheVariants.{Piece}
 use Rattle.cbor_reader.proofs.LevelStrings.{no-content, some-content}
 use Rattle.cbor_reader.proofs.slice_builder.take_payload.Goals as goal
 use Rattle.cbor_reader.proofs.slice_builder.take_payload.Goals.{else-text-via-then-text+else-not-is_text_front, else-text-via-else-text}

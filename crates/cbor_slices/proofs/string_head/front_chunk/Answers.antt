@@ -1,7 +1,7 @@
 use Rattle.std.proofs.Common.{◌≡◌, ◌/◌, true, ap, ◌∙◌, arith}
 use Rattle.cbor_automaton.specs.Automaton.{major_at}
-use Rattle.cbor_automaton.specs.State.{major_of}
-use Rattle.cbor_automaton.proofs.WholeHeads.{chunk-run, payload-some}
+use Rattle.cbor_steps.specs.State.{major_of}
+use Rattle.cbor_steps.proofs.WholeHeads.{chunk-run, payload-some}
 use Rattle.cbor_slices.proofs.string_head.front_chunk.Goals as goal
 
 pub overflow_sub-used : goal.overflow_sub-used

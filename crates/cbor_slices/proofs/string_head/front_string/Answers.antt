@@ -2,8 +2,8 @@ use Rattle.std.proofs.Common.{◌≡◌, ◌/◌, ◌-◌, false, refl, ap, arit
 use Rattle.cbor_automaton.specs.Automaton.{in_payload, major_at}
 use Rattle.cbor_head.specs.declared.major.Major.TheVariants as majors
 use Rattle.cbor_automaton.specs.declared.event.EventKind.TheVariants as kinds
-use Rattle.cbor_automaton.specs.declared.opening.Numbered.TheVariants as numbered
-use Rattle.cbor_automaton.proofs.WholeHeads.{numbered-run, payload-some}
+use Rattle.cbor_steps.specs.declared.opening.Numbered.TheVariants as numbered
+use Rattle.cbor_steps.proofs.WholeHeads.{numbered-run, payload-some}
 use Rattle.std.specs.Prelude.{Some}
 use Rattle.cbor_slices.proofs.string_head.front_string.Goals as goal
 

@@ -1,7 +1,7 @@
 use Rattle.std.proofs.Common.{◌<◌, ◌++◌, ◌∙◌, length, sym, subst}
 use Rattle.std.specs.Prelude.{Ok}
 use Rattle.cbor_head.specs.Complaint.{strict}
-use Rattle.cbor_machine.specs.NextEvent.{IsNext, call}
+use Rattle.cbor_standing.specs.NextEvent.{IsNext, call}
 use Rattle.cbor_strict.specs.inner.OpenItems.{Stands, HasPartCome}
 use Rattle.cbor_judging.specs.Reading.{AreRefused}
 use Rattle.cbor_judging.proofs.Payloads.{IsPiece}

@@ -1,7 +1,7 @@
 use Rattle.std.proofs.Common.{ℕ, ◌+◌, ◌-◌, ◌<◌, ◌≤◌, List, ◌∷◌, length, take, get_or, refl, ap, subst, arith}
 use Rattle.std.proofs.lemmas.List.{length-take-le}
 use Rattle.cbor_head.specs.Value.{AreBytes}
-use Rattle.cbor_canonical.proofs.KeyFronts.{are_bytes}
+use Rattle.cbor_keys.proofs.KeyFronts.{are_bytes}
 use Rattle.cbor_walk.specs.declared.any_item.Any.TheVariants as any
 use Rattle.cbor_walk.proofs.AnyItem.{a_text, some_bytes}
 use Rattle.cbor_walk.proofs.AnyRefusals.{refuses, answers, payload_cut_here, no_text_here}

@@ -1,7 +1,7 @@
 use Rattle.std.proofs.Common.{false, arith}
 use Rattle.std.proofs.lemmas.List.{take_rest}
 use Rattle.cbor_head.specs.Value.{AreBytes}
-use Rattle.cbor_canonical.proofs.KeyFronts.{are_bytes}
+use Rattle.cbor_keys.proofs.KeyFronts.{are_bytes}
 use Rattle.cbor_walk.specs.inner.Items.{IsShortString}
 use Rattle.cbor_walk.specs.inner.Leaves.{IsLeaf}
 use Rattle.cbor_walk.proofs.ShortLeaves.{short-bytes, short-text}

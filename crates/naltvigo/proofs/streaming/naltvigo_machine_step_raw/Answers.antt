@@ -1,6 +1,6 @@
 use Rattle.std.proofs.Common.{◌≡◌, refl, sym, subst}
 use Rattle.cbor_automaton.specs.declared.event.Event.{Event}
-use Rattle.cbor_machine.specs.declared.step.Out.{Out}
+use Rattle.cbor_standing.specs.declared.step.Out.{Out}
 use Rattle.naltvigo.specs.Streaming.{IsToldEvent, IsToldOut}
 use Rattle.naltvigo.proofs.streaming.naltvigo_machine_step_raw.Goals as goal
 

@@ -1,7 +1,7 @@
 use Rattle.std.proofs.Common.{◌≡◌, length, [], refl, ap, sym, arith}
 use Rattle.cbor_automaton.specs.Automaton.{at_item, reached}
-use Rattle.cbor_automaton.specs.State.{frames_of}
-use Rattle.cbor_machine.proofs.Standing.{meant}
+use Rattle.cbor_steps.specs.State.{frames_of}
+use Rattle.cbor_standing.proofs.Standing.{meant}
 use Rattle.cbor_machine.proofs.machine.Machine.new.Goals as goal
 
 pub returns-clause-starts : goal.returns-clause-starts

@@ -2,13 +2,13 @@ use Rattle.std.proofs.Common.{subst, ◌≡◌, ◌+◌, ◌-◌, take, length, 
 use Rattle.std.proofs.lemmas.List.{length-take}
 use Rattle.cbor_head.specs.Verdict.{refusal}
 use Rattle.cbor_head.specs.declared.reason.Reason.TheVariants.{TooLong}
-use Rattle.cbor_machine.specs.declared.step.Out.TheVariants as outs
-use Rattle.cbor_machine.specs.MachineView.{MachineView}
-use Rattle.cbor_machine.specs.Steps.{Ran}
-use Rattle.cbor_machine.proofs.Standing.{are_bytes-take, fit-sound, front-walked, length-front, step-from, stopped, answered}
-use Rattle.cbor_automaton.specs.State.{IsFit}
+use Rattle.cbor_standing.specs.declared.step.Out.TheVariants as outs
+use Rattle.cbor_standing.specs.MachineView.{MachineView}
+use Rattle.cbor_standing.specs.Steps.{Ran}
+use Rattle.cbor_standing.proofs.Standing.{are_bytes-take, fit-sound, front-walked, length-front, step-from, stopped, answered}
+use Rattle.cbor_steps.specs.State.{IsFit}
 use Rattle.cbor_machine.proofs.Reasons.{form-machine}
-use Rattle.cbor_automaton.proofs.Frames.{not-done}
+use Rattle.cbor_steps.proofs.Frames.{not-done}
 use Rattle.cbor_machine.proofs.machine.Machine.take_part.Goals as goal
 
 pub returns-in-Told-clause-walked : goal.returns-in-Told-clause-walked

@@ -1,13 +1,13 @@
 use Rattle.std.proofs.Common.{◌≡◌, ◌+◌, length, arith, ap, refl, ◌∙◌, subst}
-use Rattle.cbor_machine.specs.MachineView.{MachineView}
-use Rattle.cbor_automaton.specs.State.{state_of, wanted_at}
-use Rattle.cbor_machine.specs.Steps.{Ran}
-use Rattle.cbor_automaton.specs.Walk.{IsWalked}
-use Rattle.cbor_machine.specs.declared.step.Out.TheVariants as outs
-use Rattle.cbor_automaton.specs.declared.up_to_event.Walked.TheVariants.{Told}
-use Rattle.cbor_automaton.proofs.Frames.{settled_fit}
-use Rattle.cbor_machine.proofs.NextEvents.{all-used, wants-all}
-use Rattle.cbor_machine.proofs.Standing.{answered, fit-sound, step-from}
+use Rattle.cbor_standing.specs.MachineView.{MachineView}
+use Rattle.cbor_steps.specs.State.{state_of, wanted_at}
+use Rattle.cbor_standing.specs.Steps.{Ran}
+use Rattle.cbor_steps.specs.Walk.{IsWalked}
+use Rattle.cbor_standing.specs.declared.step.Out.TheVariants as outs
+use Rattle.cbor_steps.specs.declared.up_to_event.Walked.TheVariants.{Told}
+use Rattle.cbor_steps.proofs.Frames.{settled_fit}
+use Rattle.cbor_standing.proofs.NextEvents.{all-used, wants-all}
+use Rattle.cbor_standing.proofs.Standing.{answered, fit-sound, step-from}
 use Rattle.cbor_machine.proofs.machine.Machine.take_whole.Goals as goal
 
 pub returns-clause-answers : goal.returns-clause-answers

@@ -1,7 +1,7 @@
 use Rattle.std.proofs.Common.{◌≡◌, ℕ, List}
 use Rattle.std.specs.Prelude.{IsSome}
 use Rattle.cbor_head.specs.Limits.{Bounds}
-use Rattle.cbor_machine.specs.NextEvent.{ItemEventsView}
+use Rattle.cbor_standing.specs.NextEvent.{ItemEventsView}
 use Rattle.cbor_reader.specs.inner.PlainItems.{IsEndingAt}
 use Rattle.cbor_reader.proofs.plain_items.PlainItems.end_full.Given as goal
 

@@ -1,8 +1,8 @@
 use Rattle.std.proofs.Common.{◌≡◌, ◌-◌, length, take, [], refl, ap, sym, arith}
 use Rattle.std.proofs.lemmas.List.{length-take}
 use Rattle.cbor_automaton.specs.Automaton.{at_item, reached}
-use Rattle.cbor_automaton.specs.State.{frames_of}
-use Rattle.cbor_machine.proofs.Standing.{meant}
+use Rattle.cbor_steps.specs.State.{frames_of}
+use Rattle.cbor_standing.proofs.Standing.{meant}
 use Rattle.cbor_slices.proofs.slice_events.SliceEvents.new.Goals as goal
 
 pub returns-clause-starts : goal.returns-clause-starts

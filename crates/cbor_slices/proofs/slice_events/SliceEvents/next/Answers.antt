@@ -2,13 +2,13 @@ use Rattle.std.proofs.Common.{◌≡◌, ◌-◌, true≢false, subst, length, r
 use Rattle.std.specs.Prelude.{None}
 use Rattle.std.proofs.lemmas.List.{length-drop}
 use Rattle.cbor_slices.specs.SliceEvents.{IsNextTold}
-use Rattle.cbor_machine.specs.NextEvent.{StandsBetween}
-use Rattle.cbor_automaton.specs.State.{is_in_payload}
-use Rattle.cbor_automaton.specs.Token.{IsEventToken}
+use Rattle.cbor_standing.specs.NextEvent.{StandsBetween}
+use Rattle.cbor_steps.specs.State.{is_in_payload}
+use Rattle.cbor_steps.specs.Token.{IsEventToken}
 use Rattle.cbor_slices.specs.SliceView.{SliceEventsView}
 use Rattle.cbor_slices.specs.inner.Slices.{told_at}
-use Rattle.cbor_automaton.specs.declared.token.Token.TheVariants.{Piece}
-use Rattle.cbor_machine.proofs.Feeding.{rest_from, rest-is}
+use Rattle.cbor_steps.specs.declared.token.Token.TheVariants.{Piece}
+use Rattle.cbor_standing.proofs.Feeding.{rest_from, rest-is}
 use Rattle.cbor_slices.proofs.Slices.{no-piece, stays, whole-payload, run-from, event-next}
 use Rattle.cbor_slices.proofs.slice_events.SliceEvents.next.Goals as goal
 use Rattle.cbor_slices.proofs.slice_events.SliceEvents.next.Goals.{then-is_none+in-Item+in_default-front_head, then-is_none+in_default+in-Payload+else-not-is_empty, then-is_none+in_default+in_default-position+in-Chunks+in_default-whole_chunk, then-is_none+in_default+in_default-position+in_default-position-2, else-is_none}

@@ -3,15 +3,15 @@ use Rattle.std.specs.Prelude.{None}
 use Rattle.std.proofs.lemmas.List.{length-drop, length-take-le, take-append-drop}
 use Rattle.cbor_slices.specs.SliceView.{SliceEventsView}
 use Rattle.cbor_head.specs.declared.width.Width.TheVariants.{Direct}
-use Rattle.cbor_automaton.specs.Token.{kind_of}
+use Rattle.cbor_steps.specs.Token.{kind_of}
 use Rattle.cbor_automaton.specs.Trace.{a_byte}
 use Rattle.cbor_automaton.specs.Automaton.{in_chunks, reached}
-use Rattle.cbor_automaton.specs.State.{frames_of, major_of, state_of, wanted_at, is_in_payload, is_done, IsSettled}
-use Rattle.cbor_automaton.specs.Whole.{IsEventRun}
+use Rattle.cbor_steps.specs.State.{frames_of, major_of, state_of, wanted_at, is_in_payload, is_done, IsSettled}
+use Rattle.cbor_steps.specs.Whole.{IsEventRun}
 use Rattle.cbor_slices.specs.inner.Slices.{told_at}
-use Rattle.cbor_automaton.specs.declared.position.Position.TheVariants as positions
-use Rattle.cbor_automaton.specs.declared.token.Token.TheVariants as tokens
-use Rattle.cbor_machine.proofs.Feeding.{rest_from, rest-is}
+use Rattle.cbor_steps.specs.declared.position.Position.TheVariants as positions
+use Rattle.cbor_steps.specs.declared.token.Token.TheVariants as tokens
+use Rattle.cbor_standing.proofs.Feeding.{rest_from, rest-is}
 use Rattle.cbor_automaton.proofs.Runs.{piece_last}
 use Rattle.cbor_slices.proofs.Slices.{no-refusal, whole-payload, run-from, event-next}
 use Rattle.cbor_slices.proofs.slice_events.SliceEvents.next_chunk.Goals as goal

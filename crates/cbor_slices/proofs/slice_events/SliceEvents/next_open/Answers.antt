@@ -1,9 +1,9 @@
 use Rattle.std.proofs.Common.{◌≡◌, ◌-◌, true≢false, length, refl, ap, sym, arith, ◌∙◌}
 use Rattle.std.specs.Prelude.{None}
 use Rattle.std.proofs.lemmas.List.{length-drop}
-use Rattle.cbor_automaton.specs.State.{is_in_payload}
+use Rattle.cbor_steps.specs.State.{is_in_payload}
 use Rattle.cbor_slices.specs.inner.Slices.{told_at}
-use Rattle.cbor_machine.proofs.Feeding.{rest_from, rest-is}
+use Rattle.cbor_standing.proofs.Feeding.{rest_from, rest-is}
 use Rattle.cbor_slices.proofs.Slices.{no-refusal, no-piece, run-from, event-next}
 use Rattle.cbor_slices.proofs.slice_events.SliceEvents.next_open.Goals as goal
 

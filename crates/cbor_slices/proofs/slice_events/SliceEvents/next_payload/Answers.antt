@@ -2,8 +2,8 @@ use Rattle.std.proofs.Common.{◌≡◌, ◌-◌, length, refl, ap, sym, arith, 
 use Rattle.std.specs.Prelude.{None}
 use Rattle.std.proofs.lemmas.List.{length-drop}
 use Rattle.cbor_slices.specs.inner.Slices.{told_at}
-use Rattle.cbor_automaton.specs.declared.token.Token.TheVariants.{Piece}
-use Rattle.cbor_machine.proofs.Feeding.{rest_from, rest-is}
+use Rattle.cbor_steps.specs.declared.token.Token.TheVariants.{Piece}
+use Rattle.cbor_standing.proofs.Feeding.{rest_from, rest-is}
 use Rattle.cbor_slices.proofs.Slices.{no-refusal, whole-payload, run-from, event-next}
 use Rattle.cbor_slices.proofs.slice_events.SliceEvents.next_payload.Goals as goal
 

@@ -2,11 +2,11 @@ use Rattle.std.proofs.Common.{◌≡◌, ◌-◌, ◌++◌, ℕ, List, false, tr
 use Rattle.std.specs.Prelude.{None}
 use Rattle.std.proofs.lemmas.List.{length-drop, length-take-le, take-append-drop}
 use Rattle.cbor_slices.specs.SliceView.{SliceEventsView}
-use Rattle.cbor_automaton.specs.State.{frames_of, wanted_at, is_in_payload, is_done}
+use Rattle.cbor_steps.specs.State.{frames_of, wanted_at, is_in_payload, is_done}
 use Rattle.cbor_slices.specs.inner.Slices.{told_at}
-use Rattle.cbor_automaton.specs.declared.position.Position.TheVariants as positions
-use Rattle.cbor_automaton.specs.declared.token.Token.TheVariants as tokens
-use Rattle.cbor_machine.proofs.Feeding.{rest_from, rest-is}
+use Rattle.cbor_steps.specs.declared.position.Position.TheVariants as positions
+use Rattle.cbor_steps.specs.declared.token.Token.TheVariants as tokens
+use Rattle.cbor_standing.proofs.Feeding.{rest_from, rest-is}
 use Rattle.cbor_slices.proofs.Slices.{no-refusal, string-event, string-whole, alone-whole, no-piece, whole-payload, run-from, event-next}
 use Rattle.cbor_slices.proofs.slice_events.SliceEvents.next_whole.Goals as goal
 

@@ -1,12 +1,12 @@
 use Rattle.std.proofs.Common.{◌≡◌, ◌-◌, subst, length, refl, ap, sym, arith, ◌∙◌}
 use Rattle.std.specs.Prelude.{None}
 use Rattle.std.proofs.lemmas.List.{length-drop}
-use Rattle.cbor_automaton.specs.Token.{IsEventToken}
+use Rattle.cbor_steps.specs.Token.{IsEventToken}
 use Rattle.cbor_slices.specs.SliceView.{SliceEventsView}
 use Rattle.cbor_slices.specs.inner.Slices.{told_at, IsSpent}
 use Rattle.cbor_slices.specs.SliceEvents.{IsNextTold}
-use Rattle.cbor_machine.specs.NextEvent.{StandsBetween}
-use Rattle.cbor_machine.proofs.Feeding.{rest_from, rest-is}
+use Rattle.cbor_standing.specs.NextEvent.{StandsBetween}
+use Rattle.cbor_standing.proofs.Feeding.{rest_from, rest-is}
 use Rattle.cbor_slices.proofs.Slices.{no-piece, stays, run-from, event-next}
 use Rattle.cbor_slices.proofs.slice_events.SliceEvents.slow.Goals as goal
 use Rattle.cbor_slices.proofs.slice_events.SliceEvents.slow.Goals.{then-is_none+in-Item+in_default-whole_open, then-is_none+in_default, else-is_none}

@@ -1,14 +1,14 @@
 use Rattle.std.proofs.Common.{◌≡◌, ℕ, ◌+◌, ◌-◌, ◌<◌, length, refl, ap, sym, subst, arith, ◌∙◌}
 use Rattle.std.specs.Prelude.{None, Some}
 use Rattle.std.proofs.lemmas.List.{length-drop, nil_from_length}
-use Rattle.cbor_automaton.specs.State.{IsFit, IsSettled}
-use Rattle.cbor_automaton.specs.Walk.{IsTold, IsEnded}
+use Rattle.cbor_steps.specs.State.{IsFit, IsSettled}
+use Rattle.cbor_steps.specs.Walk.{IsTold, IsEnded}
 use Rattle.cbor_head.specs.Verdict.{refusal}
 use Rattle.cbor_head.specs.declared.reason.Refusal.{Refusal}
-use Rattle.cbor_automaton.specs.Token.{IsEventToken}
+use Rattle.cbor_steps.specs.Token.{IsEventToken}
 use Rattle.cbor_slices.specs.SliceView.{SliceEventsView}
 use Rattle.cbor_slices.specs.inner.Slices.{told_at, IsSpent}
-use Rattle.cbor_machine.proofs.Feeding.{rest_from, rest-is}
+use Rattle.cbor_standing.proofs.Feeding.{rest_from, rest-is}
 use Rattle.cbor_slices.proofs.Slices.{no-piece, walked-event, event-next, byte-next, ended-next, stopped-refusal, reason-at}
 use Rattle.cbor_slices.proofs.slice_events.SliceEvents.walk_on.Goals as goal
 

@@ -1,7 +1,7 @@
 use Rattle.std.proofs.Common.{Some, length, refl, sym, ap, ◌∙◌, subst, arith}
 use Rattle.std.specs.Prelude.{Ok}
 use Rattle.cbor_head.specs.Complaint.{strict}
-use Rattle.cbor_machine.specs.Machine.{KeepsLimits}
+use Rattle.cbor_standing.specs.Machine.{KeepsLimits}
 use Rattle.cbor_judging.specs.Refusals.{IsReaderReason}
 use Rattle.cbor_strict.specs.StrictReader.{StrictEventsView, StandsStrictly, IsNextStrict, IsStrictRefusal, strict_call}
 use Rattle.cbor_strict.proofs.StrictReading.{next_told, next_refused, stands_next, refused_reason, somewhere_little, never_some, none_is, shown}

@@ -1,6 +1,6 @@
 use Rattle.std.proofs.Common.{ℕ, ◌≡◌, ◌≢◌, ◌∷◌, ◌++◌, [], ◌+◌, ◌*◌, ◌<◌, List, length, reverse, Option, Some, None, refl, sym, ap, ◌∙◌, subst, arith}
 use Rattle.cbor_head.specs.Spelling.{Spelling, spell, value_of}
-use Rattle.cbor_head.proofs.ReadLaws.{unique}
+use Rattle.cbor_grammar.proofs.ReadLaws.{unique}
 use Rattle.cbor_item.specs.OpenValues.{OpenValue, the_whole}
 use Rattle.cbor_view.specs.Seen.{seen, standing}
 use Rattle.cbor_view.specs.inner.Coming.{IsUnderway, IsTaken, IsBuilding, bytes_of, bytes_around}

@@ -1,6 +1,6 @@
 use Rattle.std.proofs.Common.{◌≡◌, nat_lt, sym, subst, arith}
 use Rattle.cbor_head.specs.Order.{key_lt}
-use Rattle.cbor_canonical.proofs.KeyFronts.{are_bytes, bytes_slice}
+use Rattle.cbor_keys.proofs.KeyFronts.{are_bytes, bytes_slice}
 use Rattle.cbor_walk.specs.inner.Cells.{last_key, key_at}
 use Rattle.cbor_walk.proofs.KeyOrder.{by_front}
 use Rattle.cbor_walk.proofs.level.Level.rises.Goals as goal

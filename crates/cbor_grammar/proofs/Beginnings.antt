@@ -1,0 +1,19 @@
+-- What is answered of an item at the front.
+use Rattle.std.proofs.Common.{ℕ, ◌≡◌, List, [], ◌++◌, take, refl, sym}
+use Rattle.std.proofs.lemmas.List.{append-nil}
+use Rattle.cbor_head.specs.Limits.{Bounds}
+use Rattle.cbor_head.specs.Spelling.{Spelling, spell, IsItem}
+use Rattle.cbor_head.specs.Complaint.{Rules, Complaint, Complains}
+use Rattle.cbor_head.specs.Verdict.{accepted, IsVerdict}
+use Rattle.cbor_grammar.proofs.Verdicts.{whole_longest}
+
+-- an item without complaint, whatever stands behind it
+pub item_decides : (limits : Bounds) (r : Rules) (input u : List ℕ) (s : Spelling) → IsItem limits.depth s (spell s) → take limits.bytes input ≡ spell s ++ u → ((c : Complaint) → ¬ Complains r 0 s c) → IsVerdict limits r input (accepted s)
+item_decides limits r input u s i e none = record {
+  p = spell s;
+  longest = whole_longest limits.depth s (take limits.bytes input) u i e;
+  item = s;
+  rest = [];
+  starts = record { spelled = i.spelled; within = i.within; bytes_are = sym (append-nil (spell s)) };
+  decides = (refl, refl, λ c x m. none c x);
+}

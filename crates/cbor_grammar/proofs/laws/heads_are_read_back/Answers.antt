@@ -1,0 +1,17 @@
+use Rattle.std.proofs.Common.{ap, ◌∙◌, ℕ, Some}
+use Rattle.cbor_head.specs.Read.{front}
+use Rattle.cbor_head.specs.declared.width.Width.TheVariants.{Indefinite}
+use Rattle.cbor_head.proofs.HeadBack.{read_head-back}
+use Rattle.cbor_head.proofs.HeadLaws.{read_head-head, told_holds}
+use Rattle.cbor_grammar.proofs.ReadBack.{by_place}
+use Rattle.cbor_grammar.proofs.ReadLaws.{holds_or_open}
+use Rattle.cbor_grammar.proofs.laws.heads_are_read_back.Goals as goal
+
+pub returns-clause-definite : goal.returns-clause-definite
+returns-clause-definite c = λ m w n x h. read_head-head m w n x (holds_or_open w n h) ∙ ap (λ (k : ℕ). Some (front m w k x)) (told_holds w n h)
+
+pub returns-clause-opener : goal.returns-clause-opener
+returns-clause-opener c = λ m n x. read_head-head m Indefinite n x tt
+
+pub returns-clause-only : goal.returns-clause-only
+returns-clause-only c = λ b f small e. let k = read_head-back b f (by_place b small) e in (k.holds, k.bytes_are)

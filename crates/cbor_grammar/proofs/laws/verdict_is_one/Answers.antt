@@ -1,0 +1,8 @@
+use Rattle.cbor_grammar.proofs.OneVerdict.{one_verdict, decides_for_each}
+use Rattle.cbor_grammar.proofs.laws.verdict_is_one.Goals as goal
+
+pub returns-clause-one : goal.returns-clause-one
+returns-clause-one c = one_verdict
+
+pub returns-clause-each : goal.returns-clause-each
+returns-clause-each c = λ limits r p behind s t h i. decides_for_each limits r p behind s t h.0 i.0 h.1 i.1

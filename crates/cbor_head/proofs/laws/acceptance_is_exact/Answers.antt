@@ -1,5 +1,0 @@
-use Rattle.cbor_head.proofs.Accepted.{accepts_exactly}
-use Rattle.cbor_head.proofs.laws.acceptance_is_exact.Goals as goal
-
-pub returns : goal.returns
-returns c = accepts_exactly

@@ -1,0 +1,2 @@
+pub mod KeyFronts
+pub mod KeyWords

@@ -1,0 +1,5 @@
+pub mod Feeding
+pub mod Form
+pub mod NextEvents
+pub mod NextRefusals
+pub mod Standing

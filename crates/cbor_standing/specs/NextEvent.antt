@@ -1,0 +1,143 @@
+-- What is told of an item that is read from a reader.
+use Rattle.std.specs.Prelude.{◌≡◌, ℕ, ◌+◌, ◌<◌, ◌⊎◌, ◌++◌, Bool, true, false, List, [], ◌∷◌, length, Option, Some, None, Result, Ok, Err}
+use Rattle.std.specs.Io.KnownBytes.{Consumes, IsAtEnd}
+use Rattle.cbor_head.specs.Beginning.{MayFollow}
+use Rattle.cbor_head.specs.Complaint.{form}
+use Rattle.cbor_head.specs.Limits.{bounds}
+use Rattle.cbor_head.specs.Verdict.{refusal, refused, IsVerdict}
+use Rattle.cbor_head.specs.declared.reason.Reason.TheVariants.{Read, Truncated, TooLong}
+use Rattle.cbor_head.specs.declared.reason.Refusal.{Refusal}
+use Rattle.cbor_automaton.specs.Trace.{Mark, total}
+use Rattle.cbor_automaton.specs.Marks.{marks_of}
+use Rattle.cbor_automaton.specs.Bytes.{IsEventBytes}
+use Rattle.cbor_standing.specs.MachineView.{MachineView}
+use Rattle.cbor_standing.specs.Machine.{StandsFor, IsComplete, IsWhole, before}
+use Rattle.cbor_automaton.specs.declared.event.Event.{Event}
+use Rattle.cbor_automaton.specs.declared.event.EventKind.{EventKind}
+use Rattle.cbor_automaton.specs.declared.event.EventKind.TheVariants.{Piece}
+
+-- what contracts see of the events of an item: the machine, the bytes of the last piece, and why
+-- no more is read
+pub record ItemEventsView : Type 0 where
+  pub machine : MachineView
+  pub piece : List ℕ
+  pub refusal : Option Refusal
+
+-- The machine has taken t, told ms, and stands where an event ends: ms are all the events of t.
+pub record StandsBetween (m : MachineView) (t : List ℕ) (ms : List Mark) : Type 0 where
+  pub stands : StandsFor m t ms
+  pub whole : total ms ≡ length t
+
+-- One call for the next event: the machine, what the reader holds and the last piece, before it
+-- and after it; and what was taken and told before it.
+pub record Call : Type 0 where
+  pub old : MachineView
+  pub new : MachineView
+  pub held : Option (List ℕ)
+  pub left : Option (List ℕ)
+  pub old_piece : List ℕ
+  pub new_piece : List ℕ
+  pub taken : List ℕ
+  pub told : List Mark
+
+-- the call that led one machine to another
+abbrev pub machine_call : MachineView → MachineView → Option (List ℕ) → Option (List ℕ) → List ℕ → List ℕ → List ℕ → List Mark → Call
+machine_call from to before_it after_it kept piece t ms = record {
+  old = from;
+  new = to;
+  held = before_it;
+  left = after_it;
+  old_piece = kept;
+  new_piece = piece;
+  taken = t;
+  told = ms;
+}
+
+abbrev pub call : ItemEventsView → ItemEventsView → Option (List ℕ) → Option (List ℕ) → List ℕ → List Mark → Call
+call from to before_it after_it t ms = machine_call from.machine to.machine before_it after_it from.piece to.piece t ms
+
+-- ---- an event
+
+-- where a payload is open a piece of it is due, else a head or a break
+abbrev pub IsDue : Bool → EventKind → Type 0
+IsDue true (Piece n) = Unit {0}
+IsDue true kind = ⊥
+IsDue false (Piece n) = ⊥
+IsDue false kind = Unit {0}
+
+-- the bytes of a piece are kept, and any other event leaves those that were
+abbrev pub IsKept : EventKind → List ℕ → List ℕ → List ℕ → Type 0
+IsKept (Piece n) kept piece bytes = piece ≡ bytes
+IsKept kind kept piece bytes = piece ≡ kept
+
+-- the next event
+pub record IsNextEvent (e : Event) (c : Call) : Type 0 where
+  pub unfinished : ¬ IsComplete c.old
+  pub due : IsDue c.old.in_payload e.kind
+  -- its bytes, which the reader lost: of a head by its type, width and argument
+  pub bytes : List ℕ
+  pub consumed : Consumes c.held c.left bytes
+  pub are : IsEventBytes c.told e.width e.kind bytes
+  pub piece_is : IsKept e.kind c.old_piece c.new_piece bytes
+  -- the offset of its first byte
+  pub place : e.place ≡ length c.taken
+  pub stands : StandsBetween c.new (c.taken ++ bytes) (c.told ++ marks_of e.width e.kind)
+
+-- all events were told, and nothing is read
+pub record IsEnd (c : Call) : Type 0 where
+  pub complete : IsComplete c.old
+  pub consumed : Consumes c.held c.left []
+  pub same : c.new_piece ≡ c.old_piece
+  pub stands : StandsBetween c.new c.taken c.told
+
+-- ---- a refusal
+
+-- The reader ended or failed within the item, before the byte limit. No other verdict stood: that
+-- of the bytes taken, as a whole input, is Truncated.
+pub record IsCut (f : Refusal) (c : Call) : Type 0 where
+  pub bytes : List ℕ
+  pub consumed : Consumes c.held c.left bytes
+  pub reason : (f.reason ≡ Read) ⊎ ((f.reason ≡ Truncated) × IsAtEnd c.left)
+  pub is : f ≡ refusal f.reason (length (c.taken ++ bytes)) (length (c.taken ++ bytes))
+  pub verdict : IsVerdict (bounds c.new.depth c.new.bytes) form (c.taken ++ bytes)
+      (refused (refusal Truncated (length (c.taken ++ bytes)) (length (c.taken ++ bytes))))
+  pub short : length (c.taken ++ bytes) < c.new.bytes
+  pub stands : StandsFor c.new (c.taken ++ bytes) c.told
+  pub unfinished : ¬ IsWhole c.new.depth (c.taken ++ bytes)
+
+-- the byte limit is reached within the item
+pub record IsTooLong (f : Refusal) (c : Call) : Type 0 where
+  pub bytes : List ℕ
+  pub consumed : Consumes c.held c.left bytes
+  pub is : f ≡ refusal TooLong c.new.bytes c.new.bytes
+  pub full : length (c.taken ++ bytes) ≡ c.new.bytes
+  -- whatever may follow
+  pub verdict : (more : List ℕ)
+      → IsVerdict (bounds c.new.depth c.new.bytes) form ((c.taken ++ bytes) ++ more) (refused f)
+  pub stands : StandsFor (before c.new (length (c.taken ++ bytes))) (c.taken ++ bytes) c.told
+  pub unfinished : ¬ IsWhole c.new.depth (c.taken ++ bytes)
+
+-- a byte may not follow what was taken
+pub record HasFormError (f : Refusal) (c : Call) : Type 0 where
+  pub bytes : List ℕ
+  pub byte : ℕ
+  pub consumed : Consumes c.held c.left (bytes ++ byte ∷ [])
+  pub is : f ≡ refusal f.reason (length (c.taken ++ bytes)) (length (c.taken ++ bytes) + 1)
+  pub misplaced : ¬ MayFollow c.new.depth (c.taken ++ bytes) byte
+  -- whatever may follow
+  pub verdict : (more : List ℕ)
+      → IsVerdict (bounds c.new.depth c.new.bytes) form ((c.taken ++ bytes ++ byte ∷ []) ++ more) (refused f)
+  -- where the machine stood
+  pub stands : StandsFor (before c.new (length (c.taken ++ bytes))) (c.taken ++ bytes) c.told
+  pub unfinished : ¬ IsWhole c.new.depth (c.taken ++ bytes)
+
+-- of the event, if one is told
+abbrev pub IfTold : Result (Option Event) Refusal → (Event → Type 0) → Type 0
+IfTold (Ok (Some e)) P = P e
+IfTold _ P = Unit {0}
+
+-- what is answered where an event ended
+abbrev pub IsNext : Result (Option Event) Refusal → Call → Type 0
+IsNext (Ok (Some e)) c = IsNextEvent e c
+IsNext (Ok None) c = IsEnd c
+IsNext (Err f) c = ¬ IsComplete c.old × (IsCut f c ⊎ IsTooLong f c ⊎ HasFormError f c)

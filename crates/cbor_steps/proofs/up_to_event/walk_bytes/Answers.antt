@@ -1,0 +1,30 @@
+use Rattle.std.proofs.Common.{arith, length, ap, ◌∙◌, sym}
+use Rattle.cbor_automaton.specs.Automaton.{reached}
+use Rattle.cbor_steps.specs.State.{state_of}
+use Rattle.cbor_automaton.proofs.Runs.{run-goes, run-tells, once-marks}
+use Rattle.cbor_steps.proofs.Frames.{wanted-head, still-going}
+use Rattle.cbor_steps.proofs.up_to_event.walk_bytes.Goals as goal
+
+pub returns-in-Tells-clause-walked : goal.returns-in-Tells-clause-walked
+returns-in-Tells-clause-walked c =
+    run-tells c.args.depth c.loop-i.i c.args.input.now _ _ _ _ c.loop-i-test.true c.loop-i.invariant.ran (sym c.in-Tells.ensures.next)
+    ∙ ap (reached (state_of c.in-Tells.next c.take_byte.new.nest)) (sym (once-marks c.in-Tells.width c.in-Tells.kind c.in-Tells.ensures.once))
+
+pub loop-i-preserved : goal.loop-i-preserved
+loop-i-preserved c = record {
+  ran = run-goes c.args.depth c.loop-i.i c.args.input.now _ _ _ c.loop-i-test.true c.loop-i.invariant.ran (sym c.in-Goes.ensures.next);
+  within = c.in-Goes.ensures.within;
+  fits = c.in-Goes.ensures.fits;
+  began = λ settled. absurd (c.in-Goes.ensures.open settled);
+  going = λ not_done. still-going c.in-Goes.next c.args.depth c.take_byte.new.nest c.in-Goes.ensures.fits c.in-Goes.ensures.open;
+  left = omega (arith, c.loop-i.invariant.left, c.in-Goes.ensures.left);
+}
+
+pub returns-in-Refuses-clause-wanted : goal.returns-in-Refuses-clause-wanted
+returns-in-Refuses-clause-wanted c = λ few. omega (arith, wanted-head c.args.position.now (λ p. let none = ap length (c.requires.spent p) in omega (arith, none, c.loop-i-test.true)), c.loop-i.invariant.left, c.in-Refuses.ensures.left, c.loop-i-test.true)
+
+pub returns-in-Tells-clause-wanted : goal.returns-in-Tells-clause-wanted
+returns-in-Tells-clause-wanted c = λ few. omega (arith, wanted-head c.args.position.now (λ p. let none = ap length (c.requires.spent p) in omega (arith, none, c.loop-i-test.true)), c.loop-i.invariant.left, c.in-Tells.ensures.left, c.loop-i-test.true)
+
+pub returns-in-Refuses-clause-reason : goal.returns-in-Refuses-clause-reason
+returns-in-Refuses-clause-reason c = λ not_done. c.in-Refuses.ensures.reason (c.loop-i.invariant.going not_done)

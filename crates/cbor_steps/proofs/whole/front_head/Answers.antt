@@ -1,0 +1,37 @@
+use Rattle.std.proofs.Common.{◌∙◌, sym, ap, arith, refl, inl, inr}
+use Rattle.cbor_automaton.specs.Automaton.{has_room}
+use Rattle.cbor_steps.specs.State.{frames_of}
+use Rattle.cbor_steps.proofs.whole.front_head.Goals as goal
+
+pub overflow_sub-used : goal.overflow_sub-used
+overflow_sub-used c = omega (arith, c.in_ok-argument.ensures.fewer, c.in_ok-first.ensures.cases.1)
+
+pub returns-then-c-ge224-clause-used : goal.returns-then-c-ge224-clause-used
+returns-then-c-ge224-clause-used c = (omega (arith, c.in_ok-argument.ensures.fewer, c.in_ok-first.ensures.cases.1), omega arith)
+
+pub returns-clause-used : goal.returns-clause-used
+returns-clause-used c = (omega (arith, c.in_ok-argument.ensures.fewer, c.in_ok-first.ensures.cases.1), omega arith)
+
+pub returns-then-c-ge224-clause-here : goal.returns-then-c-ge224-clause-here
+returns-then-c-ge224-clause-here c = record {
+  behind = c.in_ok-first.behind.now;
+  rest = c.in_ok-argument.argument.rest.now;
+  is = c.in_ok-first.ensures.cases.0;
+  argument = c.in_ok-argument.ensures.spelled;
+  used = refl;
+  small = omega arith;
+  room = λ low. absurd (omega arith);
+  simple = λ high. (c.if-low-gt24.false, λ e. elim c.if-number-lt32.either [ inl h ↦ h.1 | inr h ↦ absurd (omega arith) ]);
+}
+
+pub returns-clause-here : goal.returns-clause-here
+returns-clause-here c = record {
+  behind = c.in_ok-first.behind.now;
+  rest = c.in_ok-argument.argument.rest.now;
+  is = c.in_ok-first.ensures.cases.0;
+  argument = c.in_ok-argument.ensures.spelled;
+  used = refl;
+  small = omega arith;
+  room = λ low. ap (has_room c.args.depth (frames_of c.args.nest.now)) (sym c.numbered_at.ensures) ∙ sym c.has_room.ensures ∙ c.if-not-has_room.false;
+  simple = λ high. absurd (omega arith);
+}

@@ -1,0 +1,15 @@
+use Rattle.std.proofs.Common.{ℕ, take, sym, subst}
+use Rattle.cbor_automaton.specs.Automaton.{at_item}
+use Rattle.cbor_steps.specs.State.{frames_of, state_of}
+use Rattle.cbor_steps.specs.Whole.{IsEventRun}
+use Rattle.cbor_steps.specs.Token.{kind_of}
+use Rattle.cbor_steps.specs.declared.token.Token.TheVariants.{Simple}
+use Rattle.cbor_steps.proofs.WholeHeads.{simple-run}
+use Rattle.cbor_steps.proofs.whole.take_head.Goals as goal
+
+pub returns-then-head-ge224-clause-told : goal.returns-then-head-ge224-clause-told
+returns-then-head-ge224-clause-told c = λ from h.
+    let high = c.if-head-ge224.true in
+    let head = c.args.head in
+    subst (λ (k : ℕ). IsEventRun c.args.depth (at_item (frames_of c.args.nest.now)) (state_of c.finish.new.position c.finish.new.nest) (take k from) head.width (kind_of Simple head.number)) (sym h.used)
+    (simple-run c.args.depth (frames_of c.args.nest.now) from head.first h.behind head.width head.number h.rest _ h.is h.argument h.small high (h.simple high).0 (h.simple high).1 c.finish.ensures.state)

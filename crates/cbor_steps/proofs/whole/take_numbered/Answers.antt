@@ -1,0 +1,26 @@
+use Rattle.std.proofs.Common.{ℕ, ◌∙◌, ◌/◌, take, ap, sym, subst, arith}
+use Rattle.cbor_automaton.specs.Automaton.{at_item, has_room}
+use Rattle.cbor_steps.specs.State.{frames_of, state_of}
+use Rattle.cbor_steps.specs.Whole.{IsEventRun, IsStringType}
+use Rattle.cbor_steps.specs.Token.{kind_of}
+use Rattle.cbor_steps.proofs.WholeHeads.{numbered-run, string-at}
+use Rattle.cbor_steps.proofs.whole.take_numbered.Goals as goal
+
+pub enter-requires-clause-room : goal.enter-requires-clause-room
+enter-requires-clause-room c = ap (has_room c.args.depth (frames_of c.args.nest.now)) c.requires.kind ∙ c.requires.room c.requires.numbered
+
+pub returns-clause-told : goal.returns-clause-told
+returns-clause-told c = λ from h.
+    let head = c.args.head in
+    subst (λ (k : ℕ). IsEventRun c.args.depth (at_item (frames_of c.args.nest.now)) (state_of c.enter.new.position c.enter.new.nest) (take k from) head.width (kind_of c.told_of.result head.number)) (sym h.used)
+    (numbered-run c.args.depth (frames_of c.args.nest.now) from head.first h.behind head.width head.number h.rest c.args.kind _ _ h.is h.argument h.small c.requires.kind
+    (ap (has_room c.args.depth (frames_of c.args.nest.now)) c.requires.kind ∙ c.requires.room c.requires.numbered) c.enter.ensures.state (c.told_of.ensures.marks _ _) (c.told_of.ensures.proper _ _))
+
+pub returns-clause-proper : goal.returns-clause-proper
+returns-clause-proper c = c.told_of.ensures.proper c.args.head.width c.args.head.number
+
+pub returns-clause-string : goal.returns-clause-string
+returns-clause-string c = λ is.
+    let s = string-at (c.args.head.first / 32) (subst IsStringType c.requires.kind (c.told_of.ensures.string is)) in
+    let low = s.0 in
+    let high = s.1 in (omega (arith, low), omega (arith, high))

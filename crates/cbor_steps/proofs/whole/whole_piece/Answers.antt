@@ -1,0 +1,22 @@
+use Rattle.std.proofs.Common.{◌+◌, ◌∙◌, take, length, arith, sym, ap, refl, replicate}
+use Rattle.std.proofs.lemmas.List.{length-take-le}
+use Rattle.cbor_automaton.specs.Automaton.{reached}
+use Rattle.cbor_automaton.specs.Trace.{a_byte}
+use Rattle.cbor_steps.specs.State.{frames_of, major_of}
+use Rattle.cbor_automaton.proofs.Runs.{piece_part, piece_last}
+use Rattle.cbor_steps.proofs.whole.whole_piece.Goals as goal
+
+pub returns-then-n-left-clause-told : goal.returns-then-n-left-clause-told
+returns-then-n-left-clause-told c = record {
+  ran = piece_part c.args.depth c.args.chunk (major_of c.args.kind) (frames_of c.args.nest.now) (take (length c.args.rest.now) c.args.rest.now) c.args.left (length c.args.rest.now)
+      (length-take-le (length c.args.rest.now) c.args.rest.now (omega arith)) c.if-n-left.true;
+  proper = (refl, omega arith);
+}
+
+pub returns-clause-told : goal.returns-clause-told
+returns-clause-told c = record {
+  ran = piece_last c.args.depth c.args.chunk (major_of c.args.kind) (frames_of c.args.nest.now) (take (c.args.left + 1) c.args.rest.now) c.args.left
+      (length-take-le (c.args.left + 1) c.args.rest.now (omega arith))
+      ∙ ap (λ q. reached q (replicate (c.args.left + 1) a_byte)) (sym c.finish_string.ensures.state);
+  proper = (refl, omega arith);
+}

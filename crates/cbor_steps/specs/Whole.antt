@@ -1,0 +1,63 @@
+-- Events that are taken from a slice at once.
+use Rattle.std.specs.Prelude.{◌≡◌, ℕ, ◌+◌, ◌-◌, ◌/◌, ◌%◌, ◌<◌, ◌≤◌, Bool, true, List, [], ◌∷◌, ◌++◌, length, take}
+use Rattle.cbor_head.specs.Head.{Holds, IsSimple, with_argument}
+use Rattle.cbor_head.specs.declared.major.Major.{Major}
+use Rattle.cbor_head.specs.declared.major.Major.TheVariants as majors
+use Rattle.cbor_head.specs.declared.width.Width.{Width}
+use Rattle.cbor_automaton.specs.Automaton.{Frame, State, in_head, after, mark, run, reached, has_room, major_at}
+use Rattle.cbor_automaton.specs.Marks.{marks_of, IsProper}
+use Rattle.cbor_automaton.specs.Pieces.{piece_by}
+use Rattle.cbor_automaton.specs.declared.event.EventKind.{EventKind}
+use Rattle.cbor_steps.specs.Token.{kind_of}
+use Rattle.cbor_steps.specs.declared.token.Token.{Token}
+use Rattle.cbor_steps.specs.declared.token.Token.TheVariants as tokens
+use Rattle.cbor_steps.specs.declared.whole.DefiniteHead.{DefiniteHead}
+use Rattle.cbor_steps.specs.declared.whole.Whole.{Whole}
+
+-- behind the low five bits of a first byte stands this argument, and then the rest
+pub record IsArgument (low : ℕ) (behind : List ℕ) (w : Width) (n : ℕ) (rest : List ℕ) : Type 0 where
+  pub spelled : (first : ℕ) → (first + low) ∷ behind ≡ with_argument w first n ++ rest
+  pub holds : Holds w n
+
+-- within these open containers an item may have this head, which stands in front of the bytes
+pub record IsHeadHere (d : ℕ) (fs : List Frame) (xs : List ℕ) (h : DefiniteHead) : Type 0 where
+  pub behind : List ℕ
+  pub rest : List ℕ
+  pub is : xs ≡ h.first ∷ behind
+  pub argument : IsArgument (h.first % 32) behind h.width h.number rest
+  pub used : h.used ≡ length xs - length rest
+  pub small : h.first < 256
+  pub room : h.first < 224 → has_room d fs (major_at (h.first / 32)) ≡ true
+  pub simple : 224 ≤ h.first → (h.first % 32 ≤ 24) × (h.first % 32 ≡ 24 → 32 ≤ h.number)
+
+-- from one state to another these bytes are this event
+pub record IsEventRun (d : ℕ) (q u : State) (bs : List ℕ) (w : Width) (kind : EventKind) : Type 0 where
+  pub ran : run d q bs ≡ reached u (marks_of w kind)
+  pub proper : IsProper w kind
+
+-- a type of strings
+abbrev pub IsStringType : Major → Type 0
+IsStringType majors.Bytes = Unit {0}
+IsStringType majors.Text = Unit {0}
+IsStringType m = ⊥
+
+-- the number of a simple value is that of one
+abbrev pub IsNumberOf : Token → ℕ → Type 0
+IsNumberOf tokens.Simple n = IsSimple n
+IsNumberOf token n = Unit {0}
+
+-- The bytes in front, one more than are left behind the next, are this argument of a head that is open.
+abbrev pub IsArgumentLeft : ℕ → ℕ → List ℕ → Type 0
+IsArgumentLeft left n xs = (d : ℕ) (chunk : Bool) (m : Major) (w : Width) (fs : List Frame) → run d (in_head chunk m w left 0 fs) (take (left + 1) xs) ≡ reached (after chunk m n fs) (mark chunk m w n ∷ [])
+
+-- so many bytes, at least one, are there
+abbrev pub IsFront : ℕ → List ℕ → Type 0
+IsFront n xs = (0 < n) × (n ≤ length xs)
+
+-- from one state to another what stands in front of these bytes is this event
+abbrev pub TellsFront : ℕ → State → State → List ℕ → Whole → Type 0
+TellsFront d q u from w = IsEventRun d q u (take w.used from) w.width (kind_of w.token w.number)
+
+-- what is told leaves the last piece as it is
+abbrev pub LeavesPiece : Whole → Type 0
+LeavesPiece w = (kept from : List ℕ) → piece_by (kind_of w.token w.number) kept from ≡ kept

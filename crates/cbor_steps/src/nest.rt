@@ -1,0 +1,228 @@
+//! The open containers, with the innermost one apart.
+
+ghost use Rattle.std.specs.Prelude.{◌≡◌, ◌≤◌, ◌<◌, ◌++◌, ◌∷◌, [], length, false, None, IfSome};
+ghost use Rattle.cbor_automaton.specs.Automaton as automaton;
+ghost use Rattle.cbor_steps.specs.State.{frame_of, frames_of, state_of, IsSettled};
+ghost use Rattle.cbor_steps.specs.Nest.{due_frame, level_frame, IsAdvanced, IsEnded};
+ghost use Rattle.cbor_steps.specs.Nest.{IsStray, ends_by_break, position_after};
+
+use crate::frame::{Frame, MOST_OPEN};
+use arrayvec::ArrayVec;
+use std::marker::Model;
+
+// The open containers and the input itself.
+const LEVELS: usize = MOST_OPEN + 1;
+
+/// What is due in a container.
+#[derive(Clone, Copy)]
+pub enum Due {
+    /// A member of an array.
+    Item,
+    /// The content of a tag.
+    Content,
+    /// A key of a map.
+    Key,
+    /// A value of a map.
+    Value,
+    /// The same, without a length.
+    IndefiniteItem,
+    IndefiniteKey,
+    IndefiniteValue,
+}
+
+/// An open container: what is due, and how many members or pairs follow that one.
+#[derive(Clone, Copy)]
+pub struct Level {
+    due: Due,
+    left: u64,
+}
+
+/// The open containers, the innermost last.
+pub type Frames = ArrayVec<Frame, MOST_OPEN>;
+
+/// The open containers. The first level is the input itself, with one item due.
+#[derive(Drop)]
+pub struct Nest {
+    outer: [Level; LEVELS],
+    height: usize,
+    top: Level,
+}
+
+impl Model for Nest {
+    ghost use Rattle.std.specs.Prelude.{List, ◌≤◌, ◌∷◌, ◌≡◌};
+    ghost use Rattle.cbor_steps.specs.declared.frame.Frame.{Frame};
+
+    ghost Value = { List Frame };
+
+    ghost use Rattle.cbor_steps.specs.Nest.{nested, IsRooted};
+
+    ghost view = { λ n. nested n.outer n.height n.top };
+
+    ghost invariant = { λ n. IsRooted n.outer n.height n.top };
+}
+
+impl Level {
+    fn frame(self) -> Frame
+        ensures { result ≡ level_frame self }
+    {
+        match self.due {
+            Due::Item => Frame::Array(self.left),
+            Due::Content => Frame::Tag,
+            Due::Key => Frame::Map(self.left, false),
+            Due::Value => Frame::Map(self.left, true),
+            Due::IndefiniteItem => Frame::IndefiniteArray,
+            Due::IndefiniteKey => Frame::IndefiniteMap(false),
+            Due::IndefiniteValue => Frame::IndefiniteMap(true),
+        }
+    }
+}
+
+// A member of a container is complete. Whether another is due.
+#[inline(always)]
+fn advance(top: &mut Level) -> bool
+    ensures moved { IsAdvanced result
+        (frame_of (level_frame top.old)) (frame_of (level_frame top.new)) }
+    ensures root { level_frame top.old ≡ Frame.Tag → result ≡ false }
+    ensures full { result ≡ false → top.new ≡ top.old }
+{
+    match top.due {
+        Due::Item => {
+            if top.left == 0 {
+                return false;
+            }
+            top.left -= 1;
+            true
+        }
+        Due::Content => false,
+        Due::Key => {
+            top.due = Due::Value;
+            true
+        }
+        Due::Value => {
+            if top.left == 0 {
+                return false;
+            }
+            top.left -= 1;
+            top.due = Due::Key;
+            true
+        }
+        Due::IndefiniteItem => true,
+        Due::IndefiniteKey => {
+            top.due = Due::IndefiniteValue;
+            true
+        }
+        Due::IndefiniteValue => {
+            top.due = Due::IndefiniteKey;
+            true
+        }
+    }
+}
+
+// A break may stand there.
+fn is_open(level: Level) -> bool
+    ensures { result ≡ ends_by_break (frame_of (level_frame level)) }
+{
+    matches!(level.due, Due::IndefiniteItem | Due::IndefiniteKey)
+}
+
+impl Nest {
+    /// Nothing is open.
+    pub fn new() -> Nest
+        ensures { result ≡ [] }
+    {
+        let root = Level {
+            due: Due::Content,
+            left: 0,
+        };
+        Nest {
+            outer: [root; LEVELS],
+            height: 0,
+            top: root,
+        }
+    }
+
+    /// How many are open.
+    #[inline(always)]
+    pub fn len(&self) -> usize
+        ensures { result ≡ length self.now }
+    {
+        self.height
+    }
+
+    /// The open containers, the outermost first.
+    pub fn frames(&self) -> Frames
+        ensures { result.items ≡ self.now }
+    {
+        let mut frames = ArrayVec::new();
+        if self.height > 0 {
+            for level in &self.outer[1..self.height] {
+                frames.push(level.frame());
+            }
+            frames.push(self.top.frame());
+        }
+        frames
+    }
+
+    /// Opens a container.
+    #[inline(always)]
+    pub fn push(&mut self, due: Due, left: u64)
+        requires { length self.old < MOST_OPEN }
+        ensures { self.new ≡ self.old ++ due_frame due left ∷ [] }
+    {
+        self.outer[self.height] = self.top;
+        self.height += 1;
+        self.top = Level { due, left };
+    }
+
+    /// An item is complete: with it the containers whose last member it was. Whether nothing
+    /// more is due.
+    #[inline(always)]
+    pub fn complete(&mut self) -> bool
+        ensures state { state_of (position_after result) self.new
+            ≡ automaton.close (frames_of self.old) }
+        ensures fewer { length self.new ≤ length self.old }
+        ensures settled { IsSettled self.new (position_after result) }
+    {
+        if advance(&mut self.top) {
+            return false;
+        }
+        self.complete_levels()
+    }
+
+    // The same, from the innermost container out.
+    #[inline(never)]
+    fn complete_levels(&mut self) -> bool
+        ensures state { state_of (position_after result) self.new
+            ≡ automaton.close (frames_of self.old) }
+        ensures fewer { length self.new ≤ length self.old }
+        ensures settled { IsSettled self.new (position_after result) }
+    {
+        'levels: loop {
+            if advance(&mut self.top) {
+                return false;
+            }
+            if self.height == 0 {
+                return true;
+            }
+            self.height -= 1;
+            self.top = self.outer[self.height];
+        }
+    }
+
+    /// The innermost container ends by a break, if it has no length and no value is due in it.
+    /// Whether nothing more is due then.
+    pub fn end(&mut self) -> Option<bool>
+        ensures ends { IfSome result (λ done. IsEnded self.old (position_after done) self.new) }
+        ensures fewer { length self.new ≤ length self.old }
+        ensures settled { IfSome result (λ done. IsSettled self.new (position_after done)) }
+        ensures none { result ≡ None → self.new ≡ self.old }
+        ensures stray { result ≡ None → IsStray self.old }
+    {
+        if self.height == 0 || !is_open(self.top) {
+            return None;
+        }
+        self.height -= 1;
+        self.top = self.outer[self.height];
+        Some(self.complete())
+    }
+}

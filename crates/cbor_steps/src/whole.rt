@@ -1,0 +1,471 @@
+//! Whole heads and whole payloads, straight from a slice.
+
+ghost use Rattle.std.specs.Prelude.{◌≡◌, ◌≤◌, ◌<◌, ◌+◌, ◌-◌, ◌^◌, ◌/◌, ◌∷◌, [], List, ℕ, length, take, min};
+ghost use Rattle.std.specs.Prelude.{true, false, IfSome, None};
+ghost use Rattle.cbor_head.specs.Head.{IsSimple};
+ghost use Rattle.cbor_head.specs.declared.width.Width as width;
+ghost use Rattle.cbor_head.specs.declared.width.Width.TheVariants.{Direct, Indefinite};
+ghost use Rattle.cbor_automaton.specs.Trace.{a_head};
+ghost use Rattle.cbor_automaton.specs.Automaton as automaton;
+ghost use Rattle.cbor_automaton.specs.Marks.{marks_of, times};
+ghost use Rattle.cbor_steps.specs.State.{frames_of, state_of, major_of};
+ghost use Rattle.cbor_automaton.specs.Marks.{IsDefinite, IsProper};
+ghost use Rattle.cbor_steps.specs.State.{IsSettled};
+ghost use Rattle.cbor_steps.specs.Whole.{IsArgument, IsArgumentLeft, IsEventRun, IsNumberOf};
+ghost use Rattle.cbor_steps.specs.Whole.{IsFront, IsHeadHere, TellsFront, LeavesPiece};
+ghost use Rattle.cbor_steps.specs.Whole.{IsStringType};
+ghost use Rattle.cbor_steps.specs.Token.{IsEventToken, IsStringToken, kind_of};
+ghost use Rattle.cbor_steps.specs.declared.frame.TheConstants.{MOST_OPEN};
+ghost use Rattle.cbor_automaton.specs.Pieces.{piece_by};
+
+use crate::nest::{Due, Nest};
+use crate::opening::{Numbered, numbered_at};
+use crate::position::{Position, enter, finish, finish_string, has_room};
+use crate::take_byte::is_same_string;
+use crate::token::Token;
+use byteorder::{BigEndian, ByteOrder};
+use cbor_head::Width;
+
+/// An argument, and what follows it.
+#[derive(Clone, Copy)]
+pub struct Argument<'a> {
+    pub width: Width,
+    pub number: u64,
+    pub rest: &'a [u8],
+}
+
+/// The argument behind the low five bits of a first byte; none where it is not there, or where
+/// there is none.
+#[inline(always)]
+pub fn read_argument<'a>(low: u8, behind: &'a [u8]) -> Option<Argument<'a>>
+    ensures spelled { IfSome result (λ a. IsArgument low behind.now a.width a.number a.rest.now) }
+    ensures fewer { IfSome result (λ a. length a.rest.now ≤ length behind.now) }
+    ensures direct { IfSome result (λ a. low < 24 → a.number ≡ low) }
+    ensures byte { IfSome result (λ a. low ≡ 24 → a.number < 256) }
+    ensures definite { IfSome result (λ a. IsDefinite a.width) }
+{
+    if low < 24 {
+        return Some(Argument {
+            width: Width::Direct,
+            number: u64::from(low),
+            rest: behind,
+        });
+    }
+    match low {
+        24 => {
+            let (number, rest) = behind.split_first()?;
+            Some(Argument {
+                width: Width::One,
+                number: u64::from(*number),
+                rest,
+            })
+        }
+        25 => {
+            if behind.len() < 2 {
+                return None;
+            }
+            let (_, rest) = behind.split_at(2);
+            Some(Argument {
+                width: Width::Two,
+                number: u64::from(BigEndian::read_u16(behind)),
+                rest,
+            })
+        }
+        26 => {
+            if behind.len() < 4 {
+                return None;
+            }
+            let (_, rest) = behind.split_at(4);
+            Some(Argument {
+                width: Width::Four,
+                number: u64::from(BigEndian::read_u32(behind)),
+                rest,
+            })
+        }
+        27 => {
+            if behind.len() < 8 {
+                return None;
+            }
+            let (_, rest) = behind.split_at(8);
+            Some(Argument {
+                width: Width::Eight,
+                number: BigEndian::read_u64(behind),
+                rest,
+            })
+        }
+        _ => None,
+    }
+}
+
+// The low five bits of a first byte with one byte more than these in its argument.
+fn low_bits(left: u8) -> Option<u8>
+    ensures { IfSome result (λ low. (left + 1 ≡ 2 ^ (low - 24)) × (24 ≤ low)) }
+{
+    match left {
+        0 => Some(24),
+        1 => Some(25),
+        3 => Some(26),
+        7 => Some(27),
+        _ => None,
+    }
+}
+
+/// The argument of a head that is open, where its bytes are there: so many behind the next one.
+#[inline(always)]
+pub fn whole_argument(left: u8, rest: &[u8]) -> Option<u64>
+    ensures is { IfSome result (λ n. IsArgumentLeft left n rest.now) }
+    ensures there { IfSome result (λ n. left < length rest.now) }
+{
+    let low = low_bits(left)?;
+    let argument = read_argument(low, rest)?;
+    Some(argument.number)
+}
+
+/// What was taken from the front of a slice, and what it tells.
+#[derive(Clone, Copy)]
+pub struct Whole {
+    pub used: usize,
+    pub token: Token,
+    pub width: Width,
+    pub number: u64,
+}
+
+// What the head of an item of this type tells.
+#[inline(always)]
+fn told_of(kind: Numbered) -> Token
+    ensures marks { (w : width.Width) (n : ℕ)
+        → marks_of w (kind_of result n) ≡ a_head (major_of kind) w n ∷ [] }
+    ensures proper { (w : width.Width) (n : ℕ)
+        → IsDefinite w → IsProper w (kind_of result n) }
+    ensures token { IsEventToken result }
+    ensures string { IsStringToken result → IsStringType (major_of kind) }
+    ensures number { (n : ℕ) → IsNumberOf result n }
+    ensures once { (n : ℕ) → times (kind_of result n) ≡ 1 }
+    ensures other { (n : ℕ) (kept from : List ℕ)
+        → piece_by (kind_of result n) kept from ≡ kept }
+{
+    match kind {
+        Numbered::Unsigned => Token::Unsigned,
+        Numbered::Negative => Token::Negative,
+        Numbered::Bytes => Token::Bytes,
+        Numbered::Text => Token::Text,
+        Numbered::Array => Token::Array,
+        Numbered::Map => Token::Map,
+        Numbered::Tag => Token::Tag,
+    }
+}
+
+/// A definite head that an item may have, and how many bytes it takes.
+#[derive(Clone, Copy)]
+pub struct DefiniteHead {
+    pub first: u8,
+    pub used: usize,
+    pub width: Width,
+    pub number: u64,
+}
+
+/// The definite head that stands whole at the front; none where there is none, or no item may
+/// have it there.
+#[inline(always)]
+pub fn front_head(depth: usize, nest: &Nest, rest: &[u8]) -> Option<DefiniteHead>
+    ensures here { IfSome result (IsHeadHere depth (frames_of nest.now) rest.now) }
+    ensures used { IfSome result (λ h. IsFront h.used rest.now) }
+    ensures width { IfSome result (λ h. IsDefinite h.width) }
+    ensures simple { IfSome result (λ h. 224 ≤ h.first → IsSimple h.number) }
+{
+    let (first, behind) = rest.split_first()?;
+    let c = *first;
+    let low = c % 32;
+    let argument = read_argument(low, behind)?;
+    let used = rest.len() - argument.rest.len();
+    let (width, number) = (argument.width, argument.number);
+    if c >= 0xe0 {
+        if low > 24 || low == 24 && number < 32 {
+            return None;
+        }
+        return Some(DefiniteHead {
+            first: c,
+            used,
+            width,
+            number,
+        });
+    }
+    if !has_room(depth, numbered_at(c / 32), nest) {
+        return None;
+    }
+    Some(DefiniteHead {
+        first: c,
+        used,
+        width,
+        number,
+    })
+}
+
+/// It is taken. Answers what it tells.
+#[inline(always)]
+pub fn take_head(
+    head: DefiniteHead,
+    depth: usize,
+    position: &mut Position,
+    nest: &mut Nest,
+) -> Token
+    requires limit { depth ≤ MOST_OPEN }
+    requires within { length nest.old ≤ depth }
+    requires item { position.old ≡ Position.Item }
+    requires room { head.first < 224 → automaton.has_room depth (frames_of nest.old)
+        (automaton.major_at (head.first / 32)) ≡ true }
+    ensures told { (from : List ℕ) → IsHeadHere depth (frames_of nest.old) from head
+        → IsEventRun depth (automaton.at_item (frames_of nest.old))
+        (state_of position.new nest.new) (take head.used from) head.width
+        (kind_of result head.number) }
+    ensures settled { IsSettled nest.new position.new }
+    ensures within { length nest.new ≤ depth }
+    ensures token { IsEventToken result }
+    ensures proper { IsDefinite head.width → IsProper head.width (kind_of result head.number) }
+    ensures number { (224 ≤ head.first → IsSimple head.number) → IsNumberOf result head.number }
+    ensures once { times (kind_of result head.number) ≡ 1 }
+    ensures string { IsStringToken result → (64 ≤ head.first) × (head.first < 128) }
+    ensures other { (kept from : List ℕ)
+        → piece_by (kind_of result head.number) kept from ≡ kept }
+{
+    if head.first >= 0xe0 {
+        finish(position, nest);
+        return Token::Simple;
+    }
+    // Each type has a call of its own, so that what follows it knows the token.
+    let kind = numbered_at(head.first / 32);
+    match kind {
+        Numbered::Unsigned => take_numbered(kind, head, depth, position, nest),
+        Numbered::Negative => take_numbered(kind, head, depth, position, nest),
+        Numbered::Bytes => take_numbered(kind, head, depth, position, nest),
+        Numbered::Text => take_numbered(kind, head, depth, position, nest),
+        Numbered::Array => take_numbered(kind, head, depth, position, nest),
+        Numbered::Map => take_numbered(kind, head, depth, position, nest),
+        Numbered::Tag => take_numbered(kind, head, depth, position, nest),
+    }
+}
+
+// The same of a head of this type.
+#[inline(always)]
+fn take_numbered(
+    kind: Numbered,
+    head: DefiniteHead,
+    depth: usize,
+    position: &mut Position,
+    nest: &mut Nest,
+) -> Token
+    requires limit { depth ≤ MOST_OPEN }
+    requires within { length nest.old ≤ depth }
+    requires item { position.old ≡ Position.Item }
+    requires numbered { head.first < 224 }
+    requires kind { major_of kind ≡ automaton.major_at (head.first / 32) }
+    requires room { head.first < 224 → automaton.has_room depth (frames_of nest.old)
+        (automaton.major_at (head.first / 32)) ≡ true }
+    ensures told { (from : List ℕ) → IsHeadHere depth (frames_of nest.old) from head
+        → IsEventRun depth (automaton.at_item (frames_of nest.old))
+        (state_of position.new nest.new) (take head.used from) head.width
+        (kind_of result head.number) }
+    ensures settled { IsSettled nest.new position.new }
+    ensures within { length nest.new ≤ depth }
+    ensures token { IsEventToken result }
+    ensures proper { IsDefinite head.width → IsProper head.width (kind_of result head.number) }
+    ensures number { IsNumberOf result head.number }
+    ensures once { times (kind_of result head.number) ≡ 1 }
+    ensures string { IsStringToken result → (64 ≤ head.first) × (head.first < 128) }
+    ensures other { (kept from : List ℕ)
+        → piece_by (kind_of result head.number) kept from ≡ kept }
+{
+    enter(kind, head.number, depth, position, nest);
+    told_of(kind)
+}
+
+/// The same two in one.
+#[inline(always)]
+pub fn whole_head(
+    depth: usize,
+    position: &mut Position,
+    nest: &mut Nest,
+    rest: &[u8],
+) -> Option<Whole>
+    requires limit { depth ≤ MOST_OPEN }
+    requires within { length nest.old ≤ depth }
+    requires item { position.old ≡ Position.Item }
+    ensures told { IfSome result (λ r. TellsFront depth (automaton.at_item (frames_of nest.old))
+        (state_of position.new nest.new) rest.now r) }
+    ensures used { IfSome result (λ r. IsFront r.used rest.now) }
+    ensures settled { IfSome result (λ r. IsSettled nest.new position.new) }
+    ensures within { length nest.new ≤ depth }
+    ensures none { result ≡ None → (nest.new ≡ nest.old) × (position.new ≡ position.old) }
+    ensures token { IfSome result (λ r. IsEventToken r.token) }
+    ensures number { IfSome result (λ r. IsNumberOf r.token r.number) }
+    ensures once { IfSome result (λ r. times (kind_of r.token r.number) ≡ 1) }
+    ensures other { IfSome result (λ r. LeavesPiece r) }
+{
+    let head = front_head(depth, nest, rest)?;
+    let token = take_head(head, depth, position, nest);
+    Some(Whole {
+        used: head.used,
+        token,
+        width: head.width,
+        number: head.number,
+    })
+}
+
+// The head of an item without a length, or a break.
+#[inline(always)]
+fn open_head(
+    c: u8,
+    depth: usize,
+    position: &mut Position,
+    nest: &mut Nest,
+    rest: &[u8],
+) -> Option<Whole>
+    requires limit { depth ≤ MOST_OPEN }
+    requires within { length nest.old ≤ depth }
+    requires item { position.old ≡ Position.Item }
+    requires first { take 1 rest.now ≡ c ∷ [] }
+    ensures told { IfSome result (λ r. TellsFront depth (automaton.at_item (frames_of nest.old))
+        (state_of position.new nest.new) rest.now r) }
+    ensures used { IfSome result (λ r. r.used ≡ 1) }
+    ensures settled { IfSome result (λ r. IsSettled nest.new position.new) }
+    ensures within { length nest.new ≤ depth }
+    ensures none { result ≡ None → (nest.new ≡ nest.old) × (position.new ≡ position.old) }
+    ensures token { IfSome result (λ r. IsEventToken r.token) }
+    ensures other { IfSome result (λ r. LeavesPiece r) }
+{
+    if c == 0x5f {
+        *position = Position::Chunks(Numbered::Bytes);
+        return Some(without_number(Token::IndefiniteBytes));
+    }
+    if c == 0x7f {
+        *position = Position::Chunks(Numbered::Text);
+        return Some(without_number(Token::IndefiniteText));
+    }
+    if c == 0x9f && nest.len() < depth {
+        nest.push(Due::IndefiniteItem, 0);
+        return Some(without_number(Token::IndefiniteArray));
+    }
+    if c == 0xbf && nest.len() < depth {
+        nest.push(Due::IndefiniteKey, 0);
+        return Some(without_number(Token::IndefiniteMap));
+    }
+    if c == 0xff {
+        let done = nest.end()?;
+        if done {
+            *position = Position::Done;
+        }
+        return Some(without_number(Token::Break));
+    }
+    None
+}
+
+/// The head of an item without a length, or a break, in front.
+#[inline(always)]
+pub fn whole_open(
+    depth: usize,
+    position: &mut Position,
+    nest: &mut Nest,
+    rest: &[u8],
+) -> Option<Whole>
+    requires limit { depth ≤ MOST_OPEN }
+    requires within { length nest.old ≤ depth }
+    requires item { position.old ≡ Position.Item }
+    ensures told { IfSome result (λ r. TellsFront depth (automaton.at_item (frames_of nest.old))
+        (state_of position.new nest.new) rest.now r) }
+    ensures used { IfSome result (λ r. IsFront r.used rest.now) }
+    ensures settled { IfSome result (λ r. IsSettled nest.new position.new) }
+    ensures within { length nest.new ≤ depth }
+    ensures none { result ≡ None → (nest.new ≡ nest.old) × (position.new ≡ position.old) }
+    ensures token { IfSome result (λ r. IsEventToken r.token) }
+    ensures other { IfSome result (λ r. LeavesPiece r) }
+{
+    let (first, _) = rest.split_first()?;
+    open_head(*first, depth, position, nest, rest)
+}
+
+// One byte that tells this.
+fn without_number(token: Token) -> Whole
+    ensures one { (result.used ≡ 1) × (result.token ≡ token) }
+    ensures none { (result.width ≡ Indefinite) × (result.number ≡ 0) }
+{
+    Whole {
+        used: 1,
+        token,
+        width: Width::Indefinite,
+        number: 0,
+    }
+}
+
+/// The head of a chunk that stands whole at the front, or the break behind the last one.
+#[inline(always)]
+pub fn whole_chunk(
+    kind: Numbered,
+    depth: usize,
+    position: &mut Position,
+    nest: &mut Nest,
+    rest: &[u8],
+) -> Option<Whole>
+    requires { position.old ≡ Position.Chunks kind }
+    ensures told { IfSome result (λ r. TellsFront depth
+        (automaton.in_chunks (major_of kind) (frames_of nest.old))
+        (state_of position.new nest.new) rest.now r) }
+    ensures used { IfSome result (λ r. IsFront r.used rest.now) }
+    ensures settled { IfSome result (λ r. IsSettled nest.new position.new) }
+    ensures fewer { length nest.new ≤ length nest.old }
+    ensures none { result ≡ None → (nest.new ≡ nest.old) × (position.new ≡ position.old) }
+    ensures token { IfSome result (λ r. IsEventToken r.token) }
+    ensures other { IfSome result (λ r. LeavesPiece r) }
+{
+    let (first, behind) = rest.split_first()?;
+    let c = *first;
+    if c == 0xff {
+        *position = Position::Item;
+        finish(position, nest);
+        return Some(without_number(Token::Break));
+    }
+    if c >= 0xe0 || !is_same_string(kind, numbered_at(c / 32)) {
+        return None;
+    }
+    let argument = read_argument(c % 32, behind)?;
+    let used = rest.len() - argument.rest.len();
+    let (width, number) = (argument.width, argument.number);
+    if number > 0 {
+        *position = Position::Payload(true, kind, number - 1);
+    }
+    Some(Whole {
+        used,
+        token: Token::Chunk,
+        width,
+        number,
+    })
+}
+
+/// How many bytes of a payload are there.
+#[inline(always)]
+pub fn whole_piece(
+    chunk: bool,
+    kind: Numbered,
+    left: u64,
+    depth: usize,
+    position: &mut Position,
+    nest: &mut Nest,
+    rest: &[u8],
+) -> usize
+    requires { 0 < length rest.now }
+    ensures told { IsEventRun depth
+        (automaton.in_payload chunk (major_of kind) left (frames_of nest.old))
+        (state_of position.new nest.new)
+        (take result rest.now) Direct (kind_of Token.Piece result) }
+    ensures used { IsFront result rest.now }
+    ensures most { result ≡ min (left + 1) (length rest.now) }
+    ensures settled { IsSettled nest.new position.new }
+    ensures fewer { length nest.new ≤ length nest.old }
+{
+    let n = rest.len() as u64;
+    if n <= left {
+        *position = Position::Payload(chunk, kind, left - n);
+        return rest.len();
+    }
+    finish_string(chunk, kind, position, nest);
+    left as usize + 1
+}
