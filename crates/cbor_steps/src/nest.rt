@@ -130,12 +130,17 @@ impl Nest {
     pub fn new() -> Nest
         ensures { result ≡ [] }
     {
+        // A blank of zeros alone is filled in fastest.
+        let blank = Level {
+            due: Due::Item,
+            left: 0,
+        };
         let root = Level {
             due: Due::Content,
             left: 0,
         };
         Nest {
-            outer: [root; LEVELS],
+            outer: [blank; LEVELS],
             height: 0,
             top: root,
         }
