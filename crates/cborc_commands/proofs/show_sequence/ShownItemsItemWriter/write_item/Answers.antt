@@ -24,6 +24,6 @@ returns-in_err-print-clause-stopped g c =
 pub returns-clause-written : goal.returns-clause-written
 returns-clause-written g c =
     let read = c.in_ok-tree.ensures.accepted in
-    written_of _ _ _ _ _ read.read (IsAccepted c.args.limits.depth c.args.limits.bytes plain) (item_text c.args.self.now.layout) _ _
+    written_of _ _ _ _ _ read.read (IsAccepted c.args.limits plain) (item_text c.args.self.now.layout) _ _
     (item_accepted _ _ _ _ _ read.read)
     (subst (λ (v : Value). Appends (g.W.Write.contents c.args.out.now) (g.W.Write.contents c.print.new.out) (shown_text c.args.self.now.layout v)) read.value c.in_ok-print.ensures.shown)
