@@ -98,9 +98,9 @@ module _ (before mid after : Option (List ℕ)) (keeps : Keeps mid after) where
   done_sent (ShowSequence source layout options) old new statuses.Accepted (h, k) =
       (record { input = h.input; is = h.is; items = h.items; all = h.all; shown = appends_kept before mid after _ h.shown keeps }, k)
   done_sent (Events source options) old new statuses.Accepted (h, k) =
-      (record { input = h.input; is = h.is; listed = listed_sent _ _ h.input _ h.listed }, k)
+      (record { input = h.input; is = h.is; listed = listed_sent _ h.input _ h.listed }, k)
   done_sent (Compare left right options) old new s (h, k) =
-      (record { first = h.first; second = h.second; are = h.are; told = told_sent _ _ h.first h.second s h.told }, k)
+      (record { first = h.first; second = h.second; are = h.are; told = told_sent _ h.first h.second s h.told }, k)
   done_sent _ old new _ h = absurd h
 
   pub not_done_sent : (request : Request) (held : Option Files) (fault : Fault) → IsNotDone request held before mid fault → IsNotDone request held before after fault
