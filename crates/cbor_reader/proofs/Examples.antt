@@ -29,7 +29,7 @@ use Rattle.cbor_reader.proofs.Headline.{answers_exactly}
 item_becomes : (o : KeyOrder) (s : Spelling) (input out : List ℕ) → IsSpelled s → depth s ≤ 256 → spell s ≡ input → length input ≤ 1048576 → ((c : Complaint) → Complains plain 0 s c → ⊥)
     → canonical o (value_of s) ≡ out → length out ≤ 1048576 → IsCanonicalOf (bounds 256 1048576) o input out
 item_becomes o s input out h l e m none f k =
-    (answers_exactly 256 1048576 o input out).1 (s, record { well_formed = record { spelled = h; within = l; bytes_are = e }; valid = none; fits = m }, sym f, k)
+    (answers_exactly (bounds 256 1048576) o input out).1 (s, record { well_formed = record { spelled = h; within = l; bytes_are = e }; valid = none; fits = m }, sym f, k)
 
 -- ---- 0, in two bytes
 
@@ -39,7 +39,7 @@ zero_becomes = item_becomes Bytewise (unsigned One 0) _ _ (omega arith) (omega a
 -- it isn't its own answer, though the plain verdict accepts it whole
 not_its_own : IsCanonicalOf (bounds 256 1048576) Bytewise (0x18 ∷ 0x00 ∷ []) (0x18 ∷ 0x00 ∷ []) → ⊥
 not_its_own a =
-    let e = one_canonical 256 1048576 Bytewise (0x18 ∷ 0x00 ∷ []) (0x18 ∷ 0x00 ∷ []) (0x00 ∷ []) a zero_becomes in
+    let e = one_canonical (bounds 256 1048576) Bytewise (0x18 ∷ 0x00 ∷ []) (0x18 ∷ 0x00 ∷ []) (0x00 ∷ []) a zero_becomes in
     omega (arith, ap (length {A = ℕ}) e)
 
 -- ---- {-1: 0, 100: 0}, in either order
@@ -81,7 +81,7 @@ split_item f = f (complaint 3 2 InvalidText) (inr (inl (inr (refl, (λ u. cc (is
 cut_at_limit : IsVerdict (bounds 256 1) plain (0x18 ∷ 0x64 ∷ []) (refused (refusal Truncated 1 1)) → ⊥
 cut_at_limit v =
     let w = too_long 256 plain (unsigned One 100) (0x18 ∷ 0x64 ∷ []) 1 (record { spelled = omega arith; within = omega arith; bytes_are = refl }) (λ c x. cc x.0) (omega arith) [] in
-    let e = one_verdict 256 1 plain (0x18 ∷ 0x64 ∷ []) (refused (refusal Truncated 1 1)) (refused (refusal TooLong 1 1)) v w in
+    let e = one_verdict (bounds 256 1) plain (0x18 ∷ 0x64 ∷ []) (refused (refusal Truncated 1 1)) (refused (refusal TooLong 1 1)) v w in
     let f : refusal Truncated 1 1 ≡ refusal TooLong 1 1 = cc e in
     let g : Truncated ≡ TooLong = ap (λ (f : Refusal). f.reason) f in
     cc g

@@ -3,6 +3,7 @@ use Rattle.std.proofs.Common.{ℕ, ◌^◌, ◌≡◌, ◌<◌, ◌≤◌, List,
 use Rattle.std.proofs.lemmas.Bool.{cases_lt}
 use Rattle.std.proofs.lemmas.List.{append_assoc, take-append-drop}
 use Rattle.cbor_head.specs.Complaint.{Rules, plain, Complaint, Complains}
+use Rattle.cbor_head.specs.Limits.{Bounds}
 use Rattle.cbor_head.specs.Spelling.{Spelling, spell, value_of}
 use Rattle.cbor_head.specs.Value.{Value, IsInRange, IsValid, depth}
 use Rattle.cbor_head.specs.Verdict.{refusal, IsWithout}
@@ -16,34 +17,34 @@ use Rattle.cbor_reader.proofs.Headline.{front_range, front_valid, front_depth}
 
 -- ---- the item stands at the front
 
-module _ (d n : ℕ) (input : List ℕ) (count : ℕ) (a : IsRead d n plain input count) where
+module _ (limits : Bounds) (input : List ℕ) (count : ℕ) (a : IsRead limits plain input count) where
   -- what follows it
   abbrev behind : List ℕ
-  behind = ((accepts_exactly d n plain input a.item).0 a.verdict).0 ++ drop n input
+  behind = ((accepts_exactly limits plain input a.item).0 a.verdict).0 ++ drop limits.bytes input
 
   item_sound : IsSound a.item
-  item_sound = let h = (accepts_exactly d n plain input a.item).0 a.verdict in record { spelled = h.1.0; valid = front_valid d n input a.item a.verdict }
+  item_sound = let h = (accepts_exactly limits plain input a.item).0 a.verdict in record { spelled = h.1.0; valid = front_valid limits input a.item a.verdict }
 
   item_begins : input ≡ spell a.item ++ behind
   item_begins =
-      let h = (accepts_exactly d n plain input a.item).0 a.verdict in
-      sym (take-append-drop n input) ∙ ap (λ (b : List ℕ). b ++ drop n input) (sym h.1.2) ∙ append_assoc (spell a.item) h.0 (drop n input)
+      let h = (accepts_exactly limits plain input a.item).0 a.verdict in
+      sym (take-append-drop limits.bytes input) ∙ ap (λ (b : List ℕ). b ++ drop limits.bytes input) (sym h.1.2) ∙ append_assoc (spell a.item) h.0 (drop limits.bytes input)
 
   pub read_begins : BeginsWithItem input
   read_begins = record { item = a.item; rest = behind; sound = item_sound; begins = item_begins }
 
   -- the value of any view that is the item's, wherever it stands
-  pub read_as : (v : Value) → ((s : Spelling) (x : List ℕ) → IsSound s → input ≡ spell s ++ x → v ≡ value_of s) → IsReadAs d n plain input v count
+  pub read_as : (v : Value) → ((s : Spelling) (x : List ℕ) → IsSound s → input ≡ spell s ++ x → v ≡ value_of s) → IsReadAs limits plain input v count
   read_as v f = record { read = a; value = f a.item behind item_sound item_begins }
 
-pub view_depth : (d n : ℕ) (input : List ℕ) (v : Value) (count : ℕ) → d ≤ 256 → IsReadAs d n plain input v count → depth v ≤ 256
-view_depth d n input v count l r = subst (λ (v : Value). depth v ≤ 256) (sym r.value) (omega (arith, front_depth d n plain input r.read.item r.read.verdict))
+pub view_depth : (limits : Bounds) (input : List ℕ) (v : Value) (count : ℕ) → limits.depth ≤ 256 → IsReadAs limits plain input v count → depth v ≤ 256
+view_depth limits input v count l r = subst (λ (v : Value). depth v ≤ 256) (sym r.value) (omega (arith, front_depth limits plain input r.read.item r.read.verdict))
 
-pub view_range : (d n : ℕ) (input : List ℕ) (v : Value) (count : ℕ) → n ≤ 2 ^ 62 → IsReadAs d n plain input v count → IsInRange v
-view_range d n input v count l r = subst IsInRange (sym r.value) (front_range d n plain input r.read.item l r.read.verdict)
+pub view_range : (limits : Bounds) (input : List ℕ) (v : Value) (count : ℕ) → limits.bytes ≤ 2 ^ 62 → IsReadAs limits plain input v count → IsInRange v
+view_range limits input v count l r = subst IsInRange (sym r.value) (front_range limits plain input r.read.item l r.read.verdict)
 
-pub view_valid : (d n : ℕ) (input : List ℕ) (v : Value) (count : ℕ) → IsReadAs d n plain input v count → IsValid v
-view_valid d n input v count r = subst IsValid (sym r.value) (front_valid d n input r.read.item r.read.verdict)
+pub view_valid : (limits : Bounds) (input : List ℕ) (v : Value) (count : ℕ) → IsReadAs limits plain input v count → IsValid v
+view_valid limits input v count r = subst IsValid (sym r.value) (front_valid limits input r.read.item r.read.verdict)
 
 -- ---- memory
 
@@ -51,9 +52,9 @@ without : (r : Rules) (s : Spelling) (t : ℕ) → IsWithout r s t → (c : Comp
 without r s t h c g = elim (cases_lt t c.end) [ inl l ↦ l | inr l ↦ absurd (h c g l) ]
 
 -- refused when the item had been taken
-pub memory_behind : (d n : ℕ) (input : List ℕ) (count : ℕ) (f : Refusal) → IsRead d n plain input count → f ≡ refusal Memory count count → IsUnread d n plain input f
-memory_behind d n input count f a is =
+pub memory_behind : (limits : Bounds) (input : List ℕ) (count : ℕ) (f : Refusal) → IsRead limits plain input count → f ≡ refusal Memory count count → IsUnread limits plain input f
+memory_behind limits input count f a is =
     let w = a.verdict in
     let size : count ≡ length w.p = a.size ∙ ap length (ap spell w.decides.0 ∙ w.decides.1) in
-    let free = front-free d plain w.p w.p [] w.item w.rest count w.starts (sym (append-nil w.p)) (without plain w.item (length w.p) w.decides.2) (omega (arith, size)) in
-    subst (IsUnread d n plain input) (sym is) (of_memory w.p w.longest (omega (arith, size)) refl free)
+    let free = front-free limits.depth plain w.p w.p [] w.item w.rest count w.starts (sym (append-nil w.p)) (without plain w.item (length w.p) w.decides.2) (omega (arith, size)) in
+    subst (IsUnread limits plain input) (sym is) (of_memory w.p w.longest (omega (arith, size)) refl free)

@@ -13,8 +13,8 @@ use Rattle.cbor_head.specs.declared.reason.Refusal.{Refusal}
 use Rattle.cbor_head.specs.declared.reason.Reason.{Reason}
 use Rattle.cbor_judging.specs.Refusals.{IsFreeBefore, IsFormReason, IsComplaintReason}
 
--- The whole input is one well-formed, valid item within depth d and n bytes, and out is the canonical bytes of its value, at
--- most n bytes too.
+-- the whole input is one well-formed, valid item within the limits, and out is the canonical bytes of its value, no more than
+-- the limit of bytes either
 pub record IsCanonicalOf (limits : Bounds) (o : KeyOrder) (input out : List ℕ) : Type 0 where
   pub item : Spelling
   pub verdict : IsVerdict limits plain input (accepted item)
@@ -36,7 +36,7 @@ pub data IsRefusal (limits : Bounds) (o : KeyOrder) (input : List ℕ) (f : Refu
   -- a byte follows the item
   trailing : (item : Spelling) → IsVerdict limits plain input (accepted item) → length (spell item) < length input
       → f ≡ refusal Trailing (length (spell item)) (length (spell item)) → IsRefusal limits o input f
-  -- the item's canonical bytes are more than limits.bytes
+  -- the item's canonical bytes are more than the limit
   canonical_too_long : (item : Spelling) → IsVerdict limits plain input (accepted item) → spell item ≡ input
       → limits.bytes < length (canonical o (value_of item)) → f ≡ refusal CanonicalTooLong (length input) (length input) → IsRefusal limits o input f
   -- memory was refused, somewhere on the longest beginning, where no complaint had ended before

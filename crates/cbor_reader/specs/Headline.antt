@@ -5,7 +5,7 @@ use Rattle.cbor_head.specs.Limits.{Bounds}
 use Rattle.cbor_head.specs.Spelling.{Spelling, Spellings, SpelledEntries, text, text_chunks, array, a_map, tag, no_spellings, a_spelling, no_entries, entry, IsItem}
 use Rattle.cbor_head.specs.Complaint.{plain, Complaint, Complains}
 
--- the whole input is this one item: well-formed within depth d, valid, and of at most n bytes
+-- the whole input is this one item: well-formed, valid, and within the limits
 pub record IsValidItem (limits : Bounds) (input : List ℕ) (s : Spelling) : Type 0 where
   pub well_formed : IsItem limits.depth s input
   pub valid : (c : Complaint) → Complains plain 0 s c → ⊥

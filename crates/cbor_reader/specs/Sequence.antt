@@ -15,7 +15,7 @@ use Rattle.cbor_judging.specs.Readers.{IsReadAs, IsUnread, Loses}
 abbrev pub sequence_bytes : List Spelling → List ℕ
 sequence_bytes items = flat_map spell items
 
--- an item that is accepted: well-formed within depth d, without complaint by the rules, and of at most n bytes
+-- an item that is accepted: well-formed, without complaint by the rules, and within the limits
 pub record IsAccepted (limits : Bounds) (r : Rules) (item : Spelling) : Type 0 where
   pub well_formed : IsItem limits.depth item (spell item)
   pub sound : (c : Complaint) → Complains r 0 item c → ⊥

@@ -9,7 +9,7 @@ use Rattle.cbor_head.specs.declared.reason.Refusal.{Refusal}
 use Rattle.cbor_reader.specs.Headline.{IsValidItem}
 use Rattle.cbor_judging.specs.Readers.{IsUnread}
 
--- the whole input is one item: well-formed within depth d, valid, and of at most n bytes
+-- the whole input is one item: well-formed, valid, and within the limits
 abbrev pub IsWholeItem : Bounds → List ℕ → Type 0
 IsWholeItem limits input = (s : Spelling) × IsValidItem limits input s
 

@@ -28,13 +28,13 @@ pub fn read_view<'a>(
     arena: &'a Bump,
 ) -> Result<(View<'a>, u64), Refusal>
     ensures accepted { IfOk result (λ answer.
-        IsReadAs limits.depth limits.bytes plain bytes.now (seen answer.0) answer.1) }
+        IsReadAs limits plain bytes.now (seen answer.0) answer.1) }
     // What `View::to_tree` asks for.
     ensures depth { IfOk result (λ answer. depth (seen answer.0) ≤ MAX_DEPTH) }
     ensures in_range { IfOk result (λ answer. IsInRange (seen answer.0)) }
     ensures valid { IfOk result (λ answer. IsValid (seen answer.0)) }
     ensures refused { IfErr result
-        (λ f. IsUnread limits.depth limits.bytes plain bytes.now f) }
+        (λ f. IsUnread limits plain bytes.now f) }
     ensures no_read { IfErr result (λ f. f.reason ≢ reasons.Read) }
 {
     let count = match check_valid(alloc, bytes, limits) {

@@ -3,6 +3,7 @@ use Rattle.std.proofs.Common.{ℕ, ◌+◌, ◌≡◌, inl, List, length, take, 
 use Rattle.std.specs.Prelude.{Result, Ok, Err, OnOk, IfOk, IfErr}
 use Rattle.cbor_diag.specs.Listing.{IsListed}
 use Rattle.cbor_head.specs.Complaint.{Rules, plain}
+use Rattle.cbor_head.specs.Limits.{Bounds}
 use Rattle.cbor_head.specs.Value.{Value}
 use Rattle.cbor_item.specs.View.{view}
 use Rattle.cbor_item.specs.declared.item.Item.{Item}
@@ -54,22 +55,22 @@ refusal_is P f fault e refused memory = subst P (sym e) (by_reason f.reason refl
     by_reason _ is = refused (subst IsOfInput (sym is) tt)
 
 module _ (o : KeyOrder) (options : Options) (source : List ℕ) (output : Output) (held : Option Files) where
-  text_whole : (bytes text : List ℕ) (s : StartsInput held source options.hex (options.limits.bytes + 1) bytes) → IsCanonicalText options.limits.depth options.limits.bytes o output.form bytes text
-      → IsCanonicalText options.limits.depth options.limits.bytes o output.form s.input text
+  text_whole : (bytes text : List ℕ) (s : StartsInput held source options.hex (options.limits.bytes + 1) bytes) → IsCanonicalText options.limits o output.form bytes text
+      → IsCanonicalText options.limits o output.form s.input text
   text_whole bytes text s t = record {
     canonical = t.canonical;
-    is = canonical_whole options.limits.depth options.limits.bytes s.input o t.canonical
-        (subst (λ (b : List ℕ). IsCanonicalOf options.limits.depth options.limits.bytes o b t.canonical) s.front t.is);
+    is = canonical_whole options.limits s.input o t.canonical
+        (subst (λ (b : List ℕ). IsCanonicalOf options.limits o b t.canonical) s.front t.is);
     formed = t.formed;
   }
 
   pub canonised : (mid new : Option Files) (before after : Option (List ℕ)) (bytes text : List ℕ) → StartsInput held source options.hex (options.limits.bytes + 1) bytes
-      → IsCanonicalText options.limits.depth options.limits.bytes o output.form bytes text → KeepsFiles held mid → IsPut output.path.now mid new before after text
+      → IsCanonicalText options.limits o output.form bytes text → KeepsFiles held mid → IsPut output.path.now mid new before after text
       → IsCanonised o options source output held new before after
   canonised mid new before after bytes text s t k p =
       record { input = s.input; is = s.is; text = text; canonical = text_whole bytes text s t; put = put_kept output.path.now held mid new before after text k p }
 
-  pub not_put : (bytes text : List ℕ) → StartsInput held source options.hex (options.limits.bytes + 1) bytes → IsCanonicalText options.limits.depth options.limits.bytes o output.form bytes text
+  pub not_put : (bytes text : List ℕ) → StartsInput held source options.hex (options.limits.bytes + 1) bytes → IsCanonicalText options.limits o output.form bytes text
       → (fault : Fault) → IsNotPut output.path.now fault → IsNotCanonised o options source output held fault
   not_put bytes text s t faults.CannotPrint h = (record { input = s.input; is = s.is; text = text; canonical = text_whole bytes text s t }, h)
   not_put bytes text s t (faults.CannotWrite named) h = (record { input = s.input; is = s.is; text = text; canonical = text_whole bytes text s t }, h)
@@ -77,12 +78,12 @@ module _ (o : KeyOrder) (options : Options) (source : List ℕ) (output : Output
   not_put bytes text s t _ h = absurd h
 
   pub no_text : (bytes : List ℕ) → StartsInput held source options.hex (options.limits.bytes + 1) bytes → (fault : Fault)
-      → IsNoText options.limits.depth options.limits.bytes o bytes fault → IsNotCanonised o options source output held fault
+      → IsNoText options.limits o bytes fault → IsNotCanonised o options source output held fault
   no_text bytes s (faults.Refused f) h = (
     s.input,
     s.is,
-    refusal_whole options.limits.depth options.limits.bytes s.input o f
-        (subst (λ (b : List ℕ). IsRefusal options.limits.depth options.limits.bytes o b f) s.front h.0),
+    refusal_whole options.limits s.input o f
+        (subst (λ (b : List ℕ). IsRefusal options.limits o b f) s.front h.0),
     h.1,
   )
   no_text bytes s faults.Memory h = tt
@@ -90,75 +91,75 @@ module _ (o : KeyOrder) (options : Options) (source : List ℕ) (output : Output
 
 module _ (rules : Rules) (options : Options) (source : List ℕ) (held : Option Files) (bytes : List ℕ)
     (s : StartsInput held source options.hex (options.limits.bytes + 1) bytes) where
-  whole_of : (size : ℕ) → IsWhole options.limits.depth options.limits.bytes rules bytes size → IsWhole options.limits.depth options.limits.bytes rules s.input size
+  whole_of : (size : ℕ) → IsWhole options.limits rules bytes size → IsWhole options.limits rules s.input size
   whole_of size w =
-      is_whole options.limits.depth options.limits.bytes s.input rules size
-      (subst (λ (b : List ℕ). IsWhole options.limits.depth options.limits.bytes rules b size) s.front w)
+      is_whole options.limits s.input rules size
+      (subst (λ (b : List ℕ). IsWhole options.limits rules b size) s.front w)
 
-  pub checked : (size : ℕ) (before after : Option (List ℕ)) → IsWhole options.limits.depth options.limits.bytes rules bytes size
+  pub checked : (size : ℕ) (before after : Option (List ℕ)) → IsWhole options.limits rules bytes size
       → Appends before after (accepted_bytes size) → IsChecked rules options source held before after
   checked size before after w t = record { input = s.input; is = s.is; size = size; whole = whole_of size w; told = t }
 
-  pub untold : (size : ℕ) → IsWhole options.limits.depth options.limits.bytes rules bytes size → (fault : Fault) → fault ≡ faults.CannotPrint
+  pub untold : (size : ℕ) → IsWhole options.limits rules bytes size → (fault : Fault) → fault ≡ faults.CannotPrint
       → IsNotChecked rules options source held fault
   untold size w fault e =
       subst (IsNotChecked rules options source held) (sym e) (record { input = s.input; is = s.is; size = size; whole = whole_of size w })
 
-  pub not_checked : (f : Refusal) → IsNotWhole options.limits.depth options.limits.bytes rules bytes f → (fault : Fault) → fault ≡ refusal_fault f
+  pub not_checked : (f : Refusal) → IsNotWhole options.limits rules bytes f → (fault : Fault) → fault ≡ refusal_fault f
       → IsNotChecked rules options source held fault
   not_checked f h fault e =
       refusal_is (IsNotChecked rules options source held) f fault e (λ own. (
         s.input,
         s.is,
-        is_not_whole options.limits.depth options.limits.bytes s.input rules f
-            (subst (λ (b : List ℕ). IsNotWhole options.limits.depth options.limits.bytes rules b f) s.front h),
+        is_not_whole options.limits s.input rules f
+            (subst (λ (b : List ℕ). IsNotWhole options.limits rules b f) s.front h),
         own,
       )) tt
 
 module _ (options : Options) (source : List ℕ) (held : Option Files) (bytes : List ℕ) (s : StartsInput held source options.hex (options.limits.bytes + 1) bytes) where
   -- ---- `show`
 
-  tree_whole : (v : Value) → IsReadAs options.limits.depth options.limits.bytes plain bytes v (length bytes)
-      → IsReadAs options.limits.depth options.limits.bytes plain s.input v (length s.input)
+  tree_whole : (v : Value) → IsReadAs options.limits plain bytes v (length bytes)
+      → IsReadAs options.limits plain s.input v (length s.input)
   tree_whole v h =
-      is_all_of options.limits.depth options.limits.bytes s.input v
-      (subst (λ (b : List ℕ). IsReadAs options.limits.depth options.limits.bytes plain b v (length b)) s.front h)
+      is_all_of options.limits s.input v
+      (subst (λ (b : List ℕ). IsReadAs options.limits plain b v (length b)) s.front h)
 
-  pub shown_of : (layout : Layout) (tree : Item) (before after : Option (List ℕ)) → IsTreeOf options.limits.depth options.limits.bytes bytes tree → IsShown layout tree before after
+  pub shown_of : (layout : Layout) (tree : Item) (before after : Option (List ℕ)) → IsTreeOf options.limits bytes tree → IsShown layout tree before after
       → IsShownOf layout options source held before after
   shown_of layout tree before after h w = record { input = s.input; is = s.is; value = view tree; whole = tree_whole (view tree) h; shown = w }
 
-  pub unshown : (tree : Item) → IsTreeOf options.limits.depth options.limits.bytes bytes tree → (fault : Fault) → fault ≡ faults.CannotPrint → IsNotShown options source held fault
+  pub unshown : (tree : Item) → IsTreeOf options.limits bytes tree → (fault : Fault) → fault ≡ faults.CannotPrint → IsNotShown options source held fault
   unshown tree h fault e =
       subst (IsNotShown options source held) (sym e) (record { input = s.input; is = s.is; value = view tree; whole = tree_whole (view tree) h })
 
-  pub not_shown : (f : Refusal) → IsNotWhole options.limits.depth options.limits.bytes plain bytes f → (fault : Fault) → fault ≡ refusal_fault f → IsNotShown options source held fault
+  pub not_shown : (f : Refusal) → IsNotWhole options.limits plain bytes f → (fault : Fault) → fault ≡ refusal_fault f → IsNotShown options source held fault
   not_shown f h fault e =
       refusal_is (IsNotShown options source held) f fault e (λ own. (
         s.input,
         s.is,
-        is_not_whole options.limits.depth options.limits.bytes s.input plain f
-            (subst (λ (b : List ℕ). IsNotWhole options.limits.depth options.limits.bytes plain b f) s.front h),
+        is_not_whole options.limits s.input plain f
+            (subst (λ (b : List ℕ). IsNotWhole options.limits plain b f) s.front h),
         own,
       )) tt
 
   -- ---- `events`
 
-  pub listed_of : (before after : Option (List ℕ)) → IsListed options.limits.depth options.limits.bytes bytes (length bytes) before after → IsListedOf options source held before after
+  pub listed_of : (before after : Option (List ℕ)) → IsListed options.limits bytes (length bytes) before after → IsListedOf options source held before after
   listed_of before after h = record {
     input = s.input;
     is = s.is;
-    listed = listed_whole options.limits.depth options.limits.bytes s.input before after
-        (subst (λ (b : List ℕ). IsListed options.limits.depth options.limits.bytes b (length b) before after) s.front h);
+    listed = listed_whole options.limits s.input before after
+        (subst (λ (b : List ℕ). IsListed options.limits b (length b) before after) s.front h);
   }
 
-  listed_so : (before after : Option (List ℕ)) (fault : Fault) → IsNotListed options.limits.depth options.limits.bytes bytes before after fault
-      → IsNotListed options.limits.depth options.limits.bytes s.input before after fault
+  listed_so : (before after : Option (List ℕ)) (fault : Fault) → IsNotListed options.limits bytes before after fault
+      → IsNotListed options.limits s.input before after fault
   listed_so before after fault h =
-      not_listed_whole options.limits.depth options.limits.bytes s.input before after fault
-      (subst (λ (b : List ℕ). IsNotListed options.limits.depth options.limits.bytes b before after fault) s.front h)
+      not_listed_whole options.limits s.input before after fault
+      (subst (λ (b : List ℕ). IsNotListed options.limits b before after fault) s.front h)
 
-  pub not_listed_of : (before after : Option (List ℕ)) (fault : Fault) → IsNotListed options.limits.depth options.limits.bytes bytes before after fault
+  pub not_listed_of : (before after : Option (List ℕ)) (fault : Fault) → IsNotListed options.limits bytes before after fault
       → IsNotListedOf options source held before after fault
   not_listed_of before after (faults.Refused f) h = (s.input, s.is, listed_so before after (faults.Refused f) h)
   not_listed_of before after faults.CannotPrint h = (s.input, s.is, listed_so before after faults.CannotPrint h)
@@ -167,30 +168,30 @@ module _ (options : Options) (source : List ℕ) (held : Option Files) (bytes : 
 
 -- ---- `compare`
 
-module _ (d n : ℕ) (left right : List ℕ) where
-  fronts_equal : IsWholeItem d n (take (n + 1) left) × IsWholeItem d n (take (n + 1) right) → (take (n + 1) left ≡ left) × (take (n + 1) right ≡ right)
-  fronts_equal (l, r) = (whole_item d n left l, whole_item d n right r)
+module _ (limits : Bounds) (left right : List ℕ) where
+  fronts_equal : IsWholeItem limits (take (limits.bytes + 1) left) × IsWholeItem limits (take (limits.bytes + 1) right) → (take (limits.bytes + 1) left ≡ left) × (take (limits.bytes + 1) right ≡ right)
+  fronts_equal (l, r) = (whole_item limits left l, whole_item limits right r)
 
-  same_fronts : (before after : Option (List ℕ)) (status : Status) → IsTold d n (take (n + 1) left) (take (n + 1) right) before after status
-      → (take (n + 1) left ≡ left) × (take (n + 1) right ≡ right) → IsTold d n left right before after status
+  same_fronts : (before after : Option (List ℕ)) (status : Status) → IsTold limits (take (limits.bytes + 1) left) (take (limits.bytes + 1) right) before after status
+      → (take (limits.bytes + 1) left ≡ left) × (take (limits.bytes + 1) right ≡ right) → IsTold limits left right before after status
   same_fronts before after status h (l, r) =
-      subst (λ (x : List ℕ). IsTold d n left x before after status) r
-      (subst (λ (x : List ℕ). IsTold d n x (take (n + 1) right) before after status) l h)
+      subst (λ (x : List ℕ). IsTold limits left x before after status) r
+      (subst (λ (x : List ℕ). IsTold limits x (take (limits.bytes + 1) right) before after status) l h)
 
-  pub told_whole : (before after : Option (List ℕ)) (status : Status) → IsTold d n (take (n + 1) left) (take (n + 1) right) before after status → IsTold d n left right before after status
+  pub told_whole : (before after : Option (List ℕ)) (status : Status) → IsTold limits (take (limits.bytes + 1) left) (take (limits.bytes + 1) right) before after status → IsTold limits left right before after status
   told_whole before after statuses.Accepted h = same_fronts before after statuses.Accepted h (fronts_equal h.0)
   told_whole before after statuses.Refused h = same_fronts before after statuses.Refused h (fronts_equal h.0)
   told_whole before after _ h = absurd h
 
-  side_whole : (side : Side) (f : Refusal) → IsSideRefusal d n (take (n + 1) left) (take (n + 1) right) side f → IsSideRefusal d n left right side f
-  side_whole Left f h = item_refusal_whole d n left f h
-  side_whole Right f (l, h) = (subst (IsWholeItem d n) (whole_item d n left l) l, item_refusal_whole d n right f h)
+  side_whole : (side : Side) (f : Refusal) → IsSideRefusal limits (take (limits.bytes + 1) left) (take (limits.bytes + 1) right) side f → IsSideRefusal limits left right side f
+  side_whole Left f h = item_refusal_whole limits left f h
+  side_whole Right f (l, h) = (subst (IsWholeItem limits) (whole_item limits left l) l, item_refusal_whole limits right f h)
 
-  pub untold_whole : (fault : Fault) → IsUntold d n (take (n + 1) left) (take (n + 1) right) fault → IsUntold d n left right fault
+  pub untold_whole : (fault : Fault) → IsUntold limits (take (limits.bytes + 1) left) (take (limits.bytes + 1) right) fault → IsUntold limits left right fault
   untold_whole (faults.LeftRefused f) (h, own) = (side_whole Left f h, own)
   untold_whole (faults.RightRefused f) (h, own) = (side_whole Right f h, own)
   untold_whole faults.Memory (side, f, h, e) = (side, f, side_whole side f h, e)
-  untold_whole faults.CannotPrint (l, r) = (subst (IsWholeItem d n) (whole_item d n left l) l, subst (IsWholeItem d n) (whole_item d n right r) r)
+  untold_whole faults.CannotPrint (l, r) = (subst (IsWholeItem limits) (whole_item limits left l) l, subst (IsWholeItem limits) (whole_item limits right r) r)
   untold_whole _ h = absurd h
 
 module _ (options : Options) (left right : List ℕ) (old mid : Option Files) (keeps : KeepsFiles old mid) (first second : List ℕ)
@@ -198,26 +199,26 @@ module _ (options : Options) (left right : List ℕ) (old mid : Option Files) (k
   both : AreInputs old left right options s.input t.input
   both = record { left_is = s.is; right_is = input_before old mid right options.hex t.input keeps t.is }
 
-  pub compared : (before after : Option (List ℕ)) (status : Status) → IsTold options.limits.depth options.limits.bytes first second before after status
+  pub compared : (before after : Option (List ℕ)) (status : Status) → IsTold options.limits first second before after status
       → AreCompared options left right old before after status
   compared before after status h = record {
     first = s.input;
     second = t.input;
     are = both;
-    told = told_whole options.limits.depth options.limits.bytes s.input t.input before after status
-        (subst (λ (x : List ℕ). IsTold options.limits.depth options.limits.bytes (take (options.limits.bytes + 1) s.input) x before after status) t.front
-        (subst (λ (x : List ℕ). IsTold options.limits.depth options.limits.bytes x second before after status) s.front h));
+    told = told_whole options.limits s.input t.input before after status
+        (subst (λ (x : List ℕ). IsTold options.limits (take (options.limits.bytes + 1) s.input) x before after status) t.front
+        (subst (λ (x : List ℕ). IsTold options.limits x second before after status) s.front h));
   }
 
-  pub not_compared : (fault : Fault) → IsUntold options.limits.depth options.limits.bytes first second fault → AreNotCompared options left right old fault
+  pub not_compared : (fault : Fault) → IsUntold options.limits first second fault → AreNotCompared options left right old fault
   not_compared fault h =
       inl (record {
         first = s.input;
         second = t.input;
         are = both;
-        untold = untold_whole options.limits.depth options.limits.bytes s.input t.input fault
-            (subst (λ (x : List ℕ). IsUntold options.limits.depth options.limits.bytes (take (options.limits.bytes + 1) s.input) x fault) t.front
-            (subst (λ (x : List ℕ). IsUntold options.limits.depth options.limits.bytes x second fault) s.front h));
+        untold = untold_whole options.limits s.input t.input fault
+            (subst (λ (x : List ℕ). IsUntold options.limits (take (options.limits.bytes + 1) s.input) x fault) t.front
+            (subst (λ (x : List ℕ). IsUntold options.limits x second fault) s.front h));
       })
 
 -- what follows of an answer that carries something

@@ -3,6 +3,7 @@ use Rattle.std.proofs.Common.{ℕ, ◌+◌, ◌≡◌, ◌≤◌, inl, inr, Opti
 use Rattle.std.proofs.lemmas.List.{length-append, length-take, take_all, take-take}
 use Rattle.cbor_head.specs.Beginning.{IsLongestBeginning}
 use Rattle.cbor_head.specs.Complaint.{Rules, form, plain}
+use Rattle.cbor_head.specs.Limits.{Bounds}
 use Rattle.cbor_head.specs.Value.{Value}
 use Rattle.cbor_head.specs.Spelling.{Spelling, spell}
 use Rattle.cbor_head.specs.Verdict.{Answer, accepted, refused, refusal, Decides, IsFormError, IsVerdict}
@@ -24,11 +25,11 @@ use Rattle.cborc_commands.specs.Events.{IsFollowed, IsNotListed}
 use Rattle.cborc_commands.specs.declared.fault.Fault.{Fault}
 use Rattle.cborc_commands.specs.declared.fault.Fault.TheVariants as faults
 
-module _ (d n : ℕ) (whole : List ℕ) where
-  same_limit : take n (take (n + 1) whole) ≡ take n whole
-  same_limit = take-take n (n + 1) whole (omega arith)
+module _ (limits : Bounds) (whole : List ℕ) where
+  same_limit : take limits.bytes (take (limits.bytes + 1) whole) ≡ take limits.bytes whole
+  same_limit = take-take limits.bytes (limits.bytes + 1) whole (omega arith)
 
-  longest_whole : (p : List ℕ) → IsLongestBeginning d (take n (take (n + 1) whole)) p → IsLongestBeginning d (take n whole) p
+  longest_whole : (p : List ℕ) → IsLongestBeginning limits.depth (take limits.bytes (take (limits.bytes + 1) whole)) p → IsLongestBeginning limits.depth (take limits.bytes whole) p
   longest_whole p l = record {
     beginning = l.beginning;
     rest = l.rest;
@@ -36,7 +37,7 @@ module _ (d n : ℕ) (whole : List ℕ) where
     longest = λ q r b e. l.longest q r b (same_limit ∙ e);
   }
 
-  verdict_whole : (r : Rules) (a : Answer) → IsVerdict d n r (take (n + 1) whole) a → IsVerdict d n r whole a
+  verdict_whole : (r : Rules) (a : Answer) → IsVerdict limits r (take (limits.bytes + 1) whole) a → IsVerdict limits r whole a
   verdict_whole r a v = record {
     p = v.p;
     longest = record {
@@ -52,7 +53,7 @@ module _ (d n : ℕ) (whole : List ℕ) where
   }
 
   -- an item that is accepted is within the limit
-  short : (r : Rules) (s : Spelling) → IsVerdict d n r (take (n + 1) whole) (accepted s) → length (spell s) ≤ n
+  short : (r : Rules) (s : Spelling) → IsVerdict limits r (take (limits.bytes + 1) whole) (accepted s) → length (spell s) ≤ limits.bytes
   short r s v =
       omega (
         arith,
@@ -60,22 +61,22 @@ module _ (d n : ℕ) (whole : List ℕ) where
         ap length v.decides.1,
         ap length v.longest.splits,
         length-append v.p v.longest.rest,
-        length-take n (take (n + 1) whole),
+        length-take limits.bytes (take (limits.bytes + 1) whole),
       )
 
   -- a front within the limit is the whole
-  all : length (take (n + 1) whole) ≤ n → take (n + 1) whole ≡ whole
-  all l = take_all (n + 1) whole (omega (arith, l, length-take (n + 1) whole))
+  all : length (take (limits.bytes + 1) whole) ≤ limits.bytes → take (limits.bytes + 1) whole ≡ whole
+  all l = take_all (limits.bytes + 1) whole (omega (arith, l, length-take (limits.bytes + 1) whole))
 
-  no_longer : length (take (n + 1) whole) ≤ length whole
-  no_longer = omega (arith, length-take (n + 1) whole)
+  no_longer : length (take (limits.bytes + 1) whole) ≤ length whole
+  no_longer = omega (arith, length-take (limits.bytes + 1) whole)
 
-  all_of : (r : Rules) (s : Spelling) → IsVerdict d n r (take (n + 1) whole) (accepted s) → spell s ≡ take (n + 1) whole → take (n + 1) whole ≡ whole
+  all_of : (r : Rules) (s : Spelling) → IsVerdict limits r (take (limits.bytes + 1) whole) (accepted s) → spell s ≡ take (limits.bytes + 1) whole → take (limits.bytes + 1) whole ≡ whole
   all_of r s v e = all (omega (arith, short r s v, ap length e))
 
   -- ---- what `canonicalise` answers
 
-  pub canonical_whole : (o : KeyOrder) (out : List ℕ) → IsCanonicalOf d n o (take (n + 1) whole) out → IsCanonicalOf d n o whole out
+  pub canonical_whole : (o : KeyOrder) (out : List ℕ) → IsCanonicalOf limits o (take (limits.bytes + 1) whole) out → IsCanonicalOf limits o whole out
   canonical_whole o out c = record {
     item = c.item;
     verdict = verdict_whole plain (accepted c.item) c.verdict;
@@ -84,7 +85,7 @@ module _ (d n : ℕ) (whole : List ℕ) where
     fits = c.fits;
   }
 
-  pub refusal_whole : (o : KeyOrder) (f : Refusal) → IsRefusal d n o (take (n + 1) whole) f → IsRefusal d n o whole f
+  pub refusal_whole : (o : KeyOrder) (f : Refusal) → IsRefusal limits o (take (limits.bytes + 1) whole) f → IsRefusal limits o whole f
   refusal_whole o f (canonicalise.of_verdict v) = canonicalise.of_verdict (verdict_whole plain (refused f) v)
   refusal_whole o f (canonicalise.trailing item v l e) = canonicalise.trailing item (verdict_whole plain (accepted item) v) (omega (arith, l, no_longer)) e
   refusal_whole o f (canonicalise.canonical_too_long item v w l e) =
@@ -95,48 +96,48 @@ module _ (d n : ℕ) (whole : List ℕ) where
 
   -- ---- what the readers answer
 
-  within_limit : (p : List ℕ) (k : ℕ) → IsLongestBeginning d (take n (take (n + 1) whole)) p → k ≤ length p → take k (take (n + 1) whole) ≡ take k whole
+  within_limit : (p : List ℕ) (k : ℕ) → IsLongestBeginning limits.depth (take limits.bytes (take (limits.bytes + 1) whole)) p → k ≤ length p → take k (take (limits.bytes + 1) whole) ≡ take k whole
   within_limit p k l h =
-      take-take k (n + 1) whole (omega (arith, h, ap length l.splits, length-append p l.rest, length-take n (take (n + 1) whole)))
+      take-take k (limits.bytes + 1) whole (omega (arith, h, ap length l.splits, length-append p l.rest, length-take limits.bytes (take (limits.bytes + 1) whole)))
 
-  unread_whole : (r : Rules) (f : Refusal) → IsUnread d n r (take (n + 1) whole) f → IsUnread d n r whole f
+  unread_whole : (r : Rules) (f : Refusal) → IsUnread limits r (take (limits.bytes + 1) whole) f → IsUnread limits r whole f
   unread_whole r f (readers.of_verdict v) = readers.of_verdict (verdict_whole r (refused f) v)
   unread_whole r f (readers.of_reader p l h e v) =
       readers.of_reader p (longest_whole p l) h e
-      (subst (λ (b : List ℕ). IsVerdict d n r b (refused (refusal Truncated f.read f.read))) (within_limit p f.read l h) v)
+      (subst (λ (b : List ℕ). IsVerdict limits r b (refused (refusal Truncated f.read f.read))) (within_limit p f.read l h) v)
   unread_whole r f (readers.of_memory p l h e free) = readers.of_memory p (longest_whole p l) h e free
 
   -- ---- what `check` finds
 
-  pub is_whole : (r : Rules) (size : ℕ) → IsWhole d n r (take (n + 1) whole) size → IsWhole d n r whole size
+  pub is_whole : (r : Rules) (size : ℕ) → IsWhole limits r (take (limits.bytes + 1) whole) size → IsWhole limits r whole size
   is_whole r size (h, e) =
       let same = all (omega (arith, e, h.size, short r h.item h.verdict)) in
       (record { item = h.item; verdict = verdict_whole r (accepted h.item) h.verdict; size = h.size }, e ∙ ap length same)
 
-  pub is_not_whole : (r : Rules) (f : Refusal) → IsNotWhole d n r (take (n + 1) whole) f → IsNotWhole d n r whole f
+  pub is_not_whole : (r : Rules) (f : Refusal) → IsNotWhole limits r (take (limits.bytes + 1) whole) f → IsNotWhole limits r whole f
   is_not_whole r f (check.unread h) = check.unread (unread_whole r f h)
   is_not_whole r f (check.trailing size h l e) =
       check.trailing size (record { item = h.item; verdict = verdict_whole r (accepted h.item) h.verdict; size = h.size }) (omega (arith, l, no_longer)) e
 
   -- ---- what `show` finds
 
-  pub is_all_of : (v : Value) → IsReadAs d n plain (take (n + 1) whole) v (length (take (n + 1) whole)) → IsReadAs d n plain whole v (length whole)
+  pub is_all_of : (v : Value) → IsReadAs limits plain (take (limits.bytes + 1) whole) v (length (take (limits.bytes + 1) whole)) → IsReadAs limits plain whole v (length whole)
   is_all_of v h =
       let same = all (omega (arith, h.read.size, short plain h.read.item h.read.verdict)) in
-      subst (IsReadAs d n plain whole v) (ap length same) (record {
+      subst (IsReadAs limits plain whole v) (ap length same) (record {
         read = record { item = h.read.item; verdict = verdict_whole plain (accepted h.read.item) h.read.verdict; size = h.read.size };
         value = h.value;
       })
 
   -- ---- what `events` finds
 
-  same_front : (k : ℕ) → k ≤ n + 1 → take k (take (n + 1) whole) ≡ take k whole
-  same_front k l = take-take k (n + 1) whole l
+  same_front : (k : ℕ) → k ≤ limits.bytes + 1 → take k (take (limits.bytes + 1) whole) ≡ take k whole
+  same_front k l = take-take k (limits.bytes + 1) whole l
 
-  front_within : length (take (n + 1) whole) ≤ n + 1
-  front_within = omega (arith, length-take (n + 1) whole)
+  front_within : length (take (limits.bytes + 1) whole) ≤ limits.bytes + 1
+  front_within = omega (arith, length-take (limits.bytes + 1) whole)
 
-  pub listed_whole : (old new : Option (List ℕ)) → IsListed d n (take (n + 1) whole) (length (take (n + 1) whole)) old new → IsListed d n whole (length whole) old new
+  pub listed_whole : (old new : Option (List ℕ)) → IsListed limits (take (limits.bytes + 1) whole) (length (take (limits.bytes + 1) whole)) old new → IsListed limits whole (length whole) old new
   listed_whole old new h =
       let same = all (omega (arith, h.size, short form h.item h.verdict)) in
       record {
@@ -146,35 +147,35 @@ module _ (d n : ℕ) (whole : List ℕ) where
         written = h.written;
       }
 
-  longest_within : (p : List ℕ) → IsLongestBeginning d (take n (take (n + 1) whole)) p → length p ≤ n
-  longest_within p l = omega (arith, ap length l.splits, length-append p l.rest, length-take n (take (n + 1) whole))
+  longest_within : (p : List ℕ) → IsLongestBeginning limits.depth (take limits.bytes (take (limits.bytes + 1) whole)) p → length p ≤ limits.bytes
+  longest_within p l = omega (arith, ap length l.splits, length-append p l.rest, length-take limits.bytes (take (limits.bytes + 1) whole))
 
-  form_place : (p behind : List ℕ) (f : Refusal) → length p ≤ n → IsFormError d n p behind f → f.place ≤ n
+  form_place : (p behind : List ℕ) (f : Refusal) → length p ≤ limits.bytes → IsFormError limits p behind f → f.place ≤ limits.bytes
   form_place p (c ∷ rest) f l (reason, why, e) = omega (arith, l, ap (λ (x : Refusal). x.place) e)
   form_place p [] f l (inl h) = omega (arith, ap (λ (x : Refusal). x.place) h.1)
   form_place p [] f l (inr h) = omega (arith, l, ap (λ (x : Refusal). x.place) h.1)
 
-  place_within : (f : Refusal) → IsVerdict d n form (take (n + 1) whole) (refused f) → f.place ≤ n
+  place_within : (f : Refusal) → IsVerdict limits form (take (limits.bytes + 1) whole) (refused f) → f.place ≤ limits.bytes
   place_within f v = by v.decides
     where
-      by : Decides d n form v.p v.longest.rest v.item (refused f) → f.place ≤ n
+      by : Decides limits form v.p v.longest.rest v.item (refused f) → f.place ≤ limits.bytes
       by (inl (c, first, e)) = absurd (no-complaint 0 v.item c first.holds)
       by (inr h) = form_place v.p v.longest.rest f (longest_within v.p v.longest) h.2
 
-  unlisted_whole : (f : Refusal) (old new : Option (List ℕ)) → IsUnlisted d n (take (n + 1) whole) f old new → f.read ≤ length (take (n + 1) whole)
-      → IsUnlisted d n whole f old new
+  unlisted_whole : (f : Refusal) (old new : Option (List ℕ)) → IsUnlisted limits (take (limits.bytes + 1) whole) f old new → f.read ≤ length (take (limits.bytes + 1) whole)
+      → IsUnlisted limits whole f old new
   unlisted_whole f old new (listing.of_verdict out v l w) h =
       listing.of_verdict out (verdict_whole form (refused f) v)
-      (subst (λ (t : List ℕ). IsListing d t out) (same_front f.place (omega (arith, place_within f v))) l) w
+      (subst (λ (t : List ℕ). IsListing limits.depth t out) (same_front f.place (omega (arith, place_within f v))) l) w
   unlisted_whole f old new (listing.of_reader out e v l w) h =
       let same = same_front f.read (omega (arith, h, front_within)) in
       listing.of_reader out e
-      (subst (λ (t : List ℕ). IsVerdict d n form t (refused (refusal Truncated f.read f.read))) same v)
-      (subst (λ (t : List ℕ). IsListing d t out) same l) w
+      (subst (λ (t : List ℕ). IsVerdict limits form t (refused (refusal Truncated f.read f.read))) same v)
+      (subst (λ (t : List ℕ). IsListing limits.depth t out) same l) w
   unlisted_whole f old new (listing.of_writer out e l w) h =
-      listing.of_writer out e (subst (λ (t : List ℕ). IsStopped d t out) (same_front f.read (omega (arith, h, front_within))) l) w
+      listing.of_writer out e (subst (λ (t : List ℕ). IsStopped limits.depth t out) (same_front f.read (omega (arith, h, front_within))) l) w
 
-  followed_whole : (f : Refusal) (old new : Option (List ℕ)) → IsFollowed d n (take (n + 1) whole) old new f → IsFollowed d n whole old new f
+  followed_whole : (f : Refusal) (old new : Option (List ℕ)) → IsFollowed limits (take (limits.bytes + 1) whole) old new f → IsFollowed limits whole old new f
   followed_whole f old new h = record {
     size = h.size;
     listed = record {
@@ -187,7 +188,7 @@ module _ (d n : ℕ) (whole : List ℕ) where
     is = h.is;
   }
 
-  pub not_listed_whole : (old new : Option (List ℕ)) (fault : Fault) → IsNotListed d n (take (n + 1) whole) old new fault → IsNotListed d n whole old new fault
+  pub not_listed_whole : (old new : Option (List ℕ)) (fault : Fault) → IsNotListed limits (take (limits.bytes + 1) whole) old new fault → IsNotListed limits whole old new fault
   not_listed_whole old new (faults.Refused f) (own, told, inl (u, l)) = (own, told, inl (unlisted_whole f old new u l, omega (arith, l, no_longer)))
   not_listed_whole old new (faults.Refused f) (own, told, inr h) = (own, told, inr (followed_whole f old new h))
   not_listed_whole old new faults.CannotPrint (f, u, l, e) = (f, unlisted_whole f old new u l, omega (arith, l, no_longer), e)
@@ -196,9 +197,9 @@ module _ (d n : ℕ) (whole : List ℕ) where
 
   -- ---- what `compare` finds
 
-  pub whole_item : IsWholeItem d n (take (n + 1) whole) → take (n + 1) whole ≡ whole
+  pub whole_item : IsWholeItem limits (take (limits.bytes + 1) whole) → take (limits.bytes + 1) whole ≡ whole
   whole_item (s, v) = all v.fits
 
-  pub item_refusal_whole : (f : Refusal) → IsItemRefusal d n (take (n + 1) whole) f → IsItemRefusal d n whole f
+  pub item_refusal_whole : (f : Refusal) → IsItemRefusal limits (take (limits.bytes + 1) whole) f → IsItemRefusal limits whole f
   item_refusal_whole f (items.unread h e) = items.unread (unread_whole plain f h) e
   item_refusal_whole f (items.trailing item v l e) = items.trailing item (verdict_whole plain (accepted item) v) (omega (arith, l, no_longer)) e

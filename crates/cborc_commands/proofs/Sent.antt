@@ -3,6 +3,7 @@ use Rattle.std.proofs.Common.{ℕ, List, Option, Some, None, inl, inr, ◌∙◌
 use Rattle.std.specs.Io.KnownBytes.{Appends, Keeps}
 use Rattle.std.proofs.KnownBytes.{Keeps-trans}
 use Rattle.cbor_diag.specs.Listing.{IsListed, IsUnlisted, of_verdict, of_reader, of_writer}
+use Rattle.cbor_head.specs.Limits.{Bounds}
 use Rattle.cbor_head.specs.declared.reason.Refusal.{Refusal}
 use Rattle.cborc_commands.specs.Answer.{IsDone, IsNotDone}
 use Rattle.cborc_commands.specs.Canon.{IsPut, printed, written}
@@ -31,35 +32,35 @@ module _ (before mid after : Option (List ℕ)) (keeps : Keeps mid after) where
   put_sent path old new text (printed s p k) = printed s (appends_kept before mid after text p keeps) k
   put_sent path old new text (written s r o) = written s r (Keeps-trans before mid after o keeps)
 
-  told_sent : (d n : ℕ) (left right : List ℕ) (s : Status) → IsTold d n left right before mid s → IsTold d n left right before after s
-  told_sent d n left right statuses.Accepted (a, m, t) = (a, m, appends_kept before mid after _ t keeps)
-  told_sent d n left right statuses.Refused (a, m, t) = (a, m, appends_kept before mid after _ t keeps)
-  told_sent d n left right _ h = absurd h
+  told_sent : (limits : Bounds) (left right : List ℕ) (s : Status) → IsTold limits left right before mid s → IsTold limits left right before after s
+  told_sent limits left right statuses.Accepted (a, m, t) = (a, m, appends_kept before mid after _ t keeps)
+  told_sent limits left right statuses.Refused (a, m, t) = (a, m, appends_kept before mid after _ t keeps)
+  told_sent limits left right _ h = absurd h
 
-  listed_sent : (d n : ℕ) (input : List ℕ) (count : ℕ) → IsListed d n input count before mid → IsListed d n input count before after
-  listed_sent d n input count h = record {
+  listed_sent : (limits : Bounds) (input : List ℕ) (count : ℕ) → IsListed limits input count before mid → IsListed limits input count before after
+  listed_sent limits input count h = record {
     item = h.item;
     verdict = h.verdict;
     size = h.size;
     written = appends_kept before mid after _ h.written keeps;
   }
 
-  unlisted_sent : (d n : ℕ) (input : List ℕ) (f : Refusal) → IsUnlisted d n input f before mid → IsUnlisted d n input f before after
-  unlisted_sent d n input f (of_verdict out v l a) = of_verdict out v l (appends_kept before mid after out a keeps)
-  unlisted_sent d n input f (of_reader out e v l a) = of_reader out e v l (appends_kept before mid after out a keeps)
-  unlisted_sent d n input f (of_writer out e s a) = of_writer out e s (appends_kept before mid after out a keeps)
+  unlisted_sent : (limits : Bounds) (input : List ℕ) (f : Refusal) → IsUnlisted limits input f before mid → IsUnlisted limits input f before after
+  unlisted_sent limits input f (of_verdict out v l a) = of_verdict out v l (appends_kept before mid after out a keeps)
+  unlisted_sent limits input f (of_reader out e v l a) = of_reader out e v l (appends_kept before mid after out a keeps)
+  unlisted_sent limits input f (of_writer out e s a) = of_writer out e s (appends_kept before mid after out a keeps)
 
-  not_listed_sent : (d n : ℕ) (input : List ℕ) (fault : Fault) → IsNotListed d n input before mid fault → IsNotListed d n input before after fault
-  not_listed_sent d n input (faults.Refused f) (own, told, inl (h, l)) = (own, told, inl (unlisted_sent d n input f h, l))
-  not_listed_sent d n input (faults.Refused f) (own, told, inr h) = (own, told, inr (record { size = h.size; listed = listed_sent d n input h.size h.listed; followed = h.followed; is = h.is }))
-  not_listed_sent d n input faults.CannotPrint (f, h, l, e) = (f, unlisted_sent d n input f h, l, e)
-  not_listed_sent d n input faults.Memory h = tt
-  not_listed_sent d n input _ h = absurd h
+  not_listed_sent : (limits : Bounds) (input : List ℕ) (fault : Fault) → IsNotListed limits input before mid fault → IsNotListed limits input before after fault
+  not_listed_sent limits input (faults.Refused f) (own, told, inl (h, l)) = (own, told, inl (unlisted_sent limits input f h, l))
+  not_listed_sent limits input (faults.Refused f) (own, told, inr h) = (own, told, inr (record { size = h.size; listed = listed_sent limits input h.size h.listed; followed = h.followed; is = h.is }))
+  not_listed_sent limits input faults.CannotPrint (f, h, l, e) = (f, unlisted_sent limits input f h, l, e)
+  not_listed_sent limits input faults.Memory h = tt
+  not_listed_sent limits input _ h = absurd h
 
   events_sent : (options : Options) (source : List ℕ) (held : Option Files) (fault : Fault) → IsNotListedOf options source held before mid fault
       → IsNotListedOf options source held before after fault
-  events_sent options source held (faults.Refused f) (input, is, h) = (input, is, not_listed_sent options.limits.depth options.limits.bytes input (faults.Refused f) h)
-  events_sent options source held faults.CannotPrint (input, is, h) = (input, is, not_listed_sent options.limits.depth options.limits.bytes input faults.CannotPrint h)
+  events_sent options source held (faults.Refused f) (input, is, h) = (input, is, not_listed_sent options.limits input (faults.Refused f) h)
+  events_sent options source held faults.CannotPrint (input, is, h) = (input, is, not_listed_sent options.limits input faults.CannotPrint h)
   events_sent options source held (faults.CannotRead named) h = h
   events_sent options source held (faults.NotHex named) h = h
   events_sent options source held faults.Memory h = h
@@ -97,9 +98,9 @@ module _ (before mid after : Option (List ℕ)) (keeps : Keeps mid after) where
   done_sent (ShowSequence source layout options) old new statuses.Accepted (h, k) =
       (record { input = h.input; is = h.is; items = h.items; all = h.all; shown = appends_kept before mid after _ h.shown keeps }, k)
   done_sent (Events source options) old new statuses.Accepted (h, k) =
-      (record { input = h.input; is = h.is; listed = listed_sent _ _ h.input _ h.listed }, k)
+      (record { input = h.input; is = h.is; listed = listed_sent _ h.input _ h.listed }, k)
   done_sent (Compare left right options) old new s (h, k) =
-      (record { first = h.first; second = h.second; are = h.are; told = told_sent _ _ h.first h.second s h.told }, k)
+      (record { first = h.first; second = h.second; are = h.are; told = told_sent _ h.first h.second s h.told }, k)
   done_sent _ old new _ h = absurd h
 
   pub not_done_sent : (request : Request) (held : Option Files) (fault : Fault) → IsNotDone request held before mid fault → IsNotDone request held before after fault

@@ -21,7 +21,7 @@ use Rattle.cborc_commands.proofs.Items.{one_more_starts}
 -- ---- `canon --seq`
 
 module _ (b : Bounds) (o : KeyOrder) (form : Form) (input : List ℕ) (before after : Option (List ℕ)) (fault : Fault)
-    (h : AreStopped (HasCanonicalBytes b.depth b.bytes o) (canonical_text o form) (λ bytes fault before after. IsUnwritten b o bytes fault) b.bytes input before after fault) where
+    (h : AreStopped (HasCanonicalBytes b o) (canonical_text o form) (λ bytes fault before after. IsUnwritten b o bytes fault) b.bytes input before after fault) where
   no_text_by : (cause : Fault) → h.cause ≡ cause → fault ≢ faults.CannotPrint → IsNoTextOfAll b o input (at_item h.index h.start cause)
   no_text_by (faults.Refused f) e apart =
       let why = subst (IsUnwritten b o h.rest) e h.stopped in
@@ -37,7 +37,7 @@ module _ (b : Bounds) (o : KeyOrder) (form : Form) (input : List ℕ) (before af
 
 module _ (layout : Layout) (options : Options) (source : List ℕ) (held : Option Files) (input : List ℕ) (is : IsInput held source options.hex input)
     (before after : Option (List ℕ)) (fault : Fault)
-    (h : AreStopped (IsAccepted options.limits.depth options.limits.bytes plain) (item_text layout) (IsItemNotShown options.limits) options.limits.bytes input before after fault) where
+    (h : AreStopped (IsAccepted options.limits plain) (item_text layout) (IsItemNotShown options.limits) options.limits.bytes input before after fault) where
   not_shown_by : (cause : Fault) → h.cause ≡ cause → IsSequenceNotShown layout options source held before after (at_item h.index h.start cause)
   not_shown_by (faults.Refused f) e =
       let why = subst (λ (x : Fault). IsItemNotShown options.limits h.rest x h.middle after) e h.stopped in
@@ -53,7 +53,7 @@ module _ (layout : Layout) (options : Options) (source : List ℕ) (held : Optio
       }
   not_shown_by faults.CannotPrint e =
       let why = subst (λ (x : Fault). IsItemNotShown options.limits h.rest x h.middle after) e h.stopped in
-      let more = one_more_starts (IsAccepted options.limits.depth options.limits.bytes plain) input h.items h.rest h.goes_on.starts why.0 why.1 why.2 why.3 in
+      let more = one_more_starts (IsAccepted options.limits plain) input h.items h.rest h.goes_on.starts why.0 why.1 why.2 why.3 in
       record { input = input; is = is; items = h.items ++ why.0 ∷ []; rest = why.1; starts = more.0; some = more.1 }
   not_shown_by faults.Memory e = tt
   not_shown_by _ e = absurd (subst (λ (x : Fault). IsItemNotShown options.limits h.rest x h.middle after) e h.stopped)

@@ -26,12 +26,12 @@ use Rattle.cborc_commands.specs.inner.Parts.{IsNoText}
 use Rattle.cborc_commands.proofs.Whole.{read_within}
 
 -- the item that is read at the front
-module _ (d n : ℕ) (rules : Rules) (bytes : List ℕ) (size : ℕ) (h : IsRead d n rules bytes size) where
-  pub item_accepted : IsAccepted d n rules h.item
-  item_accepted = is_accepted d n rules bytes h.item h.verdict
+module _ (limits : Bounds) (rules : Rules) (bytes : List ℕ) (size : ℕ) (h : IsRead limits rules bytes size) where
+  pub item_accepted : IsAccepted limits rules h.item
+  item_accepted = is_accepted limits rules bytes h.item h.verdict
 
-  pub at_front : (item : Spelling) × (rest : List ℕ) × IsAccepted d n rules item × (spell item ++ rest ≡ bytes)
-  at_front = (h.item, drop (length (spell h.item)) bytes, item_accepted, splits d n rules bytes h.item h.verdict)
+  pub at_front : (item : Spelling) × (rest : List ℕ) × IsAccepted limits rules item × (spell item ++ rest ≡ bytes)
+  at_front = (h.item, drop (length (spell h.item)) bytes, item_accepted, splits limits rules bytes h.item h.verdict)
 
   pub written_of : (takes : Spelling → Type 0) (text : Spelling → List ℕ) (before after : Option (List ℕ)) → takes h.item → Appends before after (text h.item)
       → IsWritten takes text bytes size before after
@@ -39,24 +39,24 @@ module _ (d n : ℕ) (rules : Rules) (bytes : List ℕ) (size : ℕ) (h : IsRead
     item = h.item;
     rest = drop (length (spell h.item)) bytes;
     taken = t;
-    bytes_are = splits d n rules bytes h.item h.verdict;
+    bytes_are = splits limits rules bytes h.item h.verdict;
     size_is = h.size;
     written = w;
   }
 
 -- ---- canonical bytes of the item that the first bytes are
 
-module _ (b : Bounds) (o : KeyOrder) (bytes : List ℕ) (size : ℕ) (h : IsRead b.depth b.bytes plain bytes size) where
+module _ (b : Bounds) (o : KeyOrder) (bytes : List ℕ) (size : ℕ) (h : IsRead b plain bytes size) where
   front_size : length (take size bytes) ≡ size
-  front_size = omega (arith, length-take size bytes, read_within b.depth b.bytes plain bytes size h)
+  front_size = omega (arith, length-take size bytes, read_within b plain bytes size h)
 
-  pub canonical_of : (form : Form) (text : List ℕ) (before after : Option (List ℕ)) → IsCanonicalText b.depth b.bytes o form (take size bytes) text → Appends before after text
-      → IsWritten (HasCanonicalBytes b.depth b.bytes o) (canonical_text o form) bytes size before after
+  pub canonical_of : (form : Form) (text : List ℕ) (before after : Option (List ℕ)) → IsCanonicalText b o form (take size bytes) text → Appends before after text
+      → IsWritten (HasCanonicalBytes b o) (canonical_text o form) bytes size before after
   canonical_of form text before after t w = record {
     item = t.is.item;
     rest = drop size bytes;
     taken = record {
-      accepted = is_accepted b.depth b.bytes plain (take size bytes) t.is.item t.is.verdict;
+      accepted = is_accepted b plain (take size bytes) t.is.item t.is.verdict;
       fits = rw (← t.is.canonical_bytes) t.is.fits;
     };
     bytes_are = ap (λ (x : List ℕ). x ++ drop size bytes) t.is.whole ∙ take-append-drop size bytes;
@@ -66,29 +66,29 @@ module _ (b : Bounds) (o : KeyOrder) (bytes : List ℕ) (size : ℕ) (h : IsRead
 
   -- the first bytes are accepted, as a whole
   front_is : spell h.item ≡ take size bytes
-  front_is = sym (ap (λ (k : ℕ). take k bytes) h.size ∙ ap (take (length (spell h.item))) (sym (splits b.depth b.bytes plain bytes h.item h.verdict)) ∙ take-append_seam (spell h.item) (drop (length (spell h.item)) bytes))
+  front_is = sym (ap (λ (k : ℕ). take k bytes) h.size ∙ ap (take (length (spell h.item))) (sym (splits b plain bytes h.item h.verdict)) ∙ take-append_seam (spell h.item) (drop (length (spell h.item)) bytes))
 
-  front_verdict : IsVerdict b.depth b.bytes plain (take size bytes) (accepted h.item)
-  front_verdict = subst (λ (x : List ℕ). IsVerdict b.depth b.bytes plain x (accepted h.item)) (append-nil (spell h.item) ∙ front_is)
-      (verdict_of b.depth b.bytes plain h.item [] (item_accepted b.depth b.bytes plain bytes size h))
+  front_verdict : IsVerdict b plain (take size bytes) (accepted h.item)
+  front_verdict = subst (λ (x : List ℕ). IsVerdict b plain x (accepted h.item)) (append-nil (spell h.item) ∙ front_is)
+      (verdict_of b plain h.item [] (item_accepted b plain bytes size h))
 
-  too_long_only : (f : Refusal) → IsRefusal b.depth b.bytes o (take size bytes) f → IsOfInput f.reason → IsUncanonical b.depth b.bytes o bytes f
-  too_long_only f (of_verdict w) own = absurd (apart (one_verdict b.depth b.bytes plain (take size bytes) (accepted h.item) (refused f) front_verdict w))
+  too_long_only : (f : Refusal) → IsRefusal b o (take size bytes) f → IsOfInput f.reason → IsUncanonical b o bytes f
+  too_long_only f (of_verdict w) own = absurd (apart (one_verdict b plain (take size bytes) (accepted h.item) (refused f) front_verdict w))
     where
       apart : {s : Spelling} {g : Refusal} → accepted s ≡ refused g → ⊥
       apart e = cc e
   too_long_only f (trailing item v l is) own =
-      let same : item ≡ h.item = inside (one_verdict b.depth b.bytes plain (take size bytes) (accepted item) (accepted h.item) v front_verdict) in
+      let same : item ≡ h.item = inside (one_verdict b plain (take size bytes) (accepted item) (accepted h.item) v front_verdict) in
       absurd (omega (arith, l, ap (λ (s : Spelling). length (spell s)) same, ap length front_is))
     where
       inside : {s t : Spelling} → accepted s ≡ accepted t → s ≡ t
       inside e = cc e
   too_long_only f (canonical_too_long item v whole l is) own =
-      too_long item (drop size bytes) (is_accepted b.depth b.bytes plain (take size bytes) item v)
+      too_long item (drop size bytes) (is_accepted b plain (take size bytes) item v)
       (ap (λ (x : List ℕ). x ++ drop size bytes) whole ∙ take-append-drop size bytes) l (is ∙ ap (λ (k : ℕ). refusal reasons.CanonicalTooLong k k) (ap length (sym whole)))
   too_long_only f (of_memory p taken l within is free) own = absurd (subst IsOfInput (ap (λ (g : Refusal). g.reason) is) own)
 
-  pub unwritten : (fault : Fault) → IsNoText b.depth b.bytes o (take size bytes) fault → IsUnwritten b o bytes fault
+  pub unwritten : (fault : Fault) → IsNoText b o (take size bytes) fault → IsUnwritten b o bytes fault
   unwritten (faults.Refused f) (r, own) = (too_long_only f r own, own)
   unwritten faults.Memory h = tt
   unwritten _ h = absurd h

@@ -2,6 +2,7 @@
 use Rattle.std.specs.Prelude.{ℕ, ◌≡◌, ◌++◌, true, false, List, Option, Some, codes}
 use Rattle.std.specs.Io.KnownBytes.{Appends, Keeps}
 use Rattle.hex.specs.Hex.{encode_lower}
+use Rattle.cbor_head.specs.Limits.{Bounds}
 use Rattle.cbor_head.specs.declared.order.KeyOrder.{KeyOrder}
 use Rattle.cbor_reader.specs.Canonicalise.{IsCanonicalOf, IsRefusal}
 use Rattle.cborc_commands.specs.Fault.{IsOfInput}
@@ -20,9 +21,9 @@ in_form Raw bytes = bytes
 in_form Hex bytes = encode_lower bytes ++ codes "\n"
 
 -- the canonical bytes of the input, in a form
-pub record IsCanonicalText (d n : ℕ) (o : KeyOrder) (form : Form) (input text : List ℕ) : Type 0 where
+pub record IsCanonicalText (limits : Bounds) (o : KeyOrder) (form : Form) (input text : List ℕ) : Type 0 where
   pub canonical : List ℕ
-  pub is : IsCanonicalOf d n o input canonical
+  pub is : IsCanonicalOf limits o input canonical
   pub formed : text ≡ in_form form canonical
 
 -- the text is where it belongs: standard output took it, and no file was changed; or the file holds it, and no other was changed, and standard output took nothing
@@ -42,7 +43,7 @@ pub record IsCanonised (o : KeyOrder) (options : Options) (source : List ℕ) (o
   pub input : List ℕ
   pub is : IsInput old source options.hex input
   pub text : List ℕ
-  pub canonical : IsCanonicalText options.limits.depth options.limits.bytes o output.form input text
+  pub canonical : IsCanonicalText options.limits o output.form input text
   pub put : IsPut output.path.now old new before after text
 
 -- the input at a path has canonical bytes
@@ -50,21 +51,21 @@ pub record HasText (o : KeyOrder) (options : Options) (source : List ℕ) (form 
   pub input : List ℕ
   pub is : IsInput held source options.hex input
   pub text : List ℕ
-  pub canonical : IsCanonicalText options.limits.depth options.limits.bytes o form input text
+  pub canonical : IsCanonicalText options.limits o form input text
 
 -- why they are not: the input is refused, there is none, or its text was not put there
 abbrev pub IsNotCanonised : KeyOrder → Options → List ℕ → Output → Option Files → Fault → Type 0
 IsNotCanonised o options source output held (faults.Refused f) =
-    (input : List ℕ) × IsInput held source options.hex input × IsRefusal options.limits.depth options.limits.bytes o input f × IsOfInput f.reason
+    (input : List ℕ) × IsInput held source options.hex input × IsRefusal options.limits o input f × IsOfInput f.reason
 IsNotCanonised o options source output held faults.CannotPrint = HasText o options source output.form held × IsNotPut output.path.now faults.CannotPrint
 IsNotCanonised o options source output held (faults.CannotWrite named) =
     HasText o options source output.form held × IsNotPut output.path.now (faults.CannotWrite named)
 IsNotCanonised o options source output held fault = IsNoInput held source options.hex fault
 
 -- the first bytes are of a file that is one valid item, and the second of one that holds its canonical bytes
-pub record HoldsCanonical (d n : ℕ) (o : KeyOrder) (before after : Option (List ℕ)) : Type 0 where
+pub record HoldsCanonical (limits : Bounds) (o : KeyOrder) (before after : Option (List ℕ)) : Type 0 where
   pub input : List ℕ
   pub canonical : List ℕ
   pub read : before ≡ Some input
-  pub is : IsCanonicalOf d n o input canonical
+  pub is : IsCanonicalOf limits o input canonical
   pub written : after ≡ Some canonical

@@ -2,6 +2,7 @@
 use Rattle.std.specs.Prelude.{ℕ, ◌≡◌, ◌<◌, ◌++◌, List, length, codes, decimal, Option}
 use Rattle.std.specs.Io.KnownBytes.{Appends}
 use Rattle.cbor_head.specs.Complaint.{Rules, plain, strict}
+use Rattle.cbor_head.specs.Limits.{Bounds}
 use Rattle.cbor_head.specs.Verdict.{refusal}
 use Rattle.cbor_head.specs.declared.reason.Reason.TheVariants.{Trailing}
 use Rattle.cbor_head.specs.declared.reason.Refusal.{Refusal}
@@ -20,16 +21,16 @@ abbrev pub rules_of : Accepted → Rules
 rules_of Valid = plain
 rules_of (Canonical order) = strict order
 
--- the item at the front, accepted by the rules within depth d and n bytes, is the whole input, so many bytes
-abbrev pub IsWhole : ℕ → ℕ → Rules → List ℕ → ℕ → Type 0
-IsWhole d n rules input size = IsRead d n rules input size × (size ≡ length input)
+-- the item at the front, accepted by the rules within the limits, is the whole input, so many bytes
+abbrev pub IsWhole : Bounds → Rules → List ℕ → ℕ → Type 0
+IsWhole limits rules input size = IsRead limits rules input size × (size ≡ length input)
 
 -- why it isn't
-pub data IsNotWhole (d n : ℕ) (rules : Rules) (input : List ℕ) (f : Refusal) : Type 0 where
+pub data IsNotWhole (limits : Bounds) (rules : Rules) (input : List ℕ) (f : Refusal) : Type 0 where
   -- no item is accepted
-  unread : IsUnread d n rules input f → IsNotWhole d n rules input f
+  unread : IsUnread limits rules input f → IsNotWhole limits rules input f
   -- a byte follows the item
-  trailing : (size : ℕ) → IsRead d n rules input size → size < length input → f ≡ refusal Trailing size size → IsNotWhole d n rules input f
+  trailing : (size : ℕ) → IsRead limits rules input size → size < length input → f ≡ refusal Trailing size size → IsNotWhole limits rules input f
 
 -- the line of an item that is accepted, of so many bytes
 abbrev pub accepted_bytes : ℕ → List ℕ
@@ -40,7 +41,7 @@ pub record IsChecked (rules : Rules) (options : Options) (source : List ℕ) (he
   pub input : List ℕ
   pub is : IsInput held source options.hex input
   pub size : ℕ
-  pub whole : IsWhole options.limits.depth options.limits.bytes rules input size
+  pub whole : IsWhole options.limits rules input size
   pub told : Appends before after (accepted_bytes size)
 
 -- it is, and standard output took not all of its line
@@ -48,11 +49,11 @@ pub record IsUntoldOf (rules : Rules) (options : Options) (source : List ℕ) (h
   pub input : List ℕ
   pub is : IsInput held source options.hex input
   pub size : ℕ
-  pub whole : IsWhole options.limits.depth options.limits.bytes rules input size
+  pub whole : IsWhole options.limits rules input size
 
 -- why nothing is told: the input is refused, there is none, or standard output failed
 abbrev pub IsNotChecked : Rules → Options → List ℕ → Option Files → Fault → Type 0
 IsNotChecked rules options source held (faults.Refused f) =
-    (input : List ℕ) × IsInput held source options.hex input × IsNotWhole options.limits.depth options.limits.bytes rules input f × IsOfInput f.reason
+    (input : List ℕ) × IsInput held source options.hex input × IsNotWhole options.limits rules input f × IsOfInput f.reason
 IsNotChecked rules options source held faults.CannotPrint = IsUntoldOf rules options source held
 IsNotChecked rules options source held fault = IsNoInput held source options.hex fault

@@ -26,7 +26,7 @@ pub record IsShownOf (layout : Layout) (options : Options) (source : List ℕ) (
   pub input : List ℕ
   pub is : IsInput held source options.hex input
   pub value : Value
-  pub whole : IsReadAs options.limits.depth options.limits.bytes plain input value (length input)
+  pub whole : IsReadAs options.limits plain input value (length input)
   pub shown : Appends before after (shown_text layout value)
 
 -- it is, and standard output took not all of its text
@@ -34,11 +34,11 @@ pub record IsUnshownOf (options : Options) (source : List ℕ) (held : Option Fi
   pub input : List ℕ
   pub is : IsInput held source options.hex input
   pub value : Value
-  pub whole : IsReadAs options.limits.depth options.limits.bytes plain input value (length input)
+  pub whole : IsReadAs options.limits plain input value (length input)
 
 -- why it is not shown: the input is refused, there is none, or standard output failed
 abbrev pub IsNotShown : Options → List ℕ → Option Files → Fault → Type 0
 IsNotShown options source held (faults.Refused f) =
-    (input : List ℕ) × IsInput held source options.hex input × IsNotWhole options.limits.depth options.limits.bytes plain input f × IsOfInput f.reason
+    (input : List ℕ) × IsInput held source options.hex input × IsNotWhole options.limits plain input f × IsOfInput f.reason
 IsNotShown options source held faults.CannotPrint = IsUnshownOf options source held
 IsNotShown options source held fault = IsNoInput held source options.hex fault

@@ -29,7 +29,7 @@ pub record IsSequenceShown (layout : Layout) (options : Options) (source : List 
   pub input : List ℕ
   pub is : IsInput held source options.hex input
   pub items : List Spelling
-  pub all : AreAll (IsAccepted options.limits.depth options.limits.bytes plain) options.limits.bytes input items
+  pub all : AreAll (IsAccepted options.limits plain) options.limits.bytes input items
   pub shown : Appends before after (item_texts layout items)
 
 -- It isn't: behind valid items, whose texts standard output took, comes what is refused, with this index and starting there.
@@ -38,8 +38,8 @@ pub record HasUnshownItem (layout : Layout) (options : Options) (source : List �
   pub is : IsInput held source options.hex input
   pub items : List Spelling
   pub rest : List ℕ
-  pub goes_on : GoesOn (IsAccepted options.limits.depth options.limits.bytes plain) options.limits.bytes input items rest index start
-  pub refused : IsUnread options.limits.depth options.limits.bytes plain rest f
+  pub goes_on : GoesOn (IsAccepted options.limits plain) options.limits.bytes input items rest index start
+  pub refused : IsUnread options.limits plain rest f
   pub of_input : IsOfInput f.reason
   pub shown : Appends before after (item_texts layout items)
 
@@ -49,7 +49,7 @@ pub record IsSequenceUnshown (options : Options) (source : List ℕ) (held : Opt
   pub is : IsInput held source options.hex input
   pub items : List Spelling
   pub rest : List ℕ
-  pub starts : StartsWithEach (IsAccepted options.limits.depth options.limits.bytes plain) input items rest
+  pub starts : StartsWithEach (IsAccepted options.limits plain) input items rest
   pub some : 0 < length items
 
 -- why it is not shown whole: an item is refused, there is no input, or standard output failed

@@ -49,8 +49,8 @@ pub(crate) fn canonical_text<'a>(
     form: Form,
 ) -> Result<Vec<u8>, Fault<'a>>
     ensures text { IfOk result (λ v.
-        IsCanonicalText limits.depth limits.bytes order form bytes.now v.items) }
-    ensures fault { IfErr result (IsNoText limits.depth limits.bytes order bytes.now) }
+        IsCanonicalText limits order form bytes.now v.items) }
+    ensures fault { IfErr result (IsNoText limits order bytes.now) }
 {
     let canonical = canonicalise(alloc, bytes, limits, order)?;
     match form {

@@ -77,7 +77,7 @@ struct CanonicalItems {
 }
 
 impl ItemWriter for CanonicalItems {
-    ghost takes = { λ canonical b. HasCanonicalBytes b.depth b.bytes canonical.order };
+    ghost takes = { λ canonical b. HasCanonicalBytes b canonical.order };
 
     ghost text = { λ canonical. canonical_text canonical.order canonical.form };
 

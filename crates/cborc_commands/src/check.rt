@@ -58,9 +58,9 @@ fn size_of_item(
     limits: Limits,
 ) -> Result<u64, Refusal>
     ensures whole { IfOk result
-        (IsWhole limits.depth limits.bytes (rules_of accepted) bytes.now) }
+        (IsWhole limits (rules_of accepted) bytes.now) }
     ensures refused { IfErr result
-        (IsNotWhole limits.depth limits.bytes (rules_of accepted) bytes.now) }
+        (IsNotWhole limits (rules_of accepted) bytes.now) }
 {
     let size = size_at_front(alloc, bytes, accepted, limits)?;
     if size == bytes.len() as u64 {
@@ -82,9 +82,9 @@ pub(crate) fn size_at_front(
     limits: Limits,
 ) -> Result<u64, Refusal>
     ensures accepted { IfOk result
-        (IsRead limits.depth limits.bytes (rules_of accepted) bytes.now) }
+        (IsRead limits (rules_of accepted) bytes.now) }
     ensures refused { IfErr result
-        (IsUnread limits.depth limits.bytes (rules_of accepted) bytes.now) }
+        (IsUnread limits (rules_of accepted) bytes.now) }
 {
     match accepted {
         Accepted::Valid => check_valid(alloc, bytes, limits),

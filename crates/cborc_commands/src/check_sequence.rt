@@ -63,7 +63,7 @@ struct CountedItems {
 }
 
 impl ItemWriter for CountedItems {
-    ghost takes = { λ counted b. IsAccepted b.depth b.bytes (rules_of counted.accepted) };
+    ghost takes = { λ counted b. IsAccepted b (rules_of counted.accepted) };
 
     ghost text = { λ _ _. [] };
 

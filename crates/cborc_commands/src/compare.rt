@@ -51,9 +51,9 @@ fn tell<'a, O: Write>(
     right: &[u8],
     limits: Limits,
 ) -> Result<Status, Fault<'a>>
-    ensures told { IfOk result (IsTold limits.depth limits.bytes left.now right.now
+    ensures told { IfOk result (IsTold limits left.now right.now
         (O.contents out.old) (O.contents out.new)) }
-    ensures fault { IfErr result (IsUntold limits.depth limits.bytes left.now right.now) }
+    ensures fault { IfErr result (IsUntold limits left.now right.now) }
     ensures silent { IfErr result (λ fault. fault ≢ Fault.CannotPrint → out.new ≡ out.old) }
 {
     let (line, status) = if same_meaning(alloc, left, right, limits)? {

@@ -38,9 +38,9 @@ pub fn events<'a, F: Folder, O: Write>(
 // Writes the lines of the item that all the bytes are; the refusal is that of its form, then
 // `Trailing`.
 fn list<'a, W: Write>(bytes: &[u8], limits: Limits, out: &mut W) -> Result<(), Fault<'a>>
-    ensures listed { OnOk result (IsListed limits.depth limits.bytes bytes.now
+    ensures listed { OnOk result (IsListed limits bytes.now
         (length bytes.now) (W.contents out.old) (W.contents out.new)) }
-    ensures fault { IfErr result (IsNotListed limits.depth limits.bytes bytes.now
+    ensures fault { IfErr result (IsNotListed limits bytes.now
         (W.contents out.old) (W.contents out.new)) }
 {
     let mut reader = bytes;

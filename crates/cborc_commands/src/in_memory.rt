@@ -24,7 +24,7 @@ pub fn canon_in_memory<'a>(
     limits: Limits,
 ) -> Result<(), Fault<'a>>
     ensures written { OnOk result (is_stream target.now ≡ false
-        → HoldsCanonical limits.depth limits.bytes order (files_of files.old source.now) (files_of files.new target.now)) }
+        → HoldsCanonical limits order (files_of files.old source.now) (files_of files.new target.now)) }
     ensures others { OnOk result ((other : List ℕ) → other ≢ target.now
         → files_of files.new other ≡ files_of files.old other) }
     ensures untouched { OnErr result ((path : List ℕ) → files_of files.new path ≡ files_of files.old path) }

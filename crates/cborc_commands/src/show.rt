@@ -42,8 +42,8 @@ pub fn show<'a, F: Folder, O: Write>(
 
 // The tree of the item that all the bytes are; the refusal is the item's, then `Trailing`.
 fn tree_of(alloc: Global, bytes: &[u8], limits: Limits) -> Result<Tree, Refusal>
-    ensures whole { IfOk result (IsTreeOf limits.depth limits.bytes bytes.now) }
-    ensures refused { IfErr result (IsNotWhole limits.depth limits.bytes plain bytes.now) }
+    ensures whole { IfOk result (IsTreeOf limits bytes.now) }
+    ensures refused { IfErr result (IsNotWhole limits plain bytes.now) }
 {
     let mut reader = bytes;
     let (tree, size) = read_tree(alloc, &mut reader, limits)?;

@@ -49,7 +49,7 @@ struct ShownItems {
 }
 
 impl ItemWriter for ShownItems {
-    ghost takes = { λ shown b. IsAccepted b.depth b.bytes plain };
+    ghost takes = { λ shown b. IsAccepted b plain };
 
     ghost text = { λ shown. item_text shown.layout };
 

@@ -11,7 +11,7 @@ use Rattle.cbor_reader.specs.WholeItem.{IsItemRefusal}
 use Rattle.naltvigo.specs.Told.{IsTold}
 use Rattle.naltvigo.specs.declared.status.NaltvigoRefusal.{NaltvigoRefusal}
 
--- The refusal of an input that is not, within depth d and n bytes, one item in its canonical bytes (RFC 8949, section 4.2).
+-- The refusal of an input that is not, within the limits, one item in its canonical bytes (RFC 8949, section 4.2).
 pub data IsStrictRefusal (limits : Bounds) (o : KeyOrder) (input : List ℕ) (f : Refusal) : Type 0 where
   -- the strict verdict
   of_verdict : IsVerdict limits (strict o) input (refused f) → IsStrictRefusal limits o input f
@@ -25,7 +25,7 @@ pub record IsNotCanonical (limits : Bounds) (o : KeyOrder) (input : List ℕ) (c
   pub refused : IsStrictRefusal limits o input why
   pub told : IsTold why c
 
--- the input is no one valid item within depth d and n bytes, and this is told of it
+-- the input is no one valid item within the limits, and this is told of it
 pub record IsNotValid (limits : Bounds) (input : List ℕ) (c : NaltvigoRefusal) : Type 0 where
   pub why : Refusal
   pub refused : IsItemRefusal limits input why

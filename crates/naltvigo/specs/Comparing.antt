@@ -14,7 +14,7 @@ abbrev pub side_number : Side → ℕ
 side_number Left = 0
 side_number Right = 1
 
--- the left input is no whole valid item within depth d and n bytes, or it is and the right one is none; and this is told of it
+-- the left input is no whole valid item within the limits, or it is and the right one is none; and this is told of it
 pub record IsSideRefused (limits : Bounds) (left right : List ℕ) (number : ℕ) (c : NaltvigoRefusal) : Type 0 where
   pub side : Side
   pub refusal : Refusal

@@ -11,7 +11,7 @@ use Rattle.naltvigo.specs.Checking.{ItemLacksMemory}
 use Rattle.naltvigo.specs.Told.{IsTold}
 use Rattle.naltvigo.specs.declared.status.NaltvigoRefusal.{NaltvigoRefusal}
 
--- the input is one valid item within depth d and n bytes, and this is the text of its value
+-- the input is one valid item within the limits, and this is the text of its value
 pub record IsTextOf (limits : Bounds) (input shown : List ℕ) : Type 0 where
   pub item : Spelling
   pub valid : IsValidItem limits input item

@@ -10,7 +10,7 @@ use Rattle.cbor_judging.specs.Readers.{IsUnread}
 use Rattle.naltvigo.specs.Told.{IsTold}
 use Rattle.naltvigo.specs.declared.status.NaltvigoRefusal.{NaltvigoRefusal}
 
--- the input begins with no valid item within depth d and n bytes, and this is told of it
+-- the input begins with no valid item within the limits, and this is told of it
 pub record IsNoValidFront (limits : Bounds) (input : List ℕ) (c : NaltvigoRefusal) : Type 0 where
   pub why : Refusal
   pub refused : IsUnread limits plain input why

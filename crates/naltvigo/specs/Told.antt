@@ -13,7 +13,7 @@ use Rattle.naltvigo.specs.declared.status.NaltvigoRefusal.{NaltvigoRefusal}
 abbrev pub IsTold : Refusal → NaltvigoRefusal → Type 0
 IsTold f c = (c.reason ≡ reason_number f.reason) × (c.place ≡ f.place) × (c.read ≡ f.read)
 
--- the input has no canonical bytes within depth d and n bytes, and this is told of it
+-- the input has no canonical bytes within the limits, and this is told of it
 pub record IsRefused (limits : Bounds) (o : KeyOrder) (input : List ℕ) (c : NaltvigoRefusal) : Type 0 where
   pub refusal : Refusal
   pub refused : IsRefusal limits o input refusal

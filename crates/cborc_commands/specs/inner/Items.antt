@@ -50,22 +50,22 @@ pub record AreStopped (takes : Spelling → Type 0) (text : Spelling → List �
 
 -- to be counted: it is refused, or memory was
 abbrev pub IsUncounted : Bounds → Rules → List ℕ → Fault → Type 0
-IsUncounted b rules bytes (faults.Refused f) = IsUnread b.depth b.bytes rules bytes f × IsOfInput f.reason
+IsUncounted b rules bytes (faults.Refused f) = IsUnread b rules bytes f × IsOfInput f.reason
 IsUncounted b rules bytes faults.Memory = Unit {0}
 IsUncounted b rules bytes _ = ⊥
 
 -- to be written as canonical bytes: the same, or the output failed
 abbrev pub IsUnwritten : Bounds → KeyOrder → List ℕ → Fault → Type 0
-IsUnwritten b o bytes (faults.Refused f) = IsUncanonical b.depth b.bytes o bytes f × IsOfInput f.reason
+IsUnwritten b o bytes (faults.Refused f) = IsUncanonical b o bytes f × IsOfInput f.reason
 IsUnwritten b o bytes faults.CannotPrint = Unit {0}
 IsUnwritten b o bytes faults.Memory = Unit {0}
 IsUnwritten b o bytes _ = ⊥
 
 -- to be shown: it is refused, and the output took nothing; or it is accepted, and the output failed; or memory was refused
 abbrev pub IsItemNotShown : Bounds → List ℕ → Fault → Option (List ℕ) → Option (List ℕ) → Type 0
-IsItemNotShown b bytes (faults.Refused f) before after = IsUnread b.depth b.bytes plain bytes f × IsOfInput f.reason × (after ≡ before)
+IsItemNotShown b bytes (faults.Refused f) before after = IsUnread b plain bytes f × IsOfInput f.reason × (after ≡ before)
 IsItemNotShown b bytes faults.CannotPrint before after =
-    (item : Spelling) × (rest : List ℕ) × IsAccepted b.depth b.bytes plain item × (spell item ++ rest ≡ bytes)
+    (item : Spelling) × (rest : List ℕ) × IsAccepted b plain item × (spell item ++ rest ≡ bytes)
 IsItemNotShown b bytes faults.Memory before after = Unit {0}
 IsItemNotShown b bytes _ before after = ⊥
 
@@ -74,11 +74,11 @@ IsItemNotShown b bytes _ before after = ⊥
 -- the input is a sequence of items that have canonical bytes, and the text is these
 pub record IsTextOfAll (b : Bounds) (o : KeyOrder) (form : Form) (input text : List ℕ) : Type 0 where
   pub items : List Spelling
-  pub all : AreAll (HasCanonicalBytes b.depth b.bytes o) b.bytes input items
+  pub all : AreAll (HasCanonicalBytes b o) b.bytes input items
   pub text_is : text ≡ canonical_texts o form items
 
 -- why there is none: an item is refused, or memory was
 abbrev pub IsNoTextOfAll : Bounds → KeyOrder → List ℕ → Fault → Type 0
-IsNoTextOfAll b o input (faults.RefusedItem index start f) = IsUncanonicalAt b.depth b.bytes o input index start f × IsOfInput f.reason
+IsNoTextOfAll b o input (faults.RefusedItem index start f) = IsUncanonicalAt b o input index start f × IsOfInput f.reason
 IsNoTextOfAll b o input faults.Memory = Unit {0}
 IsNoTextOfAll b o input _ = ⊥

@@ -2,6 +2,7 @@
 use Rattle.std.specs.Prelude.{ℕ, ◌≡◌, Bool, List, length, take, Option}
 use Rattle.std.specs.Io.KnownBytes.{Appends}
 use Rattle.cbor_head.specs.Complaint.{plain}
+use Rattle.cbor_head.specs.Limits.{Bounds}
 use Rattle.cbor_head.specs.declared.order.KeyOrder.{KeyOrder}
 use Rattle.cbor_item.specs.View.{view}
 use Rattle.cbor_item.specs.declared.item.Item.{Item}
@@ -22,14 +23,14 @@ pub record StartsInput (held : Option Files) (path : List ℕ) (hex : Bool) (mos
   pub front : bytes ≡ take most input
 
 -- why there is none: the input is refused, or memory was
-abbrev pub IsNoText : ℕ → ℕ → KeyOrder → List ℕ → Fault → Type 0
-IsNoText d n o input (faults.Refused f) = IsRefusal d n o input f × IsOfInput f.reason
-IsNoText d n o input faults.Memory = Unit {0}
-IsNoText d n o input _ = ⊥
+abbrev pub IsNoText : Bounds → KeyOrder → List ℕ → Fault → Type 0
+IsNoText limits o input (faults.Refused f) = IsRefusal limits o input f × IsOfInput f.reason
+IsNoText limits o input faults.Memory = Unit {0}
+IsNoText limits o input _ = ⊥
 
--- the whole input is the item of this tree, accepted by the plain rules within depth d and n bytes
-abbrev pub IsTreeOf : ℕ → ℕ → List ℕ → Item → Type 0
-IsTreeOf d n input tree = IsReadAs d n plain input (view tree) (length input)
+-- the whole input is the item of this tree, accepted by the plain rules within the limits
+abbrev pub IsTreeOf : Bounds → List ℕ → Item → Type 0
+IsTreeOf limits input tree = IsReadAs limits plain input (view tree) (length input)
 
 -- the text was written
 abbrev pub IsShown : Layout → Item → Option (List ℕ) → Option (List ℕ) → Type 0

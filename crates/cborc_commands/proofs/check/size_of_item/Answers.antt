@@ -11,4 +11,4 @@ returns-in_err-size-clause-refused c =
 
 pub returns-else-size-bytes-clause-refused : goal.returns-else-size-bytes-clause-refused
 returns-else-size-bytes-clause-refused c =
-    is_longer _ _ (rules_of c.args.accepted) _ refl _ c.in_ok-size.size c.in_ok-size.ensures.accepted c.if-size-bytes.false
+    is_longer _ (rules_of c.args.accepted) _ refl _ c.in_ok-size.size c.in_ok-size.ensures.accepted c.if-size-bytes.false

@@ -12,9 +12,9 @@ returns-in_err-tree-clause-refused c =
 
 pub returns-then-is_empty-clause-whole : goal.returns-then-is_empty-clause-whole
 returns-then-is_empty-clause-whole c =
-    is_all _ _ plain plain refl c.args.bytes.now c.read_tree.new.reader.now _ c.in_ok-tree.size c.in_ok-tree.ensures.accepted c.in_ok-tree.ensures.taken c.if-is_empty.ensures
+    is_all _ plain plain refl c.args.bytes.now c.read_tree.new.reader.now _ c.in_ok-tree.size c.in_ok-tree.ensures.accepted c.in_ok-tree.ensures.taken c.if-is_empty.ensures
 
 pub returns-else-is_empty-clause-refused : goal.returns-else-is_empty-clause-refused
 returns-else-is_empty-clause-refused c =
     rw c.at.ensures
-    (is_followed _ _ plain plain refl c.args.bytes.now c.read_tree.new.reader.now c.in_ok-tree.size c.in_ok-tree.ensures.accepted.read c.in_ok-tree.ensures.taken c.if-is_empty.ensures)
+    (is_followed _ plain plain refl c.args.bytes.now c.read_tree.new.reader.now c.in_ok-tree.size c.in_ok-tree.ensures.accepted.read c.in_ok-tree.ensures.taken c.if-is_empty.ensures)

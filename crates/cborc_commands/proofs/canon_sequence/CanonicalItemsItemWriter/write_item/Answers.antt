@@ -8,7 +8,7 @@ use Rattle.cborc_commands.proofs.canon_sequence.CanonicalItemsItemWriter.write_i
 
 pub slice_bounds-canonical_text-end : goal.slice_bounds-canonical_text-end
 slice_bounds-canonical_text-end g c =
-    omega (arith, length-take c.in_ok-size.size c.args.bytes.now, read_within _ _ plain _ c.in_ok-size.size c.in_ok-size.ensures.accepted)
+    omega (arith, length-take c.in_ok-size.size c.args.bytes.now, read_within _ plain _ c.in_ok-size.size c.in_ok-size.ensures.accepted)
 
 pub returns-in_err-text-clause-stopped : goal.returns-in_err-text-clause-stopped
 returns-in_err-text-clause-stopped g c =

@@ -15,5 +15,5 @@ returns-in_err-size-clause-stopped g c =
 
 pub returns-clause-written : goal.returns-clause-written
 returns-clause-written g c =
-    written_of _ _ _ _ _ c.in_ok-size.ensures.accepted (IsAccepted c.args.limits.depth c.args.limits.bytes (rules_of c.args.self.now.accepted)) (λ item. []) _ _
-    (item_accepted _ _ _ _ _ c.in_ok-size.ensures.accepted) (appends_none _)
+    written_of _ _ _ _ c.in_ok-size.ensures.accepted (IsAccepted c.args.limits (rules_of c.args.self.now.accepted)) (λ item. []) _ _
+    (item_accepted _ _ _ _ c.in_ok-size.ensures.accepted) (appends_none _)

@@ -19,11 +19,11 @@ returns-in_err-tree-clause-stopped g c =
 pub returns-in_err-print-clause-stopped : goal.returns-in_err-print-clause-stopped
 returns-in_err-print-clause-stopped g c =
     let p = err_from_is_err_and c.from_residual-in_err-print.result c.from_residual-in_err-print.ensures.1 in
-    rw (p.1, p.2, c.in_err-print.ensures.fault) (at_front _ _ plain _ _ c.in_ok-tree.ensures.accepted.read)
+    rw (p.1, p.2, c.in_err-print.ensures.fault) (at_front _ plain _ _ c.in_ok-tree.ensures.accepted.read)
 
 pub returns-clause-written : goal.returns-clause-written
 returns-clause-written g c =
     let read = c.in_ok-tree.ensures.accepted in
-    written_of _ _ _ _ _ read.read (IsAccepted c.args.limits.depth c.args.limits.bytes plain) (item_text c.args.self.now.layout) _ _
-    (item_accepted _ _ _ _ _ read.read)
+    written_of _ _ _ _ read.read (IsAccepted c.args.limits plain) (item_text c.args.self.now.layout) _ _
+    (item_accepted _ _ _ _ read.read)
     (subst (λ (v : Value). Appends (g.W.Write.contents c.args.out.now) (g.W.Write.contents c.print.new.out) (shown_text c.args.self.now.layout v)) read.value c.in_ok-print.ensures.shown)
