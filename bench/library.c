@@ -1,6 +1,6 @@
 /* library FOLDER NAME..: times calls of naltvigo.h in process on FOLDER/NAME.cbor and its canonical bytes
  * FOLDER/NAME.bytewise, beside plain C (floor.c) and, where it is there, libcbor; prints a row of a Markdown
- * table for each, in MB/s of processor time, the best of some calls. */
+ * table for each, in MB/s of processor time, the best of some calls; then what a call on a small item costs. */
 #define _POSIX_C_SOURCE 199309L
 #include "../c/options.h"
 #include "floor.h"
@@ -95,6 +95,55 @@ static void tell(int (*call)(void), size_t length) {
     fflush(stdout);
 }
 
+/* Small items: what a call costs by itself. The claims are those of RFC 8392, appendix A.1. */
+static const struct {
+    const char *name;
+    const char *bytes;
+    size_t length;
+} small[] = {
+    {"the integer 0", "\x00", 1},
+    {"a map of a text and a number", "\xa1\x63" "Fun" "\x18\x2a", 7},
+    {"the claims of a token",
+     "\xa7\x01\x75" "coap://as.example.com" "\x02\x65" "erikw" "\x03\x78\x18" "coap://light.example.com"
+     "\x04\x1a\x56\x12\xae\xb0\x05\x1a\x56\x10\xd9\xf0\x06\x1a\x56\x10\xd9\xf0\x07\x42\x0b\x71", 80},
+};
+
+/* Prints how many nanoseconds a call takes, the best of some thousands. */
+static void tell_nanoseconds(int (*call)(void)) {
+    enum { CALLS = 2000 };
+    double best = 1e9;
+    for (int turn = 0; turn < 200; turn++) {
+        double from = now();
+        for (int i = 0; i < CALLS; i++) {
+            if (!call()) {
+                printf(" - |");
+                return;
+            }
+        }
+        double took = (now() - from) / CALLS;
+        if (took < best) best = took;
+    }
+    printf(" %.0f |", 1e9 * best);
+}
+
+static void tell_small(void) {
+    puts("\n| small item, ns a call | bytes | `canonicalise` | plain C | `check_canonical` | plain C | `check_valid` | `compare` |");
+    puts("| --- | ---: | ---: | ---: | ---: | ---: | ---: | ---: |");
+    uint8_t room[256];
+    for (size_t i = 0; i < sizeof small / sizeof *small; i++) {
+        in = canonical = (struct bytes){(uint8_t *)small[i].bytes, small[i].length};
+        out = (struct bytes){room, sizeof room};
+        printf("| %s | %zu |", small[i].name, in.length);
+        tell_nanoseconds(canonicalise);
+        tell_nanoseconds(plain_canonicalise);
+        tell_nanoseconds(check_canonical);
+        tell_nanoseconds(plain_check_canonical);
+        tell_nanoseconds(check_valid);
+        tell_nanoseconds(compare);
+        puts("");
+    }
+}
+
 int main(int count, char **words) {
     printf("| input | bytes | `canonicalise` | plain C | `check_canonical` | plain C | `check_valid` | `compare` |");
 #ifdef HAS_LIBCBOR
@@ -125,5 +174,6 @@ int main(int count, char **words) {
         puts("");
         free(in.at), free(canonical.at), free(out.at);
     }
+    tell_small();
     return 0;
 }
