@@ -17,7 +17,7 @@ HEAD = """# What is proved
 Written by `scripts/proved.py` from the sources: run it after a change of a contract. A contract is proved for every input
 that meets its `requires`. Below stands each public call with the first lines of its documentation and the names of its
 clauses, behind each the words of `specs/` that it cites; then those words, with the first sentence of what their definitions
-say. The clauses themselves stand with the calls, in `src/`. [READING.md](READING.md) has the definitions in the order to read
+say, in the section of the crate that defines them. The clauses themselves stand with the calls, in `src/`. [READING.md](READING.md) has the definitions in the order to read
 them, and [TESTED.md](TESTED.md) what no clause can say.
 
 A call that takes memory may answer `Memory` at any time, one that reads `Read`, one that writes `Write`: no clause can rule
@@ -33,6 +33,8 @@ ITEM = re.compile(
 )
 CLAUSE = re.compile(r"\b(requires|ensures)\b\*?\s*(\w+)?\s*\{|\bghost\b[^;{]*[;{]|\{|;")
 NAME = re.compile(r"[^\s(){}\[\],;.]+")
+# What a file brings in of the definitions of a crate.
+USED = re.compile(r"ghost use Rattle\.(\w+)\.specs\.[^;]*\{([^;]*)\};")
 
 
 def behind(text, place):
@@ -109,14 +111,14 @@ def clauses_of(text, place):
 
 
 def calls_of(crate):
-    """The public calls of a crate: owner, name, documentation, clauses, and the words that their file brings in."""
+    """The public calls of a crate: owner, name, documentation, clauses, and the words that their file brings in, by crate."""
     names, modules = public_of(crate)
     for path in sorted((CRATES / crate / "src").rglob("*.rt")):
         parts = path.relative_to(CRATES / crate / "src").with_suffix("").parts
         if any("test" in part for part in parts):
             continue
         text = path.read_text(encoding="utf-8")
-        brought = set(re.findall(r"\w+", " ".join(re.findall(r"ghost use [^;]*\{([^;]*)\};", text))))
+        brought = {word: used[0] for used in USED.findall(text) for word in re.findall(r"\w+", used[1])}
         place, owner, end, is_trait = 0, None, -1, False
         while True:
             match = ITEM.search(text, place)
@@ -152,32 +154,41 @@ def cited(text, words):
     return found
 
 
-def section(crate, words_of):
-    source = CRATES / crate / "src"
-    root = source / "lib.rt" if (source / "lib.rt").exists() else source / "main.rt"
-    about = re.match(r"//! (.*)", root.read_text(encoding="utf-8"))
-    every = {word: (other, *told) for other, told_of in words_of.items() for word, told in told_of.items()}
-    every.update({word: (crate, *told) for word, told in words_of[crate].items()})
-    rows, reached = [], {}
+def rows_of(crate, words_of):
+    """A row for each public call of a crate, and the words that their clauses cite, with the crates that define them."""
+    rows, reached = [], set()
     for owner, name, docs, clauses, brought in calls_of(crate):
+        words = {word for word, of in brought.items() if word in words_of.get(of, ())}
         said = []
         for kind, label, text in clauses:
-            names = [word for word in cited(text, every) if word in brought]
-            reached.update((word, None) for word in names if every[word][0] == crate)
+            names = cited(text, words)
+            reached.update((brought[word], word) for word in names)
             label = f"`{label}`" if label else "" if kind == "requires" else "its one clause"
             label = f"requires {label}".strip() if kind == "requires" else label
             said.append(label + (f" ({', '.join(names)})" if names else ""))
         shown = f"{owner}::{name}" if owner else name
         rows.append(f"| `{shown}` | {docs} | {'; '.join(said)} |")
-    if not rows:
-        return ""
-    lines = [f"## `{crate}`", "", about[1] if about else "", "", "| Call | What it answers | Clauses |", "|---|---|---|", *rows, ""]
-    told = [(word, *words_of[crate][word]) for word in words_of[crate] if word in reached and words_of[crate][word][1]]
+    return rows, reached
+
+
+def about(crate):
+    """What a crate is: the first paragraph of its root."""
+    source = CRATES / crate / "src"
+    root = source / "lib.rt" if (source / "lib.rt").exists() else source / "main.rt"
+    lines = re.match(r"(?://![^\n]*\n)*", root.read_text(encoding="utf-8"))[0]
+    return paragraph(lines)
+
+
+def section(crate, words, rows, reached):
+    lines = [f"## `{crate}`", "", about(crate), ""]
+    if rows:
+        lines += ["| Call | What it answers | Clauses |", "|---|---|---|", *rows, ""]
+    told = [(word, *words[word]) for word in words if (crate, word) in reached and words[word][1]]
     if told:
         lines += ["| Word | In `specs/` | What it says |", "|---|---|---|"]
         lines += [f"| `{word}` | {file} | {first_sentence(comment)} |".replace("\\", "\\\\") for word, file, comment in told]
         lines.append("")
-    return "\n".join(lines)
+    return "\n".join(lines) if rows or told else ""
 
 
 def crates():
@@ -188,7 +199,10 @@ def crates():
 
 def main():
     words_of = {crate: definitions_of(crate) for crate in crates()}
-    text = HEAD + "\n" + "\n".join(filter(None, (section(crate, words_of) for crate in crates())))
+    rows = {crate: rows_of(crate, words_of) for crate in crates()}
+    reached = set().union(*(words for _, words in rows.values()))
+    sections = (section(crate, words_of[crate], rows[crate][0], reached) for crate in crates())
+    text = HEAD + "\n" + "\n".join(filter(None, sections))
     path = ROOT / "docs" / "PROVED.md"
     if "--check" not in sys.argv:
         path.write_text(text, encoding="utf-8")
