@@ -9,7 +9,7 @@ returns-in-Ok-clause-refused c =
 pub returns-in-Ok-clause-not_accepted : goal.returns-in-Ok-clause-not_accepted
 returns-in-Ok-clause-not_accepted c =
     λ h w. h
-    (c.items_and_their_refusals.ensures.either _ _ c.args.input.now _ w
+    (c.items_and_their_refusals.ensures.either _ c.args.input.now _ w
     (is-followed c.args.limits c.args.input.now c.in-Ok.size c.at.result c.in-Ok.ensures.accepted c.if-size-input.true c.at.ensures))
 
 pub returns-in-Ok-2-clause-accepted : goal.returns-in-Ok-2-clause-accepted
@@ -22,4 +22,4 @@ returns-in-Err-clause-refused c = unread c.in-Err.ensures.refused c.in-Err.ensur
 
 pub returns-in-Err-clause-not_accepted : goal.returns-in-Err-clause-not_accepted
 returns-in-Err-clause-not_accepted c =
-    λ h w. h (c.items_and_their_refusals.ensures.either _ _ c.args.input.now _ w (unread c.in-Err.ensures.refused c.in-Err.ensures.no_read))
+    λ h w. h (c.items_and_their_refusals.ensures.either _ c.args.input.now _ w (unread c.in-Err.ensures.refused c.in-Err.ensures.no_read))
