@@ -24,7 +24,7 @@ ROWS = [
     ("cborc help ", COMMANDS),
     ("cborc help c", {"check", "canon", "compare"}),
     ("cborc show -", SHARED | {"--indent", "--seq"}),
-    ("cborc events -", SHARED),
+    ("cborc events -", SHARED | {"--seq"}),
     ("cborc check -", SHARED | {"--strict", "--seq", "--order"}),
     ("cborc canon -", SHARED | {"--hex-out", "--seq", "--order"}),
     ("cborc canon --o", {"--order"}),

@@ -138,6 +138,9 @@ def sequences():
     expect("a sequence shown", run(["show", "--seq", "-"], b"\x00\x81\x01"), 0, b"0\n[1]\n")
     refused = b"item 3 refused 1 Truncated at 1\n"
     expect("a sequence shown in part", run(["show", "--seq", "-"], b"\x00\x81\x01\x18"), 1, b"0\n[1]\n", refused)
+    listed = b"0 unsigned 0 0\n\n1 array 1 0\n2 unsigned 1 0\n"
+    expect("a sequence listed", run(["events", "--seq", "-"], b"\x00\x81\x01"), 0, listed)
+    expect("a sequence listed in part", run(["events", "--seq", "-"], b"\x00\x81\x01\x18"), 1, listed + b"\n", refused)
     item = write("sequence", b"\x00\x81\x01\x18")
     expect("a sequence refused", run(["canon", "--seq", "sequence", "sequence"]), 1, b"", refused)
     with open(item, "rb") as file:

@@ -24,7 +24,8 @@ _cborc() {
         show) COMPREPLY=($(compgen -W "--indent --seq $shared" -- "$word")) ;;
         check) COMPREPLY=($(compgen -W "--strict --seq --order $shared" -- "$word")) ;;
         canon) COMPREPLY=($(compgen -W "--hex-out --seq --order $shared" -- "$word")) ;;
-        events | compare) COMPREPLY=($(compgen -W "$shared" -- "$word")) ;;
+        events) COMPREPLY=($(compgen -W "--seq $shared" -- "$word")) ;;
+        compare) COMPREPLY=($(compgen -W "$shared" -- "$word")) ;;
     esac
 }
 complete -o filenames -F _cborc cborc

@@ -9,7 +9,7 @@ complete -c cborc -n "$asked" -f
 complete -c cborc -n "$first" -l version -s V -d 'Print the version'
 for when in "$first" "$helped"
     complete -c cborc -n "$when" -a show -d 'Write the diagnostic text of an item, or of each of a sequence'
-    complete -c cborc -n "$when" -a events -d 'Write a line for each event of an item'
+    complete -c cborc -n "$when" -a events -d 'Write a line for each event of an item, or of each of a sequence'
     complete -c cborc -n "$when" -a check -d 'Check that a file is one valid item, or a sequence'
     complete -c cborc -n "$when" -a canon -d 'Write the canonical bytes of an item, or of each of a sequence'
     complete -c cborc -n "$when" -a compare -d 'Say whether two items have the same value'
@@ -24,5 +24,5 @@ complete -c cborc -n "$working $commands" -l explain -d 'Say what a refusal mean
 complete -c cborc -n "$working show" -l indent -d 'Write one member or pair a line'
 complete -c cborc -n "$working check canon" -l order -x -a 'bytewise length' -d 'The order of map keys'
 complete -c cborc -n "$working check" -l strict -d 'Accept canonical bytes alone'
-complete -c cborc -n "$working show check canon" -l seq -d 'Read a sequence of items'
+complete -c cborc -n "$working show events check canon" -l seq -d 'Read a sequence of items'
 complete -c cborc -n "$working canon" -l hex-out -d 'Write hex digits and a line feed'

@@ -8,26 +8,26 @@ use Rattle.cbor_automaton.specs.declared.event.EventKind.{EventKind}
 use Rattle.cbor_automaton.specs.declared.event.EventKind.TheVariants.{Piece}
 use Rattle.cbor_diag.specs.Listing.{line, lines}
 
-pub lines-more : (es : List Event) (e : Event) → lines (es ++ e ∷ []) ≡ lines es ++ line e
-lines-more es e = flat_map-append line es (e ∷ []) ∙ ap (λ l. lines es ++ l) (append-nil (line e))
+pub lines-more : (start : ℕ) (es : List Event) (e : Event) → lines start (es ++ e ∷ []) ≡ lines start es ++ line start e
+lines-more start es e = flat_map-append (line start) es (e ∷ []) ∙ ap (λ l. lines start es ++ l) (append-nil (line start e))
 
 -- a piece before another event
-before-lines : (at n : ℕ) (w : Width) (place : ℕ) (width : Width) (k : EventKind) (es : List Event)
-    → lines (joined_with (event at w (Piece n)) n k (event place width k) es) ≡ line (event place width k) ++ lines es
-before-lines at n w place width (Piece m) es = refl
-before-lines at n w place width _ es = refl
+before-lines : (start : ℕ) (at n : ℕ) (w : Width) (place : ℕ) (width : Width) (k : EventKind) (es : List Event)
+    → lines start (joined_with (event at w (Piece n)) n k (event place width k) es) ≡ line start (event place width k) ++ lines start es
+before-lines start at n w place width (Piece m) es = refl
+before-lines start at n w place width _ es = refl
 
-piece-lines : (at n : ℕ) (w : Width) (es : List Event) → lines (piece_onto (event at w (Piece n)) n es) ≡ lines es
-piece-lines at n w [] = refl
-piece-lines at n w (f ∷ es) = before-lines at n w f.place f.width f.kind es
+piece-lines : (start : ℕ) (at n : ℕ) (w : Width) (es : List Event) → lines start (piece_onto (event at w (Piece n)) n es) ≡ lines start es
+piece-lines start at n w [] = refl
+piece-lines start at n w (f ∷ es) = before-lines start at n w f.place f.width f.kind es
 
-kind-lines : (at : ℕ) (w : Width) (k : EventKind) (es : List Event) → lines (kind_onto k (event at w k) es) ≡ line (event at w k) ++ lines es
-kind-lines at w (Piece n) es = piece-lines at n w es
-kind-lines at w _ es = refl
+kind-lines : (start : ℕ) (at : ℕ) (w : Width) (k : EventKind) (es : List Event) → lines start (kind_onto k (event at w k) es) ≡ line start (event at w k) ++ lines start es
+kind-lines start at w (Piece n) es = piece-lines start at n w es
+kind-lines start at w _ es = refl
 
-pub lines-joined : (es : List Event) → lines (joined es) ≡ lines es
-lines-joined [] = refl
-lines-joined (e ∷ es) = kind-lines e.place e.width e.kind (joined es) ∙ ap (λ l. line e ++ l) (lines-joined es)
+pub lines-joined : (start : ℕ) (es : List Event) → lines start (joined es) ≡ lines start es
+lines-joined start [] = refl
+lines-joined start (e ∷ es) = kind-lines start e.place e.width e.kind (joined es) ∙ ap (λ l. line start e ++ l) (lines-joined start es)
 
 -- ---- an event that is no piece stands by itself
 
@@ -35,12 +35,12 @@ abbrev pub HasLine : EventKind → Type 0
 HasLine (Piece n) = ⊥
 HasLine _ = Unit {0}
 
-kind-has-line : (at : ℕ) (w : Width) (k : EventKind) (n : ℕ) → n < length (line (event at w k)) → HasLine k
-kind-has-line at w (Piece m) n h = absurd (omega arith)
-kind-has-line at w _ n h = tt
+kind-has-line : (start : ℕ) (at : ℕ) (w : Width) (k : EventKind) (n : ℕ) → n < length (line start (event at w k)) → HasLine k
+kind-has-line start at w (Piece m) n h = absurd (omega arith)
+kind-has-line start at w _ n h = tt
 
-pub has-line : (e : Event) (n : ℕ) → n < length (line e) → HasLine e.kind
-has-line e n h = kind-has-line e.place e.width e.kind n h
+pub has-line : (start : ℕ) (e : Event) (n : ℕ) → n < length (line start e) → HasLine e.kind
+has-line start e n h = kind-has-line start e.place e.width e.kind n h
 
 alone : (k : EventKind) (e : Event) → HasLine k → kind_onto k e [] ≡ e ∷ []
 alone (Piece n) e h = absurd h

@@ -35,23 +35,23 @@ abbrev pub call_of : MachineView → MachineView → Option (List ℕ) → Optio
 call_of m new now to kept piece t ms = record { old = m; new = new; held = now; left = to; old_piece = kept; new_piece = piece; taken = t; told = ms }
 
 -- The lines of all events so far were written, and no byte behind these events was taken.
-pub record HasListed (m : MachineView) (from now old new : Option (List ℕ)) (written : ℕ) : Type 0 where
+pub record HasListed (start : ℕ) (m : MachineView) (from now old new : Option (List ℕ)) (written : ℕ) : Type 0 where
   pub t : List ℕ
   pub marks : List Mark
   pub told : List Event
   pub between : StandsBetween m t marks
   pub are_told : AreTold told marks
   pub taken : Consumes from now t
-  pub listed : Appends old new (lines told)
-  pub count : written ≡ min (length (lines told)) (2 ^ 64 - 1)
+  pub listed : Appends old new (lines start told)
+  pub count : written ≡ min (length (lines start told)) (2 ^ 64 - 1)
 
-pub none-listed : (m : MachineView) (from old : Option (List ℕ)) → StandsBetween m [] [] → HasListed m from from old old 0
-none-listed m from old s = record { t = []; marks = []; told = []; between = s; are_told = told-none; taken = Consumes-nil from; listed = Appends-nil old; count = refl }
+pub none-listed : (start : ℕ) (m : MachineView) (from old : Option (List ℕ)) → StandsBetween m [] [] → HasListed start m from from old old 0
+none-listed start m from old s = record { t = []; marks = []; told = []; between = s; are_told = told-none; taken = Consumes-nil from; listed = Appends-nil old; count = refl }
 
-pub one-more : (m new : MachineView) (from now to old mid out : Option (List ℕ)) (written more : ℕ) (kept piece : List ℕ) (e : Event) (h : HasListed m from now old mid written)
-    → IsNextEvent e (call_of m new now to kept piece h.t h.marks) → Appends mid out (line e) → more ≡ min (written + length (line e)) (2 ^ 64 - 1) → HasListed new from to old out more
-one-more m new from now to old mid out written more kept piece e h next wrote sum =
-    let size : length (lines (h.told ++ e ∷ [])) ≡ length (lines h.told) + length (line e) = ap length (lines-more h.told e) ∙ length-append (lines h.told) (line e) in
+pub one-more : (start : ℕ) (m new : MachineView) (from now to old mid out : Option (List ℕ)) (written more : ℕ) (kept piece : List ℕ) (e : Event) (h : HasListed start m from now old mid written)
+    → IsNextEvent e (call_of m new now to kept piece h.t h.marks) → Appends mid out (line start e) → more ≡ min (written + length (line start e)) (2 ^ 64 - 1) → HasListed start new from to old out more
+one-more start m new from now to old mid out written more kept piece e h next wrote sum =
+    let size : length (lines start (h.told ++ e ∷ [])) ≡ length (lines start h.told) + length (line start e) = ap length (lines-more start h.told e) ∙ length-append (lines start h.told) (line start e) in
     let count = h.count in
     record {
       t = h.t ++ next.bytes;
@@ -60,7 +60,7 @@ one-more m new from now to old mid out written more kept piece e h next wrote su
       between = next.stands;
       are_told = next-more (call_of m new now to kept piece h.t h.marks) h.told e h.are_told h.between next;
       taken = Consumes-trans from now to h.t next.bytes h.taken next.consumed;
-      listed = subst (Appends old out) (sym (lines-more h.told e)) (Appends-trans old mid out (lines h.told) (line e) h.listed wrote);
+      listed = subst (Appends old out) (sym (lines-more start h.told e)) (Appends-trans old mid out (lines start h.told) (line start e) h.listed wrote);
       count = omega (arith, size, count, sum);
     }
 
@@ -91,6 +91,13 @@ takes-more m new now to kept piece t ms e s next =
     let limit = next.stands.stands.limited in
     (omega (arith, some, sum, was, whole, is, all), limit)
 
+-- the place of the next event is within the limit
+pub place-within : (m new : MachineView) (now to : Option (List ℕ)) (kept piece t : List ℕ) (ms : List Mark) (e : Event) → StandsBetween m t ms
+    → IsNextEvent e (call_of m new now to kept piece t ms) → e.place ≤ new.bytes
+place-within m new now to kept piece t ms e s next =
+    let more = takes-more m new now to kept piece t ms e s next in
+    omega (arith, more, next.place, s.stands.taken)
+
 -- ---- what the reader lost
 
 pub loses : (bs : List ℕ) (k : ℕ) (from to : Option (List ℕ)) → k ≡ length bs → Consumes from to bs → Loses k from to
@@ -117,114 +124,114 @@ accepted-item limits t more s i a v =
     sym (append_assoc (spell a) sound.0 (drop limits.bytes (t ++ more))) ∙ ap (λ l. l ++ drop limits.bytes (t ++ more)) sound.1.2 ∙ take-append-drop limits.bytes (t ++ more) ∙ ap (λ l. l ++ more) (sym i.bytes_are) in
     (unique a s sound.1.0 i.spelled _ _ all).0
 
-pub all-listed : (m new : MachineView) (from now to old out : Option (List ℕ)) (written count : ℕ) (kept piece : List ℕ) (h : HasListed m from now old out written)
-    → IsEnd (call_of m new now to kept piece h.t h.marks) → count ≡ new.taken → IfSome from (λ input. IsListed (bounds m.depth m.bytes) input count old out)
-all-listed m new from now to old out written count kept piece h end e =
+pub all-listed : (start : ℕ) (m new : MachineView) (from now to old out : Option (List ℕ)) (written count : ℕ) (kept piece : List ℕ) (h : HasListed start m from now old out written)
+    → IsEnd (call_of m new now to kept piece h.t h.marks) → count ≡ new.taken → IfSome from (λ input. IsListed start (bounds m.depth m.bytes) input count old out)
+all-listed start m new from now to old out written count kept piece h end e =
     let whole = next-all (call_of m new now to kept piece h.t h.marks) h.told h.are_told h.between end in
     let s = whole.0 in
-    known from now h.t (λ input. IsListed (bounds m.depth m.bytes) input count old out) h.taken
+    known from now h.t (λ input. IsListed start (bounds m.depth m.bytes) input count old out) h.taken
     (λ rest k. let v = complete-verdict m h.t h.marks h.between.stands end.complete rest in record {
       item = s;
       verdict = subst (λ (a : Spelling). IsVerdict (bounds m.depth m.bytes) form (h.t ++ rest) (accepted a)) (accepted-item (bounds m.depth m.bytes) h.t rest s whole.1 v.0 v.1) v.1;
       size = e ∙ end.stands.stands.taken ∙ sym (ap length whole.1.bytes_are);
-      written = subst (Appends old out) (sym (lines-joined h.told) ∙ ap lines whole.2) h.listed;
+      written = subst (Appends old out) (sym (lines-joined start h.told) ∙ ap (lines start) whole.2) h.listed;
     })
 
-pub all-lost : (m new : MachineView) (from now to old out : Option (List ℕ)) (written count : ℕ) (kept piece : List ℕ) (h : HasListed m from now old out written)
+pub all-lost : (start : ℕ) (m new : MachineView) (from now to old out : Option (List ℕ)) (written count : ℕ) (kept piece : List ℕ) (h : HasListed start m from now old out written)
     → IsEnd (call_of m new now to kept piece h.t h.marks) → count ≡ new.taken → Loses count from to
-all-lost m new from now to old out written count kept piece h end e =
+all-lost start m new from now to old out written count kept piece h end e =
     loses (h.t ++ []) count from to (e ∙ end.stands.stands.taken ∙ ap length (sym (append-nil h.t))) (Consumes-trans from now to h.t [] h.taken end.consumed)
 
 -- ---- the item is refused
 
-listing-of : (m : MachineView) (t : List ℕ) (ms : List Mark) (es : List Event) → StandsFor m t ms → AreTold es ms → IsListing m.depth t (lines es)
-listing-of m t ms es stands told = record {
+listing-of : (start : ℕ) (m : MachineView) (t : List ℕ) (ms : List Mark) (es : List Event) → StandsFor m t ms → AreTold es ms → IsListing start m.depth t (lines start es)
+listing-of start m t ms es stands told = record {
   beginning = stands.beginning;
-  of_events = λ s rest i. sym (lines-joined es) ∙ ap lines (told-joined m t ms es stands told s rest i);
+  of_events = λ s rest i. sym (lines-joined start es) ∙ ap (lines start) (told-joined m t ms es stands told s rest i);
 }
 
 -- the first k bytes of an input are those taken
 front-is : (k : ℕ) (t rest : List ℕ) → k ≡ length t → take k (t ++ rest) ≡ t
 front-is k t rest e = ap (λ (j : ℕ). take j (t ++ rest)) e ∙ take-append_seam t rest
 
-front-listed : (d k : ℕ) (t rest out : List ℕ) → k ≡ length t → IsListing d t out → IsListing d (take k (t ++ rest)) out
-front-listed d k t rest out e h = subst (λ (xs : List ℕ). IsListing d xs out) (sym (front-is k t rest e)) h
+front-listed : (start : ℕ) (d k : ℕ) (t rest out : List ℕ) → k ≡ length t → IsListing start d t out → IsListing start d (take k (t ++ rest)) out
+front-listed start d k t rest out e h = subst (λ (xs : List ℕ). IsListing start d xs out) (sym (front-is k t rest e)) h
 
-cut-unlisted : (m new : MachineView) (from now to old out : Option (List ℕ)) (written : ℕ) (kept piece : List ℕ) (h : HasListed m from now old out written) (f : Refusal) → IsCut f (call_of m new now to kept piece h.t h.marks)
-    → IfSome from (λ input. IsUnlisted (bounds new.depth new.bytes) input f old out)
-cut-unlisted m new from now to old out written kept piece h f i =
+cut-unlisted : (start : ℕ) (m new : MachineView) (from now to old out : Option (List ℕ)) (written : ℕ) (kept piece : List ℕ) (h : HasListed start m from now old out written) (f : Refusal) → IsCut f (call_of m new now to kept piece h.t h.marks)
+    → IfSome from (λ input. IsUnlisted start (bounds new.depth new.bytes) input f old out)
+cut-unlisted start m new from now to old out written kept piece h f i =
     let all = h.t ++ i.bytes in
     let size : f.read ≡ length all = ap (λ (r : Refusal). r.read) i.is in
     let place : f.place ≡ length all = ap (λ (r : Refusal). r.place) i.is in
-    let listing : IsListing new.depth all (lines h.told) = listing-of new all h.marks h.told i.stands h.are_told in
-    known from to all (λ input. IsUnlisted (bounds new.depth new.bytes) input f old out) (Consumes-trans from now to h.t i.bytes h.taken i.consumed)
+    let listing : IsListing start new.depth all (lines start h.told) = listing-of start new all h.marks h.told i.stands h.are_told in
+    known from to all (λ input. IsUnlisted start (bounds new.depth new.bytes) input f old out) (Consumes-trans from now to h.t i.bytes h.taken i.consumed)
     (λ rest k. elim i.reason [
       | inl failed ↦
-          of_reader (lines h.told)
+          of_reader (lines start h.told)
           (i.is ∙ ap (λ r. refusal r (length all) (length all)) failed ∙ ap (λ n. refusal Read n n) (sym size))
           (subst (λ (n : ℕ). IsVerdict (bounds new.depth new.bytes) form (take n (all ++ rest)) (refused (refusal Truncated n n))) (sym size)
           (subst (λ (xs : List ℕ). IsVerdict (bounds new.depth new.bytes) form xs (refused (refusal Truncated (length all) (length all)))) (sym (front-is (length all) all rest refl)) i.verdict))
-          (front-listed new.depth f.read all rest (lines h.told) size listing)
+          (front-listed start new.depth f.read all rest (lines start h.told) size listing)
           h.listed
       | inr ended ↦
           let empty : rest ≡ [] = subst IsAtEnd k ended.1 in
           let whole : all ++ rest ≡ all = ap (λ (xs : List ℕ). all ++ xs) empty ∙ append-nil all in
           let is : f ≡ refusal Truncated (length all) (length all) = i.is ∙ ap (λ r. refusal r (length all) (length all)) ended.0 in
-          of_verdict (lines h.told)
+          of_verdict (lines start h.told)
           (subst (λ (xs : List ℕ). IsVerdict (bounds new.depth new.bytes) form xs (refused f)) (sym whole) (subst (λ (r : Refusal). IsVerdict (bounds new.depth new.bytes) form all (refused r)) (sym is) i.verdict))
-          (front-listed new.depth f.place all rest (lines h.told) place listing)
+          (front-listed start new.depth f.place all rest (lines start h.told) place listing)
           h.listed
     ])
 
-long-unlisted : (m new : MachineView) (from now to old out : Option (List ℕ)) (written : ℕ) (kept piece : List ℕ) (h : HasListed m from now old out written) (f : Refusal) → IsTooLong f (call_of m new now to kept piece h.t h.marks)
-    → IfSome from (λ input. IsUnlisted (bounds new.depth new.bytes) input f old out)
-long-unlisted m new from now to old out written kept piece h f i =
+long-unlisted : (start : ℕ) (m new : MachineView) (from now to old out : Option (List ℕ)) (written : ℕ) (kept piece : List ℕ) (h : HasListed start m from now old out written) (f : Refusal) → IsTooLong f (call_of m new now to kept piece h.t h.marks)
+    → IfSome from (λ input. IsUnlisted start (bounds new.depth new.bytes) input f old out)
+long-unlisted start m new from now to old out written kept piece h f i =
     let all = h.t ++ i.bytes in
     let place : f.place ≡ length all = ap (λ (r : Refusal). r.place) i.is ∙ sym i.full in
-    known from to all (λ input. IsUnlisted (bounds new.depth new.bytes) input f old out) (Consumes-trans from now to h.t i.bytes h.taken i.consumed)
-    (λ rest k. of_verdict (lines h.told) (i.verdict rest)
-    (front-listed new.depth f.place all rest (lines h.told) place (listing-of (before new (length all)) all h.marks h.told i.stands h.are_told)) h.listed)
+    known from to all (λ input. IsUnlisted start (bounds new.depth new.bytes) input f old out) (Consumes-trans from now to h.t i.bytes h.taken i.consumed)
+    (λ rest k. of_verdict (lines start h.told) (i.verdict rest)
+    (front-listed start new.depth f.place all rest (lines start h.told) place (listing-of start (before new (length all)) all h.marks h.told i.stands h.are_told)) h.listed)
 
 -- what was taken, with the byte that is refused
-broken-taken : (m new : MachineView) (from now to old out : Option (List ℕ)) (written : ℕ) (kept piece : List ℕ) (h : HasListed m from now old out written) (f : Refusal) (i : HasFormError f (call_of m new now to kept piece h.t h.marks))
+broken-taken : (start : ℕ) (m new : MachineView) (from now to old out : Option (List ℕ)) (written : ℕ) (kept piece : List ℕ) (h : HasListed start m from now old out written) (f : Refusal) (i : HasFormError f (call_of m new now to kept piece h.t h.marks))
     → Consumes from to ((h.t ++ i.bytes) ++ i.byte ∷ [])
-broken-taken m new from now to old out written kept piece h f i =
+broken-taken start m new from now to old out written kept piece h f i =
     subst (Consumes from to) (sym (append_assoc h.t i.bytes (i.byte ∷ []))) (Consumes-trans from now to h.t (i.bytes ++ i.byte ∷ []) h.taken i.consumed)
 
-broken-unlisted : (m new : MachineView) (from now to old out : Option (List ℕ)) (written : ℕ) (kept piece : List ℕ) (h : HasListed m from now old out written) (f : Refusal) → HasFormError f (call_of m new now to kept piece h.t h.marks)
-    → IfSome from (λ input. IsUnlisted (bounds new.depth new.bytes) input f old out)
-broken-unlisted m new from now to old out written kept piece h f i =
+broken-unlisted : (start : ℕ) (m new : MachineView) (from now to old out : Option (List ℕ)) (written : ℕ) (kept piece : List ℕ) (h : HasListed start m from now old out written) (f : Refusal) → HasFormError f (call_of m new now to kept piece h.t h.marks)
+    → IfSome from (λ input. IsUnlisted start (bounds new.depth new.bytes) input f old out)
+broken-unlisted start m new from now to old out written kept piece h f i =
     let all = h.t ++ i.bytes in
     let place : f.place ≡ length all = ap (λ (r : Refusal). r.place) i.is in
-    known from to (all ++ i.byte ∷ []) (λ input. IsUnlisted (bounds new.depth new.bytes) input f old out) (broken-taken m new from now to old out written kept piece h f i)
-    (λ rest k. of_verdict (lines h.told) (i.verdict rest)
-    (subst (λ (xs : List ℕ). IsListing new.depth (take f.place xs) (lines h.told)) (sym (append_assoc all (i.byte ∷ []) rest))
-    (front-listed new.depth f.place all (i.byte ∷ rest) (lines h.told) place (listing-of (before new (length all)) all h.marks h.told i.stands h.are_told))) h.listed)
+    known from to (all ++ i.byte ∷ []) (λ input. IsUnlisted start (bounds new.depth new.bytes) input f old out) (broken-taken start m new from now to old out written kept piece h f i)
+    (λ rest k. of_verdict (lines start h.told) (i.verdict rest)
+    (subst (λ (xs : List ℕ). IsListing start new.depth (take f.place xs) (lines start h.told)) (sym (append_assoc all (i.byte ∷ []) rest))
+    (front-listed start new.depth f.place all (i.byte ∷ rest) (lines start h.told) place (listing-of start (before new (length all)) all h.marks h.told i.stands h.are_told))) h.listed)
 
-pub refused-unlisted : (m new : MachineView) (from now to old out : Option (List ℕ)) (written : ℕ) (kept piece : List ℕ) (h : HasListed m from now old out written) (f : Refusal)
-    → IsCut f (call_of m new now to kept piece h.t h.marks) ⊎ IsTooLong f (call_of m new now to kept piece h.t h.marks) ⊎ HasFormError f (call_of m new now to kept piece h.t h.marks) → IfSome from (λ input. IsUnlisted (bounds new.depth new.bytes) input f old out)
-refused-unlisted m new from now to old out written kept piece h f (inl i) = cut-unlisted m new from now to old out written kept piece h f i
-refused-unlisted m new from now to old out written kept piece h f (inr (inl i)) = long-unlisted m new from now to old out written kept piece h f i
-refused-unlisted m new from now to old out written kept piece h f (inr (inr i)) = broken-unlisted m new from now to old out written kept piece h f i
+pub refused-unlisted : (start : ℕ) (m new : MachineView) (from now to old out : Option (List ℕ)) (written : ℕ) (kept piece : List ℕ) (h : HasListed start m from now old out written) (f : Refusal)
+    → IsCut f (call_of m new now to kept piece h.t h.marks) ⊎ IsTooLong f (call_of m new now to kept piece h.t h.marks) ⊎ HasFormError f (call_of m new now to kept piece h.t h.marks) → IfSome from (λ input. IsUnlisted start (bounds new.depth new.bytes) input f old out)
+refused-unlisted start m new from now to old out written kept piece h f (inl i) = cut-unlisted start m new from now to old out written kept piece h f i
+refused-unlisted start m new from now to old out written kept piece h f (inr (inl i)) = long-unlisted start m new from now to old out written kept piece h f i
+refused-unlisted start m new from now to old out written kept piece h f (inr (inr i)) = broken-unlisted start m new from now to old out written kept piece h f i
 
-pub refused-lost : (m new : MachineView) (from now to old out : Option (List ℕ)) (written : ℕ) (kept piece : List ℕ) (h : HasListed m from now old out written) (f : Refusal)
+pub refused-lost : (start : ℕ) (m new : MachineView) (from now to old out : Option (List ℕ)) (written : ℕ) (kept piece : List ℕ) (h : HasListed start m from now old out written) (f : Refusal)
     → IsCut f (call_of m new now to kept piece h.t h.marks) ⊎ IsTooLong f (call_of m new now to kept piece h.t h.marks) ⊎ HasFormError f (call_of m new now to kept piece h.t h.marks) → Loses f.read from to
-refused-lost m new from now to old out written kept piece h f (inl i) =
+refused-lost start m new from now to old out written kept piece h f (inl i) =
     loses (h.t ++ i.bytes) f.read from to (ap (λ (r : Refusal). r.read) i.is) (Consumes-trans from now to h.t i.bytes h.taken i.consumed)
-refused-lost m new from now to old out written kept piece h f (inr (inl i)) =
+refused-lost start m new from now to old out written kept piece h f (inr (inl i)) =
     loses (h.t ++ i.bytes) f.read from to (ap (λ (r : Refusal). r.read) i.is ∙ sym i.full) (Consumes-trans from now to h.t i.bytes h.taken i.consumed)
-refused-lost m new from now to old out written kept piece h f (inr (inr i)) =
-    loses ((h.t ++ i.bytes) ++ i.byte ∷ []) f.read from to (ap (λ (r : Refusal). r.read) i.is ∙ sym (length-append (h.t ++ i.bytes) (i.byte ∷ []))) (broken-taken m new from now to old out written kept piece h f i)
+refused-lost start m new from now to old out written kept piece h f (inr (inr i)) =
+    loses ((h.t ++ i.bytes) ++ i.byte ∷ []) f.read from to (ap (λ (r : Refusal). r.read) i.is ∙ sym (length-append (h.t ++ i.bytes) (i.byte ∷ []))) (broken-taken start m new from now to old out written kept piece h f i)
 
 -- ---- the writer stopped
 
 -- the lines so far, and the front of the next
-abbrev stopped_lines : List Event → Event → ℕ → List ℕ
-stopped_lines es e n = lines es ++ take n (line e)
+abbrev stopped_lines : ℕ → List Event → Event → ℕ → List ℕ
+stopped_lines start es e n = lines start es ++ take n (line start e)
 
-stops-within : (m new : MachineView) (now to : Option (List ℕ)) (kept piece t : List ℕ) (ms : List Mark) (es : List Event) (e : Event) (count : ℕ) → StandsBetween m t ms → AreTold es ms
-    → (next : IsNextEvent e (call_of m new now to kept piece t ms)) → count < length (line e) → IsStopped new.depth (t ++ next.bytes) (stopped_lines es e count)
-stops-within m new now to kept piece t ms es e count s told next short =
+stops-within : (start : ℕ) (m new : MachineView) (now to : Option (List ℕ)) (kept piece t : List ℕ) (ms : List Mark) (es : List Event) (e : Event) (count : ℕ) → StandsBetween m t ms → AreTold es ms
+    → (next : IsNextEvent e (call_of m new now to kept piece t ms)) → count < length (line start e) → IsStopped start new.depth (t ++ next.bytes) (stopped_lines start es e count)
+stops-within start m new now to kept piece t ms es e count s told next short =
     let sum = total-append ms (marks_of e.width e.kind) in
     let was = s.whole in
     let place = next.place in
@@ -234,33 +241,33 @@ stops-within m new now to kept piece t ms es e count s told next short =
       earlier = joined es;
       last = e;
       of_events = λ item rest i. sym (told-joined new (t ++ next.bytes) (ms ++ marks_of e.width e.kind) (es ++ e ∷ []) next.stands.stands (next-more (call_of m new now to kept piece t ms) es e told s next) item rest i)
-          ∙ joined-last es e (has-line e count short);
+          ∙ joined-last es e (has-line start e count short);
       ends = omega (arith, sum, was, place, whole);
       part = count;
       within = short;
-      is = ap (λ l. l ++ take count (line e)) (sym (lines-joined es));
+      is = ap (λ l. l ++ take count (line start e)) (sym (lines-joined start es));
     }
 
-pub stopped-unlisted : (m new : MachineView) (from now to old mid out : Option (List ℕ)) (written count : ℕ) (kept piece : List ℕ) (e : Event) (h : HasListed m from now old mid written) (f : Refusal)
-    → IsNextEvent e (call_of m new now to kept piece h.t h.marks) → count < length (line e) → Appends mid out (take count (line e)) → f ≡ refusal Write (min (written + count) (2 ^ 64 - 1)) new.taken
-    → IfSome from (λ input. IsUnlisted (bounds new.depth new.bytes) input f old out)
-stopped-unlisted m new from now to old mid out written count kept piece e h f next short wrote is =
+pub stopped-unlisted : (start : ℕ) (m new : MachineView) (from now to old mid out : Option (List ℕ)) (written count : ℕ) (kept piece : List ℕ) (e : Event) (h : HasListed start m from now old mid written) (f : Refusal)
+    → IsNextEvent e (call_of m new now to kept piece h.t h.marks) → count < length (line start e) → Appends mid out (take count (line start e)) → f ≡ refusal Write (min (written + count) (2 ^ 64 - 1)) new.taken
+    → IfSome from (λ input. IsUnlisted start (bounds new.depth new.bytes) input f old out)
+stopped-unlisted start m new from now to old mid out written count kept piece e h f next short wrote is =
     let all = h.t ++ next.bytes in
     let read : f.read ≡ length all = ap (λ (r : Refusal). r.read) is ∙ next.stands.stands.taken in
-    let fits : count ≤ length (line e) = omega arith in
-    let size : length (stopped_lines h.told e count) ≡ length (lines h.told) + count = length-append (lines h.told) (take count (line e)) ∙ ap (λ n. length (lines h.told) + n) (length-take-le count (line e) fits) in
+    let fits : count ≤ length (line start e) = omega arith in
+    let size : length (stopped_lines start h.told e count) ≡ length (lines start h.told) + count = length-append (lines start h.told) (take count (line start e)) ∙ ap (λ n. length (lines start h.told) + n) (length-take-le count (line start e) fits) in
     let was = h.count in
-    let place : min (written + count) (2 ^ 64 - 1) ≡ min (length (stopped_lines h.told e count)) (2 ^ 64 - 1) = omega (arith, size, was) in
-    known from to all (λ input. IsUnlisted (bounds new.depth new.bytes) input f old out) (Consumes-trans from now to h.t next.bytes h.taken next.consumed)
-    (λ rest k. of_writer (stopped_lines h.told e count)
-    (is ∙ ap (λ n. refusal Write n new.taken) place ∙ ap (λ n. refusal Write (min (length (stopped_lines h.told e count)) (2 ^ 64 - 1)) n) (sym (ap (λ (r : Refusal). r.read) is)))
-    (subst (λ (xs : List ℕ). IsStopped new.depth xs (stopped_lines h.told e count)) (sym (front-is f.read all rest read))
-    (stops-within m new now to kept piece h.t h.marks h.told e count h.between h.are_told next short))
-    (Appends-trans old mid out (lines h.told) (take count (line e)) h.listed wrote))
+    let place : min (written + count) (2 ^ 64 - 1) ≡ min (length (stopped_lines start h.told e count)) (2 ^ 64 - 1) = omega (arith, size, was) in
+    known from to all (λ input. IsUnlisted start (bounds new.depth new.bytes) input f old out) (Consumes-trans from now to h.t next.bytes h.taken next.consumed)
+    (λ rest k. of_writer (stopped_lines start h.told e count)
+    (is ∙ ap (λ n. refusal Write n new.taken) place ∙ ap (λ n. refusal Write (min (length (stopped_lines start h.told e count)) (2 ^ 64 - 1)) n) (sym (ap (λ (r : Refusal). r.read) is)))
+    (subst (λ (xs : List ℕ). IsStopped start new.depth xs (stopped_lines start h.told e count)) (sym (front-is f.read all rest read))
+    (stops-within start m new now to kept piece h.t h.marks h.told e count h.between h.are_told next short))
+    (Appends-trans old mid out (lines start h.told) (take count (line start e)) h.listed wrote))
 
-pub stopped-lost : (m new : MachineView) (from now to old mid : Option (List ℕ)) (written : ℕ) (kept piece : List ℕ) (e : Event) (h : HasListed m from now old mid written) (n : ℕ)
+pub stopped-lost : (start : ℕ) (m new : MachineView) (from now to old mid : Option (List ℕ)) (written : ℕ) (kept piece : List ℕ) (e : Event) (h : HasListed start m from now old mid written) (n : ℕ)
     → IsNextEvent e (call_of m new now to kept piece h.t h.marks) → n ≡ new.taken → Loses n from to
-stopped-lost m new from now to old mid written kept piece e h n next is =
+stopped-lost start m new from now to old mid written kept piece e h n next is =
     loses (h.t ++ next.bytes) n from to (is ∙ next.stands.stands.taken) (Consumes-trans from now to h.t next.bytes h.taken next.consumed)
 
 -- ---- what a call of `next` answers, and the limits
@@ -273,12 +280,12 @@ pub no-event : (m new : MachineView) (now to : Option (List ℕ)) (kept piece t 
     → IsEnd (call_of m new now to kept piece t ms)
 no-event m new now to kept piece t ms v is h = subst (λ (x : Option Event). IsNext (Ok x) (call_of m new now to kept piece t ms)) is h
 
-pub listed-within : (d n : ℕ) (m : MachineView) (from old out : Option (List ℕ)) (count : ℕ) → m.depth ≡ d → m.bytes ≡ n
-    → IfSome from (λ input. IsListed (bounds m.depth m.bytes) input count old out) → IfSome from (λ input. IsListed (bounds d n) input count old out)
-listed-within d n m from old out count depth bytes h =
-    subst (λ (k : ℕ). IfSome from (λ input. IsListed (bounds k n) input count old out)) depth (subst (λ (k : ℕ). IfSome from (λ input. IsListed (bounds m.depth k) input count old out)) bytes h)
+pub listed-within : (start : ℕ) (d n : ℕ) (m : MachineView) (from old out : Option (List ℕ)) (count : ℕ) → m.depth ≡ d → m.bytes ≡ n
+    → IfSome from (λ input. IsListed start (bounds m.depth m.bytes) input count old out) → IfSome from (λ input. IsListed start (bounds d n) input count old out)
+listed-within start d n m from old out count depth bytes h =
+    subst (λ (k : ℕ). IfSome from (λ input. IsListed start (bounds k n) input count old out)) depth (subst (λ (k : ℕ). IfSome from (λ input. IsListed start (bounds m.depth k) input count old out)) bytes h)
 
-pub unlisted-within : (d n : ℕ) (m : MachineView) (from old out : Option (List ℕ)) (f : Refusal) → m.depth ≡ d → m.bytes ≡ n
-    → IfSome from (λ input. IsUnlisted (bounds m.depth m.bytes) input f old out) → IfSome from (λ input. IsUnlisted (bounds d n) input f old out)
-unlisted-within d n m from old out f depth bytes h =
-    subst (λ (k : ℕ). IfSome from (λ input. IsUnlisted (bounds k n) input f old out)) depth (subst (λ (k : ℕ). IfSome from (λ input. IsUnlisted (bounds m.depth k) input f old out)) bytes h)
+pub unlisted-within : (start : ℕ) (d n : ℕ) (m : MachineView) (from old out : Option (List ℕ)) (f : Refusal) → m.depth ≡ d → m.bytes ≡ n
+    → IfSome from (λ input. IsUnlisted start (bounds m.depth m.bytes) input f old out) → IfSome from (λ input. IsUnlisted start (bounds d n) input f old out)
+unlisted-within start d n m from old out f depth bytes h =
+    subst (λ (k : ℕ). IfSome from (λ input. IsUnlisted start (bounds k n) input f old out)) depth (subst (λ (k : ℕ). IfSome from (λ input. IsUnlisted start (bounds m.depth k) input f old out)) bytes h)

@@ -47,31 +47,32 @@ width_text Four = codes "4"
 width_text Eight = codes "8"
 width_text Indefinite = codes "-"
 
--- offset, name, argument and width, one space between, and a line feed
-abbrev pub row : Event → Option (List ℕ × Option ℕ) → List ℕ
-row e None = []
-row e (Some c) =
-    decimal e.place ++ codes " " ++ c.0 ++ codes " " ++ argument_text c.1 ++ codes " "
+-- Offset, name, argument and width, one space between, and a line feed. Offsets are counted from where
+-- the input starts, and the item starts at this one.
+abbrev pub row : ℕ → Event → Option (List ℕ × Option ℕ) → List ℕ
+row start e None = []
+row start e (Some c) =
+    decimal (start + e.place) ++ codes " " ++ c.0 ++ codes " " ++ argument_text c.1 ++ codes " "
     ++ width_text e.width ++ codes "\n"
 
 -- the line of an event
-abbrev pub line : Event → List ℕ
-line e = row e (columns e.kind)
+abbrev pub line : ℕ → Event → List ℕ
+line start e = row start e (columns e.kind)
 
 -- the lines of events
-abbrev pub lines : List Event → List ℕ
-lines es = flat_map line es
+abbrev pub lines : ℕ → List Event → List ℕ
+lines start es = flat_map (line start) es
 
--- the listing of the bytes t: of each item that starts with them, the lines of the events that
--- end within them
-pub record IsListing (d : ℕ) (t out : List ℕ) : Type 0 where
+-- the listing of the bytes t, which stand at start: of each item that starts with them, the lines of
+-- the events that end within them
+pub record IsListing (start d : ℕ) (t out : List ℕ) : Type 0 where
   pub beginning : IsBeginning d t
   pub of_events : (s : Spelling) (rest : List ℕ) → IsItem d s (t ++ rest)
-      → out ≡ lines (cut (length t) (events 0 s))
+      → out ≡ lines start (cut (length t) (events 0 s))
 
 -- The same up to within the last line. The event of this line ends where t does: no byte behind it
 -- was taken.
-pub record IsStopped (d : ℕ) (t out : List ℕ) : Type 0 where
+pub record IsStopped (start d : ℕ) (t out : List ℕ) : Type 0 where
   pub beginning : IsBeginning d t
   pub earlier : List Event
   pub last : Event
@@ -79,28 +80,28 @@ pub record IsStopped (d : ℕ) (t out : List ℕ) : Type 0 where
       → cut (length t) (events 0 s) ≡ earlier ++ last ∷ []
   pub ends : last.place + event_size last ≡ length t
   pub part : ℕ
-  pub within : part < length (line last)
-  pub is : out ≡ lines earlier ++ take part (line last)
+  pub within : part < length (line start last)
+  pub is : out ≡ lines start earlier ++ take part (line start last)
 
--- the item at the front of the input b is accepted, and its listing was written
-pub record IsListed (limits : Bounds) (b : List ℕ) (count : ℕ) (old new : Option (List ℕ)) : Type 0 where
+-- the item at the front of the bytes b, which stand at start, is accepted, and its listing was written
+pub record IsListed (start : ℕ) (limits : Bounds) (b : List ℕ) (count : ℕ) (old new : Option (List ℕ)) : Type 0 where
   pub item : Spelling
   pub verdict : IsVerdict limits form b (accepted item)
   pub size : count ≡ length (spell item)
-  pub written : Appends old new (lines (events 0 item))
+  pub written : Appends old new (lines start (events 0 item))
 
--- the input b is refused, and something was written
-pub data IsUnlisted (limits : Bounds) (b : List ℕ) (f : Refusal) (old new : Option (List ℕ)) : Type 0 where
+-- the bytes b are refused, and something was written
+pub data IsUnlisted (start : ℕ) (limits : Bounds) (b : List ℕ) (f : Refusal) (old new : Option (List ℕ)) : Type 0 where
   -- the verdict of form: the listing of the bytes in front of its place
   of_verdict : (out : List ℕ) → IsVerdict limits form b (refused f)
-      → IsListing limits.depth (take f.place b) out → Appends old new out → IsUnlisted limits b f old new
+      → IsListing start limits.depth (take f.place b) out → Appends old new out → IsUnlisted start limits b f old new
   -- the reader failed: the listing of the bytes taken; as a whole input, these are Truncated
   of_reader : (out : List ℕ) → f ≡ refusal Read f.read f.read
       → IsVerdict limits form (take f.read b) (refused (refusal Truncated f.read f.read))
-      → IsListing limits.depth (take f.read b) out → Appends old new out → IsUnlisted limits b f old new
+      → IsListing start limits.depth (take f.read b) out → Appends old new out → IsUnlisted start limits b f old new
   -- the writer failed or took nothing: the listing of the bytes taken, up to the place
   of_writer : (out : List ℕ) → f ≡ refusal Write (capped (length out)) f.read
-      → IsStopped limits.depth (take f.read b) out → Appends old new out → IsUnlisted limits b f old new
+      → IsStopped start limits.depth (take f.read b) out → Appends old new out → IsUnlisted start limits b f old new
 
 -- the reasons of a reader of events, and that the writer failed
 abbrev pub IsListingReason : Reason → Type 0

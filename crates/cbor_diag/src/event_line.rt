@@ -1,6 +1,6 @@
 //! The line of an event.
 
-ghost use Rattle.std.specs.Prelude.{◌≡◌, ◌≤◌, ◌+◌, ◌++◌, length, None, Some, decimal};
+ghost use Rattle.std.specs.Prelude.{◌≡◌, ◌≤◌, ◌<◌, ◌+◌, ◌^◌, ◌++◌, length, None, Some, decimal};
 ghost use Rattle.std.specs.Prelude.{MatchOption, IfSome};
 ghost use Rattle.arrayvec.specs.ArrayVec.{array_vec_len};
 ghost use Rattle.cbor_diag.specs.Listing.{columns, argument_text, width_text, line};
@@ -17,13 +17,14 @@ const LONGEST: usize = 64;
 // A line that is put together to be written at once.
 pub(crate) type Line = ArrayVec<u8, LONGEST>;
 
-// The line of an event; nothing of a piece.
-pub(crate) fn line_of(event: &Event) -> Line
-    ensures { result.items ≡ line event.now }
+// The line of an event of the item that starts at this offset; nothing of a piece.
+pub(crate) fn line_of(start: u64, event: &Event) -> Line
+    requires { start + event.now.place < 2 ^ 64 }
+    ensures { result.items ≡ line start event.now }
 {
     let mut line = Line::new();
     if let Some((name, argument)) = columns_of(&event.kind) {
-        push_number(&mut line, event.place);
+        push_number(&mut line, start + event.place);
         push(&mut line, b" ");
         push(&mut line, name);
         push(&mut line, b" ");

@@ -1,6 +1,6 @@
 //! The listing of an item's events.
 
-ghost use Rattle.std.specs.Prelude.{IfOk, IfErr, IfSome};
+ghost use Rattle.std.specs.Prelude.{◌+◌, ◌<◌, ◌^◌, IfOk, IfErr, IfSome};
 ghost use Rattle.cbor_diag.specs.Listing.{IsListed, IsUnlisted, IsListingReason, Loses};
 
 use crate::event_line::line_of;
@@ -32,12 +32,36 @@ pub fn listing<R: Read, W: Write>(
     writer: &mut W,
 ) -> Result<u64, Refusal>
     ensures listed { IfOk result (λ count. IfSome (R.remaining reader.old)
-        (λ input. IsListed limits input count
+        (λ input. IsListed 0 limits input count
         (W.contents writer.old) (W.contents writer.new))) }
     ensures taken { IfOk result
         (λ count. Loses count (R.remaining reader.old) (R.remaining reader.new)) }
     ensures refused { IfErr result (λ f. IfSome (R.remaining reader.old)
-        (λ input. IsUnlisted limits input f
+        (λ input. IsUnlisted 0 limits input f
+        (W.contents writer.old) (W.contents writer.new))) }
+    ensures reasons { IfErr result (λ f. IsListingReason f.reason) }
+    ensures read { IfErr result
+        (λ f. Loses f.read (R.remaining reader.old) (R.remaining reader.new)) }
+{
+    listing_from(reader, 0, limits, writer)
+}
+
+/// The same of an item that starts at this offset of an input of many: the offsets in its lines are
+/// counted from the start of that input, and the places of a refusal from the start of the item.
+pub fn listing_from<R: Read, W: Write>(
+    reader: &mut R,
+    start: u64,
+    limits: Limits,
+    writer: &mut W,
+) -> Result<u64, Refusal>
+    requires { start + limits.bytes < 2 ^ 64 }
+    ensures listed { IfOk result (λ count. IfSome (R.remaining reader.old)
+        (λ input. IsListed start limits input count
+        (W.contents writer.old) (W.contents writer.new))) }
+    ensures taken { IfOk result
+        (λ count. Loses count (R.remaining reader.old) (R.remaining reader.new)) }
+    ensures refused { IfErr result (λ f. IfSome (R.remaining reader.old)
+        (λ input. IsUnlisted start limits input f
         (W.contents writer.old) (W.contents writer.new))) }
     ensures reasons { IfErr result (λ f. IsListingReason f.reason) }
     ensures read { IfErr result
@@ -48,7 +72,7 @@ pub fn listing<R: Read, W: Write>(
     'lines: loop {
         match events.next(reader) {
             Ok(Some(event)) => {
-                let line = line_of(&event);
+                let line = line_of(start, &event);
                 let text = line.as_slice();
                 match write_whole(writer, text) {
                     Ok(()) => written = written.saturating_add(text.len() as u64),

@@ -13,7 +13,8 @@
 //! }
 //! ```
 //!
-//! [`listing`] reads an item and writes a line for each of its events, as they come.
+//! [`listing`] reads an item and writes a line for each of its events, as they come;
+//! [`listing_from`] does so for an item of a sequence.
 #![tactic(auto)]
 
 mod event_line;
@@ -25,5 +26,5 @@ mod pieces;
 mod text;
 mod walk;
 
-pub use event_listing::listing;
+pub use event_listing::{listing, listing_from};
 pub use text::{diagnostic, diagnostic_indented};

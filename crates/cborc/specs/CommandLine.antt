@@ -17,7 +17,7 @@ use Rattle.cborc_commands.specs.declared.request.Manner.TheVariants.{Plain, Expl
 use Rattle.cborc_commands.specs.declared.request.Options.{Options}
 use Rattle.cborc_commands.specs.declared.request.Output.{Output}
 use Rattle.cborc_commands.specs.declared.request.Request.{Request}
-use Rattle.cborc_commands.specs.declared.request.Request.TheVariants.{Check, CheckSequence, Canon, CanonSequence, Compare, Show, ShowSequence, Events}
+use Rattle.cborc_commands.specs.declared.request.Request.TheVariants.{Check, CheckSequence, Canon, CanonSequence, Compare, Show, ShowSequence, Events, EventsSequence}
 use Rattle.cborc_commands.specs.declared.request.Task.{Task}
 
 -- the order of keys that a word names
@@ -105,7 +105,9 @@ AsksFor (name, rows) (Show source layout options) =
 AsksFor (name, rows) (ShowSequence source layout options) =
     (name ≡ codes "show") × IsSequence rows × (first_of (codes "FILE") rows ≡ Some source.now) × IsLayoutOf rows layout × IsOptionsOf rows options
 AsksFor (name, rows) (Events source options) =
-    (name ≡ codes "events") × (first_of (codes "FILE") rows ≡ Some source.now) × IsOptionsOf rows options
+    (name ≡ codes "events") × IsOneItem rows × (first_of (codes "FILE") rows ≡ Some source.now) × IsOptionsOf rows options
+AsksFor (name, rows) (EventsSequence source options) =
+    (name ≡ codes "events") × IsSequence rows × (first_of (codes "FILE") rows ≡ Some source.now) × IsOptionsOf rows options
 
 -- the text is a number, at most so much
 abbrev pub IsNumber : ℕ → Text → Type 0

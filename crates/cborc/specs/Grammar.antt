@@ -58,7 +58,7 @@ abbrev pub show : Shape
 show = subcommand (codes "show") (file (codes "FILE") ∷ flag (codes "indent") ∷ sequence ∷ [])
 
 abbrev pub events : Shape
-events = subcommand (codes "events") (file (codes "FILE") ∷ [])
+events = subcommand (codes "events") (file (codes "FILE") ∷ sequence ∷ [])
 
 abbrev pub check : Bor (List (Bor Text)) → Shape
 check names = subcommand (codes "check")

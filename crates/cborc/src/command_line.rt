@@ -220,10 +220,13 @@ fn events_of<'a>(given: &ArgMatches<'a>) -> Option<Request<'a>>
     ensures value { IfSome result (AsksFor (codes "events", rows_of (found_of given.now))) }
     ensures some { IsComplete (codes "events", rows_of (found_of given.now)) → IsSome result }
 {
-    Some(Request::Events {
-        source: given.get_str("FILE")?,
-        options: options_of(given)?,
-    })
+    let source = given.get_str("FILE")?;
+    let options = options_of(given)?;
+    if given.get_flag("seq") {
+        Some(Request::EventsSequence { source, options })
+    } else {
+        Some(Request::Events { source, options })
+    }
 }
 
 #[tactic(auto, using(crate::proofs::Rows::getters))]

@@ -95,12 +95,9 @@ fn events<'a>(alloc: Global) -> Result<Command<'a>, AllocError>
     ensures { IfOk result (HasShape grammar.events) }
 {
     let command = Command::new(alloc, "events")
-        .about("Writes a line for each event of the item in FILE")
-        .arg(file(
-            alloc,
-            "FILE",
-            "The file to read: one item, or - for standard input",
-        ))?;
+        .about("Writes a line for each event of the item in FILE, or of each of a sequence")
+        .arg(file(alloc, "FILE", "The file to read, or - for standard input"))?
+        .arg(sequence(alloc))?;
     with_options(alloc, command)
 }
 

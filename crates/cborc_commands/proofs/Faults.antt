@@ -145,12 +145,12 @@ module _ (options : Options) (source : List ℕ) (held : Option Files) (bytes : 
 
   -- ---- `events`
 
-  pub listed_of : (before after : Option (List ℕ)) → IsListed options.limits bytes (length bytes) before after → IsListedOf options source held before after
+  pub listed_of : (before after : Option (List ℕ)) → IsListed 0 options.limits bytes (length bytes) before after → IsListedOf options source held before after
   listed_of before after h = record {
     input = s.input;
     is = s.is;
     listed = listed_whole options.limits s.input before after
-        (subst (λ (b : List ℕ). IsListed options.limits b (length b) before after) s.front h);
+        (subst (λ (b : List ℕ). IsListed 0 options.limits b (length b) before after) s.front h);
   }
 
   listed_so : (before after : Option (List ℕ)) (fault : Fault) → IsNotListed options.limits bytes before after fault

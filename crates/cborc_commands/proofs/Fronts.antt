@@ -137,7 +137,7 @@ module _ (limits : Bounds) (whole : List ℕ) where
   front_within : length (take (limits.bytes + 1) whole) ≤ limits.bytes + 1
   front_within = omega (arith, length-take (limits.bytes + 1) whole)
 
-  pub listed_whole : (old new : Option (List ℕ)) → IsListed limits (take (limits.bytes + 1) whole) (length (take (limits.bytes + 1) whole)) old new → IsListed limits whole (length whole) old new
+  pub listed_whole : (old new : Option (List ℕ)) → IsListed 0 limits (take (limits.bytes + 1) whole) (length (take (limits.bytes + 1) whole)) old new → IsListed 0 limits whole (length whole) old new
   listed_whole old new h =
       let same = all (omega (arith, h.size, short form h.item h.verdict)) in
       record {
@@ -162,18 +162,18 @@ module _ (limits : Bounds) (whole : List ℕ) where
       by (inl (c, first, e)) = absurd (no-complaint 0 v.item c first.holds)
       by (inr h) = form_place v.p v.longest.rest f (longest_within v.p v.longest) h.2
 
-  unlisted_whole : (f : Refusal) (old new : Option (List ℕ)) → IsUnlisted limits (take (limits.bytes + 1) whole) f old new → f.read ≤ length (take (limits.bytes + 1) whole)
-      → IsUnlisted limits whole f old new
+  unlisted_whole : (f : Refusal) (old new : Option (List ℕ)) → IsUnlisted 0 limits (take (limits.bytes + 1) whole) f old new → f.read ≤ length (take (limits.bytes + 1) whole)
+      → IsUnlisted 0 limits whole f old new
   unlisted_whole f old new (listing.of_verdict out v l w) h =
       listing.of_verdict out (verdict_whole form (refused f) v)
-      (subst (λ (t : List ℕ). IsListing limits.depth t out) (same_front f.place (omega (arith, place_within f v))) l) w
+      (subst (λ (t : List ℕ). IsListing 0 limits.depth t out) (same_front f.place (omega (arith, place_within f v))) l) w
   unlisted_whole f old new (listing.of_reader out e v l w) h =
       let same = same_front f.read (omega (arith, h, front_within)) in
       listing.of_reader out e
       (subst (λ (t : List ℕ). IsVerdict limits form t (refused (refusal Truncated f.read f.read))) same v)
-      (subst (λ (t : List ℕ). IsListing limits.depth t out) same l) w
+      (subst (λ (t : List ℕ). IsListing 0 limits.depth t out) same l) w
   unlisted_whole f old new (listing.of_writer out e l w) h =
-      listing.of_writer out e (subst (λ (t : List ℕ). IsStopped limits.depth t out) (same_front f.read (omega (arith, h, front_within))) l) w
+      listing.of_writer out e (subst (λ (t : List ℕ). IsStopped 0 limits.depth t out) (same_front f.read (omega (arith, h, front_within))) l) w
 
   followed_whole : (f : Refusal) (old new : Option (List ℕ)) → IsFollowed limits (take (limits.bytes + 1) whole) old new f → IsFollowed limits whole old new f
   followed_whole f old new h = record {

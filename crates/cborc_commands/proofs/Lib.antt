@@ -3,6 +3,7 @@ mod Files
 mod Fronts
 mod InMemory
 mod Items
+mod Listings
 mod Runs
 mod Sent
 mod Stopped

@@ -12,7 +12,7 @@ use Rattle.cborc_commands.specs.declared.request.Manner.{Manner}
 use Rattle.cborc_commands.specs.declared.request.Options.{Options}
 use Rattle.cborc_commands.specs.declared.request.Output.{Output}
 use Rattle.cborc_commands.specs.declared.request.Request.{Request}
-use Rattle.cborc_commands.specs.declared.request.Request.TheVariants.{Check, CheckSequence, Canon, CanonSequence, Compare, Show, ShowSequence, Events}
+use Rattle.cborc_commands.specs.declared.request.Request.TheVariants.{Check, CheckSequence, Canon, CanonSequence, Compare, Show, ShowSequence, Events, EventsSequence}
 use Rattle.cborc_commands.specs.declared.fault.Fault.{Fault}
 use Rattle.cborc_commands.specs.declared.fault.Fault.TheVariants as faults
 use Rattle.cborc_commands.specs.declared.status.Status.{Status}
@@ -46,6 +46,7 @@ module _ (old new : Option Files) (before after : Option (List ℕ)) (keeps : Ke
   quietly (Show source layout options) one all h = (h, keeps)
   quietly (ShowSequence source layout options) one all h = (h, keeps)
   quietly (Events source options) one all h = (h, keeps)
+  quietly (EventsSequence source options) one all h = (h, keeps)
   quietly (Compare left right options) one all h = (h, keeps)
 
   -- what standard output took is not known there

@@ -9,13 +9,14 @@ use Rattle.cborc_commands.specs.Answer.{IsDone, IsNotDone}
 use Rattle.cborc_commands.specs.Canon.{IsPut, printed, written}
 use Rattle.cborc_commands.specs.Compare.{IsTold}
 use Rattle.cborc_commands.specs.Events.{IsNotListed, IsNotListedOf}
+use Rattle.cborc_commands.specs.EventsSequence.{IsSequenceNotListed}
 use Rattle.cborc_commands.specs.Folder.{Files}
 use Rattle.cborc_commands.specs.ShowSequence.{IsSequenceNotShown}
 use Rattle.cborc_commands.specs.Told.{IsSilent}
 use Rattle.cborc_commands.specs.declared.request.Layout.{Layout}
 use Rattle.cborc_commands.specs.declared.request.Options.{Options}
 use Rattle.cborc_commands.specs.declared.request.Request.{Request}
-use Rattle.cborc_commands.specs.declared.request.Request.TheVariants.{Check, CheckSequence, Canon, CanonSequence, Compare, Show, ShowSequence, Events}
+use Rattle.cborc_commands.specs.declared.request.Request.TheVariants.{Check, CheckSequence, Canon, CanonSequence, Compare, Show, ShowSequence, Events, EventsSequence}
 use Rattle.cborc_commands.specs.declared.fault.Fault.{Fault}
 use Rattle.cborc_commands.specs.declared.fault.Fault.TheVariants as faults
 use Rattle.cborc_commands.specs.declared.status.Status.{Status}
@@ -37,7 +38,7 @@ module _ (before mid after : Option (List ℕ)) (keeps : Keeps mid after) where
   told_sent limits left right statuses.Refused (a, m, t) = (a, m, appends_kept before mid after _ t keeps)
   told_sent limits left right _ h = absurd h
 
-  listed_sent : (limits : Bounds) (input : List ℕ) (count : ℕ) → IsListed limits input count before mid → IsListed limits input count before after
+  listed_sent : (limits : Bounds) (input : List ℕ) (count : ℕ) → IsListed 0 limits input count before mid → IsListed 0 limits input count before after
   listed_sent limits input count h = record {
     item = h.item;
     verdict = h.verdict;
@@ -45,7 +46,7 @@ module _ (before mid after : Option (List ℕ)) (keeps : Keeps mid after) where
     written = appends_kept before mid after _ h.written keeps;
   }
 
-  unlisted_sent : (limits : Bounds) (input : List ℕ) (f : Refusal) → IsUnlisted limits input f before mid → IsUnlisted limits input f before after
+  unlisted_sent : (limits : Bounds) (input : List ℕ) (f : Refusal) → IsUnlisted 0 limits input f before mid → IsUnlisted 0 limits input f before after
   unlisted_sent limits input f (of_verdict out v l a) = of_verdict out v l (appends_kept before mid after out a keeps)
   unlisted_sent limits input f (of_reader out e v l a) = of_reader out e v l (appends_kept before mid after out a keeps)
   unlisted_sent limits input f (of_writer out e s a) = of_writer out e s (appends_kept before mid after out a keeps)
@@ -84,6 +85,36 @@ module _ (before mid after : Option (List ℕ)) (keeps : Keeps mid after) where
   shown_sent layout options source held faults.Memory h = h
   shown_sent layout options source held _ h = absurd h
 
+  lines_sent : (options : Options) (source : List ℕ) (held : Option Files) (fault : Fault) → IsSequenceNotListed options source held before mid fault
+      → IsSequenceNotListed options source held before after fault
+  lines_sent options source held (faults.RefusedItem index start f) h = record {
+    input = h.input;
+    is = h.is;
+    items = h.items;
+    rest = h.rest;
+    goes_on = h.goes_on;
+    shown = h.shown;
+    refused = h.refused;
+    of_input = h.of_input;
+    listed = appends_kept before mid after _ h.listed keeps;
+  }
+  lines_sent options source held faults.CannotPrint h = record {
+    input = h.input;
+    is = h.is;
+    items = h.items;
+    rest = h.rest;
+    index = h.index;
+    start = h.start;
+    goes_on = h.goes_on;
+    shown = h.shown;
+    cut = h.cut;
+    listed = appends_kept before mid after _ h.listed keeps;
+  }
+  lines_sent options source held (faults.CannotRead named) h = h
+  lines_sent options source held (faults.NotHex named) h = h
+  lines_sent options source held faults.Memory h = h
+  lines_sent options source held _ h = absurd h
+
   pub done_sent : (request : Request) (old new : Option Files) (s : Status) → IsDone request old new before mid s → IsDone request old new before after s
   done_sent (Check source accepted options) old new statuses.Accepted (h, k) =
       (record { input = h.input; is = h.is; size = h.size; whole = h.whole; told = appends_kept before mid after _ h.told keeps }, k)
@@ -99,6 +130,8 @@ module _ (before mid after : Option (List ℕ)) (keeps : Keeps mid after) where
       (record { input = h.input; is = h.is; items = h.items; all = h.all; shown = appends_kept before mid after _ h.shown keeps }, k)
   done_sent (Events source options) old new statuses.Accepted (h, k) =
       (record { input = h.input; is = h.is; listed = listed_sent _ h.input _ h.listed }, k)
+  done_sent (EventsSequence source options) old new statuses.Accepted (h, k) =
+      (record { input = h.input; is = h.is; items = h.items; all = h.all; listed = appends_kept before mid after _ h.listed keeps }, k)
   done_sent (Compare left right options) old new s (h, k) =
       (record { first = h.first; second = h.second; are = h.are; told = told_sent _ h.first h.second s h.told }, k)
   done_sent _ old new _ h = absurd h
@@ -111,10 +144,12 @@ module _ (before mid after : Option (List ℕ)) (keeps : Keeps mid after) where
   not_done_sent (Show source layout options) held fault h = h
   not_done_sent (ShowSequence source layout options) held fault h = shown_sent layout options source.now held fault h
   not_done_sent (Events source options) held fault h = events_sent options source.now held fault h
+  not_done_sent (EventsSequence source options) held fault h = lines_sent options source.now held fault h
   not_done_sent (Compare left right options) held fault h = h
 
   pub silent_sent : (request : Request) (fault : Fault) → IsSilent request fault before mid → IsSilent request fault before after
   silent_sent (Events source options) fault h = tt
+  silent_sent (EventsSequence source options) fault h = tt
   silent_sent (ShowSequence source layout options) fault h = tt
   silent_sent _ faults.CannotPrint h = tt
   silent_sent _ _ h = Keeps-trans before mid after h keeps

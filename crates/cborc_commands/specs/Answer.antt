@@ -6,11 +6,12 @@ use Rattle.cborc_commands.specs.Check.{rules_of, IsChecked, IsNotChecked}
 use Rattle.cborc_commands.specs.CheckSequence.{IsSequenceChecked, IsSequenceNotChecked}
 use Rattle.cborc_commands.specs.Compare.{AreCompared, AreNotCompared}
 use Rattle.cborc_commands.specs.Events.{IsListedOf, IsNotListedOf}
+use Rattle.cborc_commands.specs.EventsSequence.{IsSequenceListed, IsSequenceNotListed}
 use Rattle.cborc_commands.specs.Folder.{Files, KeepsFiles}
 use Rattle.cborc_commands.specs.Show.{IsShownOf, IsNotShown}
 use Rattle.cborc_commands.specs.ShowSequence.{IsSequenceShown, IsSequenceNotShown}
 use Rattle.cborc_commands.specs.declared.request.Request.{Request}
-use Rattle.cborc_commands.specs.declared.request.Request.TheVariants.{Check, CheckSequence, Canon, CanonSequence, Compare, Show, ShowSequence, Events}
+use Rattle.cborc_commands.specs.declared.request.Request.TheVariants.{Check, CheckSequence, Canon, CanonSequence, Compare, Show, ShowSequence, Events, EventsSequence}
 use Rattle.cborc_commands.specs.declared.fault.Fault.{Fault}
 use Rattle.cborc_commands.specs.declared.status.Status.{Status}
 use Rattle.cborc_commands.specs.declared.status.Status.TheVariants.{Accepted}
@@ -27,6 +28,8 @@ IsDone (Show source layout options) old new before after Accepted = IsShownOf la
 IsDone (ShowSequence source layout options) old new before after Accepted =
     IsSequenceShown layout options source.now old before after × KeepsFiles old new
 IsDone (Events source options) old new before after Accepted = IsListedOf options source.now old before after × KeepsFiles old new
+IsDone (EventsSequence source options) old new before after Accepted =
+    IsSequenceListed options source.now old before after × KeepsFiles old new
 IsDone (Compare left right options) old new before after status = AreCompared options left.now right.now old before after status × KeepsFiles old new
 IsDone _ old new before after _ = ⊥
 
@@ -39,4 +42,5 @@ IsNotDone (CanonSequence source output order options) held before after fault = 
 IsNotDone (Show source layout options) held before after fault = IsNotShown options source.now held fault
 IsNotDone (ShowSequence source layout options) held before after fault = IsSequenceNotShown layout options source.now held before after fault
 IsNotDone (Events source options) held before after fault = IsNotListedOf options source.now held before after fault
+IsNotDone (EventsSequence source options) held before after fault = IsSequenceNotListed options source.now held before after fault
 IsNotDone (Compare left right options) held before after fault = AreNotCompared options left.now right.now held fault

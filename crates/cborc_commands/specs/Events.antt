@@ -12,19 +12,28 @@ use Rattle.cborc_commands.specs.declared.request.Options.{Options}
 use Rattle.cborc_commands.specs.declared.fault.Fault.{Fault}
 use Rattle.cborc_commands.specs.declared.fault.Fault.TheVariants as faults
 
+-- The form of the item at the front of these bytes, which start there in the input, is refused; or standard output took not all of
+-- its lines; of the bytes, what was taken. A read that failed would be told as want of memory.
+abbrev pub IsFrontNotListed : ℕ → Bounds → List ℕ → Option (List ℕ) → Option (List ℕ) → Fault → Type 0
+IsFrontNotListed start limits bytes old new (faults.Refused f) =
+    IsOfInput f.reason × (f.reason ≢ Write) × IsUnlisted start limits bytes f old new × (f.read ≤ length bytes)
+IsFrontNotListed start limits bytes old new faults.CannotPrint =
+    (f : Refusal) × IsUnlisted start limits bytes f old new × (f.read ≤ length bytes) × (f.reason ≡ Write)
+IsFrontNotListed start limits bytes old new faults.Memory = Unit {0}
+IsFrontNotListed start limits bytes old new _ = ⊥
+
 -- a byte follows the item at the front, which was listed
 pub record IsFollowed (limits : Bounds) (input : List ℕ) (old new : Option (List ℕ)) (f : Refusal) : Type 0 where
   pub size : ℕ
-  pub listed : IsListed limits input size old new
+  pub listed : IsListed 0 limits input size old new
   pub followed : size < length input
   pub is : f ≡ refusal Trailing size size
 
--- The form is refused, or a byte follows the item; or standard output took not all of the lines; of the input, what was taken. A
--- read that failed would be told as want of memory.
+-- the same of a whole input, or a byte follows the item
 abbrev pub IsNotListed : Bounds → List ℕ → Option (List ℕ) → Option (List ℕ) → Fault → Type 0
 IsNotListed limits input old new (faults.Refused f) =
-    IsOfInput f.reason × (f.reason ≢ Write) × ((IsUnlisted limits input f old new × (f.read ≤ length input)) ⊎ IsFollowed limits input old new f)
-IsNotListed limits input old new faults.CannotPrint = (f : Refusal) × IsUnlisted limits input f old new × (f.read ≤ length input) × (f.reason ≡ Write)
+    IsOfInput f.reason × (f.reason ≢ Write) × ((IsUnlisted 0 limits input f old new × (f.read ≤ length input)) ⊎ IsFollowed limits input old new f)
+IsNotListed limits input old new faults.CannotPrint = (f : Refusal) × IsUnlisted 0 limits input f old new × (f.read ≤ length input) × (f.reason ≡ Write)
 IsNotListed limits input old new faults.Memory = Unit {0}
 IsNotListed limits input old new _ = ⊥
 
@@ -32,7 +41,7 @@ IsNotListed limits input old new _ = ⊥
 pub record IsListedOf (options : Options) (source : List ℕ) (held : Option Files) (before after : Option (List ℕ)) : Type 0 where
   pub input : List ℕ
   pub is : IsInput held source options.hex input
-  pub listed : IsListed options.limits input (length input) before after
+  pub listed : IsListed 0 options.limits input (length input) before after
 
 -- why it ends without the whole listing: the input is refused, there is none, or standard output failed
 abbrev pub IsNotListedOf : Options → List ℕ → Option Files → Option (List ℕ) → Option (List ℕ) → Fault → Type 0

@@ -5,6 +5,7 @@ pub mod Check
 pub mod CheckSequence
 pub mod Compare
 pub mod Events
+pub mod EventsSequence
 pub mod Fault
 pub mod Folder
 pub mod Hex

@@ -1,8 +1,13 @@
 -- Inputs that are sequences of items (RFC 8742), by what is asked of each item.
-use Rattle.std.specs.Prelude.{ℕ, ◌+◌, ◌≡◌, ◌<◌, ◌++◌, List, [], length}
+use Rattle.std.specs.Prelude.{ℕ, ◌+◌, ◌≡◌, ◌<◌, ◌++◌, List, [], ◌∷◌, length}
 use Rattle.std.specs.List.{AllByRecursion}
-use Rattle.cbor_head.specs.Spelling.{Spelling}
+use Rattle.cbor_head.specs.Spelling.{Spelling, spell}
 use Rattle.cbor_reader.specs.Sequence.{sequence_bytes, EndsBefore}
+
+-- what is written of these items, one behind another, where the first starts there: of each by where it starts
+abbrev pub texts_from : (ℕ → Spelling → List ℕ) → ℕ → List Spelling → List ℕ
+texts_from text start [] = []
+texts_from text start (item ∷ items) = text start item ++ texts_from text (start + length (spell item)) items
 
 -- the input starts with these items, of each of which this holds, and rest follows
 pub record StartsWithEach (P : Spelling → Type 0) (input : List ℕ) (items : List Spelling) (rest : List ℕ) : Type 0 where

@@ -7,14 +7,15 @@ use Rattle.cborc_commands.specs.Folder.{Files, KeepsFiles}
 use Rattle.cborc_commands.specs.declared.request.Manner.{Manner}
 use Rattle.cborc_commands.specs.declared.request.Manner.TheVariants.{Quiet}
 use Rattle.cborc_commands.specs.declared.request.Request.{Request}
-use Rattle.cborc_commands.specs.declared.request.Request.TheVariants.{Canon, CanonSequence, ShowSequence, Events}
+use Rattle.cborc_commands.specs.declared.request.Request.TheVariants.{Canon, CanonSequence, ShowSequence, Events, EventsSequence}
 use Rattle.cborc_commands.specs.declared.fault.Fault.{Fault}
 use Rattle.cborc_commands.specs.declared.fault.Fault.TheVariants as faults
 use Rattle.cborc_commands.specs.declared.status.Status.{Status}
 
--- the faults after which standard output has what it had: all but its own; `events` and `show --seq` write lines before a refusal
+-- the faults after which standard output has what it had: all but its own; `events`, also with `--seq`, and `show --seq` write lines before a refusal
 abbrev pub IsSilent : Request → Fault → Option (List ℕ) → Option (List ℕ) → Type 0
 IsSilent (Events source options) fault before after = Unit {0}
+IsSilent (EventsSequence source options) fault before after = Unit {0}
 IsSilent (ShowSequence source layout options) fault before after = Unit {0}
 IsSilent request faults.CannotPrint before after = Unit {0}
 IsSilent request fault before after = Keeps before after

@@ -13,6 +13,7 @@ use crate::check::check;
 use crate::check_sequence::check_sequence;
 use crate::compare::compare;
 use crate::events::events;
+use crate::events_sequence::events_sequence;
 use crate::explanation::explain;
 use crate::fault::Fault;
 use crate::folder::Folder;
@@ -200,6 +201,10 @@ fn answer<'a, F: Folder, O: Write>(
         }
         Request::Events { source, options } => {
             events(alloc, files, out, source, *options)?;
+            Ok(Status::Accepted)
+        }
+        Request::EventsSequence { source, options } => {
+            events_sequence(alloc, files, out, source, *options)?;
             Ok(Status::Accepted)
         }
         Request::Compare {

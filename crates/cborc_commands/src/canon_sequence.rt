@@ -79,15 +79,16 @@ struct CanonicalItems {
 impl ItemWriter for CanonicalItems {
     ghost takes = { λ canonical b. HasCanonicalBytes b canonical.order };
 
-    ghost text = { λ canonical. canonical_text canonical.order canonical.form };
+    ghost text = { λ canonical _. canonical_text canonical.order canonical.form };
 
-    ghost stops = { λ canonical b bytes fault before after.
+    ghost stops = { λ canonical b start bytes fault before after.
         IsUnwritten b canonical.order bytes fault };
 
     fn write_item<'f, W: Write>(
         &self,
         alloc: Global,
         bytes: &[u8],
+        _start: usize,
         limits: Limits,
         out: &mut W,
     ) -> Result<usize, Fault<'f>> {

@@ -65,15 +65,16 @@ struct CountedItems {
 impl ItemWriter for CountedItems {
     ghost takes = { λ counted b. IsAccepted b (rules_of counted.accepted) };
 
-    ghost text = { λ _ _. [] };
+    ghost text = { λ _ _ _. [] };
 
-    ghost stops = { λ counted b bytes fault before after.
+    ghost stops = { λ counted b start bytes fault before after.
         IsUncounted b (rules_of counted.accepted) bytes fault };
 
     fn write_item<'f, W: Write>(
         &self,
         alloc: Global,
         bytes: &[u8],
+        _start: usize,
         limits: Limits,
         _out: &mut W,
     ) -> Result<usize, Fault<'f>> {

@@ -1,15 +1,15 @@
 //! The subcommand `events`: the listing of an item's events.
 
-ghost use Rattle.std.specs.Prelude.{◌≡◌, length, OnOk, IfErr};
+ghost use Rattle.std.specs.Prelude.{◌≡◌, ◌≤◌, ◌<◌, ◌^◌, length, OnOk, IfOk, IfErr};
 ghost use Rattle.cbor_diag.specs.Listing.{IsListed};
-ghost use Rattle.cborc_commands.specs.Events.{IsNotListed, IsListedOf, IsNotListedOf};
+ghost use Rattle.cborc_commands.specs.Events.{IsFrontNotListed, IsNotListed, IsListedOf, IsNotListedOf};
 ghost use Rattle.cborc_commands.specs.Folder.{KeepsFiles};
 
 use crate::fault::Fault;
 use crate::folder::Folder;
 use crate::input;
 use crate::request::Options;
-use cbor_diag::listing;
+use cbor_diag::listing_from;
 use cbor_head::{Limits, Reason, Refusal};
 use std::alloc::Global;
 use std::io::Write;
@@ -38,20 +38,37 @@ pub fn events<'a, F: Folder, O: Write>(
 // Writes the lines of the item that all the bytes are; the refusal is that of its form, then
 // `Trailing`.
 fn list<'a, W: Write>(bytes: &[u8], limits: Limits, out: &mut W) -> Result<(), Fault<'a>>
-    ensures listed { OnOk result (IsListed limits bytes.now
+    ensures listed { OnOk result (IsListed 0 limits bytes.now
         (length bytes.now) (W.contents out.old) (W.contents out.new)) }
     ensures fault { IfErr result (IsNotListed limits bytes.now
         (W.contents out.old) (W.contents out.new)) }
 {
+    let size = list_front(bytes, 0, limits, out)?;
+    if size == bytes.len() as u64 {
+        Ok(())
+    } else {
+        Err(Fault::Refused(Refusal::at(Reason::Trailing, size)))
+    }
+}
+
+/// Writes the lines of the item at the front of the bytes, which start there in the input, and
+/// answers how many bytes it has. The refusal is that of its form.
+pub fn list_front<'a, W: Write>(
+    bytes: &[u8],
+    start: usize,
+    limits: Limits,
+    out: &mut W,
+) -> Result<u64, Fault<'a>>
+    requires { start < 2 ^ 63 }
+    ensures listed { IfOk result (λ size. IsListed start limits bytes.now size
+        (W.contents out.old) (W.contents out.new)) }
+    ensures within { IfOk result (λ size. size ≤ length bytes.now) }
+    ensures fault { IfErr result (IsFrontNotListed start limits bytes.now
+        (W.contents out.old) (W.contents out.new)) }
+{
     let mut reader = bytes;
-    match listing(&mut reader, limits, out) {
-        Ok(size) => {
-            if reader.is_empty() {
-                Ok(())
-            } else {
-                Err(Fault::Refused(Refusal::at(Reason::Trailing, size)))
-            }
-        }
+    match listing_from(&mut reader, start as u64, limits, out) {
+        Ok(size) => Ok(size),
         Err(refusal) => match refusal.reason {
             Reason::Write => Err(Fault::CannotPrint),
             _ => Err(Fault::from(refusal)),

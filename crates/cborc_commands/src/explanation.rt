@@ -92,6 +92,7 @@ fn source_of<'a>(request: &Request<'a>) -> &'a str
         | Request::Show { source, .. }
         | Request::ShowSequence { source, .. }
         | Request::Events { source, .. }
+        | Request::EventsSequence { source, .. }
         | Request::Canon { source, .. }
         | Request::CanonSequence { source, .. } => source,
         Request::Compare { left, .. } => left,
@@ -115,6 +116,7 @@ fn reads_whole(request: &Request<'_>) -> bool
     match request {
         Request::CheckSequence { .. }
         | Request::ShowSequence { .. }
+        | Request::EventsSequence { .. }
         | Request::CanonSequence { .. } => true,
         _ => options_of(request).hex,
     }
@@ -141,6 +143,7 @@ fn options_of(request: &Request<'_>) -> Options
         | Request::Show { options, .. }
         | Request::ShowSequence { options, .. }
         | Request::Events { options, .. }
+        | Request::EventsSequence { options, .. }
         | Request::Canon { options, .. }
         | Request::CanonSequence { options, .. }
         | Request::Compare { options, .. } => *options,

@@ -13,6 +13,7 @@ pub mod check;
 pub mod check_sequence;
 pub mod compare;
 pub mod events;
+pub mod events_sequence;
 mod explanation;
 mod fault;
 mod files_in_memory;

@@ -68,6 +68,13 @@ pub enum Request<'a> {
         /// How the file is read.
         options: Options,
     },
+    /// The events of each item of a sequence in a file.
+    EventsSequence {
+        /// The path of the file to read.
+        source: &'a str,
+        /// How the file is read.
+        options: Options,
+    },
     /// The canonical bytes of the item in one file, written to another.
     Canon {
         /// The path of the file to read.

@@ -17,23 +17,27 @@ pub trait ItemWriter {
     // Which items are taken.
     ghost takes: { Self → Bounds → Spelling → Type 0 };
 
-    // What is written of one.
-    ghost text: { Self → Spelling → List ℕ };
+    // What is written of one that starts there in the input.
+    ghost text: { Self → ℕ → Spelling → List ℕ };
 
-    // Why none is taken at the front of these bytes, and what the output was and is then.
-    ghost stops: { Self → Bounds → List ℕ → Fault → Option (List ℕ) → Option (List ℕ) → Type 0 };
+    // Why none is taken at the front of these bytes, which start there in the input, and what the
+    // output was and is then.
+    ghost stops: { Self → Bounds → ℕ → List ℕ → Fault → Option (List ℕ) → Option (List ℕ) → Type 0 };
 
-    /// Writes what is written of the item at the front of these bytes, and answers its size.
+    /// Writes what is written of the item at the front of these bytes, which start there in the
+    /// input, and answers its size.
     fn write_item<'f, W: Write>(
         &self,
         alloc: Global,
         bytes: &[u8],
+        start: usize,
         limits: Limits,
         out: &mut W,
     ) -> Result<usize, Fault<'f>>
+        requires { start < 2 ^ 63 }
         ensures written { IfOk result (λ size. IsWritten (takes self.now limits)
-            (text self.now) bytes.now size (W.contents out.old) (W.contents out.new)) }
-        ensures stopped { IfErr result (λ fault. stops self.now limits bytes.now fault
+            (text self.now start) bytes.now size (W.contents out.old) (W.contents out.new)) }
+        ensures stopped { IfErr result (λ fault. stops self.now limits start bytes.now fault
             (W.contents out.old) (W.contents out.new)) };
 }
 
@@ -57,9 +61,10 @@ pub fn write_items<'f, V: ItemWriter, W: Write>(
     let mut rest = bytes;
     let mut count = 0;
     while !ends_before(rest, limits) {
-        let size = match writer.write_item(alloc, rest, limits, out) {
+        let start = bytes.len() - rest.len();
+        let size = match writer.write_item(alloc, rest, start, limits, out) {
             Ok(size) => size,
-            Err(fault) => return Err(fault.at_item(count + 1, bytes.len() - rest.len())),
+            Err(fault) => return Err(fault.at_item(count + 1, start)),
         };
         rest = &rest[size..];
         count += 1;
@@ -75,9 +80,9 @@ fn ends_before(bytes: &[u8], limits: Limits) -> bool
     bytes.is_empty() && limits.bytes() > 0
 }
 
-// The length of a slice is a number, and so is one more.
+// The length of a slice is a number of 63 bits.
 fn has_a_length(bytes: &[u8])
-    ensures { length bytes.now + 1 < 2 ^ 64 }
+    ensures { length bytes.now < 2 ^ 63 }
 {
     let _ = bytes.len();
 }

@@ -51,15 +51,16 @@ struct ShownItems {
 impl ItemWriter for ShownItems {
     ghost takes = { λ shown b. IsAccepted b plain };
 
-    ghost text = { λ shown. item_text shown.layout };
+    ghost text = { λ shown _. item_text shown.layout };
 
-    ghost stops = { λ shown b bytes fault before after.
+    ghost stops = { λ shown b start bytes fault before after.
         IsItemNotShown b bytes fault before after };
 
     fn write_item<'f, W: Write>(
         &self,
         alloc: Global,
         bytes: &[u8],
+        _start: usize,
         limits: Limits,
         out: &mut W,
     ) -> Result<usize, Fault<'f>> {

@@ -4,7 +4,7 @@
 ghost use Rattle.std.specs.Prelude.{◌<◌};
 
 use super::listing_tables::{items, refused};
-use cbor_diag::listing;
+use cbor_diag::{listing, listing_from};
 use cbor_head::{Limits, Reason, Refusal};
 use std::alloc::{AllocError, Global};
 use std::io;
@@ -162,6 +162,29 @@ fn lists_items(rt: HostRuntime) -> Result<(), Fail> {
             assert_eq!(rt; sink.held.as_slice(), lines.as_bytes(), "{hex}");
             assert_eq!(rt; source.rest.len(), 1, "behind {hex}");
         }
+    }
+    Ok(())
+}
+
+// [1, 100] behind five bytes, and 0 behind as many as a number counts.
+#[test]
+fn counts_offsets_from_the_start_of_the_input(rt: HostRuntime) -> Result<(), Fail> {
+    for (start, most, hex, lines) in [
+        (
+            5,
+            4,
+            "82011864",
+            "5 array 2 0\n6 unsigned 1 0\n7 unsigned 100 1\n",
+        ),
+        (u64::MAX - 1, 1, "00", "18446744073709551614 unsigned 0 0\n"),
+    ] {
+        let bytes = bytes_of(&rt, rt.alloc(), hex)?;
+        let mut source = bytes.as_slice();
+        let mut shown = Vec::new(rt.alloc());
+        let size = bytes.len() as u64;
+        let answer = listing_from(&mut source, start, limits(&rt, 256, most), &mut shown);
+        assert_eq!(rt; answer, Ok(size), "{hex}");
+        assert_eq!(rt; shown.as_slice(), lines.as_bytes(), "{hex}");
     }
     Ok(())
 }

@@ -46,7 +46,7 @@ static CHECK_SEQUENCE: [&str; 5] = [
 ];
 
 // The words, and what standard error begins with.
-static FAULTS: [(&str, &str); 46] = [
+static FAULTS: [(&str, &str); 47] = [
     (
         "compare",
         "error: the following required arguments were not provided:\n  <A>\n  <B>\n",
@@ -198,6 +198,10 @@ static FAULTS: [(&str, &str); 46] = [
     ),
     (
         "canon --seq --seq in out",
+        "error: the argument '--seq' cannot be used multiple times\n",
+    ),
+    (
+        "events --seq --seq in",
         "error: the argument '--seq' cannot be used multiple times\n",
     ),
     (

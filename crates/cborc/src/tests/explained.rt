@@ -99,7 +99,7 @@ not hex: in
 ";
 
 // The words, the file as hex (with `--hex` its text), and what stands on standard error.
-static EXPLAINED: [(&str, &str, &str); 10] = [
+static EXPLAINED: [(&str, &str, &str); 11] = [
     ("check --explain in", "a161618200f90000", FLOAT),
     ("canon --explain in out", "a2616100616101", REPEATED),
     ("show --explain in", "d81882", TRUNCATED),
@@ -110,6 +110,7 @@ static EXPLAINED: [(&str, &str, &str); 10] = [
     ),
     ("check --seq --explain in", "0082010281ff", OF_SEQUENCE),
     ("canon --seq --explain in -", "0082010281ff", OF_SEQUENCE),
+    ("events --seq --explain in", "0082010281ff", OF_SEQUENCE),
     (
         "show --seq --explain --hex -",
         " 0\n0 820102 81 ff",

@@ -58,7 +58,7 @@ fn standard_error_fails(rt: HostRuntime) -> Result<(), AllocError> {
 }
 
 // The words, and how many bytes standard output takes of what they print of a file that holds 0.
-static PRINTED: [(&str, usize); 19] = [
+static PRINTED: [(&str, usize); 21] = [
     ("help", 0),
     ("help", 1),
     ("help", 20),
@@ -78,6 +78,8 @@ static PRINTED: [(&str, usize); 19] = [
     ("canon --seq in -", 0),
     ("events in", 0),
     ("events in", 14),
+    ("events --seq in", 0),
+    ("events --seq in", 14),
 ];
 
 #[test]

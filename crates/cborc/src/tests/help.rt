@@ -10,7 +10,7 @@ Usage: cborc <COMMAND>
 
 Commands:
   show     Writes the diagnostic text of the item in FILE, or of each of a sequence
-  events   Writes a line for each event of the item in FILE
+  events   Writes a line for each event of the item in FILE, or of each of a sequence
   check    Checks that FILE is one valid item, or a sequence of them
   canon    Writes the canonical bytes of the item in IN, or of each of a sequence, to OUT
   compare  Says whether the items in A and B have the same value
@@ -84,6 +84,24 @@ Options:
   -h, --help           Print help
 ";
 
+const HELP_OF_EVENTS: &str = "\
+Writes a line for each event of the item in FILE, or of each of a sequence
+
+Usage: cborc events [OPTIONS] <FILE>
+
+Arguments:
+  <FILE>  The file to read, or - for standard input
+
+Options:
+      --seq            Read a sequence of items, with the limits on each
+      --depth <count>  How deep arrays, maps and tags may nest, 0 to 256 [default: 256]
+      --bytes <count>  How many bytes an item may have, 0 to 4611686018427387904 [default: 1048576]
+      --hex            Read hex digits, two for each byte, white space ignored
+      --quiet          Answer by the status alone
+      --explain        Say behind a refusal or fault what it means, and where it is
+  -h, --help           Print help
+";
+
 const HELP_OF_COMPARE: &str = "\
 Says whether the items in A and B have the same value
 
@@ -103,7 +121,7 @@ Options:
 ";
 
 // The words, and what stands on standard output.
-static HELPS: [(&str, &str); 14] = [
+static HELPS: [(&str, &str); 15] = [
     ("--version", VERSION),
     ("-V", "cborc 2.0.0\n"),
     ("--help", HELP),
@@ -116,6 +134,7 @@ static HELPS: [(&str, &str); 14] = [
     ("check --help", HELP_OF_CHECK),
     ("help check", HELP_OF_CHECK),
     ("check --strict absent -h", HELP_OF_CHECK),
+    ("events --help", HELP_OF_EVENTS),
     ("compare --help", HELP_OF_COMPARE),
     ("help compare", HELP_OF_COMPARE),
 ];

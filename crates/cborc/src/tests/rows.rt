@@ -13,7 +13,7 @@ use std::test::Fail;
 // 4. What is written to standard output, or by `canon` to `out`: a line, or the bytes as hex digits
 //    where `canon` writes them.
 // 5. The line on standard error, if there is one.
-static ROWS: [&str; 187] = [
+static ROWS: [&str; 204] = [
     // What `events` prints: a line for each event, those before a refusal too.
     "events in | bf6346756ef563416d7421ff | 0 | 0 map - -\n1 text 3 0\n5 simple 21 0\n6 text 3 0\n10 negative 1 0\n11 end - -",
     "events in | 5f42010243030405ff | 0 | 0 bytes - -\n1 chunk 2 0\n4 chunk 3 0\n8 end - -",
@@ -94,6 +94,25 @@ static ROWS: [&str; 187] = [
     "show --seq --quiet in | 00ff | 1 | ",
     "show --seq absent | 00 | 3 |  | cannot read absent",
     "show --seq --hex in | 0 | 3 |  | not hex: in",
+    // The events of each item of a sequence: offsets from the file's start, an empty line in front of
+    // each item but the first, and the lines before a refusal stay.
+    "events --seq in |  | 0 | ",
+    "events in --seq | 61ff | 0 | 0 text 1 0",
+    "events --seq in | 00821864f6 | 0 | 0 unsigned 0 0\n\n1 array 2 0\n2 unsigned 100 1\n4 simple 22 0", // 0, [100, null]
+    "events --seq in | c18201f820821864205f42010243030405ff | 0 | 0 tag 1 0\n1 array 2 0\n2 unsigned 1 0\n3 simple 32 1\n\n5 array 2 0\n6 unsigned 100 1\n8 negative 0 0\n\n9 bytes - -\n10 chunk 2 0\n13 chunk 3 0\n17 end - -", // 1([1, simple(32)]), [100, -1], (_ h'0102', h'030405')
+    "events --seq --bytes 1 in | 000001 | 0 | 0 unsigned 0 0\n\n1 unsigned 0 0\n\n2 unsigned 1 0",
+    "events --seq --hex - | 00 01\n | 0 | 0 unsigned 0 0\n\n1 unsigned 1 0",
+    "events --seq in | 00a201000100 | 0 | 0 unsigned 0 0\n\n1 map 2 0\n2 unsigned 1 0\n3 unsigned 0 0\n4 unsigned 1 0\n5 unsigned 0 0", // equal keys are not looked at
+    "events --seq in | 00810118 | 1 | 0 unsigned 0 0\n\n1 array 1 0\n2 unsigned 1 0\n | item 3 refused 1 Truncated at 1", // 0, [1], and a number that is cut off
+    "events --seq in | 008201f90000 | 1 | 0 unsigned 0 0\n\n1 array 2 0\n2 unsigned 1 0 | item 2 refused 5 Float at 2", // 0, [1, a float]
+    "events --seq in | ff | 1 |  | item 1 refused 7 StrayBreak at 0",
+    "events --seq --bytes 0 in |  | 1 |  | item 1 refused 2 TooLong at 0",
+    "events --seq --bytes 1 in | 00011864 | 1 | 0 unsigned 0 0\n\n1 unsigned 1 0\n | item 3 refused 2 TooLong at 1", // 0, 1, 100 in two bytes
+    "events --seq --depth 1 in | 808180 | 1 | 0 array 0 0\n\n1 array 1 0 | item 2 refused 9 TooDeep at 1", // [], [[]]
+    "events --seq --quiet in | 00ff | 1 | ",
+    "events --seq absent | 00 | 3 |  | cannot read absent",
+    "events --seq --hex in | 0 | 3 |  | not hex: in",
+    "events --seq full | 00 | 3 |  | out of memory",
     // `compare`: files of one value, of different values, and refused.
     "compare a b | a201020304 / bf190003040102ff | 0 | same", // {1: 2, 3: 4}
     "compare a b | 5f4161ff / 4161 | 0 | same", // h'61'

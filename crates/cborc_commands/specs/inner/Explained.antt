@@ -4,7 +4,7 @@ use Rattle.std.specs.declared.io.ErrorKind.{ErrorKind}
 use Rattle.std.specs.declared.io.ErrorKind.TheVariants as kinds
 use Rattle.cborc_commands.specs.declared.request.Options.{Options}
 use Rattle.cborc_commands.specs.declared.request.Request.{Request}
-use Rattle.cborc_commands.specs.declared.request.Request.TheVariants.{Check, CheckSequence, Canon, CanonSequence, Compare, Show, ShowSequence, Events}
+use Rattle.cborc_commands.specs.declared.request.Request.TheVariants.{Check, CheckSequence, Canon, CanonSequence, Compare, Show, ShowSequence, Events, EventsSequence}
 
 -- how the files of a request are read
 abbrev pub options_of : Request → Options
@@ -16,6 +16,7 @@ options_of (Compare left right options) = options
 options_of (Show source layout options) = options
 options_of (ShowSequence source layout options) = options
 options_of (Events source options) = options
+options_of (EventsSequence source options) = options
 
 -- the path of the file that a request reads, or reads first
 abbrev pub source_of : Request → List ℕ
@@ -27,6 +28,7 @@ source_of (Compare left right options) = left.now
 source_of (Show source layout options) = source.now
 source_of (ShowSequence source layout options) = source.now
 source_of (Events source options) = source.now
+source_of (EventsSequence source options) = source.now
 
 -- of the file that it reads last
 abbrev pub right_of : Request → List ℕ
@@ -38,6 +40,7 @@ abbrev pub reads_whole : Request → Bool
 reads_whole (CheckSequence source accepted options) = true
 reads_whole (CanonSequence source output order options) = true
 reads_whole (ShowSequence source layout options) = true
+reads_whole (EventsSequence source options) = true
 reads_whole request = (options_of request).hex
 
 -- what asks for less memory

@@ -1,5 +1,5 @@
 -- What is written of the items of a sequence, one behind another.
-use Rattle.std.specs.Prelude.{ℕ, ◌≡◌, ◌++◌, List, length, flat_map, Option}
+use Rattle.std.specs.Prelude.{ℕ, ◌≡◌, ◌++◌, List, length, Option}
 use Rattle.std.specs.Io.KnownBytes.{Appends}
 use Rattle.cbor_head.specs.Complaint.{Rules, plain}
 use Rattle.cbor_head.specs.Limits.{Bounds}
@@ -8,8 +8,9 @@ use Rattle.cbor_head.specs.declared.order.KeyOrder.{KeyOrder}
 use Rattle.cbor_judging.specs.Readers.{IsUnread}
 use Rattle.cbor_reader.specs.Sequence.{IsAccepted}
 use Rattle.cborc_commands.specs.CanonSequence.{HasCanonicalBytes, canonical_texts, IsUncanonical, IsUncanonicalAt}
+use Rattle.cborc_commands.specs.EventsSequence.{IsFormRefused, IsCutOff}
 use Rattle.cborc_commands.specs.Fault.{IsOfInput, at_item}
-use Rattle.cborc_commands.specs.Sequences.{AreAll, GoesOn}
+use Rattle.cborc_commands.specs.Sequences.{texts_from, AreAll, GoesOn}
 use Rattle.cborc_commands.specs.declared.fault.Fault.{Fault}
 use Rattle.cborc_commands.specs.declared.fault.Fault.TheVariants as faults
 use Rattle.cborc_commands.specs.declared.request.Form.{Form}
@@ -24,14 +25,14 @@ pub record IsWritten (takes : Spelling → Type 0) (text : Spelling → List ℕ
   pub written : Appends before after (text item)
 
 -- the whole input is a sequence of so many items that are taken, and their texts were written
-pub record AreWritten (takes : Spelling → Type 0) (text : Spelling → List ℕ) (n : ℕ) (input : List ℕ) (before after : Option (List ℕ)) (count : ℕ) : Type 0 where
+pub record AreWritten (takes : Spelling → Type 0) (text : ℕ → Spelling → List ℕ) (n : ℕ) (input : List ℕ) (before after : Option (List ℕ)) (count : ℕ) : Type 0 where
   pub items : List Spelling
   pub all : AreAll takes n input items
   pub count_is : count ≡ length items
-  pub written : Appends before after (flat_map text items)
+  pub written : Appends before after (texts_from text 0 items)
 
 -- It isn't: behind items that are taken, whose texts were written, none is taken.
-pub record AreStopped (takes : Spelling → Type 0) (text : Spelling → List ℕ) (stops : List ℕ → Fault → Option (List ℕ) → Option (List ℕ) → Type 0) (n : ℕ)
+pub record AreStopped (takes : Spelling → Type 0) (text : ℕ → Spelling → List ℕ) (stops : ℕ → List ℕ → Fault → Option (List ℕ) → Option (List ℕ) → Type 0) (n : ℕ)
     (input : List ℕ) (before after : Option (List ℕ)) (fault : Fault) : Type 0 where
   pub items : List Spelling
   pub rest : List ℕ
@@ -40,10 +41,10 @@ pub record AreStopped (takes : Spelling → Type 0) (text : Spelling → List �
   pub goes_on : GoesOn takes n input items rest index start
   -- what the output had taken by then
   pub middle : Option (List ℕ)
-  pub written : Appends before middle (flat_map text items)
+  pub written : Appends before middle (texts_from text 0 items)
   -- why
   pub cause : Fault
-  pub stopped : stops rest cause middle after
+  pub stopped : stops start rest cause middle after
   pub fault_is : fault ≡ at_item index start cause
 
 -- ---- why the item at the front of these bytes is not taken
@@ -68,6 +69,14 @@ IsItemNotShown b bytes faults.CannotPrint before after =
     (item : Spelling) × (rest : List ℕ) × IsAccepted b plain item × (spell item ++ rest ≡ bytes)
 IsItemNotShown b bytes faults.Memory before after = Unit {0}
 IsItemNotShown b bytes _ before after = ⊥
+
+-- to be listed: its form is refused, and the output took its lines so far; or the output failed; or memory was refused
+abbrev pub IsItemNotListed : Bounds → ℕ → List ℕ → Fault → Option (List ℕ) → Option (List ℕ) → Type 0
+IsItemNotListed b start bytes (faults.Refused f) before after =
+    (shown : List ℕ) × IsFormRefused start b bytes f shown × IsOfInput f.reason × Appends before after shown
+IsItemNotListed b start bytes faults.CannotPrint before after = (shown : List ℕ) × IsCutOff start b bytes shown × Appends before after shown
+IsItemNotListed b start bytes faults.Memory before after = Unit {0}
+IsItemNotListed b start bytes _ before after = ⊥
 
 -- ---- the canonical bytes of all
 

@@ -1,11 +1,8 @@
-use Rattle.std.proofs.Common.{inl}
-use Rattle.cborc_commands.specs.Events.{IsNotListed}
-use Rattle.cborc_commands.proofs.Faults.{refusal_is}
+use Rattle.std.proofs.lemmas.Result.{err_from_is_err_and}
+use Rattle.cborc_commands.proofs.Listings.{front_not_listed}
 use Rattle.cborc_commands.proofs.events.list.Goals as goal
 
-pub returns-in_default : goal.returns-in_default
-returns-in_default g c = record {
-  listed = tt;
-  fault = refusal_is (IsNotListed c.args.limits c.args.bytes.now (g.W.Write.contents c.args.out.now) (g.W.Write.contents c.listing.new.writer)) c.in-Err.refusal _ c.from.ensures
-      (λ own. (own, c.in_default.not-Write, inl (c.in-Err.ensures.refused, c.in-Err.ensures.read.1))) tt;
-}
+pub returns-in_err-size-clause-fault : goal.returns-in_err-size-clause-fault
+returns-in_err-size-clause-fault g c =
+    let p = err_from_is_err_and c.from_residual.result c.from_residual.ensures.1 in
+    rw (p.1, p.2) (front_not_listed c.args.limits c.args.bytes.now _ _ _ c.in_err-size.ensures.fault)

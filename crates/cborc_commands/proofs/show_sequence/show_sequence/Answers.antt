@@ -1,5 +1,5 @@
 use Rattle.std.proofs.lemmas.Result.{err_from_is_err_and}
-use Rattle.cborc_commands.proofs.Stopped.{sequence_not_shown}
+use Rattle.cborc_commands.proofs.Stopped.{sequence_shown, sequence_not_shown}
 use Rattle.cborc_commands.proofs.show_sequence.show_sequence.Goals as goal
 
 pub returns-in_err-write_items-clause-fault : goal.returns-in_err-write_items-clause-fault
@@ -8,3 +8,8 @@ returns-in_err-write_items-clause-fault g c =
     rw (p.1, p.2)
     (sequence_not_shown c.args.layout c.args.options c.args.source.now (g.F.Folder.held c.args.files.now) c.in_ok-bytes.bytes.items c.in_ok-bytes.ensures.whole _ _ _
     (rw (c.as_slice.ensures.value) at c.in_err-write_items.ensures.stopped))
+
+pub returns-clause-shown : goal.returns-clause-shown
+returns-clause-shown g c =
+    sequence_shown c.args.layout c.args.options c.args.source.now (g.F.Folder.held c.args.files.now) c.in_ok-bytes.bytes.items c.in_ok-bytes.ensures.whole _ _ _
+    (rw (c.as_slice.ensures.value) at c.in_ok-write_items.ensures.written)

@@ -2,11 +2,11 @@ use Rattle.std.proofs.Common.{ℕ, List, ◌-◌, ◌+◌, ◌^◌, ◌<◌, min
 use Rattle.cbor_head.specs.Verdict.{refusal}
 use Rattle.cbor_head.specs.declared.reason.Reason.TheVariants.{Write}
 use Rattle.std.specs.Io.KnownBytes.{Appends}
-use Rattle.cbor_diag.proofs.Listed.{none-listed, one-more, takes-more, all-listed, all-lost, refused-unlisted, refused-lost, stopped-unlisted, stopped-lost, next-event, no-event, listed-within, unlisted-within}
-use Rattle.cbor_diag.proofs.event_listing.listing.Goals as goal
+use Rattle.cbor_diag.proofs.Listed.{none-listed, one-more, takes-more, place-within, all-listed, all-lost, refused-unlisted, refused-lost, stopped-unlisted, stopped-lost, next-event, no-event, listed-within, unlisted-within}
+use Rattle.cbor_diag.proofs.event_listing.listing_from.Goals as goal
 
 pub lines-init : goal.lines-init
-lines-init g c = (c.new-events.ensures.limits.0, c.new-events.ensures.limits.1, c.new-events.ensures.live, none-listed _ _ _ c.new-events.ensures.starts)
+lines-init g c = (c.new-events.ensures.limits.0, c.new-events.ensures.limits.1, c.new-events.ensures.live, none-listed _ _ _ _ c.new-events.ensures.starts)
 
 pub lines-preserved : goal.lines-preserved
 lines-preserved g c =
@@ -17,7 +17,7 @@ lines-preserved g c =
       c.next.ensures.limits.depth ∙ inv.0,
       c.next.ensures.limits.bytes ∙ inv.1,
       c.in-Ok-Some.ensures.live,
-      one-more _ _ _ _ _ _ _ _ _ _ _ _ c.in-Ok-Some.event h next (subst (Appends _ _) text c.in-Ok.ensures)
+      one-more _ _ _ _ _ _ _ _ _ _ _ _ _ c.in-Ok-Some.event h next (subst (Appends _ _) text c.in-Ok.ensures)
           (c.saturating_add-written.ensures ∙ ap (λ xs. min (c.lines.written + length xs) (2 ^ 64 - 1)) text),
     )
 
@@ -35,28 +35,28 @@ returns-in-Ok-None-clause-listed g c =
     let inv = c.lines.invariant in
     let h = inv.3 in
     let end = no-event _ _ _ _ _ _ _ _ c.in-Ok-None.field-0 c.in-Ok-None.field-0-is (c.in-Ok-None.ensures.answers inv.2 h.t h.marks h.between) in
-    listed-within _ _ c.lines.events.machine _ _ _ _ inv.0 inv.1 (all-listed _ _ _ _ _ _ _ _ _ _ _ h end c.taken-in-Ok-None.ensures.taken)
+    listed-within _ _ _ c.lines.events.machine _ _ _ _ inv.0 inv.1 (all-listed _ _ _ _ _ _ _ _ _ _ _ _ h end c.taken-in-Ok-None.ensures.taken)
 
 pub returns-in-Ok-None-clause-taken : goal.returns-in-Ok-None-clause-taken
 returns-in-Ok-None-clause-taken g c =
     let inv = c.lines.invariant in
     let h = inv.3 in
     let end = no-event _ _ _ _ _ _ _ _ c.in-Ok-None.field-0 c.in-Ok-None.field-0-is (c.in-Ok-None.ensures.answers inv.2 h.t h.marks h.between) in
-    all-lost _ _ _ _ _ _ _ _ _ _ _ h end c.taken-in-Ok-None.ensures.taken
+    all-lost _ _ _ _ _ _ _ _ _ _ _ _ h end c.taken-in-Ok-None.ensures.taken
 
 pub returns-in-Err-clause-refused : goal.returns-in-Err-clause-refused
 returns-in-Err-clause-refused g c =
     let inv = c.lines.invariant in
     let h = inv.3 in
     let no = (c.in-Err.ensures.answers inv.2 h.t h.marks h.between).1 in
-    unlisted-within _ _ c.next.new.self.machine _ _ _ _ (c.next.ensures.limits.depth ∙ inv.0) (c.next.ensures.limits.bytes ∙ inv.1) (refused-unlisted _ _ _ _ _ _ _ _ _ _ h c.in-Err.refusal no)
+    unlisted-within _ _ _ c.next.new.self.machine _ _ _ _ (c.next.ensures.limits.depth ∙ inv.0) (c.next.ensures.limits.bytes ∙ inv.1) (refused-unlisted _ _ _ _ _ _ _ _ _ _ _ h c.in-Err.refusal no)
 
 pub returns-in-Err-clause-read : goal.returns-in-Err-clause-read
 returns-in-Err-clause-read g c =
     let inv = c.lines.invariant in
     let h = inv.3 in
     let no = (c.in-Err.ensures.answers inv.2 h.t h.marks h.between).1 in
-    refused-lost _ _ _ _ _ _ _ _ _ _ h c.in-Err.refusal no
+    refused-lost _ _ _ _ _ _ _ _ _ _ _ h c.in-Err.refusal no
 
 pub returns-in-Err-write_whole-clause-refused : goal.returns-in-Err-write_whole-clause-refused
 returns-in-Err-write_whole-clause-refused g c =
@@ -66,8 +66,8 @@ returns-in-Err-write_whole-clause-refused g c =
     let text = c.as_slice-text.ensures.value ∙ c.line_of-line.ensures in
     let count = c.in-Err-write_whole.count in
     let stopped = c.in-Err-write_whole.ensures in
-    unlisted-within _ _ c.next.new.self.machine _ _ _ _ (c.next.ensures.limits.depth ∙ inv.0) (c.next.ensures.limits.bytes ∙ inv.1)
-    (stopped-unlisted _ _ _ _ _ _ _ _ _ count _ _ c.in-Ok-Some.event h _ next
+    unlisted-within _ _ _ c.next.new.self.machine _ _ _ _ (c.next.ensures.limits.depth ∙ inv.0) (c.next.ensures.limits.bytes ∙ inv.1)
+    (stopped-unlisted _ _ _ _ _ _ _ _ _ _ count _ _ c.in-Ok-Some.event h _ next
     (subst (λ (xs : List ℕ). count < length xs) text stopped.0)
     (subst (λ (xs : List ℕ). Appends (g.W.Write.contents c.lines.writer) (g.W.Write.contents c.write_whole.new.writer) (take count xs)) text stopped.1)
     (ap (λ n. refusal Write n c.taken.result) c.saturating_add.ensures ∙ ap (λ n. refusal Write (min (c.lines.written + count) (2 ^ 64 - 1)) n) c.taken.ensures.taken))
@@ -77,4 +77,11 @@ returns-in-Err-write_whole-clause-read g c =
     let inv = c.lines.invariant in
     let h = inv.3 in
     let next = next-event _ _ _ _ _ _ _ _ c.in-Ok-Some.field-0 c.in-Ok-Some.event c.in-Ok-Some.field-0-is (c.in-Ok-Some.ensures.answers inv.2 h.t h.marks h.between) in
-    stopped-lost _ _ _ _ _ _ _ _ _ _ c.in-Ok-Some.event h c.taken.result next c.taken.ensures.taken
+    stopped-lost _ _ _ _ _ _ _ _ _ _ _ c.in-Ok-Some.event h c.taken.result next c.taken.ensures.taken
+
+pub line_of-line-requires : goal.line_of-line-requires
+line_of-line-requires g c =
+    let inv = c.lines.invariant in
+    let h = inv.3 in
+    let next = next-event _ _ _ _ _ _ _ _ c.in-Ok-Some.field-0 c.in-Ok-Some.event c.in-Ok-Some.field-0-is (c.in-Ok-Some.ensures.answers inv.2 h.t h.marks h.between) in
+    omega (arith, c.requires, inv.1, c.next.ensures.limits.bytes, place-within _ _ _ _ _ _ h.t h.marks c.in-Ok-Some.event h.between next)

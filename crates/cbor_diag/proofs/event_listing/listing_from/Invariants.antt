@@ -1,11 +1,11 @@
 use Rattle.std.proofs.Common.{◌≡◌, ◌-◌, None}
 use Rattle.cbor_diag.proofs.Listed.{HasListed}
-use Rattle.cbor_diag.proofs.event_listing.listing.Given as goal
+use Rattle.cbor_diag.proofs.event_listing.listing_from.Given as goal
 
 abbrev pub invariant-lines : goal.invariant-lines
 invariant-lines g l =
     (l.events.machine.depth ≡ l.fn.limits.depth) × (l.events.machine.bytes ≡ l.fn.limits.bytes) × (l.events.refusal ≡ None)
-    × HasListed l.events.machine (g.R.Read.remaining l.initial.reader) (g.R.Read.remaining l.reader) (g.W.Write.contents l.initial.writer) (g.W.Write.contents l.writer) l.written
+    × HasListed l.fn.start l.events.machine (g.R.Read.remaining l.initial.reader) (g.R.Read.remaining l.reader) (g.W.Write.contents l.initial.writer) (g.W.Write.contents l.writer) l.written
 
 abbrev pub decreases-lines : goal.decreases-lines
 decreases-lines g l = l.events.machine.bytes - l.events.machine.taken

@@ -1,0 +1,94 @@
+-- What was written of the lines of an item of a sequence, and why not all.
+use Rattle.std.proofs.Common.{ℕ, ◌≡◌, ◌∙◌, ◌<◌, ◌≤◌, Bool, true, false, List, [], ◌∷◌, ◌++◌, length, take, Option, inl, inr, refl, sym, ap, subst}
+use Rattle.std.specs.Prelude.{◌==◌, ◌||◌, ◌&&◌, ◌%◌, nat_le, if◌then◌else◌}
+use Rattle.std.specs.Io.KnownBytes.{Appends}
+use Rattle.cbor_head.specs.Complaint.{form}
+use Rattle.cbor_head.specs.Limits.{Bounds}
+use Rattle.cbor_head.specs.Verdict.{refused, Decides, IsFormError, IsReasonAt, IsVerdict, initial_reason}
+use Rattle.cbor_head.specs.declared.reason.Reason.{Reason}
+use Rattle.cbor_head.specs.declared.reason.Reason.TheVariants as reasons
+use Rattle.cbor_head.specs.declared.reason.Refusal.{Refusal}
+use Rattle.cbor_automaton.specs.Event.{events}
+use Rattle.cbor_diag.specs.Listing.{lines, IsListed, IsUnlisted, of_verdict, of_reader, of_writer}
+use Rattle.cbor_judging.specs.Readers.{IsRead}
+use Rattle.cbor_standing.proofs.Form.{no-complaint}
+use Rattle.cbor_reader.specs.Sequence.{IsAccepted}
+use Rattle.cborc_commands.specs.Events.{IsFrontNotListed, IsNotListed}
+use Rattle.cborc_commands.specs.EventsSequence.{gap, item_lines, IsFormRefused, IsCutOff, before_all, within}
+use Rattle.cborc_commands.specs.Fault.{IsOfInput}
+use Rattle.cborc_commands.specs.declared.fault.Fault.{Fault}
+use Rattle.cborc_commands.specs.declared.fault.Fault.TheVariants as faults
+use Rattle.cborc_commands.specs.inner.Items.{IsWritten, IsItemNotListed}
+use Rattle.cborc_commands.proofs.Items.{appends_more}
+use Rattle.cborc_commands.proofs.Taken.{item_accepted, written_of}
+
+-- ---- no verdict is that the writer failed
+
+by_tests : (s f i r : Bool)
+    → (if s then reasons.StrayBreak else if f then reasons.Float else if i then reasons.NoIndefinite else if r then reasons.Reserved else reasons.TooDeep) ≡ reasons.Write → ⊥
+by_tests true f i r e = cc e
+by_tests false true i r e = cc e
+by_tests false false true r e = cc e
+by_tests false false false true e = cc e
+by_tests false false false false e = cc e
+
+initial_not : (c : ℕ) → initial_reason c ≡ reasons.Write → ⊥
+initial_not c e =
+    by_tests (c == 0xff) ((c == 0xf9) || (c == 0xfa) || (c == 0xfb)) ((c == 0x1f) || (c == 0x3f) || (c == 0xdf))
+    (nat_le 28 (c % 32) && nat_le (c % 32) 30) e
+
+byte_not : (d : ℕ) (p : List ℕ) (c : ℕ) (reason : Reason) → IsReasonAt d p c reason → reason ≡ reasons.Write → ⊥
+byte_not d p c reason (inl h) e = initial_not c (sym h.1 ∙ e)
+byte_not d p c reason (inr (inl h)) e = let t : reasons.BadSimple ≡ reasons.Write = sym h.2 ∙ e in cc t
+byte_not d p c reason (inr (inr h)) e = let t : reasons.BadChunk ≡ reasons.Write = sym h.2 ∙ e in cc t
+
+form_not : (limits : Bounds) (p behind : List ℕ) (f : Refusal) → IsFormError limits p behind f → f.reason ≡ reasons.Write → ⊥
+form_not limits p (c ∷ rest) f (reason, why, is) e = byte_not limits.depth p c reason why (sym (ap (λ (x : Refusal). x.reason) is) ∙ e)
+form_not limits p [] f (inl h) e = let t : reasons.TooLong ≡ reasons.Write = sym (ap (λ (x : Refusal). x.reason) h.1) ∙ e in cc t
+form_not limits p [] f (inr h) e = let t : reasons.Truncated ≡ reasons.Write = sym (ap (λ (x : Refusal). x.reason) h.1) ∙ e in cc t
+
+verdict_not : (limits : Bounds) (input : List ℕ) (f : Refusal) → IsVerdict limits form input (refused f) → f.reason ≡ reasons.Write → ⊥
+verdict_not limits input f v e = by v.decides
+  where
+    by : Decides limits form v.p v.longest.rest v.item (refused f) → ⊥
+    by (inl (c, first, is)) = no-complaint 0 v.item c first.holds
+    by (inr h) = form_not limits v.p v.longest.rest f h.2 e
+
+-- ---- one item at the front
+
+pub front_not_listed : (limits : Bounds) (bytes : List ℕ) (old new : Option (List ℕ)) (fault : Fault) → IsFrontNotListed 0 limits bytes old new fault → IsNotListed limits bytes old new fault
+front_not_listed limits bytes old new (faults.Refused f) (own, told, h, l) = (own, told, inl (h, l))
+front_not_listed limits bytes old new faults.CannotPrint h = h
+front_not_listed limits bytes old new faults.Memory h = tt
+front_not_listed limits bytes old new _ h = absurd h
+
+module _ (start : ℕ) (limits : Bounds) (bytes : List ℕ) (before middle after : Option (List ℕ)) (g : Appends before middle (gap start)) where
+  pub item_listed : (size : ℕ) → IsListed start limits bytes size middle after → IsWritten (IsAccepted limits form) (item_lines start) bytes size before after
+  item_listed size h =
+      let read : IsRead limits form bytes size = record { item = h.item; verdict = h.verdict; size = h.size } in
+      written_of limits form bytes size read (IsAccepted limits form) (item_lines start) before after (item_accepted limits form bytes size read)
+      (appends_more before middle after (gap start) (lines start (events 0 h.item)) g h.written)
+
+  refused_so : (f : Refusal) → IsOfInput f.reason → (f.reason ≡ reasons.Write → ⊥) → IsUnlisted start limits bytes f middle after
+      → IsItemNotListed limits start bytes (faults.Refused f) before after
+  refused_so f own apart (of_verdict out v l a) =
+      (gap start ++ out, record { verdict = v; so_far = out; listing = l; is = refl }, own, appends_more before middle after (gap start) out g a)
+  refused_so f own apart (of_reader out e v l a) = absurd (subst IsOfInput (ap (λ (x : Refusal). x.reason) e) own)
+  refused_so f own apart (of_writer out e s a) = absurd (apart (ap (λ (x : Refusal). x.reason) e))
+
+  cut_off : (f : Refusal) → f.reason ≡ reasons.Write → IsUnlisted start limits bytes f middle after → IsItemNotListed limits start bytes faults.CannotPrint before after
+  cut_off f is (of_verdict out v l a) = absurd (verdict_not limits bytes f v is)
+  cut_off f is (of_reader out e v l a) = let t : reasons.Read ≡ reasons.Write = sym (ap (λ (x : Refusal). x.reason) e) ∙ is in absurd (cc t)
+  cut_off f is (of_writer out e s a) = (gap start ++ out, within f.read out s refl, appends_more before middle after (gap start) out g a)
+
+  pub item_not_listed : (fault : Fault) → IsFrontNotListed start limits bytes middle after fault → IsItemNotListed limits start bytes fault before after
+  item_not_listed (faults.Refused f) (own, apart, u, l) = refused_so f own apart u
+  item_not_listed faults.CannotPrint (f, u, l, e) = cut_off f e u
+  item_not_listed faults.Memory h = tt
+  item_not_listed _ h = absurd h
+
+-- the output failed in front of the lines
+pub gap_not_written : (start : ℕ) (limits : Bounds) (bytes : List ℕ) (before after : Option (List ℕ)) (fault : Fault) → fault ≡ faults.CannotPrint → 0 < start → Appends before after []
+    → IsItemNotListed limits start bytes fault before after
+gap_not_written start limits bytes before after fault e some a =
+    subst (λ (x : Fault). IsItemNotListed limits start bytes x before after) (sym e) ([], before_all some refl, a)
