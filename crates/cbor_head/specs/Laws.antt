@@ -12,6 +12,6 @@ IsAtFront d b s rest = IsSpelled s × (depth s ≤ d) × (spell s ++ rest ≡ b)
 abbrev pub StartsWith : ℕ → Spelling → List ℕ → Type 0
 StartsWith d s p = (rest : List ℕ) × IsItem d s (p ++ rest)
 
--- the first n bytes of the input begin with the item s, well-formed within the depth, that has no complaint
+-- the first bytes of the input, as many as the limit allows, begin with the item s, well-formed within the depth, that has no complaint
 abbrev pub IsFrontWithoutComplaint : Bounds → Rules → List ℕ → Spelling → Type 0
 IsFrontWithoutComplaint limits rules input s = (rest : List ℕ) × IsAtFront limits.depth (take limits.bytes input) s rest × ((c : Complaint) → Complains rules 0 s c → ⊥)

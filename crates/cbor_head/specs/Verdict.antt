@@ -28,7 +28,7 @@ IsReasonAt d p c reason =
     (MayFollow d p 0x00 × (reason ≡ initial_reason c)) ⊎ (¬ MayFollow d p 0x00 × MayFollow d p 0x20 × (reason ≡ BadSimple))
     ⊎ (¬ MayFollow d p 0x00 × ¬ MayFollow d p 0x20 × (reason ≡ BadChunk))
 
--- the form error behind p, where these are the next of the first n bytes
+-- the form error behind p, where these are the next of the bytes within the limit
 abbrev pub IsFormError : Bounds → List ℕ → List ℕ → Refusal → Type 0
 IsFormError limits p (c ∷ rest) f = (reason : Reason) × IsReasonAt limits.depth p c reason × (f ≡ refusal reason (length p) (length p + 1))
 IsFormError limits p [] f = ((length p ≡ limits.bytes) × (f ≡ refusal TooLong limits.bytes limits.bytes)) ⊎ ((length p < limits.bytes) × (f ≡ refusal Truncated (length p) (length p)))
@@ -61,7 +61,7 @@ Decides limits rules p behind s (refused f) =
     ((c : Complaint) × IsFirstComplaint rules s (length p) c × (f ≡ refusal c.reason c.place c.end))
     ⊎ (IsWithout rules s (length p) × (spell s ≢ p) × IsFormError limits p behind f)
 
--- what is answered of an input, within a depth and so many bytes
+-- what is answered of an input, within limits
 pub record IsVerdict (limits : Bounds) (rules : Rules) (input : List ℕ) (answer : Answer) : Type 0 where
   -- the longest beginning, and an item that starts with it
   pub p : List ℕ

@@ -39,7 +39,7 @@ Loses k old new = IfSome old (λ input. (new ≡ Some (drop k input)) × (k ≤ 
 
 -- ---- canonical bytes
 
--- the input begins with the canonical bytes, at most n, of this value, a valid one of depth at most d
+-- the input begins with the canonical bytes of this value, a valid one, both within the limits
 pub record BeginsWithCanonical (limits : Bounds) (o : KeyOrder) (input : List ℕ) (v : Value) : Type 0 where
   pub range : IsInRange v
   pub valid : IsValid v

@@ -37,8 +37,7 @@ pub fn canonicalise(
         → limits.bytes < length (canonical order (value_of s))) }
     ensures reason { IfErr result (λ f. IsCanonicaliserReason f.reason) }
     ensures equal { IfOk result (λ v. TellsItsValue limits.depth order bytes.now v.items) }
-    ensures again { IfOk result
-        (λ v. IsCanonicalOf limits order v.items v.items) }
+    ensures again { IfOk result (λ v. IsCanonicalOf limits order v.items v.items) }
 {
     canonical_bytes(alloc, bytes, limits, order)
 }

@@ -38,16 +38,14 @@ pub fn same_meaning(
     right: &[u8],
     limits: Limits,
 ) -> Result<bool, (Side, Refusal)>
-    ensures answer { IfOk result (λ same. IsTrue same
-        ↔ MeanTheSame limits left.now right.now) }
+    ensures answer { IfOk result (λ same. IsTrue same ↔ MeanTheSame limits left.now right.now) }
     ensures accepted { IfOk result (λ _. IsWholeItem limits left.now
         × IsWholeItem limits right.now) }
     ensures values { IfOk result (λ same. (s t : Spelling)
         → IsValidItem limits left.now s
         → IsValidItem limits right.now t
         → IsTrue same ↔ Same (value_of s) (value_of t)) }
-    ensures refused { IfErr result (λ e.
-        IsSideRefusal limits left.now right.now e.0 e.1) }
+    ensures refused { IfErr result (λ e. IsSideRefusal limits left.now right.now e.0 e.1) }
     ensures only { IfErr result (λ e. e.1.reason ≢ reasons.Memory
         → IsWholeItem limits left.now
         → ¬ IsWholeItem limits right.now) }

@@ -56,8 +56,7 @@ pub(crate) fn build_front(
     limits: Limits,
     order: KeyOrder,
 ) -> Option<BuiltFront>
-    ensures { IfSome result (λ f.
-        IsBuiltFront limits order bytes.now f.canonical.items f.size) }
+    ensures { IfSome result (λ f. IsBuiltFront limits order bytes.now f.canonical.items f.size) }
 {
     let mut events = SliceEvents::new(bytes, limits);
     let mut builder = CanonBuilder::new(alloc, order);

@@ -22,8 +22,7 @@ pub(crate) fn valid_front(
 ) -> Result<BuiltFront, Refusal>
     ensures accepted { IfOk result (λ f.
         IsBuiltFront limits order bytes.now f.canonical.items f.size) }
-    ensures refused { IfErr result
-        (λ f. IsUnread limits plain bytes.now f) }
+    ensures refused { IfErr result (λ f. IsUnread limits plain bytes.now f) }
     ensures no_read { IfErr result (λ f. f.reason ≢ reasons.Read) }
 {
     match build_front(alloc, bytes, limits, order) {
@@ -41,8 +40,7 @@ fn read_again(
 ) -> Result<BuiltFront, Refusal>
     ensures accepted { IfOk result (λ f.
         IsBuiltFront limits order bytes.now f.canonical.items f.size) }
-    ensures refused { IfErr result
-        (λ f. IsUnread limits plain bytes.now f) }
+    ensures refused { IfErr result (λ f. IsUnread limits plain bytes.now f) }
     ensures no_read { IfErr result (λ f. f.reason ≢ reasons.Read) }
 {
     let mut rest = bytes;

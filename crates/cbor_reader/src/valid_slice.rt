@@ -16,10 +16,8 @@ use std::alloc::Global;
 /// It answers as [`read_tree`](crate::read_tree) does of a reader over the slice. No tree is made;
 /// memory is taken for the item's canonical bytes, by which equal keys are found.
 pub fn check_valid(alloc: Global, bytes: &[u8], limits: Limits) -> Result<u64, Refusal>
-    ensures accepted { IfOk result
-        (λ count. IsRead limits plain bytes.now count) }
-    ensures refused { IfErr result
-        (λ f. IsUnread limits plain bytes.now f) }
+    ensures accepted { IfOk result (λ count. IsRead limits plain bytes.now count) }
+    ensures refused { IfErr result (λ f. IsUnread limits plain bytes.now f) }
     ensures no_read { IfErr result (λ f. f.reason ≢ reasons.Read) }
 {
     match valid_front(alloc, bytes, limits, KeyOrder::Bytewise) {

@@ -33,8 +33,7 @@ pub fn read_view<'a>(
     ensures depth { IfOk result (λ answer. depth (seen answer.0) ≤ MAX_DEPTH) }
     ensures in_range { IfOk result (λ answer. IsInRange (seen answer.0)) }
     ensures valid { IfOk result (λ answer. IsValid (seen answer.0)) }
-    ensures refused { IfErr result
-        (λ f. IsUnread limits plain bytes.now f) }
+    ensures refused { IfErr result (λ f. IsUnread limits plain bytes.now f) }
     ensures no_read { IfErr result (λ f. f.reason ≢ reasons.Read) }
 {
     let count = match check_valid(alloc, bytes, limits) {

@@ -16,14 +16,10 @@ use cbor_walk::canonical_front;
 /// the bytes once, without recursion, and takes no memory: the last key of each open map is a part
 /// of the slice.
 pub fn check_canonical(bytes: &[u8], limits: Limits, order: KeyOrder) -> Result<u64, Refusal>
-    ensures accepted { IfOk result
-        (λ count. IsRead limits (strict order) bytes.now count) }
-    ensures canonical { IfOk result
-        (λ count. IsCanonicalFront limits order bytes.now count) }
-    ensures refused { IfErr result
-        (λ f. IsVerdict limits (strict order) bytes.now (refused f)) }
-    ensures no_canonical { IfErr result
-        (λ f. HasNoCanonicalFront limits order bytes.now) }
+    ensures accepted { IfOk result (λ count. IsRead limits (strict order) bytes.now count) }
+    ensures canonical { IfOk result (λ count. IsCanonicalFront limits order bytes.now count) }
+    ensures refused { IfErr result (λ f. IsVerdict limits (strict order) bytes.now (refused f)) }
+    ensures no_canonical { IfErr result (λ f. HasNoCanonicalFront limits order bytes.now) }
 {
     canonical_front(bytes, limits, order)
 }

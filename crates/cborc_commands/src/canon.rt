@@ -48,8 +48,7 @@ pub(crate) fn canonical_text<'a>(
     order: KeyOrder,
     form: Form,
 ) -> Result<Vec<u8>, Fault<'a>>
-    ensures text { IfOk result (λ v.
-        IsCanonicalText limits order form bytes.now v.items) }
+    ensures text { IfOk result (λ v. IsCanonicalText limits order form bytes.now v.items) }
     ensures fault { IfErr result (IsNoText limits order bytes.now) }
 {
     let canonical = canonicalise(alloc, bytes, limits, order)?;

@@ -57,10 +57,8 @@ fn size_of_item(
     accepted: Accepted,
     limits: Limits,
 ) -> Result<u64, Refusal>
-    ensures whole { IfOk result
-        (IsWhole limits (rules_of accepted) bytes.now) }
-    ensures refused { IfErr result
-        (IsNotWhole limits (rules_of accepted) bytes.now) }
+    ensures whole { IfOk result (IsWhole limits (rules_of accepted) bytes.now) }
+    ensures refused { IfErr result (IsNotWhole limits (rules_of accepted) bytes.now) }
 {
     let size = size_at_front(alloc, bytes, accepted, limits)?;
     if size == bytes.len() as u64 {
@@ -81,10 +79,8 @@ pub(crate) fn size_at_front(
     accepted: Accepted,
     limits: Limits,
 ) -> Result<u64, Refusal>
-    ensures accepted { IfOk result
-        (IsRead limits (rules_of accepted) bytes.now) }
-    ensures refused { IfErr result
-        (IsUnread limits (rules_of accepted) bytes.now) }
+    ensures accepted { IfOk result (IsRead limits (rules_of accepted) bytes.now) }
+    ensures refused { IfErr result (IsUnread limits (rules_of accepted) bytes.now) }
 {
     match accepted {
         Accepted::Valid => check_valid(alloc, bytes, limits),
