@@ -1,4 +1,4 @@
-use Rattle.std.proofs.Common.{ℕ, List, [], ◌∙◌, ap, subst, sym, take, append-nil}
+use Rattle.std.proofs.Common.{ℕ, List, [], ◌∙◌, ap, subst, take, append-nil}
 use Rattle.std.specs.Prelude.{IsErr}
 use Rattle.std.specs.List.{filter}
 use Rattle.std.proofs.lemmas.Result.{err_from_is_err_and, IfOk-weaker, IfErr-weaker}
