@@ -1,8 +1,10 @@
 -- What stays known of files from call to call.
-use Rattle.std.proofs.Common.{List, ℕ, Bool, true, false, Option, Some, None, ◌∙◌, sym}
+use Rattle.std.proofs.Common.{List, ℕ, ◌<◌, Bool, true, false, Option, Some, None, length, arith, ap, ◌∙◌, subst, sym}
+use Rattle.std.proofs.lemmas.List.{length-take, take_all}
 use Rattle.cborc_commands.specs.Folder.{Files, Holds, KeepsFiles, ReplacesFile}
 use Rattle.cborc_commands.specs.Canon.{IsPut, printed, written}
 use Rattle.cborc_commands.specs.Input.{IsInput, IsNotHex, IsNoInput}
+use Rattle.cborc_commands.specs.inner.Parts.{StartsInput}
 use Rattle.cborc_commands.specs.declared.fault.Fault.{Fault}
 use Rattle.cborc_commands.specs.declared.fault.Fault.TheVariants as faults
 
@@ -41,3 +43,8 @@ no_input_before a b path hex (faults.CannotRead named) k h = h
 no_input_before a b path hex (faults.NotHex named) k (e, h) = (e, not_hex_before a b path hex k h)
 no_input_before a b path hex faults.Memory k h = tt
 no_input_before a b path hex _ k h = absurd h
+
+-- fewer bytes of an input than were asked for are all
+pub all_of_front : (held : Option Files) (path : List ℕ) (hex : Bool) (most : ℕ) (bytes : List ℕ) → StartsInput held path hex most bytes → length bytes < most → IsInput held path hex bytes
+all_of_front held path hex most bytes s h =
+    subst (IsInput held path hex) (sym (s.front ∙ take_all most s.input (omega (arith, ap length s.front, length-take most s.input, h)))) s.is

@@ -6,6 +6,7 @@ mod Items
 mod Listings
 mod Runs
 mod Sent
+mod Spelled
 mod Stopped
 mod Taken
 mod Untold

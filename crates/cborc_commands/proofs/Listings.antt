@@ -1,5 +1,5 @@
 -- What was written of the lines of an item of a sequence, and why not all.
-use Rattle.std.proofs.Common.{ℕ, ◌≡◌, ◌∙◌, ◌<◌, ◌≤◌, Bool, true, false, List, [], ◌∷◌, ◌++◌, length, take, Option, inl, inr, refl, sym, ap, subst}
+use Rattle.std.proofs.Common.{ℕ, ◌≡◌, ◌∙◌, ◌<◌, Bool, true, false, List, [], ◌∷◌, ◌++◌, Option, inl, inr, refl, sym, ap, subst}
 use Rattle.std.specs.Prelude.{◌==◌, ◌||◌, ◌&&◌, ◌%◌, nat_le, if◌then◌else◌}
 use Rattle.std.specs.Io.KnownBytes.{Appends}
 use Rattle.cbor_head.specs.Complaint.{form}
@@ -14,7 +14,7 @@ use Rattle.cbor_judging.specs.Readers.{IsRead}
 use Rattle.cbor_standing.proofs.Form.{no-complaint}
 use Rattle.cbor_reader.specs.Sequence.{IsAccepted}
 use Rattle.cborc_commands.specs.Events.{IsFrontNotListed, IsNotListed}
-use Rattle.cborc_commands.specs.EventsSequence.{gap, item_lines, IsFormRefused, IsCutOff, before_all, within}
+use Rattle.cborc_commands.specs.EventsSequence.{gap, item_lines, before_all, within}
 use Rattle.cborc_commands.specs.Fault.{IsOfInput}
 use Rattle.cborc_commands.specs.declared.fault.Fault.{Fault}
 use Rattle.cborc_commands.specs.declared.fault.Fault.TheVariants as faults

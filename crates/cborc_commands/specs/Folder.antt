@@ -1,6 +1,9 @@
 -- What the files of a folder hold.
-use Rattle.std.specs.Prelude.{ℕ, ◌≡◌, ◌≢◌, Bool, List, codes, take, Option, None, Some, MatchResult, Result}
+use Rattle.std.specs.Prelude.{ℕ, ◌≡◌, ◌≢◌, Bool, List, codes, take, Option, None, Some, MatchResult, Result, Ok, IsErr}
+use Rattle.std.specs.List.{filter}
 use Rattle.std.specs.Str.{bytes_eq}
+use Rattle.hex.specs.Hex.{decode_of}
+use Rattle.cborc_commands.specs.Hex.{is_kept}
 
 -- whether a path stands for a standard stream
 abbrev pub is_stream : List ℕ → Bool
@@ -20,6 +23,18 @@ pub record StartsFile (held : Option Files) (path : List ℕ) (most : ℕ) (byte
   pub whole : List ℕ
   pub holds : Holds held path whole
   pub front : bytes ≡ take most whole
+
+-- the file at this path is hex text, and these are the first bytes that its digits spell: all of them, or they are so many
+pub record SpellsFront (held : Option Files) (path : List ℕ) (most : ℕ) (bytes : List ℕ) : Type 0 where
+  pub text : List ℕ
+  pub holds : Holds held path text
+  pub whole : List ℕ
+  pub spelled : decode_of (filter is_kept text) ≡ Ok whole
+  pub front : bytes ≡ take most whole
+
+-- the text of the file at this path spells no bytes
+abbrev pub IsNoDigits : Option Files → List ℕ → Type 0
+IsNoDigits held path = (text : List ℕ) × Holds held path text × IsErr (decode_of (filter is_kept text))
 
 -- each path holds what it held
 abbrev pub KeepsFiles : Option Files → Option Files → Type 0

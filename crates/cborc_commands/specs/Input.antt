@@ -1,8 +1,8 @@
 -- What a subcommand takes of an input.
-use Rattle.std.specs.Prelude.{ℕ, ◌≡◌, Bool, true, false, List, Option, Ok, IsErr}
+use Rattle.std.specs.Prelude.{ℕ, ◌≡◌, Bool, true, false, List, Option, Ok}
 use Rattle.std.specs.List.{filter}
 use Rattle.hex.specs.Hex.{decode_of}
-use Rattle.cborc_commands.specs.Folder.{Files, Holds}
+use Rattle.cborc_commands.specs.Folder.{Files, Holds, IsNoDigits}
 use Rattle.cborc_commands.specs.Hex.{is_kept}
 use Rattle.cborc_commands.specs.declared.fault.Fault.{Fault}
 use Rattle.cborc_commands.specs.declared.fault.Fault.TheVariants as faults
@@ -15,7 +15,7 @@ IsInput held path true input = (text : List ℕ) × Holds held path text × (dec
 
 -- a text that was read spells no bytes
 abbrev pub IsNotHex : Option Files → List ℕ → Bool → Type 0
-IsNotHex held path true = (text : List ℕ) × Holds held path text × IsErr (decode_of (filter is_kept text))
+IsNotHex held path true = IsNoDigits held path
 IsNotHex held path false = ⊥
 
 -- why there is no input: the file is not to be had, or is no hex text; or memory was refused

@@ -1,5 +1,4 @@
 -- What private functions speak of; no public contract does.
 pub mod Explained
-pub mod Hex
 pub mod Items
 pub mod Parts

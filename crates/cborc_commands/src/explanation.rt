@@ -6,7 +6,6 @@ ghost use Rattle.cborc_commands.specs.inner.Explained.{reads_whole, right_of, so
 
 use crate::fault::Fault;
 use crate::folder::{Cause, Folder, is_stream};
-use crate::hex_text::{decode_hex, write_digits};
 use crate::memory::Memory;
 use crate::request::{Options, Request};
 use crate::visible::Visible;
@@ -48,7 +47,10 @@ pub fn explain<F: Folder, E: Write>(
                 err,
                 "  With --hex the input is hex digits, two for each byte, and white space."
             )?;
-            write_digits(memory.last().unwrap_or(&[]), err)
+            match memory.stray() {
+                Some(stray) => stray.write(err),
+                None => Ok(()),
+            }
         }
         Fault::CannotPrint => writeln!(err, "  It is closed or full, or was closed early."),
         Fault::Memory => writeln!(err, "  {}", memory_text(reads_whole(request))),
@@ -118,7 +120,7 @@ fn reads_whole(request: &Request<'_>) -> bool
         | Request::ShowSequence { .. }
         | Request::EventsSequence { .. }
         | Request::CanonSequence { .. } => true,
-        _ => options_of(request).hex,
+        _ => false,
     }
 }
 
@@ -162,27 +164,7 @@ fn explain_refusal<E: Write>(
     let Some(read) = read else {
         return write_sentences(refusal.reason, err);
     };
-    if options.hex {
-        let text = Vec::from_slice(alloc, read)?;
-        match decode_hex(alloc, text) {
-            Ok(bytes) => explain_item(alloc, bytes.as_slice(), options, start, refusal, err),
-            Err(_) => write_sentences(refusal.reason, err),
-        }
-    } else {
-        explain_item(alloc, read, options, start, refusal, err)
-    }
-}
-
-// Explains a refusal of the item that starts there among the bytes.
-fn explain_item<E: Write>(
-    alloc: Global,
-    bytes: &[u8],
-    options: Options,
-    start: usize,
-    refusal: Refusal,
-    err: &mut E,
-) -> io::Result<()> {
-    let item = &bytes[start.min(bytes.len())..];
+    let item = &read[start.min(read.len())..];
     cbor_explain::explain(alloc, item, options.limits, refusal, err)
 }
 

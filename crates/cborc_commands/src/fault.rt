@@ -1,15 +1,16 @@
 //! Why the program ends without its answer.
 
-ghost use Rattle.std.specs.Prelude.{◌≡◌, ◌≢◌};
+ghost use Rattle.std.specs.Prelude.{◌≡◌, ◌≢◌, ◌⊎◌};
 ghost use Rattle.std.specs.IoError.{error_kind};
+ghost use Rattle.cborc_commands.specs.Digits.{IsOfText};
 ghost use Rattle.cborc_commands.specs.Fault.{fault_status, refusal_fault, at_item, side_fault};
 
 use crate::folder::FileFault;
+use crate::hex_text::DigitsFault;
 use crate::status::Status;
 use crate::visible::Visible;
 use cbor_head::{Reason, Refusal};
 use cbor_reader::Side;
-use hex::FromHexError;
 use std::io::{self, ErrorKind};
 use thiserror::Error;
 
@@ -105,14 +106,15 @@ impl<'a> Fault<'a> {
         }
     }
 
-    /// The fault of decoding the file at this path.
-    pub fn of_hex(path: &'a str, error: FromHexError) -> Fault<'a>
-        ensures not_hex { error ≢ FromHexError.OutOfMemory → result ≡ Fault.NotHex path.entry }
-        ensures memory { error ≡ FromHexError.OutOfMemory → result ≡ Fault.Memory }
+    /// The fault of reading the file at this path as hex text.
+    pub fn of_digits(path: &'a str, fault: DigitsFault) -> Fault<'a>
+        ensures not_hex { IsOfText fault → result ≡ Fault.NotHex path.entry }
+        ensures file { ¬ IsOfText fault
+            → (result ≡ Fault.CannotRead path.entry) ⊎ (result ≡ Fault.Memory) }
     {
-        match error {
-            FromHexError::OutOfMemory => Fault::Memory,
-            _ => Fault::NotHex(path),
+        match fault {
+            DigitsFault::File(fault) => Fault::of_reading(path, fault),
+            DigitsFault::NotHex(_) => Fault::NotHex(path),
         }
     }
 

@@ -1,9 +1,12 @@
 //! Where files come from and go to.
 
-ghost use Rattle.std.specs.Prelude.{◌≡◌, Option, None, IfOk};
+ghost use Rattle.std.specs.Prelude.{◌≡◌, Option, None, IfOk, IfErr};
 ghost use Rattle.std.specs.Borrow.{GName};
+ghost use Rattle.cborc_commands.specs.Digits.{IsOfText};
 ghost use Rattle.cborc_commands.specs.Folder.{Files, is_stream, Holds, StartsFile, KeepsFiles, WritesFile};
+ghost use Rattle.cborc_commands.specs.Folder.{IsNoDigits, SpellsFront};
 
+use crate::hex_text::{Digits, DigitsFault};
 use std::alloc::Global;
 use std::io::ErrorKind;
 
@@ -54,6 +57,25 @@ pub trait Folder {
         let mut bytes = self.read(alloc, path)?;
         bytes.truncate(most as usize);
         Ok(bytes)
+    }
+
+    /// Reads hex text whole, and answers the first bytes that its digits spell, so many if there are.
+    /// A folder that can read a part of a file at a time goes no further than the first byte that is
+    /// neither a digit nor white space, and keeps no more than the answer.
+    fn read_digits(&mut self, alloc: Global, path: &str, most: u64) -> Result<Vec<u8>, DigitsFault>
+        ensures gives { IfOk result (λ v. SpellsFront (held self.old) path.now most v.items) }
+        ensures not_hex { IfErr result (λ fault. IsOfText fault
+            → IsNoDigits (held self.old) path.now) }
+        ensures keeps { KeepsFiles (held self.old) (held self.new) }
+        ensures same { behind self.new ≡ behind self.old }
+    {
+        let text = match self.read(alloc, path) {
+            Ok(text) => text,
+            Err(fault) => return Err(DigitsFault::File(fault)),
+        };
+        let mut digits = Digits::new(alloc, most);
+        digits.push_all(text.as_slice())?;
+        digits.finish()
     }
 
     /// What the last call met that failed, if the folder tells.

@@ -7,12 +7,11 @@ ghost use Rattle.cborc_commands.specs.inner.Parts.{StartsInput};
 
 use crate::fault::Fault;
 use crate::folder::Folder;
-use crate::hex_text::decode_hex;
 use crate::request::Options;
 use std::alloc::Global;
 
 /// The first bytes of the input at this path: as many as decide whether it is one item within the
-/// limits, the byte limit and one more. With `hex` its digits are read whole.
+/// limits, the byte limit and one more. With `hex` its digits are read to the end.
 pub fn read_item<'a, F: Folder>(
     alloc: Global,
     files: &mut F,
@@ -27,9 +26,7 @@ pub fn read_item<'a, F: Folder>(
 {
     let most = options.limits.bytes() + 1;
     if options.hex {
-        let mut bytes = read_digits(alloc, files, path)?;
-        bytes.truncate(most as usize);
-        Ok(bytes)
+        read_digits(alloc, files, path, most)
     } else {
         match files.read_front(alloc, path, most) {
             Ok(bytes) => Ok(bytes),
@@ -51,7 +48,8 @@ pub fn read_all<'a, F: Folder>(
     ensures same { F.behind files.new ≡ F.behind files.old }
 {
     if options.hex {
-        read_digits(alloc, files, path)
+        let bytes = read_digits(alloc, files, path, u64::MAX)?;
+        Ok(bytes)
     } else {
         match files.read(alloc, path) {
             Ok(bytes) => Ok(bytes),
@@ -60,22 +58,20 @@ pub fn read_all<'a, F: Folder>(
     }
 }
 
-// The bytes that the hex digits of the input spell.
+// The first bytes that the hex digits of the input spell, so many if there are.
 fn read_digits<'a, F: Folder>(
     alloc: Global,
     files: &mut F,
     path: &'a str,
+    most: u64,
 ) -> Result<Vec<u8>, Fault<'a>>
-    ensures whole { IfOk result (λ v. IsInput (F.held files.old) path.now true v.items) }
+    ensures front { IfOk result (λ v. StartsInput (F.held files.old) path.now true most v.items) }
     ensures fault { IfErr result (IsNoInput (F.held files.old) path.now true) }
     ensures keeps { KeepsFiles (F.held files.old) (F.held files.new) }
     ensures same { F.behind files.new ≡ F.behind files.old }
 {
-    match files.read(alloc, path) {
-        Ok(text) => match decode_hex(alloc, text) {
-            Ok(bytes) => Ok(bytes),
-            Err(error) => Err(Fault::of_hex(path, error)),
-        },
-        Err(fault) => Err(Fault::of_reading(path, fault)),
+    match files.read_digits(alloc, path, most) {
+        Ok(bytes) => Ok(bytes),
+        Err(fault) => Err(Fault::of_digits(path, fault)),
     }
 }

@@ -33,6 +33,7 @@ pub use answer::{end, flushed, perform};
 pub use fault::Fault;
 pub use files_in_memory::FilesInMemory;
 pub use folder::{Cause, FileFault, Folder, is_stream};
+pub use hex_text::{Digits, DigitsFault, Stray};
 pub use in_memory::canon_in_memory;
 pub use request::{Accepted, Form, Layout, Manner, Options, Output, Request, Task};
 pub use status::Status;

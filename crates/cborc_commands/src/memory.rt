@@ -4,6 +4,7 @@ ghost use Rattle.std.specs.Prelude.{◌≡◌, Some, IfOk, MatchResult};
 ghost use Rattle.cborc_commands.specs.Folder.{Holds, StartsFile, KeepsFiles, WritesFile};
 
 use crate::folder::{Cause, FileFault, Folder};
+use crate::hex_text::{DigitsFault, Stray};
 use std::alloc::Global;
 
 /// The last two things that were read.
@@ -11,6 +12,8 @@ use std::alloc::Global;
 pub struct Kept {
     last: Option<Vec<u8>>,
     earlier: Option<Vec<u8>>,
+    // Where what was read is not hex text.
+    stray: Option<Stray>,
 }
 
 impl Kept {
@@ -19,6 +22,7 @@ impl Kept {
         Kept {
             last: None,
             earlier: None,
+            stray: None,
         }
     }
 
@@ -52,6 +56,11 @@ impl<'a, F: Folder> Memory<'a, F> {
         Some(bytes.as_slice())
     }
 
+    /// Where what was read is not hex text, if it is not.
+    pub fn stray(&self) -> Option<Stray> {
+        self.kept.stray
+    }
+
     /// What was read before that, if it is known.
     pub fn earlier(&self) -> Option<&[u8]> {
         let bytes = self.kept.earlier.as_ref()?;
@@ -74,6 +83,26 @@ impl<'a, F: Folder> Folder for Memory<'a, F> {
         let bytes = self.files.read_front(alloc, path, most)?;
         self.kept.keep(alloc, bytes.as_slice());
         Ok(bytes)
+    }
+
+    fn read_digits(
+        &mut self,
+        alloc: Global,
+        path: &str,
+        most: u64,
+    ) -> Result<Vec<u8>, DigitsFault> {
+        match self.files.read_digits(alloc, path, most) {
+            Ok(bytes) => {
+                self.kept.keep(alloc, bytes.as_slice());
+                Ok(bytes)
+            }
+            Err(fault) => {
+                if let DigitsFault::NotHex(stray) = fault {
+                    self.kept.stray = Some(stray);
+                }
+                Err(fault)
+            }
+        }
     }
 
     fn write(&mut self, path: &str, bytes: &[u8]) -> Result<(), FileFault> {

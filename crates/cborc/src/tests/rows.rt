@@ -230,7 +230,7 @@ static ROWS: [&str; 204] = [
     "canon --explain in folder | 00 | 3 |  | cannot write folder\n  It is a folder.",
     "canon --explain in locked/out | 00 | 3 |  | cannot write locked/out\n  A new file beside it was not to be made. It is not permitted.",
     "canon --explain --seq full out | 00 | 3 |  | out of memory\n  The whole input is held here, whatever --bytes is: a part of it asks for less.",
-    "check --explain --hex full | 00 | 3 |  | out of memory\n  The whole input is held here, whatever --bytes is: a part of it asks for less.",
+    "check --explain --hex full | 00 | 3 |  | out of memory\n  A lower --bytes asks for less memory.",
     "show --explain full | 00 | 3 |  | out of memory\n  A lower --bytes asks for less memory.",
     "canon in folder | 00 | 3 |  | cannot write folder",
 ];

@@ -41,7 +41,7 @@ reads_whole (CheckSequence source accepted options) = true
 reads_whole (CanonSequence source output order options) = true
 reads_whole (ShowSequence source layout options) = true
 reads_whole (EventsSequence source options) = true
-reads_whole request = (options_of request).hex
+reads_whole request = false
 
 -- what asks for less memory
 abbrev pub memory_text : Bool → List ℕ
