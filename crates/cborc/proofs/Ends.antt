@@ -7,7 +7,7 @@ use Rattle.clap.specs.declared.error.kind.ErrorKind.TheVariants.{OutOfMemory}
 use Rattle.cborc.specs.Run.{IsRun, IsWordsEnd, helped, misused, starved}
 use Rattle.cborc.specs.Words.{HasFault}
 use Rattle.cborc_commands.specs.Fault.{end_status, status_number}
-use Rattle.cborc_commands.specs.Folder.{Files, KeepsFiles}
+use Rattle.cborc_files.specs.Folder.{Files, KeepsFiles}
 use Rattle.cborc_commands.specs.declared.fault.Fault.{Fault}
 use Rattle.cborc_commands.specs.declared.fault.Fault.TheVariants.{CannotPrint}
 use Rattle.cborc_commands.specs.declared.status.Status.{Status}

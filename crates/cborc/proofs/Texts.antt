@@ -6,10 +6,10 @@ use Rattle.hex.specs.Hex.{decode_of}
 use Rattle.cborc.specs.Disk.{HasPushed, IsNoText}
 use Rattle.cborc.specs.declared.disk.TextFault.{TextFault}
 use Rattle.cborc.specs.declared.disk.TextFault.TheVariants as faults
-use Rattle.cborc_commands.specs.Digits.{DigitsView, IsOfText, Spells}
-use Rattle.cborc_commands.specs.Folder.{IsNoDigits, SpellsFront}
-use Rattle.cborc_commands.specs.Hex.{is_kept}
-use Rattle.cborc_commands.specs.declared.hex_text.DigitsFault.{DigitsFault}
+use Rattle.cborc_files.specs.Digits.{DigitsView, IsOfText, Spells}
+use Rattle.cborc_files.specs.Folder.{IsNoDigits, SpellsFront}
+use Rattle.cborc_files.specs.Hex.{is_kept}
+use Rattle.cborc_files.specs.declared.hex_text.DigitsFault.{DigitsFault}
 
 pub nothing_pushed : (old : DigitsView) → HasPushed old old
 nothing_pushed old = record { most = refl; goes_on = λ text h. ([], subst (λ (x : List ℕ). Spells x old) (sym (append-nil text)) h) }

@@ -6,7 +6,7 @@ use Rattle.cbor_head.specs.declared.limits.TheConstants.{MAX_DEPTH}
 use Rattle.cbor_head.specs.declared.order.KeyOrder.{KeyOrder}
 use Rattle.cbor_head.specs.declared.order.KeyOrder.TheVariants.{Bytewise, LengthFirst}
 use Rattle.clap.specs.Words.{Row, Text, first_of, one_of}
-use Rattle.cborc_commands.specs.Folder.{is_stream}
+use Rattle.cborc_files.specs.Folder.{is_stream}
 use Rattle.cborc_commands.specs.declared.request.Accepted.{Accepted}
 use Rattle.cborc_commands.specs.declared.request.Accepted.TheVariants.{Valid, Canonical}
 use Rattle.cborc_commands.specs.declared.request.Form.TheVariants.{Raw, Hex}

@@ -4,8 +4,8 @@ use Rattle.std.specs.List.{filter}
 use Rattle.hex.specs.Hex.{decode_of}
 use Rattle.cborc.specs.declared.disk.TextFault.{TextFault}
 use Rattle.cborc.specs.declared.disk.TextFault.TheVariants as faults
-use Rattle.cborc_commands.specs.Digits.{DigitsView, IsOfText, Spells}
-use Rattle.cborc_commands.specs.Hex.{is_kept}
+use Rattle.cborc_files.specs.Digits.{DigitsView, IsOfText, Spells}
+use Rattle.cborc_files.specs.Hex.{is_kept}
 
 -- they took some text, behind what they had
 pub record HasPushed (old new : DigitsView) : Type 0 where

@@ -5,7 +5,7 @@ use Rattle.clap.specs.Words.{Text}
 use Rattle.clap.specs.declared.error.kind.ErrorKind.{ErrorKind}
 use Rattle.clap.specs.declared.error.kind.ErrorKind.TheVariants as kinds
 use Rattle.cborc.specs.Words.{AskFor, HasFault}
-use Rattle.cborc_commands.specs.Folder.{Files, KeepsFiles}
+use Rattle.cborc_files.specs.Folder.{Files, KeepsFiles}
 use Rattle.cborc_commands.specs.Told.{IsToldBy}
 use Rattle.cborc_commands.specs.declared.request.Task.{Task}
 use Rattle.cborc_commands.specs.declared.fault.Fault.{Fault}

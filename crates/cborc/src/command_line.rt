@@ -7,7 +7,8 @@ ghost use Rattle.cborc.specs.Words.{texts_of, AskFor, HasFault};
 
 use crate::grammar::command;
 use cbor_head::{KeyOrder, Limits};
-use cborc_commands::{Accepted, Form, Layout, Manner, Options, Output, Request, Task, is_stream};
+use cborc_commands::{Accepted, Form, Layout, Manner, Options, Output, Request, Task};
+use cborc_files::is_stream;
 use clap::error::ErrorKind;
 use clap::{ArgMatches, Error};
 use std::alloc::Global;

@@ -5,7 +5,7 @@ ghost use Rattle.std.specs.IoError.{error_kind};
 ghost use Rattle.cborc.specs.Disk.{HasPushed, IsNoText};
 
 use crate::replacement::replace;
-use cborc_commands::{Cause, Digits, DigitsFault, FileFault, Folder, is_stream};
+use cborc_files::{Cause, Digits, DigitsFault, FileFault, Folder, is_stream};
 use std::alloc::Global;
 use std::fs;
 use std::io::{self, ErrorKind, Input, Read};

@@ -3,12 +3,13 @@
 ghost use Rattle.std.specs.Prelude.{◌≡◌, ◌≢◌, ◌≤◌, ◌⊎◌, Ok, Err, OnErr, IfOk, IfErr};
 ghost use Rattle.std.specs.Io.KnownBytes.{Keeps};
 ghost use Rattle.clap.specs.Words.{kind_of};
-ghost use Rattle.cborc_commands.specs.Folder.{KeepsFiles};
+ghost use Rattle.cborc_files.specs.Folder.{KeepsFiles};
 ghost use Rattle.cborc.specs.Words.{texts_of};
 ghost use Rattle.cborc.specs.Run.{IsWordsEnd, IsRun};
 
 use crate::command_line::parse;
-use cborc_commands::{Fault, Folder, Status, end, flushed, perform};
+use cborc_commands::{Fault, Status, end, flushed, perform};
+use cborc_files::Folder;
 use clap::error::ErrorKind;
 use std::alloc::Global;
 use std::io::Write;

@@ -12,7 +12,7 @@ mod rows;
 mod streams;
 
 use crate::run::run;
-use cborc_commands::{Cause, FileFault, Folder};
+use cborc_files::{Cause, FileFault, Folder};
 use std::alloc::{AllocError, Global};
 use std::io::{ErrorKind, Write};
 

@@ -25,7 +25,7 @@ use Rattle.cborc_commands.specs.Check.{accepted_bytes, IsWhole, IsNotWhole, IsCh
 use Rattle.cborc_commands.specs.Compare.{IsTold, IsUntold, AreInputs, AreCompared, AreNotCompared}
 use Rattle.cborc_commands.specs.Events.{IsNotListed, IsListedOf, IsNotListedOf}
 use Rattle.cborc_commands.specs.Fault.{IsOfInput, reason_fault, refusal_fault}
-use Rattle.cborc_commands.specs.Folder.{Files, KeepsFiles}
+use Rattle.cborc_files.specs.Folder.{Files, KeepsFiles}
 use Rattle.cborc_commands.specs.Show.{IsShownOf, IsNotShown}
 use Rattle.cborc_commands.specs.declared.request.Layout.{Layout}
 use Rattle.cborc_commands.specs.declared.status.Status.{Status}

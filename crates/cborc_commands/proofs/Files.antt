@@ -1,7 +1,7 @@
 -- What stays known of files from call to call.
 use Rattle.std.proofs.Common.{List, ℕ, ◌<◌, Bool, true, false, Option, Some, None, length, arith, ap, ◌∙◌, subst, sym}
 use Rattle.std.proofs.lemmas.List.{length-take, take_all}
-use Rattle.cborc_commands.specs.Folder.{Files, Holds, KeepsFiles, ReplacesFile}
+use Rattle.cborc_files.specs.Folder.{Files, Holds, KeepsFiles, ReplacesFile}
 use Rattle.cborc_commands.specs.Canon.{IsPut, printed, written}
 use Rattle.cborc_commands.specs.Input.{IsInput, IsNotHex, IsNoInput}
 use Rattle.cborc_commands.specs.inner.Parts.{StartsInput}

@@ -1,12 +1,10 @@
 mod Faults
 mod Files
 mod Fronts
-mod InMemory
 mod Items
 mod Listings
 mod Runs
 mod Sent
-mod Spelled
 mod Stopped
 mod Taken
 mod Untold

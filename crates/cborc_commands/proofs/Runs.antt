@@ -6,7 +6,7 @@ use Rattle.std.specs.Io.KnownBytes.{Keeps}
 use Rattle.cbor_head.specs.declared.order.KeyOrder.{KeyOrder}
 use Rattle.cborc_commands.specs.Answer.{IsDone, IsNotDone}
 use Rattle.cborc_commands.specs.Fault.{end_status, status_number}
-use Rattle.cborc_commands.specs.Folder.{Files, KeepsFiles}
+use Rattle.cborc_files.specs.Folder.{Files, KeepsFiles}
 use Rattle.cborc_commands.specs.Told.{IsSilent, IsStatus, IsAnswered, done, stopped, IsAnsweredQuietly, IsToldBy}
 use Rattle.cborc_commands.specs.declared.request.Manner.{Manner}
 use Rattle.cborc_commands.specs.declared.request.Options.{Options}

@@ -10,7 +10,7 @@ use Rattle.cborc_commands.specs.Canon.{IsPut, printed, written}
 use Rattle.cborc_commands.specs.Compare.{IsTold}
 use Rattle.cborc_commands.specs.Events.{IsNotListed, IsNotListedOf}
 use Rattle.cborc_commands.specs.EventsSequence.{IsSequenceNotListed}
-use Rattle.cborc_commands.specs.Folder.{Files}
+use Rattle.cborc_files.specs.Folder.{Files}
 use Rattle.cborc_commands.specs.ShowSequence.{IsSequenceNotShown}
 use Rattle.cborc_commands.specs.Told.{IsSilent}
 use Rattle.cborc_commands.specs.declared.request.Layout.{Layout}

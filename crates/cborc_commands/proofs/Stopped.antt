@@ -8,7 +8,7 @@ use Rattle.cbor_reader.specs.Sequence.{IsAccepted}
 use Rattle.cborc_commands.specs.CanonSequence.{HasCanonicalBytes, canonical_text}
 use Rattle.cborc_commands.specs.EventsSequence.{item_lines, all_lines, IsSequenceNotListed}
 use Rattle.cborc_commands.specs.Fault.{at_item}
-use Rattle.cborc_commands.specs.Folder.{Files}
+use Rattle.cborc_files.specs.Folder.{Files}
 use Rattle.cborc_commands.specs.Input.{IsInput}
 use Rattle.cborc_commands.specs.Sequences.{texts_from}
 use Rattle.cborc_commands.specs.ShowSequence.{item_text, IsSequenceShown, IsSequenceNotShown}

@@ -7,7 +7,7 @@ use Rattle.cborc_commands.specs.CheckSequence.{IsSequenceChecked, IsSequenceNotC
 use Rattle.cborc_commands.specs.Compare.{AreCompared, AreNotCompared}
 use Rattle.cborc_commands.specs.Events.{IsListedOf, IsNotListedOf}
 use Rattle.cborc_commands.specs.EventsSequence.{IsSequenceListed, IsSequenceNotListed}
-use Rattle.cborc_commands.specs.Folder.{Files, KeepsFiles}
+use Rattle.cborc_files.specs.Folder.{Files, KeepsFiles}
 use Rattle.cborc_commands.specs.Show.{IsShownOf, IsNotShown}
 use Rattle.cborc_commands.specs.ShowSequence.{IsSequenceShown, IsSequenceNotShown}
 use Rattle.cborc_commands.specs.declared.request.Request.{Request}

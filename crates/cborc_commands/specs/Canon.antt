@@ -6,7 +6,7 @@ use Rattle.cbor_head.specs.Limits.{Bounds}
 use Rattle.cbor_head.specs.declared.order.KeyOrder.{KeyOrder}
 use Rattle.cbor_reader.specs.Canonicalise.{IsCanonicalOf, IsRefusal}
 use Rattle.cborc_commands.specs.Fault.{IsOfInput}
-use Rattle.cborc_commands.specs.Folder.{Files, is_stream, KeepsFiles, ReplacesFile}
+use Rattle.cborc_files.specs.Folder.{Files, is_stream, KeepsFiles, ReplacesFile}
 use Rattle.cborc_commands.specs.Input.{IsInput, IsNoInput}
 use Rattle.cborc_commands.specs.declared.request.Form.{Form}
 use Rattle.cborc_commands.specs.declared.request.Form.TheVariants.{Raw, Hex}

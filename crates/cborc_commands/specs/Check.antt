@@ -8,7 +8,7 @@ use Rattle.cbor_head.specs.declared.reason.Reason.TheVariants.{Trailing}
 use Rattle.cbor_head.specs.declared.reason.Refusal.{Refusal}
 use Rattle.cbor_judging.specs.Readers.{IsRead, IsUnread}
 use Rattle.cborc_commands.specs.Fault.{IsOfInput}
-use Rattle.cborc_commands.specs.Folder.{Files}
+use Rattle.cborc_files.specs.Folder.{Files}
 use Rattle.cborc_commands.specs.Input.{IsInput, IsNoInput}
 use Rattle.cborc_commands.specs.declared.request.Accepted.{Accepted}
 use Rattle.cborc_commands.specs.declared.request.Accepted.TheVariants.{Valid, Canonical}

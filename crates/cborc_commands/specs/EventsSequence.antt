@@ -10,7 +10,7 @@ use Rattle.cbor_automaton.specs.Event.{events}
 use Rattle.cbor_diag.specs.Listing.{lines, IsListing, IsStopped}
 use Rattle.cbor_reader.specs.Sequence.{IsAccepted}
 use Rattle.cborc_commands.specs.Fault.{IsOfInput}
-use Rattle.cborc_commands.specs.Folder.{Files}
+use Rattle.cborc_files.specs.Folder.{Files}
 use Rattle.cborc_commands.specs.Input.{IsInput, IsNoInput}
 use Rattle.cborc_commands.specs.Sequences.{texts_from, AreAll, GoesOn}
 use Rattle.cborc_commands.specs.declared.request.Options.{Options}

@@ -2,8 +2,8 @@
 use Rattle.std.specs.Prelude.{ℕ, ◌≡◌, Bool, true, false, List, Option, Ok}
 use Rattle.std.specs.List.{filter}
 use Rattle.hex.specs.Hex.{decode_of}
-use Rattle.cborc_commands.specs.Folder.{Files, Holds, IsNoDigits}
-use Rattle.cborc_commands.specs.Hex.{is_kept}
+use Rattle.cborc_files.specs.Folder.{Files, Holds, IsNoDigits}
+use Rattle.cborc_files.specs.Hex.{is_kept}
 use Rattle.cborc_commands.specs.declared.fault.Fault.{Fault}
 use Rattle.cborc_commands.specs.declared.fault.Fault.TheVariants as faults
 

@@ -4,13 +4,9 @@ pub mod CanonSequence
 pub mod Check
 pub mod CheckSequence
 pub mod Compare
-pub mod Digits
 pub mod Events
 pub mod EventsSequence
 pub mod Fault
-pub mod Folder
-pub mod Hex
-pub mod InMemory
 pub mod inner
 pub mod Input
 pub mod Sequences

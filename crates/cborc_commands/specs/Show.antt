@@ -8,7 +8,7 @@ use Rattle.cbor_diag.specs.Text.{text}
 use Rattle.cbor_diag.specs.IndentedText.{indented}
 use Rattle.cborc_commands.specs.Check.{IsNotWhole}
 use Rattle.cborc_commands.specs.Fault.{IsOfInput}
-use Rattle.cborc_commands.specs.Folder.{Files}
+use Rattle.cborc_files.specs.Folder.{Files}
 use Rattle.cborc_commands.specs.Input.{IsInput, IsNoInput}
 use Rattle.cborc_commands.specs.declared.request.Layout.{Layout}
 use Rattle.cborc_commands.specs.declared.request.Layout.TheVariants.{OneLine, Indented}

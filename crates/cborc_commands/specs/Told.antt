@@ -3,7 +3,7 @@ use Rattle.std.specs.Prelude.{ℕ, ◌≡◌, ◌⊎◌, List, Option, None}
 use Rattle.std.specs.Io.KnownBytes.{Keeps}
 use Rattle.cborc_commands.specs.Answer.{IsDone, IsNotDone}
 use Rattle.cborc_commands.specs.Fault.{fault_status, status_number}
-use Rattle.cborc_commands.specs.Folder.{Files, KeepsFiles}
+use Rattle.cborc_files.specs.Folder.{Files, KeepsFiles}
 use Rattle.cborc_commands.specs.declared.request.Manner.{Manner}
 use Rattle.cborc_commands.specs.declared.request.Manner.TheVariants.{Quiet}
 use Rattle.cborc_commands.specs.declared.request.Request.{Request}

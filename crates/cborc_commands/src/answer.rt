@@ -4,7 +4,7 @@ ghost use Rattle.std.specs.Prelude.{◌≡◌, ◌⊎◌, Ok, Err, OnErr, IfOk, 
 ghost use Rattle.std.specs.Io.KnownBytes.{Keeps};
 ghost use Rattle.cborc_commands.specs.Answer.{IsDone, IsNotDone};
 ghost use Rattle.cborc_commands.specs.Fault.{end_status, status_number};
-ghost use Rattle.cborc_commands.specs.Folder.{KeepsFiles};
+ghost use Rattle.cborc_files.specs.Folder.{KeepsFiles};
 ghost use Rattle.cborc_commands.specs.Told.{IsSilent, IsAnswered, IsAnsweredQuietly, IsToldBy};
 
 use crate::canon::canon;
@@ -16,12 +16,11 @@ use crate::events::events;
 use crate::events_sequence::events_sequence;
 use crate::explanation::explain;
 use crate::fault::Fault;
-use crate::folder::Folder;
-use crate::memory::{Kept, Memory};
 use crate::request::{Manner, Request, Task};
 use crate::show::show;
 use crate::show_sequence::show_sequence;
 use crate::status::Status;
+use cborc_files::{Folder, Kept, Memory};
 use std::alloc::Global;
 use std::io::{self, Write};
 

@@ -3,14 +3,14 @@
 ghost use Rattle.std.specs.Prelude.{◌≡◌, ◌≢◌, OnOk, OnErr, IfOk, IfErr};
 ghost use Rattle.cborc_commands.specs.Canon.{in_form, IsCanonicalText, IsPut, IsNotPut, IsCanonised, IsNotCanonised};
 ghost use Rattle.cborc_commands.specs.inner.Parts.{IsNoText};
-ghost use Rattle.cborc_commands.specs.Folder.{KeepsFiles};
+ghost use Rattle.cborc_files.specs.Folder.{KeepsFiles};
 
 use crate::fault::Fault;
-use crate::folder::{Folder, is_stream};
 use crate::input;
 use crate::request::{Form, Options, Output};
 use cbor_head::{KeyOrder, Limits};
 use cbor_reader::canonicalise;
+use cborc_files::{Folder, is_stream};
 use std::alloc::{AllocError, Global};
 use std::io::Write;
 

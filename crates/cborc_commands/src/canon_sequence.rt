@@ -5,17 +5,17 @@ ghost use Rattle.cbor_head.specs.Limits.{Bounds};
 ghost use Rattle.cborc_commands.specs.CanonSequence.{HasCanonicalBytes, canonical_text};
 ghost use Rattle.cborc_commands.specs.CanonSequence.{IsSequenceCanonised};
 ghost use Rattle.cborc_commands.specs.CanonSequence.{IsSequenceNotCanonised};
-ghost use Rattle.cborc_commands.specs.Folder.{KeepsFiles};
+ghost use Rattle.cborc_files.specs.Folder.{KeepsFiles};
 ghost use Rattle.cborc_commands.specs.inner.Items.{IsTextOfAll, IsNoTextOfAll, IsUnwritten};
 
 use crate::canon::{canonical_text, put};
 use crate::fault::Fault;
-use crate::folder::Folder;
 use crate::input;
 use crate::request::{Form, Options, Output};
 use crate::sequence::{ItemWriter, write_items};
 use cbor_head::{KeyOrder, Limits};
 use cbor_reader::check_valid;
+use cborc_files::Folder;
 use std::alloc::Global;
 use std::io::Write;
 

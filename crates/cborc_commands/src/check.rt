@@ -4,14 +4,14 @@ ghost use Rattle.std.specs.Prelude.{◌≡◌, ◌≢◌, OnOk, IfOk, IfErr};
 ghost use Rattle.std.specs.Io.KnownBytes.{Appends};
 ghost use Rattle.cbor_judging.specs.Readers.{IsRead, IsUnread};
 ghost use Rattle.cborc_commands.specs.Check.{rules_of, accepted_bytes, IsWhole, IsNotWhole, IsChecked, IsNotChecked};
-ghost use Rattle.cborc_commands.specs.Folder.{KeepsFiles};
+ghost use Rattle.cborc_files.specs.Folder.{KeepsFiles};
 
 use crate::fault::Fault;
-use crate::folder::Folder;
 use crate::input;
 use crate::request::{Accepted, Options};
 use cbor_head::{Limits, Reason, Refusal};
 use cbor_reader::{check_canonical, check_valid};
+use cborc_files::Folder;
 use std::alloc::Global;
 use std::io::Write;
 

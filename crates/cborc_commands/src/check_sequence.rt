@@ -6,16 +6,16 @@ ghost use Rattle.cbor_reader.specs.Sequence.{IsAccepted};
 ghost use Rattle.cborc_commands.specs.Check.{rules_of};
 ghost use Rattle.cborc_commands.specs.CheckSequence.{accepted_items};
 ghost use Rattle.cborc_commands.specs.CheckSequence.{IsSequenceChecked, IsSequenceNotChecked};
-ghost use Rattle.cborc_commands.specs.Folder.{KeepsFiles};
+ghost use Rattle.cborc_files.specs.Folder.{KeepsFiles};
 ghost use Rattle.cborc_commands.specs.inner.Items.{IsUncounted};
 
 use crate::check::size_at_front;
 use crate::fault::Fault;
-use crate::folder::Folder;
 use crate::input;
 use crate::request::{Accepted, Options};
 use crate::sequence::{ItemWriter, write_items};
 use cbor_head::Limits;
+use cborc_files::Folder;
 use std::alloc::Global;
 use std::io::{self, Write};
 

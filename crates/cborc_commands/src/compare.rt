@@ -2,15 +2,15 @@
 
 ghost use Rattle.std.specs.Prelude.{◌≡◌, ◌≢◌, IfOk, IfErr};
 ghost use Rattle.cborc_commands.specs.Compare.{IsTold, IsUntold, AreCompared, AreNotCompared};
-ghost use Rattle.cborc_commands.specs.Folder.{KeepsFiles};
+ghost use Rattle.cborc_files.specs.Folder.{KeepsFiles};
 
 use crate::fault::Fault;
-use crate::folder::Folder;
 use crate::input;
 use crate::request::Options;
 use crate::status::Status;
 use cbor_head::Limits;
 use cbor_reader::same_meaning;
+use cborc_files::Folder;
 use std::alloc::Global;
 use std::io::Write;
 

@@ -3,14 +3,14 @@
 ghost use Rattle.std.specs.Prelude.{◌≡◌, ◌≤◌, ◌<◌, ◌^◌, length, OnOk, IfOk, IfErr};
 ghost use Rattle.cbor_diag.specs.Listing.{IsListed};
 ghost use Rattle.cborc_commands.specs.Events.{IsFrontNotListed, IsNotListed, IsListedOf, IsNotListedOf};
-ghost use Rattle.cborc_commands.specs.Folder.{KeepsFiles};
+ghost use Rattle.cborc_files.specs.Folder.{KeepsFiles};
 
 use crate::fault::Fault;
-use crate::folder::Folder;
 use crate::input;
 use crate::request::Options;
 use cbor_diag::listing_from;
 use cbor_head::{Limits, Reason, Refusal};
+use cborc_files::Folder;
 use std::alloc::Global;
 use std::io::Write;
 

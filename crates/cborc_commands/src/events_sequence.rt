@@ -6,17 +6,17 @@ ghost use Rattle.cbor_head.specs.Complaint.{form};
 ghost use Rattle.cbor_reader.specs.Sequence.{IsAccepted};
 ghost use Rattle.cborc_commands.specs.EventsSequence.{gap, item_lines, IsSequenceListed};
 ghost use Rattle.cborc_commands.specs.EventsSequence.{IsSequenceNotListed};
-ghost use Rattle.cborc_commands.specs.Folder.{KeepsFiles};
+ghost use Rattle.cborc_files.specs.Folder.{KeepsFiles};
 ghost use Rattle.cborc_commands.specs.inner.Items.{IsItemNotListed};
 
 use crate::events::list_front;
 use crate::fault::Fault;
-use crate::folder::Folder;
 use crate::input;
 use crate::request::Options;
 use crate::sequence::{ItemWriter, write_items};
 use cbor_head::Limits;
 use cbor_item::write_whole;
+use cborc_files::Folder;
 use std::alloc::Global;
 use std::io::Write;
 

@@ -5,12 +5,10 @@ ghost use Rattle.cborc_commands.specs.inner.Explained.{cause_text, memory_text, 
 ghost use Rattle.cborc_commands.specs.inner.Explained.{reads_whole, right_of, source_of};
 
 use crate::fault::Fault;
-use crate::folder::{Cause, Folder, is_stream};
-use crate::memory::Memory;
 use crate::request::{Options, Request};
-use crate::visible::Visible;
 use cbor_explain::write_sentences;
 use cbor_head::Refusal;
+use cborc_files::{Cause, Folder, Memory, Visible, is_stream};
 use std::alloc::Global;
 use std::io::{self, ErrorKind, Write};
 

@@ -2,15 +2,13 @@
 
 ghost use Rattle.std.specs.Prelude.{◌≡◌, ◌≢◌, ◌⊎◌};
 ghost use Rattle.std.specs.IoError.{error_kind};
-ghost use Rattle.cborc_commands.specs.Digits.{IsOfText};
+ghost use Rattle.cborc_files.specs.Digits.{IsOfText};
 ghost use Rattle.cborc_commands.specs.Fault.{fault_status, refusal_fault, at_item, side_fault};
 
-use crate::folder::FileFault;
-use crate::hex_text::DigitsFault;
 use crate::status::Status;
-use crate::visible::Visible;
 use cbor_head::{Reason, Refusal};
 use cbor_reader::Side;
+use cborc_files::{DigitsFault, FileFault, Visible};
 use std::io::{self, ErrorKind};
 use thiserror::Error;
 

@@ -2,14 +2,14 @@
 
 ghost use Rattle.std.specs.Prelude.{◌≡◌, ◌≢◌, ℕ, List, OnOk, OnErr, false};
 ghost use Rattle.cborc_commands.specs.Canon.{HoldsCanonical};
-ghost use Rattle.cborc_commands.specs.Folder.{is_stream};
-ghost use Rattle.cborc_commands.specs.InMemory.{files_of};
+ghost use Rattle.cborc_files.specs.Folder.{is_stream};
+ghost use Rattle.cborc_files.specs.InMemory.{files_of};
 
 use crate::canon::canon;
 use crate::fault::Fault;
-use crate::files_in_memory::FilesInMemory;
 use crate::request::{Form, Options, Output};
 use cbor_head::{KeyOrder, Limits};
+use cborc_files::FilesInMemory;
 use std::alloc::Global;
 use std::io;
 

@@ -1,13 +1,13 @@
 //! The bytes of an input.
 
 ghost use Rattle.std.specs.Prelude.{◌≡◌, ◌+◌, IfOk, IfErr, true};
-ghost use Rattle.cborc_commands.specs.Folder.{KeepsFiles};
+ghost use Rattle.cborc_files.specs.Folder.{KeepsFiles};
 ghost use Rattle.cborc_commands.specs.Input.{IsInput, IsNoInput};
 ghost use Rattle.cborc_commands.specs.inner.Parts.{StartsInput};
 
 use crate::fault::Fault;
-use crate::folder::Folder;
 use crate::request::Options;
+use cborc_files::Folder;
 use std::alloc::Global;
 
 /// The first bytes of the input at this path: as many as decide whether it is one item within the

@@ -3,7 +3,7 @@
 //!
 //! [`perform`] answers a [`Task`] as the program does, in a manner that it names; each command has a
 //! module of its own. [`canon_in_memory`] is `canon` over
-//! [`FilesInMemory`], of which contracts tell all.
+//! [`FilesInMemory`](cborc_files::FilesInMemory), of which contracts tell all.
 #![tactic(auto)]
 
 mod answer;
@@ -16,25 +16,16 @@ pub mod events;
 pub mod events_sequence;
 mod explanation;
 mod fault;
-mod files_in_memory;
-mod folder;
-mod hex_text;
 mod in_memory;
 mod input;
-mod memory;
 mod request;
 mod sequence;
 pub mod show;
 pub mod show_sequence;
 mod status;
-mod visible;
 
 pub use answer::{end, flushed, perform};
 pub use fault::Fault;
-pub use files_in_memory::FilesInMemory;
-pub use folder::{Cause, FileFault, Folder, is_stream};
-pub use hex_text::{Digits, DigitsFault, Stray};
 pub use in_memory::canon_in_memory;
 pub use request::{Accepted, Form, Layout, Manner, Options, Output, Request, Task};
 pub use status::Status;
-pub use visible::Visible;

@@ -5,16 +5,16 @@ ghost use Rattle.cbor_head.specs.Complaint.{plain};
 ghost use Rattle.cborc_commands.specs.Check.{IsNotWhole};
 ghost use Rattle.cborc_commands.specs.Show.{IsShownOf, IsNotShown};
 ghost use Rattle.cborc_commands.specs.inner.Parts.{IsTreeOf, IsShown};
-ghost use Rattle.cborc_commands.specs.Folder.{KeepsFiles};
+ghost use Rattle.cborc_files.specs.Folder.{KeepsFiles};
 
 use crate::fault::Fault;
-use crate::folder::Folder;
 use crate::input;
 use crate::request::{Layout, Options};
 use cbor_diag::{diagnostic, diagnostic_indented};
 use cbor_head::{Limits, Reason, Refusal};
 use cbor_item::{Tree, write_whole};
 use cbor_reader::read_tree;
+use cborc_files::Folder;
 use std::alloc::Global;
 use std::io::Write;
 

@@ -5,17 +5,17 @@ ghost use Rattle.cbor_head.specs.Complaint.{plain};
 ghost use Rattle.cbor_reader.specs.Sequence.{IsAccepted};
 ghost use Rattle.cborc_commands.specs.ShowSequence.{item_text, IsSequenceShown};
 ghost use Rattle.cborc_commands.specs.ShowSequence.{IsSequenceNotShown};
-ghost use Rattle.cborc_commands.specs.Folder.{KeepsFiles};
+ghost use Rattle.cborc_files.specs.Folder.{KeepsFiles};
 ghost use Rattle.cborc_commands.specs.inner.Items.{IsItemNotShown};
 
 use crate::fault::Fault;
-use crate::folder::Folder;
 use crate::input;
 use crate::request::{Layout, Options};
 use crate::sequence::{ItemWriter, write_items};
 use crate::show::print;
 use cbor_head::Limits;
 use cbor_reader::read_tree;
+use cborc_files::Folder;
 use std::alloc::Global;
 use std::io::Write;
 

@@ -1,7 +1,7 @@
 //! The machine's files.
 
 use crate::disk::Disk;
-use cborc_commands::{DigitsFault, FileFault, Folder};
+use cborc_files::{DigitsFault, FileFault, Folder};
 use std::{env, fs, io, process};
 
 #[test]

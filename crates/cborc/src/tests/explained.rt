@@ -1,7 +1,7 @@
 //! `--explain`: what stands behind the line of a refusal or fault.
 
 use super::ran;
-use cborc_commands::Visible;
+use cborc_files::Visible;
 use std::alloc::AllocError;
 
 const FLOAT: &str = "\

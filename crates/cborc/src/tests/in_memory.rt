@@ -3,7 +3,8 @@
 use super::{is_line, words};
 use crate::run::run;
 use cbor_head::{KeyOrder, Limits};
-use cborc_commands::{FilesInMemory, canon_in_memory};
+use cborc_commands::canon_in_memory;
+use cborc_files::FilesInMemory;
 use std::alloc::{AllocError, Global};
 use std::test::Fail;
 

@@ -2,7 +2,7 @@
 
 use super::run_with;
 use crate::run::run;
-use cborc_commands::{FileFault, Folder};
+use cborc_files::{FileFault, Folder};
 use std::alloc::{AllocError, Global};
 
 // A folder whose every file begins with one byte and goes on with another for ever.

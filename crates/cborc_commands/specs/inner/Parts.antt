@@ -9,7 +9,7 @@ use Rattle.cbor_item.specs.declared.item.Item.{Item}
 use Rattle.cbor_reader.specs.Canonicalise.{IsRefusal}
 use Rattle.cbor_judging.specs.Readers.{IsReadAs}
 use Rattle.cborc_commands.specs.Fault.{IsOfInput}
-use Rattle.cborc_commands.specs.Folder.{Files}
+use Rattle.cborc_files.specs.Folder.{Files}
 use Rattle.cborc_commands.specs.Input.{IsInput}
 use Rattle.cborc_commands.specs.Show.{shown_text}
 use Rattle.cborc_commands.specs.declared.fault.Fault.{Fault}

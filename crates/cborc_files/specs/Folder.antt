@@ -1,0 +1,53 @@
+-- What the files of a folder hold.
+use Rattle.std.specs.Prelude.{ℕ, ◌≡◌, ◌≢◌, Bool, List, codes, take, Option, None, Some, MatchResult, Result, Ok, IsErr}
+use Rattle.std.specs.List.{filter}
+use Rattle.std.specs.Str.{bytes_eq}
+use Rattle.hex.specs.Hex.{decode_of}
+use Rattle.cborc_files.specs.Hex.{is_kept}
+
+-- whether a path stands for a standard stream
+abbrev pub is_stream : List ℕ → Bool
+is_stream path = bytes_eq path (codes "-")
+
+-- what each path holds, None where there is no file
+abbrev pub Files : Type 0
+Files = List ℕ → Option (List ℕ)
+
+-- the file at this path holds these bytes, where the folder tells what it holds
+abbrev pub Holds : Option Files → List ℕ → List ℕ → Type 0
+Holds None path bytes = Unit {0}
+Holds (Some files) path bytes = files path ≡ Some bytes
+
+-- the file at this path starts with these bytes: it holds no more than them, or they are so many
+pub record StartsFile (held : Option Files) (path : List ℕ) (most : ℕ) (bytes : List ℕ) : Type 0 where
+  pub whole : List ℕ
+  pub holds : Holds held path whole
+  pub front : bytes ≡ take most whole
+
+-- the file at this path is hex text, and these are the first bytes that its digits spell: all of them, or they are so many
+pub record SpellsFront (held : Option Files) (path : List ℕ) (most : ℕ) (bytes : List ℕ) : Type 0 where
+  pub text : List ℕ
+  pub holds : Holds held path text
+  pub whole : List ℕ
+  pub spelled : decode_of (filter is_kept text) ≡ Ok whole
+  pub front : bytes ≡ take most whole
+
+-- the text of the file at this path spells no bytes
+abbrev pub IsNoDigits : Option Files → List ℕ → Type 0
+IsNoDigits held path = (text : List ℕ) × Holds held path text × IsErr (decode_of (filter is_kept text))
+
+-- each path holds what it held
+abbrev pub KeepsFiles : Option Files → Option Files → Type 0
+KeepsFiles None new = Unit {0}
+KeepsFiles (Some old) None = ⊥
+KeepsFiles (Some old) (Some new) = (path : List ℕ) → new path ≡ old path
+
+-- this path holds these bytes, and each other path what it held
+abbrev pub ReplacesFile : Option Files → Option Files → List ℕ → List ℕ → Type 0
+ReplacesFile None new path bytes = Unit {0}
+ReplacesFile (Some old) None path bytes = ⊥
+ReplacesFile (Some old) (Some new) path bytes = (new path ≡ Some bytes) × ((other : List ℕ) → other ≢ path → new other ≡ old other)
+
+-- a file is replaced whole, or nothing is changed
+abbrev pub WritesFile : {E : Type 0} → Option Files → Option Files → Result (Unit {0}) E → List ℕ → List ℕ → Type 0
+WritesFile old new answer path bytes = MatchResult answer (λ done. ReplacesFile old new path bytes) (λ fault. KeepsFiles old new)

@@ -1,0 +1,4 @@
+pub mod Digits
+pub mod Folder
+pub mod Hex
+pub mod InMemory

@@ -1,0 +1,68 @@
+//! Files in memory: a folder of which contracts tell all.
+
+ghost use Rattle.std.specs.Prelude.{◌≡◌, ℕ, List, None, Some, option_map, OnOk, OnErr};
+ghost use Rattle.cborc_files.specs.Folder.{KeepsFiles, ReplacesFile};
+ghost use Rattle.cborc_files.specs.InMemory.{files_of};
+
+use crate::folder::{FileFault, Folder};
+use std::alloc::{AllocError, Global};
+use std::collections::BTreeMap;
+
+/// Files in memory. Standard input is the file `-`.
+#[derive(Drop)]
+pub struct FilesInMemory {
+    alloc: Global,
+    by_path: BTreeMap<String, Vec<u8>>,
+}
+
+impl FilesInMemory {
+    /// A folder with no file.
+    pub fn new(alloc: Global) -> FilesInMemory
+        ensures { (path : List ℕ) → files_of result path ≡ None }
+    {
+        FilesInMemory {
+            alloc,
+            by_path: BTreeMap::new(alloc),
+        }
+    }
+
+    /// What the file at this path holds.
+    pub fn get(&self, path: &str) -> Option<&[u8]>
+        ensures { option_map (λ bytes. bytes.now) result ≡ files_of self.now path.now }
+    {
+        let bytes = self.by_path.get(path)?;
+        Some(bytes.as_slice())
+    }
+
+    /// Puts a file at this path, in place of what it held.
+    pub fn put(&mut self, path: &str, bytes: &[u8]) -> Result<(), AllocError>
+        ensures put { OnOk result (ReplacesFile (Some (files_of self.old)) (Some (files_of self.new)) path.now bytes.now) }
+        ensures untouched { OnErr result (KeepsFiles (Some (files_of self.old)) (Some (files_of self.new))) }
+    {
+        let path = String::from_str(self.alloc, path)?;
+        let bytes = Vec::from_slice(self.alloc, bytes)?;
+        self.by_path.insert(path, bytes)?;
+        Ok(())
+    }
+}
+
+impl Folder for FilesInMemory {
+    ghost held = { λ files. Some (files_of files) };
+
+    fn read(&mut self, alloc: Global, path: &str) -> Result<Vec<u8>, FileFault> {
+        match self.get(path) {
+            Some(bytes) => match Vec::from_slice(alloc, bytes) {
+                Ok(bytes) => Ok(bytes),
+                Err(_) => Err(FileFault::Memory),
+            },
+            None => Err(FileFault::Failed),
+        }
+    }
+
+    fn write(&mut self, path: &str, bytes: &[u8]) -> Result<(), FileFault> {
+        match self.put(path, bytes) {
+            Ok(()) => Ok(()),
+            Err(_) => Err(FileFault::Memory),
+        }
+    }
+}

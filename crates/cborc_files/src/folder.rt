@@ -1,0 +1,93 @@
+//! Where files come from and go to.
+
+ghost use Rattle.std.specs.Prelude.{◌≡◌, Option, None, IfOk, IfErr};
+ghost use Rattle.std.specs.Borrow.{GName};
+ghost use Rattle.cborc_files.specs.Digits.{IsOfText};
+ghost use Rattle.cborc_files.specs.Folder.{Files, is_stream, Holds, StartsFile, KeepsFiles, WritesFile};
+ghost use Rattle.cborc_files.specs.Folder.{IsNoDigits, SpellsFront};
+
+use crate::hex_text::{Digits, DigitsFault};
+use std::alloc::Global;
+use std::io::ErrorKind;
+
+/// Why a file was not read or not written.
+#[derive(Clone, Copy, Debug, PartialEq, Eq)]
+pub enum FileFault {
+    /// The file is not to be had, or the folder failed.
+    Failed,
+    /// Memory was refused.
+    Memory,
+}
+
+/// What a call met that failed.
+#[derive(Clone, Copy, Debug, PartialEq, Eq)]
+pub struct Cause {
+    /// The kind of its error.
+    pub kind: ErrorKind,
+    /// Whether it is that of a new file beside the one to be written, which was to take its place.
+    pub beside: bool,
+}
+
+/// Files by their paths. The path `-` is standard input where it is read, and is not written.
+pub trait Folder {
+    // What each path holds, where the folder tells.
+    ghost held: { Self → Option Files } = { λ _. None };
+
+    // The reference to the folder behind this one, where it passes all on to another.
+    ghost behind: { Self → Option GName } = { λ _. None };
+
+    /// Reads a file whole.
+    fn read(&mut self, alloc: Global, path: &str) -> Result<Vec<u8>, FileFault>
+        ensures gives { IfOk result (λ v. Holds (held self.old) path.now v.items) }
+        ensures keeps { KeepsFiles (held self.old) (held self.new) }
+        ensures same { behind self.new ≡ behind self.old };
+
+    /// Writes a file whole, in place of what it held, or leaves all files as they were.
+    fn write(&mut self, path: &str, bytes: &[u8]) -> Result<(), FileFault>
+        ensures writes { WritesFile (held self.old) (held self.new) result path.now bytes.now }
+        ensures same { behind self.new ≡ behind self.old };
+
+    /// Reads a file's first bytes, so many if it has them. A folder that can read less than a whole
+    /// file does so.
+    fn read_front(&mut self, alloc: Global, path: &str, most: u64) -> Result<Vec<u8>, FileFault>
+        ensures gives { IfOk result (λ v. StartsFile (held self.old) path.now most v.items) }
+        ensures keeps { KeepsFiles (held self.old) (held self.new) }
+        ensures same { behind self.new ≡ behind self.old }
+    {
+        let mut bytes = self.read(alloc, path)?;
+        bytes.truncate(most as usize);
+        Ok(bytes)
+    }
+
+    /// Reads hex text whole, and answers the first bytes that its digits spell, so many if there are.
+    /// A folder that can read a part of a file at a time goes no further than the first byte that is
+    /// neither a digit nor white space, and keeps no more than the answer.
+    fn read_digits(&mut self, alloc: Global, path: &str, most: u64) -> Result<Vec<u8>, DigitsFault>
+        ensures gives { IfOk result (λ v. SpellsFront (held self.old) path.now most v.items) }
+        ensures not_hex { IfErr result (λ fault. IsOfText fault
+            → IsNoDigits (held self.old) path.now) }
+        ensures keeps { KeepsFiles (held self.old) (held self.new) }
+        ensures same { behind self.new ≡ behind self.old }
+    {
+        let text = match self.read(alloc, path) {
+            Ok(text) => text,
+            Err(fault) => return Err(DigitsFault::File(fault)),
+        };
+        let mut digits = Digits::new(alloc, most);
+        digits.push_all(text.as_slice())?;
+        digits.finish()
+    }
+
+    /// What the last call met that failed, if the folder tells.
+    fn cause(&self) -> Option<Cause> {
+        None
+    }
+}
+
+/// Whether a path stands for a standard stream: `-` is standard input where it is read, and standard
+/// output where it is written.
+pub fn is_stream(path: &str) -> bool
+    ensures { result ≡ is_stream path.now }
+{
+    path == "-"
+}
