@@ -166,23 +166,24 @@ fn lists_items(rt: HostRuntime) -> Result<(), Fail> {
     Ok(())
 }
 
-// [1, 100] behind five bytes, and 0 behind as many as a number counts.
+// [1, 100] behind five bytes, and 0 behind 2^32 - 1.
 #[test]
 fn counts_offsets_from_the_start_of_the_input(rt: HostRuntime) -> Result<(), Fail> {
     for (start, most, hex, lines) in [
         (
-            5,
+            5u32,
             4,
             "82011864",
             "5 array 2 0\n6 unsigned 1 0\n7 unsigned 100 1\n",
         ),
-        (u64::MAX - 1, 1, "00", "18446744073709551614 unsigned 0 0\n"),
+        (u32::MAX, 1, "00", "4294967295 unsigned 0 0\n"),
     ] {
         let bytes = bytes_of(&rt, rt.alloc(), hex)?;
         let mut source = bytes.as_slice();
         let mut shown = Vec::new(rt.alloc());
         let size = bytes.len() as u64;
-        let answer = listing_from(&mut source, start, limits(&rt, 256, most), &mut shown);
+        let limits = limits(&rt, 256, most);
+        let answer = listing_from(&mut source, u64::from(start), limits, &mut shown);
         assert_eq!(rt; answer, Ok(size), "{hex}");
         assert_eq!(rt; shown.as_slice(), lines.as_bytes(), "{hex}");
     }
