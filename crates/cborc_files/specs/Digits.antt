@@ -5,6 +5,7 @@ use Rattle.hex.specs.Hex.{decode_pairs, hex_digit_value}
 use Rattle.cborc_files.specs.Hex.{is_kept}
 use Rattle.cborc_files.specs.declared.hex_text.DigitsFault.{DigitsFault}
 use Rattle.cborc_files.specs.declared.hex_text.DigitsFault.TheVariants as faults
+use Rattle.cborc_files.specs.declared.folder.FileFault.TheVariants as files
 
 -- what contracts see of the bytes that digits spell: how many are kept at most, those that are, and the value of a digit that waits
 pub record DigitsView : Type 0 where
@@ -29,3 +30,8 @@ pub record Spells (text : List ℕ) (d : DigitsView) : Type 0 where
 abbrev pub IsOfText : DigitsFault → Type 0
 IsOfText (faults.NotHex stray) = Unit {0}
 IsOfText _ = ⊥
+
+-- the fault is of the text, or memory was refused: no file failed
+abbrev pub IsOfDigits : DigitsFault → Type 0
+IsOfDigits (faults.File fault) = fault ≡ files.Memory
+IsOfDigits (faults.NotHex stray) = Unit {0}

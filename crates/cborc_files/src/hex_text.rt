@@ -4,7 +4,7 @@ ghost use Rattle.std.specs.Prelude.{◌≡◌, ◌++◌, ◌∷◌, ℕ, List, [
 ghost use Rattle.std.specs.List.{filter};
 ghost use Rattle.hex.specs.Hex.{decode_of, hex_digit_value};
 ghost use Rattle.cborc_files.specs.Hex.{is_kept, is_white};
-ghost use Rattle.cborc_files.specs.Digits.{DigitsView, IsOfText, Spells};
+ghost use Rattle.cborc_files.specs.Digits.{DigitsView, IsOfText, Spells, IsOfDigits};
 
 use crate::folder::FileFault;
 use std::alloc::Global;
@@ -89,6 +89,7 @@ impl Digits {
         ensures not_hex { IfErr result (λ fault. IsOfText fault
             → (text more : List ℕ) → Spells text self.old
             → IsErr (decode_of (filter is_kept (text ++ byte ∷ more)))) }
+        ensures fault { IfErr result IsOfDigits }
         ensures most { self.new.most ≡ self.old.most }
     {
         self.take(byte)?;
@@ -103,6 +104,7 @@ impl Digits {
         ensures not_hex { IfErr result (λ fault. IsOfText fault
             → (text more : List ℕ) → Spells text self.old
             → IsErr (decode_of (filter is_kept (text ++ byte ∷ more)))) }
+        ensures fault { IfErr result IsOfDigits }
         ensures most { self.new.most ≡ self.old.most }
     {
         if is_white(byte) {
@@ -134,6 +136,7 @@ impl Digits {
         ensures not_hex { IfErr result (λ fault. IsOfText fault
             → (text more : List ℕ) → Spells text self.old
             → IsErr (decode_of (filter is_kept (text ++ (bytes.now ++ more))))) }
+        ensures fault { IfErr result IsOfDigits }
         ensures most { self.new.most ≡ self.old.most }
     {
         'bytes: for byte in bytes {
