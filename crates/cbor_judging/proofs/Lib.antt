@@ -8,6 +8,7 @@ pub mod Decisions
 pub mod Frames
 pub mod FreeBefore
 pub mod Fronts
+pub mod Given
 pub mod Heads
 pub mod Items
 pub mod Judged
@@ -32,5 +33,6 @@ pub mod Standing
 pub mod Steps
 pub mod Tops
 pub mod Undecided
+pub mod Valid
 pub mod WholeStrings
 pub mod Within

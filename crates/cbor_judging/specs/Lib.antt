@@ -1,4 +1,5 @@
 pub mod Frame
+pub mod Given
 pub mod Judged
 pub mod LastKey
 pub mod Levels

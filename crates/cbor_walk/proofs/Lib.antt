@@ -1,8 +1,10 @@
 pub mod AnyItem
 pub mod AnyRefusals
 pub mod CellSteps
+pub mod Chunked
 pub mod CutHeads
 pub mod FirstBytes
+pub mod GivenParts
 pub mod HeadComplaints
 pub mod KeyOrder
 pub mod PathForm

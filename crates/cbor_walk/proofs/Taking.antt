@@ -19,7 +19,8 @@ use Rattle.cbor_judging.proofs.Heads.{open_or}
 use Rattle.cbor_judging.specs.Judged.{Never}
 use Rattle.cbor_walk.specs.inner.Path as path
 use Rattle.cbor_walk.specs.inner.Path.{a_member, a_key, tagged, level_bytes, bytes_before, AreClean}
-use Rattle.cbor_walk.specs.inner.Cells.{a_level, AreCells, StandsAt, HasEndedAt, standing}
+use Rattle.cbor_walk.specs.inner.Cells.{a_level, AreCells, StandsAt, HasEndedAt}
+use Rattle.cbor_walk.specs.inner.Stack.{standing}
 use Rattle.cbor_walk.specs.inner.Items.{IsOpener, OpensWith}
 use Rattle.cbor_walk.specs.declared.level.Due.{Due}
 use Rattle.cbor_walk.specs.declared.level.Due.TheVariants.{Item, Key, Value}
@@ -35,8 +36,8 @@ cells_count input [] (c ∷ e ∷ cs) a = absurd a
 cells_count input (l ∷ ls) [] a = absurd a
 cells_count input (l ∷ ls) (c ∷ cs) a = ap suc (cells_count input ls cs a.1)
 
-pub standing_count : (s : Stack) (cells : List Level) → s.height ≤ length cells → length (standing s cells) ≡ suc s.height
-standing_count s cells l = ap suc (length-reverse (take s.height cells) ∙ length-take-le s.height cells l)
+pub standing_count : (L : Type 0) (s : Stack L) (cells : List L) → s.height ≤ length cells → length (standing L s cells) ≡ suc s.height
+standing_count L s cells l = ap suc (length-reverse (take s.height cells) ∙ length-take-le s.height cells l)
 
 -- ---- heads in their shortest form
 
@@ -139,8 +140,8 @@ module _ (o : KeyOrder) (d : ℕ) (input : List ℕ) (cs : List Level) (at : ℕ
     opener_opens Value left h = absurd h
 
 -- as many as the stack's height
-pub height_is : (o : KeyOrder) (d : ℕ) (input : List ℕ) (k : Stack) (cells : List Level) (at : ℕ) (s : StandsAt o d input (standing k cells) at) → k.height ≤ length cells → length s.ls ≡ k.height
-height_is o d input k cells at s l = omega (arith, cells_count input s.ls (standing k cells) s.are, standing_count k cells l)
+pub height_is : (o : KeyOrder) (d : ℕ) (input : List ℕ) (k : Stack Level) (cells : List Level) (at : ℕ) (s : StandsAt o d input (standing Level k cells) at) → k.height ≤ length cells → length s.ls ≡ k.height
+height_is o d input k cells at s l = omega (arith, cells_count input s.ls (standing Level k cells) s.are, standing_count Level k cells l)
 
 direct : (n : ℕ) → n < 24 → shortest n ≡ Direct
 direct n h = grind (arith, nat_tests)
@@ -177,7 +178,7 @@ pub short_tag : (low : ℕ) (behind : List ℕ) → low < 24 → OpensWith Item 
 short_tag low behind small = short_opens (192 + low) behind Item 0 (inr (refl, (low, omega (arith, small), ap (λ (w : Width). head Tag w low ++ behind) (sym (direct low small)))))
 
 -- the same levels in other cells
-pub in_more_cells : (o : KeyOrder) (d : ℕ) (input : List ℕ) (k : Stack) (few more : List Level) (at : ℕ) → StandsAt o d input (standing k few) at → k.height ≡ length few → take (length few) more ≡ few → StandsAt o d input (standing k more) at
+pub in_more_cells : (o : KeyOrder) (d : ℕ) (input : List ℕ) (k : Stack Level) (few more : List Level) (at : ℕ) → StandsAt o d input (standing Level k few) at → k.height ≡ length few → take (length few) more ≡ few → StandsAt o d input (standing Level k more) at
 in_more_cells o d input k few more at s h e =
     let same : take k.height few ≡ take k.height more = ap (λ (n : ℕ). take n few) h ∙ take-length few ∙ sym e ∙ ap (λ (n : ℕ). take n more) (sym h) in
     subst (λ (x : List Level). StandsAt o d input (k.top ∷ reverse x) at) same s

@@ -1,7 +1,9 @@
--- What private functions speak of; the public contract does not.
+-- What private functions speak of; the public contracts do not.
+pub mod Building
 pub mod Cells
 pub mod Items
 pub mod Leaves
 pub mod Path
+pub mod Stack
 pub mod Stop
 pub mod Walked

@@ -1,6 +1,6 @@
 //! The canonical item at the front of a slice.
 
-ghost use Rattle.std.specs.Prelude.{◌≡◌, ◌≤◌, IfOk, IfErr, MatchResult, length, take};
+ghost use Rattle.std.specs.Prelude.{◌≤◌, IfOk, IfErr, MatchResult, length};
 ghost use Rattle.cbor_head.specs.Complaint.{strict};
 ghost use Rattle.cbor_head.specs.Verdict.{IsVerdict, refused};
 ghost use Rattle.cbor_judging.specs.Readers.{IsRead};
@@ -9,14 +9,10 @@ ghost use Rattle.cbor_walk.specs.inner.Stop.{IsStopped, IsAnswered};
 ghost use Rattle.cbor_walk.specs.inner.Walked.{IsFull};
 
 use crate::level::{Due, Level};
-use crate::stack::Stack;
+use crate::stack::{FEW, Stack, spread};
 use crate::walk::{Walked, walk};
-use cbor_head::{KeyOrder, Limits, MAX_DEPTH, Reason, Refusal};
-
-// Most items are no deeper than this.
-const FEW: usize = 16;
-
-const MOST: usize = MAX_DEPTH as usize;
+use crate::within::within;
+use cbor_head::{KeyOrder, Limits, Reason, Refusal};
 
 /// How many bytes the item has that the slice begins with, where they are its canonical bytes in
 /// this order (RFC 8949, sections 4.2.1 and 4.2.3); else the refusal that the bytes within the
@@ -32,17 +28,6 @@ pub fn canonical_front(bytes: &[u8], limits: Limits, order: KeyOrder) -> Result<
     match whole_front(input, usize::from(limits.depth()), order) {
         Ok(count) => Ok(count as u64),
         Err(refusal) => Err(at_the_limit(refusal, input, limits.bytes())),
-    }
-}
-
-// The bytes within a limit.
-fn within(bytes: &[u8], limit: u64) -> &[u8]
-    ensures { result.now ≡ take limit bytes.now }
-{
-    if limit < bytes.len() as u64 {
-        &bytes[..limit as usize]
-    } else {
-        bytes
     }
 }
 
@@ -64,8 +49,9 @@ fn whole_front(input: &[u8], depth: usize, order: KeyOrder) -> Result<usize, Ref
     ensures whole { IfOk result (IsWhole order depth input.now) }
     ensures refused { IfErr result (IsStopped (strict order) depth input.now) }
 {
-    let mut cells = [Level::new(Due::Item, 0, 0); FEW];
-    let mut stack = Stack::new();
+    let level = Level::new(Due::Item, 0, 0);
+    let mut cells = [level; FEW];
+    let mut stack = Stack::new(level);
     match walk(input, 0, &mut cells, &mut stack, depth, order) {
         Walked::Whole(at) => Ok(at),
         Walked::Refused(refusal) => Err(refusal),
@@ -79,7 +65,7 @@ fn deeper(
     input: &[u8],
     at: usize,
     few: &[Level],
-    stack: Stack,
+    stack: Stack<Level>,
     depth: usize,
     order: KeyOrder,
 ) -> Result<usize, Refusal>
@@ -89,21 +75,11 @@ fn deeper(
     ensures whole { IfOk result (IsWhole order depth input.now) }
     ensures refused { IfErr result (IsStopped (strict order) depth input.now) }
 {
-    let mut cells = spread(few);
+    let mut cells = spread(few, Level::new(Due::Item, 0, 0));
     let mut stack = stack;
     match walk(input, at, &mut cells, &mut stack, depth, order) {
         Walked::Whole(at) => Ok(at),
         Walked::Refused(refusal) => Err(refusal),
         Walked::Full(_) => unreachable!(),
     }
-}
-
-// All cells, of which these are the first.
-fn spread(few: &[Level]) -> [Level; MOST]
-    requires { length few.now ≤ 256 }
-    ensures { take (length few.now) result ≡ few.now }
-{
-    let mut cells = [Level::new(Due::Item, 0, 0); MOST];
-    cells[..few.len()].copy_from_slice(few);
-    cells
 }

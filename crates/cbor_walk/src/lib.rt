@@ -8,11 +8,19 @@
 
 mod any_item;
 mod argument;
+mod building;
 mod canonical;
+mod content;
+mod endless;
 mod fast;
+mod front;
 mod level;
+mod open;
+mod part;
 mod stack;
 mod take;
 mod walk;
+mod within;
 
 pub use canonical::canonical_front;
+pub use front::{BuiltFront, build_front};

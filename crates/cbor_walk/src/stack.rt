@@ -1,13 +1,14 @@
 //! The open containers of an item, in cells that are lent.
 
-ghost use Rattle.std.specs.Prelude.{◌≡◌, ◌≤◌, ◌<◌, ◌-◌, ◌∷◌, ℕ, suc, List, IsTrue, true, length, slice_range};
+ghost use Rattle.std.specs.Prelude.{◌≡◌, ◌≤◌, ◌<◌, ◌-◌, ◌∷◌, ℕ, suc, List, IsTrue, true, length, slice_range, take};
 ghost use Rattle.cbor_keys.specs.Front.{front_of};
 ghost use Rattle.cbor_head.specs.Order.{key_lt};
 ghost use Rattle.cbor_walk.specs.inner.Cells.{a_level, key_at, last_key, IsFronted, TakesKey, Advances};
-ghost use Rattle.cbor_walk.specs.inner.Cells.{Leads, standing, around};
+ghost use Rattle.cbor_walk.specs.inner.Cells.{Leads};
+ghost use Rattle.cbor_walk.specs.inner.Stack.{around, standing};
 
 use crate::level::{Due, Level, Next, Step};
-use cbor_head::KeyOrder;
+use cbor_head::{KeyOrder, MAX_DEPTH};
 use cbor_keys::{compare_keys, key_front};
 use std::cmp::Ordering;
 
@@ -112,37 +113,51 @@ fn part(bytes: &[u8], start: usize, end: usize) -> &[u8]
 }
 
 /// How many containers are open, and the innermost; those around it lie in the first so many of the
-/// cells that each call is lent. The first level is the input itself, with one item due.
+/// cells that each call is lent. The first is the input itself, with one item due.
 #[derive(Clone, Copy)]
-pub(crate) struct Stack {
+pub(crate) struct Stack<L> {
     pub(crate) height: usize,
-    pub(crate) top: Level,
+    pub(crate) top: L,
 }
 
-impl Stack {
+impl<L: Copy> Stack<L> {
     /// The input alone.
-    pub(crate) fn new() -> Stack
+    pub(crate) fn new(input: L) -> Stack<L>
         ensures height { result.height ≡ 0 }
-        ensures top { result.top ≡ a_level Due.Item 0 0 }
+        ensures top { result.top ≡ input }
     {
         Stack {
             height: 0,
-            top: Level::new(Due::Item, 0, 0),
+            top: input,
         }
     }
 
     /// One more container opens.
     #[inline(always)]
-    pub(crate) fn push(&mut self, cells: &mut [Level], level: Level)
+    pub(crate) fn push(&mut self, cells: &mut [L], level: L)
         requires { self.old.height < length cells.old }
         ensures height { self.new.height ≡ suc self.old.height }
-        ensures levels { standing self.new cells.new ≡ level ∷ standing self.old cells.old }
+        ensures levels { standing L self.new cells.new ≡ level ∷ standing L self.old cells.old }
     {
         cells[self.height] = self.top;
         self.height += 1;
         self.top = level;
     }
 
+    /// The innermost container closes.
+    #[inline(always)]
+    pub(crate) fn pop(&mut self, cells: &[L])
+        requires open { 0 < self.old.height }
+        requires cells { self.old.height ≤ length cells.now }
+        ensures height { self.old.height ≡ suc self.new.height }
+        ensures levels { standing L self.new cells.now ≡ around L self.old cells.now }
+    {
+        self.height -= 1;
+        self.top = cells[self.height];
+    }
+}
+
+impl Stack<Level> {
     /// An item is whole, which ends there: with it the containers whose last member it was.
     #[inline(always)]
     pub(crate) fn complete(
@@ -155,7 +170,7 @@ impl Stack {
         requires end { at ≤ length input.now }
         requires cells { self.old.height ≤ length cells.now }
         ensures fewer { self.new.height ≤ self.old.height }
-        ensures leads { Leads result order input.now at (standing self.old cells.now) self.new cells.now }
+        ensures leads { Leads result order input.now at (standing Level self.old cells.now) self.new cells.now }
     {
         match self.top.advance(input, order, at) {
             Step::Next => Next::Item,
@@ -170,11 +185,10 @@ impl Stack {
         requires end { at ≤ length input.now }
         requires cells { self.old.height ≤ length cells.now }
         ensures fewer { self.new.height ≤ self.old.height }
-        ensures leads { Leads result order input.now at (around self.old cells.now) self.new cells.now }
+        ensures leads { Leads result order input.now at (around Level self.old cells.now) self.new cells.now }
     {
         'levels: while self.height > 0 {
-            self.height -= 1;
-            self.top = cells[self.height];
+            self.pop(cells);
             match self.top.advance(input, order, at) {
                 Step::Next => return Next::Item,
                 Step::Full => {}
@@ -183,4 +197,19 @@ impl Stack {
         }
         Next::Done
     }
+}
+
+/// Most items are no deeper than this.
+pub(crate) const FEW: usize = 16;
+
+const MOST: usize = MAX_DEPTH as usize;
+
+/// All cells, of which these are the first.
+pub(crate) fn spread<L: Copy>(few: &[L], blank: L) -> [L; MOST]
+    requires { length few.now ≤ 256 }
+    ensures { take (length few.now) result ≡ few.now }
+{
+    let mut cells = [blank; MOST];
+    cells[..few.len()].copy_from_slice(few);
+    cells
 }

@@ -1,10 +1,11 @@
 //! The walk.
 
 ghost use Rattle.std.specs.Prelude.{◌≡◌, ◌≤◌, ◌<◌, ◌+◌, ◌^◌, length};
-ghost use Rattle.cbor_walk.specs.inner.Cells.{standing, StandsAt};
+ghost use Rattle.cbor_walk.specs.inner.Cells.{StandsAt};
 ghost use Rattle.cbor_head.specs.Verdict.{refusal};
 ghost use Rattle.cbor_head.specs.declared.reason.Reason.TheVariants as reasons;
 ghost use Rattle.cbor_walk.specs.declared.walk.Walked.TheVariants as walked;
+ghost use Rattle.cbor_walk.specs.inner.Stack.{standing};
 ghost use Rattle.cbor_walk.specs.inner.Walked.{IsWalked};
 
 use crate::level::{Level, Next};
@@ -28,14 +29,14 @@ pub(crate) fn walk(
     input: &[u8],
     start: usize,
     cells: &mut [Level],
-    stack: &mut Stack,
+    stack: &mut Stack<Level>,
     depth: usize,
     order: KeyOrder,
 ) -> Walked
     requires start { start ≤ length input.now }
     requires cells { stack.old.height ≤ length cells.old }
     requires depth { stack.old.height ≤ depth }
-    ensures { StandsAt order depth input.now (standing stack.old cells.old) start
+    ensures { StandsAt order depth input.now (standing Level stack.old cells.old) start
         → IsWalked order depth input.now stack.new cells.new result }
 {
     let mut at = start;

@@ -1,5 +1,5 @@
 -- What the walk holds of the open containers, and what an item that is whole makes of it.
-use Rattle.std.specs.Prelude.{◌≡◌, ◌≢◌, ℕ, ◌+◌, ◌≤◌, Bool, true, false, List, [], ◌∷◌, ◌++◌, length, take, slice_range, reverse}
+use Rattle.std.specs.Prelude.{◌≡◌, ◌≢◌, ℕ, ◌+◌, ◌≤◌, Bool, true, false, List, [], ◌∷◌, ◌++◌, length, slice_range}
 use Rattle.cbor_head.specs.Complaint.{strict}
 use Rattle.cbor_head.specs.Order.{key_lt}
 use Rattle.cbor_head.specs.Spelling.{Spelling, spell}
@@ -20,6 +20,7 @@ use Rattle.cbor_walk.specs.declared.level.Step.TheVariants as steps
 use Rattle.cbor_walk.specs.declared.level.Next.{Next}
 use Rattle.cbor_walk.specs.declared.level.Next.TheVariants as nexts
 use Rattle.cbor_walk.specs.declared.stack.Stack.{Stack}
+use Rattle.cbor_walk.specs.inner.Stack.{standing}
 
 -- ---- a level
 
@@ -120,15 +121,8 @@ Advances steps.Next o input at old new = (d : ℕ) (cs : List Level) → HasEnde
 Advances steps.Full o input at old new = (d : ℕ) (cs : List Level) → HasEndedAt o d input (old ∷ cs) at → HasClosed o d input cs at
 Advances steps.Falls o input at old new = (d : ℕ) (cs : List Level) → HasEndedAt o d input (old ∷ cs) at → Falls o d input new.key at
 
--- the containers around the innermost one; the last of them is the input itself
-abbrev pub around : Stack → List Level → List Level
-around s cells = reverse (take s.height cells)
-
-abbrev pub standing : Stack → List Level → List Level
-standing s cells = s.top ∷ around s cells
-
 -- from what has ended, that is what is due
-abbrev pub Leads : Next → KeyOrder → List ℕ → ℕ → List Level → Stack → List Level → Type 0
-Leads nexts.Item o input at old new cells = (d : ℕ) → HasClosed o d input old at → StandsAt o d input (standing new cells) at
+abbrev pub Leads : Next → KeyOrder → List ℕ → ℕ → List Level → Stack Level → List Level → Type 0
+Leads nexts.Item o input at old new cells = (d : ℕ) → HasClosed o d input old at → StandsAt o d input (standing Level new cells) at
 Leads nexts.Done o input at old new cells = (d : ℕ) → HasClosed o d input old at → IsWhole o d input at
 Leads nexts.Falls o input at old new cells = (d : ℕ) → HasClosed o d input old at → Falls o d input new.top.key at

@@ -4,7 +4,8 @@ use Rattle.cbor_head.specs.Complaint.{strict}
 use Rattle.cbor_head.specs.Value.{AreBytes}
 use Rattle.cbor_walk.specs.inner.Leaves.{IsLeaf}
 use Rattle.cbor_walk.specs.inner.Path.{bytes_before}
-use Rattle.cbor_walk.specs.inner.Cells.{standing, StandsAt}
+use Rattle.cbor_walk.specs.inner.Cells.{StandsAt}
+use Rattle.cbor_walk.specs.inner.Stack.{standing}
 use Rattle.cbor_walk.specs.inner.Items.{IsOpener}
 use Rattle.cbor_walk.specs.inner.Stop.{IsStopped}
 use Rattle.cbor_walk.specs.declared.level.Level.{Level}
@@ -20,7 +21,7 @@ returns-in-Leaf-clause-takes c =
     let leaf : IsLeaf room c.args.rest.now used = c.in-Leaf.ensures.1 in (
       (c.in-Leaf.ensures.0, leaf.inside),
       λ o input e are s.
-          leaf_ends o c.args.depth input (standing k cells) c.args.at s room used (subst (λ (x : List ℕ). IsLeaf room x used) e leaf)
+          leaf_ends o c.args.depth input (standing Level k cells) c.args.at s room used (subst (λ (x : List ℕ). IsLeaf room x used) e leaf)
           (λ r. omega (arith, ltb-true _ _ r, height_is o c.args.depth input k cells c.args.at s c.requires.cells)),
     )
 
@@ -32,7 +33,7 @@ returns-else-stack-cells-clause-takes c =
     let h = c.in-Opens.ensures in (
       (h.opens.some, h.opens.inside),
       λ o input e are s.
-          let cs = standing k cells in
+          let cs = standing Level k cells in
           let room : length s.ls < d = omega (arith, ltb-true _ _ h.fits, height_is o d input k cells c.args.at s c.requires.cells) in
           let inside : c.in-Opens.used ≤ length (drop c.args.at input) = subst (λ (x : List ℕ). c.in-Opens.used ≤ length x) e h.opens.inside in
           let opener = subst (λ (x : List ℕ). IsOpener c.in-Opens.due c.in-Opens.left x (drop c.in-Opens.used x)) e h.opens.opener in
@@ -45,7 +46,7 @@ returns-in-Refused-clause-takes c = λ o input e are s.
     let k = c.args.stack.now in
     let cells = c.args.cells.now in
     let d = c.args.depth in
-    let cs = standing k cells in
+    let cs = standing Level k cells in
     let whole : input ≡ bytes_before s.ls ++ c.args.rest.now = whole_is o d input cs c.args.at s ∙ ap (λ (x : List ℕ). bytes_before s.ls ++ x) (sym e) in
     let height = height_is o d input k cells c.args.at s c.requires.cells in
     subst (λ (x : List ℕ). IsStopped (strict o) d x c.in-Refused.refusal) (sym whole)

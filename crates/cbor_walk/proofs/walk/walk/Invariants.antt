@@ -1,5 +1,7 @@
 use Rattle.std.proofs.Common.{◌-◌, ◌≤◌, length}
-use Rattle.cbor_walk.specs.inner.Cells.{standing, StandsAt}
+use Rattle.cbor_walk.specs.inner.Cells.{StandsAt}
+use Rattle.cbor_walk.specs.inner.Stack.{standing}
+use Rattle.cbor_walk.specs.declared.level.Level.{Level}
 use Rattle.cbor_walk.proofs.walk.walk.Given as goal
 
 abbrev pub invariant-items : goal.invariant-items
@@ -7,7 +9,7 @@ invariant-items l = record {
   inside : l.at ≤ length l.input;
   cells : l.stack.height ≤ length l.cells;
   depth : l.stack.height ≤ l.depth;
-  stands : StandsAt l.order l.depth l.input (standing l.fn.stack l.fn.cells) l.start → StandsAt l.order l.depth l.input (standing l.stack l.cells) l.at;
+  stands : StandsAt l.order l.depth l.input (standing Level l.fn.stack l.fn.cells) l.start → StandsAt l.order l.depth l.input (standing Level l.stack l.cells) l.at;
 }
 
 abbrev pub decreases-items : goal.decreases-items

@@ -13,15 +13,15 @@ use Rattle.cbor_head.specs.declared.width.Width.TheVariants.{Indefinite}
 use Rattle.cbor_grammar.proofs.Counts.{values_count-of}
 use Rattle.cbor_judging.specs.Place.{Place, counted, close}
 use Rattle.cbor_canonical.specs.Pairs.{HasDistinctBytes}
-use Rattle.cbor_builder.specs.Parts.{Open, an_array, plain as a_plain, a_map as an_open_map, pair, give, close as close_open, closed, HasNoRepeats}
+use Rattle.cbor_builder.specs.Parts.{Open, an_array, plain as a_plain, a_map as an_open_map, pair, give, closed, HasNoRepeats}
 use Rattle.cbor_canonical.specs.Pairs.{AreKeysValid}
 use Rattle.cbor_canonical.proofs.Keys.{distinct_exactly}
 use Rattle.cbor_judging.specs.Frame.{with_all, with_entries}
 use Rattle.cbor_judging.proofs.Heads.{open_or}
 use Rattle.cbor_judging.proofs.Loops.{array_bytes-more, map_bytes-more}
-use Rattle.cbor_reader.proofs.Valid.{in_range_entries, valid_of}
+use Rattle.cbor_judging.proofs.Valid.{in_range_entries, valid_of}
 use Rattle.cbor_judging.specs.Levels.{Standing, item_due, item_full, item_whole, settle, IsTaken, AreTaken, ArePairsTaken, Level, a_member, a_key, a_value, some_member, some_key, some_value, tagged, frame, AreLevels, bytes_before}
-use Rattle.cbor_reader.specs.inner.Levels.{StandsAt, opens, IsFull, IsStanding, due, full, whole}
+use Rattle.cbor_judging.specs.Given.{StandsAt, opens, IsFull}
 use Rattle.cbor_judging.proofs.Levels.{no-count, spelled-all, within-all, clean-all, taken-more, count-more, pairs-spelled, pairs-within, pairs-more, pair-count-more, pairs-clean, array-spelled, map-spelled, pairs-shorter}
 
 -- ---- what is complete, in a builder
@@ -170,20 +170,3 @@ module _ (o : KeyOrder) (d : ℕ) where
     (_, full-tag o (d - length ls) (d - suc (length ls)) w n s h.1 i (omega (arith, h.0)), refl),
     refl,
   )
-
-  standing-of : (t : List ℕ) (q : Place) (os : List Open) (height : ℕ) (x : Standing) → StandsAt o d t q os height x → IsStanding o d t q os height
-  standing-of t q os height (item_due ls) k = due ls k.0 k.1 k.2 k.3 k.4
-  standing-of t q os height (item_full ls s) k = full ls s k.3.0 k.0 k.3.1 k.1 k.2 k.3.2 k.4
-  standing-of t q os height (item_whole s) k = whole s k.0 k.1 k.2 k.3 k.4
-
-  pub given : (ls : List Level) (s : Spelling) → AreLevels d ls → IsTaken (d - length ls) s → length (bytes_before ls ++ spell s) < 2 ^ 64
-      → IsStanding o d (bytes_before ls ++ spell s) (close (map frame ls)) (give (canonical o (value_of s)) (opens o ls)) (length ls)
-  given ls s h i short = standing-of (bytes_before ls ++ spell s) (close (map frame ls)) (give (canonical o (value_of s)) (opens o ls)) (length ls) (settle ls s) (settled ls s h i short)
-
-  -- ---- a container ends
-
-  pub ended : (ls : List Level) (s : Spelling) (c : Open) → AreLevels d ls → IsFull o (d - length ls) c s → HasNoRepeats c → length (bytes_before ls ++ spell s) < 2 ^ 64
-      → IsStanding o d (bytes_before ls ++ spell s) (close (map frame ls)) (close_open o (c ∷ opens o ls)) (length ls)
-  ended ls s c h f none short =
-      subst (λ (bs : List ℕ). IsStanding o d (bytes_before ls ++ spell s) (close (map frame ls)) (give bs (opens o ls)) (length ls)) (sym f.canonical_is)
-      (given ls s h (record { spelled = f.spelled; within = f.within; clean = f.clean none }) short)

@@ -1,0 +1,48 @@
+-- What a builder holds of an item whose parts it was given.
+use Rattle.std.specs.Prelude.{ℕ, suc, ◌≡◌, ◌-◌, ◌≤◌, ◌++◌, List, [], ◌∷◌, length, map}
+use Rattle.cbor_head.specs.Canonical.{canonical, canonical_all, canonical_entries}
+use Rattle.cbor_head.specs.Head.{shortest_head}
+use Rattle.cbor_head.specs.Spelling.{Spelling, spell, spellings_count, IsSpelled, depth, value_of, values_of, entries_of}
+use Rattle.cbor_head.specs.declared.major.Major.TheVariants.{Tag}
+use Rattle.cbor_head.specs.declared.order.KeyOrder.{KeyOrder}
+use Rattle.cbor_judging.specs.Levels.{IsClean, IsTaken, Level, a_member, a_key, a_value, some_member, some_key, some_value, tagged, frame, AreLevels, bytes_before, Standing, item_due, item_full, item_whole}
+use Rattle.cbor_judging.specs.Place.{Place, at_item, close, done as at_end}
+use Rattle.cbor_builder.specs.Built.{IsInContainer}
+use Rattle.cbor_builder.specs.Parts as parts
+use Rattle.cbor_builder.specs.Parts.{Open, plain as a_plain, an_array, a_map, closed, HasNoRepeats}
+
+-- ---- open containers
+
+-- what a builder holds of it
+abbrev pub level_open : KeyOrder → Level → Open
+level_open o (a_member w left done) = an_array (spellings_count done) (canonical_all o (values_of done))
+level_open o (a_key w left done) = a_map (canonical_entries o (entries_of done))
+level_open o (a_value w left done k) = parts.a_key (canonical_entries o (entries_of done)) (canonical o (value_of k))
+level_open o (some_member done) = an_array (spellings_count done) (canonical_all o (values_of done))
+level_open o (some_key done) = a_map (canonical_entries o (entries_of done))
+level_open o (some_value done k) = parts.a_key (canonical_entries o (entries_of done)) (canonical o (value_of k))
+level_open o (tagged w n) = a_plain (shortest_head Tag n)
+
+abbrev pub opens : KeyOrder → List Level → List Open
+opens o [] = a_plain [] ∷ []
+opens o (l ∷ ls) = level_open o l ∷ opens o ls
+
+-- ---- where a builder stands
+
+-- The whole of this container was given, and only its end is to come. It has no complaint where no two of its keys are the same.
+pub record IsFull (o : KeyOrder) (d : ℕ) (c : Open) (s : Spelling) : Type 0 where
+  pub spelled : IsSpelled s
+  pub within : depth s ≤ d
+  pub clean : HasNoRepeats c → IsClean s
+  pub canonical_is : closed o c ≡ canonical o (value_of s)
+  pub container : (other : Open) (os : List Open) → IsInContainer (c ∷ other ∷ os)
+
+-- behind the bytes t, at this place, with this open in a builder, in so many containers
+abbrev pub StandsAt : KeyOrder → ℕ → List ℕ → Place → List Open → ℕ → Standing → Type 0
+StandsAt o d t q os height (item_due ls) =
+    AreLevels d ls × (t ≡ bytes_before ls) × (q ≡ at_item (map frame ls)) × (os ≡ opens o ls) × (height ≡ length ls)
+StandsAt o d t q os height (item_full ls s) =
+    AreLevels d ls × (t ≡ bytes_before ls ++ spell s) × (q ≡ close (map frame ls))
+    × ((c : Open) × IsFull o (d - length ls) c s × (os ≡ c ∷ opens o ls)) × (height ≡ suc (length ls))
+StandsAt o d t q os height (item_whole s) =
+    IsTaken d s × (t ≡ spell s) × (q ≡ at_end) × (os ≡ a_plain (canonical o (value_of s)) ∷ []) × (height ≡ 0)

@@ -1,0 +1,14 @@
+use Rattle.std.proofs.Common.{ℕ, ◌≤◌}
+use Rattle.cbor_walk.specs.inner.Cells.{HasClosed}
+use Rattle.cbor_walk.specs.inner.Stack.{around}
+use Rattle.cbor_walk.specs.declared.level.Level.{Level}
+use Rattle.cbor_walk.proofs.stack.Stack+Level.close.Given as goal
+
+abbrev pub invariant-levels : goal.invariant-levels
+invariant-levels l = record {
+  fewer : l.self.height ≤ l.fn.self.height;
+  ended : (d : ℕ) → HasClosed l.order d l.input (around Level l.fn.self l.cells) l.at → HasClosed l.order d l.input (around Level l.self l.cells) l.at;
+}
+
+abbrev pub decreases-levels : goal.decreases-levels
+decreases-levels l = l.self.height

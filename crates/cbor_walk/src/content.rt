@@ -1,0 +1,108 @@
+//! The strings of a valid item: their payloads, in one piece or in chunks.
+
+ghost use Rattle.std.specs.Prelude.{◌≡◌, ◌∷◌, IfSome};
+ghost use Rattle.cbor_judging.specs.Reading.{string_major};
+ghost use Rattle.cbor_walk.specs.inner.Building.{IsItem, IsHead, IsHeadDue, TakesHead};
+ghost use Rattle.cbor_walk.specs.inner.Building.{IsDueFor, Gives, IsPayload, chunked_from};
+
+use crate::argument::{Argument, read_argument};
+use crate::building::Building;
+use crate::part::Part;
+use cbor_head::Major;
+use cbor_text::is_text_front;
+
+impl Building {
+    /// The string of so many bytes whose head stands before these.
+    #[inline(always)]
+    pub(crate) fn take_string<'a>(
+        &mut self,
+        is_text: bool,
+        count: u64,
+        behind: &'a [u8],
+    ) -> Part<'a>
+        requires head { IsHeadDue (string_major is_text) count behind.now self.old.builder }
+        ensures takes { TakesHead result (string_major is_text) count behind.now
+            self.old.builder self.new.builder }
+        ensures stack { self.new.stack ≡ self.old.stack }
+        ensures kind { IsItem result }
+    {
+        let Some(size) = payload_size(is_text, count, behind) else {
+            return Part::Stopped;
+        };
+        match self.builder.front_string(string_type(is_text), behind, size) {
+            Ok(()) => Part::Item(&behind[size..]),
+            Err(_) => Part::Stopped,
+        }
+    }
+
+    /// The string in chunks whose opener stands before these bytes.
+    pub(crate) fn take_chunks<'a>(&mut self, is_text: bool, behind: &'a [u8]) -> Part<'a>
+        requires opener { IsDueFor self.old.builder (chunked_from is_text behind.now) }
+        ensures takes { Gives result (chunked_from is_text behind.now)
+            self.old.builder self.new.builder }
+        ensures stack { self.new.stack ≡ self.old.stack }
+        ensures kind { IsItem result }
+    {
+        let Ok(()) = self.builder.begin_string(string_type(is_text)) else {
+            return Part::Stopped;
+        };
+        let mut rest = behind;
+        'chunks: loop {
+            let Some((first, behind)) = rest.split_first() else {
+                return Part::Stopped;
+            };
+            if *first == 0xff {
+                return match self.builder.end_string() {
+                    Ok(()) => Part::Item(behind),
+                    Err(_) => Part::Stopped,
+                };
+            }
+            let Some(head) = chunk_head(is_text, *first, behind) else {
+                return Part::Stopped;
+            };
+            let Some(size) = payload_size(is_text, head.number, head.rest) else {
+                return Part::Stopped;
+            };
+            let Ok(()) = self.builder.front_bytes(head.rest, size) else {
+                return Part::Stopped;
+            };
+            rest = &head.rest[size..];
+        }
+    }
+}
+
+// The type of a string.
+#[inline(always)]
+fn string_type(is_text: bool) -> Major
+    ensures { result ≡ string_major is_text }
+{
+    if is_text { Major::Text } else { Major::Bytes }
+}
+
+// The head of a chunk with this first byte.
+#[inline(always)]
+fn chunk_head<'a>(is_text: bool, first: u8, behind: &'a [u8]) -> Option<Argument<'a>>
+    ensures { IfSome result (λ head.
+        IsHead (string_major is_text) head.number (first ∷ behind.now) head.rest.now) }
+{
+    let kind = if is_text { 3 } else { 2 };
+    if first / 32 != kind || first % 32 > 27 {
+        return None;
+    }
+    read_argument(first % 32, behind)
+}
+
+// A payload of so many bytes as a size, if it stands in front, and is UTF-8 where it is a text's.
+#[inline(always)]
+fn payload_size(is_text: bool, count: u64, rest: &[u8]) -> Option<usize>
+    ensures { IfSome result (λ size. IsPayload is_text count size rest.now) }
+{
+    if count > rest.len() as u64 {
+        return None;
+    }
+    let size = count as usize;
+    if is_text && !is_text_front(rest, size) {
+        return None;
+    }
+    Some(size)
+}

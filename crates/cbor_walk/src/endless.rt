@@ -1,0 +1,61 @@
+//! What has no length: the openers of strings, arrays and maps, and the break that ends them.
+
+ghost use Rattle.std.specs.Prelude.{◌≡◌, ◌≤◌, ◌∷◌, length};
+ghost use Rattle.cbor_walk.specs.inner.Building.{IsItem, IsDueIn, Takes, IsBreakDue, TakesBreak};
+ghost use Rattle.cbor_walk.specs.inner.Stack.{standing};
+
+use crate::building::Building;
+use crate::level::Due;
+use crate::open::Open;
+use crate::part::Part;
+use cbor_head::Major;
+
+impl Building {
+    /// Takes what begins with this byte before these bytes, if it is an opener without a length, or
+    /// a break.
+    #[inline(never)]
+    pub(crate) fn take_endless<'a>(
+        &mut self,
+        first: u8,
+        behind: &'a [u8],
+        cells: &mut [Open],
+        depth: usize,
+    ) -> Part<'a>
+        requires cells { self.old.stack.height ≤ length cells.old }
+        requires due { IsDueIn depth (standing Open self.old.stack cells.old) self.old.builder
+            (first ∷ behind.now) }
+        ensures cells { self.new.stack.height ≤ length cells.new }
+        ensures takes { Takes result depth (first ∷ behind.now)
+            (standing Open self.old.stack cells.old) self.old.builder
+            (standing Open self.new.stack cells.new) self.new.builder }
+        ensures full { result ≡ Part.Full → self.new.stack.height ≡ length cells.new }
+    {
+        match first {
+            0x5f => self.take_chunks(false, behind),
+            0x7f => self.take_chunks(true, behind),
+            0x9f => self.open(Major::Array, 0, Open::endless(Due::Item), behind, cells, depth),
+            0xbf => self.open(Major::Map, 0, Open::endless(Due::Key), behind, cells, depth),
+            0xff => self.take_break(behind, cells),
+            _ => Part::Stopped,
+        }
+    }
+
+    // The break before these bytes.
+    fn take_break<'a>(&mut self, behind: &'a [u8], cells: &[Open]) -> Part<'a>
+        requires cells { self.old.stack.height ≤ length cells.now }
+        requires due { IsBreakDue (standing Open self.old.stack cells.now) self.old.builder behind.now }
+        ensures cells { self.new.stack.height ≤ length cells.now }
+        ensures takes { TakesBreak result behind.now (standing Open self.old.stack cells.now)
+            self.old.builder (standing Open self.new.stack cells.now) self.new.builder }
+        ensures kind { IsItem result }
+    {
+        if !self.stack.top.is_endless {
+            return Part::Stopped;
+        }
+        if let Due::Value = self.stack.top.due {
+            return Part::Stopped;
+        }
+        self.stack.pop(cells);
+        self.end(behind)
+    }
+}

@@ -1,0 +1,74 @@
+//! What is still to come in an open container, with a length or without.
+
+ghost use Rattle.std.specs.Prelude.{◌≡◌, Some, None, true, false};
+ghost use Rattle.cbor_walk.specs.inner.Building.{after, after_member, counted, endless};
+
+use crate::level::Due;
+
+/// An open container.
+#[derive(Clone, Copy)]
+pub(crate) struct Open {
+    pub(crate) due: Due,
+    // How many members or pairs follow the one that is due; none where there is no length.
+    pub(crate) left: u64,
+    // A break ends it.
+    pub(crate) is_endless: bool,
+}
+
+impl Open {
+    /// One in which this is due, and so many members or pairs more.
+    #[inline(always)]
+    pub(crate) fn counted(due: Due, left: u64) -> Open
+        ensures { result ≡ counted due left }
+    {
+        Open {
+            due,
+            left,
+            is_endless: false,
+        }
+    }
+
+    /// One without a length, in which this is due.
+    #[inline(always)]
+    pub(crate) fn endless(due: Due) -> Open
+        ensures { result ≡ endless due }
+    {
+        Open {
+            due,
+            left: 0,
+            is_endless: true,
+        }
+    }
+
+    /// An item of it is whole: whether another is due.
+    #[inline(always)]
+    pub(crate) fn advance(&mut self) -> bool
+        ensures more { result ≡ true → after self.old ≡ Some self.new }
+        ensures full { result ≡ false → after self.old ≡ None }
+    {
+        match self.due {
+            Due::Item => self.count(),
+            Due::Key => {
+                self.due = Due::Value;
+                true
+            }
+            Due::Value => {
+                self.due = Due::Key;
+                self.count()
+            }
+        }
+    }
+
+    // A member or a pair is whole: whether another is due.
+    #[inline(always)]
+    fn count(&mut self) -> bool
+        ensures more { result ≡ true → after_member self.old ≡ Some self.new }
+        ensures full { result ≡ false → after_member self.old ≡ None }
+    {
+        if self.left == 0 {
+            return self.is_endless;
+        }
+        self.left -= 1;
+        true
+    }
+}

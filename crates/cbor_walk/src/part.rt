@@ -1,0 +1,171 @@
+//! The next part of a valid item: an item without members, the head of a container, or a break.
+
+ghost use Rattle.std.specs.Prelude.{◌≡◌, ◌≤◌, length};
+ghost use Rattle.cbor_builder.specs.Built.{IsLeaf, IsContainer};
+ghost use Rattle.cbor_walk.specs.inner.Building.{IsDueIn, Takes, IsHeadDue, IsHeadIn, TakesHead};
+ghost use Rattle.cbor_walk.specs.inner.Building.{IsOpenerDue, TakesOpener, TakesCounted};
+ghost use Rattle.cbor_walk.specs.inner.Building.{IsItem, IsToEndFor, Ends, Counts};
+ghost use Rattle.cbor_walk.specs.inner.Stack.{standing};
+
+use crate::argument::read_argument;
+use crate::building::Building;
+use crate::level::Due;
+use crate::open::Open;
+use cbor_head::Major;
+
+/// What was taken where an item was due, and the bytes behind it.
+#[derive(Clone, Copy)]
+pub(crate) enum Part<'a> {
+    /// An item: perhaps a container, by its break.
+    Item(&'a [u8]),
+    /// The head of a container. In it an item is due, or a break.
+    Head(&'a [u8]),
+    /// Nothing: a container may open, and there is no cell for it.
+    Full,
+    /// Nothing that can be taken: the bytes are refused, or memory is.
+    Stopped,
+}
+
+impl Building {
+    /// Takes what stands in front.
+    #[inline(always)]
+    pub(crate) fn take_part<'a>(
+        &mut self,
+        rest: &'a [u8],
+        cells: &mut [Open],
+        depth: usize,
+    ) -> Part<'a>
+        requires cells { self.old.stack.height ≤ length cells.old }
+        requires due { IsDueIn depth (standing Open self.old.stack cells.old) self.old.builder rest.now }
+        ensures cells { self.new.stack.height ≤ length cells.new }
+        ensures takes { Takes result depth rest.now (standing Open self.old.stack cells.old)
+            self.old.builder (standing Open self.new.stack cells.new) self.new.builder }
+        ensures full { result ≡ Part.Full → self.new.stack.height ≡ length cells.new }
+    {
+        let Some((first, behind)) = rest.split_first() else {
+            return Part::Stopped;
+        };
+        let (kind, low) = (*first / 32, *first % 32);
+        if low > 27 {
+            return self.take_endless(*first, behind, cells, depth);
+        }
+        let Some(head) = read_argument(low, behind) else {
+            return Part::Stopped;
+        };
+        let (number, behind) = (head.number, head.rest);
+        match kind {
+            0 => self.give_leaf(Major::Unsigned, number, behind),
+            1 => self.give_leaf(Major::Negative, number, behind),
+            2 => self.take_string(false, number, behind),
+            3 => self.take_string(true, number, behind),
+            4 => self.take_counted(Major::Array, Due::Item, number, behind, cells, depth),
+            5 => self.take_counted(Major::Map, Due::Key, number, behind, cells, depth),
+            6 => {
+                let opened = Open::counted(Due::Item, 0);
+                self.open(Major::Tag, number, opened, behind, cells, depth)
+            }
+            _ => {
+                if low > 24 || low == 24 && number < 32 {
+                    return Part::Stopped;
+                }
+                self.give_leaf(Major::Simple, number, behind)
+            }
+        }
+    }
+
+    // An item that is its head, which stands before these bytes.
+    #[inline(always)]
+    fn give_leaf<'a>(&mut self, major: Major, number: u64, behind: &'a [u8]) -> Part<'a>
+        requires kind { IsLeaf major }
+        requires head { IsHeadDue major number behind.now self.old.builder }
+        ensures takes { TakesHead result major number behind.now self.old.builder self.new.builder }
+        ensures stack { self.new.stack ≡ self.old.stack }
+        ensures kind { IsItem result }
+    {
+        match self.builder.leaf(major, number) {
+            Ok(()) => Part::Item(behind),
+            Err(_) => Part::Stopped,
+        }
+    }
+
+    // The head, which stands before these bytes, of an array or a map of so many members or pairs.
+    #[inline(always)]
+    fn take_counted<'a>(
+        &mut self,
+        major: Major,
+        due: Due,
+        number: u64,
+        behind: &'a [u8],
+        cells: &mut [Open],
+        depth: usize,
+    ) -> Part<'a>
+        requires kind { Counts major due }
+        requires cells { self.old.stack.height ≤ length cells.old }
+        requires head { IsHeadIn major number behind.now depth
+            (standing Open self.old.stack cells.old) self.old.builder }
+        ensures cells { self.new.stack.height ≤ length cells.new }
+        ensures takes { TakesCounted result depth major number behind.now
+            (standing Open self.old.stack cells.old) self.old.builder
+            (standing Open self.new.stack cells.new) self.new.builder }
+        ensures full { result ≡ Part.Full → self.new.stack.height ≡ length cells.new }
+    {
+        if number > 0 {
+            let opened = Open::counted(due, number - 1);
+            return self.open(major, number, opened, behind, cells, depth);
+        }
+        if self.stack.height >= depth {
+            return Part::Stopped;
+        }
+        let Ok(()) = self.builder.begin(major, 0) else {
+            return Part::Stopped;
+        };
+        self.end(behind)
+    }
+
+    // The head of a container, which stands before these bytes; in it this is to come.
+    #[inline(always)]
+    pub(crate) fn open<'a>(
+        &mut self,
+        major: Major,
+        number: u64,
+        opened: Open,
+        behind: &'a [u8],
+        cells: &mut [Open],
+        depth: usize,
+    ) -> Part<'a>
+        requires kind { IsContainer major }
+        requires cells { self.old.stack.height ≤ length cells.old }
+        requires opener { IsOpenerDue major number opened behind.now self.old.builder }
+        ensures cells { self.new.stack.height ≤ length cells.new }
+        ensures takes { TakesOpener result depth major number opened behind.now
+            (standing Open self.old.stack cells.old) self.old.builder
+            (standing Open self.new.stack cells.new) self.new.builder }
+        ensures full { result ≡ Part.Full → self.new.stack.height ≡ length cells.new }
+    {
+        if self.stack.height >= depth {
+            return Part::Stopped;
+        }
+        if self.stack.height >= cells.len() {
+            return Part::Full;
+        }
+        let Ok(()) = self.builder.begin(major, number) else {
+            return Part::Stopped;
+        };
+        self.stack.push(cells, opened);
+        Part::Head(behind)
+    }
+
+    // The innermost container of the builder has ended, before these bytes.
+    #[inline(always)]
+    pub(crate) fn end<'a>(&mut self, behind: &'a [u8]) -> Part<'a>
+        requires full { IsToEndFor self.old.builder behind.now }
+        ensures ends { Ends result behind.now self.old.builder self.new.builder }
+        ensures stack { self.new.stack ≡ self.old.stack }
+        ensures kind { IsItem result }
+    {
+        match self.builder.end_if_distinct() {
+            Ok(true) => Part::Item(behind),
+            _ => Part::Stopped,
+        }
+    }
+}
