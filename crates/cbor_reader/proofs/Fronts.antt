@@ -9,7 +9,7 @@ use Rattle.cbor_reader.specs.Size.{size}
 use Rattle.cbor_judging.specs.Readers.{IsReadAs}
 use Rattle.cbor_reader.specs.inner.Front.{IsFrontRead, HasCanonicalBytes}
 use Rattle.cbor_judging.specs.Reading.{ReadsItem}
-use Rattle.cbor_reader.proofs.Valid.{in_range_of, valid_of}
+use Rattle.cbor_judging.proofs.Valid.{in_range_of, valid_of}
 use Rattle.cbor_canonical.proofs.Sound.{sound}
 use Rattle.cbor_canonical.proofs.Depth.{depth-value_of}
 use Rattle.cbor_judging.specs.Judged.{Never}

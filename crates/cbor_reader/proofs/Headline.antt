@@ -2,7 +2,7 @@
 use Rattle.std.proofs.Common.{ℕ, ◌^◌, ◌≡◌, ◌≢◌, ◌<◌, ◌≤◌, ◌↔◌, List, [], ◌++◌, length, take, refl, sym, ap, ◌∙◌, arith, subst, inl, inr}
 use Rattle.std.proofs.lemmas.Bool.{cases_lt}
 use Rattle.std.proofs.lemmas.List.{append-nil, take_all}
-use Rattle.cbor_head.specs.Limits.{Bounds, bounds}
+use Rattle.cbor_head.specs.Limits.{Bounds}
 use Rattle.cbor_head.specs.Value as value
 use Rattle.cbor_head.specs.Value.{Same, IsInRange, IsValid}
 use Rattle.cbor_head.specs.Spelling.{Spelling, spell, value_of, depth, IsItem}
@@ -23,7 +23,7 @@ use Rattle.cbor_reader.specs.Headline.{IsValidItem}
 use Rattle.cbor_judging.proofs.Accepted.{item_within_limit}
 use Rattle.cbor_reader.proofs.OneAnswer.{only_memory}
 use Rattle.cbor_reader.proofs.ValidTexts.{plain_too}
-use Rattle.cbor_reader.proofs.Valid.{in_range_of, valid_of}
+use Rattle.cbor_judging.proofs.Valid.{in_range_of, valid_of}
 
 -- ---- an item at the front
 

@@ -15,7 +15,7 @@ use Rattle.cbor_reader.specs.declared.key_set.KeySet.{KeySet}
 use Rattle.cbor_reader.specs.inner.HeldKeys.{is_in, IsAmong, HasKeyBytes, IsAdded, pair_keys, keys_before, AreHeld, AreHeldSoFar}
 use Rattle.cbor_judging.specs.Levels as levels
 use Rattle.cbor_judging.specs.Levels.{Level, frame}
-use Rattle.cbor_reader.specs.inner.Levels.{level_open, opens}
+use Rattle.cbor_judging.specs.Given.{level_open, opens}
 use Rattle.cbor_reader.proofs.KeySets.{not_both, in_more, opposite}
 use Rattle.std.specs.Prelude.{map}
 

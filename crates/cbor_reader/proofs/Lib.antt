@@ -6,10 +6,6 @@ pub mod Fronts
 pub mod Headline
 pub mod HeldKeys
 pub mod KeySets
-pub mod LevelEvents
-pub mod Levels
-pub mod LevelStrings
-pub mod LevelWholes
 pub mod OnAnswers
 pub mod OneAnswer
 pub mod OwnAnswers
@@ -20,7 +16,6 @@ pub mod SequenceLaws
 pub mod Sequences
 pub mod Sizes
 pub mod TreeValues
-pub mod Valid
 pub mod ValidTexts
 mod ViewFronts
 pub mod WholeItems

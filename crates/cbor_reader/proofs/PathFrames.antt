@@ -20,16 +20,16 @@ use Rattle.cbor_judging.specs.Frame as frames
 use Rattle.cbor_judging.specs.Frame.{Frame, with_entries, keys_onto, before, IsFrame, depth_beside}
 use Rattle.cbor_judging.specs.Judged.{IsJudged}
 use Rattle.cbor_judging.specs.Levels.{IsTaken, ArePairsTaken, Level, a_member, a_key, a_value, some_member, some_key, some_value, tagged, level_bytes, IsLevel, AreLevels, bytes_before}
-use Rattle.cbor_reader.specs.inner.Levels.{level_open, opens}
+use Rattle.cbor_judging.specs.Given.{level_open, opens}
 use Rattle.cbor_judging.specs.OpenMaps.{placed, keys_at, open_keys, AreDistinct, before_all, AreOpenDistinct}
 use Rattle.cbor_reader.specs.inner.PlainItems.{HasKeysApart, AreApart}
 use Rattle.cbor_judging.proofs.Judged.{zero_item, zero_pairs, judged_key}
 use Rattle.cbor_judging.proofs.Levels.{pairs-spelled, pairs-more, pairs-clean}
-use Rattle.cbor_reader.proofs.Levels.{pairs-valid, entries-more}
+use Rattle.cbor_judging.proofs.Given.{pairs-valid, entries-more}
 use Rattle.cbor_judging.proofs.OpenKeys.{front_apart}
 use Rattle.cbor_judging.proofs.OpenSteps.{distinct_snoc, keys_with}
 use Rattle.cbor_reader.proofs.Paths.{distinct-more}
-use Rattle.cbor_reader.proofs.Valid.{in_range_of, in_range_entries, valid_of}
+use Rattle.cbor_judging.proofs.Valid.{in_range_of, in_range_entries, valid_of}
 use Rattle.cbor_judging.proofs.LevelFrames.{frame_of, frame_bytes, fitting, keys_complain, path, found_of_whole}
 
 -- ---- its keys

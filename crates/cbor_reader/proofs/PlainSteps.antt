@@ -37,8 +37,8 @@ use Rattle.cbor_reader.specs.declared.plain_part.Part.{Part}
 use Rattle.cbor_reader.specs.declared.plain_part.Part.TheVariants.{Leaf, String, Begin, Break}
 use Rattle.cbor_judging.specs.Judged.{IsJudged}
 use Rattle.cbor_judging.specs.Levels.{IsTaken, Level, a_member, a_key, a_value, some_member, some_key, some_value, tagged, frame, AreLevels, bytes_before, Standing, item_due, item_full, item_whole, settle}
-use Rattle.cbor_reader.specs.inner.Levels.{level_open, opens, StandsAt}
-use Rattle.cbor_judging.specs.Reading.{AreRefused, IsFrontUnread, IsAt, IsUndecided, HasCause, IsBegun, IsNextHead, ReadsItem, StopsItem, StopsHead, string_value}
+use Rattle.cbor_judging.specs.Given.{level_open, opens, StandsAt}
+use Rattle.cbor_judging.specs.Reading.{string_major, AreRefused, IsFrontUnread, IsAt, IsUndecided, HasCause, IsBegun, IsNextHead, ReadsItem, StopsItem, StopsHead, string_value}
 use Rattle.cbor_reader.specs.inner.Front.{IsFrontRead}
 use Rattle.cbor_reader.specs.inner.PlainFront.{IsStopped, IsDueAt, IsWholeAt, GoesOnOrNot, TakesNext, IsEncodedFront}
 use Rattle.cbor_reader.specs.inner.PlainItems.{AreApart, AreApartSoFar, HaveBegun, HaveBegunIn, HasItsPlace, CanTake, IsGiven, IsEndingAt, sets, AreKeysBegun}
@@ -53,9 +53,8 @@ use Rattle.cbor_judging.proofs.Heads.{open_or, Headed}
 use Rattle.cbor_judging.proofs.Items.{definite, is-definite, proper-definite, never-open, cause-in, undecided-in, stops-at-item, stops-next, reads-next, taking-some}
 use Rattle.cbor_judging.proofs.Judged.{judged_start, zero_item, zero_pairs}
 use Rattle.cbor_judging.proofs.Standing.{open-is, fewer-open, short-at}
-use Rattle.cbor_reader.proofs.LevelStrings.{string-canonical}
 use Rattle.cbor_judging.proofs.Levels.{clean-anywhere}
-use Rattle.cbor_reader.proofs.Levels.{full-array, full-map, settled}
+use Rattle.cbor_judging.proofs.Given.{full-array, full-map, settled}
 use Rattle.cbor_judging.proofs.Loops.{array_bytes-whole, map_bytes-whole}
 use Rattle.cbor_judging.proofs.Undecided.{head-item, head-undecided, item-undecided}
 use Rattle.cbor_reader.specs.inner.TreeValues.{level_values, values_at, values_with, IsFullRight, IsTreeAt, IsTreeStep, IsForTree, TakesTreePart, MayEndIn}
@@ -64,7 +63,13 @@ use Rattle.cbor_reader.proofs.PathFrames.{found_within, repeat_found}
 use Rattle.cbor_reader.proofs.Paths.{given-apart, closed-apart, opened-apart, so-far, apart-now, ends-apart, settled-begun, settled-place, begun-more, begins-at}
 use Rattle.cbor_judging.proofs.Scalars.{at-as}
 use Rattle.cbor_judging.proofs.Steps.{at-reached, fault_of, farther}
-use Rattle.cbor_reader.proofs.Valid.{count_bounded}
+use Rattle.cbor_judging.proofs.Valid.{count_bounded}
+
+-- ---- strings
+
+string-canonical : (o : KeyOrder) (text : Bool) (content : List ℕ) → shortest_head (string_major text) (length content) ++ content ≡ canonical o (string_value text content)
+string-canonical o true content = refl
+string-canonical o false content = refl
 
 -- ---- heads
 

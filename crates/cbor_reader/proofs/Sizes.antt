@@ -9,7 +9,7 @@ use Rattle.cbor_head.specs.declared.width.Width.{Width}
 use Rattle.cbor_head.specs.declared.width.Width.TheVariants.{Indefinite}
 use Rattle.cbor_grammar.proofs.ReadLaws.{length_head, length_spell}
 use Rattle.cbor_reader.specs.Size.{size, size_all, size_entries}
-use Rattle.cbor_reader.proofs.Valid.{joined_bounded}
+use Rattle.cbor_judging.proofs.Valid.{joined_bounded}
 
 -- behind a head
 behind_head : (m : Major) (w : Width) (k n : ℕ) (xs : List ℕ) → n ≤ length xs → suc n ≤ length (head m w k ++ xs)

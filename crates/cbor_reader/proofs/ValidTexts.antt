@@ -14,7 +14,7 @@ use Rattle.cbor_head.specs.declared.width.Width.TheVariants.{Indefinite}
 use Rattle.cbor_canonical.proofs.Stable.{utf8_stable}
 use Rattle.cbor_reader.specs.Headline.{HasValidTexts, HaveValidTexts, EntriesHaveValidTexts}
 use Rattle.cbor_judging.specs.Judged.{Never}
-use Rattle.cbor_reader.proofs.Valid.{valid_of}
+use Rattle.cbor_judging.proofs.Valid.{valid_of}
 
 -- ---- without complaint on a text, by rules that ask for them to be UTF-8
 

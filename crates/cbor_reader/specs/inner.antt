@@ -1,7 +1,6 @@
 -- What private functions speak of; no public contract does.
 pub mod Front
 pub mod HeldKeys
-pub mod Levels
 pub mod PlainFront
 pub mod PlainItems
 pub mod PlainParts

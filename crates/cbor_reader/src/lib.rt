@@ -34,7 +34,6 @@ mod plain_part;
 mod sequence;
 mod sequence_items;
 pub mod sequence_laws;
-mod slice_builder;
 mod slice_tree;
 mod strings;
 mod tree_parts;

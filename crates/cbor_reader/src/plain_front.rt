@@ -12,10 +12,10 @@ use crate::next_head::next_head;
 use crate::payload::no_memory;
 use crate::plain_items::PlainItems;
 use crate::plain_part::read_part;
-use crate::slice_builder::BuiltFront;
 use cbor_events::ItemEvents;
 use cbor_head::{KeyOrder, Limits, Reason, Refusal};
 use cbor_item::Item;
+use cbor_walk::BuiltFront;
 use std::alloc::Global;
 use std::io::Read;
 

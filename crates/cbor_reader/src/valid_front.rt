@@ -4,12 +4,12 @@ ghost use Rattle.std.specs.Prelude.{◌≢◌, IfOk, IfErr};
 ghost use Rattle.cbor_head.specs.Complaint.{plain};
 ghost use Rattle.cbor_head.specs.declared.reason.Reason.TheVariants as reasons;
 ghost use Rattle.cbor_judging.specs.Readers.{IsUnread};
-ghost use Rattle.cbor_reader.specs.inner.Levels.{IsBuiltFront};
+ghost use Rattle.cbor_walk.specs.Front.{IsBuiltFront};
 
 use crate::plain_front::read_plain_front;
-use crate::slice_builder::{BuiltFront, build_front};
 use crate::whole_item::of_slice;
 use cbor_head::{KeyOrder, Limits, Refusal};
+use cbor_walk::{BuiltFront, build_front};
 use std::alloc::Global;
 
 // Its canonical bytes, in this order and however many, and how many bytes it has. What is refused

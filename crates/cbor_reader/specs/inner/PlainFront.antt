@@ -15,7 +15,7 @@ use Rattle.cbor_reader.specs.declared.plain_items.PlainItems.{PlainItems}
 use Rattle.cbor_reader.specs.inner.Front.{IsFrontRead}
 use Rattle.cbor_reader.specs.inner.HeldKeys.{AreHeld}
 use Rattle.cbor_judging.specs.Levels.{IsTaken, Level, frame, AreLevels, bytes_before, item_due, item_whole}
-use Rattle.cbor_reader.specs.inner.Levels.{opens}
+use Rattle.cbor_judging.specs.Given.{opens}
 use Rattle.cbor_reader.specs.inner.PlainItems.{AreApart, HaveBegun, sets}
 use Rattle.cbor_judging.specs.Reading.{AreRefused, IsAt}
 use Rattle.cbor_reader.specs.inner.TreeValues.{IsTreeAt}

@@ -16,7 +16,7 @@ use Rattle.cbor_reader.specs.declared.key_set.KeySet.{KeySet}
 use Rattle.cbor_reader.specs.inner.HeldKeys.{HasKeyBytes, AreHeld, AreHeldSoFar}
 use Rattle.cbor_judging.specs.Levels as levels
 use Rattle.cbor_judging.specs.Levels.{Level, bytes_before, Standing, item_due, item_full, item_whole}
-use Rattle.cbor_reader.specs.inner.Levels.{StandsAt}
+use Rattle.cbor_judging.specs.Given.{StandsAt}
 use Rattle.cbor_judging.specs.Reading.{IsAt, string_major}
 use Rattle.cbor_reader.specs.inner.TreeValues.{IsTreeAt}
 
