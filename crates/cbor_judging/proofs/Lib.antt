@@ -34,5 +34,6 @@ pub mod Steps
 pub mod Tops
 pub mod Undecided
 pub mod Valid
+pub mod ValidTexts
 pub mod WholeStrings
 pub mod Within

@@ -9,3 +9,4 @@ pub mod Readers
 pub mod Reading
 pub mod Refusals
 pub mod SoFar
+pub mod ValidTexts

@@ -16,6 +16,5 @@ pub mod SequenceLaws
 pub mod Sequences
 pub mod Sizes
 pub mod TreeValues
-pub mod ValidTexts
 mod ViewFronts
 pub mod WholeItems

@@ -1,0 +1,27 @@
+use Rattle.std.specs.Prelude.{reverse}
+use Rattle.std.proofs.lemmas.Result.{on_ok_weaker}
+use Rattle.std.proofs.Common.{take}
+use Rattle.cbor_builder.proofs.Standing.{member_given, member_ready}
+use Rattle.cbor_builder.proofs.builder.Core.encoded.Goals as goal
+
+pub returns-clause-laid : goal.returns-clause-laid
+returns-clause-laid c =
+    let s = c.args.self.now in
+    let e = c.complete.ensures in
+    let h = c.in_ok-extend.ensures in
+    on_ok_weaker c.complete.result (λ spans. (member_given s.order s.out c.extend.new.self (take c.args.count c.args.front.now) s.spans.items s.top (reverse s.below.items) c.len-at.result c.complete.new.spans.items c.complete.new.frame
+    c.requires.laid c.requires.takes h.whole h.meant h.lies c.len-at.ensures.meant (e.from, e.start, e.shape, spans, e.rises)).0) e.spans
+
+pub returns-clause-given : goal.returns-clause-given
+returns-clause-given c =
+    let s = c.args.self.now in
+    let e = c.complete.ensures in
+    let h = c.in_ok-extend.ensures in
+    on_ok_weaker c.complete.result (λ spans. (member_given s.order s.out c.extend.new.self (take c.args.count c.args.front.now) s.spans.items s.top (reverse s.below.items) c.len-at.result c.complete.new.spans.items c.complete.new.frame
+    c.requires.laid c.requires.takes h.whole h.meant h.lies c.len-at.ensures.meant (e.from, e.start, e.shape, spans, e.rises)).1) e.spans
+
+pub complete-requires-clause-within : goal.complete-requires-clause-within
+complete-requires-clause-within c =
+    let s = c.args.self.now in
+    let h = c.in_ok-extend.ensures in
+    member_ready s.order s.out c.extend.new.self (take c.args.count c.args.front.now) s.spans.items s.top (reverse s.below.items) c.requires.laid h.whole h.meant h.lies
