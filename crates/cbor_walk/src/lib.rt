@@ -1,9 +1,11 @@
-//! One walk over an item, in one loop and without recursion.
+//! Walks over an item in a slice, in one loop and without recursion.
 //!
-//! [`canonical_front`] goes over the canonical bytes at the front of a slice once. It holds a
-//! [`Level`] for each open container in cells that are made as they are wanted, so that depth that
-//! is not used costs nothing; at the first byte, head, text or key that is none of a canonical item
-//! it stops with the refusal.
+//! [`canonical_front`] goes over the canonical bytes at the front of a slice once; at the first
+//! byte, head, text or key that is none of a canonical item it stops with the refusal.
+//! [`build_front`] goes over any valid item, whose parts it gives to a builder of its canonical
+//! bytes, and stops without a word at what is none. Both hold what is due in each open container
+//! in cells that are made as they are wanted, so that depth that is not used costs nothing, and
+//! both see short items in their canonical form at once.
 #![tactic(auto)]
 
 mod any_item;
