@@ -121,28 +121,6 @@ impl Core {
         )
     }
 
-    /// An item whose canonical bytes are the first of these.
-    #[inline(always)]
-    pub(crate) fn encoded(&mut self, front: &[u8], count: usize) -> Result<(), AllocError>
-        requires within { count ≤ length front.now }
-        requires laid { IsLaid self.old }
-        requires takes { Takes self.old.top.shape }
-        ensures order { self.new.order ≡ self.old.order }
-        ensures laid { OnOk result (IsLaid self.new) }
-        ensures given { OnOk result
-            (standing self.new ≡ give (take count front.now) (standing self.old)) }
-    {
-        let at = self.out.len();
-        self.out.extend(front, count)?;
-        complete(
-            &mut self.top,
-            &mut self.spans,
-            &self.out.buf,
-            self.order,
-            at,
-        )
-    }
-
     /// A string, an array, a map or a tag begins. The number is the tag's; for the others it says
     /// for which length or count the head is to have room.
     #[inline(always)]

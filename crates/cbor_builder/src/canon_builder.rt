@@ -121,22 +121,6 @@ impl CanonBuilder {
         done
     }
 
-    /// An item whose canonical bytes are known: the first of these. What follows them is not looked
-    /// at, but up to 32 bytes are copied faster where 32 stand there.
-    #[inline(always)]
-    pub fn encoded(&mut self, front: &[u8], count: usize) -> Result<(), AllocError>
-        requires within { count ≤ length front.now }
-        requires takes { TakesPart self.old.standing }
-        ensures { OnOk result
-            (self.new ≡ built self.old.order (give (take count front.now) self.old.standing)) }
-    {
-        let done = self.core.encoded(front, count);
-        if done.is_err() {
-            self.is_sound = false;
-        }
-        done
-    }
-
     /// A string begins.
     #[inline(always)]
     pub fn begin_string(&mut self, major: Major) -> Result<(), AllocError>

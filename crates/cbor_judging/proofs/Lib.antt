@@ -34,6 +34,5 @@ pub mod Steps
 pub mod Tops
 pub mod Undecided
 pub mod Valid
-pub mod ValidTexts
 pub mod WholeStrings
 pub mod Within

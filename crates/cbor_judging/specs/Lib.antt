@@ -9,4 +9,3 @@ pub mod Readers
 pub mod Reading
 pub mod Refusals
 pub mod SoFar
-pub mod ValidTexts

@@ -22,7 +22,7 @@ use Rattle.cbor_reader.specs.Canonicalise.{IsCanonicalOf, IsRefusal}
 use Rattle.cbor_reader.specs.Headline.{IsValidItem}
 use Rattle.cbor_judging.proofs.Accepted.{item_within_limit}
 use Rattle.cbor_reader.proofs.OneAnswer.{only_memory}
-use Rattle.cbor_judging.proofs.ValidTexts.{plain_too}
+use Rattle.cbor_reader.proofs.ValidTexts.{plain_too}
 use Rattle.cbor_judging.proofs.Valid.{in_range_of, valid_of}
 
 -- ---- an item at the front

@@ -16,5 +16,6 @@ pub mod SequenceLaws
 pub mod Sequences
 pub mod Sizes
 pub mod TreeValues
+pub mod ValidTexts
 mod ViewFronts
 pub mod WholeItems

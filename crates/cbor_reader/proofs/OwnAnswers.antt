@@ -13,7 +13,7 @@ use Rattle.cbor_reader.specs.Headline.{IsValidItem}
 use Rattle.cbor_judging.specs.Readers.{BeginsWithCanonical}
 use Rattle.cbor_judging.proofs.Accepted.{item_within_limit}
 use Rattle.cbor_reader.proofs.Headline.{front_range, front_valid, front_depth, answers_exactly}
-use Rattle.cbor_judging.proofs.ValidTexts.{plain_too}
+use Rattle.cbor_reader.proofs.ValidTexts.{plain_too}
 use Rattle.cbor_judging.proofs.CanonicalFronts.{strict_bytes, strict_value, strict_accepts, one_front}
 
 module _ (limits : Bounds) (o : KeyOrder) (input : List ℕ) where

@@ -1,7 +1,8 @@
 -- Which inputs are accepted (RFC 8949, sections 3 and 5.3).
-use Rattle.std.specs.Prelude.{ℕ, ◌≤◌, List, length}
+use Rattle.std.specs.Prelude.{ℕ, ◌≤◌, List, length, IsUtf8}
+use Rattle.std.specs.List.{AllByRecursion}
 use Rattle.cbor_head.specs.Limits.{Bounds}
-use Rattle.cbor_head.specs.Spelling.{Spelling, IsItem}
+use Rattle.cbor_head.specs.Spelling.{Spelling, Spellings, SpelledEntries, text, text_chunks, array, a_map, tag, no_spellings, a_spelling, no_entries, entry, IsItem}
 use Rattle.cbor_head.specs.Complaint.{plain, Complaint, Complains}
 
 -- the whole input is this one item: well-formed, valid, and within the limits
@@ -9,3 +10,21 @@ pub record IsValidItem (limits : Bounds) (input : List ℕ) (s : Spelling) : Typ
   pub well_formed : IsItem limits.depth s input
   pub valid : (c : Complaint) → Complains plain 0 s c → ⊥
   pub fits : length input ≤ limits.bytes
+
+-- each text, and each chunk of one, is UTF-8 (sections 3.1 and 3.2.3)
+abbrev mutual
+  pub HasValidTexts : Spelling → Type 0
+  HasValidTexts (text w payload) = IsUtf8 payload
+  HasValidTexts (text_chunks cs) = AllByRecursion (λ c. IsUtf8 c.payload) cs
+  HasValidTexts (array w ss) = HaveValidTexts ss
+  HasValidTexts (a_map w es) = EntriesHaveValidTexts es
+  HasValidTexts (tag w n s) = HasValidTexts s
+  HasValidTexts _ = Unit {0}
+
+  pub HaveValidTexts : Spellings → Type 0
+  HaveValidTexts no_spellings = Unit {0}
+  HaveValidTexts (a_spelling s ss) = HasValidTexts s × HaveValidTexts ss
+
+  pub EntriesHaveValidTexts : SpelledEntries → Type 0
+  EntriesHaveValidTexts no_entries = Unit {0}
+  EntriesHaveValidTexts (entry k v es) = HasValidTexts k × HasValidTexts v × EntriesHaveValidTexts es

@@ -9,7 +9,6 @@ use Rattle.cbor_head.specs.Spelling.{Chunk, Spelling, byte_chunks, text_chunks, 
 use Rattle.cbor_head.specs.Value.{AreBytes}
 use Rattle.cbor_head.specs.declared.major.Major.{Major}
 use Rattle.cbor_head.specs.declared.major.Major.TheVariants as majors
-use Rattle.cbor_head.specs.declared.order.KeyOrder.{KeyOrder}
 use Rattle.cbor_head.specs.declared.width.Width.{Width}
 use Rattle.cbor_head.specs.declared.width.Width.TheVariants.{Indefinite}
 use Rattle.cbor_builder.specs.Built.{Built, built, TakesPart, IsInString}
@@ -72,9 +71,9 @@ module _ (t : Bool) (behind rest : List ℕ) (g now : Built) (s : AreChunks t be
         bytes = s.bytes ∙ ap (λ (x : List ℕ). chunks_bytes m s.done ++ x) front ∙ grown m k (drop n from);
         small = bytes_back (take n from) (drop n from) (subst AreBytes (sym (take-append-drop n from)) are);
         given = is
-            ∙ ap (λ (i : ℕ). built now.order (parts.extended (take i from) now.standing)) p.all
-            ∙ ap (λ (x : Built). built x.order (parts.extended q x.standing)) s.given
-            ∙ ap (λ (x : List ℕ). built g.order (parts.a_string m x ∷ g.standing)) (joined k);
+        ∙ ap (λ (i : ℕ). built now.order (parts.extended (take i from) now.standing)) p.all
+        ∙ ap (λ (x : Built). built x.order (parts.extended q x.standing)) s.given
+        ∙ ap (λ (x : List ℕ). built g.order (parts.a_string m x ∷ g.standing)) (joined k);
       })
     where
       joined : (k : Chunk) → chunks_joined s.done ++ k.payload ≡ chunks_joined (s.done ++ k ∷ [])
@@ -87,10 +86,10 @@ module _ (t : Bool) (behind rest : List ℕ) (g now : Built) (s : AreChunks t be
           ∙ ap (λ (y : List ℕ). head m Indefinite 0 ++ y) (ap (λ (y : List ℕ). flat_map (chunk_bytes m) s.done ++ y) (sym (append-nil (chunk_bytes m k))) ∙ sym (flat_map-append (chunk_bytes m) s.done (k ∷ []))))
 
   -- the break
-  pub all-chunks : (o : KeyOrder) (after : List ℕ) (new : Built) → rest ≡ 0xff ∷ after → new ≡ built now.order (parts.close now.order now.standing)
-      → IsScalar o (chunked_from t behind) after (shortest_head (string_major t) (length (chunks_joined s.done)) ++ chunks_joined s.done)
+  pub all-chunks : (after : List ℕ) (new : Built) → rest ≡ 0xff ∷ after → new ≡ built now.order (parts.close now.order now.standing)
+      → IsScalar (chunked_from t behind) after (shortest_head (string_major t) (length (chunks_joined s.done)) ++ chunks_joined s.done)
       × (new ≡ built g.order (parts.give (shortest_head (string_major t) (length (chunks_joined s.done)) ++ chunks_joined s.done) g.standing))
-  all-chunks o after new e is = (
+  all-chunks after new e is = (
     go t s.done s.so_far (s.bytes ∙ ap (λ (x : List ℕ). chunks_bytes (string_major t) s.done ++ x) e ∙ sym (append_assoc (chunks_bytes (string_major t) s.done) (0xff ∷ []) after)),
     is ∙ ap (λ (x : Built). built x.order (parts.close x.order x.standing)) s.given,
   )
@@ -99,13 +98,13 @@ module _ (t : Bool) (behind rest : List ℕ) (g now : Built) (s : AreChunks t be
       whole m done = append_assoc (head m Indefinite 0) (flat_map (chunk_bytes m) done) (0xff ∷ [])
 
       go : (t : Bool) (done : List Chunk) → AreChunksSoFar plain 0 (string_major t) done → chunked_from t behind ≡ (chunks_bytes (string_major t) done ++ (0xff ∷ [])) ++ after
-          → IsScalar o (chunked_from t behind) after (shortest_head (string_major t) (length (chunks_joined done)) ++ chunks_joined done)
+          → IsScalar (chunked_from t behind) after (shortest_head (string_major t) (length (chunks_joined done)) ++ chunks_joined done)
       go true done so_far is =
           let w = chunks_whole majors.Text text_chunks text_chunked done plain 0 0 so_far in
-          record { item = text_chunks done; taken = λ d. record { spelled = w.0; within = omega arith; clean = clean-anywhere (text_chunks done) 0 w.1 }; is = is ∙ ap (λ (x : List ℕ). x ++ after) (whole majors.Text done); out_is = refl }
+          record { item = text_chunks done; taken = λ d. record { spelled = w.0; within = omega arith; clean = clean-anywhere (text_chunks done) 0 w.1 }; is = is ∙ ap (λ (x : List ℕ). x ++ after) (whole majors.Text done); out_is = λ o. refl }
       go false done so_far is =
           let w = chunks_whole majors.Bytes byte_chunks bytes_chunked done plain 0 0 so_far in
-          record { item = byte_chunks done; taken = λ d. record { spelled = w.0; within = omega arith; clean = clean-anywhere (byte_chunks done) 0 w.1 }; is = is ∙ ap (λ (x : List ℕ). x ++ after) (whole majors.Bytes done); out_is = refl }
+          record { item = byte_chunks done; taken = λ d. record { spelled = w.0; within = omega arith; clean = clean-anywhere (byte_chunks done) 0 w.1 }; is = is ∙ ap (λ (x : List ℕ). x ++ after) (whole majors.Bytes done); out_is = λ o. refl }
 
   -- a string is open
   pub in-chunks : TakesPart g.standing → IsInString now.standing

@@ -1,7 +1,7 @@
 -- A valid item, part by part, given to a builder: what each part makes of it.
-use Rattle.std.proofs.Common.{◌≡◌, ℕ, zero, suc, ◌+◌, ◌-◌, ◌*◌, ◌^◌, ◌%◌, ◌<◌, ◌≤◌, Bool, true, false, Some, None, List, [], ◌∷◌, ◌++◌, length, take, drop, refl, sym, ap, ap₂, ◌∙◌, subst, arith, inl, inr, append_assoc, append-nil, length-drop}
+use Rattle.std.proofs.Common.{◌≡◌, ℕ, zero, suc, ◌+◌, ◌-◌, ◌*◌, ◌^◌, ◌%◌, ◌<◌, ◌≤◌, Bool, true, false, Some, None, List, [], ◌∷◌, ◌++◌, length, take, drop, refl, sym, ap, ap₂, ◌∙◌, subst, arith, inl, inr, append_assoc, append-nil}
 use Rattle.std.specs.Prelude.{IsUtf8, reverse}
-use Rattle.std.proofs.Math.Seq.{take-length, take-append_seam}
+use Rattle.std.proofs.Math.Seq.{take-length}
 use Rattle.std.proofs.lemmas.Bool.{cases_lt}
 use Rattle.std.proofs.lemmas.List.{length-append, length-take-le, take-append-drop}
 use Rattle.cbor_head.specs.Canonical.{canonical}
@@ -27,8 +27,6 @@ use Rattle.cbor_judging.proofs.Heads.{open_or}
 use Rattle.cbor_judging.proofs.Items.{is-definite}
 use Rattle.cbor_judging.proofs.Loops.{array_bytes-whole, map_bytes-whole}
 use Rattle.cbor_judging.proofs.Valid.{count_bounded}
-use Rattle.cbor_judging.proofs.ValidTexts.{plain_too}
-use Rattle.cbor_canonical.proofs.Theorems.{strict_exactly}
 use Rattle.cbor_judging.specs.Frame.{with_all, with_entries}
 use Rattle.cbor_judging.specs.Given.{level_open, opens, IsFull, StandsAt}
 use Rattle.cbor_judging.specs.Levels.{IsTaken, Level, a_member, a_key, a_value, some_member, some_key, some_value, tagged, frame, AreLevels, level_bytes, bytes_before, settle}
@@ -40,7 +38,6 @@ use Rattle.cbor_walk.specs.declared.part.Part.TheVariants as part
 use Rattle.cbor_steps.specs.Whole.{IsArgument}
 use Rattle.cbor_walk.proofs.AnyItem.{low_bits, spells}
 use Rattle.cbor_walk.specs.Front.{IsBuiltFront}
-use Rattle.cbor_walk.specs.inner.Leaves.{IsLeaf as IsShortLeaf}
 use Rattle.cbor_walk.specs.inner.Stack.{standing}
 use Rattle.cbor_walk.specs.declared.building.Building.{Building}
 use Rattle.cbor_walk.specs.declared.stack.Stack.{Stack}
@@ -58,36 +55,36 @@ cells-count (l ∷ ls) = ap suc (cells-count ls)
 -- ---- items without members
 
 -- it is there, and these are its canonical bytes
-pub record IsScalar (o : KeyOrder) (rest behind out : List ℕ) : Type 0 where
+pub record IsScalar (rest behind out : List ℕ) : Type 0 where
   pub item : Spelling
   pub taken : (d : ℕ) → IsTaken d item
   pub is : rest ≡ spell item ++ behind
-  pub out_is : canonical o (value_of item) ≡ out
+  pub out_is : (o : KeyOrder) → canonical o (value_of item) ≡ out
 
-pub scalar-head : (o : KeyOrder) (m : Major) (n : ℕ) (rest behind : List ℕ) → IsLeaf m → IsHead m n rest behind → IsScalar o rest behind (shortest_head m n)
-scalar-head o majors.Unsigned n rest behind l h = record {
+pub scalar-head : (m : Major) (n : ℕ) (rest behind : List ℕ) → IsLeaf m → IsHead m n rest behind → IsScalar rest behind (shortest_head m n)
+scalar-head majors.Unsigned n rest behind l h = record {
   item = unsigned h.width n;
   taken = λ d. record { spelled = h.holds; within = omega arith; clean = λ at c x. cc x.0 };
   is = h.is;
-  out_is = refl;
+  out_is = λ o. refl;
 }
-scalar-head o majors.Negative n rest behind l h = record {
+scalar-head majors.Negative n rest behind l h = record {
   item = negative h.width n;
   taken = λ d. record { spelled = h.holds; within = omega arith; clean = λ at c x. cc x.0 };
   is = h.is;
-  out_is = refl;
+  out_is = λ o. refl;
 }
-scalar-head o majors.Simple n rest behind l h = record {
+scalar-head majors.Simple n rest behind l h = record {
   item = simple n;
   taken = λ d. record { spelled = (h.simple refl).0; within = omega arith; clean = λ at c x. x };
   is = h.is ∙ ap (λ (w : Width). head majors.Simple w n ++ behind) (h.simple refl).1;
-  out_is = refl;
+  out_is = λ o. refl;
 }
-scalar-head o majors.Bytes n rest behind l h = absurd l
-scalar-head o majors.Text n rest behind l h = absurd l
-scalar-head o majors.Array n rest behind l h = absurd l
-scalar-head o majors.Map n rest behind l h = absurd l
-scalar-head o majors.Tag n rest behind l h = absurd l
+scalar-head majors.Bytes n rest behind l h = absurd l
+scalar-head majors.Text n rest behind l h = absurd l
+scalar-head majors.Array n rest behind l h = absurd l
+scalar-head majors.Map n rest behind l h = absurd l
+scalar-head majors.Tag n rest behind l h = absurd l
 
 -- the head of a string before its payload
 string-bytes : (m : Major) (n : ℕ) (rest behind : List ℕ) (h : IsHead m n rest behind) → n ≤ length behind → rest ≡ (head m h.width (length (take n behind)) ++ take n behind) ++ drop n behind
@@ -96,25 +93,25 @@ string-bytes m n rest behind h inside =
     ∙ ap₂ (λ (k : ℕ) (x : List ℕ). head m h.width k ++ x) (sym (length-take-le n behind inside)) (sym (take-append-drop n behind))
     ∙ sym (append_assoc (head m h.width (length (take n behind))) (take n behind) (drop n behind))
 
-pub scalar-string : (o : KeyOrder) (t : Bool) (n size : ℕ) (rest behind : List ℕ) → IsHead (string_major t) n rest behind → IsPayload t n size behind → AreBytes behind
-    → IsScalar o rest (drop size behind) (shortest_head (string_major t) size ++ take size behind)
-scalar-string o t n size rest behind h p are =
-    subst (λ (k : ℕ). IsScalar o rest (drop k behind) (shortest_head (string_major t) k ++ take k behind)) (sym p.all)
+pub scalar-string : (t : Bool) (n size : ℕ) (rest behind : List ℕ) → IsHead (string_major t) n rest behind → IsPayload t n size behind → AreBytes behind
+    → IsScalar rest (drop size behind) (shortest_head (string_major t) size ++ take size behind)
+scalar-string t n size rest behind h p are =
+    subst (λ (k : ℕ). IsScalar rest (drop k behind) (shortest_head (string_major t) k ++ take k behind)) (sym p.all)
     (go t h p.utf8 (length-take-le n behind p.inside) (bytes_front (take n behind) (drop n behind) (subst AreBytes (sym (take-append-drop n behind)) are)))
   where
     go : (t : Bool) (h : IsHead (string_major t) n rest behind) → (t ≡ true → IsUtf8 (take n behind)) → length (take n behind) ≡ n → AreBytes (take n behind)
-        → IsScalar o rest (drop n behind) (shortest_head (string_major t) n ++ take n behind)
+        → IsScalar rest (drop n behind) (shortest_head (string_major t) n ++ take n behind)
     go false h u long small = record {
       item = bytes h.width (take n behind);
       taken = λ d. record { spelled = (subst (Holds h.width) (sym long) h.holds, small); within = omega arith; clean = λ at c x. cc x.0 };
       is = string-bytes majors.Bytes n rest behind h p.inside;
-      out_is = ap (λ (k : ℕ). shortest_head majors.Bytes k ++ take n behind) long;
+      out_is = λ o. ap (λ (k : ℕ). shortest_head majors.Bytes k ++ take n behind) long;
     }
     go true h u long small = record {
       item = text h.width (take n behind);
       taken = λ d. record { spelled = (subst (Holds h.width) (sym long) h.holds, small); within = omega arith; clean = λ at c x. elim x [ inl y ↦ cc y.0 | inr y ↦ y.1 (u refl) ] };
       is = string-bytes majors.Text n rest behind h p.inside;
-      out_is = ap (λ (k : ℕ). shortest_head majors.Text k ++ take n behind) long;
+      out_is = λ o. ap (λ (k : ℕ). shortest_head majors.Text k ++ take n behind) long;
     }
 
 -- ---- openers
@@ -216,9 +213,9 @@ module _ (o : KeyOrder) (d : ℕ) (input : List ℕ) where
       },
     )
 
-    pub scalar-ends : (behind out : List ℕ) (new : Built) → IsScalar g.order rest behind out → new ≡ built g.order (parts.give out g.standing) → (length behind < length rest) × HasEnded o d input cs new behind
+    pub scalar-ends : (behind out : List ℕ) (new : Built) → IsScalar rest behind out → new ≡ built g.order (parts.give out g.standing) → (length behind < length rest) × HasEnded o d input cs new behind
     scalar-ends behind out new i is =
-        item-ends i.item behind new (i.taken (d - length s.ls)) i.is (is ∙ ap (λ (x : List ℕ). built g.order (parts.give x g.standing)) (sym i.out_is))
+        item-ends i.item behind new (i.taken (d - length s.ls)) i.is (is ∙ ap (λ (x : List ℕ). built g.order (parts.give x g.standing)) (sym (i.out_is g.order)))
 
     -- a container opens
     pub opened : (m : Major) (n : ℕ) (c : Open) (behind : List ℕ) (new : Built) → length s.ls < d → IsOpener m n c rest behind → new ≡ built g.order (parts.opened m n ∷ g.standing)
@@ -548,19 +545,3 @@ front-built o b input rest out size g h finished e = record {
   };
   canonical_is = finished (canonical o (value_of h.item)) h.given;
 }
-
--- ---- an item in its canonical form
-
-pub scalar-leaf : (o : KeyOrder) (rest : List ℕ) (used : ℕ) → IsShortLeaf false rest used → IsScalar o rest (drop used rest) (take used rest)
-scalar-leaf o rest used leaf =
-    let i = leaf.item o 0 (λ e. absurd (cc e)) in
-    let strictly = strict_exactly o i.item i.fine.spelled (i.fine.clean 0) in
-    let inside = leaf.inside in
-    let low = i.fine.within in
-    let size : length (spell i.item) ≡ used = omega (arith, ap length i.bytes, length-append (spell i.item) (drop used rest), length-drop used rest, inside) in
-    record {
-      item = i.item;
-      taken = λ d. record { spelled = i.fine.spelled; within = omega (arith, low); clean = λ at. plain_too o i.item at (i.fine.clean at) strictly.valid };
-      is = i.bytes;
-      out_is = sym strictly.canonical_is.bytes_are ∙ sym (take-append_seam (spell i.item) (drop used rest)) ∙ ap (λ (n : ℕ). take n (spell i.item ++ drop used rest)) size ∙ ap (take used) (sym i.bytes);
-    }

@@ -1,17 +1,14 @@
 //! The next part of a valid item: an item without members, the head of a container, or a break.
 
-ghost use Rattle.std.specs.Prelude.{◌≡◌, ◌<◌, ◌≤◌, false, length};
+ghost use Rattle.std.specs.Prelude.{◌≡◌, ◌≤◌, length};
 ghost use Rattle.cbor_builder.specs.Built.{IsLeaf, IsContainer};
 ghost use Rattle.cbor_walk.specs.inner.Building.{IsDueIn, Takes, IsHeadDue, IsHeadIn, TakesHead};
 ghost use Rattle.cbor_walk.specs.inner.Building.{IsOpenerDue, TakesOpener, TakesCounted};
 ghost use Rattle.cbor_walk.specs.inner.Building.{IsItem, IsToEndFor, Ends, Counts};
-ghost use Rattle.cbor_walk.specs.inner.Building.{IsDueFor, Gives};
-ghost use Rattle.cbor_walk.specs.inner.Leaves.{IsLeaf as IsShortLeaf};
 ghost use Rattle.cbor_walk.specs.inner.Stack.{standing};
 
 use crate::argument::read_argument;
 use crate::building::Building;
-use crate::fast::{Short, short_front};
 use crate::level::Due;
 use crate::open::Open;
 use cbor_head::Major;
@@ -48,9 +45,6 @@ impl Building {
         let Some((first, behind)) = rest.split_first() else {
             return Part::Stopped;
         };
-        if let Short::Item(used) = short_front(*first, rest) {
-            return self.give_canonical(rest, used);
-        }
         let (kind, low) = (*first / 32, *first % 32);
         if low > 27 {
             return self.take_endless(*first, behind, cells, depth);
@@ -76,21 +70,6 @@ impl Building {
                 }
                 self.give_leaf(Major::Simple, number, behind)
             }
-        }
-    }
-
-    // An item that stands in front in its canonical form.
-    #[inline(always)]
-    fn give_canonical<'a>(&mut self, rest: &'a [u8], size: usize) -> Part<'a>
-        requires leaf { (0 < size) × IsShortLeaf false rest.now size }
-        requires due { IsDueFor self.old.builder rest.now }
-        ensures takes { Gives result rest.now self.old.builder self.new.builder }
-        ensures stack { self.new.stack ≡ self.old.stack }
-        ensures kind { IsItem result }
-    {
-        match self.builder.encoded(rest, size) {
-            Ok(()) => Part::Item(&rest[size..]),
-            Err(_) => Part::Stopped,
         }
     }
 

@@ -1,5 +1,5 @@
 use Rattle.cbor_reader.proofs.Headline.{valid_item_exactly, valid_item_value}
-use Rattle.cbor_judging.proofs.ValidTexts.{plain_exactly}
+use Rattle.cbor_reader.proofs.ValidTexts.{plain_exactly}
 use Rattle.cbor_reader.proofs.laws.valid_items.Goals as goal
 
 pub returns-clause-complaints : goal.returns-clause-complaints

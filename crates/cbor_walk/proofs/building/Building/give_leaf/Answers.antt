@@ -11,4 +11,4 @@ leaf-requires-clause-takes c =
 pub returns-in-Ok-clause-takes : goal.returns-in-Ok-clause-takes
 returns-in-Ok-clause-takes c = λ rest head d cs o input due.
     scalar-ends o d input cs c.args.self.now.builder rest due c.args.behind.now (shortest_head c.args.major c.args.number) c.leaf.new.self
-    (scalar-head c.args.self.now.builder.order c.args.major c.args.number rest c.args.behind.now c.requires.kind head) c.in-Ok.ensures
+    (scalar-head c.args.major c.args.number rest c.args.behind.now c.requires.kind head) c.in-Ok.ensures

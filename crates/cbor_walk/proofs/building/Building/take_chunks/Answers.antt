@@ -49,7 +49,7 @@ returns-in-Ok-end_string-clause-takes c = λ d cs o input due.
     let g = c.args.self.now.builder in
     let behind = c.in-Some.behind.now in
     let is : c.chunks.rest.now ≡ 0xff ∷ behind = c.in-Some.ensures.cases.0 ∙ ap (λ (x : ℕ). x ∷ behind) c.if-first.true in
-    let all = all-chunks t c.args.behind.now c.chunks.rest.now g c.chunks.self.builder c.chunks.invariant.chunks g.order behind c.end_string.new.self is c.in-Ok-end_string.ensures in
+    let all = all-chunks t c.args.behind.now c.chunks.rest.now g c.chunks.self.builder c.chunks.invariant.chunks behind c.end_string.new.self is c.in-Ok-end_string.ensures in
     scalar-ends o d input cs g (chunked_from t c.args.behind.now) due behind _ c.end_string.new.self all.0 all.1
 
 pub chunks-init : goal.chunks-init

@@ -23,4 +23,4 @@ returns-in-Ok-clause-takes c = λ rest head d cs o input due.
     let whole : take (length behind - size) (drop size behind) ≡ drop size behind = ap (λ n. take n (drop size behind)) (sym (length-drop size behind)) ∙ take-length (drop size behind) in
     subst (λ (x : List ℕ). (length x < length rest) × HasEnded o d input cs c.front_string.new.self x) (sym whole)
     (scalar-ends o d input cs c.args.self.now.builder rest due (drop size behind) (shortest_head (string_major c.args.is_text) size ++ take size behind) c.front_string.new.self
-    (scalar-string c.args.self.now.builder.order c.args.is_text c.args.count size rest behind head c.in-Some.ensures all) (c.in-Ok.ensures ∙ ap (λ m. built c.args.self.now.builder.order (give (shortest_head m size ++ take size behind) c.args.self.now.builder.standing)) c.string_type.ensures))
+    (scalar-string c.args.is_text c.args.count size rest behind head c.in-Some.ensures all) (c.in-Ok.ensures ∙ ap (λ m. built c.args.self.now.builder.order (give (shortest_head m size ++ take size behind) c.args.self.now.builder.standing)) c.string_type.ensures))

@@ -12,7 +12,7 @@ use Rattle.cbor_head.specs.declared.major.Major.TheVariants.{Bytes, Text, Array,
 use Rattle.cbor_head.specs.declared.width.Width.{Width}
 use Rattle.cbor_head.specs.declared.width.Width.TheVariants.{Indefinite}
 use Rattle.cbor_canonical.proofs.Stable.{utf8_stable}
-use Rattle.cbor_judging.specs.ValidTexts.{HasValidTexts, HaveValidTexts, EntriesHaveValidTexts}
+use Rattle.cbor_reader.specs.Headline.{HasValidTexts, HaveValidTexts, EntriesHaveValidTexts}
 use Rattle.cbor_judging.specs.Judged.{Never}
 use Rattle.cbor_judging.proofs.Valid.{valid_of}
 
