@@ -4,8 +4,7 @@
 //! byte, head, text or key that is none of a canonical item it stops with the refusal.
 //! [`build_front`] goes over any valid item, whose parts it gives to a builder of its canonical
 //! bytes, and stops without a word at what is none. Both hold what is due in each open container
-//! in cells that are made as they are wanted, so that depth that is not used costs nothing, and
-//! both see short items in their canonical form at once.
+//! in cells that are made as they are wanted, so that depth that is not used costs nothing.
 #![tactic(auto)]
 
 mod any_item;
