@@ -63,8 +63,15 @@ fn parts_in_order_and_strings_in_pieces(rt: HostRuntime) -> Result<(), AllocErro
 }
 
 // Whether this key waits for its value. (What the call promises of it would burden each step behind.)
-fn is_waiting(builder: &CanonBuilder, key: Option<&[u8]>) -> bool {
-    builder.waiting_key() == key
+fn is_waiting(builder: &CanonBuilder, key: &[u8]) -> bool {
+    match builder.waiting_key() {
+        Some(waiting) => waiting == key,
+        None => false,
+    }
+}
+
+fn is_none_waiting(builder: &CanonBuilder) -> bool {
+    builder.waiting_key().is_none()
 }
 
 // {"aa": 0, 1: 0, "aa" ..
@@ -72,12 +79,12 @@ fn give_a_key_again(rt: &impl Abort, builder: &mut CanonBuilder) -> Result<(), A
     requires empty { builder.old.standing ≡ plain [] ∷ [] }
 {
     builder.begin(Major::Map, 3)?;
-    assert!(rt; is_waiting(builder, None));
+    assert!(rt; is_none_waiting(builder));
     builder.string(Major::Text, b"aa")?;
     assert!(rt; !builder.repeated());
-    assert!(rt; is_waiting(builder, Some(b"\x62aa")));
+    assert!(rt; is_waiting(builder, b"\x62aa"));
     builder.leaf(Major::Unsigned, 0)?;
-    assert!(rt; is_waiting(builder, None));
+    assert!(rt; is_none_waiting(builder));
     builder.leaf(Major::Unsigned, 1)?;
     assert!(rt; !builder.repeated());
     builder.leaf(Major::Unsigned, 0)?;
