@@ -9,6 +9,7 @@ use cbor_head::{Reason, Refusal, Simple};
 use cbor_item::{Item, KeyOrder, Tree, compare_keys, encode, encode_to, same};
 use std::alloc::{AllocError, Global};
 use std::cmp::Ordering;
+use std::process::Abort;
 use std::test::Fail;
 
 pub(crate) fn text(alloc: Global, content: &str) -> Result<Item, AllocError> {
@@ -29,34 +30,51 @@ fn array_of(alloc: Global, member: Item) -> Result<Item, AllocError> {
     Ok(Item::Array(vec![in alloc; member]?))
 }
 
+// The map of two pairs, with numbers as values.
+fn two_pairs(alloc: Global, first: (Item, u64), second: (Item, u64)) -> Result<Item, AllocError> {
+    Ok(Item::Map(vec![in alloc;
+        (first.0, Item::Unsigned(first.1)),
+        (second.0, Item::Unsigned(second.1)),
+    ]?))
+}
+
 // The map of two pairs, from numbers to numbers.
 fn numbers(alloc: Global, first: (u64, u64), second: (u64, u64)) -> Result<Item, AllocError> {
-    Ok(Item::Map(vec![in alloc;
-        (Item::Unsigned(first.0), Item::Unsigned(first.1)),
-        (Item::Unsigned(second.0), Item::Unsigned(second.1)),
-    ]?))
+    let first = (Item::Unsigned(first.0), first.1);
+    two_pairs(alloc, first, (Item::Unsigned(second.0), second.1))
 }
 
 // {100: 0, -1: 0}
 fn two_keys(alloc: Global) -> Result<Item, AllocError> {
-    Ok(Item::Map(vec![in alloc;
-        (Item::Unsigned(100), Item::Unsigned(0)),
-        (Item::Negative(0), Item::Unsigned(0)),
-    ]?))
+    two_pairs(alloc, (Item::Unsigned(100), 0), (Item::Negative(0), 0))
+}
+
+fn put(pairs: &mut Vec<(Item, Item)>, key: Item, value: u64) -> Result<(), AllocError> {
+    pairs.push((key, Item::Unsigned(value)))?;
+    Ok(())
+}
+
+// The pairs are borrowed: an owner of them would owe at each `?` that they may be let go there.
+fn put_eight(
+    alloc: Global,
+    pairs: &mut Vec<(Item, Item)>,
+    falsity: Simple,
+) -> Result<(), AllocError> {
+    put(pairs, text(alloc, "aa")?, 1)?;
+    put(pairs, Item::Unsigned(10), 2)?;
+    put(pairs, Item::Unsigned(100), 3)?;
+    put(pairs, Item::Negative(0), 4)?;
+    put(pairs, text(alloc, "z")?, 5)?;
+    put(pairs, array_of(alloc, Item::Unsigned(100))?, 6)?;
+    put(pairs, array_of(alloc, Item::Negative(0))?, 7)?;
+    put(pairs, Item::Simple(falsity), 8)
 }
 
 // {"aa": 1, 10: 2, 100: 3, -1: 4, "z": 5, [100]: 6, [-1]: 7, false: 8}
 pub(crate) fn eight_keys(alloc: Global, falsity: Simple) -> Result<Item, AllocError> {
-    Ok(Item::Map(vec![in alloc;
-        (text(alloc, "aa")?, Item::Unsigned(1)),
-        (Item::Unsigned(10), Item::Unsigned(2)),
-        (Item::Unsigned(100), Item::Unsigned(3)),
-        (Item::Negative(0), Item::Unsigned(4)),
-        (text(alloc, "z")?, Item::Unsigned(5)),
-        (array_of(alloc, Item::Unsigned(100))?, Item::Unsigned(6)),
-        (array_of(alloc, Item::Negative(0))?, Item::Unsigned(7)),
-        (Item::Simple(falsity), Item::Unsigned(8)),
-    ]?))
+    let mut pairs = Vec::new(alloc);
+    put_eight(alloc, &mut pairs, falsity)?;
+    Ok(Item::Map(pairs))
 }
 
 // Tags around an item.
@@ -89,192 +107,196 @@ fn tree(alloc: Global, item: Item) -> Result<Tree, Fail> {
     }
 }
 
-// An item, its canonical bytes, and those in length-first order.
-#[derive(Drop)]
-struct Row {
+fn check(
+    rt: &impl Abort,
+    alloc: Global,
+    tree: &Tree,
+    order: KeyOrder,
+    wanted: &[u8],
+) -> Result<(), Fail> {
+    let bytes = encode(alloc, tree, order)?;
+    assert_eq!(rt; bytes.as_slice(), wanted);
+    Ok(())
+}
+
+fn check_written(rt: &impl Abort, alloc: Global, tree: &Tree, wanted: &[u8]) -> Result<(), Fail> {
+    let mut out = Vec::new(alloc);
+    let count = encode_to(alloc, tree, KeyOrder::Bytewise, &mut out)?;
+    assert_eq!(rt; count, wanted.len() as u64);
+    assert_eq!(rt; out.as_slice(), wanted);
+    Ok(())
+}
+
+fn check_all(
+    rt: &impl Abort,
+    alloc: Global,
+    tree: &Tree,
+    bytewise: &[u8],
+    length_first: &[u8],
+) -> Result<(), Fail> {
+    check(rt, alloc, tree, KeyOrder::Bytewise, bytewise)?;
+    check(rt, alloc, tree, KeyOrder::LengthFirst, length_first)?;
+    check_written(rt, alloc, tree, bytewise)
+}
+
+// The item has these canonical bytes, and these in length-first order.
+fn apart(
+    rt: &impl Abort,
+    alloc: Global,
     item: Item,
-    bytewise: &'static [u8],
-    length_first: &'static [u8],
+    bytewise: &[u8],
+    length_first: &[u8],
+) -> Result<(), Fail> {
+    let tree = tree(alloc, item)?;
+    check_all(rt, alloc, &tree, bytewise, length_first)
 }
 
-fn apart(item: Item, bytewise: &'static [u8], length_first: &'static [u8]) -> Row {
-    Row {
-        item,
-        bytewise,
-        length_first,
-    }
-}
-
-// The bytes are those of both orders.
-fn alike(item: Item, bytes: &'static [u8]) -> Row {
-    apart(item, bytes, bytes)
-}
-
-fn scalars(alloc: Global) -> Result<Vec<Row>, Fail> {
-    let time = Box::new(alloc, Item::Unsigned(1_363_896_240))?;
-    Ok(vec![in alloc;
-        // 0, 18446744073709551615, -18446744073709551616
-        alike(Item::Unsigned(0), b"\x00"),
-        alike(Item::Unsigned(u64::MAX), b"\x1b\xff\xff\xff\xff\xff\xff\xff\xff"),
-        alike(Item::Negative(u64::MAX), b"\x3b\xff\xff\xff\xff\xff\xff\xff\xff"),
-        // simple(32), h'01020304', "IETF"
-        alike(Item::Simple(simple(32)?), b"\xf8\x20"),
-        alike(bytes(alloc, b"\x01\x02\x03\x04")?, b"\x44\x01\x02\x03\x04"),
-        alike(text(alloc, "IETF")?, b"\x64\x49\x45\x54\x46"),
-        // [], {}, 1(1363896240)
-        alike(Item::Array(Vec::new(alloc)), b"\x80"),
-        alike(Item::Map(Vec::new(alloc)), b"\xa0"),
-        alike(Item::Tag(1, time), b"\xc1\x1a\x51\x4b\x67\xb0"),
-    ]?)
-}
-
-fn maps(alloc: Global) -> Result<Vec<Row>, Fail> {
-    let key = (two_keys(alloc)?, Item::Unsigned(0));
-    Ok(vec![in alloc;
-        apart(
-            eight_keys(alloc, simple(20)?)?,
-            // {10: 2, 100: 3, -1: 4, "z": 5, "aa": 1, [100]: 6, [-1]: 7, false: 8}
-            b"\xa8\x0a\x02\x18\x64\x03\x20\x04\x61\x7a\x05\x62\x61\x61\x01\x81\x18\x64\x06\x81\x20\x07\xf4\x08",
-            // {10: 2, -1: 4, false: 8, 100: 3, "z": 5, [-1]: 7, "aa": 1, [100]: 6}
-            b"\xa8\x0a\x02\x20\x04\xf4\x08\x18\x64\x03\x61\x7a\x05\x81\x20\x07\x62\x61\x61\x01\x81\x18\x64\x06",
-        ),
-        apart(
-            nested(alloc, two_keys(alloc)?, 1, false)?,
-            // {0: {100: 0, -1: 0}}
-            b"\xa1\x00\xa2\x18\x64\x00\x20\x00",
-            // {0: {-1: 0, 100: 0}}
-            b"\xa1\x00\xa2\x20\x00\x18\x64\x00",
-        ),
-        apart(
-            Item::Map(vec![in alloc; key, (Item::Unsigned(1), Item::Unsigned(0))]?),
-            // {1: 0, {100: 0, -1: 0}: 0}
-            b"\xa2\x01\x00\xa2\x18\x64\x00\x20\x00\x00",
-            // {1: 0, {-1: 0, 100: 0}: 0}
-            b"\xa2\x01\x00\xa2\x20\x00\x18\x64\x00\x00",
-        ),
-    ]?)
+// The item has these bytes in both orders.
+pub(crate) fn alike(rt: &impl Abort, alloc: Global, item: Item, bytes: &[u8]) -> Result<(), Fail> {
+    apart(rt, alloc, item, bytes, bytes)
 }
 
 #[test]
-fn encodes(rt: HostRuntime) -> Result<(), Fail> {
+fn encodes_scalars(rt: HostRuntime) -> Result<(), Fail> {
     let alloc = rt.alloc();
-    let mut rows = scalars(alloc)?;
-    rows.append(&mut maps(alloc)?)?;
-    for row in rows {
-        let tree = tree(alloc, row.item)?;
-        assert_eq!(rt;
-            encode(alloc, &tree, KeyOrder::Bytewise)?.as_slice(),
-            row.bytewise
-        );
-        assert_eq!(rt;
-            encode(alloc, &tree, KeyOrder::LengthFirst)?.as_slice(),
-            row.length_first
-        );
-        let mut out = Vec::new(alloc);
-        assert_eq!(rt;
-            encode_to(alloc, &tree, KeyOrder::Bytewise, &mut out)?,
-            row.bytewise.len() as u64
-        );
-        assert_eq!(rt; out.as_slice(), row.bytewise);
-    }
+    // 0, 18446744073709551615, -18446744073709551616
+    alike(&rt, alloc, Item::Unsigned(0), b"\x00")?;
+    let greatest = b"\x1b\xff\xff\xff\xff\xff\xff\xff\xff";
+    alike(&rt, alloc, Item::Unsigned(u64::MAX), greatest)?;
+    let least = b"\x3b\xff\xff\xff\xff\xff\xff\xff\xff";
+    alike(&rt, alloc, Item::Negative(u64::MAX), least)?;
+    // simple(32), h'01020304', "IETF"
+    alike(&rt, alloc, Item::Simple(simple(32)?), b"\xf8\x20")?;
+    let held = bytes(alloc, b"\x01\x02\x03\x04")?;
+    alike(&rt, alloc, held, b"\x44\x01\x02\x03\x04")?;
+    alike(&rt, alloc, text(alloc, "IETF")?, b"\x64\x49\x45\x54\x46")?;
+    // [], {}, 1(1363896240)
+    alike(&rt, alloc, Item::Array(Vec::new(alloc)), b"\x80")?;
+    alike(&rt, alloc, Item::Map(Vec::new(alloc)), b"\xa0")?;
+    let time = Box::new(alloc, Item::Unsigned(1_363_896_240))?;
+    alike(&rt, alloc, Item::Tag(1, time), b"\xc1\x1a\x51\x4b\x67\xb0")
+}
+
+#[test]
+fn encodes_maps(rt: HostRuntime) -> Result<(), Fail> {
+    let alloc = rt.alloc();
+    apart(
+        &rt,
+        alloc,
+        eight_keys(alloc, simple(20)?)?,
+        // {10: 2, 100: 3, -1: 4, "z": 5, "aa": 1, [100]: 6, [-1]: 7, false: 8}
+        b"\xa8\x0a\x02\x18\x64\x03\x20\x04\x61\x7a\x05\x62\x61\x61\x01\x81\x18\x64\x06\x81\x20\x07\xf4\x08",
+        // {10: 2, -1: 4, false: 8, 100: 3, "z": 5, [-1]: 7, "aa": 1, [100]: 6}
+        b"\xa8\x0a\x02\x20\x04\xf4\x08\x18\x64\x03\x61\x7a\x05\x81\x20\x07\x62\x61\x61\x01\x81\x18\x64\x06",
+    )?;
+    apart(
+        &rt,
+        alloc,
+        nested(alloc, two_keys(alloc)?, 1, false)?,
+        // {0: {100: 0, -1: 0}}
+        b"\xa1\x00\xa2\x18\x64\x00\x20\x00",
+        // {0: {-1: 0, 100: 0}}
+        b"\xa1\x00\xa2\x20\x00\x18\x64\x00",
+    )?;
+    apart(
+        &rt,
+        alloc,
+        two_pairs(alloc, (two_keys(alloc)?, 0), (Item::Unsigned(1), 0))?,
+        // {1: 0, {100: 0, -1: 0}: 0}
+        b"\xa2\x01\x00\xa2\x18\x64\x00\x20\x00\x00",
+        // {1: 0, {-1: 0, 100: 0}: 0}
+        b"\xa2\x01\x00\xa2\x20\x00\x18\x64\x00\x00",
+    )
+}
+
+fn compare(
+    rt: &impl Abort,
+    alloc: Global,
+    left: Item,
+    right: Item,
+    want: bool,
+) -> Result<(), Fail> {
+    let left = tree(alloc, left)?;
+    let right = tree(alloc, right)?;
+    assert_eq!(rt; same(&left, &right), want);
+    assert_eq!(rt; same(&right, &left), want);
+    assert!(rt; same(&left, &left));
     Ok(())
+}
+
+// {1: 2, 3: 4} and another map of two pairs
+fn compare_numbers(
+    rt: &impl Abort,
+    alloc: Global,
+    first: (u64, u64),
+    second: (u64, u64),
+    want: bool,
+) -> Result<(), Fail> {
+    let left = numbers(alloc, (1, 2), (3, 4))?;
+    let right = numbers(alloc, first, second)?;
+    compare(rt, alloc, left, right, want)
 }
 
 #[test]
 fn finds_the_same(rt: HostRuntime) -> Result<(), Fail> {
     let alloc = rt.alloc();
-    let pairs = [
-        // {1: 2, 3: 4} and {3: 4, 1: 2}; {1: 2, 3: 5}; {1: 2}
-        (
-            numbers(alloc, (1, 2), (3, 4))?,
-            numbers(alloc, (3, 4), (1, 2))?,
-            true,
-        ),
-        (
-            numbers(alloc, (1, 2), (3, 4))?,
-            numbers(alloc, (1, 2), (3, 5))?,
-            false,
-        ),
-        (
-            numbers(alloc, (1, 2), (3, 4))?,
-            Item::Map(vec![in alloc; (Item::Unsigned(1), Item::Unsigned(2))]?),
-            false,
-        ),
-        // h'61' and h'61'; h'61' and "a"
-        (bytes(alloc, b"a")?, bytes(alloc, b"a")?, true),
-        (bytes(alloc, b"a")?, text(alloc, "a")?, false),
-        // 2(h'01') and 1
-        (
-            Item::Tag(2, Box::new(alloc, bytes(alloc, b"\x01")?)?),
-            Item::Unsigned(1),
-            false,
-        ),
-        // 0 and -1; [0] and []
-        (Item::Unsigned(0), Item::Negative(0), false),
-        (
-            array_of(alloc, Item::Unsigned(0))?,
-            Item::Array(Vec::new(alloc)),
-            false,
-        ),
-    ];
-    for (left, right, want) in Vec::from_array(alloc, pairs)? {
-        let left = tree(alloc, left)?;
-        let right = tree(alloc, right)?;
-        assert_eq!(rt; same(&left, &right), want);
-        assert_eq!(rt; same(&right, &left), want);
-        assert!(rt; same(&left, &left));
+    // {1: 2, 3: 4} and {3: 4, 1: 2}; {1: 2, 3: 5}; {1: 2}
+    compare_numbers(&rt, alloc, (3, 4), (1, 2), true)?;
+    compare_numbers(&rt, alloc, (1, 2), (3, 5), false)?;
+    let two = numbers(alloc, (1, 2), (3, 4))?;
+    let one = Item::Map(vec![in alloc; (Item::Unsigned(1), Item::Unsigned(2))]?);
+    compare(&rt, alloc, two, one, false)?;
+    // h'61' and h'61'; h'61' and "a"
+    compare(&rt, alloc, bytes(alloc, b"a")?, bytes(alloc, b"a")?, true)?;
+    compare(&rt, alloc, bytes(alloc, b"a")?, text(alloc, "a")?, false)?;
+    // 2(h'01') and 1
+    let tag = Item::Tag(2, Box::new(alloc, bytes(alloc, b"\x01")?)?);
+    compare(&rt, alloc, tag, Item::Unsigned(1), false)?;
+    // 0 and -1; [0] and []
+    compare(&rt, alloc, Item::Unsigned(0), Item::Negative(0), false)?;
+    let array = array_of(alloc, Item::Unsigned(0))?;
+    compare(&rt, alloc, array, Item::Array(Vec::new(alloc)), false)
+}
+
+fn refuse(rt: &impl Abort, alloc: Global, item: Item, want: Reason) {
+    match Tree::of(alloc, item) {
+        Ok(_) => panic!(rt; "a tree where {want} was due"),
+        Err((_, reason)) => assert_eq!(rt; reason, want),
     }
-    Ok(())
+}
+
+// {{1: 2, 3: 4}: 0, {3: 4, 1: 2}: 1}
+fn equal_maps_as_keys(alloc: Global) -> Result<Item, AllocError> {
+    let first = numbers(alloc, (1, 2), (3, 4))?;
+    two_pairs(alloc, (first, 0), (numbers(alloc, (3, 4), (1, 2))?, 1))
+}
+
+// {{1: 1}: 0, {1: 1, 1: 1}: 0}
+fn equal_keys_in_a_key(alloc: Global) -> Result<Item, AllocError> {
+    let first = Item::Map(vec![in alloc; (Item::Unsigned(1), Item::Unsigned(1))]?);
+    two_pairs(alloc, (first, 0), (numbers(alloc, (1, 1), (1, 1))?, 0))
+}
+
+// {0: 0, 0: 1}
+fn equal_keys(alloc: Global) -> Result<Item, AllocError> {
+    numbers(alloc, (0, 0), (0, 1))
 }
 
 #[test]
-fn refuses(rt: HostRuntime) -> Result<(), Fail> {
+fn refuses(rt: HostRuntime) -> Result<(), AllocError> {
     let alloc = rt.alloc();
-    let items = [
-        // {0: 0, 0: 1}, and within 255 and 256 tags
-        (numbers(alloc, (0, 0), (0, 1))?, Reason::RepeatedKey),
-        (
-            tagged(alloc, numbers(alloc, (0, 0), (0, 1))?, 255)?,
-            Reason::RepeatedKey,
-        ),
-        (
-            tagged(alloc, numbers(alloc, (0, 0), (0, 1))?, 256)?,
-            Reason::TooDeep,
-        ),
-        // {{1: 2, 3: 4}: 0, {3: 4, 1: 2}: 1}
-        (
-            Item::Map(vec![in alloc;
-                (numbers(alloc, (1, 2), (3, 4))?, Item::Unsigned(0)),
-                (numbers(alloc, (3, 4), (1, 2))?, Item::Unsigned(1)),
-            ]?),
-            Reason::RepeatedKey,
-        ),
-        // {{1: 1}: 0, {1: 1, 1: 1}: 0}
-        (
-            Item::Map(vec![in alloc;
-                (
-                    Item::Map(vec![in alloc; (Item::Unsigned(1), Item::Unsigned(1))]?),
-                    Item::Unsigned(0)
-                ),
-                (numbers(alloc, (1, 1), (1, 1))?, Item::Unsigned(0)),
-            ]?),
-            Reason::RepeatedKey,
-        ),
-        // 257 maps, nested as values and as keys
-        (
-            nested(alloc, Item::Unsigned(0), 257, false)?,
-            Reason::TooDeep,
-        ),
-        (
-            nested(alloc, Item::Unsigned(0), 257, true)?,
-            Reason::TooDeep,
-        ),
-    ];
-    for (item, want) in Vec::from_array(alloc, items)? {
-        match Tree::of(alloc, item) {
-            Ok(_) => panic!(rt; "a tree where {want} was due"),
-            Err((_, reason)) => assert_eq!(rt; reason, want),
-        }
+    // by itself, and within 255 and 256 tags
+    refuse(&rt, alloc, equal_keys(alloc)?, Reason::RepeatedKey);
+    let within = tagged(alloc, equal_keys(alloc)?, 255)?;
+    refuse(&rt, alloc, within, Reason::RepeatedKey);
+    let deeper = tagged(alloc, equal_keys(alloc)?, 256)?;
+    refuse(&rt, alloc, deeper, Reason::TooDeep);
+    refuse(&rt, alloc, equal_maps_as_keys(alloc)?, Reason::RepeatedKey);
+    refuse(&rt, alloc, equal_keys_in_a_key(alloc)?, Reason::RepeatedKey);
+    // 257 maps, nested as values and as keys
+    for as_key in [false, true] {
+        let item = nested(alloc, Item::Unsigned(0), 257, as_key)?;
+        refuse(&rt, alloc, item, Reason::TooDeep);
     }
     Ok(())
 }
@@ -302,10 +324,7 @@ fn looks_into_keys(rt: HostRuntime) -> Result<(), Fail> {
         tree(alloc, item)?;
     }
     for item in within_keys(alloc, 0)? {
-        match Tree::of(alloc, item) {
-            Ok(_) => panic!(rt; "a tree with equal keys"),
-            Err((_, reason)) => assert_eq!(rt; reason, Reason::RepeatedKey),
-        }
+        refuse(&rt, alloc, item, Reason::RepeatedKey);
     }
     Ok(())
 }
@@ -318,49 +337,56 @@ fn first_key(item: &Item) -> Option<&Item> {
     }
 }
 
+// Whether the item is {0: 0, 0: 1}, or such a map.
+fn has_equal_keys(item: &Item) -> bool {
+    match item {
+        Item::Map(pairs) => matches!(
+            pairs.as_slice(),
+            [_, (Item::Unsigned(0), Item::Unsigned(1))]
+        ),
+        _ => false,
+    }
+}
+
 // {{{0: 0, 1: 1}: 0}: 0} and {{{0: 0, 0: 1}: 0}: 0}
 #[test]
 fn looks_into_keys_of_keys(rt: HostRuntime) -> Result<(), Fail> {
     let alloc = rt.alloc();
     let apart = nested(alloc, numbers(alloc, (0, 0), (1, 1))?, 2, true)?;
-    assert_eq!(rt;
-        encode(alloc, &tree(alloc, apart)?, KeyOrder::Bytewise)?.as_slice(),
-        b"\xa1\xa1\xa2\x00\x00\x01\x01\x00\x00".as_slice()
-    );
-    let equal = nested(alloc, numbers(alloc, (0, 0), (0, 1))?, 2, true)?;
+    let bytes = b"\xa1\xa1\xa2\x00\x00\x01\x01\x00\x00";
+    check(&rt, alloc, &tree(alloc, apart)?, KeyOrder::Bytewise, bytes)?;
+    let equal = nested(alloc, equal_keys(alloc)?, 2, true)?;
     let Err((item, Reason::RepeatedKey)) = Tree::of(alloc, equal) else {
         panic!(rt; "another answer")
     };
-    let key = first_key(&item).ok_or("no key")?;
-    let Some(Item::Map(pairs)) = first_key(key) else {
-        panic!(rt; "another item")
-    };
-    assert_eq!(rt; pairs.len(), 2);
-    assert!(rt; matches!(&pairs[1], (Item::Unsigned(0), Item::Unsigned(1))));
+    let map = first_key(&item).and_then(first_key);
+    assert!(rt; map.is_some_and(has_equal_keys));
     Ok(())
+}
+
+// The item within so many tags.
+fn within_tags(item: &Item, tags: usize) -> Option<&Item> {
+    let mut inner = item;
+    for _ in 0..tags {
+        match inner {
+            Item::Tag(_, content) => inner = content,
+            _ => return None,
+        }
+    }
+    Some(inner)
 }
 
 #[test]
 fn gives_the_item_back(rt: HostRuntime) -> Result<(), Fail> {
     let alloc = rt.alloc();
-    match Tree::of(alloc, numbers(alloc, (0, 0), (0, 1))?) {
-        Err((Item::Map(pairs), Reason::RepeatedKey)) => {
-            assert_eq!(rt; pairs.len(), 2);
-            assert!(rt; matches!(&pairs[1], (Item::Unsigned(0), Item::Unsigned(1))));
-        }
+    match Tree::of(alloc, equal_keys(alloc)?) {
+        Err((item, Reason::RepeatedKey)) => assert!(rt; has_equal_keys(&item)),
         _ => panic!(rt; "another answer"),
     }
     // 257 tags around 5
     match Tree::of(alloc, tagged(alloc, Item::Unsigned(5), 257)?) {
         Err((item, Reason::TooDeep)) => {
-            let mut inner = &item;
-            for _ in 0..257 {
-                match inner {
-                    Item::Tag(_, content) => inner = content,
-                    _ => panic!(rt; "a tag is missing"),
-                }
-            }
-            assert!(rt; matches!(inner, Item::Unsigned(5)));
+            assert!(rt; matches!(within_tags(&item, 257), Some(Item::Unsigned(5))));
         }
         _ => panic!(rt; "another answer"),
     }
@@ -370,17 +396,24 @@ fn gives_the_item_back(rt: HostRuntime) -> Result<(), Fail> {
     Ok(())
 }
 
+// 256 maps around a number.
+fn deepest(alloc: Global, number: u64, as_key: bool) -> Result<Tree, Fail> {
+    tree(alloc, nested(alloc, Item::Unsigned(number), 256, as_key)?)
+}
+
 // The greatest depth: each is built, compared, encoded and let go.
+fn look_at_depth(rt: &impl Abort, alloc: Global, tree: &Tree, as_key: bool) -> Result<(), Fail> {
+    assert!(rt; same(tree, &deepest(alloc, 0, as_key)?));
+    assert!(rt; !same(tree, &deepest(alloc, 1, as_key)?));
+    assert_eq!(rt; encode(alloc, tree, KeyOrder::LengthFirst)?.len(), 513);
+    Ok(())
+}
+
 #[test]
 fn goes_down_to_256(rt: HostRuntime) -> Result<(), Fail> {
     let alloc = rt.alloc();
     for as_key in [false, true] {
-        let left = tree(alloc, nested(alloc, Item::Unsigned(0), 256, as_key)?)?;
-        let right = tree(alloc, nested(alloc, Item::Unsigned(0), 256, as_key)?)?;
-        let other = tree(alloc, nested(alloc, Item::Unsigned(1), 256, as_key)?)?;
-        assert!(rt; same(&left, &right));
-        assert!(rt; !same(&left, &other));
-        assert_eq!(rt; encode(alloc, &left, KeyOrder::LengthFirst)?.len(), 513);
+        look_at_depth(&rt, alloc, &deepest(alloc, 0, as_key)?, as_key)?;
     }
     let tags = tree(alloc, tagged(alloc, Item::Unsigned(0), 256)?)?;
     assert_eq!(rt; encode(alloc, &tags, KeyOrder::Bytewise)?.len(), 257);

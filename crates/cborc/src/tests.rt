@@ -119,13 +119,18 @@ fn is_line(bytes: &[u8], line: &str) -> bool {
     }
 }
 
-// The words of a line, behind the program's name.
-fn words(alloc: Global, line: &str) -> Result<Vec<String>, AllocError> {
-    let mut words = Vec::new(alloc);
-    words.push(String::from_str(alloc, "cborc")?)?;
+fn push_words(words: &mut Vec<String>, alloc: Global, line: &str) -> Result<(), AllocError> {
     for word in line.split_whitespace() {
         words.push(String::from_str(alloc, word)?)?;
     }
+    Ok(())
+}
+
+// The words of a line, behind the program's name.
+fn words(alloc: Global, line: &str) -> Result<Vec<String>, AllocError> {
+    let mut words = Vec::new(alloc);
+    push_words(&mut words, alloc, "cborc")?;
+    push_words(&mut words, alloc, line)?;
     Ok(words)
 }
 

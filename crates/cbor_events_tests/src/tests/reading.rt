@@ -10,7 +10,6 @@ use std::alloc::{AllocError, Global};
 use std::io;
 use std::io::Read;
 use std::process::Abort;
-use std::test::Fail;
 
 // A reader that gives at most so many bytes a read, and none beyond a cut with those before it. Where
 // it fails or ends, it does so once, and then goes on: a second read there is seen by what it gives.
@@ -137,8 +136,65 @@ fn payloads_of(alloc: Global, bytes: &[u8], events: &[Event]) -> Result<Vec<u8>,
     Ok(payloads)
 }
 
-// Reads the bytes, and a byte behind an item, whole, one by one, and with each cut, and looks for these
-// events and their payloads, this last answer, and what the reader has left.
+// What is to come of an item: these events and their payloads, this last answer, and so many bytes
+// taken.
+#[derive(Drop)]
+struct Wanted {
+    events: Vec<Event>,
+    payloads: Vec<u8>,
+    out: Out,
+    taken: u64,
+}
+
+// Reads the bytes, cut there, in such parts, and looks for what is wanted, and what the reader has
+// left.
+fn look_once(
+    rt: &impl Abort,
+    alloc: Global,
+    limits: Limits,
+    bytes: &[u8],
+    cut: usize,
+    part: usize,
+    wanted: &Wanted,
+) -> Result<(), AllocError> {
+    let mut parts = Parts::new(bytes);
+    parts.cut = cut;
+    parts.part = part;
+    let heard = hear(alloc, limits, &mut parts)?;
+    assert!(rt;
+        heard.told.events == wanted.events,
+        "events of {bytes:?} cut at {cut}"
+    );
+    assert!(rt;
+        heard.payloads == wanted.payloads,
+        "payloads of {bytes:?} cut at {cut}"
+    );
+    assert_eq!(rt; heard.told.out, wanted.out, "{bytes:?} cut at {cut}");
+    assert_eq!(rt; heard.told.taken, wanted.taken, "{bytes:?} cut at {cut}");
+    let left = (bytes.len() as u64).saturating_sub(wanted.taken);
+    assert_eq!(rt; parts.rest.len() as u64, left, "{bytes:?} cut at {cut}");
+    assert_eq!(rt; parts.idle, 0, "{bytes:?} cut at {cut}");
+    Ok(())
+}
+
+// The same whole, one by one, and with each cut.
+fn look_at_each_cut(
+    rt: &impl Abort,
+    alloc: Global,
+    limits: Limits,
+    bytes: &[u8],
+    wanted: &Wanted,
+) -> Result<(), AllocError> {
+    for cut in 0..=bytes.len() {
+        for part in [1, usize::MAX] {
+            look_once(rt, alloc, limits, bytes, cut, part, wanted)?;
+        }
+    }
+    Ok(())
+}
+
+// The same of the bytes that hex digits stand for, and a byte behind an item. What is read borrows
+// them: an owner of all this would owe at each `?` that it may be let go there.
 fn look_every_way(
     rt: &impl Abort,
     alloc: Global,
@@ -147,32 +203,20 @@ fn look_every_way(
     events: &str,
     out: Out,
     taken: u64,
-) -> Result<(), Fail> {
+) -> Result<(), AllocError> {
     let mut bytes = bytes_of(rt, alloc, hex)?;
     let events = events_of(rt, alloc, events)?;
     let payloads = payloads_of(alloc, &bytes, &events)?;
     if out == Out::Done {
         bytes.push(0)?;
     }
-    for cut in 0..=bytes.len() {
-        for part in [1, usize::MAX] {
-            let mut parts = Parts::new(&bytes);
-            parts.cut = cut;
-            parts.part = part;
-            let heard = hear(alloc, limits, &mut parts)?;
-            assert!(rt; heard.told.events == events, "events of {hex} cut at {cut}");
-            assert!(rt;
-                heard.payloads == payloads,
-                "payloads of {hex} cut at {cut}"
-            );
-            assert_eq!(rt; heard.told.out, out, "{hex} cut at {cut}");
-            assert_eq!(rt; heard.told.taken, taken, "{hex} cut at {cut}");
-            let left = (bytes.len() as u64).saturating_sub(taken);
-            assert_eq!(rt; parts.rest.len() as u64, left, "{hex} cut at {cut}");
-            assert_eq!(rt; parts.idle, 0, "{hex} cut at {cut}");
-        }
-    }
-    Ok(())
+    let wanted = Wanted {
+        events,
+        payloads,
+        out,
+        taken,
+    };
+    look_at_each_cut(rt, alloc, limits, &bytes, &wanted)
 }
 
 fn refused(reason: Reason, place: u64, read: u64) -> Out {
@@ -184,7 +228,7 @@ fn refused(reason: Reason, place: u64, read: u64) -> Out {
 }
 
 #[test]
-fn reads_items(rt: HostRuntime) -> Result<(), Fail> {
+fn reads_items(rt: HostRuntime) -> Result<(), AllocError> {
     let limits = limits(&rt, 256, 1 << 20);
     for &(hex, events) in accepted_rows() {
         let taken = hex.len() as u64 / 2;
@@ -197,7 +241,7 @@ fn reads_items(rt: HostRuntime) -> Result<(), Fail> {
 }
 
 #[test]
-fn refuses_as_the_tables_say(rt: HostRuntime) -> Result<(), Fail> {
+fn refuses_as_the_tables_say(rt: HostRuntime) -> Result<(), AllocError> {
     for &(hex, depth, bytes, reason, place, read, events) in refused_rows() {
         let out = refused(reason, place, read);
         let limits = limits(&rt, depth, bytes);
@@ -212,45 +256,60 @@ fn refuses_as_the_tables_say(rt: HostRuntime) -> Result<(), Fail> {
     Ok(())
 }
 
+// Reads an item from a reader that fails there, or ends.
+fn look_where_it_stops(
+    rt: &impl Abort,
+    alloc: Global,
+    limits: Limits,
+    bytes: &[u8],
+    place: usize,
+    reason: Reason,
+) -> Result<(), AllocError> {
+    let mut parts = Parts::new(bytes);
+    if reason == Reason::Read {
+        parts.fails = place;
+    } else {
+        parts.ends = place;
+    }
+    let heard = hear(alloc, limits, &mut parts)?;
+    let taken = place as u64;
+    let left = bytes.len().saturating_sub(place);
+    assert_eq!(rt;
+        heard.told.out,
+        refused(reason, taken, taken),
+        "{bytes:?} at {place}"
+    );
+    assert_eq!(rt; heard.told.taken, taken, "{bytes:?} at {place}");
+    assert_eq!(rt; parts.rest.len(), left, "{bytes:?} at {place}");
+    Ok(())
+}
+
 // A reader that fails, or ends, once at each place: it is told there, and nothing more is read.
 #[test]
-fn a_failure_and_an_end_are_told_at_once(rt: HostRuntime) -> Result<(), Fail> {
+fn a_failure_and_an_end_are_told_at_once(rt: HostRuntime) -> Result<(), AllocError> {
     let limits = limits(&rt, 256, 1 << 20);
     for &(hex, _) in accepted_rows() {
         let bytes = bytes_of(&rt, rt.alloc(), hex)?;
         for place in 0..bytes.len() {
-            for reason in [Reason::Read, Reason::Truncated] {
-                let mut parts = Parts::new(&bytes);
-                if reason == Reason::Read {
-                    parts.fails = place;
-                } else {
-                    parts.ends = place;
-                }
-                let heard = hear(rt.alloc(), limits, &mut parts)?;
-                let taken = place as u64;
-                assert_eq!(rt;
-                    heard.told.out,
-                    refused(reason, taken, taken),
-                    "{hex} at {place}"
-                );
-                assert_eq!(rt; heard.told.taken, taken, "{hex} at {place}");
-                assert_eq!(rt; parts.rest.len(), bytes.len() - place, "{hex} at {place}");
-            }
+            look_where_it_stops(&rt, rt.alloc(), limits, &bytes, place, Reason::Read)?;
+            look_where_it_stops(&rt, rt.alloc(), limits, &bytes, place, Reason::Truncated)?;
         }
     }
     Ok(())
 }
 
-// One byte of a head, what is missing of its argument, and a payload in parts; none at the limit.
-#[test]
-fn asks_for_what_it_needs(rt: HostRuntime) -> Result<(), Fail> {
-    // [256, "a string of 600 bytes"], and a byte behind
-    let mut bytes = bytes_of(&rt, rt.alloc(), "82190100790258")?;
+// [256, "a string of 600 bytes"], and a byte behind
+fn long_string(rt: &impl Abort, alloc: Global) -> Result<Vec<u8>, AllocError> {
+    let mut bytes = bytes_of(rt, alloc, "82190100790258")?;
     for _ in 0..601 {
         bytes.push(b'a')?;
     }
-    let mut parts = Parts::new(&bytes);
-    let heard = hear(rt.alloc(), limits(&rt, 1, 607), &mut parts)?;
+    Ok(bytes)
+}
+
+fn look_at_whole(rt: &impl Abort, alloc: Global, bytes: &[u8]) -> Result<(), AllocError> {
+    let mut parts = Parts::new(bytes);
+    let heard = hear(alloc, limits(rt, 1, 607), &mut parts)?;
     assert_eq!(rt; heard.told.out, Out::Done);
     let text = [
         event(0, Width::Direct, EventKind::Array(Some(2))),
@@ -261,20 +320,37 @@ fn asks_for_what_it_needs(rt: HostRuntime) -> Result<(), Fail> {
     assert!(rt; heard.told.events[..] == text[..]);
     assert_eq!(rt; parts.rest.len(), 1);
     assert!(rt; parts.asked.as_slice() == [1, 1, 2, 1, 2, 512, 88].as_slice());
-
-    // the same, with a limit of 10 bytes
-    let mut parts = Parts::new(&bytes);
-    let heard = hear(rt.alloc(), limits(&rt, 1, 10), &mut parts)?;
-    assert_eq!(rt; heard.told.out, refused(Reason::TooLong, 10, 10));
-    assert!(rt; parts.asked.as_slice() == [1, 1, 2, 1, 2, 3].as_slice());
-
-    // 2^32, by a head of nine bytes
-    let bytes = bytes_of(&rt, rt.alloc(), "1b0000000100000000")?;
-    let mut parts = Parts::new(&bytes);
-    let heard = hear(rt.alloc(), limits(&rt, 1, 9), &mut parts)?;
-    assert_eq!(rt; heard.told.out, Out::Done);
-    assert!(rt; parts.asked.as_slice() == [1, 8].as_slice());
     Ok(())
+}
+
+// Reads the bytes with this limit, and looks for the last answer and for what was asked.
+fn asks_for(
+    rt: &impl Abort,
+    alloc: Global,
+    bytes: &[u8],
+    limit: u64,
+    out: Out,
+    asked: &[usize],
+) -> Result<(), AllocError> {
+    let mut parts = Parts::new(bytes);
+    let heard = hear(alloc, limits(rt, 1, limit), &mut parts)?;
+    assert_eq!(rt; heard.told.out, out);
+    assert!(rt; parts.asked.as_slice() == asked);
+    Ok(())
+}
+
+// One byte of a head, what is missing of its argument, and a payload in parts; none at the limit.
+#[test]
+fn asks_for_what_it_needs(rt: HostRuntime) -> Result<(), AllocError> {
+    let alloc = rt.alloc();
+    let bytes = long_string(&rt, alloc)?;
+    look_at_whole(&rt, alloc, &bytes)?;
+    // the same, with a limit of 10 bytes
+    let out = refused(Reason::TooLong, 10, 10);
+    asks_for(&rt, alloc, &bytes, 10, out, &[1, 1, 2, 1, 2, 3])?;
+    // 2^32, by a head of nine bytes
+    let bytes = bytes_of(&rt, alloc, "1b0000000100000000")?;
+    asks_for(&rt, alloc, &bytes, 9, Out::Done, &[1, 8])
 }
 
 #[test]

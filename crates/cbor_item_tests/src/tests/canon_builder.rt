@@ -1,14 +1,17 @@
 //! Canonical bytes from the parts of an item.
 
-ghost use Rattle.std.specs.Prelude.{List, ◌≡◌, ◌∷◌, OnOk};
+ghost use Rattle.std.specs.Prelude.{List, ◌≡◌, ◌∷◌, [], OnOk};
 ghost use Rattle.cbor_head.specs.Canonical.{Pair};
 ghost use Rattle.cbor_builder.specs.Built.{TakesPart};
-ghost use Rattle.cbor_builder.specs.Parts.{a_map};
+ghost use Rattle.cbor_builder.specs.Parts.{a_map, plain};
 
 use cbor_head::Major;
 use cbor_item::{CanonBuilder, KeyOrder, Repeat};
 use std::alloc::{AllocError, Global};
-use std::test::Fail;
+use std::process::Abort;
+
+// The parts are given by functions that borrow the builder: an owner of it would owe at each `?` that
+// it may be let go there.
 
 // A map begins, with a pair for each number, which is its key; its value is 0.
 fn open_map(builder: &mut CanonBuilder, keys: &[u64]) -> Result<(), AllocError>
@@ -25,9 +28,9 @@ fn open_map(builder: &mut CanonBuilder, keys: &[u64]) -> Result<(), AllocError>
 }
 
 // {1: [2], 0: "a", -1: h'01020304'} as it comes, the strings in pieces
-#[test]
-fn parts_in_order_and_strings_in_pieces(rt: HostRuntime) -> Result<(), Fail> {
-    let mut builder = CanonBuilder::new(rt.alloc(), KeyOrder::Bytewise);
+fn give_in_pieces(rt: &impl Abort, builder: &mut CanonBuilder) -> Result<(), AllocError>
+    requires empty { builder.old.standing ≡ plain [] ∷ [] }
+{
     builder.begin(Major::Map, 0)?;
     builder.leaf(Major::Unsigned, 1)?;
     assert!(rt; !builder.repeated());
@@ -44,6 +47,13 @@ fn parts_in_order_and_strings_in_pieces(rt: HostRuntime) -> Result<(), Fail> {
     builder.bytes(b"\x04")?;
     builder.end_string()?;
     assert!(rt; builder.end_if_distinct()?);
+    Ok(())
+}
+
+#[test]
+fn parts_in_order_and_strings_in_pieces(rt: HostRuntime) -> Result<(), AllocError> {
+    let mut builder = CanonBuilder::new(rt.alloc(), KeyOrder::Bytewise);
+    give_in_pieces(&rt, &mut builder)?;
     // {0: "a", 1: [2], -1: h'01020304'}
     assert_eq!(rt;
         builder.finish().as_slice(),
@@ -52,17 +62,29 @@ fn parts_in_order_and_strings_in_pieces(rt: HostRuntime) -> Result<(), Fail> {
     Ok(())
 }
 
+// Whether this key waits for its value. (What the call promises of it would burden each step behind.)
+fn is_waiting(builder: &CanonBuilder, key: &[u8]) -> bool {
+    match builder.waiting_key() {
+        Some(waiting) => waiting == key,
+        None => false,
+    }
+}
+
+fn is_none_waiting(builder: &CanonBuilder) -> bool {
+    builder.waiting_key().is_none()
+}
+
 // {"aa": 0, 1: 0, "aa" ..
-#[test]
-fn a_key_again(rt: HostRuntime) -> Result<(), Fail> {
-    let mut builder = CanonBuilder::new(rt.alloc(), KeyOrder::LengthFirst);
+fn give_a_key_again(rt: &impl Abort, builder: &mut CanonBuilder) -> Result<(), AllocError>
+    requires empty { builder.old.standing ≡ plain [] ∷ [] }
+{
     builder.begin(Major::Map, 3)?;
-    assert!(rt; builder.waiting_key().is_none());
+    assert!(rt; is_none_waiting(builder));
     builder.string(Major::Text, b"aa")?;
     assert!(rt; !builder.repeated());
-    assert!(rt; builder.waiting_key() == Some(b"\x62aa".as_slice()));
+    assert!(rt; is_waiting(builder, b"\x62aa"));
     builder.leaf(Major::Unsigned, 0)?;
-    assert!(rt; builder.waiting_key().is_none());
+    assert!(rt; is_none_waiting(builder));
     builder.leaf(Major::Unsigned, 1)?;
     assert!(rt; !builder.repeated());
     builder.leaf(Major::Unsigned, 0)?;
@@ -73,11 +95,17 @@ fn a_key_again(rt: HostRuntime) -> Result<(), Fail> {
     Ok(())
 }
 
+#[test]
+fn a_key_again(rt: HostRuntime) -> Result<(), AllocError> {
+    let mut builder = CanonBuilder::new(rt.alloc(), KeyOrder::LengthFirst);
+    give_a_key_again(&rt, &mut builder)
+}
+
 // RFC 8949, appendix A: 23, 24, 65535, 4294967295, 18446744073709551615, -1000, 32(0),
 // simple(255)
-#[test]
-fn the_shortest_heads(rt: HostRuntime) -> Result<(), Fail> {
-    let mut builder = CanonBuilder::new(rt.alloc(), KeyOrder::Bytewise);
+fn give_heads(builder: &mut CanonBuilder) -> Result<(), AllocError>
+    requires empty { builder.old.standing ≡ plain [] ∷ [] }
+{
     builder.begin(Major::Array, 8)?;
     builder.leaf(Major::Unsigned, 23)?;
     builder.leaf(Major::Unsigned, 24)?;
@@ -89,7 +117,13 @@ fn the_shortest_heads(rt: HostRuntime) -> Result<(), Fail> {
     builder.leaf(Major::Unsigned, 0)?;
     builder.end()?;
     builder.leaf(Major::Simple, 255)?;
-    builder.end()?;
+    builder.end()
+}
+
+#[test]
+fn the_shortest_heads(rt: HostRuntime) -> Result<(), AllocError> {
+    let mut builder = CanonBuilder::new(rt.alloc(), KeyOrder::Bytewise);
+    give_heads(&mut builder)?;
     assert_eq!(rt;
         builder.finish().as_slice(),
         b"\x88\x17\x18\x18\x19\xff\xff\x1a\xff\xff\xff\xff\x1b\xff\xff\xff\xff\xff\xff\xff\xff\x39\x03\xe7\xd8\x20\x00\xf8\xff".as_slice()
@@ -98,94 +132,138 @@ fn the_shortest_heads(rt: HostRuntime) -> Result<(), Fail> {
 }
 
 // ["ab", 'x'], each string the front of what is given
-#[test]
-fn takes_the_front_of_what_is_given(rt: HostRuntime) -> Result<(), Fail> {
-    let mut builder = CanonBuilder::new(rt.alloc(), KeyOrder::Bytewise);
+fn give_fronts(builder: &mut CanonBuilder) -> Result<(), AllocError>
+    requires empty { builder.old.standing ≡ plain [] ∷ [] }
+{
     builder.begin(Major::Array, 2)?;
     builder.front_string(Major::Text, b"abc", 2)?;
     builder.begin_string(Major::Bytes)?;
     builder.front_bytes(b"xyz", 1)?;
     builder.end_string()?;
-    builder.end()?;
+    builder.end()
+}
+
+#[test]
+fn takes_the_front_of_what_is_given(rt: HostRuntime) -> Result<(), AllocError> {
+    let mut builder = CanonBuilder::new(rt.alloc(), KeyOrder::Bytewise);
+    give_fronts(&mut builder)?;
     assert_eq!(rt; builder.finish().as_slice(), b"\x82\x62ab\x41x".as_slice());
     Ok(())
 }
 
+// Two pairs in falling order, with one value.
+fn give_falling(builder: &mut CanonBuilder, content: &[u8]) -> Result<bool, AllocError>
+    requires empty { builder.old.standing ≡ plain [] ∷ [] }
+{
+    builder.begin(Major::Map, 2)?;
+    builder.leaf(Major::Unsigned, 2)?;
+    builder.string(Major::Bytes, content)?;
+    builder.leaf(Major::Unsigned, 1)?;
+    builder.string(Major::Bytes, content)?;
+    builder.end_if_distinct()
+}
+
+// The key, and a string of so many sevens.
+fn put_pair(bytes: &mut Vec<u8>, key: u8, size: u8) -> Result<(), AllocError> {
+    bytes.push(key)?;
+    if size < 24 {
+        bytes.push(0x40 | size)?;
+    } else {
+        bytes.extend_from_slice(&[0x58, size])?;
+    }
+    for _ in 0..size {
+        bytes.push(7)?;
+    }
+    Ok(())
+}
+
+fn in_order(alloc: Global, size: u8) -> Result<Vec<u8>, AllocError> {
+    let mut bytes = vec![in alloc; 0xa2]?;
+    put_pair(&mut bytes, 1, size)?;
+    put_pair(&mut bytes, 2, size)?;
+    Ok(bytes)
+}
+
+fn falling(rt: &impl Abort, alloc: Global, size: u8) -> Result<Vec<u8>, AllocError> {
+    let content = Vec::from_elem(alloc, 7, usize::from(size))?;
+    let mut builder = CanonBuilder::new(alloc, KeyOrder::Bytewise);
+    assert!(rt; give_falling(&mut builder, content.as_slice())?);
+    Ok(builder.finish())
+}
+
 // Two pairs in falling order, with strings of each length as values: they change places whole.
 #[test]
-fn pairs_of_each_length(rt: HostRuntime) -> Result<(), Fail> {
+fn pairs_of_each_length(rt: HostRuntime) -> Result<(), AllocError> {
     let alloc = rt.alloc();
     for size in 0u8..70 {
-        let content = Vec::from_elem(alloc, 7, usize::from(size))?;
-        let mut builder = CanonBuilder::new(alloc, KeyOrder::Bytewise);
-        builder.begin(Major::Map, 2)?;
-        builder.leaf(Major::Unsigned, 2)?;
-        builder.string(Major::Bytes, content.as_slice())?;
-        builder.leaf(Major::Unsigned, 1)?;
-        builder.string(Major::Bytes, content.as_slice())?;
-        assert!(rt; builder.end_if_distinct()?);
-        let mut wanted = vec![in alloc; 0xa2]?;
-        for key in [1, 2] {
-            wanted.push(key)?;
-            if size < 24 {
-                wanted.push(0x40 | size)?;
-            } else {
-                wanted.extend_from_slice(&[0x58, size])?;
-            }
-            wanted.extend_from_slice(content.as_slice())?;
-        }
-        assert_eq!(rt; builder.finish().as_slice(), wanted.as_slice());
+        let given = falling(&rt, alloc, size)?;
+        let wanted = in_order(alloc, size)?;
+        assert_eq!(rt; given.as_slice(), wanted.as_slice());
     }
     Ok(())
 }
 
 // {OUTER, 4: [{INNER, and a last key that waits for its value
-fn opened(
+fn give_opened(
+    builder: &mut CanonBuilder,
+    outer: &[u64],
+    inner: &[u64],
+    last: u64,
+) -> Result<(), AllocError>
+    requires takes { TakesPart builder.old.standing }
+{
+    open_map(builder, outer)?;
+    builder.leaf(Major::Unsigned, 4)?;
+    builder.begin(Major::Array, 0)?;
+    open_map(builder, inner)?;
+    builder.leaf(Major::Unsigned, last)
+}
+
+fn told_of(
     alloc: Global,
     outer: &[u64],
     inner: &[u64],
     last: u64,
-) -> Result<CanonBuilder, AllocError> {
+) -> Result<Option<Repeat>, AllocError> {
     let mut builder = CanonBuilder::new(alloc, KeyOrder::Bytewise);
-    open_map(&mut builder, outer)?;
-    builder.leaf(Major::Unsigned, 4)?;
-    builder.begin(Major::Array, 0)?;
-    open_map(&mut builder, inner)?;
-    builder.leaf(Major::Unsigned, last)?;
-    Ok(builder)
+    give_opened(&mut builder, outer, inner, last)?;
+    Ok(builder.first_repeat())
 }
 
 #[test]
-fn the_outermost_repeated_key_is_told(rt: HostRuntime) -> Result<(), Fail> {
+fn the_outermost_repeated_key_is_told(rt: HostRuntime) -> Result<(), AllocError> {
     let alloc = rt.alloc();
     let told = |outside, pair| Some(Repeat { outside, pair });
-    let none = opened(alloc, &[3, 1, 2], &[7, 5, 6], 8)?;
-    assert_eq!(rt; none.first_repeat(), None);
-    let outer = opened(alloc, &[3, 1, 2, 1, 3], &[7, 7], 8)?;
-    assert_eq!(rt; outer.first_repeat(), told(0, 3));
-    let outer_waits = opened(alloc, &[3, 4, 2], &[7, 7], 7)?;
-    assert_eq!(rt; outer_waits.first_repeat(), told(0, 3));
-    let inner = opened(alloc, &[3, 1, 2], &[7, 5, 5, 7], 7)?;
-    assert_eq!(rt; inner.first_repeat(), told(2, 2));
-    let inner_waits = opened(alloc, &[3, 1, 2], &[7, 5, 6], 5)?;
-    assert_eq!(rt; inner_waits.first_repeat(), told(2, 3));
-    let rises_and_waits = opened(alloc, &[1, 2, 3], &[5, 6, 7], 6)?;
-    assert_eq!(rt; rises_and_waits.first_repeat(), told(2, 3));
+    // no key is equal to another, or one of the outer map, or the last of it, which waits
+    assert_eq!(rt; told_of(alloc, &[3, 1, 2], &[7, 5, 6], 8)?, None);
+    assert_eq!(rt; told_of(alloc, &[3, 1, 2, 1, 3], &[7, 7], 8)?, told(0, 3));
+    assert_eq!(rt; told_of(alloc, &[3, 4, 2], &[7, 7], 7)?, told(0, 3));
+    // one of the inner map, or the last of it, which waits, behind keys that fall or rise
+    assert_eq!(rt; told_of(alloc, &[3, 1, 2], &[7, 5, 5, 7], 7)?, told(2, 2));
+    assert_eq!(rt; told_of(alloc, &[3, 1, 2], &[7, 5, 6], 5)?, told(2, 3));
+    assert_eq!(rt; told_of(alloc, &[1, 2, 3], &[5, 6, 7], 6)?, told(2, 3));
     let empty = CanonBuilder::new(alloc, KeyOrder::Bytewise);
     assert_eq!(rt; empty.first_repeat(), None);
     Ok(())
 }
 
 // A map of which two keys are equal stays open, with all that was given.
-#[test]
-fn a_map_that_repeats_a_key_stays_open(rt: HostRuntime) -> Result<(), Fail> {
-    let mut builder = CanonBuilder::new(rt.alloc(), KeyOrder::LengthFirst);
-    open_map(&mut builder, &[9, 1, 9])?;
+fn give_a_repeat(rt: &impl Abort, builder: &mut CanonBuilder) -> Result<(), AllocError>
+    requires empty { builder.old.standing ≡ plain [] ∷ [] }
+{
+    open_map(builder, &[9, 1, 9])?;
     if builder.end_if_distinct()? || builder.end_if_distinct()? {
         panic!(rt; "two keys are equal");
     }
     builder.leaf(Major::Unsigned, 1)?;
     assert!(rt; builder.repeated());
+    Ok(())
+}
+
+#[test]
+fn a_map_that_repeats_a_key_stays_open(rt: HostRuntime) -> Result<(), AllocError> {
+    let mut builder = CanonBuilder::new(rt.alloc(), KeyOrder::LengthFirst);
+    give_a_repeat(&rt, &mut builder)?;
     let told = Repeat {
         outside: 0,
         pair: 2,
@@ -196,7 +274,7 @@ fn a_map_that_repeats_a_key_stays_open(rt: HostRuntime) -> Result<(), Fail> {
 
 // Falling keys of nine bytes, alike in the first eight, and then the key of one of them again.
 #[test]
-fn the_pair_is_told_in_maps_of_each_size(rt: HostRuntime) -> Result<(), Fail> {
+fn the_pair_is_told_in_maps_of_each_size(rt: HostRuntime) -> Result<(), AllocError> {
     let alloc = rt.alloc();
     for size in [1, 2, 3, 19, 20, 21, 50, 51, 200] {
         for again in [1, size / 2 + 1, size] {

@@ -1,10 +1,9 @@
 //! Maps whose keys do not come in order, against the order that RFC 8949, sections 4.2.1 and 4.2.3
 //! have, by the encoded keys.
 
-use super::tree;
-use cbor_item::{Item, KeyOrder, encode};
+use super::alike;
+use cbor_item::Item;
 use std::alloc::{AllocError, Global};
-use std::process::Abort;
 use std::test::Fail;
 
 // A head of fewer than 65,536.
@@ -21,91 +20,109 @@ fn put_head(bytes: &mut Vec<u8>, major: u8, n: u16) -> Result<(), AllocError> {
     Ok(())
 }
 
-fn check(
-    rt: &impl Abort,
-    alloc: Global,
-    item: Item,
-    bytewise: &[u8],
-    length_first: &[u8],
-) -> Result<(), Fail> {
-    let tree = tree(alloc, item)?;
-    assert_eq!(rt;
-        encode(alloc, &tree, KeyOrder::Bytewise)?.as_slice(),
-        bytewise
-    );
-    assert_eq!(rt;
-        encode(alloc, &tree, KeyOrder::LengthFirst)?.as_slice(),
-        length_first
-    );
+fn put_times(bytes: &mut Vec<u8>, byte: u8, times: u16) -> Result<(), AllocError> {
+    for _ in 0..times {
+        bytes.push(byte)?;
+    }
     Ok(())
 }
 
-// {size: -1, size - 1: -2 ..}, of sizes around those where a head grows.
+// What follows gives the pairs of a map as they come, and its canonical bytes.
+type Pairs = Vec<(Item, Item)>;
+
+// {size: -1, size - 1: -2 ..}
+fn put_falling(pairs: &mut Pairs, wanted: &mut Vec<u8>, size: u16) -> Result<(), AllocError> {
+    put_head(wanted, 5, size)?;
+    for i in 0..size {
+        pairs.push((
+            Item::Unsigned(u64::from(size - i)),
+            Item::Negative(u64::from(i)),
+        ))?;
+        put_head(wanted, 0, i + 1)?;
+        put_head(wanted, 1, size - 1 - i)?;
+    }
+    Ok(())
+}
+
+// Of sizes around those where a head grows.
 #[test]
 fn maps_of_each_size(rt: HostRuntime) -> Result<(), Fail> {
     let alloc = rt.alloc();
     for size in [0u16, 1, 2, 22, 23, 24, 25, 255, 256, 300] {
         let mut pairs = Vec::new(alloc);
         let mut wanted = Vec::new(alloc);
-        put_head(&mut wanted, 5, size)?;
-        for i in 0..size {
-            pairs.push((
-                Item::Unsigned(u64::from(size - i)),
-                Item::Negative(u64::from(i)),
-            ))?;
-            put_head(&mut wanted, 0, i + 1)?;
-            put_head(&mut wanted, 1, size - 1 - i)?;
-        }
-        check(&rt, alloc, Item::Map(pairs), &wanted, &wanted)?;
+        put_falling(&mut pairs, &mut wanted, size)?;
+        alike(&rt, alloc, Item::Map(pairs), &wanted)?;
     }
     Ok(())
 }
 
-// Keys of six to eleven bytes that begin alike for as long as they can, with the last byte in no
-// order; each value is its key's last byte.
+// Keys that begin with so many sevens, with the last byte in no order; each value is its key's last
+// byte.
+fn put_alike(
+    alloc: Global,
+    pairs: &mut Pairs,
+    wanted: &mut Vec<u8>,
+    size: u8,
+) -> Result<(), AllocError> {
+    put_head(wanted, 5, 5)?;
+    for last in [9u8, 3, 23, 0, 4] {
+        let mut key = Vec::from_elem(alloc, 7, usize::from(size))?;
+        key.push(last)?;
+        pairs.push((Item::Bytes(key), Item::Unsigned(u64::from(last))))?;
+    }
+    for last in [0u8, 3, 4, 9, 23] {
+        put_head(wanted, 2, u16::from(size) + 1)?;
+        put_times(wanted, 7, u16::from(size))?;
+        wanted.extend_from_slice(&[last, last])?;
+    }
+    Ok(())
+}
+
+// Keys of six to eleven bytes that begin alike for as long as they can.
 #[test]
 fn keys_around_eight_bytes(rt: HostRuntime) -> Result<(), Fail> {
     let alloc = rt.alloc();
-    for size in 4usize..10 {
+    for size in 4u8..10 {
         let mut pairs = Vec::new(alloc);
         let mut wanted = Vec::new(alloc);
-        put_head(&mut wanted, 5, 5)?;
-        for last in [9u8, 3, 23, 0, 4] {
-            let mut key = Vec::from_elem(alloc, 7, size)?;
-            key.push(last)?;
-            pairs.push((Item::Bytes(key), Item::Unsigned(u64::from(last))))?;
-        }
-        for last in [0u8, 3, 4, 9, 23] {
-            put_head(&mut wanted, 2, size as u16 + 1)?;
-            wanted.extend_from_slice(&Vec::from_elem(alloc, 7, size)?)?;
-            wanted.extend_from_slice(&[last, last])?;
-        }
-        check(&rt, alloc, Item::Map(pairs), &wanted, &wanted)?;
+        put_alike(alloc, &mut pairs, &mut wanted, size)?;
+        alike(&rt, alloc, Item::Map(pairs), &wanted)?;
     }
     Ok(())
 }
 
-// In a map of 64 maps, each with strings of 120 bytes and fewer as keys, the longest first, so large
-// that its pairs are put in order without being moved.
+// Strings of 120 bytes and fewer as keys, the longest first.
+fn put_long(alloc: Global, pairs: &mut Pairs, wanted: &mut Vec<u8>) -> Result<(), AllocError> {
+    put_head(wanted, 5, 21)?;
+    for i in 0u16..21 {
+        let long = Vec::from_elem(alloc, 5, usize::from(120 - i))?;
+        pairs.push((Item::Bytes(long), Item::Unsigned(0)))?;
+        put_head(wanted, 2, 100 + i)?;
+        put_times(wanted, 5, 100 + i)?;
+        wanted.push(0)?;
+    }
+    Ok(())
+}
+
+fn put_maps(alloc: Global, pairs: &mut Pairs, wanted: &mut Vec<u8>) -> Result<(), AllocError> {
+    put_head(wanted, 5, 64)?;
+    for outer in 0u16..64 {
+        put_head(wanted, 0, outer)?;
+        let mut inner = Vec::new(alloc);
+        put_long(alloc, &mut inner, wanted)?;
+        pairs.push((Item::Unsigned(u64::from(outer)), Item::Map(inner)))?;
+    }
+    pairs.reverse();
+    Ok(())
+}
+
+// In a map of 64 maps, so large that its pairs are put in order without being moved.
 #[test]
 fn a_large_map_of_maps(rt: HostRuntime) -> Result<(), Fail> {
     let alloc = rt.alloc();
     let mut pairs = Vec::new(alloc);
     let mut wanted = Vec::new(alloc);
-    put_head(&mut wanted, 5, 64)?;
-    for outer in 0u16..64 {
-        let mut inner = Vec::new(alloc);
-        put_head(&mut wanted, 0, outer)?;
-        put_head(&mut wanted, 5, 21)?;
-        for i in 0u16..21 {
-            let long = Vec::from_elem(alloc, 5, usize::from(120 - i))?;
-            inner.push((Item::Bytes(long), Item::Unsigned(0)))?;
-            put_head(&mut wanted, 2, 100 + i)?;
-            wanted.extend_from_slice(&Vec::from_elem(alloc, 5, usize::from(100 + i))?)?;
-            wanted.push(0)?;
-        }
-        pairs.push((Item::Unsigned(u64::from(outer)), Item::Map(inner)))?;
-    }
-    pairs.reverse();
-    check(&rt, alloc, Item::Map(pairs), &wanted, &wanted)
+    put_maps(alloc, &mut pairs, &mut wanted)?;
+    alike(&rt, alloc, Item::Map(pairs), &wanted)
 }

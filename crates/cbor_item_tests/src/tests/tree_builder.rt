@@ -1,15 +1,19 @@
 //! An item from its parts.
 
+ghost use Rattle.std.specs.Prelude.{◌≡◌, ◌∷◌, [], OnOk};
+ghost use Rattle.cbor_item.specs.OpenValues.{the_whole, standing, IsWhole};
+
 use super::text;
 use cbor_head::Major;
 use cbor_item::{Item, KeyOrder, Tree, TreeBuilder, encode};
+use std::alloc::{AllocError, Global};
 use std::test::Fail;
 
 // {"a": 1, "b": [2, 3]} of RFC 8949, appendix A, within a tag.
-#[test]
-fn parts_make_an_item(rt: HostRuntime) -> Result<(), Fail> {
-    let alloc = rt.alloc();
-    let mut builder = TreeBuilder::new(alloc);
+fn give_parts(alloc: Global, builder: &mut TreeBuilder) -> Result<(), AllocError>
+    requires empty { standing builder.old ≡ the_whole [] ∷ [] }
+    ensures whole { OnOk result (IsWhole (standing builder.new)) }
+{
     builder.begin(Major::Tag, 55799)?;
     builder.begin(Major::Map, 0)?;
     builder.leaf(text(alloc, "a")?)?;
@@ -20,7 +24,14 @@ fn parts_make_an_item(rt: HostRuntime) -> Result<(), Fail> {
     builder.leaf(Item::Unsigned(3))?;
     builder.end()?;
     builder.end()?;
-    builder.end()?;
+    builder.end()
+}
+
+#[test]
+fn parts_make_an_item(rt: HostRuntime) -> Result<(), Fail> {
+    let alloc = rt.alloc();
+    let mut builder = TreeBuilder::new(alloc);
+    give_parts(alloc, &mut builder)?;
     let Ok(tree) = Tree::of(alloc, builder.finish()) else {
         panic!(rt; "no tree")
     };

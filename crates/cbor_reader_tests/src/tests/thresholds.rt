@@ -6,7 +6,6 @@ use cbor_head::{Limits, Reason, Refusal};
 use cbor_item::encode;
 use cbor_reader::{KeyOrder, canonicalise, check_canonical, read_strict, read_tree};
 use std::alloc::{AllocError, Global};
-use std::test::Fail;
 
 static SIZES: [u32; 38] = [
     0, 1, 2, 3, 7, 8, 9, 15, 16, 17, 22, 23, 24, 25, 31, 32, 33, 63, 64, 65, 127, 128, 129, 255,
@@ -70,166 +69,264 @@ fn becomes(alloc: Global, input: &[u8], canonical: &[u8], limits: Limits) -> boo
     true
 }
 
+// An input, and its canonical bytes in either order. What fills them borrows them: an owner of both
+// would owe at each `?` that they may be let go there.
+#[derive(Drop)]
+struct Case {
+    input: Vec<u8>,
+    canonical: Vec<u8>,
+}
+
+impl Case {
+    fn empty(alloc: Global) -> Case {
+        Case {
+            input: Vec::new(alloc),
+            canonical: Vec::new(alloc),
+        }
+    }
+
+    fn is_told(&self, alloc: Global, limits: Limits) -> bool {
+        becomes(alloc, &self.input, &self.canonical, limits)
+    }
+}
+
+fn push_string(bytes: &mut Vec<u8>, major: u8, byte: u8, size: u32) -> Result<(), AllocError> {
+    push_head(bytes, major, size)?;
+    push_times(bytes, byte, size)
+}
+
+fn push_wide_string(bytes: &mut Vec<u8>, major: u8, byte: u8, size: u32) -> Result<(), AllocError> {
+    push_wide_head(bytes, major, size)?;
+    push_times(bytes, byte, size)
+}
+
+fn string_of(alloc: Global, major: u8, byte: u8, size: u32) -> Result<Case, AllocError> {
+    let mut case = Case::empty(alloc);
+    push_wide_string(&mut case.input, major, byte, size)?;
+    push_string(&mut case.canonical, major, byte, size)?;
+    Ok(case)
+}
+
+fn push_three(
+    bytes: &mut Vec<u8>,
+    before: u8,
+    content: &[u8],
+    behind: &[u8],
+) -> Result<(), AllocError> {
+    bytes.push(before)?;
+    bytes.extend_from_slice(content)?;
+    bytes.extend_from_slice(behind)
+}
+
+// The map from the string to 0.
+fn map_from(alloc: Global, string: &Case) -> Result<Case, AllocError> {
+    let mut case = Case::empty(alloc);
+    push_three(&mut case.input, 0xbf, &string.input, &[0x18, 0, 0xff])?;
+    push_three(&mut case.canonical, 0xa1, &string.canonical, &[0])?;
+    Ok(case)
+}
+
 // Strings of each size, by themselves and as the keys of a map.
 #[test]
-fn strings_of_each_size(rt: HostRuntime) -> Result<(), Fail> {
+fn strings_of_each_size(rt: HostRuntime) -> Result<(), AllocError> {
     let alloc = rt.alloc();
     let limits = limits(&rt, 256, 1048576);
     for size in SIZES {
         for (major, byte) in STRINGS {
-            let mut input = Vec::new(alloc);
-            push_wide_head(&mut input, major, size)?;
-            push_times(&mut input, byte, size)?;
-            let mut canonical = Vec::new(alloc);
-            push_head(&mut canonical, major, size)?;
-            push_times(&mut canonical, byte, size)?;
-            assert!(rt;
-                becomes(alloc, &input, &canonical, limits),
-                "{major}, {size} bytes"
-            );
-            let mut map = Vec::from_slice(alloc, &[0xbf])?;
-            map.extend_from_slice(&input)?;
-            map.extend_from_slice(&[0x18, 0, 0xff])?;
-            let mut canonical_map = Vec::from_slice(alloc, &[0xa1])?;
-            canonical_map.extend_from_slice(&canonical)?;
-            canonical_map.push(0)?;
-            assert!(rt;
-                becomes(alloc, &map, &canonical_map, limits),
-                "{major}, {size} in a key"
-            );
+            let string = string_of(alloc, major, byte, size)?;
+            assert!(rt; string.is_told(alloc, limits), "{major}, {size} bytes");
+            let map = map_from(alloc, &string)?;
+            assert!(rt; map.is_told(alloc, limits), "{major}, {size} in a key");
         }
     }
     Ok(())
+}
+
+fn push_chunks(bytes: &mut Vec<u8>, major: u8, byte: u8, size: u32) -> Result<(), AllocError> {
+    bytes.push(major | 31)?;
+    push_string(bytes, major, byte, size)?;
+    bytes.extend_from_slice(&[major | 1, byte, 0xff])
+}
+
+fn chunks_of(alloc: Global, major: u8, byte: u8, size: u32) -> Result<Case, AllocError> {
+    let mut case = Case::empty(alloc);
+    push_chunks(&mut case.input, major, byte, size)?;
+    push_string(&mut case.canonical, major, byte, size.saturating_add(1))?;
+    Ok(case)
 }
 
 // Strings in chunks: all but the last byte, and the last byte.
 #[test]
-fn chunks_of_each_size(rt: HostRuntime) -> Result<(), Fail> {
+fn chunks_of_each_size(rt: HostRuntime) -> Result<(), AllocError> {
     let alloc = rt.alloc();
     let limits = limits(&rt, 256, 1048576);
     for size in SIZES {
         for (major, byte) in STRINGS {
-            let mut input = Vec::from_slice(alloc, &[major | 31])?;
-            push_head(&mut input, major, size)?;
-            push_times(&mut input, byte, size)?;
-            input.extend_from_slice(&[major | 1, byte, 0xff])?;
-            let mut canonical = Vec::new(alloc);
-            push_head(&mut canonical, major, size.saturating_add(1))?;
-            push_times(&mut canonical, byte, size.saturating_add(1))?;
-            assert!(rt;
-                becomes(alloc, &input, &canonical, limits),
-                "{major}, {size} and 1"
-            );
+            let chunks = chunks_of(alloc, major, byte, size)?;
+            assert!(rt; chunks.is_told(alloc, limits), "{major}, {size} and 1");
         }
     }
     Ok(())
 }
 
+fn push_streamed(bytes: &mut Vec<u8>, size: u32) -> Result<(), AllocError> {
+    bytes.push(0x9f)?;
+    push_times(bytes, 0, size)?;
+    bytes.push(0xff)?;
+    Ok(())
+}
+
+// So many zeros, with a wide head.
+fn wide_array(alloc: Global, size: u32) -> Result<Case, AllocError> {
+    string_of(alloc, 0x80, 0, size)
+}
+
+// So many zeros, without a length.
+fn streamed_array(alloc: Global, size: u32) -> Result<Case, AllocError> {
+    let mut case = Case::empty(alloc);
+    push_streamed(&mut case.input, size)?;
+    push_string(&mut case.canonical, 0x80, 0, size)?;
+    Ok(case)
+}
+
 // Arrays of each size, of a stated length and without.
 #[test]
-fn arrays_of_each_size(rt: HostRuntime) -> Result<(), Fail> {
+fn arrays_of_each_size(rt: HostRuntime) -> Result<(), AllocError> {
     let alloc = rt.alloc();
     let limits = limits(&rt, 256, 1048576);
     for size in SIZES {
-        let mut canonical = Vec::new(alloc);
-        push_head(&mut canonical, 0x80, size)?;
-        push_times(&mut canonical, 0, size)?;
-        let mut wide = Vec::new(alloc);
-        push_wide_head(&mut wide, 0x80, size)?;
-        push_times(&mut wide, 0, size)?;
-        let mut streamed = Vec::from_slice(alloc, &[0x9f])?;
-        push_times(&mut streamed, 0, size)?;
-        streamed.push(0xff)?;
-        let mut is_right = true;
+        let streamed = streamed_array(alloc, size)?;
         if size <= 4097 {
-            is_right = becomes(alloc, &wide, &canonical, limits)
-                && becomes(alloc, &streamed, &canonical, limits);
+            let is_right = wide_array(alloc, size)?.is_told(alloc, limits)
+                && streamed.is_told(alloc, limits);
+            assert!(rt; is_right, "{size} members");
         }
-        let given = canonicalise(alloc, &streamed, limits, KeyOrder::Bytewise);
-        let checked = check_canonical(&canonical, limits, KeyOrder::Bytewise);
-        assert!(rt; is_right, "{size} members");
+        let given = canonicalise(alloc, &streamed.input, limits, KeyOrder::Bytewise);
+        let checked = check_canonical(&streamed.canonical, limits, KeyOrder::Bytewise);
         assert!(rt;
-            given.is_ok_and(|bytes| bytes == canonical),
+            given.is_ok_and(|bytes| bytes == streamed.canonical),
             "{size} members, no length"
         );
-        assert_eq!(rt; checked, Ok(canonical.len() as u64), "{size} members");
+        let length = streamed.canonical.len() as u64;
+        assert_eq!(rt; checked, Ok(length), "{size} members");
     }
     Ok(())
+}
+
+// The keys of a map, each its own value: rising, falling, and turned with wide heads.
+fn push_rising(bytes: &mut Vec<u8>, size: u32) -> Result<(), AllocError> {
+    push_head(bytes, 0xa0, size)?;
+    for number in 0..size {
+        push_head(bytes, 0, number)?;
+        push_head(bytes, 0, number)?;
+    }
+    Ok(())
+}
+
+fn push_falling(bytes: &mut Vec<u8>, size: u32) -> Result<(), AllocError> {
+    push_head(bytes, 0xa0, size)?;
+    for number in 0..size {
+        push_head(bytes, 0, size - 1 - number)?;
+        push_head(bytes, 0, size - 1 - number)?;
+    }
+    Ok(())
+}
+
+fn push_turned(bytes: &mut Vec<u8>, size: u32) -> Result<(), AllocError> {
+    bytes.push(0xbf)?;
+    for number in 0..size {
+        push_wide_head(bytes, 0, number ^ 1)?;
+        push_wide_head(bytes, 0, number ^ 1)?;
+    }
+    bytes.push(0xff)?;
+    Ok(())
+}
+
+fn falling_map(alloc: Global, size: u32) -> Result<Case, AllocError> {
+    let mut case = Case::empty(alloc);
+    push_falling(&mut case.input, size)?;
+    push_rising(&mut case.canonical, size)?;
+    Ok(case)
+}
+
+fn turned_map(alloc: Global, size: u32) -> Result<Case, AllocError> {
+    let mut case = Case::empty(alloc);
+    push_turned(&mut case.input, size)?;
+    push_rising(&mut case.canonical, size)?;
+    Ok(case)
 }
 
 // Maps of each size up to 4097 pairs, with rising, falling and turned keys: each number is its own
 // value.
 #[test]
-fn maps_of_each_size(rt: HostRuntime) -> Result<(), Fail> {
+fn maps_of_each_size(rt: HostRuntime) -> Result<(), AllocError> {
     let alloc = rt.alloc();
     let limits = limits(&rt, 256, 1048576);
     for size in SIZES {
         if size > 4097 {
             continue;
         }
-        let mut canonical = Vec::new(alloc);
-        push_head(&mut canonical, 0xa0, size)?;
-        let mut falling = Vec::new(alloc);
-        push_head(&mut falling, 0xa0, size)?;
-        let mut turned = Vec::from_slice(alloc, &[0xbf])?;
-        for number in 0..size {
-            for _ in 0..2 {
-                push_head(&mut canonical, 0, number)?;
-                push_head(&mut falling, 0, size - 1 - number)?;
-                push_wide_head(&mut turned, 0, number ^ 1)?;
-            }
-        }
-        turned.push(0xff)?;
-        assert!(rt;
-            becomes(alloc, &canonical, &canonical, limits),
-            "{size} pairs"
-        );
-        assert!(rt;
-            becomes(alloc, &falling, &canonical, limits),
-            "{size} pairs, falling"
-        );
+        let falling = falling_map(alloc, size)?;
+        assert!(rt; falling.is_told(alloc, limits), "{size} pairs, falling");
+        let rising = &falling.canonical;
+        assert!(rt; becomes(alloc, rising, rising, limits), "{size} pairs");
         if size % 2 == 0 {
-            assert!(rt;
-                becomes(alloc, &turned, &canonical, limits),
-                "{size} pairs, turned"
-            );
+            let turned = turned_map(alloc, size)?;
+            assert!(rt; turned.is_told(alloc, limits), "{size} pairs, turned");
         }
     }
     Ok(())
 }
 
+// So many letters and these bytes, as a text of as many bytes as they are.
+fn push_text(bytes: &mut Vec<u8>, size: u32, length: u32, behind: &[u8]) -> Result<(), AllocError> {
+    push_head(bytes, 0x60, length)?;
+    push_times(bytes, b'a', size)?;
+    bytes.extend_from_slice(behind)
+}
+
+fn text_of(alloc: Global, size: u32, length: u32, behind: &[u8]) -> Result<Vec<u8>, AllocError> {
+    let mut bytes = Vec::new(alloc);
+    push_text(&mut bytes, size, length, behind)?;
+    Ok(bytes)
+}
+
+// Whether each call refuses the input so.
+fn is_refused(alloc: Global, input: &[u8], limits: Limits, refusal: Refusal) -> bool {
+    for part in [1, 512, 513] {
+        let mut reader = Parts { rest: input, part };
+        let answer = read_tree(alloc, &mut reader, limits);
+        let mut reader = Parts { rest: input, part };
+        let strict = read_strict(alloc, &mut reader, limits, KeyOrder::Bytewise);
+        if answer.err() != Some(refusal) || strict != Err(refusal) {
+            return false;
+        }
+    }
+    let checked = check_canonical(input, limits, KeyOrder::Bytewise);
+    let given = canonicalise(alloc, input, limits, KeyOrder::Bytewise);
+    checked == Err(refusal) && given.err() == Some(refusal)
+}
+
 // A character of four bytes (U+10151) at the end of each size, whole, and without its last byte.
 #[test]
-fn characters_at_each_end(rt: HostRuntime) -> Result<(), Fail> {
+fn characters_at_each_end(rt: HostRuntime) -> Result<(), AllocError> {
     let alloc = rt.alloc();
     let limits = limits(&rt, 256, 1048576);
     for size in SIZES {
-        let mut whole = Vec::new(alloc);
-        push_head(&mut whole, 0x60, size.saturating_add(4))?;
-        push_times(&mut whole, b'a', size)?;
-        whole.extend_from_slice(&[0xf0, 0x90, 0x85, 0x91])?;
+        let length = size.saturating_add(4);
+        let whole = text_of(alloc, size, length, &[0xf0, 0x90, 0x85, 0x91])?;
         assert!(rt;
             becomes(alloc, &whole, &whole, limits),
             "{size} letters before"
         );
-        let mut cut = Vec::new(alloc);
-        push_head(&mut cut, 0x60, size.saturating_add(3))?;
-        let place = u64::from(size).saturating_add(cut.len() as u64);
-        push_times(&mut cut, b'a', size)?;
-        cut.extend_from_slice(&[0xf0, 0x90, 0x85])?;
-        let refusal = Refusal::new(Reason::InvalidText, place, place.saturating_add(3));
-        for part in [1, 512, 513] {
-            let mut reader = Parts { rest: &cut, part };
-            let answer = read_tree(alloc, &mut reader, limits);
-            assert_eq!(rt; answer.err(), Some(refusal), "{size} letters before");
-            let mut reader = Parts { rest: &cut, part };
-            let answer = read_strict(alloc, &mut reader, limits, KeyOrder::Bytewise);
-            assert_eq!(rt; answer, Err(refusal), "{size} letters before");
-        }
-        let answer = check_canonical(&cut, limits, KeyOrder::Bytewise);
-        assert_eq!(rt; answer, Err(refusal), "{size} letters before");
-        let answer = canonicalise(alloc, &cut, limits, KeyOrder::Bytewise);
-        assert_eq!(rt; answer.err(), Some(refusal), "{size} letters before");
+        let length = size.saturating_add(3);
+        let cut = text_of(alloc, size, length, &[0xf0, 0x90, 0x85])?;
+        let end = cut.len() as u64;
+        let refusal = Refusal::new(Reason::InvalidText, end.saturating_sub(3), end);
+        assert!(rt;
+            is_refused(alloc, &cut, limits, refusal),
+            "{size} letters before"
+        );
     }
     Ok(())
 }
