@@ -15,7 +15,7 @@ use Rattle.cbor_head.specs.declared.reason.Refusal.{Refusal}
 use Rattle.cbor_automaton.specs.Trace.{Mark}
 use Rattle.cbor_automaton.specs.Automaton.{State, start, run, reached}
 use Rattle.cbor_standing.specs.inner.Machine.{IsShown}
-use Rattle.cbor_steps.specs.State.{state_of, wanted_at, is_in_payload, is_done, IsSettled, IsFit}
+use Rattle.cbor_steps.specs.State.{state_of, wanted_at, IsSettled, IsFit}
 use Rattle.cbor_steps.specs.Walk.{IsWalked, IsWalkedProper}
 use Rattle.cbor_standing.specs.MachineView.{MachineView}
 use Rattle.cbor_standing.specs.Steps.{IsStep}
@@ -96,14 +96,6 @@ stopped-refusal (Some f) n e h = (f, refl, sym h)
 pub no-refusal : (r : Option Refusal) → false ≡ is_some r → r ≡ None
 no-refusal None e = refl
 no-refusal (Some f) e = absurd (cc)
-
--- where nothing was taken the events stand as they did
-abbrev moved_to : SliceEventsView → Position → List Frame → SliceEventsView
-moved_to v position fs = record v { machine = record v.machine { open_count = length fs; due = wanted_at position; in_payload = is_in_payload position; complete = is_done position; inner = record { position = position; frames = fs } } }
-
-pub stays : (x v u : SliceEventsView) (position other : Position) (fs gs : List Frame) → x ≡ v → v ≡ moved_to v other gs → other ≡ position → gs ≡ fs → moved_to v position fs ≡ u → x ≡ u
-stays x v u position other fs gs is shown same_position same_frames e =
-    is ∙ shown ∙ ap (λ p. moved_to v p gs) same_position ∙ ap (λ hs. moved_to v position hs) same_frames ∙ e
 
 -- ---- one event, or none
 

@@ -71,9 +71,9 @@ module _ (t : Bool) (behind rest : List ℕ) (g now : Built) (s : AreChunks t be
         bytes = s.bytes ∙ ap (λ (x : List ℕ). chunks_bytes m s.done ++ x) front ∙ grown m k (drop n from);
         small = bytes_back (take n from) (drop n from) (subst AreBytes (sym (take-append-drop n from)) are);
         given = is
-        ∙ ap (λ (i : ℕ). built now.order (parts.extended (take i from) now.standing)) p.all
-        ∙ ap (λ (x : Built). built x.order (parts.extended q x.standing)) s.given
-        ∙ ap (λ (x : List ℕ). built g.order (parts.a_string m x ∷ g.standing)) (joined k);
+            ∙ ap (λ (i : ℕ). built now.order (parts.extended (take i from) now.standing)) p.all
+            ∙ ap (λ (x : Built). built x.order (parts.extended q x.standing)) s.given
+            ∙ ap (λ (x : List ℕ). built g.order (parts.a_string m x ∷ g.standing)) (joined k);
       })
     where
       joined : (k : Chunk) → chunks_joined s.done ++ k.payload ≡ chunks_joined (s.done ++ k ∷ [])

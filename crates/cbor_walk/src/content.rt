@@ -29,7 +29,10 @@ impl Building {
         let Some(size) = payload_size(is_text, count, behind) else {
             return Part::Stopped;
         };
-        match self.builder.front_string(string_type(is_text), behind, size) {
+        match self
+            .builder
+            .front_string(string_type(is_text), behind, size)
+        {
             Ok(()) => Part::Item(&behind[size..]),
             Err(_) => Part::Stopped,
         }

@@ -33,7 +33,14 @@ impl Building {
         match first {
             0x5f => self.take_chunks(false, behind),
             0x7f => self.take_chunks(true, behind),
-            0x9f => self.open(Major::Array, 0, Open::endless(Due::Item), behind, cells, depth),
+            0x9f => self.open(
+                Major::Array,
+                0,
+                Open::endless(Due::Item),
+                behind,
+                cells,
+                depth,
+            ),
             0xbf => self.open(Major::Map, 0, Open::endless(Due::Key), behind, cells, depth),
             0xff => self.take_break(behind, cells),
             _ => Part::Stopped,

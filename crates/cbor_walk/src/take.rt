@@ -55,7 +55,13 @@ pub(crate) fn take_next(
 }
 
 // The same, slower, of anything.
-fn take_any(rest: &[u8], at: usize, cells: &mut [Level], stack: &mut Stack<Level>, depth: usize) -> Taken
+fn take_any(
+    rest: &[u8],
+    at: usize,
+    cells: &mut [Level],
+    stack: &mut Stack<Level>,
+    depth: usize,
+) -> Taken
     requires place { at + length rest.now < 2 ^ 63 }
     requires cells { stack.old.height ≤ length cells.old }
     requires depth { stack.old.height ≤ depth }
