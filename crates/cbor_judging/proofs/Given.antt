@@ -11,16 +11,16 @@ use Rattle.cbor_head.specs.declared.order.KeyOrder.{KeyOrder}
 use Rattle.cbor_head.specs.declared.width.Width.{Width}
 use Rattle.cbor_head.specs.declared.width.Width.TheVariants.{Indefinite}
 use Rattle.cbor_grammar.proofs.Counts.{values_count-of}
-use Rattle.cbor_judging.specs.Place.{Place, counted, close}
+use Rattle.cbor_judging.specs.Place.{counted, close}
 use Rattle.cbor_canonical.specs.Pairs.{HasDistinctBytes}
-use Rattle.cbor_builder.specs.Parts.{Open, an_array, plain as a_plain, a_map as an_open_map, pair, give, closed, HasNoRepeats}
+use Rattle.cbor_builder.specs.Parts.{an_array, plain as a_plain, a_map as an_open_map, pair, give, closed}
 use Rattle.cbor_canonical.specs.Pairs.{AreKeysValid}
 use Rattle.cbor_canonical.proofs.Keys.{distinct_exactly}
 use Rattle.cbor_judging.specs.Frame.{with_all, with_entries}
 use Rattle.cbor_judging.proofs.Heads.{open_or}
 use Rattle.cbor_judging.proofs.Loops.{array_bytes-more, map_bytes-more}
 use Rattle.cbor_judging.proofs.Valid.{in_range_entries, valid_of}
-use Rattle.cbor_judging.specs.Levels.{Standing, item_due, item_full, item_whole, settle, IsTaken, AreTaken, ArePairsTaken, Level, a_member, a_key, a_value, some_member, some_key, some_value, tagged, frame, AreLevels, bytes_before}
+use Rattle.cbor_judging.specs.Levels.{settle, IsTaken, AreTaken, ArePairsTaken, Level, a_member, a_key, a_value, some_member, some_key, some_value, tagged, frame, AreLevels, bytes_before}
 use Rattle.cbor_judging.specs.Given.{StandsAt, opens, IsFull}
 use Rattle.cbor_judging.proofs.Levels.{no-count, spelled-all, within-all, clean-all, taken-more, count-more, pairs-spelled, pairs-within, pairs-more, pair-count-more, pairs-clean, array-spelled, map-spelled, pairs-shorter}
 

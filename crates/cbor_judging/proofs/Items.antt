@@ -14,16 +14,12 @@ use Rattle.cbor_head.specs.declared.width.Width.TheVariants.{Direct, One, Two, F
 use Rattle.cbor_head.specs.declared.reason.Refusal.{Refusal}
 use Rattle.cbor_grammar.proofs.OneFirst.{last, count_last}
 use Rattle.cbor_automaton.specs.Trace.{Mark, a_head, a_chunk, a_byte, a_break}
-use Rattle.cbor_judging.specs.Place.{Container, Place, at_item, Follows, Opens, Ends, IsTaking}
+use Rattle.cbor_judging.specs.Place.{Container, Place, at_item, Follows, Opens, IsTaking}
 use Rattle.cbor_automaton.specs.Marks as marks
-use Rattle.cbor_automaton.specs.Marks.{mark_of}
 use Rattle.cbor_standing.specs.NextEvent.{ItemEventsView}
-use Rattle.cbor_automaton.specs.declared.event.Event.{Event}
-use Rattle.cbor_automaton.specs.declared.event.EventKind.{EventKind}
-use Rattle.cbor_automaton.specs.declared.event.EventKind.TheVariants as kinds
 use Rattle.cbor_automaton.proofs.Taking.{nothing-taken}
 use Rattle.cbor_judging.specs.Judged.{IsJudged}
-use Rattle.cbor_judging.specs.Reading.{Extends, IsFormRefusal, OfMark, IsBegun, ReadsItem, IsCause, HasCause, IsUndecided, StopsItem, IsNextHead, IsCutHead, StopsHead, frame_at, state_at}
+use Rattle.cbor_judging.specs.Reading.{Extends, IsFormRefusal, OfMark, ReadsItem, IsCause, HasCause, IsUndecided, StopsItem, IsCutHead, StopsHead, frame_at, state_at}
 use Rattle.cbor_judging.proofs.Judged.{zero_item}
 use Rattle.cbor_judging.proofs.Leaves.{head_complains, array_head_complains, map_head_complains}
 use Rattle.cbor_judging.proofs.Heads.{open_or, zero_bytes, zero_length, cut_head}
@@ -233,9 +229,6 @@ taking-some d fs a_break bs next h = omega (arith, ap length h.0)
 taking-some d fs (a_chunk w n) bs next h = absurd h
 taking-some d fs a_byte bs next h = absurd h
 
-pub begun-by : (r : Rules) (b : Bounds) (fs : List Container) (t : List ℕ) (ev : Event) (from to : Option (List ℕ)) (new : ItemEventsView) → (n : IsNextHead r b (at_item fs) t ev from to new) → ev.kind ≢ kinds.End → IsBegun r b fs t n.bytes new ev.width ev.kind
-begun-by r b fs t ev from to new n item = record { item = item; next = n.next; taking = n.taking; clean = n.clean; proper = n.proper; at = n.at }
-
 pub reads-next : (r : Rules) (b : Bounds) (fs : List Container) (t : List ℕ) (bs : List ℕ) (from mid to : Option (List ℕ)) (new : ItemEventsView) (v : Value) → Consumes from mid bs → ReadsItem r b fs t bs mid to new v → ReadsItem r b fs t [] from to new v
 reads-next r b fs t bs from mid to new v c i = record {
   item = i.item;
@@ -249,7 +242,3 @@ reads-next r b fs t bs from mid to new v c i = record {
 
 pub stops-next : (r : Rules) (b : Bounds) (fs : List Container) (t : List ℕ) (bs : List ℕ) (from mid to : Option (List ℕ)) (f : Refusal) → Consumes from mid bs → StopsItem r b fs t bs mid to f → StopsItem r b fs t [] from to f
 stops-next r b fs t bs from mid to f c s = record { bytes = s.bytes; taken = extends-in [] [] bs s.bytes from mid to (extends-by bs from mid c) s.taken; read = s.read; why = s.why }
-
--- no break comes where none may
-pub no-end : (r : Rules) (b : Bounds) (fs : List Container) (t : List ℕ) (ev : Event) (from to : Option (List ℕ)) (new : ItemEventsView) → IsNextHead r b (at_item fs) t ev from to new → ((next : Place) → Ends fs next → ⊥) → ev.kind ≢ kinds.End
-no-end r b fs t ev from to new n none e = none n.next (subst (λ (k : EventKind). IsTaking b.depth (at_item fs) (mark_of ev.width k) n.bytes n.next) e n.taking).1

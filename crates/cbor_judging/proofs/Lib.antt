@@ -27,7 +27,6 @@ pub mod Placed
 pub mod Places
 pub mod Reasons
 pub mod Scalars
-pub mod Slices
 pub mod SpelledBytes
 pub mod Standing
 pub mod Steps

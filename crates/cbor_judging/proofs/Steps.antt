@@ -6,7 +6,7 @@ use Rattle.std.specs.Io.KnownBytes.{Consumes}
 use Rattle.cbor_head.specs.Limits.{Bounds, bounds}
 use Rattle.cbor_head.specs.Complaint.{Rules, form, strict, Complaint, complaint}
 use Rattle.cbor_head.specs.Beginning.{IsBeginning}
-use Rattle.cbor_head.specs.Verdict.{refusal, refused, IsVerdict}
+use Rattle.cbor_head.specs.Verdict.{refused, IsVerdict}
 use Rattle.cbor_head.specs.declared.width.Width.{Width}
 use Rattle.cbor_head.specs.declared.width.Width.TheVariants.{Direct, One, Two, Four, Eight, Indefinite}
 use Rattle.cbor_head.specs.declared.order.KeyOrder.{KeyOrder}
@@ -209,21 +209,6 @@ next-head r b old new t q ev from to due a n same live fine = record {
   proper = n.are.0;
   at = next-at b old new t (t ++ n.bytes) q (a.marks ++ marks_of ev.width ev.kind) a same live n.stands;
 }
-
-pub bad-head : (r : Rules) (b : Bounds) (old new : ItemEventsView) (t : List ℕ) (q : Place) (ev : Event) (from to : Option (List ℕ)) (f : Refusal) (reason : Reason) → IsHeadDue q → (a : IsAt b old t q)
-    → IsNextEvent ev (call old new from to t a.marks) → SameLimits old.machine new.machine
-    → IsFault r (mark_of ev.width ev.kind) reason → f ≡ refusal reason ev.place new.machine.taken → StopsHead r b q t from to f
-bad-head r b old new t q ev from to f reason due a n same fault is =
-    let taking = head-taken b old new t q ev from to due a n same in
-    let taken : new.machine.taken ≡ length t + length n.bytes = n.stands.stands.taken ∙ length-append t n.bytes in
-    let c = complaint (length t + length n.bytes) (length t) reason in
-    let f_is : f ≡ refusal reason (length t) (length t + length n.bytes) = is ∙ ap (λ (x : ℕ). refusal reason x new.machine.taken) n.place ∙ ap (refusal reason (length t)) taken in
-    record {
-      bytes = n.bytes;
-      consumed = n.consumed;
-      read = ap (λ (x : Refusal). x.read) f_is ∙ sym (length-append t n.bytes);
-      why = inr (record { mark = mark_of ev.width ev.kind; next = place_in new; taking = taking; complaint = c; of = head-size b.depth q (place_in new) (mark_of ev.width ev.kind) n.bytes r (length t) reason taking fault; is = f_is; within = omega (arith, n.stands.stands.taken, n.stands.stands.limited, same.bytes, a.bytes) });
-    }
 
 -- ---- a refusal
 

@@ -15,7 +15,7 @@ use Rattle.cbor_head.specs.declared.reason.Refusal.{Refusal}
 use Rattle.cbor_automaton.specs.Trace.{Mark}
 use Rattle.cbor_automaton.specs.Automaton.{State, start, run, reached}
 use Rattle.cbor_standing.specs.inner.Machine.{IsShown}
-use Rattle.cbor_steps.specs.State.{state_of, wanted_at, is_in_payload, is_done, IsSettled, IsFit}
+use Rattle.cbor_steps.specs.State.{state_of, wanted_at, IsSettled, IsFit}
 use Rattle.cbor_steps.specs.Walk.{IsWalked, IsWalkedProper}
 use Rattle.cbor_standing.specs.MachineView.{MachineView}
 use Rattle.cbor_standing.specs.Steps.{IsStep}
@@ -24,10 +24,10 @@ use Rattle.cbor_standing.specs.Calls.{HasRead}
 use Rattle.cbor_automaton.specs.Pieces.{piece_by}
 use Rattle.cbor_standing.specs.NextEvent.{StandsBetween, machine_call, IsDue, IsNextEvent, IsCut, IsTooLong, HasFormError}
 use Rattle.cbor_slices.specs.SliceView.{SliceEventsView}
-use Rattle.cbor_slices.specs.SliceEvents.{event_of, slice_call, NextTold, IsNextTold, IsStringTold, IsWholeTold, IsWholePiece, IsCutShort}
+use Rattle.cbor_slices.specs.SliceEvents.{event_of, slice_call, NextTold, IsNextTold, IsWholePiece, IsCutShort}
 use Rattle.cbor_slices.specs.inner.Slices.{IsSpent}
 use Rattle.cbor_steps.specs.Whole.{IsEventRun}
-use Rattle.cbor_steps.specs.Token.{IsEventToken, IsStringToken, kind_of}
+use Rattle.cbor_steps.specs.Token.{IsEventToken, kind_of}
 use Rattle.cbor_standing.specs.declared.step.Out.TheVariants as outs
 use Rattle.cbor_steps.specs.declared.frame.Frame.{Frame}
 use Rattle.cbor_steps.specs.declared.opening.Numbered.{Numbered}
@@ -39,7 +39,7 @@ use Rattle.cbor_head.specs.declared.width.Width.{Width}
 use Rattle.cbor_steps.specs.declared.up_to_event.Walked.{Walked}
 use Rattle.cbor_steps.specs.declared.up_to_event.Walked.TheVariants as walked
 use Rattle.cbor_steps.specs.declared.token.Token.{Token}
-use Rattle.cbor_steps.specs.declared.token.Token.TheVariants.{Bytes, Text, Piece, End, Refused}
+use Rattle.cbor_steps.specs.declared.token.Token.TheVariants.{Piece, End, Refused}
 use Rattle.cbor_standing.proofs.NextEvents.{event-here, front-again}
 use Rattle.cbor_standing.proofs.NextRefusals.{cut-here, cut-is, stopped-here}
 use Rattle.cbor_automaton.proofs.Refusals.{IsUnfinished}
@@ -97,14 +97,6 @@ pub no-refusal : (r : Option Refusal) → false ≡ is_some r → r ≡ None
 no-refusal None e = refl
 no-refusal (Some f) e = absurd (cc)
 
--- where nothing was taken the events stand as they did
-abbrev moved_to : SliceEventsView → Position → List Frame → SliceEventsView
-moved_to v position fs = record v { machine = record v.machine { open_count = length fs; due = wanted_at position; in_payload = is_in_payload position; complete = is_done position; inner = record { position = position; frames = fs } } }
-
-pub stays : (x v u : SliceEventsView) (position other : Position) (fs gs : List Frame) → x ≡ v → v ≡ moved_to v other gs → other ≡ position → gs ≡ fs → moved_to v position fs ≡ u → x ≡ u
-stays x v u position other fs gs is shown same_position same_frames e =
-    is ∙ shown ∙ ap (λ p. moved_to v p gs) same_position ∙ ap (λ hs. moved_to v position hs) same_frames ∙ e
-
 -- ---- one event, or none
 
 next-told : (token : Token) (old new : SliceEventsView) (t : List ℕ) (ms : List Mark) → IsEventToken token
@@ -112,23 +104,6 @@ next-told : (token : Token) (old new : SliceEventsView) (t : List ℕ) (ms : Lis
 next-told End old new t ms h i = absurd h
 next-told Refused old new t ms h i = absurd h
 next-told token old new t ms h i = i
-
--- the head of a string is an event
-pub string-event : (token : Token) → IsStringToken token → IsEventToken token
-string-event End h = absurd h
-string-event Refused h = absurd h
-string-event token h = tt
-
--- a string is told with its payload, and anything else alone
-pub string-whole : (token : Token) → IsStringToken token → (old new : SliceEventsView) (t : List ℕ) (ms : List Mark) → IsStringTold token old new t ms → IsWholeTold token old new t ms
-string-whole Bytes h old new t ms i = i
-string-whole Text h old new t ms i = i
-string-whole token h old new t ms i = absurd h
-
-pub alone-whole : (token : Token) (old new : SliceEventsView) (t : List ℕ) (ms : List Mark) → (IsStringToken token → ⊥) → IsNextTold token old new t ms → IsWholeTold token old new t ms
-alone-whole Bytes old new t ms h i = absurd (h tt)
-alone-whole Text old new t ms h i = absurd (h tt)
-alone-whole token old new t ms h i = i
 
 -- nothing was read before
 nothing-read : (xs : List ℕ) (m : MachineView) (t : List ℕ) (ms : List Mark) → StandsFor m t ms → HasRead (Some xs) (Some xs) m t ms
@@ -186,11 +161,6 @@ event-next token old now new used t ms same here event b some fits rest r going 
     (front-again used old.rest) (subst (λ xs. IsGiven e n xs bs ms) (sym (append-nil t)) given) in
     subst (λ (v : SliceEventsView). IsNextTold token v new t ms) same
     (record { is = next-told token old new t ms event (subst (λ p. IsNextEvent e (machine_call m n (Some old.rest) (Some new.rest) old.piece p t ms)) (sym piece) one); whole = whole one.due })
-
--- the end
-pub end-next : (old now : SliceEventsView) (t : List ℕ) (ms : List Mark) → old ≡ now → StandsBetween now.machine t ms → old.machine.inner.position ≡ Done → old.machine.refusal ≡ None → IsNextTold End now now t ms
-end-next old now t ms same h over live =
-    record { is = record { complete = subst (λ (v : SliceEventsView). IsComplete v.machine) same ((subst (λ (v : SliceEventsView). StandsBetween v.machine t ms) (sym same) h).stands.inner.shown.complete ∙ ap is_done over, live); consumed = refl; same = refl; stands = h }; whole = tt }
 
 -- a refusal: the bytes led nowhere
 module _ (f : Refusal) (old now new : SliceEventsView) (used : ℕ) (t : List ℕ) (ms : List Mark) (same : old ≡ now) (here : StandsBetween now.machine t ms) (b : AreBytes old.rest)

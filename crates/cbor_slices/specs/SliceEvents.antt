@@ -1,5 +1,5 @@
 -- What is told of an item that is read from a slice.
-use Rattle.std.specs.Prelude.{◌≡◌, ℕ, ◌<◌, ◌⊎◌, ◌++◌, List, length, take, min, Some, None}
+use Rattle.std.specs.Prelude.{◌≡◌, ℕ, ◌⊎◌, ◌++◌, List, length, take, min, Some, None}
 use Rattle.cbor_head.specs.Complaint.{form}
 use Rattle.cbor_head.specs.Limits.{bounds}
 use Rattle.cbor_head.specs.Verdict.{IsVerdict, refused}
@@ -8,13 +8,13 @@ use Rattle.cbor_head.specs.declared.reason.Refusal.{Refusal}
 use Rattle.cbor_automaton.specs.Trace.{Mark}
 use Rattle.cbor_automaton.specs.Marks.{IsProper}
 use Rattle.cbor_automaton.specs.Event.{event}
-use Rattle.cbor_standing.specs.Machine.{IsComplete, KeepsLimits, wanted}
-use Rattle.cbor_standing.specs.NextEvent.{StandsBetween, IsNextEvent, IsEnd, IsCut, IsTooLong, HasFormError, Call, call}
+use Rattle.cbor_standing.specs.Machine.{IsComplete, wanted}
+use Rattle.cbor_standing.specs.NextEvent.{IsNextEvent, IsEnd, IsCut, IsTooLong, HasFormError, Call, call}
 use Rattle.cbor_slices.specs.SliceView.{SliceEventsView, seen}
 use Rattle.cbor_steps.specs.Token.{kind_of}
 use Rattle.cbor_automaton.specs.declared.event.Event.{Event}
 use Rattle.cbor_steps.specs.declared.token.Token.{Token}
-use Rattle.cbor_steps.specs.declared.token.Token.TheVariants.{Bytes, Text, Piece, End, Refused}
+use Rattle.cbor_steps.specs.declared.token.Token.TheVariants.{Piece, End, Refused}
 
 -- the call that led from old to new, of a reader over the slice
 abbrev pub slice_call : SliceEventsView → SliceEventsView → List ℕ → List Mark → Call
@@ -52,26 +52,6 @@ IsWholePiece token old new = Unit {0}
 pub record IsNextTold (token : Token) (old new : SliceEventsView) (t : List ℕ) (ms : List Mark) : Type 0 where
   pub is : NextTold token old new t ms
   pub whole : IsWholePiece token old new
-
--- a head was told, and then the whole payload behind it, as one piece
-pub record IsStringTold (token : Token) (old new : SliceEventsView) (t : List ℕ) (ms : List Mark) : Type 0 where
-  -- where the events stood behind the head
-  pub between : SliceEventsView
-  pub head : IsNextTold token old between t ms
-  pub payload : (u : List ℕ) (ns : List Mark) → StandsBetween between.machine u ns → IsNextTold Piece between new u ns
-  -- nothing was refused, and the limits are kept
-  pub live : between.refusal ≡ None
-  pub limits : KeepsLimits old.machine between.machine
-  pub piece_limits : KeepsLimits between.machine new.machine
-  -- the payload is all of it, and not empty
-  pub whole : between.number ≡ length new.piece
-  pub some : 0 < length new.piece
-
--- a string is told with its payload, and anything else alone
-abbrev pub IsWholeTold : Token → SliceEventsView → SliceEventsView → List ℕ → List Mark → Type 0
-IsWholeTold Bytes old new t ms = IsStringTold Bytes old new t ms
-IsWholeTold Text old new t ms = IsStringTold Text old new t ms
-IsWholeTold token old new t ms = IsNextTold token old new t ms
 
 -- the width of what is told
 abbrev pub IsProperTold : Token → SliceEventsView → Type 0

@@ -7,6 +7,5 @@
 
 mod event_token;
 mod slice_events;
-mod string_head;
 
 pub use slice_events::SliceEvents;

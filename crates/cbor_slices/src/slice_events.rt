@@ -3,27 +3,17 @@
 ghost use Rattle.std.specs.Prelude.{◌≡◌, ◌≤◌, ◌<◌, ◌⊎◌, List, [], ℕ, length, take, min};
 ghost use Rattle.std.specs.Prelude.{None, Some, IfSome, IsSome, true};
 ghost use Rattle.cbor_automaton.specs.Trace.{Mark};
-ghost use Rattle.cbor_steps.specs.State.{state_of, IsFit, IsSettled};
-ghost use Rattle.cbor_steps.specs.Walk.{IsTold, IsEnded, IsWalkedProper};
-ghost use Rattle.cbor_steps.specs.Walk.{IsWalked, told_times};
 ghost use Rattle.cbor_automaton.specs.Pieces.{kind_size, piece_by};
 ghost use Rattle.cbor_standing.specs.Machine.{KeepsLimits};
 ghost use Rattle.cbor_standing.specs.NextEvent.{StandsBetween};
 ghost use Rattle.cbor_steps.specs.Token.{kind_of, IsEventToken};
-ghost use Rattle.cbor_steps.specs.Whole.{IsFront, TellsFront, LeavesPiece};
 ghost use Rattle.cbor_slices.specs.SliceEvents.{IsNextTold, IsProperTold, IsRefusedTold};
-ghost use Rattle.cbor_steps.specs.declared.frame.TheConstants.{MOST_OPEN};
 ghost use Rattle.cbor_slices.specs.inner.Slices.{IsSpent};
-
-mod strings;
 
 use crate::event_token::{number_of, token_of};
 use cbor_head::{Limits, Reason, Refusal, Width};
 use cbor_machine::below_256;
-use cbor_steps::{
-    Nest, Position, Token, Walked, front_head, take_head, walk, whole_chunk, whole_open,
-    whole_piece,
-};
+use cbor_steps::{Nest, Position, Token, Walked, front_head, take_head, walk, whole_piece};
 use std::marker::Model;
 
 /// The events of one item, from a slice that begins with it.
@@ -179,23 +169,9 @@ impl<'a> SliceEvents<'a> {
                     self.number = used as u64;
                     return Token::Piece;
                 }
-            } else if let Position::Chunks(kind) = self.position {
-                if let Some(whole) = whole_chunk(
-                    kind,
-                    depth,
-                    &mut self.position,
-                    &mut self.nest,
-                    from,
-                ) {
-                    self.begin = from.len();
-                    self.rest = &from[whole.used..];
-                    self.width = whole.width;
-                    self.number = whole.number;
-                    return whole.token;
-                }
             }
         }
-        self.slow()
+        self.walk_on()
     }
 
     /// The whole payload that is due, told as [`next`](SliceEvents::next) tells it, as one piece;
@@ -244,41 +220,8 @@ impl<'a> SliceEvents<'a> {
         Some(self.piece)
     }
 
-    // The same where no definite head stands whole at the front, and no byte of a payload.
-    #[inline(never)]
-    fn slow(&mut self) -> Token
-        requires { self.old.refusal ≡ None → IsSpent self.old }
-        ensures answers { self.old.refusal ≡ None
-            → (t : List ℕ) (ms : List Mark) → StandsBetween self.old.machine t ms
-            → IsNextTold result self.old self.new t ms }
-        ensures limits { KeepsLimits self.old.machine self.new.machine }
-        ensures proper { IsProperTold result self.new }
-        ensures progress { IsEventToken result → length self.new.rest < length self.old.rest }
-        ensures refused { IsRefusedTold result self.new }
-        ensures emptied { self.old.refusal ≡ None → result ≡ Token.Refused
-            → self.new.piece ≡ [] }
-        ensures again { IfSome self.old.refusal
-            (λ f. (result ≡ Token.Refused) × (self.new ≡ self.old)) }
-    {
-        if self.refusal.is_none() {
-            let from = self.rest;
-            below_256(from);
-            let depth = usize::from(self.limits.depth());
-            if let Position::Item = self.position {
-                if let Some(whole) = whole_open(depth, &mut self.position, &mut self.nest, from) {
-                    self.begin = from.len();
-                    self.rest = &from[whole.used..];
-                    self.width = whole.width;
-                    self.number = whole.number;
-                    return whole.token;
-                }
-            }
-        }
-        self.walk_on()
-    }
-
-    // The same, byte by byte: a refusal, or the end.
-    #[cold]
+    // The same where no definite head of an item stands whole at the front, and no byte of a
+    // payload.
     #[inline(never)]
     fn walk_on(&mut self) -> Token
         requires { self.old.refusal ≡ None → IsSpent self.old }

@@ -46,24 +46,6 @@ goes-on (o ∷ os) (suc k) top next r moved root = (
   ap at_item (frames-top o os k next) ∙ sym (moved (frames_of (around os k))) ∙ ap close (sym (frames-top o os k top)),
 )
 
--- the innermost is complete, and the one around it has one member less to come
-pub closes-one : (outer : List Level) (k : ℕ) (top next d : Level) → IsRooted outer (suc k) top
-    → ((fs : List automaton.Frame) → close (frame_of (level_frame top) ∷ fs) ≡ advanced false (frame_of (level_frame next)) fs)
-    → IsRooted outer k (get_or outer k d) × (close (frames_of (nested outer k (get_or outer k d))) ≡ close (frames_of (nested outer (suc k) top)))
-closes-one [] k top next d r moved = absurd (omega (arith, r.room))
-closes-one (o ∷ os) k top next d r moved = (
-  record { room = r.room; fits = omega (arith, r.fits); root = let e = r.root in let first : level_frame o ≡ Tag = cc in rooted k first },
-  ap (λ fs. close (frames_of fs)) (around-below o os k d (omega (arith, r.room, r.fits))) ∙ sym (moved (frames_of (around os k))) ∙ ap close (sym (frames-top o os k top)),
-)
-  where
-    rooted : (j : ℕ) → level_frame o ≡ Tag → levels (o ∷ os) j (get_or (o ∷ os) j d) ≡ Tag ∷ nested (o ∷ os) j (get_or (o ∷ os) j d)
-    rooted zero e = ap (λ f. f ∷ []) e
-    rooted (suc j) e = ap (λ f. f ∷ nested (o ∷ os) (suc j) (get_or (o ∷ os) (suc j) d)) e
-
--- nothing is open, and the item is complete
-pub all-closed : (outer : List Level) (top : Level) → nested outer 0 top ≡ []
-all-closed outer top = refl
-
 -- all of them, from the outermost in
 pub all-frames : (outer : List Level) (h : ℕ) (top : Level) → 0 < h → h ≤ length outer → map level_frame (take (h - 1) (drop 1 outer)) ++ level_frame top ∷ [] ≡ nested outer h top
 all-frames outer zero top some fits = absurd (omega arith)

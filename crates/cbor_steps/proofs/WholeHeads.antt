@@ -1,5 +1,5 @@
 -- A whole head, from where an item is due.
-use Rattle.std.proofs.Common.{◌≡◌, ℕ, zero, suc, ◌+◌, ◌-◌, ◌*◌, ◌/◌, ◌%◌, ◌^◌, ◌<◌, ◌≤◌, Bool, true, false, List, [], ◌∷◌, ◌++◌, length, take, refl, sym, ap, ◌∙◌, arith, append-nil, length-append}
+use Rattle.std.proofs.Common.{◌≡◌, ℕ, zero, suc, ◌+◌, ◌-◌, ◌*◌, ◌/◌, ◌%◌, ◌^◌, ◌<◌, ◌≤◌, true, false, List, [], ◌∷◌, ◌++◌, length, take, refl, sym, ap, ◌∙◌, arith, append-nil, length-append}
 use Rattle.std.proofs.Math.Seq.{take-append_seam}
 use Rattle.std.specs.Int.{bytes_high_first}
 use Rattle.byteorder.specs.Numbers.{length-bytes_high_first}
@@ -8,8 +8,8 @@ use Rattle.cbor_head.specs.declared.major.Major.{Major}
 use Rattle.cbor_head.specs.declared.major.Major.TheVariants.{Simple}
 use Rattle.cbor_head.specs.declared.width.Width.{Width}
 use Rattle.cbor_head.specs.declared.width.Width.TheVariants.{Direct, One, Two, Four, Eight, Indefinite}
-use Rattle.cbor_automaton.specs.Trace.{Mark, a_head, a_chunk}
-use Rattle.cbor_automaton.specs.Automaton.{Frame, State, at_item, in_head, in_payload, in_chunks, after, payload, close, tail, numbered_tail, major_at, has_room, is_major, take_byte, tells, and_then, run, reached, telling}
+use Rattle.cbor_automaton.specs.Trace.{Mark, a_head}
+use Rattle.cbor_automaton.specs.Automaton.{Frame, State, at_item, in_head, after, close, tail, numbered_tail, major_at, has_room, run, reached, telling}
 use Rattle.cbor_automaton.specs.Marks.{marks_of, IsDefinite, IsProper}
 use Rattle.cbor_steps.specs.State.{major_of}
 use Rattle.cbor_steps.specs.Whole.{IsArgument, IsArgumentLeft, IsEventRun, IsStringType}
@@ -18,8 +18,7 @@ use Rattle.cbor_steps.specs.declared.opening.Numbered.TheVariants as numbered
 use Rattle.cbor_automaton.specs.declared.event.EventKind.{EventKind}
 use Rattle.cbor_automaton.specs.declared.event.EventKind.TheVariants as kinds
 use Rattle.cbor_automaton.proofs.FirstByte.{number-major_at}
-use Rattle.cbor_automaton.proofs.Kept.{is_major-same}
-use Rattle.cbor_automaton.proofs.Forward.{feed-fits, head-taken, item_starts, chunk_starts, simple-direct, simple-one}
+use Rattle.cbor_automaton.proofs.Forward.{feed-fits, head-taken, item_starts, simple-direct, simple-one}
 
 plain : (kind : Numbered) (k : ℕ) → tail (major_of kind) k ≡ numbered_tail (major_of kind) k
 plain numbered.Unsigned k = refl
@@ -104,31 +103,6 @@ simple-run d fs xs c behind w n rest to xs-is a small high low enough to-is =
     by-width Four n a more = let e = a.spelled 0 in absurd (let f : 0 + c % 32 ≡ 0 + 26 = head-cons e in omega arith)
     by-width Eight n a more = let e = a.spelled 0 in absurd (let f : 0 + c % 32 ≡ 0 + 27 = head-cons e in omega arith)
     by-width Indefinite n a more = absurd a.holds
-
--- the head of a chunk
-pub chunk-run : (d : ℕ) (fs : List Frame) (xs : List ℕ) (c : ℕ) (behind : List ℕ) (w : Width) (n : ℕ) (rest : List ℕ) (string kind : Numbered) (to : State)
-    → xs ≡ c ∷ behind → IsArgument (c % 32) behind w n rest → c < 256 → major_of kind ≡ major_at (c / 32) → is_major (major_of string) (major_of kind) ≡ true → to ≡ payload true (major_of string) n fs
-    → IsEventRun d (in_chunks (major_of string) fs) to (take (length xs - length rest) xs) w (kinds.Chunk n)
-chunk-run d fs xs c behind w n rest string kind to xs-is a small major same to-is =
-    let m = major_of string in
-    let one : m ≡ major_of kind = is_major-same m (major_of kind) same in
-    let number : major_number m ≡ c / 32 = ap major_number (one ∙ major) ∙ number-major_at (c / 32) (omega arith) in
-    let itself : is_major m m ≡ true = ap (is_major m) one ∙ same in
-    let front = front-of xs (head m w n) rest (xs-is ∙ spelled-head c behind w n rest m a number) in
-    record {
-      ran = ap (run d (in_chunks m fs)) front ∙ one-mark d (in_chunks m fs) (payload true m n fs) (a_chunk w n) (head m w n) (λ more. head-taken d (in_chunks m fs) true m fs (chunk_starts d m fs (plain string) itself) w n more a.holds)
-          ∙ ap (λ q. reached q (a_chunk w n ∷ [])) (sym to-is);
-      proper = definite w n a.holds;
-    }
-
--- one byte that opens something without a length, or ends it
-pub byte-run : (d : ℕ) (q to : State) (c : ℕ) (bs : List ℕ) (m : Mark) (w : Width) (kind : EventKind) → bs ≡ c ∷ [] → take_byte d q c ≡ tells m to → marks_of w kind ≡ m ∷ [] → IsProper w kind → IsEventRun d q to bs w kind
-byte-run d q to c bs m w kind is e marks proper =
-    record { ran = ap (run d q) is ∙ ap (λ next. and_then next (λ t. run d t [])) e ∙ ap (reached to) (sym marks); proper = proper }
-
-pub payload-some : (chunk : Bool) (m : Major) (n : ℕ) (fs : List Frame) → 0 < n → in_payload chunk m (n - 1) fs ≡ payload chunk m n fs
-payload-some chunk m zero fs h = absurd (omega arith)
-payload-some chunk m (suc k) fs h = let e : suc k - 1 ≡ k = omega arith in ap (λ j. in_payload chunk m j fs) e
 
 -- the argument of a head that is open, where all of its bytes are there
 fed-by : (left k n : ℕ) (xs rest : List ℕ) → left ≡ k → n < 256 ^ suc k → xs ≡ bytes_high_first (suc k) n ++ rest → IsArgumentLeft left n xs × (left < length xs)

@@ -26,7 +26,4 @@ pub use position::{Position, has_room};
 pub use take_byte::long_at;
 pub use token::Token;
 pub use up_to_event::{Fronted, Walked, walk, walk_whole};
-pub use whole::{
-    Argument, DefiniteHead, Whole, front_head, read_argument, take_head, whole_chunk, whole_open,
-    whole_piece,
-};
+pub use whole::{DefiniteHead, front_head, take_head, whole_piece};

@@ -182,8 +182,8 @@ fn begin(depth: usize, nest: &mut Nest, c: u8) -> Next
     }
 }
 
-/// Two strings of the same type.
-pub fn is_same_string(a: Numbered, b: Numbered) -> bool
+// Two strings of the same type.
+fn is_same_string(a: Numbered, b: Numbered) -> bool
     ensures { result ≡ automaton.is_major (major_of a) (major_of b) }
 {
     matches!(

@@ -1,10 +1,10 @@
 //! Whole heads and whole payloads, straight from a slice.
 
 ghost use Rattle.std.specs.Prelude.{◌≡◌, ◌≤◌, ◌<◌, ◌+◌, ◌-◌, ◌^◌, ◌/◌, ◌∷◌, [], List, ℕ, length, take, min};
-ghost use Rattle.std.specs.Prelude.{true, false, IfSome, None};
+ghost use Rattle.std.specs.Prelude.{true, IfSome, None};
 ghost use Rattle.cbor_head.specs.Head.{IsSimple};
 ghost use Rattle.cbor_head.specs.declared.width.Width as width;
-ghost use Rattle.cbor_head.specs.declared.width.Width.TheVariants.{Direct, Indefinite};
+ghost use Rattle.cbor_head.specs.declared.width.Width.TheVariants.{Direct};
 ghost use Rattle.cbor_automaton.specs.Trace.{a_head};
 ghost use Rattle.cbor_automaton.specs.Automaton as automaton;
 ghost use Rattle.cbor_automaton.specs.Marks.{marks_of, times};
@@ -18,26 +18,25 @@ ghost use Rattle.cbor_steps.specs.Token.{IsEventToken, IsStringToken, kind_of};
 ghost use Rattle.cbor_steps.specs.declared.frame.TheConstants.{MOST_OPEN};
 ghost use Rattle.cbor_automaton.specs.Pieces.{piece_by};
 
-use crate::nest::{Due, Nest};
+use crate::nest::Nest;
 use crate::opening::{Numbered, numbered_at};
 use crate::position::{Position, enter, finish, finish_string, has_room};
-use crate::take_byte::is_same_string;
 use crate::token::Token;
 use byteorder::{BigEndian, ByteOrder};
 use cbor_head::Width;
 
-/// An argument, and what follows it.
+// An argument, and what follows it.
 #[derive(Clone, Copy)]
-pub struct Argument<'a> {
+struct Argument<'a> {
     pub width: Width,
     pub number: u64,
     pub rest: &'a [u8],
 }
 
-/// The argument behind the low five bits of a first byte; none where it is not there, or where
-/// there is none.
+// The argument behind the low five bits of a first byte; none where it is not there, or where
+// there is none.
 #[inline(always)]
-pub fn read_argument<'a>(low: u8, behind: &'a [u8]) -> Option<Argument<'a>>
+fn read_argument<'a>(low: u8, behind: &'a [u8]) -> Option<Argument<'a>>
     ensures spelled { IfSome result (λ a. IsArgument low behind.now a.width a.number a.rest.now) }
     ensures fewer { IfSome result (λ a. length a.rest.now ≤ length behind.now) }
     ensures direct { IfSome result (λ a. low < 24 → a.number ≡ low) }
@@ -308,135 +307,6 @@ pub fn whole_head(
         token,
         width: head.width,
         number: head.number,
-    })
-}
-
-// The head of an item without a length, or a break.
-#[inline(always)]
-fn open_head(
-    c: u8,
-    depth: usize,
-    position: &mut Position,
-    nest: &mut Nest,
-    rest: &[u8],
-) -> Option<Whole>
-    requires limit { depth ≤ MOST_OPEN }
-    requires within { length nest.old ≤ depth }
-    requires item { position.old ≡ Position.Item }
-    requires first { take 1 rest.now ≡ c ∷ [] }
-    ensures told { IfSome result (λ r. TellsFront depth (automaton.at_item (frames_of nest.old))
-        (state_of position.new nest.new) rest.now r) }
-    ensures used { IfSome result (λ r. r.used ≡ 1) }
-    ensures settled { IfSome result (λ r. IsSettled nest.new position.new) }
-    ensures within { length nest.new ≤ depth }
-    ensures none { result ≡ None → (nest.new ≡ nest.old) × (position.new ≡ position.old) }
-    ensures token { IfSome result (λ r. IsEventToken r.token) }
-    ensures other { IfSome result (λ r. LeavesPiece r) }
-{
-    if c == 0x5f {
-        *position = Position::Chunks(Numbered::Bytes);
-        return Some(without_number(Token::IndefiniteBytes));
-    }
-    if c == 0x7f {
-        *position = Position::Chunks(Numbered::Text);
-        return Some(without_number(Token::IndefiniteText));
-    }
-    if c == 0x9f && nest.len() < depth {
-        nest.push(Due::IndefiniteItem, 0);
-        return Some(without_number(Token::IndefiniteArray));
-    }
-    if c == 0xbf && nest.len() < depth {
-        nest.push(Due::IndefiniteKey, 0);
-        return Some(without_number(Token::IndefiniteMap));
-    }
-    if c == 0xff {
-        let done = nest.end()?;
-        if done {
-            *position = Position::Done;
-        }
-        return Some(without_number(Token::Break));
-    }
-    None
-}
-
-/// The head of an item without a length, or a break, in front.
-#[inline(always)]
-pub fn whole_open(
-    depth: usize,
-    position: &mut Position,
-    nest: &mut Nest,
-    rest: &[u8],
-) -> Option<Whole>
-    requires limit { depth ≤ MOST_OPEN }
-    requires within { length nest.old ≤ depth }
-    requires item { position.old ≡ Position.Item }
-    ensures told { IfSome result (λ r. TellsFront depth (automaton.at_item (frames_of nest.old))
-        (state_of position.new nest.new) rest.now r) }
-    ensures used { IfSome result (λ r. IsFront r.used rest.now) }
-    ensures settled { IfSome result (λ r. IsSettled nest.new position.new) }
-    ensures within { length nest.new ≤ depth }
-    ensures none { result ≡ None → (nest.new ≡ nest.old) × (position.new ≡ position.old) }
-    ensures token { IfSome result (λ r. IsEventToken r.token) }
-    ensures other { IfSome result (λ r. LeavesPiece r) }
-{
-    let (first, _) = rest.split_first()?;
-    open_head(*first, depth, position, nest, rest)
-}
-
-// One byte that tells this.
-fn without_number(token: Token) -> Whole
-    ensures one { (result.used ≡ 1) × (result.token ≡ token) }
-    ensures none { (result.width ≡ Indefinite) × (result.number ≡ 0) }
-{
-    Whole {
-        used: 1,
-        token,
-        width: Width::Indefinite,
-        number: 0,
-    }
-}
-
-/// The head of a chunk that stands whole at the front, or the break behind the last one.
-#[inline(always)]
-pub fn whole_chunk(
-    kind: Numbered,
-    depth: usize,
-    position: &mut Position,
-    nest: &mut Nest,
-    rest: &[u8],
-) -> Option<Whole>
-    requires { position.old ≡ Position.Chunks kind }
-    ensures told { IfSome result (λ r. TellsFront depth
-        (automaton.in_chunks (major_of kind) (frames_of nest.old))
-        (state_of position.new nest.new) rest.now r) }
-    ensures used { IfSome result (λ r. IsFront r.used rest.now) }
-    ensures settled { IfSome result (λ r. IsSettled nest.new position.new) }
-    ensures fewer { length nest.new ≤ length nest.old }
-    ensures none { result ≡ None → (nest.new ≡ nest.old) × (position.new ≡ position.old) }
-    ensures token { IfSome result (λ r. IsEventToken r.token) }
-    ensures other { IfSome result (λ r. LeavesPiece r) }
-{
-    let (first, behind) = rest.split_first()?;
-    let c = *first;
-    if c == 0xff {
-        *position = Position::Item;
-        finish(position, nest);
-        return Some(without_number(Token::Break));
-    }
-    if c >= 0xe0 || !is_same_string(kind, numbered_at(c / 32)) {
-        return None;
-    }
-    let argument = read_argument(c % 32, behind)?;
-    let used = rest.len() - argument.rest.len();
-    let (width, number) = (argument.width, argument.number);
-    if number > 0 {
-        *position = Position::Payload(true, kind, number - 1);
-    }
-    Some(Whole {
-        used,
-        token: Token::Chunk,
-        width,
-        number,
     })
 }
 

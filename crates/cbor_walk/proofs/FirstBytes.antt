@@ -11,7 +11,7 @@ use Rattle.cbor_head.specs.declared.major.Major.TheVariants.{Array, Map, Tag, Si
 use Rattle.cbor_head.specs.declared.reason.Reason.{Reason}
 use Rattle.cbor_head.specs.declared.reason.Reason.TheVariants.{Reserved, NoIndefinite, Float, BadSimple, StrayBreak, TooDeep}
 use Rattle.cbor_head.specs.declared.width.Width.TheVariants.{Indefinite}
-use Rattle.cbor_automaton.specs.Automaton.{Frame, at_item, in_simple, Opening, direct, long, indefinite_string, indefinite_container, long_simple, breaks, bad, refuses, major_at, tail, numbered_tail, opening, opening_of, has_room, begin, take_byte, run, reached}
+use Rattle.cbor_automaton.specs.Automaton.{Frame, at_item, in_simple, Opening, direct, long, indefinite_string, indefinite_container, long_simple, breaks, bad, refuses, major_at, tail, numbered_tail, opening, opening_of, has_room, begin, take_byte}
 use Rattle.cbor_judging.specs.Judged.{IsJudged}
 use Rattle.cbor_judging.proofs.Judged.{judged_start, judged_head}
 use Rattle.cbor_walk.specs.inner.Path.{Level, a_member, a_key, a_value, tagged, bytes_before, AreClean}
@@ -209,9 +209,6 @@ module _ (d : ℕ) (fs : List Frame) (full : d ≤ length fs) where
   deep_byte c l h i = deep c l h i ∙ ap refuses (deep_reason c l h i)
 
 -- ---- a simple value in two bytes
-
-pub simple_leads : (d : ℕ) (fs : List Frame) → run d (at_item fs) (0xf8 ∷ []) ≡ reached (in_simple fs) []
-simple_leads d fs = refl
 
 pub simple_byte : (d : ℕ) (fs : List Frame) (c : ℕ) → c < 32 → take_byte d (in_simple fs) c ≡ refuses BadSimple
 simple_byte d fs c h = rw (lt-ltb c 32 h) refl

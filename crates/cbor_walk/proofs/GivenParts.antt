@@ -1,7 +1,6 @@
 -- A valid item, part by part, given to a builder: what each part makes of it.
 use Rattle.std.proofs.Common.{◌≡◌, ℕ, zero, suc, ◌+◌, ◌-◌, ◌*◌, ◌^◌, ◌%◌, ◌<◌, ◌≤◌, Bool, true, false, Some, None, List, [], ◌∷◌, ◌++◌, length, take, drop, refl, sym, ap, ap₂, ◌∙◌, subst, arith, inl, inr, append_assoc, append-nil}
 use Rattle.std.specs.Prelude.{IsUtf8, reverse}
-use Rattle.std.proofs.Math.Seq.{take-length}
 use Rattle.std.proofs.lemmas.Bool.{cases_lt}
 use Rattle.std.proofs.lemmas.List.{length-append, length-take-le, take-append-drop}
 use Rattle.cbor_head.specs.Canonical.{canonical}
@@ -40,7 +39,6 @@ use Rattle.cbor_walk.proofs.AnyItem.{low_bits, spells}
 use Rattle.cbor_walk.specs.Front.{IsBuiltFront}
 use Rattle.cbor_walk.specs.inner.Stack.{standing}
 use Rattle.cbor_walk.specs.declared.building.Building.{Building}
-use Rattle.cbor_walk.specs.declared.stack.Stack.{Stack}
 use Rattle.cbor_walk.specs.declared.level.Due.{Due}
 use Rattle.cbor_walk.specs.declared.level.Due.TheVariants.{Item, Key, Value}
 use Rattle.cbor_walk.specs.declared.open.Open.{Open}
@@ -526,12 +524,6 @@ starts b d input cells h small = record {
   bytes = refl;
   small = small;
 }
-
--- in more cells
-pub in-more-cells : (o : KeyOrder) (d : ℕ) (input : List ℕ) (k : Stack Open) (few more : List Open) (g : Built) (rest : List ℕ) → k.height ≡ length few → take (length few) more ≡ few → IsDue o d input (standing Open k few) g rest → IsDue o d input (standing Open k more) g rest
-in-more-cells o d input k few more g rest h e s =
-    let same : take k.height few ≡ take k.height more = ap (λ (n : ℕ). take n few) h ∙ take-length few ∙ sym e ∙ ap (λ (n : ℕ). take n more) (sym h) in
-    subst (λ (x : List Open). IsDue o d input (k.top ∷ reverse x) g rest) same s
 
 -- ---- the whole
 

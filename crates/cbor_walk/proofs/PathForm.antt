@@ -1,9 +1,8 @@
 -- Where the automaton stands before the item that is due.
 use Rattle.std.proofs.Common.{◌≡◌, ℕ, suc, ◌+◌, ◌-◌, ◌<◌, ◌≤◌, true, false, cond, List, [], ◌∷◌, ◌++◌, length, refl, sym, ap, ◌∙◌, subst, arith, append-nil}
-use Rattle.cbor_head.specs.Beginning.{IsBeginning}
 use Rattle.cbor_head.specs.Complaint.{Rules}
 use Rattle.cbor_head.specs.Head.{Holds, head}
-use Rattle.cbor_head.specs.Spelling.{Spelling, Spellings, SpelledEntries, no_spellings, a_spelling, no_entries, entry, spell, spell_all, spell_entries, spellings_count, entries_count, IsSpelled, AreSpelled, AreEntriesSpelled, depth, depth_all, depth_entries, HoldsOrIndefinite, IsItem}
+use Rattle.cbor_head.specs.Spelling.{Spelling, Spellings, SpelledEntries, no_spellings, a_spelling, no_entries, entry, spell, spell_all, spell_entries, spellings_count, entries_count, IsSpelled, AreSpelled, AreEntriesSpelled, depth, depth_all, depth_entries, HoldsOrIndefinite}
 use Rattle.cbor_head.specs.Verdict.{initial_reason}
 use Rattle.cbor_head.specs.declared.major.Major.{Major}
 use Rattle.cbor_head.specs.declared.major.Major.TheVariants.{Array, Map, Tag}
@@ -14,9 +13,7 @@ use Rattle.cbor_automaton.specs.Automaton.{Frame, counted, indefinite_array, ind
 use Rattle.cbor_automaton.proofs.Beginnings.{onwards, run-append, telling_all-reached}
 use Rattle.cbor_automaton.proofs.Forward.{forward, head-taken, item_starts, room-above, telling_all}
 use Rattle.cbor_judging.specs.SoFar.{array_bytes, map_bytes}
-use Rattle.cbor_judging.proofs.Judged.{judged_start}
 use Rattle.cbor_walk.specs.inner.Path.{Level, a_member, a_key, a_value, tagged, level_bytes, IsClean, bytes_before, AreClean}
-use Rattle.cbor_walk.proofs.PathLevels.{judged_path}
 
 -- ---- the frames
 
@@ -169,9 +166,3 @@ path_run r d (l ∷ ls) h =
     let e : d - suc (length ls) ≡ d - suc (length fs) = omega (arith, containers_count ls) in
     leads_on d start (at_item fs) (at_item (container l ∷ fs)) (bytes_before ls) (level_bytes l) (path_run r d ls h.2)
     (level_leads d fs room r (length (bytes_before ls)) (d - suc (length ls)) l e h.1)
-
--- and some item begins with them
-pub path_begins : (r : Rules) (d : ℕ) (ls : List Level) → AreClean r d ls → IsBeginning d (bytes_before ls)
-path_begins r d ls h =
-    let j = judged_path r d ls h [] _ (judged_start r (length (bytes_before ls)) (d - length ls)) in
-    (j.item, j.rest, subst (λ (x : List ℕ). IsItem d j.item (x ++ j.rest)) (append-nil (bytes_before ls)) j.is)

@@ -1,12 +1,11 @@
 -- Items without members, from their first byte.
-use Rattle.std.proofs.Common.{◌≡◌, ℕ, zero, suc, ◌+◌, ◌-◌, ◌%◌, ◌<◌, ◌≤◌, ◌⊎◌, Bool, true, false, List, [], ◌∷◌, ◌++◌, length, take, drop, get_or, length-drop, refl, sym, ap, ◌∙◌, subst, inl, inr, arith}
+use Rattle.std.proofs.Common.{◌≡◌, ℕ, zero, suc, ◌+◌, ◌-◌, ◌%◌, ◌<◌, ◌≤◌, ◌⊎◌, Bool, true, List, [], ◌∷◌, ◌++◌, length, take, drop, get_or, length-drop, refl, sym, ap, ◌∙◌, subst, inl, inr, arith}
 use Rattle.std.specs.Prelude.{IsUtf8}
 use Rattle.std.proofs.lemmas.Bool.{cases_lt}
 use Rattle.std.proofs.lemmas.List.{length-take-le, take-append-drop, drop-drop}
 use Rattle.byteorder.specs.Endian.{big_number}
 use Rattle.cbor_head.specs.Value.{AreBytes}
 use Rattle.cbor_head.specs.declared.order.KeyOrder.{KeyOrder}
-use mir.Val.{bool_byte}
 use Rattle.cbor_head.specs.Head.{Holds, shortest, with_argument}
 use Rattle.cbor_head.specs.declared.width.Width.{Width}
 use Rattle.cbor_head.specs.declared.width.Width.TheVariants.{Direct, One, Two, Four, Eight, Indefinite}
@@ -30,11 +29,6 @@ small-argument Two low n behind rest h e l = let f : 0 + low ≡ 0 + 25 = ap (λ
 small-argument Four low n behind rest h e l = let f : 0 + low ≡ 0 + 26 = ap (λ (xs : List ℕ). get_or xs 0 0) e in absurd (omega (arith, f, l))
 small-argument Eight low n behind rest h e l = let f : 0 + low ≡ 0 + 27 = ap (λ (xs : List ℕ). get_or xs 0 0) e in absurd (omega (arith, f, l))
 small-argument Indefinite low n behind rest h e l = absurd h
-
--- a size that is 1 where there is room
-pub empty-size : (room : Bool) (k : ℕ) → k ≡ bool_byte room → 0 < k → (k ≡ 1) × (room ≡ true)
-empty-size true k e l = (e, refl)
-empty-size false k e l = absurd (omega (arith, e, l))
 
 -- an integer of either type
 module _ (o : KeyOrder) (d first : ℕ) (behind rest : List ℕ) (n : ℕ) where

@@ -1,8 +1,7 @@
 -- What is taken where an item is due, in the cells.
 use Rattle.std.proofs.Common.{◌≡◌, ◌≢◌, ℕ, suc, ◌+◌, ◌-◌, ◌<◌, ◌≤◌, Bool, true, List, [], ◌∷◌, ◌++◌, length, take, drop, refl, sym, ap, ◌∙◌, subst, inl, inr, arith, append_assoc, append-nil, length-drop}
-use Rattle.std.specs.Prelude.{◌^◌, reverse, slice_range}
+use Rattle.std.specs.Prelude.{reverse, slice_range}
 use Rattle.std.proofs.Math.Seq.{drop-append_seam, take-length}
-use Rattle.std.proofs.lemmas.Bool.Decides.{nat_tests}
 use Rattle.std.proofs.lemmas.List.{length-append, length-reverse, length-take-le}
 use Rattle.cbor_head.specs.Complaint.{strict, OfCount}
 use Rattle.cbor_head.specs.Head.{Holds, head, shortest, shortest_head}
@@ -18,7 +17,7 @@ use Rattle.cbor_walk.specs.inner.Leaves.{IsLeaf, IsShortestHead}
 use Rattle.cbor_judging.proofs.Heads.{open_or}
 use Rattle.cbor_judging.specs.Judged.{Never}
 use Rattle.cbor_walk.specs.inner.Path as path
-use Rattle.cbor_walk.specs.inner.Path.{a_member, a_key, tagged, level_bytes, bytes_before, AreClean}
+use Rattle.cbor_walk.specs.inner.Path.{a_member, a_key, tagged, level_bytes, bytes_before}
 use Rattle.cbor_walk.specs.inner.Cells.{a_level, AreCells, StandsAt, HasEndedAt}
 use Rattle.cbor_walk.specs.inner.Stack.{standing}
 use Rattle.cbor_walk.specs.inner.Items.{IsOpener, OpensWith}
@@ -143,25 +142,6 @@ module _ (o : KeyOrder) (d : ℕ) (input : List ℕ) (cs : List Level) (at : ℕ
 pub height_is : (o : KeyOrder) (d : ℕ) (input : List ℕ) (k : Stack Level) (cells : List Level) (at : ℕ) (s : StandsAt o d input (standing Level k cells) at) → k.height ≤ length cells → length s.ls ≡ k.height
 height_is o d input k cells at s l = omega (arith, cells_count input s.ls (standing Level k cells) s.are, standing_count Level k cells l)
 
-direct : (n : ℕ) → n < 24 → shortest n ≡ Direct
-direct n h = grind (arith, nat_tests)
-
--- the head of a short container
-pub short_opens : (first : ℕ) (behind : List ℕ) (due : Due) (left : ℕ) → IsOpener due left (first ∷ behind) behind → OpensWith due left 1 (first ∷ behind)
-short_opens first behind due left h = record { some = omega arith; inside = omega arith; opener = h }
-
-pub short_array : (low : ℕ) (behind : List ℕ) → 0 < low → low < 24 → OpensWith Item (low - 1) 1 ((128 + low) ∷ behind)
-short_array low behind some small =
-    let n : suc (low - 1) ≡ low = omega (arith, some) in
-    short_opens (128 + low) behind Item (low - 1)
-    (inl (subst (λ (k : ℕ). (k < 2 ^ 64) × ((128 + low) ∷ behind ≡ shortest_head Array k ++ behind)) (sym n) (omega (arith, small), ap (λ (w : Width). head Array w low ++ behind) (sym (direct low small)))))
-
-pub short_map : (low : ℕ) (behind : List ℕ) → 0 < low → low < 24 → OpensWith Key (low - 1) 1 ((160 + low) ∷ behind)
-short_map low behind some small =
-    let n : suc (low - 1) ≡ low = omega (arith, some) in
-    short_opens (160 + low) behind Key (low - 1)
-    (subst (λ (k : ℕ). (k < 2 ^ 64) × ((160 + low) ∷ behind ≡ shortest_head Map k ++ behind)) (sym n) (omega (arith, small), ap (λ (w : Width). head Map w low ++ behind) (sym (direct low small))))
-
 -- the head of a tag
 pub tag_opens : (low size : ℕ) (behind : List ℕ) → IsShortestHead low behind size → OpensWith Item 0 size ((192 + low) ∷ behind)
 tag_opens low size behind h =
@@ -173,9 +153,6 @@ tag_opens low size behind h =
       inside = omega (arith, some, inside);
       opener = inr (refl, (h.number, h.shortest.range, subst (λ (k : ℕ). (192 + low) ∷ behind ≡ shortest_head Tag h.number ++ drop k ((192 + low) ∷ behind)) (sym e) (h.shortest.spelled 192)));
     }
-
-pub short_tag : (low : ℕ) (behind : List ℕ) → low < 24 → OpensWith Item 0 1 ((192 + low) ∷ behind)
-short_tag low behind small = short_opens (192 + low) behind Item 0 (inr (refl, (low, omega (arith, small), ap (λ (w : Width). head Tag w low ++ behind) (sym (direct low small)))))
 
 -- the same levels in other cells
 pub in_more_cells : (o : KeyOrder) (d : ℕ) (input : List ℕ) (k : Stack Level) (few more : List Level) (at : ℕ) → StandsAt o d input (standing Level k few) at → k.height ≡ length few → take (length few) more ≡ few → StandsAt o d input (standing Level k more) at

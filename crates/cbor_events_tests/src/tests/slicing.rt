@@ -199,57 +199,59 @@ fn takes_payloads(rt: HostRuntime) {
     assert!(rt; events.next_payload().is_none());
 }
 
-// What is whole is told at once: a string with its payload, unless it is empty.
+// What is told of each head and each payload, and how many bytes were taken with it.
 #[test]
-fn tells_what_is_whole(rt: HostRuntime) {
+fn tells_tokens(rt: HostRuntime) {
     // [1000, "a", h'', [_ 0]]
     let bytes = b"\x84\x19\x03\xe8\x61a\x40\x9f\x00\xff";
     let mut events = SliceEvents::new(bytes, limits(&rt, 2, 10));
     let told = [
         (Token::Array, 4, 1),
         (Token::Unsigned, 1000, 4),
-        (Token::Text, 1, 6),
+        (Token::Text, 1, 5),
+        (Token::Piece, 1, 6),
+        (Token::Bytes, 0, 7),
+        (Token::IndefiniteArray, 0, 8),
+        (Token::Unsigned, 0, 9),
+        (Token::Break, 0, 10),
     ];
     for (token, number, taken) in told {
-        assert_eq!(rt; events.next_whole(), Some(token));
+        assert_eq!(rt; events.next(), token);
         assert_eq!(rt; (events.number(), events.taken()), (number, taken));
     }
     assert!(rt; events.piece() == b"a".as_slice());
-    for (token, number) in [(Token::Bytes, 0), (Token::IndefiniteArray, 0)] {
-        assert_eq!(rt; events.next_whole(), None);
-        assert_eq!(rt; (events.next(), events.number()), (token, number));
-    }
-    assert_eq!(rt; events.next_whole(), Some(Token::Unsigned));
-    assert_eq!(rt; (events.next(), events.next()), (Token::Break, Token::End));
-    assert_eq!(rt; events.next_whole(), None);
+    assert_eq!(rt; events.next(), Token::End);
 }
 
+// The payload of a chunk comes at once, too.
 #[test]
-fn tells_whole_chunks(rt: HostRuntime) {
+fn takes_payloads_of_chunks(rt: HostRuntime) {
     // (_ "ab", "")
     let mut events = SliceEvents::new(b"\x7f\x62ab\x60\xff", limits(&rt, 0, 6));
-    assert!(rt; !events.next_chunk());
     assert_eq!(rt; events.next(), Token::IndefiniteText);
-    assert!(rt; events.next_chunk());
+    assert!(rt; events.next_payload().is_none());
+    assert_eq!(rt; events.next(), Token::Chunk);
+    let payload = events.next_payload();
+    assert!(rt; payload == Some(b"ab".as_slice()));
     assert!(rt; events.piece() == b"ab".as_slice());
-    assert!(rt; !events.next_chunk());
-    assert_eq!(rt;
-        (events.next(), events.next()),
-        (Token::Chunk, Token::Break)
-    );
-    assert_eq!(rt; events.next(), Token::End);
+    assert_eq!(rt; events.next(), Token::Chunk);
+    assert!(rt; events.next_payload().is_none());
+    assert_eq!(rt; (events.next(), events.next()), (Token::Break, Token::End));
 }
 
 #[test]
 fn tells_what_has_no_length(rt: HostRuntime) {
     // [_ 0, {_ }]
     let mut events = SliceEvents::new(b"\x9f\x00\xbf\xff\xff", limits(&rt, 2, 5));
-    assert_eq!(rt; events.next_open(), Some(Token::IndefiniteArray));
-    assert_eq!(rt; events.next_open(), None);
-    assert_eq!(rt; events.next(), Token::Unsigned);
-    assert_eq!(rt; events.next_open(), Some(Token::IndefiniteMap));
-    assert_eq!(rt; events.next_open(), Some(Token::Break));
+    let told = [
+        Token::IndefiniteArray,
+        Token::Unsigned,
+        Token::IndefiniteMap,
+        Token::Break,
+    ];
+    for token in told {
+        assert_eq!(rt; events.next(), token);
+    }
     assert_eq!(rt; (events.open(), events.place()), (1, 3));
-    assert_eq!(rt; events.next_open(), Some(Token::Break));
-    assert_eq!(rt; (events.next_open(), events.next()), (None, Token::End));
+    assert_eq!(rt; (events.next(), events.next()), (Token::Break, Token::End));
 }

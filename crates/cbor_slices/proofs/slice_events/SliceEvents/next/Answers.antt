@@ -1,17 +1,14 @@
 use Rattle.std.proofs.Common.{◌≡◌, ◌-◌, true≢false, subst, length, refl, ap, sym, arith, ◌∙◌}
 use Rattle.std.specs.Prelude.{None}
 use Rattle.std.proofs.lemmas.List.{length-drop}
-use Rattle.cbor_slices.specs.SliceEvents.{IsNextTold}
-use Rattle.cbor_standing.specs.NextEvent.{StandsBetween}
 use Rattle.cbor_steps.specs.State.{is_in_payload}
 use Rattle.cbor_steps.specs.Token.{IsEventToken}
 use Rattle.cbor_slices.specs.SliceView.{SliceEventsView}
 use Rattle.cbor_slices.specs.inner.Slices.{told_at}
 use Rattle.cbor_steps.specs.declared.token.Token.TheVariants.{Piece}
 use Rattle.cbor_standing.proofs.Feeding.{rest_from, rest-is}
-use Rattle.cbor_slices.proofs.Slices.{no-piece, stays, whole-payload, run-from, event-next}
+use Rattle.cbor_slices.proofs.Slices.{no-piece, whole-payload, run-from, event-next}
 use Rattle.cbor_slices.proofs.slice_events.SliceEvents.next.Goals as goal
-use Rattle.cbor_slices.proofs.slice_events.SliceEvents.next.Goals.{then-is_none+in-Item+in_default-front_head, then-is_none+in_default+in-Payload+else-not-is_empty, then-is_none+in_default+in_default-position+in-Chunks+in_default-whole_chunk, then-is_none+in_default+in_default-position+in_default-position-2, else-is_none}
 
 pub take_head-requires-clause-room : goal.take_head-requires-clause-room
 take_head-requires-clause-room c = c.in-Some.ensures.here.room
@@ -48,48 +45,5 @@ returns-then-not-is_empty-clause-answers c = λ live t ms h.
     (ap (λ r. told_at r c.self.inside.size (length xs) (length (rest_from used xs))) still) refl
     (λ due. whole-payload _ _ _ _ _ _ _ c.in-Payload.is (omega (arith, inv.begun, inv.sized, inv.limited)) c.whole_piece-used.ensures.most)
 
-pub returns-in-Some-whole_chunk-clause-answers : goal.returns-in-Some-whole_chunk-clause-answers
-returns-in-Some-whole_chunk-clause-answers c = λ live t ms h.
-    let xs = c.self.inside.rest.now in
-    let told = c.in-Some-whole_chunk in
-    let used = told.whole.used in
-    let fits = told.ensures.used.1 in
-    let still : c.self.inside.refusal ≡ None = ap (λ (v : SliceEventsView). v.refusal) c.self.view_is ∙ live in
-    let depth : c.from-depth.result ≡ c.self.inside.limits.depth = c.from-depth.ensures ∙ c.depth.ensures.depth in
-    let left : length (rest_from used xs) ≡ length xs - used = ap length (rest-is used xs) ∙ length-drop used xs in
-    let inv = c.self.invariant in
-    event-next told.whole.token _ _ _ used t ms c.self.view_is h told.ensures.token c.below_256.ensures
-    told.ensures.used.0 told.ensures.used.1 (rest-is used xs) (run-from _ _ _ _ _ _ _ _ _ c.in-Chunks.is depth told.ensures.told) (λ e. let no = sym c.in-Chunks.is ∙ e in cc) refl
-    (omega (arith, c.whole_chunk.ensures.fewer, inv.within)) (record { open_count = refl; due = refl; in_payload = refl; complete = refl }) told.ensures.settled
-    (omega (arith, left, inv.begun, inv.sized, fits)) (omega (arith, left, inv.begun, inv.sized, inv.limited, fits)) refl (ap (λ r. told_at r c.self.inside.size c.self.inside.begin (length xs)) (sym still))
-    (ap (λ r. told_at r c.self.inside.size (length xs) (length (rest_from used xs))) still) (sym (told.ensures.other c.self.inside.piece.now xs))
-    (no-piece told.whole.token _ _ (λ e. absurd (true≢false (sym e ∙ ap is_in_payload c.in-Chunks.is))) (omega (arith, told.ensures.used.0, fits)))
-
-pub returns-clause-answers : goal.returns-clause-answers
-returns-clause-answers c = λ live t ms h.
-    let same : c.if-is_none.self ≡ c.args.self.now = elim c.if-is_none.branch [
-      | then-is_none+in-Item+in_default-front_head w ↦ search
-      | then-is_none+in_default+in-Payload+else-not-is_empty w ↦ search
-      | then-is_none+in_default+in_default-position+in-Chunks+in_default-whole_chunk w ↦ (let kept = w.whole_chunk.ensures.none w.in_default-whole_chunk.is in stays _ _ _ c.self.inside.position _ c.self.inside.nest _ w.self-is refl kept.1 kept.0 c.self.view_is)
-      | then-is_none+in_default+in_default-position+in_default-position-2 w ↦ search
-      | else-is_none w ↦ search
-    ] in
-    subst (λ (v : SliceEventsView). IsNextTold c.slow.result v c.slow.new.self t ms) same
-    (c.slow.ensures.answers (ap (λ (v : SliceEventsView). v.refusal) same ∙ live) t ms (subst (λ (v : SliceEventsView). StandsBetween v.machine t ms) (sym same) h))
-
 pub returns-in-Some-clause-emptied : goal.returns-in-Some-clause-emptied
 returns-in-Some-clause-emptied c = λ live e. absurd (subst IsEventToken e c.take_head.ensures.token)
-
-pub returns-in-Some-whole_chunk-clause-emptied : goal.returns-in-Some-whole_chunk-clause-emptied
-returns-in-Some-whole_chunk-clause-emptied c = λ live e. absurd (subst IsEventToken e c.in-Some-whole_chunk.ensures.token)
-
-pub returns-clause-emptied : goal.returns-clause-emptied
-returns-clause-emptied c = λ live e.
-    let same : c.if-is_none.self ≡ c.args.self.now = elim c.if-is_none.branch [
-      | then-is_none+in-Item+in_default-front_head w ↦ search
-      | then-is_none+in_default+in-Payload+else-not-is_empty w ↦ search
-      | then-is_none+in_default+in_default-position+in-Chunks+in_default-whole_chunk w ↦ (let kept = w.whole_chunk.ensures.none w.in_default-whole_chunk.is in stays _ _ _ c.self.inside.position _ c.self.inside.nest _ w.self-is refl kept.1 kept.0 c.self.view_is)
-      | then-is_none+in_default+in_default-position+in_default-position-2 w ↦ search
-      | else-is_none w ↦ search
-    ] in
-    c.slow.ensures.emptied (ap (λ (v : SliceEventsView). v.refusal) same ∙ live) e
