@@ -119,18 +119,13 @@ fn is_line(bytes: &[u8], line: &str) -> bool {
     }
 }
 
-fn push_words(words: &mut Vec<String>, alloc: Global, line: &str) -> Result<(), AllocError> {
-    for word in line.split_whitespace() {
-        words.push(String::from_str(alloc, word)?)?;
-    }
-    Ok(())
-}
-
 // The words of a line, behind the program's name.
 fn words(alloc: Global, line: &str) -> Result<Vec<String>, AllocError> {
     let mut words = Vec::new(alloc);
-    push_words(&mut words, alloc, "cborc")?;
-    push_words(&mut words, alloc, line)?;
+    words.push(String::from_str(alloc, "cborc")?)?;
+    for word in line.split_whitespace() {
+        words.push(String::from_str(alloc, word)?)?;
+    }
     Ok(words)
 }
 

@@ -8,24 +8,13 @@ use cborc_files::FilesInMemory;
 use std::alloc::{AllocError, Global};
 use std::test::Fail;
 
-fn put(files: &mut FilesInMemory, input: &[u8]) -> Result<(), AllocError> {
-    files.put("in", input)?;
-    files.put("out", b"\x05")?;
-    files.put("other", b"\x06")
-}
-
 // Files `in` and `out`, the second to be replaced, and one that no command names.
 fn files(alloc: Global, input: &[u8]) -> Result<FilesInMemory, AllocError> {
     let mut files = FilesInMemory::new(alloc);
-    put(&mut files, input)?;
+    files.put("in", input)?;
+    files.put("out", b"\x05")?;
+    files.put("other", b"\x06")?;
     Ok(files)
-}
-
-// Runs the words of a line; answers the status.
-fn status_of(alloc: Global, line: &str, files: &mut FilesInMemory) -> Result<u8, AllocError> {
-    let mut out = Vec::with_capacity(alloc, 64)?;
-    let mut err = Vec::with_capacity(alloc, 2048)?;
-    Ok(run(alloc, words(alloc, line)?, files, &mut out, &mut err))
 }
 
 // The words, the file `in` before, the status, and what `in` and `out` hold afterwards.
@@ -73,7 +62,10 @@ fn leaves_other_files_alone(rt: HostRuntime) -> Result<(), AllocError> {
     let alloc = rt.alloc();
     for &(line, input, wanted, source, target) in &ROWS {
         let mut files = files(alloc, input)?;
-        let status = status_of(alloc, line, &mut files)?;
+        let mut out = Vec::with_capacity(alloc, 64)?;
+        let mut err = Vec::with_capacity(alloc, 2048)?;
+        let words = words(alloc, line)?;
+        let status = run(alloc, words, &mut files, &mut out, &mut err);
         assert_eq!(rt; status, wanted, "{line}");
         assert!(rt; files.get("in") == Some(source), "{line}");
         assert!(rt; files.get("out") == Some(target), "{line}");
