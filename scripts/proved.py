@@ -14,14 +14,15 @@ CRATES = ROOT / "crates"
 
 HEAD = """# What is proved
 
-Written by `scripts/proved.py` from the sources: run it after a change of a contract. A contract is proved for every input
-that meets its `requires`. Below stands each public call with the first lines of its documentation and the names of its
-clauses, behind each the words of `specs/` that it cites; then those words, with the first sentence of what their definitions
-say, in the section of the crate that defines them. The clauses themselves stand with the calls, in `src/`. [READING.md](READING.md) has the definitions in the order to read
-them, and [TESTED.md](TESTED.md) what no clause can say.
+Written by `scripts/proved.py` from the sources: run it after a change of a contract. A contract is proved for every
+input that meets its `requires`. Below stands each public call with the first lines of its documentation and the names
+of its clauses, behind each the words of `specs/` that it cites; then those words, with the first sentence of what their
+definitions say, in the section of the crate that defines them. The clauses themselves stand with the calls, in `src/`.
+[READING.md](READING.md) has the definitions in the order to read them, and [TESTED.md](TESTED.md) what no clause can
+say.
 
-A call that takes memory may answer `Memory` at any time, one that reads `Read`, one that writes `Write`: no clause can rule
-that out.
+A call that takes memory may answer `Memory` at any time, one that reads `Read`, one that writes `Write`: no clause can
+rule that out.
 """
 
 # An item of a source file that a caller may see, or that holds what one may see.
@@ -31,7 +32,8 @@ ITEM = re.compile(
     r"|(?:pub\([^)]*\) )?(?P<public>pub )?(?:final )?(?:const )?(?:unsafe )?(?:extern \"C\" )?fn (?P<name>\w+))",
     re.M,
 )
-CLAUSE = re.compile(r"\b(requires|ensures)\b\*?\s*(\w+)?\s*\{|\bghost\b[^;{]*[;{]|\{|;")
+# An array type has a semicolon of its own.
+CLAUSE = re.compile(r"\b(requires|ensures)\b\*?\s*(\w+)?\s*\{|\bghost\b[^;{]*[;{]|\[[^\[\]{};]*;|\{|;")
 NAME = re.compile(r"[^\s(){}\[\],;.]+")
 # What a file brings in of the definitions of a crate.
 USED = re.compile(r"ghost use Rattle\.(\w+)\.specs\.[^;]*\{([^;]*)\};")
@@ -102,7 +104,7 @@ def clauses_of(text, place):
             if match[0].startswith("ghost") and match[0].endswith("{"):
                 place = behind(text, match.end() - 1)
                 continue
-            if match[0].startswith("ghost"):
+            if match[0].startswith(("ghost", "[")):
                 place = match.end()
                 continue
             return found

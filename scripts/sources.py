@@ -218,12 +218,16 @@ def owner_of(head):
 
 def clauses_of(text, place, function):
     """Collects the clauses between a signature and its body; answers the place of the body."""
-    pattern = re.compile(r"\b(requires|ensures|ghost)\b\*?\s*(\w+)?\s*:?\s*\{|\{|;")
+    # an array type has a semicolon of its own
+    pattern = re.compile(r"(?P<array>\[[^\[\]{};]*;)|\b(?P<word>requires|ensures|ghost)\b\*?\s*(\w+)?\s*:?\s*\{|\{|;")
     while True:
         match = pattern.search(text, place)
         if not match:
             return len(text)
-        if not match.group(1):
+        if match.group("array"):
+            place = match.end()
+            continue
+        if not match.group("word"):
             return match.end()
         body, place = blocks(text, match.end() - 1)
         function.clauses.append(body)

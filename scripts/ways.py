@@ -71,7 +71,8 @@ class File:
 
     def body_from(self, place):
         """Where the body begins of a function whose signature goes on here, behind its clauses."""
-        clause = re.compile(r"\b(?:requires|ensures)\b\*?\s*\w*\s*\{|\bghost\b[^;{]*[;{]|\{|;")
+        # an array type has a semicolon of its own
+        clause = re.compile(r"\b(?:requires|ensures)\b\*?\s*\w*\s*\{|\bghost\b[^;{]*[;{]|\[[^\[\]{};]*;|\{|;")
         while True:
             match = clause.search(self.plain, place)
             if not match or match[0] == ";":
