@@ -109,8 +109,10 @@ class Counts:
     def faults_of_tables(self, text):
         """Files whose lines must be believed and that no table names, or the reverse."""
         headline, _, rest = text.partition("\n## Everything public\n")
-        listed = set(re.findall(r"(?m)^\| `([\w/.]+\.antt)`", headline))
-        yield from unlike("the headline", listed, set(self.counts_of_headline()))
+        listed = re.findall(r"(?m)^\| `([\w/.]+\.antt)`", headline)
+        for file in sorted({it for it in listed if listed.count(it) > 1}):
+            yield f"the table of the headline in docs/READING.md has {file} twice"
+        yield from unlike("the headline", set(listed), set(self.counts_of_headline()))
         crate, rows = None, set()
         for line in rest.partition("\n## ")[0].splitlines():
             cells = [it.strip() for it in line.split("|")[1:-1]]
