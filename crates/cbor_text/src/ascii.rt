@@ -5,9 +5,9 @@ ghost use Rattle.std.specs.Str.{IsAscii};
 
 use std::simd::prelude::*;
 
-/// Whether the first byte and so many bytes behind it are ASCII.
+// Whether the first byte and so many bytes behind it are ASCII.
 #[inline(always)]
-pub fn is_ascii_front(chunk: &[u8; 32], count: u8) -> bool
+fn is_ascii_front(chunk: &[u8; 32], count: u8) -> bool
     requires { count < 32 }
     ensures { (result ≡ true) ↔ IsAscii (take (count + 1) chunk.now) }
 {
@@ -17,10 +17,10 @@ pub fn is_ascii_front(chunk: &[u8; 32], count: u8) -> bool
     high << (63 - count) == 0
 }
 
-/// Whether so many bytes in front are ASCII. False says nothing: fewer than 32 may stand there, or
-/// more be asked for.
+// Whether so many bytes in front are ASCII. False says nothing: fewer than 32 may stand there, or
+// more be asked for.
 #[inline(always)]
-pub fn is_short_ascii(front: &[u8], count: usize) -> bool
+pub(crate) fn is_short_ascii(front: &[u8], count: usize) -> bool
     ensures { result ≡ true → IsAscii (take count front.now) }
 {
     if count == 0 || count > 32 {

@@ -1,6 +1,6 @@
 //! Texts, and what is none (RFC 3629, section 4).
 
-use cbor_text::{check_text, is_ascii_front, is_text_front};
+use cbor_text::{check_text, is_text_front};
 
 #[test]
 fn tells_how_far_a_text_goes(rt: HostRuntime) {
@@ -12,15 +12,6 @@ fn tells_how_far_a_text_goes(rt: HostRuntime) {
     // a surrogate, and "/" in two bytes
     assert_eq!(rt; check_text(b"a\xed\xa0\x80"), Err(1));
     assert_eq!(rt; check_text(b"\xc0\xaf"), Err(0));
-}
-
-#[test]
-fn looks_at_so_many_bytes_in_front(rt: HostRuntime) {
-    let mut chunk = [b'~'; 32];
-    assert!(rt; is_ascii_front(&chunk, 0) && is_ascii_front(&chunk, 31));
-    chunk[5] = 0x80;
-    assert!(rt; is_ascii_front(&chunk, 4));
-    assert!(rt; !is_ascii_front(&chunk, 5) && !is_ascii_front(&chunk, 31));
 }
 
 #[test]
