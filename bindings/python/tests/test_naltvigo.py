@@ -215,6 +215,7 @@ class Words(unittest.TestCase):
     def test_other_buffers(self):
         self.assertEqual(naltvigo.canonicalise(array.array("B", b"\x18\x00")), b"\x00")
         self.assertEqual(naltvigo.canonicalise(memoryview(b"\x18-\x00-")[::2]), b"\x00")
+        self.assertEqual([it.kind for it in naltvigo.events(array.array("B", b"\x18\x00"))], ["unsigned"])
 
     def test_defaults(self):
         self.assertEqual(answer_of(naltvigo.check, b"\x81" * 64 + b"\x80"), (9, 64, 65))

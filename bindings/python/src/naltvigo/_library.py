@@ -121,6 +121,15 @@ def as_bytes(data: Any) -> bytes:
     return data if type(data) is bytes else bytes(memoryview(data))
 
 
+def is_buffer(data: Any) -> bool:
+    """Whether it is one buffer, and not several."""
+    try:
+        memoryview(data)
+    except TypeError:
+        return False
+    return True
+
+
 def wrong_limits(depth: Any, max_bytes: Any) -> Exception:
     for name, limit, most in (("depth", depth, DEPTH_MAX), ("max_bytes", max_bytes, BYTES_MAX)):
         if not isinstance(limit, int):

@@ -1,7 +1,7 @@
 """Items that come in parts, and items behind one another."""
 
 import ctypes
-from typing import Iterable, Iterator, NamedTuple, Optional, Union
+from typing import Any, Iterable, Iterator, NamedTuple, Optional, Union
 
 from ._library import (
     BYTES_MAX,
@@ -14,6 +14,7 @@ from ._library import (
     Refusal,
     Told,
     as_bytes,
+    is_buffer,
     machine_start_raw,
     machine_step_raw,
     next_canonical_raw,
@@ -67,9 +68,8 @@ def events(chunks: Union[Buffer, Iterable[Buffer]], *, depth: int = 64, max_byte
     """
     if not (0 <= depth <= DEPTH_MAX and 0 <= max_bytes <= BYTES_MAX):
         raise wrong_limits(depth, max_bytes)
-    if isinstance(chunks, (bytes, bytearray, memoryview)):
-        chunks = (chunks,)
-    return _events(chunks, depth, max_bytes)
+    parts: Any = (chunks,) if is_buffer(chunks) else chunks
+    return _events(parts, depth, max_bytes)
 
 
 def _events(chunks: Iterable[Buffer], depth: int, max_bytes: int) -> Iterator[Event]:
