@@ -64,19 +64,22 @@ fn refused() -> io::Error {
     io::Error::from(ErrorKind::OutOfMemory)
 }
 
-// The calls that take no memory.
+// The calls that take no memory. The reader is asked behind the first events, so that it keeps what
+// it has read of keys.
 fn call_idle(alloc: Global, bytes: &[u8], limits: Limits, tree: &Tree, idle: u32) {
+    let mut events = StrictReader::new(alloc, bytes, limits, KeyOrder::Bytewise);
+    for _ in 0..4 {
+        let _ = events.next();
+    }
     for _ in 0..idle {
         let _ = Sequence::new(alloc, bytes, limits);
-        let events = StrictReader::new(alloc, bytes, limits, KeyOrder::Bytewise);
+        let _ = StrictReader::new(alloc, bytes, limits, KeyOrder::Bytewise);
         let _ = events.piece().len();
         let _ = events.open();
         let _ = events.taken();
         let _ = events.spans();
         let _ = events.kept();
-        let builder = CanonBuilder::new(alloc, KeyOrder::Bytewise);
-        let _ = builder.repeated();
-        let _ = builder.finish();
+        let _ = CanonBuilder::new(alloc, KeyOrder::Bytewise);
         let _ = same(tree, tree);
         let _ = tree.item();
     }
@@ -97,16 +100,31 @@ fn put_encoded<W: Write>(alloc: Global, tree: &Tree, out: &mut W) -> io::Result<
     write!(out, ":{} ", 256usize.saturating_sub(writer.len()))
 }
 
-// An array of a number and a string; `repeated` is asked behind each part, where it is asked at all.
+// A map whose second key is complete, and may be asked for an equal one; it is finished where calls
+// that take no memory are made.
+fn build_idle(alloc: Global, idle: u32) -> Result<(), AllocError> {
+    let mut builder = CanonBuilder::new(alloc, KeyOrder::Bytewise);
+    builder.begin(Major::Map, 2)?;
+    builder.leaf(Major::Unsigned, 2)?;
+    builder.string(Major::Bytes, &[7; 40])?;
+    builder.leaf(Major::Unsigned, 1)?;
+    for _ in 0..idle {
+        let _ = builder.repeated();
+    }
+    if idle > 0 {
+        let _ = builder.finish();
+    }
+    Ok(())
+}
+
+// An array of a number and a string.
 fn build(alloc: Global, idle: u32) -> Result<Vec<u8>, AllocError> {
+    build_idle(alloc, idle)?;
     let mut builder = CanonBuilder::new(alloc, KeyOrder::Bytewise);
     builder.begin(Major::Array, 2)?;
     builder.leaf(Major::Unsigned, 1)?;
     builder.string(Major::Bytes, &[7; 40])?;
     builder.end()?;
-    for _ in 0..idle {
-        let _ = builder.repeated();
-    }
     Ok(builder.finish())
 }
 
