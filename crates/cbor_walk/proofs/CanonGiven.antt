@@ -1,24 +1,24 @@
 -- A builder of canonical bytes that is given the parts of an item: what it stands for behind each.
-use Rattle.std.proofs.Common.{◌≡◌, ℕ, suc, ◌+◌, ◌-◌, ◌^◌, ◌<◌, ◌≤◌, Bool, true, false, List, [], ◌∷◌, ◌++◌, length, refl, sym, ap, ap₂, ◌∙◌, subst, arith, inl, inr}
+use Rattle.std.proofs.Common.{◌≡◌, ℕ, suc, ◌+◌, ◌-◌, ◌^◌, ◌<◌, Bool, true, false, List, [], ◌∷◌, ◌++◌, length, refl, sym, ap, ap₂, ◌∙◌, subst, arith, inl, inr}
 use Rattle.std.specs.Prelude.{◌↔◌, IsTrue, Result, Ok, Err, IfOk, OnOk}
 use Rattle.std.proofs.lemmas.List.{length-append}
 use Rattle.cbor_head.specs.Canonical.{canonical, canonical_all, canonical_entries}
 use Rattle.cbor_head.specs.Head.{head, shortest_head}
-use Rattle.cbor_head.specs.Spelling.{Spelling, Spellings, SpelledEntries, unsigned, negative, bytes, text, byte_chunks, text_chunks, array, a_map, tag, simple, no_spellings, no_entries, spell, spell_all, spell_entries, spellings_count, value_of, values_of, entries_of}
+use Rattle.cbor_head.specs.Spelling.{Spelling, Spellings, SpelledEntries, array, a_map, no_spellings, no_entries, spell, spell_all, spellings_count, value_of, values_of, entries_of}
 use Rattle.cbor_head.specs.Value.{Value}
 use Rattle.cbor_head.specs.declared.major.Major.{Major}
 use Rattle.cbor_head.specs.declared.major.Major.TheVariants as majors
 use Rattle.cbor_head.specs.declared.order.KeyOrder.{KeyOrder}
 use Rattle.cbor_head.specs.declared.width.Width.{Width}
 use Rattle.cbor_head.specs.declared.width.Width.TheVariants.{Indefinite}
-use Rattle.cbor_builder.specs.Built.{Built, built, IsLeaf, IsContainer, IsInContainer, IsInString, HasDistinctKeysSoFar, TakesPart}
+use Rattle.cbor_builder.specs.Built.{Built, built, IsLeaf, IsInContainer, IsInString, HasDistinctKeysSoFar, TakesPart}
 use Rattle.cbor_builder.specs.Parts as parts
 use Rattle.cbor_grammar.proofs.Counts.{holds_fits}
 use Rattle.cbor_judging.proofs.Given.{full-array, full-map, settled}
 use Rattle.cbor_judging.proofs.Levels.{pairs-shorter}
 use Rattle.cbor_judging.proofs.Valid.{count_bounded}
-use Rattle.cbor_judging.specs.Given.{level_open, opens, IsFull, StandsAt}
-use Rattle.cbor_judging.specs.Levels.{IsTaken, AreTaken, ArePairsTaken, Level, a_member, a_key, a_value, some_member, some_key, some_value, tagged, AreLevels, bytes_before, Standing, item_due, item_full, item_whole, settle}
+use Rattle.cbor_judging.specs.Given.{level_open, opens, StandsAt}
+use Rattle.cbor_judging.specs.Levels.{AreTaken, ArePairsTaken, Level, a_member, a_key, a_value, some_member, some_key, some_value, tagged, AreLevels, bytes_before, Standing, item_due, item_full, item_whole, settle}
 use Rattle.cbor_judging.specs.Place.{Place}
 use Rattle.cbor_judging.specs.Reading.{string_major, string_value}
 use Rattle.cbor_walk.specs.CanonSink.{canon_stands, canon_holds}
@@ -79,33 +79,20 @@ given v out old new same is start d ls s at k e =
 
 -- ---- containers
 
+-- whatever is true of each container before its first item
+pub opened-cases : (P : Major → ℕ → Level → Type 0)
+    → ((w : Width) (left n : ℕ) → P majors.Array n (a_member w left no_spellings)) → ((n : ℕ) → P majors.Array n (some_member no_spellings))
+    → ((w : Width) (left n : ℕ) → P majors.Map n (a_key w left no_entries)) → ((n : ℕ) → P majors.Map n (some_key no_entries))
+    → ((w : Width) (n : ℕ) → P majors.Tag n (tagged w n)) → (m : Major) (n : ℕ) (l : Level) → IsOpened m n l → P m n l
+opened-cases P p q r s t majors.Array n (a_member w left done) e = subst (λ (x : Spellings). P majors.Array n (a_member w left x)) (sym e) (p w left n)
+opened-cases P p q r s t majors.Array n (some_member done) e = subst (λ (x : Spellings). P majors.Array n (some_member x)) (sym e) (q n)
+opened-cases P p q r s t majors.Map n (a_key w left done) e = subst (λ (x : SpelledEntries). P majors.Map n (a_key w left x)) (sym e) (r w left n)
+opened-cases P p q r s t majors.Map n (some_key done) e = subst (λ (x : SpelledEntries). P majors.Map n (some_key x)) (sym e) (s n)
+opened-cases P p q r s t majors.Tag n (tagged w m) e = subst (λ (x : ℕ). P majors.Tag x (tagged w m)) e (t w m)
+opened-cases P p q r s t m n l e = absurd e
+
 level-opened : (o : KeyOrder) (m : Major) (n : ℕ) (l : Level) → IsOpened m n l → level_open o l ≡ parts.opened m n
-level-opened o majors.Array n (a_member w left done) e = ap (λ (ss : Spellings). parts.an_array (spellings_count ss) (canonical_all o (values_of ss))) e
-level-opened o majors.Array n (some_member done) e = ap (λ (ss : Spellings). parts.an_array (spellings_count ss) (canonical_all o (values_of ss))) e
-level-opened o majors.Map n (a_key w left done) e = ap (λ (es : SpelledEntries). parts.a_map (canonical_entries o (entries_of es))) e
-level-opened o majors.Map n (some_key done) e = ap (λ (es : SpelledEntries). parts.a_map (canonical_entries o (entries_of es))) e
-level-opened o majors.Tag n (tagged w m) e = ap (λ (k : ℕ). parts.plain (shortest_head majors.Tag k)) e
-level-opened o majors.Array n (a_key w left done) e = absurd e
-level-opened o majors.Array n (a_value w left done k) e = absurd e
-level-opened o majors.Array n (some_key done) e = absurd e
-level-opened o majors.Array n (some_value done k) e = absurd e
-level-opened o majors.Array n (tagged w m) e = absurd e
-level-opened o majors.Map n (a_member w left done) e = absurd e
-level-opened o majors.Map n (a_value w left done k) e = absurd e
-level-opened o majors.Map n (some_member done) e = absurd e
-level-opened o majors.Map n (some_value done k) e = absurd e
-level-opened o majors.Map n (tagged w m) e = absurd e
-level-opened o majors.Tag n (a_member w left done) e = absurd e
-level-opened o majors.Tag n (a_key w left done) e = absurd e
-level-opened o majors.Tag n (a_value w left done k) e = absurd e
-level-opened o majors.Tag n (some_member done) e = absurd e
-level-opened o majors.Tag n (some_key done) e = absurd e
-level-opened o majors.Tag n (some_value done k) e = absurd e
-level-opened o majors.Unsigned n l e = absurd e
-level-opened o majors.Negative n l e = absurd e
-level-opened o majors.Bytes n l e = absurd e
-level-opened o majors.Text n l e = absurd e
-level-opened o majors.Simple n l e = absurd e
+level-opened o = opened-cases (λ m n l. level_open o l ≡ parts.opened m n) (λ w left n. refl) (λ n. refl) (λ w left n. refl) (λ n. refl) (λ w n. refl)
 
 pub opened : (m : Major) (n : ℕ) (old new : Built) → new ≡ built old.order (parts.opened m n ∷ old.standing) → Opens Built canon_stands m n old new
 opened m n old new is start ls l at k = (

@@ -1,5 +1,5 @@
 -- A valid item, part by part, given to a sink: where the walk stands behind what a sink took.
-use Rattle.std.proofs.Common.{◌≡◌, ℕ, suc, ◌-◌, ◌^◌, ◌<◌, ◌≤◌, List, [], ◌∷◌, ◌++◌, length, take, refl, sym, ap, ap₂, ◌∙◌, subst, arith, inl, inr, append_assoc, append-nil}
+use Rattle.std.proofs.Common.{◌≡◌, ℕ, suc, ◌-◌, ◌^◌, ◌<◌, List, [], ◌∷◌, ◌++◌, length, take, refl, sym, ap, ap₂, ◌∙◌, subst, arith, inl, inr, append_assoc, append-nil}
 use Rattle.std.specs.Prelude.{reverse}
 use Rattle.std.proofs.lemmas.List.{length-append}
 use Rattle.cbor_head.specs.Complaint.{plain}
@@ -18,7 +18,7 @@ use Rattle.cbor_judging.proofs.Levels.{no-count}
 use Rattle.cbor_judging.proofs.Loops.{array_bytes-whole, map_bytes-whole}
 use Rattle.cbor_judging.specs.Levels.{IsTaken, Level, some_member, some_key, AreLevels, level_bytes, bytes_before, Standing, item_due, settle}
 use Rattle.cbor_walk.specs.Sink.{Completes, Fills, IsEndedAs, IsItemDue, Gives, Opens, IsContainerFull, Ends, IsGivenFront}
-use Rattle.cbor_walk.specs.inner.Building.{counted, cell_of, cells_of, IsDue, HasEnded, IsToEnd, IsBuilt, IsDueFor, TakesTo, IsItem, EndsTo, IsHead, IsOpener, Counts}
+use Rattle.cbor_walk.specs.inner.Building.{counted, cells_of, IsDue, HasEnded, IsToEnd, IsBuilt, IsDueFor, TakesTo, IsItem, EndsTo, IsHead, IsOpener, Counts}
 use Rattle.cbor_walk.specs.inner.Stack.{standing}
 use Rattle.cbor_walk.specs.declared.level.Due.{Due}
 use Rattle.cbor_walk.specs.declared.level.Due.TheVariants.{Item, Key, Value as ItsValue}

@@ -1,13 +1,12 @@
 -- What a sink was given of a valid item, as a walk comes to its parts.
-use Rattle.std.specs.Prelude.{ℕ, ◌≡◌, ◌<◌, ◌≤◌, ◌-◌, ◌^◌, ◌⊎◌, ◌++◌, Bool, true, IsUtf8, List, [], ◌∷◌, length}
+use Rattle.std.specs.Prelude.{ℕ, ◌≡◌, ◌<◌, ◌≤◌, ◌-◌, ◌^◌, ◌⊎◌, ◌++◌, Bool, List, [], ◌∷◌, length}
 use Rattle.cbor_head.specs.Complaint.{plain}
 use Rattle.cbor_head.specs.Limits.{Bounds}
-use Rattle.cbor_head.specs.Spelling.{Spelling, SpelledEntries, Spellings, array, a_map, no_spellings, no_entries, spell, value_of, IsSpelled, depth}
+use Rattle.cbor_head.specs.Spelling.{Spelling, array, a_map, no_spellings, no_entries, spell, value_of, IsSpelled, depth}
 use Rattle.cbor_head.specs.Value as value
 use Rattle.cbor_head.specs.Value.{Value}
 use Rattle.cbor_head.specs.declared.major.Major.{Major}
 use Rattle.cbor_head.specs.declared.major.Major.TheVariants.{Array, Map, Tag, Negative, Simple}
-use Rattle.cbor_head.specs.declared.width.Width.{Width}
 use Rattle.cbor_judging.specs.Levels.{IsClean, IsTaken, Level, a_member, a_key, some_member, some_key, tagged, AreLevels, bytes_before, Standing, item_due, item_full, item_whole, settle}
 use Rattle.cbor_judging.specs.Reading.{string_value}
 use Rattle.cbor_judging.specs.Readers.{IsRead}

@@ -1,6 +1,4 @@
-use Rattle.std.proofs.Common.{◌≡◌, ◌∙◌, ◌-◌, List, ℕ, take, length, ap, sym, subst, arith}
-use Rattle.std.proofs.lemmas.List.{length-append}
-use Rattle.cbor_head.specs.Spelling.{spell}
+use Rattle.std.proofs.Common.{◌≡◌, ◌∙◌, ◌-◌, List, ℕ, take, length, ap, subst}
 use Rattle.cbor_walk.specs.inner.Building.{IsBuilt}
 use Rattle.cbor_walk.proofs.GivenParts.{front-given}
 use Rattle.cbor_walk.proofs.front.give_front.Goals as goal

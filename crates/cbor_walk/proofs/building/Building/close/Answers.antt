@@ -1,4 +1,4 @@
-use Rattle.std.proofs.Common.{IsTrue, List, sym, subst, arith, refl}
+use Rattle.std.proofs.Common.{List, sym, subst, arith, refl}
 use Rattle.cbor_walk.specs.declared.open.Open.{Open}
 use Rattle.cbor_walk.specs.inner.Building.{HasFilled, HasFilledIn}
 use Rattle.cbor_walk.specs.inner.Stack.{around, standing}

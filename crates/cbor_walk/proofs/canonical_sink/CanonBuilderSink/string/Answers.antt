@@ -1,8 +1,8 @@
-use Rattle.std.proofs.Common.{◌≡◌, ◌++◌, ◌∙◌, length, take, sym, ap, ap₂, ℕ, subst}
+use Rattle.std.proofs.Common.{◌++◌, ◌∙◌, take, sym, ap₂, ℕ}
 use Rattle.std.proofs.lemmas.List.{length-take-le}
 use Rattle.cbor_head.specs.Head.{shortest_head}
 use Rattle.cbor_head.specs.declared.major.Major.{Major}
-use Rattle.cbor_judging.specs.Reading.{string_major, string_value}
+use Rattle.cbor_judging.specs.Reading.{string_value}
 use Rattle.cbor_walk.proofs.CanonGiven.{takes, on-ok, given, string-bytes}
 use Rattle.cbor_walk.proofs.canonical_sink.CanonBuilderSink.string.Goals as goal
 
