@@ -18,4 +18,5 @@ pub mod Sizes
 pub mod TreeValues
 pub mod ValidTexts
 mod ViewFronts
+mod ViewGiven
 pub mod WholeItems

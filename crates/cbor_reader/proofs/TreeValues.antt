@@ -78,7 +78,7 @@ full-closed (a_map w es) = ap value.map (pairs-are es)
 full-closed (tag w n s) = refl
 full-closed (simple n) = refl
 
-full-ends : (s : Spelling) → IsContainer s → CanEnd (full_value s)
+pub full-ends : (s : Spelling) → IsContainer s → CanEnd (full_value s)
 full-ends (array w ss) h = tt
 full-ends (a_map w es) h = tt
 full-ends (tag w n s) h = tt
@@ -99,11 +99,11 @@ level-holds (some_key done) = tt
 level-holds (some_value done k) = tt
 level-holds (tagged w n) = refl
 
-levels-take : (ls : List Level) → TakesValue (level_values ls)
+pub levels-take : (ls : List Level) → TakesValue (level_values ls)
 levels-take [] = refl
 levels-take (l ∷ ls) = level-holds l
 
-may-end : (c : OpenValue) (ls : List Level) → CanEnd c → MayEnd (c ∷ level_values ls)
+pub may-end : (c : OpenValue) (ls : List Level) → CanEnd c → MayEnd (c ∷ level_values ls)
 may-end c [] h = (h, refl)
 may-end c (l ∷ ls) h = (h, level-holds l)
 

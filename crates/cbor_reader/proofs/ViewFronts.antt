@@ -1,4 +1,4 @@
--- The view of an accepted item, and memory that was refused behind it.
+-- The value of an accepted item, and memory that was refused behind it.
 use Rattle.std.proofs.Common.{ℕ, ◌^◌, ◌≡◌, ◌<◌, ◌≤◌, List, [], ◌++◌, length, drop, refl, sym, ap, ◌∙◌, arith, subst, inl, inr, append-nil}
 use Rattle.std.proofs.lemmas.Bool.{cases_lt}
 use Rattle.std.proofs.lemmas.List.{append_assoc, take-append-drop}
@@ -12,30 +12,7 @@ use Rattle.cbor_head.specs.declared.reason.Refusal.{Refusal}
 use Rattle.cbor_grammar.proofs.Accepted.{accepts_exactly}
 use Rattle.cbor_judging.specs.Readers.{IsRead, IsReadAs, IsUnread, of_memory}
 use Rattle.cbor_judging.proofs.FreeBefore.{front-free}
-use Rattle.cbor_view.specs.Front.{IsSound, BeginsWithItem}
 use Rattle.cbor_reader.proofs.Headline.{front_range, front_valid, front_depth}
-
--- ---- the item stands at the front
-
-module _ (limits : Bounds) (input : List ℕ) (count : ℕ) (a : IsRead limits plain input count) where
-  -- what follows it
-  abbrev behind : List ℕ
-  behind = ((accepts_exactly limits plain input a.item).0 a.verdict).0 ++ drop limits.bytes input
-
-  item_sound : IsSound a.item
-  item_sound = let h = (accepts_exactly limits plain input a.item).0 a.verdict in record { spelled = h.1.0; valid = front_valid limits input a.item a.verdict }
-
-  item_begins : input ≡ spell a.item ++ behind
-  item_begins =
-      let h = (accepts_exactly limits plain input a.item).0 a.verdict in
-      sym (take-append-drop limits.bytes input) ∙ ap (λ (b : List ℕ). b ++ drop limits.bytes input) (sym h.1.2) ∙ append_assoc (spell a.item) h.0 (drop limits.bytes input)
-
-  pub read_begins : BeginsWithItem input
-  read_begins = record { item = a.item; rest = behind; sound = item_sound; begins = item_begins }
-
-  -- the value of any view that is the item's, wherever it stands
-  pub read_as : (v : Value) → ((s : Spelling) (x : List ℕ) → IsSound s → input ≡ spell s ++ x → v ≡ value_of s) → IsReadAs limits plain input v count
-  read_as v f = record { read = a; value = f a.item behind item_sound item_begins }
 
 pub view_depth : (limits : Bounds) (input : List ℕ) (v : Value) (count : ℕ) → limits.depth ≤ 256 → IsReadAs limits plain input v count → depth v ≤ 256
 view_depth limits input v count l r = subst (λ (v : Value). depth v ≤ 256) (sym r.value) (omega (arith, front_depth limits plain input r.read.item r.read.verdict))

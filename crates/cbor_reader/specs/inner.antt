@@ -5,3 +5,4 @@ pub mod PlainFront
 pub mod PlainItems
 pub mod PlainParts
 pub mod TreeValues
+pub mod ViewSinks

@@ -41,6 +41,7 @@ mod tree_reader;
 mod valid_front;
 mod valid_slice;
 mod view_reader;
+mod view_sink;
 mod whole_item;
 
 pub use canonicaliser::canonicalise;

@@ -32,7 +32,7 @@ pub(crate) fn valid_front(
 }
 
 // The same event by event.
-fn read_again(
+pub(crate) fn read_again(
     alloc: Global,
     bytes: &[u8],
     limits: Limits,

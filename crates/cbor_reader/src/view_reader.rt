@@ -8,10 +8,12 @@ ghost use Rattle.cbor_head.specs.declared.reason.Reason.TheVariants as reasons;
 ghost use Rattle.cbor_judging.specs.Readers.{IsReadAs, IsUnread};
 ghost use Rattle.cbor_view.specs.Seen.{seen};
 
-use crate::valid_slice::check_valid;
+use crate::valid_front::read_again;
+use crate::view_sink::ViewSink;
 use bumpalo::Bump;
-use cbor_head::{Limits, Reason, Refusal};
+use cbor_head::{KeyOrder, Limits, Reason, Refusal};
 use cbor_view::View;
+use cbor_walk::give_front;
 use std::alloc::Global;
 
 /// The view of the well-formed, valid item that the slice begins with, and how many bytes it has
@@ -36,14 +38,21 @@ pub fn read_view<'a>(
     ensures refused { IfErr result (λ f. IsUnread limits plain bytes.now f) }
     ensures no_read { IfErr result (λ f. f.reason ≢ reasons.Read) }
 {
-    let count = match check_valid(alloc, bytes, limits) {
-        Ok(count) => count,
-        Err(refusal) => return Err(refusal),
-    };
     check_limits(limits);
-    match View::from_valid(alloc, bytes, arena) {
-        Ok(view) => Ok((view, count)),
-        Err(_) => Err(Refusal::at(Reason::Memory, count)),
+    match give_front(ViewSink::new(alloc, arena), bytes, limits) {
+        Some((sink, size)) => Ok((sink.finish(), size)),
+        None => Err(refusal_of(alloc, bytes, limits)),
+    }
+}
+
+// Why no view was made: the refusal that the bytes call for, or that memory was refused.
+fn refusal_of(alloc: Global, bytes: &[u8], limits: Limits) -> Refusal
+    ensures refused { IsUnread limits plain bytes.now result }
+    ensures no_read { result.reason ≢ reasons.Read }
+{
+    match read_again(alloc, bytes, limits, KeyOrder::Bytewise) {
+        Ok(front) => Refusal::at(Reason::Memory, front.size),
+        Err(refusal) => refusal,
     }
 }
 

@@ -1,4 +1,3 @@
-pub mod Front
 pub mod Kinds
 pub mod Lookup
 pub mod Seen

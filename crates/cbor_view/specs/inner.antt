@@ -1,6 +1,4 @@
 -- What private functions speak of; no public contract does.
-pub mod Coming
-pub mod Fronts
 pub mod Items
 pub mod Levels
 pub mod Pairs

@@ -14,10 +14,6 @@
 //! ```
 #![tactic(auto)]
 
-mod due;
-mod from_valid;
-mod head_front;
-mod item_front;
 mod kinds;
 mod level;
 mod lookup;

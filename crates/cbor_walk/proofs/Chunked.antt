@@ -1,47 +1,34 @@
--- A string in chunks, given to a builder chunk by chunk.
-use Rattle.std.proofs.Common.{◌≡◌, ℕ, Bool, true, false, List, [], ◌∷◌, ◌++◌, length, take, drop, flat_map, refl, sym, ap, ap₂, ◌∙◌, subst, arith, inl, inr, append_assoc, append-nil}
+-- A string in chunks, given to a sink chunk by chunk.
+use Rattle.std.proofs.Common.{◌≡◌, ℕ, Bool, true, false, List, [], ◌∷◌, ◌++◌, length, take, drop, flat_map, refl, sym, ap, ap₂, ◌∙◌, subst, inl, inr, append_assoc, append-nil, arith}
 use Rattle.std.specs.Prelude.{IsUtf8}
 use Rattle.std.proofs.lemmas.Grind.{flat_map-append}
 use Rattle.std.proofs.lemmas.List.{length-take-le, take-append-drop}
 use Rattle.cbor_head.specs.Complaint.{plain, OfString}
-use Rattle.cbor_head.specs.Head.{Holds, head, shortest_head}
+use Rattle.cbor_head.specs.Head.{Holds, head}
 use Rattle.cbor_head.specs.Spelling.{Chunk, Spelling, byte_chunks, text_chunks, chunk_bytes, chunks_joined}
 use Rattle.cbor_head.specs.Value.{AreBytes}
 use Rattle.cbor_head.specs.declared.major.Major.{Major}
 use Rattle.cbor_head.specs.declared.major.Major.TheVariants as majors
 use Rattle.cbor_head.specs.declared.width.Width.{Width}
 use Rattle.cbor_head.specs.declared.width.Width.TheVariants.{Indefinite}
-use Rattle.cbor_builder.specs.Built.{Built, built, TakesPart, IsInString}
-use Rattle.cbor_builder.specs.Parts as parts
 use Rattle.cbor_judging.proofs.ByteLists.{bytes_front, bytes_back}
 use Rattle.cbor_judging.proofs.Chunks.{AreChunksSoFar, chunk, chunks_more, chunks_whole}
 use Rattle.cbor_judging.proofs.Leaves.{IsChunked, bytes_chunked, text_chunked, chunks_bytes}
 use Rattle.cbor_judging.proofs.Levels.{clean-anywhere}
 use Rattle.cbor_judging.specs.Judged.{Never}
-use Rattle.cbor_judging.specs.Reading.{string_major}
+use Rattle.cbor_judging.specs.Levels.{Level, Standing, item_due}
+use Rattle.cbor_judging.specs.Reading.{string_major, string_value}
+use Rattle.cbor_walk.specs.Sink.{BeginsString, IsChunkDue, GrowsString, IsItemDue}
 use Rattle.cbor_walk.specs.inner.Building.{IsHead, IsPayload, chunked_from}
-use Rattle.cbor_walk.proofs.GivenParts.{IsScalar}
+use Rattle.cbor_walk.proofs.GivenItems.{IsScalar}
 
 -- these chunks came of the string that the bytes are, and the rest follows
-pub record AreChunks (t : Bool) (behind rest : List ℕ) (g now : Built) : Type 0 where
+pub record AreChunks (S : Type 0) (stands : S → S → Standing → Type 0) (holds : S → S → List Level → Bool → List ℕ → Type 0) (t : Bool) (behind rest : List ℕ) (g now : S) : Type 0 where
   pub done : List Chunk
   pub so_far : AreChunksSoFar plain 0 (string_major t) done
   pub bytes : chunked_from t behind ≡ chunks_bytes (string_major t) done ++ rest
   pub small : AreBytes rest
-  pub given : now ≡ built g.order (parts.a_string (string_major t) (chunks_joined done) ∷ g.standing)
-
-string-opens : (t : Bool) → parts.opened (string_major t) 0 ≡ parts.a_string (string_major t) []
-string-opens true = refl
-string-opens false = refl
-
-pub no-chunks : (t : Bool) (behind : List ℕ) (g now : Built) → AreBytes behind → now ≡ built g.order (parts.opened (string_major t) 0 ∷ g.standing) → AreChunks t behind behind g now
-no-chunks t behind g now are is = record {
-  done = [];
-  so_far = record { are = tt; opener_clean = λ c x. cc x.0; clean = λ c x. x };
-  bytes = ap (λ (x : List ℕ). x ++ behind) (sym (append-nil (head (string_major t) Indefinite 0)));
-  small = are;
-  given = is ∙ ap (λ (c : parts.Open). built g.order (c ∷ g.standing)) (string-opens t);
-}
+  pub given : (start : S) (ls : List Level) → stands start g (item_due ls) → holds start now ls t (chunks_joined done)
 
 -- which are valid
 chunk-clean : (t : Bool) (w : Width) (q : List ℕ) (at : ℕ) → (t ≡ true → IsUtf8 q) → Never (OfString plain at (string_major t) w q)
@@ -53,63 +40,63 @@ kind : (t : Bool) → (made : List Chunk → Spelling) × IsChunked (string_majo
 kind true = (text_chunks, text_chunked)
 kind false = (byte_chunks, bytes_chunked)
 
-module _ (t : Bool) (behind rest : List ℕ) (g now : Built) (s : AreChunks t behind rest g now) where
-  pub one-more : (n size : ℕ) (from : List ℕ) (new : Built) → IsHead (string_major t) n rest from → IsPayload t n size from → new ≡ built now.order (parts.extended (take size from) now.standing) → AreChunks t behind (drop size from) g new
-  one-more n size from new h p is =
-      let m = string_major t in
-      let are : AreBytes from = bytes_back (head m h.width n) from (subst AreBytes h.is s.small) in
-      let q = take n from in
-      let long : length q ≡ n = length-take-le n from p.inside in
-      let small : AreBytes q = bytes_front q (drop n from) (subst AreBytes (sym (take-append-drop n from)) are) in
-      let k = chunk h.width q in
-      let front : rest ≡ chunk_bytes m k ++ drop n from = h.is
-      ∙ ap₂ (λ (i : ℕ) (x : List ℕ). head m h.width i ++ x) (sym long) (sym (take-append-drop n from))
-      ∙ sym (append_assoc (head m h.width (length q)) q (drop n from)) in
-      subst (λ (i : ℕ). AreChunks t behind (drop i from) g new) (sym p.all) (record {
-        done = s.done ++ k ∷ [];
-        so_far = chunks_more m (kind t).0 (kind t).1 s.done plain 0 0 s.so_far k (subst (Holds h.width) (sym long) h.holds, small) (chunk-clean t h.width q _ p.utf8);
-        bytes = s.bytes ∙ ap (λ (x : List ℕ). chunks_bytes m s.done ++ x) front ∙ grown m k (drop n from);
-        small = bytes_back (take n from) (drop n from) (subst AreBytes (sym (take-append-drop n from)) are);
-        given = is
-            ∙ ap (λ (i : ℕ). built now.order (parts.extended (take i from) now.standing)) p.all
-            ∙ ap (λ (x : Built). built x.order (parts.extended q x.standing)) s.given
-            ∙ ap (λ (x : List ℕ). built g.order (parts.a_string m x ∷ g.standing)) (joined k);
-      })
-    where
-      joined : (k : Chunk) → chunks_joined s.done ++ k.payload ≡ chunks_joined (s.done ++ k ∷ [])
-      joined k = ap (λ (x : List ℕ). chunks_joined s.done ++ x) (sym (append-nil k.payload)) ∙ sym (flat_map-append (λ (c : Chunk). c.payload) s.done (k ∷ []))
+module _ (S : Type 0) (stands : S → S → Standing → Type 0) (holds : S → S → List Level → Bool → List ℕ → Type 0) (t : Bool) (behind : List ℕ) (g : S) where
+  pub no-chunks : (now : S) → AreBytes behind → BeginsString S stands holds t g now → AreChunks S stands holds t behind behind g now
+  no-chunks now are begins = record {
+    done = [];
+    so_far = record { are = tt; opener_clean = λ c x. cc x.0; clean = λ c x. x };
+    bytes = ap (λ (x : List ℕ). x ++ behind) (sym (append-nil (head (string_major t) Indefinite 0)));
+    small = are;
+    given = begins;
+  }
 
-      grown : (m : Major) (k : Chunk) (x : List ℕ) → chunks_bytes m s.done ++ (chunk_bytes m k ++ x) ≡ chunks_bytes m (s.done ++ k ∷ []) ++ x
-      grown m k x =
-          sym (append_assoc (chunks_bytes m s.done) (chunk_bytes m k) x)
-          ∙ ap (λ (y : List ℕ). y ++ x) (append_assoc (head m Indefinite 0) (flat_map (chunk_bytes m) s.done) (chunk_bytes m k)
-          ∙ ap (λ (y : List ℕ). head m Indefinite 0 ++ y) (ap (λ (y : List ℕ). flat_map (chunk_bytes m) s.done ++ y) (sym (append-nil (chunk_bytes m k))) ∙ sym (flat_map-append (chunk_bytes m) s.done (k ∷ []))))
+  module _ (rest : List ℕ) (now : S) (s : AreChunks S stands holds t behind rest g now) where
+    -- a chunk is due
+    pub chunk-due : IsItemDue S stands g → IsChunkDue S holds t now
+    chunk-due (start, d, ls, levels, due) = (start, ls, chunks_joined s.done, s.given start ls due)
 
-  -- the break
-  pub all-chunks : (after : List ℕ) (new : Built) → rest ≡ 0xff ∷ after → new ≡ built now.order (parts.close now.order now.standing)
-      → IsScalar (chunked_from t behind) after (shortest_head (string_major t) (length (chunks_joined s.done)) ++ chunks_joined s.done)
-      × (new ≡ built g.order (parts.give (shortest_head (string_major t) (length (chunks_joined s.done)) ++ chunks_joined s.done) g.standing))
-  all-chunks after new e is = (
-    go t s.done s.so_far (s.bytes ∙ ap (λ (x : List ℕ). chunks_bytes (string_major t) s.done ++ x) e ∙ sym (append_assoc (chunks_bytes (string_major t) s.done) (0xff ∷ []) after)),
-    is ∙ ap (λ (x : Built). built x.order (parts.close x.order x.standing)) s.given,
-  )
-    where
-      whole : (m : Major) (done : List Chunk) → chunks_bytes m done ++ (0xff ∷ []) ≡ head m Indefinite 0 ++ (flat_map (chunk_bytes m) done ++ (0xff ∷ []))
-      whole m done = append_assoc (head m Indefinite 0) (flat_map (chunk_bytes m) done) (0xff ∷ [])
+    pub one-more : (n size : ℕ) (from : List ℕ) (new : S) → IsHead (string_major t) n rest from → IsPayload t n size from → GrowsString S holds t (take size from) now new → AreChunks S stands holds t behind (drop size from) g new
+    one-more n size from new h p grows =
+        let m = string_major t in
+        let are : AreBytes from = bytes_back (head m h.width n) from (subst AreBytes h.is s.small) in
+        let q = take n from in
+        let long : length q ≡ n = length-take-le n from p.inside in
+        let small : AreBytes q = bytes_front q (drop n from) (subst AreBytes (sym (take-append-drop n from)) are) in
+        let k = chunk h.width q in
+        let front : rest ≡ chunk_bytes m k ++ drop n from = h.is
+        ∙ ap₂ (λ (i : ℕ) (x : List ℕ). head m h.width i ++ x) (sym long) (sym (take-append-drop n from))
+        ∙ sym (append_assoc (head m h.width (length q)) q (drop n from)) in
+        subst (λ (i : ℕ). AreChunks S stands holds t behind (drop i from) g new) (sym p.all) (record {
+          done = s.done ++ k ∷ [];
+          so_far = chunks_more m (kind t).0 (kind t).1 s.done plain 0 0 s.so_far k (subst (Holds h.width) (sym long) h.holds, small) (chunk-clean t h.width q _ p.utf8);
+          bytes = s.bytes ∙ ap (λ (x : List ℕ). chunks_bytes m s.done ++ x) front ∙ grown m k (drop n from);
+          small = bytes_back (take n from) (drop n from) (subst AreBytes (sym (take-append-drop n from)) are);
+          given = λ start ls due.
+              subst (holds start new ls t) (ap (λ (i : ℕ). chunks_joined s.done ++ take i from) p.all ∙ joined k)
+              (grows start ls (chunks_joined s.done) (s.given start ls due));
+        })
+      where
+        joined : (k : Chunk) → chunks_joined s.done ++ k.payload ≡ chunks_joined (s.done ++ k ∷ [])
+        joined k = ap (λ (x : List ℕ). chunks_joined s.done ++ x) (sym (append-nil k.payload)) ∙ sym (flat_map-append (λ (c : Chunk). c.payload) s.done (k ∷ []))
 
-      go : (t : Bool) (done : List Chunk) → AreChunksSoFar plain 0 (string_major t) done → chunked_from t behind ≡ (chunks_bytes (string_major t) done ++ (0xff ∷ [])) ++ after
-          → IsScalar (chunked_from t behind) after (shortest_head (string_major t) (length (chunks_joined done)) ++ chunks_joined done)
-      go true done so_far is =
-          let w = chunks_whole majors.Text text_chunks text_chunked done plain 0 0 so_far in
-          record { item = text_chunks done; taken = λ d. record { spelled = w.0; within = omega arith; clean = clean-anywhere (text_chunks done) 0 w.1 }; is = is ∙ ap (λ (x : List ℕ). x ++ after) (whole majors.Text done); out_is = λ o. refl }
-      go false done so_far is =
-          let w = chunks_whole majors.Bytes byte_chunks bytes_chunked done plain 0 0 so_far in
-          record { item = byte_chunks done; taken = λ d. record { spelled = w.0; within = omega arith; clean = clean-anywhere (byte_chunks done) 0 w.1 }; is = is ∙ ap (λ (x : List ℕ). x ++ after) (whole majors.Bytes done); out_is = λ o. refl }
+        grown : (m : Major) (k : Chunk) (x : List ℕ) → chunks_bytes m s.done ++ (chunk_bytes m k ++ x) ≡ chunks_bytes m (s.done ++ k ∷ []) ++ x
+        grown m k x =
+            sym (append_assoc (chunks_bytes m s.done) (chunk_bytes m k) x)
+            ∙ ap (λ (y : List ℕ). y ++ x) (append_assoc (head m Indefinite 0) (flat_map (chunk_bytes m) s.done) (chunk_bytes m k)
+            ∙ ap (λ (y : List ℕ). head m Indefinite 0 ++ y) (ap (λ (y : List ℕ). flat_map (chunk_bytes m) s.done ++ y) (sym (append-nil (chunk_bytes m k))) ∙ sym (flat_map-append (chunk_bytes m) s.done (k ∷ []))))
 
-  -- a string is open
-  pub in-chunks : TakesPart g.standing → IsInString now.standing
-  in-chunks h = subst IsInString (sym (ap (λ (x : Built). x.standing) s.given)) (go g.standing h)
-    where
-      go : (os : List parts.Open) → TakesPart os → IsInString (parts.a_string (string_major t) (chunks_joined s.done) ∷ os)
-      go [] h = absurd h
-      go (x ∷ os) h = tt
+    -- the break
+    pub all-chunks : (after : List ℕ) → rest ≡ 0xff ∷ after → IsScalar (chunked_from t behind) after (string_value t (chunks_joined s.done))
+    all-chunks after e = go t s.done s.so_far (s.bytes ∙ ap (λ (x : List ℕ). chunks_bytes (string_major t) s.done ++ x) e ∙ sym (append_assoc (chunks_bytes (string_major t) s.done) (0xff ∷ []) after))
+      where
+        whole : (m : Major) (done : List Chunk) → chunks_bytes m done ++ (0xff ∷ []) ≡ head m Indefinite 0 ++ (flat_map (chunk_bytes m) done ++ (0xff ∷ []))
+        whole m done = append_assoc (head m Indefinite 0) (flat_map (chunk_bytes m) done) (0xff ∷ [])
+
+        go : (t : Bool) (done : List Chunk) → AreChunksSoFar plain 0 (string_major t) done → chunked_from t behind ≡ (chunks_bytes (string_major t) done ++ (0xff ∷ [])) ++ after
+            → IsScalar (chunked_from t behind) after (string_value t (chunks_joined done))
+        go true done so_far is =
+            let w = chunks_whole majors.Text text_chunks text_chunked done plain 0 0 so_far in
+            record { item = text_chunks done; taken = λ d. record { spelled = w.0; within = omega arith; clean = clean-anywhere (text_chunks done) 0 w.1 }; is = is ∙ ap (λ (x : List ℕ). x ++ after) (whole majors.Text done); value_is = refl }
+        go false done so_far is =
+            let w = chunks_whole majors.Bytes byte_chunks bytes_chunked done plain 0 0 so_far in
+            record { item = byte_chunks done; taken = λ d. record { spelled = w.0; within = omega arith; clean = clean-anywhere (byte_chunks done) 0 w.1 }; is = is ∙ ap (λ (x : List ℕ). x ++ after) (whole majors.Bytes done); value_is = refl }

@@ -1,9 +1,12 @@
 pub mod AnyItem
 pub mod AnyRefusals
+pub mod CanonGiven
 pub mod CellSteps
 pub mod Chunked
 pub mod CutHeads
 pub mod FirstBytes
+pub mod GivenEnds
+pub mod GivenItems
 pub mod GivenParts
 pub mod HeadComplaints
 pub mod KeyOrder

@@ -1,2 +1,4 @@
+pub mod CanonSink
 pub mod Front
+pub mod Sink
 pub mod inner

@@ -1,23 +1,22 @@
-//! The walk over a valid item, whose parts go to a builder of its canonical bytes.
+//! The walk over a valid item, whose parts go to a sink.
 
 ghost use Rattle.std.specs.Prelude.{◌≡◌, ◌≤◌, length};
 ghost use Rattle.cbor_walk.specs.inner.Building.{IsDueIn, HasEndedIn, HasFilledIn};
-ghost use Rattle.cbor_walk.specs.inner.Building.{IsUntouched, Leads, LeadsFull, Walks, IsFullAt};
+ghost use Rattle.cbor_walk.specs.inner.Building.{Leads, LeadsFull, Walks, IsFullAt, counted};
 ghost use Rattle.cbor_walk.specs.inner.Stack.{around, standing};
+ghost use Rattle.cbor_walk.specs.declared.level.Due.TheVariants.{Item};
 
 use crate::level::Due;
 use crate::open::Open;
 use crate::part::Part;
+use crate::sink::Sink;
 use crate::stack::Stack;
-use cbor_builder::CanonBuilder;
-use cbor_head::KeyOrder;
-use std::alloc::Global;
 
-/// What came of an item so far: the open containers, and the bytes of what is complete in them.
+/// What came of an item so far: the open containers, and what took what is complete in them.
 #[derive(Drop)]
-pub(crate) struct Building {
+pub(crate) struct Building<S> {
     pub(crate) stack: Stack<Open>,
-    pub(crate) builder: CanonBuilder,
+    pub(crate) sink: S,
 }
 
 /// What is due behind an item.
@@ -42,25 +41,28 @@ pub(crate) enum Met<'a> {
     Stopped,
 }
 
-impl Building {
+impl<S> Building<S> {
     /// Of an item from which nothing came.
-    pub(crate) fn new(alloc: Global, order: KeyOrder) -> Building
-        ensures untouched { IsUntouched result }
-        ensures order { result.builder.order ≡ order }
+    pub(crate) fn new(sink: S) -> Building<S>
+        ensures none { result.stack.height ≡ 0 }
+        ensures input { result.stack.top ≡ counted Item 0 }
+        ensures sink { result.sink ≡ sink }
     {
         Building {
             stack: Stack::new(Open::counted(Due::Item, 0)),
-            builder: CanonBuilder::new(alloc, order),
+            sink,
         }
     }
 
     /// Goes over the item, from where another is due to its end.
     pub(crate) fn walk<'a>(&mut self, start: &'a [u8], cells: &mut [Open], depth: usize) -> Met<'a>
+    where
+        S: Sink<'a>,
         requires cells { self.old.stack.height ≤ length cells.old }
-        requires due { IsDueIn depth (standing Open self.old.stack cells.old) self.old.builder start.now }
+        requires due { IsDueIn S S.stands depth (standing Open self.old.stack cells.old) self.old.sink start.now }
         ensures cells { self.new.stack.height ≤ length cells.new }
-        ensures walked { Walks result depth start.now (standing Open self.old.stack cells.old)
-            self.old.builder (standing Open self.new.stack cells.new) self.new.builder }
+        ensures walked { Walks S S.stands result depth start.now (standing Open self.old.stack cells.old)
+            self.old.sink (standing Open self.new.stack cells.new) self.new.sink }
         ensures full { IsFullAt result self.new.stack.height (length cells.new) }
     {
         let mut rest = start;
@@ -83,12 +85,14 @@ impl Building {
 
     // An item is whole: with it the containers whose last item it was.
     #[inline(always)]
-    fn complete(&mut self, cells: &[Open]) -> Then
+    fn complete<'a>(&mut self, cells: &[Open]) -> Then
+    where
+        S: Sink<'a>,
         requires cells { self.old.stack.height ≤ length cells.now }
-        requires ended { HasEndedIn (standing Open self.old.stack cells.now) self.old.builder }
+        requires ended { HasEndedIn S S.stands (standing Open self.old.stack cells.now) self.old.sink }
         ensures cells { self.new.stack.height ≤ length cells.now }
-        ensures leads { Leads result (standing Open self.old.stack cells.now) self.old.builder
-            (standing Open self.new.stack cells.now) self.new.builder }
+        ensures leads { Leads S S.stands result (standing Open self.old.stack cells.now) self.old.sink
+            (standing Open self.new.stack cells.now) self.new.sink }
     {
         if self.stack.top.advance() {
             return Then::Item;
@@ -98,16 +102,18 @@ impl Building {
 
     // The innermost container is whole, and perhaps those around it.
     #[inline(never)]
-    fn close(&mut self, cells: &[Open]) -> Then
+    fn close<'a>(&mut self, cells: &[Open]) -> Then
+    where
+        S: Sink<'a>,
         requires cells { self.old.stack.height ≤ length cells.now }
-        requires filled { HasFilledIn (around Open self.old.stack cells.now) self.old.builder }
+        requires filled { HasFilledIn S S.stands (around Open self.old.stack cells.now) self.old.sink }
         ensures cells { self.new.stack.height ≤ length cells.now }
-        ensures leads { LeadsFull result (around Open self.old.stack cells.now) self.old.builder
-            (standing Open self.new.stack cells.now) self.new.builder }
+        ensures leads { LeadsFull S S.stands result (around Open self.old.stack cells.now) self.old.sink
+            (standing Open self.new.stack cells.now) self.new.sink }
     {
         'levels: while self.stack.height > 0 {
             self.stack.pop(cells);
-            match self.builder.end_if_distinct() {
+            match self.sink.end() {
                 Ok(true) => {}
                 _ => return Then::Stopped,
             }

@@ -3,15 +3,15 @@
 ghost use Rattle.std.specs.Prelude.{◌≡◌, ◌∷◌, IfSome};
 ghost use Rattle.cbor_judging.specs.Reading.{string_major};
 ghost use Rattle.cbor_walk.specs.inner.Building.{IsItem, IsHead, IsHeadDue, TakesHead};
-ghost use Rattle.cbor_walk.specs.inner.Building.{IsDueFor, Gives, IsPayload, chunked_from};
+ghost use Rattle.cbor_walk.specs.inner.Building.{IsDueFor, TakesItem, IsPayload, chunked_from};
 
 use crate::argument::{Argument, read_argument};
 use crate::building::Building;
 use crate::part::Part;
-use cbor_head::Major;
+use crate::sink::Sink;
 use cbor_text::is_text_front;
 
-impl Building {
+impl<S> Building<S> {
     /// The string of so many bytes whose head stands before these.
     #[inline(always)]
     pub(crate) fn take_string<'a>(
@@ -20,19 +20,18 @@ impl Building {
         count: u64,
         behind: &'a [u8],
     ) -> Part<'a>
-        requires head { IsHeadDue (string_major is_text) count behind.now self.old.builder }
-        ensures takes { TakesHead result (string_major is_text) count behind.now
-            self.old.builder self.new.builder }
+    where
+        S: Sink<'a>,
+        requires head { IsHeadDue S S.stands (string_major is_text) count behind.now self.old.sink }
+        ensures takes { TakesHead S S.stands result (string_major is_text) count behind.now
+            self.old.sink self.new.sink }
         ensures stack { self.new.stack ≡ self.old.stack }
         ensures kind { IsItem result }
     {
         let Some(size) = payload_size(is_text, count, behind) else {
             return Part::Stopped;
         };
-        match self
-            .builder
-            .front_string(string_type(is_text), behind, size)
-        {
+        match self.sink.string(is_text, behind, size) {
             Ok(()) => Part::Item(&behind[size..]),
             Err(_) => Part::Stopped,
         }
@@ -40,13 +39,15 @@ impl Building {
 
     /// The string in chunks whose opener stands before these bytes.
     pub(crate) fn take_chunks<'a>(&mut self, is_text: bool, behind: &'a [u8]) -> Part<'a>
-        requires opener { IsDueFor self.old.builder (chunked_from is_text behind.now) }
-        ensures takes { Gives result (chunked_from is_text behind.now)
-            self.old.builder self.new.builder }
+    where
+        S: Sink<'a>,
+        requires opener { IsDueFor S S.stands self.old.sink (chunked_from is_text behind.now) }
+        ensures takes { TakesItem S S.stands result (chunked_from is_text behind.now)
+            self.old.sink self.new.sink }
         ensures stack { self.new.stack ≡ self.old.stack }
         ensures kind { IsItem result }
     {
-        let Ok(()) = self.builder.begin_string(string_type(is_text)) else {
+        let Ok(()) = self.sink.begin_string(is_text) else {
             return Part::Stopped;
         };
         let mut rest = behind;
@@ -55,7 +56,7 @@ impl Building {
                 return Part::Stopped;
             };
             if *first == 0xff {
-                return match self.builder.end_string() {
+                return match self.sink.end_string(is_text) {
                     Ok(()) => Part::Item(behind),
                     Err(_) => Part::Stopped,
                 };
@@ -66,20 +67,12 @@ impl Building {
             let Some(size) = payload_size(is_text, head.number, head.rest) else {
                 return Part::Stopped;
             };
-            let Ok(()) = self.builder.front_bytes(head.rest, size) else {
+            let Ok(()) = self.sink.chunk(is_text, head.rest, size) else {
                 return Part::Stopped;
             };
             rest = &head.rest[size..];
         }
     }
-}
-
-// The type of a string.
-#[inline(always)]
-fn string_type(is_text: bool) -> Major
-    ensures { result ≡ string_major is_text }
-{
-    if is_text { Major::Text } else { Major::Bytes }
 }
 
 // The head of a chunk with this first byte.

@@ -8,9 +8,10 @@ use crate::building::Building;
 use crate::level::Due;
 use crate::open::Open;
 use crate::part::Part;
+use crate::sink::Sink;
 use cbor_head::Major;
 
-impl Building {
+impl<S> Building<S> {
     /// Takes what begins with this byte before these bytes, if it is an opener without a length, or
     /// a break.
     #[inline(never)]
@@ -21,13 +22,15 @@ impl Building {
         cells: &mut [Open],
         depth: usize,
     ) -> Part<'a>
+    where
+        S: Sink<'a>,
         requires cells { self.old.stack.height ≤ length cells.old }
-        requires due { IsDueIn depth (standing Open self.old.stack cells.old) self.old.builder
+        requires due { IsDueIn S S.stands depth (standing Open self.old.stack cells.old) self.old.sink
             (first ∷ behind.now) }
         ensures cells { self.new.stack.height ≤ length cells.new }
-        ensures takes { Takes result depth (first ∷ behind.now)
-            (standing Open self.old.stack cells.old) self.old.builder
-            (standing Open self.new.stack cells.new) self.new.builder }
+        ensures takes { Takes S S.stands result depth (first ∷ behind.now)
+            (standing Open self.old.stack cells.old) self.old.sink
+            (standing Open self.new.stack cells.new) self.new.sink }
         ensures full { result ≡ Part.Full → self.new.stack.height ≡ length cells.new }
     {
         match first {
@@ -49,11 +52,13 @@ impl Building {
 
     // The break before these bytes.
     fn take_break<'a>(&mut self, behind: &'a [u8], cells: &[Open]) -> Part<'a>
+    where
+        S: Sink<'a>,
         requires cells { self.old.stack.height ≤ length cells.now }
-        requires due { IsBreakDue (standing Open self.old.stack cells.now) self.old.builder behind.now }
+        requires due { IsBreakDue S S.stands (standing Open self.old.stack cells.now) self.old.sink behind.now }
         ensures cells { self.new.stack.height ≤ length cells.now }
-        ensures takes { TakesBreak result behind.now (standing Open self.old.stack cells.now)
-            self.old.builder (standing Open self.new.stack cells.now) self.new.builder }
+        ensures takes { TakesBreak S S.stands result behind.now (standing Open self.old.stack cells.now)
+            self.old.sink (standing Open self.new.stack cells.now) self.new.sink }
         ensures kind { IsItem result }
     {
         if !self.stack.top.is_endless {

@@ -1,16 +1,20 @@
-//! The valid item at the front of a slice, and its canonical bytes.
+//! The valid item at the front of a slice.
 
-ghost use Rattle.std.specs.Prelude.{◌≡◌, ◌≤◌, ℕ, List, length, IfSome};
-ghost use Rattle.cbor_head.specs.declared.order.KeyOrder.{KeyOrder as Order};
+ghost use Rattle.std.specs.Prelude.{◌≡◌, ◌≤◌, [], ℕ, List, length, IfSome};
+ghost use Rattle.cbor_judging.specs.Levels.{item_due};
 ghost use Rattle.cbor_walk.specs.Front.{IsBuiltFront};
-ghost use Rattle.cbor_walk.specs.inner.Building.{IsDue, IsDueIn, IsBuilt, IsUntouched};
+ghost use Rattle.cbor_walk.specs.Sink.{IsGivenFront};
+ghost use Rattle.cbor_walk.specs.declared.level.Due.TheVariants as due;
+ghost use Rattle.cbor_walk.specs.inner.Building.{counted, IsDue, IsDueIn, IsBuilt};
 ghost use Rattle.cbor_walk.specs.inner.Stack.{standing};
 
 use crate::building::{Building, Met};
 use crate::level::Due;
 use crate::open::Open;
+use crate::sink::Sink;
 use crate::stack::{FEW, spread};
 use crate::within::within;
+use cbor_builder::CanonBuilder;
 use cbor_head::{KeyOrder, Limits};
 use std::alloc::Global;
 
@@ -34,20 +38,40 @@ pub fn build_front(
 ) -> Option<BuiltFront>
     ensures { IfSome result (λ f. IsBuiltFront limits order bytes.now f.canonical.items f.size) }
 {
-    let input = within(bytes, limits.bytes());
-    let mut building = Building::new(alloc, order);
-    let behind = past_item(&mut building, input, usize::from(limits.depth()))?;
-    let size = (input.len() - behind.len()) as u64;
-    let Building { stack: _, builder } = building;
+    let (builder, size) = give_front(CanonBuilder::new(alloc, order), bytes, limits)?;
     let canonical = builder.finish();
     Some(BuiltFront { canonical, size })
 }
 
+/// Gives a sink the parts of such an item, and answers it with how many bytes the item has; None as
+/// above.
+pub fn give_front<'a, S: Sink<'a> + Drop>(
+    sink: S,
+    bytes: &'a [u8],
+    limits: Limits,
+) -> Option<(S, u64)>
+    requires { S.stands sink sink (item_due []) }
+    ensures { IfSome result (λ given. IsGivenFront (S.stands sink given.0) limits bytes.now given.1) }
+{
+    let input = within(bytes, limits.bytes());
+    let mut building = Building::new(sink);
+    let behind = past_item(&mut building, input, usize::from(limits.depth()))?;
+    let size = (input.len() - behind.len()) as u64;
+    let Building { stack: _, sink } = building;
+    Some((sink, size))
+}
+
 // The bytes behind the item that these begin with.
-fn past_item<'a>(building: &mut Building, input: &'a [u8], depth: usize) -> Option<&'a [u8]>
-    requires { IsUntouched building.old }
-    ensures { (o : Order) → building.old.builder.order ≡ o
-        → IfSome result (λ behind. IsBuilt o depth input.now building.new.builder behind.now) }
+fn past_item<'a, S: Sink<'a>>(
+    building: &mut Building<S>,
+    input: &'a [u8],
+    depth: usize,
+) -> Option<&'a [u8]>
+    requires none { building.old.stack.height ≡ 0 }
+    requires top { building.old.stack.top ≡ counted due.Item 0 }
+    requires fresh { S.stands building.old.sink building.old.sink (item_due []) }
+    ensures { IfSome result (λ behind.
+        IsBuilt S S.stands building.old.sink depth input.now building.new.sink behind.now) }
 {
     let mut cells = [Open::counted(Due::Item, 0); FEW];
     match building.walk(input, &mut cells, depth) {
@@ -59,18 +83,18 @@ fn past_item<'a>(building: &mut Building, input: &'a [u8], depth: usize) -> Opti
 
 // The same, from where the cells are too few.
 #[inline(never)]
-fn deeper<'a>(
-    building: &mut Building,
+fn deeper<'a, S: Sink<'a>>(
+    building: &mut Building<S>,
     rest: &'a [u8],
     few: &[Open],
     depth: usize,
 ) -> Option<&'a [u8]>
     requires few { length few.now ≤ 256 }
     requires full { building.old.stack.height ≡ length few.now }
-    requires due { IsDueIn depth (standing Open building.old.stack few.now) building.old.builder rest.now }
-    ensures { (o : Order) (input : List ℕ)
-        → IsDue o depth input (standing Open building.old.stack few.now) building.old.builder rest.now
-        → IfSome result (λ behind. IsBuilt o depth input building.new.builder behind.now) }
+    requires due { IsDueIn S S.stands depth (standing Open building.old.stack few.now) building.old.sink rest.now }
+    ensures { (start : S) (input : List ℕ)
+        → IsDue S S.stands start depth input (standing Open building.old.stack few.now) building.old.sink rest.now
+        → IfSome result (λ behind. IsBuilt S S.stands start depth input building.new.sink behind.now) }
 {
     let mut cells = spread(few, Open::counted(Due::Item, 0));
     match building.walk(rest, &mut cells, depth) {

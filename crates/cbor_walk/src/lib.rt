@@ -2,8 +2,8 @@
 //!
 //! [`canonical_front`] goes over the canonical bytes at the front of a slice once; at the first
 //! byte, head, text or key that is none of a canonical item it stops with the refusal.
-//! [`build_front`] goes over any valid item, whose parts it gives to a builder of its canonical
-//! bytes, and stops without a word at what is none. Both hold what is due in each open container
+//! [`give_front`] goes over any valid item, whose parts it gives to a [`Sink`], and stops without a
+//! word at what is none; [`build_front`] has it give them to a builder of canonical bytes. Both hold what is due in each open container
 //! in cells that are made as they are wanted, so that depth that is not used costs nothing.
 #![tactic(auto)]
 
@@ -11,6 +11,7 @@ mod any_item;
 mod argument;
 mod building;
 mod canonical;
+mod canonical_sink;
 mod content;
 mod endless;
 mod fast;
@@ -18,10 +19,12 @@ mod front;
 mod level;
 mod open;
 mod part;
+mod sink;
 mod stack;
 mod take;
 mod walk;
 mod within;
 
 pub use canonical::canonical_front;
-pub use front::{BuiltFront, build_front};
+pub use front::{BuiltFront, build_front, give_front};
+pub use sink::Sink;

@@ -4,13 +4,14 @@ ghost use Rattle.std.specs.Prelude.{◌≡◌, ◌≤◌, length};
 ghost use Rattle.cbor_builder.specs.Built.{IsLeaf, IsContainer};
 ghost use Rattle.cbor_walk.specs.inner.Building.{IsDueIn, Takes, IsHeadDue, IsHeadIn, TakesHead};
 ghost use Rattle.cbor_walk.specs.inner.Building.{IsOpenerDue, TakesOpener, TakesCounted};
-ghost use Rattle.cbor_walk.specs.inner.Building.{IsItem, IsToEndFor, Ends, Counts};
+ghost use Rattle.cbor_walk.specs.inner.Building.{IsItem, IsToEndFor, EndsItem, Counts};
 ghost use Rattle.cbor_walk.specs.inner.Stack.{standing};
 
 use crate::argument::read_argument;
 use crate::building::Building;
 use crate::level::Due;
 use crate::open::Open;
+use crate::sink::Sink;
 use cbor_head::Major;
 
 /// What was taken where an item was due, and the bytes behind it.
@@ -26,7 +27,7 @@ pub(crate) enum Part<'a> {
     Stopped,
 }
 
-impl Building {
+impl<S> Building<S> {
     /// Takes what stands in front.
     #[inline(always)]
     pub(crate) fn take_part<'a>(
@@ -35,11 +36,13 @@ impl Building {
         cells: &mut [Open],
         depth: usize,
     ) -> Part<'a>
+    where
+        S: Sink<'a>,
         requires cells { self.old.stack.height ≤ length cells.old }
-        requires due { IsDueIn depth (standing Open self.old.stack cells.old) self.old.builder rest.now }
+        requires due { IsDueIn S S.stands depth (standing Open self.old.stack cells.old) self.old.sink rest.now }
         ensures cells { self.new.stack.height ≤ length cells.new }
-        ensures takes { Takes result depth rest.now (standing Open self.old.stack cells.old)
-            self.old.builder (standing Open self.new.stack cells.new) self.new.builder }
+        ensures takes { Takes S S.stands result depth rest.now (standing Open self.old.stack cells.old)
+            self.old.sink (standing Open self.new.stack cells.new) self.new.sink }
         ensures full { result ≡ Part.Full → self.new.stack.height ≡ length cells.new }
     {
         let Some((first, behind)) = rest.split_first() else {
@@ -76,13 +79,15 @@ impl Building {
     // An item that is its head, which stands before these bytes.
     #[inline(always)]
     fn give_leaf<'a>(&mut self, major: Major, number: u64, behind: &'a [u8]) -> Part<'a>
+    where
+        S: Sink<'a>,
         requires kind { IsLeaf major }
-        requires head { IsHeadDue major number behind.now self.old.builder }
-        ensures takes { TakesHead result major number behind.now self.old.builder self.new.builder }
+        requires head { IsHeadDue S S.stands major number behind.now self.old.sink }
+        ensures takes { TakesHead S S.stands result major number behind.now self.old.sink self.new.sink }
         ensures stack { self.new.stack ≡ self.old.stack }
         ensures kind { IsItem result }
     {
-        match self.builder.leaf(major, number) {
+        match self.sink.leaf(major, number) {
             Ok(()) => Part::Item(behind),
             Err(_) => Part::Stopped,
         }
@@ -99,14 +104,16 @@ impl Building {
         cells: &mut [Open],
         depth: usize,
     ) -> Part<'a>
+    where
+        S: Sink<'a>,
         requires kind { Counts major due }
         requires cells { self.old.stack.height ≤ length cells.old }
-        requires head { IsHeadIn major number behind.now depth
-            (standing Open self.old.stack cells.old) self.old.builder }
+        requires head { IsHeadIn S S.stands major number behind.now depth
+            (standing Open self.old.stack cells.old) self.old.sink }
         ensures cells { self.new.stack.height ≤ length cells.new }
-        ensures takes { TakesCounted result depth major number behind.now
-            (standing Open self.old.stack cells.old) self.old.builder
-            (standing Open self.new.stack cells.new) self.new.builder }
+        ensures takes { TakesCounted S S.stands result depth major number behind.now
+            (standing Open self.old.stack cells.old) self.old.sink
+            (standing Open self.new.stack cells.new) self.new.sink }
         ensures full { result ≡ Part.Full → self.new.stack.height ≡ length cells.new }
     {
         if number > 0 {
@@ -116,7 +123,7 @@ impl Building {
         if self.stack.height >= depth {
             return Part::Stopped;
         }
-        let Ok(()) = self.builder.begin(major, 0) else {
+        let Ok(()) = self.sink.begin(major, 0) else {
             return Part::Stopped;
         };
         self.end(behind)
@@ -133,13 +140,15 @@ impl Building {
         cells: &mut [Open],
         depth: usize,
     ) -> Part<'a>
+    where
+        S: Sink<'a>,
         requires kind { IsContainer major }
         requires cells { self.old.stack.height ≤ length cells.old }
-        requires opener { IsOpenerDue major number opened behind.now self.old.builder }
+        requires opener { IsOpenerDue S S.stands major number opened behind.now self.old.sink }
         ensures cells { self.new.stack.height ≤ length cells.new }
-        ensures takes { TakesOpener result depth major number opened behind.now
-            (standing Open self.old.stack cells.old) self.old.builder
-            (standing Open self.new.stack cells.new) self.new.builder }
+        ensures takes { TakesOpener S S.stands result depth major number opened behind.now
+            (standing Open self.old.stack cells.old) self.old.sink
+            (standing Open self.new.stack cells.new) self.new.sink }
         ensures full { result ≡ Part.Full → self.new.stack.height ≡ length cells.new }
     {
         if self.stack.height >= depth {
@@ -148,22 +157,24 @@ impl Building {
         if self.stack.height >= cells.len() {
             return Part::Full;
         }
-        let Ok(()) = self.builder.begin(major, number) else {
+        let Ok(()) = self.sink.begin(major, number) else {
             return Part::Stopped;
         };
         self.stack.push(cells, opened);
         Part::Head(behind)
     }
 
-    // The innermost container of the builder has ended, before these bytes.
+    // The innermost container of the sink has no more to come, before these bytes.
     #[inline(always)]
     pub(crate) fn end<'a>(&mut self, behind: &'a [u8]) -> Part<'a>
-        requires full { IsToEndFor self.old.builder behind.now }
-        ensures ends { Ends result behind.now self.old.builder self.new.builder }
+    where
+        S: Sink<'a>,
+        requires full { IsToEndFor S S.stands self.old.sink behind.now }
+        ensures ends { EndsItem S S.stands result behind.now self.old.sink self.new.sink }
         ensures stack { self.new.stack ≡ self.old.stack }
         ensures kind { IsItem result }
     {
-        match self.builder.end_if_distinct() {
+        match self.sink.end() {
             Ok(true) => Part::Item(behind),
             _ => Part::Stopped,
         }

@@ -1,20 +1,13 @@
--- What the walk over a valid item holds: of the open containers what is still to come, and in a builder the bytes of what is
--- complete.
+-- What the walk over a valid item holds: of the open containers what is still to come, and a sink that took what is complete.
 use Rattle.std.specs.Prelude.{◌≡◌, ℕ, zero, suc, ◌-◌, ◌^◌, ◌<◌, ◌≤◌, Bool, true, false, Option, Some, None, List, [], ◌∷◌, ◌++◌, length, take, IsUtf8}
-use Rattle.cbor_head.specs.Canonical.{canonical}
 use Rattle.cbor_head.specs.Head.{Holds, IsSimple, head, shortest}
-use Rattle.cbor_head.specs.Spelling.{Spelling, spell, value_of}
+use Rattle.cbor_head.specs.Spelling.{Spelling, spell, IsSpelled, depth}
 use Rattle.cbor_head.specs.declared.major.Major.{Major}
 use Rattle.cbor_head.specs.declared.major.Major.TheVariants.{Array, Map, Simple}
-use Rattle.cbor_head.specs.declared.order.KeyOrder.{KeyOrder}
 use Rattle.cbor_head.specs.declared.width.Width.{Width}
 use Rattle.cbor_head.specs.declared.width.Width.TheVariants.{Indefinite}
-use Rattle.cbor_builder.specs.Built.{Built}
-use Rattle.cbor_builder.specs.Parts as parts
-use Rattle.cbor_judging.specs.Given.{level_open, opens, IsFull}
-use Rattle.cbor_judging.specs.Levels.{IsTaken, Level, a_member, a_key, a_value, some_member, some_key, some_value, tagged, IsLevel, AreLevels, level_bytes, bytes_before}
+use Rattle.cbor_judging.specs.Levels.{IsTaken, Level, a_member, a_key, a_value, some_member, some_key, some_value, tagged, IsLevel, AreLevels, level_bytes, bytes_before, Standing, item_due, item_whole, settle}
 use Rattle.cbor_judging.specs.Reading.{string_major}
-use Rattle.cbor_walk.specs.declared.building.Building.{Building}
 use Rattle.cbor_walk.specs.declared.building.Met.{Met}
 use Rattle.cbor_walk.specs.declared.building.Met.TheVariants as met
 use Rattle.cbor_walk.specs.declared.building.Then.{Then}
@@ -24,6 +17,7 @@ use Rattle.cbor_walk.specs.declared.level.Due.TheVariants.{Item, Key, Value}
 use Rattle.cbor_walk.specs.declared.open.Open.{Open}
 use Rattle.cbor_walk.specs.declared.part.Part.{Part}
 use Rattle.cbor_walk.specs.declared.part.Part.TheVariants as part
+use Rattle.cbor_walk.specs.Sink.{IsOpened, StandsFull}
 
 -- ---- what is still to come in a container
 
@@ -65,102 +59,13 @@ after_due Value c = after_member (record c { due = Key })
 abbrev pub after : Open → Option Open
 after c = after_due c.due c
 
--- ---- where the walk stands, before the rest of an input
-
--- an item is due, or a break
-pub record IsDue (o : KeyOrder) (d : ℕ) (input : List ℕ) (cs : List Open) (g : Built) (rest : List ℕ) : Type 0 where
-  pub ls : List Level
-  pub levels : AreLevels d ls
-  pub cells : cs ≡ cells_of ls
-  pub order : g.order ≡ o
-  pub given : g.standing ≡ opens o ls
-  pub bytes : input ≡ bytes_before ls ++ rest
-  pub small : length input < 2 ^ 63
-
--- an item is whole, and given to the builder
-pub record HasEnded (o : KeyOrder) (d : ℕ) (input : List ℕ) (cs : List Open) (g : Built) (rest : List ℕ) : Type 0 where
-  pub ls : List Level
-  pub item : Spelling
-  pub levels : AreLevels d ls
-  pub taken : IsTaken (d - length ls) item
-  pub cells : cs ≡ cells_of ls
-  pub order : g.order ≡ o
-  pub given : g.standing ≡ parts.give (canonical o (value_of item)) (opens o ls)
-  pub bytes : input ≡ (bytes_before ls ++ spell item) ++ rest
-  pub small : length input < 2 ^ 63
-
--- a container is whole, and is to end in the builder
-pub record IsToEnd (o : KeyOrder) (d : ℕ) (input : List ℕ) (cs : List Open) (g : Built) (rest : List ℕ) : Type 0 where
-  pub ls : List Level
-  pub item : Spelling
-  pub container : parts.Open
-  pub levels : AreLevels d ls
-  pub full : IsFull o (d - length ls) container item
-  pub cells : cs ≡ cells_of ls
-  pub order : g.order ≡ o
-  pub given : g.standing ≡ container ∷ opens o ls
-  pub bytes : input ≡ (bytes_before ls ++ spell item) ++ rest
-  pub small : length input < 2 ^ 63
-
--- the input's item is whole
-pub record IsBuilt (o : KeyOrder) (d : ℕ) (input : List ℕ) (g : Built) (rest : List ℕ) : Type 0 where
-  pub item : Spelling
-  pub taken : IsTaken d item
-  pub order : g.order ≡ o
-  pub given : g.standing ≡ parts.plain (canonical o (value_of item)) ∷ []
-  pub bytes : input ≡ spell item ++ rest
-
--- the innermost container is whole, where these cells are around it; where none is, the input's item
-abbrev pub HasFilled : KeyOrder → ℕ → List ℕ → List Open → Built → List ℕ → Type 0
-HasFilled o d input [] g rest = IsBuilt o d input g rest
-HasFilled o d input (c ∷ cs) g rest = IsToEnd o d input (c ∷ cs) g rest
-
--- nothing was given
-pub record IsUntouched (b : Building) : Type 0 where
-  pub none : b.stack.height ≡ 0
-  pub input : b.stack.top ≡ counted Item 0
-  pub nothing : b.builder.standing ≡ parts.plain [] ∷ []
-
--- ---- what the calls ask for: some input of which this is true
-
-abbrev pub IsDueIn : ℕ → List Open → Built → List ℕ → Type 0
-IsDueIn d cs g rest = (o : KeyOrder) × (input : List ℕ) × IsDue o d input cs g rest
-
-abbrev pub IsDueFor : Built → List ℕ → Type 0
-IsDueFor g rest = (d : ℕ) × (cs : List Open) × IsDueIn d cs g rest
-
-abbrev pub HasEndedIn : List Open → Built → Type 0
-HasEndedIn cs g = (o : KeyOrder) × (d : ℕ) × (input : List ℕ) × (rest : List ℕ) × HasEnded o d input cs g rest
-
-abbrev pub HasFilledIn : List Open → Built → Type 0
-HasFilledIn cs g = (o : KeyOrder) × (d : ℕ) × (input : List ℕ) × (rest : List ℕ) × HasFilled o d input cs g rest
-
-abbrev pub IsToEndFor : Built → List ℕ → Type 0
-IsToEndFor g rest = (o : KeyOrder) × (d : ℕ) × (input : List ℕ) × (cs : List Open) × IsToEnd o d input cs g rest
-
--- ---- what is taken
-
-abbrev pub TakesTo : Part → KeyOrder → ℕ → List ℕ → List ℕ → List Open → Built → Type 0
-TakesTo (part.Item behind) o d input rest cs g = (length behind.now < length rest) × HasEnded o d input cs g behind.now
-TakesTo (part.Head behind) o d input rest cs g = (length behind.now < length rest) × IsDue o d input cs g behind.now
-TakesTo part.Full o d input rest cs g = IsDue o d input cs g rest
-TakesTo part.Stopped o d input rest cs g = Unit {0}
+-- ---- parts
 
 -- it is an item, or nothing can be taken
 abbrev pub IsItem : Part → Type 0
 IsItem (part.Item behind) = Unit {0}
 IsItem part.Stopped = Unit {0}
 IsItem _ = ⊥
-
--- from these cells and this builder to those
-abbrev pub Takes : Part → ℕ → List ℕ → List Open → Built → List Open → Built → Type 0
-Takes result d rest cs g now new = (o : KeyOrder) (input : List ℕ) → IsDue o d input cs g rest → TakesTo result o d input rest now new
-
--- within whatever cells
-abbrev pub Gives : Part → List ℕ → Built → Built → Type 0
-Gives result rest g new = (d : ℕ) (cs : List Open) → Takes result d rest cs g cs new
-
--- ---- a head
 
 -- the bytes are a definite head of this type, of an item that there is, and those behind it
 pub record IsHead (m : Major) (n : ℕ) (rest behind : List ℕ) : Type 0 where
@@ -169,57 +74,20 @@ pub record IsHead (m : Major) (n : ℕ) (rest behind : List ℕ) : Type 0 where
   pub simple : m ≡ Simple → IsSimple n × (width ≡ shortest n)
   pub is : rest ≡ head m width n ++ behind
 
-abbrev pub IsHeadDue : Major → ℕ → List ℕ → Built → Type 0
-IsHeadDue m n behind g = (rest : List ℕ) × IsHead m n rest behind × IsDueFor g rest
-
-abbrev pub IsHeadIn : Major → ℕ → List ℕ → ℕ → List Open → Built → Type 0
-IsHeadIn m n behind d cs g = (rest : List ℕ) × IsHead m n rest behind × IsDueIn d cs g rest
-
-abbrev pub TakesHead : Part → Major → ℕ → List ℕ → Built → Built → Type 0
-TakesHead result m n behind g new = (rest : List ℕ) → IsHead m n rest behind → Gives result rest g new
-
 -- the container has a length, and this is due in it first
 abbrev pub Counts : Major → Due → Type 0
 Counts Array Item = Unit {0}
 Counts Map Key = Unit {0}
 Counts m due = ⊥
 
-abbrev pub TakesCounted : Part → ℕ → Major → ℕ → List ℕ → List Open → Built → List Open → Built → Type 0
-TakesCounted result d m n behind cs g now new = (rest : List ℕ) → IsHead m n rest behind → Takes result d rest cs g now new
-
 -- the bytes are the opener of a container that has items, or may have, and those behind it
 pub record IsOpener (m : Major) (n : ℕ) (c : Open) (rest behind : List ℕ) : Type 0 where
   pub level : Level
   pub fresh : (d : ℕ) → IsLevel d level
   pub cell : c ≡ cell_of level
-  pub opened : (o : KeyOrder) → level_open o level ≡ parts.opened m n
+  pub opened : IsOpened m n level
   pub some : 0 < length (level_bytes level)
   pub is : rest ≡ level_bytes level ++ behind
-
-abbrev pub IsOpenerDue : Major → ℕ → Open → List ℕ → Built → Type 0
-IsOpenerDue m n c behind g = (rest : List ℕ) × IsOpener m n c rest behind × IsDueFor g rest
-
-abbrev pub TakesOpener : Part → ℕ → Major → ℕ → Open → List ℕ → List Open → Built → List Open → Built → Type 0
-TakesOpener result d m n c behind cs g now new = (rest : List ℕ) → IsOpener m n c rest behind → Takes result d rest cs g now new
-
--- a container that was to end, before these bytes
-abbrev pub EndsTo : Part → KeyOrder → ℕ → List ℕ → List Open → Built → List ℕ → Type 0
-EndsTo (part.Item to) o d input cs g behind = (to.now ≡ behind) × HasEnded o d input cs g behind
-EndsTo part.Stopped o d input cs g behind = Unit {0}
-EndsTo _ o d input cs g behind = ⊥
-
-abbrev pub Ends : Part → List ℕ → Built → Built → Type 0
-Ends result behind g new = (o : KeyOrder) (d : ℕ) (input : List ℕ) (cs : List Open) → IsToEnd o d input cs g behind → EndsTo result o d input cs new behind
-
--- ---- a break
-
-abbrev pub IsBreakDue : List Open → Built → List ℕ → Type 0
-IsBreakDue cs g behind = (d : ℕ) × IsDueIn d cs g (0xff ∷ behind)
-
-abbrev pub TakesBreak : Part → List ℕ → List Open → Built → List Open → Built → Type 0
-TakesBreak result behind cs g now new = (d : ℕ) → Takes result d (0xff ∷ behind) cs g now new
-
--- ---- a string
 
 -- a payload of so many bytes stands in front, which is UTF-8 where it is a text's
 pub record IsPayload (is_text : Bool) (count size : ℕ) (rest : List ℕ) : Type 0 where
@@ -227,34 +95,151 @@ pub record IsPayload (is_text : Bool) (count size : ℕ) (rest : List ℕ) : Typ
   pub inside : count ≤ length rest
   pub utf8 : is_text ≡ true → IsUtf8 (take count rest)
 
--- behind the opener of one in chunks
+-- behind the opener of a string in chunks
 abbrev pub chunked_from : Bool → List ℕ → List ℕ
 chunked_from is_text behind = head (string_major is_text) Indefinite 0 ++ behind
-
--- ---- behind an item
-
-abbrev pub LeadsTo : Then → KeyOrder → ℕ → List ℕ → List ℕ → List Open → Built → Type 0
-LeadsTo then.Item o d input rest cs g = IsDue o d input cs g rest
-LeadsTo then.Done o d input rest cs g = IsBuilt o d input g rest
-LeadsTo then.Stopped o d input rest cs g = Unit {0}
-
-abbrev pub Leads : Then → List Open → Built → List Open → Built → Type 0
-Leads result cs g now new = (o : KeyOrder) (d : ℕ) (input rest : List ℕ) → HasEnded o d input cs g rest → LeadsTo result o d input rest now new
-
-abbrev pub LeadsFull : Then → List Open → Built → List Open → Built → Type 0
-LeadsFull result cs g now new = (o : KeyOrder) (d : ℕ) (input rest : List ℕ) → HasFilled o d input cs g rest → LeadsTo result o d input rest now new
-
--- ---- the walk
-
-abbrev pub Meets : Met → KeyOrder → ℕ → List ℕ → List Open → Built → Type 0
-Meets (met.Whole rest) o d input cs g = IsBuilt o d input g rest.now
-Meets (met.Full rest) o d input cs g = IsDue o d input cs g rest.now
-Meets met.Stopped o d input cs g = Unit {0}
-
-abbrev pub Walks : Met → ℕ → List ℕ → List Open → Built → List Open → Built → Type 0
-Walks result d rest cs g now new = (o : KeyOrder) (input : List ℕ) → IsDue o d input cs g rest → Meets result o d input now new
 
 -- all cells are in use
 abbrev pub IsFullAt : Met → ℕ → ℕ → Type 0
 IsFullAt (met.Full rest) height count = height ≡ count
 IsFullAt _ height count = Unit {0}
+
+-- ---- where the walk stands, before the rest of an input, with a sink that began in its first state
+
+module _ (S : Type 0) (stands : S → S → Standing → Type 0) where
+  -- an item is due, or a break
+  pub record IsDue (start : S) (d : ℕ) (input : List ℕ) (cs : List Open) (g : S) (rest : List ℕ) : Type 0 where
+    pub ls : List Level
+    pub levels : AreLevels d ls
+    pub cells : cs ≡ cells_of ls
+    pub given : stands start g (item_due ls)
+    pub bytes : input ≡ bytes_before ls ++ rest
+    pub small : length input < 2 ^ 63
+
+  -- an item is whole, and given to the sink
+  pub record HasEnded (start : S) (d : ℕ) (input : List ℕ) (cs : List Open) (g : S) (rest : List ℕ) : Type 0 where
+    pub ls : List Level
+    pub item : Spelling
+    pub levels : AreLevels d ls
+    pub taken : IsTaken (d - length ls) item
+    pub cells : cs ≡ cells_of ls
+    pub given : stands start g (settle ls item)
+    pub bytes : input ≡ (bytes_before ls ++ spell item) ++ rest
+    pub small : length input < 2 ^ 63
+
+  -- a container is whole, and is to end in the sink
+  pub record IsToEnd (start : S) (d : ℕ) (input : List ℕ) (cs : List Open) (g : S) (rest : List ℕ) : Type 0 where
+    pub ls : List Level
+    pub item : Spelling
+    pub levels : AreLevels d ls
+    pub spelled : IsSpelled item
+    pub within : depth item ≤ d - length ls
+    pub cells : cs ≡ cells_of ls
+    pub given : StandsFull S stands d start g ls item
+    pub bytes : input ≡ (bytes_before ls ++ spell item) ++ rest
+    pub small : length input < 2 ^ 63
+
+  -- the input's item is whole
+  pub record IsBuilt (start : S) (d : ℕ) (input : List ℕ) (g : S) (rest : List ℕ) : Type 0 where
+    pub item : Spelling
+    pub taken : IsTaken d item
+    pub given : stands start g (item_whole item)
+    pub bytes : input ≡ spell item ++ rest
+
+  -- the innermost container is whole, where these cells are around it; where none is, the input's item
+  abbrev pub HasFilled : S → ℕ → List ℕ → List Open → S → List ℕ → Type 0
+  HasFilled start d input [] g rest = IsBuilt start d input g rest
+  HasFilled start d input (c ∷ cs) g rest = IsToEnd start d input (c ∷ cs) g rest
+
+  -- ---- what the calls ask for: some input of which this is true
+
+  abbrev pub IsDueIn : ℕ → List Open → S → List ℕ → Type 0
+  IsDueIn d cs g rest = (start : S) × (input : List ℕ) × IsDue start d input cs g rest
+
+  abbrev pub IsDueFor : S → List ℕ → Type 0
+  IsDueFor g rest = (d : ℕ) × (cs : List Open) × IsDueIn d cs g rest
+
+  abbrev pub HasEndedIn : List Open → S → Type 0
+  HasEndedIn cs g = (start : S) × (d : ℕ) × (input : List ℕ) × (rest : List ℕ) × HasEnded start d input cs g rest
+
+  abbrev pub HasFilledIn : List Open → S → Type 0
+  HasFilledIn cs g = (start : S) × (d : ℕ) × (input : List ℕ) × (rest : List ℕ) × HasFilled start d input cs g rest
+
+  abbrev pub IsToEndFor : S → List ℕ → Type 0
+  IsToEndFor g rest = (start : S) × (d : ℕ) × (input : List ℕ) × (cs : List Open) × IsToEnd start d input cs g rest
+
+  -- ---- what is taken
+
+  abbrev pub TakesTo : Part → S → ℕ → List ℕ → List ℕ → List Open → S → Type 0
+  TakesTo (part.Item behind) start d input rest cs g = (length behind.now < length rest) × HasEnded start d input cs g behind.now
+  TakesTo (part.Head behind) start d input rest cs g = (length behind.now < length rest) × IsDue start d input cs g behind.now
+  TakesTo part.Full start d input rest cs g = IsDue start d input cs g rest
+  TakesTo part.Stopped start d input rest cs g = Unit {0}
+
+  -- from these cells and this sink to those
+  abbrev pub Takes : Part → ℕ → List ℕ → List Open → S → List Open → S → Type 0
+  Takes result d rest cs g now new = (start : S) (input : List ℕ) → IsDue start d input cs g rest → TakesTo result start d input rest now new
+
+  -- within whatever cells
+  abbrev pub TakesItem : Part → List ℕ → S → S → Type 0
+  TakesItem result rest g new = (d : ℕ) (cs : List Open) → Takes result d rest cs g cs new
+
+  -- ---- a head
+
+  abbrev pub IsHeadDue : Major → ℕ → List ℕ → S → Type 0
+  IsHeadDue m n behind g = (rest : List ℕ) × IsHead m n rest behind × IsDueFor g rest
+
+  abbrev pub IsHeadIn : Major → ℕ → List ℕ → ℕ → List Open → S → Type 0
+  IsHeadIn m n behind d cs g = (rest : List ℕ) × IsHead m n rest behind × IsDueIn d cs g rest
+
+  abbrev pub TakesHead : Part → Major → ℕ → List ℕ → S → S → Type 0
+  TakesHead result m n behind g new = (rest : List ℕ) → IsHead m n rest behind → TakesItem result rest g new
+
+  abbrev pub TakesCounted : Part → ℕ → Major → ℕ → List ℕ → List Open → S → List Open → S → Type 0
+  TakesCounted result d m n behind cs g now new = (rest : List ℕ) → IsHead m n rest behind → Takes result d rest cs g now new
+
+  abbrev pub IsOpenerDue : Major → ℕ → Open → List ℕ → S → Type 0
+  IsOpenerDue m n c behind g = (rest : List ℕ) × IsOpener m n c rest behind × IsDueFor g rest
+
+  abbrev pub TakesOpener : Part → ℕ → Major → ℕ → Open → List ℕ → List Open → S → List Open → S → Type 0
+  TakesOpener result d m n c behind cs g now new = (rest : List ℕ) → IsOpener m n c rest behind → Takes result d rest cs g now new
+
+  -- a container that was to end, before these bytes
+  abbrev pub EndsTo : Part → S → ℕ → List ℕ → List Open → S → List ℕ → Type 0
+  EndsTo (part.Item to) start d input cs g behind = (to.now ≡ behind) × HasEnded start d input cs g behind
+  EndsTo part.Stopped start d input cs g behind = Unit {0}
+  EndsTo _ start d input cs g behind = ⊥
+
+  abbrev pub EndsItem : Part → List ℕ → S → S → Type 0
+  EndsItem result behind g new = (start : S) (d : ℕ) (input : List ℕ) (cs : List Open) → IsToEnd start d input cs g behind → EndsTo result start d input cs new behind
+
+  -- ---- a break
+
+  abbrev pub IsBreakDue : List Open → S → List ℕ → Type 0
+  IsBreakDue cs g behind = (d : ℕ) × IsDueIn d cs g (0xff ∷ behind)
+
+  abbrev pub TakesBreak : Part → List ℕ → List Open → S → List Open → S → Type 0
+  TakesBreak result behind cs g now new = (d : ℕ) → Takes result d (0xff ∷ behind) cs g now new
+
+  -- ---- behind an item
+
+  abbrev pub LeadsTo : Then → S → ℕ → List ℕ → List ℕ → List Open → S → Type 0
+  LeadsTo then.Item start d input rest cs g = IsDue start d input cs g rest
+  LeadsTo then.Done start d input rest cs g = IsBuilt start d input g rest
+  LeadsTo then.Stopped start d input rest cs g = Unit {0}
+
+  abbrev pub Leads : Then → List Open → S → List Open → S → Type 0
+  Leads result cs g now new = (start : S) (d : ℕ) (input rest : List ℕ) → HasEnded start d input cs g rest → LeadsTo result start d input rest now new
+
+  abbrev pub LeadsFull : Then → List Open → S → List Open → S → Type 0
+  LeadsFull result cs g now new = (start : S) (d : ℕ) (input rest : List ℕ) → HasFilled start d input cs g rest → LeadsTo result start d input rest now new
+
+  -- ---- the walk
+
+  abbrev pub Meets : Met → S → ℕ → List ℕ → List Open → S → Type 0
+  Meets (met.Whole rest) start d input cs g = IsBuilt start d input g rest.now
+  Meets (met.Full rest) start d input cs g = IsDue start d input cs g rest.now
+  Meets met.Stopped start d input cs g = Unit {0}
+
+  abbrev pub Walks : Met → ℕ → List ℕ → List Open → S → List Open → S → Type 0
+  Walks result d rest cs g now new = (start : S) (input : List ℕ) → IsDue start d input cs g rest → Meets result start d input now new

@@ -1,10 +1,10 @@
-use Rattle.std.proofs.Common.{◌≡◌, ◌↔◌, Bool, IsTrue, get_or, slice_get, Some, sym, ap, ◌∙◌, subst, arith, rules}
-use Rattle.std.proofs.lemmas.Option.{get_or_from_slice_get, slice_get-get_or}
-use Rattle.cbor_head.specs.Value.{Same, SameValues, Covered, IsValid}
+use Rattle.std.proofs.Common.{◌≡◌, ◌↔◌, Bool, IsTrue, get_or, slice_get, Some, sym, ◌∙◌, subst, arith, rules}
+use Rattle.std.proofs.lemmas.Option.{slice_get-get_or}
+use Rattle.cbor_head.specs.Value.{SameValues, Covered}
 use Rattle.cbor_item.specs.View.{values_of}
 use Rattle.cbor_builder.proofs.Loops.{was_true, was_false, holds, fails}
-use Rattle.cbor_view.specs.Seen.{seen, seen_all}
-use Rattle.cbor_view.specs.inner.Pairs.{Pair, IsSamePair, IsMet, entries}
+use Rattle.cbor_view.specs.Seen.{seen_all}
+use Rattle.cbor_view.specs.inner.Pairs.{IsSamePair, IsMet, entries}
 use Rattle.cbor_view.specs.declared.view.View.TheVariants.{Unsigned}
 use Rattle.cbor_view.specs.declared.view.View.{the_lemmas}
 use Rattle.cbor_view.proofs.Pairs.{values_counted, same_counted, valid_pair, covered_on, met_on, met_at, counts_differ, pair_misses, all_met, values_decide, keys_differ}

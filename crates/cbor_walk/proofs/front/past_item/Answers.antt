@@ -1,8 +1,17 @@
-use Rattle.std.proofs.Common.{arith}
+use Rattle.std.proofs.Common.{refl, arith}
 use Rattle.cbor_walk.proofs.GivenParts.{starts}
 use Rattle.cbor_walk.proofs.front.past_item.Goals as goal
 
-pub deeper-requires-clause-due : goal.deeper-requires-clause-due
-deeper-requires-clause-due c =
+pub deeper-requires : goal.deeper-requires
+deeper-requires g c =
     let b = c.args.building.now in
-    (b.builder.order, c.args.input.now, c.in-Full.ensures.walked b.builder.order c.args.input.now (starts b c.args.depth c.args.input.now _ c.requires (omega arith)))
+    λ n. (
+      (refl, tt),
+      (
+        omega arith,
+        (
+          c.in-Full.ensures.full,
+          (b.sink, c.args.input.now, c.in-Full.ensures.walked b.sink c.args.input.now (starts g.row.S.Denot g.S.Sink.stands b.stack b.sink c.args.depth c.args.input.now _ c.requires.none c.requires.top c.requires.fresh (omega arith))),
+        ),
+      ),
+    )

@@ -1,14 +1,16 @@
-use Rattle.cbor_head.specs.Head.{shortest_head}
+use Rattle.std.proofs.Common.{refl}
+use Rattle.cbor_walk.specs.Sink.{leaf_value}
 use Rattle.cbor_walk.specs.inner.Building.{IsHeadDue}
-use Rattle.cbor_walk.proofs.GivenParts.{due-takes, scalar-head, scalar-ends}
+use Rattle.cbor_walk.proofs.GivenItems.{scalar-head}
+use Rattle.cbor_walk.proofs.GivenParts.{due-item, scalar-ends}
 use Rattle.cbor_walk.proofs.building.Building.give_leaf.Goals as goal
 
-pub leaf-requires-clause-takes : goal.leaf-requires-clause-takes
-leaf-requires-clause-takes c =
-    let head : IsHeadDue c.args.major c.args.number c.args.behind.now c.args.self.now.builder = c.requires.head in
-    due-takes c.args.self.now.builder head.0 head.2
+pub leaf-requires : goal.leaf-requires
+leaf-requires g c =
+    let head : IsHeadDue g.row.S.Denot g.S.Sink.stands c.args.major c.args.number c.args.behind.now c.args.self.now.sink = c.requires.head in
+    λ k. ((refl, tt), (c.requires.kind, ((λ e. (head.1.simple e).0), due-item g.row.S.Denot g.S.Sink.stands c.args.self.now.sink head.0 head.2)))
 
 pub returns-in-Ok-clause-takes : goal.returns-in-Ok-clause-takes
-returns-in-Ok-clause-takes c = λ rest head d cs o input due.
-    scalar-ends o d input cs c.args.self.now.builder rest due c.args.behind.now (shortest_head c.args.major c.args.number) c.leaf.new.self
+returns-in-Ok-clause-takes g c = λ rest head d cs start input due.
+    scalar-ends g.row.S.Denot g.S.Sink.stands start d input cs c.args.self.now.sink rest due c.args.behind.now (leaf_value c.args.major c.args.number) c.leaf.new.self
     (scalar-head c.args.major c.args.number rest c.args.behind.now c.requires.kind head) c.in-Ok.ensures

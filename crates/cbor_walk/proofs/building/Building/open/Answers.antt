@@ -1,21 +1,23 @@
-use Rattle.std.proofs.Common.{◌<◌, List, length, sym, subst, arith}
+use Rattle.std.proofs.Common.{◌<◌, List, length, sym, subst, arith, refl}
 use Rattle.cbor_walk.specs.declared.open.Open.{Open}
 use Rattle.cbor_walk.specs.inner.Building.{IsOpenerDue, IsDue}
 use Rattle.cbor_walk.specs.inner.Stack.{standing}
-use Rattle.cbor_walk.proofs.GivenParts.{due-takes, height-is, opened}
+use Rattle.cbor_walk.proofs.GivenParts.{due-item, height-is, opened}
 use Rattle.cbor_walk.proofs.Taking.{standing_count}
 use Rattle.cbor_walk.proofs.building.Building.open.Goals as goal
 
-pub begin-requires-clause-takes : goal.begin-requires-clause-takes
-begin-requires-clause-takes c =
-    let opener : IsOpenerDue c.args.major c.args.number c.args.opened c.args.behind.now c.args.self.now.builder = c.requires.opener in
-    due-takes c.args.self.now.builder opener.0 opener.2
+pub begin-requires : goal.begin-requires
+begin-requires g c =
+    let opener : IsOpenerDue g.row.S.Denot g.S.Sink.stands c.args.major c.args.number c.args.opened c.args.behind.now c.args.self.now.sink = c.requires.opener in
+    λ k. ((refl, tt), (c.requires.kind, due-item g.row.S.Denot g.S.Sink.stands c.args.self.now.sink opener.0 opener.2))
 
 pub returns-clause-takes : goal.returns-clause-takes
-returns-clause-takes c = λ rest opener o input due.
-    let g = c.args.self.now.builder in
+returns-clause-takes g c = λ rest opener start input due.
+    let S = g.row.S.Denot in
+    let stands = g.S.Sink.stands in
+    let sink = c.args.self.now.sink in
     let behind = c.args.behind.now in
     let cs = standing Open c.args.self.now.stack c.args.cells.now in
-    let room : length due.ls < c.args.depth = omega (arith, c.if-self-depth.false, height-is o c.args.depth input cs g rest due, standing_count Open c.args.self.now.stack c.args.cells.now c.requires.cells) in
-    subst (λ (x : List Open). (length behind < length rest) × IsDue o c.args.depth input x c.begin.new.self behind) (sym c.push.ensures.levels)
-    (opened o c.args.depth input cs g rest due c.args.major c.args.number c.args.opened behind c.begin.new.self room opener c.in-Ok.ensures)
+    let room : length due.ls < c.args.depth = omega (arith, c.if-self-depth.false, height-is S stands start c.args.depth input cs sink rest due, standing_count Open c.args.self.now.stack c.args.cells.now c.requires.cells) in
+    subst (λ (x : List Open). (length behind < length rest) × IsDue S stands start c.args.depth input x c.begin.new.self behind) (sym c.push.ensures.levels)
+    (opened S stands start c.args.depth input cs sink rest due c.args.major c.args.number c.args.opened behind c.begin.new.self room opener c.in-Ok.ensures)

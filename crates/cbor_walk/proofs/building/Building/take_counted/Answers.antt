@@ -1,59 +1,75 @@
-use Rattle.std.proofs.Common.{◌<◌, length, sym, subst, arith}
+use Rattle.std.proofs.Common.{◌<◌, length, sym, subst, arith, refl}
 use Rattle.cbor_walk.specs.declared.open.Open.{Open}
 use Rattle.cbor_walk.specs.inner.Building.{IsHeadIn, IsOpener, TakesTo}
 use Rattle.cbor_walk.specs.inner.Stack.{standing}
-use Rattle.cbor_walk.proofs.GivenParts.{due-takes, head-opens, height-is, empty-ends, ends-takes, never-full}
+use Rattle.cbor_walk.proofs.GivenItems.{counts-container, head-opens}
+use Rattle.cbor_walk.proofs.GivenParts.{due-item, height-is, empty-ends, ends-takes, never-full}
 use Rattle.cbor_walk.proofs.Taking.{standing_count}
 use Rattle.cbor_walk.proofs.building.Building.take_counted.Goals as goal
 
-pub open-requires-clause-opener : goal.open-requires-clause-opener
-open-requires-clause-opener c =
+pub open-requires : goal.open-requires
+open-requires g c =
     let cs = standing Open c.args.self.now.stack c.args.cells.now in
-    let head : IsHeadIn c.args.major c.args.number c.args.behind.now c.args.depth cs c.args.self.now.builder = c.requires.head in (
-      head.0,
-      subst (λ (x : Open). IsOpener c.args.major c.args.number x head.0 c.args.behind.now) (sym c.counted-opened.ensures)
-          (head-opens c.args.major c.args.number c.args.due head.0 c.args.behind.now c.requires.kind c.if-number-gt0.true head.1),
-      (c.args.depth, cs, head.2),
+    let head : IsHeadIn g.row.S.Denot g.S.Sink.stands c.args.major c.args.number c.args.behind.now c.args.depth cs c.args.self.now.sink = c.requires.head in
+    λ n. (
+      (refl, tt),
+      (
+        counts-container c.args.major c.args.due c.requires.kind,
+        (
+          c.requires.cells,
+          (
+            head.0,
+            subst (λ (x : Open). IsOpener c.args.major c.args.number x head.0 c.args.behind.now) (sym c.counted-opened.ensures)
+                (head-opens c.args.major c.args.number c.args.due head.0 c.args.behind.now c.requires.kind c.if-number-gt0.true head.1),
+            (c.args.depth, cs, head.2),
+          ),
+        ),
+      ),
     )
 
 pub returns-then-number-gt0-clause-takes : goal.returns-then-number-gt0-clause-takes
-returns-then-number-gt0-clause-takes c = λ rest head.
+returns-then-number-gt0-clause-takes g c = λ rest head.
     c.open.ensures.takes rest (subst (λ (x : Open). IsOpener c.args.major c.args.number x rest c.args.behind.now) (sym c.counted-opened.ensures)
     (head-opens c.args.major c.args.number c.args.due rest c.args.behind.now c.requires.kind c.if-number-gt0.true head))
 
-pub begin-requires-clause-takes : goal.begin-requires-clause-takes
-begin-requires-clause-takes c =
+pub begin-requires : goal.begin-requires
+begin-requires g c =
     let cs = standing Open c.args.self.now.stack c.args.cells.now in
-    let head : IsHeadIn c.args.major c.args.number c.args.behind.now c.args.depth cs c.args.self.now.builder = c.requires.head in
-    due-takes c.args.self.now.builder head.0 (c.args.depth, cs, head.2)
+    let head : IsHeadIn g.row.S.Denot g.S.Sink.stands c.args.major c.args.number c.args.behind.now c.args.depth cs c.args.self.now.sink = c.requires.head in
+    λ n. ((refl, tt), (counts-container c.args.major c.args.due c.requires.kind, due-item g.row.S.Denot g.S.Sink.stands c.args.self.now.sink head.0 (c.args.depth, cs, head.2)))
 
 pub end-requires : goal.end-requires
-end-requires c =
-    let g = c.args.self.now.builder in
+end-requires g c =
+    let S = g.row.S.Denot in
+    let stands = g.S.Sink.stands in
+    let sink = c.args.self.now.sink in
     let cs = standing Open c.args.self.now.stack c.args.cells.now in
-    let head : IsHeadIn c.args.major c.args.number c.args.behind.now c.args.depth cs g = c.requires.head in
-    let o = head.2.0 in
+    let head : IsHeadIn S stands c.args.major c.args.number c.args.behind.now c.args.depth cs sink = c.requires.head in
+    let start = head.2.0 in
     let input = head.2.1 in
     let due = head.2.2 in
-    let room : length due.ls < c.args.depth = omega (arith, c.if-self-depth.false, height-is o c.args.depth input cs g head.0 due, standing_count Open c.args.self.now.stack c.args.cells.now c.requires.cells) in
-    record {
-      full = (
-        o,
+    let room : length due.ls < c.args.depth = omega (arith, c.if-self-depth.false, height-is S stands start c.args.depth input cs sink head.0 due, standing_count Open c.args.self.now.stack c.args.cells.now c.requires.cells) in
+    λ n. (
+      (refl, tt),
+      (
+        start,
         c.args.depth,
         input,
         cs,
-        (empty-ends o c.args.depth input cs g head.0 due c.args.major c.args.due c.args.number c.args.behind.now c.begin.new.self room c.requires.kind (omega (arith, c.if-number-gt0.false)) head.1 c.in-Ok.ensures).1,
-      );
-    }
+        (empty-ends S stands start c.args.depth input cs sink head.0 due c.args.major c.args.due c.args.number c.args.behind.now c.begin.new.self room c.requires.kind (omega (arith, c.if-number-gt0.false)) head.1 c.in-Ok.ensures).1,
+      ),
+    )
 
 pub returns-clause-takes : goal.returns-clause-takes
-returns-clause-takes c = λ rest head o input due.
-    let g = c.args.self.now.builder in
+returns-clause-takes g c = λ rest head start input due.
+    let S = g.row.S.Denot in
+    let stands = g.S.Sink.stands in
+    let sink = c.args.self.now.sink in
     let cs = standing Open c.args.self.now.stack c.args.cells.now in
-    let room : length due.ls < c.args.depth = omega (arith, c.if-self-depth.false, height-is o c.args.depth input cs g rest due, standing_count Open c.args.self.now.stack c.args.cells.now c.requires.cells) in
-    let e = empty-ends o c.args.depth input cs g rest due c.args.major c.args.due c.args.number c.args.behind.now c.begin.new.self room c.requires.kind (omega (arith, c.if-number-gt0.false)) head c.in-Ok.ensures in
-    subst (λ s. TakesTo c.end.result o c.args.depth input rest (standing Open s c.args.cells.now) c.end.new.self.builder) (sym c.end.ensures.stack)
-    (ends-takes o c.args.depth input c.end.result cs c.end.new.self.builder rest c.args.behind.now e.0 (c.end.ensures.ends o c.args.depth input cs e.1))
+    let room : length due.ls < c.args.depth = omega (arith, c.if-self-depth.false, height-is S stands start c.args.depth input cs sink rest due, standing_count Open c.args.self.now.stack c.args.cells.now c.requires.cells) in
+    let e = empty-ends S stands start c.args.depth input cs sink rest due c.args.major c.args.due c.args.number c.args.behind.now c.begin.new.self room c.requires.kind (omega (arith, c.if-number-gt0.false)) head c.in-Ok.ensures in
+    subst (λ s. TakesTo S stands c.end.result start c.args.depth input rest (standing Open s c.args.cells.now) c.end.new.self.sink) (sym c.end.ensures.stack)
+    (ends-takes S stands start c.args.depth input c.end.result cs c.end.new.self.sink rest c.args.behind.now e.0 (c.end.ensures.ends start c.args.depth input cs e.1))
 
 pub returns-clause-full : goal.returns-clause-full
-returns-clause-full c = λ e. absurd (never-full c.end.result c.end.ensures.kind e)
+returns-clause-full g c = λ e. absurd (never-full c.end.result c.end.ensures.kind e)

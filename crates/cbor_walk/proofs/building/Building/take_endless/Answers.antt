@@ -1,35 +1,65 @@
-use Rattle.std.proofs.Common.{ℕ, ◌∷◌, sym, subst}
+use Rattle.std.proofs.Common.{ℕ, ◌∷◌, sym, subst, refl}
 use Rattle.cbor_head.specs.declared.major.Major.TheVariants.{Array, Map}
 use Rattle.cbor_walk.specs.declared.open.Open.{Open}
 use Rattle.cbor_walk.specs.inner.Building.{IsDue, IsDueIn, IsOpener, TakesTo}
 use Rattle.cbor_walk.specs.inner.Stack.{standing}
-use Rattle.cbor_walk.proofs.GivenParts.{array-opens, map-opens}
+use Rattle.cbor_walk.proofs.GivenItems.{array-opens, map-opens}
 use Rattle.cbor_walk.proofs.building.Building.take_endless.Goals as goal
 
-pub open-requires-clause-opener : goal.open-requires-clause-opener
-open-requires-clause-opener c =
+pub open-requires : goal.open-requires
+open-requires g c =
     let cs = standing Open c.args.self.now.stack c.args.cells.now in
     let behind = c.args.behind.now in
-    (159 ∷ behind, subst (λ (x : Open). IsOpener Array 0 x (159 ∷ behind) behind) (sym c.endless.ensures) (array-opens behind), (c.args.depth, cs, subst (λ (x : ℕ). IsDueIn c.args.depth cs c.args.self.now.builder (x ∷ behind)) c.in-159.is c.requires.due))
+    λ n. (
+      (refl, tt),
+      (
+        tt,
+        (
+          c.requires.cells,
+          (
+            159 ∷ behind,
+            subst (λ (x : Open). IsOpener Array 0 x (159 ∷ behind) behind) (sym c.endless.ensures) (array-opens behind),
+            (c.args.depth, cs, subst (λ (x : ℕ). IsDueIn g.row.S.Denot g.S.Sink.stands c.args.depth cs c.args.self.now.sink (x ∷ behind)) c.in-159.is c.requires.due),
+          ),
+        ),
+      ),
+    )
 
-pub open-requires-in-191-clause-opener : goal.open-requires-in-191-clause-opener
-open-requires-in-191-clause-opener c =
+pub open-requires-in-191 : goal.open-requires-in-191
+open-requires-in-191 g c =
     let cs = standing Open c.args.self.now.stack c.args.cells.now in
     let behind = c.args.behind.now in
-    (191 ∷ behind, subst (λ (x : Open). IsOpener Map 0 x (191 ∷ behind) behind) (sym c.endless-in-191.ensures) (map-opens behind), (c.args.depth, cs, subst (λ (x : ℕ). IsDueIn c.args.depth cs c.args.self.now.builder (x ∷ behind)) c.in-191.is c.requires.due))
+    λ n. (
+      (refl, tt),
+      (
+        tt,
+        (
+          c.requires.cells,
+          (
+            191 ∷ behind,
+            subst (λ (x : Open). IsOpener Map 0 x (191 ∷ behind) behind) (sym c.endless-in-191.ensures) (map-opens behind),
+            (c.args.depth, cs, subst (λ (x : ℕ). IsDueIn g.row.S.Denot g.S.Sink.stands c.args.depth cs c.args.self.now.sink (x ∷ behind)) c.in-191.is c.requires.due),
+          ),
+        ),
+      ),
+    )
 
 pub returns-in-159-clause-takes : goal.returns-in-159-clause-takes
-returns-in-159-clause-takes c = λ o input due.
+returns-in-159-clause-takes g c = λ start input due.
+    let S = g.row.S.Denot in
+    let stands = g.S.Sink.stands in
     let cs = standing Open c.args.self.now.stack c.args.cells.now in
     let behind = c.args.behind.now in
-    subst (λ (x : ℕ). TakesTo c.open.result o c.args.depth input (x ∷ behind) (standing Open c.open.new.self.stack c.open.new.cells) c.open.new.self.builder) (sym c.in-159.is)
-    (c.open.ensures.takes (159 ∷ behind) (subst (λ (x : Open). IsOpener Array 0 x (159 ∷ behind) behind) (sym c.endless.ensures) (array-opens behind)) o input
-    (subst (λ (x : ℕ). IsDue o c.args.depth input cs c.args.self.now.builder (x ∷ behind)) c.in-159.is due))
+    subst (λ (x : ℕ). TakesTo S stands c.open.result start c.args.depth input (x ∷ behind) (standing Open c.open.new.self.stack c.open.new.cells) c.open.new.self.sink) (sym c.in-159.is)
+    (c.open.ensures.takes (159 ∷ behind) (subst (λ (x : Open). IsOpener Array 0 x (159 ∷ behind) behind) (sym c.endless.ensures) (array-opens behind)) start input
+    (subst (λ (x : ℕ). IsDue S stands start c.args.depth input cs c.args.self.now.sink (x ∷ behind)) c.in-159.is due))
 
 pub returns-in-191-clause-takes : goal.returns-in-191-clause-takes
-returns-in-191-clause-takes c = λ o input due.
+returns-in-191-clause-takes g c = λ start input due.
+    let S = g.row.S.Denot in
+    let stands = g.S.Sink.stands in
     let cs = standing Open c.args.self.now.stack c.args.cells.now in
     let behind = c.args.behind.now in
-    subst (λ (x : ℕ). TakesTo c.open-in-191.result o c.args.depth input (x ∷ behind) (standing Open c.open-in-191.new.self.stack c.open-in-191.new.cells) c.open-in-191.new.self.builder) (sym c.in-191.is)
-    (c.open-in-191.ensures.takes (191 ∷ behind) (subst (λ (x : Open). IsOpener Map 0 x (191 ∷ behind) behind) (sym c.endless-in-191.ensures) (map-opens behind)) o input
-    (subst (λ (x : ℕ). IsDue o c.args.depth input cs c.args.self.now.builder (x ∷ behind)) c.in-191.is due))
+    subst (λ (x : ℕ). TakesTo S stands c.open-in-191.result start c.args.depth input (x ∷ behind) (standing Open c.open-in-191.new.self.stack c.open-in-191.new.cells) c.open-in-191.new.self.sink) (sym c.in-191.is)
+    (c.open-in-191.ensures.takes (191 ∷ behind) (subst (λ (x : Open). IsOpener Map 0 x (191 ∷ behind) behind) (sym c.endless-in-191.ensures) (map-opens behind)) start input
+    (subst (λ (x : ℕ). IsDue S stands start c.args.depth input cs c.args.self.now.sink (x ∷ behind)) c.in-191.is due))

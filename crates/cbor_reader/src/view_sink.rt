@@ -1,0 +1,140 @@
+//! A builder of views, as what takes the parts of an item.
+
+ghost use Rattle.std.specs.Prelude.{◌≡◌, [], true, IsUtf8};
+ghost use Rattle.cbor_builder.specs.Built.{IsLeaf};
+ghost use Rattle.cbor_head.specs.Head.{IsSimple};
+ghost use Rattle.cbor_head.specs.Spelling.{Spelling, value_of};
+ghost use Rattle.cbor_head.specs.declared.major.Major.TheVariants as majors;
+ghost use Rattle.cbor_item.specs.OpenValues.{IsWhole};
+ghost use Rattle.cbor_judging.specs.Levels.{item_due, item_whole};
+ghost use Rattle.cbor_judging.specs.Reading.{string_value};
+ghost use Rattle.cbor_reader.specs.declared.view_sink.ViewSink.{ViewSink as ViewSinkView};
+ghost use Rattle.cbor_reader.specs.inner.ViewSinks.{view_stands, view_holds};
+ghost use Rattle.cbor_view.specs.Seen.{seen, standing};
+ghost use Rattle.cbor_walk.specs.Sink.{leaf_value};
+
+use bumpalo::Bump;
+use cbor_builder::CanonBuilder;
+use cbor_head::{KeyOrder, Major};
+use cbor_view::{View, ViewBuilder};
+use cbor_walk::Sink;
+use std::alloc::{AllocError, Global};
+
+/// The views of the parts that came, and their canonical bytes, by which equal keys are found.
+#[derive(Drop)]
+pub(crate) struct ViewSink<'a> {
+    keys: CanonBuilder,
+    views: ViewBuilder<'a>,
+    // The content so far of a string in chunks.
+    joined: Vec<u8>,
+}
+
+impl<'a> ViewSink<'a> {
+    // Nothing came.
+    pub(crate) fn new(alloc: Global, arena: &'a Bump) -> ViewSink<'a>
+        ensures { view_stands result result (item_due []) }
+    {
+        ViewSink {
+            keys: CanonBuilder::new(alloc, KeyOrder::Bytewise),
+            views: ViewBuilder::new(alloc, arena),
+            joined: Vec::new(alloc),
+        }
+    }
+
+    // The view of the item, which is whole.
+    pub(crate) fn finish(self) -> View<'a>
+        requires { IsWhole (standing self.views) }
+        ensures { (start : ViewSinkView) (s : Spelling)
+            → view_stands start self.entry (item_whole s) → seen result ≡ value_of s }
+    {
+        let ViewSink {
+            keys: _,
+            views,
+            joined: _,
+        } = self;
+        views.finish()
+    }
+}
+
+impl<'a> Sink<'a> for ViewSink<'a> {
+    ghost stands = { view_stands };
+
+    ghost holds = { view_holds };
+
+    #[inline(always)]
+    fn leaf(&mut self, major: Major, number: u64) -> Result<(), AllocError> {
+        Sink::leaf(&mut self.keys, major, number)?;
+        self.views.leaf(leaf_view(major, number))
+    }
+
+    #[inline(always)]
+    fn string(&mut self, is_text: bool, front: &'a [u8], count: usize) -> Result<(), AllocError> {
+        Sink::string(&mut self.keys, is_text, front, count)?;
+        self.views.leaf(string_view(is_text, &front[..count]))
+    }
+
+    fn begin_string(&mut self, is_text: bool) -> Result<(), AllocError> {
+        self.joined.clear();
+        Sink::begin_string(&mut self.keys, is_text)
+    }
+
+    fn chunk(&mut self, is_text: bool, front: &'a [u8], count: usize) -> Result<(), AllocError> {
+        Sink::chunk(&mut self.keys, is_text, front, count)?;
+        self.joined.extend_from_slice(&front[..count])?;
+        Ok(())
+    }
+
+    fn end_string(&mut self, is_text: bool) -> Result<(), AllocError> {
+        Sink::end_string(&mut self.keys, is_text)?;
+        if is_text {
+            // Each chunk was found to be UTF-8.
+            let text = unsafe { str::from_utf8_unchecked(&self.joined) };
+            self.views.copied_text(text)
+        } else {
+            self.views.copied_bytes(&self.joined)
+        }
+    }
+
+    #[inline(always)]
+    fn begin(&mut self, major: Major, number: u64) -> Result<(), AllocError> {
+        Sink::begin(&mut self.keys, major, number)?;
+        self.views.begin(major, number)
+    }
+
+    #[inline(always)]
+    fn end(&mut self) -> Result<bool, AllocError> {
+        let is_distinct = Sink::end(&mut self.keys)?;
+        if is_distinct {
+            self.views.end()?;
+        }
+        Ok(is_distinct)
+    }
+}
+
+// An integer or a simple value.
+#[inline(always)]
+fn leaf_view<'a>(major: Major, number: u64) -> View<'a>
+    requires kind { IsLeaf major }
+    requires simple { major ≡ majors.Simple → IsSimple number }
+    ensures { seen result ≡ leaf_value major number }
+{
+    match major {
+        Major::Negative => View::Negative(number),
+        Major::Simple => View::Simple(number as u8),
+        _ => View::Unsigned(number),
+    }
+}
+
+// A string that lies in the input.
+#[inline(always)]
+fn string_view<'a>(is_text: bool, content: &'a [u8]) -> View<'a>
+    requires { is_text ≡ true → IsUtf8 content.now }
+    ensures { seen result ≡ string_value is_text content.now }
+{
+    if is_text {
+        // It was found to be UTF-8.
+        View::Text(unsafe { str::from_utf8_unchecked(content) })
+    } else {
+        View::Bytes(content)
+    }
+}

@@ -1,0 +1,186 @@
+-- A builder of canonical bytes that is given the parts of an item: what it stands for behind each.
+use Rattle.std.proofs.Common.{◌≡◌, ℕ, suc, ◌+◌, ◌-◌, ◌^◌, ◌<◌, Bool, true, false, List, [], ◌∷◌, ◌++◌, length, refl, sym, ap, ap₂, ◌∙◌, subst, arith, inl, inr}
+use Rattle.std.specs.Prelude.{◌↔◌, IsTrue, Result, Ok, Err, IfOk, OnOk}
+use Rattle.std.proofs.lemmas.List.{length-append}
+use Rattle.cbor_head.specs.Canonical.{canonical, canonical_all, canonical_entries}
+use Rattle.cbor_head.specs.Head.{head, shortest_head}
+use Rattle.cbor_head.specs.Spelling.{Spelling, Spellings, SpelledEntries, array, a_map, no_spellings, no_entries, spell, spell_all, spellings_count, value_of, values_of, entries_of}
+use Rattle.cbor_head.specs.Value.{Value}
+use Rattle.cbor_head.specs.declared.major.Major.{Major}
+use Rattle.cbor_head.specs.declared.major.Major.TheVariants as majors
+use Rattle.cbor_head.specs.declared.order.KeyOrder.{KeyOrder}
+use Rattle.cbor_head.specs.declared.width.Width.{Width}
+use Rattle.cbor_head.specs.declared.width.Width.TheVariants.{Indefinite}
+use Rattle.cbor_builder.specs.Built.{Built, built, IsLeaf, IsInContainer, IsInString, HasDistinctKeysSoFar, TakesPart}
+use Rattle.cbor_builder.specs.Parts as parts
+use Rattle.cbor_grammar.proofs.Counts.{holds_fits}
+use Rattle.cbor_judging.proofs.Given.{full-array, full-map, settled}
+use Rattle.cbor_judging.proofs.Levels.{pairs-shorter}
+use Rattle.cbor_judging.proofs.Valid.{count_bounded}
+use Rattle.cbor_judging.specs.Given.{level_open, opens, StandsAt}
+use Rattle.cbor_judging.specs.Levels.{AreTaken, ArePairsTaken, Level, a_member, a_key, a_value, some_member, some_key, some_value, tagged, AreLevels, bytes_before, Standing, item_due, item_full, item_whole, settle}
+use Rattle.cbor_judging.specs.Place.{Place}
+use Rattle.cbor_judging.specs.Reading.{string_major, string_value}
+use Rattle.cbor_walk.specs.CanonSink.{canon_stands, canon_holds}
+use Rattle.cbor_walk.specs.Sink.{leaf_value, IsOpened, Completes, Fills, IsEndedAs, StandsFull, IsItemDue, Gives, Opens, IsContainerFull, Ends, BeginsString, IsChunkDue, GrowsString, EndsString}
+
+-- what follows from a fact of a success
+pub on-ok : {T E : Type 0} (r : Result T E) (P Q : Type 0) → (P → Q) → OnOk r P → OnOk r Q
+on-ok (Ok x) P Q f h = f h
+on-ok (Err e) P Q f h = tt
+
+-- ---- the bytes of values
+
+pub leaf-bytes : (o : KeyOrder) (m : Major) (n : ℕ) → IsLeaf m → canonical o (leaf_value m n) ≡ shortest_head m n
+leaf-bytes o majors.Unsigned n l = refl
+leaf-bytes o majors.Negative n l = refl
+leaf-bytes o majors.Simple n l = refl
+leaf-bytes o majors.Bytes n l = absurd l
+leaf-bytes o majors.Text n l = absurd l
+leaf-bytes o majors.Array n l = absurd l
+leaf-bytes o majors.Map n l = absurd l
+leaf-bytes o majors.Tag n l = absurd l
+
+pub string-bytes : (o : KeyOrder) (t : Bool) (content : List ℕ) → canonical o (string_value t content) ≡ shortest_head (string_major t) (length content) ++ content
+string-bytes o true content = refl
+string-bytes o false content = refl
+
+-- ---- an item is due
+
+pub takes : (g : Built) → IsItemDue Built canon_stands g → TakesPart g.standing
+takes g (start, d, ls, k, at) = subst TakesPart (sym at.1) (go start.order ls k.levels k.short)
+  where
+    go : (o : KeyOrder) (ms : List Level) → AreLevels d ms → length (bytes_before ms) < 2 ^ 63 → TakesPart (opens o ms)
+    go o [] h l = tt
+    go o (a_member w left done ∷ ms) h l = omega (arith, holds_fits w (spellings_count done + suc left) h.1.0)
+    go o (some_member done ∷ ms) h l =
+        omega (arith, l, count_bounded done, length-append (bytes_before ms) (head majors.Array Indefinite 0 ++ spell_all done), length-append (head majors.Array Indefinite 0) (spell_all done))
+    go o (a_key w left done ∷ ms) h l = tt
+    go o (a_value w left done k ∷ ms) h l = tt
+    go o (some_key done ∷ ms) h l = tt
+    go o (some_value done k ∷ ms) h l = tt
+    go o (tagged w n ∷ ms) h l = tt
+
+-- it is given
+stood : (start new : Built) (d : ℕ) (t : List ℕ) (q : Place) (os : List parts.Open) (height : ℕ) (st : Standing) → StandsAt start.order d t q os height st → new.order ≡ start.order → new.standing ≡ os → canon_stands start new st
+stood start new d t q os height (item_due ls) h same is = (same, is ∙ h.3)
+stood start new d t q os height (item_full ls s) h same is = (same, (d - length ls, h.3.0, h.3.1, is ∙ h.3.2))
+stood start new d t q os height (item_whole s) h same is = (same, is ∙ h.3)
+
+settles : (start new : Built) (d : ℕ) (ls : List Level) (s : Spelling) → Completes d ls s → new.order ≡ start.order → new.standing ≡ parts.give (canonical start.order (value_of s)) (opens start.order ls) → canon_stands start new (settle ls s)
+settles start new d ls s k same is =
+    let short = k.short in
+    stood start new d _ _ _ _ (settle ls s) (settled start.order d ls s k.levels k.taken (omega (arith, short))) same is
+
+pub given : (v : Value) (out : List ℕ) (old new : Built) → ((o : KeyOrder) → canonical o v ≡ out) → new ≡ built old.order (parts.give out old.standing) → Gives Built canon_stands v old new
+given v out old new same is start d ls s at k e =
+    settles start new d ls s k (ap (λ (x : Built). x.order) is ∙ at.0)
+    (ap (λ (x : Built). x.standing) is ∙ ap₂ (λ (x : List ℕ) (os : List parts.Open). parts.give x os) (sym (same start.order) ∙ ap (canonical start.order) (sym e)) at.1)
+
+-- ---- containers
+
+-- whatever is true of each container before its first item
+pub opened-cases : (P : Major → ℕ → Level → Type 0)
+    → ((w : Width) (left n : ℕ) → P majors.Array n (a_member w left no_spellings)) → ((n : ℕ) → P majors.Array n (some_member no_spellings))
+    → ((w : Width) (left n : ℕ) → P majors.Map n (a_key w left no_entries)) → ((n : ℕ) → P majors.Map n (some_key no_entries))
+    → ((w : Width) (n : ℕ) → P majors.Tag n (tagged w n)) → (m : Major) (n : ℕ) (l : Level) → IsOpened m n l → P m n l
+opened-cases P p q r s t majors.Array n (a_member w left done) e = subst (λ (x : Spellings). P majors.Array n (a_member w left x)) (sym e) (p w left n)
+opened-cases P p q r s t majors.Array n (some_member done) e = subst (λ (x : Spellings). P majors.Array n (some_member x)) (sym e) (q n)
+opened-cases P p q r s t majors.Map n (a_key w left done) e = subst (λ (x : SpelledEntries). P majors.Map n (a_key w left x)) (sym e) (r w left n)
+opened-cases P p q r s t majors.Map n (some_key done) e = subst (λ (x : SpelledEntries). P majors.Map n (some_key x)) (sym e) (s n)
+opened-cases P p q r s t majors.Tag n (tagged w m) e = subst (λ (x : ℕ). P majors.Tag x (tagged w m)) e (t w m)
+opened-cases P p q r s t m n l e = absurd e
+
+level-opened : (o : KeyOrder) (m : Major) (n : ℕ) (l : Level) → IsOpened m n l → level_open o l ≡ parts.opened m n
+level-opened o = opened-cases (λ m n l. level_open o l ≡ parts.opened m n) (λ w left n. refl) (λ n. refl) (λ w left n. refl) (λ n. refl) (λ w n. refl)
+
+pub opened : (m : Major) (n : ℕ) (old new : Built) → new ≡ built old.order (parts.opened m n ∷ old.standing) → Opens Built canon_stands m n old new
+opened m n old new is start ls l at k = (
+  ap (λ (x : Built). x.order) is ∙ at.0,
+  ap (λ (x : Built). x.standing) is ∙ ap₂ (λ (c : parts.Open) (os : List parts.Open). c ∷ os) (sym (level-opened start.order m n l k)) at.1,
+)
+
+-- one without a length has no more to come
+full-endless : (start g : Built) (d : ℕ) (ls : List Level) (l : Level) (s : Spelling) → canon_stands start g (item_due (l ∷ ls)) → AreLevels d (l ∷ ls) → IsEndedAs l s → Fills d ls s → canon_stands start g (item_full ls s)
+full-endless start g d ls (some_member done) (array w ss) at levels ended k =
+    let e = d - suc (length ls) in (
+      at.0,
+      (
+        suc e,
+        _,
+        full-array start.order (suc e) e w ss (spellings_count done) (canonical_all start.order (values_of done)) (ap spellings_count (sym ended)) (ap (λ (x : Spellings). canonical_all start.order (values_of x)) (sym ended))
+            (subst (AreTaken e) (sym ended) levels.1) k.spelled.0 (omega arith),
+        at.1,
+      ),
+    )
+full-endless start g d ls (some_key done) (a_map w es) at levels ended k =
+    let e = d - suc (length ls) in
+    let short = k.short in (
+      at.0,
+      (
+        suc e,
+        _,
+        full-map start.order (suc e) e w es (canonical_entries start.order (entries_of done)) (ap (λ (x : SpelledEntries). canonical_entries start.order (entries_of x)) (sym ended))
+            (subst (ArePairsTaken e) (sym ended) levels.1) k.spelled.0 (omega arith)
+            (omega (arith, short, length-append (bytes_before ls) (spell (a_map w es)), pairs-shorter w es)),
+        at.1,
+      ),
+    )
+full-endless start g d ls l s at levels ended k = absurd ended
+
+stands-full : (start g : Built) (d : ℕ) (ls : List Level) (s : Spelling) → Fills d ls s → StandsFull Built canon_stands d start g ls s → canon_stands start g (item_full ls s)
+stands-full start g d ls s k (inl at) = at
+stands-full start g d ls s k (inr (l, ended, levels, at)) = full-endless start g d ls l s at levels ended k
+
+pub in-container : (g : Built) → IsContainerFull Built canon_stands g → IsInContainer g.standing
+in-container g (start, d, ls, s, k, full) = let at = stands-full start g d ls s k full in subst IsInContainer (sym at.1.3) (go at.1.1 at.1.2.container ls)
+  where
+    go : (c : parts.Open) → ((other : parts.Open) (os : List parts.Open) → IsInContainer (c ∷ other ∷ os)) → (ms : List Level) → IsInContainer (c ∷ opens start.order ms)
+    go c inside [] = inside (parts.plain []) []
+    go c inside (l ∷ ms) = inside (level_open start.order l) (opens start.order ms)
+
+pub ended : (old new : Built) → HasDistinctKeysSoFar old.standing → new ≡ built old.order (parts.close old.order old.standing) → Ends Built canon_stands old new
+ended old new distinct is start d ls s k stood =
+    let at = stands-full start old d ls s k stood in
+    let full = at.1.2 in
+    let clean = full.clean (subst HasDistinctKeysSoFar at.1.3 distinct) in (
+      clean,
+      settles start new d ls s (record { levels = k.levels; taken = record { spelled = k.spelled; within = k.within; clean = clean }; short = k.short }) (ap (λ (x : Built). x.order) is ∙ at.0)
+          (ap (λ (x : Built). x.standing) is ∙ ap₂ (λ (o : KeyOrder) (os : List parts.Open). parts.close o os) at.0 at.1.3 ∙ ap (λ (x : List ℕ). parts.give x (opens start.order ls)) full.canonical_is),
+    )
+
+pub ends-if : {E : Type 0} (r : Result Bool E) (old new : Built) → IfOk r (λ d. IsTrue d ↔ HasDistinctKeysSoFar old.standing) → IfOk r (λ d. IsTrue d → new ≡ built old.order (parts.close old.order old.standing))
+    → IfOk r (λ d. IsTrue d → Ends Built canon_stands old new)
+ends-if (Ok d) old new x y = λ yes. ended old new (x.0 yes) (y yes)
+ends-if (Err e) old new x y = tt
+
+-- ---- strings in chunks
+
+string-opens : (t : Bool) → parts.opened (string_major t) 0 ≡ parts.a_string (string_major t) []
+string-opens true = refl
+string-opens false = refl
+
+pub begins : (t : Bool) (old new : Built) → new ≡ built old.order (parts.opened (string_major t) 0 ∷ old.standing) → BeginsString Built canon_stands canon_holds t old new
+begins t old new is start ls at = (
+  ap (λ (x : Built). x.order) is ∙ at.0,
+  ap (λ (x : Built). x.standing) is ∙ ap₂ (λ (c : parts.Open) (os : List parts.Open). c ∷ os) (string-opens t) at.1,
+)
+
+pub in-string : (t : Bool) (g : Built) → IsChunkDue Built canon_holds t g → IsInString g.standing
+in-string t g (start, ls, content, at) = subst IsInString (sym at.1) (go ls)
+  where
+    go : (ls : List Level) → IsInString (parts.a_string (string_major t) content ∷ opens start.order ls)
+    go [] = tt
+    go (l ∷ ls) = tt
+
+pub grows : (t : Bool) (x : List ℕ) (old new : Built) → new ≡ built old.order (parts.extended x old.standing) → GrowsString Built canon_holds t x old new
+grows t x old new is start ls content at = (
+  ap (λ (y : Built). y.order) is ∙ at.0,
+  ap (λ (y : Built). y.standing) is ∙ ap (parts.extended x) at.1,
+)
+
+pub string-ended : (t : Bool) (old new : Built) → new ≡ built old.order (parts.close old.order old.standing) → EndsString Built canon_stands canon_holds t old new
+string-ended t old new is start d ls content s at k e =
+    settles start new d ls s k (ap (λ (x : Built). x.order) is ∙ at.0)
+    (ap (λ (x : Built). x.standing) is ∙ ap₂ (λ (o : KeyOrder) (os : List parts.Open). parts.close o os) at.0 at.1
+    ∙ ap (λ (x : List ℕ). parts.give x (opens start.order ls)) (sym (string-bytes start.order t content) ∙ ap (canonical start.order) (sym e)))

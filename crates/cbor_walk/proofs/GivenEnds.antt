@@ -1,0 +1,197 @@
+-- A valid item, given to a sink: what an item's end makes of the open containers, and the break.
+use Rattle.std.proofs.Common.{◌≡◌, ℕ, zero, suc, ◌-◌, ◌^◌, ◌<◌, ◌≤◌, true, false, Some, None, List, [], ◌∷◌, ◌++◌, length, map, refl, sym, ap, ap₂, ◌∙◌, subst, arith, inl, inr, append_assoc}
+use Rattle.std.proofs.lemmas.List.{length-append}
+use Rattle.cbor_head.specs.Canonical.{canonical}
+use Rattle.cbor_head.specs.Head.{head}
+use Rattle.cbor_head.specs.Spelling.{Spelling, array, a_map, tag, no_spellings, a_spelling, no_entries, entry, spell, spell_all, spell_entries, value_of, IsSpelled, depth}
+use Rattle.cbor_head.specs.declared.major.Major.TheVariants as majors
+use Rattle.cbor_head.specs.declared.order.KeyOrder.TheVariants.{Bytewise}
+use Rattle.cbor_head.specs.declared.width.Width.TheVariants.{Indefinite}
+use Rattle.cbor_builder.specs.Parts as parts
+use Rattle.cbor_judging.proofs.Given.{settled}
+use Rattle.cbor_judging.proofs.Levels.{spelled-all, within-all, pairs-spelled, pairs-within}
+use Rattle.cbor_judging.specs.Frame.{with_all, with_entries}
+use Rattle.cbor_judging.specs.Given.{opens, StandsAt}
+use Rattle.cbor_judging.specs.Levels.{IsTaken, Level, a_member, a_key, a_value, some_member, some_key, some_value, tagged, frame, AreLevels, bytes_before, Standing, item_due, item_full, settle}
+use Rattle.cbor_judging.specs.Place.{close}
+use Rattle.cbor_walk.specs.Sink.{IsEndedAs}
+use Rattle.cbor_walk.specs.inner.Building.{counted, cell_of, cells_of, after, IsDue, HasEnded, IsToEnd, HasFilled}
+use Rattle.cbor_walk.specs.declared.level.Due.TheVariants.{Item, Value}
+use Rattle.cbor_walk.specs.declared.open.Open.{Open}
+use Rattle.cbor_walk.proofs.GivenParts.{cells-count}
+
+some-is : (x y : Open) → Some x ≡ Some y → x ≡ y
+some-is x y e = cc
+
+module _ (S : Type 0) (stands : S → S → Standing → Type 0) (start : S) (d : ℕ) (input : List ℕ) where
+  -- ---- behind an item
+
+  module _ (c : Open) (cs : List Open) (g : S) (rest : List ℕ) (h : HasEnded S stands start d input (c ∷ cs) g rest) where
+    short : (ls : List Level) → input ≡ (bytes_before ls ++ spell h.item) ++ rest → length (bytes_before ls ++ spell h.item) < 2 ^ 64
+    short ls e = let small = h.small in omega (arith, small, ap length e, length-append (bytes_before ls ++ spell h.item) rest)
+
+    -- the head and the tail of the cells
+    cell-is : (l : Level) (ls : List Level) → c ∷ cs ≡ cells_of (l ∷ ls) → c ≡ cell_of l
+    cell-is l ls e = cc
+
+    cells-are : (l : Level) (ls : List Level) → c ∷ cs ≡ cells_of (l ∷ ls) → cs ≡ cells_of ls
+    cells-are l ls e = cc
+
+    no-more : (x : Open) → None ≡ Some x → ⊥
+    no-more x e = cc
+
+    abbrev levels-with : List Level → Type 0
+    levels-with ls = AreLevels d ls × IsTaken (d - length ls) h.item × (c ∷ cs ≡ cells_of ls) × stands start g (settle ls h.item) × (input ≡ (bytes_before ls ++ spell h.item) ++ rest)
+
+    -- what the builder of canonical bytes would hold, of which the containers and the bytes are wanted here
+    settle-here : (ls : List Level) → levels-with ls → StandsAt Bytewise d (bytes_before ls ++ spell h.item) (close (map frame ls)) (parts.give (canonical Bytewise (value_of h.item)) (opens Bytewise ls)) (length ls) (settle ls h.item)
+    settle-here ls k = settled Bytewise d ls h.item k.0 k.1 (short ls k.4)
+
+    -- another item is due
+    goes-on : (new : Open) (l : Level) (ls : List Level) (m : Level) → levels-with (l ∷ ls) → after (cell_of l) ≡ Some new → after (cell_of l) ≡ Some (cell_of m)
+        → AreLevels d (m ∷ ls) → bytes_before (l ∷ ls) ++ spell h.item ≡ bytes_before (m ∷ ls) → stands start g (item_due (m ∷ ls)) → IsDue S stands start d input (new ∷ cs) g rest
+    goes-on new l ls m k e f levels same given = record {
+      ls = m ∷ ls;
+      levels = levels;
+      cells = ap₂ (λ (x : Open) (xs : List Open). x ∷ xs) (some-is new (cell_of m) (sym e ∙ f)) (cells-are l ls k.2);
+      given = given;
+      bytes = k.4 ∙ ap (λ (x : List ℕ). x ++ rest) same;
+      small = h.small;
+    }
+
+    pub goes : (new : Open) → after c ≡ Some new → IsDue S stands start d input (new ∷ cs) g rest
+    goes new e = go h.ls (h.levels, h.taken, h.cells, h.given, h.bytes)
+      where
+        on : (l : Level) (ls : List Level) (k : levels-with (l ∷ ls)) → after (cell_of l) ≡ Some new
+        on l ls k = ap after (sym (cell-is l ls k.2)) ∙ e
+
+        go : (ls : List Level) → levels-with ls → IsDue S stands start d input (new ∷ cs) g rest
+        go [] k = let same : c ≡ counted Item 0 = cc in absurd (no-more new (ap after (sym same) ∙ e))
+        go (a_member w zero done ∷ ls) k = absurd (no-more new (on (a_member w zero done) ls k))
+        go (a_member w (suc n) done ∷ ls) k =
+            let l = a_member w (suc n) done in
+            let st = settle-here (l ∷ ls) k in
+            goes-on new l ls (a_member w n (with_all done (a_spelling h.item no_spellings))) k (on l ls k) refl st.0 st.1 k.3
+        go (some_member done ∷ ls) k =
+            let l = some_member done in
+            let st = settle-here (l ∷ ls) k in
+            goes-on new l ls (some_member (with_all done (a_spelling h.item no_spellings))) k (on l ls k) refl st.0 st.1 k.3
+        go (a_key w n done ∷ ls) k =
+            let l = a_key w n done in
+            let st = settle-here (l ∷ ls) k in
+            goes-on new l ls (a_value w n done h.item) k (on l ls k) refl st.0 st.1 k.3
+        go (some_key done ∷ ls) k =
+            let l = some_key done in
+            let st = settle-here (l ∷ ls) k in
+            goes-on new l ls (some_value done h.item) k (on l ls k) refl st.0 st.1 k.3
+        go (a_value w zero done key ∷ ls) k = absurd (no-more new (on (a_value w zero done key) ls k))
+        go (a_value w (suc n) done key ∷ ls) k =
+            let l = a_value w (suc n) done key in
+            let st = settle-here (l ∷ ls) k in
+            goes-on new l ls (a_key w n (with_entries done (entry key h.item no_entries))) k (on l ls k) refl st.0 st.1 k.3
+        go (some_value done key ∷ ls) k =
+            let l = some_value done key in
+            let st = settle-here (l ∷ ls) k in
+            goes-on new l ls (some_key (with_entries done (entry key h.item no_entries))) k (on l ls k) refl st.0 st.1 k.3
+        go (tagged w n ∷ ls) k = absurd (no-more new (on (tagged w n) ls k))
+
+    filled : (cs : List Open) (ls : List Level) → cs ≡ cells_of ls → IsToEnd S stands start d input cs g rest → HasFilled S stands start d input cs g rest
+    filled [] ls e t = absurd (omega (arith, ap length e, cells-count ls))
+    filled (x ∷ xs) ls e t = t
+
+    -- nothing is due in it
+    fills : (l : Level) (ls : List Level) → levels-with (l ∷ ls) → (item : Spelling) → AreLevels d ls → bytes_before (l ∷ ls) ++ spell h.item ≡ bytes_before ls ++ spell item
+        → IsSpelled item → depth item ≤ d - length ls → stands start g (item_full ls item) → HasFilled S stands start d input cs g rest
+    fills l ls k item levels same spelled within given = filled cs ls (cells-are l ls k.2) (record {
+      ls = ls;
+      item = item;
+      levels = levels;
+      spelled = spelled;
+      within = within;
+      cells = cells-are l ls k.2;
+      given = inl given;
+      bytes = k.4 ∙ ap (λ (x : List ℕ). x ++ rest) same;
+      small = h.small;
+    })
+
+    pub is-full : after c ≡ None → HasFilled S stands start d input cs g rest
+    is-full e = go h.ls (h.levels, h.taken, h.cells, h.given, h.bytes)
+      where
+        on : (l : Level) (ls : List Level) (k : levels-with (l ∷ ls)) → after (cell_of l) ≡ None
+        on l ls k = ap after (sym (cell-is l ls k.2)) ∙ e
+
+        go : (ls : List Level) → levels-with ls → HasFilled S stands start d input cs g rest
+        go [] k =
+            let none : cs ≡ [] = cc in
+            let low : d - 0 ≡ d = omega arith in
+            subst (λ (x : List Open). HasFilled S stands start d input x g rest) (sym none) (record { item = h.item; taken = subst (λ (n : ℕ). IsTaken n h.item) low k.1; given = k.3; bytes = k.4 })
+        go (a_member w zero done ∷ ls) k =
+            let l = a_member w zero done in
+            let st = settle-here (l ∷ ls) k in
+            fills l ls k (array w (with_all done (a_spelling h.item no_spellings))) st.0 st.1 st.3.1.spelled st.3.1.within k.3
+        go (a_value w zero done key ∷ ls) k =
+            let l = a_value w zero done key in
+            let st = settle-here (l ∷ ls) k in
+            fills l ls k (a_map w (with_entries done (entry key h.item no_entries))) st.0 st.1 st.3.1.spelled st.3.1.within k.3
+        go (tagged w n ∷ ls) k =
+            let l = tagged w n in
+            let st = settle-here (l ∷ ls) k in
+            fills l ls k (tag w n h.item) st.0 st.1 st.3.1.spelled st.3.1.within k.3
+        go (a_member w (suc n) done ∷ ls) k = absurd (cc (on (a_member w (suc n) done) ls k))
+        go (some_member done ∷ ls) k = absurd (cc (on (some_member done) ls k))
+        go (a_key w n done ∷ ls) k = absurd (cc (on (a_key w n done) ls k))
+        go (some_key done ∷ ls) k = absurd (cc (on (some_key done) ls k))
+        go (a_value w (suc n) done key ∷ ls) k = absurd (cc (on (a_value w (suc n) done key) ls k))
+        go (some_value done key ∷ ls) k = absurd (cc (on (some_value done key) ls k))
+
+  -- ---- a break
+
+  module _ (c : Open) (cs : List Open) (g : S) (behind : List ℕ) (s : IsDue S stands start d input (c ∷ cs) g (0xff ∷ behind)) (open_ended : c.is_endless ≡ true) where
+    -- a container is open
+    pub break-inside : 0 < length cs
+    break-inside = go s.ls s.cells
+      where
+        go : (ls : List Level) → c ∷ cs ≡ cells_of ls → 0 < length cs
+        go [] e = let same : c ≡ counted Item 0 = cc in let f : false ≡ true = ap (λ (x : Open). x.is_endless) (sym same) ∙ open_ended in absurd (cc f)
+        go (l ∷ ls) e = omega (arith, ap length e, cells-count ls)
+
+    -- and it is whole
+    pub break-ends : (c.due ≡ Value → ⊥) → IsToEnd S stands start d input cs g behind
+    break-ends no_value = go s.ls s.levels s.cells s.given s.bytes
+      where
+        flag : (l : Level) (ls : List Level) → c ∷ cs ≡ cells_of (l ∷ ls) → (cell_of l).is_endless ≡ true
+        flag l ls e = let same : c ≡ cell_of l = cc in ap (λ (x : Open). x.is_endless) (sym same) ∙ open_ended
+
+        regroup : (ls : List Level) (xs : List ℕ) → input ≡ (bytes_before ls ++ xs) ++ 0xff ∷ behind → input ≡ (bytes_before ls ++ (xs ++ (0xff ∷ []))) ++ behind
+        regroup ls xs e = e ∙ sym (append_assoc (bytes_before ls ++ xs) (0xff ∷ []) behind) ∙ ap (λ (x : List ℕ). x ++ behind) (append_assoc (bytes_before ls) xs (0xff ∷ []))
+
+        tail-is : (l : Level) (ls : List Level) → c ∷ cs ≡ cells_of (l ∷ ls) → cs ≡ cells_of ls
+        tail-is l ls e = cc
+
+        ended : (l : Level) (ls : List Level) (item : Spelling) (xs : List ℕ) → spell item ≡ xs ++ (0xff ∷ []) → IsSpelled item → depth item ≤ d - length ls → AreLevels d (l ∷ ls) → c ∷ cs ≡ cells_of (l ∷ ls)
+            → input ≡ (bytes_before ls ++ xs) ++ 0xff ∷ behind → IsEndedAs l item → stands start g (item_due (l ∷ ls)) → IsToEnd S stands start d input cs g behind
+        ended l ls item xs is spelled within levels e b whole given = record {
+          ls = ls;
+          item = item;
+          levels = levels.2;
+          spelled = spelled;
+          within = within;
+          cells = tail-is l ls e;
+          given = inr (l, whole, levels, given);
+          bytes = regroup ls xs b ∙ ap (λ (x : List ℕ). (bytes_before ls ++ x) ++ behind) (sym is);
+          small = s.small;
+        }
+
+        go : (ls : List Level) → AreLevels d ls → c ∷ cs ≡ cells_of ls → stands start g (item_due ls) → input ≡ bytes_before ls ++ 0xff ∷ behind → IsToEnd S stands start d input cs g behind
+        go [] h e f b = let same : c ≡ counted Item 0 = cc in let x : false ≡ true = ap (λ (x : Open). x.is_endless) (sym same) ∙ open_ended in absurd (cc x)
+        go (some_member done ∷ ls) h e f b =
+            let room = h.0 in
+            ended (some_member done) ls (array Indefinite done) (head majors.Array Indefinite 0 ++ spell_all done) refl (tt, spelled-all (d - suc (length ls)) done h.1) (omega (arith, room, within-all (d - suc (length ls)) done h.1)) h e b refl f
+        go (some_key done ∷ ls) h e f b =
+            let room = h.0 in
+            ended (some_key done) ls (a_map Indefinite done) (head majors.Map Indefinite 0 ++ spell_entries done) refl (tt, pairs-spelled (d - suc (length ls)) done h.1) (omega (arith, room, pairs-within (d - suc (length ls)) done h.1)) h e b refl f
+        go (some_value done k ∷ ls) h e f b = let same : c ≡ cell_of (some_value done k) = cc in absurd (no_value (ap (λ (x : Open). x.due) same))
+        go (a_member w n done ∷ ls) h e f b = absurd (cc (flag (a_member w n done) ls e))
+        go (a_key w n done ∷ ls) h e f b = absurd (cc (flag (a_key w n done) ls e))
+        go (a_value w n done k ∷ ls) h e f b = absurd (cc (flag (a_value w n done k) ls e))
+        go (tagged w n ∷ ls) h e f b = absurd (cc (flag (tagged w n) ls e))

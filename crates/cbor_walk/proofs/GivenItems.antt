@@ -1,0 +1,170 @@
+-- The parts of a valid item, by their bytes: items without members, and the openers of containers.
+use Rattle.std.proofs.Common.{◌≡◌, ℕ, suc, ◌+◌, ◌-◌, ◌*◌, ◌%◌, ◌<◌, ◌≤◌, Bool, true, false, List, [], ◌∷◌, ◌++◌, length, take, drop, refl, sym, ap, ap₂, ◌∙◌, subst, arith, inl, inr, append_assoc, append-nil}
+use Rattle.std.specs.Prelude.{IsUtf8}
+use Rattle.std.proofs.lemmas.Bool.{cases_lt}
+use Rattle.std.proofs.lemmas.List.{length-append, length-take-le, take-append-drop}
+use Rattle.cbor_head.specs.Head.{Holds, IsSimple, head, major_number, shortest}
+use Rattle.cbor_head.specs.Spelling.{Spelling, unsigned, negative, bytes, text, simple, no_spellings, no_entries, spell, value_of}
+use Rattle.cbor_head.specs.Value.{Value, AreBytes}
+use Rattle.cbor_head.specs.declared.major.Major.{Major}
+use Rattle.cbor_head.specs.declared.major.Major.TheVariants as majors
+use Rattle.cbor_head.specs.declared.width.Width.{Width}
+use Rattle.cbor_builder.specs.Built.{IsLeaf, IsContainer}
+use Rattle.cbor_grammar.proofs.ReadLaws.{length_head}
+use Rattle.cbor_judging.proofs.ByteLists.{bytes_front}
+use Rattle.cbor_judging.specs.Levels.{IsTaken, a_member, a_key, some_member, some_key, tagged}
+use Rattle.cbor_judging.specs.Reading.{string_major, string_value}
+use Rattle.cbor_steps.specs.Whole.{IsArgument}
+use Rattle.cbor_walk.proofs.AnyItem.{low_bits, spells}
+use Rattle.cbor_walk.specs.Sink.{leaf_value}
+use Rattle.cbor_walk.specs.inner.Building.{counted, endless, IsHead, IsOpener, IsPayload, Counts}
+use Rattle.cbor_walk.specs.declared.level.Due.{Due}
+use Rattle.cbor_walk.specs.declared.level.Due.TheVariants.{Item, Key, Value as ItsValue}
+
+-- ---- items without members
+
+-- it is there, and has this value
+pub record IsScalar (rest behind : List ℕ) (v : Value) : Type 0 where
+  pub item : Spelling
+  pub taken : (d : ℕ) → IsTaken d item
+  pub is : rest ≡ spell item ++ behind
+  pub value_is : value_of item ≡ v
+
+pub scalar-head : (m : Major) (n : ℕ) (rest behind : List ℕ) → IsLeaf m → IsHead m n rest behind → IsScalar rest behind (leaf_value m n)
+scalar-head majors.Unsigned n rest behind l h = record {
+  item = unsigned h.width n;
+  taken = λ d. record { spelled = h.holds; within = omega arith; clean = λ at c x. cc x.0 };
+  is = h.is;
+  value_is = refl;
+}
+scalar-head majors.Negative n rest behind l h = record {
+  item = negative h.width n;
+  taken = λ d. record { spelled = h.holds; within = omega arith; clean = λ at c x. cc x.0 };
+  is = h.is;
+  value_is = refl;
+}
+scalar-head majors.Simple n rest behind l h = record {
+  item = simple n;
+  taken = λ d. record { spelled = (h.simple refl).0; within = omega arith; clean = λ at c x. x };
+  is = h.is ∙ ap (λ (w : Width). head majors.Simple w n ++ behind) (h.simple refl).1;
+  value_is = refl;
+}
+scalar-head majors.Bytes n rest behind l h = absurd l
+scalar-head majors.Text n rest behind l h = absurd l
+scalar-head majors.Array n rest behind l h = absurd l
+scalar-head majors.Map n rest behind l h = absurd l
+scalar-head majors.Tag n rest behind l h = absurd l
+
+-- the head of a string before its payload
+string-bytes : (m : Major) (n : ℕ) (rest behind : List ℕ) (h : IsHead m n rest behind) → n ≤ length behind → rest ≡ (head m h.width (length (take n behind)) ++ take n behind) ++ drop n behind
+string-bytes m n rest behind h inside =
+    h.is
+    ∙ ap₂ (λ (k : ℕ) (x : List ℕ). head m h.width k ++ x) (sym (length-take-le n behind inside)) (sym (take-append-drop n behind))
+    ∙ sym (append_assoc (head m h.width (length (take n behind))) (take n behind) (drop n behind))
+
+pub scalar-string : (t : Bool) (n size : ℕ) (rest behind : List ℕ) → IsHead (string_major t) n rest behind → IsPayload t n size behind → AreBytes behind
+    → IsScalar rest (drop size behind) (string_value t (take size behind))
+scalar-string t n size rest behind h p are =
+    subst (λ (k : ℕ). IsScalar rest (drop k behind) (string_value t (take k behind))) (sym p.all)
+    (go t h p.utf8 (length-take-le n behind p.inside) (bytes_front (take n behind) (drop n behind) (subst AreBytes (sym (take-append-drop n behind)) are)))
+  where
+    go : (t : Bool) (h : IsHead (string_major t) n rest behind) → (t ≡ true → IsUtf8 (take n behind)) → length (take n behind) ≡ n → AreBytes (take n behind)
+        → IsScalar rest (drop n behind) (string_value t (take n behind))
+    go false h u long small = record {
+      item = bytes h.width (take n behind);
+      taken = λ d. record { spelled = (subst (Holds h.width) (sym long) h.holds, small); within = omega arith; clean = λ at c x. cc x.0 };
+      is = string-bytes majors.Bytes n rest behind h p.inside;
+      value_is = refl;
+    }
+    go true h u long small = record {
+      item = text h.width (take n behind);
+      taken = λ d. record { spelled = (subst (Holds h.width) (sym long) h.holds, small); within = omega arith; clean = λ at c x. elim x [ inl y ↦ cc y.0 | inr y ↦ y.1 (u refl) ] };
+      is = string-bytes majors.Text n rest behind h p.inside;
+      value_is = refl;
+    }
+
+-- ---- openers
+
+from-none : (n : ℕ) → 0 < n → 0 + suc (n - 1) ≡ n
+from-none n some = omega (arith, some)
+
+head-some : (m : Major) (w : Width) (n : ℕ) (xs : List ℕ) → 0 < length (head m w n ++ xs)
+head-some m w n xs = omega (arith, length_head m w n, length-append (head m w n) xs)
+
+pub head-opens : (m : Major) (n : ℕ) (due : Due) (rest behind : List ℕ) → Counts m due → 0 < n → IsHead m n rest behind → IsOpener m n (counted due (n - 1)) rest behind
+head-opens majors.Array n Item rest behind k some h =
+    let e = from-none n some in
+    record {
+      level = a_member h.width (n - 1) no_spellings;
+      fresh = λ d. (subst (Holds h.width) (sym e) h.holds, tt);
+      cell = refl;
+      opened = refl;
+      some = head-some majors.Array h.width (0 + suc (n - 1)) [];
+      is = h.is ∙ ap (λ (x : List ℕ). x ++ behind) (ap (head majors.Array h.width) (sym e) ∙ sym (append-nil (head majors.Array h.width (0 + suc (n - 1)))));
+    }
+head-opens majors.Map n Key rest behind k some h =
+    let e = from-none n some in
+    record {
+      level = a_key h.width (n - 1) no_entries;
+      fresh = λ d. (subst (Holds h.width) (sym e) h.holds, tt);
+      cell = refl;
+      opened = refl;
+      some = head-some majors.Map h.width (0 + suc (n - 1)) [];
+      is = h.is ∙ ap (λ (x : List ℕ). x ++ behind) (ap (head majors.Map h.width) (sym e) ∙ sym (append-nil (head majors.Map h.width (0 + suc (n - 1)))));
+    }
+head-opens majors.Array n Key rest behind k some h = absurd k
+head-opens majors.Array n ItsValue rest behind k some h = absurd k
+head-opens majors.Map n Item rest behind k some h = absurd k
+head-opens majors.Map n ItsValue rest behind k some h = absurd k
+head-opens majors.Unsigned n due rest behind k some h = absurd k
+head-opens majors.Negative n due rest behind k some h = absurd k
+head-opens majors.Bytes n due rest behind k some h = absurd k
+head-opens majors.Text n due rest behind k some h = absurd k
+head-opens majors.Tag n due rest behind k some h = absurd k
+head-opens majors.Simple n due rest behind k some h = absurd k
+
+pub counts-container : (m : Major) (due : Due) → Counts m due → IsContainer m
+counts-container majors.Array due k = tt
+counts-container majors.Map due k = tt
+counts-container majors.Tag due k = tt
+counts-container majors.Unsigned due k = absurd k
+counts-container majors.Negative due k = absurd k
+counts-container majors.Bytes due k = absurd k
+counts-container majors.Text due k = absurd k
+counts-container majors.Simple due k = absurd k
+
+pub tag-opens : (n : ℕ) (rest behind : List ℕ) → IsHead majors.Tag n rest behind → IsOpener majors.Tag n (counted Item 0) rest behind
+tag-opens n rest behind h = record {
+  level = tagged h.width n;
+  fresh = λ d. h.holds;
+  cell = refl;
+  opened = refl;
+  some = subst (λ (x : List ℕ). 0 < length x) (append-nil (head majors.Tag h.width n)) (head-some majors.Tag h.width n []);
+  is = h.is;
+}
+
+pub array-opens : (behind : List ℕ) → IsOpener majors.Array 0 (endless Item) (0x9f ∷ behind) behind
+array-opens behind = record { level = some_member no_spellings; fresh = λ d. tt; cell = refl; opened = refl; some = omega arith; is = refl }
+
+pub map-opens : (behind : List ℕ) → IsOpener majors.Map 0 (endless Key) (0xbf ∷ behind) behind
+map-opens behind = record { level = some_key no_entries; fresh = λ d. tt; cell = refl; opened = refl; some = omega arith; is = refl }
+
+-- ---- a head, by its first byte
+
+pub head-here : (m : Major) (first : ℕ) (behind rest : List ℕ) (w : Width) (n : ℕ) → IsArgument (first % 32) behind w n rest → 32 * major_number m + first % 32 ≡ first → (m ≡ majors.Simple → IsSimple n × (w ≡ shortest n))
+    → (b : List ℕ) → b ≡ first ∷ behind → IsHead m n b rest
+head-here m first behind rest w n a e proper b is = record {
+  width = w;
+  holds = a.holds;
+  simple = proper;
+  is = is ∙ spells first behind (32 * major_number m) w n rest a e;
+}
+
+pub simple-here : (low : ℕ) (behind : List ℕ) (w : Width) (n : ℕ) (rest : List ℕ) → IsArgument low behind w n rest → low ≤ 24 → (low < 24 → n ≡ low) → (low ≡ 24 → (32 ≤ n) × (n < 256)) → IsSimple n × (w ≡ shortest n)
+simple-here low behind w n rest a l direct wide = (is-simple, low_bits low behind w n rest a l (λ e. (wide e).0))
+  where
+    is-simple : IsSimple n
+    is-simple = elim (cases_lt low 24) [
+      | inl k ↦ (omega (arith, direct k, k), λ m. absurd (omega (arith, direct k, k, m)))
+      | inr k ↦ ((wide (omega (arith, l, k))).1, λ m. (wide (omega (arith, l, k))).0)
+    ]

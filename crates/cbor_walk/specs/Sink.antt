@@ -1,0 +1,110 @@
+-- What a sink was given of a valid item, as a walk comes to its parts.
+use Rattle.std.specs.Prelude.{ℕ, ◌≡◌, ◌<◌, ◌≤◌, ◌-◌, ◌^◌, ◌⊎◌, ◌++◌, Bool, List, [], ◌∷◌, length}
+use Rattle.cbor_head.specs.Complaint.{plain}
+use Rattle.cbor_head.specs.Limits.{Bounds}
+use Rattle.cbor_head.specs.Spelling.{Spelling, array, a_map, no_spellings, no_entries, spell, value_of, IsSpelled, depth}
+use Rattle.cbor_head.specs.Value as value
+use Rattle.cbor_head.specs.Value.{Value}
+use Rattle.cbor_head.specs.declared.major.Major.{Major}
+use Rattle.cbor_head.specs.declared.major.Major.TheVariants.{Array, Map, Tag, Negative, Simple}
+use Rattle.cbor_judging.specs.Levels.{IsClean, IsTaken, Level, a_member, a_key, some_member, some_key, tagged, AreLevels, bytes_before, Standing, item_due, item_full, item_whole, settle}
+use Rattle.cbor_judging.specs.Reading.{string_value}
+use Rattle.cbor_judging.specs.Readers.{IsRead}
+
+-- ---- parts
+
+-- the value of an item that is its head
+abbrev pub leaf_value : Major → ℕ → Value
+leaf_value Negative n = value.negative n
+leaf_value Simple n = value.simple n
+leaf_value _ n = value.unsigned n
+
+-- a container of this type, of a tag with this number, before its first item
+abbrev pub IsOpened : Major → ℕ → Level → Type 0
+IsOpened Array n (a_member w left done) = done ≡ no_spellings
+IsOpened Array n (some_member done) = done ≡ no_spellings
+IsOpened Map n (a_key w left done) = done ≡ no_entries
+IsOpened Map n (some_key done) = done ≡ no_entries
+IsOpened Tag n (tagged w m) = m ≡ n
+IsOpened m n l = ⊥
+
+-- ---- what fits
+
+-- the containers are open within an item that is no longer than an input
+pub record AreOpenLevels (d : ℕ) (ls : List Level) : Type 0 where
+  pub levels : AreLevels d ls
+  pub short : length (bytes_before ls) < 2 ^ 63
+
+-- this item is complete in them
+pub record Completes (d : ℕ) (ls : List Level) (s : Spelling) : Type 0 where
+  pub levels : AreLevels d ls
+  pub taken : IsTaken (d - length ls) s
+  pub short : length (bytes_before ls ++ spell s) < 2 ^ 63
+
+-- this container has no more to come in them; it may have equal keys
+pub record Fills (d : ℕ) (ls : List Level) (s : Spelling) : Type 0 where
+  pub levels : AreLevels d ls
+  pub spelled : IsSpelled s
+  pub within : depth s ≤ d - length ls
+  pub short : length (bytes_before ls ++ spell s) < 2 ^ 63
+
+-- what a container without a length is where it ends, whether by a break or, before its first item, with a length of none
+abbrev pub IsEndedAs : Level → Spelling → Type 0
+IsEndedAs (some_member done) (array w ss) = ss ≡ done
+IsEndedAs (some_key done) (a_map w es) = es ≡ done
+IsEndedAs l s = ⊥
+
+-- ---- what is given, by the relation that says where a sink stands since its first state
+
+-- an item is due
+abbrev pub IsItemDue : (S : Type 0) → (S → S → Standing → Type 0) → S → Type 0
+IsItemDue S stands g = (start : S) × (d : ℕ) × (ls : List Level) × AreOpenLevels d ls × stands start g (item_due ls)
+
+-- an item of this value is given
+abbrev pub Gives : (S : Type 0) → (S → S → Standing → Type 0) → Value → S → S → Type 0
+Gives S stands v old new = (start : S) (d : ℕ) (ls : List Level) (s : Spelling) → stands start old (item_due ls) → Completes d ls s → value_of s ≡ v → stands start new (settle ls s)
+
+-- a container opens
+abbrev pub Opens : (S : Type 0) → (S → S → Standing → Type 0) → Major → ℕ → S → S → Type 0
+Opens S stands m n old new = (start : S) (ls : List Level) (l : Level) → stands start old (item_due ls) → IsOpened m n l → stands start new (item_due (l ∷ ls))
+
+-- this container has no more to come: its last item is given, or it has no length
+abbrev pub StandsFull : (S : Type 0) → (S → S → Standing → Type 0) → ℕ → S → S → List Level → Spelling → Type 0
+StandsFull S stands d start g ls s =
+    stands start g (item_full ls s) ⊎ ((l : Level) × IsEndedAs l s × AreLevels d (l ∷ ls) × stands start g (item_due (l ∷ ls)))
+
+-- a container is to end
+abbrev pub IsContainerFull : (S : Type 0) → (S → S → Standing → Type 0) → S → Type 0
+IsContainerFull S stands g = (start : S) × (d : ℕ) × (ls : List Level) × (s : Spelling) × Fills d ls s × StandsFull S stands d start g ls s
+
+-- it ends, and has no equal keys
+abbrev pub Ends : (S : Type 0) → (S → S → Standing → Type 0) → S → S → Type 0
+Ends S stands old new = (start : S) (d : ℕ) (ls : List Level) (s : Spelling) → Fills d ls s → StandsFull S stands d start old ls s → IsClean s × stands start new (settle ls s)
+
+-- ---- a string in chunks, by the relation that says of what it consists so far
+
+-- a string begins, of no chunks
+abbrev pub BeginsString : (S : Type 0) → (S → S → Standing → Type 0) → (S → S → List Level → Bool → List ℕ → Type 0) → Bool → S → S → Type 0
+BeginsString S stands holds is_text old new = (start : S) (ls : List Level) → stands start old (item_due ls) → holds start new ls is_text []
+
+-- a chunk is due in it
+abbrev pub IsChunkDue : (S : Type 0) → (S → S → List Level → Bool → List ℕ → Type 0) → Bool → S → Type 0
+IsChunkDue S holds is_text g = (start : S) × (ls : List Level) × (content : List ℕ) × holds start g ls is_text content
+
+-- it goes on
+abbrev pub GrowsString : (S : Type 0) → (S → S → List Level → Bool → List ℕ → Type 0) → Bool → List ℕ → S → S → Type 0
+GrowsString S holds is_text chunk old new =
+    (start : S) (ls : List Level) (content : List ℕ) → holds start old ls is_text content → holds start new ls is_text (content ++ chunk)
+
+-- it ends
+abbrev pub EndsString : (S : Type 0) → (S → S → Standing → Type 0) → (S → S → List Level → Bool → List ℕ → Type 0) → Bool → S → S → Type 0
+EndsString S stands holds is_text old new =
+    (start : S) (d : ℕ) (ls : List Level) (content : List ℕ) (s : Spelling)
+    → holds start old ls is_text content → Completes d ls s → value_of s ≡ string_value is_text content → stands start new (settle ls s)
+
+-- ---- the whole
+
+-- the item at the front of an input is accepted by the plain rules, has so many bytes, and all of it was given
+pub record IsGivenFront (given : Standing → Type 0) (limits : Bounds) (input : List ℕ) (size : ℕ) : Type 0 where
+  pub read : IsRead limits plain input size
+  pub whole : given (item_whole read.item)
