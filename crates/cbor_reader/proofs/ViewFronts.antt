@@ -1,15 +1,13 @@
 -- The value of an accepted item, and memory that was refused behind it.
-use Rattle.std.proofs.Common.{ℕ, ◌^◌, ◌≡◌, ◌<◌, ◌≤◌, List, [], ◌++◌, length, drop, refl, sym, ap, ◌∙◌, arith, subst, inl, inr, append-nil}
+use Rattle.std.proofs.Common.{ℕ, ◌^◌, ◌≡◌, ◌<◌, ◌≤◌, List, [], length, refl, sym, ap, ◌∙◌, arith, subst, inl, inr, append-nil}
 use Rattle.std.proofs.lemmas.Bool.{cases_lt}
-use Rattle.std.proofs.lemmas.List.{append_assoc, take-append-drop}
 use Rattle.cbor_head.specs.Complaint.{Rules, plain, Complaint, Complains}
 use Rattle.cbor_head.specs.Limits.{Bounds}
-use Rattle.cbor_head.specs.Spelling.{Spelling, spell, value_of}
+use Rattle.cbor_head.specs.Spelling.{Spelling, spell}
 use Rattle.cbor_head.specs.Value.{Value, IsInRange, IsValid, depth}
 use Rattle.cbor_head.specs.Verdict.{refusal, IsWithout}
 use Rattle.cbor_head.specs.declared.reason.Reason.TheVariants.{Memory}
 use Rattle.cbor_head.specs.declared.reason.Refusal.{Refusal}
-use Rattle.cbor_grammar.proofs.Accepted.{accepts_exactly}
 use Rattle.cbor_judging.specs.Readers.{IsRead, IsReadAs, IsUnread, of_memory}
 use Rattle.cbor_judging.proofs.FreeBefore.{front-free}
 use Rattle.cbor_reader.proofs.Headline.{front_range, front_valid, front_depth}

@@ -1,5 +1,5 @@
 -- A builder of views that is given the parts of an item: what it stands for behind each.
-use Rattle.std.proofs.Common.{◌≡◌, ℕ, Bool, true, List, [], ◌∷◌, ◌++◌, refl, sym, ap, ap₂, ◌∙◌, subst, inl, inr}
+use Rattle.std.proofs.Common.{◌≡◌, ℕ, Bool, true, List, ◌∷◌, ◌++◌, refl, sym, ap, ap₂, ◌∙◌, subst, inl, inr}
 use Rattle.std.specs.Prelude.{IsUtf8}
 use Rattle.std.proofs.lemmas.Str.{IsUtf8-append}
 use Rattle.cbor_builder.specs.Built.{Built}
@@ -8,7 +8,7 @@ use Rattle.cbor_head.specs.Value.{Value}
 use Rattle.cbor_head.specs.declared.major.Major.{Major}
 use Rattle.cbor_item.specs.OpenValues as parts
 use Rattle.cbor_item.specs.OpenValues.{OpenValue, an_array, give, close, TakesValue, MayEnd}
-use Rattle.cbor_judging.specs.Levels.{Level, some_member, some_key, settle}
+use Rattle.cbor_judging.specs.Levels.{Level, some_member, some_key}
 use Rattle.cbor_judging.specs.Reading.{string_value}
 use Rattle.cbor_reader.specs.declared.view_sink.ViewSink.{ViewSink}
 use Rattle.cbor_reader.specs.inner.TreeValues.{member_values, pair_values, level_value, level_values, full_value, IsContainer}
@@ -17,7 +17,7 @@ use Rattle.cbor_reader.proofs.TreeValues.{full-ends, levels-take, may-end, settl
 use Rattle.cbor_view.specs.Seen.{standing}
 use Rattle.cbor_walk.proofs.CanonGiven.{opened-cases}
 use Rattle.cbor_walk.specs.CanonSink.{canon_stands, canon_holds}
-use Rattle.cbor_walk.specs.Sink.{IsOpened, IsEndedAs, StandsFull, IsItemDue, IsChunkDue, IsContainerFull, Gives, Opens, Ends, GrowsString, EndsString}
+use Rattle.cbor_walk.specs.Sink.{IsEndedAs, StandsFull, IsItemDue, IsChunkDue, IsContainerFull, Gives, Opens, Ends, GrowsString, EndsString}
 
 -- ---- an item
 
