@@ -16,7 +16,7 @@ from proved import CRATES, ITEM, ROOT, behind, crates
 # The calls whose ways are shown: a crate that hands the call out is not named, since crates are split.
 CALLS = [
     "canonicalise", "check_valid", "check_canonical", "canonical_front", "same_meaning", "read_tree", "read_view", "read_strict", "Sequence::next",
-    "StrictReader::next", "Machine::step", "EventReader::next", "SliceEvents::next", "Tree::of", "encode",
+    "StrictReader::next", "Machine::step", "EventReader::next", "Tree::of", "encode",
     "CanonBuilder::end", "TreeBuilder::end", "diagnostic", "listing", "explain", "perform", "run",
 ]
 

@@ -7,7 +7,6 @@ ghost use Rattle.cbor_standing.specs.Steps.{Goes};
 mod reading;
 mod refused;
 mod saving;
-mod slicing;
 mod tables;
 mod text_check;
 

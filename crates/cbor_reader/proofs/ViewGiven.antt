@@ -6,6 +6,7 @@ use Rattle.cbor_builder.specs.Built.{Built}
 use Rattle.cbor_head.specs.Spelling.{Spelling, Spellings, SpelledEntries, array, a_map, value_of}
 use Rattle.cbor_head.specs.Value.{Value}
 use Rattle.cbor_head.specs.declared.major.Major.{Major}
+use Rattle.cbor_head.specs.declared.major.Major.TheVariants as majors
 use Rattle.cbor_item.specs.OpenValues as parts
 use Rattle.cbor_item.specs.OpenValues.{OpenValue, an_array, give, close, TakesValue, MayEnd}
 use Rattle.cbor_judging.specs.Levels.{Level, some_member, some_key}
@@ -15,9 +16,8 @@ use Rattle.cbor_reader.specs.inner.TreeValues.{member_values, pair_values, level
 use Rattle.cbor_reader.specs.inner.ViewSinks.{view_stands, view_holds}
 use Rattle.cbor_reader.proofs.TreeValues.{full-ends, levels-take, may-end, settles-right, values-given, values-ended}
 use Rattle.cbor_view.specs.Seen.{standing}
-use Rattle.cbor_walk.proofs.CanonGiven.{opened-cases}
 use Rattle.cbor_walk.specs.CanonSink.{canon_stands, canon_holds}
-use Rattle.cbor_walk.specs.Sink.{IsEndedAs, StandsFull, IsItemDue, IsChunkDue, IsContainerFull, Gives, Opens, Ends, GrowsString, EndsString}
+use Rattle.cbor_walk.specs.Sink.{IsOpened, IsEndedAs, StandsFull, IsItemDue, IsChunkDue, IsContainerFull, Gives, Opens, Ends, GrowsString, EndsString}
 
 -- ---- an item
 
@@ -33,10 +33,21 @@ given v old new keys views start d ls s at k e =
 
 -- ---- containers
 
+level-opened : (m : Major) (n : ℕ) (l : Level) → IsOpened m n l → level_value l ≡ parts.opened m n
+level-opened majors.Array n l (inl (w, left, e)) = ap level_value e
+level-opened majors.Array n l (inr e) = ap level_value e
+level-opened majors.Map n l (inl (w, left, e)) = ap level_value e
+level-opened majors.Map n l (inr e) = ap level_value e
+level-opened majors.Tag n l (w, e) = ap level_value e
+level-opened majors.Unsigned n l e = absurd e
+level-opened majors.Negative n l e = absurd e
+level-opened majors.Bytes n l e = absurd e
+level-opened majors.Text n l e = absurd e
+level-opened majors.Simple n l e = absurd e
+
 pub opened : (m : Major) (n : ℕ) (old new : ViewSink) → Opens Built canon_stands m n old.keys new.keys → standing new.views ≡ parts.opened m n ∷ standing old.views → Opens ViewSink view_stands m n old new
 opened m n old new keys views start ls l at k =
-    let is : level_value l ≡ parts.opened m n = opened-cases (λ m n l. level_value l ≡ parts.opened m n) (λ w left n. refl) (λ n. refl) (λ w left n. refl) (λ n. refl) (λ w n. refl) m n l k in
-    (keys start.keys ls l at.0 k, tt, views ∙ ap₂ (λ (c : OpenValue) (os : List OpenValue). c ∷ os) (sym is) at.2)
+    (keys start.keys ls l at.0 k, tt, views ∙ ap₂ (λ (c : OpenValue) (os : List OpenValue). c ∷ os) (sym (level-opened m n l k)) at.2)
 
 ended-as : (l : Level) (s : Spelling) → IsEndedAs l s → (level_value l ≡ full_value s) × IsContainer s
 ended-as (some_member done) (array w ss) e = (ap (λ (x : Spellings). an_array (member_values x)) (sym e), tt)

@@ -64,13 +64,15 @@ impl<'a> Sink<'a> for ViewSink<'a> {
     #[inline(always)]
     fn leaf(&mut self, major: Major, number: u64) -> Result<(), AllocError> {
         Sink::leaf(&mut self.keys, major, number)?;
-        self.views.leaf(leaf_view(major, number))
+        self.views.leaf(leaf_view(major, number))?;
+        Ok(())
     }
 
     #[inline(always)]
     fn string(&mut self, is_text: bool, front: &'a [u8], count: usize) -> Result<(), AllocError> {
         Sink::string(&mut self.keys, is_text, front, count)?;
-        self.views.leaf(string_view(is_text, &front[..count]))
+        self.views.leaf(string_view(is_text, &front[..count]))?;
+        Ok(())
     }
 
     fn begin_string(&mut self, is_text: bool) -> Result<(), AllocError> {
@@ -89,16 +91,18 @@ impl<'a> Sink<'a> for ViewSink<'a> {
         if is_text {
             // Each chunk was found to be UTF-8.
             let text = unsafe { str::from_utf8_unchecked(&self.joined) };
-            self.views.copied_text(text)
+            self.views.copied_text(text)?;
         } else {
-            self.views.copied_bytes(&self.joined)
+            self.views.copied_bytes(&self.joined)?;
         }
+        Ok(())
     }
 
     #[inline(always)]
     fn begin(&mut self, major: Major, number: u64) -> Result<(), AllocError> {
         Sink::begin(&mut self.keys, major, number)?;
-        self.views.begin(major, number)
+        self.views.begin(major, number)?;
+        Ok(())
     }
 
     #[inline(always)]

@@ -1,5 +1,5 @@
 -- A whole head, from where an item is due.
-use Rattle.std.proofs.Common.{◌≡◌, ℕ, zero, suc, ◌+◌, ◌-◌, ◌*◌, ◌/◌, ◌%◌, ◌^◌, ◌<◌, ◌≤◌, true, false, List, [], ◌∷◌, ◌++◌, length, take, refl, sym, ap, ◌∙◌, arith, append-nil, length-append}
+use Rattle.std.proofs.Common.{◌≡◌, ℕ, suc, ◌+◌, ◌-◌, ◌*◌, ◌/◌, ◌%◌, ◌^◌, ◌<◌, ◌≤◌, true, false, List, [], ◌∷◌, ◌++◌, length, take, refl, sym, ap, ◌∙◌, arith, append-nil, length-append}
 use Rattle.std.proofs.Math.Seq.{take-append_seam}
 use Rattle.std.specs.Int.{bytes_high_first}
 use Rattle.byteorder.specs.Numbers.{length-bytes_high_first}
@@ -12,7 +12,7 @@ use Rattle.cbor_automaton.specs.Trace.{Mark, a_head}
 use Rattle.cbor_automaton.specs.Automaton.{Frame, State, at_item, in_head, after, close, tail, numbered_tail, major_at, has_room, run, reached, telling}
 use Rattle.cbor_automaton.specs.Marks.{marks_of, IsDefinite, IsProper}
 use Rattle.cbor_steps.specs.State.{major_of}
-use Rattle.cbor_steps.specs.Whole.{IsArgument, IsArgumentLeft, IsEventRun, IsStringType}
+use Rattle.cbor_steps.specs.Whole.{IsArgument, IsArgumentLeft, IsEventRun}
 use Rattle.cbor_steps.specs.declared.opening.Numbered.{Numbered}
 use Rattle.cbor_steps.specs.declared.opening.Numbered.TheVariants as numbered
 use Rattle.cbor_automaton.specs.declared.event.EventKind.{EventKind}
@@ -51,17 +51,6 @@ spelled-head c behind w n rest m a e =
 
 one-mark : (d : ℕ) (q u : State) (m : Mark) (hs : List ℕ) → ((rest : List ℕ) → run d q (hs ++ rest) ≡ telling m (run d u rest)) → run d q hs ≡ reached u (m ∷ [])
 one-mark d q u m hs h = ap (run d q) (sym (append-nil hs)) ∙ h []
-
--- the types of strings by the high three bits
-pub string-at : (k : ℕ) → IsStringType (major_at k) → (1 < k) × (k < 4)
-string-at zero h = absurd h
-string-at (suc zero) h = absurd h
-string-at (suc (suc zero)) h = (omega arith, omega arith)
-string-at (suc (suc (suc zero))) h = (omega arith, omega arith)
-string-at (suc (suc (suc (suc zero)))) h = absurd h
-string-at (suc (suc (suc (suc (suc zero))))) h = absurd h
-string-at (suc (suc (suc (suc (suc (suc zero)))))) h = absurd h
-string-at (suc (suc (suc (suc (suc (suc (suc k))))))) h = absurd h
 
 -- a definite head of any type but 7
 pub numbered-run : (d : ℕ) (fs : List Frame) (xs : List ℕ) (c : ℕ) (behind : List ℕ) (w : Width) (n : ℕ) (rest : List ℕ) (kind : Numbered) (kind' : EventKind) (to : State)

@@ -2,7 +2,6 @@
 use Rattle.std.specs.Prelude.{◌≡◌, ℕ, ◌+◌, ◌-◌, ◌/◌, ◌%◌, ◌<◌, ◌≤◌, Bool, true, List, [], ◌∷◌, ◌++◌, length, take}
 use Rattle.cbor_head.specs.Head.{Holds, IsSimple, with_argument}
 use Rattle.cbor_head.specs.declared.major.Major.{Major}
-use Rattle.cbor_head.specs.declared.major.Major.TheVariants as majors
 use Rattle.cbor_head.specs.declared.width.Width.{Width}
 use Rattle.cbor_automaton.specs.Automaton.{Frame, State, in_head, after, mark, run, reached, has_room, major_at}
 use Rattle.cbor_automaton.specs.Marks.{marks_of, IsProper}
@@ -34,12 +33,6 @@ pub record IsHeadHere (d : ℕ) (fs : List Frame) (xs : List ℕ) (h : DefiniteH
 pub record IsEventRun (d : ℕ) (q u : State) (bs : List ℕ) (w : Width) (kind : EventKind) : Type 0 where
   pub ran : run d q bs ≡ reached u (marks_of w kind)
   pub proper : IsProper w kind
-
--- a type of strings
-abbrev pub IsStringType : Major → Type 0
-IsStringType majors.Bytes = Unit {0}
-IsStringType majors.Text = Unit {0}
-IsStringType m = ⊥
 
 -- the number of a simple value is that of one
 abbrev pub IsNumberOf : Token → ℕ → Type 0

@@ -6,8 +6,8 @@
 //! there, [`walk_whole`] a head or a payload that stands whole at the front; the other calls take
 //! one part of an item, of which the caller knows that it is due (RFC 8949, section 3).
 //!
-//! `cbor_machine` and `cbor_slices` are made of these, and a user calls those. A position and a
-//! nest by themselves are no item's: what bytes led to them is said by the machine's contracts.
+//! `cbor_machine` is made of these, and a user calls that. A position and a nest by themselves are
+//! no item's: what bytes led to them is said by the machine's contracts.
 #![tactic(auto)]
 
 mod frame;
@@ -24,6 +24,4 @@ pub use nest::{Due, Frames, Nest};
 pub use opening::Numbered;
 pub use position::{Position, has_room};
 pub use take_byte::long_at;
-pub use token::Token;
 pub use up_to_event::{Fronted, Walked, walk, walk_whole};
-pub use whole::{DefiniteHead, front_head, take_head, whole_piece};

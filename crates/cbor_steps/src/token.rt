@@ -7,10 +7,10 @@ ghost use Rattle.cbor_steps.specs.Whole.{IsNumberOf};
 use cbor_automaton::EventKind;
 use cbor_head::Simple;
 
-/// What comes next of an item: an event, the end, or a refusal. Its number, its width and its bytes
-/// stand beside it.
-#[derive(Clone, Copy, Debug, PartialEq, Eq)]
-pub enum Token {
+/// What stands whole in front of an item's rest: a definite head, or bytes of a payload. Its number
+/// and its width stand beside it.
+#[derive(Clone, Copy)]
+pub(crate) enum Token {
     /// An unsigned integer.
     Unsigned,
     /// A negative integer, by its argument: n stands for -1 - n.
@@ -31,25 +31,11 @@ pub enum Token {
     Piece,
     /// The head of a chunk of so many bytes.
     Chunk,
-    /// The head of a byte string of indefinite length.
-    IndefiniteBytes,
-    /// The head of a text string of indefinite length.
-    IndefiniteText,
-    /// The head of an array of indefinite length.
-    IndefiniteArray,
-    /// The head of a map of indefinite length.
-    IndefiniteMap,
-    /// The break.
-    Break,
-    /// The item is complete.
-    End,
-    /// The item is refused.
-    Refused,
 }
 
 /// The event that is told by this token, with this number.
 #[inline(always)]
-pub fn kind_by(token: Token, number: u64) -> EventKind
+pub(crate) fn kind_by(token: Token, number: u64) -> EventKind
     requires { IsNumberOf token number }
     ensures { result ≡ kind_of token number }
 {
@@ -64,10 +50,5 @@ pub fn kind_by(token: Token, number: u64) -> EventKind
         Token::Simple => EventKind::Simple(Simple::new(number as u8).unwrap()),
         Token::Piece => EventKind::Piece(number as usize),
         Token::Chunk => EventKind::Chunk(number),
-        Token::IndefiniteBytes => EventKind::Bytes(None),
-        Token::IndefiniteText => EventKind::Text(None),
-        Token::IndefiniteArray => EventKind::Array(None),
-        Token::IndefiniteMap => EventKind::Map(None),
-        Token::Break | Token::End | Token::Refused => EventKind::End,
     }
 }

@@ -13,8 +13,7 @@ ghost use Rattle.cbor_automaton.specs.Marks.{IsDefinite, IsProper};
 ghost use Rattle.cbor_steps.specs.State.{IsSettled};
 ghost use Rattle.cbor_steps.specs.Whole.{IsArgument, IsArgumentLeft, IsEventRun, IsNumberOf};
 ghost use Rattle.cbor_steps.specs.Whole.{IsFront, IsHeadHere, TellsFront, LeavesPiece};
-ghost use Rattle.cbor_steps.specs.Whole.{IsStringType};
-ghost use Rattle.cbor_steps.specs.Token.{IsEventToken, IsStringToken, kind_of};
+ghost use Rattle.cbor_steps.specs.Token.{kind_of};
 ghost use Rattle.cbor_steps.specs.declared.frame.TheConstants.{MOST_OPEN};
 ghost use Rattle.cbor_automaton.specs.Pieces.{piece_by};
 
@@ -122,7 +121,7 @@ pub fn whole_argument(left: u8, rest: &[u8]) -> Option<u64>
 
 /// What was taken from the front of a slice, and what it tells.
 #[derive(Clone, Copy)]
-pub struct Whole {
+pub(crate) struct Whole {
     pub used: usize,
     pub token: Token,
     pub width: Width,
@@ -136,8 +135,6 @@ fn told_of(kind: Numbered) -> Token
         → marks_of w (kind_of result n) ≡ a_head (major_of kind) w n ∷ [] }
     ensures proper { (w : width.Width) (n : ℕ)
         → IsDefinite w → IsProper w (kind_of result n) }
-    ensures token { IsEventToken result }
-    ensures string { IsStringToken result → IsStringType (major_of kind) }
     ensures number { (n : ℕ) → IsNumberOf result n }
     ensures once { (n : ℕ) → times (kind_of result n) ≡ 1 }
     ensures other { (n : ℕ) (kept from : List ℕ)
@@ -156,7 +153,7 @@ fn told_of(kind: Numbered) -> Token
 
 /// A definite head that an item may have, and how many bytes it takes.
 #[derive(Clone, Copy)]
-pub struct DefiniteHead {
+pub(crate) struct DefiniteHead {
     pub first: u8,
     pub used: usize,
     pub width: Width,
@@ -166,7 +163,7 @@ pub struct DefiniteHead {
 /// The definite head that stands whole at the front; none where there is none, or no item may
 /// have it there.
 #[inline(always)]
-pub fn front_head(depth: usize, nest: &Nest, rest: &[u8]) -> Option<DefiniteHead>
+pub(crate) fn front_head(depth: usize, nest: &Nest, rest: &[u8]) -> Option<DefiniteHead>
     ensures here { IfSome result (IsHeadHere depth (frames_of nest.now) rest.now) }
     ensures used { IfSome result (λ h. IsFront h.used rest.now) }
     ensures width { IfSome result (λ h. IsDefinite h.width) }
@@ -202,7 +199,7 @@ pub fn front_head(depth: usize, nest: &Nest, rest: &[u8]) -> Option<DefiniteHead
 
 /// It is taken. Answers what it tells.
 #[inline(always)]
-pub fn take_head(
+pub(crate) fn take_head(
     head: DefiniteHead,
     depth: usize,
     position: &mut Position,
@@ -219,11 +216,9 @@ pub fn take_head(
         (kind_of result head.number) }
     ensures settled { IsSettled nest.new position.new }
     ensures within { length nest.new ≤ depth }
-    ensures token { IsEventToken result }
     ensures proper { IsDefinite head.width → IsProper head.width (kind_of result head.number) }
     ensures number { (224 ≤ head.first → IsSimple head.number) → IsNumberOf result head.number }
     ensures once { times (kind_of result head.number) ≡ 1 }
-    ensures string { IsStringToken result → (64 ≤ head.first) × (head.first < 128) }
     ensures other { (kept from : List ℕ)
         → piece_by (kind_of result head.number) kept from ≡ kept }
 {
@@ -266,11 +261,9 @@ fn take_numbered(
         (kind_of result head.number) }
     ensures settled { IsSettled nest.new position.new }
     ensures within { length nest.new ≤ depth }
-    ensures token { IsEventToken result }
     ensures proper { IsDefinite head.width → IsProper head.width (kind_of result head.number) }
     ensures number { IsNumberOf result head.number }
     ensures once { times (kind_of result head.number) ≡ 1 }
-    ensures string { IsStringToken result → (64 ≤ head.first) × (head.first < 128) }
     ensures other { (kept from : List ℕ)
         → piece_by (kind_of result head.number) kept from ≡ kept }
 {
@@ -280,7 +273,7 @@ fn take_numbered(
 
 /// The same two in one.
 #[inline(always)]
-pub fn whole_head(
+pub(crate) fn whole_head(
     depth: usize,
     position: &mut Position,
     nest: &mut Nest,
@@ -295,7 +288,6 @@ pub fn whole_head(
     ensures settled { IfSome result (λ r. IsSettled nest.new position.new) }
     ensures within { length nest.new ≤ depth }
     ensures none { result ≡ None → (nest.new ≡ nest.old) × (position.new ≡ position.old) }
-    ensures token { IfSome result (λ r. IsEventToken r.token) }
     ensures number { IfSome result (λ r. IsNumberOf r.token r.number) }
     ensures once { IfSome result (λ r. times (kind_of r.token r.number) ≡ 1) }
     ensures other { IfSome result (λ r. LeavesPiece r) }
@@ -312,7 +304,7 @@ pub fn whole_head(
 
 /// How many bytes of a payload are there.
 #[inline(always)]
-pub fn whole_piece(
+pub(crate) fn whole_piece(
     chunk: bool,
     kind: Numbered,
     left: u64,

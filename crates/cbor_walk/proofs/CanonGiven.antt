@@ -24,11 +24,6 @@ use Rattle.cbor_judging.specs.Reading.{string_major, string_value}
 use Rattle.cbor_walk.specs.CanonSink.{canon_stands, canon_holds}
 use Rattle.cbor_walk.specs.Sink.{leaf_value, IsOpened, Completes, Fills, IsEndedAs, StandsFull, IsItemDue, Gives, Opens, IsContainerFull, Ends, BeginsString, IsChunkDue, GrowsString, EndsString}
 
--- what follows from a fact of a success
-pub on-ok : {T E : Type 0} (r : Result T E) (P Q : Type 0) → (P → Q) → OnOk r P → OnOk r Q
-on-ok (Ok x) P Q f h = f h
-on-ok (Err e) P Q f h = tt
-
 -- ---- the bytes of values
 
 pub leaf-bytes : (o : KeyOrder) (m : Major) (n : ℕ) → IsLeaf m → canonical o (leaf_value m n) ≡ shortest_head m n
@@ -79,20 +74,17 @@ given v out old new same is start d ls s at k e =
 
 -- ---- containers
 
--- whatever is true of each container before its first item
-pub opened-cases : (P : Major → ℕ → Level → Type 0)
-    → ((w : Width) (left n : ℕ) → P majors.Array n (a_member w left no_spellings)) → ((n : ℕ) → P majors.Array n (some_member no_spellings))
-    → ((w : Width) (left n : ℕ) → P majors.Map n (a_key w left no_entries)) → ((n : ℕ) → P majors.Map n (some_key no_entries))
-    → ((w : Width) (n : ℕ) → P majors.Tag n (tagged w n)) → (m : Major) (n : ℕ) (l : Level) → IsOpened m n l → P m n l
-opened-cases P p q r s t majors.Array n (a_member w left done) e = subst (λ (x : Spellings). P majors.Array n (a_member w left x)) (sym e) (p w left n)
-opened-cases P p q r s t majors.Array n (some_member done) e = subst (λ (x : Spellings). P majors.Array n (some_member x)) (sym e) (q n)
-opened-cases P p q r s t majors.Map n (a_key w left done) e = subst (λ (x : SpelledEntries). P majors.Map n (a_key w left x)) (sym e) (r w left n)
-opened-cases P p q r s t majors.Map n (some_key done) e = subst (λ (x : SpelledEntries). P majors.Map n (some_key x)) (sym e) (s n)
-opened-cases P p q r s t majors.Tag n (tagged w m) e = subst (λ (x : ℕ). P majors.Tag x (tagged w m)) e (t w m)
-opened-cases P p q r s t m n l e = absurd e
-
 level-opened : (o : KeyOrder) (m : Major) (n : ℕ) (l : Level) → IsOpened m n l → level_open o l ≡ parts.opened m n
-level-opened o = opened-cases (λ m n l. level_open o l ≡ parts.opened m n) (λ w left n. refl) (λ n. refl) (λ w left n. refl) (λ n. refl) (λ w n. refl)
+level-opened o majors.Array n l (inl (w, left, e)) = ap (level_open o) e
+level-opened o majors.Array n l (inr e) = ap (level_open o) e
+level-opened o majors.Map n l (inl (w, left, e)) = ap (level_open o) e
+level-opened o majors.Map n l (inr e) = ap (level_open o) e
+level-opened o majors.Tag n l (w, e) = ap (level_open o) e
+level-opened o majors.Unsigned n l e = absurd e
+level-opened o majors.Negative n l e = absurd e
+level-opened o majors.Bytes n l e = absurd e
+level-opened o majors.Text n l e = absurd e
+level-opened o majors.Simple n l e = absurd e
 
 pub opened : (m : Major) (n : ℕ) (old new : Built) → new ≡ built old.order (parts.opened m n ∷ old.standing) → Opens Built canon_stands m n old new
 opened m n old new is start ls l at k = (

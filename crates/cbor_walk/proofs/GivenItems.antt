@@ -98,7 +98,7 @@ head-opens majors.Array n Item rest behind k some h =
       level = a_member h.width (n - 1) no_spellings;
       fresh = λ d. (subst (Holds h.width) (sym e) h.holds, tt);
       cell = refl;
-      opened = refl;
+      opened = inl (h.width, n - 1, refl);
       some = head-some majors.Array h.width (0 + suc (n - 1)) [];
       is = h.is ∙ ap (λ (x : List ℕ). x ++ behind) (ap (head majors.Array h.width) (sym e) ∙ sym (append-nil (head majors.Array h.width (0 + suc (n - 1)))));
     }
@@ -108,7 +108,7 @@ head-opens majors.Map n Key rest behind k some h =
       level = a_key h.width (n - 1) no_entries;
       fresh = λ d. (subst (Holds h.width) (sym e) h.holds, tt);
       cell = refl;
-      opened = refl;
+      opened = inl (h.width, n - 1, refl);
       some = head-some majors.Map h.width (0 + suc (n - 1)) [];
       is = h.is ∙ ap (λ (x : List ℕ). x ++ behind) (ap (head majors.Map h.width) (sym e) ∙ sym (append-nil (head majors.Map h.width (0 + suc (n - 1)))));
     }
@@ -138,16 +138,16 @@ tag-opens n rest behind h = record {
   level = tagged h.width n;
   fresh = λ d. h.holds;
   cell = refl;
-  opened = refl;
+  opened = (h.width, refl);
   some = subst (λ (x : List ℕ). 0 < length x) (append-nil (head majors.Tag h.width n)) (head-some majors.Tag h.width n []);
   is = h.is;
 }
 
 pub array-opens : (behind : List ℕ) → IsOpener majors.Array 0 (endless Item) (0x9f ∷ behind) behind
-array-opens behind = record { level = some_member no_spellings; fresh = λ d. tt; cell = refl; opened = refl; some = omega arith; is = refl }
+array-opens behind = record { level = some_member no_spellings; fresh = λ d. tt; cell = refl; opened = inr refl; some = omega arith; is = refl }
 
 pub map-opens : (behind : List ℕ) → IsOpener majors.Map 0 (endless Key) (0xbf ∷ behind) behind
-map-opens behind = record { level = some_key no_entries; fresh = λ d. tt; cell = refl; opened = refl; some = omega arith; is = refl }
+map-opens behind = record { level = some_key no_entries; fresh = λ d. tt; cell = refl; opened = inr refl; some = omega arith; is = refl }
 
 -- ---- a head, by its first byte
 

@@ -146,14 +146,14 @@ module _ (S : Type 0) (stands : S → S → Standing → Type 0) where
           let w = h.width in
           let holds : Holds w 0 = subst (Holds w) none h.holds in
           let whole : spell (array w no_spellings) ≡ head majors.Array w n = array_bytes-whole w 0 no_spellings (closes w (is-definite w 0 holds)) refl ∙ append-nil (head majors.Array w 0) ∙ ap (head majors.Array w) (sym none) in
-          to-end (some_member no_spellings) (array w no_spellings) behind new (opens start s.ls (some_member no_spellings) s.given refl) (room, tt, s.levels) refl
+          to-end (some_member no_spellings) (array w no_spellings) behind new (opens start s.ls (some_member no_spellings) s.given (inr refl)) (room, tt, s.levels) refl
           (record { spelled = (open_or w 0 holds, tt); within = omega (arith, room); clean = λ at c x. elim x [ inl y ↦ no-count at majors.Array w 0 c y | inr y ↦ y ] })
           (h.is ∙ ap (λ (x : List ℕ). x ++ behind) (sym whole))
       empty-ends majors.Map Key n behind new room k none h opens =
           let w = h.width in
           let holds : Holds w 0 = subst (Holds w) none h.holds in
           let whole : spell (a_map w no_entries) ≡ head majors.Map w n = map_bytes-whole w 0 no_entries (closes w (is-definite w 0 holds)) refl ∙ append-nil (head majors.Map w 0) ∙ ap (head majors.Map w) (sym none) in
-          to-end (some_key no_entries) (a_map w no_entries) behind new (opens start s.ls (some_key no_entries) s.given refl) (room, tt, s.levels) refl
+          to-end (some_key no_entries) (a_map w no_entries) behind new (opens start s.ls (some_key no_entries) s.given (inr refl)) (room, tt, s.levels) refl
           (record { spelled = (open_or w 0 holds, tt); within = omega (arith, room); clean = λ at c x. elim x [ inl y ↦ no-count at majors.Map w 0 c y | inr y ↦ y ] })
           (h.is ∙ ap (λ (x : List ℕ). x ++ behind) (sym whole))
       empty-ends majors.Array Key n behind new room k none h opens = absurd k

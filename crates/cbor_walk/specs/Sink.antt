@@ -7,6 +7,7 @@ use Rattle.cbor_head.specs.Value as value
 use Rattle.cbor_head.specs.Value.{Value}
 use Rattle.cbor_head.specs.declared.major.Major.{Major}
 use Rattle.cbor_head.specs.declared.major.Major.TheVariants.{Array, Map, Tag, Negative, Simple}
+use Rattle.cbor_head.specs.declared.width.Width.{Width}
 use Rattle.cbor_judging.specs.Levels.{IsClean, IsTaken, Level, a_member, a_key, some_member, some_key, tagged, AreLevels, bytes_before, Standing, item_due, item_full, item_whole, settle}
 use Rattle.cbor_judging.specs.Reading.{string_value}
 use Rattle.cbor_judging.specs.Readers.{IsRead}
@@ -21,11 +22,9 @@ leaf_value _ n = value.unsigned n
 
 -- a container of this type, of a tag with this number, before its first item
 abbrev pub IsOpened : Major → ℕ → Level → Type 0
-IsOpened Array n (a_member w left done) = done ≡ no_spellings
-IsOpened Array n (some_member done) = done ≡ no_spellings
-IsOpened Map n (a_key w left done) = done ≡ no_entries
-IsOpened Map n (some_key done) = done ≡ no_entries
-IsOpened Tag n (tagged w m) = m ≡ n
+IsOpened Array n l = ((w : Width) × (left : ℕ) × (l ≡ a_member w left no_spellings)) ⊎ (l ≡ some_member no_spellings)
+IsOpened Map n l = ((w : Width) × (left : ℕ) × (l ≡ a_key w left no_entries)) ⊎ (l ≡ some_key no_entries)
+IsOpened Tag n l = (w : Width) × (l ≡ tagged w n)
 IsOpened m n l = ⊥
 
 -- ---- what fits

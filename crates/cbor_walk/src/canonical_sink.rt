@@ -16,12 +16,14 @@ impl<'a> Sink<'a> for CanonBuilder {
 
     #[inline(always)]
     fn leaf(&mut self, major: Major, number: u64) -> Result<(), AllocError> {
-        self.leaf(major, number)
+        self.leaf(major, number)?;
+        Ok(())
     }
 
     #[inline(always)]
     fn string(&mut self, is_text: bool, front: &'a [u8], count: usize) -> Result<(), AllocError> {
-        self.front_string(string_type(is_text), front, count)
+        self.front_string(string_type(is_text), front, count)?;
+        Ok(())
     }
 
     #[inline(always)]
@@ -36,12 +38,14 @@ impl<'a> Sink<'a> for CanonBuilder {
 
     #[inline(always)]
     fn end_string(&mut self, _is_text: bool) -> Result<(), AllocError> {
-        self.end_string()
+        self.end_string()?;
+        Ok(())
     }
 
     #[inline(always)]
     fn begin(&mut self, major: Major, number: u64) -> Result<(), AllocError> {
-        self.begin(major, number)
+        self.begin(major, number)?;
+        Ok(())
     }
 
     #[inline(always)]

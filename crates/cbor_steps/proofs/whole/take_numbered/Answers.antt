@@ -1,9 +1,9 @@
-use Rattle.std.proofs.Common.{ℕ, ◌∙◌, ◌/◌, take, ap, sym, subst, arith}
+use Rattle.std.proofs.Common.{ℕ, ◌∙◌, take, ap, sym, subst}
 use Rattle.cbor_automaton.specs.Automaton.{at_item, has_room}
 use Rattle.cbor_steps.specs.State.{frames_of, state_of}
-use Rattle.cbor_steps.specs.Whole.{IsEventRun, IsStringType}
+use Rattle.cbor_steps.specs.Whole.{IsEventRun}
 use Rattle.cbor_steps.specs.Token.{kind_of}
-use Rattle.cbor_steps.proofs.WholeHeads.{numbered-run, string-at}
+use Rattle.cbor_steps.proofs.WholeHeads.{numbered-run}
 use Rattle.cbor_steps.proofs.whole.take_numbered.Goals as goal
 
 pub enter-requires-clause-room : goal.enter-requires-clause-room
@@ -18,9 +18,3 @@ returns-clause-told c = λ from h.
 
 pub returns-clause-proper : goal.returns-clause-proper
 returns-clause-proper c = c.told_of.ensures.proper c.args.head.width c.args.head.number
-
-pub returns-clause-string : goal.returns-clause-string
-returns-clause-string c = λ is.
-    let s = string-at (c.args.head.first / 32) (subst IsStringType c.requires.kind (c.told_of.ensures.string is)) in
-    let low = s.0 in
-    let high = s.1 in (omega (arith, low), omega (arith, high))

@@ -1,4 +1,3 @@
-use Rattle.cbor_walk.proofs.CanonGiven.{on-ok}
 use Rattle.cbor_reader.proofs.ViewGiven.{takes, opened}
 use Rattle.cbor_reader.proofs.view_sink.ViewSinkSink.begin.Goals as goal
 
@@ -6,4 +5,5 @@ pub begin-requires-2-clause-takes : goal.begin-requires-2-clause-takes
 begin-requires-2-clause-takes c = takes c.args.self.now c.requires.due
 
 pub returns : goal.returns
-returns c = on-ok c.begin-2.result _ _ (opened c.args.major c.args.number c.args.self.now (record { keys = c.begin.new.self; views = c.begin-2.new.self; joined = c.args.self.now.joined }) c.in_ok-begin.ensures) c.begin-2.ensures
+returns c =
+    opened c.args.major c.args.number c.args.self.now (record { keys = c.begin.new.self; views = c.begin-2.new.self; joined = c.args.self.now.joined }) c.in_ok-begin.ensures c.in_ok-begin-2.ensures

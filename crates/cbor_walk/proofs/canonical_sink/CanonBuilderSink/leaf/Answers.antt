@@ -1,6 +1,6 @@
 use Rattle.cbor_head.specs.Head.{shortest_head}
 use Rattle.cbor_walk.specs.Sink.{leaf_value}
-use Rattle.cbor_walk.proofs.CanonGiven.{takes, on-ok, given, leaf-bytes}
+use Rattle.cbor_walk.proofs.CanonGiven.{takes, given, leaf-bytes}
 use Rattle.cbor_walk.proofs.canonical_sink.CanonBuilderSink.leaf.Goals as goal
 
 pub leaf-requires-clause-takes : goal.leaf-requires-clause-takes
@@ -8,6 +8,5 @@ leaf-requires-clause-takes c = takes c.args.self.now c.requires.due
 
 pub returns : goal.returns
 returns c =
-    on-ok c.leaf.result _ _
-    (given (leaf_value c.args.major c.args.number) (shortest_head c.args.major c.args.number) c.args.self.now c.leaf.new.self (λ o. leaf-bytes o c.args.major c.args.number c.requires.kind))
-    c.leaf.ensures
+    given (leaf_value c.args.major c.args.number) (shortest_head c.args.major c.args.number) c.args.self.now c.leaf.new.self (λ o. leaf-bytes o c.args.major c.args.number c.requires.kind)
+    c.in_ok-leaf.ensures
