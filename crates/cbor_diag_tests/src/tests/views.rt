@@ -60,7 +60,10 @@ fn views_are_shown_with_a_member_a_line(rt: HostRuntime) -> Result<(), Fail> {
     let (view, _) = read_view(alloc, input, limits, &arena)?;
     let mut shown = Vec::new(alloc);
     let want = b"{\n  \"a\": 1,\n  \"b\": [\n    2,\n    3\n  ]\n}";
-    assert_eq!(rt; diagnostic_view_indented(&view, &mut shown), Ok(want.len() as u64));
+    assert_eq!(rt;
+        diagnostic_view_indented(&view, &mut shown),
+        Ok(want.len() as u64)
+    );
     assert_eq!(rt; shown.as_slice(), want.as_slice());
     Ok(())
 }
