@@ -116,11 +116,15 @@ pub(crate) fn put_text<W: Write>(
     out.put(writer, b"\"")
 }
 
-// Whether a byte of a text stands as it is.
+// Whether a byte of a text stands as it is. Small letters are known by the first comparison.
 fn is_raw(byte: u8) -> bool
     ensures { IsTrue result ↔ (escaped byte ≡ byte ∷ []) }
 {
-    byte >= 0x20 && byte != b'"' && byte != b'\\' && byte != 0x7f
+    if byte > b'\\' {
+        byte != 0x7f
+    } else {
+        byte >= 0x20 && byte != b'"' && byte != b'\\'
+    }
 }
 
 // A byte that doesn't stand as it is.
