@@ -30,6 +30,7 @@ pub(crate) fn put_number<W: Write>(
 }
 
 // The number -1 - n.
+#[inline(never)]
 pub(crate) fn put_negative<W: Write>(
     n: u64,
     out: &mut Outbox,
@@ -63,6 +64,7 @@ pub(crate) fn put_simple<W: Write>(
     }
 }
 
+#[inline(never)]
 pub(crate) fn put_bytes<W: Write>(
     bytes: &[u8],
     out: &mut Outbox,
@@ -128,6 +130,7 @@ fn is_raw(byte: u8) -> bool
 }
 
 // A byte that doesn't stand as it is.
+#[inline(never)]
 fn put_escape<W: Write>(byte: u8, out: &mut Outbox, writer: &mut W) -> Result<(), Refusal>
     requires { escaped byte ≢ byte ∷ [] }
     ensures { Puts (W.contents writer.old) (W.contents writer.new) out.old out.new

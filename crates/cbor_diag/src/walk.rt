@@ -64,6 +64,7 @@ pub(crate) fn put_item<N: Node, W: Write>(
 }
 
 // Puts an item that holds no other, or the front of one that does, which is then open.
+#[inline(always)]
 fn begin<'a, N: Node, W: Write>(
     item: &'a N,
     layout: Layout,
