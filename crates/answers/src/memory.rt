@@ -4,7 +4,7 @@ use crate::writing::{put_hex, put_refusal};
 use cbor_builder::CanonBuilder;
 use cbor_head::{KeyOrder, Limits, Major};
 use cbor_item::{Tree, encode, encode_to, same};
-use cbor_reader::{Sequence, Side, StrictReader, same_meaning, whole_tree};
+use cbor_reader::{Sequence, Side, StrictReader, read_tree, same_meaning};
 use std::alloc::{AllocError, Global};
 use std::io::{self, ErrorKind, Write};
 
@@ -19,8 +19,8 @@ pub(crate) fn answer_memory<W: Write>(
     idle: u32,
     out: &mut W,
 ) -> io::Result<()> {
-    let tree = whole_tree(alloc, bytes, limits).map_err(|_| refused())?;
-    let twin = whole_tree(alloc, bytes, limits).map_err(|_| refused())?;
+    let tree = tree_of(alloc, bytes, limits)?;
+    let twin = tree_of(alloc, bytes, limits)?;
     call_idle(alloc, bytes, limits, &twin, idle);
     let tree = if idle > 0 {
         Tree::from_valid(tree.into_item())
@@ -59,9 +59,12 @@ pub(crate) fn answer_memory<W: Write>(
     }
 }
 
-// The driver's own memory was refused.
-fn refused() -> io::Error {
-    io::Error::from(ErrorKind::OutOfMemory)
+// The tree of the bytes, unless the driver's own memory is refused.
+fn tree_of(alloc: Global, mut bytes: &[u8], limits: Limits) -> io::Result<Tree> {
+    match read_tree(alloc, &mut bytes, limits) {
+        Ok((tree, _)) => Ok(tree),
+        Err(_) => Err(io::Error::from(ErrorKind::OutOfMemory)),
+    }
 }
 
 // The calls that take no memory. The reader is asked behind the first events, so that it keeps what

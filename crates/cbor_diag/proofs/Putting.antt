@@ -103,11 +103,8 @@ pub where_err : {T E P : Type 0} (r : Result T E) (b : Bool) → b ≡ false →
 where_err (Ok x) b f e h = absurd (cc (sym f ∙ e))
 where_err (Err x) b f e h = h
 
-pub stops-as : (a b : Option (List ℕ)) (s t : Outbox) (xs : List ℕ) (e : Refusal) → t ≡ s → HasStopped a b t xs e → HasStopped a b s xs e
-stops-as a b s t xs e is p = subst (λ (o : Outbox). HasStopped a b o xs e) is p
-
-pub puts-as : (a b : Option (List ℕ)) (s t u : Outbox) (xs : List ℕ) → t ≡ s → HasPut a b t u xs → HasPut a b s u xs
-puts-as a b s t u xs is p = subst (λ (o : Outbox). HasPut a b o u xs) is p
+pub puts-from : (a b : Option (List ℕ)) (s t u : Outbox) (xs : List ℕ) (r : Result (Unit {0}) Refusal) → t ≡ s → Puts a b t u xs r → Puts a b s u xs r
+puts-from a b s t u xs r is p = subst (λ (o : Outbox). Puts a b o u xs r) is p
 
 -- ---- from nothing to the whole
 

@@ -2,3 +2,4 @@
 pub mod Layout
 pub mod Outbox
 pub mod Levels
+pub mod Nodes

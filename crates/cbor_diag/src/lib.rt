@@ -21,10 +21,11 @@ mod event_line;
 mod event_listing;
 pub mod laws;
 mod layout;
+mod node;
 mod outbox;
 mod pieces;
 mod text;
 mod walk;
 
 pub use event_listing::{listing, listing_from};
-pub use text::{diagnostic, diagnostic_indented};
+pub use text::{diagnostic, diagnostic_indented, diagnostic_view, diagnostic_view_indented};

@@ -37,6 +37,7 @@ impl Outbox {
     }
 
     // The bytes wait behind those that do, or go out after them.
+    #[inline(always)]
     pub(crate) fn put<W: Write>(&mut self, writer: &mut W, bytes: &[u8]) -> Result<(), Refusal>
         ensures { Puts (W.contents writer.old) (W.contents writer.new) self.old self.new
             bytes.now result }
@@ -44,6 +45,16 @@ impl Outbox {
         if self.waiting.try_extend_from_slice(bytes).is_ok() {
             return Ok(());
         }
+        self.make_room(writer, bytes)
+    }
+
+    // The same where they may not find room: what waits goes out first.
+    #[cold]
+    #[inline(never)]
+    fn make_room<W: Write>(&mut self, writer: &mut W, bytes: &[u8]) -> Result<(), Refusal>
+        ensures { Puts (W.contents writer.old) (W.contents writer.new) self.old self.new
+            bytes.now result }
+    {
         self.flush(writer)?;
         if self.waiting.try_extend_from_slice(bytes).is_ok() {
             return Ok(());

@@ -30,6 +30,7 @@ pub(crate) fn put_number<W: Write>(
 }
 
 // The number -1 - n.
+#[inline(never)]
 pub(crate) fn put_negative<W: Write>(
     n: u64,
     out: &mut Outbox,
@@ -63,6 +64,7 @@ pub(crate) fn put_simple<W: Write>(
     }
 }
 
+#[inline(never)]
 pub(crate) fn put_bytes<W: Write>(
     bytes: &[u8],
     out: &mut Outbox,
@@ -116,14 +118,19 @@ pub(crate) fn put_text<W: Write>(
     out.put(writer, b"\"")
 }
 
-// Whether a byte of a text stands as it is.
+// Whether a byte of a text stands as it is. Small letters are known by the first comparison.
 fn is_raw(byte: u8) -> bool
     ensures { IsTrue result ↔ (escaped byte ≡ byte ∷ []) }
 {
-    byte >= 0x20 && byte != b'"' && byte != b'\\' && byte != 0x7f
+    if byte > b'\\' {
+        byte != 0x7f
+    } else {
+        byte >= 0x20 && byte != b'"' && byte != b'\\'
+    }
 }
 
 // A byte that doesn't stand as it is.
+#[inline(never)]
 fn put_escape<W: Write>(byte: u8, out: &mut Outbox, writer: &mut W) -> Result<(), Refusal>
     requires { escaped byte ≢ byte ∷ [] }
     ensures { Puts (W.contents writer.old) (W.contents writer.new) out.old out.new

@@ -1,16 +1,22 @@
-//! The diagnostic text of a tree.
+//! The diagnostic text of a tree, and of a view.
 
-ghost use Rattle.cbor_item.specs.View.{view};
+ghost use Rattle.std.specs.Prelude.{◌≤◌};
+ghost use Rattle.cbor_head.specs.Value.{depth};
+ghost use Rattle.cbor_head.specs.declared.limits.TheConstants.{MAX_DEPTH};
+ghost use Rattle.cbor_item.specs.View.{view as value_of};
+ghost use Rattle.cbor_view.specs.Seen.{seen};
 ghost use Rattle.cbor_diag.specs.IndentedText.{indented};
 ghost use Rattle.cbor_diag.specs.inner.Layout.{laid_out};
 ghost use Rattle.cbor_diag.specs.Written.{Writes};
 ghost use Rattle.cbor_diag.specs.Text.{text};
 
 use crate::layout::Layout;
+use crate::node::Node;
 use crate::outbox::Outbox;
 use crate::walk::put_item;
 use cbor_head::Refusal;
 use cbor_item::Tree;
+use cbor_view::View;
 use std::io::Write;
 
 /// Writes the diagnostic text on one line (RFC 8949, section 8), and answers how many bytes it is.
@@ -20,26 +26,46 @@ use std::io::Write;
 /// `Write`, and its place is how many bytes the writer took. These are the first of the text. It
 /// takes no memory.
 pub fn diagnostic<W: Write>(tree: &Tree, writer: &mut W) -> Result<u64, Refusal>
-    ensures { Writes (W.contents writer.old) (W.contents writer.new) (text (view tree.now)) result }
+    ensures { Writes (W.contents writer.old) (W.contents writer.new)
+        (text (value_of tree.now)) result }
 {
-    write_text(tree, Layout::OneLine, writer)
+    write_text(tree.item(), Layout::OneLine, writer)
 }
 
 /// Writes the diagnostic text with one member or pair a line, two spaces a level. For the rest it
 /// is as [`diagnostic`].
 pub fn diagnostic_indented<W: Write>(tree: &Tree, writer: &mut W) -> Result<u64, Refusal>
     ensures { Writes (W.contents writer.old) (W.contents writer.new)
-        (indented 0 (view tree.now)) result }
+        (indented 0 (value_of tree.now)) result }
 {
-    write_text(tree, Layout::Indented, writer)
+    write_text(tree.item(), Layout::Indented, writer)
 }
 
-fn write_text<W: Write>(tree: &Tree, layout: Layout, writer: &mut W) -> Result<u64, Refusal>
+/// As [`diagnostic`], of a view. Any view that was read is shallow enough.
+pub fn diagnostic_view<W: Write>(view: &View<'_>, writer: &mut W) -> Result<u64, Refusal>
+    requires { depth (seen view.now) ≤ MAX_DEPTH }
     ensures { Writes (W.contents writer.old) (W.contents writer.new)
-        (laid_out layout 0 (view tree.now)) result }
+        (text (seen view.now)) result }
+{
+    write_text(view, Layout::OneLine, writer)
+}
+
+/// As [`diagnostic_indented`], of a view.
+pub fn diagnostic_view_indented<W: Write>(view: &View<'_>, writer: &mut W) -> Result<u64, Refusal>
+    requires { depth (seen view.now) ≤ MAX_DEPTH }
+    ensures { Writes (W.contents writer.old) (W.contents writer.new)
+        (indented 0 (seen view.now)) result }
+{
+    write_text(view, Layout::Indented, writer)
+}
+
+fn write_text<N: Node, W: Write>(item: &N, layout: Layout, writer: &mut W) -> Result<u64, Refusal>
+    requires { depth (N.value item.now) ≤ MAX_DEPTH }
+    ensures { Writes (W.contents writer.old) (W.contents writer.new)
+        (laid_out layout 0 (N.value item.now)) result }
 {
     let mut out = Outbox::new();
-    put_item(tree.item(), layout, &mut out, writer)?;
+    put_item(item, layout, &mut out, writer)?;
     out.flush(writer)?;
     Ok(out.taken())
 }

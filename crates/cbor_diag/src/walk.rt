@@ -1,18 +1,17 @@
-//! The walk over an item and all that it holds.
+//! The walk over an item, or a view of one, and all that it holds.
 
 ghost use Rattle.std.specs.Prelude.{◌≡◌, ◌+◌, ◌≤◌, ◌∷◌, ◌++◌, length, reverse};
 ghost use Rattle.cbor_head.specs.Value.{depth};
-ghost use Rattle.cbor_item.specs.View.{view};
 ghost use Rattle.cbor_diag.specs.inner.Layout.{laid_out};
 ghost use Rattle.cbor_diag.specs.inner.Levels.{AreShallow, IsDue, Leaves, behind, rest_of};
 ghost use Rattle.cbor_diag.specs.inner.Outbox.{Puts};
 
 use crate::layout::{Layout, put_end, put_gap};
+use crate::node::{Node, Part};
 use crate::outbox::Outbox;
 use crate::pieces::{put_bytes, put_negative, put_number, put_simple, put_text};
 use arrayvec::ArrayVec;
 use cbor_head::{MAX_DEPTH, Refusal};
-use cbor_item::Item;
 use std::io::Write;
 
 // As many as a tree lets nest.
@@ -20,41 +19,41 @@ const MOST_OPEN: usize = MAX_DEPTH as usize;
 
 /// The open containers, the innermost last: a walk takes no more of the stack, however deep an item
 /// nests.
-pub(crate) type Levels<'a> = ArrayVec<Level<'a>, MOST_OPEN>;
+pub(crate) type Levels<'a, N> = ArrayVec<Level<'a, N>, MOST_OPEN>;
 
 /// A container whose end is not written, at so many levels of indentation.
-#[derive(Clone, Copy, Default)]
-pub(crate) struct Level<'a> {
+#[derive_where(Clone, Copy, Default)]
+pub(crate) struct Level<'a, N> {
     indent: u16,
-    left: Left<'a>,
+    left: Left<'a, N>,
 }
 
 /// What is left of a container.
-#[derive(Clone, Copy, Default)]
-pub(crate) enum Left<'a> {
+#[derive_where(Clone, Copy, Default)]
+pub(crate) enum Left<'a, N> {
     /// Members, and whether they are all of them.
-    Array(&'a [Item], bool),
+    Array(&'a [N], bool),
     /// Pairs, and whether they are all of them.
-    Map(&'a [(Item, Item)], bool),
+    Map(&'a [(N, N)], bool),
     /// The value of a pair whose key is written, and the pairs behind it.
-    Value(&'a Item, &'a [(Item, Item)]),
+    Value(&'a N, &'a [(N, N)]),
     /// The content of a tag.
-    Content(&'a Item),
+    Content(&'a N),
     /// The end of a tag.
     #[default]
     Tag,
 }
 
 /// Puts an item's text.
-pub(crate) fn put_item<W: Write>(
-    item: &Item,
+pub(crate) fn put_item<N: Node, W: Write>(
+    item: &N,
     layout: Layout,
     out: &mut Outbox,
     writer: &mut W,
 ) -> Result<(), Refusal>
-    requires { depth (view item.now) ≤ 256 }
+    requires { depth (N.value item.now) ≤ 256 }
     ensures { Puts (W.contents writer.old) (W.contents writer.new) out.old out.new
-        (laid_out layout 0 (view item.now)) result }
+        (laid_out layout 0 (N.value item.now)) result }
 {
     let mut levels = Levels::new();
     begin(item, layout, 0, &mut levels, out, writer)?;
@@ -65,61 +64,63 @@ pub(crate) fn put_item<W: Write>(
 }
 
 // Puts an item that holds no other, or the front of one that does, which is then open.
-fn begin<'a, W: Write>(
-    item: &'a Item,
+#[inline(always)]
+fn begin<'a, N: Node, W: Write>(
+    item: &'a N,
     layout: Layout,
     indent: u16,
-    levels: &mut Levels<'a>,
+    levels: &mut Levels<'a, N>,
     out: &mut Outbox,
     writer: &mut W,
 ) -> Result<(), Refusal>
-    requires { IsDue (depth (view item.now)) indent (reverse levels.old.items) }
+    requires { IsDue N.value (depth (N.value item.now)) indent (reverse levels.old.items) }
     ensures put { Leaves (W.contents writer.old) (W.contents writer.new) out.old out.new
-        (laid_out layout indent (view item.now) ++ behind layout (reverse levels.old.items))
-        (behind layout (reverse levels.new.items)) result }
-    ensures shallow { AreShallow (reverse levels.new.items) }
+        (laid_out layout indent (N.value item.now)
+        ++ behind N.value layout (reverse levels.old.items))
+        (behind N.value layout (reverse levels.new.items)) result }
+    ensures shallow { AreShallow N.value (reverse levels.new.items) }
 {
-    match item {
-        Item::Unsigned(n) => put_number(*n, out, writer),
-        Item::Negative(n) => put_negative(*n, out, writer),
-        Item::Bytes(bytes) => put_bytes(bytes, out, writer),
-        Item::Text(text) => put_text(text.as_bytes(), out, writer),
-        Item::Array(items) => {
+    match item.part() {
+        Part::Unsigned(number) => put_number(number, out, writer),
+        Part::Negative(number) => put_negative(number, out, writer),
+        Part::Bytes(bytes) => put_bytes(bytes, out, writer),
+        Part::Text(text) => put_text(text.as_bytes(), out, writer),
+        Part::Array(items) => {
             out.put(writer, b"[")?;
             let next = Left::Array(items, true);
             levels.push(Level { indent, left: next });
             Ok(())
         }
-        Item::Map(pairs) => {
+        Part::Map(pairs) => {
             out.put(writer, b"{")?;
             let next = Left::Map(pairs, true);
             levels.push(Level { indent, left: next });
             Ok(())
         }
-        Item::Tag(n, content) => {
-            put_number(*n, out, writer)?;
+        Part::Tag(number, content) => {
+            put_number(number, out, writer)?;
             out.put(writer, b"(")?;
             let next = Left::Content(content);
             levels.push(Level { indent, left: next });
             Ok(())
         }
-        Item::Simple(simple) => put_simple(simple.number(), out, writer),
+        Part::Simple(number) => put_simple(number, out, writer),
     }
 }
 
 // Puts what comes next in the innermost container, which was taken off.
-fn go_on<'a, W: Write>(
-    level: Level<'a>,
+fn go_on<'a, N: Node, W: Write>(
+    level: Level<'a, N>,
     layout: Layout,
-    levels: &mut Levels<'a>,
+    levels: &mut Levels<'a, N>,
     out: &mut Outbox,
     writer: &mut W,
 ) -> Result<(), Refusal>
-    requires { AreShallow (level ∷ reverse levels.old.items) }
+    requires { AreShallow N.value (level ∷ reverse levels.old.items) }
     ensures put { Leaves (W.contents writer.old) (W.contents writer.new) out.old out.new
-        (rest_of layout level.entry ++ behind layout (reverse levels.old.items))
-        (behind layout (reverse levels.new.items)) result }
-    ensures shallow { AreShallow (reverse levels.new.items) }
+        (rest_of N.value layout level.entry ++ behind N.value layout (reverse levels.old.items))
+        (behind N.value layout (reverse levels.new.items)) result }
+    ensures shallow { AreShallow N.value (reverse levels.new.items) }
 {
     let indent = level.indent;
     match level.left {

@@ -1,8 +1,6 @@
 -- Whole inputs: from what is read of one to the item that it is, or the refusal; and from that to what `canonicalise` answers.
-use Rattle.std.proofs.Common.{ℕ, zero, suc, ◌-◌, ◌<◌, true, false, arith, ◌≡◌, ◌≢◌, ◌≤◌, Option, Some, List, length, refl, sym, ap, ◌∙◌, subst}
-use Rattle.std.specs.Prelude.{◌==◌, ◌↔◌}
-use Rattle.std.proofs.lemmas.List.{length-drop}
-use Rattle.std.proofs.lemmas.Bool.Decides.{Decides-eqb}
+use Rattle.std.proofs.Common.{ℕ, ◌<◌, arith, ◌≡◌, ◌≢◌, ◌≤◌, Option, Some, List, length, refl, sym, ap, ◌∙◌, subst}
+use Rattle.std.specs.Prelude.{◌↔◌}
 use Rattle.cbor_head.specs.Canonical.{canonical}
 use Rattle.cbor_head.specs.Limits.{Bounds}
 use Rattle.cbor_head.specs.Value.{Value}
@@ -13,7 +11,7 @@ use Rattle.cbor_head.specs.declared.order.KeyOrder.{KeyOrder}
 use Rattle.cbor_head.specs.declared.order.KeyOrder.TheVariants.{Bytewise}
 use Rattle.cbor_head.specs.declared.reason.Reason.TheVariants.{Read, Memory, Trailing, CanonicalTooLong}
 use Rattle.cbor_head.specs.declared.reason.Refusal.{Refusal}
-use Rattle.cbor_judging.specs.Readers.{IsReadAs, IsUnread, of_verdict, of_reader, of_memory, Loses}
+use Rattle.cbor_judging.specs.Readers.{IsRead, IsReadAs, IsUnread, of_verdict, of_reader, of_memory}
 use Rattle.cbor_reader.specs.Canonicalise as whole
 use Rattle.cbor_reader.specs.Canonicalise.{IsCanonicalOf, IsRefusal}
 use Rattle.cbor_reader.specs.Headline.{IsValidItem}
@@ -30,63 +28,26 @@ use Rattle.cbor_judging.proofs.Reasons.{never-read}
 
 -- ---- a refusal by a slice
 
-pub unread-slice : (limits : Bounds) (input : List ℕ) (f : Refusal) → IsUnread limits plain input f → f.reason ≢ Read → IsItemRefusal limits input f
-unread-slice limits input f h g = unread h g
-
 -- memory was refused within the longest beginning
 pub given-up-unread : (limits : Bounds) (input : List ℕ) (f g : Refusal) → IsUnread limits plain input f → f.reason ≡ Read → g ≡ refusal Memory f.read f.read → IsUnread limits plain input g
 given-up-unread limits input f g (of_verdict w) e is = absurd (never-read limits plain input f w e)
 given-up-unread limits input f g (of_reader p l m h w) e is = subst (IsUnread limits plain input) (sym is) (of_memory p l m refl (truncated-free limits f.read plain input p l m w))
 given-up-unread limits input f g (of_memory p l m h x) e is = subst (IsUnread limits plain input) (sym is) (of_memory p l m refl x)
 
-pub given-up : (limits : Bounds) (input : List ℕ) (f g : Refusal) → IsUnread limits plain input f → f.reason ≡ Read → g ≡ refusal Memory f.read f.read → IsItemRefusal limits input g
-given-up limits input f g h e is = unread (given-up-unread limits input f g h e is) (λ x. cc (sym (ap (λ (r : Refusal). r.reason) is) ∙ x))
+-- ---- an item that is read, or was built
 
--- ---- behind an item that is read
+module _ (limits : Bounds) (input : List ℕ) (size : ℕ) (a : IsRead limits plain input size) where
+  -- a byte follows it
+  pub trails : (f : Refusal) → size < length input → f ≡ refusal Trailing size size → IsItemRefusal limits input f
+  trails f more is = trailing a.item a.verdict (omega (arith, more, a.size)) (is ∙ ap (λ (k : ℕ). refusal Trailing k k) a.size)
 
-module _ (limits : Bounds) (input rest : List ℕ) (v : Value) (size : ℕ) (a : IsReadAs limits plain input v size) (t : Loses size (Some input) (Some rest)) where
-  behind : length rest ≡ length input - size
-  behind = ap length (inside t.0) ∙ length-drop size input
-    where
-      inside : {x y : List ℕ} → Some x ≡ Some y → x ≡ y
-      inside e = cc e
-
-  some-left : (k : ℕ) → false ≡ (k == 0) → 0 < k
-  some-left zero e = cc e
-  some-left (suc k) e = omega arith
-
-  none-left : (k : ℕ) → true ≡ (k == 0) → k ≡ 0
-  none-left k e = (Decides-eqb k 0).0 (sym e)
-
-  pub trails : (f : Refusal) → false ≡ (length rest == 0) → f ≡ refusal Trailing size size → IsItemRefusal limits input f
-  trails f e is =
-      trailing a.read.item a.read.verdict (omega (arith, a.read.size, behind, some-left (length rest) e))
-      (is ∙ ap (λ (k : ℕ). refusal Trailing k k) a.read.size)
-
-  pub all-of-it : true ≡ (length rest == 0) → (s : Spelling) × IsValidItem limits input s × (v ≡ value_of s)
-  all-of-it all =
-      let ends : length input ≤ length (spell a.read.item) = omega (arith, a.read.size, behind, none-left (length rest) all) in (
-        a.read.item,
-        valid_item limits input a.read.item a.read.verdict (item_is_whole limits plain input a.read.item a.read.verdict ends),
-        a.value,
-      )
-
--- ---- behind an item that was built
+  -- none does
+  pub all-of-it : length input ≤ size → IsValidItem limits input a.item
+  all-of-it all = valid_item limits input a.item a.verdict (item_is_whole limits plain input a.item a.verdict (omega (arith, all, a.size)))
 
 -- by whichever reader
 pub built-of : (b : Bounds) (o : KeyOrder) (input out : List ℕ) (to : Option (List ℕ)) (count : ℕ) → IsEncodedFront b o (Some input) to out count → IsBuiltFront b o input out count
 built-of b o input out to count e = record { read = e.read.read.read; canonical_is = e.canonical_is ∙ ap (canonical o) e.read.read.value }
-
-module _ (limits : Bounds) (o : KeyOrder) (input out : List ℕ) (size : ℕ) (f : IsBuiltFront limits o input out size) where
-  pub built-trails : (r : Refusal) → size < length input → r ≡ refusal Trailing size size → IsItemRefusal limits input r
-  built-trails r more is = trailing f.read.item f.read.verdict (omega (arith, more, f.read.size)) (is ∙ ap (λ (k : ℕ). refusal Trailing k k) f.read.size)
-
-  pub built-whole : length input ≤ size → (s : Spelling) × IsValidItem limits input s × (out ≡ canonical o (value_of s))
-  built-whole all = (
-    f.read.item,
-    valid_item limits input f.read.item f.read.verdict (item_is_whole limits plain input f.read.item f.read.verdict (omega (arith, all, f.read.size))),
-    f.canonical_is,
-  )
 
 -- ---- the refusal of an item, and that of its canonical bytes
 

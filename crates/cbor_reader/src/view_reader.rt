@@ -1,11 +1,14 @@
-//! The item at the front of a slice, as a view.
+//! The item at the front of a slice, or that a whole slice is, as a view.
 
-ghost use Rattle.std.specs.Prelude.{◌≢◌, ◌≤◌, ◌^◌, IfOk, IfErr};
+ghost use Rattle.std.specs.Prelude.{◌≡◌, ◌≢◌, ◌≤◌, ◌^◌, IfOk, IfErr};
 ghost use Rattle.cbor_head.specs.Complaint.{plain};
+ghost use Rattle.cbor_head.specs.Spelling.{Spelling, value_of};
 ghost use Rattle.cbor_head.specs.Value.{depth, IsInRange, IsValid};
 ghost use Rattle.cbor_head.specs.declared.limits.TheConstants.{MAX_DEPTH};
 ghost use Rattle.cbor_head.specs.declared.reason.Reason.TheVariants as reasons;
 ghost use Rattle.cbor_judging.specs.Readers.{IsReadAs, IsUnread};
+ghost use Rattle.cbor_reader.specs.Headline.{IsValidItem};
+ghost use Rattle.cbor_reader.specs.WholeItem.{IsItemRefusal};
 ghost use Rattle.cbor_view.specs.Seen.{seen};
 
 use crate::valid_front::read_again;
@@ -53,6 +56,34 @@ fn refusal_of(alloc: Global, bytes: &[u8], limits: Limits) -> Refusal
     match read_again(alloc, bytes, limits, KeyOrder::Bytewise) {
         Ok(front) => Refusal::at(Reason::Memory, front.size),
         Err(refusal) => refusal,
+    }
+}
+
+/// The view of the one well-formed, valid item that the whole slice is. It is read as [`read_view`]
+/// reads it; where a byte follows the item, the refusal is `Trailing`, with the item's length as
+/// place and count.
+pub fn whole_view<'a>(
+    alloc: Global,
+    bytes: &'a [u8],
+    limits: Limits,
+    arena: &'a Bump,
+) -> Result<View<'a>, Refusal>
+    ensures accepted { IfOk result (λ view. (s : Spelling)
+        × IsValidItem limits bytes.now s × (seen view ≡ value_of s)) }
+    // What `View::to_tree` asks for.
+    ensures depth { IfOk result (λ view. depth (seen view) ≤ MAX_DEPTH) }
+    ensures in_range { IfOk result (λ view. IsInRange (seen view)) }
+    ensures valid { IfOk result (λ view. IsValid (seen view)) }
+    ensures refused { IfErr result (IsItemRefusal limits bytes.now) }
+{
+    match read_view(alloc, bytes, limits, arena) {
+        Ok((view, size)) => {
+            if size < bytes.len() as u64 {
+                return Err(Refusal::at(Reason::Trailing, size));
+            }
+            Ok(view)
+        }
+        Err(refusal) => Err(refusal),
     }
 }
 

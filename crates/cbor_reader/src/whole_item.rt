@@ -39,8 +39,6 @@ pub(crate) fn encoded_item(
 
 // A refusal by a reader that does not fail: a slice doesn't, though `Read` can't say so.
 pub(crate) fn of_slice(refusal: Refusal) -> Refusal
-    ensures whole { (limits : Bounds) (input : List ℕ)
-        → IsUnread limits plain input refusal → IsItemRefusal limits input result }
     ensures unread { (limits : Bounds) (input : List ℕ)
         → IsUnread limits plain input refusal → IsUnread limits plain input result }
     ensures no_read { result.reason ≢ reasons.Read }

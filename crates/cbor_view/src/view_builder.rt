@@ -66,6 +66,7 @@ impl<'a> ViewBuilder<'a> {
 
     /// A member that is complete: one without members, a string where it lies, or a view that was
     /// built before.
+    #[inline(always)]
     pub fn leaf(&mut self, view: View<'a>) -> Result<(), AllocError>
         requires takes { TakesValue (standing self.old) }
         ensures { OnOk result (standing self.new ≡ give (seen view.entry) (standing self.old)) }

@@ -5,8 +5,7 @@ use Rattle.cbor_diag.specs.Listing.{IsListed}
 use Rattle.cbor_head.specs.Complaint.{Rules, plain}
 use Rattle.cbor_head.specs.Limits.{Bounds}
 use Rattle.cbor_head.specs.Value.{Value}
-use Rattle.cbor_item.specs.View.{view}
-use Rattle.cbor_item.specs.declared.item.Item.{Item}
+use Rattle.cbor_head.specs.Spelling.{Spelling, value_of}
 use Rattle.cbor_head.specs.declared.order.KeyOrder.{KeyOrder}
 use Rattle.cbor_head.specs.declared.reason.Reason.{Reason}
 use Rattle.cbor_head.specs.declared.reason.Reason.TheVariants as reasons
@@ -14,19 +13,21 @@ use Rattle.cbor_head.specs.declared.reason.Refusal.{Refusal}
 use Rattle.cbor_reader.specs.Canonicalise.{IsCanonicalOf, IsRefusal}
 use Rattle.cbor_reader.specs.Comparing.{IsSideRefusal}
 use Rattle.cbor_judging.specs.Readers.{IsReadAs}
-use Rattle.cbor_reader.specs.WholeItem.{IsWholeItem}
+use Rattle.cbor_reader.specs.Headline.{IsValidItem}
+use Rattle.cbor_reader.specs.WholeItem.{IsWholeItem, IsItemRefusal}
 use Rattle.cbor_reader.specs.declared.comparison.Side.{Side}
 use Rattle.cbor_reader.specs.declared.comparison.Side.TheVariants.{Left, Right}
 use Rattle.cborc_commands.proofs.Files.{put_kept, input_before}
 use Rattle.cborc_commands.proofs.Fronts.{canonical_whole, refusal_whole, is_whole, is_not_whole, is_all_of, listed_whole, not_listed_whole, whole_item, item_refusal_whole}
+use Rattle.cborc_commands.proofs.Whole.{is_read, is_no_item}
 use Rattle.cborc_commands.specs.Canon.{IsCanonicalText, IsPut, IsNotPut, IsCanonised, IsNotCanonised}
-use Rattle.cborc_commands.specs.inner.Parts.{IsNoText, StartsInput, IsTreeOf, IsShown}
+use Rattle.cborc_commands.specs.inner.Parts.{IsNoText, StartsInput}
 use Rattle.cborc_commands.specs.Check.{accepted_bytes, IsWhole, IsNotWhole, IsChecked, IsNotChecked}
 use Rattle.cborc_commands.specs.Compare.{IsTold, IsUntold, AreInputs, AreCompared, AreNotCompared}
 use Rattle.cborc_commands.specs.Events.{IsNotListed, IsListedOf, IsNotListedOf}
 use Rattle.cborc_commands.specs.Fault.{IsOfInput, reason_fault, refusal_fault}
 use Rattle.cborc_files.specs.Folder.{Files, KeepsFiles}
-use Rattle.cborc_commands.specs.Show.{IsShownOf, IsNotShown}
+use Rattle.cborc_commands.specs.Show.{IsShownOf, IsNotShown, shown_text}
 use Rattle.cborc_commands.specs.declared.request.Layout.{Layout}
 use Rattle.cborc_commands.specs.declared.status.Status.{Status}
 use Rattle.cborc_commands.specs.declared.status.Status.TheVariants as statuses
@@ -119,27 +120,26 @@ module _ (rules : Rules) (options : Options) (source : List ℕ) (held : Option 
 module _ (options : Options) (source : List ℕ) (held : Option Files) (bytes : List ℕ) (s : StartsInput held source options.hex (options.limits.bytes + 1) bytes) where
   -- ---- `show`
 
-  tree_whole : (v : Value) → IsReadAs options.limits plain bytes v (length bytes)
-      → IsReadAs options.limits plain s.input v (length s.input)
-  tree_whole v h =
+  read_whole : (v : Value) → (item : Spelling) × IsValidItem options.limits bytes item × (v ≡ value_of item) → IsReadAs options.limits plain s.input v (length s.input)
+  read_whole v h =
       is_all_of options.limits s.input v
-      (subst (λ (b : List ℕ). IsReadAs options.limits plain b v (length b)) s.front h)
+      (subst (λ (b : List ℕ). IsReadAs options.limits plain b v (length b)) s.front (is_read options.limits bytes v h))
 
-  pub shown_of : (layout : Layout) (tree : Item) (before after : Option (List ℕ)) → IsTreeOf options.limits bytes tree → IsShown layout tree before after
-      → IsShownOf layout options source held before after
-  shown_of layout tree before after h w = record { input = s.input; is = s.is; value = view tree; whole = tree_whole (view tree) h; shown = w }
+  pub shown_of : (layout : Layout) (v : Value) (before after : Option (List ℕ)) → (item : Spelling) × IsValidItem options.limits bytes item × (v ≡ value_of item)
+      → Appends before after (shown_text layout v) → IsShownOf layout options source held before after
+  shown_of layout v before after h w = record { input = s.input; is = s.is; value = v; whole = read_whole v h; shown = w }
 
-  pub unshown : (tree : Item) → IsTreeOf options.limits bytes tree → (fault : Fault) → fault ≡ faults.CannotPrint → IsNotShown options source held fault
-  unshown tree h fault e =
-      subst (IsNotShown options source held) (sym e) (record { input = s.input; is = s.is; value = view tree; whole = tree_whole (view tree) h })
+  pub unshown : (v : Value) → (item : Spelling) × IsValidItem options.limits bytes item × (v ≡ value_of item) → (fault : Fault) → fault ≡ faults.CannotPrint → IsNotShown options source held fault
+  unshown v h fault e =
+      subst (IsNotShown options source held) (sym e) (record { input = s.input; is = s.is; value = v; whole = read_whole v h })
 
-  pub not_shown : (f : Refusal) → IsNotWhole options.limits plain bytes f → (fault : Fault) → fault ≡ refusal_fault f → IsNotShown options source held fault
+  pub not_shown : (f : Refusal) → IsItemRefusal options.limits bytes f → (fault : Fault) → fault ≡ refusal_fault f → IsNotShown options source held fault
   not_shown f h fault e =
       refusal_is (IsNotShown options source held) f fault e (λ own. (
         s.input,
         s.is,
         is_not_whole options.limits s.input plain f
-            (subst (λ (b : List ℕ). IsNotWhole options.limits plain b f) s.front h),
+            (subst (λ (b : List ℕ). IsNotWhole options.limits plain b f) s.front (is_no_item options.limits bytes f h)),
         own,
       )) tt
 

@@ -1,16 +1,19 @@
 -- Why the bytes of a file are not one accepted item.
-use Rattle.std.proofs.Common.{ℕ, zero, suc, ◌+◌, ◌-◌, ◌<◌, ◌≤◌, true, false, arith, ◌≡◌, Some, List, length, take, sym, ap, ◌∙◌, refl, subst}
-use Rattle.std.specs.Prelude.{◌==◌}
-use Rattle.std.proofs.lemmas.List.{length-drop, length-take, length-append}
-use Rattle.std.proofs.lemmas.Bool.Decides.{Decides-eqb}
-use Rattle.cbor_head.specs.Complaint.{Rules}
+use Rattle.std.proofs.Common.{ℕ, ◌+◌, ◌≤◌, arith, ◌≡◌, List, length, take, sym, ap, ◌∙◌, refl, subst}
+use Rattle.std.proofs.lemmas.List.{length-take, length-append}
+use Rattle.cbor_head.specs.Complaint.{Rules, plain}
 use Rattle.cbor_head.specs.Limits.{Bounds}
-use Rattle.cbor_head.specs.Spelling.{Spelling, spell}
+use Rattle.cbor_head.specs.Spelling.{Spelling, spell, value_of}
+use Rattle.cbor_head.specs.Value.{Value}
 use Rattle.cbor_head.specs.Verdict.{refusal, accepted, IsVerdict}
 use Rattle.cbor_head.specs.declared.reason.Reason.TheVariants.{Trailing}
-use Rattle.cbor_head.specs.Value.{Value}
-use Rattle.cbor_judging.specs.Readers.{IsRead, IsReadAs, Loses}
-use Rattle.cborc_commands.specs.Check.{IsNotWhole, trailing}
+use Rattle.cbor_head.specs.declared.reason.Refusal.{Refusal}
+use Rattle.cbor_judging.specs.Readers.{IsRead, IsReadAs}
+use Rattle.cbor_reader.specs.Headline.{IsValidItem}
+use Rattle.cbor_reader.specs.WholeItem as items
+use Rattle.cbor_reader.specs.WholeItem.{IsItemRefusal}
+use Rattle.cbor_reader.proofs.Headline.{valid_item_exactly}
+use Rattle.cborc_commands.specs.Check.{IsNotWhole, unread, trailing}
 
 -- no more than the input is read
 pub read_within : (limits : Bounds) (r : Rules) (input : List ℕ) (size : ℕ) → IsRead limits r input size → size ≤ length input
@@ -25,35 +28,17 @@ read_within limits r input size h =
 
 -- by rules that are known by two names
 module _ (limits : Bounds) (rules known : Rules) (same : rules ≡ known) (input : List ℕ) where
-  some_left : (k : ℕ) → false ≡ (k == 0) → 0 < k
-  some_left zero e = cc e
-  some_left (suc k) e = omega arith
-
-  pub is_followed : (rest : List ℕ) (size : ℕ) → IsRead limits known input size → Loses size (Some input) (Some rest) → false ≡ (length rest == 0)
-      → IsNotWhole limits rules input (refusal Trailing size size)
-  is_followed rest size h lost e = trailing size (subst (λ r. IsRead limits r input size) (sym same) h) (omega (arith, behind, some_left (length rest) e)) refl
-    where
-      inside : {x y : List ℕ} → Some x ≡ Some y → x ≡ y
-      inside e = cc e
-
-      behind : length rest ≡ length input - size
-      behind = ap length (inside lost.0) ∙ length-drop size input
-
   -- of a size alone
   pub is_longer : (size : ℕ) → IsRead limits known input size → (size ≡ length input → ⊥) → IsNotWhole limits rules input (refusal Trailing size size)
   is_longer size h apart = trailing size (subst (λ r. IsRead limits r input size) (sym same) h) (omega (arith, read_within limits known input size h, apart)) refl
 
-  none_left : (k : ℕ) → true ≡ (k == 0) → k ≡ 0
-  none_left k e = (Decides-eqb k 0).0 (sym e)
+-- ---- what is told of a whole input
 
-  pub is_all : (rest : List ℕ) (v : Value) (size : ℕ) → IsReadAs limits known input v size → Loses size (Some input) (Some rest) → true ≡ (length rest == 0)
-      → IsReadAs limits rules input v (length input)
-  is_all rest v size h lost e =
-      let all : size ≡ length input = omega (arith, behind, none_left (length rest) e, lost.1) in
-      subst (λ r. IsReadAs limits r input v (length input)) (sym same) (subst (IsReadAs limits known input v) all h)
-    where
-      inside : {x y : List ℕ} → Some x ≡ Some y → x ≡ y
-      inside e = cc e
+pub is_read : (limits : Bounds) (input : List ℕ) (v : Value) → (s : Spelling) × IsValidItem limits input s × (v ≡ value_of s) → IsReadAs limits plain input v (length input)
+is_read limits input v (s, valid, is) =
+    let h = (valid_item_exactly limits input s).0 valid in
+    record { read = record { item = s; verdict = h.0; size = sym (ap length h.1) }; value = is }
 
-      behind : length rest ≡ length input - size
-      behind = ap length (inside lost.0) ∙ length-drop size input
+pub is_no_item : (limits : Bounds) (input : List ℕ) (f : Refusal) → IsItemRefusal limits input f → IsNotWhole limits plain input f
+is_no_item limits input f (items.unread h e) = unread h
+is_no_item limits input f (items.trailing s v l is) = trailing (length (spell s)) (record { item = s; verdict = v; size = refl }) l is

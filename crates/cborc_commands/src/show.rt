@@ -1,19 +1,21 @@
 //! The subcommand `show`: the diagnostic text of an item.
 
-ghost use Rattle.std.specs.Prelude.{◌≡◌, ◌≢◌, OnOk, IfOk, IfErr};
-ghost use Rattle.cbor_head.specs.Complaint.{plain};
-ghost use Rattle.cborc_commands.specs.Check.{IsNotWhole};
-ghost use Rattle.cborc_commands.specs.Show.{IsShownOf, IsNotShown};
-ghost use Rattle.cborc_commands.specs.inner.Parts.{IsTreeOf, IsShown};
+ghost use Rattle.std.specs.Prelude.{◌≡◌, ◌≢◌, ◌≤◌, OnOk, IfErr};
+ghost use Rattle.std.specs.Io.KnownBytes.{Appends};
+ghost use Rattle.cbor_head.specs.Value.{depth};
+ghost use Rattle.cbor_head.specs.declared.limits.TheConstants.{MAX_DEPTH};
+ghost use Rattle.cbor_view.specs.Seen.{seen};
+ghost use Rattle.cborc_commands.specs.Show.{IsShownOf, IsNotShown, shown_text};
 ghost use Rattle.cborc_files.specs.Folder.{KeepsFiles};
 
 use crate::fault::Fault;
 use crate::input;
 use crate::request::{Layout, Options};
-use cbor_diag::{diagnostic, diagnostic_indented};
-use cbor_head::{Limits, Reason, Refusal};
-use cbor_item::{Tree, write_whole};
-use cbor_reader::read_tree;
+use bumpalo::Bump;
+use cbor_diag::{diagnostic_view, diagnostic_view_indented};
+use cbor_item::write_whole;
+use cbor_reader::whole_view;
+use cbor_view::View;
 use cborc_files::Folder;
 use std::alloc::Global;
 use std::io::Write;
@@ -36,33 +38,25 @@ pub fn show<'a, F: Folder, O: Write>(
 {
     let limits = options.limits;
     let bytes = input::read_item(alloc, files, source, options)?;
-    let tree = tree_of(alloc, bytes.as_slice(), limits)?;
-    print(&tree, layout, out)
+    let arena = Bump::new(alloc);
+    let view = whole_view(alloc, bytes.as_slice(), limits, &arena)?;
+    print(&view, layout, out)
 }
 
-// The tree of the item that all the bytes are; the refusal is the item's, then `Trailing`.
-fn tree_of(alloc: Global, bytes: &[u8], limits: Limits) -> Result<Tree, Refusal>
-    ensures whole { IfOk result (IsTreeOf limits bytes.now) }
-    ensures refused { IfErr result (IsNotWhole limits plain bytes.now) }
-{
-    let mut reader = bytes;
-    let (tree, size) = read_tree(alloc, &mut reader, limits)?;
-    if reader.is_empty() {
-        Ok(tree)
-    } else {
-        Err(Refusal::at(Reason::Trailing, size))
-    }
-}
-
-/// Writes the text of the tree and a line feed.
-pub(crate) fn print<'a, O: Write>(tree: &Tree, layout: Layout, out: &mut O) -> Result<(), Fault<'a>>
-    ensures shown { OnOk result
-        (IsShown layout tree.now (O.contents out.old) (O.contents out.new)) }
+/// Writes the text of the view and a line feed.
+pub(crate) fn print<'a, O: Write>(
+    view: &View<'_>,
+    layout: Layout,
+    out: &mut O,
+) -> Result<(), Fault<'a>>
+    requires { depth (seen view.now) ≤ MAX_DEPTH }
+    ensures shown { OnOk result (Appends (O.contents out.old) (O.contents out.new)
+        (shown_text layout (seen view.now))) }
     ensures fault { IfErr result (λ fault. fault ≡ Fault.CannotPrint) }
 {
     let printed = match layout {
-        Layout::OneLine => diagnostic(tree, out),
-        Layout::Indented => diagnostic_indented(tree, out),
+        Layout::OneLine => diagnostic_view(view, out),
+        Layout::Indented => diagnostic_view_indented(view, out),
     };
     match printed {
         Ok(_) => match write_whole(out, b"\n") {

@@ -13,8 +13,9 @@ use crate::input;
 use crate::request::{Layout, Options};
 use crate::sequence::{ItemWriter, write_items};
 use crate::show::print;
+use bumpalo::Bump;
 use cbor_head::Limits;
-use cbor_reader::read_tree;
+use cbor_reader::read_view;
 use cborc_files::Folder;
 use std::alloc::Global;
 use std::io::Write;
@@ -64,9 +65,10 @@ impl ItemWriter for ShownItems {
         limits: Limits,
         out: &mut W,
     ) -> Result<usize, Fault<'f>> {
-        let mut reader = bytes;
-        let (tree, size) = read_tree(alloc, &mut reader, limits)?;
-        print(&tree, self.layout, out)?;
+        // One for each item, so that no more is kept than of the largest.
+        let arena = Bump::new(alloc);
+        let (view, size) = read_view(alloc, bytes, limits, &arena)?;
+        print(&view, self.layout, out)?;
         Ok(size as usize)
     }
 }

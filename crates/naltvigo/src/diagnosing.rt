@@ -3,18 +3,21 @@
 ghost use Rattle.std.specs.Prelude.{◌≡◌, ◌≢◌, ◌⊎◌, ◌<◌, ◌≤◌, ℕ, List, length, take, drop, IfSome};
 ghost use Rattle.cbor_diag.specs.Text.{text};
 ghost use Rattle.cbor_head.specs.Limits.{bounds, AreBounds};
-ghost use Rattle.cbor_item.specs.View.{view};
+ghost use Rattle.cbor_head.specs.Value.{depth};
+ghost use Rattle.cbor_head.specs.declared.limits.TheConstants.{MAX_DEPTH};
 ghost use Rattle.cbor_reader.specs.WholeItem.{IsWholeItem};
+ghost use Rattle.cbor_view.specs.Seen.{seen};
 ghost use Rattle.naltvigo.specs.Checking.{IsNotValid};
 ghost use Rattle.naltvigo.specs.Diagnosing.{IsTextOf, TextLacksMemory};
 
 use crate::buffer::give;
 use crate::settings::limits_of;
 use crate::status::{BAD_LIMITS, NO_MEMORY, NaltvigoRefusal, OK, REFUSED, TOO_SMALL, tell, told};
-use crate::whole::tree_of;
-use cbor_diag::diagnostic;
+use crate::whole::view_of;
+use bumpalo::Bump;
+use cbor_diag::diagnostic_view;
 use cbor_head::{Reason, Refusal};
-use cbor_item::Tree;
+use cbor_view::View;
 use std::alloc::Global;
 
 /// Writes the diagnostic text (RFC 8949, section 8) of the one valid item that `input` is to the
@@ -49,11 +52,12 @@ pub extern "C" fn naltvigo_diagnostic_raw(
     let Some(limits) = limits_of(depth, bytes) else {
         return BAD_LIMITS;
     };
-    let tree = match tree_of(alloc, input, limits) {
-        Ok(tree) => tree,
+    let arena = Bump::new(alloc);
+    let view = match view_of(alloc, input, limits, &arena) {
+        Ok(view) => view,
         Err(reason) => return tell(reason, refusal),
     };
-    match text_of(alloc, &tree) {
+    match text_of(alloc, &view) {
         Some(text) => give(text.as_slice(), out, needed),
         None => {
             *refusal = told(Refusal::at(Reason::Memory, input.len() as u64));
@@ -62,14 +66,15 @@ pub extern "C" fn naltvigo_diagnostic_raw(
     }
 }
 
-// The text; none where memory is refused. It has a frame of its own, which is gone as the tree is
-// given back.
+// The text; none where memory is refused. It has a frame of its own, which is not there yet as the
+// view is read.
 #[inline(never)]
-fn text_of(alloc: Global, tree: &Tree) -> Option<Vec<u8>>
-    ensures { IfSome result (λ v. v.items ≡ text (view tree.now)) }
+fn text_of(alloc: Global, view: &View<'_>) -> Option<Vec<u8>>
+    requires { depth (seen view.now) ≤ MAX_DEPTH }
+    ensures { IfSome result (λ v. v.items ≡ text (seen view.now)) }
 {
     let mut shown = Vec::new(alloc);
-    match diagnostic(tree, &mut shown) {
+    match diagnostic_view(view, &mut shown) {
         Ok(_) => Some(shown),
         Err(_) => None,
     }

@@ -1,10 +1,9 @@
 -- What is left of a text that is being written, by the containers that are open.
 use Rattle.std.specs.Prelude.{ℕ, ◌≡◌, ◌+◌, ◌<◌, ◌≤◌, max, false, List, [], ◌∷◌, ◌++◌, length, codes, Option, Result, Ok, Err}
-use Rattle.cbor_head.specs.Value.{depth, depth_all, depth_entries}
+use Rattle.cbor_head.specs.Value.{Value, depth, depth_all, depth_entries}
 use Rattle.cbor_head.specs.declared.reason.Refusal.{Refusal}
-use Rattle.cbor_item.specs.View.{view}
-use Rattle.cbor_item.specs.inner.Members.{entries_view, values_view}
 use Rattle.cbor_diag.specs.inner.Layout.{laid_out, members_left, pairs_left}
+use Rattle.cbor_diag.specs.inner.Nodes.{entries_in, values_in}
 use Rattle.cbor_diag.specs.inner.Outbox.{HasPut, HasStopped}
 use Rattle.cbor_diag.specs.declared.layout.Layout.{Layout}
 use Rattle.cbor_diag.specs.declared.outbox.Outbox.{Outbox}
@@ -12,41 +11,43 @@ use Rattle.cbor_diag.specs.declared.walk.Level.{Level}
 use Rattle.cbor_diag.specs.declared.walk.Left.{Left}
 use Rattle.cbor_diag.specs.declared.walk.Left.TheVariants as parts
 
--- what is left of a container, at this many levels of indentation
-abbrev pub left_of : Layout → ℕ → Left → List ℕ
-left_of l n (parts.Array left first) = members_left l n first (values_view left.now) ++ codes "]"
-left_of l n (parts.Map left first) = pairs_left l n first (entries_view left.now) ++ codes "}"
-left_of l n (parts.Value value left) =
-    codes ": " ++ laid_out l (n + 1) (view value.now) ++ pairs_left l n false (entries_view left.now) ++ codes "}"
-left_of l n (parts.Content content) = laid_out l n (view content.now) ++ codes ")"
-left_of l n parts.Tag = codes ")"
+-- the nodes that are left have these values
+module _ {N : Type 0} (see : N → Value) where
+  -- what is left of a container, at this many levels of indentation
+  abbrev pub left_of : Layout → ℕ → Left N → List ℕ
+  left_of l n (parts.Array left first) = members_left l n first (values_in see left.now) ++ codes "]"
+  left_of l n (parts.Map left first) = pairs_left l n first (entries_in see left.now) ++ codes "}"
+  left_of l n (parts.Value value left) =
+      codes ": " ++ laid_out l (n + 1) (see value.now) ++ pairs_left l n false (entries_in see left.now) ++ codes "}"
+  left_of l n (parts.Content content) = laid_out l n (see content.now) ++ codes ")"
+  left_of l n parts.Tag = codes ")"
 
-abbrev pub rest_of : Layout → Level → List ℕ
-rest_of l v = left_of l v.indent v.left
+  abbrev pub rest_of : Layout → Level N → List ℕ
+  rest_of l v = left_of l v.indent v.left
 
--- what is left of all of them, the innermost first
-abbrev pub behind : Layout → List Level → List ℕ
-behind l [] = []
-behind l (v ∷ vs) = rest_of l v ++ behind l vs
+  -- what is left of all of them, the innermost first
+  abbrev pub behind : Layout → List (Level N) → List ℕ
+  behind l [] = []
+  behind l (v ∷ vs) = rest_of l v ++ behind l vs
 
--- how deep what is left nests
-abbrev pub depth_left : Left → ℕ
-depth_left (parts.Array left first) = depth_all (values_view left.now)
-depth_left (parts.Map left first) = depth_entries (entries_view left.now)
-depth_left (parts.Value value left) = max (depth (view value.now)) (depth_entries (entries_view left.now))
-depth_left (parts.Content content) = depth (view content.now)
-depth_left parts.Tag = 0
+  -- how deep what is left nests
+  abbrev pub depth_left : Left N → ℕ
+  depth_left (parts.Array left first) = depth_all (values_in see left.now)
+  depth_left (parts.Map left first) = depth_entries (entries_in see left.now)
+  depth_left (parts.Value value left) = max (depth (see value.now)) (depth_entries (entries_in see left.now))
+  depth_left (parts.Content content) = depth (see content.now)
+  depth_left parts.Tag = 0
 
--- within the greatest depth, the innermost first
-abbrev pub AreShallow : List Level → Type 0
-AreShallow [] = Unit {0}
-AreShallow (v ∷ vs) = (v.indent ≤ length vs) × (depth_left v.left + length vs + 1 ≤ 256) × AreShallow vs
+  -- within the greatest depth, the innermost first
+  abbrev pub AreShallow : List (Level N) → Type 0
+  AreShallow [] = Unit {0}
+  AreShallow (v ∷ vs) = (v.indent ≤ length vs) × (depth_left v.left + length vs + 1 ≤ 256) × AreShallow vs
 
--- an item of this depth may begin there
-pub record IsDue (d indent : ℕ) (vs : List Level) : Type 0 where
-  pub room : d + length vs ≤ 256
-  pub indented : indent ≤ length vs
-  pub shallow : AreShallow vs
+  -- an item of this depth may begin there
+  pub record IsDue (d indent : ℕ) (vs : List (Level N)) : Type 0 where
+    pub room : d + length vs ≤ 256
+    pub indented : indent ≤ length vs
+    pub shallow : AreShallow vs
 
 -- some of the whole was put, and the rest is left
 pub record HasLeft (old new : Option (List ℕ)) (from to : Outbox) (whole left : List ℕ) : Type 0 where

@@ -1,26 +1,24 @@
-//! Trees of whole slices.
+//! Views of whole slices.
 
 use super::limits;
+use bumpalo::Bump;
 use cbor_head::{Reason, Refusal};
-use cbor_item::Item;
-use cbor_reader::whole_tree;
+use cbor_reader::whole_view;
 
 #[test]
-fn the_tree_of_all_bytes(rt: HostRuntime) {
+fn the_view_of_all_bytes(rt: HostRuntime) {
     let alloc = rt.alloc();
     let limits = limits(&rt, 1, 2);
-    match whole_tree(alloc, b"\x81\x05", limits) {
-        Ok(tree) => match tree.item() {
-            Item::Array(members) => match members.as_slice() {
-                [Item::Unsigned(n)] => assert_eq!(rt; *n, 5),
-                _ => panic!(rt; "one member"),
-            },
-            _ => panic!(rt; "an array"),
+    let arena = Bump::new(alloc);
+    match whole_view(alloc, b"\x81\x05", limits, &arena) {
+        Ok(view) => match view.as_array() {
+            Some([member]) => assert_eq!(rt; member.as_u64(), Some(5)),
+            _ => panic!(rt; "an array of one member"),
         },
-        Err(_) => panic!(rt; "a tree"),
+        Err(_) => panic!(rt; "a view"),
     }
-    match whole_tree(alloc, b"\x05\x81", limits) {
-        Ok(_) => panic!(rt; "no tree"),
+    match whole_view(alloc, b"\x05\x81", limits, &arena) {
+        Ok(_) => panic!(rt; "no view"),
         Err(refusal) => assert_eq!(rt; refusal, Refusal::at(Reason::Trailing, 1)),
     }
 }

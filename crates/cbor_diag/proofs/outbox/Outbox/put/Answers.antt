@@ -1,33 +1,9 @@
-use Rattle.std.proofs.Common.{◌≡◌, ◌++◌, sym, ap, ◌∙◌, []}
-use Rattle.std.proofs.lemmas.Result.{err_from_is_err_and}
-use Rattle.cbor_diag.proofs.Putting.{sent-some, sent-past, stops-more, puts-then, puts-stops, puts-as, stops-as, where_err}
+use Rattle.std.proofs.Common.{◌≡◌, ap}
+use Rattle.cbor_diag.proofs.Putting.{puts-from, where_err}
 use Rattle.cbor_diag.proofs.outbox.Outbox.put.Goals as goal
-
-pub returns-in_err-flush : goal.returns-in_err-flush
-returns-in_err-flush g c =
-    let p = err_from_is_err_and c.from_residual.result c.from_residual.ensures.1 in
-    let s = c.args.self.now in
-    let kept : c.try_extend_from_slice.new.self ≡ s.waiting = where_err _ _ c.if-is_ok.false c.is_ok.ensures.value c.try_extend_from_slice.ensures.err in
-    let same : record { waiting = c.try_extend_from_slice.new.self; taken = s.taken } ≡ s = ap (λ w. record { waiting = w; taken = s.taken }) kept in
-    rw (p.1, p.2) (stops-more _ _ s [] c.args.bytes.now _ (stops-as _ _ s _ [] _ same c.in_err-flush.ensures.done))
-
-pub returns-in_err-self : goal.returns-in_err-self
-returns-in_err-self g c =
-    let p = err_from_is_err_and c.from_residual-in_err-self.result c.from_residual-in_err-self.ensures.1 in
-    let s = c.args.self.now in
-    let t = c.flush.new.self in
-    let kept : c.try_extend_from_slice.new.self ≡ s.waiting = where_err _ _ c.if-is_ok.false c.is_ok.ensures.value c.try_extend_from_slice.ensures.err in
-    let same : record { waiting = c.try_extend_from_slice.new.self; taken = s.taken } ≡ s = ap (λ w. record { waiting = w; taken = s.taken }) kept in
-    let flushed = puts-as _ _ s _ t [] same c.in_ok-flush.ensures.done in
-    rw (p.1, p.2) (puts-stops _ _ _ s t [] c.args.bytes.now _ flushed (sent-some _ _ t _ c.args.bytes.now _ (ap (λ l. l ++ c.args.bytes.now) (sym c.in_ok-flush.ensures.empty)) c.in_err-self.ensures))
 
 pub returns : goal.returns
 returns g c =
     let s = c.args.self.now in
-    let t = c.flush.new.self in
     let kept : c.try_extend_from_slice.new.self ≡ s.waiting = where_err _ _ c.if-is_ok.false c.is_ok.ensures.value c.try_extend_from_slice.ensures.err in
-    let same : record { waiting = c.try_extend_from_slice.new.self; taken = s.taken } ≡ s = ap (λ w. record { waiting = w; taken = s.taken }) kept in
-    let flushed = puts-as _ _ s _ t [] same c.in_ok-flush.ensures.done in
-    let still : c.try_extend_from_slice-2.new.self ≡ t.waiting = where_err _ _ c.if-is_ok-2.false c.is_ok-2.ensures.value c.try_extend_from_slice-2.ensures.err in
-    puts-then _ _ _ s t _ [] c.args.bytes.now flushed
-    (sent-past _ _ t _ c.args.bytes.now c.in_ok-flush.ensures.empty (ap (λ w. w.items) still ∙ c.in_ok-flush.ensures.empty) c.in_ok-self.ensures.0 c.in_ok-self.ensures.1)
+    puts-from _ _ s _ c.make_room.new.self c.args.bytes.now c.make_room.result (ap (λ w. record { waiting = w; taken = s.taken }) kept) c.make_room.ensures

@@ -1,0 +1,16 @@
+use Rattle.std.proofs.Common.{arith}
+use Rattle.cbor_reader.specs.WholeItem.{unread}
+use Rattle.cbor_reader.proofs.WholeItems.{trails, all-of-it}
+use Rattle.cbor_reader.proofs.view_reader.whole_view.Goals as goal
+
+pub returns-then-size-bytes-clause-refused : goal.returns-then-size-bytes-clause-refused
+returns-then-size-bytes-clause-refused c =
+    trails c.args.limits c.args.bytes.now c.in-Ok.size c.in-Ok.ensures.accepted.read c.at.result (omega (arith, c.if-size-bytes.true)) c.at.ensures
+
+pub returns-else-size-bytes-clause-accepted : goal.returns-else-size-bytes-clause-accepted
+returns-else-size-bytes-clause-accepted c =
+    let a = c.in-Ok.ensures.accepted in
+    (a.read.item, all-of-it c.args.limits c.args.bytes.now c.in-Ok.size a.read (omega (arith, c.if-size-bytes.false)), a.value)
+
+pub returns-in-Err-clause-refused : goal.returns-in-Err-clause-refused
+returns-in-Err-clause-refused c = unread c.in-Err.ensures.refused c.in-Err.ensures.no_read
