@@ -1,14 +1,14 @@
 -- What is left of a text, from one put to the next.
-use Rattle.std.proofs.Common.{◌≡◌, ℕ, suc, ◌+◌, ◌<◌, ◌≤◌, ◌==◌, if◌then◌else◌, Bool, true, false, List, [], ◌∷◌, ◌++◌, length, Option, Result, Ok, Err, Bor, codes, decimal, refl, sym, ap, ◌∙◌, subst, append_assoc, append-nil, length-append, arith}
-use Rattle.std.specs.Prelude.{reverse}
+use Rattle.std.proofs.Common.{◌≡◌, ℕ, suc, ◌+◌, ◌<◌, ◌≤◌, ◌==◌, if◌then◌else◌, Bool, true, false, List, [], ◌∷◌, ◌++◌, length, Option, Some, None, Result, Ok, Err, Bor, codes, decimal, refl, sym, ap, ◌∙◌, subst, append_assoc, append-nil, length-append, arith}
+use Rattle.std.specs.Prelude.{reverse, IsSome, option_to_list}
 use Rattle.std.proofs.lemmas.List.{reverse-append, length-reverse}
 use Rattle.cbor_head.specs.Value.{Value, array, map, tag, depth, depth_all, depth_entries}
 use Rattle.cbor_head.specs.declared.reason.Refusal.{Refusal}
 use Rattle.cbor_diag.specs.Text.{simple_text}
 use Rattle.cbor_diag.specs.inner.Layout.{gap, end, laid_out, members_left, pairs_left}
 use Rattle.cbor_diag.specs.inner.Nodes.{entries_in, values_in}
-use Rattle.cbor_diag.specs.inner.Outbox.{HasPut, HasStopped, Puts}
-use Rattle.cbor_diag.specs.inner.Levels.{AreShallow, HasLeft, IsDue, Leaves, behind, left_of, rest_of}
+use Rattle.cbor_diag.specs.inner.Outbox.{HasPut, HasStopped}
+use Rattle.cbor_diag.specs.inner.Levels.{AreShallow, AreAllShallow, HasLeft, IsDue, IsOpenOf, Leaves, all_left, behind, left_of, rest_of}
 use Rattle.cbor_diag.specs.declared.layout.Layout.{Layout}
 use Rattle.cbor_diag.specs.declared.outbox.Outbox.{Outbox}
 use Rattle.cbor_diag.specs.declared.walk.Left.{Left}
@@ -24,13 +24,17 @@ front-stops a b s whole xs more e is p = subst (λ (l : List ℕ). HasStopped a 
 pub front-left : (a b : Option (List ℕ)) (s t : Outbox) (whole xs more : List ℕ) → xs ++ more ≡ whole → 0 < length xs → HasPut a b s t xs → HasLeft a b s t whole more
 front-left a b s t whole xs more is some p = record { done = xs; written = p; some = some; joins = is }
 
-pub front-leaves : (a b : Option (List ℕ)) (s t : Outbox) (whole xs more : List ℕ) (r : Result (Unit {0}) Refusal) → xs ++ more ≡ whole → 0 < length xs → Puts a b s t xs r → Leaves a b s t whole more r
-front-leaves a b s t whole xs more (Ok x) is some p = front-left a b s t whole xs more is some p
-front-leaves a b s t whole xs more (Err e) is some p = front-stops a b s whole xs more e is p
+-- the text of what holds no other, or not all of it
+pub leaf-left : (l : Layout) (n : ℕ) (v w : Value) (a b : Option (List ℕ)) (s t : Outbox) → v ≡ w → 0 < length (laid_out l n v) → HasPut a b s t (laid_out l n v) → HasLeft a b s t (laid_out l n w) []
+leaf-left l n v w a b s t is some p =
+    front-left a b s t (laid_out l n w) (laid_out l n v) [] (append-nil (laid_out l n v) ∙ ap (laid_out l n) is) some p
+
+pub leaf-stops : (l : Layout) (n : ℕ) (v w : Value) (a b : Option (List ℕ)) (s : Outbox) (e : Refusal) → v ≡ w → HasStopped a b s (laid_out l n v) e → HasStopped a b s (laid_out l n w) e
+leaf-stops l n v w a b s e is p = subst (λ (x : Value). HasStopped a b s (laid_out l n x) e) is p
 
 -- a part, perhaps empty, and then what follows
-pub put-leaves : (a b c : Option (List ℕ)) (s t u : Outbox) (whole xs mid more : List ℕ) (r : Result (Unit {0}) Refusal) → xs ++ mid ≡ whole → HasPut a b s t xs → Leaves b c t u mid more r → Leaves a c s u whole more r
-put-leaves a b c s t u whole xs mid more (Ok x) is p q =
+pub put-left : (a b c : Option (List ℕ)) (s t u : Outbox) (whole xs mid more : List ℕ) → xs ++ mid ≡ whole → HasPut a b s t xs → HasLeft b c t u mid more → HasLeft a c s u whole more
+put-left a b c s t u whole xs mid more is p q =
     let some = q.some in
     record {
       done = xs ++ q.done;
@@ -38,17 +42,24 @@ put-leaves a b c s t u whole xs mid more (Ok x) is p q =
       some = omega (arith, length-append xs q.done);
       joins = append_assoc xs q.done more ∙ ap (λ (l : List ℕ). xs ++ l) q.joins ∙ is;
     }
-put-leaves a b c s t u whole xs mid more (Err e) is p q = subst (λ (l : List ℕ). HasStopped a c s l e) is (puts-stops a b c s t xs mid e p q)
+
+pub put-stops : (a b c : Option (List ℕ)) (s t : Outbox) (whole xs mid : List ℕ) (e : Refusal) → xs ++ mid ≡ whole → HasPut a b s t xs → HasStopped b c t mid e → HasStopped a c s whole e
+put-stops a b c s t whole xs mid e is p q = subst (λ (l : List ℕ). HasStopped a c s l e) is (puts-stops a b c s t xs mid e p q)
 
 pub left-left : (a b c : Option (List ℕ)) (s t u : Outbox) (whole mid more : List ℕ) → HasLeft a b s t whole mid → HasLeft b c t u mid more → HasLeft a c s u whole more
-left-left a b c s t u whole mid more p q = put-leaves a b c s t u whole p.done mid more (Ok tt) p.joins p.written q
+left-left a b c s t u whole mid more p q = put-left a b c s t u whole p.done mid more p.joins p.written q
 
 pub left-stops : (a b c : Option (List ℕ)) (s t : Outbox) (whole mid : List ℕ) (e : Refusal) → HasLeft a b s t whole mid → HasStopped b c t mid e → HasStopped a c s whole e
-left-stops a b c s t whole mid e p q = subst (λ (l : List ℕ). HasStopped a c s l e) p.joins (puts-stops a b c s t p.done mid e p.written q)
+left-stops a b c s t whole mid e p q = put-stops a b c s t whole p.done mid e p.joins p.written q
 
--- the text of what holds no other
-pub leaf-leaves : (l : Layout) (n : ℕ) (v w : Value) (a b : Option (List ℕ)) (s t : Outbox) (rest : List ℕ) (r : Result (Unit {0}) Refusal) → v ≡ w → 0 < length (laid_out l n v) → Puts a b s t (laid_out l n v) r → Leaves a b s t (laid_out l n w ++ rest) rest r
-leaf-leaves l n v w a b s t rest r is some p = front-leaves a b s t (laid_out l n w ++ rest) (laid_out l n v) rest r (ap (λ (x : Value). laid_out l n x ++ rest) is) some p
+-- more of the whole comes behind what is left of a part of it
+pub left-more : (a b : Option (List ℕ)) (s t : Outbox) (whole left more : List ℕ) → HasLeft a b s t whole left → HasLeft a b s t (whole ++ more) (left ++ more)
+left-more a b s t whole left more p = record {
+  done = p.done;
+  written = p.written;
+  some = p.some;
+  joins = sym (append_assoc p.done left more) ∙ ap (λ (l : List ℕ). l ++ more) p.joins;
+}
 
 -- the text of a simple value is not empty
 some_of : (b : Bool) (xs ys : List ℕ) → 0 < length xs → 0 < length ys → 0 < length (if b then xs else ys)
@@ -69,9 +80,9 @@ empty : {A : Type 0} (xs : List A) → length xs ≡ 0 → xs ≡ []
 empty [] h = refl
 empty (x ∷ xs) h = absurd (omega (arith, h))
 
--- the end of a container comes behind what was put
-pub ends : (a b c : Option (List ℕ)) (s t u : Outbox) (whole xs ys more : List ℕ) (r : Result (Unit {0}) Refusal) → xs ++ (ys ++ more) ≡ whole → 0 < length ys → HasPut a b s t xs → Puts b c t u ys r → Leaves a c s u whole more r
-ends a b c s t u whole xs ys more r is some p q = put-leaves a b c s t u whole xs (ys ++ more) more r is p (front-leaves b c t u (ys ++ more) ys more r refl some q)
+without : {A : Type 0} (xs : List A) → (0 < length xs → ⊥) → xs ≡ []
+without [] h = refl
+without (x ∷ xs) h = absurd (h (omega arith))
 
 on_top : {A : Type 0} (vs us : List A) (v : A) → us ≡ vs ++ v ∷ [] → reverse us ≡ v ∷ reverse vs
 on_top vs us v is = ap reverse is ∙ reverse-append vs (v ∷ [])
@@ -86,47 +97,65 @@ module _ {N : Type 0} (see : N → Value) where
   pub shallow-top : (vs us : List (Level N)) (v : Level N) → us ≡ vs ++ v ∷ [] → AreShallow see (v ∷ reverse vs) → AreShallow see (reverse us)
   shallow-top vs us v is h = subst (AreShallow see) (sym (on_top vs us v is)) h
 
-  pub opens : (l : Layout) (vs us : List (Level N)) (v : Level N) (a b : Option (List ℕ)) (s t : Outbox) (whole xs : List ℕ) → us ≡ vs ++ v ∷ [] → xs ++ (rest_of see l v ++ behind see l (reverse vs)) ≡ whole → 0 < length xs → HasPut a b s t xs
-      → HasLeft a b s t whole (behind see l (reverse us))
-  opens l vs us v a b s t whole xs more is some p = front-left a b s t whole xs (behind see l (reverse us)) (ap (λ (x : List ℕ). xs ++ x) (behind-top l vs us v more) ∙ is) some p
+  -- the container that was around the one that ended, if there was one
+  popped : (l : Layout) (vs us : List (Level N)) (o : Option (Level N)) → vs ≡ us ++ option_to_list o → (0 < length vs → IsSome o) → behind see l (reverse vs) ≡ all_left see l o (reverse us)
+  popped l vs us None is some = ap (λ (x : List (Level N)). behind see l (reverse x)) (without vs (λ h. cc (some h)))
+  popped l vs us (Some v) is some = behind-top l us vs v is
+
+  pub popped-shallow : (vs us : List (Level N)) (o : Option (Level N)) → vs ≡ us ++ option_to_list o → AreShallow see (reverse vs) → AreAllShallow see o (reverse us)
+  popped-shallow vs us None is h = tt
+  popped-shallow vs us (Some v) is h = subst (AreShallow see) (on_top us vs v is) h
+
+  -- the end of a container was put
+  pub ended : (l : Layout) (vs us : List (Level N)) (o : Option (Level N)) (a b : Option (List ℕ)) (s t : Outbox) (whole xs : List ℕ) → vs ≡ us ++ option_to_list o → (0 < length vs → IsSome o) → xs ++ behind see l (reverse vs) ≡ whole → 0 < length xs → HasPut a b s t xs
+      → HasLeft a b s t whole (all_left see l o (reverse us))
+  ended l vs us o a b s t whole xs is has all some p =
+      front-left a b s t whole xs (all_left see l o (reverse us)) (ap (λ (x : List ℕ). xs ++ x) (sym (popped l vs us o is has)) ∙ all) some p
+
+  -- behind what stands before it
+  pub ends : (l : Layout) (vs us : List (Level N)) (o : Option (Level N)) (a b c : Option (List ℕ)) (s t u : Outbox) (whole xs ys : List ℕ) → vs ≡ us ++ option_to_list o → (0 < length vs → IsSome o) → xs ++ (ys ++ behind see l (reverse vs)) ≡ whole → 0 < length ys
+      → HasPut a b s t xs → HasPut b c t u ys → HasLeft a c s u whole (all_left see l o (reverse us))
+  ends l vs us o a b c s t u whole xs ys is has all some p q =
+      ended l vs us o a c s u whole (xs ++ ys) is has (append_assoc xs ys (behind see l (reverse vs)) ∙ all) (omega (arith, length-append xs ys)) (puts-then a b c s t u xs ys p q)
 
   -- ---- the fronts of containers
 
-  pub array-front : (l : Layout) (n : ℕ) (v : Value) (ns : List N) (rest : List ℕ) → array (values_in see ns) ≡ v
-      → codes "[" ++ ((members_left l n true (values_in see ns) ++ codes "]") ++ rest) ≡ laid_out l n v ++ rest
-  array-front l n v ns rest is = ap (λ (x : Value). laid_out l n x ++ rest) is
+  pub array-front : (l : Layout) (n : ℕ) (v : Value) (ns : List N) → array (values_in see ns) ≡ v
+      → codes "[" ++ ((members_left l n true (values_in see ns) ++ codes "]") ++ []) ≡ laid_out l n v
+  array-front l n v ns is = ap (λ (x : List ℕ). codes "[" ++ x) (append-nil (members_left l n true (values_in see ns) ++ codes "]")) ∙ ap (laid_out l n) is
 
-  pub map-front : (l : Layout) (n : ℕ) (v : Value) (ps : List (N × N)) (rest : List ℕ) → map (entries_in see ps) ≡ v
-      → codes "{" ++ ((pairs_left l n true (entries_in see ps) ++ codes "}") ++ rest) ≡ laid_out l n v ++ rest
-  map-front l n v ps rest is = ap (λ (x : Value). laid_out l n x ++ rest) is
+  pub map-front : (l : Layout) (n : ℕ) (v : Value) (ps : List (N × N)) → map (entries_in see ps) ≡ v
+      → codes "{" ++ ((pairs_left l n true (entries_in see ps) ++ codes "}") ++ []) ≡ laid_out l n v
+  map-front l n v ps is = ap (λ (x : List ℕ). codes "{" ++ x) (append-nil (pairs_left l n true (entries_in see ps) ++ codes "}")) ∙ ap (laid_out l n) is
 
-  pub tag-front : (l : Layout) (n : ℕ) (v : Value) (k : ℕ) (content : N) (rest : List ℕ) → tag k (see content) ≡ v
-      → (decimal k ++ codes "(") ++ ((laid_out l n (see content) ++ codes ")") ++ rest) ≡ laid_out l n v ++ rest
-  tag-front l n v k content rest is =
-      sym (append_assoc (decimal k ++ codes "(") (laid_out l n (see content) ++ codes ")") rest)
-      ∙ ap (λ (x : List ℕ). x ++ rest) (sym (append_assoc (decimal k ++ codes "(") (laid_out l n (see content)) (codes ")")))
-      ∙ ap (λ (x : Value). laid_out l n x ++ rest) is
+  pub tag-front : (l : Layout) (n : ℕ) (v : Value) (k : ℕ) (content : N) → tag k (see content) ≡ v
+      → (decimal k ++ codes "(") ++ ((laid_out l n (see content) ++ codes ")") ++ []) ≡ laid_out l n v
+  tag-front l n v k content is =
+      ap (λ (x : List ℕ). (decimal k ++ codes "(") ++ x) (append-nil (laid_out l n (see content) ++ codes ")"))
+      ∙ sym (append_assoc (decimal k ++ codes "(") (laid_out l n (see content)) (codes ")")) ∙ ap (laid_out l n) is
 
   -- ---- how deep they nest
 
-  pub array-shallow : (v : Value) (ns : List N) (n : ℕ) (vs : List (Level N)) → array (values_in see ns) ≡ v → IsDue see (depth v) n vs → (n ≤ length vs) × (depth_all (values_in see ns) + length vs + 1 ≤ 256) × AreShallow see vs
-  array-shallow v ns n vs is due =
-      let deep : suc (depth_all (values_in see ns)) ≡ depth v = ap depth is in
-      (due.indented, omega (arith, deep, due.room), due.shallow)
+  pub array-open : (v : Value) (ns : List N) → array (values_in see ns) ≡ v → depth_all (values_in see ns) + 1 ≤ depth v
+  array-open v ns is = let deep : suc (depth_all (values_in see ns)) ≡ depth v = ap depth is in omega (arith, deep)
 
-  pub map-shallow : (v : Value) (ps : List (N × N)) (n : ℕ) (vs : List (Level N)) → map (entries_in see ps) ≡ v → IsDue see (depth v) n vs → (n ≤ length vs) × (depth_entries (entries_in see ps) + length vs + 1 ≤ 256) × AreShallow see vs
-  map-shallow v ps n vs is due =
-      let deep : suc (depth_entries (entries_in see ps)) ≡ depth v = ap depth is in
-      (due.indented, omega (arith, deep, due.room), due.shallow)
+  pub map-open : (v : Value) (ps : List (N × N)) → map (entries_in see ps) ≡ v → depth_entries (entries_in see ps) + 1 ≤ depth v
+  map-open v ps is = let deep : suc (depth_entries (entries_in see ps)) ≡ depth v = ap depth is in omega (arith, deep)
 
-  pub tag-shallow : (v : Value) (k : ℕ) (content : N) (n : ℕ) (vs : List (Level N)) → tag k (see content) ≡ v → IsDue see (depth v) n vs → (n ≤ length vs) × (depth (see content) + length vs + 1 ≤ 256) × AreShallow see vs
-  tag-shallow v k content n vs is due =
-      let deep : suc (depth (see content)) ≡ depth v = ap depth is in
-      (due.indented, omega (arith, deep, due.room), due.shallow)
+  pub tag-open : (v : Value) (k : ℕ) (content : N) → tag k (see content) ≡ v → depth (see content) + 1 ≤ depth v
+  tag-open v k content is = let deep : suc (depth (see content)) ≡ depth v = ap depth is in omega (arith, deep)
 
   -- there is room for one more
   pub has-room : (vs : List (Level N)) (v : Level N) → AreShallow see (v ∷ reverse vs) → length vs < 256
   has-room vs v h = omega (arith, h.1, length-reverse vs)
+
+  pub open-shallow : (d n : ℕ) (vs us : List (Level N)) (v w : Level N) → us ≡ vs ++ v ∷ [] → IsDue see d n (v ∷ reverse vs) → IsOpenOf see d n (Some w) → AreShallow see (w ∷ reverse us)
+  open-shallow d n vs us v w is due h =
+      subst (λ (x : List (Level N)). AreShallow see (w ∷ x)) (sym (on_top vs us v is)) (omega (arith, due.indented, h.0), omega (arith, due.room, h.1), due.shallow)
+
+  pub first-shallow : (d : ℕ) (o : Option (Level N)) → d ≤ 256 → IsOpenOf see d 0 o → AreAllShallow see o []
+  first-shallow d None l h = tt
+  first-shallow d (Some v) l h = (omega (arith, h.0), omega (arith, l, h.1), tt)
 
   -- ---- what is left of a container, and what comes first of it
 
@@ -158,12 +187,15 @@ module _ {N : Type 0} (see : N → Value) where
   value-next l n left x b rest is =
       four (codes ": ") (laid_out l (n + 1) (see x.now)) (pairs_left l n false (entries_in see b.now)) (codes "}") rest ∙ left_as l n left (parts.Value x b) rest is
 
-  -- the item is on top of what is left of its container, and comes behind what was put
-  pub goes-on : (l : Layout) (vs us : List (Level N)) (v : Level N) (a b c : Option (List ℕ)) (s t u : Outbox) (whole xs mid more : List ℕ) (r : Result (Unit {0}) Refusal) → us ≡ vs ++ v ∷ [] → xs ++ (mid ++ (rest_of see l v ++ behind see l (reverse vs))) ≡ whole
-      → HasPut a b s t xs → Leaves b c t u (mid ++ behind see l (reverse us)) more r → Leaves a c s u whole more r
-  goes-on l vs us v a b c s t u whole xs mid more r is all p q =
-      put-leaves a b c s t u whole xs (mid ++ behind see l (reverse us)) more r (ap (λ (x : List ℕ). xs ++ (mid ++ x)) (behind-top l vs us v is) ∙ all) p q
+  -- an item comes behind what was put
+  pub goes-on : (l : Layout) (vs : List (Level N)) (a b c : Option (List ℕ)) (s t u : Outbox) (whole xs mid : List ℕ) (r : Result (Option (Level N)) Refusal) → xs ++ mid ≡ whole → HasPut a b s t xs → Leaves see l b c t u mid vs r → Leaves see l a c s u whole vs r
+  goes-on l vs a b c s t u whole xs mid (Ok o) is p q = put-left a b c s t u whole xs mid (all_left see l o vs) is p q
+  goes-on l vs a b c s t u whole xs mid (Err e) is p q = put-stops a b c s t whole xs mid e is p q
 
-  -- the innermost container was taken off
-  pub popped-left : (l : Layout) (vs us : List (Level N)) (v : Level N) (a b : Option (List ℕ)) (s t : Outbox) (whole : List ℕ) → us ≡ vs ++ v ∷ [] → HasLeft a b s t whole (behind see l (reverse us)) → HasLeft a b s t whole (rest_of see l v ++ behind see l (reverse vs))
-  popped-left l vs us v a b s t whole is p = subst (λ (x : List ℕ). HasLeft a b s t whole x) (behind-top l vs us v is) p
+  -- its container is around what is open of it
+  pub opened : (l : Layout) (vs us : List (Level N)) (v w : Level N) (a b : Option (List ℕ)) (s t : Outbox) (whole : List ℕ) → us ≡ vs ++ v ∷ [] → HasLeft a b s t whole (rest_of see l w ++ [])
+      → HasLeft a b s t (whole ++ (rest_of see l v ++ behind see l (reverse vs))) (rest_of see l w ++ behind see l (reverse us))
+  opened l vs us v w a b s t whole is p =
+      subst (λ (x : List ℕ). HasLeft a b s t (whole ++ (rest_of see l v ++ behind see l (reverse vs))) x)
+      (ap (λ (x : List ℕ). x ++ (rest_of see l v ++ behind see l (reverse vs))) (append-nil (rest_of see l w)) ∙ ap (λ (x : List ℕ). rest_of see l w ++ x) (sym (behind-top l vs us v is)))
+      (left-more a b s t whole (rest_of see l w ++ []) (rest_of see l v ++ behind see l (reverse vs)) p)

@@ -1,9 +1,10 @@
 //! The walk over an item, or a view of one, and all that it holds.
 
-ghost use Rattle.std.specs.Prelude.{◌≡◌, ◌+◌, ◌≤◌, ◌∷◌, ◌++◌, length, reverse};
+ghost use Rattle.std.specs.Prelude.{◌≡◌, ◌+◌, ◌≤◌, [], ◌∷◌, ◌++◌, length, reverse, IfOk};
 ghost use Rattle.cbor_head.specs.Value.{depth};
 ghost use Rattle.cbor_diag.specs.inner.Layout.{laid_out};
-ghost use Rattle.cbor_diag.specs.inner.Levels.{AreShallow, IsDue, Leaves, behind, rest_of};
+ghost use Rattle.cbor_diag.specs.inner.Levels.{AreShallow, AreAllShallow, IsDue, IsOpenOf};
+ghost use Rattle.cbor_diag.specs.inner.Levels.{Leaves, behind, rest_of};
 ghost use Rattle.cbor_diag.specs.inner.Outbox.{Puts};
 
 use crate::layout::{Layout, put_end, put_gap};
@@ -17,8 +18,8 @@ use std::io::Write;
 // As many as a tree lets nest.
 const MOST_OPEN: usize = MAX_DEPTH as usize;
 
-/// The open containers, the innermost last: a walk takes no more of the stack, however deep an item
-/// nests.
+/// The containers around the innermost open one, from the outermost on: a walk takes no more of the
+/// stack, however deep an item nests.
 pub(crate) type Levels<'a, N> = ArrayVec<Level<'a, N>, MOST_OPEN>;
 
 /// A container whose end is not written, at so many levels of indentation.
@@ -55,10 +56,10 @@ pub(crate) fn put_item<N: Node, W: Write>(
     ensures { Puts (W.contents writer.old) (W.contents writer.new) out.old out.new
         (laid_out layout 0 (N.value item.now)) result }
 {
-    let mut levels = Levels::new();
-    begin(item, layout, 0, &mut levels, out, writer)?;
-    'levels: while let Some(level) = levels.pop() {
-        go_on(level, layout, &mut levels, out, writer)?;
+    let mut around = Levels::new();
+    let mut innermost = begin(item, layout, 0, out, writer)?;
+    'levels: while let Some(level) = innermost {
+        innermost = go_on(level, layout, &mut around, out, writer)?;
     }
     Ok(())
 }
@@ -69,96 +70,138 @@ fn begin<'a, N: Node, W: Write>(
     item: &'a N,
     layout: Layout,
     indent: u16,
-    levels: &mut Levels<'a, N>,
     out: &mut Outbox,
     writer: &mut W,
-) -> Result<(), Refusal>
-    requires { IsDue N.value (depth (N.value item.now)) indent (reverse levels.old.items) }
-    ensures put { Leaves (W.contents writer.old) (W.contents writer.new) out.old out.new
-        (laid_out layout indent (N.value item.now)
-        ++ behind N.value layout (reverse levels.old.items))
-        (behind N.value layout (reverse levels.new.items)) result }
-    ensures shallow { AreShallow N.value (reverse levels.new.items) }
+) -> Result<Option<Level<'a, N>>, Refusal>
+    ensures put { Leaves N.value layout (W.contents writer.old) (W.contents writer.new)
+        out.old out.new (laid_out layout indent (N.value item.now)) [] result }
+    ensures opened { IfOk result (IsOpenOf N.value (depth (N.value item.now)) indent) }
 {
     match item.part() {
-        Part::Unsigned(number) => put_number(number, out, writer),
-        Part::Negative(number) => put_negative(number, out, writer),
-        Part::Bytes(bytes) => put_bytes(bytes, out, writer),
-        Part::Text(text) => put_text(text.as_bytes(), out, writer),
+        Part::Unsigned(number) => {
+            put_number(number, out, writer)?;
+            Ok(None)
+        }
+        Part::Negative(number) => {
+            put_negative(number, out, writer)?;
+            Ok(None)
+        }
+        Part::Bytes(bytes) => {
+            put_bytes(bytes, out, writer)?;
+            Ok(None)
+        }
+        Part::Text(text) => {
+            put_text(text.as_bytes(), out, writer)?;
+            Ok(None)
+        }
         Part::Array(items) => {
             out.put(writer, b"[")?;
-            let next = Left::Array(items, true);
-            levels.push(Level { indent, left: next });
-            Ok(())
+            let left = Left::Array(items, true);
+            Ok(Some(Level { indent, left }))
         }
         Part::Map(pairs) => {
             out.put(writer, b"{")?;
-            let next = Left::Map(pairs, true);
-            levels.push(Level { indent, left: next });
-            Ok(())
+            let left = Left::Map(pairs, true);
+            Ok(Some(Level { indent, left }))
         }
         Part::Tag(number, content) => {
             put_number(number, out, writer)?;
             out.put(writer, b"(")?;
-            let next = Left::Content(content);
-            levels.push(Level { indent, left: next });
-            Ok(())
+            let left = Left::Content(content);
+            Ok(Some(Level { indent, left }))
         }
-        Part::Simple(number) => put_simple(number, out, writer),
+        Part::Simple(number) => {
+            put_simple(number, out, writer)?;
+            Ok(None)
+        }
     }
 }
 
-// Puts what comes next in the innermost container, which was taken off.
+// Puts what comes next in the innermost container, and answers which is the innermost then.
 fn go_on<'a, N: Node, W: Write>(
     level: Level<'a, N>,
     layout: Layout,
-    levels: &mut Levels<'a, N>,
+    around: &mut Levels<'a, N>,
     out: &mut Outbox,
     writer: &mut W,
-) -> Result<(), Refusal>
-    requires { AreShallow N.value (level ∷ reverse levels.old.items) }
-    ensures put { Leaves (W.contents writer.old) (W.contents writer.new) out.old out.new
-        (rest_of N.value layout level.entry ++ behind N.value layout (reverse levels.old.items))
-        (behind N.value layout (reverse levels.new.items)) result }
-    ensures shallow { AreShallow N.value (reverse levels.new.items) }
+) -> Result<Option<Level<'a, N>>, Refusal>
+    requires { AreShallow N.value (level ∷ reverse around.old.items) }
+    ensures put { Leaves N.value layout (W.contents writer.old) (W.contents writer.new)
+        out.old out.new (rest_of N.value layout level.entry
+        ++ behind N.value layout (reverse around.old.items)) (reverse around.new.items) result }
+    ensures shallow { IfOk result
+        (λ inner. AreAllShallow N.value inner (reverse around.new.items)) }
 {
     let indent = level.indent;
     match level.left {
         Left::Array(left, first) => match left.split_first() {
             Some((item, left)) => {
                 put_gap(layout, indent, first, out, writer)?;
-                let next = Left::Array(left, false);
-                levels.push(Level { indent, left: next });
-                begin(item, layout, indent + 1, levels, out, writer)
+                let left = Left::Array(left, false);
+                let next = Level { indent, left };
+                go_into(item, layout, indent + 1, next, around, out, writer)
             }
             None => {
                 put_end(layout, indent, first, out, writer)?;
-                out.put(writer, b"]")
+                out.put(writer, b"]")?;
+                Ok(around.pop())
             }
         },
         Left::Map(left, first) => match left.split_first() {
             Some(((key, value), left)) => {
                 put_gap(layout, indent, first, out, writer)?;
-                let next = Left::Value(value, left);
-                levels.push(Level { indent, left: next });
-                begin(key, layout, indent + 1, levels, out, writer)
+                let left = Left::Value(value, left);
+                let next = Level { indent, left };
+                go_into(key, layout, indent + 1, next, around, out, writer)
             }
             None => {
                 put_end(layout, indent, first, out, writer)?;
-                out.put(writer, b"}")
+                out.put(writer, b"}")?;
+                Ok(around.pop())
             }
         },
         Left::Value(value, left) => {
             out.put(writer, b": ")?;
-            let next = Left::Map(left, false);
-            levels.push(Level { indent, left: next });
-            begin(value, layout, indent + 1, levels, out, writer)
+            let left = Left::Map(left, false);
+            let next = Level { indent, left };
+            go_into(value, layout, indent + 1, next, around, out, writer)
         }
         Left::Content(content) => {
-            let next = Left::Tag;
-            levels.push(Level { indent, left: next });
-            begin(content, layout, indent, levels, out, writer)
+            let left = Left::Tag;
+            let next = Level { indent, left };
+            go_into(content, layout, indent, next, around, out, writer)
         }
-        Left::Tag => out.put(writer, b")"),
+        Left::Tag => {
+            out.put(writer, b")")?;
+            Ok(around.pop())
+        }
+    }
+}
+
+// Puts an item of the container, or its front, and answers which container is the innermost then.
+#[inline(always)]
+fn go_into<'a, N: Node, W: Write>(
+    item: &'a N,
+    layout: Layout,
+    indent: u16,
+    level: Level<'a, N>,
+    around: &mut Levels<'a, N>,
+    out: &mut Outbox,
+    writer: &mut W,
+) -> Result<Option<Level<'a, N>>, Refusal>
+    requires { IsDue N.value (depth (N.value item.now)) indent (level ∷ reverse around.old.items) }
+    ensures put { Leaves N.value layout (W.contents writer.old) (W.contents writer.new)
+        out.old out.new (laid_out layout indent (N.value item.now)
+        ++ (rest_of N.value layout level.entry ++ behind N.value layout (reverse around.old.items)))
+        (reverse around.new.items) result }
+    ensures shallow { IfOk result
+        (λ inner. AreAllShallow N.value inner (reverse around.new.items)) }
+{
+    match begin(item, layout, indent, out, writer)? {
+        Some(inner) => {
+            around.push(level);
+            Ok(Some(inner))
+        }
+        None => Ok(Some(level)),
     }
 }

@@ -19,7 +19,7 @@ use Rattle.cbor_reader.specs.declared.comparison.Side.{Side}
 use Rattle.cbor_reader.specs.declared.comparison.Side.TheVariants.{Left, Right}
 use Rattle.cborc_commands.proofs.Files.{put_kept, input_before}
 use Rattle.cborc_commands.proofs.Fronts.{canonical_whole, refusal_whole, is_whole, is_not_whole, is_all_of, listed_whole, not_listed_whole, whole_item, item_refusal_whole}
-use Rattle.cborc_commands.proofs.Whole.{is_read, is_no_item}
+use Rattle.cborc_commands.proofs.Whole.{AreAccepted, is_read, is_no_item}
 use Rattle.cborc_commands.specs.Canon.{IsCanonicalText, IsPut, IsNotPut, IsCanonised, IsNotCanonised}
 use Rattle.cborc_commands.specs.inner.Parts.{IsNoText, StartsInput}
 use Rattle.cborc_commands.specs.Check.{accepted_bytes, IsWhole, IsNotWhole, IsChecked, IsNotChecked}
@@ -120,18 +120,18 @@ module _ (rules : Rules) (options : Options) (source : List ℕ) (held : Option 
 module _ (options : Options) (source : List ℕ) (held : Option Files) (bytes : List ℕ) (s : StartsInput held source options.hex (options.limits.bytes + 1) bytes) where
   -- ---- `show`
 
-  read_whole : (v : Value) → (item : Spelling) × IsValidItem options.limits bytes item × (v ≡ value_of item) → IsReadAs options.limits plain s.input v (length s.input)
-  read_whole v h =
+  read_whole : AreAccepted options.limits bytes → (v : Value) → (item : Spelling) × IsValidItem options.limits bytes item × (v ≡ value_of item) → IsReadAs options.limits plain s.input v (length s.input)
+  read_whole are v h =
       is_all_of options.limits s.input v
-      (subst (λ (b : List ℕ). IsReadAs options.limits plain b v (length b)) s.front (is_read options.limits bytes v h))
+      (subst (λ (b : List ℕ). IsReadAs options.limits plain b v (length b)) s.front (is_read options.limits bytes are v h))
 
-  pub shown_of : (layout : Layout) (v : Value) (before after : Option (List ℕ)) → (item : Spelling) × IsValidItem options.limits bytes item × (v ≡ value_of item)
+  pub shown_of : AreAccepted options.limits bytes → (layout : Layout) (v : Value) (before after : Option (List ℕ)) → (item : Spelling) × IsValidItem options.limits bytes item × (v ≡ value_of item)
       → Appends before after (shown_text layout v) → IsShownOf layout options source held before after
-  shown_of layout v before after h w = record { input = s.input; is = s.is; value = v; whole = read_whole v h; shown = w }
+  shown_of are layout v before after h w = record { input = s.input; is = s.is; value = v; whole = read_whole are v h; shown = w }
 
-  pub unshown : (v : Value) → (item : Spelling) × IsValidItem options.limits bytes item × (v ≡ value_of item) → (fault : Fault) → fault ≡ faults.CannotPrint → IsNotShown options source held fault
-  unshown v h fault e =
-      subst (IsNotShown options source held) (sym e) (record { input = s.input; is = s.is; value = v; whole = read_whole v h })
+  pub unshown : AreAccepted options.limits bytes → (v : Value) → (item : Spelling) × IsValidItem options.limits bytes item × (v ≡ value_of item) → (fault : Fault) → fault ≡ faults.CannotPrint → IsNotShown options source held fault
+  unshown are v h fault e =
+      subst (IsNotShown options source held) (sym e) (record { input = s.input; is = s.is; value = v; whole = read_whole are v h })
 
   pub not_shown : (f : Refusal) → IsItemRefusal options.limits bytes f → (fault : Fault) → fault ≡ refusal_fault f → IsNotShown options source held fault
   not_shown f h fault e =

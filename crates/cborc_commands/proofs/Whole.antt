@@ -1,5 +1,6 @@
 -- Why the bytes of a file are not one accepted item.
 use Rattle.std.proofs.Common.{ℕ, ◌+◌, ◌≤◌, arith, ◌≡◌, List, length, take, sym, ap, ◌∙◌, refl, subst}
+use Rattle.std.specs.Prelude.{◌↔◌}
 use Rattle.std.proofs.lemmas.List.{length-take, length-append}
 use Rattle.cbor_head.specs.Complaint.{Rules, plain}
 use Rattle.cbor_head.specs.Limits.{Bounds}
@@ -12,7 +13,6 @@ use Rattle.cbor_judging.specs.Readers.{IsRead, IsReadAs}
 use Rattle.cbor_reader.specs.Headline.{IsValidItem}
 use Rattle.cbor_reader.specs.WholeItem as items
 use Rattle.cbor_reader.specs.WholeItem.{IsItemRefusal}
-use Rattle.cbor_reader.proofs.Headline.{valid_item_exactly}
 use Rattle.cborc_commands.specs.Check.{IsNotWhole, unread, trailing}
 
 -- no more than the input is read
@@ -34,9 +34,13 @@ module _ (limits : Bounds) (rules known : Rules) (same : rules ≡ known) (input
 
 -- ---- what is told of a whole input
 
-pub is_read : (limits : Bounds) (input : List ℕ) (v : Value) → (s : Spelling) × IsValidItem limits input s × (v ≡ value_of s) → IsReadAs limits plain input v (length input)
-is_read limits input v (s, valid, is) =
-    let h = (valid_item_exactly limits input s).0 valid in
+-- valid items are what the plain verdict accepts whole
+abbrev pub AreAccepted : Bounds → List ℕ → Type 0
+AreAccepted limits input = (s : Spelling) → IsValidItem limits input s ↔ (IsVerdict limits plain input (accepted s) × (spell s ≡ input))
+
+pub is_read : (limits : Bounds) (input : List ℕ) → AreAccepted limits input → (v : Value) → (s : Spelling) × IsValidItem limits input s × (v ≡ value_of s) → IsReadAs limits plain input v (length input)
+is_read limits input are v (s, valid, is) =
+    let h = (are s).0 valid in
     record { read = record { item = s; verdict = h.0; size = sym (ap length h.1) }; value = is }
 
 pub is_no_item : (limits : Bounds) (input : List ℕ) (f : Refusal) → IsItemRefusal limits input f → IsNotWhole limits plain input f

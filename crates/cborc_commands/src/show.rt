@@ -14,6 +14,7 @@ use crate::request::{Layout, Options};
 use bumpalo::Bump;
 use cbor_diag::{diagnostic_view, diagnostic_view_indented};
 use cbor_item::write_whole;
+use cbor_reader::laws::valid_items;
 use cbor_reader::whole_view;
 use cbor_view::View;
 use cborc_files::Folder;
@@ -36,6 +37,7 @@ pub fn show<'a, F: Folder, O: Write>(
     ensures keeps { KeepsFiles (F.held files.old) (F.held files.new) }
     ensures same { F.behind files.new ≡ F.behind files.old }
 {
+    valid_items();
     let limits = options.limits;
     let bytes = input::read_item(alloc, files, source, options)?;
     let arena = Bump::new(alloc);

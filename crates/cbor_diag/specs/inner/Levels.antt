@@ -1,5 +1,5 @@
 -- What is left of a text that is being written, by the containers that are open.
-use Rattle.std.specs.Prelude.{ℕ, ◌≡◌, ◌+◌, ◌<◌, ◌≤◌, max, false, List, [], ◌∷◌, ◌++◌, length, codes, Option, Result, Ok, Err}
+use Rattle.std.specs.Prelude.{ℕ, ◌≡◌, ◌+◌, ◌<◌, ◌≤◌, max, false, List, [], ◌∷◌, ◌++◌, length, codes, Option, Some, None, Result, Ok, Err}
 use Rattle.cbor_head.specs.Value.{Value, depth, depth_all, depth_entries}
 use Rattle.cbor_head.specs.declared.reason.Refusal.{Refusal}
 use Rattle.cbor_diag.specs.inner.Layout.{laid_out, members_left, pairs_left}
@@ -49,6 +49,20 @@ module _ {N : Type 0} (see : N → Value) where
     pub indented : indent ≤ length vs
     pub shallow : AreShallow vs
 
+  -- what is left where this container is the innermost, if one is open, and these are around it
+  abbrev pub all_left : Layout → Option (Level N) → List (Level N) → List ℕ
+  all_left l None vs = []
+  all_left l (Some v) vs = rest_of l v ++ behind l vs
+
+  abbrev pub AreAllShallow : Option (Level N) → List (Level N) → Type 0
+  AreAllShallow None vs = Unit {0}
+  AreAllShallow (Some v) vs = AreShallow (v ∷ vs)
+
+  -- an item of this depth is put, or this container is open of it
+  abbrev pub IsOpenOf : ℕ → ℕ → Option (Level N) → Type 0
+  IsOpenOf d indent None = Unit {0}
+  IsOpenOf d indent (Some v) = (v.indent ≡ indent) × (depth_left v.left + 1 ≤ d)
+
 -- some of the whole was put, and the rest is left
 pub record HasLeft (old new : Option (List ℕ)) (from to : Outbox) (whole left : List ℕ) : Type 0 where
   pub done : List ℕ
@@ -56,7 +70,7 @@ pub record HasLeft (old new : Option (List ℕ)) (from to : Outbox) (whole left 
   pub some : 0 < length done
   pub joins : done ++ left ≡ whole
 
--- so, or the writer failed
-abbrev pub Leaves : Option (List ℕ) → Option (List ℕ) → Outbox → Outbox → List ℕ → List ℕ → Result (Unit {0}) Refusal → Type 0
-Leaves old new from to whole left (Ok x) = HasLeft old new from to whole left
-Leaves old new from to whole left (Err e) = HasStopped old new from whole e
+-- so, where this container is then the innermost and these are around it; or the writer failed
+abbrev pub Leaves : {N : Type 0} → (N → Value) → Layout → Option (List ℕ) → Option (List ℕ) → Outbox → Outbox → List ℕ → List (Level N) → Result (Option (Level N)) Refusal → Type 0
+Leaves see l old new from to whole vs (Ok o) = HasLeft old new from to whole (all_left see l o vs)
+Leaves see l old new from to whole vs (Err e) = HasStopped old new from whole e

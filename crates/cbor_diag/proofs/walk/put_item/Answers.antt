@@ -1,14 +1,14 @@
 use Rattle.std.proofs.lemmas.Result.{err_from_is_err_and}
-use Rattle.cbor_diag.proofs.Leaving.{left-left, left-stops, popped-left}
+use Rattle.cbor_diag.proofs.Leaving.{left-left, left-stops}
 use Rattle.cbor_diag.proofs.walk.put_item.Goals as goal
 
 pub levels-preserved : goal.levels-preserved
-levels-preserved g c =
-    let left = popped-left g.N.Node.value c.args.layout c.pop.new.self.items c.levels.levels.items c.in-Some.level _ _ c.args.out.now c.levels.out _ c.in-Some.ensures.items c.levels.invariant.left in
-    record { left = left-left _ _ _ c.args.out.now c.levels.out c.go_on.new.out _ _ _ left c.in_ok-go_on.ensures.put; shallow = c.go_on.ensures.shallow }
+levels-preserved g c = record {
+  left = left-left _ _ _ c.args.out.now c.levels.out c.go_on.new.out _ _ _ (rw c.in-Some.is at c.levels.invariant.left) c.in_ok-innermost-2.ensures.put;
+  shallow = c.in_ok-innermost-2.ensures.shallow;
+}
 
-pub returns-in_err-go_on : goal.returns-in_err-go_on
-returns-in_err-go_on g c =
-    let left = popped-left g.N.Node.value c.args.layout c.pop.new.self.items c.levels.levels.items c.in-Some.level _ _ c.args.out.now c.levels.out _ c.in-Some.ensures.items c.levels.invariant.left in
-    let p = err_from_is_err_and c.from_residual-in_err-go_on.result c.from_residual-in_err-go_on.ensures.1 in
-    rw (p.1, p.2) (left-stops _ _ _ c.args.out.now c.levels.out _ _ _ left c.in_err-go_on.ensures.put)
+pub returns-in_err-innermost-2 : goal.returns-in_err-innermost-2
+returns-in_err-innermost-2 g c =
+    let p = err_from_is_err_and c.from_residual-in_err-innermost-2.result c.from_residual-in_err-innermost-2.ensures.1 in
+    rw (p.1, p.2) (left-stops _ _ _ c.args.out.now c.levels.out _ _ _ (rw c.in-Some.is at c.levels.invariant.left) c.in_err-innermost-2.ensures.put)

@@ -13,13 +13,13 @@ returns-in_err-view-clause-fault g c =
 pub returns-clause-shown : goal.returns-clause-shown
 returns-clause-shown g c =
     on_ok c.print.result _ _
-    (shown_of c.args.options c.args.source.now (g.F.Folder.held c.args.files.now) c.in_ok-bytes.bytes.items c.in_ok-bytes.ensures.front c.args.layout (seen c.in_ok-view.view)
+    (shown_of c.args.options c.args.source.now (g.F.Folder.held c.args.files.now) c.in_ok-bytes.bytes.items c.in_ok-bytes.ensures.front (c.valid_items.ensures.verdict c.args.options.limits c.in_ok-bytes.bytes.items) c.args.layout (seen c.in_ok-view.view)
     (g.O.Write.contents c.args.out.now) (g.O.Write.contents c.print.new.out) (rw (c.as_slice.ensures.value) at c.in_ok-view.ensures.accepted))
     c.print.ensures.shown
 
 pub returns-clause-fault : goal.returns-clause-fault
 returns-clause-fault g c =
     on_err c.print.result _ _
-    (unshown c.args.options c.args.source.now (g.F.Folder.held c.args.files.now) c.in_ok-bytes.bytes.items c.in_ok-bytes.ensures.front (seen c.in_ok-view.view)
+    (unshown c.args.options c.args.source.now (g.F.Folder.held c.args.files.now) c.in_ok-bytes.bytes.items c.in_ok-bytes.ensures.front (c.valid_items.ensures.verdict c.args.options.limits c.in_ok-bytes.bytes.items) (seen c.in_ok-view.view)
     (rw (c.as_slice.ensures.value) at c.in_ok-view.ensures.accepted))
     c.print.ensures.fault
