@@ -132,29 +132,33 @@ fn refuses_slices_that_begin_no_item(rt: HostRuntime) -> Result<(), Fail> {
     Ok(())
 }
 
+// What a slice is refused for, however far its events go.
+fn refusal_of(bytes: &[u8], limits: Limits) -> Option<Refusal> {
+    let mut events = SliceEvents::new(bytes, limits);
+    for _ in 0..100 {
+        let _ = events.next();
+    }
+    events.refusal()
+}
+
 // Each front of an item is Truncated where it ends, and TooLong where the limit is.
 #[test]
 fn refuses_each_front(rt: HostRuntime) -> Result<(), Fail> {
+    let wide = limits(&rt, 256, 1 << 20);
     for &(hex, _) in accepted_rows() {
         let bytes = bytes_of(&rt, rt.alloc(), hex)?;
         for cut in 0..bytes.len() {
-            let mut short = SliceEvents::new(&bytes[..cut], limits(&rt, 256, 1 << 20));
-            let mut limited = SliceEvents::new(&bytes, limits(&rt, 256, cut as u64));
-            for _ in 0..100 {
-                let _ = short.next();
-                let _ = limited.next();
-            }
-            let truncated = Refusal {
-                reason: Reason::Truncated,
-                place: cut as u64,
-                read: cut as u64,
-            };
-            assert_eq!(rt; short.refusal(), Some(truncated), "at {hex}");
-            let too_long = Refusal {
-                reason: Reason::TooLong,
-                ..truncated
-            };
-            assert_eq!(rt; limited.refusal(), Some(too_long), "at {hex}");
+            let place = cut as u64;
+            let short = refusal_of(&bytes[..cut], wide);
+            assert!(rt;
+                short == Some(Refusal::at(Reason::Truncated, place)),
+                "at {hex}"
+            );
+            let limited = refusal_of(&bytes, limits(&rt, 256, place));
+            assert!(rt;
+                limited == Some(Refusal::at(Reason::TooLong, place)),
+                "at {hex}"
+            );
         }
     }
     Ok(())
