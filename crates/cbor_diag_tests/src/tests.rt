@@ -52,97 +52,111 @@ fn shows_indented(alloc: Global, item: Item, want: &str) -> Result<bool, Fail> {
 }
 
 // As RFC 8949, Appendix A, writes them.
+static UNSIGNED: [(u64, &str); 7] = [
+    (0, "0"),
+    (10, "10"),
+    (23, "23"),
+    (100, "100"),
+    (1000, "1000"),
+    (1000000000000, "1000000000000"),
+    (18446744073709551615, "18446744073709551615"),
+];
+
+static NEGATIVE: [(u64, &str); 5] = [
+    (0, "-1"),
+    (9, "-10"),
+    (99, "-100"),
+    (999, "-1000"),
+    (18446744073709551615, "-18446744073709551616"),
+];
+
 #[test]
 fn numbers(rt: HostRuntime) -> Result<(), Fail> {
-    let alloc = rt.alloc();
-    for (number, want) in [
-        (0, "0"),
-        (10, "10"),
-        (23, "23"),
-        (100, "100"),
-        (1000, "1000"),
-        (1000000000000, "1000000000000"),
-        (18446744073709551615, "18446744073709551615"),
-    ] {
-        assert!(rt; shows(alloc, Item::Unsigned(number), want)?);
+    for &(number, want) in &UNSIGNED {
+        assert!(rt; shows(rt.alloc(), Item::Unsigned(number), want)?);
     }
-    for (number, want) in [
-        (0, "-1"),
-        (9, "-10"),
-        (99, "-100"),
-        (999, "-1000"),
-        (18446744073709551615, "-18446744073709551616"),
-    ] {
-        assert!(rt; shows(alloc, Item::Negative(number), want)?);
+    for &(number, want) in &NEGATIVE {
+        assert!(rt; shows(rt.alloc(), Item::Negative(number), want)?);
     }
     Ok(())
 }
 
 // As RFC 8949, Appendix A, writes them.
+static SIMPLE_VALUES: [(u8, &str); 6] = [
+    (20, "false"),
+    (21, "true"),
+    (22, "null"),
+    (23, "undefined"),
+    (16, "simple(16)"),
+    (255, "simple(255)"),
+];
+
 #[test]
 fn simple_values(rt: HostRuntime) -> Result<(), Fail> {
-    let alloc = rt.alloc();
-    assert!(rt; shows(alloc, simple(20)?, "false")?);
-    assert!(rt; shows(alloc, simple(21)?, "true")?);
-    assert!(rt; shows(alloc, simple(22)?, "null")?);
-    assert!(rt; shows(alloc, simple(23)?, "undefined")?);
-    assert!(rt; shows(alloc, simple(16)?, "simple(16)")?);
-    assert!(rt; shows(alloc, simple(255)?, "simple(255)")?);
+    for &(number, want) in &SIMPLE_VALUES {
+        assert!(rt; shows(rt.alloc(), simple(number)?, want)?);
+    }
     Ok(())
 }
 
 // As RFC 8949, Appendix A, writes them, but for characters past ASCII, which it escapes.
+static BYTE_STRINGS: [(&[u8], &str); 3] = [
+    (b"", "h''"),
+    (b"\x01\x02\x03\x04", "h'01020304'"),
+    (b"\xff\x0a\x9c", "h'ff0a9c'"),
+];
+
+static TEXTS: [(&str, &str); 6] = [
+    ("", "\"\""),
+    ("IETF", "\"IETF\""),
+    ("\"\\", "\"\\\"\\\\\""),
+    // U+00FC, U+6C34 and U+10151 in UTF-8
+    ("\u{fc}\u{6c34}\u{10151}", "\"\u{fc}\u{6c34}\u{10151}\""),
+    // a quote, a backslash, a line feed and a delete
+    ("\"\\\n\x7f", "\"\\\"\\\\\\u000a\\u007f\""),
+    // controls between characters that stand raw, at both ends of the range
+    ("a\0b\x1f ~", "\"a\\u0000b\\u001f ~\""),
+];
+
 #[test]
 fn strings(rt: HostRuntime) -> Result<(), Fail> {
-    let alloc = rt.alloc();
-    assert!(rt; shows(alloc, bytes(alloc, b"")?, "h''")?);
-    assert!(rt; shows(alloc, bytes(alloc, b"\x01\x02\x03\x04")?, "h'01020304'")?);
-    assert!(rt; shows(alloc, bytes(alloc, b"\xff\x0a\x9c")?, "h'ff0a9c'")?);
-    assert!(rt; shows(alloc, text(alloc, "")?, "\"\"")?);
-    assert!(rt; shows(alloc, text(alloc, "IETF")?, "\"IETF\"")?);
-    assert!(rt; shows(alloc, text(alloc, "\"\\")?, "\"\\\"\\\\\"")?);
-    // U+00FC, U+6C34 and U+10151 in UTF-8
-    assert!(rt;
-        shows(
-            alloc,
-            text(alloc, "\u{fc}\u{6c34}\u{10151}")?,
-            "\"\u{fc}\u{6c34}\u{10151}\""
-        )?
-    );
-    // a quote, a backslash, a line feed and a delete
-    assert!(rt;
-        shows(
-            alloc,
-            text(alloc, "\"\\\n\x7f")?,
-            "\"\\\"\\\\\\u000a\\u007f\""
-        )?
-    );
-    // controls between characters that stand raw, at both ends of the range
-    assert!(rt; shows(alloc, text(alloc, "a\0b\x1f ~")?, "\"a\\u0000b\\u001f ~\"")?);
+    for &(content, want) in &BYTE_STRINGS {
+        assert!(rt; shows(rt.alloc(), bytes(rt.alloc(), content)?, want)?);
+    }
+    for &(content, want) in &TEXTS {
+        assert!(rt; shows(rt.alloc(), text(rt.alloc(), content)?, want)?);
+    }
     Ok(())
 }
+
+fn shows_tag(alloc: Global, number: u64, content: Item, want: &str) -> Result<bool, Fail> {
+    shows(alloc, tag(alloc, number, content)?, want)
+}
+
+static TAGGED_BYTES: [(u64, &[u8], &str); 2] = [
+    // as RFC 8949, Appendix A, writes it
+    (24, b"\x64\x49\x45\x54\x46", "24(h'6449455446')"),
+    // no number is made of the bytes
+    (
+        2,
+        b"\x01\x00\x00\x00\x00\x00\x00\x00\x00",
+        "2(h'010000000000000000')",
+    ),
+];
 
 #[test]
 fn tags(rt: HostRuntime) -> Result<(), Fail> {
     let alloc = rt.alloc();
     // as RFC 8949, Appendix A, writes them
     let date = text(alloc, "2013-03-21T20:04:00Z")?;
-    assert!(rt; shows(alloc, tag(alloc, 0, date)?, "0(\"2013-03-21T20:04:00Z\")")?);
-    assert!(rt;
-        shows(
-            alloc,
-            tag(alloc, 1, Item::Unsigned(1363896240))?,
-            "1(1363896240)"
-        )?
-    );
-    let encoded = bytes(alloc, b"\x64\x49\x45\x54\x46")?;
-    assert!(rt; shows(alloc, tag(alloc, 24, encoded)?, "24(h'6449455446')")?);
-    // no number is made of the bytes
-    let big = bytes(alloc, b"\x01\x00\x00\x00\x00\x00\x00\x00\x00")?;
-    assert!(rt; shows(alloc, tag(alloc, 2, big)?, "2(h'010000000000000000')")?);
+    assert!(rt; shows_tag(alloc, 0, date, "0(\"2013-03-21T20:04:00Z\")")?);
+    assert!(rt; shows_tag(alloc, 1, Item::Unsigned(1363896240), "1(1363896240)")?);
+    for &(number, content, want) in &TAGGED_BYTES {
+        assert!(rt; shows_tag(alloc, number, bytes(alloc, content)?, want)?);
+    }
     // 1([1, simple(32)])
     let pair = Item::Array(vec![in alloc; Item::Unsigned(1), simple(32)?]?);
-    assert!(rt; shows(alloc, tag(alloc, 1, pair)?, "1([1, simple(32)])")?);
+    assert!(rt; shows_tag(alloc, 1, pair, "1([1, simple(32)])")?);
     Ok(())
 }
 
@@ -200,55 +214,94 @@ fn indented_texts(rt: HostRuntime) -> Result<(), Fail> {
     Ok(())
 }
 
+fn push_times(text: &mut String, part: &str, times: usize) -> Result<(), AllocError> {
+    for _ in 0..times {
+        text.push_str(part)?;
+    }
+    Ok(())
+}
+
+fn push_tower(text: &mut String, opens: &str, closes: &str) -> Result<(), AllocError> {
+    push_times(text, opens, 256)?;
+    text.push_str("7")?;
+    push_times(text, closes, 256)
+}
+
+// Whether the text of a tower is this, 256 times on each side of 7.
+fn shows_tower(alloc: Global, tower: Item, opens: &str, closes: &str) -> Result<bool, Fail> {
+    let mut want = String::new(alloc);
+    push_tower(&mut want, opens, closes)?;
+    shows(alloc, tower, want.as_str())
+}
+
+fn arrays(alloc: Global) -> Result<Item, AllocError> {
+    let mut item = Item::Unsigned(7);
+    for _ in 0..256 {
+        item = Item::Array(vec![in alloc; item]?);
+    }
+    Ok(item)
+}
+
+fn tags_of_tags(alloc: Global) -> Result<Item, AllocError> {
+    let mut item = Item::Unsigned(7);
+    for _ in 0..256 {
+        item = tag(alloc, 1, item)?;
+    }
+    Ok(item)
+}
+
+fn maps_as_keys(alloc: Global) -> Result<Item, AllocError> {
+    let mut item = Item::Unsigned(7);
+    for _ in 0..256 {
+        item = Item::Map(vec![in alloc; (item, Item::Unsigned(0))]?);
+    }
+    Ok(item)
+}
+
 // As deep as a tree can be: arrays in one another, tags in one another, and maps as keys.
 #[test]
 fn deepest_texts(rt: HostRuntime) -> Result<(), Fail> {
     let alloc = rt.alloc();
-    let mut arrays = Item::Unsigned(7);
-    let mut tags = Item::Unsigned(7);
-    let mut keys = Item::Unsigned(7);
-    let mut wants = [String::new(alloc), String::new(alloc), String::new(alloc)];
-    for _ in 0..256 {
-        arrays = Item::Array(vec![in alloc; arrays]?);
-        tags = tag(alloc, 1, tags)?;
-        keys = Item::Map(vec![in alloc; (keys, Item::Unsigned(0))]?);
-        wants[0].push_str("[")?;
-        wants[1].push_str("1(")?;
-        wants[2].push_str("{")?;
-    }
-    for want in &mut wants {
-        want.push_str("7")?;
-    }
-    for _ in 0..256 {
-        wants[0].push_str("]")?;
-        wants[1].push_str(")")?;
-        wants[2].push_str(": 0}")?;
-    }
-    assert!(rt; shows(alloc, arrays, wants[0].as_str())?);
-    assert!(rt; shows(alloc, tags, wants[1].as_str())?);
-    assert!(rt; shows(alloc, keys, wants[2].as_str())?);
+    assert!(rt; shows_tower(alloc, arrays(alloc)?, "[", "]")?);
+    assert!(rt; shows_tower(alloc, tags_of_tags(alloc)?, "1(", ")")?);
+    assert!(rt; shows_tower(alloc, maps_as_keys(alloc)?, "{", ": 0}")?);
     Ok(())
 }
+
+// So many times a part, in quotes.
+fn quoted(
+    alloc: Global,
+    before: &str,
+    part: &str,
+    times: usize,
+    behind: &str,
+) -> Result<String, AllocError> {
+    let mut text = String::from_str(alloc, before)?;
+    push_times(&mut text, part, times)?;
+    text.push_str(behind)?;
+    Ok(text)
+}
+
+fn shows_long_bytes(alloc: Global, length: usize) -> Result<bool, Fail> {
+    let digits = quoted(alloc, "h'", "a5", length, "'")?;
+    let content = Vec::from_elem(alloc, 0xa5, length)?;
+    shows(alloc, Item::Bytes(content), digits.as_str())
+}
+
+fn shows_long_text(alloc: Global, length: usize) -> Result<bool, Fail> {
+    let escapes = quoted(alloc, "\"", "a\\u000a", length, "\"")?;
+    let raw = quoted(alloc, "", "a\n", length, "")?;
+    shows(alloc, Item::Text(raw), escapes.as_str())
+}
+
+static LENGTHS: [usize; 8] = [254, 255, 256, 257, 511, 512, 513, 1500];
 
 // Longer than what is gathered before a write, so that runs go out by themselves.
 #[test]
 fn long_strings(rt: HostRuntime) -> Result<(), Fail> {
-    let alloc = rt.alloc();
-    for length in [254, 255, 256, 257, 511, 512, 513, 1500] {
-        let mut content = Vec::new(alloc);
-        let mut digits = String::from_str(alloc, "h'")?;
-        let mut raw = String::new(alloc);
-        let mut escapes = String::from_str(alloc, "\"")?;
-        for _ in 0..length {
-            content.push(0xa5)?;
-            digits.push_str("a5")?;
-            raw.push_str("a\n")?;
-            escapes.push_str("a\\u000a")?;
-        }
-        digits.push_str("'")?;
-        escapes.push_str("\"")?;
-        assert!(rt; shows(alloc, Item::Bytes(content), digits.as_str())?);
-        assert!(rt; shows(alloc, Item::Text(raw), escapes.as_str())?);
+    for &length in &LENGTHS {
+        assert!(rt; shows_long_bytes(rt.alloc(), length)?, "{length} bytes");
+        assert!(rt; shows_long_text(rt.alloc(), length)?, "{length} times");
     }
     Ok(())
 }

@@ -17,7 +17,6 @@ use cbor_events::{Event, EventKind, Machine, Out, Step};
 use cbor_head::{Limits, Reason, Refusal, Simple, Width};
 use std::alloc::{AllocError, Global};
 use std::process::Abort;
-use std::test::Fail;
 
 /// Gives all of some bytes to a machine, whatever events it tells. The answer is the last step's, with all that was used.
 fn feed(machine: &mut Machine, input: &[u8]) -> Step
@@ -173,15 +172,39 @@ fn limits(rt: &impl Abort, depth: u16, bytes: u64) -> Limits {
     Limits::new(depth, bytes).expect(rt, "limits in range")
 }
 
-// Gives bytes whole, one by one, and so to a machine that is saved between: what came of each.
-fn both_ways(rt: &impl Abort, alloc: Global, limits: Limits, hex: &str) -> Result<Told, Fail> {
+// Gives bytes whole, one by one, and so to a machine that is saved between, and looks for what is
+// wanted of each.
+fn look_at_told(
+    rt: &impl Abort,
+    alloc: Global,
+    limits: Limits,
+    bytes: &[u8],
+    wanted: &Told,
+) -> Result<(), AllocError> {
+    let whole = tell(alloc, limits, bytes, usize::MAX)?;
+    assert!(rt; whole == *wanted, "of {bytes:?}");
+    let single = tell(alloc, limits, bytes, 1)?;
+    assert!(rt; single == *wanted, "the cuts of {bytes:?}");
+    let saved = tell_saved(rt, alloc, limits, bytes)?;
+    assert!(rt; saved == *wanted, "saved within {bytes:?}");
+    Ok(())
+}
+
+// The same of the bytes that hex digits stand for. What is told borrows them: an owner of all this
+// would owe at each `?` that it may be let go there.
+fn look_both_ways(
+    rt: &impl Abort,
+    alloc: Global,
+    limits: Limits,
+    hex: &str,
+    text: &str,
+    out: Out,
+    taken: u64,
+) -> Result<(), AllocError> {
     let bytes = bytes_of(rt, alloc, hex)?;
-    let whole = tell(alloc, limits, &bytes, usize::MAX)?;
-    let single = tell(alloc, limits, &bytes, 1)?;
-    assert!(rt; whole == single, "the cuts of {hex} differ");
-    let saved = tell_saved(rt, alloc, limits, &bytes)?;
-    assert!(rt; whole == saved, "saved within {hex}");
-    Ok(whole)
+    let events = events_of(rt, alloc, text)?;
+    let wanted = Told { events, out, taken };
+    look_at_told(rt, alloc, limits, &bytes, &wanted)
 }
 
 fn step(used: usize, out: Out) -> Step {
@@ -259,53 +282,34 @@ fn refusals_stay(rt: HostRuntime) {
 }
 
 #[test]
-fn takes_items(rt: HostRuntime) -> Result<(), Fail> {
+fn takes_items(rt: HostRuntime) -> Result<(), AllocError> {
     let limits = limits(&rt, 256, 1 << 20);
     for &(hex, events) in accepted_rows() {
-        let told = both_ways(&rt, rt.alloc(), limits, hex)?;
-        assert_eq!(rt; told.out, Out::Done, "at {hex}");
-        assert_eq!(rt; told.taken, hex.len() as u64 / 2, "at {hex}");
-        assert!(rt;
-            told.events == events_of(&rt, rt.alloc(), events)?,
-            "events of {hex}"
-        );
+        let taken = hex.len() as u64 / 2;
+        look_both_ways(&rt, rt.alloc(), limits, hex, events, Out::Done, taken)?;
     }
     for &(hex, taken, events) in not_valid_rows() {
-        let told = both_ways(&rt, rt.alloc(), limits, hex)?;
-        assert_eq!(rt; told.out, Out::Done, "at {hex}");
-        assert_eq!(rt; told.taken, taken, "at {hex}");
-        assert!(rt;
-            told.events == events_of(&rt, rt.alloc(), events)?,
-            "events of {hex}"
-        );
+        look_both_ways(&rt, rt.alloc(), limits, hex, events, Out::Done, taken)?;
     }
     Ok(())
 }
 
 #[test]
-fn refuses_what_begins_no_item(rt: HostRuntime) -> Result<(), Fail> {
+fn refuses_what_begins_no_item(rt: HostRuntime) -> Result<(), AllocError> {
     for &(hex, depth, bytes, reason, place, read, events) in refused_rows() {
-        let told = both_ways(&rt, rt.alloc(), limits(&rt, depth, bytes), hex)?;
-        assert_eq!(rt; told.out, refusal(reason, place, read), "at {hex}");
-        assert_eq!(rt; told.taken, read, "at {hex}");
-        assert!(rt;
-            told.events == events_of(&rt, rt.alloc(), events)?,
-            "events of {hex}"
-        );
+        let out = refusal(reason, place, read);
+        let limits = limits(&rt, depth, bytes);
+        look_both_ways(&rt, rt.alloc(), limits, hex, events, out, read)?;
     }
     Ok(())
 }
 
 #[test]
-fn goes_on_in_an_item(rt: HostRuntime) -> Result<(), Fail> {
+fn goes_on_in_an_item(rt: HostRuntime) -> Result<(), AllocError> {
+    let limits = limits(&rt, 256, 1 << 20);
     for &(hex, events) in fronts_rows() {
-        let told = both_ways(&rt, rt.alloc(), limits(&rt, 256, 1 << 20), hex)?;
-        assert_eq!(rt; told.out, Out::More, "at {hex}");
-        assert_eq!(rt; told.taken, hex.len() as u64 / 2, "at {hex}");
-        assert!(rt;
-            told.events == events_of(&rt, rt.alloc(), events)?,
-            "events of {hex}"
-        );
+        let taken = hex.len() as u64 / 2;
+        look_both_ways(&rt, rt.alloc(), limits, hex, events, Out::More, taken)?;
     }
     Ok(())
 }

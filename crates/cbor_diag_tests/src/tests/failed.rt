@@ -3,7 +3,8 @@
 use super::{bytes, nested, tree};
 use cbor_diag::{diagnostic, diagnostic_indented};
 use cbor_head::{Reason, Refusal};
-use cbor_item::Item;
+use cbor_item::{Item, Tree};
+use std::alloc::Global;
 use std::io;
 use std::io::{Error, ErrorKind, Write};
 use std::test::Fail;
@@ -41,7 +42,7 @@ impl Write for Cup {
     }
 }
 
-const STOPS: [(usize, bool); 4] = [(1, false), (1, true), (10000, false), (10000, true)];
+static STOPS: [(usize, bool); 4] = [(1, false), (1, true), (10000, false), (10000, true)];
 
 fn empty_cup(held: Vec<u8>, room: usize, step: usize, fails: bool) -> Cup {
     Cup {
@@ -61,23 +62,34 @@ fn write_at(place: usize) -> Result<u64, Refusal> {
     })
 }
 
+// Whether the text ends where a writer stops that takes no more than these bytes of it.
+fn stops_behind(alloc: Global, tree: &Tree, before: &[u8], step: usize, fails: bool) -> bool {
+    let mut cup = empty_cup(Vec::new(alloc), before.len(), step, fails);
+    diagnostic(tree, &mut cup) == write_at(before.len()) && cup.held.as_slice() == before
+}
+
+fn stops_indented(alloc: Global, tree: &Tree, before: &[u8], step: usize, fails: bool) -> bool {
+    let mut cup = empty_cup(Vec::new(alloc), before.len(), step, fails);
+    diagnostic_indented(tree, &mut cup) == write_at(before.len()) && cup.held.as_slice() == before
+}
+
+static LINE: &[u8] = b"[1, {\"b\": [2, 3], \"a\": 1, [4]: {}}, []]";
+
+static LINES: &[u8] =
+    b"[\n  1,\n  {\n    \"b\": [\n      2,\n      3\n    ],\n    \"a\": 1,\n    [\n      4\n    ]: {}\n  },\n  []\n]";
+
 #[test]
 fn writers_stop_at_each_place(rt: HostRuntime) -> Result<(), Fail> {
     let alloc = rt.alloc();
     let tree = tree(alloc, nested(alloc)?)?;
-    let line = b"[1, {\"b\": [2, 3], \"a\": 1, [4]: {}}, []]";
-    let lines =
-        b"[\n  1,\n  {\n    \"b\": [\n      2,\n      3\n    ],\n    \"a\": 1,\n    [\n      4\n    ]: {}\n  },\n  []\n]";
-    for (step, fails) in STOPS {
-        for room in 0..line.len() {
-            let mut cup = empty_cup(Vec::new(alloc), room, step, fails);
-            assert_eq!(rt; diagnostic(&tree, &mut cup), write_at(room));
-            assert_eq!(rt; cup.held.as_slice(), &line[..room]);
+    for &(step, fails) in &STOPS {
+        for room in 0..LINE.len() {
+            let is_right = stops_behind(alloc, &tree, &LINE[..room], step, fails);
+            assert!(rt; is_right, "at {room}");
         }
-        for room in 0..lines.len() {
-            let mut cup = empty_cup(Vec::new(alloc), room, step, fails);
-            assert_eq!(rt; diagnostic_indented(&tree, &mut cup), write_at(room));
-            assert_eq!(rt; cup.held.as_slice(), &lines[..room]);
+        for room in 0..LINES.len() {
+            let is_right = stops_indented(alloc, &tree, &LINES[..room], step, fails);
+            assert!(rt; is_right, "at {room}");
         }
     }
     Ok(())
@@ -94,18 +106,29 @@ fn the_third_number_is_cut_off(rt: HostRuntime) -> Result<(), Fail> {
     Ok(())
 }
 
+// How much of a byte string's text a writer holds that stops there, if the text ends so.
+fn held_at(alloc: Global, tree: &Tree, room: usize, step: usize, fails: bool) -> Option<usize> {
+    let mut cup = empty_cup(Vec::new(alloc), room, step, fails);
+    if diagnostic(tree, &mut cup) == write_at(room) {
+        Some(cup.held.len())
+    } else {
+        None
+    }
+}
+
+static ROOMS: [usize; 14] = [
+    0, 1, 2, 3, 511, 512, 513, 514, 515, 1025, 1026, 1027, 1401, 1402,
+];
+
 // A byte string of more digits than wait at once: a stop in each of its writes.
 #[test]
 fn long_strings_are_cut_off(rt: HostRuntime) -> Result<(), Fail> {
     let alloc = rt.alloc();
     let tree = tree(alloc, bytes(alloc, &[0x5a; 700])?)?;
-    for (step, fails) in STOPS {
-        for room in [
-            0, 1, 2, 3, 511, 512, 513, 514, 515, 1025, 1026, 1027, 1401, 1402,
-        ] {
-            let mut cup = empty_cup(Vec::new(alloc), room, step, fails);
-            assert_eq!(rt; diagnostic(&tree, &mut cup), write_at(room));
-            assert_eq!(rt; cup.held.len(), room);
+    for &(step, fails) in &STOPS {
+        for &room in &ROOMS {
+            let held = held_at(alloc, &tree, room, step, fails);
+            assert_eq!(rt; held, Some(room));
         }
     }
     Ok(())

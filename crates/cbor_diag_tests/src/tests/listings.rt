@@ -140,52 +140,97 @@ fn bytes_of<R: Abort>(rt: &R, alloc: Global, text: &str) -> Result<Vec<u8>, Allo
     Ok(bytes)
 }
 
+// Whether this is answered, written and left of the input. What is read and written is borrowed, and
+// let go by the caller.
+fn answers(
+    source: &mut Source,
+    limits: Limits,
+    sink: &mut Sink,
+    wanted: Result<u64, Refusal>,
+    lines: &[u8],
+    left: u64,
+) -> bool {
+    let given = listing(source, limits, sink);
+    given == wanted && sink.held.as_slice() == lines && source.rest.len() as u64 == left
+}
+
+// The same, with at most so many bytes a read, and so many a write.
+fn answers_in_parts(
+    alloc: Global,
+    limits: Limits,
+    bytes: &[u8],
+    parts: (usize, usize),
+    wanted: Result<u64, Refusal>,
+    lines: &str,
+) -> bool {
+    let taken = match wanted {
+        Ok(size) => size,
+        Err(refusal) => refusal.read,
+    };
+    let mut source = Source::new(alloc, bytes);
+    source.part = parts.0;
+    let mut sink = Sink::new(alloc);
+    sink.part = parts.1;
+    let left = (bytes.len() as u64).saturating_sub(taken);
+    answers(
+        &mut source,
+        limits,
+        &mut sink,
+        wanted,
+        lines.as_bytes(),
+        left,
+    )
+}
+
+static PARTS: [(usize, usize); 4] = [
+    (1, 1),
+    (1, usize::MAX),
+    (usize::MAX, 1),
+    (usize::MAX, usize::MAX),
+];
+
+// The bytes of an item, and a byte behind it.
 #[test]
 fn lists_items(rt: HostRuntime) -> Result<(), Fail> {
     let limits = limits(&rt, 256, 1 << 20);
     for &(hex, lines) in items() {
         let mut bytes = bytes_of(&rt, rt.alloc(), hex)?;
         let size = bytes.len() as u64;
-        // The bytes of an item, and a byte behind it.
         bytes.push(0)?;
-        for (from, to) in [
-            (1, 1),
-            (1, usize::MAX),
-            (usize::MAX, 1),
-            (usize::MAX, usize::MAX),
-        ] {
-            let mut source = Source::new(rt.alloc(), &bytes);
-            source.part = from;
-            let mut sink = Sink::new(rt.alloc());
-            sink.part = to;
-            assert_eq!(rt; listing(&mut source, limits, &mut sink), Ok(size), "{hex}");
-            assert_eq!(rt; sink.held.as_slice(), lines.as_bytes(), "{hex}");
-            assert_eq!(rt; source.rest.len(), 1, "behind {hex}");
+        for &parts in &PARTS {
+            let is_right = answers_in_parts(rt.alloc(), limits, &bytes, parts, Ok(size), lines);
+            assert!(rt; is_right, "{hex}");
         }
     }
     Ok(())
 }
 
+// Whether the listing of the whole is this, with offsets from there on.
+fn lists_from(alloc: Global, start: u32, limits: Limits, bytes: &[u8], lines: &str) -> bool {
+    let mut source = bytes;
+    let mut shown = Vec::new(alloc);
+    let answer = listing_from(&mut source, u64::from(start), limits, &mut shown);
+    answer == Ok(bytes.len() as u64) && shown.as_slice() == lines.as_bytes()
+}
+
 // [1, 100] behind five bytes, and 0 behind 2^32 - 1.
+static BEHIND: [(u32, u64, &str, &str); 2] = [
+    (
+        5,
+        4,
+        "82011864",
+        "5 array 2 0\n6 unsigned 1 0\n7 unsigned 100 1\n",
+    ),
+    (u32::MAX, 1, "00", "4294967295 unsigned 0 0\n"),
+];
+
 #[test]
 fn counts_offsets_from_the_start_of_the_input(rt: HostRuntime) -> Result<(), Fail> {
-    for (start, most, hex, lines) in [
-        (
-            5u32,
-            4,
-            "82011864",
-            "5 array 2 0\n6 unsigned 1 0\n7 unsigned 100 1\n",
-        ),
-        (u32::MAX, 1, "00", "4294967295 unsigned 0 0\n"),
-    ] {
+    for &(start, most, hex, lines) in &BEHIND {
         let bytes = bytes_of(&rt, rt.alloc(), hex)?;
-        let mut source = bytes.as_slice();
-        let mut shown = Vec::new(rt.alloc());
-        let size = bytes.len() as u64;
         let limits = limits(&rt, 256, most);
-        let answer = listing_from(&mut source, u64::from(start), limits, &mut shown);
-        assert_eq!(rt; answer, Ok(size), "{hex}");
-        assert_eq!(rt; shown.as_slice(), lines.as_bytes(), "{hex}");
+        let is_right = lists_from(rt.alloc(), start, limits, &bytes, lines);
+        assert!(rt; is_right, "{hex}");
     }
     Ok(())
 }
@@ -195,29 +240,18 @@ fn refuses_form_alone(rt: HostRuntime) -> Result<(), Fail> {
     for &(hex, depth, most, reason, place, read, lines) in refused() {
         let limits = limits(&rt, depth, most);
         let bytes = bytes_of(&rt, rt.alloc(), hex)?;
+        let refusal = Err(Refusal::new(reason, place, read));
         for part in [1, usize::MAX] {
-            let mut source = Source::new(rt.alloc(), &bytes);
-            source.part = part;
-            let mut sink = Sink::new(rt.alloc());
-            let want = Refusal {
-                reason,
-                place,
-                read,
-            };
-            assert_eq!(rt; listing(&mut source, limits, &mut sink), Err(want), "{hex}");
-            assert_eq!(rt; sink.held.as_slice(), lines.as_bytes(), "{hex}");
-            assert_eq!(rt;
-                source.rest.len() as u64,
-                (bytes.len() as u64).saturating_sub(read),
-                "behind {hex}"
-            );
+            let parts = (part, usize::MAX);
+            let is_right = answers_in_parts(rt.alloc(), limits, &bytes, parts, refusal, lines);
+            assert!(rt; is_right, "{hex}");
         }
     }
     Ok(())
 }
 
 // Items, with each event's end and its line.
-const EVENTS: [(&str, &[(u64, &str)]); 3] = [
+static EVENTS: [(&str, &[(u64, &str)]); 3] = [
     // 1([1, simple(32)])
     (
         "c18201f820",
@@ -272,66 +306,73 @@ fn taken_at(events: &[(u64, &str)], place: usize) -> u64 {
     0
 }
 
+// Whether the listing ends with what was read before the reader failed.
+fn tells_a_failed_read(
+    alloc: Global,
+    limits: Limits,
+    bytes: &[u8],
+    place: usize,
+    lines: &[u8],
+) -> bool {
+    let mut source = Source::new(alloc, bytes);
+    source.fails = Some(place);
+    let mut sink = Sink::new(alloc);
+    let refusal = Err(Refusal::at(Reason::Read, place as u64));
+    let left = bytes.len().saturating_sub(place) as u64;
+    answers(&mut source, limits, &mut sink, refusal, lines, left)
+}
+
 #[test]
 fn a_failed_read_ends_the_listing(rt: HostRuntime) -> Result<(), Fail> {
     let limits = limits(&rt, 256, 1 << 20);
-    for (hex, events) in EVENTS {
+    for &(hex, events) in &EVENTS {
         let bytes = bytes_of(&rt, rt.alloc(), hex)?;
         for place in 0..bytes.len() {
-            let mut source = Source::new(rt.alloc(), &bytes);
-            source.fails = Some(place);
-            let mut sink = Sink::new(rt.alloc());
-            let taken = place as u64;
-            let want = Refusal {
-                reason: Reason::Read,
-                place: taken,
-                read: taken,
-            };
-            assert_eq!(rt;
-                listing(&mut source, limits, &mut sink),
-                Err(want),
-                "{hex} at {place}"
-            );
-            let lines = lines_within(rt.alloc(), events, taken)?;
-            assert_eq!(rt; sink.held.as_slice(), lines.as_slice(), "{hex} at {place}");
-            assert_eq!(rt; source.rest.len(), bytes.len() - place, "{hex} at {place}");
+            let lines = lines_within(rt.alloc(), events, place as u64)?;
+            let is_right = tells_a_failed_read(rt.alloc(), limits, &bytes, place, &lines);
+            assert!(rt; is_right, "{hex} at {place}");
         }
     }
     Ok(())
 }
 
+static STOPS: [(usize, Stop); 4] = [
+    (1, Stop::Fails),
+    (4, Stop::Fails),
+    (usize::MAX, Stop::Fails),
+    (usize::MAX, Stop::TakesNothing),
+];
+
+// Whether the listing ends where the writer stopped, with no byte behind the event asked for.
+fn tells_a_failed_write(
+    alloc: Global,
+    limits: Limits,
+    bytes: &[u8],
+    lines: &[u8],
+    read: u64,
+    stop: (usize, Stop),
+) -> bool {
+    let mut source = Source::new(alloc, bytes);
+    let mut sink = Sink::new(alloc);
+    sink.part = stop.0;
+    sink.stops = Some((lines.len(), stop.1));
+    let refusal = Err(Refusal::new(Reason::Write, lines.len() as u64, read));
+    let left = (bytes.len() as u64).saturating_sub(read);
+    answers(&mut source, limits, &mut sink, refusal, lines, left)
+}
+
 #[test]
 fn a_failed_write_ends_the_listing(rt: HostRuntime) -> Result<(), Fail> {
     let limits = limits(&rt, 256, 1 << 20);
-    for (hex, events) in EVENTS {
+    for &(hex, events) in &EVENTS {
         let bytes = bytes_of(&rt, rt.alloc(), hex)?;
         let lines = lines_within(rt.alloc(), events, u64::MAX)?;
         for place in 0..lines.len() {
-            for (part, stop) in [
-                (1, Stop::Fails),
-                (4, Stop::Fails),
-                (usize::MAX, Stop::Fails),
-                (usize::MAX, Stop::TakesNothing),
-            ] {
-                let mut source = Source::new(rt.alloc(), &bytes);
-                let mut sink = Sink::new(rt.alloc());
-                sink.part = part;
-                sink.stops = Some((place, stop));
-                let read = taken_at(events, place);
-                let want = Refusal {
-                    reason: Reason::Write,
-                    place: place as u64,
-                    read,
-                };
-                assert_eq!(rt;
-                    listing(&mut source, limits, &mut sink),
-                    Err(want),
-                    "{hex} at {place}"
-                );
-                assert_eq!(rt; sink.held.as_slice(), &lines[..place], "{hex} at {place}");
-                // No byte behind the event was asked for.
-                let left = (bytes.len() as u64).saturating_sub(read);
-                assert_eq!(rt; source.rest.len() as u64, left, "{hex} at {place}");
+            let read = taken_at(events, place);
+            let before = &lines[..place];
+            for &stop in &STOPS {
+                let is_right = tells_a_failed_write(rt.alloc(), limits, &bytes, before, read, stop);
+                assert!(rt; is_right, "{hex} at {place}");
             }
         }
     }
@@ -339,31 +380,21 @@ fn a_failed_write_ends_the_listing(rt: HostRuntime) -> Result<(), Fail> {
 }
 
 #[test]
-fn stops_within_the_second_line(rt: HostRuntime) -> Result<(), Fail> {
+fn stops_within_the_second_line(rt: HostRuntime) {
+    let limits = limits(&rt, 256, 1 << 20);
     // [1, 2, 3]
-    let bytes = bytes_of(&rt, rt.alloc(), "83010203")?;
-    let mut source = Source::new(rt.alloc(), &bytes);
-    let mut sink = Sink::new(rt.alloc());
-    sink.stops = Some((14, Stop::Fails));
-    let want = Refusal {
-        reason: Reason::Write,
-        place: 14,
-        read: 2,
-    };
-    let answer = listing(&mut source, limits(&rt, 256, 1 << 20), &mut sink);
-    assert_eq!(rt; answer, Err(want));
-    assert_eq!(rt; sink.held.as_slice(), b"0 array 3 0\n1 ".as_slice());
-    Ok(())
+    let bytes = b"\x83\x01\x02\x03";
+    let before = b"0 array 3 0\n1 ";
+    let stop = (usize::MAX, Stop::Fails);
+    assert!(rt; tells_a_failed_write(rt.alloc(), limits, bytes, before, 2, stop));
 }
 
 #[test]
-fn asks_for_what_is_due(rt: HostRuntime) -> Result<(), Fail> {
+fn asks_for_what_is_due(rt: HostRuntime) {
     // {256: "a"}: a head, a head and its argument, a head and its payload.
-    let bytes = bytes_of(&rt, rt.alloc(), "a11901006161")?;
-    let mut source = Source::new(rt.alloc(), &bytes);
+    let mut source = Source::new(rt.alloc(), b"\xa1\x19\x01\x00\x61\x61");
     let mut sink = Sink::new(rt.alloc());
     let answer = listing(&mut source, limits(&rt, 256, 1 << 20), &mut sink);
     assert_eq!(rt; answer, Ok(6));
     assert_eq!(rt; source.asked.as_slice(), [1, 1, 2, 1, 1].as_slice());
-    Ok(())
 }

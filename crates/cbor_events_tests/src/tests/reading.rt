@@ -80,35 +80,43 @@ struct Heard {
     payloads: Vec<u8>,
 }
 
+// What the reader tells next, in the words of the machine.
+fn next_of<R: Read>(reader: &mut EventReader<R>) -> Out {
+    match reader.next() {
+        Ok(Some(event)) => Out::Event(event),
+        Ok(None) => Out::Done,
+        Err(refusal) => Out::Refused(refusal),
+    }
+}
+
+// Gathers the events and the bytes of their payloads up to the last answer. The gatherers are borrowed:
+// an owner of them would owe at each `?` that they may be let go there.
+fn gather<R: Read>(
+    reader: &mut EventReader<R>,
+    events: &mut Vec<Event>,
+    payloads: &mut Vec<u8>,
+) -> Result<Out, AllocError> {
+    for _ in 0..1000 {
+        match next_of(reader) {
+            Out::Event(event) => {
+                if let EventKind::Piece(_) = event.kind {
+                    payloads.extend_from_slice(reader.piece())?;
+                }
+                join(events, event)?;
+            }
+            out => return Ok(out),
+        }
+    }
+    Ok(Out::More)
+}
+
+// The last answer is given again; where it is not, what was told counts for nothing.
 fn hear<R: Read + Drop>(alloc: Global, limits: Limits, reader: R) -> Result<Heard, AllocError> {
     let mut reader = EventReader::new(reader, limits);
     let mut events = Vec::new(alloc);
     let mut payloads = Vec::new(alloc);
-    let mut out = Out::More;
-    for _ in 0..1000 {
-        match reader.next() {
-            Ok(Some(event)) => {
-                if let EventKind::Piece(_) = event.kind {
-                    payloads.extend_from_slice(reader.piece())?;
-                }
-                join(&mut events, event)?;
-            }
-            Ok(None) => {
-                out = Out::Done;
-                break;
-            }
-            Err(refusal) => {
-                out = Out::Refused(refusal);
-                break;
-            }
-        }
-    }
-    // The last answer is given again.
-    let again = match reader.next() {
-        Ok(Some(event)) => Out::Event(event),
-        Ok(None) => Out::Done,
-        Err(refusal) => Out::Refused(refusal),
-    };
+    let mut out = gather(&mut reader, &mut events, &mut payloads)?;
+    let again = next_of(&mut reader);
     if again != out {
         out = again;
         events.clear();
