@@ -1,8 +1,11 @@
+mod Decided
 mod Faults
 mod Files
 mod Fronts
+mod Further
 mod Items
 mod Listings
+mod ReadParts
 mod Runs
 mod Sent
 mod Stopped

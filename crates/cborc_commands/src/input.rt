@@ -28,38 +28,16 @@ pub fn read_item<'a, F: Folder>(
     if options.hex {
         read_digits(alloc, files, path, most)
     } else {
-        match files.read_front(alloc, path, most) {
-            Ok(bytes) => Ok(bytes),
+        let mut bytes = Vec::new(alloc);
+        match files.read_on(alloc, path, 0, most, &mut bytes) {
+            Ok(()) => Ok(bytes),
             Err(fault) => Err(Fault::of_reading(path, fault)),
         }
     }
 }
 
-/// All bytes of the input at this path.
-pub fn read_all<'a, F: Folder>(
-    alloc: Global,
-    files: &mut F,
-    path: &'a str,
-    options: Options,
-) -> Result<Vec<u8>, Fault<'a>>
-    ensures whole { IfOk result (λ v. IsInput (F.held files.old) path.now options.hex v.items) }
-    ensures fault { IfErr result (IsNoInput (F.held files.old) path.now options.hex) }
-    ensures keeps { KeepsFiles (F.held files.old) (F.held files.new) }
-    ensures same { F.behind files.new ≡ F.behind files.old }
-{
-    if options.hex {
-        let bytes = read_digits(alloc, files, path, u64::MAX)?;
-        Ok(bytes)
-    } else {
-        match files.read(alloc, path) {
-            Ok(bytes) => Ok(bytes),
-            Err(fault) => Err(Fault::of_reading(path, fault)),
-        }
-    }
-}
-
-// The first bytes that the hex digits of the input spell, so many if there are.
-fn read_digits<'a, F: Folder>(
+/// The first bytes that the hex digits of the input spell, so many if there are.
+pub fn read_digits<'a, F: Folder>(
     alloc: Global,
     files: &mut F,
     path: &'a str,

@@ -9,9 +9,8 @@ ghost use Rattle.cborc_files.specs.Folder.{KeepsFiles};
 ghost use Rattle.cborc_commands.specs.inner.Items.{IsItemNotShown};
 
 use crate::fault::Fault;
-use crate::input;
 use crate::request::{Layout, Options};
-use crate::sequence::{ItemWriter, write_items};
+use crate::sequence::{ItemWriter, unless_cut, write_items};
 use crate::show::print;
 use cbor_head::Limits;
 use cbor_reader::read_tree;
@@ -36,9 +35,7 @@ pub fn show_sequence<'a, F: Folder, O: Write>(
     ensures keeps { KeepsFiles (F.held files.old) (F.held files.new) }
     ensures same { F.behind files.new ≡ F.behind files.old }
 {
-    let limits = options.limits;
-    let bytes = input::read_all(alloc, files, source, options)?;
-    write_items(alloc, &ShownItems { layout }, bytes.as_slice(), limits, out)?;
+    write_items(alloc, &ShownItems { layout }, files, source, options, out)?;
     Ok(())
 }
 
@@ -60,13 +57,18 @@ impl ItemWriter for ShownItems {
         &self,
         alloc: Global,
         bytes: &[u8],
+        goes_on: bool,
         _start: usize,
         limits: Limits,
         out: &mut W,
-    ) -> Result<usize, Fault<'f>> {
+    ) -> Result<Option<usize>, Fault<'f>> {
         let mut reader = bytes;
-        let (tree, size) = read_tree(alloc, &mut reader, limits)?;
-        print(&tree, self.layout, out)?;
-        Ok(size as usize)
+        match read_tree(alloc, &mut reader, limits) {
+            Ok((tree, size)) => {
+                print(&tree, self.layout, out)?;
+                Ok(Some(size as usize))
+            }
+            Err(refusal) => unless_cut(refusal, goes_on),
+        }
     }
 }

@@ -17,13 +17,25 @@ impl Folder for Endless {
         Err(FileFault::Failed)
     }
 
-    fn read_front(&mut self, alloc: Global, _: &str, most: u64) -> Result<Vec<u8>, FileFault> {
-        let mut bytes = vec![in alloc; self.rest; 2_000_000].map_err(|_| FileFault::Memory)?;
-        if let Some(first) = bytes.first_mut() {
-            *first = self.first;
+    fn read_on(
+        &mut self,
+        _: Global,
+        _: &str,
+        from: u64,
+        most: u64,
+        bytes: &mut Vec<u8>,
+    ) -> Result<(), FileFault> {
+        let held = bytes.len();
+        let end = held.saturating_add(most as usize);
+        bytes
+            .resize(end, self.rest)
+            .map_err(|_| FileFault::Memory)?;
+        if from == 0 {
+            if let Some(first) = bytes.first_mut() {
+                *first = self.first;
+            }
         }
-        bytes.truncate(most as usize);
-        Ok(bytes)
+        Ok(())
     }
 
     fn write(&mut self, _: &str, _: &[u8]) -> Result<(), FileFault> {
@@ -32,12 +44,15 @@ impl Folder for Endless {
 }
 
 // The words, the first byte of the file and those behind it, and the line on standard error.
-static ENDLESS: [(&str, u8, u8, &str); 5] = [
+static ENDLESS: [(&str, u8, u8, &str); 8] = [
     ("check in", 0, 0, "refused 12 Trailing at 1"),
     ("check in", 0x9f, 0, "refused 2 TooLong at 1048576"),
     ("canon in out", 0x9f, 0x81, "refused 9 TooDeep at 256"),
     ("show --bytes 3 in", 0x9f, 0, "refused 2 TooLong at 3"),
     ("compare in -", 0xff, 0, "left refused 7 StrayBreak at 0"),
+    ("check --seq in", 0, 0x1c, "item 2 refused 3 Reserved at 0"),
+    ("canon --seq in out", 0x78, 0xff, "item 1 refused 10 InvalidText at 2"),
+    ("check --seq --bytes 70000 in", 0x9f, 0, "item 1 refused 2 TooLong at 70000"),
 ];
 
 #[test]
