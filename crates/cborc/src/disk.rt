@@ -12,8 +12,8 @@ use std::io::{self, ErrorKind, Input, Read};
 use std::random::RandomSource;
 use std::rt::Files;
 
-// No file of the machine is longer.
-const LONGEST: u64 = i64::MAX as u64;
+/// No file of the machine is longer.
+pub const LONGEST: u64 = i64::MAX as u64;
 
 /// The files that a runtime reaches, and its standard input. Other programs change them too, so that
 /// nothing can be told of what they hold: its `held` is left out.
@@ -162,8 +162,8 @@ fn push_from<S: Read + Drop>(mut source: S, digits: &mut Digits) -> Result<(), T
     Ok(())
 }
 
-// Appends the next bytes of a reader, so many if it has them.
-fn append_from<S: Read>(source: &mut S, most: u64, bytes: &mut Vec<u8>) -> io::Result<()>
+/// Appends the next bytes of a reader, so many if it has them.
+pub fn append_from<S: Read>(source: &mut S, most: u64, bytes: &mut Vec<u8>) -> io::Result<()>
     ensures { OnOk result (IsAppended most bytes.old.items bytes.new.items) }
 {
     let held = bytes.len();

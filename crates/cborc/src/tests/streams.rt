@@ -1,9 +1,11 @@
 //! Inputs that have no end, and an output that takes nothing.
 
 use super::run_with;
+use crate::disk::{LONGEST, append_from};
 use crate::run::run;
 use cborc_files::{FileFault, Folder};
 use std::alloc::{AllocError, Global};
+use std::io::{self, Read};
 
 // A folder whose every file begins with one byte and goes on with another for ever.
 #[derive(Drop)]
@@ -25,17 +27,13 @@ impl Folder for Endless {
         most: u64,
         bytes: &mut Vec<u8>,
     ) -> Result<(), FileFault> {
-        let held = bytes.len();
-        let end = held.saturating_add(most as usize);
-        bytes
-            .resize(end, self.rest)
-            .map_err(|_| FileFault::Memory)?;
-        if from == 0 {
-            if let Some(first) = bytes.first_mut() {
-                *first = self.first;
-            }
+        let most = most.min(LONGEST.saturating_sub(from));
+        let first = [self.first];
+        let front = if from == 0 { &first[..] } else { &[] };
+        match append_from(&mut front.chain(io::repeat(self.rest)), most, bytes) {
+            Ok(()) => Ok(()),
+            Err(_) => Err(FileFault::Memory),
         }
-        Ok(())
     }
 
     fn write(&mut self, _: &str, _: &[u8]) -> Result<(), FileFault> {
