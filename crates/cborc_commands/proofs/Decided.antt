@@ -41,7 +41,7 @@ stopped_longest d p c cs more l = record {
 
 module _ (limits : Bounds) (rules : Rules) (front behind : List ℕ) where
   -- the bytes within the limit go on so, if at all
-  more : List ℕ
+  pub more : List ℕ
   more = take (limits.bytes - length front) behind
 
   within : take limits.bytes (front ++ behind) ≡ take limits.bytes front ++ more
@@ -56,6 +56,9 @@ module _ (limits : Bounds) (rules : Rules) (front behind : List ℕ) where
         let none : limits.bytes - length front ≡ 0 = omega (arith, l) in
         take-append-le limits.bytes front behind l ∙ sym (append-nil (take limits.bytes front)) ∙ ap (λ (n : ℕ). take limits.bytes front ++ take n behind) (sym none)
   ]
+
+  pub splits_further : (p rest : List ℕ) → take limits.bytes front ≡ p ++ rest → take limits.bytes (front ++ behind) ≡ p ++ (rest ++ more)
+  splits_further p rest e = within ∙ ap (λ (xs : List ℕ). xs ++ more) e ∙ append_assoc p rest more
 
   full : length (take limits.bytes front) ≡ limits.bytes → take limits.bytes (front ++ behind) ≡ take limits.bytes front
   full e = take-append-le limits.bytes front behind (omega (arith, e, length-take limits.bytes front))

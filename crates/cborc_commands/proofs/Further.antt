@@ -1,16 +1,15 @@
 -- Why no item is taken at the front of some bytes, however these go on.
-use Rattle.std.proofs.Common.{ℕ, ◌≡◌, ◌≢◌, ◌≤◌, ◌⊎◌, inl, inr, Bool, true, false, List, [], ◌∷◌, ◌++◌, length, Option, refl, sym, ap, ◌∙◌, arith, subst}
-use Rattle.std.proofs.lemmas.List.{append_assoc, append-nil, length-append, length-take}
-use Rattle.cbor_head.specs.Complaint.{Rules, form, plain}
+use Rattle.std.proofs.Common.{ℕ, ◌≡◌, ◌≢◌, ◌⊎◌, inl, inr, Bool, true, false, List, [], ◌++◌, Option, refl, sym, ap, ◌∙◌, subst}
+use Rattle.std.proofs.lemmas.List.{append_assoc, append-nil}
+use Rattle.cbor_head.specs.Complaint.{Rules, plain}
 use Rattle.cbor_head.specs.Limits.{Bounds}
 use Rattle.cbor_head.specs.Spelling.{Spelling, spell}
-use Rattle.cbor_head.specs.Verdict.{refused, Decides, IsFormError, IsVerdict}
+use Rattle.cbor_head.specs.Verdict.{refused, IsVerdict}
 use Rattle.cbor_head.specs.declared.order.KeyOrder.{KeyOrder}
 use Rattle.cbor_head.specs.declared.reason.Reason.TheVariants.{Truncated}
 use Rattle.cbor_head.specs.declared.reason.Refusal.{Refusal}
 use Rattle.cbor_judging.specs.Readers.{IsUnread, of_verdict, of_reader, of_memory}
 use Rattle.cbor_reader.specs.Sequence.{IsAccepted}
-use Rattle.cbor_standing.proofs.Form.{no-complaint}
 use Rattle.cborc_commands.specs.CanonSequence.{unread}
 use Rattle.cborc_commands.specs.Fault.{IsOfInput, refusal_fault}
 use Rattle.cborc_commands.specs.declared.fault.Fault.{Fault}
@@ -54,25 +53,3 @@ module _ (b : Bounds) (front behind : List ℕ) (f : Refusal) (known : IsSettled
 pub accepted_further : (b : Bounds) (r : Rules) (front behind : List ℕ) → (item : Spelling) × (rest : List ℕ) × IsAccepted b r item × (spell item ++ rest ≡ front)
     → (item : Spelling) × (rest : List ℕ) × IsAccepted b r item × (spell item ++ rest ≡ front ++ behind)
 accepted_further b r front behind (item, rest, is, e) = (item, rest ++ behind, is, sym (append_assoc (spell item) rest behind) ∙ ap (λ (xs : List ℕ). xs ++ behind) e)
-
--- ---- places
-
-form_place : (limits : Bounds) (p behind : List ℕ) (f : Refusal) → IsFormError limits p behind f → f.place ≤ length p
-form_place limits p (c ∷ rest) f (reason, why, e) = omega (arith, ap (λ (x : Refusal). x.place) e)
-form_place limits p [] f (inl h) = omega (arith, h.0, ap (λ (x : Refusal). x.place) h.1)
-form_place limits p [] f (inr h) = omega (arith, ap (λ (x : Refusal). x.place) h.1)
-
--- by its form an input is refused no further than it goes
-pub place_within : (limits : Bounds) (front : List ℕ) (f : Refusal) → IsVerdict limits form front (refused f) → f.place ≤ length front
-place_within limits front f v = by v.decides
-  where
-    by : Decides limits form v.p v.longest.rest v.item (refused f) → f.place ≤ length front
-    by (inl (c, first, e)) = absurd (no-complaint 0 v.item c first.holds)
-    by (inr h) =
-        omega (
-          arith,
-          form_place limits v.p v.longest.rest f h.2,
-          ap length v.longest.splits,
-          length-append v.p v.longest.rest,
-          length-take limits.bytes front,
-        )

@@ -5,6 +5,7 @@ mod Fronts
 mod Further
 mod Items
 mod Listings
+mod Places
 mod ReadParts
 mod Runs
 mod Sent

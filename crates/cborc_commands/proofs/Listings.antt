@@ -1,14 +1,12 @@
 -- What was written of the lines of an item of a sequence, and why not all.
-use Rattle.std.proofs.Common.{ℕ, ◌≡◌, ◌≢◌, ◌∙◌, ◌<◌, ◌≤◌, Bool, true, false, eqb, List, [], ◌∷◌, ◌++◌, length, Option, inl, inr, refl, sym, ap, arith, subst}
-use Rattle.std.specs.Prelude.{◌==◌, ◌||◌, ◌&&◌, ◌%◌, nat_le, if◌then◌else◌}
+use Rattle.std.proofs.Common.{ℕ, ◌≡◌, ◌≢◌, ◌∙◌, ◌<◌, ◌≤◌, true, false, eqb, List, [], ◌∷◌, ◌++◌, length, Option, inl, inr, refl, sym, ap, arith, subst}
 use Rattle.std.specs.Io.KnownBytes.{Appends}
 use Rattle.std.proofs.lemmas.Bool.Decides.{Decides-eqb}
 use Rattle.std.proofs.lemmas.List.{take-append-le}
 use Rattle.cbor_head.specs.Complaint.{form}
 use Rattle.cbor_head.specs.Limits.{Bounds}
 use Rattle.cbor_head.specs.Spelling.{Spelling, spell}
-use Rattle.cbor_head.specs.Verdict.{accepted, refused, Decides, IsFormError, IsReasonAt, IsVerdict, initial_reason}
-use Rattle.cbor_head.specs.declared.reason.Reason.{Reason}
+use Rattle.cbor_head.specs.Verdict.{accepted, refused, Decides, IsFormError, IsVerdict}
 use Rattle.cbor_head.specs.declared.reason.Reason.TheVariants as reasons
 use Rattle.cbor_head.specs.declared.reason.Refusal.{Refusal}
 use Rattle.cbor_automaton.specs.Event.{events}
@@ -24,33 +22,16 @@ use Rattle.cborc_commands.specs.declared.fault.Fault.{Fault}
 use Rattle.cborc_commands.specs.declared.fault.Fault.TheVariants as faults
 use Rattle.cborc_commands.specs.inner.Items.{IsWritten, IsItemNotListed}
 use Rattle.cborc_commands.specs.inner.Parts.{IsDecided}
-use Rattle.cborc_commands.proofs.Further.{IsSettled, verdict_further, place_within}
+use Rattle.cborc_commands.proofs.Further.{IsSettled, verdict_further}
 use Rattle.cborc_commands.proofs.Items.{appends_more}
+use Rattle.cborc_commands.proofs.Places.{IsByteReason, byte_reason, place_within}
 use Rattle.cborc_commands.proofs.Taken.{item_accepted, written_of}
 use Rattle.cborc_commands.proofs.Whole.{read_within}
 
 -- ---- no verdict is that the writer failed
 
-by_tests : (s f i r : Bool)
-    → (if s then reasons.StrayBreak else if f then reasons.Float else if i then reasons.NoIndefinite else if r then reasons.Reserved else reasons.TooDeep) ≡ reasons.Write → ⊥
-by_tests true f i r e = cc e
-by_tests false true i r e = cc e
-by_tests false false true r e = cc e
-by_tests false false false true e = cc e
-by_tests false false false false e = cc e
-
-initial_not : (c : ℕ) → initial_reason c ≡ reasons.Write → ⊥
-initial_not c e =
-    by_tests (c == 0xff) ((c == 0xf9) || (c == 0xfa) || (c == 0xfb)) ((c == 0x1f) || (c == 0x3f) || (c == 0xdf))
-    (nat_le 28 (c % 32) && nat_le (c % 32) 30) e
-
-byte_not : (d : ℕ) (p : List ℕ) (c : ℕ) (reason : Reason) → IsReasonAt d p c reason → reason ≡ reasons.Write → ⊥
-byte_not d p c reason (inl h) e = initial_not c (sym h.1 ∙ e)
-byte_not d p c reason (inr (inl h)) e = let t : reasons.BadSimple ≡ reasons.Write = sym h.2 ∙ e in cc t
-byte_not d p c reason (inr (inr h)) e = let t : reasons.BadChunk ≡ reasons.Write = sym h.2 ∙ e in cc t
-
 form_not : (limits : Bounds) (p behind : List ℕ) (f : Refusal) → IsFormError limits p behind f → f.reason ≡ reasons.Write → ⊥
-form_not limits p (c ∷ rest) f (reason, why, is) e = byte_not limits.depth p c reason why (sym (ap (λ (x : Refusal). x.reason) is) ∙ e)
+form_not limits p (c ∷ rest) f (reason, why, is) e = subst IsByteReason (sym (ap (λ (x : Refusal). x.reason) is) ∙ e) (byte_reason limits.depth p c reason why)
 form_not limits p [] f (inl h) e = let t : reasons.TooLong ≡ reasons.Write = sym (ap (λ (x : Refusal). x.reason) h.1) ∙ e in cc t
 form_not limits p [] f (inr h) e = let t : reasons.Truncated ≡ reasons.Write = sym (ap (λ (x : Refusal). x.reason) h.1) ∙ e in cc t
 

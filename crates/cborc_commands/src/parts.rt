@@ -6,14 +6,9 @@ ghost use Rattle.cborc_commands.specs.Input.{IsNoInput};
 ghost use Rattle.cborc_commands.specs.inner.Parts.{PartsView, IsReadTo, IsNextPart, IsFilled};
 
 use crate::fault::Fault;
-use crate::input;
-use crate::request::Options;
 use cborc_files::Folder;
 use std::alloc::Global;
 use std::marker::Model;
-
-// How many bytes are read at a time, where an item does not ask for more.
-const PART: usize = 65_536;
 
 /// An input: the bytes of it that were read and are still to be taken.
 #[derive(Drop)]
@@ -25,6 +20,8 @@ pub struct Parts {
     start: usize,
     // Whether the input ends behind them.
     ended: bool,
+    // How many are read at a time, where an item does not ask for more.
+    least: usize,
 }
 
 impl Model for Parts {
@@ -33,34 +30,41 @@ impl Model for Parts {
     ghost view = { λ p. record { rest = drop p.taken p.bytes.items; start = p.start; ended = p.ended } };
 
     ghost invariant = { λ p. (p.taken ≤ vec_len p.bytes)
-        × (p.start + vec_len p.bytes < 2 ^ 63 + p.taken) };
+        × (p.start + vec_len p.bytes < 2 ^ 63 + p.taken) × (0 < p.least) × (p.least < 2 ^ 63) };
 }
 
 impl Parts {
-    /// The input at this path, of which a first part is read, and hex text whole.
+    /// The input at this path, of which a first part is read. No part is shorter than this but the
+    /// last one.
     pub fn open<'a, F: Folder>(
         alloc: Global,
         files: &mut F,
         path: &'a str,
-        options: Options,
+        least: usize,
     ) -> Result<Parts, Fault<'a>>
-        ensures begins { IfOk result (IsReadTo (F.held files.old) path.now options.hex []) }
-        ensures fault { IfErr result (IsNoInput (F.held files.old) path.now options.hex) }
+        requires some { 0 < least }
+        requires range { least < 2 ^ 63 }
+        ensures begins { IfOk result (IsReadTo (F.held files.old) path.now false []) }
+        ensures fault { IfErr result (IsNoInput (F.held files.old) path.now false) }
         ensures keeps { KeepsFiles (F.held files.old) (F.held files.new) }
         ensures same { F.behind files.new ≡ F.behind files.old }
     {
-        if options.hex {
-            let bytes = input::read_digits(alloc, files, path, u64::MAX)?;
-            Ok(Parts::at_start(bytes, true))
-        } else {
-            let mut parts = Parts::at_start(Vec::new(alloc), false);
-            parts.read_on(alloc, files, path)?;
-            Ok(parts)
-        }
+        let mut parts = Parts::at_start(Vec::new(alloc), false, least);
+        parts.read_on(alloc, files, path)?;
+        Ok(parts)
+    }
+
+    /// An input that is these bytes.
+    pub fn whole(bytes: Vec<u8>) -> Parts
+        ensures { result ≡ record { rest = bytes.items; start = 0; ended = true } }
+    {
+        Parts::at_start(bytes, true, 1)
     }
 
     // The first bytes of an input, or all.
-    fn at_start(bytes: Vec<u8>, ended: bool) -> Parts
+    fn at_start(bytes: Vec<u8>, ended: bool, least: usize) -> Parts
+        requires some { 0 < least }
+        requires range { least < 2 ^ 63 }
         ensures { result ≡ record { rest = bytes.items; start = 0; ended = ended } }
     {
         Parts {
@@ -68,6 +72,7 @@ impl Parts {
             taken: 0,
             start: 0,
             ended,
+            least,
         }
     }
 
@@ -102,6 +107,15 @@ impl Parts {
     {
         self.taken += size;
         self.start += size;
+    }
+
+    /// The bytes that were read and are still to be taken, alone.
+    pub fn into_rest(self) -> Vec<u8>
+        ensures { result.items ≡ self.rest }
+    {
+        let mut bytes = self.bytes;
+        remove_front(&mut bytes, self.taken);
+        bytes
     }
 
     /// Reads the next part where nothing is left to be taken and the input may go on.
@@ -139,7 +153,7 @@ impl Parts {
         remove_front(&mut self.bytes, self.taken);
         self.taken = 0;
         let held = self.bytes.len();
-        let most = held.max(PART);
+        let most = held.max(self.least);
         let from = (self.start + held) as u64;
         match files.read_on(alloc, path, from, most as u64, &mut self.bytes) {
             Ok(()) => {

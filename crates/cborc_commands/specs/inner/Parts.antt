@@ -19,12 +19,30 @@ use Rattle.cborc_commands.specs.Show.{shown_text}
 use Rattle.cborc_commands.specs.declared.fault.Fault.{Fault}
 use Rattle.cborc_commands.specs.declared.fault.Fault.TheVariants as faults
 use Rattle.cborc_commands.specs.declared.request.Layout.{Layout}
+use Rattle.cborc_commands.specs.declared.request.Options.{Options}
 
--- these bytes are the input's first ones: all of them, or so many
-pub record StartsInput (held : Option Files) (path : List ℕ) (hex : Bool) (most : ℕ) (bytes : List ℕ) : Type 0 where
+-- these bytes are the first ones that the hex digits of the file at this path spell: all of them, or so many
+pub record StartsDigits (held : Option Files) (path : List ℕ) (most : ℕ) (bytes : List ℕ) : Type 0 where
   pub input : List ℕ
-  pub is : IsInput held path hex input
+  pub is : IsInput held path true input
   pub front : bytes ≡ take most input
+
+-- what these bytes tell of their first item does not depend on what follows them: by its form they end neither within it nor with it
+pub record IsDecided (limits : Bounds) (bytes : List ℕ) : Type 0 where
+  pub within : (f : Refusal) → IsVerdict limits form bytes (refused f) → f.reason ≢ Truncated
+  pub longer : (s : Spelling) → IsVerdict limits form bytes (accepted s) → length (spell s) < length bytes
+
+-- nothing follows these bytes, or it tells no more of their first item
+abbrev pub IsEnough : Bounds → List ℕ → List ℕ → Type 0
+IsEnough limits bytes behind = (behind ≡ []) ⊎ IsDecided limits bytes
+
+-- these bytes are the first ones of the input at this path: all of them, or enough
+pub record StartsInput (held : Option Files) (path : List ℕ) (options : Options) (bytes : List ℕ) : Type 0 where
+  pub input : List ℕ
+  pub is : IsInput held path options.hex input
+  pub behind : List ℕ
+  pub splits : bytes ++ behind ≡ input
+  pub enough : IsEnough options.limits bytes behind
 
 -- ---- an input that is read part by part
 
@@ -58,11 +76,6 @@ pub record IsNextPart (held : Option Files) (path : List ℕ) (old new : PartsVi
 pub record IsFilled (held : Option Files) (path : List ℕ) (old new : PartsView) : Type 0 where
   pub either : (new ≡ old) ⊎ ((old.ended ≡ false) × IsNextPart held path old new)
   pub some : new.rest ≡ [] → new.ended ≡ true
-
--- what the bytes tell of their first item does not depend on what follows them: by its form they end neither within it nor with it
-pub record IsDecided (limits : Bounds) (bytes : List ℕ) : Type 0 where
-  pub within : (f : Refusal) → IsVerdict limits form bytes (refused f) → f.reason ≢ Truncated
-  pub longer : (s : Spelling) → IsVerdict limits form bytes (accepted s) → length (spell s) < length bytes
 
 -- ---- what the parts of a command answer of these bytes
 
