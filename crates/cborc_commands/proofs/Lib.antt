@@ -1,3 +1,4 @@
+mod Canonical
 mod Decided
 mod Faults
 mod Files
