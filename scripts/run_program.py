@@ -155,6 +155,61 @@ def sequences():
     os.remove(item)
 
 
+def limited(kib):
+    """What keeps a run within so much memory."""
+    return lambda: resource.setrlimit(resource.RLIMIT_AS, (kib * 1024, kib * 1024))
+
+
+def parts():
+    """Sequences longer than what is held of them, inputs without end, and files longer than memory."""
+    item = b"\x58\x49" + bytes(range(73))
+    count = 300_000
+    path = write("long", item * count)
+    few = limited(8 * 1024)
+    expect("a long sequence", run(["check", "--seq", "long"], preexec_fn=few), 0, b"accepted %d items\n" % count)
+    with open(path, "rb") as file:
+        ended = subprocess.run([PROGRAM, "check", "--seq", "-"], stdin=file, capture_output=True, preexec_fn=few)
+    expect("a long stream", ended, 0, b"accepted %d items\n" % count)
+    with subprocess.Popen(["cat", path], stdout=subprocess.PIPE) as pipe:
+        ended = subprocess.run([PROGRAM, "check", "--seq", "-"], stdin=pipe.stdout, capture_output=True, preexec_fn=few)
+    expect("a long sequence from a pipe", ended, 0, b"accepted %d items\n" % count)
+    with open(path, "ab") as file:
+        file.write(b"\x00\x18")
+    refused = b"item %d refused 1 Truncated at 1\n" % (count + 2)
+    for command in ("show", "events", "check"):
+        ended = run([command, "--seq", "long"], preexec_fn=few)
+        if (ended.returncode, ended.stderr) != (1, refused):
+            faults.append(f"{command} of a long sequence: found {(ended.returncode, ended.stderr)}")
+        lines = {"show": count + 1, "events": 2 * count + 2, "check": 0}[command]
+        if ended.stdout.count(b"\n") != lines:
+            faults.append(f"{command} of a long sequence: {ended.stdout.count(chr(10).encode())} lines, and not {lines}")
+    last = b"\n\n%d bytes 73 1\n\n%d unsigned 0 0\n\n" % (75 * count - 75, 75 * count)
+    if not run(["events", "--seq", "long"]).stdout.endswith(last):
+        faults.append("events of a long sequence: the last lines are others")
+    told = run(["check", "--seq", "--explain", "long"], preexec_fn=few).stderr
+    if b"where the item starts at %d\n" % (75 * count + 1) not in told or b"bytes from 0: 18\n" not in told:
+        faults.append(f"an explanation of a long sequence: {told}")
+    os.remove(path)
+    # A byte string of 200,000 bytes over the ends of parts, and items without end.
+    wide = b"\x5a\x00\x03\x0d\x40" + bytes(200_000)
+    expect("wide items", run(["canon", "--seq", "--hex-out", "-", "-"], wide * 3 + b"\x18\x00"), 0, b"".join([wide.hex().encode() + b"\n"] * 3) + b"00\n")
+    for byte, line in ((0x1C, b"3 Reserved at 0"), (0x9F, b"9 TooDeep at 256")):
+        feed = f"import sys\nwhile True: sys.stdout.buffer.write(bytes([{byte}]) * 65536)"
+        with subprocess.Popen([sys.executable, "-c", feed], stdout=subprocess.PIPE, stderr=subprocess.DEVNULL) as pipe:
+            words = [PROGRAM, "check", "--seq", "-"]
+            ended = subprocess.run(words, stdin=pipe.stdout, capture_output=True, timeout=20, preexec_fn=few)
+            pipe.stdout.close()
+        expect("a sequence without end", ended, 1, b"", b"item 1 refused " + line + b"\n")
+    path = write("zeros", b"")
+    os.truncate(path, 1 << 31)
+    for command in (["check"], ["check", "--strict"], ["show"], ["canon", "--quiet"]):
+        rest = ["-"] if command[0] == "canon" else []
+        ended = run([*command, "--bytes", "4000000000", "zeros", *rest], preexec_fn=limited(16 * 1024))
+        told = b"" if "--quiet" in command else b"refused 12 Trailing at 1\n"
+        expect(f"{command} of 2 GiB", ended, 1, b"", told)
+    os.remove(path)
+
+
 def leftovers():
     """What a run leaves that was ended amid its work, and that no such thing hinders a later one."""
     path = write("out", b"\x80")
@@ -266,7 +321,7 @@ def pages():
 
 PROGRAM = os.path.abspath(sys.argv[1]) if len(sys.argv) > 1 else built()
 with tempfile.TemporaryDirectory() as FOLDER:
-    for part in (words, streams, outputs_that_fail, files, sequences, leftovers, links, explained, causes, pages):
+    for part in (words, streams, outputs_that_fail, files, sequences, parts, leftovers, links, explained, causes, pages):
         part()
 faults += completions.faults()
 for fault in faults:

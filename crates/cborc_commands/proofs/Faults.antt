@@ -1,5 +1,5 @@
 -- Which fault a part of a subcommand passes on, and what it tells of the whole.
-use Rattle.std.proofs.Common.{ℕ, ◌+◌, ◌≡◌, inl, List, length, take, Option, refl, sym, subst}
+use Rattle.std.proofs.Common.{ℕ, ◌≡◌, ◌++◌, inl, List, length, Option, refl, sym, subst}
 use Rattle.std.specs.Prelude.{Result, Ok, Err, OnOk, IfOk, IfErr}
 use Rattle.cbor_diag.specs.Listing.{IsListed}
 use Rattle.cbor_head.specs.Complaint.{Rules, plain}
@@ -21,7 +21,7 @@ use Rattle.cborc_commands.proofs.Files.{put_kept, input_before}
 use Rattle.cborc_commands.proofs.Fronts.{canonical_whole, refusal_whole, is_whole, is_not_whole, is_all_of, listed_whole, not_listed_whole, whole_item, item_refusal_whole}
 use Rattle.cborc_commands.proofs.Whole.{AreAccepted, is_read, is_no_item}
 use Rattle.cborc_commands.specs.Canon.{IsCanonicalText, IsPut, IsNotPut, IsCanonised, IsNotCanonised}
-use Rattle.cborc_commands.specs.inner.Parts.{IsNoText, StartsInput}
+use Rattle.cborc_commands.specs.inner.Parts.{IsNoText, StartsInput, IsEnough}
 use Rattle.cborc_commands.specs.Check.{accepted_bytes, IsWhole, IsNotWhole, IsChecked, IsNotChecked}
 use Rattle.cborc_commands.specs.Compare.{IsTold, IsUntold, AreInputs, AreCompared, AreNotCompared}
 use Rattle.cborc_commands.specs.Events.{IsNotListed, IsListedOf, IsNotListedOf}
@@ -56,46 +56,42 @@ refusal_is P f fault e refused memory = subst P (sym e) (by_reason f.reason refl
     by_reason _ is = refused (subst IsOfInput (sym is) tt)
 
 module _ (o : KeyOrder) (options : Options) (source : List ℕ) (output : Output) (held : Option Files) where
-  text_whole : (bytes text : List ℕ) (s : StartsInput held source options.hex (options.limits.bytes + 1) bytes) → IsCanonicalText options.limits o output.form bytes text
+  text_whole : (bytes text : List ℕ) (s : StartsInput held source options bytes) → IsCanonicalText options.limits o output.form bytes text
       → IsCanonicalText options.limits o output.form s.input text
   text_whole bytes text s t = record {
     canonical = t.canonical;
-    is = canonical_whole options.limits s.input o t.canonical
-        (subst (λ (b : List ℕ). IsCanonicalOf options.limits o b t.canonical) s.front t.is);
+    is = subst (λ (b : List ℕ). IsCanonicalOf options.limits o b t.canonical) s.splits (canonical_whole options.limits bytes s.behind s.enough o t.canonical t.is);
     formed = t.formed;
   }
 
-  pub canonised : (mid new : Option Files) (before after : Option (List ℕ)) (bytes text : List ℕ) → StartsInput held source options.hex (options.limits.bytes + 1) bytes
+  pub canonised : (mid new : Option Files) (before after : Option (List ℕ)) (bytes text : List ℕ) → StartsInput held source options bytes
       → IsCanonicalText options.limits o output.form bytes text → KeepsFiles held mid → IsPut output.path.now mid new before after text
       → IsCanonised o options source output held new before after
   canonised mid new before after bytes text s t k p =
       record { input = s.input; is = s.is; text = text; canonical = text_whole bytes text s t; put = put_kept output.path.now held mid new before after text k p }
 
-  pub not_put : (bytes text : List ℕ) → StartsInput held source options.hex (options.limits.bytes + 1) bytes → IsCanonicalText options.limits o output.form bytes text
+  pub not_put : (bytes text : List ℕ) → StartsInput held source options bytes → IsCanonicalText options.limits o output.form bytes text
       → (fault : Fault) → IsNotPut output.path.now fault → IsNotCanonised o options source output held fault
   not_put bytes text s t faults.CannotPrint h = (record { input = s.input; is = s.is; text = text; canonical = text_whole bytes text s t }, h)
   not_put bytes text s t (faults.CannotWrite named) h = (record { input = s.input; is = s.is; text = text; canonical = text_whole bytes text s t }, h)
   not_put bytes text s t faults.Memory h = tt
   not_put bytes text s t _ h = absurd h
 
-  pub no_text : (bytes : List ℕ) → StartsInput held source options.hex (options.limits.bytes + 1) bytes → (fault : Fault)
+  pub no_text : (bytes : List ℕ) → StartsInput held source options bytes → (fault : Fault)
       → IsNoText options.limits o bytes fault → IsNotCanonised o options source output held fault
   no_text bytes s (faults.Refused f) h = (
     s.input,
     s.is,
-    refusal_whole options.limits s.input o f
-        (subst (λ (b : List ℕ). IsRefusal options.limits o b f) s.front h.0),
+    subst (λ (b : List ℕ). IsRefusal options.limits o b f) s.splits (refusal_whole options.limits bytes s.behind s.enough o f h.1 h.0),
     h.1,
   )
   no_text bytes s faults.Memory h = tt
   no_text bytes s _ h = absurd h
 
 module _ (rules : Rules) (options : Options) (source : List ℕ) (held : Option Files) (bytes : List ℕ)
-    (s : StartsInput held source options.hex (options.limits.bytes + 1) bytes) where
+    (s : StartsInput held source options bytes) where
   whole_of : (size : ℕ) → IsWhole options.limits rules bytes size → IsWhole options.limits rules s.input size
-  whole_of size w =
-      is_whole options.limits s.input rules size
-      (subst (λ (b : List ℕ). IsWhole options.limits rules b size) s.front w)
+  whole_of size w = subst (λ (b : List ℕ). IsWhole options.limits rules b size) s.splits (is_whole options.limits bytes s.behind s.enough rules size w)
 
   pub checked : (size : ℕ) (before after : Option (List ℕ)) → IsWhole options.limits rules bytes size
       → Appends before after (accepted_bytes size) → IsChecked rules options source held before after
@@ -112,18 +108,17 @@ module _ (rules : Rules) (options : Options) (source : List ℕ) (held : Option 
       refusal_is (IsNotChecked rules options source held) f fault e (λ own. (
         s.input,
         s.is,
-        is_not_whole options.limits s.input rules f
-            (subst (λ (b : List ℕ). IsNotWhole options.limits rules b f) s.front h),
+        subst (λ (b : List ℕ). IsNotWhole options.limits rules b f) s.splits (is_not_whole options.limits bytes s.behind s.enough rules f own h),
         own,
       )) tt
 
-module _ (options : Options) (source : List ℕ) (held : Option Files) (bytes : List ℕ) (s : StartsInput held source options.hex (options.limits.bytes + 1) bytes) where
+module _ (options : Options) (source : List ℕ) (held : Option Files) (bytes : List ℕ) (s : StartsInput held source options bytes) where
   -- ---- `show`
 
   read_whole : AreAccepted options.limits bytes → (v : Value) → (item : Spelling) × IsValidItem options.limits bytes item × (v ≡ value_of item) → IsReadAs options.limits plain s.input v (length s.input)
   read_whole are v h =
-      is_all_of options.limits s.input v
-      (subst (λ (b : List ℕ). IsReadAs options.limits plain b v (length b)) s.front (is_read options.limits bytes are v h))
+      subst (λ (b : List ℕ). IsReadAs options.limits plain b v (length b)) s.splits
+      (is_all_of options.limits bytes s.behind s.enough v (is_read options.limits bytes are v h))
 
   pub shown_of : AreAccepted options.limits bytes → (layout : Layout) (v : Value) (before after : Option (List ℕ)) → (item : Spelling) × IsValidItem options.limits bytes item × (v ≡ value_of item)
       → Appends before after (shown_text layout v) → IsShownOf layout options source held before after
@@ -138,8 +133,7 @@ module _ (options : Options) (source : List ℕ) (held : Option Files) (bytes : 
       refusal_is (IsNotShown options source held) f fault e (λ own. (
         s.input,
         s.is,
-        is_not_whole options.limits s.input plain f
-            (subst (λ (b : List ℕ). IsNotWhole options.limits plain b f) s.front (is_no_item options.limits bytes f h)),
+        subst (λ (b : List ℕ). IsNotWhole options.limits plain b f) s.splits (is_not_whole options.limits bytes s.behind s.enough plain f own (is_no_item options.limits bytes f h)),
         own,
       )) tt
 
@@ -149,15 +143,12 @@ module _ (options : Options) (source : List ℕ) (held : Option Files) (bytes : 
   listed_of before after h = record {
     input = s.input;
     is = s.is;
-    listed = listed_whole options.limits s.input before after
-        (subst (λ (b : List ℕ). IsListed 0 options.limits b (length b) before after) s.front h);
+    listed = subst (λ (b : List ℕ). IsListed 0 options.limits b (length b) before after) s.splits (listed_whole options.limits bytes s.behind s.enough before after h);
   }
 
   listed_so : (before after : Option (List ℕ)) (fault : Fault) → IsNotListed options.limits bytes before after fault
       → IsNotListed options.limits s.input before after fault
-  listed_so before after fault h =
-      not_listed_whole options.limits s.input before after fault
-      (subst (λ (b : List ℕ). IsNotListed options.limits b before after fault) s.front h)
+  listed_so before after fault h = subst (λ (b : List ℕ). IsNotListed options.limits b before after fault) s.splits (not_listed_whole options.limits bytes s.behind s.enough before after fault h)
 
   pub not_listed_of : (before after : Option (List ℕ)) (fault : Fault) → IsNotListed options.limits bytes before after fault
       → IsNotListedOf options source held before after fault
@@ -168,34 +159,37 @@ module _ (options : Options) (source : List ℕ) (held : Option Files) (bytes : 
 
 -- ---- `compare`
 
-module _ (limits : Bounds) (left right : List ℕ) where
-  fronts_equal : IsWholeItem limits (take (limits.bytes + 1) left) × IsWholeItem limits (take (limits.bytes + 1) right) → (take (limits.bytes + 1) left ≡ left) × (take (limits.bytes + 1) right ≡ right)
-  fronts_equal (l, r) = (whole_item limits left l, whole_item limits right r)
+module _ (limits : Bounds) (left left_behind right right_behind : List ℕ) (enough : IsEnough limits left left_behind) (enough_too : IsEnough limits right right_behind) where
+  fronts_equal : IsWholeItem limits left × IsWholeItem limits right → (left ≡ left ++ left_behind) × (right ≡ right ++ right_behind)
+  fronts_equal (l, r) = (whole_item limits left left_behind enough l, whole_item limits right right_behind enough_too r)
 
-  same_fronts : (before after : Option (List ℕ)) (status : Status) → IsTold limits (take (limits.bytes + 1) left) (take (limits.bytes + 1) right) before after status
-      → (take (limits.bytes + 1) left ≡ left) × (take (limits.bytes + 1) right ≡ right) → IsTold limits left right before after status
+  same_fronts : (before after : Option (List ℕ)) (status : Status) → IsTold limits left right before after status
+      → (left ≡ left ++ left_behind) × (right ≡ right ++ right_behind) → IsTold limits (left ++ left_behind) (right ++ right_behind) before after status
   same_fronts before after status h (l, r) =
-      subst (λ (x : List ℕ). IsTold limits left x before after status) r
-      (subst (λ (x : List ℕ). IsTold limits x (take (limits.bytes + 1) right) before after status) l h)
+      subst (λ (x : List ℕ). IsTold limits (left ++ left_behind) x before after status) r
+      (subst (λ (x : List ℕ). IsTold limits x right before after status) l h)
 
-  pub told_whole : (before after : Option (List ℕ)) (status : Status) → IsTold limits (take (limits.bytes + 1) left) (take (limits.bytes + 1) right) before after status → IsTold limits left right before after status
+  pub told_whole : (before after : Option (List ℕ)) (status : Status) → IsTold limits left right before after status → IsTold limits (left ++ left_behind) (right ++ right_behind) before after status
   told_whole before after statuses.Accepted h = same_fronts before after statuses.Accepted h (fronts_equal h.0)
   told_whole before after statuses.Refused h = same_fronts before after statuses.Refused h (fronts_equal h.0)
   told_whole before after _ h = absurd h
 
-  side_whole : (side : Side) (f : Refusal) → IsSideRefusal limits (take (limits.bytes + 1) left) (take (limits.bytes + 1) right) side f → IsSideRefusal limits left right side f
-  side_whole Left f h = item_refusal_whole limits left f h
-  side_whole Right f (l, h) = (subst (IsWholeItem limits) (whole_item limits left l) l, item_refusal_whole limits right f h)
+  left_whole : IsWholeItem limits left → IsWholeItem limits (left ++ left_behind)
+  left_whole l = subst (IsWholeItem limits) (whole_item limits left left_behind enough l) l
 
-  pub untold_whole : (fault : Fault) → IsUntold limits (take (limits.bytes + 1) left) (take (limits.bytes + 1) right) fault → IsUntold limits left right fault
+  side_whole : (side : Side) (f : Refusal) → IsSideRefusal limits left right side f → IsSideRefusal limits (left ++ left_behind) (right ++ right_behind) side f
+  side_whole Left f h = item_refusal_whole limits left left_behind enough f h
+  side_whole Right f (l, h) = (left_whole l, item_refusal_whole limits right right_behind enough_too f h)
+
+  pub untold_whole : (fault : Fault) → IsUntold limits left right fault → IsUntold limits (left ++ left_behind) (right ++ right_behind) fault
   untold_whole (faults.LeftRefused f) (h, own) = (side_whole Left f h, own)
   untold_whole (faults.RightRefused f) (h, own) = (side_whole Right f h, own)
   untold_whole faults.Memory (side, f, h, e) = (side, f, side_whole side f h, e)
-  untold_whole faults.CannotPrint (l, r) = (subst (IsWholeItem limits) (whole_item limits left l) l, subst (IsWholeItem limits) (whole_item limits right r) r)
+  untold_whole faults.CannotPrint (l, r) = (left_whole l, subst (IsWholeItem limits) (whole_item limits right right_behind enough_too r) r)
   untold_whole _ h = absurd h
 
 module _ (options : Options) (left right : List ℕ) (old mid : Option Files) (keeps : KeepsFiles old mid) (first second : List ℕ)
-    (s : StartsInput old left options.hex (options.limits.bytes + 1) first) (t : StartsInput mid right options.hex (options.limits.bytes + 1) second) where
+    (s : StartsInput old left options first) (t : StartsInput mid right options second) where
   both : AreInputs old left right options s.input t.input
   both = record { left_is = s.is; right_is = input_before old mid right options.hex t.input keeps t.is }
 
@@ -205,9 +199,9 @@ module _ (options : Options) (left right : List ℕ) (old mid : Option Files) (k
     first = s.input;
     second = t.input;
     are = both;
-    told = told_whole options.limits s.input t.input before after status
-        (subst (λ (x : List ℕ). IsTold options.limits (take (options.limits.bytes + 1) s.input) x before after status) t.front
-        (subst (λ (x : List ℕ). IsTold options.limits x second before after status) s.front h));
+    told = subst (λ (x : List ℕ). IsTold options.limits s.input x before after status) t.splits
+        (subst (λ (x : List ℕ). IsTold options.limits x (second ++ t.behind) before after status) s.splits
+        (told_whole options.limits first s.behind second t.behind s.enough t.enough before after status h));
   }
 
   pub not_compared : (fault : Fault) → IsUntold options.limits first second fault → AreNotCompared options left right old fault
@@ -216,9 +210,9 @@ module _ (options : Options) (left right : List ℕ) (old mid : Option Files) (k
         first = s.input;
         second = t.input;
         are = both;
-        untold = untold_whole options.limits s.input t.input fault
-            (subst (λ (x : List ℕ). IsUntold options.limits (take (options.limits.bytes + 1) s.input) x fault) t.front
-            (subst (λ (x : List ℕ). IsUntold options.limits x second fault) s.front h));
+        untold = subst (λ (x : List ℕ). IsUntold options.limits s.input x fault) t.splits
+            (subst (λ (x : List ℕ). IsUntold options.limits x (second ++ t.behind) fault) s.splits
+            (untold_whole options.limits first s.behind second t.behind s.enough t.enough fault h));
       })
 
 -- what follows of an answer that carries something

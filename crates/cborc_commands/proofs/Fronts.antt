@@ -1,19 +1,23 @@
--- A verdict looks at no byte behind the limit: the front of an input, one byte longer than the limit, tells what the whole is.
-use Rattle.std.proofs.Common.{ℕ, ◌+◌, ◌≡◌, ◌≤◌, inl, inr, Option, List, [], ◌∷◌, length, take, sym, ap, ◌∙◌, arith, subst}
-use Rattle.std.proofs.lemmas.List.{length-append, length-take, take_all, take-take}
-use Rattle.cbor_head.specs.Beginning.{IsLongestBeginning}
+-- What is told of the front of an input that is enough is told of the whole.
+use Rattle.std.proofs.Common.{ℕ, ◌≡◌, ◌≢◌, ◌<◌, ◌≤◌, inl, inr, Option, List, [], ◌∷◌, ◌++◌, length, take, refl, sym, ap, ◌∙◌, arith, subst}
+use Rattle.std.proofs.lemmas.List.{append_assoc, append-nil, length-append, length-take, take-append-le}
 use Rattle.cbor_head.specs.Complaint.{Rules, form, plain}
 use Rattle.cbor_head.specs.Limits.{Bounds}
 use Rattle.cbor_head.specs.Value.{Value}
-use Rattle.cbor_head.specs.Spelling.{Spelling, spell}
-use Rattle.cbor_head.specs.Verdict.{Answer, accepted, refused, refusal, Decides, IsFormError, IsVerdict}
+use Rattle.cbor_head.specs.Spelling.{Spelling, spell, IsItem}
+use Rattle.cbor_head.specs.Verdict.{Answer, accepted, refused, refusal, IsFormError, IsVerdict}
 use Rattle.cbor_head.specs.declared.order.KeyOrder.{KeyOrder}
-use Rattle.cbor_head.specs.declared.reason.Reason.TheVariants.{CanonicalTooLong, Truncated}
+use Rattle.cbor_head.specs.declared.reason.Reason.TheVariants.{CanonicalTooLong, TooLong, Truncated, Read}
 use Rattle.cbor_head.specs.declared.reason.Refusal.{Refusal}
+use Rattle.cbor_grammar.proofs.Agree.{split_front}
 use Rattle.cbor_reader.specs.Canonicalise.{IsCanonicalOf, IsRefusal}
 use Rattle.cbor_reader.specs.Canonicalise as canonicalise
+use Rattle.cbor_reader.proofs.Headline.{valid_item_accepted}
+use Rattle.cbor_judging.proofs.Reasons.{complaint-reason}
+use Rattle.cbor_judging.proofs.SpelledBytes.{longest_always}
 use Rattle.cbor_judging.specs.Readers.{IsUnread, IsReadAs}
 use Rattle.cbor_judging.specs.Readers as readers
+use Rattle.cbor_judging.specs.Refusals.{IsComplaintReason}
 use Rattle.cbor_reader.specs.WholeItem.{IsWholeItem, IsItemRefusal}
 use Rattle.cbor_reader.specs.WholeItem as items
 use Rattle.cbor_diag.specs.Listing.{IsListing, IsStopped, IsListed, IsUnlisted}
@@ -22,124 +26,144 @@ use Rattle.cbor_standing.proofs.Form.{no-complaint}
 use Rattle.cborc_commands.specs.Check.{IsWhole, IsNotWhole}
 use Rattle.cborc_commands.specs.Check as check
 use Rattle.cborc_commands.specs.Events.{IsFollowed, IsNotListed}
+use Rattle.cborc_commands.specs.Fault.{IsOfInput}
 use Rattle.cborc_commands.specs.declared.fault.Fault.{Fault}
 use Rattle.cborc_commands.specs.declared.fault.Fault.TheVariants as faults
+use Rattle.cborc_commands.specs.inner.Parts.{IsDecided, IsEnough}
+use Rattle.cborc_commands.proofs.Decided.{IsFinal, further, more, splits_further}
+use Rattle.cborc_commands.proofs.Places.{byte_reason, IsByteReason, place_within}
 
-module _ (limits : Bounds) (whole : List ℕ) where
-  same_limit : take limits.bytes (take (limits.bytes + 1) whole) ≡ take limits.bytes whole
-  same_limit = take-take limits.bytes (limits.bytes + 1) whole (omega arith)
+-- ---- by its form alone
 
-  longest_whole : (p : List ℕ) → IsLongestBeginning limits.depth (take limits.bytes (take (limits.bytes + 1) whole)) p → IsLongestBeginning limits.depth (take limits.bytes whole) p
-  longest_whole p l = record {
-    beginning = l.beginning;
-    rest = l.rest;
-    splits = sym same_limit ∙ l.splits;
-    longest = λ q r b e. l.longest q r b (same_limit ∙ e);
+by_form : (limits : Bounds) (r : Rules) (front : List ℕ) (s : Spelling) → IsVerdict limits r front (accepted s) → IsVerdict limits form front (accepted s)
+by_form limits r front s v =
+    record { p = v.p; longest = v.longest; item = v.item; rest = v.rest; starts = v.starts; decides = (v.decides.0, v.decides.1, λ c h l. no-complaint 0 v.item c h) }
+
+-- an input that ends within its item does so by any rules
+cut_by_form : (limits : Bounds) (r : Rules) (front : List ℕ) (f : Refusal) → f.reason ≡ Truncated → IsVerdict limits r front (refused f) → IsVerdict limits form front (refused f)
+cut_by_form limits r front f e v = elim v.decides [
+  | inl h ↦ absurd (subst (IsComplaintReason r) e (complaint-reason r 0 v.item h.0 h.1.holds f h.2))
+  | inr h ↦ record { p = v.p; longest = v.longest; item = v.item; rest = v.rest; starts = v.starts; decides = inr ((λ c g l. no-complaint 0 v.item c g), h.1, h.2) }
+]
+
+-- an item that is accepted is within the limit
+short : (limits : Bounds) (r : Rules) (front : List ℕ) (s : Spelling) → IsVerdict limits r front (accepted s) → length (spell s) ≤ limits.bytes
+short limits r front s v =
+    omega (
+      arith,
+      ap (λ (t : Spelling). length (spell t)) v.decides.0,
+      ap length v.decides.1,
+      ap length v.longest.splits,
+      length-append v.p v.longest.rest,
+      length-take limits.bytes front,
+    )
+
+-- more bytes than the limit are enough
+module _ (limits : Bounds) (bytes : List ℕ) (long : limits.bytes < length bytes) where
+  not_cut : (f : Refusal) (v : IsVerdict limits form bytes (refused f)) → (rest : List ℕ) → v.longest.rest ≡ rest → IsFormError limits v.p rest f → f.reason ≢ Truncated
+  not_cut f v (c ∷ cs) same (reason, why, is) e =
+      subst IsByteReason (sym (ap (λ (x : Refusal). x.reason) is) ∙ e) (byte_reason limits.depth v.p c reason why)
+  not_cut f v [] same (inl h) e = let both : TooLong ≡ Truncated = sym (ap (λ (x : Refusal). x.reason) h.1) ∙ e in cc both
+  not_cut f v [] same (inr h) e =
+      omega (arith, long, h.0, ap length v.longest.splits, length-append v.p v.longest.rest, ap length same, length-take limits.bytes bytes)
+
+  pub decided_beyond : IsDecided limits bytes
+  decided_beyond = record {
+    within = λ f v e. elim v.decides [ inl h ↦ no-complaint 0 v.item h.0 h.1.holds | inr h ↦ not_cut f v v.longest.rest refl h.2 e ];
+    longer = λ s v. omega (arith, long, short limits form bytes s v);
   }
 
-  verdict_whole : (r : Rules) (a : Answer) → IsVerdict limits r (take (limits.bytes + 1) whole) a → IsVerdict limits r whole a
-  verdict_whole r a v = record {
-    p = v.p;
-    longest = record {
-      beginning = v.longest.beginning;
-      rest = v.longest.rest;
-      splits = sym same_limit ∙ v.longest.splits;
-      longest = λ q r b e. v.longest.longest q r b (same_limit ∙ e);
-    };
-    item = v.item;
-    rest = v.rest;
-    starts = v.starts;
-    decides = v.decides;
-  }
+module _ (limits : Bounds) (front behind : List ℕ) (enough : IsEnough limits front behind) where
+  final : (r : Rules) (a : Answer) → IsVerdict limits r front a → IsDecided limits front → IsFinal a
+  final r (accepted s) v d = tt
+  final r (refused f) v d = λ e. d.within f (cut_by_form limits r front f e v) e
 
-  -- an item that is accepted is within the limit
-  short : (r : Rules) (s : Spelling) → IsVerdict limits r (take (limits.bytes + 1) whole) (accepted s) → length (spell s) ≤ limits.bytes
-  short r s v =
-      omega (
-        arith,
-        ap (λ (t : Spelling). length (spell t)) v.decides.0,
-        ap length v.decides.1,
-        ap length v.longest.splits,
-        length-append v.p v.longest.rest,
-        length-take limits.bytes (take (limits.bytes + 1) whole),
-      )
+  none_behind : behind ≡ [] → front ≡ front ++ behind
+  none_behind e = sym (append-nil front) ∙ ap (λ (xs : List ℕ). front ++ xs) (sym e)
 
-  -- a front within the limit is the whole
-  all : length (take (limits.bytes + 1) whole) ≤ limits.bytes → take (limits.bytes + 1) whole ≡ whole
-  all l = take_all (limits.bytes + 1) whole (omega (arith, l, length-take (limits.bytes + 1) whole))
+  verdict_whole : (r : Rules) (a : Answer) → IsVerdict limits r front a → IsVerdict limits r (front ++ behind) a
+  verdict_whole r a v = elim enough [
+    | inl e ↦ subst (λ (xs : List ℕ). IsVerdict limits r xs a) (none_behind e) v
+    | inr d ↦ further limits r front behind a v (final r a v d)
+  ]
 
-  no_longer : length (take (limits.bytes + 1) whole) ≤ length whole
-  no_longer = omega (arith, length-take (limits.bytes + 1) whole)
+  -- an item that is all of the front is all of the whole
+  all_of : (r : Rules) (s : Spelling) → IsVerdict limits r front (accepted s) → length (spell s) ≡ length front → front ≡ front ++ behind
+  all_of r s v l = elim enough [
+    | inl e ↦ none_behind e
+    | inr d ↦ absurd (omega (arith, l, d.longer s (by_form limits r front s v)))
+  ]
 
-  all_of : (r : Rules) (s : Spelling) → IsVerdict limits r (take (limits.bytes + 1) whole) (accepted s) → spell s ≡ take (limits.bytes + 1) whole → take (limits.bytes + 1) whole ≡ whole
-  all_of r s v e = all (omega (arith, short r s v, ap length e))
+  no_longer : length front ≤ length (front ++ behind)
+  no_longer = omega (arith, length-append front behind)
+
+  same_front : (k : ℕ) → k ≤ length front → take k front ≡ take k (front ++ behind)
+  same_front k l = sym (take-append-le k front behind l)
 
   -- ---- what `canonicalise` answers
 
-  pub canonical_whole : (o : KeyOrder) (out : List ℕ) → IsCanonicalOf limits o (take (limits.bytes + 1) whole) out → IsCanonicalOf limits o whole out
+  pub canonical_whole : (o : KeyOrder) (out : List ℕ) → IsCanonicalOf limits o front out → IsCanonicalOf limits o (front ++ behind) out
   canonical_whole o out c = record {
     item = c.item;
     verdict = verdict_whole plain (accepted c.item) c.verdict;
-    whole = c.whole ∙ all_of plain c.item c.verdict c.whole;
+    whole = c.whole ∙ all_of plain c.item c.verdict (ap length c.whole);
     canonical_bytes = c.canonical_bytes;
     fits = c.fits;
   }
 
-  pub refusal_whole : (o : KeyOrder) (f : Refusal) → IsRefusal limits o (take (limits.bytes + 1) whole) f → IsRefusal limits o whole f
-  refusal_whole o f (canonicalise.of_verdict v) = canonicalise.of_verdict (verdict_whole plain (refused f) v)
-  refusal_whole o f (canonicalise.trailing item v l e) = canonicalise.trailing item (verdict_whole plain (accepted item) v) (omega (arith, l, no_longer)) e
-  refusal_whole o f (canonicalise.canonical_too_long item v w l e) =
-      let same = all_of plain item v w in
+  pub refusal_whole : (o : KeyOrder) (f : Refusal) → IsOfInput f.reason → IsRefusal limits o front f → IsRefusal limits o (front ++ behind) f
+  refusal_whole o f own (canonicalise.of_verdict v) = canonicalise.of_verdict (verdict_whole plain (refused f) v)
+  refusal_whole o f own (canonicalise.trailing item v l e) = canonicalise.trailing item (verdict_whole plain (accepted item) v) (omega (arith, l, no_longer)) e
+  refusal_whole o f own (canonicalise.canonical_too_long item v w l e) =
+      let same = all_of plain item v (ap length w) in
       canonicalise.canonical_too_long item (verdict_whole plain (accepted item) v) (w ∙ same) l
       (e ∙ ap (λ (b : List ℕ). refusal CanonicalTooLong (length b) (length b)) same)
-  refusal_whole o f (canonicalise.of_memory p taken l t e free) = canonicalise.of_memory p taken (longest_whole p l) t e free
+  refusal_whole o f own (canonicalise.of_memory p taken l t e free) = absurd (subst IsOfInput (ap (λ (x : Refusal). x.reason) e) own)
 
   -- ---- what the readers answer
 
-  within_limit : (p : List ℕ) (k : ℕ) → IsLongestBeginning limits.depth (take limits.bytes (take (limits.bytes + 1) whole)) p → k ≤ length p → take k (take (limits.bytes + 1) whole) ≡ take k whole
-  within_limit p k l h =
-      take-take k (limits.bytes + 1) whole (omega (arith, h, ap length l.splits, length-append p l.rest, length-take limits.bytes (take (limits.bytes + 1) whole)))
+  unread_whole : (r : Rules) (f : Refusal) → f.reason ≢ Read → IsUnread limits r front f → IsUnread limits r (front ++ behind) f
+  unread_whole r f apart (readers.of_verdict v) = readers.of_verdict (verdict_whole r (refused f) v)
+  unread_whole r f apart (readers.of_reader p l h e v) = absurd (apart (ap (λ (x : Refusal). x.reason) e))
+  unread_whole r f apart (readers.of_memory p l h e free) =
+      let (q, g) = longest_always limits.depth (take limits.bytes (front ++ behind)) in
+      let rest = l.rest ++ more limits r front behind in
+      let splits : take limits.bytes (front ++ behind) ≡ p ++ rest = splits_further limits r front behind p l.rest l.splits in
+      let (k, is, other) = split_front p rest q g.rest (sym splits ∙ g.splits) (g.longest p rest l.beginning splits) in
+      readers.of_memory q g (omega (arith, h, ap length is, length-append p k)) e
+      (λ s c starts holds.
+      free s c (k ++ starts.0, subst (IsItem limits.depth s) (ap (λ (xs : List ℕ). xs ++ starts.0) is ∙ append_assoc p k starts.0) starts.1) holds)
 
-  unread_whole : (r : Rules) (f : Refusal) → IsUnread limits r (take (limits.bytes + 1) whole) f → IsUnread limits r whole f
-  unread_whole r f (readers.of_verdict v) = readers.of_verdict (verdict_whole r (refused f) v)
-  unread_whole r f (readers.of_reader p l h e v) =
-      readers.of_reader p (longest_whole p l) h e
-      (subst (λ (b : List ℕ). IsVerdict limits r b (refused (refusal Truncated f.read f.read))) (within_limit p f.read l h) v)
-  unread_whole r f (readers.of_memory p l h e free) = readers.of_memory p (longest_whole p l) h e free
+  not_read : (f : Refusal) → IsOfInput f.reason → f.reason ≢ Read
+  not_read f own e = subst IsOfInput e own
 
   -- ---- what `check` finds
 
-  pub is_whole : (r : Rules) (size : ℕ) → IsWhole limits r (take (limits.bytes + 1) whole) size → IsWhole limits r whole size
+  pub is_whole : (r : Rules) (size : ℕ) → IsWhole limits r front size → IsWhole limits r (front ++ behind) size
   is_whole r size (h, e) =
-      let same = all (omega (arith, e, h.size, short r h.item h.verdict)) in
+      let same = all_of r h.item h.verdict (sym h.size ∙ e) in
       (record { item = h.item; verdict = verdict_whole r (accepted h.item) h.verdict; size = h.size }, e ∙ ap length same)
 
-  pub is_not_whole : (r : Rules) (f : Refusal) → IsNotWhole limits r (take (limits.bytes + 1) whole) f → IsNotWhole limits r whole f
-  is_not_whole r f (check.unread h) = check.unread (unread_whole r f h)
-  is_not_whole r f (check.trailing size h l e) =
+  pub is_not_whole : (r : Rules) (f : Refusal) → IsOfInput f.reason → IsNotWhole limits r front f → IsNotWhole limits r (front ++ behind) f
+  is_not_whole r f own (check.unread h) = check.unread (unread_whole r f (not_read f own) h)
+  is_not_whole r f own (check.trailing size h l e) =
       check.trailing size (record { item = h.item; verdict = verdict_whole r (accepted h.item) h.verdict; size = h.size }) (omega (arith, l, no_longer)) e
 
   -- ---- what `show` finds
 
-  pub is_all_of : (v : Value) → IsReadAs limits plain (take (limits.bytes + 1) whole) v (length (take (limits.bytes + 1) whole)) → IsReadAs limits plain whole v (length whole)
+  pub is_all_of : (v : Value) → IsReadAs limits plain front v (length front) → IsReadAs limits plain (front ++ behind) v (length (front ++ behind))
   is_all_of v h =
-      let same = all (omega (arith, h.read.size, short plain h.read.item h.read.verdict)) in
-      subst (IsReadAs limits plain whole v) (ap length same) (record {
+      let same = all_of plain h.read.item h.read.verdict (sym h.read.size) in
+      subst (IsReadAs limits plain (front ++ behind) v) (ap length same) (record {
         read = record { item = h.read.item; verdict = verdict_whole plain (accepted h.read.item) h.read.verdict; size = h.read.size };
         value = h.value;
       })
 
   -- ---- what `events` finds
 
-  same_front : (k : ℕ) → k ≤ limits.bytes + 1 → take k (take (limits.bytes + 1) whole) ≡ take k whole
-  same_front k l = take-take k (limits.bytes + 1) whole l
-
-  front_within : length (take (limits.bytes + 1) whole) ≤ limits.bytes + 1
-  front_within = omega (arith, length-take (limits.bytes + 1) whole)
-
-  pub listed_whole : (old new : Option (List ℕ)) → IsListed 0 limits (take (limits.bytes + 1) whole) (length (take (limits.bytes + 1) whole)) old new → IsListed 0 limits whole (length whole) old new
+  pub listed_whole : (old new : Option (List ℕ)) → IsListed 0 limits front (length front) old new → IsListed 0 limits (front ++ behind) (length (front ++ behind)) old new
   listed_whole old new h =
-      let same = all (omega (arith, h.size, short form h.item h.verdict)) in
+      let same = all_of form h.item h.verdict (sym h.size) in
       record {
         item = h.item;
         verdict = verdict_whole form (accepted h.item) h.verdict;
@@ -147,35 +171,18 @@ module _ (limits : Bounds) (whole : List ℕ) where
         written = h.written;
       }
 
-  longest_within : (p : List ℕ) → IsLongestBeginning limits.depth (take limits.bytes (take (limits.bytes + 1) whole)) p → length p ≤ limits.bytes
-  longest_within p l = omega (arith, ap length l.splits, length-append p l.rest, length-take limits.bytes (take (limits.bytes + 1) whole))
-
-  form_place : (p behind : List ℕ) (f : Refusal) → length p ≤ limits.bytes → IsFormError limits p behind f → f.place ≤ limits.bytes
-  form_place p (c ∷ rest) f l (reason, why, e) = omega (arith, l, ap (λ (x : Refusal). x.place) e)
-  form_place p [] f l (inl h) = omega (arith, ap (λ (x : Refusal). x.place) h.1)
-  form_place p [] f l (inr h) = omega (arith, l, ap (λ (x : Refusal). x.place) h.1)
-
-  place_within : (f : Refusal) → IsVerdict limits form (take (limits.bytes + 1) whole) (refused f) → f.place ≤ limits.bytes
-  place_within f v = by v.decides
-    where
-      by : Decides limits form v.p v.longest.rest v.item (refused f) → f.place ≤ limits.bytes
-      by (inl (c, first, e)) = absurd (no-complaint 0 v.item c first.holds)
-      by (inr h) = form_place v.p v.longest.rest f (longest_within v.p v.longest) h.2
-
-  unlisted_whole : (f : Refusal) (old new : Option (List ℕ)) → IsUnlisted 0 limits (take (limits.bytes + 1) whole) f old new → f.read ≤ length (take (limits.bytes + 1) whole)
-      → IsUnlisted 0 limits whole f old new
+  unlisted_whole : (f : Refusal) (old new : Option (List ℕ)) → IsUnlisted 0 limits front f old new → f.read ≤ length front → IsUnlisted 0 limits (front ++ behind) f old new
   unlisted_whole f old new (listing.of_verdict out v l w) h =
       listing.of_verdict out (verdict_whole form (refused f) v)
-      (subst (λ (t : List ℕ). IsListing 0 limits.depth t out) (same_front f.place (omega (arith, place_within f v))) l) w
+      (subst (λ (t : List ℕ). IsListing 0 limits.depth t out) (same_front f.place (place_within limits front f v)) l) w
   unlisted_whole f old new (listing.of_reader out e v l w) h =
-      let same = same_front f.read (omega (arith, h, front_within)) in
       listing.of_reader out e
-      (subst (λ (t : List ℕ). IsVerdict limits form t (refused (refusal Truncated f.read f.read))) same v)
-      (subst (λ (t : List ℕ). IsListing 0 limits.depth t out) same l) w
+      (subst (λ (t : List ℕ). IsVerdict limits form t (refused (refusal Truncated f.read f.read))) (same_front f.read h) v)
+      (subst (λ (t : List ℕ). IsListing 0 limits.depth t out) (same_front f.read h) l) w
   unlisted_whole f old new (listing.of_writer out e l w) h =
-      listing.of_writer out e (subst (λ (t : List ℕ). IsStopped 0 limits.depth t out) (same_front f.read (omega (arith, h, front_within))) l) w
+      listing.of_writer out e (subst (λ (t : List ℕ). IsStopped 0 limits.depth t out) (same_front f.read h) l) w
 
-  followed_whole : (f : Refusal) (old new : Option (List ℕ)) → IsFollowed limits (take (limits.bytes + 1) whole) old new f → IsFollowed limits whole old new f
+  followed_whole : (f : Refusal) (old new : Option (List ℕ)) → IsFollowed limits front old new f → IsFollowed limits (front ++ behind) old new f
   followed_whole f old new h = record {
     size = h.size;
     listed = record {
@@ -188,7 +195,7 @@ module _ (limits : Bounds) (whole : List ℕ) where
     is = h.is;
   }
 
-  pub not_listed_whole : (old new : Option (List ℕ)) (fault : Fault) → IsNotListed limits (take (limits.bytes + 1) whole) old new fault → IsNotListed limits whole old new fault
+  pub not_listed_whole : (old new : Option (List ℕ)) (fault : Fault) → IsNotListed limits front old new fault → IsNotListed limits (front ++ behind) old new fault
   not_listed_whole old new (faults.Refused f) (own, told, inl (u, l)) = (own, told, inl (unlisted_whole f old new u l, omega (arith, l, no_longer)))
   not_listed_whole old new (faults.Refused f) (own, told, inr h) = (own, told, inr (followed_whole f old new h))
   not_listed_whole old new faults.CannotPrint (f, u, l, e) = (f, unlisted_whole f old new u l, omega (arith, l, no_longer), e)
@@ -197,9 +204,9 @@ module _ (limits : Bounds) (whole : List ℕ) where
 
   -- ---- what `compare` finds
 
-  pub whole_item : IsWholeItem limits (take (limits.bytes + 1) whole) → take (limits.bytes + 1) whole ≡ whole
-  whole_item (s, v) = all v.fits
+  pub whole_item : IsWholeItem limits front → front ≡ front ++ behind
+  whole_item (s, v) = all_of plain s (valid_item_accepted limits front s v) (ap length v.well_formed.bytes_are)
 
-  pub item_refusal_whole : (f : Refusal) → IsItemRefusal limits (take (limits.bytes + 1) whole) f → IsItemRefusal limits whole f
-  item_refusal_whole f (items.unread h e) = items.unread (unread_whole plain f h) e
+  pub item_refusal_whole : (f : Refusal) → IsItemRefusal limits front f → IsItemRefusal limits (front ++ behind) f
+  item_refusal_whole f (items.unread h e) = items.unread (unread_whole plain f e h) e
   item_refusal_whole f (items.trailing item v l e) = items.trailing item (verdict_whole plain (accepted item) v) (omega (arith, l, no_longer)) e

@@ -1,14 +1,19 @@
 -- The items of a sequence, of each of which something was written.
-use Rattle.std.proofs.Common.{ℕ, ◌+◌, ◌-◌, ◌<◌, ◌≤◌, ◌≡◌, Option, Some, None, List, [], ◌∷◌, ◌++◌, length, flat_map, take, drop, refl, sym, ap, ◌∙◌, arith, subst}
+use Rattle.std.proofs.Common.{ℕ, ◌+◌, ◌<◌, ◌≤◌, ◌≡◌, inl, inr, Bool, true, false, Option, Some, None, List, [], ◌∷◌, ◌++◌, length, flat_map, drop, refl, sym, ap, ◌∙◌, arith, subst}
 use Rattle.std.specs.List.{AllByRecursion}
 use Rattle.std.specs.Io.KnownBytes.{Appends}
-use Rattle.std.proofs.Math.Seq.{drop-append_seam}
-use Rattle.std.proofs.lemmas.List.{append_assoc, append-nil, length-append, length-take, length-drop, take_all}
+use Rattle.std.proofs.lemmas.List.{append_assoc, append-nil, length-append, length-drop}
 use Rattle.cbor_head.specs.Spelling.{Spelling, spell}
 use Rattle.cbor_grammar.proofs.ReadLaws.{length_spell}
-use Rattle.cbor_reader.specs.Sequence.{sequence_bytes}
+use Rattle.cbor_reader.specs.Sequence.{sequence_bytes, EndsBefore}
+use Rattle.cborc_files.specs.Folder.{Files, KeepsFiles}
+use Rattle.cborc_commands.specs.Fault.{at_item}
 use Rattle.cborc_commands.specs.Sequences.{texts_from, StartsWithEach}
-use Rattle.cborc_commands.specs.inner.Items.{IsWritten}
+use Rattle.cborc_commands.specs.declared.fault.Fault.{Fault}
+use Rattle.cborc_commands.specs.declared.request.Options.{Options}
+use Rattle.cborc_commands.specs.inner.Items.{IsWritten, AreWrittenOf, AreStoppedOf, within}
+use Rattle.cborc_commands.specs.inner.Parts.{PartsView, IsReadTo, IsNextPart, IsFilled}
+use Rattle.cborc_commands.proofs.ReadParts.{filled, next_part, took, same_files, no_less, longer, due, weight}
 
 -- ---- lists
 
@@ -47,13 +52,6 @@ appends_none (Some x) = sym (append-nil x)
 
 -- ---- the items so far
 
--- so many items of the input were taken and their texts were written, and rest is left
-pub record AreSoFar (takes : Spelling → Type 0) (text : ℕ → Spelling → List ℕ) (input rest : List ℕ) (before middle : Option (List ℕ)) (count : ℕ) : Type 0 where
-  pub items : List Spelling
-  pub starts : StartsWithEach takes input items rest
-  pub count_is : count ≡ length items
-  pub written : Appends before middle (texts_from text 0 items)
-
 -- one more item
 module _ (takes : Spelling → Type 0) (input : List ℕ) (items : List Spelling) (rest : List ℕ) (h : StartsWithEach takes input items rest) where
   pub one_more_starts : (item : Spelling) (behind : List ℕ) → takes item → spell item ++ behind ≡ rest
@@ -73,34 +71,137 @@ items_within : (items : List Spelling) → length items ≤ length (sequence_byt
 items_within [] = omega arith
 items_within (s ∷ ss) = omega (arith, items_within ss, length_spell s, length-append (spell s) (sequence_bytes ss))
 
-module _ (takes : Spelling → Type 0) (text : ℕ → Spelling → List ℕ) (input : List ℕ) where
-  module _ (rest : List ℕ) (before middle : Option (List ℕ)) (count : ℕ) (h : AreSoFar takes text input rest before middle count) where
-    taken_and_left : length (sequence_bytes h.items) + length rest ≡ length input
-    taken_and_left = sym (length-append (sequence_bytes h.items) rest) ∙ ap length h.starts.bytes
+-- so many items of the input at a path were taken and their texts were written, and this is left of it
+pub record AreTaken (takes : Spelling → Type 0) (text : ℕ → Spelling → List ℕ) (options : Options) (source : List ℕ) (held : Option Files) (p : PartsView)
+    (before middle : Option (List ℕ)) (count : ℕ) : Type 0 where
+  pub items : List Spelling
+  pub each : AllByRecursion takes items
+  pub read : IsReadTo held source options.hex (sequence_bytes items) p
+  pub count_is : count ≡ length items
+  pub written : Appends before middle (texts_from text 0 items)
 
-    pub count_within : count + length rest ≤ length input
-    count_within = omega (arith, h.count_is, items_within h.items, taken_and_left)
+module _ (takes : Spelling → Type 0) (text : ℕ → Spelling → List ℕ) (options : Options) (source : List ℕ) (held : Option Files) (before : Option (List ℕ)) where
+  pub none_taken : (p : PartsView) → IsReadTo held source options.hex [] p → AreTaken takes text options source held p before before 0
+  none_taken p r = record { items = []; each = tt; read = r; count_is = refl; written = appends_none before }
 
-    pub starts_there : length input - length rest ≡ length (sequence_bytes h.items)
-    starts_there = omega (arith, taken_and_left)
+  module _ (old : PartsView) (middle : Option (List ℕ)) (count : ℕ) (h : AreTaken takes text options source held old before middle count) where
+    pub count_within : count ≤ old.start
+    count_within = omega (arith, h.count_is, items_within h.items, h.read.start_is)
 
-    module _ (after : Option (List ℕ)) (size : ℕ) (w : IsWritten takes (text (length input - length rest)) rest size middle after) where
-      size_of_rest : size + length w.rest ≡ length rest
-      size_of_rest = omega (arith, w.size_is, length-append (spell w.item) w.rest, ap length w.bytes_are)
+    pub filled_too : (now : Option Files) (new : PartsView) → KeepsFiles held now → IsFilled now source old new → AreTaken takes text options source held new before middle count
+    filled_too now new keeps f = record {
+      items = h.items;
+      each = h.each;
+      read = filled held now source options.hex (sequence_bytes h.items) old new keeps h.read f;
+      count_is = h.count_is;
+      written = h.written;
+    }
 
-      pub fewer_left : length (take (length rest - size) (drop size rest)) < length rest
-      fewer_left = omega (arith, w.size_is, length_spell w.item, size_of_rest, length-take (length rest - size) (drop size rest), length-drop size rest)
+    -- a part was read, and nothing written
+    pub read_too : (now : Option Files) (new : PartsView) (after : Option (List ℕ)) → after ≡ middle → KeepsFiles held now → old.ended ≡ false → IsNextPart now source old new
+        → AreTaken takes text options source held new before after count
+    read_too now new after same keeps live n = record {
+      items = h.items;
+      each = h.each;
+      read = next_part held now source options.hex (sequence_bytes h.items) old new keeps h.read live n;
+      count_is = h.count_is;
+      written = subst (λ (out : Option (List ℕ)). Appends before out (texts_from text 0 h.items)) (sym same) h.written;
+    }
 
-      left_is : take (length rest - size) (drop size rest) ≡ w.rest
-      left_is =
-          take_all (length rest - size) (drop size rest) (omega (arith, length-drop size rest)) ∙ ap (λ (k : ℕ). drop k rest) w.size_is ∙ ap (drop (length (spell w.item))) (sym w.bytes_are) ∙ drop-append_seam (spell w.item) w.rest
+    pub one_more : (new : PartsView) (after : Option (List ℕ)) (size : ℕ) → IsWritten takes (text old.start) old.rest size middle after → new.rest ≡ drop size old.rest
+        → new.start ≡ old.start + size → new.ended ≡ old.ended → AreTaken takes text options source held new before after (count + 1)
+    one_more new after size w rest start ended = record {
+      items = h.items ++ w.item ∷ [];
+      each = all_with takes h.items w.item h.each w.taken;
+      read = subst (λ (xs : List ℕ). IsReadTo held source options.hex xs new) (sym (joined_with spell h.items w.item))
+          (took held held source options.hex (sequence_bytes h.items) old new (same_files held) h.read (spell w.item) w.rest w.bytes_are
+          (rest ∙ ap (λ (k : ℕ). drop k old.rest) w.size_is) (start ∙ ap (λ (k : ℕ). old.start + k) w.size_is) ended);
+      count_is = omega (arith, h.count_is, length-append h.items (w.item ∷ []));
+      written = subst (Appends before after) (sym (texts_with text 0 h.items w.item ∙ ap (λ (k : ℕ). texts_from text 0 h.items ++ text k w.item) (omega (arith, h.read.start_is))))
+          (appends_more before middle after (texts_from text 0 h.items) (text old.start w.item) h.written w.written);
+    }
 
-      -- the bytes behind the item, as code takes them
-      pub one_more : AreSoFar takes text input (take (length rest - size) (drop size rest)) before after (count + 1)
-      one_more = record {
-        items = h.items ++ w.item ∷ [];
-        starts = subst (StartsWithEach takes input (h.items ++ w.item ∷ [])) (sym left_is) (one_more_starts takes input h.items rest h.starts w.item w.rest w.taken w.bytes_are).0;
-        count_is = omega (arith, h.count_is, length-append h.items (w.item ∷ []));
-        written = subst (Appends before after) (sym (texts_with text 0 h.items w.item ∙ ap (λ (k : ℕ). texts_from text 0 h.items ++ text k w.item) (omega (arith, starts_there))))
-            (appends_more before middle after (texts_from text 0 h.items) (text (length input - length rest) w.item) h.written w.written);
-      }
+    -- the input ends there
+    pub all_written : EndsBefore options.limits.bytes old.rest → (old.rest ≡ [] → old.ended ≡ true) → AreWrittenOf takes text options source held before middle count
+    all_written (none, some) ends = record {
+      input = h.read.input;
+      is = h.read.is;
+      written = record {
+        items = h.items;
+        all = record {
+          starts = record {
+            each = h.each;
+            bytes = ap (λ (xs : List ℕ). sequence_bytes h.items ++ xs) (sym (ap (λ (xs : List ℕ). xs ++ h.read.behind) none ∙ h.read.end (ends none))) ∙ h.read.splits;
+          };
+          some = some;
+        };
+        count_is = h.count_is;
+        written = h.written;
+      };
+    }
+
+    -- no item is taken there, however the input goes on
+    pub stopped_there : (stops : ℕ → List ℕ → Fault → Option (List ℕ) → Option (List ℕ) → Type 0) → ¬ EndsBefore options.limits.bytes old.rest
+        → (after : Option (List ℕ)) (fault : Fault) → ((behind : List ℕ) → (old.ended ≡ true → behind ≡ []) → stops old.start (old.rest ++ behind) fault middle after)
+        → AreStoppedOf takes text stops options source held before after (at_item (count + 1) old.start fault)
+    stopped_there stops begun after fault why = within h.read.input h.read.is (record {
+      items = h.items;
+      rest = old.rest ++ h.read.behind;
+      index = count + 1;
+      start = old.start;
+      goes_on = record {
+        starts = record { each = h.each; bytes = h.read.splits };
+        index_is = omega (arith, h.count_is);
+        start_is = h.read.start_is;
+        begun = λ e. begun (front_none old.rest e.0, e.1);
+      };
+      middle = middle;
+      written = h.written;
+      cause = fault;
+      stopped = why h.read.behind h.read.end;
+      fault_is = refl;
+    })
+      where
+        front_none : (xs : List ℕ) → xs ++ h.read.behind ≡ [] → xs ≡ []
+        front_none [] e = refl
+        front_none (x ∷ xs) e = cc e
+
+-- what may be read and what was read become less, as an item is taken or a part is read
+module _ (now : Option Files) (path : List ℕ) (old new : PartsView) where
+  pub read_less : old.ended ≡ false → IsNextPart now path old new → weight new < weight old
+  read_less live n = by new.ended refl
+    where
+      by : (ended : Bool) → new.ended ≡ ended → weight new < weight old
+      by true e = omega (arith, n.range, n.start_is, no_less now path old new n, ap due e, ap due live)
+      by false e = omega (arith, n.range, n.start_is, longer now path old new n e, ap due e, ap due live)
+
+  pub filled_no_more : IsFilled now path old new → weight new ≤ weight old
+  filled_no_more f = elim f.either [
+    | inl e ↦ omega (arith, ap weight e)
+    | inr h ↦ omega (arith, read_less h.0 h.1)
+  ]
+
+taken_less : (takes : Spelling → Type 0) (text : Spelling → List ℕ) (old new : PartsView) (size : ℕ) (before after : Option (List ℕ)) → IsWritten takes text old.rest size before after
+    → new.rest ≡ drop size old.rest → new.start ≡ old.start + size → new.ended ≡ old.ended → weight new < weight old
+taken_less takes text old new size before after w rest start ended =
+    omega (
+      arith,
+      w.size_is,
+      length_spell w.item,
+      length-append (spell w.item) w.rest,
+      ap length w.bytes_are,
+      ap length rest,
+      length-drop size old.rest,
+      start,
+      ap due ended,
+    )
+
+-- in each turn
+module _ (now : Option Files) (path : List ℕ) (old middle new : PartsView) (f : IsFilled now path old middle) where
+  pub taken_smaller : (takes : Spelling → Type 0) (text : Spelling → List ℕ) (size : ℕ) (before after : Option (List ℕ)) → IsWritten takes text middle.rest size before after
+      → new.rest ≡ drop size middle.rest → new.start ≡ middle.start + size → new.ended ≡ middle.ended → weight new < weight old
+  taken_smaller takes text size before after w rest start ended =
+      omega (arith, filled_no_more now path old middle f, taken_less takes text middle new size before after w rest start ended)
+
+  pub read_smaller : (then : Option Files) → middle.ended ≡ false → IsNextPart then path middle new → weight new < weight old
+  read_smaller then live n = omega (arith, filled_no_more now path old middle f, read_less then path middle new live n)

@@ -1,8 +1,13 @@
+mod Canonical
+mod Decided
 mod Faults
 mod Files
 mod Fronts
+mod Further
 mod Items
 mod Listings
+mod Places
+mod ReadParts
 mod Runs
 mod Sent
 mod Stopped

@@ -1,15 +1,17 @@
 -- What was written of the lines of an item of a sequence, and why not all.
-use Rattle.std.proofs.Common.{ℕ, ◌≡◌, ◌∙◌, ◌<◌, Bool, true, false, List, [], ◌∷◌, ◌++◌, Option, inl, inr, refl, sym, ap, subst}
-use Rattle.std.specs.Prelude.{◌==◌, ◌||◌, ◌&&◌, ◌%◌, nat_le, if◌then◌else◌}
+use Rattle.std.proofs.Common.{ℕ, ◌≡◌, ◌≢◌, ◌∙◌, ◌<◌, ◌≤◌, true, false, eqb, List, [], ◌∷◌, ◌++◌, length, Option, inl, inr, refl, sym, ap, arith, subst}
 use Rattle.std.specs.Io.KnownBytes.{Appends}
+use Rattle.std.proofs.lemmas.Bool.Decides.{Decides-eqb}
+use Rattle.std.proofs.lemmas.List.{take-append-le}
 use Rattle.cbor_head.specs.Complaint.{form}
 use Rattle.cbor_head.specs.Limits.{Bounds}
-use Rattle.cbor_head.specs.Verdict.{refused, Decides, IsFormError, IsReasonAt, IsVerdict, initial_reason}
-use Rattle.cbor_head.specs.declared.reason.Reason.{Reason}
+use Rattle.cbor_head.specs.Spelling.{Spelling, spell}
+use Rattle.cbor_head.specs.Verdict.{accepted, refused, Decides, IsFormError, IsVerdict}
 use Rattle.cbor_head.specs.declared.reason.Reason.TheVariants as reasons
 use Rattle.cbor_head.specs.declared.reason.Refusal.{Refusal}
 use Rattle.cbor_automaton.specs.Event.{events}
-use Rattle.cbor_diag.specs.Listing.{lines, IsListed, IsUnlisted, of_verdict, of_reader, of_writer}
+use Rattle.cbor_diag.specs.Listing.{lines, IsListing, IsStopped, IsListed, IsUnlisted, of_verdict, of_reader, of_writer}
+use Rattle.cbor_grammar.proofs.OneVerdict.{one_verdict}
 use Rattle.cbor_judging.specs.Readers.{IsRead}
 use Rattle.cbor_standing.proofs.Form.{no-complaint}
 use Rattle.cbor_reader.specs.Sequence.{IsAccepted}
@@ -19,31 +21,17 @@ use Rattle.cborc_commands.specs.Fault.{IsOfInput}
 use Rattle.cborc_commands.specs.declared.fault.Fault.{Fault}
 use Rattle.cborc_commands.specs.declared.fault.Fault.TheVariants as faults
 use Rattle.cborc_commands.specs.inner.Items.{IsWritten, IsItemNotListed}
+use Rattle.cborc_commands.specs.inner.Parts.{IsDecided}
+use Rattle.cborc_commands.proofs.Further.{IsSettled, verdict_further}
 use Rattle.cborc_commands.proofs.Items.{appends_more}
+use Rattle.cborc_commands.proofs.Places.{IsByteReason, byte_reason, place_within}
 use Rattle.cborc_commands.proofs.Taken.{item_accepted, written_of}
+use Rattle.cborc_commands.proofs.Whole.{read_within}
 
 -- ---- no verdict is that the writer failed
 
-by_tests : (s f i r : Bool)
-    → (if s then reasons.StrayBreak else if f then reasons.Float else if i then reasons.NoIndefinite else if r then reasons.Reserved else reasons.TooDeep) ≡ reasons.Write → ⊥
-by_tests true f i r e = cc e
-by_tests false true i r e = cc e
-by_tests false false true r e = cc e
-by_tests false false false true e = cc e
-by_tests false false false false e = cc e
-
-initial_not : (c : ℕ) → initial_reason c ≡ reasons.Write → ⊥
-initial_not c e =
-    by_tests (c == 0xff) ((c == 0xf9) || (c == 0xfa) || (c == 0xfb)) ((c == 0x1f) || (c == 0x3f) || (c == 0xdf))
-    (nat_le 28 (c % 32) && nat_le (c % 32) 30) e
-
-byte_not : (d : ℕ) (p : List ℕ) (c : ℕ) (reason : Reason) → IsReasonAt d p c reason → reason ≡ reasons.Write → ⊥
-byte_not d p c reason (inl h) e = initial_not c (sym h.1 ∙ e)
-byte_not d p c reason (inr (inl h)) e = let t : reasons.BadSimple ≡ reasons.Write = sym h.2 ∙ e in cc t
-byte_not d p c reason (inr (inr h)) e = let t : reasons.BadChunk ≡ reasons.Write = sym h.2 ∙ e in cc t
-
 form_not : (limits : Bounds) (p behind : List ℕ) (f : Refusal) → IsFormError limits p behind f → f.reason ≡ reasons.Write → ⊥
-form_not limits p (c ∷ rest) f (reason, why, is) e = byte_not limits.depth p c reason why (sym (ap (λ (x : Refusal). x.reason) is) ∙ e)
+form_not limits p (c ∷ rest) f (reason, why, is) e = subst IsByteReason (sym (ap (λ (x : Refusal). x.reason) is) ∙ e) (byte_reason limits.depth p c reason why)
 form_not limits p [] f (inl h) e = let t : reasons.TooLong ≡ reasons.Write = sym (ap (λ (x : Refusal). x.reason) h.1) ∙ e in cc t
 form_not limits p [] f (inr h) e = let t : reasons.Truncated ≡ reasons.Write = sym (ap (λ (x : Refusal). x.reason) h.1) ∙ e in cc t
 
@@ -69,26 +57,72 @@ module _ (start : ℕ) (limits : Bounds) (bytes : List ℕ) (before middle after
       written_of limits form bytes size read (IsAccepted limits form) (item_lines start) before after (item_accepted limits form bytes size read)
       (appends_more before middle after (gap start) (lines start (events 0 h.item)) g h.written)
 
-  refused_so : (f : Refusal) → IsOfInput f.reason → (f.reason ≡ reasons.Write → ⊥) → IsUnlisted start limits bytes f middle after
-      → IsItemNotListed limits start bytes (faults.Refused f) before after
-  refused_so f own apart (of_verdict out v l a) =
-      (gap start ++ out, record { verdict = v; so_far = out; listing = l; is = refl }, own, appends_more before middle after (gap start) out g a)
-  refused_so f own apart (of_reader out e v l a) = absurd (subst IsOfInput (ap (λ (x : Refusal). x.reason) e) own)
-  refused_so f own apart (of_writer out e s a) = absurd (apart (ap (λ (x : Refusal). x.reason) e))
+  module _ (behind : List ℕ) where
+    refused_so : (f : Refusal) → IsOfInput f.reason → (f.reason ≡ reasons.Write → ⊥) → (IsVerdict limits form bytes (refused f) → IsSettled behind f) → IsUnlisted start limits bytes f middle after
+        → IsItemNotListed limits start (bytes ++ behind) (faults.Refused f) before after
+    refused_so f own apart known (of_verdict out v l a) = (
+      gap start ++ out,
+      record {
+        verdict = verdict_further limits form bytes behind f (known v) v;
+        so_far = out;
+        listing = subst (λ (t : List ℕ). IsListing start limits.depth t out) (sym (take-append-le f.place bytes behind (place_within limits bytes f v))) l;
+        is = refl;
+      },
+      own,
+      appends_more before middle after (gap start) out g a,
+    )
+    refused_so f own apart known (of_reader out e v l a) = absurd (subst IsOfInput (ap (λ (x : Refusal). x.reason) e) own)
+    refused_so f own apart known (of_writer out e s a) = absurd (apart (ap (λ (x : Refusal). x.reason) e))
 
-  cut_off : (f : Refusal) → f.reason ≡ reasons.Write → IsUnlisted start limits bytes f middle after → IsItemNotListed limits start bytes faults.CannotPrint before after
-  cut_off f is (of_verdict out v l a) = absurd (verdict_not limits bytes f v is)
-  cut_off f is (of_reader out e v l a) = let t : reasons.Read ≡ reasons.Write = sym (ap (λ (x : Refusal). x.reason) e) ∙ is in absurd (cc t)
-  cut_off f is (of_writer out e s a) = (gap start ++ out, within f.read out s refl, appends_more before middle after (gap start) out g a)
+    cut_off : (f : Refusal) → f.reason ≡ reasons.Write → f.read ≤ length bytes → IsUnlisted start limits bytes f middle after → IsItemNotListed limits start (bytes ++ behind) faults.CannotPrint before after
+    cut_off f is l (of_verdict out v t a) = absurd (verdict_not limits bytes f v is)
+    cut_off f is l (of_reader out e v t a) = let t : reasons.Read ≡ reasons.Write = sym (ap (λ (x : Refusal). x.reason) e) ∙ is in absurd (cc t)
+    cut_off f is l (of_writer out e s a) = (
+      gap start ++ out,
+      within f.read out (subst (λ (t : List ℕ). IsStopped start limits.depth t out) (sym (take-append-le f.read bytes behind l)) s) refl,
+      appends_more before middle after (gap start) out g a,
+    )
 
-  pub item_not_listed : (fault : Fault) → IsFrontNotListed start limits bytes middle after fault → IsItemNotListed limits start bytes fault before after
-  item_not_listed (faults.Refused f) (own, apart, u, l) = refused_so f own apart u
-  item_not_listed faults.CannotPrint (f, u, l, e) = cut_off f e u
-  item_not_listed faults.Memory h = tt
-  item_not_listed _ h = absurd h
+    pub item_not_listed : ((f : Refusal) → IsVerdict limits form bytes (refused f) → IsSettled behind f) → (fault : Fault) → IsFrontNotListed start limits bytes middle after fault
+        → IsItemNotListed limits start (bytes ++ behind) fault before after
+    item_not_listed known (faults.Refused f) (own, apart, u, l) = refused_so f own apart (known f) u
+    item_not_listed known faults.CannotPrint (f, u, l, e) = cut_off f e l u
+    item_not_listed known faults.Memory h = tt
+    item_not_listed known _ h = absurd h
 
 -- the output failed in front of the lines
 pub gap_not_written : (start : ℕ) (limits : Bounds) (bytes : List ℕ) (before after : Option (List ℕ)) (fault : Fault) → fault ≡ faults.CannotPrint → 0 < start → Appends before after []
     → IsItemNotListed limits start bytes fault before after
 gap_not_written start limits bytes before after fault e some a =
     subst (λ (x : Fault). IsItemNotListed limits start bytes x before after) (sym e) ([], before_all some refl, a)
+
+-- ---- whether what follows some bytes tells of their item
+
+apart_answers : {s : Spelling} {f : Refusal} → accepted s ≡ refused f → ⊥
+apart_answers e = cc e
+
+pub decided_of_item : (limits : Bounds) (bytes : List ℕ) (size : ℕ) (old new : Option (List ℕ)) → IsListed 0 limits bytes size old new → eqb size (length bytes) ≡ false → IsDecided limits bytes
+decided_of_item limits bytes size old new h differs = record {
+  within = λ f v. absurd (apart_answers (one_verdict limits form bytes (accepted h.item) (refused f) h.verdict v));
+  longer = λ s v.
+      let same : s ≡ h.item = inside (one_verdict limits form bytes (accepted s) (accepted h.item) v h.verdict) in
+      omega (arith, ap (λ (t : Spelling). length (spell t)) same, h.size, apart, read_within limits form bytes size (record { item = h.item; verdict = h.verdict; size = h.size }));
+}
+  where
+    inside : {s t : Spelling} → accepted s ≡ accepted t → s ≡ t
+    inside e = cc e
+
+    apart : size ≢ length bytes
+    apart e = let both : false ≡ true = sym differs ∙ (Decides-eqb size (length bytes)).1 e in cc both
+
+pub decided_of_refusal : (limits : Bounds) (bytes : List ℕ) (f : Refusal) (old new : Option (List ℕ)) → IsUnlisted 0 limits bytes f old new
+    → f.reason ≢ reasons.Truncated → f.reason ≢ reasons.Read → f.reason ≢ reasons.Write → IsDecided limits bytes
+decided_of_refusal limits bytes f old new (of_verdict out v l a) not_cut not_read not_write = record {
+  within = λ g w e. not_cut (ap (λ (x : Refusal). x.reason) (inside (one_verdict limits form bytes (refused f) (refused g) v w)) ∙ e);
+  longer = λ s w. absurd (apart_answers (one_verdict limits form bytes (accepted s) (refused f) w v));
+}
+  where
+    inside : {f g : Refusal} → refused f ≡ refused g → f ≡ g
+    inside e = cc e
+decided_of_refusal limits bytes f old new (of_reader out e v l a) not_cut not_read not_write = absurd (not_read (ap (λ (x : Refusal). x.reason) e))
+decided_of_refusal limits bytes f old new (of_writer out e s a) not_cut not_read not_write = absurd (not_write (ap (λ (x : Refusal). x.reason) e))

@@ -2,7 +2,7 @@
 use Rattle.std.proofs.Common.{ℕ, ◌≡◌, Option, List, [], ◌++◌, length, take, drop, sym, ap, ◌∙◌, arith, subst}
 use Rattle.std.specs.Io.KnownBytes.{Appends}
 use Rattle.std.proofs.Math.Seq.{take-append_seam}
-use Rattle.std.proofs.lemmas.List.{take-append-drop, length-take, append-nil}
+use Rattle.std.proofs.lemmas.List.{append_assoc, take-append-drop, length-take, append-nil}
 use Rattle.cbor_head.specs.Complaint.{Rules, plain}
 use Rattle.cbor_head.specs.Limits.{Bounds}
 use Rattle.cbor_head.specs.Spelling.{Spelling, spell}
@@ -72,23 +72,24 @@ module _ (b : Bounds) (o : KeyOrder) (bytes : List ℕ) (size : ℕ) (h : IsRead
   front_verdict = subst (λ (x : List ℕ). IsVerdict b plain x (accepted h.item)) (append-nil (spell h.item) ∙ front_is)
       (verdict_of b plain h.item [] (item_accepted b plain bytes size h))
 
-  too_long_only : (f : Refusal) → IsRefusal b o (take size bytes) f → IsOfInput f.reason → IsUncanonical b o bytes f
-  too_long_only f (of_verdict w) own = absurd (apart (one_verdict b plain (take size bytes) (accepted h.item) (refused f) front_verdict w))
+  too_long_only : (behind : List ℕ) (f : Refusal) → IsRefusal b o (take size bytes) f → IsOfInput f.reason → IsUncanonical b o (bytes ++ behind) f
+  too_long_only behind f (of_verdict w) own = absurd (apart (one_verdict b plain (take size bytes) (accepted h.item) (refused f) front_verdict w))
     where
       apart : {s : Spelling} {g : Refusal} → accepted s ≡ refused g → ⊥
       apart e = cc e
-  too_long_only f (trailing item v l is) own =
+  too_long_only behind f (trailing item v l is) own =
       let same : item ≡ h.item = inside (one_verdict b plain (take size bytes) (accepted item) (accepted h.item) v front_verdict) in
       absurd (omega (arith, l, ap (λ (s : Spelling). length (spell s)) same, ap length front_is))
     where
       inside : {s t : Spelling} → accepted s ≡ accepted t → s ≡ t
       inside e = cc e
-  too_long_only f (canonical_too_long item v whole l is) own =
-      too_long item (drop size bytes) (is_accepted b plain (take size bytes) item v)
-      (ap (λ (x : List ℕ). x ++ drop size bytes) whole ∙ take-append-drop size bytes) l (is ∙ ap (λ (k : ℕ). refusal reasons.CanonicalTooLong k k) (ap length (sym whole)))
-  too_long_only f (of_memory p taken l within is free) own = absurd (subst IsOfInput (ap (λ (g : Refusal). g.reason) is) own)
+  too_long_only behind f (canonical_too_long item v whole l is) own =
+      let split : spell item ++ drop size bytes ≡ bytes = ap (λ (x : List ℕ). x ++ drop size bytes) whole ∙ take-append-drop size bytes in
+      too_long item (drop size bytes ++ behind) (is_accepted b plain (take size bytes) item v)
+      (sym (append_assoc (spell item) (drop size bytes) behind) ∙ ap (λ (x : List ℕ). x ++ behind) split) l (is ∙ ap (λ (k : ℕ). refusal reasons.CanonicalTooLong k k) (ap length (sym whole)))
+  too_long_only behind f (of_memory p taken l within is free) own = absurd (subst IsOfInput (ap (λ (g : Refusal). g.reason) is) own)
 
-  pub unwritten : (fault : Fault) → IsNoText b o (take size bytes) fault → IsUnwritten b o bytes fault
-  unwritten (faults.Refused f) (r, own) = (too_long_only f r own, own)
-  unwritten faults.Memory h = tt
-  unwritten _ h = absurd h
+  pub unwritten : (behind : List ℕ) (fault : Fault) → IsNoText b o (take size bytes) fault → IsUnwritten b o (bytes ++ behind) fault
+  unwritten behind (faults.Refused f) (r, own) = (too_long_only behind f r own, own)
+  unwritten behind faults.Memory h = tt
+  unwritten behind _ h = absurd h

@@ -6,13 +6,12 @@ ghost use Rattle.cborc_commands.specs.CanonSequence.{HasCanonicalBytes, canonica
 ghost use Rattle.cborc_commands.specs.CanonSequence.{IsSequenceCanonised};
 ghost use Rattle.cborc_commands.specs.CanonSequence.{IsSequenceNotCanonised};
 ghost use Rattle.cborc_files.specs.Folder.{KeepsFiles};
-ghost use Rattle.cborc_commands.specs.inner.Items.{IsTextOfAll, IsNoTextOfAll, IsUnwritten};
+ghost use Rattle.cborc_commands.specs.inner.Items.{IsTextOf, IsNoTextOf, IsUnwritten};
 
 use crate::canon::{canonical_text, put};
 use crate::fault::Fault;
-use crate::input;
 use crate::request::{Form, Options, Output};
-use crate::sequence::{ItemWriter, write_items};
+use crate::sequence::{ItemWriter, unless_cut, write_items};
 use cbor_head::{KeyOrder, Limits};
 use cbor_reader::check_valid;
 use cborc_files::Folder;
@@ -39,27 +38,29 @@ pub fn canon_sequence<'a, F: Folder, O: Write>(
         (IsSequenceNotCanonised order options source.now output.entry (F.held files.old)) }
     ensures silent { IfErr result (λ fault. fault ≢ Fault.CannotPrint → out.new ≡ out.old) }
 {
-    let limits = options.limits;
     let Output { path, form } = output;
-    let bytes = input::read_all(alloc, files, source, options)?;
-    let text = text_of_all(alloc, bytes.as_slice(), limits, order, form)?;
+    let text = text_of_all(alloc, files, source, order, form, options)?;
     put(files, out, path, text.as_slice())
 }
 
-// The canonical bytes of each item of the sequence that all the bytes are, one behind another.
-fn text_of_all<'a>(
+// The canonical bytes of each item of the sequence that the file is, one behind another.
+fn text_of_all<'a, F: Folder>(
     alloc: Global,
-    bytes: &[u8],
-    limits: Limits,
+    files: &mut F,
+    source: &'a str,
     order: KeyOrder,
     form: Form,
+    options: Options,
 ) -> Result<Vec<u8>, Fault<'a>>
-    ensures text { IfOk result (λ v. IsTextOfAll limits order form bytes.now v.items) }
-    ensures fault { IfErr result (IsNoTextOfAll limits order bytes.now) }
+    ensures text { IfOk result
+        (λ v. IsTextOf order form options source.now (F.held files.old) v.items) }
+    ensures fault { IfErr result (IsNoTextOf order options source.now (F.held files.old)) }
+    ensures keeps { KeepsFiles (F.held files.old) (F.held files.new) }
+    ensures same { F.behind files.new ≡ F.behind files.old }
 {
     let canonical = CanonicalItems { order, form };
     let mut text = Vec::new(alloc);
-    match write_items(alloc, &canonical, bytes, limits, &mut text) {
+    match write_items(alloc, &canonical, files, source, options, &mut text) {
         Ok(_) => Ok(text),
         Err(fault) => match fault {
             // A vector takes all that there is memory for.
@@ -88,14 +89,18 @@ impl ItemWriter for CanonicalItems {
         &self,
         alloc: Global,
         bytes: &[u8],
+        goes_on: bool,
         _start: usize,
         limits: Limits,
         out: &mut W,
-    ) -> Result<usize, Fault<'f>> {
-        let size = check_valid(alloc, bytes, limits)? as usize;
+    ) -> Result<Option<usize>, Fault<'f>> {
+        let size = match check_valid(alloc, bytes, limits) {
+            Ok(size) => size as usize,
+            Err(refusal) => return unless_cut(refusal, goes_on),
+        };
         let text = canonical_text(alloc, &bytes[..size], limits, self.order, self.form)?;
         match out.write_all(text.as_slice()) {
-            Ok(()) => Ok(size),
+            Ok(()) => Ok(Some(size)),
             Err(_) => Err(Fault::CannotPrint),
         }
     }

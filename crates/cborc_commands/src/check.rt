@@ -9,7 +9,7 @@ ghost use Rattle.cborc_files.specs.Folder.{KeepsFiles};
 use crate::fault::Fault;
 use crate::input;
 use crate::request::{Accepted, Options};
-use cbor_head::{Limits, Reason, Refusal};
+use cbor_head::{KeyOrder, Limits, Reason, Refusal};
 use cbor_reader::{check_canonical, check_valid};
 use cborc_files::Folder;
 use std::alloc::Global;
@@ -72,7 +72,8 @@ fn size_of_item(
     }
 }
 
-/// How many bytes the item has that the bytes begin with.
+/// How many bytes the item has that the bytes begin with. Canonical bytes, by the order of RFC 8949,
+/// are judged without a copy of them.
 pub(crate) fn size_at_front(
     alloc: Global,
     bytes: &[u8],
@@ -83,7 +84,10 @@ pub(crate) fn size_at_front(
     ensures refused { IfErr result (IsUnread limits (rules_of accepted) bytes.now) }
 {
     match accepted {
-        Accepted::Valid => check_valid(alloc, bytes, limits),
+        Accepted::Valid => match check_canonical(bytes, limits, KeyOrder::Bytewise) {
+            Ok(size) => Ok(size),
+            Err(_) => check_valid(alloc, bytes, limits),
+        },
         Accepted::Canonical(order) => check_canonical(bytes, limits, order),
     }
 }

@@ -11,9 +11,8 @@ ghost use Rattle.cborc_commands.specs.inner.Items.{IsUncounted};
 
 use crate::check::size_at_front;
 use crate::fault::Fault;
-use crate::input;
 use crate::request::{Accepted, Options};
-use crate::sequence::{ItemWriter, write_items};
+use crate::sequence::{ItemWriter, unless_cut, write_items};
 use cbor_head::Limits;
 use cborc_files::Folder;
 use std::alloc::Global;
@@ -36,10 +35,8 @@ pub fn check_sequence<'a, F: Folder, O: Write>(
     ensures keeps { KeepsFiles (F.held files.old) (F.held files.new) }
     ensures same { F.behind files.new ≡ F.behind files.old }
 {
-    let limits = options.limits;
-    let bytes = input::read_all(alloc, files, source, options)?;
     let counted = CountedItems { accepted };
-    let count = write_items(alloc, &counted, bytes.as_slice(), limits, &mut io::sink())?;
+    let count = write_items(alloc, &counted, files, source, options, &mut io::sink())?;
     tell(out, count)
 }
 
@@ -74,11 +71,14 @@ impl ItemWriter for CountedItems {
         &self,
         alloc: Global,
         bytes: &[u8],
+        goes_on: bool,
         _start: usize,
         limits: Limits,
         _out: &mut W,
-    ) -> Result<usize, Fault<'f>> {
-        let size = size_at_front(alloc, bytes, self.accepted, limits)?;
-        Ok(size as usize)
+    ) -> Result<Option<usize>, Fault<'f>> {
+        match size_at_front(alloc, bytes, self.accepted, limits) {
+            Ok(size) => Ok(Some(size as usize)),
+            Err(refusal) => unless_cut(refusal, goes_on),
+        }
     }
 }

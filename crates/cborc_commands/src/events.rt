@@ -1,8 +1,9 @@
 //! The subcommand `events`: the listing of an item's events.
 
-ghost use Rattle.std.specs.Prelude.{◌≡◌, ◌≤◌, ◌<◌, ◌^◌, length, OnOk, IfOk, IfErr};
+ghost use Rattle.std.specs.Prelude.{◌≡◌, ◌≤◌, ◌<◌, ◌^◌, false, length, OnOk, IfOk, IfErr};
 ghost use Rattle.cbor_diag.specs.Listing.{IsListed};
 ghost use Rattle.cborc_commands.specs.Events.{IsFrontNotListed, IsNotListed, IsListedOf, IsNotListedOf};
+ghost use Rattle.cborc_commands.specs.inner.Parts.{IsDecided};
 ghost use Rattle.cborc_files.specs.Folder.{KeepsFiles};
 
 use crate::fault::Fault;
@@ -12,7 +13,7 @@ use cbor_diag::listing_from;
 use cbor_head::{Limits, Reason, Refusal};
 use cborc_files::Folder;
 use std::alloc::Global;
-use std::io::Write;
+use std::io::{self, Write};
 
 /// Writes to `out` a line for each event of the item that the file `source` is, but for the pieces
 /// of payloads. What was written before a refusal stays.
@@ -73,5 +74,20 @@ pub fn list_front<'a, W: Write>(
             Reason::Write => Err(Fault::CannotPrint),
             _ => Err(Fault::from(refusal)),
         },
+    }
+}
+
+/// Whether what stands behind these bytes may tell more of the item at their front: by its form they
+/// end within it or with it.
+pub fn is_undecided(bytes: &[u8], limits: Limits) -> bool
+    ensures { result ≡ false → IsDecided limits bytes.now }
+{
+    let mut reader = bytes;
+    match listing_from(&mut reader, 0, limits, &mut io::sink()) {
+        Ok(size) => size == bytes.len() as u64,
+        Err(refusal) => matches!(
+            refusal.reason,
+            Reason::Truncated | Reason::Read | Reason::Write
+        ),
     }
 }

@@ -9,9 +9,8 @@ ghost use Rattle.cborc_commands.specs.EventsSequence.{IsSequenceNotListed};
 ghost use Rattle.cborc_files.specs.Folder.{KeepsFiles};
 ghost use Rattle.cborc_commands.specs.inner.Items.{IsItemNotListed};
 
-use crate::events::list_front;
+use crate::events::{is_undecided, list_front};
 use crate::fault::Fault;
-use crate::input;
 use crate::request::Options;
 use crate::sequence::{ItemWriter, write_items};
 use cbor_head::Limits;
@@ -37,9 +36,7 @@ pub fn events_sequence<'a, F: Folder, O: Write>(
     ensures keeps { KeepsFiles (F.held files.old) (F.held files.new) }
     ensures same { F.behind files.new ≡ F.behind files.old }
 {
-    let limits = options.limits;
-    let bytes = input::read_all(alloc, files, source, options)?;
-    write_items(alloc, &ListedItems {}, bytes.as_slice(), limits, out)?;
+    write_items(alloc, &ListedItems {}, files, source, options, out)?;
     Ok(())
 }
 
@@ -58,13 +55,17 @@ impl ItemWriter for ListedItems {
         &self,
         _alloc: Global,
         bytes: &[u8],
+        goes_on: bool,
         start: usize,
         limits: Limits,
         out: &mut W,
-    ) -> Result<usize, Fault<'f>> {
+    ) -> Result<Option<usize>, Fault<'f>> {
+        if goes_on && is_undecided(bytes, limits) {
+            return Ok(None);
+        }
         write_gap(start, out)?;
         let size = list_front(bytes, start, limits, out)?;
-        Ok(size as usize)
+        Ok(Some(size as usize))
     }
 }
 

@@ -2,7 +2,7 @@
 
 ghost use Rattle.std.specs.Prelude.{◌≡◌};
 ghost use Rattle.cborc_commands.specs.inner.Explained.{cause_text, memory_text, options_of};
-ghost use Rattle.cborc_commands.specs.inner.Explained.{reads_whole, right_of, source_of};
+ghost use Rattle.cborc_commands.specs.inner.Explained.{holds_all, right_of, source_of};
 
 use crate::fault::Fault;
 use crate::request::{Options, Request};
@@ -25,19 +25,20 @@ pub fn explain<F: Folder, E: Write>(
     match fault {
         Fault::Refused(refusal) => {
             write_file(source_of(request), None, err)?;
-            explain_refusal(alloc, memory.last(), options, 0, *refusal, err)
+            explain_refusal(alloc, memory.last_from(0), options, *refusal, err)
         }
         Fault::RightRefused(refusal) => {
             write_file(right_of(request), None, err)?;
-            explain_refusal(alloc, memory.last(), options, 0, *refusal, err)
+            explain_refusal(alloc, memory.last_from(0), options, *refusal, err)
         }
         Fault::LeftRefused(refusal) => {
             write_file(source_of(request), None, err)?;
-            explain_refusal(alloc, memory.earlier(), options, 0, *refusal, err)
+            explain_refusal(alloc, memory.earlier(), options, *refusal, err)
         }
         Fault::RefusedItem { start, refusal, .. } => {
             write_file(source_of(request), Some(*start), err)?;
-            explain_refusal(alloc, memory.last(), options, *start, *refusal, err)
+            let item = memory.last_from(*start as u64);
+            explain_refusal(alloc, item, options, *refusal, err)
         }
         Fault::CannotRead(_) | Fault::CannotWrite(_) => write_cause(memory.cause(), err),
         Fault::NotHex(_) => {
@@ -51,7 +52,7 @@ pub fn explain<F: Folder, E: Write>(
             }
         }
         Fault::CannotPrint => writeln!(err, "  It is closed or full, or was closed early."),
-        Fault::Memory => writeln!(err, "  {}", memory_text(reads_whole(request))),
+        Fault::Memory => writeln!(err, "  {}", memory_text(holds_all(request))),
         Fault::NotText => Ok(()),
     }
 }
@@ -109,25 +110,25 @@ fn right_of<'a>(request: &Request<'a>) -> &'a str
     }
 }
 
-// Whether a request holds its whole input, whatever the limit on an item is.
-fn reads_whole(request: &Request<'_>) -> bool
-    ensures { result ≡ reads_whole request.now }
+// Whether a request holds all items of a sequence, whatever the limit on one is.
+fn holds_all(request: &Request<'_>) -> bool
+    ensures { result ≡ holds_all request.now }
 {
     match request {
-        Request::CheckSequence { .. }
-        | Request::ShowSequence { .. }
-        | Request::EventsSequence { .. }
-        | Request::CanonSequence { .. } => true,
+        Request::CanonSequence { .. } => true,
+        Request::CheckSequence { options, .. }
+        | Request::ShowSequence { options, .. }
+        | Request::EventsSequence { options, .. } => options.hex,
         _ => false,
     }
 }
 
 // What asks for less memory.
-fn memory_text(reads_whole: bool) -> &'static str
-    ensures { result.now ≡ memory_text reads_whole }
+fn memory_text(holds_all: bool) -> &'static str
+    ensures { result.now ≡ memory_text holds_all }
 {
-    if reads_whole {
-        "The whole input is held here, whatever --bytes is: a part of it asks for less."
+    if holds_all {
+        "All items are held here, whatever --bytes is: fewer ask for less memory."
     } else {
         "A lower --bytes asks for less memory."
     }
@@ -150,20 +151,18 @@ fn options_of(request: &Request<'_>) -> Options
     }
 }
 
-// Explains a refusal of the item that starts there in what was read, if that is known.
+// Explains a refusal of the item at the front of what was read, if that is known.
 fn explain_refusal<E: Write>(
     alloc: Global,
     read: Option<&[u8]>,
     options: Options,
-    start: usize,
     refusal: Refusal,
     err: &mut E,
 ) -> io::Result<()> {
-    let Some(read) = read else {
-        return write_sentences(refusal.reason, err);
-    };
-    let item = &read[start.min(read.len())..];
-    cbor_explain::explain(alloc, item, options.limits, refusal, err)
+    match read {
+        Some(item) => cbor_explain::explain(alloc, item, options.limits, refusal, err),
+        None => write_sentences(refusal.reason, err),
+    }
 }
 
 // What kept a file from being read or written.

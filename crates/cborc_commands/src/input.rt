@@ -1,71 +1,64 @@
 //! The bytes of an input.
 
-ghost use Rattle.std.specs.Prelude.{◌≡◌, ◌+◌, IfOk, IfErr, true};
+ghost use Rattle.std.specs.Prelude.{◌≡◌, ◌⊎◌, true, false, IfOk, IfErr};
 ghost use Rattle.cborc_files.specs.Folder.{KeepsFiles};
-ghost use Rattle.cborc_commands.specs.Input.{IsInput, IsNoInput};
-ghost use Rattle.cborc_commands.specs.inner.Parts.{StartsInput};
+ghost use Rattle.cborc_commands.specs.Input.{IsNoInput};
+ghost use Rattle.cborc_commands.specs.inner.Parts.{StartsInput, StartsDigits, IsDecided};
 
+use crate::events::is_undecided;
 use crate::fault::Fault;
+use crate::parts::Parts;
 use crate::request::Options;
+use cbor_head::Limits;
 use cborc_files::Folder;
 use std::alloc::Global;
 
+// How many bytes are read at first, where the limit is no lower.
+const FIRST: u64 = 1_048_577;
+
 /// The first bytes of the input at this path: as many as decide whether it is one item within the
-/// limits, the byte limit and one more. With `hex` its digits are read to the end.
+/// limits. Of hex text, whose digits are read to their end, these are the byte limit and one more; of
+/// other files no more than twice as many as the item has, or 2^20 and one.
 pub fn read_item<'a, F: Folder>(
     alloc: Global,
     files: &mut F,
     path: &'a str,
     options: Options,
 ) -> Result<Vec<u8>, Fault<'a>>
-    ensures front { IfOk result (λ v. StartsInput (F.held files.old) path.now options.hex
-        (options.limits.bytes + 1) v.items) }
+    ensures front { IfOk result (λ v. StartsInput (F.held files.old) path.now options v.items) }
     ensures fault { IfErr result (IsNoInput (F.held files.old) path.now options.hex) }
     ensures keeps { KeepsFiles (F.held files.old) (F.held files.new) }
     ensures same { F.behind files.new ≡ F.behind files.old }
 {
-    let most = options.limits.bytes() + 1;
+    let limits = options.limits;
+    let most = limits.bytes() + 1;
     if options.hex {
-        read_digits(alloc, files, path, most)
-    } else {
-        match files.read_front(alloc, path, most) {
-            Ok(bytes) => Ok(bytes),
-            Err(fault) => Err(Fault::of_reading(path, fault)),
-        }
+        return read_digits(alloc, files, path, most);
     }
+    let mut parts = Parts::open(alloc, files, path, most.min(FIRST) as usize)?;
+    'parts: while may_tell_more(&parts, limits) {
+        parts.read_on(alloc, files, path)?;
+    }
+    Ok(parts.into_rest())
 }
 
-/// All bytes of the input at this path.
-pub fn read_all<'a, F: Folder>(
-    alloc: Global,
-    files: &mut F,
-    path: &'a str,
-    options: Options,
-) -> Result<Vec<u8>, Fault<'a>>
-    ensures whole { IfOk result (λ v. IsInput (F.held files.old) path.now options.hex v.items) }
-    ensures fault { IfErr result (IsNoInput (F.held files.old) path.now options.hex) }
-    ensures keeps { KeepsFiles (F.held files.old) (F.held files.new) }
-    ensures same { F.behind files.new ≡ F.behind files.old }
+// Whether the input may go on, with what tells more of its first item.
+fn may_tell_more(parts: &Parts, limits: Limits) -> bool
+    ensures yes { result ≡ true → parts.now.ended ≡ false }
+    ensures no { result ≡ false
+        → (parts.now.ended ≡ true) ⊎ IsDecided limits parts.now.rest }
 {
-    if options.hex {
-        let bytes = read_digits(alloc, files, path, u64::MAX)?;
-        Ok(bytes)
-    } else {
-        match files.read(alloc, path) {
-            Ok(bytes) => Ok(bytes),
-            Err(fault) => Err(Fault::of_reading(path, fault)),
-        }
-    }
+    parts.goes_on() && is_undecided(parts.rest(), limits)
 }
 
-// The first bytes that the hex digits of the input spell, so many if there are.
-fn read_digits<'a, F: Folder>(
+/// The first bytes that the hex digits of the input spell, so many if there are.
+pub fn read_digits<'a, F: Folder>(
     alloc: Global,
     files: &mut F,
     path: &'a str,
     most: u64,
 ) -> Result<Vec<u8>, Fault<'a>>
-    ensures front { IfOk result (λ v. StartsInput (F.held files.old) path.now true most v.items) }
+    ensures front { IfOk result (λ v. StartsDigits (F.held files.old) path.now most v.items) }
     ensures fault { IfErr result (IsNoInput (F.held files.old) path.now true) }
     ensures keeps { KeepsFiles (F.held files.old) (F.held files.new) }
     ensures same { F.behind files.new ≡ F.behind files.old }

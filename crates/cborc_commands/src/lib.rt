@@ -18,6 +18,7 @@ mod explanation;
 mod fault;
 mod in_memory;
 mod input;
+mod parts;
 mod request;
 mod sequence;
 pub mod show;

@@ -1,14 +1,23 @@
 //! Sequences of items (RFC 8742): something is written of each item, one behind another.
 
-ghost use Rattle.std.specs.Prelude.{◌≡◌, ◌+◌, ◌^◌, ◌<◌, ℕ, List, Option, length, IfOk, IfErr, true, false};
+ghost use Rattle.std.specs.Prelude.{◌≡◌, ◌≢◌, ◌++◌, ◌^◌, ◌<◌, ℕ, List, [], Option, None, MatchOption, IfOk, IfErr, true, false};
 ghost use Rattle.cbor_head.specs.Limits.{Bounds};
 ghost use Rattle.cbor_head.specs.Spelling.{Spelling};
+ghost use Rattle.cbor_head.specs.declared.reason.Reason.TheVariants as reasons;
 ghost use Rattle.cbor_reader.specs.Sequence.{EndsBefore};
+ghost use Rattle.cborc_files.specs.Folder.{KeepsFiles};
+ghost use Rattle.cborc_commands.specs.Fault.{refusal_fault};
 ghost use Rattle.cborc_commands.specs.declared.fault.Fault.{Fault};
-ghost use Rattle.cborc_commands.specs.inner.Items.{IsWritten, AreWritten, AreStopped};
+ghost use Rattle.cborc_commands.specs.Input.{IsNoInput};
+ghost use Rattle.cborc_commands.specs.inner.Parts.{IsReadTo};
+ghost use Rattle.cborc_commands.specs.inner.Items.{IsWritten, IsPutBack, AreWrittenOf, AreStoppedOf};
 
 use crate::fault::Fault;
-use cbor_head::Limits;
+use crate::input::read_digits;
+use crate::parts::Parts;
+use crate::request::Options;
+use cbor_head::{Limits, Reason, Refusal};
+use cborc_files::Folder;
 use std::alloc::Global;
 use std::io::Write;
 
@@ -25,51 +34,89 @@ pub trait ItemWriter {
     ghost stops: { Self → Bounds → ℕ → List ℕ → Fault → Option (List ℕ) → Option (List ℕ) → Type 0 };
 
     /// Writes what is written of the item at the front of these bytes, which start there in the
-    /// input, and answers its size.
+    /// input, and answers its size. Where the input may go on behind them and they end within the
+    /// item, none is answered, and nothing is written; any fault is then that of the item, however
+    /// the input goes on.
     fn write_item<'f, W: Write>(
         &self,
         alloc: Global,
         bytes: &[u8],
+        goes_on: bool,
         start: usize,
         limits: Limits,
         out: &mut W,
-    ) -> Result<usize, Fault<'f>>
+    ) -> Result<Option<usize>, Fault<'f>>
         requires { start < 2 ^ 63 }
-        ensures written { IfOk result (λ size. IsWritten (takes self.now limits)
-            (text self.now start) bytes.now size (W.contents out.old) (W.contents out.new)) }
-        ensures stopped { IfErr result (λ fault. stops self.now limits start bytes.now fault
+        ensures written { IfOk result (λ taken. MatchOption taken
+            (IsPutBack goes_on (W.contents out.old) (W.contents out.new))
+            (λ size. IsWritten (takes self.now limits) (text self.now start) bytes.now size
+            (W.contents out.old) (W.contents out.new))) }
+        ensures stopped { IfErr result (λ fault. (behind : List ℕ) → (goes_on ≡ false → behind ≡ [])
+            → stops self.now limits start (bytes.now ++ behind) fault
             (W.contents out.old) (W.contents out.new)) };
 }
 
-/// Writes what is written of each item of the sequence that all the bytes are, and answers how many
-/// they are. The fault of an item that is refused tells its number and where it starts; what was
-/// written of those before it stays.
-pub fn write_items<'f, V: ItemWriter, W: Write>(
+/// Writes what is written of each item of the sequence that the input at this path is, and answers
+/// how many they are. The input is read as far as its items are taken. The fault of an item that is
+/// refused tells its number and where it starts; what was written of those before it stays.
+pub fn write_items<'a, V: ItemWriter, F: Folder, W: Write>(
     alloc: Global,
     writer: &V,
-    bytes: &[u8],
-    limits: Limits,
+    files: &mut F,
+    source: &'a str,
+    options: Options,
     out: &mut W,
-) -> Result<usize, Fault<'f>>
-    ensures written { IfOk result (AreWritten (V.takes writer.now limits) (V.text writer.now)
-        limits.bytes bytes.now (W.contents out.old) (W.contents out.new)) }
-    ensures stopped { IfErr result (AreStopped (V.takes writer.now limits) (V.text writer.now)
-        (V.stops writer.now limits) limits.bytes bytes.now
-        (W.contents out.old) (W.contents out.new)) }
+) -> Result<usize, Fault<'a>>
+    ensures written { IfOk result (AreWrittenOf (V.takes writer.now options.limits) (V.text writer.now)
+        options source.now (F.held files.old) (W.contents out.old) (W.contents out.new)) }
+    ensures stopped { IfErr result (AreStoppedOf (V.takes writer.now options.limits)
+        (V.text writer.now) (V.stops writer.now options.limits) options source.now
+        (F.held files.old) (W.contents out.old) (W.contents out.new)) }
+    ensures keeps { KeepsFiles (F.held files.old) (F.held files.new) }
+    ensures same { F.behind files.new ≡ F.behind files.old }
 {
-    has_a_length(bytes);
-    let mut rest = bytes;
+    let limits = options.limits;
+    let mut parts = open(alloc, files, source, options)?;
     let mut count = 0;
-    while !ends_before(rest, limits) {
-        let start = bytes.len() - rest.len();
-        let size = match writer.write_item(alloc, rest, start, limits, out) {
-            Ok(size) => size,
+    'items: loop {
+        parts.fill(alloc, files, source)?;
+        if ends_before(parts.rest(), limits) {
+            return Ok(count);
+        }
+        let start = parts.start();
+        let goes_on = parts.goes_on();
+        match writer.write_item(alloc, parts.rest(), goes_on, start, limits, out) {
+            Ok(Some(size)) => {
+                parts.take(size);
+                count += 1;
+            }
+            Ok(None) => parts.read_on(alloc, files, source)?,
             Err(fault) => return Err(fault.at_item(count + 1, start)),
-        };
-        rest = &rest[size..];
-        count += 1;
+        }
     }
-    Ok(count)
+}
+
+// How many bytes of a sequence are read at a time, where an item does not ask for more.
+const PART: usize = 65_536;
+
+// The input at this path. Hex text is read whole.
+fn open<'a, F: Folder>(
+    alloc: Global,
+    files: &mut F,
+    source: &'a str,
+    options: Options,
+) -> Result<Parts, Fault<'a>>
+    ensures begins { IfOk result (IsReadTo (F.held files.old) source.now options.hex []) }
+    ensures fault { IfErr result (IsNoInput (F.held files.old) source.now options.hex) }
+    ensures keeps { KeepsFiles (F.held files.old) (F.held files.new) }
+    ensures same { F.behind files.new ≡ F.behind files.old }
+{
+    if options.hex {
+        let bytes = read_digits(alloc, files, source, u64::MAX)?;
+        Ok(Parts::whole(bytes))
+    } else {
+        Parts::open(alloc, files, source, PART)
+    }
 }
 
 // Whether the bytes end before an item. With a limit of no bytes each item is too long instead.
@@ -80,9 +127,16 @@ fn ends_before(bytes: &[u8], limits: Limits) -> bool
     bytes.is_empty() && limits.bytes() > 0
 }
 
-// The length of a slice is a number of 63 bits.
-fn has_a_length(bytes: &[u8])
-    ensures { length bytes.now < 2 ^ 63 }
+/// What comes of an item that is refused at the front of bytes behind which the input may go on: none
+/// is answered where they end within it.
+pub fn unless_cut<'f>(refusal: Refusal, goes_on: bool) -> Result<Option<usize>, Fault<'f>>
+    ensures cut { IfOk result (λ taken. (taken ≡ None) × (goes_on ≡ true)) }
+    ensures fault { IfErr result (λ fault. (fault ≡ refusal_fault refusal)
+        × (goes_on ≡ true → refusal.reason ≢ reasons.Truncated)) }
 {
-    let _ = bytes.len();
+    if goes_on && refusal.reason == Reason::Truncated {
+        Ok(None)
+    } else {
+        Err(Fault::from(refusal))
+    }
 }

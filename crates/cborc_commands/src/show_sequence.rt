@@ -9,9 +9,8 @@ ghost use Rattle.cborc_files.specs.Folder.{KeepsFiles};
 ghost use Rattle.cborc_commands.specs.inner.Items.{IsItemNotShown};
 
 use crate::fault::Fault;
-use crate::input;
 use crate::request::{Layout, Options};
-use crate::sequence::{ItemWriter, write_items};
+use crate::sequence::{ItemWriter, unless_cut, write_items};
 use crate::show::print;
 use bumpalo::Bump;
 use cbor_head::Limits;
@@ -37,9 +36,7 @@ pub fn show_sequence<'a, F: Folder, O: Write>(
     ensures keeps { KeepsFiles (F.held files.old) (F.held files.new) }
     ensures same { F.behind files.new ≡ F.behind files.old }
 {
-    let limits = options.limits;
-    let bytes = input::read_all(alloc, files, source, options)?;
-    write_items(alloc, &ShownItems { layout }, bytes.as_slice(), limits, out)?;
+    write_items(alloc, &ShownItems { layout }, files, source, options, out)?;
     Ok(())
 }
 
@@ -61,14 +58,19 @@ impl ItemWriter for ShownItems {
         &self,
         alloc: Global,
         bytes: &[u8],
+        goes_on: bool,
         _start: usize,
         limits: Limits,
         out: &mut W,
-    ) -> Result<usize, Fault<'f>> {
+    ) -> Result<Option<usize>, Fault<'f>> {
         // One for each item, so that no more is kept than of the largest.
         let arena = Bump::new(alloc);
-        let (view, size) = read_view(alloc, bytes, limits, &arena)?;
-        print(&view, self.layout, out)?;
-        Ok(size as usize)
+        match read_view(alloc, bytes, limits, &arena) {
+            Ok((view, size)) => {
+                print(&view, self.layout, out)?;
+                Ok(Some(size as usize))
+            }
+            Err(refusal) => unless_cut(refusal, goes_on),
+        }
     }
 }

@@ -1,5 +1,5 @@
 -- What the files of a folder hold.
-use Rattle.std.specs.Prelude.{ℕ, ◌≡◌, ◌≢◌, Bool, List, codes, take, Option, None, Some, MatchResult, Result, Ok, IsErr}
+use Rattle.std.specs.Prelude.{ℕ, ◌+◌, ◌^◌, ◌≡◌, ◌≢◌, ◌<◌, ◌++◌, Bool, List, codes, length, take, drop, Option, None, Some, MatchResult, Result, Ok, IsErr}
 use Rattle.std.specs.List.{filter}
 use Rattle.std.specs.Str.{bytes_eq}
 use Rattle.hex.specs.Hex.{decode_of}
@@ -18,11 +18,16 @@ abbrev pub Holds : Option Files → List ℕ → List ℕ → Type 0
 Holds None path bytes = Unit {0}
 Holds (Some files) path bytes = files path ≡ Some bytes
 
--- the file at this path starts with these bytes: it holds no more than them, or they are so many
-pub record StartsFile (held : Option Files) (path : List ℕ) (most : ℕ) (bytes : List ℕ) : Type 0 where
+-- To the old bytes were added those of the file at this path that stand behind its first from bytes: all of them, or they are so
+-- many.
+pub record ReadsOn (held : Option Files) (path : List ℕ) (from most : ℕ) (old new : List ℕ) : Type 0 where
   pub whole : List ℕ
   pub holds : Holds held path whole
-  pub front : bytes ≡ take most whole
+  pub added : new ≡ old ++ take most (drop from whole)
+
+-- what was added behind the first from bytes of a file ends where one can end: within 63 bits
+abbrev pub IsWithin : ℕ → List ℕ → List ℕ → Type 0
+IsWithin from old new = length old < length new → from + length new < 2 ^ 63 + length old
 
 -- the file at this path is hex text, and these are the first bytes that its digits spell: all of them, or they are so many
 pub record SpellsFront (held : Option Files) (path : List ℕ) (most : ℕ) (bytes : List ℕ) : Type 0 where

@@ -4,7 +4,7 @@ ghost use Rattle.std.specs.Prelude.{◌≡◌, ℕ, List, None, Some, option_map
 ghost use Rattle.cborc_files.specs.Folder.{KeepsFiles, ReplacesFile};
 ghost use Rattle.cborc_files.specs.InMemory.{files_of};
 
-use crate::folder::{FileFault, Folder};
+use crate::folder::{FileFault, Folder, append_part};
 use std::alloc::{AllocError, Global};
 use std::collections::BTreeMap;
 
@@ -55,6 +55,20 @@ impl Folder for FilesInMemory {
                 Ok(bytes) => Ok(bytes),
                 Err(_) => Err(FileFault::Memory),
             },
+            None => Err(FileFault::Failed),
+        }
+    }
+
+    fn read_on(
+        &mut self,
+        _alloc: Global,
+        path: &str,
+        from: u64,
+        most: u64,
+        bytes: &mut Vec<u8>,
+    ) -> Result<(), FileFault> {
+        match self.get(path) {
+            Some(whole) => append_part(whole, from, most, bytes),
             None => Err(FileFault::Failed),
         }
     }

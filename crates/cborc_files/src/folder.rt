@@ -1,10 +1,10 @@
 //! Where files come from and go to.
 
-ghost use Rattle.std.specs.Prelude.{◌≡◌, Option, None, IfOk, IfErr};
+ghost use Rattle.std.specs.Prelude.{◌≡◌, ◌++◌, take, drop, Option, None, OnOk, IfOk, IfErr};
 ghost use Rattle.std.specs.Borrow.{GName};
 ghost use Rattle.cborc_files.specs.Digits.{IsOfText};
-ghost use Rattle.cborc_files.specs.Folder.{Files, is_stream, Holds, StartsFile, KeepsFiles, WritesFile};
-ghost use Rattle.cborc_files.specs.Folder.{IsNoDigits, SpellsFront};
+ghost use Rattle.cborc_files.specs.Folder.{Files, is_stream, Holds, ReadsOn, IsWithin, KeepsFiles};
+ghost use Rattle.cborc_files.specs.Folder.{WritesFile, IsNoDigits, SpellsFront};
 
 use crate::hex_text::{Digits, DigitsFault};
 use std::alloc::Global;
@@ -47,16 +47,25 @@ pub trait Folder {
         ensures writes { WritesFile (held self.old) (held self.new) result path.now bytes.now }
         ensures same { behind self.new ≡ behind self.old };
 
-    /// Reads a file's first bytes, so many if it has them. A folder that can read less than a whole
-    /// file does so.
-    fn read_front(&mut self, alloc: Global, path: &str, most: u64) -> Result<Vec<u8>, FileFault>
-        ensures gives { IfOk result (λ v. StartsFile (held self.old) path.now most v.items) }
+    /// Appends those bytes of a file that stand behind its first `from`, so many if there are: fewer
+    /// only where the file ends. A file is read on where the last call for it ended: a folder that
+    /// can read a part of a file at a time reads no more than is asked for, and none twice.
+    fn read_on(
+        &mut self,
+        alloc: Global,
+        path: &str,
+        from: u64,
+        most: u64,
+        bytes: &mut Vec<u8>,
+    ) -> Result<(), FileFault>
+        ensures gives { OnOk result
+            (ReadsOn (held self.old) path.now from most bytes.old.items bytes.new.items) }
+        ensures within { OnOk result (IsWithin from bytes.old.items bytes.new.items) }
         ensures keeps { KeepsFiles (held self.old) (held self.new) }
         ensures same { behind self.new ≡ behind self.old }
     {
-        let mut bytes = self.read(alloc, path)?;
-        bytes.truncate(most as usize);
-        Ok(bytes)
+        let whole = self.read(alloc, path)?;
+        append_part(whole.as_slice(), from, most, bytes)
     }
 
     /// Reads hex text whole, and answers the first bytes that its digits spell, so many if there are.
@@ -81,6 +90,26 @@ pub trait Folder {
     /// What the last call met that failed, if the folder tells.
     fn cause(&self) -> Option<Cause> {
         None
+    }
+}
+
+// Appends the part of a file's bytes that stands behind the first `from`, so many if there are.
+pub(crate) fn append_part(
+    whole: &[u8],
+    from: u64,
+    most: u64,
+    bytes: &mut Vec<u8>,
+) -> Result<(), FileFault>
+    ensures part { OnOk result (bytes.new.items ≡ bytes.old.items ++ take most (drop from whole.now)) }
+    ensures within { OnOk result (IsWithin from bytes.old.items bytes.new.items) }
+    ensures fault { IfErr result (λ fault. fault ≡ FileFault.Memory) }
+{
+    let from = from.min(whole.len() as u64) as usize;
+    let behind = &whole[from..];
+    let most = most.min(behind.len() as u64) as usize;
+    match bytes.extend_from_slice(&behind[..most]) {
+        Ok(()) => Ok(()),
+        Err(_) => Err(FileFault::Memory),
     }
 }
 

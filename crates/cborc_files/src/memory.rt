@@ -1,16 +1,19 @@
 //! What was read, for an explanation of what came of it.
 
-ghost use Rattle.std.specs.Prelude.{◌≡◌, Some, IfOk, MatchResult};
-ghost use Rattle.cborc_files.specs.Folder.{Holds, StartsFile, KeepsFiles, WritesFile};
+ghost use Rattle.std.specs.Prelude.{◌≡◌, Some, IfOk, OnOk, MatchResult};
+ghost use Rattle.cborc_files.specs.Folder.{Holds, ReadsOn, IsWithin, KeepsFiles, WritesFile};
 
 use crate::folder::{Cause, FileFault, Folder};
 use crate::hex_text::{DigitsFault, Stray};
 use std::alloc::Global;
 
-/// The last two things that were read.
+/// What was read of the last two files: of one that is read part by part, the last part, behind what
+/// had not been taken of those before it.
 #[derive(Drop)]
 pub struct Kept {
     last: Option<Vec<u8>>,
+    // Where this starts in its file.
+    start: u64,
     earlier: Option<Vec<u8>>,
     // Where what was read is not hex text.
     stray: Option<Stray>,
@@ -21,19 +24,27 @@ impl Kept {
     pub fn new() -> Kept {
         Kept {
             last: None,
+            start: 0,
             earlier: None,
             stray: None,
         }
     }
 
-    // Keeps a copy, if there is memory for one.
+    // Keeps a copy of the first bytes of another file, if there is memory for one.
     fn keep(&mut self, alloc: Global, bytes: &[u8]) {
         self.earlier = self.last.take();
+        self.keep_from(alloc, 0, bytes);
+    }
+
+    // Keeps a copy of these bytes of the same file, which start there, in place of those before.
+    fn keep_from(&mut self, alloc: Global, start: u64, bytes: &[u8]) {
+        self.last = None;
         self.last = Vec::from_slice(alloc, bytes).ok();
+        self.start = start;
     }
 }
 
-/// A folder that keeps the last two things that were read.
+/// A folder that keeps what was read of the last two files.
 #[derive(Drop)]
 pub struct Memory<'a, F: Folder> {
     files: &'a mut F,
@@ -50,10 +61,11 @@ impl<'a, F: Folder> Memory<'a, F> {
         Memory { files, kept }
     }
 
-    /// What was read last, if it is known.
-    pub fn last(&self) -> Option<&[u8]> {
+    /// What was read of the last file, from this offset in it on, if it is known.
+    pub fn last_from(&self, offset: u64) -> Option<&[u8]> {
         let bytes = self.kept.last.as_ref()?;
-        Some(bytes.as_slice())
+        let skipped = offset.checked_sub(self.kept.start)?;
+        bytes.as_slice().get(skipped as usize..)
     }
 
     /// Where what was read is not hex text, if it is not.
@@ -61,7 +73,7 @@ impl<'a, F: Folder> Memory<'a, F> {
         self.kept.stray
     }
 
-    /// What was read before that, if it is known.
+    /// What was read of the file before that, if it is known.
     pub fn earlier(&self) -> Option<&[u8]> {
         let bytes = self.kept.earlier.as_ref()?;
         Some(bytes.as_slice())
@@ -79,10 +91,23 @@ impl<'a, F: Folder> Folder for Memory<'a, F> {
         Ok(bytes)
     }
 
-    fn read_front(&mut self, alloc: Global, path: &str, most: u64) -> Result<Vec<u8>, FileFault> {
-        let bytes = self.files.read_front(alloc, path, most)?;
-        self.kept.keep(alloc, bytes.as_slice());
-        Ok(bytes)
+    fn read_on(
+        &mut self,
+        alloc: Global,
+        path: &str,
+        from: u64,
+        most: u64,
+        bytes: &mut Vec<u8>,
+    ) -> Result<(), FileFault> {
+        let unread = bytes.len() as u64;
+        self.files.read_on(alloc, path, from, most, bytes)?;
+        if from == 0 {
+            self.kept.keep(alloc, bytes.as_slice());
+        } else {
+            let start = from.saturating_sub(unread);
+            self.kept.keep_from(alloc, start, bytes.as_slice());
+        }
+        Ok(())
     }
 
     fn read_digits(

@@ -229,7 +229,7 @@ static ROWS: [&str; 204] = [
     "canon --explain in locked | 00 | 3 |  | cannot write locked\n  It is not permitted.",
     "canon --explain in folder | 00 | 3 |  | cannot write folder\n  It is a folder.",
     "canon --explain in locked/out | 00 | 3 |  | cannot write locked/out\n  A new file beside it was not to be made. It is not permitted.",
-    "canon --explain --seq full out | 00 | 3 |  | out of memory\n  The whole input is held here, whatever --bytes is: a part of it asks for less.",
+    "canon --explain --seq full out | 00 | 3 |  | out of memory\n  All items are held here, whatever --bytes is: fewer ask for less memory.",
     "check --explain --hex full | 00 | 3 |  | out of memory\n  A lower --bytes asks for less memory.",
     "show --explain full | 00 | 3 |  | out of memory\n  A lower --bytes asks for less memory.",
     "canon in folder | 00 | 3 |  | cannot write folder",

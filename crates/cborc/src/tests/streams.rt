@@ -1,9 +1,11 @@
 //! Inputs that have no end, and an output that takes nothing.
 
 use super::run_with;
+use crate::disk::{LONGEST, append_from};
 use crate::run::run;
 use cborc_files::{FileFault, Folder};
 use std::alloc::{AllocError, Global};
+use std::io::{self, Read};
 
 // A folder whose every file begins with one byte and goes on with another for ever.
 #[derive(Drop)]
@@ -17,13 +19,21 @@ impl Folder for Endless {
         Err(FileFault::Failed)
     }
 
-    fn read_front(&mut self, alloc: Global, _: &str, most: u64) -> Result<Vec<u8>, FileFault> {
-        let mut bytes = vec![in alloc; self.rest; 2_000_000].map_err(|_| FileFault::Memory)?;
-        if let Some(first) = bytes.first_mut() {
-            *first = self.first;
+    fn read_on(
+        &mut self,
+        _: Global,
+        _: &str,
+        from: u64,
+        most: u64,
+        bytes: &mut Vec<u8>,
+    ) -> Result<(), FileFault> {
+        let most = most.min(LONGEST.saturating_sub(from));
+        let first = [self.first];
+        let front = if from == 0 { &first[..] } else { &[] };
+        match append_from(&mut front.chain(io::repeat(self.rest)), most, bytes) {
+            Ok(()) => Ok(()),
+            Err(_) => Err(FileFault::Memory),
         }
-        bytes.truncate(most as usize);
-        Ok(bytes)
     }
 
     fn write(&mut self, _: &str, _: &[u8]) -> Result<(), FileFault> {
@@ -32,12 +42,15 @@ impl Folder for Endless {
 }
 
 // The words, the first byte of the file and those behind it, and the line on standard error.
-static ENDLESS: [(&str, u8, u8, &str); 5] = [
+static ENDLESS: [(&str, u8, u8, &str); 8] = [
     ("check in", 0, 0, "refused 12 Trailing at 1"),
     ("check in", 0x9f, 0, "refused 2 TooLong at 1048576"),
     ("canon in out", 0x9f, 0x81, "refused 9 TooDeep at 256"),
     ("show --bytes 3 in", 0x9f, 0, "refused 2 TooLong at 3"),
     ("compare in -", 0xff, 0, "left refused 7 StrayBreak at 0"),
+    ("check --seq in", 0, 0x1c, "item 2 refused 3 Reserved at 0"),
+    ("canon --seq in out", 0x78, 0xff, "item 1 refused 10 InvalidText at 2"),
+    ("check --seq --bytes 70000 in", 0x9f, 0, "item 1 refused 2 TooLong at 70000"),
 ];
 
 #[test]

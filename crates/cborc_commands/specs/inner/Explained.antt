@@ -35,17 +35,18 @@ abbrev pub right_of : Request → List ℕ
 right_of (Compare left right options) = right.now
 right_of request = source_of request
 
--- whether it holds its whole input, whatever the limit on an item is
-abbrev pub reads_whole : Request → Bool
-reads_whole (CheckSequence source accepted options) = true
-reads_whole (CanonSequence source output order options) = true
-reads_whole (ShowSequence source layout options) = true
-reads_whole (EventsSequence source options) = true
-reads_whole request = false
+-- whether it holds all items of a sequence, whatever the limit on one is: hex text is read whole, and canonical bytes are written
+-- at once
+abbrev pub holds_all : Request → Bool
+holds_all (CanonSequence source output order options) = true
+holds_all (CheckSequence source accepted options) = options.hex
+holds_all (ShowSequence source layout options) = options.hex
+holds_all (EventsSequence source options) = options.hex
+holds_all request = false
 
 -- what asks for less memory
 abbrev pub memory_text : Bool → List ℕ
-memory_text true = codes "The whole input is held here, whatever --bytes is: a part of it asks for less."
+memory_text true = codes "All items are held here, whatever --bytes is: fewer ask for less memory."
 memory_text false = codes "A lower --bytes asks for less memory."
 
 -- what kept a file from being read or written

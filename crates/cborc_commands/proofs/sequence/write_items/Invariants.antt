@@ -1,10 +1,15 @@
-use Rattle.std.proofs.Common.{length}
-use Rattle.cborc_commands.proofs.Items.{AreSoFar}
+use Rattle.std.proofs.Common.{◌≡◌}
+use Rattle.cborc_files.specs.Folder.{KeepsFiles}
+use Rattle.cborc_commands.proofs.Items.{AreTaken}
+use Rattle.cborc_commands.proofs.ReadParts.{weight}
 use Rattle.cborc_commands.proofs.sequence.write_items.Given as goal
 
-abbrev pub invariant-loop-rest : goal.invariant-loop-rest
-invariant-loop-rest g l =
-    AreSoFar (g.V.ItemWriter.takes l.fn.writer l.fn.limits) (g.V.ItemWriter.text l.fn.writer) l.fn.bytes l.rest (g.W.Write.contents l.fn.out) (g.W.Write.contents l.out) l.count
+abbrev pub invariant-items : goal.invariant-items
+invariant-items g l = record {
+  taken : AreTaken (g.V.ItemWriter.takes l.fn.writer l.fn.options.limits) (g.V.ItemWriter.text l.fn.writer) l.fn.options l.fn.source (g.F.Folder.held l.fn.files) l.parts (g.W.Write.contents l.fn.out) (g.W.Write.contents l.out) l.count;
+  keeps : KeepsFiles (g.F.Folder.held l.fn.files) (g.F.Folder.held l.files);
+  same : g.F.Folder.behind l.files ≡ g.F.Folder.behind l.fn.files;
+}
 
-abbrev pub decreases-loop-rest : goal.decreases-loop-rest
-decreases-loop-rest g l = length l.rest
+abbrev pub decreases-items : goal.decreases-items
+decreases-items g l = weight l.parts

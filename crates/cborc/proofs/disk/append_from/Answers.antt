@@ -1,0 +1,8 @@
+use Rattle.std.proofs.Common.{◌+◌, ◌-◌, ◌^◌, min, vec_len, arith}
+use Rattle.cborc.proofs.Appended.{cut_to}
+use Rattle.cborc.proofs.disk.append_from.Goals as goal
+
+pub returns : goal.returns
+returns g c =
+    cut_to c.args.most c.saturating_add.result c.args.bytes.now.items c.read_to_end.new.buf.items c.truncate.new.self.items c.read_to_end.ensures.appends
+    (omega (arith, c.saturating_add.ensures, c.len-held.ensures, c.args.bytes.now.small, c.args.bytes.now.ok)) (omega (arith, c.saturating_add.ensures, c.len-held.ensures, c.args.bytes.now.ok)) c.truncate.ensures.items
