@@ -3,7 +3,7 @@ use Rattle.std.proofs.Common.{◌≡◌, ℕ, suc, ◌+◌, ◌<◌, ◌≤◌, 
 use Rattle.std.specs.Prelude.{reverse, IsSome, option_to_list}
 use Rattle.std.proofs.lemmas.List.{reverse-append, length-reverse}
 use Rattle.cbor_head.specs.Value.{Value, array, map, tag, depth, depth_all, depth_entries}
-use Rattle.cbor_head.specs.declared.reason.Refusal.{Refusal}
+use Rattle.cbor_diag.specs.declared.outbox.Stopped.{Stopped}
 use Rattle.cbor_diag.specs.Text.{simple_text}
 use Rattle.cbor_diag.specs.inner.Layout.{gap, end, laid_out, members_left, pairs_left}
 use Rattle.cbor_diag.specs.inner.Nodes.{entries_in, values_in}
@@ -17,7 +17,7 @@ use Rattle.cbor_diag.specs.declared.walk.Level.{Level}
 use Rattle.cbor_diag.proofs.Putting.{puts-then, puts-stops, stops-more}
 
 -- the first part of the whole could not be put
-pub front-stops : (a b : Option (List ℕ)) (s : Outbox) (whole xs more : List ℕ) (e : Refusal) → xs ++ more ≡ whole → HasStopped a b s xs e → HasStopped a b s whole e
+pub front-stops : (a b : Option (List ℕ)) (s : Outbox) (whole xs more : List ℕ) (e : Outbox) → xs ++ more ≡ whole → HasStopped a b s xs e → HasStopped a b s whole e
 front-stops a b s whole xs more e is p = subst (λ (l : List ℕ). HasStopped a b s l e) is (stops-more a b s xs more e p)
 
 -- the first part was put
@@ -29,7 +29,7 @@ pub leaf-left : (l : Layout) (n : ℕ) (v w : Value) (a b : Option (List ℕ)) (
 leaf-left l n v w a b s t is some p =
     front-left a b s t (laid_out l n w) (laid_out l n v) [] (append-nil (laid_out l n v) ∙ ap (laid_out l n) is) some p
 
-pub leaf-stops : (l : Layout) (n : ℕ) (v w : Value) (a b : Option (List ℕ)) (s : Outbox) (e : Refusal) → v ≡ w → HasStopped a b s (laid_out l n v) e → HasStopped a b s (laid_out l n w) e
+pub leaf-stops : (l : Layout) (n : ℕ) (v w : Value) (a b : Option (List ℕ)) (s : Outbox) (e : Outbox) → v ≡ w → HasStopped a b s (laid_out l n v) e → HasStopped a b s (laid_out l n w) e
 leaf-stops l n v w a b s e is p = subst (λ (x : Value). HasStopped a b s (laid_out l n x) e) is p
 
 -- a part, perhaps empty, and then what follows
@@ -43,13 +43,13 @@ put-left a b c s t u whole xs mid more is p q =
       joins = append_assoc xs q.done more ∙ ap (λ (l : List ℕ). xs ++ l) q.joins ∙ is;
     }
 
-pub put-stops : (a b c : Option (List ℕ)) (s t : Outbox) (whole xs mid : List ℕ) (e : Refusal) → xs ++ mid ≡ whole → HasPut a b s t xs → HasStopped b c t mid e → HasStopped a c s whole e
+pub put-stops : (a b c : Option (List ℕ)) (s t : Outbox) (whole xs mid : List ℕ) (e : Outbox) → xs ++ mid ≡ whole → HasPut a b s t xs → HasStopped b c t mid e → HasStopped a c s whole e
 put-stops a b c s t whole xs mid e is p q = subst (λ (l : List ℕ). HasStopped a c s l e) is (puts-stops a b c s t xs mid e p q)
 
 pub left-left : (a b c : Option (List ℕ)) (s t u : Outbox) (whole mid more : List ℕ) → HasLeft a b s t whole mid → HasLeft b c t u mid more → HasLeft a c s u whole more
 left-left a b c s t u whole mid more p q = put-left a b c s t u whole p.done mid more p.joins p.written q
 
-pub left-stops : (a b c : Option (List ℕ)) (s t : Outbox) (whole mid : List ℕ) (e : Refusal) → HasLeft a b s t whole mid → HasStopped b c t mid e → HasStopped a c s whole e
+pub left-stops : (a b c : Option (List ℕ)) (s t : Outbox) (whole mid : List ℕ) (e : Outbox) → HasLeft a b s t whole mid → HasStopped b c t mid e → HasStopped a c s whole e
 left-stops a b c s t whole mid e p q = put-stops a b c s t whole p.done mid e p.joins p.written q
 
 -- more of the whole comes behind what is left of a part of it
@@ -188,9 +188,9 @@ module _ {N : Type 0} (see : N → Value) where
       four (codes ": ") (laid_out l (n + 1) (see x.now)) (pairs_left l n false (entries_in see b.now)) (codes "}") rest ∙ left_as l n left (parts.Value x b) rest is
 
   -- an item comes behind what was put
-  pub goes-on : (l : Layout) (vs : List (Level N)) (a b c : Option (List ℕ)) (s t u : Outbox) (whole xs mid : List ℕ) (r : Result (Option (Level N)) Refusal) → xs ++ mid ≡ whole → HasPut a b s t xs → Leaves see l b c t u mid vs r → Leaves see l a c s u whole vs r
+  pub goes-on : (l : Layout) (vs : List (Level N)) (a b c : Option (List ℕ)) (s t u : Outbox) (whole xs mid : List ℕ) (r : Result (Option (Level N)) Stopped) → xs ++ mid ≡ whole → HasPut a b s t xs → Leaves see l b c t u mid vs r → Leaves see l a c s u whole vs r
   goes-on l vs a b c s t u whole xs mid (Ok o) is p q = put-left a b c s t u whole xs mid (all_left see l o vs) is p q
-  goes-on l vs a b c s t u whole xs mid (Err e) is p q = put-stops a b c s t whole xs mid e is p q
+  goes-on l vs a b c s t u whole xs mid (Err e) is p q = put-stops a b c s t whole xs mid u is p q
 
   -- its container is around what is open of it
   pub opened : (l : Layout) (vs us : List (Level N)) (v w : Level N) (a b : Option (List ℕ)) (s t : Outbox) (whole : List ℕ) → us ≡ vs ++ v ∷ [] → HasLeft a b s t whole (rest_of see l w ++ [])

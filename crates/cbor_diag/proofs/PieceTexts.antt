@@ -5,7 +5,6 @@ use Rattle.std.proofs.lemmas.List.Concat.{flat_map-append}
 use Rattle.std.proofs.lemmas.Bool.Decides.{nat_tests}
 use lib.Seq.{take-add}
 use Rattle.hex.specs.Hex.{encode_with, encode_lower, lower_digits}
-use Rattle.cbor_head.specs.declared.reason.Refusal.{Refusal}
 use Rattle.cbor_diag.specs.inner.Outbox.{HasPut, HasStopped}
 use Rattle.cbor_diag.specs.Text.{escaped, simple_text}
 use Rattle.cbor_diag.specs.declared.outbox.Outbox.{Outbox}
@@ -51,7 +50,7 @@ digits-whole bs i =
     ap (λ (l : List ℕ). codes "h'" ++ l) (sym (append_assoc (encode_lower (take i bs)) (encode_lower (drop i bs)) (codes "'"))
     ∙ ap (λ (l : List ℕ). l ++ codes "'") (sym (encode-append lower_digits (take i bs) (drop i bs)) ∙ ap encode_lower (take-append-drop i bs)))
 
-pub stops-in-digits : (a b : Option (List ℕ)) (s : Outbox) (bs : List ℕ) (i : ℕ) (e : Refusal) → HasStopped a b s (digits_to bs i) e → HasStopped a b s (codes "h'" ++ encode_lower bs ++ codes "'") e
+pub stops-in-digits : (a b : Option (List ℕ)) (s : Outbox) (bs : List ℕ) (i : ℕ) (e : Outbox) → HasStopped a b s (digits_to bs i) e → HasStopped a b s (codes "h'" ++ encode_lower bs ++ codes "'") e
 stops-in-digits a b s bs i e p = subst (λ (l : List ℕ). HasStopped a b s l e) (digits-whole bs i) (stops-more a b s (digits_to bs i) (encode_lower (drop i bs) ++ codes "'") e p)
 
 pub digits-put : (a b c : Option (List ℕ)) (s t u : Outbox) (bs : List ℕ) (i j : ℕ) → i ≤ j → HasPut a b s t (digits_to bs i) → HasPut b c t u (encode_lower (take (j - i) (drop i bs))) → HasPut a c s u (digits_to bs j)
@@ -59,7 +58,7 @@ digits-put a b c s t u bs i j h p q =
     let sum : i + (j - i) ≡ j = omega arith in
     subst (λ (l : List ℕ). HasPut a c s u l) (digits-more bs i (j - i) ∙ ap (digits_to bs) sum) (puts-then a b c s t u (digits_to bs i) (encode_lower (take (j - i) (drop i bs))) p q)
 
-pub digits-stop : (a b c : Option (List ℕ)) (s t : Outbox) (bs : List ℕ) (i j : ℕ) (e : Refusal) → HasPut a b s t (digits_to bs i) → HasStopped b c t (encode_lower (take (j - i) (drop i bs))) e
+pub digits-stop : (a b c : Option (List ℕ)) (s t : Outbox) (bs : List ℕ) (i j : ℕ) (e : Outbox) → HasPut a b s t (digits_to bs i) → HasStopped b c t (encode_lower (take (j - i) (drop i bs))) e
     → HasStopped a c s (codes "h'" ++ encode_lower bs ++ codes "'") e
 digits-stop a b c s t bs i j e p q =
     stops-in-digits a c s bs (i + (j - i)) e
@@ -82,7 +81,7 @@ more xs i h =
     ap (flat_map escaped) (take_more xs i 0 h) ∙ flat_map-append escaped (take i xs) (get_or xs i 0 ∷ [])
     ∙ ap (λ (l : List ℕ). flat_map escaped (take i xs) ++ l) (append-nil (escaped (get_or xs i 0)))
 
-pub stops-in-text : (a b : Option (List ℕ)) (s : Outbox) (xs : List ℕ) (i : ℕ) (e : Refusal) → HasStopped a b s (quoted_to xs i) e → HasStopped a b s (codes "\"" ++ flat_map escaped xs ++ codes "\"") e
+pub stops-in-text : (a b : Option (List ℕ)) (s : Outbox) (xs : List ℕ) (i : ℕ) (e : Outbox) → HasStopped a b s (quoted_to xs i) e → HasStopped a b s (codes "\"" ++ flat_map escaped xs ++ codes "\"") e
 stops-in-text a b s xs i e p =
     let whole : quoted_to xs i ++ (flat_map escaped (drop i xs) ++ codes "\"") ≡ codes "\"" ++ flat_map escaped xs ++ codes "\"" =
     ap (λ (l : List ℕ). 34 ∷ l) (sym (append_assoc (flat_map escaped (take i xs)) (flat_map escaped (drop i xs)) (codes "\"")) ∙ ap (λ (l : List ℕ). l ++ codes "\"") (cut xs i)) in
@@ -98,7 +97,7 @@ pub run-put : (a b c : Option (List ℕ)) (s t u : Outbox) (xs : List ℕ) (star
 run-put a b c s t u xs start at w p =
     subst (λ (l : List ℕ). HasPut a c s u l) (ap (λ (l : List ℕ). 34 ∷ l) (sym w.raw)) (puts-then a b c s t u (quoted_to xs start) (take (at - start) (drop start xs)) w.written p)
 
-pub run-stops : (a b c : Option (List ℕ)) (s t : Outbox) (xs : List ℕ) (start at : ℕ) (e : Refusal) → IsWriting a b s t xs start at → HasStopped b c t (take (at - start) (drop start xs)) e
+pub run-stops : (a b c : Option (List ℕ)) (s t : Outbox) (xs : List ℕ) (start at : ℕ) (e : Outbox) → IsWriting a b s t xs start at → HasStopped b c t (take (at - start) (drop start xs)) e
     → HasStopped a c s (codes "\"" ++ flat_map escaped xs ++ codes "\"") e
 run-stops a b c s t xs start at e w p =
     stops-in-text a c s xs at e (subst (λ (l : List ℕ). HasStopped a c s l e) (ap (λ (l : List ℕ). 34 ∷ l) (sym w.raw)) (puts-stops a b c s t (quoted_to xs start) (take (at - start) (drop start xs)) e w.written p))
@@ -116,7 +115,7 @@ escape-put a b c d s t u v xs start at h w p q =
       raw = sym (ap (λ (n : ℕ). flat_map escaped (take (at + 1) xs) ++ take n (drop (at + 1) xs)) none ∙ append-nil (flat_map escaped (take (at + 1) xs)));
     }
 
-pub escape-stops : (a b c d : Option (List ℕ)) (s t u : Outbox) (xs : List ℕ) (start at : ℕ) (e : Refusal) → at < length xs → IsWriting a b s t xs start at
+pub escape-stops : (a b c d : Option (List ℕ)) (s t u : Outbox) (xs : List ℕ) (start at : ℕ) (e : Outbox) → at < length xs → IsWriting a b s t xs start at
     → HasPut b c t u (take (at - start) (drop start xs)) → HasStopped c d u (escaped (get_or xs at 0)) e → HasStopped a d s (codes "\"" ++ flat_map escaped xs ++ codes "\"") e
 escape-stops a b c d s t u xs start at e h w p q =
     stops-in-text a d s xs (at + 1) e
@@ -146,7 +145,7 @@ text-ends a b c s t u xs start at h w p =
     subst (λ (l : List ℕ). HasPut a c s u (34 ∷ flat_map escaped l)) all
     (run-put a b c s t u xs start at w (subst (λ (n : ℕ). HasPut b c t u (take (n - start) (drop start xs))) (sym h) p))
 
-pub text-stops : (a b c : Option (List ℕ)) (s t : Outbox) (xs : List ℕ) (start at : ℕ) (e : Refusal) → at ≡ length xs → IsWriting a b s t xs start at
+pub text-stops : (a b c : Option (List ℕ)) (s t : Outbox) (xs : List ℕ) (start at : ℕ) (e : Outbox) → at ≡ length xs → IsWriting a b s t xs start at
     → HasStopped b c t (take (length xs - start) (drop start xs)) e → HasStopped a c s (codes "\"" ++ flat_map escaped xs ++ codes "\"") e
 text-stops a b c s t xs start at e h w p =
     run-stops a b c s t xs start at e w (subst (λ (n : ℕ). HasStopped b c t (take (n - start) (drop start xs)) e) (sym h) p)

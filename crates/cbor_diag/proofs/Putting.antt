@@ -1,11 +1,12 @@
 -- One put after another.
 use Rattle.std.proofs.Common.{◌≡◌, ℕ, ◌+◌, ◌<◌, List, [], ◌++◌, length, take, drop, Option, Bool, false, Result, Ok, Err, sym, ap, ◌∙◌, subst, append_assoc, append-nil, length-append, length-drop, take-append-drop, arith}
 use Rattle.std.proofs.lemmas.List.{length-take-le}
+use Rattle.std.specs.Prelude.{MatchResult}
 use Rattle.std.specs.Result.{OnErr, is_ok}
 use lib.Seq.{take-append_seam}
 use Rattle.std.specs.Io.KnownBytes.{Appends}
 use Rattle.std.proofs.KnownBytes.{Appends-trans, Appends-nil}
-use Rattle.cbor_head.specs.declared.reason.Refusal.{Refusal}
+use Rattle.cbor_diag.specs.declared.outbox.Stopped.{Stopped}
 use Rattle.cbor_item.specs.Sent.{stopped_at}
 use Rattle.cbor_diag.specs.Written.{capped, Writes}
 use Rattle.cbor_diag.specs.inner.Outbox.{HasPut, HasStopped, Puts}
@@ -27,22 +28,22 @@ puts-then a b c s t u xs ys p q = record {
   counted = λ k e. q.counted (k + length p.took) (p.counted k e) ∙ counts p.took q.took k;
 }
 
-pub puts-stops : (a b c : Option (List ℕ)) (s t : Outbox) (xs ys : List ℕ) (e : Refusal) → HasPut a b s t xs → HasStopped b c t ys e → HasStopped a c s (xs ++ ys) e
+pub puts-stops : (a b c : Option (List ℕ)) (s t : Outbox) (xs ys : List ℕ) (e : Outbox) → HasPut a b s t xs → HasStopped b c t ys e → HasStopped a c s (xs ++ ys) e
 puts-stops a b c s t xs ys e p q = record {
   took = p.took ++ q.took;
   others = q.others;
   appended = Appends-trans a b c p.took q.took p.appended q.appended;
   front = regroup p.took q.took q.others s.waiting.items xs ys t.waiting.items p.others q.front;
   not_all = q.not_all;
-  told = λ k f. q.told (k + length p.took) (p.counted k f) ∙ ap stopped_at (counts p.took q.took k);
+  counted = λ k f. q.counted (k + length p.took) (p.counted k f) ∙ counts p.took q.took k;
 }
 
-pub puts-next : (a b c : Option (List ℕ)) (s t u : Outbox) (xs ys : List ℕ) (r : Result (Unit {0}) Refusal) → HasPut a b s t xs → Puts b c t u ys r → Puts a c s u (xs ++ ys) r
+pub puts-next : (a b c : Option (List ℕ)) (s t u : Outbox) (xs ys : List ℕ) (r : Result (Unit {0}) Stopped) → HasPut a b s t xs → Puts b c t u ys r → Puts a c s u (xs ++ ys) r
 puts-next a b c s t u xs ys (Ok x) p q = puts-then a b c s t u xs ys p q
-puts-next a b c s t u xs ys (Err e) p q = puts-stops a b c s t xs ys e p q
+puts-next a b c s t u xs ys (Err e) p q = puts-stops a b c s t xs ys u p q
 
 -- what was to follow
-pub stops-more : (a b : Option (List ℕ)) (s : Outbox) (xs ys : List ℕ) (e : Refusal) → HasStopped a b s xs e → HasStopped a b s (xs ++ ys) e
+pub stops-more : (a b : Option (List ℕ)) (s : Outbox) (xs ys : List ℕ) (e : Outbox) → HasStopped a b s xs e → HasStopped a b s (xs ++ ys) e
 stops-more a b s xs ys e p =
     let not_all = p.not_all in
     record {
@@ -51,7 +52,7 @@ stops-more a b s xs ys e p =
       appended = p.appended;
       front = sym (append_assoc p.took p.others ys) ∙ ap (λ (l : List ℕ). l ++ ys) p.front ∙ append_assoc s.waiting.items xs ys;
       not_all = omega (arith, length-append p.others ys);
-      told = p.told;
+      counted = p.counted;
     }
 
 -- nothing was put
@@ -73,11 +74,11 @@ sent-all a b s t bytes is none counted out = record {
   counted = λ k e. counted ∙ omega (arith, e);
 }
 
-abbrev pub SentSome : Option (List ℕ) → Option (List ℕ) → ℕ → List ℕ → Refusal → Type 0
-SentSome a b taken bytes e = (n : ℕ) × (e ≡ stopped_at (capped (taken + n))) × (n < length bytes) × Appends a b (take n bytes)
+abbrev pub SentSome : Option (List ℕ) → Option (List ℕ) → ℕ → List ℕ → ℕ → Type 0
+SentSome a b taken bytes total = (n : ℕ) × (total ≡ capped (taken + n)) × (n < length bytes) × Appends a b (take n bytes)
 
 -- some of the bytes behind nothing that waits
-pub sent-some : (a b : Option (List ℕ)) (s : Outbox) (bytes whole : List ℕ) (e : Refusal) → bytes ≡ s.waiting.items ++ whole → SentSome a b s.taken bytes e → HasStopped a b s whole e
+pub sent-some : (a b : Option (List ℕ)) (s : Outbox) (bytes whole : List ℕ) (e : Outbox) → bytes ≡ s.waiting.items ++ whole → SentSome a b s.taken bytes e.taken → HasStopped a b s whole e
 sent-some a b s bytes whole e is sent =
     let few = sent.2 in
     let exactly : length (take sent.0 bytes) ≡ sent.0 = length-take-le sent.0 bytes (omega arith) in
@@ -87,7 +88,7 @@ sent-some a b s bytes whole e is sent =
       appended = sent.3;
       front = take-append-drop sent.0 bytes ∙ is;
       not_all = omega (arith, length-drop sent.0 bytes);
-      told = λ k f. sent.1 ∙ ap stopped_at (omega (arith, f, exactly));
+      counted = λ k f. sent.1 ∙ omega (arith, f, exactly);
     }
 
 -- nothing waited, and the bytes went out
@@ -99,22 +100,28 @@ sent-past a b s t bytes none still counted out = record {
   counted = λ k e. counted ∙ omega (arith, e);
 }
 
+-- what waited went out, and then the bytes, or not all of them
+pub sends-past : (a b c : Option (List ℕ)) (s t u : Outbox) (bytes : List ℕ) (r : Result (Unit {0}) Stopped) → HasPut a b s t [] → t.waiting.items ≡ [] → u.waiting.items ≡ []
+    → MatchResult r (λ x. (u.taken ≡ capped (t.taken + length bytes)) × Appends b c bytes) (λ e. SentSome b c t.taken bytes u.taken) → Puts a c s u bytes r
+sends-past a b c s t u bytes (Ok x) p none still h = puts-then a b c s t u [] bytes p (sent-past b c t u bytes none still h.0 h.1)
+sends-past a b c s t u bytes (Err e) p none still h = puts-stops a b c s t [] bytes u p (sent-some b c t bytes bytes u (ap (λ (l : List ℕ). l ++ bytes) (sym none)) h)
+
 pub where_err : {T E P : Type 0} (r : Result T E) (b : Bool) → b ≡ false → b ≡ is_ok r → OnErr r P → P
 where_err (Ok x) b f e h = absurd (cc (sym f ∙ e))
 where_err (Err x) b f e h = h
 
-pub puts-from : (a b : Option (List ℕ)) (s t u : Outbox) (xs : List ℕ) (r : Result (Unit {0}) Refusal) → t ≡ s → Puts a b t u xs r → Puts a b s u xs r
+pub puts-from : (a b : Option (List ℕ)) (s t u : Outbox) (xs : List ℕ) (r : Result (Unit {0}) Stopped) → t ≡ s → Puts a b t u xs r → Puts a b s u xs r
 puts-from a b s t u xs r is p = subst (λ (o : Outbox). Puts a b o u xs r) is p
 
 -- ---- from nothing to the whole
 
-pub writes-stopped : (a b : Option (List ℕ)) (s : Outbox) (text : List ℕ) (e : Refusal) → s.waiting.items ≡ [] → s.taken ≡ 0 → HasStopped a b s text e → Writes a b text (Err e)
-writes-stopped a b s text e none start p =
+pub writes-stopped : (a b : Option (List ℕ)) (s e : Outbox) (text : List ℕ) (place : ℕ) → place ≡ e.taken → s.waiting.items ≡ [] → s.taken ≡ 0 → HasStopped a b s text e → Writes a b text (Err (stopped_at place))
+writes-stopped a b s e text place is none start p =
     let not_all = p.not_all in
     let front : p.took ++ p.others ≡ text = p.front ∙ ap (λ (l : List ℕ). l ++ text) none in
     let taken : take (length p.took) text ≡ p.took = ap (take (length p.took)) (sym front) ∙ take-append_seam p.took p.others in (
       length p.took,
-      p.told 0 start ∙ ap stopped_at (omega arith),
+      ap stopped_at (is ∙ p.counted 0 start ∙ omega arith),
       omega (arith, ap length front, length-append p.took p.others),
       subst (λ (l : List ℕ). Appends a b l) (sym taken) p.appended,
     )
@@ -127,8 +134,5 @@ writes-all a b s t text none start gone p =
     )
 
 -- what waited went out behind the text, or not all of it
-pub flush-puts : (a b c : Option (List ℕ)) (s t u : Outbox) (text : List ℕ) → HasPut a b s t text → HasPut b c t u [] → HasPut a c s u text
-flush-puts a b c s t u text p q = subst (λ (l : List ℕ). HasPut a c s u l) (append-nil text) (puts-then a b c s t u text [] p q)
-
-pub flush-stops : (a b c : Option (List ℕ)) (s t : Outbox) (text : List ℕ) (e : Refusal) → HasPut a b s t text → HasStopped b c t [] e → HasStopped a c s text e
-flush-stops a b c s t text e p q = subst (λ (l : List ℕ). HasStopped a c s l e) (append-nil text) (puts-stops a b c s t text [] e p q)
+pub flush-puts : (a b c : Option (List ℕ)) (s t u : Outbox) (text : List ℕ) (r : Result (Unit {0}) Stopped) → HasPut a b s t text → Puts b c t u [] r → Puts a c s u text r
+flush-puts a b c s t u text r p q = subst (λ (l : List ℕ). Puts a c s u l r) (append-nil text) (puts-next a b c s t u text [] r p q)

@@ -4,9 +4,8 @@ ghost use Rattle.std.specs.Prelude.{◌+◌, ◌≤◌};
 ghost use Rattle.cbor_diag.specs.inner.Layout.{gap, end};
 ghost use Rattle.cbor_diag.specs.inner.Outbox.{Puts};
 
-use crate::outbox::Outbox;
+use crate::outbox::{Outbox, Stopped};
 use crate::pieces::put_new_line;
-use cbor_head::Refusal;
 use std::io::Write;
 
 /// On one line, or with one member or pair a line.
@@ -17,13 +16,14 @@ pub(crate) enum Layout {
 }
 
 // What stands before a member or a pair.
+#[inline(always)]
 pub(crate) fn put_gap<W: Write>(
     layout: Layout,
     level: u16,
     first: bool,
     out: &mut Outbox,
     writer: &mut W,
-) -> Result<(), Refusal>
+) -> Result<(), Stopped>
     requires { level + 1 ≤ 256 }
     ensures { Puts (W.contents writer.old) (W.contents writer.new) out.old out.new
         (gap layout level first) result }
@@ -46,7 +46,7 @@ pub(crate) fn put_end<W: Write>(
     none: bool,
     out: &mut Outbox,
     writer: &mut W,
-) -> Result<(), Refusal>
+) -> Result<(), Stopped>
     requires { level ≤ 256 }
     ensures { Puts (W.contents writer.old) (W.contents writer.new) out.old out.new
         (end layout level none) result }

@@ -2,12 +2,10 @@
 
 ghost use Rattle.std.specs.Prelude.{◌≡◌, ℕ, ◌+◌, ◌<◌, [], length, take, IfOk, MatchResult};
 ghost use Rattle.std.specs.Io.KnownBytes.{Appends};
-ghost use Rattle.cbor_item.specs.Sent.{stopped_at};
 ghost use Rattle.cbor_diag.specs.Written.{capped};
 ghost use Rattle.cbor_diag.specs.inner.Outbox.{Puts};
 
 use arrayvec::ArrayVec;
-use cbor_head::{Reason, Refusal};
 use cbor_item::write_whole;
 use std::io::Write;
 
@@ -17,6 +15,10 @@ pub(crate) struct Outbox {
     waiting: ArrayVec<u8, 512>,
     taken: u64,
 }
+
+/// The writer failed. How many bytes it took stands in the outbox.
+#[derive(Clone, Copy)]
+pub(crate) struct Stopped;
 
 impl Outbox {
     pub(crate) fn new() -> Outbox
@@ -38,7 +40,7 @@ impl Outbox {
 
     // The bytes wait behind those that do, or go out after them.
     #[inline(always)]
-    pub(crate) fn put<W: Write>(&mut self, writer: &mut W, bytes: &[u8]) -> Result<(), Refusal>
+    pub(crate) fn put<W: Write>(&mut self, writer: &mut W, bytes: &[u8]) -> Result<(), Stopped>
         ensures { Puts (W.contents writer.old) (W.contents writer.new) self.old self.new
             bytes.now result }
     {
@@ -51,7 +53,7 @@ impl Outbox {
     // The same where they may not find room: what waits goes out first.
     #[cold]
     #[inline(never)]
-    fn make_room<W: Write>(&mut self, writer: &mut W, bytes: &[u8]) -> Result<(), Refusal>
+    fn make_room<W: Write>(&mut self, writer: &mut W, bytes: &[u8]) -> Result<(), Stopped>
         ensures { Puts (W.contents writer.old) (W.contents writer.new) self.old self.new
             bytes.now result }
     {
@@ -60,36 +62,39 @@ impl Outbox {
             return Ok(());
         }
         // More than can wait.
-        self.taken = send(writer, self.taken, bytes)?;
-        Ok(())
+        let (taken, sent) = send(writer, self.taken, bytes);
+        self.taken = taken;
+        sent
     }
 
     // What waits goes out.
-    pub(crate) fn flush<W: Write>(&mut self, writer: &mut W) -> Result<(), Refusal>
+    pub(crate) fn flush<W: Write>(&mut self, writer: &mut W) -> Result<(), Stopped>
         ensures done { Puts (W.contents writer.old) (W.contents writer.new) self.old self.new
             [] result }
         ensures empty { IfOk result (λ _. self.new.waiting.items ≡ []) }
     {
-        self.taken = send(writer, self.taken, self.waiting.as_slice())?;
-        self.waiting.clear();
-        Ok(())
+        let (taken, sent) = send(writer, self.taken, self.waiting.as_slice());
+        self.taken = taken;
+        match sent {
+            Ok(()) => {
+                self.waiting.clear();
+                Ok(())
+            }
+            Err(stopped) => Err(stopped),
+        }
     }
 }
 
-// Writes the bytes behind so many that the writer took, and answers how many that makes.
-fn send<W: Write>(writer: &mut W, taken: u64, bytes: &[u8]) -> Result<u64, Refusal>
-    ensures { MatchResult result
-        (λ count. (count ≡ capped (taken + length bytes.now))
+// Writes the bytes behind so many that the writer took, and answers how many it has taken then.
+fn send<W: Write>(writer: &mut W, taken: u64, bytes: &[u8]) -> (u64, Result<(), Stopped>)
+    ensures { MatchResult result.1
+        (λ _. (result.0 ≡ capped (taken + length bytes.now))
         × Appends (W.contents writer.old) (W.contents writer.new) bytes.now)
-        (λ e. (n : ℕ) × (e ≡ stopped_at (capped (taken + n))) × (n < length bytes.now)
+        (λ _. (n : ℕ) × (result.0 ≡ capped (taken + n)) × (n < length bytes.now)
         × Appends (W.contents writer.old) (W.contents writer.new) (take n bytes.now)) }
 {
     match write_whole(writer, bytes) {
-        Ok(()) => Ok(taken.saturating_add(bytes.len() as u64)),
-        Err(count) => Err(Refusal {
-            reason: Reason::Write,
-            place: taken.saturating_add(count as u64),
-            read: 0,
-        }),
+        Ok(()) => (taken.saturating_add(bytes.len() as u64), Ok(())),
+        Err(count) => (taken.saturating_add(count as u64), Err(Stopped)),
     }
 }

@@ -7,8 +7,7 @@ ghost use Rattle.cbor_diag.specs.IndentedText.{new_line};
 ghost use Rattle.cbor_diag.specs.inner.Outbox.{Puts};
 ghost use Rattle.cbor_diag.specs.Text.{escaped, simple_text};
 
-use crate::outbox::Outbox;
-use cbor_head::Refusal;
+use crate::outbox::{Outbox, Stopped};
 use itoa::Buffer;
 use std::io::Write;
 
@@ -22,7 +21,7 @@ pub(crate) fn put_number<W: Write>(
     number: u64,
     out: &mut Outbox,
     writer: &mut W,
-) -> Result<(), Refusal>
+) -> Result<(), Stopped>
     ensures { Puts (W.contents writer.old) (W.contents writer.new) out.old out.new
         (decimal number) result }
 {
@@ -35,7 +34,7 @@ pub(crate) fn put_negative<W: Write>(
     n: u64,
     out: &mut Outbox,
     writer: &mut W,
-) -> Result<(), Refusal>
+) -> Result<(), Stopped>
     ensures { Puts (W.contents writer.old) (W.contents writer.new) out.old out.new
         (codes "-" ++ decimal (n + 1)) result }
 {
@@ -47,7 +46,7 @@ pub(crate) fn put_simple<W: Write>(
     number: u8,
     out: &mut Outbox,
     writer: &mut W,
-) -> Result<(), Refusal>
+) -> Result<(), Stopped>
     ensures { Puts (W.contents writer.old) (W.contents writer.new) out.old out.new
         (simple_text number) result }
 {
@@ -69,7 +68,7 @@ pub(crate) fn put_bytes<W: Write>(
     bytes: &[u8],
     out: &mut Outbox,
     writer: &mut W,
-) -> Result<(), Refusal>
+) -> Result<(), Stopped>
     ensures { Puts (W.contents writer.old) (W.contents writer.new) out.old out.new
         (codes "h'" ++ encode_lower bytes.now ++ codes "'") result }
 {
@@ -84,7 +83,7 @@ pub(crate) fn put_bytes<W: Write>(
 }
 
 // Two digits a byte.
-fn put_digits<W: Write>(bytes: &[u8], out: &mut Outbox, writer: &mut W) -> Result<(), Refusal>
+fn put_digits<W: Write>(bytes: &[u8], out: &mut Outbox, writer: &mut W) -> Result<(), Stopped>
     requires { length bytes.now ≤ HEX_RUN }
     ensures { Puts (W.contents writer.old) (W.contents writer.new) out.old out.new
         (encode_lower bytes.now) result }
@@ -101,7 +100,7 @@ pub(crate) fn put_text<W: Write>(
     text: &[u8],
     out: &mut Outbox,
     writer: &mut W,
-) -> Result<(), Refusal>
+) -> Result<(), Stopped>
     ensures { Puts (W.contents writer.old) (W.contents writer.new) out.old out.new
         (codes "\"" ++ flat_map escaped text.now ++ codes "\"") result }
 {
@@ -131,7 +130,7 @@ fn is_raw(byte: u8) -> bool
 
 // A byte that doesn't stand as it is.
 #[inline(never)]
-fn put_escape<W: Write>(byte: u8, out: &mut Outbox, writer: &mut W) -> Result<(), Refusal>
+fn put_escape<W: Write>(byte: u8, out: &mut Outbox, writer: &mut W) -> Result<(), Stopped>
     requires { escaped byte ≢ byte ∷ [] }
     ensures { Puts (W.contents writer.old) (W.contents writer.new) out.old out.new
         (escaped byte) result }
@@ -151,7 +150,7 @@ pub(crate) fn put_new_line<W: Write>(
     level: u16,
     out: &mut Outbox,
     writer: &mut W,
-) -> Result<(), Refusal>
+) -> Result<(), Stopped>
     requires { level ≤ 256 }
     ensures { Puts (W.contents writer.old) (W.contents writer.new) out.old out.new
         (new_line level) result }

@@ -1,20 +1,21 @@
 //! The diagnostic text of a tree, and of a view.
 
-ghost use Rattle.std.specs.Prelude.{◌≤◌};
+ghost use Rattle.std.specs.Prelude.{◌≡◌, ◌≤◌, [], IfOk};
 ghost use Rattle.cbor_head.specs.Value.{depth};
 ghost use Rattle.cbor_head.specs.declared.limits.TheConstants.{MAX_DEPTH};
 ghost use Rattle.cbor_item.specs.View.{view as value_of};
 ghost use Rattle.cbor_view.specs.Seen.{seen};
 ghost use Rattle.cbor_diag.specs.IndentedText.{indented};
 ghost use Rattle.cbor_diag.specs.inner.Layout.{laid_out};
+ghost use Rattle.cbor_diag.specs.inner.Outbox.{Puts};
 ghost use Rattle.cbor_diag.specs.Written.{Writes};
 ghost use Rattle.cbor_diag.specs.Text.{text};
 
 use crate::layout::Layout;
 use crate::node::Node;
-use crate::outbox::Outbox;
+use crate::outbox::{Outbox, Stopped};
 use crate::walk::put_item;
-use cbor_head::Refusal;
+use cbor_head::{Reason, Refusal};
 use cbor_item::Tree;
 use cbor_view::View;
 use std::io::Write;
@@ -65,7 +66,28 @@ fn write_text<N: Node, W: Write>(item: &N, layout: Layout, writer: &mut W) -> Re
         (laid_out layout 0 (N.value item.now)) result }
 {
     let mut out = Outbox::new();
-    put_item(item, layout, &mut out, writer)?;
-    out.flush(writer)?;
-    Ok(out.taken())
+    match send_item(item, layout, &mut out, writer) {
+        Ok(()) => Ok(out.taken()),
+        Err(_) => Err(Refusal {
+            reason: Reason::Write,
+            place: out.taken(),
+            read: 0,
+        }),
+    }
+}
+
+// Puts an item's text, and has all of it go out.
+fn send_item<N: Node, W: Write>(
+    item: &N,
+    layout: Layout,
+    out: &mut Outbox,
+    writer: &mut W,
+) -> Result<(), Stopped>
+    requires { depth (N.value item.now) ≤ MAX_DEPTH }
+    ensures put { Puts (W.contents writer.old) (W.contents writer.new) out.old out.new
+        (laid_out layout 0 (N.value item.now)) result }
+    ensures empty { IfOk result (λ _. out.new.waiting.items ≡ []) }
+{
+    put_item(item, layout, out, writer)?;
+    out.flush(writer)
 }

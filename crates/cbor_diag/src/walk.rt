@@ -9,10 +9,10 @@ ghost use Rattle.cbor_diag.specs.inner.Outbox.{Puts};
 
 use crate::layout::{Layout, put_end, put_gap};
 use crate::node::{Node, Part};
-use crate::outbox::Outbox;
+use crate::outbox::{Outbox, Stopped};
 use crate::pieces::{put_bytes, put_negative, put_number, put_simple, put_text};
 use arrayvec::ArrayVec;
-use cbor_head::{MAX_DEPTH, Refusal};
+use cbor_head::MAX_DEPTH;
 use std::io::Write;
 
 // As many as a tree lets nest.
@@ -51,7 +51,7 @@ pub(crate) fn put_item<N: Node, W: Write>(
     layout: Layout,
     out: &mut Outbox,
     writer: &mut W,
-) -> Result<(), Refusal>
+) -> Result<(), Stopped>
     requires { depth (N.value item.now) ≤ 256 }
     ensures { Puts (W.contents writer.old) (W.contents writer.new) out.old out.new
         (laid_out layout 0 (N.value item.now)) result }
@@ -72,7 +72,7 @@ fn begin<'a, N: Node, W: Write>(
     indent: u16,
     out: &mut Outbox,
     writer: &mut W,
-) -> Result<Option<Level<'a, N>>, Refusal>
+) -> Result<Option<Level<'a, N>>, Stopped>
     ensures put { Leaves N.value layout (W.contents writer.old) (W.contents writer.new)
         out.old out.new (laid_out layout indent (N.value item.now)) [] result }
     ensures opened { IfOk result (IsOpenOf N.value (depth (N.value item.now)) indent) }
@@ -124,7 +124,7 @@ fn go_on<'a, N: Node, W: Write>(
     around: &mut Levels<'a, N>,
     out: &mut Outbox,
     writer: &mut W,
-) -> Result<Option<Level<'a, N>>, Refusal>
+) -> Result<Option<Level<'a, N>>, Stopped>
     requires { AreShallow N.value (level ∷ reverse around.old.items) }
     ensures put { Leaves N.value layout (W.contents writer.old) (W.contents writer.new)
         out.old out.new (rest_of N.value layout level.entry
@@ -188,7 +188,7 @@ fn go_into<'a, N: Node, W: Write>(
     around: &mut Levels<'a, N>,
     out: &mut Outbox,
     writer: &mut W,
-) -> Result<Option<Level<'a, N>>, Refusal>
+) -> Result<Option<Level<'a, N>>, Stopped>
     requires { IsDue N.value (depth (N.value item.now)) indent (level ∷ reverse around.old.items) }
     ensures put { Leaves N.value layout (W.contents writer.old) (W.contents writer.new)
         out.old out.new (laid_out layout indent (N.value item.now)

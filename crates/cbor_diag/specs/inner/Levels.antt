@@ -1,12 +1,12 @@
 -- What is left of a text that is being written, by the containers that are open.
 use Rattle.std.specs.Prelude.{ℕ, ◌≡◌, ◌+◌, ◌<◌, ◌≤◌, max, false, List, [], ◌∷◌, ◌++◌, length, codes, Option, Some, None, Result, Ok, Err}
 use Rattle.cbor_head.specs.Value.{Value, depth, depth_all, depth_entries}
-use Rattle.cbor_head.specs.declared.reason.Refusal.{Refusal}
 use Rattle.cbor_diag.specs.inner.Layout.{laid_out, members_left, pairs_left}
 use Rattle.cbor_diag.specs.inner.Nodes.{entries_in, values_in}
 use Rattle.cbor_diag.specs.inner.Outbox.{HasPut, HasStopped}
 use Rattle.cbor_diag.specs.declared.layout.Layout.{Layout}
 use Rattle.cbor_diag.specs.declared.outbox.Outbox.{Outbox}
+use Rattle.cbor_diag.specs.declared.outbox.Stopped.{Stopped}
 use Rattle.cbor_diag.specs.declared.walk.Level.{Level}
 use Rattle.cbor_diag.specs.declared.walk.Left.{Left}
 use Rattle.cbor_diag.specs.declared.walk.Left.TheVariants as parts
@@ -71,6 +71,6 @@ pub record HasLeft (old new : Option (List ℕ)) (from to : Outbox) (whole left 
   pub joins : done ++ left ≡ whole
 
 -- so, where this container is then the innermost and these are around it; or the writer failed
-abbrev pub Leaves : {N : Type 0} → (N → Value) → Layout → Option (List ℕ) → Option (List ℕ) → Outbox → Outbox → List ℕ → List (Level N) → Result (Option (Level N)) Refusal → Type 0
+abbrev pub Leaves : {N : Type 0} → (N → Value) → Layout → Option (List ℕ) → Option (List ℕ) → Outbox → Outbox → List ℕ → List (Level N) → Result (Option (Level N)) Stopped → Type 0
 Leaves see l old new from to whole vs (Ok o) = HasLeft old new from to whole (all_left see l o vs)
-Leaves see l old new from to whole vs (Err e) = HasStopped old new from whole e
+Leaves see l old new from to whole vs (Err e) = HasStopped old new from whole to

@@ -1,10 +1,9 @@
 -- What a writer took of the bytes that were put behind others.
 use Rattle.std.specs.Prelude.{ℕ, ◌≡◌, ◌+◌, ◌<◌, List, ◌++◌, length, Option, Result, Ok, Err}
 use Rattle.std.specs.Io.KnownBytes.{Appends}
-use Rattle.cbor_head.specs.declared.reason.Refusal.{Refusal}
-use Rattle.cbor_item.specs.Sent.{stopped_at}
 use Rattle.cbor_diag.specs.Written.{capped}
 use Rattle.cbor_diag.specs.declared.outbox.Outbox.{Outbox}
+use Rattle.cbor_diag.specs.declared.outbox.Stopped.{Stopped}
 
 -- the writer took some of what waited and of the bytes behind it, and the others wait
 pub record HasPut (old new : Option (List ℕ)) (from to : Outbox) (bytes : List ℕ) : Type 0 where
@@ -14,15 +13,15 @@ pub record HasPut (old new : Option (List ℕ)) (from to : Outbox) (bytes : List
   pub counted : (k : ℕ) → from.taken ≡ capped k → to.taken ≡ capped (k + length took)
 
 -- the writer failed when it had taken some of what waited and of the bytes behind it, not all
-pub record HasStopped (old new : Option (List ℕ)) (from : Outbox) (bytes : List ℕ) (e : Refusal) : Type 0 where
+pub record HasStopped (old new : Option (List ℕ)) (from : Outbox) (bytes : List ℕ) (to : Outbox) : Type 0 where
   pub took : List ℕ
   pub others : List ℕ
   pub appended : Appends old new took
   pub front : took ++ others ≡ from.waiting.items ++ bytes
   pub not_all : 0 < length others
-  pub told : (k : ℕ) → from.taken ≡ capped k → e ≡ stopped_at (capped (k + length took))
+  pub counted : (k : ℕ) → from.taken ≡ capped k → to.taken ≡ capped (k + length took)
 
 -- the bytes were put, or the writer failed
-abbrev pub Puts : Option (List ℕ) → Option (List ℕ) → Outbox → Outbox → List ℕ → Result (Unit {0}) Refusal → Type 0
+abbrev pub Puts : Option (List ℕ) → Option (List ℕ) → Outbox → Outbox → List ℕ → Result (Unit {0}) Stopped → Type 0
 Puts old new from to bytes (Ok x) = HasPut old new from to bytes
-Puts old new from to bytes (Err e) = HasStopped old new from bytes e
+Puts old new from to bytes (Err e) = HasStopped old new from bytes to

@@ -8,7 +8,7 @@ use Rattle.cbor_diag.proofs.pieces.put_bytes.Goals as goal
 pub returns-in_err-put : goal.returns-in_err-put
 returns-in_err-put g c =
     let p = err_from_is_err_and c.from_residual.result c.from_residual.ensures.1 in
-    rw (p.1, p.2) (stops-more _ _ c.args.out.now (codes "h'") (encode_lower c.args.bytes.now ++ codes "'") _ c.in_err-put.ensures)
+    rw (p.1) (stops-more _ _ c.args.out.now (codes "h'") (encode_lower c.args.bytes.now ++ codes "'") _ c.in_err-put.ensures)
 
 pub loop-at-init : goal.loop-at-init
 unfolding encode_with
@@ -17,7 +17,7 @@ loop-at-init g c = record { within = omega arith; written = c.in_ok-put.ensures 
 pub returns-in_err-put_digits : goal.returns-in_err-put_digits
 returns-in_err-put_digits g c =
     let p = err_from_is_err_and c.from_residual-in_err-put_digits.result c.from_residual-in_err-put_digits.ensures.1 in
-    rw (p.1, p.2) (digits-stop _ _ _ c.args.out.now c.loop-at.out c.args.bytes.now c.loop-at.at c.min-end.result _ c.loop-at.invariant.written c.in_err-put_digits.ensures)
+    rw (p.1) (digits-stop _ _ _ c.args.out.now c.loop-at.out c.args.bytes.now c.loop-at.at c.min-end.result _ c.loop-at.invariant.written c.in_err-put_digits.ensures)
 
 pub loop-at-preserved : goal.loop-at-preserved
 loop-at-preserved g c =

@@ -9,17 +9,17 @@ use Rattle.cbor_diag.proofs.pieces.put_text.Goals.{then-not-is_raw+in_ok-put-2+i
 pub returns-in_err-put : goal.returns-in_err-put
 returns-in_err-put g c =
     let p = err_from_is_err_and c.from_residual.result c.from_residual.ensures.1 in
-    rw (p.1, p.2) (stops-more _ _ c.args.out.now (34 ∷ []) (flat_map escaped c.args.text.now ++ codes "\"") _ c.in_err-put.ensures)
+    rw (p.1) (stops-more _ _ c.args.out.now (34 ∷ []) (flat_map escaped c.args.text.now ++ codes "\"") _ c.in_err-put.ensures)
 
 pub returns-in_err-put-2 : goal.returns-in_err-put-2
 returns-in_err-put-2 g c =
     let p = err_from_is_err_and c.from_residual-in_err-put-2.result c.from_residual-in_err-put-2.ensures.1 in
-    rw (p.1, p.2) (run-stops _ _ _ c.args.out.now c.loop-at.out c.args.text.now c.loop-at.start c.loop-at.at _ c.loop-at.invariant c.in_err-put-2.ensures)
+    rw (p.1) (run-stops _ _ _ c.args.out.now c.loop-at.out c.args.text.now c.loop-at.start c.loop-at.at _ c.loop-at.invariant c.in_err-put-2.ensures)
 
 pub returns-in_err-put_escape : goal.returns-in_err-put_escape
 returns-in_err-put_escape g c =
     let p = err_from_is_err_and c.from_residual-in_err-put_escape.result c.from_residual-in_err-put_escape.ensures.1 in
-    rw (p.1, p.2) (escape-stops _ _ _ _ c.args.out.now c.loop-at.out _ c.args.text.now c.loop-at.start c.loop-at.at _ c.loop-at-test.true c.loop-at.invariant c.in_ok-put-2.ensures c.in_err-put_escape.ensures)
+    rw (p.1) (escape-stops _ _ _ _ c.args.out.now c.loop-at.out _ c.args.text.now c.loop-at.start c.loop-at.at _ c.loop-at-test.true c.loop-at.invariant c.in_ok-put-2.ensures c.in_err-put_escape.ensures)
 
 pub loop-at-preserved : goal.loop-at-preserved
 loop-at-preserved g c =
@@ -33,7 +33,7 @@ loop-at-preserved g c =
 pub returns-in_err-put-3 : goal.returns-in_err-put-3
 returns-in_err-put-3 g c =
     let p = err_from_is_err_and c.from_residual-in_err-put-3.result c.from_residual-in_err-put-3.ensures.1 in
-    rw (p.1, p.2) (text-stops _ _ _ c.args.out.now c.loop-at.out c.args.text.now c.loop-at.start c.loop-at.at _ (omega arith) c.loop-at.invariant c.in_err-put-3.ensures)
+    rw (p.1) (text-stops _ _ _ c.args.out.now c.loop-at.out c.args.text.now c.loop-at.start c.loop-at.at _ (omega arith) c.loop-at.invariant c.in_err-put-3.ensures)
 
 pub returns : goal.returns
 returns g c =

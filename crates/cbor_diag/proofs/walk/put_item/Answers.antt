@@ -11,4 +11,4 @@ levels-preserved g c = record {
 pub returns-in_err-innermost-2 : goal.returns-in_err-innermost-2
 returns-in_err-innermost-2 g c =
     let p = err_from_is_err_and c.from_residual-in_err-innermost-2.result c.from_residual-in_err-innermost-2.ensures.1 in
-    rw (p.1, p.2) (left-stops _ _ _ c.args.out.now c.levels.out _ _ _ (rw c.in-Some.is at c.levels.invariant.left) c.in_err-innermost-2.ensures.put)
+    rw (p.1) (left-stops _ _ _ c.args.out.now c.levels.out _ _ _ (rw c.in-Some.is at c.levels.invariant.left) c.in_err-innermost-2.ensures.put)
