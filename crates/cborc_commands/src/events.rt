@@ -79,7 +79,7 @@ pub fn list_front<'a, W: Write>(
 
 /// Whether what stands behind these bytes may tell more of the item at their front: by its form they
 /// end within it or with it.
-pub fn is_undecided(bytes: &[u8], limits: Limits) -> bool
+pub(crate) fn is_undecided(bytes: &[u8], limits: Limits) -> bool
     ensures { result ≡ false → IsDecided limits bytes.now }
 {
     let mut reader = bytes;
