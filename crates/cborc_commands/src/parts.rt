@@ -173,7 +173,10 @@ fn remove_front(bytes: &mut Vec<u8>, count: usize)
     requires { count ≤ vec_len bytes.old }
     ensures { bytes.new.items ≡ drop count bytes.old.items }
 {
-    let length = bytes.len();
-    bytes.as_mut_slice().copy_within(count..length, 0);
-    bytes.truncate(length - count);
+    // Nothing is moved to where it stands.
+    if count > 0 {
+        let length = bytes.len();
+        bytes.as_mut_slice().copy_within(count..length, 0);
+        bytes.truncate(length - count);
+    }
 }
