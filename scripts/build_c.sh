@@ -24,17 +24,24 @@ trap 'rm -rf "$room" "$log"' EXIT
 # the compiler is called as rt does it, and they are not proved again, unless that fails.
 make_archive() {
     cd "$root/crates/naltvigo"
-    local name names
+    local name names own
     names=$(sed -n 's/^naltvigo staticlib: //p' "$root/crates.txt")
-    name=${names##* }
-    if [ -e "../$name/out/rlib/stamp" ] || [ ! -e "../$name/out/rlib/$name.rlib" ]; then
+    # The highest of the repository's own; the others are the kit's.
+    for name in $names; do
+        [ ! -d "../$name" ] || own=$name
+    done
+    if [ -e "../$own/out/rlib/stamp" ] || [ ! -e "../$own/out/rlib/$own.rlib" ]; then
         rt lib
         return
     fi
     local words=(--crate-name naltvigo src/lib.rt --crate-type staticlib)
     words+=(--extern "std=$kit/rlibs/std.rlib" -L "dependency=$kit/rlibs")
     for name in $names; do
-        words+=(--extern "$name=../$name/out/rlib/$name.rlib")
+        if [ -d "../$name" ]; then
+            words+=(--extern "$name=../$name/out/rlib/$name.rlib")
+        else
+            words+=(--extern "$name=$kit/rlibs/$name.rlib")
+        fi
     done
     for name in ../*/out/rlib; do
         words+=(-L "dependency=$name")
