@@ -49,8 +49,18 @@ static ENDLESS: [(&str, u8, u8, &str); 8] = [
     ("show --bytes 3 in", 0x9f, 0, "refused 2 TooLong at 3"),
     ("compare in -", 0xff, 0, "left refused 7 StrayBreak at 0"),
     ("check --seq in", 0, 0x1c, "item 2 refused 3 Reserved at 0"),
-    ("canon --seq in out", 0x78, 0xff, "item 1 refused 10 InvalidText at 2"),
-    ("check --seq --bytes 70000 in", 0x9f, 0, "item 1 refused 2 TooLong at 70000"),
+    (
+        "canon --seq in out",
+        0x78,
+        0xff,
+        "item 1 refused 10 InvalidText at 2",
+    ),
+    (
+        "check --seq --bytes 70000 in",
+        0x9f,
+        0,
+        "item 1 refused 2 TooLong at 70000",
+    ),
 ];
 
 #[test]
