@@ -5,7 +5,7 @@
 //! contract of the crates above does.
 #![tactic(auto)]
 
-pub mod cuts;
+mod cuts;
 pub mod draft;
 pub mod out;
 pub mod reserve;

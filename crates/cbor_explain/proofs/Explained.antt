@@ -5,7 +5,8 @@ use Rattle.std.proofs.KnownBytes.{Appends-trans}
 use Rattle.cbor_head.specs.declared.reason.Refusal.{Refusal}
 use Rattle.cbor_explain.specs.Explanation.{sentences, IsExplained}
 use Rattle.cbor_explain.specs.Surroundings.{surroundings}
-use Rattle.cbor_explain.specs.Way.{IsWayText, Writes}
+use Rattle.cbor_explain.specs.Way.{IsWayText}
+use Rattle.cbor_explain.specs.inner.Written.{Writes}
 use Rattle.cbor_explain.specs.declared.way.Step.{Step}
 
 pub explained : (depth : ℕ) (item : List ℕ) (f : Refusal) (way : List Step) → length way ≤ depth → (a b c d : Option (List ℕ)) → Appends a b (sentences f.reason)

@@ -10,7 +10,8 @@ use Rattle.cbor_head.specs.Limits.{bounds}
 use Rattle.cbor_head.specs.Value.{Value}
 use Rattle.cbor_judging.specs.Readers.{IsReadAs}
 use Rattle.cbor_diag.specs.Text.{text}
-use Rattle.cbor_explain.specs.Way.{IsKeyText, short, Writes}
+use Rattle.cbor_explain.specs.Way.{IsKeyText, short}
+use Rattle.cbor_explain.specs.inner.Written.{Writes}
 
 drop_within : (item : List ℕ) (place : ℕ) → drop (min (length item) place) item ≡ drop place item
 drop_within item place = by (cases_lt place (length item))

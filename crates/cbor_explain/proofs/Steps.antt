@@ -3,7 +3,8 @@ use Rattle.std.proofs.Common.{ℕ, ◌≡◌, Option, List, [], ◌∷◌, ◌++
 use Rattle.std.specs.Prelude.{codes, Result, OnOk, Ok, Err}
 use Rattle.std.specs.Io.KnownBytes.{Appends}
 use Rattle.std.proofs.KnownBytes.{Appends-trans}
-use Rattle.cbor_explain.specs.Way.{AreStepTexts, IsStepText, IsWayText, Writes}
+use Rattle.cbor_explain.specs.Way.{AreStepTexts, IsStepText, IsWayText}
+use Rattle.cbor_explain.specs.inner.Written.{Writes}
 use Rattle.cbor_explain.specs.declared.way.Step.{Step}
 
 -- the front of a way's line, with the steps so far

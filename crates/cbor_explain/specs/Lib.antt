@@ -1,4 +1,5 @@
 pub mod Explanation
+pub mod inner
 pub mod Sentences
 pub mod Surroundings
 pub mod Way

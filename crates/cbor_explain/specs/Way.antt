@@ -1,6 +1,5 @@
 -- The text of a way through an item.
 use Rattle.std.specs.Prelude.{ℕ, ◌≡◌, Option, List, [], ◌∷◌, ◌++◌, drop, codes, decimal}
-use Rattle.std.specs.Io.KnownBytes.{Appends}
 use Rattle.cbor_head.specs.Complaint.{plain}
 use Rattle.cbor_head.specs.Limits.{bounds}
 use Rattle.cbor_head.specs.Value.{Value}
@@ -31,9 +30,3 @@ pub record IsWayText (item : List ℕ) (way : List Step) (line : List ℕ) : Typ
   pub steps : List ℕ
   pub are : AreStepTexts item way steps
   pub is : line ≡ codes "  at $" ++ steps ++ codes "\n"
-
--- a text of which this holds was written
-pub record Writes (Is : List ℕ → Type 0) (old new : Option (List ℕ)) : Type 0 where
-  pub text : List ℕ
-  pub is : Is text
-  pub written : Appends old new text

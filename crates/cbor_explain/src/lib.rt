@@ -11,9 +11,6 @@
 //!                                ^^
 //!   at $."a"[1]
 //! ```
-//!
-//! [`meaning`] and [`advice`] are its first two lines, [`write_surroundings`] writes the next two,
-//! [`way_to`] finds the way and [`write_way`] writes it.
 #![tactic(auto)]
 
 mod explanation;
@@ -26,7 +23,3 @@ mod way;
 mod way_text;
 
 pub use explanation::{explain, write_sentences};
-pub use sentences::{advice, meaning};
-pub use surroundings::write_surroundings;
-pub use way::{Step, way_to};
-pub use way_text::write_way;

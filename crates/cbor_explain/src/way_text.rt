@@ -1,7 +1,8 @@
 //! The text of a way.
 
 ghost use Rattle.std.specs.Prelude.{OnOk};
-ghost use Rattle.cbor_explain.specs.Way.{Writes, IsKeyText, IsStepText, IsWayText};
+ghost use Rattle.cbor_explain.specs.Way.{IsKeyText, IsStepText, IsWayText};
+ghost use Rattle.cbor_explain.specs.inner.Written.{Writes};
 
 use crate::way::Step;
 use cbor_diag::diagnostic;

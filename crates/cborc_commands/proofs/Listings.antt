@@ -15,7 +15,8 @@ use Rattle.cbor_grammar.proofs.OneVerdict.{one_verdict}
 use Rattle.cbor_judging.specs.Readers.{IsRead}
 use Rattle.cbor_standing.proofs.Form.{no-complaint}
 use Rattle.cbor_reader.specs.Sequence.{IsAccepted}
-use Rattle.cborc_commands.specs.Events.{IsFrontNotListed, IsNotListed}
+use Rattle.cborc_commands.specs.Events.{IsNotListed}
+use Rattle.cborc_commands.specs.inner.Listed.{IsFrontNotListed}
 use Rattle.cborc_commands.specs.EventsSequence.{gap, item_lines, before_all, within}
 use Rattle.cborc_commands.specs.Fault.{IsOfInput}
 use Rattle.cborc_commands.specs.declared.fault.Fault.{Fault}

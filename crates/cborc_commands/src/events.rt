@@ -2,7 +2,8 @@
 
 ghost use Rattle.std.specs.Prelude.{◌≡◌, ◌≤◌, ◌<◌, ◌^◌, false, length, OnOk, IfOk, IfErr};
 ghost use Rattle.cbor_diag.specs.Listing.{IsListed};
-ghost use Rattle.cborc_commands.specs.Events.{IsFrontNotListed, IsNotListed, IsListedOf, IsNotListedOf};
+ghost use Rattle.cborc_commands.specs.Events.{IsNotListed, IsListedOf, IsNotListedOf};
+ghost use Rattle.cborc_commands.specs.inner.Listed.{IsFrontNotListed};
 ghost use Rattle.cborc_commands.specs.inner.Parts.{IsDecided};
 ghost use Rattle.cborc_files.specs.Folder.{KeepsFiles};
 

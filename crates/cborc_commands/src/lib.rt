@@ -7,13 +7,13 @@
 #![tactic(auto)]
 
 mod answer;
-pub mod canon;
-pub mod canon_sequence;
-pub mod check;
-pub mod check_sequence;
-pub mod compare;
-pub mod events;
-pub mod events_sequence;
+mod canon;
+mod canon_sequence;
+mod check;
+mod check_sequence;
+mod compare;
+mod events;
+mod events_sequence;
 mod explanation;
 mod fault;
 mod in_memory;
@@ -21,8 +21,8 @@ mod input;
 mod parts;
 mod request;
 mod sequence;
-pub mod show;
-pub mod show_sequence;
+mod show;
+mod show_sequence;
 mod status;
 
 pub use answer::{end, flushed, perform};

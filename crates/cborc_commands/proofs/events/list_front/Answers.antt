@@ -1,4 +1,4 @@
-use Rattle.cborc_commands.specs.Events.{IsFrontNotListed}
+use Rattle.cborc_commands.specs.inner.Listed.{IsFrontNotListed}
 use Rattle.cborc_commands.proofs.Faults.{refusal_is}
 use Rattle.cborc_commands.proofs.events.list_front.Goals as goal
 
