@@ -8,43 +8,16 @@ builds crates/cborc/out/cborc by `rt run` where no program is given.
 
 import os
 import re
-import resource
 import signal
 import stat
 import subprocess
 import sys
-import tempfile
 
 import completions
+import run_limited
+from running import FOLDER, PROGRAM, ROOT, end, expect, faults, limited, run, short, write
 
-ROOT = os.path.dirname(os.path.dirname(os.path.abspath(__file__)))
 COMMANDS = ["show", "events", "check", "canon", "compare"]
-faults = []
-
-
-def built():
-    folder = os.path.join(ROOT, "crates", "cborc")
-    made = subprocess.run(["rt", "run", "--", "--version"], cwd=folder, capture_output=True)
-    if made.returncode != 0:
-        sys.exit(made.stdout.decode() + made.stderr.decode())
-    return os.path.join(folder, "out", "cborc")
-
-
-def run(words, given=b"", **more):
-    return subprocess.run([PROGRAM, *words], input=given, capture_output=True, cwd=FOLDER, **more)
-
-
-def expect(name, ended, status, out=b"", err=b""):
-    found = (ended.returncode, ended.stdout, ended.stderr)
-    if found != (status, out, err):
-        faults.append(f"{name}: wanted {(status, out, err)}, found {found}")
-
-
-def write(name, data):
-    path = os.path.join(FOLDER, name)
-    with open(path, "wb") as file:
-        file.write(data)
-    return path
 
 
 def holds(name, data, files):
@@ -131,7 +104,7 @@ def files():
         ["canon", "-", "item"],
         b"\x82\x00\x00",
         restore_signals=False,
-        preexec_fn=lambda: resource.setrlimit(resource.RLIMIT_FSIZE, (1, 1)),
+        preexec_fn=short(1),
     )
     expect("no room", ended, 3, b"", b"cannot write item\n")
     holds("item", b"\x80", here)
@@ -155,18 +128,12 @@ def sequences():
     os.remove(item)
 
 
-def limited(kib):
-    """What keeps a run within so much memory."""
-    return lambda: resource.setrlimit(resource.RLIMIT_AS, (kib * 1024, kib * 1024))
-
-
 def parts():
     """Sequences longer than what is held of them, inputs without end, and files longer than memory."""
     item = b"\x58\x49" + bytes(range(73))
     count = 300_000
     path = write("long", item * count)
     few = limited(8 * 1024)
-    expect("a long sequence", run(["check", "--seq", "long"], preexec_fn=few), 0, b"accepted %d items\n" % count)
     with open(path, "rb") as file:
         ended = subprocess.run([PROGRAM, "check", "--seq", "-"], stdin=file, capture_output=True, preexec_fn=few)
     expect("a long stream", ended, 0, b"accepted %d items\n" % count)
@@ -204,7 +171,7 @@ def parts():
     os.truncate(path, 1 << 31)
     for command in (["check"], ["check", "--strict"], ["show"], ["canon", "--quiet"]):
         rest = ["-"] if command[0] == "canon" else []
-        ended = run([*command, "--bytes", "4000000000", "zeros", *rest], preexec_fn=limited(16 * 1024))
+        ended = run([*command, "--bytes", "4000000000", "zeros", *rest], preexec_fn=few)
         told = b"" if "--quiet" in command else b"refused 12 Trailing at 1\n"
         expect(f"{command} of 2 GiB", ended, 1, b"", told)
     os.remove(path)
@@ -214,7 +181,7 @@ def leftovers():
     """What a run leaves that was ended amid its work, and that no such thing hinders a later one."""
     path = write("out", b"\x80")
     before = set(os.listdir(FOLDER))
-    ended = run(["canon", "-", "out"], b"\x82\x00\x00", preexec_fn=lambda: resource.setrlimit(resource.RLIMIT_FSIZE, (1, 1)))
+    ended = run(["canon", "-", "out"], b"\x82\x00\x00", preexec_fn=short(1))
     left = set(os.listdir(FOLDER)) - before
     if ended.returncode != -signal.SIGXFSZ or len(left) != 1:
         faults.append(f"ended by a signal: status {ended.returncode}, left {sorted(left)}")
@@ -224,10 +191,11 @@ def leftovers():
     for number in range(3000):
         write(f"out.{number:016x}.tmp", b"")
         write(f".cborc-{number}.tmp", b"")
+    among = len(os.listdir(FOLDER))
     expect("beside leftovers", run(["canon", "-", "out"], b"\x18\x00"), 0)
     with open(path, "rb") as file:
-        if file.read() != b"\x00":
-            faults.append("beside leftovers OUT was not written")
+        if file.read() != b"\x00" or len(os.listdir(FOLDER)) != among:
+            faults.append("beside leftovers OUT was not written, or there is one more")
     longest = "n" * 255
     expect("the longest name", run(["canon", "-", longest], b"\x00"), 0)
     for name in os.listdir(FOLDER):
@@ -319,13 +287,8 @@ def pages():
                 faults.append(f"share/{name}: {shell} cannot read it")
 
 
-PROGRAM = os.path.abspath(sys.argv[1]) if len(sys.argv) > 1 else built()
-with tempfile.TemporaryDirectory() as FOLDER:
-    for part in (words, streams, outputs_that_fail, files, sequences, parts, leftovers, links, explained, causes, pages):
-        part()
+for part in (words, streams, outputs_that_fail, files, sequences, parts, leftovers, links, explained, causes, pages):
+    part()
+run_limited.test()
 faults += completions.faults()
-for fault in faults:
-    print("program:", fault)
-if faults:
-    sys.exit(1)
-print("program: as its words say")
+end("program")
