@@ -10,6 +10,8 @@ import os
 import shutil
 import subprocess
 import sys
+from collections import namedtuple
+from time import perf_counter
 
 TURNS = 5
 # A run of this many seconds is not repeated.
@@ -53,6 +55,8 @@ COUNTED = {
     "check --strict of canonical": (["check", "--strict"], "bytewise"),
     "check --strict --seq of members": (["check", "--strict", "--seq"], "sequence"),
 }
+# How a run ended, the seconds that it took, and its peak of resident memory in bytes, where that is known.
+Ran = namedtuple("Ran", "status processor wall peak", defaults=[None])
 faults = []
 
 
@@ -91,12 +95,24 @@ def tell_instructions(cborc, folder):
         print(f"| {TITLES[name]} | {' | '.join(cells)} |", flush=True)
 
 
-def run(words, folder):
-    """Returns the status and the processor time in seconds."""
-    file = lambda number, name: (os.POSIX_SPAWN_OPEN, number, f"{folder}/{name}", os.O_WRONLY | os.O_CREAT | os.O_TRUNC, 0o600)
-    child = os.posix_spawn(words[0], words, {}, file_actions=[file(1, "stdout"), file(2, "stderr")])
+def run(words, folder, out="stdout"):
+    """Runs the words, with what they say in files of the folder."""
+    flags = os.O_WRONLY | os.O_CREAT | os.O_TRUNC
+    file = lambda number, name: (os.POSIX_SPAWN_OPEN, number, os.path.join(folder, name), flags, 0o600)
+    began = perf_counter()
+    child = os.posix_spawn(words[0], words, {}, file_actions=[file(1, out), file(2, "stderr")])
     _, status, used = os.wait4(child, 0)
-    return os.waitstatus_to_exitcode(status), used.ru_utime + used.ru_stime
+    wall = perf_counter() - began
+    return Ran(os.waitstatus_to_exitcode(status), used.ru_utime + used.ru_stime, wall)
+
+
+def run_measured(words, folder, out="stdout"):
+    """The same with the peak of memory, where GNU's time is to be had, whose own millisecond is counted too."""
+    tool = shutil.which("time")
+    if not tool:
+        return run(words, folder, out)
+    ran = run([tool, "-q", "-o", f"{folder}/peak", "-f", "%M", *words], folder, out)
+    return ran._replace(peak=1024 * int(contents(f"{folder}/peak")))
 
 
 def least_time(cborc, folder, name, command):
@@ -104,15 +120,15 @@ def least_time(cborc, folder, name, command):
     words, wanted = words_of(cborc, folder, name, command), COMMANDS[command][2]
     least = None
     for _ in range(TURNS):
-        status, time = run(words, folder)
-        if status == 2:
+        ran = run(words, folder)
+        if ran.status == 2:
             return "not there"
-        if status:
+        if ran.status:
             with open(f"{folder}/stderr", errors="replace") as said:
-                faults.append(f"{command} of {name}: status {status}, {said.read().strip()}")
-            return f"status {status}"
-        least = time if least is None else min(least, time)
-        if time > LONG:
+                faults.append(f"{command} of {name}: status {ran.status}, {said.read().strip()}")
+            return f"status {ran.status}"
+        least = ran.processor if least is None else min(least, ran.processor)
+        if ran.processor > LONG:
             break
     if wanted and contents(f"{folder}/out") != contents(f"{folder}/{name}.{wanted}"):
         faults.append(f"{command} of {name}: other bytes than the canonical ones")
@@ -122,16 +138,6 @@ def least_time(cborc, folder, name, command):
 def contents(path):
     with open(path, "rb") as file:
         return file.read()
-
-
-def peak_memory(words):
-    """Returns the peak of resident memory in bytes, or None where GNU's time is not to be had."""
-    time = shutil.which("time")
-    if not time:
-        return None
-    ran = subprocess.run([time, "-f", "%M", *words], capture_output=True, text=True)
-    last = ran.stderr.strip().split("\n")[-1]
-    return 1024 * int(last) if last.isdigit() else None
 
 
 def speed(time, size):
@@ -165,7 +171,7 @@ def tell(cborc, folder):
             times[name, command] = least_time(cborc, folder, name, command)
         cells = [title, f"{size_of(folder, name, 'canon'):,}", milliseconds(times[name, "canon"])]
         cells += [speed(times[name, it], size_of(folder, name, it)) for it in COMMANDS]
-        cells += [mebibytes(peak_memory(words_of(cborc, folder, name, it))) for it in MEASURED]
+        cells += [mebibytes(run_measured(words_of(cborc, folder, name, it), folder).peak) for it in MEASURED]
         print(f"| {' | '.join(cells)} |", flush=True)
     return times
 
@@ -184,13 +190,18 @@ def tell_bounds(times, folder):
         print(f"\nThe slowest of the inputs of at most 1 MiB, within 1,000 ms: `{command}` of {TITLES[name]}, {time} ms.")
 
 
+def end():
+    """Tells what was answered that was not due, and the status to end with."""
+    for fault in faults:
+        print(f"fault: {fault}", file=sys.stderr)
+    return 1 if faults else 0
+
+
 def main():
     cborc, folder = os.path.abspath(sys.argv[1]), sys.argv[2]
     tell_bounds(tell(cborc, folder), folder)
     tell_instructions(cborc, folder)
-    for fault in faults:
-        print(f"fault: {fault}", file=sys.stderr)
-    return 1 if faults else 0
+    return end()
 
 
 if __name__ == "__main__":

@@ -4,7 +4,8 @@
 #   bench/run.sh [items] [program] [library] [strict]      all four without a word
 #
 # items    proves and runs items.rattle, a program over cbor_item, on trees made from a seed
-# program  proves cborc, makes files from a seed (inputs.py), and runs it on them (program.py)
+# program  proves cborc, makes files from a seed (inputs.py), and runs it on them (program.py); then on a sequence of
+#          300 MB and on files of 1 GiB, and beside /bin/true (streams.py), some minutes
 # library  builds the library for C, and times its calls in process beside plain C (library.c, floor.c)
 #          and libcbor, where Debian's libcbor-dev is installed
 # strict   proves and runs strict.rattle, a program over cbor_strict, and counts the instructions of
@@ -36,6 +37,7 @@ program() {
     mkdir "$room/inputs"
     python3 "$root/bench/inputs.py" "$room/inputs"
     python3 "$root/bench/program.py" out/cborc "$room/inputs"
+    python3 "$root/bench/streams.py" out/cborc "$room/inputs"
 }
 
 library() {

@@ -1,5 +1,5 @@
 #!/usr/bin/env python3
-"""Runs the built program where memory ends, its life or the disk, and looks at what it says then and what it leaves.
+"""Runs the built program where memory ends or the disk, or it is killed: what it says then, and what it leaves.
 
     scripts/run_limited.py [PROGRAM]
 
@@ -188,12 +188,13 @@ def kills(place):
     if not kill_at(["check", "in"], place.folder, 0):
         print("limited: no run is to be stopped here")
         return
-    items = b"\x18\x00\x81\x18\x01"
+    # Three byte strings, whose heads are not the shortest.
+    items, canonical = ((head + bytes(5_000)) * 3 for head in (b"\x5a\x00\x00\x13\x88", b"\x59\x13\x88"))
     rows = [
         ("a file", ["canon", "in", "out"], "out", b"\x18\x00", BEFORE, b"\x00"),
         ("a new file", ["canon", "in", "out"], "out", b"\x18\x00", None, b"\x00"),
         ("IN is OUT", ["canon", "in", "in"], "in", b"\x18\x00", b"\x18\x00", b"\x00"),
-        ("a sequence", ["canon", "--seq", "in", "out"], "out", items, BEFORE, b"\x00\x81\x01"),
+        ("a sequence", ["canon", "--seq", "in", "out"], "out", items, BEFORE, canonical),
     ]
     for title, words, out, given, before, after in rows:
         seen = set()

@@ -1,0 +1,121 @@
+"""Times one process, a long sequence of small items and files of 1 GiB, and prints Markdown.
+
+    python3 streams.py CBORC FOLDER
+
+The folder has what inputs.py writes. What else is read is written there: 300 MB of claims sets, with keys out of order
+and once more as their canonical bytes, and files of 1 GiB that take next to no room on the disk. Ends with status 1
+where a run answers anything else than is due.
+"""
+
+import filecmp
+import os
+import random
+import sys
+
+import program
+from inputs import SEED, Map, encode, shuffled
+from program import faults, mebibytes, run, run_measured
+
+# Of one process: the least of so many runs.
+STARTS = 300
+# Claims sets of so many bytes, so many unlike ones, and how often these stand behind one another.
+SIZE = 75
+UNLIKE = 10_000
+TIMES = 400
+GIB = 1 << 30
+
+
+def measure(name, words, folder, wanted, to="stdout"):
+    """The quickest of some runs, each held against what is due: a status and what is said."""
+    runs = []
+    while len(runs) < program.TURNS and all(it.processor <= program.LONG for it in runs):
+        runs.append(run_measured(words, folder, to))
+        found = (runs[-1].status, program.contents(os.path.join(folder, to)), program.contents(f"{folder}/stderr"))
+        if found != wanted:
+            faults.append(f"{name}: wanted {wanted}, found {found}")
+    return min(runs, key=lambda it: it.processor)
+
+
+def tell_start(cborc, folder):
+    with open(f"{folder}/zero", "wb") as file:
+        file.write(b"\x00")
+    print(f"\n| one process, least of {STARTS} | processor time, ms | wall time, ms |\n| --- | ---: | ---: |")
+    for title, words in (("`cborc check` of the integer 0", [cborc, "check", f"{folder}/zero"]), ("`/bin/true`", ["/bin/true"])):
+        runs = [run(words, folder) for _ in range(STARTS)]
+        for ran in runs:
+            if ran.status:
+                faults.append(f"{title}: status {ran.status}")
+        print(f"| {title} | {1000 * min(it.processor for it in runs):.2f} | {1000 * min(it.wall for it in runs):.2f} |", flush=True)
+
+
+def claims(chance):
+    """The claims of a token (RFC 8392)."""
+    issued = chance.randrange(1 << 30, 1 << 31)
+    subject = "".join(chance.choices("abcdefghijklmnopqrstuvwxyz", k=6))
+    words = {1: "coap://as.example.com", 2: subject, 3: "coaps://example.com"}
+    return Map({**words, 4: issued + 86_400, 5: issued, 6: issued, 7: chance.randbytes(2)}.items())
+
+
+def write_claims(folder):
+    chance = random.Random(SEED)
+    sets = [shuffled(chance, claims(chance)) for _ in range(UNLIKE)]
+    for ending, order in (("cbor", None), ("bytewise", "bytewise")):
+        block = b"".join(encode(it, order) for it in sets)
+        assert len(block) == SIZE * UNLIKE
+        with open(f"{folder}/claims.{ending}", "wb") as file:
+            file.writelines(block for _ in range(TIMES))
+
+
+def tell_sequences(cborc, folder):
+    write_claims(folder)
+    count = UNLIKE * TIMES
+    accepted = b"accepted %d items\n" % count
+    ordered, unordered = f"{folder}/claims.bytewise", f"{folder}/claims.cbor"
+    rows = [
+        ("`check --seq`, in order", ["check", "--seq", ordered], accepted, "stdout"),
+        ("`check --seq`, out of order", ["check", "--seq", unordered], accepted, "stdout"),
+        ("`check --strict --seq`, in order", ["check", "--strict", "--seq", ordered], accepted, "stdout"),
+        ("`canon --seq`, out of order, to a file", ["canon", "--seq", unordered, f"{folder}/out"], b"", "stdout"),
+        ("`show --seq`, in order, to `/dev/null`", ["show", "--seq", ordered], b"", "/dev/null"),
+    ]
+    title = f"{SIZE * count // 1_000_000} MB, {count:,} claims sets of {SIZE} bytes each, keys in order or not"
+    print(f"\n| {title} | MB/s | peak memory, MiB |\n| --- | ---: | ---: |")
+    for name, words, out, to in rows:
+        ran = measure(name, [cborc, *words], folder, (0, out, b""), to)
+        print(f"| {name} | {program.speed(ran.processor, SIZE * count)} | {mebibytes(ran.peak)} |", flush=True)
+    beside = program.speed(program.least_time(cborc, folder, "records", "check"), os.path.getsize(f"{folder}/records.cbor"))
+    print(f"\nThe goal is 100 MB/s for `check --seq`, within 8 MiB, where `check` makes 90 of records; it makes {beside} here.")
+    if not filecmp.cmp(f"{folder}/out", ordered, shallow=False):
+        faults.append("canon --seq: other bytes than the canonical ones")
+    for name in (ordered, unordered, f"{folder}/out"):
+        os.remove(name)
+
+
+def tell_long(cborc, folder):
+    string = b"\x5a" + GIB.to_bytes(4, "big")
+    within = ["--bytes", "4000000000"]
+    rows = [
+        ("zeros: `check --bytes 4000000000`", ["check", *within], b"", 1, b"", b"refused 12 Trailing at 1\n"),
+        ("one byte string: `check --bytes 4000000000`", ["check", *within], string, 0, b"accepted %d bytes\n" % (GIB + 5), b""),
+        ("zeros: `check --seq`", ["check", "--seq"], b"", 0, b"accepted %d items\n" % GIB, b""),
+    ]
+    print("\n| a file of 1 GiB | answer | processor time, s | wall time, s | peak memory, MiB |\n| --- | --- | ---: | ---: | ---: |")
+    for name, words, head, status, out, err in rows:
+        with open(f"{folder}/long", "wb") as file:
+            file.write(head)
+            file.truncate(len(head) + GIB)
+        ran = measure(name, [cborc, *words, f"{folder}/long"], folder, (status, out, err))
+        answer = (out or err).decode().strip()
+        print(f"| {name} | `{answer}` | {ran.processor:.3f} | {ran.wall:.3f} | {mebibytes(ran.peak)} |", flush=True)
+    os.remove(f"{folder}/long")
+
+
+def main():
+    cborc, folder = os.path.abspath(sys.argv[1]), sys.argv[2]
+    for tell in (tell_start, tell_sequences, tell_long):
+        tell(cborc, folder)
+    return program.end()
+
+
+if __name__ == "__main__":
+    sys.exit(main())
