@@ -1,8 +1,10 @@
 //! Explanations of refusals.
 
-use crate::{
-    Step, advice, explain, meaning, way_to, write_sentences, write_surroundings, write_way,
-};
+use crate::sentences::{advice, meaning};
+use crate::surroundings::write_surroundings;
+use crate::way::{Step, way_to};
+use crate::way_text::write_way;
+use crate::{explain, write_sentences};
 use cbor_head::{Limits, Reason, Refusal};
 use std::io;
 
