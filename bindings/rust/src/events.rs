@@ -70,16 +70,18 @@ impl Machine {
     /// Takes bytes from the front of a part until an event is complete, or none is left: how many,
     /// and what is told. Once the item is complete, or refused, it takes none and answers the same.
     pub fn step<'a>(&mut self, part: &'a [u8]) -> (usize, Step<'a>) {
-        let (mut used, mut event) = (0, raw::Event::default());
+        let (mut used, mut told_events, mut event) = (0, 0, raw::Event::default());
         let mut refusal = raw::Refusal::default();
         // SAFETY: as of the calls; the machine is one, since none but the library writes it.
         let status = unsafe {
-            raw::naltvigo_machine_step_raw(
+            raw::naltvigo_machine_take_raw(
                 &mut self.0,
                 part.as_ptr(),
                 part.len(),
                 &mut used,
                 &mut event,
+                1,
+                &mut told_events,
                 &mut refusal,
             )
         };
