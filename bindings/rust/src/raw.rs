@@ -11,7 +11,7 @@ pub const MORE: u32 = 8;
 pub const DEPTH_MAX: usize = 256;
 
 #[repr(C)]
-#[derive(Default)]
+#[derive(Clone, Copy, Debug, Default)]
 pub struct Refusal {
     pub reason: u32,
     pub place: u64,
@@ -19,7 +19,7 @@ pub struct Refusal {
 }
 
 #[repr(C)]
-#[derive(Default)]
+#[derive(Clone, Copy, Debug, Default)]
 pub struct Event {
     pub place: u64,
     pub number: u64,
