@@ -8,7 +8,9 @@ ghost use Rattle.naltvigo.specs.Streaming.{IsToldEvent, Starts, Streams, TellsOn
 ghost use Rattle.naltvigo.specs.Streaming.{kind_number, number_of, width_number};
 
 use crate::settings::limits_of;
-use crate::status::{BAD_LIMITS, BAD_MACHINE, EVENT, MORE, NaltvigoRefusal, OK, REFUSED, told as of_refusal};
+use crate::status::{
+    BAD_LIMITS, BAD_MACHINE, EVENT, MORE, NaltvigoRefusal, OK, REFUSED, told as of_refusal,
+};
 use cbor_automaton::{Event, EventKind};
 use cbor_head::Width;
 use cbor_machine::{Machine, Out, SavedMachine};
@@ -96,12 +98,21 @@ pub extern "C" fn naltvigo_machine_take_raw(
 }
 
 // What came of a part.
+#[derive(Clone, Copy)]
 struct Taken {
     status: u32,
     // How many bytes of it were used.
     used: usize,
     // How many events were told.
     told: usize,
+}
+
+impl Taken {
+    fn new(status: u32, used: usize, told: usize) -> Taken
+        ensures { result ≡ record { status = status; used = used; told = told } }
+    {
+        Taken { status, used, told }
+    }
 }
 
 // The same of a machine that is restored.
@@ -126,26 +137,20 @@ fn take_events(
     'events: while told < events.len() {
         let step = machine.step(&input[used..]);
         used += step.used;
-        let status = match step.out {
+        match step.out {
             Out::Event(next) => {
                 events[told] = event_of(next);
                 told += 1;
-                continue;
             }
-            Out::More => MORE,
-            Out::Done => OK,
+            Out::More => return Taken::new(MORE, used, told),
+            Out::Done => return Taken::new(OK, used, told),
             Out::Refused(why) => {
                 *refusal = of_refusal(why);
-                REFUSED
+                return Taken::new(REFUSED, used, told);
             }
-        };
-        return Taken { status, used, told };
+        }
     }
-    Taken {
-        status: EVENT,
-        used,
-        told,
-    }
+    Taken::new(EVENT, used, told)
 }
 
 // The event as C has it.
