@@ -63,6 +63,22 @@ static int compare(void) {
     uint32_t side;
     return naltvigo_compare(in.at, in.length, canonical.at, canonical.length, LIMITS(256, NALTVIGO_BYTES_MAX), &side, &why) == NALTVIGO_OK;
 }
+/* All events of the input, in parts of so many bytes with room for so many events a call. */
+static int events_by(size_t part, size_t room) {
+    static struct naltvigo_machine machine;
+    static struct naltvigo_event events[64];
+    size_t used, told, at = 0;
+    uint32_t s;
+    naltvigo_machine_start(LIMITS(256, NALTVIGO_BYTES_MAX), &machine);
+    do {
+        size_t offered = in.length - at < part ? in.length - at : part;
+        s = naltvigo_machine_take(&machine, in.at + at, offered, &used, events, room, &told, &why);
+        at += used;
+    } while (s == NALTVIGO_EVENT || (s == NALTVIGO_MORE && at < in.length));
+    return s == NALTVIGO_OK && at == in.length;
+}
+static int events_64(void) { return events_by(4096, 64); }
+static int events_1(void) { return events_by(4096, 1); }
 #ifdef HAS_LIBCBOR
 static int load(int again) {
     struct cbor_load_result result;
@@ -145,11 +161,11 @@ static void tell_small(void) {
 }
 
 int main(int count, char **words) {
-    printf("| input | bytes | `canonicalise` | plain C | `check_canonical` | plain C | `check_valid` | `compare` |");
+    printf("| input | bytes | `canonicalise` | plain C | `check_canonical` | plain C | `check_valid` | `compare` | `machine_take`, 64 events | 1 event |");
 #ifdef HAS_LIBCBOR
     printf(" libcbor, load | load and serialise |");
 #endif
-    printf("\n| --- | ---: | ---: | ---: | ---: | ---: | ---: | ---: |");
+    printf("\n| --- | ---: | ---: | ---: | ---: | ---: | ---: | ---: | ---: | ---: |");
 #ifdef HAS_LIBCBOR
     printf(" ---: | ---: |");
 #endif
@@ -167,6 +183,8 @@ int main(int count, char **words) {
         tell(plain_check_canonical, canonical.length);
         tell(check_valid, in.length);
         tell(compare, in.length);
+        tell(events_64, in.length);
+        tell(events_1, in.length);
 #ifdef HAS_LIBCBOR
         tell(libcbor_load, in.length);
         tell(libcbor_again, in.length);

@@ -65,6 +65,49 @@ static void feed(const struct events_row *row, const uint8_t *in, size_t n, size
           "the same again", row->given);
 }
 
+/* The same events, so many a call. */
+static void take(const struct events_row *row, const uint8_t *in, size_t n, size_t part, size_t room) {
+    struct naltvigo_machine machine;
+    struct naltvigo_event told[64];
+    struct naltvigo_refusal why = {77, 78, 79};
+    size_t count = 0, at = 0;
+    uint32_t status;
+    check(naltvigo_machine_start(LIMITS(row->depth, row->bytes), &machine) == NALTVIGO_OK, "start", row->given);
+    do {
+        struct naltvigo_event events[65];
+        size_t offered = n - at < part ? n - at : part, used = 999, many = 999;
+        for (size_t i = 0; i < 65; i++) events[i] = unset;
+        status = naltvigo_machine_take(&machine, in + at, offered, &used, events, room, &many, &why);
+        check(used <= offered && many <= room, "used and told", row->given);
+        check(status != NALTVIGO_MORE || used == offered, "the whole part", row->given);
+        check(status != NALTVIGO_EVENT || many == room, "a full array", row->given);
+        for (size_t i = many; i < 65; i++) check(are_equal(events[i], unset), "not told", row->given);
+        at += used;
+        for (size_t i = 0; i < many && i < 65; i++)
+            if (events[i].kind == NALTVIGO_PIECE && count && told[count - 1].kind == NALTVIGO_PIECE)
+                told[count - 1].number += events[i].number;
+            else if (count < 64)
+                told[count++] = events[i];
+    } while (status == NALTVIGO_EVENT || (status == NALTVIGO_MORE && at < n));
+    check(status == row->status && machine.taken == at, "status", row->given);
+    check(count == row->count, "count of events", row->given);
+    for (size_t i = 0; i < count && i < row->count; i++) check(are_equal(told[i], row->events[i]), "event", row->given);
+    if (status == NALTVIGO_REFUSED)
+        check(why.reason == row->refusal.reason && why.place == row->refusal.place && why.read == row->refusal.read,
+              "refusal", row->given);
+}
+
+/* Without room for an event nothing is used. */
+static void without_room(void) {
+    struct naltvigo_machine machine;
+    struct naltvigo_refusal why;
+    size_t used = 999, told = 999;
+    naltvigo_machine_start(LIMITS(2, 8), &machine);
+    check(naltvigo_machine_take(&machine, (const uint8_t *)"", 1, &used, NULL, 0, &told, &why) == NALTVIGO_EVENT
+              && used == 0 && told == 0 && machine.taken == 0,
+          "no room", "00");
+}
+
 /* Numbers that hold no machine are refused, and stay. */
 static void refuses_other_numbers(void) {
     struct naltvigo_machine machine, broken;
@@ -110,7 +153,10 @@ int main(void) {
         }
         for (size_t part = 1; part < 4; part++) feed(row, in, n, part);
         feed(row, in, n, n + 1);
+        for (size_t room = 1; room < 4; room++) take(row, in, n, room + 1, room);
+        take(row, in, n, n + 1, 64);
     }
+    without_room();
     refuses_other_numbers();
     printf("%d checks of a machine, %d fail\n", checks, faults);
     return faults != 0;

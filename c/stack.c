@@ -9,7 +9,7 @@
 
 enum { STACK = 4 << 20, PAINT = 0xa5, CALLS = 6 };
 
-static const char *const names[CALLS] = {"canonicalise", "check_canonical", "check_valid", "compare", "diagnostic", "machine_step"};
+static const char *const names[CALLS] = {"canonicalise", "check_canonical", "check_valid", "compare", "diagnostic", "machine_take"};
 static uint8_t in[16384], out[65536];
 static size_t length;
 static uint32_t depth;
@@ -18,11 +18,11 @@ static int call;
 /* All events of the item; the machine lies elsewhere. */
 static void events(void) {
     static struct naltvigo_machine machine;
-    struct naltvigo_event event;
+    static struct naltvigo_event room[4];
     struct naltvigo_refusal why;
-    size_t used, at = 0;
+    size_t used, told, at = 0;
     naltvigo_machine_start(LIMITS(depth, 1 << 20), &machine);
-    while (naltvigo_machine_step(&machine, in + at, length - at, &used, &event, &why) == NALTVIGO_EVENT) at += used;
+    while (naltvigo_machine_take(&machine, in + at, length - at, &used, room, 4, &told, &why) == NALTVIGO_EVENT) at += used;
 }
 
 static void *work(void *unused) {

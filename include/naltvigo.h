@@ -22,7 +22,8 @@
  *    with the three numbers stands as it was under its name with `_raw` behind it, so a caller of 1.0
  *    compiles with that rename; but `_raw` takes no null pointer, and diagnostic text as uint8_t.
  *  - naltvigo_reason_name writes a zero byte behind the name, and NALTVIGO_NAME_MAX counts it.
- *  - New: naltvigo_next_valid, naltvigo_next_canonical, naltvigo_status_name, naltvigo_version.
+ *  - New: naltvigo_next_valid, naltvigo_next_canonical, naltvigo_machine_take (many events a call, on which
+ *    naltvigo_machine_step stands now), naltvigo_status_name, naltvigo_version.
  *
  * What a caller owes
  *  - `in` has `in_length` readable bytes, `out` has `out_length` writable ones, each at most PTRDIFF_MAX.
@@ -152,8 +153,8 @@ struct naltvigo_refusal {
 
 /* A machine that takes one item in parts of any length, and tells its events. It is the caller's, of 4.1 KiB;
  * it holds no pointer, so it may be copied, moved and stored. The fields may be read, and are written by the
- * two calls alone: naltvigo_machine_step of other numbers answers NALTVIGO_BAD_MACHINE, or what some machine
- * within its limits would, safely, but of no item. */
+ * calls of a machine alone: naltvigo_machine_take of other numbers answers NALTVIGO_BAD_MACHINE, or what some
+ * machine within its limits would, safely, but of no item. */
 struct naltvigo_frame {
     uint64_t left; /* how many members, or pairs, follow the one that is due */
     uint8_t kind;  /* an array, an array of indefinite length, a map, a map with a value due, the last two of
@@ -179,14 +180,14 @@ struct naltvigo_machine {
 /* The kinds of an event: the major type, 0 to 7, and these. */
 enum {
     NALTVIGO_CHUNK = 8, /* the head of a chunk of a string of indefinite length */
-    NALTVIGO_PIECE = 9, /* some bytes of a payload: the last of those that the step used */
+    NALTVIGO_PIECE = 9, /* some bytes of a payload: those at the event's place */
     NALTVIGO_BREAK = 10 /* the break, which ends what has indefinite length */
 };
 
 /* The width of what has no argument: an indefinite length, or a break. */
 enum { NALTVIGO_NO_ARGUMENT = 255 };
 
-/* An event. It is written where the status is EVENT, and left as it was elsewhere. */
+/* An event. One that is not told is left as it was. */
 struct naltvigo_event {
     uint64_t place;  /* the offset of its first byte, from the item's first byte */
     uint64_t number; /* the argument, the count, or how many bytes a piece has; 0 where there is none */
@@ -218,9 +219,9 @@ uint32_t naltvigo_next_canonical_raw(const uint8_t *in, size_t in_length, uint32
 uint32_t naltvigo_version_raw(void);
 size_t naltvigo_reason_name_raw(uint32_t reason, uint8_t *out, size_t out_length);
 uint32_t naltvigo_machine_start_raw(uint32_t depth, uint64_t bytes, struct naltvigo_machine *machine);
-uint32_t naltvigo_machine_step_raw(struct naltvigo_machine *machine, const uint8_t *in, size_t in_length,
-                                   size_t *used, struct naltvigo_event *event,
-                                   struct naltvigo_refusal *refusal);
+uint32_t naltvigo_machine_take_raw(struct naltvigo_machine *machine, const uint8_t *in, size_t in_length,
+                                   size_t *used, struct naltvigo_event *events, size_t events_length,
+                                   size_t *told, struct naltvigo_refusal *refusal);
 
 /*
  * naltvigo_canonicalise: the canonical bytes of an item.
@@ -363,22 +364,37 @@ static inline uint32_t naltvigo_machine_start(const struct naltvigo_options *opt
 }
 
 /*
- * naltvigo_machine_step: takes bytes from the front of a part of an item.
+ * naltvigo_machine_take: takes bytes from the front of a part of an item, and tells their events.
  *
- * EVENT where an event is complete, MORE where the whole part was used and none is, OK once the item is
- * complete and all its events were told, REFUSED where the input is no well-formed item within the limits
- * (reasons 2 to 9; places count from the item's first byte). `*used` says how many bytes of the part were
- * taken; give the rest, and then what comes next, to the next call. A payload comes in pieces as its bytes
- * do. After OK or REFUSED a step uses nothing and answers the same. An item that ends too early is seen by
- * the caller: its bytes end, and the status is MORE. UTF-8 and repeated keys are not checked.
+ * EVENT where `events` is full, MORE where the whole part was used, OK once the item is complete and all its
+ * events were told, REFUSED where the input is no well-formed item within the limits (reasons 2 to 9; places
+ * count from the item's first byte). `*used` says how many bytes of the part were taken: give the rest, and
+ * then what comes next, to the next call; `*told` says how many events were written to the front of `events`,
+ * whatever the status. A payload comes in pieces as its bytes do. After OK or REFUSED a call uses nothing and
+ * answers the same. An item that ends too early is seen by the caller: its bytes end, and the status is MORE.
+ * UTF-8 and repeated keys are not checked. A call copies the machine twice, so many events a call are cheaper
+ * than one.
  *
  * Answers OK, EVENT, MORE, REFUSED, BAD_MACHINE. It takes no memory.
+ */
+static inline uint32_t naltvigo_machine_take(struct naltvigo_machine *machine, const uint8_t *in,
+                                             size_t in_length, size_t *used, struct naltvigo_event *events,
+                                             size_t events_length, size_t *told,
+                                             struct naltvigo_refusal *refusal) {
+    const uint8_t none = 0;
+    struct naltvigo_event no_event;
+    return naltvigo_machine_take_raw(machine, in_length ? in : &none, in_length, used,
+                                     events_length ? events : &no_event, events_length, told, refusal);
+}
+
+/*
+ * naltvigo_machine_step: the same up to one event: EVENT where `*event` is told.
  */
 static inline uint32_t naltvigo_machine_step(struct naltvigo_machine *machine, const uint8_t *in,
                                              size_t in_length, size_t *used, struct naltvigo_event *event,
                                              struct naltvigo_refusal *refusal) {
-    const uint8_t none = 0;
-    return naltvigo_machine_step_raw(machine, in_length ? in : &none, in_length, used, event, refusal);
+    size_t told;
+    return naltvigo_machine_take(machine, in, in_length, used, event, 1, &told, refusal);
 }
 
 /* What the longest name of a reason needs, the zero byte at its end included. */

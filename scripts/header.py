@@ -24,7 +24,7 @@ TYPES = {
     "&mut usize": ["size_t *"],
     "&mut u64": ["uint64_t *"],
     "&mut NaltvigoRefusal": ["struct naltvigo_refusal *"],
-    "&mut NaltvigoEvent": ["struct naltvigo_event *"],
+    "&mut [NaltvigoEvent]": ["struct naltvigo_event *", "size_t"],
     "&mut SavedMachine": ["struct naltvigo_machine *"],
     "u8": ["uint8_t"],
     "u16": ["uint16_t"],

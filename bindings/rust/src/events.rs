@@ -70,31 +70,55 @@ impl Machine {
     /// Takes bytes from the front of a part until an event is complete, or none is left: how many,
     /// and what is told. Once the item is complete, or refused, it takes none and answers the same.
     pub fn step<'a>(&mut self, part: &'a [u8]) -> (usize, Step<'a>) {
-        let (mut used, mut event) = (0, raw::Event::default());
+        let begins = self.taken();
+        let mut room = [raw::Event::default()];
+        let taken = self.take(part, &mut room);
+        let told = match taken.status {
+            EVENT => Step::Event(event_of(&room[0], part, begins)),
+            MORE => Step::More,
+            OK => Step::Done,
+            _ => Step::Refused(Refused::of(taken.refusal)),
+        };
+        (taken.used, told)
+    }
+
+    // Takes bytes from the front of a part until there is no room for an event, or none is left.
+    fn take(&mut self, part: &[u8], room: &mut [raw::Event]) -> Taken {
+        let (mut used, mut told) = (0, 0);
         let mut refusal = raw::Refusal::default();
         // SAFETY: as of the calls; the machine is one, since none but the library writes it.
         let status = unsafe {
-            raw::naltvigo_machine_step_raw(
+            raw::naltvigo_machine_take_raw(
                 &mut self.0,
                 part.as_ptr(),
                 part.len(),
                 &mut used,
-                &mut event,
+                room.as_mut_ptr(),
+                room.len(),
+                &mut told,
                 &mut refusal,
             )
         };
-        let told = match status {
-            EVENT => Step::Event(told(&event, &part[..used])),
-            MORE => Step::More,
-            OK => Step::Done,
-            _ => Step::Refused(Refused::of(refusal)),
-        };
-        (used, told)
+        Taken {
+            status,
+            used,
+            told,
+            refusal,
+        }
     }
 }
 
-// The event as Rust has it, of which these were the last bytes.
-fn told<'a>(event: &raw::Event, used: &'a [u8]) -> Event<'a> {
+// What came of a part: how many bytes of it were used, and how many events told.
+#[derive(Clone, Debug)]
+struct Taken {
+    status: u32,
+    used: usize,
+    told: usize,
+    refusal: raw::Refusal,
+}
+
+// The event as Rust has it, of a part that begins there in the item.
+fn event_of<'a>(event: &raw::Event, part: &'a [u8], begins: u64) -> Event<'a> {
     let width = u8::try_from(event.width).ok().filter(|&width| width < 255);
     let number = event.number;
     let length = width.map(|_| number);
@@ -108,7 +132,7 @@ fn told<'a>(event: &raw::Event, used: &'a [u8]) -> Event<'a> {
         6 => Kind::Tag(number),
         7 => Kind::Simple(number as u8),
         8 => Kind::Chunk(number),
-        9 => Kind::Piece(&used[used.len() - number as usize..]),
+        9 => Kind::Piece(&part[(event.place - begins) as usize..][..number as usize]),
         _ => Kind::Break,
     };
     Event {
@@ -135,17 +159,49 @@ fn told<'a>(event: &raw::Event, used: &'a [u8]) -> Event<'a> {
 #[derive(Clone, Debug)]
 pub struct Events<'a> {
     machine: Machine,
-    left: &'a [u8],
+    input: &'a [u8],
+    used: usize,
+    room: [raw::Event; MANY],
+    // How many of those in the room were given.
+    given: usize,
+    last: Taken,
     ended: bool,
 }
+
+// How many events a call of the library tells at most.
+const MANY: usize = 64;
 
 impl<'a> Events<'a> {
     /// The events of this slice; of the options it takes the limits.
     pub fn new(input: &'a [u8], options: &Options) -> Events<'a> {
         Events {
             machine: Machine::new(options),
-            left: input,
+            input,
+            used: 0,
+            room: [raw::Event::default(); MANY],
+            given: 0,
+            last: Taken {
+                status: EVENT,
+                used: 0,
+                told: 0,
+                refusal: raw::Refusal::default(),
+            },
             ended: false,
+        }
+    }
+
+    // What comes behind the last event, once.
+    fn end(&mut self) -> Option<Refused> {
+        if core::mem::replace(&mut self.ended, true) {
+            return None;
+        }
+        let taken = self.machine.taken();
+        match self.last.status {
+            // all was offered, so the item is cut off
+            MORE => Some(Refused::at(Reason::Truncated, taken)),
+            OK if self.used == self.input.len() => None,
+            OK => Some(Refused::at(Reason::Trailing, taken)),
+            _ => Some(Refused::of(self.last.refusal)),
         }
     }
 }
@@ -154,20 +210,15 @@ impl<'a> Iterator for Events<'a> {
     type Item = Result<Event<'a>, Refused>;
 
     fn next(&mut self) -> Option<Self::Item> {
-        if self.ended {
-            return None;
+        if self.given == self.last.told && self.last.status == EVENT {
+            self.last = self.machine.take(&self.input[self.used..], &mut self.room);
+            self.used += self.last.used;
+            self.given = 0;
         }
-        let (used, told) = self.machine.step(self.left);
-        self.left = &self.left[used..];
-        let taken = self.machine.taken();
-        self.ended = !matches!(told, Step::Event(_));
-        match told {
-            Step::Event(event) => Some(Ok(event)),
-            Step::Refused(refused) => Some(Err(refused)),
-            // all was offered, so the item is cut off
-            Step::More => Some(Err(Refused::at(Reason::Truncated, taken))),
-            Step::Done if self.left.is_empty() => None,
-            Step::Done => Some(Err(Refused::at(Reason::Trailing, taken))),
+        if self.given == self.last.told {
+            return self.end().map(Err);
         }
+        self.given += 1;
+        Some(Ok(event_of(&self.room[self.given - 1], self.input, 0)))
     }
 }

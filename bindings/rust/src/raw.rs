@@ -11,7 +11,7 @@ pub const MORE: u32 = 8;
 pub const DEPTH_MAX: usize = 256;
 
 #[repr(C)]
-#[derive(Default)]
+#[derive(Clone, Copy, Debug, Default)]
 pub struct Refusal {
     pub reason: u32,
     pub place: u64,
@@ -19,7 +19,7 @@ pub struct Refusal {
 }
 
 #[repr(C)]
-#[derive(Default)]
+#[derive(Clone, Copy, Debug, Default)]
 pub struct Event {
     pub place: u64,
     pub number: u64,
@@ -134,12 +134,14 @@ extern "C" {
         refusal: *mut Refusal,
     ) -> u32;
     pub fn naltvigo_machine_start_raw(depth: u32, bytes: u64, machine: *mut Machine) -> u32;
-    pub fn naltvigo_machine_step_raw(
+    pub fn naltvigo_machine_take_raw(
         machine: *mut Machine,
         input: *const u8,
         input_length: usize,
         used: *mut usize,
-        event: *mut Event,
+        events: *mut Event,
+        events_length: usize,
+        told: *mut usize,
         refusal: *mut Refusal,
     ) -> u32;
 }

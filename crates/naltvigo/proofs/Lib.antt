@@ -1,3 +1,4 @@
 mod Compared
 mod Given
+mod Told
 mod WholeInputs

@@ -1,5 +1,5 @@
 -- What a machine tells of an item, as C has it.
-use Rattle.std.specs.Prelude.{ℕ, ◌≡◌, List, []}
+use Rattle.std.specs.Prelude.{ℕ, ◌≡◌, ◌⊎◌, ◌++◌, ◌∷◌, List, []}
 use Rattle.cbor_standing.specs.Machine.{StandsFor, KeepsLimits, IsAnswer}
 use Rattle.cbor_standing.specs.MachineView.{MachineView}
 use Rattle.cbor_automaton.specs.Marks.{count_of}
@@ -61,24 +61,48 @@ pub record IsToldEvent (e : Event) (c : NaltvigoEvent) : Type 0 where
   pub kind : c.kind ≡ kind_number e.kind
   pub width : c.width ≡ width_number e.width
 
--- the status: 7 an event, 8 more bytes are due, 0 the item is complete, 1 it is refused
-abbrev pub IsToldOut : Out → ℕ → NaltvigoEvent → NaltvigoRefusal → Type 0
-IsToldOut outs.More status e r = status ≡ 8
-IsToldOut (outs.Event event) status e r = (status ≡ 7) × IsToldEvent event e
-IsToldOut outs.Done status e r = status ≡ 0
-IsToldOut (outs.Refused refusal) status e r = (status ≡ 1) × IsTold refusal r
+-- these events
+abbrev pub AreToldEvents : List Event → List NaltvigoEvent → Type 0
+AreToldEvents [] [] = Unit {0}
+AreToldEvents (e ∷ es) (c ∷ cs) = IsToldEvent e c × AreToldEvents es cs
+AreToldEvents _ _ = ⊥
 
--- A step of the machine that the numbers held, which used bs; the new numbers hold it behind.
-pub record Streams (old new : SavedMachine) (bs : List ℕ) (status : ℕ) (e : NaltvigoEvent) (r : NaltvigoRefusal) : Type 0 where
+-- why no further one is told: 8 more bytes are due, 0 the item is complete, 1 it is refused
+abbrev pub IsToldEnd : Out → ℕ → NaltvigoRefusal → Type 0
+IsToldEnd outs.More status r = status ≡ 8
+IsToldEnd (outs.Event event) status r = ⊥
+IsToldEnd outs.Done status r = status ≡ 0
+IsToldEnd (outs.Refused refusal) status r = (status ≡ 1) × IsTold refusal r
+
+-- what a step answers of the last bytes, for all bytes and marks that the machine stood for before these
+abbrev pub HasAnswered : Out → MachineView → MachineView → List ℕ → Type 0
+HasAnswered out old new last = (t : List ℕ) (ms : List Mark) → StandsFor old t ms → IsAnswer out new t last ms
+
+-- the machine used these bytes, and gave these events, one behind another
+pub data Gives (from : MachineView) : MachineView → List ℕ → List Event → Type 0 where
+  none : Gives from from [] []
+  one_more : (mid to : MachineView) (bs last : List ℕ) (es : List Event) (e : Event) → Gives from mid bs es → HasAnswered (outs.Event e) mid to last
+      → Gives from to (bs ++ last) (es ++ e ∷ [])
+
+-- It used these bytes and gave these events, and then no further one: 7 there is no room for it, or as above.
+pub record TellsOn (old new : MachineView) (bs : List ℕ) (status : ℕ) (events : List NaltvigoEvent) (r : NaltvigoRefusal) : Type 0 where
+  pub limits : KeepsLimits old new ⊎ (new ≡ old)
+  pub given : List Event
+  pub told : AreToldEvents given events
+  pub mid : MachineView
+  pub front : List ℕ
+  pub last : List ℕ
+  pub splits : bs ≡ front ++ last
+  pub gives : Gives old mid front given
+  pub ends : ((status ≡ 7) × (last ≡ []) × (new ≡ mid)) ⊎ ((out : Out) × IsToldEnd out status r × HasAnswered out mid new last)
+
+-- The machine that the numbers held did so; the new numbers hold it behind.
+pub record Streams (old new : SavedMachine) (bs : List ℕ) (status : ℕ) (events : List NaltvigoEvent) (r : NaltvigoRefusal) : Type 0 where
   pub before : MachineView
   pub held : Holds old before
   pub behind : MachineView
   pub holds : Holds new behind
-  pub limits : KeepsLimits before behind
-  pub out : Out
-  pub told : IsToldOut out status e r
-  -- for all bytes and marks that it stood for
-  pub answers : (t : List ℕ) (ms : List Mark) → StandsFor before t ms → IsAnswer out behind t bs ms
+  pub tells : TellsOn before behind bs status events r
 
 -- The numbers hold a machine before an item's first byte, with these limits.
 pub record Starts (s : SavedMachine) (depth bytes : ℕ) : Type 0 where

@@ -32,4 +32,4 @@ pub use diagnosing::naltvigo_diagnostic_raw;
 pub use naming::{naltvigo_reason_name_raw, naltvigo_version_raw};
 pub use sequence::{naltvigo_next_canonical_raw, naltvigo_next_valid_raw};
 pub use status::NaltvigoRefusal;
-pub use streaming::{NaltvigoEvent, naltvigo_machine_start_raw, naltvigo_machine_step_raw};
+pub use streaming::{NaltvigoEvent, naltvigo_machine_start_raw, naltvigo_machine_take_raw};

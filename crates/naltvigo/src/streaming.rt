@@ -1,14 +1,16 @@
 //! The events of an item whose bytes come in parts.
 
-ghost use Rattle.std.specs.Prelude.{◌≡◌, ◌≢◌, ◌⊎◌, ◌≤◌, length, take};
+ghost use Rattle.std.specs.Prelude.{◌≡◌, ◌≢◌, ◌⊎◌, ◌≤◌, drop, length, take};
 ghost use Rattle.cbor_standing.specs.MachineView.{MachineView};
 ghost use Rattle.cbor_machine.specs.Saved.{Holds};
 ghost use Rattle.cbor_head.specs.Limits.{bounds, AreBounds};
-ghost use Rattle.naltvigo.specs.Streaming.{IsToldEvent, IsToldOut, Starts, Streams};
+ghost use Rattle.naltvigo.specs.Streaming.{IsToldEvent, Starts, Streams, TellsOn};
 ghost use Rattle.naltvigo.specs.Streaming.{kind_number, number_of, width_number};
 
 use crate::settings::limits_of;
-use crate::status::{BAD_LIMITS, BAD_MACHINE, EVENT, MORE, NaltvigoRefusal, OK, REFUSED, told};
+use crate::status::{
+    BAD_LIMITS, BAD_MACHINE, EVENT, MORE, NaltvigoRefusal, OK, REFUSED, told as of_refusal,
+};
 use cbor_automaton::{Event, EventKind};
 use cbor_head::Width;
 use cbor_machine::{Machine, Out, SavedMachine};
@@ -58,44 +60,97 @@ pub extern "C" fn naltvigo_machine_start_raw(
     }
 }
 
-/// Takes bytes from the front of `input` until an event is complete, or a byte is refused, or none
-/// is left: `used` says how many. Once the item is complete, or refused, it uses nothing and
-/// answers the same. It takes no memory.
+/// Takes bytes from the front of `input` and tells their events, in the first of `events`, until
+/// these are full, or a byte is refused, or none is left: `used` says how many bytes, and `told` how
+/// many events. Once the item is complete, or refused, it uses nothing and answers the same. It takes
+/// no memory.
 #[unsafe(no_mangle)]
-pub extern "C" fn naltvigo_machine_step_raw(
+pub extern "C" fn naltvigo_machine_take_raw(
     machine: &mut SavedMachine,
     input: &[u8],
     used: &mut usize,
-    event: &mut NaltvigoEvent,
+    events: &mut [NaltvigoEvent],
+    told: &mut usize,
     refusal: &mut NaltvigoRefusal,
 ) -> u32
     ensures used { used.new ≤ length input.now }
+    ensures told { told.new ≤ length events.new }
     ensures streams { result ≢ BAD_MACHINE → Streams machine.old machine.new
-        (take used.new input.now) result event.new refusal.new }
+        (take used.new input.now) result (take told.new events.new) refusal.new }
+    ensures full { result ≡ EVENT → told.new ≡ length events.new }
+    ensures more { result ≡ MORE → used.new ≡ length input.now }
     ensures bad_machine { result ≡ BAD_MACHINE → (m : MachineView) → ¬ Holds machine.old m }
-    ensures kept { result ≡ BAD_MACHINE → machine.new ≡ machine.old }
-    ensures no_event { result ≢ EVENT → event.new ≡ event.old }
-    ensures untold { result ≢ REFUSED → refusal.new ≡ refusal.old }
+    ensures kept { result ≡ BAD_MACHINE → (machine.new ≡ machine.old)
+        × (used.new ≡ 0) × (told.new ≡ 0) }
+    ensures untold { drop told.new events.new ≡ drop told.new events.old }
+    ensures unrefused { result ≢ REFUSED → refusal.new ≡ refusal.old }
 {
-    *used = 0;
     let Some(mut taking) = Machine::restore(machine) else {
+        *used = 0;
+        *told = 0;
         return BAD_MACHINE;
     };
-    let step = taking.step(input);
-    *used = step.used;
+    let taken = take_events(&mut taking, input, events, refusal);
     *machine = taking.save();
-    match step.out {
-        Out::More => MORE,
-        Out::Event(next) => {
-            *event = event_of(next);
-            EVENT
-        }
-        Out::Done => OK,
-        Out::Refused(why) => {
-            *refusal = told(why);
-            REFUSED
+    *used = taken.used;
+    *told = taken.told;
+    taken.status
+}
+
+// What came of a part.
+#[derive(Clone, Copy)]
+struct Taken {
+    status: u32,
+    // How many bytes of it were used.
+    used: usize,
+    // How many events were told.
+    told: usize,
+}
+
+impl Taken {
+    fn new(status: u32, used: usize, told: usize) -> Taken
+        ensures { result ≡ record { status = status; used = used; told = told } }
+    {
+        Taken { status, used, told }
+    }
+}
+
+// The same of a machine that is restored.
+fn take_events(
+    machine: &mut Machine,
+    input: &[u8],
+    events: &mut [NaltvigoEvent],
+    refusal: &mut NaltvigoRefusal,
+) -> Taken
+    ensures used { result.used ≤ length input.now }
+    ensures told { result.told ≤ length events.new }
+    ensures tells { TellsOn machine.old machine.new (take result.used input.now) result.status
+        (take result.told events.new) refusal.new }
+    ensures full { result.status ≡ EVENT → result.told ≡ length events.new }
+    ensures more { result.status ≡ MORE → result.used ≡ length input.now }
+    ensures untold { drop result.told events.new ≡ drop result.told events.old }
+    ensures unrefused { result.status ≢ REFUSED → refusal.new ≡ refusal.old }
+    ensures statuses { result.status ≢ BAD_MACHINE }
+{
+    let mut used = 0;
+    let mut told = 0;
+    'events: while told < events.len() {
+        let step = machine.step(&input[used..]);
+        used += step.used;
+        match step.out {
+            Out::Event(next) => {
+                events[told] = event_of(next);
+                told += 1;
+            }
+            Out::More => return Taken::new(MORE, used, told),
+            Out::Done => return Taken::new(OK, used, told),
+            Out::Refused(why) => {
+                *refusal = of_refusal(why);
+                return Taken::new(REFUSED, used, told);
+            }
         }
     }
+    Taken::new(EVENT, used, told)
 }
 
 // The event as C has it.

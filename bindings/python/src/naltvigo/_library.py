@@ -75,7 +75,7 @@ compare_raw = _export("compare", c_char_p, c_size_t, c_char_p, c_size_t, *_LIMIT
 next_valid_raw = _export("next_valid", c_void_p, c_size_t, *_LIMITS, c_void_p, c_void_p)
 next_canonical_raw = _export("next_canonical", c_void_p, c_size_t, c_uint32, *_LIMITS, c_void_p, c_void_p)
 machine_start_raw = _export("machine_start", *_LIMITS, c_void_p)
-machine_step_raw = _export("machine_step", c_void_p, c_void_p, c_size_t, c_void_p, c_void_p, c_void_p)
+machine_take_raw = _export("machine_take", c_void_p, c_void_p, c_size_t, c_void_p, c_void_p, c_size_t, c_void_p, c_void_p)
 
 
 def version() -> str:

@@ -16,7 +16,7 @@ from ._library import (
     as_bytes,
     is_buffer,
     machine_start_raw,
-    machine_step_raw,
+    machine_take_raw,
     next_canonical_raw,
     next_valid_raw,
     wrong_keys,
@@ -72,23 +72,27 @@ def events(chunks: Union[Buffer, Iterable[Buffer]], *, depth: int = 64, max_byte
     return _events(parts, depth, max_bytes)
 
 
+# How many events a call of the library tells at most.
+_MANY = 64
+
+
 def _events(chunks: Iterable[Buffer], depth: int, max_bytes: int) -> Iterator[Event]:
-    machine, told, used, why = Machine(), Told(), ctypes.c_size_t(), Refusal()
-    written = [ctypes.addressof(it) for it in (used, told, why)]
-    machine_at = ctypes.addressof(machine)
+    machine, room, used, count, why = Machine(), (Told * _MANY)(), ctypes.c_size_t(), ctypes.c_size_t(), Refusal()
+    machine_at, used_at, room_at, count_at, why_at = map(ctypes.addressof, (machine, used, room, count, why))
     machine_start_raw(depth, max_bytes, machine_at)
     status = MORE
     for chunk in _and_nothing(chunks):
         # the address stands as long as the bytes do
         part = as_bytes(chunk)
         first = ctypes.cast(part, ctypes.c_void_p).value or 0
-        at = 0
+        begins, at = machine.taken, 0
         while True:
-            status = machine_step_raw(machine_at, first + at, len(part) - at, *written)
+            status = machine_take_raw(machine_at, first + at, len(part) - at, used_at, room_at, _MANY, count_at, why_at)
             at += used.value
+            for told in room[: count.value]:
+                yield _event(told, part, begins)
             if status != EVENT:
                 break
-            yield _event(told, part, at)
         if status == OK and at < len(part):
             raise Refused(TRAILING, machine.taken, machine.taken)
         if status not in (OK, MORE):
@@ -103,10 +107,12 @@ def _and_nothing(chunks: Iterable[Buffer]) -> Iterator[Buffer]:
     yield b""
 
 
-def _event(told: Told, part: bytes, at: int) -> Event:
+def _event(told: Told, part: bytes, begins: int) -> Event:
+    """The event as Python has it; the part begins there in the item."""
     kind, number, width = KINDS[told.kind], told.number, told.width
     if kind == "piece":
-        return Event(told.place, kind, number, width, part[at - number : at])
+        at = told.place - begins
+        return Event(told.place, kind, number, width, part[at : at + number])
     if width == 255:
         return Event(told.place, kind, None, None, b"")
     return Event(told.place, kind, number, width, b"")

@@ -1,4 +1,4 @@
-use Rattle.std.proofs.Common.{◌≡◌, List, length, take, sym, ap, ◌∙◌}
+use Rattle.std.proofs.Common.{◌≡◌, length, take, sym, ap, ◌∙◌}
 use Rattle.cbor_head.specs.Limits.{Bounds}
 use Rattle.naltvigo.specs.declared.status.TheConstants.{OK}
 use Rattle.naltvigo.proofs.Given.{given-tells, given-item}

@@ -1,5 +1,4 @@
 use Rattle.std.proofs.Common.{arith}
-use Rattle.cbor_head.specs.Complaint.{strict}
 use Rattle.naltvigo.proofs.WholeInputs.{owns, followed, refuses}
 use Rattle.naltvigo.proofs.checking.check_own_bytes.Goals as goal
 

@@ -1,0 +1,67 @@
+-- Events that a machine gives, one behind another.
+use Rattle.std.proofs.Common.{◌≡◌, ◌⊎◌, ◌++◌, ◌∷◌, ◌∙◌, ℕ, List, [], refl, inl, inr, subst, sym}
+use Rattle.std.proofs.lemmas.List.{append-nil}
+use Rattle.cbor_automaton.specs.declared.event.Event.{Event}
+use Rattle.cbor_standing.specs.Machine.{KeepsLimits}
+use Rattle.cbor_standing.specs.MachineView.{MachineView}
+use Rattle.cbor_standing.specs.declared.step.Out.{Out}
+use Rattle.cbor_standing.specs.declared.step.Out.TheVariants as outs
+use Rattle.naltvigo.specs.Streaming.{AreToldEvents, Gives, HasAnswered, IsToldEnd, IsToldEvent, TellsOn, none, one_more}
+use Rattle.naltvigo.specs.declared.status.NaltvigoRefusal.{NaltvigoRefusal}
+use Rattle.naltvigo.specs.declared.streaming.NaltvigoEvent.{NaltvigoEvent}
+
+-- what holds between two steps
+pub record HasGiven (old new : MachineView) (bs : List ℕ) (events : List NaltvigoEvent) : Type 0 where
+  pub limits : KeepsLimits old new ⊎ (new ≡ old)
+  pub given : List Event
+  pub told : AreToldEvents given events
+  pub gives : Gives old new bs given
+
+keeps_on : (old mid new : MachineView) → KeepsLimits old mid ⊎ (mid ≡ old) → KeepsLimits mid new → KeepsLimits old new
+keeps_on old mid new (inl k) h = record { depth = h.depth ∙ k.depth; bytes = h.bytes ∙ k.bytes; open_count = h.open_count; taken = h.taken }
+keeps_on old mid new (inr e) h = subst (λ (m : MachineView). KeepsLimits m new) e h
+
+told_on : (es : List Event) (cs : List NaltvigoEvent) (e : Event) (c : NaltvigoEvent) → AreToldEvents es cs → IsToldEvent e c → AreToldEvents (es ++ e ∷ []) (cs ++ c ∷ [])
+told_on [] [] e c told is = (is, tt)
+told_on [] (y ∷ cs) e c told is = elim told [ ]
+told_on (x ∷ es) [] e c told is = elim told [ ]
+told_on (x ∷ es) (y ∷ cs) e c told is = (told.0, told_on es cs e c told.1 is)
+
+pub nothing_given : (m : MachineView) → HasGiven m m [] []
+nothing_given m = record { limits = inr refl; given = []; told = tt; gives = none }
+
+pub one_given : (old mid new : MachineView) (bs last : List ℕ) (cs : List NaltvigoEvent) (e : Event) (c : NaltvigoEvent) → HasGiven old mid bs cs → KeepsLimits mid new
+    → HasAnswered (outs.Event e) mid new last → IsToldEvent e c → HasGiven old new (bs ++ last) (cs ++ c ∷ [])
+one_given old mid new bs last cs e c so_far keeps answered is = record {
+  limits = inl (keeps_on old mid new so_far.limits keeps);
+  given = so_far.given ++ e ∷ [];
+  told = told_on so_far.given cs e c so_far.told is;
+  gives = one_more mid new bs last so_far.given e so_far.gives answered;
+}
+
+pub no_room : (old new : MachineView) (bs : List ℕ) (cs : List NaltvigoEvent) (r : NaltvigoRefusal) → HasGiven old new bs cs → TellsOn old new bs 7 cs r
+no_room old new bs cs r so_far = record {
+  limits = so_far.limits;
+  given = so_far.given;
+  told = so_far.told;
+  mid = new;
+  front = bs;
+  last = [];
+  splits = sym (append-nil bs);
+  gives = so_far.gives;
+  ends = inl (refl, refl, refl);
+}
+
+pub no_further : (old mid new : MachineView) (bs last : List ℕ) (status : ℕ) (cs : List NaltvigoEvent) (r : NaltvigoRefusal) (out : Out) → HasGiven old mid bs cs
+    → KeepsLimits mid new → IsToldEnd out status r → HasAnswered out mid new last → TellsOn old new (bs ++ last) status cs r
+no_further old mid new bs last status cs r out so_far keeps is answered = record {
+  limits = inl (keeps_on old mid new so_far.limits keeps);
+  given = so_far.given;
+  told = so_far.told;
+  mid = mid;
+  front = bs;
+  last = last;
+  splits = refl;
+  gives = so_far.gives;
+  ends = inr (out, is, answered);
+}

@@ -1,0 +1,15 @@
+use Rattle.std.proofs.Common.{◌≡◌, ◌≤◌, ◌-◌, drop, length, take}
+use Rattle.naltvigo.proofs.Told.{HasGiven}
+use Rattle.naltvigo.proofs.streaming.take_events.Given as goal
+
+abbrev pub invariant-events : goal.invariant-events
+invariant-events l = record {
+  used : l.used ≤ length l.input;
+  told : l.told ≤ length l.events;
+  given : HasGiven l.fn.machine l.machine (take l.used l.input) (take l.told l.events);
+  untold : drop l.told l.events ≡ drop l.told l.fn.events;
+  unrefused : l.refusal ≡ l.fn.refusal;
+}
+
+abbrev pub decreases-events : goal.decreases-events
+decreases-events l = length l.events - l.told
