@@ -5,13 +5,13 @@
 
 A library between the program and the C library (counting.c), built here by `cc`, lists the requests and refuses
 one of them. Wanted is of `cborc`, whichever is refused: `out of memory` and status 3, with no more on standard
-output than the first bytes of what usually stands there, and OUT as it was; or all as usual; on some documents by
-each command, and on the rows of the conformance table as `canon`, `check` and `compare` judge them. Of the calls
-over readers, on the rows: one call answers Memory, at a place before the end of its usual answer, with as many
-bytes taken as it tells, and every other call answers as usual; the strict reader answers Memory again, and reads
-nothing behind it. And that a head asks for no memory by itself: behind a head of 2^64 - 1, 2^32 or 2^20 bytes,
-members or pairs, with nothing or little there, no more is asked for than behind a zero, but for a constant and so
-much a byte that came. Ends with status 1 where anything else happens.
+output than the first bytes of what usually stands there, OUT as it was and no file beside it; or all as usual; on
+some documents by each command, and on the rows of the conformance table as `canon`, `check` and `compare` judge
+them. Of the calls over readers, on the rows: one call answers Memory, at a place before the end of its usual
+answer, with as many bytes taken as it tells, and every other call answers as usual; the strict reader answers
+Memory again, and reads nothing behind it. And that a head asks for no memory by itself: behind a head of 2^64 - 1,
+2^32 or 2^20 bytes, members or pairs, with nothing or little there, no more is asked for than behind a zero, but
+for a constant and so much a byte that came. Ends with status 1 where anything else happens.
 
 An input is left out where one before it makes the same requests by the same command: of the same kinds and sizes, and
 from the same calls, as far as the stack tells. What all inputs of a command begin with, as its words are read, is
@@ -48,6 +48,7 @@ DOCUMENTS = {
 COMMANDS = [
     ["canon", "FILE", "OUT"],
     ["canon", "--order", "length", "FILE", "OUT"],
+    ["canon", "--seq", "FILE", "OUT"],
     ["check", "FILE"],
     ["check", "--strict", "FILE"],
     ["check", "--seq", "FILE"],
@@ -96,7 +97,7 @@ class Program:
             return file.read()
 
     def run(self, case, refused=0):
-        """What a run answers (status, outputs, the file OUT), its requests and their bytes."""
+        """What a run answers (status, outputs, the file OUT, None where another is left), its requests and their bytes."""
         self.put("FILE", case.file)
         self.put("HEX", case.file.hex().encode())
         self.put("OUT", BEFORE)
@@ -105,7 +106,8 @@ class Program:
         words = [self.program, *case.words]
         ran = subprocess.run(words, cwd=self.folder, env=env, input=case.given, capture_output=True)
         size, *asked = self.get("counts").split()
-        return (ran.returncode, ran.stdout, ran.stderr, self.get("OUT")), asked, int(size)
+        is_alone = set(os.listdir(self.folder)) == {"FILE", "HEX", "OUT", "counts"}
+        return (ran.returncode, ran.stdout, ran.stderr, self.get("OUT") if is_alone else None), asked, int(size)
 
 
 def of_all(work, programs, cases):

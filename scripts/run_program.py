@@ -68,10 +68,14 @@ def streams():
 def outputs_that_fail():
     line = b"cannot write standard output\n"
     with open("/dev/full", "wb") as full:
-        for command in (["check", "-"], ["canon", "-", "-"]):
+        for command in (["check", "-"], ["canon", "-", "-"], ["canon", "--seq", "-", "-"]):
             ended = subprocess.run([PROGRAM, *command], input=b"\x00", stdout=full, stderr=subprocess.PIPE)
             expect(f"{command} to a full device", ended, 3, None, line)
-    expect("OUT is a full device", run(["canon", "-", "/dev/full"], b"\x00"), 3, b"", b"cannot write /dev/full\n")
+    told = b"cannot write /dev/full\n"
+    expect("OUT is a full device", run(["canon", "-", "/dev/full"], b"\x00"), 3, b"", told)
+    for count in (1, 100_000):
+        expect("OUT is a full device", run(["canon", "--seq", "-", "/dev/full"], b"\x00" * count), 3, b"", told)
+    expect("why: a full device", run(["canon", "--seq", "--explain", "-", "/dev/full"], b"\x00"), 3, b"", told + b"  The disk is full.\n")
     reading, writing = os.pipe()
     os.close(reading)
     ended = subprocess.run([PROGRAM, "check", "-"], input=b"\x00", stdout=writing, stderr=subprocess.PIPE)
@@ -120,11 +124,37 @@ def sequences():
     listed = b"0 unsigned 0 0\n\n1 array 1 0\n2 unsigned 1 0\n"
     expect("a sequence listed", run(["events", "--seq", "-"], b"\x00\x81\x01"), 0, listed)
     expect("a sequence listed in part", run(["events", "--seq", "-"], b"\x00\x81\x01\x18"), 1, listed + b"\n", refused)
+    expect("a sequence canonised in part", run(["canon", "--seq", "-", "-"], b"\x18\x00\x81\x01\x18"), 1, b"\x00\x81\x01", refused)
     item = write("sequence", b"\x00\x81\x01\x18")
+    here = os.listdir(FOLDER)
     expect("a sequence refused", run(["canon", "--seq", "sequence", "sequence"]), 1, b"", refused)
-    with open(item, "rb") as file:
-        if file.read() != b"\x00\x81\x01\x18":
-            faults.append("a sequence that is refused was changed")
+    holds("sequence", b"\x00\x81\x01\x18", here)
+    write("sequence", b"\x18\x00\x9f\xff")
+    expect("a sequence in its own place", run(["canon", "--seq", "sequence", "sequence"]), 0)
+    holds("sequence", b"\x00\x80", here)
+    expect("no item", run(["canon", "--seq", "-", "sequence"]), 0)
+    holds("sequence", b"", here)
+    told = b"cannot read absent\n  There is no such file or folder.\n"
+    expect("no sequence", run(["canon", "--seq", "--explain", "absent", "sequence"]), 3, b"", told)
+    told = b"cannot write absent/out\n  A new file beside it was not to be made. There is no such file or folder.\n"
+    expect("no folder for a sequence", run(["canon", "--seq", "--explain", "-", "absent/out"], b"\x00"), 3, b"", told)
+    holds("sequence", b"", here)
+    # Behind 100,000 items: one that is refused, and no room.
+    write("sequence", b"\x00" * 100_000 + b"\xff")
+    write("kept", b"\x80")
+    here.append("kept")
+    refused = b"item 100001 refused 7 StrayBreak at 0\n"
+    expect("a long sequence refused", run(["canon", "--seq", "sequence", "kept"]), 1, b"", refused)
+    holds("kept", b"\x80", here)
+    ended = run(
+        ["canon", "--seq", "--explain", "sequence", "kept"],
+        restore_signals=False,
+        preexec_fn=lambda: resource.setrlimit(resource.RLIMIT_FSIZE, (50_000, 50_000)),
+    )
+    if (ended.returncode, ended.stdout) != (3, b"") or not ended.stderr.startswith(b"cannot write kept\n"):
+        faults.append(f"no room for a sequence: found {(ended.returncode, ended.stdout, ended.stderr)}")
+    holds("kept", b"\x80", here)
+    os.remove(os.path.join(FOLDER, "kept"))
     os.remove(item)
 
 
@@ -140,8 +170,16 @@ def parts():
     with subprocess.Popen(["cat", path], stdout=subprocess.PIPE) as pipe:
         ended = subprocess.run([PROGRAM, "check", "--seq", "-"], stdin=pipe.stdout, capture_output=True, preexec_fn=few)
     expect("a long sequence from a pipe", ended, 0, b"accepted %d items\n" % count)
+    expect("a long sequence to a file", run(["canon", "--seq", "long", "copy"], preexec_fn=few), 0)
+    with open(os.path.join(FOLDER, "copy"), "rb") as file:
+        if file.read() != item * count:
+            faults.append("a long sequence is another in its copy")
+    os.remove(os.path.join(FOLDER, "copy"))
     with open(path, "ab") as file:
         file.write(b"\x00\x18")
+    ended = run(["canon", "--seq", "long", "-"], preexec_fn=few)
+    if (ended.returncode, ended.stdout) != (1, item * count + b"\x00"):
+        faults.append(f"canon of a long sequence: status {ended.returncode}, {len(ended.stdout)} bytes")
     refused = b"item %d refused 1 Truncated at 1\n" % (count + 2)
     for command in ("show", "events", "check"):
         ended = run([command, "--seq", "long"], preexec_fn=few)

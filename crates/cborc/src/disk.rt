@@ -1,14 +1,13 @@
 //! The machine's files.
 
 ghost use Rattle.std.specs.Prelude.{◌≡◌, ◌≢◌, IfErr, OnOk};
-ghost use Rattle.std.specs.IoError.{error_kind};
 ghost use Rattle.cborc.specs.Disk.{HasPushed, IsAppended, IsNoText};
 
-use crate::replacement::replace;
+use crate::replacement::Replacement;
 use cborc_files::{Cause, Digits, DigitsFault, FileFault, Folder, is_stream};
-use std::alloc::Global;
+use std::alloc::{AllocError, Global};
 use std::fs;
-use std::io::{self, ErrorKind, Input, Read};
+use std::io::{self, BufWriter, ErrorKind, Input, Read, Write};
 use std::random::RandomSource;
 use std::rt::Files;
 
@@ -59,14 +58,15 @@ impl<'a, R: Files + Input + RandomSource + AllocGlobal> Disk<'a, R> {
         }
     }
 
-    fn fault_of(&mut self, error: &io::Error, beside: bool) -> FileFault {
-        let kind = error.kind();
-        self.cause = Some(Cause { kind, beside });
-        fault_of(error)
+    fn fault_of(&mut self, cause: Cause) -> FileFault {
+        self.cause = Some(cause);
+        fault_of(cause.kind)
     }
 }
 
 impl<'a, R: Files + Input + RandomSource + AllocGlobal> Folder for Disk<'a, R> {
+    type Draft = BufWriter<Replacement<'a, R>>;
+
     fn read(&mut self, alloc: Global, path: &str) -> Result<Vec<u8>, FileFault> {
         let mut bytes = Vec::new(alloc);
         self.read_on(alloc, path, 0, u64::MAX, &mut bytes)?;
@@ -85,7 +85,7 @@ impl<'a, R: Files + Input + RandomSource + AllocGlobal> Folder for Disk<'a, R> {
         let most = most.min(LONGEST.saturating_sub(from));
         match self.append_next(path, from == 0, most, bytes) {
             Ok(()) => Ok(()),
-            Err(error) => Err(self.fault_of(&error, false)),
+            Err(error) => Err(self.fault_of(Cause::from(error))),
         }
     }
 
@@ -100,20 +100,43 @@ impl<'a, R: Files + Input + RandomSource + AllocGlobal> Folder for Disk<'a, R> {
             Ok(()) => digits.finish(),
             Err(TextFault::Digits(fault)) => Err(fault),
             Err(TextFault::Reading(error)) => {
-                Err(DigitsFault::File(self.fault_of(&error, false)))
+                Err(DigitsFault::File(self.fault_of(Cause::from(error))))
             }
+        }
+    }
+
+    fn begin(&mut self, path: &str) -> Result<BufWriter<Replacement<'a, R>>, AllocError> {
+        let replacement = Replacement::new(self.rt, path)?;
+        match BufWriter::new(self.rt.alloc(), replacement) {
+            Ok(draft) => Ok(draft),
+            Err(_) => Err(AllocError),
+        }
+    }
+
+    fn replace(
+        &mut self,
+        _path: &str,
+        mut draft: BufWriter<Replacement<'a, R>>,
+    ) -> Result<(), FileFault> {
+        // The end tells whether a write failed, this one too.
+        let _ = draft.flush();
+        let (replacement, _) = draft.into_parts();
+        match replacement.finish() {
+            Ok(()) => Ok(()),
+            Err(cause) => Err(self.fault_of(cause)),
+        }
+    }
+
+    fn abandon(&mut self, draft: BufWriter<Replacement<'a, R>>) -> FileFault {
+        let (replacement, _) = draft.into_parts();
+        match replacement.abandon() {
+            Some(cause) => self.fault_of(cause),
+            None => FileFault::Failed,
         }
     }
 
     fn cause(&self) -> Option<Cause> {
         self.cause
-    }
-
-    fn write(&mut self, path: &str, bytes: &[u8]) -> Result<(), FileFault> {
-        match replace(self.rt, path, bytes) {
-            Ok(()) => Ok(()),
-            Err(failure) => Err(self.fault_of(&failure.error, failure.beside)),
-        }
     }
 }
 
@@ -173,11 +196,11 @@ pub fn append_from<S: Read>(source: &mut S, most: u64, bytes: &mut Vec<u8>) -> i
     Ok(())
 }
 
-fn fault_of(error: &io::Error) -> FileFault
-    ensures memory { error_kind error.now ≡ ErrorKind.OutOfMemory → result ≡ FileFault.Memory }
-    ensures failed { error_kind error.now ≢ ErrorKind.OutOfMemory → result ≡ FileFault.Failed }
+fn fault_of(kind: ErrorKind) -> FileFault
+    ensures memory { kind ≡ ErrorKind.OutOfMemory → result ≡ FileFault.Memory }
+    ensures failed { kind ≢ ErrorKind.OutOfMemory → result ≡ FileFault.Failed }
 {
-    if error.kind() == ErrorKind::OutOfMemory {
+    if kind == ErrorKind::OutOfMemory {
         FileFault::Memory
     } else {
         FileFault::Failed

@@ -1,54 +1,200 @@
 //! A file replaced whole: by a new one beside it, which takes its name.
 
-use std::alloc::Global;
-use std::fs::{self, Metadata, OpenFile, OpenOptions};
+use cborc_files::Cause;
+use std::alloc::{AllocError, Global};
+use std::fs::{self, Metadata, OpenFile, OpenOptions, Permissions};
 use std::io::{self, ErrorKind, Write};
 use std::os::unix::fs::{MetadataExt, OpenOptionsExt};
 use std::path::PathBuf;
 use std::random::RandomSource;
 use std::rt::Files;
 
-/// Why a file was not replaced.
+/// The bytes that are to take the place of a file, as they come: a new file beside it takes them, which
+/// is made with the first. What is no regular file, as a device or a pipe, takes them itself.
+///
+/// A link stays one: what it leads to is replaced, or made.
 #[derive(Drop)]
-pub struct Failure {
-    pub error: io::Error,
-    /// Whether the new file beside it was not to be made.
-    pub beside: bool,
+pub struct Replacement<'a, R: Files + RandomSource + AllocGlobal> {
+    rt: &'a R,
+    path: String,
+    taker: Option<Taker<R::File>>,
+    // Why a write failed.
+    cause: Option<Cause>,
 }
 
-impl From<io::Error> for Failure {
-    fn from(error: io::Error) -> Failure {
-        Failure {
-            error,
-            beside: false,
+impl<'a, R: Files + RandomSource + AllocGlobal> Replacement<'a, R> {
+    /// No bytes yet.
+    pub fn new(rt: &'a R, path: &str) -> Result<Replacement<'a, R>, AllocError> {
+        Ok(Replacement {
+            rt,
+            path: String::from_str(rt.alloc(), path)?,
+            taker: None,
+            cause: None,
+        })
+    }
+
+    fn take(&mut self, bytes: &[u8]) -> Result<(), Cause> {
+        let mut taker = match self.taker.take() {
+            Some(taker) => taker,
+            None => taker_at(self.rt, self.path.as_str())?,
+        };
+        let done = taker.file.write_all(bytes);
+        self.taker = Some(taker);
+        done?;
+        Ok(())
+    }
+
+    /// Puts all bytes in the place of the file, or leaves it as it was: also where a write failed.
+    pub fn finish(mut self) -> Result<(), Cause> {
+        // Where there are none, an empty file is made.
+        let _ = self.write(b"");
+        if let Some(cause) = self.cause {
+            let _ = self.abandon();
+            return Err(cause);
+        }
+        let Replacement {
+            rt,
+            path: _,
+            taker,
+            cause: _,
+        } = self;
+        match taker {
+            Some(taker) => taker.finish(rt),
+            None => Ok(()),
+        }
+    }
+
+    /// Leaves the file as it was and no new one, and tells why a write failed, if one did.
+    pub fn abandon(self) -> Option<Cause> {
+        let Replacement {
+            rt,
+            path: _,
+            taker,
+            cause,
+        } = self;
+        if let Some(taker) = taker {
+            taker.remove(rt);
+        }
+        cause
+    }
+}
+
+impl<'a, R: Files + RandomSource + AllocGlobal> Write for Replacement<'a, R> {
+    fn write(&mut self, bytes: &[u8]) -> io::Result<usize> {
+        match self.take(bytes) {
+            Ok(()) => Ok(bytes.len()),
+            Err(cause) => {
+                self.cause = Some(cause);
+                Err(io::Error::from(cause.kind))
+            }
+        }
+    }
+
+    fn flush(&mut self) -> io::Result<()> {
+        Ok(())
+    }
+}
+
+// What takes the bytes.
+#[derive(Drop)]
+struct Taker<W> {
+    file: W,
+    // What it is to become, if it is a new file.
+    place: Option<Place>,
+}
+
+// The place that a new file is to take.
+#[derive(Drop)]
+struct Place {
+    // Where the new file is until then.
+    beside: String,
+    path: PathBuf,
+    // Those of the file that it replaces, if there is one.
+    permissions: Option<Permissions>,
+}
+
+impl<W: OpenFile + Drop> Taker<W> {
+    // Lets a new file take its place, once it is all on the disk; a failure leaves none.
+    fn finish<R: Files>(self, rt: &R) -> Result<(), Cause> {
+        let Taker { file, place } = self;
+        let Some(place) = place else {
+            return Ok(());
+        };
+        let Place {
+            beside,
+            path,
+            permissions,
+        } = place;
+        let done = match settle(file, permissions) {
+            Ok(()) => fs::rename(rt, beside.as_str(), path.as_str()),
+            Err(error) => Err(error),
+        };
+        if done.is_err() {
+            let _ = fs::remove_file(rt, beside.as_str());
+        }
+        done?;
+        Ok(())
+    }
+
+    // Leaves no new file.
+    fn remove<R: Files>(self, rt: &R) {
+        let Taker { file: _, place } = self;
+        if let Some(place) = place {
+            let _ = fs::remove_file(rt, place.beside.as_str());
         }
     }
 }
 
-/// Replaces a file whole, or leaves it as it was. What is no regular file, as a device or a pipe, is
-/// written in place.
-///
-/// A link stays one: what it leads to is replaced, or made.
-pub fn replace<R: Files + RandomSource + AllocGlobal>(
+// Gives a new file its permissions, and brings it to the disk.
+fn settle<W: OpenFile + Drop>(file: W, permissions: Option<Permissions>) -> io::Result<()> {
+    if let Some(permissions) = permissions {
+        file.set_permissions(permissions)?;
+    }
+    file.sync_all()
+}
+
+// What takes the bytes that are to stand at the path.
+fn taker_at<R: Files + RandomSource + AllocGlobal>(
     rt: &R,
     path: &str,
-    bytes: &[u8],
-) -> Result<(), Failure> {
+) -> Result<Taker<R::File>, Cause> {
     match OpenOptions::new().write(true).open(rt, path) {
-        Ok(mut file) => {
+        Ok(file) => {
             let metadata = file.metadata()?;
             if !metadata.is_file() {
-                file.write_all(bytes)?;
-                return Ok(());
+                return Ok(Taker { file, place: None });
             }
-            let target = fs::canonicalize(rt, path)?;
-            swap_in(rt, target.as_str(), Some(&metadata), bytes)
+            let path = fs::canonicalize(rt, path)?;
+            new_taker(rt, path, Some(&metadata))
         }
         Err(error) if error.kind() == ErrorKind::NotFound => {
-            let target = end_of_links(rt, path)?;
-            swap_in(rt, target.as_str(), None, bytes)
+            let path = end_of_links(rt, path)?;
+            new_taker(rt, path, None)
         }
-        Err(error) => Err(Failure::from(error)),
+        Err(error) => Err(Cause::from(error)),
+    }
+}
+
+// A new file beside the one at this path, whose place it is to take.
+fn new_taker<R: Files + RandomSource + AllocGlobal>(
+    rt: &R,
+    path: PathBuf,
+    replaced: Option<&Metadata>,
+) -> Result<Taker<R::File>, Cause> {
+    match create_beside(rt, path.as_str(), replaced) {
+        Ok((file, beside)) => {
+            let permissions = replaced.map(|metadata| metadata.permissions());
+            let place = Some(Place {
+                beside,
+                path,
+                permissions,
+            });
+            Ok(Taker { file, place })
+        }
+        Err(error) => Err(Cause {
+            kind: error.kind(),
+            beside: true,
+        }),
     }
 }
 
@@ -73,46 +219,6 @@ fn end_of_links<R: Files + AllocGlobal>(rt: &R, path: &str) -> io::Result<PathBu
         end.push(next.as_str())?;
     }
     Err(io::Error::from(ErrorKind::FilesystemLoop))
-}
-
-// Writes a new file beside the path and renames it to the path; a failure leaves no new file.
-fn swap_in<R: Files + RandomSource + AllocGlobal>(
-    rt: &R,
-    path: &str,
-    replaced: Option<&Metadata>,
-    bytes: &[u8],
-) -> Result<(), Failure> {
-    let (file, beside) = match create_beside(rt, path, replaced) {
-        Ok(created) => created,
-        Err(error) => {
-            return Err(Failure {
-                error,
-                beside: true,
-            });
-        }
-    };
-    let done = match fill(file, replaced, bytes) {
-        Ok(()) => fs::rename(rt, beside.as_str(), path),
-        Err(error) => Err(error),
-    };
-    if done.is_err() {
-        let _ = fs::remove_file(rt, beside.as_str());
-    }
-    done?;
-    Ok(())
-}
-
-// Gives a new file the permissions of the one that it replaces, and its bytes, all on the disk.
-fn fill<W: OpenFile + Write + Drop>(
-    mut file: W,
-    replaced: Option<&Metadata>,
-    bytes: &[u8],
-) -> io::Result<()> {
-    if let Some(metadata) = replaced {
-        file.set_permissions(metadata.permissions())?;
-    }
-    file.write_all(bytes)?;
-    file.sync_all()
 }
 
 // How many names are tried for a new file. A second one is hardly ever needed.
@@ -152,7 +258,7 @@ fn create_beside<R: Files + RandomSource + AllocGlobal>(
 const STEM: usize = 255 - ".0123456789abcdef.tmp".len();
 
 // The path with a suffix by this number, in its folder. Of a long name only the front is taken.
-fn name_beside(alloc: Global, path: &str, number: u64) -> Result<String, std::alloc::AllocError> {
+fn name_beside(alloc: Global, path: &str, number: u64) -> Result<String, AllocError> {
     let mut name = String::from_str(alloc, path)?;
     let folder = path.rfind('/').map_or(0, |at| at + 1);
     name.truncate(path.floor_char_boundary(folder.saturating_add(STEM)));

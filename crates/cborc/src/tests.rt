@@ -14,11 +14,12 @@ mod streams;
 use crate::run::run;
 use cborc_files::{Cause, FileFault, Folder};
 use std::alloc::{AllocError, Global};
-use std::io::{ErrorKind, Write};
+use std::io::{self, ErrorKind, Write};
 
 // A folder with two files to read, of which the first is standard input too, and which keeps what is
-// written. The path `locked` is not permitted, `folder` is a folder, `full` wants memory, and any
-// other file is not there. No new file is made in the folders `locked` and `absent`.
+// written. The path `locked` is not permitted, `folder` is a folder, `full` wants memory, `small` has
+// room for two bytes, and any other file is not there. No new file is made in the folders `locked` and
+// `absent`.
 #[derive(Drop)]
 struct Shelf<'a> {
     first: &'a [u8],
@@ -27,7 +28,32 @@ struct Shelf<'a> {
     cause: Option<Cause>,
 }
 
+// The bytes of a file, and for how many more there is room.
+#[derive(Drop)]
+struct Draft {
+    bytes: Vec<u8>,
+    room: usize,
+}
+
+impl Write for Draft {
+    fn write(&mut self, bytes: &[u8]) -> io::Result<usize> {
+        let taken = bytes.len().min(self.room);
+        if taken == 0 {
+            return Err(io::Error::from(ErrorKind::StorageFull));
+        }
+        self.bytes.extend_from_slice(&bytes[..taken])?;
+        self.room -= taken;
+        Ok(taken)
+    }
+
+    fn flush(&mut self) -> io::Result<()> {
+        Ok(())
+    }
+}
+
 impl<'a> Folder for Shelf<'a> {
+    type Draft = Draft;
+
     fn read(&mut self, alloc: Global, path: &str) -> Result<Vec<u8>, FileFault> {
         match path {
             "in" | "a" | "-" => Vec::from_slice(alloc, self.first).map_err(|_| FileFault::Memory),
@@ -37,11 +63,26 @@ impl<'a> Folder for Shelf<'a> {
         }
     }
 
-    fn write(&mut self, path: &str, bytes: &[u8]) -> Result<(), FileFault> {
+    fn begin(&mut self, path: &str) -> Result<Draft, AllocError> {
+        Ok(Draft {
+            bytes: Vec::new(*self.written.allocator()),
+            room: if path == "small" { 2 } else { usize::MAX },
+        })
+    }
+
+    fn replace(&mut self, path: &str, draft: Draft) -> Result<(), FileFault> {
         match path {
             "full" => Err(FileFault::Memory),
             "locked" | "folder" | "locked/out" | "absent/out" => Err(self.fail(path)),
-            _ => self.keep(path, bytes).map_err(|_| FileFault::Memory),
+            _ => self.keep(path, draft.bytes).map_err(|_| FileFault::Memory),
+        }
+    }
+
+    fn abandon(&mut self, draft: Draft) -> FileFault {
+        if draft.room == 0 {
+            self.fail("small")
+        } else {
+            FileFault::Memory
         }
     }
 
@@ -56,6 +97,7 @@ impl<'a> Shelf<'a> {
             "locked" | "locked/out" => Some(ErrorKind::PermissionDenied),
             "folder" => Some(ErrorKind::IsADirectory),
             "odd" => Some(ErrorKind::Other),
+            "small" => Some(ErrorKind::StorageFull),
             "silent" => None,
             _ => Some(ErrorKind::NotFound),
         };
@@ -64,10 +106,9 @@ impl<'a> Shelf<'a> {
         FileFault::Failed
     }
 
-    fn keep(&mut self, path: &str, bytes: &[u8]) -> Result<(), AllocError> {
-        let alloc = *self.written.allocator();
-        let path = String::from_str(alloc, path)?;
-        self.written.push((path, Vec::from_slice(alloc, bytes)?))?;
+    fn keep(&mut self, path: &str, bytes: Vec<u8>) -> Result<(), AllocError> {
+        let path = String::from_str(*self.written.allocator(), path)?;
+        self.written.push((path, bytes))?;
         Ok(())
     }
 }

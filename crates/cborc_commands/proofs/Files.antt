@@ -1,8 +1,10 @@
 -- What stays known of files from call to call.
 use Rattle.std.proofs.Common.{List, [], ◌++◌, ℕ, ◌+◌, ◌≡◌, ◌<◌, ◌⊎◌, inl, inr, drop, Bool, true, false, Option, Some, None, length, arith, ap, ◌∙◌, subst, sym}
+use Rattle.std.specs.Prelude.{IfSome}
+use Rattle.std.specs.Io.KnownBytes.{Appends}
 use Rattle.std.proofs.lemmas.Bool.{cases_lt}
 use Rattle.std.proofs.lemmas.List.{length-take, length-drop, take-append-drop, nil_from_length, take_all}
-use Rattle.cborc_files.specs.Folder.{Files, Holds, KeepsFiles, ReplacesFile}
+use Rattle.cborc_files.specs.Folder.{Files, Holds, IsBlank, KeepsFiles, ReplacesFile}
 use Rattle.cborc_commands.specs.Canon.{IsPut, printed, written}
 use Rattle.cborc_commands.specs.Input.{IsInput, IsNotHex, IsNoInput}
 use Rattle.cborc_commands.specs.declared.request.Options.{Options}
@@ -22,6 +24,17 @@ replaces_kept None b c path bytes h r = tt
 replaces_kept (Some f) None c path bytes h r = absurd h
 replaces_kept (Some f) (Some g) None path bytes h r = absurd r
 replaces_kept (Some f) (Some g) (Some e) path bytes h r = (r.0, λ other apart. r.1 other apart ∙ h other)
+
+-- all that a file took that was begun blank is what stands where it takes the place of another
+taken : (known : Option (List ℕ)) (text : List ℕ) (P : List ℕ → Type 0) → Appends (Some []) known text → IfSome known P → P text
+taken None text P a p = absurd a
+taken (Some bytes) text P a p = subst P a p
+
+pub replaced_by : (a b c : Option Files) (blank known : Option (List ℕ)) (path text : List ℕ) → IsBlank a blank → KeepsFiles a b → Appends blank known text
+    → IfSome known (ReplacesFile b c path) → ReplacesFile a c path text
+replaced_by None b c blank known path text e k w r = tt
+replaced_by (Some f) b c blank known path text e k w r =
+    replaces_kept (Some f) b c path text k (taken known text (ReplacesFile b c path) (subst (λ (x : Option (List ℕ)). Appends x known text) e w) r)
 
 pub put_kept : (path : List ℕ) (a b c : Option Files) (before after : Option (List ℕ)) (text : List ℕ) → KeepsFiles a b → IsPut path b c before after text → IsPut path a c before after text
 put_kept path a b c before after text h (printed s p k) = printed s p (keeps_keeps a b c h k)

@@ -13,6 +13,7 @@ use Rattle.cbor_reader.specs.Sequence.{IsAccepted}
 use Rattle.cborc_commands.specs.CanonSequence.{unread}
 use Rattle.cborc_commands.specs.Fault.{IsOfInput, refusal_fault}
 use Rattle.cborc_commands.specs.declared.fault.Fault.{Fault}
+use Rattle.cborc_commands.specs.declared.request.Form.{Form}
 use Rattle.cborc_commands.specs.inner.Items.{IsUncounted, IsUnwritten, IsItemNotShown}
 use Rattle.cborc_commands.proofs.Decided.{further}
 use Rattle.cborc_commands.proofs.Faults.{refusal_is}
@@ -42,8 +43,9 @@ module _ (b : Bounds) (front behind : List ℕ) (f : Refusal) (known : IsSettled
   pub uncounted : (r : Rules) → IsUnread b r front f → IsUncounted b r (front ++ behind) fault
   uncounted r h = refusal_is (IsUncounted b r (front ++ behind)) f fault is (λ own. (unread_further b r front behind f known own h, own)) tt
 
-  pub uncanonical : (o : KeyOrder) → IsUnread b plain front f → IsUnwritten b o (front ++ behind) fault
-  uncanonical o h = refusal_is (IsUnwritten b o (front ++ behind)) f fault is (λ own. (unread (unread_further b plain front behind f known own h), own)) tt
+  pub uncanonical : (o : KeyOrder) (form : Form) (out : Option (List ℕ)) → IsUnread b plain front f → IsUnwritten b o form (front ++ behind) fault out out
+  uncanonical o form out h =
+      refusal_is (λ (x : Fault). IsUnwritten b o form (front ++ behind) x out out) f fault is (λ own. (unread (unread_further b plain front behind f known own h), own, refl)) refl
 
   pub item_not_shown : (out : Option (List ℕ)) → IsUnread b plain front f → IsItemNotShown b (front ++ behind) fault out out
   item_not_shown out h =

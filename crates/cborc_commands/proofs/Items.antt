@@ -11,8 +11,10 @@ use Rattle.cborc_commands.specs.Fault.{at_item}
 use Rattle.cborc_commands.specs.Sequences.{texts_from, StartsWithEach}
 use Rattle.cborc_commands.specs.declared.fault.Fault.{Fault}
 use Rattle.cborc_commands.specs.declared.request.Options.{Options}
-use Rattle.cborc_commands.specs.inner.Items.{IsWritten, AreWrittenOf, AreStoppedOf, within}
+use Rattle.cborc_commands.specs.inner.Items.{IsWritten, AreWrittenOf, AreWrittenSoFar, AreStoppedOf, no_input, within}
+use Rattle.cborc_commands.specs.Input.{IsNoInput}
 use Rattle.cborc_commands.specs.inner.Parts.{PartsView, IsReadTo, IsNextPart, IsFilled}
+use Rattle.cborc_commands.proofs.ReadParts as parts
 use Rattle.cborc_commands.proofs.ReadParts.{filled, next_part, took, same_files, no_less, longer, due, weight}
 
 -- ---- lists
@@ -84,7 +86,20 @@ module _ (takes : Spelling → Type 0) (text : ℕ → Spelling → List ℕ) (o
   pub none_taken : (p : PartsView) → IsReadTo held source options.hex [] p → AreTaken takes text options source held p before before 0
   none_taken p r = record { items = []; each = tt; read = r; count_is = refl; written = appends_none before }
 
+  pub not_begun : (stops : ℕ → List ℕ → Fault → Option (List ℕ) → Option (List ℕ) → Type 0) (fault : Fault) → IsNoInput held source options.hex fault
+      → AreStoppedOf takes text stops options source held before before fault
+  not_begun stops fault why = no_input why (record { items = []; first = inl refl; written = appends_none before })
+
   module _ (old : PartsView) (middle : Option (List ℕ)) (count : ℕ) (h : AreTaken takes text options source held old before middle count) where
+    -- no more of the input is to be had, and nothing was written since
+    pub not_read_on : (stops : ℕ → List ℕ → Fault → Option (List ℕ) → Option (List ℕ) → Type 0) (now : Option Files) (after : Option (List ℕ)) → after ≡ middle → (fault : Fault)
+        → IsNoInput now source false fault → AreStoppedOf takes text stops options source held before after fault
+    not_read_on stops now after same fault why = no_input (parts.no_input now held source options.hex fault why) (record {
+      items = h.items;
+      first = inr (h.read.input, old.rest ++ h.read.behind, h.read.is, record { each = h.each; bytes = h.read.splits });
+      written = subst (λ (out : Option (List ℕ)). Appends before out (texts_from text 0 h.items)) (sym same) h.written;
+    })
+
     pub count_within : count ≤ old.start
     count_within = omega (arith, h.count_is, items_within h.items, h.read.start_is)
 

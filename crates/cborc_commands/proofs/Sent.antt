@@ -4,9 +4,11 @@ use Rattle.std.specs.Io.KnownBytes.{Appends, Keeps}
 use Rattle.std.proofs.KnownBytes.{Keeps-trans}
 use Rattle.cbor_diag.specs.Listing.{IsListed, IsUnlisted, of_verdict, of_reader, of_writer}
 use Rattle.cbor_head.specs.Limits.{Bounds}
+use Rattle.cbor_head.specs.declared.order.KeyOrder.{KeyOrder}
 use Rattle.cbor_head.specs.declared.reason.Refusal.{Refusal}
 use Rattle.cborc_commands.specs.Answer.{IsDone, IsNotDone}
 use Rattle.cborc_commands.specs.Canon.{IsPut, printed, written}
+use Rattle.cborc_commands.specs.CanonSequence.{IsSent, passed, apart, IsSentSoFar, IsSequenceNotCanonised}
 use Rattle.cborc_commands.specs.Compare.{IsTold}
 use Rattle.cborc_commands.specs.Events.{IsNotListed, IsNotListedOf}
 use Rattle.cborc_commands.specs.EventsSequence.{IsSequenceNotListed}
@@ -15,6 +17,7 @@ use Rattle.cborc_commands.specs.ShowSequence.{IsSequenceNotShown}
 use Rattle.cborc_commands.specs.Told.{IsSilent}
 use Rattle.cborc_commands.specs.declared.request.Layout.{Layout}
 use Rattle.cborc_commands.specs.declared.request.Options.{Options}
+use Rattle.cborc_commands.specs.declared.request.Output.{Output}
 use Rattle.cborc_commands.specs.declared.request.Request.{Request}
 use Rattle.cborc_commands.specs.declared.request.Request.TheVariants.{Check, CheckSequence, Canon, CanonSequence, Compare, Show, ShowSequence, Events, EventsSequence}
 use Rattle.cborc_commands.specs.declared.fault.Fault.{Fault}
@@ -115,6 +118,46 @@ module _ (before mid after : Option (List ℕ)) (keeps : Keeps mid after) where
   lines_sent options source held faults.Memory h = h
   lines_sent options source held _ h = absurd h
 
+  texts_sent : (path text : List ℕ) → IsSent path before mid text → IsSent path before after text
+  texts_sent path text (passed s a) = passed s (appends_kept before mid after text a keeps)
+  texts_sent path text (apart s k) = apart s (Keeps-trans before mid after k keeps)
+
+  so_far_sent : (o : KeyOrder) (options : Options) (source : List ℕ) (output : Output) (held : Option Files) → IsSentSoFar o options source output held before mid
+      → IsSentSoFar o options source output held before after
+  so_far_sent o options source output held w = record { items = w.items; first = w.first; sent = texts_sent output.path.now _ w.sent }
+
+  canonised_sent : (o : KeyOrder) (options : Options) (source : List ℕ) (output : Output) (held : Option Files) (fault : Fault)
+      → IsSequenceNotCanonised o options source output held before mid fault → IsSequenceNotCanonised o options source output held before after fault
+  canonised_sent o options source output held (faults.RefusedItem index start f) h = record {
+    input = h.input;
+    is = h.is;
+    items = h.items;
+    rest = h.rest;
+    goes_on = h.goes_on;
+    refused = h.refused;
+    of_input = h.of_input;
+    sent = texts_sent output.path.now _ h.sent;
+  }
+  canonised_sent o options source output held faults.CannotPrint (s, h) = (
+    s,
+    record {
+      input = h.input;
+      is = h.is;
+      items = h.items;
+      last = h.last;
+      rest = h.rest;
+      starts = h.starts;
+      count = h.count;
+      part = h.part;
+      taken = appends_kept before mid after _ h.taken keeps;
+    },
+  )
+  canonised_sent o options source output held (faults.CannotWrite named) (s, t, k) = (s, t, Keeps-trans before mid after k keeps)
+  canonised_sent o options source output held (faults.CannotRead named) (h, w) = (h, so_far_sent o options source output held w)
+  canonised_sent o options source output held (faults.NotHex named) (h, w) = (h, so_far_sent o options source output held w)
+  canonised_sent o options source output held faults.Memory (h, w) = (h, so_far_sent o options source output held w)
+  canonised_sent o options source output held _ h = absurd h.0
+
   pub done_sent : (request : Request) (old new : Option Files) (s : Status) → IsDone request old new before mid s → IsDone request old new before after s
   done_sent (Check source accepted options) old new statuses.Accepted (h, k) =
       (record { input = h.input; is = h.is; size = h.size; whole = h.whole; told = appends_kept before mid after _ h.told keeps }, k)
@@ -140,7 +183,7 @@ module _ (before mid after : Option (List ℕ)) (keeps : Keeps mid after) where
   not_done_sent (Check source accepted options) held fault h = h
   not_done_sent (CheckSequence source accepted options) held fault h = h
   not_done_sent (Canon source output order options) held fault h = h
-  not_done_sent (CanonSequence source output order options) held fault h = h
+  not_done_sent (CanonSequence source output order options) held fault h = canonised_sent order options source.now output held fault h
   not_done_sent (Show source layout options) held fault h = h
   not_done_sent (ShowSequence source layout options) held fault h = shown_sent layout options source.now held fault h
   not_done_sent (Events source options) held fault h = events_sent options source.now held fault h
@@ -148,6 +191,7 @@ module _ (before mid after : Option (List ℕ)) (keeps : Keeps mid after) where
   not_done_sent (Compare left right options) held fault h = h
 
   pub silent_sent : (request : Request) (fault : Fault) → IsSilent request fault before mid → IsSilent request fault before after
+  silent_sent (CanonSequence source output order options) fault h = λ s. Keeps-trans before mid after (h s) keeps
   silent_sent (Events source options) fault h = tt
   silent_sent (EventsSequence source options) fault h = tt
   silent_sent (ShowSequence source layout options) fault h = tt

@@ -1,61 +1,193 @@
 -- Which fault of a sequence comes of the fault of an item.
-use Rattle.std.proofs.Common.{ℕ, ◌≡◌, ◌≢◌, ◌∙◌, List, [], ◌∷◌, ◌++◌, Option, Some, flat_map, refl, sym, ap, subst}
+use Rattle.std.proofs.Common.{ℕ, ◌≡◌, ◌≢◌, ◌∙◌, inl, inr, true, false, List, [], ◌∷◌, ◌++◌, length, take, Option, flat_map, refl, sym, ap, subst, arith}
+use Rattle.std.specs.Borrow.{Bor}
+use Rattle.std.specs.Prelude.{IfSome}
 use Rattle.std.specs.Io.KnownBytes.{Appends}
+use Rattle.std.proofs.KnownBytes.{Keeps-refl}
+use Rattle.std.proofs.lemmas.List.{length-append}
 use Rattle.cbor_head.specs.Complaint.{form, plain}
+use Rattle.cbor_head.specs.Spelling.{Spelling}
 use Rattle.cbor_head.specs.declared.order.KeyOrder.{KeyOrder}
 use Rattle.cbor_reader.specs.Sequence.{IsAccepted}
-use Rattle.cborc_commands.specs.CanonSequence.{HasCanonicalBytes, canonical_text}
+use Rattle.cborc_commands.specs.Canon.{printed, written}
+use Rattle.cborc_commands.specs.CanonSequence.{HasCanonicalBytes, canonical_text, canonical_texts, IsSequenceCanonised, IsSent, passed, apart, IsSentSoFar, IsCutShort, HasFirstTexts, IsSequenceNotCanonised}
 use Rattle.cborc_commands.specs.EventsSequence.{item_lines, all_lines, IsSequenceNotListed}
 use Rattle.cborc_commands.specs.Fault.{at_item}
-use Rattle.cborc_files.specs.Folder.{Files}
+use Rattle.cborc_files.specs.Folder.{Files, is_stream, IsBlank, KeepsFiles, ReplacesFile}
+use Rattle.cborc_files.specs.declared.folder.FileFault.{FileFault}
+use Rattle.cborc_files.specs.declared.folder.FileFault.TheVariants as file_faults
 use Rattle.cborc_commands.specs.Input.{IsInput, IsNoInput}
-use Rattle.cborc_commands.specs.Sequences.{texts_from}
+use Rattle.cborc_commands.specs.Sequences.{texts_from, AreFirst}
 use Rattle.cborc_commands.specs.ShowSequence.{item_text, IsSequenceShown, IsSequenceNotShown}
 use Rattle.cborc_commands.specs.declared.fault.Fault.{Fault}
 use Rattle.cborc_commands.specs.declared.fault.Fault.TheVariants as faults
-use Rattle.cborc_commands.specs.declared.request.Form.{Form}
 use Rattle.cborc_commands.specs.declared.request.Layout.{Layout}
 use Rattle.cborc_commands.specs.declared.request.Options.{Options}
-use Rattle.cborc_commands.specs.inner.Items.{AreStopped, AreWrittenOf, AreStoppedOf, no_input, within, IsUnwritten, IsTextOf, IsNoTextOf, IsItemNotShown, IsItemNotListed}
+use Rattle.cborc_commands.specs.declared.request.Output.{Output}
+use Rattle.cborc_commands.specs.inner.Items.{AreStopped, AreWrittenOf, AreStoppedOf, no_input, within, IsCutText, IsUnwritten, IsItemNotShown, IsItemNotListed}
+use Rattle.cborc_commands.proofs.Files.{input_before, no_input_before, replaced_by}
 use Rattle.cborc_commands.proofs.Items.{texts_anywhere, appends_more, one_more_starts}
 
 -- ---- `canon --seq`
 
-module _ (o : KeyOrder) (form : Form) (options : Options) (source : List ℕ) (held : Option Files) (before after : Option (List ℕ)) (fault : Fault) where
-  no_text_by : (input : List ℕ) → IsInput held source options.hex input
-      → (h : AreStopped (HasCanonicalBytes options.limits o) (λ start. canonical_text o form) (λ start bytes fault before after. IsUnwritten options.limits o bytes fault) options.limits.bytes input before after fault)
-      → (cause : Fault) → h.cause ≡ cause → fault ≢ faults.CannotPrint → IsNoTextOf o options source held (at_item h.index h.start cause)
-  no_text_by input is h (faults.Refused f) e apart =
-      let why = subst (IsUnwritten options.limits o h.rest) e h.stopped in
-      (input, is, record { items = h.items; rest = h.rest; goes_on = h.goes_on; refused = why.0 }, why.1)
-  no_text_by input is h faults.CannotPrint e apart = absurd (apart (h.fault_is ∙ ap (at_item h.index h.start) e))
-  no_text_by input is h faults.Memory e apart = tt
-  no_text_by input is h _ e apart = absurd (subst (IsUnwritten options.limits o h.rest) e h.stopped)
+-- what a later state of the same files gives, an earlier one did
+module _ (takes : Spelling → Type 0) (text : ℕ → Spelling → List ℕ) (options : Options) (source : List ℕ) (a b : Option Files) (keeps : KeepsFiles a b) (from to : Option (List ℕ)) where
+  pub written_before : (count : ℕ) → AreWrittenOf takes text options source b from to count → AreWrittenOf takes text options source a from to count
+  written_before count w = record { input = w.input; is = input_before a b source options.hex w.input keeps w.is; written = w.written }
 
-  none_written : (x : Fault) → IsNoInput held source options.hex x → IsNoTextOf o options source held x
-  none_written (faults.CannotRead named) h = h
-  none_written (faults.NotHex named) h = h
-  none_written faults.Memory h = h
-  none_written _ h = absurd h
+  first_before : (items : List Spelling) → AreFirst takes options source b items → AreFirst takes options source a items
+  first_before items (inl none) = inl none
+  first_before items (inr (input, rest, is, starts)) = inr (input, rest, input_before a b source options.hex input keeps is, starts)
 
-  pub no_text_of : AreStoppedOf (HasCanonicalBytes options.limits o) (λ start. canonical_text o form) (λ start bytes fault before after. IsUnwritten options.limits o bytes fault)
-      options source held before after fault → fault ≢ faults.CannotPrint → IsNoTextOf o options source held fault
-  no_text_of (no_input h) apart = none_written fault h
-  no_text_of (within input is h) apart = subst (IsNoTextOf o options source held) (sym h.fault_is) (no_text_by input is h h.cause refl apart)
+  pub stopped_before : (stops : ℕ → List ℕ → Fault → Option (List ℕ) → Option (List ℕ) → Type 0) (fault : Fault) → AreStoppedOf takes text stops options source b from to fault
+      → AreStoppedOf takes text stops options source a from to fault
+  stopped_before stops fault (no_input why w) =
+      no_input (no_input_before a b source options.hex fault keeps why) (record { items = w.items; first = first_before w.items w.first; written = w.written })
+  stopped_before stops fault (within input is h) = within input (input_before a b source options.hex input keeps is) h
 
-pub text_of : (o : KeyOrder) (form : Form) (options : Options) (source : List ℕ) (held : Option Files) (none text : List ℕ) (count : ℕ) → none ≡ []
-    → AreWrittenOf (HasCanonicalBytes options.limits o) (λ start. canonical_text o form) options source held (Some none) (Some text) count → IsTextOf o form options source held text
-text_of o form options source held none text count e w = (
-  w.input,
-  w.is,
-  record {
-    items = w.written.items;
-    all = w.written.all;
-    text_is =
-        w.written.written ∙ ap (λ (x : List ℕ). x ++ texts_from (λ start. canonical_text o form) 0 w.written.items) e
-        ∙ texts_anywhere (canonical_text o form) 0 w.written.items;
-  },
-)
+module _ (o : KeyOrder) (options : Options) (source : List ℕ) (output : Output) (held : Option Files) where
+  abbrev Has : Spelling → Type 0
+  Has = HasCanonicalBytes options.limits o
+
+  abbrev text_of : ℕ → Spelling → List ℕ
+  text_of start = canonical_text o output.form
+
+  abbrev Unwritten : ℕ → List ℕ → Fault → Option (List ℕ) → Option (List ℕ) → Type 0
+  Unwritten start = IsUnwritten options.limits o output.form
+
+  module _ (from to : Option (List ℕ)) where
+    took : (middle : Option (List ℕ)) (items : List Spelling) → Appends from middle (texts_from text_of 0 items) → Appends from middle (canonical_texts o output.form items)
+    took middle items w = subst (Appends from middle) (texts_anywhere (canonical_text o output.form) 0 items) w
+
+    -- all was written
+    module _ (count : ℕ) (w : AreWrittenOf Has text_of options source held from to count) where
+      pub all_first : HasFirstTexts o options source held
+      all_first = record { input = w.input; is = w.is; items = w.written.items; rest = []; starts = w.written.all.starts; some = inr w.written.all }
+
+      pub all_printed : (new : Option Files) → is_stream output.path.now ≡ true → KeepsFiles held new → IsSequenceCanonised o options source output held new from to
+      all_printed new s k = record {
+        input = w.input;
+        is = w.is;
+        items = w.written.items;
+        all = w.written.all;
+        put = printed s (took to w.written.items w.written.written) k;
+      }
+
+      pub all_replaced : (mid new : Option Files) → is_stream output.path.now ≡ false → IsBlank held from → KeepsFiles held mid → IfSome to (ReplacesFile mid new output.path.now)
+          → (out : Option (List ℕ)) → IsSequenceCanonised o options source output held new out out
+      all_replaced mid new s blank k r out = record {
+        input = w.input;
+        is = w.is;
+        items = w.written.items;
+        all = w.written.all;
+        put = written s (replaced_by held mid new from to output.path.now (canonical_texts o output.form w.written.items) blank k (took to w.written.items w.written.written) r) (Keeps-refl out);
+      }
+
+    module _ (fault : Fault) (input : List ℕ) (is : IsInput held source options.hex input) (h : AreStopped Has text_of Unwritten options.limits.bytes input from to fault) where
+      why_so : (cause : Fault) → h.cause ≡ cause → Unwritten h.start h.rest cause h.middle to
+      why_so cause e = subst (λ (x : Fault). Unwritten h.start h.rest x h.middle to) e h.stopped
+
+      took_so_far : to ≡ h.middle → Appends from to (canonical_texts o output.form h.items)
+      took_so_far same = subst (λ (x : Option (List ℕ)). Appends from x (canonical_texts o output.form h.items)) (sym same) (took h.middle h.items h.written)
+
+      cut_short : IsCutText options.limits o output.form h.rest h.middle to → IsCutShort o output.form options source held from to
+      cut_short t = record {
+        input = input;
+        is = is;
+        items = h.items;
+        last = t.item;
+        rest = t.rest;
+        starts = (one_more_starts Has input h.items h.rest h.goes_on.starts t.item t.rest t.has t.bytes_are).0;
+        count = t.count;
+        part = t.part;
+        taken =
+            appends_more from h.middle to (canonical_texts o output.form h.items) (take t.count (canonical_text o output.form t.item)) (took h.middle h.items h.written) t.taken;
+      }
+
+      cut_there : (cause : Fault) → h.cause ≡ cause → at_item h.index h.start cause ≡ faults.CannotPrint → IsCutShort o output.form options source held from to
+      cut_there (faults.Refused f) e is = cc is
+      cut_there faults.CannotPrint e is = cut_short (why_so faults.CannotPrint e)
+      cut_there faults.Memory e is = cc is
+      cut_there _ e is = absurd (why_so _ e)
+
+      -- what standard output took, by what was written
+      module _ (before after : Option (List ℕ)) (sends : (text : List ℕ) → Appends from to text → IsSent output.path.now before after text)
+          (cut : fault ≡ faults.CannotPrint → IsSequenceNotCanonised o options source output held before after faults.CannotPrint) where
+        by_cause : (cause : Fault) → h.cause ≡ cause → IsSequenceNotCanonised o options source output held before after (at_item h.index h.start cause)
+        by_cause (faults.Refused f) e =
+            let why = why_so (faults.Refused f) e in
+            record {
+              input = input;
+              is = is;
+              items = h.items;
+              rest = h.rest;
+              goes_on = h.goes_on;
+              refused = why.0;
+              of_input = why.1;
+              sent = sends (canonical_texts o output.form h.items) (took_so_far why.2);
+            }
+        by_cause faults.CannotPrint e = cut (h.fault_is ∙ ap (at_item h.index h.start) e)
+        by_cause faults.Memory e = (
+          tt,
+          record {
+            items = h.items;
+            first = inr (input, h.rest, is, h.goes_on.starts);
+            sent = sends (canonical_texts o output.form h.items) (took_so_far (why_so faults.Memory e));
+          },
+        )
+        by_cause _ e = absurd (why_so _ e)
+
+    module _ (fault : Fault) where
+      cut_of : AreStoppedOf Has text_of Unwritten options source held from to fault → fault ≡ faults.CannotPrint → IsCutShort o output.form options source held from to
+      cut_of (no_input why w) e = absurd (subst (IsNoInput held source options.hex) e why)
+      cut_of (within input is h) e = cut_there fault input is h h.cause refl (sym h.fault_is ∙ e)
+
+      pub first_written : AreStoppedOf Has text_of Unwritten options source held from to fault → fault ≡ faults.CannotPrint → HasFirstTexts o options source held
+      first_written h e =
+          let c = cut_of h e in
+          record {
+            input = c.input;
+            is = c.is;
+            items = c.items ++ c.last ∷ [];
+            rest = c.rest;
+            starts = c.starts;
+            some = inl (omega (arith, length-append c.items (c.last ∷ [])));
+          }
+
+      module _ (before after : Option (List ℕ)) (sends : (text : List ℕ) → Appends from to text → IsSent output.path.now before after text)
+          (cut : fault ≡ faults.CannotPrint → IsSequenceNotCanonised o options source output held before after faults.CannotPrint) where
+        none_more : (x : Fault) → IsNoInput held source options.hex x → IsSentSoFar o options source output held before after → IsSequenceNotCanonised o options source output held before after x
+        none_more (faults.CannotRead named) why w = (why, w)
+        none_more (faults.NotHex named) why w = (why, w)
+        none_more faults.Memory why w = (why, w)
+        none_more _ why w = absurd why
+
+        by_stop : AreStoppedOf Has text_of Unwritten options source held from to fault → IsSequenceNotCanonised o options source output held before after fault
+        by_stop (no_input why w) = none_more fault why (record { items = w.items; first = w.first; sent = sends (canonical_texts o output.form w.items) (took to w.items w.written) })
+        by_stop (within input is h) =
+            subst (IsSequenceNotCanonised o options source output held before after) (sym h.fault_is) (by_cause fault input is h before after sends cut h.cause refl)
+
+      pub not_printed : is_stream output.path.now ≡ true → AreStoppedOf Has text_of Unwritten options source held from to fault
+          → IsSequenceNotCanonised o options source output held from to fault
+      not_printed s h = by_stop from to (λ text a. passed s a) (λ e. (s, cut_of h e)) h
+
+      pub not_replaced : is_stream output.path.now ≡ false → AreStoppedOf Has text_of Unwritten options source held from to fault → fault ≢ faults.CannotPrint
+          → (out : Option (List ℕ)) → IsSequenceNotCanonised o options source output held out out fault
+      not_replaced s h other out = by_stop out out (λ text a. apart s (Keeps-refl out)) (λ e. absurd (other e)) h
+
+  -- the file failed, or memory did
+  module _ (s : is_stream output.path.now ≡ false) (t : HasFirstTexts o options source held) (path : Bor (List ℕ)) (same : path.now ≡ output.path.now) (fault : Fault) (out : Option (List ℕ)) where
+    pub not_written : (cause : FileFault) → (cause ≡ file_faults.Failed → fault ≡ faults.CannotWrite path) → (cause ≡ file_faults.Memory → fault ≡ faults.Memory)
+        → IsSequenceNotCanonised o options source output held out out fault
+    not_written file_faults.Failed failed memory =
+        subst (IsSequenceNotCanonised o options source output held out out) (sym (failed refl)) ((s, same), t, Keeps-refl out)
+    not_written file_faults.Memory failed memory =
+        subst (IsSequenceNotCanonised o options source output held out out) (sym (memory refl))
+        (tt, record { items = t.items; first = inr (t.input, t.rest, t.is, t.starts); sent = apart s (Keeps-refl out) })
+
+  -- memory was refused before anything was read
+  pub none_begun : is_stream output.path.now ≡ false → (out : Option (List ℕ)) → IsSequenceNotCanonised o options source output held out out faults.Memory
+  none_begun s out = (tt, record { items = []; first = inl refl; sent = apart s (Keeps-refl out) })
 
 -- ---- `show --seq`
 
@@ -101,7 +233,7 @@ module _ (layout : Layout) (options : Options) (source : List ℕ) (held : Optio
 
     pub sequence_not_shown : AreStoppedOf (IsAccepted options.limits plain) (λ start. item_text layout) (λ start. IsItemNotShown options.limits) options source held before after fault
         → IsSequenceNotShown layout options source held before after fault
-    sequence_not_shown (no_input h) = none_shown fault h
+    sequence_not_shown (no_input h w) = none_shown fault h
     sequence_not_shown (within input is h) = subst (IsSequenceNotShown layout options source held before after) (sym h.fault_is) (not_shown_by input is h h.cause refl)
 
 -- ---- `events --seq`
@@ -148,5 +280,5 @@ module _ (options : Options) (source : List ℕ) (held : Option Files) (before a
 
   pub sequence_not_listed : AreStoppedOf (IsAccepted options.limits form) item_lines (IsItemNotListed options.limits) options source held before after fault
       → IsSequenceNotListed options source held before after fault
-  sequence_not_listed (no_input h) = none_listed fault h
+  sequence_not_listed (no_input h w) = none_listed fault h
   sequence_not_listed (within input is h) = subst (IsSequenceNotListed options source held before after) (sym h.fault_is) (not_listed_by input is h h.cause refl)

@@ -1,5 +1,5 @@
 -- The item at the front of some bytes, of which something was written, or which is refused.
-use Rattle.std.proofs.Common.{ℕ, ◌≡◌, Option, List, [], ◌++◌, length, take, drop, sym, ap, ◌∙◌, arith, subst}
+use Rattle.std.proofs.Common.{ℕ, ◌≡◌, ◌<◌, Option, List, [], ◌++◌, length, take, drop, refl, sym, ap, ◌∙◌, arith, subst}
 use Rattle.std.specs.Io.KnownBytes.{Appends}
 use Rattle.std.proofs.Math.Seq.{take-append_seam}
 use Rattle.std.proofs.lemmas.List.{append_assoc, take-append-drop, length-take, append-nil}
@@ -15,13 +15,13 @@ use Rattle.cbor_judging.specs.Readers.{IsRead}
 use Rattle.cbor_reader.specs.Canonicalise.{IsRefusal, of_verdict, trailing, canonical_too_long, of_memory}
 use Rattle.cbor_reader.specs.Sequence.{IsAccepted}
 use Rattle.cbor_reader.proofs.Sequences.{is_accepted, verdict_of, splits}
-use Rattle.cborc_commands.specs.Canon.{IsCanonicalText}
+use Rattle.cborc_commands.specs.Canon.{IsCanonicalText, in_form}
 use Rattle.cborc_commands.specs.CanonSequence.{HasCanonicalBytes, canonical_text, IsUncanonical, too_long}
 use Rattle.cborc_commands.specs.Fault.{IsOfInput}
 use Rattle.cborc_commands.specs.declared.fault.Fault.{Fault}
 use Rattle.cborc_commands.specs.declared.fault.Fault.TheVariants as faults
 use Rattle.cborc_commands.specs.declared.request.Form.{Form}
-use Rattle.cborc_commands.specs.inner.Items.{IsWritten, IsUnwritten}
+use Rattle.cborc_commands.specs.inner.Items.{IsWritten, IsCutText, IsUnwritten}
 use Rattle.cborc_commands.specs.inner.Parts.{IsNoText}
 use Rattle.cborc_commands.proofs.Whole.{read_within}
 
@@ -50,19 +50,41 @@ module _ (b : Bounds) (o : KeyOrder) (bytes : List ℕ) (size : ℕ) (h : IsRead
   front_size : length (take size bytes) ≡ size
   front_size = omega (arith, length-take size bytes, read_within b plain bytes size h)
 
-  pub canonical_of : (form : Form) (text : List ℕ) (before after : Option (List ℕ)) → IsCanonicalText b o form (take size bytes) text → Appends before after text
-      → IsWritten (HasCanonicalBytes b o) (canonical_text o form) bytes size before after
-  canonical_of form text before after t w = record {
-    item = t.is.item;
-    rest = drop size bytes;
-    taken = record {
+  module _ (form : Form) (text : List ℕ) (t : IsCanonicalText b o form (take size bytes) text) where
+    has_bytes : HasCanonicalBytes b o t.is.item
+    has_bytes = record {
       accepted = is_accepted b plain (take size bytes) t.is.item t.is.verdict;
       fits = rw (← t.is.canonical_bytes) t.is.fits;
-    };
-    bytes_are = ap (λ (x : List ℕ). x ++ drop size bytes) t.is.whole ∙ take-append-drop size bytes;
-    size_is = sym front_size ∙ ap length (sym t.is.whole);
-    written = rw (← t.is.canonical_bytes, ← t.formed) w;
-  }
+    }
+
+    stands_there : spell t.is.item ++ drop size bytes ≡ bytes
+    stands_there = ap (λ (x : List ℕ). x ++ drop size bytes) t.is.whole ∙ take-append-drop size bytes
+
+    text_is : text ≡ canonical_text o form t.is.item
+    text_is = t.formed ∙ ap (in_form form) t.is.canonical_bytes
+
+    pub canonical_of : (before after : Option (List ℕ)) → Appends before after text → IsWritten (HasCanonicalBytes b o) (canonical_text o form) bytes size before after
+    canonical_of before after w = record {
+      item = t.is.item;
+      rest = drop size bytes;
+      taken = has_bytes;
+      bytes_are = stands_there;
+      size_is = sym front_size ∙ ap length (sym t.is.whole);
+      written = subst (Appends before after) text_is w;
+    }
+
+    -- a part of its text was taken
+    pub cut_text : (before after : Option (List ℕ)) (count : ℕ) (behind : List ℕ) → count < length text → Appends before after (take count text)
+        → IsCutText b o form (bytes ++ behind) before after
+    cut_text before after count behind part w = record {
+      item = t.is.item;
+      rest = drop size bytes ++ behind;
+      has = has_bytes;
+      bytes_are = sym (append_assoc (spell t.is.item) (drop size bytes) behind) ∙ ap (λ (x : List ℕ). x ++ behind) stands_there;
+      count = count;
+      part = subst (λ (x : List ℕ). count < length x) text_is part;
+      taken = subst (λ (x : List ℕ). Appends before after (take count x)) text_is w;
+    }
 
   -- the first bytes are accepted, as a whole
   front_is : spell h.item ≡ take size bytes
@@ -89,7 +111,7 @@ module _ (b : Bounds) (o : KeyOrder) (bytes : List ℕ) (size : ℕ) (h : IsRead
       (sym (append_assoc (spell item) (drop size bytes) behind) ∙ ap (λ (x : List ℕ). x ++ behind) split) l (is ∙ ap (λ (k : ℕ). refusal reasons.CanonicalTooLong k k) (ap length (sym whole)))
   too_long_only behind f (of_memory p taken l within is free) own = absurd (subst IsOfInput (ap (λ (g : Refusal). g.reason) is) own)
 
-  pub unwritten : (behind : List ℕ) (fault : Fault) → IsNoText b o (take size bytes) fault → IsUnwritten b o (bytes ++ behind) fault
-  unwritten behind (faults.Refused f) (r, own) = (too_long_only behind f r own, own)
-  unwritten behind faults.Memory h = tt
-  unwritten behind _ h = absurd h
+  pub unwritten : (form : Form) (out : Option (List ℕ)) (behind : List ℕ) (fault : Fault) → IsNoText b o (take size bytes) fault → IsUnwritten b o form (bytes ++ behind) fault out out
+  unwritten form out behind (faults.Refused f) (r, own) = (too_long_only behind f r own, own, refl)
+  unwritten form out behind faults.Memory h = refl
+  unwritten form out behind _ h = absurd h

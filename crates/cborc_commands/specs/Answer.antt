@@ -38,7 +38,8 @@ abbrev pub IsNotDone : Request → Option Files → Option (List ℕ) → Option
 IsNotDone (Check source accepted options) held before after fault = IsNotChecked (rules_of accepted) options source.now held fault
 IsNotDone (CheckSequence source accepted options) held before after fault = IsSequenceNotChecked (rules_of accepted) options source.now held fault
 IsNotDone (Canon source output order options) held before after fault = IsNotCanonised order options source.now output held fault
-IsNotDone (CanonSequence source output order options) held before after fault = IsSequenceNotCanonised order options source.now output held fault
+IsNotDone (CanonSequence source output order options) held before after fault =
+    IsSequenceNotCanonised order options source.now output held before after fault
 IsNotDone (Show source layout options) held before after fault = IsNotShown options source.now held fault
 IsNotDone (ShowSequence source layout options) held before after fault = IsSequenceNotShown layout options source.now held before after fault
 IsNotDone (Events source options) held before after fault = IsNotListedOf options source.now held before after fault

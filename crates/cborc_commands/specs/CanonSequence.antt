@@ -1,5 +1,6 @@
--- What `canon --seq` writes, and why it writes nothing (RFC 8742).
-use Rattle.std.specs.Prelude.{ℕ, ◌≡◌, ◌<◌, ◌≤◌, ◌++◌, List, length, flat_map, Option}
+-- What `canon --seq` writes, why it does not write all, and what is written then (RFC 8742).
+use Rattle.std.specs.Prelude.{ℕ, ◌≡◌, ◌<◌, ◌≤◌, ◌⊎◌, ◌++◌, true, false, List, [], ◌∷◌, length, take, flat_map, Option}
+use Rattle.std.specs.Io.KnownBytes.{Appends, Keeps}
 use Rattle.cbor_head.specs.Canonical.{canonical}
 use Rattle.cbor_head.specs.Complaint.{plain}
 use Rattle.cbor_head.specs.Limits.{Bounds}
@@ -12,9 +13,9 @@ use Rattle.cbor_judging.specs.Readers.{IsUnread}
 use Rattle.cbor_reader.specs.Sequence.{IsAccepted}
 use Rattle.cborc_commands.specs.Canon.{in_form, IsPut, IsNotPut}
 use Rattle.cborc_commands.specs.Fault.{IsOfInput}
-use Rattle.cborc_files.specs.Folder.{Files}
+use Rattle.cborc_files.specs.Folder.{Files, is_stream}
 use Rattle.cborc_commands.specs.Input.{IsInput, IsNoInput}
-use Rattle.cborc_commands.specs.Sequences.{AreAll, GoesOn}
+use Rattle.cborc_commands.specs.Sequences.{StartsWithEach, AreAll, GoesOn, AreFirst}
 use Rattle.cborc_commands.specs.declared.request.Form.{Form}
 use Rattle.cborc_commands.specs.declared.request.Options.{Options}
 use Rattle.cborc_commands.specs.declared.request.Output.{Output}
@@ -42,13 +43,6 @@ pub data IsUncanonical (limits : Bounds) (o : KeyOrder) (input : List ℕ) (f : 
   too_long : (item : Spelling) (rest : List ℕ) → IsAccepted limits plain item → spell item ++ rest ≡ input → limits.bytes < length (canonical o (value_of item))
       → f ≡ refusal CanonicalTooLong (length (spell item)) (length (spell item)) → IsUncanonical limits o input f
 
--- behind items that have canonical bytes comes, with this index and starting there, one that has none
-pub record IsUncanonicalAt (limits : Bounds) (o : KeyOrder) (input : List ℕ) (index start : ℕ) (f : Refusal) : Type 0 where
-  pub items : List Spelling
-  pub rest : List ℕ
-  pub goes_on : GoesOn (HasCanonicalBytes limits o) limits.bytes input items rest index start
-  pub refused : IsUncanonical limits o rest f
-
 -- the input at a path is a sequence of items that have canonical bytes, and the texts of these are where they belong
 pub record IsSequenceCanonised (o : KeyOrder) (options : Options) (source : List ℕ) (output : Output) (old new : Option Files) (before after : Option (List ℕ)) : Type 0 where
   pub input : List ℕ
@@ -57,18 +51,57 @@ pub record IsSequenceCanonised (o : KeyOrder) (options : Options) (source : List
   pub all : AreAll (HasCanonicalBytes options.limits o) options.limits.bytes input items
   pub put : IsPut output.path.now old new before after (canonical_texts o output.form items)
 
--- it is such a sequence
-pub record HasSequenceText (o : KeyOrder) (options : Options) (source : List ℕ) (held : Option Files) : Type 0 where
+-- what standard output took of a text: all where it belongs there, else nothing
+pub data IsSent (path : List ℕ) (before after : Option (List ℕ)) (text : List ℕ) : Type 0 where
+  passed : is_stream path ≡ true → Appends before after text → IsSent path before after text
+  apart : is_stream path ≡ false → Keeps before after → IsSent path before after text
+
+-- It isn't: behind items that have canonical bytes, whose texts are sent, comes, with this index and starting there, one that has none.
+pub record HasUncanonicalItem (o : KeyOrder) (options : Options) (source : List ℕ) (output : Output) (held : Option Files) (before after : Option (List ℕ))
+    (index start : ℕ) (f : Refusal) : Type 0 where
   pub input : List ℕ
   pub is : IsInput held source options.hex input
   pub items : List Spelling
-  pub all : AreAll (HasCanonicalBytes options.limits o) options.limits.bytes input items
+  pub rest : List ℕ
+  pub goes_on : GoesOn (HasCanonicalBytes options.limits o) options.limits.bytes input items rest index start
+  pub refused : IsUncanonical options.limits o rest f
+  pub of_input : IsOfInput f.reason
+  pub sent : IsSent output.path.now before after (canonical_texts o output.form items)
 
--- why nothing is written: an item is refused, there is no input, or its text was not put there
-abbrev pub IsSequenceNotCanonised : KeyOrder → Options → List ℕ → Output → Option Files → Fault → Type 0
-IsSequenceNotCanonised o options source output held (faults.RefusedItem index start f) =
-    (input : List ℕ) × IsInput held source options.hex input × IsUncanonicalAt options.limits o input index start f × IsOfInput f.reason
-IsSequenceNotCanonised o options source output held faults.CannotPrint = HasSequenceText o options source held × IsNotPut output.path.now faults.CannotPrint
-IsSequenceNotCanonised o options source output held (faults.CannotWrite named) =
-    HasSequenceText o options source held × IsNotPut output.path.now (faults.CannotWrite named)
-IsSequenceNotCanonised o options source output held fault = IsNoInput held source options.hex fault
+-- the input is not to be had, or not further than these items that have canonical bytes, whose texts are sent
+pub record IsSentSoFar (o : KeyOrder) (options : Options) (source : List ℕ) (output : Output) (held : Option Files) (before after : Option (List ℕ)) : Type 0 where
+  pub items : List Spelling
+  pub first : AreFirst (HasCanonicalBytes options.limits o) options source held items
+  pub sent : IsSent output.path.now before after (canonical_texts o output.form items)
+
+-- the input at a path starts with items that have canonical bytes: behind the texts of all but the last one, not all of its own was taken
+pub record IsCutShort (o : KeyOrder) (form : Form) (options : Options) (source : List ℕ) (held : Option Files) (before after : Option (List ℕ)) : Type 0 where
+  pub input : List ℕ
+  pub is : IsInput held source options.hex input
+  pub items : List Spelling
+  pub last : Spelling
+  pub rest : List ℕ
+  pub starts : StartsWithEach (HasCanonicalBytes options.limits o) input (items ++ last ∷ []) rest
+  pub count : ℕ
+  pub part : count < length (canonical_text o form last)
+  pub taken : Appends before after (canonical_texts o form items ++ take count (canonical_text o form last))
+
+-- it starts with such items: at least one, or these are all
+pub record HasFirstTexts (o : KeyOrder) (options : Options) (source : List ℕ) (held : Option Files) : Type 0 where
+  pub input : List ℕ
+  pub is : IsInput held source options.hex input
+  pub items : List Spelling
+  pub rest : List ℕ
+  pub starts : StartsWithEach (HasCanonicalBytes options.limits o) input items rest
+  pub some : (0 < length items) ⊎ AreAll (HasCanonicalBytes options.limits o) options.limits.bytes input items
+
+-- why not all is written, and what standard output took: an item is refused; standard output or the file took not all; there is no input, or memory was refused
+abbrev pub IsSequenceNotCanonised : KeyOrder → Options → List ℕ → Output → Option Files → Option (List ℕ) → Option (List ℕ) → Fault → Type 0
+IsSequenceNotCanonised o options source output held before after (faults.RefusedItem index start f) =
+    HasUncanonicalItem o options source output held before after index start f
+IsSequenceNotCanonised o options source output held before after faults.CannotPrint =
+    IsNotPut output.path.now faults.CannotPrint × IsCutShort o output.form options source held before after
+IsSequenceNotCanonised o options source output held before after (faults.CannotWrite named) =
+    IsNotPut output.path.now (faults.CannotWrite named) × HasFirstTexts o options source held × Keeps before after
+IsSequenceNotCanonised o options source output held before after fault =
+    IsNoInput held source options.hex fault × IsSentSoFar o options source output held before after

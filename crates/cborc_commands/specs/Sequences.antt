@@ -1,8 +1,11 @@
 -- Inputs that are sequences of items (RFC 8742), by what is asked of each item.
-use Rattle.std.specs.Prelude.{ℕ, ◌+◌, ◌≡◌, ◌<◌, ◌++◌, List, [], ◌∷◌, length}
+use Rattle.std.specs.Prelude.{ℕ, ◌+◌, ◌≡◌, ◌<◌, ◌⊎◌, ◌++◌, List, [], ◌∷◌, length, Option}
 use Rattle.std.specs.List.{AllByRecursion}
 use Rattle.cbor_head.specs.Spelling.{Spelling, spell}
 use Rattle.cbor_reader.specs.Sequence.{sequence_bytes, EndsBefore}
+use Rattle.cborc_commands.specs.Input.{IsInput}
+use Rattle.cborc_commands.specs.declared.request.Options.{Options}
+use Rattle.cborc_files.specs.Folder.{Files}
 
 -- what is written of these items, one behind another, where the first starts there: of each by where it starts
 abbrev pub texts_from : (ℕ → Spelling → List ℕ) → ℕ → List Spelling → List ℕ
@@ -25,3 +28,8 @@ pub record GoesOn (P : Spelling → Type 0) (n : ℕ) (input : List ℕ) (items 
   pub index_is : index ≡ length items + 1
   pub start_is : start ≡ length (sequence_bytes items)
   pub begun : ¬ EndsBefore n rest
+
+-- the input at a path was read as far as these items, of each of which this holds; of one that is not to be had, there are none
+abbrev pub AreFirst : (Spelling → Type 0) → Options → List ℕ → Option Files → List Spelling → Type 0
+AreFirst P options source held items =
+    (items ≡ []) ⊎ ((input : List ℕ) × (rest : List ℕ) × IsInput held source options.hex input × StartsWithEach P input items rest)

@@ -1,9 +1,9 @@
 -- What the answer to a request leaves, in the manner in which it is told.
-use Rattle.std.specs.Prelude.{ℕ, ◌≡◌, ◌⊎◌, List, Option, None}
+use Rattle.std.specs.Prelude.{ℕ, ◌≡◌, ◌⊎◌, false, List, Option, None}
 use Rattle.std.specs.Io.KnownBytes.{Keeps}
 use Rattle.cborc_commands.specs.Answer.{IsDone, IsNotDone}
 use Rattle.cborc_commands.specs.Fault.{fault_status, status_number}
-use Rattle.cborc_files.specs.Folder.{Files, KeepsFiles}
+use Rattle.cborc_files.specs.Folder.{Files, is_stream, KeepsFiles}
 use Rattle.cborc_commands.specs.declared.request.Manner.{Manner}
 use Rattle.cborc_commands.specs.declared.request.Manner.TheVariants.{Quiet}
 use Rattle.cborc_commands.specs.declared.request.Request.{Request}
@@ -12,8 +12,10 @@ use Rattle.cborc_commands.specs.declared.fault.Fault.{Fault}
 use Rattle.cborc_commands.specs.declared.fault.Fault.TheVariants as faults
 use Rattle.cborc_commands.specs.declared.status.Status.{Status}
 
--- the faults after which standard output has what it had: all but its own; `events`, also with `--seq`, and `show --seq` write lines before a refusal
+-- the faults after which standard output has what it had: all but its own; `events`, also with `--seq`, and `show --seq` write lines before a refusal, as does
+-- `canon --seq` where it writes there
 abbrev pub IsSilent : Request → Fault → Option (List ℕ) → Option (List ℕ) → Type 0
+IsSilent (CanonSequence source output order options) fault before after = is_stream output.path.now ≡ false → Keeps before after
 IsSilent (Events source options) fault before after = Unit {0}
 IsSilent (EventsSequence source options) fault before after = Unit {0}
 IsSilent (ShowSequence source layout options) fault before after = Unit {0}

@@ -70,8 +70,8 @@ fn hex_line(alloc: Global, bytes: &[u8]) -> Result<Vec<u8>, AllocError>
     Ok(text)
 }
 
-/// Puts the text where it belongs: for the path `-` behind what standard output took.
-pub(crate) fn put<'a, F: Folder, O: Write>(
+// Puts the text where it belongs: for the path `-` behind what standard output took.
+fn put<'a, F: Folder, O: Write>(
     files: &mut F,
     out: &mut O,
     path: &'a str,

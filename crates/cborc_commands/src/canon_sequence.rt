@@ -1,26 +1,27 @@
 //! `canon --seq`: the canonical bytes of each item of a sequence (RFC 8742), from file to file.
 
-ghost use Rattle.std.specs.Prelude.{◌≡◌, ◌≢◌, OnOk, OnErr, IfOk, IfErr};
+ghost use Rattle.std.specs.Prelude.{◌≡◌, ℕ, List, Option, OnOk, OnErr, IfErr, false};
 ghost use Rattle.cbor_head.specs.Limits.{Bounds};
 ghost use Rattle.cborc_commands.specs.CanonSequence.{HasCanonicalBytes, canonical_text};
 ghost use Rattle.cborc_commands.specs.CanonSequence.{IsSequenceCanonised};
 ghost use Rattle.cborc_commands.specs.CanonSequence.{IsSequenceNotCanonised};
-ghost use Rattle.cborc_files.specs.Folder.{KeepsFiles};
-ghost use Rattle.cborc_commands.specs.inner.Items.{IsTextOf, IsNoTextOf, IsUnwritten};
+ghost use Rattle.cborc_files.specs.Folder.{is_stream, KeepsFiles};
+ghost use Rattle.cborc_commands.specs.inner.Items.{IsUnwritten};
 
-use crate::canon::{canonical_text, put};
+use crate::canon::canonical_text;
 use crate::fault::Fault;
 use crate::request::{Form, Options, Output};
 use crate::sequence::{ItemWriter, unless_cut, write_items};
 use cbor_head::{KeyOrder, Limits};
+use cbor_item::write_whole;
 use cbor_reader::check_valid;
-use cborc_files::Folder;
+use cborc_files::{Folder, is_stream};
 use std::alloc::Global;
 use std::io::Write;
 
 /// Writes the canonical bytes of each item of the sequence that the file `source` is to the output,
-/// one behind another: those of all, or none, so that a file there is replaced whole or left as it
-/// was.
+/// one behind another, as they come: a file there is replaced by those of all, or left as it was. Of
+/// what standard output took before a refusal, all stays.
 pub fn canon_sequence<'a, F: Folder, O: Write>(
     alloc: Global,
     files: &mut F,
@@ -34,39 +35,55 @@ pub fn canon_sequence<'a, F: Folder, O: Write>(
         (F.held files.old) (F.held files.new) (O.contents out.old) (O.contents out.new)) }
     ensures untouched { OnErr result (KeepsFiles (F.held files.old) (F.held files.new)) }
     ensures same { F.behind files.new ≡ F.behind files.old }
-    ensures fault { IfErr result
-        (IsSequenceNotCanonised order options source.now output.entry (F.held files.old)) }
-    ensures silent { IfErr result (λ fault. fault ≢ Fault.CannotPrint → out.new ≡ out.old) }
+    ensures fault { IfErr result (IsSequenceNotCanonised order options source.now output.entry
+        (F.held files.old) (O.contents out.old) (O.contents out.new)) }
+    ensures silent { is_stream output.entry.path.now ≡ false → out.new ≡ out.old }
 {
-    let Output { path, form } = output;
-    let text = text_of_all(alloc, files, source, order, form, options)?;
-    put(files, out, path, text.as_slice())
+    if !is_stream(output.path) {
+        return replace_file(alloc, files, source, output, order, options);
+    }
+    let form = output.form;
+    let canonical = CanonicalItems { order, form };
+    write_items(alloc, &canonical, files, source, options, out)?;
+    Ok(())
 }
 
-// The canonical bytes of each item of the sequence that the file is, one behind another.
-fn text_of_all<'a, F: Folder>(
+// Writes them to a file that takes the place of the one at the path of the output, whatever standard
+// output took.
+fn replace_file<'a, F: Folder>(
     alloc: Global,
     files: &mut F,
     source: &'a str,
+    output: Output<'a>,
     order: KeyOrder,
-    form: Form,
     options: Options,
-) -> Result<Vec<u8>, Fault<'a>>
-    ensures text { IfOk result
-        (λ v. IsTextOf order form options source.now (F.held files.old) v.items) }
-    ensures fault { IfErr result (IsNoTextOf order options source.now (F.held files.old)) }
-    ensures keeps { KeepsFiles (F.held files.old) (F.held files.new) }
+) -> Result<(), Fault<'a>>
+    requires { is_stream output.path.now ≡ false }
+    ensures written { OnOk result ((out : Option (List ℕ)) → IsSequenceCanonised order options
+        source.now output.entry (F.held files.old) (F.held files.new) out out) }
+    ensures untouched { OnErr result (KeepsFiles (F.held files.old) (F.held files.new)) }
     ensures same { F.behind files.new ≡ F.behind files.old }
+    ensures fault { IfErr result (λ fault. (out : Option (List ℕ)) → IsSequenceNotCanonised order
+        options source.now output.entry (F.held files.old) out out fault) }
 {
+    let Output { path, form } = output;
     let canonical = CanonicalItems { order, form };
-    let mut text = Vec::new(alloc);
-    match write_items(alloc, &canonical, files, source, options, &mut text) {
-        Ok(_) => Ok(text),
-        Err(fault) => match fault {
-            // A vector takes all that there is memory for.
-            Fault::CannotPrint => Err(Fault::Memory),
-            _ => Err(fault),
+    let mut draft = match files.begin(path) {
+        Ok(draft) => draft,
+        Err(_) => return Err(Fault::Memory),
+    };
+    match write_items(alloc, &canonical, files, source, options, &mut draft) {
+        Ok(_) => match files.replace(path, draft) {
+            Ok(()) => Ok(()),
+            Err(cause) => Err(Fault::of_writing(path, cause)),
         },
+        Err(fault) => {
+            let cause = files.abandon(draft);
+            match fault {
+                Fault::CannotPrint => Err(Fault::of_writing(path, cause)),
+                _ => Err(fault),
+            }
+        }
     }
 }
 
@@ -83,7 +100,7 @@ impl ItemWriter for CanonicalItems {
     ghost text = { λ canonical _. canonical_text canonical.order canonical.form };
 
     ghost stops = { λ canonical b start bytes fault before after.
-        IsUnwritten b canonical.order bytes fault };
+        IsUnwritten b canonical.order canonical.form bytes fault before after };
 
     fn write_item<'f, W: Write>(
         &self,
@@ -99,7 +116,7 @@ impl ItemWriter for CanonicalItems {
             Err(refusal) => return unless_cut(refusal, goes_on),
         };
         let text = canonical_text(alloc, &bytes[..size], limits, self.order, self.form)?;
-        match out.write_all(text.as_slice()) {
+        match write_whole(out, text.as_slice()) {
             Ok(()) => Ok(Some(size)),
             Err(_) => Err(Fault::CannotPrint),
         }

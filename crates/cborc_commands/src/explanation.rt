@@ -115,8 +115,8 @@ fn holds_all(request: &Request<'_>) -> bool
     ensures { result ≡ holds_all request.now }
 {
     match request {
-        Request::CanonSequence { .. } => true,
-        Request::CheckSequence { options, .. }
+        Request::CanonSequence { options, .. }
+        | Request::CheckSequence { options, .. }
         | Request::ShowSequence { options, .. }
         | Request::EventsSequence { options, .. } => options.hex,
         _ => false,

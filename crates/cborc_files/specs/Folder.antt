@@ -1,5 +1,5 @@
 -- What the files of a folder hold.
-use Rattle.std.specs.Prelude.{ℕ, ◌+◌, ◌^◌, ◌≡◌, ◌≢◌, ◌<◌, ◌++◌, Bool, List, codes, length, take, drop, Option, None, Some, MatchResult, Result, Ok, IsErr}
+use Rattle.std.specs.Prelude.{ℕ, ◌+◌, ◌^◌, ◌≡◌, ◌≢◌, ◌<◌, ◌++◌, Bool, List, [], codes, length, take, drop, Option, None, Some, MatchResult, Result, Ok, IsErr}
 use Rattle.std.specs.List.{filter}
 use Rattle.std.specs.Str.{bytes_eq}
 use Rattle.hex.specs.Hex.{decode_of}
@@ -52,6 +52,11 @@ abbrev pub ReplacesFile : Option Files → Option Files → List ℕ → List �
 ReplacesFile None new path bytes = Unit {0}
 ReplacesFile (Some old) None path bytes = ⊥
 ReplacesFile (Some old) (Some new) path bytes = (new path ≡ Some bytes) × ((other : List ℕ) → other ≢ path → new other ≡ old other)
+
+-- a file that was begun has no byte yet, where the folder tells what it holds
+abbrev pub IsBlank : Option Files → Option (List ℕ) → Type 0
+IsBlank None bytes = Unit {0}
+IsBlank (Some files) bytes = bytes ≡ Some []
 
 -- a file is replaced whole, or nothing is changed
 abbrev pub WritesFile : {E : Type 0} → Option Files → Option Files → Result (Unit {0}) E → List ℕ → List ℕ → Type 0

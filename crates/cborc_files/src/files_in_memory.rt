@@ -39,14 +39,24 @@ impl FilesInMemory {
         ensures put { OnOk result (ReplacesFile (Some (files_of self.old)) (Some (files_of self.new)) path.now bytes.now) }
         ensures untouched { OnErr result (KeepsFiles (Some (files_of self.old)) (Some (files_of self.new))) }
     {
-        let path = String::from_str(self.alloc, path)?;
         let bytes = Vec::from_slice(self.alloc, bytes)?;
+        self.keep(path, bytes)
+    }
+
+    // The same with bytes that are given away.
+    fn keep(&mut self, path: &str, bytes: Vec<u8>) -> Result<(), AllocError>
+        ensures put { OnOk result (ReplacesFile (Some (files_of self.old)) (Some (files_of self.new)) path.now bytes.items) }
+        ensures untouched { OnErr result (KeepsFiles (Some (files_of self.old)) (Some (files_of self.new))) }
+    {
+        let path = String::from_str(self.alloc, path)?;
         self.by_path.insert(path, bytes)?;
         Ok(())
     }
 }
 
 impl Folder for FilesInMemory {
+    type Draft = Vec<u8>;
+
     ghost held = { λ files. Some (files_of files) };
 
     fn read(&mut self, alloc: Global, path: &str) -> Result<Vec<u8>, FileFault> {
@@ -73,10 +83,19 @@ impl Folder for FilesInMemory {
         }
     }
 
-    fn write(&mut self, path: &str, bytes: &[u8]) -> Result<(), FileFault> {
-        match self.put(path, bytes) {
+    fn begin(&mut self, _path: &str) -> Result<Vec<u8>, AllocError> {
+        Ok(Vec::new(self.alloc))
+    }
+
+    fn replace(&mut self, path: &str, draft: Vec<u8>) -> Result<(), FileFault> {
+        match self.keep(path, draft) {
             Ok(()) => Ok(()),
             Err(_) => Err(FileFault::Memory),
         }
+    }
+
+    // A vector takes all that there is memory for.
+    fn abandon(&mut self, _draft: Vec<u8>) -> FileFault {
+        FileFault::Memory
     }
 }

@@ -1,14 +1,14 @@
 //! Where files come from and go to.
 
-ghost use Rattle.std.specs.Prelude.{◌≡◌, ◌++◌, take, drop, Option, None, OnOk, IfOk, IfErr};
+ghost use Rattle.std.specs.Prelude.{◌≡◌, ◌++◌, take, drop, Option, None, OnOk, OnErr, IfOk, IfErr, IfSome};
 ghost use Rattle.std.specs.Borrow.{GName};
 ghost use Rattle.cborc_files.specs.Digits.{IsOfText};
 ghost use Rattle.cborc_files.specs.Folder.{Files, is_stream, Holds, ReadsOn, IsWithin, KeepsFiles};
-ghost use Rattle.cborc_files.specs.Folder.{WritesFile, IsNoDigits, SpellsFront};
+ghost use Rattle.cborc_files.specs.Folder.{IsBlank, ReplacesFile, WritesFile, IsNoDigits, SpellsFront};
 
 use crate::hex_text::{Digits, DigitsFault};
-use std::alloc::Global;
-use std::io::ErrorKind;
+use std::alloc::{AllocError, Global};
+use std::io::{self, ErrorKind, Write};
 
 /// Why a file was not read or not written.
 #[derive(Clone, Copy, Debug, PartialEq, Eq)]
@@ -28,8 +28,20 @@ pub struct Cause {
     pub beside: bool,
 }
 
+impl From<io::Error> for Cause {
+    fn from(error: io::Error) -> Cause {
+        Cause {
+            kind: error.kind(),
+            beside: false,
+        }
+    }
+}
+
 /// Files by their paths. The path `-` is standard input where it is read, and is not written.
 pub trait Folder {
+    /// The bytes of a file that is to take the place of another, as they come.
+    type Draft: Write + Drop;
+
     // What each path holds, where the folder tells.
     ghost held: { Self → Option Files } = { λ _. None };
 
@@ -42,10 +54,42 @@ pub trait Folder {
         ensures keeps { KeepsFiles (held self.old) (held self.new) }
         ensures same { behind self.new ≡ behind self.old };
 
+    /// Begins a file that is to take the place of the one at this path. Where none is to be had, its
+    /// first write tells that, or `replace`: here memory alone is asked for.
+    fn begin(&mut self, path: &str) -> Result<Self::Draft, AllocError>
+        ensures blank { IfOk result
+            (λ draft. IsBlank (held self.old) (Self.Draft.contents draft)) }
+        ensures keeps { KeepsFiles (held self.old) (held self.new) }
+        ensures same { behind self.new ≡ behind self.old };
+
+    /// Lets what was begun for this path take the place of what the file there held, or leaves all
+    /// files as they were.
+    fn replace(&mut self, path: &str, draft: Self::Draft) -> Result<(), FileFault>
+        ensures replaces { OnOk result (IfSome (Self.Draft.contents draft)
+            (ReplacesFile (held self.old) (held self.new) path.now)) }
+        ensures untouched { OnErr result (KeepsFiles (held self.old) (held self.new)) }
+        ensures same { behind self.new ≡ behind self.old };
+
+    /// Lets go of what was begun, so that no new file is left, and tells why a write of it failed, if
+    /// one did.
+    fn abandon(&mut self, draft: Self::Draft) -> FileFault
+        ensures keeps { KeepsFiles (held self.old) (held self.new) }
+        ensures same { behind self.new ≡ behind self.old };
+
     /// Writes a file whole, in place of what it held, or leaves all files as they were.
     fn write(&mut self, path: &str, bytes: &[u8]) -> Result<(), FileFault>
         ensures writes { WritesFile (held self.old) (held self.new) result path.now bytes.now }
-        ensures same { behind self.new ≡ behind self.old };
+        ensures same { behind self.new ≡ behind self.old }
+    {
+        let mut draft = match self.begin(path) {
+            Ok(draft) => draft,
+            Err(_) => return Err(FileFault::Memory),
+        };
+        match draft.write_all(bytes) {
+            Ok(()) => self.replace(path, draft),
+            Err(_) => Err(self.abandon(draft)),
+        }
+    }
 
     /// Appends those bytes of a file that stand behind its first `from`, so many if there are: fewer
     /// only where the file ends. A file is read on where the last call for it ended: a folder that

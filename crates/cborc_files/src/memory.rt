@@ -5,7 +5,7 @@ ghost use Rattle.cborc_files.specs.Folder.{Holds, ReadsOn, IsWithin, KeepsFiles,
 
 use crate::folder::{Cause, FileFault, Folder};
 use crate::hex_text::{DigitsFault, Stray};
-use std::alloc::Global;
+use std::alloc::{AllocError, Global};
 
 /// What was read of the last two files: of one that is read part by part, the last part, behind what
 /// had not been taken of those before it.
@@ -81,6 +81,8 @@ impl<'a, F: Folder> Memory<'a, F> {
 }
 
 impl<'a, F: Folder> Folder for Memory<'a, F> {
+    type Draft = F::Draft;
+
     ghost held = { λ memory. F.held memory.files.now };
 
     ghost behind = { λ memory. Some memory.files.ghost_name };
@@ -130,8 +132,16 @@ impl<'a, F: Folder> Folder for Memory<'a, F> {
         }
     }
 
-    fn write(&mut self, path: &str, bytes: &[u8]) -> Result<(), FileFault> {
-        self.files.write(path, bytes)
+    fn begin(&mut self, path: &str) -> Result<F::Draft, AllocError> {
+        self.files.begin(path)
+    }
+
+    fn replace(&mut self, path: &str, draft: F::Draft) -> Result<(), FileFault> {
+        self.files.replace(path, draft)
+    }
+
+    fn abandon(&mut self, draft: F::Draft) -> FileFault {
+        self.files.abandon(draft)
     }
 
     fn cause(&self) -> Option<Cause> {

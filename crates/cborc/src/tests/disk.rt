@@ -2,6 +2,7 @@
 
 use crate::disk::Disk;
 use cborc_files::{DigitsFault, FileFault, Folder};
+use std::io::Write;
 use std::{env, fs, io, process};
 
 #[test]
@@ -21,6 +22,32 @@ fn keeps_whole_files(rt: HostRuntime) -> io::Result<()> {
         assert!(rt; read.as_slice() == bytes, "{bytes:?}");
     }
     fs::remove_file(&rt, path.as_str())
+}
+
+// What was begun takes the place of a file, or is let go of.
+#[test]
+fn replaces_a_file_or_leaves_it(rt: HostRuntime) -> io::Result<()> {
+    let alloc = rt.alloc();
+    let folder = env::temp_dir(&rt)?;
+    let folder = folder.as_str();
+    let id = process::id(rt.process());
+    let path = format!(in alloc; "{folder}/cborc-draft-{id}")?;
+    let path = path.as_str();
+    let text = "0".repeat(alloc, 20_000)?;
+    let mut disk = Disk::new(&rt);
+    disk.write(path, b"\x00").map_err(error_of)?;
+    for (is_kept, wanted) in [(false, 1), (true, 20_000)] {
+        let mut draft = disk.begin(path)?;
+        draft.write_all(text.as_bytes())?;
+        if is_kept {
+            disk.replace(path, draft).map_err(error_of)?;
+        } else {
+            let _ = disk.abandon(draft);
+        }
+        let read = disk.read(alloc, path).map_err(error_of)?;
+        assert!(rt; read.len() == wanted, "{wanted}");
+    }
+    fs::remove_file(&rt, path)
 }
 
 // Hex text that is longer than one part of a file.

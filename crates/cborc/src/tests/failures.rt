@@ -58,7 +58,7 @@ fn standard_error_fails(rt: HostRuntime) -> Result<(), AllocError> {
 }
 
 // The words, and how many bytes standard output takes of what they print of a file that holds 0.
-static PRINTED: [(&str, usize); 21] = [
+static PRINTED: [(&str, usize); 22] = [
     ("help", 0),
     ("help", 1),
     ("help", 20),
@@ -76,6 +76,7 @@ static PRINTED: [(&str, usize); 21] = [
     ("show --seq in", 0),
     ("show --seq in", 1),
     ("canon --seq in -", 0),
+    ("canon --seq --hex-out in -", 2),
     ("events in", 0),
     ("events in", 14),
     ("events --seq in", 0),

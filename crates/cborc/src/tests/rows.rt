@@ -13,7 +13,7 @@ use std::test::Fail;
 // 4. What is written to standard output, or by `canon` to `out`: a line, or the bytes as hex digits
 //    where `canon` writes them.
 // 5. The line on standard error, if there is one.
-static ROWS: [&str; 204] = [
+static ROWS: [&str; 212] = [
     // What `events` prints: a line for each event, those before a refusal too.
     "events in | bf6346756ef563416d7421ff | 0 | 0 map - -\n1 text 3 0\n5 simple 21 0\n6 text 3 0\n10 negative 1 0\n11 end - -",
     "events in | 5f42010243030405ff | 0 | 0 bytes - -\n1 chunk 2 0\n4 chunk 3 0\n8 end - -",
@@ -56,7 +56,8 @@ static ROWS: [&str; 204] = [
     "check --seq --strict in | 009fff | 1 |  | item 2 refused 15 Indefinite at 0", // 0, [] without length
     "check --seq --strict --order length in | a21864002000 | 1 |  | item 1 refused 16 KeyOrder at 4", // {100: 0, -1: 0}
     "check --seq --strict --order bytewise in | 00a22000186400 | 1 |  | item 2 refused 16 KeyOrder at 3", // 0, {-1: 0, 100: 0}
-    // The canonical bytes of each item of a sequence, one behind another: all of them or none.
+    // The canonical bytes of each item of a sequence, one behind another; in a file those of all, or
+    // what it held.
     "canon --seq in out |  | 0 | ",
     "canon --seq in out | 1800 | 0 | 00", // 0 in two bytes
     "canon --seq in out | 18007f657374726561646d696e67ffbf190003040102ff | 0 | 006973747265616d696e67a201020304", // 0, "streaming", {3: 4, 1: 2}
@@ -73,12 +74,18 @@ static ROWS: [&str; 204] = [
     "canon --seq in out | 00a201000100 | 1 |  | item 2 refused 11 RepeatedKey at 3", // 0, {1: 0, 1: 0}
     "canon --seq --bytes 1 in out | 00011864 | 1 |  | item 3 refused 2 TooLong at 1", // 0, 1, 100 in two bytes
     "canon --seq --bytes 0 in out |  | 1 |  | item 1 refused 2 TooLong at 0",
-    "canon --seq --depth 1 in - | 808180 | 1 |  | item 2 refused 9 TooDeep at 1", // [], [[]]
-    "canon --seq in - | 00ff00 | 1 |  | item 2 refused 7 StrayBreak at 0", // 0, a break, 0
+    "canon --seq --depth 1 in - | 808180 | 1 | 80 | item 2 refused 9 TooDeep at 1", // [], [[]]
+    "canon --seq in - | 1800ff00 | 1 | 00 | item 2 refused 7 StrayBreak at 0", // 0 in two bytes, a break, 0
+    "canon --seq in - | ff | 1 |  | item 1 refused 7 StrayBreak at 0",
+    "canon --seq --hex-out in - | 1800811801ff | 1 | 00\n8101 | item 3 refused 7 StrayBreak at 0", // a line an item
+    "canon --seq --quiet in - | 1800ff | 1 | 00",
     "canon --seq absent out | 00 | 3 |  | cannot read absent",
     "canon --seq in locked | 00 | 3 |  | cannot write locked",
     "canon --seq in locked | 00ff | 1 |  | item 2 refused 7 StrayBreak at 0",
     "canon --seq in full | 00 | 3 |  | out of memory",
+    "canon --seq in small | 000102 | 3 |  | cannot write small", // it takes two bytes
+    "canon --seq in small | 000102ff | 3 |  | cannot write small",
+    "canon --seq in small | 0001ff | 1 |  | item 3 refused 7 StrayBreak at 0",
     "canon --seq --hex in out | 0 | 3 |  | not hex: in",
     // The text of each item of a sequence, a line an item; those before a refusal stay.
     "show --seq in |  | 0 | ",
@@ -229,7 +236,9 @@ static ROWS: [&str; 204] = [
     "canon --explain in locked | 00 | 3 |  | cannot write locked\n  It is not permitted.",
     "canon --explain in folder | 00 | 3 |  | cannot write folder\n  It is a folder.",
     "canon --explain in locked/out | 00 | 3 |  | cannot write locked/out\n  A new file beside it was not to be made. It is not permitted.",
-    "canon --explain --seq full out | 00 | 3 |  | out of memory\n  All items are held here, whatever --bytes is: fewer ask for less memory.",
+    "canon --explain in small | 820001 | 3 |  | cannot write small\n  The disk is full.",
+    "canon --explain --seq in small | 000102 | 3 |  | cannot write small\n  The disk is full.",
+    "canon --explain --seq full out | 00 | 3 |  | out of memory\n  A lower --bytes asks for less memory.",
     "check --explain --hex full | 00 | 3 |  | out of memory\n  A lower --bytes asks for less memory.",
     "show --explain full | 00 | 3 |  | out of memory\n  A lower --bytes asks for less memory.",
     "canon in folder | 00 | 3 |  | cannot write folder",

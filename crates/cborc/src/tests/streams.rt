@@ -15,6 +15,8 @@ struct Endless {
 }
 
 impl Folder for Endless {
+    type Draft = io::Sink;
+
     fn read(&mut self, _: Global, _: &str) -> Result<Vec<u8>, FileFault> {
         Err(FileFault::Failed)
     }
@@ -36,8 +38,16 @@ impl Folder for Endless {
         }
     }
 
-    fn write(&mut self, _: &str, _: &[u8]) -> Result<(), FileFault> {
+    fn begin(&mut self, _: &str) -> Result<io::Sink, AllocError> {
+        Ok(io::sink())
+    }
+
+    fn replace(&mut self, _: &str, _: io::Sink) -> Result<(), FileFault> {
         Err(FileFault::Failed)
+    }
+
+    fn abandon(&mut self, _: io::Sink) -> FileFault {
+        FileFault::Failed
     }
 }
 

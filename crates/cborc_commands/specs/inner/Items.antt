@@ -1,5 +1,5 @@
 -- What is written of the items of a sequence, one behind another.
-use Rattle.std.specs.Prelude.{ℕ, ◌≡◌, ◌++◌, Bool, true, List, length, Option}
+use Rattle.std.specs.Prelude.{ℕ, ◌≡◌, ◌<◌, ◌++◌, Bool, true, List, length, take, Option}
 use Rattle.std.specs.Io.KnownBytes.{Appends}
 use Rattle.cbor_head.specs.Complaint.{Rules, plain}
 use Rattle.cbor_head.specs.Limits.{Bounds}
@@ -7,11 +7,11 @@ use Rattle.cbor_head.specs.Spelling.{Spelling, spell}
 use Rattle.cbor_head.specs.declared.order.KeyOrder.{KeyOrder}
 use Rattle.cbor_judging.specs.Readers.{IsUnread}
 use Rattle.cbor_reader.specs.Sequence.{IsAccepted}
-use Rattle.cborc_commands.specs.CanonSequence.{HasCanonicalBytes, canonical_texts, IsUncanonical, IsUncanonicalAt}
+use Rattle.cborc_commands.specs.CanonSequence.{HasCanonicalBytes, canonical_text, IsUncanonical}
 use Rattle.cborc_commands.specs.EventsSequence.{IsFormRefused, IsCutOff}
 use Rattle.cborc_commands.specs.Fault.{IsOfInput, at_item}
 use Rattle.cborc_commands.specs.Input.{IsInput, IsNoInput}
-use Rattle.cborc_commands.specs.Sequences.{texts_from, AreAll, GoesOn}
+use Rattle.cborc_commands.specs.Sequences.{texts_from, AreAll, GoesOn, AreFirst}
 use Rattle.cborc_commands.specs.declared.fault.Fault.{Fault}
 use Rattle.cborc_commands.specs.declared.fault.Fault.TheVariants as faults
 use Rattle.cborc_commands.specs.declared.request.Form.{Form}
@@ -61,11 +61,19 @@ pub record AreWrittenOf (takes : Spelling → Type 0) (text : ℕ → Spelling �
   pub is : IsInput held source options.hex input
   pub written : AreWritten takes text options.limits.bytes input before after count
 
+-- the input is not to be had, or not further than these items, which are taken and whose texts were written
+pub record AreWrittenSoFar (takes : Spelling → Type 0) (text : ℕ → Spelling → List ℕ) (options : Options) (source : List ℕ) (held : Option Files)
+    (before after : Option (List ℕ)) : Type 0 where
+  pub items : List Spelling
+  pub first : AreFirst takes options source held items
+  pub written : Appends before after (texts_from text 0 items)
+
 -- it is not
 pub data AreStoppedOf (takes : Spelling → Type 0) (text : ℕ → Spelling → List ℕ) (stops : ℕ → List ℕ → Fault → Option (List ℕ) → Option (List ℕ) → Type 0)
     (options : Options) (source : List ℕ) (held : Option Files) (before after : Option (List ℕ)) (fault : Fault) : Type 0 where
-  -- there is no input
-  no_input : IsNoInput held source options.hex fault → AreStoppedOf takes text stops options source held before after fault
+  -- there is no input, or no more of it
+  no_input : IsNoInput held source options.hex fault → AreWrittenSoFar takes text options source held before after
+      → AreStoppedOf takes text stops options source held before after fault
   -- an item of it is not taken
   within : (input : List ℕ) → IsInput held source options.hex input → AreStopped takes text stops options.limits.bytes input before after fault
       → AreStoppedOf takes text stops options source held before after fault
@@ -78,12 +86,22 @@ IsUncounted b rules bytes (faults.Refused f) = IsUnread b rules bytes f × IsOfI
 IsUncounted b rules bytes faults.Memory = Unit {0}
 IsUncounted b rules bytes _ = ⊥
 
--- to be written as canonical bytes: the same, or the output failed
-abbrev pub IsUnwritten : Bounds → KeyOrder → List ℕ → Fault → Type 0
-IsUnwritten b o bytes (faults.Refused f) = IsUncanonical b o bytes f × IsOfInput f.reason
-IsUnwritten b o bytes faults.CannotPrint = Unit {0}
-IsUnwritten b o bytes faults.Memory = Unit {0}
-IsUnwritten b o bytes _ = ⊥
+-- an item there has canonical bytes, and the output took not all of their text
+pub record IsCutText (b : Bounds) (o : KeyOrder) (form : Form) (bytes : List ℕ) (before after : Option (List ℕ)) : Type 0 where
+  pub item : Spelling
+  pub rest : List ℕ
+  pub has : HasCanonicalBytes b o item
+  pub bytes_are : spell item ++ rest ≡ bytes
+  pub count : ℕ
+  pub part : count < length (canonical_text o form item)
+  pub taken : Appends before after (take count (canonical_text o form item))
+
+-- to be written as canonical bytes: it is refused, or memory was, and the output took nothing; or it failed
+abbrev pub IsUnwritten : Bounds → KeyOrder → Form → List ℕ → Fault → Option (List ℕ) → Option (List ℕ) → Type 0
+IsUnwritten b o form bytes (faults.Refused f) before after = IsUncanonical b o bytes f × IsOfInput f.reason × (after ≡ before)
+IsUnwritten b o form bytes faults.CannotPrint before after = IsCutText b o form bytes before after
+IsUnwritten b o form bytes faults.Memory before after = after ≡ before
+IsUnwritten b o form bytes _ before after = ⊥
 
 -- to be shown: it is refused, and the output took nothing; or it is accepted, and the output failed; or memory was refused
 abbrev pub IsItemNotShown : Bounds → List ℕ → Fault → Option (List ℕ) → Option (List ℕ) → Type 0
@@ -100,22 +118,3 @@ IsItemNotListed b start bytes (faults.Refused f) before after =
 IsItemNotListed b start bytes faults.CannotPrint before after = (shown : List ℕ) × IsCutOff start b bytes shown × Appends before after shown
 IsItemNotListed b start bytes faults.Memory before after = Unit {0}
 IsItemNotListed b start bytes _ before after = ⊥
-
--- ---- the canonical bytes of all
-
--- the input is a sequence of items that have canonical bytes, and the text is these
-pub record IsTextOfAll (b : Bounds) (o : KeyOrder) (form : Form) (input text : List ℕ) : Type 0 where
-  pub items : List Spelling
-  pub all : AreAll (HasCanonicalBytes b o) b.bytes input items
-  pub text_is : text ≡ canonical_texts o form items
-
--- the same of the input at a path
-abbrev pub IsTextOf : KeyOrder → Form → Options → List ℕ → Option Files → List ℕ → Type 0
-IsTextOf o form options source held text =
-    (input : List ℕ) × IsInput held source options.hex input × IsTextOfAll options.limits o form input text
-
--- why there is none: an item is refused, there is no input, or memory was refused
-abbrev pub IsNoTextOf : KeyOrder → Options → List ℕ → Option Files → Fault → Type 0
-IsNoTextOf o options source held (faults.RefusedItem index start f) =
-    (input : List ℕ) × IsInput held source options.hex input × IsUncanonicalAt options.limits o input index start f × IsOfInput f.reason
-IsNoTextOf o options source held fault = IsNoInput held source options.hex fault

@@ -1,6 +1,7 @@
-use Rattle.std.proofs.Common.{◌∙◌, arith, sym}
+use Rattle.std.proofs.Common.{◌∙◌, arith, refl, sym}
+use Rattle.std.proofs.lemmas.Result.{err_from_is_err_and}
 use Rattle.cborc_commands.proofs.Files.{keeps_keeps}
-use Rattle.cborc_commands.proofs.Items.{count_within, filled_too, read_too, one_more, all_written, stopped_there, taken_smaller, read_smaller}
+use Rattle.cborc_commands.proofs.Items.{not_begun, not_read_on, count_within, filled_too, read_too, one_more, all_written, stopped_there, taken_smaller, read_smaller}
 use Rattle.cborc_commands.proofs.ReadParts.{false_of_not, true_of_not}
 use Rattle.cborc_commands.proofs.sequence.write_items.Goals as goal
 
@@ -61,3 +62,20 @@ returns-in-Err-clause-stopped g c =
     rw (c.at_item.ensures, c.start-start.ensures.is)
     (stopped_there _ _ _ _ _ _ c.fill.new.self _ _ full _ begun _ _
     (λ behind e. rw (c.rest-in-items.ensures, c.start-start.ensures.is) at (c.in-Err.ensures.stopped behind (λ h. e (true_of_not c.fill.new.self.ended (sym c.goes_on-goes_on.ensures ∙ h))))))
+
+pub returns-in_err-parts-clause-stopped : goal.returns-in_err-parts-clause-stopped
+returns-in_err-parts-clause-stopped g c =
+    let p = err_from_is_err_and c.from_residual.result c.from_residual.ensures.1 in
+    rw (p.1, p.2) (not_begun _ _ _ _ _ _ _ _ c.in_err-parts.ensures.fault)
+
+pub returns-in_err-fill-clause-stopped : goal.returns-in_err-fill-clause-stopped
+returns-in_err-fill-clause-stopped g c =
+    let p = err_from_is_err_and c.from_residual-in_err-fill.result c.from_residual-in_err-fill.ensures.1 in
+    rw (p.1, p.2) (not_read_on _ _ _ _ _ _ c.items.parts _ _ c.items.invariant.taken _ (g.F.Folder.held c.items.files) _ refl _ c.in_err-fill.ensures.fault)
+
+pub returns-in_err-read_on-in-Ok-None-clause-stopped : goal.returns-in_err-read_on-in-Ok-None-clause-stopped
+returns-in_err-read_on-in-Ok-None-clause-stopped g c =
+    let p = err_from_is_err_and c.from_residual-in_err-read_on-in-Ok-None.result c.from_residual-in_err-read_on-in-Ok-None.ensures.1 in
+    let full = filled_too _ _ _ _ _ _ c.items.parts _ _ c.items.invariant.taken _ c.fill.new.self c.items.invariant.keeps c.in_ok-fill.ensures.filled in
+    let told = rw c.in-Ok-None.field-0-is at c.in-Ok-None.ensures.written in
+    rw (p.1, p.2) (not_read_on _ _ _ _ _ _ c.fill.new.self _ _ full _ (g.F.Folder.held c.fill.new.files) _ told.1 _ c.in_err-read_on-in-Ok-None.ensures.fault)
