@@ -7,7 +7,7 @@ A library between the program and the C library (counting.c), built here by `cc`
 one of them. Wanted is of `cborc`, whichever is refused: `out of memory` and status 3, with no more on standard
 output than the first bytes of what usually stands there, OUT as it was and no file beside it; or all as usual; on
 some documents by each command, and on the rows of the conformance table as `canon`, `check` and `compare` judge
-them. Of the calls over readers, on the rows: one call answers Memory, at a place before the end of its usual
+them. Of the calls over readers and `read_view`, on the rows: one call answers Memory, at a place before the end of its usual
 answer, with as many bytes taken as it tells, and every other call answers as usual; the strict reader answers
 Memory again, and reads nothing behind it. And that a head asks for no memory by itself: behind a head of 2^64 - 1,
 2^32 or 2^20 bytes, members or pairs, with nothing or little there, no more is asked for than behind a zero, but
@@ -263,6 +263,11 @@ def is_sequence(found, usual):
     return bar and usual.startswith(items) and memory and memory[1] == memory[2]
 
 
+def is_view(found, usual, length):
+    """Whether read_view answered so, or its tree was refused."""
+    return is_word(found, usual, length) or found == re.sub(",.*:", ",!19,0,0:", usual)
+
+
 def is_line(found, usual, length):
     """Whether all calls answered as usual but one, which was refused memory."""
     found, usual = found.split(" "), usual.split(" ")
@@ -270,10 +275,10 @@ def is_line(found, usual, length):
     if len(others) != 1:
         return not others
     found, usual = found[others[0]], usual[others[0]]
-    # three words and the calls in both orders for each part, and the sequence
+    # three words and the calls in both orders for each part, the view and the sequence
     part, word = divmod(others[0], 5)
     if part == len(PARTS):
-        return is_sequence(found, usual)
+        return is_sequence(found, usual) if word else is_view(found, usual, length)
     return is_word(found, usual, length) if word < 3 else is_calls(found, usual, PARTS[part], length)
 
 

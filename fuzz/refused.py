@@ -2,9 +2,9 @@
 
 From whichever request on memory is refused, `Tree::of` gives back the item that it was given, `encode` answers Memory
 at 0, `encode_to` has written nothing, a builder gives nothing, a sequence gives the first of its items, then Memory,
-and then none, and `same_meaning` names the side that it was at, behind bytes that it took: the left one, and from
-some request on the right one. And the calls that take no memory make no request: as many are made whether these
-are called or not.
+and then none, `read_view` answers Memory behind bytes that it took, or the tree of its view is refused, and
+`same_meaning` names the side that it was at, behind bytes that it took: the left one, and from some request on the
+right one. And the calls that take no memory make no request: as many are made whether these are called or not.
 """
 
 import os
@@ -48,6 +48,11 @@ def is_items(found, usual):
     return memory and memory[1] == memory[2] and usual.startswith(items)
 
 
+def is_view(found, usual, length):
+    memory = MEMORY.fullmatch(found)
+    return found == re.sub(",.*", ",!19,0,0", usual) or (memory and memory[1] == memory[2] and int(memory[1]) <= length)
+
+
 def is_side(found, length):
     memory = re.fullmatch(r"(left|right)!19,(\d+),(\d+)", found)
     return memory and memory[2] == memory[3] and 0 < int(memory[2]) <= length
@@ -61,6 +66,7 @@ def is_refused(place, found, usual, length):
         lambda: found == "!19,0,0:0",
         lambda: found == "!",
         lambda: is_items(found, usual),
+        lambda: is_view(found, usual, length),
         lambda: is_side(found, length),
     ][place]()
 
@@ -69,7 +75,7 @@ def go_through(driver, digits):
     """How many answers were Memory, and what went wrong."""
     status, usual, asked = driver.run(digits)
     wrong, told, sides = [], 0, []
-    if status != 0 or len(usual) != 6:
+    if status != 0 or len(usual) != 7:
         return 0, [f"{digits}: {status} {usual}"]
     if driver.run(digits, idle=9) != (status, usual, asked):
         wrong.append(f"{digits}: other answers or requests beside calls that take no memory")
@@ -85,7 +91,7 @@ def go_through(driver, digits):
                 told += 1
                 if not is_refused(place, word, before, len(digits) // 2):
                     wrong.append(f"{digits}, from request {refused}: {word} in place of {before}")
-        sides.append(found[5].partition("!")[0])
+        sides.append(found[6].partition("!")[0])
     # the left one, then the right one
     named = [it for it in sides if it in ("left", "right")]
     if sorted(named) != named or set(named) != {"left", "right"}:

@@ -8,9 +8,10 @@ Each input goes through the calls that must agree on it: canonicalise, in both o
 once more; check_canonical, check_valid, compare, diagnostic. With the program every tenth goes through show,
 events, and check and check --strict over a sequence; with the readers each goes through read_tree and then
 encode, read_strict, StrictReader call by call with what it asks of its reader, and Sequence, over readers that
-give 1, 2, 3 or 4096 bytes a read. First come the rows of the conformance table, whose answers were worked out
-by hand, and large maps out of order (large.py). The first disagreement is told with its input and the seed, and the status is 1. The time ends the run;
-what a seed tries is always the same.
+give 1, 2, 3 or 4096 bytes a read, and through read_view, its tree and then encode. First come the rows of the
+conformance table, whose answers were worked out by hand, and large maps out of order (large.py). The first
+disagreement is told with its input and the seed, and the status is 1. The time ends the run; what a seed tries is
+always the same.
 """
 
 import argparse
@@ -167,7 +168,8 @@ def read(answers, depth, most):
         if it.plain:
             break
         rest = rest[it.size :]
-    return " ".join(parts + [items])
+    # the view is answered as the tree
+    return " ".join([*parts, words[0], items])
 
 
 def line(refusal, before=""):

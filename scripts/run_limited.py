@@ -18,9 +18,6 @@ import time
 
 from running import PROGRAM, end, expect, faults, limited, run, short
 
-# Rows that fail only as long as `canon --seq` holds all that it writes. One that stands here and passes is a fault.
-WAITING = ["canon --seq of 64 MB to a file", "canon --seq of 64 MB to standard output"]
-
 # The claims of a token (RFC 8392), 75 bytes of them.
 CLAIMS = (
     b"\xa7\x01\x75coap://as.example.com\x02\x66erikwm\x03\x73coaps://example.com"
@@ -295,13 +292,6 @@ def test():
     for it in TESTS:
         with tempfile.TemporaryDirectory() as folder:
             it(Place(folder))
-    for name in WAITING:
-        found = [it for it in faults if it.startswith(name)]
-        for it in found:
-            print("limited: waits:", it)
-            faults.remove(it)
-        if not found:
-            faults.append(f"{name}: passes, and stands in WAITING")
 
 
 if __name__ == "__main__":

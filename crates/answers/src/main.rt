@@ -3,8 +3,9 @@
 //! An input line is a depth limit, a byte limit and the bytes in hex digits. The answers stand in a
 //! fixed order with spaces between: for readers that give at most 1, 3 and 4096 bytes a read, what
 //! `read_tree` and `read_strict` answer and the canonical bytes of the tree, and what `StrictReader`
-//! answers call by call; then what a `Sequence` gives. A refusal is `!` and its reason, place and
-//! `read`; behind the last colon stand the bytes that the reader has left.
+//! answers call by call; then what `read_view` answers and the canonical bytes of its tree, and what
+//! a `Sequence` gives. A refusal is `!` and its reason, place and `read`; behind the last colon stand
+//! the bytes that the reader has left.
 //!
 //! A call of `StrictReader` ends with `;`: an event (name, argument, place, width, and the bytes of a
 //! piece), `none` or a refusal; then `taken`, `open`, `spans`, `kept` and the length of `piece`.
@@ -23,9 +24,10 @@ use crate::events::answer_events;
 use crate::memory::answer_memory;
 use crate::parts::Parts;
 use crate::writing::{put_hex, put_refusal};
+use bumpalo::Bump;
 use cbor_head::{Limits, Refusal};
 use cbor_item::encode;
-use cbor_reader::{KeyOrder, Sequence, Tree, read_strict, read_tree};
+use cbor_reader::{KeyOrder, Sequence, Tree, read_strict, read_tree, read_view};
 use std::alloc::Global;
 use std::io::{self, BufWriter, ErrorKind, Read, Write};
 use std::process::ExitCode;
@@ -90,6 +92,7 @@ fn answer_line<W: Write>(alloc: Global, line: &str, out: &mut W) -> io::Result<(
             answer_events(alloc, Parts { rest, part }, limits, order, out)?;
         }
     }
+    answer_view(alloc, &bytes, limits, out)?;
     answer_sequence(alloc, &bytes, limits, out)?;
     writeln!(out)
 }
@@ -106,15 +109,49 @@ fn answer_tree<W: Write>(
     match read_tree(alloc, &mut reader, limits) {
         Ok((tree, count)) => {
             write!(out, "{count}")?;
-            for order in ORDERS {
-                write!(out, ",")?;
-                let canonical = encode(alloc, &tree, order).map_err(|_| malformed())?;
-                put_hex(&canonical, out)?;
-            }
+            put_canonical(alloc, &tree, out)?;
         }
         Err(refusal) => put_refusal(refusal, out)?,
     }
     write!(out, ":{} ", reader.rest.len())
+}
+
+// In both orders, each behind a comma.
+fn put_canonical<W: Write>(alloc: Global, tree: &Tree, out: &mut W) -> io::Result<()> {
+    for order in ORDERS {
+        write!(out, ",")?;
+        let canonical = encode(alloc, tree, order).map_err(|_| malformed())?;
+        put_hex(&canonical, out)?;
+    }
+    Ok(())
+}
+
+// The same of the view. Where its tree is refused, this stands in place of the canonical bytes.
+fn answer_view<W: Write>(
+    alloc: Global,
+    bytes: &[u8],
+    limits: Limits,
+    out: &mut W,
+) -> io::Result<()> {
+    let arena = Bump::new(alloc);
+    let taken = match read_view(alloc, bytes, limits, &arena) {
+        Ok((view, count)) => {
+            write!(out, "{count}")?;
+            match view.to_tree(alloc) {
+                Ok(tree) => put_canonical(alloc, &tree, out)?,
+                Err(refusal) => {
+                    write!(out, ",")?;
+                    put_refusal(refusal, out)?;
+                }
+            }
+            count
+        }
+        Err(refusal) => {
+            put_refusal(refusal, out)?;
+            refusal.read
+        }
+    };
+    write!(out, ":{} ", (bytes.len() as u64).saturating_sub(taken))
 }
 
 fn answer_strict<W: Write>(

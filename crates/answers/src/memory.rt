@@ -1,17 +1,19 @@
 //! What the calls over whole items answer where memory is refused from some request on.
 
 use crate::writing::{put_hex, put_refusal};
+use bumpalo::Bump;
 use cbor_builder::CanonBuilder;
 use cbor_head::{KeyOrder, Limits, Major};
 use cbor_item::{Tree, encode, encode_to, same};
-use cbor_reader::{Sequence, Side, StrictReader, read_tree, same_meaning};
+use cbor_reader::{Sequence, Side, StrictReader, read_tree, read_view, same_meaning};
+use cbor_view::ViewBuilder;
 use std::alloc::{AllocError, Global};
 use std::io::{self, ErrorKind, Write};
 
 /// The answers of `Tree::of`, and whether the item is the one that was given; `encode`; `encode_to`,
-/// and how many bytes its writer took; a `CanonBuilder`; `next_strict` until it gives none; and
-/// `same_meaning` of the bytes and the same bytes. So many times each call that takes no memory is
-/// made beside them.
+/// and how many bytes its writer took; a `CanonBuilder`; `next_strict` until it gives none;
+/// `read_view`, and whether the tree of the view is the same; and `same_meaning` of the bytes and the
+/// same bytes. So many times each call that takes no memory is made beside them.
 pub(crate) fn answer_memory<W: Write>(
     alloc: Global,
     bytes: &[u8],
@@ -45,6 +47,7 @@ pub(crate) fn answer_memory<W: Write>(
     }
     write!(out, " ")?;
     put_items(alloc, bytes, limits, out)?;
+    put_view(alloc, bytes, limits, &twin, idle, out)?;
     match same_meaning(alloc, bytes, bytes, limits) {
         Ok(is_same) => writeln!(out, " {is_same}"),
         Err((side, refusal)) => {
@@ -142,4 +145,34 @@ fn put_items<W: Write>(alloc: Global, bytes: &[u8], limits: Limits, out: &mut W)
         }
     }
     Ok(())
+}
+
+// How many bytes the view has, and its tree beside the one that is given.
+fn put_view<W: Write>(
+    alloc: Global,
+    bytes: &[u8],
+    limits: Limits,
+    tree: &Tree,
+    idle: u32,
+    out: &mut W,
+) -> io::Result<()> {
+    let arena = Bump::new(alloc);
+    write!(out, " ")?;
+    match read_view(alloc, bytes, limits, &arena) {
+        Ok((view, count)) => {
+            for _ in 0..idle {
+                let _ = ViewBuilder::new(alloc, &arena);
+                let _ = view.same(&view);
+                let _ = view.get(&view).is_some();
+                let _ = view.get_text("a").is_some();
+                let _ = view.get_integer(1).is_some();
+            }
+            write!(out, "{count},")?;
+            match view.to_tree(alloc) {
+                Ok(viewed) => write!(out, "{}", same(&viewed, tree)),
+                Err(refusal) => put_refusal(refusal, out),
+            }
+        }
+        Err(refusal) => put_refusal(refusal, out),
+    }
 }

@@ -1,11 +1,16 @@
 //! Spellings of one document are signed alike, and a document that could be read in two ways is
-//! not.
+//! not. Of records two fields are told, however these are spelled.
 
 mod memory;
 
-use crate::bytes_to_sign;
-use cbor_head::{Reason, Refusal};
+use crate::{Fault, bytes_to_sign, two_fields};
+use cbor_head::{Limits, Reason, Refusal};
+use std::process::Abort;
 use std::test::Fail;
+
+fn limits<R: Abort>(rt: &R) -> Limits {
+    Limits::new(64, 65_536).expect(rt, "limits")
+}
 
 #[test]
 fn spellings_of_one_document_are_signed_alike(rt: HostRuntime) -> Result<(), Fail> {
@@ -31,4 +36,27 @@ fn a_repeated_key_is_refused_with_its_place(rt: HostRuntime) -> Result<(), Fail>
     };
     assert_eq!(rt; refusal, Some(expected));
     Ok(())
+}
+
+// {"id": 1, "by": -5}, and {"x": ["y"], "by": 7, "id": 2} without lengths and with a key in chunks
+static RECORDS: &[u8] =
+    b"\xa2\x62id\x01\x62by\x24\xbf\x61x\x9f\x61y\xff\x62by\x07\x7f\x61i\x61d\xff\x02\xff";
+
+#[test]
+fn fields_are_told_of_each_record(rt: HostRuntime) -> Result<(), Fail> {
+    let rows = two_fields(rt.alloc(), RECORDS, limits(&rt), "id", "by")?;
+    assert_eq!(rt; rows.as_slice(), [(1, -5), (2, 7)].as_slice());
+    let none = two_fields(rt.alloc(), b"", limits(&rt), "id", "by")?;
+    assert!(rt; none.is_empty());
+    Ok(())
+}
+
+#[test]
+fn a_record_without_a_field_is_a_fault(rt: HostRuntime) {
+    let fault = two_fields(rt.alloc(), RECORDS, limits(&rt), "id", "x").err();
+    assert_eq!(rt; fault, Some(Fault::NoInteger));
+    // {"id": and no more
+    let fault = two_fields(rt.alloc(), b"\xa2\x62id", limits(&rt), "id", "by").err();
+    let cut = Refusal::at(Reason::Truncated, 4);
+    assert_eq!(rt; fault, Some(Fault::Refused(cut)));
 }

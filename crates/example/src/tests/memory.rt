@@ -2,10 +2,11 @@
 //! refuses the Nth request of each test, and these pass whatever N is; with none refused they show
 //! what is usual. Nothing here takes memory but the calls themselves.
 
-use crate::bytes_to_sign;
-use cbor_head::{KeyOrder, Limits, Reason, Refusal};
-use cbor_reader::{Sequence, Side, canonicalise, read_strict, read_tree, same_meaning};
-use std::process::Abort;
+use super::{RECORDS, limits};
+use crate::{Fault, bytes_to_sign, two_fields};
+use bumpalo::Bump;
+use cbor_head::{KeyOrder, Reason, Refusal};
+use cbor_reader::{Sequence, Side, canonicalise, read_strict, read_tree, read_view, same_meaning};
 
 // {1: {"b": 0, "a": h'07..'}, h'07..': [1, "text"], {1: 2}: 24(1)}, with an array and a text without
 // a length, and keys of more bytes than lie beside other values.
@@ -15,10 +16,6 @@ static DOCUMENT: &[u8] =
 // The same in canonical bytes.
 static CANONICAL: &[u8] =
     b"\xa3\x01\xa2\x61a\x42\x07\x07\x61b\x00\x54\x07\x07\x07\x07\x07\x07\x07\x07\x07\x07\x07\x07\x07\x07\x07\x07\x07\x07\x07\x07\x82\x01\x64text\xa1\x01\x02\xd8\x18\x01";
-
-fn limits<R: Abort>(rt: &R) -> Limits {
-    Limits::new(64, 65_536).expect(rt, "limits")
-}
 
 // Whether a refusal says that memory was refused, with as many bytes taken as it tells.
 fn is_memory(refusal: Refusal, taken: usize) -> bool {
@@ -49,6 +46,24 @@ fn a_tree_or_memory(rt: HostRuntime) {
     match read_tree(rt.alloc(), &mut reader, limits(&rt)) {
         Ok((_tree, count)) => assert_eq!(rt; count, DOCUMENT.len() as u64),
         Err(refusal) => assert!(rt; is_memory(refusal, taken(reader, DOCUMENT)), "{refusal}"),
+    }
+}
+
+#[test]
+fn a_view_or_memory(rt: HostRuntime) {
+    let arena = Bump::new(rt.alloc());
+    match read_view(rt.alloc(), DOCUMENT, limits(&rt), &arena) {
+        Ok((_, count)) => assert_eq!(rt; count, DOCUMENT.len() as u64),
+        Err(refusal) => assert!(rt; is_memory(refusal, DOCUMENT.len()), "{refusal}"),
+    }
+}
+
+#[test]
+fn fields_or_memory(rt: HostRuntime) {
+    match two_fields(rt.alloc(), RECORDS, limits(&rt), "id", "by") {
+        Ok(rows) => assert_eq!(rt; rows.len(), 2),
+        Err(Fault::Refused(refusal)) => assert_eq!(rt; refusal.reason, Reason::Memory),
+        Err(fault) => assert_eq!(rt; fault, Fault::Memory),
     }
 }
 

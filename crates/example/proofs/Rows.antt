@@ -1,0 +1,42 @@
+-- Rows of records, and one more.
+use Rattle.std.proofs.Common.{ℕ, ℤ, pos, negsuc, ◌≤ℤ◌, ◌-◌, ◌^◌, ◌≤◌, ◌≡◌, ◌≢◌, inr, Option, Some, None, List, [], ◌∷◌, ◌++◌, length, take, drop, sym, ap, ◌∙◌, subst, arith, length-drop}
+use Rattle.std.specs.Option.{MatchOption}
+use Rattle.std.proofs.Math.Seq.{take-length}
+use Rattle.std.proofs.lemmas.List.{length-append, length-take}
+use Rattle.cbor_head.specs.Complaint.{plain}
+use Rattle.cbor_head.specs.Limits.{Bounds}
+use Rattle.cbor_head.specs.Spelling.{spell}
+use Rattle.cbor_head.specs.Value.{Value, text}
+use Rattle.cbor_grammar.proofs.Accepted.{accepts_exactly}
+use Rattle.cbor_grammar.proofs.ReadLaws.{length_spell}
+use Rattle.cbor_judging.specs.Readers.{IsReadAs}
+use Rattle.cbor_view.specs.Kinds.{integer}
+use Rattle.cbor_view.specs.Lookup.{HasValueAt}
+use Rattle.example.specs.Fields.{HasInteger, HasNoInteger, HasIntegers, AreRows}
+
+-- what is read at a key
+pub integer_found : (key : List ℕ) (v w : Value) (found : Option ℤ) → HasValueAt v (text key) w
+    → MatchOption found ((z : ℤ) → negsuc (2 ^ 63 - 1) ≤ℤ z → z ≤ℤ pos (2 ^ 63 - 1) → w ≢ integer z) (λ z. w ≡ integer z)
+    → MatchOption found (HasNoInteger key v) (HasInteger key v)
+integer_found key v w None at none = inr (w, at, none)
+integer_found key v w (Some z) at is = subst (HasValueAt v (text key)) is at
+
+-- an item has a byte, and no more than the input
+pub count_within : (limits : Bounds) (input : List ℕ) (v : Value) (count : ℕ) → IsReadAs limits plain input v count → (1 ≤ count) × (count ≤ length input)
+count_within limits input v count read =
+    let s = read.read.item in
+    let front = (accepts_exactly limits plain input s).0 read.read.verdict in
+    let whole = ap length front.1.2 in
+    (omega (arith, read.read.size, length_spell s), omega (arith, read.read.size, whole, length-append (spell s) front.0, length-take limits.bytes input))
+
+-- what is left of it behind so many bytes
+pub behind : (size : ℕ) (rest : List ℕ) → take (length rest - size) (drop size rest) ≡ drop size rest
+behind size rest = ap (λ (n : ℕ). take n (drop size rest)) (sym (length-drop size rest)) ∙ take-length (drop size rest)
+
+pub one_more : (limits : Bounds) (first second input : List ℕ) (rows : List (ℤ × ℤ)) (rest : List ℕ) → AreRows limits first second input rows rest
+    → (v : Value) (count : ℕ) (row : ℤ × ℤ) → IsReadAs limits plain rest v count → HasIntegers first second v row
+    → AreRows limits first second input (rows ++ row ∷ []) (drop count rest)
+one_more limits first second input [] rest is v count row read has =
+    (v, count, subst (λ (b : List ℕ). IsReadAs limits plain b v count) (sym is) read, has, ap (drop count) is)
+one_more limits first second input (r ∷ rs) rest (w, n, before, both, behind) v count row read has =
+    (w, n, before, both, one_more limits first second (drop n input) rs rest behind v count row read has)

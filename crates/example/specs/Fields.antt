@@ -1,0 +1,45 @@
+-- The integers at two keys of each record, of records that stand one behind another (RFC 8742).
+use Rattle.std.specs.Prelude.{ℕ, ℤ, pos, negsuc, ◌≤ℤ◌, ◌-◌, ◌^◌, ◌<◌, ◌≡◌, ◌≢◌, ◌⊎◌, List, [], ◌∷◌, length, drop}
+use Rattle.cbor_head.specs.Complaint.{plain}
+use Rattle.cbor_head.specs.Limits.{Bounds}
+use Rattle.cbor_head.specs.Value.{Value, text}
+use Rattle.cbor_judging.specs.Readers.{IsReadAs, IsUnread}
+use Rattle.cbor_view.specs.Kinds.{integer}
+use Rattle.cbor_view.specs.Lookup.{HasValueAt}
+use Rattle.example.specs.declared.fields.Fault.{Fault}
+use Rattle.example.specs.declared.fields.Fault.TheVariants as faults
+
+-- the record is a map, whose value at this text is this integer
+abbrev pub HasInteger : List ℕ → Value → ℤ → Type 0
+HasInteger key v z = HasValueAt v (text key) (integer z)
+
+-- it has no value there, or one that is no integer of an i64
+abbrev pub HasNoInteger : List ℕ → Value → Type 0
+HasNoInteger key v =
+    ((w : Value) → HasValueAt v (text key) w → ⊥)
+    ⊎ ((w : Value) × HasValueAt v (text key) w × ((z : ℤ) → negsuc (2 ^ 63 - 1) ≤ℤ z → z ≤ℤ pos (2 ^ 63 - 1) → w ≢ integer z))
+
+-- those at both keys
+abbrev pub HasIntegers : List ℕ → List ℕ → Value → (ℤ × ℤ) → Type 0
+HasIntegers first second v row = HasInteger first v row.0 × HasInteger second v row.1
+
+-- the input starts with records, and rest follows them: a row for each, in their order
+abbrev pub AreRows : Bounds → List ℕ → List ℕ → List ℕ → List (ℤ × ℤ) → List ℕ → Type 0
+AreRows limits first second input [] rest = input ≡ rest
+AreRows limits first second input (row ∷ rows) rest =
+    (v : Value) × (count : ℕ) × IsReadAs limits plain input v count × HasIntegers first second v row × AreRows limits first second (drop count input) rows rest
+
+-- why the first record of the input gives no row
+abbrev pub HasNoRow : Bounds → List ℕ → List ℕ → List ℕ → Fault → Type 0
+HasNoRow limits first second input (faults.Refused f) = IsUnread limits plain input f
+HasNoRow limits first second input faults.NoInteger =
+    (v : Value) × (count : ℕ) × IsReadAs limits plain input v count × (HasNoInteger first v ⊎ HasNoInteger second v)
+HasNoRow limits first second input faults.Memory = Unit {0}
+
+-- behind records that have both comes one that gives no row
+pub record StopsAt (limits : Bounds) (first second input : List ℕ) (fault : Fault) : Type 0 where
+  pub rows : List (ℤ × ℤ)
+  pub rest : List ℕ
+  pub before : AreRows limits first second input rows rest
+  pub begun : 0 < length rest
+  pub why : HasNoRow limits first second rest fault

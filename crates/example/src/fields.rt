@@ -1,0 +1,99 @@
+//! Two fields of each record of a sequence, by views.
+
+ghost use Rattle.std.specs.Prelude.{◌≡◌, ◌≤◌, [], length, IfOk, IfErr, MatchOption};
+ghost use Rattle.cbor_head.specs.Complaint.{plain};
+ghost use Rattle.cbor_head.specs.Value.{Value};
+ghost use Rattle.cbor_judging.specs.Readers.{IsReadAs};
+ghost use Rattle.cbor_view.specs.Seen.{seen};
+ghost use Rattle.example.specs.Fields.{HasInteger, HasNoInteger, HasIntegers, AreRows};
+ghost use Rattle.example.specs.Fields.{HasNoRow, StopsAt};
+ghost use Rattle.example.specs.declared.fields.Fault.TheVariants as faults;
+
+use bumpalo::Bump;
+use cbor_head::{Limits, Refusal};
+use cbor_reader::read_view;
+use cbor_view::View;
+use std::alloc::Global;
+
+/// Why the fields of a record are not had.
+#[derive(Clone, Copy, Debug, PartialEq, Eq)]
+pub enum Fault {
+    /// The record is refused; places are counted from its first byte.
+    Refused(Refusal),
+    /// At one of the keys it has no integer that an `i64` holds.
+    NoInteger,
+    /// Memory was refused to the list.
+    Memory,
+}
+
+impl From<Refusal> for Fault {
+    ghost from_gives = { λ refusal fault. fault ≡ faults.Refused refusal };
+
+    fn from(refusal: Refusal) -> Fault {
+        Fault::Refused(refusal)
+    }
+}
+
+/// The integers at two keys of each record, of records that stand one behind another (RFC 8742). One
+/// arena serves them all, so that no more is held than of the largest.
+pub fn two_fields(
+    alloc: Global,
+    records: &[u8],
+    limits: Limits,
+    first: &str,
+    second: &str,
+) -> Result<Vec<(i64, i64)>, Fault>
+    ensures rows { IfOk result (λ rows.
+        AreRows limits first.now second.now records.now rows.items []) }
+    ensures fault { IfErr result (StopsAt limits first.now second.now records.now) }
+{
+    let mut rows = Vec::new(alloc);
+    let mut arena = Bump::new(alloc);
+    let mut rest = records;
+    'records: while !rest.is_empty() {
+        let (row, size) = row_at(alloc, rest, limits, first, second, &arena)?;
+        let Ok(()) = rows.push(row) else {
+            return Err(Fault::Memory);
+        };
+        rest = &rest[size..];
+        // Where it fails, the arena goes on growing.
+        let _ = arena.reset();
+    }
+    Ok(rows)
+}
+
+// The integers of the record at the front, and how many bytes it has.
+fn row_at(
+    alloc: Global,
+    bytes: &[u8],
+    limits: Limits,
+    first: &str,
+    second: &str,
+    arena: &Bump,
+) -> Result<((i64, i64), usize), Fault>
+    ensures row { IfOk result (λ found. (v : Value)
+        × IsReadAs limits plain bytes.now v found.1
+        × HasIntegers first.now second.now v found.0) }
+    ensures size { IfOk result (λ found. (1 ≤ found.1) × (found.1 ≤ length bytes.now)) }
+    ensures fault { IfErr result (HasNoRow limits first.now second.now bytes.now) }
+{
+    let (record, size) = read_view(alloc, bytes, limits, arena)?;
+    let Some(left) = integer_at(&record, first) else {
+        return Err(Fault::NoInteger);
+    };
+    let Some(right) = integer_at(&record, second) else {
+        return Err(Fault::NoInteger);
+    };
+    Ok(((left, right), size as usize))
+}
+
+// The integer at a key.
+fn integer_at(map: &View<'_>, key: &str) -> Option<i64>
+    ensures { MatchOption result (HasNoInteger key.now (seen map.now))
+        (HasInteger key.now (seen map.now)) }
+{
+    match map.get_text(key) {
+        Some(value) => value.as_i64(),
+        None => None,
+    }
+}
