@@ -1,6 +1,6 @@
 /* library FOLDER NAME..: times calls of naltvigo.h in process on FOLDER/NAME.cbor and its canonical bytes
  * FOLDER/NAME.bytewise, beside plain C (floor.c) and, where it is there, libcbor; prints a row of a Markdown
- * table for each, in MB/s of processor time, the best of some calls; then what a call on a small item costs. */
+ * table for each, in MB/s of processor time, the best of some calls; then what a call on a small item costs, and events. */
 #define _POSIX_C_SOURCE 199309L
 #include "../c/options.h"
 #include "floor.h"
@@ -161,11 +161,11 @@ static void tell_small(void) {
 }
 
 int main(int count, char **words) {
-    printf("| input | bytes | `canonicalise` | plain C | `check_canonical` | plain C | `check_valid` | `compare` | `machine_take`, 64 events | 1 event |");
+    printf("| input | bytes | `canonicalise` | plain C | `check_canonical` | plain C | `check_valid` | `compare` |");
 #ifdef HAS_LIBCBOR
     printf(" libcbor, load | load and serialise |");
 #endif
-    printf("\n| --- | ---: | ---: | ---: | ---: | ---: | ---: | ---: | ---: | ---: |");
+    printf("\n| --- | ---: | ---: | ---: | ---: | ---: | ---: | ---: |");
 #ifdef HAS_LIBCBOR
     printf(" ---: | ---: |");
 #endif
@@ -183,8 +183,6 @@ int main(int count, char **words) {
         tell(plain_check_canonical, canonical.length);
         tell(check_valid, in.length);
         tell(compare, in.length);
-        tell(events_64, in.length);
-        tell(events_1, in.length);
 #ifdef HAS_LIBCBOR
         tell(libcbor_load, in.length);
         tell(libcbor_again, in.length);
@@ -193,5 +191,15 @@ int main(int count, char **words) {
         free(in.at), free(canonical.at), free(out.at);
     }
     tell_small();
+    puts("\n| events by `naltvigo_machine_take`, MB/s | bytes | room for 64 | room for 1 |");
+    puts("| --- | ---: | ---: | ---: |");
+    for (int i = 2; i < count; i++) {
+        in = slurp(words[1], words[i], "cbor");
+        printf("| %s | %zu |", words[i], in.length);
+        tell(events_64, in.length);
+        tell(events_1, in.length);
+        puts("");
+        free(in.at);
+    }
     return 0;
 }
