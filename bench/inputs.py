@@ -99,6 +99,17 @@ def texts(chance, count):
     return shuffled(chance, ((f"{it:05}", it % 24) for it in range(count)))
 
 
+def past_ascii(chance):
+    """A text of Latin, Greek, Cyrillic or Han letters, or of signs beyond the first plane."""
+    first, count = chance.choice(((0x61, 26), (0xE0, 32), (0x3B1, 24), (0x430, 32), (0x4E00, 2000), (0x1F600, 60)))
+    return "".join(chr(first + chance.randrange(count)) for _ in range(chance.randrange(10, 70)))
+
+
+def in_chunks(chance):
+    """A small map, with a text in chunks."""
+    return Map([("x", [5]), (1, Chunks("".join(chance.choices("abc", k=chance.randrange(20)))))])
+
+
 def nested(core, depth, pair):
     for _ in range(depth):
         core = Map(pair(core))
@@ -125,6 +136,8 @@ def inputs():
     yield "keys_around_map", nested(numbers, 255, lambda it: [(it, 0), (0, 0)])
     yield "keys_around_zeros", nested([0] * (MIB - 1100), 255, lambda it: [(it, 0), (0, 0)])
     yield "bytes_16_mib", bytes(16 * MIB)
+    yield "texts", filled(lambda: past_ascii(chance), MIB)
+    yield "small_chunks", filled(lambda: in_chunks(chance), MIB)
 
 
 def main():

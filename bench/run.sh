@@ -1,7 +1,7 @@
 #!/usr/bin/env bash
 # Prints how long the library and the program take, as Markdown tables.
 #
-#   bench/run.sh [items] [program] [library] [strict]      all four without a word
+#   bench/run.sh [items] [program] [library] [strict] [views]      all five without a word
 #
 # items    proves and runs items.rattle, a program over cbor_item, on trees made from a seed
 # program  proves cborc, makes files from a seed (inputs.py), and runs it on them (program.py); then on a sequence of
@@ -10,6 +10,8 @@
 #          and libcbor, where Debian's libcbor-dev is installed
 # strict   proves and runs strict.rattle, a program over cbor_strict, and counts the instructions of
 #          read_strict from a reader beside those of plain C (strict.py, strict.c, floor.c), by valgrind
+# views    proves and runs views.rattle, a program over cbor_reader and example, and counts the instructions
+#          and the memory of read_view beside those of check_valid and read_tree (views.py), by valgrind
 #
 # The kit's rt has to be on the path. What rt says goes to standard error. All is done on a copy in
 # a temporary folder, which takes over what earlier checks of the clone kept, so that only what
@@ -64,16 +66,26 @@ strict() {
         nested_many nested_keys keys_around_map
 }
 
-[ $# -gt 0 ] || set -- items program library strict
+views() {
+    mkdir -p "$room/crates/views/src" "$room/inputs"
+    cp "$root/bench/views.rattle" "$room/crates/views/src/main.rt"
+    echo "views: cbor_head cbor_item cbor_reader example anyhow bumpalo" >>"$room/crates.txt"
+    [ -e "$room/inputs/one.cbor" ] || python3 "$root/bench/inputs.py" "$room/inputs"
+    cd "$room/crates/views"
+    rt run -- valid "$room/inputs/one.cbor" >/dev/null 2>"$room/log" || { cat "$room/log" >&2; return 1; }
+    python3 "$root/bench/views.py" out/views "$room/inputs" records integers texts map_100000 small_chunks zeros
+}
+
+[ $# -gt 0 ] || set -- items program library strict views
 date -u +'%Y-%m-%d, '"$(nproc) processors, load $(cut -d' ' -f1 /proc/loadavg)"
 for part; do
     case $part in
-        items | program | library | strict)
+        items | program | library | strict | views)
             printf '\n## %s\n\n' "$part"
             ("$part")
             ;;
         *)
-            echo "usage: bench/run.sh [items] [program] [library] [strict]" >&2
+            echo "usage: bench/run.sh [items] [program] [library] [strict] [views]" >&2
             exit 2
             ;;
     esac

@@ -12,13 +12,18 @@ import subprocess
 import sys
 
 
-def instructions(program, path):
-    """Returns how many instructions a run takes."""
-    words = ["valgrind", "--tool=callgrind", "--callgrind-out-file=/dev/null", program, path]
-    ran = subprocess.run(words, stdout=subprocess.DEVNULL, stderr=subprocess.PIPE, text=True)
+def run_under(tool, *words):
+    """Returns what the run of a program writes, and what a tool of valgrind says of it."""
+    ran = subprocess.run(["valgrind", f"--tool={tool}", f"--{tool}-out-file=/dev/null", *words], capture_output=True, text=True)
     if ran.returncode:
-        sys.exit(f"{program} {path}: status {ran.returncode}")
-    return int(next(line.split()[-1] for line in ran.stderr.splitlines() if "Collected" in line))
+        sys.exit(f"{' '.join(words)}: status {ran.returncode}")
+    return ran.stdout, ran.stderr
+
+
+def instructions(*words):
+    """Returns how many instructions a run takes."""
+    _, said = run_under("callgrind", *words)
+    return int(next(line.split()[-1] for line in said.splitlines() if "Collected" in line))
 
 
 def main():
