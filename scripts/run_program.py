@@ -149,7 +149,7 @@ def sequences():
     ended = run(
         ["canon", "--seq", "--explain", "sequence", "kept"],
         restore_signals=False,
-        preexec_fn=lambda: resource.setrlimit(resource.RLIMIT_FSIZE, (50_000, 50_000)),
+        preexec_fn=short(50_000),
     )
     if (ended.returncode, ended.stdout) != (3, b"") or not ended.stderr.startswith(b"cannot write kept\n"):
         faults.append(f"no room for a sequence: found {(ended.returncode, ended.stdout, ended.stderr)}")
