@@ -1,24 +1,8 @@
--- What is read of a file, and what becomes of text that is handed on as it is read.
-use Rattle.std.specs.Prelude.{ℕ, ◌≡◌, ◌≤◌, ◌++◌, List, length, IsErr}
-use Rattle.std.specs.List.{filter}
-use Rattle.hex.specs.Hex.{decode_of}
-use Rattle.cborc.specs.declared.disk.TextFault.{TextFault}
-use Rattle.cborc.specs.declared.disk.TextFault.TheVariants as faults
-use Rattle.cborc_files.specs.Digits.{DigitsView, IsOfText, Spells}
-use Rattle.cborc_files.specs.Hex.{is_kept}
+-- What is read of a file.
+use Rattle.std.specs.Prelude.{ℕ, ◌≡◌, ◌≤◌, ◌++◌, List, length}
 
 -- bytes were added to the old ones, no more than so many
 pub record IsAppended (most : ℕ) (old new : List ℕ) : Type 0 where
   pub added : List ℕ
   pub is : new ≡ old ++ added
   pub few : length added ≤ most
-
--- they took some text, behind what they had
-pub record HasPushed (old new : DigitsView) : Type 0 where
-  pub most : new.most ≡ old.most
-  pub goes_on : (text : List ℕ) → Spells text old → (more : List ℕ) × Spells (text ++ more) new
-
--- the text that they were handed behind what they had is no hex text
-abbrev pub IsNoText : DigitsView → TextFault → Type 0
-IsNoText old (faults.Digits fault) = IsOfText fault → (text : List ℕ) → Spells text old → (more : List ℕ) × IsErr (decode_of (filter is_kept (text ++ more)))
-IsNoText old (faults.Reading error) = Unit {0}

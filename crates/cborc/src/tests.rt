@@ -5,6 +5,7 @@ mod disk;
 mod explained;
 mod failures;
 mod help;
+mod hex_sequences;
 mod in_memory;
 mod items;
 mod refused;

@@ -1,5 +1,5 @@
 -- The items of a sequence, of each of which something was written.
-use Rattle.std.proofs.Common.{ℕ, ◌+◌, ◌<◌, ◌≤◌, ◌≡◌, inl, inr, Bool, true, false, Option, Some, None, List, [], ◌∷◌, ◌++◌, length, flat_map, drop, refl, sym, ap, ◌∙◌, arith, subst}
+use Rattle.std.proofs.Common.{ℕ, ◌+◌, ◌<◌, ◌≤◌, ◌≡◌, true, Option, Some, None, List, [], ◌∷◌, ◌++◌, length, flat_map, drop, refl, sym, ap, ◌∙◌, arith, subst}
 use Rattle.std.specs.List.{AllByRecursion}
 use Rattle.std.specs.Io.KnownBytes.{Appends}
 use Rattle.std.proofs.lemmas.List.{append_assoc, append-nil, length-append, length-drop}
@@ -11,9 +11,11 @@ use Rattle.cborc_commands.specs.Fault.{at_item}
 use Rattle.cborc_commands.specs.Sequences.{texts_from, StartsWithEach}
 use Rattle.cborc_commands.specs.declared.fault.Fault.{Fault}
 use Rattle.cborc_commands.specs.declared.request.Options.{Options}
-use Rattle.cborc_commands.specs.inner.Items.{IsWritten, AreWrittenOf, AreStoppedOf, within}
-use Rattle.cborc_commands.specs.inner.Parts.{PartsView, IsReadTo, IsNextPart, IsFilled}
-use Rattle.cborc_commands.proofs.ReadParts.{filled, next_part, took, same_files, no_less, longer, due, weight}
+use Rattle.cborc_commands.specs.inner.Items.{IsWritten, AreWrittenOf, AreStoppedOf, no_input, within}
+use Rattle.cborc_commands.specs.inner.Parts.{PartsView, IsReadTo, IsNextPart}
+use Rattle.cborc_commands.specs.inner.Sources.{IsNoPart, HasInput, HasNoInput}
+use Rattle.cborc_commands.proofs.ReadParts.{next_part, took, input_ended, input_there, no_input_there, no_next_part, weight}
+use Rattle.cborc_commands.proofs.Sources.{same_files, unread}
 
 -- ---- lists
 
@@ -88,51 +90,39 @@ module _ (takes : Spelling → Type 0) (text : ℕ → Spelling → List ℕ) (o
     pub count_within : count ≤ old.start
     count_within = omega (arith, h.count_is, items_within h.items, h.read.start_is)
 
-    pub filled_too : (now : Option Files) (new : PartsView) → KeepsFiles held now → IsFilled now source old new → AreTaken takes text options source held new before middle count
-    filled_too now new keeps f = record {
-      items = h.items;
-      each = h.each;
-      read = filled held now source options.hex (sequence_bytes h.items) old new keeps h.read f;
-      count_is = h.count_is;
-      written = h.written;
-    }
-
     -- a part was read, and nothing written
-    pub read_too : (now : Option Files) (new : PartsView) (after : Option (List ℕ)) → after ≡ middle → KeepsFiles held now → old.ended ≡ false → IsNextPart now source old new
+    pub read_too : (now : Option Files) (new : PartsView) (after : Option (List ℕ)) → after ≡ middle → KeepsFiles held now → IsNextPart now source old new
         → AreTaken takes text options source held new before after count
-    read_too now new after same keeps live n = record {
+    read_too now new after same keeps n = record {
       items = h.items;
       each = h.each;
-      read = next_part held now source options.hex (sequence_bytes h.items) old new keeps h.read live n;
+      read = next_part held now source options.hex (sequence_bytes h.items) old new keeps h.read n;
       count_is = h.count_is;
       written = subst (λ (out : Option (List ℕ)). Appends before out (texts_from text 0 h.items)) (sym same) h.written;
     }
 
     pub one_more : (new : PartsView) (after : Option (List ℕ)) (size : ℕ) → IsWritten takes (text old.start) old.rest size middle after → new.rest ≡ drop size old.rest
-        → new.start ≡ old.start + size → new.ended ≡ old.ended → AreTaken takes text options source held new before after (count + 1)
-    one_more new after size w rest start ended = record {
+        → new.start ≡ old.start + size → new.source ≡ old.source → AreTaken takes text options source held new before after (count + 1)
+    one_more new after size w rest start same = record {
       items = h.items ++ w.item ∷ [];
       each = all_with takes h.items w.item h.each w.taken;
       read = subst (λ (xs : List ℕ). IsReadTo held source options.hex xs new) (sym (joined_with spell h.items w.item))
           (took held held source options.hex (sequence_bytes h.items) old new (same_files held) h.read (spell w.item) w.rest w.bytes_are
-          (rest ∙ ap (λ (k : ℕ). drop k old.rest) w.size_is) (start ∙ ap (λ (k : ℕ). old.start + k) w.size_is) ended);
+          (rest ∙ ap (λ (k : ℕ). drop k old.rest) w.size_is) (start ∙ ap (λ (k : ℕ). old.start + k) w.size_is) same);
       count_is = omega (arith, h.count_is, length-append h.items (w.item ∷ []));
       written = subst (Appends before after) (sym (texts_with text 0 h.items w.item ∙ ap (λ (k : ℕ). texts_from text 0 h.items ++ text k w.item) (omega (arith, h.read.start_is))))
           (appends_more before middle after (texts_from text 0 h.items) (text old.start w.item) h.written w.written);
     }
 
     -- the input ends there
-    pub all_written : EndsBefore options.limits.bytes old.rest → (old.rest ≡ [] → old.ended ≡ true) → AreWrittenOf takes text options source held before middle count
+    pub all_written : EndsBefore options.limits.bytes old.rest → (old.rest ≡ [] → old.source.ended ≡ true) → AreWrittenOf takes text options source held before middle count
     all_written (none, some) ends = record {
-      input = h.read.input;
-      is = h.read.is;
+      input = sequence_bytes h.items ++ old.rest;
+      is = input_ended held held source options.hex (sequence_bytes h.items) old (same_files held) h.read (ends none);
       written = record {
         items = h.items;
         all = record {
-          starts = record {
-            each = h.each;
-            bytes = ap (λ (xs : List ℕ). sequence_bytes h.items ++ xs) (sym (ap (λ (xs : List ℕ). xs ++ h.read.behind) none ∙ h.read.end (ends none))) ∙ h.read.splits;
-          };
+          starts = record { each = h.each; bytes = ap (λ (xs : List ℕ). sequence_bytes h.items ++ xs) (sym none) };
           some = some;
         };
         count_is = h.count_is;
@@ -142,48 +132,46 @@ module _ (takes : Spelling → Type 0) (text : ℕ → Spelling → List ℕ) (o
 
     -- no item is taken there, however the input goes on
     pub stopped_there : (stops : ℕ → List ℕ → Fault → Option (List ℕ) → Option (List ℕ) → Type 0) → ¬ EndsBefore options.limits.bytes old.rest
-        → (after : Option (List ℕ)) (fault : Fault) → ((behind : List ℕ) → (old.ended ≡ true → behind ≡ []) → stops old.start (old.rest ++ behind) fault middle after)
-        → AreStoppedOf takes text stops options source held before after (at_item (count + 1) old.start fault)
-    stopped_there stops begun after fault why = within h.read.input h.read.is (record {
-      items = h.items;
-      rest = old.rest ++ h.read.behind;
-      index = count + 1;
-      start = old.start;
-      goes_on = record {
-        starts = record { each = h.each; bytes = h.read.splits };
-        index_is = omega (arith, h.count_is);
-        start_is = h.read.start_is;
-        begun = λ e. begun (front_none old.rest e.0, e.1);
-      };
-      middle = middle;
-      written = h.written;
-      cause = fault;
-      stopped = why h.read.behind h.read.end;
-      fault_is = refl;
-    })
+        → (after : Option (List ℕ)) (fault : Fault) → ((behind : List ℕ) → (old.source.ended ≡ true → behind ≡ []) → stops old.start (old.rest ++ behind) fault middle after)
+        → (now : Option Files) → KeepsFiles held now → HasInput now source old.source → AreStoppedOf takes text stops options source held before after (at_item (count + 1) old.start fault)
+    stopped_there stops begun after fault why now keeps there =
+        let k = input_there held now source options.hex (sequence_bytes h.items) old keeps h.read there in
+        within ((sequence_bytes h.items ++ old.rest) ++ k.behind) k.is (record {
+          items = h.items;
+          rest = old.rest ++ k.behind;
+          index = count + 1;
+          start = old.start;
+          goes_on = record {
+            starts = record { each = h.each; bytes = sym (append_assoc (sequence_bytes h.items) old.rest k.behind) };
+            index_is = omega (arith, h.count_is);
+            start_is = h.read.start_is;
+            begun = λ e. begun (front_none old.rest k.behind e.0, e.1);
+          };
+          middle = middle;
+          written = h.written;
+          cause = fault;
+          stopped = why k.behind k.end;
+          fault_is = refl;
+        })
       where
-        front_none : (xs : List ℕ) → xs ++ h.read.behind ≡ [] → xs ≡ []
-        front_none [] e = refl
-        front_none (x ∷ xs) e = cc e
+        front_none : (xs ys : List ℕ) → xs ++ ys ≡ [] → xs ≡ []
+        front_none [] ys e = refl
+        front_none (x ∷ xs) ys e = cc e
 
--- what may be read and what was read become less, as an item is taken or a part is read
-module _ (now : Option Files) (path : List ℕ) (old new : PartsView) where
-  pub read_less : old.ended ≡ false → IsNextPart now path old new → weight new < weight old
-  read_less live n = by new.ended refl
-    where
-      by : (ended : Bool) → new.ended ≡ ended → weight new < weight old
-      by true e = omega (arith, n.range, n.start_is, no_less now path old new n, ap due e, ap due live)
-      by false e = omega (arith, n.range, n.start_is, longer now path old new n e, ap due e, ap due live)
+    -- there is no more to be read
+    pub stopped_reading : (stops : ℕ → List ℕ → Fault → Option (List ℕ) → Option (List ℕ) → Type 0) (after : Option (List ℕ)) (now : Option Files) (fault : Fault) → KeepsFiles held now
+        → IsNoPart now source old.source fault → AreStoppedOf takes text stops options source held before after fault
+    stopped_reading stops after now fault keeps none = no_input (no_next_part held now source options.hex (sequence_bytes h.items) old keeps h.read fault none)
 
-  pub filled_no_more : IsFilled now path old new → weight new ≤ weight old
-  filled_no_more f = elim f.either [
-    | inl e ↦ omega (arith, ap weight e)
-    | inr h ↦ omega (arith, read_less h.0 h.1)
-  ]
+    -- or it is found that there is no input
+    pub stopped_without : (stops : ℕ → List ℕ → Fault → Option (List ℕ) → Option (List ℕ) → Type 0) (after : Option (List ℕ)) (now : Option Files) (fault : Fault) → KeepsFiles held now
+        → HasNoInput now source old.source fault → AreStoppedOf takes text stops options source held before after fault
+    stopped_without stops after now fault keeps none = no_input (no_input_there held now source options.hex (sequence_bytes h.items) old keeps h.read fault none)
 
-taken_less : (takes : Spelling → Type 0) (text : Spelling → List ℕ) (old new : PartsView) (size : ℕ) (before after : Option (List ℕ)) → IsWritten takes text old.rest size before after
-    → new.rest ≡ drop size old.rest → new.start ≡ old.start + size → new.ended ≡ old.ended → weight new < weight old
-taken_less takes text old new size before after w rest start ended =
+-- what was read becomes less as an item is taken
+pub taken_less : (takes : Spelling → Type 0) (text : Spelling → List ℕ) (old new : PartsView) (size : ℕ) (before after : Option (List ℕ)) → IsWritten takes text old.rest size before after
+    → new.rest ≡ drop size old.rest → new.source ≡ old.source → weight new < weight old
+taken_less takes text old new size before after w rest same =
     omega (
       arith,
       w.size_is,
@@ -192,16 +180,5 @@ taken_less takes text old new size before after w rest start ended =
       ap length w.bytes_are,
       ap length rest,
       length-drop size old.rest,
-      start,
-      ap due ended,
+      ap unread same,
     )
-
--- in each turn
-module _ (now : Option Files) (path : List ℕ) (old middle new : PartsView) (f : IsFilled now path old middle) where
-  pub taken_smaller : (takes : Spelling → Type 0) (text : Spelling → List ℕ) (size : ℕ) (before after : Option (List ℕ)) → IsWritten takes text middle.rest size before after
-      → new.rest ≡ drop size middle.rest → new.start ≡ middle.start + size → new.ended ≡ middle.ended → weight new < weight old
-  taken_smaller takes text size before after w rest start ended =
-      omega (arith, filled_no_more now path old middle f, taken_less takes text middle new size before after w rest start ended)
-
-  pub read_smaller : (then : Option Files) → middle.ended ≡ false → IsNextPart then path middle new → weight new < weight old
-  read_smaller then live n = omega (arith, filled_no_more now path old middle f, read_less then path middle new live n)

@@ -13,7 +13,7 @@ use std::alloc::Global;
 use std::io::{self, ErrorKind, Write};
 
 /// Writes what the line of a fault means and what to do, and of a refusal the file, the bytes around
-/// its place and the way there. What was read for the request stands in the memory.
+/// its place and the way there. What the answer speaks of stands in the memory.
 pub fn explain<F: Folder, E: Write>(
     alloc: Global,
     request: &Request<'_>,
@@ -25,11 +25,11 @@ pub fn explain<F: Folder, E: Write>(
     match fault {
         Fault::Refused(refusal) => {
             write_file(source_of(request), None, err)?;
-            explain_refusal(alloc, memory.last_from(0), options, *refusal, err)
+            explain_refusal(alloc, memory.last(), options, *refusal, err)
         }
         Fault::RightRefused(refusal) => {
             write_file(right_of(request), None, err)?;
-            explain_refusal(alloc, memory.last_from(0), options, *refusal, err)
+            explain_refusal(alloc, memory.last(), options, *refusal, err)
         }
         Fault::LeftRefused(refusal) => {
             write_file(source_of(request), None, err)?;
@@ -37,8 +37,7 @@ pub fn explain<F: Folder, E: Write>(
         }
         Fault::RefusedItem { start, refusal, .. } => {
             write_file(source_of(request), Some(*start), err)?;
-            let item = memory.last_from(*start as u64);
-            explain_refusal(alloc, item, options, *refusal, err)
+            explain_refusal(alloc, memory.last(), options, *refusal, err)
         }
         Fault::CannotRead(_) | Fault::CannotWrite(_) => write_cause(memory.cause(), err),
         Fault::NotHex(_) => {
@@ -116,9 +115,6 @@ fn holds_all(request: &Request<'_>) -> bool
 {
     match request {
         Request::CanonSequence { .. } => true,
-        Request::CheckSequence { options, .. }
-        | Request::ShowSequence { options, .. }
-        | Request::EventsSequence { options, .. } => options.hex,
         _ => false,
     }
 }

@@ -35,13 +35,9 @@ abbrev pub right_of : Request → List ℕ
 right_of (Compare left right options) = right.now
 right_of request = source_of request
 
--- whether it holds all items of a sequence, whatever the limit on one is: hex text is read whole, and canonical bytes are written
--- at once
+-- whether it holds all items of a sequence, whatever the limit on one is: canonical bytes are written at once
 abbrev pub holds_all : Request → Bool
 holds_all (CanonSequence source output order options) = true
-holds_all (CheckSequence source accepted options) = options.hex
-holds_all (ShowSequence source layout options) = options.hex
-holds_all (EventsSequence source options) = options.hex
 holds_all request = false
 
 -- what asks for less memory
