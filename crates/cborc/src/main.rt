@@ -9,16 +9,14 @@
 #![tactic(auto)]
 
 mod command_line;
-mod disk;
 mod grammar;
-mod replacement;
 mod run;
 #[cfg(test)]
 mod tests;
 
-use crate::disk::Disk;
 use crate::run::run;
 use cborc_commands::{Fault, end};
+use cborc_disk::Disk;
 use std::io::BufWriter;
 use std::process::ExitCode;
 use std::{env, io};

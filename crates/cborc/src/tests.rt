@@ -1,7 +1,6 @@
 //! The program, over a folder in memory.
 
 mod command_line;
-mod disk;
 mod explained;
 mod failures;
 mod help;

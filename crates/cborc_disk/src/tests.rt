@@ -1,6 +1,6 @@
 //! The machine's files.
 
-use crate::disk::Disk;
+use crate::Disk;
 use cborc_files::{DigitsFault, FileFault, Folder};
 use std::io::Write;
 use std::{env, fs, io, process};

@@ -1,7 +1,8 @@
 //! The machine's files.
 
 ghost use Rattle.std.specs.Prelude.{◌≡◌, ◌≢◌, IfErr, OnOk};
-ghost use Rattle.cborc.specs.Disk.{HasPushed, IsAppended, IsNoText};
+ghost use Rattle.cborc_disk.specs.Disk.{IsAppended};
+ghost use Rattle.cborc_disk.specs.inner.Texts.{HasPushed, IsNoText};
 
 use crate::replacement::Replacement;
 use cborc_files::{Cause, Digits, DigitsFault, FileFault, Folder, is_stream};

@@ -1,5 +1,5 @@
-use Rattle.cborc.proofs.Texts.{not_pushed, pushed_more}
-use Rattle.cborc.proofs.disk.push_from.Goals as goal
+use Rattle.cborc_disk.proofs.Texts.{not_pushed, pushed_more}
+use Rattle.cborc_disk.proofs.disk.push_from.Goals as goal
 
 pub returns-in-Err-push_all-clause-not_hex : goal.returns-in-Err-push_all-clause-not_hex
 returns-in-Err-push_all-clause-not_hex g c = not_pushed c.args.digits.now c.parts.digits _ c.parts.invariant c.in-Err-push_all.fault c.in-Err-push_all.ensures.not_hex

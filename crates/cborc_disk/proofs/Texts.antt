@@ -3,9 +3,9 @@ use Rattle.std.proofs.Common.{ℕ, ◌≡◌, ◌∙◌, List, [], ◌++◌, tak
 use Rattle.std.specs.Prelude.{IsErr}
 use Rattle.std.specs.List.{filter}
 use Rattle.hex.specs.Hex.{decode_of}
-use Rattle.cborc.specs.Disk.{HasPushed, IsNoText}
-use Rattle.cborc.specs.declared.disk.TextFault.{TextFault}
-use Rattle.cborc.specs.declared.disk.TextFault.TheVariants as faults
+use Rattle.cborc_disk.specs.inner.Texts.{HasPushed, IsNoText}
+use Rattle.cborc_disk.specs.declared.disk.TextFault.{TextFault}
+use Rattle.cborc_disk.specs.declared.disk.TextFault.TheVariants as faults
 use Rattle.cborc_files.specs.Digits.{DigitsView, IsOfText, Spells}
 use Rattle.cborc_files.specs.Folder.{IsNoDigits, SpellsFront}
 use Rattle.cborc_files.specs.Hex.{is_kept}

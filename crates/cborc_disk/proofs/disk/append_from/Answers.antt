@@ -1,6 +1,6 @@
 use Rattle.std.proofs.Common.{◌+◌, ◌-◌, ◌^◌, min, vec_len, arith}
-use Rattle.cborc.proofs.Appended.{cut_to}
-use Rattle.cborc.proofs.disk.append_from.Goals as goal
+use Rattle.cborc_disk.proofs.Appended.{cut_to}
+use Rattle.cborc_disk.proofs.disk.append_from.Goals as goal
 
 pub returns : goal.returns
 returns g c =

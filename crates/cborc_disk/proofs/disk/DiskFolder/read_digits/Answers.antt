@@ -1,6 +1,6 @@
 use Rattle.std.proofs.lemmas.Result.{IfOk-weaker, IfErr-weaker}
-use Rattle.cborc.proofs.Texts.{some_spelled, one_alone, refused_text}
-use Rattle.cborc.proofs.disk.DiskFolder.read_digits.Goals as goal
+use Rattle.cborc_disk.proofs.Texts.{some_spelled, one_alone, refused_text}
+use Rattle.cborc_disk.proofs.disk.DiskFolder.read_digits.Goals as goal
 
 pub returns-in-Ok-clause-gives : goal.returns-in-Ok-clause-gives
 returns-in-Ok-clause-gives g c =

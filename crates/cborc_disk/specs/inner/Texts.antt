@@ -1,17 +1,11 @@
--- What is read of a file, and what becomes of text that is handed on as it is read.
-use Rattle.std.specs.Prelude.{ℕ, ◌≡◌, ◌≤◌, ◌++◌, List, length, IsErr}
+-- What becomes of text that is handed on as it is read.
+use Rattle.std.specs.Prelude.{◌≡◌, ◌++◌, List, ℕ, IsErr}
 use Rattle.std.specs.List.{filter}
 use Rattle.hex.specs.Hex.{decode_of}
-use Rattle.cborc.specs.declared.disk.TextFault.{TextFault}
-use Rattle.cborc.specs.declared.disk.TextFault.TheVariants as faults
+use Rattle.cborc_disk.specs.declared.disk.TextFault.{TextFault}
+use Rattle.cborc_disk.specs.declared.disk.TextFault.TheVariants as faults
 use Rattle.cborc_files.specs.Digits.{DigitsView, IsOfText, Spells}
 use Rattle.cborc_files.specs.Hex.{is_kept}
-
--- bytes were added to the old ones, no more than so many
-pub record IsAppended (most : ℕ) (old new : List ℕ) : Type 0 where
-  pub added : List ℕ
-  pub is : new ≡ old ++ added
-  pub few : length added ≤ most
 
 -- they took some text, behind what they had
 pub record HasPushed (old new : DigitsView) : Type 0 where

@@ -3,7 +3,7 @@ use Rattle.std.proofs.Common.{ℕ, ◌+◌, ◌-◌, ◌≡◌, ◌≤◌, None,
 use Rattle.std.proofs.Math.Seq.{take-append-add, drop-append_seam}
 use Rattle.std.proofs.lemmas.List.{length-replicate, length-take, take-append-drop, take_all}
 use Rattle.std.specs.Io.{StartsWith}
-use Rattle.cborc.specs.Disk.{IsAppended}
+use Rattle.cborc_disk.specs.Disk.{IsAppended}
 use Rattle.cborc_files.specs.Folder.{ReadsOn}
 
 -- what was read, cut to so many bytes behind the old ones
