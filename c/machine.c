@@ -25,12 +25,38 @@ static int are_equal(struct naltvigo_event a, struct naltvigo_event b) {
     return a.place == b.place && a.number == b.number && a.kind == b.kind && a.width == b.width;
 }
 
-/* The events of the row, with its bytes in parts of so many: neighbouring pieces are joined. */
+/* What a machine told of an item: neighbouring pieces are joined. */
+struct told {
+    struct naltvigo_event events[64];
+    size_t count;
+};
+
+static void join(struct told *told, struct naltvigo_event event) {
+    if (event.kind == NALTVIGO_PIECE && told->count && told->events[told->count - 1].kind == NALTVIGO_PIECE)
+        told->events[told->count - 1].number += event.number;
+    else if (told->count < 64)
+        told->events[told->count++] = event;
+}
+
+/* That the events, the last status and the refusal are the row's. */
+static void compare(const struct events_row *row, const struct told *told, uint32_t status, struct naltvigo_refusal why) {
+    check(status == row->status, "status", row->given);
+    check(told->count == row->count, "count of events", row->given);
+    for (size_t i = 0; i < told->count && i < row->count; i++)
+        check(are_equal(told->events[i], row->events[i]), "event", row->given);
+    if (status == NALTVIGO_REFUSED)
+        check(why.reason == row->refusal.reason && why.place == row->refusal.place && why.read == row->refusal.read,
+              "refusal", row->given);
+    else
+        check(why.reason == 77 && why.place == 78 && why.read == 79, "no refusal", row->given);
+}
+
+/* The events of the row, with its bytes in parts of so many. */
 static void feed(const struct events_row *row, const uint8_t *in, size_t n, size_t part) {
     struct naltvigo_machine machine, copy;
-    struct naltvigo_event told[64];
+    struct told told = {.count = 0};
     struct naltvigo_refusal why = {77, 78, 79};
-    size_t count = 0, at = 0, used;
+    size_t at = 0, used;
     uint32_t status;
     memset(&machine, 0xaa, sizeof machine);
     check(naltvigo_machine_start(LIMITS(row->depth, row->bytes), &machine) == NALTVIGO_OK, "start", row->given);
@@ -45,20 +71,10 @@ static void feed(const struct events_row *row, const uint8_t *in, size_t n, size
         check(used <= offered, "used", row->given);
         at += used;
         check((status == NALTVIGO_EVENT) == !are_equal(event, unset), "told", row->given);
-        if (status != NALTVIGO_EVENT) continue;
-        if (event.kind == NALTVIGO_PIECE && count && told[count - 1].kind == NALTVIGO_PIECE)
-            told[count - 1].number += event.number;
-        else if (count < 64)
-            told[count++] = event;
+        if (status == NALTVIGO_EVENT) join(&told, event);
     } while (status == NALTVIGO_EVENT || (status == NALTVIGO_MORE && at < n));
-    check(status == row->status && machine.taken == at, "status", row->given);
-    check(count == row->count, "count of events", row->given);
-    for (size_t i = 0; i < count && i < row->count; i++) check(are_equal(told[i], row->events[i]), "event", row->given);
-    if (status == NALTVIGO_REFUSED)
-        check(why.reason == row->refusal.reason && why.place == row->refusal.place && why.read == row->refusal.read,
-              "refusal", row->given);
-    else
-        check(why.reason == 77 && why.place == 78 && why.read == 79, "no refusal", row->given);
+    check(machine.taken == at, "taken", row->given);
+    compare(row, &told, status, why);
     if (status == NALTVIGO_MORE) return;
     struct naltvigo_event event = unset;
     check(naltvigo_machine_step(&machine, (const uint8_t *)"", 1, &used, &event, &why) == status && used == 0,
@@ -68,9 +84,9 @@ static void feed(const struct events_row *row, const uint8_t *in, size_t n, size
 /* The same events, so many a call. */
 static void take(const struct events_row *row, const uint8_t *in, size_t n, size_t part, size_t room) {
     struct naltvigo_machine machine;
-    struct naltvigo_event told[64];
+    struct told told = {.count = 0};
     struct naltvigo_refusal why = {77, 78, 79};
-    size_t count = 0, at = 0;
+    size_t at = 0;
     uint32_t status;
     check(naltvigo_machine_start(LIMITS(row->depth, row->bytes), &machine) == NALTVIGO_OK, "start", row->given);
     do {
@@ -83,18 +99,10 @@ static void take(const struct events_row *row, const uint8_t *in, size_t n, size
         check(status != NALTVIGO_EVENT || many == room, "a full array", row->given);
         for (size_t i = many; i < 65; i++) check(are_equal(events[i], unset), "not told", row->given);
         at += used;
-        for (size_t i = 0; i < many && i < 65; i++)
-            if (events[i].kind == NALTVIGO_PIECE && count && told[count - 1].kind == NALTVIGO_PIECE)
-                told[count - 1].number += events[i].number;
-            else if (count < 64)
-                told[count++] = events[i];
+        for (size_t i = 0; i < many && i < 65; i++) join(&told, events[i]);
     } while (status == NALTVIGO_EVENT || (status == NALTVIGO_MORE && at < n));
-    check(status == row->status && machine.taken == at, "status", row->given);
-    check(count == row->count, "count of events", row->given);
-    for (size_t i = 0; i < count && i < row->count; i++) check(are_equal(told[i], row->events[i]), "event", row->given);
-    if (status == NALTVIGO_REFUSED)
-        check(why.reason == row->refusal.reason && why.place == row->refusal.place && why.read == row->refusal.read,
-              "refusal", row->given);
+    check(machine.taken == at, "taken", row->given);
+    compare(row, &told, status, why);
 }
 
 /* Without room for an event nothing is used. */

@@ -7,6 +7,7 @@
 
 mod cuts;
 pub mod draft;
+mod head;
 pub mod out;
 pub mod reserve;
 pub mod span;

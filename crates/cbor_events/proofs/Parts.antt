@@ -12,8 +12,8 @@ use Rattle.cbor_standing.specs.NextEvent.{StandsBetween, IfTold, IsNext, machine
 use Rattle.cbor_standing.specs.Calls.{HasRead, piece_after}
 use Rattle.cbor_events.specs.inner.Reads.{IsPartTaken, IsPartRead}
 use Rattle.cbor_automaton.specs.declared.event.Event.{Event}
-use Rattle.cbor_events.specs.declared.item_events.Part.{Part}
-use Rattle.cbor_events.specs.declared.item_events.Part.TheVariants.{Told, Open, Stopped}
+use Rattle.cbor_events.specs.declared.part.Part.{Part}
+use Rattle.cbor_events.specs.declared.part.Part.TheVariants.{Told, Open, Stopped}
 use Rattle.cbor_standing.proofs.NextEvents.{event-here, read-on, complete-wants, wanted-room}
 use Rattle.cbor_standing.proofs.NextRefusals.{still-due, stopped-here}
 

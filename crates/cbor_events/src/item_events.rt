@@ -2,23 +2,19 @@
 
 ghost use Rattle.std.specs.Prelude.{◌≡◌, ◌≤◌, ◌<◌, ℕ, List, [], length, take, None, Some, OnOk};
 ghost use Rattle.std.specs.Prelude.{OnErr, IfErr, IfSome, Err, Option, false};
-ghost use Rattle.cbor_head.specs.Verdict.{refusal};
 ghost use Rattle.cbor_automaton.specs.Trace.{Mark};
 ghost use Rattle.cbor_automaton.specs.Marks.{IsProper};
 ghost use Rattle.cbor_automaton.specs.Reasons.{IsEventReason};
-ghost use Rattle.cbor_automaton.specs.Reasons.{IsMachineReason};
 ghost use Rattle.cbor_standing.specs.MachineView.{MachineView};
-ghost use Rattle.cbor_standing.specs.Machine.{KeepsLimits, IsIdle, StandsFor, wanted};
+ghost use Rattle.cbor_standing.specs.Machine.{KeepsLimits, IsIdle, wanted};
 ghost use Rattle.cbor_standing.specs.NextEvent.{ItemEventsView, StandsBetween, IfTold, IsNext};
 ghost use Rattle.cbor_standing.specs.NextEvent.{machine_call, call};
-ghost use Rattle.cbor_events.specs.inner.Reads.{IsAsked};
 ghost use Rattle.cbor_standing.specs.Calls.{HasRead, piece_after, piece_size};
-ghost use Rattle.cbor_automaton.specs.Pieces.{kind_size};
-ghost use Rattle.cbor_events.specs.inner.Reads.{IsPartTaken, IsPartRead, IfPartTold, IfStopped};
 
+use crate::part::{Part, read_part};
 use cbor_automaton::{Event, EventKind};
-use cbor_head::{Limits, Reason, Refusal};
-use cbor_machine::{Machine, Out, below_256, take_part};
+use cbor_head::{Limits, Refusal};
+use cbor_machine::{Machine, Out, take_part};
 use std::io::Read;
 use std::marker::Model;
 
@@ -136,163 +132,6 @@ impl ItemEvents {
         ensures within { result ≤ self.now.machine.bytes }
     {
         self.machine.taken()
-    }
-}
-
-// What one call of `read` gave.
-#[derive(Clone, Copy)]
-enum Asked {
-    Got(usize),
-    End,
-    Failed,
-}
-
-// Reads at most `want` bytes into the front of the buffer, by one call of `read`.
-#[inline(always)]
-fn ask<R: Read>(reader: &mut R, buffer: &mut [u8], want: usize) -> Asked
-    requires some { 0 < want }
-    requires room { want ≤ length buffer.old }
-    ensures { IsAsked result want
-        (R.remaining reader.old) (R.remaining reader.new) buffer.new }
-{
-    match reader.read(&mut buffer[..want]) {
-        Ok(0) => Asked::End,
-        Ok(n) => Asked::Got(n),
-        Err(_) => Asked::Failed,
-    }
-}
-
-// A refusal of what was taken, and no byte more.
-fn cut(reason: Reason, taken: u64) -> Refusal
-    ensures { result ≡ refusal reason taken taken }
-{
-    Refusal::new(reason, taken, taken)
-}
-
-// What came of bytes that the machine wanted.
-#[derive(Clone, Copy)]
-enum Part {
-    Told(Event),
-    // No event is complete.
-    Open,
-    Stopped(Refusal),
-}
-
-// The same, made anew. What a call has left in memory is then read where the call was, and what comes
-// without it stays in registers.
-#[inline(always)]
-fn part_anew(part: Part) -> Part
-    ensures { result ≡ part }
-{
-    match part {
-        Part::Told(event) => Part::Told(event),
-        Part::Open => Part::Open,
-        Part::Stopped(refusal) => Part::Stopped(refusal),
-    }
-}
-
-#[inline(always)]
-fn answer_anew(answer: Result<Option<Event>, Refusal>) -> Result<Option<Event>, Refusal>
-    ensures { result ≡ answer }
-{
-    match answer {
-        Ok(Some(event)) => Ok(Some(event)),
-        Ok(None) => Ok(None),
-        Err(refusal) => Err(refusal),
-    }
-}
-
-// Hands the machine bytes that it wants.
-#[inline(always)]
-fn take_read(machine: &mut Machine, part: &[u8]) -> Part
-    requires some { 0 < length part.now }
-    requires wanted { length part.now ≤ wanted machine.old }
-    ensures answers { (t : List ℕ) (ms : List Mark) → StandsFor machine.old t ms
-        → IsPartTaken result machine.old machine.new t part.now ms }
-    ensures limits { KeepsLimits machine.old machine.new }
-    ensures proper { IfPartTold result (λ e. IsProper e.width e.kind) }
-    ensures piece { IfPartTold result (λ e. kind_size e.kind ≤ length part.now) }
-    ensures taken { IfStopped result (λ f. machine.new.taken ≡ f.read) }
-    ensures reason { IfStopped result (λ f. IsMachineReason f.reason) }
-    ensures progress { result ≡ Part.Open → machine.old.taken < machine.new.taken }
-{
-    if let Some(event) = machine.take_whole(part) {
-        return Part::Told(event);
-    }
-    if part.len() == 1 && machine.begin_head(part[0]) {
-        return Part::Open;
-    }
-    take_apart(machine, part)
-}
-
-// The same, whatever the bytes are.
-#[inline(never)]
-fn take_slowly(machine: &mut Machine, part: &[u8]) -> Part
-    requires some { 0 < length part.now }
-    requires wanted { length part.now ≤ wanted machine.old }
-    ensures answers { (t : List ℕ) (ms : List Mark) → StandsFor machine.old t ms
-        → IsPartTaken result machine.old machine.new t part.now ms }
-    ensures limits { KeepsLimits machine.old machine.new }
-    ensures proper { IfPartTold result (λ e. IsProper e.width e.kind) }
-    ensures piece { IfPartTold result (λ e. kind_size e.kind ≤ length part.now) }
-    ensures taken { IfStopped result (λ f. machine.new.taken ≡ f.read) }
-    ensures reason { IfStopped result (λ f. IsMachineReason f.reason) }
-    ensures progress { result ≡ Part.Open → machine.old.taken < machine.new.taken }
-{
-    match take_part(machine, part).out {
-        Out::Event(event) => Part::Told(event),
-        Out::More => Part::Open,
-        Out::Done => unreachable!(),
-        Out::Refused(refusal) => Part::Stopped(refusal),
-    }
-}
-
-// The same. Its own room in memory is no part of the caller's.
-#[inline(always)]
-fn take_apart(machine: &mut Machine, part: &[u8]) -> Part
-    requires some { 0 < length part.now }
-    requires wanted { length part.now ≤ wanted machine.old }
-    ensures answers { (t : List ℕ) (ms : List Mark) → StandsFor machine.old t ms
-        → IsPartTaken result machine.old machine.new t part.now ms }
-    ensures limits { KeepsLimits machine.old machine.new }
-    ensures proper { IfPartTold result (λ e. IsProper e.width e.kind) }
-    ensures piece { IfPartTold result (λ e. kind_size e.kind ≤ length part.now) }
-    ensures taken { IfStopped result (λ f. machine.new.taken ≡ f.read) }
-    ensures reason { IfStopped result (λ f. IsMachineReason f.reason) }
-    ensures progress { result ≡ Part.Open → machine.old.taken < machine.new.taken }
-{
-    part_anew(take_slowly(machine, part))
-}
-
-// Reads at most so many bytes that the machine wants, by one call of `read`.
-#[inline(always)]
-fn read_part<R: Read>(machine: &mut Machine, reader: &mut R, buffer: &mut [u8], want: usize) -> Part
-    requires some { 0 < want }
-    requires room { want ≤ length buffer.old }
-    requires wanted { want ≤ wanted machine.old }
-    requires within { machine.old.open_count ≤ machine.old.depth }
-    // Of a call that began where the machine was `was`, and the reader held `from`.
-    ensures answers { (was : MachineView) (from : Option (List ℕ)) (kept t : List ℕ)
-        (ms : List Mark) → StandsBetween was t ms
-        → HasRead from (R.remaining reader.old) machine.old t ms
-        → machine.old.depth ≡ was.depth
-        → IsPartRead result was machine.new from (R.remaining reader.new)
-        kept buffer.new t ms }
-    ensures limits { KeepsLimits machine.old machine.new }
-    ensures proper { IfPartTold result (λ e. IsProper e.width e.kind) }
-    ensures taken { IfStopped result (λ f. machine.new.taken ≡ f.read) }
-    ensures reason { IfStopped result (λ f. IsEventReason f.reason) }
-    ensures fits { IfPartTold result (λ e. kind_size e.kind ≤ length buffer.new) }
-    ensures same { length buffer.new ≡ length buffer.old }
-    ensures progress { result ≡ Part.Open → machine.old.taken < machine.new.taken }
-{
-    match ask(reader, buffer, want) {
-        Asked::End => Part::Stopped(cut(Reason::Truncated, machine.taken())),
-        Asked::Failed => Part::Stopped(cut(Reason::Read, machine.taken())),
-        Asked::Got(count) => {
-            below_256(&buffer[..count]);
-            take_read(machine, &buffer[..count])
-        }
     }
 }
 
@@ -420,6 +259,18 @@ fn next_part<R: Read>(
         Part::Told(event) => Ok(Some(event)),
         Part::Open => next_apart(machine, reader, buffer),
         Part::Stopped(refusal) => Err(refusal),
+    }
+}
+
+// The same answer, made anew as `part_anew` makes a part, and for the same reason.
+#[inline(always)]
+fn answer_anew(answer: Result<Option<Event>, Refusal>) -> Result<Option<Event>, Refusal>
+    ensures { result ≡ answer }
+{
+    match answer {
+        Ok(Some(event)) => Ok(Some(event)),
+        Ok(None) => Ok(None),
+        Err(refusal) => Err(refusal),
     }
 }
 

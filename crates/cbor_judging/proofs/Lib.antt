@@ -34,4 +34,5 @@ pub mod Tops
 pub mod Undecided
 pub mod Valid
 pub mod WholeStrings
+pub mod ChunkedStrings
 pub mod Within

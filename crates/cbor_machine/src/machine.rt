@@ -16,6 +16,7 @@ ghost use Rattle.cbor_steps.specs.State.{IsFit, IsSettled, wanted_at, is_in_payl
 ghost use Rattle.cbor_steps.specs.State.{is_done};
 ghost use Rattle.cbor_standing.specs.Steps.{IsStep};
 
+mod codes;
 mod saved;
 
 use cbor_automaton::Event;

@@ -29,8 +29,10 @@ use Rattle.cbor_judging.specs.OpenMaps.{before_all, ArePath, AreClosedClean}
 use Rattle.cbor_judging.specs.Reading.{IsAt, string_major}
 use Rattle.cbor_strict.specs.inner.StrictEvents.{IsLittle}
 use Rattle.cbor_judging.specs.Judged.{Never}
-use Rattle.cbor_strict.proofs.KeptCounts.{Counts, AreAround, one_map, map_count, keys_size, path_counts, maps_past, keys_past}
-use Rattle.cbor_strict.proofs.KeptKeys.{either_way, kept_if_in, kept_if_out, kept_levels, kept_spans}
+use Rattle.cbor_strict.proofs.KeptCounts.{Counts, AreAround, path_counts, maps_past, keys_past}
+use Rattle.cbor_strict.proofs.FrameCounts.{one_map, map_count, keys_size}
+use Rattle.cbor_strict.proofs.KeptKeys.{either_way, kept_if_in, kept_if_out}
+use Rattle.cbor_strict.proofs.KeptEnds.{kept_levels, kept_spans}
 use Rattle.cbor_judging.proofs.Standing.{open-is}
 use Rattle.cbor_strict.proofs.OpenEnds.{frames_length}
 use Rattle.cbor_judging.proofs.OpenSteps.{before_snoc}

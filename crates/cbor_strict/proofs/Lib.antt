@@ -1,5 +1,9 @@
+pub mod FrameCounts
+pub mod FrameStarts
 pub mod KeptCounts
 pub mod KeptKeys
+pub mod KeptEnds
+pub mod KeptPairs
 pub mod KeptReading
 pub mod OpenBegins
 pub mod OpenEnds

@@ -30,7 +30,7 @@ use Rattle.cbor_judging.proofs.LastKey.{key-fresh, key-falls, last_is}
 use Rattle.cbor_judging.proofs.Steps.{at-reached}
 use Rattle.cbor_strict.specs.inner.LastKeys.{from_outside, IsFull, AreDefinite, still_open, ended_item}
 use Rattle.cbor_strict.specs.inner.OpenItems.{frames_in, bytes_before}
-use Rattle.cbor_strict.proofs.KeptKeys.{full_bytes}
+use Rattle.cbor_strict.proofs.KeptEnds.{full_bytes}
 use Rattle.cbor_judging.proofs.Standing.{open-is}
 
 -- ---- the containers

@@ -36,7 +36,7 @@ use Rattle.cbor_judging.specs.OpenMaps.{AreOpen, AreOpenDistinct}
 use Rattle.cbor_judging.proofs.Heads.{Headed}
 use Rattle.cbor_judging.proofs.Items.{IsDefinite, definite, proper-definite, never-open, head-count, cause-in, undecided-in, head-judged, taking-some}
 use Rattle.cbor_judging.specs.Judged.{Never}
-use Rattle.cbor_strict.proofs.KeptKeys.{kept_levels, kept_spans}
+use Rattle.cbor_strict.proofs.KeptEnds.{kept_levels, kept_spans}
 use Rattle.cbor_strict.proofs.OpenBegins.{lift, no_break, no_openers, leaf_reads, HasOpened, other_opens, pairs_open}
 use Rattle.cbor_strict.proofs.OpenEnds.{frames_length, before_more}
 use Rattle.cbor_strict.proofs.OpenItems.{around_as}

@@ -23,7 +23,8 @@ use Rattle.cbor_strict.specs.inner.OpenItems.{frames_in, bytes_before, AreOpenCl
 use Rattle.cbor_judging.specs.Reading.{AreRefused, IsAt}
 use Rattle.cbor_judging.specs.OpenMaps.{AreOpen, AreOpenDistinct}
 use Rattle.cbor_judging.specs.Judged.{Never}
-use Rattle.cbor_strict.proofs.KeptKeys.{either_way, kept_if_in, kept_if_out, kept_levels, kept_spans}
+use Rattle.cbor_strict.proofs.KeptKeys.{either_way, kept_if_in, kept_if_out}
+use Rattle.cbor_strict.proofs.KeptEnds.{kept_levels, kept_spans}
 use Rattle.cbor_judging.proofs.OpenSteps.{member_before}
 use Rattle.cbor_strict.proofs.OpenEnds.{definite_of, outside_length, StaysOpen, none_open, member_open, key_open, content_open, stays_open, EndsClean, open_so, EndsIn, IsDueIn, ends_in, member_next, content_next, key_next, key_refused}
 

@@ -2,11 +2,9 @@
 
 ghost use Rattle.std.specs.Prelude.{◌≡◌, ◌≤◌, length};
 ghost use Rattle.cbor_walk.specs.inner.Building.{IsDueIn, HasEndedIn, HasFilledIn};
-ghost use Rattle.cbor_walk.specs.inner.Building.{Leads, LeadsFull, Walks, IsFullAt, counted};
+ghost use Rattle.cbor_walk.specs.inner.Building.{Leads, LeadsFull, Walks, IsFullAt};
 ghost use Rattle.cbor_walk.specs.inner.Stack.{around, standing};
-ghost use Rattle.cbor_walk.specs.declared.level.Due.TheVariants.{Item};
 
-use crate::level::Due;
 use crate::open::Open;
 use crate::part::Part;
 use crate::sink::Sink;
@@ -42,18 +40,6 @@ pub(crate) enum Met<'a> {
 }
 
 impl<S> Building<S> {
-    /// Of an item from which nothing came.
-    pub(crate) fn new(sink: S) -> Building<S>
-        ensures none { result.stack.height ≡ 0 }
-        ensures input { result.stack.top ≡ counted Item 0 }
-        ensures sink { result.sink ≡ sink }
-    {
-        Building {
-            stack: Stack::new(Open::counted(Due::Item, 0)),
-            sink,
-        }
-    }
-
     /// Goes over the item, from where another is due to its end.
     pub(crate) fn walk<'a>(&mut self, start: &'a [u8], cells: &mut [Open], depth: usize) -> Met<'a>
     where

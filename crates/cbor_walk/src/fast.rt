@@ -28,25 +28,19 @@ pub(crate) fn short_front(first: u8, rest: &[u8]) -> Short
     ensures { IsShortFront result rest.now }
 {
     match first / 32 {
-        0 | 1 => integer(first, rest),
+        0 | 1 => match head_size(first, rest) {
+            0 => Short::Other,
+            size => Short::Item(size),
+        },
         2 | 3 => string(first, rest),
         4 | 5 => container(first, rest),
-        6 => tag(first, rest),
-        _ => simple(first, rest),
-    }
-}
-
-#[inline(always)]
-fn integer(first: u8, rest: &[u8]) -> Short
-    requires front { (behind : List ℕ) × (rest.now ≡ first ∷ behind) }
-    requires kind { first < 64 }
-    ensures { IsShortFront result rest.now }
-{
-    let size = head_size(first, rest);
-    if size > 0 {
-        Short::Item(size)
-    } else {
-        Short::Other
+        6 => match head_size(first, rest) {
+            0 => Short::Other,
+            size => Short::Opens(Due::Item, 0, size),
+        },
+        // A simple value of one byte.
+        _ if first < 0xf8 => Short::Item(1),
+        _ => Short::Other,
     }
 }
 
@@ -149,32 +143,4 @@ fn container(first: u8, rest: &[u8]) -> Short
     }
     let due = if first < 0xa0 { Due::Item } else { Due::Key };
     Short::Opens(due, u64::from(low) - 1, 1)
-}
-
-#[inline(always)]
-fn tag(first: u8, rest: &[u8]) -> Short
-    requires front { (behind : List ℕ) × (rest.now ≡ first ∷ behind) }
-    requires kind { (192 ≤ first) × (first < 224) }
-    ensures { IsShortFront result rest.now }
-{
-    let size = head_size(first, rest);
-    if size > 0 {
-        Short::Opens(Due::Item, 0, size)
-    } else {
-        Short::Other
-    }
-}
-
-// A simple value of one byte.
-#[inline(always)]
-fn simple(first: u8, rest: &[u8]) -> Short
-    requires front { (behind : List ℕ) × (rest.now ≡ first ∷ behind) }
-    requires kind { 224 ≤ first }
-    ensures { IsShortFront result rest.now }
-{
-    if first < 0xf8 {
-        Short::Item(1)
-    } else {
-        Short::Other
-    }
 }

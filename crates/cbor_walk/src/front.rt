@@ -12,7 +12,7 @@ use crate::building::{Building, Met};
 use crate::level::Due;
 use crate::open::Open;
 use crate::sink::Sink;
-use crate::stack::{FEW, spread};
+use crate::stack::{FEW, Stack, spread};
 use crate::within::within;
 use cbor_builder::CanonBuilder;
 use cbor_head::{KeyOrder, Limits};
@@ -54,7 +54,8 @@ pub fn give_front<'a, S: Sink<'a> + Drop>(
     ensures { IfSome result (λ given. IsGivenFront (S.stands sink given.0) limits bytes.now given.1) }
 {
     let input = within(bytes, limits.bytes());
-    let mut building = Building::new(sink);
+    let stack = Stack::new(Open::counted(Due::Item, 0));
+    let mut building = Building { stack, sink };
     let behind = past_item(&mut building, input, usize::from(limits.depth()))?;
     let size = (input.len() - behind.len()) as u64;
     let Building { stack: _, sink } = building;

@@ -90,16 +90,9 @@ impl Level {
             }
         }
         let last = part(input, self.last, self.last_end);
-        comes_behind(order, last, part(input, self.key, at))
+        let key = part(input, self.key, at);
+        compare_keys(order, last, key) == Ordering::Less
     }
-}
-
-// Whether the second key comes behind the first.
-#[inline(always)]
-fn comes_behind(order: KeyOrder, last: &[u8], key: &[u8]) -> bool
-    ensures { result ≡ key_lt order last.now key.now }
-{
-    compare_keys(order, last, key) == Ordering::Less
 }
 
 // What stands from `start` to `end`, as far as the bytes go.

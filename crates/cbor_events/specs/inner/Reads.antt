@@ -11,10 +11,10 @@ use Rattle.cbor_standing.specs.Calls.{HasRead}
 use Rattle.cbor_standing.specs.Steps.{IsStep}
 use Rattle.cbor_standing.specs.declared.step.Out.TheVariants as outs
 use Rattle.cbor_automaton.specs.declared.event.Event.{Event}
-use Rattle.cbor_events.specs.declared.item_events.Asked.{Asked}
-use Rattle.cbor_events.specs.declared.item_events.Asked.TheVariants.{Got, End, Failed}
-use Rattle.cbor_events.specs.declared.item_events.Part.{Part}
-use Rattle.cbor_events.specs.declared.item_events.Part.TheVariants.{Told, Open, Stopped}
+use Rattle.cbor_events.specs.declared.part.Asked.{Asked}
+use Rattle.cbor_events.specs.declared.part.Asked.TheVariants.{Got, End, Failed}
+use Rattle.cbor_events.specs.declared.part.Part.{Part}
+use Rattle.cbor_events.specs.declared.part.Part.TheVariants.{Told, Open, Stopped}
 
 -- what one call of `read`, for so many bytes, put in front of the buffer
 abbrev pub IsAsked : Asked → ℕ → Option (List ℕ) → Option (List ℕ) → List ℕ → Type 0

@@ -4,7 +4,7 @@ use Rattle.cbor_judging.specs.Reading.{string_major}
 use Rattle.cbor_head.specs.Complaint.{plain}
 use Rattle.cbor_judging.proofs.Leaves.{chunks_bytes}
 use Rattle.cbor_judging.proofs.Steps.{farther}
-use Rattle.cbor_judging.proofs.WholeStrings.{starts-chunks, stops-chunk-head, chunk-kind, chunks-end, chunk-due, chunk-next, stops-chunk, chunk-farther}
+use Rattle.cbor_judging.proofs.ChunkedStrings.{starts-chunks, stops-chunk-head, chunk-kind, chunks-end, chunk-due, chunk-next, stops-chunk, chunk-farther}
 use Rattle.cbor_reader.proofs.strings.read_chunks.Goals as goal
 
 pub chunks-init : goal.chunks-init

@@ -5,7 +5,7 @@ use Rattle.cbor_judging.specs.Place.{Container}
 use Rattle.std.specs.Prelude.{None}
 use Rattle.cbor_judging.specs.Reading.{IsBegun, string_kind}
 use Rattle.cbor_head.specs.Complaint.{plain}
-use Rattle.cbor_judging.proofs.WholeStrings.{IsReadingChunks}
+use Rattle.cbor_judging.proofs.ChunkedStrings.{IsReadingChunks}
 use Rattle.cbor_reader.proofs.strings.read_chunks.Given as goal
 
 abbrev pub invariant-chunks : goal.invariant-chunks

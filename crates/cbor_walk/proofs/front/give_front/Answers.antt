@@ -11,6 +11,5 @@ returns g c =
     let sink = c.past_item.new.building.sink in
     let d : c.from.result ≡ c.args.limits.depth = c.from.ensures ∙ c.depth.ensures.depth in
     let input : c.within-input.result.now ≡ take c.args.limits.bytes c.args.bytes.now = c.within-input.ensures ∙ ap (λ n. take n c.args.bytes.now) c.bytes.ensures.bytes in
-    let from = subst (λ s. IsBuilt S stands s c.from.result c.within-input.result.now sink behind) c.new-building.ensures.sink c.in_ok-behind.ensures in
-    let h = subst (λ k. IsBuilt S stands c.args.sink k (take c.args.limits.bytes c.args.bytes.now) sink behind) d (subst (λ (x : List ℕ). IsBuilt S stands c.args.sink c.from.result x sink behind) input from) in
+    let h = subst (λ k. IsBuilt S stands c.args.sink k (take c.args.limits.bytes c.args.bytes.now) sink behind) d (subst (λ (x : List ℕ). IsBuilt S stands c.args.sink c.from.result x sink behind) input c.in_ok-behind.ensures) in
     front-given S stands c.args.sink sink c.args.limits c.args.bytes.now behind _ h (ap (λ (x : List ℕ). length x - length behind) input)

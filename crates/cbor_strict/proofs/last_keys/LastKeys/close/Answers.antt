@@ -1,6 +1,6 @@
 use Rattle.std.proofs.Common.{arith}
 use Rattle.cbor_strict.specs.inner.LastKeys.{seen}
-use Rattle.cbor_strict.proofs.KeptKeys.{none_shut, one_shut, all_shut}
+use Rattle.cbor_strict.proofs.KeptEnds.{none_shut, one_shut, all_shut}
 use Rattle.cbor_strict.proofs.last_keys.LastKeys.close.Goals as goal
 
 pub loop-self-init : goal.loop-self-init

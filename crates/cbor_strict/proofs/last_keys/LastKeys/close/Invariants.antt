@@ -2,7 +2,7 @@ use Rattle.std.proofs.Common.{◌≡◌, List, length}
 use Rattle.cbor_head.specs.Spelling.{Spelling, spell}
 use Rattle.cbor_judging.specs.Frame.{Frame}
 use Rattle.cbor_strict.specs.inner.LastKeys.{seen, IsKept, AreDefinite, still_open}
-use Rattle.cbor_strict.proofs.KeptKeys.{HasShut}
+use Rattle.cbor_strict.proofs.KeptEnds.{HasShut}
 use Rattle.cbor_strict.proofs.last_keys.LastKeys.close.Given as goal
 
 abbrev pub invariant-loop-self : goal.invariant-loop-self

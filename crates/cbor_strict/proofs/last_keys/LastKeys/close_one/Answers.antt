@@ -1,6 +1,7 @@
 use Rattle.cbor_strict.specs.inner.LastKeys.{seen}
 use Rattle.std.proofs.Common.{true, false, arith}
-use Rattle.cbor_strict.proofs.KeptKeys.{not_so, closes_other, closes_map_in, closes_map_out}
+use Rattle.cbor_strict.proofs.KeptKeys.{not_so}
+use Rattle.cbor_strict.proofs.KeptEnds.{closes_other, closes_map_in, closes_map_out}
 use Rattle.cbor_strict.proofs.last_keys.LastKeys.close_one.Goals as goal
 
 pub returns-in-Member : goal.returns-in-Member

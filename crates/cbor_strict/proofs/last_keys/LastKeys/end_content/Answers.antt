@@ -1,6 +1,6 @@
 use Rattle.std.proofs.Common.{◌∙◌}
 use Rattle.cbor_strict.specs.inner.LastKeys.{seen}
-use Rattle.cbor_strict.proofs.KeptKeys.{content_ends_at}
+use Rattle.cbor_strict.proofs.KeptPairs.{content_ends_at}
 use Rattle.cbor_strict.proofs.last_keys.LastKeys.end_content.Goals as goal
 
 pub returns : goal.returns

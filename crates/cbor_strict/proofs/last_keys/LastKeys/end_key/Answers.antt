@@ -2,7 +2,7 @@ use Rattle.std.proofs.Common.{◌∙◌, true≢false, sym, arith}
 use Rattle.cbor_head.specs.Spelling.{spell}
 use Rattle.cbor_strict.specs.inner.LastKeys.{seen}
 use Rattle.cbor_judging.specs.LastKey.{last_key}
-use Rattle.cbor_strict.proofs.KeptKeys.{key_places, key_put_in, key_put_out, compared_last, compared_key, places_bounds}
+use Rattle.cbor_strict.proofs.KeptPairs.{key_places, key_put_in, key_put_out, compared_last, compared_key, places_bounds}
 use Rattle.cbor_strict.proofs.last_keys.LastKeys.end_key.Goals as goal
 
 pub rises-requires-clause-last : goal.rises-requires-clause-last

@@ -4,7 +4,7 @@ use Rattle.std.proofs.lemmas.Grind.{common_steps}
 use Rattle.std.proofs.lemmas.List.{drop-set-lt, drop-drop, drop-replicate}
 use Rattle.cbor_machine.specs.Saved.{no_frames}
 use Rattle.cbor_machine.specs.declared.machine.saved.SavedFrame.{SavedFrame}
-use Rattle.cbor_machine.proofs.machine.saved.saved_frames.Goals as goal
+use Rattle.cbor_machine.proofs.machine.codes.saved_frames.Goals as goal
 
 -- one frame is written, and zeros are behind it
 zeros_left : (i : ℕ) (l : List SavedFrame) (x : SavedFrame) → drop i l ≡ no_frames (256 - i) → drop (i + 1) (slice_set l i x) ≡ no_frames (256 - (i + 1))

@@ -1,0 +1,342 @@
+-- Strings of chunks.
+use Rattle.std.proofs.Common.{◌≡◌, ℕ, ◌+◌, ◌-◌, ◌<◌, ◌≤◌, ◌⊎◌, Bool, true, false, true≢false, Option, Some, None, List, [], ◌∷◌, ◌++◌, length, replicate, flat_map, refl, sym, ap, ◌∙◌, subst, inl, inr, arith, append_assoc, append-nil}
+use Rattle.std.specs.Prelude.{IsTrue, IsUtf8}
+use Rattle.std.specs.Str.Lossy.{utf8_valid_len}
+use Rattle.std.proofs.lemmas.List.{length-append}
+use Rattle.std.proofs.lemmas.Grind.{flat_map-append}
+use Rattle.std.proofs.lemmas.Str.{IsUtf8-nil, IsUtf8-append}
+use Rattle.cbor_head.specs.Head.{Holds, head}
+use Rattle.cbor_head.specs.Limits.{Bounds}
+use Rattle.cbor_head.specs.Value.{AreBytes}
+use Rattle.cbor_head.specs.Spelling.{Chunk, Spelling, bytes, byte_chunks, text_chunks, spell, chunk_bytes, chunks_joined, depth, value_of}
+use Rattle.cbor_head.specs.Complaint.{Rules, Complaint, complaint, OfHead, OfIndefinite, OfCount, OfPayload, OfString}
+use Rattle.cbor_head.specs.Verdict.{refusal}
+use Rattle.cbor_head.specs.declared.major.Major.{Major}
+use Rattle.cbor_head.specs.declared.major.Major.TheVariants as majors
+use Rattle.cbor_head.specs.declared.width.Width.{Width}
+use Rattle.cbor_head.specs.declared.width.Width.TheVariants.{Direct, One, Two, Four, Eight, Indefinite}
+use Rattle.cbor_head.specs.declared.reason.Refusal.{Refusal}
+use Rattle.cbor_head.specs.declared.reason.Reason.TheVariants.{InvalidText}
+use Rattle.cbor_automaton.specs.Trace.{Mark, a_head, a_chunk, a_byte, a_break}
+use Rattle.cbor_automaton.specs.Marks.{mark_of}
+use Rattle.cbor_automaton.specs.declared.event.Event.{Event}
+use Rattle.cbor_automaton.specs.declared.event.EventKind.{EventKind}
+use Rattle.cbor_automaton.specs.declared.event.EventKind.TheVariants as kinds
+use Rattle.cbor_grammar.proofs.OneFirst.{count_last}
+use Rattle.cbor_grammar.proofs.Agree.{string_later}
+use Rattle.std.proofs.KnownBytes.{Consumes-trans}
+use Rattle.cbor_judging.specs.Place.{Container, Place, at_item, in_chunks, close, payload, IsTaking}
+use Rattle.cbor_standing.specs.NextEvent.{ItemEventsView}
+use Rattle.cbor_judging.specs.Judged.{IsJudged, Never}
+use Rattle.cbor_judging.specs.Reading.{IsAt, IsFormRefusal, IsNextHead, Extends, IsBegun, OfMark, ReadsItem, StopsItem, StopsHead, ReadsPayload, StopsPayload, string_major, string_kind, string_value}
+use Rattle.cbor_judging.proofs.Items.{is-definite, head-count, extends-none, extends-on}
+use Rattle.cbor_judging.proofs.Scalars.{at-as}
+use Rattle.cbor_judging.proofs.Heads.{zero_bytes, zero_length}
+use Rattle.cbor_judging.proofs.Leaves.{IsChunked, bytes_chunked, text_chunked, chunks_bytes, chunk_judged}
+use Rattle.cbor_judging.proofs.Chunks.{chunk, AreChunksSoFar, cut_chunk, cut_payload, chunk_complains, chunks_more, chunks_whole}
+use Rattle.cbor_judging.proofs.ByteLists.{bytes_join}
+use Rattle.cbor_automaton.proofs.Taking.{nothing-taken}
+use Rattle.cbor_judging.proofs.Steps.{reached-as}
+use Rattle.cbor_judging.specs.Reading.{frame_at, state_at}
+use Rattle.std.specs.Prelude.{map}
+use Rattle.cbor_judging.proofs.WholeStrings.{is-text}
+
+-- ---- of chunks
+
+-- The chunks so far of a string that stands behind t, and of which x was read when from was left.
+pub record IsReadingChunks (r : Rules) (b : Bounds) (fs : List Container) (t x : List ℕ) (text : Bool) (content : List ℕ) (from now : Option (List ℕ)) (e : ItemEventsView) : Type 0 where
+  pub done : List Chunk
+  pub so_far : AreChunksSoFar r (length t) (string_major text) done
+  pub taken : Extends x (chunks_bytes (string_major text) done) from now
+  pub at : IsAt b e (t ++ chunks_bytes (string_major text) done) (in_chunks (string_major text) fs)
+  pub content_is : content ≡ chunks_joined done
+  pub utf8 : text ≡ true → IsUtf8 content
+
+abbrev chunks_of : Bool → List Chunk → Spelling
+chunks_of true = text_chunks
+chunks_of false = byte_chunks
+
+is-chunked : (text : Bool) → IsChunked (string_major text) (chunks_of text)
+is-chunked true = text_chunked
+is-chunked false = bytes_chunked
+
+chunks-value : (text : Bool) (ks : List Chunk) → value_of (chunks_of text ks) ≡ string_value text (chunks_joined ks)
+chunks-value true ks = refl
+chunks-value false ks = refl
+
+-- the opener
+record Opener (r : Rules) (b : Bounds) (fs : List Container) (t x : List ℕ) (text : Bool) (next : Place) : Type 0 where
+  bytes_are : x ≡ head (string_major text) Indefinite 0
+  follows : next ≡ in_chunks (string_major text) fs
+  clean : Never (OfIndefinite r (length t))
+
+opener-is : (r : Rules) (b : Bounds) (fs : List Container) (t x : List ℕ) (e : ItemEventsView) (w : Width) (text : Bool) → (i : IsBegun r b fs t x e w (string_kind text None)) → Opener r b fs t x text i.next
+opener-is r b fs t x e w true i =
+    let h = subst (λ (v : Width). IsTaking b.depth (at_item fs) (a_head majors.Text v 0) x i.next) i.proper i.taking in
+    record { bytes_are = h.1; follows = h.2; clean = λ c g. i.clean c (subst (λ (v : Width). OfCount r (length t) majors.Text v 0 c) (sym i.proper) g) }
+opener-is r b fs t x e w false i =
+    let h = subst (λ (v : Width). IsTaking b.depth (at_item fs) (a_head majors.Bytes v 0) x i.next) i.proper i.taking in
+    record { bytes_are = h.1; follows = h.2; clean = λ c g. i.clean c (subst (λ (v : Width). OfCount r (length t) majors.Bytes v 0 c) (sym i.proper) g) }
+
+pub starts-chunks : (r : Rules) (b : Bounds) (fs : List Container) (t x : List ℕ) (e : ItemEventsView) (w : Width) (text : Bool) (from : Option (List ℕ)) → IsBegun r b fs t x e w (string_kind text None)
+    → IsReadingChunks r b fs t x text [] from from e
+starts-chunks r b fs t x e w text from i =
+    let h = opener-is r b fs t x e w text i in
+    let bytes_are : x ≡ chunks_bytes (string_major text) [] = h.bytes_are ∙ sym (append-nil (head (string_major text) Indefinite 0)) in
+    record {
+      done = [];
+      so_far = record { are = tt; opener_clean = h.clean; clean = λ c g. g };
+      taken = subst (λ (y : List ℕ). Extends x y from from) bytes_are (extends-none x from);
+      at = at-as b e (t ++ x) (t ++ chunks_bytes (string_major text) []) i.next (in_chunks (string_major text) fs) (ap (λ (y : List ℕ). t ++ y) bytes_are) h.follows i.at;
+      content_is = refl;
+      utf8 = λ y. IsUtf8-nil;
+    }
+
+-- a head's bytes
+head-some : (m : Major) (w : Width) (n : ℕ) → 0 < length (head m w n)
+head-some m Direct n = omega arith
+head-some m One n = omega arith
+head-some m Two n = omega arith
+head-some m Four n = omega arith
+head-some m Eight n = omega arith
+head-some m Indefinite n = omega arith
+
+pub chunk-or-end : (d : ℕ) (m : Major) (fs : List Container) (w : Width) (kind : EventKind) (bs : List ℕ) (next : Place) → IsTaking d (in_chunks m fs) (mark_of w kind) bs next → ((n : ℕ) × (kind ≡ kinds.Chunk n)) ⊎ (kind ≡ kinds.End)
+chunk-or-end d m fs w (kinds.Chunk n) bs next h = inl (n, refl)
+chunk-or-end d m fs w kinds.End bs next h = inr refl
+chunk-or-end d m fs w (kinds.Unsigned n) bs next h = absurd h
+chunk-or-end d m fs w (kinds.Negative n) bs next h = absurd h
+chunk-or-end d m fs w (kinds.Simple n) bs next h = absurd h
+chunk-or-end d m fs w (kinds.Bytes n) bs next h = absurd h
+chunk-or-end d m fs w (kinds.Text n) bs next h = absurd h
+chunk-or-end d m fs w (kinds.Piece n) bs next h = absurd h
+chunk-or-end d m fs w (kinds.Array n) bs next h = absurd h
+chunk-or-end d m fs w (kinds.Map n) bs next h = absurd h
+chunk-or-end d m fs w (kinds.Tag n) bs next h = absurd h
+
+string-clean : (text : Bool) (w : Width) (q : List ℕ) (r : Rules) (at : ℕ) → Never (OfHead r at (string_major text) w (length q)) → (text ≡ true → IsUtf8 q) → Never (OfString r at (string_major text) w q)
+string-clean true w q r at h u c g = elim g [ inl y ↦ h c y | inr y ↦ is-text r (at + length (head majors.Text w (length q))) q c (u refl) y ]
+string-clean false w q r at h u c g = h c g
+
+of-text : (text : Bool) (w : Width) (q : List ℕ) (r : Rules) (at : ℕ) (c : Complaint) → text ≡ true → OfPayload r (at + length (head (string_major text) w (length q))) q c → OfString r at (string_major text) w q c
+of-text true w q r at c e h = inr h
+of-text false w q r at c e h = absurd (true≢false (sym e))
+
+-- the head of a chunk that is not the shortest
+chunk-head-judged : (m : Major) (made : List Chunk → Spelling) → IsChunked m made → (done : List Chunk) (r : Rules) (at d : ℕ) → AreChunksSoFar r at m done → (w : Width) (n : ℕ) (c : Complaint) → Holds w n
+    → OfHead r (at + length (chunks_bytes m done)) m w n c → IsJudged r at d (chunks_bytes m done ++ head m w n) (Some c)
+chunk-head-judged m made kind done r at d a w n c h o =
+    let q : List ℕ = replicate n 0 in
+    let same : length q ≡ n = zero_length n in
+    let to = at + length (chunks_bytes m done) in
+    let o2 : OfHead r to m w (length q) c = subst (λ (k : ℕ). OfHead r to m w k c) (sym same) o in
+    let end = count_last r to m w (length q) c (head-count r to m w (length q) c (is-definite w n h) o2) in
+    subst (λ (k : ℕ). IsJudged r at d (chunks_bytes m done ++ head m w k) (Some c)) same
+    (chunk_judged m made kind done r at d a.are a.opener_clean a.clean (chunk w q) (head m w (length q)) q (subst (Holds w) (sym same) h, zero_bytes n) refl (Some c)
+    (record {
+      holds = of-string m o2;
+      ends = omega (arith, end);
+      first = λ e g l. inr (omega (arith, l, end, string_later r to m w q c (of-string m o2), string_later r to m w q e g), omega (arith, end, string_later r to m w q c (of-string m o2)));
+    }))
+  where
+    of-string : (m : Major) → OfHead r (at + length (chunks_bytes m done)) m w (length {A = ℕ} (replicate n 0)) c → OfString r (at + length (chunks_bytes m done)) m w (replicate n 0) c
+    of-string majors.Text o = inl o
+    of-string majors.Unsigned o = o
+    of-string majors.Negative o = o
+    of-string majors.Bytes o = o
+    of-string majors.Array o = o
+    of-string majors.Map o = o
+    of-string majors.Tag o = o
+    of-string majors.Simple o = o
+
+-- a chunk's head
+record ChunkHead (r : Rules) (at : ℕ) (m : Major) (fs : List Container) (w : Width) (n : ℕ) (bs : List ℕ) (next : Place) : Type 0 where
+  bytes_are : bs ≡ head m w n
+  holds : Holds w n
+  follows : next ≡ payload true m n fs
+  clean : Never (OfHead r at m w n)
+
+chunk-head : (r : Rules) (b : Bounds) (m : Major) (fs : List Container) (t : List ℕ) (ev : Event) (from to : Option (List ℕ)) (new : ItemEventsView) (k : ℕ) → (n : IsNextHead r b (in_chunks m fs) t ev from to new) → ev.kind ≡ kinds.Chunk k
+    → ChunkHead r (length t) m fs ev.width k n.bytes n.next
+chunk-head r b m fs t ev from to new k n e =
+    let h = subst (λ (x : EventKind). IsTaking b.depth (in_chunks m fs) (mark_of ev.width x) n.bytes n.next) e n.taking in
+    let f = subst (λ (x : EventKind). (c : Complaint) → OfMark r (length t) (in_chunks m fs) (mark_of ev.width x) c → ⊥) e n.clean in
+    record { bytes_are = h.0; holds = h.1; follows = h.2; clean = f }
+
+module _ (r : Rules) (b : Bounds) (fs : List Container) (t x : List ℕ) (text : Bool) (content : List ℕ) (from mid : Option (List ℕ)) (e : ItemEventsView) (a : IsReadingChunks r b fs t x text content from mid e) where
+  there : length (t ++ chunks_bytes (string_major text) a.done) ≡ length t + length (chunks_bytes (string_major text) a.done)
+  there = length-append t (chunks_bytes (string_major text) a.done)
+
+  -- no head comes
+  pub stops-chunk-head : (to : Option (List ℕ)) (f : Refusal) → StopsHead r b (in_chunks (string_major text) fs) (t ++ chunks_bytes (string_major text) a.done) mid to f → StopsItem r b fs t x from to f
+  stops-chunk-head to f s =
+      let y = chunks_bytes (string_major text) a.done in
+      record {
+        bytes = y ++ s.bytes;
+        taken = extends-on x y s.bytes (y ++ s.bytes) from mid to a.taken s.consumed refl;
+        read = s.read ∙ ap length (append_assoc t y s.bytes);
+        why = elim s.why [
+          | inl c ↦ inr (record {
+            p = y ++ c.p;
+            last = c.last;
+            splits = ap (λ (u : List ℕ). y ++ u) c.splits ∙ sym (append_assoc y c.p c.last);
+            found = None;
+            judged = cut_chunk (string_major text) (chunks_of text) (is-chunked text) a.done r (length t) (b.depth - length fs) a.so_far b.depth (map frame_at fs) c.begun c.p
+                (nothing-taken b.depth (state_at (in_chunks (string_major text) fs)) c.begun c.p tt c.are_bytes c.ran);
+            cause = (c.place ∙ ap length (append_assoc t y c.p), subst (λ (u : List ℕ). IsFormRefusal b u to f) (append_assoc t y s.bytes) c.refused);
+          })
+          | inr c ↦ inr (record {
+            p = y ++ s.bytes;
+            last = [];
+            splits = sym (append-nil (y ++ s.bytes));
+            found = Some c.complaint;
+            judged = go c.complaint c.next s.bytes c.mark c.taking (subst (λ (k : ℕ). OfMark r k (in_chunks (string_major text) fs) c.mark c.complaint) there c.of);
+            cause = (c.is, subst (λ (u : List ℕ). length u ≤ b.bytes) (append_assoc t y s.bytes) c.within);
+          })
+        ];
+      }
+    where
+      go : (c : Complaint) (next : Place) (bs : List ℕ) (mark : Mark) → IsTaking b.depth (in_chunks (string_major text) fs) mark bs next → OfMark r (length t + length (chunks_bytes (string_major text) a.done)) (in_chunks (string_major text) fs) mark c
+          → IsJudged r (length t) (b.depth - length fs) (chunks_bytes (string_major text) a.done ++ bs) (Some c)
+      go c next bs (a_chunk w n) h o =
+          subst (λ (u : List ℕ). IsJudged r (length t) (b.depth - length fs) (chunks_bytes (string_major text) a.done ++ u) (Some c)) (sym h.0)
+          (chunk-head-judged (string_major text) (chunks_of text) (is-chunked text) a.done r (length t) (b.depth - length fs) a.so_far w n c h.1 o)
+      go c next bs (a_head m w n) h o = absurd h
+      go c next bs a_byte h o = absurd h
+      go c next bs a_break h o = absurd o
+
+  module _ (ev : Event) (mid2 : Option (List ℕ)) (e2 : ItemEventsView) (n : IsNextHead r b (in_chunks (string_major text) fs) (t ++ chunks_bytes (string_major text) a.done) ev mid mid2 e2) where
+    pub chunk-kind : ((k : ℕ) → ev.kind ≡ kinds.Chunk k → ⊥) → (ev.kind ≡ kinds.End → ⊥) → ⊥
+    chunk-kind f g = elim (chunk-or-end b.depth (string_major text) fs ev.width ev.kind n.bytes n.next n.taking) [ inl h ↦ f h.0 h.1 | inr h ↦ g h ]
+
+    -- the break
+    pub chunks-end : ev.kind ≡ kinds.End → ReadsItem r b fs t x from mid2 e2 (string_value text content) × (text ≡ true → IsUtf8 content)
+    chunks-end is =
+        let m = string_major text in
+        let y = chunks_bytes m a.done in
+        let h = subst (λ (k : EventKind). IsTaking b.depth (in_chunks m fs) (mark_of ev.width k) n.bytes n.next) is n.taking in
+        let whole = chunks_whole m (chunks_of text) (is-chunked text) a.done r (length t) (b.depth - length fs) a.so_far in
+        let bytes_are : y ++ n.bytes ≡ spell (chunks_of text a.done) = ap (λ (u : List ℕ). y ++ u) h.0 ∙ sym ((is-chunked text).bytes_are a.done) in (
+          record {
+            item = chunks_of text a.done;
+            spelled = whole.0;
+            within = omega (arith, (is-chunked text).flat a.done);
+            clean = whole.1;
+            taken = extends-on x y n.bytes (spell (chunks_of text a.done)) from mid mid2 a.taken n.consumed (sym bytes_are);
+            value = chunks-value text a.done ∙ ap (string_value text) (sym a.content_is);
+            at = at-as b e2 ((t ++ y) ++ n.bytes) (t ++ spell (chunks_of text a.done)) n.next (close fs) (append_assoc t y n.bytes ∙ ap (λ (u : List ℕ). t ++ u) bytes_are) h.1 n.at;
+          },
+          a.utf8,
+        )
+
+    module _ (k : ℕ) (is : ev.kind ≡ kinds.Chunk k) where
+      hd : ChunkHead r (length (t ++ chunks_bytes (string_major text) a.done)) (string_major text) fs ev.width k n.bytes n.next
+      hd = chunk-head r b (string_major text) fs (t ++ chunks_bytes (string_major text) a.done) ev mid mid2 e2 k n is
+
+      clean-head : Never (OfHead r (length t + length (chunks_bytes (string_major text) a.done)) (string_major text) ev.width k)
+      clean-head c g = hd.clean c (subst (λ (j : ℕ). OfHead r j (string_major text) ev.width k c) (sym there) g)
+
+      -- its payload is due
+      pub chunk-due : IsAt b e2 ((t ++ chunks_bytes (string_major text) a.done) ++ n.bytes) (payload true (string_major text) k fs)
+      chunk-due = at-as b e2 ((t ++ chunks_bytes (string_major text) a.done) ++ n.bytes) ((t ++ chunks_bytes (string_major text) a.done) ++ n.bytes) n.next (payload true (string_major text) k fs) refl hd.follows n.at
+
+      more-bytes : (q : List ℕ) → length q ≡ k → chunks_bytes (string_major text) a.done ++ (n.bytes ++ q) ≡ chunks_bytes (string_major text) (a.done ++ chunk ev.width q ∷ [])
+      more-bytes q count =
+          let m = string_major text in
+          let y = flat_map (chunk_bytes m) a.done in
+          append_assoc (head m Indefinite 0) y (n.bytes ++ q)
+          ∙ ap (λ (u : List ℕ). head m Indefinite 0 ++ (y ++ (u ++ q))) (hd.bytes_are ∙ ap (head m ev.width) (sym count))
+          ∙ ap (λ (u : List ℕ). head m Indefinite 0 ++ (y ++ u)) (sym (append-nil (head m ev.width (length q) ++ q)))
+          ∙ ap (λ (u : List ℕ). head m Indefinite 0 ++ u) (sym (flat_map-append (chunk_bytes m) a.done (chunk ev.width q ∷ [])))
+
+      -- it is read
+      pub chunk-next : (content2 : List ℕ) (to : Option (List ℕ)) (new : ItemEventsView)
+          → (reads : ReadsPayload b (in_chunks (string_major text) fs) ((t ++ chunks_bytes (string_major text) a.done) ++ n.bytes) k content content2 mid2 to new) → (text ≡ true → IsUtf8 reads.bytes)
+          → IsReadingChunks r b fs t x text content2 from to new
+      chunk-next content2 to new reads utf8 =
+          let m = string_major text in
+          let y = chunks_bytes m a.done in
+          let q = reads.bytes in
+          let one = chunk ev.width q in
+          let bytes_are = more-bytes q reads.count in
+          let holds = subst (Holds ev.width) (sym reads.count) hd.holds in
+          record {
+            done = a.done ++ one ∷ [];
+            so_far = chunks_more m (chunks_of text) (is-chunked text) a.done r (length t) (b.depth - length fs) a.so_far one (holds, reads.are_bytes)
+                (string-clean text ev.width q r (length t + length y) (subst (λ (j : ℕ). Never (OfHead r (length t + length y) m ev.width j)) (sym reads.count) clean-head) utf8);
+            taken = extends-on x y (n.bytes ++ q) (chunks_bytes m (a.done ++ one ∷ [])) from mid to a.taken (Consumes-trans mid mid2 to n.bytes q n.consumed reads.consumed) (sym bytes_are);
+            at = at-as b new (((t ++ y) ++ n.bytes) ++ q) (t ++ chunks_bytes m (a.done ++ one ∷ [])) (in_chunks m fs) (in_chunks m fs)
+                (append_assoc (t ++ y) n.bytes q ∙ append_assoc t y (n.bytes ++ q) ∙ ap (λ (u : List ℕ). t ++ u) bytes_are) refl reads.at;
+            content_is = reads.grows ∙ ap (λ (u : List ℕ). u ++ q) a.content_is ∙ ap (λ (u : List ℕ). chunks_joined a.done ++ u) (sym (append-nil q)) ∙ sym (flat_map-append (λ (c : Chunk). c.payload) a.done (one ∷ []));
+            utf8 = λ g. subst IsUtf8 (sym reads.grows) (IsUtf8-append content q (a.utf8 g) (utf8 g));
+          }
+
+      -- a part of it has come
+      chunk-part : (p : List ℕ) → length p < k → AreBytes p → IsJudged r (length t) (b.depth - length fs) (chunks_bytes (string_major text) a.done ++ (n.bytes ++ p)) None
+      chunk-part p short are_bytes =
+          let y = chunks_bytes (string_major text) a.done in
+          let more : List ℕ = replicate (k - length p) 0 in
+          let same : length (p ++ more) ≡ k = omega (arith, length-append p more, zero_length (k - length p), short) in
+          let head_as : n.bytes ≡ head (string_major text) ev.width (length (p ++ more)) = hd.bytes_are ∙ ap (head (string_major text) ev.width) (sym same) in
+          subst (λ (u : List ℕ). IsJudged r (length t) (b.depth - length fs) (y ++ (u ++ p)) None) (sym head_as)
+          (cut_payload (string_major text) (chunks_of text) (is-chunked text) a.done r (length t) (b.depth - length fs) a.so_far ev.width p more
+          (subst (Holds ev.width) (sym same) hd.holds, bytes_join p more are_bytes (zero_bytes (k - length p))) (omega (arith, zero_length (k - length p), short))
+          (subst (λ (j : ℕ). Never (OfHead r (length t + length y) (string_major text) ev.width j)) (sym same) clean-head))
+
+      chunk-split : (all p last : List ℕ) → all ≡ p ++ last → chunks_bytes (string_major text) a.done ++ (n.bytes ++ all) ≡ (chunks_bytes (string_major text) a.done ++ (n.bytes ++ p)) ++ last
+      chunk-split all p last e =
+          let y = chunks_bytes (string_major text) a.done in
+          ap (λ (u : List ℕ). y ++ (n.bytes ++ u)) e ∙ ap (λ (u : List ℕ). y ++ u) (sym (append_assoc n.bytes p last)) ∙ sym (append_assoc y (n.bytes ++ p) last)
+
+      -- it is refused
+      pub stops-chunk : IsTrue r.texts → (to : Option (List ℕ)) (f : Refusal) → StopsPayload b ((t ++ chunks_bytes (string_major text) a.done) ++ n.bytes) k text mid2 to f → StopsItem r b fs t x from to f
+      stops-chunk looks to f s =
+          let y = chunks_bytes (string_major text) a.done in
+          let regroup : ((t ++ y) ++ n.bytes) ++ s.bytes ≡ t ++ (y ++ (n.bytes ++ s.bytes)) = append_assoc (t ++ y) n.bytes s.bytes ∙ append_assoc t y (n.bytes ++ s.bytes) in
+          record {
+            bytes = y ++ (n.bytes ++ s.bytes);
+            taken = extends-on x y (n.bytes ++ s.bytes) (y ++ (n.bytes ++ s.bytes)) from mid to a.taken (Consumes-trans mid mid2 to n.bytes s.bytes n.consumed s.consumed) refl;
+            read = s.read ∙ ap length regroup;
+            why = elim s.why [
+              | inl m ↦ inl (
+                m.0,
+                reached-as b (((t ++ y) ++ n.bytes) ++ s.bytes) (t ++ (y ++ (n.bytes ++ s.bytes))) regroup m.1,
+                record { p = y ++ (n.bytes ++ m.2.p); last = m.2.last; splits = chunk-split s.bytes m.2.p m.2.last m.2.splits; byte = m.2.byte; judged = chunk-part m.2.p m.2.short m.2.are_bytes },
+              )
+              | inr (inl c) ↦
+                  inr (record {
+                    p = y ++ (n.bytes ++ c.p);
+                    last = c.last;
+                    splits = chunk-split s.bytes c.p c.last c.splits;
+                    found = None;
+                    judged = chunk-part c.p c.short c.are_bytes;
+                    cause = (
+                      c.place ∙ ap length (append_assoc (t ++ y) n.bytes c.p ∙ append_assoc t y (n.bytes ++ c.p)),
+                      subst (λ (u : List ℕ). IsFormRefusal b u to f) regroup c.refused,
+                    );
+                  })
+              | inr (inr z) ↦
+                  let q = s.bytes in
+                  let v = z.1 in
+                  let at = length t + length y + length (head (string_major text) ev.width (length q)) in
+                  let head_as : n.bytes ≡ head (string_major text) ev.width (length q) = hd.bytes_are ∙ ap (head (string_major text) ev.width) (sym v.count) in
+                  let here : length ((t ++ y) ++ n.bytes) ≡ at = length-append (t ++ y) n.bytes ∙ ap (λ (j : ℕ). j + length n.bytes) there ∙ ap (λ (u : List ℕ). length t + length y + length u) head_as in
+                  let c = complaint (at + length q) (at + utf8_valid_len q) InvalidText in
+                  inr (record {
+                    p = y ++ (n.bytes ++ q);
+                    last = [];
+                    splits = sym (append-nil (y ++ (n.bytes ++ q)));
+                    found = Some c;
+                    judged = subst (λ (u : List ℕ). IsJudged r (length t) (b.depth - length fs) (y ++ (u ++ q)) (Some c)) (sym head_as)
+                        (chunk_complains (string_major text) (chunks_of text) (is-chunked text) a.done r (length t) (b.depth - length fs) a.so_far ev.width q c
+                        (subst (Holds ev.width) (sym v.count) hd.holds, v.are_bytes) (subst (λ (j : ℕ). Never (OfHead r (length t + length y) (string_major text) ev.width j)) (sym v.count) clean-head)
+                        (of-text text ev.width q r (length t + length y) c z.0 (looks, v.no_text, refl)) (looks, v.no_text, refl));
+                    cause = (v.is ∙ ap (λ (j : ℕ). refusal InvalidText (j + utf8_valid_len q) (j + length q)) here, subst (λ (u : List ℕ). length u ≤ b.bytes) regroup v.within);
+                  })
+            ];
+          }
+
+      pub chunk-farther : (q : List ℕ) → length (t ++ chunks_bytes (string_major text) a.done) < length (((t ++ chunks_bytes (string_major text) a.done) ++ n.bytes) ++ q)
+      chunk-farther q =
+          let y = t ++ chunks_bytes (string_major text) a.done in
+          omega (arith, length-append (y ++ n.bytes) q, length-append y n.bytes, ap length hd.bytes_are, head-some (string_major text) ev.width k)

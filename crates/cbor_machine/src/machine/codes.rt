@@ -1,0 +1,245 @@
+//! The parts of a machine as the numbers that it is saved by, and back.
+
+ghost use Rattle.std.specs.Prelude.{◌≡◌, ℕ, ◌≤◌, ◌-◌, IfSome, length, map, take, drop};
+ghost use Rattle.cbor_automaton.specs.Reasons.{IsMachineReason};
+ghost use Rattle.cbor_machine.specs.Saved.{no_frames};
+ghost use Rattle.cbor_machine.specs.inner.Saved.{flag_at, frame_at, frame_by, kind_at, position_by, position_in};
+ghost use Rattle.cbor_machine.specs.inner.Saved.{refusal_by, width_at};
+ghost use Rattle.cbor_steps.specs.Nest.{due_frame};
+
+use crate::machine::refusal_of;
+use crate::machine::saved::{SavedFrame, SavedMachine};
+use cbor_head::{Reason, Refusal, Width};
+use cbor_steps::{Due, Frame, MOST_OPEN, Nest, Numbered, Position};
+
+// A position as numbers.
+#[derive(Clone, Copy)]
+pub(crate) struct Codes {
+    pub(crate) position: u8,
+    pub(crate) kind: u8,
+    pub(crate) width: u8,
+    pub(crate) left: u8,
+    pub(crate) chunk: u8,
+    pub(crate) number: u64,
+}
+
+pub(crate) fn codes_of(position: Position) -> Codes
+    ensures { position_by (flag_at result.chunk) (kind_at result.kind) (width_at result.width)
+        result.left result.number result.position ≡ position }
+{
+    let none = Codes {
+        position: 0,
+        kind: 0,
+        width: 0,
+        left: 0,
+        chunk: 0,
+        number: 0,
+    };
+    match position {
+        Position::Item => none,
+        Position::Head {
+            chunk,
+            kind,
+            width,
+            left,
+            argument,
+        } => Codes {
+            position: 1,
+            kind: kind_code(kind),
+            width: width_code(width),
+            left,
+            chunk: flag_code(chunk),
+            number: argument,
+        },
+        Position::SimpleNumber => Codes {
+            position: 2,
+            ..none
+        },
+        Position::Payload(chunk, kind, left) => Codes {
+            position: 3,
+            kind: kind_code(kind),
+            chunk: flag_code(chunk),
+            number: left,
+            ..none
+        },
+        Position::Chunks(kind) => Codes {
+            position: 4,
+            kind: kind_code(kind),
+            ..none
+        },
+        Position::Done => Codes {
+            position: 5,
+            ..none
+        },
+    }
+}
+
+fn flag_code(flag: bool) -> u8
+    ensures { flag_at result ≡ flag }
+{
+    if flag { 1 } else { 0 }
+}
+
+fn kind_code(kind: Numbered) -> u8
+    ensures { kind_at result ≡ kind }
+{
+    match kind {
+        Numbered::Unsigned => 0,
+        Numbered::Negative => 1,
+        Numbered::Bytes => 2,
+        Numbered::Text => 3,
+        Numbered::Array => 4,
+        Numbered::Map => 5,
+        Numbered::Tag => 6,
+    }
+}
+
+fn width_code(width: Width) -> u8
+    ensures { width_at result ≡ width }
+{
+    match width {
+        Width::Direct => 0,
+        Width::One => 1,
+        Width::Two => 2,
+        Width::Four => 3,
+        Width::Eight => 4,
+        Width::Indefinite => 5,
+    }
+}
+
+// The number of the reason and the place; 0 where nothing was refused.
+pub(crate) fn refusal_codes(refusal: Option<Refusal>) -> (u8, u64)
+    ensures { (read : ℕ) → IfSome refusal (λ r. (r.read ≡ read) × IsMachineReason r.reason)
+        → refusal_by result.1 read result.0 ≡ refusal }
+{
+    match refusal {
+        None => (0, 0),
+        Some(refusal) => (refusal.reason.number(), refusal.place),
+    }
+}
+
+pub(crate) fn saved_frames(frames: &[Frame]) -> [SavedFrame; MOST_OPEN]
+    requires { length frames.now ≤ MOST_OPEN }
+    ensures held { map frame_at (take (length frames.now) result) ≡ frames.now }
+    ensures zeros { drop (length frames.now) result ≡ no_frames (MOST_OPEN - length frames.now) }
+{
+    let mut saved = [SavedFrame { left: 0, kind: 0 }; MOST_OPEN];
+    for (i, frame) in frames.iter().enumerate() {
+        saved[i] = saved_frame(*frame);
+    }
+    saved
+}
+
+fn saved_frame(frame: Frame) -> SavedFrame
+    ensures { frame_at result ≡ frame }
+{
+    match frame {
+        Frame::Array(left) => SavedFrame { left, kind: 0 },
+        Frame::IndefiniteArray => SavedFrame { left: 0, kind: 1 },
+        Frame::Map(left, false) => SavedFrame { left, kind: 2 },
+        Frame::Map(left, true) => SavedFrame { left, kind: 3 },
+        Frame::IndefiniteMap(false) => SavedFrame { left: 0, kind: 4 },
+        Frame::IndefiniteMap(true) => SavedFrame { left: 0, kind: 5 },
+        Frame::Tag => SavedFrame { left: 0, kind: 6 },
+    }
+}
+
+pub(crate) fn position_of(saved: &SavedMachine) -> Position
+    ensures { result ≡ position_in saved.now }
+{
+    let chunk = flag_of(saved.chunk);
+    let kind = kind_of(saved.kind);
+    match saved.position {
+        0 => Position::Item,
+        1 => Position::Head {
+            chunk,
+            kind,
+            width: width_of(saved.width),
+            left: saved.left,
+            argument: saved.number,
+        },
+        2 => Position::SimpleNumber,
+        3 => Position::Payload(chunk, kind, saved.number),
+        4 => Position::Chunks(kind),
+        _ => Position::Done,
+    }
+}
+
+fn flag_of(code: u8) -> bool
+    ensures { result ≡ flag_at code }
+{
+    match code {
+        1 => true,
+        _ => false,
+    }
+}
+
+fn kind_of(code: u8) -> Numbered
+    ensures { result ≡ kind_at code }
+{
+    match code {
+        0 => Numbered::Unsigned,
+        1 => Numbered::Negative,
+        2 => Numbered::Bytes,
+        3 => Numbered::Text,
+        4 => Numbered::Array,
+        5 => Numbered::Map,
+        _ => Numbered::Tag,
+    }
+}
+
+fn width_of(code: u8) -> Width
+    ensures { result ≡ width_at code }
+{
+    match code {
+        0 => Width::Direct,
+        1 => Width::One,
+        2 => Width::Two,
+        3 => Width::Four,
+        4 => Width::Eight,
+        _ => Width::Indefinite,
+    }
+}
+
+pub(crate) fn refusal_at(code: u8, place: u64, read: u64) -> Option<Refusal>
+    ensures is { result ≡ refusal_by place read code }
+    ensures reason { IfSome result (λ r. (r.read ≡ read) × IsMachineReason r.reason) }
+{
+    let reason = match code {
+        0 => return None,
+        2 => Reason::TooLong,
+        3 => Reason::Reserved,
+        4 => Reason::NoIndefinite,
+        5 => Reason::Float,
+        6 => Reason::BadSimple,
+        7 => Reason::StrayBreak,
+        8 => Reason::BadChunk,
+        _ => Reason::TooDeep,
+    };
+    Some(refusal_of(reason, place, read))
+}
+
+pub(crate) fn nest_of(saved: &[SavedFrame]) -> Nest
+    requires { length saved.now ≤ MOST_OPEN }
+    ensures { result ≡ map frame_at saved.now }
+{
+    let mut nest = Nest::new();
+    for frame in saved {
+        nest.push(due_of(frame.kind), frame.left);
+    }
+    nest
+}
+
+fn due_of(code: u8) -> Due
+    ensures { (left : ℕ) → due_frame result left ≡ frame_by left code }
+{
+    match code {
+        0 => Due::Item,
+        1 => Due::IndefiniteItem,
+        2 => Due::Key,
+        3 => Due::Value,
+        4 => Due::IndefiniteKey,
+        5 => Due::IndefiniteValue,
+        _ => Due::Content,
+    }
+}

@@ -1,0 +1,156 @@
+-- How many maps are open in an item, and how many bytes of keys are kept, by the container that it stands in.
+use Rattle.std.proofs.Common.{◌≡◌, ℕ, suc, ◌+◌, ◌-◌, ◌<◌, ◌≤◌, List, [], ◌∷◌, ◌++◌, length, refl, ap, ◌∙◌, arith}
+use Rattle.std.specs.Prelude.{if◌then◌else◌}
+use Rattle.std.proofs.lemmas.Bool.{lt-ltb, le-ltb, le-leb}
+use Rattle.std.proofs.lemmas.List.{length-append}
+use Rattle.cbor_head.specs.Head.{head}
+use Rattle.cbor_head.specs.Spelling.{Spelling, Spellings, SpelledEntries, bytes, a_map, no_spellings, a_spelling, no_entries, entry, spell, spell_all, spell_entries, spellings_count, entries_count}
+use Rattle.cbor_head.specs.declared.major.Major.TheVariants.{Array, Map}
+use Rattle.cbor_strict.specs.KeptKeys.{open_maps, open_maps_in, open_maps_in_entries, key_bytes, key_bytes_in, key_bytes_in_entries}
+use Rattle.cbor_judging.specs.Frame.{Frame, a_member, a_key, a_content, tagged, with_all, with_entries, plug, before, behind}
+use Rattle.cbor_strict.specs.inner.LastKeys.{is_key, complete_key}
+use Rattle.cbor_judging.specs.LastKey.{last_key}
+use Rattle.cbor_judging.specs.OpenMaps.{before_all}
+use Rattle.cbor_judging.proofs.Frames.{count_with, entries_with, spell_plug}
+
+-- ---- what a path of containers counts, the outermost first
+
+abbrev pub one_map : Frame → ℕ
+one_map (a_key w a v b) = 1
+one_map (a_content w a k b) = 1
+one_map (a_member w a b) = 0
+one_map (tagged w n) = 0
+
+abbrev pub map_count : List Frame → ℕ
+map_count [] = 0
+map_count (f ∷ fs) = one_map f + map_count fs
+
+-- where so many bytes of the item in the innermost were read
+abbrev pub keys_size : List Frame → ℕ → ℕ
+keys_size [] n = 0
+keys_size (f ∷ fs) n = length (complete_key f) + (if is_key f then length (before_all fs) + n else keys_size fs n)
+
+-- ---- one container
+
+pair_size : (k v : Spelling) (es : SpelledEntries) → length (spell_entries (entry k v es)) ≡ length (spell k) + length (spell v) + length (spell_entries es)
+pair_size k v es = omega (arith, length-append (spell k ++ spell v) (spell_entries es), length-append (spell k) (spell v))
+
+pub members_size : (s : Spelling) (ss : Spellings) → length (spell_all (a_spelling s ss)) ≡ length (spell s) + length (spell_all ss)
+members_size s ss = length-append (spell s) (spell_all ss)
+
+maps_member : (a : Spellings) (s : Spelling) (b : Spellings) (n m : ℕ) → m ≡ length (spell_all a) + n → n < length (spell s) → open_maps_in m (with_all a (a_spelling s b)) ≡ open_maps n s
+maps_member no_spellings s b n m e l = rw (lt-ltb m (length (spell s)) (omega (arith, e, l))) (ap (λ (x : ℕ). open_maps x s) (omega (arith, e)))
+maps_member (a_spelling t a) s b n m e l =
+    let size = members_size t a in
+    rw (le-ltb m (length (spell t)) (omega (arith, e, size))) (maps_member a s b n (m - length (spell t)) (omega (arith, e, size)) l)
+
+keys_member : (a : Spellings) (s : Spelling) (b : Spellings) (n m : ℕ) → m ≡ length (spell_all a) + n → n < length (spell s) → key_bytes_in m (with_all a (a_spelling s b)) ≡ key_bytes n s
+keys_member no_spellings s b n m e l = rw (lt-ltb m (length (spell s)) (omega (arith, e, l))) (ap (λ (x : ℕ). key_bytes x s) (omega (arith, e)))
+keys_member (a_spelling t a) s b n m e l =
+    let size = members_size t a in
+    rw (le-ltb m (length (spell t)) (omega (arith, e, size))) (keys_member a s b n (m - length (spell t)) (omega (arith, e, size)) l)
+
+maps_key : (a : SpelledEntries) (k v : Spelling) (b : SpelledEntries) (n m : ℕ) → m ≡ length (spell_entries a) + n → n < length (spell k) → open_maps_in_entries m (with_entries a (entry k v b)) ≡ open_maps n k
+maps_key no_entries k v b n m e l = rw (lt-ltb m (length (spell k)) (omega (arith, e, l))) (ap (λ (x : ℕ). open_maps x k) (omega (arith, e)))
+maps_key (entry j u a) k v b n m e l =
+    let size = pair_size j u a in
+    rw (le-ltb m (length (spell j)) (omega (arith, e, size)), le-ltb (m - length (spell j)) (length (spell u)) (omega (arith, e, size)))
+    (maps_key a k v b n (m - length (spell j) - length (spell u)) (omega (arith, e, size)) l)
+
+maps_content : (a : SpelledEntries) (k v : Spelling) (b : SpelledEntries) (n m : ℕ) → m ≡ length (spell_entries a) + length (spell k) + n → n < length (spell v) → open_maps_in_entries m (with_entries a (entry k v b)) ≡ open_maps n v
+maps_content no_entries k v b n m e l =
+    rw (le-ltb m (length (spell k)) (omega (arith, e)), lt-ltb (m - length (spell k)) (length (spell v)) (omega (arith, e, l))) (ap (λ (x : ℕ). open_maps x v) (omega (arith, e)))
+maps_content (entry j u a) k v b n m e l =
+    let size = pair_size j u a in
+    rw (le-ltb m (length (spell j)) (omega (arith, e, size)), le-ltb (m - length (spell j)) (length (spell u)) (omega (arith, e, size)))
+    (maps_content a k v b n (m - length (spell j) - length (spell u)) (omega (arith, e, size)) l)
+
+-- the length of the last key of these pairs, behind one of so many bytes
+abbrev last_size : ℕ → SpelledEntries → ℕ
+last_size last no_entries = last
+last_size last (entry k v es) = last_size (length (spell k)) es
+
+last_of : (k v : Spelling) (es : SpelledEntries) → last_size (length (spell k)) es ≡ length (last_key (entry k v es))
+last_of k v no_entries = refl
+last_of k v (entry l w es) = last_of l w es
+
+last_all : (es : SpelledEntries) → last_size 0 es ≡ length (last_key es)
+last_all no_entries = refl
+last_all (entry k v es) = last_of k v es
+
+keys_key : (a : SpelledEntries) (k v : Spelling) (b : SpelledEntries) (n m last : ℕ) → m ≡ length (spell_entries a) + n → n < length (spell k) → key_bytes_in_entries m last (with_entries a (entry k v b)) ≡ last_size last a + n
+keys_key no_entries k v b n m last e l = rw (lt-ltb m (length (spell k)) (omega (arith, e, l))) (omega (arith, e))
+keys_key (entry j u a) k v b n m last e l =
+    let size = pair_size j u a in
+    rw (le-ltb m (length (spell j)) (omega (arith, e, size)), le-ltb (m - length (spell j)) (length (spell u)) (omega (arith, e, size)))
+    (keys_key a k v b n (m - length (spell j) - length (spell u)) (length (spell j)) (omega (arith, e, size)) l)
+
+keys_content : (a : SpelledEntries) (k v : Spelling) (b : SpelledEntries) (n m last : ℕ) → m ≡ length (spell_entries a) + length (spell k) + n → n < length (spell v) → key_bytes_in_entries m last (with_entries a (entry k v b)) ≡ length (spell k) + key_bytes n v
+keys_content no_entries k v b n m last e l =
+    rw (le-ltb m (length (spell k)) (omega (arith, e)), lt-ltb (m - length (spell k)) (length (spell v)) (omega (arith, e, l))) (ap (λ (x : ℕ). length (spell k) + key_bytes x v) (omega (arith, e)))
+keys_content (entry j u a) k v b n m last e l =
+    let size = pair_size j u a in
+    rw (le-ltb m (length (spell j)) (omega (arith, e, size)), le-ltb (m - length (spell j)) (length (spell u)) (omega (arith, e, size)))
+    (keys_content a k v b n (m - length (spell j) - length (spell u)) (length (spell j)) (omega (arith, e, size)) l)
+
+-- an item stands in its container whole
+pub plug_size : (f : Frame) (s : Spelling) → length (before f) + length (spell s) ≤ length (spell (plug f s))
+plug_size f s = omega (arith, ap length (spell_plug f s), length-append (before f) (spell s ++ behind f), length-append (spell s) (behind f))
+
+none_more : (n : ℕ) → n ≡ 0 + n
+none_more n = omega arith
+
+one_more : (n : ℕ) → suc n ≡ 1 + n
+one_more n = omega arith
+
+pub maps_plug : (f : Frame) (s : Spelling) (n m : ℕ) → m ≡ length (before f) + n → n < length (spell s) → open_maps m (plug f s) ≡ one_map f + open_maps n s
+maps_plug (a_member w a b) s n m e l =
+    let hd = head Array w (spellings_count a + suc (spellings_count b)) in
+    let heads = ap (λ (i : ℕ). length (head Array w i)) (count_with a (a_spelling s b)) in
+    maps_member a s b n (m - length (head Array w (spellings_count (with_all a (a_spelling s b))))) (omega (arith, e, heads, length-append hd (spell_all a))) l ∙ none_more (open_maps n s)
+maps_plug (a_key w a v b) s n m e l =
+    let hd = head Map w (entries_count a + suc (entries_count b)) in
+    let heads = ap (λ (i : ℕ). length (head Map w i)) (entries_with a (entry s v b)) in
+    let whole = plug_size (a_key w a v b) s in
+    let sizes = length-append hd (spell_entries a) in
+    let es = with_entries a (entry s v b) in
+    rw (le-leb (length (head Map w (entries_count es))) m (omega (arith, e, heads, sizes)), lt-ltb m (length (spell (a_map w es))) (omega (arith, e, l, whole)))
+    (ap suc (maps_key a s v b n (m - length (head Map w (entries_count es))) (omega (arith, e, heads, sizes)) l) ∙ one_more (open_maps n s))
+maps_plug (a_content w a k b) s n m e l =
+    let hd = head Map w (entries_count a + suc (entries_count b)) in
+    let heads = ap (λ (i : ℕ). length (head Map w i)) (entries_with a (entry k s b)) in
+    let whole = plug_size (a_content w a k b) s in
+    let sizes = length-append (hd ++ spell_entries a) (spell k) in
+    let sizes2 = length-append hd (spell_entries a) in
+    let es = with_entries a (entry k s b) in
+    rw (le-leb (length (head Map w (entries_count es))) m (omega (arith, e, heads, sizes, sizes2)), lt-ltb m (length (spell (a_map w es))) (omega (arith, e, l, whole)))
+    (ap suc (maps_content a k s b n (m - length (head Map w (entries_count es))) (omega (arith, e, heads, sizes, sizes2)) l) ∙ one_more (open_maps n s))
+maps_plug (tagged w k) s n m e l = ap (λ (x : ℕ). open_maps x s) (omega (arith, e)) ∙ none_more (open_maps n s)
+
+-- what is kept of the container, where so much is of the item
+abbrev pub around : Frame → ℕ → ℕ → ℕ
+around f n keys = length (complete_key f) + (if is_key f then n else keys)
+
+pub keys_plug : (f : Frame) (s : Spelling) (n m : ℕ) → m ≡ length (before f) + n → n < length (spell s) → key_bytes m (plug f s) ≡ around f n (key_bytes n s)
+keys_plug (a_member w a b) s n m e l =
+    let hd = head Array w (spellings_count a + suc (spellings_count b)) in
+    let heads = ap (λ (i : ℕ). length (head Array w i)) (count_with a (a_spelling s b)) in
+    keys_member a s b n (m - length (head Array w (spellings_count (with_all a (a_spelling s b))))) (omega (arith, e, heads, length-append hd (spell_all a))) l ∙ none_more (key_bytes n s)
+keys_plug (a_key w a v b) s n m e l =
+    let hd = head Map w (entries_count a + suc (entries_count b)) in
+    let heads = ap (λ (i : ℕ). length (head Map w i)) (entries_with a (entry s v b)) in
+    let whole = plug_size (a_key w a v b) s in
+    let sizes = length-append hd (spell_entries a) in
+    let es = with_entries a (entry s v b) in
+    rw (lt-ltb m (length (spell (a_map w es))) (omega (arith, e, l, whole)))
+    (keys_key a s v b n (m - length (head Map w (entries_count es))) 0 (omega (arith, e, heads, sizes)) l ∙ ap (λ (x : ℕ). x + n) (last_all a))
+keys_plug (a_content w a k b) s n m e l =
+    let hd = head Map w (entries_count a + suc (entries_count b)) in
+    let heads = ap (λ (i : ℕ). length (head Map w i)) (entries_with a (entry k s b)) in
+    let whole = plug_size (a_content w a k b) s in
+    let sizes = length-append (hd ++ spell_entries a) (spell k) in
+    let sizes2 = length-append hd (spell_entries a) in
+    let es = with_entries a (entry k s b) in
+    rw (lt-ltb m (length (spell (a_map w es))) (omega (arith, e, l, whole)))
+    (keys_content a k s b n (m - length (head Map w (entries_count es))) 0 (omega (arith, e, heads, sizes, sizes2)) l)
+keys_plug (tagged w k) s n m e l = ap (λ (x : ℕ). key_bytes x s) (omega (arith, e)) ∙ none_more (key_bytes n s)

@@ -1,0 +1,231 @@
+-- What is kept of the keys where a container ends, and those around it.
+use Rattle.std.proofs.Common.{◌≡◌, ◌≢◌, ℕ, ◌+◌, ◌-◌, ◌<◌, ◌≤◌, Bool, true, false, List, [], ◌∷◌, ◌++◌, length, take, refl, sym, ap, ◌∙◌, subst, inl, inr, arith, append-nil}
+use Rattle.std.specs.Prelude.{if◌then◌else◌}
+use Rattle.std.proofs.lemmas.List.{length-append}
+use Rattle.std.proofs.Math.Seq.{take-append_seam}
+use Rattle.cbor_head.specs.Head.{head}
+use Rattle.cbor_head.specs.Spelling.{Spelling, SpelledEntries, no_spellings, a_spelling, no_entries, entry, spell, spell_entries, break_of, entries_count}
+use Rattle.cbor_head.specs.declared.major.Major.TheVariants.{Map}
+use Rattle.cbor_head.specs.declared.width.Width.{Width}
+use Rattle.cbor_head.specs.declared.width.Width.TheVariants.{Direct, One, Two, Four, Eight, Indefinite}
+use Rattle.cbor_strict.specs.declared.last_keys.Due.TheVariants.{Member}
+use Rattle.cbor_strict.specs.declared.last_keys.Level.{Level}
+use Rattle.cbor_strict.specs.declared.last_keys.Span.{Span}
+use Rattle.cbor_judging.specs.Frame.{Frame, a_member, a_key, a_content, tagged, plug, before, behind}
+use Rattle.cbor_strict.specs.inner.LastKeys.{AreDefinite, still_open, ended_item, KeysView, is_key, stands_in_key, due_of, level_of, levels_of, complete_key, kept_bytes, kept_before, span, spans_in, spans_of, IsKept, IsFull}
+use Rattle.cbor_judging.proofs.Frames.{spell_plug}
+use Rattle.cbor_strict.proofs.KeptKeys.{either_way, kept_if_in, kept_if_out, kept_out}
+
+-- ---- one closes
+
+definite_none : (w : Width) → w ≢ Indefinite → break_of w ≡ []
+definite_none Indefinite f = absurd (f refl)
+definite_none Direct f = refl
+definite_none One f = refl
+definite_none Two f = refl
+definite_none Four f = refl
+definite_none Eight f = refl
+
+nothing_behind : (f : Frame) → IsFull f → behind f ≡ []
+nothing_behind (a_member w a no_spellings) h = definite_none w h
+nothing_behind (a_content w a k no_entries) h = definite_none w h
+nothing_behind (tagged w n) h = refl
+nothing_behind (a_member w a (a_spelling s b)) h = absurd h
+nothing_behind (a_content w a k (entry l m b)) h = absurd h
+nothing_behind (a_key w a v b) h = absurd h
+
+-- the bytes of a container whose last item this is
+pub full_bytes : (f : Frame) (s : Spelling) → IsFull f → spell (plug f s) ≡ before f ++ spell s
+full_bytes f s h = spell_plug f s ∙ ap (λ (x : List ℕ). before f ++ (spell s ++ x)) (nothing_behind f h) ∙ ap (λ (x : List ℕ). before f ++ x) (append-nil (spell s))
+
+full_no_key : (f : Frame) → IsFull f → is_key f ≡ false
+full_no_key (a_key w a v b) h = absurd h
+full_no_key (a_member w a b) h = refl
+full_no_key (a_content w a k b) h = refl
+full_no_key (tagged w n) h = refl
+
+-- what was kept of it
+closed_in : (f : Frame) (fs : List Frame) (s : Spelling) → IsFull f → stands_in_key fs ≡ true → kept_bytes (f ∷ fs) (spell s) ≡ kept_bytes fs (spell (plug f s))
+closed_in f fs s h i = kept_if_in f fs (spell s) i ∙ ap (kept_bytes fs) (sym (full_bytes f s h))
+
+closed_out : (f : Frame) (fs : List Frame) (s : Spelling) → IsFull f → stands_in_key fs ≡ false → kept_bytes (f ∷ fs) (spell s) ≡ kept_bytes fs [] ++ (complete_key f ++ [])
+closed_out f fs s h i = kept_if_out f fs (spell s) i ∙ ap (λ (b : Bool). kept_bytes fs [] ++ (complete_key f ++ (if b then spell s else []))) (full_no_key f h)
+
+module _ {A : Type 0} where
+  no_tail : (ys : List A) (y : A) → ys ++ y ∷ [] ≡ [] → ⊥
+  no_tail [] y e = cc e
+  no_tail (c ∷ ys) y e = cc e
+
+  -- two lists by their last elements
+  pub last_of : (xs ys : List A) (x y : A) → xs ++ x ∷ [] ≡ ys ++ y ∷ [] → (xs ≡ ys) × (x ≡ y)
+  last_of [] [] x y e = (refl, cc e)
+  last_of [] (b ∷ ys) x y e = absurd (no_tail ys y (cc e))
+  last_of (a ∷ xs) [] x y e = absurd (no_tail xs x (cc e))
+  last_of (a ∷ xs) (b ∷ ys) x y e =
+      let more = last_of xs ys x y (cc e) in
+      let first : a ≡ b = cc e in
+      (ap (λ (z : A). z ∷ xs) first ∙ ap (λ (zs : List A). b ∷ zs) more.0, more.1)
+
+-- ---- the innermost container
+
+pub span_is : (a b c x y z : ℕ) → a ≡ x → b ≡ y → c ≡ z → span a b c ≡ span x y z
+span_is a b c x y z e f g = ap (λ (n : ℕ). span n b c) e ∙ ap (λ (n : ℕ). span x n c) f ∙ ap (λ (n : ℕ). span x y n) g
+
+-- what is put at the end of the lists for it
+module _ (k : KeysView) (f : Frame) (fs : List Frame) (p : List ℕ) (h : IsKept k (f ∷ fs) p) where
+  pub top_level : (ls : List Level) (l : Level) → k.levels ≡ ls ++ l ∷ [] → (ls ≡ levels_of fs) × (l ≡ level_of f fs)
+  top_level ls l e = last_of ls (levels_of fs) l (level_of f fs) (sym e ∙ h.levels)
+
+  pub top_span : (ss : List Span) (s t : Span) → k.spans ≡ ss ++ s ∷ [] → spans_in f fs ≡ t ∷ [] → (ss ≡ spans_of fs) × (s ≡ t)
+  top_span ss s t e g = last_of ss (spans_of fs) s t (sym e ∙ h.spans ∙ ap (λ (x : List Span). spans_of fs ++ x) g)
+
+-- it closes
+pub closes_other : (k : KeysView) (f : Frame) (fs : List Frame) (s : Spelling) (ls : List Level) (l : Level) → IsFull f → IsKept k (f ∷ fs) (spell s) → k.levels ≡ ls ++ l ∷ [] → l.due ≡ Member
+    → IsKept (record { levels = ls; spans = k.spans; bytes = k.bytes; is_inside = l.is_inside }) fs (spell (plug f s))
+closes_other k f fs s ls l full h e d = go f full h (sym (ap (λ (x : Level). x.due) (top_level k f fs (spell s) h ls l e).1) ∙ d)
+  where
+    same : (f : Frame) → IsFull f → complete_key f ≡ [] → kept_bytes (f ∷ fs) (spell s) ≡ kept_bytes fs (spell (plug f s))
+    same f full none = elim (either_way (stands_in_key fs)) [
+      | inl i ↦ closed_in f fs s full i
+      | inr i ↦ closed_out f fs s full i ∙ ap (λ (x : List ℕ). kept_bytes fs [] ++ (x ++ [])) none ∙ append-nil (kept_bytes fs []) ∙ kept_out fs [] (spell (plug f s)) i
+    ]
+
+    made : (f : Frame) → IsFull f → complete_key f ≡ [] → spans_in f fs ≡ [] → IsKept k (f ∷ fs) (spell s) → IsKept (record { levels = ls; spans = k.spans; bytes = k.bytes; is_inside = l.is_inside }) fs (spell (plug f s))
+    made f full none no_spans h =
+        let t = top_level k f fs (spell s) h ls l e in
+        record {
+          levels = t.0;
+          spans = h.spans ∙ ap (λ (x : List Span). spans_of fs ++ x) no_spans ∙ append-nil (spans_of fs);
+          bytes = h.bytes ∙ same f full none;
+          is_inside = ap (λ (x : Level). x.is_inside) t.1;
+        }
+
+    go : (f : Frame) → IsFull f → IsKept k (f ∷ fs) (spell s) → due_of f ≡ Member → IsKept (record { levels = ls; spans = k.spans; bytes = k.bytes; is_inside = l.is_inside }) fs (spell (plug f s))
+    go (a_member w a b) full h d = made (a_member w a b) full refl refl h
+    go (tagged w n) full h d = made (tagged w n) full refl refl h
+    go (a_content w a m b) full h d = absurd (cc d)
+    go (a_key w a v b) full h d = absurd full
+
+-- a map
+module _ (k : KeysView) (w : Width) (a : SpelledEntries) (key : Spelling) (fs : List Frame) (s : Spelling) (ls : List Level) (l : Level) (ss : List Span) (sp : Span) (full : w ≢ Indefinite)
+    (h : IsKept k (a_content w a key no_entries ∷ fs) (spell s)) (e : k.levels ≡ ls ++ l ∷ []) (g : k.spans ≡ ss ++ sp ∷ []) where
+  abbrev map_frame : Frame
+  map_frame = a_content w a key no_entries
+
+  map_in : l.is_inside ≡ true → IsKept (record { levels = ls; spans = ss; bytes = k.bytes; is_inside = l.is_inside }) fs (spell (plug map_frame s))
+  map_in inside =
+      let t = top_level k map_frame fs (spell s) h ls l e in
+      let i : stands_in_key fs ≡ true = sym (ap (λ (x : Level). x.is_inside) t.1) ∙ inside in
+      record { levels = t.0; spans = (top_span k map_frame fs (spell s) h ss sp _ g refl).0; bytes = h.bytes ∙ closed_in map_frame fs s full i; is_inside = ap (λ (x : Level). x.is_inside) t.1 }
+
+  map_out : l.is_inside ≡ false → IsKept (record { levels = ls; spans = ss; bytes = take sp.from k.bytes; is_inside = l.is_inside }) fs (spell (plug map_frame s))
+  map_out outside =
+      let t = top_level k map_frame fs (spell s) h ls l e in
+      let i : stands_in_key fs ≡ false = sym (ap (λ (x : Level). x.is_inside) t.1) ∙ outside in
+      let u = top_span k map_frame fs (spell s) h ss sp _ g refl in
+      let from : sp.from ≡ kept_before fs =
+      ap (λ (x : Span). x.from) u.1 ∙ ap (λ (b : Bool). kept_before fs + (if b then length (head Map w (entries_count a + 1) ++ spell_entries a) else 0)) i ∙ omega arith in
+      record {
+        levels = t.0;
+        spans = u.0;
+        bytes = ap (λ (n : ℕ). take n k.bytes) from ∙ ap (take (kept_before fs)) (h.bytes ∙ closed_out map_frame fs s full i) ∙ take-append_seam (kept_bytes fs []) (spell key ++ []) ∙ kept_out fs [] (spell (plug map_frame s)) i;
+        is_inside = ap (λ (x : Level). x.is_inside) t.1;
+      }
+
+module _ (k : KeysView) (f : Frame) (fs : List Frame) (s : Spelling) (ls : List Level) (l : Level) (ss : List Span) (sp : Span) (full : IsFull f) (h : IsKept k (f ∷ fs) (spell s)) (e : k.levels ≡ ls ++ l ∷ [])
+    (g : k.spans ≡ ss ++ sp ∷ []) (d : l.due ≢ Member) where
+  due_so : due_of f ≢ Member
+  due_so x = d (ap (λ (y : Level). y.due) (top_level k f fs (spell s) h ls l e).1 ∙ x)
+
+  pub closes_map_in : l.is_inside ≡ true → IsKept (record { levels = ls; spans = ss; bytes = k.bytes; is_inside = l.is_inside }) fs (spell (plug f s))
+  closes_map_in inside = go f full h due_so
+    where
+      go : (f : Frame) → IsFull f → IsKept k (f ∷ fs) (spell s) → due_of f ≢ Member → IsKept (record { levels = ls; spans = ss; bytes = k.bytes; is_inside = l.is_inside }) fs (spell (plug f s))
+      go (a_content w a key no_entries) full h d = map_in k w a key fs s ls l ss sp full h e g inside
+      go (a_content w a key (entry n m b)) full h d = absurd full
+      go (a_member w a b) full h d = absurd (d refl)
+      go (tagged w n) full h d = absurd (d refl)
+      go (a_key w a v b) full h d = absurd full
+
+  pub closes_map_out : l.is_inside ≡ false → IsKept (record { levels = ls; spans = ss; bytes = take sp.from k.bytes; is_inside = l.is_inside }) fs (spell (plug f s))
+  closes_map_out outside = go f full h due_so
+    where
+      go : (f : Frame) → IsFull f → IsKept k (f ∷ fs) (spell s) → due_of f ≢ Member → IsKept (record { levels = ls; spans = ss; bytes = take sp.from k.bytes; is_inside = l.is_inside }) fs (spell (plug f s))
+      go (a_content w a key no_entries) full h d = map_out k w a key fs s ls l ss sp full h e g outside
+      go (a_content w a key (entry n m b)) full h d = absurd full
+      go (a_member w a b) full h d = absurd (d refl)
+      go (tagged w n) full h d = absurd (d refl)
+      go (a_key w a v b) full h d = absurd full
+
+-- ---- what closes behind an item
+
+-- some containers have closed
+pub record HasShut (k : KeysView) (fs : List Frame) (s : Spelling) : Type 0 where
+  pub gs : List Frame
+  pub item : Spelling
+  pub kept : IsKept k gs (spell item)
+  pub definite : AreDefinite gs
+  pub same : still_open gs ≡ still_open fs
+  pub same_item : ended_item gs item ≡ ended_item fs s
+
+pub none_shut : (k : KeysView) (fs : List Frame) (s : Spelling) → IsKept k fs (spell s) → AreDefinite fs → HasShut k fs s
+none_shut k fs s h d = record { gs = fs; item = s; kept = h; definite = d; same = refl; same_item = refl }
+
+levels_length : (fs : List Frame) → length (levels_of fs) ≡ length fs
+levels_length [] = refl
+levels_length (f ∷ fs) = omega (arith, levels_length fs, length-append (levels_of fs) (level_of f fs ∷ []))
+
+pub kept_levels : (k : KeysView) (fs : List Frame) (p : List ℕ) → IsKept k fs p → length k.levels ≡ length fs
+kept_levels k fs p h = ap length h.levels ∙ levels_length fs
+
+still_fewer : (fs : List Frame) → length (still_open fs) ≤ length fs
+still_fewer [] = omega arith
+still_fewer (a_member w a no_spellings ∷ fs) = omega (arith, still_fewer fs)
+still_fewer (a_member w a (a_spelling t b) ∷ fs) = omega arith
+still_fewer (a_content w a k no_entries ∷ fs) = omega (arith, still_fewer fs)
+still_fewer (a_content w a k (entry l m b) ∷ fs) = omega arith
+still_fewer (a_key w a v b ∷ fs) = omega arith
+still_fewer (tagged w n ∷ fs) = omega (arith, still_fewer fs)
+
+-- those that all stay
+still_all : (gs : List Frame) (s : Spelling) → length gs ≤ length (still_open gs) → (still_open gs ≡ gs) × (ended_item gs s ≡ s)
+still_all [] s l = (refl, refl)
+still_all (a_member w a no_spellings ∷ fs) s l = absurd (omega (arith, l, still_fewer fs))
+still_all (a_member w a (a_spelling t b) ∷ fs) s l = (refl, refl)
+still_all (a_content w a k no_entries ∷ fs) s l = absurd (omega (arith, l, still_fewer fs))
+still_all (a_content w a k (entry n m b) ∷ fs) s l = (refl, refl)
+still_all (a_key w a v b ∷ fs) s l = (refl, refl)
+still_all (tagged w n ∷ fs) s l = absurd (omega (arith, l, still_fewer fs))
+
+pub all_shut : (k : KeysView) (fs : List Frame) (s : Spelling) (left n : ℕ) → HasShut k fs s → n ≡ length k.levels → length (still_open fs) ≡ left → n ≤ left → IsKept k (still_open fs) (spell (ended_item fs s))
+all_shut k fs s left n h e g l =
+    let a = still_all h.gs h.item (omega (arith, e, kept_levels k h.gs (spell h.item) h.kept, g, l, ap length h.same)) in
+    let is : h.gs ≡ still_open fs = sym a.0 ∙ h.same in
+    let it : h.item ≡ ended_item fs s = sym a.1 ∙ h.same_item in
+    subst (λ (x : Spelling). IsKept k (still_open fs) (spell x)) it (subst (λ (x : List Frame). IsKept k x (spell h.item)) is h.kept)
+
+-- one more closes
+pub one_shut : (k new : KeysView) (fs : List Frame) (s : Spelling) (left n : ℕ) → HasShut k fs s → n ≡ length k.levels → length (still_open fs) ≡ left → left < n
+    → ((f : Frame) (gs : List Frame) (t : Spelling) → IsFull f → IsKept k (f ∷ gs) (spell t) → IsKept new gs (spell (plug f t))) → HasShut new fs s
+one_shut k new fs s left n h e g l step = go h.gs h.kept h.definite h.same h.same_item (omega (arith, e, kept_levels k h.gs (spell h.item) h.kept, g, l, ap length h.same))
+  where
+    go : (gs : List Frame) → IsKept k gs (spell h.item) → AreDefinite gs → still_open gs ≡ still_open fs → ended_item gs h.item ≡ ended_item fs s → length (still_open gs) < length gs → HasShut new fs s
+    go [] kept d same it l = absurd (omega (arith, l))
+    go (a_member w a no_spellings ∷ gs) kept d same it l =
+        record { gs = gs; item = plug (a_member w a no_spellings) h.item; kept = step (a_member w a no_spellings) gs h.item d.0 kept; definite = d.1; same = same; same_item = it }
+    go (a_member w a (a_spelling t b) ∷ gs) kept d same it l = absurd (omega (arith, l))
+    go (a_content w a k2 no_entries ∷ gs) kept d same it l =
+        record { gs = gs; item = plug (a_content w a k2 no_entries) h.item; kept = step (a_content w a k2 no_entries) gs h.item d.0 kept; definite = d.1; same = same; same_item = it }
+    go (a_content w a k2 (entry x m b) ∷ gs) kept d same it l = absurd (omega (arith, l))
+    go (a_key w a v b ∷ gs) kept d same it l = absurd (omega (arith, l))
+    go (tagged w n ∷ gs) kept d same it l = record { gs = gs; item = plug (tagged w n) h.item; kept = step (tagged w n) gs h.item tt kept; definite = d; same = same; same_item = it }
+
+spans_length : (fs : List Frame) → length (spans_of fs) ≤ length fs
+spans_length [] = omega arith
+spans_length (a_member w a b ∷ fs) = omega (arith, spans_length fs, length-append (spans_of fs) [])
+spans_length (tagged w n ∷ fs) = omega (arith, spans_length fs, length-append (spans_of fs) [])
+spans_length (a_content w a k b ∷ fs) = omega (arith, spans_length fs, length-append (spans_of fs) (spans_in (a_content w a k b) fs))
+spans_length (a_key w a v b ∷ fs) = omega (arith, spans_length fs, length-append (spans_of fs) (spans_in (a_key w a v b) fs))
+
+pub kept_spans : (k : KeysView) (fs : List Frame) (p : List ℕ) → IsKept k fs p → length k.spans ≤ length fs
+kept_spans k fs p h = omega (arith, ap length h.spans, spans_length fs)
