@@ -227,11 +227,11 @@ def hex_parts(item, count, few):
     ended = run(["canon", "--seq", "--hex", "digits", "-"], preexec_fn=few)
     if (ended.returncode, ended.stdout) != (0, item * count):
         faults.append(f"canon of a long hex sequence: status {ended.returncode}, {len(ended.stdout)} bytes")
-    for front, behind, status, told in (
-        (b"", b"00 18", 1, b"item %d refused 1 Truncated at 1\n" % (count + 2)),
-        (b"ff", b"", 1, b"item 1 refused 7 StrayBreak at 0\n"),
-        (b"ff", b"g", 3, b"not hex: digits\n"),
-        (b"00" + b"\n" * 200_001, b"0", 3, b"not hex: digits\n"),
+    for front, behind, status, told, written in (
+        (b"", b"00 18", 1, b"item %d refused 1 Truncated at 1\n" % (count + 2), item * count + b"\x00"),
+        (b"ff", b"", 1, b"item 1 refused 7 StrayBreak at 0\n", b""),
+        (b"ff", b"g", 3, b"not hex: digits\n", b""),
+        (b"00" + b"\n" * 200_001, b"0", 3, b"not hex: digits\n", b"\x00" + item * count),
     ):
         with open(path, "wb") as file:
             file.write(front + lines + behind)
@@ -239,10 +239,8 @@ def hex_parts(item, count, few):
             ended = run([command[0], "--seq", "--hex", "digits", *command[1:]], preexec_fn=few)
             if (ended.returncode, ended.stderr) != (status, told):
                 faults.append(f"{command} of a hex sequence, {front[:4]} and {behind}: {(ended.returncode, ended.stderr)}")
-        # Of canon, so many items were written by then, and the zero behind or before them.
-        zeros = b"\x00" if front == b"" or front[:2] == b"00" else b""
-        wanted = b"" if front[:2] == b"ff" else zeros + item * count if front else item * count + zeros
-        if ended.stdout != wanted:
+        # By canon; where the text is no hex, the items of the parts before that was found.
+        if not written.startswith(ended.stdout) or (status == 1 and ended.stdout != written):
             faults.append(f"canon of a hex sequence, {front[:4]} and {behind}: {len(ended.stdout)} bytes")
     with open(path, "wb") as file:
         file.write(lines + b"00 18")

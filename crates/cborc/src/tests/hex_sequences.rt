@@ -50,6 +50,20 @@ fn shows_the_items_of_the_parts_before(rt: HostRuntime) -> Result<(), AllocError
     Ok(())
 }
 
+// To standard output; a file is not made.
+#[test]
+fn writes_the_items_of_the_parts_before(rt: HostRuntime) -> Result<(), AllocError> {
+    let alloc = rt.alloc();
+    let text = long_text(alloc, "", "0")?;
+    let printed = ran(alloc, "canon --seq --hex in -", text.as_str())?;
+    assert!(rt; printed.status == 3 && is_line(printed.err.as_slice(), "not hex: in"));
+    let written = "\x18\x64".repeat(alloc, 26_214)?;
+    assert!(rt; printed.out.as_slice() == written.as_bytes());
+    let kept = ran(alloc, "canon --seq --hex in out", text.as_str())?;
+    assert!(rt; kept.stopped(3, "not hex: in"));
+    Ok(())
+}
+
 #[test]
 fn reads_over_white_space(rt: HostRuntime) -> Result<(), AllocError> {
     let alloc = rt.alloc();
