@@ -148,14 +148,14 @@ module _ (o : KeyOrder) (options : Options) (source : List ℕ) (output : Output
 
       pub first_written : AreStoppedOf Has text_of Unwritten options source held from to fault → fault ≡ faults.CannotPrint → HasFirstTexts o options source held
       first_written h e =
-          let (input, is, c) = cut_of h e in
+          let c = cut_of h e in
           record {
-            input = input;
-            is = is;
-            items = c.items ++ c.last ∷ [];
-            rest = c.rest;
-            starts = c.starts;
-            some = inl (omega (arith, length-append c.items (c.last ∷ [])));
+            input = c.0;
+            is = c.1;
+            items = c.2.items ++ c.2.last ∷ [];
+            rest = c.2.rest;
+            starts = c.2.starts;
+            some = inl (omega (arith, length-append c.2.items (c.2.last ∷ [])));
           }
 
       module _ (before after : Option (List ℕ)) (sends : (text : List ℕ) → Appends from to text → IsSent output.path.now before after text)
