@@ -161,7 +161,7 @@ module _ (o : KeyOrder) (options : Options) (source : List ℕ) (output : Output
       module _ (before after : Option (List ℕ)) (sends : (text : List ℕ) → Appends from to text → IsSent output.path.now before after text)
           (cut : fault ≡ faults.CannotPrint → IsSequenceNotCanonised o options source output held before after faults.CannotPrint)
           (cut_front : (items : List Spelling) → AreFirst Has options source held items → (front : List ℕ) → IsFront held source options.hex front
-              → IsCutIn options.limits o output.form front from to → IsSentSoFar o options source output held before after) where
+          → IsCutIn options.limits o output.form front from to → IsSentSoFar o options source output held before after) where
         none_more : (x : Fault) → IsNoInput held source options.hex x → IsSentSoFar o options source output held before after → IsSequenceNotCanonised o options source output held before after x
         none_more (faults.CannotRead named) why w = (why, w)
         none_more (faults.NotHex named) why w = (why, w)
