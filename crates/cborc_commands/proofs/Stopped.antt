@@ -5,12 +5,13 @@ use Rattle.std.specs.Prelude.{IfSome}
 use Rattle.std.specs.Io.KnownBytes.{Appends}
 use Rattle.std.proofs.KnownBytes.{Keeps-refl}
 use Rattle.std.proofs.lemmas.List.{length-append}
-use Rattle.cbor_head.specs.Complaint.{form, plain}
+use Rattle.cbor_head.specs.Complaint.{Rules, form, plain}
 use Rattle.cbor_head.specs.Spelling.{Spelling}
 use Rattle.cbor_head.specs.declared.order.KeyOrder.{KeyOrder}
 use Rattle.cbor_reader.specs.Sequence.{IsAccepted}
 use Rattle.cborc_commands.specs.Canon.{printed, written}
 use Rattle.cborc_commands.specs.CanonSequence.{HasCanonicalBytes, canonical_text, canonical_texts, IsSequenceCanonised, IsSent, passed, apart, IsCutIn, IsCutShort, IsSentSoFar, of_items, of_cut, HasFirstTexts, IsSequenceNotCanonised}
+use Rattle.cborc_commands.specs.CheckSequence.{IsSequenceNotChecked}
 use Rattle.cborc_commands.specs.EventsSequence.{item_lines, all_lines, IsSequenceNotListed}
 use Rattle.cborc_commands.specs.Fault.{at_item}
 use Rattle.cborc_files.specs.Folder.{Files, is_stream, IsBlank, KeepsFiles, ReplacesFile}
@@ -24,7 +25,7 @@ use Rattle.cborc_commands.specs.declared.fault.Fault.TheVariants as faults
 use Rattle.cborc_commands.specs.declared.request.Layout.{Layout}
 use Rattle.cborc_commands.specs.declared.request.Options.{Options}
 use Rattle.cborc_commands.specs.declared.request.Output.{Output}
-use Rattle.cborc_commands.specs.inner.Items.{AreStopped, AreWrittenOf, AreStoppedOf, no_input, behind_no_input, within, IsCutText, IsUnwritten, IsItemNotShown, IsItemNotListed}
+use Rattle.cborc_commands.specs.inner.Items.{AreStopped, AreWrittenOf, AreStoppedOf, no_input, behind_no_input, within, IsCutText, IsUncounted, IsUnwritten, IsItemNotShown, IsItemNotListed}
 use Rattle.cborc_commands.proofs.Files.{input_before, front_before, input_front, no_input_before, replaced_by}
 use Rattle.cborc_commands.proofs.Items.{texts_anywhere, appends_more, one_more_starts}
 
@@ -295,3 +296,30 @@ module _ (options : Options) (source : List ℕ) (held : Option Files) (before a
   sequence_not_listed (no_input h w) = none_listed fault h
   sequence_not_listed (behind_no_input h front is cause w) = none_listed fault h
   sequence_not_listed (within input is h) = subst (IsSequenceNotListed options source held before after) (sym h.fault_is) (not_listed_by input is h h.cause refl)
+
+-- ---- `check --seq`
+
+module _ (rules : Rules) (options : Options) (source : List ℕ) (held : Option Files) (before after : Option (List ℕ)) (fault : Fault) where
+  abbrev Uncounted : ℕ → List ℕ → Fault → Option (List ℕ) → Option (List ℕ) → Type 0
+  Uncounted start bytes cause from to = IsUncounted options.limits rules bytes cause
+
+  not_checked_by : (input : List ℕ) → IsInput held source options.hex input
+      → (h : AreStopped (IsAccepted options.limits rules) (λ start item. []) Uncounted options.limits.bytes input before after fault)
+      → (cause : Fault) → h.cause ≡ cause → IsSequenceNotChecked rules options source held (at_item h.index h.start cause)
+  not_checked_by input is h (faults.Refused f) e =
+      let why = subst (IsUncounted options.limits rules h.rest) e h.stopped in
+      (input, is, record { items = h.items; rest = h.rest; goes_on = h.goes_on; unread = why.0 }, why.1)
+  not_checked_by input is h faults.Memory e = tt
+  not_checked_by input is h _ e = absurd (subst (IsUncounted options.limits rules h.rest) e h.stopped)
+
+  none_checked : (x : Fault) → IsNoInput held source options.hex x → IsSequenceNotChecked rules options source held x
+  none_checked (faults.CannotRead named) h = h
+  none_checked (faults.NotHex named) h = h
+  none_checked faults.Memory h = h
+  none_checked _ h = absurd h
+
+  pub sequence_not_checked : AreStoppedOf (IsAccepted options.limits rules) (λ start item. []) Uncounted options source held before after fault
+      → IsSequenceNotChecked rules options source held fault
+  sequence_not_checked (no_input h w) = none_checked fault h
+  sequence_not_checked (behind_no_input h front is cause w) = none_checked fault h
+  sequence_not_checked (within input is h) = subst (IsSequenceNotChecked rules options source held) (sym h.fault_is) (not_checked_by input is h h.cause refl)
