@@ -53,7 +53,7 @@ def streams():
     with open("/dev/zero", "rb") as endless:
         ended = subprocess.run([PROGRAM, "check", "-"], stdin=endless, capture_output=True, timeout=20)
         expect("no end", ended, 1, b"", b"refused 12 Trailing at 1\n")
-        for command in (["check"], ["events", "--seq"]):
+        for command in (["check"], ["events", "--seq"], ["check", "--seq"], ["show", "--seq"]):
             ended = subprocess.run([PROGRAM, *command, "--hex", "-"], stdin=endless, capture_output=True, timeout=20)
             expect("no end, and no hex", ended, 3, b"", b"not hex: -\n")
     behind = b"00 " * 2_000_000
@@ -195,6 +195,7 @@ def parts():
     if b"where the item starts at %d\n" % (75 * count + 1) not in told or b"bytes from 0: 18\n" not in told:
         faults.append(f"an explanation of a long sequence: {told}")
     os.remove(path)
+    hex_parts(item, count, few)
     # A byte string of 200,000 bytes over the ends of parts, and items without end.
     wide = b"\x5a\x00\x03\x0d\x40" + bytes(200_000)
     expect("wide items", run(["canon", "--seq", "--hex-out", "-", "-"], wide * 3 + b"\x18\x00"), 0, b"".join([wide.hex().encode() + b"\n"] * 3) + b"00\n")
@@ -212,6 +213,45 @@ def parts():
         ended = run([*command, "--bytes", "4000000000", "zeros", *rest], preexec_fn=few)
         told = b"" if "--quiet" in command else b"refused 12 Trailing at 1\n"
         expect(f"{command} of 2 GiB", ended, 1, b"", told)
+    os.remove(path)
+
+
+def hex_parts(item, count, few):
+    """The same in hex text, whose parts end between two digits of a byte."""
+    lines = (item.hex() + "\n").encode() * count
+    path = write("digits", lines)
+    expect("a long hex sequence", run(["check", "--seq", "--hex", "digits"], preexec_fn=few), 0, b"accepted %d items\n" % count)
+    shown = run(["show", "--seq", "--hex", "digits"], preexec_fn=few)
+    if shown.returncode != 0 or shown.stdout.count(b"\n") != count:
+        faults.append(f"show of a long hex sequence: {shown.returncode}, {shown.stderr}")
+    ended = run(["canon", "--seq", "--hex", "digits", "-"], preexec_fn=few)
+    if (ended.returncode, ended.stdout) != (0, item * count):
+        faults.append(f"canon of a long hex sequence: status {ended.returncode}, {len(ended.stdout)} bytes")
+    for front, behind, status, told, written in (
+        (b"", b"00 18", 1, b"item %d refused 1 Truncated at 1\n" % (count + 2), item * count + b"\x00"),
+        (b"ff", b"", 1, b"item 1 refused 7 StrayBreak at 0\n", b""),
+        (b"ff", b"g", 3, b"not hex: digits\n", b""),
+        (b"00" + b"\n" * 200_001, b"0", 3, b"not hex: digits\n", b"\x00" + item * count),
+    ):
+        with open(path, "wb") as file:
+            file.write(front + lines + behind)
+        for command in (["check"], ["show"], ["events"], ["canon", "-"]):
+            ended = run([command[0], "--seq", "--hex", "digits", *command[1:]], preexec_fn=few)
+            if (ended.returncode, ended.stderr) != (status, told):
+                faults.append(f"{command} of a hex sequence, {front[:4]} and {behind}: {(ended.returncode, ended.stderr)}")
+        # By canon; where the text is no hex, the items of the parts before that was found.
+        if not written.startswith(ended.stdout) or (status == 1 and ended.stdout != written):
+            faults.append(f"canon of a hex sequence, {front[:4]} and {behind}: {len(ended.stdout)} bytes")
+    with open(path, "wb") as file:
+        file.write(lines + b"00 18")
+    told = run(["check", "--seq", "--hex", "--explain", "digits"], preexec_fn=few).stderr
+    if b"where the item starts at %d\n" % (75 * count + 1) not in told or b"bytes from 0: 18\n" not in told:
+        faults.append(f"an explanation of a long hex sequence: {told}")
+    with open(path, "ab") as file:
+        file.write(b"\n0g")
+    told = run(["check", "--seq", "--hex", "--explain", "digits"], preexec_fn=few).stderr
+    if b"  line %d, column 2: another byte (67)\n" % (count + 2) not in told:
+        faults.append(f"an explanation of other bytes in a long hex sequence: {told}")
     os.remove(path)
 
 

@@ -4,6 +4,7 @@ mod command_line;
 mod explained;
 mod failures;
 mod help;
+mod hex_sequences;
 mod in_memory;
 mod items;
 mod refused;

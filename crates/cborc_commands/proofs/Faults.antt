@@ -220,6 +220,10 @@ pub if_ok : {A : Type 0} → (r : Result A Fault) (P Q : A → Type 0) → ((a :
 if_ok (Ok a) P Q f h = f a h
 if_ok (Err fault) P Q f h = tt
 
+pub both_ok : {A : Type 0} → (r : Result A Fault) (P Q R : A → Type 0) → ((a : A) → P a → Q a → R a) → IfOk r P → IfOk r Q → IfOk r R
+both_ok (Ok a) P Q R f h k = f a h k
+both_ok (Err fault) P Q R f h k = tt
+
 pub if_err : {A : Type 0} → (r : Result A Fault) (P Q : Fault → Type 0) → ((fault : Fault) → P fault → Q fault) → IfErr r P → IfErr r Q
 if_err (Ok a) P Q f h = tt
 if_err (Err fault) P Q f h = f fault h

@@ -1,15 +1,16 @@
 -- What stays known of files from call to call.
-use Rattle.std.proofs.Common.{List, [], ◌++◌, ℕ, ◌+◌, ◌≡◌, ◌<◌, ◌⊎◌, inl, inr, drop, Bool, true, false, Option, Some, None, length, arith, ap, ◌∙◌, subst, sym}
-use Rattle.std.specs.Prelude.{IfSome}
+use Rattle.std.proofs.Common.{List, [], ℕ, ◌%◌, ◌≡◌, Bool, true, false, Option, Some, None, Result, Ok, Err, ◌∙◌, ap, arith, length, subst, sym}
+use Rattle.std.specs.Prelude.{◌==◌, if◌then◌else◌, IfSome}
+use Rattle.std.specs.List.{filter}
+use Rattle.std.proofs.lemmas.List.{take_all}
+use Rattle.hex.specs.Hex.{decode_pairs}
+use Rattle.hex.specs.declared.error.FromHexError.{FromHexError}
+use Rattle.hex.specs.declared.error.FromHexError.TheVariants.{OddLength}
+use Rattle.cborc_files.specs.Hex.{is_kept}
 use Rattle.std.specs.Io.KnownBytes.{Appends}
-use Rattle.std.proofs.lemmas.Bool.{cases_lt}
-use Rattle.std.proofs.lemmas.List.{length-take, length-drop, take-append-drop, nil_from_length, take_all}
 use Rattle.cborc_files.specs.Folder.{Files, Holds, IsBlank, KeepsFiles, ReplacesFile}
 use Rattle.cborc_commands.specs.Canon.{IsPut, printed, written}
-use Rattle.cborc_commands.specs.Input.{IsInput, IsNotHex, IsNoInput}
-use Rattle.cborc_commands.specs.declared.request.Options.{Options}
-use Rattle.cborc_commands.specs.inner.Parts.{StartsDigits, StartsInput, IsDecided, PartsView, IsReadTo}
-use Rattle.cborc_commands.proofs.Fronts.{decided_beyond}
+use Rattle.cborc_commands.specs.Input.{IsInput, IsFront, IsNotHex, IsNoInput}
 use Rattle.cborc_commands.specs.declared.fault.Fault.{Fault}
 use Rattle.cborc_commands.specs.declared.fault.Fault.TheVariants as faults
 
@@ -50,6 +51,25 @@ pub input_before : (a b : Option Files) (path : List ℕ) (hex : Bool) (input : 
 input_before a b path false input k h = held_before a b path input k h
 input_before a b path true input k (text, h, e) = (text, held_before a b path text k h, e)
 
+pub front_before : (a b : Option Files) (path : List ℕ) (hex : Bool) (front : List ℕ) → KeepsFiles a b → IsFront b path hex front → IsFront a path hex front
+front_before a b path false front k (whole, count, h, e) = (whole, count, held_before a b path whole k h, e)
+front_before a b path true front k (text, count, h, e) = (text, count, held_before a b path text k h, e)
+
+-- all of an input is a front of it
+of_pairs : (b : Bool) (r : Result (List ℕ) FromHexError) (bytes : List ℕ) → (if b then Err OddLength else r) ≡ Ok bytes → r ≡ Ok bytes
+of_pairs true r bytes e = cc e
+of_pairs false r bytes e = e
+
+pub input_front : (held : Option Files) (path : List ℕ) (hex : Bool) (input : List ℕ) → IsInput held path hex input → IsFront held path hex input
+input_front held path false input h = (input, length input, h, sym (take_all (length input) input (omega arith)))
+input_front held path true input (text, h, e) =
+    let digits = filter is_kept text in (
+      text,
+      length digits,
+      h,
+      ap (decode_pairs 0) (take_all (length digits) digits (omega arith)) ∙ of_pairs (length digits % 2 == 1) (decode_pairs 0 digits) input e,
+    )
+
 not_hex_before : (a b : Option Files) (path : List ℕ) (hex : Bool) → KeepsFiles a b → IsNotHex b path hex → IsNotHex a path hex
 not_hex_before a b path true k (text, h, e) = (text, held_before a b path text k h, e)
 not_hex_before a b path false k h = h
@@ -59,34 +79,3 @@ no_input_before a b path hex (faults.CannotRead named) k h = h
 no_input_before a b path hex (faults.NotHex named) k (e, h) = (e, not_hex_before a b path hex k h)
 no_input_before a b path hex faults.Memory k h = tt
 no_input_before a b path hex _ k h = absurd h
-
--- fewer bytes of hex text than were asked for are all
-pub all_of_digits : (held : Option Files) (path : List ℕ) (most : ℕ) (bytes : List ℕ) → StartsDigits held path most bytes → length bytes < most → IsInput held path true bytes
-all_of_digits held path most bytes s h =
-    subst (IsInput held path true) (sym (s.front ∙ take_all most s.input (omega (arith, ap length s.front, length-take most s.input, h)))) s.is
-
--- one more of them than the limit is enough
-pub digits_enough : (held : Option Files) (path : List ℕ) (options : Options) (bytes : List ℕ) → options.hex ≡ true → StartsDigits held path (options.limits.bytes + 1) bytes → StartsInput held path options bytes
-digits_enough held path options bytes hex s = record {
-  input = s.input;
-  is = subst (λ (h : Bool). IsInput held path h s.input) (sym hex) s.is;
-  behind = drop (options.limits.bytes + 1) s.input;
-  splits = ap (λ (xs : List ℕ). xs ++ drop (options.limits.bytes + 1) s.input) s.front ∙ take-append-drop (options.limits.bytes + 1) s.input;
-  enough = elim (cases_lt options.limits.bytes (length bytes)) [
-    | inl l ↦ inr (decided_beyond options.limits bytes l)
-    | inr l ↦
-        inl (nil_from_length (drop (options.limits.bytes + 1) s.input)
-        (omega (arith, l, ap length s.front, length-take (options.limits.bytes + 1) s.input, length-drop (options.limits.bytes + 1) s.input)))
-  ];
-}
-
--- the bytes of an input that were read so far, where that is enough
-pub parts_enough : (held : Option Files) (path : List ℕ) (options : Options) (p : PartsView) → options.hex ≡ false → IsReadTo held path false [] p → (p.ended ≡ true) ⊎ IsDecided options.limits p.rest
-    → (bytes : List ℕ) → bytes ≡ p.rest → StartsInput held path options bytes
-parts_enough held path options p hex r ends bytes same = subst (StartsInput held path options) (sym same) (record {
-  input = r.input;
-  is = subst (λ (h : Bool). IsInput held path h r.input) (sym hex) r.is;
-  behind = r.behind;
-  splits = r.splits;
-  enough = elim ends [ inl e ↦ inl (r.end e) | inr d ↦ inr d ];
-})

@@ -1,13 +1,13 @@
 -- What is told of the front of an input that is enough is told of the whole.
-use Rattle.std.proofs.Common.{ℕ, ◌≡◌, ◌≢◌, ◌<◌, ◌≤◌, inl, inr, Option, List, [], ◌∷◌, ◌++◌, length, take, refl, sym, ap, ◌∙◌, arith, subst}
-use Rattle.std.proofs.lemmas.List.{append_assoc, append-nil, length-append, length-take, take-append-le}
+use Rattle.std.proofs.Common.{ℕ, ◌≡◌, ◌≢◌, ◌≤◌, inl, inr, Option, List, [], ◌++◌, length, take, sym, ap, ◌∙◌, arith, subst}
+use Rattle.std.proofs.lemmas.List.{append_assoc, append-nil, length-append, take-append-le}
 use Rattle.cbor_head.specs.Complaint.{Rules, form, plain}
 use Rattle.cbor_head.specs.Limits.{Bounds}
 use Rattle.cbor_head.specs.Value.{Value}
 use Rattle.cbor_head.specs.Spelling.{Spelling, spell, IsItem}
-use Rattle.cbor_head.specs.Verdict.{Answer, accepted, refused, refusal, IsFormError, IsVerdict}
+use Rattle.cbor_head.specs.Verdict.{Answer, accepted, refused, refusal, IsVerdict}
 use Rattle.cbor_head.specs.declared.order.KeyOrder.{KeyOrder}
-use Rattle.cbor_head.specs.declared.reason.Reason.TheVariants.{CanonicalTooLong, TooLong, Truncated, Read}
+use Rattle.cbor_head.specs.declared.reason.Reason.TheVariants.{CanonicalTooLong, Truncated, Read}
 use Rattle.cbor_head.specs.declared.reason.Refusal.{Refusal}
 use Rattle.cbor_grammar.proofs.Agree.{split_front}
 use Rattle.cbor_reader.specs.Canonicalise.{IsCanonicalOf, IsRefusal}
@@ -31,7 +31,7 @@ use Rattle.cborc_commands.specs.declared.fault.Fault.{Fault}
 use Rattle.cborc_commands.specs.declared.fault.Fault.TheVariants as faults
 use Rattle.cborc_commands.specs.inner.Parts.{IsDecided, IsEnough}
 use Rattle.cborc_commands.proofs.Decided.{IsFinal, further, more, splits_further}
-use Rattle.cborc_commands.proofs.Places.{byte_reason, IsByteReason, place_within}
+use Rattle.cborc_commands.proofs.Places.{place_within}
 
 -- ---- by its form alone
 
@@ -45,33 +45,6 @@ cut_by_form limits r front f e v = elim v.decides [
   | inl h ↦ absurd (subst (IsComplaintReason r) e (complaint-reason r 0 v.item h.0 h.1.holds f h.2))
   | inr h ↦ record { p = v.p; longest = v.longest; item = v.item; rest = v.rest; starts = v.starts; decides = inr ((λ c g l. no-complaint 0 v.item c g), h.1, h.2) }
 ]
-
--- an item that is accepted is within the limit
-short : (limits : Bounds) (r : Rules) (front : List ℕ) (s : Spelling) → IsVerdict limits r front (accepted s) → length (spell s) ≤ limits.bytes
-short limits r front s v =
-    omega (
-      arith,
-      ap (λ (t : Spelling). length (spell t)) v.decides.0,
-      ap length v.decides.1,
-      ap length v.longest.splits,
-      length-append v.p v.longest.rest,
-      length-take limits.bytes front,
-    )
-
--- more bytes than the limit are enough
-module _ (limits : Bounds) (bytes : List ℕ) (long : limits.bytes < length bytes) where
-  not_cut : (f : Refusal) (v : IsVerdict limits form bytes (refused f)) → (rest : List ℕ) → v.longest.rest ≡ rest → IsFormError limits v.p rest f → f.reason ≢ Truncated
-  not_cut f v (c ∷ cs) same (reason, why, is) e =
-      subst IsByteReason (sym (ap (λ (x : Refusal). x.reason) is) ∙ e) (byte_reason limits.depth v.p c reason why)
-  not_cut f v [] same (inl h) e = let both : TooLong ≡ Truncated = sym (ap (λ (x : Refusal). x.reason) h.1) ∙ e in cc both
-  not_cut f v [] same (inr h) e =
-      omega (arith, long, h.0, ap length v.longest.splits, length-append v.p v.longest.rest, ap length same, length-take limits.bytes bytes)
-
-  pub decided_beyond : IsDecided limits bytes
-  decided_beyond = record {
-    within = λ f v e. elim v.decides [ inl h ↦ no-complaint 0 v.item h.0 h.1.holds | inr h ↦ not_cut f v v.longest.rest refl h.2 e ];
-    longer = λ s v. omega (arith, long, short limits form bytes s v);
-  }
 
 module _ (limits : Bounds) (front behind : List ℕ) (enough : IsEnough limits front behind) where
   final : (r : Rules) (a : Answer) → IsVerdict limits r front a → IsDecided limits front → IsFinal a

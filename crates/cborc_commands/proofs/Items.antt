@@ -1,5 +1,5 @@
 -- The items of a sequence, of each of which something was written.
-use Rattle.std.proofs.Common.{ℕ, ◌+◌, ◌<◌, ◌≤◌, ◌≡◌, inl, inr, Bool, true, false, Option, Some, None, List, [], ◌∷◌, ◌++◌, length, flat_map, drop, refl, sym, ap, ◌∙◌, arith, subst}
+use Rattle.std.proofs.Common.{ℕ, inl, inr, ◌+◌, ◌<◌, ◌≤◌, ◌≡◌, true, Option, Some, None, List, [], ◌∷◌, ◌++◌, length, flat_map, drop, refl, sym, ap, ◌∙◌, arith, subst}
 use Rattle.std.specs.List.{AllByRecursion}
 use Rattle.std.specs.Io.KnownBytes.{Appends}
 use Rattle.std.proofs.lemmas.List.{append_assoc, append-nil, length-append, length-drop}
@@ -11,11 +11,12 @@ use Rattle.cborc_commands.specs.Fault.{at_item}
 use Rattle.cborc_commands.specs.Sequences.{texts_from, StartsWithEach}
 use Rattle.cborc_commands.specs.declared.fault.Fault.{Fault}
 use Rattle.cborc_commands.specs.declared.request.Options.{Options}
-use Rattle.cborc_commands.specs.inner.Items.{IsWritten, AreWrittenOf, AreWrittenSoFar, AreStoppedOf, no_input, within}
+use Rattle.cborc_commands.specs.inner.Items.{IsWritten, AreWrittenOf, AreStopped, AreStoppedOf, no_input, behind_no_input, within}
 use Rattle.cborc_commands.specs.Input.{IsNoInput}
-use Rattle.cborc_commands.specs.inner.Parts.{PartsView, IsReadTo, IsNextPart, IsFilled}
-use Rattle.cborc_commands.proofs.ReadParts as parts
-use Rattle.cborc_commands.proofs.ReadParts.{filled, next_part, took, same_files, no_less, longer, due, weight}
+use Rattle.cborc_commands.specs.inner.Parts.{PartsView, IsReadTo, IsNextPart}
+use Rattle.cborc_commands.specs.inner.Sources.{IsNoPart, HasInput, HasNoInput}
+use Rattle.cborc_commands.proofs.ReadParts.{next_part, took, front_there, input_ended, input_there, no_input_there, no_next_part, weight}
+use Rattle.cborc_commands.proofs.Sources.{same_files, unread}
 
 -- ---- lists
 
@@ -91,63 +92,42 @@ module _ (takes : Spelling → Type 0) (text : ℕ → Spelling → List ℕ) (o
   not_begun stops fault why = no_input why (record { items = []; first = inl refl; written = appends_none before })
 
   module _ (old : PartsView) (middle : Option (List ℕ)) (count : ℕ) (h : AreTaken takes text options source held old before middle count) where
-    -- no more of the input is to be had, and nothing was written since
-    pub not_read_on : (stops : ℕ → List ℕ → Fault → Option (List ℕ) → Option (List ℕ) → Type 0) (now : Option Files) (after : Option (List ℕ)) → after ≡ middle → (fault : Fault)
-        → IsNoInput now source false fault → AreStoppedOf takes text stops options source held before after fault
-    not_read_on stops now after same fault why = no_input (parts.no_input now held source options.hex fault why) (record {
-      items = h.items;
-      first = inr (h.read.input, old.rest ++ h.read.behind, h.read.is, record { each = h.each; bytes = h.read.splits });
-      written = subst (λ (out : Option (List ℕ)). Appends before out (texts_from text 0 h.items)) (sym same) h.written;
-    })
-
     pub count_within : count ≤ old.start
     count_within = omega (arith, h.count_is, items_within h.items, h.read.start_is)
 
-    pub filled_too : (now : Option Files) (new : PartsView) → KeepsFiles held now → IsFilled now source old new → AreTaken takes text options source held new before middle count
-    filled_too now new keeps f = record {
-      items = h.items;
-      each = h.each;
-      read = filled held now source options.hex (sequence_bytes h.items) old new keeps h.read f;
-      count_is = h.count_is;
-      written = h.written;
-    }
-
     -- a part was read, and nothing written
-    pub read_too : (now : Option Files) (new : PartsView) (after : Option (List ℕ)) → after ≡ middle → KeepsFiles held now → old.ended ≡ false → IsNextPart now source old new
+    pub read_too : (now : Option Files) (new : PartsView) (after : Option (List ℕ)) → after ≡ middle → KeepsFiles held now → IsNextPart now source old new
         → AreTaken takes text options source held new before after count
-    read_too now new after same keeps live n = record {
+    read_too now new after same keeps n = record {
       items = h.items;
       each = h.each;
-      read = next_part held now source options.hex (sequence_bytes h.items) old new keeps h.read live n;
+      read = next_part held now source options.hex (sequence_bytes h.items) old new keeps h.read n;
       count_is = h.count_is;
       written = subst (λ (out : Option (List ℕ)). Appends before out (texts_from text 0 h.items)) (sym same) h.written;
     }
 
     pub one_more : (new : PartsView) (after : Option (List ℕ)) (size : ℕ) → IsWritten takes (text old.start) old.rest size middle after → new.rest ≡ drop size old.rest
-        → new.start ≡ old.start + size → new.ended ≡ old.ended → AreTaken takes text options source held new before after (count + 1)
-    one_more new after size w rest start ended = record {
+        → new.start ≡ old.start + size → new.source ≡ old.source → AreTaken takes text options source held new before after (count + 1)
+    one_more new after size w rest start same = record {
       items = h.items ++ w.item ∷ [];
       each = all_with takes h.items w.item h.each w.taken;
       read = subst (λ (xs : List ℕ). IsReadTo held source options.hex xs new) (sym (joined_with spell h.items w.item))
           (took held held source options.hex (sequence_bytes h.items) old new (same_files held) h.read (spell w.item) w.rest w.bytes_are
-          (rest ∙ ap (λ (k : ℕ). drop k old.rest) w.size_is) (start ∙ ap (λ (k : ℕ). old.start + k) w.size_is) ended);
+          (rest ∙ ap (λ (k : ℕ). drop k old.rest) w.size_is) (start ∙ ap (λ (k : ℕ). old.start + k) w.size_is) same);
       count_is = omega (arith, h.count_is, length-append h.items (w.item ∷ []));
       written = subst (Appends before after) (sym (texts_with text 0 h.items w.item ∙ ap (λ (k : ℕ). texts_from text 0 h.items ++ text k w.item) (omega (arith, h.read.start_is))))
           (appends_more before middle after (texts_from text 0 h.items) (text old.start w.item) h.written w.written);
     }
 
     -- the input ends there
-    pub all_written : EndsBefore options.limits.bytes old.rest → (old.rest ≡ [] → old.ended ≡ true) → AreWrittenOf takes text options source held before middle count
+    pub all_written : EndsBefore options.limits.bytes old.rest → (old.rest ≡ [] → old.source.ended ≡ true) → AreWrittenOf takes text options source held before middle count
     all_written (none, some) ends = record {
-      input = h.read.input;
-      is = h.read.is;
+      input = sequence_bytes h.items ++ old.rest;
+      is = input_ended held held source options.hex (sequence_bytes h.items) old (same_files held) h.read (ends none);
       written = record {
         items = h.items;
         all = record {
-          starts = record {
-            each = h.each;
-            bytes = ap (λ (xs : List ℕ). sequence_bytes h.items ++ xs) (sym (ap (λ (xs : List ℕ). xs ++ h.read.behind) none ∙ h.read.end (ends none))) ∙ h.read.splits;
-          };
+          starts = record { each = h.each; bytes = ap (λ (xs : List ℕ). sequence_bytes h.items ++ xs) (sym none) };
           some = some;
         };
         count_is = h.count_is;
@@ -155,50 +135,60 @@ module _ (takes : Spelling → Type 0) (text : ℕ → Spelling → List ℕ) (o
       };
     }
 
-    -- no item is taken there, however the input goes on
-    pub stopped_there : (stops : ℕ → List ℕ → Fault → Option (List ℕ) → Option (List ℕ) → Type 0) → ¬ EndsBefore options.limits.bytes old.rest
-        → (after : Option (List ℕ)) (fault : Fault) → ((behind : List ℕ) → (old.ended ≡ true → behind ≡ []) → stops old.start (old.rest ++ behind) fault middle after)
-        → AreStoppedOf takes text stops options source held before after (at_item (count + 1) old.start fault)
-    stopped_there stops begun after fault why = within h.read.input h.read.is (record {
+    -- no more of the input is to be had, and nothing was written since
+    pub not_read_on : (stops : ℕ → List ℕ → Fault → Option (List ℕ) → Option (List ℕ) → Type 0) (after : Option (List ℕ)) → after ≡ middle → (now : Option Files) (fault : Fault)
+        → KeepsFiles held now → IsNoPart now source old.source fault → AreStoppedOf takes text stops options source held before after fault
+    not_read_on stops after same now fault keeps none = no_input (no_next_part held now source options.hex (sequence_bytes h.items) old keeps h.read fault none) (record {
       items = h.items;
-      rest = old.rest ++ h.read.behind;
-      index = count + 1;
-      start = old.start;
-      goes_on = record {
-        starts = record { each = h.each; bytes = h.read.splits };
-        index_is = omega (arith, h.count_is);
-        start_is = h.read.start_is;
-        begun = λ e. begun (front_none old.rest e.0, e.1);
-      };
-      middle = middle;
-      written = h.written;
-      cause = fault;
-      stopped = why h.read.behind h.read.end;
-      fault_is = refl;
+      first = inr (sequence_bytes h.items ++ old.rest, old.rest, front_there held source options.hex (sequence_bytes h.items) old h.read, record { each = h.each; bytes = refl });
+      written = subst (λ (out : Option (List ℕ)). Appends before out (texts_from text 0 h.items)) (sym same) h.written;
     })
-      where
-        front_none : (xs : List ℕ) → xs ++ h.read.behind ≡ [] → xs ≡ []
-        front_none [] e = refl
-        front_none (x ∷ xs) e = cc e
 
--- what may be read and what was read become less, as an item is taken or a part is read
-module _ (now : Option Files) (path : List ℕ) (old new : PartsView) where
-  pub read_less : old.ended ≡ false → IsNextPart now path old new → weight new < weight old
-  read_less live n = by new.ended refl
-    where
-      by : (ended : Bool) → new.ended ≡ ended → weight new < weight old
-      by true e = omega (arith, n.range, n.start_is, no_less now path old new n, ap due e, ap due live)
-      by false e = omega (arith, n.range, n.start_is, longer now path old new n e, ap due e, ap due live)
+    -- no item is taken there, however the input goes on
+    module _ (stops : ℕ → List ℕ → Fault → Option (List ℕ) → Option (List ℕ) → Type 0) (begun : ¬ EndsBefore options.limits.bytes old.rest) (after : Option (List ℕ)) (fault : Fault)
+        (why : (behind : List ℕ) → (old.source.ended ≡ true → behind ≡ []) → stops old.start (old.rest ++ behind) fault middle after) where
+      front_none : (xs ys : List ℕ) → xs ++ ys ≡ [] → xs ≡ []
+      front_none [] ys e = refl
+      front_none (x ∷ xs) ys e = cc e
 
-  pub filled_no_more : IsFilled now path old new → weight new ≤ weight old
-  filled_no_more f = elim f.either [
-    | inl e ↦ omega (arith, ap weight e)
-    | inr h ↦ omega (arith, read_less h.0 h.1)
-  ]
+      stopped_at : (behind input : List ℕ) → (old.source.ended ≡ true → behind ≡ []) → (sequence_bytes h.items ++ old.rest) ++ behind ≡ input
+          → AreStopped takes text stops options.limits.bytes input before after (at_item (count + 1) old.start fault)
+      stopped_at behind input end is = record {
+        items = h.items;
+        rest = old.rest ++ behind;
+        index = count + 1;
+        start = old.start;
+        goes_on = record {
+          starts = record { each = h.each; bytes = sym (append_assoc (sequence_bytes h.items) old.rest behind) ∙ is };
+          index_is = omega (arith, h.count_is);
+          start_is = h.read.start_is;
+          begun = λ e. begun (front_none old.rest behind e.0, e.1);
+        };
+        middle = middle;
+        written = h.written;
+        cause = fault;
+        stopped = why behind end;
+        fault_is = refl;
+      }
 
-taken_less : (takes : Spelling → Type 0) (text : Spelling → List ℕ) (old new : PartsView) (size : ℕ) (before after : Option (List ℕ)) → IsWritten takes text old.rest size before after
-    → new.rest ≡ drop size old.rest → new.start ≡ old.start + size → new.ended ≡ old.ended → weight new < weight old
-taken_less takes text old new size before after w rest start ended =
+      pub stopped_there : (now : Option Files) → KeepsFiles held now → HasInput now source old.source
+          → AreStoppedOf takes text stops options source held before after (at_item (count + 1) old.start fault)
+      stopped_there now keeps there =
+          let k = input_there held now source options.hex (sequence_bytes h.items) old keeps h.read there in
+          within ((sequence_bytes h.items ++ old.rest) ++ k.behind) k.is (stopped_at k.behind ((sequence_bytes h.items ++ old.rest) ++ k.behind) k.end refl)
+
+      -- and then it is found that there is none
+      pub stopped_without : (now : Option Files) (other : Fault) → KeepsFiles held now → HasNoInput now source old.source other
+          → AreStoppedOf takes text stops options source held before after other
+      stopped_without now other keeps none =
+          behind_no_input (no_input_there held now source options.hex (sequence_bytes h.items) old keeps h.read other none) (sequence_bytes h.items ++ old.rest)
+          (front_there held source options.hex (sequence_bytes h.items) old h.read) (at_item (count + 1) old.start fault)
+          (stopped_at [] (sequence_bytes h.items ++ old.rest) (λ e. refl) (append-nil (sequence_bytes h.items ++ old.rest)))
+
+-- what was read becomes less as an item is taken
+pub taken_less : (takes : Spelling → Type 0) (text : Spelling → List ℕ) (old new : PartsView) (size : ℕ) (before after : Option (List ℕ)) → IsWritten takes text old.rest size before after
+    → new.rest ≡ drop size old.rest → new.source ≡ old.source → weight new < weight old
+taken_less takes text old new size before after w rest same =
     omega (
       arith,
       w.size_is,
@@ -207,16 +197,5 @@ taken_less takes text old new size before after w rest start ended =
       ap length w.bytes_are,
       ap length rest,
       length-drop size old.rest,
-      start,
-      ap due ended,
+      ap unread same,
     )
-
--- in each turn
-module _ (now : Option Files) (path : List ℕ) (old middle new : PartsView) (f : IsFilled now path old middle) where
-  pub taken_smaller : (takes : Spelling → Type 0) (text : Spelling → List ℕ) (size : ℕ) (before after : Option (List ℕ)) → IsWritten takes text middle.rest size before after
-      → new.rest ≡ drop size middle.rest → new.start ≡ middle.start + size → new.ended ≡ middle.ended → weight new < weight old
-  taken_smaller takes text size before after w rest start ended =
-      omega (arith, filled_no_more now path old middle f, taken_less takes text middle new size before after w rest start ended)
-
-  pub read_smaller : (then : Option Files) → middle.ended ≡ false → IsNextPart then path middle new → weight new < weight old
-  read_smaller then live n = omega (arith, filled_no_more now path old middle f, read_less then path middle new live n)

@@ -8,13 +8,14 @@ use Rattle.cbor_head.specs.declared.order.KeyOrder.{KeyOrder}
 use Rattle.cbor_head.specs.declared.reason.Refusal.{Refusal}
 use Rattle.cborc_commands.specs.Answer.{IsDone, IsNotDone}
 use Rattle.cborc_commands.specs.Canon.{IsPut, printed, written}
-use Rattle.cborc_commands.specs.CanonSequence.{IsSent, passed, apart, IsSentSoFar, IsSequenceNotCanonised}
+use Rattle.cborc_commands.specs.CanonSequence.{IsSent, passed, apart, IsCutIn, IsSentSoFar, of_items, of_cut, IsSequenceNotCanonised}
 use Rattle.cborc_commands.specs.Compare.{IsTold}
 use Rattle.cborc_commands.specs.Events.{IsNotListed, IsNotListedOf}
 use Rattle.cborc_commands.specs.EventsSequence.{IsSequenceNotListed}
 use Rattle.cborc_files.specs.Folder.{Files}
 use Rattle.cborc_commands.specs.ShowSequence.{IsSequenceNotShown}
 use Rattle.cborc_commands.specs.Told.{IsSilent}
+use Rattle.cborc_commands.specs.declared.request.Form.{Form}
 use Rattle.cborc_commands.specs.declared.request.Layout.{Layout}
 use Rattle.cborc_commands.specs.declared.request.Options.{Options}
 use Rattle.cborc_commands.specs.declared.request.Output.{Output}
@@ -122,9 +123,21 @@ module _ (before mid after : Option (List ℕ)) (keeps : Keeps mid after) where
   texts_sent path text (passed s a) = passed s (appends_kept before mid after text a keeps)
   texts_sent path text (apart s k) = apart s (Keeps-trans before mid after k keeps)
 
+  cut_sent : (limits : Bounds) (o : KeyOrder) (form : Form) (bytes : List ℕ) → IsCutIn limits o form bytes before mid → IsCutIn limits o form bytes before after
+  cut_sent limits o form bytes h = record {
+    items = h.items;
+    last = h.last;
+    rest = h.rest;
+    starts = h.starts;
+    count = h.count;
+    part = h.part;
+    taken = appends_kept before mid after _ h.taken keeps;
+  }
+
   so_far_sent : (o : KeyOrder) (options : Options) (source : List ℕ) (output : Output) (held : Option Files) → IsSentSoFar o options source output held before mid
       → IsSentSoFar o options source output held before after
-  so_far_sent o options source output held w = record { items = w.items; first = w.first; sent = texts_sent output.path.now _ w.sent }
+  so_far_sent o options source output held (of_items items first s) = of_items items first (texts_sent output.path.now _ s)
+  so_far_sent o options source output held (of_cut s front is c) = of_cut s front is (cut_sent options.limits o output.form front c)
 
   canonised_sent : (o : KeyOrder) (options : Options) (source : List ℕ) (output : Output) (held : Option Files) (fault : Fault)
       → IsSequenceNotCanonised o options source output held before mid fault → IsSequenceNotCanonised o options source output held before after fault
@@ -138,20 +151,7 @@ module _ (before mid after : Option (List ℕ)) (keeps : Keeps mid after) where
     of_input = h.of_input;
     sent = texts_sent output.path.now _ h.sent;
   }
-  canonised_sent o options source output held faults.CannotPrint (s, h) = (
-    s,
-    record {
-      input = h.input;
-      is = h.is;
-      items = h.items;
-      last = h.last;
-      rest = h.rest;
-      starts = h.starts;
-      count = h.count;
-      part = h.part;
-      taken = appends_kept before mid after _ h.taken keeps;
-    },
-  )
+  canonised_sent o options source output held faults.CannotPrint (s, (input, is, h)) = (s, (input, is, cut_sent options.limits o output.form input h))
   canonised_sent o options source output held (faults.CannotWrite named) (s, t, k) = (s, t, Keeps-trans before mid after k keeps)
   canonised_sent o options source output held (faults.CannotRead named) (h, w) = (h, so_far_sent o options source output held w)
   canonised_sent o options source output held (faults.NotHex named) (h, w) = (h, so_far_sent o options source output held w)

@@ -5,18 +5,19 @@ use Rattle.std.specs.Prelude.{IfSome}
 use Rattle.std.specs.Io.KnownBytes.{Appends}
 use Rattle.std.proofs.KnownBytes.{Keeps-refl}
 use Rattle.std.proofs.lemmas.List.{length-append}
-use Rattle.cbor_head.specs.Complaint.{form, plain}
+use Rattle.cbor_head.specs.Complaint.{Rules, form, plain}
 use Rattle.cbor_head.specs.Spelling.{Spelling}
 use Rattle.cbor_head.specs.declared.order.KeyOrder.{KeyOrder}
 use Rattle.cbor_reader.specs.Sequence.{IsAccepted}
 use Rattle.cborc_commands.specs.Canon.{printed, written}
-use Rattle.cborc_commands.specs.CanonSequence.{HasCanonicalBytes, canonical_text, canonical_texts, IsSequenceCanonised, IsSent, passed, apart, IsSentSoFar, IsCutShort, HasFirstTexts, IsSequenceNotCanonised}
+use Rattle.cborc_commands.specs.CanonSequence.{HasCanonicalBytes, canonical_text, canonical_texts, IsSequenceCanonised, IsSent, passed, apart, IsCutIn, IsCutShort, IsSentSoFar, of_items, of_cut, HasFirstTexts, IsSequenceNotCanonised}
+use Rattle.cborc_commands.specs.CheckSequence.{IsSequenceNotChecked}
 use Rattle.cborc_commands.specs.EventsSequence.{item_lines, all_lines, IsSequenceNotListed}
 use Rattle.cborc_commands.specs.Fault.{at_item}
 use Rattle.cborc_files.specs.Folder.{Files, is_stream, IsBlank, KeepsFiles, ReplacesFile}
 use Rattle.cborc_files.specs.declared.folder.FileFault.{FileFault}
 use Rattle.cborc_files.specs.declared.folder.FileFault.TheVariants as file_faults
-use Rattle.cborc_commands.specs.Input.{IsInput, IsNoInput}
+use Rattle.cborc_commands.specs.Input.{IsInput, IsFront, IsNoInput}
 use Rattle.cborc_commands.specs.Sequences.{texts_from, AreFirst}
 use Rattle.cborc_commands.specs.ShowSequence.{item_text, IsSequenceShown, IsSequenceNotShown}
 use Rattle.cborc_commands.specs.declared.fault.Fault.{Fault}
@@ -24,8 +25,8 @@ use Rattle.cborc_commands.specs.declared.fault.Fault.TheVariants as faults
 use Rattle.cborc_commands.specs.declared.request.Layout.{Layout}
 use Rattle.cborc_commands.specs.declared.request.Options.{Options}
 use Rattle.cborc_commands.specs.declared.request.Output.{Output}
-use Rattle.cborc_commands.specs.inner.Items.{AreStopped, AreWrittenOf, AreStoppedOf, no_input, within, IsCutText, IsUnwritten, IsItemNotShown, IsItemNotListed}
-use Rattle.cborc_commands.proofs.Files.{input_before, no_input_before, replaced_by}
+use Rattle.cborc_commands.specs.inner.Items.{AreStopped, AreWrittenOf, AreStoppedOf, no_input, behind_no_input, within, IsCutText, IsUncounted, IsUnwritten, IsItemNotShown, IsItemNotListed}
+use Rattle.cborc_commands.proofs.Files.{input_before, front_before, input_front, no_input_before, replaced_by}
 use Rattle.cborc_commands.proofs.Items.{texts_anywhere, appends_more, one_more_starts}
 
 -- ---- `canon --seq`
@@ -37,12 +38,14 @@ module _ (takes : Spelling → Type 0) (text : ℕ → Spelling → List ℕ) (o
 
   first_before : (items : List Spelling) → AreFirst takes options source b items → AreFirst takes options source a items
   first_before items (inl none) = inl none
-  first_before items (inr (input, rest, is, starts)) = inr (input, rest, input_before a b source options.hex input keeps is, starts)
+  first_before items (inr (front, rest, is, starts)) = inr (front, rest, front_before a b source options.hex front keeps is, starts)
 
   pub stopped_before : (stops : ℕ → List ℕ → Fault → Option (List ℕ) → Option (List ℕ) → Type 0) (fault : Fault) → AreStoppedOf takes text stops options source b from to fault
       → AreStoppedOf takes text stops options source a from to fault
   stopped_before stops fault (no_input why w) =
       no_input (no_input_before a b source options.hex fault keeps why) (record { items = w.items; first = first_before w.items w.first; written = w.written })
+  stopped_before stops fault (behind_no_input why front is cause h) =
+      behind_no_input (no_input_before a b source options.hex fault keeps why) front (front_before a b source options.hex front keeps is) cause h
   stopped_before stops fault (within input is h) = within input (input_before a b source options.hex input keeps is) h
 
 module _ (o : KeyOrder) (options : Options) (source : List ℕ) (output : Output) (held : Option Files) where
@@ -83,17 +86,15 @@ module _ (o : KeyOrder) (options : Options) (source : List ℕ) (output : Output
         put = written s (replaced_by held mid new from to output.path.now (canonical_texts o output.form w.written.items) blank k (took to w.written.items w.written.written) r) (Keeps-refl out);
       }
 
-    module _ (fault : Fault) (input : List ℕ) (is : IsInput held source options.hex input) (h : AreStopped Has text_of Unwritten options.limits.bytes input from to fault) where
+    module _ (fault : Fault) (input : List ℕ) (h : AreStopped Has text_of Unwritten options.limits.bytes input from to fault) where
       why_so : (cause : Fault) → h.cause ≡ cause → Unwritten h.start h.rest cause h.middle to
       why_so cause e = subst (λ (x : Fault). Unwritten h.start h.rest x h.middle to) e h.stopped
 
       took_so_far : to ≡ h.middle → Appends from to (canonical_texts o output.form h.items)
       took_so_far same = subst (λ (x : Option (List ℕ)). Appends from x (canonical_texts o output.form h.items)) (sym same) (took h.middle h.items h.written)
 
-      cut_short : IsCutText options.limits o output.form h.rest h.middle to → IsCutShort o output.form options source held from to
-      cut_short t = record {
-        input = input;
-        is = is;
+      cut_in : IsCutText options.limits o output.form h.rest h.middle to → IsCutIn options.limits o output.form input from to
+      cut_in t = record {
         items = h.items;
         last = t.item;
         rest = t.rest;
@@ -104,15 +105,16 @@ module _ (o : KeyOrder) (options : Options) (source : List ℕ) (output : Output
             appends_more from h.middle to (canonical_texts o output.form h.items) (take t.count (canonical_text o output.form t.item)) (took h.middle h.items h.written) t.taken;
       }
 
-      cut_there : (cause : Fault) → h.cause ≡ cause → at_item h.index h.start cause ≡ faults.CannotPrint → IsCutShort o output.form options source held from to
+      cut_there : (cause : Fault) → h.cause ≡ cause → at_item h.index h.start cause ≡ faults.CannotPrint → IsCutIn options.limits o output.form input from to
       cut_there (faults.Refused f) e is = cc is
-      cut_there faults.CannotPrint e is = cut_short (why_so faults.CannotPrint e)
+      cut_there faults.CannotPrint e is = cut_in (why_so faults.CannotPrint e)
       cut_there faults.Memory e is = cc is
       cut_there _ e is = absurd (why_so _ e)
 
       -- what standard output took, by what was written
       module _ (before after : Option (List ℕ)) (sends : (text : List ℕ) → Appends from to text → IsSent output.path.now before after text)
-          (cut : fault ≡ faults.CannotPrint → IsSequenceNotCanonised o options source output held before after faults.CannotPrint) where
+          (cut : fault ≡ faults.CannotPrint → IsSequenceNotCanonised o options source output held before after faults.CannotPrint) (is : IsInput held source options.hex input)
+          (first : AreFirst Has options source held h.items) where
         by_cause : (cause : Fault) → h.cause ≡ cause → IsSequenceNotCanonised o options source output held before after (at_item h.index h.start cause)
         by_cause (faults.Refused f) e =
             let why = why_so (faults.Refused f) e in
@@ -127,35 +129,40 @@ module _ (o : KeyOrder) (options : Options) (source : List ℕ) (output : Output
               sent = sends (canonical_texts o output.form h.items) (took_so_far why.2);
             }
         by_cause faults.CannotPrint e = cut (h.fault_is ∙ ap (at_item h.index h.start) e)
-        by_cause faults.Memory e = (
-          tt,
-          record {
-            items = h.items;
-            first = inr (input, h.rest, is, h.goes_on.starts);
-            sent = sends (canonical_texts o output.form h.items) (took_so_far (why_so faults.Memory e));
-          },
-        )
+        by_cause faults.Memory e = (tt, of_items h.items first (sends (canonical_texts o output.form h.items) (took_so_far (why_so faults.Memory e))))
         by_cause _ e = absurd (why_so _ e)
+
+      -- the same where these bytes are a front alone
+      module _ (before after : Option (List ℕ)) (sends : (text : List ℕ) → Appends from to text → IsSent output.path.now before after text)
+          (first : AreFirst Has options source held h.items) (cut : IsCutIn options.limits o output.form input from to → IsSentSoFar o options source output held before after) where
+        so_far_by : (cause : Fault) → h.cause ≡ cause → IsSentSoFar o options source output held before after
+        so_far_by (faults.Refused f) e = of_items h.items first (sends (canonical_texts o output.form h.items) (took_so_far (why_so (faults.Refused f) e).2))
+        so_far_by faults.CannotPrint e = cut (cut_in (why_so faults.CannotPrint e))
+        so_far_by faults.Memory e = of_items h.items first (sends (canonical_texts o output.form h.items) (took_so_far (why_so faults.Memory e)))
+        so_far_by _ e = absurd (why_so _ e)
 
     module _ (fault : Fault) where
       cut_of : AreStoppedOf Has text_of Unwritten options source held from to fault → fault ≡ faults.CannotPrint → IsCutShort o output.form options source held from to
       cut_of (no_input why w) e = absurd (subst (IsNoInput held source options.hex) e why)
-      cut_of (within input is h) e = cut_there fault input is h h.cause refl (sym h.fault_is ∙ e)
+      cut_of (behind_no_input why front is cause h) e = absurd (subst (IsNoInput held source options.hex) e why)
+      cut_of (within input is h) e = (input, is, cut_there fault input h h.cause refl (sym h.fault_is ∙ e))
 
       pub first_written : AreStoppedOf Has text_of Unwritten options source held from to fault → fault ≡ faults.CannotPrint → HasFirstTexts o options source held
       first_written h e =
           let c = cut_of h e in
           record {
-            input = c.input;
-            is = c.is;
-            items = c.items ++ c.last ∷ [];
-            rest = c.rest;
-            starts = c.starts;
-            some = inl (omega (arith, length-append c.items (c.last ∷ [])));
+            input = c.0;
+            is = c.1;
+            items = c.2.items ++ c.2.last ∷ [];
+            rest = c.2.rest;
+            starts = c.2.starts;
+            some = inl (omega (arith, length-append c.2.items (c.2.last ∷ [])));
           }
 
       module _ (before after : Option (List ℕ)) (sends : (text : List ℕ) → Appends from to text → IsSent output.path.now before after text)
-          (cut : fault ≡ faults.CannotPrint → IsSequenceNotCanonised o options source output held before after faults.CannotPrint) where
+          (cut : fault ≡ faults.CannotPrint → IsSequenceNotCanonised o options source output held before after faults.CannotPrint)
+          (cut_front : (items : List Spelling) → AreFirst Has options source held items → (front : List ℕ) → IsFront held source options.hex front
+          → IsCutIn options.limits o output.form front from to → IsSentSoFar o options source output held before after) where
         none_more : (x : Fault) → IsNoInput held source options.hex x → IsSentSoFar o options source output held before after → IsSequenceNotCanonised o options source output held before after x
         none_more (faults.CannotRead named) why w = (why, w)
         none_more (faults.NotHex named) why w = (why, w)
@@ -163,17 +170,22 @@ module _ (o : KeyOrder) (options : Options) (source : List ℕ) (output : Output
         none_more _ why w = absurd why
 
         by_stop : AreStoppedOf Has text_of Unwritten options source held from to fault → IsSequenceNotCanonised o options source output held before after fault
-        by_stop (no_input why w) = none_more fault why (record { items = w.items; first = w.first; sent = sends (canonical_texts o output.form w.items) (took to w.items w.written) })
+        by_stop (no_input why w) = none_more fault why (of_items w.items w.first (sends (canonical_texts o output.form w.items) (took to w.items w.written)))
+        by_stop (behind_no_input why front is cause h) =
+            let first : AreFirst Has options source held h.items = inr (front, h.rest, is, h.goes_on.starts) in
+            none_more fault why (so_far_by cause front h before after sends first (cut_front h.items first front is) h.cause refl)
         by_stop (within input is h) =
-            subst (IsSequenceNotCanonised o options source output held before after) (sym h.fault_is) (by_cause fault input is h before after sends cut h.cause refl)
+            subst (IsSequenceNotCanonised o options source output held before after) (sym h.fault_is)
+            (by_cause fault input h before after sends cut is (inr (input, h.rest, input_front held source options.hex input is, h.goes_on.starts)) h.cause refl)
 
       pub not_printed : is_stream output.path.now ≡ true → AreStoppedOf Has text_of Unwritten options source held from to fault
           → IsSequenceNotCanonised o options source output held from to fault
-      not_printed s h = by_stop from to (λ text a. passed s a) (λ e. (s, cut_of h e)) h
+      not_printed s h = by_stop from to (λ text a. passed s a) (λ e. (s, cut_of h e)) (λ items first front is c. of_cut s front is c) h
 
       pub not_replaced : is_stream output.path.now ≡ false → AreStoppedOf Has text_of Unwritten options source held from to fault → fault ≢ faults.CannotPrint
           → (out : Option (List ℕ)) → IsSequenceNotCanonised o options source output held out out fault
-      not_replaced s h other out = by_stop out out (λ text a. apart s (Keeps-refl out)) (λ e. absurd (other e)) h
+      not_replaced s h other out =
+          by_stop out out (λ text a. apart s (Keeps-refl out)) (λ e. absurd (other e)) (λ items first front is c. of_items items first (apart s (Keeps-refl out))) h
 
   -- the file failed, or memory did
   module _ (s : is_stream output.path.now ≡ false) (t : HasFirstTexts o options source held) (path : Bor (List ℕ)) (same : path.now ≡ output.path.now) (fault : Fault) (out : Option (List ℕ)) where
@@ -183,11 +195,11 @@ module _ (o : KeyOrder) (options : Options) (source : List ℕ) (output : Output
         subst (IsSequenceNotCanonised o options source output held out out) (sym (failed refl)) ((s, same), t, Keeps-refl out)
     not_written file_faults.Memory failed memory =
         subst (IsSequenceNotCanonised o options source output held out out) (sym (memory refl))
-        (tt, record { items = t.items; first = inr (t.input, t.rest, t.is, t.starts); sent = apart s (Keeps-refl out) })
+        (tt, of_items t.items (inr (t.input, t.rest, input_front held source options.hex t.input t.is, t.starts)) (apart s (Keeps-refl out)))
 
   -- memory was refused before anything was read
   pub none_begun : is_stream output.path.now ≡ false → (out : Option (List ℕ)) → IsSequenceNotCanonised o options source output held out out faults.Memory
-  none_begun s out = (tt, record { items = []; first = inl refl; sent = apart s (Keeps-refl out) })
+  none_begun s out = (tt, of_items [] (inl refl) (apart s (Keeps-refl out)))
 
 -- ---- `show --seq`
 
@@ -234,6 +246,7 @@ module _ (layout : Layout) (options : Options) (source : List ℕ) (held : Optio
     pub sequence_not_shown : AreStoppedOf (IsAccepted options.limits plain) (λ start. item_text layout) (λ start. IsItemNotShown options.limits) options source held before after fault
         → IsSequenceNotShown layout options source held before after fault
     sequence_not_shown (no_input h w) = none_shown fault h
+    sequence_not_shown (behind_no_input h front is cause w) = none_shown fault h
     sequence_not_shown (within input is h) = subst (IsSequenceNotShown layout options source held before after) (sym h.fault_is) (not_shown_by input is h h.cause refl)
 
 -- ---- `events --seq`
@@ -281,4 +294,32 @@ module _ (options : Options) (source : List ℕ) (held : Option Files) (before a
   pub sequence_not_listed : AreStoppedOf (IsAccepted options.limits form) item_lines (IsItemNotListed options.limits) options source held before after fault
       → IsSequenceNotListed options source held before after fault
   sequence_not_listed (no_input h w) = none_listed fault h
+  sequence_not_listed (behind_no_input h front is cause w) = none_listed fault h
   sequence_not_listed (within input is h) = subst (IsSequenceNotListed options source held before after) (sym h.fault_is) (not_listed_by input is h h.cause refl)
+
+-- ---- `check --seq`
+
+module _ (rules : Rules) (options : Options) (source : List ℕ) (held : Option Files) (before after : Option (List ℕ)) (fault : Fault) where
+  abbrev Uncounted : ℕ → List ℕ → Fault → Option (List ℕ) → Option (List ℕ) → Type 0
+  Uncounted start bytes cause from to = IsUncounted options.limits rules bytes cause
+
+  not_checked_by : (input : List ℕ) → IsInput held source options.hex input
+      → (h : AreStopped (IsAccepted options.limits rules) (λ start item. []) Uncounted options.limits.bytes input before after fault)
+      → (cause : Fault) → h.cause ≡ cause → IsSequenceNotChecked rules options source held (at_item h.index h.start cause)
+  not_checked_by input is h (faults.Refused f) e =
+      let why = subst (IsUncounted options.limits rules h.rest) e h.stopped in
+      (input, is, record { items = h.items; rest = h.rest; goes_on = h.goes_on; unread = why.0 }, why.1)
+  not_checked_by input is h faults.Memory e = tt
+  not_checked_by input is h _ e = absurd (subst (IsUncounted options.limits rules h.rest) e h.stopped)
+
+  none_checked : (x : Fault) → IsNoInput held source options.hex x → IsSequenceNotChecked rules options source held x
+  none_checked (faults.CannotRead named) h = h
+  none_checked (faults.NotHex named) h = h
+  none_checked faults.Memory h = h
+  none_checked _ h = absurd h
+
+  pub sequence_not_checked : AreStoppedOf (IsAccepted options.limits rules) (λ start item. []) Uncounted options source held before after fault
+      → IsSequenceNotChecked rules options source held fault
+  sequence_not_checked (no_input h w) = none_checked fault h
+  sequence_not_checked (behind_no_input h front is cause w) = none_checked fault h
+  sequence_not_checked (within input is h) = subst (IsSequenceNotChecked rules options source held) (sym h.fault_is) (not_checked_by input is h h.cause refl)

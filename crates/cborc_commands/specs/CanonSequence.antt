@@ -14,7 +14,7 @@ use Rattle.cbor_reader.specs.Sequence.{IsAccepted}
 use Rattle.cborc_commands.specs.Canon.{in_form, IsPut, IsNotPut}
 use Rattle.cborc_commands.specs.Fault.{IsOfInput}
 use Rattle.cborc_files.specs.Folder.{Files, is_stream}
-use Rattle.cborc_commands.specs.Input.{IsInput, IsNoInput}
+use Rattle.cborc_commands.specs.Input.{IsInput, IsFront, IsNoInput}
 use Rattle.cborc_commands.specs.Sequences.{StartsWithEach, AreAll, GoesOn, AreFirst}
 use Rattle.cborc_commands.specs.declared.request.Form.{Form}
 use Rattle.cborc_commands.specs.declared.request.Options.{Options}
@@ -68,25 +68,30 @@ pub record HasUncanonicalItem (o : KeyOrder) (options : Options) (source : List 
   pub of_input : IsOfInput f.reason
   pub sent : IsSent output.path.now before after (canonical_texts o output.form items)
 
--- the input is not to be had, or not further than these items that have canonical bytes, whose texts are sent
-pub record IsSentSoFar (o : KeyOrder) (options : Options) (source : List ℕ) (output : Output) (held : Option Files) (before after : Option (List ℕ)) : Type 0 where
-  pub items : List Spelling
-  pub first : AreFirst (HasCanonicalBytes options.limits o) options source held items
-  pub sent : IsSent output.path.now before after (canonical_texts o output.form items)
-
--- the input at a path starts with items that have canonical bytes: behind the texts of all but the last one, not all of its own was taken
-pub record IsCutShort (o : KeyOrder) (form : Form) (options : Options) (source : List ℕ) (held : Option Files) (before after : Option (List ℕ)) : Type 0 where
-  pub input : List ℕ
-  pub is : IsInput held source options.hex input
+-- these bytes start with items that have canonical bytes: behind the texts of all but the last one, not all of its own was taken
+pub record IsCutIn (limits : Bounds) (o : KeyOrder) (form : Form) (bytes : List ℕ) (before after : Option (List ℕ)) : Type 0 where
   pub items : List Spelling
   pub last : Spelling
   pub rest : List ℕ
-  pub starts : StartsWithEach (HasCanonicalBytes options.limits o) input (items ++ last ∷ []) rest
+  pub starts : StartsWithEach (HasCanonicalBytes limits o) bytes (items ++ last ∷ []) rest
   pub count : ℕ
   pub part : count < length (canonical_text o form last)
   pub taken : Appends before after (canonical_texts o form items ++ take count (canonical_text o form last))
 
--- it starts with such items: at least one, or these are all
+-- the input at a path starts so
+abbrev pub IsCutShort : KeyOrder → Form → Options → List ℕ → Option Files → Option (List ℕ) → Option (List ℕ) → Type 0
+IsCutShort o form options source held before after = (input : List ℕ) × IsInput held source options.hex input × IsCutIn options.limits o form input before after
+
+-- what standard output took where the input is not to be had, or not further
+pub data IsSentSoFar (o : KeyOrder) (options : Options) (source : List ℕ) (output : Output) (held : Option Files) (before after : Option (List ℕ)) : Type 0 where
+  -- the texts of items that have canonical bytes
+  of_items : (items : List Spelling) → AreFirst (HasCanonicalBytes options.limits o) options source held items
+      → IsSent output.path.now before after (canonical_texts o output.form items) → IsSentSoFar o options source output held before after
+  -- not all of the last one's: it failed before hex text was found to be none
+  of_cut : is_stream output.path.now ≡ true → (front : List ℕ) → IsFront held source options.hex front → IsCutIn options.limits o output.form front before after
+      → IsSentSoFar o options source output held before after
+
+-- the input at a path starts with such items: at least one, or these are all
 pub record HasFirstTexts (o : KeyOrder) (options : Options) (source : List ℕ) (held : Option Files) : Type 0 where
   pub input : List ℕ
   pub is : IsInput held source options.hex input

@@ -77,7 +77,8 @@ pub record IsSequenceCutOff (options : Options) (source : List ℕ) (held : Opti
   pub cut : IsCutOff start options.limits rest shown
   pub listed : Appends before after (all_lines items ++ shown)
 
--- why it is not listed whole: an item is refused, there is no input, or standard output failed
+-- why it is not listed whole: an item is refused, there is no input, or standard output failed; what it took before it was found that
+-- there is no input stays
 abbrev pub IsSequenceNotListed : Options → List ℕ → Option Files → Option (List ℕ) → Option (List ℕ) → Fault → Type 0
 IsSequenceNotListed options source held before after (faults.RefusedItem index start f) = HasUnlistedItem options source held before after index start f
 IsSequenceNotListed options source held before after faults.CannotPrint = IsSequenceCutOff options source held before after

@@ -3,7 +3,7 @@ use Rattle.std.specs.Prelude.{ℕ, ◌+◌, ◌≡◌, ◌<◌, ◌⊎◌, ◌++
 use Rattle.std.specs.List.{AllByRecursion}
 use Rattle.cbor_head.specs.Spelling.{Spelling, spell}
 use Rattle.cbor_reader.specs.Sequence.{sequence_bytes, EndsBefore}
-use Rattle.cborc_commands.specs.Input.{IsInput}
+use Rattle.cborc_commands.specs.Input.{IsFront}
 use Rattle.cborc_commands.specs.declared.request.Options.{Options}
 use Rattle.cborc_files.specs.Folder.{Files}
 
@@ -32,4 +32,4 @@ pub record GoesOn (P : Spelling → Type 0) (n : ℕ) (input : List ℕ) (items 
 -- the input at a path was read as far as these items, of each of which this holds; of one that is not to be had, there are none
 abbrev pub AreFirst : (Spelling → Type 0) → Options → List ℕ → Option Files → List Spelling → Type 0
 AreFirst P options source held items =
-    (items ≡ []) ⊎ ((input : List ℕ) × (rest : List ℕ) × IsInput held source options.hex input × StartsWithEach P input items rest)
+    (items ≡ []) ⊎ ((front : List ℕ) × (rest : List ℕ) × IsFront held source options.hex front × StartsWithEach P front items rest)

@@ -52,7 +52,8 @@ pub record IsSequenceUnshown (options : Options) (source : List ℕ) (held : Opt
   pub starts : StartsWithEach (IsAccepted options.limits plain) input items rest
   pub some : 0 < length items
 
--- why it is not shown whole: an item is refused, there is no input, or standard output failed
+-- why it is not shown whole: an item is refused, there is no input, or standard output failed; what it took before it was found that
+-- there is no input stays
 abbrev pub IsSequenceNotShown : Layout → Options → List ℕ → Option Files → Option (List ℕ) → Option (List ℕ) → Fault → Type 0
 IsSequenceNotShown layout options source held before after (faults.RefusedItem index start f) = HasUnshownItem layout options source held before after index start f
 IsSequenceNotShown layout options source held before after faults.CannotPrint = IsSequenceUnshown options source held

@@ -12,8 +12,8 @@ use Rattle.cborc_commands.specs.declared.fault.Fault.{Fault}
 use Rattle.cborc_commands.specs.declared.fault.Fault.TheVariants as faults
 use Rattle.cborc_commands.specs.declared.status.Status.{Status}
 
--- the faults after which standard output has what it had: all but its own; `events`, also with `--seq`, and `show --seq` write lines before a refusal, as does
--- `canon --seq` where it writes there
+-- the faults after which standard output has what it had: all but its own; `events`, also with `--seq`, and `show --seq` write lines before a refusal, or before
+-- it is found that hex text is none, as does `canon --seq` where it writes there
 abbrev pub IsSilent : Request → Fault → Option (List ℕ) → Option (List ℕ) → Type 0
 IsSilent (CanonSequence source output order options) fault before after = is_stream output.path.now ≡ false → Keeps before after
 IsSilent (Events source options) fault before after = Unit {0}

@@ -3,3 +3,4 @@ pub mod Explained
 pub mod Items
 pub mod Listed
 pub mod Parts
+pub mod Sources

@@ -21,7 +21,8 @@ use std::io::Write;
 
 /// Writes to `out` a line for each event of each item of the sequence that the file `source` is, but
 /// for the pieces of payloads, with an empty line in front of each item but the first. The offsets
-/// are counted from the start of the file. What was written before a refusal stays.
+/// are counted from the start of the input. What was written before a refusal, or before hex text that
+/// is none, stays.
 pub fn events_sequence<'a, F: Folder, O: Write>(
     alloc: Global,
     files: &mut F,

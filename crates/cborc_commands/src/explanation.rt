@@ -1,8 +1,7 @@
 //! What the line of a fault means, and what to do.
 
 ghost use Rattle.std.specs.Prelude.{◌≡◌};
-ghost use Rattle.cborc_commands.specs.inner.Explained.{cause_text, memory_text, options_of};
-ghost use Rattle.cborc_commands.specs.inner.Explained.{holds_all, right_of, source_of};
+ghost use Rattle.cborc_commands.specs.inner.Explained.{cause_text, options_of, right_of, source_of};
 
 use crate::fault::Fault;
 use crate::request::{Options, Request};
@@ -13,7 +12,7 @@ use std::alloc::Global;
 use std::io::{self, ErrorKind, Write};
 
 /// Writes what the line of a fault means and what to do, and of a refusal the file, the bytes around
-/// its place and the way there. What was read for the request stands in the memory.
+/// its place and the way there. What the answer speaks of stands in the memory.
 pub fn explain<F: Folder, E: Write>(
     alloc: Global,
     request: &Request<'_>,
@@ -25,11 +24,11 @@ pub fn explain<F: Folder, E: Write>(
     match fault {
         Fault::Refused(refusal) => {
             write_file(source_of(request), None, err)?;
-            explain_refusal(alloc, memory.last_from(0), options, *refusal, err)
+            explain_refusal(alloc, memory.last(), options, *refusal, err)
         }
         Fault::RightRefused(refusal) => {
             write_file(right_of(request), None, err)?;
-            explain_refusal(alloc, memory.last_from(0), options, *refusal, err)
+            explain_refusal(alloc, memory.last(), options, *refusal, err)
         }
         Fault::LeftRefused(refusal) => {
             write_file(source_of(request), None, err)?;
@@ -37,8 +36,7 @@ pub fn explain<F: Folder, E: Write>(
         }
         Fault::RefusedItem { start, refusal, .. } => {
             write_file(source_of(request), Some(*start), err)?;
-            let item = memory.last_from(*start as u64);
-            explain_refusal(alloc, item, options, *refusal, err)
+            explain_refusal(alloc, memory.last(), options, *refusal, err)
         }
         Fault::CannotRead(_) | Fault::CannotWrite(_) => write_cause(memory.cause(), err),
         Fault::NotHex(_) => {
@@ -52,7 +50,7 @@ pub fn explain<F: Folder, E: Write>(
             }
         }
         Fault::CannotPrint => writeln!(err, "  It is closed or full, or was closed early."),
-        Fault::Memory => writeln!(err, "  {}", memory_text(holds_all(request))),
+        Fault::Memory => writeln!(err, "  A lower --bytes asks for less memory."),
         Fault::NotText => Ok(()),
     }
 }
@@ -107,30 +105,6 @@ fn right_of<'a>(request: &Request<'a>) -> &'a str
     match request {
         Request::Compare { right, .. } => right,
         _ => source_of(request),
-    }
-}
-
-// Whether a request holds all items of a sequence, whatever the limit on one is.
-fn holds_all(request: &Request<'_>) -> bool
-    ensures { result ≡ holds_all request.now }
-{
-    match request {
-        Request::CanonSequence { options, .. }
-        | Request::CheckSequence { options, .. }
-        | Request::ShowSequence { options, .. }
-        | Request::EventsSequence { options, .. } => options.hex,
-        _ => false,
-    }
-}
-
-// What asks for less memory.
-fn memory_text(holds_all: bool) -> &'static str
-    ensures { result.now ≡ memory_text holds_all }
-{
-    if holds_all {
-        "All items are held here, whatever --bytes is: fewer ask for less memory."
-    } else {
-        "A lower --bytes asks for less memory."
     }
 }
 

@@ -1,6 +1,6 @@
 //! Why the program ends without its answer.
 
-ghost use Rattle.std.specs.Prelude.{◌≡◌, ◌≢◌, ◌⊎◌};
+ghost use Rattle.std.specs.Prelude.{◌≡◌, ◌≢◌};
 ghost use Rattle.std.specs.IoError.{error_kind};
 ghost use Rattle.cborc_files.specs.Digits.{IsOfText};
 ghost use Rattle.cborc_commands.specs.Fault.{fault_status, refusal_fault, at_item, side_fault};
@@ -104,14 +104,13 @@ impl<'a> Fault<'a> {
         }
     }
 
-    /// The fault of reading the file at this path as hex text.
+    /// The fault of decoding the file at this path as hex text.
     pub fn of_digits(path: &'a str, fault: DigitsFault) -> Fault<'a>
         ensures not_hex { IsOfText fault → result ≡ Fault.NotHex path.entry }
-        ensures file { ¬ IsOfText fault
-            → (result ≡ Fault.CannotRead path.entry) ⊎ (result ≡ Fault.Memory) }
+        ensures memory { ¬ IsOfText fault → result ≡ Fault.Memory }
     {
         match fault {
-            DigitsFault::File(fault) => Fault::of_reading(path, fault),
+            DigitsFault::Memory => Fault::Memory,
             DigitsFault::NotHex(_) => Fault::NotHex(path),
         }
     }

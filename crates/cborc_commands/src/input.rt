@@ -1,9 +1,9 @@
 //! The bytes of an input.
 
-ghost use Rattle.std.specs.Prelude.{◌≡◌, ◌⊎◌, true, false, IfOk, IfErr};
+ghost use Rattle.std.specs.Prelude.{◌≡◌, ◌⊎◌, ◌^◌, ◌<◌, true, false, IfOk, IfErr};
 ghost use Rattle.cborc_files.specs.Folder.{KeepsFiles};
 ghost use Rattle.cborc_commands.specs.Input.{IsNoInput};
-ghost use Rattle.cborc_commands.specs.inner.Parts.{StartsInput, StartsDigits, IsDecided};
+ghost use Rattle.cborc_commands.specs.inner.Parts.{StartsInput, IsDecided};
 
 use crate::events::is_undecided;
 use crate::fault::Fault;
@@ -17,8 +17,7 @@ use std::alloc::Global;
 const FIRST: u64 = 1_048_577;
 
 /// The first bytes of the input at this path: as many as decide whether it is one item within the
-/// limits. Of hex text, whose digits are read to their end, these are the byte limit and one more; of
-/// other files no more than twice as many as the item has, or 2^20 and one.
+/// limits, no more than twice as many as the item has, or 2^20 and one. Hex text is read to its end.
 pub fn read_item<'a, F: Folder>(
     alloc: Global,
     files: &mut F,
@@ -31,40 +30,31 @@ pub fn read_item<'a, F: Folder>(
     ensures same { F.behind files.new ≡ F.behind files.old }
 {
     let limits = options.limits;
-    let most = limits.bytes() + 1;
-    if options.hex {
-        return read_digits(alloc, files, path, most);
-    }
-    let mut parts = Parts::open(alloc, files, path, most.min(FIRST) as usize)?;
+    let least = first(options.hex, limits);
+    let mut parts = Parts::open(alloc, files, path, options.hex, least)?;
     'parts: while may_tell_more(&parts, limits) {
         parts.read_on(alloc, files, path)?;
     }
-    Ok(parts.into_rest())
+    parts.finish(alloc, files, path)
+}
+
+// How many bytes of a file are read at first: hex text may have white space in front of its digits.
+fn first(hex: bool, limits: Limits) -> u64
+    ensures some { 0 < result }
+    ensures range { result < 2 ^ 63 }
+{
+    if hex {
+        FIRST
+    } else {
+        FIRST.min(limits.bytes() + 1)
+    }
 }
 
 // Whether the input may go on, with what tells more of its first item.
 fn may_tell_more(parts: &Parts, limits: Limits) -> bool
-    ensures yes { result ≡ true → parts.now.ended ≡ false }
+    ensures yes { result ≡ true → parts.now.source.ended ≡ false }
     ensures no { result ≡ false
-        → (parts.now.ended ≡ true) ⊎ IsDecided limits parts.now.rest }
+        → (parts.now.source.ended ≡ true) ⊎ IsDecided limits parts.now.rest }
 {
     parts.goes_on() && is_undecided(parts.rest(), limits)
-}
-
-/// The first bytes that the hex digits of the input spell, so many if there are.
-pub fn read_digits<'a, F: Folder>(
-    alloc: Global,
-    files: &mut F,
-    path: &'a str,
-    most: u64,
-) -> Result<Vec<u8>, Fault<'a>>
-    ensures front { IfOk result (λ v. StartsDigits (F.held files.old) path.now most v.items) }
-    ensures fault { IfErr result (IsNoInput (F.held files.old) path.now true) }
-    ensures keeps { KeepsFiles (F.held files.old) (F.held files.new) }
-    ensures same { F.behind files.new ≡ F.behind files.old }
-{
-    match files.read_digits(alloc, path, most) {
-        Ok(bytes) => Ok(bytes),
-        Err(fault) => Err(Fault::of_digits(path, fault)),
-    }
 }

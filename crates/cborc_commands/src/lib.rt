@@ -23,6 +23,7 @@ mod request;
 mod sequence;
 mod show;
 mod show_sequence;
+mod source;
 mod status;
 
 pub use answer::{end, flushed, perform};

@@ -1,11 +1,13 @@
 //! An input that is read part by part.
 
-ghost use Rattle.std.specs.Prelude.{◌≡◌, ◌+◌, ◌-◌, ◌^◌, ◌<◌, ◌≤◌, [], length, drop, vec_len, not, true, false, OnOk, IfOk, IfErr};
+ghost use Rattle.std.specs.Prelude.{◌≡◌, ◌+◌, ◌^◌, ◌<◌, ◌≤◌, [], length, drop, vec_len, not, true, false, OnOk, IfOk, IfErr};
 ghost use Rattle.cborc_files.specs.Folder.{KeepsFiles};
 ghost use Rattle.cborc_commands.specs.Input.{IsNoInput};
-ghost use Rattle.cborc_commands.specs.inner.Parts.{PartsView, IsReadTo, IsNextPart, IsFilled};
+ghost use Rattle.cborc_commands.specs.inner.Parts.{PartsView, IsReadTo, IsNextPart};
+ghost use Rattle.cborc_commands.specs.inner.Sources.{IsFresh, IsNoPart, HasInput, HasNoInput};
 
 use crate::fault::Fault;
+use crate::source::Source;
 use cborc_files::Folder;
 use std::alloc::Global;
 use std::marker::Model;
@@ -18,19 +20,20 @@ pub struct Parts {
     taken: usize,
     // Where in the input the next one stands.
     start: usize,
-    // Whether the input ends behind them.
-    ended: bool,
-    // How many are read at a time, where an item does not ask for more.
-    least: usize,
+    // The file that they are read of.
+    source: Source,
+    // How many bytes of it are read at a time, where an item does not ask for more.
+    least: u64,
 }
 
 impl Model for Parts {
     ghost Value = { PartsView };
 
-    ghost view = { λ p. record { rest = drop p.taken p.bytes.items; start = p.start; ended = p.ended } };
+    ghost view = { λ p. record { rest = drop p.taken p.bytes.items; start = p.start; source = p.source } };
 
     ghost invariant = { λ p. (p.taken ≤ vec_len p.bytes)
-        × (p.start + vec_len p.bytes < 2 ^ 63 + p.taken) × (0 < p.least) × (p.least < 2 ^ 63) };
+        × (p.start + vec_len p.bytes ≤ p.source.size + p.taken) × (p.source.size < 2 ^ 63)
+        × (0 < p.least) × (p.least < 2 ^ 63) };
 }
 
 impl Parts {
@@ -40,38 +43,34 @@ impl Parts {
         alloc: Global,
         files: &mut F,
         path: &'a str,
-        least: usize,
+        hex: bool,
+        least: u64,
     ) -> Result<Parts, Fault<'a>>
         requires some { 0 < least }
         requires range { least < 2 ^ 63 }
-        ensures begins { IfOk result (IsReadTo (F.held files.old) path.now false []) }
-        ensures fault { IfErr result (IsNoInput (F.held files.old) path.now false) }
+        ensures begins { IfOk result (IsReadTo (F.held files.old) path.now hex []) }
+        ensures fault { IfErr result (IsNoInput (F.held files.old) path.now hex) }
         ensures keeps { KeepsFiles (F.held files.old) (F.held files.new) }
         ensures same { F.behind files.new ≡ F.behind files.old }
     {
-        let mut parts = Parts::at_start(Vec::new(alloc), false, least);
+        let mut parts = Parts::unread(alloc, hex, least);
         parts.read_on(alloc, files, path)?;
         Ok(parts)
     }
 
-    /// An input that is these bytes.
-    pub fn whole(bytes: Vec<u8>) -> Parts
-        ensures { result ≡ record { rest = bytes.items; start = 0; ended = true } }
-    {
-        Parts::at_start(bytes, true, 1)
-    }
-
-    // The first bytes of an input, or all.
-    fn at_start(bytes: Vec<u8>, ended: bool, least: usize) -> Parts
+    // An input of which nothing was read.
+    fn unread(alloc: Global, hex: bool, least: u64) -> Parts
         requires some { 0 < least }
         requires range { least < 2 ^ 63 }
-        ensures { result ≡ record { rest = bytes.items; start = 0; ended = ended } }
+        ensures rest { result.rest ≡ [] }
+        ensures start { result.start ≡ 0 }
+        ensures source { IsFresh hex result.source }
     {
         Parts {
-            bytes,
+            bytes: Vec::new(alloc),
             taken: 0,
             start: 0,
-            ended,
+            source: Source::new(hex),
             least,
         }
     }
@@ -93,9 +92,17 @@ impl Parts {
 
     /// Whether the input may go on behind them.
     pub fn goes_on(&self) -> bool
-        ensures { result ≡ not self.now.ended }
+        ensures { result ≡ not self.now.source.ended }
     {
-        !self.ended
+        !self.source.ended
+    }
+
+    /// Whether there are none, and the input may go on.
+    pub fn is_spent(&self) -> bool
+        ensures yes { result ≡ true → self.now.source.ended ≡ false }
+        ensures no { result ≡ false → self.now.rest ≡ [] → self.now.source.ended ≡ true }
+    {
+        self.goes_on() && self.rest().is_empty()
     }
 
     /// Takes so many of them.
@@ -103,42 +110,14 @@ impl Parts {
         requires { size ≤ length self.old.rest }
         ensures rest { self.new.rest ≡ drop size self.old.rest }
         ensures start { self.new.start ≡ self.old.start + size }
-        ensures ended { self.new.ended ≡ self.old.ended }
+        ensures source { self.new.source ≡ self.old.source }
     {
         self.taken += size;
         self.start += size;
     }
 
-    /// The bytes that were read and are still to be taken, alone.
-    pub fn into_rest(self) -> Vec<u8>
-        ensures { result.items ≡ self.rest }
-    {
-        let mut bytes = self.bytes;
-        remove_front(&mut bytes, self.taken);
-        bytes
-    }
-
-    /// Reads the next part where nothing is left to be taken and the input may go on.
-    pub fn fill<'a, F: Folder>(
-        &mut self,
-        alloc: Global,
-        files: &mut F,
-        path: &'a str,
-    ) -> Result<(), Fault<'a>>
-        ensures filled { OnOk result (IsFilled (F.held files.old) path.now self.old self.new) }
-        ensures fault { IfErr result (IsNoInput (F.held files.old) path.now false) }
-        ensures keeps { KeepsFiles (F.held files.old) (F.held files.new) }
-        ensures same { F.behind files.new ≡ F.behind files.old }
-    {
-        if self.goes_on() && self.rest().is_empty() {
-            self.read_on(alloc, files, path)
-        } else {
-            Ok(())
-        }
-    }
-
-    /// Reads the next part of an input that goes on: as many bytes again as are still to be taken, so
-    /// that what an item is judged by doubles.
+    /// Reads the next part of an input that goes on: as much of its file as bytes are still to be
+    /// taken, so that what an item is judged by doubles, or in hex text has half as many more.
     pub fn read_on<'a, F: Folder>(
         &mut self,
         alloc: Global,
@@ -146,25 +125,45 @@ impl Parts {
         path: &'a str,
     ) -> Result<(), Fault<'a>>
         ensures read { OnOk result (IsNextPart (F.held files.old) path.now self.old self.new) }
-        ensures fault { IfErr result (IsNoInput (F.held files.old) path.now false) }
+        ensures fault { IfErr result (IsNoPart (F.held files.old) path.now self.old.source) }
         ensures keeps { KeepsFiles (F.held files.old) (F.held files.new) }
         ensures same { F.behind files.new ≡ F.behind files.old }
     {
         remove_front(&mut self.bytes, self.taken);
         self.taken = 0;
-        let held = self.bytes.len();
-        let most = held.max(self.least);
-        let from = (self.start + held) as u64;
-        match files.read_on(alloc, path, from, most as u64, &mut self.bytes) {
-            Ok(()) => {
-                self.ended = self.bytes.len() < held + most;
-                Ok(())
-            }
+        let most = (self.bytes.len() as u64).max(self.least);
+        match self
+            .source
+            .append(alloc, files, path, most, &mut self.bytes)
+        {
+            Ok(()) => Ok(()),
             Err(fault) => {
                 self.bytes.clear();
-                Err(Fault::of_reading(path, fault))
+                Err(fault)
             }
         }
+    }
+
+    /// The bytes that were read and are still to be taken, once an answer speaks of them: then hex
+    /// text is read to its end.
+    pub fn finish<'a, F: Folder>(
+        self,
+        alloc: Global,
+        files: &mut F,
+        path: &'a str,
+    ) -> Result<Vec<u8>, Fault<'a>>
+        ensures rest { IfOk result (λ v. v.items ≡ self.rest) }
+        ensures input { IfOk result (λ _. HasInput (F.held files.old) path.now self.source) }
+        ensures fault { IfErr result (HasNoInput (F.held files.old) path.now self.source) }
+        ensures keeps { KeepsFiles (F.held files.old) (F.held files.new) }
+        ensures same { F.behind files.new ≡ F.behind files.old }
+    {
+        let mut bytes = self.bytes;
+        let mut source = self.source;
+        remove_front(&mut bytes, self.taken);
+        files.remember(alloc, bytes.as_slice());
+        source.read_out(alloc, files, path)?;
+        Ok(bytes)
     }
 }
 

@@ -8,14 +8,12 @@ ghost use Rattle.cbor_reader.specs.Sequence.{EndsBefore};
 ghost use Rattle.cborc_files.specs.Folder.{KeepsFiles};
 ghost use Rattle.cborc_commands.specs.Fault.{refusal_fault};
 ghost use Rattle.cborc_commands.specs.declared.fault.Fault.{Fault};
-ghost use Rattle.cborc_commands.specs.Input.{IsNoInput};
-ghost use Rattle.cborc_commands.specs.inner.Parts.{IsReadTo};
 ghost use Rattle.cborc_commands.specs.inner.Items.{IsWritten, IsPutBack, AreWrittenOf, AreStoppedOf};
 
 use crate::fault::Fault;
-use crate::input::read_digits;
 use crate::parts::Parts;
 use crate::request::Options;
+use crate::source::PART;
 use cbor_head::{Limits, Reason, Refusal};
 use cborc_files::Folder;
 use std::alloc::Global;
@@ -57,8 +55,9 @@ pub trait ItemWriter {
 }
 
 /// Writes what is written of each item of the sequence that the input at this path is, and answers
-/// how many they are. The input is read as far as its items are taken. The fault of an item that is
-/// refused tells its number and where it starts; what was written of those before it stays.
+/// how many they are. The input is read as far as its items are taken, and hex text to its end: one
+/// that is none is told in place of any other fault. The fault of an item that is refused tells its
+/// number and where it starts; what was written of those before it stays.
 pub fn write_items<'a, V: ItemWriter, F: Folder, W: Write>(
     alloc: Global,
     writer: &V,
@@ -76,10 +75,13 @@ pub fn write_items<'a, V: ItemWriter, F: Folder, W: Write>(
     ensures same { F.behind files.new ≡ F.behind files.old }
 {
     let limits = options.limits;
-    let mut parts = open(alloc, files, source, options)?;
+    let mut parts = Parts::open(alloc, files, source, options.hex, PART)?;
     let mut count = 0;
     'items: loop {
-        parts.fill(alloc, files, source)?;
+        if parts.is_spent() {
+            parts.read_on(alloc, files, source)?;
+            continue;
+        }
         if ends_before(parts.rest(), limits) {
             return Ok(count);
         }
@@ -91,31 +93,11 @@ pub fn write_items<'a, V: ItemWriter, F: Folder, W: Write>(
                 count += 1;
             }
             Ok(None) => parts.read_on(alloc, files, source)?,
-            Err(fault) => return Err(fault.at_item(count + 1, start)),
+            Err(fault) => {
+                parts.finish(alloc, files, source)?;
+                return Err(fault.at_item(count + 1, start));
+            }
         }
-    }
-}
-
-// How many bytes of a sequence are read at a time, where an item does not ask for more.
-const PART: usize = 65_536;
-
-// The input at this path. Hex text is read whole.
-fn open<'a, F: Folder>(
-    alloc: Global,
-    files: &mut F,
-    source: &'a str,
-    options: Options,
-) -> Result<Parts, Fault<'a>>
-    ensures begins { IfOk result (IsReadTo (F.held files.old) source.now options.hex []) }
-    ensures fault { IfErr result (IsNoInput (F.held files.old) source.now options.hex) }
-    ensures keeps { KeepsFiles (F.held files.old) (F.held files.new) }
-    ensures same { F.behind files.new ≡ F.behind files.old }
-{
-    if options.hex {
-        let bytes = read_digits(alloc, files, source, u64::MAX)?;
-        Ok(Parts::whole(bytes))
-    } else {
-        Parts::open(alloc, files, source, PART)
     }
 }
 

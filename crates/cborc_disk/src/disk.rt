@@ -1,11 +1,10 @@
 //! The machine's files.
 
-ghost use Rattle.std.specs.Prelude.{◌≡◌, ◌≢◌, IfErr, OnOk};
+ghost use Rattle.std.specs.Prelude.{◌≡◌, ◌≢◌, OnOk};
 ghost use Rattle.cborc_disk.specs.Disk.{IsAppended};
-ghost use Rattle.cborc_disk.specs.inner.Texts.{HasPushed, IsNoText};
 
 use crate::replacement::Replacement;
-use cborc_files::{Cause, Digits, DigitsFault, FileFault, Folder, is_stream};
+use cborc_files::{Cause, FileFault, Folder, is_stream};
 use std::alloc::{AllocError, Global};
 use std::fs;
 use std::io::{self, BufWriter, ErrorKind, Input, Read, Write};
@@ -90,22 +89,6 @@ impl<'a, R: Files + Input + RandomSource + AllocGlobal> Folder for Disk<'a, R> {
         }
     }
 
-    fn read_digits(
-        &mut self,
-        alloc: Global,
-        path: &str,
-        most: u64,
-    ) -> Result<Vec<u8>, DigitsFault> {
-        let mut digits = Digits::new(alloc, most);
-        match push_at(self.rt, path, &mut digits) {
-            Ok(()) => digits.finish(),
-            Err(TextFault::Digits(fault)) => Err(fault),
-            Err(TextFault::Reading(error)) => {
-                Err(DigitsFault::File(self.fault_of(Cause::from(error))))
-            }
-        }
-    }
-
     fn begin(&mut self, path: &str) -> Result<BufWriter<Replacement<'a, R>>, AllocError> {
         let replacement = Replacement::new(self.rt, path)?;
         match BufWriter::new(self.rt.alloc(), replacement) {
@@ -139,51 +122,6 @@ impl<'a, R: Files + Input + RandomSource + AllocGlobal> Folder for Disk<'a, R> {
     fn cause(&self) -> Option<Cause> {
         self.cause
     }
-}
-
-// Why text was not read to its end.
-#[derive(Debug, Drop)]
-enum TextFault {
-    Reading(io::Error),
-    Digits(DigitsFault),
-}
-
-// Hands the text that a path stands for to the digits, part by part, as far as they take it.
-fn push_at<R: Files + Input>(rt: &R, path: &str, digits: &mut Digits) -> Result<(), TextFault>
-    ensures read { OnOk result (HasPushed digits.old digits.new) }
-    ensures not_hex { IfErr result (IsNoText digits.old) }
-{
-    if is_stream(path) {
-        push_from(rt.reader(), digits)
-    } else {
-        match fs::open(rt, path) {
-            Ok(file) => push_from(file, digits),
-            Err(error) => Err(TextFault::Reading(error)),
-        }
-    }
-}
-
-// Hands the text of a reader to the digits, part by part, as far as they take it.
-fn push_from<S: Read + Drop>(mut source: S, digits: &mut Digits) -> Result<(), TextFault>
-    ensures read { OnOk result (HasPushed digits.old digits.new) }
-    ensures not_hex { IfErr result (IsNoText digits.old) }
-{
-    let mut part = [0; 4096];
-    'parts: for _ in 0..u64::MAX {
-        let count = match source.read(&mut part) {
-            Ok(count) => count.min(4096),
-            Err(error) if error.kind() == ErrorKind::Interrupted => continue,
-            Err(error) => return Err(TextFault::Reading(error)),
-        };
-        if count == 0 {
-            break;
-        }
-        match digits.push_all(&part[..count]) {
-            Ok(()) => {}
-            Err(fault) => return Err(TextFault::Digits(fault)),
-        }
-    }
-    Ok(())
 }
 
 /// Appends the next bytes of a reader, so many if it has them.

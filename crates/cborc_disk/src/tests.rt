@@ -1,7 +1,7 @@
 //! The machine's files.
 
 use crate::Disk;
-use cborc_files::{DigitsFault, FileFault, Folder};
+use cborc_files::{FileFault, Folder};
 use std::io::Write;
 use std::{env, fs, io, process};
 
@@ -50,32 +50,25 @@ fn replaces_a_file_or_leaves_it(rt: HostRuntime) -> io::Result<()> {
     fs::remove_file(&rt, path)
 }
 
-// Hex text that is longer than one part of a file.
 #[test]
-fn decodes_as_it_reads(rt: HostRuntime) -> io::Result<()> {
+fn reads_on_where_it_ended(rt: HostRuntime) -> io::Result<()> {
     let alloc = rt.alloc();
     let folder = env::temp_dir(&rt)?;
     let folder = folder.as_str();
     let id = process::id(rt.process());
-    let path = format!(in alloc; "{folder}/cborc-digits-{id}")?;
+    let path = format!(in alloc; "{folder}/cborc-parts-{id}")?;
     let mut disk = Disk::new(&rt);
-    assert!(rt; disk.read_digits(alloc, path.as_str(), 1).is_err());
-    let mut text = "1 8\n64 ".repeat(alloc, 3000)?;
+    let text = "1 8\n64 ".repeat(alloc, 3000)?;
     disk.write(path.as_str(), text.as_bytes())
         .map_err(error_of)?;
-    for (most, wanted) in [(0, 0), (1, 1), (5999, 5999), (u64::MAX, 6000)] {
-        let Ok(read) = disk.read_digits(alloc, path.as_str(), most) else {
-            return Err(error_of(FileFault::Failed));
-        };
-        assert!(rt; read.len() == wanted && read.iter().all(|byte| *byte == 0x18 || *byte == 0x64));
-    }
-    for behind in ["f", "g"] {
-        text.push_str(behind)?;
-        disk.write(path.as_str(), text.as_bytes())
+    let mut bytes = Vec::new(alloc);
+    for wanted in [8000, 16_000, 21_000, 21_000] {
+        let from = bytes.len() as u64;
+        disk.read_on(alloc, path.as_str(), from, 8000, &mut bytes)
             .map_err(error_of)?;
-        let refused = disk.read_digits(alloc, path.as_str(), 1);
-        assert!(rt; matches!(refused, Err(DigitsFault::NotHex(_))), "{behind}");
+        assert!(rt; bytes.len() == wanted);
     }
+    assert!(rt; bytes.as_slice() == text.as_bytes());
     fs::remove_file(&rt, path.as_str())
 }
 

@@ -1,15 +1,15 @@
 -- What the digits of a text spell, and one more.
-use Rattle.std.proofs.Common.{ℕ, ◌+◌, ◌*◌, ◌%◌, ◌<◌, ◌≤◌, ◌≡◌, Bool, true, false, List, [], ◌∷◌, ◌++◌, length, take, drop, slice_index, Option, Some, None, Result, Ok, Err, refl, sym, ap, ◌∙◌, subst, arith, eq-eqb, append_assoc, length-append}
+use Rattle.std.proofs.Common.{ℕ, ◌+◌, ◌*◌, ◌%◌, ◌<◌, ◌≡◌, Bool, true, false, List, [], ◌∷◌, ◌++◌, length, take, drop, slice_index, Option, Some, None, Result, Ok, Err, refl, sym, ap, ◌∙◌, subst, arith, eq-eqb, append_assoc, length-append}
 use Rattle.std.specs.Prelude.{◌==◌, if◌then◌else◌, IsErr}
 use Rattle.std.specs.List.{filter}
-use Rattle.std.proofs.lemmas.List.{drop_more, take-append-drop, take_all, take-append-le, length-take}
+use Rattle.std.proofs.lemmas.List.{append-nil, drop_more, take_more, take-append-drop}
 use Rattle.std.proofs.lemmas.List.Elements.{filter-append}
 use Rattle.hex.specs.Hex.{decode_of, decode_pairs, digit_or_error, hex_digit_value, pair_value, value_at, ◌>>=◌}
 use Rattle.hex.specs.declared.error.FromHexError.{FromHexError}
 use Rattle.hex.specs.declared.error.FromHexError.TheVariants.{InvalidHexCharacter, OddLength}
 use Rattle.hex.proofs.Pairs.{cons_byte, decode_pairs-ok_pair}
 use Rattle.cborc_files.specs.Hex.{is_kept, is_white}
-use Rattle.cborc_files.specs.Digits.{DigitsView, Spells}
+use Rattle.cborc_files.specs.Digits.{DigitsView, EndsIn, Spells, SpellsOn, IsStrayIn, IsWhole}
 
 -- ---- decoding
 
@@ -87,80 +87,116 @@ odd_fails digits k e = by_test (length digits % 2 == 1) (decode_pairs 0 digits) 
 kept_byte : (byte : ℕ) (more : List ℕ) → false ≡ is_white byte → filter is_kept (byte ∷ more) ≡ byte ∷ filter is_kept more
 kept_byte byte more e = rw (← e) refl
 
+white_byte : (byte : ℕ) → true ≡ is_white byte → filter is_kept (byte ∷ []) ≡ []
+white_byte byte e = rw (← e) refl
+
+-- the digits of a text and one more
+kept_more : (text : List ℕ) (byte : ℕ) → false ≡ is_white byte → filter is_kept (text ++ byte ∷ []) ≡ filter is_kept text ++ byte ∷ []
+kept_more text byte apart = filter-append is_kept text (byte ∷ []) ∙ ap (λ (x : List ℕ). filter is_kept text ++ x) (kept_byte byte [] apart)
+
 -- a byte that is neither white space nor a digit
-pub no_digit : (text more : List ℕ) (byte : ℕ) → false ≡ is_white byte → hex_digit_value byte ≡ None → IsErr (decode_of (filter is_kept (text ++ byte ∷ more)))
-no_digit text more byte apart none =
+pub no_digit : (d : DigitsView) (byte : ℕ) → false ≡ is_white byte → hex_digit_value byte ≡ None → IsStrayIn (byte ∷ []) d
+no_digit d byte apart none text spelled more h =
     let digits : filter is_kept (text ++ byte ∷ more) ≡ filter is_kept text ++ byte ∷ filter is_kept more = filter-append is_kept text (byte ∷ more) ∙ ap (λ (x : List ℕ). filter is_kept text ++ x) (kept_byte byte more apart) in
     subst (λ (x : List ℕ). IsErr (decode_of x)) (sym digits)
     (either_err (length (filter is_kept text ++ byte ∷ filter is_kept more) % 2 == 1) _ (never 0 (filter is_kept text) (filter is_kept more) byte none))
 
-abbrev pub digits_view : ℕ → List ℕ → Option ℕ → DigitsView
-digits_view most bytes high = record { most = most; bytes = bytes; high = high }
+-- ---- the next byte
 
--- a digit behind one that waits
-module _ (text : List ℕ) (most : ℕ) (bytes : List ℕ) (high byte value : ℕ) (apart : false ≡ is_white byte) (is : hex_digit_value byte ≡ Some value)
-    (h : Spells text (digits_view most bytes (Some high))) where
-  digits_are : filter is_kept (text ++ byte ∷ []) ≡ h.pairs ++ h.ends.0 ∷ byte ∷ []
-  digits_are =
-      filter-append is_kept text (byte ∷ []) ∙ ap (λ (x : List ℕ). filter is_kept text ++ x) (kept_byte byte [] apart)
-      ∙ ap (λ (x : List ℕ). x ++ byte ∷ []) h.ends.1 ∙ append_assoc h.pairs (h.ends.0 ∷ []) (byte ∷ [])
+abbrev pub digits_view : Option ℕ → DigitsView
+digits_view high = record { high = high }
 
-  spelled_are : decode_pairs 0 (h.pairs ++ h.ends.0 ∷ byte ∷ []) ≡ Ok (h.whole ++ (high * 16 + value) ∷ [])
-  spelled_are = one_more 0 h.pairs h.whole h.ends.0 byte (high * 16 + value) h.spelled (λ j. pair_is j h.ends.0 byte high value h.ends.2 is)
-
-  whole_byte : (kept : List ℕ) → kept ≡ take most (h.whole ++ (high * 16 + value) ∷ []) → Spells (text ++ byte ∷ []) (digits_view most kept None)
-  whole_byte kept e = record {
-    pairs = h.pairs ++ h.ends.0 ∷ byte ∷ [];
-    whole = h.whole ++ (high * 16 + value) ∷ [];
-    ends = digits_are;
-    spelled = spelled_are;
-    front = e;
+module _ (before : List ℕ) where
+  pub white : (d : DigitsView) (byte : ℕ) → true ≡ is_white byte → SpellsOn (byte ∷ []) d d before before
+  white d byte e = record {
+    more = [];
+    added = sym (append-nil before);
+    few = omega arith;
+    goes_on = λ text spelled h.
+        let same : filter is_kept (text ++ byte ∷ []) ≡ filter is_kept text =
+        filter-append is_kept text (byte ∷ []) ∙ ap (λ (x : List ℕ). filter is_kept text ++ x) (white_byte byte e) ∙ append-nil (filter is_kept text) in
+        record {
+          pairs = h.pairs;
+          ends = subst (λ (x : List ℕ). EndsIn x h.pairs d.high) (sym same) h.ends;
+          is = h.is ∙ ap ok (sym (append-nil spelled));
+        };
   }
 
-  size : length bytes ≡ length (take most h.whole)
-  size = ap length h.front
+  module _ (byte value : ℕ) (apart : false ≡ is_white byte) (is : hex_digit_value byte ≡ Some value) where
+    pub waits : SpellsOn (byte ∷ []) (digits_view None) (digits_view (Some value)) before before
+    waits = record {
+      more = [];
+      added = sym (append-nil before);
+      few = omega arith;
+      goes_on = λ text spelled h. record {
+        pairs = h.pairs;
+        ends = (byte, kept_more text byte apart ∙ ap (λ (x : List ℕ). x ++ byte ∷ []) h.ends, is);
+        is = h.is ∙ ap ok (sym (append-nil spelled));
+      };
+    }
 
-  pub byte_kept : (kept : List ℕ) → length bytes < most → kept ≡ bytes ++ (high * 16 + value) ∷ [] → Spells (text ++ byte ∷ []) (digits_view most kept None)
-  byte_kept kept room e =
-      let all : length h.whole ≤ most = omega (arith, size, room, length-take most h.whole) in
-      let all_kept : bytes ≡ h.whole = h.front ∙ take_all most h.whole all in
-      let fits : length (h.whole ++ (high * 16 + value) ∷ []) ≤ most = omega (arith, room, ap length all_kept, length-append h.whole ((high * 16 + value) ∷ [])) in
-      whole_byte kept (e ∙ ap (λ (x : List ℕ). x ++ (high * 16 + value) ∷ []) all_kept ∙ sym (take_all most (h.whole ++ (high * 16 + value) ∷ []) fits))
+    -- behind a digit that waits
+    pub completes : (high : ℕ) (after : List ℕ) → after ≡ before ++ (high * 16 + value) ∷ [] → SpellsOn (byte ∷ []) (digits_view (Some high)) (digits_view None) before after
+    completes high after e = record {
+      more = (high * 16 + value) ∷ [];
+      added = e;
+      few = omega arith;
+      goes_on = λ text spelled h. record {
+        pairs = h.pairs ++ h.ends.0 ∷ byte ∷ [];
+        ends = kept_more text byte apart ∙ ap (λ (x : List ℕ). x ++ byte ∷ []) h.ends.1 ∙ append_assoc h.pairs (h.ends.0 ∷ []) (byte ∷ []);
+        is = one_more 0 h.pairs spelled h.ends.0 byte (high * 16 + value) h.is (λ j. pair_is j h.ends.0 byte high value h.ends.2 is);
+      };
+    }
 
-  pub byte_dropped : (length bytes < most → ⊥) → Spells (text ++ byte ∷ []) (digits_view most bytes None)
-  byte_dropped full =
-      let none_left : most ≤ length h.whole = omega (arith, size, full, length-take most h.whole) in
-      whole_byte bytes (h.front ∙ sym (take-append-le most h.whole ((high * 16 + value) ∷ []) none_left))
+-- ---- the next bytes
 
-pub waits : (text : List ℕ) (most : ℕ) (bytes : List ℕ) (byte value : ℕ) → false ≡ is_white byte → hex_digit_value byte ≡ Some value → Spells text (digits_view most bytes None)
-    → Spells (text ++ byte ∷ []) (digits_view most bytes (Some value))
-waits text most bytes byte value apart is h = record {
-  pairs = h.pairs;
-  whole = h.whole;
-  ends = (byte, filter-append is_kept text (byte ∷ []) ∙ ap (λ (x : List ℕ). filter is_kept text ++ x) (kept_byte byte [] apart) ∙ ap (λ (x : List ℕ). x ++ byte ∷ []) h.ends, is);
-  spelled = h.spelled;
-  front = h.front;
+pub spells_none : (d : DigitsView) (before : List ℕ) → SpellsOn [] d d before before
+spells_none d before = record {
+  more = [];
+  added = sym (append-nil before);
+  few = omega arith;
+  goes_on = λ text spelled h.
+      subst (λ (x : List ℕ). Spells x (spelled ++ []) d) (sym (append-nil text)) (subst (λ (x : List ℕ). Spells text x d) (sym (append-nil spelled)) h);
 }
 
-pub none_yet : (most : ℕ) (bytes : List ℕ) → bytes ≡ [] → Spells [] (digits_view most bytes None)
+-- these bytes of a text, and then one more
+module _ (text : List ℕ) (i : ℕ) (within : i < length text) (old middle : DigitsView) (before between : List ℕ) (h : SpellsOn (take i text) old middle before between) where
+  front : take (i + 1) text ≡ take i text ++ slice_index text i ∷ []
+  front = take_more text i 0 within
+
+  pub spells_more : (new : DigitsView) (after : List ℕ) → SpellsOn (slice_index text i ∷ []) middle new between after → SpellsOn (take (i + 1) text) old new before after
+  spells_more new after k = subst (λ (x : List ℕ). SpellsOn x old new before after) (sym front) (record {
+    more = h.more ++ k.more;
+    added = k.added ∙ ap (λ (x : List ℕ). x ++ k.more) h.added ∙ append_assoc before h.more k.more;
+    few = omega (arith, h.few, k.few, length-append h.more k.more, length-append (take i text) (slice_index text i ∷ []));
+    goes_on = λ earlier spelled s.
+        subst (λ (x : List ℕ). Spells x (spelled ++ (h.more ++ k.more)) new) (append_assoc earlier (take i text) (slice_index text i ∷ []))
+        (subst (λ (x : List ℕ). Spells ((earlier ++ take i text) ++ slice_index text i ∷ []) x new) (append_assoc spelled h.more k.more)
+        (k.goes_on (earlier ++ take i text) (spelled ++ h.more) (h.goes_on earlier spelled s)));
+  })
+
+  -- that one is no digit
+  pub stray_behind : IsStrayIn (slice_index text i ∷ []) middle → IsStrayIn text old
+  stray_behind k earlier spelled more s =
+      let there : (earlier ++ take i text) ++ slice_index text i ∷ (drop (i + 1) text ++ more) ≡ earlier ++ (text ++ more) =
+      append_assoc earlier (take i text) (slice_index text i ∷ (drop (i + 1) text ++ more))
+      ∙ ap (λ (x : List ℕ). earlier ++ x) (sym (append_assoc (take i text) (slice_index text i ∷ drop (i + 1) text) more)
+      ∙ ap (λ (x : List ℕ). x ++ more) (ap (λ (x : List ℕ). take i text ++ x) (sym (drop_more text i 0 within)) ∙ take-append-drop i text)) in
+      subst (λ (x : List ℕ). IsErr (decode_of (filter is_kept x))) there
+      (k (earlier ++ take i text) (spelled ++ h.more) (drop (i + 1) text ++ more) (h.goes_on earlier spelled s))
+
+-- ---- the end of the text
+
+pub none_yet : Spells [] [] (digits_view None)
 unfolding decode_pairs
-none_yet most bytes e = record { pairs = []; whole = []; ends = refl; spelled = refl; front = e ∙ sym (take_all most [] (omega arith)) }
+none_yet = record { pairs = []; ends = refl; is = refl }
 
--- the end of the text
-module _ (text : List ℕ) (most : ℕ) (bytes : List ℕ) where
-  pub all_spelled : Spells text (digits_view most bytes None) → (whole : List ℕ) × (decode_of (filter is_kept text) ≡ Ok whole) × (bytes ≡ take most whole)
-  all_spelled h =
-      let even : (length h.pairs % 2 == 1) ≡ false = grind (arith, twice 0 h.pairs h.whole h.spelled) in
-      (h.whole, ap decode_of h.ends ∙ by_other (length h.pairs % 2 == 1) (decode_pairs 0 h.pairs) even ∙ h.spelled, h.front)
+pub all_spelled : IsWhole (digits_view None)
+all_spelled text spelled h =
+    let even : (length h.pairs % 2 == 1) ≡ false = grind (arith, twice 0 h.pairs spelled h.is) in
+    ap decode_of h.ends ∙ by_other (length h.pairs % 2 == 1) (decode_pairs 0 h.pairs) even ∙ h.is
 
-  pub one_alone : (high : ℕ) → Spells text (digits_view most bytes (Some high)) → IsErr (decode_of (filter is_kept text))
-  one_alone high h =
-      odd_fails (filter is_kept text) (length h.whole)
-      (omega (arith, ap length h.ends.1, length-append h.pairs (h.ends.0 ∷ []), twice 0 h.pairs h.whole h.spelled))
-
--- a byte among others
-pub among : (text bytes more : List ℕ) (i : ℕ) → i < length bytes → (text ++ take i bytes) ++ slice_index bytes i ∷ (drop (i + 1) bytes ++ more) ≡ text ++ (bytes ++ more)
-among text bytes more i h =
-    append_assoc text (take i bytes) (slice_index bytes i ∷ (drop (i + 1) bytes ++ more))
-    ∙ ap (λ (x : List ℕ). text ++ x) (sym (append_assoc (take i bytes) (slice_index bytes i ∷ drop (i + 1) bytes) more)
-    ∙ ap (λ (x : List ℕ). x ++ more) (ap (λ (x : List ℕ). take i bytes ++ x) (sym (drop_more bytes i 0 h)) ∙ take-append-drop i bytes))
+pub one_alone : (high : ℕ) (text spelled : List ℕ) → Spells text spelled (digits_view (Some high)) → IsErr (decode_of (filter is_kept text))
+one_alone high text spelled h =
+    odd_fails (filter is_kept text) (length spelled)
+    (omega (arith, ap length h.ends.1, length-append h.pairs (h.ends.0 ∷ []), twice 0 h.pairs spelled h.is))

@@ -1,5 +1,5 @@
 -- What the files of a folder hold.
-use Rattle.std.specs.Prelude.{ℕ, ◌+◌, ◌^◌, ◌≡◌, ◌≢◌, ◌<◌, ◌++◌, Bool, List, [], codes, length, take, drop, Option, None, Some, MatchResult, Result, Ok, IsErr}
+use Rattle.std.specs.Prelude.{ℕ, ◌+◌, ◌^◌, ◌≡◌, ◌≢◌, ◌<◌, ◌++◌, Bool, List, [], codes, length, take, drop, Option, None, Some, MatchResult, Result, IsErr}
 use Rattle.std.specs.List.{filter}
 use Rattle.std.specs.Str.{bytes_eq}
 use Rattle.hex.specs.Hex.{decode_of}
@@ -28,14 +28,6 @@ pub record ReadsOn (held : Option Files) (path : List ℕ) (from most : ℕ) (ol
 -- what was added behind the first from bytes of a file ends where one can end: within 63 bits
 abbrev pub IsWithin : ℕ → List ℕ → List ℕ → Type 0
 IsWithin from old new = length old < length new → from + length new < 2 ^ 63 + length old
-
--- the file at this path is hex text, and these are the first bytes that its digits spell: all of them, or they are so many
-pub record SpellsFront (held : Option Files) (path : List ℕ) (most : ℕ) (bytes : List ℕ) : Type 0 where
-  pub text : List ℕ
-  pub holds : Holds held path text
-  pub whole : List ℕ
-  pub spelled : decode_of (filter is_kept text) ≡ Ok whole
-  pub front : bytes ≡ take most whole
 
 -- the text of the file at this path spells no bytes
 abbrev pub IsNoDigits : Option Files → List ℕ → Type 0

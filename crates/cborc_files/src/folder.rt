@@ -2,11 +2,10 @@
 
 ghost use Rattle.std.specs.Prelude.{◌≡◌, ◌++◌, take, drop, Option, None, OnOk, OnErr, IfOk, IfErr, IfSome};
 ghost use Rattle.std.specs.Borrow.{GName};
-ghost use Rattle.cborc_files.specs.Digits.{IsOfText};
 ghost use Rattle.cborc_files.specs.Folder.{Files, is_stream, Holds, ReadsOn, IsWithin, KeepsFiles};
-ghost use Rattle.cborc_files.specs.Folder.{IsBlank, ReplacesFile, WritesFile, IsNoDigits, SpellsFront};
+ghost use Rattle.cborc_files.specs.Folder.{IsBlank, ReplacesFile, WritesFile};
 
-use crate::hex_text::{Digits, DigitsFault};
+use crate::hex_text::DigitsFault;
 use std::alloc::{AllocError, Global};
 use std::io::{self, ErrorKind, Write};
 
@@ -112,24 +111,18 @@ pub trait Folder {
         append_part(whole.as_slice(), from, most, bytes)
     }
 
-    /// Reads hex text whole, and answers the first bytes that its digits spell, so many if there are.
-    /// A folder that can read a part of a file at a time goes no further than the first byte that is
-    /// neither a digit nor white space, and keeps no more than the answer.
-    fn read_digits(&mut self, alloc: Global, path: &str, most: u64) -> Result<Vec<u8>, DigitsFault>
-        ensures gives { IfOk result (λ v. SpellsFront (held self.old) path.now most v.items) }
-        ensures not_hex { IfErr result (λ fault. IsOfText fault
-            → IsNoDigits (held self.old) path.now) }
-        ensures keeps { KeepsFiles (held self.old) (held self.new) }
+    /// Told of the bytes that an answer speaks of, which were read of the file that was begun last.
+    /// A folder may keep them, for an explanation.
+    fn remember(&mut self, _alloc: Global, _bytes: &[u8])
+        ensures holds { held self.new ≡ held self.old }
         ensures same { behind self.new ≡ behind self.old }
-    {
-        let text = match self.read(alloc, path) {
-            Ok(text) => text,
-            Err(fault) => return Err(DigitsFault::File(fault)),
-        };
-        let mut digits = Digits::new(alloc, most);
-        digits.push_all(text.as_slice())?;
-        digits.finish()
-    }
+    {}
+
+    /// Told why hex text gives no bytes. A folder may keep it, for an explanation.
+    fn remember_fault(&mut self, _fault: DigitsFault)
+        ensures holds { held self.new ≡ held self.old }
+        ensures same { behind self.new ≡ behind self.old }
+    {}
 
     /// What the last call met that failed, if the folder tells.
     fn cause(&self) -> Option<Cause> {

@@ -1,21 +1,19 @@
 //! Hex text: the bytes that it spells, and where it is none.
 
-ghost use Rattle.std.specs.Prelude.{◌≡◌, ◌++◌, ◌∷◌, ℕ, List, [], OnOk, IfOk, IfErr, None, Ok, IsErr, IfSome, take, length, ◌<◌};
+ghost use Rattle.std.specs.Prelude.{◌≡◌, ◌∷◌, ℕ, List, [], OnOk, IfErr, None, IsErr, IfSome, ◌<◌};
 ghost use Rattle.std.specs.List.{filter};
 ghost use Rattle.hex.specs.Hex.{decode_of, hex_digit_value};
 ghost use Rattle.cborc_files.specs.Hex.{is_kept, is_white};
-ghost use Rattle.cborc_files.specs.Digits.{DigitsView, IsOfText, Spells, IsOfDigits};
+ghost use Rattle.cborc_files.specs.Digits.{DigitsView, IsOfText, Spells, SpellsOn, IsStrayIn, IsWhole};
 
-use crate::folder::FileFault;
-use std::alloc::Global;
 use std::io::{self, Write};
 use std::marker::Model;
 
 /// Why hex text gives no bytes.
 #[derive(Clone, Copy, Debug, PartialEq, Eq)]
 pub enum DigitsFault {
-    /// The text was not to be had, or memory was refused.
-    File(FileFault),
+    /// Memory was refused.
+    Memory,
     /// It is not hex text from here on.
     NotHex(Stray),
 }
@@ -46,12 +44,9 @@ impl Stray {
     }
 }
 
-/// The bytes that the digits of a text spell, which comes in parts: the first ones, so many if there
-/// are.
+/// The digits of a text, which comes in parts: how they stand behind the last one.
 #[derive(Drop)]
 pub struct Digits {
-    most: u64,
-    bytes: Vec<u8>,
     // The value of a digit whose other one is due.
     high: Option<u8>,
     // Where the next byte of the text stands.
@@ -62,50 +57,41 @@ pub struct Digits {
 impl Model for Digits {
     ghost Value = { DigitsView };
 
-    ghost view = { λ d. record { most = d.most; bytes = d.bytes.items; high = d.high } };
+    ghost view = { λ d. record { high = d.high } };
 
     ghost invariant = { λ d. IfSome d.high (λ value. value < 16) };
 }
 
 impl Digits {
     /// No text yet.
-    pub fn new(alloc: Global, most: u64) -> Digits
-        ensures starts { Spells [] result }
-        ensures most { result.most ≡ most }
+    pub fn new() -> Digits
+        ensures { Spells [] [] result }
     {
         Digits {
-            most,
-            bytes: Vec::new(alloc),
             high: None,
             line: 1,
             column: 1,
         }
     }
 
-    /// The next byte of the text.
-    pub fn push(&mut self, byte: u8) -> Result<(), DigitsFault>
-        ensures goes_on { OnOk result ((text : List ℕ) → Spells text self.old
-            → Spells (text ++ byte ∷ []) self.new) }
+    /// The next byte of the text: appends the byte that it completes, if it does.
+    pub fn push(&mut self, byte: u8, bytes: &mut Vec<u8>) -> Result<(), DigitsFault>
+        ensures goes_on { OnOk result
+            (SpellsOn (byte ∷ []) self.old self.new bytes.old.items bytes.new.items) }
         ensures not_hex { IfErr result (λ fault. IsOfText fault
-            → (text more : List ℕ) → Spells text self.old
-            → IsErr (decode_of (filter is_kept (text ++ byte ∷ more)))) }
-        ensures fault { IfErr result IsOfDigits }
-        ensures most { self.new.most ≡ self.old.most }
+            → IsStrayIn (byte ∷ []) self.old) }
     {
-        self.take(byte)?;
+        self.take(byte, bytes)?;
         self.go_on(byte);
         Ok(())
     }
 
     // The same, but for where the next byte stands.
-    fn take(&mut self, byte: u8) -> Result<(), DigitsFault>
-        ensures goes_on { OnOk result ((text : List ℕ) → Spells text self.old
-            → Spells (text ++ byte ∷ []) self.new) }
+    fn take(&mut self, byte: u8, bytes: &mut Vec<u8>) -> Result<(), DigitsFault>
+        ensures goes_on { OnOk result
+            (SpellsOn (byte ∷ []) self.old self.new bytes.old.items bytes.new.items) }
         ensures not_hex { IfErr result (λ fault. IsOfText fault
-            → (text more : List ℕ) → Spells text self.old
-            → IsErr (decode_of (filter is_kept (text ++ byte ∷ more)))) }
-        ensures fault { IfErr result IsOfDigits }
-        ensures most { self.new.most ≡ self.old.most }
+            → IsStrayIn (byte ∷ []) self.old) }
     {
         if is_white(byte) {
             return Ok(());
@@ -117,30 +103,24 @@ impl Digits {
             None => self.high = Some(value),
             Some(high) => {
                 self.high = None;
-                if (self.bytes.len() as u64) < self.most {
-                    let byte = high * 16 + value;
-                    match self.bytes.push(byte) {
-                        Ok(()) => {}
-                        Err(_) => return Err(DigitsFault::File(FileFault::Memory)),
-                    }
+                let byte = high * 16 + value;
+                match bytes.push(byte) {
+                    Ok(()) => {}
+                    Err(_) => return Err(DigitsFault::Memory),
                 }
             }
         }
         Ok(())
     }
 
-    /// The next bytes of the text.
-    pub fn push_all(&mut self, bytes: &[u8]) -> Result<(), DigitsFault>
-        ensures goes_on { OnOk result ((text : List ℕ) → Spells text self.old
-            → Spells (text ++ bytes.now) self.new) }
-        ensures not_hex { IfErr result (λ fault. IsOfText fault
-            → (text more : List ℕ) → Spells text self.old
-            → IsErr (decode_of (filter is_kept (text ++ (bytes.now ++ more))))) }
-        ensures fault { IfErr result IsOfDigits }
-        ensures most { self.new.most ≡ self.old.most }
+    /// The next bytes of the text: appends those that they complete.
+    pub fn push_all(&mut self, text: &[u8], bytes: &mut Vec<u8>) -> Result<(), DigitsFault>
+        ensures goes_on { OnOk result
+            (SpellsOn text.now self.old self.new bytes.old.items bytes.new.items) }
+        ensures not_hex { IfErr result (λ fault. IsOfText fault → IsStrayIn text.now self.old) }
     {
-        'bytes: for byte in bytes {
-            self.push(*byte)?;
+        'text: for byte in text {
+            self.push(*byte, bytes)?;
         }
         Ok(())
     }
@@ -165,18 +145,15 @@ impl Digits {
         }
     }
 
-    /// The bytes, once that is all of the text.
-    pub fn finish(self) -> Result<Vec<u8>, DigitsFault>
-        ensures spelled { IfOk result (λ v. (text : List ℕ)
-            → Spells text self
-            → (whole : List ℕ) × (decode_of (filter is_kept text) ≡ Ok whole)
-            × (v.items ≡ take self.most whole)) }
-        ensures not_hex { IfErr result (λ fault. (text : List ℕ)
-            → Spells text self
+    /// Whether that may be all of the text: no digit waits for another.
+    pub fn finish(&self) -> Result<(), DigitsFault>
+        ensures whole { OnOk result (IsWhole self.now) }
+        ensures not_hex { IfErr result (λ fault. (text spelled : List ℕ)
+            → Spells text spelled self.now
             → IsErr (decode_of (filter is_kept text))) }
     {
         match self.high {
-            None => Ok(self.bytes),
+            None => Ok(()),
             Some(_) => Err(DigitsFault::NotHex(self.stray(None))),
         }
     }

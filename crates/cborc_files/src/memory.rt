@@ -7,13 +7,10 @@ use crate::folder::{Cause, FileFault, Folder};
 use crate::hex_text::{DigitsFault, Stray};
 use std::alloc::{AllocError, Global};
 
-/// What was read of the last two files: of one that is read part by part, the last part, behind what
-/// had not been taken of those before it.
+/// What an answer spoke of in the last two files, and why there was none.
 #[derive(Drop)]
 pub struct Kept {
     last: Option<Vec<u8>>,
-    // Where this starts in its file.
-    start: u64,
     earlier: Option<Vec<u8>>,
     // Where what was read is not hex text.
     stray: Option<Stray>,
@@ -24,27 +21,13 @@ impl Kept {
     pub fn new() -> Kept {
         Kept {
             last: None,
-            start: 0,
             earlier: None,
             stray: None,
         }
     }
-
-    // Keeps a copy of the first bytes of another file, if there is memory for one.
-    fn keep(&mut self, alloc: Global, bytes: &[u8]) {
-        self.earlier = self.last.take();
-        self.keep_from(alloc, 0, bytes);
-    }
-
-    // Keeps a copy of these bytes of the same file, which start there, in place of those before.
-    fn keep_from(&mut self, alloc: Global, start: u64, bytes: &[u8]) {
-        self.last = None;
-        self.last = Vec::from_slice(alloc, bytes).ok();
-        self.start = start;
-    }
 }
 
-/// A folder that keeps what was read of the last two files.
+/// A folder that keeps what it is told of the last two files.
 #[derive(Drop)]
 pub struct Memory<'a, F: Folder> {
     files: &'a mut F,
@@ -53,7 +36,7 @@ pub struct Memory<'a, F: Folder> {
 }
 
 impl<'a, F: Folder> Memory<'a, F> {
-    /// The same files, with what is read kept there.
+    /// The same files, with what is to be kept put there.
     pub fn new(files: &'a mut F, kept: &'a mut Kept) -> Memory<'a, F>
         ensures same_reference { result.files.ghost_name ≡ files.entry.ghost_name }
         ensures files { result.files.now ≡ files.old }
@@ -61,11 +44,10 @@ impl<'a, F: Folder> Memory<'a, F> {
         Memory { files, kept }
     }
 
-    /// What was read of the last file, from this offset in it on, if it is known.
-    pub fn last_from(&self, offset: u64) -> Option<&[u8]> {
+    /// What an answer spoke of in the last file, if it is known.
+    pub fn last(&self) -> Option<&[u8]> {
         let bytes = self.kept.last.as_ref()?;
-        let skipped = offset.checked_sub(self.kept.start)?;
-        bytes.as_slice().get(skipped as usize..)
+        Some(bytes.as_slice())
     }
 
     /// Where what was read is not hex text, if it is not.
@@ -73,7 +55,7 @@ impl<'a, F: Folder> Memory<'a, F> {
         self.kept.stray
     }
 
-    /// What was read of the file before that, if it is known.
+    /// The same of the file before that, if it is known.
     pub fn earlier(&self) -> Option<&[u8]> {
         let bytes = self.kept.earlier.as_ref()?;
         Some(bytes.as_slice())
@@ -88,9 +70,7 @@ impl<'a, F: Folder> Folder for Memory<'a, F> {
     ghost behind = { λ memory. Some memory.files.ghost_name };
 
     fn read(&mut self, alloc: Global, path: &str) -> Result<Vec<u8>, FileFault> {
-        let bytes = self.files.read(alloc, path)?;
-        self.kept.keep(alloc, bytes.as_slice());
-        Ok(bytes)
+        self.files.read(alloc, path)
     }
 
     fn read_on(
@@ -101,34 +81,17 @@ impl<'a, F: Folder> Folder for Memory<'a, F> {
         most: u64,
         bytes: &mut Vec<u8>,
     ) -> Result<(), FileFault> {
-        let unread = bytes.len() as u64;
-        self.files.read_on(alloc, path, from, most, bytes)?;
-        if from == 0 {
-            self.kept.keep(alloc, bytes.as_slice());
-        } else {
-            let start = from.saturating_sub(unread);
-            self.kept.keep_from(alloc, start, bytes.as_slice());
-        }
-        Ok(())
+        self.files.read_on(alloc, path, from, most, bytes)
     }
 
-    fn read_digits(
-        &mut self,
-        alloc: Global,
-        path: &str,
-        most: u64,
-    ) -> Result<Vec<u8>, DigitsFault> {
-        match self.files.read_digits(alloc, path, most) {
-            Ok(bytes) => {
-                self.kept.keep(alloc, bytes.as_slice());
-                Ok(bytes)
-            }
-            Err(fault) => {
-                if let DigitsFault::NotHex(stray) = fault {
-                    self.kept.stray = Some(stray);
-                }
-                Err(fault)
-            }
+    fn remember(&mut self, alloc: Global, bytes: &[u8]) {
+        self.kept.earlier = self.kept.last.take();
+        self.kept.last = Vec::from_slice(alloc, bytes).ok();
+    }
+
+    fn remember_fault(&mut self, fault: DigitsFault) {
+        if let DigitsFault::NotHex(stray) = fault {
+            self.kept.stray = Some(stray);
         }
     }
 

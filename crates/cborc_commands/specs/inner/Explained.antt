@@ -1,5 +1,5 @@
 -- What `--explain` says of a fault.
-use Rattle.std.specs.Prelude.{ℕ, Bool, true, false, List, Option, Some, None, codes}
+use Rattle.std.specs.Prelude.{ℕ, List, Option, Some, None, codes}
 use Rattle.std.specs.declared.io.ErrorKind.{ErrorKind}
 use Rattle.std.specs.declared.io.ErrorKind.TheVariants as kinds
 use Rattle.cborc_commands.specs.declared.request.Options.{Options}
@@ -34,19 +34,6 @@ source_of (EventsSequence source options) = source.now
 abbrev pub right_of : Request → List ℕ
 right_of (Compare left right options) = right.now
 right_of request = source_of request
-
--- whether it holds all items of a sequence, whatever the limit on one is: hex text is read whole
-abbrev pub holds_all : Request → Bool
-holds_all (CanonSequence source output order options) = options.hex
-holds_all (CheckSequence source accepted options) = options.hex
-holds_all (ShowSequence source layout options) = options.hex
-holds_all (EventsSequence source options) = options.hex
-holds_all request = false
-
--- what asks for less memory
-abbrev pub memory_text : Bool → List ℕ
-memory_text true = codes "All items are held here, whatever --bytes is: fewer ask for less memory."
-memory_text false = codes "A lower --bytes asks for less memory."
 
 -- what kept a file from being read or written
 abbrev pub kind_text : ErrorKind → List ℕ

@@ -10,7 +10,7 @@ use Rattle.cbor_reader.specs.Sequence.{IsAccepted}
 use Rattle.cborc_commands.specs.CanonSequence.{HasCanonicalBytes, canonical_text, IsUncanonical}
 use Rattle.cborc_commands.specs.EventsSequence.{IsFormRefused, IsCutOff}
 use Rattle.cborc_commands.specs.Fault.{IsOfInput, at_item}
-use Rattle.cborc_commands.specs.Input.{IsInput, IsNoInput}
+use Rattle.cborc_commands.specs.Input.{IsInput, IsFront, IsNoInput}
 use Rattle.cborc_commands.specs.Sequences.{texts_from, AreAll, GoesOn, AreFirst}
 use Rattle.cborc_commands.specs.declared.fault.Fault.{Fault}
 use Rattle.cborc_commands.specs.declared.fault.Fault.TheVariants as faults
@@ -74,6 +74,9 @@ pub data AreStoppedOf (takes : Spelling → Type 0) (text : ℕ → Spelling →
   -- there is no input, or no more of it
   no_input : IsNoInput held source options.hex fault → AreWrittenSoFar takes text options source held before after
       → AreStoppedOf takes text stops options source held before after fault
+  -- an item of its front is not taken, and then it is found that there is none
+  behind_no_input : IsNoInput held source options.hex fault → (front : List ℕ) → IsFront held source options.hex front → (cause : Fault)
+      → AreStopped takes text stops options.limits.bytes front before after cause → AreStoppedOf takes text stops options source held before after fault
   -- an item of it is not taken
   within : (input : List ℕ) → IsInput held source options.hex input → AreStopped takes text stops options.limits.bytes input before after fault
       → AreStoppedOf takes text stops options source held before after fault

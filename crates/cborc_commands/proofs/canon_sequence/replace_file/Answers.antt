@@ -1,6 +1,6 @@
 use Rattle.std.proofs.Common.{◌∙◌, refl}
 use Rattle.cborc_commands.proofs.Files.{keeps_keeps}
-use Rattle.cborc_commands.proofs.Stopped.{written_before, stopped_before, all_first, all_replaced, first_written, not_replaced, not_written}
+use Rattle.cborc_commands.proofs.Stopped.{written_before, stopped_before, all_first, all_replaced, first_written, none_begun, not_replaced, not_written}
 use Rattle.cborc_commands.proofs.canon_sequence.replace_file.Goals as goal
 
 pub returns-in-Ok-replace-clause-written : goal.returns-in-Ok-replace-clause-written
@@ -41,3 +41,7 @@ returns-in_default g c =
       fault = not_replaced c.args.order c.args.options c.args.source.now c.args.output old _ _ _ c.requires
           (stopped_before _ _ _ _ old begun c.begin.ensures.keeps _ _ _ _ c.in-Err-write_items.ensures.stopped) c.in_default.not-CannotPrint;
     }
+
+pub returns-in-Err-clause-fault : goal.returns-in-Err-clause-fault
+returns-in-Err-clause-fault g c out =
+    none_begun c.args.order c.args.options c.args.source.now c.args.output (g.F.Folder.held c.args.files.now) c.requires out

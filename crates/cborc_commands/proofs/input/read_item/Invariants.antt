@@ -1,4 +1,4 @@
-use Rattle.std.proofs.Common.{[], false, ◌≡◌}
+use Rattle.std.proofs.Common.{[], ◌≡◌}
 use Rattle.cborc_files.specs.Folder.{KeepsFiles}
 use Rattle.cborc_commands.specs.inner.Parts.{IsReadTo}
 use Rattle.cborc_commands.proofs.ReadParts.{weight}
@@ -6,7 +6,7 @@ use Rattle.cborc_commands.proofs.input.read_item.Given as goal
 
 abbrev pub invariant-parts : goal.invariant-parts
 invariant-parts g l = record {
-  read : IsReadTo (g.F.Folder.held l.fn.files) l.fn.path false [] l.parts;
+  read : IsReadTo (g.F.Folder.held l.fn.files) l.fn.path l.fn.options.hex [] l.parts;
   keeps : KeepsFiles (g.F.Folder.held l.fn.files) (g.F.Folder.held l.files);
   same : g.F.Folder.behind l.files ≡ g.F.Folder.behind l.fn.files;
 }

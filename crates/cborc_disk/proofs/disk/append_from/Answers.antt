@@ -1,4 +1,4 @@
-use Rattle.std.proofs.Common.{◌+◌, ◌-◌, ◌^◌, min, vec_len, arith}
+use Rattle.std.proofs.Common.{arith}
 use Rattle.cborc_disk.proofs.Appended.{cut_to}
 use Rattle.cborc_disk.proofs.disk.append_from.Goals as goal
 

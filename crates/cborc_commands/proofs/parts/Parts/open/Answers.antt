@@ -1,10 +1,14 @@
-use Rattle.std.proofs.Common.{◌∙◌, ap}
-use Rattle.cborc_commands.specs.inner.Parts.{PartsView}
+use Rattle.std.proofs.lemmas.Result.{err_from_is_err_and}
 use Rattle.cborc_commands.proofs.ReadParts.{first_part}
+use Rattle.cborc_commands.proofs.Sources.{no_first_part}
 use Rattle.cborc_commands.proofs.parts.Parts.open.Goals as goal
+
+pub returns-in_err-read_on-clause-fault : goal.returns-in_err-read_on-clause-fault
+returns-in_err-read_on-clause-fault g c =
+    let p = err_from_is_err_and c.from_residual.result c.from_residual.ensures.1 in
+    rw (p.1, p.2) (no_first_part (g.F.Folder.held c.args.files.now) c.args.path.now c.args.hex _ c.unread-parts.ensures.source _ c.in_err-read_on.ensures.fault)
 
 pub returns-clause-begins : goal.returns-clause-begins
 returns-clause-begins g c =
-    first_part (g.F.Folder.held c.args.files.now) c.args.path.now c.at_start-parts.result c.read_on.new.self
-    (ap (λ (p : PartsView). p.rest) c.at_start-parts.ensures ∙ c.new.ensures.items) (ap (λ (p : PartsView). p.start) c.at_start-parts.ensures)
-    (ap (λ (p : PartsView). p.ended) c.at_start-parts.ensures) c.in_ok-read_on.ensures.read
+    first_part (g.F.Folder.held c.args.files.now) c.args.path.now c.args.hex c.unread-parts.result c.read_on.new.self c.unread-parts.ensures.rest c.unread-parts.ensures.start
+    c.unread-parts.ensures.source c.in_ok-read_on.ensures.read
