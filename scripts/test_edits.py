@@ -2,7 +2,7 @@
 """Makes each edit of fuzz/edits on a copy, and runs the test that it names, which has to fail.
 
 These are wrong bodies that no clause speaks against: a read that failed is tried again, single bytes are asked
-for, memory is asked for by the length in a head. The tests are built without a proof, one at a time, and each has
+for, memory is asked for by the length in a head. The tests are built without a proof, some side by side, and each has
 to pass where nothing is edited. An edit has the form of the must-fail edits of the crates, behind lines with its
 crate, its test and the crate where that stands. One that the compiler refuses, so that no prover sees it, has the
 name of that error in a line 'refused': it has to be refused so.
@@ -16,9 +16,12 @@ import shutil
 import subprocess
 import sys
 import tempfile
+from concurrent.futures import ThreadPoolExecutor
 
 ROOT = os.path.dirname(os.path.dirname(os.path.abspath(__file__)))
 EDITS = os.path.join(ROOT, "fuzz", "edits")
+# Beside other stages of the gate.
+SIDE_BY_SIDE = 3
 
 
 def read_edit(name):
@@ -100,22 +103,26 @@ def refuses(name, folder, tests, test, error, changes):
     return True
 
 
+def is_caught(name):
+    """Whether an edit of a copy of the crates is refused as it says."""
+    crate, tests, test, error, changes = read_edit(name)
+    with tempfile.TemporaryDirectory() as room:
+        for part in ("crates", "crates.txt", "HANDLES"):
+            source, to = os.path.join(ROOT, part), os.path.join(room, part)
+            if os.path.isdir(source):
+                shutil.copytree(source, to, ignore=shutil.ignore_patterns("out", "must-fail", "proofs"))
+            else:
+                shutil.copy(source, to)
+        folder, tests = (os.path.join(room, "crates", it) for it in (crate, tests))
+        keep_test(tests, test)
+        return refuses(name, folder, tests, test, error, changes)
+
+
 def main():
     names = sys.argv[1:] or sorted(it.removesuffix(".edit") for it in os.listdir(EDITS))
-    wrong = 0
-    for name in names:
-        crate, tests, test, error, changes = read_edit(name)
-        with tempfile.TemporaryDirectory() as room:
-            for part in ("crates", "crates.txt", "HANDLES"):
-                source, to = os.path.join(ROOT, part), os.path.join(room, part)
-                if os.path.isdir(source):
-                    shutil.copytree(source, to, ignore=shutil.ignore_patterns("out", "must-fail", "proofs"))
-                else:
-                    shutil.copy(source, to)
-            folder, tests = (os.path.join(room, "crates", it) for it in (crate, tests))
-            keep_test(tests, test)
-            wrong += not refuses(name, folder, tests, test, error, changes)
-    sys.exit(1 if wrong else 0)
+    with ThreadPoolExecutor(SIDE_BY_SIDE) as room:
+        caught = list(room.map(is_caught, names))
+    sys.exit(0 if all(caught) else 1)
 
 
 if __name__ == "__main__":

@@ -75,7 +75,7 @@ fn explains_refusals(rt: HostRuntime) -> io::Result<()> {
     for row in rows() {
         let mut written = Vec::with_capacity(rt.alloc(), 512)?;
         explain(rt.alloc(), row.item, limits, row.refusal, &mut written)?;
-        assert_eq!(rt; written.as_slice(), row.written.as_bytes());
+        assert!(rt; written.as_slice() == row.written.as_bytes());
     }
     Ok(())
 }

@@ -71,42 +71,43 @@ const OTHERS: [&[u8]; 20] = [
     b"\x18\x18\x00", // two heads
 ];
 
+const SHORTEST: [(Major, u64, &[u8]); 3] = [
+    (Major::Simple, 20, b"\xf4"), // false
+    (Major::Simple, 32, b"\xf8\x20"), // simple(32)
+    (Major::Map, 5, b"\xa5"), // {.., .., .., .., ..}
+];
+
 #[test]
-fn heads(rt: HostRuntime) -> Result<(), Fail> {
+fn heads(rt: HostRuntime) {
     for (bytes, argument, width) in BOUNDARIES {
         let head = Head::shortest(Major::Unsigned, argument);
-        assert_eq!(rt; head.width(), width, "at {argument}");
-        assert_eq!(rt; head.bytes().as_slice(), bytes, "at {argument}");
-        assert_eq!(rt; Head::read(bytes), Some(head), "at {argument}");
+        let holds = head.width() == width
+            && head.bytes().as_slice() == bytes
+            && Head::read(bytes) == Some(head);
+        assert!(rt; holds, "at {argument}");
     }
     for (bytes, major, width, argument) in HEADS {
-        let head = Head::read(bytes).ok_or("a head")?;
-        assert_eq!(rt; head.major(), major, "at {bytes:?}");
-        assert_eq!(rt; head.width(), width, "at {bytes:?}");
-        assert_eq!(rt; head.argument(), argument, "at {bytes:?}");
-        assert_eq!(rt; head.bytes().as_slice(), bytes);
-        assert_eq!(rt;
-            crate::head_laws::read_back(&head),
-            Some(head),
+        let holds = match Head::read(bytes) {
+            Some(head) => {
+                head.major() == major
+                    && head.width() == width
+                    && head.argument() == argument
+                    && head.bytes().as_slice() == bytes
+                    && crate::head_laws::read_back(&head) == Some(head)
+            }
+            None => false,
+        };
+        assert!(rt; holds, "at {bytes:?}");
+    }
+    for bytes in OTHERS {
+        assert!(rt; Head::read(bytes).is_none(), "at {bytes:?}");
+    }
+    for (major, argument, bytes) in SHORTEST {
+        assert!(rt;
+            Head::shortest(major, argument).bytes().as_slice() == bytes,
             "at {bytes:?}"
         );
     }
-    for bytes in OTHERS {
-        assert_eq!(rt; Head::read(bytes), None, "at {bytes:?}");
-    }
-    assert_eq!(rt;
-        Head::shortest(Major::Simple, 20).bytes().as_slice(),
-        b"\xf4".as_slice()
-    ); // false
-    assert_eq!(rt;
-        Head::shortest(Major::Simple, 32).bytes().as_slice(),
-        b"\xf8\x20".as_slice()
-    ); // simple(32)
-    assert_eq!(rt;
-        Head::shortest(Major::Map, 5).bytes().as_slice(),
-        b"\xa5".as_slice()
-    ); // {.., .., .., .., ..}
-    Ok(())
 }
 
 #[test]
@@ -127,17 +128,20 @@ fn argument_lengths(rt: HostRuntime) {
         (0xf8, 1),
         (0xff, 0),
     ] {
-        assert_eq!(rt; argument_bytes(first), count, "at {first}");
+        assert!(rt; argument_bytes(first) == count, "at {first}");
     }
 }
 
 #[test]
 fn simple_values(rt: HostRuntime) {
     for number in [0, 20, 23, 32, 255] {
-        assert_eq!(rt; Simple::new(number).map(Simple::number), Some(number));
+        assert!(rt;
+            Simple::new(number).map(Simple::number) == Some(number),
+            "at {number}"
+        );
     }
     for number in [24, 31] {
-        assert_eq!(rt; Simple::new(number), None, "at {number}");
+        assert!(rt; Simple::new(number).is_none(), "at {number}");
     }
 }
 
@@ -146,10 +150,16 @@ fn limits(rt: HostRuntime) -> Result<(), Fail> {
     let most = 4611686018427387904;
     for (depth, bytes) in [(0, 0), (256, 1048576), (256, most)] {
         let limits = Limits::new(depth, bytes).ok_or("limits")?;
-        assert_eq!(rt; (limits.depth(), limits.bytes()), (depth, bytes));
+        assert!(rt;
+            limits.depth() == depth && limits.bytes() == bytes,
+            "at {depth} and {bytes}"
+        );
     }
     for (depth, bytes) in [(257, 0), (0, most + 1), (65535, u64::MAX)] {
-        assert_eq!(rt; Limits::new(depth, bytes), None, "at {depth} and {bytes}");
+        assert!(rt;
+            Limits::new(depth, bytes).is_none(),
+            "at {depth} and {bytes}"
+        );
     }
     Ok(())
 }
@@ -180,20 +190,18 @@ const REASONS: [(Reason, u8, &[u8]); 19] = [
 #[test]
 fn reasons(rt: HostRuntime) -> Result<(), Fail> {
     for (reason, number, name) in REASONS {
-        assert_eq!(rt; reason.number(), number, "at {number}");
-        assert_eq!(rt; format!(in rt.alloc(); "{reason}")?.as_bytes(), name);
+        let text = format!(in rt.alloc(); "{reason}")?;
+        assert!(rt;
+            reason.number() == number && text.as_bytes() == name,
+            "at {number}"
+        );
     }
     let refusal = Refusal::at(Reason::Trailing, 1);
-    assert_eq!(rt; refusal, Refusal::new(Reason::Trailing, 1, 1));
+    assert!(rt; refusal == Refusal::new(Reason::Trailing, 1, 1));
+    let text = format!(in rt.alloc(); "{refusal}")?;
+    assert!(rt; text.as_str() == "12 Trailing at 1");
     // A repeated key of one byte at 3.
     let key = Refusal::new(Reason::RepeatedKey, 3, 4);
-    assert_eq!(rt;
-        (key.reason, key.place, key.read),
-        (Reason::RepeatedKey, 3, 4)
-    );
-    assert_eq!(rt;
-        format!(in rt.alloc(); "{refusal}")?.as_str(),
-        "12 Trailing at 1"
-    );
+    assert!(rt; key.reason == Reason::RepeatedKey && key.place == 3 && key.read == 4);
     Ok(())
 }

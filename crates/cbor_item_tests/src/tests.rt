@@ -115,15 +115,15 @@ fn check(
     wanted: &[u8],
 ) -> Result<(), Fail> {
     let bytes = encode(alloc, tree, order)?;
-    assert_eq!(rt; bytes.as_slice(), wanted);
+    assert!(rt; bytes.as_slice() == wanted);
     Ok(())
 }
 
 fn check_written(rt: &impl Abort, alloc: Global, tree: &Tree, wanted: &[u8]) -> Result<(), Fail> {
     let mut out = Vec::new(alloc);
     let count = encode_to(alloc, tree, KeyOrder::Bytewise, &mut out)?;
-    assert_eq!(rt; count, wanted.len() as u64);
-    assert_eq!(rt; out.as_slice(), wanted);
+    assert!(rt; count == wanted.len() as u64);
+    assert!(rt; out.as_slice() == wanted);
     Ok(())
 }
 
@@ -218,8 +218,8 @@ fn compare(
 ) -> Result<(), Fail> {
     let left = tree(alloc, left)?;
     let right = tree(alloc, right)?;
-    assert_eq!(rt; same(&left, &right), want);
-    assert_eq!(rt; same(&right, &left), want);
+    assert!(rt; same(&left, &right) == want);
+    assert!(rt; same(&right, &left) == want);
     assert!(rt; same(&left, &left));
     Ok(())
 }
@@ -261,7 +261,7 @@ fn finds_the_same(rt: HostRuntime) -> Result<(), Fail> {
 fn refuse(rt: &impl Abort, alloc: Global, item: Item, want: Reason) {
     match Tree::of(alloc, item) {
         Ok(_) => panic!(rt; "a tree where {want} was due"),
-        Err((_, reason)) => assert_eq!(rt; reason, want),
+        Err((_, reason)) => assert!(rt; reason == want),
     }
 }
 
@@ -405,7 +405,7 @@ fn deepest(alloc: Global, number: u64, as_key: bool) -> Result<Tree, Fail> {
 fn look_at_depth(rt: &impl Abort, alloc: Global, tree: &Tree, as_key: bool) -> Result<(), Fail> {
     assert!(rt; same(tree, &deepest(alloc, 0, as_key)?));
     assert!(rt; !same(tree, &deepest(alloc, 1, as_key)?));
-    assert_eq!(rt; encode(alloc, tree, KeyOrder::LengthFirst)?.len(), 513);
+    assert!(rt; encode(alloc, tree, KeyOrder::LengthFirst)?.len() == 513);
     Ok(())
 }
 
@@ -416,7 +416,7 @@ fn goes_down_to_256(rt: HostRuntime) -> Result<(), Fail> {
         look_at_depth(&rt, alloc, &deepest(alloc, 0, as_key)?, as_key)?;
     }
     let tags = tree(alloc, tagged(alloc, Item::Unsigned(0), 256)?)?;
-    assert_eq!(rt; encode(alloc, &tags, KeyOrder::Bytewise)?.len(), 257);
+    assert!(rt; encode(alloc, &tags, KeyOrder::Bytewise)?.len() == 257);
     Ok(())
 }
 
@@ -431,22 +431,22 @@ fn answers_for_memory(rt: HostRuntime) -> Result<(), Fail> {
     let tree = match Tree::of(alloc, item) {
         Ok(tree) => tree,
         Err((item, reason)) => {
-            assert_eq!(rt; reason, Reason::Memory);
+            assert!(rt; reason == Reason::Memory);
             assert!(rt; matches!(&item, Item::Map(pairs) if pairs.len() == 8));
             // One allocation failed, and no other does.
             Tree::of(alloc, item).map_err(|_| "memory was refused again")?
         }
     };
     if let Err(met) = encode(alloc, &tree, KeyOrder::Bytewise) {
-        assert_eq!(rt; met, refusal);
+        assert!(rt; met == refusal);
     }
     let mut out = [0; 40];
     let mut room = out.as_mut_slice();
     match encode_to(alloc, &tree, KeyOrder::LengthFirst, &mut room) {
-        Ok(count) => assert_eq!(rt; count, 24),
+        Ok(count) => assert!(rt; count == 24),
         Err(met) => {
-            assert_eq!(rt; met, refusal);
-            assert_eq!(rt; room.len(), 40);
+            assert!(rt; met == refusal);
+            assert!(rt; room.len() == 40);
         }
     }
     Ok(())
@@ -466,7 +466,7 @@ fn compares_keys(rt: HostRuntime) {
         (b"\x20", b"\x20", Ordering::Equal, Ordering::Equal),
     ];
     for (a, b, bytewise, length_first) in rows {
-        assert_eq!(rt; compare_keys(KeyOrder::Bytewise, a, b), bytewise);
-        assert_eq!(rt; compare_keys(KeyOrder::LengthFirst, a, b), length_first);
+        assert!(rt; compare_keys(KeyOrder::Bytewise, a, b) == bytewise);
+        assert!(rt; compare_keys(KeyOrder::LengthFirst, a, b) == length_first);
     }
 }

@@ -19,8 +19,8 @@ fn spellings_of_one_document_are_signed_alike(rt: HostRuntime) -> Result<(), Fai
     let streamed = b"\xbf\x63Fun\xf5\x63Amt\x21\xff";
     // {"Amt": -2, "Fun": true}
     let canonical = b"\xa2\x63Amt\x21\x63Fun\xf5".as_slice();
-    assert_eq!(rt; bytes_to_sign(alloc, streamed)?.as_slice(), canonical);
-    assert_eq!(rt; bytes_to_sign(alloc, canonical)?.as_slice(), canonical);
+    assert!(rt; bytes_to_sign(alloc, streamed)?.as_slice() == canonical);
+    assert!(rt; bytes_to_sign(alloc, canonical)?.as_slice() == canonical);
     Ok(())
 }
 
@@ -34,7 +34,7 @@ fn a_repeated_key_is_refused_with_its_place(rt: HostRuntime) -> Result<(), Fail>
         place: 6,
         read: 10,
     };
-    assert_eq!(rt; refusal, Some(expected));
+    assert!(rt; refusal == Some(expected));
     Ok(())
 }
 
@@ -45,7 +45,7 @@ static RECORDS: &[u8] =
 #[test]
 fn fields_are_told_of_each_record(rt: HostRuntime) -> Result<(), Fail> {
     let rows = two_fields(rt.alloc(), RECORDS, limits(&rt), "id", "by")?;
-    assert_eq!(rt; rows.as_slice(), [(1, -5), (2, 7)].as_slice());
+    assert!(rt; rows.as_slice() == [(1, -5), (2, 7)].as_slice());
     let none = two_fields(rt.alloc(), b"", limits(&rt), "id", "by")?;
     assert!(rt; none.is_empty());
     Ok(())
@@ -54,9 +54,9 @@ fn fields_are_told_of_each_record(rt: HostRuntime) -> Result<(), Fail> {
 #[test]
 fn a_record_without_a_field_is_a_fault(rt: HostRuntime) {
     let fault = two_fields(rt.alloc(), RECORDS, limits(&rt), "id", "x").err();
-    assert_eq!(rt; fault, Some(Fault::NoInteger));
+    assert!(rt; fault == Some(Fault::NoInteger));
     // {"id": and no more
     let fault = two_fields(rt.alloc(), b"\xa2\x62id", limits(&rt), "id", "by").err();
     let cut = Refusal::at(Reason::Truncated, 4);
-    assert_eq!(rt; fault, Some(Fault::Refused(cut)));
+    assert!(rt; fault == Some(Fault::Refused(cut)));
 }

@@ -101,8 +101,8 @@ fn the_third_number_is_cut_off(rt: HostRuntime) -> Result<(), Fail> {
     let numbers = vec![in alloc; Item::Unsigned(1), Item::Unsigned(2), Item::Unsigned(3)]?;
     let tree = tree(alloc, Item::Array(numbers))?;
     let mut cup = empty_cup(Vec::new(alloc), 5, 100, false);
-    assert_eq!(rt; diagnostic(&tree, &mut cup), write_at(5));
-    assert_eq!(rt; cup.held.as_slice(), b"[1, 2".as_slice());
+    assert!(rt; diagnostic(&tree, &mut cup) == write_at(5));
+    assert!(rt; cup.held.as_slice() == b"[1, 2".as_slice());
     Ok(())
 }
 
@@ -128,7 +128,7 @@ fn long_strings_are_cut_off(rt: HostRuntime) -> Result<(), Fail> {
     for &(step, fails) in &STOPS {
         for &room in &ROOMS {
             let held = held_at(alloc, &tree, room, step, fails);
-            assert_eq!(rt; held, Some(room));
+            assert!(rt; held == Some(room));
         }
     }
     Ok(())

@@ -395,6 +395,6 @@ fn asks_for_what_is_due(rt: HostRuntime) {
     let mut source = Source::new(rt.alloc(), b"\xa1\x19\x01\x00\x61\x61");
     let mut sink = Sink::new(rt.alloc());
     let answer = listing(&mut source, limits(&rt, 256, 1 << 20), &mut sink);
-    assert_eq!(rt; answer, Ok(6));
-    assert_eq!(rt; source.asked.as_slice(), [1, 1, 2, 1, 1].as_slice());
+    assert!(rt; answer == Ok(6));
+    assert!(rt; source.asked.as_slice() == [1, 1, 2, 1, 1].as_slice());
 }

@@ -177,11 +177,11 @@ fn look_once(
         heard.payloads == wanted.payloads,
         "payloads of {bytes:?} cut at {cut}"
     );
-    assert_eq!(rt; heard.told.out, wanted.out, "{bytes:?} cut at {cut}");
-    assert_eq!(rt; heard.told.taken, wanted.taken, "{bytes:?} cut at {cut}");
+    assert!(rt; heard.told.out == wanted.out, "{bytes:?} cut at {cut}");
+    assert!(rt; heard.told.taken == wanted.taken, "{bytes:?} cut at {cut}");
     let left = (bytes.len() as u64).saturating_sub(wanted.taken);
-    assert_eq!(rt; parts.rest.len() as u64, left, "{bytes:?} cut at {cut}");
-    assert_eq!(rt; parts.idle, 0, "{bytes:?} cut at {cut}");
+    assert!(rt; parts.rest.len() as u64 == left, "{bytes:?} cut at {cut}");
+    assert!(rt; parts.idle == 0, "{bytes:?} cut at {cut}");
     Ok(())
 }
 
@@ -282,13 +282,12 @@ fn look_where_it_stops(
     let heard = hear(alloc, limits, &mut parts)?;
     let taken = place as u64;
     let left = bytes.len().saturating_sub(place);
-    assert_eq!(rt;
-        heard.told.out,
-        refused(reason, taken, taken),
+    assert!(rt;
+        heard.told.out == refused(reason, taken, taken),
         "{bytes:?} at {place}"
     );
-    assert_eq!(rt; heard.told.taken, taken, "{bytes:?} at {place}");
-    assert_eq!(rt; parts.rest.len(), left, "{bytes:?} at {place}");
+    assert!(rt; heard.told.taken == taken, "{bytes:?} at {place}");
+    assert!(rt; parts.rest.len() == left, "{bytes:?} at {place}");
     Ok(())
 }
 
@@ -318,7 +317,7 @@ fn long_string(rt: &impl Abort, alloc: Global) -> Result<Vec<u8>, AllocError> {
 fn look_at_whole(rt: &impl Abort, alloc: Global, bytes: &[u8]) -> Result<(), AllocError> {
     let mut parts = Parts::new(bytes);
     let heard = hear(alloc, limits(rt, 1, 607), &mut parts)?;
-    assert_eq!(rt; heard.told.out, Out::Done);
+    assert!(rt; heard.told.out == Out::Done);
     let text = [
         event(0, Width::Direct, EventKind::Array(Some(2))),
         event(1, Width::Two, EventKind::Unsigned(256)),
@@ -326,7 +325,7 @@ fn look_at_whole(rt: &impl Abort, alloc: Global, bytes: &[u8]) -> Result<(), All
         event(7, Width::Direct, EventKind::Piece(600)),
     ];
     assert!(rt; heard.told.events[..] == text[..]);
-    assert_eq!(rt; parts.rest.len(), 1);
+    assert!(rt; parts.rest.len() == 1);
     assert!(rt; parts.asked.as_slice() == [1, 1, 2, 1, 2, 512, 88].as_slice());
     Ok(())
 }
@@ -342,7 +341,7 @@ fn asks_for(
 ) -> Result<(), AllocError> {
     let mut parts = Parts::new(bytes);
     let heard = hear(alloc, limits(rt, 1, limit), &mut parts)?;
-    assert_eq!(rt; heard.told.out, out);
+    assert!(rt; heard.told.out == out);
     assert!(rt; parts.asked.as_slice() == asked);
     Ok(())
 }
@@ -367,9 +366,6 @@ fn counts_what_is_open(rt: HostRuntime) {
     let mut reader = EventReader::new(&b"\x81\x81\x61a"[..], limits(&rt, 2, 4));
     for (open, taken, piece) in [(1, 1, 0), (2, 2, 0), (2, 3, 0), (0, 4, 1), (0, 4, 1)] {
         let _ = reader.next();
-        assert_eq!(rt;
-            (reader.open(), reader.taken(), reader.piece().len()),
-            (open, taken, piece)
-        );
+        assert!(rt; (reader.open(), reader.taken(), reader.piece().len()) == (open, taken, piece));
     }
 }

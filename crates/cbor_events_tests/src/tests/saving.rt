@@ -44,12 +44,9 @@ fn within_an_array(rt: &impl Abort) -> SavedMachine {
 #[test]
 fn numbers_of_a_machine(rt: HostRuntime) {
     let saved = within_an_array(&rt);
-    assert_eq!(rt;
-        (saved.depth, saved.bytes, saved.taken, saved.told),
-        (2, 8, 1, 1)
-    );
-    assert_eq!(rt; (saved.open, saved.position, saved.reason), (1, 0, 0));
-    assert_eq!(rt; saved.frames[0], SavedFrame { left: 0, kind: 0 });
+    assert!(rt; (saved.depth, saved.bytes, saved.taken, saved.told) == (2, 8, 1, 1));
+    assert!(rt; (saved.open, saved.position, saved.reason) == (1, 0, 0));
+    assert!(rt; saved.frames[0] == SavedFrame { left: 0, kind: 0 });
     assert!(rt; Machine::restore(&saved).is_some());
 }
 

@@ -63,8 +63,8 @@ fn writers_stop_at_each_place(rt: HostRuntime) -> Result<(), Fail> {
             } else {
                 Ok(24)
             };
-            assert_eq!(rt; encode_to(alloc, &tree, KeyOrder::Bytewise, &mut cup), want);
-            assert_eq!(rt; cup.held.as_slice(), &bytes[..room]);
+            assert!(rt; encode_to(alloc, &tree, KeyOrder::Bytewise, &mut cup) == want);
+            assert!(rt; cup.held.as_slice() == &bytes[..room]);
         }
     }
     Ok(())
@@ -80,11 +80,11 @@ fn a_writer_that_takes_all(rt: HostRuntime) -> Result<(), Fail> {
         fails: true,
         stopped: false,
     };
-    assert_eq!(rt; write_whole(&mut cup, b"abcde"), Ok(()));
-    assert_eq!(rt; cup.held.as_slice(), b"abcde".as_slice());
-    assert_eq!(rt; write_whole(&mut cup, b"f"), Err(0));
-    assert_eq!(rt; write_whole(&mut cup, b"gh"), Ok(()));
-    assert_eq!(rt; cup.held.as_slice(), b"abcdegh".as_slice());
+    assert!(rt; write_whole(&mut cup, b"abcde") == Ok(()));
+    assert!(rt; cup.held.as_slice() == b"abcde".as_slice());
+    assert!(rt; write_whole(&mut cup, b"f") == Err(0));
+    assert!(rt; write_whole(&mut cup, b"gh") == Ok(()));
+    assert!(rt; cup.held.as_slice() == b"abcdegh".as_slice());
     Ok(())
 }
 
@@ -105,8 +105,8 @@ fn writes_what_came_before_the_failure(rt: HostRuntime) -> Result<(), Fail> {
             stopped: false,
         };
         let want = Err(Refusal::new(Reason::Write, 2, 0));
-        assert_eq!(rt; encode_to(alloc, &tree, KeyOrder::Bytewise, &mut cup), want);
-        assert_eq!(rt; cup.held.as_slice(), b"\x83\x01".as_slice());
+        assert!(rt; encode_to(alloc, &tree, KeyOrder::Bytewise, &mut cup) == want);
+        assert!(rt; cup.held.as_slice() == b"\x83\x01".as_slice());
     }
     Ok(())
 }

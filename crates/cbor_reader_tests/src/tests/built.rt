@@ -115,7 +115,7 @@ fn look_for(rt: &impl Abort, alloc: Global, case: &Case, name: &str) {
         assert!(rt; again.is_ok_and(|bytes| bytes == case.canonical), "{name}");
     }
     let count = check_valid(alloc, &case.input, limits);
-    assert_eq!(rt; count, Ok(case.input.len() as u64), "{name}");
+    assert!(rt; count == Ok(case.input.len() as u64), "{name}");
 }
 
 #[test]
@@ -211,7 +211,7 @@ fn builds_towers(rt: HostRuntime) -> Result<(), Fail> {
         let shallow = limits(&rt, 255, 1048576);
         let place = before.len() as u64 * 255;
         let wanted = Err(Refusal::new(Reason::TooDeep, place, place.saturating_add(1)));
-        assert_eq!(rt; check_valid(alloc, &case.input, shallow), wanted);
+        assert!(rt; check_valid(alloc, &case.input, shallow) == wanted);
     }
     Ok(())
 }

@@ -104,7 +104,7 @@ fn refuses_each_front_of_an_item(rt: HostRuntime) -> Result<(), Fail> {
             let is_strict = plain == "same" && strict.is_empty();
             for cut in 0..item.len() {
                 let is_right = is_cut_at(rt.alloc(), &item, cut, is_strict);
-                assert_eq!(rt; is_right, Some(true), "{line}, cut at {cut}");
+                assert!(rt; is_right == Some(true), "{line}, cut at {cut}");
             }
         }
     }

@@ -184,9 +184,8 @@ fn tells_what_stood_before_the_failure(rt: HostRuntime) -> Result<(), Fail> {
         for way in 0..2 {
             let mut reader = Stumbling::in_way(input, way, input.len());
             let given = counted(read_tree(alloc, &mut reader, limits(&rt, 256, bytes)));
-            assert_eq!(rt;
-                given,
-                Err(Refusal::new(reason, place, read)),
+            assert!(rt;
+                given == Err(Refusal::new(reason, place, read)),
                 "at {input:?}"
             );
         }
@@ -199,6 +198,6 @@ fn tells_what_stood_before_the_failure(rt: HostRuntime) -> Result<(), Fail> {
         limits(&rt, 256, 1048576),
         KeyOrder::Bytewise,
     );
-    assert_eq!(rt; given, Ok(3));
+    assert!(rt; given == Ok(3));
     Ok(())
 }

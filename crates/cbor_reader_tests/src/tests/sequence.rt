@@ -133,7 +133,7 @@ fn follows<A: Abort, R: Read + Drop>(
     }
     if let Some((reason, place, read)) = run.refusal {
         let wanted = Some(refusal(reason, place, read));
-        assert_eq!(rt; refused(sequence.next()), wanted, "at {:?}", run.input);
+        assert!(rt; refused(sequence.next()) == wanted, "at {:?}", run.input);
     }
     for _ in 0..2 {
         assert!(rt; sequence.next().is_none(), "at {:?}", run.input);
@@ -166,18 +166,15 @@ fn leaves_what_follows(rt: HostRuntime) -> Result<(), Fail> {
     let mut reader = input;
     let mut items = SequenceItems::new(rt.alloc(), limits(&rt, 256, 1048576));
     assert!(rt; is_tree(rt.alloc(), items.next(&mut reader), b"\x82\x00\x01")?);
-    assert_eq!(rt; reader.len(), 4);
-    assert_eq!(rt;
-        items.next_strict(&mut reader, KeyOrder::Bytewise),
-        Some(Ok(2))
-    );
-    assert_eq!(rt; reader.len(), 2);
+    assert!(rt; reader.len() == 4);
+    assert!(rt; items.next_strict(&mut reader, KeyOrder::Bytewise) == Some(Ok(2)));
+    assert!(rt; reader.len() == 2);
     let wanted = Some(refusal(Reason::StrayBreak, 0, 1));
-    assert_eq!(rt; refused(items.next(&mut reader)), wanted);
-    assert_eq!(rt; reader.len(), 1);
+    assert!(rt; refused(items.next(&mut reader)) == wanted);
+    assert!(rt; reader.len() == 1);
     assert!(rt; items.next(&mut reader).is_none());
-    assert_eq!(rt; items.next_strict(&mut reader, KeyOrder::Bytewise), None);
-    assert_eq!(rt; reader.len(), 1);
+    assert!(rt; items.next_strict(&mut reader, KeyOrder::Bytewise) == None);
+    assert!(rt; reader.len() == 1);
     Ok(())
 }
 
@@ -188,10 +185,10 @@ fn reads_strictly(rt: HostRuntime) -> Result<(), Fail> {
         let rest = b"\x00\x18\x01";
         let reader = Parts { rest, part };
         let mut sequence = Sequence::new(rt.alloc(), reader, limits(&rt, 256, 1048576));
-        assert_eq!(rt; sequence.next_strict(KeyOrder::Bytewise), Some(Ok(1)));
+        assert!(rt; sequence.next_strict(KeyOrder::Bytewise) == Some(Ok(1)));
         let wanted = Some(Err(refusal(Reason::NotShortest, 0, 2)));
-        assert_eq!(rt; sequence.next_strict(KeyOrder::Bytewise), wanted);
-        assert_eq!(rt; sequence.next_strict(KeyOrder::Bytewise), None);
+        assert!(rt; sequence.next_strict(KeyOrder::Bytewise) == wanted);
+        assert!(rt; sequence.next_strict(KeyOrder::Bytewise) == None);
         assert!(rt; sequence.next().is_none());
     }
     Ok(())
@@ -205,10 +202,10 @@ fn mixes_calls(rt: HostRuntime) -> Result<(), Fail> {
         let reader = Parts { rest, part };
         let mut sequence = Sequence::new(rt.alloc(), reader, limits(&rt, 256, 1048576));
         assert!(rt; is_tree(rt.alloc(), sequence.next(), b"\x01")?);
-        assert_eq!(rt; sequence.next_strict(KeyOrder::Bytewise), Some(Ok(6)));
-        assert_eq!(rt; sequence.next_strict(KeyOrder::LengthFirst), Some(Ok(6)));
+        assert!(rt; sequence.next_strict(KeyOrder::Bytewise) == Some(Ok(6)));
+        assert!(rt; sequence.next_strict(KeyOrder::LengthFirst) == Some(Ok(6)));
         let wanted = Some(Err(refusal(Reason::KeyOrder, 4, 5)));
-        assert_eq!(rt; sequence.next_strict(KeyOrder::LengthFirst), wanted);
+        assert!(rt; sequence.next_strict(KeyOrder::LengthFirst) == wanted);
         assert!(rt; sequence.next().is_none());
     }
     Ok(())
@@ -254,9 +251,9 @@ fn stops_where_the_reader_fails(rt: HostRuntime) -> Result<(), Fail> {
                 assert!(rt; is_tree(rt.alloc(), sequence.next(), b"\x00")?);
             }
             let wanted = Some(refusal(Reason::Read, 0, 0));
-            assert_eq!(rt; refused(sequence.next()), wanted);
+            assert!(rt; refused(sequence.next()) == wanted);
             assert!(rt; sequence.next().is_none());
-            assert_eq!(rt; sequence.next_strict(KeyOrder::Bytewise), None);
+            assert!(rt; sequence.next_strict(KeyOrder::Bytewise) == None);
         }
     }
     Ok(())

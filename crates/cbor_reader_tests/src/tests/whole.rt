@@ -12,13 +12,13 @@ fn the_view_of_all_bytes(rt: HostRuntime) {
     let arena = Bump::new(alloc);
     match whole_view(alloc, b"\x81\x05", limits, &arena) {
         Ok(view) => match view.as_array() {
-            Some([member]) => assert_eq!(rt; member.as_u64(), Some(5)),
+            Some([member]) => assert!(rt; member.as_u64() == Some(5)),
             _ => panic!(rt; "an array of one member"),
         },
         Err(_) => panic!(rt; "a view"),
     }
     match whole_view(alloc, b"\x05\x81", limits, &arena) {
         Ok(_) => panic!(rt; "no view"),
-        Err(refusal) => assert_eq!(rt; refusal, Refusal::at(Reason::Trailing, 1)),
+        Err(refusal) => assert!(rt; refusal == Refusal::at(Reason::Trailing, 1)),
     }
 }

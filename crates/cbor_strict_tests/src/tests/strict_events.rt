@@ -84,23 +84,23 @@ fn keeps_what_is_to_be_compared(rt: HostRuntime) {
 fn tells_a_piece_and_the_end(rt: HostRuntime) {
     let limits = limits(&rt, 256, 1048576);
     let mut reader = StrictReader::new(rt.alloc(), &b"\x62ab\x00"[..], limits, KeyOrder::Bytewise);
-    assert_eq!(rt; reader.piece(), b"".as_slice());
+    assert!(rt; reader.piece() == b"".as_slice());
     let head = Event {
         place: 0,
         width: Width::Direct,
         kind: EventKind::Text(Some(2)),
     };
-    assert_eq!(rt; reader.next(), Ok(Some(head)));
+    assert!(rt; reader.next() == Ok(Some(head)));
     let piece = Event {
         place: 1,
         width: Width::Direct,
         kind: EventKind::Piece(2),
     };
-    assert_eq!(rt; reader.next(), Ok(Some(piece)));
-    assert_eq!(rt; reader.piece(), b"ab".as_slice());
-    assert_eq!(rt; reader.next(), Ok(None));
-    assert_eq!(rt; reader.next(), Ok(None));
-    assert_eq!(rt; reader.taken(), 3);
+    assert!(rt; reader.next() == Ok(Some(piece)));
+    assert!(rt; reader.piece() == b"ab".as_slice());
+    assert!(rt; reader.next() == Ok(None));
+    assert!(rt; reader.next() == Ok(None));
+    assert!(rt; reader.taken() == 3);
 }
 
 // 256 maps, each the key of the one before, around 0.
@@ -128,7 +128,7 @@ fn stands_in_a_tower(rt: HostRuntime) -> Result<(), Fail> {
     }
     assert!(rt; reader.next().is_ok());
     assert!(rt; reader.open() == 0 && reader.spans() == 0 && reader.kept() == 0);
-    assert_eq!(rt; reader.next(), Ok(None));
-    assert_eq!(rt; reader.taken(), 513);
+    assert!(rt; reader.next() == Ok(None));
+    assert!(rt; reader.taken() == 513);
     Ok(())
 }

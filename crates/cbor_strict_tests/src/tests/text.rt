@@ -4,14 +4,14 @@ use cbor_text::{check_text, is_text_front};
 
 #[test]
 fn tells_how_far_a_text_goes(rt: HostRuntime) {
-    assert_eq!(rt; check_text(b""), Ok(()));
+    assert!(rt; check_text(b"") == Ok(()));
     // U+00FC, U+6C34 and U+10151
-    assert_eq!(rt; check_text(b"\xc3\xbc\xe6\xb0\xb4\xf0\x90\x85\x91"), Ok(()));
+    assert!(rt; check_text(b"\xc3\xbc\xe6\xb0\xb4\xf0\x90\x85\x91") == Ok(()));
     // the first two of the three bytes of U+6C34
-    assert_eq!(rt; check_text(b"ab\xe6\xb0"), Err(2));
+    assert!(rt; check_text(b"ab\xe6\xb0") == Err(2));
     // a surrogate, and "/" in two bytes
-    assert_eq!(rt; check_text(b"a\xed\xa0\x80"), Err(1));
-    assert_eq!(rt; check_text(b"\xc0\xaf"), Err(0));
+    assert!(rt; check_text(b"a\xed\xa0\x80") == Err(1));
+    assert!(rt; check_text(b"\xc0\xaf") == Err(0));
 }
 
 #[test]

@@ -9,17 +9,11 @@ fn reads_the_item_and_no_more(rt: HostRuntime) {
     let limits = limits(&rt, 256, 1048576);
     // {"a": [true, 1(0)]}, and 0 behind it
     let mut reader = &b"\xa1\x61a\x82\xf5\xc1\x00\x00"[..];
-    assert_eq!(rt;
-        read_strict(rt.alloc(), &mut reader, limits, KeyOrder::Bytewise),
-        Ok(7)
-    );
-    assert_eq!(rt; reader, b"\x00".as_slice());
+    assert!(rt; read_strict(rt.alloc(), &mut reader, limits, KeyOrder::Bytewise) == Ok(7));
+    assert!(rt; reader == b"\x00".as_slice());
     // {1: 0, 0: 0}: the second key, of which the last byte is the fourth
     let mut reader = &b"\xa2\x01\x00\x00\x00"[..];
     let refusal = Refusal::new(Reason::KeyOrder, 3, 4);
-    assert_eq!(rt;
-        read_strict(rt.alloc(), &mut reader, limits, KeyOrder::Bytewise),
-        Err(refusal)
-    );
-    assert_eq!(rt; reader, b"\x00".as_slice());
+    assert!(rt; read_strict(rt.alloc(), &mut reader, limits, KeyOrder::Bytewise) == Err(refusal));
+    assert!(rt; reader == b"\x00".as_slice());
 }

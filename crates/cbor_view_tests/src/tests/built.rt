@@ -39,22 +39,22 @@ fn builds_from_parts(rt: HostRuntime) -> Result<(), Fail> {
 fn tells_kinds(rt: HostRuntime) -> Result<(), Fail> {
     let members = [View::Unsigned(7)];
     let pairs = [(View::Unsigned(1), View::Unsigned(2))];
-    assert_eq!(rt; View::Unsigned(7).as_u64(), Some(7));
-    assert_eq!(rt; View::Negative(7).as_u64(), None);
-    assert_eq!(rt; View::Negative(7).as_negative(), Some(7));
-    assert_eq!(rt; View::Negative(7).as_i64(), Some(-8));
-    assert_eq!(rt; View::Unsigned(1 << 63).as_i64(), None);
-    assert_eq!(rt; View::Bytes(b"\x01").as_bytes(), Some(b"\x01".as_slice()));
-    assert_eq!(rt; View::Text("a").as_text(), Some("a"));
+    assert!(rt; View::Unsigned(7).as_u64() == Some(7));
+    assert!(rt; View::Negative(7).as_u64() == None);
+    assert!(rt; View::Negative(7).as_negative() == Some(7));
+    assert!(rt; View::Negative(7).as_i64() == Some(-8));
+    assert!(rt; View::Unsigned(1 << 63).as_i64() == None);
+    assert!(rt; View::Bytes(b"\x01").as_bytes() == Some(b"\x01".as_slice()));
+    assert!(rt; View::Text("a").as_text() == Some("a"));
     let all = View::Array(&members).as_array().ok_or("no array")?;
     assert!(rt; all.len() == 1);
     let all = View::Map(&pairs).as_map().ok_or("no map")?;
     assert!(rt; all.len() == 1);
     let (number, content) = View::Tag(3, &members[0]).as_tag().ok_or("no tag")?;
     assert!(rt; number == 3 && content.as_u64() == Some(7));
-    assert_eq!(rt; View::Simple(255).as_simple(), Some(255));
-    assert_eq!(rt; View::Simple(20).as_bool(), Some(false));
-    assert_eq!(rt; View::Simple(22).as_bool(), None);
+    assert!(rt; View::Simple(255).as_simple() == Some(255));
+    assert!(rt; View::Simple(20).as_bool() == Some(false));
+    assert!(rt; View::Simple(22).as_bool() == None);
     assert!(rt; View::Simple(22).is_null());
     assert!(rt; View::Simple(23).is_undefined());
     Ok(())

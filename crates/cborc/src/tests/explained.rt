@@ -129,7 +129,7 @@ static EXPLAINED: [(&str, &str, &str); 11] = [
 fn explains_refusals(rt: HostRuntime) -> Result<(), AllocError> {
     for &(line, file, wanted) in &EXPLAINED {
         let ran = ran(rt.alloc(), line, file)?;
-        assert_eq!(rt; ran.err.as_slice(), wanted.as_bytes(), "{line}");
+        assert!(rt; ran.err.as_slice() == wanted.as_bytes(), "{line}");
     }
     Ok(())
 }
@@ -138,7 +138,7 @@ fn explains_refusals(rt: HostRuntime) -> Result<(), AllocError> {
 fn explains_text_that_is_no_hex(rt: HostRuntime) -> Result<(), AllocError> {
     for (text, wanted) in [("00\n0g", OTHER_DIGIT), ("00 ", ""), ("000", ODD)] {
         let ran = ran(rt.alloc(), "check --explain --hex in", text)?;
-        assert_eq!(rt; ran.err.as_slice(), wanted.as_bytes(), "{text}");
+        assert!(rt; ran.err.as_slice() == wanted.as_bytes(), "{text}");
     }
     Ok(())
 }

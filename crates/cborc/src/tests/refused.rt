@@ -173,7 +173,7 @@ fn refuses(rt: HostRuntime) -> Result<(), AllocError> {
         "show in",
     ];
     let accepted = first_accepted(rt.alloc(), &commands, &REFUSED)?;
-    assert_eq!(rt; accepted, None);
+    assert!(rt; accepted == None);
     Ok(())
 }
 
@@ -181,7 +181,7 @@ fn refuses(rt: HostRuntime) -> Result<(), AllocError> {
 fn refuses_what_is_not_canonical(rt: HostRuntime) -> Result<(), AllocError> {
     let commands = ["check --strict in", "check --strict --hex in"];
     let accepted = first_accepted(rt.alloc(), &commands, &NOT_CANONICAL)?;
-    assert_eq!(rt; accepted, None);
+    assert!(rt; accepted == None);
     Ok(())
 }
 

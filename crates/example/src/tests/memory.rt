@@ -30,12 +30,12 @@ fn taken(reader: &[u8], input: &[u8]) -> usize {
 fn canonical_bytes_or_memory(rt: HostRuntime) {
     let alloc = rt.alloc();
     match bytes_to_sign(alloc, DOCUMENT) {
-        Ok(bytes) => assert_eq!(rt; bytes.as_slice(), CANONICAL),
-        Err(refusal) => assert_eq!(rt; refusal.reason, Reason::Memory),
+        Ok(bytes) => assert!(rt; bytes.as_slice() == CANONICAL),
+        Err(refusal) => assert!(rt; refusal.reason == Reason::Memory),
     }
     match canonicalise(alloc, DOCUMENT, limits(&rt), KeyOrder::LengthFirst) {
-        Ok(bytes) => assert_eq!(rt; bytes.len(), CANONICAL.len()),
-        Err(refusal) => assert_eq!(rt; refusal.reason, Reason::Memory),
+        Ok(bytes) => assert!(rt; bytes.len() == CANONICAL.len()),
+        Err(refusal) => assert!(rt; refusal.reason == Reason::Memory),
     }
 }
 
@@ -44,7 +44,7 @@ fn canonical_bytes_or_memory(rt: HostRuntime) {
 fn a_tree_or_memory(rt: HostRuntime) {
     let mut reader = DOCUMENT;
     match read_tree(rt.alloc(), &mut reader, limits(&rt)) {
-        Ok((_tree, count)) => assert_eq!(rt; count, DOCUMENT.len() as u64),
+        Ok((_tree, count)) => assert!(rt; count == DOCUMENT.len() as u64),
         Err(refusal) => assert!(rt; is_memory(refusal, taken(reader, DOCUMENT)), "{refusal}"),
     }
 }
@@ -53,7 +53,7 @@ fn a_tree_or_memory(rt: HostRuntime) {
 fn a_view_or_memory(rt: HostRuntime) {
     let arena = Bump::new(rt.alloc());
     match read_view(rt.alloc(), DOCUMENT, limits(&rt), &arena) {
-        Ok((_, count)) => assert_eq!(rt; count, DOCUMENT.len() as u64),
+        Ok((_, count)) => assert!(rt; count == DOCUMENT.len() as u64),
         Err(refusal) => assert!(rt; is_memory(refusal, DOCUMENT.len()), "{refusal}"),
     }
 }
@@ -61,9 +61,9 @@ fn a_view_or_memory(rt: HostRuntime) {
 #[test]
 fn fields_or_memory(rt: HostRuntime) {
     match two_fields(rt.alloc(), RECORDS, limits(&rt), "id", "by") {
-        Ok(rows) => assert_eq!(rt; rows.len(), 2),
-        Err(Fault::Refused(refusal)) => assert_eq!(rt; refusal.reason, Reason::Memory),
-        Err(fault) => assert_eq!(rt; fault, Fault::Memory),
+        Ok(rows) => assert!(rt; rows.len() == 2),
+        Err(Fault::Refused(refusal)) => assert!(rt; refusal.reason == Reason::Memory),
+        Err(fault) => assert!(rt; fault == Fault::Memory),
     }
 }
 
@@ -71,7 +71,7 @@ fn fields_or_memory(rt: HostRuntime) {
 fn a_strict_count_or_memory(rt: HostRuntime) {
     let mut reader = CANONICAL;
     match read_strict(rt.alloc(), &mut reader, limits(&rt), KeyOrder::Bytewise) {
-        Ok(count) => assert_eq!(rt; count, CANONICAL.len() as u64),
+        Ok(count) => assert!(rt; count == CANONICAL.len() as u64),
         Err(refusal) => assert!(rt; is_memory(refusal, taken(reader, CANONICAL)), "{refusal}"),
     }
 }
@@ -83,12 +83,12 @@ fn sameness_or_memory(rt: HostRuntime) {
     let alloc = rt.alloc();
     match same_meaning(alloc, DOCUMENT, CANONICAL, limits(&rt)) {
         Ok(same) => assert!(rt; same),
-        Err((_side, refusal)) => assert_eq!(rt; refusal.reason, Reason::Memory),
+        Err((_side, refusal)) => assert!(rt; refusal.reason == Reason::Memory),
     }
     match same_meaning(alloc, CANONICAL, b"\xff", limits(&rt)) {
-        Err((Side::Left, refusal)) => assert_eq!(rt; refusal.reason, Reason::Memory),
+        Err((Side::Left, refusal)) => assert!(rt; refusal.reason == Reason::Memory),
         Err((Side::Right, refusal)) => {
-            assert_eq!(rt; refusal, Refusal::new(Reason::StrayBreak, 0, 1));
+            assert!(rt; refusal == Refusal::new(Reason::StrayBreak, 0, 1));
         }
         Ok(_) => assert!(rt; false, "a break is no item"),
     }
@@ -113,7 +113,7 @@ fn an_item_or_memory_and_the_end(rt: HostRuntime) {
             }
         };
         if let Some(refusal) = refusal {
-            assert_eq!(rt; refusal.reason, Reason::Memory);
+            assert!(rt; refusal.reason == Reason::Memory);
         }
         assert!(rt; items.next().is_none());
         assert!(rt; items.next_strict(KeyOrder::Bytewise).is_none());
