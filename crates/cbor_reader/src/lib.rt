@@ -24,6 +24,7 @@
 
 mod canonicaliser;
 mod comparison;
+mod key_bytes;
 mod key_set;
 pub mod laws;
 mod next_head;
