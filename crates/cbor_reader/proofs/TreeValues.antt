@@ -132,3 +132,7 @@ whole-in (Some os) s some h = subst IsWhole (sym h.1) tt
 -- no item is asked for
 pub no-tree : (tree : Option (List OpenItem)) (x : Standing) → tree ≡ None → IsTreeAt tree x
 no-tree tree x e = subst (λ (o : Option (List OpenItem)). IsTreeAt o x) (sym e) tt
+
+-- one is asked for, of which nothing came
+pub new-tree : (tree : Option (List OpenItem)) (os : List OpenItem) → tree ≡ Some os → standing os ≡ the_whole [] ∷ [] → IsTreeAt tree (item_due [])
+new-tree tree os e h = subst (λ (o : Option (List OpenItem)). IsTreeAt o (item_due [])) (sym e) (tt, h)

@@ -1,10 +1,7 @@
 //! The canonical bytes of a map's keys.
 
-ghost use Rattle.std.specs.Prelude.{◌≡◌, ◌≤◌, ◌<◌, ℕ, length, not, true, IfOk, List, []};
-ghost use Rattle.std.specs.Ordering.{nat_cmp};
-ghost use Rattle.std.specs.Cmp.Lexicographic.{slice_cmp};
-ghost use Rattle.std.specs.BTreeSet.{Updates};
-ghost use Rattle.cbor_reader.specs.inner.HeldKeys.{HasKeyBytes, IsAdded, is_in};
+ghost use Rattle.std.specs.Prelude.{ℕ, IfOk, List, []};
+ghost use Rattle.cbor_reader.specs.inner.HeldKeys.{HasKeyBytes, IsAdded};
 
 use arrayvec::ArrayVec;
 use std::alloc::{AllocError, Global};
@@ -38,25 +35,11 @@ impl KeySet {
             → IfOk result (IsAdded bytes.now ks self.new) }
     {
         match ArrayVec::try_from(bytes) {
-            Ok(short) => insert_short(&mut self.short, short),
-            Err(_) => insert_long(&mut self.long, Vec::from_slice(alloc, bytes)?),
+            Ok(short) => self.short.insert(short).map_err(|_| AllocError),
+            Err(_) => {
+                let long = Vec::from_slice(alloc, bytes)?;
+                self.long.insert(long).map_err(|_| AllocError)
+            }
         }
     }
-}
-
-fn insert_short(
-    all: &mut BTreeSet<ArrayVec<u8, SHORT_KEY>>,
-    bytes: ArrayVec<u8, SHORT_KEY>,
-) -> Result<bool, AllocError>
-    ensures { IfOk result (λ fresh. (fresh ≡ not (is_in (λ x. x.items) all.old bytes))
-        × Updates (λ x y. slice_cmp nat_cmp x.items y.items) all.old all.new bytes true) }
-{
-    all.insert(bytes).map_err(|_| AllocError)
-}
-
-fn insert_long(all: &mut BTreeSet<Vec<u8>>, bytes: Vec<u8>) -> Result<bool, AllocError>
-    ensures { IfOk result (λ fresh. (fresh ≡ not (is_in (λ x. x.items) all.old bytes))
-        × Updates (λ x y. slice_cmp nat_cmp x.items y.items) all.old all.new bytes true) }
-{
-    all.insert(bytes).map_err(|_| AllocError)
 }
