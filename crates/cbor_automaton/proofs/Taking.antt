@@ -4,8 +4,8 @@ use Rattle.std.proofs.lemmas.Bool.{lt-ltb, le-ltb, ltb-true, cases_lt}
 use Rattle.std.specs.Int.{bytes_high_first}
 use Rattle.cbor_head.specs.Head.{Holds, IsSimple, head, major_number, shortest}
 use Rattle.cbor_head.specs.Value.{AreBytes}
-use Rattle.cbor_automaton.specs.Trace.{Mark, a_head, a_byte, more_bytes, payload_marks}
-use Rattle.cbor_automaton.specs.Automaton.{Frame, counted, indefinite_array, indefinite_map, State, at_item, in_head, in_simple, in_payload, in_chunks, done, Opening, long, Next, refuses, goes, tells, numbered_tail, simple_tail, tail, indefinite_length, opening_of, opening, payload, after, has_room, break_at, begin, is_major, in_string, take_byte, Outcome, refused, reached, telling, and_then, run}
+use Rattle.cbor_automaton.specs.Trace.{Mark, a_head, more_bytes}
+use Rattle.cbor_automaton.specs.Automaton.{Frame, counted, indefinite_array, indefinite_map, State, at_item, in_head, in_simple, in_payload, in_chunks, done, Opening, long, Next, refuses, goes, tells, numbered_tail, simple_tail, tail, indefinite_length, opening_of, opening, after, has_room, break_at, begin, is_major, in_string, take_byte, Outcome, refused, reached, telling, and_then, run}
 use Rattle.cbor_automaton.specs.Taking.{Follows, IsTaking}
 use Rattle.cbor_head.specs.declared.major.Major.{Major}
 use Rattle.cbor_head.specs.declared.major.Major.TheVariants.{Unsigned, Negative, Bytes, Text, Array, Map, Tag, Simple}
@@ -13,7 +13,6 @@ use Rattle.cbor_head.specs.declared.width.Width.{Width}
 use Rattle.cbor_head.specs.declared.width.Width.TheVariants.{Direct, One, Two, Four, Eight, Indefinite}
 use Rattle.cbor_head.specs.declared.reason.Reason.{Reason}
 use Rattle.cbor_automaton.proofs.FirstByte.{split}
-use Rattle.cbor_automaton.proofs.Forward.{payload-byte}
 use Rattle.cbor_automaton.proofs.Arguments.{number, number-between, bytes-number}
 pub use Rattle.cbor_automaton.proofs.Events.{IsClear}
 pub use Rattle.cbor_automaton.proofs.Stands.{IsNumbered}
@@ -296,13 +295,3 @@ pub first-mark : (d : ℕ) (bs : List ℕ) (from q t : State) (pre : List ℕ) (
 first-mark d [] from q t pre m ms h b e = absurd (cc e)
 first-mark d (c ∷ cs) from q t pre m ms h b e =
     then-first d from (take_byte d q c) (pre ++ c ∷ []) cs t m ms (λ u p k f. first-mark d cs from u t p m ms k b.1 f) (byte-taken d from q pre c h b.0) e
-
--- ---- payloads
-
-pub pieces-taken : (d : ℕ) (chunk : Bool) (m : Major) (n : ℕ) (fs : List Frame) (bs : List ℕ) → length bs ≤ n → run d (payload chunk m n fs) bs ≡ reached (payload chunk m (n - length bs) fs) (payload_marks bs)
-pieces-taken d chunk m n fs [] h = let e : n ≡ n - 0 = omega arith in ap (λ k. reached (payload chunk m k fs) []) e
-pieces-taken d chunk m zero fs (b ∷ bs) h = absurd (omega arith)
-pieces-taken d chunk m (suc n) fs (b ∷ bs) h =
-    let e : suc n - suc (length bs) ≡ n - length bs = omega arith in
-    payload-byte d chunk m n fs b bs ∙ ap (telling a_byte) (pieces-taken d chunk m n fs bs (omega arith))
-    ∙ ap (λ k. reached (payload chunk m k fs) (a_byte ∷ payload_marks bs)) (sym e)

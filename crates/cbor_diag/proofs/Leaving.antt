@@ -1,14 +1,13 @@
 -- What is left of a text, from one put to the next.
-use Rattle.std.proofs.Common.{◌≡◌, ℕ, suc, ◌+◌, ◌<◌, ◌≤◌, ◌==◌, if◌then◌else◌, Bool, true, false, List, [], ◌∷◌, ◌++◌, length, Option, Some, None, Result, Ok, Err, Bor, codes, decimal, refl, sym, ap, ◌∙◌, subst, append_assoc, append-nil, length-append, arith}
+use Rattle.std.proofs.Common.{◌≡◌, ℕ, ◌+◌, ◌<◌, Bool, true, false, List, [], ◌∷◌, ◌++◌, length, Option, Some, None, Result, Ok, Err, Bor, codes, decimal, refl, sym, ap, ◌∙◌, subst, append_assoc, append-nil, length-append, arith}
 use Rattle.std.specs.Prelude.{reverse, IsSome, option_to_list}
-use Rattle.std.proofs.lemmas.List.{reverse-append, length-reverse}
-use Rattle.cbor_head.specs.Value.{Value, array, map, tag, depth, depth_all, depth_entries}
+use Rattle.std.proofs.lemmas.List.{reverse-append}
+use Rattle.cbor_head.specs.Value.{Value, array, map, tag}
 use Rattle.cbor_diag.specs.declared.outbox.Stopped.{Stopped}
-use Rattle.cbor_diag.specs.Text.{simple_text}
 use Rattle.cbor_diag.specs.inner.Layout.{gap, end, laid_out, members_left, pairs_left}
 use Rattle.cbor_diag.specs.inner.Nodes.{entries_in, values_in}
 use Rattle.cbor_diag.specs.inner.Outbox.{HasPut, HasStopped}
-use Rattle.cbor_diag.specs.inner.Levels.{AreShallow, AreAllShallow, HasLeft, IsDue, IsOpenOf, Leaves, all_left, behind, left_of, rest_of}
+use Rattle.cbor_diag.specs.inner.Levels.{HasLeft, Leaves, all_left, behind, left_of, rest_of}
 use Rattle.cbor_diag.specs.declared.layout.Layout.{Layout}
 use Rattle.cbor_diag.specs.declared.outbox.Outbox.{Outbox}
 use Rattle.cbor_diag.specs.declared.walk.Left.{Left}
@@ -28,9 +27,6 @@ front-left a b s t whole xs more is some p = record { done = xs; written = p; so
 pub leaf-left : (l : Layout) (n : ℕ) (v w : Value) (a b : Option (List ℕ)) (s t : Outbox) → v ≡ w → 0 < length (laid_out l n v) → HasPut a b s t (laid_out l n v) → HasLeft a b s t (laid_out l n w) []
 leaf-left l n v w a b s t is some p =
     front-left a b s t (laid_out l n w) (laid_out l n v) [] (append-nil (laid_out l n v) ∙ ap (laid_out l n) is) some p
-
-pub leaf-stops : (l : Layout) (n : ℕ) (v w : Value) (a b : Option (List ℕ)) (s : Outbox) (e : Outbox) → v ≡ w → HasStopped a b s (laid_out l n v) e → HasStopped a b s (laid_out l n w) e
-leaf-stops l n v w a b s e is p = subst (λ (x : Value). HasStopped a b s (laid_out l n x) e) is p
 
 -- a part, perhaps empty, and then what follows
 pub put-left : (a b c : Option (List ℕ)) (s t u : Outbox) (whole xs mid more : List ℕ) → xs ++ mid ≡ whole → HasPut a b s t xs → HasLeft b c t u mid more → HasLeft a c s u whole more
@@ -61,15 +57,6 @@ left-more a b s t whole left more p = record {
   joins = sym (append_assoc p.done left more) ∙ ap (λ (l : List ℕ). l ++ more) p.joins;
 }
 
--- the text of a simple value is not empty
-some_of : (b : Bool) (xs ys : List ℕ) → 0 < length xs → 0 < length ys → 0 < length (if b then xs else ys)
-some_of true xs ys h k = h
-some_of false xs ys h k = k
-
-pub some-simple : (n : ℕ) → 0 < length (simple_text n)
-some-simple n =
-    some_of (n == 20) (codes "false") _ (omega arith) (some_of (n == 21) (codes "true") _ (omega arith) (some_of (n == 22) (codes "null") _ (omega arith) (some_of (n == 23) (codes "undefined") _ (omega arith) (omega arith))))
-
 four : (g x m e r : List ℕ) → g ++ (x ++ ((m ++ e) ++ r)) ≡ (((g ++ x) ++ m) ++ e) ++ r
 four g x m e r = simp append_assoc
 
@@ -94,17 +81,10 @@ module _ {N : Type 0} (see : N → Value) where
   pub behind-top : (l : Layout) (vs us : List (Level N)) (v : Level N) → us ≡ vs ++ v ∷ [] → behind see l (reverse us) ≡ rest_of see l v ++ behind see l (reverse vs)
   behind-top l vs us v is = ap (behind see l) (on_top vs us v is)
 
-  pub shallow-top : (vs us : List (Level N)) (v : Level N) → us ≡ vs ++ v ∷ [] → AreShallow see (v ∷ reverse vs) → AreShallow see (reverse us)
-  shallow-top vs us v is h = subst (AreShallow see) (sym (on_top vs us v is)) h
-
   -- the container that was around the one that ended, if there was one
   popped : (l : Layout) (vs us : List (Level N)) (o : Option (Level N)) → vs ≡ us ++ option_to_list o → (0 < length vs → IsSome o) → behind see l (reverse vs) ≡ all_left see l o (reverse us)
   popped l vs us None is some = ap (λ (x : List (Level N)). behind see l (reverse x)) (without vs (λ h. cc (some h)))
   popped l vs us (Some v) is some = behind-top l us vs v is
-
-  pub popped-shallow : (vs us : List (Level N)) (o : Option (Level N)) → vs ≡ us ++ option_to_list o → AreShallow see (reverse vs) → AreAllShallow see o (reverse us)
-  popped-shallow vs us None is h = tt
-  popped-shallow vs us (Some v) is h = subst (AreShallow see) (on_top us vs v is) h
 
   -- the end of a container was put
   pub ended : (l : Layout) (vs us : List (Level N)) (o : Option (Level N)) (a b : Option (List ℕ)) (s t : Outbox) (whole xs : List ℕ) → vs ≡ us ++ option_to_list o → (0 < length vs → IsSome o) → xs ++ behind see l (reverse vs) ≡ whole → 0 < length xs → HasPut a b s t xs
@@ -133,29 +113,6 @@ module _ {N : Type 0} (see : N → Value) where
   tag-front l n v k content is =
       ap (λ (x : List ℕ). (decimal k ++ codes "(") ++ x) (append-nil (laid_out l n (see content) ++ codes ")"))
       ∙ sym (append_assoc (decimal k ++ codes "(") (laid_out l n (see content)) (codes ")")) ∙ ap (laid_out l n) is
-
-  -- ---- how deep they nest
-
-  pub array-open : (v : Value) (ns : List N) → array (values_in see ns) ≡ v → depth_all (values_in see ns) + 1 ≤ depth v
-  array-open v ns is = let deep : suc (depth_all (values_in see ns)) ≡ depth v = ap depth is in omega (arith, deep)
-
-  pub map-open : (v : Value) (ps : List (N × N)) → map (entries_in see ps) ≡ v → depth_entries (entries_in see ps) + 1 ≤ depth v
-  map-open v ps is = let deep : suc (depth_entries (entries_in see ps)) ≡ depth v = ap depth is in omega (arith, deep)
-
-  pub tag-open : (v : Value) (k : ℕ) (content : N) → tag k (see content) ≡ v → depth (see content) + 1 ≤ depth v
-  tag-open v k content is = let deep : suc (depth (see content)) ≡ depth v = ap depth is in omega (arith, deep)
-
-  -- there is room for one more
-  pub has-room : (vs : List (Level N)) (v : Level N) → AreShallow see (v ∷ reverse vs) → length vs < 256
-  has-room vs v h = omega (arith, h.1, length-reverse vs)
-
-  pub open-shallow : (d n : ℕ) (vs us : List (Level N)) (v w : Level N) → us ≡ vs ++ v ∷ [] → IsDue see d n (v ∷ reverse vs) → IsOpenOf see d n (Some w) → AreShallow see (w ∷ reverse us)
-  open-shallow d n vs us v w is due h =
-      subst (λ (x : List (Level N)). AreShallow see (w ∷ x)) (sym (on_top vs us v is)) (omega (arith, due.indented, h.0), omega (arith, due.room, h.1), due.shallow)
-
-  pub first-shallow : (d : ℕ) (o : Option (Level N)) → d ≤ 256 → IsOpenOf see d 0 o → AreAllShallow see o []
-  first-shallow d None l h = tt
-  first-shallow d (Some v) l h = (omega (arith, h.0), omega (arith, l, h.1), tt)
 
   -- ---- what is left of a container, and what comes first of it
 

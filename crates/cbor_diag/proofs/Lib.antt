@@ -4,5 +4,6 @@ pub mod Lines
 pub mod Listed
 pub mod PieceTexts
 pub mod Putting
+pub mod ReadLeaves
 pub mod ReadBack
 pub mod Reading

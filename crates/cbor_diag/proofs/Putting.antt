@@ -5,7 +5,7 @@ use Rattle.std.specs.Prelude.{MatchResult}
 use Rattle.std.specs.Result.{OnErr, is_ok}
 use lib.Seq.{take-append_seam}
 use Rattle.std.specs.Io.KnownBytes.{Appends}
-use Rattle.std.proofs.KnownBytes.{Appends-trans, Appends-nil}
+use Rattle.std.proofs.KnownBytes.{Appends-trans}
 use Rattle.cbor_diag.specs.declared.outbox.Stopped.{Stopped}
 use Rattle.cbor_item.specs.Sent.{stopped_at}
 use Rattle.cbor_diag.specs.Written.{capped, Writes}
@@ -55,24 +55,7 @@ stops-more a b s xs ys e p =
       counted = p.counted;
     }
 
--- nothing was put
-pub puts-none : (a : Option (List ℕ)) (s : Outbox) → HasPut a a s s []
-puts-none a s = record {
-  took = [];
-  appended = Appends-nil a;
-  others = sym (append-nil s.waiting.items);
-  counted = λ k e. e ∙ ap capped (omega arith);
-}
-
 -- ---- what waited went out, or some of it
-
-pub sent-all : (a b : Option (List ℕ)) (s t : Outbox) (bytes : List ℕ) → bytes ≡ s.waiting.items → t.waiting.items ≡ [] → t.taken ≡ capped (s.taken + length bytes) → Appends a b bytes → HasPut a b s t []
-sent-all a b s t bytes is none counted out = record {
-  took = bytes;
-  appended = out;
-  others = ap (λ (l : List ℕ). bytes ++ l) none ∙ ap (λ (l : List ℕ). l ++ []) is;
-  counted = λ k e. counted ∙ omega (arith, e);
-}
 
 abbrev pub SentSome : Option (List ℕ) → Option (List ℕ) → ℕ → List ℕ → ℕ → Type 0
 SentSome a b taken bytes total = (n : ℕ) × (total ≡ capped (taken + n)) × (n < length bytes) × Appends a b (take n bytes)

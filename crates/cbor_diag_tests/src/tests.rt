@@ -3,6 +3,7 @@
 mod failed;
 mod listing_tables;
 mod listings;
+mod streams;
 mod views;
 
 use cbor_diag::{diagnostic, diagnostic_indented};

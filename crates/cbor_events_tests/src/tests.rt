@@ -4,6 +4,7 @@ ghost use Rattle.std.specs.Prelude.{◌≡◌, ◌≤◌, ◌<◌, length};
 ghost use Rattle.cbor_standing.specs.Machine.{IsMore};
 ghost use Rattle.cbor_standing.specs.Steps.{Goes};
 
+mod parts;
 mod reading;
 mod refused;
 mod saving;

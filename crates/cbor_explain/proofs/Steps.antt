@@ -1,5 +1,5 @@
 -- The texts of the first steps of a way.
-use Rattle.std.proofs.Common.{ℕ, ◌≡◌, Option, List, [], ◌∷◌, ◌++◌, refl, sym, ap, ◌∙◌, append_assoc, append-nil, subst}
+use Rattle.std.proofs.Common.{ℕ, Option, List, [], ◌∷◌, ◌++◌, refl, sym, ap, ◌∙◌, append_assoc, append-nil, subst}
 use Rattle.std.specs.Prelude.{codes, Result, OnOk, Ok, Err}
 use Rattle.std.specs.Io.KnownBytes.{Appends}
 use Rattle.std.proofs.KnownBytes.{Appends-trans}
@@ -12,9 +12,6 @@ pub record HasWritten (item : List ℕ) (done : List Step) (old new : Option (Li
   pub steps : List ℕ
   pub are : AreStepTexts item done steps
   pub written : Appends old new (codes "  at $" ++ steps)
-
-pub nothing_yet : (item : List ℕ) (old new : Option (List ℕ)) → Appends old new (codes "  at $") → HasWritten item [] old new
-nothing_yet item old new w = record { steps = []; are = refl; written = w }
 
 texts_more : (item : List ℕ) (done : List Step) (s : Step) (texts t : List ℕ) → AreStepTexts item done texts → IsStepText item s t → AreStepTexts item (done ++ s ∷ []) (texts ++ t)
 texts_more item [] s texts t are is = (t, [], is, refl, ap (λ x. x ++ t) are ∙ sym (append-nil t))

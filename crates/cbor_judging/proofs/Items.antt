@@ -23,7 +23,6 @@ use Rattle.cbor_judging.specs.Reading.{Extends, IsFormRefusal, OfMark, ReadsItem
 use Rattle.cbor_judging.proofs.Judged.{zero_item}
 use Rattle.cbor_judging.proofs.Leaves.{head_complains, array_head_complains, map_head_complains}
 use Rattle.cbor_judging.proofs.Heads.{open_or, zero_bytes, zero_length, cut_head}
-use Rattle.cbor_judging.proofs.Steps.{reached-as}
 use Rattle.std.proofs.lemmas.List.{length-map}
 
 -- ---- what was taken
@@ -70,17 +69,6 @@ module _ (r : Rules) (b : Bounds) (fs gs : List Container) (t y : List ℕ)
       splits = ap (λ (u : List ℕ). y ++ u) h.splits ∙ sym (append_assoc y h.p h.last);
       byte = h.byte;
       judged = lift h.p None h.judged;
-    }
-
-    pub stops-in : (x e : List ℕ) (from mid to : Option (List ℕ)) (f : Refusal) → Extends x (y ++ e) from mid → StopsItem r b gs (t ++ y) e mid to f → StopsItem r b fs t x from to f
-    stops-in x e from mid to f g s = record {
-      bytes = y ++ s.bytes;
-      taken = extends-in x y e s.bytes from mid to g s.taken;
-      read = s.read ∙ ap length (append_assoc t y s.bytes);
-      why = elim s.why [
-        | inl m ↦ inl (m.0, reached-as b ((t ++ y) ++ s.bytes) (t ++ (y ++ s.bytes)) (append_assoc t y s.bytes) m.1, undecided-in s.bytes m.2)
-        | inr c ↦ inr (cause-in s.bytes to f c)
-      ];
     }
 
 -- ---- heads

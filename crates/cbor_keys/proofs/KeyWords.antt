@@ -1,17 +1,16 @@
 -- Keys compared by words of eight bytes.
-use Rattle.std.proofs.Common.{◌≡◌, ◌≢◌, ◌⊎◌, ℕ, zero, suc, ◌+◌, ◌*◌, ◌^◌, ◌<◌, ◌≤◌, ◌++◌, List, [], ◌∷◌, length, length-drop, take, drop, w64, refl, sym, ap, ◌∙◌, arith, inl, inr, mul-le-mul_left, mul-suc}
+use Rattle.std.proofs.Common.{◌≡◌, ◌≢◌, ◌⊎◌, ℕ, zero, suc, ◌+◌, ◌*◌, ◌^◌, ◌<◌, ◌≤◌, ◌++◌, List, [], ◌∷◌, length, length-drop, take, drop, refl, sym, ap, ◌∙◌, arith, inl, inr, mul-le-mul_left, mul-suc}
 use Rattle.std.proofs.Math.Seq.{take-add}
-use Rattle.std.proofs.lemmas.List.{take_all, take-take, drop_all}
+use Rattle.std.proofs.lemmas.List.{take-take, drop_all}
 use Rattle.std.proofs.lemmas.Bool.{cases_lt}
 use Rattle.std.proofs.lemmas.Cmp.{ranked, nat_cmp_total, tied_itself}
-use Rattle.std.specs.Int.{from_be_bytes}
 use Rattle.std.specs.declared.cmp.Ordering.{Ordering}
 use Rattle.std.specs.declared.cmp.Ordering.TheVariants.{Less, Equal, Greater}
 use Rattle.std.specs.Ordering.{nat_cmp, ordering_then, MatchOrdering}
 use Rattle.std.specs.Cmp.Lexicographic.{slice_cmp}
 use Rattle.cbor_head.specs.Value.{AreBytes}
 use Rattle.cbor_keys.specs.Front.{digits, front_of}
-use Rattle.cbor_keys.proofs.KeyFronts.{agree_front, below, bytes_drop, kept_whole}
+use Rattle.cbor_keys.proofs.KeyFronts.{agree_front, below, bytes_drop}
 
 -- what two lists begin with alike doesn't decide
 pub behind_same : (n : ℕ) (xs ys : List ℕ) → take n xs ≡ take n ys → n ≤ length xs → n ≤ length ys → slice_cmp nat_cmp xs ys ≡ slice_cmp nat_cmp (drop n xs) (drop n ys)
@@ -101,7 +100,3 @@ lengths_decide n xs ys e l m end = go (nat_cmp (length xs) (length ys)) refl (ra
 -- fewer bytes that they begin with alike
 pub begin_same : (n m : ℕ) (xs ys : List ℕ) → n ≤ m → take m xs ≡ take m ys → take n xs ≡ take n ys
 begin_same n m xs ys l e = sym (take-take n m xs l) ∙ ap (take n) e ∙ take-take n m ys l
-
--- the word that is read
-pub word_read : (xs : List ℕ) (word : ℕ) → 8 ≤ length xs → word ≡ from_be_bytes w64 (take 8 xs) → word ≡ front_of xs
-word_read xs word l e = e ∙ kept_whole xs (length xs) l l ∙ ap front_of (take_all (length xs) xs (omega arith))

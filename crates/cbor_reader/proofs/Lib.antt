@@ -11,6 +11,9 @@ pub mod OneAnswer
 pub mod OwnAnswers
 pub mod PathFrames
 pub mod Paths
+pub mod PartPlaces
+pub mod PartsTaken
+pub mod PartEnds
 pub mod PlainSteps
 pub mod SequenceLaws
 pub mod Sequences

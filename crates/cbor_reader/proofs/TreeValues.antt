@@ -7,7 +7,7 @@ use Rattle.cbor_head.specs.Value as value
 use Rattle.cbor_head.specs.Value.{Value}
 use Rattle.cbor_item.specs.View as view
 use Rattle.cbor_item.specs.OpenValues as parts
-use Rattle.cbor_item.specs.OpenValues.{OpenItem, OpenValue, an_array, give, closed, close, TakesValue, MayEnd, CanEnd, CanHold, IsWhole}
+use Rattle.cbor_item.specs.OpenValues.{OpenItem, OpenValue, standing, the_whole, an_array, give, closed, close, TakesValue, MayEnd, CanEnd, CanHold, IsWhole}
 use Rattle.cbor_judging.specs.Frame.{with_all, with_entries}
 use Rattle.cbor_judging.specs.Levels.{Level, a_member, a_key, a_value, some_member, some_key, some_value, tagged, Standing, item_due, item_full, item_whole, settle}
 use Rattle.cbor_reader.specs.declared.plain_part.Part.{Part}
@@ -132,3 +132,7 @@ whole-in (Some os) s some h = subst IsWhole (sym h.1) tt
 -- no item is asked for
 pub no-tree : (tree : Option (List OpenItem)) (x : Standing) → tree ≡ None → IsTreeAt tree x
 no-tree tree x e = subst (λ (o : Option (List OpenItem)). IsTreeAt o x) (sym e) tt
+
+-- one is asked for, of which nothing came
+pub new-tree : (tree : Option (List OpenItem)) (os : List OpenItem) → tree ≡ Some os → standing os ≡ the_whole [] ∷ [] → IsTreeAt tree (item_due [])
+new-tree tree os e h = subst (λ (o : Option (List OpenItem)). IsTreeAt o (item_due [])) (sym e) (tt, h)

@@ -14,7 +14,7 @@ use crate::plain_items::PlainItems;
 use crate::plain_part::read_part;
 use cbor_events::ItemEvents;
 use cbor_head::{KeyOrder, Limits, Reason, Refusal};
-use cbor_item::Item;
+use cbor_item::{Item, TreeBuilder};
 use cbor_walk::BuiltFront;
 use std::alloc::Global;
 use std::io::Read;
@@ -33,7 +33,7 @@ pub(crate) fn read_plain_front<R: Read>(
         (λ f. IsFrontUnread plain limits (R.remaining reader.old) (R.remaining reader.new) f) }
 {
     let mut events = ItemEvents::new(limits);
-    let mut items = PlainItems::new(alloc, order);
+    let mut items = PlainItems::new(alloc, order, None);
     match read_parts(alloc, &mut events, &mut items, reader) {
         Ok(()) => {
             let canonical = items.finish();
@@ -57,7 +57,8 @@ pub(crate) fn read_item_front<R: Read>(
         (λ f. IsFrontUnread plain limits (R.remaining reader.old) (R.remaining reader.new) f) }
 {
     let mut events = ItemEvents::new(limits);
-    let mut items = PlainItems::with_tree(alloc, KeyOrder::Bytewise);
+    let tree = Some(TreeBuilder::new(alloc));
+    let mut items = PlainItems::new(alloc, KeyOrder::Bytewise, tree);
     match read_parts(alloc, &mut events, &mut items, reader) {
         Ok(()) => {
             let item = items.into_item();

@@ -41,33 +41,16 @@ pub(crate) struct PlainItems {
 }
 
 impl PlainItems {
-    // Nothing came.
-    pub(crate) fn new(alloc: Global, order: KeyOrder) -> PlainItems
+    // Nothing came; with a builder of trees the item is to be made too.
+    pub(crate) fn new(alloc: Global, order: KeyOrder, tree: Option<TreeBuilder>) -> PlainItems
         ensures built { result.builder ≡ built order (plain [] ∷ []) }
         ensures starts { length result.starts ≡ 257 }
         ensures held { AreHeld (sets result) (plain [] ∷ []) }
-        ensures tree { result.tree ≡ None }
+        ensures tree { result.tree ≡ tree }
     {
         PlainItems {
             builder: CanonBuilder::new(alloc, order),
-            tree: None,
-            starts: [0; PLACES],
-            keys: KeySet::new(alloc),
-            outer: Vec::new(alloc),
-        }
-    }
-
-    // Nothing came, and the item is to be made too.
-    pub(crate) fn with_tree(alloc: Global, order: KeyOrder) -> PlainItems
-        ensures built { result.builder ≡ built order (plain [] ∷ []) }
-        ensures starts { length result.starts ≡ 257 }
-        ensures held { AreHeld (sets result) (plain [] ∷ []) }
-        ensures tree { IsTreeAt result.tree (item_due []) }
-        ensures made { IsSome result.tree }
-    {
-        PlainItems {
-            builder: CanonBuilder::new(alloc, order),
-            tree: Some(TreeBuilder::new(alloc)),
+            tree,
             starts: [0; PLACES],
             keys: KeySet::new(alloc),
             outer: Vec::new(alloc),
@@ -97,20 +80,10 @@ impl PlainItems {
         let opened = give_to_builder(&mut self.builder, &part)?;
         give_to_tree(&mut self.tree, part)?;
         if opened > 0 {
-            self.begin_keys(alloc)?;
+            let around = mem::replace(&mut self.keys, KeySet::new(alloc));
+            self.outer.push(around)?;
         }
         Ok(opened)
-    }
-
-    // A container begins, which has no keys yet.
-    fn begin_keys(&mut self, alloc: Global) -> Result<(), AllocError>
-        ensures same { (self.new.builder ≡ self.old.builder)
-            × (self.new.starts ≡ self.old.starts) × (self.new.tree ≡ self.old.tree) }
-        ensures sets { OnOk result (AreKeysOpened (sets self.old) (sets self.new)) }
-    {
-        let around = mem::replace(&mut self.keys, KeySet::new(alloc));
-        self.outer.push(around)?;
-        Ok(())
     }
 
     // The innermost container ends.

@@ -7,8 +7,7 @@ ghost use Rattle.cbor_judging.specs.Readers.{IsUnread};
 ghost use Rattle.cbor_walk.specs.Front.{IsBuiltFront};
 
 use crate::plain_front::read_plain_front;
-use crate::whole_item::of_slice;
-use cbor_head::{KeyOrder, Limits, Refusal};
+use cbor_head::{KeyOrder, Limits, Reason, Refusal};
 use cbor_walk::{BuiltFront, build_front};
 use std::alloc::Global;
 
@@ -46,6 +45,10 @@ pub(crate) fn read_again(
     let mut rest = bytes;
     match read_plain_front(alloc, &mut rest, limits, order) {
         Ok(front) => Ok(front),
-        Err(refusal) => Err(of_slice(refusal)),
+        Err(refusal) => match refusal.reason {
+            // A slice doesn't fail, though `Read` can't say so.
+            Reason::Read => Err(Refusal::at(Reason::Memory, refusal.read)),
+            _ => Err(refusal),
+        },
     }
 }

@@ -41,21 +41,16 @@ pub fn read_view<'a>(
     ensures refused { IfErr result (λ f. IsUnread limits plain bytes.now f) }
     ensures no_read { IfErr result (λ f. f.reason ≢ reasons.Read) }
 {
-    check_limits(limits);
+    // What any limits keep to.
+    let _depth = limits.depth();
+    let _bytes = limits.bytes();
     match give_front(ViewSink::new(alloc, arena), bytes, limits) {
         Some((sink, size)) => Ok((sink.finish(), size)),
-        None => Err(refusal_of(alloc, bytes, limits)),
-    }
-}
-
-// Why no view was made: the refusal that the bytes call for, or that memory was refused.
-fn refusal_of(alloc: Global, bytes: &[u8], limits: Limits) -> Refusal
-    ensures refused { IsUnread limits plain bytes.now result }
-    ensures no_read { result.reason ≢ reasons.Read }
-{
-    match read_again(alloc, bytes, limits, KeyOrder::Bytewise) {
-        Ok(front) => Refusal::at(Reason::Memory, front.size),
-        Err(refusal) => refusal,
+        // The refusal that the bytes call for, or that memory was refused.
+        None => match read_again(alloc, bytes, limits, KeyOrder::Bytewise) {
+            Ok(front) => Err(Refusal::at(Reason::Memory, front.size)),
+            Err(refusal) => Err(refusal),
+        },
     }
 }
 
@@ -85,13 +80,4 @@ pub fn whole_view<'a>(
         }
         Err(refusal) => Err(refusal),
     }
-}
-
-// What any limits keep to.
-fn check_limits(limits: Limits)
-    ensures depth { limits.depth ≤ MAX_DEPTH }
-    ensures bytes { limits.bytes ≤ 2 ^ 62 }
-{
-    let _depth = limits.depth();
-    let _bytes = limits.bytes();
 }

@@ -1,13 +1,9 @@
 //! The item that a whole input is.
 
-ghost use Rattle.std.specs.Prelude.{◌≡◌, ◌≢◌, ℕ, List, IfOk, IfErr};
+ghost use Rattle.std.specs.Prelude.{◌≡◌, IfOk, IfErr};
 ghost use Rattle.cbor_head.specs.Canonical.{canonical};
-ghost use Rattle.cbor_head.specs.Complaint.{plain};
-ghost use Rattle.cbor_head.specs.Limits.{Bounds};
 ghost use Rattle.cbor_head.specs.Spelling.{Spelling, value_of};
-ghost use Rattle.cbor_head.specs.declared.reason.Reason.TheVariants as reasons;
 ghost use Rattle.cbor_reader.specs.Headline.{IsValidItem};
-ghost use Rattle.cbor_judging.specs.Readers.{IsUnread};
 ghost use Rattle.cbor_reader.specs.WholeItem.{IsItemRefusal};
 
 use crate::valid_front::valid_front;
@@ -34,17 +30,5 @@ pub(crate) fn encoded_item(
             Ok(front.canonical)
         }
         Err(refusal) => Err(refusal),
-    }
-}
-
-// A refusal by a reader that does not fail: a slice doesn't, though `Read` can't say so.
-pub(crate) fn of_slice(refusal: Refusal) -> Refusal
-    ensures unread { (limits : Bounds) (input : List ℕ)
-        → IsUnread limits plain input refusal → IsUnread limits plain input result }
-    ensures no_read { result.reason ≢ reasons.Read }
-{
-    match refusal.reason {
-        Reason::Read => Refusal::at(Reason::Memory, refusal.read),
-        _ => refusal,
     }
 }

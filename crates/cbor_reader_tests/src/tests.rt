@@ -2,6 +2,8 @@
 
 mod built;
 mod conformance;
+mod conformance_rows;
+mod conformance_strict;
 mod conformance_table;
 mod cut_short;
 mod failing;

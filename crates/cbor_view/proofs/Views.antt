@@ -8,32 +8,13 @@ use Rattle.cbor_view.specs.inner.Levels.{open_view}
 use Rattle.cbor_view.specs.declared.level.Level.{Level}
 use Rattle.cbor_view.specs.declared.level.Level.TheVariants as levels
 use Rattle.cbor_view.specs.declared.view.View.{View, the_lemmas}
-use Rattle.cbor_view.specs.declared.view.View.TheVariants.{Unsigned, Negative, Bytes, Text, Simple}
-use Rattle.cbor_view.specs.declared.view.View.TheViews.{Array, Map, Tag}
-
-pub seen-Unsigned : (n : ℕ) → seen (Unsigned n) ≡ value.unsigned n
-seen-Unsigned n = search (rules, the_lemmas)
-
-pub seen-Negative : (n : ℕ) → seen (Negative n) ≡ value.negative n
-seen-Negative n = search (rules, the_lemmas)
-
-pub seen-Bytes : (r : Bor (List ℕ)) → seen (Bytes r) ≡ value.bytes r.now
-seen-Bytes r = search (rules, the_lemmas)
-
-pub seen-Text : (r : Bor (List ℕ)) → seen (Text r) ≡ value.text r.now
-seen-Text r = search (rules, the_lemmas)
-
-pub seen-Simple : (n : ℕ) → seen (Simple n) ≡ value.simple n
-seen-Simple n = search (rules, the_lemmas)
+use Rattle.cbor_view.specs.declared.view.View.TheViews.{Array, Map}
 
 pub seen-Array : (r : Bor (List View)) → seen (Array r) ≡ value.array (values_of (map seen r.now))
 seen-Array r = search (rules, the_lemmas)
 
 pub seen-Map : (r : Bor (List (View × View))) → seen (Map r) ≡ value.map (entries_of (map (λ p. (seen p.0, seen p.1)) r.now))
 seen-Map r = search (rules, the_lemmas)
-
-pub seen-Tag : (n : ℕ) (r : Bor View) → seen (Tag n r) ≡ value.tag n (seen r.now)
-seen-Tag n r = search (rules, the_lemmas)
 
 -- the value of the array that ends
 pub ended-array : (top : Level) (first : ℕ) (ms : List View) (ps : List (View × View)) (r : Bor (List View))

@@ -4,108 +4,12 @@
 ghost use Rattle.std.specs.Prelude.{◌<◌};
 
 use super::listing_tables::{items, refused};
+use super::streams::{Sink, Source, Stop};
 use cbor_diag::{listing, listing_from};
 use cbor_head::{Limits, Reason, Refusal};
 use std::alloc::{AllocError, Global};
-use std::io;
-use std::io::{Read, Write};
 use std::process::Abort;
 use std::test::Fail;
-
-// A reader that gives at most `part` bytes a read, and at one place fails once and then goes on.
-#[derive(Drop)]
-struct Source<'a> {
-    rest: &'a [u8],
-    part: usize,
-    // How many bytes it gives before it fails.
-    fails: Option<usize>,
-    // How many bytes each read was asked for.
-    asked: Vec<usize>,
-}
-
-impl<'a> Source<'a> {
-    fn new(alloc: Global, bytes: &'a [u8]) -> Source<'a> {
-        Source {
-            rest: bytes,
-            part: usize::MAX,
-            fails: None,
-            asked: Vec::new(alloc),
-        }
-    }
-}
-
-impl Read for Source<'_> {
-    fn read(&mut self, buf: &mut [u8]) -> io::Result<usize> {
-        self.asked.push(buf.len())?;
-        let mut n = buf.len().min(self.rest.len()).min(self.part);
-        match self.fails {
-            None => {}
-            Some(0) => {
-                self.fails = None;
-                return Err(io::Error::from(io::ErrorKind::Interrupted));
-            }
-            Some(left) => {
-                n = n.min(left);
-                self.fails = Some(left - n);
-            }
-        }
-        buf[..n].copy_from_slice(&self.rest[..n]);
-        self.rest = &self.rest[n..];
-        Ok(n)
-    }
-}
-
-// How a writer stops.
-#[derive(Clone, Copy, PartialEq)]
-enum Stop {
-    Fails,
-    TakesNothing,
-}
-
-// A writer that takes at most `part` bytes a write, and at one place stops once and then goes on.
-#[derive(Drop)]
-struct Sink {
-    held: Vec<u8>,
-    part: usize,
-    // How many bytes it takes before it stops, and how.
-    stops: Option<(usize, Stop)>,
-}
-
-impl Sink {
-    fn new(alloc: Global) -> Sink {
-        Sink {
-            held: Vec::new(alloc),
-            part: usize::MAX,
-            stops: None,
-        }
-    }
-}
-
-impl Write for Sink {
-    fn write(&mut self, buf: &[u8]) -> io::Result<usize> {
-        let mut n = buf.len().min(self.part);
-        match self.stops {
-            None => {}
-            Some((0, stop)) => {
-                self.stops = None;
-                return match stop {
-                    Stop::Fails => Err(io::Error::from(io::ErrorKind::Interrupted)),
-                    Stop::TakesNothing => Ok(0),
-                };
-            }
-            Some((left, stop)) => {
-                n = n.min(left);
-                self.stops = Some((left - n, stop));
-            }
-        }
-        self.held.extend_from_slice(&buf[..n])?;
-        Ok(n)
-    }
-
-    fn flush(&mut self) -> io::Result<()> {
-        Ok(())
-    }
-}
 
 fn limits<R: Abort>(rt: &R, depth: u16, bytes: u64) -> Limits {
     Limits::new(depth, bytes).expect(rt, "limits")

@@ -1,77 +1,14 @@
 //! The event reader against the tables, over readers that give few bytes at a time, or fail.
 
+use super::parts::Parts;
 use super::refused::refused_rows;
 use super::tables::{accepted_rows, fronts_rows, not_valid_rows};
 use super::{Told, bytes_of, event, events_of, join, limits};
-use arrayvec::ArrayVec;
 use cbor_events::{Event, EventKind, EventReader, Out};
 use cbor_head::{Limits, Reason, Refusal, Width};
 use std::alloc::{AllocError, Global};
-use std::io;
 use std::io::Read;
 use std::process::Abort;
-
-// A reader that gives at most so many bytes a read, and none beyond a cut with those before it. Where
-// it fails or ends, it does so once, and then goes on: a second read there is seen by what it gives.
-#[derive(Drop)]
-struct Parts<'a> {
-    rest: &'a [u8],
-    part: usize,
-    // The bytes before the cut, before the failure and before the end.
-    cut: usize,
-    fails: usize,
-    ends: usize,
-    // How many bytes the first reads were asked for, and how many reads were for none.
-    asked: ArrayVec<usize, 16>,
-    idle: usize,
-}
-
-impl<'a> Parts<'a> {
-    fn new(bytes: &'a [u8]) -> Parts<'a> {
-        Parts {
-            rest: bytes,
-            part: usize::MAX,
-            cut: usize::MAX,
-            fails: usize::MAX,
-            ends: usize::MAX,
-            asked: ArrayVec::new(),
-            idle: 0,
-        }
-    }
-}
-
-impl Read for Parts<'_> {
-    fn read(&mut self, buf: &mut [u8]) -> io::Result<usize> {
-        let _ = self.asked.try_push(buf.len());
-        if buf.is_empty() {
-            self.idle = self.idle.saturating_add(1);
-        }
-        if self.fails == 0 {
-            self.fails = usize::MAX;
-            return Err(io::Error::from(io::ErrorKind::Interrupted));
-        }
-        if self.ends == 0 {
-            self.ends = usize::MAX;
-            return Ok(0);
-        }
-        if self.cut == 0 {
-            self.cut = usize::MAX;
-        }
-        let n = buf
-            .len()
-            .min(self.rest.len())
-            .min(self.part)
-            .min(self.cut)
-            .min(self.fails)
-            .min(self.ends);
-        buf[..n].copy_from_slice(&self.rest[..n]);
-        self.rest = &self.rest[n..];
-        self.cut -= n;
-        self.fails -= n;
-        self.ends -= n;
-        Ok(n)
-    }
-}
 
 // What came of an item that was read, and the bytes of its payloads.
 #[derive(Drop)]

@@ -1,7 +1,7 @@
 //! Items cut short, by the end of the input and by the byte limit, at every place: the first bytes
 //! of an item are truncated, and a limit within it makes it too long.
 
-use super::conformance::{BadRow, limits_of, row_of};
+use super::conformance_rows::{BadRow, limits_of, row_of};
 use super::conformance_table::{PARTS, rows};
 use super::{Parts, bytes_of};
 use cbor_head::{Limits, Reason, Refusal};

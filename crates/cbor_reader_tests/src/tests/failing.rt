@@ -1,7 +1,7 @@
 //! Readers that fail once, at each place, and then go on giving: the failure is told where the bytes
 //! before it call for no answer yet, and no read is tried again.
 
-use super::conformance::{BadRow, limits_of, row_of};
+use super::conformance_rows::{BadRow, limits_of, row_of};
 use super::conformance_table::{PARTS, rows};
 use super::{bytes_of, limits};
 use cbor_head::{Limits, Reason, Refusal};

@@ -11,7 +11,8 @@ use Rattle.cbor_reader.specs.declared.key_set.KeySet.{KeySet}
 use Rattle.cbor_item.specs.OpenValues.{OpenItem}
 use Rattle.cbor_reader.specs.inner.TreeValues.{IsTreeStep, TakesTreePart, values_with}
 use Rattle.cbor_reader.proofs.TreeValues.{step-kept}
-use Rattle.cbor_reader.proofs.PlainSteps.{refused-head, refused-part, place-room, came, part-taken, part-fits, part-fits-tree, part-no-memory, repeated-key, goes-or-not, given-order}
+use Rattle.cbor_reader.proofs.PartsTaken.{refused-head, refused-part, place-room, came, part-taken, part-fits, part-fits-tree, part-no-memory}
+use Rattle.cbor_reader.proofs.PartEnds.{repeated-key, goes-or-not, given-order}
 use Rattle.cbor_reader.proofs.plain_front.next_part.Goals as goal
 
 pub next_head-requires : goal.next_head-requires

@@ -1,6 +1,6 @@
 use Rattle.cbor_automaton.specs.declared.event.EventKind.TheVariants as kinds
 use Rattle.cbor_head.specs.Complaint.{plain}
-use Rattle.cbor_reader.proofs.PlainSteps.{come-begun, simple-begun}
+use Rattle.cbor_reader.proofs.PartPlaces.{come-begun, simple-begun}
 use Rattle.cbor_judging.proofs.Scalars.{reads-unsigned, reads-negative, reads-simple}
 use Rattle.cbor_reader.proofs.plain_part.read_part.Goals as goal
 

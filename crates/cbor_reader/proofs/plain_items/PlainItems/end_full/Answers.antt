@@ -1,7 +1,7 @@
 use Rattle.std.proofs.Common.{◌∙◌, ap, subst, sym, arith}
 use Rattle.cbor_builder.specs.Built.{Built}
 use Rattle.cbor_item.specs.OpenValues.{close}
-use Rattle.cbor_reader.proofs.PlainSteps.{ends-next, ends-in-tree, ends-one, ends-all}
+use Rattle.cbor_reader.proofs.PartEnds.{ends-next, ends-in-tree, ends-one, ends-all}
 use Rattle.std.specs.Prelude.{IsSome}
 use Rattle.cbor_reader.specs.inner.TreeValues.{IsTreeStep}
 use Rattle.cbor_reader.proofs.TreeValues.{step-kept}

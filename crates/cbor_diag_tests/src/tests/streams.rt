@@ -1,0 +1,100 @@
+//! A reader and a writer that give and take little at a time, or fail.
+
+use std::alloc::Global;
+use std::io;
+use std::io::{Read, Write};
+
+// A reader that gives at most `part` bytes a read, and at one place fails once and then goes on.
+#[derive(Drop)]
+pub(super) struct Source<'a> {
+    pub(super) rest: &'a [u8],
+    pub(super) part: usize,
+    // How many bytes it gives before it fails.
+    pub(super) fails: Option<usize>,
+    // How many bytes each read was asked for.
+    pub(super) asked: Vec<usize>,
+}
+
+impl<'a> Source<'a> {
+    pub(super) fn new(alloc: Global, bytes: &'a [u8]) -> Source<'a> {
+        Source {
+            rest: bytes,
+            part: usize::MAX,
+            fails: None,
+            asked: Vec::new(alloc),
+        }
+    }
+}
+
+impl Read for Source<'_> {
+    fn read(&mut self, buf: &mut [u8]) -> io::Result<usize> {
+        self.asked.push(buf.len())?;
+        let mut n = buf.len().min(self.rest.len()).min(self.part);
+        match self.fails {
+            None => {}
+            Some(0) => {
+                self.fails = None;
+                return Err(io::Error::from(io::ErrorKind::Interrupted));
+            }
+            Some(left) => {
+                n = n.min(left);
+                self.fails = Some(left - n);
+            }
+        }
+        buf[..n].copy_from_slice(&self.rest[..n]);
+        self.rest = &self.rest[n..];
+        Ok(n)
+    }
+}
+
+// How a writer stops.
+#[derive(Clone, Copy, PartialEq)]
+pub(super) enum Stop {
+    Fails,
+    TakesNothing,
+}
+
+// A writer that takes at most `part` bytes a write, and at one place stops once and then goes on.
+#[derive(Drop)]
+pub(super) struct Sink {
+    pub(super) held: Vec<u8>,
+    pub(super) part: usize,
+    // How many bytes it takes before it stops, and how.
+    pub(super) stops: Option<(usize, Stop)>,
+}
+
+impl Sink {
+    pub(super) fn new(alloc: Global) -> Sink {
+        Sink {
+            held: Vec::new(alloc),
+            part: usize::MAX,
+            stops: None,
+        }
+    }
+}
+
+impl Write for Sink {
+    fn write(&mut self, buf: &[u8]) -> io::Result<usize> {
+        let mut n = buf.len().min(self.part);
+        match self.stops {
+            None => {}
+            Some((0, stop)) => {
+                self.stops = None;
+                return match stop {
+                    Stop::Fails => Err(io::Error::from(io::ErrorKind::Interrupted)),
+                    Stop::TakesNothing => Ok(0),
+                };
+            }
+            Some((left, stop)) => {
+                n = n.min(left);
+                self.stops = Some((left - n, stop));
+            }
+        }
+        self.held.extend_from_slice(&buf[..n])?;
+        Ok(n)
+    }
+
+    fn flush(&mut self) -> io::Result<()> {
+        Ok(())
+    }
+}

@@ -1,0 +1,119 @@
+//! What a row of the conformance table says, and a reader of its input.
+
+use super::{BadHex, bytes_of};
+use cbor_head::{Limits, Refusal};
+use cbor_reader::KeyOrder;
+use std::alloc::{AllocError, Global};
+use std::io;
+use std::io::Read;
+
+// A row that can't be read.
+#[derive(Debug, Drop)]
+pub(super) enum BadRow {
+    Columns,
+    Limits,
+}
+
+pub(super) static ORDERS: [KeyOrder; 2] = [KeyOrder::Bytewise, KeyOrder::LengthFirst];
+
+// The columns of a row that tests read: the input, the limits, and what is answered.
+pub(super) fn row_of(line: &str) -> Option<(&str, &str, &str, &str)> {
+    let (input, rest) = line.split_once('|')?;
+    let (limits, rest) = rest.split_once('|')?;
+    let (plain, rest) = rest.split_once('|')?;
+    let (strict, _) = rest.split_once('|')?;
+    Some((input.trim(), limits.trim(), plain.trim(), strict.trim()))
+}
+
+// What a column has for an order: before the slash or behind it; without one, the whole.
+pub(super) fn by_order(column: &str, order: KeyOrder) -> &str {
+    let Some((bytewise, length_first)) = column.split_once('/') else {
+        return column;
+    };
+    match order {
+        KeyOrder::Bytewise => bytewise.trim(),
+        KeyOrder::LengthFirst => length_first.trim(),
+    }
+}
+
+// The limits of a column as `depth 1 bytes 4`.
+pub(super) fn limits_of(column: &str) -> Option<Limits> {
+    if !column.is_empty() && !column.starts_with("depth ") && !column.starts_with("bytes ") {
+        return None;
+    }
+    let depth = number_behind(column, "depth ", 256)?;
+    let bytes = number_behind(column, "bytes ", 1048576)?;
+    Limits::new(u16::try_from(depth).ok()?, bytes)
+}
+
+// The number behind a word, or another one where the word isn't there.
+fn number_behind(column: &str, word: &str, otherwise: u64) -> Option<u64> {
+    match column.split_once(word) {
+        Some((_, behind)) => behind.split_whitespace().next()?.parse::<u64>().ok(),
+        None => Some(otherwise),
+    }
+}
+
+// Whether the plain rules refuse the input, as a whole.
+pub(super) fn is_refused(plain: &str) -> bool {
+    plain.contains(" at ")
+}
+
+// Whether the input is one item that is valid and within the limits.
+pub(super) fn is_item(plain: &str) -> bool {
+    !is_refused(plain) || plain.starts_with("13 ")
+}
+
+// A refusal, as the columns have it.
+pub(super) fn text_of(alloc: Global, refusal: Refusal) -> Result<String, AllocError> {
+    format!(in alloc; "{refusal}, read {}", refusal.read)
+}
+
+// The canonical bytes that a row wants of an input.
+pub(super) fn canonical_of(alloc: Global, input: &[u8], plain: &str) -> Result<Vec<u8>, BadHex> {
+    match plain {
+        "same" => Vec::from_slice(alloc, input).map_err(|_| BadHex::Memory),
+        hex => bytes_of(alloc, hex),
+    }
+}
+
+// A reader in two parts that gives at most so many bytes a read, and none beyond the first part
+// before that is gone.
+#[derive(Drop)]
+pub(super) struct Cut<'a> {
+    first: &'a [u8],
+    second: &'a [u8],
+    most: usize,
+}
+
+impl<'a> Cut<'a> {
+    // The ways to give an input: at 0 one byte a read, else cut in two there; at its end, whole.
+    pub(super) fn in_way(input: &'a [u8], way: usize) -> Cut<'a> {
+        let most = if way == 0 { 1 } else { usize::MAX };
+        let (first, second) = input.split_at(way.min(input.len()));
+        Cut {
+            first,
+            second,
+            most,
+        }
+    }
+
+    // How many bytes of an input were taken.
+    pub(super) fn taken(&self, input: &[u8]) -> usize {
+        let left = self.first.len().saturating_add(self.second.len());
+        input.len().saturating_sub(left)
+    }
+}
+
+impl Read for Cut<'_> {
+    fn read(&mut self, buf: &mut [u8]) -> io::Result<usize> {
+        if self.first.is_empty() {
+            self.first = self.second;
+            self.second = &[];
+        }
+        let n = buf.len().min(self.first.len()).min(self.most);
+        buf[..n].copy_from_slice(&self.first[..n]);
+        self.first = &self.first[n..];
+        Ok(n)
+    }
+}

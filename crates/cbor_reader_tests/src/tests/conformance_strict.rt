@@ -1,0 +1,132 @@
+//! Each row of the conformance table, read strictly.
+
+use super::bytes_of;
+use super::conformance_rows::{
+    BadRow, Cut, ORDERS, by_order, is_refused, limits_of, row_of, text_of,
+};
+use super::conformance_table::{PARTS, rows};
+use cbor_head::{Limits, Refusal};
+use cbor_reader::{KeyOrder, StrictReader, read_strict};
+use std::alloc::{AllocError, Global};
+use std::test::Fail;
+
+#[test]
+fn reads_strictly(rt: HostRuntime) -> Result<(), Fail> {
+    for part in 0..PARTS {
+        for &line in rows(part) {
+            let Some((hex, column, plain, strict)) = row_of(line) else {
+                return Err(Fail::from(BadRow::Columns));
+            };
+            let Some(limits) = limits_of(column) else {
+                return Err(Fail::from(BadRow::Limits));
+            };
+            let input = bytes_of(rt.alloc(), hex)?;
+            for &order in &ORDERS {
+                let wanted = strict_text(rt.alloc(), &input, plain, strict, order)?;
+                for way in 0..=input.len() {
+                    let mut reader = Cut::in_way(&input, way);
+                    let answer = read_strict(rt.alloc(), &mut reader, limits, order);
+                    let taken = reader.taken(&input) as u64;
+                    let is_right = is_strict_right(rt.alloc(), wanted.as_str(), answer, taken)?;
+                    assert!(rt; is_right, "{line}");
+                }
+            }
+        }
+    }
+    Ok(())
+}
+
+// The count or the refusal at which the events end, and the same again; none where they don't end,
+// or more is kept than was read.
+fn last_of(
+    alloc: Global,
+    reader: &mut Cut<'_>,
+    limits: Limits,
+    order: KeyOrder,
+) -> Option<Result<u64, Refusal>> {
+    let mut events = StrictReader::new(alloc, reader, limits, order);
+    for _ in 0..1000 {
+        let answer = match events.next() {
+            Ok(Some(_)) => None,
+            Ok(None) => Some(Ok(events.taken())),
+            Err(refusal) => Some(Err(refusal)),
+        };
+        if events.spans() > events.open() || events.kept() > events.taken() {
+            return None;
+        }
+        if let Some(last) = answer {
+            let again = match events.next() {
+                Ok(Some(_)) => None,
+                Ok(None) => Some(Ok(events.taken())),
+                Err(refusal) => Some(Err(refusal)),
+            };
+            return again.filter(|again| *again == last);
+        }
+    }
+    None
+}
+
+#[test]
+fn tells_strict_events(rt: HostRuntime) -> Result<(), Fail> {
+    for part in 0..PARTS {
+        for &line in rows(part) {
+            let Some((hex, column, plain, strict)) = row_of(line) else {
+                return Err(Fail::from(BadRow::Columns));
+            };
+            let Some(limits) = limits_of(column) else {
+                return Err(Fail::from(BadRow::Limits));
+            };
+            let input = bytes_of(rt.alloc(), hex)?;
+            for &order in &ORDERS {
+                let wanted = strict_text(rt.alloc(), &input, plain, strict, order)?;
+                for way in [0, input.len()] {
+                    let mut reader = Cut::in_way(&input, way);
+                    let Some(answer) = last_of(rt.alloc(), &mut reader, limits, order) else {
+                        return Err(Fail::from(BadRow::Limits));
+                    };
+                    let taken = reader.taken(&input) as u64;
+                    let is_right = is_strict_right(rt.alloc(), wanted.as_str(), answer, taken)?;
+                    assert!(rt; is_right, "{line}");
+                }
+            }
+        }
+    }
+    Ok(())
+}
+
+// Whether this is the count or the refusal that is wanted, with so many bytes taken.
+fn is_strict_right(
+    alloc: Global,
+    wanted: &str,
+    answer: Result<u64, Refusal>,
+    taken: u64,
+) -> Result<bool, AllocError> {
+    match answer {
+        Ok(count) => {
+            let text = format!(in alloc; "taken {count}")?;
+            Ok(text.as_str() == wanted && count == taken)
+        }
+        Err(refusal) => {
+            let text = text_of(alloc, refusal)?;
+            Ok(text.as_str() == wanted && refusal.read == taken)
+        }
+    }
+}
+
+// What the strict reader is to answer: the column, or as the plain rules have it.
+fn strict_text(
+    alloc: Global,
+    input: &[u8],
+    plain: &str,
+    strict: &str,
+    order: KeyOrder,
+) -> Result<String, AllocError> {
+    let wanted = by_order(plain, order);
+    if !strict.is_empty() {
+        String::from_str(alloc, by_order(strict, order))
+    } else if is_refused(wanted) {
+        String::from_str(alloc, wanted)
+    } else {
+        format!(in alloc; "taken {}", input.len())
+    }
+}
