@@ -88,7 +88,7 @@ def tell_sequences(cborc, folder):
         ran = measure(name, [cborc, *words], folder, (0, out, b""), to)
         print(f"| {name} | {program.speed(ran.processor, SIZE * count)} | {mebibytes(ran.peak)} |", flush=True)
     beside = program.speed(program.least_time(cborc, folder, "records", "check"), os.path.getsize(f"{folder}/records.cbor"))
-    print(f"\nThe goal is 100 MB/s for `check --seq`, within 8 MiB, where `check` makes 90 of records; it makes {beside} here.")
+    print(f"\nBeside them `check` made {beside} MB/s of records.")
     # It is made here where `canon` made none.
     with open(f"{folder}/out", "ab") as written:
         if not filecmp.cmp(written.name, ordered, shallow=False):

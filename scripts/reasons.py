@@ -17,7 +17,7 @@ IN_PYTHON = [
     ("--depth", "depth"),
     ("--hex", "bytes.fromhex"),
     ("--order", "order"),
-    ("check --seq", "items"),
+    ("check --seq", "`items`"),
     ("canon ", "canonicalise "),
 ]
 

@@ -61,7 +61,7 @@ REASONS: Dict[int, Tuple[str, str, str]] = {
     12: (
         "Trailing",
         "The item is complete, and a byte follows it.",
-        "For several items in a row there is items.",
+        "For several items in a row there is `items`.",
     ),
     13: (
         "CanonicalTooLong",
