@@ -11,6 +11,7 @@ pub mod GivenParts
 pub mod HeadComplaints
 pub mod KeyOrder
 pub mod PathForm
+pub mod PathKinds
 pub mod PathLevels
 pub mod PathSteps
 pub mod PathStops
