@@ -26,6 +26,10 @@ class Chunks(str):
     """A text that is written in chunks of one character."""
 
 
+class Tagged(tuple):
+    """A tag's number and its content."""
+
+
 def head(major, argument, wide=False):
     if wide:
         return bytes([major << 5 | 27]) + argument.to_bytes(8, "big")
@@ -53,6 +57,8 @@ def encode(value, order=None):
     if isinstance(value, str):
         text = value.encode()
         return head(3, len(text)) + text
+    if isinstance(value, Tagged):
+        return head(6, value[0]) + encode(value[1], order)
     if isinstance(value, Map):
         pairs = [(encode(key, order), encode(content, order)) for key, content in value]
         if not as_written:
@@ -110,6 +116,20 @@ def in_chunks(chance):
     return Map([("x", [5]), (1, Chunks("".join(chance.choices("abc", k=chance.randrange(20)))))])
 
 
+def chain(chance):
+    """Arrays, maps and tags in one another, 20 to 250 deep, with scalars beside them."""
+    core = chance.randrange(1000)
+    short = lambda: "".join(chance.choices("abcdefgh", k=chance.randrange(1, 5)))
+    for _ in range(chance.randrange(20, 251)):
+        core = chance.choice((
+            lambda: [core],
+            lambda: [short(), core, chance.randrange(30)],
+            lambda: Map([("v", core), (7, None), ("k", chance.randrange(9))]),
+            lambda: Tagged((1000 + chance.randrange(70_000), core)),
+        ))()
+    return core
+
+
 def nested(core, depth, pair):
     for _ in range(depth):
         core = Map(pair(core))
@@ -138,6 +158,7 @@ def inputs():
     yield "bytes_16_mib", bytes(16 * MIB)
     yield "texts", filled(lambda: past_ascii(chance), MIB)
     yield "small_chunks", filled(lambda: in_chunks(chance), MIB)
+    yield "chains", filled(lambda: chain(chance), MIB)
 
 
 def main():

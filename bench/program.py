@@ -43,6 +43,9 @@ TITLES = {
     "keys_around_map": "255 unsorted maps, as keys, around 170,000 shuffled integers",
     "keys_around_zeros": "255 unsorted maps, as keys, around an array of zeros",
     "bytes_16_mib": "one byte string of 16 MiB",
+    "texts": "texts past ASCII",
+    "small_chunks": "small maps of a byte string or a text, in chunks",
+    "chains": "chains of arrays, maps and tags, 20 to 250 deep",
 }
 # Of the other subcommands: instructions a byte, beside those of `check`.
 COUNTED = {

@@ -1,15 +1,17 @@
 #!/usr/bin/env bash
 # Prints how long the library and the program take, as Markdown tables.
 #
-#   bench/run.sh [items] [program] [library] [strict] [views]      all five without a word
+#   bench/run.sh [items] [program] [beside] [library] [strict] [views]      all six without a word
 #
 # items    proves and runs items.rattle, a program over cbor_item, on trees made from a seed
 # program  proves cborc, makes files from a seed (inputs.py), and runs it on them (program.py); then on a sequence of
 #          300 MB and on files of 1 GiB, and beside /bin/true (streams.py), some minutes
+# beside   proves cborc, and counts the instructions of canon, check and check --strict beside those of plain C
+#          (beside.py, plain.c, floor.c), by valgrind
 # library  builds the library for C, and times its calls in process beside plain C (library.c, floor.c)
-#          and libcbor, where Debian's libcbor-dev is installed
+#          and libcbor, where Debian's libcbor-dev is installed; and the stack that they need (c/stack.c)
 # strict   proves and runs strict.rattle, a program over cbor_strict, and counts the instructions of
-#          read_strict from a reader beside those of plain C (strict.py, strict.c, floor.c), by valgrind
+#          read_strict from a reader beside those of plain C (strict.py, plain.c, floor.c), by valgrind
 # views    proves and runs views.rattle, a program over cbor_reader and example, and counts the instructions
 #          and the memory of read_view beside those of check_valid and read_tree (views.py), by valgrind
 #
@@ -33,59 +35,82 @@ items() {
     rt run 2>"$room/log" || { cat "$room/log" >&2; return 1; }
 }
 
-program() {
+# Proves cborc, if that was not done.
+make_program() {
     cd "$room/crates/cborc"
     rt run -- --help >/dev/null 2>"$room/log" || { cat "$room/log" >&2; return 1; }
-    mkdir "$room/inputs"
-    python3 "$root/bench/inputs.py" "$room/inputs"
+}
+
+make_inputs() {
+    mkdir -p "$room/inputs"
+    [ -e "$room/inputs/one.cbor" ] || python3 "$root/bench/inputs.py" "$room/inputs"
+}
+
+make_plain() {
+    cc -O3 -o "$room/plain" "$root/bench/plain.c" "$root/bench/floor.c"
+}
+
+program() {
+    make_program
+    make_inputs
     python3 "$root/bench/program.py" out/cborc "$room/inputs"
     python3 "$root/bench/streams.py" out/cborc "$room/inputs"
 }
 
+beside() {
+    make_program
+    make_inputs
+    make_plain
+    python3 "$root/bench/beside.py" "$PWD/out/cborc" "$room/plain" "$room/inputs" integers map_100000 texts records chains \
+        small_chunks keys_around_bytes
+}
+
 library() {
     "$root/scripts/build_c.sh" "$room/dist"
-    mkdir -p "$room/inputs"
-    [ -e "$room/inputs/one.cbor" ] || python3 "$root/bench/inputs.py" "$room/inputs"
+    make_inputs
     peer=()
     ! pkg-config --exists libcbor 2>/dev/null || peer=(-DHAS_LIBCBOR $(pkg-config --cflags --libs libcbor))
     cc -O3 -o "$room/library" "$root/bench/library.c" "$root/bench/floor.c" "-I$room/dist/include" \
         "$room/dist/lib/libnaltvigo.a" "${peer[@]}"
     "$room/library" "$room/inputs" records map_10000 map_100000 integers wide_integers zeros text chunks \
         nested_many nested_keys keys_around_map bytes_16_mib
+    cc -O2 -o "$room/stack" "$root/c/stack.c" "-I$root/c" "-I$room/dist/include" "$room/dist/lib/libnaltvigo.a" -pthread
+    printf '\n'
+    "$room/stack"
 }
 
 strict() {
-    mkdir -p "$room/crates/strict/src" "$room/inputs"
+    mkdir -p "$room/crates/strict/src"
     cp "$root/bench/strict.rattle" "$room/crates/strict/src/main.rt"
     echo "strict: cbor_head cbor_strict anyhow" >>"$room/crates.txt"
-    [ -e "$room/inputs/one.cbor" ] || python3 "$root/bench/inputs.py" "$room/inputs"
+    make_inputs
     cd "$room/crates/strict"
     rt run -- "$room/inputs/one.bytewise" 2>"$room/log" || { cat "$room/log" >&2; return 1; }
-    cc -O3 -o "$room/floor" "$root/bench/strict.c" "$root/bench/floor.c"
-    python3 "$root/bench/strict.py" out/strict "$room/floor" "$room/inputs" records map_100000 integers zeros text \
+    make_plain
+    python3 "$root/bench/strict.py" out/strict "$room/plain" "$room/inputs" records map_100000 integers zeros text \
         nested_many nested_keys keys_around_map
 }
 
 views() {
-    mkdir -p "$room/crates/views/src" "$room/inputs"
+    mkdir -p "$room/crates/views/src"
     cp "$root/bench/views.rattle" "$room/crates/views/src/main.rt"
     echo "views: cbor_head cbor_item cbor_reader example anyhow bumpalo" >>"$room/crates.txt"
-    [ -e "$room/inputs/one.cbor" ] || python3 "$root/bench/inputs.py" "$room/inputs"
+    make_inputs
     cd "$room/crates/views"
     rt run -- valid "$room/inputs/one.cbor" >/dev/null 2>"$room/log" || { cat "$room/log" >&2; return 1; }
     python3 "$root/bench/views.py" out/views "$room/inputs" records integers texts map_100000 small_chunks zeros
 }
 
-[ $# -gt 0 ] || set -- items program library strict views
+[ $# -gt 0 ] || set -- items program beside library strict views
 date -u +'%Y-%m-%d, '"$(nproc) processors, load $(cut -d' ' -f1 /proc/loadavg)"
 for part; do
     case $part in
-        items | program | library | strict | views)
+        items | program | beside | library | strict | views)
             printf '\n## %s\n\n' "$part"
             ("$part")
             ;;
         *)
-            echo "usage: bench/run.sh [items] [program] [library] [strict] [views]" >&2
+            echo "usage: bench/run.sh [items] [program] [beside] [library] [strict] [views]" >&2
             exit 2
             ;;
     esac

@@ -2,7 +2,7 @@
 
     python3 strict.py PROGRAM FLOOR FOLDER NAME..
 
-PROGRAM is strict.rattle, FLOOR strict.c; both read one file. Each count is callgrind's, of the canonical
+PROGRAM is strict.rattle, FLOOR plain.c; both read one file. Each count is callgrind's, of the canonical
 bytes NAME.bytewise of inputs.py, less that of the integer 0, a byte. Ends with status 1 where a file is
 refused.
 """
@@ -29,12 +29,13 @@ def instructions(*words):
 def main():
     program, floor, folder, *names = sys.argv[1:]
     zero = f"{folder}/one.bytewise"
-    starts = [instructions(it, zero) for it in (program, floor)]
+    readers = [program], [floor, "strict"]
+    starts = [instructions(*it, zero) for it in readers]
     print("| input | `read_strict` | C | ratio |\n| --- | ---: | ---: | ---: |")
     for name in names:
         path = f"{folder}/{name}.bytewise"
         size = os.path.getsize(path)
-        ours, plain = ((instructions(it, path) - start) / size for it, start in zip((program, floor), starts))
+        ours, plain = ((instructions(*it, path) - start) / size for it, start in zip(readers, starts))
         print(f"| {name} | {ours:.2f} | {plain:.2f} | {ours / plain:.2f} |", flush=True)
 
 

@@ -1,5 +1,6 @@
 /* Measures the stack that each call needs, on a thread whose stack was painted before, over items that nest
- * to the depth that the call is passed; prints the most, and fails where it is more than the header says. */
+ * to the depth that the call is passed; prints the most in bytes, as Markdown, and fails where it is more than the
+ * header says. */
 #include "options.h"
 
 #include <pthread.h>
@@ -87,9 +88,11 @@ static int make(int shape, size_t levels) {
 int main(void) {
     int bad = 0;
     size_t thread = written_by(nothing);
-    printf("%-16s", "depth");
-    for (int i = 0; i < CALLS; i++) printf(" %15s", names[i]);
-    puts("   (bytes of stack)");
+    printf("| depth |");
+    for (int i = 0; i < CALLS; i++) printf(" `%s` |", names[i]);
+    printf("\n| ---: |");
+    for (int i = 0; i < CALLS; i++) printf(" ---: |");
+    puts("");
     static const uint32_t depths[] = {0, 16, 32, 64, 256};
     for (size_t k = 0; k < sizeof depths / sizeof *depths; k++) {
         size_t most[CALLS] = {0};
@@ -99,9 +102,9 @@ int main(void) {
                 size_t written = written_by(work) - thread;
                 if (written > most[call]) most[call] = written;
             }
-        printf("%-16u", (unsigned)depth);
+        printf("| %u |", (unsigned)depth);
         for (int i = 0; i < CALLS; i++) {
-            printf(" %15zu", most[i]);
+            printf(" %zu |", most[i]);
             bad |= most[i] > NALTVIGO_STACK;
         }
         puts("");

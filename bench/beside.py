@@ -1,0 +1,39 @@
+"""Counts the instructions of `cborc` beside those of plain C, and prints Markdown.
+
+    python3 beside.py CBORC PLAIN FOLDER NAME..
+
+PLAIN is plain.c. Each count is callgrind's, a byte, less that of the integer 0: of NAME.cbor of inputs.py, and for
+`check --strict` of its canonical bytes NAME.bytewise. `check` finds repeated keys, so it stands beside the C that
+canonicalises. Ends with status 1 where a file is refused.
+"""
+
+import os
+import sys
+
+from program import TITLES
+from strict import instructions
+
+BYTES = ["--bytes", "100000000"]
+
+
+def a_byte(folder, name, ending, words, out=()):
+    """Instructions a byte of these words before the file, and OUT behind it."""
+    path, one = (f"{folder}/{it}.{ending}" for it in (name, "one"))
+    return (instructions(*words, path, *out) - instructions(*words, one, *out)) / os.path.getsize(path)
+
+
+def main():
+    cborc, plain, folder, *names = sys.argv[1:]
+    print("| | `canon` | C | ratio | `check` | ratio | `check --strict` | C | ratio |\n| --- |" + " ---: |" * 8)
+    for name in names:
+        built = a_byte(folder, name, "cbor", [cborc, "canon", *BYTES], [f"{folder}/out"])
+        checked = a_byte(folder, name, "cbor", [cborc, "check", *BYTES])
+        by_c = a_byte(folder, name, "cbor", [plain, "canon"])
+        strict = a_byte(folder, name, "bytewise", [cborc, "check", "--strict", *BYTES])
+        strict_by_c = a_byte(folder, name, "bytewise", [plain, "strict"])
+        cells = [built, by_c, built / by_c, checked, checked / by_c, strict, strict_by_c, strict / strict_by_c]
+        print(f"| {TITLES[name]} | " + " | ".join(f"{it:.2f}" for it in cells) + " |", flush=True)
+
+
+if __name__ == "__main__":
+    main()
