@@ -4,9 +4,9 @@
 #   bench/run.sh [items] [program] [beside] [library] [strict] [views]      all six without a word
 #
 # items    proves and runs items.rattle, a program over cbor_item, on trees made from a seed
-# program  proves cborc, makes files from a seed (inputs.py), and runs it on them (program.py); then on a sequence of
+# program  makes files from a seed (inputs.py), and runs cborc on them (program.py); then on a sequence of
 #          300 MB and on files of 1 GiB, and beside /bin/true (streams.py), some minutes
-# beside   proves cborc, and counts the instructions of canon, check and check --strict beside those of plain C
+# beside   counts the instructions of canon, check and check --strict beside those of plain C
 #          (beside.py, plain.c, floor.c), by valgrind
 # library  builds the library for C, and times its calls in process beside plain C (library.c, floor.c)
 #          and libcbor, where Debian's libcbor-dev is installed; and the stack that they need (c/stack.c)
@@ -17,7 +17,7 @@
 #
 # The kit's rt has to be on the path. What rt says goes to standard error. All is done on a copy in
 # a temporary folder, which takes over what earlier checks of the clone kept, so that only what
-# changed is proved again.
+# changed is proved again; cborc is the one that a check or the gate left, if no source is newer.
 set -euo pipefail
 
 root=$(cd "$(dirname "${BASH_SOURCE[0]}")/.." && pwd)
@@ -35,10 +35,13 @@ items() {
     rt run 2>"$room/log" || { cat "$room/log" >&2; return 1; }
 }
 
-# Proves cborc, if that was not done.
+# The program as a check or the gate left it, if no source is newer; else it is proved.
 make_program() {
-    cd "$room/crates/cborc"
-    rt run -- --help >/dev/null 2>"$room/log" || { cat "$room/log" >&2; return 1; }
+    cborc=$root/crates/cborc/out/cborc
+    if [ ! -x "$cborc" ] || [ -n "$(find "$root/crates" -newer "$cborc" \( -name '*.rt' -o -name '*.antt' \) -not -path '*/out/*' -print -quit)" ]; then
+        (cd "$room/crates/cborc" && rt run -- --help) >/dev/null 2>"$room/log" || { cat "$room/log" >&2; return 1; }
+        cborc=$room/crates/cborc/out/cborc
+    fi
 }
 
 make_inputs() {
@@ -53,15 +56,15 @@ make_plain() {
 program() {
     make_program
     make_inputs
-    python3 "$root/bench/program.py" out/cborc "$room/inputs"
-    python3 "$root/bench/streams.py" out/cborc "$room/inputs"
+    python3 "$root/bench/program.py" "$cborc" "$room/inputs"
+    python3 "$root/bench/streams.py" "$cborc" "$room/inputs"
 }
 
 beside() {
     make_program
     make_inputs
     make_plain
-    python3 "$root/bench/beside.py" "$PWD/out/cborc" "$room/plain" "$room/inputs" integers map_100000 texts records chains \
+    python3 "$root/bench/beside.py" "$cborc" "$room/plain" "$room/inputs" integers map_100000 texts records chains \
         small_chunks keys_around_bytes
 }
 
