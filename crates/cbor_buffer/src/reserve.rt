@@ -1,13 +1,15 @@
 //! One more element, for which there mostly is room.
 
-ghost use Rattle.std.specs.Prelude.{◌≡◌, ◌<◌, ◌++◌, ◌∷◌, [], OnOk, vec_len, vec_capacity};
+ghost use Rattle.std.specs.Prelude.{◌≡◌, ◌<◌, ◌++◌, ◌∷◌, [], MatchResult, OnOk};
+ghost use Rattle.std.specs.Prelude.{vec_len, vec_capacity};
 
 use std::alloc::AllocError;
 
 /// One more behind the others.
 #[inline(always)]
 pub fn push<T: Copy>(list: &mut Vec<T>, last: T) -> Result<(), AllocError>
-    ensures { OnOk result (list.new.items ≡ list.old.items ++ last ∷ []) }
+    ensures { MatchResult result (λ _. list.new.items ≡ list.old.items ++ last ∷ [])
+        (λ _. list.new.items ≡ list.old.items) }
 {
     if list.len() == list.capacity() {
         make_place(list)?;
@@ -20,7 +22,8 @@ pub fn push<T: Copy>(list: &mut Vec<T>, last: T) -> Result<(), AllocError>
 /// place.
 #[inline(always)]
 pub fn push_copy<T: Copy>(list: &mut Vec<T>, last: &T) -> Result<(), AllocError>
-    ensures { OnOk result (list.new.items ≡ list.old.items ++ last.now ∷ []) }
+    ensures { MatchResult result (λ _. list.new.items ≡ list.old.items ++ last.now ∷ [])
+        (λ _. list.new.items ≡ list.old.items) }
 {
     if list.len() == list.capacity() {
         make_place(list)?;

@@ -67,6 +67,11 @@ abbrev pub HasDistinctKeysSoFar : List Open → Type 0
 HasDistinctKeysSoFar [] = Unit {0}
 HasDistinctKeysSoFar (c ∷ os) = HasNoRepeats c
 
+-- without the innermost
+abbrev pub around : List Open → List Open
+around [] = []
+around (c ∷ os) = os
+
 -- ---- repeated keys
 
 -- one of the pairs has this key

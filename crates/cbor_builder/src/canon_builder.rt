@@ -9,7 +9,7 @@ ghost use Rattle.cbor_head.specs.declared.major.Major.TheVariants.{Simple};
 ghost use Rattle.cbor_builder.specs.Built.{built, IsLeaf, IsStringType, IsContainer, TakesPart};
 ghost use Rattle.cbor_builder.specs.Built.{IsInString, IsInContainer, HasDistinctKeysSoFar};
 ghost use Rattle.cbor_builder.specs.Built.{IsRepeatedKey, IsWaitingKey, AreOpenKeysDifferent};
-ghost use Rattle.cbor_builder.specs.Built.{IsRepeatTold};
+ghost use Rattle.cbor_builder.specs.Built.{IsRepeatTold, around};
 ghost use Rattle.cbor_builder.specs.Parts.{Part, Makes, run, plain, give, opened, extended, close};
 
 use crate::builder::Core;
@@ -121,6 +121,19 @@ impl CanonBuilder {
         done
     }
 
+    /// An item of no bytes, as the value of a key where the keys alone are wanted.
+    #[inline(always)]
+    pub fn nothing(&mut self) -> Result<(), AllocError>
+        requires takes { TakesPart self.old.standing }
+        ensures { OnOk result (self.new ≡ built self.old.order (give [] self.old.standing)) }
+    {
+        let done = self.core.nothing();
+        if done.is_err() {
+            self.is_sound = false;
+        }
+        done
+    }
+
     /// A string begins.
     #[inline(always)]
     pub fn begin_string(&mut self, major: Major) -> Result<(), AllocError>
@@ -226,6 +239,23 @@ impl CanonBuilder {
         let is_distinct = self.core.end()?;
         self.is_sound = true;
         Ok(is_distinct)
+    }
+
+    /// The array, map or tag ends, and nothing of it is kept: false where two keys of the map are the
+    /// same. Then the builder may only be dropped. It takes as many comparisons as
+    /// `end_if_distinct`.
+    #[inline(always)]
+    pub fn give_up_if_distinct(&mut self) -> Result<bool, AllocError>
+        requires container { IsInContainer self.old.standing }
+        ensures distinct { IfOk result
+            (λ distinct. IsTrue distinct ↔ HasDistinctKeysSoFar self.old.standing) }
+        ensures around { IfOk result (λ distinct. IsTrue distinct
+            → self.new ≡ built self.old.order (around self.old.standing)) }
+    {
+        self.is_sound = false;
+        let differ = self.core.give_up()?;
+        self.is_sound = differ;
+        Ok(differ)
     }
 
     /// Whether the part that was just completed is a key that is the same as an earlier key of its

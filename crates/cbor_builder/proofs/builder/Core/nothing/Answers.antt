@@ -1,0 +1,25 @@
+use Rattle.std.proofs.Common.{append-nil, sym, []}
+use Rattle.std.specs.Prelude.{reverse}
+use Rattle.std.proofs.lemmas.Result.{on_ok_weaker}
+use Rattle.cbor_buffer.specs.Moved.{meant}
+use Rattle.cbor_builder.proofs.Standing.{member_given, member_ready}
+use Rattle.cbor_builder.proofs.builder.Core.nothing.Goals as goal
+
+pub returns-clause-laid : goal.returns-clause-laid
+returns-clause-laid c =
+    let s = c.args.self.now in
+    let e = c.complete.ensures in
+    on_ok_weaker c.complete.result (λ spans. (member_given s.order s.out s.out [] s.spans.items s.top (reverse s.below.items) c.len-at.result c.complete.new.spans.items c.complete.new.frame
+    c.requires.laid c.requires.takes c.requires.laid.1 (sym (append-nil (meant s.out))) (sym (append-nil s.out.buf)) c.len-at.ensures.meant (e.from, e.start, e.shape, spans, e.rises)).0) e.spans
+
+pub returns-clause-given : goal.returns-clause-given
+returns-clause-given c =
+    let s = c.args.self.now in
+    let e = c.complete.ensures in
+    on_ok_weaker c.complete.result (λ spans. (member_given s.order s.out s.out [] s.spans.items s.top (reverse s.below.items) c.len-at.result c.complete.new.spans.items c.complete.new.frame
+    c.requires.laid c.requires.takes c.requires.laid.1 (sym (append-nil (meant s.out))) (sym (append-nil s.out.buf)) c.len-at.ensures.meant (e.from, e.start, e.shape, spans, e.rises)).1) e.spans
+
+pub complete-requires-clause-within : goal.complete-requires-clause-within
+complete-requires-clause-within c =
+    let s = c.args.self.now in
+    member_ready s.order s.out s.out [] s.spans.items s.top (reverse s.below.items) c.requires.laid c.requires.laid.1 (sym (append-nil (meant s.out))) (sym (append-nil s.out.buf))
