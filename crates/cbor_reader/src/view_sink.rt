@@ -14,16 +14,15 @@ ghost use Rattle.cbor_view.specs.Seen.{seen, standing};
 ghost use Rattle.cbor_walk.specs.Sink.{leaf_value};
 
 use bumpalo::Bump;
-use cbor_builder::CanonBuilder;
-use cbor_head::{KeyOrder, Major};
+use cbor_head::Major;
 use cbor_view::{View, ViewBuilder};
-use cbor_walk::Sink;
+use cbor_walk::{KeyBytes, Sink};
 use std::alloc::{AllocError, Global};
 
-/// The views of the parts that came, and their canonical bytes, by which equal keys are found.
+/// The views of the parts that came, and the canonical bytes of keys, by which equal ones are found.
 #[derive(Drop)]
 pub(crate) struct ViewSink<'a> {
-    keys: CanonBuilder,
+    keys: KeyBytes,
     views: ViewBuilder<'a>,
     // The content so far of a string in chunks.
     joined: Vec<u8>,
@@ -35,7 +34,7 @@ impl<'a> ViewSink<'a> {
         ensures { view_stands result result (item_due []) }
     {
         ViewSink {
-            keys: CanonBuilder::new(alloc, KeyOrder::Bytewise),
+            keys: KeyBytes::new(alloc),
             views: ViewBuilder::new(alloc, arena),
             joined: Vec::new(alloc),
         }
@@ -63,31 +62,33 @@ impl<'a> Sink<'a> for ViewSink<'a> {
 
     #[inline(always)]
     fn leaf(&mut self, major: Major, number: u64) -> Result<(), AllocError> {
-        Sink::leaf(&mut self.keys, major, number)?;
+        let is_key = self.views.is_key_due();
+        self.keys.leaf(is_key, major, number)?;
         self.views.leaf(leaf_view(major, number))?;
         Ok(())
     }
 
     #[inline(always)]
     fn string(&mut self, is_text: bool, front: &'a [u8], count: usize) -> Result<(), AllocError> {
-        Sink::string(&mut self.keys, is_text, front, count)?;
+        let is_key = self.views.is_key_due();
+        self.keys.string(is_key, is_text, front, count)?;
         self.views.leaf(string_view(is_text, &front[..count]))?;
         Ok(())
     }
 
-    fn begin_string(&mut self, is_text: bool) -> Result<(), AllocError> {
+    fn begin_string(&mut self, _is_text: bool) -> Result<(), AllocError> {
         self.joined.clear();
-        Sink::begin_string(&mut self.keys, is_text)
+        Ok(())
     }
 
-    fn chunk(&mut self, is_text: bool, front: &'a [u8], count: usize) -> Result<(), AllocError> {
-        Sink::chunk(&mut self.keys, is_text, front, count)?;
+    fn chunk(&mut self, _is_text: bool, front: &'a [u8], count: usize) -> Result<(), AllocError> {
         self.joined.extend_from_slice(&front[..count])?;
         Ok(())
     }
 
     fn end_string(&mut self, is_text: bool) -> Result<(), AllocError> {
-        Sink::end_string(&mut self.keys, is_text)?;
+        let is_key = self.views.is_key_due();
+        self.keys.string(is_key, is_text, &self.joined, self.joined.len())?;
         if is_text {
             // Each chunk was found to be UTF-8.
             let text = unsafe { str::from_utf8_unchecked(&self.joined) };
@@ -100,14 +101,16 @@ impl<'a> Sink<'a> for ViewSink<'a> {
 
     #[inline(always)]
     fn begin(&mut self, major: Major, number: u64) -> Result<(), AllocError> {
-        Sink::begin(&mut self.keys, major, number)?;
+        let is_key = self.views.is_key_due();
+        self.keys.begin(is_key, major, number)?;
         self.views.begin(major, number)?;
         Ok(())
     }
 
     #[inline(always)]
     fn end(&mut self) -> Result<bool, AllocError> {
-        let is_distinct = Sink::end(&mut self.keys)?;
+        let is_map = self.views.is_key_due();
+        let is_distinct = self.keys.end(is_map)?;
         if is_distinct {
             self.views.end()?;
         }

@@ -6,12 +6,13 @@ ghost use Rattle.cbor_head.specs.Value.{Value, bytes, text};
 ghost use Rattle.cbor_builder.specs.Built.{IsContainer};
 ghost use Rattle.cbor_item.specs.OpenValues.{the_whole, opened, give, close, run, parts_of};
 ghost use Rattle.cbor_item.specs.OpenValues.{TakesValue, MayEnd, IsWhole, CanEnd, closed};
-ghost use Rattle.cbor_view.specs.Seen.{seen, standing, open_value};
+ghost use Rattle.cbor_view.specs.Seen.{seen, standing, awaits_key, open_value};
 ghost use Rattle.cbor_view.specs.inner.Levels.{open_view, Begins, outer_members, outer_pairs};
 
 use crate::level::Level;
 use crate::view::View;
 use bumpalo::Bump;
+use cbor_buffer::reserve::{push, push_copy};
 use cbor_head::Major;
 use std::alloc::{AllocError, Global};
 use std::marker::Model;
@@ -73,14 +74,22 @@ impl<'a> ViewBuilder<'a> {
     {
         match &mut self.top {
             Level::Whole(whole) => *whole = Some(view),
-            Level::Array(_) => self.members.push(view)?,
+            Level::Array(_) => push(&mut self.members, view)?,
             Level::Map(_, key) => match key.take() {
-                Some(first) => self.pairs.push((first, view))?,
+                Some(first) => push(&mut self.pairs, (first, view))?,
                 None => *key = Some(view),
             },
             Level::Tag(_, content) => *content = Some(view),
         }
         Ok(())
+    }
+
+    /// Whether a map is innermost, and what it takes next is a key.
+    #[inline(always)]
+    pub fn is_key_due(&self) -> bool
+        ensures { result ≡ awaits_key (standing self.now) }
+    {
+        matches!(self.top, Level::Map(_, None))
     }
 
     /// A byte string that is copied into the arena.
@@ -114,7 +123,7 @@ impl<'a> ViewBuilder<'a> {
             Major::Map => Level::Map(self.pairs.len(), None),
             _ => Level::Tag(number, None),
         };
-        self.below.push(self.top)?;
+        push_copy(&mut self.below, &self.top)?;
         self.top = inner;
         Ok(())
     }

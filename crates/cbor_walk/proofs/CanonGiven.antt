@@ -42,19 +42,19 @@ string-bytes o false content = refl
 
 -- ---- an item is due
 
+pub opens-take : (o : KeyOrder) (d : ℕ) (ms : List Level) → AreLevels d ms → length (bytes_before ms) < 2 ^ 63 → TakesPart (opens o ms)
+opens-take o d [] h l = tt
+opens-take o d (a_member w left done ∷ ms) h l = omega (arith, holds_fits w (spellings_count done + suc left) h.1.0)
+opens-take o d (some_member done ∷ ms) h l =
+    omega (arith, l, count_bounded done, length-append (bytes_before ms) (head majors.Array Indefinite 0 ++ spell_all done), length-append (head majors.Array Indefinite 0) (spell_all done))
+opens-take o d (a_key w left done ∷ ms) h l = tt
+opens-take o d (a_value w left done k ∷ ms) h l = tt
+opens-take o d (some_key done ∷ ms) h l = tt
+opens-take o d (some_value done k ∷ ms) h l = tt
+opens-take o d (tagged w n ∷ ms) h l = tt
+
 pub takes : (g : Built) → IsItemDue Built canon_stands g → TakesPart g.standing
-takes g (start, d, ls, k, at) = subst TakesPart (sym at.1) (go start.order ls k.levels k.short)
-  where
-    go : (o : KeyOrder) (ms : List Level) → AreLevels d ms → length (bytes_before ms) < 2 ^ 63 → TakesPart (opens o ms)
-    go o [] h l = tt
-    go o (a_member w left done ∷ ms) h l = omega (arith, holds_fits w (spellings_count done + suc left) h.1.0)
-    go o (some_member done ∷ ms) h l =
-        omega (arith, l, count_bounded done, length-append (bytes_before ms) (head majors.Array Indefinite 0 ++ spell_all done), length-append (head majors.Array Indefinite 0) (spell_all done))
-    go o (a_key w left done ∷ ms) h l = tt
-    go o (a_value w left done k ∷ ms) h l = tt
-    go o (some_key done ∷ ms) h l = tt
-    go o (some_value done k ∷ ms) h l = tt
-    go o (tagged w n ∷ ms) h l = tt
+takes g (start, d, ls, k, at) = subst TakesPart (sym at.1) (opens-take start.order d ls k.levels k.short)
 
 -- it is given
 stood : (start new : Built) (d : ℕ) (t : List ℕ) (q : Place) (os : List parts.Open) (height : ℕ) (st : Standing) → StandsAt start.order d t q os height st → new.order ≡ start.order → new.standing ≡ os → canon_stands start new st
@@ -74,7 +74,7 @@ given v out old new same is start d ls s at k e =
 
 -- ---- containers
 
-level-opened : (o : KeyOrder) (m : Major) (n : ℕ) (l : Level) → IsOpened m n l → level_open o l ≡ parts.opened m n
+pub level-opened : (o : KeyOrder) (m : Major) (n : ℕ) (l : Level) → IsOpened m n l → level_open o l ≡ parts.opened m n
 level-opened o majors.Array n l (inl (w, left, e)) = ap (level_open o) e
 level-opened o majors.Array n l (inr e) = ap (level_open o) e
 level-opened o majors.Map n l (inl (w, left, e)) = ap (level_open o) e
@@ -93,7 +93,7 @@ opened m n old new is start ls l at k = (
 )
 
 -- one without a length has no more to come
-full-endless : (start g : Built) (d : ℕ) (ls : List Level) (l : Level) (s : Spelling) → canon_stands start g (item_due (l ∷ ls)) → AreLevels d (l ∷ ls) → IsEndedAs l s → Fills d ls s → canon_stands start g (item_full ls s)
+pub full-endless : (start g : Built) (d : ℕ) (ls : List Level) (l : Level) (s : Spelling) → canon_stands start g (item_due (l ∷ ls)) → AreLevels d (l ∷ ls) → IsEndedAs l s → Fills d ls s → canon_stands start g (item_full ls s)
 full-endless start g d ls (some_member done) (array w ss) at levels ended k =
     let e = d - suc (length ls) in (
       at.0,

@@ -10,6 +10,8 @@ pub mod GivenItems
 pub mod GivenParts
 pub mod HeadComplaints
 pub mod KeyOrder
+pub mod KeysGiven
+pub mod KeysKept
 pub mod PathForm
 pub mod PathLevels
 pub mod PathSteps

@@ -1,4 +1,5 @@
 pub mod CanonSink
 pub mod Front
+pub mod KeyBytes
 pub mod Sink
 pub mod inner

@@ -56,7 +56,7 @@ impl<'a> Sink<'a> for CanonBuilder {
 
 // The type of a string.
 #[inline(always)]
-fn string_type(is_text: bool) -> Major
+pub(crate) fn string_type(is_text: bool) -> Major
     ensures { result ≡ string_major is_text }
 {
     if is_text { Major::Text } else { Major::Bytes }

@@ -3,8 +3,10 @@
 //! [`canonical_front`] goes over the canonical bytes at the front of a slice once; at the first
 //! byte, head, text or key that is none of a canonical item it stops with the refusal.
 //! [`give_front`] goes over any valid item, whose parts it gives to a [`Sink`], and stops without a
-//! word at what is none; [`build_front`] has it give them to a builder of canonical bytes. Both hold what is due in each open container
-//! in cells that are made as they are wanted, so that depth that is not used costs nothing.
+//! word at what is none; [`build_front`] has it give them to a builder of canonical bytes. Both
+//! hold what is due in each open container in cells that are made as they are wanted, so that depth
+//! that is not used costs nothing. A sink that keeps items in a form of its own finds equal keys by
+//! [`KeyBytes`].
 #![tactic(auto)]
 
 mod any_item;
@@ -16,6 +18,7 @@ mod content;
 mod endless;
 mod fast;
 mod front;
+mod key_bytes;
 mod level;
 mod open;
 mod part;
@@ -27,4 +30,5 @@ mod within;
 
 pub use canonical::canonical_front;
 pub use front::{BuiltFront, build_front, give_front};
+pub use key_bytes::KeyBytes;
 pub use sink::Sink;

@@ -295,3 +295,39 @@ fn the_pair_is_told_in_maps_of_each_size(rt: HostRuntime) -> Result<(), AllocErr
     }
     Ok(())
 }
+
+// [1, {2: .., 1: ..}], where the map is given up and an item of no bytes stands behind it
+fn give_without_a_map(rt: &impl Abort, builder: &mut CanonBuilder) -> Result<(), AllocError>
+    requires empty { builder.old.standing ≡ plain [] ∷ [] }
+{
+    builder.begin(Major::Array, 0)?;
+    builder.leaf(Major::Unsigned, 1)?;
+    builder.begin(Major::Map, 0)?;
+    builder.leaf(Major::Unsigned, 2)?;
+    builder.nothing()?;
+    builder.leaf(Major::Unsigned, 1)?;
+    builder.nothing()?;
+    assert!(rt; builder.give_up_if_distinct()?);
+    Ok(())
+}
+
+#[test]
+fn a_map_is_given_up(rt: HostRuntime) -> Result<(), AllocError> {
+    let mut builder = CanonBuilder::new(rt.alloc(), KeyOrder::Bytewise);
+    give_without_a_map(&rt, &mut builder)?;
+    Ok(())
+}
+
+fn give_up_a_repeat(builder: &mut CanonBuilder) -> Result<bool, AllocError>
+    requires empty { builder.old.standing ≡ plain [] ∷ [] }
+{
+    open_map(builder, &[9, 1, 9])?;
+    builder.give_up_if_distinct()
+}
+
+#[test]
+fn a_map_that_repeats_a_key_is_not_given_up(rt: HostRuntime) -> Result<(), AllocError> {
+    let mut builder = CanonBuilder::new(rt.alloc(), KeyOrder::Bytewise);
+    assert!(rt; !give_up_a_repeat(&mut builder)?);
+    Ok(())
+}

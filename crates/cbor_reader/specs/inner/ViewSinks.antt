@@ -1,17 +1,17 @@
 -- What a builder of views holds of an item whose parts it took.
 use Rattle.std.specs.Prelude.{◌≡◌, ℕ, Bool, true, IsUtf8, List}
-use Rattle.cbor_judging.specs.Levels.{Level, Standing}
+use Rattle.cbor_judging.specs.Levels.{Level, Standing, item_due}
 use Rattle.cbor_reader.specs.declared.view_sink.ViewSink.{ViewSink}
 use Rattle.cbor_reader.specs.inner.TreeValues.{level_values, values_at, IsFullRight}
 use Rattle.cbor_view.specs.Seen.{standing}
-use Rattle.cbor_walk.specs.CanonSink.{canon_stands, canon_holds}
+use Rattle.cbor_walk.specs.KeyBytes.{keys_stand, MayBegin}
 
--- the canonical bytes of what is complete, and its views
+-- the canonical bytes of keys, and the views of what is complete
 abbrev pub view_stands : ViewSink → ViewSink → Standing → Type 0
-view_stands start g st = canon_stands start.keys g.keys st × IsFullRight st × (standing g.views ≡ values_at st)
+view_stands start g st = keys_stand start.keys g.keys st × IsFullRight st × (standing g.views ≡ values_at st)
 
 -- and the content so far of a string
 abbrev pub view_holds : ViewSink → ViewSink → List Level → Bool → List ℕ → Type 0
 view_holds start g ls is_text content =
-    canon_holds start.keys g.keys ls is_text content × (standing g.views ≡ level_values ls)
-    × (g.joined.items ≡ content) × (is_text ≡ true → IsUtf8 content)
+    keys_stand start.keys g.keys (item_due ls) × (standing g.views ≡ level_values ls) × (g.joined.items ≡ content) × (is_text ≡ true → IsUtf8 content)
+    × MayBegin g.keys

@@ -9,7 +9,7 @@ use super::conformance_rows::{
 use super::conformance_table::{PAIRS, PARTS, rows};
 use bumpalo::Bump;
 use cbor_head::{Limits, Refusal};
-use cbor_item::{Tree, encode};
+use cbor_item::{Tree, encode, same};
 use cbor_reader::{KeyOrder, Side, canonicalise, check_valid, read_tree, read_view, same_meaning};
 use std::alloc::Global;
 use std::test::Fail;
@@ -79,6 +79,9 @@ fn reads_views(rt: HostRuntime) -> Result<(), Fail> {
                 Ok((view, count)) => (Ok((view.to_tree(rt.alloc())?, count)), count),
                 Err(refusal) => (Err(refusal), refusal.read),
             };
+            let mut reader = input.as_slice();
+            let read = read_tree(rt.alloc(), &mut reader, limits);
+            assert!(rt; are_alike(&answer, &read), "{line}");
             let is_right = is_read_right(rt.alloc(), &input, plain, answer, taken)?;
             assert!(rt; is_right, "{line}");
         }
@@ -114,6 +117,15 @@ fn checks_slices(rt: HostRuntime) -> Result<(), Fail> {
         }
     }
     Ok(())
+}
+
+// Whether both are the same tree of as many bytes, or the same refusal.
+fn are_alike(left: &Result<(Tree, u64), Refusal>, right: &Result<(Tree, u64), Refusal>) -> bool {
+    match (left, right) {
+        (Ok((tree, count)), Ok((other, size))) => count == size && same(tree, other),
+        (Err(refusal), Err(other)) => refusal == other,
+        _ => false,
+    }
 }
 
 // Whether this is the tree or the refusal that a row wants, with so many bytes taken.

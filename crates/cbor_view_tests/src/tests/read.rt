@@ -1,54 +1,16 @@
-//! Views that are read from slices.
+//! Views that are read from slices. That they are read as trees are, on each row of the conformance
+//! table, is tested beside that table (`cbor_reader_tests`).
 
 use bumpalo::Bump;
-use cbor_head::{Limits, Reason, Refusal};
-use cbor_item::{Item, same};
-use cbor_reader::{read_tree, read_view};
+use cbor_head::Limits;
+use cbor_item::Item;
+use cbor_reader::read_view;
 use cbor_view::View;
 use std::process::Abort;
 use std::test::Fail;
 
 fn limits(rt: &impl Abort) -> Limits {
     Limits::new(256, 1 << 20).expect(rt, "limits")
-}
-
-// An input, and what it is read as: how many bytes are taken, and bytes of the same tree, or the
-// reason, the place and how many bytes are read.
-#[derive(Clone, Copy)]
-enum Wanted {
-    Tree(u64, &'static [u8]),
-    Refused(Reason, u64, u64),
-}
-
-static TABLE: [(&[u8], Wanted); 3] = [
-    // a byte string in chunks
-    (b"\x5f\x41\x61\xff", Wanted::Tree(4, b"\x41\x61")),
-    // keys that differ in a tag alone, in their order
-    (
-        b"\xa2\xc1\x01\x00\x01\x01",
-        Wanted::Tree(6, b"\xa2\xc1\x01\x00\x01\x01"),
-    ),
-    (b"\x61\xff", Wanted::Refused(Reason::InvalidText, 1, 2)),
-];
-
-#[test]
-fn reads_as_trees_are_read(rt: HostRuntime) -> Result<(), Fail> {
-    let alloc = rt.alloc();
-    for (input, wanted) in &TABLE {
-        let arena = Bump::new(alloc);
-        let answer = read_view(alloc, input, limits(&rt), &arena);
-        match (answer, *wanted) {
-            (Ok((view, count)), Wanted::Tree(taken, mut bytes)) => {
-                let (tree, _) = read_tree(alloc, &mut bytes, limits(&rt))?;
-                assert!(rt; count == taken && same(&view.to_tree(alloc)?, &tree));
-            }
-            (Err(refusal), Wanted::Refused(reason, place, read)) => {
-                assert!(rt; refusal == Refusal::new(reason, place, read));
-            }
-            _ => panic!(rt; "another verdict"),
-        }
-    }
-    Ok(())
 }
 
 // {1(1): 0, 1: 1}: the pairs keep the order of the input.

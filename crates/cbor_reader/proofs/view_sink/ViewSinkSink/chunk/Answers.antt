@@ -4,5 +4,5 @@ use Rattle.cbor_reader.proofs.view_sink.ViewSinkSink.chunk.Goals as goal
 
 pub returns : goal.returns
 returns c =
-    let x = take c.args.count c.args.front.now in
-    grown c.args.is_text x c.args.self.now (record { keys = c.chunk.new.self; views = c.args.self.now.views; joined = c.extend_from_slice.new.self }) c.requires.utf8 c.in_ok-chunk.ensures refl c.in_ok-extend_from_slice.ensures.items
+    let old = c.args.self.now in
+    grown c.args._is_text (take c.args.count c.args.front.now) old (record { keys = old.keys; views = old.views; joined = c.extend_from_slice.new.self }) c.requires.utf8 refl refl c.in_ok-extend_from_slice.ensures.items

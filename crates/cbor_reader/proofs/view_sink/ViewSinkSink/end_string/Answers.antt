@@ -1,9 +1,14 @@
-use Rattle.std.proofs.Common.{ℕ, Bool, List, ◌∙◌, ap₂, sym}
+use Rattle.std.proofs.Common.{ℕ, Bool, List, length, ◌∙◌, ap, ap₂, sym, subst, arith}
+use Rattle.std.proofs.lemmas.List.{take_all}
 use Rattle.cbor_item.specs.OpenValues.{give}
 use Rattle.cbor_judging.specs.Reading.{string_value}
 use Rattle.cbor_view.specs.Seen.{standing}
-use Rattle.cbor_reader.proofs.ViewGiven.{chunk-takes, string-ended}
+use Rattle.cbor_walk.specs.KeyBytes.{GivesTold}
+use Rattle.cbor_reader.proofs.ViewGiven.{chunk-awaited, chunk-takes, string-ended}
 use Rattle.cbor_reader.proofs.view_sink.ViewSinkSink.end_string.Goals as goal
+
+pub string-requires-clause-due : goal.string-requires-clause-due
+string-requires-clause-due c = chunk-awaited c.is_key_due-is_key.result c.args.is_text c.args.self.now c.is_key_due-is_key.ensures c.requires.due
 
 pub copied_text-requires : goal.copied_text-requires
 copied_text-requires c = record { takes = chunk-takes c.args.is_text c.args.self.now c.requires.due }
@@ -14,11 +19,18 @@ copied_bytes-requires c = record { takes = chunk-takes c.args.is_text c.args.sel
 pub returns-in_ok-copied_text : goal.returns-in_ok-copied_text
 returns-in_ok-copied_text c =
     let old = c.args.self.now in
-    string-ended c.args.is_text old (record { keys = c.end_string.new.self; views = c.copied_text.new.self; joined = old.joined }) c.in_ok-end_string.ensures
-    (c.in_ok-copied_text.ensures ∙ ap₂ (λ (t : Bool) (x : List ℕ). give (string_value t x) (standing old.views)) (sym c.if-is_text.true) (c.from_utf8_unchecked-text.ensures ∙ c.deref.ensures.value))
+    let t = c.args.is_text in
+    let whole = take_all c.len.result c.deref.result.now (omega (arith, c.len.ensures, ap length c.deref.ensures.value)) ∙ c.deref.ensures.value in
+    string-ended c.is_key_due-is_key.result t old (record { keys = c.string.new.self; views = c.copied_text.new.self; joined = old.joined }) c.is_key_due-is_key.ensures
+    (subst (λ (x : List ℕ). GivesTold c.is_key_due-is_key.result (string_value t x) old.keys c.string.new.self) whole c.in_ok-string.ensures)
+    (c.in_ok-copied_text.ensures
+    ∙ ap₂ (λ (b : Bool) (x : List ℕ). give (string_value b x) (standing old.views)) (sym c.if-is_text.true) (c.from_utf8_unchecked-text.ensures ∙ c.deref-then-is_text.ensures.value))
 
 pub returns-in_ok-copied_bytes : goal.returns-in_ok-copied_bytes
 returns-in_ok-copied_bytes c =
     let old = c.args.self.now in
-    string-ended c.args.is_text old (record { keys = c.end_string.new.self; views = c.copied_bytes.new.self; joined = old.joined }) c.in_ok-end_string.ensures
-    (c.in_ok-copied_bytes.ensures ∙ ap₂ (λ (t : Bool) (x : List ℕ). give (string_value t x) (standing old.views)) (sym c.if-is_text.false) c.deref-else-is_text.ensures.value)
+    let t = c.args.is_text in
+    let whole = take_all c.len.result c.deref.result.now (omega (arith, c.len.ensures, ap length c.deref.ensures.value)) ∙ c.deref.ensures.value in
+    string-ended c.is_key_due-is_key.result t old (record { keys = c.string.new.self; views = c.copied_bytes.new.self; joined = old.joined }) c.is_key_due-is_key.ensures
+    (subst (λ (x : List ℕ). GivesTold c.is_key_due-is_key.result (string_value t x) old.keys c.string.new.self) whole c.in_ok-string.ensures)
+    (c.in_ok-copied_bytes.ensures ∙ ap₂ (λ (b : Bool) (x : List ℕ). give (string_value b x) (standing old.views)) (sym c.if-is_text.false) c.deref-else-is_text.ensures.value)
