@@ -1,0 +1,145 @@
+//! What is open ends, and its bytes take their final form.
+
+ghost use Rattle.std.specs.Prelude.{reverse, ◌≡◌, ◌↔◌, ◌≤◌, ◌++◌, IsTrue, false, OnOk, IfOk, drop};
+ghost use Rattle.std.specs.Prelude.{take, length, flat_map};
+ghost use Rattle.cbor_buffer.specs.Moved.{meant, IsWhole, KeepsFront};
+ghost use Rattle.cbor_buffer.specs.Pairs.{pair_bytes};
+ghost use Rattle.cbor_builder.specs.Parts.{close, closed, HasNoRepeats};
+ghost use Rattle.cbor_builder.specs.declared.frame.Shape.TheVariants.{Map};
+ghost use Rattle.cbor_builder.specs.inner.BuilderState.{standing, innermost, IsLaid};
+ghost use Rattle.cbor_builder.specs.inner.InPlace.{AreSameKeys};
+ghost use Rattle.cbor_builder.specs.inner.Laid.{CanClose, OuterTakes, outer_spans, Fits};
+ghost use Rattle.cbor_builder.specs.inner.Laid.{pairs_from};
+ghost use Rattle.cbor_canonical.specs.Pairs.{HasDistinctBytes};
+ghost use Rattle.cbor_head.specs.Canonical.{in_order};
+
+use crate::builder::Core;
+use crate::frame::{Frame, Shape};
+use crate::member::{complete, settle_member};
+use crate::sort::put_in_order;
+use cbor_head::Major;
+use std::alloc::AllocError;
+
+impl Core {
+    // The pairs of the open map in order. False where two keys of it are equal.
+    #[inline(never)]
+    fn order_pairs(&mut self, first: usize) -> Result<bool, AllocError>
+        requires whole { IsWhole self.old.out }
+        requires within { self.old.top.start ≤ length (meant self.old.out) }
+        requires fits { Fits self.old.order (meant self.old.out) self.old.spans.items
+            self.old.top.from self.old.top.start self.old.top.rises (Map first) }
+        requires keys { AreSameKeys self.old.out.buf (meant self.old.out)
+            (drop first self.old.spans.items) }
+        ensures order { self.new.order ≡ self.old.order }
+        ensures top { self.new.top ≡ self.old.top }
+        ensures below { self.new.below ≡ self.old.below }
+        ensures spans { self.new.spans ≡ self.old.spans }
+        ensures distinct { IfOk result (λ distinct. IsTrue distinct
+            ↔ HasDistinctBytes (pairs_from (meant self.old.out) self.old.spans.items first)) }
+        ensures whole { OnOk result (IsWhole self.new.out) }
+        ensures meant { IfOk result (λ distinct. IsTrue distinct
+            → meant self.new.out ≡ take self.old.top.start (meant self.old.out)
+            ++ flat_map pair_bytes (in_order self.old.order
+            (pairs_from (meant self.old.out) self.old.spans.items first))) }
+        ensures front { IfOk result (λ distinct. IsTrue distinct
+            → KeepsFront self.old.top.start self.old.out self.new.out) }
+        ensures kept { IfOk result (λ distinct. distinct ≡ false
+            → self.new.out ≡ self.old.out) }
+    {
+        if self.top.rises {
+            return Ok(true);
+        }
+        let order = self.order;
+        let distinct = put_in_order(
+            self.out.as_slice(),
+            order,
+            &self.spans[first..],
+            &mut self.sorting,
+        )?;
+        if !distinct {
+            return Ok(false);
+        }
+        let count = self.spans.len() - first;
+        self.out.rearrange(self.top.start, &self.sorting[..count])?;
+        Ok(true)
+    }
+
+    // Puts the bytes of what is open in their final form. False where two keys of it are equal.
+    #[inline(always)]
+    fn close_top(&mut self) -> Result<bool, AllocError>
+        requires laid { IsLaid self.old }
+        requires closes { CanClose self.old.top.shape }
+        ensures order { self.new.order ≡ self.old.order }
+        ensures top { self.new.top ≡ self.old.top }
+        ensures below { self.new.below.items ≡ self.old.below.items }
+        ensures distinct { IfOk result (λ distinct.
+            IsTrue distinct ↔ HasNoRepeats (innermost self.old)) }
+        ensures spans { IfOk result (λ distinct. IsTrue distinct
+            → self.new.spans.items ≡ outer_spans self.old.spans.items self.old.top.shape) }
+        ensures bytes { IfOk result (λ distinct. IsTrue distinct
+            → meant self.new.out ≡ take self.old.top.from (meant self.old.out)
+            ++ closed self.old.order (innermost self.old)) }
+        ensures whole { OnOk result (IsWhole self.new.out) }
+        ensures front { IfOk result (λ distinct. IsTrue distinct
+            → KeepsFront self.old.top.from self.old.out self.new.out) }
+        ensures kept { IfOk result (λ distinct. distinct ≡ false
+            → (self.new.out ≡ self.old.out) × (self.new.spans.items ≡ self.old.spans.items)) }
+    {
+        let Frame {
+            from,
+            start,
+            shape,
+            rises: _,
+        } = self.top;
+        match shape {
+            Shape::Plain | Shape::Key(..) => {}
+            Shape::Array(n) => self.out.fill_head(from, start, Major::Array, n)?,
+            Shape::Map(first) => {
+                let n = (self.spans.len() - first) as u64;
+                if !self.order_pairs(first)? {
+                    return Ok(false);
+                }
+                self.spans.truncate(first);
+                self.out.fill_head(from, start, Major::Map, n)?;
+            }
+            Shape::Content(major) => {
+                let n = (self.out.len() - start) as u64;
+                self.out.fill_head(from, start, major, n)?;
+            }
+        }
+        Ok(true)
+    }
+
+    /// What is open ends. False where it is a map of which two keys are equal: it stays open then.
+    #[inline(always)]
+    pub(crate) fn end(&mut self) -> Result<bool, AllocError>
+        requires laid { IsLaid self.old }
+        requires closes { CanClose self.old.top.shape }
+        requires takes { OuterTakes (reverse self.old.below.items) }
+        ensures order { self.new.order ≡ self.old.order }
+        ensures distinct { IfOk result (λ distinct.
+            IsTrue distinct ↔ HasNoRepeats (innermost self.old)) }
+        ensures laid { OnOk result (IsLaid self.new) }
+        ensures closed { IfOk result (λ distinct. IsTrue distinct
+            → standing self.new ≡ close self.old.order (standing self.old)) }
+        ensures kept { IfOk result (λ distinct. distinct ≡ false
+            → standing self.new ≡ standing self.old) }
+    {
+        let from = self.top.from;
+        if !self.close_top()? {
+            return Ok(false);
+        }
+        if let Some(outer) = self.below.pop() {
+            self.top = outer;
+            settle_member(&mut self.out, from, &self.top, self.below.len())?;
+            complete(
+                &mut self.top,
+                &mut self.spans,
+                &self.out.buf,
+                self.order,
+                from,
+            )?;
+        }
+        Ok(true)
+    }
+}

@@ -1,0 +1,99 @@
+//! What is open ends, and nothing of it is kept.
+
+ghost use Rattle.std.specs.Prelude.{reverse, ◌≡◌, ◌↔◌, IsTrue, IfOk, drop};
+ghost use Rattle.cbor_buffer.specs.Moved.{meant};
+ghost use Rattle.cbor_builder.specs.Built.{around};
+ghost use Rattle.cbor_builder.specs.Parts.{HasNoRepeats};
+ghost use Rattle.cbor_builder.specs.declared.frame.Shape.TheVariants.{Map};
+ghost use Rattle.cbor_builder.specs.inner.BuilderState.{standing, innermost, IsLaid};
+ghost use Rattle.cbor_builder.specs.inner.InPlace.{AreSameKeys};
+ghost use Rattle.cbor_builder.specs.inner.Laid.{CanClose, OuterTakes, outer_spans, Fits};
+ghost use Rattle.cbor_builder.specs.inner.Laid.{pairs_from};
+ghost use Rattle.cbor_canonical.specs.Pairs.{HasDistinctBytes};
+
+use crate::builder::Core;
+use crate::frame::Shape;
+use crate::sort::put_in_order;
+use std::alloc::AllocError;
+
+// Room for so many pairs stays.
+const KEPT: usize = 256;
+
+impl Core {
+    /// What is open ends, and nothing of it is kept. False where it is a map of which two keys are
+    /// equal: then the builder may only be dropped.
+    #[inline(always)]
+    pub(crate) fn give_up(&mut self) -> Result<bool, AllocError>
+        requires laid { IsLaid self.old }
+        requires closes { CanClose self.old.top.shape }
+        requires takes { OuterTakes (reverse self.old.below.items) }
+        ensures order { self.new.order ≡ self.old.order }
+        ensures distinct { IfOk result (λ distinct.
+            IsTrue distinct ↔ HasNoRepeats (innermost self.old)) }
+        ensures laid { IfOk result (λ distinct. IsTrue distinct → IsLaid self.new) }
+        ensures around { IfOk result (λ distinct. IsTrue distinct
+            → standing self.new ≡ around (standing self.old)) }
+    {
+        if !self.give_up_pairs()? {
+            return Ok(false);
+        }
+        self.out.settle(0)?;
+        self.out.cut(self.top.from);
+        if let Some(outer) = self.below.pop() {
+            self.top = outer;
+        }
+        Ok(true)
+    }
+
+    // The pairs of what is open are given up. False where two keys of it are equal.
+    #[inline(always)]
+    fn give_up_pairs(&mut self) -> Result<bool, AllocError>
+        requires laid { IsLaid self.old }
+        requires closes { CanClose self.old.top.shape }
+        ensures order { self.new.order ≡ self.old.order }
+        ensures out { self.new.out ≡ self.old.out }
+        ensures top { self.new.top ≡ self.old.top }
+        ensures below { self.new.below.items ≡ self.old.below.items }
+        ensures distinct { IfOk result (λ distinct.
+            IsTrue distinct ↔ HasNoRepeats (innermost self.old)) }
+        ensures spans { IfOk result (λ distinct. IsTrue distinct
+            → self.new.spans.items ≡ outer_spans self.old.spans.items self.old.top.shape) }
+    {
+        let Shape::Map(first) = self.top.shape else {
+            return Ok(true);
+        };
+        if !self.has_distinct_keys(first)? {
+            return Ok(false);
+        }
+        self.spans.truncate(first);
+        self.spans.shrink_to(KEPT);
+        self.sorting.shrink_to(KEPT);
+        Ok(true)
+    }
+
+    // Whether no two keys of the open map are equal.
+    #[inline(always)]
+    fn has_distinct_keys(&mut self, first: usize) -> Result<bool, AllocError>
+        requires fits { Fits self.old.order (meant self.old.out) self.old.spans.items
+            self.old.top.from self.old.top.start self.old.top.rises (Map first) }
+        requires keys { AreSameKeys self.old.out.buf (meant self.old.out)
+            (drop first self.old.spans.items) }
+        ensures order { self.new.order ≡ self.old.order }
+        ensures out { self.new.out ≡ self.old.out }
+        ensures top { self.new.top ≡ self.old.top }
+        ensures below { self.new.below ≡ self.old.below }
+        ensures spans { self.new.spans ≡ self.old.spans }
+        ensures distinct { IfOk result (λ distinct. IsTrue distinct
+            ↔ HasDistinctBytes (pairs_from (meant self.old.out) self.old.spans.items first)) }
+    {
+        if self.top.rises {
+            return Ok(true);
+        }
+        put_in_order(
+            self.out.as_slice(),
+            self.order,
+            &self.spans[first..],
+            &mut self.sorting,
+        )
+    }
+}
