@@ -1,4 +1,4 @@
-//! `cborc`, a program for deterministic CBOR files: see [`run`].
+//! `cborc`, a program for deterministic CBOR files: see [`run`](cborc_words::run).
 //!
 //! ```text
 //! $ printf bf6346756ef563416d7421ff | cborc canon --hex --hex-out - -
@@ -8,15 +8,12 @@
 //! ```
 #![tactic(auto)]
 
-mod command_line;
-mod grammar;
-mod run;
 #[cfg(test)]
 mod tests;
 
-use crate::run::run;
 use cborc_commands::{Fault, end};
 use cborc_disk::Disk;
+use cborc_words::run;
 use std::io::BufWriter;
 use std::process::ExitCode;
 use std::{env, io};

@@ -11,8 +11,8 @@ mod refused;
 mod rows;
 mod streams;
 
-use crate::run::run;
 use cborc_files::{Cause, FileFault, Folder};
+use cborc_words::run;
 use std::alloc::{AllocError, Global};
 use std::io::{self, ErrorKind, Write};
 

@@ -1,9 +1,9 @@
 //! Inputs that have no end, and an output that takes nothing.
 
 use super::run_with;
-use crate::run::run;
 use cborc_disk::{LONGEST, append_from};
 use cborc_files::{FileFault, Folder};
+use cborc_words::run;
 use std::alloc::{AllocError, Global};
 use std::io::{self, Read};
 

@@ -5,7 +5,8 @@ use Rattle.clap.specs.declared.builder.arg.Arg.{Arg}
 use Rattle.clap.specs.declared.builder.command.Command.{Command}
 use Rattle.clap.proofs.OnLiterals.{clap_on_literals}
 use Rattle.clap.proofs.SimpleLemmas.{plain_fields}
-use Rattle.cborc.specs.Grammar.{HasRule, HasShape, IsGrammar}
+use Rattle.cborc_words.specs.Grammar.{IsGrammar}
+use Rattle.cborc_words.specs.inner.Commands.{HasRule, HasShape}
 
 -- one more argument
 pub adds_rule : (old : Command) (arg : Arg) (new : Command) (app : App) (rule : Rule) → AddsArg old arg new → app_of old ≡ app → HasRule rule arg → app_of new ≡ with_rule app rule

@@ -4,8 +4,9 @@ ghost use Rattle.std.specs.Prelude.{◌≡◌, ◌≢◌, ◌≤◌, ◌⊎◌, 
 ghost use Rattle.std.specs.Io.KnownBytes.{Keeps};
 ghost use Rattle.clap.specs.Words.{kind_of};
 ghost use Rattle.cborc_files.specs.Folder.{KeepsFiles};
-ghost use Rattle.cborc.specs.Words.{texts_of};
-ghost use Rattle.cborc.specs.Run.{IsWordsEnd, IsRun};
+ghost use Rattle.cborc_words.specs.Words.{texts_of};
+ghost use Rattle.cborc_words.specs.Run.{IsRun};
+ghost use Rattle.cborc_words.specs.inner.WordsEnd.{IsWordsEnd};
 
 use crate::command_line::parse;
 use cborc_commands::{Fault, Status, end, flushed, perform};

@@ -4,8 +4,9 @@ use Rattle.std.specs.Io.KnownBytes.{Keeps}
 use Rattle.clap.specs.Words.{Text}
 use Rattle.clap.specs.declared.error.kind.ErrorKind.{ErrorKind}
 use Rattle.clap.specs.declared.error.kind.ErrorKind.TheVariants.{OutOfMemory}
-use Rattle.cborc.specs.Run.{IsRun, IsWordsEnd, helped, misused, starved}
-use Rattle.cborc.specs.Words.{HasFault}
+use Rattle.cborc_words.specs.Run.{IsRun, helped, misused, starved}
+use Rattle.cborc_words.specs.inner.WordsEnd.{IsWordsEnd}
+use Rattle.cborc_words.specs.Words.{HasFault}
 use Rattle.cborc_commands.specs.Fault.{end_status, status_number}
 use Rattle.cborc_files.specs.Folder.{Files, KeepsFiles}
 use Rattle.cborc_commands.specs.declared.fault.Fault.{Fault}

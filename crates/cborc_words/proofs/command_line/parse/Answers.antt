@@ -1,8 +1,8 @@
 use Rattle.std.proofs.Common.{refl, sym}
 use Rattle.clap.proofs.TakesLemmas.{passed_up}
-use Rattle.cborc.proofs.Asked.{asked, of_clap, of_missing, of_two_manners, of_two_streams}
-use Rattle.cborc.proofs.Builds.{free}
-use Rattle.cborc.proofs.command_line.parse.Goals as goal
+use Rattle.cborc_words.proofs.Asked.{asked, of_clap, of_missing, of_two_manners, of_two_streams}
+use Rattle.cborc_words.proofs.Builds.{free}
+use Rattle.cborc_words.proofs.command_line.parse.Goals as goal
 
 pub returns-in_err-matches-clause-err : goal.returns-in_err-matches-clause-err
 returns-in_err-matches-clause-err c =

@@ -1,10 +1,10 @@
 use Rattle.std.proofs.Common.{◌≡◌, ◌≢◌, List, ap, rules, subst}
 use Rattle.clap.specs.Words.{Text, kind_of}
 use Rattle.clap.specs.declared.error.kind.ErrorKind.TheVariants.{OutOfMemory}
-use Rattle.cborc.specs.Run.{answered}
-use Rattle.cborc.specs.Words.{texts_of, AskFor, HasFault}
-use Rattle.cborc.proofs.Ends.{ends, keeps_files}
-use Rattle.cborc.proofs.run.run.Goals as goal
+use Rattle.cborc_words.specs.Run.{answered}
+use Rattle.cborc_words.specs.Words.{texts_of, AskFor, HasFault}
+use Rattle.cborc_words.proofs.Ends.{ends, keeps_files}
+use Rattle.cborc_words.proofs.run.run.Goals as goal
 
 pub returns-in-Ok-clause-leaves : goal.returns-in-Ok-clause-leaves
 returns-in-Ok-clause-leaves g c =

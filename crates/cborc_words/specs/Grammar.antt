@@ -1,12 +1,10 @@
 -- The words that the program takes: its subcommands and their arguments, as clap's model has them.
-use Rattle.std.specs.Prelude.{◌≡◌, ◌++◌, ◌^◌, ◌∷◌, List, [], Some, true, false, codes, fold, map, pos}
+use Rattle.std.specs.Prelude.{◌≡◌, ◌++◌, ◌^◌, ◌∷◌, List, [], Some, true, false, codes, map, pos}
 use Rattle.std.specs.Borrow.{Bor}
 use Rattle.cbor_head.specs.declared.limits.TheConstants.{MAX_DEPTH}
-use Rattle.clap.specs.Words.{App, Rule, Shape, Text, app_of, new_rule, rule_of, with_rule}
+use Rattle.clap.specs.Words.{App, Rule, Shape, Text, new_rule}
 use Rattle.clap.specs.Simple.{new_shape}
 use Rattle.clap.specs.declared.builder.action.ArgAction.TheVariants.{Set, SetTrue}
-use Rattle.clap.specs.declared.builder.arg.Arg.{Arg}
-use Rattle.clap.specs.declared.builder.command.Command.{Command}
 use Rattle.clap.specs.declared.builder.value_parser.ValueParser.{ValueParser}
 use Rattle.clap.specs.declared.builder.value_parser.ValueParser.TheVariants as parser
 
@@ -45,10 +43,6 @@ bytes = option (codes "bytes") (codes "1048576") (parser.Unsigned 0 (2 ^ 62))
 -- the options that all subcommands take
 abbrev pub options : List Rule
 options = depth ∷ bytes ∷ flag (codes "hex") ∷ flag (codes "quiet") ∷ flag (codes "explain") ∷ []
-
--- the command with these arguments more
-abbrev pub with_rules : App → List Rule → App
-with_rules = fold with_rule
 
 -- a subcommand that takes these and the options of all
 abbrev pub subcommand : Text → List Rule → Shape
@@ -94,11 +88,3 @@ pub record IsGrammar (app : App) : Type 0 where
   pub check_orders : NamesOrders of_check
   pub canon_orders : NamesOrders of_canon
   pub is : app ≡ grammar of_check of_canon
-
--- the argument is read by this rule
-abbrev pub HasRule : Rule → Arg → Type 0
-HasRule rule arg = (rule_of arg ≡ rule) × (arg.global ≡ false)
-
--- the command has this shape, and no subcommand
-abbrev pub HasShape : Shape → Command → Type 0
-HasShape shape command = app_of command ≡ record { top = shape; subs = [] }

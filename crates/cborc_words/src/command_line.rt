@@ -2,8 +2,8 @@
 
 ghost use Rattle.std.specs.Prelude.{◌≡◌, ◌≢◌, codes, false, true, IfErr, IfOk, IfSome, IsSome, IsSomeAnd};
 ghost use Rattle.clap.specs.Words.{first_of, found_of, kind_of, rows_of, subcommand_rows_of};
-ghost use Rattle.cborc.specs.CommandLine.{order_named, AsksFor, HasLimits, HasOneManner, HasTwoManners, reads_stream_twice, IsAcceptedOf, IsComplete, IsLayoutOf, IsMannerOf, IsOptionsOf, IsOutputOf};
-ghost use Rattle.cborc.specs.Words.{texts_of, AskFor, HasFault};
+ghost use Rattle.cborc_words.specs.CommandLine.{order_named, AsksFor, HasLimits, HasOneManner, HasTwoManners, reads_stream_twice, IsAcceptedOf, IsComplete, IsLayoutOf, IsMannerOf, IsOptionsOf, IsOutputOf};
+ghost use Rattle.cborc_words.specs.Words.{texts_of, AskFor, HasFault};
 
 use crate::grammar::command;
 use cbor_head::{KeyOrder, Limits};

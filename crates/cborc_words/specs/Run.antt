@@ -1,28 +1,17 @@
 -- What a run leaves: in the files, on standard output, and as its status.
-use Rattle.std.specs.Prelude.{ℕ, ◌≡◌, ◌≢◌, ◌⊎◌, List, Option, Result, Ok, Err}
+use Rattle.std.specs.Prelude.{ℕ, ◌≡◌, ◌⊎◌, List, Option}
 use Rattle.std.specs.Io.KnownBytes.{Keeps}
 use Rattle.clap.specs.Words.{Text}
 use Rattle.clap.specs.declared.error.kind.ErrorKind.{ErrorKind}
 use Rattle.clap.specs.declared.error.kind.ErrorKind.TheVariants as kinds
-use Rattle.cborc.specs.Words.{AskFor, HasFault}
+use Rattle.cborc_words.specs.Words.{AskFor, HasFault}
 use Rattle.cborc_files.specs.Folder.{Files, KeepsFiles}
 use Rattle.cborc_commands.specs.Told.{IsToldBy}
 use Rattle.cborc_commands.specs.declared.request.Task.{Task}
-use Rattle.cborc_commands.specs.declared.fault.Fault.{Fault}
-use Rattle.cborc_commands.specs.declared.fault.Fault.TheVariants as faults
-use Rattle.cborc_commands.specs.declared.status.Status.{Status}
-use Rattle.cborc_commands.specs.declared.status.Status.TheVariants.{Accepted, Misused}
 
 -- the words call for help or for the version
 abbrev pub IsHelp : ErrorKind → Type 0
 IsHelp kind = (kind ≡ kinds.DisplayHelp) ⊎ (kind ≡ kinds.DisplayVersion)
-
--- how a run ends whose words give no request, by the kind of their fault: with a status, or for a fault; help alone is written to standard output
-abbrev pub IsWordsEnd : ErrorKind → Result Status Fault → Option (List ℕ) → Option (List ℕ) → Type 0
-IsWordsEnd kind result before after =
-    ((result ≡ Ok Misused) × (kind ≢ kinds.OutOfMemory) × (IsHelp kind → ⊥) × Keeps before after)
-    ⊎ (((result ≡ Ok Accepted) ⊎ (result ≡ Err faults.CannotPrint)) × (kind ≢ kinds.OutOfMemory) × IsHelp kind)
-    ⊎ ((result ≡ Err faults.Memory) × (kind ≡ kinds.OutOfMemory) × Keeps before after)
 
 -- what a run with these words leaves
 pub data IsRun (words : List Text) (old new : Option Files) (before after : Option (List ℕ)) (status : ℕ) : Type 0 where
