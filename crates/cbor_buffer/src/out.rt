@@ -19,6 +19,9 @@ const BLOCK: usize = 32;
 // So many bytes of room lie behind what is written, where the buffer has grown for it.
 const SLACK: usize = 40;
 
+// The buffer grows by so many bytes at least, so that a small item takes memory once.
+const FIRST: usize = 128;
+
 /// The bytes written so far. Room is left behind them, so that a head is written in one piece and a
 /// key's first bytes are read in one.
 #[derive(Drop)]
@@ -275,6 +278,6 @@ fn grow(buf: &mut Vec<u8>, len: usize, n: usize) -> Result<(), AllocError>
     ensures same { take len buf.new.items ≡ take len buf.old.items }
 {
     let size = buf.len();
-    let more = (size / 2).max(n).max(SLACK);
+    let more = (size / 2).max(n).max(FIRST);
     buf.resize(size.saturating_add(more).saturating_add(SLACK), 0)
 }

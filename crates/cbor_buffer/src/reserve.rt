@@ -5,6 +5,9 @@ ghost use Rattle.std.specs.Prelude.{vec_len, vec_capacity};
 
 use std::alloc::AllocError;
 
+// Room is made for so many at least, so that a small item takes memory once for each list.
+const ROOM: usize = 16;
+
 /// One more behind the others.
 #[inline(always)]
 pub fn push<T: Copy>(list: &mut Vec<T>, last: T) -> Result<(), AllocError>
@@ -39,5 +42,5 @@ fn make_place<T: Copy>(list: &mut Vec<T>) -> Result<(), AllocError>
     ensures len { vec_len list.new ≡ vec_len list.old }
     ensures place { OnOk result (vec_len list.new < vec_capacity list.new) }
 {
-    list.reserve(1)
+    list.reserve(ROOM)
 }
