@@ -14,10 +14,10 @@ ROOT = Path(__file__).resolve().parent.parent
 # What the advice calls by the program's words, as Python calls it.
 IN_PYTHON = [
     ("--bytes", "max_bytes"),
-    ("--depth", "depth"),
+    ("--depth", "'depth'"),
     ("--hex", "bytes.fromhex"),
-    ("--order", "order"),
-    ("check --seq", "`items`"),
+    ("--order", "'order'"),
+    ("check --seq", "'items'"),
     ("canon ", "canonicalise "),
 ]
 

@@ -41,13 +41,13 @@ pub fn advice(reason: Reason) -> &'static str
         Reason::Truncated => "Look whether the input was cut, or a length is wrong.",
         Reason::TooLong | Reason::CanonicalTooLong => "Give a higher limit with --bytes.",
         Reason::Reserved | Reason::NoIndefinite => {
-            "The input may be no CBOR, or hex text, which needs --hex."
+            "The input may be no CBOR; hex text is read only with --hex."
         }
         Reason::Float => "Write it as an integer, a text, or a tag over integers.",
         Reason::BadSimple => "Write the values 0 to 23 in one byte; 24 to 31 do not exist.",
         Reason::StrayBreak => "Look whether a length is wrong, or the value of a key is missing.",
         Reason::BadChunk => "Close the string with ff, or give each chunk the string's type.",
-        Reason::TooDeep => "Give a higher limit with --depth, of at most 256.",
+        Reason::TooDeep => "--depth sets this limit, which is 256 at most.",
         Reason::InvalidText => "Write the text in UTF-8, or its bytes as a byte string.",
         Reason::RepeatedKey => "Leave out one of the two pairs.",
         Reason::Trailing => "For several items in a row there is check --seq.",

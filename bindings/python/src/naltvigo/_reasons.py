@@ -16,12 +16,12 @@ REASONS: Dict[int, Tuple[str, str, str]] = {
     3: (
         "Reserved",
         "No item begins with this byte: its low five bits are reserved.",
-        "The input may be no CBOR, or hex text, which needs bytes.fromhex.",
+        "The input may be no CBOR; hex text is read only with bytes.fromhex.",
     ),
     4: (
         "NoIndefinite",
         "An integer or a tag has no indefinite length.",
-        "The input may be no CBOR, or hex text, which needs bytes.fromhex.",
+        "The input may be no CBOR; hex text is read only with bytes.fromhex.",
     ),
     5: (
         "Float",
@@ -46,7 +46,7 @@ REASONS: Dict[int, Tuple[str, str, str]] = {
     9: (
         "TooDeep",
         "An array, map or tag is nested more deeply than the limit.",
-        "Give a higher limit with depth, of at most 256.",
+        "'depth' sets this limit, which is 256 at most.",
     ),
     10: (
         "InvalidText",
@@ -61,7 +61,7 @@ REASONS: Dict[int, Tuple[str, str, str]] = {
     12: (
         "Trailing",
         "The item is complete, and a byte follows it.",
-        "For several items in a row there is `items`.",
+        "For several items in a row there is 'items'.",
     ),
     13: (
         "CanonicalTooLong",
@@ -81,7 +81,7 @@ REASONS: Dict[int, Tuple[str, str, str]] = {
     16: (
         "KeyOrder",
         "This key does not come after the key before it.",
-        "canonicalise sorts the keys; order names the other order.",
+        "canonicalise sorts the keys; 'order' names the other order.",
     ),
     17: (
         "Read",

@@ -80,7 +80,7 @@ const RESERVED: &str = "\
 refused 3 Reserved at 5
   in in
   No item begins with this byte: its low five bits are reserved.
-  The input may be no CBOR, or hex text, which needs --hex.
+  The input may be no CBOR; hex text is read only with --hex.
   bytes from 0: 82 7f 61 61 ff 1c
                                ^^
   at $[1]
