@@ -5,6 +5,7 @@ pub mod FirstByte
 pub mod Forward
 pub mod Kept
 pub mod Longest
+pub mod Members
 pub mod Opens
 pub mod Refusals
 pub mod Runs

@@ -1,12 +1,12 @@
 -- The containers that are open after some bytes of an item are those on the stack.
-use Rattle.std.proofs.Common.{◌≡◌, ℕ, zero, suc, ◌+◌, ◌-◌, ◌*◌, ◌^◌, ◌&&◌, ◌<◌, ◌≤◌, Bool, true, false, not, nat_lt, nat_le, cond, List, [], ◌∷◌, ◌++◌, length, take, flat_map, refl, sym, ap, ◌∙◌, subst, inl, inr, arith, append_assoc, append-nil}
+use Rattle.std.proofs.Common.{◌≡◌, ℕ, zero, suc, ◌+◌, ◌-◌, ◌*◌, ◌^◌, ◌&&◌, ◌<◌, ◌≤◌, Bool, true, false, not, nat_le, cond, List, [], ◌∷◌, ◌++◌, length, take, flat_map, refl, sym, ap, ◌∙◌, subst, inl, inr, arith, append_assoc, append-nil}
 use Rattle.std.proofs.lemmas.Bool.{lt-ltb, le-ltb, cases_lt}
 use Rattle.std.proofs.lemmas.List.{length-append, length-take-le, take-append-le}
 use Rattle.std.proofs.Math.Seq.{take-append_seam}
 use Rattle.std.specs.List.{AllByRecursion}
 use Rattle.std.specs.Int.{bytes_high_first}
 use Rattle.cbor_head.specs.Head.{Holds, IsSimple, head, shortest}
-use Rattle.cbor_head.specs.Spelling.{Chunk, IsChunk, Spelling, Spellings, SpelledEntries, unsigned, negative, bytes, text, byte_chunks, text_chunks, array, a_map, tag, simple, no_spellings, a_spelling, no_entries, entry, spellings_count, entries_count, spell, spell_all, spell_entries, chunk_bytes, string_bytes_of, IsSpelled, AreSpelled, AreEntriesSpelled, depth, depth_all, depth_entries, IsItem}
+use Rattle.cbor_head.specs.Spelling.{Chunk, IsChunk, Spelling, Spellings, SpelledEntries, unsigned, negative, bytes, text, byte_chunks, text_chunks, array, a_map, tag, simple, no_spellings, a_spelling, no_entries, entry, spellings_count, entries_count, spell, spell_all, spell_entries, chunk_bytes, string_bytes_of, IsSpelled, AreSpelled, depth, depth_all, depth_entries, IsItem}
 use Rattle.cbor_head.specs.Verdict.{initial_reason}
 use Rattle.cbor_head.specs.declared.major.Major.{Major}
 use Rattle.cbor_head.specs.declared.major.Major.TheVariants.{Unsigned, Negative, Bytes, Text, Array, Map, Tag, Simple}
@@ -14,12 +14,13 @@ use Rattle.cbor_head.specs.declared.width.Width.{Width}
 use Rattle.cbor_head.specs.declared.width.Width.TheVariants.{Direct, One, Two, Four, Eight, Indefinite}
 use Rattle.cbor_automaton.specs.Trace.{Mark, a_head, chunk_marks, trace}
 use Rattle.cbor_automaton.specs.Automaton.{Frame, counted, indefinite_array, indefinite_map, State, start, at_item, in_head, in_simple, in_payload, in_chunks, done, close, expect, payload, after, has_room, mark, refuses, tail, numbered_tail, take_byte, goes, tells, Outcome, refused, reached, telling, run}
-use Rattle.cbor_automaton.specs.Open.{if_open, open_after, open_in, open_in_entries}
+use Rattle.cbor_automaton.specs.Open.{if_open, open_after, open_in}
 use Rattle.cbor_automaton.proofs.Forward.{Starts, item_starts, chunk_starts, step, head-taken, string-taken, telling_all, forward, close-counted, room-above}
 use Rattle.cbor_automaton.proofs.Stands.{is_odd, not-not, double-even}
 use Rattle.cbor_automaton.proofs.Beginnings.{item-done}
 use Rattle.cbor_automaton.proofs.Runs.{take-behind}
 use Rattle.cbor_automaton.proofs.Events.{le-leb, lt-leb}
+use Rattle.cbor_automaton.proofs.Members.{members, members-count, members-bytes, members-spelled, members-depth, members-open}
 
 abbrev pub stack : State → List Frame
 stack (at_item fs) = fs
@@ -212,34 +213,6 @@ map-leads d fs = record {
   closes = λ ss. ap (λ due. at_item (indefinite_map due ∷ fs)) (not-not (is_odd (spellings_count ss)));
   last = λ t h. first-has d (at_item (indefinite_map false ∷ fs)) (indefinite_map false ∷ fs) 0xff t refl h;
 }
-
--- ---- a map's keys and values as members
-
-abbrev members : SpelledEntries → Spellings
-members no_entries = no_spellings
-members (entry k v es) = a_spelling k (a_spelling v (members es))
-
-members-count : (es : SpelledEntries) → spellings_count (members es) ≡ entries_count es + entries_count es
-members-count no_entries = refl
-members-count (entry k v es) = let e = members-count es in omega (arith, e)
-
-members-bytes : (es : SpelledEntries) → spell_all (members es) ≡ spell_entries es
-members-bytes no_entries = refl
-members-bytes (entry k v es) = sym (append_assoc (spell k) (spell v) (spell_all (members es))) ∙ ap (λ xs. (spell k ++ spell v) ++ xs) (members-bytes es)
-
-members-spelled : (es : SpelledEntries) → AreEntriesSpelled es → AreSpelled (members es)
-members-spelled no_entries h = tt
-members-spelled (entry k v es) h = (h.0, (h.1, members-spelled es h.2))
-
-members-depth : (es : SpelledEntries) → depth_all (members es) ≤ depth_entries es
-members-depth no_entries = omega arith
-members-depth (entry k v es) = let e = members-depth es in omega (arith, e)
-
-members-open : (t from : ℕ) (es : SpelledEntries) → open_in t from (members es) ≡ open_in_entries t from es
-members-open t from no_entries = refl
-members-open t from (entry k v es) =
-    ap (λ n. cond (nat_lt (t - from) (length (spell k))) (open_after (t - from) k) (cond (nat_lt (t - (from + length (spell k))) (length (spell v))) (open_after (t - (from + length (spell k))) v) n))
-    (members-open t (from + length (spell k) + length (spell v)) es)
 
 -- ---- any item
 

@@ -1,11 +1,13 @@
 pub mod CanonStates
 pub mod FirstRepeat
 pub mod Growth
+pub mod InOrder
 pub mod InPlace
 pub mod Inserted
 pub mod LookUp
 pub mod Loops
 pub mod Neighbours
+pub mod Numbers
 pub mod OpenRepeats
 pub mod PartsMade
 pub mod Ranks

@@ -1,3 +1,4 @@
+pub mod Buffers
 pub mod Feeding
 pub mod Form
 pub mod NextEvents

@@ -1,4 +1,4 @@
-//! `cborc`, a program for deterministic CBOR files: see [`run`](cborc_words::run).
+//! `cborc`, a program for deterministic CBOR files: see [`run`](cborc_words::run::run).
 //!
 //! ```text
 //! $ printf bf6346756ef563416d7421ff | cborc canon --hex --hex-out - -
@@ -13,7 +13,7 @@ mod tests;
 
 use cborc_commands::{Fault, end};
 use cborc_disk::Disk;
-use cborc_words::run;
+use cborc_words::run::run;
 use std::io::BufWriter;
 use std::process::ExitCode;
 use std::{env, io};

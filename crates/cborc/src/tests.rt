@@ -12,7 +12,7 @@ mod rows;
 mod streams;
 
 use cborc_files::{Cause, FileFault, Folder};
-use cborc_words::run;
+use cborc_words::run::run;
 use std::alloc::{AllocError, Global};
 use std::io::{self, ErrorKind, Write};
 

@@ -1,9 +1,7 @@
 //! The words of the program `cborc`, and what it does at them, over any folder and any two outputs:
-//! see [`run`].
+//! see [`run::run`].
 #![tactic(auto)]
 
 mod command_line;
 mod grammar;
-mod run;
-
-pub use run::run;
+pub mod run;

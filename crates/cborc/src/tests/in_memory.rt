@@ -4,7 +4,7 @@ use super::{is_line, words};
 use cbor_head::{KeyOrder, Limits};
 use cborc_commands::canon_in_memory;
 use cborc_files::FilesInMemory;
-use cborc_words::run;
+use cborc_words::run::run;
 use std::alloc::{AllocError, Global};
 use std::test::Fail;
 

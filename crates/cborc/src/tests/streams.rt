@@ -3,7 +3,7 @@
 use super::run_with;
 use cborc_disk::{LONGEST, append_from};
 use cborc_files::{FileFault, Folder};
-use cborc_words::run;
+use cborc_words::run::run;
 use std::alloc::{AllocError, Global};
 use std::io::{self, Read};
 

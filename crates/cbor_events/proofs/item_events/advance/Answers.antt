@@ -1,5 +1,5 @@
 use Rattle.std.proofs.Common.{take, refl, sym, ◌∙◌}
-use Rattle.cbor_standing.proofs.NextEvents.{payload-answer}
+use Rattle.cbor_standing.proofs.Buffers.{payload-answer}
 use Rattle.cbor_events.proofs.Parts.{none-read}
 use Rattle.cbor_events.proofs.item_events.advance.Goals as goal
 

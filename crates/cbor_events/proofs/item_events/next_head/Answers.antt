@@ -1,6 +1,6 @@
 use Rattle.std.proofs.Common.{refl, Some}
 use Rattle.std.specs.Prelude.{Ok}
-use Rattle.cbor_standing.proofs.NextEvents.{head-answer}
+use Rattle.cbor_standing.proofs.Buffers.{head-answer}
 use Rattle.cbor_events.proofs.Parts.{none-read}
 use Rattle.cbor_events.proofs.item_events.next_head.Goals as goal
 

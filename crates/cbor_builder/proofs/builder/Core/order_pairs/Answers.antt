@@ -8,7 +8,8 @@ use Rattle.cbor_builder.specs.inner.Laid.{pairs_from}
 use Rattle.cbor_buffer.specs.Moved.{meant}
 use Rattle.cbor_buffer.proofs.Drafts.{whole_length}
 use Rattle.cbor_builder.proofs.Growth.{tile_within}
-use Rattle.cbor_builder.proofs.InPlace.{distinct_iff, fronted_keys, order_meant, behind_permuted, tile_behind, risen}
+use Rattle.cbor_builder.proofs.InPlace.{fronted_keys}
+use Rattle.cbor_builder.proofs.InOrder.{distinct_iff, order_meant, behind_permuted, tile_behind, risen}
 use Rattle.cbor_builder.proofs.Inserted.{places_permuted, places_sorted}
 use Rattle.cbor_builder.proofs.SortedSpans.{within_permuted}
 use Rattle.cbor_head.specs.Canonical.{Pair}
