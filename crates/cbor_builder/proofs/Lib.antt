@@ -5,7 +5,6 @@ pub mod InOrder
 pub mod InPlace
 pub mod Inserted
 pub mod LookUp
-pub mod Loops
 pub mod Neighbours
 pub mod Numbers
 pub mod OpenRepeats

@@ -1,5 +1,6 @@
 pub mod Agreement
 pub mod Clean
+pub mod Decided
 pub mod Depth
 pub mod Induction
 pub mod Keys

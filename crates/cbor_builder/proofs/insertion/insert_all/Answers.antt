@@ -8,7 +8,7 @@ use Rattle.cbor_canonical.specs.Pairs.{IsRising, HasDistinctBytes}
 use Rattle.cbor_canonical.proofs.Sorting.{rising_distinct}
 use Rattle.cbor_builder.specs.Built.{HasKey}
 use Rattle.cbor_builder.specs.inner.Front.{key_of, AreFronted}
-use Rattle.cbor_builder.proofs.Loops.{holds, fails}
+use Rattle.cbor_canonical.proofs.Decided.{holds, fails}
 use Rattle.cbor_builder.proofs.Neighbours.{distinct_permuted}
 use Rattle.cbor_builder.proofs.Ranks.{fronted_permuted}
 use Rattle.cbor_builder.proofs.Inserted.{in_front_taken, taken_front, fronted_taken, more_permuted, repeats, rising_sorted}

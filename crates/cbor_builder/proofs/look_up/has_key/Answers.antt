@@ -1,4 +1,4 @@
-use Rattle.cbor_builder.proofs.Loops.{fails}
+use Rattle.cbor_canonical.proofs.Decided.{fails}
 use Rattle.cbor_builder.proofs.LookUp.{above_all}
 use Rattle.cbor_builder.proofs.look_up.has_key.Goals as goal
 

@@ -1,6 +1,6 @@
 use Rattle.std.proofs.Common.{◌≡◌, ◌↔◌, ◌+◌, ◌-◌, map, drop, refl, true≢false, sym, ◌∙◌, subst, arith}
 use Rattle.cbor_builder.specs.inner.Neighbours.{DoNeighboursDiffer}
-use Rattle.cbor_builder.proofs.Loops.{fails}
+use Rattle.cbor_canonical.proofs.Decided.{fails}
 use Rattle.cbor_builder.specs.inner.Front.{key_of}
 use Rattle.cbor_keys.proofs.KeyFronts.{are_bytes}
 use Rattle.cbor_builder.proofs.Neighbours.{differ_end}

@@ -8,7 +8,7 @@ use Rattle.cbor_item.specs.inner.Members.{entries_view, values_view}
 use Rattle.cbor_buffer.proofs.ByIndex.{at_index}
 use Rattle.cbor_item.proofs.ByIndex.{valid_read}
 use Rattle.cbor_item.proofs.Counting.{same_by_count}
-use Rattle.cbor_builder.proofs.Loops.{was_true, was_false, fails, unequal}
+use Rattle.cbor_canonical.proofs.Decided.{was_true, was_false, fails, unequal}
 use Rattle.cbor_item.proofs.Steps.{Pair, IsMet, covered_on, covered_fail, met_on, met_here, met_nowhere, met_behind, met_before}
 use Rattle.cbor_item.proofs.Views.{view-Map, values_count-view, entries_count-view, SameValues-count}
 use Rattle.cbor_item.proofs.compare.+same.Goals as goal

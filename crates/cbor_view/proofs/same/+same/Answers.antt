@@ -2,7 +2,7 @@ use Rattle.std.proofs.Common.{◌≡◌, ◌↔◌, Bool, IsTrue, get_or, slice_
 use Rattle.std.proofs.lemmas.Option.{slice_get-get_or}
 use Rattle.cbor_head.specs.Value.{SameValues, Covered}
 use Rattle.cbor_item.specs.View.{values_of}
-use Rattle.cbor_builder.proofs.Loops.{was_true, was_false, holds, fails}
+use Rattle.cbor_canonical.proofs.Decided.{was_true, was_false, holds, fails}
 use Rattle.cbor_view.specs.Seen.{seen_all}
 use Rattle.cbor_view.specs.inner.Pairs.{IsSamePair, IsMet, entries}
 use Rattle.cbor_view.specs.declared.view.View.TheVariants.{Unsigned}

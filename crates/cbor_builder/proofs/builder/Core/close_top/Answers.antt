@@ -11,7 +11,7 @@ use Rattle.cbor_builder.specs.declared.frame.Shape.{Shape}
 use Rattle.cbor_buffer.proofs.Drafts.{whole_length, front_shorter}
 use Rattle.cbor_builder.proofs.Growth.{map_sorted}
 use Rattle.cbor_builder.proofs.InPlace.{top_keys}
-use Rattle.cbor_builder.proofs.Loops.{holds}
+use Rattle.cbor_canonical.proofs.Decided.{holds}
 use Rattle.cbor_builder.proofs.builder.Core.close_top.Goals as goal
 
 pub fill_head-requires-clause-ends : goal.fill_head-requires-clause-ends

@@ -13,7 +13,7 @@ use Rattle.cbor_builder.proofs.InOrder.{distinct_iff, order_meant, behind_permut
 use Rattle.cbor_builder.proofs.Inserted.{places_permuted, places_sorted}
 use Rattle.cbor_builder.proofs.SortedSpans.{within_permuted}
 use Rattle.cbor_head.specs.Canonical.{Pair}
-use Rattle.cbor_builder.proofs.Loops.{holds, fails, was_true, was_false}
+use Rattle.cbor_canonical.proofs.Decided.{holds, fails, was_true, was_false}
 use Rattle.cbor_canonical.proofs.Sorting.{rising_distinct}
 use Rattle.cbor_builder.proofs.builder.Core.order_pairs.Goals as goal
 

@@ -1,7 +1,7 @@
 use Rattle.std.proofs.Common.{◌≡◌, get_or, sym, ap, ◌∙◌, subst, arith}
 use Rattle.cbor_head.specs.Value as value
 use Rattle.cbor_head.specs.Value.{Value, IsValid}
-use Rattle.cbor_builder.proofs.Loops.{was_true, was_false}
+use Rattle.cbor_canonical.proofs.Decided.{was_true, was_false}
 use Rattle.cbor_view.specs.Lookup.{HasValueAt}
 use Rattle.cbor_view.specs.Seen.{seen}
 use Rattle.cbor_view.specs.inner.Pairs.{entries}

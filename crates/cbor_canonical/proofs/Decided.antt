@@ -1,4 +1,4 @@
--- What a loop has met, where its test is known to be one or the other.
+-- What a test says of a statement that it decides, where it is known to have come out one way.
 use Rattle.std.proofs.Common.{◌≡◌, ℕ, ◌↔◌, IsTrue, nat_eq, Bool, true, false, refl, arith}
 use Rattle.std.proofs.lemmas.Bool.Decides.{nat_tests}
 
