@@ -18,7 +18,7 @@ const FIRST: u64 = 1_048_577;
 
 /// The first bytes of the input at this path: as many as decide whether it is one item within the
 /// limits, no more than twice as many as the item has, or 2^20 and one. Hex text is read to its end.
-pub fn read_item<'a, F: Folder>(
+pub(crate) fn read_item<'a, F: Folder>(
     alloc: Global,
     files: &mut F,
     path: &'a str,
