@@ -38,16 +38,13 @@ pub(crate) fn read_item<'a, F: Folder>(
     parts.finish(alloc, files, path)
 }
 
-// How many bytes of a file are read at first: hex text may have white space in front of its digits.
+// How many bytes of a file are read at first: as many as spell a byte more than the limit.
 fn first(hex: bool, limits: Limits) -> u64
     ensures some { 0 < result }
     ensures range { result < 2 ^ 63 }
 {
-    if hex {
-        FIRST
-    } else {
-        FIRST.min(limits.bytes() + 1)
-    }
+    let most = limits.bytes() + 1;
+    FIRST.min(if hex { 2 * most } else { most })
 }
 
 // Whether the input may go on, with what tells more of its first item.
