@@ -21,6 +21,7 @@ SHARED = {"--depth", "--bytes", "--hex", "--quiet", "--explain", "--help"}
 # What stands on the line, and what is offered there; of options, in whichever shell, the long ones.
 ROWS = [
     ("cborc c", {"check", "canon", "compare"}),
+    ("cborc -", {"--help", "--version"}),
     ("cborc help ", COMMANDS),
     ("cborc help c", {"check", "canon", "compare"}),
     ("cborc show -", SHARED | {"--indent", "--seq"}),

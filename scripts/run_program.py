@@ -52,15 +52,18 @@ def streams():
     expect("quiet", run(["check", "--quiet", "-"], b"\xff"), 1)
     expect("quiet canon", run(["canon", "--quiet", "-", "-"], b"\x18\x00"), 0, b"\x00")
     expect("refused", run(["show", "-"], b"\xf9"), 1, b"", b"refused 5 Float at 0\n")
+    few = limited(8 * 1024)
     with open("/dev/zero", "rb") as endless:
-        ended = subprocess.run([PROGRAM, "check", "-"], stdin=endless, capture_output=True, timeout=20)
+        ended = subprocess.run([PROGRAM, "check", "-"], stdin=endless, capture_output=True, timeout=20, preexec_fn=few)
         expect("no end", ended, 1, b"", b"refused 12 Trailing at 1\n")
         for command in (["check"], ["events", "--seq"], ["check", "--seq"], ["show", "--seq"]):
-            ended = subprocess.run([PROGRAM, *command, "--hex", "-"], stdin=endless, capture_output=True, timeout=20)
+            words = [PROGRAM, *command, "--hex", "-"]
+            ended = subprocess.run(words, stdin=endless, capture_output=True, timeout=20, preexec_fn=few)
             expect("no end, and no hex", ended, 3, b"", b"not hex: -\n")
     behind = b"00 " * 2_000_000
-    expect("digits behind the limit", run(["check", "--hex", "--bytes", "1", "-"], behind), 1, b"", b"refused 12 Trailing at 1\n")
-    expect("no digit behind the limit", run(["check", "--hex", "--bytes", "1", "-"], behind + b"g"), 3, b"", b"not hex: -\n")
+    words = ["check", "--hex", "--bytes", "1", "-"]
+    expect("digits behind the limit", run(words, behind, preexec_fn=few), 1, b"", b"refused 12 Trailing at 1\n")
+    expect("no digit behind the limit", run(words, behind + b"g", preexec_fn=few), 3, b"", b"not hex: -\n")
     with open(write("kept", b"x"), "ab") as end:
         subprocess.run([PROGRAM, "canon", "-", "-"], input=b"\x18\x00", stdout=end)
     holds("kept", b"x\x00", ["kept"])
