@@ -3,12 +3,13 @@
 ghost use Rattle.std.specs.Prelude.{◌≡◌, ◌≤◌, ℕ, List, [], length, None, Some, OnOk, OnErr};
 ghost use Rattle.std.specs.Prelude.{IfErr, IfSome, Err};
 ghost use Rattle.cbor_head.specs.Complaint.{strict};
+ghost use Rattle.cbor_head.specs.Limits.{bounds, with_keys};
 ghost use Rattle.cbor_automaton.specs.Trace.{Mark};
 ghost use Rattle.cbor_automaton.specs.Marks.{IsProper};
 ghost use Rattle.cbor_standing.specs.Machine.{KeepsLimits, IsIdle};
 ghost use Rattle.cbor_standing.specs.NextEvent.{IfTold, StandsBetween, call};
 ghost use Rattle.cbor_judging.specs.Refusals.{IsReaderReason};
-ghost use Rattle.cbor_strict.specs.StrictReader.{StrictEventsView, StandsStrictly};
+ghost use Rattle.cbor_strict.specs.StrictReader.{StrictEventsView, StandsStrictly, limits_of};
 ghost use Rattle.cbor_strict.specs.StrictReader.{IsNextStrict, StopsAtOnce, strict_call};
 ghost use Rattle.cbor_strict.specs.inner.LastKeys.{seen};
 ghost use Rattle.cbor_strict.specs.inner.StrictEvents.{StandsSomewhere, AnswersStep, piece_unless};
@@ -17,7 +18,7 @@ ghost use Rattle.cbor_strict.specs.inner.StrictEvents.{IsLittle};
 use crate::open_items::OpenItems;
 use cbor_automaton::{Event, EventKind};
 use cbor_events::ItemEvents;
-use cbor_head::{KeyOrder, Limits, Refusal};
+use cbor_head::{KeyOrder, Keys, Limits, Refusal};
 use std::alloc::Global;
 use std::io::Read;
 use std::marker::Model;
@@ -27,6 +28,7 @@ use std::marker::Model;
 pub(crate) struct StrictEvents {
     events: ItemEvents,
     items: OpenItems,
+    keys: Keys,
     refusal: Option<Refusal>,
 }
 
@@ -37,6 +39,7 @@ impl Model for StrictEvents {
       machine = e.events.machine;
       piece = piece_unless e.refusal e.events.piece;
       order = e.items.order;
+      keys = e.keys;
       spans = length (seen e.items.keys).spans;
       kept = length (seen e.items.keys).bytes;
       refusal = e.refusal;
@@ -46,7 +49,8 @@ impl Model for StrictEvents {
     ghost invariant = { λ e. record {
       stands : e.refusal ≡ None → StandsSomewhere e.items e.events;
       stopped : IfSome e.refusal (λ f. (f.read ≡ e.events.machine.taken)
-          × IsReaderReason (strict e.items.order) f.reason
+          × IsReaderReason (with_keys (bounds e.events.machine.depth e.events.machine.bytes) e.keys)
+          (strict e.items.order) f.reason
           × (length (seen e.items.keys).spans ≡ 0) × (length (seen e.items.keys).bytes ≡ 0));
       within : e.events.machine.open_count ≤ e.events.machine.depth;
       limited : e.events.machine.taken ≤ e.events.machine.bytes;
@@ -61,11 +65,13 @@ impl StrictEvents {
         ensures limits { (result.machine.depth ≡ limits.depth)
             × (result.machine.bytes ≡ limits.bytes) }
         ensures order { result.order ≡ order }
+        ensures keys { result.keys ≡ limits.keys }
         ensures piece { result.piece ≡ [] }
     {
         StrictEvents {
             events: ItemEvents::new(limits),
             items: OpenItems::new(alloc, order),
+            keys: limits.keys(),
             refusal: None,
         }
     }
@@ -78,11 +84,12 @@ impl StrictEvents {
             (R.remaining reader.old) (R.remaining reader.new) t ms) }
         ensures limits { KeepsLimits self.old.machine self.new.machine }
         ensures order { self.new.order ≡ self.old.order }
+        ensures keys { self.new.keys ≡ self.old.keys }
         ensures proper { IfTold result (λ e. IsProper e.width e.kind) }
         ensures live { OnOk result (self.new.refusal ≡ None) }
         ensures refused { IfErr result (λ f. (self.new.refusal ≡ Some f)
             × (self.new.machine.taken ≡ f.read)
-            × IsReaderReason (strict self.old.order) f.reason) }
+            × IsReaderReason (limits_of self.old) (strict self.old.order) f.reason) }
         ensures emptied { OnErr result ((self.new.piece ≡ [])
             × (self.new.spans ≡ 0) × (self.new.kept ≡ 0)) }
         ensures idle { IsIdle self.old.machine → reader.new ≡ reader.old }
