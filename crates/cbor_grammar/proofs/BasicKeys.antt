@@ -2,7 +2,7 @@
 use Rattle.std.proofs.Common.{ℕ, ◌+◌, ◌↔◌, refl, length, inl, inr}
 use Rattle.cbor_head.specs.Head.{head}
 use Rattle.cbor_head.specs.Value as value
-use Rattle.cbor_head.specs.Value.{Value, IsIntegerOrText, HasBasicKeys, HaveBasicKeys, EntriesHaveBasicKeys}
+use Rattle.cbor_head.specs.Value.{Value, Values, Entries, HasEntry, Same, SameValues, Covers, IsIntegerOrText, HasBasicKeys, HaveBasicKeys, EntriesHaveBasicKeys}
 use Rattle.cbor_head.specs.Spelling.{Spelling, Spellings, SpelledEntries, unsigned, negative, bytes, text, byte_chunks, text_chunks, array, a_map, tag, simple, no_spellings, a_spelling, no_entries, entry, spell, spellings_count, entries_count, value_of, values_of, entries_of}
 use Rattle.cbor_head.specs.Complaint.{Complaint, OfKinds, OfKindsIn, OfKindsInEntries}
 use Rattle.cbor_head.specs.declared.major.Major.TheVariants.{Array, Map, Tag}
@@ -83,3 +83,59 @@ mutual
 
 pub basic_keys : (s : Spelling) (at : ℕ) → ((c : Complaint) → OfKinds at s c → ⊥) ↔ HasBasicKeys (value_of s)
 basic_keys s at = (has_basic_keys s at, λ h. none_of_kinds s h at)
+
+-- ---- values that are the same
+
+key_same : (k l : Value) → Same l k → IsIntegerOrText l → IsIntegerOrText k
+key_same (value.unsigned n) l h b = tt
+key_same (value.negative n) l h b = tt
+key_same (value.text s) l h b = tt
+key_same (value.bytes s) (value.bytes t) h b = absurd b
+key_same (value.bytes s) l h b = absurd h
+key_same (value.array vs) (value.array ws) h b = absurd b
+key_same (value.array vs) l h b = absurd h
+key_same (value.map es) (value.map fs) h b = absurd b
+key_same (value.map es) l h b = absurd h
+key_same (value.tag n v) (value.tag m w) h b = absurd b
+key_same (value.tag n v) l h b = absurd h
+key_same (value.simple n) (value.simple m) h b = absurd b
+key_same (value.simple n) l h b = absurd h
+
+-- a pair that is the same as this one
+record Found (k v : Value) : Type 0 where
+  pub key : Value
+  pub content : Value
+  pub same_key : Same key k
+  pub same_content : Same content v
+  pub basic : IsIntegerOrText key
+  pub has : HasBasicKeys content
+
+found : (es : Entries) (k v : Value) → Covers es k v → EntriesHaveBasicKeys es → Found k v
+found value.no_entries k v h b = absurd h
+found (value.entry l w es) k v (inl h) b = record { key = l; content = w; same_key = h.0; same_content = h.1; basic = b.0; has = b.1 }
+found (value.entry l w es) k v (inr h) b = found es k v h b.2
+
+mutual
+  pub basic_same : (w v : Value) → Same v w → HasBasicKeys v → HasBasicKeys w
+  basic_same (value.array ws) (value.array vs) h b = all_same ws vs h b
+  basic_same (value.array ws) v h b = absurd h
+  basic_same (value.map fs) (value.map es) h b = entries_same fs es h.1 b
+  basic_same (value.map fs) v h b = absurd h
+  basic_same (value.tag n w) (value.tag m v) h b = basic_same w v h.1 b
+  basic_same (value.tag n w) v h b = absurd h
+  basic_same (value.unsigned n) v h b = tt
+  basic_same (value.negative n) v h b = tt
+  basic_same (value.bytes s) v h b = tt
+  basic_same (value.text s) v h b = tt
+  basic_same (value.simple n) v h b = tt
+
+  all_same : (ws vs : Values) → SameValues vs ws → HaveBasicKeys vs → HaveBasicKeys ws
+  all_same value.no_values vs h b = tt
+  all_same (value.a_value w ws) (value.a_value v vs) h b = (basic_same w v h.0 b.0, all_same ws vs h.1 b.1)
+  all_same (value.a_value w ws) value.no_values h b = absurd h
+
+  entries_same : (fs es : Entries) → ((k v : Value) → HasEntry fs k v → Covers es k v) → EntriesHaveBasicKeys es → EntriesHaveBasicKeys fs
+  entries_same value.no_entries es h b = tt
+  entries_same (value.entry k v fs) es h b =
+      let f = found es k v (h k v (inl (refl, refl))) b in
+      (key_same k f.key f.same_key f.basic, basic_same v f.content f.same_content f.has, entries_same fs es (λ l m e. h l m (inr e)) b)

@@ -12,6 +12,8 @@ pub mod Given
 pub mod Heads
 pub mod Items
 pub mod Judged
+pub mod KindFrames
+pub mod KindSteps
 pub mod LastKey
 pub mod Leaves
 pub mod LevelFrames

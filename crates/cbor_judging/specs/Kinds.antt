@@ -1,0 +1,38 @@
+-- The kinds of keys in the bytes so far of an item.
+use Rattle.std.specs.Prelude.{ℕ, ◌≡◌, ◌≤◌, ◌++◌, IsTrue, List, [], ◌∷◌, length}
+use Rattle.cbor_head.specs.Limits.{Bounds}
+use Rattle.cbor_head.specs.Laws.{StartsWith}
+use Rattle.cbor_head.specs.Spelling.{Spelling}
+use Rattle.cbor_head.specs.Complaint.{Rules, Complaint, OfKinds}
+use Rattle.cbor_head.specs.declared.keys.Keys.TheVariants.{IntegersAndTexts}
+use Rattle.cbor_judging.specs.Frame.{Frame, a_member, a_key, a_content, tagged, plug}
+
+-- that keys are integers and texts is asked
+abbrev pub AsksForKinds : Bounds → Rules → Type 0
+AsksForKinds limits r = IsTrue r.kinds × (limits.keys ≡ IntegersAndTexts)
+
+-- where it is, no key that begins in these bytes of an item is of another kind
+abbrev pub KeepsToKinds : Bounds → Rules → List ℕ → Type 0
+KeepsToKinds limits r t = AsksForKinds limits r → (s : Spelling) (c : Complaint) → StartsWith limits.depth s t → OfKinds 0 s c → c.end ≤ length t → ⊥
+
+-- nor in any front of them
+abbrev pub KeepsThroughout : Bounds → Rules → List ℕ → Type 0
+KeepsThroughout limits r t = (p q : List ℕ) → t ≡ p ++ q → KeepsToKinds limits r p
+
+-- ---- what is due in the open containers, the outermost first
+
+-- an item in this place is a key
+abbrev pub IsKeyFrame : Frame → Type 0
+IsKeyFrame (a_key w a v b) = Unit {0}
+IsKeyFrame _ = ⊥
+
+-- a key is due in the innermost
+abbrev pub IsKeyDue : List Frame → Type 0
+IsKeyDue [] = ⊥
+IsKeyDue (f ∷ []) = IsKeyFrame f
+IsKeyDue (f ∷ g ∷ fs) = IsKeyDue (g ∷ fs)
+
+-- all of them, with the item in the innermost
+abbrev pub plug_all : List Frame → Spelling → Spelling
+plug_all [] s = s
+plug_all (f ∷ fs) s = plug f (plug_all fs s)
