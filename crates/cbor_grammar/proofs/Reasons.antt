@@ -1,5 +1,5 @@
 -- A complaint is for a reason that its rules ask for.
-use Rattle.std.proofs.Common.{ℕ, ◌+◌, ◌≡◌, ◌≤◌, List, [], ◌∷◌, length, refl, sym, subst, inl, inr, arith}
+use Rattle.std.proofs.Common.{ℕ, ◌+◌, ◌≡◌, ◌≤◌, List, [], ◌∷◌, length, refl, sym, ap, subst, inl, inr, arith}
 use Rattle.std.specs.Prelude.{IsTrue}
 use Rattle.cbor_head.specs.Head.{head}
 use Rattle.cbor_head.specs.Spelling.{Chunk, Spelling, Spellings, SpelledEntries, unsigned, negative, bytes, text, byte_chunks, text_chunks, array, a_map, tag, simple, no_spellings, a_spelling, no_entries, entry, spell, chunk_bytes, spellings_count, entries_count}
@@ -36,7 +36,7 @@ module _ (r : Rules) (Q : Reason → Type 0) (of_texts : IsTrue r.texts → Q In
   of_payload : (at : ℕ) (q : List ℕ) (c : Complaint) → OfPayload r at q c → Q c.reason
   of_payload at q c h = by_reason c _ h.2 (of_texts h.0)
 
-  of_string : (at : ℕ) (m : Major) (w : Width) (q : List ℕ) (c : Complaint) → OfString r at m w q c → Q c.reason
+  pub of_string : (at : ℕ) (m : Major) (w : Width) (q : List ℕ) (c : Complaint) → OfString r at m w q c → Q c.reason
   of_string at Text w q c (inl h) = of_head at Text w (length q) c h
   of_string at Text w q c (inr h) = of_payload _ q c h
   of_string at Unsigned w q c h = of_head at Unsigned w (length q) c h
@@ -91,3 +91,9 @@ module _ (r : Rules) (Q : Reason → Type 0) (of_texts : IsTrue r.texts → Q In
 -- no complaint of these comes before one on a key's kind at one end
 pub ranked : (r : Rules) (at : ℕ) (s : Spelling) (c : Complaint) → Complains r at s c → 1 ≤ rank c.reason
 ranked r at s c h = reason_of r (λ x. 1 ≤ rank x) (λ t. omega arith) (λ t. omega arith) (λ t. omega arith) (λ t. omega arith) (λ o t. omega arith) at s c h
+
+pub string_ranked : (r : Rules) (at : ℕ) (m : Major) (w : Width) (q : List ℕ) (c : Complaint) → OfString r at m w q c → 1 ≤ rank c.reason
+string_ranked r at m w q c h = of_string r (λ x. 1 ≤ rank x) (λ t. omega arith) (λ t. omega arith) (λ t. omega arith) (λ t. omega arith) (λ o t. omega arith) at m w q c h
+
+pub payload_rank : (r : Rules) (at : ℕ) (q : List ℕ) (c : Complaint) → OfPayload r at q c → rank c.reason ≡ 1
+payload_rank r at q c h = ap (λ (x : Complaint). rank x.reason) h.2
