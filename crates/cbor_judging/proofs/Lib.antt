@@ -13,6 +13,7 @@ pub mod Heads
 pub mod Items
 pub mod Judged
 pub mod KindFrames
+pub mod KindLevels
 pub mod KindSteps
 pub mod LastKey
 pub mod Leaves

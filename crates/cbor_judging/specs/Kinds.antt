@@ -6,6 +6,8 @@ use Rattle.cbor_head.specs.Spelling.{Spelling}
 use Rattle.cbor_head.specs.Complaint.{Rules, Complaint, OfKinds}
 use Rattle.cbor_head.specs.declared.keys.Keys.TheVariants.{IntegersAndTexts}
 use Rattle.cbor_judging.specs.Frame.{Frame, a_member, a_key, a_content, tagged, plug}
+use Rattle.cbor_judging.specs.Levels as levels
+use Rattle.cbor_judging.specs.Levels.{Level}
 
 -- that keys are integers and texts is asked
 abbrev pub AsksForKinds : Bounds → Rules → Type 0
@@ -36,3 +38,13 @@ IsKeyDue (f ∷ g ∷ fs) = IsKeyDue (g ∷ fs)
 abbrev pub plug_all : List Frame → Spelling → Spelling
 plug_all [] s = s
 plug_all (f ∷ fs) s = plug f (plug_all fs s)
+
+-- the same, where it is known what is complete in them, the innermost first
+abbrev pub IsKeyLevel : Level → Type 0
+IsKeyLevel (levels.a_key w left done) = Unit {0}
+IsKeyLevel (levels.some_key done) = Unit {0}
+IsKeyLevel _ = ⊥
+
+abbrev pub IsKeyDueIn : List Level → Type 0
+IsKeyDueIn [] = ⊥
+IsKeyDueIn (l ∷ ls) = IsKeyLevel l
