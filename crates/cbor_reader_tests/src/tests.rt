@@ -2,6 +2,7 @@
 
 mod built;
 mod conformance;
+mod conformance_kinds;
 mod conformance_rows;
 mod conformance_strict;
 mod conformance_table;
