@@ -17,8 +17,7 @@ use Rattle.cbor_head.specs.declared.reason.Refusal.{Refusal}
 use Rattle.cbor_grammar.proofs.Agree.{split_front}
 use Rattle.cbor_grammar.proofs.Beginnings.{item_decides}
 use Rattle.cbor_grammar.proofs.Kinds.{kind_within}
-use Rattle.cbor_grammar.proofs.KindsUnasked.{form_complaint}
-use Rattle.cbor_standing.proofs.Form.{no-complaint}
+use Rattle.cbor_standing.proofs.Form.{never}
 use Rattle.cbor_standing.specs.NextEvent.{ItemEventsView}
 use Rattle.cbor_judging.specs.Judged.{IsJudged}
 use Rattle.cbor_judging.specs.Kinds.{AsksForKinds, KeepsToKinds, KeepsThroughout}
@@ -74,7 +73,7 @@ record BreaksAt (limits : Bounds) (input : List ℕ) (f : Refusal) : Type 0 wher
 
 breaks_at : (limits : Bounds) (input : List ℕ) (f : Refusal) → IsVerdict limits form input (refused f) → BreaksAt limits input f
 breaks_at limits input f v = elim v.decides [
-  | inl c ↦ absurd (no-complaint 0 v.item c.0 ((form_complaint limits v.item c.0).0 c.1.holds))
+  | inl c ↦ absurd (never limits v.item c.0 c.1.holds)
   | inr b ↦ record { p = v.p; longest = v.longest; breaks = b.2 }
 ]
 
