@@ -4,14 +4,15 @@ use Rattle.std.proofs.lemmas.Bool.{cases_lt}
 use Rattle.std.proofs.lemmas.List.{append_assoc, append-nil, length-append, length-take, take_all, take-append-le}
 use Rattle.std.proofs.Math.Seq.{take-append-add}
 use Rattle.cbor_head.specs.Beginning.{IsBeginning, IsLongestBeginning}
-use Rattle.cbor_head.specs.Complaint.{Rules, Complaint}
+use Rattle.cbor_head.specs.Complaint.{Rules, Complaint, IsComplaint}
+use Rattle.cbor_head.specs.Laws.{IsFirstComplaint, IsWithout}
 use Rattle.cbor_head.specs.Limits.{Bounds}
 use Rattle.cbor_head.specs.Spelling.{Spelling, spell, IsItem}
-use Rattle.cbor_head.specs.Verdict.{Answer, accepted, refused, refusal, IsFirstComplaint, IsWithout, IsFormError, IsVerdict}
+use Rattle.cbor_head.specs.Verdict.{Answer, accepted, refused, refusal, IsFormError, IsVerdict}
 use Rattle.cbor_head.specs.declared.reason.Reason.TheVariants.{Truncated}
 use Rattle.cbor_head.specs.declared.reason.Refusal.{Refusal}
 use Rattle.cbor_grammar.proofs.Agree.{split_front}
-use Rattle.cbor_grammar.proofs.OneFirst.{first_for_each}
+use Rattle.cbor_grammar.proofs.Complaints.{complaints_told, first_for_each}
 use Rattle.cbor_grammar.proofs.Verdicts.{beginning_front, whole_longest}
 use Rattle.cbor_judging.proofs.Decisions.{first_further}
 use Rattle.cbor_judging.proofs.SpelledBytes.{longest_always}
@@ -75,10 +76,10 @@ module _ (limits : Bounds) (rules : Rules) (front behind : List ℕ) where
         item = v.item;
         rest = [];
         starts = record { spelled = v.starts.spelled; within = v.starts.within; bytes_are = sym (append-nil (spell v.item)) };
-        decides = (v.decides.0, refl, subst (λ (xs : List ℕ). IsWithout rules v.item (length xs)) (sym is) v.decides.2);
+        decides = (v.decides.0, refl, subst (λ (xs : List ℕ). IsWithout limits rules v.item (length xs)) (sym is) v.decides.2);
       }
 
-  complaint_further : (f : Refusal) (v : IsVerdict limits rules front (refused f)) (c : Complaint) → IsFirstComplaint rules v.item (length v.p) c → f ≡ refusal c.reason c.place c.end
+  complaint_further : (f : Refusal) (v : IsVerdict limits rules front (refused f)) (c : Complaint) → IsFirstComplaint limits rules v.item (length v.p) c → f ≡ refusal c.reason c.place c.end
       → IsVerdict limits rules (front ++ behind) (refused f)
   complaint_further f v c first is =
       let (q, g) = longest_always limits.depth (take limits.bytes (front ++ behind)) in
@@ -88,10 +89,10 @@ module _ (limits : Bounds) (rules : Rules) (front behind : List ℕ) where
       let (k, e, h) = split_front v.p (v.longest.rest ++ more) q g.rest (sym splits ∙ g.splits) l in
       let (t, z, i) = g.beginning in
       let m : IsItem limits.depth t (v.p ++ (k ++ z)) = subst (IsItem limits.depth t) (ap (λ (xs : List ℕ). xs ++ z) e ∙ append_assoc v.p k z) i in
-      let there = first_for_each limits.depth v.item t v.p v.rest (k ++ z) v.starts m rules c first in
-      record { p = q; longest = g; item = t; rest = z; starts = i; decides = inl (c, first_further rules t (length v.p) (length q) c l there, is) }
+      let there = first_for_each (IsComplaint limits rules) (complaints_told limits rules) limits.depth v.item t v.p v.rest (k ++ z) v.starts m c first in
+      record { p = q; longest = g; item = t; rest = z; starts = i; decides = inl (c, first_further (IsComplaint limits rules t) (length v.p) (length q) c l there, is) }
 
-  form_further : (f : Refusal) (v : IsVerdict limits rules front (refused f)) → IsWithout rules v.item (length v.p) → spell v.item ≢ v.p → (rest : List ℕ) → v.longest.rest ≡ rest
+  form_further : (f : Refusal) (v : IsVerdict limits rules front (refused f)) → IsWithout limits rules v.item (length v.p) → spell v.item ≢ v.p → (rest : List ℕ) → v.longest.rest ≡ rest
       → IsFormError limits v.p rest f → f.reason ≢ Truncated → IsVerdict limits rules (front ++ behind) (refused f)
   form_further f v none apart (c ∷ cs) e h not_cut =
       let splits : take limits.bytes front ≡ v.p ++ c ∷ cs = v.longest.splits ∙ ap (λ (xs : List ℕ). v.p ++ xs) e in

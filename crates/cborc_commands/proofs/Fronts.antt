@@ -7,13 +7,13 @@ use Rattle.cbor_head.specs.Value.{Value}
 use Rattle.cbor_head.specs.Spelling.{Spelling, spell, IsItem}
 use Rattle.cbor_head.specs.Verdict.{Answer, accepted, refused, refusal, IsVerdict}
 use Rattle.cbor_head.specs.declared.order.KeyOrder.{KeyOrder}
-use Rattle.cbor_head.specs.declared.reason.Reason.TheVariants.{CanonicalTooLong, Truncated, Read}
+use Rattle.cbor_head.specs.declared.reason.Reason.TheVariants.{CanonicalTooLong, Truncated, Read, KeyKind}
 use Rattle.cbor_head.specs.declared.reason.Refusal.{Refusal}
 use Rattle.cbor_grammar.proofs.Agree.{split_front}
 use Rattle.cbor_reader.specs.Canonicalise.{IsCanonicalOf, IsRefusal}
 use Rattle.cbor_reader.specs.Canonicalise as canonicalise
 use Rattle.cbor_reader.proofs.Headline.{valid_item_accepted}
-use Rattle.cbor_judging.proofs.Reasons.{complaint-reason}
+use Rattle.cbor_judging.proofs.Reasons.{item-reason}
 use Rattle.cbor_judging.proofs.SpelledBytes.{longest_always}
 use Rattle.cbor_judging.specs.Readers.{IsUnread, IsReadAs}
 use Rattle.cbor_judging.specs.Readers as readers
@@ -22,7 +22,7 @@ use Rattle.cbor_reader.specs.WholeItem.{IsWholeItem, IsItemRefusal}
 use Rattle.cbor_reader.specs.WholeItem as items
 use Rattle.cbor_diag.specs.Listing.{IsListing, IsStopped, IsListed, IsUnlisted}
 use Rattle.cbor_diag.specs.Listing as listing
-use Rattle.cbor_standing.proofs.Form.{no-complaint}
+use Rattle.cbor_standing.proofs.Form.{never}
 use Rattle.cborc_commands.specs.Check.{IsWhole, IsNotWhole}
 use Rattle.cborc_commands.specs.Check as check
 use Rattle.cborc_commands.specs.Events.{IsFollowed, IsNotListed}
@@ -37,13 +37,16 @@ use Rattle.cborc_commands.proofs.Places.{place_within}
 
 by_form : (limits : Bounds) (r : Rules) (front : List ℕ) (s : Spelling) → IsVerdict limits r front (accepted s) → IsVerdict limits form front (accepted s)
 by_form limits r front s v =
-    record { p = v.p; longest = v.longest; item = v.item; rest = v.rest; starts = v.starts; decides = (v.decides.0, v.decides.1, λ c h l. no-complaint 0 v.item c h) }
+    record { p = v.p; longest = v.longest; item = v.item; rest = v.rest; starts = v.starts; decides = (v.decides.0, v.decides.1, λ c h l. never limits v.item c h) }
 
 -- an input that ends within its item does so by any rules
 cut_by_form : (limits : Bounds) (r : Rules) (front : List ℕ) (f : Refusal) → f.reason ≡ Truncated → IsVerdict limits r front (refused f) → IsVerdict limits form front (refused f)
 cut_by_form limits r front f e v = elim v.decides [
-  | inl h ↦ absurd (subst (IsComplaintReason r) e (complaint-reason r 0 v.item h.0 h.1.holds f h.2))
-  | inr h ↦ record { p = v.p; longest = v.longest; item = v.item; rest = v.rest; starts = v.starts; decides = inr ((λ c g l. no-complaint 0 v.item c g), h.1, h.2) }
+  | inl h ↦ elim (item-reason limits r v.item h.0 h.1.holds f h.2) [
+    | inl x ↦ absurd (subst (IsComplaintReason r) e x)
+    | inr x ↦ let two : Truncated ≡ KeyKind = sym e ∙ x.0 in absurd (cc two)
+  ]
+  | inr h ↦ record { p = v.p; longest = v.longest; item = v.item; rest = v.rest; starts = v.starts; decides = inr ((λ c g l. never limits v.item c g), h.1, h.2) }
 ]
 
 module _ (limits : Bounds) (front behind : List ℕ) (enough : IsEnough limits front behind) where

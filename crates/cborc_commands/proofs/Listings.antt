@@ -6,14 +6,15 @@ use Rattle.std.proofs.lemmas.List.{take-append-le}
 use Rattle.cbor_head.specs.Complaint.{form}
 use Rattle.cbor_head.specs.Limits.{Bounds}
 use Rattle.cbor_head.specs.Spelling.{Spelling, spell}
-use Rattle.cbor_head.specs.Verdict.{accepted, refused, Decides, IsFormError, IsVerdict}
+use Rattle.cbor_head.specs.Laws.{Decides}
+use Rattle.cbor_head.specs.Verdict.{accepted, refused, IsFormError, IsVerdict}
 use Rattle.cbor_head.specs.declared.reason.Reason.TheVariants as reasons
 use Rattle.cbor_head.specs.declared.reason.Refusal.{Refusal}
 use Rattle.cbor_automaton.specs.Event.{events}
 use Rattle.cbor_diag.specs.Listing.{lines, IsListing, IsStopped, IsListed, IsUnlisted, of_verdict, of_reader, of_writer}
 use Rattle.cbor_grammar.proofs.OneVerdict.{one_verdict}
 use Rattle.cbor_judging.specs.Readers.{IsRead}
-use Rattle.cbor_standing.proofs.Form.{no-complaint}
+use Rattle.cbor_standing.proofs.Form.{never}
 use Rattle.cbor_reader.specs.Sequence.{IsAccepted}
 use Rattle.cborc_commands.specs.Events.{IsNotListed}
 use Rattle.cborc_commands.specs.inner.Listed.{IsFrontNotListed}
@@ -40,7 +41,7 @@ verdict_not : (limits : Bounds) (input : List ℕ) (f : Refusal) → IsVerdict l
 verdict_not limits input f v e = by v.decides
   where
     by : Decides limits form v.p v.longest.rest v.item (refused f) → ⊥
-    by (inl (c, first, is)) = no-complaint 0 v.item c first.holds
+    by (inl (c, first, is)) = never limits v.item c first.holds
     by (inr h) = form_not limits v.p v.longest.rest f h.2 e
 
 -- ---- one item at the front

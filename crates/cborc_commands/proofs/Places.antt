@@ -4,11 +4,12 @@ use Rattle.std.specs.Prelude.{◌==◌, ◌||◌, ◌&&◌, ◌%◌, nat_le, if�
 use Rattle.std.proofs.lemmas.List.{length-append, length-take}
 use Rattle.cbor_head.specs.Complaint.{form}
 use Rattle.cbor_head.specs.Limits.{Bounds}
-use Rattle.cbor_head.specs.Verdict.{refused, Decides, IsFormError, IsReasonAt, IsVerdict, initial_reason}
+use Rattle.cbor_head.specs.Laws.{Decides}
+use Rattle.cbor_head.specs.Verdict.{refused, IsFormError, IsReasonAt, IsVerdict, initial_reason}
 use Rattle.cbor_head.specs.declared.reason.Reason.{Reason}
 use Rattle.cbor_head.specs.declared.reason.Reason.TheVariants as reasons
 use Rattle.cbor_head.specs.declared.reason.Refusal.{Refusal}
-use Rattle.cbor_standing.proofs.Form.{no-complaint}
+use Rattle.cbor_standing.proofs.Form.{never}
 
 -- ---- reasons
 
@@ -53,7 +54,7 @@ pub place_within : (limits : Bounds) (front : List ℕ) (f : Refusal) → IsVerd
 place_within limits front f v = by v.decides
   where
     by : Decides limits form v.p v.longest.rest v.item (refused f) → f.place ≤ length front
-    by (inl (c, first, e)) = absurd (no-complaint 0 v.item c first.holds)
+    by (inl (c, first, e)) = absurd (never limits v.item c first.holds)
     by (inr h) =
         omega (
           arith,
