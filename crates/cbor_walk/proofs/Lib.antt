@@ -13,6 +13,7 @@ pub mod KeyOrder
 pub mod KeysGiven
 pub mod KeysKept
 pub mod PathForm
+pub mod PathKinds
 pub mod PathLevels
 pub mod PathSteps
 pub mod PathStops
