@@ -8,7 +8,7 @@ use Rattle.std.specs.Prelude.{IsTrue}
 use Rattle.cbor_head.specs.Verdict.{rank, IsFirstOf, HasNoneOf}
 use Rattle.cbor_head.specs.declared.keys.Keys.TheVariants.{IntegersAndTexts}
 use Rattle.cbor_grammar.proofs.Agree.{same_complaints}
-use Rattle.cbor_grammar.proofs.Kinds.{kind_is, kind_within, one_kind}
+use Rattle.cbor_grammar.proofs.KeyKinds.{kind_is, kind_within, one_kind}
 use Rattle.cbor_grammar.proofs.KindsAgree.{same_kinds}
 use Rattle.cbor_grammar.proofs.OneFirst.{bounded, apart}
 use Rattle.cbor_grammar.proofs.Reasons.{ranked}

@@ -9,7 +9,7 @@ use Rattle.cbor_head.specs.declared.width.Width.{Width}
 use Rattle.cbor_head.proofs.HeadLaws.{told}
 use Rattle.cbor_grammar.proofs.Alike.{Both, past_length, front_both, recut, enter, enter_same, past_item, not_closed}
 use Rattle.cbor_grammar.proofs.Agree.{same_length, told_less, told_none, pairs_assoc}
-use Rattle.cbor_grammar.proofs.Kinds.{kind_too, kind_later, kind_later_in, kind_later_entries, kind_end}
+use Rattle.cbor_grammar.proofs.KeyKinds.{kind_too, kind_later, kind_later_in, kind_later_entries, kind_end}
 use Rattle.cbor_grammar.proofs.Parts.{body, as_array, as_map, as_tag}
 
 mutual

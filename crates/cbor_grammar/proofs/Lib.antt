@@ -9,7 +9,7 @@ pub mod Ends
 pub mod Exact
 pub mod Examples
 mod KindExamples
-pub mod Kinds
+pub mod KeyKinds
 pub mod KindsAgree
 pub mod KindsUnasked
 pub mod OneFirst

@@ -63,13 +63,13 @@ abbrev repeated : Spelling
 repeated = a_map Direct (pairs ((unsigned Direct 1, unsigned Direct 0) ∷ (unsigned One 1, unsigned Direct 0) ∷ []))
 
 repeated-plain : First plain repeated 6 (complaint 5 3 RepeatedKey)
-repeated-plain = first_of _ _ _ _ (search arith) (omega arith) (λ e h. grind arith)
+repeated-plain = first_of plain repeated _ _ (search arith) (omega arith) (λ e h. grind arith)
 
 repeated-plain_verdict : IsVerdict (bounds 256 1048576) plain (0xa2 ∷ 0x01 ∷ 0x00 ∷ 0x18 ∷ 0x01 ∷ 0x00 ∷ []) (refused (refusal RepeatedKey 3 5))
 repeated-plain_verdict = on_beginning _ _ _ _ repeated [] _ refl (search arith) (omega arith) refl (inl (_, repeated-plain, refl))
 
 repeated-strict : First (strict Bytewise) repeated 6 (complaint 5 3 NotShortest)
-repeated-strict = first_of _ _ _ _ (search arith) (omega arith) (λ e h. grind arith)
+repeated-strict = first_of (strict Bytewise) repeated _ _ (search arith) (omega arith) (λ e h. grind arith)
 
 repeated-strict_verdict : IsVerdict (bounds 256 1048576) (strict Bytewise) (0xa2 ∷ 0x01 ∷ 0x00 ∷ 0x18 ∷ 0x01 ∷ 0x00 ∷ []) (refused (refusal NotShortest 3 5))
 repeated-strict_verdict = on_beginning _ _ _ _ repeated [] _ refl (search arith) (omega arith) refl (inl (_, repeated-strict, refl))
@@ -80,7 +80,7 @@ abbrev equal_keys : Spelling
 equal_keys = a_map Direct (pairs ((unsigned Direct 1, unsigned Direct 0) ∷ (unsigned Direct 1, unsigned Direct 0) ∷ []))
 
 equal_keys-strict : First (strict Bytewise) equal_keys 5 (complaint 4 3 KeyOrder)
-equal_keys-strict = first_of _ _ _ _ (search arith) (omega arith) (λ e h. grind arith)
+equal_keys-strict = first_of (strict Bytewise) equal_keys _ _ (search arith) (omega arith) (λ e h. grind arith)
 
 equal_keys-verdict : IsVerdict (bounds 256 1048576) (strict Bytewise) (0xa2 ∷ 0x01 ∷ 0x00 ∷ 0x01 ∷ 0x00 ∷ []) (refused (refusal KeyOrder 3 4))
 equal_keys-verdict = on_beginning _ _ _ _ equal_keys [] _ refl (search arith) (omega arith) refl (inl (_, equal_keys-strict, refl))
@@ -94,7 +94,7 @@ keys_within-outer : Complains (strict Bytewise) 0 keys_within (complaint 8 7 Key
 keys_within-outer = search arith
 
 keys_within-strict : First (strict Bytewise) keys_within 9 (complaint 5 4 KeyOrder)
-keys_within-strict = first_of _ _ _ _ (search arith) (omega arith) (λ e h. grind arith)
+keys_within-strict = first_of (strict Bytewise) keys_within _ _ (search arith) (omega arith) (λ e h. grind arith)
 
 keys_within-verdict : IsVerdict (bounds 256 1048576) (strict Bytewise) (0xa2 ∷ 0xa2 ∷ 0x01 ∷ 0x00 ∷ 0x00 ∷ 0x00 ∷ 0x00 ∷ 0x00 ∷ 0x00 ∷ []) (refused (refusal KeyOrder 4 5))
 keys_within-verdict = on_beginning _ _ _ _ keys_within [] _ refl (search arith) (omega arith) refl (inl (_, keys_within-strict, refl))
@@ -108,7 +108,7 @@ long_and_late-key : Complains (strict Bytewise) 0 long_and_late (complaint 6 4 K
 long_and_late-key = search arith
 
 long_and_late-strict : First (strict Bytewise) long_and_late 7 (complaint 6 4 NotShortest)
-long_and_late-strict = first_of _ _ _ _ (search arith) (omega arith) (λ e h. grind arith)
+long_and_late-strict = first_of (strict Bytewise) long_and_late _ _ (search arith) (omega arith) (λ e h. grind arith)
 
 long_and_late-verdict : IsVerdict (bounds 256 1048576) (strict Bytewise) (0xa2 ∷ 0x18 ∷ 0x64 ∷ 0x00 ∷ 0x18 ∷ 0x01 ∷ 0x00 ∷ []) (refused (refusal NotShortest 4 6))
 long_and_late-verdict = on_beginning _ _ _ _ long_and_late [] _ refl (search arith) (omega arith) refl (inl (_, long_and_late-strict, refl))
@@ -122,7 +122,7 @@ by_length-bytewise : IsVerdict (bounds 256 1048576) (strict Bytewise) (0xa2 ∷ 
 by_length-bytewise = on_beginning _ _ _ _ by_length [] _ refl (search arith) (omega arith) refl (refl, refl, λ c h l. grind arith)
 
 by_length-first : First (strict LengthFirst) by_length 6 (complaint 5 4 KeyOrder)
-by_length-first = first_of _ _ _ _ (search arith) (omega arith) (λ e h. grind arith)
+by_length-first = first_of (strict LengthFirst) by_length _ _ (search arith) (omega arith) (λ e h. grind arith)
 
 by_length-verdict : IsVerdict (bounds 256 1048576) (strict LengthFirst) (0xa2 ∷ 0x18 ∷ 0x64 ∷ 0x00 ∷ 0x20 ∷ 0x00 ∷ []) (refused (refusal KeyOrder 4 5))
 by_length-verdict = on_beginning _ _ _ _ by_length [] _ refl (search arith) (omega arith) refl (inl (_, by_length-first, refl))
@@ -136,7 +136,7 @@ open_array-plain : IsVerdict (bounds 256 1048576) plain (0x9f ∷ 0xff ∷ []) (
 open_array-plain = on_beginning _ _ _ _ open_array [] _ refl (search arith) (omega arith) refl (refl, refl, λ c h l. grind arith)
 
 open_array-strict : First (strict Bytewise) open_array 2 (complaint 1 0 IndefiniteReason)
-open_array-strict = first_of _ _ _ _ (search arith) (omega arith) (λ e h. grind arith)
+open_array-strict = first_of (strict Bytewise) open_array _ _ (search arith) (omega arith) (λ e h. grind arith)
 
 open_array-verdict : IsVerdict (bounds 256 1048576) (strict Bytewise) (0x9f ∷ 0xff ∷ []) (refused (refusal IndefiniteReason 0 1))
 open_array-verdict = on_beginning _ _ _ _ open_array [] _ refl (search arith) (omega arith) refl (inl (_, open_array-strict, refl))
@@ -148,7 +148,7 @@ split_character = text_chunks (chunk Direct (0xc3 ∷ []) ∷ chunk Direct (0xbc
 
 split_character-plain : First plain split_character 6 (complaint 3 2 InvalidText)
 unfolding utf8_valid_len is_utf8 chars encode_utf8
-split_character-plain = first_of _ _ _ _ (inr (inl (inr (refl, (λ u. cc (is_utf8-from_IsUtf8 (0xc3 ∷ []) u)), refl)))) (omega arith) (λ e h. grind arith)
+split_character-plain = first_of plain split_character _ _ (inr (inl (inr (refl, (λ u. cc (is_utf8-from_IsUtf8 (0xc3 ∷ []) u)), refl)))) (omega arith) (λ e h. grind arith)
 
 split_character-verdict : IsVerdict (bounds 256 1048576) plain (0x7f ∷ 0x61 ∷ 0xc3 ∷ 0x61 ∷ 0xbc ∷ 0xff ∷ []) (refused (refusal InvalidText 2 3))
 split_character-verdict = on_beginning _ _ _ _ split_character [] _ refl (search arith) (omega arith) refl (inl (_, split_character-plain, refl))
@@ -160,7 +160,7 @@ no_text = a_map Direct (pairs ((text Direct (0xff ∷ []), unsigned Direct 0) �
 
 no_text-plain : First plain no_text 3 (complaint 3 2 InvalidText)
 unfolding utf8_valid_len is_utf8 chars encode_utf8
-no_text-plain = first_of _ _ _ _ (inr (inl (inr (refl, (λ u. cc (is_utf8-from_IsUtf8 (0xff ∷ []) u)), refl)))) (omega arith) (λ e h. grind arith)
+no_text-plain = first_of plain no_text _ _ (inr (inl (inr (refl, (λ u. cc (is_utf8-from_IsUtf8 (0xff ∷ []) u)), refl)))) (omega arith) (λ e h. grind arith)
 
 no_text-verdict : IsVerdict (bounds 256 1048576) plain (0xa1 ∷ 0x61 ∷ 0xff ∷ []) (refused (refusal InvalidText 2 3))
 no_text-verdict = on_beginning _ _ _ _ no_text (0x00 ∷ []) _ refl (search arith) (omega arith) refl (inl (_, no_text-plain, refl))

@@ -8,7 +8,7 @@ use Rattle.cbor_head.specs.Verdict.{initial_reason, refusal, refused, IsReasonAt
 use Rattle.cbor_head.specs.declared.reason.Reason.{Reason}
 use Rattle.cbor_head.specs.declared.reason.Reason.TheVariants.{InvalidText, RepeatedKey, NotShortest, Indefinite as IndefiniteReason, KeyOrder, Read, StrayBreak, Float, NoIndefinite, Reserved, TooDeep, KeyKind}
 use Rattle.cbor_head.specs.declared.reason.Refusal.{Refusal}
-use Rattle.cbor_grammar.proofs.Kinds.{kind_is}
+use Rattle.cbor_grammar.proofs.KeyKinds.{kind_is}
 use Rattle.cbor_grammar.proofs.Reasons.{reason_of}
 use Rattle.cbor_judging.specs.Place.{Container}
 use Rattle.cbor_judging.specs.Judged.{IsFinding}

@@ -16,7 +16,7 @@ use Rattle.cbor_head.specs.declared.reason.Reason.TheVariants.{Truncated, Read, 
 use Rattle.cbor_head.specs.declared.reason.Refusal.{Refusal}
 use Rattle.cbor_grammar.proofs.Agree.{split_front}
 use Rattle.cbor_grammar.proofs.Beginnings.{item_decides}
-use Rattle.cbor_grammar.proofs.Kinds.{kind_within}
+use Rattle.cbor_grammar.proofs.KeyKinds.{kind_within}
 use Rattle.cbor_standing.proofs.Form.{never}
 use Rattle.cbor_standing.specs.NextEvent.{ItemEventsView}
 use Rattle.cbor_judging.specs.Judged.{IsJudged}

@@ -12,7 +12,7 @@ use Rattle.cbor_head.specs.declared.major.Major.TheVariants.{Unsigned, Negative,
 use Rattle.cbor_head.specs.declared.reason.Refusal.{Refusal}
 use Rattle.cbor_head.specs.declared.width.Width.{Width}
 use Rattle.cbor_head.specs.declared.width.Width.TheVariants.{Indefinite}
-use Rattle.cbor_grammar.proofs.Kinds.{kind_is}
+use Rattle.cbor_grammar.proofs.KeyKinds.{kind_is}
 use Rattle.cbor_judging.specs.Refusals.{StandsWithin}
 
 -- ---- complaints

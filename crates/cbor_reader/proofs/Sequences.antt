@@ -12,7 +12,7 @@ use Rattle.cbor_head.specs.Verdict.{accepted, refused, refusal, IsFormError, IsV
 use Rattle.cbor_head.specs.declared.reason.Reason.TheVariants.{Read, Memory, Truncated, TooLong}
 use Rattle.cbor_head.specs.declared.reason.Refusal.{Refusal}
 use Rattle.cbor_grammar.proofs.Accepted.{accepts_exactly}
-use Rattle.cbor_grammar.proofs.Kinds.{kind_later}
+use Rattle.cbor_grammar.proofs.KeyKinds.{kind_later}
 use Rattle.cbor_grammar.proofs.OneFirst.{after_head}
 use Rattle.cbor_grammar.proofs.OneVerdict.{one_verdict}
 use Rattle.cbor_grammar.proofs.ReadLaws.{length_spell}

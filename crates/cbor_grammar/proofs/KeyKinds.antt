@@ -2,7 +2,6 @@
 use Rattle.std.proofs.Common.{ℕ, ◌+◌, ◌*◌, ◌≡◌, ◌<◌, ◌≤◌, ◌/◌, Bool, List, [], ◌∷◌, ◌++◌, length, refl, sym, ap, ◌∙◌, arith, subst, inl, inr}
 use Rattle.std.specs.Prelude.{IsTrue, ◌==◌, ◌||◌}
 use Rattle.std.proofs.lemmas.List.{length-append}
-use Rattle.byteorder.specs.Endian.{big_bytes}
 use Rattle.cbor_head.specs.Head.{head, major_number}
 use Rattle.cbor_head.specs.Value.{IsIntegerOrText}
 use Rattle.cbor_head.specs.Spelling.{Spelling, Spellings, SpelledEntries, unsigned, negative, bytes, text, byte_chunks, text_chunks, array, a_map, tag, simple, no_spellings, a_spelling, no_entries, entry, spell, spell_all, spell_entries, spellings_count, entries_count, IsSpelled, HoldsOrIndefinite, break_of, value_of}
@@ -26,10 +25,10 @@ record FirstByte (m : Major) (bs : List ℕ) : Type 0 where
 
 first_of_head : (m : Major) (w : Width) (n : ℕ) → HoldsOrIndefinite w n → FirstByte m (head m w n)
 first_of_head m Direct n h = record { low = n; rest = []; small = omega (arith, h); is = refl }
-first_of_head m One n h = record { low = 24; rest = big_bytes 1 n; small = omega arith; is = refl }
-first_of_head m Two n h = record { low = 25; rest = big_bytes 2 n; small = omega arith; is = refl }
-first_of_head m Four n h = record { low = 26; rest = big_bytes 4 n; small = omega arith; is = refl }
-first_of_head m Eight n h = record { low = 27; rest = big_bytes 8 n; small = omega arith; is = refl }
+first_of_head m One n h = record { low = 24; rest = _; small = omega arith; is = refl }
+first_of_head m Two n h = record { low = 25; rest = _; small = omega arith; is = refl }
+first_of_head m Four n h = record { low = 26; rest = _; small = omega arith; is = refl }
+first_of_head m Eight n h = record { low = 27; rest = _; small = omega arith; is = refl }
 first_of_head m Indefinite n h = record { low = 31; rest = []; small = omega arith; is = refl }
 
 first_byte : (s : Spelling) → IsSpelled s → FirstByte (major s) (spell s)
