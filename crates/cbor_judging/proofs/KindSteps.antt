@@ -8,14 +8,22 @@ use Rattle.cbor_head.specs.Beginning.{IsBeginning}
 use Rattle.cbor_head.specs.Value.{IsIntegerOrText}
 use Rattle.cbor_head.specs.Spelling.{Spelling, spell, IsSpelled, IsItem, depth, value_of}
 use Rattle.cbor_head.specs.Complaint.{Rules, Complaint, complaint, OfKinds}
+use Rattle.cbor_head.specs.declared.keys.Keys.TheVariants.{Any, IntegersAndTexts}
 use Rattle.cbor_head.specs.declared.reason.Reason.TheVariants.{KeyKind}
 use Rattle.cbor_grammar.proofs.KeyKinds.{kind_end, kind_later}
 use Rattle.cbor_grammar.proofs.KindsAgree.{same_kinds}
 use Rattle.cbor_grammar.proofs.Parts.{head_of}
 use Rattle.cbor_judging.specs.Frame.{Frame}
-use Rattle.cbor_judging.specs.Kinds.{AsksForKinds, KeepsToKinds, IsKeyDue, plug_all}
+use Rattle.cbor_judging.specs.Kinds.{AsksForKinds, KeepsToKinds, KeepsThroughout, IsKeyDue, plug_all}
 use Rattle.cbor_judging.specs.OpenMaps.{before_all, ArePath}
 use Rattle.cbor_judging.proofs.KindFrames.{IsOnKey, spell_along, item_along, kind_along, key_along}
+
+-- keys may be of any kind
+pub keeps_any : (limits : Bounds) (r : Rules) → limits.keys ≡ Any → (t : List ℕ) → KeepsToKinds limits r t
+keeps_any limits r any t asked s c begins h l = let e : Any ≡ IntegersAndTexts = sym any ∙ asked.1 in cc e
+
+pub keeps_all : (limits : Bounds) (r : Rules) → limits.keys ≡ Any → (t : List ℕ) → KeepsThroughout limits r t
+keeps_all limits r any t p q e = keeps_any limits r any p
 
 -- no bytes have any key
 pub keeps_start : (limits : Bounds) (r : Rules) → KeepsToKinds limits r []

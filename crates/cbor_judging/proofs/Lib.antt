@@ -12,6 +12,7 @@ pub mod Given
 pub mod Heads
 pub mod Items
 pub mod Judged
+pub mod KindBytes
 pub mod KindFrames
 pub mod KindLevels
 pub mod KindSteps

@@ -83,12 +83,13 @@ form-refusal : (b : Bounds) (all : List ℕ) (to : Option (List ℕ)) (f : Refus
 form-refusal b all to f (inl v) = inl (form-reason b (all ++ []) f (v []))
 form-refusal b all to f (inr v) = elim v.2 [ inl e ↦ inr e | inr e ↦ inl (subst IsFormReason (sym e.0) tt) ]
 
-cause-reason : (r : Rules) (b : Bounds) (fs : List Container) (t taken : List ℕ) (to : Option (List ℕ)) (f : Refusal) → HasCause r b fs t taken to f → IsReaderReason b r f.reason
-cause-reason r b fs t taken to f h = go h.found h.judged.finding h.cause
+cause-reason : (r : Rules) (b limits : Bounds) (fs : List Container) (t taken : List ℕ) (to : Option (List ℕ)) (f : Refusal) → HasCause r b fs t taken to f → IsReaderReason limits r f.reason
+cause-reason r b limits fs t taken to f h = go h.found h.judged.finding h.cause
   where
-    go : (found : Option Complaint) → IsFinding (Complains r (length t) h.judged.item) (length t + length h.p) (length t + length (spell h.judged.item)) found → IsCause b (t ++ taken) to (length (t ++ h.p)) found f → IsReaderReason b r f.reason
+    go : (found : Option Complaint) → IsFinding (Complains r (length t) h.judged.item) (length t + length h.p) (length t + length (spell h.judged.item)) found → IsCause b (t ++ taken) to (length (t ++ h.p)) found f → IsReaderReason limits r f.reason
     go (Some c) g k = inr (inl (inl (complaint-reason r (length t) h.judged.item c g.holds f k.0)))
     go None g k = elim (form-refusal b (t ++ taken) to f k.1) [ inl e ↦ inl e | inr e ↦ inr (inr (inl e)) ]
 
-pub reader-reason : (r : Rules) (b : Bounds) (fs : List Container) (t x : List ℕ) (from to : Option (List ℕ)) (f : Refusal) → StopsItem r b fs t x from to f → IsReaderReason b r f.reason
-reader-reason r b fs t x from to f s = elim s.why [ inl m ↦ inr (inr (inr m.0.0)) | inr h ↦ cause-reason r b fs t s.bytes to f h ]
+-- whichever keys are asked for
+pub reader-reason : (r : Rules) (b limits : Bounds) (fs : List Container) (t x : List ℕ) (from to : Option (List ℕ)) (f : Refusal) → StopsItem r b fs t x from to f → IsReaderReason limits r f.reason
+reader-reason r b limits fs t x from to f s = elim s.why [ inl m ↦ inr (inr (inr m.0.0)) | inr h ↦ cause-reason r b limits fs t s.bytes to f h ]

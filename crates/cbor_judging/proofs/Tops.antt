@@ -16,7 +16,6 @@ use Rattle.cbor_head.specs.declared.reason.Reason.TheVariants.{Truncated, Read, 
 use Rattle.cbor_head.specs.declared.reason.Refusal.{Refusal}
 use Rattle.cbor_grammar.proofs.Agree.{split_front}
 use Rattle.cbor_grammar.proofs.Beginnings.{item_decides}
-use Rattle.cbor_grammar.proofs.KeyKinds.{kind_within}
 use Rattle.cbor_standing.proofs.Form.{never}
 use Rattle.cbor_standing.specs.NextEvent.{ItemEventsView}
 use Rattle.cbor_judging.specs.Judged.{IsJudged}
@@ -25,7 +24,7 @@ use Rattle.cbor_judging.specs.Readers.{IsReadAs, IsUnread, of_verdict, of_reader
 use Rattle.cbor_judging.specs.Reading.{IsReached, IsMemory, IsCause, Extends, ReadsItem, IsUndecided, StopsItem}
 use Rattle.cbor_judging.specs.Refusals.{IsFreeBefore}
 use Rattle.cbor_judging.proofs.FreeBefore.{front-free}
-use Rattle.cbor_judging.proofs.Decisions.{complaint_decides, break_decides, kind_decides}
+use Rattle.cbor_judging.proofs.Decisions.{whole_beside, complaint_decides, break_decides, kind_decides}
 use Rattle.cbor_judging.proofs.Within.{verdict_within}
 use Rattle.cbor_judging.proofs.SpelledBytes.{longest_always}
 
@@ -96,11 +95,8 @@ module _ (r : Rules) (b : Bounds) (input : List ℕ) (from to : Option (List ℕ
     gone : Lost input (spell i.item) to
     gone = lost input (spell i.item) from to known i.taken
 
-    none : (c : Complaint) → IsComplaint b r i.item c → ⊥
-    none c (inl h) = i.clean c h
-    none c (inr h) =
-        let item : IsItem b.depth i.item (spell i.item ++ []) = record { spelled = i.spelled; within = omega (arith, i.within); bytes_are = sym (append-nil (spell i.item)) } in
-        keeps (h.0, h.1) i.item c ([], item) h.2 (omega (arith, kind_within i.item 0 c h.2))
+    whole : IsItem b.depth i.item (spell i.item)
+    whole = record { spelled = i.spelled; within = omega (arith, i.within); bytes_are = refl }
 
     fits : length (spell i.item) ≤ b.bytes
     fits = omega (arith, i.at.stands.stands.taken, i.at.stands.stands.limited, i.at.bytes)
@@ -109,10 +105,9 @@ module _ (r : Rules) (b : Bounds) (input : List ℕ) (from to : Option (List ℕ
     item-read = record {
       read = record {
         item = i.item;
-        verdict = item_decides (IsComplaint b r) b input (take (b.bytes - length (spell i.item)) gone.rest) i.item
-            (record { spelled = i.spelled; within = omega (arith, i.within); bytes_are = refl })
+        verdict = item_decides (IsComplaint b r) b input (take (b.bytes - length (spell i.item)) gone.rest) i.item whole
             (ap (take b.bytes) gone.splits ∙ cut_behind b.bytes (spell i.item) gone.rest fits)
-            none;
+            (whole_beside b r i.item whole keeps i.clean);
         size = refl;
       };
       value = sym i.value;

@@ -1,5 +1,5 @@
 -- The kinds of keys in the bytes so far of an item.
-use Rattle.std.specs.Prelude.{ℕ, ◌≡◌, ◌≤◌, ◌++◌, IsTrue, List, [], ◌∷◌, length}
+use Rattle.std.specs.Prelude.{ℕ, ◌≡◌, ◌<◌, ◌≤◌, ◌^◌, ◌-◌, ◌/◌, ◌%◌, ◌==◌, ◌||◌, ◌++◌, Bool, IsTrue, List, [], ◌∷◌, length}
 use Rattle.cbor_head.specs.Limits.{Bounds}
 use Rattle.cbor_head.specs.Laws.{StartsWith}
 use Rattle.cbor_head.specs.Spelling.{Spelling}
@@ -48,3 +48,23 @@ IsKeyLevel _ = ⊥
 abbrev pub IsKeyDueIn : List Level → Type 0
 IsKeyDueIn [] = ⊥
 IsKeyDueIn (l ∷ ls) = IsKeyLevel l
+
+-- ---- the bytes of an item that is due
+
+-- the number of a type whose items hold others
+abbrev pub is_container : ℕ → Bool
+is_container n = (n == 4) || (n == 5) || (n == 6)
+
+-- they are of one head, or of what holds no items, as their first byte has it
+abbrev pub IsOfOneHead : List ℕ → Type 0
+IsOfOneHead [] = Unit {0}
+IsOfOneHead (b ∷ bs) = IsTrue (is_container (b / 32)) → 0 < length bs → (24 ≤ b % 32) × (b % 32 < 28) × (length bs ≤ 2 ^ (b % 32 - 24))
+
+-- the numbers of the types of integers and texts
+abbrev pub is_basic : ℕ → Bool
+is_basic n = (n == 0) || (n == 1) || (n == 3)
+
+-- the item is an integer or a text, if anything of it is there
+abbrev pub HasBasicFront : List ℕ → Type 0
+HasBasicFront [] = Unit {0}
+HasBasicFront (b ∷ bs) = IsTrue (is_basic (b / 32))

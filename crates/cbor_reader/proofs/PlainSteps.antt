@@ -21,7 +21,9 @@ use Rattle.cbor_reader.specs.inner.Front.{IsFrontRead}
 use Rattle.cbor_reader.specs.inner.PlainFront.{IsStopped, IsDueAt, IsWholeAt, TakesNext, IsEncodedFront}
 use Rattle.cbor_reader.specs.inner.PlainItems.{AreApart, sets}
 use Rattle.cbor_reader.proofs.Fronts.{front-read}
+use Rattle.cbor_head.specs.declared.keys.Keys.TheVariants.{Any}
 use Rattle.cbor_judging.proofs.Fronts.{front-unread}
+use Rattle.cbor_judging.proofs.KindSteps.{keeps_any, keeps_all}
 use Rattle.cbor_reader.specs.inner.HeldKeys.{AreHeld}
 use Rattle.cbor_reader.specs.inner.TreeValues.{IsTreeAt}
 use Rattle.cbor_judging.proofs.Scalars.{at-as}
@@ -80,9 +82,9 @@ due-first o v b e is places tree held at =
     let standing = ap (λ (g : Built). g.standing) is in
     record { ls = []; levels = tt; taken = refl; at = at; standing = standing; apart = subst AreApart (sym standing) (tt, (λ x. x), tt); begun = tt; held = subst (AreHeld (sets v)) (sym standing) held; places = places; tree = tree }
 
-pub front-whole : (old v : PlainItems) (b : Bounds) (new : ItemEventsView) (from to : Option (List ℕ)) (count : ℕ) → AreBounds b → (g : TakesNext false old v b new [] from to) → count ≡ new.machine.taken
+pub front-whole : (old v : PlainItems) (b : Bounds) (new : ItemEventsView) (from to : Option (List ℕ)) (count : ℕ) → AreBounds b → b.keys ≡ Any → (g : TakesNext false old v b new [] from to) → count ≡ new.machine.taken
     → IsFrontRead plain b from to (value_of g.stands.item) count
-front-whole old v b new from to count l g c =
+front-whole old v b new from to count l any g c =
     let x = g.stands in
     front-read b from to new (value_of x.item) count l
     (record {
@@ -94,19 +96,20 @@ front-whole old v b new from to count l g c =
       value = refl;
       at = at-as b new g.bytes (spell x.item) at_end at_end x.taken refl x.at;
     })
-    c
+    (keeps_any b plain any (spell x.item)) c
 
-pub front-encoded : (o : KeyOrder) (old v : PlainItems) (b : Bounds) (new : ItemEventsView) (from to : Option (List ℕ)) (out : List ℕ) (count : ℕ) → AreBounds b → old.builder ≡ built o (a_plain [] ∷ []) → TakesNext false old v b new [] from to
+pub front-encoded : (o : KeyOrder) (old v : PlainItems) (b : Bounds) (new : ItemEventsView) (from to : Option (List ℕ)) (out : List ℕ) (count : ℕ) → AreBounds b → b.keys ≡ Any → old.builder ≡ built o (a_plain [] ∷ []) → TakesNext false old v b new [] from to
     → ((bs : List ℕ) → v.builder.standing ≡ a_plain bs ∷ [] → out ≡ bs) → count ≡ new.machine.taken → IsEncodedFront b o from to out count
-front-encoded o old v b new from to out count l is g out_is c =
+front-encoded o old v b new from to out count l any is g out_is c =
     let x = g.stands in
     record {
       value = value_of x.item;
-      read = front-whole old v b new from to count l g c;
+      read = front-whole old v b new from to count l any g c;
       canonical_is = out_is _ x.standing ∙ ap (λ (p : KeyOrder). canonical p (value_of x.item)) (g.order ∙ ap (λ (y : Built). y.order) is);
     }
 
-pub front-stopped : (b : Bounds) (from to : Option (List ℕ)) (f : Refusal) → IsStopped plain b [] from to f → IsFrontUnread plain b from to f
-front-stopped b from to f s =
+pub front-stopped : (b : Bounds) (from to : Option (List ℕ)) (f : Refusal) → b.keys ≡ Any → IsStopped plain b [] from to f → IsFrontUnread plain b from to f
+front-stopped b from to f any s =
     front-unread plain b from to f
     (record { bytes = s.bytes; taken = record { more = s.bytes; consumed = s.consumed; are = refl }; read = s.refused.read; why = s.refused.why })
+    (keeps_all b plain any s.bytes)

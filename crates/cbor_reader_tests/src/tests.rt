@@ -2,7 +2,6 @@
 
 mod built;
 mod conformance;
-mod conformance_kinds;
 mod conformance_rows;
 mod conformance_strict;
 mod conformance_table;

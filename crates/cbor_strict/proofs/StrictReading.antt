@@ -6,12 +6,14 @@ use Rattle.cbor_head.specs.Head.{head}
 use Rattle.cbor_head.specs.Limits.{Bounds, AreBounds, bounds}
 use Rattle.std.specs.Prelude.{Ok, Err}
 use Rattle.cbor_head.specs.Spelling.{Spelling, IsItem}
-use Rattle.cbor_head.specs.Complaint.{strict}
+use Rattle.cbor_head.specs.Complaint.{strict, Complains}
 use Rattle.cbor_head.specs.Laws.{StartsWith}
-use Rattle.cbor_head.specs.Verdict.{IsWithout}
+use Rattle.cbor_head.specs.Verdict.{HasNoneOf}
+use Rattle.cbor_head.specs.declared.keys.Keys.TheVariants.{Any}
 use Rattle.cbor_head.specs.declared.order.KeyOrder.{KeyOrder}
 use Rattle.cbor_head.specs.declared.reason.Refusal.{Refusal}
 use Rattle.cbor_grammar.proofs.Agree.{same_complaints}
+use Rattle.cbor_grammar.proofs.KindsUnasked.{any_none}
 use Rattle.cbor_automaton.specs.Trace.{Mark}
 use Rattle.cbor_automaton.specs.Bytes.{IsBytesOf, last_type}
 use Rattle.cbor_standing.specs.MachineView.{MachineView}
@@ -33,6 +35,8 @@ use Rattle.cbor_strict.specs.inner.LastKeys.{seen, IsKept}
 use Rattle.cbor_strict.specs.inner.StrictEvents.{StandsSomewhere, IsStep, IsStopped, AnswersStep, IsLittle, bounds_of, piece_unless}
 use Rattle.cbor_strict.proofs.KeptReading.{stands_counted, stands_little}
 use Rattle.cbor_judging.proofs.Fronts.{front-unread, starts-at}
+use Rattle.cbor_judging.proofs.KindSteps.{keeps_all}
+use Rattle.cbor_judging.proofs.Reasons.{reader-reason}
 use Rattle.cbor_judging.proofs.Judged.{judged_start}
 use Rattle.cbor_strict.proofs.OpenBegins.{lift}
 use Rattle.cbor_strict.proofs.OpenPieces.{string_judged}
@@ -42,7 +46,7 @@ use Rattle.cbor_judging.proofs.Steps.{same-marks}
 -- ---- nothing has a complaint
 
 -- what was found of one item holds of each that starts alike
-none_within : (o : KeyOrder) (d : ℕ) (t : List ℕ) → IsJudged (strict o) 0 d t None → (s : Spelling) → StartsWith d s t → IsWithout (strict o) s (length t)
+none_within : (o : KeyOrder) (d : ℕ) (t : List ℕ) → IsJudged (strict o) 0 d t None → (s : Spelling) → StartsWith d s t → HasNoneOf (Complains (strict o) 0 s) (length t)
 none_within o d t j s i c h l =
     let k = same_complaints d s j.item t i.0 j.rest i.1 j.is (strict o) c l h in
     let late = j.finding.1 c k in
@@ -51,7 +55,7 @@ none_within o d t j s i c h l =
 all_levels : (o : KeyOrder) (d : ℕ) (t : List ℕ) → IsJudged (strict o) 0 (d - 0) t None → IsJudged (strict o) 0 d t None
 all_levels o d t j = let e : d - 0 ≡ d = omega arith in subst (λ (n : ℕ). IsJudged (strict o) 0 n t None) e j
 
-pub stands_clean : (v : OpenItems) (b : Bounds) (e : ItemEventsView) (t : List ℕ) → Stands v b e t → (s : Spelling) → StartsWith b.depth s t → IsWithout (strict v.order) s (length t)
+pub stands_clean : (v : OpenItems) (b : Bounds) (e : ItemEventsView) (t : List ℕ) → Stands v b e t → (s : Spelling) → StartsWith b.depth s t → HasNoneOf (Complains (strict v.order) 0 s) (length t)
 stands_clean v b e t (inl h) =
     none_within v.order b.depth t (subst (λ (x : List ℕ). IsJudged (strict v.order) 0 b.depth x None) (append-nil (bytes_before h.fs) ∙ sym h.taken) (all_levels v.order b.depth (bytes_before h.fs ++ [])
     (lift v.order b h.fs h.around.are h.around.distinct [] None (judged_start (strict v.order) (length (bytes_before h.fs)) (b.depth - length (frames_in h.fs))))))
@@ -68,17 +72,9 @@ stands_clean v b e t (inr (inr h)) = λ s i c k l.
 -- ---- a refusal
 
 -- of what was taken before and now
-pub stopped_unread : (o : KeyOrder) (b : Bounds) (e : ItemEventsView) (t : List ℕ) (from to : Option (List ℕ)) (f : Refusal) → IsStopped (strict o) b e t from to f
-    → IfSome from (λ rest. IsUnread b (strict o) (t ++ rest) f) × IsReaderReason (strict o) f.reason
-stopped_unread o b e t None to f s = (tt, (stops None (front_none s.bytes)).reason)
-  where
-    stops : (before : Option (List ℕ)) → Consumes before to (t ++ s.bytes) → IsFrontUnread (strict o) b before to f
-    stops before k = front-unread (strict o) b before to f
-        (record { bytes = t ++ s.bytes; taken = record { more = t ++ s.bytes; consumed = k; are = refl }; read = s.refused.read; why = s.refused.why })
-
-    front_none : (bs : List ℕ) → Consumes None to (t ++ bs)
-    front_none bs = tt
-stopped_unread o b e t (Some rest) to f s = (r.refused, r.reason)
+pub stopped_unread : (o : KeyOrder) (b : Bounds) (e : ItemEventsView) (t : List ℕ) (from to : Option (List ℕ)) (f : Refusal) → b.keys ≡ Any → IsStopped (strict o) b e t from to f → IfSome from (λ rest. IsUnread b (strict o) (t ++ rest) f)
+stopped_unread o b e t None to f any s = tt
+stopped_unread o b e t (Some rest) to f any s = r.refused
   where
     whole : (to : Option (List ℕ)) (bs : List ℕ) → Consumes (Some rest) to bs → Consumes (Some (t ++ rest)) to (t ++ bs)
     whole None bs c = c
@@ -87,6 +83,11 @@ stopped_unread o b e t (Some rest) to f s = (r.refused, r.reason)
     r : IsFrontUnread (strict o) b (Some (t ++ rest)) to f
     r = front-unread (strict o) b (Some (t ++ rest)) to f
         (record { bytes = t ++ s.bytes; taken = record { more = t ++ s.bytes; consumed = whole to s.bytes s.consumed; are = refl }; read = s.refused.read; why = s.refused.why })
+        (keeps_all b (strict o) any (t ++ s.bytes))
+
+pub stopped_reason : (o : KeyOrder) (b limits : Bounds) (e : ItemEventsView) (t : List ℕ) (from to : Option (List ℕ)) (f : Refusal) → IsStopped (strict o) b e t from to f → IsReaderReason limits (strict o) f.reason
+stopped_reason o b limits e t from to f s =
+    reader-reason (strict o) b limits [] [] [] None to f (record { bytes = t ++ s.bytes; taken = record { more = t ++ s.bytes; consumed = tt; are = refl }; read = s.refused.read; why = s.refused.why })
 
 -- ---- before the first byte
 
@@ -102,7 +103,7 @@ by_form o f c h = elim h [ inl x ↦ inl x | inr (inl x) ↦ inr (inl x) | inr (
 
 -- an event is withheld
 pub by_event : (o : KeyOrder) (f : Refusal) (ev : Event) (c : Call) → IsNextEvent ev c → ((n : ℕ) → ev.kind ≡ Piece n → n ≤ 512) → f.read ≡ c.new.taken → IsAgainstEvent o f.reason → StopsAtOnce o f c
-by_event o f ev c h small read against = inr (inr (inr (record {
+by_event o f ev c h small read against = inr (inr (inr (inl (record {
   width = ev.width;
   kind = ev.kind;
   bytes = h.bytes;
@@ -112,7 +113,7 @@ by_event o f ev c h small read against = inr (inr (inr (record {
   read = read ∙ h.stands.stands.taken;
   stands = h.stands;
   against = against;
-})))
+}))))
 
 pub small_piece : (ev : Event) (c : Call) (piece : List ℕ) → IsNextEvent ev c → piece ≡ c.new_piece → length piece ≤ 512 → (n : ℕ) → ev.kind ≡ Piece n → n ≤ 512
 small_piece ev c piece h is l n e =
@@ -127,7 +128,8 @@ stops_too o f m n held left a b x y t ms h = elim h [
   | inl k ↦ inl (record { bytes = k.bytes; consumed = k.consumed; reason = k.reason; is = k.is; verdict = k.verdict; short = k.short; stands = k.stands; unfinished = k.unfinished })
   | inr (inl k) ↦ inr (inl (record { bytes = k.bytes; consumed = k.consumed; is = k.is; full = k.full; verdict = k.verdict; stands = k.stands; unfinished = k.unfinished }))
   | inr (inr (inl k)) ↦ inr (inr (inl (record { bytes = k.bytes; byte = k.byte; consumed = k.consumed; is = k.is; misplaced = k.misplaced; verdict = k.verdict; stands = k.stands; unfinished = k.unfinished })))
-  | inr (inr (inr k)) ↦ inr (inr (inr (record { width = k.width; kind = k.kind; bytes = k.bytes; consumed = k.consumed; are = k.are; piece = k.piece; read = k.read; stands = k.stands; against = k.against })))
+  | inr (inr (inr (inl k))) ↦ inr (inr (inr (inl (record { width = k.width; kind = k.kind; bytes = k.bytes; consumed = k.consumed; are = k.are; piece = k.piece; read = k.read; stands = k.stands; against = k.against }))))
+  | inr (inr (inr (inr k))) ↦ inr (inr (inr (inr (record { byte = k.byte; consumed = k.consumed; is = k.is }))))
 ]
 
 -- ---- what is told next
@@ -138,6 +140,7 @@ shown e v r = record {
   machine = e.machine;
   piece = piece_unless r e.piece;
   order = v.order;
+  keys = Any;
   spans = length (seen v.keys).spans;
   kept = length (seen v.keys).bytes;
   refusal = r;
@@ -147,7 +150,7 @@ shown e v r = record {
 stands_strictly : (e : ItemEventsView) (v : OpenItems) (t : List ℕ) (ms : List Mark) → StandsBetween e.machine t ms → Stands v (bounds_of e.machine) e t → StandsStrictly (shown e v None) t ms
 stands_strictly e v t ms h s = record {
   between = h;
-  clean = stands_clean v (bounds_of e.machine) e t s;
+  clean = λ i k. (any_none (bounds_of e.machine) (strict v.order) refl i (length t)).1 (stands_clean v (bounds_of e.machine) e t s i k);
   spans = λ i k. (stands_counted v (bounds_of e.machine) e t s i k).spans;
   kept = λ i k. (stands_counted v (bounds_of e.machine) e t s i k).kept;
   live = refl;
@@ -188,7 +191,7 @@ module _ (e after : ItemEventsView) (v new : OpenItems) (from to : Option (List 
         consumed = s.consumed;
         read = s.refused.read;
         at_once = stops_too v.order f e.machine after.machine from to e.piece after.piece e.piece [] t ms (stops t ms h.between);
-        verdict = (stopped_unread v.order (bounds_of e.machine) e t from to f s).0;
+        verdict = stopped_unread v.order (bounds_of e.machine) e t from to f refl s;
       }
   next_refused f (Some x) last answers stops t ms h = absurd (cc h.live)
 
@@ -196,8 +199,8 @@ module _ (e after : ItemEventsView) (v new : OpenItems) (from to : Option (List 
   stands_next (Some event) h answers = let g = answers h.b h.t h.stands in record { b = h.b; t = h.t ++ g.next.bytes; stands = g.stands }
   stands_next None h answers = let g = answers h.b h.t h.stands in record { b = h.b; t = h.t; stands = inr (inr g.over) }
 
-  pub refused_reason : (f : Refusal) → StandsSomewhere v e → AnswersStep v new e after from to (Err f) → IsReaderReason (strict v.order) f.reason
-  refused_reason f h answers = (stopped_unread v.order h.b e h.t from to f (answers h.b h.t h.stands)).1
+  pub refused_reason : (b : Bounds) (f : Refusal) → StandsSomewhere v e → AnswersStep v new e after from to (Err f) → IsReaderReason b (strict v.order) f.reason
+  refused_reason b f h answers = stopped_reason v.order h.b b e h.t from to f (answers h.b h.t h.stands)
 
 pub somewhere_little : (e : ItemEventsView) (v : OpenItems) → StandsSomewhere v e → IsLittle v e
 somewhere_little e v h = stands_little v h.b e h.t h.stands

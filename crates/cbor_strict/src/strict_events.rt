@@ -3,7 +3,7 @@
 ghost use Rattle.std.specs.Prelude.{◌≡◌, ◌≤◌, ℕ, List, [], length, None, Some, OnOk, OnErr};
 ghost use Rattle.std.specs.Prelude.{IfErr, IfSome, Err};
 ghost use Rattle.cbor_head.specs.Complaint.{strict};
-ghost use Rattle.cbor_head.specs.Limits.{bounds, with_keys};
+ghost use Rattle.cbor_head.specs.declared.keys.Keys.TheVariants.{Any};
 ghost use Rattle.cbor_automaton.specs.Trace.{Mark};
 ghost use Rattle.cbor_automaton.specs.Marks.{IsProper};
 ghost use Rattle.cbor_standing.specs.Machine.{KeepsLimits, IsIdle};
@@ -13,12 +13,12 @@ ghost use Rattle.cbor_strict.specs.StrictReader.{StrictEventsView, StandsStrictl
 ghost use Rattle.cbor_strict.specs.StrictReader.{IsNextStrict, StopsAtOnce, strict_call};
 ghost use Rattle.cbor_strict.specs.inner.LastKeys.{seen};
 ghost use Rattle.cbor_strict.specs.inner.StrictEvents.{StandsSomewhere, AnswersStep, piece_unless};
-ghost use Rattle.cbor_strict.specs.inner.StrictEvents.{IsLittle};
+ghost use Rattle.cbor_strict.specs.inner.StrictEvents.{IsLittle, bounds_of};
 
 use crate::open_items::OpenItems;
 use cbor_automaton::{Event, EventKind};
 use cbor_events::ItemEvents;
-use cbor_head::{KeyOrder, Keys, Limits, Refusal};
+use cbor_head::{KeyOrder, Limits, Refusal};
 use std::alloc::Global;
 use std::io::Read;
 use std::marker::Model;
@@ -28,7 +28,6 @@ use std::marker::Model;
 pub(crate) struct StrictEvents {
     events: ItemEvents,
     items: OpenItems,
-    keys: Keys,
     refusal: Option<Refusal>,
 }
 
@@ -39,7 +38,7 @@ impl Model for StrictEvents {
       machine = e.events.machine;
       piece = piece_unless e.refusal e.events.piece;
       order = e.items.order;
-      keys = e.keys;
+      keys = Any;
       spans = length (seen e.items.keys).spans;
       kept = length (seen e.items.keys).bytes;
       refusal = e.refusal;
@@ -49,8 +48,7 @@ impl Model for StrictEvents {
     ghost invariant = { λ e. record {
       stands : e.refusal ≡ None → StandsSomewhere e.items e.events;
       stopped : IfSome e.refusal (λ f. (f.read ≡ e.events.machine.taken)
-          × IsReaderReason (with_keys (bounds e.events.machine.depth e.events.machine.bytes) e.keys)
-          (strict e.items.order) f.reason
+          × IsReaderReason (bounds_of e.events.machine) (strict e.items.order) f.reason
           × (length (seen e.items.keys).spans ≡ 0) × (length (seen e.items.keys).bytes ≡ 0));
       within : e.events.machine.open_count ≤ e.events.machine.depth;
       limited : e.events.machine.taken ≤ e.events.machine.bytes;
@@ -71,7 +69,6 @@ impl StrictEvents {
         StrictEvents {
             events: ItemEvents::new(limits),
             items: OpenItems::new(alloc, order),
-            keys: limits.keys(),
             refusal: None,
         }
     }

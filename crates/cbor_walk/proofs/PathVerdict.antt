@@ -4,9 +4,9 @@ use Rattle.std.specs.Prelude.{◌==◌, ◌||◌, ◌&&◌, ◌%◌, nat_le, if�
 use Rattle.std.proofs.lemmas.Bool.{cases_lt}
 use Rattle.std.proofs.lemmas.List.{length-append, length-take}
 use Rattle.cbor_head.specs.Beginning.{IsBeginning, MayFollow, IsLongestBeginning}
-use Rattle.cbor_head.specs.Complaint.{Rules}
+use Rattle.cbor_head.specs.Complaint.{Rules, IsComplaint}
 use Rattle.cbor_head.specs.Limits.{Bounds}
-use Rattle.cbor_head.specs.Spelling.{Spelling, spell, depth}
+use Rattle.cbor_head.specs.Spelling.{Spelling, IsItem, spell, depth}
 use Rattle.cbor_head.specs.Verdict.{initial_reason, refusal, accepted, refused, IsReasonAt, IsVerdict}
 use Rattle.cbor_head.specs.declared.reason.Reason.{Reason}
 use Rattle.cbor_head.specs.declared.reason.Reason.TheVariants.{Truncated, TooLong, Reserved, NoIndefinite, Float, StrayBreak, TooDeep}
@@ -16,7 +16,8 @@ use Rattle.cbor_grammar.proofs.Beginnings.{item_decides}
 use Rattle.cbor_automaton.specs.Reasons.{IsFormReason}
 use Rattle.cbor_automaton.proofs.Beginnings.{shorter}
 use Rattle.cbor_judging.specs.Refusals.{IsComplaintReason}
-use Rattle.cbor_judging.proofs.Decisions.{complaint_decides, break_decides}
+use Rattle.cbor_judging.specs.Kinds.{KeepsToKinds}
+use Rattle.cbor_judging.proofs.Decisions.{whole_beside, complaint_decides, break_decides}
 use Rattle.cbor_judging.proofs.Reasons.{complaint-reason}
 use Rattle.cbor_judging.proofs.SpelledBytes.{longest_always}
 use Rattle.cbor_walk.specs.inner.Path.{HasEnded}
@@ -68,27 +69,27 @@ whole_longest d b i = record { beginning = i; rest = []; splits = sym (append-ni
 
 -- ---- the verdict, of an input within n bytes
 
-module _ (r : Rules) (limits : Bounds) (input : List ℕ) where
+module _ (r : Rules) (limits : Bounds) (input : List ℕ) (keeps : (p : List ℕ) → KeepsToKinds limits r p) where
   pub complaint_stops : (f : Refusal) → HasComplaint r limits.depth (take limits.bytes input) f → IsVerdict limits r input (refused f)
   complaint_stops f h =
       let (q, g) = longest_always limits.depth (take limits.bytes input) in
-      subst (λ (x : Refusal). IsVerdict limits r input (refused x)) (sym h.is) (complaint_decides limits r input h.p h.rest q h.complaint h.judged h.splits g)
+      subst (λ (x : Refusal). IsVerdict limits r input (refused x)) (sym h.is) (complaint_decides limits r input h.p h.rest q h.complaint h.judged (keeps h.p) h.splits g)
 
   pub bad_byte_stops : (f : Refusal) → HasBadByte r limits.depth (take limits.bytes input) f → IsVerdict limits r input (refused f)
   bad_byte_stops f h =
       let g = stands_longest limits.depth h.p h.byte h.rest (h.judged.item, h.judged.rest, h.judged.is) h.misplaced in
       let longest : IsLongestBeginning limits.depth (take limits.bytes input) h.p = record { beginning = g.beginning; rest = h.byte ∷ h.rest; splits = h.splits; longest = λ x y i e. g.longest x y i (sym h.splits ∙ e) } in
-      break_decides limits r input h.p f h.judged longest (f.reason, h.reason, h.is)
+      break_decides limits r input h.p f h.judged (keeps h.p) longest (f.reason, h.reason, h.is)
 
   module _ (f : Refusal) (h : EndsWithin r limits.depth (take limits.bytes input) f) where
     abbrev longest : IsLongestBeginning limits.depth (take limits.bytes input) (take limits.bytes input)
     longest = whole_longest limits.depth (take limits.bytes input) (h.judged.item, h.judged.rest, h.judged.is)
 
     pub end_stops : length (take limits.bytes input) < limits.bytes → IsVerdict limits r input (refused f)
-    end_stops l = break_decides limits r input (take limits.bytes input) f h.judged longest (inr (l, h.is))
+    end_stops l = break_decides limits r input (take limits.bytes input) f h.judged (keeps (take limits.bytes input)) longest (inr (l, h.is))
 
     pub limit_stops : length (take limits.bytes input) ≡ limits.bytes → IsVerdict limits r input (refused (refusal TooLong limits.bytes limits.bytes))
-    limit_stops e = break_decides limits r input (take limits.bytes input) (refusal TooLong limits.bytes limits.bytes) h.judged longest (inl (e, refl))
+    limit_stops e = break_decides limits r input (take limits.bytes input) (refusal TooLong limits.bytes limits.bytes) h.judged (keeps (take limits.bytes input)) longest (inl (e, refl))
 
   pub stopped : (f : Refusal) → IsStopped r limits.depth (take limits.bytes input) f → (g : Refusal) → IsAnswered limits.bytes (take limits.bytes input) f g → IsVerdict limits r input (refused g)
   stopped f (inl h) g a = subst (λ (x : Refusal). IsVerdict limits r input (refused x)) (sym (a.same (λ e. absurd (complaint_differs r limits.depth (take limits.bytes input) f h e)))) (complaint_stops f h)
@@ -103,4 +104,5 @@ module _ (r : Rules) (limits : Bounds) (input : List ℕ) where
   pub accepts : (s : Spelling) (rest : List ℕ) → HasEnded r limits.depth [] s → take limits.bytes input ≡ spell s ++ rest → IsVerdict limits r input (accepted s)
   accepts s rest h e =
       let small : depth s ≤ limits.depth - 0 = h.within in
-      item_decides limits r input rest s (record { spelled = h.spelled; within = omega (arith, small); bytes_are = refl }) e h.clean
+      let whole : IsItem limits.depth s (spell s) = record { spelled = h.spelled; within = omega (arith, small); bytes_are = refl } in
+      item_decides (IsComplaint limits r) limits input rest s whole e (whole_beside limits r s whole (keeps (spell s)) h.clean)

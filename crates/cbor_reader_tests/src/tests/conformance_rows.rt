@@ -1,7 +1,7 @@
 //! What a row of the conformance table says, and a reader of its input.
 
 use super::{BadHex, bytes_of};
-use cbor_head::{Keys, Limits, Refusal};
+use cbor_head::{Limits, Refusal};
 use cbor_reader::KeyOrder;
 use std::alloc::{AllocError, Global};
 use std::io;
@@ -36,18 +36,14 @@ pub(super) fn by_order(column: &str, order: KeyOrder) -> &str {
     }
 }
 
-// The limits of a column as `keys basic depth 1 bytes 4`.
+// The limits of a column as `depth 1 bytes 4`.
 pub(super) fn limits_of(column: &str) -> Option<Limits> {
-    let (keys, column) = match column.strip_prefix("keys basic") {
-        Some(behind) => (Keys::IntegersAndTexts, behind.trim()),
-        None => (Keys::Any, column),
-    };
     if !column.is_empty() && !column.starts_with("depth ") && !column.starts_with("bytes ") {
         return None;
     }
     let depth = number_behind(column, "depth ", 256)?;
     let bytes = number_behind(column, "bytes ", 1048576)?;
-    Some(Limits::new(u16::try_from(depth).ok()?, bytes)?.with_keys(keys))
+    Limits::new(u16::try_from(depth).ok()?, bytes)
 }
 
 // The number behind a word, or another one where the word isn't there.

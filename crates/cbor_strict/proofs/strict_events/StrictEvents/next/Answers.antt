@@ -3,7 +3,8 @@ use Rattle.std.specs.Prelude.{Ok}
 use Rattle.cbor_head.specs.Complaint.{strict}
 use Rattle.cbor_standing.specs.Machine.{KeepsLimits}
 use Rattle.cbor_judging.specs.Refusals.{IsReaderReason}
-use Rattle.cbor_strict.specs.StrictReader.{StrictEventsView, StandsStrictly, IsNextStrict, IsStrictRefusal, strict_call}
+use Rattle.cbor_strict.specs.StrictReader.{StrictEventsView, StandsStrictly, IsNextStrict, IsStrictRefusal, limits_of, strict_call}
+use Rattle.cbor_strict.specs.inner.StrictEvents.{bounds_of}
 use Rattle.cbor_strict.proofs.StrictReading.{next_told, next_refused, stands_next, refused_reason, somewhere_little, never_some, none_is, shown}
 use Rattle.cbor_strict.proofs.strict_events.StrictEvents.next.Goals as goal
 
@@ -30,8 +31,8 @@ invariant_of-self-in-Err g c =
       stands = λ e. absurd (cc e);
       stopped = (
         sym c.in-Err.ensures.taken,
-        subst (λ o. IsReaderReason (strict o) c.in-Err.refusal.reason) (sym c.in-Err.ensures.order ∙ sym c.forget.ensures.order)
-            (refused_reason c.self.inside.events c.next_event.new.events c.self.inside.items c.next_event.new.items _ _ c.in-Err.ensures.limits c.in-Err.refusal (c.self.invariant.stands none) c.in-Err.ensures.answers),
+        subst (λ o. IsReaderReason (bounds_of c.next_event.new.events.machine) (strict o) c.in-Err.refusal.reason) (sym c.in-Err.ensures.order ∙ sym c.forget.ensures.order)
+            (refused_reason c.self.inside.events c.next_event.new.events c.self.inside.items c.next_event.new.items _ _ c.in-Err.ensures.limits (bounds_of c.next_event.new.events.machine) c.in-Err.refusal (c.self.invariant.stands none) c.in-Err.ensures.answers),
         ap length c.forget.ensures.none.0,
         ap length c.forget.ensures.none.1,
       );
@@ -61,6 +62,6 @@ returns-in-Err-clause-refused g c =
     let none = none_is c.self.inside.refusal c.in_default.not-Some in (
       refl,
       c.in-Err.ensures.taken,
-      subst (λ (o : StrictEventsView). IsReaderReason (strict o.order) c.in-Err.refusal.reason) c.self.view_is
-          (refused_reason c.self.inside.events c.next_event.new.events c.self.inside.items c.next_event.new.items _ _ c.in-Err.ensures.limits c.in-Err.refusal (c.self.invariant.stands none) c.in-Err.ensures.answers),
+      subst (λ (o : StrictEventsView). IsReaderReason (limits_of o) (strict o.order) c.in-Err.refusal.reason) c.self.view_is
+          (refused_reason c.self.inside.events c.next_event.new.events c.self.inside.items c.next_event.new.items _ _ c.in-Err.ensures.limits (bounds_of c.self.inside.events.machine) c.in-Err.refusal (c.self.invariant.stands none) c.in-Err.ensures.answers),
     )

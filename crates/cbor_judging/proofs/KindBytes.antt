@@ -1,0 +1,113 @@
+-- In which bytes of an item no key begins behind the first of them: of one head, or of what is no container.
+use Rattle.std.proofs.Common.{ℕ, suc, ◌+◌, ◌*◌, ◌-◌, ◌^◌, ◌/◌, ◌%◌, ◌≡◌, ◌<◌, ◌≤◌, Bool, List, [], ◌∷◌, ◌++◌, length, refl, sym, ap, ◌∙◌, arith, subst, inl, inr}
+use Rattle.std.specs.Prelude.{IsTrue, Option}
+use Rattle.std.proofs.lemmas.Bool.{cases_lt}
+use Rattle.std.proofs.lemmas.List.{length-append, append-nil}
+use Rattle.cbor_head.specs.Head.{head, major_number}
+use Rattle.cbor_head.specs.Limits.{Bounds}
+use Rattle.cbor_head.specs.Spelling.{Spelling, unsigned, negative, bytes, text, byte_chunks, text_chunks, array, a_map, tag, simple, spell, spellings_count, entries_count, IsSpelled, HoldsOrIndefinite}
+use Rattle.cbor_head.specs.Complaint.{Rules, Complaint, OfKinds}
+use Rattle.cbor_head.specs.declared.major.Major.{Major}
+use Rattle.cbor_head.specs.declared.major.Major.TheVariants.{Array, Map, Tag}
+use Rattle.cbor_head.specs.declared.width.Width.{Width}
+use Rattle.cbor_head.specs.declared.width.Width.TheVariants.{Direct, One, Two, Four, Eight, Indefinite}
+use Rattle.cbor_grammar.proofs.KeyKinds.{number_is, byte_basic, kind_later}
+use Rattle.cbor_grammar.proofs.Parts.{body, parts, holds_of}
+use Rattle.cbor_judging.specs.Judged.{IsJudged}
+use Rattle.cbor_judging.specs.Kinds.{IsOfOneHead, HasBasicFront, is_container, AsksForKinds, KeepsToKinds, IsKeyDueIn}
+use Rattle.cbor_judging.specs.Levels.{Level, AreLevels, bytes_before}
+use Rattle.cbor_judging.proofs.KindLevels.{keeps_in}
+
+-- ---- bytes of one head
+
+-- so many bytes of an argument, by the first byte
+abbrev Behind : ℕ → ℕ → Type 0
+Behind b k = 0 < k → (24 ≤ b % 32) × (b % 32 < 28) × (k ≤ 2 ^ (b % 32 - 24))
+
+none_behind : (b low k : ℕ) → b % 32 ≡ low → low < 24 → Behind b k → k ≡ 0
+none_behind b low k e l f = elim (cases_lt 0 k) [ inl p ↦ let g = f p in absurd (omega (arith, e, l, g.0)) | inr p ↦ omega (arith, p) ]
+
+some_behind : (b low k : ℕ) → b % 32 ≡ low → Behind b k → k ≤ 2 ^ (low - 24)
+some_behind b low k e f = elim (cases_lt 0 k) [ inl p ↦ let g = f p in subst (λ (j : ℕ). k ≤ 2 ^ (j - 24)) e g.2 | inr p ↦ let none : k ≡ 0 = omega (arith, p) in subst (λ (j : ℕ). j ≤ 2 ^ (low - 24)) (sym none) (omega arith) ]
+
+no_end : (b k : ℕ) → b % 32 ≡ 31 → Behind b k → k ≡ 0
+no_end b k e f = elim (cases_lt 0 k) [ inl p ↦ let g = f p in absurd (omega (arith, e, g.1)) | inr p ↦ omega (arith, p) ]
+
+-- they are no more than the head has
+within_head : (m : Major) (w : Width) (n b k : ℕ) (y z : List ℕ) → HoldsOrIndefinite w n → head m w n ++ z ≡ b ∷ y → Behind b k → suc k ≤ length (head m w n)
+within_head m Direct n b k y z h e f =
+    let first : 32 * major_number m + n ≡ b = cc e in
+    let none : k ≡ 0 = none_behind b n k (omega (arith, first, h)) h f in
+    omega (arith, none)
+within_head m One n b k y z h e f =
+    let first : 32 * major_number m + 24 ≡ b = cc e in
+    let most : k ≤ 2 ^ (24 - 24) = some_behind b 24 k (omega (arith, first)) f in
+    let size : length (head m One n) ≡ 2 = refl in
+    omega (arith, most, size)
+within_head m Two n b k y z h e f =
+    let first : 32 * major_number m + 25 ≡ b = cc e in
+    let most : k ≤ 2 ^ (25 - 24) = some_behind b 25 k (omega (arith, first)) f in
+    let size : length (head m Two n) ≡ 3 = refl in
+    omega (arith, most, size)
+within_head m Four n b k y z h e f =
+    let first : 32 * major_number m + 26 ≡ b = cc e in
+    let most : k ≤ 2 ^ (26 - 24) = some_behind b 26 k (omega (arith, first)) f in
+    let size : length (head m Four n) ≡ 5 = refl in
+    omega (arith, most, size)
+within_head m Eight n b k y z h e f =
+    let first : 32 * major_number m + 27 ≡ b = cc e in
+    let most : k ≤ 2 ^ (27 - 24) = some_behind b 27 k (omega (arith, first)) f in
+    let size : length (head m Eight n) ≡ 9 = refl in
+    omega (arith, most, size)
+within_head m Indefinite n b k y z h e f =
+    let first : 32 * major_number m + 31 ≡ b = cc e in
+    let none : k ≡ 0 = no_end b k (omega (arith, first)) f in
+    omega (arith, none)
+
+-- ---- no key but the item itself begins in them
+
+pub kinds_behind : (s : Spelling) → IsSpelled s → (x z : List ℕ) → spell s ≡ x ++ z → IsOfOneHead x → (at : ℕ) (c : Complaint) → OfKinds at s c → at + length x < c.end
+kinds_behind s h [] z e one at c o = omega (arith, kind_later s at c o)
+kinds_behind (array w ss) h (b ∷ bs) z e one at c o =
+    let n = number_is (array w ss) h b [] (bs ++ z) (append-nil (spell (array w ss)) ∙ e) in
+    let behind = one (subst (λ (k : ℕ). IsTrue (is_container k)) n refl) in
+    let short = within_head Array w (spellings_count ss) b (length bs) (bs ++ z) (body (array w ss)) (holds_of (array w ss) h) (sym (parts (array w ss)) ∙ e) behind in
+    omega (arith, short, kind_later (array w ss) at c o)
+kinds_behind (a_map w es) h (b ∷ bs) z e one at c o =
+    let n = number_is (a_map w es) h b [] (bs ++ z) (append-nil (spell (a_map w es)) ∙ e) in
+    let behind = one (subst (λ (k : ℕ). IsTrue (is_container k)) n refl) in
+    let short = within_head Map w (entries_count es) b (length bs) (bs ++ z) (body (a_map w es)) (holds_of (a_map w es) h) (sym (parts (a_map w es)) ∙ e) behind in
+    omega (arith, short, kind_later (a_map w es) at c o)
+kinds_behind (tag w n s) h (b ∷ bs) z e one at c o =
+    let k = number_is (tag w n s) h b [] (bs ++ z) (append-nil (spell (tag w n s)) ∙ e) in
+    let behind = one (subst (λ (k : ℕ). IsTrue (is_container k)) k refl) in
+    let short = within_head Tag w n b (length bs) (bs ++ z) (body (tag w n s)) (holds_of (tag w n s) h) (sym (parts (tag w n s)) ∙ e) behind in
+    omega (arith, short, kind_later (tag w n s) at c o)
+kinds_behind (unsigned w n) h (b ∷ bs) z e one at c o = absurd o
+kinds_behind (negative w n) h (b ∷ bs) z e one at c o = absurd o
+kinds_behind (bytes w q) h (b ∷ bs) z e one at c o = absurd o
+kinds_behind (text w q) h (b ∷ bs) z e one at c o = absurd o
+kinds_behind (byte_chunks cs) h (b ∷ bs) z e one at c o = absurd o
+kinds_behind (text_chunks cs) h (b ∷ bs) z e one at c o = absurd o
+kinds_behind (simple n) h (b ∷ bs) z e one at c o = absurd o
+
+-- a front of them
+pub one_head_front : (x y : List ℕ) → IsOfOneHead (x ++ y) → IsOfOneHead x
+one_head_front [] y h = tt
+one_head_front (b ∷ bs) y h = λ container some.
+    let size = length-append bs y in
+    let g = h container (omega (arith, some, size)) in
+    (g.0, g.1, omega (arith, g.2, size))
+
+-- ---- the bytes so far, with what was found of the item that is due
+
+module _ (limits : Bounds) (r : Rules) (ls : List Level) (levels : AreLevels limits.depth ls) where
+  basic_due : (s : Spelling) (x z : List ℕ) → IsSpelled s → spell s ≡ x ++ z → (AsksForKinds limits r → IsKeyDueIn ls → HasBasicFront x) → AsksForKinds limits r → IsKeyDueIn ls → 0 < length x → _
+  basic_due s [] z h e basic asked due some = absurd (omega (arith, some))
+  basic_due s (b ∷ bs) z h e basic asked due some = byte_basic s h b [] (bs ++ z) (append-nil (spell s) ∙ e) (basic asked due)
+
+  pub keeps_judged : (x : List ℕ) (found : Option Complaint) → IsJudged r (length (bytes_before ls)) (limits.depth - length ls) x found → IsOfOneHead x → (AsksForKinds limits r → IsKeyDueIn ls → HasBasicFront x)
+      → KeepsToKinds limits r (bytes_before ls) → KeepsToKinds limits r (bytes_before ls ++ x)
+  keeps_judged x found j one basic keeps =
+      keeps_in limits r ls levels j.item x j.rest j.is.spelled j.is.within j.is.bytes_are (basic_due j.item x j.rest j.is.spelled j.is.bytes_are basic)
+      (kinds_behind j.item j.is.spelled x j.rest j.is.bytes_are one (length (bytes_before ls))) keeps
