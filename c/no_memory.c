@@ -36,6 +36,7 @@ static const uint8_t in[] = {0xbf, 0x63, 'F',  'u', 'n', 0x9f, 0x01, 0x42, 1,   
                              't',  0x21, 0x61, 'b', 0x7f, 0x62, 's',  't',  0x64, 'r', 'e',  'a',  'm',  0xff, 0xa1, 2,   3,    4,   0xff};
 static uint8_t out[128];
 static size_t needed;
+static uint64_t front;
 static uint32_t side;
 static struct naltvigo_refusal why;
 
@@ -45,6 +46,16 @@ static uint32_t check_valid(void) { return naltvigo_check_valid(in, sizeof in, L
 static uint32_t compare(void) { return naltvigo_compare(in, sizeof in, in, sizeof in, LIMITS(256, 1000), &side, &why); }
 static uint32_t diagnostic(void) { return naltvigo_diagnostic(in, sizeof in, LIMITS(256, 1000), (char *)out, sizeof out, &needed, &why); }
 static uint32_t check_canonical(void) { return naltvigo_check_canonical(in, sizeof in, OPTIONS(0, 256, 1000), &why); }
+
+/* The count of the item at the front stands where an answer's length stands. */
+static uint32_t next_valid(void) {
+    uint32_t status = naltvigo_next_valid(in, sizeof in, LIMITS(256, 1000), &front, &why);
+    return needed = (size_t)front, status;
+}
+static uint32_t next_canonical(void) {
+    uint32_t status = naltvigo_next_canonical(in, sizeof in, OPTIONS(0, 256, 1000), &front, &why);
+    return needed = (size_t)front, status;
+}
 
 static int refuse_each(const char *name, uint32_t (*call)(void), uint32_t status) {
     uint8_t before[sizeof out], answer[sizeof out];
@@ -79,8 +90,10 @@ int main(void) {
     int bad = refuse_each("canonicalise", canonicalise, NALTVIGO_OK);
     bad |= refuse_each("length first", length_first, NALTVIGO_OK);
     bad |= refuse_each("check_valid", check_valid, NALTVIGO_OK);
+    bad |= refuse_each("next_valid", next_valid, NALTVIGO_OK);
     bad |= refuse_each("compare", compare, NALTVIGO_OK);
     bad |= refuse_each("diagnostic", diagnostic, NALTVIGO_OK);
-    bad |= refuse_each("check_canonical", check_canonical, NALTVIGO_REFUSED);
-    return bad || taken != 0;
+    bad |= refuse_each("check_canonical", check_canonical, NALTVIGO_REFUSED) || taken != 0;
+    bad |= refuse_each("next_canonical", next_canonical, NALTVIGO_REFUSED) || taken != 0;
+    return bad;
 }

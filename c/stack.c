@@ -8,9 +8,10 @@
 #include <stdlib.h>
 #include <string.h>
 
-enum { STACK = 4 << 20, PAINT = 0xa5, CALLS = 6 };
+enum { STACK = 4 << 20, PAINT = 0xa5, CALLS = 8 };
 
-static const char *const names[CALLS] = {"canonicalise", "check_canonical", "check_valid", "compare", "diagnostic", "machine_take"};
+static const char *const names[CALLS] = {"canonicalise", "check_canonical", "check_valid", "next_canonical",
+                                         "next_valid", "compare", "diagnostic", "machine_take"};
 static uint8_t in[16384], out[65536];
 static size_t length;
 static uint32_t depth;
@@ -29,13 +30,16 @@ static void events(void) {
 static void *work(void *unused) {
     struct naltvigo_refusal why;
     size_t needed;
+    uint64_t front;
     uint32_t side;
     switch (call) {
     case 0: naltvigo_canonicalise(in, length, OPTIONS(0, depth, 1 << 20), out, sizeof out, &needed, &why); break;
     case 1: naltvigo_check_canonical(in, length, OPTIONS(0, depth, 1 << 20), &why); break;
     case 2: naltvigo_check_valid(in, length, LIMITS(depth, 1 << 20), &why); break;
-    case 3: naltvigo_compare(in, length, in, length, LIMITS(depth, 1 << 20), &side, &why); break;
-    case 4: naltvigo_diagnostic(in, length, LIMITS(depth, 1 << 20), (char *)out, sizeof out, &needed, &why); break;
+    case 3: naltvigo_next_canonical(in, length, OPTIONS(0, depth, 1 << 20), &front, &why); break;
+    case 4: naltvigo_next_valid(in, length, LIMITS(depth, 1 << 20), &front, &why); break;
+    case 5: naltvigo_compare(in, length, in, length, LIMITS(depth, 1 << 20), &side, &why); break;
+    case 6: naltvigo_diagnostic(in, length, LIMITS(depth, 1 << 20), (char *)out, sizeof out, &needed, &why); break;
     default: events();
     }
     return unused;

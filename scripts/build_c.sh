@@ -20,38 +20,69 @@ log=$(mktemp)
 room=$(mktemp -d)
 trap 'rm -rf "$room" "$log"' EXIT
 
-# After `rt ci` of a fresh clone the libraries stand built, without the mark by which rt lib knows them: then
-# the compiler is called as rt does it, and they are not proved again, unless that fails.
+say() { echo "build_c.sh: $*" >&3; }
+
+# The repository's libraries below naltvigo.
+below() {
+    local found name dep i
+    read -ra found <<<"$names"
+    for ((i = 0; i < ${#found[@]}; i++)); do
+        for dep in $(sed -n "s/^${found[i]}: //p" "$root/crates.txt"); do
+            [[ " ${found[*]} " = *" $dep "* ]] || found+=("$dep")
+        done
+    done
+    for name in "${found[@]}"; do
+        [ ! -d "../$name" ] || echo "$name"
+    done
+}
+
+# Why a library does not stand as `rt ci` leaves it: proved, without the mark by which rt knows its own, of this text.
+lacks() {
+    local built=../$1/out/rlib/$1.rlib parts=() part newer
+    [ -e "$built/format" ] || { echo "$1 is not built"; return; }
+    [ ! -e "../$1/out/rlib/stamp" ] || { echo "$1 is what an earlier check kept"; return; }
+    for part in src specs proofs; do
+        [ ! -d "../$1/$part" ] || parts+=("../$1/$part")
+    done
+    newer=$(find "${parts[@]}" -newer "$built/format" -print -quit)
+    [ -z "$newer" ] || echo "${newer#../} is newer than what is built of it"
+}
+
+# Over libraries as `rt ci` leaves them the compiler is called as rt does it, so that naltvigo alone is proved once more:
+# rt lib would not know them, and prove all of them again.
 make_archive() {
     cd "$root/crates/naltvigo"
-    local name names own
+    local names libraries name why
     names=$(sed -n 's/^naltvigo staticlib: //p' "$root/crates.txt")
-    # The highest of the repository's own; the others are the kit's.
-    for name in $names; do
-        [ ! -d "../$name" ] || own=$name
+    libraries=$(below)
+    for name in $libraries; do
+        why=$(lacks "$name")
+        [ -z "$why" ] || break
     done
-    if [ -e "../$own/out/rlib/stamp" ] || [ ! -e "../$own/out/rlib/$own.rlib" ]; then
-        rt lib
-        return
+    if [ -z "$why" ]; then
+        local words=(--crate-name naltvigo src/lib.rt --crate-type staticlib)
+        words+=(--extern "std=$kit/rlibs/std.rlib" -L "dependency=$kit/rlibs")
+        for name in $names; do
+            if [ -d "../$name" ]; then
+                words+=(--extern "$name=../$name/out/rlib/$name.rlib")
+            else
+                words+=(--extern "$name=$kit/rlibs/$name.rlib")
+            fi
+        done
+        for name in $libraries; do
+            words+=(-L "dependency=../$name/out/rlib")
+        done
+        words+=(--antt-project "$kit/rattle/logic/antt-project.json" --logic-built "$kit/logic_built")
+        words+=(--jobs "$(($(nproc) < 4 ? $(nproc) : 4))" --links naltvigo= --toolchain "$kit/toolchain" --backend llvm)
+        mkdir -p out
+        ! "$kit/bin/rattle" build "${words[@]}" -o out/libnaltvigo.a || return 0
+        why="rattle build fails over what rt ci built: $(tail -1 "$log")"
     fi
-    local words=(--crate-name naltvigo src/lib.rt --crate-type staticlib)
-    words+=(--extern "std=$kit/rlibs/std.rlib" -L "dependency=$kit/rlibs")
-    for name in $names; do
-        if [ -d "../$name" ]; then
-            words+=(--extern "$name=../$name/out/rlib/$name.rlib")
-        else
-            words+=(--extern "$name=$kit/rlibs/$name.rlib")
-        fi
-    done
-    for name in ../*/out/rlib; do
-        words+=(-L "dependency=$name")
-    done
-    words+=(--antt-project "$kit/rattle/logic/antt-project.json" --logic-built "$kit/logic_built" --jobs 2)
-    words+=(--links naltvigo= --toolchain "$kit/toolchain" --backend llvm)
-    "$kit/bin/rattle" build "${words[@]}" -o out/libnaltvigo.a || rt lib
+    say "$why; so rt lib proves what has changed since its own last check, which is all of it the first time"
+    rt lib
 }
 if [ -z "$archive" ]; then
-    (make_archive) >"$log" 2>&1 || { cat "$log" >&2; exit 1; }
+    (make_archive) 3>&2 >"$log" 2>&1 || { cat "$log" >&2; exit 1; }
     archive=$root/crates/naltvigo/out/libnaltvigo.a
 fi
 archive=$(realpath "$archive")

@@ -25,7 +25,7 @@ IN_PYTHON = [
 
 def table(text, function):
     """The arms of a function that matches a reason: each reason's text."""
-    body = text[text.index(f"pub fn {function}("):]
+    body = text[text.index(f"fn {function}("):]
     found = {}
     for arm, said in re.findall(r'((?:Reason::\w+(?: \| )?)+) =>\s*\{?\s*"([^"]*)"', body):
         for reason in re.findall(r"Reason::(\w+)", arm):

@@ -6,7 +6,7 @@ ghost use Rattle.cbor_explain.specs.Sentences.{advice, meaning};
 use cbor_head::Reason;
 
 /// What a reason means, in a sentence.
-pub fn meaning(reason: Reason) -> &'static str
+pub(crate) fn meaning(reason: Reason) -> &'static str
     ensures { result.now ≡ meaning reason }
 {
     match reason {
@@ -35,7 +35,7 @@ pub fn meaning(reason: Reason) -> &'static str
 }
 
 /// What to do about a refusal for this reason.
-pub fn advice(reason: Reason) -> &'static str
+pub(crate) fn advice(reason: Reason) -> &'static str
     ensures { result.now ≡ advice reason }
 {
     match reason {

@@ -14,7 +14,7 @@ const BEFORE: usize = 8;
 
 /// Writes some bytes around a place as hex digits, behind the offset of the first of them, and on
 /// the next line a mark below the place; one behind the end is marked behind the last byte.
-pub fn write_surroundings<W: Write>(
+pub(crate) fn write_surroundings<W: Write>(
     alloc: Global,
     bytes: &[u8],
     place: usize,

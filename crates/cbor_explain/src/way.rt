@@ -31,7 +31,7 @@ pub enum Step {
 /// The way through an item to where a refusal of it stands, a step for each container that is open
 /// there. The bytes begin with the item, and places are offsets in them. It is found from the
 /// events of the bytes up to that place, so by their form alone.
-pub fn way_to(
+pub(crate) fn way_to(
     alloc: Global,
     item: &[u8],
     limits: Limits,

@@ -13,7 +13,7 @@ use std::io::{self, ErrorKind, Write};
 
 /// Writes a way through an item on a line: `$` is the item, `[2]` a member of an array, `."a"` the
 /// value of a key, `(24)` the content of a tag.
-pub fn write_way<W: Write>(
+pub(crate) fn write_way<W: Write>(
     alloc: Global,
     item: &[u8],
     way: &[Step],

@@ -1,6 +1,6 @@
 -- Complaints on the kinds of keys: which byte tells the kind, and where they end.
-use Rattle.std.proofs.Common.{ℕ, ◌+◌, ◌*◌, ◌≡◌, ◌<◌, ◌≤◌, ◌/◌, Bool, List, [], ◌∷◌, ◌++◌, length, refl, sym, ap, ◌∙◌, arith, subst, inl, inr}
-use Rattle.std.specs.Prelude.{IsTrue, ◌==◌, ◌||◌}
+use Rattle.std.proofs.Common.{ℕ, ◌+◌, ◌*◌, ◌≡◌, ◌<◌, ◌≤◌, ◌/◌, List, [], ◌∷◌, ◌++◌, length, refl, sym, ap, ◌∙◌, arith, subst, inl, inr}
+use Rattle.std.specs.Prelude.{IsTrue}
 use Rattle.std.proofs.lemmas.List.{length-append}
 use Rattle.cbor_head.specs.Head.{head, major_number}
 use Rattle.cbor_head.specs.Value.{IsIntegerOrText}
@@ -11,6 +11,7 @@ use Rattle.cbor_head.specs.declared.major.Major.TheVariants.{Array, Map, Tag}
 use Rattle.cbor_head.specs.declared.reason.Reason.TheVariants.{KeyKind}
 use Rattle.cbor_head.specs.declared.width.Width.{Width}
 use Rattle.cbor_head.specs.declared.width.Width.TheVariants.{Direct, One, Two, Four, Eight, Indefinite}
+use Rattle.cbor_grammar.specs.FirstBytes.{is_basic}
 use Rattle.cbor_grammar.proofs.ReadLaws.{length_head, length_spell}
 use Rattle.cbor_grammar.proofs.Alike.{Both}
 use Rattle.cbor_grammar.proofs.Parts.{major, width, count, body, head_of, parts, holds_of}
@@ -35,10 +36,6 @@ first_byte : (s : Spelling) → IsSpelled s → FirstByte (major s) (spell s)
 first_byte s h =
     let f = first_of_head (major s) (width s) (count s) (holds_of s h) in
     record { low = f.low; rest = f.rest ++ body s; small = f.small; is = parts s ∙ ap (λ (x : List ℕ). x ++ body s) f.is }
-
--- the numbers of the types of integers and texts
-abbrev pub is_basic : ℕ → Bool
-is_basic n = (n == 0) || (n == 1) || (n == 3)
 
 basic_number : (s : Spelling) → IsIntegerOrText (value_of s) → IsTrue (is_basic (major_number (major s)))
 basic_number (unsigned w n) h = refl

@@ -11,10 +11,11 @@ use Rattle.cbor_head.specs.declared.major.Major.{Major}
 use Rattle.cbor_head.specs.declared.major.Major.TheVariants.{Array, Map, Tag}
 use Rattle.cbor_head.specs.declared.width.Width.{Width}
 use Rattle.cbor_head.specs.declared.width.Width.TheVariants.{Direct, One, Two, Four, Eight, Indefinite}
+use Rattle.cbor_grammar.specs.FirstBytes.{is_container}
 use Rattle.cbor_grammar.proofs.KeyKinds.{number_is, byte_basic, kind_later}
 use Rattle.cbor_grammar.proofs.Parts.{body, parts, holds_of}
 use Rattle.cbor_judging.specs.Judged.{IsJudged}
-use Rattle.cbor_judging.specs.Kinds.{IsOfOneHead, HasBasicFront, is_container, AsksForKinds, KeepsToKinds, IsKeyDueIn}
+use Rattle.cbor_judging.specs.Kinds.{IsOfOneHead, HasBasicFront, AsksForKinds, KeepsToKinds, IsKeyDueIn}
 use Rattle.cbor_judging.specs.Levels.{Level, AreLevels, bytes_before}
 use Rattle.cbor_judging.proofs.KindLevels.{keeps_in}
 

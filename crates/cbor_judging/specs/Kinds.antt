@@ -1,10 +1,11 @@
 -- The kinds of keys in the bytes so far of an item.
-use Rattle.std.specs.Prelude.{ℕ, ◌≡◌, ◌<◌, ◌≤◌, ◌^◌, ◌-◌, ◌/◌, ◌%◌, ◌==◌, ◌||◌, ◌++◌, Bool, IsTrue, List, [], ◌∷◌, length}
+use Rattle.std.specs.Prelude.{ℕ, ◌≡◌, ◌<◌, ◌≤◌, ◌^◌, ◌-◌, ◌/◌, ◌%◌, ◌++◌, IsTrue, List, [], ◌∷◌, length}
 use Rattle.cbor_head.specs.Limits.{Bounds}
 use Rattle.cbor_head.specs.Laws.{StartsWith}
 use Rattle.cbor_head.specs.Spelling.{Spelling}
 use Rattle.cbor_head.specs.Complaint.{Rules, Complaint, OfKinds}
 use Rattle.cbor_head.specs.declared.keys.Keys.TheVariants.{IntegersAndTexts}
+use Rattle.cbor_grammar.specs.FirstBytes.{is_basic, is_container}
 use Rattle.cbor_judging.specs.Frame.{Frame, a_member, a_key, a_content, tagged, plug}
 use Rattle.cbor_judging.specs.Levels as levels
 use Rattle.cbor_judging.specs.Levels.{Level}
@@ -51,18 +52,10 @@ IsKeyDueIn (l ∷ ls) = IsKeyLevel l
 
 -- ---- the bytes of an item that is due
 
--- the number of a type whose items hold others
-abbrev pub is_container : ℕ → Bool
-is_container n = (n == 4) || (n == 5) || (n == 6)
-
 -- they are of one head, or of what holds no items, as their first byte has it
 abbrev pub IsOfOneHead : List ℕ → Type 0
 IsOfOneHead [] = Unit {0}
 IsOfOneHead (b ∷ bs) = IsTrue (is_container (b / 32)) → 0 < length bs → (24 ≤ b % 32) × (b % 32 < 28) × (length bs ≤ 2 ^ (b % 32 - 24))
-
--- the numbers of the types of integers and texts
-abbrev pub is_basic : ℕ → Bool
-is_basic n = (n == 0) || (n == 1) || (n == 3)
 
 -- the item is an integer or a text, if anything of it is there
 abbrev pub HasBasicFront : List ℕ → Type 0

@@ -9,7 +9,9 @@ use Rattle.cbor_head.specs.declared.reason.Reason.TheVariants.{Memory}
 use Rattle.cbor_head.specs.declared.reason.Refusal.{Refusal}
 use Rattle.cbor_judging.specs.Readers.{IsRead, IsReadAs, IsUnread, of_memory}
 use Rattle.cbor_judging.proofs.FreeBefore.{front-free, without}
+use Rattle.cbor_reader.specs.Size.{size}
 use Rattle.cbor_reader.proofs.Headline.{front_range, front_valid, front_depth}
+use Rattle.cbor_reader.proofs.Sizes.{size_bounded}
 
 pub view_depth : (limits : Bounds) (input : List ℕ) (v : Value) (count : ℕ) → limits.depth ≤ 256 → IsReadAs limits plain input v count → depth v ≤ 256
 view_depth limits input v count l r = subst (λ (v : Value). depth v ≤ 256) (sym r.value) (omega (arith, front_depth limits plain input r.read.item r.read.verdict))
@@ -19,6 +21,11 @@ view_range limits input v count l r = subst IsInRange (sym r.value) (front_range
 
 pub view_valid : (limits : Bounds) (input : List ℕ) (v : Value) (count : ℕ) → IsReadAs limits plain input v count → IsValid v
 view_valid limits input v count r = subst IsValid (sym r.value) (front_valid limits input r.read.item r.read.verdict)
+
+pub view_bounded : (limits : Bounds) (input : List ℕ) (v : Value) (count : ℕ) → IsReadAs limits plain input v count → size v ≤ count
+view_bounded limits input v count r =
+    let few = subst (λ (u : Value). size u ≤ length (spell r.read.item)) (sym r.value) (size_bounded r.read.item) in
+    subst (λ (k : ℕ). size v ≤ k) (sym r.read.size) few
 
 -- ---- memory
 

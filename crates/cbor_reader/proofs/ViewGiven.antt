@@ -15,8 +15,7 @@ use Rattle.cbor_reader.specs.inner.TreeValues.{member_values, pair_values, level
 use Rattle.cbor_reader.specs.inner.ViewSinks.{view_stands, view_holds}
 use Rattle.cbor_reader.proofs.TreeValues.{full-ends, levels-take, may-end, settles-right, values-given, values-ended}
 use Rattle.cbor_view.specs.Seen.{standing, awaits_key}
-use Rattle.cbor_walk.proofs.KeysGiven.{may-begin}
-use Rattle.cbor_walk.specs.KeyBytes.{awaits_key as awaits, keys_stand, told_stand, MayBegin, IsItemAwaited, GivesTold, OpensTold, EndsTold}
+use Rattle.cbor_walk.specs.KeyBytes.{awaits_key as awaits, keys_stand, told_stand, GivesTold, OpensTold, EndsTold}
 use Rattle.cbor_walk.specs.declared.key_bytes.KeyBytes.{KeyBytes}
 use Rattle.cbor_walk.specs.Sink.{IsOpened, IsEndedAs, StandsFull, IsItemDue, IsChunkDue, IsContainerFull, AreOpenLevels, Completes, Gives, Opens, Ends, BeginsString, GrowsString, EndsString}
 
@@ -109,22 +108,21 @@ ended k old new is keys views start d ls s fills full =
 
 -- ---- strings in chunks
 
-pub chunk-takes : (t : Bool) (g : ViewSink) → IsChunkDue ViewSink view_holds t g → TakesValue (standing g.views)
-chunk-takes t g (start, ls, content, at) = subst TakesValue (sym at.1) (levels-take ls)
+pub whole-due : (t : Bool) (g : ViewSink) → IsChunkDue ViewSink view_holds t g → IsItemDue ViewSink view_stands g
+whole-due t g (start, ls, content, at) = at.4
 
-pub chunk-awaited : (k t : Bool) (g : ViewSink) → k ≡ awaits_key (standing g.views) → IsChunkDue ViewSink view_holds t g → IsItemAwaited k g.keys
-chunk-awaited k t g is (start, ls, content, at) = (start.keys, ls, told-due k start g ls is at.0 at.1, at.4)
-
-pub awaited : (k : Bool) (g : ViewSink) → k ≡ awaits_key (standing g.views) → IsItemDue ViewSink view_stands g → IsItemAwaited k g.keys
-awaited k g is (start, d, ls, room, at) = (start.keys, ls, told k start g (item_due ls) is at, may-begin start.keys g.keys d ls room at.0)
+-- with the same keys and views
+still-due : (old new : ViewSink) → new.keys ≡ old.keys → new.views ≡ old.views → IsItemDue ViewSink view_stands old → IsItemDue ViewSink view_stands new
+still-due old new same views (start, d, ls, room, at) =
+    (start, d, ls, room, (subst (λ (g : KeyBytes). keys_stand start.keys g (item_due ls)) (sym same) at.0, at.1, ap standing views ∙ at.2))
 
 pub begun : (t : Bool) (old new : ViewSink) → IsItemDue ViewSink view_stands old → new.keys ≡ old.keys → new.views ≡ old.views → new.joined.items ≡ [] → BeginsString ViewSink view_stands view_holds t old new
-begun t old new (first, d, ms, room, is) same views joined start ls at = (
+begun t old new due same views joined start ls at = (
   subst (λ (g : KeyBytes). keys_stand start.keys g (item_due ls)) (sym same) at.0,
   ap standing views ∙ at.2,
   joined,
   λ e. ([], (refl, refl)),
-  subst MayBegin (sym same) (may-begin first.keys old.keys d ms room is.0),
+  still-due old new same views due,
 )
 
 pub grown : (t : Bool) (x : List ℕ) (old new : ViewSink) → (t ≡ true → IsUtf8 x) → new.keys ≡ old.keys → new.views ≡ old.views → new.joined.items ≡ old.joined.items ++ x
@@ -134,7 +132,7 @@ grown t x old new utf8 same views joined start ls content at = (
   ap standing views ∙ at.1,
   joined ∙ ap (λ (c : List ℕ). c ++ x) at.2,
   λ e. IsUtf8-append content x (at.3 e) (utf8 e),
-  subst MayBegin (sym same) at.4,
+  still-due old new same views at.4,
 )
 
 pub string-ended : (k t : Bool) (old new : ViewSink) → k ≡ awaits_key (standing old.views) → GivesTold k (string_value t old.joined.items) old.keys new.keys → standing new.views ≡ give (string_value t old.joined.items) (standing old.views)

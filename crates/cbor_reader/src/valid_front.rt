@@ -4,6 +4,7 @@ ghost use Rattle.std.specs.Prelude.{◌≢◌, IfOk, IfErr};
 ghost use Rattle.cbor_head.specs.Complaint.{plain};
 ghost use Rattle.cbor_head.specs.declared.reason.Reason.TheVariants as reasons;
 ghost use Rattle.cbor_judging.specs.Readers.{IsUnread};
+ghost use Rattle.cbor_judging.specs.Refusals.{IsReaderReason};
 ghost use Rattle.cbor_walk.specs.Front.{IsBuiltFront};
 
 use crate::plain_front::read_plain_front;
@@ -40,6 +41,7 @@ pub(crate) fn read_again(
     ensures accepted { IfOk result (λ f.
         IsBuiltFront limits order bytes.now f.canonical.items f.size) }
     ensures refused { IfErr result (λ f. IsUnread limits plain bytes.now f) }
+    ensures reason { IfErr result (λ f. IsReaderReason limits plain f.reason) }
     ensures no_read { IfErr result (λ f. f.reason ≢ reasons.Read) }
 {
     let mut rest = bytes;

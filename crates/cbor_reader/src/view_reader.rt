@@ -7,7 +7,9 @@ ghost use Rattle.cbor_head.specs.Value.{depth, IsInRange, IsValid};
 ghost use Rattle.cbor_head.specs.declared.limits.TheConstants.{MAX_DEPTH};
 ghost use Rattle.cbor_head.specs.declared.reason.Reason.TheVariants as reasons;
 ghost use Rattle.cbor_judging.specs.Readers.{IsReadAs, IsUnread};
+ghost use Rattle.cbor_judging.specs.Refusals.{IsReaderReason};
 ghost use Rattle.cbor_reader.specs.Headline.{IsValidItem};
+ghost use Rattle.cbor_reader.specs.Size.{size};
 ghost use Rattle.cbor_reader.specs.WholeItem.{IsItemRefusal};
 ghost use Rattle.cbor_view.specs.Seen.{seen};
 
@@ -25,7 +27,8 @@ use std::alloc::Global;
 /// It answers as [`read_tree`](crate::read_tree) does of a reader over the slice, with the refusal
 /// that the bytes within the limits call for; or `Memory`, where it was refused before or the view
 /// could not be kept, at the count of the bytes taken. A string in one piece lies in the slice. All
-/// else lies in the arena, what a refused read left there too, and is given up with it.
+/// else lies in the arena, what a refused read left there too, and is given up with it. A view has no
+/// more items, at every depth, and bytes of strings together than bytes were taken.
 pub fn read_view<'a>(
     alloc: Global,
     bytes: &'a [u8],
@@ -34,11 +37,13 @@ pub fn read_view<'a>(
 ) -> Result<(View<'a>, u64), Refusal>
     ensures accepted { IfOk result (λ answer.
         IsReadAs limits plain bytes.now (seen answer.0) answer.1) }
+    ensures bounded { IfOk result (λ answer. size (seen answer.0) ≤ answer.1) }
     // What `View::to_tree` asks for.
     ensures depth { IfOk result (λ answer. depth (seen answer.0) ≤ MAX_DEPTH) }
     ensures in_range { IfOk result (λ answer. IsInRange (seen answer.0)) }
     ensures valid { IfOk result (λ answer. IsValid (seen answer.0)) }
     ensures refused { IfErr result (λ f. IsUnread limits plain bytes.now f) }
+    ensures reason { IfErr result (λ f. IsReaderReason limits plain f.reason) }
     ensures no_read { IfErr result (λ f. f.reason ≢ reasons.Read) }
 {
     // What any limits keep to.

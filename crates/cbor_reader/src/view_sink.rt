@@ -88,7 +88,8 @@ impl<'a> Sink<'a> for ViewSink<'a> {
 
     fn end_string(&mut self, is_text: bool) -> Result<(), AllocError> {
         let is_key = self.views.is_key_due();
-        self.keys.string(is_key, is_text, &self.joined, self.joined.len())?;
+        self.keys
+            .string(is_key, is_text, &self.joined, self.joined.len())?;
         if is_text {
             // Each chunk was found to be UTF-8.
             let text = unsafe { str::from_utf8_unchecked(&self.joined) };

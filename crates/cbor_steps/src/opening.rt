@@ -41,7 +41,7 @@ pub enum Opening {
 }
 
 /// The type by the high three bits, where they are not 7.
-pub fn numbered_at(high: u8) -> Numbered
+pub(crate) fn numbered_at(high: u8) -> Numbered
     requires { high < 7 }
     ensures { major_of result ≡ automaton.major_at high }
 {
@@ -98,7 +98,7 @@ fn simple_tail(low: u8) -> Opening
 
 /// What a first byte begins.
 #[inline(always)]
-pub fn opening_of(c: u8) -> Opening
+pub(crate) fn opening_of(c: u8) -> Opening
     ensures opens { opened result ≡ automaton.opening c }
     ensures definite { IsOpeningDefinite result }
 {
@@ -122,7 +122,7 @@ pub fn opening_of(c: u8) -> Opening
 }
 
 /// Why a byte may not stand where an item may begin.
-pub fn reason_at_item(c: u8) -> Reason
+pub(crate) fn reason_at_item(c: u8) -> Reason
     ensures is { result ≡ initial_reason c }
     ensures of_form { IsFormReason result }
 {

@@ -36,7 +36,7 @@ pub enum Position {
 
 /// An item is complete, where an item was due.
 #[inline(always)]
-pub fn finish(position: &mut Position, nest: &mut Nest)
+pub(crate) fn finish(position: &mut Position, nest: &mut Nest)
     requires { position.old ≡ Position.Item }
     ensures state { state_of position.new nest.new ≡ automaton.close (frames_of nest.old) }
     ensures fewer { length nest.new ≤ length nest.old }
@@ -62,7 +62,7 @@ pub fn has_room(depth: usize, kind: Numbered, nest: &Nest) -> bool
 /// The head of an item is complete.
 #[inline(always)]
 #[tactic(auto, using(crate::proofs::Frames::length_frames, crate::proofs::Frames::frames_push))]
-pub fn enter(kind: Numbered, n: u64, depth: usize, position: &mut Position, nest: &mut Nest)
+pub(crate) fn enter(kind: Numbered, n: u64, depth: usize, position: &mut Position, nest: &mut Nest)
     requires limit { depth ≤ MOST_OPEN }
     requires within { length nest.old ≤ depth }
     requires item { position.old ≡ Position.Item }
@@ -101,7 +101,7 @@ pub fn enter(kind: Numbered, n: u64, depth: usize, position: &mut Position, nest
 
 /// A string of definite length is complete.
 #[inline(always)]
-pub fn finish_string(chunk: bool, kind: Numbered, position: &mut Position, nest: &mut Nest)
+pub(crate) fn finish_string(chunk: bool, kind: Numbered, position: &mut Position, nest: &mut Nest)
     ensures state { state_of position.new nest.new
         ≡ automaton.close_string chunk (major_of kind) (frames_of nest.old) }
     ensures fewer { length nest.new ≤ length nest.old }
@@ -116,7 +116,7 @@ pub fn finish_string(chunk: bool, kind: Numbered, position: &mut Position, nest:
 }
 
 /// Where the next byte belongs behind an item that was due.
-pub fn close(nest: &mut Nest) -> Position
+pub(crate) fn close(nest: &mut Nest) -> Position
     ensures state { state_of result nest.new ≡ automaton.close (frames_of nest.old) }
     ensures fewer { length nest.new ≤ length nest.old }
     ensures settled { IsSettled nest.new result }
@@ -127,7 +127,7 @@ pub fn close(nest: &mut Nest) -> Position
 }
 
 /// Where it belongs behind the head of a chunk.
-pub fn chunk_payload(kind: Numbered, n: u64, nest: &Nest) -> Position
+pub(crate) fn chunk_payload(kind: Numbered, n: u64, nest: &Nest) -> Position
     ensures state { state_of result nest.now
         ≡ automaton.payload true (major_of kind) n (frames_of nest.now) }
     ensures settled { IsSettled nest.now result }
@@ -140,7 +140,7 @@ pub fn chunk_payload(kind: Numbered, n: u64, nest: &Nest) -> Position
 
 /// Where it belongs behind a definite head.
 #[inline(always)]
-pub fn after(chunk: bool, kind: Numbered, n: u64, depth: usize, nest: &mut Nest) -> Position
+pub(crate) fn after(chunk: bool, kind: Numbered, n: u64, depth: usize, nest: &mut Nest) -> Position
     requires limit { depth ≤ MOST_OPEN }
     requires within { length nest.old ≤ depth }
     requires room { chunk ≡ true

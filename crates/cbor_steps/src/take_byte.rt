@@ -30,7 +30,7 @@ pub enum Next {
 
 /// What a definite head tells.
 #[inline(always)]
-pub fn head_kind(chunk: bool, kind: Numbered, n: u64) -> EventKind
+pub(crate) fn head_kind(chunk: bool, kind: Numbered, n: u64) -> EventKind
     ensures mark { (w : width.Width) → mark_of w result ≡ automaton.mark chunk (major_of kind) w n }
     ensures once { times result ≡ 1 }
     ensures proper { (w : width.Width) → IsDefinite w → IsProper w result }
@@ -227,7 +227,7 @@ fn in_string(kind: Numbered, depth: usize, nest: &mut Nest, c: u8) -> Next
 
 /// The next byte.
 #[tactic(auto, using(crate::proofs::Frames::settled_fit))]
-pub fn take_byte(depth: usize, position: Position, nest: &mut Nest, c: u8) -> Next
+pub(crate) fn take_byte(depth: usize, position: Position, nest: &mut Nest, c: u8) -> Next
     requires limit { depth ≤ MOST_OPEN }
     requires within { length nest.old ≤ depth }
     requires fits { IsFit depth nest.old position }

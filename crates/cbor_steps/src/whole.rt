@@ -110,7 +110,7 @@ fn low_bits(left: u8) -> Option<u8>
 
 /// The argument of a head that is open, where its bytes are there: so many behind the next one.
 #[inline(always)]
-pub fn whole_argument(left: u8, rest: &[u8]) -> Option<u64>
+pub(crate) fn whole_argument(left: u8, rest: &[u8]) -> Option<u64>
     ensures is { IfSome result (λ n. IsArgumentLeft left n rest.now) }
     ensures there { IfSome result (λ n. left < length rest.now) }
 {

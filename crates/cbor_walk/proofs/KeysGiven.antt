@@ -15,7 +15,7 @@ use Rattle.cbor_judging.specs.Given.{level_open, opens, IsFull}
 use Rattle.cbor_judging.specs.Levels.{Level, some_member, some_key, AreLevels, bytes_before, Standing, item_due, item_full, item_whole, settle}
 use Rattle.cbor_walk.proofs.CanonGiven.{level-opened, full-endless}
 use Rattle.cbor_walk.proofs.KeysKept.{in_key-is, item-kept, takes-part, value-takes, inside-few, innermost, may-end, IsBehind, map-ended, other-ended, inner-ended, inner-takes}
-use Rattle.cbor_walk.specs.KeyBytes.{is_open_map, key_due, in_key, is_map, bare, kept, kept_all, one_more, inside, is_kept, behind_item, with_item, with_opened, KeepsAt, keys_stand, told_stand, MayBegin, IsItemAwaited, GivesTold, OpensTold, EndsTold}
+use Rattle.cbor_walk.specs.KeyBytes.{is_open_map, key_due, in_key, is_map, bare, kept, kept_all, one_more, inside, is_kept, behind_item, with_item, with_opened, KeepsAt, keys_stand, told_stand, GivesTold, OpensTold, EndsTold}
 use Rattle.cbor_walk.specs.Sink.{IsOpened, IsEndedAs, AreOpenLevels, Fills, StandsFull, IsItemDue, IsContainerFull}
 use Rattle.cbor_walk.specs.declared.key_bytes.KeyBytes.{KeyBytes}
 
@@ -25,19 +25,13 @@ stands-by : (o p : KeyOrder) (os xs : List Open) (n m : ℕ) (st : Standing) →
 stands-by o p os xs n m st e f g h =
     subst (λ (y : KeyOrder). KeepsAt y xs m st) (sym e) (subst (λ (y : List Open). KeepsAt o y m st) (sym f) (subst (λ (y : ℕ). KeepsAt o os y st) (sym g) h))
 
-pub may-begin : (start g : KeyBytes) (d : ℕ) (ls : List Level) → AreOpenLevels d ls → keys_stand start g (item_due ls) → MayBegin g
-may-begin start g d ls room at = subst TakesPart (sym at.0) (takes-part g.builder.order d ls room.levels room.short)
-
-pub takes : (k : Bool) (g : KeyBytes) → IsItemDue KeyBytes (told_stand k) g → MayBegin g
-takes k g (start, d, ls, room, at) = may-begin start g d ls room at.0
-
-pub awaited : (k : Bool) (g : KeyBytes) → IsItemDue KeyBytes (told_stand k) g → IsItemAwaited k g
-awaited k g (start, d, ls, room, at) = (start, ls, at, may-begin start g d ls room at.0)
+pub takes : (k : Bool) (g : KeyBytes) → IsItemDue KeyBytes (told_stand k) g → TakesPart g.builder.standing
+takes k g (start, d, ls, room, at) = subst TakesPart (sym at.0.0) (takes-part g.builder.order d ls room.levels room.short)
 
 -- behind a key
-pub key-takes : (k : Bool) (b : List ℕ) (g new : KeyBytes) → IsItemAwaited k g → is_kept g.inside k ≡ true → new.builder ≡ built g.builder.order (give b g.builder.standing)
+pub key-takes : (k : Bool) (b : List ℕ) (g new : KeyBytes) → IsItemDue KeyBytes (told_stand k) g → is_kept g.inside k ≡ true → new.builder ≡ built g.builder.order (give b g.builder.standing)
     → g.inside ≡ 0 → TakesPart new.builder.standing
-key-takes k b g new (start, ls, at, may) keeps is none =
+key-takes k b g new (start, d, ls, room, at) keeps is none =
     let told : is_kept g.inside k ≡ is_kept (inside ls) (key_due ls) = λ i. is_kept (at.0.1 i) (at.1 i) in
     subst TakesPart (sym (ap (λ (x : Built). x.standing) is ∙ ap (give b) at.0.0)) (value-takes g.builder.order ls b (sym at.0.1 ∙ none) (sym told ∙ keeps))
 
@@ -159,7 +153,7 @@ end-takes k m old new (start, d, ls, s, fills, full) is some none =
 
 ended : (k : Bool) (old new : KeyBytes) → new.builder.order ≡ old.builder.order
     → ((ls : List Level) (c : Open) → IsInContainer (c ∷ plain [] ∷ []) → is_open_map c ≡ k → old.builder.standing ≡ kept (in_key ls) c (kept_all old.builder.order ls) → old.inside ≡ one_more (in_key ls) (inside ls)
-        → IsBehind old.builder.order (inside ls) (key_due ls) c (kept_all old.builder.order ls) new.builder.standing new.inside)
+    → IsBehind old.builder.order (inside ls) (key_due ls) c (kept_all old.builder.order ls) new.builder.standing new.inside)
     → EndsTold k old new
 ended k old new order path start d ls s fills stood =
     let o = old.builder.order in
@@ -178,26 +172,26 @@ ended-map : (k : Bool) (old new : KeyBytes) → k ≡ true → old.inside ≡ 0 
 ended-map k old new keeps none distinct is stays =
     ended k old new (ap (λ (x : Built). x.order) is)
     (λ ls c inner like at n.
-       let o = old.builder.order in
-       let behind = map-ended o (in_key ls) (inside ls) (key_due ls) c (kept_all o ls) (in_key-is ls) (sym n ∙ none) (like ∙ keeps) (subst HasDistinctKeysSoFar at distinct) in
-       record { differ = behind.differ; holds = ap (λ (x : Built). x.standing) is ∙ ap around at ∙ behind.holds; count = stays ∙ none ∙ behind.count })
+    let o = old.builder.order in
+    let behind = map-ended o (in_key ls) (inside ls) (key_due ls) c (kept_all o ls) (in_key-is ls) (sym n ∙ none) (like ∙ keeps) (subst HasDistinctKeysSoFar at distinct) in
+    record { differ = behind.differ; holds = ap (λ (x : Built). x.standing) is ∙ ap around at ∙ behind.holds; count = stays ∙ none ∙ behind.count })
 
 pub ended-other : (k : Bool) (old new : KeyBytes) → k ≡ false → old.inside ≡ 0 → new.builder ≡ old.builder → new.inside ≡ old.inside → EndsTold k old new
 ended-other k old new not none is stays =
     ended k old new (ap (λ (x : Built). x.order) is)
     (λ ls c inner like at n.
-       let o = old.builder.order in
-       let behind = other-ended o (in_key ls) (inside ls) (key_due ls) c (kept_all o ls) (in_key-is ls) (sym n ∙ none) (like ∙ not) inner in
-       record { differ = behind.differ; holds = ap (λ (x : Built). x.standing) is ∙ at ∙ behind.holds; count = stays ∙ none ∙ behind.count })
+    let o = old.builder.order in
+    let behind = other-ended o (in_key ls) (inside ls) (key_due ls) c (kept_all o ls) (in_key-is ls) (sym n ∙ none) (like ∙ not) inner in
+    record { differ = behind.differ; holds = ap (λ (x : Built). x.standing) is ∙ at ∙ behind.holds; count = stays ∙ none ∙ behind.count })
 
 pub ended-inner : (k : Bool) (old new : KeyBytes) → suc new.inside ≡ old.inside → HasDistinctKeysSoFar old.builder.standing
     → new.builder ≡ built old.builder.order (behind_item new.inside (close old.builder.order old.builder.standing)) → EndsTold k old new
 ended-inner k old new some distinct is =
     ended k old new (ap (λ (x : Built). x.order) is)
     (λ ls c inner like at n.
-       let o = old.builder.order in
-       let behind = inner-ended o (in_key ls) (inside ls) new.inside (key_due ls) c (kept_all o ls) (in_key-is ls) (some ∙ n) (subst HasDistinctKeysSoFar at distinct) in
-       record { differ = behind.differ; holds = ap (λ (x : Built). x.standing) is ∙ ap (λ (os : List Open). behind_item new.inside (close o os)) at ∙ behind.holds; count = behind.count })
+    let o = old.builder.order in
+    let behind = inner-ended o (in_key ls) (inside ls) new.inside (key_due ls) c (kept_all o ls) (in_key-is ls) (some ∙ n) (subst HasDistinctKeysSoFar at distinct) in
+    record { differ = behind.differ; holds = ap (λ (x : Built). x.standing) is ∙ ap (λ (os : List Open). behind_item new.inside (close o os)) at ∙ behind.holds; count = behind.count })
 
 pub map-ends : {E : Type 0} (r : Result Bool E) (k : Bool) (old : KeyBytes) (new : Built) → k ≡ true → old.inside ≡ 0 → IfOk r (λ d. IsTrue d ↔ HasDistinctKeysSoFar old.builder.standing)
     → IfOk r (λ d. IsTrue d → new ≡ built old.builder.order (around old.builder.standing)) → IfOk r (λ d. IsTrue d → EndsTold k old (record { builder = new; inside = old.inside }))

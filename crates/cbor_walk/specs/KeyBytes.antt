@@ -1,6 +1,5 @@
 -- The canonical bytes of keys alone: what is kept of an item, and what is given of it.
 use Rattle.std.specs.Prelude.{ℕ, zero, suc, ◌≡◌, ◌||◌, ◌++◌, if◌then◌else◌, Bool, true, false, List, [], ◌∷◌}
-use Rattle.cbor_builder.specs.Built.{TakesPart}
 use Rattle.cbor_builder.specs.Parts.{Open, plain, an_array, a_map, a_key, a_string, pair, give}
 use Rattle.cbor_head.specs.Canonical.{Pair}
 use Rattle.cbor_head.specs.Spelling as spelling
@@ -125,14 +124,6 @@ keys_stand start g st = KeepsAt g.builder.order g.builder.standing g.inside st
 -- and it was told rightly whether a key is due
 abbrev pub told_stand : Bool → KeyBytes → KeyBytes → Standing → Type 0
 told_stand is_key start g st = keys_stand start g st × (is_key ≡ awaits_key st)
-
--- an item may begin
-abbrev pub MayBegin : KeyBytes → Type 0
-MayBegin g = TakesPart g.builder.standing
-
--- one is due, and may
-abbrev pub IsItemAwaited : Bool → KeyBytes → Type 0
-IsItemAwaited is_key g = (start : KeyBytes) × (ls : List Level) × told_stand is_key start g (item_due ls) × MayBegin g
 
 -- ---- what is given, where it was told so
 

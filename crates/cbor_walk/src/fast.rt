@@ -2,7 +2,7 @@
 //! said.
 
 ghost use Rattle.std.specs.Prelude.{◌≡◌, ◌<◌, ◌≤◌, ◌-◌, ◌*◌, ◌/◌, ◌^◌, ◌∷◌, ℕ, List, IfSome};
-ghost use Rattle.cbor_walk.specs.inner.Leaves.{IsShortestHead, HasShortestHead};
+ghost use Rattle.cbor_walk.specs.inner.Leaves.{HasShortestHead};
 ghost use Rattle.cbor_walk.specs.inner.Items.{IsShortFront, IsShortString};
 
 use crate::level::Due;
@@ -54,7 +54,19 @@ fn head_size(first: u8, rest: &[u8]) -> usize
     if low < 24 {
         return 1;
     }
-    shortest_size(low, &rest[1..])
+    if low > 27 {
+        return 0;
+    }
+    let behind = &rest[1..];
+    match behind.first_chunk::<8>() {
+        Some(chunk) => {
+            if u64::from_be_bytes(*chunk) < least(low) {
+                return 0;
+            }
+            1 + usize::from(argument_bytes(low))
+        }
+        None => 0,
+    }
 }
 
 // Below this, as a number from its first byte on, the argument behind these low bits is not in its
@@ -71,26 +83,6 @@ fn least(low: u8) -> u64
         25 => 1 << 56,
         26 => 1 << 48,
         _ => 1 << 32,
-    }
-}
-
-// How many bytes the head has whose argument stands behind these low bits, if it is in its
-// shortest form; 0 says nothing.
-#[inline(always)]
-fn shortest_size(low: u8, behind: &[u8]) -> usize
-    ensures { 0 < result → IsShortestHead low behind.now result }
-{
-    if low < 24 || low > 27 {
-        return 0;
-    }
-    match behind.first_chunk::<8>() {
-        Some(chunk) => {
-            if u64::from_be_bytes(*chunk) < least(low) {
-                return 0;
-            }
-            1 + usize::from(argument_bytes(low))
-        }
-        None => 0,
     }
 }
 

@@ -7,7 +7,7 @@ ghost use Rattle.cbor_head.specs.declared.major.Major.TheVariants as majors;
 ghost use Rattle.cbor_judging.specs.Levels.{item_due};
 ghost use Rattle.cbor_judging.specs.Reading.{string_value};
 ghost use Rattle.cbor_walk.specs.KeyBytes.{is_kept, behind_item, keys_stand, told_stand};
-ghost use Rattle.cbor_walk.specs.KeyBytes.{IsItemAwaited, GivesTold, OpensTold, EndsTold};
+ghost use Rattle.cbor_walk.specs.KeyBytes.{GivesTold, OpensTold, EndsTold};
 ghost use Rattle.cbor_walk.specs.Sink.{leaf_value, IsItemDue, IsContainerFull};
 ghost use Rattle.cbor_walk.specs.declared.key_bytes.KeyBytes.{KeyBytes as KeyBytesView};
 
@@ -62,12 +62,13 @@ impl KeyBytes {
         count: usize,
     ) -> Result<(), AllocError>
         requires within { count ≤ length front.now }
-        requires due { IsItemAwaited is_key self.old }
+        requires due { IsItemDue KeyBytesView (told_stand is_key) self.old }
         ensures { OnOk result (GivesTold is_key (string_value is_text (take count front.now))
             self.old self.new) }
     {
         if self.keeps(is_key) {
-            self.builder.front_string(string_type(is_text), front, count)?;
+            self.builder
+                .front_string(string_type(is_text), front, count)?;
             self.settle()?;
         }
         Ok(())

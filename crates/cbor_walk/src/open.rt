@@ -1,7 +1,7 @@
 //! What is still to come in an open container, with a length or without.
 
 ghost use Rattle.std.specs.Prelude.{◌≡◌, Some, None, true, false};
-ghost use Rattle.cbor_walk.specs.inner.Building.{after, after_member, counted, endless};
+ghost use Rattle.cbor_walk.specs.inner.Building.{after, counted, endless};
 
 use crate::level::Due;
 
@@ -47,24 +47,14 @@ impl Open {
         ensures full { result ≡ false → after self.old ≡ None }
     {
         match self.due {
-            Due::Item => self.count(),
             Due::Key => {
                 self.due = Due::Value;
-                true
+                return true;
             }
-            Due::Value => {
-                self.due = Due::Key;
-                self.count()
-            }
+            Due::Value => self.due = Due::Key,
+            Due::Item => {}
         }
-    }
-
-    // A member or a pair is whole: whether another is due.
-    #[inline(always)]
-    fn count(&mut self) -> bool
-        ensures more { result ≡ true → after_member self.old ≡ Some self.new }
-        ensures full { result ≡ false → after_member self.old ≡ None }
-    {
+        // A member or a pair is whole.
         if self.left == 0 {
             return self.is_endless;
         }

@@ -1,10 +1,7 @@
 //! The walk.
 
-ghost use Rattle.std.specs.Prelude.{◌≡◌, ◌≤◌, ◌<◌, ◌+◌, ◌^◌, length};
+ghost use Rattle.std.specs.Prelude.{◌≤◌, ◌<◌, ◌+◌, ◌^◌, length};
 ghost use Rattle.cbor_walk.specs.inner.Cells.{StandsAt};
-ghost use Rattle.cbor_head.specs.Verdict.{refusal};
-ghost use Rattle.cbor_head.specs.declared.reason.Reason.TheVariants as reasons;
-ghost use Rattle.cbor_walk.specs.declared.walk.Walked.TheVariants as walked;
 ghost use Rattle.cbor_walk.specs.inner.Stack.{standing};
 ghost use Rattle.cbor_walk.specs.inner.Walked.{IsWalked};
 
@@ -48,18 +45,14 @@ pub(crate) fn walk(
                 match stack.complete(cells, input, order, at) {
                     Next::Item => {}
                     Next::Done => return Walked::Whole(at),
-                    Next::Falls => return falls(stack.top.key, at),
+                    Next::Falls => {
+                        let (place, read) = (stack.top.key as u64, at as u64);
+                        return Walked::Refused(Refusal::new(Reason::KeyOrder, place, read));
+                    }
                 }
             }
             Taken::Refused(refusal) => return Walked::Refused(refusal),
             Taken::Full => return Walked::Full(at),
         }
     }
-}
-
-#[cold]
-fn falls(place: usize, at: usize) -> Walked
-    ensures { result ≡ walked.Refused (refusal reasons.KeyOrder place at) }
-{
-    Walked::Refused(Refusal::new(Reason::KeyOrder, place as u64, at as u64))
 }

@@ -16,7 +16,7 @@ use std::io::Write;
 
 /// Writes the canonical bytes of the item in the file `source` to the output: all of them, or none,
 /// so that a file there is replaced whole or left as it was.
-pub fn canon<'a, F: Folder, O: Write>(
+pub(crate) fn canon<'a, F: Folder, O: Write>(
     alloc: Global,
     files: &mut F,
     out: &mut O,

@@ -22,7 +22,7 @@ use std::io::Write;
 /// Writes the canonical bytes of each item of the sequence that the file `source` is to the output,
 /// one behind another, as they come: a file there is replaced by those of all, or left as it was. Of
 /// what standard output took before a refusal, all stays.
-pub fn canon_sequence<'a, F: Folder, O: Write>(
+pub(crate) fn canon_sequence<'a, F: Folder, O: Write>(
     alloc: Global,
     files: &mut F,
     out: &mut O,

@@ -16,7 +16,7 @@ use std::alloc::Global;
 use std::io::Write;
 
 /// Writes to `out` how many bytes the item has that the file `source` is.
-pub fn check<'a, F: Folder, O: Write>(
+pub(crate) fn check<'a, F: Folder, O: Write>(
     alloc: Global,
     files: &mut F,
     out: &mut O,

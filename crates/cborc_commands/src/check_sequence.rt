@@ -19,7 +19,7 @@ use std::alloc::Global;
 use std::io::{self, Write};
 
 /// Writes to `out` how many items the sequence has that the file `source` is.
-pub fn check_sequence<'a, F: Folder, O: Write>(
+pub(crate) fn check_sequence<'a, F: Folder, O: Write>(
     alloc: Global,
     files: &mut F,
     out: &mut O,

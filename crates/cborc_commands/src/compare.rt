@@ -16,7 +16,7 @@ use std::io::Write;
 
 /// Writes to `out` whether the items that two files are have the same value. Both are read, and
 /// decoded from hex, before either is judged.
-pub fn compare<'a, F: Folder, O: Write>(
+pub(crate) fn compare<'a, F: Folder, O: Write>(
     alloc: Global,
     files: &mut F,
     out: &mut O,

@@ -18,7 +18,7 @@ use std::io::{self, Write};
 
 /// Writes to `out` a line for each event of the item that the file `source` is, but for the pieces
 /// of payloads. What was written before a refusal stays.
-pub fn events<'a, F: Folder, O: Write>(
+pub(crate) fn events<'a, F: Folder, O: Write>(
     alloc: Global,
     files: &mut F,
     out: &mut O,
@@ -55,7 +55,7 @@ fn list<'a, W: Write>(bytes: &[u8], limits: Limits, out: &mut W) -> Result<(), F
 
 /// Writes the lines of the item at the front of the bytes, which start there in the input, and
 /// answers how many bytes it has. The refusal is that of its form.
-pub fn list_front<'a, W: Write>(
+pub(crate) fn list_front<'a, W: Write>(
     bytes: &[u8],
     start: usize,
     limits: Limits,

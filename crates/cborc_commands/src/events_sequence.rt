@@ -23,7 +23,7 @@ use std::io::Write;
 /// for the pieces of payloads, with an empty line in front of each item but the first. The offsets
 /// are counted from the start of the input. What was written before a refusal, or before hex text that
 /// is none, stays.
-pub fn events_sequence<'a, F: Folder, O: Write>(
+pub(crate) fn events_sequence<'a, F: Folder, O: Write>(
     alloc: Global,
     files: &mut F,
     out: &mut O,

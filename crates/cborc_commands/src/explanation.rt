@@ -13,7 +13,7 @@ use std::io::{self, ErrorKind, Write};
 
 /// Writes what the line of a fault means and what to do, and of a refusal the file, the bytes around
 /// its place and the way there. What the answer speaks of stands in the memory.
-pub fn explain<F: Folder, E: Write>(
+pub(crate) fn explain<F: Folder, E: Write>(
     alloc: Global,
     request: &Request<'_>,
     fault: &Fault<'_>,

@@ -83,7 +83,7 @@ impl<'a> Fault<'a> {
     }
 
     /// The fault of reading the file at this path.
-    pub fn of_reading(path: &'a str, fault: FileFault) -> Fault<'a>
+    pub(crate) fn of_reading(path: &'a str, fault: FileFault) -> Fault<'a>
         ensures failed { fault ≡ FileFault.Failed → result ≡ Fault.CannotRead path.entry }
         ensures memory { fault ≡ FileFault.Memory → result ≡ Fault.Memory }
     {
@@ -94,7 +94,7 @@ impl<'a> Fault<'a> {
     }
 
     /// The fault of writing the file at this path.
-    pub fn of_writing(path: &'a str, fault: FileFault) -> Fault<'a>
+    pub(crate) fn of_writing(path: &'a str, fault: FileFault) -> Fault<'a>
         ensures failed { fault ≡ FileFault.Failed → result ≡ Fault.CannotWrite path.entry }
         ensures memory { fault ≡ FileFault.Memory → result ≡ Fault.Memory }
     {
@@ -105,7 +105,7 @@ impl<'a> Fault<'a> {
     }
 
     /// The fault of decoding the file at this path as hex text.
-    pub fn of_digits(path: &'a str, fault: DigitsFault) -> Fault<'a>
+    pub(crate) fn of_digits(path: &'a str, fault: DigitsFault) -> Fault<'a>
         ensures not_hex { IsOfText fault → result ≡ Fault.NotHex path.entry }
         ensures memory { ¬ IsOfText fault → result ≡ Fault.Memory }
     {

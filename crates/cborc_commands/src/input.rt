@@ -18,7 +18,7 @@ const FIRST: u64 = 1_048_577;
 
 /// The first bytes of the input at this path: as many as decide whether it is one item within the
 /// limits, no more than twice as many as the item has, or 2^20 and one. Hex text is read to its end.
-pub fn read_item<'a, F: Folder>(
+pub(crate) fn read_item<'a, F: Folder>(
     alloc: Global,
     files: &mut F,
     path: &'a str,
@@ -38,16 +38,13 @@ pub fn read_item<'a, F: Folder>(
     parts.finish(alloc, files, path)
 }
 
-// How many bytes of a file are read at first: hex text may have white space in front of its digits.
+// How many bytes of a file are read at first: as many as spell a byte more than the limit.
 fn first(hex: bool, limits: Limits) -> u64
     ensures some { 0 < result }
     ensures range { result < 2 ^ 63 }
 {
-    if hex {
-        FIRST
-    } else {
-        FIRST.min(limits.bytes() + 1)
-    }
+    let most = limits.bytes() + 1;
+    FIRST.min(if hex { 2 * most } else { most })
 }
 
 // Whether the input may go on, with what tells more of its first item.

@@ -14,7 +14,7 @@ use std::marker::Model;
 
 /// An input: the bytes of it that were read and are still to be taken.
 #[derive(Drop)]
-pub struct Parts {
+pub(crate) struct Parts {
     bytes: Vec<u8>,
     // How many of them were taken.
     taken: usize,
@@ -39,7 +39,7 @@ impl Model for Parts {
 impl Parts {
     /// The input at this path, of which a first part is read. No part is shorter than this but the
     /// last one.
-    pub fn open<'a, F: Folder>(
+    pub(crate) fn open<'a, F: Folder>(
         alloc: Global,
         files: &mut F,
         path: &'a str,
@@ -76,14 +76,14 @@ impl Parts {
     }
 
     /// The bytes that were read and are still to be taken.
-    pub fn rest(&self) -> &[u8]
+    pub(crate) fn rest(&self) -> &[u8]
         ensures { result.now ≡ self.now.rest }
     {
         &self.bytes[self.taken..]
     }
 
     /// Where in the input they start.
-    pub fn start(&self) -> usize
+    pub(crate) fn start(&self) -> usize
         ensures is { result ≡ self.now.start }
         ensures range { result < 2 ^ 63 }
     {
@@ -91,14 +91,14 @@ impl Parts {
     }
 
     /// Whether the input may go on behind them.
-    pub fn goes_on(&self) -> bool
+    pub(crate) fn goes_on(&self) -> bool
         ensures { result ≡ not self.now.source.ended }
     {
         !self.source.ended
     }
 
     /// Whether there are none, and the input may go on.
-    pub fn is_spent(&self) -> bool
+    pub(crate) fn is_spent(&self) -> bool
         ensures yes { result ≡ true → self.now.source.ended ≡ false }
         ensures no { result ≡ false → self.now.rest ≡ [] → self.now.source.ended ≡ true }
     {
@@ -106,7 +106,7 @@ impl Parts {
     }
 
     /// Takes so many of them.
-    pub fn take(&mut self, size: usize)
+    pub(crate) fn take(&mut self, size: usize)
         requires { size ≤ length self.old.rest }
         ensures rest { self.new.rest ≡ drop size self.old.rest }
         ensures start { self.new.start ≡ self.old.start + size }
@@ -118,7 +118,7 @@ impl Parts {
 
     /// Reads the next part of an input that goes on: as much of its file as bytes are still to be
     /// taken, so that what an item is judged by doubles, or in hex text has half as many more.
-    pub fn read_on<'a, F: Folder>(
+    pub(crate) fn read_on<'a, F: Folder>(
         &mut self,
         alloc: Global,
         files: &mut F,
@@ -146,7 +146,7 @@ impl Parts {
 
     /// The bytes that were read and are still to be taken, once an answer speaks of them: then hex
     /// text is read to its end.
-    pub fn finish<'a, F: Folder>(
+    pub(crate) fn finish<'a, F: Folder>(
         self,
         alloc: Global,
         files: &mut F,

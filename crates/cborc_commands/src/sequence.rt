@@ -20,7 +20,7 @@ use std::alloc::Global;
 use std::io::Write;
 
 /// What is written of each item of a sequence.
-pub trait ItemWriter {
+pub(crate) trait ItemWriter {
     // Which items are taken.
     ghost takes: { Self → Bounds → Spelling → Type 0 };
 
@@ -58,7 +58,7 @@ pub trait ItemWriter {
 /// how many they are. The input is read as far as its items are taken, and hex text to its end: one
 /// that is none is told in place of any other fault. The fault of an item that is refused tells its
 /// number and where it starts; what was written of those before it stays.
-pub fn write_items<'a, V: ItemWriter, F: Folder, W: Write>(
+pub(crate) fn write_items<'a, V: ItemWriter, F: Folder, W: Write>(
     alloc: Global,
     writer: &V,
     files: &mut F,
@@ -111,7 +111,7 @@ fn ends_before(bytes: &[u8], limits: Limits) -> bool
 
 /// What comes of an item that is refused at the front of bytes behind which the input may go on: none
 /// is answered where they end within it.
-pub fn unless_cut<'f>(refusal: Refusal, goes_on: bool) -> Result<Option<usize>, Fault<'f>>
+pub(crate) fn unless_cut<'f>(refusal: Refusal, goes_on: bool) -> Result<Option<usize>, Fault<'f>>
     ensures cut { IfOk result (λ taken. (taken ≡ None) × (goes_on ≡ true)) }
     ensures fault { IfErr result (λ fault. (fault ≡ refusal_fault refusal)
         × (goes_on ≡ true → refusal.reason ≢ reasons.Truncated)) }

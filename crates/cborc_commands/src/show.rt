@@ -22,7 +22,7 @@ use std::alloc::Global;
 use std::io::Write;
 
 /// Writes to `out` the diagnostic text of the item that the file `source` is, and a line feed.
-pub fn show<'a, F: Folder, O: Write>(
+pub(crate) fn show<'a, F: Folder, O: Write>(
     alloc: Global,
     files: &mut F,
     out: &mut O,

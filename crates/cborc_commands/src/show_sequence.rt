@@ -21,7 +21,7 @@ use std::io::Write;
 
 /// Writes to `out` the diagnostic text of each item of the sequence that the file `source` is, with
 /// a line feed behind each. What was written before a refusal, or before hex text that is none, stays.
-pub fn show_sequence<'a, F: Folder, O: Write>(
+pub(crate) fn show_sequence<'a, F: Folder, O: Write>(
     alloc: Global,
     files: &mut F,
     out: &mut O,

@@ -11,11 +11,11 @@ use cborc_files::{Digits, DigitsFault, Folder};
 use std::alloc::Global;
 
 /// How many bytes of a file are read at a time, where an item does not ask for more.
-pub const PART: u64 = 65_536;
+pub(crate) const PART: u64 = 65_536;
 
 /// A file of which a front was read.
 #[derive(Drop)]
-pub struct Source {
+pub(crate) struct Source {
     /// Whether it is hex text.
     pub hex: bool,
     /// How its digits stand, if it is.
@@ -28,7 +28,7 @@ pub struct Source {
 
 impl Source {
     /// One of which nothing was read.
-    pub fn new(hex: bool) -> Source
+    pub(crate) fn new(hex: bool) -> Source
         ensures { IsFresh hex result }
     {
         Source {
@@ -40,7 +40,7 @@ impl Source {
     }
 
     /// Reads its next part, of so many bytes if there are, and appends these, or what they spell.
-    pub fn append<'a, F: Folder>(
+    pub(crate) fn append<'a, F: Folder>(
         &mut self,
         alloc: Global,
         files: &mut F,
@@ -106,7 +106,7 @@ impl Source {
 
     /// Reads hex text to its end, so that there is an input, of which a verdict can speak. What it
     /// spells is let go.
-    pub fn read_out<'a, F: Folder>(
+    pub(crate) fn read_out<'a, F: Folder>(
         &mut self,
         alloc: Global,
         files: &mut F,

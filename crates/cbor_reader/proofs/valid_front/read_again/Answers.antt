@@ -1,4 +1,4 @@
-use Rattle.std.proofs.Common.{sym, ap, ◌∙◌}
+use Rattle.std.proofs.Common.{inr, sym, ap, ◌∙◌}
 use Rattle.cbor_head.specs.declared.reason.Refusal.{Refusal}
 use Rattle.cbor_reader.proofs.WholeItems.{built-of, given-up-unread}
 use Rattle.cbor_reader.proofs.valid_front.read_again.Goals as goal
@@ -11,3 +11,6 @@ returns-in-Read-clause-refused c = given-up-unread c.args.limits c.args.bytes.no
 
 pub returns-in-Read-clause-no_read : goal.returns-in-Read-clause-no_read
 returns-in-Read-clause-no_read c = λ e. cc (sym (ap (λ (f : Refusal). f.reason) c.at.ensures) ∙ e)
+
+pub returns-in-Read-clause-reason : goal.returns-in-Read-clause-reason
+returns-in-Read-clause-reason c = inr (inr (inr (ap (λ (f : Refusal). f.reason) c.at.ensures)))

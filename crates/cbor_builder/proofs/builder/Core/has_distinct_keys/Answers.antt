@@ -4,7 +4,8 @@ use Rattle.std.proofs.lemmas.Result.{IfOk-weaker}
 use Rattle.cbor_builder.specs.inner.Front.{AreFronted}
 use Rattle.cbor_builder.specs.inner.Laid.{pairs_from}
 use Rattle.cbor_buffer.specs.Moved.{meant}
-use Rattle.cbor_builder.proofs.InPlace.{distinct_iff, fronted_keys}
+use Rattle.cbor_builder.proofs.InPlace.{fronted_keys}
+use Rattle.cbor_builder.proofs.InOrder.{distinct_iff}
 use Rattle.cbor_canonical.proofs.Decided.{holds}
 use Rattle.cbor_canonical.proofs.Sorting.{rising_distinct}
 use Rattle.cbor_builder.proofs.builder.Core.has_distinct_keys.Goals as goal

@@ -4,17 +4,17 @@ use Rattle.cbor_item.specs.OpenValues.{give}
 use Rattle.cbor_judging.specs.Reading.{string_value}
 use Rattle.cbor_view.specs.Seen.{standing}
 use Rattle.cbor_walk.specs.KeyBytes.{GivesTold}
-use Rattle.cbor_reader.proofs.ViewGiven.{chunk-awaited, chunk-takes, string-ended}
+use Rattle.cbor_reader.proofs.ViewGiven.{due, takes, whole-due, string-ended}
 use Rattle.cbor_reader.proofs.view_sink.ViewSinkSink.end_string.Goals as goal
 
 pub string-requires-clause-due : goal.string-requires-clause-due
-string-requires-clause-due c = chunk-awaited c.is_key_due-is_key.result c.args.is_text c.args.self.now c.is_key_due-is_key.ensures c.requires.due
+string-requires-clause-due c = due c.is_key_due-is_key.result c.args.self.now c.is_key_due-is_key.ensures (whole-due c.args.is_text c.args.self.now c.requires.due)
 
 pub copied_text-requires : goal.copied_text-requires
-copied_text-requires c = record { takes = chunk-takes c.args.is_text c.args.self.now c.requires.due }
+copied_text-requires c = record { takes = takes c.args.self.now (whole-due c.args.is_text c.args.self.now c.requires.due) }
 
 pub copied_bytes-requires : goal.copied_bytes-requires
-copied_bytes-requires c = record { takes = chunk-takes c.args.is_text c.args.self.now c.requires.due }
+copied_bytes-requires c = record { takes = takes c.args.self.now (whole-due c.args.is_text c.args.self.now c.requires.due) }
 
 pub returns-in_ok-copied_text : goal.returns-in_ok-copied_text
 returns-in_ok-copied_text c =

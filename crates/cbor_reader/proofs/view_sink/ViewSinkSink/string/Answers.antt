@@ -3,11 +3,11 @@ use Rattle.cbor_head.specs.Value.{Value}
 use Rattle.cbor_item.specs.OpenValues.{give}
 use Rattle.cbor_judging.specs.Reading.{string_value}
 use Rattle.cbor_view.specs.Seen.{standing}
-use Rattle.cbor_reader.proofs.ViewGiven.{awaited, takes, given}
+use Rattle.cbor_reader.proofs.ViewGiven.{due, takes, given}
 use Rattle.cbor_reader.proofs.view_sink.ViewSinkSink.string.Goals as goal
 
 pub string-requires-clause-due : goal.string-requires-clause-due
-string-requires-clause-due c = awaited c.is_key_due-is_key.result c.args.self.now c.is_key_due-is_key.ensures c.requires.due
+string-requires-clause-due c = due c.is_key_due-is_key.result c.args.self.now c.is_key_due-is_key.ensures c.requires.due
 
 pub leaf-requires : goal.leaf-requires
 leaf-requires c = record { takes = takes c.args.self.now c.requires.due }

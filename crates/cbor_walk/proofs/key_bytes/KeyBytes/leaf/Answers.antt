@@ -2,7 +2,7 @@ use Rattle.std.proofs.Common.{◌∙◌, sym}
 use Rattle.cbor_head.specs.Head.{shortest_head}
 use Rattle.cbor_walk.specs.Sink.{leaf_value}
 use Rattle.cbor_walk.proofs.CanonGiven.{leaf-bytes}
-use Rattle.cbor_walk.proofs.KeysGiven.{takes, awaited, key-takes, given-kept, given-left}
+use Rattle.cbor_walk.proofs.KeysGiven.{takes, key-takes, given-kept, given-left}
 use Rattle.cbor_walk.proofs.key_bytes.KeyBytes.leaf.Goals as goal
 
 pub leaf-requires-clause-takes : goal.leaf-requires-clause-takes
@@ -11,7 +11,7 @@ leaf-requires-clause-takes c = takes c.args.is_key c.args.self.now c.requires.du
 pub settle-requires : goal.settle-requires
 settle-requires c =
     let old = c.args.self.now in
-    key-takes c.args.is_key (shortest_head c.args.major c.args.number) old (record { builder = c.leaf.new.self; inside = old.inside }) (awaited c.args.is_key old c.requires.due) (sym c.keeps.ensures ∙ c.if-keeps.true) c.in_ok-leaf.ensures
+    key-takes c.args.is_key (shortest_head c.args.major c.args.number) old (record { builder = c.leaf.new.self; inside = old.inside }) c.requires.due (sym c.keeps.ensures ∙ c.if-keeps.true) c.in_ok-leaf.ensures
 
 pub returns-in_ok-settle : goal.returns-in_ok-settle
 returns-in_ok-settle c =

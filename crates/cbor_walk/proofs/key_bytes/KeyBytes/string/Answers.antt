@@ -6,11 +6,11 @@ use Rattle.cbor_head.specs.Head.{shortest_head}
 use Rattle.cbor_head.specs.declared.major.Major.{Major}
 use Rattle.cbor_judging.specs.Reading.{string_major, string_value}
 use Rattle.cbor_walk.proofs.CanonGiven.{string-bytes}
-use Rattle.cbor_walk.proofs.KeysGiven.{key-takes, given-kept, given-left}
+use Rattle.cbor_walk.proofs.KeysGiven.{takes, key-takes, given-kept, given-left}
 use Rattle.cbor_walk.proofs.key_bytes.KeyBytes.string.Goals as goal
 
 pub front_string-requires-clause-takes : goal.front_string-requires-clause-takes
-front_string-requires-clause-takes c = c.requires.due.3
+front_string-requires-clause-takes c = takes c.args.is_key c.args.self.now c.requires.due
 
 pub settle-requires : goal.settle-requires
 settle-requires c =
