@@ -5,7 +5,8 @@ use Rattle.std.proofs.lemmas.Bool.{cases_lt}
 use Rattle.std.proofs.lemmas.List.{length-append, append-nil}
 use Rattle.cbor_head.specs.Head.{head, major_number}
 use Rattle.cbor_head.specs.Limits.{Bounds}
-use Rattle.cbor_head.specs.Spelling.{Spelling, unsigned, negative, bytes, text, byte_chunks, text_chunks, array, a_map, tag, simple, spell, spellings_count, entries_count, IsSpelled, HoldsOrIndefinite}
+use Rattle.cbor_head.specs.Value.{IsIntegerOrText}
+use Rattle.cbor_head.specs.Spelling.{Spelling, unsigned, negative, bytes, text, byte_chunks, text_chunks, array, a_map, tag, simple, spell, spellings_count, entries_count, value_of, IsSpelled, HoldsOrIndefinite}
 use Rattle.cbor_head.specs.Complaint.{Rules, Complaint, OfKinds}
 use Rattle.cbor_head.specs.declared.major.Major.{Major}
 use Rattle.cbor_head.specs.declared.major.Major.TheVariants.{Array, Map, Tag}
@@ -103,7 +104,7 @@ one_head_front (b ∷ bs) y h = λ container some.
 -- ---- the bytes so far, with what was found of the item that is due
 
 module _ (limits : Bounds) (r : Rules) (ls : List Level) (levels : AreLevels limits.depth ls) where
-  basic_due : (s : Spelling) (x z : List ℕ) → IsSpelled s → spell s ≡ x ++ z → (AsksForKinds limits r → IsKeyDueIn ls → HasBasicFront x) → AsksForKinds limits r → IsKeyDueIn ls → 0 < length x → _
+  basic_due : (s : Spelling) (x z : List ℕ) → IsSpelled s → spell s ≡ x ++ z → (AsksForKinds limits r → IsKeyDueIn ls → HasBasicFront x) → AsksForKinds limits r → IsKeyDueIn ls → 0 < length x → IsIntegerOrText (value_of s)
   basic_due s [] z h e basic asked due some = absurd (omega (arith, some))
   basic_due s (b ∷ bs) z h e basic asked due some = byte_basic s h b [] (bs ++ z) (append-nil (spell s) ∙ e) (basic asked due)
 
