@@ -1,5 +1,5 @@
 -- That no key of another kind begins in the bytes so far, from one event to the next.
-use Rattle.std.proofs.Common.{ℕ, ◌+◌, ◌≡◌, ◌<◌, ◌≤◌, List, [], ◌∷◌, ◌++◌, length, refl, sym, ap, ◌∙◌, arith, subst, inl, inr}
+use Rattle.std.proofs.Common.{ℕ, ◌+◌, ◌≡◌, ◌<◌, ◌≤◌, ◌⊎◌, Option, List, [], ◌∷◌, ◌++◌, length, refl, sym, ap, ◌∙◌, arith, subst, inl, inr}
 use Rattle.std.specs.Prelude.{IsTrue}
 use Rattle.std.proofs.lemmas.List.{length-append, append_assoc, append-nil}
 use Rattle.cbor_head.specs.Laws.{StartsWith}
@@ -10,11 +10,13 @@ use Rattle.cbor_head.specs.Spelling.{Spelling, spell, IsSpelled, IsItem, depth, 
 use Rattle.cbor_head.specs.Complaint.{Rules, Complaint, complaint, OfKinds}
 use Rattle.cbor_head.specs.declared.keys.Keys.TheVariants.{Any, IntegersAndTexts}
 use Rattle.cbor_head.specs.declared.reason.Reason.TheVariants.{KeyKind}
+use Rattle.cbor_head.specs.declared.reason.Refusal.{Refusal}
 use Rattle.cbor_grammar.proofs.KeyKinds.{kind_end, kind_later}
 use Rattle.cbor_grammar.proofs.KindsAgree.{same_kinds}
 use Rattle.cbor_grammar.proofs.Parts.{head_of}
 use Rattle.cbor_judging.specs.Frame.{Frame}
-use Rattle.cbor_judging.specs.Kinds.{AsksForKinds, KeepsToKinds, KeepsThroughout, IsKeyDue, plug_all}
+use Rattle.cbor_judging.specs.Kinds.{AsksForKinds, KeepsToKinds, IsKeyDue, plug_all}
+use Rattle.cbor_judging.specs.Reading.{IsMemory, IsReached, IsUndecided, HasCause}
 use Rattle.cbor_judging.specs.OpenMaps.{before_all, ArePath}
 use Rattle.cbor_judging.proofs.KindFrames.{IsOnKey, spell_along, item_along, kind_along, key_along}
 
@@ -22,8 +24,14 @@ use Rattle.cbor_judging.proofs.KindFrames.{IsOnKey, spell_along, item_along, kin
 pub keeps_any : (limits : Bounds) (r : Rules) → limits.keys ≡ Any → (t : List ℕ) → KeepsToKinds limits r t
 keeps_any limits r any t asked s c begins h l = let e : Any ≡ IntegersAndTexts = sym any ∙ asked.1 in cc e
 
-pub keeps_all : (limits : Bounds) (r : Rules) → limits.keys ≡ Any → (t : List ℕ) → KeepsThroughout limits r t
-keeps_all limits r any t p q e = keeps_any limits r any p
+-- no key of another kind begins in the bytes before what refuses them
+abbrev pub KeepsBefore : (r : Rules) (b : Bounds) (bytes : List ℕ) (to : Option (List ℕ)) (f : Refusal) → (IsMemory f × IsReached b bytes × IsUndecided r b [] [] bytes) ⊎ HasCause r b [] [] bytes to f → Type 0
+KeepsBefore r b bytes to f (inl m) = KeepsToKinds b r m.2.p
+KeepsBefore r b bytes to f (inr h) = KeepsToKinds b r h.p
+
+pub keeps_before : (limits : Bounds) (r : Rules) (bytes : List ℕ) (to : Option (List ℕ)) (f : Refusal) (why : (IsMemory f × IsReached limits bytes × IsUndecided r limits [] [] bytes) ⊎ HasCause r limits [] [] bytes to f) → limits.keys ≡ Any → KeepsBefore r limits bytes to f why
+keeps_before limits r bytes to f (inl m) any = keeps_any limits r any m.2.p
+keeps_before limits r bytes to f (inr h) any = keeps_any limits r any h.p
 
 -- no bytes have any key
 pub keeps_start : (limits : Bounds) (r : Rules) → KeepsToKinds limits r []

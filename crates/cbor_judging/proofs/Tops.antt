@@ -19,12 +19,13 @@ use Rattle.cbor_grammar.proofs.Beginnings.{item_decides}
 use Rattle.cbor_standing.proofs.Form.{never}
 use Rattle.cbor_standing.specs.NextEvent.{ItemEventsView}
 use Rattle.cbor_judging.specs.Judged.{IsJudged}
-use Rattle.cbor_judging.specs.Kinds.{AsksForKinds, KeepsToKinds, KeepsThroughout}
+use Rattle.cbor_judging.specs.Kinds.{AsksForKinds, KeepsToKinds}
 use Rattle.cbor_judging.specs.Readers.{IsReadAs, IsUnread, of_verdict, of_reader, of_memory, Loses}
-use Rattle.cbor_judging.specs.Reading.{IsReached, IsMemory, IsCause, Extends, ReadsItem, IsUndecided, StopsItem}
+use Rattle.cbor_judging.specs.Reading.{IsReached, IsMemory, IsCause, HasCause, Extends, ReadsItem, IsUndecided, StopsItem}
 use Rattle.cbor_judging.specs.Refusals.{IsFreeBefore}
 use Rattle.cbor_judging.proofs.FreeBefore.{front-free}
 use Rattle.cbor_judging.proofs.Decisions.{whole_beside, complaint_decides, break_decides, kind_decides}
+use Rattle.cbor_judging.proofs.KindSteps.{KeepsBefore}
 use Rattle.cbor_judging.proofs.Within.{verdict_within}
 use Rattle.cbor_judging.proofs.SpelledBytes.{longest_always}
 
@@ -115,7 +116,7 @@ module _ (r : Rules) (b : Bounds) (input : List ℕ) (from to : Option (List ℕ
 
   -- ---- a refusal
 
-  module _ (f : Refusal) (s : StopsItem r b [] [] [] from to f) (keeps : KeepsThroughout b r s.bytes) where
+  module _ (f : Refusal) (s : StopsItem r b [] [] [] from to f) where
     left : Lost input s.bytes to
     left = lost input s.bytes from to known s.taken
 
@@ -133,8 +134,8 @@ module _ (r : Rules) (b : Bounds) (input : List ℕ) (from to : Option (List ℕ
     flat reason e g = ap (λ (x : Reason). refusal x f.place f.read) e ∙ ap (λ (k : ℕ). refusal reason k f.read) g
 
     -- where all but the last byte taken tells nothing against the item, no complaint ends before
-    free : IsReached b s.bytes → IsUndecided r b [] [] s.bytes → (p : List ℕ) → IsLongestBeginning b.depth (take b.bytes input) p → IsFreeBefore b r p f.read
-    free h u p g =
+    free : IsReached b s.bytes → (u : IsUndecided r b [] [] s.bytes) → KeepsToKinds b r u.p → (p : List ℕ) → IsLongestBeginning b.depth (take b.bytes input) p → IsFreeBefore b r p f.read
+    free h u keeps p g =
         let front : take b.bytes input ≡ s.bytes ++ take (b.bytes - length s.bytes) left.rest = ap (take b.bytes) left.splits ∙ cut_behind b.bytes s.bytes left.rest h.within in
         let (k, is, other) = split_front s.bytes (take (b.bytes - length s.bytes) left.rest) p g.rest (sym front ∙ g.splits) (omega (arith, read-is, short h p g)) in
         let item : IsItem b.depth u.judged.item (u.p ++ u.judged.rest) = subst (λ (m : ℕ). IsItem m u.judged.item (u.p ++ u.judged.rest)) level u.judged.is in
@@ -146,14 +147,14 @@ module _ (r : Rules) (b : Bounds) (input : List ℕ) (from to : Option (List ℕ
 
         later : IsItem b.depth u.judged.item (u.p ++ u.judged.rest) → (c : Complaint) → IsComplaint b r u.judged.item c → length u.p < c.end
         later item c (inl x) = omega (arith, u.judged.finding.1 c x)
-        later item c (inr x) = elim (cases_lt (length u.p) c.end) [ inl l ↦ l | inr l ↦ absurd (keeps u.p u.last u.splits (x.0, x.1) u.judged.item c (u.judged.rest, item) x.2 l) ]
+        later item c (inr x) = elim (cases_lt (length u.p) c.end) [ inl l ↦ l | inr l ↦ absurd (keeps (x.0, x.1) u.judged.item c (u.judged.rest, item) x.2 l) ]
 
-    stopped-for-memory : IsMemory f → IsReached b s.bytes → IsUndecided r b [] [] s.bytes → IsUnread b r input f
-    stopped-for-memory m h u =
+    stopped-for-memory : IsMemory f → IsReached b s.bytes → (u : IsUndecided r b [] [] s.bytes) → KeepsToKinds b r u.p → IsUnread b r input f
+    stopped-for-memory m h u keeps =
         let g = longest_always b.depth (take b.bytes input) in
-        of_memory g.0 g.1 (short h g.0 g.1) (flat Memory m.0 m.1) (free h u g.0 g.1)
+        of_memory g.0 g.1 (short h g.0 g.1) (flat Memory m.0 m.1) (free h u keeps g.0 g.1)
 
-    module _ (p last : List ℕ) (splits : s.bytes ≡ p ++ last) where
+    module _ (p last : List ℕ) (splits : s.bytes ≡ p ++ last) (keeps : KeepsToKinds b r p) where
       input-is : input ≡ p ++ (last ++ left.rest)
       input-is = left.splits ∙ ap (λ (u : List ℕ). u ++ left.rest) splits ∙ append_assoc p last left.rest
 
@@ -164,7 +165,7 @@ module _ (r : Rules) (b : Bounds) (input : List ℕ) (from to : Option (List ℕ
       stopped-by-complaint c j is l =
           let g = longest_always b.depth (take b.bytes input) in
           of_verdict (subst (λ (x : Refusal). IsVerdict b r input (refused x)) (sym is)
-          (complaint_decides b r input p (take (b.bytes - length p) (last ++ left.rest)) g.0 c j (keeps p last splits)
+          (complaint_decides b r input p (take (b.bytes - length p) (last ++ left.rest)) g.0 c j keeps
           (ap (take b.bytes) input-is ∙ cut_behind b.bytes p (last ++ left.rest) (omega (arith, l, shorter))) g.1))
 
       -- the input ends, or the reader failed, within an item
@@ -172,7 +173,7 @@ module _ (r : Rules) (b : Bounds) (input : List ℕ) (from to : Option (List ℕ
           → (f.reason ≡ Read) ⊎ ((f.reason ≡ Truncated) × IsAtEnd to) → IsUnread b r input f
       cut j place v even why =
           let all : length s.bytes ≡ length p = sym read-is ∙ sym even ∙ place in
-          let decided = form_decides b r s.bytes p last (refusal Truncated (length s.bytes) (length s.bytes)) j (keeps p last splits) splits all v in
+          let decided = form_decides b r s.bytes p last (refusal Truncated (length s.bytes) (length s.bytes)) j keeps splits all v in
           elim why [
             | inl e ↦
                 let g = longest_always b.depth (take b.bytes input) in
@@ -198,18 +199,19 @@ module _ (r : Rules) (b : Bounds) (input : List ℕ) (from to : Option (List ℕ
       stopped-by-cause : (found : Option Complaint) → IsJudged r 0 b.depth p found → IsCause b s.bytes to (length p) found f → IsUnread b r input f
       stopped-by-cause (Some c) j h = stopped-by-complaint c j h.0 h.1
       stopped-by-cause None j h = elim h.1 [
-        | inl w ↦ of_verdict (form_decides b r input p (last ++ left.rest) f j (keeps p last splits) input-is h.0 (subst (λ (u : List ℕ). IsVerdict b form u (refused f)) (sym left.splits) (w left.rest))).0
+        | inl w ↦ of_verdict (form_decides b r input p (last ++ left.rest) f j keeps input-is h.0 (subst (λ (u : List ℕ). IsVerdict b form u (refused f)) (sym left.splits) (w left.rest))).0
         | inr w ↦ cut j h.0 w.0 w.1 w.2
       ]
 
-    pub item-unread : IsUnread b r input f
-    item-unread = elim s.why [
-      | inl m ↦ stopped-for-memory m.0 m.1 m.2
-      | inr h ↦ stopped-by-cause h.p h.last h.splits h.found (subst (λ (k : ℕ). IsJudged r 0 k h.p h.found) level h.judged) h.cause
-    ]
+    pub item-unread : KeepsBefore r b s.bytes to f s.why → IsUnread b r input f
+    item-unread = go s.why
       where
         level : b.depth - 0 ≡ b.depth
         level = omega arith
+
+        go : (why : (IsMemory f × IsReached b s.bytes × IsUndecided r b [] [] s.bytes) ⊎ HasCause r b [] [] s.bytes to f) → KeepsBefore r b s.bytes to f why → IsUnread b r input f
+        go (inl m) keeps = stopped-for-memory m.0 m.1 m.2 keeps
+        go (inr h) keeps = stopped-by-cause h.p h.last h.splits keeps h.found (subst (λ (k : ℕ). IsJudged r 0 k h.p h.found) level h.judged) h.cause
 
   -- ---- a key of another kind, of which the first byte was taken
 

@@ -1,5 +1,5 @@
 -- The kinds of keys in the bytes so far of an item.
-use Rattle.std.specs.Prelude.{ℕ, ◌≡◌, ◌<◌, ◌≤◌, ◌^◌, ◌-◌, ◌/◌, ◌%◌, ◌++◌, IsTrue, List, [], ◌∷◌, length}
+use Rattle.std.specs.Prelude.{ℕ, ◌≡◌, ◌<◌, ◌≤◌, ◌^◌, ◌-◌, ◌/◌, ◌%◌, IsTrue, List, [], ◌∷◌, length}
 use Rattle.cbor_head.specs.Limits.{Bounds}
 use Rattle.cbor_head.specs.Laws.{StartsWith}
 use Rattle.cbor_head.specs.Spelling.{Spelling}
@@ -17,10 +17,6 @@ AsksForKinds limits r = IsTrue r.kinds × (limits.keys ≡ IntegersAndTexts)
 -- where it is, no key that begins in these bytes of an item is of another kind
 abbrev pub KeepsToKinds : Bounds → Rules → List ℕ → Type 0
 KeepsToKinds limits r t = AsksForKinds limits r → (s : Spelling) (c : Complaint) → StartsWith limits.depth s t → OfKinds 0 s c → c.end ≤ length t → ⊥
-
--- nor in any front of them
-abbrev pub KeepsThroughout : Bounds → Rules → List ℕ → Type 0
-KeepsThroughout limits r t = (p q : List ℕ) → t ≡ p ++ q → KeepsToKinds limits r p
 
 -- ---- what is due in the open containers, the outermost first
 

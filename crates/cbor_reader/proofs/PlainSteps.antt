@@ -23,7 +23,7 @@ use Rattle.cbor_reader.specs.inner.PlainItems.{AreApart, sets}
 use Rattle.cbor_reader.proofs.Fronts.{front-read}
 use Rattle.cbor_head.specs.declared.keys.Keys.TheVariants.{Any}
 use Rattle.cbor_judging.proofs.Fronts.{front-unread}
-use Rattle.cbor_judging.proofs.KindSteps.{keeps_any, keeps_all}
+use Rattle.cbor_judging.proofs.KindSteps.{keeps_any, keeps_before}
 use Rattle.cbor_reader.specs.inner.HeldKeys.{AreHeld}
 use Rattle.cbor_reader.specs.inner.TreeValues.{IsTreeAt}
 use Rattle.cbor_judging.proofs.Scalars.{at-as}
@@ -112,4 +112,4 @@ pub front-stopped : (b : Bounds) (from to : Option (List ℕ)) (f : Refusal) →
 front-stopped b from to f any s =
     front-unread plain b from to f
     (record { bytes = s.bytes; taken = record { more = s.bytes; consumed = s.consumed; are = refl }; read = s.refused.read; why = s.refused.why })
-    (keeps_all b plain any s.bytes)
+    (keeps_before b plain s.bytes to f s.refused.why any)

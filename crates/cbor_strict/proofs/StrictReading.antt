@@ -35,7 +35,7 @@ use Rattle.cbor_strict.specs.inner.LastKeys.{seen, IsKept}
 use Rattle.cbor_strict.specs.inner.StrictEvents.{StandsSomewhere, IsStep, IsStopped, AnswersStep, IsLittle, bounds_of, piece_unless}
 use Rattle.cbor_strict.proofs.KeptReading.{stands_counted, stands_little}
 use Rattle.cbor_judging.proofs.Fronts.{front-unread, starts-at}
-use Rattle.cbor_judging.proofs.KindSteps.{keeps_all}
+use Rattle.cbor_judging.proofs.KindSteps.{keeps_before}
 use Rattle.cbor_judging.proofs.Reasons.{reader-reason}
 use Rattle.cbor_judging.proofs.Judged.{judged_start}
 use Rattle.cbor_strict.proofs.OpenBegins.{lift}
@@ -83,7 +83,7 @@ stopped_unread o b e t (Some rest) to f any s = r.refused
     r : IsFrontUnread (strict o) b (Some (t ++ rest)) to f
     r = front-unread (strict o) b (Some (t ++ rest)) to f
         (record { bytes = t ++ s.bytes; taken = record { more = t ++ s.bytes; consumed = whole to s.bytes s.consumed; are = refl }; read = s.refused.read; why = s.refused.why })
-        (keeps_all b (strict o) any (t ++ s.bytes))
+        (keeps_before b (strict o) (t ++ s.bytes) to f s.refused.why any)
 
 pub stopped_reason : (o : KeyOrder) (b limits : Bounds) (e : ItemEventsView) (t : List ℕ) (from to : Option (List ℕ)) (f : Refusal) → IsStopped (strict o) b e t from to f → IsReaderReason limits (strict o) f.reason
 stopped_reason o b limits e t from to f s =
