@@ -3,7 +3,7 @@ use Rattle.std.proofs.Common.{◌≡◌, ℕ, ◌-◌, ◌≤◌, ◌⊎◌, Opt
 use Rattle.std.specs.Option.{IfSome}
 use Rattle.std.specs.Io.KnownBytes.{Consumes}
 use Rattle.cbor_head.specs.Head.{head}
-use Rattle.cbor_head.specs.Limits.{Bounds, AreBounds, bounds}
+use Rattle.cbor_head.specs.Limits.{Bounds, AreBounds, bounds, with_keys}
 use Rattle.std.specs.Prelude.{Ok, Err}
 use Rattle.cbor_head.specs.Spelling.{Spelling, IsItem}
 use Rattle.cbor_head.specs.Complaint.{strict, Complains}
@@ -160,8 +160,9 @@ stands_strictly e v t ms h s = record {
 same_bounds : (old new : MachineView) → KeepsLimits old new → bounds_of old ≡ bounds_of new
 same_bounds old new h = ap (λ (d : ℕ). bounds d old.bytes) (sym h.depth) ∙ ap (bounds new.depth) (sym h.bytes)
 
-pub starts_strictly : (limits : Bounds) (e : ItemEventsView) (v : OpenItems) → AreBounds limits → e.refusal ≡ None → (e.machine.depth ≡ limits.depth) × (e.machine.bytes ≡ limits.bytes) → StandsBetween e.machine [] [] → v.left ≡ 0 → IsKept (seen v.keys) [] [] → StandsStrictly (shown e v None) [] []
-starts_strictly limits e v within live same h none kept = stands_strictly e v [] [] h (subst (λ (b : Bounds). Stands v b e []) (ap (λ (d : ℕ). bounds d limits.bytes) (sym same.0) ∙ ap (bounds e.machine.depth) (sym same.1)) (stands_first limits e v within live same h none kept))
+pub starts_strictly : (limits : Bounds) (e : ItemEventsView) (v : OpenItems) → limits.keys ≡ Any → AreBounds limits → e.refusal ≡ None → (e.machine.depth ≡ limits.depth) × (e.machine.bytes ≡ limits.bytes) → StandsBetween e.machine [] [] → v.left ≡ 0 → IsKept (seen v.keys) [] [] → StandsStrictly (shown e v None) [] []
+starts_strictly limits e v any within live same h none kept =
+    stands_strictly e v [] [] h (subst (λ (b : Bounds). Stands v b e []) (ap (with_keys (bounds limits.depth limits.bytes)) any ∙ ap (λ (d : ℕ). bounds d limits.bytes) (sym same.0) ∙ ap (bounds e.machine.depth) (sym same.1)) (stands_first limits e v within live same h none kept))
 
 module _ (e after : ItemEventsView) (v new : OpenItems) (from to : Option (List ℕ)) (limits : KeepsLimits e.machine after.machine) where
   told_strictly : (o : Option Event) (t : List ℕ) (ms : List Mark) → (StandsStrictly (shown e v None) t ms) → IsStep o new (bounds_of e.machine) e after t from to → IsNextStrict (Ok o) (strict_call (shown e v None) (shown after new None) from to t ms)

@@ -1,5 +1,6 @@
-use Rattle.std.proofs.Common.{[], arith}
+use Rattle.std.proofs.Common.{◌≡◌, [], arith}
 use Rattle.cbor_head.specs.Limits.{AreBounds}
+use Rattle.cbor_head.specs.declared.keys.Keys.TheVariants.{Any}
 use Rattle.cbor_strict.specs.inner.StrictEvents.{StandsSomewhere}
 use Rattle.cbor_strict.proofs.StrictReading.{stands_first, starts_strictly, somewhere_little}
 use Rattle.cbor_strict.proofs.strict_events.StrictEvents.new.Goals as goal
@@ -21,4 +22,5 @@ invariant_of-result c =
 pub returns-clause-starts : goal.returns-clause-starts
 returns-clause-starts c =
     let within : AreBounds c.args.limits = (omega arith, omega arith) in
-    starts_strictly c.args.limits c.new.result c.new-2.result within c.new.ensures.live c.new.ensures.limits c.new.ensures.starts c.new-2.ensures.none c.new-2.ensures.kept
+    let any : c.args.limits.keys ≡ Any = search in
+    starts_strictly c.args.limits c.new.result c.new-2.result any within c.new.ensures.live c.new.ensures.limits c.new.ensures.starts c.new-2.ensures.none c.new-2.ensures.kept
