@@ -1,11 +1,11 @@
 -- In which bytes of an item no key begins behind the first of them: of one head, or of what is no container.
-use Rattle.std.proofs.Common.{ℕ, suc, ◌+◌, ◌*◌, ◌-◌, ◌^◌, ◌/◌, ◌%◌, ◌≡◌, ◌<◌, ◌≤◌, Bool, List, [], ◌∷◌, ◌++◌, length, refl, sym, ap, ◌∙◌, arith, subst, inl, inr}
+use Rattle.std.proofs.Common.{ℕ, suc, ◌+◌, ◌*◌, ◌-◌, ◌^◌, ◌/◌, ◌%◌, ◌≡◌, ◌<◌, ◌≤◌, true, false, List, [], ◌∷◌, ◌++◌, length, replicate, refl, sym, ap, ◌∙◌, arith, subst, inl, inr}
 use Rattle.std.specs.Prelude.{IsTrue, Option}
 use Rattle.std.proofs.lemmas.Bool.{cases_lt}
 use Rattle.std.proofs.lemmas.List.{length-append, append-nil}
 use Rattle.cbor_head.specs.Head.{head, major_number}
 use Rattle.cbor_head.specs.Limits.{Bounds}
-use Rattle.cbor_head.specs.Value.{IsIntegerOrText}
+use Rattle.cbor_head.specs.Value.{IsIntegerOrText, AreBytes}
 use Rattle.cbor_head.specs.Spelling.{Spelling, unsigned, negative, bytes, text, byte_chunks, text_chunks, array, a_map, tag, simple, spell, spellings_count, entries_count, value_of, IsSpelled, HoldsOrIndefinite}
 use Rattle.cbor_head.specs.Complaint.{Rules, Complaint, OfKinds}
 use Rattle.cbor_head.specs.declared.major.Major.{Major}
@@ -15,10 +15,18 @@ use Rattle.cbor_head.specs.declared.width.Width.TheVariants.{Direct, One, Two, F
 use Rattle.cbor_grammar.specs.FirstBytes.{is_container}
 use Rattle.cbor_grammar.proofs.KeyKinds.{number_is, byte_basic, kind_later}
 use Rattle.cbor_grammar.proofs.Parts.{body, parts, holds_of}
+use Rattle.cbor_automaton.specs.Automaton as automaton
+use Rattle.cbor_automaton.specs.Automaton.{State, at_item, in_head, in_simple, in_payload, in_chunks, done, run, reached}
+use Rattle.cbor_automaton.proofs.Arguments.{number}
+use Rattle.cbor_automaton.proofs.Taking.{IsWithin, nothing-taken}
+use Rattle.cbor_judging.specs.Frame.{Frame}
 use Rattle.cbor_judging.specs.Judged.{IsJudged}
-use Rattle.cbor_judging.specs.Kinds.{IsOfOneHead, HasBasicFront, AsksForKinds, KeepsToKinds, IsKeyDueIn}
+use Rattle.cbor_judging.specs.Kinds.{IsOfOneHead, HasBasicFront, AsksForKinds, KeepsToKinds, IsKeyDue, IsKeyDueIn}
 use Rattle.cbor_judging.specs.Levels.{Level, AreLevels, bytes_before}
+use Rattle.cbor_judging.specs.OpenMaps.{before_all, ArePath}
+use Rattle.cbor_judging.proofs.Heads.{open_or, zero_bytes, zero_length}
 use Rattle.cbor_judging.proofs.KindLevels.{keeps_in}
+use Rattle.cbor_judging.proofs.KindSteps.{keeps_on}
 
 -- ---- bytes of one head
 
@@ -101,15 +109,52 @@ one_head_front (b ∷ bs) y h = λ container some.
     let g = h container (omega (arith, some, size)) in
     (g.0, g.1, omega (arith, g.2, size))
 
+-- ---- heads
+
+argument_of : (b low k : ℕ) → b % 32 ≡ low → 24 ≤ low → low < 28 → k ≤ 2 ^ (low - 24) → (24 ≤ b % 32) × (b % 32 < 28) × (k ≤ 2 ^ (b % 32 - 24))
+argument_of b low k e l h most = (omega (arith, e, l), omega (arith, e, h), subst (λ (j : ℕ). k ≤ 2 ^ (j - 24)) (sym e) most)
+
+pub head_is_one : (m : Major) (w : Width) (n : ℕ) → HoldsOrIndefinite w n → IsOfOneHead (head m w n)
+head_is_one m Direct n h = λ container some. absurd (omega (arith, some))
+head_is_one m One n h = λ container some. argument_of (32 * major_number m + 24) 24 1 (omega arith) (omega arith) (omega arith) (omega arith)
+head_is_one m Two n h = λ container some. argument_of (32 * major_number m + 25) 25 2 (omega arith) (omega arith) (omega arith) (omega arith)
+head_is_one m Four n h = λ container some. argument_of (32 * major_number m + 26) 26 4 (omega arith) (omega arith) (omega arith) (omega arith)
+head_is_one m Eight n h = λ container some. argument_of (32 * major_number m + 27) 27 8 (omega arith) (omega arith) (omega arith) (omega arith)
+head_is_one m Indefinite n h = λ container some. absurd (omega (arith, some))
+
+-- a head that has begun
+begun_is_one : (d : ℕ) (fs : List automaton.Frame) (q : State) (x : List ℕ) → IsWithin d (at_item fs) q x → IsOfOneHead x
+begun_is_one d fs (in_head false m w k acc gs) x h =
+    let more = replicate (suc k) 0 in
+    let whole = h.3 more (zero_length (suc k)) (zero_bytes (suc k)) in
+    one_head_front x more (subst IsOfOneHead (sym whole.0) (head_is_one m w (number acc more) (open_or w (number acc more) whole.1)))
+begun_is_one d fs (in_head true m w k acc gs) x h = absurd (cc h.0)
+begun_is_one d fs (in_simple gs) x h = subst IsOfOneHead (sym h.1) (λ container some. absurd (omega (arith, some)))
+begun_is_one d fs (at_item gs) x h = subst IsOfOneHead (sym h.1) tt
+begun_is_one d fs (in_payload chunk m n gs) x h = subst IsOfOneHead (sym h.1) tt
+begun_is_one d fs (in_chunks m gs) x h = subst IsOfOneHead (sym h.1) tt
+begun_is_one d fs done x h = subst IsOfOneHead (sym h.1) tt
+
+pub silent_is_one : (d : ℕ) (fs : List automaton.Frame) (q : State) (x : List ℕ) → AreBytes x → run d (at_item fs) x ≡ reached q [] → IsOfOneHead x
+silent_is_one d fs q x b e = begun_is_one d fs q x (nothing-taken d (at_item fs) q x tt b e)
+
 -- ---- the bytes so far, with what was found of the item that is due
 
-module _ (limits : Bounds) (r : Rules) (ls : List Level) (levels : AreLevels limits.depth ls) where
-  basic_due : (s : Spelling) (x z : List ℕ) → IsSpelled s → spell s ≡ x ++ z → (AsksForKinds limits r → IsKeyDueIn ls → HasBasicFront x) → AsksForKinds limits r → IsKeyDueIn ls → 0 < length x → IsIntegerOrText (value_of s)
-  basic_due s [] z h e basic asked due some = absurd (omega (arith, some))
-  basic_due s (b ∷ bs) z h e basic asked due some = byte_basic s h b [] (bs ++ z) (append-nil (spell s) ∙ e) (basic asked due)
+basic_due : {Due : Type 0} → (limits : Bounds) (r : Rules) (s : Spelling) (x z : List ℕ) → IsSpelled s → spell s ≡ x ++ z → (AsksForKinds limits r → Due → HasBasicFront x) → AsksForKinds limits r → Due → 0 < length x → IsIntegerOrText (value_of s)
+basic_due limits r s [] z h e basic asked due some = absurd (omega (arith, some))
+basic_due limits r s (b ∷ bs) z h e basic asked due some = byte_basic s h b [] (bs ++ z) (append-nil (spell s) ∙ e) (basic asked due)
 
+-- where the containers around it are known as frames
+pub keeps_judged_along : (limits : Bounds) (r : Rules) (fs : List Frame) (left : ℕ) → length fs + left ≡ limits.depth → ArePath left fs → (x : List ℕ) (found : Option Complaint) → IsJudged r (length (before_all fs)) left x found → IsOfOneHead x
+    → (AsksForKinds limits r → IsKeyDue fs → HasBasicFront x) → KeepsToKinds limits r (before_all fs) → KeepsToKinds limits r (before_all fs ++ x)
+keeps_judged_along limits r fs left levels path x found j one basic keeps =
+    keeps_on limits r fs left levels path j.item x j.rest j.is.spelled j.is.within j.is.bytes_are (basic_due limits r j.item x j.rest j.is.spelled j.is.bytes_are basic)
+    (kinds_behind j.item j.is.spelled x j.rest j.is.bytes_are one (length (before_all fs))) keeps
+
+-- and as levels
+module _ (limits : Bounds) (r : Rules) (ls : List Level) (levels : AreLevels limits.depth ls) where
   pub keeps_judged : (x : List ℕ) (found : Option Complaint) → IsJudged r (length (bytes_before ls)) (limits.depth - length ls) x found → IsOfOneHead x → (AsksForKinds limits r → IsKeyDueIn ls → HasBasicFront x)
       → KeepsToKinds limits r (bytes_before ls) → KeepsToKinds limits r (bytes_before ls ++ x)
   keeps_judged x found j one basic keeps =
-      keeps_in limits r ls levels j.item x j.rest j.is.spelled j.is.within j.is.bytes_are (basic_due j.item x j.rest j.is.spelled j.is.bytes_are basic)
+      keeps_in limits r ls levels j.item x j.rest j.is.spelled j.is.within j.is.bytes_are (basic_due limits r j.item x j.rest j.is.spelled j.is.bytes_are basic)
       (kinds_behind j.item j.is.spelled x j.rest j.is.bytes_are one (length (bytes_before ls))) keeps
