@@ -2,6 +2,7 @@
 
 ghost use Rattle.std.specs.Prelude.{◌≡◌, MatchResult};
 ghost use Rattle.cbor_head.specs.Complaint.{plain};
+ghost use Rattle.cbor_head.specs.declared.keys.Keys.TheVariants.{Any};
 ghost use Rattle.cbor_item.specs.View.{view};
 ghost use Rattle.cbor_reader.specs.inner.Front.{IsFrontRead};
 ghost use Rattle.cbor_judging.specs.Reading.{IsFrontUnread};
@@ -32,6 +33,7 @@ pub(crate) fn read_plain_front<R: Read>(
         front.canonical.items front.size)
         (λ f. IsFrontUnread plain limits (R.remaining reader.old) (R.remaining reader.new) f) }
 {
+    any_keys(limits);
     let mut events = ItemEvents::new(limits);
     let mut items = PlainItems::new(alloc, order, None);
     match read_parts(alloc, &mut events, &mut items, reader) {
@@ -56,6 +58,7 @@ pub(crate) fn read_item_front<R: Read>(
         (R.remaining reader.old) (R.remaining reader.new) (view answer.0) answer.1)
         (λ f. IsFrontUnread plain limits (R.remaining reader.old) (R.remaining reader.new) f) }
 {
+    any_keys(limits);
     let mut events = ItemEvents::new(limits);
     let tree = Some(TreeBuilder::new(alloc));
     let mut items = PlainItems::new(alloc, KeyOrder::Bytewise, tree);
@@ -68,6 +71,11 @@ pub(crate) fn read_item_front<R: Read>(
         Err(refusal) => Err(refusal),
     }
 }
+
+// What limits ask of keys.
+fn any_keys(limits: Limits)
+    ensures { limits.keys ≡ Any }
+{}
 
 // Takes the parts of the item that are left.
 fn read_parts<R: Read>(

@@ -1,10 +1,9 @@
-use Rattle.std.proofs.Common.{◌≡◌, [], refl, subst, sym, arith}
+use Rattle.std.proofs.Common.{[], refl, subst, sym, arith}
 use Rattle.std.specs.Prelude.{IsSome}
 use Rattle.cbor_head.specs.Complaint.{plain}
 use Rattle.cbor_head.specs.Value.{Value}
 use Rattle.cbor_head.specs.declared.order.KeyOrder.TheVariants.{Bytewise}
 use Rattle.cbor_reader.specs.inner.Front.{IsFrontRead}
-use Rattle.cbor_head.specs.declared.keys.Keys.TheVariants.{Any}
 use Rattle.cbor_judging.proofs.Fronts.{starts-at}
 use Rattle.cbor_reader.proofs.PlainSteps.{due-first, front-whole, front-stopped}
 use Rattle.cbor_reader.proofs.TreeValues.{whole-in, new-tree}
@@ -26,14 +25,12 @@ into_item-item-requires g c =
 
 pub returns-in-Ok : goal.returns-in-Ok
 returns-in-Ok g c =
-    let any : c.args.limits.keys ≡ Any = search in
     let n = c.in-Ok.ensures c.args.limits [] (due-first Bytewise c.new-items.result c.args.limits c.new-events.result c.new-items.ensures.built c.new-items.ensures.starts (new-tree c.new-items.result.tree c.new.result c.new-items.ensures.tree c.new.ensures) c.new-items.ensures.held
     (starts-at c.args.limits c.new-events.result (omega arith, omega arith) c.new-events.ensures.live c.new-events.ensures.limits c.new-events.ensures.starts)) in
     subst (λ (v : Value). IsFrontRead plain c.args.limits (g.R.Read.remaining c.args.reader.now) (g.R.Read.remaining c.read_parts.new.reader) v c.taken-size.result) (sym (c.into_item-item.ensures n.stands.item n.stands.tree))
-    (front-whole c.new-items.result c.read_parts.new.items c.args.limits c.read_parts.new.events _ _ c.taken-size.result (omega arith, omega arith) any n c.taken-size.ensures.taken)
+    (front-whole c.new-items.result c.read_parts.new.items c.args.limits c.read_parts.new.events _ _ c.taken-size.result (omega arith, omega arith) c.any_keys.ensures n c.taken-size.ensures.taken)
 
 pub returns-in-Err : goal.returns-in-Err
 returns-in-Err g c =
-    let any : c.args.limits.keys ≡ Any = search in
-    front-stopped c.args.limits _ _ c.in-Err.refusal any (c.in-Err.ensures c.args.limits [] (due-first Bytewise c.new-items.result c.args.limits c.new-events.result c.new-items.ensures.built c.new-items.ensures.starts (new-tree c.new-items.result.tree c.new.result c.new-items.ensures.tree c.new.ensures) c.new-items.ensures.held
+    front-stopped c.args.limits _ _ c.in-Err.refusal c.any_keys.ensures (c.in-Err.ensures c.args.limits [] (due-first Bytewise c.new-items.result c.args.limits c.new-events.result c.new-items.ensures.built c.new-items.ensures.starts (new-tree c.new-items.result.tree c.new.result c.new-items.ensures.tree c.new.ensures) c.new-items.ensures.held
     (starts-at c.args.limits c.new-events.result (omega arith, omega arith) c.new-events.ensures.live c.new-events.ensures.limits c.new-events.ensures.starts)))

@@ -1,7 +1,6 @@
-use Rattle.std.proofs.Common.{◌≡◌, [], arith}
+use Rattle.std.proofs.Common.{[], arith}
 use Rattle.cbor_judging.specs.Levels.{item_due}
 use Rattle.cbor_reader.proofs.TreeValues.{no-tree}
-use Rattle.cbor_head.specs.declared.keys.Keys.TheVariants.{Any}
 use Rattle.cbor_judging.proofs.Fronts.{starts-at}
 use Rattle.cbor_reader.proofs.PlainSteps.{due-first, front-encoded, front-stopped}
 use Rattle.cbor_reader.proofs.plain_front.read_plain_front.Goals as goal
@@ -16,8 +15,7 @@ read_parts-requires g c = record {
 
 pub returns-in-Ok : goal.returns-in-Ok
 returns-in-Ok g c =
-    let any : c.args.limits.keys ≡ Any = search in
-    front-encoded c.args.order c.new-items.result c.read_parts.new.items c.args.limits c.read_parts.new.events _ _ c.finish-canonical.result.items c.taken-size.result (omega arith, omega arith) any c.new-items.ensures.built
+    front-encoded c.args.order c.new-items.result c.read_parts.new.items c.args.limits c.read_parts.new.events _ _ c.finish-canonical.result.items c.taken-size.result (omega arith, omega arith) c.any_keys.ensures c.new-items.ensures.built
     (c.in-Ok.ensures c.args.limits []
     (due-first c.args.order c.new-items.result c.args.limits c.new-events.result c.new-items.ensures.built c.new-items.ensures.starts (no-tree c.new-items.result.tree (item_due []) c.new-items.ensures.tree) c.new-items.ensures.held
     (starts-at c.args.limits c.new-events.result (omega arith, omega arith) c.new-events.ensures.live c.new-events.ensures.limits c.new-events.ensures.starts)))
@@ -25,8 +23,7 @@ returns-in-Ok g c =
 
 pub returns-in-Err : goal.returns-in-Err
 returns-in-Err g c =
-    let any : c.args.limits.keys ≡ Any = search in
-    front-stopped c.args.limits _ _ c.in-Err.refusal any
+    front-stopped c.args.limits _ _ c.in-Err.refusal c.any_keys.ensures
     (c.in-Err.ensures c.args.limits []
     (due-first c.args.order c.new-items.result c.args.limits c.new-events.result c.new-items.ensures.built c.new-items.ensures.starts (no-tree c.new-items.result.tree (item_due []) c.new-items.ensures.tree) c.new-items.ensures.held
     (starts-at c.args.limits c.new-events.result (omega arith, omega arith) c.new-events.ensures.live c.new-events.ensures.limits c.new-events.ensures.starts)))
