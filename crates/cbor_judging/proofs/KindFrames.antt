@@ -126,8 +126,8 @@ spell_along (f ∷ fs) s =
     let r = spell_along fs s in (
       r.0 ++ behind f,
       spell_plug f (plug_all fs s) ∙ ap (λ (x : List ℕ). before f ++ (x ++ behind f)) r.1
-      ∙ ap (λ (x : List ℕ). before f ++ x) (append_assoc (before_all fs) (spell s ++ r.0) (behind f) ∙ ap (λ (x : List ℕ). before_all fs ++ x) (append_assoc (spell s) r.0 (behind f)))
-      ∙ sym (append_assoc (before f) (before_all fs) (spell s ++ (r.0 ++ behind f))),
+          ∙ ap (λ (x : List ℕ). before f ++ x) (append_assoc (before_all fs) (spell s ++ r.0) (behind f) ∙ ap (λ (x : List ℕ). before_all fs ++ x) (append_assoc (spell s) r.0 (behind f)))
+          ∙ sym (append_assoc (before f) (before_all fs) (spell s ++ (r.0 ++ behind f))),
     )
 
 pub item_along : (fs : List Frame) (s : Spelling) (d : ℕ) → ArePath d fs → IsSpelled s → depth s ≤ d → IsSpelled (plug_all fs s) × (depth (plug_all fs s) ≤ length fs + d)
