@@ -35,7 +35,7 @@ returns-in-Ok-None-clause-listed g c =
     let inv = c.lines.invariant in
     let h = inv.3 in
     let end = no-event _ _ _ _ _ _ _ _ c.in-Ok-None.field-0 c.in-Ok-None.field-0-is (c.in-Ok-None.ensures.answers inv.2 h.t h.marks h.between) in
-    listed-within _ _ _ c.lines.events.machine _ _ _ _ inv.0 inv.1 (all-listed _ _ _ _ _ _ _ _ _ _ _ _ h end c.taken-in-Ok-None.ensures.taken)
+    listed-within _ c.args.limits c.lines.events.machine _ _ _ _ inv.0 inv.1 (all-listed _ _ _ _ _ _ _ _ _ _ _ _ h end c.taken-in-Ok-None.ensures.taken)
 
 pub returns-in-Ok-None-clause-taken : goal.returns-in-Ok-None-clause-taken
 returns-in-Ok-None-clause-taken g c =
@@ -49,7 +49,7 @@ returns-in-Err-clause-refused g c =
     let inv = c.lines.invariant in
     let h = inv.3 in
     let no = (c.in-Err.ensures.answers inv.2 h.t h.marks h.between).1 in
-    unlisted-within _ _ _ c.next.new.self.machine _ _ _ _ (c.next.ensures.limits.depth ∙ inv.0) (c.next.ensures.limits.bytes ∙ inv.1) (refused-unlisted _ _ _ _ _ _ _ _ _ _ _ h c.in-Err.refusal no)
+    unlisted-within _ c.args.limits c.next.new.self.machine _ _ _ _ (c.next.ensures.limits.depth ∙ inv.0) (c.next.ensures.limits.bytes ∙ inv.1) (refused-unlisted _ _ _ _ _ _ _ _ _ _ _ h c.in-Err.refusal no)
 
 pub returns-in-Err-clause-read : goal.returns-in-Err-clause-read
 returns-in-Err-clause-read g c =
@@ -66,7 +66,7 @@ returns-in-Err-write_whole-clause-refused g c =
     let text = c.as_slice-text.ensures.value ∙ c.line_of-line.ensures in
     let count = c.in-Err-write_whole.count in
     let stopped = c.in-Err-write_whole.ensures in
-    unlisted-within _ _ _ c.next.new.self.machine _ _ _ _ (c.next.ensures.limits.depth ∙ inv.0) (c.next.ensures.limits.bytes ∙ inv.1)
+    unlisted-within _ c.args.limits c.next.new.self.machine _ _ _ _ (c.next.ensures.limits.depth ∙ inv.0) (c.next.ensures.limits.bytes ∙ inv.1)
     (stopped-unlisted _ _ _ _ _ _ _ _ _ _ count _ _ c.in-Ok-Some.event h _ next
     (subst (λ (xs : List ℕ). count < length xs) text stopped.0)
     (subst (λ (xs : List ℕ). Appends (g.W.Write.contents c.lines.writer) (g.W.Write.contents c.write_whole.new.writer) (take count xs)) text stopped.1)
