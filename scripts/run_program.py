@@ -36,6 +36,8 @@ def words():
         faults.append("a wrong word: status 2 wanted")
     if run(["compare", "-", "-"]).returncode != 2:
         faults.append("standard input twice: status 2 wanted")
+    for word in (b"x\xff", b"a" * 5000 + b"\xff"):
+        expect("a word that is not UTF-8", run(["check", "-", word, b"\xff"]), 2, b"", b"word 3 is not UTF-8\n")
     version = run(["--version"])
     with open(os.path.join(ROOT, "VERSION"), "rb") as file:
         wanted = b"cborc " + file.read()

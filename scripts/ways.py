@@ -111,6 +111,11 @@ class Sources:
         found = self.files.get((crate, modules)) or self.files.get((crate, ("lib",)))
         return self.named(found, name) if found and found is not file else None
 
+    def having(self, file, owner, name):
+        """Of a type's file and those of the modules in it the one that has a method of the type, or none."""
+        inside = [it for (crate, parts), it in self.files.items() if crate == file.crate and parts[:len(file.parts)] == file.parts]
+        return next((it for it in [file, *inside] if (owner, name) in it.bodies), None)
+
     def way(self, file, owner, name):
         """The files of its crate in the order in which a function and what it calls reach them; and what these call or use
         of other crates."""
@@ -134,9 +139,9 @@ class Sources:
         found = []
         for dot, path, name in re.findall(r"(\.)?((?:\w+::)*)(\w+)(?:::<[^>]*>)?\(", body):
             if dot:
-                own = (owner, name) in file.bodies and re.search(rf"\bself\.{name}\(", body)
-                others = [(of, word) for word, of in in_sight.items() if of and word != owner and (word, name) in of.bodies]
-                holders = [(file, owner)] if own else others
+                on_self = re.search(rf"\bself\.{name}\(", body) and self.having(in_sight.get(owner) or file, owner, name)
+                others = [(self.having(of, word, name), word) for word, of in in_sight.items() if of and word != owner]
+                holders = [(on_self, owner)] if on_self else [it for it in others if it[0]]
                 if len(holders) == 1:
                     found.append((holders[0][0], holders[0][1], name))
                 continue

@@ -13,6 +13,7 @@ mod tests;
 
 use cborc_commands::{Fault, end};
 use cborc_disk::Disk;
+use cborc_words::no_text::fault_of_words;
 use cborc_words::run::run;
 use std::io::BufWriter;
 use std::process::ExitCode;
@@ -28,7 +29,7 @@ fn main(rt: HostRuntime) -> ExitCode {
             }
             Err(_) => end(Err(Fault::Memory), &mut err),
         },
-        Err(error) => end(Err(Fault::of_words(&error)), &mut err),
+        Err(error) => end(Err(fault_of_words(rt.alloc(), &rt, &error)), &mut err),
     };
     ExitCode::from(status)
 }

@@ -1,19 +1,18 @@
 -- Why no item is taken at the front of some bytes, however these go on.
 use Rattle.std.proofs.Common.{ℕ, ◌≡◌, ◌≢◌, ◌⊎◌, inl, inr, Bool, true, false, List, [], ◌++◌, Option, refl, sym, ap, ◌∙◌, subst}
-use Rattle.std.proofs.lemmas.List.{append_assoc, append-nil}
+use Rattle.std.proofs.lemmas.List.{append-nil}
 use Rattle.cbor_head.specs.Complaint.{Rules, plain}
 use Rattle.cbor_head.specs.Limits.{Bounds}
-use Rattle.cbor_head.specs.Spelling.{Spelling, spell}
 use Rattle.cbor_head.specs.Verdict.{refused, IsVerdict}
 use Rattle.cbor_head.specs.declared.order.KeyOrder.{KeyOrder}
 use Rattle.cbor_head.specs.declared.reason.Reason.TheVariants.{Truncated}
 use Rattle.cbor_head.specs.declared.reason.Refusal.{Refusal}
 use Rattle.cbor_judging.specs.Readers.{IsUnread, of_verdict, of_reader, of_memory}
-use Rattle.cbor_reader.specs.Sequence.{IsAccepted}
 use Rattle.cborc_commands.specs.CanonSequence.{unread}
 use Rattle.cborc_commands.specs.Fault.{IsOfInput, refusal_fault}
 use Rattle.cborc_commands.specs.declared.fault.Fault.{Fault}
 use Rattle.cborc_commands.specs.declared.request.Form.{Form}
+use Rattle.cborc_commands.specs.declared.request.Layout.{Layout}
 use Rattle.cborc_commands.specs.inner.Items.{IsUncounted, IsUnwritten, IsItemNotShown}
 use Rattle.cborc_commands.proofs.Decided.{further}
 use Rattle.cborc_commands.proofs.Faults.{refusal_is}
@@ -47,11 +46,6 @@ module _ (b : Bounds) (front behind : List ℕ) (f : Refusal) (known : IsSettled
   uncanonical o form out h =
       refusal_is (λ (x : Fault). IsUnwritten b o form (front ++ behind) x out out) f fault is (λ own. (unread (unread_further b plain front behind f known own h), own, refl)) refl
 
-  pub item_not_shown : (out : Option (List ℕ)) → IsUnread b plain front f → IsItemNotShown b (front ++ behind) fault out out
-  item_not_shown out h =
-      refusal_is (λ (x : Fault). IsItemNotShown b (front ++ behind) x out out) f fault is (λ own. (unread_further b plain front behind f known own h, own, refl)) tt
-
--- an item at the front is at that of all
-pub accepted_further : (b : Bounds) (r : Rules) (front behind : List ℕ) → (item : Spelling) × (rest : List ℕ) × IsAccepted b r item × (spell item ++ rest ≡ front)
-    → (item : Spelling) × (rest : List ℕ) × IsAccepted b r item × (spell item ++ rest ≡ front ++ behind)
-accepted_further b r front behind (item, rest, is, e) = (item, rest ++ behind, is, sym (append_assoc (spell item) rest behind) ∙ ap (λ (xs : List ℕ). xs ++ behind) e)
+  pub item_not_shown : (layout : Layout) (out : Option (List ℕ)) → IsUnread b plain front f → IsItemNotShown b layout (front ++ behind) fault out out
+  item_not_shown layout out h =
+      refusal_is (λ (x : Fault). IsItemNotShown b layout (front ++ behind) x out out) f fault is (λ own. (unread_further b plain front behind f known own h, own, refl)) refl

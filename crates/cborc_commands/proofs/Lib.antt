@@ -10,6 +10,7 @@ mod Places
 mod ReadParts
 mod Runs
 mod Sent
+mod Shown
 mod Sources
 mod Stopped
 mod Taken

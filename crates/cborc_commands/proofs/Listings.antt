@@ -18,7 +18,7 @@ use Rattle.cbor_standing.proofs.Form.{never}
 use Rattle.cbor_reader.specs.Sequence.{IsAccepted}
 use Rattle.cborc_commands.specs.Events.{IsNotListed}
 use Rattle.cborc_commands.specs.inner.Listed.{IsFrontNotListed}
-use Rattle.cborc_commands.specs.EventsSequence.{gap, item_lines, before_all, within}
+use Rattle.cborc_commands.specs.EventsSequence.{gap, item_lines, before_all, within, listed_to, listed_short}
 use Rattle.cborc_commands.specs.Fault.{IsOfInput}
 use Rattle.cborc_commands.specs.declared.fault.Fault.{Fault}
 use Rattle.cborc_commands.specs.declared.fault.Fault.TheVariants as faults
@@ -85,11 +85,28 @@ module _ (start : ℕ) (limits : Bounds) (bytes : List ℕ) (before middle after
       appends_more before middle after (gap start) out g a,
     )
 
+    listed_in_part : (f : Refusal) → f.read ≤ length bytes → IsUnlisted start limits bytes f middle after → IsItemNotListed limits start (bytes ++ behind) faults.Memory before after
+    listed_in_part f l (of_verdict out v t a) = (
+      gap start ++ out,
+      listed_to f.place out (subst (λ (x : List ℕ). IsListing start limits.depth x out) (sym (take-append-le f.place bytes behind (place_within limits bytes f v))) t) refl,
+      appends_more before middle after (gap start) out g a,
+    )
+    listed_in_part f l (of_reader out e v t a) = (
+      gap start ++ out,
+      listed_to f.read out (subst (λ (x : List ℕ). IsListing start limits.depth x out) (sym (take-append-le f.read bytes behind l)) t) refl,
+      appends_more before middle after (gap start) out g a,
+    )
+    listed_in_part f l (of_writer out e s a) = (
+      gap start ++ out,
+      listed_short (within f.read out (subst (λ (x : List ℕ). IsStopped start limits.depth x out) (sym (take-append-le f.read bytes behind l)) s) refl),
+      appends_more before middle after (gap start) out g a,
+    )
+
     pub item_not_listed : ((f : Refusal) → IsVerdict limits form bytes (refused f) → IsSettled behind f) → (fault : Fault) → IsFrontNotListed start limits bytes middle after fault
         → IsItemNotListed limits start (bytes ++ behind) fault before after
     item_not_listed known (faults.Refused f) (own, apart, u, l) = refused_so f own apart (known f) u
     item_not_listed known faults.CannotPrint (f, u, l, e) = cut_off f e l u
-    item_not_listed known faults.Memory h = tt
+    item_not_listed known faults.Memory (f, u, l) = listed_in_part f l u
     item_not_listed known _ h = absurd h
 
 -- the output failed in front of the lines

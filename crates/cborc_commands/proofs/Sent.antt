@@ -4,18 +4,19 @@ use Rattle.std.specs.Io.KnownBytes.{Appends, Keeps}
 use Rattle.std.proofs.KnownBytes.{Keeps-trans}
 use Rattle.cbor_diag.specs.Listing.{IsListed, IsUnlisted, of_verdict, of_reader, of_writer}
 use Rattle.cbor_head.specs.Limits.{Bounds}
+use Rattle.cbor_head.specs.Spelling.{Spelling}
 use Rattle.cbor_head.specs.declared.order.KeyOrder.{KeyOrder}
 use Rattle.cbor_head.specs.declared.reason.Refusal.{Refusal}
 use Rattle.cborc_commands.specs.Answer.{IsDone, IsNotDone}
 use Rattle.cborc_commands.specs.Canon.{IsPut, printed, written}
-use Rattle.cborc_commands.specs.CanonSequence.{IsSent, passed, apart, IsCutIn, IsSentSoFar, of_items, of_cut, IsSequenceNotCanonised}
+use Rattle.cborc_commands.specs.CanonSequence.{IsSent, passed, apart, IsSequenceNotCanonised}
 use Rattle.cborc_commands.specs.Compare.{IsTold}
 use Rattle.cborc_commands.specs.Events.{IsNotListed, IsNotListedOf}
-use Rattle.cborc_commands.specs.EventsSequence.{IsSequenceNotListed}
+use Rattle.cborc_commands.specs.EventsSequence.{IsListedSoFar, items_listed, front_listed, IsSequenceNotListed}
 use Rattle.cborc_files.specs.Folder.{Files}
+use Rattle.cborc_commands.specs.Sequences.{IsCutIn, IsTakenSoFar, of_items, of_cut}
 use Rattle.cborc_commands.specs.ShowSequence.{IsSequenceNotShown}
 use Rattle.cborc_commands.specs.Told.{IsSilent}
-use Rattle.cborc_commands.specs.declared.request.Form.{Form}
 use Rattle.cborc_commands.specs.declared.request.Layout.{Layout}
 use Rattle.cborc_commands.specs.declared.request.Options.{Options}
 use Rattle.cborc_commands.specs.declared.request.Output.{Output}
@@ -71,6 +72,22 @@ module _ (before mid after : Option (List ℕ)) (keeps : Keeps mid after) where
   events_sent options source held faults.Memory h = h
   events_sent options source held _ h = absurd h
 
+  cut_sent : (P : Spelling → Type 0) (text : Spelling → List ℕ) (bytes : List ℕ) → IsCutIn P text bytes before mid → IsCutIn P text bytes before after
+  cut_sent P text bytes h = record {
+    items = h.items;
+    last = h.last;
+    rest = h.rest;
+    starts = h.starts;
+    count = h.count;
+    part = h.part;
+    taken = appends_kept before mid after _ h.taken keeps;
+  }
+
+  so_far_sent : (P : Spelling → Type 0) (text : Spelling → List ℕ) (options : Options) (source : List ℕ) (held : Option Files) → IsTakenSoFar P text options source held before mid
+      → IsTakenSoFar P text options source held before after
+  so_far_sent P text options source held (of_items items first a) = of_items items first (appends_kept before mid after _ a keeps)
+  so_far_sent P text options source held (of_cut front is c) = of_cut front is (cut_sent P text front c)
+
   shown_sent : (layout : Layout) (options : Options) (source : List ℕ) (held : Option Files) (fault : Fault) → IsSequenceNotShown layout options source held before mid fault
       → IsSequenceNotShown layout options source held before after fault
   shown_sent layout options source held (faults.RefusedItem index start f) h = record {
@@ -83,11 +100,16 @@ module _ (before mid after : Option (List ℕ)) (keeps : Keeps mid after) where
     of_input = h.of_input;
     shown = appends_kept before mid after _ h.shown keeps;
   }
-  shown_sent layout options source held faults.CannotPrint h = h
-  shown_sent layout options source held (faults.CannotRead named) h = h
-  shown_sent layout options source held (faults.NotHex named) h = h
-  shown_sent layout options source held faults.Memory h = h
-  shown_sent layout options source held _ h = absurd h
+  shown_sent layout options source held faults.CannotPrint (input, is, h) = (input, is, cut_sent _ _ input h)
+  shown_sent layout options source held (faults.CannotRead named) (h, w) = (h, so_far_sent _ _ options source held w)
+  shown_sent layout options source held (faults.NotHex named) (h, w) = (h, so_far_sent _ _ options source held w)
+  shown_sent layout options source held faults.Memory (h, w) = (h, so_far_sent _ _ options source held w)
+  shown_sent layout options source held _ h = absurd h.0
+
+  lines_so_far_sent : (options : Options) (source : List ℕ) (held : Option Files) → IsListedSoFar options source held before mid → IsListedSoFar options source held before after
+  lines_so_far_sent options source held (items_listed items first a) = items_listed items first (appends_kept before mid after _ a keeps)
+  lines_so_far_sent options source held (front_listed front is items rest starts shown l a) =
+      front_listed front is items rest starts shown l (appends_kept before mid after _ a keeps)
 
   lines_sent : (options : Options) (source : List ℕ) (held : Option Files) (fault : Fault) → IsSequenceNotListed options source held before mid fault
       → IsSequenceNotListed options source held before after fault
@@ -114,30 +136,14 @@ module _ (before mid after : Option (List ℕ)) (keeps : Keeps mid after) where
     cut = h.cut;
     listed = appends_kept before mid after _ h.listed keeps;
   }
-  lines_sent options source held (faults.CannotRead named) h = h
-  lines_sent options source held (faults.NotHex named) h = h
-  lines_sent options source held faults.Memory h = h
-  lines_sent options source held _ h = absurd h
+  lines_sent options source held (faults.CannotRead named) (h, w) = (h, lines_so_far_sent options source held w)
+  lines_sent options source held (faults.NotHex named) (h, w) = (h, lines_so_far_sent options source held w)
+  lines_sent options source held faults.Memory (h, w) = (h, lines_so_far_sent options source held w)
+  lines_sent options source held _ h = absurd h.0
 
-  texts_sent : (path text : List ℕ) → IsSent path before mid text → IsSent path before after text
-  texts_sent path text (passed s a) = passed s (appends_kept before mid after text a keeps)
-  texts_sent path text (apart s k) = apart s (Keeps-trans before mid after k keeps)
-
-  cut_sent : (limits : Bounds) (o : KeyOrder) (form : Form) (bytes : List ℕ) → IsCutIn limits o form bytes before mid → IsCutIn limits o form bytes before after
-  cut_sent limits o form bytes h = record {
-    items = h.items;
-    last = h.last;
-    rest = h.rest;
-    starts = h.starts;
-    count = h.count;
-    part = h.part;
-    taken = appends_kept before mid after _ h.taken keeps;
-  }
-
-  so_far_sent : (o : KeyOrder) (options : Options) (source : List ℕ) (output : Output) (held : Option Files) → IsSentSoFar o options source output held before mid
-      → IsSentSoFar o options source output held before after
-  so_far_sent o options source output held (of_items items first s) = of_items items first (texts_sent output.path.now _ s)
-  so_far_sent o options source output held (of_cut s front is c) = of_cut s front is (cut_sent options.limits o output.form front c)
+  passed_on : (path : List ℕ) (taken more : Type 0) → (taken → more) → IsSent path before mid taken → IsSent path before after more
+  passed_on path taken more f (passed s t) = passed s (f t)
+  passed_on path taken more f (apart s k) = apart s (Keeps-trans before mid after k keeps)
 
   canonised_sent : (o : KeyOrder) (options : Options) (source : List ℕ) (output : Output) (held : Option Files) (fault : Fault)
       → IsSequenceNotCanonised o options source output held before mid fault → IsSequenceNotCanonised o options source output held before after fault
@@ -149,13 +155,13 @@ module _ (before mid after : Option (List ℕ)) (keeps : Keeps mid after) where
     goes_on = h.goes_on;
     refused = h.refused;
     of_input = h.of_input;
-    sent = texts_sent output.path.now _ h.sent;
+    sent = passed_on output.path.now _ _ (λ t. appends_kept before mid after _ t keeps) h.sent;
   }
-  canonised_sent o options source output held faults.CannotPrint (s, (input, is, h)) = (s, (input, is, cut_sent options.limits o output.form input h))
+  canonised_sent o options source output held faults.CannotPrint (s, (input, is, h)) = (s, (input, is, cut_sent _ _ input h))
   canonised_sent o options source output held (faults.CannotWrite named) (s, t, k) = (s, t, Keeps-trans before mid after k keeps)
-  canonised_sent o options source output held (faults.CannotRead named) (h, w) = (h, so_far_sent o options source output held w)
-  canonised_sent o options source output held (faults.NotHex named) (h, w) = (h, so_far_sent o options source output held w)
-  canonised_sent o options source output held faults.Memory (h, w) = (h, so_far_sent o options source output held w)
+  canonised_sent o options source output held (faults.CannotRead named) (h, w) = (h, passed_on output.path.now _ _ (so_far_sent _ _ options source held) w)
+  canonised_sent o options source output held (faults.NotHex named) (h, w) = (h, passed_on output.path.now _ _ (so_far_sent _ _ options source held) w)
+  canonised_sent o options source output held faults.Memory (h, w) = (h, passed_on output.path.now _ _ (so_far_sent _ _ options source held) w)
   canonised_sent o options source output held _ h = absurd h.0
 
   pub done_sent : (request : Request) (old new : Option Files) (s : Status) → IsDone request old new before mid s → IsDone request old new before after s

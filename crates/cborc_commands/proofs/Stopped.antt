@@ -1,5 +1,5 @@
 -- Which fault of a sequence comes of the fault of an item.
-use Rattle.std.proofs.Common.{ℕ, ◌≡◌, ◌≢◌, ◌∙◌, inl, inr, true, false, List, [], ◌∷◌, ◌++◌, length, take, Option, flat_map, refl, sym, ap, subst, arith}
+use Rattle.std.proofs.Common.{ℕ, ◌≡◌, ◌≢◌, ◌⊎◌, ◌∙◌, inl, inr, true, false, List, [], ◌∷◌, ◌++◌, take, Option, flat_map, refl, sym, ap, subst, arith}
 use Rattle.std.specs.Borrow.{Bor}
 use Rattle.std.specs.Prelude.{IfSome}
 use Rattle.std.specs.Io.KnownBytes.{Appends}
@@ -10,15 +10,15 @@ use Rattle.cbor_head.specs.Spelling.{Spelling}
 use Rattle.cbor_head.specs.declared.order.KeyOrder.{KeyOrder}
 use Rattle.cbor_reader.specs.Sequence.{IsAccepted}
 use Rattle.cborc_commands.specs.Canon.{printed, written}
-use Rattle.cborc_commands.specs.CanonSequence.{HasCanonicalBytes, canonical_text, canonical_texts, IsSequenceCanonised, IsSent, passed, apart, IsCutIn, IsCutShort, IsSentSoFar, of_items, of_cut, HasFirstTexts, IsSequenceNotCanonised}
+use Rattle.cborc_commands.specs.CanonSequence.{HasCanonicalBytes, canonical_text, canonical_texts, IsSequenceCanonised, IsSent, passed, apart, HasFirstTexts, IsSequenceNotCanonised}
 use Rattle.cborc_commands.specs.CheckSequence.{IsSequenceNotChecked}
-use Rattle.cborc_commands.specs.EventsSequence.{item_lines, all_lines, IsSequenceNotListed}
+use Rattle.cborc_commands.specs.EventsSequence.{item_lines, all_lines, IsListedInPart, listed_to, listed_short, IsListedSoFar, items_listed, front_listed, IsSequenceNotListed}
 use Rattle.cborc_commands.specs.Fault.{at_item}
 use Rattle.cborc_files.specs.Folder.{Files, is_stream, IsBlank, KeepsFiles, ReplacesFile}
 use Rattle.cborc_files.specs.declared.folder.FileFault.{FileFault}
 use Rattle.cborc_files.specs.declared.folder.FileFault.TheVariants as file_faults
 use Rattle.cborc_commands.specs.Input.{IsInput, IsFront, IsNoInput}
-use Rattle.cborc_commands.specs.Sequences.{texts_from, AreFirst}
+use Rattle.cborc_commands.specs.Sequences.{texts_from, AreFirst, IsCutIn, IsCutShort, IsTakenSoFar, of_items, of_cut}
 use Rattle.cborc_commands.specs.ShowSequence.{item_text, IsSequenceShown, IsSequenceNotShown}
 use Rattle.cborc_commands.specs.declared.fault.Fault.{Fault}
 use Rattle.cborc_commands.specs.declared.fault.Fault.TheVariants as faults
@@ -29,7 +29,7 @@ use Rattle.cborc_commands.specs.inner.Items.{AreStopped, AreWrittenOf, AreStoppe
 use Rattle.cborc_commands.proofs.Files.{input_before, front_before, input_front, no_input_before, replaced_by}
 use Rattle.cborc_commands.proofs.Items.{texts_anywhere, appends_more, one_more_starts}
 
--- ---- `canon --seq`
+-- ---- any sequence
 
 -- what a later state of the same files gives, an earlier one did
 module _ (takes : Spelling → Type 0) (text : ℕ → Spelling → List ℕ) (options : Options) (source : List ℕ) (a b : Option Files) (keeps : KeepsFiles a b) (from to : Option (List ℕ)) where
@@ -48,22 +48,54 @@ module _ (takes : Spelling → Type 0) (text : ℕ → Spelling → List ℕ) (o
       behind_no_input (no_input_before a b source options.hex fault keeps why) front (front_before a b source options.hex front keeps is) cause h
   stopped_before stops fault (within input is h) = within input (input_before a b source options.hex input keeps is) h
 
+-- behind items of these bytes, whose texts were taken, comes one that is not taken, or not all of its text was
+module _ (takes : Spelling → Type 0) (text : Spelling → List ℕ) (from to : Option (List ℕ)) where
+  took : (middle : Option (List ℕ)) (items : List Spelling) → Appends from middle (texts_from (λ start. text) 0 items) → Appends from middle (flat_map text items)
+  took middle items w = subst (Appends from middle) (texts_anywhere text 0 items) w
+
+  module _ (stops : ℕ → List ℕ → Fault → Option (List ℕ) → Option (List ℕ) → Type 0) (n : ℕ) (bytes : List ℕ) (fault : Fault)
+      (h : AreStopped takes (λ start. text) stops n bytes from to fault) where
+    took_so_far : to ≡ h.middle → Appends from to (flat_map text h.items)
+    took_so_far same = subst (λ (x : Option (List ℕ)). Appends from x (flat_map text h.items)) (sym same) (took h.middle h.items h.written)
+
+    cut_in : IsCutText takes text h.rest h.middle to → IsCutIn takes text bytes from to
+    cut_in t = record {
+      items = h.items;
+      last = t.item;
+      rest = t.rest;
+      starts = (one_more_starts takes bytes h.items h.rest h.goes_on.starts t.item t.rest t.has t.bytes_are).0;
+      count = t.count;
+      part = t.part;
+      taken = appends_more from h.middle to (flat_map text h.items) (take t.count (text t.item)) (took h.middle h.items h.written) t.taken;
+    }
+
+    so_far : (options : Options) (source : List ℕ) (held : Option Files) → IsFront held source options.hex bytes → (to ≡ h.middle) ⊎ IsCutText takes text h.rest h.middle to
+        → IsTakenSoFar takes text options source held from to
+    so_far options source held is (inl same) = of_items h.items (inr (bytes, h.rest, is, h.goes_on.starts)) (took_so_far same)
+    so_far options source held is (inr cut) = of_cut bytes is (cut_in cut)
+
+-- ---- `canon --seq`
+
 module _ (o : KeyOrder) (options : Options) (source : List ℕ) (output : Output) (held : Option Files) where
   abbrev Has : Spelling → Type 0
   Has = HasCanonicalBytes options.limits o
 
-  abbrev text_of : ℕ → Spelling → List ℕ
-  text_of start = canonical_text o output.form
+  abbrev text_of : Spelling → List ℕ
+  text_of = canonical_text o output.form
 
   abbrev Unwritten : ℕ → List ℕ → Fault → Option (List ℕ) → Option (List ℕ) → Type 0
   Unwritten start = IsUnwritten options.limits o output.form
 
-  module _ (from to : Option (List ℕ)) where
-    took : (middle : Option (List ℕ)) (items : List Spelling) → Appends from middle (texts_from text_of 0 items) → Appends from middle (canonical_texts o output.form items)
-    took middle items w = subst (Appends from middle) (texts_anywhere (canonical_text o output.form) 0 items) w
+  -- an item that is not written leaves what was taken, or a part of its text
+  left : (bytes : List ℕ) (middle to : Option (List ℕ)) (cause : Fault) → IsUnwritten options.limits o output.form bytes cause middle to → (to ≡ middle) ⊎ IsCutText Has text_of bytes middle to
+  left bytes middle to (faults.Refused f) why = inl why.2
+  left bytes middle to faults.CannotPrint why = inr why
+  left bytes middle to faults.Memory why = inl why
+  left bytes middle to _ why = absurd why
 
+  module _ (from to : Option (List ℕ)) where
     -- all was written
-    module _ (count : ℕ) (w : AreWrittenOf Has text_of options source held from to count) where
+    module _ (count : ℕ) (w : AreWrittenOf Has (λ start. text_of) options source held from to count) where
       pub all_first : HasFirstTexts o options source held
       all_first = record { input = w.input; is = w.is; items = w.written.items; rest = []; starts = w.written.all.starts; some = inr w.written.all }
 
@@ -73,7 +105,7 @@ module _ (o : KeyOrder) (options : Options) (source : List ℕ) (output : Output
         is = w.is;
         items = w.written.items;
         all = w.written.all;
-        put = printed s (took to w.written.items w.written.written) k;
+        put = printed s (took Has text_of from to to w.written.items w.written.written) k;
       }
 
       pub all_replaced : (mid new : Option Files) → is_stream output.path.now ≡ false → IsBlank held from → KeepsFiles held mid → IfSome to (ReplacesFile mid new output.path.now)
@@ -83,71 +115,23 @@ module _ (o : KeyOrder) (options : Options) (source : List ℕ) (output : Output
         is = w.is;
         items = w.written.items;
         all = w.written.all;
-        put = written s (replaced_by held mid new from to output.path.now (canonical_texts o output.form w.written.items) blank k (took to w.written.items w.written.written) r) (Keeps-refl out);
+        put = written s (replaced_by held mid new from to output.path.now (canonical_texts o output.form w.written.items) blank k (took Has text_of from to to w.written.items w.written.written) r) (Keeps-refl out);
       }
-
-    module _ (fault : Fault) (input : List ℕ) (h : AreStopped Has text_of Unwritten options.limits.bytes input from to fault) where
-      why_so : (cause : Fault) → h.cause ≡ cause → Unwritten h.start h.rest cause h.middle to
-      why_so cause e = subst (λ (x : Fault). Unwritten h.start h.rest x h.middle to) e h.stopped
-
-      took_so_far : to ≡ h.middle → Appends from to (canonical_texts o output.form h.items)
-      took_so_far same = subst (λ (x : Option (List ℕ)). Appends from x (canonical_texts o output.form h.items)) (sym same) (took h.middle h.items h.written)
-
-      cut_in : IsCutText options.limits o output.form h.rest h.middle to → IsCutIn options.limits o output.form input from to
-      cut_in t = record {
-        items = h.items;
-        last = t.item;
-        rest = t.rest;
-        starts = (one_more_starts Has input h.items h.rest h.goes_on.starts t.item t.rest t.has t.bytes_are).0;
-        count = t.count;
-        part = t.part;
-        taken =
-            appends_more from h.middle to (canonical_texts o output.form h.items) (take t.count (canonical_text o output.form t.item)) (took h.middle h.items h.written) t.taken;
-      }
-
-      cut_there : (cause : Fault) → h.cause ≡ cause → at_item h.index h.start cause ≡ faults.CannotPrint → IsCutIn options.limits o output.form input from to
-      cut_there (faults.Refused f) e is = cc is
-      cut_there faults.CannotPrint e is = cut_in (why_so faults.CannotPrint e)
-      cut_there faults.Memory e is = cc is
-      cut_there _ e is = absurd (why_so _ e)
-
-      -- what standard output took, by what was written
-      module _ (before after : Option (List ℕ)) (sends : (text : List ℕ) → Appends from to text → IsSent output.path.now before after text)
-          (cut : fault ≡ faults.CannotPrint → IsSequenceNotCanonised o options source output held before after faults.CannotPrint) (is : IsInput held source options.hex input)
-          (first : AreFirst Has options source held h.items) where
-        by_cause : (cause : Fault) → h.cause ≡ cause → IsSequenceNotCanonised o options source output held before after (at_item h.index h.start cause)
-        by_cause (faults.Refused f) e =
-            let why = why_so (faults.Refused f) e in
-            record {
-              input = input;
-              is = is;
-              items = h.items;
-              rest = h.rest;
-              goes_on = h.goes_on;
-              refused = why.0;
-              of_input = why.1;
-              sent = sends (canonical_texts o output.form h.items) (took_so_far why.2);
-            }
-        by_cause faults.CannotPrint e = cut (h.fault_is ∙ ap (at_item h.index h.start) e)
-        by_cause faults.Memory e = (tt, of_items h.items first (sends (canonical_texts o output.form h.items) (took_so_far (why_so faults.Memory e))))
-        by_cause _ e = absurd (why_so _ e)
-
-      -- the same where these bytes are a front alone
-      module _ (before after : Option (List ℕ)) (sends : (text : List ℕ) → Appends from to text → IsSent output.path.now before after text)
-          (first : AreFirst Has options source held h.items) (cut : IsCutIn options.limits o output.form input from to → IsSentSoFar o options source output held before after) where
-        so_far_by : (cause : Fault) → h.cause ≡ cause → IsSentSoFar o options source output held before after
-        so_far_by (faults.Refused f) e = of_items h.items first (sends (canonical_texts o output.form h.items) (took_so_far (why_so (faults.Refused f) e).2))
-        so_far_by faults.CannotPrint e = cut (cut_in (why_so faults.CannotPrint e))
-        so_far_by faults.Memory e = of_items h.items first (sends (canonical_texts o output.form h.items) (took_so_far (why_so faults.Memory e)))
-        so_far_by _ e = absurd (why_so _ e)
 
     module _ (fault : Fault) where
-      cut_of : AreStoppedOf Has text_of Unwritten options source held from to fault → fault ≡ faults.CannotPrint → IsCutShort o output.form options source held from to
+      cut_there : (input : List ℕ) (h : AreStopped Has (λ start. text_of) Unwritten options.limits.bytes input from to fault) (cause : Fault)
+          → IsUnwritten options.limits o output.form h.rest cause h.middle to → at_item h.index h.start cause ≡ faults.CannotPrint → IsCutIn Has text_of input from to
+      cut_there input h (faults.Refused f) why is = cc is
+      cut_there input h faults.CannotPrint why is = cut_in Has text_of from to Unwritten options.limits.bytes input fault h why
+      cut_there input h faults.Memory why is = cc is
+      cut_there input h _ why is = absurd why
+
+      cut_of : AreStoppedOf Has (λ start. text_of) Unwritten options source held from to fault → fault ≡ faults.CannotPrint → IsCutShort Has text_of options source held from to
       cut_of (no_input why w) e = absurd (subst (IsNoInput held source options.hex) e why)
       cut_of (behind_no_input why front is cause h) e = absurd (subst (IsNoInput held source options.hex) e why)
-      cut_of (within input is h) e = (input, is, cut_there fault input h h.cause refl (sym h.fault_is ∙ e))
+      cut_of (within input is h) e = (input, is, cut_there input h h.cause h.stopped (sym h.fault_is ∙ e))
 
-      pub first_written : AreStoppedOf Has text_of Unwritten options source held from to fault → fault ≡ faults.CannotPrint → HasFirstTexts o options source held
+      pub first_written : AreStoppedOf Has (λ start. text_of) Unwritten options source held from to fault → fault ≡ faults.CannotPrint → HasFirstTexts o options source held
       first_written h e =
           let c = cut_of h e in
           record {
@@ -159,33 +143,47 @@ module _ (o : KeyOrder) (options : Options) (source : List ℕ) (output : Output
             some = inl (omega (arith, length-append c.2.items (c.2.last ∷ [])));
           }
 
-      module _ (before after : Option (List ℕ)) (sends : (text : List ℕ) → Appends from to text → IsSent output.path.now before after text)
-          (cut : fault ≡ faults.CannotPrint → IsSequenceNotCanonised o options source output held before after faults.CannotPrint)
-          (cut_front : (items : List Spelling) → AreFirst Has options source held items → (front : List ℕ) → IsFront held source options.hex front
-          → IsCutIn options.limits o output.form front from to → IsSentSoFar o options source output held before after) where
-        none_more : (x : Fault) → IsNoInput held source options.hex x → IsSentSoFar o options source output held before after → IsSequenceNotCanonised o options source output held before after x
-        none_more (faults.CannotRead named) why w = (why, w)
-        none_more (faults.NotHex named) why w = (why, w)
-        none_more faults.Memory why w = (why, w)
+      -- what standard output took, by what was written
+      module _ (before after : Option (List ℕ)) (sends : (text : List ℕ) → Appends from to text → IsSent output.path.now before after (Appends before after text))
+          (sends_so_far : IsTakenSoFar Has text_of options source held from to → IsSent output.path.now before after (IsTakenSoFar Has text_of options source held before after))
+          (cut : fault ≡ faults.CannotPrint → IsSequenceNotCanonised o options source output held before after faults.CannotPrint) where
+        by_cause : (input : List ℕ) → IsInput held source options.hex input → (h : AreStopped Has (λ start. text_of) Unwritten options.limits.bytes input from to fault) (cause : Fault)
+            → h.cause ≡ cause → IsUnwritten options.limits o output.form h.rest cause h.middle to → IsSequenceNotCanonised o options source output held before after (at_item h.index h.start cause)
+        by_cause input is h (faults.Refused f) e why = record {
+          input = input;
+          is = is;
+          items = h.items;
+          rest = h.rest;
+          goes_on = h.goes_on;
+          refused = why.0;
+          of_input = why.1;
+          sent = sends (canonical_texts o output.form h.items) (took_so_far Has text_of from to Unwritten options.limits.bytes input fault h why.2);
+        }
+        by_cause input is h faults.CannotPrint e why = cut (h.fault_is ∙ ap (at_item h.index h.start) e)
+        by_cause input is h faults.Memory e why =
+            (tt, sends_so_far (so_far Has text_of from to Unwritten options.limits.bytes input fault h options source held (input_front held source options.hex input is) (inl why)))
+        by_cause input is h _ e why = absurd why
+
+        none_more : (x : Fault) → IsNoInput held source options.hex x → IsTakenSoFar Has text_of options source held from to → IsSequenceNotCanonised o options source output held before after x
+        none_more (faults.CannotRead named) why w = (why, sends_so_far w)
+        none_more (faults.NotHex named) why w = (why, sends_so_far w)
+        none_more faults.Memory why w = (why, sends_so_far w)
         none_more _ why w = absurd why
 
-        by_stop : AreStoppedOf Has text_of Unwritten options source held from to fault → IsSequenceNotCanonised o options source output held before after fault
-        by_stop (no_input why w) = none_more fault why (of_items w.items w.first (sends (canonical_texts o output.form w.items) (took to w.items w.written)))
+        by_stop : AreStoppedOf Has (λ start. text_of) Unwritten options source held from to fault → IsSequenceNotCanonised o options source output held before after fault
+        by_stop (no_input why w) = none_more fault why (of_items w.items w.first (took Has text_of from to to w.items w.written))
         by_stop (behind_no_input why front is cause h) =
-            let first : AreFirst Has options source held h.items = inr (front, h.rest, is, h.goes_on.starts) in
-            none_more fault why (so_far_by cause front h before after sends first (cut_front h.items first front is) h.cause refl)
+            none_more fault why (so_far Has text_of from to Unwritten options.limits.bytes front cause h options source held is (left h.rest h.middle to h.cause h.stopped))
         by_stop (within input is h) =
-            subst (IsSequenceNotCanonised o options source output held before after) (sym h.fault_is)
-            (by_cause fault input h before after sends cut is (inr (input, h.rest, input_front held source options.hex input is, h.goes_on.starts)) h.cause refl)
+            subst (IsSequenceNotCanonised o options source output held before after) (sym h.fault_is) (by_cause input is h h.cause refl h.stopped)
 
-      pub not_printed : is_stream output.path.now ≡ true → AreStoppedOf Has text_of Unwritten options source held from to fault
+      pub not_printed : is_stream output.path.now ≡ true → AreStoppedOf Has (λ start. text_of) Unwritten options source held from to fault
           → IsSequenceNotCanonised o options source output held from to fault
-      not_printed s h = by_stop from to (λ text a. passed s a) (λ e. (s, cut_of h e)) (λ items first front is c. of_cut s front is c) h
+      not_printed s h = by_stop from to (λ text a. passed s a) (λ w. passed s w) (λ e. (s, cut_of h e)) h
 
-      pub not_replaced : is_stream output.path.now ≡ false → AreStoppedOf Has text_of Unwritten options source held from to fault → fault ≢ faults.CannotPrint
+      pub not_replaced : is_stream output.path.now ≡ false → AreStoppedOf Has (λ start. text_of) Unwritten options source held from to fault → fault ≢ faults.CannotPrint
           → (out : Option (List ℕ)) → IsSequenceNotCanonised o options source output held out out fault
-      not_replaced s h other out =
-          by_stop out out (λ text a. apart s (Keeps-refl out)) (λ e. absurd (other e)) (λ items first front is c. of_items items first (apart s (Keeps-refl out))) h
+      not_replaced s h other out = by_stop out out (λ text a. apart s (Keeps-refl out)) (λ w. apart s (Keeps-refl out)) (λ e. absurd (other e)) h
 
   -- the file failed, or memory did
   module _ (s : is_stream output.path.now ≡ false) (t : HasFirstTexts o options source held) (path : Bor (List ℕ)) (same : path.now ≡ output.path.now) (fault : Fault) (out : Option (List ℕ)) where
@@ -194,64 +192,89 @@ module _ (o : KeyOrder) (options : Options) (source : List ℕ) (output : Output
     not_written file_faults.Failed failed memory =
         subst (IsSequenceNotCanonised o options source output held out out) (sym (failed refl)) ((s, same), t, Keeps-refl out)
     not_written file_faults.Memory failed memory =
-        subst (IsSequenceNotCanonised o options source output held out out) (sym (memory refl))
-        (tt, of_items t.items (inr (t.input, t.rest, input_front held source options.hex t.input t.is, t.starts)) (apart s (Keeps-refl out)))
+        subst (IsSequenceNotCanonised o options source output held out out) (sym (memory refl)) (tt, apart s (Keeps-refl out))
 
   -- memory was refused before anything was read
   pub none_begun : is_stream output.path.now ≡ false → (out : Option (List ℕ)) → IsSequenceNotCanonised o options source output held out out faults.Memory
-  none_begun s out = (tt, of_items [] (inl refl) (apart s (Keeps-refl out)))
+  none_begun s out = (tt, apart s (Keeps-refl out))
 
 -- ---- `show --seq`
 
 module _ (layout : Layout) (options : Options) (source : List ℕ) (held : Option Files) (before after : Option (List ℕ)) where
-  pub sequence_shown : (count : ℕ) → AreWrittenOf (IsAccepted options.limits plain) (λ start. item_text layout) options source held before after count
+  abbrev Valid : Spelling → Type 0
+  Valid = IsAccepted options.limits plain
+
+  abbrev Unshown : ℕ → List ℕ → Fault → Option (List ℕ) → Option (List ℕ) → Type 0
+  Unshown start = IsItemNotShown options.limits layout
+
+  pub sequence_shown : (count : ℕ) → AreWrittenOf Valid (λ start. item_text layout) options source held before after count
       → IsSequenceShown layout options source held before after
   sequence_shown count w = record {
     input = w.input;
     is = w.is;
     items = w.written.items;
     all = w.written.all;
-    shown = subst (Appends before after) (texts_anywhere (item_text layout) 0 w.written.items) w.written.written;
+    shown = took Valid (item_text layout) before after after w.written.items w.written.written;
   }
 
+  unshown_left : (bytes : List ℕ) (middle : Option (List ℕ)) (cause : Fault) → IsItemNotShown options.limits layout bytes cause middle after
+      → (after ≡ middle) ⊎ IsCutText Valid (item_text layout) bytes middle after
+  unshown_left bytes middle (faults.Refused f) why = inl why.2
+  unshown_left bytes middle faults.CannotPrint why = inr why
+  unshown_left bytes middle faults.Memory why = inl why
+  unshown_left bytes middle _ why = absurd why
+
   module _ (fault : Fault) where
-    not_shown_by : (input : List ℕ) → IsInput held source options.hex input
-        → (h : AreStopped (IsAccepted options.limits plain) (λ start. item_text layout) (λ start. IsItemNotShown options.limits) options.limits.bytes input before after fault)
-        → (cause : Fault) → h.cause ≡ cause → IsSequenceNotShown layout options source held before after (at_item h.index h.start cause)
-    not_shown_by input is h (faults.Refused f) e =
-        let why = subst (λ (x : Fault). IsItemNotShown options.limits h.rest x h.middle after) e h.stopped in
-        record {
-          input = input;
-          is = is;
-          items = h.items;
-          rest = h.rest;
-          goes_on = h.goes_on;
-          refused = why.0;
-          of_input = why.1;
-          shown = subst (λ (x : Option (List ℕ)). Appends before x (flat_map (item_text layout) h.items)) (sym why.2) (subst (Appends before h.middle) (texts_anywhere (item_text layout) 0 h.items) h.written);
-        }
-    not_shown_by input is h faults.CannotPrint e =
-        let why = subst (λ (x : Fault). IsItemNotShown options.limits h.rest x h.middle after) e h.stopped in
-        let more = one_more_starts (IsAccepted options.limits plain) input h.items h.rest h.goes_on.starts why.0 why.1 why.2 why.3 in
-        record { input = input; is = is; items = h.items ++ why.0 ∷ []; rest = why.1; starts = more.0; some = more.1 }
-    not_shown_by input is h faults.Memory e = tt
-    not_shown_by input is h _ e = absurd (subst (λ (x : Fault). IsItemNotShown options.limits h.rest x h.middle after) e h.stopped)
+    not_shown_by : (input : List ℕ) → IsInput held source options.hex input → (h : AreStopped Valid (λ start. item_text layout) Unshown options.limits.bytes input before after fault)
+        → (cause : Fault) → IsItemNotShown options.limits layout h.rest cause h.middle after → IsSequenceNotShown layout options source held before after (at_item h.index h.start cause)
+    not_shown_by input is h (faults.Refused f) why = record {
+      input = input;
+      is = is;
+      items = h.items;
+      rest = h.rest;
+      goes_on = h.goes_on;
+      refused = why.0;
+      of_input = why.1;
+      shown = took_so_far Valid (item_text layout) before after Unshown options.limits.bytes input fault h why.2;
+    }
+    not_shown_by input is h faults.CannotPrint why = (input, is, cut_in Valid (item_text layout) before after Unshown options.limits.bytes input fault h why)
+    not_shown_by input is h faults.Memory why =
+        (tt, so_far Valid (item_text layout) before after Unshown options.limits.bytes input fault h options source held (input_front held source options.hex input is) (inl why))
+    not_shown_by input is h _ why = absurd why
 
-    none_shown : (x : Fault) → IsNoInput held source options.hex x → IsSequenceNotShown layout options source held before after x
-    none_shown (faults.CannotRead named) h = h
-    none_shown (faults.NotHex named) h = h
-    none_shown faults.Memory h = h
-    none_shown _ h = absurd h
+    none_shown : (x : Fault) → IsNoInput held source options.hex x → IsTakenSoFar Valid (item_text layout) options source held before after
+        → IsSequenceNotShown layout options source held before after x
+    none_shown (faults.CannotRead named) why w = (why, w)
+    none_shown (faults.NotHex named) why w = (why, w)
+    none_shown faults.Memory why w = (why, w)
+    none_shown _ why w = absurd why
 
-    pub sequence_not_shown : AreStoppedOf (IsAccepted options.limits plain) (λ start. item_text layout) (λ start. IsItemNotShown options.limits) options source held before after fault
+    pub sequence_not_shown : AreStoppedOf Valid (λ start. item_text layout) Unshown options source held before after fault
         → IsSequenceNotShown layout options source held before after fault
-    sequence_not_shown (no_input h w) = none_shown fault h
-    sequence_not_shown (behind_no_input h front is cause w) = none_shown fault h
-    sequence_not_shown (within input is h) = subst (IsSequenceNotShown layout options source held before after) (sym h.fault_is) (not_shown_by input is h h.cause refl)
+    sequence_not_shown (no_input why w) = none_shown fault why (of_items w.items w.first (took Valid (item_text layout) before after after w.items w.written))
+    sequence_not_shown (behind_no_input why front is cause h) =
+        none_shown fault why
+        (so_far Valid (item_text layout) before after Unshown options.limits.bytes front cause h options source held is (unshown_left h.rest h.middle h.cause h.stopped))
+    sequence_not_shown (within input is h) = subst (IsSequenceNotShown layout options source held before after) (sym h.fault_is) (not_shown_by input is h h.cause h.stopped)
 
 -- ---- `events --seq`
 
 module _ (options : Options) (source : List ℕ) (held : Option Files) (before after : Option (List ℕ)) (fault : Fault) where
+  listed_part : (start : ℕ) (bytes : List ℕ) (middle : Option (List ℕ)) (cause : Fault) → IsItemNotListed options.limits start bytes cause middle after
+      → (shown : List ℕ) × IsListedInPart start options.limits bytes shown × Appends middle after shown
+  listed_part start bytes middle (faults.Refused f) (shown, why, own, a) = (shown, listed_to f.place why.so_far why.listing why.is, a)
+  listed_part start bytes middle faults.CannotPrint (shown, why, a) = (shown, listed_short why, a)
+  listed_part start bytes middle faults.Memory why = why
+  listed_part start bytes middle _ why = absurd why
+
+  lines_so_far : (front : List ℕ) → IsFront held source options.hex front → (told : Fault)
+      → AreStopped (IsAccepted options.limits form) item_lines (IsItemNotListed options.limits) options.limits.bytes front before after told
+      → IsListedSoFar options source held before after
+  lines_so_far front is told h =
+      let part = listed_part h.start h.rest h.middle h.cause h.stopped in
+      front_listed front is h.items h.rest h.goes_on.starts part.0 (subst (λ (k : ℕ). IsListedInPart k options.limits h.rest part.0) h.goes_on.start_is part.1)
+      (appends_more before h.middle after (all_lines h.items) part.0 h.written part.2)
+
   not_listed_by : (input : List ℕ) → IsInput held source options.hex input
       → (h : AreStopped (IsAccepted options.limits form) item_lines (IsItemNotListed options.limits) options.limits.bytes input before after fault)
       → (cause : Fault) → h.cause ≡ cause → IsSequenceNotListed options source held before after (at_item h.index h.start cause)
@@ -282,19 +305,19 @@ module _ (options : Options) (source : List ℕ) (held : Option Files) (before a
         cut = why.1;
         listed = appends_more before h.middle after (all_lines h.items) why.0 h.written why.2;
       }
-  not_listed_by input is h faults.Memory e = tt
+  not_listed_by input is h faults.Memory e = (tt, lines_so_far input (input_front held source options.hex input is) fault h)
   not_listed_by input is h _ e = absurd (subst (λ (x : Fault). IsItemNotListed options.limits h.start h.rest x h.middle after) e h.stopped)
 
-  none_listed : (x : Fault) → IsNoInput held source options.hex x → IsSequenceNotListed options source held before after x
-  none_listed (faults.CannotRead named) h = h
-  none_listed (faults.NotHex named) h = h
-  none_listed faults.Memory h = h
-  none_listed _ h = absurd h
+  none_listed : (x : Fault) → IsNoInput held source options.hex x → IsListedSoFar options source held before after → IsSequenceNotListed options source held before after x
+  none_listed (faults.CannotRead named) why w = (why, w)
+  none_listed (faults.NotHex named) why w = (why, w)
+  none_listed faults.Memory why w = (why, w)
+  none_listed _ why w = absurd why
 
   pub sequence_not_listed : AreStoppedOf (IsAccepted options.limits form) item_lines (IsItemNotListed options.limits) options source held before after fault
       → IsSequenceNotListed options source held before after fault
-  sequence_not_listed (no_input h w) = none_listed fault h
-  sequence_not_listed (behind_no_input h front is cause w) = none_listed fault h
+  sequence_not_listed (no_input why w) = none_listed fault why (items_listed w.items w.first w.written)
+  sequence_not_listed (behind_no_input why front is cause h) = none_listed fault why (lines_so_far front is cause h)
   sequence_not_listed (within input is h) = subst (IsSequenceNotListed options source held before after) (sym h.fault_is) (not_listed_by input is h h.cause refl)
 
 -- ---- `check --seq`

@@ -30,9 +30,6 @@ module _ (limits : Bounds) (rules : Rules) (bytes : List ℕ) (size : ℕ) (h : 
   pub item_accepted : IsAccepted limits rules h.item
   item_accepted = is_accepted limits rules bytes h.item h.verdict
 
-  pub at_front : (item : Spelling) × (rest : List ℕ) × IsAccepted limits rules item × (spell item ++ rest ≡ bytes)
-  at_front = (h.item, drop (length (spell h.item)) bytes, item_accepted, splits limits rules bytes h.item h.verdict)
-
   pub written_of : (takes : Spelling → Type 0) (text : Spelling → List ℕ) (before after : Option (List ℕ)) → takes h.item → Appends before after (text h.item)
       → IsWritten takes text bytes size before after
   written_of takes text before after t w = record {
@@ -42,6 +39,21 @@ module _ (limits : Bounds) (rules : Rules) (bytes : List ℕ) (size : ℕ) (h : 
     bytes_are = splits limits rules bytes h.item h.verdict;
     size_is = h.size;
     written = w;
+  }
+
+  -- not all of its text was taken
+  pub cut_of : (takes : Spelling → Type 0) (text : Spelling → List ℕ) (before after : Option (List ℕ)) (behind : List ℕ) → takes h.item
+      → (count : ℕ) × (count < length (text h.item)) × Appends before after (take count (text h.item)) → IsCutText takes text (bytes ++ behind) before after
+  cut_of takes text before after behind t (count, part, w) = record {
+    item = h.item;
+    rest = drop (length (spell h.item)) bytes ++ behind;
+    has = t;
+    bytes_are =
+        sym (append_assoc (spell h.item) (drop (length (spell h.item)) bytes) behind)
+        ∙ ap (λ (x : List ℕ). x ++ behind) (splits limits rules bytes h.item h.verdict);
+    count = count;
+    part = part;
+    taken = w;
   }
 
 -- ---- canonical bytes of the item that the first bytes are
@@ -75,7 +87,7 @@ module _ (b : Bounds) (o : KeyOrder) (bytes : List ℕ) (size : ℕ) (h : IsRead
 
     -- a part of its text was taken
     pub cut_text : (before after : Option (List ℕ)) (count : ℕ) (behind : List ℕ) → count < length text → Appends before after (take count text)
-        → IsCutText b o form (bytes ++ behind) before after
+        → IsCutText (HasCanonicalBytes b o) (canonical_text o form) (bytes ++ behind) before after
     cut_text before after count behind part w = record {
       item = t.is.item;
       rest = drop size bytes ++ behind;

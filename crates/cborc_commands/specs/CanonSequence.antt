@@ -1,5 +1,5 @@
 -- What `canon --seq` writes, why it does not write all, and what is written then (RFC 8742).
-use Rattle.std.specs.Prelude.{ℕ, ◌≡◌, ◌<◌, ◌≤◌, ◌⊎◌, ◌++◌, true, false, List, [], ◌∷◌, length, take, flat_map, Option}
+use Rattle.std.specs.Prelude.{ℕ, ◌≡◌, ◌<◌, ◌≤◌, ◌⊎◌, ◌++◌, true, false, List, length, flat_map, Option}
 use Rattle.std.specs.Io.KnownBytes.{Appends, Keeps}
 use Rattle.cbor_head.specs.Canonical.{canonical}
 use Rattle.cbor_head.specs.Complaint.{plain}
@@ -14,8 +14,8 @@ use Rattle.cbor_reader.specs.Sequence.{IsAccepted}
 use Rattle.cborc_commands.specs.Canon.{in_form, IsPut, IsNotPut}
 use Rattle.cborc_commands.specs.Fault.{IsOfInput}
 use Rattle.cborc_files.specs.Folder.{Files, is_stream}
-use Rattle.cborc_commands.specs.Input.{IsInput, IsFront, IsNoInput}
-use Rattle.cborc_commands.specs.Sequences.{StartsWithEach, AreAll, GoesOn, AreFirst}
+use Rattle.cborc_commands.specs.Input.{IsInput, IsNoInput}
+use Rattle.cborc_commands.specs.Sequences.{StartsWithEach, AreAll, GoesOn, IsCutShort, IsTakenSoFar}
 use Rattle.cborc_commands.specs.declared.request.Form.{Form}
 use Rattle.cborc_commands.specs.declared.request.Options.{Options}
 use Rattle.cborc_commands.specs.declared.request.Output.{Output}
@@ -51,10 +51,10 @@ pub record IsSequenceCanonised (o : KeyOrder) (options : Options) (source : List
   pub all : AreAll (HasCanonicalBytes options.limits o) options.limits.bytes input items
   pub put : IsPut output.path.now old new before after (canonical_texts o output.form items)
 
--- what standard output took of a text: all where it belongs there, else nothing
-pub data IsSent (path : List ℕ) (before after : Option (List ℕ)) (text : List ℕ) : Type 0 where
-  passed : is_stream path ≡ true → Appends before after text → IsSent path before after text
-  apart : is_stream path ≡ false → Keeps before after → IsSent path before after text
+-- what standard output took: this, where the texts belong there, else nothing
+pub data IsSent (path : List ℕ) (before after : Option (List ℕ)) (taken : Type 0) : Type 0 where
+  passed : is_stream path ≡ true → taken → IsSent path before after taken
+  apart : is_stream path ≡ false → Keeps before after → IsSent path before after taken
 
 -- It isn't: behind items that have canonical bytes, whose texts are sent, comes, with this index and starting there, one that has none.
 pub record HasUncanonicalItem (o : KeyOrder) (options : Options) (source : List ℕ) (output : Output) (held : Option Files) (before after : Option (List ℕ))
@@ -66,30 +66,7 @@ pub record HasUncanonicalItem (o : KeyOrder) (options : Options) (source : List 
   pub goes_on : GoesOn (HasCanonicalBytes options.limits o) options.limits.bytes input items rest index start
   pub refused : IsUncanonical options.limits o rest f
   pub of_input : IsOfInput f.reason
-  pub sent : IsSent output.path.now before after (canonical_texts o output.form items)
-
--- these bytes start with items that have canonical bytes: behind the texts of all but the last one, not all of its own was taken
-pub record IsCutIn (limits : Bounds) (o : KeyOrder) (form : Form) (bytes : List ℕ) (before after : Option (List ℕ)) : Type 0 where
-  pub items : List Spelling
-  pub last : Spelling
-  pub rest : List ℕ
-  pub starts : StartsWithEach (HasCanonicalBytes limits o) bytes (items ++ last ∷ []) rest
-  pub count : ℕ
-  pub part : count < length (canonical_text o form last)
-  pub taken : Appends before after (canonical_texts o form items ++ take count (canonical_text o form last))
-
--- the input at a path starts so
-abbrev pub IsCutShort : KeyOrder → Form → Options → List ℕ → Option Files → Option (List ℕ) → Option (List ℕ) → Type 0
-IsCutShort o form options source held before after = (input : List ℕ) × IsInput held source options.hex input × IsCutIn options.limits o form input before after
-
--- what standard output took where the input is not to be had, or not further
-pub data IsSentSoFar (o : KeyOrder) (options : Options) (source : List ℕ) (output : Output) (held : Option Files) (before after : Option (List ℕ)) : Type 0 where
-  -- the texts of items that have canonical bytes
-  of_items : (items : List Spelling) → AreFirst (HasCanonicalBytes options.limits o) options source held items
-      → IsSent output.path.now before after (canonical_texts o output.form items) → IsSentSoFar o options source output held before after
-  -- not all of the last one's: it failed before hex text was found to be none
-  of_cut : is_stream output.path.now ≡ true → (front : List ℕ) → IsFront held source options.hex front → IsCutIn options.limits o output.form front before after
-      → IsSentSoFar o options source output held before after
+  pub sent : IsSent output.path.now before after (Appends before after (canonical_texts o output.form items))
 
 -- the input at a path starts with such items: at least one, or these are all
 pub record HasFirstTexts (o : KeyOrder) (options : Options) (source : List ℕ) (held : Option Files) : Type 0 where
@@ -105,8 +82,10 @@ abbrev pub IsSequenceNotCanonised : KeyOrder → Options → List ℕ → Output
 IsSequenceNotCanonised o options source output held before after (faults.RefusedItem index start f) =
     HasUncanonicalItem o options source output held before after index start f
 IsSequenceNotCanonised o options source output held before after faults.CannotPrint =
-    IsNotPut output.path.now faults.CannotPrint × IsCutShort o output.form options source held before after
+    IsNotPut output.path.now faults.CannotPrint
+    × IsCutShort (HasCanonicalBytes options.limits o) (canonical_text o output.form) options source held before after
 IsSequenceNotCanonised o options source output held before after (faults.CannotWrite named) =
     IsNotPut output.path.now (faults.CannotWrite named) × HasFirstTexts o options source held × Keeps before after
 IsSequenceNotCanonised o options source output held before after fault =
-    IsNoInput held source options.hex fault × IsSentSoFar o options source output held before after
+    IsNoInput held source options.hex fault
+    × IsSent output.path.now before after (IsTakenSoFar (HasCanonicalBytes options.limits o) (canonical_text o output.form) options source held before after)

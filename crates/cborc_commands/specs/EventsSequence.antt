@@ -1,5 +1,5 @@
 -- What `events --seq` asks of a file's bytes, and what it writes (RFC 8742).
-use Rattle.std.specs.Prelude.{ℕ, ◌≡◌, ◌++◌, ◌<◌, nat_lt, if◌then◌else◌, List, [], take, codes, Option}
+use Rattle.std.specs.Prelude.{ℕ, ◌≡◌, ◌++◌, ◌<◌, nat_lt, if◌then◌else◌, List, [], length, take, codes, Option}
 use Rattle.std.specs.Io.KnownBytes.{Appends}
 use Rattle.cbor_head.specs.Complaint.{form}
 use Rattle.cbor_head.specs.Limits.{Bounds}
@@ -8,11 +8,11 @@ use Rattle.cbor_head.specs.Verdict.{refused, IsVerdict}
 use Rattle.cbor_head.specs.declared.reason.Refusal.{Refusal}
 use Rattle.cbor_automaton.specs.Event.{events}
 use Rattle.cbor_diag.specs.Listing.{lines, IsListing, IsStopped}
-use Rattle.cbor_reader.specs.Sequence.{IsAccepted}
+use Rattle.cbor_reader.specs.Sequence.{IsAccepted, sequence_bytes}
 use Rattle.cborc_commands.specs.Fault.{IsOfInput}
 use Rattle.cborc_files.specs.Folder.{Files}
-use Rattle.cborc_commands.specs.Input.{IsInput, IsNoInput}
-use Rattle.cborc_commands.specs.Sequences.{texts_from, AreAll, GoesOn}
+use Rattle.cborc_commands.specs.Input.{IsInput, IsFront, IsNoInput}
+use Rattle.cborc_commands.specs.Sequences.{texts_from, StartsWithEach, AreAll, GoesOn, AreFirst}
 use Rattle.cborc_commands.specs.declared.request.Options.{Options}
 use Rattle.cborc_commands.specs.declared.fault.Fault.{Fault}
 use Rattle.cborc_commands.specs.declared.fault.Fault.TheVariants as faults
@@ -43,6 +43,11 @@ pub data IsCutOff (start : ℕ) (limits : Bounds) (bytes shown : List ℕ) : Typ
   -- those of the events of the first k bytes, but for the end of the last
   within : (k : ℕ) (so_far : List ℕ) → IsStopped start limits.depth (take k bytes) so_far → shown ≡ gap start ++ so_far
       → IsCutOff start limits bytes shown
+
+-- what it took of them by then: those of the events of the first k bytes, or not all
+pub data IsListedInPart (start : ℕ) (limits : Bounds) (bytes shown : List ℕ) : Type 0 where
+  listed_to : (k : ℕ) (so_far : List ℕ) → IsListing start limits.depth (take k bytes) so_far → shown ≡ gap start ++ so_far → IsListedInPart start limits bytes shown
+  listed_short : IsCutOff start limits bytes shown → IsListedInPart start limits bytes shown
 
 -- the input at a path is a sequence of well-formed items, and standard output took their lines
 pub record IsSequenceListed (options : Options) (source : List ℕ) (held : Option Files) (before after : Option (List ℕ)) : Type 0 where
@@ -77,9 +82,19 @@ pub record IsSequenceCutOff (options : Options) (source : List ℕ) (held : Opti
   pub cut : IsCutOff start options.limits rest shown
   pub listed : Appends before after (all_lines items ++ shown)
 
--- why it is not listed whole: an item is refused, there is no input, or standard output failed; what it took before it was found that
--- there is no input stays
+-- what standard output took where the input at a path is not to be had, or not further
+pub data IsListedSoFar (options : Options) (source : List ℕ) (held : Option Files) (before after : Option (List ℕ)) : Type 0 where
+  -- the lines of its items so far
+  items_listed : (items : List Spelling) → AreFirst (IsAccepted options.limits form) options source held items → Appends before after (all_lines items)
+      → IsListedSoFar options source held before after
+  -- and of the one behind them, before hex text was found to be none, or memory was refused
+  front_listed : (front : List ℕ) → IsFront held source options.hex front → (items : List Spelling) (rest : List ℕ)
+      → StartsWithEach (IsAccepted options.limits form) front items rest → (shown : List ℕ)
+      → IsListedInPart (length (sequence_bytes items)) options.limits rest shown → Appends before after (all_lines items ++ shown)
+      → IsListedSoFar options source held before after
+
+-- why it is not listed whole, and what standard output took: an item is refused; standard output took not all; there is no input, or memory was refused
 abbrev pub IsSequenceNotListed : Options → List ℕ → Option Files → Option (List ℕ) → Option (List ℕ) → Fault → Type 0
 IsSequenceNotListed options source held before after (faults.RefusedItem index start f) = HasUnlistedItem options source held before after index start f
 IsSequenceNotListed options source held before after faults.CannotPrint = IsSequenceCutOff options source held before after
-IsSequenceNotListed options source held before after fault = IsNoInput held source options.hex fault
+IsSequenceNotListed options source held before after fault = IsNoInput held source options.hex fault × IsListedSoFar options source held before after

@@ -47,7 +47,7 @@ fault_status (faults.Refused f) = Refused
 fault_status (faults.RefusedItem index start f) = Refused
 fault_status (faults.LeftRefused f) = Refused
 fault_status (faults.RightRefused f) = Refused
-fault_status faults.NotText = Misused
+fault_status (faults.NotText number) = Misused
 fault_status _ = Failed
 
 -- the status of an end, well or by a fault

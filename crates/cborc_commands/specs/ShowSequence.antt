@@ -1,5 +1,5 @@
 -- What `show --seq` asks of a file's bytes, and what it writes (RFC 8742).
-use Rattle.std.specs.Prelude.{ℕ, ◌<◌, List, length, flat_map, Option}
+use Rattle.std.specs.Prelude.{ℕ, List, flat_map, Option}
 use Rattle.std.specs.Io.KnownBytes.{Appends}
 use Rattle.cbor_head.specs.Complaint.{plain}
 use Rattle.cbor_head.specs.Spelling.{Spelling, value_of}
@@ -9,7 +9,7 @@ use Rattle.cbor_reader.specs.Sequence.{IsAccepted}
 use Rattle.cborc_commands.specs.Fault.{IsOfInput}
 use Rattle.cborc_files.specs.Folder.{Files}
 use Rattle.cborc_commands.specs.Input.{IsInput, IsNoInput}
-use Rattle.cborc_commands.specs.Sequences.{StartsWithEach, AreAll, GoesOn}
+use Rattle.cborc_commands.specs.Sequences.{AreAll, GoesOn, IsCutShort, IsTakenSoFar}
 use Rattle.cborc_commands.specs.Show.{shown_text}
 use Rattle.cborc_commands.specs.declared.request.Layout.{Layout}
 use Rattle.cborc_commands.specs.declared.request.Options.{Options}
@@ -43,18 +43,10 @@ pub record HasUnshownItem (layout : Layout) (options : Options) (source : List �
   pub of_input : IsOfInput f.reason
   pub shown : Appends before after (item_texts layout items)
 
--- it starts with valid items, and standard output took not all of their texts
-pub record IsSequenceUnshown (options : Options) (source : List ℕ) (held : Option Files) : Type 0 where
-  pub input : List ℕ
-  pub is : IsInput held source options.hex input
-  pub items : List Spelling
-  pub rest : List ℕ
-  pub starts : StartsWithEach (IsAccepted options.limits plain) input items rest
-  pub some : 0 < length items
-
--- why it is not shown whole: an item is refused, there is no input, or standard output failed; what it took before it was found that
--- there is no input stays
+-- why it is not shown whole, and what standard output took: an item is refused; standard output took not all; there is no input, or memory was refused
 abbrev pub IsSequenceNotShown : Layout → Options → List ℕ → Option Files → Option (List ℕ) → Option (List ℕ) → Fault → Type 0
 IsSequenceNotShown layout options source held before after (faults.RefusedItem index start f) = HasUnshownItem layout options source held before after index start f
-IsSequenceNotShown layout options source held before after faults.CannotPrint = IsSequenceUnshown options source held
-IsSequenceNotShown layout options source held before after fault = IsNoInput held source options.hex fault
+IsSequenceNotShown layout options source held before after faults.CannotPrint =
+    IsCutShort (IsAccepted options.limits plain) (item_text layout) options source held before after
+IsSequenceNotShown layout options source held before after fault =
+    IsNoInput held source options.hex fault × IsTakenSoFar (IsAccepted options.limits plain) (item_text layout) options source held before after

@@ -51,7 +51,7 @@ pub(crate) fn explain<F: Folder, E: Write>(
         }
         Fault::CannotPrint => writeln!(err, "  It is closed or full, or was closed early."),
         Fault::Memory => writeln!(err, "  A lower --bytes asks for less memory."),
-        Fault::NotText => Ok(()),
+        Fault::NotText(_) => Ok(()),
     }
 }
 

@@ -1,7 +1,6 @@
 //! Why the program ends without its answer.
 
-ghost use Rattle.std.specs.Prelude.{◌≡◌, ◌≢◌};
-ghost use Rattle.std.specs.IoError.{error_kind};
+ghost use Rattle.std.specs.Prelude.{◌≡◌};
 ghost use Rattle.cborc_files.specs.Digits.{IsOfText};
 ghost use Rattle.cborc_commands.specs.Fault.{fault_status, refusal_fault, at_item, side_fault};
 
@@ -9,7 +8,6 @@ use crate::status::Status;
 use cbor_head::{Reason, Refusal};
 use cbor_reader::Side;
 use cborc_files::{DigitsFault, FileFault, Visible};
-use std::io::{self, ErrorKind};
 use thiserror::Error;
 
 /// Why the program ends without its answer. Its text is the line on standard error.
@@ -34,9 +32,9 @@ pub enum Fault<'a> {
     /// The bytes of the second of two inputs are refused.
     #[error("right refused {0}")]
     RightRefused(Refusal),
-    /// A word of the command line is not UTF-8.
-    #[error("the words are not UTF-8")]
-    NotText,
+    /// The word of the command line with this number, where the program's name has 0, is not UTF-8.
+    #[error("word {0} is not UTF-8")]
+    NotText(usize),
     /// The file at this path is not to be had.
     #[error("cannot read {}", Visible(.0))]
     CannotRead(&'a str),
@@ -63,7 +61,7 @@ impl<'a> Fault<'a> {
             Fault::Refused(_) => Status::Refused,
             Fault::RefusedItem { .. } => Status::Refused,
             Fault::LeftRefused(_) | Fault::RightRefused(_) => Status::Refused,
-            Fault::NotText => Status::Misused,
+            Fault::NotText(_) => Status::Misused,
             _ => Status::Failed,
         }
     }
@@ -112,17 +110,6 @@ impl<'a> Fault<'a> {
         match fault {
             DigitsFault::Memory => Fault::Memory,
             DigitsFault::NotHex(_) => Fault::NotHex(path),
-        }
-    }
-
-    /// The fault of taking the words of the command line.
-    pub fn of_words(error: &io::Error) -> Fault<'a>
-        ensures not_text { error_kind error.now ≡ ErrorKind.InvalidData → result ≡ Fault.NotText }
-        ensures memory { error_kind error.now ≢ ErrorKind.InvalidData → result ≡ Fault.Memory }
-    {
-        match error.kind() {
-            ErrorKind::InvalidData => Fault::NotText,
-            _ => Fault::Memory,
         }
     }
 }

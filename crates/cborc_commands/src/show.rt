@@ -1,6 +1,6 @@
 //! The subcommand `show`: the diagnostic text of an item.
 
-ghost use Rattle.std.specs.Prelude.{◌≡◌, ◌≢◌, ◌≤◌, OnOk, IfErr};
+ghost use Rattle.std.specs.Prelude.{ℕ, ◌≡◌, ◌≢◌, ◌<◌, ◌≤◌, length, take, OnOk, IfErr};
 ghost use Rattle.std.specs.Io.KnownBytes.{Appends};
 ghost use Rattle.cbor_head.specs.Value.{depth};
 ghost use Rattle.cbor_head.specs.declared.limits.TheConstants.{MAX_DEPTH};
@@ -55,6 +55,9 @@ pub(crate) fn print<'a, O: Write>(
     ensures shown { OnOk result (Appends (O.contents out.old) (O.contents out.new)
         (shown_text layout (seen view.now))) }
     ensures fault { IfErr result (λ fault. fault ≡ Fault.CannotPrint) }
+    ensures cut { IfErr result (λ _. (count : ℕ) × (count < length (shown_text layout (seen view.now)))
+        × Appends (O.contents out.old) (O.contents out.new)
+        (take count (shown_text layout (seen view.now)))) }
 {
     let printed = match layout {
         Layout::OneLine => diagnostic_view(view, out),

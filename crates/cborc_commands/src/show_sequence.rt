@@ -52,7 +52,7 @@ impl ItemWriter for ShownItems {
     ghost text = { λ shown _. item_text shown.layout };
 
     ghost stops = { λ shown b start bytes fault before after.
-        IsItemNotShown b bytes fault before after };
+        IsItemNotShown b shown.layout bytes fault before after };
 
     fn write_item<'f, W: Write>(
         &self,

@@ -4,4 +4,5 @@
 
 mod command_line;
 mod grammar;
+pub mod no_text;
 pub mod run;

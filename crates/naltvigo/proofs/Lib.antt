@@ -1,4 +1,5 @@
 mod Compared
 mod Given
+mod Staying
 mod Told
 mod WholeInputs

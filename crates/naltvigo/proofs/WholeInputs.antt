@@ -1,5 +1,5 @@
 -- Checks of a whole input.
-use Rattle.std.proofs.Common.{ℕ, ◌+◌, ◌<◌, ◌≤◌, ◌≡◌, ◌↔◌, List, [], ◌++◌, length, take, sym, ap, ◌∙◌, arith, subst}
+use Rattle.std.proofs.Common.{ℕ, ◌+◌, ◌<◌, ◌≤◌, ◌≡◌, ◌↔◌, List, [], ◌++◌, length, take, inl, inr, sym, ap, ◌∙◌, arith, subst}
 use Rattle.std.proofs.lemmas.List.{append-nil, length-append, length-take, nil_from_length, take_all}
 use Rattle.cbor_head.specs.Limits.{Bounds}
 use Rattle.cbor_head.specs.Spelling.{Spelling, spell}
@@ -10,10 +10,10 @@ use Rattle.cbor_head.specs.declared.reason.Reason.TheVariants.{Trailing}
 use Rattle.cbor_head.specs.declared.reason.Refusal.{Refusal}
 use Rattle.cbor_reader.specs.Canonicalise.{IsCanonicalOf}
 use Rattle.cbor_reader.specs.Headline.{IsValidItem}
-use Rattle.cbor_judging.specs.Readers.{IsRead, IsCanonicalFront}
+use Rattle.cbor_judging.specs.Readers.{HasNoCanonicalFront, IsCanonicalFront, IsRead}
 use Rattle.cbor_reader.specs.WholeItem as whole
 use Rattle.cbor_reader.specs.WholeItem.{IsWholeItem, IsItemRefusal}
-use Rattle.naltvigo.specs.Checking.{of_verdict, trailing}
+use Rattle.naltvigo.specs.Checking.{HasNoWholeFront, of_verdict, trailing}
 use Rattle.naltvigo.specs.inner.Checking.{IsOwnAnswer, IsNotOwn}
 
 same-item : {s t : Spelling} → accepted s ≡ accepted t → s ≡ t
@@ -57,17 +57,24 @@ module _ (limits : Bounds) (o : KeyOrder) (input : List ℕ) where
           canonical = subst (IsCanonicalFront limits o input) all front;
         }
 
-    pub followed : (count : ℕ) (f : Refusal) → IsRead limits (strict o) input count → count < length input → f ≡ refusal Trailing count count → IsNotOwn limits o input f
-    followed count f r l is = record {
+    pub followed : (count : ℕ) (f : Refusal) → IsRead limits (strict o) input count → IsCanonicalFront limits o input count → count < length input
+        → f ≡ refusal Trailing count count → IsNotOwn limits o input f
+    followed count f r front l is = record {
       refused = trailing r.item r.verdict (omega (arith, r.size, l)) (is ∙ ap (λ (k : ℕ). refusal Trailing k k) r.size);
       not_own = λ c.
           let h = own.0 c in
           let all-bytes : spell r.item ≡ input = ap spell (same-item (one (accepted r.item) (accepted h.0) r.verdict h.1)) ∙ h.2 in
           omega (arith, r.size, l, ap length all-bytes);
+      front = inr (subst (λ (g : Refusal). IsCanonicalFront limits o input g.place × (g.place < length input)) (sym is) (front, l));
     }
 
-    pub refuses : (f : Refusal) → IsVerdict limits (strict o) input (refused f) → IsNotOwn limits o input f
-    refuses f v = record {
+    pub refuses : (f : Refusal) → IsVerdict limits (strict o) input (refused f) → HasNoCanonicalFront limits o input → IsNotOwn limits o input f
+    refuses f v none = record {
       refused = of_verdict v;
       not_own = λ c. let h = own.0 c in no-both (one (accepted h.0) (refused f) h.1 v);
+      front = inl none;
     }
+
+-- by the numbers that C gave
+pub told-front : (l m : Bounds) (o p : KeyOrder) (input : List ℕ) (a b : ℕ) → m ≡ l → p ≡ o → b ≡ a → HasNoWholeFront l o input a → HasNoWholeFront m p input b
+told-front l m o p input a b limits order end h = rw (limits, order, end) h

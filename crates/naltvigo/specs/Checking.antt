@@ -1,5 +1,5 @@
 -- Why an input is not one item, as C is told it.
-use Rattle.std.specs.Prelude.{ℕ, ◌≡◌, ◌≢◌, ◌<◌, List, length}
+use Rattle.std.specs.Prelude.{ℕ, ◌≡◌, ◌≢◌, ◌⊎◌, ◌<◌, List, length}
 use Rattle.cbor_head.specs.Complaint.{strict}
 use Rattle.cbor_head.specs.Limits.{Bounds}
 use Rattle.cbor_head.specs.Spelling.{Spelling, spell}
@@ -7,6 +7,7 @@ use Rattle.cbor_head.specs.Verdict.{IsVerdict, accepted, refused, refusal}
 use Rattle.cbor_head.specs.declared.order.KeyOrder.{KeyOrder}
 use Rattle.cbor_head.specs.declared.reason.Reason.TheVariants.{Trailing, Memory}
 use Rattle.cbor_head.specs.declared.reason.Refusal.{Refusal}
+use Rattle.cbor_judging.specs.Readers.{HasNoCanonicalFront, IsCanonicalFront}
 use Rattle.cbor_reader.specs.WholeItem.{IsItemRefusal}
 use Rattle.naltvigo.specs.Told.{IsTold}
 use Rattle.naltvigo.specs.declared.status.NaltvigoRefusal.{NaltvigoRefusal}
@@ -18,6 +19,10 @@ pub data IsStrictRefusal (limits : Bounds) (o : KeyOrder) (input : List ℕ) (f 
   -- a byte follows the item
   trailing : (item : Spelling) → IsVerdict limits (strict o) input (accepted item) → length (spell item) < length input
       → f ≡ refusal Trailing (length (spell item)) (length (spell item)) → IsStrictRefusal limits o input f
+
+-- the input begins with the canonical bytes of no valid value; or with some, which end here, and a byte follows them
+abbrev pub HasNoWholeFront : Bounds → KeyOrder → List ℕ → ℕ → Type 0
+HasNoWholeFront limits o input end = HasNoCanonicalFront limits o input ⊎ (IsCanonicalFront limits o input end × (end < length input))
 
 -- the input is not one item in its canonical bytes, and this is told of it
 pub record IsNotCanonical (limits : Bounds) (o : KeyOrder) (input : List ℕ) (c : NaltvigoRefusal) : Type 0 where

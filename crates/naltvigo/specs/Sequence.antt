@@ -4,16 +4,17 @@ use Rattle.cbor_head.specs.Complaint.{plain, strict}
 use Rattle.cbor_head.specs.Limits.{Bounds}
 use Rattle.cbor_head.specs.Verdict.{IsVerdict, refused}
 use Rattle.cbor_head.specs.declared.order.KeyOrder.{KeyOrder}
-use Rattle.cbor_head.specs.declared.reason.Reason.TheVariants.{Memory}
+use Rattle.cbor_head.specs.declared.reason.Reason.TheVariants.{Read, Memory}
 use Rattle.cbor_head.specs.declared.reason.Refusal.{Refusal}
 use Rattle.cbor_judging.specs.Readers.{IsUnread}
 use Rattle.naltvigo.specs.Told.{IsTold}
 use Rattle.naltvigo.specs.declared.status.NaltvigoRefusal.{NaltvigoRefusal}
 
--- the input begins with no valid item within the limits, and this is told of it
+-- the input begins with no valid item within the limits, and this is told of it; a slice fails at no read
 pub record IsNoValidFront (limits : Bounds) (input : List ℕ) (c : NaltvigoRefusal) : Type 0 where
   pub why : Refusal
   pub refused : IsUnread limits plain input why
+  pub no_read : why.reason ≢ Read
   pub not_memory : why.reason ≢ Memory
   pub told : IsTold why c
 

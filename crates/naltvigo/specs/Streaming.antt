@@ -1,6 +1,6 @@
 -- What a machine tells of an item, as C has it.
-use Rattle.std.specs.Prelude.{ℕ, ◌≡◌, ◌⊎◌, ◌++◌, ◌∷◌, List, []}
-use Rattle.cbor_standing.specs.Machine.{StandsFor, KeepsLimits, IsAnswer}
+use Rattle.std.specs.Prelude.{ℕ, ◌≡◌, ◌⊎◌, ◌++◌, ◌∷◌, List, [], IfSome}
+use Rattle.cbor_standing.specs.Machine.{StandsFor, KeepsLimits, IsAnswer, IsComplete}
 use Rattle.cbor_standing.specs.MachineView.{MachineView}
 use Rattle.cbor_automaton.specs.Marks.{count_of}
 use Rattle.cbor_machine.specs.Saved.{Holds}
@@ -103,6 +103,11 @@ pub record Streams (old new : SavedMachine) (bs : List ℕ) (status : ℕ) (even
   pub behind : MachineView
   pub holds : Holds new behind
   pub tells : TellsOn before behind bs status events r
+
+-- Where the item was complete, or refused, the call used nothing and answered the same.
+pub record StaysSo (old new : SavedMachine) (used status : ℕ) (r : NaltvigoRefusal) : Type 0 where
+  pub complete : (m : MachineView) → Holds old m → IsComplete m → (status ≡ 0) × (used ≡ 0) × Holds new m
+  pub refused : (m : MachineView) → Holds old m → IfSome m.refusal (λ f. (status ≡ 1) × IsTold f r × (used ≡ 0) × Holds new m)
 
 -- The numbers hold a machine before an item's first byte, with these limits.
 pub record Starts (s : SavedMachine) (depth bytes : ℕ) : Type 0 where

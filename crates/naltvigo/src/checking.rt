@@ -8,7 +8,7 @@ ghost use Rattle.cbor_reader.specs.Canonicalise.{IsCanonicalOf};
 ghost use Rattle.cbor_judging.specs.Readers.{IsRead, IsCanonicalFront};
 ghost use Rattle.cbor_reader.specs.WholeItem.{IsWholeItem, IsItemRefusal};
 ghost use Rattle.naltvigo.specs.Settings.{key_order};
-ghost use Rattle.naltvigo.specs.Checking.{IsNotCanonical, IsNotValid, ItemLacksMemory};
+ghost use Rattle.naltvigo.specs.Checking.{HasNoWholeFront, IsNotCanonical, IsNotValid, ItemLacksMemory};
 ghost use Rattle.naltvigo.specs.inner.Checking.{IsOwnAnswer, IsNotOwn};
 
 use crate::settings::{limits_of, order_numbered};
@@ -37,6 +37,8 @@ pub extern "C" fn naltvigo_check_canonical_raw(
         → IsNotCanonical (bounds depth bytes) (key_order order) input.now refusal.new }
     ensures not_own { result ≡ REFUSED
         → ¬ IsCanonicalOf (bounds depth bytes) (key_order order) input.now input.now }
+    ensures front { result ≡ REFUSED
+        → HasNoWholeFront (bounds depth bytes) (key_order order) input.now refusal.new.place }
     ensures bad_order { (result ≡ BAD_ORDER) ↔ (1 < order) }
     ensures bad_limits { result ≡ BAD_LIMITS → ¬ AreBounds (bounds depth bytes) }
     ensures in_range { result ≢ BAD_ORDER → result ≢ BAD_LIMITS

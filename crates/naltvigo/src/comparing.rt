@@ -2,9 +2,12 @@
 
 ghost use Rattle.std.specs.Prelude.{◌≡◌, ◌≢◌, ◌⊎◌, ◌≤◌, ◌^◌, ℕ, List};
 ghost use Rattle.cbor_head.specs.Limits.{bounds, AreBounds};
+ghost use Rattle.cbor_head.specs.Spelling.{Spelling, value_of};
+ghost use Rattle.cbor_head.specs.Value.{Same};
 ghost use Rattle.cbor_head.specs.declared.order.KeyOrder.{KeyOrder};
 ghost use Rattle.cbor_reader.specs.Canonicalise.{IsCanonicalOf};
 ghost use Rattle.cbor_reader.specs.Comparing.{MeanTheSame};
+ghost use Rattle.cbor_reader.specs.Headline.{IsValidItem};
 ghost use Rattle.cbor_reader.specs.WholeItem.{IsWholeItem};
 ghost use Rattle.naltvigo.specs.Comparing.{side_number as number_of};
 ghost use Rattle.naltvigo.specs.Comparing.{IsSideRefused, SideLacksMemory};
@@ -36,12 +39,20 @@ pub extern "C" fn naltvigo_compare_raw(
     ensures different { result ≡ DIFFERENT → ¬ MeanTheSame (bounds depth bytes) left.now right.now }
     ensures accepted { (result ≡ OK) ⊎ (result ≡ DIFFERENT)
         → IsWholeItem (bounds depth bytes) left.now × IsWholeItem (bounds depth bytes) right.now }
+    ensures values { result ≡ OK → (s t : Spelling)
+        → IsValidItem (bounds depth bytes) left.now s → IsValidItem (bounds depth bytes) right.now t
+        → Same (value_of s) (value_of t) }
+    ensures other_values { result ≡ DIFFERENT → (s t : Spelling)
+        → IsValidItem (bounds depth bytes) left.now s → IsValidItem (bounds depth bytes) right.now t
+        → ¬ Same (value_of s) (value_of t) }
     ensures equal { result ≡ OK → (n : ℕ) (o : KeyOrder) (a b : List ℕ) → n ≤ 2 ^ 62
         → IsCanonicalOf (bounds depth n) o left.now a → IsCanonicalOf (bounds depth n) o right.now b → a ≡ b }
     ensures unequal { result ≡ DIFFERENT → (n : ℕ) (o : KeyOrder) (a b : List ℕ) → n ≤ 2 ^ 62
         → IsCanonicalOf (bounds depth n) o left.now a → IsCanonicalOf (bounds depth n) o right.now b → a ≢ b }
     ensures refused { result ≡ REFUSED
         → IsSideRefused (bounds depth bytes) left.now right.now side.new refusal.new }
+    ensures only { result ≡ REFUSED → IsWholeItem (bounds depth bytes) left.now
+        → ¬ IsWholeItem (bounds depth bytes) right.now }
     ensures no_memory { result ≡ NO_MEMORY
         → SideLacksMemory (bounds depth bytes) left.now right.now side.new refusal.new }
     ensures bad_limits { result ≡ BAD_LIMITS → ¬ AreBounds (bounds depth bytes) }

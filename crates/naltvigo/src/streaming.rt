@@ -1,11 +1,13 @@
 //! The events of an item whose bytes come in parts.
 
-ghost use Rattle.std.specs.Prelude.{◌≡◌, ◌≢◌, ◌⊎◌, ◌≤◌, drop, length, take};
+ghost use Rattle.std.specs.Prelude.{◌≡◌, ◌≢◌, ◌⊎◌, ◌<◌, ◌≤◌, ◌+◌, drop, length, take, IfSome};
+ghost use Rattle.cbor_standing.specs.Machine.{IsComplete};
 ghost use Rattle.cbor_standing.specs.MachineView.{MachineView};
 ghost use Rattle.cbor_machine.specs.Saved.{Holds};
 ghost use Rattle.cbor_head.specs.Limits.{bounds, AreBounds};
-ghost use Rattle.naltvigo.specs.Streaming.{IsToldEvent, Starts, Streams, TellsOn};
+ghost use Rattle.naltvigo.specs.Streaming.{IsToldEvent, Starts, StaysSo, Streams, TellsOn};
 ghost use Rattle.naltvigo.specs.Streaming.{kind_number, number_of, width_number};
+ghost use Rattle.naltvigo.specs.Told.{IsTold};
 
 use crate::settings::limits_of;
 use crate::status::{
@@ -73,12 +75,19 @@ pub extern "C" fn naltvigo_machine_take_raw(
     told: &mut usize,
     refusal: &mut NaltvigoRefusal,
 ) -> u32
-    ensures used { used.new ≤ length input.now }
-    ensures told { told.new ≤ length events.new }
+    ensures used { (used.new ≤ length input.now)
+        × (machine.new.taken ≡ machine.old.taken + used.new) }
+    // An event stands for a byte at least.
+    ensures told { (told.new ≤ length events.new) × (told.new ≤ used.new) }
     ensures streams { result ≢ BAD_MACHINE → Streams machine.old machine.new
         (take used.new input.now) result (take told.new events.new) refusal.new }
     ensures full { result ≡ EVENT → told.new ≡ length events.new }
-    ensures more { result ≡ MORE → used.new ≡ length input.now }
+    ensures more { result ≡ MORE → (used.new ≡ length input.now)
+        × (machine.new.taken < machine.new.bytes) }
+    ensures refused { result ≡ REFUSED → (refusal.new.read ≡ machine.new.taken)
+        × (2 ≤ refusal.new.reason) × (refusal.new.reason ≤ 9) }
+    ensures stays { 0 < length events.old
+        → StaysSo machine.old machine.new used.new result refusal.new }
     ensures bad_machine { result ≡ BAD_MACHINE → (m : MachineView) → ¬ Holds machine.old m }
     ensures kept { result ≡ BAD_MACHINE → (machine.new ≡ machine.old)
         × (used.new ≡ 0) × (told.new ≡ 0) }
@@ -122,12 +131,21 @@ fn take_events(
     events: &mut [NaltvigoEvent],
     refusal: &mut NaltvigoRefusal,
 ) -> Taken
-    ensures used { result.used ≤ length input.now }
-    ensures told { result.told ≤ length events.new }
+    ensures used { (result.used ≤ length input.now)
+        × (machine.new.taken ≡ machine.old.taken + result.used) }
+    ensures told { (result.told ≤ length events.new) × (result.told ≤ result.used) }
     ensures tells { TellsOn machine.old machine.new (take result.used input.now) result.status
         (take result.told events.new) refusal.new }
     ensures full { result.status ≡ EVENT → result.told ≡ length events.new }
-    ensures more { result.status ≡ MORE → result.used ≡ length input.now }
+    ensures more { result.status ≡ MORE → (result.used ≡ length input.now)
+        × (machine.new.taken < machine.new.bytes) }
+    ensures refused { result.status ≡ REFUSED → (refusal.new.read ≡ machine.new.taken)
+        × (2 ≤ refusal.new.reason) × (refusal.new.reason ≤ 9) }
+    ensures complete { 0 < length events.old → IsComplete machine.old
+        → (result.status ≡ OK) × (result.used ≡ 0) × (machine.new ≡ machine.old) }
+    ensures again { 0 < length events.old → IfSome machine.old.refusal
+        (λ f. (result.status ≡ REFUSED) × IsTold f refusal.new
+        × (result.used ≡ 0) × (machine.new ≡ machine.old)) }
     ensures untold { drop result.told events.new ≡ drop result.told events.old }
     ensures unrefused { result.status ≢ REFUSED → refusal.new ≡ refusal.old }
     ensures statuses { result.status ≢ BAD_MACHINE }

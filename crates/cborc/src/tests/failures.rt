@@ -1,8 +1,10 @@
 //! Outputs that fail, and words that are not to be had.
 
 use super::run_with;
-use cborc_commands::{Fault, end};
+use cborc_commands::end;
+use cborc_words::no_text::fault_of_words;
 use std::alloc::AllocError;
+use std::env::{Env, FillError};
 use std::io;
 use std::io::{ErrorKind, Write};
 
@@ -98,9 +100,34 @@ fn standard_output_fails(rt: HostRuntime) -> Result<(), AllocError> {
     Ok(())
 }
 
+// Words of which one, past the room that there is for a word at first, is not UTF-8.
+struct Words;
+
+impl Env for Words {
+    fn arg(&self, i: usize, buf: &mut [u8]) -> Result<usize, FillError> {
+        let size = if i == 2 { 5000 } else { 5 };
+        if buf.len() < size {
+            return Err(FillError::TooLong);
+        }
+        buf[..size].fill(b'a');
+        if i == 2 {
+            buf[size - 1] = 0xff;
+        }
+        Ok(size)
+    }
+
+    fn var(&self, _name: &str, _buf: &mut [u8]) -> Result<usize, FillError> {
+        Err(FillError::NotPresent)
+    }
+
+    fn var_at(&self, _i: usize, _buf: &mut [u8]) -> Result<usize, FillError> {
+        Err(FillError::NotPresent)
+    }
+}
+
 // What keeps the words from the program, the status, and the line on standard error.
 static NO_WORDS: [(ErrorKind, u8, &[u8]); 2] = [
-    (ErrorKind::InvalidData, 2, b"the words are not UTF-8\n"),
+    (ErrorKind::InvalidData, 2, b"word 2 is not UTF-8\n"),
     (ErrorKind::OutOfMemory, 3, b"out of memory\n"),
 ];
 
@@ -108,7 +135,8 @@ static NO_WORDS: [(ErrorKind, u8, &[u8]); 2] = [
 fn has_no_words(rt: HostRuntime) -> Result<(), AllocError> {
     for &(kind, status, line) in &NO_WORDS {
         let mut err = Vec::with_capacity(rt.alloc(), 64)?;
-        let ended = end(Err(Fault::of_words(&io::Error::from(kind))), &mut err);
+        let fault = fault_of_words(rt.alloc(), &Words, &io::Error::from(kind));
+        let ended = end(Err(fault), &mut err);
         assert!(rt; ended == status && err.as_slice() == line);
     }
     Ok(())

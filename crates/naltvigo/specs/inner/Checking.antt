@@ -6,7 +6,7 @@ use Rattle.cbor_head.specs.declared.order.KeyOrder.{KeyOrder}
 use Rattle.cbor_head.specs.declared.reason.Refusal.{Refusal}
 use Rattle.cbor_reader.specs.Canonicalise.{IsCanonicalOf}
 use Rattle.cbor_judging.specs.Readers.{IsRead, IsCanonicalFront}
-use Rattle.naltvigo.specs.Checking.{IsStrictRefusal}
+use Rattle.naltvigo.specs.Checking.{HasNoWholeFront, IsStrictRefusal}
 
 -- the input is its own answer
 pub record IsOwnAnswer (limits : Bounds) (o : KeyOrder) (input : List ℕ) : Type 0 where
@@ -18,3 +18,4 @@ pub record IsOwnAnswer (limits : Bounds) (o : KeyOrder) (input : List ℕ) : Typ
 pub record IsNotOwn (limits : Bounds) (o : KeyOrder) (input : List ℕ) (f : Refusal) : Type 0 where
   pub refused : IsStrictRefusal limits o input f
   pub not_own : ¬ IsCanonicalOf limits o input input
+  pub front : HasNoWholeFront limits o input f.place

@@ -1,15 +1,28 @@
-use Rattle.std.proofs.Common.{◌∙◌, ◌+◌, refl, subst, ap, arith, rules, drop, sym, take}
+use Rattle.std.proofs.Common.{◌∙◌, ◌+◌, refl, inl, inr, subst, ap, arith, rules, drop, sym, take}
 use Rattle.std.proofs.Math.Seq.{take-add}
 use Rattle.std.proofs.lemmas.List.{drop-drop, drop-set-lt, take_more_set, take_rest}
 use Rattle.cbor_automaton.specs.declared.event.Event.{Event}
+use Rattle.cbor_head.specs.declared.reason.Refusal.{Refusal}
+use Rattle.cbor_standing.specs.Machine.{IsDone, IsEvent}
 use Rattle.cbor_standing.specs.declared.step.Out.{Out}
 use Rattle.cbor_standing.specs.declared.step.Out.TheVariants as outs
 use Rattle.naltvigo.specs.Streaming.{HasAnswered, IsToldEvent}
+use Rattle.naltvigo.specs.Told.{IsTold}
+use Rattle.naltvigo.proofs.Staying.{complete-then, live-behind, live-then, not-done, not-more, refused-then, same-refusal, unrefused}
 use Rattle.naltvigo.proofs.Told.{nothing_given, one_given, no_further}
 use Rattle.naltvigo.proofs.streaming.take_events.Goals as goal
 
 pub events-init : goal.events-init
-events-init c = record { used = omega arith; told = omega arith; given = nothing_given c.args.machine.now; untold = refl; unrefused = refl }
+events-init c = record {
+  used = omega arith;
+  told = omega arith;
+  given = nothing_given c.args.machine.now;
+  untold = refl;
+  unrefused = refl;
+  taken = omega arith;
+  progress = omega arith;
+  begun = inl (refl, refl, refl);
+}
 
 pub events-preserved : goal.events-preserved
 events-preserved c =
@@ -24,6 +37,9 @@ events-preserved c =
       untold = drop-set-lt (c.events.told + 1) c.events.events c.events.told c.event_of.result (omega arith)
           ∙ sym (drop-drop 1 c.events.told c.events.events) ∙ ap (drop 1) c.events.invariant.untold ∙ drop-drop 1 c.events.told c.args.events.now;
       unrefused = c.events.invariant.unrefused;
+      taken = omega (arith, c.step-step.ensures.used.1, c.events.invariant.taken);
+      progress = omega (arith, c.events.invariant.progress, c.step-step.ensures.event.0 (subst IsEvent (sym c.in-Event.is) tt));
+      begun = inr (live-then _ c.events.machine c.step-step.new.self _ _ c.step-step.result c.in-Event.next c.events.invariant.begun c.step-step.ensures.stays c.in-Event.is);
     }
 
 pub returns-in-More-clause-tells : goal.returns-in-More-clause-tells
@@ -43,3 +59,37 @@ returns-in-Refused-clause-tells c =
     rw (c.new-in-Refused.ensures, take-add c.events.used c.step-step.result.used c.args.input.now)
     (no_further _ c.events.machine _ _ _ _ _ _ (outs.Refused c.in-Refused.why) c.events.invariant.given c.step-step.ensures.limits (refl, c.told.ensures)
     (subst (λ (o : Out). HasAnswered o c.events.machine c.step-step.new.self (take c.step-step.result.used (drop c.events.used c.args.input.now))) c.in-Refused.is (rw (take_rest c.args.input.now c.events.used) at c.step-step.ensures.answers)))
+
+pub returns-in-More-clause-complete : goal.returns-in-More-clause-complete
+returns-in-More-clause-complete c = λ _ done. elim (subst IsDone c.in-More.is (complete-then _ c.events.machine c.step-step.new.self _ _ c.step-step.result c.events.invariant.begun c.step-step.ensures.stays done).0) [ ]
+
+pub returns-in-More-clause-again : goal.returns-in-More-clause-again
+returns-in-More-clause-again c = λ _.
+    refused-then _ c.events.machine c.step-step.new.self _ _ c.step-step.result _ c.events.invariant.begun c.step-step.ensures.stays
+    (λ f out none before same. elim (not-more f (sym c.in-More.is ∙ out)) [ ])
+
+pub returns-in-Done-clause-complete : goal.returns-in-Done-clause-complete
+returns-in-Done-clause-complete c = λ _ done.
+    let k = complete-then _ c.events.machine c.step-step.new.self _ _ c.step-step.result c.events.invariant.begun c.step-step.ensures.stays done in
+    rw c.new-in-Done.ensures (refl, omega (arith, k.1, k.2), k.3)
+
+pub returns-in-Done-clause-again : goal.returns-in-Done-clause-again
+returns-in-Done-clause-again c = λ _.
+    refused-then _ c.events.machine c.step-step.new.self _ _ c.step-step.result _ c.events.invariant.begun c.step-step.ensures.stays
+    (λ f out none before same. elim (not-done f (sym c.in-Done.is ∙ out)) [ ])
+
+pub returns-in-Refused-clause-complete : goal.returns-in-Refused-clause-complete
+returns-in-Refused-clause-complete c = λ _ done. elim (subst IsDone c.in-Refused.is (complete-then _ c.events.machine c.step-step.new.self _ _ c.step-step.result c.events.invariant.begun c.step-step.ensures.stays done).0) [ ]
+
+pub returns-in-Refused-clause-again : goal.returns-in-Refused-clause-again
+returns-in-Refused-clause-again c = λ _.
+    rw c.new-in-Refused.ensures (refused-then _ c.events.machine c.step-step.new.self _ _ c.step-step.result _ c.events.invariant.begun c.step-step.ensures.stays
+    (λ f out none before same. (refl, subst (λ (r : Refusal). IsTold r c.told.result) (same-refusal (sym c.in-Refused.is ∙ out)) c.told.ensures, omega (arith, none, before), same)))
+
+pub returns-clause-complete : goal.returns-clause-complete
+returns-clause-complete c = λ room done.
+    elim ((live-behind _ _ _ _ c.events.invariant.begun (omega (arith, room, c.events-test.false, c.events.auto.events))).0 done) [ ]
+
+pub returns-clause-again : goal.returns-clause-again
+returns-clause-again c = λ room.
+    unrefused _ _ (live-behind _ _ _ _ c.events.invariant.begun (omega (arith, room, c.events-test.false, c.events.auto.events))).1

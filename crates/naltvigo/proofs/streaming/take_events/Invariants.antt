@@ -1,4 +1,5 @@
-use Rattle.std.proofs.Common.{◌≡◌, ◌≤◌, ◌-◌, drop, length, take}
+use Rattle.std.proofs.Common.{◌≡◌, ◌≤◌, ◌+◌, ◌-◌, drop, length, take}
+use Rattle.naltvigo.proofs.Staying.{HasBegun}
 use Rattle.naltvigo.proofs.Told.{HasGiven}
 use Rattle.naltvigo.proofs.streaming.take_events.Given as goal
 
@@ -9,6 +10,9 @@ invariant-events l = record {
   given : HasGiven l.fn.machine l.machine (take l.used l.input) (take l.told l.events);
   untold : drop l.told l.events ≡ drop l.told l.fn.events;
   unrefused : l.refusal ≡ l.fn.refusal;
+  taken : l.machine.taken ≡ l.fn.machine.taken + l.used;
+  progress : l.told ≤ l.used;
+  begun : HasBegun l.fn.machine l.machine l.used l.told;
 }
 
 abbrev pub decreases-events : goal.decreases-events
