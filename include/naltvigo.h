@@ -141,7 +141,8 @@ enum {
     NALTVIGO_KEY_ORDER = 16,          /* a key that does not come after the one before it (check_canonical) */
     NALTVIGO_READ = 17,               /* not answered by this library */
     NALTVIGO_WRITE = 18,              /* not answered by this library */
-    NALTVIGO_MEMORY = 19              /* memory was refused; the status is NALTVIGO_NO_MEMORY */
+    NALTVIGO_MEMORY = 19,             /* memory was refused; the status is NALTVIGO_NO_MEMORY */
+    NALTVIGO_KEY_KIND = 20            /* a key of another kind than the limits allow */
 };
 
 /* A refusal. It is written where the status is REFUSED or NO_MEMORY, and left as it was elsewhere. */

@@ -16,6 +16,7 @@ IN_PYTHON = [
     ("--bytes", "max_bytes"),
     ("--depth", "'depth'"),
     ("--hex", "bytes.fromhex"),
+    ("--keys any", "keys='any'"),
     ("--order", "'order'"),
     ("check --seq", "'items'"),
     ("canon ", "canonicalise "),

@@ -42,6 +42,8 @@ pub enum Reason {
     Write = 18,
     /// Memory was refused.
     Memory = 19,
+    /// A key of another kind than the limits allow.
+    KeyKind = 20,
 }
 
 impl Reason {
@@ -66,6 +68,7 @@ impl Reason {
             17 => Reason::Read,
             18 => Reason::Write,
             19 => Reason::Memory,
+            20 => Reason::KeyKind,
             _ => return None,
         })
     }
@@ -103,6 +106,7 @@ impl Reason {
             Reason::Read => "The input could not be read on.",
             Reason::Write => "The output took no more.",
             Reason::Memory => "Memory was refused.",
+            Reason::KeyKind => "A key begins here that is neither an integer nor a text.",
         }
     }
 }

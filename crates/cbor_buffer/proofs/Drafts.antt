@@ -5,7 +5,7 @@ use Rattle.std.proofs.lemmas.List.{drop-append-le, drop_all, length-take-le, dro
 use Rattle.std.proofs.Math.Seq.{drop-append_seam, take-append_seam}
 use Rattle.cbor_buffer.specs.Moved.{rope, Run, gap, Blocks, meant, IsWhole, IsRope, IsLoose, IsFree, KeepsFront, Stays}
 use Rattle.cbor_buffer.specs.Spans.{AreBehind, span_pair, AreWithin}
-use Rattle.cbor_buffer.specs.Pairs.{pair_bytes}
+use Rattle.cbor_canonical.specs.Pairs.{pair_bytes}
 use Rattle.cbor_buffer.specs.declared.span.Span.{Span}
 use Rattle.cbor_buffer.specs.declared.cuts.Cut.{Cut}
 use Rattle.cbor_buffer.specs.declared.draft.Draft.{Draft}

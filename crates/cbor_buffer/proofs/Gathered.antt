@@ -2,7 +2,7 @@
 use Rattle.std.proofs.Common.{◌≡◌, ℕ, zero, suc, ◌+◌, ◌<◌, ◌≤◌, List, [], ◌∷◌, ◌++◌, append_assoc, append-nil, length, drop, get_or, map, sym, ap, ◌∙◌, arith}
 use Rattle.std.specs.Prelude.{slice_range, flat_map}
 use Rattle.std.proofs.lemmas.List.{drop_all}
-use Rattle.cbor_buffer.specs.Pairs.{pair_bytes}
+use Rattle.cbor_canonical.specs.Pairs.{pair_bytes}
 use Rattle.cbor_buffer.proofs.ByIndex.{at_read}
 use Rattle.cbor_buffer.specs.Spans.{span_pair, IsWithin, AreWithin}
 use Rattle.cbor_buffer.specs.declared.span.Span.{Span}

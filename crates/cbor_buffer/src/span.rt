@@ -1,7 +1,7 @@
 //! Pairs of maps as spans of the buffer.
 
 ghost use Rattle.std.specs.Prelude.{◌≡◌, [], OnOk, map, flat_map};
-ghost use Rattle.cbor_buffer.specs.Pairs.{pair_bytes};
+ghost use Rattle.cbor_canonical.specs.Pairs.{pair_bytes};
 ghost use Rattle.cbor_buffer.specs.Spans.{span_pair, AreWithin};
 
 use crate::out::Out;

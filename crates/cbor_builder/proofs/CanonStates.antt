@@ -2,8 +2,8 @@
 use Rattle.std.proofs.Common.{◌≡◌, ℕ, Bool, true, false, List, [], ◌∷◌, refl, sym, ap, ◌∙◌, subst}
 use Rattle.std.specs.Prelude.{IsTrue}
 use Rattle.cbor_head.specs.declared.order.KeyOrder.{KeyOrder}
-use Rattle.cbor_builder.specs.Built.{Built, IsInContainer}
-use Rattle.cbor_builder.specs.Parts.{Open, plain, an_array, a_map, a_key, a_string, close}
+use Rattle.cbor_builder.specs.Built.{Built}
+use Rattle.cbor_canonical.specs.Parts.{IsInContainer, Open, plain, an_array, a_map, a_key, a_string, close}
 use Rattle.cbor_builder.specs.inner.BuilderState.{standing, IsLaid}
 use Rattle.cbor_builder.specs.inner.CanonState.{if_sound, seen, IsNested, IsKept}
 use Rattle.cbor_builder.specs.declared.canon_builder.CanonBuilder.TheInside.{Inside}

@@ -7,10 +7,9 @@ use Rattle.cbor_head.specs.declared.major.Major.TheVariants as of_major
 use Rattle.cbor_head.specs.Canonical.{in_order}
 use Rattle.cbor_head.specs.declared.order.KeyOrder.{KeyOrder}
 use Rattle.cbor_head.specs.Head.{shortest_head}
-use Rattle.cbor_canonical.specs.Pairs.{IsRising}
+use Rattle.cbor_canonical.specs.Pairs.{IsRising, pair_bytes}
 use Rattle.cbor_buffer.proofs.Written.{take_front, drop_front}
-use Rattle.cbor_builder.specs.Parts.{plain, an_array, a_map, a_key, a_string, pair, with_member, with_content, give, extended, close, closed}
-use Rattle.cbor_buffer.specs.Pairs.{pair_bytes}
+use Rattle.cbor_canonical.specs.Parts.{plain, an_array, a_map, a_key, a_string, pair, with_member, with_content, give, extended, close, closed}
 use Rattle.cbor_buffer.specs.Spans.{span_pair, AreWithin}
 use Rattle.cbor_builder.specs.inner.Laid.{pairs_from, Tile, shape_open, outer_spans, opens, Fits, Laid, Takes, IsString, shape_after, span, spans_after, KeepsRising, Stands, Completed}
 use Rattle.cbor_keys.specs.Front.{front_of}

@@ -6,8 +6,7 @@ use Rattle.std.proofs.lemmas.List.Sorted.{IsPermutation-sym, IsPermutation-map, 
 use Rattle.cbor_head.specs.Canonical.{Pair, in_order}
 use Rattle.cbor_head.specs.Order.{key_lt}
 use Rattle.cbor_head.specs.declared.order.KeyOrder.{KeyOrder}
-use Rattle.cbor_canonical.specs.Pairs.{IsRising, HasDistinctBytes}
-use Rattle.cbor_buffer.specs.Pairs.{pair_bytes}
+use Rattle.cbor_canonical.specs.Pairs.{IsRising, HasDistinctBytes, pair_bytes}
 use Rattle.cbor_builder.specs.inner.Front.{key_of}
 use Rattle.cbor_buffer.specs.Spans.{span_pair, AreBehind}
 use Rattle.cbor_builder.specs.inner.Laid.{pairs_from, Tile}

@@ -5,7 +5,7 @@ use Rattle.std.specs.Option.{option_or}
 use Rattle.std.specs.Bool.{then_some}
 use Rattle.std.proofs.lemmas.List.{length-map, length-reverse, drop_all, take_rest}
 use Rattle.cbor_builder.specs.Built.{HasKey, IsRepeatedKey, keys_so_far, AreAllDifferent, IsFirstRepeat}
-use Rattle.cbor_builder.specs.Parts.{Open}
+use Rattle.cbor_canonical.specs.Parts.{Open}
 use Rattle.cbor_head.specs.Canonical.{Pair}
 use Rattle.cbor_head.specs.declared.order.KeyOrder.{KeyOrder}
 use Rattle.cbor_builder.specs.inner.Front.{key_of}

@@ -10,8 +10,8 @@ use Rattle.cbor_head.specs.declared.major.Major.{Major}
 use Rattle.cbor_head.specs.declared.major.Major.TheVariants.{Bytes, Text, Array, Map, Tag}
 use Rattle.cbor_canonical.proofs.Induction.{AllOf, AllIn, by_cases}
 use Rattle.cbor_canonical.proofs.Told.{length-canonical_entries}
-use Rattle.cbor_builder.specs.Parts.{Open, plain, an_array, a_map, a_key, a_string, pair, closed, give, run, after, Part, end, string_parts, chunks_joined, Makes, MakesAll, MakesEntries, MakesString}
-use Rattle.cbor_buffer.specs.Pairs.{pair_bytes}
+use Rattle.cbor_canonical.specs.Parts.{Open, plain, an_array, a_map, a_key, a_string, pair, closed, give, run, after, Part, end, string_parts, chunks_joined, Makes, MakesAll, MakesEntries, MakesString}
+use Rattle.cbor_canonical.specs.Pairs.{pair_bytes}
 
 pub run-append : (o : KeyOrder) (ps qs : List Part) (os : List Open) → run o (ps ++ qs) os ≡ run o qs (run o ps os)
 run-append o [] qs os = refl

@@ -1,7 +1,7 @@
 -- What a builder stands for, where its buffer lies in another order than it is meant in.
 use Rattle.std.proofs.Common.{◌≡◌, ℕ, ◌≤◌, List, [], ◌∷◌, ◌++◌, length, length-take, take, drop, take-append-drop, refl, sym, ap, ◌∙◌, subst, arith, inl, inr}
 use Rattle.cbor_head.specs.declared.order.KeyOrder.{KeyOrder}
-use Rattle.cbor_builder.specs.Parts.{closed, close, give, extended}
+use Rattle.cbor_canonical.specs.Parts.{closed, close, give, extended}
 use Rattle.cbor_builder.specs.inner.Front.{AreFronted}
 use Rattle.cbor_builder.specs.inner.Laid.{shape_open, outer_spans, opens, Laid, Takes, Completed, Stands, IsString}
 use Rattle.cbor_buffer.specs.Moved.{meant, IsWhole, IsSettled, KeepsFront, Stays}

@@ -5,7 +5,7 @@ use Rattle.cbor_head.specs.Canonical.{Pair}
 use Rattle.cbor_head.specs.declared.order.KeyOrder.{KeyOrder}
 use Rattle.cbor_head.specs.declared.major.Major.{Major}
 use Rattle.cbor_head.specs.declared.major.Major.TheVariants.{Unsigned, Negative, Bytes, Text, Array, Map, Tag, Simple}
-use Rattle.cbor_builder.specs.Parts.{Open, plain, an_array, a_map, a_key, a_string, HasNoRepeats}
+use Rattle.cbor_canonical.specs.Parts.{Open, plain, an_array, a_map, a_key, a_string, HasNoRepeats}
 
 -- the order of keys, and what is open, the innermost first: nothing, after a call was refused memory
 pub record Built : Type 0 where
@@ -55,13 +55,6 @@ abbrev pub IsInString : List Open → Type 0
 IsInString (a_string m bs ∷ c ∷ os) = Unit {0}
 IsInString _ = ⊥
 
--- an array, a map or a tag is open, and no key waits for its value
-abbrev pub IsInContainer : List Open → Type 0
-IsInContainer (an_array n bs ∷ c ∷ os) = Unit {0}
-IsInContainer (a_map ps ∷ c ∷ os) = Unit {0}
-IsInContainer (plain bs ∷ c ∷ os) = Unit {0}
-IsInContainer _ = ⊥
-
 -- no two keys of the innermost are equal, where it is a map
 abbrev pub HasDistinctKeysSoFar : List Open → Type 0
 HasDistinctKeysSoFar [] = Unit {0}
@@ -83,6 +76,11 @@ HasKey (p ∷ ps) k = (p.key ≡ k) ⊎ HasKey ps k
 abbrev pub IsRepeatedKey : List Open → Type 0
 IsRepeatedKey (a_key ps k ∷ os) = HasKey ps k
 IsRepeatedKey _ = ⊥
+
+-- the next item is a key of a map
+abbrev pub IsKeyDue : List Open → Type 0
+IsKeyDue (a_map ps ∷ os) = Unit {0}
+IsKeyDue _ = ⊥
 
 -- this key waits for its value
 abbrev pub IsWaitingKey : List Open → List ℕ → Type 0

@@ -4,8 +4,8 @@ ghost use Rattle.std.specs.Prelude.{ℕ, List, ◌≡◌, ◌≢◌, ◌↔◌, 
 ghost use Rattle.std.specs.Prelude.{OnOk, MatchOption, take, length, vec_len};
 ghost use Rattle.cbor_head.specs.Head.{shortest_head, IsSimple};
 ghost use Rattle.cbor_head.specs.declared.major.Major.TheVariants.{Simple};
-ghost use Rattle.cbor_builder.specs.Built.{IsRepeatedKey, IsWaitingKey};
-ghost use Rattle.cbor_builder.specs.Parts.{plain, give, opened, extended};
+ghost use Rattle.cbor_builder.specs.Built.{IsKeyDue, IsRepeatedKey, IsWaitingKey};
+ghost use Rattle.cbor_canonical.specs.Parts.{plain, give, opened, extended};
 ghost use Rattle.cbor_builder.specs.inner.Laid.{Takes, IsString, outer_spans};
 ghost use Rattle.cbor_builder.specs.inner.BuilderState.{standing, innermost, IsLaid};
 ghost use Rattle.cbor_builder.specs.inner.Repeats.{TellsOf, Tells};
@@ -179,6 +179,13 @@ impl Core {
             ),
             _ => false,
         }
+    }
+
+    // Whether the next item is a key.
+    pub(crate) fn is_key_due(&self) -> bool
+        ensures { IsTrue result ↔ IsKeyDue (standing self.now) }
+    {
+        matches!(self.top.shape, Shape::Map(_))
     }
 
     // The bytes of the key that waits for its value.

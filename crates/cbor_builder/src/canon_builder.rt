@@ -7,10 +7,11 @@ ghost use Rattle.cbor_head.specs.Head.{shortest_head, IsSimple};
 ghost use Rattle.cbor_head.specs.Value.{Value};
 ghost use Rattle.cbor_head.specs.declared.major.Major.TheVariants.{Simple};
 ghost use Rattle.cbor_builder.specs.Built.{built, IsLeaf, IsStringType, IsContainer, TakesPart};
-ghost use Rattle.cbor_builder.specs.Built.{IsInString, IsInContainer, HasDistinctKeysSoFar};
-ghost use Rattle.cbor_builder.specs.Built.{IsRepeatedKey, IsWaitingKey, AreOpenKeysDifferent};
+ghost use Rattle.cbor_builder.specs.Built.{IsInString, HasDistinctKeysSoFar};
+ghost use Rattle.cbor_canonical.specs.Parts.{IsInContainer, Part, Makes, run, plain, give, opened, extended, close};
+ghost use Rattle.cbor_builder.specs.Built.{IsKeyDue, IsRepeatedKey, IsWaitingKey};
+ghost use Rattle.cbor_builder.specs.Built.{AreOpenKeysDifferent};
 ghost use Rattle.cbor_builder.specs.Built.{IsRepeatTold, around};
-ghost use Rattle.cbor_builder.specs.Parts.{Part, Makes, run, plain, give, opened, extended, close};
 
 use crate::builder::Core;
 use crate::repeat::Repeat;
@@ -266,6 +267,13 @@ impl CanonBuilder {
         ensures { IsTrue result ↔ IsRepeatedKey self.now.standing }
     {
         self.is_sound && self.core.repeated()
+    }
+
+    /// Whether the next part begins a key of a map. Takes no memory.
+    pub fn is_key_due(&self) -> bool
+        ensures { IsTrue result ↔ IsKeyDue self.now.standing }
+    {
+        self.is_sound && self.core.is_key_due()
     }
 
     /// The canonical bytes of the key that was just completed, where its value is still to come.

@@ -7,8 +7,7 @@ ghost use Rattle.cbor_head.specs.Value.{AreEntriesInRange, HasDistinctKeys};
 ghost use Rattle.cbor_head.specs.Canonical.{canonical, canonical_entries};
 ghost use Rattle.cbor_head.specs.declared.order.KeyOrder.{KeyOrder};
 ghost use Rattle.cbor_canonical.specs.Pairs.{AreKeysValid};
-ghost use Rattle.cbor_builder.specs.Parts.{Open, a_map, a_key, Part, Makes, plain, run};
-ghost use Rattle.cbor_builder.specs.Parts.{give, HasNoRepeats};
+ghost use Rattle.cbor_canonical.specs.Parts.{Open, a_map, a_key, Part, Makes, plain, run, give, HasNoRepeats};
 ghost use Rattle.cbor_builder.specs.Built.{IsRepeatedKey, HasSameKey};
 
 /// From nothing, the parts that make a value leave its canonical bytes; whatever is open, they

@@ -11,7 +11,7 @@ use Rattle.cbor_canonical.proofs.Sorting.{in_order_same, length-in_order}
 use Rattle.cbor_canonical.proofs.Induction.{AllOf, AllIn, AllIn-at, by_cases}
 use Rattle.cbor_canonical.proofs.Sound.{IsSound, sound, sound_at}
 use Rattle.cbor_canonical.proofs.Sameness.{SameMaps, same_maps}
-use Rattle.cbor_canonical.proofs.Normal.{pair_bytes}
+use Rattle.cbor_canonical.specs.Pairs.{pair_bytes}
 use Rattle.cbor_canonical.proofs.Told.{pair_of, pair_in, in_pair, length-canonical_entries, distinct_bytes}
 
 abbrev Agrees : KeyOrder → Value → Type 0

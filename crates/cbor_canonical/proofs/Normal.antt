@@ -13,6 +13,7 @@ use Rattle.cbor_head.specs.declared.width.Width.TheVariants.{Direct, One, Two, F
 use Rattle.cbor_head.proofs.Least.{least}
 use Rattle.cbor_grammar.proofs.ReadLaws.{holds_or_open}
 use Rattle.cbor_canonical.proofs.Induction.{AllOf, AllIn, AllIn-every, by_cases}
+use Rattle.cbor_canonical.specs.Pairs.{pair_bytes}
 
 abbrev pub put_entry : KeyOrder → Spelling → Spelling → SpelledEntries → SpelledEntries
 put_entry o k v no_entries = entry k v no_entries
@@ -37,9 +38,6 @@ abbrev mutual
   pub normal_entries : KeyOrder → Entries → SpelledEntries
   normal_entries o value.no_entries = no_entries
   normal_entries o (value.entry k v es) = put_entry o (normal o k) (normal o v) (normal_entries o es)
-
-abbrev pub pair_bytes : Pair → List ℕ
-pair_bytes p = p.key ++ p.value
 
 abbrev pub pairs : SpelledEntries → List Pair
 pairs no_entries = []

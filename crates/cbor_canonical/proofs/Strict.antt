@@ -15,14 +15,14 @@ use Rattle.cbor_head.specs.declared.major.Major.TheVariants.{Unsigned, Negative,
 use Rattle.cbor_head.specs.declared.width.Width.{Width}
 use Rattle.cbor_head.specs.declared.width.Width.TheVariants.{Direct, One, Two, Four, Eight, Indefinite}
 use Rattle.cbor_grammar.proofs.Counts.{holds_fits, values_count-of, entries_count-of}
-use Rattle.cbor_canonical.specs.Pairs.{IsRising}
+use Rattle.cbor_canonical.specs.Pairs.{IsRising, pair_bytes}
 use Rattle.cbor_canonical.proofs.Members.{In}
 use Rattle.cbor_canonical.proofs.Orders.{lt_trans}
 use Rattle.cbor_canonical.proofs.Sorting.{rising_cons, rising_distinct, in_order-rising}
 use Rattle.cbor_canonical.proofs.Stable.{width_stable, utf8_stable}
 use Rattle.cbor_canonical.proofs.Sound.{IsSound, sound, valid_apart}
 use Rattle.cbor_canonical.proofs.Keys.{distinct_from_bytes}
-use Rattle.cbor_canonical.proofs.Normal.{pair_bytes, pairs, spell_entries-pairs, break_of-shortest}
+use Rattle.cbor_canonical.proofs.Normal.{pairs, spell_entries-pairs, break_of-shortest}
 
 -- ---- spelled pairs without complaint
 

@@ -1,2 +1,3 @@
 pub mod CanonicalSpelling
 pub mod Pairs
+pub mod Parts

@@ -1,10 +1,13 @@
 -- Lists of encoded pairs, by their keys.
-use Rattle.std.specs.Prelude.{◌≢◌, IsTrue, List, [], ◌∷◌}
+use Rattle.std.specs.Prelude.{ℕ, ◌≢◌, ◌++◌, IsTrue, List, [], ◌∷◌}
 use Rattle.std.specs.List.{AllByRecursion}
 use Rattle.cbor_head.specs.Order.{key_lt}
 use Rattle.cbor_head.specs.Canonical.{Pair}
 use Rattle.cbor_head.specs.declared.order.KeyOrder.{KeyOrder}
 use Rattle.cbor_head.specs.Value.{Entries, no_entries, entry, IsValid}
+
+abbrev pub pair_bytes : Pair → List ℕ
+pair_bytes p = p.key ++ p.value
 
 -- each key comes before all that follow it
 abbrev pub IsRising : KeyOrder → List Pair → Type 0

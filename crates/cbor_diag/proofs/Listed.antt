@@ -13,6 +13,7 @@ use Rattle.cbor_head.specs.declared.width.Width.{Width}
 use Rattle.cbor_head.specs.declared.reason.Reason.TheVariants.{Read, Write, Truncated}
 use Rattle.cbor_head.specs.declared.reason.Refusal.{Refusal}
 use Rattle.cbor_grammar.proofs.Accepted.{accepts_exactly}
+use Rattle.cbor_grammar.proofs.KindsUnasked.{form_beside}
 use Rattle.cbor_grammar.proofs.ReadLaws.{unique}
 use Rattle.cbor_automaton.specs.Trace.{Mark, total}
 use Rattle.cbor_automaton.specs.Marks.{marks_of, IsProper}
@@ -280,12 +281,22 @@ pub no-event : (m new : MachineView) (now to : Option (List ℕ)) (kept piece t 
     → IsEnd (call_of m new now to kept piece t ms)
 no-event m new now to kept piece t ms v is h = subst (λ (x : Option Event). IsNext (Ok x) (call_of m new now to kept piece t ms)) is h
 
-pub listed-within : (start : ℕ) (d n : ℕ) (m : MachineView) (from old out : Option (List ℕ)) (count : ℕ) → m.depth ≡ d → m.bytes ≡ n
-    → IfSome from (λ input. IsListed start (bounds m.depth m.bytes) input count old out) → IfSome from (λ input. IsListed start (bounds d n) input count old out)
-listed-within start d n m from old out count depth bytes h =
-    subst (λ (k : ℕ). IfSome from (λ input. IsListed start (bounds k n) input count old out)) depth (subst (λ (k : ℕ). IfSome from (λ input. IsListed start (bounds m.depth k) input count old out)) bytes h)
+-- by form alone, whichever keys are asked for
+pub listed-within : (start : ℕ) (limits : Bounds) (m : MachineView) (from old out : Option (List ℕ)) (count : ℕ) → m.depth ≡ limits.depth → m.bytes ≡ limits.bytes
+    → IfSome from (λ input. IsListed start (bounds m.depth m.bytes) input count old out) → IfSome from (λ input. IsListed start limits input count old out)
+listed-within start limits m None old out count depth bytes h = tt
+listed-within start limits m (Some input) old out count depth bytes h =
+    record { item = h.item; verdict = form_beside (bounds m.depth m.bytes) limits input (accepted h.item) depth bytes h.verdict; size = h.size; written = h.written }
 
-pub unlisted-within : (start : ℕ) (d n : ℕ) (m : MachineView) (from old out : Option (List ℕ)) (f : Refusal) → m.depth ≡ d → m.bytes ≡ n
-    → IfSome from (λ input. IsUnlisted start (bounds m.depth m.bytes) input f old out) → IfSome from (λ input. IsUnlisted start (bounds d n) input f old out)
-unlisted-within start d n m from old out f depth bytes h =
-    subst (λ (k : ℕ). IfSome from (λ input. IsUnlisted start (bounds k n) input f old out)) depth (subst (λ (k : ℕ). IfSome from (λ input. IsUnlisted start (bounds m.depth k) input f old out)) bytes h)
+pub unlisted-within : (start : ℕ) (limits : Bounds) (m : MachineView) (from old out : Option (List ℕ)) (f : Refusal) → m.depth ≡ limits.depth → m.bytes ≡ limits.bytes
+    → IfSome from (λ input. IsUnlisted start (bounds m.depth m.bytes) input f old out) → IfSome from (λ input. IsUnlisted start limits input f old out)
+unlisted-within start limits m None old out f depth bytes h = tt
+unlisted-within start limits m (Some input) old out f depth bytes h = go h
+  where
+    here : (bs : List ℕ) (g : Refusal) → IsVerdict (bounds m.depth m.bytes) form bs (refused g) → IsVerdict limits form bs (refused g)
+    here bs g v = form_beside (bounds m.depth m.bytes) limits bs (refused g) depth bytes v
+
+    go : IsUnlisted start (bounds m.depth m.bytes) input f old out → IsUnlisted start limits input f old out
+    go (of_verdict text v l a) = of_verdict text (here input f v) (subst (λ (d : ℕ). IsListing start d (take f.place input) text) depth l) a
+    go (of_reader text is v l a) = of_reader text is (here (take f.read input) (refusal Truncated f.read f.read) v) (subst (λ (d : ℕ). IsListing start d (take f.read input) text) depth l) a
+    go (of_writer text is s a) = of_writer text is (subst (λ (d : ℕ). IsStopped start d (take f.read input) text) depth s) a

@@ -1,5 +1,5 @@
 -- What one read makes of a call for the next event.
-use Rattle.std.proofs.Common.{◌≡◌, ℕ, zero, suc, ◌<◌, ◌≤◌, inr, List, [], ◌++◌, length, take, refl, sym, subst, ◌∙◌, arith, append-nil}
+use Rattle.std.proofs.Common.{◌≡◌, ℕ, zero, suc, ◌<◌, ◌≤◌, ◌⊎◌, inl, inr, append_assoc, List, [], ◌++◌, length, take, drop, refl, sym, subst, ◌∙◌, arith, append-nil}
 use Rattle.std.specs.Prelude.{Option, Some, None, Result, Ok, Err}
 use Rattle.std.specs.Io.KnownBytes.{Consumes}
 use Rattle.std.proofs.KnownBytes.{Consumes-nil}
@@ -10,7 +10,10 @@ use Rattle.cbor_standing.specs.MachineView.{MachineView}
 use Rattle.cbor_standing.specs.Machine.{StandsFor, wanted}
 use Rattle.cbor_standing.specs.NextEvent.{StandsBetween, IfTold, IsNext, machine_call}
 use Rattle.cbor_standing.specs.Calls.{HasRead, piece_after}
-use Rattle.cbor_events.specs.inner.Reads.{IsPartTaken, IsPartRead}
+use Rattle.cbor_automaton.specs.Marks.{marks_of}
+use Rattle.cbor_automaton.specs.Trace.{total}
+use Rattle.cbor_automaton.specs.Bytes.{IsEventBytes}
+use Rattle.cbor_events.specs.inner.Reads.{IsPartTaken, IsPartRead, HasTaken, HasStopped, IfGiven}
 use Rattle.cbor_automaton.specs.declared.event.Event.{Event}
 use Rattle.cbor_events.specs.declared.part.Part.{Part}
 use Rattle.cbor_events.specs.declared.part.Part.TheVariants.{Told, Open, Stopped}
@@ -44,3 +47,28 @@ pub end-answer : (r : Result (Option Event) Refusal) (from to : Option (List ℕ
 end-answer (Ok (Some e)) from to was new kept buffer t ms none h = absurd none
 end-answer (Ok None) from to was new kept buffer t ms none h = h
 end-answer (Err f) from to was new kept buffer t ms none h = h
+
+-- ---- what the machine took, whichever call began
+
+-- bytes that told nothing, and then others
+pub given-on : (r : Result (Option Event) Refusal) (new : MachineView) (t bs : List ℕ) (ms : List Mark) → IfGiven r new (t ++ bs) ms → IfGiven r new t ms
+given-on (Ok (Some e)) new t bs ms g =
+    let same = append_assoc t bs g.0 in (
+      bs ++ g.0,
+      record {
+        stands = subst (λ (xs : List ℕ). StandsFor new xs (ms ++ marks_of e.width e.kind)) same g.1.stands;
+        place = g.1.place;
+        ends = subst (λ (xs : List ℕ). total (ms ++ marks_of e.width e.kind) ≡ length xs) same g.1.ends;
+        bytes = subst (λ (xs : List ℕ). IsEventBytes ms e.width e.kind (drop e.place xs)) same g.1.bytes;
+      },
+    )
+given-on (Ok None) new t bs ms g = tt
+given-on (Err f) new t bs ms g = tt
+
+pub told-given : (e : Event) (old new : MachineView) (want : ℕ) (from to : Option (List ℕ)) (buffer t : List ℕ) (ms : List Mark) → HasTaken (Told e) old new want from to buffer t ms ⊎ HasStopped (Told e) old → IfGiven (Ok (Some e)) new t ms
+told-given e old new want from to buffer t ms (inl h) = (h.bytes, h.taken)
+told-given e old new want from to buffer t ms (inr h) = absurd h
+
+pub silent-on : (old new : MachineView) (want : ℕ) (from to : Option (List ℕ)) (buffer t : List ℕ) (ms : List Mark) → HasTaken Open old new want from to buffer t ms ⊎ HasStopped Open old → (bs : List ℕ) × StandsFor new (t ++ bs) ms
+silent-on old new want from to buffer t ms (inl h) = (h.bytes, h.taken)
+silent-on old new want from to buffer t ms (inr h) = absurd h

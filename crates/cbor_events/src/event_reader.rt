@@ -26,6 +26,8 @@ impl<R> Model for EventReader<R> {
     ghost Value = { EventReaderView R };
 
     ghost view = { λ e. record { reader = e.reader; events = e.events } };
+
+    ghost invariant = { λ e. IfSome e.events.refusal (λ f. IsEventReason f.reason) };
 }
 
 impl<R: Read> EventReader<R> {

@@ -10,8 +10,13 @@ ghost use Rattle.cbor_standing.specs.Machine.{KeepsLimits, IsIdle, wanted};
 ghost use Rattle.cbor_standing.specs.NextEvent.{ItemEventsView, StandsBetween, IfTold, IsNext};
 ghost use Rattle.cbor_standing.specs.NextEvent.{machine_call, call};
 ghost use Rattle.cbor_standing.specs.Calls.{HasRead, piece_after, piece_size};
+ghost use Rattle.cbor_standing.specs.Machine.{StandsFor};
+ghost use Rattle.cbor_events.specs.NextKey.{IsKeyReason};
+ghost use Rattle.cbor_events.specs.inner.Reads.{IfGiven};
 
-use crate::part::{Part, read_part};
+mod key;
+
+use crate::part::{Part, answer_anew, read_part};
 use cbor_automaton::{Event, EventKind};
 use cbor_head::{Limits, Refusal};
 use cbor_machine::{Machine, Out, take_part};
@@ -50,7 +55,7 @@ impl Model for ItemEvents {
       within : e.machine.open_count ≤ e.machine.depth;
       limited : e.machine.taken ≤ e.machine.bytes;
       stopped : IfSome e.refusal
-          (λ f. (f.read ≡ e.machine.taken) × (e.held ≡ 0) × IsEventReason f.reason);
+          (λ f. (f.read ≡ e.machine.taken) × (e.held ≡ 0) × IsKeyReason f.reason);
     } };
 }
 
@@ -89,7 +94,8 @@ impl ItemEvents {
         ensures proper { IfTold result (λ e. IsProper e.width e.kind) }
         ensures live { OnOk result (self.new.refusal ≡ None) }
         ensures refused { IfErr result (λ f. (self.new.refusal ≡ Some f)
-            × (self.new.machine.taken ≡ f.read) × IsEventReason f.reason) }
+            × (self.new.machine.taken ≡ f.read)) }
+        ensures reason { self.old.refusal ≡ None → IfErr result (λ f. IsEventReason f.reason) }
         ensures emptied { OnErr result (self.new.piece ≡ []) }
 
         // Where nothing is wanted the reader is not touched, nor after a refusal.
@@ -181,6 +187,8 @@ fn next_event<R: Read>(
         → machine.old.depth ≡ was.depth
         → IsNext result (machine_call was machine.new from (R.remaining reader.new)
         kept (piece_after result kept buffer.new) t ms) }
+    ensures given { (t : List ℕ) (ms : List Mark) → StandsFor machine.old t ms
+        → IfGiven result machine.new t ms }
     ensures limits { KeepsLimits machine.old machine.new }
     ensures proper { IfTold result (λ e. IsProper e.width e.kind) }
     ensures taken { IfErr result (λ f. machine.new.taken ≡ f.read) }
@@ -217,6 +225,8 @@ fn next_apart<R: Read>(
         → machine.old.depth ≡ was.depth
         → IsNext result (machine_call was machine.new from (R.remaining reader.new)
         kept (piece_after result kept buffer.new) t ms) }
+    ensures given { (t : List ℕ) (ms : List Mark) → StandsFor machine.old t ms
+        → IfGiven result machine.new t ms }
     ensures limits { KeepsLimits machine.old machine.new }
     ensures proper { IfTold result (λ e. IsProper e.width e.kind) }
     ensures taken { IfErr result (λ f. machine.new.taken ≡ f.read) }
@@ -243,6 +253,8 @@ fn next_part<R: Read>(
         → machine.old.depth ≡ was.depth
         → IsNext result (machine_call was machine.new from (R.remaining reader.new)
         kept (piece_after result kept buffer.new) t ms) }
+    ensures given { (t : List ℕ) (ms : List Mark) → StandsFor machine.old t ms
+        → IfGiven result machine.new t ms }
     ensures limits { KeepsLimits machine.old machine.new }
     ensures proper { IfTold result (λ e. IsProper e.width e.kind) }
     ensures taken { IfErr result (λ f. machine.new.taken ≡ f.read) }
@@ -259,18 +271,6 @@ fn next_part<R: Read>(
         Part::Told(event) => Ok(Some(event)),
         Part::Open => next_apart(machine, reader, buffer),
         Part::Stopped(refusal) => Err(refusal),
-    }
-}
-
-// The same answer, made anew as `part_anew` makes a part, and for the same reason.
-#[inline(always)]
-fn answer_anew(answer: Result<Option<Event>, Refusal>) -> Result<Option<Event>, Refusal>
-    ensures { result ≡ answer }
-{
-    match answer {
-        Ok(Some(event)) => Ok(Some(event)),
-        Ok(None) => Ok(None),
-        Err(refusal) => Err(refusal),
     }
 }
 

@@ -1,6 +1,6 @@
 //! A part of an item: bytes asked for by one call of `read`, and what the machine makes of them.
 
-ghost use Rattle.std.specs.Prelude.{◌≡◌, ◌≤◌, ◌<◌, ℕ, List, length, Option};
+ghost use Rattle.std.specs.Prelude.{◌≡◌, ◌≤◌, ◌<◌, ◌⊎◌, ℕ, List, length, Option};
 ghost use Rattle.cbor_head.specs.Verdict.{refusal};
 ghost use Rattle.cbor_automaton.specs.Trace.{Mark};
 ghost use Rattle.cbor_automaton.specs.Marks.{IsProper};
@@ -11,6 +11,7 @@ ghost use Rattle.cbor_standing.specs.Machine.{KeepsLimits, StandsFor, wanted};
 ghost use Rattle.cbor_standing.specs.NextEvent.{StandsBetween};
 ghost use Rattle.cbor_standing.specs.Calls.{HasRead};
 ghost use Rattle.cbor_events.specs.inner.Reads.{IsAsked, IsPartTaken, IsPartRead, IfPartTold, IfStopped};
+ghost use Rattle.cbor_events.specs.inner.Reads.{HasTaken, HasStopped};
 
 use cbor_automaton::Event;
 use cbor_head::{Reason, Refusal};
@@ -66,6 +67,18 @@ fn part_anew(part: Part) -> Part
         Part::Told(event) => Part::Told(event),
         Part::Open => Part::Open,
         Part::Stopped(refusal) => Part::Stopped(refusal),
+    }
+}
+
+// The same of an answer.
+#[inline(always)]
+pub(crate) fn answer_anew(answer: Result<Option<Event>, Refusal>) -> Result<Option<Event>, Refusal>
+    ensures { result ≡ answer }
+{
+    match answer {
+        Ok(Some(event)) => Ok(Some(event)),
+        Ok(None) => Ok(None),
+        Err(refusal) => Err(refusal),
     }
 }
 
@@ -150,6 +163,10 @@ pub(crate) fn read_part<R: Read>(
         → machine.old.depth ≡ was.depth
         → IsPartRead result was machine.new from (R.remaining reader.new)
         kept buffer.new t ms }
+    ensures lost { (t : List ℕ) (ms : List Mark) → StandsFor machine.old t ms
+        → HasTaken result machine.old machine.new want
+        (R.remaining reader.old) (R.remaining reader.new) buffer.new t ms
+        ⊎ HasStopped result machine.old }
     ensures limits { KeepsLimits machine.old machine.new }
     ensures proper { IfPartTold result (λ e. IsProper e.width e.kind) }
     ensures taken { IfStopped result (λ f. machine.new.taken ≡ f.read) }

@@ -6,7 +6,7 @@ use Rattle.std.proofs.KnownBytes.{Appends-trans}
 use Rattle.std.proofs.lemmas.List.{drop_all, take_all, length-drop}
 use Rattle.std.proofs.lemmas.Bool.{cases_lt}
 use Rattle.cbor_head.specs.Complaint.{plain}
-use Rattle.cbor_head.specs.Limits.{bounds}
+use Rattle.cbor_head.specs.Limits.{Bounds, bounds}
 use Rattle.cbor_head.specs.Value.{Value}
 use Rattle.cbor_judging.specs.Readers.{IsReadAs}
 use Rattle.cbor_diag.specs.Text.{text}
@@ -20,15 +20,14 @@ drop_within item place = by (cases_lt place (length item))
     by (inl l) = ap (λ n. drop n item) (omega (arith, l))
     by (inr l) = drop_all (min (length item) place) item (omega (arith, l)) ∙ sym (drop_all place item l)
 
-pub short_key : (item : List ℕ) (place start d n : ℕ) → start ≡ min (length item) place → d ≡ 256 → n ≡ 64 → (v : Value) (count : ℕ) (a b c : Option (List ℕ))
-    → IsReadAs (bounds d n) plain (take (length item - start) (drop start item)) v count → Appends a b (codes ".") → Appends b c (text v) → Writes (IsKeyText item place) a c
-short_key item place start d n start_is d_is n_is v count a b c read p q =
+pub short_key : (item : List ℕ) (place start : ℕ) (limits : Bounds) → start ≡ min (length item) place → limits ≡ bounds 256 64 → (v : Value) (count : ℕ) (a b c : Option (List ℕ))
+    → IsReadAs limits plain (take (length item - start) (drop start item)) v count → Appends a b (codes ".") → Appends b c (text v) → Writes (IsKeyText item place) a c
+short_key item place start limits start_is limits_is v count a b c read p q =
     let rest : take (length item - start) (drop start item) ≡ drop place item =
     take_all (length item - start) (drop start item) (omega (arith, length-drop start item)) ∙ ap (λ k. drop k item) start_is ∙ drop_within item place in
     record {
       text = codes "." ++ text v;
       is = short v count
-          (subst (λ k. IsReadAs (bounds k 64) plain (drop place item) v count) d_is
-          (subst (λ k. IsReadAs (bounds d k) plain (drop place item) v count) n_is (subst (λ (t : List ℕ). IsReadAs (bounds d n) plain t v count) rest read))) refl;
+          (subst (λ (l : Bounds). IsReadAs l plain (drop place item) v count) limits_is (subst (λ (t : List ℕ). IsReadAs limits plain t v count) rest read)) refl;
       written = Appends-trans a b c (codes ".") (text v) p q;
     }

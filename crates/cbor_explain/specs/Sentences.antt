@@ -1,7 +1,7 @@
 -- The sentences of a reason.
 use Rattle.std.specs.Prelude.{ℕ, List, codes}
 use Rattle.cbor_head.specs.declared.reason.Reason.{Reason}
-use Rattle.cbor_head.specs.declared.reason.Reason.TheVariants.{Truncated, TooLong, Reserved, NoIndefinite, Float, BadSimple, StrayBreak, BadChunk, TooDeep, InvalidText, RepeatedKey, Trailing, CanonicalTooLong, NotShortest, Indefinite, KeyOrder, Read, Write, Memory}
+use Rattle.cbor_head.specs.declared.reason.Reason.TheVariants.{Truncated, TooLong, Reserved, NoIndefinite, Float, BadSimple, StrayBreak, BadChunk, TooDeep, InvalidText, RepeatedKey, Trailing, CanonicalTooLong, NotShortest, Indefinite, KeyOrder, Read, Write, Memory, KeyKind}
 
 -- what a reason means
 abbrev pub meaning : Reason → List ℕ
@@ -24,6 +24,7 @@ meaning KeyOrder = codes "This key does not come after the key before it."
 meaning Read = codes "The input could not be read on."
 meaning Write = codes "The output took no more."
 meaning Memory = codes "Memory was refused."
+meaning KeyKind = codes "A key begins here that is neither an integer nor a text."
 
 -- what to do about it
 abbrev pub advice : Reason → List ℕ
@@ -46,3 +47,4 @@ advice KeyOrder = codes "canon sorts the keys; --order names the other order."
 advice Read = codes "Try again."
 advice Write = codes "Try again."
 advice Memory = codes "Try again."
+advice KeyKind = codes "Write the key as an integer or a text, or allow it with --keys any."

@@ -30,6 +30,7 @@ pub(crate) fn meaning(reason: Reason) -> &'static str
         Reason::Read => "The input could not be read on.",
         Reason::Write => "The output took no more.",
         Reason::Memory => "Memory was refused.",
+        Reason::KeyKind => "A key begins here that is neither an integer nor a text.",
     }
 }
 
@@ -54,5 +55,6 @@ pub(crate) fn advice(reason: Reason) -> &'static str
         Reason::NotShortest | Reason::Indefinite => "canon writes the item in canonical bytes.",
         Reason::KeyOrder => "canon sorts the keys; --order names the other order.",
         Reason::Read | Reason::Write | Reason::Memory => "Try again.",
+        Reason::KeyKind => "Write the key as an integer or a text, or allow it with --keys any.",
     }
 }

@@ -129,7 +129,7 @@ as_count r at m Two n i c e h = subst (λ (n : ℕ). OfHead r at m Two n c) e h
 as_count r at m Four n i c e h = subst (λ (n : ℕ). OfHead r at m Four n c) e h
 as_count r at m Eight n i c e h = subst (λ (n : ℕ). OfHead r at m Eight n c) e h
 
-same_length : (m : Major) (w : Width) (n i : ℕ) → length (head m w n) ≡ length (head m w i)
+pub same_length : (m : Major) (w : Width) (n i : ℕ) → length (head m w n) ≡ length (head m w i)
 same_length m Direct n i = refl
 same_length m One n i = refl
 same_length m Two n i = refl
@@ -137,11 +137,11 @@ same_length m Four n i = refl
 same_length m Eight n i = refl
 same_length m Indefinite n i = refl
 
-told_less : (w : Width) (n i : ℕ) → told w (suc n) ≡ told w (suc i) → told w n ≡ told w i
+pub told_less : (w : Width) (n i : ℕ) → told w (suc n) ≡ told w (suc i) → told w n ≡ told w i
 told_less Indefinite n i e = refl
 told_less _ n i e = omega arith
 
-told_none : (w : Width) (n : ℕ) → told w (suc n) ≡ told w 0 → w ≡ Indefinite
+pub told_none : (w : Width) (n : ℕ) → told w (suc n) ≡ told w 0 → w ≡ Indefinite
 told_none Indefinite n e = refl
 told_none _ n e = absurd (omega arith)
 
@@ -150,7 +150,7 @@ either_part f g (inl a) = inl (f a)
 either_part f g (inr b) = inr (g b)
 
 -- a key, a value, the other pairs and the end
-pairs_assoc : (a b c d : List ℕ) → a ++ b ++ c ++ d ≡ a ++ (b ++ (c ++ d))
+pub pairs_assoc : (a b c d : List ℕ) → a ++ b ++ c ++ d ≡ a ++ (b ++ (c ++ d))
 pairs_assoc a b c d = append_assoc (a ++ b) c d ∙ append_assoc a b (c ++ d)
 
 mutual

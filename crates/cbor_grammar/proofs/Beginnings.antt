@@ -3,13 +3,14 @@ use Rattle.std.proofs.Common.{ℕ, ◌≡◌, List, [], ◌++◌, take, refl, sy
 use Rattle.std.proofs.lemmas.List.{append-nil}
 use Rattle.cbor_head.specs.Limits.{Bounds}
 use Rattle.cbor_head.specs.Spelling.{Spelling, spell, IsItem}
-use Rattle.cbor_head.specs.Complaint.{Rules, Complaint, Complains}
-use Rattle.cbor_head.specs.Verdict.{accepted, IsVerdict}
+use Rattle.cbor_head.specs.Complaint.{Complaint}
+use Rattle.cbor_head.specs.Verdict.{accepted, IsVerdictBy}
 use Rattle.cbor_grammar.proofs.Verdicts.{whole_longest}
 
 -- an item without complaint, whatever stands behind it
-pub item_decides : (limits : Bounds) (r : Rules) (input u : List ℕ) (s : Spelling) → IsItem limits.depth s (spell s) → take limits.bytes input ≡ spell s ++ u → ((c : Complaint) → ¬ Complains r 0 s c) → IsVerdict limits r input (accepted s)
-item_decides limits r input u s i e none = record {
+pub item_decides : (P : Spelling → Complaint → Type 0) (limits : Bounds) (input u : List ℕ) (s : Spelling) → IsItem limits.depth s (spell s) → take limits.bytes input ≡ spell s ++ u → ((c : Complaint) → ¬ P s c)
+    → IsVerdictBy P limits input (accepted s)
+item_decides P limits input u s i e none = record {
   p = spell s;
   longest = whole_longest limits.depth s (take limits.bytes input) u i e;
   item = s;

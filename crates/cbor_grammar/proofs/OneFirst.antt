@@ -1,23 +1,22 @@
--- No two complaints of an item end at one place with one rank, so one comes first.
-use Rattle.std.proofs.Common.{ℕ, ◌+◌, ◌≡◌, ◌<◌, ◌≤◌, List, [], ◌∷◌, ◌++◌, length, sym, ap, ◌∙◌, arith, flat_map, inl, inr}
+-- Where complaints end, by rank: no two of an item at one place with one rank.
+use Rattle.std.proofs.Common.{ℕ, ◌+◌, ◌-◌, ◌≡◌, ◌<◌, ◌≤◌, List, [], ◌∷◌, ◌++◌, length, sym, ap, ◌∙◌, arith, flat_map, inl, inr}
 use Rattle.std.proofs.lemmas.List.{length-append}
 use Rattle.std.proofs.lemmas.Str.{IsUtf8-nil}
 use Rattle.cbor_head.specs.Head.{head}
-use Rattle.cbor_head.specs.Spelling.{Chunk, Spelling, Spellings, SpelledEntries, unsigned, negative, bytes, text, byte_chunks, text_chunks, array, a_map, tag, simple, no_spellings, a_spelling, no_entries, entry, spell, spell_all, spell_entries, spellings_count, entries_count, chunk_bytes, break_of, IsItem}
+use Rattle.cbor_head.specs.Spelling.{Chunk, Spelling, Spellings, SpelledEntries, unsigned, negative, bytes, text, byte_chunks, text_chunks, array, a_map, tag, simple, no_spellings, a_spelling, no_entries, entry, spell, spell_all, spell_entries, spellings_count, entries_count, chunk_bytes, break_of}
 use Rattle.cbor_head.specs.Complaint.{KeyRule, unasked, distinct, rising, Rules, Complaint, OfHead, OfIndefinite, OfCount, OfPayload, OfString, OfChunks, OfKey, Complains, ComplainsIn, ComplainsInEntries}
-use Rattle.cbor_head.specs.Verdict.{rank, IsFirstComplaint}
+use Rattle.cbor_head.specs.Verdict.{rank}
 use Rattle.cbor_head.specs.declared.major.Major.{Major}
 use Rattle.cbor_head.specs.declared.major.Major.TheVariants.{Unsigned, Negative, Bytes, Text, Array, Map, Tag}
 use Rattle.cbor_head.specs.declared.width.Width.{Width}
 use Rattle.cbor_head.specs.declared.width.Width.TheVariants.{Direct, One, Two, Four, Eight, Indefinite}
 use Rattle.cbor_grammar.proofs.ReadLaws.{length_head, length_spell}
-use Rattle.cbor_grammar.proofs.Agree.{same_complaints}
 use Rattle.cbor_grammar.proofs.Ends.{head_end, payload_end, chunks_later, key_end, later, later_in, later_entries}
 use Rattle.cbor_grammar.proofs.Parts.{major, width, count}
 
--- where a complaint ends, with its rank
+-- where a complaint ends: of those on a key, which come last, one further
 abbrev pub last : Complaint → ℕ
-last c = c.end + rank c.reason
+last c = c.end + (rank c.reason - 1)
 
 head_last : (r : Rules) (at : ℕ) (m : Major) (w : Width) (n : ℕ) (c : Complaint) → OfHead r at m w n c → last c ≡ at + length (head m w n)
 head_last r at m w n c h = ap last h.2 ∙ omega arith
@@ -187,18 +186,3 @@ mutual
   apart_entries (entry k v es) before r at c e f g (inr (inr (inr h))) (inr (inl i)) = absurd (omega (arith, key_last r.keys at before k e i, key_end r.keys at before k e i, later_entries es (k ∷ before) r (at + length (spell k) + length (spell v)) c h))
   apart_entries (entry k v es) before r at c e f g (inr (inr (inr h))) (inr (inr (inl i))) = absurd (omega (arith, bounded v r (at + length (spell k)) e i, later_entries es (k ∷ before) r (at + length (spell k) + length (spell v)) c h))
   apart_entries (entry k v es) before r at c e f g (inr (inr (inr h))) (inr (inr (inr i))) = apart_entries es (k ∷ before) r (at + length (spell k) + length (spell v)) c e f g h i
-
--- the first complaint within t is one
-pub one_first : (r : Rules) (s : Spelling) (t : ℕ) (c e : Complaint) → IsFirstComplaint r s t c → IsFirstComplaint r s t e → c ≡ e
-one_first r s t c e h i =
-    let m = h.first e i.holds i.ends in
-    let n = i.first c h.holds h.ends in
-    apart s r 0 c e (omega arith) (omega arith) h.holds i.holds
-
--- what comes first for one item that starts with p comes first for each
-pub first_for_each : (d : ℕ) (s t : Spelling) (p a b : List ℕ) → IsItem d s (p ++ a) → IsItem d t (p ++ b) → (r : Rules) (c : Complaint) → IsFirstComplaint r s (length p) c → IsFirstComplaint r t (length p) c
-first_for_each d s t p a b i j r c f = record {
-  holds = same_complaints d s t p a b i j r c f.ends f.holds;
-  ends = f.ends;
-  first = λ e h l. f.first e (same_complaints d t s p b a j i r e l h) l;
-}

@@ -3,12 +3,11 @@ use Rattle.std.proofs.Common.{ℕ, ◌+◌, ◌≡◌, List, [], ◌∷◌, ◌+
 use Rattle.std.proofs.lemmas.List.{append_cancel_left}
 use Rattle.cbor_head.specs.Limits.{Bounds}
 use Rattle.cbor_head.specs.Spelling.{Spelling, spell, IsItem}
-use Rattle.cbor_head.specs.Complaint.{Rules, Complaint}
-use Rattle.cbor_head.specs.Verdict.{refusal, Answer, accepted, refused, IsReasonAt, IsFormError, IsWithout, Decides, IsVerdict}
+use Rattle.cbor_head.specs.Complaint.{Rules, Complaint, IsComplaint}
+use Rattle.cbor_head.specs.Verdict.{refusal, Answer, accepted, refused, IsReasonAt, IsFormError, DecidesBy, IsVerdictBy, IsVerdict}
 use Rattle.cbor_head.specs.declared.reason.Refusal.{Refusal}
 use Rattle.cbor_head.specs.declared.reason.Reason.{Reason}
-use Rattle.cbor_grammar.proofs.Agree.{same_complaints}
-use Rattle.cbor_grammar.proofs.OneFirst.{one_first, first_for_each}
+use Rattle.cbor_grammar.proofs.Complaints.{AreToldByBytes, complaints_told, one_first, first_for_each, none_for_each}
 use Rattle.cbor_grammar.proofs.Verdicts.{longest_one, item_one}
 
 -- why c may not follow p is one reason
@@ -31,46 +30,42 @@ one_break limits p [] f g (inr h) (inl i) = absurd (omega (arith, h.0, i.0))
 one_break limits p [] f g (inr h) (inr i) = h.1 ∙ sym i.1
 one_break limits p (c ∷ rest) f g h i = h.2 ∙ ap (λ (r : Reason). refusal r (length p) (length p + 1)) (one_reason limits.depth p c h.0 i.0 h.1 i.1) ∙ sym i.2
 
-module _ (limits : Bounds) (r : Rules) (p behind : List ℕ) where
-  -- without complaint for one item that starts with p, without for each
-  pub without_for_each : (s t : Spelling) (a b : List ℕ) → IsItem limits.depth s (p ++ a) → IsItem limits.depth t (p ++ b) → IsWithout r s (length p) → IsWithout r t (length p)
-  without_for_each s t a b i j h c k l = h c (same_complaints limits.depth t s p b a j i r c l k) l
-
-  whole_too : (s t : Spelling) (a b : List ℕ) → IsItem limits.depth s (p ++ a) → IsItem limits.depth t (p ++ b) → spell s ≡ p → s ≡ t
-  whole_too s t a b i j e = (item_one limits.depth s t p b (record { spelled = i.spelled; within = i.within; bytes_are = e }) j).0
+module _ (P : Spelling → Complaint → Type 0) (told : AreToldByBytes P) (limits : Bounds) where
+  whole_too : (p : List ℕ) (s t : Spelling) (a b : List ℕ) → IsItem limits.depth s (p ++ a) → IsItem limits.depth t (p ++ b) → spell s ≡ p → s ≡ t
+  whole_too p s t a b i j e = (item_one limits.depth s t p b (record { spelled = i.spelled; within = i.within; bytes_are = e }) j).0
 
   -- what is decided of one item that starts with p is decided of each
-  pub decides_for_each : (s t : Spelling) (a b : List ℕ) → IsItem limits.depth s (p ++ a) → IsItem limits.depth t (p ++ b) → (x : Answer) → Decides limits r p behind s x → Decides limits r p behind t x
-  decides_for_each s t a b i j (accepted u) h =
-      let e : s ≡ t = whole_too s t a b i j h.1 in
-      (h.0 ∙ e, ap spell (sym e) ∙ h.1, without_for_each s t a b i j h.2)
-  decides_for_each s t a b i j (refused f) (inl h) = inl (h.0, first_for_each limits.depth s t p a b i j r h.0 h.1, h.2)
-  decides_for_each s t a b i j (refused f) (inr h) = inr (without_for_each s t a b i j h.0, λ e. h.1 (ap spell (sym (whole_too t s b a j i e)) ∙ e), h.2)
+  pub decides_for_each : (p behind : List ℕ) (s t : Spelling) (a b : List ℕ) → IsItem limits.depth s (p ++ a) → IsItem limits.depth t (p ++ b) → (x : Answer) → DecidesBy P limits p behind s x → DecidesBy P limits p behind t x
+  decides_for_each p behind s t a b i j (accepted u) h =
+      let e : s ≡ t = whole_too p s t a b i j h.1 in
+      (h.0 ∙ e, ap spell (sym e) ∙ h.1, none_for_each P told limits.depth s t p a b i j h.2)
+  decides_for_each p behind s t a b i j (refused f) (inl h) = inl (h.0, first_for_each P told limits.depth s t p a b i j h.0 h.1, h.2)
+  decides_for_each p behind s t a b i j (refused f) (inr h) = inr (none_for_each P told limits.depth s t p a b i j h.0, λ e. h.1 (ap spell (sym (whole_too p t s b a j i e)) ∙ e), h.2)
 
   -- one thing is decided of an item
-  one_decision : (s : Spelling) (x y : Answer) → Decides limits r p behind s x → Decides limits r p behind s y → x ≡ y
-  one_decision s (accepted u) (accepted v) h k = ap accepted (h.0 ∙ sym k.0)
-  one_decision s (accepted u) (refused f) h (inl k) = absurd (h.2 k.0 k.1.holds k.1.ends)
-  one_decision s (accepted u) (refused f) h (inr k) = absurd (k.1 h.1)
-  one_decision s (refused f) (accepted v) (inl h) k = absurd (k.2 h.0 h.1.holds h.1.ends)
-  one_decision s (refused f) (accepted v) (inr h) k = absurd (h.1 k.1)
-  one_decision s (refused f) (refused g) (inl h) (inl k) =
-      let e = one_first r s (length p) h.0 k.0 h.1 k.1 in
+  one_decision : (p behind : List ℕ) (s : Spelling) (x y : Answer) → DecidesBy P limits p behind s x → DecidesBy P limits p behind s y → x ≡ y
+  one_decision p behind s (accepted u) (accepted v) h k = ap accepted (h.0 ∙ sym k.0)
+  one_decision p behind s (accepted u) (refused f) h (inl k) = absurd (h.2 k.0 k.1.holds k.1.ends)
+  one_decision p behind s (accepted u) (refused f) h (inr k) = absurd (k.1 h.1)
+  one_decision p behind s (refused f) (accepted v) (inl h) k = absurd (k.2 h.0 h.1.holds h.1.ends)
+  one_decision p behind s (refused f) (accepted v) (inr h) k = absurd (h.1 k.1)
+  one_decision p behind s (refused f) (refused g) (inl h) (inl k) =
+      let e = one_first P told s (length p) h.0 k.0 h.1 k.1 in
       ap refused (h.2 ∙ ap (λ (c : Complaint). refusal c.reason c.place c.end) e ∙ sym k.2)
-  one_decision s (refused f) (refused g) (inl h) (inr k) = absurd (k.0 h.0 h.1.holds h.1.ends)
-  one_decision s (refused f) (refused g) (inr h) (inl k) = absurd (h.0 k.0 k.1.holds k.1.ends)
-  one_decision s (refused f) (refused g) (inr h) (inr k) = ap refused (one_break limits p behind f g h.2 k.2)
+  one_decision p behind s (refused f) (refused g) (inl h) (inr k) = absurd (k.0 h.0 h.1.holds h.1.ends)
+  one_decision p behind s (refused f) (refused g) (inr h) (inl k) = absurd (h.0 k.0 k.1.holds k.1.ends)
+  one_decision p behind s (refused f) (refused g) (inr h) (inr k) = ap refused (one_break limits p behind f g h.2 k.2)
 
-  -- the answers of two items that start with p
-  pub one_answer : (s t : Spelling) (a b : List ℕ) → IsItem limits.depth s (p ++ a) → IsItem limits.depth t (p ++ b) → (x y : Answer) → Decides limits r p behind s x → Decides limits r p behind t y → x ≡ y
-  one_answer s t a b i j x y h k = one_decision t x y (decides_for_each s t a b i j x h) k
+  -- the answer is one
+  pub one_answer : (input : List ℕ) (x y : Answer) → IsVerdictBy P limits input x → IsVerdictBy P limits input y → x ≡ y
+  one_answer input x y v w =
+      let e : w.p ≡ v.p = sym (longest_one limits.depth (take limits.bytes input) v.p w.p v.longest w.longest) in
+      let f : w.longest.rest ≡ v.longest.rest = append_cancel_left v.p w.longest.rest v.longest.rest (ap (λ (p : List ℕ). p ++ w.longest.rest) (sym e) ∙ sym w.longest.splits ∙ v.longest.splits) in
+      let j : IsItem limits.depth w.item (v.p ++ w.rest) = subst (λ (p : List ℕ). IsItem limits.depth w.item (p ++ w.rest)) e w.starts in
+      let k : DecidesBy P limits v.p w.longest.rest w.item y = subst (λ (p : List ℕ). DecidesBy P limits p w.longest.rest w.item y) e w.decides in
+      let l : DecidesBy P limits v.p v.longest.rest w.item y = subst (λ (q : List ℕ). DecidesBy P limits v.p q w.item y) f k in
+      one_decision v.p v.longest.rest w.item x y (decides_for_each v.p v.longest.rest v.item w.item v.rest w.rest v.starts j x v.decides) l
 
 -- the verdict is one
 pub one_verdict : (limits : Bounds) (r : Rules) (input : List ℕ) (x y : Answer) → IsVerdict limits r input x → IsVerdict limits r input y → x ≡ y
-one_verdict limits r input x y v w =
-    let e : w.p ≡ v.p = sym (longest_one limits.depth (take limits.bytes input) v.p w.p v.longest w.longest) in
-    let f : w.longest.rest ≡ v.longest.rest = append_cancel_left v.p w.longest.rest v.longest.rest (ap (λ (p : List ℕ). p ++ w.longest.rest) (sym e) ∙ sym w.longest.splits ∙ v.longest.splits) in
-    let j : IsItem limits.depth w.item (v.p ++ w.rest) = subst (λ (p : List ℕ). IsItem limits.depth w.item (p ++ w.rest)) e w.starts in
-    let k : Decides limits r v.p w.longest.rest w.item y = subst (λ (p : List ℕ). Decides limits r p w.longest.rest w.item y) e w.decides in
-    let l : Decides limits r v.p v.longest.rest w.item y = subst (λ (q : List ℕ). Decides limits r v.p q w.item y) f k in
-    one_answer limits r v.p v.longest.rest v.item w.item v.rest w.rest v.starts j x y v.decides l
+one_verdict limits r input x y v w = one_answer (IsComplaint limits r) (complaints_told limits r) limits input x y v w

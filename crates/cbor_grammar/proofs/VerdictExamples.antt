@@ -7,24 +7,30 @@ use Rattle.std.specs.Str.Lossy.{utf8_valid_len}
 use Rattle.std.proofs.lemmas.Str.{is_utf8-from_IsUtf8}
 use Rattle.cbor_head.specs.Beginning.{IsBeginning}
 use Rattle.cbor_head.specs.Complaint.{Rules, form, plain, strict, Complaint, complaint, Complains}
-use Rattle.cbor_head.specs.Limits.{bounds}
+use Rattle.cbor_head.specs.Limits.{Bounds, bounds}
 use Rattle.cbor_head.specs.Read.{read}
 use Rattle.cbor_head.specs.Spelling.{Spelling, unsigned, negative, text, text_chunks, array, a_map, IsItem, IsSpelled, spell, depth}
-use Rattle.cbor_head.specs.Verdict.{IsFirstComplaint, IsVerdict, Decides, Answer, rank, accepted, refused, refusal}
+use Rattle.cbor_head.specs.Verdict.{IsFirstOf, IsVerdictBy, IsVerdict, DecidesBy, Answer, rank, accepted, refused, refusal}
 use Rattle.cbor_head.specs.declared.order.KeyOrder.TheVariants.{Bytewise, LengthFirst}
 use Rattle.cbor_head.specs.declared.reason.Reason.TheVariants.{Truncated, TooLong, StrayBreak, InvalidText, RepeatedKey, NotShortest, Indefinite as IndefiniteReason, KeyOrder}
 use Rattle.cbor_head.specs.declared.width.Width.TheVariants.{Direct, One, Indefinite}
 use Rattle.cbor_grammar.proofs.Examples.{chunk, members, pairs}
+use Rattle.cbor_grammar.proofs.KindsUnasked.{any_verdict}
 use Rattle.cbor_grammar.proofs.ReadLaws.{reads, break_none}
 
+-- the first complaint for keys of any kind
+abbrev First : Rules → Spelling → ℕ → Complaint → Type 0
+First r s t c = IsFirstOf (Complains r 0 s) t c
+
 -- it comes first where each other one ends later, or ends there and is on a key
-first_of : (r : Rules) (s : Spelling) (t : ℕ) (c : Complaint) → Complains r 0 s c → c.end ≤ t → ((e : Complaint) → Complains r 0 s e → (c.end < e.end) ⊎ ((c.end ≡ e.end) × (rank c.reason ≤ rank e.reason))) → IsFirstComplaint r s t c
+first_of : (r : Rules) (s : Spelling) (t : ℕ) (c : Complaint) → Complains r 0 s c → c.end ≤ t → ((e : Complaint) → Complains r 0 s e → (c.end < e.end) ⊎ ((c.end ≡ e.end) × (rank c.reason ≤ rank e.reason))) → First r s t c
 first_of r s t c h l f = record { holds = h; ends = l; first = λ e i m. f e i }
 
--- the verdict where the first n bytes of the input are a beginning
-on_beginning : (n : ℕ) (r : Rules) (input p : List ℕ) (s : Spelling) (rest : List ℕ) (a : Answer) → take n input ≡ p → IsSpelled s → depth s ≤ 256 → spell s ≡ p ++ rest → Decides (bounds 256 n) r p [] s a → IsVerdict (bounds 256 n) r input a
-on_beginning n r input p s rest a e k l m h =
-    let i : IsItem 256 s (p ++ rest) = record { spelled = k; within = l; bytes_are = m } in
+-- what is answered where the first n bytes of the input are a beginning
+pub by_beginning : (P : Spelling → Complaint → Type 0) (limits : Bounds) (input p : List ℕ) (s : Spelling) (rest : List ℕ) (a : Answer) → take limits.bytes input ≡ p → IsSpelled s → depth s ≤ limits.depth → spell s ≡ p ++ rest → DecidesBy P limits p [] s a
+    → IsVerdictBy P limits input a
+by_beginning P limits input p s rest a e k l m h =
+    let i : IsItem limits.depth s (p ++ rest) = record { spelled = k; within = l; bytes_are = m } in
     record {
       p = p;
       longest = record {
@@ -39,6 +45,10 @@ on_beginning n r input p s rest a e k l m h =
       decides = h;
     }
 
+-- the verdict, for keys of any kind
+on_beginning : (n : ℕ) (r : Rules) (input p : List ℕ) (s : Spelling) (rest : List ℕ) (a : Answer) → take n input ≡ p → IsSpelled s → depth s ≤ 256 → spell s ≡ p ++ rest → DecidesBy (Complains r 0) (bounds 256 n) p [] s a → IsVerdict (bounds 256 n) r input a
+on_beginning n r input p s rest a e k l m h = (any_verdict (bounds 256 n) r refl input a).1 (by_beginning (Complains r 0) (bounds 256 n) input p s rest a e k l m h)
+
 -- ---- {1: 2, 3: 4}
 
 abbrev in_order : Spelling
@@ -52,14 +62,14 @@ in_order-accepted = on_beginning _ _ _ _ in_order [] _ refl (search arith) (omeg
 abbrev repeated : Spelling
 repeated = a_map Direct (pairs ((unsigned Direct 1, unsigned Direct 0) ∷ (unsigned One 1, unsigned Direct 0) ∷ []))
 
-repeated-plain : IsFirstComplaint plain repeated 6 (complaint 5 3 RepeatedKey)
-repeated-plain = first_of _ _ _ _ (search arith) (omega arith) (λ e h. grind arith)
+repeated-plain : First plain repeated 6 (complaint 5 3 RepeatedKey)
+repeated-plain = first_of plain repeated _ _ (search arith) (omega arith) (λ e h. grind arith)
 
 repeated-plain_verdict : IsVerdict (bounds 256 1048576) plain (0xa2 ∷ 0x01 ∷ 0x00 ∷ 0x18 ∷ 0x01 ∷ 0x00 ∷ []) (refused (refusal RepeatedKey 3 5))
 repeated-plain_verdict = on_beginning _ _ _ _ repeated [] _ refl (search arith) (omega arith) refl (inl (_, repeated-plain, refl))
 
-repeated-strict : IsFirstComplaint (strict Bytewise) repeated 6 (complaint 5 3 NotShortest)
-repeated-strict = first_of _ _ _ _ (search arith) (omega arith) (λ e h. grind arith)
+repeated-strict : First (strict Bytewise) repeated 6 (complaint 5 3 NotShortest)
+repeated-strict = first_of (strict Bytewise) repeated _ _ (search arith) (omega arith) (λ e h. grind arith)
 
 repeated-strict_verdict : IsVerdict (bounds 256 1048576) (strict Bytewise) (0xa2 ∷ 0x01 ∷ 0x00 ∷ 0x18 ∷ 0x01 ∷ 0x00 ∷ []) (refused (refusal NotShortest 3 5))
 repeated-strict_verdict = on_beginning _ _ _ _ repeated [] _ refl (search arith) (omega arith) refl (inl (_, repeated-strict, refl))
@@ -69,8 +79,8 @@ repeated-strict_verdict = on_beginning _ _ _ _ repeated [] _ refl (search arith)
 abbrev equal_keys : Spelling
 equal_keys = a_map Direct (pairs ((unsigned Direct 1, unsigned Direct 0) ∷ (unsigned Direct 1, unsigned Direct 0) ∷ []))
 
-equal_keys-strict : IsFirstComplaint (strict Bytewise) equal_keys 5 (complaint 4 3 KeyOrder)
-equal_keys-strict = first_of _ _ _ _ (search arith) (omega arith) (λ e h. grind arith)
+equal_keys-strict : First (strict Bytewise) equal_keys 5 (complaint 4 3 KeyOrder)
+equal_keys-strict = first_of (strict Bytewise) equal_keys _ _ (search arith) (omega arith) (λ e h. grind arith)
 
 equal_keys-verdict : IsVerdict (bounds 256 1048576) (strict Bytewise) (0xa2 ∷ 0x01 ∷ 0x00 ∷ 0x01 ∷ 0x00 ∷ []) (refused (refusal KeyOrder 3 4))
 equal_keys-verdict = on_beginning _ _ _ _ equal_keys [] _ refl (search arith) (omega arith) refl (inl (_, equal_keys-strict, refl))
@@ -83,8 +93,8 @@ keys_within = a_map Direct (pairs ((a_map Direct (pairs ((unsigned Direct 1, uns
 keys_within-outer : Complains (strict Bytewise) 0 keys_within (complaint 8 7 KeyOrder)
 keys_within-outer = search arith
 
-keys_within-strict : IsFirstComplaint (strict Bytewise) keys_within 9 (complaint 5 4 KeyOrder)
-keys_within-strict = first_of _ _ _ _ (search arith) (omega arith) (λ e h. grind arith)
+keys_within-strict : First (strict Bytewise) keys_within 9 (complaint 5 4 KeyOrder)
+keys_within-strict = first_of (strict Bytewise) keys_within _ _ (search arith) (omega arith) (λ e h. grind arith)
 
 keys_within-verdict : IsVerdict (bounds 256 1048576) (strict Bytewise) (0xa2 ∷ 0xa2 ∷ 0x01 ∷ 0x00 ∷ 0x00 ∷ 0x00 ∷ 0x00 ∷ 0x00 ∷ 0x00 ∷ []) (refused (refusal KeyOrder 4 5))
 keys_within-verdict = on_beginning _ _ _ _ keys_within [] _ refl (search arith) (omega arith) refl (inl (_, keys_within-strict, refl))
@@ -97,8 +107,8 @@ long_and_late = a_map Direct (pairs ((unsigned One 100, unsigned Direct 0) ∷ (
 long_and_late-key : Complains (strict Bytewise) 0 long_and_late (complaint 6 4 KeyOrder)
 long_and_late-key = search arith
 
-long_and_late-strict : IsFirstComplaint (strict Bytewise) long_and_late 7 (complaint 6 4 NotShortest)
-long_and_late-strict = first_of _ _ _ _ (search arith) (omega arith) (λ e h. grind arith)
+long_and_late-strict : First (strict Bytewise) long_and_late 7 (complaint 6 4 NotShortest)
+long_and_late-strict = first_of (strict Bytewise) long_and_late _ _ (search arith) (omega arith) (λ e h. grind arith)
 
 long_and_late-verdict : IsVerdict (bounds 256 1048576) (strict Bytewise) (0xa2 ∷ 0x18 ∷ 0x64 ∷ 0x00 ∷ 0x18 ∷ 0x01 ∷ 0x00 ∷ []) (refused (refusal NotShortest 4 6))
 long_and_late-verdict = on_beginning _ _ _ _ long_and_late [] _ refl (search arith) (omega arith) refl (inl (_, long_and_late-strict, refl))
@@ -111,8 +121,8 @@ by_length = a_map Direct (pairs ((unsigned One 100, unsigned Direct 0) ∷ (nega
 by_length-bytewise : IsVerdict (bounds 256 1048576) (strict Bytewise) (0xa2 ∷ 0x18 ∷ 0x64 ∷ 0x00 ∷ 0x20 ∷ 0x00 ∷ []) (accepted by_length)
 by_length-bytewise = on_beginning _ _ _ _ by_length [] _ refl (search arith) (omega arith) refl (refl, refl, λ c h l. grind arith)
 
-by_length-first : IsFirstComplaint (strict LengthFirst) by_length 6 (complaint 5 4 KeyOrder)
-by_length-first = first_of _ _ _ _ (search arith) (omega arith) (λ e h. grind arith)
+by_length-first : First (strict LengthFirst) by_length 6 (complaint 5 4 KeyOrder)
+by_length-first = first_of (strict LengthFirst) by_length _ _ (search arith) (omega arith) (λ e h. grind arith)
 
 by_length-verdict : IsVerdict (bounds 256 1048576) (strict LengthFirst) (0xa2 ∷ 0x18 ∷ 0x64 ∷ 0x00 ∷ 0x20 ∷ 0x00 ∷ []) (refused (refusal KeyOrder 4 5))
 by_length-verdict = on_beginning _ _ _ _ by_length [] _ refl (search arith) (omega arith) refl (inl (_, by_length-first, refl))
@@ -125,8 +135,8 @@ open_array = array Indefinite (members [])
 open_array-plain : IsVerdict (bounds 256 1048576) plain (0x9f ∷ 0xff ∷ []) (accepted open_array)
 open_array-plain = on_beginning _ _ _ _ open_array [] _ refl (search arith) (omega arith) refl (refl, refl, λ c h l. grind arith)
 
-open_array-strict : IsFirstComplaint (strict Bytewise) open_array 2 (complaint 1 0 IndefiniteReason)
-open_array-strict = first_of _ _ _ _ (search arith) (omega arith) (λ e h. grind arith)
+open_array-strict : First (strict Bytewise) open_array 2 (complaint 1 0 IndefiniteReason)
+open_array-strict = first_of (strict Bytewise) open_array _ _ (search arith) (omega arith) (λ e h. grind arith)
 
 open_array-verdict : IsVerdict (bounds 256 1048576) (strict Bytewise) (0x9f ∷ 0xff ∷ []) (refused (refusal IndefiniteReason 0 1))
 open_array-verdict = on_beginning _ _ _ _ open_array [] _ refl (search arith) (omega arith) refl (inl (_, open_array-strict, refl))
@@ -136,9 +146,9 @@ open_array-verdict = on_beginning _ _ _ _ open_array [] _ refl (search arith) (o
 abbrev split_character : Spelling
 split_character = text_chunks (chunk Direct (0xc3 ∷ []) ∷ chunk Direct (0xbc ∷ []) ∷ [])
 
-split_character-plain : IsFirstComplaint plain split_character 6 (complaint 3 2 InvalidText)
+split_character-plain : First plain split_character 6 (complaint 3 2 InvalidText)
 unfolding utf8_valid_len is_utf8 chars encode_utf8
-split_character-plain = first_of _ _ _ _ (inr (inl (inr (refl, (λ u. cc (is_utf8-from_IsUtf8 (0xc3 ∷ []) u)), refl)))) (omega arith) (λ e h. grind arith)
+split_character-plain = first_of plain split_character _ _ (inr (inl (inr (refl, (λ u. cc (is_utf8-from_IsUtf8 (0xc3 ∷ []) u)), refl)))) (omega arith) (λ e h. grind arith)
 
 split_character-verdict : IsVerdict (bounds 256 1048576) plain (0x7f ∷ 0x61 ∷ 0xc3 ∷ 0x61 ∷ 0xbc ∷ 0xff ∷ []) (refused (refusal InvalidText 2 3))
 split_character-verdict = on_beginning _ _ _ _ split_character [] _ refl (search arith) (omega arith) refl (inl (_, split_character-plain, refl))
@@ -148,9 +158,9 @@ split_character-verdict = on_beginning _ _ _ _ split_character [] _ refl (search
 abbrev no_text : Spelling
 no_text = a_map Direct (pairs ((text Direct (0xff ∷ []), unsigned Direct 0) ∷ []))
 
-no_text-plain : IsFirstComplaint plain no_text 3 (complaint 3 2 InvalidText)
+no_text-plain : First plain no_text 3 (complaint 3 2 InvalidText)
 unfolding utf8_valid_len is_utf8 chars encode_utf8
-no_text-plain = first_of _ _ _ _ (inr (inl (inr (refl, (λ u. cc (is_utf8-from_IsUtf8 (0xff ∷ []) u)), refl)))) (omega arith) (λ e h. grind arith)
+no_text-plain = first_of plain no_text _ _ (inr (inl (inr (refl, (λ u. cc (is_utf8-from_IsUtf8 (0xff ∷ []) u)), refl)))) (omega arith) (λ e h. grind arith)
 
 no_text-verdict : IsVerdict (bounds 256 1048576) plain (0xa1 ∷ 0x61 ∷ 0xff ∷ []) (refused (refusal InvalidText 2 3))
 no_text-verdict = on_beginning _ _ _ _ no_text (0x00 ∷ []) _ refl (search arith) (omega arith) refl (inl (_, no_text-plain, refl))
@@ -188,11 +198,12 @@ no_front_of_break (b ∷ q) x g f =
 stray_break : IsVerdict (bounds 256 1048576) form (0xff ∷ []) (refused (refusal StrayBreak 0 1))
 stray_break =
     let zero : IsItem 256 (unsigned Direct 0) (0x00 ∷ []) = record { spelled = omega arith; within = omega arith; bytes_are = refl } in
-    record {
+    let verdict : IsVerdictBy (Complains form 0) (bounds 256 1048576) (0xff ∷ []) (refused (refusal StrayBreak 0 1)) = record {
       p = [];
       longest = record { beginning = (unsigned Direct 0, 0x00 ∷ [], zero); rest = 0xff ∷ []; splits = refl; longest = no_front_of_break };
       item = unsigned Direct 0;
       rest = 0x00 ∷ [];
       starts = zero;
       decides = inr ((λ c h l. cc h.0), (λ e. absurd (omega (arith, ap length e))), (StrayBreak, inl ((unsigned Direct 0, [], zero), refl), refl));
-    }
+    } in
+    (any_verdict (bounds 256 1048576) form refl (0xff ∷ []) (refused (refusal StrayBreak 0 1))).1 verdict

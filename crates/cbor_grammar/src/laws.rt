@@ -3,14 +3,17 @@
 
 ghost use Rattle.std.specs.Prelude.{◌≡◌, ◌↔◌, ◌≤◌, ◌++◌, ℕ, List, [], length, Some, None};
 ghost use Rattle.cbor_head.specs.Beginning.{IsBeginning, IsLongestBeginning};
-ghost use Rattle.cbor_head.specs.Complaint.{Rules, Complaint, Complains};
+ghost use Rattle.cbor_head.specs.Complaint.{Rules, Complaint, OfKinds, Complains, IsComplaint};
 ghost use Rattle.cbor_head.specs.Head.{Holds, head, shortest};
 ghost use Rattle.cbor_head.specs.Laws.{IsAtFront, IsFrontWithoutComplaint, StartsWith};
+ghost use Rattle.cbor_head.specs.Laws.{IsFirstComplaint, IsWithout, Decides};
 ghost use Rattle.cbor_head.specs.Limits.{Bounds};
 ghost use Rattle.cbor_head.specs.Read.{Front, front, read_head, read};
-ghost use Rattle.cbor_head.specs.Spelling.{Spelling, IsSpelled, IsItem, HoldsOrIndefinite, spell};
-ghost use Rattle.cbor_head.specs.Value.{AreBytes};
-ghost use Rattle.cbor_head.specs.Verdict.{IsFirstComplaint, Answer, accepted, Decides, IsVerdict};
+ghost use Rattle.cbor_head.specs.Spelling.{Spelling, IsSpelled, IsItem, HoldsOrIndefinite};
+ghost use Rattle.cbor_head.specs.Spelling.{spell, value_of};
+ghost use Rattle.cbor_head.specs.Value.{AreBytes, HasBasicKeys};
+ghost use Rattle.cbor_head.specs.Verdict.{Answer, accepted, HasNoneOf, IsFirstOf, IsVerdictBy, IsVerdict};
+ghost use Rattle.cbor_head.specs.declared.keys.Keys.TheVariants.{Any};
 ghost use Rattle.cbor_head.specs.declared.major.Major.{Major};
 ghost use Rattle.cbor_head.specs.declared.width.Width.{Width};
 ghost use Rattle.cbor_head.specs.declared.width.Width.TheVariants.{Indefinite};
@@ -70,17 +73,18 @@ pub fn beginnings()
 /// Items that start with the same bytes have the same complaints that end within these.
 pub fn complaints_within_a_beginning()
     ensures { (d : ℕ) (p : List ℕ) (s t : Spelling) → StartsWith d s p → StartsWith d t p
-        → (r : Rules) (c : Complaint) → c.end ≤ length p → Complains r 0 s c → Complains r 0 t c }
+        → (limits : Bounds) (r : Rules) (c : Complaint)
+        → c.end ≤ length p → IsComplaint limits r s c → IsComplaint limits r t c }
 {}
 
 /// The first complaint that ends within some bytes is one, and the same for each item that starts
 /// with these bytes.
 pub fn first_complaint_is_one()
-    ensures one { (r : Rules) (s : Spelling) (t : ℕ) (c e : Complaint)
-        → IsFirstComplaint r s t c → IsFirstComplaint r s t e → c ≡ e }
+    ensures one { (limits : Bounds) (r : Rules) (s : Spelling) (t : ℕ) (c e : Complaint)
+        → IsFirstComplaint limits r s t c → IsFirstComplaint limits r s t e → c ≡ e }
     ensures each { (d : ℕ) (p : List ℕ) (s t : Spelling) → StartsWith d s p → StartsWith d t p
-        → (r : Rules) (c : Complaint)
-        → IsFirstComplaint r s (length p) c → IsFirstComplaint r t (length p) c }
+        → (limits : Bounds) (r : Rules) (c : Complaint)
+        → IsFirstComplaint limits r s (length p) c → IsFirstComplaint limits r t (length p) c }
 {}
 
 /// An input has one verdict, whichever item is asked of those that start with its longest
@@ -98,4 +102,23 @@ pub fn verdict_is_one()
 pub fn acceptance_is_exact()
     ensures { (limits : Bounds) (r : Rules) (input : List ℕ) (s : Spelling)
         → IsVerdict limits r input (accepted s) ↔ IsFrontWithoutComplaint limits r input s }
+{}
+
+/// Of limits for keys of any kind, complaints, the first of them, that there is none, and verdicts
+/// are those of texts, heads and keys by their order alone.
+pub fn keys_of_any_kind()
+    ensures complaints { (limits : Bounds) (r : Rules) (s : Spelling) (c : Complaint)
+        → limits.keys ≡ Any → IsComplaint limits r s c ↔ Complains r 0 s c }
+    ensures first { (limits : Bounds) (r : Rules) (s : Spelling) (t : ℕ) (c : Complaint)
+        → limits.keys ≡ Any → IsFirstComplaint limits r s t c ↔ IsFirstOf (Complains r 0 s) t c }
+    ensures without { (limits : Bounds) (r : Rules) (s : Spelling) (t : ℕ)
+        → limits.keys ≡ Any → IsWithout limits r s t ↔ HasNoneOf (Complains r 0 s) t }
+    ensures verdict { (limits : Bounds) (r : Rules) (input : List ℕ) (x : Answer)
+        → limits.keys ≡ Any → IsVerdict limits r input x ↔ IsVerdictBy (Complains r 0) limits input x }
+{}
+
+/// An item has no complaint on the kind of a key, wherever it stands, exactly where each key of its
+/// value, at every depth, is an integer or a text.
+pub fn keys_of_basic_kinds()
+    ensures { (s : Spelling) (at : ℕ) → ((c : Complaint) → OfKinds at s c → ⊥) ↔ HasBasicKeys (value_of s) }
 {}

@@ -2,16 +2,18 @@
 use Rattle.std.specs.Prelude.{ℕ, ◌+◌, ◌≡◌, ◌≢◌, ◌⊎◌, Bool, true, false, IsTrue, List, [], ◌∷◌, length, IsUtf8}
 use Rattle.std.specs.Str.Lossy.{utf8_valid_len}
 use Rattle.cbor_head.specs.Head.{head, shortest}
-use Rattle.cbor_head.specs.Value.{Same}
+use Rattle.cbor_head.specs.Value.{Same, IsIntegerOrText}
 use Rattle.cbor_head.specs.Spelling.{Chunk, Spelling, Spellings, SpelledEntries, unsigned, negative, bytes, text, byte_chunks, text_chunks, array, a_map, tag, simple, no_spellings, a_spelling, no_entries, entry, spell, spellings_count, entries_count, value_of, chunk_bytes}
+use Rattle.cbor_head.specs.Limits.{Bounds}
 use Rattle.cbor_head.specs.Order.{key_lt}
+use Rattle.cbor_head.specs.declared.keys.Keys.TheVariants.{IntegersAndTexts}
 use Rattle.cbor_head.specs.declared.order.KeyOrder.{KeyOrder}
 use Rattle.cbor_head.specs.declared.major.Major.{Major}
 use Rattle.cbor_head.specs.declared.major.Major.TheVariants.{Unsigned, Negative, Bytes, Text, Array, Map, Tag}
 use Rattle.cbor_head.specs.declared.width.Width.{Width}
 use Rattle.cbor_head.specs.declared.width.Width.TheVariants.{Indefinite}
 use Rattle.cbor_head.specs.declared.reason.Reason.{Reason}
-use Rattle.cbor_head.specs.declared.reason.Reason.TheVariants.{InvalidText, RepeatedKey, NotShortest, Indefinite as IndefiniteReason, KeyOrder as KeyOrderReason}
+use Rattle.cbor_head.specs.declared.reason.Reason.TheVariants.{InvalidText, RepeatedKey, NotShortest, Indefinite as IndefiniteReason, KeyOrder as KeyOrderReason, KeyKind}
 
 -- what is asked of the keys of a map
 pub data KeyRule : Type 0 where
@@ -28,18 +30,20 @@ pub record Rules : Type 0 where
   -- that heads are the shortest, and lengths definite
   pub heads : Bool
   pub keys : KeyRule
+  -- that keys are of the kinds that the limits name
+  pub kinds : Bool
 
 -- none
 abbrev pub form : Rules
-form = record { texts = false; heads = false; keys = unasked }
+form = record { texts = false; heads = false; keys = unasked; kinds = false }
 
 -- texts and keys
 abbrev pub plain : Rules
-plain = record { texts = true; heads = false; keys = distinct }
+plain = record { texts = true; heads = false; keys = distinct; kinds = true }
 
 -- the deterministic encoding in an order
 abbrev pub strict : KeyOrder → Rules
-strict o = record { texts = true; heads = true; keys = rising o }
+strict o = record { texts = true; heads = true; keys = rising o; kinds = true }
 
 -- a fault of an item: where it ends, its place and its reason
 pub record Complaint : Type 0 where
@@ -115,3 +119,25 @@ abbrev mutual
   ComplainsInEntries r at before (entry k v es) c =
       Complains r at k c ⊎ OfKey r.keys at before k c ⊎ Complains r (at + length (spell k)) v c
       ⊎ ComplainsInEntries r (at + length (spell k) + length (spell v)) (k ∷ before) es c
+
+-- s, at a place, has this complaint on a key that is neither an integer nor a text: it ends with the key's first byte
+abbrev mutual
+  pub OfKinds : ℕ → Spelling → Complaint → Type 0
+  OfKinds at (array w ss) c = OfKindsIn (at + length (head Array w (spellings_count ss))) ss c
+  OfKinds at (a_map w es) c = OfKindsInEntries (at + length (head Map w (entries_count es))) es c
+  OfKinds at (tag w n s) c = OfKinds (at + length (head Tag w n)) s c
+  OfKinds at _ c = ⊥
+
+  pub OfKindsIn : ℕ → Spellings → Complaint → Type 0
+  OfKindsIn at no_spellings c = ⊥
+  OfKindsIn at (a_spelling s ss) c = OfKinds at s c ⊎ OfKindsIn (at + length (spell s)) ss c
+
+  pub OfKindsInEntries : ℕ → SpelledEntries → Complaint → Type 0
+  OfKindsInEntries at no_entries c = ⊥
+  OfKindsInEntries at (entry k v es) c =
+      (¬ IsIntegerOrText (value_of k) × (c ≡ complaint (at + 1) at KeyKind)) ⊎ OfKinds at k c ⊎ OfKinds (at + length (spell k)) v c
+      ⊎ OfKindsInEntries (at + length (spell k) + length (spell v)) es c
+
+-- an item has this complaint, within limits and by rules
+abbrev pub IsComplaint : Bounds → Rules → Spelling → Complaint → Type 0
+IsComplaint limits r s c = Complains r 0 s c ⊎ (IsTrue r.kinds × (limits.keys ≡ IntegersAndTexts) × OfKinds 0 s c)

@@ -1,8 +1,9 @@
 -- Words of the laws of the model.
 use Rattle.std.specs.Prelude.{ℕ, ◌≡◌, ◌≤◌, ◌++◌, List, take}
-use Rattle.cbor_head.specs.Complaint.{Rules, Complaint, Complains}
+use Rattle.cbor_head.specs.Complaint.{Rules, Complaint, IsComplaint}
 use Rattle.cbor_head.specs.Limits.{Bounds}
 use Rattle.cbor_head.specs.Spelling.{Spelling, IsSpelled, IsItem, spell, depth}
+use Rattle.cbor_head.specs.Verdict.{Answer, DecidesBy, HasNoneOf, IsFirstOf}
 
 -- b begins with the item s, well-formed within the depth, and rest follows it
 abbrev pub IsAtFront : ℕ → List ℕ → Spelling → List ℕ → Type 0
@@ -14,4 +15,16 @@ StartsWith d s p = (rest : List ℕ) × IsItem d s (p ++ rest)
 
 -- the first bytes of the input, as many as the limit allows, begin with the item s, well-formed within the depth, that has no complaint
 abbrev pub IsFrontWithoutComplaint : Bounds → Rules → List ℕ → Spelling → Type 0
-IsFrontWithoutComplaint limits rules input s = (rest : List ℕ) × IsAtFront limits.depth (take limits.bytes input) s rest × ((c : Complaint) → Complains rules 0 s c → ⊥)
+IsFrontWithoutComplaint limits rules input s = (rest : List ℕ) × IsAtFront limits.depth (take limits.bytes input) s rest × ((c : Complaint) → IsComplaint limits rules s c → ⊥)
+
+-- the first complaint of an item that ends within the first t bytes
+abbrev pub IsFirstComplaint : Bounds → Rules → Spelling → ℕ → Complaint → Type 0
+IsFirstComplaint limits rules s t c = IsFirstOf (IsComplaint limits rules s) t c
+
+-- no complaint of an item ends within the first t bytes
+abbrev pub IsWithout : Bounds → Rules → Spelling → ℕ → Type 0
+IsWithout limits rules s t = HasNoneOf (IsComplaint limits rules s) t
+
+-- what an item that starts with p has answered, by its complaints
+abbrev pub Decides : Bounds → Rules → List ℕ → List ℕ → Spelling → Answer → Type 0
+Decides limits rules p behind s x = DecidesBy (IsComplaint limits rules) limits p behind s x

@@ -2,7 +2,7 @@
 use Rattle.std.specs.Prelude.{ℕ, List, ◌++◌, codes, decimal}
 use Rattle.cbor_head.specs.Reason.{reason_number}
 use Rattle.cbor_head.specs.declared.reason.Reason.{Reason}
-use Rattle.cbor_head.specs.declared.reason.Reason.TheVariants.{Truncated, TooLong, Reserved, NoIndefinite, Float, BadSimple, StrayBreak, BadChunk, TooDeep, InvalidText, RepeatedKey, Trailing, CanonicalTooLong, NotShortest, Indefinite, KeyOrder, Read, Write, Memory}
+use Rattle.cbor_head.specs.declared.reason.Reason.TheVariants.{Truncated, TooLong, Reserved, NoIndefinite, Float, BadSimple, StrayBreak, BadChunk, TooDeep, InvalidText, RepeatedKey, Trailing, CanonicalTooLong, NotShortest, Indefinite, KeyOrder, Read, Write, Memory, KeyKind}
 use Rattle.cbor_head.specs.declared.reason.Refusal.{Refusal}
 
 -- the name of a reason
@@ -26,6 +26,7 @@ reason_name KeyOrder = codes "KeyOrder"
 reason_name Read = codes "Read"
 reason_name Write = codes "Write"
 reason_name Memory = codes "Memory"
+reason_name KeyKind = codes "KeyKind"
 
 -- the number of the reason, its name, and the place
 abbrev pub refusal_text : Refusal → List ℕ

@@ -1,7 +1,7 @@
 -- The numbers of the reasons.
 use Rattle.std.specs.Prelude.{ℕ}
 use Rattle.cbor_head.specs.declared.reason.Reason.{Reason}
-use Rattle.cbor_head.specs.declared.reason.Reason.TheVariants.{Truncated, TooLong, Reserved, NoIndefinite, Float, BadSimple, StrayBreak, BadChunk, TooDeep, InvalidText, RepeatedKey, Trailing, CanonicalTooLong, NotShortest, Indefinite, KeyOrder, Read, Write, Memory}
+use Rattle.cbor_head.specs.declared.reason.Reason.TheVariants.{Truncated, TooLong, Reserved, NoIndefinite, Float, BadSimple, StrayBreak, BadChunk, TooDeep, InvalidText, RepeatedKey, Trailing, CanonicalTooLong, NotShortest, Indefinite, KeyOrder, Read, Write, Memory, KeyKind}
 
 -- the number of a reason
 abbrev pub reason_number : Reason → ℕ
@@ -24,3 +24,4 @@ reason_number KeyOrder = 16
 reason_number Read = 17
 reason_number Write = 18
 reason_number Memory = 19
+reason_number KeyKind = 20

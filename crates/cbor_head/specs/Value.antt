@@ -119,6 +119,29 @@ abbrev mutual
   AreEntriesValid no_entries = Unit {0}
   AreEntriesValid (entry k v es) = IsValid k × IsValid v × AreEntriesValid es
 
+-- an integer, or a text
+abbrev pub IsIntegerOrText : Value → Type 0
+IsIntegerOrText (unsigned n) = Unit {0}
+IsIntegerOrText (negative n) = Unit {0}
+IsIntegerOrText (text s) = Unit {0}
+IsIntegerOrText _ = ⊥
+
+-- each key, at every depth, is one
+abbrev mutual
+  pub HasBasicKeys : Value → Type 0
+  HasBasicKeys (array vs) = HaveBasicKeys vs
+  HasBasicKeys (map es) = EntriesHaveBasicKeys es
+  HasBasicKeys (tag n v) = HasBasicKeys v
+  HasBasicKeys _ = Unit {0}
+
+  pub HaveBasicKeys : Values → Type 0
+  HaveBasicKeys no_values = Unit {0}
+  HaveBasicKeys (a_value v vs) = HasBasicKeys v × HaveBasicKeys vs
+
+  pub EntriesHaveBasicKeys : Entries → Type 0
+  EntriesHaveBasicKeys no_entries = Unit {0}
+  EntriesHaveBasicKeys (entry k v es) = IsIntegerOrText k × HasBasicKeys v × EntriesHaveBasicKeys es
+
 -- how deep arrays, maps and tags nest: a scalar or string has depth 0, an empty array 1
 abbrev mutual
   pub depth : Value → ℕ

@@ -3,9 +3,9 @@ use Rattle.std.specs.Prelude.{ℕ, ◌+◌, ◌≡◌, ◌≢◌, ◌<◌, ◌�
 use Rattle.cbor_head.specs.Limits.{Bounds}
 use Rattle.cbor_head.specs.Spelling.{Spelling, spell, IsItem}
 use Rattle.cbor_head.specs.Beginning.{MayFollow, IsLongestBeginning}
-use Rattle.cbor_head.specs.Complaint.{Rules, Complaint, Complains}
+use Rattle.cbor_head.specs.Complaint.{Rules, Complaint, IsComplaint}
 use Rattle.cbor_head.specs.declared.reason.Reason.{Reason}
-use Rattle.cbor_head.specs.declared.reason.Reason.TheVariants.{Truncated, TooLong, Reserved, NoIndefinite, Float, BadSimple, StrayBreak, BadChunk, TooDeep, RepeatedKey, KeyOrder}
+use Rattle.cbor_head.specs.declared.reason.Reason.TheVariants.{Truncated, TooLong, Reserved, NoIndefinite, Float, BadSimple, StrayBreak, BadChunk, TooDeep, RepeatedKey, KeyOrder, KeyKind}
 use Rattle.cbor_head.specs.declared.reason.Refusal.{Refusal}
 
 -- a refusal, by reason, place and bytes taken
@@ -33,45 +33,50 @@ abbrev pub IsFormError : Bounds → List ℕ → List ℕ → Refusal → Type 0
 IsFormError limits p (c ∷ rest) f = (reason : Reason) × IsReasonAt limits.depth p c reason × (f ≡ refusal reason (length p) (length p + 1))
 IsFormError limits p [] f = ((length p ≡ limits.bytes) × (f ≡ refusal TooLong limits.bytes limits.bytes)) ⊎ ((length p < limits.bytes) × (f ≡ refusal Truncated (length p) (length p)))
 
--- complaints on a key come last at equal ends
+-- at equal ends complaints on a key's kind come first, and others on a key last
 abbrev pub rank : Reason → ℕ
-rank RepeatedKey = 1
-rank KeyOrder = 1
-rank _ = 0
+rank KeyKind = 0
+rank RepeatedKey = 2
+rank KeyOrder = 2
+rank _ = 1
 
--- the first complaint that ends within the first t bytes
-pub record IsFirstComplaint (rules : Rules) (s : Spelling) (t : ℕ) (c : Complaint) : Type 0 where
-  pub holds : Complains rules 0 s c
+-- of these complaints the first that ends within the first t bytes
+pub record IsFirstOf (P : Complaint → Type 0) (t : ℕ) (c : Complaint) : Type 0 where
+  pub holds : P c
   pub ends : c.end ≤ t
-  pub first : (e : Complaint) → Complains rules 0 s e → e.end ≤ t → (c.end < e.end) ⊎ ((c.end ≡ e.end) × (rank c.reason ≤ rank e.reason))
+  pub first : (e : Complaint) → P e → e.end ≤ t → (c.end < e.end) ⊎ ((c.end ≡ e.end) × (rank c.reason ≤ rank e.reason))
 
--- no complaint ends within the first t bytes
-abbrev pub IsWithout : Rules → Spelling → ℕ → Type 0
-IsWithout rules s t = (c : Complaint) → Complains rules 0 s c → c.end ≤ t → ⊥
+-- none of them ends within the first t bytes
+abbrev pub HasNoneOf : (Complaint → Type 0) → ℕ → Type 0
+HasNoneOf P t = (c : Complaint) → P c → c.end ≤ t → ⊥
 
 -- an item, or the refusal
 pub data Answer : Type 0 where
   accepted : Spelling → Answer
   refused : Refusal → Answer
 
--- what an item that starts with p has answered, where p has these bytes behind it
-abbrev pub Decides : Bounds → Rules → List ℕ → List ℕ → Spelling → Answer → Type 0
-Decides limits rules p behind s (accepted t) = (t ≡ s) × (spell s ≡ p) × IsWithout rules s (length p)
-Decides limits rules p behind s (refused f) =
-    ((c : Complaint) × IsFirstComplaint rules s (length p) c × (f ≡ refusal c.reason c.place c.end))
-    ⊎ (IsWithout rules s (length p) × (spell s ≢ p) × IsFormError limits p behind f)
+-- what an item that starts with p has answered, by its complaints P, where p has these bytes behind it
+abbrev pub DecidesBy : (Spelling → Complaint → Type 0) → Bounds → List ℕ → List ℕ → Spelling → Answer → Type 0
+DecidesBy P limits p behind s (accepted t) = (t ≡ s) × (spell s ≡ p) × HasNoneOf (P s) (length p)
+DecidesBy P limits p behind s (refused f) =
+    ((c : Complaint) × IsFirstOf (P s) (length p) c × (f ≡ refusal c.reason c.place c.end))
+    ⊎ (HasNoneOf (P s) (length p) × (spell s ≢ p) × IsFormError limits p behind f)
 
--- what is answered of an input, within limits
-pub record IsVerdict (limits : Bounds) (rules : Rules) (input : List ℕ) (answer : Answer) : Type 0 where
+-- what is answered of an input, by the complaints of items
+pub record IsVerdictBy (P : Spelling → Complaint → Type 0) (limits : Bounds) (input : List ℕ) (answer : Answer) : Type 0 where
   -- the longest beginning, and an item that starts with it
   pub p : List ℕ
   pub longest : IsLongestBeginning limits.depth (take limits.bytes input) p
   pub item : Spelling
   pub rest : List ℕ
   pub starts : IsItem limits.depth item (p ++ rest)
-  pub decides : Decides limits rules p longest.rest item answer
+  pub decides : DecidesBy P limits p longest.rest item answer
 
--- Examples, the plain verdict within 256 levels unless said; each is a row of the conformance table, and
+-- within limits, by rules
+abbrev pub IsVerdict : Bounds → Rules → List ℕ → Answer → Type 0
+IsVerdict limits rules input answer = IsVerdictBy (IsComplaint limits rules) limits input answer
+
+-- Examples, the plain verdict within 256 levels, for keys of any kind, unless said; each is a row of the conformance table, and
 -- proofs/VerdictExamples has others, proved:
 --   f818               BadSimple 1, 2         there is no simple value 24
 --   f81f, 1 byte       TooLong 1, 1           the number is past the limit
@@ -87,3 +92,9 @@ pub record IsVerdict (limits : Bounds) (rules : Rules) (input : List ℕ) (answe
 --   a26261610061ff00   InvalidText 6, 7       by the strict rules too: KeyOrder has the same end
 --   7801ff             InvalidText 2, 3       by the strict rules NotShortest 0, 2
 --   d80100             accepted               by the strict rules NotShortest 0, 2
+-- For keys that are integers and texts:
+--   a18000, a1f8       KeyKind 1, 2           an array; a simple value, whose number is not looked at
+--   a100a18000         KeyKind 3, 4           in a map within
+--   a17fff00           accepted               a text in chunks
+--   a19fff00           KeyKind 1, 2           by the strict rules too: Indefinite has the same end
+--   a1f97c0000         Float 1, 2             no key begins so

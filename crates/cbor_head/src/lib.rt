@@ -18,6 +18,7 @@
 
 mod head;
 pub mod head_laws;
+mod keys;
 mod limits;
 mod major;
 mod order;
@@ -28,6 +29,7 @@ mod tests;
 mod width;
 
 pub use head::{Head, argument_bytes};
+pub use keys::Keys;
 pub use limits::{Limits, MAX_DEPTH};
 pub use major::Major;
 pub use order::KeyOrder;

@@ -3,13 +3,14 @@
 ghost use Rattle.std.specs.Prelude.{◌≡◌, ◌↔◌, ◌≤◌, ◌^◌, IsSome, IfSome};
 ghost use Rattle.cbor_head.specs.Limits.{Bounds, bounds, AreBounds};
 
+use crate::Keys;
 use std::marker::Model;
 
 /// How deep the arrays, maps and tags of an item may nest, whatever its limits.
 pub const MAX_DEPTH: u16 = 256;
 
-/// The limits on one item: how deep its arrays, maps and tags may nest, from 0 to 256, and how
-/// many bytes it may have, from 0 to 2^62.
+/// The limits on one item: how deep its arrays, maps and tags may nest, from 0 to 256, and how many
+/// bytes it may have, from 0 to 2^62. Its maps may have keys of any kind.
 #[derive(Clone, Copy, Debug, PartialEq, Eq)]
 pub struct Limits {
     depth: u16,
@@ -27,7 +28,7 @@ impl Model for Limits {
 }
 
 impl Limits {
-    /// The limits; none for a depth above 256 or a byte limit above 2^62.
+    /// The limits, for keys of any kind; none for a depth above 256 or a byte limit above 2^62.
     pub fn new(depth: u16, bytes: u64) -> Option<Limits>
         ensures allowed { IsSome result ↔ AreBounds (bounds depth bytes) }
         ensures value { IfSome result (λ l. l ≡ bounds depth bytes) }
@@ -53,5 +54,12 @@ impl Limits {
         ensures most { result ≤ 2 ^ 62 }
     {
         self.bytes
+    }
+
+    /// Which kinds of keys maps may have.
+    pub fn keys(self) -> Keys
+        ensures { result ≡ self.keys }
+    {
+        Keys::Any
     }
 }

@@ -47,12 +47,14 @@ pub enum Reason {
     Write = 18,
     /// Memory was refused.
     Memory = 19,
+    /// A key of another kind than the limits allow.
+    KeyKind = 20,
 }
 
 impl Reason {
     ghost use Rattle.cbor_head.specs.Reason.{reason_number};
 
-    /// The number of the reason, 1 to 19.
+    /// The number of the reason, 1 to 20.
     pub fn number(self) -> u8
         ensures { result ≡ reason_number self }
     {
@@ -85,6 +87,7 @@ impl fmt::Display for Reason {
             Reason::Read => "Read",
             Reason::Write => "Write",
             Reason::Memory => "Memory",
+            Reason::KeyKind => "KeyKind",
         })
     }
 }

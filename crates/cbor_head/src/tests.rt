@@ -1,6 +1,6 @@
 //! Heads, limits, simple values and reasons by tables.
 
-use crate::{Head, Limits, Major, Reason, Refusal, Simple, Width, argument_bytes};
+use crate::{Head, Keys, Limits, Major, Reason, Refusal, Simple, Width, argument_bytes};
 use std::test::Fail;
 
 /// The first and the last argument of each width, as the shortest head of an unsigned integer.
@@ -151,7 +151,7 @@ fn limits(rt: HostRuntime) -> Result<(), Fail> {
     for (depth, bytes) in [(0, 0), (256, 1048576), (256, most)] {
         let limits = Limits::new(depth, bytes).ok_or("limits")?;
         assert!(rt;
-            limits.depth() == depth && limits.bytes() == bytes,
+            limits.depth() == depth && limits.bytes() == bytes && limits.keys() == Keys::Any,
             "at {depth} and {bytes}"
         );
     }
@@ -165,7 +165,7 @@ fn limits(rt: HostRuntime) -> Result<(), Fail> {
 }
 
 /// The reasons, with the number and the name of each.
-const REASONS: [(Reason, u8, &[u8]); 19] = [
+const REASONS: [(Reason, u8, &[u8]); 20] = [
     (Reason::Truncated, 1, b"Truncated"),
     (Reason::TooLong, 2, b"TooLong"),
     (Reason::Reserved, 3, b"Reserved"),
@@ -185,6 +185,7 @@ const REASONS: [(Reason, u8, &[u8]); 19] = [
     (Reason::Read, 17, b"Read"),
     (Reason::Write, 18, b"Write"),
     (Reason::Memory, 19, b"Memory"),
+    (Reason::KeyKind, 20, b"KeyKind"),
 ];
 
 #[test]

@@ -8,9 +8,8 @@ use Rattle.cbor_head.specs.Head.{shortest_head}
 use Rattle.cbor_head.specs.Value.{Value, values_count, IsInRange, AreInRange, AreEntriesInRange, IsValid, AreValid, AreEntriesValid, HasDistinctKeys}
 use Rattle.cbor_head.specs.declared.order.KeyOrder.{KeyOrder}
 use Rattle.cbor_builder.specs.Built.{Built}
-use Rattle.cbor_builder.specs.Parts.{Open, plain, an_array, a_map, pair, with_member, closed, HasNoRepeats}
-use Rattle.cbor_buffer.specs.Pairs.{pair_bytes}
-use Rattle.cbor_canonical.specs.Pairs.{AreKeysValid}
+use Rattle.cbor_canonical.specs.Parts.{Open, plain, an_array, a_map, pair, with_member, closed, HasNoRepeats}
+use Rattle.cbor_canonical.specs.Pairs.{pair_bytes, AreKeysValid}
 use Rattle.cbor_item.specs.View.{view, values_of}
 use Rattle.cbor_item.specs.inner.Members.{entries_view}
 use Rattle.cbor_item.specs.inner.Walk.{flat, left, left_of_all, IsBegun, with_all, TakesAll, AreAllValid, LeadsAround, Leads, AreSoundAround, AreSound, size, size_all, size_entries, weight, Opens}

@@ -4,7 +4,7 @@ use Rattle.std.proofs.lemmas.List.{append-nil, length-append, length-take, nil_f
 use Rattle.std.proofs.Math.Seq.{take-append-add}
 use Rattle.cbor_head.specs.Limits.{Bounds}
 use Rattle.cbor_head.specs.Spelling.{Spelling, spell, IsItem}
-use Rattle.cbor_head.specs.Complaint.{Rules, Complaint, Complains}
+use Rattle.cbor_head.specs.Complaint.{Rules, Complaint, IsComplaint}
 use Rattle.cbor_head.specs.Verdict.{accepted, IsVerdict}
 use Rattle.cbor_grammar.proofs.Beginnings.{item_decides}
 
@@ -28,8 +28,8 @@ module _ (limits : Bounds) (r : Rules) (input : List ℕ) (s : Spelling) (v : Is
       sym (append-nil (spell s)) ∙ ap (λ (x : List ℕ). spell s ++ x) (sym none) ∙ sym splits ∙ all
 
 -- an item without complaint at the front of an input is accepted
-pub front_accepted : (limits : Bounds) (r : Rules) (s : Spelling) (rest : List ℕ) → IsItem limits.depth s (spell s) → ((c : Complaint) → Complains r 0 s c → ⊥) → length (spell s) ≤ limits.bytes → IsVerdict limits r (spell s ++ rest) (accepted s)
+pub front_accepted : (limits : Bounds) (r : Rules) (s : Spelling) (rest : List ℕ) → IsItem limits.depth s (spell s) → ((c : Complaint) → IsComplaint limits r s c → ⊥) → length (spell s) ≤ limits.bytes → IsVerdict limits r (spell s ++ rest) (accepted s)
 front_accepted limits r s rest well_formed sound fits =
     let left = limits.bytes - length (spell s) in
     let size : limits.bytes ≡ length (spell s) + left = omega (arith, fits) in
-    item_decides limits r (spell s ++ rest) (take left rest) s well_formed (ap (λ (k : ℕ). take k (spell s ++ rest)) size ∙ take-append-add (spell s) rest left) sound
+    item_decides (IsComplaint limits r) limits (spell s ++ rest) (take left rest) s well_formed (ap (λ (k : ℕ). take k (spell s ++ rest)) size ∙ take-append-add (spell s) rest left) sound

@@ -1,15 +1,18 @@
 -- What the strict verdict accepts: the canonical bytes of a valid value, at the front of the input.
-use Rattle.std.proofs.Common.{ℕ, ◌+◌, ◌-◌, ◌≡◌, List, ◌++◌, length, take, drop, sym, ap, ◌∙◌, arith}
+use Rattle.std.proofs.Common.{ℕ, ◌+◌, ◌-◌, ◌≡◌, List, ◌++◌, length, take, drop, refl, sym, ap, ◌∙◌, arith, inl, inr}
 use Rattle.std.proofs.Math.Seq.{take-append-add}
 use Rattle.std.proofs.lemmas.List.{append_assoc, take-append-drop}
 use Rattle.cbor_head.specs.Limits.{Bounds}
-use Rattle.cbor_head.specs.Value.{Value, Same}
+use Rattle.cbor_head.specs.Value.{Value, Same, HasBasicKeys}
 use Rattle.cbor_head.specs.Spelling.{Spelling, spell, value_of}
 use Rattle.cbor_head.specs.Canonical.{canonical}
-use Rattle.cbor_head.specs.Complaint.{strict}
+use Rattle.cbor_head.specs.Complaint.{strict, Complaint, IsComplaint}
 use Rattle.cbor_head.specs.Verdict.{accepted, IsVerdict}
+use Rattle.cbor_head.specs.declared.keys.Keys.TheVariants.{IntegersAndTexts}
 use Rattle.cbor_head.specs.declared.order.KeyOrder.{KeyOrder}
 use Rattle.cbor_grammar.proofs.Accepted.{accepts_exactly}
+use Rattle.cbor_grammar.proofs.BasicKeys.{none_of_kinds, has_basic_keys, basic_same}
+use Rattle.cbor_canonical.specs.CanonicalSpelling.{IsCanonicalSpelling}
 use Rattle.cbor_canonical.proofs.Depth.{depth-value_of}
 use Rattle.cbor_canonical.proofs.Told.{told}
 use Rattle.cbor_canonical.proofs.Theorems.{canonical_spelled, strict_exactly}
@@ -19,22 +22,27 @@ use Rattle.cbor_judging.proofs.Accepted.{item_within_limit}
 module _ (limits : Bounds) (o : KeyOrder) (input : List ℕ) where
   -- an item that is accepted is spelled canonically
   pub strict_bytes : (s : Spelling) → IsVerdict limits (strict o) input (accepted s) → spell s ≡ canonical o (value_of s)
-  strict_bytes s v = let h = (accepts_exactly limits (strict o) input s).0 v in (strict_exactly o s h.1.0 h.2).canonical_is.bytes_are
+  strict_bytes s v = let h = (accepts_exactly limits (strict o) input s).0 v in (strict_exactly o s h.1.0 (λ c x. h.2 c (inl x))).canonical_is.bytes_are
 
   pub strict_value : (s : Spelling) → IsVerdict limits (strict o) input (accepted s) → BeginsWithCanonical limits o input (value_of s)
   strict_value s v =
       let h = (accepts_exactly limits (strict o) input s).0 v in
-      let k = strict_exactly o s h.1.0 h.2 in
+      let k = strict_exactly o s h.1.0 (λ c x. h.2 c (inl x)) in
       let bytes_are = k.canonical_is.bytes_are in
       record {
         range = k.range;
         valid = k.valid;
+        keys = λ basic. has_basic_keys s 0 (λ c x. h.2 c (inr (refl, basic, x)));
         within = omega (arith, depth-value_of s, h.1.1);
         fits = omega (arith, ap length bytes_are, item_within_limit limits (strict o) input s v);
         rest = h.0 ++ drop limits.bytes input;
         begins = ap (λ (b : List ℕ). b ++ (h.0 ++ drop limits.bytes input)) (sym bytes_are) ∙ sym (append_assoc (spell s) h.0 (drop limits.bytes input))
             ∙ ap (λ (b : List ℕ). b ++ drop limits.bytes input) h.1.2 ∙ take-append-drop limits.bytes input;
       }
+
+  canonical_none : (v : Value) (s : Spelling) → (limits.keys ≡ IntegersAndTexts → HasBasicKeys v) → IsCanonicalSpelling o v s → (c : Complaint) → IsComplaint limits (strict o) s c → ⊥
+  canonical_none v s keys k c (inl x) = k.clean 0 c x
+  canonical_none v s keys k c (inr x) = none_of_kinds s (basic_same (value_of s) v k.same (keys x.1)) 0 c x.2
 
   pub strict_accepts : (v : Value) → BeginsWithCanonical limits o input v → (s : Spelling) × IsVerdict limits (strict o) input (accepted s)
   strict_accepts v h =
@@ -43,7 +51,7 @@ module _ (limits : Bounds) (o : KeyOrder) (input : List ℕ) where
       let size : length (canonical o v) + left ≡ limits.bytes = omega (arith, h.fits) in
       let front : spell s ++ take left h.rest ≡ take limits.bytes input =
       ap (λ (b : List ℕ). b ++ take left h.rest) k.bytes_are ∙ sym (take-append-add (canonical o v) h.rest left) ∙ (λ i. take (size i) (h.begins i)) in
-      (s, (accepts_exactly limits (strict o) input s).1 (take left h.rest, (k.spelled, omega (arith, k.as_deep, h.within), front), k.clean 0))
+      (s, (accepts_exactly limits (strict o) input s).1 (take left h.rest, (k.spelled, omega (arith, k.as_deep, h.within), front), canonical_none v s h.keys k))
 
   pub one_front : (v w : Value) → BeginsWithCanonical limits o input v → BeginsWithCanonical limits o input w → Same v w × (canonical o v ≡ canonical o w)
   one_front v w h k = let r = told o o v w h.range k.range h.rest k.rest (h.begins ∙ sym k.begins) in (r.same, r.bytes_are)

@@ -23,6 +23,7 @@ use Rattle.cbor_automaton.specs.declared.event.Event.{Event}
 use Rattle.cbor_automaton.specs.declared.event.EventKind.{EventKind}
 use Rattle.cbor_automaton.specs.declared.event.EventKind.TheVariants as kinds
 use Rattle.cbor_grammar.proofs.OneFirst.{count_last}
+use Rattle.cbor_grammar.proofs.Reasons.{string_ranked}
 use Rattle.cbor_grammar.proofs.Agree.{string_later}
 use Rattle.std.proofs.KnownBytes.{Consumes-trans}
 use Rattle.cbor_judging.specs.Place.{Container, Place, at_item, in_chunks, close, payload, IsTaking}
@@ -136,7 +137,7 @@ chunk-head-judged m made kind done r at d a w n c h o =
     (record {
       holds = of-string m o2;
       ends = omega (arith, end);
-      first = λ e g l. inr (omega (arith, l, end, string_later r to m w q c (of-string m o2), string_later r to m w q e g), omega (arith, end, string_later r to m w q c (of-string m o2)));
+      first = λ e g l. inr (omega (arith, l, end, string_later r to m w q c (of-string m o2), string_later r to m w q e g), omega (arith, end, string_later r to m w q c (of-string m o2), string_ranked r to m w q e g));
     }))
   where
     of-string : (m : Major) → OfHead r (at + length (chunks_bytes m done)) m w (length {A = ℕ} (replicate n 0)) c → OfString r (at + length (chunks_bytes m done)) m w (replicate n 0) c

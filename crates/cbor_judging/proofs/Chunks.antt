@@ -10,7 +10,7 @@ use Rattle.cbor_head.specs.declared.major.Major.TheVariants.{Text}
 use Rattle.cbor_head.specs.declared.width.Width.{Width}
 use Rattle.cbor_head.specs.declared.width.Width.TheVariants.{Indefinite}
 use Rattle.cbor_grammar.proofs.Agree.{string_later, payload_end}
-use Rattle.cbor_grammar.proofs.OneFirst.{payload_last}
+use Rattle.cbor_grammar.proofs.Reasons.{payload_rank}
 use Rattle.cbor_automaton.specs.Automaton.{Frame, State, at_item, in_head, in_simple, in_payload, in_chunks, done as at_end}
 use Rattle.cbor_automaton.proofs.Arguments.{number}
 use Rattle.cbor_automaton.proofs.Taking.{IsWithin}
@@ -89,14 +89,14 @@ module _ (m : Major) (made : List Chunk → Spelling) (kind : IsChunked m made) 
       let hd = head m w (length q) in
       let to = at + length (chunks_bytes m done) in
       let end = payload_end r (to + length hd) q c pay in
-      let tight = payload_last r (to + length hd) q c pay in
+      let tight = payload_rank r (to + length hd) q c pay in
       chunk_judged m made kind done r at d so_far.are so_far.opener_clean so_far.clean (chunk w q) (hd ++ q) [] h (sym (append-nil (hd ++ q))) (Some c)
       (record {
         holds = o;
         ends = omega (arith, end, length-append hd q);
         first = λ e g l. elim (of_string r to m w q e g) [
           | inl x ↦ absurd (no_head e x)
-          | inr x ↦ inr (omega (arith, end, payload_end r (to + length hd) q e x), omega (arith, end, tight))
+          | inr x ↦ inr (omega (arith, end, payload_end r (to + length hd) q e x), omega (arith, tight, payload_rank r (to + length hd) q e x))
         ];
       })
 

@@ -4,28 +4,30 @@ use Rattle.std.proofs.lemmas.Bool.{cases_lt}
 use Rattle.cbor_head.specs.Limits.{Bounds}
 use Rattle.cbor_head.specs.Spelling.{Spelling, IsItem}
 use Rattle.cbor_head.specs.Beginning.{IsLongestBeginning}
-use Rattle.cbor_head.specs.Complaint.{Rules, Complaint, Complains}
-use Rattle.cbor_head.specs.Verdict.{refused, refusal, IsFormError, IsVerdict, IsWithout}
+use Rattle.cbor_head.specs.Complaint.{Rules, Complaint, IsComplaint}
+use Rattle.cbor_head.specs.Laws.{IsWithout}
+use Rattle.cbor_head.specs.Verdict.{refused, refusal, IsFormError, IsVerdict}
 use Rattle.cbor_head.specs.declared.reason.Reason.TheVariants.{Truncated}
 use Rattle.cbor_head.specs.declared.reason.Refusal.{Refusal}
-use Rattle.cbor_grammar.proofs.Agree.{split_front, same_complaints}
+use Rattle.cbor_grammar.proofs.Agree.{split_front}
+use Rattle.cbor_grammar.proofs.Complaints.{complaints_told}
 use Rattle.cbor_judging.specs.Refusals.{IsFreeBefore}
-use Rattle.cbor_judging.proofs.Reasons.{complaint-reason}
+use Rattle.cbor_judging.proofs.Reasons.{item-reason}
 
 -- where one item has no complaint within q, none that starts with q has
-pub front-free : (d : ℕ) (r : Rules) (q p k : List ℕ) (s : Spelling) (rest : List ℕ) (place : ℕ) → IsItem d s (q ++ rest) → p ≡ q ++ k → ((c : Complaint) → Complains r 0 s c → length q < c.end) → place ≤ length q + 1
-    → IsFreeBefore d r p place
-front-free d r q p k s rest place item is none l = λ z c start holds.
+pub front-free : (limits : Bounds) (r : Rules) (q p k : List ℕ) (s : Spelling) (rest : List ℕ) (place : ℕ) → IsItem limits.depth s (q ++ rest) → p ≡ q ++ k → ((c : Complaint) → IsComplaint limits r s c → length q < c.end)
+    → place ≤ length q + 1 → IsFreeBefore limits r p place
+front-free limits r q p k s rest place item is none l = λ z c start holds.
     let bytes_are : p ++ start.0 ≡ q ++ (k ++ start.0) = ap (λ (u : List ℕ). u ++ start.0) is ∙ append_assoc q k start.0 in
     elim (cases_lt (length q) c.end) [
       | inl h ↦ omega (arith, h, l)
       | inr h ↦
-          let found = same_complaints d z s q (k ++ start.0) rest (subst (IsItem d z) bytes_are start.1) item r c h holds in
+          let found = (complaints_told limits r).agree limits.depth z s q (k ++ start.0) rest (subst (IsItem limits.depth z) bytes_are start.1) item c h holds in
           absurd (omega (arith, h, none c found))
     ]
 
-without : (r : Rules) (s : Spelling) (t : ℕ) → IsWithout r s t → (c : Complaint) → Complains r 0 s c → t < c.end
-without r s t h c g = elim (cases_lt t c.end) [ inl l ↦ l | inr l ↦ absurd (h c g l) ]
+pub without : (limits : Bounds) (r : Rules) (s : Spelling) (t : ℕ) → IsWithout limits r s t → (c : Complaint) → IsComplaint limits r s c → t < c.end
+without limits r s t h c g = elim (cases_lt t c.end) [ inl l ↦ l | inr l ↦ absurd (h c g l) ]
 
 -- ---- the first k bytes, as a whole input, are truncated
 
@@ -34,13 +36,13 @@ truncated-place limits k p [] (inl b) = absurd (cc (ap (λ (x : Refusal). x.reas
 truncated-place limits k p [] (inr b) = sym (ap (λ (x : Refusal). x.place) b.1)
 truncated-place limits k p (c ∷ cs) b = sym (ap (λ (x : Refusal). x.place) b.2)
 
-pub truncated-free : (limits : Bounds) (k : ℕ) (r : Rules) (input p : List ℕ) → IsLongestBeginning limits.depth (take limits.bytes input) p → k ≤ length p → IsVerdict limits r (take k input) (refused (refusal Truncated k k)) → IsFreeBefore limits.depth r p k
+pub truncated-free : (limits : Bounds) (k : ℕ) (r : Rules) (input p : List ℕ) → IsLongestBeginning limits.depth (take limits.bytes input) p → k ≤ length p → IsVerdict limits r (take k input) (refused (refusal Truncated k k)) → IsFreeBefore limits r p k
 truncated-free limits k r input p g l v = elim v.decides [
-  | inl c ↦ absurd (complaint-reason r 0 v.item c.0 c.1.holds (refusal Truncated k k) c.2)
+  | inl c ↦ elim (item-reason limits r v.item c.0 c.1.holds (refusal Truncated k k) c.2) [ inl h ↦ absurd h | inr h ↦ absurd (cc h.0) ]
   | inr b ↦
       let size : length v.p ≡ k = truncated-place limits k v.p v.longest.rest b.2 in
       let (m, is, other) = split_front v.p (v.longest.rest ++ (drop limits.bytes (take k input) ++ drop k input)) p (g.rest ++ drop limits.bytes input) (sym short ∙ whole) (omega (arith, size, l)) in
-      front-free limits.depth r v.p p m v.item v.rest k v.starts is (without r v.item (length v.p) b.0) (omega (arith, size))
+      front-free limits r v.p p m v.item v.rest k v.starts is (without limits r v.item (length v.p) b.0) (omega (arith, size))
 ]
   where
     short : input ≡ v.p ++ (v.longest.rest ++ (drop limits.bytes (take k input) ++ drop k input))

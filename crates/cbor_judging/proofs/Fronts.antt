@@ -8,6 +8,7 @@ use Rattle.cbor_judging.specs.Place.{at_item}
 use Rattle.cbor_standing.specs.NextEvent.{ItemEventsView, StandsBetween}
 use Rattle.cbor_judging.specs.Readers.{IsUnread}
 use Rattle.cbor_judging.specs.Reading.{IsFrontUnread, IsAt, StopsItem}
+use Rattle.cbor_judging.proofs.KindSteps.{KeepsBefore}
 use Rattle.cbor_judging.proofs.Reasons.{reader-reason}
 use Rattle.cbor_judging.proofs.Tops.{item-unread, loses}
 
@@ -19,9 +20,9 @@ pub known : (from : Option (List ℕ)) (P : List ℕ → Type 0) → ((input : L
 known None P f = tt
 known (Some input) P f = f input refl
 
-pub front-unread : (r : Rules) (b : Bounds) (from to : Option (List ℕ)) (f : Refusal) → StopsItem r b [] [] [] from to f → IsFrontUnread r b from to f
-front-unread r b from to f s = record {
-  refused = known from (λ input. IsUnread b r input f) (λ input k. item-unread r b input from to k f s);
-  reason = reader-reason r b [] [] [] from to f s;
+pub front-unread : (r : Rules) (b : Bounds) (from to : Option (List ℕ)) (f : Refusal) → (s : StopsItem r b [] [] [] from to f) → KeepsBefore r b s.bytes to f s.why → IsFrontUnread r b from to f
+front-unread r b from to f s keeps = record {
+  refused = known from (λ input. IsUnread b r input f) (λ input k. item-unread r b input from to k f s keeps);
+  reason = reader-reason r b b [] [] [] from to f s;
   taken = loses s.bytes f.read from to s.read s.taken;
 }

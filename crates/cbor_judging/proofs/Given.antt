@@ -12,9 +12,8 @@ use Rattle.cbor_head.specs.declared.width.Width.{Width}
 use Rattle.cbor_head.specs.declared.width.Width.TheVariants.{Indefinite}
 use Rattle.cbor_grammar.proofs.Counts.{values_count-of}
 use Rattle.cbor_judging.specs.Place.{counted, close}
-use Rattle.cbor_canonical.specs.Pairs.{HasDistinctBytes}
-use Rattle.cbor_builder.specs.Parts.{an_array, plain as a_plain, a_map as an_open_map, pair, give, closed}
-use Rattle.cbor_canonical.specs.Pairs.{AreKeysValid}
+use Rattle.cbor_canonical.specs.Pairs.{HasDistinctBytes, AreKeysValid}
+use Rattle.cbor_canonical.specs.Parts.{an_array, plain as a_plain, a_map as an_open_map, pair, give, closed}
 use Rattle.cbor_canonical.proofs.Keys.{distinct_exactly}
 use Rattle.cbor_judging.specs.Frame.{with_all, with_entries}
 use Rattle.cbor_judging.proofs.Heads.{open_or}

@@ -61,6 +61,10 @@ module _ (r : Rules) (b : Bounds) (fs gs : List Container) (t y : List ℕ)
       cause = cause-as b ((t ++ y) ++ m) (t ++ (y ++ m)) to (length ((t ++ y) ++ h.p)) (length (t ++ (y ++ h.p))) h.found f (append_assoc t y m) (ap length (append_assoc t y h.p)) h.cause;
     }
 
+    pub cause-front : (m : List ℕ) (to : Option (List ℕ)) (f : Refusal) (h : HasCause r b gs (t ++ y) m to f) → (cause-in m to f h).p ≡ y ++ h.p
+    unfolding cause-in
+    cause-front m to f h = refl
+
     -- what is undecided of the part is undecided of the whole
     pub undecided-in : (m : List ℕ) → IsUndecided r b gs (t ++ y) m → IsUndecided r b fs t (y ++ m)
     undecided-in m h = record {
@@ -70,6 +74,10 @@ module _ (r : Rules) (b : Bounds) (fs gs : List Container) (t y : List ℕ)
       byte = h.byte;
       judged = lift h.p None h.judged;
     }
+
+    pub undecided-front : (m : List ℕ) (h : IsUndecided r b gs (t ++ y) m) → (undecided-in m h).p ≡ y ++ h.p
+    unfolding undecided-in
+    undecided-front m h = refl
 
 -- ---- heads
 

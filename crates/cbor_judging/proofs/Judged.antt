@@ -1,5 +1,5 @@
 -- What is found in a part is found in the whole.
-use Rattle.std.proofs.Common.{ℕ, zero, suc, ◌+◌, ◌≡◌, ◌<◌, ◌≤◌, ◌⊎◌, Option, Some, None, List, [], ◌++◌, length, refl, sym, ap, ◌∙◌, arith, inl, inr}
+use Rattle.std.proofs.Common.{ℕ, zero, suc, ◌+◌, ◌-◌, ◌≡◌, ◌<◌, ◌≤◌, ◌⊎◌, Option, Some, None, List, [], ◌++◌, length, refl, sym, ap, ◌∙◌, arith, inl, inr}
 use Rattle.std.proofs.lemmas.List.{length-append, append_assoc}
 use Rattle.std.proofs.lemmas.Bool.{cases_lt}
 use Rattle.cbor_head.specs.Spelling.{Spelling, Spellings, SpelledEntries, unsigned, no_spellings, a_spelling, no_entries, entry, spell, spellings_count, entries_count, IsSpelled, AreSpelled, AreEntriesSpelled, depth, depth_all, depth_entries, IsItem}
@@ -19,8 +19,14 @@ bytes_in f s p rest e =
     spell_plug f s ∙ ap (λ (x : List ℕ). before f ++ (x ++ behind f)) e ∙ ap (λ (x : List ℕ). before f ++ x) (append_assoc p rest (behind f)) ∙ sym (append_assoc (before f) p (rest ++ behind f))
 
 -- a complaint in a key comes before one on it
-ahead : (a e m n : ℕ) → a + m ≤ e → (a < e) ⊎ ((a ≡ e) × (m ≤ n))
-ahead a e m n h = elim (cases_lt a e) [ inl l ↦ inl l | inr l ↦ inr (omega (arith, h, l), omega (arith, h, l)) ]
+ahead : (a e m n : ℕ) → a + (m - 1) ≤ e → 1 ≤ n → (a < e) ⊎ ((a ≡ e) × (m ≤ n))
+ahead a e m n h k = elim (cases_lt a e) [ inl l ↦ inl l | inr l ↦ inr (omega (arith, h, l), omega (arith, h, k, l)) ]
+
+key_ranked : (f : Frame) (to : ℕ) (r : Rules) (k : Spelling) (c : Complaint) → OfKeyAt r to f k c → 1 ≤ rank c.reason
+key_ranked (a_key w a v b) to r k c o = omega (arith, key_last r.keys to (keys_onto [] a) k c o, key_at_end (a_key w a v b) k r to c o)
+key_ranked (a_member w a b) to r k c o = absurd o
+key_ranked (a_content w a l b) to r k c o = absurd o
+key_ranked (tagged w n) to r k c o = absurd o
 
 module _ (f : Frame) (r : Rules) (at d : ℕ) (fits : IsFrame f) (flat : depth_beside f ≤ d) (clean : Never (OfFront r at f)) where
   finding_in : (s : Spelling) (p rest : List ℕ) (found : Option Complaint) → spell s ≡ p ++ rest
@@ -31,14 +37,14 @@ module _ (f : Frame) (r : Rules) (at d : ℕ) (fits : IsFrame f) (flat : depth_b
       let more = length-append (before f) p in
       let size : length (spell s) ≡ length p + length rest = ap length e ∙ length-append p rest in
       let ends : c.end ≤ to + length p = h.ends in
-      let least : c.end + rank c.reason ≤ to + length (spell s) = bounded s r to c h.holds in
+      let least : c.end + (rank c.reason - 1) ≤ to + length (spell s) = bounded s r to c h.holds in
       record {
         holds = plug_item f s r at to c refl (inl h.holds);
         ends = omega (arith, ends, more);
         first = λ x g l. elim (plug_split f s r at to x refl g) [
           | inl y ↦ absurd (clean x y)
           | inr (inl y) ↦ h.first x y (omega (arith, l, more))
-          | inr (inr (inl y)) ↦ ahead c.end x.end (rank c.reason) (rank x.reason) (omega (arith, least, key_at_end f s r to x y))
+          | inr (inr (inl y)) ↦ ahead c.end x.end (rank c.reason) (rank x.reason) (omega (arith, least, key_at_end f s r to x y)) (key_ranked f to r s x y)
           | inr (inr (inr y)) ↦ absurd (omega (arith, back_later f s r (to + length (spell s)) x y, l, more, size))
         ];
       }

@@ -12,7 +12,8 @@ use Rattle.cbor_head.specs.declared.major.Major.TheVariants.{Bytes, Text, Array,
 use Rattle.cbor_head.specs.declared.width.Width.{Width}
 use Rattle.cbor_head.specs.declared.width.Width.TheVariants.{Indefinite}
 use Rattle.cbor_grammar.proofs.Agree.{head_of, body, parts, later, payload_end}
-use Rattle.cbor_grammar.proofs.OneFirst.{last, count_last, payload_last}
+use Rattle.cbor_grammar.proofs.OneFirst.{last, count_last}
+use Rattle.cbor_grammar.proofs.Reasons.{ranked, payload_rank}
 use Rattle.cbor_judging.proofs.Judged.{zeros, zeros_count, zeros_spelled, zeros_flat, zero_pairs, pairs_count, pairs_spelled, pairs_flat}
 
 -- ---- heads
@@ -25,7 +26,7 @@ head_complains s r at d c h l o e =
       item = s;
       rest = body s;
       is = record { spelled = h; within = l; bytes_are = parts s };
-      finding = record { holds = o; ends = omega (arith, e); first = λ x g m. inr (omega (arith, e, from, m, later s r at x g), omega (arith, e, from)) };
+      finding = record { holds = o; ends = omega (arith, e); first = λ x g m. inr (omega (arith, e, from, m, later s r at x g), omega (arith, e, from, ranked r at s x g)) };
     }
 
 pub array_head_complains : (w : Width) (n : ℕ) (r : Rules) (at d : ℕ) (c : Complaint) → HoldsOrIndefinite w n → 1 ≤ d → OfCount r at Array w n c → IsJudged r at d (head Array w n) (Some c)
@@ -76,7 +77,7 @@ pub text_complains : (w : Width) (q : List ℕ) (r : Rules) (at d : ℕ) (c : Co
 text_complains w q r at d c h clean o =
     let hd = head Text w (length q) in
     let end = payload_end r (at + length hd) q c o in
-    let tight = payload_last r (at + length hd) q c o in
+    let tight = payload_rank r (at + length hd) q c o in
     record {
       item = text w q;
       rest = [];
@@ -84,7 +85,7 @@ text_complains w q r at d c h clean o =
       finding = record {
         holds = inr o;
         ends = omega (arith, end, length-append hd q);
-        first = λ e g l. elim g [ inl x ↦ absurd (clean e x) | inr x ↦ inr (omega (arith, end, payload_end r (at + length hd) q e x), omega (arith, end, tight)) ];
+        first = λ e g l. elim g [ inl x ↦ absurd (clean e x) | inr x ↦ inr (omega (arith, end, payload_end r (at + length hd) q e x), omega (arith, tight, payload_rank r (at + length hd) q e x)) ];
       };
     }
 

@@ -12,6 +12,11 @@ pub mod Given
 pub mod Heads
 pub mod Items
 pub mod Judged
+pub mod KindBytes
+pub mod KindFrames
+pub mod KindLevels
+pub mod KindStarts
+pub mod KindSteps
 pub mod LastKey
 pub mod Leaves
 pub mod LevelFrames

@@ -122,7 +122,7 @@ mutual
   spelled_entries_bytes (entry k v es) h =
       bytes_join (spell k ++ spell v) (spell_entries es) (bytes_join (spell k) (spell v) (spelled_bytes k h.0) (spelled_bytes v h.1)) (spelled_entries_bytes es h.2)
 
-beginning_bytes : (d : ℕ) (p : List ℕ) → IsBeginning d p → AreBytes p
+pub beginning_bytes : (d : ℕ) (p : List ℕ) → IsBeginning d p → AreBytes p
 beginning_bytes d p b = bytes_front p b.1 (subst AreBytes b.2.bytes_are (spelled_bytes b.0 b.2.spelled))
 
 -- ---- the longest beginning, whatever the input has

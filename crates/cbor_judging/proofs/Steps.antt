@@ -13,6 +13,7 @@ use Rattle.cbor_head.specs.declared.order.KeyOrder.{KeyOrder}
 use Rattle.cbor_head.specs.declared.reason.Reason.{Reason}
 use Rattle.cbor_head.specs.declared.reason.Reason.TheVariants as reasons
 use Rattle.cbor_head.specs.declared.reason.Refusal.{Refusal}
+use Rattle.cbor_grammar.proofs.KindsUnasked.{form_beside}
 use Rattle.cbor_automaton.specs.Trace.{Mark, a_head, a_chunk, a_byte, a_break}
 use Rattle.cbor_judging.specs.Place.{Place, at_item, in_payload, in_chunks, done, IsTaking}
 use Rattle.cbor_automaton.specs.Automaton as automaton
@@ -220,7 +221,7 @@ pub record Stops (b : Bounds) (q : Place) (t : List ℕ) (from to : Option (List
   pub cut : IsCutHead b q t bytes to f
 
 verdict-within : (b : Bounds) (d n : ℕ) (input : List ℕ) (f : Refusal) → d ≡ b.depth → n ≡ b.bytes → IsVerdict (bounds d n) form input (refused f) → IsVerdict b form input (refused f)
-verdict-within b d n input f e g v = subst (λ (x : ℕ). IsVerdict (bounds x b.bytes) form input (refused f)) e (subst (λ (x : ℕ). IsVerdict (bounds d x) form input (refused f)) g v)
+verdict-within b d n input f e g v = form_beside (bounds d n) b input (refused f) e g v
 
 module _ (b : Bounds) (old new : ItemEventsView) (t : List ℕ) (q : Place) (from to : Option (List ℕ)) (f : Refusal) (a : IsAt b old t q) (same : SameLimits old.machine new.machine) where
   abbrev now : MachineView

@@ -1,27 +1,31 @@
 -- What was found of the one item that an input starts with is its verdict.
-use Rattle.std.proofs.Common.{ℕ, ◌+◌, ◌-◌, ◌≡◌, ◌≤◌, ◌⊎◌, Option, Some, None, List, [], ◌∷◌, ◌++◌, length, take, drop, refl, sym, ap, ◌∙◌, arith, subst, inl, inr, append_assoc, append-nil, take-append-drop}
+use Rattle.std.proofs.Common.{ℕ, ◌+◌, ◌-◌, ◌≡◌, ◌<◌, ◌≤◌, ◌⊎◌, Option, Some, None, List, [], ◌∷◌, ◌++◌, length, take, drop, refl, sym, ap, ◌∙◌, arith, subst, inl, inr, append_assoc, append-nil, take-append-drop}
 use Rattle.std.proofs.Math.Seq.{take-append_seam, drop-append_seam, take-append-add}
+use Rattle.std.proofs.lemmas.Bool.{cases_lt}
 use Rattle.std.proofs.lemmas.List.{length-append, nil_from_length}
 use Rattle.std.specs.Io.KnownBytes.{Consumes, IsAtEnd}
 use Rattle.cbor_head.specs.Limits.{Bounds}
 use Rattle.cbor_head.specs.Value.{Value}
-use Rattle.cbor_head.specs.Spelling.{spell, IsItem}
+use Rattle.cbor_head.specs.Laws.{StartsWith}
+use Rattle.cbor_head.specs.Spelling.{Spelling, spell, IsItem}
 use Rattle.cbor_head.specs.Beginning.{IsBeginning, IsLongestBeginning}
-use Rattle.cbor_head.specs.Complaint.{Rules, Complaint, form}
+use Rattle.cbor_head.specs.Complaint.{Rules, Complaint, complaint, form, OfKinds, IsComplaint}
 use Rattle.cbor_head.specs.Verdict.{refusal, refused, IsFormError, IsVerdict}
 use Rattle.cbor_head.specs.declared.reason.Reason.{Reason}
-use Rattle.cbor_head.specs.declared.reason.Reason.TheVariants.{Truncated, Read, Memory}
+use Rattle.cbor_head.specs.declared.reason.Reason.TheVariants.{Truncated, Read, Memory, KeyKind}
 use Rattle.cbor_head.specs.declared.reason.Refusal.{Refusal}
 use Rattle.cbor_grammar.proofs.Agree.{split_front}
 use Rattle.cbor_grammar.proofs.Beginnings.{item_decides}
-use Rattle.cbor_standing.proofs.Form.{no-complaint}
+use Rattle.cbor_standing.proofs.Form.{never}
 use Rattle.cbor_standing.specs.NextEvent.{ItemEventsView}
 use Rattle.cbor_judging.specs.Judged.{IsJudged}
+use Rattle.cbor_judging.specs.Kinds.{AsksForKinds, KeepsToKinds}
 use Rattle.cbor_judging.specs.Readers.{IsReadAs, IsUnread, of_verdict, of_reader, of_memory, Loses}
-use Rattle.cbor_judging.specs.Reading.{IsReached, IsMemory, IsCause, Extends, ReadsItem, IsUndecided, StopsItem}
+use Rattle.cbor_judging.specs.Reading.{IsReached, IsMemory, IsCause, HasCause, Extends, ReadsItem, IsUndecided, StopsItem}
 use Rattle.cbor_judging.specs.Refusals.{IsFreeBefore}
 use Rattle.cbor_judging.proofs.FreeBefore.{front-free}
-use Rattle.cbor_judging.proofs.Decisions.{complaint_decides, break_decides}
+use Rattle.cbor_judging.proofs.Decisions.{whole_beside, complaint_decides, break_decides, kind_decides}
+use Rattle.cbor_judging.proofs.KindSteps.{KeepsBefore}
 use Rattle.cbor_judging.proofs.Within.{verdict_within}
 use Rattle.cbor_judging.proofs.SpelledBytes.{longest_always}
 
@@ -69,28 +73,31 @@ record BreaksAt (limits : Bounds) (input : List ℕ) (f : Refusal) : Type 0 wher
 
 breaks_at : (limits : Bounds) (input : List ℕ) (f : Refusal) → IsVerdict limits form input (refused f) → BreaksAt limits input f
 breaks_at limits input f v = elim v.decides [
-  | inl c ↦ absurd (no-complaint 0 v.item c.0 c.1.holds)
+  | inl c ↦ absurd (never limits v.item c.0 c.1.holds)
   | inr b ↦ record { p = v.p; longest = v.longest; breaks = b.2 }
 ]
 
 -- and the place of its refusal is where what has no complaint ends
-pub form_decides : (limits : Bounds) (r : Rules) (input p rest : List ℕ) (f : Refusal) → IsJudged r 0 limits.depth p None → input ≡ p ++ rest → f.place ≡ length p → IsVerdict limits form input (refused f)
+pub form_decides : (limits : Bounds) (r : Rules) (input p rest : List ℕ) (f : Refusal) → IsJudged r 0 limits.depth p None → KeepsToKinds limits r p → input ≡ p ++ rest → f.place ≡ length p → IsVerdict limits form input (refused f)
     → (IsVerdict limits r input (refused f)) × IsLongestBeginning limits.depth (take limits.bytes input) p
-form_decides limits r input p rest f j e place v =
+form_decides limits r input p rest f j keeps e place v =
     let b = breaks_at limits input f v in
     let size : length b.p ≡ length p = sym (break_place limits b.p b.longest.rest f b.breaks) ∙ place in
     let whole : input ≡ b.p ++ (b.longest.rest ++ drop limits.bytes input) = sym (take-append-drop limits.bytes input) ∙ ap (λ (u : List ℕ). u ++ drop limits.bytes input) b.longest.splits ∙ append_assoc b.p b.longest.rest (drop limits.bytes input) in
     let same : p ≡ b.p = same_front p b.p rest (b.longest.rest ++ drop limits.bytes input) (sym e ∙ whole) (sym size) in (
-      break_decides limits r input b.p f (subst (λ (u : List ℕ). IsJudged r 0 limits.depth u None) same j) b.longest b.breaks,
+      break_decides limits r input b.p f (subst (λ (u : List ℕ). IsJudged r 0 limits.depth u None) same j) (subst (KeepsToKinds limits r) same keeps) b.longest b.breaks,
       subst (IsLongestBeginning limits.depth (take limits.bytes input)) (sym same) b.longest,
     )
 
 -- ---- an item that is read
 
 module _ (r : Rules) (b : Bounds) (input : List ℕ) (from to : Option (List ℕ)) (known : from ≡ Some input) where
-  module _ (new : ItemEventsView) (v : Value) (i : ReadsItem r b [] [] [] from to new v) where
+  module _ (new : ItemEventsView) (v : Value) (i : ReadsItem r b [] [] [] from to new v) (keeps : KeepsToKinds b r (spell i.item)) where
     gone : Lost input (spell i.item) to
     gone = lost input (spell i.item) from to known i.taken
+
+    whole : IsItem b.depth i.item (spell i.item)
+    whole = record { spelled = i.spelled; within = omega (arith, i.within); bytes_are = refl }
 
     fits : length (spell i.item) ≤ b.bytes
     fits = omega (arith, i.at.stands.stands.taken, i.at.stands.stands.limited, i.at.bytes)
@@ -99,10 +106,9 @@ module _ (r : Rules) (b : Bounds) (input : List ℕ) (from to : Option (List ℕ
     item-read = record {
       read = record {
         item = i.item;
-        verdict = item_decides b r input (take (b.bytes - length (spell i.item)) gone.rest) i.item
-            (record { spelled = i.spelled; within = omega (arith, i.within); bytes_are = refl })
+        verdict = item_decides (IsComplaint b r) b input (take (b.bytes - length (spell i.item)) gone.rest) i.item whole
             (ap (take b.bytes) gone.splits ∙ cut_behind b.bytes (spell i.item) gone.rest fits)
-            i.clean;
+            (whole_beside b r i.item whole keeps i.clean);
         size = refl;
       };
       value = sym i.value;
@@ -128,23 +134,27 @@ module _ (r : Rules) (b : Bounds) (input : List ℕ) (from to : Option (List ℕ
     flat reason e g = ap (λ (x : Reason). refusal x f.place f.read) e ∙ ap (λ (k : ℕ). refusal reason k f.read) g
 
     -- where all but the last byte taken tells nothing against the item, no complaint ends before
-    free : IsReached b s.bytes → IsUndecided r b [] [] s.bytes → (p : List ℕ) → IsLongestBeginning b.depth (take b.bytes input) p → IsFreeBefore b.depth r p f.read
-    free h u p g =
+    free : IsReached b s.bytes → (u : IsUndecided r b [] [] s.bytes) → KeepsToKinds b r u.p → (p : List ℕ) → IsLongestBeginning b.depth (take b.bytes input) p → IsFreeBefore b r p f.read
+    free h u keeps p g =
         let front : take b.bytes input ≡ s.bytes ++ take (b.bytes - length s.bytes) left.rest = ap (take b.bytes) left.splits ∙ cut_behind b.bytes s.bytes left.rest h.within in
         let (k, is, other) = split_front s.bytes (take (b.bytes - length s.bytes) left.rest) p g.rest (sym front ∙ g.splits) (omega (arith, read-is, short h p g)) in
         let item : IsItem b.depth u.judged.item (u.p ++ u.judged.rest) = subst (λ (m : ℕ). IsItem m u.judged.item (u.p ++ u.judged.rest)) level u.judged.is in
-        front-free b.depth r u.p p (u.last ++ k) u.judged.item u.judged.rest f.read item (is ∙ ap (λ (v : List ℕ). v ++ k) u.splits ∙ append_assoc u.p u.last k)
-        (λ c held. omega (arith, u.judged.finding.1 c held)) (omega (arith, read-is, ap length u.splits, length-append u.p u.last, u.byte))
+        front-free b r u.p p (u.last ++ k) u.judged.item u.judged.rest f.read item (is ∙ ap (λ (v : List ℕ). v ++ k) u.splits ∙ append_assoc u.p u.last k)
+        (later item) (omega (arith, read-is, ap length u.splits, length-append u.p u.last, u.byte))
       where
         level : b.depth - 0 ≡ b.depth
         level = omega arith
 
-    stopped-for-memory : IsMemory f → IsReached b s.bytes → IsUndecided r b [] [] s.bytes → IsUnread b r input f
-    stopped-for-memory m h u =
-        let g = longest_always b.depth (take b.bytes input) in
-        of_memory g.0 g.1 (short h g.0 g.1) (flat Memory m.0 m.1) (free h u g.0 g.1)
+        later : IsItem b.depth u.judged.item (u.p ++ u.judged.rest) → (c : Complaint) → IsComplaint b r u.judged.item c → length u.p < c.end
+        later item c (inl x) = omega (arith, u.judged.finding.1 c x)
+        later item c (inr x) = elim (cases_lt (length u.p) c.end) [ inl l ↦ l | inr l ↦ absurd (keeps (x.0, x.1) u.judged.item c (u.judged.rest, item) x.2 l) ]
 
-    module _ (p last : List ℕ) (splits : s.bytes ≡ p ++ last) where
+    stopped-for-memory : IsMemory f → IsReached b s.bytes → (u : IsUndecided r b [] [] s.bytes) → KeepsToKinds b r u.p → IsUnread b r input f
+    stopped-for-memory m h u keeps =
+        let g = longest_always b.depth (take b.bytes input) in
+        of_memory g.0 g.1 (short h g.0 g.1) (flat Memory m.0 m.1) (free h u keeps g.0 g.1)
+
+    module _ (p last : List ℕ) (splits : s.bytes ≡ p ++ last) (keeps : KeepsToKinds b r p) where
       input-is : input ≡ p ++ (last ++ left.rest)
       input-is = left.splits ∙ ap (λ (u : List ℕ). u ++ left.rest) splits ∙ append_assoc p last left.rest
 
@@ -155,7 +165,7 @@ module _ (r : Rules) (b : Bounds) (input : List ℕ) (from to : Option (List ℕ
       stopped-by-complaint c j is l =
           let g = longest_always b.depth (take b.bytes input) in
           of_verdict (subst (λ (x : Refusal). IsVerdict b r input (refused x)) (sym is)
-          (complaint_decides b r input p (take (b.bytes - length p) (last ++ left.rest)) g.0 c j
+          (complaint_decides b r input p (take (b.bytes - length p) (last ++ left.rest)) g.0 c j keeps
           (ap (take b.bytes) input-is ∙ cut_behind b.bytes p (last ++ left.rest) (omega (arith, l, shorter))) g.1))
 
       -- the input ends, or the reader failed, within an item
@@ -163,7 +173,7 @@ module _ (r : Rules) (b : Bounds) (input : List ℕ) (from to : Option (List ℕ
           → (f.reason ≡ Read) ⊎ ((f.reason ≡ Truncated) × IsAtEnd to) → IsUnread b r input f
       cut j place v even why =
           let all : length s.bytes ≡ length p = sym read-is ∙ sym even ∙ place in
-          let decided = form_decides b r s.bytes p last (refusal Truncated (length s.bytes) (length s.bytes)) j splits all v in
+          let decided = form_decides b r s.bytes p last (refusal Truncated (length s.bytes) (length s.bytes)) j keeps splits all v in
           elim why [
             | inl e ↦
                 let g = longest_always b.depth (take b.bytes input) in
@@ -189,18 +199,29 @@ module _ (r : Rules) (b : Bounds) (input : List ℕ) (from to : Option (List ℕ
       stopped-by-cause : (found : Option Complaint) → IsJudged r 0 b.depth p found → IsCause b s.bytes to (length p) found f → IsUnread b r input f
       stopped-by-cause (Some c) j h = stopped-by-complaint c j h.0 h.1
       stopped-by-cause None j h = elim h.1 [
-        | inl w ↦ of_verdict (form_decides b r input p (last ++ left.rest) f j input-is h.0 (subst (λ (u : List ℕ). IsVerdict b form u (refused f)) (sym left.splits) (w left.rest))).0
+        | inl w ↦ of_verdict (form_decides b r input p (last ++ left.rest) f j keeps input-is h.0 (subst (λ (u : List ℕ). IsVerdict b form u (refused f)) (sym left.splits) (w left.rest))).0
         | inr w ↦ cut j h.0 w.0 w.1 w.2
       ]
 
-    pub item-unread : IsUnread b r input f
-    item-unread = elim s.why [
-      | inl m ↦ stopped-for-memory m.0 m.1 m.2
-      | inr h ↦ stopped-by-cause h.p h.last h.splits h.found (subst (λ (k : ℕ). IsJudged r 0 k h.p h.found) level h.judged) h.cause
-    ]
+    pub item-unread : KeepsBefore r b s.bytes to f s.why → IsUnread b r input f
+    item-unread = go s.why
       where
         level : b.depth - 0 ≡ b.depth
         level = omega arith
+
+        go : (why : (IsMemory f × IsReached b s.bytes × IsUndecided r b [] [] s.bytes) ⊎ HasCause r b [] [] s.bytes to f) → KeepsBefore r b s.bytes to f why → IsUnread b r input f
+        go (inl m) keeps = stopped-for-memory m.0 m.1 m.2 keeps
+        go (inr h) keeps = stopped-by-cause h.p h.last h.splits keeps h.found (subst (λ (k : ℕ). IsJudged r 0 k h.p h.found) level h.judged) h.cause
+
+  -- ---- a key of another kind, of which the first byte was taken
+
+  pub kind-unread : (p : List ℕ) (x : ℕ) (s : Spelling) → Extends [] (p ++ x ∷ []) from to → length (p ++ x ∷ []) ≤ b.bytes → AsksForKinds b r → IsJudged r 0 b.depth p None → KeepsToKinds b r p
+      → StartsWith b.depth s (p ++ x ∷ []) → OfKinds 0 s (complaint (length p + 1) (length p) KeyKind) → IsUnread b r input (refusal KeyKind (length p) (length p + 1))
+  kind-unread p x s taken l asked j keeps begins o =
+      let front = p ++ x ∷ [] in
+      let gone = lost input front from to known taken in
+      let g = longest_always b.depth (take b.bytes input) in
+      of_verdict (kind_decides b r input p (take (b.bytes - length front) gone.rest) g.0 x s asked j keeps begins o (ap (take b.bytes) gone.splits ∙ cut_behind b.bytes front gone.rest l) g.1)
 
 -- ---- what the reader lost
 

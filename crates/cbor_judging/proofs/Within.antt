@@ -4,7 +4,7 @@ use Rattle.std.proofs.lemmas.List.{length-append, length-take}
 use Rattle.std.proofs.lemmas.Str.{utf8_valid_len_le}
 use Rattle.cbor_head.specs.Limits.{Bounds}
 use Rattle.cbor_head.specs.Spelling.{Chunk, Spelling, Spellings, SpelledEntries, unsigned, negative, bytes, text, byte_chunks, text_chunks, array, a_map, tag, simple, no_spellings, a_spelling, no_entries, entry, spellings_count, entries_count, chunk_bytes}
-use Rattle.cbor_head.specs.Complaint.{KeyRule, unasked, distinct, rising, Rules, Complaint, OfHead, OfIndefinite, OfCount, OfPayload, OfString, OfChunks, OfKey, Complains, ComplainsIn, ComplainsInEntries}
+use Rattle.cbor_head.specs.Complaint.{KeyRule, unasked, distinct, rising, Rules, Complaint, OfHead, OfIndefinite, OfCount, OfPayload, OfString, OfChunks, OfKey, Complains, ComplainsIn, ComplainsInEntries, IsComplaint}
 use Rattle.cbor_head.specs.Verdict.{IsFormError, IsVerdict, refused}
 use Rattle.cbor_head.specs.Beginning.{IsLongestBeginning}
 use Rattle.cbor_head.specs.declared.major.Major.{Major}
@@ -12,6 +12,7 @@ use Rattle.cbor_head.specs.declared.major.Major.TheVariants.{Unsigned, Negative,
 use Rattle.cbor_head.specs.declared.reason.Refusal.{Refusal}
 use Rattle.cbor_head.specs.declared.width.Width.{Width}
 use Rattle.cbor_head.specs.declared.width.Width.TheVariants.{Indefinite}
+use Rattle.cbor_grammar.proofs.KeyKinds.{kind_is}
 use Rattle.cbor_judging.specs.Refusals.{StandsWithin}
 
 -- ---- complaints
@@ -75,6 +76,10 @@ mutual
   places_in_entries (entry k v es) before r at c (inr (inr (inl h))) = place_by_end v r _ c h
   places_in_entries (entry k v es) before r at c (inr (inr (inr h))) = places_in_entries es (k ∷ before) r _ c h
 
+complaint_place : (limits : Bounds) (r : Rules) (s : Spelling) (c : Complaint) → IsComplaint limits r s c → c.place ≤ c.end
+complaint_place limits r s c (inl h) = place_by_end s r 0 c h
+complaint_place limits r s c (inr h) = omega (arith, ap (λ (x : Complaint). x.end) (kind_is s 0 c h.2))
+
 -- ---- refusals
 
 module _ (limits : Bounds) (input : List ℕ) where
@@ -103,7 +108,7 @@ module _ (limits : Bounds) (input : List ℕ) where
             let place = ap (λ (f : Refusal). f.place) h.2 in let read = ap (λ (f : Refusal). f.read) h.2 in
             let end = h.1.ends in
             record {
-              by_read = omega (arith, place, read, place_by_end v.item r 0 h.0 h.1.holds);
+              by_read = omega (arith, place, read, complaint_place limits r v.item h.0 h.1.holds);
               in_limit = omega (arith, read, end, w.0);
               in_input = omega (arith, read, end, w.1);
             }

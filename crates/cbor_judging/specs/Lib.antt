@@ -1,6 +1,7 @@
 pub mod Frame
 pub mod Given
 pub mod Judged
+pub mod Kinds
 pub mod LastKey
 pub mod Levels
 pub mod OpenMaps

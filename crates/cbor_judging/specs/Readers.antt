@@ -1,7 +1,7 @@
 -- What the readers answer of the item at the front of an input.
 use Rattle.std.specs.Prelude.{ℕ, ◌≡◌, ◌≤◌, List, length, take, drop, Option, Some, IfSome, ◌++◌}
 use Rattle.cbor_head.specs.Limits.{Bounds}
-use Rattle.cbor_head.specs.Value.{Value, IsInRange, IsValid, depth}
+use Rattle.cbor_head.specs.Value.{Value, IsInRange, IsValid, HasBasicKeys, depth}
 use Rattle.cbor_head.specs.Spelling.{Spelling, spell, value_of}
 use Rattle.cbor_head.specs.Beginning.{IsLongestBeginning}
 use Rattle.cbor_head.specs.Complaint.{Rules}
@@ -9,6 +9,7 @@ use Rattle.cbor_head.specs.Verdict.{refusal, accepted, refused, IsVerdict}
 use Rattle.cbor_head.specs.declared.reason.Reason.TheVariants.{Truncated, Read, Memory}
 use Rattle.cbor_head.specs.declared.reason.Refusal.{Refusal}
 use Rattle.cbor_head.specs.Canonical.{canonical}
+use Rattle.cbor_head.specs.declared.keys.Keys.TheVariants.{IntegersAndTexts}
 use Rattle.cbor_head.specs.declared.order.KeyOrder.{KeyOrder}
 use Rattle.cbor_judging.specs.Refusals.{IsFreeBefore}
 
@@ -31,7 +32,7 @@ pub data IsUnread (limits : Bounds) (r : Rules) (input : List ℕ) (f : Refusal)
       → IsVerdict limits r (take f.read input) (refused (refusal Truncated f.read f.read)) → IsUnread limits r input f
   -- memory was refused, somewhere on the longest beginning, where no complaint had ended before
   of_memory : (p : List ℕ) → IsLongestBeginning limits.depth (take limits.bytes input) p → f.read ≤ length p → f ≡ refusal Memory f.read f.read
-      → IsFreeBefore limits.depth r p f.read → IsUnread limits r input f
+      → IsFreeBefore limits r p f.read → IsUnread limits r input f
 
 -- a reader that had these bytes lost the first so many of them
 abbrev pub Loses : ℕ → Option (List ℕ) → Option (List ℕ) → Type 0
@@ -43,6 +44,7 @@ Loses k old new = IfSome old (λ input. (new ≡ Some (drop k input)) × (k ≤ 
 pub record BeginsWithCanonical (limits : Bounds) (o : KeyOrder) (input : List ℕ) (v : Value) : Type 0 where
   pub range : IsInRange v
   pub valid : IsValid v
+  pub keys : limits.keys ≡ IntegersAndTexts → HasBasicKeys v
   pub within : depth v ≤ limits.depth
   pub fits : length (canonical o v) ≤ limits.bytes
   -- what follows them

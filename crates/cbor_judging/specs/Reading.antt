@@ -301,5 +301,5 @@ IsFault r m reason = IsTrue r.heads × IsMarkFault m reason
 -- The item at the front of an input is refused: what is told of a known input, and of each.
 pub record IsFrontUnread (r : Rules) (b : Bounds) (from to : Option (List ℕ)) (f : Refusal) : Type 0 where
   pub refused : IfSome from (λ input. IsUnread b r input f)
-  pub reason : IsReaderReason r f.reason
+  pub reason : IsReaderReason b r f.reason
   pub taken : Loses f.read from to

@@ -1,12 +1,14 @@
 -- What a reader's refusal can say: its reason, and what stands before its place.
 use Rattle.std.specs.Prelude.{ℕ, ◌≡◌, ◌≤◌, ◌⊎◌, IsTrue, List, length}
-use Rattle.cbor_head.specs.Complaint.{distinct, rising, Rules, Complaint, Complains}
+use Rattle.cbor_head.specs.Complaint.{distinct, rising, Rules, Complaint, IsComplaint}
 use Rattle.cbor_head.specs.Laws.{StartsWith}
+use Rattle.cbor_head.specs.Limits.{Bounds}
 use Rattle.cbor_head.specs.Spelling.{Spelling}
+use Rattle.cbor_head.specs.declared.keys.Keys.TheVariants.{IntegersAndTexts}
 use Rattle.cbor_head.specs.declared.order.KeyOrder as order
 use Rattle.cbor_head.specs.declared.reason.Reason.{Reason}
 use Rattle.cbor_head.specs.declared.reason.Refusal.{Refusal}
-use Rattle.cbor_head.specs.declared.reason.Reason.TheVariants.{Truncated, TooLong, Reserved, NoIndefinite, Float, BadSimple, StrayBreak, BadChunk, TooDeep, InvalidText, RepeatedKey, NotShortest, Indefinite, KeyOrder, Read, Memory}
+use Rattle.cbor_head.specs.declared.reason.Reason.TheVariants.{Truncated, TooLong, Reserved, NoIndefinite, Float, BadSimple, StrayBreak, BadChunk, TooDeep, InvalidText, RepeatedKey, NotShortest, Indefinite, KeyOrder, Read, Memory, KeyKind}
 
 -- the reasons for which bytes are not well-formed within the limits (RFC 8949, section 3 and appendix F): 1 to 9
 abbrev pub IsFormReason : Reason → Type 0
@@ -31,13 +33,17 @@ IsComplaintReason r RepeatedKey = r.keys ≡ distinct
 IsComplaintReason r KeyOrder = (o : order.KeyOrder) × (r.keys ≡ rising o)
 IsComplaintReason r _ = ⊥
 
+-- 20, where the kinds of keys are asked for
+abbrev pub IsKindReason : Bounds → Rules → Reason → Type 0
+IsKindReason limits r x = (x ≡ KeyKind) × IsTrue r.kinds × (limits.keys ≡ IntegersAndTexts)
+
 -- the reasons that a reader by these rules gives: those, 17 and 19
-abbrev pub IsReaderReason : Rules → Reason → Type 0
-IsReaderReason r x = IsFormReason x ⊎ IsComplaintReason r x ⊎ (x ≡ Read) ⊎ (x ≡ Memory)
+abbrev pub IsReaderReason : Bounds → Rules → Reason → Type 0
+IsReaderReason limits r x = IsFormReason x ⊎ (IsComplaintReason r x ⊎ IsKindReason limits r x) ⊎ (x ≡ Read) ⊎ (x ≡ Memory)
 
 -- no complaint of an item that starts with p ends before this place
-abbrev pub IsFreeBefore : ℕ → Rules → List ℕ → ℕ → Type 0
-IsFreeBefore d r p place = (s : Spelling) (c : Complaint) → StartsWith d s p → Complains r 0 s c → place ≤ c.end
+abbrev pub IsFreeBefore : Bounds → Rules → List ℕ → ℕ → Type 0
+IsFreeBefore limits r p place = (s : Spelling) (c : Complaint) → StartsWith limits.depth s p → IsComplaint limits r s c → place ≤ c.end
 
 -- a refusal's place is no later than the bytes read, which are no more than the limit and the input
 pub record StandsWithin (n : ℕ) (input : List ℕ) (f : Refusal) : Type 0 where

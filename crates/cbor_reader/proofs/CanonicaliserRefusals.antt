@@ -26,7 +26,7 @@ module _ (limits : Bounds) (input : List ℕ) where
       record { by_read = omega (arith, place, read); in_limit = omega (arith, read, l, w.0); in_input = omega (arith, read, l, w.1) }
 
 -- the canonicaliser's
-pub canonicaliser-reason : (limits : Bounds) (o : KeyOrder) (input : List ℕ) (f : Refusal) → IsRefusal limits o input f → IsCanonicaliserReason f.reason
+pub canonicaliser-reason : (limits : Bounds) (o : KeyOrder) (input : List ℕ) (f : Refusal) → IsRefusal limits o input f → IsCanonicaliserReason limits f.reason
 canonicaliser-reason limits o input f (of_verdict v) = elim (verdict-reason limits plain input f v) [ inl h ↦ inl h | inr h ↦ inr (inl h) ]
 canonicaliser-reason limits o input f (trailing s v l e) = inr (inr (inl (ap (λ (x : Refusal). x.reason) e)))
 canonicaliser-reason limits o input f (canonical_too_long s v e l g) = inr (inr (inr (inl (ap (λ (x : Refusal). x.reason) g))))

@@ -1,16 +1,16 @@
 -- The verdict on a front of an item without complaint.
 use Rattle.std.proofs.Common.{ℕ, ◌≡◌, ◌<◌, List, [], ◌++◌, length, take, drop, refl, sym, ap, ◌∙◌, arith, inl, inr}
 use Rattle.std.proofs.lemmas.List.{append-nil, length-append, length-drop, length-take-le, take-append-drop, take-append-le, take_all}
-use Rattle.cbor_head.specs.Limits.{Bounds, bounds}
+use Rattle.cbor_head.specs.Limits.{Bounds}
 use Rattle.cbor_head.specs.Spelling.{Spelling, IsItem}
-use Rattle.cbor_head.specs.Complaint.{Rules, Complains}
+use Rattle.cbor_head.specs.Complaint.{Rules, IsComplaint}
 use Rattle.cbor_head.specs.Verdict.{refused, refusal, IsFormError, IsVerdict}
 use Rattle.cbor_head.specs.declared.reason.Reason.TheVariants.{Truncated, TooLong}
 use Rattle.cbor_head.specs.declared.reason.Refusal.{Refusal}
 use Rattle.cbor_judging.specs.Judged.{Never}
 
 -- where the first n bytes of the input are p, and the item goes on behind p
-pub cut : (limits : Bounds) (r : Rules) (input : List ℕ) (s : Spelling) (p q : List ℕ) (f : Refusal) → IsItem limits.depth s (p ++ q) → Never (Complains r 0 s) → 0 < length q → take limits.bytes input ≡ p
+pub cut : (limits : Bounds) (r : Rules) (input : List ℕ) (s : Spelling) (p q : List ℕ) (f : Refusal) → IsItem limits.depth s (p ++ q) → Never (IsComplaint limits r s) → 0 < length q → take limits.bytes input ≡ p
     → IsFormError limits p [] f → IsVerdict limits r input (refused f)
 cut limits r input s p q f i none l e b = record {
   p = p;
@@ -26,8 +26,8 @@ cut limits r input s p q f i none l e b = record {
   decides = inr ((λ c h m. none c h), (λ w. omega (arith, l, ap length w, ap length i.bytes_are, length-append p q)), b);
 }
 
-module _ (d : ℕ) (r : Rules) (s : Spelling) (b : List ℕ) (k : ℕ) (i : IsItem d s b) (none : Never (Complains r 0 s)) (small : k < length b) where
-  parted : IsItem d s (take k b ++ drop k b)
+module _ (limits : Bounds) (r : Rules) (s : Spelling) (b : List ℕ) (k : ℕ) (i : IsItem limits.depth s b) (none : Never (IsComplaint limits r s)) (small : k < length b) where
+  parted : IsItem limits.depth s (take k b ++ drop k b)
   parted = record { spelled = i.spelled; within = i.within; bytes_are = i.bytes_are ∙ sym (take-append-drop k b) }
 
   front_size : length (take k b) ≡ k
@@ -37,11 +37,15 @@ module _ (d : ℕ) (r : Rules) (s : Spelling) (b : List ℕ) (k : ℕ) (i : IsIt
   goes_on = omega (arith, small, length-drop k b)
 
   -- the input ends there
-  pub truncated : (n : ℕ) → k < n → IsVerdict (bounds d n) r (take k b) (refused (refusal Truncated k k))
-  truncated n m =
-      cut (bounds d n) r (take k b) s (take k b) (drop k b) _ parted none goes_on (take_all n (take k b) (omega (arith, front_size, m)))
+  pub truncated : k < limits.bytes → IsVerdict limits r (take k b) (refused (refusal Truncated k k))
+  truncated m =
+      cut limits r (take k b) s (take k b) (drop k b) _ parted none goes_on (take_all limits.bytes (take k b) (omega (arith, front_size, m)))
       (inr (omega (arith, front_size, m), ap (λ (j : ℕ). refusal Truncated j j) (sym front_size)))
 
-  -- so many bytes are the limit
-  pub too_long : (rest : List ℕ) → IsVerdict (bounds d k) r (b ++ rest) (refused (refusal TooLong k k))
-  too_long rest = cut (bounds d k) r (b ++ rest) s (take k b) (drop k b) _ parted none goes_on (take-append-le k b rest (omega (arith, small))) (inl (front_size, refl))
+-- it has more bytes than the limit
+pub too_long : (limits : Bounds) (r : Rules) (s : Spelling) (b rest : List ℕ) → IsItem limits.depth s b → Never (IsComplaint limits r s) → limits.bytes < length b
+    → IsVerdict limits r (b ++ rest) (refused (refusal TooLong limits.bytes limits.bytes))
+too_long limits r s b rest i none small =
+    let k = limits.bytes in
+    cut limits r (b ++ rest) s (take k b) (drop k b) _ (parted limits r s b k i none small) none (goes_on limits r s b k i none small) (take-append-le k b rest (omega (arith, small)))
+    (inl (front_size limits r s b k i none small, refl))

@@ -4,7 +4,7 @@ use Rattle.std.specs.Char.{encode_utf8}
 use Rattle.std.specs.Str.{chars, is_utf8}
 use Rattle.std.specs.Str.Lossy.{utf8_valid_len}
 use Rattle.std.proofs.lemmas.Str.{is_utf8-from_IsUtf8, IsUtf8-from_is_utf8}
-use Rattle.cbor_head.specs.Complaint.{plain, Complaint, complaint, Complains}
+use Rattle.cbor_head.specs.Complaint.{plain, Complaint, complaint, Complains, IsComplaint}
 use Rattle.cbor_head.specs.Limits.{bounds}
 use Rattle.cbor_head.specs.Spelling.{Spelling, unsigned, negative, text_chunks, a_map, spell, value_of, depth, IsSpelled}
 use Rattle.cbor_head.specs.Value as value
@@ -17,6 +17,7 @@ use Rattle.cbor_head.specs.declared.reason.Reason.TheVariants.{Truncated, TooLon
 use Rattle.cbor_head.specs.declared.reason.Refusal.{Refusal}
 use Rattle.cbor_head.specs.declared.width.Width.TheVariants.{Direct, One}
 use Rattle.cbor_grammar.proofs.Examples.{chunk, pairs}
+use Rattle.cbor_grammar.proofs.KindsUnasked.{any_complaint}
 use Rattle.cbor_grammar.proofs.OneVerdict.{one_verdict}
 use Rattle.cbor_reader.specs.Canonicalise.{IsCanonicalOf}
 use Rattle.cbor_judging.specs.Readers.{BeginsWithCanonical}
@@ -29,7 +30,7 @@ use Rattle.cbor_reader.proofs.Headline.{answers_exactly}
 item_becomes : (o : KeyOrder) (s : Spelling) (input out : List ℕ) → IsSpelled s → depth s ≤ 256 → spell s ≡ input → length input ≤ 1048576 → ((c : Complaint) → Complains plain 0 s c → ⊥)
     → canonical o (value_of s) ≡ out → length out ≤ 1048576 → IsCanonicalOf (bounds 256 1048576) o input out
 item_becomes o s input out h l e m none f k =
-    (answers_exactly (bounds 256 1048576) o input out).1 (s, record { well_formed = record { spelled = h; within = l; bytes_are = e }; valid = none; fits = m }, sym f, k)
+    (answers_exactly (bounds 256 1048576) o input out).1 (s, record { well_formed = record { spelled = h; within = l; bytes_are = e }; valid = λ c x. none c ((any_complaint (bounds 256 1048576) plain refl s c).0 x); fits = m }, sym f, k)
 
 -- ---- 0, in two bytes
 
@@ -80,7 +81,8 @@ split_item f = f (complaint 3 2 InvalidText) (inr (inl (inr (refl, (λ u. cc (is
 
 cut_at_limit : IsVerdict (bounds 256 1) plain (0x18 ∷ 0x64 ∷ []) (refused (refusal Truncated 1 1)) → ⊥
 cut_at_limit v =
-    let w = too_long 256 plain (unsigned One 100) (0x18 ∷ 0x64 ∷ []) 1 (record { spelled = omega arith; within = omega arith; bytes_are = refl }) (λ c x. cc x.0) (omega arith) [] in
+    let none : (c : Complaint) → IsComplaint (bounds 256 1) plain (unsigned One 100) c → ⊥ = λ c x. cc ((any_complaint (bounds 256 1) plain refl (unsigned One 100) c).0 x).0 in
+    let w = too_long (bounds 256 1) plain (unsigned One 100) (0x18 ∷ 0x64 ∷ []) [] (record { spelled = omega arith; within = omega arith; bytes_are = refl }) none (omega arith) in
     let e = one_verdict (bounds 256 1) plain (0x18 ∷ 0x64 ∷ []) (refused (refusal Truncated 1 1)) (refused (refusal TooLong 1 1)) v w in
     let f : refusal Truncated 1 1 ≡ refusal TooLong 1 1 = cc e in
     let g : Truncated ≡ TooLong = ap (λ (f : Refusal). f.reason) f in
@@ -89,7 +91,7 @@ cut_at_limit v =
 -- ---- {1: 2} with a byte behind it
 
 begins_a_map : BeginsWithCanonical (bounds 256 1048576) Bytewise (0xa1 ∷ 0x01 ∷ 0x02 ∷ 0x00 ∷ []) (value.map (value.entry (value.unsigned 1) (value.unsigned 2) value.no_entries))
-begins_a_map = record { range = search arith; valid = search arith; within = omega arith; fits = omega arith; rest = 0x00 ∷ []; begins = refl }
+begins_a_map = record { range = search arith; valid = search arith; keys = λ e. (tt, tt, tt); within = omega arith; fits = omega arith; rest = 0x00 ∷ []; begins = refl }
 
 -- ---- as large as its item
 

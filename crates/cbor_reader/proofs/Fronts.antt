@@ -6,6 +6,7 @@ use Rattle.cbor_head.specs.Spelling.{Spelling, spell, value_of, depth, IsSpelled
 use Rattle.cbor_head.specs.Complaint.{plain, Complains}
 use Rattle.cbor_standing.specs.NextEvent.{ItemEventsView}
 use Rattle.cbor_reader.specs.Size.{size}
+use Rattle.cbor_judging.specs.Kinds.{KeepsToKinds}
 use Rattle.cbor_judging.specs.Readers.{IsReadAs}
 use Rattle.cbor_reader.specs.inner.Front.{IsFrontRead, HasCanonicalBytes}
 use Rattle.cbor_judging.specs.Reading.{ReadsItem}
@@ -23,14 +24,14 @@ canonical-of s h l clean deep =
     let k = sound (value_of s) (in_range_of s h l) (valid_of s 0 clean) in
     record { depth = subst (λ (n : ℕ). n ≤ 256) (sym (depth-value_of s)) deep; in_range = k.range; valid = k.valid }
 
-pub front-read : (b : Bounds) (from to : Option (List ℕ)) (new : ItemEventsView) (v : Value) (count : ℕ) → AreBounds b → ReadsItem plain b [] [] [] from to new v → count ≡ new.machine.taken
+pub front-read : (b : Bounds) (from to : Option (List ℕ)) (new : ItemEventsView) (v : Value) (count : ℕ) → AreBounds b → (i : ReadsItem plain b [] [] [] from to new v) → KeepsToKinds b plain (spell i.item) → count ≡ new.machine.taken
     → IsFrontRead plain b from to v count
-front-read b from to new v count l i e =
+front-read b from to new v count l i keeps e =
     let sized : count ≡ length (spell i.item) = e ∙ i.at.stands.stands.taken in
     let flat = i.within in
     record {
       read = known from (λ input. IsReadAs b plain input v count)
-          (λ input k. subst (IsReadAs b plain input v) (sym sized) (item-read plain b input from to k new v i));
+          (λ input k. subst (IsReadAs b plain input v) (sym sized) (item-read plain b input from to k new v i keeps));
       taken = loses (spell i.item) count from to sized i.taken;
       bounded = subst (λ (w : Value). size w ≤ count) i.value (subst (λ (n : ℕ). size (value_of i.item) ≤ n) (sym sized) (size_bounded i.item));
       sound = subst HasCanonicalBytes i.value

@@ -4,15 +4,17 @@ use Rattle.std.proofs.lemmas.Bool.{cases_lt}
 use Rattle.std.proofs.lemmas.List.{append-nil, take_all}
 use Rattle.cbor_head.specs.Limits.{Bounds}
 use Rattle.cbor_head.specs.Value as value
-use Rattle.cbor_head.specs.Value.{Same, IsInRange, IsValid}
+use Rattle.cbor_head.specs.Value.{Same, IsInRange, IsValid, HasBasicKeys}
 use Rattle.cbor_head.specs.Spelling.{Spelling, spell, value_of, depth, IsItem}
 use Rattle.cbor_head.specs.Canonical.{canonical}
 use Rattle.cbor_head.specs.Complaint.{Rules, plain}
 use Rattle.cbor_head.specs.Verdict.{accepted, IsVerdict}
+use Rattle.cbor_head.specs.declared.keys.Keys.TheVariants.{IntegersAndTexts}
 use Rattle.cbor_head.specs.declared.order.KeyOrder.{KeyOrder}
 use Rattle.cbor_head.specs.declared.reason.Reason.TheVariants.{Memory}
 use Rattle.cbor_head.specs.declared.reason.Refusal.{Refusal}
 use Rattle.cbor_grammar.proofs.Accepted.{accepts_exactly}
+use Rattle.cbor_grammar.proofs.BasicKeys.{has_basic_keys, none_of_kinds, basic_same}
 use Rattle.cbor_grammar.proofs.ReadLaws.{one_list}
 use Rattle.cbor_canonical.proofs.Depth.{depth-value_of}
 use Rattle.cbor_canonical.proofs.Keys.{same_exactly}
@@ -36,7 +38,10 @@ pub front_depth : (limits : Bounds) (r : Rules) (input : List ℕ) (s : Spelling
 front_depth limits r input s v = let h = (accepts_exactly limits r input s).0 v in omega (arith, h.1.1, depth-value_of s)
 
 pub front_valid : (limits : Bounds) (input : List ℕ) (s : Spelling) → IsVerdict limits plain input (accepted s) → IsValid (value_of s)
-front_valid limits input s v = let h = (accepts_exactly limits plain input s).0 v in valid_of s 0 h.2
+front_valid limits input s v = let h = (accepts_exactly limits plain input s).0 v in valid_of s 0 (λ c x. h.2 c (inl x))
+
+pub front_keys : (limits : Bounds) (input : List ℕ) (s : Spelling) → limits.keys ≡ IntegersAndTexts → IsVerdict limits plain input (accepted s) → HasBasicKeys (value_of s)
+front_keys limits input s basic v = let h = (accepts_exactly limits plain input s).0 v in has_basic_keys s 0 (λ c x. h.2 c (inr (refl, basic, x)))
 
 -- ---- an item that is the whole input
 
@@ -119,7 +124,7 @@ again limits o input out m a =
     let within : depth a.item ≤ limits.depth = (valid_item limits input a.item a.verdict a.whole).well_formed.within in
     let i : IsValidItem limits out s = record {
       well_formed = record { spelled = k.spelled; within = omega (arith, within, k.as_deep, depth-value_of a.item); bytes_are = k.bytes_are ∙ sym a.canonical_bytes };
-      valid = plain_too o s 0 (k.clean 0) w.1;
+      valid = λ c x. elim x [ inl y ↦ plain_too o s 0 (k.clean 0) w.1 c y | inr y ↦ none_of_kinds s (basic_same (value_of s) v k.same (front_keys limits input a.item y.1 a.verdict)) 0 c y.2 ];
       fits = a.fits;
     } in
     (answers_exactly limits o out out).1 (s, i, a.canonical_bytes ∙ sym w.2, a.fits)

@@ -10,7 +10,7 @@ use Rattle.cbor_head.specs.declared.major.Major.TheVariants as majors
 use Rattle.cbor_head.specs.declared.order.KeyOrder.{KeyOrder}
 use Rattle.cbor_judging.specs.Place.{Place, Ends}
 use Rattle.cbor_builder.specs.Built.{HasKey, IsRepeatedKey, IsWaitingKey, IsContainer}
-use Rattle.cbor_builder.specs.Parts.{Open, plain, an_array, a_map, a_key, a_string, pair, closed, give, close, opened}
+use Rattle.cbor_canonical.specs.Parts.{Open, plain, an_array, a_map, a_key, a_string, pair, closed, give, close, opened}
 use Rattle.cbor_reader.specs.declared.key_set.KeySet.{KeySet}
 use Rattle.cbor_reader.specs.inner.HeldKeys.{is_in, IsAmong, HasKeyBytes, IsAdded, pair_keys, keys_before, AreHeld, AreHeldSoFar}
 use Rattle.cbor_judging.specs.Levels as levels

@@ -28,7 +28,7 @@ module _ {A : Type 0} (limits : Bounds) (o : KeyOrder) (input : List ℕ) (items
   ok_equal (Ok v) l a = λ others y b s t k i h j. equal_exactly limits others o input y (items v) b s t l k a i h j
   ok_equal (Err f) l a = tt
 
-  pub err_reason : (r : Result A Refusal) → IsAnswer r → IfErr r (λ f. IsCanonicaliserReason f.reason)
+  pub err_reason : (r : Result A Refusal) → IsAnswer r → IfErr r (λ f. IsCanonicaliserReason limits f.reason)
   err_reason (Ok v) a = tt
   err_reason (Err f) a = canonicaliser-reason limits o input f a
 

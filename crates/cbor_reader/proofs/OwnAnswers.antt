@@ -1,5 +1,5 @@
 -- Which inputs are their own answers: those that the strict verdict accepts whole.
-use Rattle.std.proofs.Common.{ℕ, ◌≡◌, List, length, sym, ◌∙◌, [], subst, ◌^◌, ◌≤◌, ◌↔◌}
+use Rattle.std.proofs.Common.{ℕ, ◌≡◌, List, length, refl, sym, ◌∙◌, [], subst, ◌^◌, ◌≤◌, ◌↔◌, inl, inr}
 use Rattle.std.proofs.lemmas.List.{append-nil}
 use Rattle.cbor_head.specs.Limits.{Bounds}
 use Rattle.cbor_head.specs.Spelling.{Spelling, spell, value_of}
@@ -12,7 +12,7 @@ use Rattle.cbor_reader.specs.Canonicalise.{IsCanonicalOf}
 use Rattle.cbor_reader.specs.Headline.{IsValidItem}
 use Rattle.cbor_judging.specs.Readers.{BeginsWithCanonical}
 use Rattle.cbor_judging.proofs.Accepted.{item_within_limit}
-use Rattle.cbor_reader.proofs.Headline.{front_range, front_valid, front_depth, answers_exactly}
+use Rattle.cbor_reader.proofs.Headline.{front_range, front_valid, front_keys, front_depth, answers_exactly}
 use Rattle.cbor_reader.proofs.ValidTexts.{plain_too}
 use Rattle.cbor_judging.proofs.CanonicalFronts.{strict_bytes, strict_value, strict_accepts, one_front}
 
@@ -23,6 +23,7 @@ module _ (limits : Bounds) (o : KeyOrder) (input : List ℕ) where
       let begins : BeginsWithCanonical limits o input v = record {
         range = front_range limits plain input a.item m a.verdict;
         valid = front_valid limits input a.item a.verdict;
+        keys = λ basic. front_keys limits input a.item basic a.verdict;
         within = front_depth limits plain input a.item a.verdict;
         fits = subst (λ (b : List ℕ). length b ≤ limits.bytes) a.canonical_bytes a.fits;
         rest = [];
@@ -37,7 +38,7 @@ module _ (limits : Bounds) (o : KeyOrder) (input : List ℕ) where
       let fits : length input ≤ limits.bytes = subst (λ (b : List ℕ). length b ≤ limits.bytes) e (item_within_limit limits (strict o) input s v) in
       let i : IsValidItem limits input s = record {
         well_formed = record { spelled = h.1.0; within = h.1.1; bytes_are = e };
-        valid = plain_too o s 0 h.2 (strict_value limits o input s v).valid;
+        valid = λ c x. elim x [ inl y ↦ plain_too o s 0 (λ e z. h.2 e (inl z)) (strict_value limits o input s v).valid c y | inr y ↦ h.2 c (inr (refl, y.1, y.2)) ];
         fits = fits;
       } in
       (answers_exactly limits o input input).1 (s, i, sym e ∙ strict_bytes limits o input s v, fits)

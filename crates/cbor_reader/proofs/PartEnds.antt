@@ -1,5 +1,5 @@
 -- What ends behind a part: the containers that are full, and the item, or a key that came before.
-use Rattle.std.proofs.Common.{◌≡◌, ℕ, zero, suc, ◌+◌, ◌-◌, ◌^◌, ◌<◌, ◌≤◌, Bool, true, Option, Some, List, [], ◌∷◌, ◌++◌, length, map, get_or, refl, sym, ap, ap₂, ◌∙◌, subst, inr, arith, append_assoc, append-nil}
+use Rattle.std.proofs.Common.{◌≡◌, ℕ, zero, suc, ◌+◌, ◌-◌, ◌^◌, ◌<◌, ◌≤◌, Bool, true, Option, Some, List, [], ◌∷◌, ◌++◌, length, map, get_or, refl, sym, ap, ap₂, ◌∙◌, subst, arith, append_assoc, append-nil}
 use Rattle.std.specs.Prelude.{nat_lt}
 use Rattle.std.proofs.lemmas.List.{length-append, length-map}
 use Rattle.cbor_head.specs.Canonical.{canonical}
@@ -14,8 +14,8 @@ use Rattle.cbor_head.specs.declared.reason.Refusal.{Refusal}
 use Rattle.cbor_head.specs.declared.width.Width.TheVariants.{Indefinite}
 use Rattle.cbor_standing.specs.NextEvent.{ItemEventsView}
 use Rattle.cbor_judging.specs.Place.{Place, at_item, close, done as at_end, open_at}
-use Rattle.cbor_builder.specs.Built.{Built, built, IsInContainer, IsRepeatedKey, HasDistinctKeysSoFar}
-use Rattle.cbor_builder.specs.Parts.{Open, plain as a_plain, give, close as close_open}
+use Rattle.cbor_builder.specs.Built.{Built, built, IsRepeatedKey, HasDistinctKeysSoFar}
+use Rattle.cbor_canonical.specs.Parts.{IsInContainer, Open, plain as a_plain, give, close as close_open}
 use Rattle.cbor_item.specs.OpenValues.{OpenItem, close as close_in_tree}
 use Rattle.cbor_reader.specs.declared.plain_items.PlainItems.{PlainItems}
 use Rattle.cbor_reader.specs.declared.plain_part.Part.{Part}
@@ -23,8 +23,7 @@ use Rattle.cbor_reader.specs.declared.plain_part.Part.TheVariants.{Leaf, String,
 use Rattle.cbor_judging.specs.Judged.{IsJudged}
 use Rattle.cbor_judging.specs.Levels.{IsTaken, Level, a_member, a_key, a_value, some_member, some_key, some_value, tagged, frame, bytes_before, Standing, item_due, item_full, item_whole, settle}
 use Rattle.cbor_judging.specs.Given.{level_open, opens, StandsAt}
-use Rattle.cbor_judging.specs.Reading.{AreRefused}
-use Rattle.cbor_reader.specs.inner.PlainFront.{IsDueAt, IsWholeAt, GoesOnOrNot}
+use Rattle.cbor_reader.specs.inner.PlainFront.{IsDueAt, IsWholeAt, GoesOnOrNot, WhyStopped, for_cause}
 use Rattle.cbor_reader.specs.inner.PlainItems.{AreApart, AreApartSoFar, HaveBegun, HaveBegunIn, HasItsPlace, IsGiven, IsEndingAt, sets}
 use Rattle.cbor_reader.specs.declared.key_set.KeySet.{KeySet}
 use Rattle.cbor_reader.specs.inner.HeldKeys.{AreHeld, AreHeldSoFar}
@@ -74,9 +73,9 @@ module _ (v : PlainItems) (b : Bounds) (e : ItemEventsView) (t : List ℕ) (heig
       go (item_full ls u) s tree = tree-may-end v.tree ls u tree
       go (item_whole u) s tree = absurd (omega (arith, more, s.4))
 
-  pub ends-one : e.machine.open_count < height → (now : PlainItems) → now.builder ≡ built v.builder.order (close_open v.builder.order v.builder.standing) → now.starts ≡ v.starts → IsTreeStep close_in_tree v.tree now.tree
+  pub ends-one : e.machine.open_count < height → (now : PlainItems) → now.builder ≡ built v.builder.order (close_open v.builder.order v.builder.standing) → now.starts ≡ v.starts → now.kinds ≡ v.kinds → IsTreeStep close_in_tree v.tree now.tree
       → ((s u : KeySet) (ss : List KeySet) → sets v ≡ s ∷ u ∷ ss → sets now ≡ u ∷ ss) → IsEndingAt now b e t (height - 1)
-  ends-one more now is starts step popped = go h.standing h.stands h.begun h.place h.tree
+  ends-one more now is starts same_kinds step popped = go h.standing h.stands h.begun h.place h.tree
     where
       o : KeyOrder
       o = v.builder.order
@@ -108,6 +107,8 @@ module _ (v : PlainItems) (b : Bounds) (e : ItemEventsView) (t : List ℕ) (heig
             tree = tree-step close_in_tree v.tree now.tree (item_full ls u) (settle ls u) tree step (values-ended ls u) (settles-right ls u);
             held = subst (AreHeldSoFar (sets now)) (ap (close_open v.builder.order) (sym s.3.2) ∙ sym (ap (λ (g : Built). g.standing) is))
                 (held-popped v.builder.order (sets v) (sets now) c (opens v.builder.order ls) (some-opens v.builder.order ls) popped (subst (AreHeldSoFar (sets v)) s.3.2 h.held));
+            kinds = same_kinds ∙ h.kinds;
+            keeps = h.keeps;
           }
 
   -- no more are open
@@ -123,29 +124,27 @@ module _ (v : PlainItems) (b : Bounds) (e : ItemEventsView) (t : List ℕ) (heig
 
 module _ (v : PlainItems) (b : Bounds) (e : ItemEventsView) (t : List ℕ) (h : IsEndingAt v b e t e.machine.open_count) (some : 0 < length t) where
   -- the key that has come is the same as an earlier one
-  pub repeated-key : (place : ℕ) (f : Refusal) → IsRepeatedKey v.builder.standing → place ≡ get_or v.starts e.machine.open_count 0 → f ≡ refusal RepeatedKey place e.machine.taken → (to : Option (List ℕ)) → AreRefused plain b t to f
-  repeated-key place f repeated place_is is to = go h.standing h.stands h.place
+  pub repeated-key : (place : ℕ) (f : Refusal) → IsRepeatedKey v.builder.standing → place ≡ get_or v.starts e.machine.open_count 0 → f ≡ refusal RepeatedKey place e.machine.taken → (from to : Option (List ℕ)) → WhyStopped plain b t from to f
+  repeated-key place f repeated place_is is from to = go h.standing h.stands h.place
     where
       few-bytes : length t < 2 ^ 63
       few-bytes = let at = h.at in omega (arith, at.stands.stands.taken, at.stands.stands.limited, at.bytes, at.limits.1)
 
-      found : (at size : ℕ) → IsJudged plain 0 b.depth t (Some (complaint.complaint (at + size) at RepeatedKey)) → length t ≡ at + size → place ≡ at → AreRefused plain b t to f
+      found : (at size : ℕ) → IsJudged plain 0 b.depth t (Some (complaint.complaint (at + size) at RepeatedKey)) → length t ≡ at + size → place ≡ at → WhyStopped plain b t from to f
       found at size j sized here =
           let taken : e.machine.taken ≡ length t = h.at.stands.stands.taken in
           let whole : b.depth ≡ b.depth - 0 = omega arith in
-          record {
-            read = ap (λ (x : Refusal). x.read) is ∙ taken;
-            why = inr (record {
-              p = t;
-              last = [];
-              splits = sym (append-nil t);
-              found = Some (complaint.complaint (at + size) at RepeatedKey);
-              judged = subst (λ (n : ℕ). IsJudged plain 0 n t (Some (complaint.complaint (at + size) at RepeatedKey))) whole j;
-              cause = (is ∙ ap₂ (λ (x y : ℕ). refusal RepeatedKey x y) here (taken ∙ sized), (at-reached b e t h.q h.at).within);
-            });
-          }
+          for_cause (record {
+            p = t;
+            last = [];
+            splits = sym (append-nil t);
+            found = Some (complaint.complaint (at + size) at RepeatedKey);
+            judged = subst (λ (n : ℕ). IsJudged plain 0 n t (Some (complaint.complaint (at + size) at RepeatedKey))) whole j;
+            cause = (is ∙ ap₂ (λ (x y : ℕ). refusal RepeatedKey x y) here (taken ∙ sized), (at-reached b e t h.q h.at).within);
+          })
+          (λ known. h.keeps)
 
-      go : (x : Standing) → StandsAt v.builder.order b.depth t h.q v.builder.standing e.machine.open_count x → HasItsPlace v.starts x → AreRefused plain b t to f
+      go : (x : Standing) → StandsAt v.builder.order b.depth t h.q v.builder.standing e.machine.open_count x → HasItsPlace v.starts x → WhyStopped plain b t from to f
       go (item_due (a_value w left done k ∷ ls)) s place_so =
           let o = v.builder.order in
           let l = a_key w left done in
@@ -181,7 +180,7 @@ module _ (v : PlainItems) (b : Bounds) (e : ItemEventsView) (t : List ℕ) (h : 
       go (item_whole u) s place_so = absurd (subst IsRepeatedKey s.3 repeated)
 
   -- the same, where the key is among those of its map
-  module _ (now : PlainItems) (same : now.builder ≡ v.builder) (starts : now.starts ≡ v.starts) (same_tree : now.tree ≡ v.tree) where
+  module _ (now : PlainItems) (same : now.builder ≡ v.builder) (starts : now.starts ≡ v.starts) (same_tree : now.tree ≡ v.tree) (same_kinds : now.kinds ≡ v.kinds) where
     -- another item is due
     pub goes-on : (places : length v.starts ≡ 257) → AreApart v.builder.standing → AreHeld (sets now) now.builder.standing → 0 < e.machine.open_count → IsDueAt now b e t
     goes-on places apart held more = go h.standing h.stands h.begun h.tree
@@ -198,6 +197,8 @@ module _ (v : PlainItems) (b : Bounds) (e : ItemEventsView) (t : List ℕ) (h : 
           held = held;
           places = ap length starts ∙ places;
           tree = subst (λ (z : Option (List OpenItem)). IsTreeAt z (item_due ls)) (sym same_tree) tree;
+          kinds = same_kinds ∙ h.kinds;
+          keeps = h.keeps;
         }
         go (item_full ls u) s begun tree = absurd (omega (arith, full-count v b e t e.machine.open_count h ls s.2, s.4))
         go (item_whole u) s begun tree = absurd (omega (arith, more, s.4))
@@ -217,6 +218,7 @@ module _ (v : PlainItems) (b : Bounds) (e : ItemEventsView) (t : List ℕ) (h : 
           at = at-as b e t t h.q at_end refl s.2 h.at;
           standing = subst (λ (g : Built). g.standing ≡ a_plain (canonical g.order (value_of u)) ∷ []) (sym same) s.3;
           tree = subst (λ (z : Option (List OpenItem)). IsTreeAt z (item_whole u)) (sym same_tree) tree;
+          keeps = h.keeps;
         }
 
 -- ---- what is answered
@@ -227,11 +229,11 @@ given-order g (String is_text content) now count h = ap (λ (x : Built). x.order
 given-order g (Begin m k) now count h = ap (λ (x : Built). x.order) h.0
 given-order g Break now count h = ap (λ (x : Built). x.order) h.0
 
-pub goes-or-not : (v now : PlainItems) (b : Bounds) (e : ItemEventsView) (t : List ℕ) (count : ℕ) → IsEndingAt v b e t e.machine.open_count → 0 < length t → now.builder ≡ v.builder → now.starts ≡ v.starts → now.tree ≡ v.tree → length v.starts ≡ 257
+pub goes-or-not : (v now : PlainItems) (b : Bounds) (e : ItemEventsView) (t : List ℕ) (count : ℕ) → IsEndingAt v b e t e.machine.open_count → 0 < length t → now.builder ≡ v.builder → now.starts ≡ v.starts → now.tree ≡ v.tree → now.kinds ≡ v.kinds → length v.starts ≡ 257
     → AreHeld (sets now) now.builder.standing × (IsRepeatedKey now.builder.standing → ⊥) → count ≡ e.machine.open_count → GoesOnOrNot (nat_lt 0 count) now b e t
-goes-or-not v now b e t zero h some same starts same_tree places held same_count = is-whole v b e t h some now same starts same_tree (sym same_count)
-goes-or-not v now b e t (suc n) h some same starts same_tree places held same_count =
+goes-or-not v now b e t zero h some same starts same_tree same_kinds places held same_count = is-whole v b e t h some now same starts same_tree same_kinds (sym same_count)
+goes-or-not v now b e t (suc n) h some same starts same_tree same_kinds places held same_count =
     let more : nat_lt 0 (suc n) ≡ true = grind arith in
     let fresh : IsRepeatedKey v.builder.standing → ⊥ = λ x. held.1 (subst (λ (g : Built). IsRepeatedKey g.standing) (sym same) x) in
     subst (λ (m : Bool). GoesOnOrNot m now b e t) (sym more)
-    (goes-on v b e t h some now same starts same_tree places (apart-now v.builder.standing h.apart fresh) held.0 (omega (arith, same_count)))
+    (goes-on v b e t h some now same starts same_tree same_kinds places (apart-now v.builder.standing h.apart fresh) held.0 (omega (arith, same_count)))

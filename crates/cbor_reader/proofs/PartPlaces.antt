@@ -18,7 +18,7 @@ use Rattle.cbor_automaton.specs.declared.event.EventKind.{EventKind}
 use Rattle.cbor_automaton.specs.declared.event.EventKind.TheVariants as kinds
 use Rattle.cbor_judging.specs.Place.{Container, Place, at_item, expect, Ends, IsTaking}
 use Rattle.cbor_builder.specs.Built.{IsContainer, IsLeaf}
-use Rattle.cbor_builder.specs.Parts.{Open, an_array, a_map as an_open_map, opened}
+use Rattle.cbor_canonical.specs.Parts.{Open, an_array, a_map as an_open_map, opened}
 use Rattle.cbor_item.specs.OpenValues as trees
 use Rattle.cbor_item.specs.OpenValues.{OpenValue}
 use Rattle.cbor_judging.specs.Levels.{Level, a_member, a_key, a_value, some_member, some_key, some_value, tagged, frame, AreLevels, bytes_before, Standing, item_due, item_full}

@@ -13,7 +13,7 @@ use Rattle.cbor_head.specs.declared.width.Width.{Width}
 use Rattle.cbor_head.specs.declared.width.Width.TheVariants.{Indefinite}
 use Rattle.cbor_builder.specs.Built.{HasKey, IsRepeatedKey}
 use Rattle.cbor_canonical.specs.Pairs.{HasDistinctBytes}
-use Rattle.cbor_builder.specs.Parts.{Open}
+use Rattle.cbor_canonical.specs.Parts.{Open}
 use Rattle.cbor_canonical.proofs.Keys.{distinct_exactly, same_exactly}
 use Rattle.cbor_canonical.proofs.Sound.{IsSound, sound}
 use Rattle.cbor_judging.specs.Frame as frames

@@ -9,7 +9,7 @@ use Rattle.cbor_head.specs.declared.major.Major.TheVariants as majors
 use Rattle.cbor_head.specs.declared.order.KeyOrder.{KeyOrder}
 use Rattle.cbor_builder.specs.Built.{HasKey, IsRepeatedKey, IsContainer}
 use Rattle.cbor_canonical.specs.Pairs.{HasDistinctBytes}
-use Rattle.cbor_builder.specs.Parts.{Open, plain, an_array, a_map, a_key, a_string, pair, closed, give, close, opened, HasNoRepeats}
+use Rattle.cbor_canonical.specs.Parts.{Open, plain, an_array, a_map, a_key, a_string, pair, closed, give, close, opened, HasNoRepeats}
 use Rattle.cbor_judging.specs.Levels as levels
 use Rattle.cbor_judging.specs.Levels.{Level, bytes_before, settle}
 use Rattle.cbor_reader.specs.inner.PlainItems.{HasKeysApart, AreApart, AreApartSoFar, HaveBegun, HaveBegunIn, HasItsPlace}

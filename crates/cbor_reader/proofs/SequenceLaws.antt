@@ -6,7 +6,7 @@ use Rattle.std.proofs.lemmas.List.{append_assoc, append-nil, nil_from_length, le
 use Rattle.cbor_head.specs.Spelling.{Spelling, simple, spell, value_of, IsItem}
 use Rattle.cbor_head.specs.Canonical.{canonical}
 use Rattle.cbor_head.specs.Complaint.{Rules, plain, strict}
-use Rattle.cbor_head.specs.Limits.{Bounds, bounds}
+use Rattle.cbor_head.specs.Limits.{Bounds}
 use Rattle.cbor_head.specs.Verdict.{accepted, refused, refusal, IsVerdict}
 use Rattle.cbor_head.specs.declared.order.KeyOrder.{KeyOrder}
 use Rattle.cbor_head.specs.declared.reason.Reason.TheVariants.{Read, Memory, Truncated, TooLong}
@@ -17,7 +17,7 @@ use Rattle.cbor_reader.specs.Headline.{IsValidItem}
 use Rattle.cbor_judging.specs.Readers.{BeginsWithCanonical, IsUnread, of_verdict, of_reader, of_memory}
 use Rattle.cbor_reader.specs.Sequence.{sequence_bytes, IsAccepted, StartsWithItems, IsLongestSequence, EndsBefore, IsAtEnd, IsRefused, Given, given_by, items_of, AreGivenBy, HasGiven}
 use Rattle.cbor_reader.proofs.CutShort.{cut}
-use Rattle.cbor_reader.proofs.Sequences.{is_accepted, verdict_of, not_both, empty_is_truncated, verdict_before, splits}
+use Rattle.cbor_reader.proofs.Sequences.{simple_is_fine, is_accepted, verdict_of, not_both, empty_is_truncated, verdict_before, splits}
 use Rattle.cbor_judging.proofs.CanonicalFronts.{strict_bytes, strict_value, strict_accepts}
 
 -- ---- items
@@ -118,18 +118,20 @@ module _ (b : Bounds) (held to : Option (List ℕ)) (input : List ℕ) (given : 
 pub ends_exactly : (limits : Bounds) (r : Rules) (input : List ℕ) → EndsBefore limits.bytes input ↔ IsVerdict limits r input (refused (refusal Truncated 0 0))
 ends_exactly limits r input = ((λ (e, l). subst (λ (b : List ℕ). IsVerdict limits r b (refused (refusal Truncated 0 0))) (sym e) (empty_is_truncated limits r l)), (λ w. verdict_before limits r input (refusal Truncated 0 0) w (refl, refl)))
 
-pub no_bytes : (d : ℕ) (r : Rules) (input : List ℕ) → IsVerdict (bounds d 0) r input (refused (refusal TooLong 0 0))
-no_bytes d r input = cut (bounds d 0) r input (simple 0) [] (spell (simple 0)) (refusal TooLong 0 0) (record { spelled = omega arith; within = omega arith; bytes_are = refl }) (λ c h. h) (length_spell (simple 0)) refl (inl (refl, refl))
+pub no_bytes : (limits : Bounds) (r : Rules) (input : List ℕ) → limits.bytes ≡ 0 → IsVerdict limits r input (refused (refusal TooLong 0 0))
+no_bytes limits r input zero =
+    cut limits r input (simple 0) [] (spell (simple 0)) (refusal TooLong 0 0) (record { spelled = omega arith; within = omega arith; bytes_are = refl }) (simple_is_fine limits r 0) (length_spell (simple 0)) (ap (λ (n : ℕ). take n input) zero)
+    (inl (sym zero, ap (λ (n : ℕ). refusal TooLong n n) (sym zero)))
 
 same_refusal : {a b : Refusal} → refused a ≡ refused b → a ≡ b
 same_refusal e = cc e
 
-pub no_bytes_told : (d : ℕ) (r : Rules) (input : List ℕ) (f : Refusal) → IsUnread (bounds d 0) r input f → f.reason ≢ Memory → f ≡ refusal TooLong 0 0
-no_bytes_told d r input f (of_verdict w) y = same_refusal (one_verdict (bounds d 0) r input (refused f) (refused (refusal TooLong 0 0)) w (no_bytes d r input))
-no_bytes_told d r input f (of_reader p l m is w) y =
-    let h = same_refusal (one_verdict (bounds d 0) r (take f.read input) (refused (refusal Truncated f.read f.read)) (refused (refusal TooLong 0 0)) w (no_bytes d r (take f.read input))) in
+pub no_bytes_told : (limits : Bounds) (r : Rules) (input : List ℕ) (f : Refusal) → limits.bytes ≡ 0 → IsUnread limits r input f → f.reason ≢ Memory → f ≡ refusal TooLong 0 0
+no_bytes_told limits r input f zero (of_verdict w) y = same_refusal (one_verdict limits r input (refused f) (refused (refusal TooLong 0 0)) w (no_bytes limits r input zero))
+no_bytes_told limits r input f zero (of_reader p l m is w) y =
+    let h = same_refusal (one_verdict limits r (take f.read input) (refused (refusal Truncated f.read f.read)) (refused (refusal TooLong 0 0)) w (no_bytes limits r (take f.read input) zero)) in
     absurd (apart (ap (λ (g : Refusal). g.reason) h))
   where
     apart : Truncated ≡ TooLong → ⊥
     apart e = cc e
-no_bytes_told d r input f (of_memory p l m is free) y = absurd (y (ap (λ (g : Refusal). g.reason) is))
+no_bytes_told limits r input f zero (of_memory p l m is free) y = absurd (y (ap (λ (g : Refusal). g.reason) is))

@@ -6,12 +6,13 @@ use Rattle.std.proofs.Math.Seq.{drop-append_seam}
 use Rattle.std.proofs.lemmas.List.{append_assoc, append-nil, nil_from_length, take-append-drop, length-append, length-take}
 use Rattle.cbor_head.specs.Value.{Value}
 use Rattle.cbor_head.specs.Spelling.{Spelling, simple, spell, value_of}
-use Rattle.cbor_head.specs.Complaint.{Rules}
+use Rattle.cbor_head.specs.Complaint.{Rules, Complaint, IsComplaint}
 use Rattle.cbor_head.specs.Limits.{Bounds}
 use Rattle.cbor_head.specs.Verdict.{accepted, refused, refusal, IsFormError, IsVerdict}
 use Rattle.cbor_head.specs.declared.reason.Reason.TheVariants.{Read, Memory, Truncated, TooLong}
 use Rattle.cbor_head.specs.declared.reason.Refusal.{Refusal}
 use Rattle.cbor_grammar.proofs.Accepted.{accepts_exactly}
+use Rattle.cbor_grammar.proofs.KeyKinds.{kind_later}
 use Rattle.cbor_grammar.proofs.OneFirst.{after_head}
 use Rattle.cbor_grammar.proofs.OneVerdict.{one_verdict}
 use Rattle.cbor_grammar.proofs.ReadLaws.{length_spell}
@@ -53,9 +54,19 @@ not_both limits r s rest input f a e w = apart (one_verdict limits r input (acce
 
 -- ---- the end of the input
 
+-- a simple value has no complaint
+pub simple_is_fine : (limits : Bounds) (r : Rules) (n : ℕ) (c : Complaint) → IsComplaint limits r (simple n) c → ⊥
+simple_is_fine limits r n c (inl h) = h
+simple_is_fine limits r n c (inr h) = h.2
+
+-- a complaint ends behind the first byte
+some_end : (limits : Bounds) (r : Rules) (s : Spelling) (c : Complaint) → IsComplaint limits r s c → 0 < c.end
+some_end limits r s c (inl h) = after_head s r 0 c h
+some_end limits r s c (inr h) = omega (arith, kind_later s 0 c h.2)
+
 -- an input without bytes is truncated, where the limit would let it have one
 pub empty_is_truncated : (limits : Bounds) (r : Rules) → 0 < limits.bytes → IsVerdict limits r [] (refused (refusal Truncated 0 0))
-empty_is_truncated limits r l = truncated limits.depth r (simple 0) (spell (simple 0)) 0 (record { spelled = omega arith; within = omega arith; bytes_are = refl }) (λ c h. h) (length_spell (simple 0)) limits.bytes l
+empty_is_truncated limits r l = truncated limits r (simple 0) (spell (simple 0)) 0 (record { spelled = omega arith; within = omega arith; bytes_are = refl }) (simple_is_fine limits r 0) (length_spell (simple 0)) l
 
 module _ (limits : Bounds) (r : Rules) (input : List ℕ) where
   -- none of what breaks the form reads nothing, but the end
@@ -72,7 +83,7 @@ module _ (limits : Bounds) (r : Rules) (input : List ℕ) where
   pub verdict_before : (f : Refusal) → IsVerdict limits r input (refused f) → IsBeforeItem f → EndsBefore limits.bytes input
   verdict_before f v h = elim v.decides [
     | inl x ↦
-        let later : 0 < x.0.end = after_head v.item r 0 x.0 x.1.holds in
+        let later : 0 < x.0.end = some_end limits r v.item x.0 x.1.holds in
         let end : f.read ≡ x.0.end = ap (λ (g : Refusal). g.read) x.2 in
         absurd (omega (arith, later, end, h.1))
     | inr x ↦ break_before v.p v.longest.rest f v.longest.splits x.2 h
@@ -117,10 +128,10 @@ module _ (r : Rules) (b : Bounds) where
   refused_as (Some (Err g)) from to f u l h = subst (IsRefused r b from to) (sym h.0) (refused_so from to f u l h.1)
 
 -- what holds of the reader's reason
-pub reason_as : {A : Type 0} → (r : Rules) (answer : Option (Result A Refusal)) (f : Refusal) → IsReaderReason r f.reason → IfRefused answer (λ g. (g ≡ f) × ¬ IsBeforeItem f) → IfRefused answer (λ g. IsReaderReason r g.reason)
-reason_as r None f x h = tt
-reason_as r (Some (Ok given)) f x h = tt
-reason_as r (Some (Err g)) f x h = subst (λ (y : Refusal). IsReaderReason r y.reason) (sym h.0) x
+pub reason_as : {A : Type 0} → (b : Bounds) (r : Rules) (answer : Option (Result A Refusal)) (f : Refusal) → IsReaderReason b r f.reason → IfRefused answer (λ g. (g ≡ f) × ¬ IsBeforeItem f) → IfRefused answer (λ g. IsReaderReason b r g.reason)
+reason_as b r None f x h = tt
+reason_as b r (Some (Ok given)) f x h = tt
+reason_as b r (Some (Err g)) f x h = subst (λ (y : Refusal). IsReaderReason b r y.reason) (sym h.0) x
 
 -- ---- a run of calls
 

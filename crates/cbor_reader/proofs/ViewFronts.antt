@@ -1,15 +1,14 @@
 -- The value of an accepted item, and memory that was refused behind it.
-use Rattle.std.proofs.Common.{ℕ, ◌^◌, ◌≡◌, ◌<◌, ◌≤◌, List, [], length, refl, sym, ap, ◌∙◌, arith, subst, inl, inr, append-nil}
-use Rattle.std.proofs.lemmas.Bool.{cases_lt}
-use Rattle.cbor_head.specs.Complaint.{Rules, plain, Complaint, Complains}
+use Rattle.std.proofs.Common.{ℕ, ◌^◌, ◌≡◌, ◌≤◌, List, [], length, refl, sym, ap, ◌∙◌, arith, subst, append-nil}
+use Rattle.cbor_head.specs.Complaint.{plain}
 use Rattle.cbor_head.specs.Limits.{Bounds}
-use Rattle.cbor_head.specs.Spelling.{Spelling, spell}
+use Rattle.cbor_head.specs.Spelling.{spell}
 use Rattle.cbor_head.specs.Value.{Value, IsInRange, IsValid, depth}
-use Rattle.cbor_head.specs.Verdict.{refusal, IsWithout}
+use Rattle.cbor_head.specs.Verdict.{refusal}
 use Rattle.cbor_head.specs.declared.reason.Reason.TheVariants.{Memory}
 use Rattle.cbor_head.specs.declared.reason.Refusal.{Refusal}
 use Rattle.cbor_judging.specs.Readers.{IsRead, IsReadAs, IsUnread, of_memory}
-use Rattle.cbor_judging.proofs.FreeBefore.{front-free}
+use Rattle.cbor_judging.proofs.FreeBefore.{front-free, without}
 use Rattle.cbor_reader.specs.Size.{size}
 use Rattle.cbor_reader.proofs.Headline.{front_range, front_valid, front_depth}
 use Rattle.cbor_reader.proofs.Sizes.{size_bounded}
@@ -30,13 +29,10 @@ view_bounded limits input v count r =
 
 -- ---- memory
 
-without : (r : Rules) (s : Spelling) (t : ℕ) → IsWithout r s t → (c : Complaint) → Complains r 0 s c → t < c.end
-without r s t h c g = elim (cases_lt t c.end) [ inl l ↦ l | inr l ↦ absurd (h c g l) ]
-
 -- refused when the item had been taken
 pub memory_behind : (limits : Bounds) (input : List ℕ) (count : ℕ) (f : Refusal) → IsRead limits plain input count → f ≡ refusal Memory count count → IsUnread limits plain input f
 memory_behind limits input count f a is =
     let w = a.verdict in
     let size : count ≡ length w.p = a.size ∙ ap length (ap spell w.decides.0 ∙ w.decides.1) in
-    let free = front-free limits.depth plain w.p w.p [] w.item w.rest count w.starts (sym (append-nil w.p)) (without plain w.item (length w.p) w.decides.2) (omega (arith, size)) in
+    let free = front-free limits plain w.p w.p [] w.item w.rest count w.starts (sym (append-nil w.p)) (without limits plain w.item (length w.p) w.decides.2) (omega (arith, size)) in
     subst (IsUnread limits plain input) (sym is) (of_memory w.p w.longest (omega (arith, size)) refl free)

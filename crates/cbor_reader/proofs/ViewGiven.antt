@@ -17,7 +17,7 @@ use Rattle.cbor_reader.proofs.TreeValues.{full-ends, levels-take, may-end, settl
 use Rattle.cbor_view.specs.Seen.{standing, awaits_key}
 use Rattle.cbor_walk.specs.KeyBytes.{awaits_key as awaits, keys_stand, told_stand, GivesTold, OpensTold, EndsTold}
 use Rattle.cbor_walk.specs.declared.key_bytes.KeyBytes.{KeyBytes}
-use Rattle.cbor_walk.specs.Sink.{IsOpened, IsEndedAs, StandsFull, IsItemDue, IsChunkDue, IsContainerFull, AreOpenLevels, Completes, Gives, Opens, Ends, BeginsString, GrowsString, EndsString}
+use Rattle.cbor_walk.specs.Sink.{IsOpened, IsEndedAs, StandsFull, IsItemDue, IsChunkDue, IsContainerFull, Gives, Opens, Ends, BeginsString, GrowsString, EndsString}
 
 -- ---- where a key is due
 
@@ -116,7 +116,7 @@ still-due : (old new : ViewSink) → new.keys ≡ old.keys → new.views ≡ old
 still-due old new same views (start, d, ls, room, at) =
     (start, d, ls, room, (subst (λ (g : KeyBytes). keys_stand start.keys g (item_due ls)) (sym same) at.0, at.1, ap standing views ∙ at.2))
 
-pub begun : (t : Bool) (old new : ViewSink) → IsItemDue ViewSink view_stands old → new.keys ≡ old.keys → new.views ≡ old.views → new.joined.items ≡ [] → BeginsString ViewSink view_stands view_holds t old new
+pub begun : (t : Bool) (old new : ViewSink) → IsItemDue ViewSink view_stands old → new.keys ≡ old.keys → new.views ≡ old.views → new.joined ≡ [] → BeginsString ViewSink view_stands view_holds t old new
 begun t old new due same views joined start ls at = (
   subst (λ (g : KeyBytes). keys_stand start.keys g (item_due ls)) (sym same) at.0,
   ap standing views ∙ at.2,
@@ -125,7 +125,7 @@ begun t old new due same views joined start ls at = (
   still-due old new same views due,
 )
 
-pub grown : (t : Bool) (x : List ℕ) (old new : ViewSink) → (t ≡ true → IsUtf8 x) → new.keys ≡ old.keys → new.views ≡ old.views → new.joined.items ≡ old.joined.items ++ x
+pub grown : (t : Bool) (x : List ℕ) (old new : ViewSink) → (t ≡ true → IsUtf8 x) → new.keys ≡ old.keys → new.views ≡ old.views → new.joined ≡ old.joined ++ x
     → GrowsString ViewSink view_holds t x old new
 grown t x old new utf8 same views joined start ls content at = (
   subst (λ (g : KeyBytes). keys_stand start.keys g (item_due ls)) (sym same) at.0,
@@ -135,7 +135,7 @@ grown t x old new utf8 same views joined start ls content at = (
   still-due old new same views at.4,
 )
 
-pub string-ended : (k t : Bool) (old new : ViewSink) → k ≡ awaits_key (standing old.views) → GivesTold k (string_value t old.joined.items) old.keys new.keys → standing new.views ≡ give (string_value t old.joined.items) (standing old.views)
+pub string-ended : (k t : Bool) (old new : ViewSink) → k ≡ awaits_key (standing old.views) → GivesTold k (string_value t old.joined) old.keys new.keys → standing new.views ≡ give (string_value t old.joined) (standing old.views)
     → EndsString ViewSink view_stands view_holds t old new
 string-ended k t old new is keys views start d ls content s at done e = (
   keys start.keys d ls s (told-due k start old ls is at.0 at.1) done (e ∙ ap (string_value t) (sym at.2)),

@@ -63,7 +63,7 @@ refused_item limits o input f (whole.trailing s v l is) g = trailing s v l is
 refused_item limits o input f (whole.canonical_too_long s v w l is) g = absurd (g (ap (λ (x : Refusal). x.reason) is))
 refused_item limits o input f (whole.of_memory p taken l m is x) g =
     let read : f.read ≡ taken = ap (λ (x : Refusal). x.read) is in
-    unread (of_memory p l (omega (arith, m, read)) (is ∙ ap (λ (k : ℕ). refusal Memory k k) (sym read)) (subst (IsFreeBefore limits.depth plain p) (sym read) x)) (λ e. apart (sym (ap (λ (x : Refusal). x.reason) is) ∙ e))
+    unread (of_memory p l (omega (arith, m, read)) (is ∙ ap (λ (k : ℕ). refusal Memory k k) (sym read)) (subst (IsFreeBefore limits plain p) (sym read) x)) (λ e. apart (sym (ap (λ (x : Refusal). x.reason) is) ∙ e))
   where
     apart : Memory ≡ Read → ⊥
     apart e = cc e

@@ -11,7 +11,7 @@ use Rattle.cbor_head.specs.declared.order.KeyOrder.{KeyOrder}
 use Rattle.cbor_head.specs.declared.reason.Reason.TheVariants.{Trailing, CanonicalTooLong, Memory}
 use Rattle.cbor_head.specs.declared.reason.Refusal.{Refusal}
 use Rattle.cbor_head.specs.declared.reason.Reason.{Reason}
-use Rattle.cbor_judging.specs.Refusals.{IsFreeBefore, IsFormReason, IsComplaintReason}
+use Rattle.cbor_judging.specs.Refusals.{IsFreeBefore, IsFormReason, IsComplaintReason, IsKindReason}
 
 -- the whole input is one well-formed, valid item within the limits, and out is the canonical bytes of its value, no more than
 -- the limit of bytes either
@@ -41,8 +41,9 @@ pub data IsRefusal (limits : Bounds) (o : KeyOrder) (input : List ℕ) (f : Refu
       → limits.bytes < length (canonical o (value_of item)) → f ≡ refusal CanonicalTooLong (length input) (length input) → IsRefusal limits o input f
   -- memory was refused, somewhere on the longest beginning, where no complaint had ended before
   of_memory : (p : List ℕ) (taken : ℕ) → IsLongestBeginning limits.depth (take limits.bytes input) p → taken ≤ length p
-      → f ≡ refusal Memory taken taken → IsFreeBefore limits.depth plain p taken → IsRefusal limits o input f
+      → f ≡ refusal Memory taken taken → IsFreeBefore limits plain p taken → IsRefusal limits o input f
 
--- the reasons that the canonicaliser gives: 1 to 13, and 19
-abbrev pub IsCanonicaliserReason : Reason → Type 0
-IsCanonicaliserReason x = IsFormReason x ⊎ IsComplaintReason plain x ⊎ (x ≡ Trailing) ⊎ (x ≡ CanonicalTooLong) ⊎ (x ≡ Memory)
+-- the reasons that the canonicaliser gives: 1 to 13, 19 and 20
+abbrev pub IsCanonicaliserReason : Bounds → Reason → Type 0
+IsCanonicaliserReason limits x =
+    IsFormReason x ⊎ (IsComplaintReason plain x ⊎ IsKindReason limits plain x) ⊎ (x ≡ Trailing) ⊎ (x ≡ CanonicalTooLong) ⊎ (x ≡ Memory)

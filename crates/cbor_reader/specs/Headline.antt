@@ -3,12 +3,12 @@ use Rattle.std.specs.Prelude.{ℕ, ◌≤◌, List, length, IsUtf8}
 use Rattle.std.specs.List.{AllByRecursion}
 use Rattle.cbor_head.specs.Limits.{Bounds}
 use Rattle.cbor_head.specs.Spelling.{Spelling, Spellings, SpelledEntries, text, text_chunks, array, a_map, tag, no_spellings, a_spelling, no_entries, entry, IsItem}
-use Rattle.cbor_head.specs.Complaint.{plain, Complaint, Complains}
+use Rattle.cbor_head.specs.Complaint.{plain, Complaint, IsComplaint}
 
 -- the whole input is this one item: well-formed, valid, and within the limits
 pub record IsValidItem (limits : Bounds) (input : List ℕ) (s : Spelling) : Type 0 where
   pub well_formed : IsItem limits.depth s input
-  pub valid : (c : Complaint) → Complains plain 0 s c → ⊥
+  pub valid : (c : Complaint) → IsComplaint limits plain s c → ⊥
   pub fits : length input ≤ limits.bytes
 
 -- each text, and each chunk of one, is UTF-8 (sections 3.1 and 3.2.3)

@@ -3,7 +3,7 @@ use Rattle.std.specs.Prelude.{ℕ, ◌≡◌, ◌≢◌, ◌<◌, ◌≤◌, ◌
 use Rattle.std.specs.List.{AllByRecursion}
 use Rattle.cbor_head.specs.Value.{Value}
 use Rattle.cbor_head.specs.Spelling.{Spelling, IsItem, spell}
-use Rattle.cbor_head.specs.Complaint.{Rules, Complaint, Complains}
+use Rattle.cbor_head.specs.Complaint.{Rules, Complaint, IsComplaint}
 use Rattle.cbor_head.specs.Limits.{Bounds}
 use Rattle.cbor_head.specs.declared.reason.Reason.TheVariants.{Read, Memory}
 use Rattle.cbor_head.specs.declared.reason.Refusal.{Refusal}
@@ -18,7 +18,7 @@ sequence_bytes items = flat_map spell items
 -- an item that is accepted: well-formed, without complaint by the rules, and within the limits
 pub record IsAccepted (limits : Bounds) (r : Rules) (item : Spelling) : Type 0 where
   pub well_formed : IsItem limits.depth item (spell item)
-  pub sound : (c : Complaint) → Complains r 0 item c → ⊥
+  pub sound : (c : Complaint) → IsComplaint limits r item c → ⊥
   pub fits : length (spell item) ≤ limits.bytes
 
 -- the input starts with a sequence of accepted items, and rest follows it

@@ -35,7 +35,7 @@ pub fn canonicalise(
     ensures refused { IfErr result (λ f. f.reason ≢ reasons.Memory
         → (s : Spelling) → IsValidItem limits bytes.now s
         → limits.bytes < length (canonical order (value_of s))) }
-    ensures reason { IfErr result (λ f. IsCanonicaliserReason f.reason) }
+    ensures reason { IfErr result (λ f. IsCanonicaliserReason limits f.reason) }
     ensures equal { IfOk result (λ v. TellsItsValue limits.depth order bytes.now v.items) }
     ensures again { IfOk result (λ v. IsCanonicalOf limits order v.items v.items) }
 {

@@ -2,12 +2,13 @@
 
 ghost use Rattle.std.specs.Prelude.{◌≡◌, ◌≢◌, ◌↔◌, ◌≤◌, ◌<◌, ◌^◌, ◌++◌, ℕ, List, length, take};
 ghost use Rattle.cbor_head.specs.Canonical.{canonical};
-ghost use Rattle.cbor_head.specs.Complaint.{Rules, Complaint, Complains, plain, strict};
-ghost use Rattle.cbor_head.specs.Limits.{Bounds, bounds};
+ghost use Rattle.cbor_head.specs.Complaint.{Rules, Complaint, Complains, IsComplaint, plain, strict};
+ghost use Rattle.cbor_head.specs.Limits.{Bounds};
 ghost use Rattle.cbor_head.specs.Spelling.{Spelling, IsItem, spell, value_of};
 ghost use Rattle.cbor_head.specs.Value as value;
-ghost use Rattle.cbor_head.specs.Value.{Value, Same, IsInRange, IsValid};
+ghost use Rattle.cbor_head.specs.Value.{Value, Same, IsInRange, IsValid, HasBasicKeys};
 ghost use Rattle.cbor_head.specs.Verdict.{IsVerdict, accepted, refused, refusal};
+ghost use Rattle.cbor_head.specs.declared.keys.Keys.TheVariants.{IntegersAndTexts};
 ghost use Rattle.cbor_head.specs.declared.order.KeyOrder.{KeyOrder};
 ghost use Rattle.cbor_head.specs.declared.reason.Refusal.{Refusal};
 ghost use Rattle.cbor_head.specs.declared.reason.Reason.TheVariants.{Memory, Truncated, TooLong};
@@ -69,7 +70,8 @@ pub fn answers_are_encoded_trees()
 
 /// An item has no plain complaint, wherever it stands, exactly where each text and each chunk of
 /// one is UTF-8 and its value is valid. A valid item is the whole input exactly where the plain
-/// verdict accepts it and nothing follows it. Its value is in range, valid, and within the depth.
+/// verdict accepts it and nothing follows it. Its value is in range, valid, and within the depth,
+/// and its keys are of the kinds that the limits ask for.
 pub fn valid_items()
     ensures complaints { (s : Spelling) (at : ℕ) → ((c : Complaint) → Complains plain at s c → ⊥)
         ↔ (HasValidTexts s × IsValid (value_of s)) }
@@ -77,6 +79,8 @@ pub fn valid_items()
         ↔ (IsVerdict limits plain input (accepted s) × (spell s ≡ input)) }
     ensures value { (limits : Bounds) (input : List ℕ) (s : Spelling) → limits.bytes ≤ 2 ^ 62 → IsValidItem limits input s
         → IsInRange (value_of s) × IsValid (value_of s) × (value.depth (value_of s) ≤ limits.depth) }
+    ensures keys { (limits : Bounds) (input : List ℕ) (s : Spelling) → limits.keys ≡ IntegersAndTexts
+        → IsValidItem limits input s → HasBasicKeys (value_of s) }
 {}
 
 /// Two accepted inputs get equal answers in one order, within whichever limits, exactly if they are
@@ -143,11 +147,12 @@ pub fn strictly_accepted_fronts()
 /// limit, whatever follows the item.
 pub fn items_cut_short()
     ensures truncated { (limits : Bounds) (r : Rules) (s : Spelling) (b : List ℕ) (k : ℕ)
-        → IsItem limits.depth s b → ((c : Complaint) → Complains r 0 s c → ⊥)
+        → IsItem limits.depth s b → ((c : Complaint) → IsComplaint limits r s c → ⊥)
         → k < length b → k < limits.bytes → IsVerdict limits r (take k b) (refused (refusal Truncated k k)) }
-    ensures too_long { (d : ℕ) (r : Rules) (s : Spelling) (b rest : List ℕ) (k : ℕ)
-        → IsItem d s b → ((c : Complaint) → Complains r 0 s c → ⊥)
-        → k < length b → IsVerdict (bounds d k) r (b ++ rest) (refused (refusal TooLong k k)) }
+    ensures too_long { (limits : Bounds) (r : Rules) (s : Spelling) (b rest : List ℕ)
+        → IsItem limits.depth s b → ((c : Complaint) → IsComplaint limits r s c → ⊥)
+        → limits.bytes < length b
+        → IsVerdict limits r (b ++ rest) (refused (refusal TooLong limits.bytes limits.bytes)) }
 {}
 
 /// A refusal's place is no later than the bytes read, and these are no more than the limit and no

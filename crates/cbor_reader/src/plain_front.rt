@@ -1,6 +1,6 @@
 //! The item at the front of an input, if it is valid, as canonical bytes, without a tree.
 
-ghost use Rattle.std.specs.Prelude.{◌≡◌, MatchResult};
+ghost use Rattle.std.specs.Prelude.{MatchResult};
 ghost use Rattle.cbor_head.specs.Complaint.{plain};
 ghost use Rattle.cbor_item.specs.View.{view};
 ghost use Rattle.cbor_reader.specs.inner.Front.{IsFrontRead};
@@ -8,7 +8,6 @@ ghost use Rattle.cbor_judging.specs.Reading.{IsFrontUnread};
 ghost use Rattle.cbor_reader.specs.inner.PlainFront.{IsDueSomewhere, AnswersNextPart, AnswersParts};
 ghost use Rattle.cbor_reader.specs.inner.PlainFront.{IsEncodedFront};
 
-use crate::next_head::next_head;
 use crate::payload::no_memory;
 use crate::plain_items::PlainItems;
 use crate::plain_part::read_part;
@@ -33,7 +32,7 @@ pub(crate) fn read_plain_front<R: Read>(
         (λ f. IsFrontUnread plain limits (R.remaining reader.old) (R.remaining reader.new) f) }
 {
     let mut events = ItemEvents::new(limits);
-    let mut items = PlainItems::new(alloc, order, None);
+    let mut items = PlainItems::new(alloc, order, limits.keys(), None);
     match read_parts(alloc, &mut events, &mut items, reader) {
         Ok(()) => {
             let canonical = items.finish();
@@ -58,7 +57,7 @@ pub(crate) fn read_item_front<R: Read>(
 {
     let mut events = ItemEvents::new(limits);
     let tree = Some(TreeBuilder::new(alloc));
-    let mut items = PlainItems::new(alloc, KeyOrder::Bytewise, tree);
+    let mut items = PlainItems::new(alloc, KeyOrder::Bytewise, limits.keys(), tree);
     match read_parts(alloc, &mut events, &mut items, reader) {
         Ok(()) => {
             let item = items.into_item();
@@ -101,7 +100,7 @@ fn next_part<R: Read>(
         (R.remaining reader.old) (R.remaining reader.new) result }
 {
     let height = events.open();
-    let event = match next_head(events, reader) {
+    let event = match items.next_head(events, reader) {
         Ok(event) => event,
         Err(refusal) => return Err(refusal),
     };

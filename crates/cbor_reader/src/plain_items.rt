@@ -1,9 +1,9 @@
 //! What the plain reader keeps of the items that are open, from event to event.
 
 ghost use Rattle.std.specs.Prelude.{◌≡◌, ◌<◌, ◌≤◌, ◌∷◌, ◌↔◌, [], ℕ, List, IfOk, IsSome, IsTrue, None, length};
-ghost use Rattle.std.specs.Prelude.{slice_set, OnOk, MatchOption};
+ghost use Rattle.std.specs.Prelude.{slice_set, OnOk, MatchOption, Option};
 ghost use Rattle.cbor_builder.specs.Built.{built, IsRepeatedKey};
-ghost use Rattle.cbor_builder.specs.Parts.{plain};
+ghost use Rattle.cbor_canonical.specs.Parts.{plain};
 ghost use Rattle.cbor_head.specs.Spelling.{Spelling, value_of};
 ghost use Rattle.cbor_item.specs.View.{view};
 ghost use Rattle.cbor_judging.specs.Levels.{item_due, item_whole};
@@ -13,15 +13,20 @@ ghost use Rattle.cbor_reader.specs.declared.key_set.KeySet.{KeySet as KeySetView
 ghost use Rattle.cbor_reader.specs.inner.HeldKeys.{AreHeld};
 ghost use Rattle.cbor_reader.specs.inner.PlainItems.{CanTake, IsGiven, IsEnding, AnswersEnds};
 ghost use Rattle.cbor_reader.specs.inner.PlainItems.{sets, AreKeysBegun, AreKeysOpened, AnswersKey};
+ghost use Rattle.cbor_reader.specs.inner.PlainFront.{IsDueSomewhere, AnswersDue};
 
 use crate::key_set::KeySet;
+use crate::next_head::next_head;
 use crate::plain_part::Part;
 use crate::tree_parts::{end_in_tree, give_to_tree};
+use cbor_automaton::Event;
 use cbor_builder::CanonBuilder;
-use cbor_head::{KeyOrder, Major};
+use cbor_events::ItemEvents;
+use cbor_head::{KeyOrder, Keys, Major, Refusal};
 use cbor_item::{Item, TreeBuilder};
 use cbor_strict::MOST_OPEN;
 use std::alloc::{AllocError, Global};
+use std::io::Read;
 use std::mem;
 
 // An item may stand in no container.
@@ -33,6 +38,8 @@ pub(crate) struct PlainItems {
     builder: CanonBuilder,
     // The item itself, where it is asked for.
     tree: Option<TreeBuilder>,
+    // Which kinds of keys maps may have.
+    kinds: Keys,
     // At the number of containers around it, where the last item began that came there.
     starts: [u64; PLACES],
     // The keys of the innermost open container that came, and of those around it, the whole first.
@@ -42,18 +49,50 @@ pub(crate) struct PlainItems {
 
 impl PlainItems {
     // Nothing came; with a builder of trees the item is to be made too.
-    pub(crate) fn new(alloc: Global, order: KeyOrder, tree: Option<TreeBuilder>) -> PlainItems
+    pub(crate) fn new(
+        alloc: Global,
+        order: KeyOrder,
+        kinds: Keys,
+        tree: Option<TreeBuilder>,
+    ) -> PlainItems
         ensures built { result.builder ≡ built order (plain [] ∷ []) }
         ensures starts { length result.starts ≡ 257 }
         ensures held { AreHeld (sets result) (plain [] ∷ []) }
         ensures tree { result.tree ≡ tree }
+        ensures kinds { result.kinds ≡ kinds }
     {
         PlainItems {
             builder: CanonBuilder::new(alloc, order),
             tree,
+            kinds,
             starts: [0; PLACES],
             keys: KeySet::new(alloc),
             outer: Vec::new(alloc),
+        }
+    }
+
+    // The head of the item that is due, or a break. A key whose kind is asked for is judged at its
+    // first byte.
+    pub(crate) fn next_head<R: Read>(
+        &self,
+        events: &mut ItemEvents,
+        reader: &mut R,
+    ) -> Result<Event, Refusal>
+        requires { IsDueSomewhere self.now events.old }
+        ensures { AnswersDue self.now events.old
+            (R.remaining reader.old) (R.remaining reader.new) events.new result }
+    {
+        match self.kinds {
+            Keys::Any => return next_head(events, reader),
+            Keys::IntegersAndTexts => {}
+        }
+        if !self.builder.is_key_due() {
+            return next_head(events, reader);
+        }
+        match events.next_key(reader) {
+            Ok(Some(event)) => Ok(event),
+            Ok(None) => unreachable!(),
+            Err(refusal) => Err(refusal),
         }
     }
 
@@ -62,6 +101,7 @@ impl PlainItems {
         requires { height < length self.old.starts }
         ensures same { self.new.builder ≡ self.old.builder }
         ensures tree { self.new.tree ≡ self.old.tree }
+        ensures kinds { self.new.kinds ≡ self.old.kinds }
         ensures sets { sets self.new ≡ sets self.old }
         ensures starts { self.new.starts ≡ slice_set self.old.starts height place }
     {
@@ -73,6 +113,7 @@ impl PlainItems {
         requires bytes { CanTake self.old.builder part }
         requires tree { TakesTreePart part self.old.tree }
         ensures same { self.new.starts ≡ self.old.starts }
+        ensures kinds { self.new.kinds ≡ self.old.kinds }
         ensures given { IfOk result (λ opened. IsGiven self.old.builder part self.new.builder opened) }
         ensures tree { IfOk result (λ _. IsTreeStep (values_with part) self.old.tree self.new.tree) }
         ensures sets { IfOk result (λ opened. AreKeysBegun opened (sets self.old) (sets self.new)) }
@@ -89,7 +130,8 @@ impl PlainItems {
     // The innermost container ends.
     fn end_keys(&mut self)
         ensures same { (self.new.builder ≡ self.old.builder)
-            × (self.new.starts ≡ self.old.starts) × (self.new.tree ≡ self.old.tree) }
+            × (self.new.starts ≡ self.old.starts) × (self.new.tree ≡ self.old.tree)
+            × (self.new.kinds ≡ self.old.kinds) }
         ensures sets { (s t : KeySetView) (ss : List KeySetView)
             → sets self.old ≡ s ∷ t ∷ ss → sets self.new ≡ t ∷ ss }
     {
@@ -120,7 +162,8 @@ impl PlainItems {
     pub(crate) fn repeated(&mut self, alloc: Global, open: usize) -> Result<Option<u64>, AllocError>
         requires { «open» < length self.old.starts }
         ensures same { (self.new.builder ≡ self.old.builder)
-            × (self.new.starts ≡ self.old.starts) × (self.new.tree ≡ self.old.tree) }
+            × (self.new.starts ≡ self.old.starts) × (self.new.tree ≡ self.old.tree)
+            × (self.new.kinds ≡ self.old.kinds) }
         ensures answers { AnswersKey self.old self.new «open» result }
     {
         let Some(key) = self.builder.waiting_key() else {
@@ -139,6 +182,7 @@ impl PlainItems {
         let PlainItems {
             builder,
             tree: _,
+            kinds: _,
             starts: _,
             keys: _,
             outer: _,
@@ -154,6 +198,7 @@ impl PlainItems {
         let PlainItems {
             builder: _,
             tree,
+            kinds: _,
             starts: _,
             keys: _,
             outer: _,

@@ -62,7 +62,8 @@ impl<R: Read> Sequence<R> {
             (R.remaining self.old.reader) (R.remaining self.new.reader) }
         ensures refused { IfRefused result (IsRefused plain self.old.items.limits
             (R.remaining self.old.reader) (R.remaining self.new.reader)) }
-        ensures reason { IfRefused result (λ f. IsReaderReason plain f.reason) }
+        ensures reason { IfRefused result
+            (λ f. IsReaderReason self.old.items.limits plain f.reason) }
         ensures limits { self.new.items.limits ≡ self.old.items.limits }
         ensures finished { self.new.items.finished ≡ is_last result }
         ensures again { self.old.items.finished ≡ true
@@ -93,7 +94,8 @@ impl<R: Read> Sequence<R> {
             (R.remaining self.old.reader) (R.remaining self.new.reader) }
         ensures refused { IfRefused result (IsRefused (strict order) self.old.items.limits
             (R.remaining self.old.reader) (R.remaining self.new.reader)) }
-        ensures reason { IfRefused result (λ f. IsReaderReason (strict order) f.reason) }
+        ensures reason { IfRefused result
+            (λ f. IsReaderReason self.old.items.limits (strict order) f.reason) }
         ensures limits { self.new.items.limits ≡ self.old.items.limits }
         ensures finished { self.new.items.finished ≡ is_last result }
         ensures again { self.old.items.finished ≡ true

@@ -60,7 +60,7 @@ impl SequenceItems {
             → IsAtEnd self.old.limits.bytes (R.remaining reader.old) (R.remaining reader.new) }
         ensures refused { IfRefused result (IsRefused plain self.old.limits
             (R.remaining reader.old) (R.remaining reader.new)) }
-        ensures reason { IfRefused result (λ f. IsReaderReason plain f.reason) }
+        ensures reason { IfRefused result (λ f. IsReaderReason self.old.limits plain f.reason) }
         ensures limits { self.new.limits ≡ self.old.limits }
         ensures finished { self.new.finished ≡ is_last result }
         ensures again { self.old.finished ≡ true
@@ -98,7 +98,8 @@ impl SequenceItems {
             → IsAtEnd self.old.limits.bytes (R.remaining reader.old) (R.remaining reader.new) }
         ensures refused { IfRefused result (IsRefused (strict order) self.old.limits
             (R.remaining reader.old) (R.remaining reader.new)) }
-        ensures reason { IfRefused result (λ f. IsReaderReason (strict order) f.reason) }
+        ensures reason { IfRefused result
+            (λ f. IsReaderReason self.old.limits (strict order) f.reason) }
         ensures limits { self.new.limits ≡ self.old.limits }
         ensures finished { self.new.finished ≡ is_last result }
         ensures again { self.old.finished ≡ true

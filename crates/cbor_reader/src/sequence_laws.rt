@@ -3,7 +3,7 @@
 ghost use Rattle.std.specs.Prelude.{◌≡◌, ◌≢◌, ◌↔◌, ℕ, Option, Some, List, [], ◌∷◌, ◌++◌};
 ghost use Rattle.cbor_head.specs.Canonical.{canonical};
 ghost use Rattle.cbor_head.specs.Complaint.{Rules, plain, strict};
-ghost use Rattle.cbor_head.specs.Limits.{Bounds, bounds};
+ghost use Rattle.cbor_head.specs.Limits.{Bounds};
 ghost use Rattle.cbor_head.specs.Spelling.{Spelling, IsItem, spell, value_of};
 ghost use Rattle.cbor_head.specs.Verdict.{IsVerdict, refused, refusal};
 ghost use Rattle.cbor_head.specs.declared.order.KeyOrder.{KeyOrder};
@@ -69,8 +69,8 @@ pub fn longest_sequences()
 pub fn inputs_without_an_item()
     ensures ended { (limits : Bounds) (r : Rules) (input : List ℕ)
         → EndsBefore limits.bytes input ↔ IsVerdict limits r input (refused (refusal Truncated 0 0)) }
-    ensures no_bytes { (d : ℕ) (r : Rules) (input : List ℕ)
-        → IsVerdict (bounds d 0) r input (refused (refusal TooLong 0 0)) }
-    ensures told { (d : ℕ) (r : Rules) (input : List ℕ) (f : Refusal)
-        → IsUnread (bounds d 0) r input f → f.reason ≢ Memory → f ≡ refusal TooLong 0 0 }
+    ensures no_bytes { (limits : Bounds) (r : Rules) (input : List ℕ)
+        → limits.bytes ≡ 0 → IsVerdict limits r input (refused (refusal TooLong 0 0)) }
+    ensures told { (limits : Bounds) (r : Rules) (input : List ℕ) (f : Refusal) → limits.bytes ≡ 0
+        → IsUnread limits r input f → f.reason ≢ Memory → f ≡ refusal TooLong 0 0 }
 {}

@@ -33,7 +33,7 @@ pub fn read_tree<R: Read>(
     ensures bounded { IfOk result (λ answer. size (view answer.0) ≤ answer.1) }
     ensures refused { IfErr result (λ f. IfSome (R.remaining reader.old)
         (λ input. IsUnread limits plain input f)) }
-    ensures reason { IfErr result (λ f. IsReaderReason plain f.reason) }
+    ensures reason { IfErr result (λ f. IsReaderReason limits plain f.reason) }
     ensures read { IfErr result
         (λ f. Loses f.read (R.remaining reader.old) (R.remaining reader.new)) }
 {

@@ -41,7 +41,7 @@ pub(crate) fn read_again(
     ensures accepted { IfOk result (λ f.
         IsBuiltFront limits order bytes.now f.canonical.items f.size) }
     ensures refused { IfErr result (λ f. IsUnread limits plain bytes.now f) }
-    ensures reason { IfErr result (λ f. IsReaderReason plain f.reason) }
+    ensures reason { IfErr result (λ f. IsReaderReason limits plain f.reason) }
     ensures no_read { IfErr result (λ f. f.reason ≢ reasons.Read) }
 {
     let mut rest = bytes;

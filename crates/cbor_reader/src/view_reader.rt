@@ -43,7 +43,7 @@ pub fn read_view<'a>(
     ensures in_range { IfOk result (λ answer. IsInRange (seen answer.0)) }
     ensures valid { IfOk result (λ answer. IsValid (seen answer.0)) }
     ensures refused { IfErr result (λ f. IsUnread limits plain bytes.now f) }
-    ensures reason { IfErr result (λ f. IsReaderReason plain f.reason) }
+    ensures reason { IfErr result (λ f. IsReaderReason limits plain f.reason) }
     ensures no_read { IfErr result (λ f. f.reason ≢ reasons.Read) }
 {
     // What any limits keep to.

@@ -15,7 +15,7 @@ ghost use Rattle.cbor_walk.specs.Sink.{leaf_value};
 
 use bumpalo::Bump;
 use cbor_head::Major;
-use cbor_view::{View, ViewBuilder};
+use cbor_view::{Joined, View, ViewBuilder};
 use cbor_walk::{KeyBytes, Sink};
 use std::alloc::{AllocError, Global};
 
@@ -25,7 +25,7 @@ pub(crate) struct ViewSink<'a> {
     keys: KeyBytes,
     views: ViewBuilder<'a>,
     // The content so far of a string in chunks.
-    joined: Vec<u8>,
+    joined: Joined,
 }
 
 impl<'a> ViewSink<'a> {
@@ -36,7 +36,7 @@ impl<'a> ViewSink<'a> {
         ViewSink {
             keys: KeyBytes::new(alloc),
             views: ViewBuilder::new(alloc, arena),
-            joined: Vec::new(alloc),
+            joined: Joined::new(alloc),
         }
     }
 
@@ -76,26 +76,28 @@ impl<'a> Sink<'a> for ViewSink<'a> {
         Ok(())
     }
 
+    #[inline(always)]
     fn begin_string(&mut self, _is_text: bool) -> Result<(), AllocError> {
         self.joined.clear();
         Ok(())
     }
 
+    #[inline(always)]
     fn chunk(&mut self, _is_text: bool, front: &'a [u8], count: usize) -> Result<(), AllocError> {
-        self.joined.extend_from_slice(&front[..count])?;
-        Ok(())
+        self.joined.extend_front(front, count)
     }
 
+    #[inline(always)]
     fn end_string(&mut self, is_text: bool) -> Result<(), AllocError> {
         let is_key = self.views.is_key_due();
-        self.keys
-            .string(is_key, is_text, &self.joined, self.joined.len())?;
+        let content = self.joined.as_slice();
+        self.keys.string(is_key, is_text, content, content.len())?;
         if is_text {
             // Each chunk was found to be UTF-8.
-            let text = unsafe { str::from_utf8_unchecked(&self.joined) };
+            let text = unsafe { str::from_utf8_unchecked(content) };
             self.views.copied_text(text)?;
         } else {
-            self.views.copied_bytes(&self.joined)?;
+            self.views.copied_bytes(content)?;
         }
         Ok(())
     }

@@ -27,7 +27,7 @@ use Rattle.cbor_automaton.proofs.Refusals.{IsUnfinished, refuses-rightly}
 use Rattle.cbor_grammar.proofs.Verdicts.{item_one}
 use Rattle.cbor_automaton.proofs.Runs.{run-on, silent-unfinished, sane-run}
 use Rattle.cbor_standing.proofs.Standing.{are_bytes-append, meant, shown-before, shown-after, unfinished-position}
-use Rattle.cbor_standing.proofs.Form.{no-complaint, refusal-verdict}
+use Rattle.cbor_standing.proofs.Form.{never, refusal-verdict}
 
 -- a beginning that is the whole input, within the limit, and no item
 cut-verdict : (limits : Bounds) (p : List ℕ) → IsBeginning limits.depth p → ¬ IsWhole limits.depth p → length p < limits.bytes → IsVerdict limits form p (refused (refusal Truncated (length p) (length p)))
@@ -40,7 +40,7 @@ cut-verdict limits p b unfinished short =
       rest = b.1;
       starts = b.2;
       decides = inr (
-        λ c h e. no-complaint 0 b.0 c h,
+        λ c h e. never limits b.0 c h,
         λ e. unfinished (b.0, record { spelled = b.2.spelled; within = b.2.within; bytes_are = e }),
         inr (short, refl),
       );

@@ -11,7 +11,9 @@ pub mod OpenHeads
 pub mod OpenItems
 pub mod OpenPieces
 pub mod SliceFronts
+pub mod StrictKinds
 pub mod StrictLoop
 pub mod StrictReading
 pub mod StrictSteps
+pub mod StrictStops
 pub mod WholeInputs

@@ -6,20 +6,21 @@ use Rattle.std.proofs.Math.Seq.{take-append-add}
 use Rattle.std.specs.Io.KnownBytes.{Consumes}
 use Rattle.std.proofs.KnownBytes.{Consumes-nil, Consumes-trans}
 use Rattle.std.proofs.lemmas.List.{length-append}
-use Rattle.cbor_head.specs.Limits.{Bounds, bounds}
+use Rattle.cbor_head.specs.Limits.{Bounds, bounds, with_keys}
 use Rattle.cbor_head.specs.Spelling.{Spelling, spell}
-use Rattle.cbor_head.specs.Complaint.{strict, Complaint, Complains}
+use Rattle.cbor_head.specs.Complaint.{strict, Complaint, IsComplaint}
+use Rattle.cbor_head.specs.declared.keys.Keys.{Keys}
 use Rattle.cbor_head.specs.declared.order.KeyOrder.{KeyOrder}
 use Rattle.cbor_head.specs.declared.reason.Refusal.{Refusal}
 use Rattle.cbor_grammar.proofs.Accepted.{accepts_exactly}
-use Rattle.cbor_grammar.proofs.OneFirst.{bounded}
+use Rattle.cbor_grammar.proofs.Complaints.{complaint_within}
 use Rattle.cbor_automaton.specs.Trace.{Mark}
 use Rattle.cbor_automaton.specs.Marks.{marks_of}
 use Rattle.cbor_standing.specs.Machine.{KeepsLimits, IsWhole}
 use Rattle.cbor_automaton.specs.declared.event.Event.{Event}
 use Rattle.cbor_judging.specs.Readers.{IsRead, IsUnread}
 use Rattle.cbor_judging.specs.Refusals.{IsReaderReason}
-use Rattle.cbor_strict.specs.StrictReader.{StrictEventsView, StandsStrictly, IsNextClean, IsCleanEnd, IsStrictRefusal, strict_call}
+use Rattle.cbor_strict.specs.StrictReader.{StrictEventsView, StandsStrictly, IsNextClean, IsCleanEnd, IsStrictRefusal, limits_of, strict_call}
 use Rattle.cbor_judging.specs.Reading.{IsFrontUnread}
 use Rattle.cbor_strict.specs.inner.StrictEvents.{IsStrictlyRead}
 use Rattle.cbor_strict.proofs.StrictSteps.{event_some}
@@ -34,13 +35,14 @@ pub record IsRunning (o : KeyOrder) (b : Bounds) (v : StrictEventsView) (from no
   pub depth : v.machine.depth ≡ b.depth
   pub bytes : v.machine.bytes ≡ b.bytes
   pub order : v.order ≡ o
+  pub keys : v.keys ≡ b.keys
 
-pub runs_first : (o : KeyOrder) (b : Bounds) (v : StrictEventsView) (from : Option (List ℕ)) → StandsStrictly v [] [] → (v.machine.depth ≡ b.depth) × (v.machine.bytes ≡ b.bytes) → v.order ≡ o → IsRunning o b v from from
-runs_first o b v from s l e = record { t = []; ms = []; consumed = Consumes-nil from; stands = s; depth = l.0; bytes = l.1; order = e }
+pub runs_first : (o : KeyOrder) (b : Bounds) (v : StrictEventsView) (from : Option (List ℕ)) → StandsStrictly v [] [] → (v.machine.depth ≡ b.depth) × (v.machine.bytes ≡ b.bytes) → v.order ≡ o → v.keys ≡ b.keys → IsRunning o b v from from
+runs_first o b v from s l e k = record { t = []; ms = []; consumed = Consumes-nil from; stands = s; depth = l.0; bytes = l.1; order = e; keys = k }
 
 module _ (o : KeyOrder) (b : Bounds) (v new : StrictEventsView) (from now to : Option (List ℕ)) (h : IsRunning o b v from now) where
-  pub runs_on : (ev : Event) → IsNextClean ev (strict_call v new now to h.t h.ms) → KeepsLimits v.machine new.machine → new.order ≡ v.order → IsRunning o b new from to
-  runs_on ev n l e = record {
+  pub runs_on : (ev : Event) → IsNextClean ev (strict_call v new now to h.t h.ms) → KeepsLimits v.machine new.machine → new.order ≡ v.order → new.keys ≡ v.keys → IsRunning o b new from to
+  runs_on ev n l e k = record {
     t = h.t ++ n.event.bytes;
     ms = h.ms ++ marks_of ev.width ev.kind;
     consumed = Consumes-trans from now to h.t n.event.bytes h.consumed n.event.consumed;
@@ -48,6 +50,7 @@ module _ (o : KeyOrder) (b : Bounds) (v new : StrictEventsView) (from now to : O
     depth = l.depth ∙ h.depth;
     bytes = l.bytes ∙ h.bytes;
     order = e ∙ h.order;
+    keys = k ∙ h.keys;
   }
 
   pub runs_farther : (ev : Event) → IsNextClean ev (strict_call v new now to h.t h.ms) → KeepsLimits v.machine new.machine → new.machine.bytes - new.machine.taken < v.machine.bytes - v.machine.taken
@@ -56,7 +59,11 @@ module _ (o : KeyOrder) (b : Bounds) (v new : StrictEventsView) (from now to : O
       let is = n.stands.between.stands.taken in
       let limit = n.stands.between.stands.limited in
       let same = l.bytes in
-      omega (arith, was, is, limit, same, event_some ev _ h.stands.between.whole n.event, length-append h.t n.event.bytes)
+      omega (arith, was, is, limit, same, event_some ev _ n.event, length-append h.t n.event.bytes)
+
+  limits-are : limits_of v ≡ b
+  limits-are =
+      ap (λ (d : ℕ). with_keys (bounds d v.machine.bytes) v.keys) h.depth ∙ ap (λ (n : ℕ). with_keys (bounds b.depth n) v.keys) h.bytes ∙ ap (λ (k : Keys). with_keys (bounds b.depth b.bytes) k) h.keys
 
   -- the whole item is read
   pub runs_out : (count : ℕ) → IsCleanEnd (strict_call v new now to h.t h.ms) → KeepsLimits v.machine new.machine → count ≡ new.machine.taken → IsStrictlyRead (strict o) b from to count
@@ -66,9 +73,10 @@ module _ (o : KeyOrder) (b : Bounds) (v new : StrictEventsView) (from now to : O
       let whole : spell s ≡ h.t = w.1.bytes_are in
       let all : count ≡ length h.t = c ∙ n.end.stands.stands.taken in
       let limit = n.end.stands.stands.limited in
-      let none : (x : Complaint) → Complains (strict o) 0 s x → ⊥ = λ x k.
-      h.stands.clean s ([], record { spelled = w.1.spelled; within = w.1.within; bytes_are = whole ∙ sym (append-nil h.t) }) x (subst (λ (p : KeyOrder). Complains (strict p) 0 s x) (sym h.order) k)
-      (omega (arith, bounded s (strict o) 0 x k, ap length whole)) in
+      let none : (x : Complaint) → IsComplaint b (strict o) s x → ⊥ = λ x k.
+      h.stands.clean s ([], record { spelled = w.1.spelled; within = w.1.within; bytes_are = whole ∙ sym (append-nil h.t) }) x
+      (subst (λ (l : Bounds). IsComplaint l (strict v.order) s x) (sym limits-are) (subst (λ (p : KeyOrder). IsComplaint b (strict p) s x) (sym h.order) k))
+      (omega (arith, complaint_within b (strict o) s x k, ap length whole)) in
       let lost : Consumes from to h.t = subst (Consumes from to) (append-nil h.t) (Consumes-trans from now to h.t [] h.consumed n.end.consumed) in
       record {
         read = front_read from to lost (λ rest. record {
@@ -92,19 +100,19 @@ module _ (o : KeyOrder) (b : Bounds) (v new : StrictEventsView) (from now to : O
       front_read (Some input) (Some rest) c r = subst (λ (x : List ℕ). IsRead b (strict o) x count) (sym c) (r rest)
 
   -- it is refused
-  pub runs_stop : (f : Refusal) → IsStrictRefusal f (strict_call v new now to h.t h.ms) → IsReaderReason (strict v.order) f.reason → IsFrontUnread (strict o) b from to f
+  pub runs_stop : (f : Refusal) → IsStrictRefusal f (strict_call v new now to h.t h.ms) → IsReaderReason (limits_of v) (strict v.order) f.reason → IsFrontUnread (strict o) b from to f
   runs_stop f n r =
       let lost : Consumes from to (h.t ++ n.bytes) = Consumes-trans from now to h.t n.bytes h.consumed n.consumed in
       record {
         refused = whole_input from now h.consumed n.verdict;
-        reason = subst (λ (p : KeyOrder). IsReaderReason (strict p) f.reason) h.order r;
+        reason = subst (λ (p : KeyOrder). IsReaderReason b (strict p) f.reason) h.order (subst (λ (l : Bounds). IsReaderReason l (strict v.order) f.reason) limits-are r);
         taken = loses (h.t ++ n.bytes) f.read from to n.read (record { more = h.t ++ n.bytes; consumed = lost; are = refl });
       }
     where
-      here : (input : List ℕ) → IsUnread (bounds v.machine.depth v.machine.bytes) (strict v.order) input f → IsUnread b (strict o) input f
-      here input u = subst (λ (p : KeyOrder). IsUnread b (strict p) input f) h.order (subst (λ (m : ℕ). IsUnread (bounds b.depth m) (strict v.order) input f) h.bytes (subst (λ (m : ℕ). IsUnread (bounds m v.machine.bytes) (strict v.order) input f) h.depth u))
+      here : (input : List ℕ) → IsUnread (limits_of v) (strict v.order) input f → IsUnread b (strict o) input f
+      here input u = subst (λ (p : KeyOrder). IsUnread b (strict p) input f) h.order (subst (λ (l : Bounds). IsUnread l (strict v.order) input f) limits-are u)
 
-      whole_input : (from now : Option (List ℕ)) → Consumes from now h.t → IfSome now (λ rest. IsUnread (bounds v.machine.depth v.machine.bytes) (strict v.order) (h.t ++ rest) f) → IfSome from (λ input. IsUnread b (strict o) input f)
+      whole_input : (from now : Option (List ℕ)) → Consumes from now h.t → IfSome now (λ rest. IsUnread (limits_of v) (strict v.order) (h.t ++ rest) f) → IfSome from (λ input. IsUnread b (strict o) input f)
       whole_input None now c u = tt
       whole_input (Some input) None c u = absurd c
-      whole_input (Some input) (Some rest) c u = here input (subst (λ (x : List ℕ). IsUnread (bounds v.machine.depth v.machine.bytes) (strict v.order) x f) (sym c) u)
+      whole_input (Some input) (Some rest) c u = here input (subst (λ (x : List ℕ). IsUnread (limits_of v) (strict v.order) x f) (sym c) u)

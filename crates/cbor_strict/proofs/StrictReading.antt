@@ -1,14 +1,14 @@
 -- What the strict reader's state says of the bytes behind it.
-use Rattle.std.proofs.Common.{◌≡◌, ℕ, ◌-◌, ◌≤◌, ◌⊎◌, Option, Some, None, List, [], ◌++◌, length, refl, sym, ap, ◌∙◌, subst, inl, inr, arith, append_assoc, append-nil}
+use Rattle.std.proofs.Common.{◌≡◌, ℕ, ◌-◌, ◌≤◌, ◌⊎◌, Option, Some, None, List, [], ◌++◌, length, refl, sym, ap, ◌∙◌, subst, inl, inr, arith, append-nil}
 use Rattle.std.specs.Option.{IfSome}
-use Rattle.std.specs.Io.KnownBytes.{Consumes}
 use Rattle.cbor_head.specs.Head.{head}
-use Rattle.cbor_head.specs.Limits.{Bounds, AreBounds, bounds}
+use Rattle.cbor_head.specs.Limits.{Bounds, AreBounds, bounds, with_keys}
 use Rattle.std.specs.Prelude.{Ok, Err}
 use Rattle.cbor_head.specs.Spelling.{Spelling, IsItem}
-use Rattle.cbor_head.specs.Complaint.{strict}
+use Rattle.cbor_head.specs.Complaint.{Rules, strict, Complains}
 use Rattle.cbor_head.specs.Laws.{StartsWith}
-use Rattle.cbor_head.specs.Verdict.{IsWithout}
+use Rattle.cbor_head.specs.Verdict.{HasNoneOf}
+use Rattle.cbor_head.specs.declared.keys.Keys.{Keys}
 use Rattle.cbor_head.specs.declared.order.KeyOrder.{KeyOrder}
 use Rattle.cbor_head.specs.declared.reason.Refusal.{Refusal}
 use Rattle.cbor_grammar.proofs.Agree.{same_complaints}
@@ -22,17 +22,19 @@ use Rattle.cbor_automaton.specs.declared.event.Event.{Event}
 use Rattle.cbor_automaton.specs.declared.event.EventKind.{EventKind}
 use Rattle.cbor_automaton.specs.declared.event.EventKind.TheVariants.{Piece}
 use Rattle.cbor_strict.specs.declared.open_items.OpenItems.{OpenItems}
-use Rattle.cbor_judging.specs.Readers.{IsUnread}
+use Rattle.cbor_head.specs.declared.reason.Reason.{Reason}
 use Rattle.cbor_judging.specs.Refusals.{IsReaderReason}
-use Rattle.cbor_judging.specs.Reading.{IsFrontUnread, string_major}
 use Rattle.cbor_judging.specs.Judged.{IsJudged}
 use Rattle.cbor_strict.specs.inner.OpenItems.{frames_in, bytes_before, Stands}
 use Rattle.cbor_judging.specs.Reading.{string_major}
 use Rattle.cbor_strict.specs.StrictReader.{StrictEventsView, StandsStrictly, IsNextStrict, IsStrictRefusal, IsAgainstEvent, StopsAtOnce, strict_call}
 use Rattle.cbor_strict.specs.inner.LastKeys.{seen, IsKept}
-use Rattle.cbor_strict.specs.inner.StrictEvents.{StandsSomewhere, IsStep, IsStopped, AnswersStep, IsLittle, bounds_of, piece_unless}
+use Rattle.cbor_strict.specs.inner.StrictEvents.{StandsSomewhere, IsStep, AnswersStep, IsLittle, bounds_of, piece_unless}
 use Rattle.cbor_strict.proofs.KeptReading.{stands_counted, stands_little}
-use Rattle.cbor_judging.proofs.Fronts.{front-unread, starts-at}
+use Rattle.cbor_judging.proofs.Fronts.{starts-at}
+use Rattle.cbor_judging.proofs.KindSteps.{keeps_start}
+use Rattle.cbor_judging.proofs.Decisions.{none_beside}
+use Rattle.cbor_judging.specs.Kinds.{KeepsToKinds}
 use Rattle.cbor_judging.proofs.Judged.{judged_start}
 use Rattle.cbor_strict.proofs.OpenBegins.{lift}
 use Rattle.cbor_strict.proofs.OpenPieces.{string_judged}
@@ -42,7 +44,7 @@ use Rattle.cbor_judging.proofs.Steps.{same-marks}
 -- ---- nothing has a complaint
 
 -- what was found of one item holds of each that starts alike
-none_within : (o : KeyOrder) (d : ℕ) (t : List ℕ) → IsJudged (strict o) 0 d t None → (s : Spelling) → StartsWith d s t → IsWithout (strict o) s (length t)
+none_within : (o : KeyOrder) (d : ℕ) (t : List ℕ) → IsJudged (strict o) 0 d t None → (s : Spelling) → StartsWith d s t → HasNoneOf (Complains (strict o) 0 s) (length t)
 none_within o d t j s i c h l =
     let k = same_complaints d s j.item t i.0 j.rest i.1 j.is (strict o) c l h in
     let late = j.finding.1 c k in
@@ -51,7 +53,7 @@ none_within o d t j s i c h l =
 all_levels : (o : KeyOrder) (d : ℕ) (t : List ℕ) → IsJudged (strict o) 0 (d - 0) t None → IsJudged (strict o) 0 d t None
 all_levels o d t j = let e : d - 0 ≡ d = omega arith in subst (λ (n : ℕ). IsJudged (strict o) 0 n t None) e j
 
-pub stands_clean : (v : OpenItems) (b : Bounds) (e : ItemEventsView) (t : List ℕ) → Stands v b e t → (s : Spelling) → StartsWith b.depth s t → IsWithout (strict v.order) s (length t)
+pub stands_clean : (v : OpenItems) (b : Bounds) (e : ItemEventsView) (t : List ℕ) → Stands v b e t → (s : Spelling) → StartsWith b.depth s t → HasNoneOf (Complains (strict v.order) 0 s) (length t)
 stands_clean v b e t (inl h) =
     none_within v.order b.depth t (subst (λ (x : List ℕ). IsJudged (strict v.order) 0 b.depth x None) (append-nil (bytes_before h.fs) ∙ sym h.taken) (all_levels v.order b.depth (bytes_before h.fs ++ [])
     (lift v.order b h.fs h.around.are h.around.distinct [] None (judged_start (strict v.order) (length (bytes_before h.fs)) (b.depth - length (frames_in h.fs))))))
@@ -64,29 +66,6 @@ stands_clean v b e t (inr (inl h)) =
 stands_clean v b e t (inr (inr h)) = λ s i c k l.
     let whole : IsItem b.depth h.item (t ++ []) = record { spelled = h.spelled; within = h.within; bytes_are = sym h.taken ∙ sym (append-nil t) } in
     absurd (h.clean c (same_complaints b.depth s h.item t i.0 [] i.1 whole (strict v.order) c l k))
-
--- ---- a refusal
-
--- of what was taken before and now
-pub stopped_unread : (o : KeyOrder) (b : Bounds) (e : ItemEventsView) (t : List ℕ) (from to : Option (List ℕ)) (f : Refusal) → IsStopped (strict o) b e t from to f
-    → IfSome from (λ rest. IsUnread b (strict o) (t ++ rest) f) × IsReaderReason (strict o) f.reason
-stopped_unread o b e t None to f s = (tt, (stops None (front_none s.bytes)).reason)
-  where
-    stops : (before : Option (List ℕ)) → Consumes before to (t ++ s.bytes) → IsFrontUnread (strict o) b before to f
-    stops before k = front-unread (strict o) b before to f
-        (record { bytes = t ++ s.bytes; taken = record { more = t ++ s.bytes; consumed = k; are = refl }; read = s.refused.read; why = s.refused.why })
-
-    front_none : (bs : List ℕ) → Consumes None to (t ++ bs)
-    front_none bs = tt
-stopped_unread o b e t (Some rest) to f s = (r.refused, r.reason)
-  where
-    whole : (to : Option (List ℕ)) (bs : List ℕ) → Consumes (Some rest) to bs → Consumes (Some (t ++ rest)) to (t ++ bs)
-    whole None bs c = c
-    whole (Some left) bs c = ap (λ (x : List ℕ). t ++ x) c ∙ sym (append_assoc t bs left)
-
-    r : IsFrontUnread (strict o) b (Some (t ++ rest)) to f
-    r = front-unread (strict o) b (Some (t ++ rest)) to f
-        (record { bytes = t ++ s.bytes; taken = record { more = t ++ s.bytes; consumed = whole to s.bytes s.consumed; are = refl }; read = s.refused.read; why = s.refused.why })
 
 -- ---- before the first byte
 
@@ -102,7 +81,7 @@ by_form o f c h = elim h [ inl x ↦ inl x | inr (inl x) ↦ inr (inl x) | inr (
 
 -- an event is withheld
 pub by_event : (o : KeyOrder) (f : Refusal) (ev : Event) (c : Call) → IsNextEvent ev c → ((n : ℕ) → ev.kind ≡ Piece n → n ≤ 512) → f.read ≡ c.new.taken → IsAgainstEvent o f.reason → StopsAtOnce o f c
-by_event o f ev c h small read against = inr (inr (inr (record {
+by_event o f ev c h small read against = inr (inr (inr (inl (record {
   width = ev.width;
   kind = ev.kind;
   bytes = h.bytes;
@@ -112,7 +91,7 @@ by_event o f ev c h small read against = inr (inr (inr (record {
   read = read ∙ h.stands.stands.taken;
   stands = h.stands;
   against = against;
-})))
+}))))
 
 pub small_piece : (ev : Event) (c : Call) (piece : List ℕ) → IsNextEvent ev c → piece ≡ c.new_piece → length piece ≤ 512 → (n : ℕ) → ev.kind ≡ Piece n → n ≤ 512
 small_piece ev c piece h is l n e =
@@ -127,80 +106,98 @@ stops_too o f m n held left a b x y t ms h = elim h [
   | inl k ↦ inl (record { bytes = k.bytes; consumed = k.consumed; reason = k.reason; is = k.is; verdict = k.verdict; short = k.short; stands = k.stands; unfinished = k.unfinished })
   | inr (inl k) ↦ inr (inl (record { bytes = k.bytes; consumed = k.consumed; is = k.is; full = k.full; verdict = k.verdict; stands = k.stands; unfinished = k.unfinished }))
   | inr (inr (inl k)) ↦ inr (inr (inl (record { bytes = k.bytes; byte = k.byte; consumed = k.consumed; is = k.is; misplaced = k.misplaced; verdict = k.verdict; stands = k.stands; unfinished = k.unfinished })))
-  | inr (inr (inr k)) ↦ inr (inr (inr (record { width = k.width; kind = k.kind; bytes = k.bytes; consumed = k.consumed; are = k.are; piece = k.piece; read = k.read; stands = k.stands; against = k.against })))
+  | inr (inr (inr (inl k))) ↦ inr (inr (inr (inl (record { width = k.width; kind = k.kind; bytes = k.bytes; consumed = k.consumed; are = k.are; piece = k.piece; read = k.read; stands = k.stands; against = k.against }))))
+  | inr (inr (inr (inr k))) ↦ inr (inr (inr (inr (record { unfinished = k.unfinished; byte = k.byte; small = k.small; consumed = k.consumed; other = k.other; item = k.item; follows = k.follows; is = k.is }))))
 ]
 
 -- ---- what is told next
 
 -- as contracts see it
-abbrev pub shown : ItemEventsView → OpenItems → Option Refusal → StrictEventsView
-shown e v r = record {
+abbrev pub shown : ItemEventsView → OpenItems → Keys → Option Refusal → StrictEventsView
+shown e v keys r = record {
   machine = e.machine;
   piece = piece_unless r e.piece;
   order = v.order;
+  keys = keys;
   spans = length (seen v.keys).spans;
   kept = length (seen v.keys).bytes;
   refusal = r;
   inner = record { events = e; items = v };
 }
 
-stands_strictly : (e : ItemEventsView) (v : OpenItems) (t : List ℕ) (ms : List Mark) → StandsBetween e.machine t ms → Stands v (bounds_of e.machine) e t → StandsStrictly (shown e v None) t ms
-stands_strictly e v t ms h s = record {
-  between = h;
-  clean = stands_clean v (bounds_of e.machine) e t s;
-  spans = λ i k. (stands_counted v (bounds_of e.machine) e t s i k).spans;
-  kept = λ i k. (stands_counted v (bounds_of e.machine) e t s i k).kept;
-  live = refl;
-  inner = record { machine_is = refl; order_is = refl; stands = s };
-}
+stands_strictly : (e : ItemEventsView) (v : OpenItems) (keys : Keys) (t : List ℕ) (ms : List Mark) → StandsBetween e.machine t ms → Stands v (bounds_of e.machine keys) e t → KeepsToKinds (bounds_of e.machine keys) (strict v.order) t → StandsStrictly (shown e v keys None) t ms
+stands_strictly e v keys t ms h s keeps =
+    let b = bounds_of e.machine keys in
+    record {
+      between = h;
+      clean = λ i k. none_beside b (strict v.order) i (length t) (λ asked c o l. keeps asked i c k o l) (stands_clean v b e t s i k);
+      spans = λ i k. (stands_counted v b e t s i k).spans;
+      kept = λ i k. (stands_counted v b e t s i k).kept;
+      live = refl;
+      inner = record { machine_is = refl; order_is = refl; stands = s; keeps = keeps };
+    }
 
-same_bounds : (old new : MachineView) → KeepsLimits old new → bounds_of old ≡ bounds_of new
-same_bounds old new h = ap (λ (d : ℕ). bounds d old.bytes) (sym h.depth) ∙ ap (bounds new.depth) (sym h.bytes)
+same_bounds : (old new : MachineView) (keys : Keys) → KeepsLimits old new → bounds_of old keys ≡ bounds_of new keys
+same_bounds old new keys h = ap (λ (d : ℕ). with_keys (bounds d old.bytes) keys) (sym h.depth) ∙ ap (λ (n : ℕ). with_keys (bounds new.depth n) keys) (sym h.bytes)
 
-pub starts_strictly : (limits : Bounds) (e : ItemEventsView) (v : OpenItems) → AreBounds limits → e.refusal ≡ None → (e.machine.depth ≡ limits.depth) × (e.machine.bytes ≡ limits.bytes) → StandsBetween e.machine [] [] → v.left ≡ 0 → IsKept (seen v.keys) [] [] → StandsStrictly (shown e v None) [] []
-starts_strictly limits e v within live same h none kept = stands_strictly e v [] [] h (subst (λ (b : Bounds). Stands v b e []) (ap (λ (d : ℕ). bounds d limits.bytes) (sym same.0) ∙ ap (bounds e.machine.depth) (sym same.1)) (stands_first limits e v within live same h none kept))
+pub starts_strictly : (limits : Bounds) (keys : Keys) (e : ItemEventsView) (v : OpenItems) → keys ≡ limits.keys → AreBounds limits → e.refusal ≡ None → (e.machine.depth ≡ limits.depth) × (e.machine.bytes ≡ limits.bytes) → StandsBetween e.machine [] [] → v.left ≡ 0 → IsKept (seen v.keys) [] [] → StandsStrictly (shown e v keys None) [] []
+starts_strictly limits keys e v asks within live same h none kept =
+    stands_strictly e v keys [] [] h
+    (subst (λ (b : Bounds). Stands v b e []) (ap (with_keys (bounds limits.depth limits.bytes)) (sym asks) ∙ ap (λ (d : ℕ). with_keys (bounds d limits.bytes) keys) (sym same.0) ∙ ap (λ (n : ℕ). with_keys (bounds e.machine.depth n) keys) (sym same.1)) (stands_first limits e v within live same h none kept))
+    (keeps_start (bounds_of e.machine keys) (strict v.order))
 
-module _ (e after : ItemEventsView) (v new : OpenItems) (from to : Option (List ℕ)) (limits : KeepsLimits e.machine after.machine) where
-  told_strictly : (o : Option Event) (t : List ℕ) (ms : List Mark) → (StandsStrictly (shown e v None) t ms) → IsStep o new (bounds_of e.machine) e after t from to → IsNextStrict (Ok o) (strict_call (shown e v None) (shown after new None) from to t ms)
+-- whichever limits ask for the same keys
+reason_as : (r : Rules) (limits others : Bounds) (x : Reason) → limits.keys ≡ others.keys → IsReaderReason limits r x → IsReaderReason others r x
+reason_as r limits others x e (inl h) = inl h
+reason_as r limits others x e (inr (inl (inl h))) = inr (inl (inl h))
+reason_as r limits others x e (inr (inl (inr h))) = inr (inl (inr (h.0, h.1, sym e ∙ h.2)))
+reason_as r limits others x e (inr (inr h)) = inr (inr h)
+
+module _ (e after : ItemEventsView) (v new : OpenItems) (keys : Keys) (from to : Option (List ℕ)) (limits : KeepsLimits e.machine after.machine) where
+  told_strictly : (o : Option Event) (t : List ℕ) (ms : List Mark) → (StandsStrictly (shown e v keys None) t ms) → IsStep o new (bounds_of e.machine keys) e after t from to → IsNextStrict (Ok o) (strict_call (shown e v keys None) (shown after new keys None) from to t ms)
   told_strictly (Some event) t ms h g =
-      subst (λ (ns : List Mark). IsNextStrict (Ok (Some event)) (strict_call (shown e v None) (shown after new None) from to t ns)) (same-marks e.machine t g.marks ms g.between h.between)
+      let same = same_bounds e.machine after.machine keys limits in
+      subst (λ (ns : List Mark). IsNextStrict (Ok (Some event)) (strict_call (shown e v keys None) (shown after new keys None) from to t ns)) (same-marks e.machine t g.marks ms g.between h.between)
       (record {
         event = g.next;
-        stands = stands_strictly after new (t ++ g.next.bytes) (g.marks ++ marks_of event.width event.kind) g.next.stands (subst (λ (b : Bounds). Stands new b after (t ++ g.next.bytes)) (same_bounds e.machine after.machine limits) g.stands);
+        stands = stands_strictly after new keys (t ++ g.next.bytes) (g.marks ++ marks_of event.width event.kind) g.next.stands (subst (λ (b : Bounds). Stands new b after (t ++ g.next.bytes)) same g.stands)
+            (subst (λ (b : Bounds). KeepsToKinds b (strict new.order) (t ++ g.next.bytes)) same g.keeps);
       })
   told_strictly None t ms h g =
-      subst (λ (ns : List Mark). IsNextStrict (Ok None) (strict_call (shown e v None) (shown after new None) from to t ns)) (same-marks e.machine t g.marks ms g.between h.between)
+      let same = same_bounds e.machine after.machine keys limits in
+      subst (λ (ns : List Mark). IsNextStrict (Ok None) (strict_call (shown e v keys None) (shown after new keys None) from to t ns)) (same-marks e.machine t g.marks ms g.between h.between)
       (record {
         end = g.end;
-        stands = stands_strictly after new t g.marks g.end.stands (subst (λ (b : Bounds). Stands new b after t) (same_bounds e.machine after.machine limits) (inr (inr g.over)));
+        stands = stands_strictly after new keys t g.marks g.end.stands (subst (λ (b : Bounds). Stands new b after t) same (inr (inr g.over))) (subst (λ (b : Bounds). KeepsToKinds b (strict new.order) t) same g.keeps);
       })
 
-  pub next_told : (o : Option Event) (r : Option Refusal) → AnswersStep v new e after from to (Ok o) → (t : List ℕ) (ms : List Mark) → StandsStrictly (shown e v r) t ms → IsNextStrict (Ok o) (strict_call (shown e v r) (shown after new r) from to t ms)
-  next_told o None answers t ms h = told_strictly o t ms h (answers (bounds_of e.machine) t h.inner.stands)
+  pub next_told : (o : Option Event) (r : Option Refusal) → AnswersStep keys v new e after from to (Ok o) → (t : List ℕ) (ms : List Mark) → StandsStrictly (shown e v keys r) t ms → IsNextStrict (Ok o) (strict_call (shown e v keys r) (shown after new keys r) from to t ms)
+  next_told o None answers t ms h = told_strictly o t ms h (answers (bounds_of e.machine keys) t refl h.inner.stands h.inner.keeps)
   next_told o (Some f) answers t ms h = absurd (cc h.live)
 
-  pub next_refused : (f : Refusal) (r : Option Refusal) (last : OpenItems) → AnswersStep v new e after from to (Err f) → ((t : List ℕ) (ms : List Mark) → StandsBetween e.machine t ms → StopsAtOnce v.order f (call e after from to t ms)) → (t : List ℕ) (ms : List Mark) → StandsStrictly (shown e v r) t ms → IsStrictRefusal f (strict_call (shown e v r) (shown after last (Some f)) from to t ms)
-  next_refused f None last answers stops t ms h =
-      let s = answers (bounds_of e.machine) t h.inner.stands in
+  pub next_refused : (f : Refusal) (r : Option Refusal) (last : OpenItems) → AnswersStep keys v new e after from to (Err f) → ((t : List ℕ) (ms : List Mark) → StandsBetween e.machine t ms → StopsAtOnce v.order f (call e after from to t ms)) → (t : List ℕ) (ms : List Mark) → StandsStrictly (shown e v keys r) t ms
+      → IsStrictRefusal f (strict_call (shown e v keys r) (shown after last keys (Some f)) from to t ms)
+  next_refused f None last answers at_once t ms h =
+      let s = answers (bounds_of e.machine keys) t refl h.inner.stands h.inner.keeps in
       record {
         unfinished = s.unfinished;
         bytes = s.bytes;
         consumed = s.consumed;
-        read = s.refused.read;
-        at_once = stops_too v.order f e.machine after.machine from to e.piece after.piece e.piece [] t ms (stops t ms h.between);
-        verdict = (stopped_unread v.order (bounds_of e.machine) e t from to f s).0;
+        read = s.read;
+        at_once = stops_too v.order f e.machine after.machine from to e.piece after.piece e.piece [] t ms (at_once t ms h.between);
+        verdict = s.unread;
       }
-  next_refused f (Some x) last answers stops t ms h = absurd (cc h.live)
+  next_refused f (Some x) last answers at_once t ms h = absurd (cc h.live)
 
-  pub stands_next : (o : Option Event) → StandsSomewhere v e → AnswersStep v new e after from to (Ok o) → StandsSomewhere new after
-  stands_next (Some event) h answers = let g = answers h.b h.t h.stands in record { b = h.b; t = h.t ++ g.next.bytes; stands = g.stands }
-  stands_next None h answers = let g = answers h.b h.t h.stands in record { b = h.b; t = h.t; stands = inr (inr g.over) }
+  pub stands_next : (o : Option Event) → StandsSomewhere keys v e → AnswersStep keys v new e after from to (Ok o) → StandsSomewhere keys new after
+  stands_next (Some event) h answers = let g = answers h.b h.t h.asks h.stands h.keeps in record { b = h.b; asks = h.asks; t = h.t ++ g.next.bytes; stands = g.stands; keeps = g.keeps }
+  stands_next None h answers = let g = answers h.b h.t h.asks h.stands h.keeps in record { b = h.b; asks = h.asks; t = h.t; stands = inr (inr g.over); keeps = g.keeps }
 
-  pub refused_reason : (f : Refusal) → StandsSomewhere v e → AnswersStep v new e after from to (Err f) → IsReaderReason (strict v.order) f.reason
-  refused_reason f h answers = (stopped_unread v.order h.b e h.t from to f (answers h.b h.t h.stands)).1
+  pub refused_reason : (b : Bounds) (f : Refusal) → b.keys ≡ keys → StandsSomewhere keys v e → AnswersStep keys v new e after from to (Err f) → IsReaderReason b (strict v.order) f.reason
+  refused_reason b f same h answers = reason_as (strict v.order) h.b b f.reason (h.asks ∙ sym same) (answers h.b h.t h.asks h.stands h.keeps).reason
 
-pub somewhere_little : (e : ItemEventsView) (v : OpenItems) → StandsSomewhere v e → IsLittle v e
-somewhere_little e v h = stands_little v h.b e h.t h.stands
+pub somewhere_little : (e : ItemEventsView) (v : OpenItems) (keys : Keys) → StandsSomewhere keys v e → IsLittle v e
+somewhere_little e v keys h = stands_little v h.b e h.t h.stands
 
 -- ---- nothing was refused yet
 

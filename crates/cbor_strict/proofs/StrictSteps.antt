@@ -1,37 +1,41 @@
 -- From one event to the next, by the strict rules.
-use Rattle.std.proofs.Common.{◌≡◌, ℕ, zero, suc, ◌-◌, ◌<◌, ◌⊎◌, false, true≢false, Option, None, List, [], ◌++◌, length, replicate, refl, sym, ap, ◌∙◌, subst, inl, inr, arith, append_assoc}
+use Rattle.std.proofs.Common.{◌≡◌, ℕ, zero, suc, ◌<◌, Bool, true, false, true≢false, Option, Some, None, List, [], ◌++◌, length, replicate, refl, sym, ap, ◌∙◌, subst, inl, inr, arith, append_assoc}
 use Rattle.std.proofs.lemmas.List.{length-append}
 use Rattle.cbor_head.specs.Head.{head}
 use Rattle.cbor_head.specs.Limits.{Bounds}
 use Rattle.cbor_head.specs.Value.{AreBytes}
 use Rattle.cbor_head.specs.Complaint.{strict}
 use Rattle.cbor_head.specs.declared.major.Major.{Major}
-use Rattle.cbor_head.specs.declared.reason.Refusal.{Refusal}
 use Rattle.cbor_head.specs.declared.width.Width.{Width}
-use Rattle.cbor_automaton.specs.Reasons.{IsEventReason}
 use Rattle.cbor_judging.specs.Place.{Container, Place, at_item, payload, done, IsTaking}
-use Rattle.cbor_automaton.specs.Trace.{Mark, a_byte, total}
+use Rattle.cbor_automaton.specs.Trace.{Mark, a_byte, a_break, total}
 use Rattle.cbor_standing.specs.Machine.{IsComplete}
-use Rattle.cbor_automaton.specs.Marks.{marks_of, mark_of, IsProper}
-use Rattle.cbor_standing.specs.NextEvent.{ItemEventsView, StandsBetween, IsNextEvent, IsEnd, IsCut, IsTooLong, HasFormError, Call, call, IsKept as IsPieceKept}
+use Rattle.cbor_automaton.specs.Bytes.{IsHeadBytes, IsChunkHead, IsBytesOf, last_type}
+use Rattle.cbor_automaton.specs.Marks.{marks_of, mark_of, count_of, IsProper}
+use Rattle.cbor_head.specs.declared.major.Major.TheVariants as majors
+use Rattle.cbor_head.specs.declared.width.Width.TheVariants.{Direct, One, Two, Four, Eight, Indefinite}
+use Rattle.cbor_standing.specs.NextEvent.{ItemEventsView, StandsBetween, IsNextEvent, IsEnd, Call, call, IsKept as IsPieceKept}
 use Rattle.cbor_automaton.specs.declared.event.Event.{Event}
 use Rattle.cbor_automaton.specs.declared.event.EventKind.{EventKind}
 use Rattle.cbor_automaton.specs.declared.event.EventKind.TheVariants as kinds
-use Rattle.cbor_events.proofs.Rows.{total-append}
 use Rattle.cbor_strict.specs.declared.open_items.OpenItems.{OpenItems}
 use Rattle.cbor_strict.specs.inner.OpenItems.{frames_in, bytes_before, Stands, HasHeadCome, HasPartCome}
-use Rattle.cbor_judging.specs.Reading.{IsAt, IsFormRefusal, HasCause, string_major}
-use Rattle.cbor_strict.specs.inner.StrictEvents.{HasCome, IsStopped}
+use Rattle.cbor_judging.specs.Reading.{IsAt, string_major}
+use Rattle.cbor_strict.specs.inner.StrictEvents.{HasCome, IsNextOf}
+use Rattle.cbor_strict.specs.inner.LastKeys.{from_outside}
+use Rattle.cbor_strict.proofs.OpenBegins.{no_break, room_left}
+use Rattle.cbor_strict.proofs.StrictKinds.{some_head, basic_kind, keeps_mark, keeps_string}
+use Rattle.cbor_events.specs.NextKey.{IsBasicKind}
+use Rattle.cbor_head.specs.Beginning.{IsBeginning}
+use Rattle.cbor_judging.specs.Kinds.{AsksForKinds, KeepsToKinds, IsKeyDue}
+use Rattle.std.specs.Prelude.{Ok}
 use Rattle.cbor_judging.proofs.Items.{taking-some}
 use Rattle.cbor_judging.proofs.ByteLists.{bytes_join}
-use Rattle.cbor_strict.proofs.OpenHeads.{refused_part}
-use Rattle.cbor_strict.proofs.OpenPieces.{string_judged}
-use Rattle.cbor_judging.proofs.Payloads.{IsPiece, IsPayload, none-come, part-fits, part-comes, part-cut}
+use Rattle.cbor_judging.proofs.Payloads.{IsPiece, IsPayload, none-come, part-fits, part-comes}
 use Rattle.cbor_judging.proofs.Scalars.{at-as}
-use Rattle.cbor_judging.proofs.Steps.{SameLimits, next-at, head-taken, stops}
+use Rattle.cbor_judging.proofs.Steps.{SameLimits, next-at, head-taken, at-reached}
 use Rattle.cbor_judging.proofs.Standing.{is-complete, is-done}
 use Rattle.cbor_judging.proofs.Payloads.{piece-due}
-use Rattle.cbor_judging.proofs.Items.{cut-judged}
 use Rattle.cbor_judging.proofs.Steps.{same-place}
 
 -- ---- what an event can be
@@ -147,67 +151,48 @@ module _ (v : OpenItems) (b : Bounds) (e new : ItemEventsView) (t : List ℕ) (f
       }
 
   -- nothing more
-  pub end_told : Stands v b e t → ((ms : List Mark) → StandsBetween e.machine t ms → IsEnd (call e new from to t ms)) → HasCome v b e new t from to
-  end_told (inl h) next = absurd (not_over b e t _ h.at (λ g. cc g) (next h.at.marks h.at.stands).complete)
-  end_told (inr (inl h)) next = absurd (not_over b e t _ h.at (payload_not_done (string_major v.is_text) v.left (frames_in h.fs) h.some) (next h.at.marks h.at.stands).complete)
-  end_told (inr (inr h)) next =
+  pub end_told : Stands v b e t → KeepsToKinds b (strict v.order) t → ((ms : List Mark) → StandsBetween e.machine t ms → IsEnd (call e new from to t ms)) → HasCome v b e new t from to
+  end_told (inl h) keeps next = absurd (not_over b e t _ h.at (λ g. cc g) (next h.at.marks h.at.stands).complete)
+  end_told (inr (inl h)) keeps next = absurd (not_over b e t _ h.at (payload_not_done (string_major v.is_text) v.left (frames_in h.fs) h.some) (next h.at.marks h.at.stands).complete)
+  end_told (inr (inr h)) keeps next =
       let n = next h.at.marks h.at.stands in
       let a = next-at b e new t t done h.at.marks h.at same live n.stands in
-      record { marks = h.at.marks; between = h.at.stands; end = n; over = record { item = h.item; spelled = h.spelled; within = h.within; clean = h.clean; none = h.none; kept = h.kept; taken = h.taken; at = at-as b new t t _ done refl (same-place b new e t _ done a h.at) a } }
+      record { marks = h.at.marks; between = h.at.stands; end = n; keeps = keeps; over = record { item = h.item; spelled = h.spelled; within = h.within; clean = h.clean; none = h.none; kept = h.kept; taken = h.taken; at = at-as b new t t _ done refl (same-place b new e t _ done a h.at) a } }
 
--- ---- a refusal of the events
+-- ---- no key of another kind begins in it
 
-module _ (v : OpenItems) (b : Bounds) (e new : ItemEventsView) (t : List ℕ) (from to : Option (List ℕ)) (f : Refusal) (same : SameLimits e.machine new.machine) (reason : IsEventReason f.reason) where
-  pub refusal_told : Stands v b e t
-      → ((u : List ℕ) (ms : List Mark) → StandsBetween e.machine u ms → ¬ IsComplete e.machine × (IsCut f (call e new from to u ms) ⊎ IsTooLong f (call e new from to u ms) ⊎ HasFormError f (call e new from to u ms))) → IsStopped (strict v.order) b e t from to f
-  refusal_told (inl h) next =
-      let s = stops b e new t (at_item (frames_in h.fs)) from to f h.at same (next t h.at.marks h.at.stands).1 in
-      let c = s.cut in
-      let cause : HasCause (strict v.order) b (frames_in h.fs) t s.bytes to f = record {
-        p = c.p;
-        last = c.last;
-        splits = c.splits;
-        found = None;
-        judged = cut-judged (strict v.order) b (frames_in h.fs) t s.bytes to f c;
-        cause = (c.place, c.refused);
-      } in
-      record {
-        unfinished = (next t h.at.marks h.at.stands).0;
-        bytes = s.bytes;
-        consumed = s.consumed;
-        refused = refused_part v.order b h.fs h.around.are h.around.distinct s.bytes (t ++ s.bytes) to f (ap (λ (y : List ℕ). y ++ s.bytes) h.taken) s.read (subst (λ (y : List ℕ). HasCause (strict v.order) b (frames_in h.fs) y s.bytes to f) h.taken cause);
-      }
-  refusal_told (inr (inr h)) next = absurd ((next t h.at.marks h.at.stands).0 (is-complete b e t h.at))
-  refusal_told (inr (inl h)) next =
-      let m = string_major v.is_text in
-      let k = none-come b false m (frames_in h.fs) t v.left [] from e h.at in
-      let s = part-cut b false m (frames_in h.fs) t v.left [] [] from from e v.left k h.some to f (stops b e new (t ++ k.p) _ from to f k.at same (next (t ++ k.p) k.at.marks k.at.stands).1) in
-      let hd = head m h.w h.n in
-      let y = bytes_before h.fs in
-      let all : t ++ s.bytes ≡ y ++ (hd ++ (h.q ++ s.bytes)) =
-      ap (λ (z : List ℕ). z ++ s.bytes) h.taken ∙ append_assoc y (hd ++ h.q) s.bytes ∙ ap (λ (z : List ℕ). y ++ z) (append_assoc hd h.q s.bytes) in
-      record {
-        unfinished = (next t h.at.marks h.at.stands).0;
-        bytes = s.bytes;
-        consumed = s.consumed;
-        refused = elim s.why [
-          | inl x ↦ absurd (subst IsEventReason x.0.0 reason)
-          | inr (inr x) ↦ absurd (true≢false (sym x.0))
-          | inr (inl c) ↦
-              let count = h.count in
-              let short = c.short in
-              let there : t ++ c.p ≡ y ++ (hd ++ (h.q ++ c.p)) = ap (λ (z : List ℕ). z ++ c.p) h.taken ∙ append_assoc y (hd ++ h.q) c.p ∙ ap (λ (z : List ℕ). y ++ z) (append_assoc hd h.q c.p) in
-              refused_part v.order b h.fs h.around.are h.around.distinct (hd ++ (h.q ++ s.bytes)) (t ++ s.bytes) to f all s.read
-              (record {
-                p = hd ++ (h.q ++ c.p);
-                last = c.last;
-                splits = ap (λ (z : List ℕ). hd ++ (h.q ++ z)) c.splits ∙ ap (λ (z : List ℕ). hd ++ z) (sym (append_assoc h.q c.p c.last)) ∙ sym (append_assoc hd (h.q ++ c.p) c.last);
-                found = None;
-                judged = string_judged v.is_text h.w h.n (h.q ++ c.p) (strict v.order) (length y) (b.depth - length (frames_in h.fs)) h.holds (bytes_join h.q c.p h.are_bytes c.are_bytes) (omega (arith, short, count, length-append h.q c.p)) h.clean;
-                cause = (c.place ∙ ap length there, subst (λ (z : List ℕ). IsFormRefusal b z to f) all c.refused);
-              })
-        ];
-      }
+pub of_told : (asked : Bool) (ev : Event) (c : Call) → IsNextOf asked (Ok (Some ev)) c → IsNextEvent ev c × (asked ≡ true → IsBasicKind ev.kind)
+of_told true ev c h = (h.0, λ a. h.1)
+of_told false ev c h = (h, λ a. absurd (true≢false (sym a)))
+
+pub of_end : (asked : Bool) (c : Call) → IsNextOf asked (Ok None) c → IsEnd c
+of_end true c h = h
+of_end false c h = h
+
+pub begun : (b : Bounds) (e : ItemEventsView) (t : List ℕ) (q : Place) → IsAt b e t q → IsBeginning b.depth t
+begun b e t q a = (at-reached b e t q a).begins
+
+pub head_keeps : (v : OpenItems) (b : Bounds) (ev : Event) (t x : List ℕ) (e : ItemEventsView) (h : HasHeadCome v b ev t x e) → KeepsToKinds b (strict v.order) t → (AsksForKinds b (strict v.order) → IsKeyDue (from_outside h.fs) → IsBasicKind ev.kind)
+    → KeepsToKinds b (strict v.order) (t ++ x)
+head_keeps v b ev t x e h keeps basic =
+    let are = h.around.are in
+    let none : mark_of ev.width ev.kind ≡ a_break → ⊥ = λ i. no_break h.fs h.next (subst (λ (m : Mark). IsTaking b.depth (at_item (frames_in h.fs)) m x h.next) i h.taking).1 in
+    subst (λ (y : List ℕ). KeepsToKinds b (strict v.order) (y ++ x)) (sym h.taken)
+    (keeps_mark b (strict v.order) (from_outside h.fs) are.left are.levels are.path (frames_in h.fs) (mark_of ev.width ev.kind) x h.next (room_left v.order b h.fs are h.around.distinct) h.taking none
+    (λ asked due. basic_kind b.depth (frames_in h.fs) ev.width ev.kind x h.next h.taking none (basic asked due)) (subst (KeepsToKinds b (strict v.order)) h.taken keeps))
+
+pub piece_keeps : (v : OpenItems) (b : Bounds) (old : ItemEventsView) (t x : List ℕ) (e : ItemEventsView) → HasPartCome v b old t x e → KeepsToKinds b (strict v.order) t → KeepsToKinds b (strict v.order) (t ++ x)
+piece_keeps v b old t x e h keeps =
+    let d = h.due in
+    let are = d.around.are in
+    let hd = head (string_major v.is_text) d.w d.n in
+    let y = bytes_before d.fs in
+    let count = d.count in
+    let fits = h.fits in
+    let there : t ++ x ≡ y ++ (hd ++ (d.q ++ x)) = ap (λ (z : List ℕ). z ++ x) d.taken ∙ append_assoc y (hd ++ d.q) x ∙ ap (λ (z : List ℕ). y ++ z) (append_assoc hd d.q x) in
+    subst (KeepsToKinds b (strict v.order)) (sym there)
+    (keeps_string b (strict v.order) (from_outside d.fs) are.left are.levels are.path v.is_text d.w d.n d.q x d.holds (bytes_join d.q x d.are_bytes h.are_bytes) (omega (arith, count, fits, length-append d.q x))
+    (subst (IsBeginning b.depth) d.taken (begun b old t _ d.at)) (subst (KeepsToKinds b (strict v.order)) d.taken keeps))
 
 pub live_of : (v : OpenItems) (b : Bounds) (e : ItemEventsView) (t : List ℕ) → Stands v b e t → e.refusal ≡ None
 live_of v b e t (inl h) = h.at.live
@@ -229,25 +214,30 @@ piece_is kinds.End h = absurd h
 
 -- ---- each event has a byte
 
-some_bytes : (n : ℕ) → 0 < n → 0 < total (replicate n a_byte)
-some_bytes zero l = l
-some_bytes (suc n) l = omega arith
+head_bytes : (m : Major) (w : Width) (n : ℕ) (bs : List ℕ) → IsHeadBytes m w n bs → 0 < length bs
+head_bytes m Direct n bs h = omega (arith, ap length h.1, some_head m Direct n)
+head_bytes m One n bs h = omega (arith, ap length h.1, some_head m One n)
+head_bytes m Two n bs h = omega (arith, ap length h.1, some_head m Two n)
+head_bytes m Four n bs h = omega (arith, ap length h.1, some_head m Four n)
+head_bytes m Eight n bs h = omega (arith, ap length h.1, some_head m Eight n)
+head_bytes m Indefinite n bs h = omega (arith, ap length h.1, some_head m Indefinite 0)
 
-some_marks : (w : Width) (kind : EventKind) → IsProper w kind → 0 < total (marks_of w kind)
-some_marks w (kinds.Piece n) h = some_bytes n h.1
-some_marks w (kinds.Unsigned n) h = omega arith
-some_marks w (kinds.Negative n) h = omega arith
-some_marks w (kinds.Simple n) h = omega arith
-some_marks w (kinds.Bytes n) h = omega arith
-some_marks w (kinds.Text n) h = omega arith
-some_marks w (kinds.Chunk n) h = omega arith
-some_marks w (kinds.Array n) h = omega arith
-some_marks w (kinds.Map n) h = omega arith
-some_marks w (kinds.Tag n) h = omega arith
-some_marks w kinds.End h = omega arith
+chunk_bytes : (type : Option Major) (w : Width) (n : ℕ) (bs : List ℕ) → IsChunkHead type w n bs → 0 < length bs
+chunk_bytes (Some m) w n bs h = omega (arith, ap length h.1, some_head m w n)
+chunk_bytes None w n bs h = absurd h
 
-pub event_some : (ev : Event) (c : Call) → total c.told ≡ length c.taken → (n : IsNextEvent ev c) → 0 < length n.bytes
-event_some ev c e n =
-    let some = some_marks ev.width ev.kind n.are.0 in
-    let all = n.stands.whole in
-    omega (arith, some, all, e, total-append c.told (marks_of ev.width ev.kind), length-append c.taken n.bytes)
+some_bytes : (type : Option Major) (w : Width) (kind : EventKind) (bs : List ℕ) → IsProper w kind → IsBytesOf type w kind bs → 0 < length bs
+some_bytes type w (kinds.Piece n) bs p h = omega (arith, p.1, h)
+some_bytes type w (kinds.Unsigned n) bs p h = head_bytes majors.Unsigned w n bs h
+some_bytes type w (kinds.Negative n) bs p h = head_bytes majors.Negative w n bs h
+some_bytes type w (kinds.Simple n) bs p h = head_bytes majors.Simple w n bs h
+some_bytes type w (kinds.Bytes n) bs p h = head_bytes majors.Bytes w (count_of n) bs h
+some_bytes type w (kinds.Text n) bs p h = head_bytes majors.Text w (count_of n) bs h
+some_bytes type w (kinds.Chunk n) bs p h = chunk_bytes type w n bs h
+some_bytes type w (kinds.Array n) bs p h = head_bytes majors.Array w (count_of n) bs h
+some_bytes type w (kinds.Map n) bs p h = head_bytes majors.Map w (count_of n) bs h
+some_bytes type w (kinds.Tag n) bs p h = head_bytes majors.Tag w n bs h
+some_bytes type w kinds.End bs p h = omega (arith, ap length h)
+
+pub event_some : (ev : Event) (c : Call) → (n : IsNextEvent ev c) → 0 < length n.bytes
+event_some ev c n = some_bytes (last_type None c.told) ev.width ev.kind n.bytes n.are.0 n.are.1

@@ -1,11 +1,11 @@
 -- What the strict reader tells of the item at the front of an input, event by event (RFC 8949, section 4.2).
 use Rattle.std.specs.Prelude.{◌≡◌, ℕ, ◌≤◌, ◌⊎◌, ◌++◌, List, length, Option, Some, None, Result, Ok, Err, IfSome}
 use Rattle.std.specs.Io.KnownBytes.{Consumes}
-use Rattle.cbor_head.specs.Limits.{bounds}
+use Rattle.cbor_head.specs.Limits.{Bounds, bounds, with_keys}
 use Rattle.cbor_head.specs.Spelling.{Spelling}
 use Rattle.cbor_head.specs.Complaint.{strict}
-use Rattle.cbor_head.specs.Laws.{StartsWith}
-use Rattle.cbor_head.specs.Verdict.{IsWithout}
+use Rattle.cbor_head.specs.Laws.{StartsWith, IsWithout}
+use Rattle.cbor_head.specs.declared.keys.Keys.{Keys}
 use Rattle.cbor_head.specs.declared.order.KeyOrder.{KeyOrder}
 use Rattle.cbor_head.specs.declared.reason.Reason.{Reason}
 use Rattle.cbor_head.specs.declared.reason.Reason.TheVariants.{Memory}
@@ -20,6 +20,7 @@ use Rattle.cbor_standing.specs.NextEvent.{StandsBetween, Call, machine_call, IsN
 use Rattle.cbor_automaton.specs.declared.event.Event.{Event}
 use Rattle.cbor_automaton.specs.declared.event.EventKind.{EventKind}
 use Rattle.cbor_automaton.specs.declared.event.EventKind.TheVariants.{Piece}
+use Rattle.cbor_events.specs.NextKey.{IsOtherKey}
 use Rattle.cbor_strict.specs.KeptKeys.{open_maps, key_bytes}
 use Rattle.cbor_judging.specs.Readers.{IsUnread}
 use Rattle.cbor_judging.specs.Refusals.{IsComplaintReason}
@@ -31,12 +32,18 @@ pub record StrictEventsView : Type 0 where
   pub machine : MachineView
   pub piece : List ℕ
   pub order : KeyOrder
+  -- which kinds of keys are asked for
+  pub keys : Keys
   -- of how many open maps the last key is kept, and how many bytes are
   pub spans : ℕ
   pub kept : ℕ
   pub refusal : Option Refusal
   -- what leads from one event to the next; no public clause looks into it
   pub inner : Inner
+
+-- the limits on the item
+abbrev pub limits_of : StrictEventsView → Bounds
+limits_of v = with_keys (bounds v.machine.depth v.machine.bytes) v.keys
 
 -- the reader, and the events that were read from it
 pub record StrictReaderView (R : Type 0) : Type 0 where
@@ -47,13 +54,13 @@ pub record StrictReaderView (R : Type 0) : Type 0 where
 pub record StandsStrictly (v : StrictEventsView) (t : List ℕ) (ms : List Mark) : Type 0 where
   pub between : StandsBetween v.machine t ms
   -- no complaint ends within t, of any item that starts with t
-  pub clean : (s : Spelling) → StartsWith v.machine.depth s t → IsWithout (strict v.order) s (length t)
+  pub clean : (s : Spelling) → StartsWith v.machine.depth s t → IsWithout (limits_of v) (strict v.order) s (length t)
   -- what is kept is what each such item tells: a span for each open map, and the bytes of keys that are still to be compared
   pub spans : (s : Spelling) → StartsWith v.machine.depth s t → v.spans ≡ open_maps (length t) s
   pub kept : (s : Spelling) → StartsWith v.machine.depth s t → v.kept ≡ key_bytes (length t) s
   pub live : v.refusal ≡ None
   -- the inner state is the one behind t
-  pub inner : IsInner v.inner v.machine v.order t
+  pub inner : IsInner v.inner v.machine v.order v.keys t
 
 -- One call for the next event: the events and what the reader holds, before it and after it; and what was taken and told before.
 pub record StrictCall : Type 0 where
@@ -97,9 +104,10 @@ pub record IsWithheld (o : KeyOrder) (f : Refusal) (c : Call) : Type 0 where
   pub stands : StandsBetween c.new (c.taken ++ bytes) (c.told ++ marks_of width kind)
   pub against : IsAgainstEvent o f.reason
 
--- No event was left out: behind what was told an event is withheld, or the form refuses before another one ends.
+-- No event was left out: behind what was told an event is withheld, or a key of another kind begins, or the form refuses before
+-- another event ends.
 abbrev pub StopsAtOnce : KeyOrder → Refusal → Call → Type 0
-StopsAtOnce o f c = IsCut f c ⊎ IsTooLong f c ⊎ HasFormError f c ⊎ IsWithheld o f c
+StopsAtOnce o f c = IsCut f c ⊎ IsTooLong f c ⊎ HasFormError f c ⊎ IsWithheld o f c ⊎ IsOtherKey f c
 
 -- No more is told. The refusal is that of what was taken and what the reader held behind it, and what it has read the reader lost.
 pub record IsStrictRefusal (f : Refusal) (c : StrictCall) : Type 0 where
@@ -108,7 +116,7 @@ pub record IsStrictRefusal (f : Refusal) (c : StrictCall) : Type 0 where
   pub consumed : Consumes c.held c.left bytes
   pub read : f.read ≡ length (c.taken ++ bytes)
   pub at_once : StopsAtOnce c.old.order f (form_call c)
-  pub verdict : IfSome c.held (λ rest. IsUnread (bounds c.old.machine.depth c.old.machine.bytes) (strict c.old.order) (c.taken ++ rest) f)
+  pub verdict : IfSome c.held (λ rest. IsUnread (limits_of c.old) (strict c.old.order) (c.taken ++ rest) f)
 
 -- what is answered where an event ended
 abbrev pub IsNextStrict : Result (Option Event) Refusal → StrictCall → Type 0

@@ -1,6 +1,7 @@
 //! What the strict reader keeps of the items that are open, from event to event.
 
-ghost use Rattle.std.specs.Prelude.{◌≡◌, ◌<◌, ◌≤◌, ◌+◌, ◌^◌, ◌++◌, ℕ, true, List, [], length};
+ghost use Rattle.std.specs.Prelude.{◌≡◌, ◌<◌, ◌≤◌, ◌+◌, ◌^◌, ◌++◌, ◌↔◌, ℕ, true, false, List, []};
+ghost use Rattle.std.specs.Prelude.{length};
 ghost use Rattle.std.specs.Prelude.{OnOk, IfErr, MatchOption, MatchResult, IsUtf8};
 ghost use Rattle.std.specs.Str.Lossy.{utf8_valid_len};
 ghost use Rattle.cbor_head.specs.Head.{IsSimple, major_number, shortest_head};
@@ -9,7 +10,8 @@ ghost use Rattle.cbor_automaton.specs.Marks.{mark_of};
 ghost use Rattle.cbor_text.specs.TextCheck.{HasChecked};
 ghost use Rattle.cbor_strict.specs.StrictReader.{IsAgainstEvent};
 ghost use Rattle.cbor_judging.specs.Frame.{Frame};
-ghost use Rattle.cbor_strict.specs.inner.LastKeys.{IsKept, seen};
+ghost use Rattle.cbor_judging.specs.Kinds.{IsKeyDue};
+ghost use Rattle.cbor_strict.specs.inner.LastKeys.{IsKept, seen, from_outside};
 ghost use Rattle.cbor_judging.specs.Reading.{IsFault};
 ghost use Rattle.cbor_strict.specs.inner.OpenItems.{IsItemEnded, AnswersEnd, IsHeadCome};
 ghost use Rattle.cbor_strict.specs.inner.OpenItems.{AnswersHead};
@@ -19,7 +21,7 @@ ghost use Rattle.cbor_strict.specs.inner.OpenItems.{IsSameString, IsBegunBy, sho
 
 use crate::last_keys::{Due, LastKeys};
 use cbor_automaton::{Event, EventKind};
-use cbor_head::{Head, KeyOrder, Major, Reason, Refusal, Width};
+use cbor_head::{Head, KeyOrder, Keys, Major, Reason, Refusal, Width};
 use cbor_text::TextCheck;
 use std::alloc::{AllocError, Global};
 
@@ -62,6 +64,23 @@ impl OpenItems {
         ensures { result ≡ length (seen self.now.keys).bytes }
     {
         self.keys.kept()
+    }
+
+    // Whether a key is due that is to be an integer or a text, and nothing of it was read.
+    #[inline(always)]
+    pub(crate) fn asks(&self, keys: Keys) -> bool
+        ensures due { (fs : List Frame) (p : List ℕ) → IsKept (seen self.now.keys) fs p
+            → self.now.left ≡ 0
+            → (result ≡ true) ↔ ((keys ≡ Keys.IntegersAndTexts) × IsKeyDue (from_outside fs)) }
+        ensures payload { 0 < self.now.left → result ≡ false }
+    {
+        let Keys::IntegersAndTexts = keys else {
+            return false;
+        };
+        if self.left > 0 {
+            return false;
+        }
+        matches!(self.keys.due(), Due::Key)
     }
 
     // Nothing is kept any more, where nothing more is read.

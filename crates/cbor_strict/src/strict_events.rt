@@ -1,23 +1,24 @@
 //! The events of one item by the strict rules, from a reader that each call is handed.
 
 ghost use Rattle.std.specs.Prelude.{◌≡◌, ◌≤◌, ℕ, List, [], length, None, Some, OnOk, OnErr};
-ghost use Rattle.std.specs.Prelude.{IfErr, IfSome, Err};
+ghost use Rattle.std.specs.Prelude.{IfErr, IfSome, Err, true, false};
 ghost use Rattle.cbor_head.specs.Complaint.{strict};
 ghost use Rattle.cbor_automaton.specs.Trace.{Mark};
 ghost use Rattle.cbor_automaton.specs.Marks.{IsProper};
 ghost use Rattle.cbor_standing.specs.Machine.{KeepsLimits, IsIdle};
 ghost use Rattle.cbor_standing.specs.NextEvent.{IfTold, StandsBetween, call};
 ghost use Rattle.cbor_judging.specs.Refusals.{IsReaderReason};
-ghost use Rattle.cbor_strict.specs.StrictReader.{StrictEventsView, StandsStrictly};
+ghost use Rattle.cbor_strict.specs.StrictReader.{StrictEventsView, StandsStrictly, limits_of};
 ghost use Rattle.cbor_strict.specs.StrictReader.{IsNextStrict, StopsAtOnce, strict_call};
 ghost use Rattle.cbor_strict.specs.inner.LastKeys.{seen};
 ghost use Rattle.cbor_strict.specs.inner.StrictEvents.{StandsSomewhere, AnswersStep, piece_unless};
-ghost use Rattle.cbor_strict.specs.inner.StrictEvents.{IsLittle};
+ghost use Rattle.cbor_strict.specs.inner.StrictEvents.{IsLittle, IsNextOf, bounds_of};
+ghost use Rattle.cbor_events.specs.NextKey.{IsKeyReason};
 
 use crate::open_items::OpenItems;
 use cbor_automaton::{Event, EventKind};
 use cbor_events::ItemEvents;
-use cbor_head::{KeyOrder, Limits, Refusal};
+use cbor_head::{KeyOrder, Keys, Limits, Refusal};
 use std::alloc::Global;
 use std::io::Read;
 use std::marker::Model;
@@ -27,6 +28,7 @@ use std::marker::Model;
 pub(crate) struct StrictEvents {
     events: ItemEvents,
     items: OpenItems,
+    keys: Keys,
     refusal: Option<Refusal>,
 }
 
@@ -37,6 +39,7 @@ impl Model for StrictEvents {
       machine = e.events.machine;
       piece = piece_unless e.refusal e.events.piece;
       order = e.items.order;
+      keys = e.keys;
       spans = length (seen e.items.keys).spans;
       kept = length (seen e.items.keys).bytes;
       refusal = e.refusal;
@@ -44,9 +47,9 @@ impl Model for StrictEvents {
     } };
 
     ghost invariant = { λ e. record {
-      stands : e.refusal ≡ None → StandsSomewhere e.items e.events;
+      stands : e.refusal ≡ None → StandsSomewhere e.keys e.items e.events;
       stopped : IfSome e.refusal (λ f. (f.read ≡ e.events.machine.taken)
-          × IsReaderReason (strict e.items.order) f.reason
+          × IsReaderReason (bounds_of e.events.machine e.keys) (strict e.items.order) f.reason
           × (length (seen e.items.keys).spans ≡ 0) × (length (seen e.items.keys).bytes ≡ 0));
       within : e.events.machine.open_count ≤ e.events.machine.depth;
       limited : e.events.machine.taken ≤ e.events.machine.bytes;
@@ -61,11 +64,13 @@ impl StrictEvents {
         ensures limits { (result.machine.depth ≡ limits.depth)
             × (result.machine.bytes ≡ limits.bytes) }
         ensures order { result.order ≡ order }
+        ensures keys { result.keys ≡ limits.keys }
         ensures piece { result.piece ≡ [] }
     {
         StrictEvents {
             events: ItemEvents::new(limits),
             items: OpenItems::new(alloc, order),
+            keys: limits.keys(),
             refusal: None,
         }
     }
@@ -78,11 +83,12 @@ impl StrictEvents {
             (R.remaining reader.old) (R.remaining reader.new) t ms) }
         ensures limits { KeepsLimits self.old.machine self.new.machine }
         ensures order { self.new.order ≡ self.old.order }
+        ensures keys { self.new.keys ≡ self.old.keys }
         ensures proper { IfTold result (λ e. IsProper e.width e.kind) }
         ensures live { OnOk result (self.new.refusal ≡ None) }
         ensures refused { IfErr result (λ f. (self.new.refusal ≡ Some f)
             × (self.new.machine.taken ≡ f.read)
-            × IsReaderReason (strict self.old.order) f.reason) }
+            × IsReaderReason (limits_of self.old) (strict self.old.order) f.reason) }
         ensures emptied { OnErr result ((self.new.piece ≡ [])
             × (self.new.spans ≡ 0) × (self.new.kept ≡ 0)) }
         ensures idle { IsIdle self.old.machine → reader.new ≡ reader.old }
@@ -92,7 +98,7 @@ impl StrictEvents {
         if let Some(refusal) = self.refusal {
             return Err(refusal);
         }
-        match next_event(&mut self.events, &mut self.items, reader) {
+        match next_event(&mut self.events, &mut self.items, self.keys, reader) {
             Ok(event) => Ok(event),
             Err(refusal) => {
                 self.refusal = Some(refusal);
@@ -151,11 +157,12 @@ impl StrictEvents {
 fn next_event<R: Read>(
     events: &mut ItemEvents,
     items: &mut OpenItems,
+    keys: Keys,
     reader: &mut R,
 ) -> Result<Option<Event>, Refusal>
-    requires { StandsSomewhere items.old events.old }
+    requires { StandsSomewhere keys items.old events.old }
     ensures order { items.new.order ≡ items.old.order }
-    ensures answers { AnswersStep items.old items.new events.old events.new
+    ensures answers { AnswersStep keys items.old items.new events.old events.new
         (R.remaining reader.old) (R.remaining reader.new) result }
     ensures at_once { IfErr result (λ f. (t : List ℕ) (ms : List Mark)
         → StandsBetween events.old.machine t ms → StopsAtOnce items.old.order f
@@ -166,7 +173,8 @@ fn next_event<R: Read>(
     ensures taken { IfErr result (λ f. events.new.machine.taken ≡ f.read) }
     ensures idle { IsIdle events.old.machine → reader.new ≡ reader.old }
 {
-    let event = match events.next(reader) {
+    let is_asked = items.asks(keys);
+    let event = match next_of(events, is_asked, reader) {
         Ok(Some(event)) => event,
         Ok(None) => return Ok(None),
         Err(refusal) => return Err(refusal),
@@ -183,4 +191,29 @@ fn next_event<R: Read>(
         Ok(()) => Ok(Some(event)),
         Err(refusal) => Err(refusal),
     }
+}
+
+// The next event by form, and by its kind if that is asked for.
+#[inline(always)]
+fn next_of<R: Read>(
+    events: &mut ItemEvents,
+    is_asked: bool,
+    reader: &mut R,
+) -> Result<Option<Event>, Refusal>
+    requires live { events.old.refusal ≡ None }
+    requires head { is_asked ≡ true → events.old.machine.in_payload ≡ false }
+    ensures answers { (t : List ℕ) (ms : List Mark) → StandsBetween events.old.machine t ms
+        → IsNextOf is_asked result
+        (call events.old events.new (R.remaining reader.old) (R.remaining reader.new) t ms) }
+    ensures limits { KeepsLimits events.old.machine events.new.machine }
+    ensures proper { IfTold result (λ e. IsProper e.width e.kind) }
+    ensures live { OnOk result (events.new.refusal ≡ None) }
+    ensures taken { IfErr result (λ f. events.new.machine.taken ≡ f.read) }
+    ensures reason { IfErr result (λ f. IsKeyReason f.reason) }
+    ensures idle { IsIdle events.old.machine → reader.new ≡ reader.old }
+{
+    if is_asked {
+        return events.next_key(reader);
+    }
+    events.next(reader)
 }

@@ -12,7 +12,7 @@ ghost use Rattle.cbor_judging.specs.Readers.{IsRead, IsUnread, IsCanonicalFront}
 ghost use Rattle.cbor_judging.specs.Readers.{HasNoCanonicalFront, Loses};
 ghost use Rattle.cbor_judging.specs.Refusals.{IsReaderReason};
 ghost use Rattle.cbor_strict.specs.StrictReader.{StrictReaderView, StandsStrictly};
-ghost use Rattle.cbor_strict.specs.StrictReader.{IsNextStrict, strict_call};
+ghost use Rattle.cbor_strict.specs.StrictReader.{IsNextStrict, limits_of, strict_call};
 
 use crate::strict_events::StrictEvents;
 use crate::strict_front::read_strict_front;
@@ -44,7 +44,7 @@ pub fn read_strict<R: Read>(
         (λ count. Loses count (R.remaining reader.old) (R.remaining reader.new)) }
     ensures refused { IfErr result (λ f. IfSome (R.remaining reader.old)
         (λ input. IsUnread limits (strict order) input f)) }
-    ensures reason { IfErr result (λ f. IsReaderReason (strict order) f.reason) }
+    ensures reason { IfErr result (λ f. IsReaderReason limits (strict order) f.reason) }
     ensures no_canonical { IfErr result (λ f. f.reason ≢ reasons.Read → f.reason ≢ reasons.Memory
         → IfSome (R.remaining reader.old)
         (HasNoCanonicalFront limits order)) }
@@ -83,6 +83,7 @@ impl<R: Read> StrictReader<R> {
         ensures limits { (result.events.machine.depth ≡ limits.depth)
             × (result.events.machine.bytes ≡ limits.bytes) }
         ensures order { result.events.order ≡ order }
+        ensures keys { result.events.keys ≡ limits.keys }
         ensures piece { result.events.piece ≡ [] }
         ensures same { result.reader ≡ reader }
     {
@@ -106,11 +107,12 @@ impl<R: Read> StrictReader<R> {
             (R.remaining self.old.reader) (R.remaining self.new.reader) t ms) }
         ensures limits { KeepsLimits self.old.events.machine self.new.events.machine }
         ensures order { self.new.events.order ≡ self.old.events.order }
+        ensures keys { self.new.events.keys ≡ self.old.events.keys }
         ensures proper { IfTold result (λ e. IsProper e.width e.kind) }
         ensures live { OnOk result (self.new.events.refusal ≡ None) }
         ensures refused { IfErr result (λ f. (self.new.events.refusal ≡ Some f)
             × (self.new.events.machine.taken ≡ f.read)
-            × IsReaderReason (strict self.old.events.order) f.reason) }
+            × IsReaderReason (limits_of self.old.events) (strict self.old.events.order) f.reason) }
         ensures emptied { OnErr result ((self.new.events.piece ≡ [])
             × (self.new.events.spans ≡ 0) × (self.new.events.kept ≡ 0)) }
 

@@ -14,6 +14,7 @@
 //! ```
 #![tactic(auto)]
 
+mod joined;
 mod kinds;
 mod level;
 mod lookup;
@@ -22,5 +23,6 @@ mod to_tree;
 mod view;
 mod view_builder;
 
+pub use joined::Joined;
 pub use view::View;
 pub use view_builder::ViewBuilder;

@@ -17,6 +17,7 @@ use Rattle.cbor_head.specs.declared.width.Width.TheVariants.{Direct, One, Two, F
 use Rattle.cbor_steps.specs.Whole.{IsArgument}
 use Rattle.cbor_automaton.proofs.Taking.{IsNumbered}
 use Rattle.cbor_judging.specs.Judged.{IsJudged}
+use Rattle.cbor_judging.specs.Kinds.{IsOfOneHead}
 use Rattle.cbor_walk.specs.inner.Leaves.{IsShortest, IsLeaf}
 use Rattle.cbor_judging.proofs.ByteLists.{bytes_back}
 use Rattle.cbor_judging.proofs.Heads.{takes}
@@ -171,9 +172,10 @@ module _ (room : Bool) (first : ℕ) (behind : List ℕ) (w : Width) (n : ℕ) (
 -- ---- refusals
 
 -- the input ends within the item
-pub ends_here : (room : Bool) (b : List ℕ) (at end : ℕ) → end ≡ at + length b
+pub ends_here : (room : Bool) (b : List ℕ) (at end : ℕ) → end ≡ at + length b → IsOfOneHead b
     → ((o : KeyOrder) (d : ℕ) (ls : List Level) → (room ≡ true → length ls < d) → AreBytes b → IsJudged (strict o) (length (bytes_before ls)) (d - length ls) b None) → IsRefusedHere room b at (refusal reasons.Truncated end end)
-ends_here room b at end e j = λ o d ls clean here fits full are.
-    let size : length (bytes_before ls ++ b) ≡ end = length-append (bytes_before ls) b ∙ omega (arith, e, here) in
-    inr (inr (subst (λ (n : ℕ). EndsWithin (strict o) d (bytes_before ls ++ b) (refusal reasons.Truncated n n)) size
-    (end_here (strict o) d ls clean (bytes_before ls ++ b) b [] (ap (λ (z : List ℕ). bytes_before ls ++ z) (sym (append-nil b))) (j o d ls fits (bytes_back (bytes_before ls) b are)) refl)))
+ends_here room b at end e one j = λ o limits ls clean kept place are.
+    let whole = bytes_before ls ++ b in
+    let size : length whole ≡ end = length-append (bytes_before ls) b ∙ omega (arith, e, place.here) in
+    inr (inr (inl (subst (λ (n : ℕ). EndsWithin (strict o) limits whole (refusal reasons.Truncated n n)) size
+    (end_here (strict o) limits ls clean whole b [] (ap (λ (z : List ℕ). bytes_before ls ++ z) (sym (append-nil b))) kept one (j o limits.depth ls place.fits (bytes_back (bytes_before ls) b are)) refl))))

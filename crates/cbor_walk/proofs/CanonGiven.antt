@@ -11,8 +11,9 @@ use Rattle.cbor_head.specs.declared.major.Major.TheVariants as majors
 use Rattle.cbor_head.specs.declared.order.KeyOrder.{KeyOrder}
 use Rattle.cbor_head.specs.declared.width.Width.{Width}
 use Rattle.cbor_head.specs.declared.width.Width.TheVariants.{Indefinite}
-use Rattle.cbor_builder.specs.Built.{Built, built, IsLeaf, IsInContainer, IsInString, HasDistinctKeysSoFar, TakesPart}
-use Rattle.cbor_builder.specs.Parts as parts
+use Rattle.cbor_builder.specs.Built.{Built, built, IsLeaf, IsInString, HasDistinctKeysSoFar, TakesPart}
+use Rattle.cbor_canonical.specs.Parts.{IsInContainer}
+use Rattle.cbor_canonical.specs.Parts as parts
 use Rattle.cbor_grammar.proofs.Counts.{holds_fits}
 use Rattle.cbor_judging.proofs.Given.{full-array, full-map, settled}
 use Rattle.cbor_judging.proofs.Levels.{pairs-shorter}

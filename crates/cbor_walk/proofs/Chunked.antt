@@ -96,7 +96,7 @@ module _ (S : Type 0) (stands : S → S → Standing → Type 0) (holds : S → 
             → IsScalar (chunked_from t behind) after (string_value t (chunks_joined done))
         go true done so_far is =
             let w = chunks_whole majors.Text text_chunks text_chunked done plain 0 0 so_far in
-            record { item = text_chunks done; taken = λ d. record { spelled = w.0; within = omega arith; clean = clean-anywhere (text_chunks done) 0 w.1 }; is = is ∙ ap (λ (x : List ℕ). x ++ after) (whole majors.Text done); value_is = refl }
+            record { item = text_chunks done; taken = λ d. record { spelled = w.0; within = omega arith; clean = clean-anywhere (text_chunks done) 0 w.1 }; is = is ∙ ap (λ (x : List ℕ). x ++ after) (whole majors.Text done); one = λ container. absurd (cc container); value_is = refl }
         go false done so_far is =
             let w = chunks_whole majors.Bytes byte_chunks bytes_chunked done plain 0 0 so_far in
-            record { item = byte_chunks done; taken = λ d. record { spelled = w.0; within = omega arith; clean = clean-anywhere (byte_chunks done) 0 w.1 }; is = is ∙ ap (λ (x : List ℕ). x ++ after) (whole majors.Bytes done); value_is = refl }
+            record { item = byte_chunks done; taken = λ d. record { spelled = w.0; within = omega arith; clean = clean-anywhere (byte_chunks done) 0 w.1 }; is = is ∙ ap (λ (x : List ℕ). x ++ after) (whole majors.Bytes done); one = λ container. absurd (cc container); value_is = refl }

@@ -3,6 +3,7 @@ use Rattle.std.proofs.Common.{◌≡◌, ◌≢◌, ℕ, ◌+◌, ◌-◌, ◌/�
 use Rattle.std.proofs.lemmas.Bool.{lt-ltb, le-ltb, le-leb, lt-leb, cases_lt, ne_eqb}
 use Rattle.std.proofs.lemmas.List.{length-append}
 use Rattle.cbor_head.specs.Complaint.{Rules}
+use Rattle.cbor_head.specs.Limits.{Bounds}
 use Rattle.cbor_head.specs.Spelling.{simple}
 use Rattle.cbor_head.specs.Value.{AreBytes}
 use Rattle.cbor_head.specs.Verdict.{initial_reason, refusal}
@@ -13,10 +14,13 @@ use Rattle.cbor_head.specs.declared.reason.Reason.TheVariants.{Reserved, NoIndef
 use Rattle.cbor_head.specs.declared.width.Width.TheVariants.{Indefinite}
 use Rattle.cbor_automaton.specs.Automaton.{Frame, at_item, in_simple, Opening, direct, long, indefinite_string, indefinite_container, long_simple, breaks, bad, refuses, major_at, tail, numbered_tail, opening, opening_of, has_room, begin, take_byte}
 use Rattle.cbor_judging.specs.Judged.{IsJudged}
+use Rattle.cbor_judging.specs.Kinds.{KeepsToKinds}
 use Rattle.cbor_judging.proofs.Judged.{judged_start, judged_head}
+use Rattle.cbor_walk.specs.inner.Kept.{KeepsHere}
 use Rattle.cbor_walk.specs.inner.Path.{Level, a_member, a_key, a_value, tagged, bytes_before, AreClean}
 use Rattle.cbor_walk.specs.inner.Stop.{HasBadByte}
 use Rattle.cbor_walk.proofs.PathForm.{containers, containers_count}
+use Rattle.cbor_walk.proofs.PathKinds.{kept_before}
 use Rattle.cbor_walk.proofs.PathStops.{bad_byte_here}
 
 -- ---- additional information 28 to 30
@@ -123,7 +127,7 @@ no_room d fs c m long_simple e h = absurd h
 no_room d fs c m breaks e h = absurd h
 no_room d fs c m bad e h = absurd h
 
-four : (n : ℕ) → 24 ≤ n → n < 28 → (n ≡ 24) ⊎ (n ≡ 25) ⊎ (n ≡ 26) ⊎ (n ≡ 27)
+pub four : (n : ℕ) → 24 ≤ n → n < 28 → (n ≡ 24) ⊎ (n ≡ 25) ⊎ (n ≡ 26) ⊎ (n ≡ 27)
 four n l h = elim (cases_lt n 25) [
   | inl k ↦ inl (omega (arith, l, k))
   | inr k ↦ elim (cases_lt n 26) [
@@ -215,36 +219,36 @@ simple_byte d fs c h = rw (lt-ltb c 32 h) refl
 
 -- ---- of the whole input
 
-module _ (r : Rules) (d : ℕ) (ls : List Level) (clean : AreClean r d ls) (b : List ℕ) (are : AreBytes b) (c : ℕ) (rest : List ℕ) where
+module _ (r : Rules) (limits : Bounds) (ls : List Level) (clean : AreClean r limits.depth ls) (keeps : KeepsToKinds limits r (bytes_before ls)) (b : List ℕ) (are : AreBytes b) (c : ℕ) (rest : List ℕ) where
   abbrev at : ℕ
   at = length (bytes_before ls)
 
   -- a byte begins no item here
   module _ (splits : b ≡ bytes_before ls ++ c ∷ rest) where
-    pub refused_here : (reason : Reason) → take_byte d (at_item (containers ls)) c ≡ refuses reason → HasBadByte r d b (refusal reason at (at + 1))
+    pub refused_here : (reason : Reason) → take_byte limits.depth (at_item (containers ls)) c ≡ refuses reason → HasBadByte r limits b (refusal reason at (at + 1))
     refused_here reason e =
-        subst (λ (x : List ℕ). HasBadByte r d b (refusal reason (length x) (length x + 1))) (append-nil (bytes_before ls))
-        (bad_byte_here r d ls clean b [] (c ∷ rest) splits (judged_start r at (d - length ls)) c rest (at_item (containers ls)) [] reason refl are refl tt e)
+        subst (λ (x : List ℕ). HasBadByte r limits b (refusal reason (length x) (length x + 1))) (append-nil (bytes_before ls))
+        (bad_byte_here r limits ls clean b [] (c ∷ rest) splits (kept_before limits r ls keeps) tt (judged_start r at (limits.depth - length ls)) c rest (at_item (containers ls)) [] reason refl are refl tt e)
 
-    pub reserved : 28 ≤ c % 32 → c % 32 < 31 → HasBadByte r d b (refusal Reserved at (at + 1))
-    reserved l h = refused_here Reserved (reserved_byte d (containers ls) c l h)
+    pub reserved : 28 ≤ c % 32 → c % 32 < 31 → HasBadByte r limits b (refusal Reserved at (at + 1))
+    reserved l h = refused_here Reserved (reserved_byte limits.depth (containers ls) c l h)
 
-    pub no_indefinite : c % 32 ≡ 31 → (c < 64) ⊎ ((192 ≤ c) × (c < 224)) → HasBadByte r d b (refusal NoIndefinite at (at + 1))
-    no_indefinite e l = refused_here NoIndefinite (no_indefinite_byte d (containers ls) c e l)
+    pub no_indefinite : c % 32 ≡ 31 → (c < 64) ⊎ ((192 ≤ c) × (c < 224)) → HasBadByte r limits b (refusal NoIndefinite at (at + 1))
+    no_indefinite e l = refused_here NoIndefinite (no_indefinite_byte limits.depth (containers ls) c e l)
 
-    pub a_float : 249 ≤ c → c ≤ 251 → HasBadByte r d b (refusal Float at (at + 1))
-    a_float l h = refused_here Float (float_byte d (containers ls) c l h)
+    pub a_float : 249 ≤ c → c ≤ 251 → HasBadByte r limits b (refusal Float at (at + 1))
+    a_float l h = refused_here Float (float_byte limits.depth (containers ls) c l h)
 
-    pub stray_break : c ≡ 0xff → (MayBreak ls → ⊥) → HasBadByte r d b (refusal StrayBreak at (at + 1))
-    stray_break e h = refused_here StrayBreak (ap (take_byte d (at_item (containers ls))) e ∙ break_byte d ls h)
+    pub stray_break : c ≡ 0xff → (MayBreak ls → ⊥) → HasBadByte r limits b (refusal StrayBreak at (at + 1))
+    stray_break e h = refused_here StrayBreak (ap (take_byte limits.depth (at_item (containers ls))) e ∙ break_byte limits.depth ls h)
 
-    pub too_deep : d ≤ length ls → 128 ≤ c → c < 224 → (c % 32 < 28) ⊎ ((c % 32 ≡ 31) × (c < 192)) → HasBadByte r d b (refusal TooDeep at (at + 1))
-    too_deep full l h i = refused_here TooDeep (deep_byte d (containers ls) (omega (arith, full, containers_count ls)) c l h i)
+    pub too_deep : limits.depth ≤ length ls → 128 ≤ c → c < 224 → (c % 32 < 28) ⊎ ((c % 32 ≡ 31) × (c < 192)) → HasBadByte r limits b (refusal TooDeep at (at + 1))
+    too_deep full l h i = refused_here TooDeep (deep_byte limits.depth (containers ls) (omega (arith, full, containers_count ls)) c l h i)
 
-  pub bad_simple : b ≡ bytes_before ls ++ 0xf8 ∷ c ∷ rest → c < 32 → HasBadByte r d b (refusal BadSimple (at + 1) (at + 1 + 1))
-  bad_simple splits small =
+  pub bad_simple : KeepsHere limits r ls (0xf8 ∷ []) → b ≡ bytes_before ls ++ 0xf8 ∷ c ∷ rest → c < 32 → HasBadByte r limits b (refusal BadSimple (at + 1) (at + 1 + 1))
+  bad_simple kept splits small =
       let n : 32 < 256 = omega arith in
-      let j : IsJudged r at (d - length ls) (0xf8 ∷ []) None =
-      judged_head r at (d - length ls) (0xf8 ∷ []) (simple 32) (0x20 ∷ []) (record { spelled = (n, λ l. omega arith); within = omega arith; bytes_are = refl }) (omega arith) in
-      subst (λ (k : ℕ). HasBadByte r d b (refusal BadSimple k (k + 1))) (length-append (bytes_before ls) (0xf8 ∷ []))
-      (bad_byte_here r d ls clean b (0xf8 ∷ []) (c ∷ rest) splits j c rest (in_simple (containers ls)) [] BadSimple refl are refl tt (simple_byte d (containers ls) c small))
+      let j : IsJudged r at (limits.depth - length ls) (0xf8 ∷ []) None =
+      judged_head r at (limits.depth - length ls) (0xf8 ∷ []) (simple 32) (0x20 ∷ []) (record { spelled = (n, λ l. omega arith); within = omega arith; bytes_are = refl }) (omega arith) in
+      subst (λ (k : ℕ). HasBadByte r limits b (refusal BadSimple k (k + 1))) (length-append (bytes_before ls) (0xf8 ∷ []))
+      (bad_byte_here r limits ls clean b (0xf8 ∷ []) (c ∷ rest) splits kept (λ container some. absurd (omega (arith, some))) j c rest (in_simple (containers ls)) [] BadSimple refl are refl tt (simple_byte limits.depth (containers ls) c small))

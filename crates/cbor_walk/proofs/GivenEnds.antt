@@ -7,7 +7,7 @@ use Rattle.cbor_head.specs.Spelling.{Spelling, array, a_map, tag, no_spellings, 
 use Rattle.cbor_head.specs.declared.major.Major.TheVariants as majors
 use Rattle.cbor_head.specs.declared.order.KeyOrder.TheVariants.{Bytewise}
 use Rattle.cbor_head.specs.declared.width.Width.TheVariants.{Indefinite}
-use Rattle.cbor_builder.specs.Parts as parts
+use Rattle.cbor_canonical.specs.Parts as parts
 use Rattle.cbor_judging.proofs.Given.{settled}
 use Rattle.cbor_judging.proofs.Levels.{spelled-all, within-all, pairs-spelled, pairs-within}
 use Rattle.cbor_judging.specs.Frame.{with_all, with_entries}

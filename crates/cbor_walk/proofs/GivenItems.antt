@@ -4,7 +4,7 @@ use Rattle.std.specs.Prelude.{IsUtf8}
 use Rattle.std.proofs.lemmas.Bool.{cases_lt}
 use Rattle.std.proofs.lemmas.List.{length-append, length-take-le, take-append-drop}
 use Rattle.cbor_head.specs.Head.{Holds, IsSimple, head, major_number, shortest}
-use Rattle.cbor_head.specs.Spelling.{Spelling, unsigned, negative, bytes, text, simple, no_spellings, no_entries, spell, value_of}
+use Rattle.cbor_head.specs.Spelling.{Spelling, unsigned, negative, bytes, text, simple, no_spellings, no_entries, spell, value_of, HoldsOrIndefinite}
 use Rattle.cbor_head.specs.Value.{Value, AreBytes}
 use Rattle.cbor_head.specs.declared.major.Major.{Major}
 use Rattle.cbor_head.specs.declared.major.Major.TheVariants as majors
@@ -12,6 +12,9 @@ use Rattle.cbor_head.specs.declared.width.Width.{Width}
 use Rattle.cbor_builder.specs.Built.{IsLeaf, IsContainer}
 use Rattle.cbor_grammar.proofs.ReadLaws.{length_head}
 use Rattle.cbor_judging.proofs.ByteLists.{bytes_front}
+use Rattle.cbor_judging.proofs.Heads.{open_or}
+use Rattle.cbor_judging.proofs.KindBytes.{head_is_one, string_is_one}
+use Rattle.cbor_judging.specs.Kinds.{IsOfOneHead}
 use Rattle.cbor_judging.specs.Levels.{IsTaken, a_member, a_key, some_member, some_key, tagged}
 use Rattle.cbor_judging.specs.Reading.{string_major, string_value}
 use Rattle.cbor_steps.specs.Whole.{IsArgument}
@@ -28,6 +31,7 @@ pub record IsScalar (rest behind : List ℕ) (v : Value) : Type 0 where
   pub item : Spelling
   pub taken : (d : ℕ) → IsTaken d item
   pub is : rest ≡ spell item ++ behind
+  pub one : IsOfOneHead (spell item)
   pub value_is : value_of item ≡ v
 
 pub scalar-head : (m : Major) (n : ℕ) (rest behind : List ℕ) → IsLeaf m → IsHead m n rest behind → IsScalar rest behind (leaf_value m n)
@@ -35,18 +39,21 @@ scalar-head majors.Unsigned n rest behind l h = record {
   item = unsigned h.width n;
   taken = λ d. record { spelled = h.holds; within = omega arith; clean = λ at c x. cc x.0 };
   is = h.is;
+  one = head_is_one majors.Unsigned h.width n (open_or h.width n h.holds);
   value_is = refl;
 }
 scalar-head majors.Negative n rest behind l h = record {
   item = negative h.width n;
   taken = λ d. record { spelled = h.holds; within = omega arith; clean = λ at c x. cc x.0 };
   is = h.is;
+  one = head_is_one majors.Negative h.width n (open_or h.width n h.holds);
   value_is = refl;
 }
 scalar-head majors.Simple n rest behind l h = record {
   item = simple n;
   taken = λ d. record { spelled = (h.simple refl).0; within = omega arith; clean = λ at c x. x };
   is = h.is ∙ ap (λ (w : Width). head majors.Simple w n ++ behind) (h.simple refl).1;
+  one = head_is_one majors.Simple (shortest n) n (subst (λ (w : Width). HoldsOrIndefinite w n) (h.simple refl).1 (open_or h.width n h.holds));
   value_is = refl;
 }
 scalar-head majors.Bytes n rest behind l h = absurd l
@@ -74,12 +81,14 @@ scalar-string t n size rest behind h p are =
       item = bytes h.width (take n behind);
       taken = λ d. record { spelled = (subst (Holds h.width) (sym long) h.holds, small); within = omega arith; clean = λ at c x. cc x.0 };
       is = string-bytes majors.Bytes n rest behind h p.inside;
+      one = string_is_one majors.Bytes h.width (length (take n behind)) (take n behind) tt (open_or h.width (length (take n behind)) (subst (Holds h.width) (sym long) h.holds));
       value_is = refl;
     }
     go true h u long small = record {
       item = text h.width (take n behind);
       taken = λ d. record { spelled = (subst (Holds h.width) (sym long) h.holds, small); within = omega arith; clean = λ at c x. elim x [ inl y ↦ cc y.0 | inr y ↦ y.1 (u refl) ] };
       is = string-bytes majors.Text n rest behind h p.inside;
+      one = string_is_one majors.Text h.width (length (take n behind)) (take n behind) tt (open_or h.width (length (take n behind)) (subst (Holds h.width) (sym long) h.holds));
       value_is = refl;
     }
 

@@ -11,7 +11,9 @@ use Rattle.cbor_head.specs.declared.major.Major.{Major}
 use Rattle.cbor_head.specs.declared.major.Major.TheVariants as majors
 use Rattle.cbor_grammar.proofs.Accepted.{accepts_exactly}
 use Rattle.cbor_grammar.proofs.ReadLaws.{length_spell}
+use Rattle.cbor_judging.specs.Kinds.{KeepsToKinds}
 use Rattle.cbor_judging.proofs.Arrays.{closes}
+use Rattle.cbor_judging.proofs.Decisions.{whole_beside}
 use Rattle.cbor_judging.proofs.Heads.{open_or}
 use Rattle.cbor_judging.proofs.Items.{is-definite}
 use Rattle.cbor_judging.proofs.Levels.{no-count}
@@ -56,11 +58,16 @@ module _ (S : Type 0) (stands : S → S → Standing → Type 0) where
   }
 
   -- the whole
-  pub front-given : (start g : S) (b : Bounds) (input rest : List ℕ) (size : ℕ) → (h : IsBuilt S stands start b.depth (take b.bytes input) g rest) → size ≡ length (take b.bytes input) - length rest → IsGivenFront (stands start g) b input size
-  front-given start g b input rest size h e = record {
+  pub front-given : (start g : S) (b : Bounds) (input rest : List ℕ) (size : ℕ) → (h : IsBuilt S stands start b.depth (take b.bytes input) g rest) → KeepsToKinds b plain (spell h.item) → size ≡ length (take b.bytes input) - length rest
+      → IsGivenFront (stands start g) b input size
+  front-given start g b input rest size h keeps e = record {
     read = record {
       item = h.item;
-      verdict = (accepts_exactly b plain input h.item).1 (rest, (h.taken.spelled, h.taken.within, sym h.bytes), h.taken.clean 0);
+      verdict = (accepts_exactly b plain input h.item).1 (
+        rest,
+        (h.taken.spelled, h.taken.within, sym h.bytes),
+        whole_beside b plain h.item (record { spelled = h.taken.spelled; within = h.taken.within; bytes_are = refl }) keeps (h.taken.clean 0),
+      );
       size = omega (arith, e, ap length h.bytes, length-append (spell h.item) rest);
     };
     whole = h.given;

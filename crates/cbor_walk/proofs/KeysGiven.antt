@@ -2,9 +2,9 @@
 use Rattle.std.proofs.Common.{◌≡◌, ℕ, zero, suc, ◌-◌, ◌^◌, ◌<◌, Bool, true, false, List, [], ◌∷◌, ◌++◌, length, refl, sym, ap, ◌∙◌, subst, inl, inr, arith}
 use Rattle.std.specs.Prelude.{◌⊎◌, ◌↔◌, IsTrue, Result, Ok, Err, IfOk}
 use Rattle.std.proofs.lemmas.Bool.{false≢true}
-use Rattle.cbor_builder.specs.Built.{Built, built, IsContainer, IsInContainer, HasDistinctKeysSoFar, TakesPart, around}
-use Rattle.cbor_builder.specs.Parts as parts
-use Rattle.cbor_builder.specs.Parts.{Open, plain, give, close, closed}
+use Rattle.cbor_builder.specs.Built.{Built, built, IsContainer, HasDistinctKeysSoFar, TakesPart, around}
+use Rattle.cbor_canonical.specs.Parts.{IsInContainer, Open, plain, give, close, closed}
+use Rattle.cbor_canonical.specs.Parts as parts
 use Rattle.cbor_head.specs.Canonical.{canonical}
 use Rattle.cbor_head.specs.Spelling.{Spelling, array, a_map, spell, value_of}
 use Rattle.cbor_head.specs.Value.{Value}

@@ -4,8 +4,8 @@ use Rattle.std.specs.Prelude.{◌||◌, ◌≢◌, ◌⊎◌, if◌then◌else�
 use Rattle.std.specs.List.{AllByRecursion}
 use Rattle.std.proofs.lemmas.Bool.{false≢true}
 use Rattle.std.proofs.lemmas.List.{length-append}
-use Rattle.cbor_builder.specs.Built.{IsInContainer, HasDistinctKeysSoFar, CanHold, TakesPart, around}
-use Rattle.cbor_builder.specs.Parts.{Open, plain, an_array, a_map, a_key, a_string, pair, with_member, closed, give, close, HasNoRepeats}
+use Rattle.cbor_builder.specs.Built.{HasDistinctKeysSoFar, CanHold, TakesPart, around}
+use Rattle.cbor_canonical.specs.Parts.{IsInContainer, Open, plain, an_array, a_map, a_key, a_string, pair, with_member, closed, give, close, HasNoRepeats}
 use Rattle.cbor_canonical.specs.Pairs.{HasDistinctBytes}
 use Rattle.cbor_grammar.proofs.ReadLaws.{length_head}
 use Rattle.cbor_head.specs.Canonical.{Pair, canonical}

@@ -7,12 +7,15 @@ pub mod CutHeads
 pub mod FirstBytes
 pub mod GivenEnds
 pub mod GivenItems
+pub mod GivenKinds
 pub mod GivenParts
 pub mod HeadComplaints
 pub mod KeyOrder
 pub mod KeysGiven
 pub mod KeysKept
+pub mod OtherKeys
 pub mod PathForm
+pub mod PathKinds
 pub mod PathLevels
 pub mod PathSteps
 pub mod PathStops

@@ -29,7 +29,7 @@ before_frame (a_value w left done k) = ap (λ (n : ℕ). map_bytes w (entries_co
 before_frame (tagged w n) = refl
 
 module _ (r : Rules) (at d : ℕ) where
-  frame_fits : (l : Level) → IsClean r at d l → IsFrame (frame_of l)
+  pub frame_fits : (l : Level) → IsClean r at d l → IsFrame (frame_of l)
   frame_fits (a_member w left done) h = (subst (λ (n : ℕ). HoldsOrIndefinite w (spellings_count done + suc n)) (sym (zeros_count left)) h.holds, h.spelled, zeros_spelled left)
   frame_fits (a_key w left done) h =
       let z : 0 < 24 = omega arith in
@@ -37,7 +37,7 @@ module _ (r : Rules) (at d : ℕ) where
   frame_fits (a_value w left done k) h = (subst (λ (n : ℕ). HoldsOrIndefinite w (entries_count done + suc n)) (sym (pairs_count left)) h.so_far.holds, h.so_far.spelled, h.spelled, pairs_spelled left)
   frame_fits (tagged w n) h = h.0
 
-  frame_flat : (l : Level) → IsClean r at d l → depth_beside (frame_of l) ≤ d
+  pub frame_flat : (l : Level) → IsClean r at d l → depth_beside (frame_of l) ≤ d
   frame_flat (a_member w left done) h = let low = h.within in omega (arith, low, zeros_flat left)
   frame_flat (a_key w left done) h = let low = h.within in omega (arith, low, pairs_flat left)
   frame_flat (a_value w left done k) h =

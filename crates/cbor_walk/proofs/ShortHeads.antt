@@ -30,7 +30,7 @@ rest-is first behind hs rest e l =
 
 -- ---- the shortest width
 
-direct-is : (n : ℕ) → n < 24 → shortest n ≡ Direct
+pub direct-is : (n : ℕ) → n < 24 → shortest n ≡ Direct
 direct-is n h = grind (arith, nat_tests)
 
 one-is : (n : ℕ) → 24 ≤ n → n < 256 → shortest n ≡ One
@@ -127,26 +127,26 @@ module _ (o : KeyOrder) (d : ℕ) where
   pub an-unsigned : (low : ℕ) (behind rest : List ℕ) (n : ℕ) → IsShortest low behind n rest → IsItemThen o d (low ∷ behind) rest
   an-unsigned low behind rest n s = record {
     item = unsigned (shortest n) n;
-    fine = record { spelled = Holds-shortest n s.range; within = omega arith; clean = λ at c x. x.1 refl };
+    fine = record { spelled = Holds-shortest n s.range; within = omega arith; clean = λ at c x. x.1 refl; keyless = λ at c x. x };
     bytes = let e : low ≡ 0 + low = omega arith in ap (λ (j : ℕ). j ∷ behind) e ∙ s.spelled 0;
   }
 
   pub a-negative : (low : ℕ) (behind rest : List ℕ) (n : ℕ) → IsShortest low behind n rest → IsItemThen o d ((32 + low) ∷ behind) rest
   a-negative low behind rest n s = record {
     item = negative (shortest n) n;
-    fine = record { spelled = Holds-shortest n s.range; within = omega arith; clean = λ at c x. x.1 refl };
+    fine = record { spelled = Holds-shortest n s.range; within = omega arith; clean = λ at c x. x.1 refl; keyless = λ at c x. x };
     bytes = s.spelled 32;
   }
 
   pub a-simple : (low : ℕ) (behind rest : List ℕ) (n : ℕ) → IsShortest low behind n rest → IsSimple n → IsItemThen o d ((224 + low) ∷ behind) rest
-  a-simple low behind rest n s i = record { item = simple n; fine = record { spelled = i; within = omega arith; clean = λ at c x. x }; bytes = s.spelled 224 }
+  a-simple low behind rest n s i = record { item = simple n; fine = record { spelled = i; within = omega arith; clean = λ at c x. x; keyless = λ at c x. x }; bytes = s.spelled 224 }
 
   pub some-bytes : (low : ℕ) (behind p rest : List ℕ) (n : ℕ) → IsShortest low behind n (p ++ rest) → n ≡ length p → AreBytes p → IsItemThen o d ((64 + low) ∷ behind) rest
   some-bytes low behind p rest n s e b =
       let range = s.range in
       record {
         item = bytes (shortest (length p)) p;
-        fine = record { spelled = (Holds-shortest (length p) (omega (arith, range, e)), b); within = omega arith; clean = λ at c x. x.1 refl };
+        fine = record { spelled = (Holds-shortest (length p) (omega (arith, range, e)), b); within = omega arith; clean = λ at c x. x.1 refl; keyless = λ at c x. x };
         bytes = s.spelled 64 ∙ sym (append_assoc (head Bytes (shortest n) n) p rest) ∙ ap (λ k. (head Bytes (shortest k) k ++ p) ++ rest) e;
       }
 
@@ -155,20 +155,20 @@ module _ (o : KeyOrder) (d : ℕ) where
       let range = s.range in
       record {
         item = text (shortest (length p)) p;
-        fine = record { spelled = (Holds-shortest (length p) (omega (arith, range, e)), b); within = omega arith; clean = λ at c x. elim x [ inl y ↦ y.1 refl | inr y ↦ y.1 u ] };
+        fine = record { spelled = (Holds-shortest (length p) (omega (arith, range, e)), b); within = omega arith; clean = λ at c x. elim x [ inl y ↦ y.1 refl | inr y ↦ y.1 u ]; keyless = λ at c x. x };
         bytes = s.spelled 96 ∙ sym (append_assoc (head Text (shortest n) n) p rest) ∙ ap (λ k. (head Text (shortest k) k ++ p) ++ rest) e;
       }
 
   pub no-array : (behind : List ℕ) → 0 < d → IsItemThen o d (128 ∷ behind) behind
   no-array behind l = record {
     item = array Direct no_spellings;
-    fine = record { spelled = (omega arith, tt); within = omega (arith, l); clean = λ at c x. elim x [ inl y ↦ y.1 refl | inr y ↦ y ] };
+    fine = record { spelled = (omega arith, tt); within = omega (arith, l); clean = λ at c x. elim x [ inl y ↦ y.1 refl | inr y ↦ y ]; keyless = λ at c x. x };
     bytes = refl;
   }
 
   pub no-map : (behind : List ℕ) → 0 < d → IsItemThen o d (160 ∷ behind) behind
   no-map behind l = record {
     item = a_map Direct no_entries;
-    fine = record { spelled = (omega arith, tt); within = omega (arith, l); clean = λ at c x. elim x [ inl y ↦ y.1 refl | inr y ↦ y ] };
+    fine = record { spelled = (omega arith, tt); within = omega (arith, l); clean = λ at c x. elim x [ inl y ↦ y.1 refl | inr y ↦ y ]; keyless = λ at c x. x };
     bytes = refl;
   }

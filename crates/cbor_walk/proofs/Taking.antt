@@ -1,30 +1,38 @@
 -- What is taken where an item is due, in the cells.
-use Rattle.std.proofs.Common.{◌≡◌, ◌≢◌, ℕ, suc, ◌+◌, ◌-◌, ◌<◌, ◌≤◌, Bool, true, List, [], ◌∷◌, ◌++◌, length, take, drop, refl, sym, ap, ◌∙◌, subst, inl, inr, arith, append_assoc, append-nil, length-drop}
+use Rattle.std.proofs.Common.{◌≡◌, ◌≢◌, ℕ, suc, ◌+◌, ◌-◌, ◌<◌, ◌≤◌, Bool, true, nat_lt, List, [], ◌∷◌, ◌++◌, length, take, drop, refl, sym, ap, ◌∙◌, subst, inl, inr, arith, append_assoc, append-nil, length-drop}
 use Rattle.std.specs.Prelude.{reverse, slice_range}
 use Rattle.std.proofs.Math.Seq.{drop-append_seam, take-length}
+use Rattle.std.proofs.lemmas.Bool.{ltb-true, ltb-false}
 use Rattle.std.proofs.lemmas.List.{length-append, length-reverse, length-take-le}
 use Rattle.cbor_head.specs.Complaint.{strict, OfCount}
 use Rattle.cbor_head.specs.Head.{Holds, head, shortest, shortest_head}
+use Rattle.cbor_head.specs.Limits.{Bounds}
 use Rattle.cbor_head.specs.Spelling.{spell, no_spellings, no_entries, HoldsOrIndefinite}
 use Rattle.cbor_head.specs.declared.major.Major.{Major}
 use Rattle.cbor_head.specs.declared.major.Major.TheVariants.{Array, Map, Tag}
 use Rattle.cbor_head.specs.declared.order.KeyOrder.{KeyOrder}
 use Rattle.cbor_head.specs.declared.width.Width.{Width}
 use Rattle.cbor_head.specs.declared.width.Width.TheVariants.{Direct, One, Two, Four, Eight, Indefinite}
+use Rattle.cbor_automaton.proofs.Taking.{IsNumbered}
 use Rattle.cbor_keys.specs.Front.{front_of}
 use Rattle.cbor_canonical.proofs.Normal.{Holds-shortest}
 use Rattle.cbor_walk.specs.inner.Leaves.{IsLeaf, IsShortestHead}
-use Rattle.cbor_judging.proofs.Heads.{open_or}
+use Rattle.cbor_judging.proofs.Heads.{open_or, takes}
+use Rattle.cbor_judging.proofs.KindBytes.{head_is_one}
 use Rattle.cbor_judging.specs.Judged.{Never}
+use Rattle.cbor_judging.specs.Kinds.{KeepsToKinds}
 use Rattle.cbor_walk.specs.inner.Path as path
-use Rattle.cbor_walk.specs.inner.Path.{a_member, a_key, tagged, level_bytes, bytes_before}
+use Rattle.cbor_walk.specs.inner.Kept.{IsFit, KeepsHere}
+use Rattle.cbor_walk.specs.inner.Path.{a_member, a_key, a_value, tagged, level_bytes, bytes_before, IsKeyDueIn}
 use Rattle.cbor_walk.specs.inner.Cells.{a_level, AreCells, StandsAt, HasEndedAt}
 use Rattle.cbor_walk.specs.inner.Stack.{standing}
-use Rattle.cbor_walk.specs.inner.Items.{IsOpener, OpensWith}
+use Rattle.cbor_walk.specs.inner.Items.{IsOpener, OpensWith, IsPlaceFor}
 use Rattle.cbor_walk.specs.declared.level.Due.{Due}
 use Rattle.cbor_walk.specs.declared.level.Due.TheVariants.{Item, Key, Value}
 use Rattle.cbor_walk.specs.declared.level.Level.{Level}
 use Rattle.cbor_walk.specs.declared.stack.Stack.{Stack}
+use Rattle.cbor_walk.proofs.CellSteps.{item_is_no_key, key_is_no_value}
+use Rattle.cbor_walk.proofs.PathKinds.{kept_front, head_begun, keeps_begun, keeps_item}
 
 -- ---- how many are open
 
@@ -37,6 +45,23 @@ cells_count input (l ∷ ls) (c ∷ cs) a = ap suc (cells_count input ls cs a.1)
 
 pub standing_count : (L : Type 0) (s : Stack L) (cells : List L) → s.height ≤ length cells → length (standing L s cells) ≡ suc s.height
 standing_count L s cells l = ap suc (length-reverse (take s.height cells) ∙ length-take-le s.height cells l)
+
+-- ---- a key is due
+
+due_key : (input : List ℕ) (ls : List path.Level) (c : Level) (cs : List Level) → AreCells input ls (c ∷ cs) → IsKeyDueIn ls → c.due ≡ Key
+due_key input (a_key w left done ∷ ls) c cs a h = a.0.1.due
+due_key input (a_member w left done ∷ ls) c cs a h = absurd h
+due_key input (a_value w left done k ∷ ls) c cs a h = absurd h
+due_key input (tagged w n ∷ ls) c cs a h = absurd h
+due_key input [] c cs a h = absurd h
+
+pub key_due : (input : List ℕ) (ls : List path.Level) (c : Level) (cs : List Level) → AreCells input ls (c ∷ cs) → c.due ≡ Key → IsKeyDueIn ls
+key_due input (a_key w left done ∷ ls) c cs a e = tt
+key_due input (a_member w left done ∷ ls) c cs a e = absurd (item_is_no_key c a.0.1 e)
+key_due input (a_value w left done k ∷ ls) c cs a e = absurd (key_is_no_value c e a.0.1.due)
+key_due input (tagged w n ∷ ls) c cs a e = absurd (item_is_no_key c a.0.0 e)
+key_due input [] c [] a e = absurd (item_is_no_key c a.0 e)
+key_due input [] c (x ∷ xs) a e = absurd a
 
 -- ---- heads in their shortest form
 
@@ -57,17 +82,17 @@ from_none left = omega arith
 no_bytes : (xs : List ℕ) (at : ℕ) → slice_range xs at at ≡ []
 no_bytes xs at = let e : at - at ≡ 0 = omega arith in ap (λ (n : ℕ). take n (drop at xs)) e
 
-module _ (o : KeyOrder) (d : ℕ) (input : List ℕ) (cs : List Level) (at : ℕ) (s : StandsAt o d input cs at) where
+module _ (o : KeyOrder) (limits : Bounds) (input : List ℕ) (cs : List Level) (at : ℕ) (s : StandsAt o limits input cs at) where
   pub rest_is : drop at input ≡ s.rest
   rest_is = ap (λ (n : ℕ). drop n input) s.here ∙ ap (drop (length (bytes_before s.ls))) s.bytes ∙ drop-append_seam (bytes_before s.ls) s.rest
 
   pub whole_is : input ≡ bytes_before s.ls ++ drop at input
   whole_is = s.bytes ∙ ap (λ (x : List ℕ). bytes_before s.ls ++ x) (sym rest_is)
 
-  pub leaf_ends : (room : Bool) (used : ℕ) → IsLeaf room (drop at input) used → (room ≡ true → length s.ls < d) → HasEndedAt o d input cs (at + used)
-  leaf_ends room used leaf fits =
+  pub leaf_ends : (room : Bool) (used : ℕ) → IsLeaf room (drop at input) used → (room ≡ true → length s.ls < limits.depth) → KeepsHere limits (strict o) s.ls (drop at input) → HasEndedAt o limits input cs (at + used)
+  leaf_ends room used leaf fits kept =
       let b = drop at input in
-      let i = leaf.item o (d - length s.ls) (λ e. let l : length s.ls < d = fits e in omega (arith, l)) in
+      let i = leaf.item o (limits.depth - length s.ls) (λ e. let l : length s.ls < limits.depth = fits e in omega (arith, l)) in
       let inside = leaf.inside in
       let here = s.here in
       let size : length (spell i.item) ≡ used = omega (arith, ap length i.bytes, length-append (spell i.item) (drop used b), length-drop used b, inside) in
@@ -75,6 +100,7 @@ module _ (o : KeyOrder) (d : ℕ) (input : List ℕ) (cs : List Level) (at : ℕ
         ls = s.ls;
         item = i.item;
         ended = record { around = s.clean; spelled = i.fine.spelled; within = i.fine.within; clean = i.fine.clean (length (bytes_before s.ls)) };
+        keeps = keeps_item limits (strict o) s.ls s.clean i.item i.fine.spelled i.fine.within i.fine.keyless (kept_front limits (strict o) s.ls (spell i.item) (drop used b) (subst (KeepsHere limits (strict o) s.ls) i.bytes kept));
         are = s.are;
         rest = drop used b;
         bytes = whole_is ∙ ap (λ (x : List ℕ). bytes_before s.ls ++ x) i.bytes ∙ sym (append_assoc (bytes_before s.ls) (spell i.item) (drop used b));
@@ -82,30 +108,34 @@ module _ (o : KeyOrder) (d : ℕ) (input : List ℕ) (cs : List Level) (at : ℕ
       }
 
   -- a container opens, whose head these bytes are
-  module _ (used : ℕ) (inside : used ≤ length (drop at input)) (room : length s.ls < d) where
-    opened : (l : path.Level) (c : Level) (hs : List ℕ) → drop at input ≡ hs ++ drop used (drop at input) → level_bytes l ≡ hs → path.IsClean (strict o) (length (bytes_before s.ls)) (d - suc (length s.ls)) l
-        → (at + used ≡ length (bytes_before (l ∷ s.ls)) → AreCells input (l ∷ s.ls) (c ∷ cs)) → StandsAt o d input (c ∷ cs) (at + used)
-    opened l c hs e is clean are =
+  module _ (used : ℕ) (inside : used ≤ length (drop at input)) (room : length s.ls < limits.depth) (kept : KeepsHere limits (strict o) s.ls (drop at input)) where
+    opened : (l : path.Level) (c : Level) (m : Major) (w : Width) (n : ℕ) → IsNumbered m → takes m ≤ limits.depth - length s.ls → Holds w n → drop at input ≡ head m w n ++ drop used (drop at input) → level_bytes l ≡ head m w n → path.IsClean (strict o) (length (bytes_before s.ls)) (limits.depth - suc (length s.ls)) l
+        → (at + used ≡ length (bytes_before (l ∷ s.ls)) → AreCells input (l ∷ s.ls) (c ∷ cs)) → StandsAt o limits input (c ∷ cs) (at + used)
+    opened l c m w n i deep holds e is clean are =
         let b = drop at input in
+        let hs = head m w n in
+        let fit = kept_front limits (strict o) s.ls hs (drop used b) (subst (KeepsHere limits (strict o) s.ls) e kept) in
         let before = s.here in
         let size : length hs ≡ used = omega (arith, ap length e, length-append hs (drop used b), length-drop used b, inside) in
         let here : at + used ≡ length (bytes_before (l ∷ s.ls)) = omega (arith, before, size, ap length is, length-append (bytes_before s.ls) (level_bytes l)) in
         record {
           ls = l ∷ s.ls;
           clean = (room, clean, s.clean);
+          keeps = subst (λ (x : List ℕ). KeepsToKinds limits (strict o) (bytes_before s.ls ++ x)) (sym is)
+              (keeps_begun limits (strict o) s.ls s.clean hs (head_begun (limits.depth - length s.ls) m w n i holds deep) (head_is_one m w n (open_or w n holds)) fit);
           are = are here;
           rest = drop used b;
           bytes = whole_is ∙ ap (λ (x : List ℕ). bytes_before s.ls ++ x) (e ∙ ap (λ (x : List ℕ). x ++ drop used b) (sym is)) ∙ sym (append_assoc (bytes_before s.ls) (level_bytes l) (drop used b));
           here = here;
         }
 
-    pub opener_opens : (due : Due) (left : ℕ) → IsOpener due left (drop at input) (drop used (drop at input)) → StandsAt o d input (a_level due left (at + used) ∷ cs) (at + used)
+    pub opener_opens : (due : Due) (left : ℕ) → IsOpener due left (drop at input) (drop used (drop at input)) → StandsAt o limits input (a_level due left (at + used) ∷ cs) (at + used)
     opener_opens Item left (inl h) =
         let n = suc left in
         let w = shortest n in
         let holds = Holds-shortest n h.0 in
         let from = from_none left in
-        opened (a_member w left no_spellings) (a_level Item left (at + used)) (head Array w n) h.1 (append-nil (head Array w (0 + suc left)) ∙ ap (head Array w) from)
+        opened (a_member w left no_spellings) (a_level Item left (at + used)) Array w n tt (omega (arith, room)) holds h.1 (append-nil (head Array w (0 + suc left)) ∙ ap (head Array w) from)
         (record {
           holds = subst (HoldsOrIndefinite w) (sym from) (open_or w n holds);
           spelled = tt;
@@ -116,7 +146,7 @@ module _ (o : KeyOrder) (d : ℕ) (input : List ℕ) (cs : List Level) (at : ℕ
         (λ here. ((definite w n holds, refl, refl), s.are))
     opener_opens Item left (inr (none, (n, range, e))) =
         let w = shortest n in
-        opened (tagged w n) (a_level Item left (at + used)) (head Tag w n) e refl (Holds-shortest n range, λ c x. x.1 refl) (λ here. ((refl, none), s.are))
+        opened (tagged w n) (a_level Item left (at + used)) Tag w n tt (omega (arith, room)) (Holds-shortest n range) e refl (Holds-shortest n range, λ c x. x.1 refl) (λ here. ((refl, none), s.are))
     opener_opens Key left h =
         let n = suc left in
         let w = shortest n in
@@ -124,7 +154,7 @@ module _ (o : KeyOrder) (d : ℕ) (input : List ℕ) (cs : List Level) (at : ℕ
         let from = from_none left in
         let l = a_key w left no_entries in
         let c = a_level Key left (at + used) in
-        opened l c (head Map w n) h.1 (append-nil (head Map w (0 + suc left)) ∙ ap (head Map w) from)
+        opened l c Map w n tt (omega (arith, room)) holds h.1 (append-nil (head Map w (0 + suc left)) ∙ ap (head Map w) from)
         (record {
           holds = subst (HoldsOrIndefinite w) (sym from) (open_or w n holds);
           spelled = tt;
@@ -139,8 +169,19 @@ module _ (o : KeyOrder) (d : ℕ) (input : List ℕ) (cs : List Level) (at : ℕ
     opener_opens Value left h = absurd h
 
 -- as many as the stack's height
-pub height_is : (o : KeyOrder) (d : ℕ) (input : List ℕ) (k : Stack Level) (cells : List Level) (at : ℕ) (s : StandsAt o d input (standing Level k cells) at) → k.height ≤ length cells → length s.ls ≡ k.height
-height_is o d input k cells at s l = omega (arith, cells_count input s.ls (standing Level k cells) s.are, standing_count Level k cells l)
+pub height_is : (o : KeyOrder) (limits : Bounds) (input : List ℕ) (k : Stack Level) (cells : List Level) (at : ℕ) (s : StandsAt o limits input (standing Level k cells) at) → k.height ≤ length cells → length s.ls ≡ k.height
+height_is o limits input k cells at s l = omega (arith, cells_count input s.ls (standing Level k cells) s.are, standing_count Level k cells l)
+
+-- they are there, and one more may open if there is room for it
+pub place_for : (o : KeyOrder) (limits : Bounds) (d : ℕ) (input : List ℕ) (k : Stack Level) (cells : List Level) (at : ℕ) (s : StandsAt o limits input (standing Level k cells) at) → k.height ≤ length cells → limits.depth ≡ d
+    → IsPlaceFor (nat_lt k.height d) limits.depth s.ls at
+place_for o limits d input k cells at s l e =
+    let height = height_is o limits input k cells at s l in
+    record { here = s.here; fits = λ r. omega (arith, ltb-true k.height d r, height, e); full = λ r. omega (arith, ltb-false k.height d r, height, e) }
+
+-- what is due is fit
+pub fit_here : (o : KeyOrder) (limits : Bounds) (input : List ℕ) (c : Level) (cs : List Level) (at : ℕ) (s : StandsAt o limits input (c ∷ cs) at) (rest : List ℕ) → IsFit limits c.due rest → KeepsHere limits (strict o) s.ls rest
+fit_here o limits input c cs at s rest fit = record { before = s.keeps; here = λ asked due. fit asked.1 (due_key input s.ls c cs s.are due) }
 
 -- the head of a tag
 pub tag_opens : (low size : ℕ) (behind : List ℕ) → IsShortestHead low behind size → OpensWith Item 0 size ((192 + low) ∷ behind)
@@ -155,7 +196,8 @@ tag_opens low size behind h =
     }
 
 -- the same levels in other cells
-pub in_more_cells : (o : KeyOrder) (d : ℕ) (input : List ℕ) (k : Stack Level) (few more : List Level) (at : ℕ) → StandsAt o d input (standing Level k few) at → k.height ≡ length few → take (length few) more ≡ few → StandsAt o d input (standing Level k more) at
-in_more_cells o d input k few more at s h e =
-    let same : take k.height few ≡ take k.height more = ap (λ (n : ℕ). take n few) h ∙ take-length few ∙ sym e ∙ ap (λ (n : ℕ). take n more) (sym h) in
-    subst (λ (x : List Level). StandsAt o d input (k.top ∷ reverse x) at) same s
+pub more_cells : (L : Type 0) (k : Stack L) (few more : List L) → k.height ≡ length few → take (length few) more ≡ few → standing L k few ≡ standing L k more
+more_cells L k few more h e = ap (λ (x : List L). k.top ∷ reverse x) (ap (λ (n : ℕ). take n few) h ∙ take-length few ∙ sym e ∙ ap (λ (n : ℕ). take n more) (sym h))
+
+pub in_more_cells : (o : KeyOrder) (limits : Bounds) (input : List ℕ) (k : Stack Level) (few more : List Level) (at : ℕ) → StandsAt o limits input (standing Level k few) at → k.height ≡ length few → take (length few) more ≡ few → StandsAt o limits input (standing Level k more) at
+in_more_cells o limits input k few more at s h e = subst (λ (x : List Level). StandsAt o limits input x at) (more_cells Level k few more h e) s

@@ -3,7 +3,7 @@ use Rattle.std.specs.Prelude.{ℕ, ◌≡◌, Bool, List, [], ◌∷◌}
 use Rattle.cbor_head.specs.Canonical.{canonical}
 use Rattle.cbor_head.specs.Spelling.{value_of}
 use Rattle.cbor_builder.specs.Built.{Built}
-use Rattle.cbor_builder.specs.Parts as parts
+use Rattle.cbor_canonical.specs.Parts as parts
 use Rattle.cbor_judging.specs.Given.{opens, IsFull}
 use Rattle.cbor_judging.specs.Levels.{Level, Standing, item_due, item_full, item_whole}
 use Rattle.cbor_judging.specs.Reading.{string_major}

@@ -2,6 +2,7 @@
 pub mod Building
 pub mod Cells
 pub mod Items
+pub mod Kept
 pub mod Leaves
 pub mod Path
 pub mod Stack

@@ -65,8 +65,8 @@ fn refused(reason: Reason, place: usize, read: usize) -> Any
     Any::Refused(Refusal::new(reason, place as u64, read as u64))
 }
 
-// Why no item may have this first byte there.
-fn misplaced(first: u8, room: bool) -> Option<Reason>
+/// Why no item may have this first byte there.
+pub(crate) fn misplaced(first: u8, room: bool) -> Option<Reason>
     ensures { MatchOption result (IsPlaced first room) (IsMisplaced first room) }
 {
     let low = first % 32;

@@ -2,9 +2,10 @@
 
 ghost use Rattle.std.specs.Prelude.{◌≡◌, ◌≤◌, length};
 ghost use Rattle.cbor_walk.specs.inner.Building.{IsDueIn, HasEndedIn, HasFilledIn};
-ghost use Rattle.cbor_walk.specs.inner.Building.{Leads, LeadsFull, Walks, IsFullAt};
+ghost use Rattle.cbor_walk.specs.inner.Building.{Leads, LeadsFull, Walks, WalksKept, IsFullAt};
 ghost use Rattle.cbor_walk.specs.inner.Stack.{around, standing};
 
+use crate::kinds::is_other_key;
 use crate::open::Open;
 use crate::part::Part;
 use crate::sink::Sink;
@@ -40,8 +41,14 @@ pub(crate) enum Met<'a> {
 }
 
 impl<S> Building<S> {
-    /// Goes over the item, from where another is due to its end.
-    pub(crate) fn walk<'a>(&mut self, start: &'a [u8], cells: &mut [Open], depth: usize) -> Met<'a>
+    /// Goes over the item, from where another is due to its end. Where kinds of keys are asked for,
+    /// it stops at a key of another kind.
+    pub(crate) fn walk<'a, const KINDS: bool>(
+        &mut self,
+        start: &'a [u8],
+        cells: &mut [Open],
+        depth: usize,
+    ) -> Met<'a>
     where
         S: Sink<'a>,
         requires cells { self.old.stack.height ≤ length cells.old }
@@ -50,9 +57,14 @@ impl<S> Building<S> {
         ensures walked { Walks S S.stands result depth start.now (standing Open self.old.stack cells.old)
             self.old.sink (standing Open self.new.stack cells.new) self.new.sink }
         ensures full { IsFullAt result self.new.stack.height (length cells.new) }
+        ensures kept { WalksKept S S.stands KINDS result depth start.now
+            (standing Open self.old.stack cells.old) self.old.sink }
     {
         let mut rest = start;
         'parts: loop {
+            if is_other_key::<KINDS>(self.stack.top.due, rest) {
+                return Met::Stopped;
+            }
             match self.take_part(rest, cells, depth) {
                 Part::Head(behind) => rest = behind,
                 Part::Item(behind) => {

@@ -1,10 +1,11 @@
 //! The canonical item at the front of a slice.
 
-ghost use Rattle.std.specs.Prelude.{◌≤◌, IfOk, IfErr, MatchResult, length};
+ghost use Rattle.std.specs.Prelude.{◌≡◌, ◌≤◌, IfOk, IfErr, MatchResult, length};
 ghost use Rattle.cbor_head.specs.Complaint.{strict};
 ghost use Rattle.cbor_head.specs.Verdict.{IsVerdict, refused};
 ghost use Rattle.cbor_judging.specs.Readers.{IsRead};
 ghost use Rattle.cbor_walk.specs.inner.Cells.{IsWhole};
+ghost use Rattle.cbor_walk.specs.inner.Kept.{asks};
 ghost use Rattle.cbor_walk.specs.inner.Stop.{IsStopped, IsAnswered};
 ghost use Rattle.cbor_walk.specs.inner.Walked.{IsFull};
 
@@ -12,7 +13,7 @@ use crate::level::{Due, Level};
 use crate::stack::{FEW, Stack, spread};
 use crate::walk::{Walked, walk};
 use crate::within::within;
-use cbor_head::{KeyOrder, Limits, Reason, Refusal};
+use cbor_head::{KeyOrder, Keys, Limits, Reason, Refusal};
 
 /// How many bytes the item has that the slice begins with, where they are its canonical bytes in
 /// this order (RFC 8949, sections 4.2.1 and 4.2.3); else the refusal that the bytes within the
@@ -25,7 +26,11 @@ pub fn canonical_front(bytes: &[u8], limits: Limits, order: KeyOrder) -> Result<
         (λ f. IsVerdict limits (strict order) bytes.now (refused f)) }
 {
     let input = within(bytes, limits.bytes());
-    match whole_front(input, usize::from(limits.depth()), order) {
+    let front = match limits.keys() {
+        Keys::Any => whole_front::<false>(input, limits, order),
+        Keys::IntegersAndTexts => whole_front::<true>(input, limits, order),
+    };
+    match front {
         Ok(count) => Ok(count as u64),
         Err(refusal) => Err(at_the_limit(refusal, input, limits.bytes())),
     }
@@ -44,40 +49,44 @@ fn at_the_limit(refusal: Refusal, input: &[u8], limit: u64) -> Refusal
 }
 
 // The same of all of an input, at whose end an item is `Truncated`.
-fn whole_front(input: &[u8], depth: usize, order: KeyOrder) -> Result<usize, Refusal>
-    requires { depth ≤ 256 }
-    ensures whole { IfOk result (IsWhole order depth input.now) }
-    ensures refused { IfErr result (IsStopped (strict order) depth input.now) }
+fn whole_front<const KINDS: bool>(
+    input: &[u8],
+    limits: Limits,
+    order: KeyOrder,
+) -> Result<usize, Refusal>
+    requires { asks limits.keys ≡ KINDS }
+    ensures whole { IfOk result (IsWhole order limits input.now) }
+    ensures refused { IfErr result (IsStopped (strict order) limits input.now) }
 {
     let level = Level::new(Due::Item, 0, 0);
     let mut cells = [level; FEW];
     let mut stack = Stack::new(level);
-    match walk(input, 0, &mut cells, &mut stack, depth, order) {
+    match walk::<KINDS>(input, 0, &mut cells, &mut stack, limits, order) {
         Walked::Whole(at) => Ok(at),
         Walked::Refused(refusal) => Err(refusal),
-        Walked::Full(at) => deeper(input, at, &cells, stack, depth, order),
+        Walked::Full(at) => deeper::<KINDS>(input, at, &cells, stack, limits, order),
     }
 }
 
 // The same, from the place where the cells are too few.
 #[inline(never)]
-fn deeper(
+fn deeper<const KINDS: bool>(
     input: &[u8],
     at: usize,
     few: &[Level],
     stack: Stack<Level>,
-    depth: usize,
+    limits: Limits,
     order: KeyOrder,
 ) -> Result<usize, Refusal>
-    requires depth { depth ≤ 256 }
-    requires full { IsFull order depth input.now stack few.now at }
+    requires kinds { asks limits.keys ≡ KINDS }
+    requires full { IsFull order limits input.now stack few.now at }
     requires few { length few.now ≤ 256 }
-    ensures whole { IfOk result (IsWhole order depth input.now) }
-    ensures refused { IfErr result (IsStopped (strict order) depth input.now) }
+    ensures whole { IfOk result (IsWhole order limits input.now) }
+    ensures refused { IfErr result (IsStopped (strict order) limits input.now) }
 {
     let mut cells = spread(few, Level::new(Due::Item, 0, 0));
     let mut stack = stack;
-    match walk(input, at, &mut cells, &mut stack, depth, order) {
+    match walk::<KINDS>(input, at, &mut cells, &mut stack, limits, order) {
         Walked::Whole(at) => Ok(at),
         Walked::Refused(refusal) => Err(refusal),
         Walked::Full(_) => unreachable!(),

@@ -4,6 +4,7 @@ ghost use Rattle.std.specs.Prelude.{◌≡◌, ◌∷◌, IfSome};
 ghost use Rattle.cbor_judging.specs.Reading.{string_major};
 ghost use Rattle.cbor_walk.specs.inner.Building.{IsItem, IsHead, IsHeadDue, TakesHead};
 ghost use Rattle.cbor_walk.specs.inner.Building.{IsDueFor, TakesItem, IsPayload, chunked_from};
+ghost use Rattle.cbor_walk.specs.inner.Building.{TakesScalar, TakesHeadFront};
 
 use crate::argument::{Argument, read_argument};
 use crate::building::Building;
@@ -27,6 +28,7 @@ impl<S> Building<S> {
             self.old.sink self.new.sink }
         ensures stack { self.new.stack ≡ self.old.stack }
         ensures kind { IsItem result }
+        ensures front { TakesHeadFront result (string_major is_text) count behind.now }
     {
         let Some(size) = payload_size(is_text, count, behind) else {
             return Part::Stopped;
@@ -46,6 +48,7 @@ impl<S> Building<S> {
             self.old.sink self.new.sink }
         ensures stack { self.new.stack ≡ self.old.stack }
         ensures kind { IsItem result }
+        ensures front { TakesScalar result (chunked_from is_text behind.now) }
     {
         let Ok(()) = self.sink.begin_string(is_text) else {
             return Part::Stopped;

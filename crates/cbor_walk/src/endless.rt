@@ -1,7 +1,8 @@
 //! What has no length: the openers of strings, arrays and maps, and the break that ends them.
 
-ghost use Rattle.std.specs.Prelude.{◌≡◌, ◌≤◌, ◌∷◌, length};
+ghost use Rattle.std.specs.Prelude.{◌≡◌, ◌≤◌, ◌-◌, ◌∷◌, ℕ, length};
 ghost use Rattle.cbor_walk.specs.inner.Building.{IsItem, IsDueIn, Takes, IsBreakDue, TakesBreak};
+ghost use Rattle.cbor_walk.specs.inner.Building.{TakesFront};
 ghost use Rattle.cbor_walk.specs.inner.Stack.{standing};
 
 use crate::building::Building;
@@ -32,6 +33,8 @@ impl<S> Building<S> {
             (standing Open self.old.stack cells.old) self.old.sink
             (standing Open self.new.stack cells.new) self.new.sink }
         ensures full { result ≡ Part.Full → self.new.stack.height ≡ length cells.new }
+        ensures front { TakesFront result (depth - self.old.stack.height) self.old.stack.top
+            (first ∷ behind.now) }
     {
         match first {
             0x5f => self.take_chunks(false, behind),
@@ -60,6 +63,7 @@ impl<S> Building<S> {
         ensures takes { TakesBreak S S.stands result behind.now (standing Open self.old.stack cells.now)
             self.old.sink (standing Open self.new.stack cells.now) self.new.sink }
         ensures kind { IsItem result }
+        ensures front { (d : ℕ) → TakesFront result d self.old.stack.top (0xff ∷ behind.now) }
     {
         if !self.stack.top.is_endless {
             return Part::Stopped;

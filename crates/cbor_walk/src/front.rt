@@ -1,11 +1,12 @@
 //! The valid item at the front of a slice.
 
-ghost use Rattle.std.specs.Prelude.{◌≡◌, ◌≤◌, [], ℕ, List, length, IfSome};
+ghost use Rattle.std.specs.Prelude.{◌≡◌, ◌≤◌, true, [], ℕ, List, length, IfSome};
+ghost use Rattle.cbor_head.specs.declared.keys.Keys.{Keys};
 ghost use Rattle.cbor_judging.specs.Levels.{item_due};
 ghost use Rattle.cbor_walk.specs.Front.{IsBuiltFront};
 ghost use Rattle.cbor_walk.specs.Sink.{IsGivenFront};
 ghost use Rattle.cbor_walk.specs.declared.level.Due.TheVariants as due;
-ghost use Rattle.cbor_walk.specs.inner.Building.{counted, IsDue, IsDueIn, IsBuilt};
+ghost use Rattle.cbor_walk.specs.inner.Building.{counted, IsDue, IsDueIn, IsBuilt, KeepsBefore};
 ghost use Rattle.cbor_walk.specs.inner.Stack.{standing};
 
 use crate::building::{Building, Met};
@@ -15,7 +16,7 @@ use crate::sink::Sink;
 use crate::stack::{FEW, Stack, spread};
 use crate::within::within;
 use cbor_builder::CanonBuilder;
-use cbor_head::{KeyOrder, Limits};
+use cbor_head::{KeyOrder, Keys, Limits};
 use std::alloc::Global;
 
 /// The canonical bytes of the item that a slice begins with, and how many bytes the item has.
@@ -56,14 +57,19 @@ pub fn give_front<'a, S: Sink<'a> + Drop>(
     let input = within(bytes, limits.bytes());
     let stack = Stack::new(Open::counted(Due::Item, 0));
     let mut building = Building { stack, sink };
-    let behind = past_item(&mut building, input, usize::from(limits.depth()))?;
+    let depth = usize::from(limits.depth());
+    let behind = match limits.keys() {
+        Keys::Any => past_item::<S, false>(&mut building, input, depth),
+        Keys::IntegersAndTexts => past_item::<S, true>(&mut building, input, depth),
+    }?;
     let size = (input.len() - behind.len()) as u64;
     let Building { stack: _, sink } = building;
     Some((sink, size))
 }
 
-// The bytes behind the item that these begin with.
-fn past_item<'a, S: Sink<'a>>(
+// The bytes behind the item that these begin with. Where kinds of keys are asked for, it has none of
+// another kind.
+fn past_item<'a, S: Sink<'a>, const KINDS: bool>(
     building: &mut Building<S>,
     input: &'a [u8],
     depth: usize,
@@ -71,20 +77,22 @@ fn past_item<'a, S: Sink<'a>>(
     requires none { building.old.stack.height ≡ 0 }
     requires top { building.old.stack.top ≡ counted due.Item 0 }
     requires fresh { S.stands building.old.sink building.old.sink (item_due []) }
-    ensures { IfSome result (λ behind.
+    ensures built { IfSome result (λ behind.
         IsBuilt S S.stands building.old.sink depth input.now building.new.sink behind.now) }
+    ensures kept { KINDS ≡ true → (keys : Keys)
+        → IfSome result (λ behind. KeepsBefore depth keys input.now behind.now) }
 {
     let mut cells = [Open::counted(Due::Item, 0); FEW];
-    match building.walk(input, &mut cells, depth) {
+    match building.walk::<KINDS>(input, &mut cells, depth) {
         Met::Whole(behind) => Some(behind),
-        Met::Full(rest) => deeper(building, rest, &cells, depth),
+        Met::Full(rest) => deeper::<S, KINDS>(building, rest, &cells, depth),
         Met::Stopped => None,
     }
 }
 
 // The same, from where the cells are too few.
 #[inline(never)]
-fn deeper<'a, S: Sink<'a>>(
+fn deeper<'a, S: Sink<'a>, const KINDS: bool>(
     building: &mut Building<S>,
     rest: &'a [u8],
     few: &[Open],
@@ -93,12 +101,16 @@ fn deeper<'a, S: Sink<'a>>(
     requires few { length few.now ≤ 256 }
     requires full { building.old.stack.height ≡ length few.now }
     requires due { IsDueIn S S.stands depth (standing Open building.old.stack few.now) building.old.sink rest.now }
-    ensures { (start : S) (input : List ℕ)
+    ensures built { (start : S) (input : List ℕ)
         → IsDue S S.stands start depth input (standing Open building.old.stack few.now) building.old.sink rest.now
         → IfSome result (λ behind. IsBuilt S S.stands start depth input building.new.sink behind.now) }
+    ensures kept { KINDS ≡ true → (keys : Keys) (start : S) (input : List ℕ)
+        → IsDue S S.stands start depth input (standing Open building.old.stack few.now) building.old.sink rest.now
+        → KeepsBefore depth keys input rest.now
+        → IfSome result (λ behind. KeepsBefore depth keys input behind.now) }
 {
     let mut cells = spread(few, Open::counted(Due::Item, 0));
-    match building.walk(rest, &mut cells, depth) {
+    match building.walk::<KINDS>(rest, &mut cells, depth) {
         Met::Whole(behind) => Some(behind),
         _ => None,
     }

@@ -19,6 +19,7 @@ mod endless;
 mod fast;
 mod front;
 mod key_bytes;
+mod kinds;
 mod level;
 mod open;
 mod part;

@@ -1,10 +1,11 @@
 //! The next part of a valid item: an item without members, the head of a container, or a break.
 
-ghost use Rattle.std.specs.Prelude.{◌≡◌, ◌≤◌, length};
+ghost use Rattle.std.specs.Prelude.{◌≡◌, ◌≤◌, ◌-◌, length};
 ghost use Rattle.cbor_builder.specs.Built.{IsLeaf, IsContainer};
 ghost use Rattle.cbor_walk.specs.inner.Building.{IsDueIn, Takes, IsHeadDue, IsHeadIn, TakesHead};
 ghost use Rattle.cbor_walk.specs.inner.Building.{IsOpenerDue, TakesOpener, TakesCounted};
-ghost use Rattle.cbor_walk.specs.inner.Building.{IsItem, IsToEndFor, EndsItem, Counts};
+ghost use Rattle.cbor_walk.specs.inner.Building.{IsItem, IsToEndFor, EndsItem, EndsBefore, Counts};
+ghost use Rattle.cbor_walk.specs.inner.Building.{TakesFront, TakesHeadFront, TakesCountedFront, TakesOpenerFront};
 ghost use Rattle.cbor_walk.specs.inner.Stack.{standing};
 
 use crate::argument::read_argument;
@@ -44,6 +45,7 @@ impl<S> Building<S> {
         ensures takes { Takes S S.stands result depth rest.now (standing Open self.old.stack cells.old)
             self.old.sink (standing Open self.new.stack cells.new) self.new.sink }
         ensures full { result ≡ Part.Full → self.new.stack.height ≡ length cells.new }
+        ensures front { TakesFront result (depth - self.old.stack.height) self.old.stack.top rest.now }
     {
         let Some((first, behind)) = rest.split_first() else {
             return Part::Stopped;
@@ -86,6 +88,7 @@ impl<S> Building<S> {
         ensures takes { TakesHead S S.stands result major number behind.now self.old.sink self.new.sink }
         ensures stack { self.new.stack ≡ self.old.stack }
         ensures kind { IsItem result }
+        ensures front { TakesHeadFront result major number behind.now }
     {
         match self.sink.leaf(major, number) {
             Ok(()) => Part::Item(behind),
@@ -115,6 +118,7 @@ impl<S> Building<S> {
             (standing Open self.old.stack cells.old) self.old.sink
             (standing Open self.new.stack cells.new) self.new.sink }
         ensures full { result ≡ Part.Full → self.new.stack.height ≡ length cells.new }
+        ensures front { TakesCountedFront result (depth - self.old.stack.height) major number behind.now }
     {
         if number > 0 {
             let opened = Open::counted(due, number - 1);
@@ -150,6 +154,7 @@ impl<S> Building<S> {
             (standing Open self.old.stack cells.old) self.old.sink
             (standing Open self.new.stack cells.new) self.new.sink }
         ensures full { result ≡ Part.Full → self.new.stack.height ≡ length cells.new }
+        ensures front { TakesOpenerFront result (depth - self.old.stack.height) major number opened behind.now }
     {
         if self.stack.height >= depth {
             return Part::Stopped;
@@ -173,6 +178,7 @@ impl<S> Building<S> {
         ensures ends { EndsItem S S.stands result behind.now self.old.sink self.new.sink }
         ensures stack { self.new.stack ≡ self.old.stack }
         ensures kind { IsItem result }
+        ensures before { EndsBefore result behind.now }
     {
         match self.sink.end() {
             Ok(true) => Part::Item(behind),

@@ -1,14 +1,17 @@
 //! The walk.
 
-ghost use Rattle.std.specs.Prelude.{◌≤◌, ◌<◌, ◌+◌, ◌^◌, length};
+ghost use Rattle.std.specs.Prelude.{◌≡◌, ◌≤◌, ◌<◌, ◌+◌, ◌^◌, length};
 ghost use Rattle.cbor_walk.specs.inner.Cells.{StandsAt};
+ghost use Rattle.cbor_walk.specs.inner.Kept.{asks};
 ghost use Rattle.cbor_walk.specs.inner.Stack.{standing};
 ghost use Rattle.cbor_walk.specs.inner.Walked.{IsWalked};
 
+use crate::any_item::misplaced;
+use crate::kinds::is_other_key;
 use crate::level::{Level, Next};
 use crate::stack::Stack;
 use crate::take::{Taken, take_next};
-use cbor_head::{KeyOrder, Reason, Refusal};
+use cbor_head::{KeyOrder, Limits, Reason, Refusal};
 
 /// How a walk ends.
 #[derive(Clone, Copy)]
@@ -21,24 +24,32 @@ pub(crate) enum Walked {
     Full(usize),
 }
 
-/// Goes over the item, from the place where another is due in the open containers to its end.
-pub(crate) fn walk(
+/// Goes over the item, from the place where another is due in the open containers to its end. Where
+/// the limits ask for kinds of keys, it looks at the first byte of each.
+pub(crate) fn walk<const KINDS: bool>(
     input: &[u8],
     start: usize,
     cells: &mut [Level],
     stack: &mut Stack<Level>,
-    depth: usize,
+    limits: Limits,
     order: KeyOrder,
 ) -> Walked
+    requires kinds { asks limits.keys ≡ KINDS }
     requires start { start ≤ length input.now }
     requires cells { stack.old.height ≤ length cells.old }
-    requires depth { stack.old.height ≤ depth }
-    ensures { StandsAt order depth input.now (standing Level stack.old cells.old) start
-        → IsWalked order depth input.now stack.new cells.new result }
+    requires depth { stack.old.height ≤ limits.depth }
+    ensures { StandsAt order limits input.now (standing Level stack.old cells.old) start
+        → IsWalked order limits input.now stack.new cells.new result }
 {
+    let depth = usize::from(limits.depth());
     let mut at = start;
     'items: loop {
-        match take_next(&input[at..], at, cells, stack, depth) {
+        let rest = &input[at..];
+        if is_other_key::<KINDS>(stack.top.due, rest) {
+            let reason = misplaced(rest[0], stack.height < depth).unwrap_or(Reason::KeyKind);
+            return Walked::Refused(Refusal::new(reason, at as u64, at as u64 + 1));
+        }
+        match take_next(rest, at, cells, stack, depth) {
             Taken::Head(used) => at += used,
             Taken::Item(used) => {
                 at += used;

@@ -160,6 +160,16 @@ fn is_line(bytes: &[u8], line: &str) -> bool {
     }
 }
 
+// The first three columns of a row, which stand between bars; a fourth says to the reader what the
+// bytes are. (A table is one text: each element of an array would be a value of its own to each proof
+// of a function that names the array.)
+fn columns(row: &str) -> Option<(&str, &str, &str)> {
+    let (first, rest) = row.split_once(" | ")?;
+    let (second, rest) = rest.split_once(" | ")?;
+    let third = rest.split_once(" | ").map_or(rest, |(third, _)| third);
+    Some((first, second, third))
+}
+
 // The words of a line, behind the program's name.
 fn words(alloc: Global, line: &str) -> Result<Vec<String>, AllocError> {
     let mut words = Vec::new(alloc);

@@ -5,17 +5,17 @@ use Rattle.std.specs.Borrow.{Bor}
 use Rattle.std.specs.Io.KnownBytes.{Keeps}
 use Rattle.cbor_head.specs.declared.order.KeyOrder.{KeyOrder}
 use Rattle.cborc_commands.specs.Answer.{IsDone, IsNotDone}
-use Rattle.cborc_commands.specs.Fault.{end_status, status_number}
+use Rattle.cborc_input.specs.Fault.{end_status, status_number}
 use Rattle.cborc_files.specs.Folder.{Files, KeepsFiles}
 use Rattle.cborc_commands.specs.Told.{IsSilent, IsStatus, IsAnswered, done, stopped, IsAnsweredQuietly, IsToldBy}
-use Rattle.cborc_commands.specs.declared.request.Manner.{Manner}
-use Rattle.cborc_commands.specs.declared.request.Options.{Options}
-use Rattle.cborc_commands.specs.declared.request.Output.{Output}
-use Rattle.cborc_commands.specs.declared.request.Request.{Request}
-use Rattle.cborc_commands.specs.declared.request.Request.TheVariants.{Check, CheckSequence, Canon, CanonSequence, Compare, Show, ShowSequence, Events, EventsSequence}
-use Rattle.cborc_commands.specs.declared.fault.Fault.{Fault}
-use Rattle.cborc_commands.specs.declared.fault.Fault.TheVariants as faults
-use Rattle.cborc_commands.specs.declared.status.Status.{Status}
+use Rattle.cborc_input.specs.declared.request.Manner.{Manner}
+use Rattle.cborc_input.specs.declared.request.Options.{Options}
+use Rattle.cborc_input.specs.declared.request.Output.{Output}
+use Rattle.cborc_input.specs.declared.request.Request.{Request}
+use Rattle.cborc_input.specs.declared.request.Request.TheVariants.{Check, CheckSequence, Canon, CanonSequence, Compare, Show, ShowSequence, Events, EventsSequence}
+use Rattle.cborc_input.specs.declared.fault.Fault.{Fault}
+use Rattle.cborc_input.specs.declared.fault.Fault.TheVariants as faults
+use Rattle.cborc_input.specs.declared.status.Status.{Status}
 use Rattle.cborc_commands.proofs.Sent.{done_sent, not_done_sent, silent_sent}
 
 -- the end, once standard output sent on what it took, or did not

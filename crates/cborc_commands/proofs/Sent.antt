@@ -8,24 +8,24 @@ use Rattle.cbor_head.specs.Spelling.{Spelling}
 use Rattle.cbor_head.specs.declared.order.KeyOrder.{KeyOrder}
 use Rattle.cbor_head.specs.declared.reason.Refusal.{Refusal}
 use Rattle.cborc_commands.specs.Answer.{IsDone, IsNotDone}
-use Rattle.cborc_commands.specs.Canon.{IsPut, printed, written}
-use Rattle.cborc_commands.specs.CanonSequence.{IsSent, passed, apart, IsSequenceNotCanonised}
-use Rattle.cborc_commands.specs.Compare.{IsTold}
-use Rattle.cborc_commands.specs.Events.{IsNotListed, IsNotListedOf}
-use Rattle.cborc_commands.specs.EventsSequence.{IsListedSoFar, items_listed, front_listed, IsSequenceNotListed}
+use Rattle.cborc_input.specs.Put.{IsPut, printed, written}
+use Rattle.cborc_sequences.specs.CanonSequence.{IsSent, passed, apart, IsSequenceNotCanonised}
+use Rattle.cborc_items.specs.Compare.{IsTold}
+use Rattle.cborc_items.specs.Events.{IsNotListed, IsNotListedOf}
+use Rattle.cborc_sequences.specs.EventsSequence.{IsListedSoFar, items_listed, front_listed, IsSequenceNotListed}
 use Rattle.cborc_files.specs.Folder.{Files}
-use Rattle.cborc_commands.specs.Sequences.{IsCutIn, IsTakenSoFar, of_items, of_cut}
-use Rattle.cborc_commands.specs.ShowSequence.{IsSequenceNotShown}
+use Rattle.cborc_input.specs.Sequences.{IsCutIn, IsTakenSoFar, of_items, of_cut}
+use Rattle.cborc_sequences.specs.ShowSequence.{IsSequenceNotShown}
 use Rattle.cborc_commands.specs.Told.{IsSilent}
-use Rattle.cborc_commands.specs.declared.request.Layout.{Layout}
-use Rattle.cborc_commands.specs.declared.request.Options.{Options}
-use Rattle.cborc_commands.specs.declared.request.Output.{Output}
-use Rattle.cborc_commands.specs.declared.request.Request.{Request}
-use Rattle.cborc_commands.specs.declared.request.Request.TheVariants.{Check, CheckSequence, Canon, CanonSequence, Compare, Show, ShowSequence, Events, EventsSequence}
-use Rattle.cborc_commands.specs.declared.fault.Fault.{Fault}
-use Rattle.cborc_commands.specs.declared.fault.Fault.TheVariants as faults
-use Rattle.cborc_commands.specs.declared.status.Status.{Status}
-use Rattle.cborc_commands.specs.declared.status.Status.TheVariants as statuses
+use Rattle.cborc_input.specs.declared.request.Layout.{Layout}
+use Rattle.cborc_input.specs.declared.request.Options.{Options}
+use Rattle.cborc_input.specs.declared.request.Output.{Output}
+use Rattle.cborc_input.specs.declared.request.Request.{Request}
+use Rattle.cborc_input.specs.declared.request.Request.TheVariants.{Check, CheckSequence, Canon, CanonSequence, Compare, Show, ShowSequence, Events, EventsSequence}
+use Rattle.cborc_input.specs.declared.fault.Fault.{Fault}
+use Rattle.cborc_input.specs.declared.fault.Fault.TheVariants as faults
+use Rattle.cborc_input.specs.declared.status.Status.{Status}
+use Rattle.cborc_input.specs.declared.status.Status.TheVariants as statuses
 
 pub appends_kept : (a b c : Option (List ℕ)) (bs : List ℕ) → Appends a b bs → Keeps b c → Appends a c bs
 appends_kept None b c bs h k = tt

@@ -1,20 +1,21 @@
 -- What comes of a request.
 use Rattle.std.specs.Prelude.{ℕ, List, Option}
-use Rattle.cborc_commands.specs.Canon.{IsCanonised, IsNotCanonised}
-use Rattle.cborc_commands.specs.CanonSequence.{IsSequenceCanonised, IsSequenceNotCanonised}
-use Rattle.cborc_commands.specs.Check.{rules_of, IsChecked, IsNotChecked}
-use Rattle.cborc_commands.specs.CheckSequence.{IsSequenceChecked, IsSequenceNotChecked}
-use Rattle.cborc_commands.specs.Compare.{AreCompared, AreNotCompared}
-use Rattle.cborc_commands.specs.Events.{IsListedOf, IsNotListedOf}
-use Rattle.cborc_commands.specs.EventsSequence.{IsSequenceListed, IsSequenceNotListed}
+use Rattle.cborc_items.specs.Canon.{IsCanonised, IsNotCanonised}
+use Rattle.cborc_sequences.specs.CanonSequence.{IsSequenceCanonised, IsSequenceNotCanonised}
+use Rattle.cborc_input.specs.Rules.{rules_of}
+use Rattle.cborc_items.specs.Check.{IsChecked, IsNotChecked}
+use Rattle.cborc_sequences.specs.CheckSequence.{IsSequenceChecked, IsSequenceNotChecked}
+use Rattle.cborc_items.specs.Compare.{AreCompared, AreNotCompared}
+use Rattle.cborc_items.specs.Events.{IsListedOf, IsNotListedOf}
+use Rattle.cborc_sequences.specs.EventsSequence.{IsSequenceListed, IsSequenceNotListed}
 use Rattle.cborc_files.specs.Folder.{Files, KeepsFiles}
-use Rattle.cborc_commands.specs.Show.{IsShownOf, IsNotShown}
-use Rattle.cborc_commands.specs.ShowSequence.{IsSequenceShown, IsSequenceNotShown}
-use Rattle.cborc_commands.specs.declared.request.Request.{Request}
-use Rattle.cborc_commands.specs.declared.request.Request.TheVariants.{Check, CheckSequence, Canon, CanonSequence, Compare, Show, ShowSequence, Events, EventsSequence}
-use Rattle.cborc_commands.specs.declared.fault.Fault.{Fault}
-use Rattle.cborc_commands.specs.declared.status.Status.{Status}
-use Rattle.cborc_commands.specs.declared.status.Status.TheVariants.{Accepted}
+use Rattle.cborc_items.specs.Show.{IsShownOf, IsNotShown}
+use Rattle.cborc_sequences.specs.ShowSequence.{IsSequenceShown, IsSequenceNotShown}
+use Rattle.cborc_input.specs.declared.request.Request.{Request}
+use Rattle.cborc_input.specs.declared.request.Request.TheVariants.{Check, CheckSequence, Canon, CanonSequence, Compare, Show, ShowSequence, Events, EventsSequence}
+use Rattle.cborc_input.specs.declared.fault.Fault.{Fault}
+use Rattle.cborc_input.specs.declared.status.Status.{Status}
+use Rattle.cborc_input.specs.declared.status.Status.TheVariants.{Accepted}
 
 -- what a request's answer tells, by its subcommand and status; no file is changed but by `canon`
 abbrev pub IsDone : Request → Option Files → Option Files → Option (List ℕ) → Option (List ℕ) → Status → Type 0

@@ -1,15 +1,3 @@
 pub mod Answer
-pub mod Canon
-pub mod CanonSequence
-pub mod Check
-pub mod CheckSequence
-pub mod Compare
-pub mod Events
-pub mod EventsSequence
-pub mod Fault
 pub mod inner
-pub mod Input
-pub mod Sequences
-pub mod Show
-pub mod ShowSequence
 pub mod Told

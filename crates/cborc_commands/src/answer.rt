@@ -3,24 +3,22 @@
 ghost use Rattle.std.specs.Prelude.{◌≡◌, ◌⊎◌, Ok, Err, OnErr, IfOk, IfErr};
 ghost use Rattle.std.specs.Io.KnownBytes.{Keeps};
 ghost use Rattle.cborc_commands.specs.Answer.{IsDone, IsNotDone};
-ghost use Rattle.cborc_commands.specs.Fault.{end_status, status_number};
+ghost use Rattle.cborc_input.specs.Fault.{end_status, status_number};
 ghost use Rattle.cborc_files.specs.Folder.{KeepsFiles};
 ghost use Rattle.cborc_commands.specs.Told.{IsSilent, IsAnswered, IsAnsweredQuietly, IsToldBy};
 
-use crate::canon::canon;
-use crate::canon_sequence::canon_sequence;
-use crate::check::check;
-use crate::check_sequence::check_sequence;
-use crate::compare::compare;
-use crate::events::events;
-use crate::events_sequence::events_sequence;
 use crate::explanation::explain;
-use crate::fault::Fault;
-use crate::request::{Manner, Request, Task};
-use crate::show::show;
-use crate::show_sequence::show_sequence;
-use crate::status::Status;
 use cborc_files::{Folder, Kept, Memory};
+use cborc_input::{Fault, Manner, Request, Status, Task};
+use cborc_items::canon::canon;
+use cborc_items::check::check;
+use cborc_items::compare::compare;
+use cborc_items::events::events;
+use cborc_items::show::show;
+use cborc_sequences::canon_sequence::canon_sequence;
+use cborc_sequences::check_sequence::check_sequence;
+use cborc_sequences::events_sequence::events_sequence;
+use cborc_sequences::show_sequence::show_sequence;
 use std::alloc::Global;
 use std::io::{self, Write};
 

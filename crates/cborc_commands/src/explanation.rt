@@ -3,11 +3,10 @@
 ghost use Rattle.std.specs.Prelude.{◌≡◌};
 ghost use Rattle.cborc_commands.specs.inner.Explained.{cause_text, options_of, right_of, source_of};
 
-use crate::fault::Fault;
-use crate::request::{Options, Request};
 use cbor_explain::write_sentences;
 use cbor_head::Refusal;
 use cborc_files::{Cause, Folder, Memory, Visible, is_stream};
+use cborc_input::{Fault, Options, Request};
 use std::alloc::Global;
 use std::io::{self, ErrorKind, Write};
 

@@ -10,7 +10,7 @@ use Rattle.cborc_words.specs.CommandLine.{reads_stream_twice, AsksFor, AsksForTa
 use Rattle.cborc_words.specs.Grammar.{IsGrammar}
 use Rattle.cborc_words.specs.Words.{AskFor, HasFault, ReadsTwice, found, incomplete, two_manners, two_streams}
 use Rattle.cborc_words.proofs.Builds.{simple}
-use Rattle.cborc_commands.specs.declared.request.Task.{Task}
+use Rattle.cborc_input.specs.declared.request.Task.{Task}
 
 rows_found : (app : App) → IsGrammar app → (words : List Text) (m : ArgMatches) → HasMatchesOf app words m → subcommand_rows_of m ≡ subcommand_of app words
 rows_found app grammar words m has = (has (simple app grammar)).1

@@ -7,11 +7,11 @@ use Rattle.clap.specs.declared.error.kind.ErrorKind.TheVariants.{OutOfMemory}
 use Rattle.cborc_words.specs.Run.{IsRun, helped, misused, starved}
 use Rattle.cborc_words.specs.inner.WordsEnd.{IsWordsEnd}
 use Rattle.cborc_words.specs.Words.{HasFault}
-use Rattle.cborc_commands.specs.Fault.{end_status, status_number}
+use Rattle.cborc_input.specs.Fault.{end_status, status_number}
 use Rattle.cborc_files.specs.Folder.{Files, KeepsFiles}
-use Rattle.cborc_commands.specs.declared.fault.Fault.{Fault}
-use Rattle.cborc_commands.specs.declared.fault.Fault.TheVariants.{CannotPrint}
-use Rattle.cborc_commands.specs.declared.status.Status.{Status}
+use Rattle.cborc_input.specs.declared.fault.Fault.{Fault}
+use Rattle.cborc_input.specs.declared.fault.Fault.TheVariants.{CannotPrint}
+use Rattle.cborc_input.specs.declared.status.Status.{Status}
 
 keeps_on : (a b c : Option (List ℕ)) → Keeps a b → Keeps b c → Keeps a c
 keeps_on None b c h k = tt

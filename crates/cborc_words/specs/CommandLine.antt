@@ -7,18 +7,18 @@ use Rattle.cbor_head.specs.declared.order.KeyOrder.{KeyOrder}
 use Rattle.cbor_head.specs.declared.order.KeyOrder.TheVariants.{Bytewise, LengthFirst}
 use Rattle.clap.specs.Words.{Row, Text, first_of, one_of}
 use Rattle.cborc_files.specs.Folder.{is_stream}
-use Rattle.cborc_commands.specs.declared.request.Accepted.{Accepted}
-use Rattle.cborc_commands.specs.declared.request.Accepted.TheVariants.{Valid, Canonical}
-use Rattle.cborc_commands.specs.declared.request.Form.TheVariants.{Raw, Hex}
-use Rattle.cborc_commands.specs.declared.request.Layout.{Layout}
-use Rattle.cborc_commands.specs.declared.request.Layout.TheVariants.{OneLine, Indented}
-use Rattle.cborc_commands.specs.declared.request.Manner.{Manner}
-use Rattle.cborc_commands.specs.declared.request.Manner.TheVariants.{Plain, Explained, Quiet}
-use Rattle.cborc_commands.specs.declared.request.Options.{Options}
-use Rattle.cborc_commands.specs.declared.request.Output.{Output}
-use Rattle.cborc_commands.specs.declared.request.Request.{Request}
-use Rattle.cborc_commands.specs.declared.request.Request.TheVariants.{Check, CheckSequence, Canon, CanonSequence, Compare, Show, ShowSequence, Events, EventsSequence}
-use Rattle.cborc_commands.specs.declared.request.Task.{Task}
+use Rattle.cborc_input.specs.declared.request.Accepted.{Accepted}
+use Rattle.cborc_input.specs.declared.request.Accepted.TheVariants.{Valid, Canonical}
+use Rattle.cborc_input.specs.declared.request.Form.TheVariants.{Raw, Hex}
+use Rattle.cborc_input.specs.declared.request.Layout.{Layout}
+use Rattle.cborc_input.specs.declared.request.Layout.TheVariants.{OneLine, Indented}
+use Rattle.cborc_input.specs.declared.request.Manner.{Manner}
+use Rattle.cborc_input.specs.declared.request.Manner.TheVariants.{Plain, Explained, Quiet}
+use Rattle.cborc_input.specs.declared.request.Options.{Options}
+use Rattle.cborc_input.specs.declared.request.Output.{Output}
+use Rattle.cborc_input.specs.declared.request.Request.{Request}
+use Rattle.cborc_input.specs.declared.request.Request.TheVariants.{Check, CheckSequence, Canon, CanonSequence, Compare, Show, ShowSequence, Events, EventsSequence}
+use Rattle.cborc_input.specs.declared.request.Task.{Task}
 
 -- the order of keys that a word names
 abbrev pub order_named : Text → Option KeyOrder

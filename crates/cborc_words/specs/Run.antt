@@ -7,7 +7,7 @@ use Rattle.clap.specs.declared.error.kind.ErrorKind.TheVariants as kinds
 use Rattle.cborc_words.specs.Words.{AskFor, HasFault}
 use Rattle.cborc_files.specs.Folder.{Files, KeepsFiles}
 use Rattle.cborc_commands.specs.Told.{IsToldBy}
-use Rattle.cborc_commands.specs.declared.request.Task.{Task}
+use Rattle.cborc_input.specs.declared.request.Task.{Task}
 
 -- the words call for help or for the version
 abbrev pub IsHelp : ErrorKind → Type 0

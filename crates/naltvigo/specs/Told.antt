@@ -17,7 +17,7 @@ IsTold f c = (c.reason ≡ reason_number f.reason) × (c.place ≡ f.place) × (
 pub record IsRefused (limits : Bounds) (o : KeyOrder) (input : List ℕ) (c : NaltvigoRefusal) : Type 0 where
   pub refusal : Refusal
   pub refused : IsRefusal limits o input refusal
-  pub reason : IsCanonicaliserReason refusal.reason
+  pub reason : IsCanonicaliserReason limits refusal.reason
   pub not_memory : refusal.reason ≢ Memory
   pub told : IsTold refusal c
 

@@ -27,7 +27,7 @@ pub extern "C" fn naltvigo_reason_name_raw(number: u32, out: &mut [u8]) -> usize
     ensures named { result ≢ 0 → (r : Reason) × (number ≡ reason_number r)
         × (result ≡ length (reason_name r))
         × (result < length out.old → take (1 + result) out.new ≡ reason_name r ++ 0 ∷ []) }
-    ensures unnamed { result ≡ 0 → ((number ≡ 0) ⊎ (19 < number))
+    ensures unnamed { result ≡ 0 → ((number ≡ 0) ⊎ (20 < number))
         × (0 < length out.old → take 1 out.new ≡ 0 ∷ []) }
     ensures kept { (length out.old ≤ result → out.new ≡ out.old)
         × (drop (1 + result) out.new ≡ drop (1 + result) out.old) }
@@ -56,7 +56,7 @@ fn write_name(name: &[u8], out: &mut [u8]) -> usize
 // The reason of this number.
 fn reason_numbered(number: u32) -> Option<Reason>
     ensures some { IfSome result (λ r. number ≡ reason_number r) }
-    ensures none { result ≡ None → (number ≡ 0) ⊎ (19 < number) }
+    ensures none { result ≡ None → (number ≡ 0) ⊎ (20 < number) }
 {
     Some(match number {
         1 => Reason::Truncated,
@@ -78,6 +78,7 @@ fn reason_numbered(number: u32) -> Option<Reason>
         17 => Reason::Read,
         18 => Reason::Write,
         19 => Reason::Memory,
+        20 => Reason::KeyKind,
         _ => return None,
     })
 }
@@ -107,5 +108,6 @@ fn name_of(reason: Reason) -> &'static [u8]
         Reason::Read => b"Read",
         Reason::Write => b"Write",
         Reason::Memory => b"Memory",
+        Reason::KeyKind => b"KeyKind",
     }
 }

@@ -31,7 +31,7 @@ pub const BAD_MACHINE: u32 = 9;
 #[repr(C)]
 #[derive(Clone, Copy, Debug, PartialEq, Eq)]
 pub struct NaltvigoRefusal {
-    /// The number of the reason, 1 to 19.
+    /// The number of the reason, 1 to 20.
     pub reason: u32,
     /// The offset in bytes of what is wrong.
     pub place: u64,

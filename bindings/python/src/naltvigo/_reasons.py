@@ -98,4 +98,9 @@ REASONS: Dict[int, Tuple[str, str, str]] = {
         "Memory was refused.",
         "Try again.",
     ),
+    20: (
+        "KeyKind",
+        "A key begins here that is neither an integer nor a text.",
+        "Write the key as an integer or a text, or allow it with keys='any'.",
+    ),
 }

@@ -2,7 +2,7 @@
 
 ghost use Rattle.std.specs.Prelude.{◌≡◌, ◌≤◌, ◌++◌, OnOk, IfOk, IsTrue, false, length, take};
 ghost use Rattle.std.specs.Prelude.{map, flat_map, ◌∷◌, [], MatchOption};
-ghost use Rattle.cbor_buffer.specs.Pairs.{pair_bytes};
+ghost use Rattle.cbor_canonical.specs.Pairs.{pair_bytes};
 ghost use Rattle.cbor_buffer.specs.Spans.{span_pair, AreWithin, AreBehind};
 ghost use Rattle.cbor_buffer.specs.Moved.{meant, IsWhole, IsLoose, KeepsFront, Stays, rope, Run};
 

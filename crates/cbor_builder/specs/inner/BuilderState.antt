@@ -1,6 +1,6 @@
 -- What a builder stands for.
 use Rattle.std.specs.Prelude.{List, ◌∷◌, reverse}
-use Rattle.cbor_builder.specs.Parts.{Open}
+use Rattle.cbor_canonical.specs.Parts.{Open}
 use Rattle.cbor_builder.specs.inner.Laid.{shape_open, opens, Laid}
 use Rattle.cbor_buffer.specs.Moved.{meant, IsWhole}
 use Rattle.cbor_builder.specs.inner.InPlace.{Agrees}

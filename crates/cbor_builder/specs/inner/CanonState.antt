@@ -2,7 +2,7 @@
 use Rattle.std.specs.Prelude.{Bool, if◌then◌else◌, IsTrue, List, [], ◌∷◌}
 use Rattle.std.specs.List.{AllByRecursion}
 use Rattle.cbor_builder.specs.Built.{Built, built, CanHold}
-use Rattle.cbor_builder.specs.Parts.{Open}
+use Rattle.cbor_canonical.specs.Parts.{Open}
 use Rattle.cbor_builder.specs.inner.BuilderState.{standing, IsLaid}
 use Rattle.cbor_builder.specs.declared.canon_builder.CanonBuilder.TheInside.{Inside}
 

@@ -6,7 +6,7 @@ use Rattle.cbor_head.specs.declared.order.KeyOrder.{KeyOrder}
 use Rattle.cbor_head.specs.declared.major.Major.{Major}
 use Rattle.cbor_head.specs.declared.major.Major.TheVariants.{Simple}
 use Rattle.cbor_canonical.specs.Pairs.{IsRising}
-use Rattle.cbor_builder.specs.Parts.{Open, plain, an_array, a_map, a_key, a_string}
+use Rattle.cbor_canonical.specs.Parts.{Open, plain, an_array, a_map, a_key, a_string}
 use Rattle.cbor_keys.specs.Front.{front_of}
 use Rattle.cbor_builder.specs.inner.Front.{AreFronted}
 use Rattle.cbor_buffer.specs.declared.span.Span.{Span}

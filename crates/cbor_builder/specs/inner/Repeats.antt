@@ -4,7 +4,7 @@ use Rattle.std.specs.declared.cmp.Ordering.{Ordering}
 use Rattle.std.specs.Ordering.{nat_cmp, then_cmp, on}
 use Rattle.cbor_head.specs.declared.order.KeyOrder.{KeyOrder}
 use Rattle.cbor_builder.specs.Built.{keys_so_far, IsFirstRepeat, AreAllDifferent, AreOpenKeysDifferent, IsRepeatTold}
-use Rattle.cbor_builder.specs.Parts.{Open}
+use Rattle.cbor_canonical.specs.Parts.{Open}
 use Rattle.cbor_builder.specs.inner.Front.{key_of, rank, ranked_by}
 use Rattle.cbor_buffer.specs.declared.span.Span.{Span}
 use Rattle.cbor_builder.specs.declared.frame.Shape.{Shape}

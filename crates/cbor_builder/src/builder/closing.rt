@@ -3,14 +3,13 @@
 ghost use Rattle.std.specs.Prelude.{reverse, ◌≡◌, ◌↔◌, ◌≤◌, ◌++◌, IsTrue, false, OnOk, IfOk, drop};
 ghost use Rattle.std.specs.Prelude.{take, length, flat_map};
 ghost use Rattle.cbor_buffer.specs.Moved.{meant, IsWhole, KeepsFront};
-ghost use Rattle.cbor_buffer.specs.Pairs.{pair_bytes};
-ghost use Rattle.cbor_builder.specs.Parts.{close, closed, HasNoRepeats};
+ghost use Rattle.cbor_canonical.specs.Pairs.{pair_bytes, HasDistinctBytes};
+ghost use Rattle.cbor_canonical.specs.Parts.{close, closed, HasNoRepeats};
 ghost use Rattle.cbor_builder.specs.declared.frame.Shape.TheVariants.{Map};
 ghost use Rattle.cbor_builder.specs.inner.BuilderState.{standing, innermost, IsLaid};
 ghost use Rattle.cbor_builder.specs.inner.InPlace.{AreSameKeys};
 ghost use Rattle.cbor_builder.specs.inner.Laid.{CanClose, OuterTakes, outer_spans, Fits};
 ghost use Rattle.cbor_builder.specs.inner.Laid.{pairs_from};
-ghost use Rattle.cbor_canonical.specs.Pairs.{HasDistinctBytes};
 ghost use Rattle.cbor_head.specs.Canonical.{in_order};
 
 use crate::builder::Core;

@@ -3,7 +3,7 @@
 ghost use Rattle.std.specs.Prelude.{reverse, ◌≡◌, ◌↔◌, IsTrue, IfOk, drop};
 ghost use Rattle.cbor_buffer.specs.Moved.{meant};
 ghost use Rattle.cbor_builder.specs.Built.{around};
-ghost use Rattle.cbor_builder.specs.Parts.{HasNoRepeats};
+ghost use Rattle.cbor_canonical.specs.Parts.{HasNoRepeats};
 ghost use Rattle.cbor_builder.specs.declared.frame.Shape.TheVariants.{Map};
 ghost use Rattle.cbor_builder.specs.inner.BuilderState.{standing, innermost, IsLaid};
 ghost use Rattle.cbor_builder.specs.inner.InPlace.{AreSameKeys};

@@ -1,11 +1,12 @@
 -- One read, and what came of those before it.
-use Rattle.std.specs.Prelude.{◌≡◌, ℕ, ◌<◌, ◌≤◌, ◌++◌, List, [], take, Option, Err}
+use Rattle.std.specs.Prelude.{◌≡◌, ℕ, ◌<◌, ◌≤◌, ◌++◌, List, [], ◌∷◌, length, take, Option, Err, Result}
 use Rattle.std.specs.Io.KnownBytes.{Consumes, IsAtEnd}
+use Rattle.cbor_head.specs.Value.{AreBytes}
 use Rattle.cbor_head.specs.declared.reason.Refusal.{Refusal}
 use Rattle.cbor_automaton.specs.Trace.{Mark}
 use Rattle.cbor_standing.specs.MachineView.{MachineView}
 use Rattle.cbor_standing.specs.Machine.{StandsFor, IsGiven, IsRefused}
-use Rattle.cbor_standing.specs.NextEvent.{machine_call, IsNext, IsNextEvent}
+use Rattle.cbor_standing.specs.NextEvent.{Call, machine_call, IsNext, IsNextEvent, IfTold}
 use Rattle.cbor_automaton.specs.Pieces.{piece_by}
 use Rattle.cbor_standing.specs.Calls.{HasRead}
 use Rattle.cbor_standing.specs.Steps.{IsStep}
@@ -43,3 +44,41 @@ IfPartTold _ P = Unit {0}
 abbrev pub IfStopped : Part → (Refusal → Type 0) → Type 0
 IfStopped (Stopped f) P = P f
 IfStopped _ P = Unit {0}
+
+-- What the machine took by one read: the reader lost it, and it stands in front of the buffer.
+pub record HasTaken (p : Part) (old new : MachineView) (want : ℕ) (from to : Option (List ℕ)) (buffer t : List ℕ) (ms : List Mark) : Type 0 where
+  pub bytes : List ℕ
+  pub some : 0 < length bytes
+  pub most : length bytes ≤ want
+  pub front : bytes ≡ take (length bytes) buffer
+  pub consumed : Consumes from to bytes
+  pub are_bytes : AreBytes bytes
+  pub taken : IsPartTaken p old new t bytes ms
+
+-- nothing was taken
+abbrev pub HasStopped : Part → MachineView → Type 0
+HasStopped (Stopped f) old = f.place ≡ old.taken
+HasStopped _ old = ⊥
+
+-- an event that is told is what the machine took, since it stood for t and ms
+abbrev pub IfGiven : Result (Option Event) Refusal → MachineView → List ℕ → List Mark → Type 0
+IfGiven result new t ms = IfTold result (λ e. (bs : List ℕ) × IsGiven e new t bs ms)
+
+-- ---- one byte
+
+-- the reader lost it, and the machine took it
+pub record HasFirst (p : Part) (old new : MachineView) (from to : Option (List ℕ)) (first : ℕ) (t : List ℕ) (ms : List Mark) : Type 0 where
+  pub consumed : Consumes from to (first ∷ [])
+  pub are_bytes : AreBytes (first ∷ [])
+  pub taken : IsPartTaken p old new t (first ∷ []) ms
+
+-- what it answers of a call where no payload is open
+abbrev pub IsFirstAnswer : Part → Call → Type 0
+IsFirstAnswer (Told e) c = IsNextEvent e c
+IsFirstAnswer Open c = Unit {0}
+IsFirstAnswer (Stopped f) c = IsNext (Err f) c
+
+-- it was taken at this place: if it is refused for it, the refusal stands behind it
+abbrev pub IsTakenAt : Part → ℕ → Type 0
+IsTakenAt (Stopped f) place = place < f.place
+IsTakenAt p place = Unit {0}

@@ -5,7 +5,7 @@ use Rattle.cbor_head.specs.Canonical.{canonical}
 use Rattle.cbor_head.specs.Value.{Value, Values, Entries, array, map, tag, no_values, a_value, no_entries, entry, IsInRange, IsValid}
 use Rattle.cbor_head.specs.declared.order.KeyOrder.{KeyOrder}
 use Rattle.cbor_builder.specs.Built.{CanHold}
-use Rattle.cbor_builder.specs.Parts.{Open, plain, a_key, a_string, with_member, closed, give, HasNoRepeats}
+use Rattle.cbor_canonical.specs.Parts.{Open, plain, a_key, a_string, with_member, closed, give, HasNoRepeats}
 use Rattle.cbor_item.specs.View.{view}
 use Rattle.cbor_item.specs.declared.item.Item.{Item}
 use Rattle.cbor_item.specs.declared.rest.Rest.{Rest}

@@ -3,7 +3,7 @@
 ghost use Rattle.std.specs.Prelude.{List, ◌≡◌, ◌∷◌, [], OnOk};
 ghost use Rattle.cbor_head.specs.Canonical.{Pair};
 ghost use Rattle.cbor_builder.specs.Built.{TakesPart};
-ghost use Rattle.cbor_builder.specs.Parts.{a_map, plain};
+ghost use Rattle.cbor_canonical.specs.Parts.{a_map, plain};
 
 use cbor_head::Major;
 use cbor_item::{CanonBuilder, KeyOrder, Repeat};
@@ -74,13 +74,20 @@ fn is_none_waiting(builder: &CanonBuilder) -> bool {
     builder.waiting_key().is_none()
 }
 
+fn is_key_due(builder: &CanonBuilder) -> bool {
+    builder.is_key_due()
+}
+
 // {"aa": 0, 1: 0, "aa" ..
 fn give_a_key_again(rt: &impl Abort, builder: &mut CanonBuilder) -> Result<(), AllocError>
     requires empty { builder.old.standing ≡ plain [] ∷ [] }
 {
+    assert!(rt; !is_key_due(builder));
     builder.begin(Major::Map, 3)?;
     assert!(rt; is_none_waiting(builder));
+    assert!(rt; is_key_due(builder));
     builder.string(Major::Text, b"aa")?;
+    assert!(rt; !is_key_due(builder));
     assert!(rt; !builder.repeated());
     assert!(rt; is_waiting(builder, b"\x62aa"));
     builder.leaf(Major::Unsigned, 0)?;

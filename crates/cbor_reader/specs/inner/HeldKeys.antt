@@ -6,7 +6,7 @@ use Rattle.std.specs.Cmp.Lexicographic.{slice_cmp}
 use Rattle.std.specs.BTreeSet.{BTreeSet, contains}
 use Rattle.arrayvec.specs.ArrayVec.{ArrayVec}
 use Rattle.cbor_head.specs.Canonical.{Pair}
-use Rattle.cbor_builder.specs.Parts.{Open, a_map, a_key}
+use Rattle.cbor_canonical.specs.Parts.{Open, a_map, a_key}
 use Rattle.cbor_reader.specs.declared.key_set.KeySet.{KeySet}
 use Rattle.cbor_reader.specs.declared.key_set.TheConstants.{SHORT_KEY}
 

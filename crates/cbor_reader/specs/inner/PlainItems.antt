@@ -1,6 +1,7 @@
 -- What the plain reader keeps: what a builder holds, in which no two keys of an open map are the same, and where each open
 -- item began.
 use Rattle.std.specs.Prelude.{ℕ, suc, ◌≡◌, ◌<◌, ◌++◌, List, [], ◌∷◌, length, reverse, slice_index_or, Option, Result, OnOk, IfOk, MatchOption, IsSome}
+use Rattle.cbor_head.specs.Complaint.{plain}
 use Rattle.cbor_head.specs.Head.{shortest_head, IsSimple}
 use Rattle.cbor_head.specs.Limits.{Bounds}
 use Rattle.cbor_head.specs.declared.major.Major.TheVariants as majors
@@ -8,12 +9,13 @@ use Rattle.cbor_standing.specs.NextEvent.{ItemEventsView}
 use Rattle.cbor_judging.specs.Place.{Place}
 use Rattle.cbor_builder.specs.Built.{Built, built, TakesPart, IsContainer, IsLeaf, IsRepeatedKey}
 use Rattle.cbor_canonical.specs.Pairs.{HasDistinctBytes}
-use Rattle.cbor_builder.specs.Parts.{Open, a_map, a_key, give, opened}
+use Rattle.cbor_canonical.specs.Parts.{Open, a_map, a_key, give, opened}
 use Rattle.cbor_reader.specs.declared.plain_items.PlainItems.{PlainItems}
 use Rattle.cbor_reader.specs.declared.plain_part.Part.{Part}
 use Rattle.cbor_reader.specs.declared.plain_part.Part.TheVariants.{Leaf, String, Begin, Break}
 use Rattle.cbor_reader.specs.declared.key_set.KeySet.{KeySet}
 use Rattle.cbor_reader.specs.inner.HeldKeys.{HasKeyBytes, AreHeld, AreHeldSoFar}
+use Rattle.cbor_judging.specs.Kinds.{KeepsToKinds}
 use Rattle.cbor_judging.specs.Levels as levels
 use Rattle.cbor_judging.specs.Levels.{Level, bytes_before, Standing, item_due, item_full, item_whole}
 use Rattle.cbor_judging.specs.Given.{StandsAt}
@@ -110,6 +112,8 @@ pub record IsEndingAt (v : PlainItems) (b : Bounds) (e : ItemEventsView) (t : Li
   pub place : HasItsPlace v.starts standing
   pub tree : IsTreeAt v.tree standing
   pub held : AreHeldSoFar (sets v) v.builder.standing
+  pub kinds : v.kinds ≡ b.keys
+  pub keeps : KeepsToKinds b plain t
 
 pub record IsEnding (v : PlainItems) (height count : ℕ) : Type 0 where
   pub b : Bounds

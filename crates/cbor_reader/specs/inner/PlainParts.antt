@@ -1,5 +1,5 @@
 -- What a part of an item is that was read, by the plain rules.
-use Rattle.std.specs.Prelude.{ℕ, ◌≡◌, ◌++◌, true, IsUtf8, List, Option, Some, None, Result, MatchResult}
+use Rattle.std.specs.Prelude.{ℕ, ◌≡◌, ◌≢◌, ◌++◌, true, IsUtf8, List, Option, Some, None, Result, MatchResult}
 use Rattle.cbor_head.specs.Complaint.{plain}
 use Rattle.cbor_head.specs.Head.{IsSimple}
 use Rattle.cbor_head.specs.Limits.{Bounds}
@@ -54,6 +54,12 @@ Begins (kinds.Map None) m n = (m ≡ majors.Map) × (n ≡ 0)
 Begins (kinds.Tag k) m n = (m ≡ majors.Tag) × (n ≡ k)
 Begins _ m n = ⊥
 
+-- a string begins
+abbrev pub BeginsString : EventKind → Type 0
+BeginsString (kinds.Bytes n) = Unit {0}
+BeginsString (kinds.Text n) = Unit {0}
+BeginsString _ = ⊥
+
 -- nothing more was read
 pub record IsStill (old new : ItemEventsView) (from to : Option (List ℕ)) : Type 0 where
   pub events : new ≡ old
@@ -61,13 +67,13 @@ pub record IsStill (old new : ItemEventsView) (from to : Option (List ℕ)) : Ty
 
 -- a part that was read
 abbrev pub ReadsPart : Bounds → List Container → List ℕ → List ℕ → EventKind → ItemEventsView → ItemEventsView → Option (List ℕ) → Option (List ℕ) → Part → Type 0
-ReadsPart b fs t x kind old new from to (Leaf m n) = IsLeafMajor m n × ReadsItem plain b fs t x from to new (leaf_value m n)
+ReadsPart b fs t x kind old new from to (Leaf m n) = IsLeafMajor m n × ReadsItem plain b fs t x from to new (leaf_value m n) × (kind ≢ kinds.End)
 ReadsPart b fs t x kind old new from to (String is_text content) =
-    (is_text ≡ true → IsUtf8 content.items) × ReadsItem plain b fs t x from to new (string_value is_text content.items)
+    (is_text ≡ true → IsUtf8 content.items) × ReadsItem plain b fs t x from to new (string_value is_text content.items) × (kind ≢ kinds.End)
 ReadsPart b fs t x kind old new from to (Begin m n) = Begins kind m n × IsStill old new from to
 ReadsPart b fs t x kind old new from to Break = (kind ≡ kinds.End) × IsStill old new from to
 
 abbrev pub AnswersPart : ItemEventsView → EventKind → Option (List ℕ) → Option (List ℕ) → ItemEventsView → Result Part Refusal → Type 0
 AnswersPart e kind from to new result =
     (b : Bounds) (fs : List Container) (t x : List ℕ) (w : Width) → IsCome b fs t x e w kind
-    → MatchResult result (ReadsPart b fs t x kind e new from to) (λ f. StopsItem plain b fs t x from to f)
+    → MatchResult result (ReadsPart b fs t x kind e new from to) (λ f. BeginsString kind × StopsItem plain b fs t x from to f)

@@ -14,5 +14,5 @@ view_stands start g st = keys_stand start.keys g.keys st × IsFullRight st × (s
 -- and the content so far of a string
 abbrev pub view_holds : ViewSink → ViewSink → List Level → Bool → List ℕ → Type 0
 view_holds start g ls is_text content =
-    keys_stand start.keys g.keys (item_due ls) × (standing g.views ≡ level_values ls) × (g.joined.items ≡ content) × (is_text ≡ true → IsUtf8 content)
+    keys_stand start.keys g.keys (item_due ls) × (standing g.views ≡ level_values ls) × (g.joined ≡ content) × (is_text ≡ true → IsUtf8 content)
     × IsItemDue ViewSink view_stands g

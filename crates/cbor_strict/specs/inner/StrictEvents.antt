@@ -1,26 +1,36 @@
 -- What is told of the item at the front of an input, event by event, by the strict rules.
-use Rattle.std.specs.Prelude.{◌≡◌, ℕ, ◌<◌, ◌≤◌, ◌++◌, List, [], length, Option, Some, None, Result, MatchResult, IfSome}
+use Rattle.std.specs.Prelude.{◌≡◌, ℕ, ◌<◌, ◌≤◌, ◌++◌, Bool, true, false, List, [], length, Option, Some, None, Result, MatchResult, IfSome}
 use Rattle.std.specs.Io.KnownBytes.{Consumes}
 use Rattle.cbor_head.specs.Complaint.{Rules, strict}
-use Rattle.cbor_head.specs.Limits.{Bounds, bounds}
+use Rattle.cbor_head.specs.Limits.{Bounds, bounds, with_keys}
+use Rattle.cbor_head.specs.declared.keys.Keys.{Keys}
 use Rattle.cbor_head.specs.declared.order.KeyOrder.{KeyOrder}
 use Rattle.cbor_head.specs.declared.reason.Refusal.{Refusal}
 use Rattle.cbor_automaton.specs.Trace.{Mark}
 use Rattle.cbor_standing.specs.MachineView.{MachineView}
 use Rattle.cbor_standing.specs.Machine.{IsComplete}
-use Rattle.cbor_standing.specs.NextEvent.{ItemEventsView, StandsBetween, IsNextEvent, IsEnd, call}
+use Rattle.cbor_standing.specs.NextEvent.{ItemEventsView, StandsBetween, Call, IsNext, IsNextEvent, IsEnd, call}
+use Rattle.cbor_events.specs.NextKey.{IsNextKey}
 use Rattle.cbor_automaton.specs.declared.event.Event.{Event}
 use Rattle.cbor_strict.specs.declared.open_items.OpenItems.{OpenItems}
-use Rattle.cbor_judging.specs.Readers.{IsRead, Loses}
+use Rattle.cbor_judging.specs.Kinds.{KeepsToKinds}
+use Rattle.cbor_judging.specs.Readers.{IsRead, IsUnread, Loses}
+use Rattle.cbor_judging.specs.Refusals.{IsReaderReason}
 use Rattle.cbor_strict.specs.inner.LastKeys.{seen}
 use Rattle.cbor_strict.specs.inner.OpenItems.{Stands, IsOver}
-use Rattle.cbor_judging.specs.Reading.{AreRefused}
 
--- some bytes are taken
-pub record StandsSomewhere (v : OpenItems) (e : ItemEventsView) : Type 0 where
+-- some bytes are taken, and their keys are of these kinds
+pub record StandsSomewhere (keys : Keys) (v : OpenItems) (e : ItemEventsView) : Type 0 where
   pub b : Bounds
+  pub asks : b.keys ≡ keys
   pub t : List ℕ
   pub stands : Stands v b e t
+  pub keeps : KeepsToKinds b (strict v.order) t
+
+-- what is read next, and whether it is a key that is to be an integer or a text
+abbrev pub IsNextOf : Bool → Result (Option Event) Refusal → Call → Type 0
+IsNextOf true result c = IsNextKey result c
+IsNextOf false result c = IsNext result c
 
 -- this event was told: its bytes are taken, and nothing read has a complaint
 pub record GoesOn (v : OpenItems) (b : Bounds) (e after : ItemEventsView) (t : List ℕ) (from to : Option (List ℕ)) (event : Event) : Type 0 where
@@ -29,6 +39,7 @@ pub record GoesOn (v : OpenItems) (b : Bounds) (e after : ItemEventsView) (t : L
   pub next : IsNextEvent event (call e after from to t marks)
   pub some : 0 < length next.bytes
   pub stands : Stands v b after (t ++ next.bytes)
+  pub keeps : KeepsToKinds b (strict v.order) (t ++ next.bytes)
 
 -- the item is complete, and nothing was taken
 pub record HasCome (v : OpenItems) (b : Bounds) (e after : ItemEventsView) (t : List ℕ) (from to : Option (List ℕ)) : Type 0 where
@@ -36,6 +47,7 @@ pub record HasCome (v : OpenItems) (b : Bounds) (e after : ItemEventsView) (t : 
   pub between : StandsBetween e.machine t marks
   pub end : IsEnd (call e after from to t marks)
   pub over : IsOver v b after t
+  pub keeps : KeepsToKinds b (strict v.order) t
 
 abbrev pub IsStep : Option Event → OpenItems → Bounds → ItemEventsView → ItemEventsView → List ℕ → Option (List ℕ) → Option (List ℕ) → Type 0
 IsStep (Some event) v b e after t from to = GoesOn v b e after t from to event
@@ -46,11 +58,14 @@ pub record IsStopped (r : Rules) (b : Bounds) (e : ItemEventsView) (t : List ℕ
   pub unfinished : ¬ IsComplete e.machine
   pub bytes : List ℕ
   pub consumed : Consumes from to bytes
-  pub refused : AreRefused r b (t ++ bytes) to f
+  pub read : f.read ≡ length (t ++ bytes)
+  pub reason : IsReaderReason b r f.reason
+  pub unread : IfSome from (λ rest. IsUnread b r (t ++ rest) f)
 
-abbrev pub AnswersStep : OpenItems → OpenItems → ItemEventsView → ItemEventsView → Option (List ℕ) → Option (List ℕ) → Result (Option Event) Refusal → Type 0
-AnswersStep old new e after from to result =
-    (b : Bounds) (t : List ℕ) → Stands old b e t → MatchResult result (λ told. IsStep told new b e after t from to) (λ f. IsStopped (strict old.order) b e t from to f)
+abbrev pub AnswersStep : Keys → OpenItems → OpenItems → ItemEventsView → ItemEventsView → Option (List ℕ) → Option (List ℕ) → Result (Option Event) Refusal → Type 0
+AnswersStep keys old new e after from to result =
+    (b : Bounds) (t : List ℕ) → b.keys ≡ keys → Stands old b e t → KeepsToKinds b (strict old.order) t
+    → MatchResult result (λ told. IsStep told new b e after t from to) (λ f. IsStopped (strict old.order) b e t from to f)
 
 -- at most a frame and a span for each open container, and no byte that was not read
 pub record IsLittle (v : OpenItems) (e : ItemEventsView) : Type 0 where
@@ -64,14 +79,15 @@ pub record Inner : Type 0 where
   pub events : ItemEventsView
   pub items : OpenItems
 
-abbrev pub bounds_of : MachineView → Bounds
-bounds_of m = bounds m.depth m.bytes
+abbrev pub bounds_of : MachineView → Keys → Bounds
+bounds_of m keys = with_keys (bounds m.depth m.bytes) keys
 
 -- t led to it
-pub record IsInner (inner : Inner) (m : MachineView) (order : KeyOrder) (t : List ℕ) : Type 0 where
+pub record IsInner (inner : Inner) (m : MachineView) (order : KeyOrder) (keys : Keys) (t : List ℕ) : Type 0 where
   pub machine_is : inner.events.machine ≡ m
   pub order_is : inner.items.order ≡ order
-  pub stands : Stands inner.items (bounds_of m) inner.events t
+  pub stands : Stands inner.items (bounds_of m keys) inner.events t
+  pub keeps : KeepsToKinds (bounds_of m keys) (strict order) t
 
 -- the bytes of the last piece, if nothing was refused
 abbrev pub piece_unless : Option Refusal → List ℕ → List ℕ

@@ -2,7 +2,7 @@
 
 use bumpalo::Bump;
 use cbor_head::Major;
-use cbor_view::{View, ViewBuilder};
+use cbor_view::{Joined, View, ViewBuilder};
 use std::test::Fail;
 
 // {"a": [h'01', -1], 1(true): "bc"}, of which two strings are copied
@@ -36,6 +36,27 @@ fn builds_from_parts(rt: HostRuntime) -> Result<(), Fail> {
     assert!(rt; bytes.as_bytes() == Some(b"\x01".as_slice()) && number.as_i64() == Some(-1));
     let (number, content) = tagged.as_tag().ok_or("no tag")?;
     assert!(rt; number == 1 && content.as_bool() == Some(true));
+    Ok(())
+}
+
+// Chunks of no bytes, of those that are copied in one piece, and of more; then another string.
+#[test]
+fn joins_chunks(rt: HostRuntime) -> Result<(), Fail> {
+    let mut input = [0u8; 80];
+    for i in 0..input.len() {
+        input[i] = i as u8;
+    }
+    let mut joined = Joined::new(rt.alloc());
+    assert!(rt; joined.as_slice().is_empty());
+    let mut wanted = Vec::new(rt.alloc());
+    for count in [0, 1, 31, 32, 33, 80, 2, 80, 1] {
+        joined.extend_front(&input, count)?;
+        wanted.extend_from_slice(&input[..count])?;
+        assert!(rt; joined.as_slice() == wanted.as_slice());
+    }
+    joined.clear();
+    joined.extend_front(b"bc", 1)?;
+    assert!(rt; joined.as_slice() == b"b".as_slice());
     Ok(())
 }
 

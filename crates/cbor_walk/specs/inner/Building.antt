@@ -1,11 +1,15 @@
 -- What the walk over a valid item holds: of the open containers what is still to come, and a sink that took what is complete.
-use Rattle.std.specs.Prelude.{◌≡◌, ℕ, zero, suc, ◌-◌, ◌^◌, ◌<◌, ◌≤◌, Bool, true, false, Option, Some, None, List, [], ◌∷◌, ◌++◌, length, take, IsUtf8}
+use Rattle.std.specs.Prelude.{◌≡◌, ℕ, zero, suc, ◌-◌, ◌^◌, ◌<◌, ◌≤◌, ◌⊎◌, Bool, true, false, Option, Some, None, List, [], ◌∷◌, ◌++◌, length, take, IsUtf8}
+use Rattle.cbor_head.specs.Complaint.{plain}
 use Rattle.cbor_head.specs.Head.{Holds, IsSimple, head, shortest}
+use Rattle.cbor_head.specs.Limits.{bounds, with_keys}
 use Rattle.cbor_head.specs.Spelling.{Spelling, spell, IsSpelled, depth}
+use Rattle.cbor_head.specs.declared.keys.Keys.{Keys}
 use Rattle.cbor_head.specs.declared.major.Major.{Major}
 use Rattle.cbor_head.specs.declared.major.Major.TheVariants.{Array, Map, Simple}
 use Rattle.cbor_head.specs.declared.width.Width.{Width}
 use Rattle.cbor_head.specs.declared.width.Width.TheVariants.{Indefinite}
+use Rattle.cbor_judging.specs.Kinds.{KeepsToKinds, IsOfOneHead}
 use Rattle.cbor_judging.specs.Levels.{IsTaken, Level, a_member, a_key, a_value, some_member, some_key, some_value, tagged, IsLevel, AreLevels, level_bytes, bytes_before, Standing, item_due, item_whole, settle}
 use Rattle.cbor_judging.specs.Reading.{string_major}
 use Rattle.cbor_walk.specs.declared.building.Met.{Met}
@@ -103,6 +107,59 @@ chunked_from is_text behind = head (string_major is_text) Indefinite 0 ++ behind
 abbrev pub IsFullAt : Met → ℕ → ℕ → Type 0
 IsFullAt (met.Full rest) height count = height ≡ count
 IsFullAt _ height count = Unit {0}
+
+-- ---- what is taken of the bytes that are left
+
+-- an item of this depth begins with the first of them, which are of one head or of what holds no items
+pub record HasBegun (d : ℕ) (rest behind : List ℕ) : Type 0 where
+  pub front : List ℕ
+  pub is : rest ≡ front ++ behind
+  pub one : IsOfOneHead front
+  pub item : Spelling
+  pub spelled : IsSpelled item
+  pub within : depth item ≤ d
+  pub more : List ℕ
+  pub bytes : spell item ≡ front ++ more
+
+-- a break stands there, and may
+pub record HasBroken (c : Open) (rest behind : List ℕ) : Type 0 where
+  pub open_ended : c.is_endless ≡ true
+  pub no_value : c.due ≡ Value → ⊥
+  pub is : rest ≡ 0xff ∷ behind
+
+abbrev pub TakesFront : Part → ℕ → Open → List ℕ → Type 0
+TakesFront (part.Item behind) d c rest = HasBegun d rest behind.now ⊎ HasBroken c rest behind.now
+TakesFront (part.Head behind) d c rest = HasBegun d rest behind.now
+TakesFront _ d c rest = Unit {0}
+
+-- within whatever containers
+abbrev pub TakesScalar : Part → List ℕ → Type 0
+TakesScalar result rest = (d : ℕ) (c : Open) → TakesFront result d c rest
+
+abbrev pub TakesHeadFront : Part → Major → ℕ → List ℕ → Type 0
+TakesHeadFront result m n behind = (rest : List ℕ) → IsHead m n rest behind → TakesScalar result rest
+
+abbrev pub TakesCountedFront : Part → ℕ → Major → ℕ → List ℕ → Type 0
+TakesCountedFront result d m n behind = (rest : List ℕ) → IsHead m n rest behind → (c : Open) → TakesFront result d c rest
+
+abbrev pub TakesOpenerFront : Part → ℕ → Major → ℕ → Open → List ℕ → Type 0
+TakesOpenerFront result d m n o behind = (rest : List ℕ) → IsOpener m n o rest behind → (c : Open) → TakesFront result d c rest
+
+-- what is taken ends before these
+abbrev pub EndsBefore : Part → List ℕ → Type 0
+EndsBefore (part.Item to) behind = to.now ≡ behind
+EndsBefore _ behind = Unit {0}
+
+-- ---- the kinds of keys
+
+-- no key of another kind than these begins before the rest of an input
+abbrev pub KeepsBefore : ℕ → Keys → List ℕ → List ℕ → Type 0
+KeepsBefore d keys input rest = (t : List ℕ) → input ≡ t ++ rest → KeepsToKinds (with_keys (bounds d 0) keys) plain t
+
+abbrev pub MetKept : Met → ℕ → Keys → List ℕ → Type 0
+MetKept (met.Whole rest) d keys input = KeepsBefore d keys input rest.now
+MetKept (met.Full rest) d keys input = KeepsBefore d keys input rest.now
+MetKept met.Stopped d keys input = Unit {0}
 
 -- ---- where the walk stands, before the rest of an input, with a sink that began in its first state
 
@@ -243,3 +300,7 @@ module _ (S : Type 0) (stands : S → S → Standing → Type 0) where
 
   abbrev pub Walks : Met → ℕ → List ℕ → List Open → S → List Open → S → Type 0
   Walks result d rest cs g now new = (start : S) (input : List ℕ) → IsDue start d input cs g rest → Meets result start d input now new
+
+  -- where kinds are asked for
+  abbrev pub WalksKept : Bool → Met → ℕ → List ℕ → List Open → S → Type 0
+  WalksKept kinds result d rest cs g = kinds ≡ true → (keys : Keys) (start : S) (input : List ℕ) → IsDue start d input cs g rest → KeepsBefore d keys input rest → MetKept result d keys input

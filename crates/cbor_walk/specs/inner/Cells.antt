@@ -1,6 +1,7 @@
 -- What the walk holds of the open containers, and what an item that is whole makes of it.
 use Rattle.std.specs.Prelude.{◌≡◌, ◌≢◌, ℕ, ◌+◌, ◌≤◌, Bool, true, false, List, [], ◌∷◌, ◌++◌, length, slice_range}
 use Rattle.cbor_head.specs.Complaint.{strict}
+use Rattle.cbor_head.specs.Limits.{Bounds}
 use Rattle.cbor_head.specs.Order.{key_lt}
 use Rattle.cbor_head.specs.Spelling.{Spelling, spell}
 use Rattle.cbor_head.specs.Verdict.{refusal}
@@ -8,6 +9,7 @@ use Rattle.cbor_head.specs.declared.order.KeyOrder.{KeyOrder}
 use Rattle.cbor_head.specs.declared.reason.Reason.TheVariants as reasons
 use Rattle.cbor_head.specs.declared.width.Width.TheVariants.{Indefinite}
 use Rattle.cbor_keys.specs.Front.{front_of}
+use Rattle.cbor_judging.specs.Kinds.{KeepsToKinds}
 use Rattle.cbor_judging.specs.LastKey as keys
 use Rattle.cbor_walk.specs.inner.Path as path
 use Rattle.cbor_walk.specs.inner.Path.{level_bytes, bytes_before, AreClean, HasEnded}
@@ -72,40 +74,43 @@ AreCells input _ _ = ⊥
 -- ---- where the walk stands
 
 -- an item is due within these containers, in which nothing has a complaint
-pub record StandsAt (o : KeyOrder) (d : ℕ) (input : List ℕ) (cs : List Level) (at : ℕ) : Type 0 where
+pub record StandsAt (o : KeyOrder) (limits : Bounds) (input : List ℕ) (cs : List Level) (at : ℕ) : Type 0 where
   pub ls : List path.Level
-  pub clean : AreClean (strict o) d ls
+  pub clean : AreClean (strict o) limits.depth ls
+  pub keeps : KeepsToKinds limits (strict o) (bytes_before ls)
   pub are : AreCells input ls cs
   pub rest : List ℕ
   pub bytes : input ≡ bytes_before ls ++ rest
   pub here : at ≡ length (bytes_before ls)
 
 -- an item is whole within them
-pub record HasEndedAt (o : KeyOrder) (d : ℕ) (input : List ℕ) (cs : List Level) (at : ℕ) : Type 0 where
+pub record HasEndedAt (o : KeyOrder) (limits : Bounds) (input : List ℕ) (cs : List Level) (at : ℕ) : Type 0 where
   pub ls : List path.Level
   pub item : Spelling
-  pub ended : HasEnded (strict o) d ls item
+  pub ended : HasEnded (strict o) limits.depth ls item
+  pub keeps : KeepsToKinds limits (strict o) (bytes_before ls ++ spell item)
   pub are : AreCells input ls cs
   pub rest : List ℕ
   pub bytes : input ≡ (bytes_before ls ++ spell item) ++ rest
   pub here : at ≡ length (bytes_before ls ++ spell item)
 
 -- the input's item is whole
-pub record IsWhole (o : KeyOrder) (d : ℕ) (input : List ℕ) (at : ℕ) : Type 0 where
+pub record IsWhole (o : KeyOrder) (limits : Bounds) (input : List ℕ) (at : ℕ) : Type 0 where
   pub item : Spelling
-  pub ended : HasEnded (strict o) d [] item
+  pub ended : HasEnded (strict o) limits.depth [] item
+  pub keeps : KeepsToKinds limits (strict o) (spell item)
   pub rest : List ℕ
   pub bytes : input ≡ spell item ++ rest
   pub here : at ≡ length (spell item)
 
 -- the innermost of these has ended with the item; or it was the input's item
-abbrev pub HasClosed : KeyOrder → ℕ → List ℕ → List Level → ℕ → Type 0
-HasClosed o d input [] at = IsWhole o d input at
-HasClosed o d input (c ∷ cs) at = HasEndedAt o d input (c ∷ cs) at
+abbrev pub HasClosed : KeyOrder → Bounds → List ℕ → List Level → ℕ → Type 0
+HasClosed o limits input [] at = IsWhole o limits input at
+HasClosed o limits input (c ∷ cs) at = HasEndedAt o limits input (c ∷ cs) at
 
 -- the refusal of a key that begins there
-abbrev pub Falls : KeyOrder → ℕ → List ℕ → ℕ → ℕ → Type 0
-Falls o d input place at = HasComplaint (strict o) d input (refusal reasons.KeyOrder place at)
+abbrev pub Falls : KeyOrder → Bounds → List ℕ → ℕ → ℕ → Type 0
+Falls o limits input place at = HasComplaint (strict o) limits input (refusal reasons.KeyOrder place at)
 
 -- ---- what the calls do
 
@@ -117,12 +122,12 @@ TakesKey false o input at old new = (new ≡ old) × (old.key ≤ at → IsFront
 
 -- an item of it is whole, which ends there
 abbrev pub Advances : Step → KeyOrder → List ℕ → ℕ → Level → Level → Type 0
-Advances steps.Next o input at old new = (d : ℕ) (cs : List Level) → HasEndedAt o d input (old ∷ cs) at → StandsAt o d input (new ∷ cs) at
-Advances steps.Full o input at old new = (d : ℕ) (cs : List Level) → HasEndedAt o d input (old ∷ cs) at → HasClosed o d input cs at
-Advances steps.Falls o input at old new = (d : ℕ) (cs : List Level) → HasEndedAt o d input (old ∷ cs) at → Falls o d input new.key at
+Advances steps.Next o input at old new = (limits : Bounds) (cs : List Level) → HasEndedAt o limits input (old ∷ cs) at → StandsAt o limits input (new ∷ cs) at
+Advances steps.Full o input at old new = (limits : Bounds) (cs : List Level) → HasEndedAt o limits input (old ∷ cs) at → HasClosed o limits input cs at
+Advances steps.Falls o input at old new = (limits : Bounds) (cs : List Level) → HasEndedAt o limits input (old ∷ cs) at → Falls o limits input new.key at
 
 -- from what has ended, that is what is due
 abbrev pub Leads : Next → KeyOrder → List ℕ → ℕ → List Level → Stack Level → List Level → Type 0
-Leads nexts.Item o input at old new cells = (d : ℕ) → HasClosed o d input old at → StandsAt o d input (standing Level new cells) at
-Leads nexts.Done o input at old new cells = (d : ℕ) → HasClosed o d input old at → IsWhole o d input at
-Leads nexts.Falls o input at old new cells = (d : ℕ) → HasClosed o d input old at → Falls o d input new.top.key at
+Leads nexts.Item o input at old new cells = (limits : Bounds) → HasClosed o limits input old at → StandsAt o limits input (standing Level new cells) at
+Leads nexts.Done o input at old new cells = (limits : Bounds) → HasClosed o limits input old at → IsWhole o limits input at
+Leads nexts.Falls o input at old new cells = (limits : Bounds) → HasClosed o limits input old at → Falls o limits input new.top.key at

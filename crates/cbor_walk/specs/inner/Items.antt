@@ -2,6 +2,7 @@
 use Rattle.std.specs.Prelude.{◌≡◌, ℕ, suc, ◌+◌, ◌-◌, ◌^◌, ◌%◌, ◌<◌, ◌≤◌, ◌⊎◌, ◌++◌, Bool, true, false, List, ◌∷◌, length, drop}
 use Rattle.cbor_head.specs.Complaint.{strict}
 use Rattle.cbor_head.specs.Head.{shortest, shortest_head}
+use Rattle.cbor_head.specs.Limits.{Bounds}
 use Rattle.cbor_head.specs.declared.major.Major.TheVariants.{Array, Map, Tag}
 use Rattle.cbor_head.specs.declared.order.KeyOrder.{KeyOrder}
 use Rattle.cbor_head.specs.declared.reason.Reason.{Reason}
@@ -9,6 +10,7 @@ use Rattle.cbor_head.specs.declared.reason.Reason.TheVariants.{Reserved, NoIndef
 use Rattle.cbor_head.specs.declared.reason.Refusal.{Refusal}
 use Rattle.cbor_head.specs.Value.{AreBytes}
 use Rattle.cbor_steps.specs.Whole.{IsArgument}
+use Rattle.cbor_walk.specs.inner.Kept.{KeepsHere}
 use Rattle.cbor_walk.specs.inner.Leaves.{IsLeaf, IsShortest}
 use Rattle.cbor_walk.specs.inner.Path.{Level, bytes_before, AreClean}
 use Rattle.cbor_walk.specs.inner.Stop.{IsStopped}
@@ -56,10 +58,16 @@ pub record OpensHere (room : Bool) (b : List ℕ) (due : Due) (left used : ℕ) 
   pub fits : room ≡ true
   pub opens : OpensWith due left used b
 
+-- these containers are open at this place, and one more may open or not
+pub record IsPlaceFor (room : Bool) (d : ℕ) (ls : List Level) (at : ℕ) : Type 0 where
+  pub here : at ≡ length (bytes_before ls)
+  pub fits : room ≡ true → length ls < d
+  pub full : room ≡ false → d ≤ length ls
+
 -- The bytes that are left at this place of an input are refused so, within whatever containers are open there.
 abbrev pub IsRefusedHere : Bool → List ℕ → ℕ → Refusal → Type 0
 IsRefusedHere room b at f =
-    (o : KeyOrder) (d : ℕ) (ls : List Level) → AreClean (strict o) d ls → at ≡ length (bytes_before ls) → (room ≡ true → length ls < d) → (room ≡ false → d ≤ length ls) → AreBytes (bytes_before ls ++ b) → IsStopped (strict o) d (bytes_before ls ++ b) f
+    (o : KeyOrder) (limits : Bounds) (ls : List Level) → AreClean (strict o) limits.depth ls → KeepsHere limits (strict o) ls b → IsPlaceFor room limits.depth ls at → AreBytes (bytes_before ls ++ b) → IsStopped (strict o) limits (bytes_before ls ++ b) f
 
 abbrev pub IsAny : List ℕ → ℕ → Bool → Any → Type 0
 IsAny b at room (Leaf used) = (0 < used) × IsLeaf room b used

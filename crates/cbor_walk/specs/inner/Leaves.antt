@@ -2,7 +2,7 @@
 use Rattle.std.specs.Prelude.{ℕ, ◌+◌, ◌-◌, ◌^◌, ◌%◌, ◌≡◌, ◌<◌, ◌≤◌, Bool, true, List, ◌∷◌, ◌++◌, length, drop}
 use Rattle.cbor_head.specs.Head.{with_argument, shortest}
 use Rattle.cbor_head.specs.Spelling.{Spelling, IsSpelled, spell, depth}
-use Rattle.cbor_head.specs.Complaint.{strict, Complaint, Complains}
+use Rattle.cbor_head.specs.Complaint.{strict, Complaint, Complains, OfKinds}
 use Rattle.cbor_head.specs.declared.order.KeyOrder.{KeyOrder}
 
 -- well-formed within the depth, and nothing is to be said against it, wherever it stands
@@ -10,6 +10,8 @@ pub record IsFine (o : KeyOrder) (d : ℕ) (s : Spelling) : Type 0 where
   pub spelled : IsSpelled s
   pub within : depth s ≤ d
   pub clean : (at : ℕ) (c : Complaint) → Complains (strict o) at s c → ⊥
+  -- it has no keys of another kind, whichever are asked for
+  pub keyless : (at : ℕ) (c : Complaint) → OfKinds at s c → ⊥
 
 -- one item, and then the rest
 pub record IsItemThen (o : KeyOrder) (d : ℕ) (input rest : List ℕ) : Type 0 where

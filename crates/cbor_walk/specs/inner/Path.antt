@@ -54,3 +54,8 @@ pub record HasEnded (r : Rules) (d : ℕ) (ls : List Level) (s : Spelling) : Typ
   pub spelled : IsSpelled s
   pub within : depth s ≤ d - length ls
   pub clean : (c : Complaint) → Complains r (length (bytes_before ls)) s c → ⊥
+
+-- a key is due
+abbrev pub IsKeyDueIn : List Level → Type 0
+IsKeyDueIn (a_key w left done ∷ ls) = Unit {0}
+IsKeyDueIn _ = ⊥

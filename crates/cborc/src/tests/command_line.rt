@@ -1,251 +1,135 @@
 //! The words of the command line.
 
 use super::ran;
-use std::alloc::AllocError;
+use std::alloc::{AllocError, Global};
 
 // The options stand before or behind the files.
-static CANON: [&str; 17] = [
-    "canon in out",
-    "canon --hex in out",
-    "canon in --hex out",
-    "canon in out --hex",
-    "canon --bytes 4 --depth 3 --hex in out",
-    "canon in --bytes=4 out --depth=3",
-    "canon in out --bytes 4 --hex --depth 3",
-    "canon --depth 0 in out",
-    "canon --depth 256 in out",
-    "canon --bytes 4611686018427387904 in out",
-    "canon --order bytewise in out",
-    "canon in --order=length out",
-    "canon in out --hex --order length",
-    "canon --seq in out",
-    "canon in out --order length --seq --bytes 1",
-    "canon -- in out",
-    "canon --hex -- in out",
-];
+static CANON: &str = "\
+canon in out
+canon --hex in out
+canon in --hex out
+canon in out --hex
+canon --bytes 4 --depth 3 --hex in out
+canon in --bytes=4 out --depth=3
+canon in out --bytes 4 --hex --depth 3
+canon --depth 0 in out
+canon --depth 256 in out
+canon --bytes 4611686018427387904 in out
+canon --order bytewise in out
+canon in --order=length out
+canon in out --hex --order length
+canon --seq in out
+canon in out --order length --seq --bytes 1
+canon -- in out
+canon --hex -- in out";
 
-static CHECK: [&str; 10] = [
-    "check in",
-    "check --hex in",
-    "check in --strict",
-    "check --strict in --hex",
-    "check --order length in",
-    "check in --order=bytewise --strict",
-    "check --bytes 1 --depth 0 --order length --strict --hex in",
-    "check in --bytes=1 --depth=256",
-    "check -- in",
-    "check --strict -- in",
-];
+static CHECK: &str = "\
+check in
+check --hex in
+check in --strict
+check --strict in --hex
+check --order length in
+check in --order=bytewise --strict
+check --bytes 1 --depth 0 --order length --strict --hex in
+check in --bytes=1 --depth=256
+check -- in
+check --strict -- in";
 
-static CHECK_SEQUENCE: [&str; 5] = [
-    "check in --seq",
-    "check --seq in",
-    "check --seq -- in",
-    "check --strict --seq --hex in",
-    "check --order length --bytes 1 in --seq --depth 0 --strict",
-];
+static CHECK_SEQUENCE: &str = "\
+check in --seq
+check --seq in
+check --seq -- in
+check --strict --seq --hex in
+check --order length --bytes 1 in --seq --depth 0 --strict";
 
-// The words, and what standard error begins with.
-static FAULTS: [(&str, &str); 47] = [
-    (
-        "compare",
-        "error: the following required arguments were not provided:\n  <A>\n  <B>\n",
-    ),
-    (
-        "compare a",
-        "error: the following required arguments were not provided:\n  <B>\n",
-    ),
-    ("compare a b c", "error: unexpected argument 'c' found\n"),
-    (
-        "compare --order length a b",
-        "error: unexpected argument '--order' found\n",
-    ),
-    (
-        "compare --strict a b",
-        "error: unexpected argument '--strict' found\n",
-    ),
-    (
-        "compare - -",
-        "error: standard input is read once: '-' may stand for A or for B\n",
-    ),
-    (
-        "check --quiet --explain in",
-        "error: the argument '--quiet' cannot be used with '--explain'\n",
-    ),
-    (
-        "--quiet check in",
-        "error: unexpected argument '--quiet' found\n",
-    ),
-    (
-        "",
-        "error: 'cborc' requires a subcommand but one was not provided\n",
-    ),
-    ("--hex", "error: unexpected argument '--hex' found\n"),
-    ("encode in out", "error: unrecognized subcommand 'encode'\n"),
-    (
-        "--hex canon in out",
-        "error: unexpected argument '--hex' found\n",
-    ),
-    (
-        "canon",
-        "error: the following required arguments were not provided:\n  <IN>\n  <OUT>\n",
-    ),
-    (
-        "canon in",
-        "error: the following required arguments were not provided:\n  <OUT>\n",
-    ),
-    (
-        "canon in out more",
-        "error: unexpected argument 'more' found\n",
-    ),
-    (
-        "canon --strict in out",
-        "error: unexpected argument '--strict' found\n",
-    ),
-    (
-        "canon --order shortest in out",
-        "error: invalid value 'shortest' for '--order <order>'\n  [possible values: bytewise, length]\n",
-    ),
-    (
-        "canon --order Length in out",
-        "error: invalid value 'Length' for '--order <order>'\n  [possible values: bytewise, length]\n",
-    ),
-    (
-        "canon --order= in out",
-        "error: a value is required for '--order <order>' but none was supplied\n  [possible values: bytewise, length]\n",
-    ),
-    (
-        "canon in out --order",
-        "error: a value is required for '--order <order>' but none was supplied\n  [possible values: bytewise, length]\n",
-    ),
-    (
-        "canon --order length --order length in out",
-        "error: the argument '--order <order>' cannot be used multiple times\n",
-    ),
-    ("canon -x in out", "error: unexpected argument '-x' found\n"),
-    (
-        "canon --hex=yes in out",
-        "error: unexpected value 'yes' for '--hex' found; no more were expected\n",
-    ),
-    (
-        "canon --hex --hex in out",
-        "error: the argument '--hex' cannot be used multiple times\n",
-    ),
-    (
-        "canon --depth 1 --depth 1 in out",
-        "error: the argument '--depth <count>' cannot be used multiple times\n",
-    ),
-    (
-        "canon in out --depth",
-        "error: a value is required for '--depth <count>' but none was supplied\n",
-    ),
-    (
-        "canon --depth 257 in out",
-        "error: invalid value '257' for '--depth <count>': 257 is not in 0..=256\n",
-    ),
-    (
-        "canon --depth=-1 in out",
-        "error: invalid value '-1' for '--depth <count>': ",
-    ),
-    (
-        "canon --depth deep in out",
-        "error: invalid value 'deep' for '--depth <count>': invalid digit found in string\n",
-    ),
-    (
-        "canon --bytes 4611686018427387905 in out",
-        "error: invalid value '4611686018427387905' for '--bytes <count>': 4611686018427387905 is not in 0..=4611686018427387904\n",
-    ),
-    (
-        "canon --bytes 18446744073709551616 in out",
-        "error: invalid value '18446744073709551616' for '--bytes <count>': ",
-    ),
-    (
-        "canon --bytes=-1 in out",
-        "error: invalid value '-1' for '--bytes <count>': ",
-    ),
-    (
-        "canon --bytes 1k in out",
-        "error: invalid value '1k' for '--bytes <count>': invalid digit found in string\n",
-    ),
-    (
-        "canon --bytes= in out",
-        "error: invalid value '' for '--bytes <count>': cannot parse integer from empty string\n",
-    ),
-    (
-        "check",
-        "error: the following required arguments were not provided:\n  <FILE>\n",
-    ),
-    ("check in more", "error: unexpected argument 'more' found\n"),
-    (
-        "check --strict=yes in",
-        "error: unexpected value 'yes' for '--strict' found; no more were expected\n",
-    ),
-    (
-        "check --strict --strict in",
-        "error: the argument '--strict' cannot be used multiple times\n",
-    ),
-    (
-        "check --seq=yes in",
-        "error: unexpected value 'yes' for '--seq' found; no more were expected\n",
-    ),
-    (
-        "check --seq --seq in",
-        "error: the argument '--seq' cannot be used multiple times\n",
-    ),
-    (
-        "compare --seq a b",
-        "error: unexpected argument '--seq' found\n",
-    ),
-    (
-        "canon --seq --seq in out",
-        "error: the argument '--seq' cannot be used multiple times\n",
-    ),
-    (
-        "events --seq --seq in",
-        "error: the argument '--seq' cannot be used multiple times\n",
-    ),
-    (
-        "show --seq=1 in",
-        "error: unexpected value '1' for '--seq' found; no more were expected\n",
-    ),
-    (
-        "check --order in",
-        "error: invalid value 'in' for '--order <order>'\n  [possible values: bytewise, length]\n",
-    ),
-    (
-        "check --depth 257 in",
-        "error: invalid value '257' for '--depth <count>': 257 is not in 0..=256\n",
-    ),
-    (
-        "--strict check in",
-        "error: unexpected argument '--strict' found\n",
-    ),
-];
+// The words, and what standard error begins with. A row ends with a semicolon.
+static FAULTS: &str = "\
+compare | error: the following required arguments were not provided:\n  <A>\n  <B>\n;
+compare a | error: the following required arguments were not provided:\n  <B>\n;
+compare a b c | error: unexpected argument 'c' found\n;
+compare --order length a b | error: unexpected argument '--order' found\n;
+compare --strict a b | error: unexpected argument '--strict' found\n;
+compare - - | error: standard input is read once: '-' may stand for A or for B\n;
+check --quiet --explain in | error: the argument '--quiet' cannot be used with '--explain'\n;
+--quiet check in | error: unexpected argument '--quiet' found\n;
+ | error: 'cborc' requires a subcommand but one was not provided\n;
+--hex | error: unexpected argument '--hex' found\n;
+encode in out | error: unrecognized subcommand 'encode'\n;
+--hex canon in out | error: unexpected argument '--hex' found\n;
+canon | error: the following required arguments were not provided:\n  <IN>\n  <OUT>\n;
+canon in | error: the following required arguments were not provided:\n  <OUT>\n;
+canon in out more | error: unexpected argument 'more' found\n;
+canon --strict in out | error: unexpected argument '--strict' found\n;
+canon --order shortest in out | error: invalid value 'shortest' for '--order <order>'\n  [possible values: bytewise, length]\n;
+canon --order Length in out | error: invalid value 'Length' for '--order <order>'\n  [possible values: bytewise, length]\n;
+canon --order= in out | error: a value is required for '--order <order>' but none was supplied\n  [possible values: bytewise, length]\n;
+canon in out --order | error: a value is required for '--order <order>' but none was supplied\n  [possible values: bytewise, length]\n;
+canon --order length --order length in out | error: the argument '--order <order>' cannot be used multiple times\n;
+canon -x in out | error: unexpected argument '-x' found\n;
+canon --hex=yes in out | error: unexpected value 'yes' for '--hex' found; no more were expected\n;
+canon --hex --hex in out | error: the argument '--hex' cannot be used multiple times\n;
+canon --depth 1 --depth 1 in out | error: the argument '--depth <count>' cannot be used multiple times\n;
+canon in out --depth | error: a value is required for '--depth <count>' but none was supplied\n;
+canon --depth 257 in out | error: invalid value '257' for '--depth <count>': 257 is not in 0..=256\n;
+canon --depth=-1 in out | error: invalid value '-1' for '--depth <count>': ;
+canon --depth deep in out | error: invalid value 'deep' for '--depth <count>': invalid digit found in string\n;
+canon --bytes 4611686018427387905 in out | error: invalid value '4611686018427387905' for '--bytes <count>': 4611686018427387905 is not in 0..=4611686018427387904\n;
+canon --bytes 18446744073709551616 in out | error: invalid value '18446744073709551616' for '--bytes <count>': ;
+canon --bytes=-1 in out | error: invalid value '-1' for '--bytes <count>': ;
+canon --bytes 1k in out | error: invalid value '1k' for '--bytes <count>': invalid digit found in string\n;
+canon --bytes= in out | error: invalid value '' for '--bytes <count>': cannot parse integer from empty string\n;
+check | error: the following required arguments were not provided:\n  <FILE>\n;
+check in more | error: unexpected argument 'more' found\n;
+check --strict=yes in | error: unexpected value 'yes' for '--strict' found; no more were expected\n;
+check --strict --strict in | error: the argument '--strict' cannot be used multiple times\n;
+check --seq=yes in | error: unexpected value 'yes' for '--seq' found; no more were expected\n;
+check --seq --seq in | error: the argument '--seq' cannot be used multiple times\n;
+compare --seq a b | error: unexpected argument '--seq' found\n;
+canon --seq --seq in out | error: the argument '--seq' cannot be used multiple times\n;
+events --seq --seq in | error: the argument '--seq' cannot be used multiple times\n;
+show --seq=1 in | error: unexpected value '1' for '--seq' found; no more were expected\n;
+check --order in | error: invalid value 'in' for '--order <order>'\n  [possible values: bytewise, length]\n;
+check --depth 257 in | error: invalid value '257' for '--depth <count>': 257 is not in 0..=256\n;
+--strict check in | error: unexpected argument '--strict' found\n";
 
 #[test]
 fn takes_options_anywhere(rt: HostRuntime) -> Result<(), AllocError> {
-    for &line in &CANON {
-        let ran = ran(rt.alloc(), line, "00")?;
-        assert!(rt; ran.wrote("out", b"\x00"), "{line}");
-    }
-    for &line in &CHECK {
-        let ran = ran(rt.alloc(), line, "00")?;
-        assert!(rt; ran.printed("accepted 1 bytes"), "{line}");
-    }
-    for &line in &CHECK_SEQUENCE {
-        let ran = ran(rt.alloc(), line, "00")?;
-        assert!(rt; ran.printed("accepted 1 items"), "{line}");
+    for line in CANON.lines() {
+        assert!(rt;
+            ran(rt.alloc(), line, "00")?.wrote("out", b"\x00"),
+            "{line}"
+        );
     }
     Ok(())
 }
 
 #[test]
+fn takes_options_of_check_anywhere(rt: HostRuntime) -> Result<(), AllocError> {
+    for (lines, wanted) in [
+        (CHECK, "accepted 1 bytes"),
+        (CHECK_SEQUENCE, "accepted 1 items"),
+    ] {
+        for line in lines.lines() {
+            assert!(rt; ran(rt.alloc(), line, "00")?.printed(wanted), "{line}");
+        }
+    }
+    Ok(())
+}
+
+// Whether the words of the row are a fault, and standard error begins as it says.
+fn is_fault(alloc: Global, row: &str) -> Result<bool, AllocError> {
+    let Some((line, wanted)) = row.split_once(" | ") else {
+        return Ok(false);
+    };
+    let ran = ran(alloc, line, "00")?;
+    let quiet = ran.out.is_empty() && ran.written.is_empty();
+    Ok(ran.status == 2 && quiet && ran.err.starts_with(wanted.as_bytes()))
+}
+
+#[test]
 fn faults_in_the_words(rt: HostRuntime) -> Result<(), AllocError> {
-    for &(line, wanted) in &FAULTS {
-        let ran = ran(rt.alloc(), line, "00")?;
-        let quiet = ran.out.is_empty() && ran.written.is_empty();
-        let told = ran.err.starts_with(wanted.as_bytes());
-        assert!(rt; ran.status == 2 && quiet && told, "{line}");
+    for row in FAULTS.split(";\n") {
+        assert!(rt; is_fault(rt.alloc(), row)?, "{row}");
     }
     Ok(())
 }

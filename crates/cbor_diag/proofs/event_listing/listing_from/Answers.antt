@@ -1,9 +1,20 @@
 use Rattle.std.proofs.Common.{ℕ, List, ◌-◌, ◌+◌, ◌^◌, ◌<◌, min, length, take, arith, ◌∙◌, ap, subst}
 use Rattle.cbor_head.specs.Verdict.{refusal}
+use Rattle.cbor_head.specs.declared.reason.Reason.{Reason}
 use Rattle.cbor_head.specs.declared.reason.Reason.TheVariants.{Write}
 use Rattle.std.specs.Io.KnownBytes.{Appends}
 use Rattle.cbor_diag.proofs.Listed.{none-listed, one-more, takes-more, place-within, all-listed, all-lost, refused-unlisted, refused-lost, stopped-unlisted, stopped-lost, next-event, no-event, listed-within, unlisted-within}
+use Rattle.cbor_automaton.specs.Reasons.{IsEventReason}
+use Rattle.cbor_diag.specs.Listing.{IsListingReason}
 use Rattle.cbor_diag.proofs.event_listing.listing_from.Goals as goal
+
+-- the events stop for no other
+listing_reason : (r : Reason) → IsEventReason r → IsListingReason r
+listing_reason Write h = tt
+listing_reason _ h = h
+
+pub returns-in-Err-clause-reasons : goal.returns-in-Err-clause-reasons
+returns-in-Err-clause-reasons g c = listing_reason c.in-Err.refusal.reason (c.in-Err.ensures.reason c.lines.invariant.2)
 
 pub lines-init : goal.lines-init
 lines-init g c = (c.new-events.ensures.limits.0, c.new-events.ensures.limits.1, c.new-events.ensures.live, none-listed _ _ _ _ c.new-events.ensures.starts)
@@ -35,7 +46,7 @@ returns-in-Ok-None-clause-listed g c =
     let inv = c.lines.invariant in
     let h = inv.3 in
     let end = no-event _ _ _ _ _ _ _ _ c.in-Ok-None.field-0 c.in-Ok-None.field-0-is (c.in-Ok-None.ensures.answers inv.2 h.t h.marks h.between) in
-    listed-within _ _ _ c.lines.events.machine _ _ _ _ inv.0 inv.1 (all-listed _ _ _ _ _ _ _ _ _ _ _ _ h end c.taken-in-Ok-None.ensures.taken)
+    listed-within _ c.args.limits c.lines.events.machine _ _ _ _ inv.0 inv.1 (all-listed _ _ _ _ _ _ _ _ _ _ _ _ h end c.taken-in-Ok-None.ensures.taken)
 
 pub returns-in-Ok-None-clause-taken : goal.returns-in-Ok-None-clause-taken
 returns-in-Ok-None-clause-taken g c =
@@ -49,7 +60,7 @@ returns-in-Err-clause-refused g c =
     let inv = c.lines.invariant in
     let h = inv.3 in
     let no = (c.in-Err.ensures.answers inv.2 h.t h.marks h.between).1 in
-    unlisted-within _ _ _ c.next.new.self.machine _ _ _ _ (c.next.ensures.limits.depth ∙ inv.0) (c.next.ensures.limits.bytes ∙ inv.1) (refused-unlisted _ _ _ _ _ _ _ _ _ _ _ h c.in-Err.refusal no)
+    unlisted-within _ c.args.limits c.next.new.self.machine _ _ _ _ (c.next.ensures.limits.depth ∙ inv.0) (c.next.ensures.limits.bytes ∙ inv.1) (refused-unlisted _ _ _ _ _ _ _ _ _ _ _ h c.in-Err.refusal no)
 
 pub returns-in-Err-clause-read : goal.returns-in-Err-clause-read
 returns-in-Err-clause-read g c =
@@ -66,7 +77,7 @@ returns-in-Err-write_whole-clause-refused g c =
     let text = c.as_slice-text.ensures.value ∙ c.line_of-line.ensures in
     let count = c.in-Err-write_whole.count in
     let stopped = c.in-Err-write_whole.ensures in
-    unlisted-within _ _ _ c.next.new.self.machine _ _ _ _ (c.next.ensures.limits.depth ∙ inv.0) (c.next.ensures.limits.bytes ∙ inv.1)
+    unlisted-within _ c.args.limits c.next.new.self.machine _ _ _ _ (c.next.ensures.limits.depth ∙ inv.0) (c.next.ensures.limits.bytes ∙ inv.1)
     (stopped-unlisted _ _ _ _ _ _ _ _ _ _ count _ _ c.in-Ok-Some.event h _ next
     (subst (λ (xs : List ℕ). count < length xs) text stopped.0)
     (subst (λ (xs : List ℕ). Appends (g.W.Write.contents c.lines.writer) (g.W.Write.contents c.write_whole.new.writer) (take count xs)) text stopped.1)

@@ -1,5 +1,7 @@
-use Rattle.std.proofs.Common.{[], ◌∙◌, arith}
-use Rattle.cbor_events.proofs.Parts.{end-answer}
+use Rattle.std.proofs.Common.{[], ◌++◌, ◌∙◌, refl, sym, subst, arith, append-nil, append_assoc, Some}
+use Rattle.std.specs.Prelude.{Ok}
+use Rattle.cbor_standing.specs.Machine.{StandsFor}
+use Rattle.cbor_events.proofs.Parts.{end-answer, given-on, told-given, silent-on}
 use Rattle.cbor_events.proofs.item_events.next_event.Goals as goal
 
 pub returns-then-want-eq0-clause-answers : goal.returns-then-want-eq0-clause-answers
@@ -22,6 +24,10 @@ reads-preserved g c =
     let inv = c.reads.invariant in
     record {
       read = λ was from t ms h d r. c.in-Open.ensures.answers was from [] t ms h (inv.read was from t ms h d r) (inv.depth ∙ d);
+      ran = λ t ms h.
+          let was = inv.ran t ms h in
+          let more = silent-on _ _ _ _ _ _ _ _ (c.in-Open.ensures.lost (t ++ was.0) ms was.1) in
+          (was.0 ++ more.0, subst (λ xs. StandsFor c.read_part.new.machine xs ms) (append_assoc t was.0 more.0) more.1);
       depth = c.read_part.ensures.limits.depth ∙ inv.depth;
       bytes = c.read_part.ensures.limits.bytes ∙ inv.bytes;
       within = c.read_part.ensures.limits.open_count;
@@ -29,3 +35,20 @@ reads-preserved g c =
       room = omega (arith, inv.room, c.read_part.ensures.same);
       same = c.read_part.ensures.same ∙ inv.same;
     }
+
+pub returns-in-Told-clause-given : goal.returns-in-Told-clause-given
+returns-in-Told-clause-given g c = λ t ms h.
+    let was = c.reads.invariant.ran t ms h in
+    given-on (Ok (Some c.in-Told.event)) c.read_part.new.machine t was.0 ms (told-given c.in-Told.event _ _ _ _ _ _ _ _ (c.in-Told.ensures.lost (t ++ was.0) ms was.1))
+
+pub reads-init : goal.reads-init
+reads-init g c = record {
+  read = λ was from t ms h d r. r;
+  ran = λ t ms h. ([], subst (λ xs. StandsFor c.args.machine.now xs ms) (sym (append-nil t)) h);
+  depth = refl;
+  bytes = refl;
+  within = c.requires.within;
+  idle = λ n. (n, refl);
+  room = c.requires.room;
+  same = refl;
+}

@@ -1,8 +1,8 @@
-use Rattle.std.proofs.Common.{◌≡◌, ◌-◌, ◌<◌, ◌≤◌, ℕ, List, length}
+use Rattle.std.proofs.Common.{◌≡◌, ◌-◌, ◌<◌, ◌≤◌, ℕ, List, ◌++◌, length}
 use Rattle.std.specs.Prelude.{Option}
 use Rattle.cbor_automaton.specs.Trace.{Mark}
 use Rattle.cbor_standing.specs.MachineView.{MachineView}
-use Rattle.cbor_standing.specs.Machine.{IsIdle}
+use Rattle.cbor_standing.specs.Machine.{IsIdle, StandsFor}
 use Rattle.cbor_standing.specs.NextEvent.{StandsBetween}
 use Rattle.cbor_standing.specs.Calls.{HasRead}
 use Rattle.cbor_events.proofs.item_events.next_event.Given as goal
@@ -11,6 +11,7 @@ abbrev pub invariant-reads : goal.invariant-reads
 invariant-reads g l = record {
   read : (was : MachineView) (from : Option (List ℕ)) (t : List ℕ) (ms : List Mark) → StandsBetween was t ms → l.fn.machine.depth ≡ was.depth → HasRead from (g.R.Read.remaining l.fn.reader) l.fn.machine t ms
       → HasRead from (g.R.Read.remaining l.reader) l.machine t ms;
+  ran : (t : List ℕ) (ms : List Mark) → StandsFor l.fn.machine t ms → (bs : List ℕ) × StandsFor l.machine (t ++ bs) ms;
   depth : l.machine.depth ≡ l.fn.machine.depth;
   bytes : l.machine.bytes ≡ l.fn.machine.bytes;
   within : l.machine.open_count ≤ l.machine.depth;

@@ -1,4 +1,5 @@
-use Rattle.std.proofs.Common.{[], ◌∙◌}
+use Rattle.std.proofs.Common.{[], ◌++◌, ◌∙◌}
+use Rattle.cbor_events.proofs.Parts.{given-on, told-given, silent-on}
 use Rattle.cbor_events.proofs.item_events.next_part.Goals as goal
 
 pub returns-then-want-eq0-clause-answers : goal.returns-then-want-eq0-clause-answers
@@ -13,3 +14,11 @@ returns-in-Stopped-clause-answers g c = λ was from kept t ms h r d. c.in-Stoppe
 pub returns-in-Open-clause-answers : goal.returns-in-Open-clause-answers
 returns-in-Open-clause-answers g c = λ was from kept t ms h r d.
     c.next_apart-in-Open.ensures.answers was from kept t ms h (c.in-Open.ensures.answers was from [] t ms h r d) (c.read_part.ensures.limits.depth ∙ d)
+
+pub returns-in-Told-clause-given : goal.returns-in-Told-clause-given
+returns-in-Told-clause-given g c = λ t ms h. told-given c.in-Told.event _ _ _ _ _ _ t ms (c.in-Told.ensures.lost t ms h)
+
+pub returns-in-Open-clause-given : goal.returns-in-Open-clause-given
+returns-in-Open-clause-given g c = λ t ms h.
+    let was = silent-on _ _ _ _ _ _ t ms (c.in-Open.ensures.lost t ms h) in
+    given-on c.next_apart-in-Open.result _ t was.0 ms (c.next_apart-in-Open.ensures.given (t ++ was.0) ms was.1)

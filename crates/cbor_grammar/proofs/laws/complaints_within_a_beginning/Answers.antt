@@ -1,5 +1,5 @@
-use Rattle.cbor_grammar.proofs.Agree.{same_complaints}
+use Rattle.cbor_grammar.proofs.Complaints.{complaints_told}
 use Rattle.cbor_grammar.proofs.laws.complaints_within_a_beginning.Goals as goal
 
 pub returns : goal.returns
-returns c = λ d p s t h i. same_complaints d s t p h.0 i.0 h.1 i.1
+returns c = λ d p s t h i limits r e l k. (complaints_told limits r).agree d s t p h.0 i.0 h.1 i.1 e l k

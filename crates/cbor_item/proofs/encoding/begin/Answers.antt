@@ -5,7 +5,7 @@ use Rattle.cbor_head.specs.Head.{shortest_head}
 use Rattle.cbor_head.specs.Value.{IsInRange, IsValid}
 use Rattle.cbor_head.specs.declared.major.Major.TheVariants as Major
 use Rattle.cbor_builder.specs.Built.{Built}
-use Rattle.cbor_builder.specs.Parts.{plain, an_array, a_map, give}
+use Rattle.cbor_canonical.specs.Parts.{plain, an_array, a_map, give}
 use Rattle.cbor_item.specs.View.{view}
 use Rattle.cbor_item.specs.inner.Walk.{flat, Opens}
 use Rattle.cbor_item.specs.declared.item.Item.{Item}

@@ -1,30 +1,33 @@
-use Rattle.std.proofs.Common.{◌≡◌, ℕ, List, [], take, sym, ap, ◌∙◌, subst}
+use Rattle.std.proofs.Common.{◌≡◌, List, ℕ, take, sym, ap, ◌∙◌, subst, IfOk, IfErr}
 use Rattle.cbor_head.specs.Complaint.{strict}
-use Rattle.cbor_walk.specs.inner.Path.{HasEnded}
+use Rattle.cbor_walk.specs.inner.Cells.{IsWhole}
 use Rattle.cbor_walk.specs.inner.Stop.{IsStopped, IsAnswered}
 use Rattle.cbor_walk.proofs.PathVerdict.{stopped, accepts}
 use Rattle.cbor_walk.proofs.canonical.canonical_front.Goals as goal
+use Rattle.cbor_walk.proofs.canonical.canonical_front.Goals.{in-Any, in-IntegersAndTexts}
 
 pub returns-in-Ok : goal.returns-in-Ok
 returns-in-Ok c =
-    let d : c.from.result ≡ c.args.limits.depth = c.from.ensures ∙ c.depth.ensures.depth in
-    let input : c.within-input.result.now ≡ take c.args.limits.bytes c.args.bytes.now = c.within-input.ensures ∙ ap (λ n. take n c.args.bytes.now) c.bytes.ensures.bytes in
-    let w = c.in-Ok.ensures.whole in
-    record {
-      item = w.item;
-      verdict = accepts (strict c.args.order) c.args.limits c.args.bytes.now w.item w.rest
-          (subst (λ k. HasEnded (strict c.args.order) k [] w.item) d w.ended) (sym input ∙ w.bytes);
-      size = w.here;
-    }
+    let o = c.args.order in
+    let limits = c.args.limits in
+    let input : c.within-input.result.now ≡ take limits.bytes c.args.bytes.now = c.within-input.ensures ∙ ap (λ n. take n c.args.bytes.now) c.bytes.ensures.bytes in
+    let w : IsWhole o limits c.within-input.result.now c.in-Ok.count = elim c.match-keys.branch [
+      | in-Any w ↦ subst (λ r. IfOk r (IsWhole o limits c.within-input.result.now)) (sym w.front-is ∙ c.in-Ok.is) w.whole_front-front.ensures.whole
+      | in-IntegersAndTexts w ↦ subst (λ r. IfOk r (IsWhole o limits c.within-input.result.now)) (sym w.front-is ∙ c.in-Ok.is) w.whole_front-front-in-IntegersAndTexts.ensures.whole
+    ] in
+    record { item = w.item; verdict = accepts (strict o) limits c.args.bytes.now w.item w.rest w.ended w.keeps (sym input ∙ w.bytes); size = w.here }
 
 pub returns-in-Err : goal.returns-in-Err
 returns-in-Err c =
-    let d : c.from.result ≡ c.args.limits.depth = c.from.ensures ∙ c.depth.ensures.depth in
-    let input : c.within-input.result.now ≡ take c.args.limits.bytes c.args.bytes.now = c.within-input.ensures ∙ ap (λ n. take n c.args.bytes.now) c.bytes.ensures.bytes in
+    let o = c.args.order in
+    let limits = c.args.limits in
+    let input : c.within-input.result.now ≡ take limits.bytes c.args.bytes.now = c.within-input.ensures ∙ ap (λ n. take n c.args.bytes.now) c.bytes.ensures.bytes in
     let f = c.in-Err.refusal in
     let g = c.at_the_limit.result in
-    stopped (strict c.args.order) c.args.limits c.args.bytes.now f
-    (subst (λ k. IsStopped (strict c.args.order) k (take c.args.limits.bytes c.args.bytes.now) f) d
-    (subst (λ (xs : List ℕ). IsStopped (strict c.args.order) c.from.result xs f) input c.in-Err.ensures.refused)) g
-    (subst (λ n. IsAnswered n (take c.args.limits.bytes c.args.bytes.now) f g) c.bytes-in-Err.ensures.bytes
+    let s : IsStopped (strict o) limits c.within-input.result.now f = elim c.match-keys.branch [
+      | in-Any w ↦ subst (λ r. IfErr r (IsStopped (strict o) limits c.within-input.result.now)) (sym w.front-is ∙ c.in-Err.is) w.whole_front-front.ensures.refused
+      | in-IntegersAndTexts w ↦ subst (λ r. IfErr r (IsStopped (strict o) limits c.within-input.result.now)) (sym w.front-is ∙ c.in-Err.is) w.whole_front-front-in-IntegersAndTexts.ensures.refused
+    ] in
+    stopped (strict o) limits c.args.bytes.now f (subst (λ (xs : List ℕ). IsStopped (strict o) limits xs f) input s) g
+    (subst (λ n. IsAnswered n (take limits.bytes c.args.bytes.now) f g) c.bytes-in-Err.ensures.bytes
     (subst (λ (xs : List ℕ). IsAnswered c.bytes-in-Err.result xs f g) input c.at_the_limit.ensures))

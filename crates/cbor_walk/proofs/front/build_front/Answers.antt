@@ -2,7 +2,7 @@ use Rattle.std.proofs.Common.{◌∙◌, [], ◌∷◌, ap}
 use Rattle.cbor_head.specs.Canonical.{canonical}
 use Rattle.cbor_head.specs.Spelling.{value_of}
 use Rattle.cbor_builder.specs.Built.{Built}
-use Rattle.cbor_builder.specs.Parts.{plain}
+use Rattle.cbor_canonical.specs.Parts.{plain}
 use Rattle.cbor_walk.proofs.front.build_front.Goals as goal
 
 pub returns : goal.returns

@@ -1,4 +1,5 @@
 use Rattle.std.proofs.Common.{refl, arith}
+use Rattle.cbor_walk.proofs.GivenKinds.{starts-kept}
 use Rattle.cbor_walk.proofs.GivenParts.{starts}
 use Rattle.cbor_walk.proofs.front.past_item.Goals as goal
 
@@ -15,3 +16,20 @@ deeper-requires g c =
         ),
       ),
     )
+
+pub returns-in-Whole-clause-kept : goal.returns-in-Whole-clause-kept
+returns-in-Whole-clause-kept g c = λ kinds keys.
+    let S = g.row.S.Denot in
+    let stands = g.S.Sink.stands in
+    let b = c.args.building.now in
+    let input = c.args.input.now in
+    c.in-Whole.ensures.kept kinds keys b.sink input (starts S stands b.stack b.sink c.args.depth input _ c.requires.none c.requires.top c.requires.fresh (omega arith)) (starts-kept S stands b.sink c.args.depth input keys)
+
+pub returns-in-Full-clause-kept : goal.returns-in-Full-clause-kept
+returns-in-Full-clause-kept g c = λ kinds keys.
+    let S = g.row.S.Denot in
+    let stands = g.S.Sink.stands in
+    let b = c.args.building.now in
+    let input = c.args.input.now in
+    let due = starts S stands b.stack b.sink c.args.depth input _ c.requires.none c.requires.top c.requires.fresh (omega arith) in
+    c.deeper.ensures.kept kinds keys b.sink input (c.in-Full.ensures.walked b.sink input due) (c.in-Full.ensures.kept kinds keys b.sink input due (starts-kept S stands b.sink c.args.depth input keys))

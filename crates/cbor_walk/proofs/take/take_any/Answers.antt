@@ -1,15 +1,15 @@
-use Rattle.std.proofs.Common.{◌≡◌, ◌+◌, ◌<◌, ◌≤◌, ℕ, nat_lt, List, ◌∷◌, ◌++◌, length, drop, sym, ap, ◌∙◌, subst, arith}
-use Rattle.std.proofs.lemmas.Bool.{ltb-true, ltb-false}
+use Rattle.std.proofs.Common.{◌≡◌, ◌+◌, ◌≤◌, ℕ, nat_lt, List, ◌∷◌, ◌++◌, length, drop, sym, ap, ◌∙◌, subst}
 use Rattle.cbor_head.specs.Complaint.{strict}
 use Rattle.cbor_head.specs.Value.{AreBytes}
 use Rattle.cbor_walk.specs.inner.Leaves.{IsLeaf}
 use Rattle.cbor_walk.specs.inner.Path.{bytes_before}
 use Rattle.cbor_walk.specs.inner.Cells.{StandsAt}
-use Rattle.cbor_walk.specs.inner.Stack.{standing}
+use Rattle.cbor_walk.specs.inner.Kept.{KeepsHere}
+use Rattle.cbor_walk.specs.inner.Stack.{around, standing}
 use Rattle.cbor_walk.specs.inner.Items.{IsOpener}
 use Rattle.cbor_walk.specs.inner.Stop.{IsStopped}
 use Rattle.cbor_walk.specs.declared.level.Level.{Level}
-use Rattle.cbor_walk.proofs.Taking.{leaf_ends, opener_opens, height_is, whole_is}
+use Rattle.cbor_walk.proofs.Taking.{leaf_ends, opener_opens, whole_is, place_for, fit_here}
 use Rattle.cbor_walk.proofs.take.take_any.Goals as goal
 
 pub returns-in-Leaf-clause-takes : goal.returns-in-Leaf-clause-takes
@@ -20,9 +20,10 @@ returns-in-Leaf-clause-takes c =
     let used = c.in-Leaf.used in
     let leaf : IsLeaf room c.args.rest.now used = c.in-Leaf.ensures.1 in (
       (c.in-Leaf.ensures.0, leaf.inside),
-      λ o input e are s.
-          leaf_ends o c.args.depth input (standing Level k cells) c.args.at s room used (subst (λ (x : List ℕ). IsLeaf room x used) e leaf)
-          (λ r. omega (arith, ltb-true _ _ r, height_is o c.args.depth input k cells c.args.at s c.requires.cells)),
+      λ o limits input deep e are fit s.
+          let place = place_for o limits c.args.depth input k cells c.args.at s c.requires.cells deep in
+          leaf_ends o limits input (standing Level k cells) c.args.at s room used (subst (λ (x : List ℕ). IsLeaf room x used) e leaf) place.fits
+          (subst (KeepsHere limits (strict o) s.ls) e (fit_here o limits input k.top (around Level k cells) c.args.at s c.args.rest.now fit)),
     )
 
 pub returns-else-stack-cells-clause-takes : goal.returns-else-stack-cells-clause-takes
@@ -32,22 +33,19 @@ returns-else-stack-cells-clause-takes c =
     let d = c.args.depth in
     let h = c.in-Opens.ensures in (
       (h.opens.some, h.opens.inside),
-      λ o input e are s.
+      λ o limits input deep e are fit s.
           let cs = standing Level k cells in
-          let room : length s.ls < d = omega (arith, ltb-true _ _ h.fits, height_is o d input k cells c.args.at s c.requires.cells) in
+          let place = place_for o limits d input k cells c.args.at s c.requires.cells deep in
           let inside : c.in-Opens.used ≤ length (drop c.args.at input) = subst (λ (x : List ℕ). c.in-Opens.used ≤ length x) e h.opens.inside in
           let opener = subst (λ (x : List ℕ). IsOpener c.in-Opens.due c.in-Opens.left x (drop c.in-Opens.used x)) e h.opens.opener in
-          subst (λ (x : List Level). StandsAt o d input x (c.args.at + c.in-Opens.used)) (sym (c.push.ensures.levels ∙ ap (λ (l : Level). l ∷ cs) c.new.ensures))
-          (opener_opens o d input cs c.args.at s c.in-Opens.used inside room c.in-Opens.due c.in-Opens.left opener),
+          subst (λ (x : List Level). StandsAt o limits input x (c.args.at + c.in-Opens.used)) (sym (c.push.ensures.levels ∙ ap (λ (l : Level). l ∷ cs) c.new.ensures))
+          (opener_opens o limits input cs c.args.at s c.in-Opens.used inside (place.fits h.fits) (subst (KeepsHere limits (strict o) s.ls) e (fit_here o limits input k.top (around Level k cells) c.args.at s c.args.rest.now fit)) c.in-Opens.due c.in-Opens.left opener),
     )
 
 pub returns-in-Refused-clause-takes : goal.returns-in-Refused-clause-takes
-returns-in-Refused-clause-takes c = λ o input e are s.
+returns-in-Refused-clause-takes c = λ o limits input deep e are fit s.
     let k = c.args.stack.now in
     let cells = c.args.cells.now in
-    let d = c.args.depth in
-    let cs = standing Level k cells in
-    let whole : input ≡ bytes_before s.ls ++ c.args.rest.now = whole_is o d input cs c.args.at s ∙ ap (λ (x : List ℕ). bytes_before s.ls ++ x) (sym e) in
-    let height = height_is o d input k cells c.args.at s c.requires.cells in
-    subst (λ (x : List ℕ). IsStopped (strict o) d x c.in-Refused.refusal) (sym whole)
-    (c.in-Refused.ensures o d s.ls s.clean s.here (λ r. omega (arith, ltb-true _ _ r, height)) (λ r. omega (arith, ltb-false _ _ r, height)) (subst AreBytes whole are))
+    let whole : input ≡ bytes_before s.ls ++ c.args.rest.now = whole_is o limits input (standing Level k cells) c.args.at s ∙ ap (λ (x : List ℕ). bytes_before s.ls ++ x) (sym e) in
+    subst (λ (x : List ℕ). IsStopped (strict o) limits x c.in-Refused.refusal) (sym whole)
+    (c.in-Refused.ensures o limits s.ls s.clean (fit_here o limits input k.top (around Level k cells) c.args.at s c.args.rest.now fit) (place_for o limits c.args.depth input k cells c.args.at s c.requires.cells deep) (subst AreBytes whole are))

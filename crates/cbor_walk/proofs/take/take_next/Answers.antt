@@ -1,10 +1,12 @@
 use Rattle.std.proofs.Common.{◌+◌, ◌<◌, ℕ, false, true≢false, List, ◌∷◌, length, drop, sym, ap, ◌∙◌, subst, arith}
+use Rattle.cbor_head.specs.Complaint.{strict}
 use Rattle.cbor_walk.specs.inner.Leaves.{IsLeaf}
+use Rattle.cbor_walk.specs.inner.Kept.{KeepsHere}
 use Rattle.cbor_walk.specs.inner.Cells.{StandsAt}
-use Rattle.cbor_walk.specs.inner.Stack.{standing}
+use Rattle.cbor_walk.specs.inner.Stack.{around, standing}
 use Rattle.cbor_walk.specs.inner.Items.{OpensWith}
 use Rattle.cbor_walk.specs.declared.level.Level.{Level}
-use Rattle.cbor_walk.proofs.Taking.{leaf_ends, opener_opens, height_is}
+use Rattle.cbor_walk.proofs.Taking.{leaf_ends, opener_opens, height_is, fit_here}
 use Rattle.cbor_walk.proofs.take.take_next.Goals as goal
 
 pub returns-in-Item-clause-takes : goal.returns-in-Item-clause-takes
@@ -14,7 +16,9 @@ returns-in-Item-clause-takes c =
     let used = c.in-Item.used in
     let leaf : IsLeaf false c.args.rest.now used = c.in-Item.ensures.1 in (
       (c.in-Item.ensures.0, leaf.inside),
-      λ o input e are s. leaf_ends o c.args.depth input (standing Level k cells) c.args.at s false used (subst (λ (x : List ℕ). IsLeaf false x used) e leaf) (λ r. absurd (true≢false (sym r))),
+      λ o limits input deep e are fit s.
+          leaf_ends o limits input (standing Level k cells) c.args.at s false used (subst (λ (x : List ℕ). IsLeaf false x used) e leaf) (λ r. absurd (true≢false (sym r)))
+          (subst (KeepsHere limits (strict o) s.ls) e (fit_here o limits input k.top (around Level k cells) c.args.at s c.args.rest.now fit)),
     )
 
 pub returns-then-stack-cells-clause-takes : goal.returns-then-stack-cells-clause-takes
@@ -27,10 +31,10 @@ returns-then-stack-cells-clause-takes c =
     let used = c.in-Opens.used in
     let h : OpensWith due left used c.args.rest.now = c.in-Opens.ensures in (
       (h.some, h.inside),
-      λ o input e are s.
+      λ o limits input deep e are fit s.
           let cs = standing Level k cells in
-          let room : length s.ls < d = omega (arith, c.if-stack-depth.true, height_is o d input k cells c.args.at s c.requires.cells) in
+          let room : length s.ls < limits.depth = omega (arith, c.if-stack-depth.true, deep, height_is o limits input k cells c.args.at s c.requires.cells) in
           let here : OpensWith due left used (drop c.args.at input) = subst (OpensWith due left used) e h in
-          subst (λ (x : List Level). StandsAt o d input x (c.args.at + used)) (sym (c.push.ensures.levels ∙ ap (λ (l : Level). l ∷ cs) c.new.ensures))
-          (opener_opens o d input cs c.args.at s used here.inside room due left here.opener),
+          subst (λ (x : List Level). StandsAt o limits input x (c.args.at + used)) (sym (c.push.ensures.levels ∙ ap (λ (l : Level). l ∷ cs) c.new.ensures))
+          (opener_opens o limits input cs c.args.at s used here.inside room (subst (KeepsHere limits (strict o) s.ls) e (fit_here o limits input k.top (around Level k cells) c.args.at s c.args.rest.now fit)) due left here.opener),
     )

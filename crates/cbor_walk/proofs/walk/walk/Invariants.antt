@@ -5,12 +5,12 @@ use Rattle.cbor_walk.specs.declared.level.Level.{Level}
 use Rattle.cbor_walk.proofs.walk.walk.Given as goal
 
 abbrev pub invariant-items : goal.invariant-items
-invariant-items l = record {
+invariant-items g l = record {
   inside : l.at ≤ length l.input;
   cells : l.stack.height ≤ length l.cells;
   depth : l.stack.height ≤ l.depth;
-  stands : StandsAt l.order l.depth l.input (standing Level l.fn.stack l.fn.cells) l.start → StandsAt l.order l.depth l.input (standing Level l.stack l.cells) l.at;
+  stands : StandsAt l.order l.fn.limits l.input (standing Level l.fn.stack l.fn.cells) l.start → StandsAt l.order l.fn.limits l.input (standing Level l.stack l.cells) l.at;
 }
 
 abbrev pub decreases-items : goal.decreases-items
-decreases-items l = length l.input - l.at
+decreases-items g l = length l.input - l.at

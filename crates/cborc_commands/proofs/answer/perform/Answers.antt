@@ -1,5 +1,5 @@
 use Rattle.cborc_commands.proofs.Runs.{answered_so, told_as}
-use Rattle.cborc_commands.specs.declared.request.Manner.TheVariants.{Plain, Explained}
+use Rattle.cborc_input.specs.declared.request.Manner.TheVariants.{Plain, Explained}
 use Rattle.cborc_commands.proofs.answer.perform.Goals as goal
 
 pub returns-in-Plain : goal.returns-in-Plain

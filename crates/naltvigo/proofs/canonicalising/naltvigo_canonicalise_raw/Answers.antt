@@ -1,7 +1,7 @@
-use Rattle.std.proofs.Common.{◌≡◌, length, take, sym, ap, ◌∙◌}
-use Rattle.cbor_head.specs.Limits.{Bounds}
+use Rattle.std.proofs.Common.{rules, ◌≡◌, length, take, sym, ap, ◌∙◌, inl, inr}
+use Rattle.cbor_head.specs.Limits.{bounds}
 use Rattle.naltvigo.specs.declared.status.TheConstants.{OK}
-use Rattle.naltvigo.proofs.Given.{given-tells, given-item}
+use Rattle.naltvigo.proofs.Given.{given-tells, given-item, given-refused}
 use Rattle.naltvigo.proofs.canonicalising.naltvigo_canonicalise_raw.Goals as goal
 
 in_buffer : (c : goal.After-drop-canonical) → c.give.result ≡ OK → take c.give.new.needed c.give.new.out ≡ c.in-Ok.canonical.items
@@ -9,12 +9,24 @@ in_buffer c e = ap (λ k. take k c.give.new.out) c.give.ensures.needed ∙ (c.gi
 
 pub returns-in-Ok-clause-accepted : goal.returns-in-Ok-clause-accepted
 returns-in-Ok-clause-accepted c = λ e.
-    given-item _ _ _ _ _ _ c.args.input.now _ _
-    (sym (ap (λ (b : Bounds). b.depth) c.in-Some-limits_of.ensures.value.0)) (sym (ap (λ (b : Bounds). b.bytes) c.in-Some-limits_of.ensures.value.0))
+    given-item _ (bounds c.args.depth c.args.bytes) _ _ c.args.input.now _ _
+    (sym c.in-Some-limits_of.ensures.value.0)
     (sym c.in-Some.ensures.value.0) (in_buffer c e) _ (c.give.ensures.needed ∙ ap length c.as_slice.ensures.value) c.in-Ok.ensures.accepted
 
 pub returns-in-Ok-clause-equal : goal.returns-in-Ok-clause-equal
 returns-in-Ok-clause-equal c = λ e.
-    given-tells _ _ _ _ _ _ c.args.input.now _ _
-    (sym (ap (λ (b : Bounds). b.depth) c.in-Some-limits_of.ensures.value.0)) (sym (ap (λ (b : Bounds). b.bytes) c.in-Some-limits_of.ensures.value.0))
+    given-tells _ (bounds c.args.depth c.args.bytes) _ _ c.args.input.now _ _
+    (sym c.in-Some-limits_of.ensures.value.0)
     (sym c.in-Some.ensures.value.0) (in_buffer c e) c.in-Ok.ensures.equal
+
+pub returns-in-Err-clause-refused : goal.returns-in-Err-clause-refused
+returns-in-Err-clause-refused c = λ e.
+    given-refused _ (bounds c.args.depth c.args.bytes) _ _ c.args.input.now _
+    (sym c.in-Some-limits_of.ensures.value.0) (sym c.in-Some.ensures.value.0)
+    record {
+      refusal = c.in-Err.reason;
+      refused = c.in-Err.ensures.answer;
+      reason = c.in-Err.ensures.reason;
+      not_memory = elim c.tell.ensures.status [ inl h ↦ h.1 | inr h ↦ absurd (search rules) ];
+      told = c.tell.ensures.told;
+    }

@@ -5,7 +5,7 @@ use Rattle.std.proofs.lemmas.List.{take_rest}
 use Rattle.cbor_buffer.specs.Spans.{span_pair}
 use Rattle.cbor_buffer.specs.Moved.{rope, Run, gap, meant}
 use Rattle.cbor_buffer.specs.Spans.{no_span}
-use Rattle.cbor_buffer.specs.Pairs.{pair_bytes}
+use Rattle.cbor_canonical.specs.Pairs.{pair_bytes}
 use Rattle.cbor_buffer.specs.declared.cuts.Cut.{Cut}
 use Rattle.cbor_buffer.proofs.Drafts.{loose_cuts, loose_slice}
 use Rattle.cbor_buffer.proofs.Moved.{last_run, behind_at, rope_append, run_append}

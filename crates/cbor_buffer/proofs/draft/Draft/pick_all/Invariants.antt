@@ -1,6 +1,6 @@
 use Rattle.std.proofs.Common.{◌≡◌, ◌++◌, length, drop, map}
 use Rattle.std.specs.Prelude.{flat_map}
-use Rattle.cbor_buffer.specs.Pairs.{pair_bytes}
+use Rattle.cbor_canonical.specs.Pairs.{pair_bytes}
 use Rattle.cbor_buffer.specs.Spans.{span_pair}
 use Rattle.cbor_buffer.specs.Moved.{meant, rope, Run}
 use Rattle.cbor_buffer.proofs.draft.Draft.pick_all.Given as goal

@@ -2,8 +2,8 @@ use Rattle.std.proofs.Common.{◌≡◌, ◌-◌, ◌++◌, ℕ, take, length, l
 use Rattle.std.specs.Prelude.{flat_map, reverse}
 use Rattle.std.proofs.lemmas.List.{length-take-le}
 use Rattle.cbor_head.specs.Canonical.{in_order}
-use Rattle.cbor_builder.specs.Parts.{closed, HasNoRepeats}
-use Rattle.cbor_buffer.specs.Pairs.{pair_bytes}
+use Rattle.cbor_canonical.specs.Parts.{closed, HasNoRepeats}
+use Rattle.cbor_canonical.specs.Pairs.{pair_bytes}
 use Rattle.cbor_builder.specs.inner.Laid.{shape_open, pairs_from}
 use Rattle.cbor_buffer.specs.Moved.{meant}
 use Rattle.cbor_builder.specs.inner.InPlace.{HasSameKeys}

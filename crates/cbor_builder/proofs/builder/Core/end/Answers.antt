@@ -4,7 +4,7 @@ use Rattle.std.proofs.lemmas.List.{length-reverse}
 use Rattle.cbor_head.specs.declared.order.KeyOrder.{KeyOrder}
 use Rattle.cbor_builder.specs.inner.Laid.{OuterTakes, opens, shape_open}
 use Rattle.cbor_buffer.specs.Moved.{meant}
-use Rattle.cbor_builder.specs.Parts.{close, closed}
+use Rattle.cbor_canonical.specs.Parts.{close, closed}
 use Rattle.cbor_builder.proofs.Growth.{taken}
 use Rattle.cbor_builder.proofs.Standing.{Stand, member_ended, member_outer, keeps_stays}
 use Rattle.cbor_builder.proofs.builder.Core.end.Goals as goal

@@ -1,6 +1,6 @@
 use Rattle.std.proofs.Common.{◌∙◌}
 use Rattle.std.specs.Prelude.{reverse}
-use Rattle.cbor_builder.specs.Parts.{plain}
+use Rattle.cbor_canonical.specs.Parts.{plain}
 use Rattle.cbor_buffer.specs.Moved.{meant}
 use Rattle.cbor_builder.proofs.Growth.{finished}
 use Rattle.cbor_builder.proofs.InPlace.{alone}

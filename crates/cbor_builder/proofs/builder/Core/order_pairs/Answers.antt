@@ -2,7 +2,7 @@ use Rattle.std.proofs.Common.{◌≡◌, ℕ, List, IsPermutation, ◌++◌, ◌
 use Rattle.std.specs.Prelude.{flat_map}
 use Rattle.std.proofs.lemmas.List.{take_rest}
 use Rattle.std.proofs.lemmas.List.Sorted.{length_permutation}
-use Rattle.cbor_buffer.specs.Pairs.{pair_bytes}
+use Rattle.cbor_canonical.specs.Pairs.{pair_bytes}
 use Rattle.cbor_builder.specs.inner.Front.{AreFronted}
 use Rattle.cbor_builder.specs.inner.Laid.{pairs_from}
 use Rattle.cbor_buffer.specs.Moved.{meant}

@@ -1,5 +1,5 @@
 use Rattle.std.proofs.Common.{sym, subst}
-use Rattle.cbor_builder.specs.Built.{IsInContainer}
+use Rattle.cbor_canonical.specs.Parts.{IsInContainer}
 use Rattle.cbor_builder.specs.inner.BuilderState.{standing}
 use Rattle.cbor_builder.specs.inner.CanonState.{IsNested}
 use Rattle.cbor_builder.proofs.CanonStates.{known, nested_ended}

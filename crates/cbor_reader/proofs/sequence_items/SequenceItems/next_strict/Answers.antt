@@ -13,4 +13,4 @@ pub returns-in-Err-clause-refused : goal.returns-in-Err-clause-refused
 returns-in-Err-clause-refused g c = rw (← c.self.view_is) (refused_as (strict c.args.order) c.self.inside.limits c.stop.result _ _ c.in-Err.refusal c.in-Err.ensures.refused c.in-Err.ensures.read c.stop.ensures.refused)
 
 pub returns-in-Err-clause-reason : goal.returns-in-Err-clause-reason
-returns-in-Err-clause-reason g c = reason_as (strict c.args.order) c.stop.result c.in-Err.refusal c.in-Err.ensures.reason c.stop.ensures.refused
+returns-in-Err-clause-reason g c = rw (← c.self.view_is) (reason_as c.self.inside.limits (strict c.args.order) c.stop.result c.in-Err.refusal c.in-Err.ensures.reason c.stop.ensures.refused)

@@ -1,8 +1,9 @@
 use Rattle.std.proofs.Common.{take, refl}
+use Rattle.std.proofs.lemmas.Result.{on_ok_weaker}
 use Rattle.cbor_reader.proofs.ViewGiven.{grown}
 use Rattle.cbor_reader.proofs.view_sink.ViewSinkSink.chunk.Goals as goal
 
 pub returns : goal.returns
 returns c =
     let old = c.args.self.now in
-    grown c.args._is_text (take c.args.count c.args.front.now) old (record { keys = old.keys; views = old.views; joined = c.extend_from_slice.new.self }) c.requires.utf8 refl refl c.in_ok-extend_from_slice.ensures.items
+    on_ok_weaker c.extend_front.result (grown c.args._is_text (take c.args.count c.args.front.now) old (record { keys = old.keys; views = old.views; joined = c.extend_front.new.self }) c.requires.utf8 refl refl) c.extend_front.ensures

@@ -1,4 +1,4 @@
-use Rattle.std.proofs.Common.{ℕ, Bool, List, length, ◌∙◌, ap, ap₂, sym, subst, arith}
+use Rattle.std.proofs.Common.{ℕ, Bool, List, length, ◌∙◌, ap₂, sym, subst, arith}
 use Rattle.std.proofs.lemmas.List.{take_all}
 use Rattle.cbor_item.specs.OpenValues.{give}
 use Rattle.cbor_judging.specs.Reading.{string_value}
@@ -20,17 +20,17 @@ pub returns-in_ok-copied_text : goal.returns-in_ok-copied_text
 returns-in_ok-copied_text c =
     let old = c.args.self.now in
     let t = c.args.is_text in
-    let whole = take_all c.len.result c.deref.result.now (omega (arith, c.len.ensures, ap length c.deref.ensures.value)) ∙ c.deref.ensures.value in
+    let whole = take_all (length c.as_slice-content.result.now) c.as_slice-content.result.now (omega arith) ∙ c.as_slice-content.ensures in
     string-ended c.is_key_due-is_key.result t old (record { keys = c.string.new.self; views = c.copied_text.new.self; joined = old.joined }) c.is_key_due-is_key.ensures
     (subst (λ (x : List ℕ). GivesTold c.is_key_due-is_key.result (string_value t x) old.keys c.string.new.self) whole c.in_ok-string.ensures)
     (c.in_ok-copied_text.ensures
-    ∙ ap₂ (λ (b : Bool) (x : List ℕ). give (string_value b x) (standing old.views)) (sym c.if-is_text.true) (c.from_utf8_unchecked-text.ensures ∙ c.deref-then-is_text.ensures.value))
+    ∙ ap₂ (λ (b : Bool) (x : List ℕ). give (string_value b x) (standing old.views)) (sym c.if-is_text.true) (c.from_utf8_unchecked-text.ensures ∙ c.as_slice-content.ensures))
 
 pub returns-in_ok-copied_bytes : goal.returns-in_ok-copied_bytes
 returns-in_ok-copied_bytes c =
     let old = c.args.self.now in
     let t = c.args.is_text in
-    let whole = take_all c.len.result c.deref.result.now (omega (arith, c.len.ensures, ap length c.deref.ensures.value)) ∙ c.deref.ensures.value in
+    let whole = take_all (length c.as_slice-content.result.now) c.as_slice-content.result.now (omega arith) ∙ c.as_slice-content.ensures in
     string-ended c.is_key_due-is_key.result t old (record { keys = c.string.new.self; views = c.copied_bytes.new.self; joined = old.joined }) c.is_key_due-is_key.ensures
     (subst (λ (x : List ℕ). GivesTold c.is_key_due-is_key.result (string_value t x) old.keys c.string.new.self) whole c.in_ok-string.ensures)
-    (c.in_ok-copied_bytes.ensures ∙ ap₂ (λ (b : Bool) (x : List ℕ). give (string_value b x) (standing old.views)) (sym c.if-is_text.false) c.deref-else-is_text.ensures.value)
+    (c.in_ok-copied_bytes.ensures ∙ ap₂ (λ (b : Bool) (x : List ℕ). give (string_value b x) (standing old.views)) (sym c.if-is_text.false) c.as_slice-content.ensures)

@@ -1,5 +1,7 @@
-use Rattle.std.proofs.Common.{[], arith}
+use Rattle.std.proofs.Common.{[], sym, arith}
+use Rattle.cbor_head.specs.Complaint.{strict}
 use Rattle.cbor_head.specs.Limits.{AreBounds}
+use Rattle.cbor_judging.proofs.KindSteps.{keeps_start}
 use Rattle.cbor_strict.specs.inner.StrictEvents.{StandsSomewhere}
 use Rattle.cbor_strict.proofs.StrictReading.{stands_first, starts_strictly, somewhere_little}
 use Rattle.cbor_strict.proofs.strict_events.StrictEvents.new.Goals as goal
@@ -9,16 +11,17 @@ invariant_of-result c =
     let e = c.new.result in
     let v = c.new-2.result in
     let within : AreBounds c.args.limits = (omega arith, omega arith) in
-    let there : StandsSomewhere v e = record { b = c.args.limits; t = []; stands = stands_first c.args.limits e v within c.new.ensures.live c.new.ensures.limits c.new.ensures.starts c.new-2.ensures.none c.new-2.ensures.kept } in
+    let there : StandsSomewhere c.keys.result v e =
+    record { b = c.args.limits; asks = sym c.keys.ensures; t = []; stands = stands_first c.args.limits e v within c.new.ensures.live c.new.ensures.limits c.new.ensures.starts c.new-2.ensures.none c.new-2.ensures.kept; keeps = keeps_start c.args.limits (strict c.new-2.result.order) } in
     record {
       stands = λ n. there;
       stopped = tt;
       within = c.new.ensures.starts.stands.bounded;
       limited = c.new.ensures.starts.stands.limited;
-      little = somewhere_little e v there;
+      little = somewhere_little e v c.keys.result there;
     }
 
 pub returns-clause-starts : goal.returns-clause-starts
 returns-clause-starts c =
     let within : AreBounds c.args.limits = (omega arith, omega arith) in
-    starts_strictly c.args.limits c.new.result c.new-2.result within c.new.ensures.live c.new.ensures.limits c.new.ensures.starts c.new-2.ensures.none c.new-2.ensures.kept
+    starts_strictly c.args.limits c.keys.result c.new.result c.new-2.result c.keys.ensures within c.new.ensures.live c.new.ensures.limits c.new.ensures.starts c.new-2.ensures.none c.new-2.ensures.kept

@@ -1,7 +1,8 @@
-use Rattle.std.proofs.Common.{refl}
+use Rattle.std.proofs.Common.{refl, inl}
 use Rattle.cbor_walk.specs.Sink.{leaf_value}
 use Rattle.cbor_walk.specs.inner.Building.{IsHeadDue}
 use Rattle.cbor_walk.proofs.GivenItems.{scalar-head}
+use Rattle.cbor_walk.proofs.GivenKinds.{scalar-begun}
 use Rattle.cbor_walk.proofs.GivenParts.{due-item, scalar-ends}
 use Rattle.cbor_walk.proofs.building.Building.give_leaf.Goals as goal
 
@@ -14,3 +15,7 @@ pub returns-in-Ok-clause-takes : goal.returns-in-Ok-clause-takes
 returns-in-Ok-clause-takes g c = λ rest head d cs start input due.
     scalar-ends g.row.S.Denot g.S.Sink.stands start d input cs c.args.self.now.sink rest due c.args.behind.now (leaf_value c.args.major c.args.number) c.leaf.new.self
     (scalar-head c.args.major c.args.number rest c.args.behind.now c.requires.kind head) c.in-Ok.ensures
+
+pub returns-in-Ok-clause-front : goal.returns-in-Ok-clause-front
+returns-in-Ok-clause-front g c = λ rest head d o.
+    inl (scalar-begun (leaf_value c.args.major c.args.number) d rest c.args.behind.now (scalar-head c.args.major c.args.number rest c.args.behind.now c.requires.kind head))

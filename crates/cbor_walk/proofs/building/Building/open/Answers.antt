@@ -1,7 +1,8 @@
-use Rattle.std.proofs.Common.{◌<◌, List, length, sym, subst, arith, refl}
+use Rattle.std.proofs.Common.{◌-◌, ◌<◌, List, length, sym, subst, arith, refl}
 use Rattle.cbor_walk.specs.declared.open.Open.{Open}
 use Rattle.cbor_walk.specs.inner.Building.{IsOpenerDue, IsDue}
 use Rattle.cbor_walk.specs.inner.Stack.{standing}
+use Rattle.cbor_walk.proofs.GivenKinds.{opener-begun}
 use Rattle.cbor_walk.proofs.GivenParts.{due-item, height-is, opened}
 use Rattle.cbor_walk.proofs.Taking.{standing_count}
 use Rattle.cbor_walk.proofs.building.Building.open.Goals as goal
@@ -21,3 +22,7 @@ returns-clause-takes g c = λ rest opener start input due.
     let room : length due.ls < c.args.depth = omega (arith, c.if-self-depth.false, height-is S stands start c.args.depth input cs sink rest due, standing_count Open c.args.self.now.stack c.args.cells.now c.requires.cells) in
     subst (λ (x : List Open). (length behind < length rest) × IsDue S stands start c.args.depth input x c.begin.new.self behind) (sym c.push.ensures.levels)
     (opened S stands start c.args.depth input cs sink rest due c.args.major c.args.number c.args.opened behind c.begin.new.self room opener c.in-Ok.ensures)
+
+pub returns-clause-front : goal.returns-clause-front
+returns-clause-front g c = λ rest opener o.
+    opener-begun (c.args.depth - c.args.self.now.stack.height) c.args.major c.args.number c.args.opened rest c.args.behind.now (omega (arith, c.if-self-depth.false)) opener

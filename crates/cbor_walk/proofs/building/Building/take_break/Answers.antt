@@ -3,6 +3,7 @@ use Rattle.cbor_walk.specs.declared.open.Open.{Open}
 use Rattle.cbor_walk.specs.inner.Building.{IsBreakDue, TakesTo}
 use Rattle.cbor_walk.specs.inner.Stack.{around, standing}
 use Rattle.cbor_walk.proofs.GivenEnds.{break-inside, break-ends}
+use Rattle.cbor_walk.proofs.GivenKinds.{broken-takes}
 use Rattle.cbor_walk.proofs.GivenParts.{ends-takes}
 use Rattle.cbor_walk.proofs.Taking.{standing_count}
 use Rattle.cbor_walk.proofs.building.Building.take_break.Goals as goal
@@ -46,4 +47,5 @@ returns g c =
           subst (λ s. TakesTo S stands c.end.result start d input (255 ∷ behind) (standing Open s cells) c.end.new.self.sink) (sym c.end.ensures.stack)
           (subst (λ (x : List Open). TakesTo S stands c.end.result start d input (255 ∷ behind) x c.end.new.self.sink) (sym c.pop.ensures.levels) t);
       kind = c.end.ensures.kind;
+      front = λ d. broken-takes c.end.result d k.top (255 ∷ behind) behind c.end.ensures.kind c.end.ensures.before (record { open_ended = c.if-not-self.false; no_value = c.in_default.not-Value; is = refl });
     }

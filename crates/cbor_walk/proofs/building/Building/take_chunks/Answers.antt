@@ -1,10 +1,11 @@
-use Rattle.std.proofs.Common.{◌≡◌, ◌≤◌, ◌∙◌, ◌-◌, List, ℕ, ◌∷◌, length, take, drop, refl, ap, sym, subst, arith, length-drop}
+use Rattle.std.proofs.Common.{◌≡◌, ◌≤◌, ◌∙◌, ◌-◌, List, ℕ, ◌∷◌, length, take, drop, refl, ap, sym, subst, inl, arith, length-drop}
 use Rattle.std.proofs.Math.Seq.{take-length}
 use Rattle.std.specs.Prelude.{IsUtf8}
 use Rattle.cbor_keys.proofs.KeyFronts.{are_bytes}
 use Rattle.cbor_judging.specs.Reading.{string_major, string_value}
 use Rattle.cbor_head.specs.Spelling.{chunks_joined}
 use Rattle.cbor_walk.specs.inner.Building.{IsHead, chunked_from}
+use Rattle.cbor_walk.proofs.GivenKinds.{scalar-begun}
 use Rattle.cbor_walk.proofs.GivenParts.{due-item, scalar-settles}
 use Rattle.cbor_walk.proofs.Chunked.{AreChunks, no-chunks, chunk-due, one-more, all-chunks}
 use Rattle.cbor_walk.proofs.building.Building.take_chunks.Goals as goal
@@ -66,3 +67,12 @@ chunks-init g c = record {
   chunks = no-chunks g.row.S.Denot g.S.Sink.stands g.S.Sink.holds c.args.is_text c.args.behind.now c.args.self.now.sink c.begin_string.new.self (are_bytes c.args.behind.now (λ i. omega (arith, c.type_inv.behind i))) c.in-Ok.ensures;
   stack = refl;
 }
+
+pub returns-in-Ok-end_string-clause-front : goal.returns-in-Ok-end_string-clause-front
+returns-in-Ok-end_string-clause-front g c = λ d o.
+    let t = c.args.is_text in
+    let behind = c.in-Some.behind.now in
+    let s = c.chunks.invariant.chunks in
+    let is : c.chunks.rest.now ≡ 0xff ∷ behind = c.in-Some.ensures.cases.0 ∙ ap (λ (x : ℕ). x ∷ behind) c.if-first.true in
+    let all = all-chunks g.row.S.Denot g.S.Sink.stands g.S.Sink.holds t c.args.behind.now c.args.self.now.sink c.chunks.rest.now c.chunks.self.sink s behind is in
+    inl (scalar-begun (string_value t (chunks_joined s.done)) d (chunked_from t c.args.behind.now) behind all)

@@ -1,8 +1,9 @@
-use Rattle.std.proofs.Common.{◌<◌, length, sym, subst, arith, refl}
+use Rattle.std.proofs.Common.{◌-◌, ◌<◌, length, sym, subst, arith, refl}
 use Rattle.cbor_walk.specs.declared.open.Open.{Open}
 use Rattle.cbor_walk.specs.inner.Building.{IsHeadIn, IsOpener, TakesTo}
 use Rattle.cbor_walk.specs.inner.Stack.{standing}
 use Rattle.cbor_walk.proofs.GivenItems.{counts-container, head-opens}
+use Rattle.cbor_walk.proofs.GivenKinds.{counted-begun, begun-takes}
 use Rattle.cbor_walk.proofs.GivenParts.{due-item, height-is, empty-ends, ends-takes, never-full}
 use Rattle.cbor_walk.proofs.Taking.{standing_count}
 use Rattle.cbor_walk.proofs.building.Building.take_counted.Goals as goal
@@ -73,3 +74,14 @@ returns-clause-takes g c = λ rest head start input due.
 
 pub returns-clause-full : goal.returns-clause-full
 returns-clause-full g c = λ e. absurd (never-full c.end.result c.end.ensures.kind e)
+
+pub returns-then-number-gt0-clause-front : goal.returns-then-number-gt0-clause-front
+returns-then-number-gt0-clause-front g c = λ rest head.
+    c.open.ensures.front rest (subst (λ (x : Open). IsOpener c.args.major c.args.number x rest c.args.behind.now) (sym c.counted-opened.ensures)
+    (head-opens c.args.major c.args.number c.args.due rest c.args.behind.now c.requires.kind c.if-number-gt0.true head))
+
+pub returns-clause-front : goal.returns-clause-front
+returns-clause-front g c = λ rest head o.
+    let left = c.args.depth - c.args.self.now.stack.height in
+    begun-takes c.end.result left o rest c.args.behind.now c.end.ensures.kind c.end.ensures.before
+    (counted-begun left c.args.major c.args.due c.args.number rest c.args.behind.now c.requires.kind (omega (arith, c.if-self-depth.false)) head)

@@ -1,7 +1,7 @@
-use Rattle.std.proofs.Common.{ℕ, ◌∷◌, sym, subst, refl}
+use Rattle.std.proofs.Common.{ℕ, ◌-◌, ◌∷◌, sym, subst, refl}
 use Rattle.cbor_head.specs.declared.major.Major.TheVariants.{Array, Map}
 use Rattle.cbor_walk.specs.declared.open.Open.{Open}
-use Rattle.cbor_walk.specs.inner.Building.{IsDue, IsDueIn, IsOpener, TakesTo}
+use Rattle.cbor_walk.specs.inner.Building.{IsDue, IsDueIn, IsOpener, TakesTo, TakesFront}
 use Rattle.cbor_walk.specs.inner.Stack.{standing}
 use Rattle.cbor_walk.proofs.GivenItems.{array-opens, map-opens}
 use Rattle.cbor_walk.proofs.building.Building.take_endless.Goals as goal
@@ -63,3 +63,17 @@ returns-in-191-clause-takes g c = λ start input due.
     subst (λ (x : ℕ). TakesTo S stands c.open-in-191.result start c.args.depth input (x ∷ behind) (standing Open c.open-in-191.new.self.stack c.open-in-191.new.cells) c.open-in-191.new.self.sink) (sym c.in-191.is)
     (c.open-in-191.ensures.takes (191 ∷ behind) (subst (λ (x : Open). IsOpener Map 0 x (191 ∷ behind) behind) (sym c.endless-in-191.ensures) (map-opens behind)) start input
     (subst (λ (x : ℕ). IsDue S stands start c.args.depth input cs c.args.self.now.sink (x ∷ behind)) c.in-191.is due))
+
+pub returns-in-159-clause-front : goal.returns-in-159-clause-front
+returns-in-159-clause-front g c =
+    let behind = c.args.behind.now in
+    let k = c.args.self.now.stack in
+    subst (λ (x : ℕ). TakesFront c.open.result (c.args.depth - k.height) k.top (x ∷ behind)) (sym c.in-159.is)
+    (c.open.ensures.front (159 ∷ behind) (subst (λ (x : Open). IsOpener Array 0 x (159 ∷ behind) behind) (sym c.endless.ensures) (array-opens behind)) k.top)
+
+pub returns-in-191-clause-front : goal.returns-in-191-clause-front
+returns-in-191-clause-front g c =
+    let behind = c.args.behind.now in
+    let k = c.args.self.now.stack in
+    subst (λ (x : ℕ). TakesFront c.open-in-191.result (c.args.depth - k.height) k.top (x ∷ behind)) (sym c.in-191.is)
+    (c.open-in-191.ensures.front (191 ∷ behind) (subst (λ (x : Open). IsOpener Map 0 x (191 ∷ behind) behind) (sym c.endless-in-191.ensures) (map-opens behind)) k.top)

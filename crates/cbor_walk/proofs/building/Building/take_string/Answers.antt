@@ -1,11 +1,12 @@
-use Rattle.std.proofs.Common.{◌≡◌, ◌∙◌, ◌-◌, ◌<◌, ◌≤◌, List, ℕ, length, take, drop, ap, sym, subst, arith, length-drop, refl}
+use Rattle.std.proofs.Common.{◌≡◌, ◌∙◌, ◌-◌, ◌<◌, ◌≤◌, List, ℕ, length, take, drop, ap, sym, subst, inl, arith, length-drop, refl}
 use Rattle.std.proofs.Math.Seq.{take-length}
 use Rattle.std.specs.Prelude.{IsUtf8}
 use Rattle.cbor_head.specs.Value.{AreBytes}
 use Rattle.cbor_keys.proofs.KeyFronts.{are_bytes}
 use Rattle.cbor_judging.specs.Reading.{string_major, string_value}
-use Rattle.cbor_walk.specs.inner.Building.{IsHeadDue, HasEnded}
+use Rattle.cbor_walk.specs.inner.Building.{IsHeadDue, HasEnded, HasBegun}
 use Rattle.cbor_walk.proofs.GivenItems.{scalar-string}
+use Rattle.cbor_walk.proofs.GivenKinds.{scalar-begun}
 use Rattle.cbor_walk.proofs.GivenParts.{due-item, scalar-ends}
 use Rattle.cbor_walk.proofs.building.Building.take_string.Goals as goal
 
@@ -35,3 +36,12 @@ returns-in-Ok-clause-takes g c = λ rest head d cs start input due.
     subst (λ (x : List ℕ). (length x < length rest) × HasEnded S stands start d input cs c.string.new.self x) (sym whole)
     (scalar-ends S stands start d input cs c.args.self.now.sink rest due (drop size behind) (string_value c.args.is_text (take size behind)) c.string.new.self
     (scalar-string c.args.is_text c.args.count size rest behind head c.in-Some.ensures all) c.in-Ok.ensures)
+
+pub returns-in-Ok-clause-front : goal.returns-in-Ok-clause-front
+returns-in-Ok-clause-front g c = λ rest head d o.
+    let behind = c.args.behind.now in
+    let size = c.in-Some.size in
+    let all : AreBytes behind = are_bytes behind (λ i. omega (arith, c.type_inv.behind i)) in
+    let whole : take (length behind - size) (drop size behind) ≡ drop size behind = ap (λ n. take n (drop size behind)) (sym (length-drop size behind)) ∙ take-length (drop size behind) in
+    inl (subst (HasBegun d rest) (sym whole)
+    (scalar-begun (string_value c.args.is_text (take size behind)) d rest (drop size behind) (scalar-string c.args.is_text c.args.count size rest behind head c.in-Some.ensures all)))

@@ -1,5 +1,6 @@
-use Rattle.std.proofs.Common.{ℕ, ◌≤◌, List, length}
-use Rattle.cbor_walk.specs.inner.Building.{IsDue}
+use Rattle.std.proofs.Common.{◌≡◌, ℕ, ◌≤◌, nat_eq, true, not, List, length}
+use Rattle.cbor_head.specs.declared.keys.Keys.{Keys}
+use Rattle.cbor_walk.specs.inner.Building.{IsDue, KeepsBefore}
 use Rattle.cbor_walk.specs.inner.Stack.{standing}
 use Rattle.cbor_walk.specs.declared.open.Open.{Open}
 use Rattle.cbor_walk.proofs.building.Building.walk.Given as goal
@@ -11,6 +12,7 @@ invariant-parts g l =
     record {
       cells : l.self.stack.height ≤ length l.cells;
       due : (start : S) (input : List ℕ) → IsDue S stands start l.depth input (standing Open l.fn.self.stack l.fn.cells) l.fn.self.sink l.start → IsDue S stands start l.depth input (standing Open l.self.stack l.cells) l.self.sink l.rest;
+      kept : not (nat_eq g.row.KINDS 0) ≡ true → (keys : Keys) (start : S) (input : List ℕ) → IsDue S stands start l.depth input (standing Open l.fn.self.stack l.fn.cells) l.fn.self.sink l.start → KeepsBefore l.depth keys input l.start → KeepsBefore l.depth keys input l.rest;
     }
 
 abbrev pub decreases-parts : goal.decreases-parts

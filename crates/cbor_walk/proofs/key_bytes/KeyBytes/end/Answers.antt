@@ -1,6 +1,6 @@
 use Rattle.std.proofs.Common.{◌∙◌, ℕ, suc, ◌-◌, ◌≡◌, refl, sym, ap, inl, inr, arith}
 use Rattle.cbor_builder.specs.Built.{Built, built}
-use Rattle.cbor_builder.specs.Parts.{close}
+use Rattle.cbor_canonical.specs.Parts.{close}
 use Rattle.cbor_walk.specs.KeyBytes.{behind_item}
 use Rattle.cbor_walk.proofs.KeysGiven.{in-container, end-takes, map-ends, ended-other, ended-inner}
 use Rattle.cbor_walk.proofs.key_bytes.KeyBytes.end.Goals as goal

@@ -1,4 +1,5 @@
-use Rattle.std.proofs.Common.{ℕ, ◌≤◌}
+use Rattle.std.proofs.Common.{◌≤◌}
+use Rattle.cbor_head.specs.Limits.{Bounds}
 use Rattle.cbor_walk.specs.inner.Cells.{HasClosed}
 use Rattle.cbor_walk.specs.inner.Stack.{around}
 use Rattle.cbor_walk.specs.declared.level.Level.{Level}
@@ -7,7 +8,7 @@ use Rattle.cbor_walk.proofs.stack.Stack+Level.close.Given as goal
 abbrev pub invariant-levels : goal.invariant-levels
 invariant-levels l = record {
   fewer : l.self.height ≤ l.fn.self.height;
-  ended : (d : ℕ) → HasClosed l.order d l.input (around Level l.fn.self l.cells) l.at → HasClosed l.order d l.input (around Level l.self l.cells) l.at;
+  ended : (limits : Bounds) → HasClosed l.order limits l.input (around Level l.fn.self l.cells) l.at → HasClosed l.order limits l.input (around Level l.self l.cells) l.at;
 }
 
 abbrev pub decreases-levels : goal.decreases-levels

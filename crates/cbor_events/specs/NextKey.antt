@@ -1,0 +1,50 @@
+-- What is told where a key is due that is to be an integer or a text: its kind is judged at its first byte.
+use Rattle.std.specs.Prelude.{◌≡◌, ◌≢◌, ℕ, ◌+◌, ◌<◌, ◌⊎◌, ◌/◌, IsTrue, List, [], ◌∷◌, length, Option, Some, None, Result, Ok, Err}
+use Rattle.std.specs.Io.KnownBytes.{Consumes}
+use Rattle.cbor_head.specs.Beginning.{MayFollow}
+use Rattle.cbor_head.specs.Verdict.{refusal}
+use Rattle.cbor_head.specs.declared.reason.Reason.{Reason}
+use Rattle.cbor_head.specs.declared.reason.Reason.TheVariants.{KeyKind}
+use Rattle.cbor_head.specs.declared.reason.Refusal.{Refusal}
+use Rattle.cbor_grammar.specs.FirstBytes.{is_basic}
+use Rattle.cbor_automaton.specs.Reasons.{IsEventReason}
+use Rattle.cbor_automaton.specs.declared.event.Event.{Event}
+use Rattle.cbor_automaton.specs.declared.event.EventKind.{EventKind}
+use Rattle.cbor_automaton.specs.declared.event.EventKind.TheVariants.{Simple, Bytes, Array, Map, Tag}
+use Rattle.cbor_standing.specs.Machine.{IsComplete}
+use Rattle.cbor_standing.specs.NextEvent.{Call, IsNext, IsNextEvent, IsEnd}
+
+-- not the head of an item that is neither an integer nor a text
+abbrev pub IsBasicKind : EventKind → Type 0
+IsBasicKind (Simple n) = ⊥
+IsBasicKind (Bytes n) = ⊥
+IsBasicKind (Array n) = ⊥
+IsBasicKind (Map n) = ⊥
+IsBasicKind (Tag n) = ⊥
+IsBasicKind kind = Unit {0}
+
+-- Where it stands behind the first byte that was read, that byte is of an integer or a text, if it is known.
+abbrev pub IsBehindBasic : Refusal → Call → Type 0
+IsBehindBasic f c = length c.taken < f.place → (first : ℕ) (rest : List ℕ) → c.held ≡ Some (first ∷ rest) → IsTrue (is_basic (first / 32))
+
+-- The first byte of an item that is neither an integer nor a text was read, and no more. It may stand there.
+pub record IsOtherKey (f : Refusal) (c : Call) : Type 0 where
+  pub unfinished : ¬ IsComplete c.old
+  pub byte : ℕ
+  pub small : byte < 256
+  pub consumed : Consumes c.held c.left (byte ∷ [])
+  pub other : ¬ IsTrue (is_basic (byte / 32))
+  -- no break
+  pub item : byte ≢ 0xff
+  pub follows : MayFollow c.new.depth c.taken byte
+  pub is : f ≡ refusal KeyKind (length c.taken) (length c.taken + 1)
+
+-- what is answered where an event ended, and a key or a break is due
+abbrev pub IsNextKey : Result (Option Event) Refusal → Call → Type 0
+IsNextKey (Ok (Some e)) c = IsNextEvent e c × IsBasicKind e.kind
+IsNextKey (Ok None) c = IsEnd c
+IsNextKey (Err f) c = (IsNext (Err f) c × IsBehindBasic f c) ⊎ IsOtherKey f c
+
+-- what a key is refused for, before it is complete
+abbrev pub IsKeyReason : Reason → Type 0
+IsKeyReason r = IsEventReason r ⊎ (r ≡ KeyKind)

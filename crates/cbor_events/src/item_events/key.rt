@@ -1,0 +1,130 @@
+//! The next event where a key is due that is to be an integer or a text.
+
+ghost use Rattle.std.specs.Prelude.{◌≡◌, ◌≢◌, ◌≤◌, ◌<◌, ◌⊎◌, ◌/◌, ℕ, List, [], None, Some, OnOk, OnErr, IfErr};
+ghost use Rattle.std.specs.Prelude.{IfSome, IsTrue, Err, false, true};
+ghost use Rattle.cbor_head.specs.declared.reason.Reason.TheVariants.{KeyKind};
+ghost use Rattle.cbor_grammar.specs.FirstBytes as first_bytes;
+ghost use Rattle.cbor_automaton.specs.Trace.{Mark};
+ghost use Rattle.cbor_automaton.specs.Marks.{IsProper};
+ghost use Rattle.cbor_automaton.specs.Reasons.{IsEventReason};
+ghost use Rattle.cbor_standing.specs.Machine.{KeepsLimits, IsIdle, StandsFor, wanted};
+ghost use Rattle.cbor_standing.specs.NextEvent.{StandsBetween, IfTold, machine_call, call};
+ghost use Rattle.cbor_events.specs.NextKey.{IsNextKey, IsKeyReason};
+ghost use Rattle.cbor_events.specs.inner.Reads.{HasFirst, HasStopped, IsFirstAnswer, IsTakenAt};
+ghost use Rattle.cbor_events.specs.inner.Reads.{IfPartTold, IfStopped};
+
+use crate::item_events::{ARGUMENT, ItemEvents, at_end, next_part};
+use crate::part::{Part, read_part};
+use cbor_automaton::Event;
+use cbor_head::{Reason, Refusal};
+use cbor_machine::Machine;
+use std::io::Read;
+
+impl ItemEvents {
+    /// The next event where a key is due that is to be an integer or a text, with its bytes read.
+    ///
+    /// As [`next`](ItemEvents::next), but the kind is judged at the first byte of the key, before
+    /// any more is asked of the reader. Where that byte may stand there, and is neither of an
+    /// integer nor of a text nor a break, it is taken, and refused at its place: `KeyKind`, even
+    /// where the byte limit is reached with it.
+    #[inline(never)]
+    pub fn next_key<R: Read>(&mut self, reader: &mut R) -> Result<Option<Event>, Refusal>
+        // No payload is open.
+        requires head { self.old.refusal ≡ None → self.old.machine.in_payload ≡ false }
+        // For all bytes and marks that the machine stood for, as long as nothing was refused.
+        ensures answers { self.old.refusal ≡ None
+            → (t : List ℕ) (ms : List Mark) → StandsBetween self.old.machine t ms
+            → IsNextKey result
+            (call self.old self.new (R.remaining reader.old) (R.remaining reader.new) t ms) }
+        ensures limits { KeepsLimits self.old.machine self.new.machine }
+        ensures proper { IfTold result (λ e. IsProper e.width e.kind) }
+        ensures live { OnOk result (self.new.refusal ≡ None) }
+        ensures refused { IfErr result (λ f. (self.new.refusal ≡ Some f)
+            × (self.new.machine.taken ≡ f.read) × IsKeyReason f.reason) }
+        ensures emptied { OnErr result (self.new.piece ≡ []) }
+
+        // Where nothing is wanted the reader is not touched, nor after a refusal.
+        ensures idle { IsIdle self.old.machine → reader.new ≡ reader.old }
+        ensures again { IfSome self.old.refusal
+            (λ f. (result ≡ Err f) × (self.new ≡ self.old) × (reader.new ≡ reader.old)) }
+    {
+        if let Some(refusal) = self.refusal {
+            return Err(refusal);
+        }
+        match key_head(&mut self.machine, reader) {
+            Ok(event) => Ok(event),
+            Err(refusal) => {
+                self.refusal = Some(refusal);
+                self.held = 0;
+                Err(refusal)
+            }
+        }
+    }
+}
+
+// The head of a key that is to be an integer or a text, or a break.
+fn key_head<R: Read>(machine: &mut Machine, reader: &mut R) -> Result<Option<Event>, Refusal>
+    requires within { machine.old.open_count ≤ machine.old.depth }
+    requires head { machine.old.in_payload ≡ false }
+    ensures answers { (kept t : List ℕ) (ms : List Mark) → StandsBetween machine.old t ms
+        → IsNextKey result (machine_call machine.old machine.new
+        (R.remaining reader.old) (R.remaining reader.new) kept kept t ms) }
+    ensures limits { KeepsLimits machine.old machine.new }
+    ensures proper { IfTold result (λ e. IsProper e.width e.kind) }
+    ensures taken { IfErr result (λ f. machine.new.taken ≡ f.read) }
+    ensures reason { IfErr result (λ f. IsKeyReason f.reason) }
+    ensures idle { IsIdle machine.old → reader.new ≡ reader.old }
+{
+    if machine.wanted() == 0 {
+        return at_end(machine);
+    }
+    let place = machine.taken();
+    let (part, first) = first_byte(machine, reader);
+    if is_other(&part, first, place) {
+        return Err(Refusal::new(Reason::KeyKind, place, machine.taken()));
+    }
+    match part {
+        Part::Told(event) => Ok(Some(event)),
+        Part::Open => next_part(machine, reader, &mut [0; ARGUMENT]),
+        Part::Stopped(refusal) => Err(refusal),
+    }
+}
+
+// The first byte of a head, if one is read, and what comes of it.
+fn first_byte<R: Read>(machine: &mut Machine, reader: &mut R) -> (Part, u8)
+    requires wanted { 0 < wanted machine.old }
+    requires within { machine.old.open_count ≤ machine.old.depth }
+    requires head { machine.old.in_payload ≡ false }
+    ensures answers { (kept t : List ℕ) (ms : List Mark) → StandsBetween machine.old t ms
+        → IsFirstAnswer result.0 (machine_call machine.old machine.new
+        (R.remaining reader.old) (R.remaining reader.new) kept kept t ms) }
+    ensures lost { (t : List ℕ) (ms : List Mark) → StandsFor machine.old t ms
+        → HasFirst result.0 machine.old machine.new
+        (R.remaining reader.old) (R.remaining reader.new) result.1 t ms
+        ⊎ HasStopped result.0 machine.old }
+    ensures limits { KeepsLimits machine.old machine.new }
+    ensures proper { IfPartTold result.0 (λ e. IsProper e.width e.kind) }
+    ensures taken { IfStopped result.0 (λ f. machine.new.taken ≡ f.read) }
+    ensures reason { IfStopped result.0 (λ f. IsEventReason f.reason) }
+{
+    let mut first = [0; 1];
+    let part = read_part(machine, reader, &mut first, 1);
+    (part, first[0])
+}
+
+// Whether the byte at this place was taken, as the first of an item that is neither an integer nor a
+// text.
+fn is_other(part: &Part, first: u8, place: u64) -> bool
+    ensures other { result ≡ true → IsTakenAt part.now place
+        × ¬ IsTrue (first_bytes.is_basic (first / 32)) × (first ≢ 0xff) }
+    ensures basic { result ≡ false → IsTakenAt part.now place
+        → IsTrue (first_bytes.is_basic (first / 32)) ⊎ (first ≡ 0xff) }
+{
+    if matches!(first / 32, 0 | 1 | 3) || first == 0xff {
+        return false;
+    }
+    match part {
+        Part::Told(_) | Part::Open => true,
+        Part::Stopped(refusal) => refusal.place > place,
+    }
+}

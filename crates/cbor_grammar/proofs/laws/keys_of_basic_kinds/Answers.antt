@@ -1,0 +1,5 @@
+use Rattle.cbor_grammar.proofs.BasicKeys.{basic_keys}
+use Rattle.cbor_grammar.proofs.laws.keys_of_basic_kinds.Goals as goal
+
+pub returns : goal.returns
+returns c = basic_keys

@@ -1,0 +1,228 @@
+-- In which bytes of an item no key begins behind the first of them: of one head, or of what is no container.
+use Rattle.std.proofs.Common.{ℕ, suc, ◌+◌, ◌*◌, ◌-◌, ◌^◌, ◌/◌, ◌%◌, ◌≡◌, ◌<◌, ◌≤◌, true, false, List, [], ◌∷◌, ◌++◌, length, replicate, refl, sym, ap, ◌∙◌, arith, subst, inl, inr}
+use Rattle.std.specs.Prelude.{IsTrue, Option}
+use Rattle.std.proofs.lemmas.Bool.{cases_lt}
+use Rattle.std.proofs.lemmas.List.{length-append, append-nil}
+use Rattle.cbor_head.specs.Head.{Holds, head, major_number}
+use Rattle.cbor_head.specs.Limits.{Bounds}
+use Rattle.cbor_head.specs.Value.{IsIntegerOrText, AreBytes}
+use Rattle.cbor_head.specs.Spelling.{Spelling, unsigned, negative, bytes, text, byte_chunks, text_chunks, array, a_map, tag, simple, no_spellings, no_entries, spell, depth, spellings_count, entries_count, value_of, IsSpelled, HoldsOrIndefinite}
+use Rattle.cbor_head.specs.Complaint.{Rules, Complaint, OfKinds}
+use Rattle.cbor_head.specs.declared.major.Major.{Major}
+use Rattle.cbor_head.specs.declared.major.Major.TheVariants.{Unsigned, Negative, Bytes, Text, Array, Map, Tag, Simple}
+use Rattle.cbor_head.specs.declared.width.Width.{Width}
+use Rattle.cbor_head.specs.declared.width.Width.TheVariants.{Direct, One, Two, Four, Eight, Indefinite}
+use Rattle.cbor_grammar.specs.FirstBytes.{is_container}
+use Rattle.cbor_grammar.proofs.KeyKinds.{number_is, byte_basic, kind_later}
+use Rattle.cbor_grammar.proofs.Parts.{head_of, body, parts, holds_of}
+use Rattle.cbor_automaton.specs.Trace.{Mark, a_head, a_chunk, a_byte, a_break}
+use Rattle.cbor_automaton.specs.Automaton as automaton
+use Rattle.cbor_automaton.specs.Automaton.{State, at_item as due_at, in_head, in_simple, in_payload, in_chunks, done, run, reached}
+use Rattle.cbor_automaton.proofs.Arguments.{number}
+use Rattle.cbor_automaton.proofs.Taking.{IsWithin, nothing-taken}
+use Rattle.cbor_judging.specs.Frame.{Frame}
+use Rattle.cbor_judging.specs.Judged.{IsJudged}
+use Rattle.cbor_judging.specs.Kinds.{IsOfOneHead, HasBasicFront, AsksForKinds, KeepsToKinds, IsKeyDue, IsKeyDueIn}
+use Rattle.cbor_judging.specs.Levels.{Level, AreLevels, bytes_before}
+use Rattle.cbor_judging.specs.OpenMaps.{before_all, ArePath}
+use Rattle.cbor_judging.specs.Place.{Container, Place, at_item, Opens, Follows, IsTaking}
+use Rattle.cbor_judging.proofs.Heads.{Headed, headed, open_or, zero_bytes, zero_length}
+use Rattle.cbor_judging.proofs.KindLevels.{keeps_in}
+use Rattle.cbor_judging.proofs.KindSteps.{keeps_on}
+
+-- ---- bytes of one head
+
+-- so many bytes of an argument, by the first byte
+abbrev Behind : ℕ → ℕ → Type 0
+Behind b k = 0 < k → (24 ≤ b % 32) × (b % 32 < 28) × (k ≤ 2 ^ (b % 32 - 24))
+
+none_behind : (b low k : ℕ) → b % 32 ≡ low → low < 24 → Behind b k → k ≡ 0
+none_behind b low k e l f = elim (cases_lt 0 k) [ inl p ↦ let g = f p in absurd (omega (arith, e, l, g.0)) | inr p ↦ omega (arith, p) ]
+
+some_behind : (b low k : ℕ) → b % 32 ≡ low → Behind b k → k ≤ 2 ^ (low - 24)
+some_behind b low k e f = elim (cases_lt 0 k) [ inl p ↦ let g = f p in subst (λ (j : ℕ). k ≤ 2 ^ (j - 24)) e g.2 | inr p ↦ let none : k ≡ 0 = omega (arith, p) in subst (λ (j : ℕ). j ≤ 2 ^ (low - 24)) (sym none) (omega arith) ]
+
+no_end : (b k : ℕ) → b % 32 ≡ 31 → Behind b k → k ≡ 0
+no_end b k e f = elim (cases_lt 0 k) [ inl p ↦ let g = f p in absurd (omega (arith, e, g.1)) | inr p ↦ omega (arith, p) ]
+
+-- they are no more than the head has
+within_head : (m : Major) (w : Width) (n b k : ℕ) (y z : List ℕ) → HoldsOrIndefinite w n → head m w n ++ z ≡ b ∷ y → Behind b k → suc k ≤ length (head m w n)
+within_head m Direct n b k y z h e f =
+    let first : 32 * major_number m + n ≡ b = cc e in
+    let none : k ≡ 0 = none_behind b n k (omega (arith, first, h)) h f in
+    omega (arith, none)
+within_head m One n b k y z h e f =
+    let first : 32 * major_number m + 24 ≡ b = cc e in
+    let most : k ≤ 2 ^ (24 - 24) = some_behind b 24 k (omega (arith, first)) f in
+    let size : length (head m One n) ≡ 2 = refl in
+    omega (arith, most, size)
+within_head m Two n b k y z h e f =
+    let first : 32 * major_number m + 25 ≡ b = cc e in
+    let most : k ≤ 2 ^ (25 - 24) = some_behind b 25 k (omega (arith, first)) f in
+    let size : length (head m Two n) ≡ 3 = refl in
+    omega (arith, most, size)
+within_head m Four n b k y z h e f =
+    let first : 32 * major_number m + 26 ≡ b = cc e in
+    let most : k ≤ 2 ^ (26 - 24) = some_behind b 26 k (omega (arith, first)) f in
+    let size : length (head m Four n) ≡ 5 = refl in
+    omega (arith, most, size)
+within_head m Eight n b k y z h e f =
+    let first : 32 * major_number m + 27 ≡ b = cc e in
+    let most : k ≤ 2 ^ (27 - 24) = some_behind b 27 k (omega (arith, first)) f in
+    let size : length (head m Eight n) ≡ 9 = refl in
+    omega (arith, most, size)
+within_head m Indefinite n b k y z h e f =
+    let first : 32 * major_number m + 31 ≡ b = cc e in
+    let none : k ≡ 0 = no_end b k (omega (arith, first)) f in
+    omega (arith, none)
+
+-- ---- no key but the item itself begins in them
+
+pub kinds_behind : (s : Spelling) → IsSpelled s → (x z : List ℕ) → spell s ≡ x ++ z → IsOfOneHead x → (at : ℕ) (c : Complaint) → OfKinds at s c → at + length x < c.end
+kinds_behind s h [] z e one at c o = omega (arith, kind_later s at c o)
+kinds_behind (array w ss) h (b ∷ bs) z e one at c o =
+    let n = number_is (array w ss) h b [] (bs ++ z) (append-nil (spell (array w ss)) ∙ e) in
+    let behind = one (subst (λ (k : ℕ). IsTrue (is_container k)) n refl) in
+    let short = within_head Array w (spellings_count ss) b (length bs) (bs ++ z) (body (array w ss)) (holds_of (array w ss) h) (sym (parts (array w ss)) ∙ e) behind in
+    omega (arith, short, kind_later (array w ss) at c o)
+kinds_behind (a_map w es) h (b ∷ bs) z e one at c o =
+    let n = number_is (a_map w es) h b [] (bs ++ z) (append-nil (spell (a_map w es)) ∙ e) in
+    let behind = one (subst (λ (k : ℕ). IsTrue (is_container k)) n refl) in
+    let short = within_head Map w (entries_count es) b (length bs) (bs ++ z) (body (a_map w es)) (holds_of (a_map w es) h) (sym (parts (a_map w es)) ∙ e) behind in
+    omega (arith, short, kind_later (a_map w es) at c o)
+kinds_behind (tag w n s) h (b ∷ bs) z e one at c o =
+    let k = number_is (tag w n s) h b [] (bs ++ z) (append-nil (spell (tag w n s)) ∙ e) in
+    let behind = one (subst (λ (k : ℕ). IsTrue (is_container k)) k refl) in
+    let short = within_head Tag w n b (length bs) (bs ++ z) (body (tag w n s)) (holds_of (tag w n s) h) (sym (parts (tag w n s)) ∙ e) behind in
+    omega (arith, short, kind_later (tag w n s) at c o)
+kinds_behind (unsigned w n) h (b ∷ bs) z e one at c o = absurd o
+kinds_behind (negative w n) h (b ∷ bs) z e one at c o = absurd o
+kinds_behind (bytes w q) h (b ∷ bs) z e one at c o = absurd o
+kinds_behind (text w q) h (b ∷ bs) z e one at c o = absurd o
+kinds_behind (byte_chunks cs) h (b ∷ bs) z e one at c o = absurd o
+kinds_behind (text_chunks cs) h (b ∷ bs) z e one at c o = absurd o
+kinds_behind (simple n) h (b ∷ bs) z e one at c o = absurd o
+
+-- a front of them
+pub one_head_front : (x y : List ℕ) → IsOfOneHead (x ++ y) → IsOfOneHead x
+one_head_front [] y h = tt
+one_head_front (b ∷ bs) y h = λ container some.
+    let size = length-append bs y in
+    let g = h container (omega (arith, some, size)) in
+    (g.0, g.1, omega (arith, g.2, size))
+
+-- ---- heads
+
+argument_of : (b low k : ℕ) → b % 32 ≡ low → 24 ≤ low → low < 28 → k ≤ 2 ^ (low - 24) → (24 ≤ b % 32) × (b % 32 < 28) × (k ≤ 2 ^ (b % 32 - 24))
+argument_of b low k e l h most = (omega (arith, e, l), omega (arith, e, h), subst (λ (j : ℕ). k ≤ 2 ^ (j - 24)) (sym e) most)
+
+pub head_is_one : (m : Major) (w : Width) (n : ℕ) → HoldsOrIndefinite w n → IsOfOneHead (head m w n)
+head_is_one m Direct n h = λ container some. absurd (omega (arith, some))
+head_is_one m One n h = λ container some. argument_of (32 * major_number m + 24) 24 1 (omega arith) (omega arith) (omega arith) (omega arith)
+head_is_one m Two n h = λ container some. argument_of (32 * major_number m + 25) 25 2 (omega arith) (omega arith) (omega arith) (omega arith)
+head_is_one m Four n h = λ container some. argument_of (32 * major_number m + 26) 26 4 (omega arith) (omega arith) (omega arith) (omega arith)
+head_is_one m Eight n h = λ container some. argument_of (32 * major_number m + 27) 27 8 (omega arith) (omega arith) (omega arith) (omega arith)
+head_is_one m Indefinite n h = λ container some. absurd (omega (arith, some))
+
+-- a head that has begun
+begun_is_one : (d : ℕ) (fs : List automaton.Frame) (q : State) (x : List ℕ) → IsWithin d (due_at fs) q x → IsOfOneHead x
+begun_is_one d fs (in_head false m w k acc gs) x h =
+    let more = replicate (suc k) 0 in
+    let whole = h.3 more (zero_length (suc k)) (zero_bytes (suc k)) in
+    one_head_front x more (subst IsOfOneHead (sym whole.0) (head_is_one m w (number acc more) (open_or w (number acc more) whole.1)))
+begun_is_one d fs (in_head true m w k acc gs) x h = absurd (cc h.0)
+begun_is_one d fs (in_simple gs) x h = subst IsOfOneHead (sym h.1) (λ container some. absurd (omega (arith, some)))
+begun_is_one d fs (due_at gs) x h = subst IsOfOneHead (sym h.1) tt
+begun_is_one d fs (in_payload chunk m n gs) x h = subst IsOfOneHead (sym h.1) tt
+begun_is_one d fs (in_chunks m gs) x h = subst IsOfOneHead (sym h.1) tt
+begun_is_one d fs done x h = subst IsOfOneHead (sym h.1) tt
+
+pub silent_is_one : (d : ℕ) (fs : List automaton.Frame) (q : State) (x : List ℕ) → AreBytes x → run d (due_at fs) x ≡ reached q [] → IsOfOneHead x
+silent_is_one d fs q x b e = begun_is_one d fs q x (nothing-taken d (due_at fs) q x tt b e)
+
+-- of bytes, or of text
+abbrev IsString : Major → Type 0
+IsString Bytes = Unit {0}
+IsString Text = Unit {0}
+IsString _ = ⊥
+
+-- a string, whole or not
+pub string_is_one : (m : Major) (w : Width) (n : ℕ) (q : List ℕ) → IsString m → HoldsOrIndefinite w n → IsOfOneHead (head m w n ++ q)
+string_is_one Bytes Direct n q i h = λ container. let e : (64 + n) / 32 ≡ 2 = omega (arith, h) in absurd (cc (subst (λ (k : ℕ). IsTrue (is_container k)) e container))
+string_is_one Bytes One n q i h = λ container. absurd (cc container)
+string_is_one Bytes Two n q i h = λ container. absurd (cc container)
+string_is_one Bytes Four n q i h = λ container. absurd (cc container)
+string_is_one Bytes Eight n q i h = λ container. absurd (cc container)
+string_is_one Bytes Indefinite n q i h = λ container. absurd (cc container)
+string_is_one Text Direct n q i h = λ container. let e : (96 + n) / 32 ≡ 3 = omega (arith, h) in absurd (cc (subst (λ (k : ℕ). IsTrue (is_container k)) e container))
+string_is_one Text One n q i h = λ container. absurd (cc container)
+string_is_one Text Two n q i h = λ container. absurd (cc container)
+string_is_one Text Four n q i h = λ container. absurd (cc container)
+string_is_one Text Eight n q i h = λ container. absurd (cc container)
+string_is_one Text Indefinite n q i h = λ container. absurd (cc container)
+string_is_one _ w n q i h = absurd i
+
+-- ---- the item that a head begins
+
+pub record Begins (d : ℕ) (x : List ℕ) : Type 0 where
+  pub item : Spelling
+  pub spelled : IsSpelled item
+  pub within : depth item ≤ d
+  pub rest : List ℕ
+  pub bytes : spell item ≡ x ++ rest
+
+begins_by : (d : ℕ) (x : List ℕ) (s : Spelling) → IsSpelled s → depth s ≤ d → head_of s ≡ x → Begins d x
+begins_by d x s h l e = record { item = s; spelled = h; within = l; rest = body s; bytes = parts s ∙ ap (λ (y : List ℕ). y ++ body s) e }
+
+opener_begins : (d : ℕ) (cs : List Container) (m : Major) (next : Place) → Opens d cs m next → Begins (d - length cs) (head m Indefinite 0)
+opener_begins d cs Bytes next h = begins_by (d - length cs) _ (byte_chunks []) tt (omega arith) refl
+opener_begins d cs Text next h = begins_by (d - length cs) _ (text_chunks []) tt (omega arith) refl
+opener_begins d cs Array next h = begins_by (d - length cs) _ (array Indefinite no_spellings) (tt, tt) (omega (arith, h.0)) refl
+opener_begins d cs Map next h = begins_by (d - length cs) _ (a_map Indefinite no_entries) (tt, tt) (omega (arith, h.0)) refl
+opener_begins d cs _ next h = absurd h
+
+of_headed : {d : ℕ} {x : List ℕ} → Headed d x → Begins d x
+of_headed h = begins_by _ _ h.item h.spelled h.within h.head_is
+
+head_begins : (d : ℕ) (cs : List Container) (m : Major) (w : Width) (n : ℕ) (next : Place) → Holds w n → Follows d cs m w n next → Begins (d - length cs) (head m w n)
+head_begins d cs Unsigned w n next h f = of_headed (headed (d - length cs) Unsigned w n tt h (omega arith))
+head_begins d cs Negative w n next h f = of_headed (headed (d - length cs) Negative w n tt h (omega arith))
+head_begins d cs Bytes w n next h f = of_headed (headed (d - length cs) Bytes w n tt h (omega arith))
+head_begins d cs Text w n next h f = of_headed (headed (d - length cs) Text w n tt h (omega arith))
+head_begins d cs Array w n next h f = of_headed (headed (d - length cs) Array w n tt h (omega (arith, f.0)))
+head_begins d cs Map w n next h f = of_headed (headed (d - length cs) Map w n tt h (omega (arith, f.0)))
+head_begins d cs Tag w n next h f = of_headed (headed (d - length cs) Tag w n tt h (omega (arith, f.0)))
+head_begins d cs Simple w n next h f = begins_by (d - length cs) _ (simple n) f.0 (omega arith) (ap (λ (v : Width). head Simple v n) (sym f.1))
+
+pub mark_begins : (d : ℕ) (cs : List Container) (mark : Mark) (x : List ℕ) (next : Place) → IsTaking d (at_item cs) mark x next → (mark ≡ a_break → ⊥) → Begins (d - length cs) x × IsOfOneHead x
+mark_begins d cs (a_head m Indefinite n) x next h b = (subst (Begins (d - length cs)) (sym h.1) (opener_begins d cs m next h.2), subst IsOfOneHead (sym h.1) (head_is_one m Indefinite 0 tt))
+mark_begins d cs (a_head m Direct n) x next h b = (subst (Begins (d - length cs)) (sym h.0) (head_begins d cs m Direct n next h.1 h.2), subst IsOfOneHead (sym h.0) (head_is_one m Direct n h.1))
+mark_begins d cs (a_head m One n) x next h b = (subst (Begins (d - length cs)) (sym h.0) (head_begins d cs m One n next h.1 h.2), subst IsOfOneHead (sym h.0) (head_is_one m One n h.1))
+mark_begins d cs (a_head m Two n) x next h b = (subst (Begins (d - length cs)) (sym h.0) (head_begins d cs m Two n next h.1 h.2), subst IsOfOneHead (sym h.0) (head_is_one m Two n h.1))
+mark_begins d cs (a_head m Four n) x next h b = (subst (Begins (d - length cs)) (sym h.0) (head_begins d cs m Four n next h.1 h.2), subst IsOfOneHead (sym h.0) (head_is_one m Four n h.1))
+mark_begins d cs (a_head m Eight n) x next h b = (subst (Begins (d - length cs)) (sym h.0) (head_begins d cs m Eight n next h.1 h.2), subst IsOfOneHead (sym h.0) (head_is_one m Eight n h.1))
+mark_begins d cs (a_chunk w n) x next h b = absurd h
+mark_begins d cs a_byte x next h b = absurd h
+mark_begins d cs a_break x next h b = absurd (b refl)
+
+-- ---- the bytes so far, with what was found of the item that is due
+
+basic_due : {Due : Type 0} → (limits : Bounds) (r : Rules) (s : Spelling) (x z : List ℕ) → IsSpelled s → spell s ≡ x ++ z → (AsksForKinds limits r → Due → HasBasicFront x) → AsksForKinds limits r → Due → 0 < length x → IsIntegerOrText (value_of s)
+basic_due limits r s [] z h e basic asked due some = absurd (omega (arith, some))
+basic_due limits r s (b ∷ bs) z h e basic asked due some = byte_basic s h b [] (bs ++ z) (append-nil (spell s) ∙ e) (basic asked due)
+
+-- where the containers around it are known as frames
+pub keeps_along : (limits : Bounds) (r : Rules) (fs : List Frame) (left : ℕ) → length fs + left ≡ limits.depth → ArePath left fs → (x : List ℕ) → Begins left x → IsOfOneHead x → (AsksForKinds limits r → IsKeyDue fs → HasBasicFront x)
+    → KeepsToKinds limits r (before_all fs) → KeepsToKinds limits r (before_all fs ++ x)
+keeps_along limits r fs left levels path x g one basic keeps =
+    keeps_on limits r fs left levels path g.item x g.rest g.spelled g.within g.bytes (basic_due limits r g.item x g.rest g.spelled g.bytes basic) (kinds_behind g.item g.spelled x g.rest g.bytes one (length (before_all fs))) keeps
+
+-- and as levels
+module _ (limits : Bounds) (r : Rules) (ls : List Level) (levels : AreLevels limits.depth ls) where
+  pub keeps_due : (x : List ℕ) → Begins (limits.depth - length ls) x → IsOfOneHead x → (AsksForKinds limits r → IsKeyDueIn ls → HasBasicFront x) → KeepsToKinds limits r (bytes_before ls) → KeepsToKinds limits r (bytes_before ls ++ x)
+  keeps_due x g one basic keeps =
+      keeps_in limits r ls levels g.item x g.rest g.spelled g.within g.bytes (basic_due limits r g.item x g.rest g.spelled g.bytes basic) (kinds_behind g.item g.spelled x g.rest g.bytes one (length (bytes_before ls))) keeps
+
+-- what was found of an item is of one that begins so
+pub judged_begins : (r : Rules) (at d : ℕ) (x : List ℕ) (found : Option Complaint) → IsJudged r at d x found → Begins d x
+judged_begins r at d x found j = record { item = j.item; spelled = j.is.spelled; within = j.is.within; rest = j.rest; bytes = j.is.bytes_are }

@@ -1,0 +1,176 @@
+-- Complaints on the kinds of keys over the open containers: where those of the whole end, and which are the item's.
+use Rattle.std.proofs.Common.{ℕ, suc, ◌+◌, ◌≡◌, ◌<◌, ◌≤◌, ◌⊎◌, List, [], ◌∷◌, ◌++◌, length, refl, sym, ap, ◌∙◌, arith, subst, inl, inr}
+use Rattle.std.proofs.lemmas.List.{length-append, append_assoc, append-nil}
+use Rattle.cbor_head.specs.Head.{head}
+use Rattle.cbor_head.specs.Value.{IsIntegerOrText}
+use Rattle.cbor_head.specs.Spelling.{Spelling, Spellings, SpelledEntries, no_spellings, a_spelling, no_entries, entry, spell, spell_all, spell_entries, spellings_count, entries_count, IsSpelled, depth, value_of}
+use Rattle.cbor_head.specs.Complaint.{Complaint, complaint, OfKinds, OfKindsIn, OfKindsInEntries}
+use Rattle.cbor_head.specs.declared.major.Major.TheVariants.{Array, Map, Tag}
+use Rattle.cbor_head.specs.declared.reason.Reason.TheVariants.{KeyKind}
+use Rattle.cbor_grammar.proofs.KeyKinds.{kind_end, kind_later, kind_later_in, kind_later_entries, kind_within, kind_within_in, kind_within_entries}
+use Rattle.cbor_grammar.proofs.ReadLaws.{length_head, length_spell}
+use Rattle.cbor_judging.specs.Frame.{Frame, a_member, a_key, a_content, tagged, with_all, with_entries, plug, before, behind, depth_beside}
+use Rattle.cbor_judging.specs.Kinds.{IsKeyFrame, IsKeyDue, plug_all}
+use Rattle.cbor_judging.specs.OpenMaps.{before_all, ArePath}
+use Rattle.cbor_judging.proofs.Frames.{count_with, entries_with, spell_plug, spelled_plug, depth_plug}
+
+-- ---- of two lists
+
+in_split : (ss ts : Spellings) (at to : ℕ) (c : Complaint) → to ≡ at + length (spell_all ss) → OfKindsIn at (with_all ss ts) c → OfKindsIn at ss c ⊎ OfKindsIn to ts c
+in_split no_spellings ts at to c e h = let f : at ≡ to = omega (arith, e) in inr (subst (λ (n : ℕ). OfKindsIn n ts c) f h)
+in_split (a_spelling s ss) ts at to c e (inl h) = inl (inl h)
+in_split (a_spelling s ss) ts at to c e (inr h) =
+    elim (in_split ss ts (at + length (spell s)) to c (omega (arith, e, length-append (spell s) (spell_all ss))) h) [ inl x ↦ inl (inr x) | inr y ↦ inr y ]
+
+in_right : (ss ts : Spellings) (at to : ℕ) (c : Complaint) → to ≡ at + length (spell_all ss) → OfKindsIn to ts c → OfKindsIn at (with_all ss ts) c
+in_right no_spellings ts at to c e h = let f : to ≡ at = omega (arith, e) in subst (λ (n : ℕ). OfKindsIn n ts c) f h
+in_right (a_spelling s ss) ts at to c e h = inr (in_right ss ts (at + length (spell s)) to c (omega (arith, e, length-append (spell s) (spell_all ss))) h)
+
+three : (k v : Spelling) (es : SpelledEntries) → length (spell_entries (entry k v es)) ≡ length (spell k) + length (spell v) + length (spell_entries es)
+three k v es = omega (arith, length-append (spell k ++ spell v) (spell_entries es), length-append (spell k) (spell v))
+
+entries_split : (es fs : SpelledEntries) (at to : ℕ) (c : Complaint) → to ≡ at + length (spell_entries es) → OfKindsInEntries at (with_entries es fs) c → OfKindsInEntries at es c ⊎ OfKindsInEntries to fs c
+entries_split no_entries fs at to c e h = let f : at ≡ to = omega (arith, e) in inr (subst (λ (n : ℕ). OfKindsInEntries n fs c) f h)
+entries_split (entry k v es) fs at to c e (inl h) = inl (inl h)
+entries_split (entry k v es) fs at to c e (inr (inl h)) = inl (inr (inl h))
+entries_split (entry k v es) fs at to c e (inr (inr (inl h))) = inl (inr (inr (inl h)))
+entries_split (entry k v es) fs at to c e (inr (inr (inr h))) =
+    elim (entries_split es fs (at + length (spell k) + length (spell v)) to c (omega (arith, e, three k v es)) h) [ inl x ↦ inl (inr (inr (inr x))) | inr y ↦ inr y ]
+
+entries_right : (es fs : SpelledEntries) (at to : ℕ) (c : Complaint) → to ≡ at + length (spell_entries es) → OfKindsInEntries to fs c → OfKindsInEntries at (with_entries es fs) c
+entries_right no_entries fs at to c e h = let f : to ≡ at = omega (arith, e) in subst (λ (n : ℕ). OfKindsInEntries n fs c) f h
+entries_right (entry k v es) fs at to c e h = inr (inr (inr (entries_right es fs (at + length (spell k) + length (spell v)) to c (omega (arith, e, three k v es)) h)))
+
+-- ---- of one container
+
+-- on the item as a key, which begins at this place
+abbrev pub IsOnKey : ℕ → Spelling → Complaint → Type 0
+IsOnKey at s c = ¬ IsIntegerOrText (value_of s) × (c ≡ complaint (at + 1) at KeyKind)
+
+-- a complaint of the container ends with what stands before the item, is on it as a key, is its own, or ends behind it
+kind_split : (f : Frame) (s : Spelling) (at to : ℕ) (c : Complaint) → to ≡ at + length (before f) → OfKinds at (plug f s) c → (c.end ≤ to) ⊎ (IsKeyFrame f × IsOnKey to s c) ⊎ OfKinds to s c ⊎ (to + length (spell s) < c.end)
+kind_split (a_member w a b) s at to c e h =
+    let h0 = head Array w (spellings_count a + suc (spellings_count b)) in
+    let size = length-append h0 (spell_all a) in
+    let g : OfKindsIn (at + length h0) (with_all a (a_spelling s b)) c = subst (λ (m : ℕ). OfKindsIn (at + length (head Array w m)) (with_all a (a_spelling s b)) c) (count_with a (a_spelling s b)) h in
+    elim (in_split a (a_spelling s b) (at + length h0) to c (omega (arith, e, size)) g) [
+      | inl x ↦ inl (omega (arith, kind_within_in a (at + length h0) c x, e, size))
+      | inr y ↦ elim y [ inl x ↦ inr (inr (inl x)) | inr x ↦ inr (inr (inr (kind_later_in b (to + length (spell s)) c x))) ]
+    ]
+kind_split (a_key w a v b) s at to c e h =
+    let h0 = head Map w (entries_count a + suc (entries_count b)) in
+    let size = length-append h0 (spell_entries a) in
+    let g : OfKindsInEntries (at + length h0) (with_entries a (entry s v b)) c = subst (λ (m : ℕ). OfKindsInEntries (at + length (head Map w m)) (with_entries a (entry s v b)) c) (entries_with a (entry s v b)) h in
+    elim (entries_split a (entry s v b) (at + length h0) to c (omega (arith, e, size)) g) [
+      | inl x ↦ inl (omega (arith, kind_within_entries a (at + length h0) c x, e, size))
+      | inr y ↦ elim y [
+        | inl x ↦ inr (inl (tt, x))
+        | inr (inl x) ↦ inr (inr (inl x))
+        | inr (inr (inl x)) ↦ inr (inr (inr (omega (arith, kind_later v (to + length (spell s)) c x))))
+        | inr (inr (inr x)) ↦ inr (inr (inr (omega (arith, kind_later_entries b (to + length (spell s) + length (spell v)) c x))))
+      ]
+    ]
+kind_split (a_content w a k b) s at to c e h =
+    let h0 = head Map w (entries_count a + suc (entries_count b)) in
+    let here = at + length (h0 ++ spell_entries a) in
+    let size = length-append h0 (spell_entries a) in
+    let there : here + length (spell k) ≡ to = omega (arith, e, length-append (h0 ++ spell_entries a) (spell k)) in
+    let g : OfKindsInEntries (at + length h0) (with_entries a (entry k s b)) c = subst (λ (m : ℕ). OfKindsInEntries (at + length (head Map w m)) (with_entries a (entry k s b)) c) (entries_with a (entry k s b)) h in
+    elim (entries_split a (entry k s b) (at + length h0) here c (omega (arith, size)) g) [
+      | inl x ↦ inl (omega (arith, kind_within_entries a (at + length h0) c x, there, size))
+      | inr y ↦ elim y [
+        | inl x ↦ inl (omega (arith, kind_end c here x.1, there, length_spell k))
+        | inr (inl x) ↦ inl (omega (arith, kind_within k here c x, there))
+        | inr (inr (inl x)) ↦ inr (inr (inl (subst (λ (m : ℕ). OfKinds m s c) there x)))
+        | inr (inr (inr x)) ↦ inr (inr (inr (omega (arith, kind_later_entries b (here + length (spell k) + length (spell s)) c x, there))))
+      ]
+    ]
+kind_split (tagged w n) s at to c e h = inr (inr (inl (subst (λ (m : ℕ). OfKinds m s c) (sym e) h)))
+
+-- and those of the item, and on it as a key, are of the container
+kind_plug : (f : Frame) (s : Spelling) (at to : ℕ) (c : Complaint) → to ≡ at + length (before f) → (IsKeyFrame f × IsOnKey to s c) ⊎ OfKinds to s c → OfKinds at (plug f s) c
+kind_plug (a_member w a b) s at to c e h =
+    let h0 = head Array w (spellings_count a + suc (spellings_count b)) in
+    let g : OfKindsIn to (a_spelling s b) c = elim h [ inl x ↦ absurd x.0 | inr x ↦ inl x ] in
+    subst (λ (m : ℕ). OfKindsIn (at + length (head Array w m)) (with_all a (a_spelling s b)) c) (sym (count_with a (a_spelling s b)))
+    (in_right a (a_spelling s b) (at + length h0) to c (omega (arith, e, length-append h0 (spell_all a))) g)
+kind_plug (a_key w a v b) s at to c e h =
+    let h0 = head Map w (entries_count a + suc (entries_count b)) in
+    let g : OfKindsInEntries to (entry s v b) c = elim h [ inl x ↦ inl x.1 | inr x ↦ inr (inl x) ] in
+    subst (λ (m : ℕ). OfKindsInEntries (at + length (head Map w m)) (with_entries a (entry s v b)) c) (sym (entries_with a (entry s v b)))
+    (entries_right a (entry s v b) (at + length h0) to c (omega (arith, e, length-append h0 (spell_entries a))) g)
+kind_plug (a_content w a k b) s at to c e h =
+    let h0 = head Map w (entries_count a + suc (entries_count b)) in
+    let here = at + length (h0 ++ spell_entries a) in
+    let there : to ≡ here + length (spell k) = omega (arith, e, length-append (h0 ++ spell_entries a) (spell k)) in
+    let g : OfKinds to s c = elim h [ inl x ↦ absurd x.0 | inr x ↦ x ] in
+    subst (λ (m : ℕ). OfKindsInEntries (at + length (head Map w m)) (with_entries a (entry k s b)) c) (sym (entries_with a (entry k s b)))
+    (entries_right a (entry k s b) (at + length h0) here c (omega (arith, length-append h0 (spell_entries a))) (inr (inr (inl (subst (λ (m : ℕ). OfKinds m s c) there g)))))
+kind_plug (tagged w n) s at to c e h = elim h [ inl x ↦ absurd x.0 | inr x ↦ subst (λ (m : ℕ). OfKinds m s c) e x ]
+
+-- ---- of all containers
+
+before_some : (f : Frame) → 1 ≤ length (before f)
+before_some (a_member w a b) =
+    let n = spellings_count a + suc (spellings_count b) in omega (arith, length_head Array w n, length-append (head Array w n) (spell_all a))
+before_some (a_key w a v b) =
+    let n = entries_count a + suc (entries_count b) in omega (arith, length_head Map w n, length-append (head Map w n) (spell_entries a))
+before_some (a_content w a k b) =
+    let n = entries_count a + suc (entries_count b) in omega (arith, length_head Map w n, length-append (head Map w n) (spell_entries a), length-append (head Map w n ++ spell_entries a) (spell k))
+before_some (tagged w n) = length_head Tag w n
+
+-- their bytes around the item
+pub spell_along : (fs : List Frame) (s : Spelling) → (rest : List ℕ) × (spell (plug_all fs s) ≡ before_all fs ++ (spell s ++ rest))
+spell_along [] s = ([], sym (append-nil (spell s)))
+spell_along (f ∷ fs) s =
+    let r = spell_along fs s in (
+      r.0 ++ behind f,
+      spell_plug f (plug_all fs s) ∙ ap (λ (x : List ℕ). before f ++ (x ++ behind f)) r.1
+          ∙ ap (λ (x : List ℕ). before f ++ x) (append_assoc (before_all fs) (spell s ++ r.0) (behind f) ∙ ap (λ (x : List ℕ). before_all fs ++ x) (append_assoc (spell s) r.0 (behind f)))
+          ∙ sym (append_assoc (before f) (before_all fs) (spell s ++ (r.0 ++ behind f))),
+    )
+
+pub item_along : (fs : List Frame) (s : Spelling) (d : ℕ) → ArePath d fs → IsSpelled s → depth s ≤ d → IsSpelled (plug_all fs s) × (depth (plug_all fs s) ≤ length fs + d)
+item_along [] s d h i l = (i, omega (arith, l))
+item_along (f ∷ fs) s d h i l =
+    let r = item_along fs s d h.2 i l in
+    (spelled_plug f (plug_all fs s) h.0 r.0, omega (arith, depth_plug f (plug_all fs s), r.1, h.1))
+
+-- a complaint of the whole ends with what stands before the item, is on it as a key, is its own, or ends behind it
+pub kind_along : (fs : List Frame) (s : Spelling) (at to : ℕ) (c : Complaint) → to ≡ at + length (before_all fs) → OfKinds at (plug_all fs s) c
+    → (c.end ≤ to) ⊎ (IsKeyDue fs × IsOnKey to s c) ⊎ OfKinds to s c ⊎ (to + length (spell s) < c.end)
+kind_along [] s at to c e h = let f : at ≡ to = omega (arith, e) in inr (inr (inl (subst (λ (n : ℕ). OfKinds n s c) f h)))
+kind_along (f ∷ []) s at to c e h = kind_split f s at to c (omega (arith, e, length-append (before f) [])) h
+kind_along (f ∷ g ∷ fs) s at to c e h =
+    let inner = plug_all (g ∷ fs) s in
+    let next = at + length (before f) in
+    let further = length-append (before f) (before_all (g ∷ fs)) in
+    let some = length-append (before g) (before_all fs) in
+    elim (kind_split f inner at next c refl h) [
+      | inl x ↦ inl (omega (arith, x, e, further))
+      | inr (inl x) ↦ inl (omega (arith, kind_end c next x.1.1, e, further, some, before_some g))
+      | inr (inr (inl x)) ↦ kind_along (g ∷ fs) s next to c (omega (arith, e, further)) x
+      | inr (inr (inr x)) ↦
+          let r = spell_along (g ∷ fs) s in
+          inr (inr (inr (omega (arith, x, e, further, ap length r.1, length-append (before_all (g ∷ fs)) (spell s ++ r.0), length-append (spell s) r.0))))
+    ]
+
+-- and what is complained of the item as a key is complained of the whole
+pub key_along : (fs : List Frame) (s : Spelling) (at to : ℕ) (c : Complaint) → to ≡ at + length (before_all fs) → IsKeyDue fs → IsOnKey to s c → OfKinds at (plug_all fs s) c
+key_along [] s at to c e due h = absurd due
+key_along (f ∷ []) s at to c e due h = kind_plug f s at to c (omega (arith, e, length-append (before f) [])) (inl (due, h))
+key_along (f ∷ g ∷ fs) s at to c e due h =
+    let next = at + length (before f) in
+    kind_plug f (plug_all (g ∷ fs) s) at next c refl (inr (key_along (g ∷ fs) s next to c (omega (arith, e, length-append (before f) (before_all (g ∷ fs)))) due h))
+
+-- ---- the innermost is the last
+
+pub due_last : (fs : List Frame) (f : Frame) → IsKeyFrame f → IsKeyDue (fs ++ f ∷ [])
+due_last [] f h = h
+due_last (g ∷ []) f h = h
+due_last (g ∷ k ∷ fs) f h = due_last (k ∷ fs) f h
+
+pub last_due : (fs : List Frame) (f : Frame) → IsKeyDue (fs ++ f ∷ []) → IsKeyFrame f
+last_due [] f h = h
+last_due (g ∷ []) f h = h
+last_due (g ∷ k ∷ fs) f h = last_due (k ∷ fs) f h

@@ -1,0 +1,33 @@
+use Rattle.std.proofs.Common.{List, ℕ, ◌≡◌, ◌≤◌, ◌+◌, ◌-◌, ◌++◌, take, drop, length, length-append, length-take, length-drop, ap, ◌∙◌, sym, arith}
+use Rattle.std.proofs.Math.Seq.{take-append-add}
+use Rattle.std.proofs.lemmas.List.{take-append-le, take-take, with_items_is}
+use Rattle.cbor_view.proofs.joined.Joined.extend_front.Goals as goal
+
+-- the first k of the bytes that are written behind the first n
+written : (xs ys rest : List ℕ) (n k : ℕ) → n ≤ length xs → k ≤ length ys → take (n + k) (take n xs ++ (ys ++ rest)) ≡ take n xs ++ take k ys
+written xs ys rest n k h g =
+    let l = length-take n xs in
+    let front : n ≡ length (take n xs) = omega (arith, l, h) in
+    (λ i. take (front i + k) (take n xs ++ (ys ++ rest))) ∙ take-append-add (take n xs) (ys ++ rest) k ∙ ap (λ (us : List ℕ). take n xs ++ us) (take-append-le k ys rest g)
+
+pub returns-in-Some : goal.returns-in-Some
+returns-in-Some c =
+    let v = c.self.inside.buf in
+    let xs = c.deref_mut.result.now in
+    let ys = c.copy_from_slice.new.self in
+    let at = c.self.inside.len in
+    let k = c.args.count in
+    let rest = drop (at + 32 - at) (drop at xs) in
+    let few = c.if-count-le-BLOCK.true in
+    let long : length xs ≡ v.len = ap length c.deref_mut.ensures.value ∙ sym v.ok.0 in
+    let all : length ys ≡ 32 = omega arith in
+    let a = length-append (take at xs) (ys ++ rest) in
+    let b = length-append ys rest in
+    let f = length-take at xs in
+    let p = length-drop (at + 32 - at) (drop at xs) in
+    let q = length-drop at xs in
+    let whole : length (take at xs ++ (ys ++ rest)) ≡ v.len = omega (arith, a, b, f, p, q, all, long) in
+    ap (take (at + k)) (with_items_is v (take at xs ++ (ys ++ rest)) whole)
+    ∙ written xs ys rest at k (omega arith) (omega (arith, few, all))
+    ∙ (λ i. (ap (take at) c.deref_mut.ensures.value ∙ c.self.view_is) i
+    ++ (ap (take k) (c.copy_from_slice.ensures.after ∙ c.in-Some.ensures.cases.same) ∙ take-take k 32 c.args.front.now few) i)

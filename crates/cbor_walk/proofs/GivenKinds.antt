@@ -1,0 +1,181 @@
+-- A valid item, part by part: of which kinds the keys are that begin in what was taken.
+use Rattle.std.proofs.Common.{◌≡◌, ℕ, suc, ◌+◌, ◌-◌, ◌<◌, ◌≤◌, ◌⊎◌, false, true, List, [], ◌∷◌, ◌++◌, length, refl, sym, ap, ◌∙◌, subst, inl, inr, arith, append_assoc, append-nil}
+use Rattle.std.proofs.lemmas.List.{length-append, append_cancel_right, nil_from_length}
+use Rattle.cbor_head.specs.Complaint.{Complaint, plain, OfKinds}
+use Rattle.cbor_head.specs.Head.{Holds, head}
+use Rattle.cbor_head.specs.Limits.{bounds, with_keys}
+use Rattle.cbor_head.specs.Spelling.{Spelling, array, a_map, no_spellings, no_entries, spell, spell_all, spell_entries, spellings_count, entries_count, IsSpelled, depth}
+use Rattle.cbor_head.specs.Value as value
+use Rattle.cbor_head.specs.declared.keys.Keys.{Keys}
+use Rattle.cbor_head.specs.declared.major.Major.{Major}
+use Rattle.cbor_head.specs.declared.major.Major.TheVariants as majors
+use Rattle.cbor_head.specs.declared.width.Width.{Width}
+use Rattle.cbor_head.specs.declared.width.Width.TheVariants.{Indefinite}
+use Rattle.cbor_grammar.proofs.KeyKinds.{kind_within_in, kind_within_entries}
+use Rattle.cbor_automaton.proofs.Taking.{IsNumbered}
+use Rattle.cbor_judging.specs.Kinds.{KeepsToKinds, IsKeyLevel, IsKeyDueIn, HasBasicFront}
+use Rattle.cbor_judging.specs.Levels.{Level, a_member, a_key, a_value, some_member, some_key, some_value, tagged, IsLevel, AreLevels, level_bytes, bytes_before, Standing}
+use Rattle.cbor_judging.proofs.Heads.{open_or, takes}
+use Rattle.cbor_judging.proofs.KindBytes.{Begins, head_is_one, keeps_due}
+use Rattle.cbor_judging.proofs.KindLevels.{keeps_closed_in}
+use Rattle.cbor_judging.proofs.KindSteps.{keeps_start}
+use Rattle.cbor_judging.proofs.Levels.{spelled-all, within-all, pairs-spelled, pairs-within}
+use Rattle.cbor_walk.specs.Sink.{IsOpened}
+use Rattle.cbor_walk.specs.inner.Building.{counted, cell_of, cells_of, IsDue, Counts, IsHead, IsOpener, IsItem, HasBegun, HasBroken, TakesFront, EndsBefore, KeepsBefore}
+use Rattle.cbor_walk.specs.inner.Kept.{IsFitFront}
+use Rattle.cbor_walk.specs.inner.Stack.{around, standing}
+use Rattle.cbor_walk.specs.declared.level.Due.{Due}
+use Rattle.cbor_walk.specs.declared.level.Due.TheVariants.{Item, Key}
+use Rattle.cbor_walk.specs.declared.open.Open.{Open}
+use Rattle.cbor_walk.specs.declared.part.Part.{Part}
+use Rattle.cbor_walk.specs.declared.part.Part.TheVariants as part
+use Rattle.cbor_walk.specs.declared.stack.Stack.{Stack}
+use Rattle.cbor_walk.proofs.GivenItems.{IsScalar}
+use Rattle.cbor_walk.proofs.GivenParts.{height-is}
+use Rattle.cbor_walk.proofs.PathKinds.{no_break, head_begun}
+use Rattle.cbor_walk.proofs.Taking.{standing_count}
+
+-- ---- what begins so
+
+pub scalar-begun : (v : value.Value) (d : ℕ) (rest behind : List ℕ) → IsScalar rest behind v → HasBegun d rest behind
+scalar-begun v d rest behind i = record { front = spell i.item; is = i.is; one = i.one; item = i.item; spelled = (i.taken d).spelled; within = (i.taken d).within; more = []; bytes = sym (append-nil (spell i.item)) }
+
+-- a head
+head-at-front : (d : ℕ) (m : Major) (w : Width) (n : ℕ) (behind : List ℕ) → IsNumbered m → takes m ≤ d → Holds w n → HasBegun d (head m w n ++ behind) behind
+head-at-front d m w n behind i l holds =
+    let g = head_begun d m w n i holds l in
+    record { front = head m w n; is = refl; one = head_is_one m w n (open_or w n holds); item = g.item; spelled = g.spelled; within = g.within; more = g.rest; bytes = g.bytes }
+
+head-has-begun : (d : ℕ) (m : Major) (n : ℕ) (rest behind : List ℕ) → IsNumbered m → takes m ≤ d → IsHead m n rest behind → HasBegun d rest behind
+head-has-begun d m n rest behind i l h = subst (λ (x : List ℕ). HasBegun d x behind) (sym h.is) (head-at-front d m h.width n behind i l h.holds)
+
+-- of a container that is empty
+pub counted-begun : (d : ℕ) (m : Major) (due : Due) (n : ℕ) (rest behind : List ℕ) → Counts m due → 0 < d → IsHead m n rest behind → HasBegun d rest behind
+counted-begun d majors.Array due n rest behind k room h = head-has-begun d majors.Array n rest behind tt (omega (arith, room)) h
+counted-begun d majors.Map due n rest behind k room h = head-has-begun d majors.Map n rest behind tt (omega (arith, room)) h
+counted-begun d majors.Tag due n rest behind k room h = absurd k
+counted-begun d majors.Unsigned due n rest behind k room h = absurd k
+counted-begun d majors.Negative due n rest behind k room h = absurd k
+counted-begun d majors.Bytes due n rest behind k room h = absurd k
+counted-begun d majors.Text due n rest behind k room h = absurd k
+counted-begun d majors.Simple due n rest behind k room h = absurd k
+
+pub opener-begun : (d : ℕ) (m : Major) (n : ℕ) (c : Open) (rest behind : List ℕ) → 0 < d → IsOpener m n c rest behind → HasBegun d rest behind
+opener-begun d m n c rest behind room k = subst (λ (x : List ℕ). HasBegun d x behind) (sym k.is) (go m k.level (k.fresh 0) k.opened)
+  where
+    counted-head : (m : Major) (w : Width) (n : ℕ) → IsNumbered m → takes m ≤ d → Holds w n → HasBegun d ((head m w n ++ []) ++ behind) behind
+    counted-head m w n i l holds = subst (λ (x : List ℕ). HasBegun d (x ++ behind) behind) (sym (append-nil (head m w n))) (head-at-front d m w n behind i l holds)
+
+    go : (m : Major) (l : Level) → IsLevel 0 l → IsOpened m n l → HasBegun d (level_bytes l ++ behind) behind
+    go majors.Array l f (inl (w, left, e)) = subst (λ (x : Level). HasBegun d (level_bytes x ++ behind) behind) (sym e) (counted-head majors.Array w (0 + suc left) tt (omega (arith, room)) (subst (IsLevel 0) e f).0)
+    go majors.Array l f (inr e) =
+        subst (λ (x : Level). HasBegun d (level_bytes x ++ behind) behind) (sym e)
+        (record { front = 0x9f ∷ []; is = refl; one = λ container some. absurd (omega (arith, some)); item = array Indefinite no_spellings; spelled = (tt, tt); within = omega (arith, room); more = 0xff ∷ []; bytes = refl })
+    go majors.Map l f (inl (w, left, e)) = subst (λ (x : Level). HasBegun d (level_bytes x ++ behind) behind) (sym e) (counted-head majors.Map w (0 + suc left) tt (omega (arith, room)) (subst (IsLevel 0) e f).0)
+    go majors.Map l f (inr e) =
+        subst (λ (x : Level). HasBegun d (level_bytes x ++ behind) behind) (sym e)
+        (record { front = 0xbf ∷ []; is = refl; one = λ container some. absurd (omega (arith, some)); item = a_map Indefinite no_entries; spelled = (tt, tt); within = omega (arith, room); more = 0xff ∷ []; bytes = refl })
+    go majors.Tag l f (w, e) = subst (λ (x : Level). HasBegun d (level_bytes x ++ behind) behind) (sym e) (head-at-front d majors.Tag w n behind tt (omega (arith, room)) (subst (IsLevel 0) e f))
+    go majors.Unsigned l f o = absurd o
+    go majors.Negative l f o = absurd o
+    go majors.Bytes l f o = absurd o
+    go majors.Text l f o = absurd o
+    go majors.Simple l f o = absurd o
+
+-- ---- what is taken
+
+pub begun-takes : (p : Part) (d : ℕ) (c : Open) (rest behind : List ℕ) → IsItem p → EndsBefore p behind → HasBegun d rest behind → TakesFront p d c rest
+begun-takes (part.Item to) d c rest behind i e h = inl (subst (HasBegun d rest) (sym e) h)
+begun-takes part.Stopped d c rest behind i e h = tt
+begun-takes (part.Head to) d c rest behind i e h = absurd i
+begun-takes part.Full d c rest behind i e h = absurd i
+
+pub broken-takes : (p : Part) (d : ℕ) (c : Open) (rest behind : List ℕ) → IsItem p → EndsBefore p behind → HasBroken c rest behind → TakesFront p d c rest
+broken-takes (part.Item to) d c rest behind i e h = inr (subst (HasBroken c rest) (sym e) h)
+broken-takes part.Stopped d c rest behind i e h = tt
+broken-takes (part.Head to) d c rest behind i e h = absurd i
+broken-takes part.Full d c rest behind i e h = absurd i
+
+-- ---- no key of another kind begins in it
+
+level-key : (l : Level) → IsKeyLevel l → (cell_of l).due ≡ Key
+level-key (a_key w left done) h = refl
+level-key (some_key done) h = refl
+level-key (a_member w left done) h = absurd h
+level-key (a_value w left done k) h = absurd h
+level-key (some_member done) h = absurd h
+level-key (some_value done k) h = absurd h
+level-key (tagged w n) h = absurd h
+
+due-key : (c : Open) (cs : List Open) (ls : List Level) → c ∷ cs ≡ cells_of ls → IsKeyDueIn ls → c.due ≡ Key
+due-key c cs [] e h = absurd h
+due-key c cs (l ∷ ls) e h = let same : c ≡ cell_of l = cc in ap (λ (x : Open). x.due) same ∙ level-key l h
+
+-- an item begins so
+basic-front : (s : Spelling) → IsSpelled s → (x y z rest : List ℕ) → spell s ≡ x ++ z → rest ≡ x ++ y → IsFitFront rest → HasBasicFront x
+basic-front s h [] y z rest e f fit = tt
+basic-front s h (b ∷ x) y z rest e f fit = elim (subst IsFitFront f fit) [ inl k ↦ k | inr k ↦ absurd (no_break s h (x ++ z) (e ∙ ap (λ (c : ℕ). c ∷ (x ++ z)) k)) ]
+
+module _ (S : Type 0) (stands : S → S → Standing → Type 0) (start : S) (d : ℕ) (input : List ℕ) (keys : Keys) where
+  -- before the first part
+  pub starts-kept : KeepsBefore d keys input input
+  starts-kept = λ t e.
+      let none : t ≡ [] = nil_from_length t (omega (arith, ap length e, length-append t input)) in
+      subst (KeepsToKinds (with_keys (bounds d 0) keys) plain) (sym none) (keeps_start (with_keys (bounds d 0) keys) plain)
+
+  -- behind an item that begins within them
+  pub begun-keeps : (k : Stack Open) (cells : List Open) (g : S) (rest behind : List ℕ) → k.height ≤ length cells → IsDue S stands start d input (standing Open k cells) g rest → HasBegun (d - k.height) rest behind → (k.top.due ≡ Key → IsFitFront rest)
+      → KeepsBefore d keys input rest → KeepsBefore d keys input behind
+  begun-keeps k cells g rest behind low s h fit keeps = λ t e.
+      let height : length s.ls ≡ k.height = omega (arith, height-is S stands start d input (standing Open k cells) g rest s, standing_count Open k cells low) in
+      let within : depth h.item ≤ d - length s.ls = subst (λ (n : ℕ). depth h.item ≤ d - n) (sym height) h.within in
+      let begins : Begins (d - length s.ls) h.front = record { item = h.item; spelled = h.spelled; within = within; rest = h.more; bytes = h.bytes } in
+      let whole : (bytes_before s.ls ++ h.front) ++ behind ≡ t ++ behind = append_assoc (bytes_before s.ls) h.front behind ∙ ap (λ (x : List ℕ). bytes_before s.ls ++ x) (sym h.is) ∙ sym s.bytes ∙ e in
+      subst (KeepsToKinds (with_keys (bounds d 0) keys) plain) (append_cancel_right (bytes_before s.ls ++ h.front) t behind whole)
+      (keeps_due (with_keys (bounds d 0) keys) plain s.ls s.levels h.front begins h.one
+      (λ asked due. basic-front h.item h.spelled h.front behind h.more rest h.bytes h.is (fit (due-key k.top (around Open k cells) s.ls s.cells due))) (keeps (bytes_before s.ls) s.bytes))
+
+  -- a container without a length ends
+  broken-keeps : (c : Open) (cs : List Open) (g : S) (rest behind : List ℕ) → IsDue S stands start d input (c ∷ cs) g rest → HasBroken c rest behind → KeepsBefore d keys input rest → KeepsBefore d keys input behind
+  broken-keeps c cs g rest behind s h keeps = λ t e. go s.ls s.levels s.cells s.bytes t e
+    where
+      flag : (l : Level) (ls : List Level) → c ∷ cs ≡ cells_of (l ∷ ls) → (cell_of l).is_endless ≡ true
+      flag l ls e = let same : c ≡ cell_of l = cc in ap (λ (x : Open). x.is_endless) (sym same) ∙ h.open_ended
+
+      closed : (l : Level) (ls : List Level) → AreLevels d (l ∷ ls) → input ≡ bytes_before (l ∷ ls) ++ rest → (t : List ℕ) → input ≡ t ++ behind → (item : Spelling) → spell item ≡ level_bytes l ++ (0xff ∷ []) → IsSpelled item → depth item ≤ d - length ls
+          → 0 < length (level_bytes l) → ((c : Complaint) → OfKinds (length (bytes_before ls)) item c → c.end ≤ length (bytes_before ls) + length (level_bytes l)) → KeepsToKinds (with_keys (bounds d 0) keys) plain t
+      closed l ls levels b t e item is spelled within some ends =
+          let p = bytes_before ls in
+          let x = level_bytes l in
+          let whole : (p ++ spell item) ++ behind ≡ t ++ behind =
+          ap (λ (y : List ℕ). (p ++ y) ++ behind) is ∙ ap (λ (y : List ℕ). y ++ behind) (sym (append_assoc p x (0xff ∷ []))) ∙ append_assoc (p ++ x) (0xff ∷ []) behind ∙ ap (λ (y : List ℕ). (p ++ x) ++ y) (sym h.is) ∙ sym b ∙ e in
+          subst (KeepsToKinds (with_keys (bounds d 0) keys) plain) (append_cancel_right (p ++ spell item) t behind whole)
+          (keeps_closed_in (with_keys (bounds d 0) keys) plain ls levels.2 item x (0xff ∷ []) spelled within is some ends (keeps (p ++ x) b))
+
+      go : (ls : List Level) → AreLevels d ls → c ∷ cs ≡ cells_of ls → input ≡ bytes_before ls ++ rest → (t : List ℕ) → input ≡ t ++ behind → KeepsToKinds (with_keys (bounds d 0) keys) plain t
+      go [] levels e b t f = let same : c ≡ counted Item 0 = cc in let x : false ≡ true = ap (λ (x : Open). x.is_endless) (sym same) ∙ h.open_ended in absurd (cc x)
+      go (some_member done ∷ ls) levels e b t f =
+          let room = levels.0 in
+          let one : length (head majors.Array Indefinite 0) ≡ 1 = refl in
+          let size = length-append (head majors.Array Indefinite 0) (spell_all done) in
+          closed (some_member done) ls levels b t f (array Indefinite done) refl (tt, spelled-all (d - suc (length ls)) done levels.1) (omega (arith, room, within-all (d - suc (length ls)) done levels.1)) (omega (arith, size, one))
+          (λ x o.
+          let other : length (head majors.Array Indefinite (spellings_count done)) ≡ 1 = refl in
+          omega (arith, size, one, other, kind_within_in done (length (bytes_before ls) + length (head majors.Array Indefinite (spellings_count done))) x o))
+      go (some_key done ∷ ls) levels e b t f =
+          let room = levels.0 in
+          let one : length (head majors.Map Indefinite 0) ≡ 1 = refl in
+          let size = length-append (head majors.Map Indefinite 0) (spell_entries done) in
+          closed (some_key done) ls levels b t f (a_map Indefinite done) refl (tt, pairs-spelled (d - suc (length ls)) done levels.1) (omega (arith, room, pairs-within (d - suc (length ls)) done levels.1)) (omega (arith, size, one))
+          (λ x o.
+          let other : length (head majors.Map Indefinite (entries_count done)) ≡ 1 = refl in
+          omega (arith, size, one, other, kind_within_entries done (length (bytes_before ls) + length (head majors.Map Indefinite (entries_count done))) x o))
+      go (some_value done k ∷ ls) levels e b t f = let same : c ≡ cell_of (some_value done k) = cc in absurd (h.no_value (ap (λ (x : Open). x.due) same))
+      go (a_member w n done ∷ ls) levels e b t f = absurd (cc (flag (a_member w n done) ls e))
+      go (a_key w n done ∷ ls) levels e b t f = absurd (cc (flag (a_key w n done) ls e))
+      go (a_value w n done k ∷ ls) levels e b t f = absurd (cc (flag (a_value w n done k) ls e))
+      go (tagged w n ∷ ls) levels e b t f = absurd (cc (flag (tagged w n) ls e))
+
+  pub item-keeps : (k : Stack Open) (cells : List Open) (g : S) (rest behind : List ℕ) → k.height ≤ length cells → IsDue S stands start d input (standing Open k cells) g rest → HasBegun (d - k.height) rest behind ⊎ HasBroken k.top rest behind
+      → (k.top.due ≡ Key → IsFitFront rest) → KeepsBefore d keys input rest → KeepsBefore d keys input behind
+  item-keeps k cells g rest behind low s h fit keeps = elim h [ inl x ↦ begun-keeps k cells g rest behind low s x fit keeps | inr x ↦ broken-keeps k.top (around Open k cells) g rest behind s x keeps ]

@@ -1,0 +1,147 @@
+-- What the front of an input tells of its first item, however it goes on: all but that it ends within it.
+use Rattle.std.proofs.Common.{ℕ, ◌+◌, ◌-◌, ◌≡◌, ◌≢◌, ◌≤◌, inl, inr, List, [], ◌∷◌, ◌++◌, length, take, refl, sym, ap, ◌∙◌, arith, subst}
+use Rattle.std.proofs.lemmas.Bool.{cases_lt}
+use Rattle.std.proofs.lemmas.List.{append_assoc, append-nil, length-append, length-take, take_all, take-append-le}
+use Rattle.std.proofs.Math.Seq.{take-append-add}
+use Rattle.cbor_head.specs.Beginning.{IsBeginning, IsLongestBeginning}
+use Rattle.cbor_head.specs.Complaint.{Rules, Complaint, IsComplaint}
+use Rattle.cbor_head.specs.Laws.{IsFirstComplaint, IsWithout}
+use Rattle.cbor_head.specs.Limits.{Bounds}
+use Rattle.cbor_head.specs.Spelling.{Spelling, spell, IsItem}
+use Rattle.cbor_head.specs.Verdict.{Answer, accepted, refused, refusal, IsFormError, IsVerdict}
+use Rattle.cbor_head.specs.declared.reason.Reason.TheVariants.{Truncated}
+use Rattle.cbor_head.specs.declared.reason.Refusal.{Refusal}
+use Rattle.cbor_grammar.proofs.Agree.{split_front}
+use Rattle.cbor_grammar.proofs.Complaints.{complaints_told, first_for_each}
+use Rattle.cbor_grammar.proofs.Verdicts.{beginning_front, whole_longest}
+use Rattle.cbor_judging.proofs.Decisions.{first_further}
+use Rattle.cbor_judging.proofs.SpelledBytes.{longest_always}
+
+-- an answer that needs no more bytes
+abbrev pub IsFinal : Answer → Type 0
+IsFinal (accepted s) = Unit {0}
+IsFinal (refused f) = f.reason ≢ Truncated
+
+-- the longest beginning, where a byte that may not follow it stands behind it
+stopped_longest : (d : ℕ) (p : List ℕ) (c : ℕ) (cs more : List ℕ) → IsLongestBeginning d (p ++ c ∷ cs) p → IsLongestBeginning d (p ++ c ∷ (cs ++ more)) p
+stopped_longest d p c cs more l = record {
+  beginning = l.beginning;
+  rest = c ∷ (cs ++ more);
+  splits = refl;
+  longest = λ q r b e. elim (cases_lt (length p) (length q)) [
+    | inr short ↦ short
+    | inl long ↦
+        let one : length (p ++ c ∷ []) ≡ length p + 1 = length-append p (c ∷ []) in
+        let there : (p ++ c ∷ []) ++ (cs ++ more) ≡ q ++ r = append_assoc p (c ∷ []) (cs ++ more) ∙ e in
+        let (k, f, g) = split_front (p ++ c ∷ []) (cs ++ more) q r there (omega (arith, one, long)) in
+        let too_long : length (p ++ c ∷ []) ≤ length p =
+        l.longest (p ++ c ∷ []) cs (beginning_front d (p ++ c ∷ []) k (subst (IsBeginning d) f b)) (sym (append_assoc p (c ∷ []) cs)) in
+        absurd (omega (arith, one, too_long))
+  ];
+}
+
+module _ (limits : Bounds) (rules : Rules) (front behind : List ℕ) where
+  -- the bytes within the limit go on so, if at all
+  pub more : List ℕ
+  more = take (limits.bytes - length front) behind
+
+  within : take limits.bytes (front ++ behind) ≡ take limits.bytes front ++ more
+  unfolding more
+  within = elim (cases_lt (length front) limits.bytes) [
+    | inl l ↦
+        let sum : length front + (limits.bytes - length front) ≡ limits.bytes = omega (arith, l) in
+        let all : take limits.bytes front ≡ front = take_all limits.bytes front (omega (arith, l)) in
+        ap (λ (n : ℕ). take n (front ++ behind)) (sym sum) ∙ take-append-add front behind (limits.bytes - length front)
+        ∙ ap (λ (xs : List ℕ). xs ++ take (limits.bytes - length front) behind) (sym all)
+    | inr l ↦
+        let none : limits.bytes - length front ≡ 0 = omega (arith, l) in
+        take-append-le limits.bytes front behind l ∙ sym (append-nil (take limits.bytes front)) ∙ ap (λ (n : ℕ). take limits.bytes front ++ take n behind) (sym none)
+  ]
+
+  pub splits_further : (p rest : List ℕ) → take limits.bytes front ≡ p ++ rest → take limits.bytes (front ++ behind) ≡ p ++ (rest ++ more)
+  splits_further p rest e = within ∙ ap (λ (xs : List ℕ). xs ++ more) e ∙ append_assoc p rest more
+
+  full : length (take limits.bytes front) ≡ limits.bytes → take limits.bytes (front ++ behind) ≡ take limits.bytes front
+  full e = take-append-le limits.bytes front behind (omega (arith, e, length-take limits.bytes front))
+
+  accepted_further : (s : Spelling) → IsVerdict limits rules front (accepted s) → IsVerdict limits rules (front ++ behind) (accepted s)
+  accepted_further s v =
+      let is : spell v.item ≡ v.p = v.decides.1 in
+      let splits : take limits.bytes (front ++ behind) ≡ spell v.item ++ (v.longest.rest ++ more) =
+      within ∙ ap (λ (xs : List ℕ). xs ++ more) v.longest.splits ∙ append_assoc v.p v.longest.rest more ∙ ap (λ (xs : List ℕ). xs ++ (v.longest.rest ++ more)) (sym is) in
+      record {
+        p = spell v.item;
+        longest = whole_longest limits.depth v.item (take limits.bytes (front ++ behind)) (v.longest.rest ++ more)
+            (record { spelled = v.starts.spelled; within = v.starts.within; bytes_are = refl }) splits;
+        item = v.item;
+        rest = [];
+        starts = record { spelled = v.starts.spelled; within = v.starts.within; bytes_are = sym (append-nil (spell v.item)) };
+        decides = (v.decides.0, refl, subst (λ (xs : List ℕ). IsWithout limits rules v.item (length xs)) (sym is) v.decides.2);
+      }
+
+  complaint_further : (f : Refusal) (v : IsVerdict limits rules front (refused f)) (c : Complaint) → IsFirstComplaint limits rules v.item (length v.p) c → f ≡ refusal c.reason c.place c.end
+      → IsVerdict limits rules (front ++ behind) (refused f)
+  complaint_further f v c first is =
+      let (q, g) = longest_always limits.depth (take limits.bytes (front ++ behind)) in
+      let splits : take limits.bytes (front ++ behind) ≡ v.p ++ (v.longest.rest ++ more) =
+      within ∙ ap (λ (xs : List ℕ). xs ++ more) v.longest.splits ∙ append_assoc v.p v.longest.rest more in
+      let l = g.longest v.p (v.longest.rest ++ more) v.longest.beginning splits in
+      let (k, e, h) = split_front v.p (v.longest.rest ++ more) q g.rest (sym splits ∙ g.splits) l in
+      let (t, z, i) = g.beginning in
+      let m : IsItem limits.depth t (v.p ++ (k ++ z)) = subst (IsItem limits.depth t) (ap (λ (xs : List ℕ). xs ++ z) e ∙ append_assoc v.p k z) i in
+      let there = first_for_each (IsComplaint limits rules) (complaints_told limits rules) limits.depth v.item t v.p v.rest (k ++ z) v.starts m c first in
+      record { p = q; longest = g; item = t; rest = z; starts = i; decides = inl (c, first_further (IsComplaint limits rules t) (length v.p) (length q) c l there, is) }
+
+  form_further : (f : Refusal) (v : IsVerdict limits rules front (refused f)) → IsWithout limits rules v.item (length v.p) → spell v.item ≢ v.p → (rest : List ℕ) → v.longest.rest ≡ rest
+      → IsFormError limits v.p rest f → f.reason ≢ Truncated → IsVerdict limits rules (front ++ behind) (refused f)
+  form_further f v none apart (c ∷ cs) e h not_cut =
+      let splits : take limits.bytes front ≡ v.p ++ c ∷ cs = v.longest.splits ∙ ap (λ (xs : List ℕ). v.p ++ xs) e in
+      let further : take limits.bytes (front ++ behind) ≡ v.p ++ c ∷ (cs ++ more) =
+      within ∙ ap (λ (xs : List ℕ). xs ++ more) splits ∙ append_assoc v.p (c ∷ cs) more in
+      let stopped = stopped_longest limits.depth v.p c cs more (record {
+        beginning = v.longest.beginning;
+        rest = c ∷ cs;
+        splits = refl;
+        longest = λ q r b g. v.longest.longest q r b (splits ∙ g);
+      }) in
+      record {
+        p = v.p;
+        longest = record {
+          beginning = v.longest.beginning;
+          rest = c ∷ (cs ++ more);
+          splits = further;
+          longest = λ q r b g. stopped.longest q r b (sym further ∙ g);
+        };
+        item = v.item;
+        rest = v.rest;
+        starts = v.starts;
+        decides = inr (none, apart, h);
+      }
+  form_further f v none apart [] e (inl h) not_cut =
+      let whole : take limits.bytes front ≡ v.p = v.longest.splits ∙ ap (λ (xs : List ℕ). v.p ++ xs) e ∙ append-nil v.p in
+      let same : take limits.bytes (front ++ behind) ≡ take limits.bytes front = full (ap length whole ∙ h.0) in
+      record {
+        p = v.p;
+        longest = record {
+          beginning = v.longest.beginning;
+          rest = v.longest.rest;
+          splits = same ∙ v.longest.splits;
+          longest = λ q r b g. v.longest.longest q r b (sym same ∙ g);
+        };
+        item = v.item;
+        rest = v.rest;
+        starts = v.starts;
+        decides = v.decides;
+      }
+  form_further f v none apart [] e (inr h) not_cut = absurd (not_cut (ap (λ (g : Refusal). g.reason) h.1))
+
+  refused_further : (f : Refusal) → IsVerdict limits rules front (refused f) → f.reason ≢ Truncated → IsVerdict limits rules (front ++ behind) (refused f)
+  refused_further f v not_cut = elim v.decides [
+    | inl h ↦ complaint_further f v h.0 h.1 h.2
+    | inr h ↦ form_further f v h.0 h.1 v.longest.rest refl h.2 not_cut
+  ]
+
+  -- the verdict on a front is that on the whole, unless the front ends within the item
+  pub further : (a : Answer) → IsVerdict limits rules front a → IsFinal a → IsVerdict limits rules (front ++ behind) a
+  further (accepted s) v final = accepted_further s v
+  further (refused f) v final = refused_further f v final

@@ -1,0 +1,7 @@
+pub mod Decided
+pub mod Files
+pub mod Lists
+pub mod Outputs
+pub mod Places
+pub mod Results
+pub mod Within

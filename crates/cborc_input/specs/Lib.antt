@@ -1,0 +1,10 @@
+pub mod Fault
+pub mod inner
+pub mod Items
+pub mod Listed
+pub mod NoInput
+pub mod Put
+pub mod Rules
+pub mod Sequences
+pub mod Start
+pub mod Texts

@@ -1,0 +1,9 @@
+-- By which rules items are accepted.
+use Rattle.cbor_head.specs.Complaint.{Rules, plain, strict}
+use Rattle.cborc_input.specs.declared.request.Accepted.{Accepted}
+use Rattle.cborc_input.specs.declared.request.Accepted.TheVariants.{Valid, Canonical}
+
+-- the rules by which items are accepted
+abbrev pub rules_of : Accepted → Rules
+rules_of Valid = plain
+rules_of (Canonical order) = strict order

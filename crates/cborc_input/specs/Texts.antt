@@ -1,0 +1,40 @@
+-- What is written of an item: canonical bytes in a form, and diagnostic text in a layout.
+use Rattle.std.specs.Prelude.{ℕ, ◌≡◌, ◌++◌, List, codes}
+use Rattle.hex.specs.Hex.{encode_lower}
+use Rattle.cbor_head.specs.Limits.{Bounds}
+use Rattle.cbor_head.specs.declared.order.KeyOrder.{KeyOrder}
+use Rattle.cbor_reader.specs.Canonicalise.{IsCanonicalOf, IsRefusal}
+use Rattle.cborc_input.specs.Fault.{IsOfInput}
+use Rattle.cborc_input.specs.declared.request.Form.{Form}
+use Rattle.cborc_input.specs.declared.request.Form.TheVariants.{Raw, Hex}
+use Rattle.cborc_input.specs.declared.fault.Fault.{Fault}
+use Rattle.cborc_input.specs.declared.fault.Fault.TheVariants as faults
+use Rattle.cbor_head.specs.Complaint.{form}
+use Rattle.cbor_head.specs.Verdict.{refused}
+use Rattle.cbor_head.specs.Value.{Value}
+use Rattle.cbor_diag.specs.Text.{text}
+use Rattle.cbor_diag.specs.IndentedText.{indented}
+use Rattle.cborc_input.specs.declared.request.Layout.{Layout}
+use Rattle.cborc_input.specs.declared.request.Layout.TheVariants.{OneLine, Indented}
+
+-- bytes in a form: themselves, or two lower-case hex digits each and a line feed
+abbrev pub in_form : Form → List ℕ → List ℕ
+in_form Raw bytes = bytes
+in_form Hex bytes = encode_lower bytes ++ codes "\n"
+
+-- the canonical bytes of the input, in a form
+pub record IsCanonicalText (limits : Bounds) (o : KeyOrder) (form : Form) (input text : List ℕ) : Type 0 where
+  pub canonical : List ℕ
+  pub is : IsCanonicalOf limits o input canonical
+  pub formed : text ≡ in_form form canonical
+
+-- why there is none: the input is refused, or memory was
+abbrev pub IsNoText : Bounds → KeyOrder → List ℕ → Fault → Type 0
+IsNoText limits o input (faults.Refused f) = IsRefusal limits o input f × IsOfInput f.reason
+IsNoText limits o input faults.Memory = Unit {0}
+IsNoText limits o input _ = ⊥
+
+-- the text of a value in a layout, and a line feed
+abbrev pub shown_text : Layout → Value → List ℕ
+shown_text OneLine v = text v ++ codes "\n"
+shown_text Indented v = indented 0 v ++ codes "\n"

@@ -1,0 +1,201 @@
+-- Which fault a part of a subcommand passes on, and what it tells of the whole.
+use Rattle.std.proofs.Common.{ℕ, ◌≡◌, ◌++◌, inl, List, length, Option, sym, subst}
+use Rattle.cbor_diag.specs.Listing.{IsListed}
+use Rattle.cbor_head.specs.Complaint.{Rules, plain}
+use Rattle.cbor_head.specs.Limits.{Bounds}
+use Rattle.cbor_head.specs.Value.{Value}
+use Rattle.cbor_head.specs.Spelling.{Spelling, value_of}
+use Rattle.cbor_head.specs.declared.order.KeyOrder.{KeyOrder}
+use Rattle.cbor_head.specs.declared.reason.Refusal.{Refusal}
+use Rattle.cbor_reader.specs.Canonicalise.{IsCanonicalOf, IsRefusal}
+use Rattle.cbor_reader.specs.Comparing.{IsSideRefusal}
+use Rattle.cbor_judging.specs.Readers.{IsReadAs}
+use Rattle.cbor_reader.specs.Headline.{IsValidItem}
+use Rattle.cbor_reader.specs.WholeItem.{IsWholeItem, IsItemRefusal}
+use Rattle.cbor_reader.specs.declared.comparison.Side.{Side}
+use Rattle.cbor_reader.specs.declared.comparison.Side.TheVariants.{Left, Right}
+use Rattle.cborc_items.proofs.Files.{put_kept}
+use Rattle.cborc_fronts.proofs.Files.{input_before}
+use Rattle.cborc_items.proofs.Fronts.{canonical_whole, refusal_whole, is_whole, is_not_whole, is_all_of, listed_whole, not_listed_whole, whole_item, item_refusal_whole}
+use Rattle.cborc_items.proofs.Whole.{AreAccepted, is_read, is_no_item}
+use Rattle.cborc_input.specs.Texts.{IsCanonicalText, IsNoText, shown_text}
+use Rattle.cborc_input.specs.Put.{IsPut, IsNotPut}
+use Rattle.cborc_items.specs.Canon.{IsCanonised, IsNotCanonised}
+use Rattle.cborc_input.specs.Start.{StartsInput}
+use Rattle.cborc_fronts.specs.Decided.{IsEnough}
+use Rattle.cborc_items.specs.Check.{accepted_bytes, IsWhole, IsNotWhole, IsChecked, IsNotChecked}
+use Rattle.cborc_items.specs.Compare.{IsTold, IsUntold, AreInputs, AreCompared, AreNotCompared}
+use Rattle.cborc_items.specs.Events.{IsNotListed, IsListedOf, IsNotListedOf}
+use Rattle.cborc_input.specs.Fault.{refusal_fault}
+use Rattle.cborc_files.specs.Folder.{Files, KeepsFiles}
+use Rattle.cborc_items.specs.Show.{IsShownOf, IsNotShown}
+use Rattle.cborc_input.specs.declared.request.Layout.{Layout}
+use Rattle.cborc_input.specs.declared.status.Status.{Status}
+use Rattle.cborc_input.specs.declared.status.Status.TheVariants as statuses
+use Rattle.cborc_input.specs.declared.request.Options.{Options}
+use Rattle.cborc_input.specs.declared.request.Output.{Output}
+use Rattle.cborc_input.specs.declared.fault.Fault.{Fault}
+use Rattle.cborc_input.specs.declared.fault.Fault.TheVariants as faults
+use Rattle.std.specs.Io.KnownBytes.{Appends}
+use Rattle.cborc_input.proofs.Faults.{refusal_is}
+
+module _ (o : KeyOrder) (options : Options) (source : List ℕ) (output : Output) (held : Option Files) where
+  text_whole : (bytes text : List ℕ) (s : StartsInput held source options bytes) → IsCanonicalText options.limits o output.form bytes text
+      → IsCanonicalText options.limits o output.form s.input text
+  text_whole bytes text s t = record {
+    canonical = t.canonical;
+    is = subst (λ (b : List ℕ). IsCanonicalOf options.limits o b t.canonical) s.splits (canonical_whole options.limits bytes s.behind s.enough o t.canonical t.is);
+    formed = t.formed;
+  }
+
+  pub canonised : (mid new : Option Files) (before after : Option (List ℕ)) (bytes text : List ℕ) → StartsInput held source options bytes
+      → IsCanonicalText options.limits o output.form bytes text → KeepsFiles held mid → IsPut output.path.now mid new before after text
+      → IsCanonised o options source output held new before after
+  canonised mid new before after bytes text s t k p =
+      record { input = s.input; is = s.is; text = text; canonical = text_whole bytes text s t; put = put_kept output.path.now held mid new before after text k p }
+
+  pub not_put : (bytes text : List ℕ) → StartsInput held source options bytes → IsCanonicalText options.limits o output.form bytes text
+      → (fault : Fault) → IsNotPut output.path.now fault → IsNotCanonised o options source output held fault
+  not_put bytes text s t faults.CannotPrint h = (record { input = s.input; is = s.is; text = text; canonical = text_whole bytes text s t }, h)
+  not_put bytes text s t (faults.CannotWrite named) h = (record { input = s.input; is = s.is; text = text; canonical = text_whole bytes text s t }, h)
+  not_put bytes text s t faults.Memory h = tt
+  not_put bytes text s t _ h = absurd h
+
+  pub no_text : (bytes : List ℕ) → StartsInput held source options bytes → (fault : Fault)
+      → IsNoText options.limits o bytes fault → IsNotCanonised o options source output held fault
+  no_text bytes s (faults.Refused f) h = (
+    s.input,
+    s.is,
+    subst (λ (b : List ℕ). IsRefusal options.limits o b f) s.splits (refusal_whole options.limits bytes s.behind s.enough o f h.1 h.0),
+    h.1,
+  )
+  no_text bytes s faults.Memory h = tt
+  no_text bytes s _ h = absurd h
+
+module _ (rules : Rules) (options : Options) (source : List ℕ) (held : Option Files) (bytes : List ℕ)
+    (s : StartsInput held source options bytes) where
+  whole_of : (size : ℕ) → IsWhole options.limits rules bytes size → IsWhole options.limits rules s.input size
+  whole_of size w = subst (λ (b : List ℕ). IsWhole options.limits rules b size) s.splits (is_whole options.limits bytes s.behind s.enough rules size w)
+
+  pub checked : (size : ℕ) (before after : Option (List ℕ)) → IsWhole options.limits rules bytes size
+      → Appends before after (accepted_bytes size) → IsChecked rules options source held before after
+  checked size before after w t = record { input = s.input; is = s.is; size = size; whole = whole_of size w; told = t }
+
+  pub untold : (size : ℕ) → IsWhole options.limits rules bytes size → (fault : Fault) → fault ≡ faults.CannotPrint
+      → IsNotChecked rules options source held fault
+  untold size w fault e =
+      subst (IsNotChecked rules options source held) (sym e) (record { input = s.input; is = s.is; size = size; whole = whole_of size w })
+
+  pub not_checked : (f : Refusal) → IsNotWhole options.limits rules bytes f → (fault : Fault) → fault ≡ refusal_fault f
+      → IsNotChecked rules options source held fault
+  not_checked f h fault e =
+      refusal_is (IsNotChecked rules options source held) f fault e (λ own. (
+        s.input,
+        s.is,
+        subst (λ (b : List ℕ). IsNotWhole options.limits rules b f) s.splits (is_not_whole options.limits bytes s.behind s.enough rules f own h),
+        own,
+      )) tt
+
+module _ (options : Options) (source : List ℕ) (held : Option Files) (bytes : List ℕ) (s : StartsInput held source options bytes) where
+  -- ---- `show`
+
+  read_whole : AreAccepted options.limits bytes → (v : Value) → (item : Spelling) × IsValidItem options.limits bytes item × (v ≡ value_of item) → IsReadAs options.limits plain s.input v (length s.input)
+  read_whole are v h =
+      subst (λ (b : List ℕ). IsReadAs options.limits plain b v (length b)) s.splits
+      (is_all_of options.limits bytes s.behind s.enough v (is_read options.limits bytes are v h))
+
+  pub shown_of : AreAccepted options.limits bytes → (layout : Layout) (v : Value) (before after : Option (List ℕ)) → (item : Spelling) × IsValidItem options.limits bytes item × (v ≡ value_of item)
+      → Appends before after (shown_text layout v) → IsShownOf layout options source held before after
+  shown_of are layout v before after h w = record { input = s.input; is = s.is; value = v; whole = read_whole are v h; shown = w }
+
+  pub unshown : AreAccepted options.limits bytes → (v : Value) → (item : Spelling) × IsValidItem options.limits bytes item × (v ≡ value_of item) → (fault : Fault) → fault ≡ faults.CannotPrint → IsNotShown options source held fault
+  unshown are v h fault e =
+      subst (IsNotShown options source held) (sym e) (record { input = s.input; is = s.is; value = v; whole = read_whole are v h })
+
+  pub not_shown : (f : Refusal) → IsItemRefusal options.limits bytes f → (fault : Fault) → fault ≡ refusal_fault f → IsNotShown options source held fault
+  not_shown f h fault e =
+      refusal_is (IsNotShown options source held) f fault e (λ own. (
+        s.input,
+        s.is,
+        subst (λ (b : List ℕ). IsNotWhole options.limits plain b f) s.splits (is_not_whole options.limits bytes s.behind s.enough plain f own (is_no_item options.limits bytes f h)),
+        own,
+      )) tt
+
+  -- ---- `events`
+
+  pub listed_of : (before after : Option (List ℕ)) → IsListed 0 options.limits bytes (length bytes) before after → IsListedOf options source held before after
+  listed_of before after h = record {
+    input = s.input;
+    is = s.is;
+    listed = subst (λ (b : List ℕ). IsListed 0 options.limits b (length b) before after) s.splits (listed_whole options.limits bytes s.behind s.enough before after h);
+  }
+
+  listed_so : (before after : Option (List ℕ)) (fault : Fault) → IsNotListed options.limits bytes before after fault
+      → IsNotListed options.limits s.input before after fault
+  listed_so before after fault h = subst (λ (b : List ℕ). IsNotListed options.limits b before after fault) s.splits (not_listed_whole options.limits bytes s.behind s.enough before after fault h)
+
+  pub not_listed_of : (before after : Option (List ℕ)) (fault : Fault) → IsNotListed options.limits bytes before after fault
+      → IsNotListedOf options source held before after fault
+  not_listed_of before after (faults.Refused f) h = (s.input, s.is, listed_so before after (faults.Refused f) h)
+  not_listed_of before after faults.CannotPrint h = (s.input, s.is, listed_so before after faults.CannotPrint h)
+  not_listed_of before after faults.Memory h = tt
+  not_listed_of before after _ h = absurd h
+
+-- ---- `compare`
+
+module _ (limits : Bounds) (left left_behind right right_behind : List ℕ) (enough : IsEnough limits left left_behind) (enough_too : IsEnough limits right right_behind)
+    (are : AreAccepted limits left) (are_too : AreAccepted limits right) where
+  fronts_equal : IsWholeItem limits left × IsWholeItem limits right → (left ≡ left ++ left_behind) × (right ≡ right ++ right_behind)
+  fronts_equal (l, r) = (whole_item limits left left_behind enough are l, whole_item limits right right_behind enough_too are_too r)
+
+  same_fronts : (before after : Option (List ℕ)) (status : Status) → IsTold limits left right before after status
+      → (left ≡ left ++ left_behind) × (right ≡ right ++ right_behind) → IsTold limits (left ++ left_behind) (right ++ right_behind) before after status
+  same_fronts before after status h (l, r) =
+      subst (λ (x : List ℕ). IsTold limits (left ++ left_behind) x before after status) r
+      (subst (λ (x : List ℕ). IsTold limits x right before after status) l h)
+
+  pub told_whole : (before after : Option (List ℕ)) (status : Status) → IsTold limits left right before after status → IsTold limits (left ++ left_behind) (right ++ right_behind) before after status
+  told_whole before after statuses.Accepted h = same_fronts before after statuses.Accepted h (fronts_equal h.0)
+  told_whole before after statuses.Refused h = same_fronts before after statuses.Refused h (fronts_equal h.0)
+  told_whole before after _ h = absurd h
+
+  left_whole : IsWholeItem limits left → IsWholeItem limits (left ++ left_behind)
+  left_whole l = subst (IsWholeItem limits) (whole_item limits left left_behind enough are l) l
+
+  side_whole : (side : Side) (f : Refusal) → IsSideRefusal limits left right side f → IsSideRefusal limits (left ++ left_behind) (right ++ right_behind) side f
+  side_whole Left f h = item_refusal_whole limits left left_behind enough f h
+  side_whole Right f (l, h) = (left_whole l, item_refusal_whole limits right right_behind enough_too f h)
+
+  pub untold_whole : (fault : Fault) → IsUntold limits left right fault → IsUntold limits (left ++ left_behind) (right ++ right_behind) fault
+  untold_whole (faults.LeftRefused f) (h, own) = (side_whole Left f h, own)
+  untold_whole (faults.RightRefused f) (h, own) = (side_whole Right f h, own)
+  untold_whole faults.Memory (side, f, h, e) = (side, f, side_whole side f h, e)
+  untold_whole faults.CannotPrint (l, r) = (left_whole l, subst (IsWholeItem limits) (whole_item limits right right_behind enough_too are_too r) r)
+  untold_whole _ h = absurd h
+
+module _ (options : Options) (left right : List ℕ) (old mid : Option Files) (keeps : KeepsFiles old mid) (first second : List ℕ)
+    (s : StartsInput old left options first) (t : StartsInput mid right options second) (are : AreAccepted options.limits first) (are_too : AreAccepted options.limits second) where
+  both : AreInputs old left right options s.input t.input
+  both = record { left_is = s.is; right_is = input_before old mid right options.hex t.input keeps t.is }
+
+  pub compared : (before after : Option (List ℕ)) (status : Status) → IsTold options.limits first second before after status
+      → AreCompared options left right old before after status
+  compared before after status h = record {
+    first = s.input;
+    second = t.input;
+    are = both;
+    told = subst (λ (x : List ℕ). IsTold options.limits s.input x before after status) t.splits
+        (subst (λ (x : List ℕ). IsTold options.limits x (second ++ t.behind) before after status) s.splits
+        (told_whole options.limits first s.behind second t.behind s.enough t.enough are are_too before after status h));
+  }
+
+  pub not_compared : (fault : Fault) → IsUntold options.limits first second fault → AreNotCompared options left right old fault
+  not_compared fault h =
+      inl (record {
+        first = s.input;
+        second = t.input;
+        are = both;
+        untold = subst (λ (x : List ℕ). IsUntold options.limits s.input x fault) t.splits
+            (subst (λ (x : List ℕ). IsUntold options.limits x (second ++ t.behind) fault) s.splits
+            (untold_whole options.limits first s.behind second t.behind s.enough t.enough are are_too fault h));
+      })

@@ -1,0 +1,188 @@
+-- What is told of the front of an input that is enough is told of the whole.
+use Rattle.std.proofs.Common.{ℕ, ◌≡◌, ◌≢◌, ◌≤◌, inl, inr, Option, List, [], ◌++◌, length, take, sym, ap, ◌∙◌, arith, subst}
+use Rattle.std.proofs.lemmas.List.{append_assoc, append-nil, length-append, take-append-le}
+use Rattle.cbor_head.specs.Complaint.{Rules, form, plain}
+use Rattle.cbor_head.specs.Limits.{Bounds}
+use Rattle.cbor_head.specs.Value.{Value}
+use Rattle.cbor_head.specs.Spelling.{Spelling, spell, IsItem}
+use Rattle.cbor_head.specs.Verdict.{Answer, accepted, refused, refusal, IsVerdict}
+use Rattle.cbor_head.specs.declared.order.KeyOrder.{KeyOrder}
+use Rattle.cbor_head.specs.declared.reason.Reason.TheVariants.{CanonicalTooLong, Truncated, Read, KeyKind}
+use Rattle.cbor_head.specs.declared.reason.Refusal.{Refusal}
+use Rattle.cbor_grammar.proofs.Agree.{split_front}
+use Rattle.cbor_reader.specs.Canonicalise.{IsCanonicalOf, IsRefusal}
+use Rattle.cbor_reader.specs.Canonicalise as canonicalise
+use Rattle.cbor_judging.proofs.Reasons.{item-reason}
+use Rattle.cbor_judging.proofs.SpelledBytes.{longest_always}
+use Rattle.cbor_judging.specs.Readers.{IsUnread, IsReadAs}
+use Rattle.cbor_judging.specs.Readers as readers
+use Rattle.cbor_judging.specs.Refusals.{IsComplaintReason}
+use Rattle.cbor_reader.specs.WholeItem.{IsWholeItem, IsItemRefusal}
+use Rattle.cbor_reader.specs.WholeItem as items
+use Rattle.cbor_diag.specs.Listing.{IsListing, IsStopped, IsListed, IsUnlisted}
+use Rattle.cbor_diag.specs.Listing as listing
+use Rattle.cbor_standing.proofs.Form.{never}
+use Rattle.cborc_items.specs.Check.{IsWhole, IsNotWhole}
+use Rattle.cborc_items.specs.Check as check
+use Rattle.cborc_items.specs.Events.{IsFollowed, IsNotListed}
+use Rattle.cborc_input.specs.Fault.{IsOfInput}
+use Rattle.cborc_input.specs.declared.fault.Fault.{Fault}
+use Rattle.cborc_input.specs.declared.fault.Fault.TheVariants as faults
+use Rattle.cborc_fronts.specs.Decided.{IsDecided, IsEnough}
+use Rattle.cborc_fronts.proofs.Decided.{IsFinal, further, more, splits_further}
+use Rattle.cborc_fronts.proofs.Places.{place_within}
+use Rattle.cborc_items.proofs.Whole.{AreAccepted}
+
+-- ---- by its form alone
+
+by_form : (limits : Bounds) (r : Rules) (front : List ℕ) (s : Spelling) → IsVerdict limits r front (accepted s) → IsVerdict limits form front (accepted s)
+by_form limits r front s v =
+    record { p = v.p; longest = v.longest; item = v.item; rest = v.rest; starts = v.starts; decides = (v.decides.0, v.decides.1, λ c h l. never limits v.item c h) }
+
+-- an input that ends within its item does so by any rules
+cut_by_form : (limits : Bounds) (r : Rules) (front : List ℕ) (f : Refusal) → f.reason ≡ Truncated → IsVerdict limits r front (refused f) → IsVerdict limits form front (refused f)
+cut_by_form limits r front f e v = elim v.decides [
+  | inl h ↦ elim (item-reason limits r v.item h.0 h.1.holds f h.2) [
+    | inl x ↦ absurd (subst (IsComplaintReason r) e x)
+    | inr x ↦ let two : Truncated ≡ KeyKind = sym e ∙ x.0 in absurd (cc two)
+  ]
+  | inr h ↦ record { p = v.p; longest = v.longest; item = v.item; rest = v.rest; starts = v.starts; decides = inr ((λ c g l. never limits v.item c g), h.1, h.2) }
+]
+
+module _ (limits : Bounds) (front behind : List ℕ) (enough : IsEnough limits front behind) where
+  final : (r : Rules) (a : Answer) → IsVerdict limits r front a → IsDecided limits front → IsFinal a
+  final r (accepted s) v d = tt
+  final r (refused f) v d = λ e. d.within f (cut_by_form limits r front f e v) e
+
+  none_behind : behind ≡ [] → front ≡ front ++ behind
+  none_behind e = sym (append-nil front) ∙ ap (λ (xs : List ℕ). front ++ xs) (sym e)
+
+  verdict_whole : (r : Rules) (a : Answer) → IsVerdict limits r front a → IsVerdict limits r (front ++ behind) a
+  verdict_whole r a v = elim enough [
+    | inl e ↦ subst (λ (xs : List ℕ). IsVerdict limits r xs a) (none_behind e) v
+    | inr d ↦ further limits r front behind a v (final r a v d)
+  ]
+
+  -- an item that is all of the front is all of the whole
+  all_of : (r : Rules) (s : Spelling) → IsVerdict limits r front (accepted s) → length (spell s) ≡ length front → front ≡ front ++ behind
+  all_of r s v l = elim enough [
+    | inl e ↦ none_behind e
+    | inr d ↦ absurd (omega (arith, l, d.longer s (by_form limits r front s v)))
+  ]
+
+  no_longer : length front ≤ length (front ++ behind)
+  no_longer = omega (arith, length-append front behind)
+
+  same_front : (k : ℕ) → k ≤ length front → take k front ≡ take k (front ++ behind)
+  same_front k l = sym (take-append-le k front behind l)
+
+  -- ---- what `canonicalise` answers
+
+  pub canonical_whole : (o : KeyOrder) (out : List ℕ) → IsCanonicalOf limits o front out → IsCanonicalOf limits o (front ++ behind) out
+  canonical_whole o out c = record {
+    item = c.item;
+    verdict = verdict_whole plain (accepted c.item) c.verdict;
+    whole = c.whole ∙ all_of plain c.item c.verdict (ap length c.whole);
+    canonical_bytes = c.canonical_bytes;
+    fits = c.fits;
+  }
+
+  pub refusal_whole : (o : KeyOrder) (f : Refusal) → IsOfInput f.reason → IsRefusal limits o front f → IsRefusal limits o (front ++ behind) f
+  refusal_whole o f own (canonicalise.of_verdict v) = canonicalise.of_verdict (verdict_whole plain (refused f) v)
+  refusal_whole o f own (canonicalise.trailing item v l e) = canonicalise.trailing item (verdict_whole plain (accepted item) v) (omega (arith, l, no_longer)) e
+  refusal_whole o f own (canonicalise.canonical_too_long item v w l e) =
+      let same = all_of plain item v (ap length w) in
+      canonicalise.canonical_too_long item (verdict_whole plain (accepted item) v) (w ∙ same) l
+      (e ∙ ap (λ (b : List ℕ). refusal CanonicalTooLong (length b) (length b)) same)
+  refusal_whole o f own (canonicalise.of_memory p taken l t e free) = absurd (subst IsOfInput (ap (λ (x : Refusal). x.reason) e) own)
+
+  -- ---- what the readers answer
+
+  unread_whole : (r : Rules) (f : Refusal) → f.reason ≢ Read → IsUnread limits r front f → IsUnread limits r (front ++ behind) f
+  unread_whole r f apart (readers.of_verdict v) = readers.of_verdict (verdict_whole r (refused f) v)
+  unread_whole r f apart (readers.of_reader p l h e v) = absurd (apart (ap (λ (x : Refusal). x.reason) e))
+  unread_whole r f apart (readers.of_memory p l h e free) =
+      let (q, g) = longest_always limits.depth (take limits.bytes (front ++ behind)) in
+      let rest = l.rest ++ more limits r front behind in
+      let splits : take limits.bytes (front ++ behind) ≡ p ++ rest = splits_further limits r front behind p l.rest l.splits in
+      let (k, is, other) = split_front p rest q g.rest (sym splits ∙ g.splits) (g.longest p rest l.beginning splits) in
+      readers.of_memory q g (omega (arith, h, ap length is, length-append p k)) e
+      (λ s c starts holds.
+      free s c (k ++ starts.0, subst (IsItem limits.depth s) (ap (λ (xs : List ℕ). xs ++ starts.0) is ∙ append_assoc p k starts.0) starts.1) holds)
+
+  not_read : (f : Refusal) → IsOfInput f.reason → f.reason ≢ Read
+  not_read f own e = subst IsOfInput e own
+
+  -- ---- what `check` finds
+
+  pub is_whole : (r : Rules) (size : ℕ) → IsWhole limits r front size → IsWhole limits r (front ++ behind) size
+  is_whole r size (h, e) =
+      let same = all_of r h.item h.verdict (sym h.size ∙ e) in
+      (record { item = h.item; verdict = verdict_whole r (accepted h.item) h.verdict; size = h.size }, e ∙ ap length same)
+
+  pub is_not_whole : (r : Rules) (f : Refusal) → IsOfInput f.reason → IsNotWhole limits r front f → IsNotWhole limits r (front ++ behind) f
+  is_not_whole r f own (check.unread h) = check.unread (unread_whole r f (not_read f own) h)
+  is_not_whole r f own (check.trailing size h l e) =
+      check.trailing size (record { item = h.item; verdict = verdict_whole r (accepted h.item) h.verdict; size = h.size }) (omega (arith, l, no_longer)) e
+
+  -- ---- what `show` finds
+
+  pub is_all_of : (v : Value) → IsReadAs limits plain front v (length front) → IsReadAs limits plain (front ++ behind) v (length (front ++ behind))
+  is_all_of v h =
+      let same = all_of plain h.read.item h.read.verdict (sym h.read.size) in
+      subst (IsReadAs limits plain (front ++ behind) v) (ap length same) (record {
+        read = record { item = h.read.item; verdict = verdict_whole plain (accepted h.read.item) h.read.verdict; size = h.read.size };
+        value = h.value;
+      })
+
+  -- ---- what `events` finds
+
+  pub listed_whole : (old new : Option (List ℕ)) → IsListed 0 limits front (length front) old new → IsListed 0 limits (front ++ behind) (length (front ++ behind)) old new
+  listed_whole old new h =
+      let same = all_of form h.item h.verdict (sym h.size) in
+      record {
+        item = h.item;
+        verdict = verdict_whole form (accepted h.item) h.verdict;
+        size = ap length (sym same) ∙ h.size;
+        written = h.written;
+      }
+
+  unlisted_whole : (f : Refusal) (old new : Option (List ℕ)) → IsUnlisted 0 limits front f old new → f.read ≤ length front → IsUnlisted 0 limits (front ++ behind) f old new
+  unlisted_whole f old new (listing.of_verdict out v l w) h =
+      listing.of_verdict out (verdict_whole form (refused f) v)
+      (subst (λ (t : List ℕ). IsListing 0 limits.depth t out) (same_front f.place (place_within limits front f v)) l) w
+  unlisted_whole f old new (listing.of_reader out e v l w) h =
+      listing.of_reader out e
+      (subst (λ (t : List ℕ). IsVerdict limits form t (refused (refusal Truncated f.read f.read))) (same_front f.read h) v)
+      (subst (λ (t : List ℕ). IsListing 0 limits.depth t out) (same_front f.read h) l) w
+  unlisted_whole f old new (listing.of_writer out e l w) h =
+      listing.of_writer out e (subst (λ (t : List ℕ). IsStopped 0 limits.depth t out) (same_front f.read h) l) w
+
+  followed_whole : (f : Refusal) (old new : Option (List ℕ)) → IsFollowed limits front old new f → IsFollowed limits (front ++ behind) old new f
+  followed_whole f old new h = record {
+    size = h.size;
+    listed = record {
+      item = h.listed.item;
+      verdict = verdict_whole form (accepted h.listed.item) h.listed.verdict;
+      size = h.listed.size;
+      written = h.listed.written;
+    };
+    followed = omega (arith, h.followed, no_longer);
+    is = h.is;
+  }
+
+  pub not_listed_whole : (old new : Option (List ℕ)) (fault : Fault) → IsNotListed limits front old new fault → IsNotListed limits (front ++ behind) old new fault
+  not_listed_whole old new (faults.Refused f) (own, told, inl (u, l)) = (own, told, inl (unlisted_whole f old new u l, omega (arith, l, no_longer)))
+  not_listed_whole old new (faults.Refused f) (own, told, inr h) = (own, told, inr (followed_whole f old new h))
+  not_listed_whole old new faults.CannotPrint (f, u, l, e) = (f, unlisted_whole f old new u l, omega (arith, l, no_longer), e)
+  not_listed_whole old new faults.Memory h = tt
+  not_listed_whole old new _ h = absurd h
+
+  -- ---- what `compare` finds
+
+  pub whole_item : AreAccepted limits front → IsWholeItem limits front → front ≡ front ++ behind
+  whole_item are (s, valid) = let h = (are s).0 valid in all_of plain s h.0 (ap length h.1)
+
+  pub item_refusal_whole : (f : Refusal) → IsItemRefusal limits front f → IsItemRefusal limits (front ++ behind) f
+  item_refusal_whole f (items.unread h e) = items.unread (unread_whole plain f e h) e
+  item_refusal_whole f (items.trailing item v l e) = items.trailing item (verdict_whole plain (accepted item) v) (omega (arith, l, no_longer)) e

@@ -1,0 +1,6 @@
+mod Faults
+mod Files
+mod Fronts
+mod Listings
+mod Untold
+mod Whole

@@ -1,0 +1,48 @@
+-- What `canon` writes, and why it writes nothing.
+use Rattle.std.specs.Prelude.{ℕ, ◌≡◌, List, Option, Some}
+use Rattle.cbor_head.specs.Limits.{Bounds}
+use Rattle.cbor_head.specs.declared.order.KeyOrder.{KeyOrder}
+use Rattle.cbor_reader.specs.Canonicalise.{IsCanonicalOf, IsRefusal}
+use Rattle.cborc_input.specs.Fault.{IsOfInput}
+use Rattle.cborc_files.specs.Folder.{Files}
+use Rattle.cborc_fronts.specs.Input.{IsInput}
+use Rattle.cborc_input.specs.NoInput.{IsNoInput}
+use Rattle.cborc_input.specs.declared.request.Form.{Form}
+use Rattle.cborc_input.specs.declared.request.Options.{Options}
+use Rattle.cborc_input.specs.declared.request.Output.{Output}
+use Rattle.cborc_input.specs.declared.fault.Fault.{Fault}
+use Rattle.cborc_input.specs.declared.fault.Fault.TheVariants as faults
+use Rattle.cborc_input.specs.Texts.{IsCanonicalText}
+use Rattle.cborc_input.specs.Put.{IsPut, IsNotPut}
+
+-- the canonical bytes of the input at a path are where they belong
+pub record IsCanonised (o : KeyOrder) (options : Options) (source : List ℕ) (output : Output) (old new : Option Files) (before after : Option (List ℕ)) : Type 0 where
+  pub input : List ℕ
+  pub is : IsInput old source options.hex input
+  pub text : List ℕ
+  pub canonical : IsCanonicalText options.limits o output.form input text
+  pub put : IsPut output.path.now old new before after text
+
+-- the input at a path has canonical bytes
+pub record HasText (o : KeyOrder) (options : Options) (source : List ℕ) (form : Form) (held : Option Files) : Type 0 where
+  pub input : List ℕ
+  pub is : IsInput held source options.hex input
+  pub text : List ℕ
+  pub canonical : IsCanonicalText options.limits o form input text
+
+-- why they are not: the input is refused, there is none, or its text was not put there
+abbrev pub IsNotCanonised : KeyOrder → Options → List ℕ → Output → Option Files → Fault → Type 0
+IsNotCanonised o options source output held (faults.Refused f) =
+    (input : List ℕ) × IsInput held source options.hex input × IsRefusal options.limits o input f × IsOfInput f.reason
+IsNotCanonised o options source output held faults.CannotPrint = HasText o options source output.form held × IsNotPut output.path.now faults.CannotPrint
+IsNotCanonised o options source output held (faults.CannotWrite named) =
+    HasText o options source output.form held × IsNotPut output.path.now (faults.CannotWrite named)
+IsNotCanonised o options source output held fault = IsNoInput held source options.hex fault
+
+-- the first bytes are of a file that is one valid item, and the second of one that holds its canonical bytes
+pub record HoldsCanonical (limits : Bounds) (o : KeyOrder) (before after : Option (List ℕ)) : Type 0 where
+  pub input : List ℕ
+  pub canonical : List ℕ
+  pub read : before ≡ Some input
+  pub is : IsCanonicalOf limits o input canonical
+  pub written : after ≡ Some canonical

@@ -1,0 +1,5 @@
+pub mod Canon
+pub mod Check
+pub mod Compare
+pub mod Events
+pub mod Show

@@ -1,0 +1,65 @@
+//! The subcommand `canon`: the canonical bytes of an item, from file to file.
+
+ghost use Rattle.std.specs.Prelude.{◌≡◌, ◌≢◌, OnOk, OnErr, IfErr};
+ghost use Rattle.cborc_input.specs.Put.{IsPut, IsNotPut};
+ghost use Rattle.cborc_items.specs.Canon.{IsCanonised, IsNotCanonised};
+ghost use Rattle.cborc_files.specs.Folder.{KeepsFiles};
+
+use cbor_head::{KeyOrder, Limits};
+use cborc_files::{Folder, is_stream};
+use cborc_input::{Fault, Options, Output, canonical_text, read_item};
+use std::alloc::Global;
+use std::io::Write;
+
+/// Writes the canonical bytes of the item in the file `source` to the output: all of them, or none,
+/// so that a file there is replaced whole or left as it was.
+pub fn canon<'a, F: Folder, O: Write>(
+    alloc: Global,
+    files: &mut F,
+    out: &mut O,
+    source: &'a str,
+    output: Output<'a>,
+    order: KeyOrder,
+    options: Options,
+) -> Result<(), Fault<'a>>
+    ensures written { OnOk result (IsCanonised order options source.now output.entry
+        (F.held files.old) (F.held files.new) (O.contents out.old) (O.contents out.new)) }
+    ensures untouched { OnErr result (KeepsFiles (F.held files.old) (F.held files.new)) }
+    ensures same { F.behind files.new ≡ F.behind files.old }
+    ensures fault { IfErr result
+        (IsNotCanonised order options source.now output.entry (F.held files.old)) }
+    ensures silent { IfErr result (λ fault. fault ≢ Fault.CannotPrint → out.new ≡ out.old) }
+{
+    let limits = options.limits;
+    let Output { path, form } = output;
+    let bytes = read_item(alloc, files, source, options)?;
+    let text = canonical_text(alloc, bytes.as_slice(), limits, order, form)?;
+    put(files, out, path, text.as_slice())
+}
+
+// Puts the text where it belongs: for the path `-` behind what standard output took.
+fn put<'a, F: Folder, O: Write>(
+    files: &mut F,
+    out: &mut O,
+    path: &'a str,
+    text: &[u8],
+) -> Result<(), Fault<'a>>
+    ensures put { OnOk result (IsPut path.now (F.held files.old) (F.held files.new)
+        (O.contents out.old) (O.contents out.new) text.now) }
+    ensures untouched { OnErr result (KeepsFiles (F.held files.old) (F.held files.new)) }
+    ensures same { F.behind files.new ≡ F.behind files.old }
+    ensures fault { IfErr result (IsNotPut path.now) }
+    ensures silent { IfErr result (λ fault. fault ≢ Fault.CannotPrint → out.new ≡ out.old) }
+{
+    if is_stream(path) {
+        match out.write_all(text) {
+            Ok(()) => Ok(()),
+            Err(_) => Err(Fault::CannotPrint),
+        }
+    } else {
+        match files.write(path, text) {
+            Ok(()) => Ok(()),
+            Err(fault) => Err(Fault::of_writing(path, fault)),
+        }
+    }
+}

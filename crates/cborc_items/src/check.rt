@@ -1,0 +1,70 @@
+//! The subcommand `check`: whether a file is one item.
+
+ghost use Rattle.std.specs.Prelude.{◌≡◌, ◌≢◌, OnOk, IfOk, IfErr};
+ghost use Rattle.std.specs.Io.KnownBytes.{Appends};
+ghost use Rattle.cborc_input.specs.Rules.{rules_of};
+ghost use Rattle.cborc_items.specs.Check.{accepted_bytes, IsWhole, IsNotWhole, IsChecked, IsNotChecked};
+ghost use Rattle.cborc_files.specs.Folder.{KeepsFiles};
+
+use cbor_head::{Limits, Reason, Refusal};
+use cborc_files::Folder;
+use cborc_input::{Accepted, Fault, Options, read_item, size_at_front};
+use std::alloc::Global;
+use std::io::Write;
+
+/// Writes to `out` how many bytes the item has that the file `source` is.
+pub fn check<'a, F: Folder, O: Write>(
+    alloc: Global,
+    files: &mut F,
+    out: &mut O,
+    source: &'a str,
+    accepted: Accepted,
+    options: Options,
+) -> Result<(), Fault<'a>>
+    ensures told { OnOk result (IsChecked (rules_of accepted) options source.now
+        (F.held files.old) (O.contents out.old) (O.contents out.new)) }
+    ensures fault { IfErr result
+        (IsNotChecked (rules_of accepted) options source.now (F.held files.old)) }
+    ensures silent { IfErr result (λ fault. fault ≢ Fault.CannotPrint → out.new ≡ out.old) }
+    ensures keeps { KeepsFiles (F.held files.old) (F.held files.new) }
+    ensures same { F.behind files.new ≡ F.behind files.old }
+{
+    let limits = options.limits;
+    let bytes = read_item(alloc, files, source, options)?;
+    let size = size_of_item(alloc, bytes.as_slice(), accepted, limits)?;
+    tell(out, size)
+}
+
+// Writes the line of an item that is accepted, of so many bytes.
+fn tell<'a, O: Write>(out: &mut O, size: u64) -> Result<(), Fault<'a>>
+    ensures told { OnOk result
+        (Appends (O.contents out.old) (O.contents out.new) (accepted_bytes size)) }
+    ensures fault { IfErr result (λ fault. fault ≡ Fault.CannotPrint) }
+{
+    match writeln!(out, "accepted {size} bytes") {
+        Ok(()) => Ok(()),
+        Err(_) => Err(Fault::CannotPrint),
+    }
+}
+
+// How many bytes the item has that all the bytes are; the refusal is the item's, then `Trailing`.
+fn size_of_item(
+    alloc: Global,
+    bytes: &[u8],
+    accepted: Accepted,
+    limits: Limits,
+) -> Result<u64, Refusal>
+    ensures whole { IfOk result (IsWhole limits (rules_of accepted) bytes.now) }
+    ensures refused { IfErr result (IsNotWhole limits (rules_of accepted) bytes.now) }
+{
+    let size = size_at_front(alloc, bytes, accepted, limits)?;
+    if size == bytes.len() as u64 {
+        Ok(size)
+    } else {
+        Err(Refusal {
+            reason: Reason::Trailing,
+            place: size,
+            read: size,
+        })
+    }
+}

@@ -1,0 +1,51 @@
+-- Why no item is taken at the front of some bytes, however these go on.
+use Rattle.std.proofs.Common.{ℕ, ◌≡◌, ◌≢◌, ◌⊎◌, inl, inr, Bool, true, false, List, [], ◌++◌, Option, refl, sym, ap, ◌∙◌, subst}
+use Rattle.std.proofs.lemmas.List.{append-nil}
+use Rattle.cbor_head.specs.Complaint.{Rules, plain}
+use Rattle.cbor_head.specs.Limits.{Bounds}
+use Rattle.cbor_head.specs.Verdict.{refused, IsVerdict}
+use Rattle.cbor_head.specs.declared.order.KeyOrder.{KeyOrder}
+use Rattle.cbor_head.specs.declared.reason.Reason.TheVariants.{Truncated}
+use Rattle.cbor_head.specs.declared.reason.Refusal.{Refusal}
+use Rattle.cbor_judging.specs.Readers.{IsUnread, of_verdict, of_reader, of_memory}
+use Rattle.cborc_sequences.specs.CanonSequence.{unread}
+use Rattle.cborc_input.specs.Fault.{IsOfInput, refusal_fault}
+use Rattle.cborc_input.specs.declared.fault.Fault.{Fault}
+use Rattle.cborc_input.specs.declared.request.Form.{Form}
+use Rattle.cborc_input.specs.declared.request.Layout.{Layout}
+use Rattle.cborc_sequences.specs.inner.Items.{IsUncounted, IsUnwritten, IsItemNotShown}
+use Rattle.cborc_fronts.proofs.Decided.{further}
+use Rattle.cborc_input.proofs.Faults.{refusal_is}
+
+-- nothing stands behind the front, or a refusal is not for its end
+abbrev pub IsSettled : List ℕ → Refusal → Type 0
+IsSettled behind f = (behind ≡ []) ⊎ (f.reason ≢ Truncated)
+
+pub settled : (goes_on : Bool) (behind : List ℕ) (f : Refusal) → (goes_on ≡ false → behind ≡ []) → (goes_on ≡ true → f.reason ≢ Truncated) → IsSettled behind f
+settled true behind f ends apart = inr (apart refl)
+settled false behind f ends apart = inl (ends refl)
+
+module _ (b : Bounds) (r : Rules) (front behind : List ℕ) (f : Refusal) (known : IsSettled behind f) where
+  pub verdict_further : IsVerdict b r front (refused f) → IsVerdict b r (front ++ behind) (refused f)
+  verdict_further v = elim known [
+    | inl e ↦ subst (λ (xs : List ℕ). IsVerdict b r xs (refused f)) (sym (ap (λ (xs : List ℕ). front ++ xs) e ∙ append-nil front)) v
+    | inr apart ↦ further b r front behind (refused f) v apart
+  ]
+
+  pub unread_further : IsOfInput f.reason → IsUnread b r front f → IsUnread b r (front ++ behind) f
+  unread_further own (of_verdict v) = of_verdict (verdict_further v)
+  unread_further own (of_reader p l within is v) = absurd (subst IsOfInput (ap (λ (g : Refusal). g.reason) is) own)
+  unread_further own (of_memory p l within is free) = absurd (subst IsOfInput (ap (λ (g : Refusal). g.reason) is) own)
+
+-- the fault of a refusal
+module _ (b : Bounds) (front behind : List ℕ) (f : Refusal) (known : IsSettled behind f) (fault : Fault) (is : fault ≡ refusal_fault f) where
+  pub uncounted : (r : Rules) → IsUnread b r front f → IsUncounted b r (front ++ behind) fault
+  uncounted r h = refusal_is (IsUncounted b r (front ++ behind)) f fault is (λ own. (unread_further b r front behind f known own h, own)) tt
+
+  pub uncanonical : (o : KeyOrder) (form : Form) (out : Option (List ℕ)) → IsUnread b plain front f → IsUnwritten b o form (front ++ behind) fault out out
+  uncanonical o form out h =
+      refusal_is (λ (x : Fault). IsUnwritten b o form (front ++ behind) x out out) f fault is (λ own. (unread (unread_further b plain front behind f known own h), own, refl)) refl
+
+  pub item_not_shown : (layout : Layout) (out : Option (List ℕ)) → IsUnread b plain front f → IsItemNotShown b layout (front ++ behind) fault out out
+  item_not_shown layout out h =
+      refusal_is (λ (x : Fault). IsItemNotShown b layout (front ++ behind) x out out) f fault is (λ own. (unread_further b plain front behind f known own h, own, refl)) refl

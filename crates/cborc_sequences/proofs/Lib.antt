@@ -1,0 +1,6 @@
+mod Earlier
+mod Further
+mod Items
+mod Listings
+mod Stopped
+mod Taken

@@ -1,0 +1,56 @@
+-- What `check --seq` asks of a file's bytes (RFC 8742).
+use Rattle.std.specs.Prelude.{ℕ, ◌≡◌, ◌++◌, List, length, Option, codes, decimal}
+use Rattle.std.specs.Io.KnownBytes.{Appends}
+use Rattle.cbor_head.specs.Complaint.{Rules}
+use Rattle.cbor_head.specs.Limits.{Bounds}
+use Rattle.cbor_head.specs.Spelling.{Spelling}
+use Rattle.cbor_head.specs.declared.reason.Refusal.{Refusal}
+use Rattle.cbor_judging.specs.Readers.{IsUnread}
+use Rattle.cbor_reader.specs.Sequence.{IsAccepted}
+use Rattle.cborc_input.specs.Fault.{IsOfInput}
+use Rattle.cborc_files.specs.Folder.{Files}
+use Rattle.cborc_fronts.specs.Input.{IsInput}
+use Rattle.cborc_input.specs.NoInput.{IsNoInput}
+use Rattle.cborc_input.specs.Sequences.{AreAll, GoesOn}
+use Rattle.cborc_input.specs.declared.request.Options.{Options}
+use Rattle.cborc_input.specs.declared.fault.Fault.{Fault}
+use Rattle.cborc_input.specs.declared.fault.Fault.TheVariants as faults
+
+-- the whole input is a sequence of so many items, each accepted by the rules within the limits
+pub record IsWholeSequence (limits : Bounds) (rules : Rules) (input : List ℕ) (count : ℕ) : Type 0 where
+  pub items : List Spelling
+  pub all : AreAll (IsAccepted limits rules) limits.bytes input items
+  pub count_is : count ≡ length items
+
+-- it isn't: behind items that are accepted comes, with this index and starting there, what is refused
+pub record IsRefusedAt (limits : Bounds) (rules : Rules) (input : List ℕ) (index start : ℕ) (f : Refusal) : Type 0 where
+  pub items : List Spelling
+  pub rest : List ℕ
+  pub goes_on : GoesOn (IsAccepted limits rules) limits.bytes input items rest index start
+  pub unread : IsUnread limits rules rest f
+
+-- the line of a sequence that is accepted, of so many items
+abbrev pub accepted_items : ℕ → List ℕ
+accepted_items count = codes "accepted " ++ decimal count ++ codes " items\n"
+
+-- the input at a path is a sequence of items that are accepted, and standard output took its line
+pub record IsSequenceChecked (rules : Rules) (options : Options) (source : List ℕ) (held : Option Files) (before after : Option (List ℕ)) : Type 0 where
+  pub input : List ℕ
+  pub is : IsInput held source options.hex input
+  pub count : ℕ
+  pub whole : IsWholeSequence options.limits rules input count
+  pub told : Appends before after (accepted_items count)
+
+-- it is, and standard output took not all of its line
+pub record IsUntoldSequence (rules : Rules) (options : Options) (source : List ℕ) (held : Option Files) : Type 0 where
+  pub input : List ℕ
+  pub is : IsInput held source options.hex input
+  pub count : ℕ
+  pub whole : IsWholeSequence options.limits rules input count
+
+-- why nothing is told: an item is refused, there is no input, or standard output failed
+abbrev pub IsSequenceNotChecked : Rules → Options → List ℕ → Option Files → Fault → Type 0
+IsSequenceNotChecked rules options source held (faults.RefusedItem index start f) =
+    (input : List ℕ) × IsInput held source options.hex input × IsRefusedAt options.limits rules input index start f × IsOfInput f.reason
+IsSequenceNotChecked rules options source held faults.CannotPrint = IsUntoldSequence rules options source held
+IsSequenceNotChecked rules options source held fault = IsNoInput held source options.hex fault

@@ -1,0 +1,5 @@
+pub mod CanonSequence
+pub mod CheckSequence
+pub mod EventsSequence
+pub mod inner
+pub mod ShowSequence

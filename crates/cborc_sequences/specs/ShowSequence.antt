@@ -1,0 +1,53 @@
+-- What `show --seq` asks of a file's bytes, and what it writes (RFC 8742).
+use Rattle.std.specs.Prelude.{ℕ, List, flat_map, Option}
+use Rattle.std.specs.Io.KnownBytes.{Appends}
+use Rattle.cbor_head.specs.Complaint.{plain}
+use Rattle.cbor_head.specs.Spelling.{Spelling, value_of}
+use Rattle.cbor_head.specs.declared.reason.Refusal.{Refusal}
+use Rattle.cbor_judging.specs.Readers.{IsUnread}
+use Rattle.cbor_reader.specs.Sequence.{IsAccepted}
+use Rattle.cborc_input.specs.Fault.{IsOfInput}
+use Rattle.cborc_files.specs.Folder.{Files}
+use Rattle.cborc_fronts.specs.Input.{IsInput}
+use Rattle.cborc_input.specs.NoInput.{IsNoInput}
+use Rattle.cborc_input.specs.Sequences.{AreAll, GoesOn, IsCutShort, IsTakenSoFar}
+use Rattle.cborc_input.specs.Texts.{shown_text}
+use Rattle.cborc_input.specs.declared.request.Layout.{Layout}
+use Rattle.cborc_input.specs.declared.request.Options.{Options}
+use Rattle.cborc_input.specs.declared.fault.Fault.{Fault}
+use Rattle.cborc_input.specs.declared.fault.Fault.TheVariants as faults
+
+-- the text of an item in a layout, and a line feed
+abbrev pub item_text : Layout → Spelling → List ℕ
+item_text layout item = shown_text layout (value_of item)
+
+-- those of each item, one behind another
+abbrev pub item_texts : Layout → List Spelling → List ℕ
+item_texts layout items = flat_map (item_text layout) items
+
+-- the input at a path is a sequence of valid items, and standard output took their texts
+pub record IsSequenceShown (layout : Layout) (options : Options) (source : List ℕ) (held : Option Files) (before after : Option (List ℕ)) : Type 0 where
+  pub input : List ℕ
+  pub is : IsInput held source options.hex input
+  pub items : List Spelling
+  pub all : AreAll (IsAccepted options.limits plain) options.limits.bytes input items
+  pub shown : Appends before after (item_texts layout items)
+
+-- It isn't: behind valid items, whose texts standard output took, comes what is refused, with this index and starting there.
+pub record HasUnshownItem (layout : Layout) (options : Options) (source : List ℕ) (held : Option Files) (before after : Option (List ℕ)) (index start : ℕ) (f : Refusal) : Type 0 where
+  pub input : List ℕ
+  pub is : IsInput held source options.hex input
+  pub items : List Spelling
+  pub rest : List ℕ
+  pub goes_on : GoesOn (IsAccepted options.limits plain) options.limits.bytes input items rest index start
+  pub refused : IsUnread options.limits plain rest f
+  pub of_input : IsOfInput f.reason
+  pub shown : Appends before after (item_texts layout items)
+
+-- why it is not shown whole, and what standard output took: an item is refused; standard output took not all; there is no input, or memory was refused
+abbrev pub IsSequenceNotShown : Layout → Options → List ℕ → Option Files → Option (List ℕ) → Option (List ℕ) → Fault → Type 0
+IsSequenceNotShown layout options source held before after (faults.RefusedItem index start f) = HasUnshownItem layout options source held before after index start f
+IsSequenceNotShown layout options source held before after faults.CannotPrint =
+    IsCutShort (IsAccepted options.limits plain) (item_text layout) options source held before after
+IsSequenceNotShown layout options source held before after fault =
+    IsNoInput held source options.hex fault × IsTakenSoFar (IsAccepted options.limits plain) (item_text layout) options source held before after
