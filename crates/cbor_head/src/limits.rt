@@ -1,7 +1,7 @@
 //! The limits on one item.
 
 ghost use Rattle.std.specs.Prelude.{◌≡◌, ◌↔◌, ◌≤◌, ◌^◌, IsSome, IfSome};
-ghost use Rattle.cbor_head.specs.Limits.{Bounds, bounds, AreBounds};
+ghost use Rattle.cbor_head.specs.Limits.{Bounds, bounds, with_keys, AreBounds};
 
 use crate::Keys;
 use std::marker::Model;
@@ -9,20 +9,21 @@ use std::marker::Model;
 /// How deep the arrays, maps and tags of an item may nest, whatever its limits.
 pub const MAX_DEPTH: u16 = 256;
 
-/// The limits on one item: how deep its arrays, maps and tags may nest, from 0 to 256, and how many
-/// bytes it may have, from 0 to 2^62. Its maps may have keys of any kind.
+/// The limits on one item: how deep its arrays, maps and tags may nest, from 0 to 256, how many
+/// bytes it may have, from 0 to 2^62, and which kinds of keys its maps may have.
 #[derive(Clone, Copy, Debug, PartialEq, Eq)]
 pub struct Limits {
     depth: u16,
     bytes: u64,
+    keys: Keys,
 }
 
 impl Model for Limits {
     ghost Value = { Bounds };
 
-    ghost view = { λ l. bounds l.depth l.bytes };
+    ghost view = { λ l. with_keys (bounds l.depth l.bytes) l.keys };
 
-    ghost inverse = { λ b. record { depth = b.depth; bytes = b.bytes } };
+    ghost inverse = { λ b. record { depth = b.depth; bytes = b.bytes; keys = b.keys } };
 
     ghost invariant = { λ l. AreBounds (bounds l.depth l.bytes) };
 }
@@ -34,10 +35,21 @@ impl Limits {
         ensures value { IfSome result (λ l. l ≡ bounds depth bytes) }
     {
         if depth <= MAX_DEPTH && bytes <= 1 << 62 {
-            Some(Limits { depth, bytes })
+            Some(Limits {
+                depth,
+                bytes,
+                keys: Keys::Any,
+            })
         } else {
             None
         }
+    }
+
+    /// The same limits, for keys of these kinds.
+    pub fn with_keys(self, keys: Keys) -> Limits
+        ensures { result ≡ with_keys self keys }
+    {
+        Limits { keys, ..self }
     }
 
     /// How deep arrays, maps and tags may nest.
@@ -60,6 +72,6 @@ impl Limits {
     pub fn keys(self) -> Keys
         ensures { result ≡ self.keys }
     {
-        Keys::Any
+        self.keys
     }
 }
