@@ -6,10 +6,10 @@ use Rattle.clap.specs.declared.error.Error.{Error}
 use Rattle.clap.specs.declared.error.kind.ErrorKind.{ErrorKind}
 use Rattle.clap.specs.declared.error.kind.ErrorKind.TheVariants.{ArgumentConflict, MissingSubcommand, OutOfMemory}
 use Rattle.clap.specs.declared.parser.matches.ArgMatches.{ArgMatches}
+use Rattle.cborc_grammar.specs.Grammar.{IsGrammar}
+use Rattle.cborc_grammar.proofs.Simple.{simple}
 use Rattle.cborc_words.specs.CommandLine.{reads_stream_twice, AsksFor, AsksForTask, HasOneManner, HasTwoManners, IsComplete, IsMannerOf}
-use Rattle.cborc_words.specs.Grammar.{IsGrammar}
 use Rattle.cborc_words.specs.Words.{AskFor, HasFault, ReadsTwice, found, incomplete, two_manners, two_streams}
-use Rattle.cborc_words.proofs.Builds.{simple}
 use Rattle.cborc_input.specs.declared.request.Task.{Task}
 
 rows_found : (app : App) → IsGrammar app → (words : List Text) (m : ArgMatches) → HasMatchesOf app words m → subcommand_rows_of m ≡ subcommand_of app words

@@ -5,10 +5,10 @@ ghost use Rattle.clap.specs.Words.{first_of, found_of, kind_of, rows_of, subcomm
 ghost use Rattle.cborc_words.specs.CommandLine.{order_named, AsksFor, HasLimits, HasOneManner, HasTwoManners, reads_stream_twice, IsAcceptedOf, IsComplete, IsLayoutOf, IsMannerOf, IsOptionsOf, IsOutputOf};
 ghost use Rattle.cborc_words.specs.Words.{texts_of, AskFor, HasFault};
 
-use crate::grammar::command;
 use cbor_head::{KeyOrder, Limits};
 use cborc_commands::{Accepted, Form, Layout, Manner, Options, Output, Request, Task};
 use cborc_files::is_stream;
+use cborc_grammar::grammar::command;
 use clap::error::ErrorKind;
 use clap::{ArgMatches, Error};
 use std::alloc::Global;

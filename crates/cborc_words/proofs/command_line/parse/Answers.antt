@@ -1,7 +1,7 @@
 use Rattle.std.proofs.Common.{refl, sym}
 use Rattle.clap.proofs.TakesLemmas.{passed_up}
+use Rattle.cborc_grammar.proofs.Simple.{free}
 use Rattle.cborc_words.proofs.Asked.{asked, of_clap, of_missing, of_two_manners, of_two_streams}
-use Rattle.cborc_words.proofs.Builds.{free}
 use Rattle.cborc_words.proofs.command_line.parse.Goals as goal
 
 pub returns-in_err-matches-clause-err : goal.returns-in_err-matches-clause-err

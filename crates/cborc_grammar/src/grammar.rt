@@ -3,9 +3,9 @@
 ghost use Rattle.std.specs.Prelude.{◌≡◌, IfOk};
 ghost use Rattle.std.specs.Borrow.{Bor};
 ghost use Rattle.clap.specs.Words.{app_of};
-ghost use Rattle.cborc_words.specs.Grammar as grammar;
-ghost use Rattle.cborc_words.specs.Grammar.{IsGrammar, NamesOrders};
-ghost use Rattle.cborc_words.specs.inner.Commands.{with_rules, HasRule, HasShape};
+ghost use Rattle.cborc_grammar.specs.Grammar as grammar;
+ghost use Rattle.cborc_grammar.specs.Grammar.{IsGrammar, NamesOrders};
+ghost use Rattle.cborc_grammar.specs.inner.Commands.{with_rules, HasRule, HasShape};
 
 use cbor_head::MAX_DEPTH;
 use clap::{Arg, ArgAction, Command};

@@ -2,8 +2,8 @@ use Rattle.std.proofs.Common.{◌≡◌, ◌∙◌, ap, codes, refl, true}
 use Rattle.std.proofs.lemmas.Result.{IfOk-weaker}
 use Rattle.clap.specs.Words.{Shape, app_of, new_app}
 use Rattle.clap.specs.Simple.{app_of_fields, on_top}
-use Rattle.cborc_words.proofs.Builds.{adds_subcommand}
-use Rattle.cborc_words.proofs.grammar.command.Goals as goal
+use Rattle.cborc_grammar.proofs.Builds.{adds_subcommand}
+use Rattle.cborc_grammar.proofs.grammar.command.Goals as goal
 
 pub returns : goal.returns
 returns c =
