@@ -1,2 +1,2 @@
 mod Builds
-pub mod Simple
+mod Simple

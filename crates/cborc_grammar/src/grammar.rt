@@ -1,7 +1,7 @@
 //! The words that the program takes: its subcommands, their options, and the texts of help.
 
-ghost use Rattle.std.specs.Prelude.{◌≡◌, IfOk};
-ghost use Rattle.clap.specs.Words.{app_of};
+ghost use Rattle.std.specs.Prelude.{◌≡◌, true, IfOk};
+ghost use Rattle.clap.specs.Words.{app_of, is_simple, is_simple_and_free};
 ghost use Rattle.cborc_grammar.specs.Grammar as grammar;
 ghost use Rattle.cborc_grammar.specs.Grammar.{IsGrammar, Kinds, Orders};
 ghost use Rattle.cborc_grammar.specs.inner.Commands.{with_rules, HasRule, HasShape};
@@ -35,9 +35,12 @@ Examples:
   cborc show --seq records.cbor
   cborc compare old.cbor new.cbor";
 
-/// The program's command line.
+/// The program's command line, of which clap's model speaks: it is simple, and no argument of it has
+/// a rule on another.
 pub fn command<'a>(alloc: Global) -> Result<Command<'a>, AllocError>
-    ensures { IfOk result (λ command. IsGrammar (app_of command)) }
+    ensures grammar { IfOk result (λ command. IsGrammar (app_of command)) }
+    ensures simple { IfOk result (λ command. is_simple (app_of command) ≡ true) }
+    ensures free { IfOk result (λ command. is_simple_and_free (app_of command) ≡ true) }
 {
     Command::new(alloc, "cborc")
         .about("Reads and writes deterministic CBOR (RFC 8949, section 4.2)")

@@ -3,10 +3,11 @@ use Rattle.std.proofs.lemmas.Result.{IfOk-weaker}
 use Rattle.clap.specs.Words.{Shape, app_of, new_app}
 use Rattle.clap.specs.Simple.{app_of_fields, on_top}
 use Rattle.cborc_grammar.proofs.Builds.{adds_subcommand}
+use Rattle.cborc_grammar.proofs.Simple.{free, simple}
 use Rattle.cborc_grammar.proofs.grammar.command.Goals as goal
 
-pub returns : goal.returns
-returns c =
+pub returns-clause-grammar : goal.returns-clause-grammar
+returns-clause-grammar c =
     let about : app_of c.about.result ≡ new_app (codes "cborc") = ap app_of_fields c.about.ensures ∙ c.new.ensures.app in
     let version = ap app_of_fields c.version.ensures ∙ ap (on_top (λ (s : Shape). record s { has_version = true })) about in
     let long_version = ap app_of_fields c.long_version.ensures ∙ ap (on_top (λ (s : Shape). record s { has_long_version = true })) version in
@@ -29,3 +30,9 @@ returns c =
       of_compare = of_compare.0;
       is = adds_subcommand _ _ _ _ _ h four of_compare.1 refl;
     }) c.subcommand-5.ensures
+
+pub returns-clause-simple : goal.returns-clause-simple
+returns-clause-simple c = IfOk-weaker c.subcommand-5.result _ _ (λ r grammar. simple (app_of r) grammar) (returns-clause-grammar c)
+
+pub returns-clause-free : goal.returns-clause-free
+returns-clause-free c = IfOk-weaker c.subcommand-5.result _ _ (λ r grammar. free (app_of r) grammar) (returns-clause-grammar c)
