@@ -79,7 +79,7 @@ canon orders = subcommand (codes "canon")
 abbrev pub compare : Kinds → Shape
 compare = subcommand (codes "compare") (file (codes "A") ∷ file (codes "B") ∷ [])
 
--- the program's command line, whose subcommands are these
+-- a command line with these subcommands
 abbrev pub grammar : List Shape → App
 grammar subcommands = record {
   top = record (new_shape (codes "cborc")) {
@@ -91,7 +91,7 @@ grammar subcommands = record {
   subs = subcommands;
 }
 
--- the same, with the words of choices at each of their places
+-- the program's command line, wherever the words of its choices lie
 pub record IsGrammar (app : App) : Type 0 where
   pub of_show : Kinds
   pub of_events : Kinds
