@@ -1,4 +1,6 @@
-//! The words that the program `cborc` takes, as clap reads them: see [`grammar::command`].
+//! The words that the program `cborc` takes, as clap reads them: see [`command`].
 #![tactic(auto)]
 
-pub mod grammar;
+mod grammar;
+
+pub use grammar::command;

@@ -8,7 +8,7 @@ ghost use Rattle.cborc_words.specs.Words.{texts_of, AskFor, HasFault};
 use cbor_head::{KeyOrder, Keys, Limits};
 use cborc_commands::{Accepted, Form, Layout, Manner, Options, Output, Request, Task};
 use cborc_files::is_stream;
-use cborc_grammar::grammar::command;
+use cborc_grammar::command;
 use clap::error::ErrorKind;
 use clap::{ArgMatches, Error};
 use std::alloc::Global;
