@@ -132,7 +132,9 @@ fn names(rt: HostRuntime) {
     assert!(&rt; naltvigo_reason_name_raw(12, &mut out) == 8);
     assert!(&rt; out == *b"Trailing\0\x07");
     assert!(&rt; naltvigo_reason_name_raw(12, &mut out[..8]) == 8);
-    assert!(&rt; naltvigo_reason_name_raw(20, &mut out) == 0);
+    assert!(&rt; naltvigo_reason_name_raw(20, &mut out) == 7);
+    assert!(&rt; out == *b"KeyKind\0\0\x07");
+    assert!(&rt; naltvigo_reason_name_raw(21, &mut out) == 0);
     assert!(&rt; out[0] == 0);
     assert!(&rt; naltvigo_version_raw() == VERSION);
 }
