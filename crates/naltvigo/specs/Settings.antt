@@ -14,10 +14,10 @@ key_order n = if n == 0 then Bytewise else LengthFirst
 abbrev pub key_kinds : ℕ → Keys
 key_kinds n = if n == 0 then Any else IntegersAndTexts
 
--- the limits of three numbers: the kinds of keys, how deep, how many bytes
+-- the limits for keys of the kinds of a number, by depth and bytes
 abbrev pub item_limits : ℕ → ℕ → ℕ → Bounds
 item_limits keys depth bytes = with_keys (bounds depth bytes) (key_kinds keys)
 
--- two kinds there are; the others as without them
+-- a depth and bytes that are bounds, and a number that is one of the two kinds'
 abbrev pub AreLimits : ℕ → ℕ → ℕ → Type 0
 AreLimits keys depth bytes = AreBounds (bounds depth bytes) × (keys ≤ 1)
