@@ -1,9 +1,10 @@
 //! Whether two inputs mean the same.
 
 ghost use Rattle.std.specs.Prelude.{◌≡◌, ◌≢◌, ◌⊎◌, ◌≤◌, ◌^◌, ℕ, List};
-ghost use Rattle.cbor_head.specs.Limits.{bounds};
+ghost use Rattle.cbor_head.specs.Limits.{bounds, with_keys};
 ghost use Rattle.cbor_head.specs.Spelling.{Spelling, value_of};
 ghost use Rattle.cbor_head.specs.Value.{Same};
+ghost use Rattle.cbor_head.specs.declared.keys.Keys.{Keys};
 ghost use Rattle.cbor_head.specs.declared.order.KeyOrder.{KeyOrder};
 ghost use Rattle.cbor_reader.specs.Canonicalise.{IsCanonicalOf};
 ghost use Rattle.cbor_reader.specs.Comparing.{MeanTheSame};
@@ -15,6 +16,7 @@ ghost use Rattle.naltvigo.specs.Settings.{item_limits, AreLimits};
 
 use crate::settings::limits_of;
 use crate::status::{BAD_LIMITS, DIFFERENT, NO_MEMORY, NaltvigoRefusal, OK, REFUSED, tell};
+use cbor_reader::laws::equal_answers_of_same_values;
 use cbor_reader::{Side, same_meaning};
 use std::alloc::Global;
 
@@ -51,10 +53,12 @@ pub extern "C" fn naltvigo_compare_raw(
         → IsValidItem (item_limits keys depth bytes) left.now s
         → IsValidItem (item_limits keys depth bytes) right.now t
         → ¬ Same (value_of s) (value_of t) }
-    ensures equal { result ≡ OK → (n : ℕ) (o : KeyOrder) (a b : List ℕ) → n ≤ 2 ^ 62
-        → IsCanonicalOf (bounds depth n) o left.now a → IsCanonicalOf (bounds depth n) o right.now b → a ≡ b }
-    ensures unequal { result ≡ DIFFERENT → (n : ℕ) (o : KeyOrder) (a b : List ℕ) → n ≤ 2 ^ 62
-        → IsCanonicalOf (bounds depth n) o left.now a → IsCanonicalOf (bounds depth n) o right.now b → a ≢ b }
+    ensures equal { result ≡ OK → (n : ℕ) (k : Keys) (o : KeyOrder) (a b : List ℕ) → n ≤ 2 ^ 62
+        → IsCanonicalOf (with_keys (bounds depth n) k) o left.now a
+        → IsCanonicalOf (with_keys (bounds depth n) k) o right.now b → a ≡ b }
+    ensures unequal { result ≡ DIFFERENT → (n : ℕ) (k : Keys) (o : KeyOrder) (a b : List ℕ) → n ≤ 2 ^ 62
+        → IsCanonicalOf (with_keys (bounds depth n) k) o left.now a
+        → IsCanonicalOf (with_keys (bounds depth n) k) o right.now b → a ≢ b }
     ensures refused { result ≡ REFUSED
         → IsSideRefused (item_limits keys depth bytes) left.now right.now side.new refusal.new }
     ensures only { result ≡ REFUSED → IsWholeItem (item_limits keys depth bytes) left.now
@@ -68,6 +72,7 @@ pub extern "C" fn naltvigo_compare_raw(
     ensures untold { result ≢ REFUSED → result ≢ NO_MEMORY
         → (side.new ≡ side.old) × (refusal.new ≡ refusal.old) }
 {
+    equal_answers_of_same_values();
     let Some(limits) = limits_of(keys, depth, bytes) else {
         return BAD_LIMITS;
     };
