@@ -154,6 +154,13 @@ fn limits(rt: HostRuntime) -> Result<(), Fail> {
             limits.depth() == depth && limits.bytes() == bytes && limits.keys() == Keys::Any,
             "at {depth} and {bytes}"
         );
+        let basic = limits.with_keys(Keys::IntegersAndTexts);
+        assert!(rt;
+            basic.depth() == depth
+                && basic.bytes() == bytes
+                && basic.keys() == Keys::IntegersAndTexts,
+            "keys at {depth} and {bytes}"
+        );
     }
     for (depth, bytes) in [(257, 0), (0, most + 1), (65535, u64::MAX)] {
         assert!(rt;
