@@ -8,11 +8,16 @@ verdict is then the complaint that ends first.
 from collections import namedtuple
 from itertools import accumulate
 
+from values import (
+    ARRAY, BYTES, BYTEWISE, LENGTH_FIRST, MAP, NEGATIVE, SIMPLE, TAG, TEXT, UNSIGNED, canonical, key_of, meaning,
+)  # fmt: skip
+
 REASONS = {
     1: "Truncated", 2: "TooLong", 3: "Reserved", 4: "NoIndefinite", 5: "Float", 6: "BadSimple", 7: "StrayBreak",
     8: "BadChunk", 9: "TooDeep", 10: "InvalidText", 11: "RepeatedKey", 12: "Trailing", 13: "CanonicalTooLong",
     14: "NotShortest", 15: "Indefinite", 16: "KeyOrder", 20: "KeyKind",
 }  # fmt: skip
+KEY_KIND = 20
 
 # How deep an item may be, how many bytes it may have, and which kinds of keys.
 Limits = namedtuple("Limits", "depth most keys")
@@ -30,9 +35,8 @@ Take = namedtuple("Take", "place count is_payload")
 Complaint = namedtuple("Complaint", "end rank place reason")
 ON_A_KIND, ON_A_PART, ON_A_KEY = range(3)
 
-BYTEWISE, LENGTH_FIRST = 0, 1
 ANY_KEYS, INTEGERS_AND_TEXTS = 0, 1
-UNSIGNED, NEGATIVE, BYTES, TEXT, ARRAY, MAP, TAG, SIMPLE = range(8)
+KEYS = ("any", "basic")
 KINDS = ["unsigned", "negative", "bytes", "text", "array", "map", "tag", "simple"]
 FEWEST = {0: 0, 1: 24, 2: 1 << 8, 4: 1 << 16, 8: 1 << 32}
 
@@ -42,74 +46,6 @@ class Break(Exception):
 
     def __init__(self, reason, place, read):
         self.refusal = Refusal(reason, place, read)
-
-
-def head(major, argument):
-    """The shortest head (RFC 8949, section 4.2.1)."""
-    if argument < 24:
-        return bytes([major << 5 | argument])
-    size = next(size for size in (1, 2, 4, 8) if argument < 1 << 8 * size)
-    return bytes([major << 5 | {1: 24, 2: 25, 4: 26, 8: 27}[size]]) + argument.to_bytes(size, "big")
-
-
-def key_of(order, encoded):
-    """What keys are sorted by."""
-    return (len(encoded), encoded) if order == LENGTH_FIRST else encoded
-
-
-def canonical(order, value):
-    """The canonical bytes of a value."""
-    kind = value[0]
-    if kind in (UNSIGNED, NEGATIVE, SIMPLE):
-        # a simple value of 32 or more takes a byte behind its first one
-        return head(kind, value[1])
-    if kind in (BYTES, TEXT):
-        return head(kind, len(value[1])) + value[1]
-    if kind == ARRAY:
-        return head(ARRAY, len(value[1])) + b"".join(canonical(order, it) for it in value[1])
-    if kind == TAG:
-        return head(TAG, value[1]) + canonical(order, value[2])
-    pairs = [(canonical(order, key), canonical(order, content)) for key, content in value[1]]
-    pairs.sort(key=lambda pair: key_of(order, pair[0]))
-    return head(MAP, len(pairs)) + b"".join(key + content for key, content in pairs)
-
-
-def meaning(value):
-    """Equal for two values exactly where they are the same: the pairs of a map in any order (section 5.6.1)."""
-    kind = value[0]
-    if kind == ARRAY:
-        return (kind, tuple(meaning(it) for it in value[1]))
-    if kind == TAG:
-        return (kind, value[1], meaning(value[2]))
-    if kind == MAP:
-        return (kind, frozenset((meaning(key), meaning(content)) for key, content in value[1]))
-    return value
-
-
-def diagnostic(value):
-    """The diagnostic text (section 8), on one line, in UTF-8."""
-    kind = value[0]
-    if kind == UNSIGNED:
-        return b"%d" % value[1]
-    if kind == NEGATIVE:
-        return b"%d" % (-1 - value[1])
-    if kind == BYTES:
-        return b"h'" + value[1].hex().encode() + b"'"
-    if kind == TEXT:
-        return b'"' + b"".join(letter(it) for it in value[1]) + b'"'
-    if kind == ARRAY:
-        return b"[" + b", ".join(diagnostic(it) for it in value[1]) + b"]"
-    if kind == MAP:
-        return b"{" + b", ".join(diagnostic(key) + b": " + diagnostic(it) for key, it in value[1]) + b"}"
-    if kind == TAG:
-        return b"%d(" % value[1] + diagnostic(value[2]) + b")"
-    return {20: b"false", 21: b"true", 22: b"null", 23: b"undefined"}.get(value[1], b"simple(%d)" % value[1])
-
-
-def letter(byte):
-    if byte in b'"\\':
-        return b"\\" + bytes([byte])
-    return b"\\u00%02x" % byte if byte < 0x20 or byte == 0x7F else bytes([byte])
 
 
 def valid_front(payload):
@@ -209,7 +145,7 @@ class Form:
             return None
         major = first >> 5
         if is_key and self.limits.keys == INTEGERS_AND_TEXTS and major not in (UNSIGNED, NEGATIVE, TEXT):
-            self.by_all(Complaint(place + 1, ON_A_KIND, place, 20))
+            self.by_all(Complaint(place + 1, ON_A_KIND, place, KEY_KIND))
         if major == SIMPLE:
             return self.simple(place, first)
         if first & 31 == 31:

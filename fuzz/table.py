@@ -5,7 +5,7 @@ import os
 import re
 from collections import namedtuple
 
-from reference import ANY_KEYS, INTEGERS_AND_TEXTS, Limits, Refusal
+from reference import ANY_KEYS, KEYS, Limits, Refusal
 
 ROOT = os.path.dirname(os.path.dirname(os.path.abspath(__file__)))
 TABLES = f"{ROOT}/crates/cbor_reader_tests/src/tests/*_table.rt"
@@ -84,7 +84,7 @@ def limits_of(column):
     return Limits(
         int(depth[1]) if depth else 256,
         int(most[1]) if most else 1 << 20,
-        {"basic": INTEGERS_AND_TEXTS}[keys[1]] if keys else ANY_KEYS,
+        KEYS.index(keys[1]) if keys else ANY_KEYS,
     )
 
 
