@@ -145,7 +145,7 @@ class Items:
         """An input, and the limits to read it within."""
         chance = self.chance
         keys = chance.choice([ANY_KEYS, INTEGERS_AND_TEXTS])
-        self.others = 0.2 if keys == ANY_KEYS else chance.choice([0, 0.3, 0.6])
+        self.others = 0.2 if keys == ANY_KEYS else chance.choice([0, 0.4, 0.8])
         found = self.tower() if chance.random() < 0.02 else self.item()
         for _ in range(chance.choice([0, 0, 0, 1, 1, 2])):
             found = self.changed(found)
