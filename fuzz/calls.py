@@ -45,7 +45,7 @@ class Calls:
 
     def read(self, wanted):
         """How many bytes come of those that are wanted: nothing is asked for past the limit."""
-        wanted = min(wanted, self.of.answers.most - self.taken)
+        wanted = min(wanted, self.of.answers.limits.most - self.taken)
         if wanted == 0:
             return 0
         self.asked.append(wanted)

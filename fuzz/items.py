@@ -1,6 +1,7 @@
 """Items to try: random values in random spellings, and bytes that were changed behind them."""
 
-from reference import ARRAY, BYTES, LENGTH_FIRST, MAP, NEGATIVE, SIMPLE, TAG, TEXT, UNSIGNED, canonical
+from reference import ANY_KEYS, INTEGERS_AND_TEXTS, Limits
+from values import ARRAY, BYTES, LENGTH_FIRST, MAP, NEGATIVE, SIMPLE, TAG, TEXT, UNSIGNED, canonical
 
 NUMBERS = [0, 1, 23, 24, 255, 256, 65535, 65536, (1 << 32) - 1, 1 << 32, (1 << 64) - 1]
 TEXTS = ["", "a", "b", "aa", "ü", "水", "\U00010151", '"\\', "\n\x7f", "key", "longer than eight bytes", "longer than eight bits"]
@@ -13,6 +14,8 @@ class Items:
 
     def __init__(self, chance):
         self.chance = chance
+        # how likely a key is of any kind, and not an integer or a text
+        self.others = 0.2
 
     # ---- values
 
@@ -35,7 +38,7 @@ class Items:
 
     def key(self, depth):
         chance = self.chance
-        if chance.random() < 0.2:
+        if chance.random() < self.others:
             return self.value(depth)
         if chance.random() < 0.5:
             return (UNSIGNED, chance.randrange(30))
@@ -141,9 +144,11 @@ class Items:
     def given(self):
         """An input, and the limits to read it within."""
         chance = self.chance
+        keys = chance.choice([ANY_KEYS, INTEGERS_AND_TEXTS])
+        self.others = 0.2 if keys == ANY_KEYS else chance.choice([0, 0.4, 0.8])
         found = self.tower() if chance.random() < 0.02 else self.item()
         for _ in range(chance.choice([0, 0, 0, 1, 1, 2])):
             found = self.changed(found)
         depth = chance.choice([256, 256, 256, chance.randrange(6)])
         most = chance.choice([1 << 20, 1 << 20, 1 << 20, chance.randrange(len(found) + 3)])
-        return found, depth, most
+        return found, Limits(depth, most, keys)

@@ -6,7 +6,7 @@
 A library between the program and the C library (counting.c), built here by `cc`, lists the requests and refuses
 one of them. Wanted is of `cborc`, whichever is refused: `out of memory` and status 3, with no more on standard
 output than the first bytes of what usually stands there, OUT as it was and no file beside it; or all as usual; on
-some documents by each command, and on the rows of the conformance table as `canon`, `check` and `compare` judge
+some documents by each command, and on the rows of the conformance tables as `canon`, `check` and `compare` judge
 them. Of the calls over readers and `read_view`, on the rows: one call answers Memory, at a place before the end of its usual
 answer, with as many bytes taken as it tells, and every other call answers as usual; the strict reader answers
 Memory again, and reads nothing behind it. And that a head asks for no memory by itself: behind a head of 2^64 - 1,
@@ -29,7 +29,7 @@ from collections import namedtuple
 from concurrent.futures import ThreadPoolExecutor
 
 from refused import refuse_calls
-from run import PARTS
+from run import PARTS, driver_line, words_of
 from table import rows
 
 # Valid items, and what else reaches each way to an end, in hex.
@@ -59,7 +59,7 @@ COMMANDS = [
     ["compare", "FILE", "FILE"],
     ["check", "--hex", "HEX"],
 ]
-# What judges an item, on the rows of the conformance table.
+# What judges an item, on the rows of the conformance tables.
 JUDGING = [["canon", "FILE", "OUT"], ["check", "FILE"], ["compare", "FILE", "FILE"]]
 BEFORE = b"what was there"
 # What more may be asked for than for a zero: so many bytes, and so many for each byte that came.
@@ -169,7 +169,7 @@ def documents_of(command):
 
 def rows_of(command):
     for row in rows():
-        yield Case(row.given, [*command, "--depth", str(row.depth), "--bytes", str(row.most)])
+        yield Case(row.given, [*command, *words_of(row.limits)])
 
 
 def promises():
@@ -285,7 +285,7 @@ def is_line(found, usual, length):
 def lines():
     """What the driver of the readers is given, a row a run."""
     for row in rows():
-        yield Case(row.given, [], f"{row.depth} {row.most} {row.given.hex()}\n".encode())
+        yield Case(row.given, [], driver_line(row.given, row.limits).encode())
 
 
 def judge_reader(case, given, usual):

@@ -8,11 +8,19 @@ verdict is then the complaint that ends first.
 from collections import namedtuple
 from itertools import accumulate
 
+from values import (
+    ARRAY, BYTES, BYTEWISE, LENGTH_FIRST, MAP, NEGATIVE, SIMPLE, TAG, TEXT, UNSIGNED, canonical, key_of, meaning,
+)  # fmt: skip
+
 REASONS = {
     1: "Truncated", 2: "TooLong", 3: "Reserved", 4: "NoIndefinite", 5: "Float", 6: "BadSimple", 7: "StrayBreak",
     8: "BadChunk", 9: "TooDeep", 10: "InvalidText", 11: "RepeatedKey", 12: "Trailing", 13: "CanonicalTooLong",
-    14: "NotShortest", 15: "Indefinite", 16: "KeyOrder",
+    14: "NotShortest", 15: "Indefinite", 16: "KeyOrder", 20: "KeyKind",
 }  # fmt: skip
+KEY_KIND = 20
+
+# How deep an item may be, how many bytes it may have, and which kinds of keys.
+Limits = namedtuple("Limits", "depth most keys")
 
 # A refusal, with the offset of what is wrong and the count of the bytes that were taken.
 Refusal = namedtuple("Refusal", "reason place read")
@@ -23,11 +31,12 @@ Event = namedtuple("Event", "place end name argument width")
 # So many bytes in a row, from this place on: the first byte of a head, its argument, or a payload.
 Take = namedtuple("Take", "place count is_payload")
 
-# A complaint of valid or deterministic encoding; at equal ends one on a key comes last.
-Complaint = namedtuple("Complaint", "end is_key place reason")
+# A complaint of valid or deterministic encoding: at equal ends one on a key's kind comes first, one on a whole key last.
+Complaint = namedtuple("Complaint", "end rank place reason")
+ON_A_KIND, ON_A_PART, ON_A_KEY = range(3)
 
-BYTEWISE, LENGTH_FIRST = 0, 1
-UNSIGNED, NEGATIVE, BYTES, TEXT, ARRAY, MAP, TAG, SIMPLE = range(8)
+ANY_KEYS, INTEGERS_AND_TEXTS = 0, 1
+KEYS = ("any", "basic")
 KINDS = ["unsigned", "negative", "bytes", "text", "array", "map", "tag", "simple"]
 FEWEST = {0: 0, 1: 24, 2: 1 << 8, 4: 1 << 16, 8: 1 << 32}
 
@@ -37,74 +46,6 @@ class Break(Exception):
 
     def __init__(self, reason, place, read):
         self.refusal = Refusal(reason, place, read)
-
-
-def head(major, argument):
-    """The shortest head (RFC 8949, section 4.2.1)."""
-    if argument < 24:
-        return bytes([major << 5 | argument])
-    size = next(size for size in (1, 2, 4, 8) if argument < 1 << 8 * size)
-    return bytes([major << 5 | {1: 24, 2: 25, 4: 26, 8: 27}[size]]) + argument.to_bytes(size, "big")
-
-
-def key_of(order, encoded):
-    """What keys are sorted by."""
-    return (len(encoded), encoded) if order == LENGTH_FIRST else encoded
-
-
-def canonical(order, value):
-    """The canonical bytes of a value."""
-    kind = value[0]
-    if kind in (UNSIGNED, NEGATIVE, SIMPLE):
-        # a simple value of 32 or more takes a byte behind its first one
-        return head(kind, value[1])
-    if kind in (BYTES, TEXT):
-        return head(kind, len(value[1])) + value[1]
-    if kind == ARRAY:
-        return head(ARRAY, len(value[1])) + b"".join(canonical(order, it) for it in value[1])
-    if kind == TAG:
-        return head(TAG, value[1]) + canonical(order, value[2])
-    pairs = [(canonical(order, key), canonical(order, content)) for key, content in value[1]]
-    pairs.sort(key=lambda pair: key_of(order, pair[0]))
-    return head(MAP, len(pairs)) + b"".join(key + content for key, content in pairs)
-
-
-def meaning(value):
-    """Equal for two values exactly where they are the same: the pairs of a map in any order (section 5.6.1)."""
-    kind = value[0]
-    if kind == ARRAY:
-        return (kind, tuple(meaning(it) for it in value[1]))
-    if kind == TAG:
-        return (kind, value[1], meaning(value[2]))
-    if kind == MAP:
-        return (kind, frozenset((meaning(key), meaning(content)) for key, content in value[1]))
-    return value
-
-
-def diagnostic(value):
-    """The diagnostic text (section 8), on one line, in UTF-8."""
-    kind = value[0]
-    if kind == UNSIGNED:
-        return b"%d" % value[1]
-    if kind == NEGATIVE:
-        return b"%d" % (-1 - value[1])
-    if kind == BYTES:
-        return b"h'" + value[1].hex().encode() + b"'"
-    if kind == TEXT:
-        return b'"' + b"".join(letter(it) for it in value[1]) + b'"'
-    if kind == ARRAY:
-        return b"[" + b", ".join(diagnostic(it) for it in value[1]) + b"]"
-    if kind == MAP:
-        return b"{" + b", ".join(diagnostic(key) + b": " + diagnostic(it) for key, it in value[1]) + b"}"
-    if kind == TAG:
-        return b"%d(" % value[1] + diagnostic(value[2]) + b")"
-    return {20: b"false", 21: b"true", 22: b"null", 23: b"undefined"}.get(value[1], b"simple(%d)" % value[1])
-
-
-def letter(byte):
-    if byte in b'"\\':
-        return b"\\" + bytes([byte])
-    return b"\\u00%02x" % byte if byte < 0x20 or byte == 0x7F else bytes([byte])
 
 
 def valid_front(payload):
@@ -122,9 +63,9 @@ class Form:
     `value` and `size` are the item's where it is well-formed within the limits, else `broken` says where not.
     """
 
-    def __init__(self, given, depth, most):
-        self.bytes, self.limit = given[:most], depth
-        self.is_cut = len(given) >= most
+    def __init__(self, given, limits):
+        self.bytes, self.limits = given[: limits.most], limits
+        self.is_cut = len(given) >= limits.most
         self.at, self.value, self.size, self.broken = 0, None, None, None
         self.events, self.plain, self.strict = [], [], {BYTEWISE: [], LENGTH_FIRST: []}
         self.takes = []
@@ -138,12 +79,15 @@ class Form:
         except Break as stop:
             self.broken = stop.refusal
 
-    def complain(self, end, is_key, place, reason, where):
-        where.append(Complaint(end, is_key, place, reason))
-
     def in_both(self, end, place, reason):
-        for order in (BYTEWISE, LENGTH_FIRST):
-            self.complain(end, False, place, reason, self.strict[order])
+        """A complaint by the strict rules, whatever the order."""
+        for complaints in self.strict.values():
+            complaints.append(Complaint(end, ON_A_PART, place, reason))
+
+    def by_all(self, complaint):
+        """A complaint by the plain rules and by the strict ones."""
+        for complaints in (self.plain, *self.strict.values()):
+            complaints.append(complaint)
 
     def take(self, count, is_payload=False):
         """So many bytes, or the end of the input or of the limit."""
@@ -188,11 +132,11 @@ class Form:
             raise Break(5, place, self.at)
         if first == 0xFF and not may_close:
             raise Break(7, place, self.at)
-        if major in (ARRAY, MAP, TAG) and levels >= self.limit:
+        if major in (ARRAY, MAP, TAG) and levels >= self.limits.depth:
             raise Break(9, place, self.at)
         return first
 
-    def item(self, levels, may_close=False):
+    def item(self, levels, may_close=False, is_key=False):
         """The value of the next item; None for a break."""
         place = self.at
         first = self.first(may_close, levels)
@@ -200,6 +144,8 @@ class Form:
             self.event(place, "end", "-", "-")
             return None
         major = first >> 5
+        if is_key and self.limits.keys == INTEGERS_AND_TEXTS and major not in (UNSIGNED, NEGATIVE, TEXT):
+            self.by_all(Complaint(place + 1, ON_A_KIND, place, KEY_KIND))
         if major == SIMPLE:
             return self.simple(place, first)
         if first & 31 == 31:
@@ -237,8 +183,7 @@ class Form:
         payload = self.take(count, True)
         front = valid_front(payload) if major == TEXT else count
         if front < count:
-            self.complain(self.at, False, start + front, 10, self.plain)
-            self.in_both(self.at, start + front, 10)
+            self.by_all(Complaint(self.at, ON_A_PART, start + front, 10))
         return payload
 
     def chunks(self, major):
@@ -273,11 +218,11 @@ class Form:
                 break
             spelled = self.bytes[place : self.at]
             if meaning(key) in meanings:
-                self.complain(self.at, True, place, 11, self.plain)
+                self.plain.append(Complaint(self.at, ON_A_KEY, place, 11))
             meanings.add(meaning(key))
             for order in (BYTEWISE, LENGTH_FIRST):
                 if last is not None and key_of(order, spelled) <= key_of(order, last):
-                    self.complain(self.at, True, place, 16, self.strict[order])
+                    self.strict[order].append(Complaint(self.at, ON_A_KEY, place, 16))
             last = spelled
             found.append((key, self.item(levels)))
         self.dropped(kept)
@@ -289,7 +234,7 @@ class Form:
         if not self.keys_around:
             self.keys.append(own)
         self.keys_around += 1
-        key = self.item(levels, may_close)
+        key = self.item(levels, may_close, is_key=True)
         self.keys_around -= 1
         if key is None:
             # the break of the map is no key
@@ -343,9 +288,9 @@ def listing(events):
 class Answers:
     """What each call has to answer on an input."""
 
-    def __init__(self, given, depth, most):
-        self.given, self.most = given, most
-        self.form = Form(given, depth, most)
+    def __init__(self, given, limits):
+        self.given, self.limits = given, limits
+        self.form = Form(given, limits)
         self.plain = self.form.verdict(self.form.plain)
         self.strict = {order: self.form.verdict(self.form.strict[order]) for order in (BYTEWISE, LENGTH_FIRST)}
         self.size = self.form.size
@@ -363,4 +308,4 @@ class Answers:
         if refused:
             return refused
         found = canonical(order, self.value)
-        return found if len(found) <= self.most else Refusal(13, self.size, self.size)
+        return found if len(found) <= self.limits.most else Refusal(13, self.size, self.size)

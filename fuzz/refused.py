@@ -11,6 +11,9 @@ import os
 import re
 import subprocess
 
+from reference import ANY_KEYS, Limits
+from run import driver_line
+
 # Valid items, some of them canonical bytes.
 DOCUMENTS = [
     "a2a2186400200000a1a1010000a10080",
@@ -35,8 +38,8 @@ class Driver:
         with open(counts, "w", encoding="utf-8"):
             pass
         env = {"LD_PRELOAD": self.library, "REFUSED_FROM": str(refused_from), "COUNTS": counts}
-        line = f"memory {idle} 64 65536 {digits}\n".encode()
-        ran = subprocess.run([self.program], env=env, input=line, capture_output=True)
+        line = f"memory {idle} " + driver_line(bytes.fromhex(digits), Limits(64, 65536, ANY_KEYS))
+        ran = subprocess.run([self.program], env=env, input=line.encode(), capture_output=True)
         with open(counts, encoding="utf-8") as file:
             first, *others = file.read().split()
         return ran.returncode, ran.stdout.decode().split(), (first, len(others))

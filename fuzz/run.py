@@ -6,111 +6,37 @@
 
 Each input goes through the calls that must agree on it: canonicalise, in both orders, and what it answers
 once more; check_canonical, check_valid, compare, diagnostic. With the program every tenth goes through show,
-events, and check and check --strict over a sequence; with the readers each goes through read_tree and then
-encode, read_strict, StrictReader call by call with what it asks of its reader, and Sequence, over readers that
-give 1, 2, 3 or 4096 bytes a read, and through read_view, its tree and then encode. First come the rows of the
-conformance table, whose answers were worked out by hand, and large maps out of order (large.py). The first
-disagreement is told with its input and the seed, and the status is 1. The time ends the run; what a seed tries is
-always the same.
+events, canon, compare, and check and check --strict over a sequence; with the readers each goes through read_tree
+and then encode, read_strict, StrictReader call by call with what it asks of its reader, and Sequence, over readers
+that give 1, 2, 3 or 4096 bytes a read, and through read_view, its tree and then encode. One half is read for keys
+of any kind, the other for integers and texts. First come the rows of the conformance tables, whose answers were
+worked out by hand, and large maps out of order (large.py). The first disagreement is told with its input and the
+seed, and the status is 1. The time ends the run; what a seed tries is always the same.
 """
 
 import argparse
-import ctypes
 import os
 import random
 import subprocess
 import sys
 import tempfile
 import time
+from collections import Counter
 
 from calls import Strictly
+from expected import Disagreement, expect
 from items import Items
 from large import large_maps
-from reference import BYTEWISE, LENGTH_FIRST, REASONS, Answers, Refusal, canonical, diagnostic, listing, meaning
+from library import DIFFERENT, OK, Library
+from reference import ANY_KEYS, INTEGERS_AND_TEXTS, KEY_KIND, KEYS, REASONS, Answers, Limits, listing
 from table import CALLS, rows
+from values import BYTEWISE, LENGTH_FIRST, canonical, diagnostic, meaning
 
-OK, REFUSED, TOO_SMALL, DIFFERENT = 0, 1, 2, 6
+# The limits where none are tried.
+USUAL = Limits(256, 1 << 20, ANY_KEYS)
 
 # How many bytes a read gives at most.
 PARTS = (1, 3, 4096)
-
-
-class Why(ctypes.Structure):
-    _fields_ = [("reason", ctypes.c_uint32), ("place", ctypes.c_uint64), ("read", ctypes.c_uint64)]
-
-    def refusal(self):
-        return Refusal(self.reason, self.place, self.read)
-
-
-class Disagreement(Exception):
-    pass
-
-
-def expect(call, wanted, found):
-    if wanted != found:
-        wanted, found = (it.hex() if isinstance(it, bytes) else it for it in (wanted, found))
-        raise Disagreement(f"{call}: wanted {wanted}, found {found}")
-
-
-class Library:
-    """The calls of the shared object, each with its answer in the reference's terms."""
-
-    def __init__(self, path):
-        self.calls = ctypes.CDLL(os.path.abspath(path))
-
-    def limits(self, depth, most):
-        return ctypes.c_uint32(depth), ctypes.c_uint64(most)
-
-    def writing(self, call, given, words, room):
-        why, needed = Why(), ctypes.c_size_t()
-        out = ctypes.create_string_buffer(b"\xaa" * room, room + 1)
-        status = call(given, ctypes.c_size_t(len(given)), *words, out, ctypes.c_size_t(room), ctypes.byref(needed), ctypes.byref(why))
-        if status == TOO_SMALL:
-            expect("a buffer that is too small", b"\xaa" * room, out.raw[:room])
-            return self.writing(call, given, words, needed.value)
-        if status == REFUSED:
-            expect("what was refused", (0, b"\xaa" * room), (needed.value, out.raw[:room]))
-            return why.refusal()
-        expect("status", OK, status)
-        return out.raw[: needed.value]
-
-    def canonicalise(self, given, order, depth, most, room):
-        return self.writing(self.calls.naltvigo_canonicalise_raw, given, (ctypes.c_uint32(order), *self.limits(depth, most)), room)
-
-    def diagnostic(self, given, depth, most, room):
-        return self.writing(self.calls.naltvigo_diagnostic_raw, given, self.limits(depth, most), room)
-
-    def judged(self, call, given, *words):
-        why = Why()
-        status = call(given, ctypes.c_size_t(len(given)), *words, ctypes.byref(why))
-        return why.refusal() if status == REFUSED else expect("status", OK, status)
-
-    def check_canonical(self, given, order, depth, most):
-        return self.judged(self.calls.naltvigo_check_canonical_raw, given, ctypes.c_uint32(order), *self.limits(depth, most))
-
-    def check_valid(self, given, depth, most):
-        return self.judged(self.calls.naltvigo_check_valid_raw, given, *self.limits(depth, most))
-
-    def next(self, call, given, *words):
-        why, taken = Why(), ctypes.c_uint64(9)
-        status = call(given, ctypes.c_size_t(len(given)), *words, ctypes.byref(taken), ctypes.byref(why))
-        if status == REFUSED:
-            expect("bytes taken of what was refused", 0, taken.value)
-            return why.refusal()
-        expect("status", OK, status)
-        return taken.value
-
-    def next_valid(self, given, depth, most):
-        return self.next(self.calls.naltvigo_next_valid_raw, given, *self.limits(depth, most))
-
-    def next_canonical(self, given, order, depth, most):
-        return self.next(self.calls.naltvigo_next_canonical_raw, given, ctypes.c_uint32(order), *self.limits(depth, most))
-
-    def compare(self, left, right, depth, most):
-        why, side = Why(), ctypes.c_uint32(9)
-        words = left, ctypes.c_size_t(len(left)), right, ctypes.c_size_t(len(right)), *self.limits(depth, most)
-        status = self.calls.naltvigo_compare_raw(*words, ctypes.byref(side), ctypes.byref(why))
-        return (["left", "right"][side.value], why.refusal()) if status == REFUSED else status
 
 
 class Program:
@@ -120,10 +46,11 @@ class Program:
         self.path, self.folder = os.path.abspath(path), folder
 
     def run(self, *words, **files):
+        """The status and both outputs; the words name the files."""
         for name, data in files.items():
             with open(os.path.join(self.folder, name), "wb") as file:
                 file.write(data)
-        ended = subprocess.run([self.path, *words, *files], cwd=self.folder, capture_output=True)
+        ended = subprocess.run([self.path, *words], cwd=self.folder, capture_output=True)
         return ended.returncode, ended.stdout, ended.stderr
 
 
@@ -133,24 +60,29 @@ class Readers:
     def __init__(self, path):
         self.path, self.waiting = os.path.abspath(path), []
 
-    def add(self, answers, depth, most):
-        self.waiting.append((answers, depth, most))
+    def add(self, answers):
+        self.waiting.append(answers)
         if len(self.waiting) == 500:
             self.flush()
 
     def flush(self):
-        lines = "".join(f"{depth} {most} {it.given.hex()}\n" for it, depth, most in self.waiting)
+        lines = "".join(driver_line(it.given, it.limits) for it in self.waiting)
         ended = subprocess.run([self.path], input=lines.encode(), capture_output=True, check=True)
-        for (answers, depth, most), found in zip(self.waiting, ended.stdout.decode().split("\n"), strict=False):
-            expect(f"readers of {answers.given.hex()}, depth {depth}, bytes {most}", read(answers, depth, most), found)
+        for answers, found in zip(self.waiting, ended.stdout.decode().split("\n"), strict=False):
+            expect(f"readers of {answers.given.hex()}, {answers.limits}", read(answers), found)
         self.waiting = []
+
+
+def driver_line(given, limits):
+    """What the driver of the readers is asked: see crates/answers."""
+    return f"{KEYS[limits.keys]} {limits.depth} {limits.most} {given.hex()}\n"
 
 
 def told(refusal):
     return "!%d,%d,%d" % refusal
 
 
-def read(answers, depth, most):
+def read(answers):
     """The line of the readers' answers: see crates/answers."""
     words = []
     for refused in (answers.plain, answers.strict[BYTEWISE], answers.strict[LENGTH_FIRST]):
@@ -162,8 +94,8 @@ def read(answers, depth, most):
     strictly = Strictly(answers)
     parts = [it for part in PARTS for it in words + [strictly.word(order, part) for order in (BYTEWISE, LENGTH_FIRST)]]
     items, rest = "", answers.given
-    while rest or most == 0:
-        it = Answers(rest, depth, most)
+    while rest or answers.limits.most == 0:
+        it = Answers(rest, answers.limits)
         items += told(it.plain) if it.plain else canonical(BYTEWISE, it.value).hex() + ","
         if it.plain:
             break
@@ -176,42 +108,40 @@ def line(refusal, before=""):
     return f"{before}refused {refusal.reason} {REASONS[refusal.reason]} at {refusal.place}\n".encode()
 
 
-def try_library(library, answers, depth, most, room):
-    given = answers.given
+def try_library(library, answers, room):
+    given, limits = answers.given, answers.limits
     for order in (BYTEWISE, LENGTH_FIRST):
         wanted = answers.canonicalised(order)
-        found = library.canonicalise(given, order, depth, most, room)
+        found = library.canonicalise(given, order, limits, room)
         expect(f"canonicalise, order {order}", wanted, found)
         strict = answers.whole(answers.strict[order])
-        expect(f"check_canonical, order {order}", strict, library.check_canonical(given, order, depth, most))
+        expect(f"check_canonical, order {order}", strict, library.check_canonical(given, order, limits))
         expect(f"canonical as it stands, order {order}", strict is None, found == given)
         first = answers.strict[order] or answers.size
-        expect(f"next_canonical, order {order}", first, library.next_canonical(given, order, depth, most))
+        expect(f"next_canonical, order {order}", first, library.next_canonical(given, order, limits))
         if isinstance(found, bytes):
-            expect(f"canonicalise once more, order {order}", found, library.canonicalise(found, order, depth, most, len(found)))
+            expect(f"canonicalise once more, order {order}", found, library.canonicalise(found, order, limits, len(found)))
     plain = answers.whole(answers.plain)
-    expect("check_valid", plain, library.check_valid(given, depth, most))
-    expect("next_valid", answers.plain or answers.size, library.next_valid(given, depth, most))
-    expect("diagnostic", plain or diagnostic(answers.value), library.diagnostic(given, depth, most, room))
+    expect("check_valid", plain, library.check_valid(given, limits))
+    expect("next_valid", answers.plain or answers.size, library.next_valid(given, limits))
+    expect("diagnostic", plain or diagnostic(answers.value), library.diagnostic(given, limits, room))
 
 
-def try_pair(library, left, right, depth, most):
-    wanted = None
+def compared(left, right):
+    """OK or DIFFERENT, or the side that is refused and its refusal."""
     for side, answers in (("left", left), ("right", right)):
         refused = answers.whole(answers.plain)
         if refused:
-            wanted = wanted or (side, refused)
-    if wanted is None:
-        wanted = OK if meaning(left.value) == meaning(right.value) else DIFFERENT
-    expect("compare", wanted, library.compare(left.given, right.given, depth, most))
+            return side, refused
+    return OK if meaning(left.value) == meaning(right.value) else DIFFERENT
 
 
-def sequence(inputs, depth, most, order=None):
+def sequence(inputs, limits, order=None):
     """What `check --seq` prints of the inputs behind one another; strict, where there is an order."""
     rest, count = b"".join(inputs), 0
-    while rest or most == 0:
+    while rest or limits.most == 0:
         count += 1
-        answers = Answers(rest, depth, most)
+        answers = Answers(rest, limits)
         refused = answers.plain if order is None else answers.strict[order]
         if refused:
             return 1, b"", line(refused, f"item {count} ")
@@ -219,20 +149,46 @@ def sequence(inputs, depth, most, order=None):
     return 0, b"accepted %d items\n" % count, b""
 
 
-def try_program(program, answers, others, depth, most):
-    given = answers.given
-    words = "--depth", str(depth), "--bytes", str(most)
+def words_of(limits):
+    return "--depth", str(limits.depth), "--bytes", str(limits.most), "--keys", KEYS[limits.keys]
+
+
+def try_program(program, answers, others):
+    given, words = answers.given, words_of(answers.limits)
     plain = answers.whole(answers.plain)
     shown = (1, b"", line(plain)) if plain else (0, diagnostic(answers.value) + b"\n", b"")
-    expect("show", shown, program.run("show", *words, given=given))
+    expect("show", shown, program.run("show", *words, "given", given=given))
     form = answers.whole(answers.form.broken)
     listed = (1 if form else 0, listing(answers.form.events), line(form) if form else b"")
-    expect("events", listed, program.run("events", *words, given=given))
+    expect("events", listed, program.run("events", *words, "given", given=given))
     inputs = [it for it in others if it] + [given]
-    expect("check --seq", sequence(inputs, depth, most), program.run("check", "--seq", *words, given=b"".join(inputs)))
+    checked = program.run("check", "--seq", *words, "given", given=b"".join(inputs))
+    expect("check --seq", sequence(inputs, answers.limits), checked)
     for order, name in ((BYTEWISE, "bytewise"), (LENGTH_FIRST, "length")):
-        wanted = sequence(inputs, depth, most, order)
-        expect(f"check --strict --seq --order {name}", wanted, program.run("check", "--strict", "--seq", "--order", name, *words, given=b"".join(inputs)))
+        wanted = sequence(inputs, answers.limits, order)
+        checked = program.run("check", "--strict", "--seq", "--order", name, *words, "given", given=b"".join(inputs))
+        expect(f"check --strict --seq --order {name}", wanted, checked)
+        found = answers.canonicalised(order)
+        wanted = (0, found, b"") if isinstance(found, bytes) else (1, b"", line(found))
+        expect(f"canon --order {name}", wanted, program.run("canon", "--order", name, *words, "given", "-", given=given))
+
+
+def try_compare(program, left, right):
+    wanted = compared(left, right)
+    if wanted == OK:
+        wanted = 0, b"same\n", b""
+    elif wanted == DIFFERENT:
+        wanted = 1, b"different\n", b""
+    else:
+        wanted = 1, b"", line(wanted[1], f"{wanted[0]} ")
+    found = program.run("compare", *words_of(left.limits), "left", "right", left=left.given, right=right.given)
+    expect("compare of the program", wanted, found)
+
+
+def verdict_of(answers):
+    if answers.plain is None:
+        return "accepted"
+    return "kind" if answers.plain.reason == KEY_KIND else "other"
 
 
 class Tries:
@@ -242,60 +198,74 @@ class Tries:
         self.library, self.program, self.readers = library, program, readers
         self.chance = random.Random(seed)
         self.items = Items(self.chance)
-        self.last = Answers(b"\x00", 256, 1 << 20)
-        self.count = self.accepted = 0
+        self.last = Answers(b"\x00", USUAL)
+        self.count = 0
+        # how many inputs were of each verdict, by the kinds of keys
+        self.verdicts = Counter()
         self.tried = None
+
+    def answers(self, given, limits):
+        """What the definitions call for; a disagreement from now on is one of this input."""
+        self.tried = Answers(given, limits)
+        return self.tried
 
     def table(self):
         """The rows, on which the definitions of reference.py are tried too."""
         for row in rows():
-            self.tried = row.given, row.depth, row.most
-            answers = Answers(*self.tried)
+            answers = self.answers(row.given, row.limits)
             for order in (BYTEWISE, LENGTH_FIRST):
                 expect("the row's canonical bytes", row.canonical[order], answers.canonicalised(order))
                 expect("the row by the strict rules", row.strict[order], answers.strict[order] or answers.size)
-            try_library(self.library, answers, row.depth, row.most, len(row.given))
+            try_library(self.library, answers, len(row.given))
             if self.readers:
-                self.readers.add(answers, row.depth, row.most)
+                self.readers.add(answers)
         for given, part, word in CALLS:
-            self.tried = given, 256, 1 << 20
-            answers = Answers(*self.tried)
+            answers = self.answers(given, USUAL)
             expect("the calls by hand", word, Strictly(answers).word(BYTEWISE, part))
             if self.readers:
-                self.readers.add(answers, *self.tried[1:])
+                self.readers.add(answers)
         if self.readers:
             self.readers.flush()
 
     def large(self):
         for given in large_maps():
-            self.tried = given, 256, 1 << 20
-            try_library(self.library, Answers(*self.tried), 256, 1 << 20, len(given))
+            try_library(self.library, self.answers(given, USUAL), len(given))
 
     def go_on(self, ends):
         while time.monotonic() < ends:
-            self.tried = given, depth, most = self.items.given()
             self.count += 1
-            answers = Answers(given, depth, most)
-            self.accepted += answers.plain is None
-            self.one(answers, depth, most)
+            answers = self.answers(*self.items.given())
+            self.verdicts[answers.limits.keys, verdict_of(answers)] += 1
+            self.one(answers)
         if self.readers:
             self.readers.flush()
 
-    def one(self, answers, depth, most):
+    def one(self, answers):
         chance, items = self.chance, self.items
         room = chance.choice([0, 1, len(answers.given), 3 * len(answers.given) + 16])
-        try_library(self.library, answers, depth, most, room)
+        is_tenth = self.program and self.count % 10 == 0
+        try_library(self.library, answers, room)
         if chance.random() < 0.5:
             if answers.value:
-                self.last = Answers(items.spell(items.like(answers.value), 0.4), depth, most)
-            try_pair(self.library, answers, self.last, depth, most)
+                self.last = Answers(items.spell(items.like(answers.value), 0.4), answers.limits)
+            found = self.library.compare(answers.given, self.last.given, answers.limits)
+            expect("compare", compared(answers, self.last), found)
+            if is_tenth:
+                try_compare(self.program, answers, self.last)
         others = [items.item() for _ in range(chance.randrange(3))]
-        if self.program and self.count % 10 == 0:
-            try_program(self.program, answers, others, depth, most)
+        if is_tenth:
+            try_program(self.program, answers, others)
         if self.readers:
             if others and chance.random() < 0.3:
-                answers = Answers(b"".join(others) + answers.given, depth, most)
-            self.readers.add(answers, depth, most)
+                answers = Answers(b"".join(others) + answers.given, answers.limits)
+            self.readers.add(answers)
+
+    def hardly_tried(self):
+        """The kinds of keys and verdicts that came less than once in twenty inputs of these kinds."""
+        for keys in (ANY_KEYS, INTEGERS_AND_TEXTS):
+            names = ("accepted", "other") if keys == ANY_KEYS else ("accepted", "kind", "other")
+            counts = {name: self.verdicts[keys, name] for name in names}
+            yield from (f"{KEYS[keys]} {name}" for name, count in counts.items() if count * 20 < sum(counts.values()))
 
 
 def main():
@@ -316,12 +286,13 @@ def main():
             tries.large()
             tries.go_on(time.monotonic() + given.seconds)
         except Disagreement as it:
-            tried, depth, most = tries.tried
-            sys.exit(f"fuzz: seed {given.seed}, input {tries.count}: {tried.hex() or 'empty'}, depth {depth}, bytes {most}\nfuzz: {it}")
-    count, accepted = tries.count, tries.accepted
-    if accepted < count // 10 or accepted > count * 9 // 10:
-        sys.exit(f"fuzz: {accepted} of {count} inputs were accepted, so one of the two was hardly tried")
-    print(f"fuzz: {count} inputs, {accepted} of them accepted, and every call answered as it has to")
+            tried = tries.tried
+            sys.exit(f"fuzz: seed {given.seed}, input {tries.count}: {tried.given.hex() or 'empty'}, {tried.limits}\nfuzz: {it}")
+    hardly = ", ".join(tries.hardly_tried())
+    if hardly:
+        sys.exit(f"fuzz: of {tries.count} inputs hardly any were of these verdicts: {hardly}")
+    told = ", ".join(f"{KEYS[keys]} {name} {count}" for (keys, name), count in sorted(tries.verdicts.items()))
+    print(f"fuzz: {tries.count} inputs (by kinds of keys: {told}), and every call answered as it has to")
 
 
 if __name__ == "__main__":

@@ -1,17 +1,17 @@
-"""The rows of the conformance table of cbor_reader: inputs with their limits, and what was worked out by hand."""
+"""The rows of the conformance tables of cbor_reader: inputs with their limits, and what was worked out by hand."""
 
+import glob
 import os
 import re
 from collections import namedtuple
 
-from reference import Refusal
+from reference import ANY_KEYS, KEYS, Limits, Refusal
 
 ROOT = os.path.dirname(os.path.dirname(os.path.abspath(__file__)))
-TABLE = f"{ROOT}/crates/cbor_reader_tests/src/tests/conformance_table.rt"
+TABLES = f"{ROOT}/crates/cbor_reader_tests/src/tests/*_table.rt"
 
 # By the two orders: the canonical bytes or a refusal, and how many bytes the strict reader takes or a refusal.
-Row = namedtuple("Row", "given depth most canonical strict")
-
+Row = namedtuple("Row", "given limits canonical strict")
 
 # Inputs, in bytewise order: what a reader that gives at most so many bytes a read is asked, and what is told call by
 # call. Worked out by hand, in the words of crates/answers.
@@ -78,10 +78,19 @@ def refusal(text):
     return Refusal(*map(int, found.groups())) if found else None
 
 
+def limits_of(column):
+    """The limits of a column as `depth 1 bytes 4 keys basic`."""
+    depth, most, keys = (re.search(rf"{name} (\w+)", column) for name in ("depth", "bytes", "keys"))
+    return Limits(
+        int(depth[1]) if depth else 256,
+        int(most[1]) if most else 1 << 20,
+        KEYS.index(keys[1]) if keys else ANY_KEYS,
+    )
+
+
 def row_of(line):
     given, limits, becomes, strict = (it.strip() for it in line.split("|")[:4])
     given = bytes_of(given)
-    depth, most = (re.search(rf"{name} (\d+)", limits) for name in ("depth", "bytes"))
 
     def canonical(text):
         return refusal(text) or (given if text == "same" else bytes_of(text))
@@ -89,16 +98,12 @@ def row_of(line):
     def taken(text):
         return refusal(text) or (len(given) if text == "same" else int(text.removeprefix("taken ")))
 
-    return Row(
-        given,
-        int(depth[1]) if depth else 256,
-        int(most[1]) if most else 1 << 20,
-        by_order(becomes, canonical),
-        by_order(strict or becomes, taken),
-    )
+    return Row(given, limits_of(limits), by_order(becomes, canonical), by_order(strict or becomes, taken))
 
 
 def rows():
-    with open(TABLE, encoding="utf-8") as file:
-        lines = [a or b for a, b in re.findall(r'(?m)^    (?:r#"(.*)"#|"(.*)"),$', file.read())]
+    lines = []
+    for path in sorted(glob.glob(TABLES)):
+        with open(path, encoding="utf-8") as file:
+            lines += [a or b for a, b in re.findall(r'(?m)^    (?:r#"(.*)"#|"(.*)"),$', file.read())]
     return [row_of(line) for line in lines if line.count("|") >= 4]

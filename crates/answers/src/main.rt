@@ -1,7 +1,8 @@
 //! What the calls over readers answer, for the fuzzer: a line for each line of standard input.
 //!
-//! An input line is a depth limit, a byte limit and the bytes in hex digits. The answers stand in a
-//! fixed order with spaces between: for readers that give at most 1, 3 and 4096 bytes a read, what
+//! An input line is the kinds of keys, a depth limit, a byte limit and the bytes in hex digits, as
+//! `basic 256 1048576 a18000`; the kinds are `any` or `basic`, integers and texts. The answers stand
+//! in a fixed order with spaces between: for readers that give at most 1, 3 and 4096 bytes a read, what
 //! `read_tree` and `read_strict` answer and the canonical bytes of the tree, and what `StrictReader`
 //! answers call by call; then what `read_view` answers and the canonical bytes of its tree, and what
 //! a `Sequence` gives. A refusal is `!` and its reason, place and `read`; behind the last colon stand
@@ -25,7 +26,7 @@ use crate::memory::answer_memory;
 use crate::parts::Parts;
 use crate::writing::{put_hex, put_refusal};
 use bumpalo::Bump;
-use cbor_head::{Limits, Refusal};
+use cbor_head::{Keys, Limits, Refusal};
 use cbor_item::encode;
 use cbor_reader::{KeyOrder, Sequence, Tree, read_strict, read_tree, read_view};
 use std::alloc::Global;
@@ -63,27 +64,15 @@ fn malformed() -> io::Error {
 }
 
 fn answer_line<W: Write>(alloc: Global, line: &str, out: &mut W) -> io::Result<()> {
-    let mut words = line.split(' ');
-    let idle = match line.strip_prefix("memory ") {
-        Some(rest) => {
-            words = rest.split(' ');
-            words.next().and_then(|word| word.parse::<u32>().ok())
-        }
-        None => None,
-    };
-    let depth = words.next().and_then(|word| word.parse::<u16>().ok());
-    let most = words.next().and_then(|word| word.parse::<u64>().ok());
-    let limits = match (depth, most) {
-        (Some(depth), Some(most)) => Limits::new(depth, most).ok_or_else(malformed)?,
-        _ => return Err(malformed()),
-    };
-    let bytes = match words.next() {
-        Some(digits) => hex::decode(alloc, digits).map_err(|_| malformed())?,
-        None => return Err(malformed()),
-    };
-    if let Some(idle) = idle {
+    if let Some(rest) = line.strip_prefix("memory ") {
+        let (idle, rest) = rest.split_once(' ').ok_or_else(malformed)?;
+        let idle = idle.parse::<u32>().map_err(|_| malformed())?;
+        let (limits, digits) = limits_of(rest).ok_or_else(malformed)?;
+        let bytes = hex::decode(alloc, digits).map_err(|_| malformed())?;
         return answer_memory(alloc, &bytes, limits, idle, out);
     }
+    let (limits, digits) = limits_of(line).ok_or_else(malformed)?;
+    let bytes = hex::decode(alloc, digits).map_err(|_| malformed())?;
     for part in PARTS {
         answer_tree(alloc, &bytes, part, limits, out)?;
         answer_strict(alloc, &bytes, part, limits, out)?;
@@ -95,6 +84,20 @@ fn answer_line<W: Write>(alloc: Global, line: &str, out: &mut W) -> io::Result<(
     answer_view(alloc, &bytes, limits, out)?;
     answer_sequence(alloc, &bytes, limits, out)?;
     writeln!(out)
+}
+
+// The limits that a line begins with, and the digits behind them.
+fn limits_of(line: &str) -> Option<(Limits, &str)> {
+    let (keys, rest) = line.split_once(' ')?;
+    let (depth, rest) = rest.split_once(' ')?;
+    let (most, digits) = rest.split_once(' ')?;
+    let keys = match keys {
+        "any" => Keys::Any,
+        "basic" => Keys::IntegersAndTexts,
+        _ => return None,
+    };
+    let limits = Limits::new(depth.parse::<u16>().ok()?, most.parse::<u64>().ok()?)?;
+    Some((limits.with_keys(keys), digits))
 }
 
 // The count and the canonical bytes in both orders.

@@ -1,7 +1,7 @@
 //! What a row of the conformance table says, and a reader of its input.
 
 use super::{BadHex, bytes_of};
-use cbor_head::{Limits, Refusal};
+use cbor_head::{Keys, Limits, Refusal};
 use cbor_reader::KeyOrder;
 use std::alloc::{AllocError, Global};
 use std::io;
@@ -36,14 +36,20 @@ pub(super) fn by_order(column: &str, order: KeyOrder) -> &str {
     }
 }
 
-// The limits of a column as `depth 1 bytes 4`.
+// The limits of a column as `depth 1 bytes 4 keys basic`.
 pub(super) fn limits_of(column: &str) -> Option<Limits> {
-    if !column.is_empty() && !column.starts_with("depth ") && !column.starts_with("bytes ") {
+    let is_limit = |word| column.starts_with(word);
+    if !column.is_empty() && !["depth ", "bytes ", "keys "].into_iter().any(is_limit) {
         return None;
     }
     let depth = number_behind(column, "depth ", 256)?;
     let bytes = number_behind(column, "bytes ", 1048576)?;
-    Limits::new(u16::try_from(depth).ok()?, bytes)
+    let limits = Limits::new(u16::try_from(depth).ok()?, bytes)?;
+    match column.split_once("keys ") {
+        Some((_, kinds)) if kinds == "basic" => Some(limits.with_keys(Keys::IntegersAndTexts)),
+        Some(_) => None,
+        None => Some(limits),
+    }
 }
 
 // The number behind a word, or another one where the word isn't there.

@@ -6,7 +6,7 @@ use super::conformance_rows::{
 };
 use super::conformance_table::{PARTS, rows};
 use cbor_head::{Limits, Refusal};
-use cbor_reader::{KeyOrder, StrictReader, read_strict};
+use cbor_reader::{KeyOrder, StrictReader, check_canonical, read_strict};
 use std::alloc::{AllocError, Global};
 use std::test::Fail;
 
@@ -23,6 +23,13 @@ fn reads_strictly(rt: HostRuntime) -> Result<(), Fail> {
             let input = bytes_of(rt.alloc(), hex)?;
             for &order in &ORDERS {
                 let wanted = strict_text(rt.alloc(), &input, plain, strict, order)?;
+                let answer = check_canonical(&input, limits, order);
+                let taken = match answer {
+                    Ok(count) => count,
+                    Err(refusal) => refusal.read,
+                };
+                let is_right = is_strict_right(rt.alloc(), wanted.as_str(), answer, taken)?;
+                assert!(rt; is_right, "{line}");
                 for way in 0..=input.len() {
                     let mut reader = Cut::in_way(&input, way);
                     let answer = read_strict(rt.alloc(), &mut reader, limits, order);

@@ -3,7 +3,8 @@
 //! One row a line, with five columns between bars:
 //!
 //! 1. The input in hex digits. `256*c1` stands for 256 times `c1`.
-//! 2. The limits: `depth 1`, `bytes 4` or both. Without them the depth is 256 and the bytes 1048576.
+//! 2. The limits: `depth 1`, `bytes 4`, `keys basic`, or more of them in this order. Without them the
+//!    depth is 256, the bytes 1048576, and keys are of any kind; `basic` is `IntegersAndTexts`.
 //! 3. What the input becomes in canonical bytes (RFC 8949, section 4.2): `same`, or the bytes in
 //!    hex; with a slash, first in the bytewise order of keys and then in the length-first one. Or
 //!    the refusal: the reason's number and name, the place, and how many bytes are read.
@@ -12,10 +13,13 @@
 //! 5. The item in diagnostic notation (section 8), or the reason in words.
 //!
 //! The bytes of the first rows are those of the examples of appendix A without floating-point
-//! numbers. Canonical bytes and refusals were worked out by hand from the definitions.
+//! numbers. Canonical bytes and refusals were worked out by hand from the definitions. Rows of kinds
+//! of keys stand in `keys_table.rt`.
+
+use super::keys_table::kinds_of_keys;
 
 /// How many parts the rows come in.
-pub(crate) const PARTS: usize = 6;
+pub(crate) const PARTS: usize = 7;
 
 /// The rows of a part: what each call answers of an input.
 pub(crate) fn rows(part: usize) -> &'static [&'static str] {
@@ -25,7 +29,8 @@ pub(crate) fn rows(part: usize) -> &'static [&'static str] {
         2 => strings_and_maps(),
         3 => cut_short(),
         4 => form(),
-        _ => depth_and_validity(),
+        5 => depth_and_validity(),
+        _ => kinds_of_keys(),
     }
 }
 

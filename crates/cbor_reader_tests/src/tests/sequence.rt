@@ -1,7 +1,7 @@
 //! Sequences, over slices, over readers that give one byte a read, and over one that fails.
 
 use super::{Parts, limits};
-use cbor_head::{Reason, Refusal};
+use cbor_head::{Keys, Reason, Refusal};
 use cbor_item::encode;
 use cbor_reader::{KeyOrder, Sequence, SequenceItems, Tree};
 use std::alloc::{AllocError, Global};
@@ -207,6 +207,25 @@ fn mixes_calls(rt: HostRuntime) -> Result<(), Fail> {
         let wanted = Some(Err(refusal(Reason::KeyOrder, 4, 5)));
         assert!(rt; sequence.next_strict(KeyOrder::LengthFirst) == wanted);
         assert!(rt; sequence.next().is_none());
+    }
+    Ok(())
+}
+
+// 0, and {[]: 0}, whose key is to be an integer or a text.
+#[test]
+fn judges_the_keys_of_an_item(rt: HostRuntime) -> Result<(), Fail> {
+    let basic = limits(&rt, 256, 1048576).with_keys(Keys::IntegersAndTexts);
+    let wanted = refusal(Reason::KeyKind, 1, 2);
+    for part in [usize::MAX, 1] {
+        let rest = b"\x00\xa1\x80\x00";
+        let mut sequence = Sequence::new(rt.alloc(), Parts { rest, part }, basic);
+        assert!(rt; sequence.next_strict(KeyOrder::Bytewise) == Some(Ok(1)));
+        assert!(rt; refused(sequence.next()) == Some(wanted));
+        assert!(rt; sequence.next().is_none());
+        let mut sequence = Sequence::new(rt.alloc(), Parts { rest, part }, basic);
+        assert!(rt; is_tree(rt.alloc(), sequence.next(), b"\x00")?);
+        assert!(rt; sequence.next_strict(KeyOrder::Bytewise) == Some(Err(wanted)));
+        assert!(rt; sequence.next_strict(KeyOrder::Bytewise) == None);
     }
     Ok(())
 }

@@ -3,7 +3,7 @@
 
 use super::limits;
 use cbor_automaton::{Event, EventKind};
-use cbor_head::{Limits, Width};
+use cbor_head::{Keys, Limits, Reason, Refusal, Width};
 use cbor_strict::{KeyOrder, StrictReader};
 use std::alloc::{AllocError, Global};
 use std::test::Fail;
@@ -101,6 +101,28 @@ fn tells_a_piece_and_the_end(rt: HostRuntime) {
     assert!(rt; reader.next() == Ok(None));
     assert!(rt; reader.next() == Ok(None));
     assert!(rt; reader.taken() == 3);
+}
+
+// {simple(32): 0}, {[]: 0} and {h'07': 0}: the map alone is told, and one byte of the key is read.
+#[test]
+fn tells_nothing_of_a_key_of_another_kind(rt: HostRuntime) {
+    let basic = limits(&rt, 256, 1048576).with_keys(Keys::IntegersAndTexts);
+    let map = Event {
+        place: 0,
+        width: Width::Direct,
+        kind: EventKind::Map(Some(1)),
+    };
+    let refusal = Refusal::new(Reason::KeyKind, 1, 2);
+    let inputs: [&[u8]; 3] = [b"\xa1\xf8\x20\x00", b"\xa1\x80\x00", b"\xa1\x41\x07\x00"];
+    for input in inputs {
+        let mut rest = input;
+        let mut reader = StrictReader::new(rt.alloc(), &mut rest, basic, KeyOrder::Bytewise);
+        assert!(rt; reader.next() == Ok(Some(map)));
+        assert!(rt; reader.next() == Err(refusal));
+        assert!(rt; reader.next() == Err(refusal));
+        assert!(rt; reader.taken() == 2 && reader.piece().is_empty());
+        assert!(rt; rest.len() + 2 == input.len());
+    }
 }
 
 // 256 maps, each the key of the one before, around 0.

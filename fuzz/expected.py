@@ -1,0 +1,11 @@
+"""What ends a run: an answer that is not the wanted one."""
+
+
+class Disagreement(Exception):
+    pass
+
+
+def expect(call, wanted, found):
+    if wanted != found:
+        wanted, found = (it.hex() if isinstance(it, bytes) else it for it in (wanted, found))
+        raise Disagreement(f"{call}: wanted {wanted}, found {found}")

@@ -1,0 +1,78 @@
+"""The calls of the library for C, each with its answer in the reference's terms."""
+
+import ctypes
+import os
+
+from expected import expect
+from reference import Refusal
+
+OK, REFUSED, TOO_SMALL, DIFFERENT = 0, 1, 2, 6
+
+
+class Why(ctypes.Structure):
+    _fields_ = [("reason", ctypes.c_uint32), ("place", ctypes.c_uint64), ("read", ctypes.c_uint64)]
+
+    def refusal(self):
+        return Refusal(self.reason, self.place, self.read)
+
+
+class Library:
+    """The calls of the shared object."""
+
+    def __init__(self, path):
+        self.calls = ctypes.CDLL(os.path.abspath(path))
+
+    def words(self, limits):
+        """The kinds of keys, the depth and the bytes, as each call has them in a row."""
+        return ctypes.c_uint32(limits.keys), ctypes.c_uint32(limits.depth), ctypes.c_uint64(limits.most)
+
+    def writing(self, call, given, words, room):
+        why, needed = Why(), ctypes.c_size_t()
+        out = ctypes.create_string_buffer(b"\xaa" * room, room + 1)
+        status = call(given, ctypes.c_size_t(len(given)), *words, out, ctypes.c_size_t(room), ctypes.byref(needed), ctypes.byref(why))
+        if status == TOO_SMALL:
+            expect("a buffer that is too small", b"\xaa" * room, out.raw[:room])
+            return self.writing(call, given, words, needed.value)
+        if status == REFUSED:
+            expect("what was refused", (0, b"\xaa" * room), (needed.value, out.raw[:room]))
+            return why.refusal()
+        expect("status", OK, status)
+        return out.raw[: needed.value]
+
+    def canonicalise(self, given, order, limits, room):
+        return self.writing(self.calls.naltvigo_canonicalise_raw, given, (ctypes.c_uint32(order), *self.words(limits)), room)
+
+    def diagnostic(self, given, limits, room):
+        return self.writing(self.calls.naltvigo_diagnostic_raw, given, self.words(limits), room)
+
+    def judged(self, call, given, *words):
+        why = Why()
+        status = call(given, ctypes.c_size_t(len(given)), *words, ctypes.byref(why))
+        return why.refusal() if status == REFUSED else expect("status", OK, status)
+
+    def check_canonical(self, given, order, limits):
+        return self.judged(self.calls.naltvigo_check_canonical_raw, given, ctypes.c_uint32(order), *self.words(limits))
+
+    def check_valid(self, given, limits):
+        return self.judged(self.calls.naltvigo_check_valid_raw, given, *self.words(limits))
+
+    def next(self, call, given, *words):
+        why, taken = Why(), ctypes.c_uint64(9)
+        status = call(given, ctypes.c_size_t(len(given)), *words, ctypes.byref(taken), ctypes.byref(why))
+        if status == REFUSED:
+            expect("bytes taken of what was refused", 0, taken.value)
+            return why.refusal()
+        expect("status", OK, status)
+        return taken.value
+
+    def next_valid(self, given, limits):
+        return self.next(self.calls.naltvigo_next_valid_raw, given, *self.words(limits))
+
+    def next_canonical(self, given, order, limits):
+        return self.next(self.calls.naltvigo_next_canonical_raw, given, ctypes.c_uint32(order), *self.words(limits))
+
+    def compare(self, left, right, limits):
+        why, side = Why(), ctypes.c_uint32(9)
+        words = left, ctypes.c_size_t(len(left)), right, ctypes.c_size_t(len(right)), *self.words(limits)
+        status = self.calls.naltvigo_compare_raw(*words, ctypes.byref(side), ctypes.byref(why))
+        return (["left", "right"][side.value], why.refusal()) if status == REFUSED else status
