@@ -106,7 +106,7 @@ enum {
 /* The kinds of keys that maps may have, at every depth. Another one is refused at its first byte. */
 enum {
     NALTVIGO_ANY_KEYS = 0,          /* every item (RFC 8949, section 3.1) */
-    NALTVIGO_INTEGERS_AND_TEXTS = 1 /* integers and texts, be a text in one piece or in chunks */
+    NALTVIGO_INTEGERS_AND_TEXTS = 1 /* integers, and texts in one piece or in chunks */
 };
 
 /* The greatest limits. */

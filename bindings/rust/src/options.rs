@@ -18,7 +18,7 @@ pub enum Keys {
     /// Every item (RFC 8949, section 3.1).
     #[default]
     Any = 0,
-    /// Integers and texts, be a text in one piece or in chunks.
+    /// Integers, and texts in one piece or in chunks.
     IntegersAndTexts = 1,
 }
 

@@ -14,7 +14,7 @@ use Rattle.cbor_automaton.specs.declared.event.EventKind.TheVariants.{Simple, By
 use Rattle.cbor_standing.specs.Machine.{IsComplete}
 use Rattle.cbor_standing.specs.NextEvent.{Call, IsNext, IsNextEvent, IsEnd}
 
--- not the head of an item that is neither an integer nor a text
+-- what a key that is an integer or a text may begin with, or a break
 abbrev pub IsBasicKind : EventKind → Type 0
 IsBasicKind (Simple n) = ⊥
 IsBasicKind (Bytes n) = ⊥

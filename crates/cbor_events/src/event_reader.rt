@@ -31,7 +31,7 @@ impl<R> Model for EventReader<R> {
 }
 
 impl<R: Read> EventReader<R> {
-    /// The events of the item that the reader is at.
+    /// The events of the item that the reader is at, whichever kinds of keys its maps have.
     pub fn new(reader: R, limits: Limits) -> EventReader<R>
         ensures starts { StandsBetween result.events.machine [] [] }
         ensures limits { (result.events.machine.depth ≡ limits.depth)

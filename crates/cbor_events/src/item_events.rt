@@ -60,7 +60,8 @@ impl Model for ItemEvents {
 }
 
 impl ItemEvents {
-    /// The events of an item whose first byte is still to be read.
+    /// The events of an item whose first byte is still to be read. Which kinds of keys its maps may
+    /// have is for the caller to ask for, by `next_key`.
     pub fn new(limits: Limits) -> ItemEvents
         ensures starts { StandsBetween result.machine [] [] }
         ensures limits { (result.machine.depth ≡ limits.depth)

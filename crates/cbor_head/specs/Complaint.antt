@@ -94,7 +94,7 @@ OfKey distinct at before k c = IsRepeated before k × (c ≡ complaint (at + len
 OfKey (rising o) at [] k c = ⊥
 OfKey (rising o) at (b ∷ bs) k c = ¬ IsTrue (key_lt o (spell b) (spell k)) × (c ≡ complaint (at + length (spell k)) at KeyOrderReason)
 
--- s, at a place, has this complaint
+-- s, at a place, has this complaint; one on the kind of a key is told apart, by OfKinds
 abbrev mutual
   pub Complains : Rules → ℕ → Spelling → Complaint → Type 0
   Complains r at (unsigned w n) c = OfHead r at Unsigned w n c

@@ -4,7 +4,7 @@ use Rattle.cbor_head.specs.declared.keys.Keys.{Keys}
 use Rattle.cbor_head.specs.declared.keys.Keys.TheVariants.{Any}
 use Rattle.cbor_head.specs.declared.limits.TheConstants.{MAX_DEPTH}
 
--- how deep its arrays, maps and tags may nest, how many bytes it may have, and which keys its maps
+-- how deep its arrays, maps and tags may nest, how many bytes it may have, and which kinds of keys its maps may have
 pub record Bounds : Type 0 where
   pub depth : ℕ
   pub bytes : ℕ

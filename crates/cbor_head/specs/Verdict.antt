@@ -77,7 +77,7 @@ abbrev pub IsVerdict : Bounds → Rules → List ℕ → Answer → Type 0
 IsVerdict limits rules input answer = IsVerdictBy (IsComplaint limits rules) limits input answer
 
 -- Examples, the plain verdict within 256 levels, for keys of any kind, unless said; each is a row of the conformance table, and
--- proofs/VerdictExamples has others, proved:
+-- VerdictExamples and KindExamples of cbor_grammar/proofs have others, proved:
 --   f818               BadSimple 1, 2         there is no simple value 24
 --   f81f, 1 byte       TooLong 1, 1           the number is past the limit
 --   5f5c, 5f6100ff     BadChunk 1, 2          neither a head of a byte string nor a break may stand so

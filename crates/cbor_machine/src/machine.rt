@@ -65,7 +65,7 @@ impl Model for Machine {
 }
 
 impl Machine {
-    /// A machine before an item's first byte.
+    /// A machine before an item's first byte. It does not look at the kinds of keys.
     pub fn new(limits: Limits) -> Machine
         ensures limits { (result.depth ≡ limits.depth) × (result.bytes ≡ limits.bytes) }
         ensures starts { StandsFor result [] [] }

@@ -3,9 +3,10 @@ use Rattle.std.proofs.Common.{ℕ, ◌^◌, ◌≡◌, ◌≤◌, ◌↔◌, Boo
 use Rattle.std.specs.Prelude.{IsTrue}
 use Rattle.std.specs.Bool.{Decides}
 use Rattle.cbor_head.specs.Canonical.{canonical}
-use Rattle.cbor_head.specs.Limits.{Bounds, bounds}
+use Rattle.cbor_head.specs.Limits.{Bounds, bounds, with_keys}
 use Rattle.cbor_head.specs.Spelling.{Spelling, value_of}
 use Rattle.cbor_head.specs.Value.{Same}
+use Rattle.cbor_head.specs.declared.keys.Keys.{Keys}
 use Rattle.cbor_head.specs.declared.order.KeyOrder.{KeyOrder}
 use Rattle.cbor_head.specs.declared.order.KeyOrder.TheVariants.{Bytewise}
 use Rattle.cbor_canonical.proofs.Keys.{same_exactly}
@@ -44,10 +45,12 @@ module _ (limits : Bounds) (m : limits.bytes ≤ 2 ^ 62) (left right : List ℕ)
       (λ q. (same_values q.left_item q.right_item q.left_whole q.right_whole).1 q.same),
     )
 
-    pub same_answers : (k : ℕ) (o : KeyOrder) (a b : List ℕ) → k ≤ 2 ^ 62 → IsCanonicalOf (bounds limits.depth k) o left a → IsCanonicalOf (bounds limits.depth k) o right b → IsTrue same ↔ (a ≡ b)
-    same_answers k o a b l u v =
+    pub same_answers : (n : ℕ) (k : Keys) (o : KeyOrder) (a b : List ℕ) → n ≤ 2 ^ 62 → IsCanonicalOf (with_keys (bounds limits.depth n) k) o left a → IsCanonicalOf (with_keys (bounds limits.depth n) k) o right b
+        → IsTrue same ↔ (a ≡ b)
+    same_answers n k o a b l u v =
         let values = same_values h.0 g.0 h.1 g.1 in
-        let equal = equal_exactly (bounds limits.depth k) (bounds limits.depth k) o left right a b h.0 g.0 l l u h.1.well_formed v g.1.well_formed in
+        let others = with_keys (bounds limits.depth n) k in
+        let equal = equal_exactly others others o left right a b h.0 g.0 l l u h.1.well_formed v g.1.well_formed in
         ((λ q. equal.1 (values.0 q)), (λ q. values.1 (equal.0 q)))
 
 -- ---- as a relation of inputs

@@ -68,8 +68,8 @@ pub fn answers_are_encoded_trees()
         → IsUnread limits plain input f → f.reason ≢ Read → IsRefusal limits o input f }
 {}
 
-/// An item has no plain complaint, wherever it stands, exactly where each text and each chunk of
-/// one is UTF-8 and its value is valid. A valid item is the whole input exactly where the plain
+/// An item has no plain complaint but on the kind of a key, wherever it stands, exactly where each
+/// text and each chunk of one is UTF-8 and its value is valid. A valid item is the whole input exactly where the plain
 /// verdict accepts it and nothing follows it. Its value is in range, valid, and within the depth,
 /// and its keys are of the kinds that the limits ask for.
 pub fn valid_items()
@@ -106,8 +106,8 @@ pub fn own_answers_are_strictly_accepted()
         ↔ ((s : Spelling) × IsVerdict limits (strict o) input (accepted s) × (spell s ≡ input)) }
 {}
 
-/// The plain verdict accepts an item whose value is in range, valid, and within the depth, and that
-/// has no more bytes than the limit.
+/// The plain verdict accepts an item whose value is in range, valid, and within the depth, with keys
+/// of the kinds that the limits ask for, and that has no more bytes than the limit.
 pub fn plainly_accepted_values()
     ensures range { (limits : Bounds) (input : List ℕ) (s : Spelling) → limits.bytes ≤ 2 ^ 62
         → IsVerdict limits plain input (accepted s) → IsInRange (value_of s) }
@@ -117,6 +117,8 @@ pub fn plainly_accepted_values()
         → IsVerdict limits plain input (accepted s) → value.depth (value_of s) ≤ limits.depth }
     ensures fits { (limits : Bounds) (input : List ℕ) (s : Spelling)
         → IsVerdict limits plain input (accepted s) → length (spell s) ≤ limits.bytes }
+    ensures keys { (limits : Bounds) (input : List ℕ) (s : Spelling) → limits.keys ≡ IntegersAndTexts
+        → IsVerdict limits plain input (accepted s) → HasBasicKeys (value_of s) }
 {}
 
 /// A value has no more items, at every depth, and string bytes together than its item has bytes.

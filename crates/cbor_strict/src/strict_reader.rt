@@ -61,9 +61,10 @@ pub fn read_strict<R: Read>(
 /// encoding in an order (RFC 8949, sections 4.2.1 and 4.2.3).
 ///
 /// The events are those of [`EventReader`](cbor_events::EventReader), but where a complaint ends
-/// with one, as where a key is complete that does not rise, its refusal stands in its place. What
-/// is kept grows with the keys alone: of each open map the last complete key, and all of a key that
-/// is not complete, a byte of it once however many maps it holds.
+/// with one, as where a key is complete that does not rise, its refusal stands in its place. Of a
+/// key of another kind than the limits ask for its first byte alone is read, and nothing is told.
+/// What is kept grows with the keys alone: of each open map the last complete key, and all of a key
+/// that is not complete, a byte of it once however many maps it holds.
 #[derive(Drop)]
 pub struct StrictReader<R> {
     reader: R,

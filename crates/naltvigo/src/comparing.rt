@@ -16,7 +16,6 @@ ghost use Rattle.naltvigo.specs.Settings.{item_limits, AreLimits};
 
 use crate::settings::limits_of;
 use crate::status::{BAD_LIMITS, DIFFERENT, NO_MEMORY, NaltvigoRefusal, OK, REFUSED, tell};
-use cbor_reader::laws::equal_answers_of_same_values;
 use cbor_reader::{Side, same_meaning};
 use std::alloc::Global;
 
@@ -72,7 +71,6 @@ pub extern "C" fn naltvigo_compare_raw(
     ensures untold { result ≢ REFUSED → result ≢ NO_MEMORY
         → (side.new ≡ side.old) × (refusal.new ≡ refusal.old) }
 {
-    equal_answers_of_same_values();
     let Some(limits) = limits_of(keys, depth, bytes) else {
         return BAD_LIMITS;
     };

@@ -16,7 +16,7 @@ pub const TOO_SMALL: u32 = 2;
 pub const NO_MEMORY: u32 = 3;
 /// The number of the order is none.
 pub const BAD_ORDER: u32 = 4;
-/// A limit is out of range.
+/// A limit is out of range, or the kinds of keys are none of the two.
 pub const BAD_LIMITS: u32 = 5;
 /// Two inputs do not mean the same.
 pub const DIFFERENT: u32 = 6;

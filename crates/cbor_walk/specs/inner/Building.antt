@@ -152,7 +152,7 @@ EndsBefore _ behind = Unit {0}
 
 -- ---- the kinds of keys
 
--- no key of another kind than these begins before the rest of an input
+-- no key of another kind than these begins before the rest of an input; how many bytes there may be plays no part
 abbrev pub KeepsBefore : ℕ → Keys → List ℕ → List ℕ → Type 0
 KeepsBefore d keys input rest = (t : List ℕ) → input ≡ t ++ rest → KeepsToKinds (with_keys (bounds d 0) keys) plain t
 

@@ -1,6 +1,6 @@
 use Rattle.cbor_head.specs.Complaint.{plain}
 use Rattle.cbor_judging.proofs.Accepted.{item_within_limit}
-use Rattle.cbor_reader.proofs.Headline.{front_range, front_valid, front_depth}
+use Rattle.cbor_reader.proofs.Headline.{front_range, front_valid, front_depth, front_keys}
 use Rattle.cbor_reader.proofs.laws.plainly_accepted_values.Goals as goal
 
 pub returns-clause-range : goal.returns-clause-range
@@ -14,3 +14,6 @@ returns-clause-depth c = λ limits input s. front_depth limits plain input s
 
 pub returns-clause-fits : goal.returns-clause-fits
 returns-clause-fits c = λ limits input s. item_within_limit limits plain input s
+
+pub returns-clause-keys : goal.returns-clause-keys
+returns-clause-keys c = front_keys
