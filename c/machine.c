@@ -124,7 +124,8 @@ static void refuses_other_numbers(void) {
     size_t used;
     check(naltvigo_machine_start(LIMITS(257, 8), &machine) == NALTVIGO_BAD_LIMITS, "depth", "257");
     check(naltvigo_machine_start(LIMITS(2, NALTVIGO_BYTES_MAX + 1), &machine) == NALTVIGO_BAD_LIMITS, "bytes", "too many");
-    check(naltvigo_machine_start(LIMITS(2, 8), &machine) == NALTVIGO_OK, "start", "2 8");
+    /* which keys, no machine asks */
+    check(naltvigo_machine_start(ALL_OPTIONS(99, 99, 2, 8), &machine) == NALTVIGO_OK, "start", "2 8");
     for (int i = 0; i < 4; i++) {
         broken = machine;
         if (i == 0) broken.open = 3;

@@ -1,6 +1,9 @@
 /* Options of naltvigo.h in a line. */
 #include <naltvigo.h>
 
-/* Options, and limits where the order is not asked for: it is no order's number, so that no call may read it. */
-#define OPTIONS(order, depth, bytes) (&(const struct naltvigo_options){bytes, depth, order})
+#define ALL_OPTIONS(order, keys, depth, bytes) (&(const struct naltvigo_options){bytes, depth, order, keys})
+
+/* For keys of any kind; and limits where the order is not asked for: it is no order's number, so that no call may
+ * read it. */
+#define OPTIONS(order, depth, bytes) ALL_OPTIONS(order, NALTVIGO_ANY_KEYS, depth, bytes)
 #define LIMITS(depth, bytes) OPTIONS(99, depth, bytes)

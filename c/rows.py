@@ -1,10 +1,17 @@
-"""Prints a C header of the conformance table of cbor_reader's tests: rows.py TABLE > rows.h
+"""Prints a C header of the conformance tables of cbor_reader's tests: rows.py TABLE.. > rows.h
 
-The table's own text says what its columns are. `rows_of` and `pairs_of` are the table for Python's tests.
+Their own text says what the columns are. `rows_of` and `pairs_of` are the tables for Python's tests.
 """
 
 import re
 import sys
+from typing import NamedTuple
+
+
+class Limits(NamedTuple):
+    depth: int
+    most: int
+    keys: str
 
 
 def hex_of(column):
@@ -23,12 +30,18 @@ def by_order(column):
     return ([part.strip() for part in column.split("/")] * 2)[:2]
 
 
+def limits_of(column):
+    """The limits of a column as `depth 1 bytes 4 keys basic`."""
+    depth = re.search(r"depth (\d+)", column)
+    most = re.search(r"bytes (\d+)", column)
+    keys = re.search(r"keys (\w+)", column)
+    return Limits(int(depth[1]) if depth else 256, int(most[1]) if most else 1048576, keys[1] if keys else "any")
+
+
 def row(line):
     """The input in hex, the limits, and for each order: the canonical bytes, or the refusal, and the strict refusal."""
     given, limits, plain, strict, _ = [column.strip() for column in line.split("|", 4)]
     given = hex_of(given)
-    depth = re.search(r"depth (\d+)", limits)
-    most = re.search(r"bytes (\d+)", limits)
     answers = []
     for plain_one, strict_one in zip(by_order(plain), by_order(strict)):
         refusal = refusal_of(plain_one)
@@ -40,7 +53,7 @@ def row(line):
         is_own = whole or not strict_one and plain_one == "same"
         own = None if is_own else refusal_of(strict_one or plain_one)
         answers.append((canonical, refusal, own))
-    return given, int(depth[1]) if depth else 256, int(most[1]) if most else 1048576, answers
+    return given, limits_of(limits), answers
 
 
 def pair(line):
@@ -50,22 +63,26 @@ def pair(line):
     return hex_of(left), hex_of(right), (found[1], refusal_of(found[2])) if found else (answer, None)
 
 
-def lines_of(path):
-    with open(path, encoding="utf-8") as file:
-        return [a or b for a, b in re.findall(r'(?m)^    (?:r#"(.*)"#|"(.*)"),$', file.read())]
-
-
-def rows_of(path):
-    found = [row(line) for line in lines_of(path) if line.count("|") >= 4]
-    if len(found) < 200:
-        sys.exit(f"{path}: {len(found)} rows: where is the table?")
+def lines_of(paths):
+    found = []
+    for path in paths:
+        with open(path, encoding="utf-8") as file:
+            found += [a or b for a, b in re.findall(r'(?m)^    (?:r#"(.*)"#|"(.*)"),$', file.read())]
     return found
 
 
-def pairs_of(path):
-    found = [pair(line) for line in lines_of(path) if line.count("|") == 3]
+def rows_of(paths):
+    found = [row(line) for line in lines_of(paths) if line.count("|") >= 4]
+    basic = sum(limits.keys == "basic" for _, limits, _ in found)
+    if len(found) < 200 or basic < 10:
+        sys.exit(f"{len(found)} rows, {basic} of them for basic keys: where are the tables?")
+    return found
+
+
+def pairs_of(paths):
+    found = [pair(line) for line in lines_of(paths) if line.count("|") == 3]
     if len(found) < 5:
-        sys.exit(f"{path}: {len(found)} pairs: where is the table?")
+        sys.exit(f"{len(found)} pairs: where is the table?")
     return found
 
 
@@ -73,12 +90,13 @@ def refusal_in_c(refusal):
     return "{%d, %d, %d}" % (refusal or (0, 0, 0))
 
 
-def row_in_c(given, depth, most, answers):
+def row_in_c(given, limits, answers):
+    keys = {"any": "NALTVIGO_ANY_KEYS", "basic": "NALTVIGO_INTEGERS_AND_TEXTS"}[limits.keys]
     texts = []
     for canonical, refusal, own in answers:
         shown = "0" if canonical is None else f'"{canonical}"'
         texts.append("{%s, %s, %s}" % (shown, refusal_in_c(refusal), refusal_in_c(own)))
-    return '    {"%s", %d, %d, {%s}},' % (given, depth, most, ", ".join(texts))
+    return '    {"%s", %s, %d, %d, {%s}},' % (given, keys, limits.depth, limits.most, ", ".join(texts))
 
 
 def pair_in_c(left, right, answer):
@@ -89,7 +107,7 @@ def pair_in_c(left, right, answer):
 
 if __name__ == "__main__":
     print("static const struct row rows[] = {")
-    print("\n".join(row_in_c(*it) for it in rows_of(sys.argv[1])))
+    print("\n".join(row_in_c(*it) for it in rows_of(sys.argv[1:])))
     print("};\nstatic const struct pair pairs[] = {")
-    print("\n".join(pair_in_c(*it) for it in pairs_of(sys.argv[1])))
+    print("\n".join(pair_in_c(*it) for it in pairs_of(sys.argv[1:])))
     print("};")

@@ -1,4 +1,4 @@
-/* Calls each function of naltvigo.h as a C program does: every row of the conformance table, every size of
+/* Calls each function of naltvigo.h as a C program does: every row of the conformance tables, every size of
  * buffer near the answer's, numbers out of range, null pointers. Prints how many checks there were; the
  * status is 0 where all hold. */
 #include "options.h"
@@ -14,7 +14,7 @@ struct answer {
 };
 struct row {
     const char *given;
-    uint32_t depth;
+    uint32_t keys, depth;
     uint64_t bytes;
     struct answer by_order[2];
 };
@@ -24,6 +24,9 @@ struct pair {
     struct naltvigo_refusal refusal;
 };
 #include "rows.h"
+
+#define OF_ROW(row, order) ALL_OPTIONS(order, (row)->keys, (row)->depth, (row)->bytes)
+#define LIMITS_OF_ROW(row) OF_ROW(row, 99)
 
 static void *room_for(size_t n) {
     void *p = malloc(n ? n : 1);
@@ -59,13 +62,13 @@ static void becomes(const struct row *row, uint32_t order, const uint8_t *in, si
     size_t m, needed = 999;
     uint8_t *wanted = unhex(row->by_order[order].canonical, &m);
     struct naltvigo_refusal why = unset;
-    uint32_t s = naltvigo_canonicalise(in, n, OPTIONS(order, row->depth, row->bytes), NULL, 0, &needed, &why);
+    uint32_t s = naltvigo_canonicalise(in, n, OF_ROW(row, order), NULL, 0, &needed, &why);
     check(s == NALTVIGO_TOO_SMALL && needed == m && are_equal(why, unset), "asked for the length", row->given);
     for (size_t room = m - 1; room <= m + 3; room += room == m + 1 ? 2 : 1) {
         uint8_t *out = room_for(room);
         memset(out, 0xaa, room);
         needed = 999;
-        s = naltvigo_canonicalise(in, n, OPTIONS(order, row->depth, row->bytes), out, room, &needed, &why);
+        s = naltvigo_canonicalise(in, n, OF_ROW(row, order), out, room, &needed, &why);
         check(needed == m && are_equal(why, unset), "needed", row->given);
         if (room < m) {
             check(s == NALTVIGO_TOO_SMALL && all_are(out, room, 0xaa), "too small", row->given);
@@ -75,10 +78,10 @@ static void becomes(const struct row *row, uint32_t order, const uint8_t *in, si
         }
         free(out);
     }
-    s = naltvigo_check_canonical(wanted, m, OPTIONS(order, row->depth, row->bytes), &why);
+    s = naltvigo_check_canonical(wanted, m, OF_ROW(row, order), &why);
     check(s == NALTVIGO_OK && are_equal(why, unset), "the answer is canonical", row->given);
     uint32_t side = 9;
-    s = naltvigo_compare(in, n, wanted, m, LIMITS(row->depth, row->bytes), &side, &why);
+    s = naltvigo_compare(in, n, wanted, m, LIMITS_OF_ROW(row), &side, &why);
     check(s == NALTVIGO_OK && side == 9 && are_equal(why, unset), "the answer means the same", row->given);
     free(wanted);
 }
@@ -88,26 +91,36 @@ static void is_refused(const struct row *row, uint32_t order, const uint8_t *in,
     size_t needed = 999;
     uint8_t out[600];
     memset(out, 0xaa, sizeof out);
-    uint32_t s = naltvigo_canonicalise(in, n, OPTIONS(order, row->depth, row->bytes), out, sizeof out, &needed, &why);
+    uint32_t s = naltvigo_canonicalise(in, n, OF_ROW(row, order), out, sizeof out, &needed, &why);
     check(s == NALTVIGO_REFUSED && are_equal(why, wanted) && needed == 0, "refused", row->given);
     check(all_are(out, sizeof out, 0xaa), "kept", row->given);
+}
+
+/* Whether this is the answer of a call for the front of an input that is one item of n bytes, or refused so. */
+static int is_front(uint32_t s, uint64_t taken, struct naltvigo_refusal why, struct naltvigo_refusal wanted, size_t n) {
+    if (wanted.reason) return s == NALTVIGO_REFUSED && taken == 0 && are_equal(why, wanted);
+    return s == NALTVIGO_OK && taken == n;
 }
 
 static void is_valid_or_not(const struct row *row, const uint8_t *in, size_t n) {
     struct naltvigo_refusal why = unset, wanted = row->by_order[0].refusal;
     size_t needed;
-    uint32_t s = naltvigo_check_valid(in, n, LIMITS(row->depth, row->bytes), &why);
+    uint64_t taken;
+    uint32_t s = naltvigo_check_valid(in, n, LIMITS_OF_ROW(row), &why);
     /* the limit on canonical bytes is canonicalise's alone */
     if (row->by_order[0].canonical || wanted.reason == NALTVIGO_CANONICAL_TOO_LONG) {
         check(s == NALTVIGO_OK && are_equal(why, unset), "valid", row->given);
-        s = naltvigo_diagnostic(in, n, LIMITS(row->depth, row->bytes), NULL, 0, &needed, &why);
+        s = naltvigo_diagnostic(in, n, LIMITS_OF_ROW(row), NULL, 0, &needed, &why);
         check(s == NALTVIGO_TOO_SMALL && needed > 0 && are_equal(why, unset), "text", row->given);
     } else {
         check(s == NALTVIGO_REFUSED && are_equal(why, wanted), "invalid", row->given);
         why = unset;
-        s = naltvigo_diagnostic(in, n, LIMITS(row->depth, row->bytes), NULL, 0, &needed, &why);
+        s = naltvigo_diagnostic(in, n, LIMITS_OF_ROW(row), NULL, 0, &needed, &why);
         check(s == NALTVIGO_REFUSED && are_equal(why, wanted) && needed == 0, "no text", row->given);
     }
+    if (wanted.reason == NALTVIGO_CANONICAL_TOO_LONG) wanted.reason = 0;
+    s = naltvigo_next_valid(in, n, LIMITS_OF_ROW(row), &taken, &why);
+    check(wanted.reason == NALTVIGO_TRAILING || is_front(s, taken, why, wanted, n), "front", row->given);
 }
 
 static void answers(const struct row *row) {
@@ -118,10 +131,12 @@ static void answers(const struct row *row) {
             becomes(row, order, in, n);
         else
             is_refused(row, order, in, n);
-        struct naltvigo_refusal why = {0, 0, 0};
-        uint32_t s = naltvigo_check_canonical(in, n, OPTIONS(order, row->depth, row->bytes), &why);
-        uint32_t wanted = row->by_order[order].strict.reason ? NALTVIGO_REFUSED : NALTVIGO_OK;
-        check(s == wanted && are_equal(why, row->by_order[order].strict), "strict", row->given);
+        struct naltvigo_refusal why = {0, 0, 0}, strict = row->by_order[order].strict;
+        uint32_t s = naltvigo_check_canonical(in, n, OF_ROW(row, order), &why);
+        check(s == (strict.reason ? NALTVIGO_REFUSED : NALTVIGO_OK) && are_equal(why, strict), "strict", row->given);
+        uint64_t taken;
+        s = naltvigo_next_canonical(in, n, OF_ROW(row, order), &taken, &why);
+        check(strict.reason == NALTVIGO_TRAILING || is_front(s, taken, why, strict, n), "strict front", row->given);
     }
     is_valid_or_not(row, in, n);
     free(in);
@@ -157,35 +172,44 @@ static void reads(const char *given, const char *wanted) {
     free(in);
 }
 
+static const struct { uint32_t order, keys, depth; uint64_t bytes; uint32_t status; } numbers[] = {
+    {2, 0, 256, 1, NALTVIGO_BAD_ORDER},
+    {UINT32_MAX, 0, 256, 1, NALTVIGO_BAD_ORDER},
+    {2, 2, 257, 1, NALTVIGO_BAD_ORDER},
+    {0, 0, 257, 1, NALTVIGO_BAD_LIMITS},
+    {0, 0, 65536 + 256, 1, NALTVIGO_BAD_LIMITS},
+    {0, 1, UINT32_MAX, 1, NALTVIGO_BAD_LIMITS},
+    {1, 0, 256, NALTVIGO_BYTES_MAX + 1, NALTVIGO_BAD_LIMITS},
+    {1, 1, 256, UINT64_MAX, NALTVIGO_BAD_LIMITS},
+    {0, 2, 256, 1, NALTVIGO_BAD_LIMITS},
+    {1, UINT32_MAX, 256, 1, NALTVIGO_BAD_LIMITS},
+    {1, 1, NALTVIGO_DEPTH_MAX, NALTVIGO_BYTES_MAX, NALTVIGO_OK},
+    {0, 0, 0, 1, NALTVIGO_OK},
+};
+
 static void numbers_out_of_range(void) {
     const uint8_t one = 1;
     uint8_t out[32];
     size_t needed;
     struct naltvigo_refusal why = unset;
-    static const struct { uint32_t order, depth; uint64_t bytes; uint32_t status; } numbers[] = {
-        {2, 256, 1, NALTVIGO_BAD_ORDER},
-        {UINT32_MAX, 256, 1, NALTVIGO_BAD_ORDER},
-        {2, 257, 1, NALTVIGO_BAD_ORDER},
-        {0, 257, 1, NALTVIGO_BAD_LIMITS},
-        {0, 65536 + 256, 1, NALTVIGO_BAD_LIMITS},
-        {0, UINT32_MAX, 1, NALTVIGO_BAD_LIMITS},
-        {1, 256, NALTVIGO_BYTES_MAX + 1, NALTVIGO_BAD_LIMITS},
-        {1, 256, UINT64_MAX, NALTVIGO_BAD_LIMITS},
-        {1, NALTVIGO_DEPTH_MAX, NALTVIGO_BYTES_MAX, NALTVIGO_OK},
-        {0, 0, 1, NALTVIGO_OK},
-    };
     for (size_t i = 0; i < sizeof numbers / sizeof *numbers; i++) {
-        uint32_t order = numbers[i].order, depth = numbers[i].depth, wanted = numbers[i].status, side = 9;
-        uint64_t bytes = numbers[i].bytes;
+        uint32_t keys = numbers[i].keys, depth = numbers[i].depth, wanted = numbers[i].status, side = 9;
+        uint64_t bytes = numbers[i].bytes, taken = 9;
+        const struct naltvigo_options *options = ALL_OPTIONS(numbers[i].order, keys, depth, bytes);
+        const struct naltvigo_options *limits = ALL_OPTIONS(99, keys, depth, bytes);
         needed = 999;
-        uint32_t s = naltvigo_canonicalise(&one, 1, OPTIONS(order, depth, bytes), out, sizeof out, &needed, &why);
+        uint32_t s = naltvigo_canonicalise(&one, 1, options, out, sizeof out, &needed, &why);
         check(s == wanted && needed == (s == NALTVIGO_OK), "numbers", "canonicalise");
-        check(naltvigo_check_canonical(&one, 1, OPTIONS(order, depth, bytes), &why) == wanted, "numbers", "canonical");
+        check(naltvigo_check_canonical(&one, 1, options, &why) == wanted, "numbers", "canonical");
+        s = naltvigo_next_canonical(&one, 1, options, &taken, &why);
+        check(s == wanted && taken == (s == NALTVIGO_OK), "numbers", "next canonical");
         if (wanted == NALTVIGO_BAD_ORDER) continue;
-        check(naltvigo_check_valid(&one, 1, LIMITS(depth, bytes), &why) == wanted, "numbers", "valid");
-        check(naltvigo_compare(&one, 1, &one, 1, LIMITS(depth, bytes), &side, &why) == wanted, "numbers", "compare");
-        s = naltvigo_diagnostic(&one, 1, LIMITS(depth, bytes), (char *)out, sizeof out, &needed, &why);
+        check(naltvigo_check_valid(&one, 1, limits, &why) == wanted, "numbers", "valid");
+        check(naltvigo_compare(&one, 1, &one, 1, limits, &side, &why) == wanted, "numbers", "compare");
+        s = naltvigo_diagnostic(&one, 1, limits, (char *)out, sizeof out, &needed, &why);
         check(s == wanted && side == 9, "numbers", "diagnostic");
+        s = naltvigo_next_valid(&one, 1, limits, &taken, &why);
+        check(s == wanted && taken == (s == NALTVIGO_OK), "numbers", "next valid");
     }
     check(are_equal(why, unset), "numbers", "refusal untouched");
 }
@@ -215,9 +239,9 @@ static void names(void) {
     static const char *const wanted[] = {
         "Truncated", "TooLong",     "Reserved",    "NoIndefinite", "Float",            "BadSimple",   "StrayBreak",
         "BadChunk",  "TooDeep",     "InvalidText", "RepeatedKey",  "Trailing",         "CanonicalTooLong",
-        "NotShortest", "Indefinite", "KeyOrder",   "Read",         "Write",            "Memory"};
+        "NotShortest", "Indefinite", "KeyOrder",   "Read",         "Write",            "Memory",      "KeyKind"};
     char name[NALTVIGO_NAME_MAX];
-    for (uint32_t r = 1; r <= 19; r++) {
+    for (uint32_t r = 1; r <= 20; r++) {
         size_t n = strlen(wanted[r - 1]);
         memset(name, 7, sizeof name);
         check(naltvigo_reason_name(r, name, sizeof name) == n && strcmp(name, wanted[r - 1]) == 0, "name", wanted[r - 1]);
@@ -226,7 +250,7 @@ static void names(void) {
         check(naltvigo_reason_name(r, name, n) == n && all_are((uint8_t *)name, n, 7), "short name", wanted[r - 1]);
         check(naltvigo_reason_name(r, NULL, 0) == n, "name's length", wanted[r - 1]);
     }
-    static const uint32_t none[] = {0, 20, UINT32_MAX};
+    static const uint32_t none[] = {0, 21, UINT32_MAX};
     for (size_t i = 0; i < 3; i++) {
         memset(name, 7, sizeof name);
         check(naltvigo_reason_name(none[i], name, sizeof name) == 0 && name[0] == 0 && name[1] == 7, "no name", "");
@@ -271,12 +295,13 @@ static void sequences(void) {
     check(are_equal(why, unset), "untold", "next");
 }
 
-/* What a null pointer for the options stands for: bytewise, 64 levels, 2^20 bytes. */
+/* What a null pointer for the options stands for: bytewise, keys of any kind, 64 levels, 2^20 bytes. */
 static void defaults(void) {
     const uint8_t keys[] = {0xa2, 0x20, 0, 0x18, 0x64, 0}; /* {-1: 0, 100: 0} */
     struct naltvigo_refusal why = unset;
     check(naltvigo_check_canonical(keys, sizeof keys, NULL, &why) == NALTVIGO_REFUSED && why.reason == NALTVIGO_KEY_ORDER, "defaults", "order");
     check(naltvigo_check_canonical(keys, sizeof keys, OPTIONS(1, 64, 100), &why) == NALTVIGO_OK, "defaults", "length first");
+    check(naltvigo_check_canonical((const uint8_t *)"\xa1\x80", 3, NULL, &why) == NALTVIGO_OK, "defaults", "any keys"); /* {[]: 0} */
     uint8_t tower[66];
     memset(tower, 0x81, sizeof tower);
     tower[64] = 0x80;

@@ -18,9 +18,10 @@
  *     }
  *
  * Changed since 1.0
- *  - The order and the two limits are one `const struct naltvigo_options *`, null for the defaults. Each call
- *    with the three numbers stands as it was under its name with `_raw` behind it, so a caller of 1.0
- *    compiles with that rename; but `_raw` takes no null pointer, and diagnostic text as uint8_t.
+ *  - The order and the limits are one `const struct naltvigo_options *`, null for the defaults. Each call
+ *    with numbers stands under its name with `_raw` behind it, so a caller of 1.0 compiles with that rename
+ *    and the number of `keys` before `depth`; but `_raw` takes no null pointer, and diagnostic text as uint8_t.
+ *  - New: `keys`, the kinds of keys that maps may have, and the reason NALTVIGO_KEY_KIND.
  *  - naltvigo_reason_name writes a zero byte behind the name, and NALTVIGO_NAME_MAX counts it.
  *  - New: naltvigo_next_valid, naltvigo_next_canonical, naltvigo_machine_take (many events a call, on which
  *    naltvigo_machine_step stands now), naltvigo_status_name, naltvigo_version.
@@ -56,8 +57,9 @@
  *
  * Options
  *  - Null, or a struct that begins as naltvigo_defaults(): the order of keys, which the calls that do not ask
- *    for it leave unread, and two limits: `depth`, how deep arrays, maps and tags may nest, 0 to
- *    NALTVIGO_DEPTH_MAX, and `bytes`, how many bytes an item may have, 0 to NALTVIGO_BYTES_MAX.
+ *    for it leave unread, and three limits: `depth`, how deep arrays, maps and tags may nest, 0 to
+ *    NALTVIGO_DEPTH_MAX, `bytes`, how many bytes an item may have, 0 to NALTVIGO_BYTES_MAX, and `keys`, which
+ *    kinds of keys its maps may have, which the calls of a machine leave unread.
  *
  * All sizes, places and counts are bytes.
  */
@@ -88,7 +90,7 @@ enum {
     NALTVIGO_TOO_SMALL = 2,  /* the answer has `*needed` bytes, more than `out`, which is as it was */
     NALTVIGO_NO_MEMORY = 3,  /* memory was refused; `*refusal` says behind how many bytes */
     NALTVIGO_BAD_ORDER = 4,  /* `order` is none of the two */
-    NALTVIGO_BAD_LIMITS = 5, /* `depth` or `bytes` is out of range */
+    NALTVIGO_BAD_LIMITS = 5, /* `depth` or `bytes` is out of range, or `keys` is none of the two */
     NALTVIGO_DIFFERENT = 6,  /* the inputs do not mean the same */
     NALTVIGO_EVENT = 7,      /* `*event` tells what comes next */
     NALTVIGO_MORE = 8,       /* all of the input was used, and more is due */
@@ -101,6 +103,12 @@ enum {
     NALTVIGO_LENGTH_FIRST = 1 /* the shorter key first, then lexicographic (section 4.2.3) */
 };
 
+/* The kinds of keys that maps may have, at every depth. Another one is refused at its first byte. */
+enum {
+    NALTVIGO_ANY_KEYS = 0,          /* every item (RFC 8949, section 3.1) */
+    NALTVIGO_INTEGERS_AND_TEXTS = 1 /* integers and texts, be a text in one piece or in chunks */
+};
+
 /* The greatest limits. */
 #define NALTVIGO_DEPTH_MAX UINT32_C(256)
 #define NALTVIGO_BYTES_MAX (UINT64_C(1) << 62)
@@ -110,11 +118,12 @@ struct naltvigo_options {
     uint64_t bytes; /* how many bytes the item, and its canonical bytes, may have; 2^20 by default */
     uint32_t depth; /* how deep its arrays, maps and tags may nest; 64 by default */
     uint32_t order; /* NALTVIGO_BYTEWISE by default */
+    uint32_t keys;  /* NALTVIGO_ANY_KEYS by default */
 };
 
 /* The options that a null pointer stands for. Change a copy: new members may come, with defaults. */
 static inline struct naltvigo_options naltvigo_defaults(void) {
-    struct naltvigo_options options = {UINT64_C(1) << 20, 64, NALTVIGO_BYTEWISE};
+    struct naltvigo_options options = {UINT64_C(1) << 20, 64, NALTVIGO_BYTEWISE, NALTVIGO_ANY_KEYS};
     return options;
 }
 
@@ -200,23 +209,24 @@ struct naltvigo_event {
 #define NALTVIGO_STACK 65536
 
 /* The exports. No pointer may be null, whatever the length beside it. */
-uint32_t naltvigo_canonicalise_raw(const uint8_t *in, size_t in_length, uint32_t order, uint32_t depth,
-                                   uint64_t bytes, uint8_t *out, size_t out_length, size_t *needed,
-                                   struct naltvigo_refusal *refusal);
-uint32_t naltvigo_check_canonical_raw(const uint8_t *in, size_t in_length, uint32_t order, uint32_t depth,
-                                      uint64_t bytes, struct naltvigo_refusal *refusal);
-uint32_t naltvigo_check_valid_raw(const uint8_t *in, size_t in_length, uint32_t depth, uint64_t bytes,
-                                  struct naltvigo_refusal *refusal);
+uint32_t naltvigo_canonicalise_raw(const uint8_t *in, size_t in_length, uint32_t order, uint32_t keys,
+                                   uint32_t depth, uint64_t bytes, uint8_t *out, size_t out_length,
+                                   size_t *needed, struct naltvigo_refusal *refusal);
+uint32_t naltvigo_check_canonical_raw(const uint8_t *in, size_t in_length, uint32_t order, uint32_t keys,
+                                      uint32_t depth, uint64_t bytes, struct naltvigo_refusal *refusal);
+uint32_t naltvigo_check_valid_raw(const uint8_t *in, size_t in_length, uint32_t keys, uint32_t depth,
+                                  uint64_t bytes, struct naltvigo_refusal *refusal);
 uint32_t naltvigo_compare_raw(const uint8_t *left, size_t left_length, const uint8_t *right,
-                              size_t right_length, uint32_t depth, uint64_t bytes, uint32_t *side,
-                              struct naltvigo_refusal *refusal);
-uint32_t naltvigo_diagnostic_raw(const uint8_t *in, size_t in_length, uint32_t depth, uint64_t bytes,
-                                 uint8_t *out, size_t out_length, size_t *needed,
+                              size_t right_length, uint32_t keys, uint32_t depth, uint64_t bytes,
+                              uint32_t *side, struct naltvigo_refusal *refusal);
+uint32_t naltvigo_diagnostic_raw(const uint8_t *in, size_t in_length, uint32_t keys, uint32_t depth,
+                                 uint64_t bytes, uint8_t *out, size_t out_length, size_t *needed,
                                  struct naltvigo_refusal *refusal);
-uint32_t naltvigo_next_valid_raw(const uint8_t *in, size_t in_length, uint32_t depth, uint64_t bytes,
-                                 uint64_t *taken, struct naltvigo_refusal *refusal);
-uint32_t naltvigo_next_canonical_raw(const uint8_t *in, size_t in_length, uint32_t order, uint32_t depth,
-                                     uint64_t bytes, uint64_t *taken, struct naltvigo_refusal *refusal);
+uint32_t naltvigo_next_valid_raw(const uint8_t *in, size_t in_length, uint32_t keys, uint32_t depth,
+                                 uint64_t bytes, uint64_t *taken, struct naltvigo_refusal *refusal);
+uint32_t naltvigo_next_canonical_raw(const uint8_t *in, size_t in_length, uint32_t order, uint32_t keys,
+                                     uint32_t depth, uint64_t bytes, uint64_t *taken,
+                                     struct naltvigo_refusal *refusal);
 uint32_t naltvigo_version_raw(void);
 size_t naltvigo_reason_name_raw(uint32_t reason, uint8_t *out, size_t out_length);
 uint32_t naltvigo_machine_start_raw(uint32_t depth, uint64_t bytes, struct naltvigo_machine *machine);
@@ -236,7 +246,7 @@ uint32_t naltvigo_machine_take_raw(struct naltvigo_machine *machine, const uint8
  * Two accepted inputs get equal answers in one order exactly if their values are the same, within
  * whichever limits; and an answer, given again within the same limits, is its own answer.
  *
- * Answers OK, TOO_SMALL, REFUSED (reasons 1 to 13), NO_MEMORY, BAD_ORDER, BAD_LIMITS.
+ * Answers OK, TOO_SMALL, REFUSED (reasons 1 to 13, 20), NO_MEMORY, BAD_ORDER, BAD_LIMITS.
  */
 static inline uint32_t naltvigo_canonicalise(const uint8_t *in, size_t in_length,
                                              const struct naltvigo_options *options, uint8_t *out,
@@ -244,8 +254,8 @@ static inline uint32_t naltvigo_canonicalise(const uint8_t *in, size_t in_length
                                              struct naltvigo_refusal *refusal) {
     const struct naltvigo_options with = options ? *options : naltvigo_defaults();
     uint8_t none[2] = {0, 0};
-    return naltvigo_canonicalise_raw(in_length ? in : none, in_length, with.order, with.depth, with.bytes,
-                                     out_length ? out : none + 1, out_length, needed, refusal);
+    return naltvigo_canonicalise_raw(in_length ? in : none, in_length, with.order, with.keys, with.depth,
+                                     with.bytes, out_length ? out : none + 1, out_length, needed, refusal);
 }
 
 /*
@@ -254,28 +264,29 @@ static inline uint32_t naltvigo_canonicalise(const uint8_t *in, size_t in_length
  * OK exactly where the whole input is one valid item in its canonical bytes, in this order of keys: then
  * naltvigo_canonicalise, but for memory, would answer the input itself. It takes no memory.
  *
- * Answers OK, REFUSED (reasons 1 to 10, 12, 14 to 16), BAD_ORDER, BAD_LIMITS.
+ * Answers OK, REFUSED (reasons 1 to 10, 12, 14 to 16, 20), BAD_ORDER, BAD_LIMITS.
  */
 static inline uint32_t naltvigo_check_canonical(const uint8_t *in, size_t in_length,
                                                 const struct naltvigo_options *options,
                                                 struct naltvigo_refusal *refusal) {
     const struct naltvigo_options with = options ? *options : naltvigo_defaults();
     const uint8_t none = 0;
-    return naltvigo_check_canonical_raw(in_length ? in : &none, in_length, with.order, with.depth, with.bytes,
-                                        refusal);
+    return naltvigo_check_canonical_raw(in_length ? in : &none, in_length, with.order, with.keys, with.depth,
+                                        with.bytes, refusal);
 }
 
 /*
  * naltvigo_check_valid: whether the whole input is one well-formed, valid item, however it is spelled.
  *
- * Answers OK, REFUSED (reasons 1 to 12), NO_MEMORY, BAD_LIMITS.
+ * Answers OK, REFUSED (reasons 1 to 12, 20), NO_MEMORY, BAD_LIMITS.
  */
 static inline uint32_t naltvigo_check_valid(const uint8_t *in, size_t in_length,
                                             const struct naltvigo_options *options,
                                             struct naltvigo_refusal *refusal) {
     const struct naltvigo_options with = options ? *options : naltvigo_defaults();
     const uint8_t none = 0;
-    return naltvigo_check_valid_raw(in_length ? in : &none, in_length, with.depth, with.bytes, refusal);
+    return naltvigo_check_valid_raw(in_length ? in : &none, in_length, with.keys, with.depth, with.bytes,
+                                    refusal);
 }
 
 /*
@@ -286,14 +297,15 @@ static inline uint32_t naltvigo_check_valid(const uint8_t *in, size_t in_length,
  * sequence is read by calls until no byte is left; what becomes of each item, naltvigo_canonicalise of its
  * `*taken` bytes or another call says. An input without a byte is REFUSED, by TRUNCATED at 0.
  *
- * Answers OK, REFUSED (reasons 1 to 11), NO_MEMORY, BAD_LIMITS.
+ * Answers OK, REFUSED (reasons 1 to 11, 20), NO_MEMORY, BAD_LIMITS.
  */
 static inline uint32_t naltvigo_next_valid(const uint8_t *in, size_t in_length,
                                            const struct naltvigo_options *options, uint64_t *taken,
                                            struct naltvigo_refusal *refusal) {
     const struct naltvigo_options with = options ? *options : naltvigo_defaults();
     const uint8_t none = 0;
-    return naltvigo_next_valid_raw(in_length ? in : &none, in_length, with.depth, with.bytes, taken, refusal);
+    return naltvigo_next_valid_raw(in_length ? in : &none, in_length, with.keys, with.depth, with.bytes,
+                                   taken, refusal);
 }
 
 /*
@@ -301,15 +313,15 @@ static inline uint32_t naltvigo_next_valid(const uint8_t *in, size_t in_length,
  *
  * It takes no memory.
  *
- * Answers OK, REFUSED (reasons 1 to 10, 14 to 16), BAD_ORDER, BAD_LIMITS.
+ * Answers OK, REFUSED (reasons 1 to 10, 14 to 16, 20), BAD_ORDER, BAD_LIMITS.
  */
 static inline uint32_t naltvigo_next_canonical(const uint8_t *in, size_t in_length,
                                                const struct naltvigo_options *options, uint64_t *taken,
                                                struct naltvigo_refusal *refusal) {
     const struct naltvigo_options with = options ? *options : naltvigo_defaults();
     const uint8_t none = 0;
-    return naltvigo_next_canonical_raw(in_length ? in : &none, in_length, with.order, with.depth, with.bytes,
-                                       taken, refusal);
+    return naltvigo_next_canonical_raw(in_length ? in : &none, in_length, with.order, with.keys, with.depth,
+                                       with.bytes, taken, refusal);
 }
 
 /*
@@ -323,7 +335,7 @@ static inline uint32_t naltvigo_next_canonical(const uint8_t *in, size_t in_leng
  * REFUSED is of the left input, or of the right one where the left is accepted: `*side` says which. It is
  * written where the status is REFUSED or NO_MEMORY.
  *
- * Answers OK, DIFFERENT, REFUSED (reasons 1 to 12), NO_MEMORY, BAD_LIMITS.
+ * Answers OK, DIFFERENT, REFUSED (reasons 1 to 12, 20), NO_MEMORY, BAD_LIMITS.
  */
 static inline uint32_t naltvigo_compare(const uint8_t *left, size_t left_length, const uint8_t *right,
                                         size_t right_length, const struct naltvigo_options *options,
@@ -331,7 +343,7 @@ static inline uint32_t naltvigo_compare(const uint8_t *left, size_t left_length,
     const struct naltvigo_options with = options ? *options : naltvigo_defaults();
     const uint8_t none = 0;
     return naltvigo_compare_raw(left_length ? left : &none, left_length, right_length ? right : &none,
-                                right_length, with.depth, with.bytes, side, refusal);
+                                right_length, with.keys, with.depth, with.bytes, side, refusal);
 }
 
 /*
@@ -341,7 +353,7 @@ static inline uint32_t naltvigo_compare(const uint8_t *left, size_t left_length,
  * is to the front of `out`, on one line, in UTF-8 and with no zero byte at its end. The pairs of a map stand
  * in their order. `*needed`, `out` and TOO_SMALL are as with naltvigo_canonicalise.
  *
- * Answers OK, TOO_SMALL, REFUSED (reasons 1 to 12), NO_MEMORY, BAD_LIMITS.
+ * Answers OK, TOO_SMALL, REFUSED (reasons 1 to 12, 20), NO_MEMORY, BAD_LIMITS.
  */
 static inline uint32_t naltvigo_diagnostic(const uint8_t *in, size_t in_length,
                                            const struct naltvigo_options *options, char *out,
@@ -349,7 +361,7 @@ static inline uint32_t naltvigo_diagnostic(const uint8_t *in, size_t in_length,
                                            struct naltvigo_refusal *refusal) {
     const struct naltvigo_options with = options ? *options : naltvigo_defaults();
     uint8_t none[2] = {0, 0};
-    return naltvigo_diagnostic_raw(in_length ? in : none, in_length, with.depth, with.bytes,
+    return naltvigo_diagnostic_raw(in_length ? in : none, in_length, with.keys, with.depth, with.bytes,
                                    out_length ? (uint8_t *)out : none + 1, out_length, needed, refusal);
 }
 
@@ -373,8 +385,8 @@ static inline uint32_t naltvigo_machine_start(const struct naltvigo_options *opt
  * then what comes next, to the next call; `*told` says how many events were written to the front of `events`,
  * whatever the status. A payload comes in pieces as its bytes do. After OK or REFUSED a call uses nothing and
  * answers the same. An item that ends too early is seen by the caller: its bytes end, and the status is MORE.
- * UTF-8 and repeated keys are not checked. A call copies the machine twice, so many events a call are cheaper
- * than one.
+ * UTF-8, repeated keys and kinds of keys are not checked. A call copies the machine twice, so many events a
+ * call are cheaper than one.
  *
  * Answers OK, EVENT, MORE, REFUSED, BAD_MACHINE. It takes no memory.
  */

@@ -16,7 +16,7 @@ import time
 
 SHARE = os.path.join(os.path.dirname(os.path.dirname(os.path.abspath(__file__))), "share")
 COMMANDS = {"show", "events", "check", "canon", "compare"}
-SHARED = {"--depth", "--bytes", "--hex", "--quiet", "--explain", "--help"}
+SHARED = {"--depth", "--bytes", "--keys", "--hex", "--quiet", "--explain", "--help"}
 
 # What stands on the line, and what is offered there; of options, in whichever shell, the long ones.
 ROWS = [
@@ -30,6 +30,7 @@ ROWS = [
     ("cborc canon -", SHARED | {"--hex-out", "--seq", "--order"}),
     ("cborc canon --o", {"--order"}),
     ("cborc check --order ", {"bytewise", "length"}),
+    ("cborc show --keys ", {"any", "basic"}),
     ("cborc show re", {"records.cbor"}),
 ]
 

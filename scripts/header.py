@@ -51,8 +51,10 @@ def constants_of_crate():
     found["VERSION_NUMBER"] = int(re.search(r"pub const VERSION: u32 = (0x[0-9a-f_]+);", (CRATE / "naming.rt").read_text())[1], 16)
     reasons = (ROOT / "crates" / "cbor_head" / "src" / "reason.rt").read_text()
     found |= {snake(n): int(v) for n, v in re.findall(r"(?m)^    (\w+) = (\d+),", reasons)}
-    orders = (CRATE / "settings.rt").read_text()
-    found |= {snake(n): int(v) for v, n in re.findall(r"(\d+) => Some\(KeyOrder::(\w+)\)", orders)}
+    settings = (CRATE / "settings.rt").read_text()
+    found |= {snake(n): int(v) for v, n in re.findall(r"(\d+) => Some\(KeyOrder::(\w+)\)", settings)}
+    kinds = re.findall(r"(\d+) => Some\(Keys::(\w+)\)", settings)
+    found |= {"ANY_KEYS" if n == "Any" else snake(n): int(v) for v, n in kinds}
     limits = (ROOT / "crates" / "cbor_head" / "src" / "limits.rt").read_text()
     found["DEPTH_MAX"] = int(re.search(r"MAX_DEPTH: u16 = (\d+);", limits)[1])
     found["BYTES_MAX"] = 1 << int(re.search(r"bytes <= 1 << (\d+)", limits)[1])

@@ -34,6 +34,8 @@ def words():
         faults.append("no word: status 2 and no output wanted")
     if run(["check", "--bytes", "x", "-"]).returncode != 2:
         faults.append("a wrong word: status 2 wanted")
+    if run(["check", "--keys", "none", "-"]).returncode != 2:
+        faults.append("keys of no such kinds: status 2 wanted")
     if run(["compare", "-", "-"]).returncode != 2:
         faults.append("standard input twice: status 2 wanted")
     for word in (b"x\xff", b"a" * 5000 + b"\xff"):
@@ -52,6 +54,7 @@ def streams():
     expect("quiet", run(["check", "--quiet", "-"], b"\xff"), 1)
     expect("quiet canon", run(["canon", "--quiet", "-", "-"], b"\x18\x00"), 0, b"\x00")
     expect("refused", run(["show", "-"], b"\xf9"), 1, b"", b"refused 5 Float at 0\n")
+    expect("a key of another kind", run(["check", "--keys", "basic", "-"], b"\xa1\x80\x00"), 1, b"", b"refused 20 KeyKind at 1\n")
     few = limited(8 * 1024)
     with open("/dev/zero", "rb") as endless:
         ended = subprocess.run([PROGRAM, "check", "-"], stdin=endless, capture_output=True, timeout=20, preexec_fn=few)

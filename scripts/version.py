@@ -13,8 +13,8 @@ ROOT = Path(__file__).resolve().parent.parent
 
 # Each place: a file, or a pattern of files of which one has it, and what stands before and behind the version there.
 PLACES = [
-    ("crates/cborc_words/src/grammar.rt", r'const VERSION: &str = "\\\n', r"\n"),
-    ("crates/cborc_words/src/grammar.rt", r'\.version\("', r'"\)'),
+    ("crates/cborc_grammar/src/grammar.rt", r'const VERSION: &str = "\\\n', r"\n"),
+    ("crates/cborc_grammar/src/grammar.rt", r'\.version\("', r'"\)'),
     ("crates/cborc/src/tests/*.rt", r'const VERSION: &str = "\\\ncborc ', r"\n"),
     ("crates/cborc/src/tests/*.rt", r'"-V", "cborc ', r'\\n"'),
     ("share/cborc.1", r'(?m:^)\.TH CBORC 1 "[^"]*" "cborc ', r'"'),

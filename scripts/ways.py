@@ -33,7 +33,7 @@ class File:
         self.crate, self.path = crate, path
         self.parts = path.relative_to(CRATES / crate / "src").with_suffix("").parts
         self.text = path.read_text(encoding="utf-8")
-        self.plain = re.sub(r"//[^\n]*|\"(?:[^\"\\]|\\.)*\"", "", self.text)
+        self.plain = re.sub(r"//[^\n]*|\"(?:[^\"\\]|\\[\s\S])*\"", "", self.text)
         self.types = set(re.findall(r"(?m)^(?:pub(?:\(crate\))? )?(?:struct|enum|trait) (\w+)", self.plain))
         self.bodies, self.brings = {}, {}
         self.read_functions()

@@ -2,7 +2,7 @@
 _cborc() {
     local word=${COMP_WORDS[COMP_CWORD]} before=${COMP_WORDS[COMP_CWORD-1]} command=${COMP_WORDS[1]}
     local commands="show events check canon compare"
-    local shared="--depth --bytes --hex --quiet --explain --help"
+    local shared="--depth --bytes --keys --hex --quiet --explain --help"
     COMPREPLY=()
     if ((COMP_CWORD == 1)); then
         COMPREPLY=($(compgen -W "$commands help --help --version" -- "$word"))
@@ -14,6 +14,7 @@ _cborc() {
     fi
     case $before in
         --order) COMPREPLY=($(compgen -W "bytewise length" -- "$word")); return ;;
+        --keys) COMPREPLY=($(compgen -W "any basic" -- "$word")); return ;;
         --depth | --bytes) return ;;
     esac
     if [[ $word != -* ]]; then

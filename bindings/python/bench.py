@@ -32,8 +32,8 @@ def least(call, number=500, repeat=400):
 def library():
     """The library's own time: the same export, called over and over by ctypes, less an export that does nothing."""
     room = _library.Room(4096)
-    words = (CLAIMS, len(CLAIMS), 0, 64, 1 << 20, room.out_at, room.size, room.needed_at, room.why_at)
-    wrong = (CLAIMS, len(CLAIMS), 9, 64, 1 << 20, room.out_at, room.size, room.needed_at, room.why_at)
+    words = (CLAIMS, len(CLAIMS), 0, 0, 64, 1 << 20, room.out_at, room.size, room.needed_at, room.why_at)
+    wrong = (CLAIMS, len(CLAIMS), 9, 0, 64, 1 << 20, room.out_at, room.size, room.needed_at, room.why_at)
     call = _library.canonicalise_raw
     return least(lambda: call(*words)) - least(lambda: call(*wrong))
 

@@ -21,7 +21,7 @@ ROOT = Path(__file__).resolve().parents[3]
 sys.path.insert(0, str(ROOT / "c"))
 from rows import pairs_of, rows_of  # noqa: E402
 
-TABLE = ROOT / "crates/cbor_reader_tests/src/tests/conformance_table.rt"
+TABLES = sorted((ROOT / "crates/cbor_reader_tests/src/tests").glob("*_table.rt"))
 EVENTS = ROOT / "crates/cbor_events_tests/src/tests/tables.rt"
 ORDERS = ("bytewise", "length")
 
@@ -42,12 +42,13 @@ def answer_of(call, *words, **more):
 
 
 class Rows(unittest.TestCase):
-    """Each row of the conformance table, by each call that it speaks of."""
+    """Each row of the conformance tables, by each call that it speaks of."""
 
     def rows(self):
-        for given, depth, most, answers in rows_of(TABLE):
+        for given, (depth, most, keys), answers in rows_of(TABLES):
+            limits = dict(depth=depth, max_bytes=most, keys=keys)
             for order, (canonical, refusal, strict) in zip(ORDERS, answers):
-                yield bytes.fromhex(given), dict(depth=depth, max_bytes=most), order, canonical, refusal, strict
+                yield bytes.fromhex(given), limits, order, canonical, refusal, strict
 
     def test_canonicalise(self):
         for data, limits, order, canonical, refusal, _ in self.rows():
@@ -80,7 +81,7 @@ class Rows(unittest.TestCase):
                     self.assertEqual(list(naltvigo.items(data + data, **limits)), [data, data])
 
     def test_pairs(self):
-        for left, right, (answer, refusal) in pairs_of(TABLE):
+        for left, right, (answer, refusal) in pairs_of(TABLES):
             with self.subTest(left=left, right=right):
                 words = bytes.fromhex(left), bytes.fromhex(right)
                 if refusal is None:
@@ -201,10 +202,27 @@ class Words(unittest.TestCase):
                 getattr(naltvigo, name)(b"\x00", order="shortest")
 
     def test_kinds_of_keys(self):
-        self.assertEqual(naltvigo.canonicalise(b"\x00", keys="any"), b"\x00")
+        data = b"\xa1\x80\x00"
+        answers = dict(canonicalise=data, check=None, check_canonical=None, diagnostic="{[]: 0}")
+        for name, wanted in answers.items():
+            with self.subTest(name=name):
+                call = getattr(naltvigo, name)
+                self.assertEqual(answer_of(call, data, keys="basic"), (20, 1, 2))
+                self.assertEqual(call(data, keys="any"), wanted)
+                self.assertEqual(call(data), wanted)
+        for canonical in (False, True):
+            found = naltvigo.items(b"\x00\xa1\x80\x00", keys="basic", canonical=canonical)
+            self.assertEqual(next(found), b"\x00")
+            self.assertEqual(answer_of(next, found), (20, 1, 2))
+        with self.assertRaises(Refused) as raised:
+            naltvigo.same(b"\x00", b"\xa1\x80\x00", keys="basic")
+        self.assertEqual((raised.exception.side, raised.exception.name), ("right", "KeyKind"))
+
+    def test_other_kinds_of_keys(self):
         for name in ("canonicalise", "check", "check_canonical", "diagnostic", "items"):
-            with self.subTest(name=name), self.assertRaises(ValueError):
+            with self.subTest(name=name), self.assertRaises(ValueError) as raised:
                 getattr(naltvigo, name)(b"\x00", keys="texts")
+            self.assertNotIsInstance(raised.exception, Refused)
 
     def test_no_buffer(self):
         for name in self.CALLS:

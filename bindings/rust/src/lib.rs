@@ -35,7 +35,7 @@ pub use calls::{
     canonicalise, canonicalise_into, check, check_canonical, diagnostic, items, same, Items,
 };
 pub use events::{Event, Events, Kind, Machine, Step};
-pub use options::{Options, Order};
+pub use options::{Keys, Options, Order};
 pub use reason::Reason;
 pub use refused::{NotWritten, Refused, Side};
 

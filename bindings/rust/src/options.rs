@@ -1,4 +1,4 @@
-//! The order of keys, and the limits on an item.
+//! The order of keys, their kinds, and the limits on an item.
 
 use crate::raw::DEPTH_MAX;
 
@@ -12,19 +12,34 @@ pub enum Order {
     LengthFirst = 1,
 }
 
-/// The order of keys, and the limits on an item.
+/// The kinds of keys that the maps of an item may have, at every depth.
+#[derive(Clone, Copy, Debug, Default, PartialEq, Eq, Hash)]
+pub enum Keys {
+    /// Every item (RFC 8949, section 3.1).
+    #[default]
+    Any = 0,
+    /// Integers and texts, be a text in one piece or in chunks.
+    IntegersAndTexts = 1,
+}
+
+/// The order of keys, their kinds, and the limits on an item.
 ///
 /// ```
-/// use naltvigo::{Options, Order};
+/// use naltvigo::{check, Keys, Options, Order, Reason};
 ///
-/// let options = Options::default(); // bytewise, 64 levels, 2^20 bytes
+/// let options = Options::default(); // bytewise, keys of any kind, 64 levels, 2^20 bytes
 /// let deeper = options.with_limits(256, 1 << 30).unwrap().with_order(Order::LengthFirst);
 /// assert!(options.with_limits(257, 0).is_none());
-/// # let _ = deeper;
+///
+/// let map = b"\xa1\x80\x00"; // {[]: 0}
+/// assert!(check(map, &deeper).is_ok());
+/// let refused = check(map, &deeper.with_keys(Keys::IntegersAndTexts)).unwrap_err();
+/// assert_eq!((refused.reason, refused.place), (Reason::KeyKind, 1));
 /// ```
 #[derive(Clone, Copy, Debug, PartialEq, Eq, Hash)]
 pub struct Options {
     order: Order,
+    keys: Keys,
     depth: u16,
     bytes: u64,
 }
@@ -37,23 +52,29 @@ impl Options {
             return None;
         }
         Some(Options {
-            order: self.order,
             depth,
             bytes,
+            ..self
         })
     }
 
     /// These options with another order.
     pub const fn with_order(self, order: Order) -> Options {
-        Options {
-            order,
-            depth: self.depth,
-            bytes: self.bytes,
-        }
+        Options { order, ..self }
+    }
+
+    /// These options for other kinds of keys. [`Machine`](crate::Machine) and
+    /// [`Events`](crate::Events) don't look at keys.
+    pub const fn with_keys(self, keys: Keys) -> Options {
+        Options { keys, ..self }
     }
 
     pub(crate) fn order(&self) -> u32 {
         self.order as u32
+    }
+
+    pub(crate) fn keys(&self) -> u32 {
+        self.keys as u32
     }
 
     pub(crate) fn depth(&self) -> u32 {
@@ -69,6 +90,7 @@ impl Default for Options {
     fn default() -> Options {
         Options {
             order: Order::Bytewise,
+            keys: Keys::Any,
             depth: 64,
             bytes: 1 << 20,
         }

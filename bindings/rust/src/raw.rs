@@ -83,6 +83,7 @@ extern "C" {
         input: *const u8,
         input_length: usize,
         order: u32,
+        keys: u32,
         depth: u32,
         bytes: u64,
         out: *mut u8,
@@ -94,6 +95,7 @@ extern "C" {
         input: *const u8,
         input_length: usize,
         order: u32,
+        keys: u32,
         depth: u32,
         bytes: u64,
         refusal: *mut Refusal,
@@ -101,6 +103,7 @@ extern "C" {
     pub fn naltvigo_check_valid_raw(
         input: *const u8,
         input_length: usize,
+        keys: u32,
         depth: u32,
         bytes: u64,
         refusal: *mut Refusal,
@@ -108,6 +111,7 @@ extern "C" {
     pub fn naltvigo_next_valid_raw(
         input: *const u8,
         input_length: usize,
+        keys: u32,
         depth: u32,
         bytes: u64,
         taken: *mut u64,
@@ -118,6 +122,7 @@ extern "C" {
         left_length: usize,
         right: *const u8,
         right_length: usize,
+        keys: u32,
         depth: u32,
         bytes: u64,
         side: *mut u32,
@@ -126,6 +131,7 @@ extern "C" {
     pub fn naltvigo_diagnostic_raw(
         input: *const u8,
         input_length: usize,
+        keys: u32,
         depth: u32,
         bytes: u64,
         out: *mut u8,

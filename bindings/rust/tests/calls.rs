@@ -1,8 +1,8 @@
 //! What no row of the table says.
 
 use naltvigo::{
-    canonicalise, check, check_canonical, diagnostic, items, library_version, same, Events, Kind,
-    Machine, Options, Order, Reason, Refused, Side, Step,
+    canonicalise, check, check_canonical, diagnostic, items, library_version, same, Events, Keys,
+    Kind, Machine, Options, Order, Reason, Refused, Side, Step,
 };
 use std::thread;
 
@@ -50,6 +50,30 @@ fn defaults() {
     assert!(options.with_limits(256, 1 << 62).is_some());
     assert!(options.with_limits(257, 1).is_none());
     assert!(options.with_limits(1, (1 << 62) + 1).is_none());
+}
+
+// {[]: 0}, whose key is neither an integer nor a text.
+#[test]
+fn kinds_of_keys() {
+    let any = Options::default().with_order(Order::LengthFirst);
+    let basic = any.with_keys(Keys::IntegersAndTexts);
+    let map = b"\xa1\x80\x00";
+    let of_kind = refused(Reason::KeyKind, 1, 2);
+    assert_eq!(canonicalise(map, &any), Ok(map.to_vec()));
+    assert_eq!(canonicalise(map, &basic), Err(of_kind));
+    assert_eq!(check(map, &basic), Err(of_kind));
+    assert_eq!(check_canonical(map, &basic), Err(of_kind));
+    assert_eq!(diagnostic(map, &basic), Err(of_kind));
+    assert_eq!(same(b"\x00", map, &basic), Err((Side::Right, of_kind)));
+    assert_eq!(items(map, &basic).next(), Some(Err(of_kind)));
+    // the form alone is looked at
+    assert_eq!(Events::new(map, &basic).filter(Result::is_ok).count(), 3);
+    // other options stand
+    let keys = b"\xa2\x20\x00\x18\x64\x00";
+    assert_eq!(check_canonical(keys, &basic), Ok(()));
+    let shorter = basic.with_limits(64, 5).unwrap();
+    assert_eq!(check(keys, &shorter).unwrap_err().reason, Reason::TooLong);
+    assert_eq!(check(map, &shorter), Err(of_kind));
 }
 
 // An answer that is longer than its input.

@@ -1,20 +1,30 @@
-//! Each row of the repository's conformance table, by each call that it speaks of. The table's own
-//! text says what its columns are.
+//! Each row of the repository's conformance tables, by each call that it speaks of. Their own text
+//! says what the columns are.
 
 use naltvigo::{
-    canonicalise, canonicalise_into, check, check_canonical, diagnostic, items, same, NotWritten,
-    Options, Order, Reason, Refused, Side,
+    canonicalise, canonicalise_into, check, check_canonical, diagnostic, items, same, Keys,
+    NotWritten, Options, Order, Reason, Refused, Side,
 };
 use std::fs;
 
-const TABLE: &str = concat!(
+const TABLES: &str = concat!(
     env!("CARGO_MANIFEST_DIR"),
-    "/../../crates/cbor_reader_tests/src/tests/conformance_table.rt"
+    "/../../crates/cbor_reader_tests/src/tests"
 );
 
-// The lines of the table with so many columns.
+// The texts of the tables, in one.
+fn tables() -> String {
+    let files = fs::read_dir(TABLES).expect("the tables of the repository");
+    let paths = files.map(|file| file.unwrap().path());
+    paths
+        .filter(|path| path.to_str().unwrap().ends_with("_table.rt"))
+        .map(|path| fs::read_to_string(path).unwrap())
+        .collect()
+}
+
+// The lines of the tables with so many columns.
 fn lines(columns: usize) -> Vec<Vec<String>> {
-    let text = fs::read_to_string(TABLE).expect("the table of the repository");
+    let text = tables();
     let inner = |line: &str| {
         let line = line.strip_prefix("    ")?.strip_suffix(',')?;
         let raw = line
@@ -68,6 +78,16 @@ fn limit(limits: &str, name: &str) -> Option<u64> {
     words.nth(1)?.trim_end_matches(',').parse().ok()
 }
 
+fn keys(limits: &str) -> Keys {
+    match limits.split_once("keys ") {
+        Some((_, kinds)) => {
+            assert_eq!(kinds, "basic");
+            Keys::IntegersAndTexts
+        }
+        None => Keys::Any,
+    }
+}
+
 fn one_row(row: &[String], order: Order, place: usize) {
     let given = unhex(&row[0]);
     let depth = limit(&row[1], "depth").unwrap_or(256) as u16;
@@ -75,7 +95,8 @@ fn one_row(row: &[String], order: Order, place: usize) {
     let options = Options::default()
         .with_limits(depth, bytes)
         .unwrap()
-        .with_order(order);
+        .with_order(order)
+        .with_keys(keys(&row[1]));
     let half = |column: &str| {
         let parts: Vec<&str> = column.split('/').map(str::trim).collect();
         parts[place.min(parts.len() - 1)].to_owned()
@@ -142,6 +163,10 @@ fn one_row(row: &[String], order: Order, place: usize) {
 fn rows() {
     let rows = lines(5);
     assert!(rows.len() > 200);
+    let basic = rows
+        .iter()
+        .filter(|row| keys(&row[1]) == Keys::IntegersAndTexts);
+    assert!(basic.count() >= 10);
     for row in &rows {
         one_row(row, Order::Bytewise, 0);
         one_row(row, Order::LengthFirst, 1);

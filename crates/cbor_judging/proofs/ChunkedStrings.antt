@@ -8,7 +8,7 @@ use Rattle.std.proofs.lemmas.Str.{IsUtf8-nil, IsUtf8-append}
 use Rattle.cbor_head.specs.Head.{Holds, head}
 use Rattle.cbor_head.specs.Limits.{Bounds}
 use Rattle.cbor_head.specs.Value.{AreBytes}
-use Rattle.cbor_head.specs.Spelling.{Chunk, Spelling, bytes, byte_chunks, text_chunks, spell, chunk_bytes, chunks_joined, depth, value_of}
+use Rattle.cbor_head.specs.Spelling.{Chunk, Spelling, byte_chunks, text_chunks, spell, chunk_bytes, chunks_joined, value_of}
 use Rattle.cbor_head.specs.Complaint.{Rules, Complaint, complaint, OfHead, OfIndefinite, OfCount, OfPayload, OfString}
 use Rattle.cbor_head.specs.Verdict.{refusal}
 use Rattle.cbor_head.specs.declared.major.Major.{Major}

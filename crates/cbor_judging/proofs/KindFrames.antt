@@ -9,7 +9,7 @@ use Rattle.cbor_head.specs.declared.major.Major.TheVariants.{Array, Map, Tag}
 use Rattle.cbor_head.specs.declared.reason.Reason.TheVariants.{KeyKind}
 use Rattle.cbor_grammar.proofs.KeyKinds.{kind_end, kind_later, kind_later_in, kind_later_entries, kind_within, kind_within_in, kind_within_entries}
 use Rattle.cbor_grammar.proofs.ReadLaws.{length_head, length_spell}
-use Rattle.cbor_judging.specs.Frame.{Frame, a_member, a_key, a_content, tagged, with_all, with_entries, plug, before, behind, depth_beside}
+use Rattle.cbor_judging.specs.Frame.{Frame, a_member, a_key, a_content, tagged, with_all, with_entries, plug, before, behind}
 use Rattle.cbor_judging.specs.Kinds.{IsKeyFrame, IsKeyDue, plug_all}
 use Rattle.cbor_judging.specs.OpenMaps.{before_all, ArePath}
 use Rattle.cbor_judging.proofs.Frames.{count_with, entries_with, spell_plug, spelled_plug, depth_plug}

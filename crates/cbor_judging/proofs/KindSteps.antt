@@ -1,6 +1,5 @@
 -- That no key of another kind begins in the bytes so far, from one event to the next.
 use Rattle.std.proofs.Common.{ℕ, ◌+◌, ◌≡◌, ◌<◌, ◌≤◌, ◌⊎◌, Option, List, [], ◌∷◌, ◌++◌, length, refl, sym, ap, ◌∙◌, arith, subst, inl, inr}
-use Rattle.std.specs.Prelude.{IsTrue}
 use Rattle.std.proofs.lemmas.List.{length-append, append_assoc, append-nil}
 use Rattle.cbor_head.specs.Laws.{StartsWith}
 use Rattle.cbor_head.specs.Limits.{Bounds}
@@ -18,7 +17,7 @@ use Rattle.cbor_judging.specs.Frame.{Frame}
 use Rattle.cbor_judging.specs.Kinds.{AsksForKinds, KeepsToKinds, IsKeyDue, plug_all}
 use Rattle.cbor_judging.specs.Reading.{IsMemory, IsReached, IsUndecided, HasCause}
 use Rattle.cbor_judging.specs.OpenMaps.{before_all, ArePath}
-use Rattle.cbor_judging.proofs.KindFrames.{IsOnKey, spell_along, item_along, kind_along, key_along}
+use Rattle.cbor_judging.proofs.KindFrames.{spell_along, item_along, kind_along, key_along}
 
 -- keys may be of any kind
 pub keeps_any : (limits : Bounds) (r : Rules) → limits.keys ≡ Any → (t : List ℕ) → KeepsToKinds limits r t

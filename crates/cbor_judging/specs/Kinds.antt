@@ -6,7 +6,7 @@ use Rattle.cbor_head.specs.Spelling.{Spelling}
 use Rattle.cbor_head.specs.Complaint.{Rules, Complaint, OfKinds}
 use Rattle.cbor_head.specs.declared.keys.Keys.TheVariants.{IntegersAndTexts}
 use Rattle.cbor_grammar.specs.FirstBytes.{is_basic, is_container}
-use Rattle.cbor_judging.specs.Frame.{Frame, a_member, a_key, a_content, tagged, plug}
+use Rattle.cbor_judging.specs.Frame.{Frame, a_key, plug}
 use Rattle.cbor_judging.specs.Levels as levels
 use Rattle.cbor_judging.specs.Levels.{Level}
 

@@ -1,5 +1,5 @@
 -- From one event to the next, by the strict rules.
-use Rattle.std.proofs.Common.{◌≡◌, ℕ, zero, suc, ◌<◌, Bool, true, false, true≢false, Option, Some, None, List, [], ◌++◌, length, replicate, refl, sym, ap, ◌∙◌, subst, inl, inr, arith, append_assoc}
+use Rattle.std.proofs.Common.{◌≡◌, ℕ, zero, suc, ◌<◌, Bool, true, false, true≢false, Option, Some, None, List, [], ◌++◌, length, refl, sym, ap, ◌∙◌, subst, inl, inr, arith, append_assoc}
 use Rattle.std.proofs.lemmas.List.{length-append}
 use Rattle.cbor_head.specs.Head.{head}
 use Rattle.cbor_head.specs.Limits.{Bounds}
@@ -8,7 +8,7 @@ use Rattle.cbor_head.specs.Complaint.{strict}
 use Rattle.cbor_head.specs.declared.major.Major.{Major}
 use Rattle.cbor_head.specs.declared.width.Width.{Width}
 use Rattle.cbor_judging.specs.Place.{Container, Place, at_item, payload, done, IsTaking}
-use Rattle.cbor_automaton.specs.Trace.{Mark, a_byte, a_break, total}
+use Rattle.cbor_automaton.specs.Trace.{Mark, a_break}
 use Rattle.cbor_standing.specs.Machine.{IsComplete}
 use Rattle.cbor_automaton.specs.Bytes.{IsHeadBytes, IsChunkHead, IsBytesOf, last_type}
 use Rattle.cbor_automaton.specs.Marks.{marks_of, mark_of, count_of, IsProper}

@@ -1,22 +1,22 @@
 -- What finds equal keys, and is given the parts of an item: what it stands for behind each.
-use Rattle.std.proofs.Common.{◌≡◌, ℕ, zero, suc, ◌-◌, ◌^◌, ◌<◌, Bool, true, false, List, [], ◌∷◌, ◌++◌, length, refl, sym, ap, ◌∙◌, subst, inl, inr, arith}
+use Rattle.std.proofs.Common.{◌≡◌, ℕ, zero, suc, ◌^◌, ◌<◌, Bool, true, false, List, [], ◌∷◌, refl, sym, ap, ◌∙◌, subst, inl, inr, arith}
 use Rattle.std.specs.Prelude.{◌⊎◌, ◌↔◌, IsTrue, Result, Ok, Err, IfOk}
 use Rattle.std.proofs.lemmas.Bool.{false≢true}
 use Rattle.cbor_builder.specs.Built.{Built, built, IsContainer, HasDistinctKeysSoFar, TakesPart, around}
 use Rattle.cbor_canonical.specs.Parts.{IsInContainer, Open, plain, give, close, closed}
 use Rattle.cbor_canonical.specs.Parts as parts
 use Rattle.cbor_head.specs.Canonical.{canonical}
-use Rattle.cbor_head.specs.Spelling.{Spelling, array, a_map, spell, value_of}
+use Rattle.cbor_head.specs.Spelling.{Spelling, array, a_map, value_of}
 use Rattle.cbor_head.specs.Value.{Value}
 use Rattle.cbor_head.specs.declared.major.Major.{Major}
 use Rattle.cbor_head.specs.declared.major.Major.TheVariants as majors
 use Rattle.cbor_head.specs.declared.order.KeyOrder.{KeyOrder}
 use Rattle.cbor_judging.specs.Given.{level_open, opens, IsFull}
-use Rattle.cbor_judging.specs.Levels.{Level, some_member, some_key, AreLevels, bytes_before, Standing, item_due, item_full, item_whole, settle}
+use Rattle.cbor_judging.specs.Levels.{Level, some_member, some_key, AreLevels, Standing, item_due, item_full, settle}
 use Rattle.cbor_walk.proofs.CanonGiven.{level-opened, full-endless}
 use Rattle.cbor_walk.proofs.KeysKept.{in_key-is, item-kept, takes-part, value-takes, inside-few, innermost, may-end, IsBehind, map-ended, other-ended, inner-ended, inner-takes}
-use Rattle.cbor_walk.specs.KeyBytes.{is_open_map, key_due, in_key, is_map, bare, kept, kept_all, one_more, inside, is_kept, behind_item, with_item, with_opened, KeepsAt, keys_stand, told_stand, GivesTold, OpensTold, EndsTold}
-use Rattle.cbor_walk.specs.Sink.{IsOpened, IsEndedAs, AreOpenLevels, Fills, StandsFull, IsItemDue, IsContainerFull}
+use Rattle.cbor_walk.specs.KeyBytes.{is_open_map, key_due, in_key, is_map, bare, kept, kept_all, one_more, inside, is_kept, behind_item, with_item, with_opened, KeepsAt, told_stand, GivesTold, OpensTold, EndsTold}
+use Rattle.cbor_walk.specs.Sink.{IsEndedAs, Fills, StandsFull, IsItemDue, IsContainerFull}
 use Rattle.cbor_walk.specs.declared.key_bytes.KeyBytes.{KeyBytes}
 
 -- ---- an item

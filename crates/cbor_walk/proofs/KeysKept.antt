@@ -11,10 +11,8 @@ use Rattle.cbor_grammar.proofs.ReadLaws.{length_head}
 use Rattle.cbor_head.specs.Canonical.{Pair, canonical}
 use Rattle.cbor_head.specs.Head.{head}
 use Rattle.cbor_head.specs.Spelling.{Spelling, no_spellings, a_spelling, no_entries, entry, spell, spell_all, spell_entries, spellings_count, entries_count, value_of}
-use Rattle.cbor_head.specs.declared.major.Major.{Major}
 use Rattle.cbor_head.specs.declared.major.Major.TheVariants as majors
 use Rattle.cbor_head.specs.declared.order.KeyOrder.{KeyOrder}
-use Rattle.cbor_head.specs.declared.width.Width.{Width}
 use Rattle.cbor_head.specs.declared.width.Width.TheVariants.{Indefinite}
 use Rattle.cbor_judging.proofs.Given.{settled}
 use Rattle.cbor_judging.specs.Frame.{with_all, with_entries}

@@ -19,6 +19,7 @@ use Rattle.cbor_canonical.proofs.Normal.{Holds-shortest}
 use Rattle.cbor_walk.specs.inner.Leaves.{IsLeaf, IsShortestHead}
 use Rattle.cbor_judging.proofs.Heads.{open_or, takes}
 use Rattle.cbor_judging.proofs.KindBytes.{head_is_one}
+use Rattle.cbor_judging.proofs.KindSteps.{keeps_start}
 use Rattle.cbor_judging.specs.Judged.{Never}
 use Rattle.cbor_judging.specs.Kinds.{KeepsToKinds}
 use Rattle.cbor_walk.specs.inner.Path as path
@@ -194,6 +195,13 @@ tag_opens low size behind h =
       inside = omega (arith, some, inside);
       opener = inr (refl, (h.number, h.shortest.range, subst (λ (k : ℕ). (192 + low) ∷ behind ≡ shortest_head Tag h.number ++ drop k ((192 + low) ∷ behind)) (sym e) (h.shortest.spelled 192)));
     }
+
+-- the item of the input is due before its first byte, whatever lies in the cells
+pub starts_at : (o : KeyOrder) (limits : Bounds) (input : List ℕ) (k : Stack Level) (cells : List Level) → k.height ≡ 0 → k.top ≡ a_level Item 0 0 → StandsAt o limits input (standing Level k cells) 0
+starts_at o limits input k cells h e =
+    let one : a_level Item 0 0 ∷ [] ≡ standing Level k cells = sym (ap (λ (l : Level). l ∷ reverse (take k.height cells)) e ∙ ap (λ (n : ℕ). a_level Item 0 0 ∷ reverse (take n cells)) h) in
+    subst (λ (cs : List Level). StandsAt o limits input cs 0) one
+    (record { ls = []; clean = tt; keeps = keeps_start limits (strict o); are = (refl, refl); rest = input; bytes = refl; here = refl })
 
 -- the same levels in other cells
 pub more_cells : (L : Type 0) (k : Stack L) (few more : List L) → k.height ≡ length few → take (length few) more ≡ few → standing L k few ≡ standing L k more

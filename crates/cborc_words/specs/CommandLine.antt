@@ -2,6 +2,8 @@
 use Rattle.std.specs.Prelude.{ℕ, ◌≡◌, ◌≢◌, ◌≤◌, ◌^◌, ◌⊎◌, List, Option, Some, None, IsSome, IsSomeAnd, Bool, true, false, ◌&&◌, codes, if◌then◌else◌, option_map, option_and_then}
 use Rattle.std.specs.Str.{bytes_eq}
 use Rattle.std.specs.Str.Parse.{IsNumeral, digits_value, without_leading_plus}
+use Rattle.cbor_head.specs.declared.keys.Keys.{Keys}
+use Rattle.cbor_head.specs.declared.keys.Keys.TheVariants.{Any, IntegersAndTexts}
 use Rattle.cbor_head.specs.declared.limits.TheConstants.{MAX_DEPTH}
 use Rattle.cbor_head.specs.declared.order.KeyOrder.{KeyOrder}
 use Rattle.cbor_head.specs.declared.order.KeyOrder.TheVariants.{Bytewise, LengthFirst}
@@ -28,6 +30,14 @@ order_named word = if bytes_eq word (codes "bytewise") then Some Bytewise else i
 abbrev pub order_given : List Row → Option KeyOrder
 order_given rows = option_and_then order_named (first_of (codes "order") rows)
 
+-- the kinds of keys that a word names
+abbrev pub keys_named : Text → Option Keys
+keys_named word = if bytes_eq word (codes "any") then Some Any else if bytes_eq word (codes "basic") then Some IntegersAndTexts else None
+
+-- the kinds that are given
+abbrev pub keys_given : List Row → Option Keys
+keys_given rows = option_and_then keys_named (first_of (codes "keys") rows)
+
 -- the number that is given by this name
 abbrev pub number_given : Text → List Row → Option ℕ
 number_given name rows = option_map (λ text. digits_value 10 (without_leading_plus text)) (one_of name rows)
@@ -42,6 +52,7 @@ pub record IsAcceptedOf (rows : List Row) (accepted : Option Accepted) : Type 0 
 pub record IsOptionsOf (rows : List Row) (options : Options) : Type 0 where
   pub depth : number_given (codes "depth") rows ≡ Some options.limits.depth
   pub bytes : number_given (codes "bytes") rows ≡ Some options.limits.bytes
+  pub keys : keys_given rows ≡ Some options.limits.keys
   pub hex : one_of (codes "hex") rows ≡ Some (codes "true") → options.hex ≡ true
   pub raw : one_of (codes "hex") rows ≡ Some (codes "false") → options.hex ≡ false
 
@@ -113,9 +124,11 @@ AsksFor (name, rows) (EventsSequence source options) =
 abbrev pub IsNumber : ℕ → Text → Type 0
 IsNumber most text = IsNumeral 10 (without_leading_plus text) × (digits_value 10 (without_leading_plus text) ≤ most)
 
--- limits are given, in their ranges
+-- limits are given, the numbers in their ranges
 abbrev pub HasLimits : List Row → Type 0
-HasLimits rows = IsSomeAnd (one_of (codes "depth") rows) (IsNumber MAX_DEPTH) × IsSomeAnd (one_of (codes "bytes") rows) (IsNumber (2 ^ 62))
+HasLimits rows =
+    IsSomeAnd (one_of (codes "depth") rows) (IsNumber MAX_DEPTH) × IsSomeAnd (one_of (codes "bytes") rows) (IsNumber (2 ^ 62))
+    × IsSome (keys_given rows)
 
 -- so are the files that a subcommand of this name takes
 abbrev pub HasFiles : Text × List Row → Type 0

@@ -3,8 +3,8 @@ use Rattle.std.specs.Prelude.{◌≡◌, List, [], IfSome, IsSomeAnd, String, ma
 use Rattle.clap.specs.Words.{App, IsAmong, Row, Text, fault_of, subcommand_of}
 use Rattle.clap.specs.declared.error.kind.ErrorKind.{ErrorKind}
 use Rattle.clap.specs.declared.error.kind.ErrorKind.TheVariants.{ArgumentConflict, MissingSubcommand}
+use Rattle.cborc_grammar.specs.Grammar.{IsGrammar}
 use Rattle.cborc_words.specs.CommandLine.{reads_stream_twice, AsksFor, AsksForTask, HasTwoManners, IsComplete}
-use Rattle.cborc_words.specs.Grammar.{IsGrammar}
 use Rattle.cborc_input.specs.declared.request.Request.{Request}
 use Rattle.cborc_input.specs.declared.request.Task.{Task}
 

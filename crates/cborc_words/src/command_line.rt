@@ -2,13 +2,13 @@
 
 ghost use Rattle.std.specs.Prelude.{◌≡◌, ◌≢◌, codes, false, true, IfErr, IfOk, IfSome, IsSome, IsSomeAnd};
 ghost use Rattle.clap.specs.Words.{first_of, found_of, kind_of, rows_of, subcommand_rows_of};
-ghost use Rattle.cborc_words.specs.CommandLine.{order_named, AsksFor, HasLimits, HasOneManner, HasTwoManners, reads_stream_twice, IsAcceptedOf, IsComplete, IsLayoutOf, IsMannerOf, IsOptionsOf, IsOutputOf};
+ghost use Rattle.cborc_words.specs.CommandLine.{keys_named, order_named, AsksFor, HasLimits, HasOneManner, HasTwoManners, reads_stream_twice, IsAcceptedOf, IsComplete, IsLayoutOf, IsMannerOf, IsOptionsOf, IsOutputOf};
 ghost use Rattle.cborc_words.specs.Words.{texts_of, AskFor, HasFault};
 
-use crate::grammar::command;
-use cbor_head::{KeyOrder, Limits};
+use cbor_head::{KeyOrder, Keys, Limits};
 use cborc_commands::{Accepted, Form, Layout, Manner, Options, Output, Request, Task};
 use cborc_files::is_stream;
+use cborc_grammar::command;
 use clap::error::ErrorKind;
 use clap::{ArgMatches, Error};
 use std::alloc::Global;
@@ -272,8 +272,20 @@ fn options_of(given: &ArgMatches<'_>) -> Option<Options>
 {
     let depth = given.get_one::<u16>("depth")?;
     let bytes = given.get_one::<u64>("bytes")?;
+    let keys = keys_of(given.get_str("keys")?)?;
     Some(Options {
-        limits: Limits::new(depth, bytes)?,
+        limits: Limits::new(depth, bytes)?.with_keys(keys),
         hex: given.get_flag("hex"),
     })
+}
+
+// The kinds of keys that a word names.
+fn keys_of(word: &str) -> Option<Keys>
+    ensures { result ≡ keys_named word.now }
+{
+    match word {
+        "any" => Some(Keys::Any),
+        "basic" => Some(Keys::IntegersAndTexts),
+        _ => None,
+    }
 }

@@ -1,12 +1,14 @@
 -- What a comparison tells of values and of canonical bytes, by the numbers that C gave.
 use Rattle.std.proofs.Common.{ℕ, ◌^◌, ◌≡◌, ◌≢◌, ◌≤◌, ◌↔◌, Bool, true, false, List, subst, sym, ◌∙◌}
 use Rattle.std.specs.Prelude.{IsTrue}
-use Rattle.cbor_head.specs.Limits.{Bounds, bounds}
-use Rattle.cbor_head.specs.Spelling.{Spelling, value_of}
+use Rattle.cbor_head.specs.Limits.{Bounds, bounds, with_keys}
+use Rattle.cbor_head.specs.Spelling.{Spelling, IsItem, value_of}
 use Rattle.cbor_head.specs.Value.{Same}
+use Rattle.cbor_head.specs.declared.keys.Keys.{Keys}
 use Rattle.cbor_head.specs.declared.order.KeyOrder.{KeyOrder}
 use Rattle.cbor_reader.specs.Canonicalise.{IsCanonicalOf}
 use Rattle.cbor_reader.specs.Headline.{IsValidItem}
+use Rattle.cbor_reader.specs.WholeItem.{IsWholeItem}
 
 apart : false ≡ true → ⊥
 apart e = cc e
@@ -21,12 +23,22 @@ module _ (l m : Bounds) (left right : List ℕ) (same : Bool) (k : m ≡ l) (tel
   pub other-values : same ≡ false → (s t : Spelling) → IsValidItem m left s → IsValidItem m right t → ¬ Same (value_of s) (value_of t)
   other-values e s t a b = λ q. apart (sym e ∙ (tells s t (at-limits left s a) (at-limits right t b)).1 q)
 
-module _ (d e : ℕ) (left right : List ℕ) (same : Bool) (k : e ≡ d) (tells : (n : ℕ) (o : KeyOrder) (a b : List ℕ) → n ≤ 2 ^ 62 → IsCanonicalOf (bounds d n) o left a → IsCanonicalOf (bounds d n) o right b → IsTrue same ↔ (a ≡ b)) where
-  at-depth : (n : ℕ) (o : KeyOrder) (x y : List ℕ) → IsCanonicalOf (bounds e n) o x y → IsCanonicalOf (bounds d n) o x y
-  at-depth n o x y h = subst (λ (m : ℕ). IsCanonicalOf (bounds m n) o x y) k h
+-- the law of equal answers
+abbrev TellValues : Type 0
+TellValues =
+    (limits others : Bounds) (o : KeyOrder) (x y a b : List ℕ) (s t : Spelling) → limits.bytes ≤ 2 ^ 62 → others.bytes ≤ 2 ^ 62
+    → IsCanonicalOf limits o x a → IsItem limits.depth s x → IsCanonicalOf others o y b → IsItem others.depth t y → (a ≡ b) ↔ Same (value_of s) (value_of t)
 
-  pub equal-answers : same ≡ true → (n : ℕ) (o : KeyOrder) (a b : List ℕ) → n ≤ 2 ^ 62 → IsCanonicalOf (bounds e n) o left a → IsCanonicalOf (bounds e n) o right b → a ≡ b
-  equal-answers t n o a b l x y = (tells n o a b l (at-depth n o left a x) (at-depth n o right b y)).0 t
+module _ (l : Bounds) (left right : List ℕ) (law : TellValues) (whole : IsWholeItem l left × IsWholeItem l right) where
+  answers : (n : ℕ) (k : Keys) (o : KeyOrder) (a b : List ℕ) → n ≤ 2 ^ 62 → IsCanonicalOf (with_keys (bounds l.depth n) k) o left a → IsCanonicalOf (with_keys (bounds l.depth n) k) o right b
+      → (a ≡ b) ↔ Same (value_of whole.0.0) (value_of whole.1.0)
+  answers n k o a b m x y =
+      law (with_keys (bounds l.depth n) k) (with_keys (bounds l.depth n) k) o left right a b whole.0.0 whole.1.0 m m x whole.0.1.well_formed y whole.1.1.well_formed
 
-  pub unequal-answers : same ≡ false → (n : ℕ) (o : KeyOrder) (a b : List ℕ) → n ≤ 2 ^ 62 → IsCanonicalOf (bounds e n) o left a → IsCanonicalOf (bounds e n) o right b → a ≢ b
-  unequal-answers f n o a b l x y = λ q. apart (sym f ∙ (tells n o a b l (at-depth n o left a x) (at-depth n o right b y)).1 q)
+  pub equal-answers : ((s t : Spelling) → IsValidItem l left s → IsValidItem l right t → Same (value_of s) (value_of t)) → (n : ℕ) (k : Keys) (o : KeyOrder) (a b : List ℕ) → n ≤ 2 ^ 62
+      → IsCanonicalOf (with_keys (bounds l.depth n) k) o left a → IsCanonicalOf (with_keys (bounds l.depth n) k) o right b → a ≡ b
+  equal-answers same n k o a b m x y = (answers n k o a b m x y).1 (same whole.0.0 whole.1.0 whole.0.1 whole.1.1)
+
+  pub unequal-answers : ((s t : Spelling) → IsValidItem l left s → IsValidItem l right t → ¬ Same (value_of s) (value_of t)) → (n : ℕ) (k : Keys) (o : KeyOrder) (a b : List ℕ) → n ≤ 2 ^ 62
+      → IsCanonicalOf (with_keys (bounds l.depth n) k) o left a → IsCanonicalOf (with_keys (bounds l.depth n) k) o right b → a ≢ b
+  unequal-answers other n k o a b m x y = λ q. other whole.0.0 whole.1.0 whole.0.1 whole.1.1 ((answers n k o a b m x y).0 q)

@@ -2,11 +2,10 @@
 
 ghost use Rattle.std.specs.Prelude.{◌≡◌, ◌≢◌, ◌↔◌, ◌<◌, ◌≤◌, ℕ, List, length, take, drop};
 ghost use Rattle.cbor_head.specs.Canonical.{canonical};
-ghost use Rattle.cbor_head.specs.Limits.{bounds, AreBounds};
 ghost use Rattle.cbor_head.specs.Spelling.{Spelling, value_of};
 ghost use Rattle.cbor_reader.specs.Canonicalise.{IsCanonicalOf, TellsItsValue};
 ghost use Rattle.cbor_reader.specs.Headline.{IsValidItem};
-ghost use Rattle.naltvigo.specs.Settings.{key_order};
+ghost use Rattle.naltvigo.specs.Settings.{key_order, item_limits, AreLimits};
 ghost use Rattle.naltvigo.specs.Told.{IsRefused, LacksMemory};
 
 use crate::buffer::give;
@@ -26,35 +25,37 @@ pub extern "C" fn naltvigo_canonicalise_raw(
     alloc: Global,
     input: &[u8],
     order: u32,
+    keys: u32,
     depth: u32,
     bytes: u64,
     out: &mut [u8],
     needed: &mut usize,
     refusal: &mut NaltvigoRefusal,
 ) -> u32
-    ensures written { result ≡ OK → IsCanonicalOf (bounds depth bytes) (key_order order)
+    ensures written { result ≡ OK → IsCanonicalOf (item_limits keys depth bytes) (key_order order)
         input.now (take needed.new out.new) }
-    ensures accepted { result ≡ OK → (s : Spelling) × IsValidItem (bounds depth bytes) input.now s
+    ensures accepted { result ≡ OK → (s : Spelling) × IsValidItem (item_limits keys depth bytes) input.now s
         × (take needed.new out.new ≡ canonical (key_order order) (value_of s))
         × (needed.new ≤ bytes) }
     ensures equal { result ≡ OK → TellsItsValue depth (key_order order)
         input.now (take needed.new out.new) }
-    ensures again { result ≡ OK → IsCanonicalOf (bounds depth bytes) (key_order order)
+    ensures again { result ≡ OK → IsCanonicalOf (item_limits keys depth bytes) (key_order order)
         (take needed.new out.new) (take needed.new out.new) }
     ensures room { result ≡ OK → needed.new ≤ length out.old }
     ensures too_small { result ≡ TOO_SMALL → (x : List ℕ)
-        × IsCanonicalOf (bounds depth bytes) (key_order order) input.now x
+        × IsCanonicalOf (item_limits keys depth bytes) (key_order order) input.now x
         × (needed.new ≡ length x) × (length out.old < length x) }
-    ensures refused { result ≡ REFUSED → IsRefused (bounds depth bytes) (key_order order)
+    ensures refused { result ≡ REFUSED → IsRefused (item_limits keys depth bytes) (key_order order)
         input.now refusal.new }
-    ensures none { result ≡ REFUSED → (s : Spelling) → IsValidItem (bounds depth bytes) input.now s
+    ensures none { result ≡ REFUSED
+        → (s : Spelling) → IsValidItem (item_limits keys depth bytes) input.now s
         → bytes < length (canonical (key_order order) (value_of s)) }
-    ensures no_memory { result ≡ NO_MEMORY → LacksMemory (bounds depth bytes) (key_order order)
+    ensures no_memory { result ≡ NO_MEMORY → LacksMemory (item_limits keys depth bytes) (key_order order)
         input.now refusal.new }
     ensures bad_order { (result ≡ BAD_ORDER) ↔ (1 < order) }
-    ensures bad_limits { result ≡ BAD_LIMITS → ¬ AreBounds (bounds depth bytes) }
+    ensures bad_limits { result ≡ BAD_LIMITS → ¬ AreLimits keys depth bytes }
     ensures in_range { result ≢ BAD_ORDER → result ≢ BAD_LIMITS
-        → (order ≤ 1) × AreBounds (bounds depth bytes) }
+        → (order ≤ 1) × AreLimits keys depth bytes }
     ensures statuses { result ≤ BAD_LIMITS }
     ensures kept { (result ≢ OK → out.new ≡ out.old)
         × (drop needed.new out.new ≡ drop needed.new out.old) }
@@ -65,7 +66,7 @@ pub extern "C" fn naltvigo_canonicalise_raw(
     let Some(order) = order_numbered(order) else {
         return BAD_ORDER;
     };
-    let Some(limits) = limits_of(depth, bytes) else {
+    let Some(limits) = limits_of(keys, depth, bytes) else {
         return BAD_LIMITS;
     };
     match canonicalise(alloc, input, limits, order) {

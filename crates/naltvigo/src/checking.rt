@@ -2,12 +2,11 @@
 
 ghost use Rattle.std.specs.Prelude.{◌≡◌, ◌≢◌, ◌↔◌, ◌⊎◌, ◌<◌, ◌≤◌, length, IfOk, IfErr};
 ghost use Rattle.cbor_head.specs.Complaint.{strict};
-ghost use Rattle.cbor_head.specs.Limits.{bounds, AreBounds};
 ghost use Rattle.cbor_head.specs.declared.reason.Reason.TheVariants as reasons;
 ghost use Rattle.cbor_reader.specs.Canonicalise.{IsCanonicalOf};
 ghost use Rattle.cbor_judging.specs.Readers.{IsRead, IsCanonicalFront};
 ghost use Rattle.cbor_reader.specs.WholeItem.{IsWholeItem, IsItemRefusal};
-ghost use Rattle.naltvigo.specs.Settings.{key_order};
+ghost use Rattle.naltvigo.specs.Settings.{key_order, item_limits, AreLimits};
 ghost use Rattle.naltvigo.specs.Checking.{HasNoWholeFront, IsNotCanonical, IsNotValid, ItemLacksMemory};
 ghost use Rattle.naltvigo.specs.inner.Checking.{IsOwnAnswer, IsNotOwn};
 
@@ -24,25 +23,27 @@ use std::alloc::Global;
 pub extern "C" fn naltvigo_check_canonical_raw(
     input: &[u8],
     order: u32,
+    keys: u32,
     depth: u32,
     bytes: u64,
     refusal: &mut NaltvigoRefusal,
 ) -> u32
-    ensures own { result ≡ OK → IsCanonicalOf (bounds depth bytes) (key_order order) input.now input.now }
+    ensures own { result ≡ OK
+        → IsCanonicalOf (item_limits keys depth bytes) (key_order order) input.now input.now }
     ensures accepted { result ≡ OK
-        → IsRead (bounds depth bytes) (strict (key_order order)) input.now (length input.now) }
+        → IsRead (item_limits keys depth bytes) (strict (key_order order)) input.now (length input.now) }
     ensures canonical { result ≡ OK
-        → IsCanonicalFront (bounds depth bytes) (key_order order) input.now (length input.now) }
+        → IsCanonicalFront (item_limits keys depth bytes) (key_order order) input.now (length input.now) }
     ensures refused { result ≡ REFUSED
-        → IsNotCanonical (bounds depth bytes) (key_order order) input.now refusal.new }
+        → IsNotCanonical (item_limits keys depth bytes) (key_order order) input.now refusal.new }
     ensures not_own { result ≡ REFUSED
-        → ¬ IsCanonicalOf (bounds depth bytes) (key_order order) input.now input.now }
+        → ¬ IsCanonicalOf (item_limits keys depth bytes) (key_order order) input.now input.now }
     ensures front { result ≡ REFUSED
-        → HasNoWholeFront (bounds depth bytes) (key_order order) input.now refusal.new.place }
+        → HasNoWholeFront (item_limits keys depth bytes) (key_order order) input.now refusal.new.place }
     ensures bad_order { (result ≡ BAD_ORDER) ↔ (1 < order) }
-    ensures bad_limits { result ≡ BAD_LIMITS → ¬ AreBounds (bounds depth bytes) }
+    ensures bad_limits { result ≡ BAD_LIMITS → ¬ AreLimits keys depth bytes }
     ensures in_range { result ≢ BAD_ORDER → result ≢ BAD_LIMITS
-        → (order ≤ 1) × AreBounds (bounds depth bytes) }
+        → (order ≤ 1) × AreLimits keys depth bytes }
     ensures statuses { (result ≡ OK) ⊎ (result ≡ REFUSED)
         ⊎ (result ≡ BAD_ORDER) ⊎ (result ≡ BAD_LIMITS) }
     ensures untold { result ≢ REFUSED → refusal.new ≡ refusal.old }
@@ -50,7 +51,7 @@ pub extern "C" fn naltvigo_check_canonical_raw(
     let Some(order) = order_numbered(order) else {
         return BAD_ORDER;
     };
-    let Some(limits) = limits_of(depth, bytes) else {
+    let Some(limits) = limits_of(keys, depth, bytes) else {
         return BAD_LIMITS;
     };
     match check_own_bytes(input, limits, order) {
@@ -67,21 +68,23 @@ pub extern "C" fn naltvigo_check_canonical_raw(
 pub extern "C" fn naltvigo_check_valid_raw(
     alloc: Global,
     input: &[u8],
+    keys: u32,
     depth: u32,
     bytes: u64,
     refusal: &mut NaltvigoRefusal,
 ) -> u32
-    ensures accepted { result ≡ OK → IsWholeItem (bounds depth bytes) input.now }
-    ensures refused { result ≡ REFUSED → IsNotValid (bounds depth bytes) input.now refusal.new }
-    ensures not_accepted { result ≡ REFUSED → ¬ IsWholeItem (bounds depth bytes) input.now }
-    ensures no_memory { result ≡ NO_MEMORY → ItemLacksMemory (bounds depth bytes) input.now refusal.new }
-    ensures bad_limits { (result ≡ BAD_LIMITS) → ¬ AreBounds (bounds depth bytes) }
-    ensures in_range { result ≢ BAD_LIMITS → AreBounds (bounds depth bytes) }
+    ensures accepted { result ≡ OK → IsWholeItem (item_limits keys depth bytes) input.now }
+    ensures refused { result ≡ REFUSED → IsNotValid (item_limits keys depth bytes) input.now refusal.new }
+    ensures not_accepted { result ≡ REFUSED → ¬ IsWholeItem (item_limits keys depth bytes) input.now }
+    ensures no_memory { result ≡ NO_MEMORY
+        → ItemLacksMemory (item_limits keys depth bytes) input.now refusal.new }
+    ensures bad_limits { (result ≡ BAD_LIMITS) → ¬ AreLimits keys depth bytes }
+    ensures in_range { result ≢ BAD_LIMITS → AreLimits keys depth bytes }
     ensures statuses { (result ≡ OK) ⊎ (result ≡ REFUSED)
         ⊎ (result ≡ NO_MEMORY) ⊎ (result ≡ BAD_LIMITS) }
     ensures untold { result ≢ REFUSED → result ≢ NO_MEMORY → refusal.new ≡ refusal.old }
 {
-    let Some(limits) = limits_of(depth, bytes) else {
+    let Some(limits) = limits_of(keys, depth, bytes) else {
         return BAD_LIMITS;
     };
     match check_whole_item(alloc, input, limits) {

@@ -1,9 +1,10 @@
 //! Whether two inputs mean the same.
 
 ghost use Rattle.std.specs.Prelude.{◌≡◌, ◌≢◌, ◌⊎◌, ◌≤◌, ◌^◌, ℕ, List};
-ghost use Rattle.cbor_head.specs.Limits.{bounds, AreBounds};
+ghost use Rattle.cbor_head.specs.Limits.{bounds, with_keys};
 ghost use Rattle.cbor_head.specs.Spelling.{Spelling, value_of};
 ghost use Rattle.cbor_head.specs.Value.{Same};
+ghost use Rattle.cbor_head.specs.declared.keys.Keys.{Keys};
 ghost use Rattle.cbor_head.specs.declared.order.KeyOrder.{KeyOrder};
 ghost use Rattle.cbor_reader.specs.Canonicalise.{IsCanonicalOf};
 ghost use Rattle.cbor_reader.specs.Comparing.{MeanTheSame};
@@ -11,9 +12,11 @@ ghost use Rattle.cbor_reader.specs.Headline.{IsValidItem};
 ghost use Rattle.cbor_reader.specs.WholeItem.{IsWholeItem};
 ghost use Rattle.naltvigo.specs.Comparing.{side_number as number_of};
 ghost use Rattle.naltvigo.specs.Comparing.{IsSideRefused, SideLacksMemory};
+ghost use Rattle.naltvigo.specs.Settings.{item_limits, AreLimits};
 
 use crate::settings::limits_of;
 use crate::status::{BAD_LIMITS, DIFFERENT, NO_MEMORY, NaltvigoRefusal, OK, REFUSED, tell};
+use cbor_reader::laws::equal_answers_of_same_values;
 use cbor_reader::{Side, same_meaning};
 use std::alloc::Global;
 
@@ -30,39 +33,47 @@ pub extern "C" fn naltvigo_compare_raw(
     alloc: Global,
     left: &[u8],
     right: &[u8],
+    keys: u32,
     depth: u32,
     bytes: u64,
     side: &mut u32,
     refusal: &mut NaltvigoRefusal,
 ) -> u32
-    ensures same { result ≡ OK → MeanTheSame (bounds depth bytes) left.now right.now }
-    ensures different { result ≡ DIFFERENT → ¬ MeanTheSame (bounds depth bytes) left.now right.now }
+    ensures same { result ≡ OK → MeanTheSame (item_limits keys depth bytes) left.now right.now }
+    ensures different { result ≡ DIFFERENT
+        → ¬ MeanTheSame (item_limits keys depth bytes) left.now right.now }
     ensures accepted { (result ≡ OK) ⊎ (result ≡ DIFFERENT)
-        → IsWholeItem (bounds depth bytes) left.now × IsWholeItem (bounds depth bytes) right.now }
+        → IsWholeItem (item_limits keys depth bytes) left.now
+        × IsWholeItem (item_limits keys depth bytes) right.now }
     ensures values { result ≡ OK → (s t : Spelling)
-        → IsValidItem (bounds depth bytes) left.now s → IsValidItem (bounds depth bytes) right.now t
+        → IsValidItem (item_limits keys depth bytes) left.now s
+        → IsValidItem (item_limits keys depth bytes) right.now t
         → Same (value_of s) (value_of t) }
     ensures other_values { result ≡ DIFFERENT → (s t : Spelling)
-        → IsValidItem (bounds depth bytes) left.now s → IsValidItem (bounds depth bytes) right.now t
+        → IsValidItem (item_limits keys depth bytes) left.now s
+        → IsValidItem (item_limits keys depth bytes) right.now t
         → ¬ Same (value_of s) (value_of t) }
-    ensures equal { result ≡ OK → (n : ℕ) (o : KeyOrder) (a b : List ℕ) → n ≤ 2 ^ 62
-        → IsCanonicalOf (bounds depth n) o left.now a → IsCanonicalOf (bounds depth n) o right.now b → a ≡ b }
-    ensures unequal { result ≡ DIFFERENT → (n : ℕ) (o : KeyOrder) (a b : List ℕ) → n ≤ 2 ^ 62
-        → IsCanonicalOf (bounds depth n) o left.now a → IsCanonicalOf (bounds depth n) o right.now b → a ≢ b }
+    ensures equal { result ≡ OK → (n : ℕ) (k : Keys) (o : KeyOrder) (a b : List ℕ) → n ≤ 2 ^ 62
+        → IsCanonicalOf (with_keys (bounds depth n) k) o left.now a
+        → IsCanonicalOf (with_keys (bounds depth n) k) o right.now b → a ≡ b }
+    ensures unequal { result ≡ DIFFERENT → (n : ℕ) (k : Keys) (o : KeyOrder) (a b : List ℕ) → n ≤ 2 ^ 62
+        → IsCanonicalOf (with_keys (bounds depth n) k) o left.now a
+        → IsCanonicalOf (with_keys (bounds depth n) k) o right.now b → a ≢ b }
     ensures refused { result ≡ REFUSED
-        → IsSideRefused (bounds depth bytes) left.now right.now side.new refusal.new }
-    ensures only { result ≡ REFUSED → IsWholeItem (bounds depth bytes) left.now
-        → ¬ IsWholeItem (bounds depth bytes) right.now }
+        → IsSideRefused (item_limits keys depth bytes) left.now right.now side.new refusal.new }
+    ensures only { result ≡ REFUSED → IsWholeItem (item_limits keys depth bytes) left.now
+        → ¬ IsWholeItem (item_limits keys depth bytes) right.now }
     ensures no_memory { result ≡ NO_MEMORY
-        → SideLacksMemory (bounds depth bytes) left.now right.now side.new refusal.new }
-    ensures bad_limits { result ≡ BAD_LIMITS → ¬ AreBounds (bounds depth bytes) }
-    ensures in_range { result ≢ BAD_LIMITS → AreBounds (bounds depth bytes) }
+        → SideLacksMemory (item_limits keys depth bytes) left.now right.now side.new refusal.new }
+    ensures bad_limits { result ≡ BAD_LIMITS → ¬ AreLimits keys depth bytes }
+    ensures in_range { result ≢ BAD_LIMITS → AreLimits keys depth bytes }
     ensures statuses { (result ≡ OK) ⊎ (result ≡ DIFFERENT) ⊎ (result ≡ REFUSED)
         ⊎ (result ≡ NO_MEMORY) ⊎ (result ≡ BAD_LIMITS) }
     ensures untold { result ≢ REFUSED → result ≢ NO_MEMORY
         → (side.new ≡ side.old) × (refusal.new ≡ refusal.old) }
 {
-    let Some(limits) = limits_of(depth, bytes) else {
+    equal_answers_of_same_values();
+    let Some(limits) = limits_of(keys, depth, bytes) else {
         return BAD_LIMITS;
     };
     match same_meaning(alloc, left, right, limits) {

@@ -2,13 +2,13 @@
 
 ghost use Rattle.std.specs.Prelude.{◌≡◌, ◌≢◌, ◌⊎◌, ◌<◌, ◌≤◌, ℕ, List, length, take, drop, IfSome};
 ghost use Rattle.cbor_diag.specs.Text.{text};
-ghost use Rattle.cbor_head.specs.Limits.{bounds, AreBounds};
 ghost use Rattle.cbor_head.specs.Value.{depth};
 ghost use Rattle.cbor_head.specs.declared.limits.TheConstants.{MAX_DEPTH};
 ghost use Rattle.cbor_reader.specs.WholeItem.{IsWholeItem};
 ghost use Rattle.cbor_view.specs.Seen.{seen};
 ghost use Rattle.naltvigo.specs.Checking.{IsNotValid};
 ghost use Rattle.naltvigo.specs.Diagnosing.{IsTextOf, TextLacksMemory};
+ghost use Rattle.naltvigo.specs.Settings.{item_limits, AreLimits};
 
 use crate::buffer::give;
 use crate::settings::limits_of;
@@ -26,21 +26,25 @@ use std::alloc::Global;
 pub extern "C" fn naltvigo_diagnostic_raw(
     alloc: Global,
     input: &[u8],
+    keys: u32,
     depth: u32,
     bytes: u64,
     out: &mut [u8],
     needed: &mut usize,
     refusal: &mut NaltvigoRefusal,
 ) -> u32
-    ensures written { result ≡ OK → IsTextOf (bounds depth bytes) input.now (take needed.new out.new) }
+    ensures written { result ≡ OK
+        → IsTextOf (item_limits keys depth bytes) input.now (take needed.new out.new) }
     ensures room { result ≡ OK → needed.new ≤ length out.old }
-    ensures too_small { result ≡ TOO_SMALL → (x : List ℕ) × IsTextOf (bounds depth bytes) input.now x
+    ensures too_small { result ≡ TOO_SMALL
+        → (x : List ℕ) × IsTextOf (item_limits keys depth bytes) input.now x
         × (needed.new ≡ length x) × (length out.old < length x) }
-    ensures refused { result ≡ REFUSED → IsNotValid (bounds depth bytes) input.now refusal.new }
-    ensures not_accepted { result ≡ REFUSED → ¬ IsWholeItem (bounds depth bytes) input.now }
-    ensures no_memory { result ≡ NO_MEMORY → TextLacksMemory (bounds depth bytes) input.now refusal.new }
-    ensures bad_limits { result ≡ BAD_LIMITS → ¬ AreBounds (bounds depth bytes) }
-    ensures in_range { result ≢ BAD_LIMITS → AreBounds (bounds depth bytes) }
+    ensures refused { result ≡ REFUSED → IsNotValid (item_limits keys depth bytes) input.now refusal.new }
+    ensures not_accepted { result ≡ REFUSED → ¬ IsWholeItem (item_limits keys depth bytes) input.now }
+    ensures no_memory { result ≡ NO_MEMORY
+        → TextLacksMemory (item_limits keys depth bytes) input.now refusal.new }
+    ensures bad_limits { result ≡ BAD_LIMITS → ¬ AreLimits keys depth bytes }
+    ensures in_range { result ≢ BAD_LIMITS → AreLimits keys depth bytes }
     ensures statuses { (result ≡ OK) ⊎ (result ≡ REFUSED) ⊎ (result ≡ TOO_SMALL)
         ⊎ (result ≡ NO_MEMORY) ⊎ (result ≡ BAD_LIMITS) }
     ensures kept { (result ≢ OK → out.new ≡ out.old)
@@ -49,7 +53,7 @@ pub extern "C" fn naltvigo_diagnostic_raw(
     ensures untold { result ≢ REFUSED → result ≢ NO_MEMORY → refusal.new ≡ refusal.old }
 {
     *needed = 0;
-    let Some(limits) = limits_of(depth, bytes) else {
+    let Some(limits) = limits_of(keys, depth, bytes) else {
         return BAD_LIMITS;
     };
     let arena = Bump::new(alloc);

@@ -2,9 +2,8 @@
 
 ghost use Rattle.std.specs.Prelude.{◌≡◌, ◌≢◌, ◌↔◌, ◌⊎◌, ◌<◌, ◌≤◌};
 ghost use Rattle.cbor_head.specs.Complaint.{plain, strict};
-ghost use Rattle.cbor_head.specs.Limits.{bounds, AreBounds};
 ghost use Rattle.cbor_judging.specs.Readers.{HasNoCanonicalFront, IsCanonicalFront, IsRead};
-ghost use Rattle.naltvigo.specs.Settings.{key_order};
+ghost use Rattle.naltvigo.specs.Settings.{key_order, item_limits, AreLimits};
 ghost use Rattle.naltvigo.specs.Sequence.{FrontLacksMemory, IsNoCanonicalFront, IsNoValidFront};
 
 use crate::settings::{limits_of, order_numbered};
@@ -18,23 +17,26 @@ use std::alloc::Global;
 pub extern "C" fn naltvigo_next_valid_raw(
     alloc: Global,
     input: &[u8],
+    keys: u32,
     depth: u32,
     bytes: u64,
     taken: &mut u64,
     refusal: &mut NaltvigoRefusal,
 ) -> u32
-    ensures accepted { result ≡ OK → IsRead (bounds depth bytes) plain input.now taken.new }
-    ensures refused { result ≡ REFUSED → IsNoValidFront (bounds depth bytes) input.now refusal.new }
-    ensures no_memory { result ≡ NO_MEMORY → FrontLacksMemory (bounds depth bytes) input.now refusal.new }
-    ensures bad_limits { result ≡ BAD_LIMITS → ¬ AreBounds (bounds depth bytes) }
-    ensures in_range { result ≢ BAD_LIMITS → AreBounds (bounds depth bytes) }
+    ensures accepted { result ≡ OK → IsRead (item_limits keys depth bytes) plain input.now taken.new }
+    ensures refused { result ≡ REFUSED
+        → IsNoValidFront (item_limits keys depth bytes) input.now refusal.new }
+    ensures no_memory { result ≡ NO_MEMORY
+        → FrontLacksMemory (item_limits keys depth bytes) input.now refusal.new }
+    ensures bad_limits { result ≡ BAD_LIMITS → ¬ AreLimits keys depth bytes }
+    ensures in_range { result ≢ BAD_LIMITS → AreLimits keys depth bytes }
     ensures statuses { (result ≡ OK) ⊎ (result ≡ REFUSED)
         ⊎ (result ≡ NO_MEMORY) ⊎ (result ≡ BAD_LIMITS) }
     ensures no_count { result ≢ OK → taken.new ≡ 0 }
     ensures untold { result ≢ REFUSED → result ≢ NO_MEMORY → refusal.new ≡ refusal.old }
 {
     *taken = 0;
-    let Some(limits) = limits_of(depth, bytes) else {
+    let Some(limits) = limits_of(keys, depth, bytes) else {
         return BAD_LIMITS;
     };
     match check_valid(alloc, input, limits) {
@@ -52,23 +54,24 @@ pub extern "C" fn naltvigo_next_valid_raw(
 pub extern "C" fn naltvigo_next_canonical_raw(
     input: &[u8],
     order: u32,
+    keys: u32,
     depth: u32,
     bytes: u64,
     taken: &mut u64,
     refusal: &mut NaltvigoRefusal,
 ) -> u32
     ensures accepted { result ≡ OK
-        → IsRead (bounds depth bytes) (strict (key_order order)) input.now taken.new }
+        → IsRead (item_limits keys depth bytes) (strict (key_order order)) input.now taken.new }
     ensures canonical { result ≡ OK
-        → IsCanonicalFront (bounds depth bytes) (key_order order) input.now taken.new }
+        → IsCanonicalFront (item_limits keys depth bytes) (key_order order) input.now taken.new }
     ensures refused { result ≡ REFUSED
-        → IsNoCanonicalFront (bounds depth bytes) (key_order order) input.now refusal.new }
+        → IsNoCanonicalFront (item_limits keys depth bytes) (key_order order) input.now refusal.new }
     ensures no_canonical { result ≡ REFUSED
-        → HasNoCanonicalFront (bounds depth bytes) (key_order order) input.now }
+        → HasNoCanonicalFront (item_limits keys depth bytes) (key_order order) input.now }
     ensures bad_order { (result ≡ BAD_ORDER) ↔ (1 < order) }
-    ensures bad_limits { result ≡ BAD_LIMITS → ¬ AreBounds (bounds depth bytes) }
+    ensures bad_limits { result ≡ BAD_LIMITS → ¬ AreLimits keys depth bytes }
     ensures in_range { result ≢ BAD_ORDER → result ≢ BAD_LIMITS
-        → (order ≤ 1) × AreBounds (bounds depth bytes) }
+        → (order ≤ 1) × AreLimits keys depth bytes }
     ensures statuses { (result ≡ OK) ⊎ (result ≡ REFUSED)
         ⊎ (result ≡ BAD_ORDER) ⊎ (result ≡ BAD_LIMITS) }
     ensures no_count { result ≢ OK → taken.new ≡ 0 }
@@ -78,7 +81,7 @@ pub extern "C" fn naltvigo_next_canonical_raw(
     let Some(order) = order_numbered(order) else {
         return BAD_ORDER;
     };
-    let Some(limits) = limits_of(depth, bytes) else {
+    let Some(limits) = limits_of(keys, depth, bytes) else {
         return BAD_LIMITS;
     };
     match check_canonical(input, limits, order) {

@@ -1,10 +1,10 @@
-//! Orders and limits, as numbers.
+//! Orders, kinds of keys and limits, as numbers.
 
 ghost use Rattle.std.specs.Prelude.{◌≡◌, ◌<◌, ◌≤◌, IfSome, None};
 ghost use Rattle.cbor_head.specs.Limits.{bounds, AreBounds};
-ghost use Rattle.naltvigo.specs.Settings.{key_order};
+ghost use Rattle.naltvigo.specs.Settings.{key_order, key_kinds, item_limits, AreLimits};
 
-use cbor_head::{KeyOrder, Limits};
+use cbor_head::{KeyOrder, Keys, Limits};
 
 // The order of this number.
 pub(crate) fn order_numbered(number: u32) -> Option<KeyOrder>
@@ -18,8 +18,17 @@ pub(crate) fn order_numbered(number: u32) -> Option<KeyOrder>
     }
 }
 
-// These limits; none where one is out of range.
-pub(crate) fn limits_of(depth: u32, bytes: u64) -> Option<Limits>
+// The limits of these numbers; none where one is out of range.
+pub(crate) fn limits_of(keys: u32, depth: u32, bytes: u64) -> Option<Limits>
+    ensures value { IfSome result (λ l. (l ≡ item_limits keys depth bytes) × AreLimits keys depth bytes) }
+    ensures none { result ≡ None → ¬ AreLimits keys depth bytes }
+{
+    let keys = keys_numbered(keys)?;
+    Some(bounds_of(depth, bytes)?.with_keys(keys))
+}
+
+// The same for keys of any kind.
+pub(crate) fn bounds_of(depth: u32, bytes: u64) -> Option<Limits>
     ensures value { IfSome result (λ l. (l ≡ bounds depth bytes) × AreBounds (bounds depth bytes)) }
     ensures none { result ≡ None → ¬ AreBounds (bounds depth bytes) }
 {
@@ -27,4 +36,16 @@ pub(crate) fn limits_of(depth: u32, bytes: u64) -> Option<Limits>
         return None;
     }
     Limits::new(depth as u16, bytes)
+}
+
+// The kinds of keys of this number.
+fn keys_numbered(number: u32) -> Option<Keys>
+    ensures value { IfSome result (λ k. (k ≡ key_kinds number) × (number ≤ 1)) }
+    ensures none { result ≡ None → 1 < number }
+{
+    match number {
+        0 => Some(Keys::Any),
+        1 => Some(Keys::IntegersAndTexts),
+        _ => None,
+    }
 }

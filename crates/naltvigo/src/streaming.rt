@@ -9,7 +9,7 @@ ghost use Rattle.naltvigo.specs.Streaming.{IsToldEvent, Starts, StaysSo, Streams
 ghost use Rattle.naltvigo.specs.Streaming.{kind_number, number_of, width_number};
 ghost use Rattle.naltvigo.specs.Told.{IsTold};
 
-use crate::settings::limits_of;
+use crate::settings::bounds_of;
 use crate::status::{
     BAD_LIMITS, BAD_MACHINE, EVENT, MORE, NaltvigoRefusal, OK, REFUSED, told as of_refusal,
 };
@@ -53,7 +53,7 @@ pub extern "C" fn naltvigo_machine_start_raw(
     ensures statuses { (result ≡ OK) ⊎ (result ≡ BAD_LIMITS) }
     ensures kept { result ≢ OK → machine.new ≡ machine.old }
 {
-    match limits_of(depth, bytes) {
+    match bounds_of(depth, bytes) {
         Some(limits) => {
             *machine = Machine::new(limits).save();
             OK

@@ -6,11 +6,13 @@ from ._library import (
     BYTES_MAX,
     DEPTH_MAX,
     DIFFERENT,
+    KEYS,
     NO_MEMORY,
     OK,
     ORDERS,
     REFUSED,
     TOO_SMALL,
+    Keys,
     Room,
     as_bytes,
     canonicalise_raw,
@@ -30,17 +32,22 @@ from ._refused import refusal
 Buffer = Union[bytes, bytearray, memoryview]
 
 
-def canonicalise(data: Buffer, *, order: str = "bytewise", depth: int = 64, max_bytes: int = 1 << 20, keys: str = "any") -> bytes:
+def canonicalise(data: Buffer, *, order: str = "bytewise", depth: int = 64, max_bytes: int = 1 << 20, keys: Keys = "any") -> bytes:
     """The canonical bytes of the one valid item that `data` is.
 
     Equal answers in one order mean equal values, and an answer is its own answer. `order` is that of map keys:
     'bytewise' (RFC 8949, section 4.2.1) or 'length', the shorter key first (section 4.2.3). `keys`, here and below,
-    says which items may be keys: 'any', the one choice so far.
+    says which items may be keys of maps: 'any', or 'basic', integers and texts alone.
 
     >>> canonicalise(b"\\x9f\\x18\\x01\\xff")      # [1], without a length and with a 1 of two bytes
     b'\\x81\\x01'
     >>> canonicalise(b"\\xa2\\x18\\x64\\x00\\x20\\x00", order="length").hex()      # {100: 0, -1: 0}
     'a22000186400'
+    >>> canonicalise(b"\\xa1\\x41a\\x00", keys="basic")      # {h'61': 0}
+    Traceback (most recent call last):
+      ...
+    naltvigo.Refused: refused 20 KeyKind at 1: A key begins here that is neither an integer nor a text. Write the \
+key as an integer or a text, or allow it with keys='any'.
     """
     if type(data) is not bytes:
         data = as_bytes(data)
@@ -49,11 +56,14 @@ def canonicalise(data: Buffer, *, order: str = "bytewise", depth: int = 64, max_
         raise wrong_order(order)
     if not (0 <= depth <= DEPTH_MAX and 0 <= max_bytes <= BYTES_MAX):
         raise wrong_limits(depth, max_bytes)
-    if keys != "any":
+    kinds = KEYS.get(keys)
+    if kinds is None:
         raise wrong_keys(keys)
     length = len(data)
     room = room_for(length)
-    status = canonicalise_raw(data, length, number, depth, max_bytes, room.out_at, room.size, room.needed_at, room.why_at)
+    status = canonicalise_raw(
+        data, length, number, kinds, depth, max_bytes, room.out_at, room.size, room.needed_at, room.why_at
+    )
     if status == OK:
         answer = room.out[: room.needed.value]
         if room.size == 4096:
@@ -61,13 +71,15 @@ def canonicalise(data: Buffer, *, order: str = "bytewise", depth: int = 64, max_
         return answer
     if status == TOO_SMALL:
         room = Room(room.needed.value)
-        status = canonicalise_raw(data, length, number, depth, max_bytes, room.out_at, room.size, room.needed_at, room.why_at)
+        status = canonicalise_raw(
+            data, length, number, kinds, depth, max_bytes, room.out_at, room.size, room.needed_at, room.why_at
+        )
         if status == OK:
             return room.out[: room.needed.value]
     raise _failed(status, room, depth, max_bytes)
 
 
-def check(data: Buffer, *, depth: int = 64, max_bytes: int = 1 << 20, keys: str = "any") -> None:
+def check(data: Buffer, *, depth: int = 64, max_bytes: int = 1 << 20, keys: Keys = "any") -> None:
     """Returns where `data` is one valid item, however it is spelled; else raises Refused.
 
     >>> check(b"\\x18\\x00")
@@ -81,16 +93,17 @@ one of the two pairs.
         data = as_bytes(data)
     if not (0 <= depth <= DEPTH_MAX and 0 <= max_bytes <= BYTES_MAX):
         raise wrong_limits(depth, max_bytes)
-    if keys != "any":
+    kinds = KEYS.get(keys)
+    if kinds is None:
         raise wrong_keys(keys)
     room = room_for(0)
-    status = check_valid_raw(data, len(data), depth, max_bytes, room.why_at)
+    status = check_valid_raw(data, len(data), kinds, depth, max_bytes, room.why_at)
     if status != OK:
         raise _failed(status, room, depth, max_bytes)
     give_back(room)
 
 
-def check_canonical(data: Buffer, *, order: str = "bytewise", depth: int = 64, max_bytes: int = 1 << 20, keys: str = "any") -> None:
+def check_canonical(data: Buffer, *, order: str = "bytewise", depth: int = 64, max_bytes: int = 1 << 20, keys: Keys = "any") -> None:
     """Returns where `data` is one valid item in its canonical bytes; else raises Refused. It takes no memory.
 
     >>> check_canonical(b"\\x00")
@@ -107,16 +120,17 @@ canonicalise writes the item in canonical bytes.
         raise wrong_order(order)
     if not (0 <= depth <= DEPTH_MAX and 0 <= max_bytes <= BYTES_MAX):
         raise wrong_limits(depth, max_bytes)
-    if keys != "any":
+    kinds = KEYS.get(keys)
+    if kinds is None:
         raise wrong_keys(keys)
     room = room_for(0)
-    status = check_canonical_raw(data, len(data), number, depth, max_bytes, room.why_at)
+    status = check_canonical_raw(data, len(data), number, kinds, depth, max_bytes, room.why_at)
     if status != OK:
         raise _failed(status, room, depth, max_bytes)
     give_back(room)
 
 
-def same(left: Buffer, right: Buffer, *, depth: int = 64, max_bytes: int = 1 << 20, keys: str = "any") -> bool:
+def same(left: Buffer, right: Buffer, *, depth: int = 64, max_bytes: int = 1 << 20, keys: Keys = "any") -> bool:
     """Whether two valid items have the same value: maps by their pairs in any order (RFC 8949, section 5.6.1).
 
     The limits are for each of the two. `Refused.side` says which input is refused; the left one is judged first.
@@ -129,17 +143,18 @@ def same(left: Buffer, right: Buffer, *, depth: int = 64, max_bytes: int = 1 << 
     left, right = as_bytes(left), as_bytes(right)
     if not (0 <= depth <= DEPTH_MAX and 0 <= max_bytes <= BYTES_MAX):
         raise wrong_limits(depth, max_bytes)
-    if keys != "any":
+    kinds = KEYS.get(keys)
+    if kinds is None:
         raise wrong_keys(keys)
     room = room_for(0)
-    status = compare_raw(left, len(left), right, len(right), depth, max_bytes, room.side_at, room.why_at)
+    status = compare_raw(left, len(left), right, len(right), kinds, depth, max_bytes, room.side_at, room.why_at)
     if status not in (OK, DIFFERENT):
         raise _failed(status, room, depth, max_bytes, ("left", "right")[room.side.value] if status == REFUSED else None)
     give_back(room)
     return status == OK
 
 
-def diagnostic(data: Buffer, *, depth: int = 64, max_bytes: int = 1 << 20, keys: str = "any") -> str:
+def diagnostic(data: Buffer, *, depth: int = 64, max_bytes: int = 1 << 20, keys: Keys = "any") -> str:
     """The diagnostic text (RFC 8949, section 8) of the one valid item that `data` is, its pairs in their order.
 
     >>> diagnostic(bytes.fromhex("a26161018202f64161"))      # a key that is an array
@@ -148,13 +163,16 @@ def diagnostic(data: Buffer, *, depth: int = 64, max_bytes: int = 1 << 20, keys:
     data = as_bytes(data)
     if not (0 <= depth <= DEPTH_MAX and 0 <= max_bytes <= BYTES_MAX):
         raise wrong_limits(depth, max_bytes)
-    if keys != "any":
+    kinds = KEYS.get(keys)
+    if kinds is None:
         raise wrong_keys(keys)
     room = room_for(4 * len(data))
-    status = diagnostic_raw(data, len(data), depth, max_bytes, room.out_at, room.size, room.needed_at, room.why_at)
+    status = diagnostic_raw(data, len(data), kinds, depth, max_bytes, room.out_at, room.size, room.needed_at, room.why_at)
     if status == TOO_SMALL:
         room = Room(room.needed.value)
-        status = diagnostic_raw(data, len(data), depth, max_bytes, room.out_at, room.size, room.needed_at, room.why_at)
+        status = diagnostic_raw(
+            data, len(data), kinds, depth, max_bytes, room.out_at, room.size, room.needed_at, room.why_at
+        )
     if status != OK:
         raise _failed(status, room, depth, max_bytes)
     text = room.out[: room.needed.value].decode()

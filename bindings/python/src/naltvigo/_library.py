@@ -3,7 +3,7 @@
 import ctypes
 from ctypes import c_char_p, c_size_t, c_uint32, c_uint64, c_void_p
 from pathlib import Path
-from typing import Any, List
+from typing import Any, List, Literal
 
 MAJOR = 2
 
@@ -14,6 +14,9 @@ DEPTH_MAX = 256
 BYTES_MAX = 1 << 62
 
 ORDERS = {"bytewise": 0, "length": 1}
+
+Keys = Literal["any", "basic"]
+KEYS = {"any": 0, "basic": 1}
 
 
 class Refusal(ctypes.Structure):
@@ -64,7 +67,7 @@ def _export(name: str, *kinds: Any) -> Any:
 
 
 # An input is a pointer and a length; where it is part of a buffer, the pointer is an address.
-_LIMITS = (c_uint32, c_uint64)
+_LIMITS = (c_uint32, c_uint32, c_uint64)
 _ANSWER = (c_void_p, c_size_t, c_void_p, c_void_p)
 
 canonicalise_raw = _export("canonicalise", c_char_p, c_size_t, c_uint32, *_LIMITS, *_ANSWER)
@@ -74,7 +77,7 @@ check_canonical_raw = _export("check_canonical", c_char_p, c_size_t, c_uint32, *
 compare_raw = _export("compare", c_char_p, c_size_t, c_char_p, c_size_t, *_LIMITS, c_void_p, c_void_p)
 next_valid_raw = _export("next_valid", c_void_p, c_size_t, *_LIMITS, c_void_p, c_void_p)
 next_canonical_raw = _export("next_canonical", c_void_p, c_size_t, c_uint32, *_LIMITS, c_void_p, c_void_p)
-machine_start_raw = _export("machine_start", *_LIMITS, c_void_p)
+machine_start_raw = _export("machine_start", c_uint32, c_uint64, c_void_p)
 machine_take_raw = _export("machine_take", c_void_p, c_void_p, c_size_t, c_void_p, c_void_p, c_size_t, c_void_p, c_void_p)
 
 
@@ -140,7 +143,7 @@ def wrong_limits(depth: Any, max_bytes: Any) -> Exception:
 
 
 def wrong_keys(keys: Any) -> Exception:
-    return ValueError(f"keys is 'any', and not {keys!r}")
+    return ValueError(f"keys is 'any' or 'basic', and not {keys!r}")
 
 
 def wrong_order(order: Any) -> Exception:

@@ -7,9 +7,11 @@ from ._library import (
     BYTES_MAX,
     DEPTH_MAX,
     EVENT,
+    KEYS,
     MORE,
     OK,
     ORDERS,
+    Keys,
     Machine,
     Refusal,
     Told,
@@ -125,7 +127,7 @@ def items(
     order: str = "bytewise",
     depth: int = 64,
     max_bytes: int = 1 << 20,
-    keys: str = "any",
+    keys: Keys = "any",
 ) -> Iterator[bytes]:
     """The items of a sequence (RFC 8742), each as it is spelled; with `canonical` none but in its canonical bytes.
 
@@ -141,12 +143,13 @@ def items(
         raise wrong_order(order)
     if not (0 <= depth <= DEPTH_MAX and 0 <= max_bytes <= BYTES_MAX):
         raise wrong_limits(depth, max_bytes)
-    if keys != "any":
+    kinds = KEYS.get(keys)
+    if kinds is None:
         raise wrong_keys(keys)
-    return _items(as_bytes(data), number if canonical else None, depth, max_bytes)
+    return _items(as_bytes(data), number if canonical else None, kinds, depth, max_bytes)
 
 
-def _items(data: bytes, order: Optional[int], depth: int, max_bytes: int) -> Iterator[bytes]:
+def _items(data: bytes, order: Optional[int], kinds: int, depth: int, max_bytes: int) -> Iterator[bytes]:
     taken, why = ctypes.c_uint64(), Refusal()
     taken_at, why_at = ctypes.addressof(taken), ctypes.addressof(why)
     first = ctypes.cast(data, ctypes.c_void_p).value or 0
@@ -154,9 +157,9 @@ def _items(data: bytes, order: Optional[int], depth: int, max_bytes: int) -> Ite
     while at < len(data):
         count += 1
         if order is None:
-            status = next_valid_raw(first + at, len(data) - at, depth, max_bytes, taken_at, why_at)
+            status = next_valid_raw(first + at, len(data) - at, kinds, depth, max_bytes, taken_at, why_at)
         else:
-            status = next_canonical_raw(first + at, len(data) - at, order, depth, max_bytes, taken_at, why_at)
+            status = next_canonical_raw(first + at, len(data) - at, order, kinds, depth, max_bytes, taken_at, why_at)
         if status != OK:
             raise refusal(status, why, item=count, start=at)
         yield data[at : at + taken.value]

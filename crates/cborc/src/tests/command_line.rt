@@ -18,6 +18,8 @@ canon --bytes 4611686018427387904 in out
 canon --order bytewise in out
 canon in --order=length out
 canon in out --hex --order length
+canon --keys basic in out
+canon in --keys=any out
 canon --seq in out
 canon in out --order length --seq --bytes 1
 canon -- in out
@@ -29,6 +31,7 @@ check --hex in
 check in --strict
 check --strict in --hex
 check --order length in
+check in --keys basic --strict
 check in --order=bytewise --strict
 check --bytes 1 --depth 0 --order length --strict --hex in
 check in --bytes=1 --depth=256
@@ -88,6 +91,10 @@ compare --seq a b | error: unexpected argument '--seq' found\n;
 canon --seq --seq in out | error: the argument '--seq' cannot be used multiple times\n;
 events --seq --seq in | error: the argument '--seq' cannot be used multiple times\n;
 show --seq=1 in | error: unexpected value '1' for '--seq' found; no more were expected\n;
+check --keys none in | error: invalid value 'none' for '--keys <kinds>'\n  [possible values: any, basic]\n;
+compare --keys Basic a b | error: invalid value 'Basic' for '--keys <kinds>'\n  [possible values: any, basic]\n;
+events in --keys | error: a value is required for '--keys <kinds>' but none was supplied\n  [possible values: any, basic]\n;
+show --keys any --keys any in | error: the argument '--keys <kinds>' cannot be used multiple times\n;
 check --order in | error: invalid value 'in' for '--order <order>'\n  [possible values: bytewise, length]\n;
 check --depth 257 in | error: invalid value '257' for '--depth <count>': 257 is not in 0..=256\n;
 --strict check in | error: unexpected argument '--strict' found\n";

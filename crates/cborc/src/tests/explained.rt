@@ -86,6 +86,16 @@ refused 3 Reserved at 5
   at $[1]
 ";
 
+const OTHER_KEY: &str = "\
+refused 20 KeyKind at 1
+  in in
+  A key begins here that is neither an integer nor a text.
+  Write the key as an integer or a text, or allow it with --keys any.
+  bytes from 0: a1 80 00
+                   ^^
+  at $, key 1 of the map at 0
+";
+
 const OTHER_DIGIT: &str = "\
 not hex: in
   With --hex the input is hex digits, two for each byte, and white space.
@@ -99,7 +109,7 @@ not hex: in
 ";
 
 // The words, the file as hex (with `--hex` its text), and what stands on standard error.
-static EXPLAINED: [(&str, &str, &str); 11] = [
+static EXPLAINED: [(&str, &str, &str); 12] = [
     ("check --explain in", "a161618200f90000", FLOAT),
     ("canon --explain in out", "a2616100616101", REPEATED),
     ("show --explain in", "d81882", TRUNCATED),
@@ -118,6 +128,7 @@ static EXPLAINED: [(&str, &str, &str); 11] = [
     ),
     ("check --explain in", "816261ff", TEXT),
     ("events --explain in", "827f6161ff1c", RESERVED),
+    ("check --keys basic --explain in", "a18000", OTHER_KEY),
     (
         "check --seq --hex --explain in",
         "0082010281ff",

@@ -39,8 +39,9 @@ Examples:
 const VERSION: &str = "\
 cborc 2.0.0
 Orders of keys: bytewise (RFC 8949, section 4.2.1), length (section 4.2.3)
+Kinds of keys: any, basic (integers and texts)
 Limits: depth 0 to 256, bytes 0 to 4611686018427387904
-Proved with rattle-kit-13b: each function is safe, returns, and meets its contract
+Proved with rattle-kit-13f: each function is safe, returns, and meets its contract
 ";
 
 const HELP_OF_CANON: &str = "\
@@ -58,6 +59,7 @@ Options:
       --order <order>  The order of map keys [default: bytewise] [possible values: bytewise, length]
       --depth <count>  How deep arrays, maps and tags may nest, 0 to 256 [default: 256]
       --bytes <count>  How many bytes an item may have, 0 to 4611686018427387904 [default: 1048576]
+      --keys <kinds>   Which keys maps may have: any, or basic, integers and texts [default: any] [possible values: any, basic]
       --hex            Read hex digits, two for each byte, white space ignored
       --quiet          Answer by the status alone
       --explain        Say behind a refusal or fault what it means, and where it is
@@ -78,6 +80,7 @@ Options:
       --order <order>  The order of map keys, with --strict [default: bytewise] [possible values: bytewise, length]
       --depth <count>  How deep arrays, maps and tags may nest, 0 to 256 [default: 256]
       --bytes <count>  How many bytes an item may have, 0 to 4611686018427387904 [default: 1048576]
+      --keys <kinds>   Which keys maps may have: any, or basic, integers and texts [default: any] [possible values: any, basic]
       --hex            Read hex digits, two for each byte, white space ignored
       --quiet          Answer by the status alone
       --explain        Say behind a refusal or fault what it means, and where it is
@@ -96,6 +99,7 @@ Options:
       --seq            Read a sequence of items, with the limits on each
       --depth <count>  How deep arrays, maps and tags may nest, 0 to 256 [default: 256]
       --bytes <count>  How many bytes an item may have, 0 to 4611686018427387904 [default: 1048576]
+      --keys <kinds>   Which keys maps may have: any, or basic, integers and texts [default: any] [possible values: any, basic]
       --hex            Read hex digits, two for each byte, white space ignored
       --quiet          Answer by the status alone
       --explain        Say behind a refusal or fault what it means, and where it is
@@ -114,6 +118,7 @@ Arguments:
 Options:
       --depth <count>  How deep arrays, maps and tags may nest, 0 to 256 [default: 256]
       --bytes <count>  How many bytes an item may have, 0 to 4611686018427387904 [default: 1048576]
+      --keys <kinds>   Which keys maps may have: any, or basic, integers and texts [default: any] [possible values: any, basic]
       --hex            Read hex digits, two for each byte, white space ignored
       --quiet          Answer by the status alone
       --explain        Say behind a refusal or fault what it means, and where it is

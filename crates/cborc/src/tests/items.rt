@@ -128,7 +128,11 @@ static WITH_OPTIONS: &str = r#"--bytes 2 | 1864 | 1864 | 100
 --order length | a100a21864002000 | a100a22000186400
 --order bytewise | a2a21864002000000100 | a20100a2186400200000
 --order length | a2a21864002000000100 | a20100a2200018640000
---order bytewise | a21864002000 | a21864002000 | {100: 0, -1: 0}"#;
+--order bytewise | a21864002000 | a21864002000 | {100: 0, -1: 0}
+--keys any | a19fff00 | a18000 | {[]: 0}
+--keys basic | a17fff00 | a16000 | {"": 0}
+--keys basic | bf6161002000ff | a22000616100 | {"a": 0, -1: 0}
+--keys basic | a10081f4 | a10081f4 | {0: [false]}"#;
 
 // Whether `check` accepts all bytes of the file, with these options.
 fn is_accepted(alloc: Global, options: &str, file: &str) -> Result<bool, AllocError> {

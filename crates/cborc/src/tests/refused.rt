@@ -101,7 +101,17 @@ static REFUSED: &str = r#" |  | refused 1 Truncated at 0
  | 186400 | refused 12 Trailing at 2
 --bytes 1 | 0000 | refused 12 Trailing at 1
  | 9fffff | refused 12 Trailing at 2
- | a1010200 | refused 12 Trailing at 3"#;
+ | a1010200 | refused 12 Trailing at 3
+--keys basic | a18000 | refused 20 KeyKind at 1 | {[]: 0}
+--keys basic | a1f400 | refused 20 KeyKind at 1 | {false: 0}
+--keys basic | a1410000 | refused 20 KeyKind at 1 | {h'00': 0}
+--keys basic | a1c10000 | refused 20 KeyKind at 1 | {1(0): 0}
+--keys basic | a100a18000 | refused 20 KeyKind at 3 | {0: {[]: 0}}
+--keys basic | a1f8 | refused 20 KeyKind at 1
+--keys basic --bytes 2 | a1f8 | refused 20 KeyKind at 1
+--keys basic | a1f81f00 | refused 20 KeyKind at 1
+--keys basic | a1f97c0000 | refused 5 Float at 1
+--keys basic --depth 1 | a18000 | refused 9 TooDeep at 1 | {[]: 0}"#;
 
 // The same, of the strict rules.
 static NOT_CANONICAL: &str = r#" | a1 | refused 1 Truncated at 1
@@ -122,12 +132,14 @@ static NOT_CANONICAL: &str = r#" | a1 | refused 1 Truncated at 1
  | a20100180100 | refused 14 NotShortest at 3 | {1: 0, 1: 0}
  | a2186400180100 | refused 14 NotShortest at 4 | {100: 0, 1: 0}
  | 9fff | refused 15 Indefinite at 0 | []
+ | a19fff00 | refused 15 Indefinite at 1 | {[]: 0}
  | 7f657374726561646d696e67ff | refused 15 Indefinite at 0 | "streaming"
  | a201000100 | refused 16 KeyOrder at 3 | {1: 0, 1: 0}
  | a202000100 | refused 16 KeyOrder at 3 | {2: 0, 1: 0}
  | a2a0008000 | refused 16 KeyOrder at 3 | {{}: 0, []: 0}
  | a2a201000000000000 | refused 16 KeyOrder at 4 | {{1: 0, 0: 0}: 0, 0: 0}
---order length | a21864002000 | refused 16 KeyOrder at 4 | {100: 0, -1: 0}"#;
+--order length | a21864002000 | refused 16 KeyOrder at 4 | {100: 0, -1: 0}
+--keys basic | a19fff00 | refused 20 KeyKind at 1 | {[]: 0}"#;
 
 // What no option `--hex` reads.
 static NOT_HEX: [&str; 9] = [

@@ -1,37 +1,36 @@
 use Rattle.std.proofs.Common.{refl, sym}
 use Rattle.clap.proofs.TakesLemmas.{passed_up}
 use Rattle.cborc_words.proofs.Asked.{asked, of_clap, of_missing, of_two_manners, of_two_streams}
-use Rattle.cborc_words.proofs.Builds.{free}
 use Rattle.cborc_words.proofs.command_line.parse.Goals as goal
 
 pub returns-in_err-matches-clause-err : goal.returns-in_err-matches-clause-err
 returns-in_err-matches-clause-err c =
-    let grammar = c.in_ok-command.ensures in
+    let app = c.in_ok-command.ensures in
     passed_up c.from_residual-in_err-matches.result c.in_err-matches.field-0.0 _ c.from_residual-in_err-matches.ensures.1
-    (of_clap _ grammar _ c.in_err-matches.field-0.0 (c.in_err-matches.ensures.kinds (free _ grammar)))
+    (of_clap _ app.grammar _ c.in_err-matches.field-0.0 (c.in_err-matches.ensures.kinds app.free))
 
 pub returns-in_default-clause-err : goal.returns-in_default-clause-err
 returns-in_default-clause-err c known =
-    let grammar = c.in_ok-command.ensures in
+    let app = c.in_ok-command.ensures in
     let parsed = c.in_ok-matches.ensures in
-    of_missing _ grammar _ _ _ parsed.ok.2 (parsed.kinds (free _ grammar)) c.in_default.ensures.some c.in_ok-error.ensures.kind
+    of_missing _ app.grammar app.simple _ _ _ parsed.ok.2 (parsed.kinds app.free) c.in_default.ensures.some c.in_ok-error.ensures.kind
 
 pub returns-then-has_two_manners-clause-err : goal.returns-then-has_two_manners-clause-err
 returns-then-has_two_manners-clause-err c known =
-    let grammar = c.in_ok-command.ensures in
+    let app = c.in_ok-command.ensures in
     let parsed = c.in_ok-matches.ensures in
-    of_two_manners _ grammar _ _ _ parsed.ok.2 (parsed.kinds (free _ grammar)) (c.if-has_two_manners.ensures.yes refl) c.in_ok-error-2.ensures.kind
+    of_two_manners _ app.grammar app.simple _ _ _ parsed.ok.2 (parsed.kinds app.free) (c.if-has_two_manners.ensures.yes refl) c.in_ok-error-2.ensures.kind
 
 pub returns-then-reads_stream_twice-clause-err : goal.returns-then-reads_stream_twice-clause-err
 returns-then-reads_stream_twice-clause-err c known =
-    let grammar = c.in_ok-command.ensures in
+    let app = c.in_ok-command.ensures in
     let parsed = c.in_ok-matches.ensures in
-    of_two_streams _ grammar _ _ c.in-Some.task _ parsed.ok.2 (parsed.kinds (free _ grammar)) c.in-Some.ensures.value (sym c.if-reads_stream_twice.ensures)
-    c.in_ok-error-3.ensures.kind
+    of_two_streams _ app.grammar app.simple _ _ c.in-Some.task _ parsed.ok.2 (parsed.kinds app.free) c.in-Some.ensures.value
+    (sym c.if-reads_stream_twice.ensures) c.in_ok-error-3.ensures.kind
 
 pub returns-clause-ok : goal.returns-clause-ok
 returns-clause-ok c =
-    let grammar = c.in_ok-command.ensures in
+    let app = c.in_ok-command.ensures in
     let parsed = c.in_ok-matches.ensures in
-    asked _ grammar _ _ c.in-Some.task parsed.ok.2 (parsed.kinds (free _ grammar)) c.in-Some.ensures.value (c.if-has_two_manners.ensures.no refl)
+    asked _ app.grammar app.simple _ _ c.in-Some.task parsed.ok.2 (parsed.kinds app.free) c.in-Some.ensures.value (c.if-has_two_manners.ensures.no refl)
     (sym c.if-reads_stream_twice.ensures)

@@ -1,5 +1,5 @@
 use Rattle.std.proofs.Common.{rules, ◌≡◌, length, take, sym, ap, ◌∙◌, inl, inr}
-use Rattle.cbor_head.specs.Limits.{bounds}
+use Rattle.naltvigo.specs.Settings.{item_limits}
 use Rattle.naltvigo.specs.declared.status.TheConstants.{OK}
 use Rattle.naltvigo.proofs.Given.{given-tells, given-item, given-refused}
 use Rattle.naltvigo.proofs.canonicalising.naltvigo_canonicalise_raw.Goals as goal
@@ -9,19 +9,19 @@ in_buffer c e = ap (λ k. take k c.give.new.out) c.give.ensures.needed ∙ (c.gi
 
 pub returns-in-Ok-clause-accepted : goal.returns-in-Ok-clause-accepted
 returns-in-Ok-clause-accepted c = λ e.
-    given-item _ (bounds c.args.depth c.args.bytes) _ _ c.args.input.now _ _
+    given-item _ (item_limits c.args.keys c.args.depth c.args.bytes) _ _ c.args.input.now _ _
     (sym c.in-Some-limits_of.ensures.value.0)
     (sym c.in-Some.ensures.value.0) (in_buffer c e) _ (c.give.ensures.needed ∙ ap length c.as_slice.ensures.value) c.in-Ok.ensures.accepted
 
 pub returns-in-Ok-clause-equal : goal.returns-in-Ok-clause-equal
 returns-in-Ok-clause-equal c = λ e.
-    given-tells _ (bounds c.args.depth c.args.bytes) _ _ c.args.input.now _ _
+    given-tells _ (item_limits c.args.keys c.args.depth c.args.bytes) _ _ c.args.input.now _ _
     (sym c.in-Some-limits_of.ensures.value.0)
     (sym c.in-Some.ensures.value.0) (in_buffer c e) c.in-Ok.ensures.equal
 
 pub returns-in-Err-clause-refused : goal.returns-in-Err-clause-refused
 returns-in-Err-clause-refused c = λ e.
-    given-refused _ (bounds c.args.depth c.args.bytes) _ _ c.args.input.now _
+    given-refused _ (item_limits c.args.keys c.args.depth c.args.bytes) _ _ c.args.input.now _
     (sym c.in-Some-limits_of.ensures.value.0) (sym c.in-Some.ensures.value.0)
     record {
       refusal = c.in-Err.reason;

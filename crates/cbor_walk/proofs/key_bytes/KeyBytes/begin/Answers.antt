@@ -1,5 +1,5 @@
-use Rattle.std.proofs.Common.{◌∙◌, ◌+◌, suc, ◌≡◌, refl, sym, arith}
-use Rattle.cbor_walk.proofs.KeysGiven.{takes, few, opened-kept, opened-map, opened-left}
+use Rattle.std.proofs.Common.{◌∙◌, ◌+◌, sym, arith}
+use Rattle.cbor_walk.proofs.KeysGiven.{takes, few, opened-kept}
 use Rattle.cbor_walk.proofs.key_bytes.KeyBytes.begin.Goals as goal
 
 pub begin-requires-clause-takes : goal.begin-requires-clause-takes

@@ -1,6 +1,6 @@
-use Rattle.std.proofs.Common.{◌∙◌, ◌++◌, ℕ, List, take, sym, ap}
+use Rattle.std.proofs.Common.{◌∙◌, ◌++◌, ℕ, take, sym, ap}
 use Rattle.std.proofs.lemmas.List.{length-take-le}
-use Rattle.cbor_builder.specs.Built.{Built, built}
+use Rattle.cbor_builder.specs.Built.{built}
 use Rattle.cbor_canonical.specs.Parts.{give}
 use Rattle.cbor_head.specs.Head.{shortest_head}
 use Rattle.cbor_head.specs.declared.major.Major.{Major}

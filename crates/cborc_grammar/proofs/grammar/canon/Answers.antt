@@ -1,10 +1,10 @@
 use Rattle.std.proofs.Common.{◌≡◌, ◌∙◌, ap, codes, rules}
 use Rattle.std.proofs.lemmas.Result.{IfOk-weaker}
 use Rattle.clap.specs.Words.{App, app_of, new_app}
-use Rattle.cborc_words.specs.Grammar as grammar
-use Rattle.cborc_words.specs.inner.Commands.{with_rules, HasRule}
-use Rattle.cborc_words.proofs.Builds.{adds_rule}
-use Rattle.cborc_words.proofs.grammar.canon.Goals as goal
+use Rattle.cborc_grammar.specs.Grammar as grammar
+use Rattle.cborc_grammar.specs.inner.Commands.{with_rules, HasRule}
+use Rattle.cborc_grammar.proofs.Builds.{adds_rule}
+use Rattle.cborc_grammar.proofs.grammar.canon.Goals as goal
 
 pub returns : goal.returns
 returns c =
@@ -13,10 +13,10 @@ returns c =
     let second : HasRule (grammar.file (codes "OUT")) c.file-2.result = search rules in
     let third : HasRule (grammar.flag (codes "hex-out")) c.flag.result = search rules in
     let fourth : HasRule grammar.sequence c.sequence.result = search rules in
-    let names = c.order.ensures in
+    let orders = c.order.ensures in
     let one = adds_rule _ _ _ _ _ c.in_ok-arg.ensures empty first in
     let two = adds_rule _ _ _ _ _ c.in_ok-arg-2.ensures one second in
     let three = adds_rule _ _ _ _ _ c.in_ok-arg-3.ensures two third in
     let four = adds_rule _ _ _ _ _ c.in_ok-arg-4.ensures three fourth in
-    let command = adds_rule _ _ _ _ _ c.in_ok-command.ensures four names.2 in
-    IfOk-weaker c.with_options.result _ _ (λ r h. (names.0, names.1, h ∙ ap (λ (app : App). with_rules app grammar.options) command)) c.with_options.ensures
+    let command = adds_rule _ _ _ _ _ c.in_ok-command.ensures four orders.1 in
+    IfOk-weaker c.with_options.result _ _ (λ r h. (orders.0, h.0, h.1 ∙ ap (λ (app : App). with_rules app (grammar.options h.0)) command)) c.with_options.ensures

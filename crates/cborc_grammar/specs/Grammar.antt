@@ -30,9 +30,23 @@ option name default values = record (new_rule name) {
 abbrev pub sequence : Rule
 sequence = flag (codes "seq")
 
--- an order of keys, one of these names
-abbrev pub order : Bor (List (Bor Text)) → Rule
-order names = option (codes "order") (codes "bytewise") (parser.Names names)
+-- the words of a choice, wherever they lie
+abbrev pub Choice : List Text → Type 0
+Choice words = (names : Bor (List (Bor Text))) × (map (λ name. name.now) names.now ≡ words)
+
+-- the orders of keys
+abbrev pub Orders : Type 0
+Orders = Choice (codes "bytewise" ∷ codes "length" ∷ [])
+
+-- the kinds of keys
+abbrev pub Kinds : Type 0
+Kinds = Choice (codes "any" ∷ codes "basic" ∷ [])
+
+abbrev pub order : Orders → Rule
+order orders = option (codes "order") (codes "bytewise") (parser.Names orders.0)
+
+abbrev pub keys : Kinds → Rule
+keys kinds = option (codes "keys") (codes "any") (parser.Names kinds.0)
 
 abbrev pub depth : Rule
 depth = option (codes "depth") (codes "256") (parser.Signed (pos 0) (pos MAX_DEPTH))
@@ -41,50 +55,47 @@ abbrev pub bytes : Rule
 bytes = option (codes "bytes") (codes "1048576") (parser.Unsigned 0 (2 ^ 62))
 
 -- the options that all subcommands take
-abbrev pub options : List Rule
-options = depth ∷ bytes ∷ flag (codes "hex") ∷ flag (codes "quiet") ∷ flag (codes "explain") ∷ []
+abbrev pub options : Kinds → List Rule
+options kinds = depth ∷ bytes ∷ keys kinds ∷ flag (codes "hex") ∷ flag (codes "quiet") ∷ flag (codes "explain") ∷ []
 
 -- a subcommand that takes these and the options of all
-abbrev pub subcommand : Text → List Rule → Shape
-subcommand name rules = record (new_shape name) { rules = rules ++ options }
+abbrev pub subcommand : Text → List Rule → Kinds → Shape
+subcommand name rules kinds = record (new_shape name) { rules = rules ++ options kinds }
 
-abbrev pub show : Shape
+abbrev pub show : Kinds → Shape
 show = subcommand (codes "show") (file (codes "FILE") ∷ flag (codes "indent") ∷ sequence ∷ [])
 
-abbrev pub events : Shape
+abbrev pub events : Kinds → Shape
 events = subcommand (codes "events") (file (codes "FILE") ∷ sequence ∷ [])
 
-abbrev pub check : Bor (List (Bor Text)) → Shape
-check names = subcommand (codes "check")
-    (file (codes "FILE") ∷ flag (codes "strict") ∷ sequence ∷ order names ∷ [])
+abbrev pub check : Orders → Kinds → Shape
+check orders = subcommand (codes "check")
+    (file (codes "FILE") ∷ flag (codes "strict") ∷ sequence ∷ order orders ∷ [])
 
-abbrev pub canon : Bor (List (Bor Text)) → Shape
-canon names = subcommand (codes "canon")
-    (file (codes "IN") ∷ file (codes "OUT") ∷ flag (codes "hex-out") ∷ sequence ∷ order names ∷ [])
+abbrev pub canon : Orders → Kinds → Shape
+canon orders = subcommand (codes "canon")
+    (file (codes "IN") ∷ file (codes "OUT") ∷ flag (codes "hex-out") ∷ sequence ∷ order orders ∷ [])
 
-abbrev pub compare : Shape
+abbrev pub compare : Kinds → Shape
 compare = subcommand (codes "compare") (file (codes "A") ∷ file (codes "B") ∷ [])
 
--- the program's command line; the names of the orders stand at two places
-abbrev pub grammar : Bor (List (Bor Text)) → Bor (List (Bor Text)) → App
-grammar of_check of_canon = record {
+-- a command line with these subcommands
+abbrev pub grammar : List Shape → App
+grammar subcommands = record {
   top = record (new_shape (codes "cborc")) {
     is_leaf = false;
     has_version = true;
     has_long_version = true;
     subcommand_required = true;
   };
-  subs = show ∷ events ∷ check of_check ∷ canon of_canon ∷ compare ∷ [];
+  subs = subcommands;
 }
 
--- the names of the orders of keys
-abbrev pub NamesOrders : Bor (List (Bor Text)) → Type 0
-NamesOrders names = map (λ name. name.now) names.now ≡ codes "bytewise" ∷ codes "length" ∷ []
-
--- the program's command line, wherever the names of the orders lie
+-- the program's command line, wherever the words of its choices lie
 pub record IsGrammar (app : App) : Type 0 where
-  pub of_check : Bor (List (Bor Text))
-  pub of_canon : Bor (List (Bor Text))
-  pub check_orders : NamesOrders of_check
-  pub canon_orders : NamesOrders of_canon
-  pub is : app ≡ grammar of_check of_canon
+  pub of_show : Kinds
+  pub of_events : Kinds
+  pub of_check : Orders × Kinds
+  pub of_canon : Orders × Kinds
+  pub of_compare : Kinds
+  pub is : app ≡ grammar (show of_show ∷ events of_events ∷ check of_check.0 of_check.1 ∷ canon of_canon.0 of_canon.1 ∷ compare of_compare ∷ [])

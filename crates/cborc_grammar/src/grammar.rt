@@ -1,11 +1,10 @@
 //! The words that the program takes: its subcommands, their options, and the texts of help.
 
-ghost use Rattle.std.specs.Prelude.{◌≡◌, IfOk};
-ghost use Rattle.std.specs.Borrow.{Bor};
-ghost use Rattle.clap.specs.Words.{app_of};
-ghost use Rattle.cborc_words.specs.Grammar as grammar;
-ghost use Rattle.cborc_words.specs.Grammar.{IsGrammar, NamesOrders};
-ghost use Rattle.cborc_words.specs.inner.Commands.{with_rules, HasRule, HasShape};
+ghost use Rattle.std.specs.Prelude.{◌≡◌, true, IfOk};
+ghost use Rattle.clap.specs.Words.{app_of, is_simple, is_simple_and_free};
+ghost use Rattle.cborc_grammar.specs.Grammar as grammar;
+ghost use Rattle.cborc_grammar.specs.Grammar.{IsGrammar, Kinds, Orders};
+ghost use Rattle.cborc_grammar.specs.inner.Commands.{with_rules, HasRule, HasShape};
 
 use cbor_head::MAX_DEPTH;
 use clap::{Arg, ArgAction, Command};
@@ -15,8 +14,9 @@ use std::alloc::{AllocError, Global};
 const VERSION: &str = "\
 2.0.0
 Orders of keys: bytewise (RFC 8949, section 4.2.1), length (section 4.2.3)
+Kinds of keys: any, basic (integers and texts)
 Limits: depth 0 to 256, bytes 0 to 4611686018427387904
-Proved with rattle-kit-13b: each function is safe, returns, and meets its contract";
+Proved with rattle-kit-13f: each function is safe, returns, and meets its contract";
 
 /// What stands below the program's help.
 const BELOW_HELP: &str = "\
@@ -35,9 +35,12 @@ Examples:
   cborc show --seq records.cbor
   cborc compare old.cbor new.cbor";
 
-/// The program's command line.
+/// The program's command line, of which clap's model speaks: it is simple, and no argument of it has
+/// a rule on another.
 pub fn command<'a>(alloc: Global) -> Result<Command<'a>, AllocError>
-    ensures { IfOk result (λ command. IsGrammar (app_of command)) }
+    ensures grammar { IfOk result (λ command. IsGrammar (app_of command)) }
+    ensures simple { IfOk result (λ command. is_simple (app_of command) ≡ true) }
+    ensures free { IfOk result (λ command. is_simple_and_free (app_of command) ≡ true) }
 {
     Command::new(alloc, "cborc")
         .about("Reads and writes deterministic CBOR (RFC 8949, section 4.2)")
@@ -53,7 +56,7 @@ pub fn command<'a>(alloc: Global) -> Result<Command<'a>, AllocError>
 }
 
 fn check<'a>(alloc: Global) -> Result<Command<'a>, AllocError>
-    ensures { IfOk result (λ command. (names : Bor _) × NamesOrders names × HasShape (grammar.check names) command) }
+    ensures { IfOk result (λ command. (orders : Orders) × (kinds : Kinds) × HasShape (grammar.check orders kinds) command) }
 {
     let command = Command::new(alloc, "check")
         .about("Checks that FILE is one valid item, or a sequence of them")
@@ -65,7 +68,7 @@ fn check<'a>(alloc: Global) -> Result<Command<'a>, AllocError>
 }
 
 fn canon<'a>(alloc: Global) -> Result<Command<'a>, AllocError>
-    ensures { IfOk result (λ command. (names : Bor _) × NamesOrders names × HasShape (grammar.canon names) command) }
+    ensures { IfOk result (λ command. (orders : Orders) × (kinds : Kinds) × HasShape (grammar.canon orders kinds) command) }
 {
     let command = Command::new(alloc, "canon")
         .about("Writes the canonical bytes of the item in IN, or of each of a sequence, to OUT")
@@ -82,7 +85,7 @@ fn canon<'a>(alloc: Global) -> Result<Command<'a>, AllocError>
 }
 
 fn show<'a>(alloc: Global) -> Result<Command<'a>, AllocError>
-    ensures { IfOk result (HasShape grammar.show) }
+    ensures { IfOk result (λ command. (kinds : Kinds) × HasShape (grammar.show kinds) command) }
 {
     let command = Command::new(alloc, "show")
         .about("Writes the diagnostic text of the item in FILE, or of each of a sequence")
@@ -93,7 +96,7 @@ fn show<'a>(alloc: Global) -> Result<Command<'a>, AllocError>
 }
 
 fn events<'a>(alloc: Global) -> Result<Command<'a>, AllocError>
-    ensures { IfOk result (HasShape grammar.events) }
+    ensures { IfOk result (λ command. (kinds : Kinds) × HasShape (grammar.events kinds) command) }
 {
     let command = Command::new(alloc, "events")
         .about("Writes a line for each event of the item in FILE, or of each of a sequence")
@@ -103,7 +106,7 @@ fn events<'a>(alloc: Global) -> Result<Command<'a>, AllocError>
 }
 
 fn compare<'a>(alloc: Global) -> Result<Command<'a>, AllocError>
-    ensures { IfOk result (HasShape grammar.compare) }
+    ensures { IfOk result (λ command. (kinds : Kinds) × HasShape (grammar.compare kinds) command) }
 {
     let command = Command::new(alloc, "compare")
         .about("Says whether the items in A and B have the same value")
@@ -141,7 +144,7 @@ fn sequence<'a>(alloc: Global) -> Arg<'a>
 }
 
 fn order<'a>(alloc: Global, help: &'a str) -> Arg<'a>
-    ensures { (names : Bor _) × NamesOrders names × HasRule (grammar.order names) result }
+    ensures { (orders : Orders) × HasRule (grammar.order orders) result }
 {
     Arg::new(alloc, "order")
         .long("order")
@@ -154,7 +157,7 @@ fn order<'a>(alloc: Global, help: &'a str) -> Arg<'a>
 
 // The options that all subcommands take.
 fn with_options<'a>(alloc: Global, command: Command<'a>) -> Result<Command<'a>, AllocError>
-    ensures { IfOk result (λ r. app_of r ≡ with_rules (app_of command.entry) grammar.options) }
+    ensures { IfOk result (λ r. (kinds : Kinds) × (app_of r ≡ with_rules (app_of command.entry) (grammar.options kinds))) }
 {
     let hex = "Read hex digits, two for each byte, white space ignored";
     let quiet = "Answer by the status alone";
@@ -162,6 +165,7 @@ fn with_options<'a>(alloc: Global, command: Command<'a>) -> Result<Command<'a>, 
     command
         .arg(depth(alloc))?
         .arg(bytes(alloc))?
+        .arg(keys(alloc))?
         .arg(flag(alloc, "hex", hex))?
         .arg(flag(alloc, "quiet", quiet))?
         .arg(flag(alloc, "explain", explain))
@@ -189,4 +193,16 @@ fn bytes<'a>(alloc: Global) -> Arg<'a>
         .value_parser(clap::value_parser!(u64).range(0..=1 << 62))
         .default_value("1048576")
         .help("How many bytes an item may have, 0 to 4611686018427387904")
+}
+
+fn keys<'a>(alloc: Global) -> Arg<'a>
+    ensures { (kinds : Kinds) × HasRule (grammar.keys kinds) result }
+{
+    Arg::new(alloc, "keys")
+        .long("keys")
+        .value_name("kinds")
+        .action(ArgAction::Set)
+        .value_parser(["any", "basic"].as_slice())
+        .default_value("any")
+        .help("Which keys maps may have: any, or basic, integers and texts")
 }

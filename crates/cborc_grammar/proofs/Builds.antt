@@ -1,12 +1,10 @@
--- What a command comes to as its arguments and subcommands are added, and that the model speaks of the whole.
+-- What a command comes to as its arguments and subcommands are added.
 use Rattle.std.proofs.Common.{◌≡◌, ◌∙◌, ap, ap₂, true}
-use Rattle.clap.specs.Words.{AddsArg, AddsSubcommand, App, Rule, Shape, app_of, is_simple, is_simple_and_free, with_rule, with_subcommand}
+use Rattle.clap.specs.Words.{AddsArg, AddsSubcommand, App, Rule, Shape, app_of, with_rule, with_subcommand}
 use Rattle.clap.specs.declared.builder.arg.Arg.{Arg}
 use Rattle.clap.specs.declared.builder.command.Command.{Command}
-use Rattle.clap.proofs.OnLiterals.{clap_on_literals}
 use Rattle.clap.proofs.SimpleLemmas.{plain_fields}
-use Rattle.cborc_words.specs.Grammar.{IsGrammar}
-use Rattle.cborc_words.specs.inner.Commands.{HasRule, HasShape}
+use Rattle.cborc_grammar.specs.inner.Commands.{HasRule, HasShape}
 
 -- one more argument
 pub adds_rule : (old : Command) (arg : Arg) (new : Command) (app : App) (rule : Rule) → AddsArg old arg new → app_of old ≡ app → HasRule rule arg → app_of new ≡ with_rule app rule
@@ -16,13 +14,3 @@ adds_rule old arg new app rule adds is has = adds.shape has.1 ∙ ap₂ with_rul
 pub adds_subcommand : (old sub new : Command) (app : App) (shape : Shape) → AddsSubcommand old sub new → app_of old ≡ app → HasShape shape sub → shape.is_plain ≡ true → app_of new ≡ with_subcommand app shape
 adds_subcommand old sub new app shape adds is has plain =
     adds.shape (plain_fields sub (ap (λ (a : App). a.top.is_plain) has ∙ plain)).globals ∙ ap₂ with_subcommand is (ap (λ (a : App). a.top) has)
-
--- the grammar is one of which clap's model speaks
-pub simple : (app : App) → IsGrammar app → is_simple app ≡ true
-unfolding clap_on_literals
-simple app g = ap is_simple g.is
-
--- and none of its arguments has a rule on another
-pub free : (app : App) → IsGrammar app → is_simple_and_free app ≡ true
-unfolding clap_on_literals
-free app g = ap is_simple_and_free g.is

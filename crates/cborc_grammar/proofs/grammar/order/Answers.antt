@@ -1,0 +1,10 @@
+use Rattle.std.proofs.Common.{◌≡◌, ◌∷◌, [], codes, map, rules}
+use Rattle.cborc_grammar.specs.Grammar as grammar
+use Rattle.cborc_grammar.specs.inner.Commands.{HasRule}
+use Rattle.cborc_grammar.proofs.grammar.order.Goals as goal
+
+pub returns : goal.returns
+returns c =
+    let named : map (λ name. name.now) c.as_slice.result.now ≡ codes "bytewise" ∷ codes "length" ∷ [] = search rules in
+    let rule : HasRule (grammar.order (c.as_slice.result, named)) c.help.result = search rules in
+    ((c.as_slice.result, named), rule)
