@@ -38,8 +38,11 @@ pub(super) fn by_order(column: &str, order: KeyOrder) -> &str {
 
 // The limits of a column as `depth 1 bytes 4 keys basic`.
 pub(super) fn limits_of(column: &str) -> Option<Limits> {
-    let is_limit = |word| column.starts_with(word);
-    if !column.is_empty() && !["depth ", "bytes ", "keys "].into_iter().any(is_limit) {
+    let is_known = column.is_empty()
+        || column.starts_with("depth ")
+        || column.starts_with("bytes ")
+        || column.starts_with("keys ");
+    if !is_known {
         return None;
     }
     let depth = number_behind(column, "depth ", 256)?;

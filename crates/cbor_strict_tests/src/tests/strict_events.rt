@@ -115,13 +115,11 @@ fn tells_nothing_of_a_key_of_another_kind(rt: HostRuntime) {
     let refusal = Refusal::new(Reason::KeyKind, 1, 2);
     let inputs: [&[u8]; 3] = [b"\xa1\xf8\x20\x00", b"\xa1\x80\x00", b"\xa1\x41\x07\x00"];
     for input in inputs {
-        let mut rest = input;
-        let mut reader = StrictReader::new(rt.alloc(), &mut rest, basic, KeyOrder::Bytewise);
+        let mut reader = StrictReader::new(rt.alloc(), input, basic, KeyOrder::Bytewise);
         assert!(rt; reader.next() == Ok(Some(map)));
         assert!(rt; reader.next() == Err(refusal));
         assert!(rt; reader.next() == Err(refusal));
         assert!(rt; reader.taken() == 2 && reader.piece().is_empty());
-        assert!(rt; rest.len() + 2 == input.len());
     }
 }
 
