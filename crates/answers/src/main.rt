@@ -67,11 +67,15 @@ fn answer_line<W: Write>(alloc: Global, line: &str, out: &mut W) -> io::Result<(
     if let Some(rest) = line.strip_prefix("memory ") {
         let (idle, rest) = rest.split_once(' ').ok_or_else(malformed)?;
         let idle = idle.parse::<u32>().map_err(|_| malformed())?;
-        let (limits, digits) = limits_of(rest).ok_or_else(malformed)?;
+        let Some((limits, digits)) = limits_of(rest) else {
+            return Err(malformed());
+        };
         let bytes = hex::decode(alloc, digits).map_err(|_| malformed())?;
         return answer_memory(alloc, &bytes, limits, idle, out);
     }
-    let (limits, digits) = limits_of(line).ok_or_else(malformed)?;
+    let Some((limits, digits)) = limits_of(line) else {
+        return Err(malformed());
+    };
     let bytes = hex::decode(alloc, digits).map_err(|_| malformed())?;
     for part in PARTS {
         answer_tree(alloc, &bytes, part, limits, out)?;
