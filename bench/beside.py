@@ -1,4 +1,5 @@
-"""Counts the instructions of `cborc` beside those of plain C, and prints Markdown.
+"""Counts the instructions of `cborc` beside those of plain C, and of `--keys basic` beside those of any keys, and prints
+Markdown.
 
     python3 beside.py CBORC PLAIN FOLDER NAME..
 
@@ -14,12 +15,25 @@ from program import TITLES
 from strict import instructions
 
 BYTES = ["--bytes", "100000000"]
+# The documents of maps whose keys are integers and texts.
+KEYED = ["records", "map_100000"]
 
 
 def a_byte(folder, name, ending, words, out=()):
     """Instructions a byte of these words before the file, and OUT behind it."""
     path, one = (f"{folder}/{it}.{ending}" for it in (name, "one"))
     return (instructions(*words, path, *out) - instructions(*words, one, *out)) / os.path.getsize(path)
+
+
+def kinds_of_keys(cborc, folder):
+    print("\n| with `--keys basic` | `canon` | ratio | `check` | ratio | `check --strict` | ratio |\n| --- |" + " ---: |" * 6)
+    calls = (["canon"], "cbor", [f"{folder}/out"]), (["check"], "cbor", []), (["check", "--strict"], "bytewise", [])
+    for name in KEYED:
+        cells = []
+        for words, ending, out in calls:
+            basic, of_any = (a_byte(folder, name, ending, [cborc, *words, "--keys", it, *BYTES], out) for it in ("basic", "any"))
+            cells += [f"{basic:.2f}", f"{basic / of_any:.3f}"]
+        print(f"| {TITLES[name]} | " + " | ".join(cells) + " |", flush=True)
 
 
 def main():
@@ -33,6 +47,7 @@ def main():
         strict_by_c = a_byte(folder, name, "bytewise", [plain, "strict"])
         cells = [built, by_c, built / by_c, checked, checked / by_c, strict, strict_by_c, strict / strict_by_c]
         print(f"| {TITLES[name]} | " + " | ".join(f"{it:.2f}" for it in cells) + " |", flush=True)
+    kinds_of_keys(cborc, folder)
 
 
 if __name__ == "__main__":
