@@ -65,7 +65,7 @@ impl<S> Building<S> {
             if is_other_key::<KINDS>(self.stack.top.due, rest) {
                 return Met::Stopped;
             }
-            match self.take_part(rest, cells, depth) {
+            match self.take_part::<KINDS>(rest, cells, depth) {
                 Part::Head(behind) => rest = behind,
                 Part::Item(behind) => {
                     rest = behind;

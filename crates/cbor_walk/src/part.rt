@@ -29,9 +29,10 @@ pub(crate) enum Part<'a> {
 }
 
 impl<S> Building<S> {
-    /// Takes what stands in front.
+    /// Takes what stands in front, whether or not kinds of keys are asked for: each walk has a copy of
+    /// its own, which is made part of its loop.
     #[inline(always)]
-    pub(crate) fn take_part<'a>(
+    pub(crate) fn take_part<'a, const KINDS: bool>(
         &mut self,
         rest: &'a [u8],
         cells: &mut [Open],
