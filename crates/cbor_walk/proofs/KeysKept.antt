@@ -20,7 +20,8 @@ use Rattle.cbor_judging.specs.Given.{level_open, opens, IsFull}
 use Rattle.cbor_judging.specs.Levels as levels
 use Rattle.cbor_judging.specs.Levels.{IsTaken, Level, a_member, a_value, some_member, some_key, some_value, tagged, AreLevels, level_bytes, bytes_before, Standing, item_due, item_full, settle}
 use Rattle.cbor_walk.proofs.CanonGiven.{opens-take}
-use Rattle.cbor_walk.specs.KeyBytes.{is_open_map, takes_key, key_due, in_key, is_map, bare_pairs, bare, kept, kept_all, one_more, inside, is_kept, behind_item, with_item, KeepsAt}
+use Rattle.cbor_walk.specs.KeyBytes.{is_open_map, in_key, bare_pairs, bare, kept, kept_all, one_more, inside, is_kept, behind_item, with_item, KeepsAt}
+use Rattle.cbor_walk.specs.Sink.{takes_key, key_due, is_map}
 
 -- ---- the keys of a map
 
@@ -162,7 +163,7 @@ inside-few (l ∷ ls) = omega (arith, one-at-most (in_key ls) (inside ls), insid
 
 -- ---- a container ends
 
-abbrev Some : List Open → Type 0
+abbrev pub Some : List Open → Type 0
 Some os = (c : Open) × (cs : List Open) × (os ≡ c ∷ cs)
 
 kept-some : (t : Bool) (c : Open) (os : List Open) → Some os → Some (kept t c os)
@@ -173,7 +174,7 @@ kept-some false (plain bs) os h = h
 kept-some false (an_array n bs) os h = h
 kept-some false (a_string m bs) os h = h
 
-some-kept : (o : KeyOrder) (ls : List Level) → Some (kept_all o ls)
+pub some-kept : (o : KeyOrder) (ls : List Level) → Some (kept_all o ls)
 some-kept o [] = (plain [], [], refl)
 some-kept o (l ∷ ls) = kept-some (in_key ls) (level_open o l) (kept_all o ls) (some-kept o ls)
 

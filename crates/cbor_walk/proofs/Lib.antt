@@ -11,6 +11,7 @@ pub mod GivenKinds
 pub mod GivenParts
 pub mod HeadComplaints
 pub mod KeyOrder
+pub mod KeyStrings
 pub mod KeysGiven
 pub mod KeysKept
 pub mod OtherKeys

@@ -1,24 +1,18 @@
 //! The canonical bytes of the keys of an item whose parts come, and of nothing else.
 
-ghost use Rattle.std.specs.Prelude.{◌≡◌, ◌≤◌, [], true, IfOk, IsTrue, OnOk, length, take};
-ghost use Rattle.cbor_builder.specs.Built.{built, IsLeaf, IsContainer, TakesPart};
-ghost use Rattle.cbor_head.specs.Head.{IsSimple};
-ghost use Rattle.cbor_head.specs.declared.major.Major.TheVariants as majors;
+ghost use Rattle.std.specs.Prelude.{◌≡◌, [], OnOk};
+ghost use Rattle.cbor_builder.specs.Built.{built, TakesPart};
 ghost use Rattle.cbor_judging.specs.Levels.{item_due};
-ghost use Rattle.cbor_judging.specs.Reading.{string_value};
-ghost use Rattle.cbor_walk.specs.KeyBytes.{is_kept, behind_item, keys_stand, told_stand};
-ghost use Rattle.cbor_walk.specs.KeyBytes.{GivesTold, OpensTold, EndsTold};
-ghost use Rattle.cbor_walk.specs.Sink.{leaf_value, IsItemDue, IsContainerFull};
-ghost use Rattle.cbor_walk.specs.declared.key_bytes.KeyBytes.{KeyBytes as KeyBytesView};
+ghost use Rattle.cbor_walk.specs.KeyBytes.{is_kept, behind_item, keys_stand, keys_hold};
 
 use crate::canonical_sink::string_type;
+use crate::sink::Sink;
 use cbor_builder::CanonBuilder;
 use cbor_head::{KeyOrder, Major};
 use std::alloc::{AllocError, Global};
 
-/// What finds equal keys in an item whose parts it is told: the canonical bytes of the keys of the
-/// open maps. What is no key, and stands in none, is not kept, and a map's keys are given up at its
-/// end. Whether a map is innermost that awaits a key is for the caller to know, who keeps the item.
+/// What finds equal keys in an item: the canonical bytes of the keys of the open maps. What is no
+/// key, and stands in none, is not kept, and a map's keys are given up at its end.
 #[derive(Drop)]
 pub struct KeyBytes {
     builder: CanonBuilder,
@@ -35,80 +29,6 @@ impl KeyBytes {
             builder: CanonBuilder::new(alloc, KeyOrder::Bytewise),
             inside: 0,
         }
-    }
-
-    /// An integer or a simple value.
-    #[inline(always)]
-    pub fn leaf(&mut self, is_key: bool, major: Major, number: u64) -> Result<(), AllocError>
-        requires kind { IsLeaf major }
-        requires simple { major ≡ majors.Simple → IsSimple number }
-        requires due { IsItemDue KeyBytesView (told_stand is_key) self.old }
-        ensures { OnOk result (GivesTold is_key (leaf_value major number) self.old self.new) }
-    {
-        if self.keeps(is_key) {
-            self.builder.leaf(major, number)?;
-            self.settle()?;
-        }
-        Ok(())
-    }
-
-    /// A string, whose content is the first so many of these bytes.
-    #[inline(always)]
-    pub fn string(
-        &mut self,
-        is_key: bool,
-        is_text: bool,
-        front: &[u8],
-        count: usize,
-    ) -> Result<(), AllocError>
-        requires within { count ≤ length front.now }
-        requires due { IsItemDue KeyBytesView (told_stand is_key) self.old }
-        ensures { OnOk result (GivesTold is_key (string_value is_text (take count front.now))
-            self.old self.new) }
-    {
-        if self.keeps(is_key) {
-            self.builder
-                .front_string(string_type(is_text), front, count)?;
-            self.settle()?;
-        }
-        Ok(())
-    }
-
-    /// An array, a map or a tag begins; a tag with its number.
-    #[inline(always)]
-    pub fn begin(&mut self, is_key: bool, major: Major, number: u64) -> Result<(), AllocError>
-        requires kind { IsContainer major }
-        requires due { IsItemDue KeyBytesView (told_stand is_key) self.old }
-        ensures { OnOk result (OpensTold is_key major number self.old self.new) }
-    {
-        if self.keeps(is_key) {
-            self.builder.begin(major, number)?;
-            self.inside += 1;
-        } else if let Major::Map = major {
-            self.builder.begin(major, number)?;
-        }
-        Ok(())
-    }
-
-    /// The innermost container ends. False where two of its keys are equal: then it may only be
-    /// dropped.
-    #[inline(always)]
-    pub fn end(&mut self, is_map: bool) -> Result<bool, AllocError>
-        requires full { IsContainerFull KeyBytesView (told_stand is_map) self.old }
-        ensures { IfOk result (λ is_distinct. IsTrue is_distinct → EndsTold is_map self.old self.new) }
-    {
-        if self.inside == 0 {
-            if is_map {
-                return self.builder.give_up_if_distinct();
-            }
-            return Ok(true);
-        }
-        if !self.builder.end_if_distinct()? {
-            return Ok(false);
-        }
-        self.inside -= 1;
-        self.settle()?;
-        Ok(true)
     }
 
     // Whether the next item is a key, as this says where none is open, or stands in one.
@@ -131,5 +51,94 @@ impl KeyBytes {
             self.builder.nothing()?;
         }
         Ok(())
+    }
+}
+
+impl<'a> Sink<'a> for KeyBytes {
+    ghost stands = { keys_stand };
+
+    ghost holds = { keys_hold };
+
+    #[inline(always)]
+    fn leaf(&mut self, is_key: bool, major: Major, number: u64) -> Result<(), AllocError> {
+        if self.keeps(is_key) {
+            self.builder.leaf(major, number)?;
+            self.settle()?;
+        }
+        Ok(())
+    }
+
+    #[inline(always)]
+    fn string(
+        &mut self,
+        is_key: bool,
+        is_text: bool,
+        front: &'a [u8],
+        count: usize,
+    ) -> Result<(), AllocError> {
+        if self.keeps(is_key) {
+            self.builder
+                .front_string(string_type(is_text), front, count)?;
+            self.settle()?;
+        }
+        Ok(())
+    }
+
+    #[inline(always)]
+    fn begin_string(&mut self, is_key: bool, is_text: bool) -> Result<(), AllocError> {
+        if self.keeps(is_key) {
+            self.builder.begin_string(string_type(is_text))?;
+        }
+        Ok(())
+    }
+
+    #[inline(always)]
+    fn chunk(
+        &mut self,
+        is_key: bool,
+        _is_text: bool,
+        front: &'a [u8],
+        count: usize,
+    ) -> Result<(), AllocError> {
+        if self.keeps(is_key) {
+            self.builder.front_bytes(front, count)?;
+        }
+        Ok(())
+    }
+
+    #[inline(always)]
+    fn end_string(&mut self, is_key: bool, _is_text: bool) -> Result<(), AllocError> {
+        if self.keeps(is_key) {
+            self.builder.end_string()?;
+            self.settle()?;
+        }
+        Ok(())
+    }
+
+    #[inline(always)]
+    fn begin(&mut self, is_key: bool, major: Major, number: u64) -> Result<(), AllocError> {
+        if self.keeps(is_key) {
+            self.builder.begin(major, number)?;
+            self.inside += 1;
+        } else if let Major::Map = major {
+            self.builder.begin(major, number)?;
+        }
+        Ok(())
+    }
+
+    #[inline(always)]
+    fn end(&mut self, is_map: bool) -> Result<bool, AllocError> {
+        if self.inside == 0 {
+            if is_map {
+                return self.builder.give_up_if_distinct();
+            }
+            return Ok(true);
+        }
+        if !self.builder.end_if_distinct()? {
+            return Ok(false);
+        }
+        self.inside -= 1;
+        self.settle()?;
+        Ok(true)
     }
 }

@@ -7,7 +7,7 @@ use Rattle.cbor_head.specs.declared.major.Major.{Major}
 use Rattle.cbor_judging.specs.Reading.{string_major, string_value}
 use Rattle.cbor_walk.proofs.CanonGiven.{string-bytes}
 use Rattle.cbor_walk.proofs.KeysGiven.{takes, key-takes, given-kept, given-left}
-use Rattle.cbor_walk.proofs.key_bytes.KeyBytes.string.Goals as goal
+use Rattle.cbor_walk.proofs.key_bytes.KeyBytesSink.string.Goals as goal
 
 pub front_string-requires-clause-takes : goal.front_string-requires-clause-takes
 front_string-requires-clause-takes c = takes c.args.is_key c.args.self.now c.requires.due

@@ -3,7 +3,7 @@ use Rattle.cbor_builder.specs.Built.{Built, built}
 use Rattle.cbor_canonical.specs.Parts.{close}
 use Rattle.cbor_walk.specs.KeyBytes.{behind_item}
 use Rattle.cbor_walk.proofs.KeysGiven.{in-container, end-takes, map-ends, ended-other, ended-inner}
-use Rattle.cbor_walk.proofs.key_bytes.KeyBytes.end.Goals as goal
+use Rattle.cbor_walk.proofs.key_bytes.KeyBytesSink.end.Goals as goal
 
 pub give_up_if_distinct-requires : goal.give_up_if_distinct-requires
 give_up_if_distinct-requires c = record { container = in-container c.args.is_map c.args.self.now c.requires.full (inr c.if-is_map.true) }

@@ -1,6 +1,6 @@
 use Rattle.std.proofs.Common.{◌∙◌, ◌+◌, sym, arith}
 use Rattle.cbor_walk.proofs.KeysGiven.{takes, few, opened-kept}
-use Rattle.cbor_walk.proofs.key_bytes.KeyBytes.begin.Goals as goal
+use Rattle.cbor_walk.proofs.key_bytes.KeyBytesSink.begin.Goals as goal
 
 pub begin-requires-clause-takes : goal.begin-requires-clause-takes
 begin-requires-clause-takes c = takes c.args.is_key c.args.self.now c.requires.due

@@ -3,7 +3,7 @@ use Rattle.cbor_head.specs.Head.{shortest_head}
 use Rattle.cbor_walk.specs.Sink.{leaf_value}
 use Rattle.cbor_walk.proofs.CanonGiven.{leaf-bytes}
 use Rattle.cbor_walk.proofs.KeysGiven.{takes, key-takes, given-kept, given-left}
-use Rattle.cbor_walk.proofs.key_bytes.KeyBytes.leaf.Goals as goal
+use Rattle.cbor_walk.proofs.key_bytes.KeyBytesSink.leaf.Goals as goal
 
 pub leaf-requires-clause-takes : goal.leaf-requires-clause-takes
 leaf-requires-clause-takes c = takes c.args.is_key c.args.self.now c.requires.due
