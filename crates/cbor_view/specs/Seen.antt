@@ -1,5 +1,5 @@
 -- The value that a view stands for (RFC 8949, section 2), and what is open of views.
-use Rattle.std.specs.Prelude.{Bool, true, false, List, [], ◌∷◌, map}
+use Rattle.std.specs.Prelude.{List, map}
 use Rattle.cbor_head.specs.Value as value
 use Rattle.cbor_head.specs.Value.{Value}
 use Rattle.cbor_item.specs.View.{values_of, entries_of}

@@ -1,8 +1,8 @@
 use Rattle.cbor_reader.proofs.ViewGiven.{due, takes, opened}
 use Rattle.cbor_reader.proofs.view_sink.ViewSinkSink.begin.Goals as goal
 
-pub begin-requires-clause-due : goal.begin-requires-clause-due
-begin-requires-clause-due c = due c.args.is_key c.args.self.now c.requires.due
+pub begin-requires : goal.begin-requires
+begin-requires c = (c.requires.kind, due c.args.is_key c.args.self.now c.requires.due)
 
 pub begin-requires-2-clause-takes : goal.begin-requires-2-clause-takes
 begin-requires-2-clause-takes c = takes c.args.is_key c.args.self.now c.requires.due

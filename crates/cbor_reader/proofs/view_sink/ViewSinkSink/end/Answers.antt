@@ -2,7 +2,7 @@ use Rattle.cbor_reader.proofs.ViewGiven.{keys-end, views-end, ended}
 use Rattle.cbor_reader.proofs.view_sink.ViewSinkSink.end.Goals as goal
 
 pub end-requires : goal.end-requires
-end-requires c = record { full = keys-end c.args.is_map c.args.self.now c.requires.full }
+end-requires c = keys-end c.args.is_map c.args.self.now c.requires.full
 
 pub end-requires-then-is_distinct : goal.end-requires-then-is_distinct
 end-requires-then-is_distinct c = record { container = views-end c.args.is_map c.args.self.now c.requires.full }

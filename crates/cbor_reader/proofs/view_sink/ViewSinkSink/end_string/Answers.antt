@@ -10,13 +10,14 @@ use Rattle.cbor_walk.specs.declared.key_bytes.KeyBytes.{KeyBytes}
 use Rattle.cbor_reader.proofs.ViewGiven.{due, takes, utf8-due, whole-due, string-ended}
 use Rattle.cbor_reader.proofs.view_sink.ViewSinkSink.end_string.Goals as goal
 
-pub string-requires-clause-due : goal.string-requires-clause-due
-string-requires-clause-due c = due c.args.is_key c.args.self.now (whole-due c.args.is_key c.args.is_text c.args.self.now c.requires.due)
-
-pub string-requires-clause-utf8 : goal.string-requires-clause-utf8
-string-requires-clause-utf8 c = λ e.
+pub string-requires : goal.string-requires
+string-requires c =
     let content = c.as_slice-content.result.now in
-    subst IsUtf8 (sym (take_all (length content) content (omega arith) ∙ c.as_slice-content.ensures)) (utf8-due c.args.is_key c.args.is_text c.args.self.now c.requires.due e)
+    let whole = take_all (length content) content (omega arith) ∙ c.as_slice-content.ensures in
+    (omega arith, (
+      (λ e. subst IsUtf8 (sym whole) (utf8-due c.args.is_key c.args.is_text c.args.self.now c.requires.due e)),
+      due c.args.is_key c.args.self.now (whole-due c.args.is_key c.args.is_text c.args.self.now c.requires.due),
+    ))
 
 pub copied_text-requires : goal.copied_text-requires
 copied_text-requires c = record { takes = takes c.args.is_key c.args.self.now (whole-due c.args.is_key c.args.is_text c.args.self.now c.requires.due) }

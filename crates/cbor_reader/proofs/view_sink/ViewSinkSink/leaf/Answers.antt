@@ -6,8 +6,8 @@ use Rattle.cbor_walk.specs.Sink.{leaf_value}
 use Rattle.cbor_reader.proofs.ViewGiven.{due, takes, given}
 use Rattle.cbor_reader.proofs.view_sink.ViewSinkSink.leaf.Goals as goal
 
-pub leaf-requires-clause-due : goal.leaf-requires-clause-due
-leaf-requires-clause-due c = due c.args.is_key c.args.self.now c.requires.due
+pub leaf-requires : goal.leaf-requires
+leaf-requires c = (c.requires.kind, (c.requires.simple, due c.args.is_key c.args.self.now c.requires.due))
 
 pub leaf-requires-2 : goal.leaf-requires-2
 leaf-requires-2 c = record { takes = takes c.args.is_key c.args.self.now c.requires.due }

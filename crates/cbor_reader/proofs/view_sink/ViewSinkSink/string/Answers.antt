@@ -6,8 +6,8 @@ use Rattle.cbor_view.specs.Seen.{standing}
 use Rattle.cbor_reader.proofs.ViewGiven.{due, takes, given}
 use Rattle.cbor_reader.proofs.view_sink.ViewSinkSink.string.Goals as goal
 
-pub string-requires-clause-due : goal.string-requires-clause-due
-string-requires-clause-due c = due c.args.is_key c.args.self.now c.requires.due
+pub string-requires : goal.string-requires
+string-requires c = (c.requires.within, (c.requires.utf8, due c.args.is_key c.args.self.now c.requires.due))
 
 pub leaf-requires : goal.leaf-requires
 leaf-requires c = record { takes = takes c.args.is_key c.args.self.now c.requires.due }

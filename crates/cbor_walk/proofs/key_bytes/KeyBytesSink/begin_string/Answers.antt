@@ -1,4 +1,4 @@
-use Rattle.std.proofs.Common.{◌≡◌, ◌∙◌, ◌∷◌, refl, sym, ap}
+use Rattle.std.proofs.Common.{◌∙◌, ◌∷◌, refl, sym, ap}
 use Rattle.cbor_builder.specs.Built.{built}
 use Rattle.cbor_canonical.specs.Parts.{opened}
 use Rattle.cbor_head.specs.declared.major.Major.{Major}
