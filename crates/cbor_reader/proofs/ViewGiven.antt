@@ -2,16 +2,16 @@
 use Rattle.std.proofs.Common.{◌≡◌, ℕ, Bool, true, List, [], ◌∷◌, ◌++◌, refl, sym, ap, ap₂, ◌∙◌, subst, inl, inr}
 use Rattle.std.specs.Prelude.{IsUtf8}
 use Rattle.std.proofs.lemmas.Str.{IsUtf8-append}
-use Rattle.cbor_head.specs.Spelling.{Spelling, Spellings, SpelledEntries, unsigned, negative, bytes, text, byte_chunks, text_chunks, array, a_map, tag, simple, value_of}
+use Rattle.cbor_head.specs.Spelling.{Spelling, Spellings, SpelledEntries, array, a_map, value_of}
 use Rattle.cbor_head.specs.Value.{Value}
 use Rattle.cbor_head.specs.declared.major.Major.{Major}
 use Rattle.cbor_head.specs.declared.major.Major.TheVariants as majors
 use Rattle.cbor_item.specs.OpenValues as parts
 use Rattle.cbor_item.specs.OpenValues.{OpenValue, an_array, give, close, TakesValue, MayEnd}
-use Rattle.cbor_judging.specs.Levels.{Level, a_member, a_key, a_value, some_member, some_key, some_value, tagged, Standing, item_due, item_full, item_whole}
+use Rattle.cbor_judging.specs.Levels.{Level, some_member, some_key, item_due}
 use Rattle.cbor_judging.specs.Reading.{string_value}
 use Rattle.cbor_reader.specs.declared.view_sink.ViewSink.{ViewSink}
-use Rattle.cbor_reader.specs.inner.TreeValues.{member_values, pair_values, level_value, level_values, full_value, values_at, IsContainer}
+use Rattle.cbor_reader.specs.inner.TreeValues.{member_values, pair_values, level_value, level_values, full_value, IsContainer}
 use Rattle.cbor_reader.specs.inner.ViewSinks.{view_stands, view_holds}
 use Rattle.cbor_reader.proofs.TreeValues.{full-ends, levels-take, may-end, settles-right, values-given, values-ended}
 use Rattle.cbor_view.specs.Seen.{standing}
