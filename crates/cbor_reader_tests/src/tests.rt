@@ -10,6 +10,7 @@ mod failing;
 mod keys;
 mod keys_table;
 mod promises;
+mod refusals_table;
 mod sequence;
 mod sizes;
 mod thresholds;
