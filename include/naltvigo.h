@@ -161,15 +161,10 @@ struct naltvigo_refusal {
     uint64_t read;   /* how many bytes were taken; at most the input's length, and `bytes` */
 };
 
-/* A machine that takes one item in parts of any length, and tells its events. It is the caller's, of 4.1 KiB;
+/* A machine that takes one item in parts of any length, and tells its events. It is the caller's, of 2.3 KiB;
  * it holds no pointer, so it may be copied, moved and stored. The fields may be read, and are written by the
  * calls of a machine alone: naltvigo_machine_take of other numbers answers NALTVIGO_BAD_MACHINE, or what some
  * machine within its limits would, safely, but of no item. */
-struct naltvigo_frame {
-    uint64_t left; /* how many members, or pairs, follow the one that is due */
-    uint8_t kind;  /* an array, an array of indefinite length, a map, a map with a value due, the last two of
-                      indefinite length, a tag: 0 to 6 */
-};
 struct naltvigo_machine {
     uint64_t bytes;   /* the byte limit */
     uint64_t taken;   /* how many bytes were taken */
@@ -184,7 +179,11 @@ struct naltvigo_machine {
     uint8_t left;     /* how many bytes of the argument follow the next one */
     uint8_t chunk;    /* 1 where the head or payload is a chunk's */
     uint8_t reason;   /* why the item was refused; 0 where it was not */
-    struct naltvigo_frame frames[NALTVIGO_DEPTH_MAX]; /* the outermost first */
+    /* Of each open array, map or tag, the outermost first: how many members, or pairs, follow the one that is
+     * due; and what it is: an array, an array of indefinite length, a map, a map with a value due, the last two
+     * of indefinite length, a tag: 0 to 6. What stands behind these means nothing. */
+    uint64_t lefts[NALTVIGO_DEPTH_MAX];
+    uint8_t kinds[NALTVIGO_DEPTH_MAX];
 };
 
 /* The kinds of an event: the major type, 0 to 7, and these. */

@@ -28,14 +28,14 @@ TYPES = {
     "&mut SavedMachine": ["struct naltvigo_machine *"],
     "u8": ["uint8_t"],
     "u16": ["uint16_t"],
-    "[SavedFrame; MOST_OPEN]": ["struct naltvigo_frame[NALTVIGO_DEPTH_MAX]"],
+    "[u64; MOST_OPEN]": ["uint64_t[NALTVIGO_DEPTH_MAX]"],
+    "[u8; MOST_OPEN]": ["uint8_t[NALTVIGO_DEPTH_MAX]"],
 }
 
 # A struct of the crates, and what it is in C.
 STRUCTS = {
     "naltvigo_refusal": (CRATE / "status.rt", "NaltvigoRefusal"),
     "naltvigo_event": (CRATE / "streaming.rt", "NaltvigoEvent"),
-    "naltvigo_frame": (ROOT / "crates" / "cbor_machine" / "src" / "machine" / "saved.rt", "SavedFrame"),
     "naltvigo_machine": (ROOT / "crates" / "cbor_machine" / "src" / "machine" / "saved.rt", "SavedMachine"),
 }
 

@@ -57,6 +57,9 @@ printf '%s\n' "${files[@]}" share/naltvigo/files >"$to/share/naltvigo/files"
 
 echo "installed below $prefix; scripts/uninstall.sh $prefix removes it"
 case :$PATH: in *":$prefix/bin:"*) ;; *) echo "$prefix/bin is not in PATH" ;; esac
+if command -v pkg-config >/dev/null && ! pkg-config --exists naltvigo; then
+    echo "pkg-config does not look in $prefix/lib/pkgconfig: export PKG_CONFIG_PATH=$prefix/lib/pkgconfig"
+fi
 PATH=$PATH:/sbin:/usr/sbin
 if command -v ldconfig >/dev/null && ldconfig -v -N -X 2>/dev/null | grep -q "^$prefix/lib:"; then
     ldconfig 2>/dev/null || echo "run ldconfig as root, so that the loader finds the shared object"

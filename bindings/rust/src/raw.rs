@@ -28,13 +28,6 @@ pub struct Event {
 }
 
 #[repr(C)]
-#[derive(Clone, Copy, Debug)]
-pub struct Frame {
-    pub left: u64,
-    pub kind: u8,
-}
-
-#[repr(C)]
 #[derive(Clone, Debug)]
 pub struct Machine {
     pub bytes: u64,
@@ -50,7 +43,8 @@ pub struct Machine {
     pub left: u8,
     pub chunk: u8,
     pub reason: u8,
-    pub frames: [Frame; DEPTH_MAX],
+    pub lefts: [u64; DEPTH_MAX],
+    pub kinds: [u8; DEPTH_MAX],
 }
 
 impl Machine {
@@ -69,7 +63,8 @@ impl Machine {
             left: 0,
             chunk: 0,
             reason: 0,
-            frames: [Frame { left: 0, kind: 0 }; DEPTH_MAX],
+            lefts: [0; DEPTH_MAX],
+            kinds: [0; DEPTH_MAX],
         };
         // SAFETY: the pointer is that of a whole machine. Options are in range, so it answers OK.
         unsafe { naltvigo_machine_start_raw(options.depth(), options.bytes(), &mut machine) };

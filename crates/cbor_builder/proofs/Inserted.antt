@@ -1,5 +1,5 @@
 -- Spans put in order one by one.
-use Rattle.std.proofs.Common.{◌≡◌, ℕ, zero, suc, ◌+◌, ◌-◌, ◌<◌, ◌≤◌, List, [], ◌∷◌, ◌++◌, length, length-take, take, drop, get_or, set, map, refl, sym, ap, ◌∙◌, subst, arith, inl, inr, IsPermutation, IsSortedBy, false}
+use Rattle.std.proofs.Common.{◌≡◌, ℕ, zero, suc, ◌+◌, ◌-◌, ◌<◌, ◌≤◌, List, [], ◌∷◌, ◌++◌, length, length-take, take, drop, drop-drop, get_or, set, map, refl, sym, ap, ◌∙◌, subst, arith, inl, inr, IsPermutation, IsSortedBy, false}
 use Rattle.std.specs.Prelude.{IsTrue}
 use Rattle.std.specs.List.{AllByRecursion, insert}
 use Rattle.std.proofs.lemmas.List.{take_all, take_more, take-take}
@@ -66,6 +66,22 @@ taken_front zero [] ts e = refl
 taken_front zero (s ∷ us) ts e = absurd (omega (arith, e))
 taken_front (suc n) [] ts e = absurd (omega (arith, e))
 taken_front (suc n) (s ∷ us) ts e = ap (λ (xs : List Span). s ∷ xs) (taken_front n us ts (omega (arith, e)))
+
+-- what lies behind the first ones is as it was
+pub rest_front : (n : ℕ) (us ts : List Span) → length us ≡ n → drop n (us ++ ts) ≡ ts
+rest_front zero [] ts e = refl
+rest_front zero (s ∷ us) ts e = absurd (omega (arith, e))
+rest_front (suc n) [] ts e = absurd (omega (arith, e))
+rest_front (suc n) (s ∷ us) ts e = rest_front n us ts (omega (arith, e))
+
+pub same_at : (n : ℕ) (ss us : List Span) (d : Span) → drop n ss ≡ drop n us → n < length ss → n < length us → get_or ss n d ≡ get_or us n d
+same_at zero ss us d e h g = ap (λ (ts : List Span). get_or ts 0 d) e
+same_at (suc n) [] us d e h g = absurd (omega (arith, h))
+same_at (suc n) (s ∷ ss) [] d e h g = absurd (omega (arith, g))
+same_at (suc n) (s ∷ ss) (u ∷ us) d e h g = same_at n ss us d e (omega (arith, h)) (omega (arith, g))
+
+pub rest_more : (n : ℕ) (ss us : List Span) → drop n ss ≡ drop n us → drop (n + 1) ss ≡ drop (n + 1) us
+rest_more n ss us e = sym (drop-drop 1 n ss) ∙ ap (drop 1) e ∙ drop-drop 1 n us
 
 -- ---- order
 

@@ -33,6 +33,20 @@ pub(crate) fn insert_all(bytes: &[u8], order: KeyOrder, spans: &[Span], places: 
     true
 }
 
+/// The spans sorted by their keys where they stand. False where two keys are equal.
+pub(crate) fn insert_each(bytes: &[u8], order: KeyOrder, spans: &mut [Span]) -> bool
+    requires { AreFronted bytes.now spans.old }
+    ensures { IsTrue result ↔ HasDistinctBytes (map (span_pair bytes.now) spans.old) }
+{
+    for i in 0..spans.len() {
+        let next = spans[i];
+        if !insert(bytes, order, &mut spans[..i + 1], &next) {
+            return false;
+        }
+    }
+    true
+}
+
 // One more among those in front of the last place, which is free. False where one of them has the
 // same key.
 #[inline(always)]

@@ -10,7 +10,7 @@ ghost use Rattle.cbor_buffer.specs.Spans.{span_pair};
 ghost use Rattle.cbor_builder.specs.inner.Front.{key_of, AreFronted, rank, ranked_by};
 ghost use Rattle.std.specs.Ordering.{is_lt};
 
-use crate::insertion::insert_all;
+use crate::insertion::{insert_all, insert_each};
 use crate::ranking::compare;
 use cbor_buffer::span::Span;
 use cbor_head::KeyOrder;
@@ -20,11 +20,11 @@ use std::alloc::AllocError;
 const FEW: usize = 16;
 
 /// Sorts by the keys.
-pub(crate) fn sort(bytes: &[u8], order: KeyOrder, spans: &mut Vec<Span>)
-    ensures permuted { IsPermutation spans.old.items spans.new.items }
+pub(crate) fn sort(bytes: &[u8], order: KeyOrder, spans: &mut [Span])
+    ensures permuted { IsPermutation spans.old spans.new }
     ensures sorted { IsSortedBy
         (λ x y. is_lt (rank order (ranked_by bytes.now x) (ranked_by bytes.now y)))
-        spans.new.items }
+        spans.new }
 {
     spans.sort_unstable_by(|x, y| compare(bytes, order, x, y))
 }
@@ -87,4 +87,17 @@ pub(crate) fn put_in_order(
         sorting.extend_from_slice(spans)?;
     }
     Ok(insert_all(bytes, order, spans, sorting))
+}
+
+/// Whether no two spans have equal keys. They are put in order where they stand, which takes no
+/// memory.
+pub(crate) fn are_distinct(bytes: &[u8], order: KeyOrder, spans: &mut [Span]) -> bool
+    requires { AreFronted bytes.now spans.old }
+    ensures { IsTrue result ↔ HasDistinctBytes (map (span_pair bytes.now) spans.old) }
+{
+    if spans.len() > FEW {
+        sort(bytes, order, spans);
+        return differ(bytes, order, spans);
+    }
+    insert_each(bytes, order, spans)
 }

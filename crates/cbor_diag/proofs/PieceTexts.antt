@@ -5,13 +5,14 @@ use Rattle.std.proofs.lemmas.List.Concat.{flat_map-append}
 use Rattle.std.proofs.lemmas.Bool.Decides.{nat_tests}
 use lib.Seq.{take-add}
 use Rattle.hex.specs.Hex.{encode_with, encode_lower, lower_digits}
+use Rattle.cbor_head.specs.declared.limits.TheConstants.{MAX_DEPTH}
 use Rattle.cbor_diag.specs.inner.Outbox.{HasPut, HasStopped}
 use Rattle.cbor_diag.specs.Text.{escaped, simple_text}
 use Rattle.cbor_diag.specs.declared.outbox.Outbox.{Outbox}
 use Rattle.cbor_diag.proofs.Putting.{puts-then, puts-stops, stops-more}
 
-pub spaces-front : (level n : ℕ) → n ≡ level → level ≤ 256 → take {A = ℕ} (2 * n) (replicate 512 32) ≡ replicate (2 * level) 32
-spaces-front level n e few = rw e (take-replicate (2 * level) 512 32 (omega arith))
+pub spaces-front : (level n : ℕ) → n ≡ level → level ≤ MAX_DEPTH → take {A = ℕ} (2 * n) (replicate (2 * MAX_DEPTH) 32) ≡ replicate (2 * level) 32
+spaces-front level n e few = rw e (take-replicate (2 * level) (2 * MAX_DEPTH) 32 (omega arith))
 
 eqb-no : (m n : ℕ) → (m ≡ n → ⊥) → eqb m n ≡ false
 eqb-no m n h = grind (arith, nat_tests)

@@ -1,5 +1,5 @@
 -- A text in either layout is read back as its value, and as far as it goes.
-use Rattle.std.proofs.Common.{◌≡◌, ℕ, zero, suc, ◌+◌, ◌-◌, ◌*◌, ◌<◌, ◌≤◌, Bool, true, false, List, [], ◌∷◌, ◌++◌, drop, replicate, flat_map, codes, decimal, inl, inr, eqb, refl, sym, ap, ◌∙◌, subst, append_assoc, ◌↔◌, arith}
+use Rattle.std.proofs.Common.{◌≡◌, ℕ, zero, suc, ◌+◌, ◌*◌, ◌<◌, ◌≤◌, Bool, true, false, List, [], ◌∷◌, ◌++◌, drop, replicate, flat_map, codes, decimal, inl, inr, eqb, refl, sym, ap, ◌∙◌, subst, append_assoc, ◌↔◌, arith}
 use Rattle.hex.specs.Hex.{encode_lower}
 use Rattle.cbor_head.specs.Value as value
 use Rattle.cbor_head.specs.Value.{Value, Values, Entries, IsInRange, AreInRange, AreEntriesInRange}

@@ -6,7 +6,7 @@ use Rattle.std.proofs.lemmas.Bool.Decides.{nat_tests}
 use Rattle.hex.specs.Hex.{encode_lower, decode_of, is_hex_digit}
 use Rattle.cbor_head.specs.Value as value
 use Rattle.cbor_head.specs.Value.{Value, Values, Entries, IsInRange}
-use Rattle.cbor_diag.specs.Text.{text, escaped, simple_text}
+use Rattle.cbor_diag.specs.Text.{escaped, simple_text}
 use Rattle.cbor_diag.specs.Follows.{Ends}
 use Rattle.cbor_diag.specs.inner.Layout.{laid_out, members_left, pairs_left}
 use Rattle.cbor_diag.specs.declared.layout.Layout.{Layout}

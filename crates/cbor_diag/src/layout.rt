@@ -1,6 +1,7 @@
 //! How a text is laid out on lines.
 
 ghost use Rattle.std.specs.Prelude.{◌+◌, ◌≤◌};
+ghost use Rattle.cbor_head.specs.declared.limits.TheConstants.{MAX_DEPTH};
 ghost use Rattle.cbor_diag.specs.inner.Layout.{gap, end};
 ghost use Rattle.cbor_diag.specs.inner.Outbox.{Puts};
 
@@ -24,7 +25,7 @@ pub(crate) fn put_gap<W: Write>(
     out: &mut Outbox,
     writer: &mut W,
 ) -> Result<(), Stopped>
-    requires { level + 1 ≤ 256 }
+    requires { level + 1 ≤ MAX_DEPTH }
     ensures { Puts (W.contents writer.old) (W.contents writer.new) out.old out.new
         (gap layout level first) result }
 {
@@ -47,7 +48,7 @@ pub(crate) fn put_end<W: Write>(
     out: &mut Outbox,
     writer: &mut W,
 ) -> Result<(), Stopped>
-    requires { level ≤ 256 }
+    requires { level ≤ MAX_DEPTH }
     ensures { Puts (W.contents writer.old) (W.contents writer.new) out.old out.new
         (end layout level none) result }
 {

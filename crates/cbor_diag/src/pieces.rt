@@ -8,6 +8,7 @@ ghost use Rattle.cbor_diag.specs.inner.Outbox.{Puts};
 ghost use Rattle.cbor_diag.specs.Text.{escaped, simple_text};
 
 use crate::outbox::{Outbox, Stopped};
+use cbor_head::MAX_DEPTH;
 use itoa::Buffer;
 use std::io::Write;
 
@@ -15,7 +16,9 @@ use std::io::Write;
 const HEX_RUN: usize = 256;
 
 // Two for each of as many levels as there can be.
-const SPACES: [u8; 512] = [b' '; 512];
+const MOST_SPACES: usize = 2 * MAX_DEPTH as usize;
+
+const SPACES: [u8; MOST_SPACES] = [b' '; MOST_SPACES];
 
 pub(crate) fn put_number<W: Write>(
     number: u64,
@@ -151,7 +154,7 @@ pub(crate) fn put_new_line<W: Write>(
     out: &mut Outbox,
     writer: &mut W,
 ) -> Result<(), Stopped>
-    requires { level ≤ 256 }
+    requires { level ≤ MAX_DEPTH }
     ensures { Puts (W.contents writer.old) (W.contents writer.new) out.old out.new
         (new_line level) result }
 {

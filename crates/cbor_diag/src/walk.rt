@@ -1,6 +1,7 @@
 //! The walk over an item, or a view of one, and all that it holds.
 
-ghost use Rattle.std.specs.Prelude.{◌≡◌, ◌+◌, ◌≤◌, [], ◌∷◌, ◌++◌, length, reverse, IfOk};
+ghost use Rattle.std.specs.Prelude.{◌≡◌, ◌+◌, ◌<◌, ◌≤◌, ◌↔◌, [], ◌∷◌, ◌++◌, length, reverse, take, IfOk, IsSome};
+ghost use Rattle.std.specs.Prelude.{option_to_list};
 ghost use Rattle.cbor_head.specs.Value.{depth};
 ghost use Rattle.cbor_diag.specs.inner.Layout.{laid_out};
 ghost use Rattle.cbor_diag.specs.inner.Levels.{AreShallow, AreAllShallow, IsDue, IsOpenOf};
@@ -11,18 +12,15 @@ use crate::layout::{Layout, put_end, put_gap};
 use crate::node::{Node, Part};
 use crate::outbox::{Outbox, Stopped};
 use crate::pieces::{put_bytes, put_negative, put_number, put_simple, put_text};
-use arrayvec::ArrayVec;
 use cbor_head::MAX_DEPTH;
 use std::io::Write;
 
 // As many as a tree lets nest.
 const MOST_OPEN: usize = MAX_DEPTH as usize;
 
-/// The containers around the innermost open one, from the outermost on: a walk takes no more of the
-/// stack, however deep an item nests.
-pub(crate) type Levels<'a, N> = ArrayVec<Level<'a, N>, MOST_OPEN>;
-
-/// A container whose end is not written, at so many levels of indentation.
+/// A container whose end is not written, at so many levels of indentation. Those around the innermost
+/// open one lie in the front of cells, the outermost first: a walk takes no more of the stack, however
+/// deep an item nests.
 #[derive_where(Clone, Copy, Default)]
 pub(crate) struct Level<'a, N> {
     indent: u16,
@@ -52,14 +50,15 @@ pub(crate) fn put_item<N: Node, W: Write>(
     out: &mut Outbox,
     writer: &mut W,
 ) -> Result<(), Stopped>
-    requires { depth (N.value item.now) ≤ 256 }
+    requires { depth (N.value item.now) ≤ MAX_DEPTH }
     ensures { Puts (W.contents writer.old) (W.contents writer.new) out.old out.new
         (laid_out layout 0 (N.value item.now)) result }
 {
-    let mut around = Levels::new();
+    let mut cells = [Level::default(); MOST_OPEN];
+    let mut height = 0;
     let mut innermost = begin(item, layout, 0, out, writer)?;
     'levels: while let Some(level) = innermost {
-        innermost = go_on(level, layout, &mut around, out, writer)?;
+        innermost = go_on(level, layout, &mut cells, &mut height, out, writer)?;
     }
     Ok(())
 }
@@ -121,16 +120,20 @@ fn begin<'a, N: Node, W: Write>(
 fn go_on<'a, N: Node, W: Write>(
     level: Level<'a, N>,
     layout: Layout,
-    around: &mut Levels<'a, N>,
+    cells: &mut [Level<'a, N>],
+    height: &mut usize,
     out: &mut Outbox,
     writer: &mut W,
 ) -> Result<Option<Level<'a, N>>, Stopped>
-    requires { AreShallow N.value (level ∷ reverse around.old.items) }
+    requires cells { length cells.old ≡ MOST_OPEN }
+    requires height { height.old ≤ MOST_OPEN }
+    requires shallow { AreShallow N.value (level ∷ reverse (take height.old cells.old)) }
+    ensures height { height.new ≤ MOST_OPEN }
     ensures put { Leaves N.value layout (W.contents writer.old) (W.contents writer.new)
         out.old out.new (rest_of N.value layout level.entry
-        ++ behind N.value layout (reverse around.old.items)) (reverse around.new.items) result }
+        ++ behind N.value layout (reverse (take height.old cells.old))) (reverse (take height.new cells.new)) result }
     ensures shallow { IfOk result
-        (λ inner. AreAllShallow N.value inner (reverse around.new.items)) }
+        (λ inner. AreAllShallow N.value inner (reverse (take height.new cells.new))) }
 {
     let indent = level.indent;
     match level.left {
@@ -139,12 +142,12 @@ fn go_on<'a, N: Node, W: Write>(
                 put_gap(layout, indent, first, out, writer)?;
                 let left = Left::Array(left, false);
                 let next = Level { indent, left };
-                go_into(item, layout, indent + 1, next, around, out, writer)
+                go_into(item, layout, indent + 1, next, cells, height, out, writer)
             }
             None => {
                 put_end(layout, indent, first, out, writer)?;
                 out.put(writer, b"]")?;
-                Ok(around.pop())
+                Ok(pop(cells, height))
             }
         },
         Left::Map(left, first) => match left.split_first() {
@@ -152,28 +155,28 @@ fn go_on<'a, N: Node, W: Write>(
                 put_gap(layout, indent, first, out, writer)?;
                 let left = Left::Value(value, left);
                 let next = Level { indent, left };
-                go_into(key, layout, indent + 1, next, around, out, writer)
+                go_into(key, layout, indent + 1, next, cells, height, out, writer)
             }
             None => {
                 put_end(layout, indent, first, out, writer)?;
                 out.put(writer, b"}")?;
-                Ok(around.pop())
+                Ok(pop(cells, height))
             }
         },
         Left::Value(value, left) => {
             out.put(writer, b": ")?;
             let left = Left::Map(left, false);
             let next = Level { indent, left };
-            go_into(value, layout, indent + 1, next, around, out, writer)
+            go_into(value, layout, indent + 1, next, cells, height, out, writer)
         }
         Left::Content(content) => {
             let left = Left::Tag;
             let next = Level { indent, left };
-            go_into(content, layout, indent, next, around, out, writer)
+            go_into(content, layout, indent, next, cells, height, out, writer)
         }
         Left::Tag => {
             out.put(writer, b")")?;
-            Ok(around.pop())
+            Ok(pop(cells, height))
         }
     }
 }
@@ -185,23 +188,54 @@ fn go_into<'a, N: Node, W: Write>(
     layout: Layout,
     indent: u16,
     level: Level<'a, N>,
-    around: &mut Levels<'a, N>,
+    cells: &mut [Level<'a, N>],
+    height: &mut usize,
     out: &mut Outbox,
     writer: &mut W,
 ) -> Result<Option<Level<'a, N>>, Stopped>
-    requires { IsDue N.value (depth (N.value item.now)) indent (level ∷ reverse around.old.items) }
+    requires cells { length cells.old ≡ MOST_OPEN }
+    requires height { height.old ≤ MOST_OPEN }
+    requires due { IsDue N.value (depth (N.value item.now)) indent
+        (level ∷ reverse (take height.old cells.old)) }
+    ensures height { height.new ≤ MOST_OPEN }
     ensures put { Leaves N.value layout (W.contents writer.old) (W.contents writer.new)
         out.old out.new (laid_out layout indent (N.value item.now)
-        ++ (rest_of N.value layout level.entry ++ behind N.value layout (reverse around.old.items)))
-        (reverse around.new.items) result }
+        ++ (rest_of N.value layout level.entry ++ behind N.value layout (reverse (take height.old cells.old))))
+        (reverse (take height.new cells.new)) result }
     ensures shallow { IfOk result
-        (λ inner. AreAllShallow N.value inner (reverse around.new.items)) }
+        (λ inner. AreAllShallow N.value inner (reverse (take height.new cells.new))) }
 {
     match begin(item, layout, indent, out, writer)? {
         Some(inner) => {
-            around.push(level);
+            push(cells, height, level);
             Ok(Some(inner))
         }
         None => Ok(Some(level)),
     }
+}
+
+// One more container is around the innermost.
+#[inline(always)]
+fn push<'a, N>(cells: &mut [Level<'a, N>], height: &mut usize, level: Level<'a, N>)
+    requires { height.old < length cells.old }
+    ensures items { take height.new cells.new ≡ take height.old cells.old ++ level.entry ∷ [] }
+    ensures height { height.new ≡ height.old + 1 }
+{
+    cells[*height] = level;
+    *height += 1;
+}
+
+// The innermost of them, if there is one, which is around no other any more.
+#[inline(always)]
+fn pop<'a, N>(cells: &[Level<'a, N>], height: &mut usize) -> Option<Level<'a, N>>
+    requires { height.old ≤ length cells.now }
+    ensures items { take height.old cells.now ≡ take height.new cells.now ++ option_to_list result }
+    ensures variant { IsSome result ↔ (0 < length (take height.old cells.now)) }
+    ensures fewer { height.new ≤ height.old }
+{
+    if *height == 0 {
+        return None;
+    }
+    *height -= 1;
+    Some(cells[*height])
 }

@@ -24,8 +24,6 @@ mod major;
 mod order;
 mod reason;
 mod simple;
-#[cfg(test)]
-mod tests;
 mod width;
 
 pub use head::{Head, argument_bytes};

@@ -1,3 +1,4 @@
 pub mod Reasons
 pub mod Saved
+pub mod SavedFrames
 pub mod Settled

@@ -20,4 +20,4 @@
 mod machine;
 
 pub use cbor_standing::{Out, Step};
-pub use machine::{Machine, SavedFrame, SavedMachine, below_256, take_part};
+pub use machine::{Machine, SavedMachine, below_256, take_part};

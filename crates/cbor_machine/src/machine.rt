@@ -23,7 +23,7 @@ use cbor_automaton::Event;
 use cbor_head::{Limits, Reason, Refusal};
 use cbor_standing::{Out, Step};
 use cbor_steps::{Nest, Position, Walked, long_at, walk, walk_whole};
-pub use saved::{SavedFrame, SavedMachine};
+pub use saved::SavedMachine;
 use std::marker::Model;
 
 /// Takes one item byte by byte, in parts of any length, and tells its events.

@@ -1,6 +1,7 @@
 -- What was read of the item that is due first is told of each reader, and of its known bytes.
 use Rattle.std.proofs.Common.{ℕ, ◌^◌, ◌≡◌, ◌<◌, ◌≤◌, Option, List, [], length, sym, ◌∙◌, arith, subst}
 use Rattle.cbor_head.specs.Limits.{Bounds, AreBounds}
+use Rattle.cbor_head.specs.declared.limits.TheConstants.{MAX_DEPTH}
 use Rattle.cbor_head.specs.Value.{Value}
 use Rattle.cbor_head.specs.Spelling.{Spelling, spell, value_of, depth, IsSpelled}
 use Rattle.cbor_head.specs.Complaint.{plain, Complains}
@@ -19,10 +20,10 @@ use Rattle.cbor_judging.proofs.Tops.{item-read, loses}
 use Rattle.cbor_judging.proofs.Fronts.{known}
 
 -- the value of an item without complaint has canonical bytes
-canonical-of : (s : Spelling) → IsSpelled s → length (spell s) < 2 ^ 64 → Never (Complains plain 0 s) → depth s ≤ 256 → HasCanonicalBytes (value_of s)
+canonical-of : (s : Spelling) → IsSpelled s → length (spell s) < 2 ^ 64 → Never (Complains plain 0 s) → depth s ≤ MAX_DEPTH → HasCanonicalBytes (value_of s)
 canonical-of s h l clean deep =
     let k = sound (value_of s) (in_range_of s h l) (valid_of s 0 clean) in
-    record { depth = subst (λ (n : ℕ). n ≤ 256) (sym (depth-value_of s)) deep; in_range = k.range; valid = k.valid }
+    record { depth = subst (λ (n : ℕ). n ≤ MAX_DEPTH) (sym (depth-value_of s)) deep; in_range = k.range; valid = k.valid }
 
 pub front-read : (b : Bounds) (from to : Option (List ℕ)) (new : ItemEventsView) (v : Value) (count : ℕ) → AreBounds b → (i : ReadsItem plain b [] [] [] from to new v) → KeepsToKinds b plain (spell i.item) → count ≡ new.machine.taken
     → IsFrontRead plain b from to v count

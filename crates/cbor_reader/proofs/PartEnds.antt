@@ -18,6 +18,7 @@ use Rattle.cbor_builder.specs.Built.{Built, built, IsRepeatedKey, HasDistinctKey
 use Rattle.cbor_canonical.specs.Parts.{IsInContainer, Open, plain as a_plain, give, close as close_open}
 use Rattle.cbor_item.specs.OpenValues.{OpenItem, close as close_in_tree}
 use Rattle.cbor_reader.specs.declared.plain_items.PlainItems.{PlainItems}
+use Rattle.cbor_reader.specs.declared.plain_items.TheConstants.{PLACES}
 use Rattle.cbor_reader.specs.declared.plain_part.Part.{Part}
 use Rattle.cbor_reader.specs.declared.plain_part.Part.TheVariants.{Leaf, String, Begin, Break}
 use Rattle.cbor_judging.specs.Judged.{IsJudged}
@@ -182,7 +183,7 @@ module _ (v : PlainItems) (b : Bounds) (e : ItemEventsView) (t : List ℕ) (h : 
   -- the same, where the key is among those of its map
   module _ (now : PlainItems) (same : now.builder ≡ v.builder) (starts : now.starts ≡ v.starts) (same_tree : now.tree ≡ v.tree) (same_kinds : now.kinds ≡ v.kinds) where
     -- another item is due
-    pub goes-on : (places : length v.starts ≡ 257) → AreApart v.builder.standing → AreHeld (sets now) now.builder.standing → 0 < e.machine.open_count → IsDueAt now b e t
+    pub goes-on : (places : length v.starts ≡ PLACES) → AreApart v.builder.standing → AreHeld (sets now) now.builder.standing → 0 < e.machine.open_count → IsDueAt now b e t
     goes-on places apart held more = go h.standing h.stands h.begun h.tree
       where
         go : (x : Standing) → StandsAt v.builder.order b.depth t h.q v.builder.standing e.machine.open_count x → HaveBegunIn v.starts x → IsTreeAt v.tree x → IsDueAt now b e t
@@ -229,7 +230,7 @@ given-order g (String is_text content) now count h = ap (λ (x : Built). x.order
 given-order g (Begin m k) now count h = ap (λ (x : Built). x.order) h.0
 given-order g Break now count h = ap (λ (x : Built). x.order) h.0
 
-pub goes-or-not : (v now : PlainItems) (b : Bounds) (e : ItemEventsView) (t : List ℕ) (count : ℕ) → IsEndingAt v b e t e.machine.open_count → 0 < length t → now.builder ≡ v.builder → now.starts ≡ v.starts → now.tree ≡ v.tree → now.kinds ≡ v.kinds → length v.starts ≡ 257
+pub goes-or-not : (v now : PlainItems) (b : Bounds) (e : ItemEventsView) (t : List ℕ) (count : ℕ) → IsEndingAt v b e t e.machine.open_count → 0 < length t → now.builder ≡ v.builder → now.starts ≡ v.starts → now.tree ≡ v.tree → now.kinds ≡ v.kinds → length v.starts ≡ PLACES
     → AreHeld (sets now) now.builder.standing × (IsRepeatedKey now.builder.standing → ⊥) → count ≡ e.machine.open_count → GoesOnOrNot (nat_lt 0 count) now b e t
 goes-or-not v now b e t zero h some same starts same_tree same_kinds places held same_count = is-whole v b e t h some now same starts same_tree same_kinds (sym same_count)
 goes-or-not v now b e t (suc n) h some same starts same_tree same_kinds places held same_count =

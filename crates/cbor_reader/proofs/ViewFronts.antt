@@ -2,6 +2,7 @@
 use Rattle.std.proofs.Common.{ℕ, ◌^◌, ◌≡◌, ◌≤◌, List, [], length, refl, sym, ap, ◌∙◌, arith, subst, append-nil}
 use Rattle.cbor_head.specs.Complaint.{plain}
 use Rattle.cbor_head.specs.Limits.{Bounds}
+use Rattle.cbor_head.specs.declared.limits.TheConstants.{MAX_DEPTH}
 use Rattle.cbor_head.specs.Spelling.{spell}
 use Rattle.cbor_head.specs.Value.{Value, IsInRange, IsValid, depth}
 use Rattle.cbor_head.specs.Verdict.{refusal}
@@ -13,8 +14,8 @@ use Rattle.cbor_reader.specs.Size.{size}
 use Rattle.cbor_reader.proofs.Headline.{front_range, front_valid, front_depth}
 use Rattle.cbor_reader.proofs.Sizes.{size_bounded}
 
-pub view_depth : (limits : Bounds) (input : List ℕ) (v : Value) (count : ℕ) → limits.depth ≤ 256 → IsReadAs limits plain input v count → depth v ≤ 256
-view_depth limits input v count l r = subst (λ (v : Value). depth v ≤ 256) (sym r.value) (omega (arith, front_depth limits plain input r.read.item r.read.verdict))
+pub view_depth : (limits : Bounds) (input : List ℕ) (v : Value) (count : ℕ) → limits.depth ≤ MAX_DEPTH → IsReadAs limits plain input v count → depth v ≤ MAX_DEPTH
+view_depth limits input v count l r = subst (λ (v : Value). depth v ≤ MAX_DEPTH) (sym r.value) (omega (arith, front_depth limits plain input r.read.item r.read.verdict))
 
 pub view_range : (limits : Bounds) (input : List ℕ) (v : Value) (count : ℕ) → limits.bytes ≤ 2 ^ 62 → IsReadAs limits plain input v count → IsInRange v
 view_range limits input v count l r = subst IsInRange (sym r.value) (front_range limits plain input r.read.item l r.read.verdict)

@@ -56,7 +56,7 @@ impl PlainItems {
         tree: Option<TreeBuilder>,
     ) -> PlainItems
         ensures built { result.builder ≡ built order (plain [] ∷ []) }
-        ensures starts { length result.starts ≡ 257 }
+        ensures starts { length result.starts ≡ PLACES }
         ensures held { AreHeld (sets result) (plain [] ∷ []) }
         ensures tree { result.tree ≡ tree }
         ensures kinds { result.kinds ≡ kinds }

@@ -5,8 +5,10 @@ ghost use Rattle.cbor_head.specs.Complaint.{plain};
 ghost use Rattle.cbor_head.specs.declared.reason.Reason.TheVariants as reasons;
 ghost use Rattle.cbor_judging.specs.Readers.{IsRead, IsUnread};
 
-use crate::valid_front::valid_front;
+use crate::valid_front::read_again;
 use cbor_head::{KeyOrder, Limits, Refusal};
+use cbor_key_bytes::KeyBytes;
+use cbor_walk::give_front;
 use std::alloc::Global;
 
 /// How many bytes the well-formed, valid item has that the slice begins with (RFC 8949, sections
@@ -14,14 +16,18 @@ use std::alloc::Global;
 /// was refused before, at the count of the bytes taken.
 ///
 /// It answers as [`read_tree`](crate::read_tree) does of a reader over the slice. No tree is made;
-/// memory is taken for the item's canonical bytes, by which equal keys are found.
+/// memory is taken for the canonical bytes of keys, by which equal ones are found.
 pub fn check_valid(alloc: Global, bytes: &[u8], limits: Limits) -> Result<u64, Refusal>
     ensures accepted { IfOk result (λ count. IsRead limits plain bytes.now count) }
     ensures refused { IfErr result (λ f. IsUnread limits plain bytes.now f) }
     ensures no_read { IfErr result (λ f. f.reason ≢ reasons.Read) }
 {
-    match valid_front(alloc, bytes, limits, KeyOrder::Bytewise) {
-        Ok(front) => Ok(front.size),
-        Err(refusal) => Err(refusal),
+    match give_front(KeyBytes::new(alloc), bytes, limits) {
+        Some((_, size)) => Ok(size),
+        // The refusal that the bytes call for, or that memory was refused.
+        None => match read_again(alloc, bytes, limits, KeyOrder::Bytewise) {
+            Ok(front) => Ok(front.size),
+            Err(refusal) => Err(refusal),
+        },
     }
 }

@@ -15,8 +15,9 @@ ghost use Rattle.cbor_walk.specs.Sink.{leaf_value};
 
 use bumpalo::Bump;
 use cbor_head::Major;
+use cbor_key_bytes::KeyBytes;
 use cbor_view::{Joined, View, ViewBuilder};
-use cbor_walk::{KeyBytes, Sink};
+use cbor_walk::Sink;
 use std::alloc::{AllocError, Global};
 
 /// The views of the parts that came, and the canonical bytes of keys, by which equal ones are found.
@@ -61,35 +62,44 @@ impl<'a> Sink<'a> for ViewSink<'a> {
     ghost holds = { view_holds };
 
     #[inline(always)]
-    fn leaf(&mut self, major: Major, number: u64) -> Result<(), AllocError> {
-        let is_key = self.views.is_key_due();
+    fn leaf(&mut self, is_key: bool, major: Major, number: u64) -> Result<(), AllocError> {
         self.keys.leaf(is_key, major, number)?;
         self.views.leaf(leaf_view(major, number))?;
         Ok(())
     }
 
     #[inline(always)]
-    fn string(&mut self, is_text: bool, front: &'a [u8], count: usize) -> Result<(), AllocError> {
-        let is_key = self.views.is_key_due();
+    fn string(
+        &mut self,
+        is_key: bool,
+        is_text: bool,
+        front: &'a [u8],
+        count: usize,
+    ) -> Result<(), AllocError> {
         self.keys.string(is_key, is_text, front, count)?;
         self.views.leaf(string_view(is_text, &front[..count]))?;
         Ok(())
     }
 
     #[inline(always)]
-    fn begin_string(&mut self, _is_text: bool) -> Result<(), AllocError> {
+    fn begin_string(&mut self, _is_key: bool, _is_text: bool) -> Result<(), AllocError> {
         self.joined.clear();
         Ok(())
     }
 
     #[inline(always)]
-    fn chunk(&mut self, _is_text: bool, front: &'a [u8], count: usize) -> Result<(), AllocError> {
+    fn chunk(
+        &mut self,
+        _is_key: bool,
+        _is_text: bool,
+        front: &'a [u8],
+        count: usize,
+    ) -> Result<(), AllocError> {
         self.joined.extend_front(front, count)
     }
 
     #[inline(always)]
-    fn end_string(&mut self, is_text: bool) -> Result<(), AllocError> {
-        let is_key = self.views.is_key_due();
+    fn end_string(&mut self, is_key: bool, is_text: bool) -> Result<(), AllocError> {
         let content = self.joined.as_slice();
         self.keys.string(is_key, is_text, content, content.len())?;
         if is_text {
@@ -103,16 +113,14 @@ impl<'a> Sink<'a> for ViewSink<'a> {
     }
 
     #[inline(always)]
-    fn begin(&mut self, major: Major, number: u64) -> Result<(), AllocError> {
-        let is_key = self.views.is_key_due();
+    fn begin(&mut self, is_key: bool, major: Major, number: u64) -> Result<(), AllocError> {
         self.keys.begin(is_key, major, number)?;
         self.views.begin(major, number)?;
         Ok(())
     }
 
     #[inline(always)]
-    fn end(&mut self) -> Result<bool, AllocError> {
-        let is_map = self.views.is_key_due();
+    fn end(&mut self, is_map: bool) -> Result<bool, AllocError> {
         let is_distinct = self.keys.end(is_map)?;
         if is_distinct {
             self.views.end()?;

@@ -1,14 +1,18 @@
 -- The stack with the innermost container apart, as a list of frames.
-use Rattle.std.proofs.Common.{◌≡◌, ℕ, zero, suc, ◌+◌, ◌-◌, ◌≤◌, ◌<◌, true, false, List, [], ◌∷◌, ◌++◌, map, take, drop, length, get_or, refl, sym, ap, ◌∙◌, arith}
-use Rattle.std.proofs.lemmas.List.{length-map, length-append, length-take-le, map-append}
+use Rattle.std.proofs.Common.{◌≡◌, ℕ, zero, suc, ◌+◌, ◌-◌, ◌≤◌, ◌<◌, true, false, List, [], ◌∷◌, ◌++◌, map, take, drop, length, get_or, set, Some, add-one, refl, sym, ap, ◌∙◌, subst, arith}
+use Rattle.std.specs.Prelude.{slice_get}
+use Rattle.std.proofs.lemmas.List.{length-map, length-append, length-set, length-take-le, map-append}
+use Rattle.std.proofs.lemmas.Option.{get_or_from_slice_get}
 use Rattle.std.proofs.Math.Seq.{take-suc}
 use Rattle.cbor_automaton.specs.Automaton as automaton
 use Rattle.cbor_automaton.specs.Automaton.{at_item, close, break_at, tells, indefinite_array, indefinite_map, counted}
 use Rattle.cbor_automaton.specs.Trace.{a_break}
 use Rattle.cbor_steps.specs.State.{frame_of, frames_of}
-use Rattle.cbor_steps.specs.Nest.{level_frame, levels, nested, IsRooted, advanced, ends_by_break}
+use Rattle.cbor_steps.specs.Nest.{level_frame, joined, levels, nested, IsRooted, IsNest, advanced, ends_by_break}
+use Rattle.cbor_steps.specs.declared.frame.TheConstants.{MOST_OPEN}
 use Rattle.cbor_steps.specs.declared.frame.Frame.{Frame}
 use Rattle.cbor_steps.specs.declared.frame.Frame.TheVariants.{Tag}
+use Rattle.cbor_steps.specs.declared.nest.Due.{Due}
 use Rattle.cbor_steps.specs.declared.nest.Level.{Level}
 use Rattle.cbor_steps.proofs.Frames.{frames_push}
 
@@ -46,16 +50,8 @@ goes-on (o ∷ os) (suc k) top next r moved root = (
   ap at_item (frames-top o os k next) ∙ sym (moved (frames_of (around os k))) ∙ ap close (sym (frames-top o os k top)),
 )
 
--- all of them, from the outermost in
-pub all-frames : (outer : List Level) (h : ℕ) (top : Level) → 0 < h → h ≤ length outer → map level_frame (take (h - 1) (drop 1 outer)) ++ level_frame top ∷ [] ≡ nested outer h top
-all-frames outer zero top some fits = absurd (omega arith)
-all-frames [] (suc k) top some fits = absurd (omega arith)
-all-frames (o ∷ os) (suc k) top some fits =
-    let e : suc k - 1 ≡ k = omega arith in
-    ap (λ j. map level_frame (take j os) ++ level_frame top ∷ []) e ∙ sym (map-append level_frame (take k os) (top ∷ []))
-
 -- without the innermost
-pub popped : (outer : List Level) (k : ℕ) (top d : Level) → IsRooted outer (suc k) top
+popped : (outer : List Level) (k : ℕ) (top d : Level) → IsRooted outer (suc k) top
     → IsRooted outer k (get_or outer k d) × (frames_of (nested outer (suc k) top) ≡ frame_of (level_frame top) ∷ frames_of (nested outer k (get_or outer k d)))
 popped [] k top d r = absurd (omega (arith, r.room))
 popped (o ∷ os) k top d r = (
@@ -67,6 +63,21 @@ popped (o ∷ os) k top d r = (
     rooted zero e = ap (λ f. f ∷ []) e
     rooted (suc j) e = ap (λ f. f ∷ nested (o ∷ os) (suc j) (get_or (o ∷ os) (suc j) d)) e
 
+-- the same, where this one is around it
+pub popped-to : (outer : List Level) (h : ℕ) (top below : Level) → 0 < h → slice_get outer (h - 1) ≡ Some below → IsRooted outer h top
+    → IsRooted outer (h - 1) below × (frames_of (nested outer h top) ≡ frame_of (level_frame top) ∷ frames_of (nested outer (h - 1) below))
+popped-to outer zero top below some at r = absurd (omega arith)
+popped-to outer (suc k) top below some at r =
+    let one : suc k - 1 ≡ k = omega arith in
+    let there : get_or outer k below ≡ below = get_or_from_slice_get outer k below below (subst (λ j. slice_get outer j ≡ Some below) one at) in
+    let Is : ℕ → Level → Type 0 = λ j l. IsRooted outer j l × (frames_of (nested outer (suc k) top) ≡ frame_of (level_frame top) ∷ frames_of (nested outer j l)) in
+    subst (λ j. Is j below) (sym one) (subst (Is k) there (popped outer k top below r))
+
+-- where the innermost is full, they are complete as those around it are
+pub full-closes : (outer : List Level) (h : ℕ) (top below : Level) → 0 < h → slice_get outer (h - 1) ≡ Some below → IsRooted outer h top → ((fs : List automaton.Frame) → close (frame_of (level_frame top) ∷ fs) ≡ close fs)
+    → close (frames_of (nested outer (h - 1) below)) ≡ close (frames_of (nested outer h top))
+full-closes outer h top below some at r full = sym (full (frames_of (nested outer (h - 1) below))) ∙ ap close (sym (popped-to outer h top below some at r).1)
+
 -- a break ends it
 pub breaks : (f : automaton.Frame) (fs : List automaton.Frame) (c : ℕ) → true ≡ ends_by_break f → break_at (f ∷ fs) c ≡ tells a_break (close fs)
 breaks indefinite_array fs c e = refl
@@ -74,10 +85,88 @@ breaks (indefinite_map false) fs c e = refl
 breaks (indefinite_map true) fs c e = absurd (cc)
 breaks (counted n) fs c e = absurd (cc)
 
-pub ends-here : (outer : List Level) (h : ℕ) (top d : Level) (to : automaton.State) → 0 < h → IsRooted outer h top → true ≡ ends_by_break (frame_of (level_frame top)) → to ≡ close (frames_of (nested outer (h - 1) (get_or outer (h - 1) d)))
+pub ends-here : (outer : List Level) (h : ℕ) (top below : Level) (to : automaton.State) → 0 < h → slice_get outer (h - 1) ≡ Some below → IsRooted outer h top → true ≡ ends_by_break (frame_of (level_frame top)) → to ≡ close (frames_of (nested outer (h - 1) below))
     → (c : ℕ) → break_at (frames_of (nested outer h top)) c ≡ tells a_break to
-ends-here outer zero top d to some r e is c = absurd (omega arith)
-ends-here outer (suc k) top d to some r e is c =
-    let one : suc k - 1 ≡ k = omega arith in
-    let there : to ≡ close (frames_of (nested outer k (get_or outer k d))) = is ∙ ap (λ j. close (frames_of (nested outer j (get_or outer j d)))) one in
-    ap (λ fs. break_at fs c) (popped outer k top d r).1 ∙ breaks (frame_of (level_frame top)) (frames_of (nested outer k (get_or outer k d))) c e ∙ ap (tells a_break) (sym there)
+ends-here outer h top below to some at r e is c =
+    ap (λ fs. break_at fs c) (popped-to outer h top below some at r).1 ∙ breaks (frame_of (level_frame top)) (frames_of (nested outer (h - 1) below)) c e ∙ ap (tells a_break) (sym is)
+
+-- ---- one of them, from the outermost in
+
+in-front : (os : List Level) (k i : ℕ) (top l : Level) → i < k → slice_get os i ≡ Some l → slice_get (map level_frame (take k os ++ top ∷ [])) i ≡ Some (level_frame l)
+in-front [] k i top l h e = absurd (cc e)
+in-front (o ∷ os) zero i top l h e = absurd (omega arith)
+in-front (o ∷ os) (suc k) zero top l h e = let same : o ≡ l = cc in ap (λ v. Some (level_frame v)) same
+in-front (o ∷ os) (suc k) (suc i) top l h e = in-front os k i top l (omega arith) e
+
+behind-all : (os : List Level) (k : ℕ) (top : Level) → k ≤ length os → slice_get (map level_frame (take k os ++ top ∷ [])) k ≡ Some (level_frame top)
+behind-all os zero top h = refl
+behind-all [] (suc k) top h = absurd (omega arith)
+behind-all (o ∷ os) (suc k) top h = behind-all os k top (omega arith)
+
+pub frame-around : (outer : List Level) (h i : ℕ) (top l : Level) → i + 1 < h → slice_get outer (i + 1) ≡ Some l → slice_get (nested outer h top) i ≡ Some (level_frame l)
+frame-around outer zero i top l h e = absurd (omega arith)
+frame-around [] (suc k) i top l h e = absurd (cc e)
+frame-around (o ∷ os) (suc k) i top l h e = in-front os k i top l (omega arith) (subst (λ j. slice_get (o ∷ os) j ≡ Some l) (add-one i) e)
+
+pub frame-innermost : (outer : List Level) (h i : ℕ) (top : Level) → h ≡ i + 1 → h ≤ length outer → slice_get (nested outer h top) i ≡ Some (level_frame top)
+frame-innermost outer zero i top e h = absurd (omega arith)
+frame-innermost [] (suc k) i top e h = absurd (omega arith)
+frame-innermost (o ∷ os) (suc k) i top e h = let same : k ≡ i = omega arith in subst (λ j. slice_get (nested (o ∷ os) (suc k) top) j ≡ Some (level_frame top)) same (behind-all os k top (omega arith))
+
+-- ---- levels that lie beside each other
+
+pub joined-at : (ds : List Due) (ns : List ℕ) (k : ℕ) (d : Due) → k < length ds → k < length ns → slice_get (joined ds ns) k ≡ Some (record { due = get_or ds k d; left = get_or ns k 0 })
+joined-at [] ns k d h l = absurd (omega arith)
+joined-at (x ∷ ds) [] k d h l = absurd (omega arith)
+joined-at (x ∷ ds) (n ∷ ns) zero d h l = refl
+joined-at (x ∷ ds) (n ∷ ns) (suc k) d h l = joined-at ds ns k d (omega arith) (omega arith)
+
+joined-take : (ds : List Due) (ns : List ℕ) (k : ℕ) (d : Due) (n : ℕ) → k < length ds → k < length ns → take (suc k) (joined (set ds k d) (set ns k n)) ≡ take k (joined ds ns) ++ record { due = d; left = n } ∷ []
+joined-take [] ns k d n h l = absurd (omega arith)
+joined-take (x ∷ ds) [] k d n h l = absurd (omega arith)
+joined-take (x ∷ ds) (y ∷ ns) zero d n h l = refl
+joined-take (x ∷ ds) (y ∷ ns) (suc k) d n h l = ap (λ vs. record { due = x; left = y } ∷ vs) (joined-take ds ns k d n (omega arith) (omega arith))
+
+joined-length : (n : ℕ) (ds : List Due) (ns : List ℕ) → length ds ≡ n → length ns ≡ n → length (joined ds ns) ≡ n
+joined-length n [] ns d l = d
+joined-length n (x ∷ ds) [] d l = absurd (omega arith)
+joined-length zero (x ∷ ds) (y ∷ ns) d l = absurd (omega arith)
+joined-length (suc n) (x ∷ ds) (y ∷ ns) d l = ap suc (joined-length n ds ns (omega arith) (omega arith))
+
+-- one more opens around which these are
+module _ (ds : List Due) (ns : List ℕ) (h : ℕ) (top next : Level) (r : IsNest ds ns h top) where
+  ds-with : List Due
+  ds-with = set ds h top.due
+
+  ns-with : List ℕ
+  ns-with = set ns h top.left
+
+  levels-pushed : levels (joined ds-with ns-with) (h + 1) next ≡ levels (joined ds ns) h top ++ level_frame next ∷ []
+  unfolding ds-with ns-with
+  levels-pushed =
+      let fits = r.rooted.fits in
+      let taken : take (h + 1) (joined ds-with ns-with) ≡ take h (joined ds ns) ++ top ∷ [] =
+      ap (λ j. take j (joined ds-with ns-with)) (add-one h) ∙ joined-take ds ns h top.due top.left (omega (arith, r.dues_room)) (omega (arith, r.lefts_room)) in
+      ap (λ vs. map level_frame (vs ++ next ∷ [])) taken ∙ map-append level_frame (take h (joined ds ns) ++ top ∷ []) (next ∷ [])
+
+  pushed-all : levels (joined ds-with ns-with) (h + 1) next ≡ Tag ∷ (nested (joined ds ns) h top ++ level_frame next ∷ [])
+  pushed-all = levels-pushed ∙ ap (λ fs. fs ++ level_frame next ∷ []) r.rooted.root
+
+  pub pushed : nested (joined (set ds h top.due) (set ns h top.left)) (h + 1) next ≡ nested (joined ds ns) h top ++ level_frame next ∷ []
+  unfolding ds-with ns-with
+  pushed = ap (drop 1) pushed-all
+
+  pub pushed-nest : h < MOST_OPEN → IsNest (set ds h top.due) (set ns h top.left) (h + 1) next
+  unfolding ds-with ns-with
+  pushed-nest room =
+      let d : length (set ds h top.due) ≡ MOST_OPEN + 1 = length-set ds h top.due ∙ r.dues_room in
+      let n : length (set ns h top.left) ≡ MOST_OPEN + 1 = length-set ns h top.left ∙ r.lefts_room in
+      record {
+        dues_room = d;
+        lefts_room = n;
+        rooted = record {
+          room = joined-length (MOST_OPEN + 1) _ _ d n;
+          fits = omega arith;
+          root = pushed-all ∙ ap (λ fs. Tag ∷ fs) (sym pushed);
+        };
+      }

@@ -1,5 +1,5 @@
 -- The open containers, with the innermost one apart.
-use Rattle.std.specs.Prelude.{◌≡◌, ℕ, ◌≤◌, Bool, true, false, List, [], ◌∷◌, ◌++◌, map, take, drop, length}
+use Rattle.std.specs.Prelude.{◌≡◌, ℕ, ◌+◌, ◌≤◌, Bool, true, false, List, [], ◌∷◌, ◌++◌, map, take, drop, length}
 use Rattle.cbor_automaton.specs.Automaton as automaton
 use Rattle.cbor_automaton.specs.Automaton.{indefinite_array, indefinite_map}
 use Rattle.cbor_head.specs.Verdict.{initial_reason}
@@ -27,6 +27,12 @@ due_frame IndefiniteValue n = IndefiniteMap true
 abbrev pub level_frame : Level → Frame
 level_frame l = due_frame l.due l.left
 
+-- the levels that lie beside each other in these
+abbrev pub joined : List Due → List ℕ → List Level
+joined [] ns = []
+joined (d ∷ ds) [] = []
+joined (d ∷ ds) (n ∷ ns) = record { due = d; left = n } ∷ joined ds ns
+
 -- all levels, the input itself first
 abbrev pub levels : List Level → ℕ → Level → List Frame
 levels outer height top = map level_frame (take height outer ++ top ∷ [])
@@ -37,9 +43,15 @@ nested outer height top = drop 1 (levels outer height top)
 
 -- the input itself has one item due
 pub record IsRooted (outer : List Level) (height : ℕ) (top : Level) : Type 0 where
-  pub room : length outer ≡ 257
+  pub room : length outer ≡ MOST_OPEN + 1
   pub fits : height ≤ MOST_OPEN
   pub root : levels outer height top ≡ Tag ∷ nested outer height top
+
+-- the same of levels that lie beside each other
+pub record IsNest (dues : List Due) (lefts : List ℕ) (height : ℕ) (top : Level) : Type 0 where
+  pub dues_room : length dues ≡ MOST_OPEN + 1
+  pub lefts_room : length lefts ≡ MOST_OPEN + 1
+  pub rooted : IsRooted (joined dues lefts) height top
 
 -- an item is complete in the innermost container, which goes on or not
 abbrev pub advanced : Bool → automaton.Frame → List automaton.Frame → automaton.State

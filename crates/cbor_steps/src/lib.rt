@@ -20,7 +20,7 @@ mod up_to_event;
 mod whole;
 
 pub use frame::{Frame, MOST_OPEN};
-pub use nest::{Due, Frames, Nest};
+pub use nest::{Due, Nest};
 pub use opening::Numbered;
 pub use position::{Position, has_room};
 pub use take_byte::long_at;

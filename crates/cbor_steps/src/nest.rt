@@ -1,13 +1,12 @@
 //! The open containers, with the innermost one apart.
 
-ghost use Rattle.std.specs.Prelude.{◌≡◌, ◌≤◌, ◌<◌, ◌++◌, ◌∷◌, [], length, false, None, IfSome};
+ghost use Rattle.std.specs.Prelude.{◌≡◌, ◌≤◌, ◌<◌, ◌++◌, ◌∷◌, [], length, false, None, Some, IfSome, slice_get};
 ghost use Rattle.cbor_automaton.specs.Automaton as automaton;
 ghost use Rattle.cbor_steps.specs.State.{frame_of, frames_of, state_of, IsSettled};
-ghost use Rattle.cbor_steps.specs.Nest.{due_frame, level_frame, IsAdvanced, IsEnded};
+ghost use Rattle.cbor_steps.specs.Nest.{due_frame, level_frame, joined, IsAdvanced, IsEnded};
 ghost use Rattle.cbor_steps.specs.Nest.{IsStray, ends_by_break, position_after};
 
 use crate::frame::{Frame, MOST_OPEN};
-use arrayvec::ArrayVec;
 use std::marker::Model;
 
 // The open containers and the input itself.
@@ -37,13 +36,12 @@ pub struct Level {
     left: u64,
 }
 
-/// The open containers, the innermost last.
-pub type Frames = ArrayVec<Frame, MOST_OPEN>;
-
 /// The open containers. The first level is the input itself, with one item due.
 #[derive(Drop)]
 pub struct Nest {
-    outer: [Level; LEVELS],
+    // The levels around the innermost, in nine bytes each.
+    dues: [Due; LEVELS],
+    lefts: [u64; LEVELS],
     height: usize,
     top: Level,
 }
@@ -54,11 +52,11 @@ impl Model for Nest {
 
     ghost Value = { List Frame };
 
-    ghost use Rattle.cbor_steps.specs.Nest.{nested, IsRooted};
+    ghost use Rattle.cbor_steps.specs.Nest.{joined, nested, IsNest};
 
-    ghost view = { λ n. nested n.outer n.height n.top };
+    ghost view = { λ n. nested (joined n.dues n.lefts) n.height n.top };
 
-    ghost invariant = { λ n. IsRooted n.outer n.height n.top };
+    ghost invariant = { λ n. IsNest n.dues n.lefts n.height n.top };
 }
 
 impl Level {
@@ -125,22 +123,32 @@ fn is_open(level: Level) -> bool
     matches!(level.due, Due::IndefiniteItem | Due::IndefiniteKey)
 }
 
+// The level that lies there.
+#[inline(always)]
+fn level_at(dues: &[Due], lefts: &[u64], place: usize) -> Level
+    requires dues { place < length dues.now }
+    requires lefts { place < length lefts.now }
+    ensures { slice_get (joined dues.now lefts.now) place ≡ Some result }
+{
+    Level {
+        due: dues[place],
+        left: lefts[place],
+    }
+}
+
 impl Nest {
     /// Nothing is open.
     pub fn new() -> Nest
         ensures { result ≡ [] }
     {
-        // A blank of zeros alone is filled in fastest.
-        let blank = Level {
-            due: Due::Item,
-            left: 0,
-        };
         let root = Level {
             due: Due::Content,
             left: 0,
         };
+        // Blanks of zeros alone are filled in fastest.
         Nest {
-            outer: [blank; LEVELS],
+            dues: [Due::Item; LEVELS],
+            lefts: [0; LEVELS],
             height: 0,
             top: root,
         }
@@ -154,18 +162,16 @@ impl Nest {
         self.height
     }
 
-    /// The open containers, the outermost first.
-    pub fn frames(&self) -> Frames
-        ensures { result.items ≡ self.now }
+    /// The open container around which so many others are open.
+    pub fn frame(&self, place: usize) -> Frame
+        requires { place < length self.now }
+        ensures { slice_get self.now place ≡ Some result }
     {
-        let mut frames = ArrayVec::new();
-        if self.height > 0 {
-            for level in &self.outer[1..self.height] {
-                frames.push(level.frame());
-            }
-            frames.push(self.top.frame());
+        if self.len() > place + 1 {
+            level_at(&self.dues, &self.lefts, place + 1).frame()
+        } else {
+            self.top.frame()
         }
-        frames
     }
 
     /// Opens a container.
@@ -174,7 +180,8 @@ impl Nest {
         requires { length self.old < MOST_OPEN }
         ensures { self.new ≡ self.old ++ due_frame due left ∷ [] }
     {
-        self.outer[self.height] = self.top;
+        self.dues[self.height] = self.top.due;
+        self.lefts[self.height] = self.top.left;
         self.height += 1;
         self.top = Level { due, left };
     }
@@ -210,7 +217,7 @@ impl Nest {
                 return true;
             }
             self.height -= 1;
-            self.top = self.outer[self.height];
+            self.top = level_at(&self.dues, &self.lefts, self.height);
         }
     }
 
@@ -227,7 +234,7 @@ impl Nest {
             return None;
         }
         self.height -= 1;
-        self.top = self.outer[self.height];
+        self.top = level_at(&self.dues, &self.lefts, self.height);
         Some(self.complete())
     }
 }

@@ -4,6 +4,7 @@ use Rattle.std.proofs.lemmas.List.{length-append, nil_from_length}
 use Rattle.std.proofs.lemmas.Bool.{cases_lt}
 use Rattle.cbor_head.specs.Head.{head, shortest, shortest_head}
 use Rattle.cbor_head.specs.Limits.{Bounds}
+use Rattle.cbor_head.specs.declared.limits.TheConstants.{MAX_DEPTH}
 use Rattle.cbor_head.specs.Value.{Value}
 use Rattle.cbor_head.specs.Spelling.{Spelling, SpelledEntries, no_entries, spell}
 use Rattle.cbor_head.specs.Complaint as complaint
@@ -295,8 +296,8 @@ module _ (v : OpenItems) (b : Bounds) (w : Width) (kind : EventKind) (t x : List
       go (kinds.Piece n) i l = elim l [ inl y ↦ absurd y | inr y ↦ absurd y ]
       go kinds.End i l = elim l [ inl y ↦ absurd y | inr y ↦ absurd y ]
 
-  pub room_levels : IsOther kind ⊎ IsMap kind → length (seen v.keys).levels < 256
+  pub room_levels : IsOther kind ⊎ IsMap kind → length (seen v.keys).levels < MAX_DEPTH
   room_levels l = omega (arith, kept_levels (seen v.keys) h.fs x h.kept, room_so l, h.begun.at.limits.0)
 
-  pub room_spans : IsOther kind ⊎ IsMap kind → length (seen v.keys).spans < 256
+  pub room_spans : IsOther kind ⊎ IsMap kind → length (seen v.keys).spans < MAX_DEPTH
   room_spans l = omega (arith, kept_spans (seen v.keys) h.fs x h.kept, room_so l, h.begun.at.limits.0)

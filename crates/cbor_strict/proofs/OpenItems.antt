@@ -2,6 +2,7 @@
 use Rattle.std.proofs.Common.{◌≡◌, ℕ, ◌+◌, ◌-◌, ◌≤◌, IsTrue, Option, List, [], ◌∷◌, ◌++◌, length, sym, ap, ◌∙◌, subst, inl, inr, arith, append-nil}
 use Rattle.std.proofs.lemmas.List.{length-append}
 use Rattle.cbor_head.specs.Limits.{Bounds}
+use Rattle.cbor_head.specs.declared.limits.TheConstants.{MAX_DEPTH}
 use Rattle.cbor_head.specs.Order.{key_lt}
 use Rattle.cbor_head.specs.Spelling.{Spelling, Spellings, SpelledEntries, no_spellings, a_spelling, no_entries, entry, spell}
 use Rattle.cbor_head.specs.Complaint.{strict, Complains}
@@ -63,10 +64,10 @@ ends_of o b e t keys gs s m = record { clean = m.clean; taken = m.taken; at = m.
 levels_small : (o : KeyOrder) (b : Bounds) (e : ItemEventsView) (t : List ℕ) (keys : LastKeys) (gs : List Frame) (s : Spelling) → HasClosed o b e t keys gs s → length gs ≤ b.depth
 levels_small o b e t keys gs s h = let levels = h.clean.are.levels in omega (arith, levels, outside_length gs)
 
-pub few_levels : (o : KeyOrder) (b : Bounds) (e : ItemEventsView) (t : List ℕ) (keys : LastKeys) (gs : List Frame) (s : Spelling) → HasClosed o b e t keys gs s → length (seen keys).levels ≤ 256
+pub few_levels : (o : KeyOrder) (b : Bounds) (e : ItemEventsView) (t : List ℕ) (keys : LastKeys) (gs : List Frame) (s : Spelling) → HasClosed o b e t keys gs s → length (seen keys).levels ≤ MAX_DEPTH
 few_levels o b e t keys gs s h = omega (arith, kept_levels (seen keys) gs (spell s) h.kept, levels_small o b e t keys gs s h, h.at.limits.0)
 
-pub few_spans : (o : KeyOrder) (b : Bounds) (e : ItemEventsView) (t : List ℕ) (keys : LastKeys) (gs : List Frame) (s : Spelling) → HasClosed o b e t keys gs s → length (seen keys).spans ≤ 256
+pub few_spans : (o : KeyOrder) (b : Bounds) (e : ItemEventsView) (t : List ℕ) (keys : LastKeys) (gs : List Frame) (s : Spelling) → HasClosed o b e t keys gs s → length (seen keys).spans ≤ MAX_DEPTH
 few_spans o b e t keys gs s h = omega (arith, kept_spans (seen keys) gs (spell s) h.kept, levels_small o b e t keys gs s h, h.at.limits.0)
 
 pub around_as : (o : KeyOrder) (new : OpenItems) (b : Bounds) (gs : List Frame) → o ≡ new.order → AreOpen (strict o) b.depth (from_outside gs) → AreOpenDistinct (strict o) 0 (from_outside gs) → AreOpenClean new b gs

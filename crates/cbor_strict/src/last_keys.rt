@@ -114,7 +114,7 @@ impl LastKeys {
 
     // An array or a tag opens, whose head was read.
     pub(crate) fn open_other(&mut self)
-        requires { length (seen self.old).levels < 256 }
+        requires { length (seen self.old).levels < MOST_OPEN }
         ensures { (f : Frame) (fs : List Frame) (p : List ℕ) → due_of f ≡ Due.Member
             → IsKept (seen self.old) fs p → before f ≡ p → IsKept (seen self.new) (f ∷ fs) [] }
     {
@@ -126,8 +126,8 @@ impl LastKeys {
 
     // A map opens.
     pub(crate) fn open_map(&mut self)
-        requires levels { length (seen self.old).levels < 256 }
-        requires spans { length (seen self.old).spans < 256 }
+        requires levels { length (seen self.old).levels < MOST_OPEN }
+        requires spans { length (seen self.old).spans < MOST_OPEN }
         ensures { (w : Width) (v : Spelling) (b : SpelledEntries) (fs : List Frame) (p : List ℕ)
             → IsKept (seen self.old) fs p → before (a_key w no_entries v b) ≡ p
             → IsKept (seen self.new) (a_key w no_entries v b ∷ fs) [] }
@@ -197,8 +197,8 @@ impl LastKeys {
     // length.
     pub(crate) fn end_key(&mut self, order: KeyOrder) -> Result<(), usize>
         requires ended { HasKeyEnded (seen self.old) }
-        requires levels { length (seen self.old).levels ≤ 256 }
-        requires spans { length (seen self.old).spans ≤ 256 }
+        requires levels { length (seen self.old).levels ≤ MOST_OPEN }
+        requires spans { length (seen self.old).spans ≤ MOST_OPEN }
         ensures { AnswersKeyEnd order (seen self.old) (seen self.new) result }
     {
         let Some(level) = self.levels.pop() else {
@@ -238,8 +238,8 @@ impl LastKeys {
 
     // The last complete key lies there now, and its content is due.
     fn put_key(&mut self, is_inside: bool, from: usize, to: usize)
-        requires levels { length self.old.levels.items < 256 }
-        requires spans { length self.old.spans.items < 256 }
+        requires levels { length self.old.levels.items < MOST_OPEN }
+        requires spans { length self.old.spans.items < MOST_OPEN }
         ensures { seen self.new ≡ with_key (seen self.old) is_inside from to }
     {
         self.spans.push(Span { from, to, next: to });
@@ -252,8 +252,8 @@ impl LastKeys {
 
     // The content of a key is complete, and another key is due.
     pub(crate) fn end_content(&mut self)
-        requires levels { length (seen self.old).levels ≤ 256 }
-        requires spans { length (seen self.old).spans ≤ 256 }
+        requires levels { length (seen self.old).levels ≤ MOST_OPEN }
+        requires spans { length (seen self.old).spans ≤ MOST_OPEN }
         ensures { (w : Width) (a : SpelledEntries) (k s l m : Spelling) (b : SpelledEntries)
             (fs : List Frame)
             → IsKept (seen self.old) (a_content w a k (entry l m b) ∷ fs) (spell s)

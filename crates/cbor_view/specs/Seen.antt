@@ -1,5 +1,5 @@
 -- The value that a view stands for (RFC 8949, section 2), and what is open of views.
-use Rattle.std.specs.Prelude.{Bool, true, false, List, [], ◌∷◌, map}
+use Rattle.std.specs.Prelude.{List, map}
 use Rattle.cbor_head.specs.Value as value
 use Rattle.cbor_head.specs.Value.{Value}
 use Rattle.cbor_item.specs.View.{values_of, entries_of}
@@ -46,12 +46,3 @@ open_value (a_tag n vs) = a_tag n (seen_all vs)
 -- the innermost first
 abbrev pub standing : List OpenView → List OpenValue
 standing os = map open_value os
-
--- a map is innermost, without a key that waits for its value
-abbrev pub awaits_key : List OpenValue → Bool
-awaits_key [] = false
-awaits_key (a_map ps ∷ os) = true
-awaits_key (a_key ps k ∷ os) = false
-awaits_key (the_whole vs ∷ os) = false
-awaits_key (an_array vs ∷ os) = false
-awaits_key (a_tag n vs ∷ os) = false

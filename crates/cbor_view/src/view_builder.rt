@@ -6,7 +6,7 @@ ghost use Rattle.cbor_head.specs.Value.{Value, bytes, text};
 ghost use Rattle.cbor_builder.specs.Built.{IsContainer};
 ghost use Rattle.cbor_item.specs.OpenValues.{the_whole, opened, give, close, run, parts_of};
 ghost use Rattle.cbor_item.specs.OpenValues.{TakesValue, MayEnd, IsWhole, CanEnd, closed};
-ghost use Rattle.cbor_view.specs.Seen.{seen, standing, awaits_key, open_value};
+ghost use Rattle.cbor_view.specs.Seen.{seen, standing, open_value};
 ghost use Rattle.cbor_view.specs.inner.Levels.{open_view, Begins, outer_members, outer_pairs};
 
 use crate::level::Level;
@@ -82,14 +82,6 @@ impl<'a> ViewBuilder<'a> {
             Level::Tag(_, content) => *content = Some(view),
         }
         Ok(())
-    }
-
-    /// Whether a map is innermost, and what it takes next is a key.
-    #[inline(always)]
-    pub fn is_key_due(&self) -> bool
-        ensures { result ≡ awaits_key (standing self.now) }
-    {
-        matches!(self.top, Level::Map(_, None))
     }
 
     /// A byte string that is copied into the arena.

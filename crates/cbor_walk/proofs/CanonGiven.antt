@@ -22,7 +22,7 @@ use Rattle.cbor_judging.specs.Levels.{AreTaken, ArePairsTaken, Level, a_member, 
 use Rattle.cbor_judging.specs.Place.{Place}
 use Rattle.cbor_judging.specs.Reading.{string_major, string_value}
 use Rattle.cbor_walk.specs.CanonSink.{canon_stands, canon_holds}
-use Rattle.cbor_walk.specs.Sink.{leaf_value, IsOpened, Completes, Fills, IsEndedAs, StandsFull, IsItemDue, Gives, Opens, IsContainerFull, Ends, BeginsString, IsChunkDue, GrowsString, EndsString}
+use Rattle.cbor_walk.specs.Sink.{leaf_value, Told, IsOpened, Completes, Fills, IsEndedAs, StandsFull, IsItemDue, Gives, Opens, IsContainerFull, Ends, BeginsString, IsChunkDue, GrowsString, EndsString}
 
 -- ---- the bytes of values
 
@@ -53,8 +53,8 @@ opens-take o d (some_key done ∷ ms) h l = tt
 opens-take o d (some_value done k ∷ ms) h l = tt
 opens-take o d (tagged w n ∷ ms) h l = tt
 
-pub takes : (g : Built) → IsItemDue Built canon_stands g → TakesPart g.standing
-takes g (start, d, ls, k, at) = subst TakesPart (sym at.1) (opens-take start.order d ls k.levels k.short)
+pub takes : (t : Bool) (g : Built) → IsItemDue Built canon_stands t g → TakesPart g.standing
+takes t g (start, d, ls, k, (at, told)) = subst TakesPart (sym at.1) (opens-take start.order d ls k.levels k.short)
 
 -- it is given
 stood : (start new : Built) (d : ℕ) (t : List ℕ) (q : Place) (os : List parts.Open) (height : ℕ) (st : Standing) → StandsAt start.order d t q os height st → new.order ≡ start.order → new.standing ≡ os → canon_stands start new st
@@ -67,8 +67,8 @@ settles start new d ls s k same is =
     let short = k.short in
     stood start new d _ _ _ _ (settle ls s) (settled start.order d ls s k.levels k.taken (omega (arith, short))) same is
 
-pub given : (v : Value) (out : List ℕ) (old new : Built) → ((o : KeyOrder) → canonical o v ≡ out) → new ≡ built old.order (parts.give out old.standing) → Gives Built canon_stands v old new
-given v out old new same is start d ls s at k e =
+pub given : (t : Bool) (v : Value) (out : List ℕ) (old new : Built) → ((o : KeyOrder) → canonical o v ≡ out) → new ≡ built old.order (parts.give out old.standing) → Gives Built canon_stands t v old new
+given t v out old new same is start d ls s (at, told) k e =
     settles start new d ls s k (ap (λ (x : Built). x.order) is ∙ at.0)
     (ap (λ (x : Built). x.standing) is ∙ ap₂ (λ (x : List ℕ) (os : List parts.Open). parts.give x os) (sym (same start.order) ∙ ap (canonical start.order) (sym e)) at.1)
 
@@ -86,8 +86,8 @@ level-opened o majors.Bytes n l e = absurd e
 level-opened o majors.Text n l e = absurd e
 level-opened o majors.Simple n l e = absurd e
 
-pub opened : (m : Major) (n : ℕ) (old new : Built) → new ≡ built old.order (parts.opened m n ∷ old.standing) → Opens Built canon_stands m n old new
-opened m n old new is start ls l at k = (
+pub opened : (t : Bool) (m : Major) (n : ℕ) (old new : Built) → new ≡ built old.order (parts.opened m n ∷ old.standing) → Opens Built canon_stands t m n old new
+opened t m n old new is start ls l (at, told) k = (
   ap (λ (x : Built). x.order) is ∙ at.0,
   ap (λ (x : Built). x.standing) is ∙ ap₂ (λ (c : parts.Open) (os : List parts.Open). c ∷ os) (sym (level-opened start.order m n l k)) at.1,
 )
@@ -120,20 +120,20 @@ full-endless start g d ls (some_key done) (a_map w es) at levels ended k =
     )
 full-endless start g d ls l s at levels ended k = absurd ended
 
-stands-full : (start g : Built) (d : ℕ) (ls : List Level) (s : Spelling) → Fills d ls s → StandsFull Built canon_stands d start g ls s → canon_stands start g (item_full ls s)
-stands-full start g d ls s k (inl at) = at
-stands-full start g d ls s k (inr (l, ended, levels, at)) = full-endless start g d ls l s at levels ended k
+stands-full : (t : Bool) (start g : Built) (d : ℕ) (ls : List Level) (s : Spelling) → Fills d ls s → StandsFull Built (Told Built canon_stands t) d start g ls s → canon_stands start g (item_full ls s)
+stands-full t start g d ls s k (inl at) = at.0
+stands-full t start g d ls s k (inr (l, ended, levels, at)) = full-endless start g d ls l s at.0 levels ended k
 
-pub in-container : (g : Built) → IsContainerFull Built canon_stands g → IsInContainer g.standing
-in-container g (start, d, ls, s, k, full) = let at = stands-full start g d ls s k full in subst IsInContainer (sym at.1.3) (go at.1.1 at.1.2.container ls)
+pub in-container : (t : Bool) (g : Built) → IsContainerFull Built canon_stands t g → IsInContainer g.standing
+in-container t g (start, d, ls, s, k, full) = let at = stands-full t start g d ls s k full in subst IsInContainer (sym at.1.3) (go at.1.1 at.1.2.container ls)
   where
     go : (c : parts.Open) → ((other : parts.Open) (os : List parts.Open) → IsInContainer (c ∷ other ∷ os)) → (ms : List Level) → IsInContainer (c ∷ opens start.order ms)
     go c inside [] = inside (parts.plain []) []
     go c inside (l ∷ ms) = inside (level_open start.order l) (opens start.order ms)
 
-pub ended : (old new : Built) → HasDistinctKeysSoFar old.standing → new ≡ built old.order (parts.close old.order old.standing) → Ends Built canon_stands old new
-ended old new distinct is start d ls s k stood =
-    let at = stands-full start old d ls s k stood in
+pub ended : (t : Bool) (old new : Built) → HasDistinctKeysSoFar old.standing → new ≡ built old.order (parts.close old.order old.standing) → Ends Built canon_stands t old new
+ended t old new distinct is start d ls s k stood =
+    let at = stands-full t start old d ls s k stood in
     let full = at.1.2 in
     let clean = full.clean (subst HasDistinctKeysSoFar at.1.3 distinct) in (
       clean,
@@ -141,38 +141,38 @@ ended old new distinct is start d ls s k stood =
           (ap (λ (x : Built). x.standing) is ∙ ap₂ (λ (o : KeyOrder) (os : List parts.Open). parts.close o os) at.0 at.1.3 ∙ ap (λ (x : List ℕ). parts.give x (opens start.order ls)) full.canonical_is),
     )
 
-pub ends-if : {E : Type 0} (r : Result Bool E) (old new : Built) → IfOk r (λ d. IsTrue d ↔ HasDistinctKeysSoFar old.standing) → IfOk r (λ d. IsTrue d → new ≡ built old.order (parts.close old.order old.standing))
-    → IfOk r (λ d. IsTrue d → Ends Built canon_stands old new)
-ends-if (Ok d) old new x y = λ yes. ended old new (x.0 yes) (y yes)
-ends-if (Err e) old new x y = tt
+pub ends-if : {E : Type 0} (r : Result Bool E) (t : Bool) (old new : Built) → IfOk r (λ d. IsTrue d ↔ HasDistinctKeysSoFar old.standing) → IfOk r (λ d. IsTrue d → new ≡ built old.order (parts.close old.order old.standing))
+    → IfOk r (λ d. IsTrue d → Ends Built canon_stands t old new)
+ends-if (Ok d) t old new x y = λ yes. ended t old new (x.0 yes) (y yes)
+ends-if (Err e) t old new x y = tt
 
 -- ---- strings in chunks
 
-string-opens : (t : Bool) → parts.opened (string_major t) 0 ≡ parts.a_string (string_major t) []
+pub string-opens : (t : Bool) → parts.opened (string_major t) 0 ≡ parts.a_string (string_major t) []
 string-opens true = refl
 string-opens false = refl
 
-pub begins : (t : Bool) (old new : Built) → new ≡ built old.order (parts.opened (string_major t) 0 ∷ old.standing) → BeginsString Built canon_stands canon_holds t old new
-begins t old new is start ls at = (
+pub begins : (key t : Bool) (old new : Built) → new ≡ built old.order (parts.opened (string_major t) 0 ∷ old.standing) → BeginsString Built canon_stands canon_holds key t old new
+begins key t old new is start ls (at, told) = (
   ap (λ (x : Built). x.order) is ∙ at.0,
   ap (λ (x : Built). x.standing) is ∙ ap₂ (λ (c : parts.Open) (os : List parts.Open). c ∷ os) (string-opens t) at.1,
 )
 
-pub in-string : (t : Bool) (g : Built) → IsChunkDue Built canon_holds t g → IsInString g.standing
-in-string t g (start, ls, content, at) = subst IsInString (sym at.1) (go ls)
+pub in-string : (key t : Bool) (g : Built) → IsChunkDue Built canon_holds key t g → IsInString g.standing
+in-string key t g (start, d, ls, content, room, at, told) = subst IsInString (sym at.1) (go ls)
   where
     go : (ls : List Level) → IsInString (parts.a_string (string_major t) content ∷ opens start.order ls)
     go [] = tt
     go (l ∷ ls) = tt
 
-pub grows : (t : Bool) (x : List ℕ) (old new : Built) → new ≡ built old.order (parts.extended x old.standing) → GrowsString Built canon_holds t x old new
-grows t x old new is start ls content at = (
+pub grows : (key t : Bool) (x : List ℕ) (old new : Built) → new ≡ built old.order (parts.extended x old.standing) → GrowsString Built canon_holds key t x old new
+grows key t x old new is start ls content at told = (
   ap (λ (y : Built). y.order) is ∙ at.0,
   ap (λ (y : Built). y.standing) is ∙ ap (parts.extended x) at.1,
 )
 
-pub string-ended : (t : Bool) (old new : Built) → new ≡ built old.order (parts.close old.order old.standing) → EndsString Built canon_stands canon_holds t old new
-string-ended t old new is start d ls content s at k e =
+pub string-ended : (key t : Bool) (old new : Built) → new ≡ built old.order (parts.close old.order old.standing) → EndsString Built canon_stands canon_holds key t old new
+string-ended key t old new is start d ls content s at told k e =
     settles start new d ls s k (ap (λ (x : Built). x.order) is ∙ at.0)
     (ap (λ (x : Built). x.standing) is ∙ ap₂ (λ (o : KeyOrder) (os : List parts.Open). parts.close o os) at.0 at.1
     ∙ ap (λ (x : List ℕ). parts.give x (opens start.order ls)) (sym (string-bytes start.order t content) ∙ ap (canonical start.order) (sym e)))

@@ -18,17 +18,17 @@ use Rattle.cbor_judging.proofs.Levels.{clean-anywhere}
 use Rattle.cbor_judging.specs.Judged.{Never}
 use Rattle.cbor_judging.specs.Levels.{Level, Standing, item_due}
 use Rattle.cbor_judging.specs.Reading.{string_major, string_value}
-use Rattle.cbor_walk.specs.Sink.{BeginsString, IsChunkDue, GrowsString, IsItemDue}
+use Rattle.cbor_walk.specs.Sink.{Told, BeginsString, IsChunkDue, GrowsString, IsItemDue}
 use Rattle.cbor_walk.specs.inner.Building.{IsHead, IsPayload, chunked_from}
 use Rattle.cbor_walk.proofs.GivenItems.{IsScalar}
 
 -- these chunks came of the string that the bytes are, and the rest follows
-pub record AreChunks (S : Type 0) (stands : S → S → Standing → Type 0) (holds : S → S → List Level → Bool → List ℕ → Type 0) (t : Bool) (behind rest : List ℕ) (g now : S) : Type 0 where
+pub record AreChunks (S : Type 0) (stands : S → S → Standing → Type 0) (holds : S → S → List Level → Bool → List ℕ → Type 0) (key t : Bool) (behind rest : List ℕ) (g now : S) : Type 0 where
   pub done : List Chunk
   pub so_far : AreChunksSoFar plain 0 (string_major t) done
   pub bytes : chunked_from t behind ≡ chunks_bytes (string_major t) done ++ rest
   pub small : AreBytes rest
-  pub given : (start : S) (ls : List Level) → stands start g (item_due ls) → holds start now ls t (chunks_joined done)
+  pub given : (start : S) (ls : List Level) → Told S stands key start g (item_due ls) → holds start now ls t (chunks_joined done)
 
 -- which are valid
 chunk-clean : (t : Bool) (w : Width) (q : List ℕ) (at : ℕ) → (t ≡ true → IsUtf8 q) → Never (OfString plain at (string_major t) w q)
@@ -40,8 +40,8 @@ kind : (t : Bool) → (made : List Chunk → Spelling) × IsChunked (string_majo
 kind true = (text_chunks, text_chunked)
 kind false = (byte_chunks, bytes_chunked)
 
-module _ (S : Type 0) (stands : S → S → Standing → Type 0) (holds : S → S → List Level → Bool → List ℕ → Type 0) (t : Bool) (behind : List ℕ) (g : S) where
-  pub no-chunks : (now : S) → AreBytes behind → BeginsString S stands holds t g now → AreChunks S stands holds t behind behind g now
+module _ (S : Type 0) (stands : S → S → Standing → Type 0) (holds : S → S → List Level → Bool → List ℕ → Type 0) (key t : Bool) (behind : List ℕ) (g : S) where
+  pub no-chunks : (now : S) → AreBytes behind → BeginsString S stands holds key t g now → AreChunks S stands holds key t behind behind g now
   no-chunks now are begins = record {
     done = [];
     so_far = record { are = tt; opener_clean = λ c x. cc x.0; clean = λ c x. x };
@@ -50,12 +50,12 @@ module _ (S : Type 0) (stands : S → S → Standing → Type 0) (holds : S → 
     given = begins;
   }
 
-  module _ (rest : List ℕ) (now : S) (s : AreChunks S stands holds t behind rest g now) where
+  module _ (rest : List ℕ) (now : S) (s : AreChunks S stands holds key t behind rest g now) where
     -- a chunk is due
-    pub chunk-due : IsItemDue S stands g → IsChunkDue S holds t now
-    chunk-due (start, d, ls, levels, due) = (start, ls, chunks_joined s.done, s.given start ls due)
+    pub chunk-due : IsItemDue S stands key g → IsChunkDue S holds key t now
+    chunk-due (start, d, ls, room, due) = (start, d, ls, chunks_joined s.done, room, s.given start ls due, due.1)
 
-    pub one-more : (n size : ℕ) (from : List ℕ) (new : S) → IsHead (string_major t) n rest from → IsPayload t n size from → GrowsString S holds t (take size from) now new → AreChunks S stands holds t behind (drop size from) g new
+    pub one-more : (n size : ℕ) (from : List ℕ) (new : S) → IsHead (string_major t) n rest from → IsPayload t n size from → GrowsString S holds key t (take size from) now new → AreChunks S stands holds key t behind (drop size from) g new
     one-more n size from new h p grows =
         let m = string_major t in
         let are : AreBytes from = bytes_back (head m h.width n) from (subst AreBytes h.is s.small) in
@@ -66,14 +66,14 @@ module _ (S : Type 0) (stands : S → S → Standing → Type 0) (holds : S → 
         let front : rest ≡ chunk_bytes m k ++ drop n from = h.is
         ∙ ap₂ (λ (i : ℕ) (x : List ℕ). head m h.width i ++ x) (sym long) (sym (take-append-drop n from))
         ∙ sym (append_assoc (head m h.width (length q)) q (drop n from)) in
-        subst (λ (i : ℕ). AreChunks S stands holds t behind (drop i from) g new) (sym p.all) (record {
+        subst (λ (i : ℕ). AreChunks S stands holds key t behind (drop i from) g new) (sym p.all) (record {
           done = s.done ++ k ∷ [];
           so_far = chunks_more m (kind t).0 (kind t).1 s.done plain 0 0 s.so_far k (subst (Holds h.width) (sym long) h.holds, small) (chunk-clean t h.width q _ p.utf8);
           bytes = s.bytes ∙ ap (λ (x : List ℕ). chunks_bytes m s.done ++ x) front ∙ grown m k (drop n from);
           small = bytes_back (take n from) (drop n from) (subst AreBytes (sym (take-append-drop n from)) are);
           given = λ start ls due.
               subst (holds start new ls t) (ap (λ (i : ℕ). chunks_joined s.done ++ take i from) p.all ∙ joined k)
-              (grows start ls (chunks_joined s.done) (s.given start ls due));
+              (grows start ls (chunks_joined s.done) (s.given start ls due) due.1);
         })
       where
         joined : (k : Chunk) → chunks_joined s.done ++ k.payload ≡ chunks_joined (s.done ++ k ∷ [])

@@ -1,5 +1,5 @@
 -- A valid item, given to a sink: what an item's end makes of the open containers, and the break.
-use Rattle.std.proofs.Common.{◌≡◌, ℕ, zero, suc, ◌-◌, ◌^◌, ◌<◌, ◌≤◌, true, false, Some, None, List, [], ◌∷◌, ◌++◌, length, map, refl, sym, ap, ap₂, ◌∙◌, subst, arith, inl, inr, append_assoc}
+use Rattle.std.proofs.Common.{◌≡◌, ℕ, Bool, zero, suc, ◌-◌, ◌^◌, ◌<◌, ◌≤◌, true, false, Some, None, List, [], ◌∷◌, ◌++◌, length, map, refl, sym, ap, ap₂, ◌∙◌, subst, arith, inl, inr, append_assoc}
 use Rattle.std.proofs.lemmas.List.{length-append}
 use Rattle.cbor_head.specs.Canonical.{canonical}
 use Rattle.cbor_head.specs.Head.{head}
@@ -14,8 +14,8 @@ use Rattle.cbor_judging.specs.Frame.{with_all, with_entries}
 use Rattle.cbor_judging.specs.Given.{opens, StandsAt}
 use Rattle.cbor_judging.specs.Levels.{IsTaken, Level, a_member, a_key, a_value, some_member, some_key, some_value, tagged, frame, AreLevels, bytes_before, Standing, item_due, item_full, settle}
 use Rattle.cbor_judging.specs.Place.{close}
-use Rattle.cbor_walk.specs.Sink.{IsEndedAs}
-use Rattle.cbor_walk.specs.inner.Building.{counted, cell_of, cells_of, after, IsDue, HasEnded, IsToEnd, HasFilled}
+use Rattle.cbor_walk.specs.Sink.{takes_key, is_map, IsEndedAs}
+use Rattle.cbor_walk.specs.inner.Building.{pairs, counted, cell_of, cells_of, after, IsDue, HasEnded, IsToEnd, HasFilled}
 use Rattle.cbor_walk.specs.declared.level.Due.TheVariants.{Item, Value}
 use Rattle.cbor_walk.specs.declared.open.Open.{Open}
 use Rattle.cbor_walk.proofs.GivenParts.{cells-count}
@@ -95,48 +95,48 @@ module _ (S : Type 0) (stands : S → S → Standing → Type 0) (start : S) (d 
             goes-on new l ls (some_key (with_entries done (entry key h.item no_entries))) k (on l ls k) refl st.0 st.1 k.3
         go (tagged w n ∷ ls) k = absurd (no-more new (on (tagged w n) ls k))
 
-    filled : (cs : List Open) (ls : List Level) → cs ≡ cells_of ls → IsToEnd S stands start d input cs g rest → HasFilled S stands start d input cs g rest
-    filled [] ls e t = absurd (omega (arith, ap length e, cells-count ls))
-    filled (x ∷ xs) ls e t = t
+    filled : (t : Bool) (cs : List Open) (ls : List Level) → cs ≡ cells_of ls → IsToEnd S stands t start d input cs g rest → HasFilled S stands t start d input cs g rest
+    filled t [] ls e s = absurd (omega (arith, ap length e, cells-count ls))
+    filled t (x ∷ xs) ls e s = s
 
     -- nothing is due in it
-    fills : (l : Level) (ls : List Level) → levels-with (l ∷ ls) → (item : Spelling) → AreLevels d ls → bytes_before (l ∷ ls) ++ spell h.item ≡ bytes_before ls ++ spell item
-        → IsSpelled item → depth item ≤ d - length ls → stands start g (item_full ls item) → HasFilled S stands start d input cs g rest
-    fills l ls k item levels same spelled within given = filled cs ls (cells-are l ls k.2) (record {
+    fills : (l : Level) (ls : List Level) → levels-with (l ∷ ls) → (item : Spelling) → pairs (cell_of l).due ≡ is_map item → AreLevels d ls → bytes_before (l ∷ ls) ++ spell h.item ≡ bytes_before ls ++ spell item
+        → IsSpelled item → depth item ≤ d - length ls → stands start g (item_full ls item) → HasFilled S stands (pairs c.due) start d input cs g rest
+    fills l ls k item kind levels same spelled within given = filled (pairs c.due) cs ls (cells-are l ls k.2) (record {
       ls = ls;
       item = item;
       levels = levels;
       spelled = spelled;
       within = within;
       cells = cells-are l ls k.2;
-      given = inl given;
+      given = inl (given, ap (λ (x : Open). pairs x.due) (cell-is l ls k.2) ∙ kind);
       bytes = k.4 ∙ ap (λ (x : List ℕ). x ++ rest) same;
       small = h.small;
     })
 
-    pub is-full : after c ≡ None → HasFilled S stands start d input cs g rest
+    pub is-full : after c ≡ None → HasFilled S stands (pairs c.due) start d input cs g rest
     is-full e = go h.ls (h.levels, h.taken, h.cells, h.given, h.bytes)
       where
         on : (l : Level) (ls : List Level) (k : levels-with (l ∷ ls)) → after (cell_of l) ≡ None
         on l ls k = ap after (sym (cell-is l ls k.2)) ∙ e
 
-        go : (ls : List Level) → levels-with ls → HasFilled S stands start d input cs g rest
+        go : (ls : List Level) → levels-with ls → HasFilled S stands (pairs c.due) start d input cs g rest
         go [] k =
             let none : cs ≡ [] = cc in
             let low : d - 0 ≡ d = omega arith in
-            subst (λ (x : List Open). HasFilled S stands start d input x g rest) (sym none) (record { item = h.item; taken = subst (λ (n : ℕ). IsTaken n h.item) low k.1; given = k.3; bytes = k.4 })
+            subst (λ (x : List Open). HasFilled S stands (pairs c.due) start d input x g rest) (sym none) (record { item = h.item; taken = subst (λ (n : ℕ). IsTaken n h.item) low k.1; given = k.3; bytes = k.4 })
         go (a_member w zero done ∷ ls) k =
             let l = a_member w zero done in
             let st = settle-here (l ∷ ls) k in
-            fills l ls k (array w (with_all done (a_spelling h.item no_spellings))) st.0 st.1 st.3.1.spelled st.3.1.within k.3
+            fills l ls k (array w (with_all done (a_spelling h.item no_spellings))) refl st.0 st.1 st.3.1.spelled st.3.1.within k.3
         go (a_value w zero done key ∷ ls) k =
             let l = a_value w zero done key in
             let st = settle-here (l ∷ ls) k in
-            fills l ls k (a_map w (with_entries done (entry key h.item no_entries))) st.0 st.1 st.3.1.spelled st.3.1.within k.3
+            fills l ls k (a_map w (with_entries done (entry key h.item no_entries))) refl st.0 st.1 st.3.1.spelled st.3.1.within k.3
         go (tagged w n ∷ ls) k =
             let l = tagged w n in
             let st = settle-here (l ∷ ls) k in
-            fills l ls k (tag w n h.item) st.0 st.1 st.3.1.spelled st.3.1.within k.3
+            fills l ls k (tag w n h.item) refl st.0 st.1 st.3.1.spelled st.3.1.within k.3
         go (a_member w (suc n) done ∷ ls) k = absurd (cc (on (a_member w (suc n) done) ls k))
         go (some_member done ∷ ls) k = absurd (cc (on (some_member done) ls k))
         go (a_key w n done ∷ ls) k = absurd (cc (on (a_key w n done) ls k))
@@ -156,7 +156,7 @@ module _ (S : Type 0) (stands : S → S → Standing → Type 0) (start : S) (d 
         go (l ∷ ls) e = omega (arith, ap length e, cells-count ls)
 
     -- and it is whole
-    pub break-ends : (c.due ≡ Value → ⊥) → IsToEnd S stands start d input cs g behind
+    pub break-ends : (c.due ≡ Value → ⊥) → IsToEnd S stands (pairs c.due) start d input cs g behind
     break-ends no_value = go s.ls s.levels s.cells s.given s.bytes
       where
         flag : (l : Level) (ls : List Level) → c ∷ cs ≡ cells_of (l ∷ ls) → (cell_of l).is_endless ≡ true
@@ -168,28 +168,31 @@ module _ (S : Type 0) (stands : S → S → Standing → Type 0) (start : S) (d 
         tail-is : (l : Level) (ls : List Level) → c ∷ cs ≡ cells_of (l ∷ ls) → cs ≡ cells_of ls
         tail-is l ls e = cc
 
-        ended : (l : Level) (ls : List Level) (item : Spelling) (xs : List ℕ) → spell item ≡ xs ++ (0xff ∷ []) → IsSpelled item → depth item ≤ d - length ls → AreLevels d (l ∷ ls) → c ∷ cs ≡ cells_of (l ∷ ls)
-            → input ≡ (bytes_before ls ++ xs) ++ 0xff ∷ behind → IsEndedAs l item → stands start g (item_due (l ∷ ls)) → IsToEnd S stands start d input cs g behind
-        ended l ls item xs is spelled within levels e b whole given = record {
+        kind : (l : Level) (ls : List Level) → c ∷ cs ≡ cells_of (l ∷ ls) → pairs c.due ≡ pairs (cell_of l).due
+        kind l ls e = let same : c ≡ cell_of l = cc in ap (λ (x : Open). pairs x.due) same
+
+        ended : (l : Level) (ls : List Level) (item : Spelling) (xs : List ℕ) → pairs (cell_of l).due ≡ takes_key l → spell item ≡ xs ++ (0xff ∷ []) → IsSpelled item → depth item ≤ d - length ls → AreLevels d (l ∷ ls) → c ∷ cs ≡ cells_of (l ∷ ls)
+            → input ≡ (bytes_before ls ++ xs) ++ 0xff ∷ behind → IsEndedAs l item → stands start g (item_due (l ∷ ls)) → IsToEnd S stands (pairs c.due) start d input cs g behind
+        ended l ls item xs told is spelled within levels e b whole given = record {
           ls = ls;
           item = item;
           levels = levels.2;
           spelled = spelled;
           within = within;
           cells = tail-is l ls e;
-          given = inr (l, whole, levels, given);
+          given = inr (l, whole, levels, (given, kind l ls e ∙ told));
           bytes = regroup ls xs b ∙ ap (λ (x : List ℕ). (bytes_before ls ++ x) ++ behind) (sym is);
           small = s.small;
         }
 
-        go : (ls : List Level) → AreLevels d ls → c ∷ cs ≡ cells_of ls → stands start g (item_due ls) → input ≡ bytes_before ls ++ 0xff ∷ behind → IsToEnd S stands start d input cs g behind
+        go : (ls : List Level) → AreLevels d ls → c ∷ cs ≡ cells_of ls → stands start g (item_due ls) → input ≡ bytes_before ls ++ 0xff ∷ behind → IsToEnd S stands (pairs c.due) start d input cs g behind
         go [] h e f b = let same : c ≡ counted Item 0 = cc in let x : false ≡ true = ap (λ (x : Open). x.is_endless) (sym same) ∙ open_ended in absurd (cc x)
         go (some_member done ∷ ls) h e f b =
             let room = h.0 in
-            ended (some_member done) ls (array Indefinite done) (head majors.Array Indefinite 0 ++ spell_all done) refl (tt, spelled-all (d - suc (length ls)) done h.1) (omega (arith, room, within-all (d - suc (length ls)) done h.1)) h e b refl f
+            ended (some_member done) ls (array Indefinite done) (head majors.Array Indefinite 0 ++ spell_all done) refl refl (tt, spelled-all (d - suc (length ls)) done h.1) (omega (arith, room, within-all (d - suc (length ls)) done h.1)) h e b refl f
         go (some_key done ∷ ls) h e f b =
             let room = h.0 in
-            ended (some_key done) ls (a_map Indefinite done) (head majors.Map Indefinite 0 ++ spell_entries done) refl (tt, pairs-spelled (d - suc (length ls)) done h.1) (omega (arith, room, pairs-within (d - suc (length ls)) done h.1)) h e b refl f
+            ended (some_key done) ls (a_map Indefinite done) (head majors.Map Indefinite 0 ++ spell_entries done) refl refl (tt, pairs-spelled (d - suc (length ls)) done h.1) (omega (arith, room, pairs-within (d - suc (length ls)) done h.1)) h e b refl f
         go (some_value done k ∷ ls) h e f b = let same : c ≡ cell_of (some_value done k) = cc in absurd (no_value (ap (λ (x : Open). x.due) same))
         go (a_member w n done ∷ ls) h e f b = absurd (cc (flag (a_member w n done) ls e))
         go (a_key w n done ∷ ls) h e f b = absurd (cc (flag (a_key w n done) ls e))

@@ -1,5 +1,5 @@
 -- A valid item, part by part, given to a sink: where the walk stands behind what a sink took.
-use Rattle.std.proofs.Common.{◌≡◌, ℕ, suc, ◌-◌, ◌^◌, ◌<◌, List, [], ◌∷◌, ◌++◌, length, take, refl, sym, ap, ap₂, ◌∙◌, subst, arith, inl, inr, append_assoc, append-nil}
+use Rattle.std.proofs.Common.{◌≡◌, ℕ, Bool, true, false, suc, ◌-◌, ◌^◌, ◌<◌, List, [], ◌∷◌, ◌++◌, length, take, refl, sym, ap, ap₂, ◌∙◌, subst, arith, inl, inr, append_assoc, append-nil}
 use Rattle.std.specs.Prelude.{reverse}
 use Rattle.std.proofs.lemmas.List.{length-append}
 use Rattle.cbor_head.specs.Complaint.{plain}
@@ -18,9 +18,9 @@ use Rattle.cbor_judging.proofs.Heads.{open_or}
 use Rattle.cbor_judging.proofs.Items.{is-definite}
 use Rattle.cbor_judging.proofs.Levels.{no-count}
 use Rattle.cbor_judging.proofs.Loops.{array_bytes-whole, map_bytes-whole}
-use Rattle.cbor_judging.specs.Levels.{IsTaken, Level, some_member, some_key, AreLevels, level_bytes, bytes_before, Standing, item_due, settle}
-use Rattle.cbor_walk.specs.Sink.{Completes, Fills, IsEndedAs, IsItemDue, Gives, Opens, IsContainerFull, Ends, IsGivenFront}
-use Rattle.cbor_walk.specs.inner.Building.{counted, cells_of, IsDue, HasEnded, IsToEnd, IsBuilt, IsDueFor, TakesTo, IsItem, EndsTo, IsHead, IsOpener, Counts}
+use Rattle.cbor_judging.specs.Levels.{IsTaken, Level, a_member, a_key, a_value, some_member, some_key, some_value, tagged, AreLevels, level_bytes, bytes_before, Standing, item_due, settle}
+use Rattle.cbor_walk.specs.Sink.{takes_key, key_due, Completes, Fills, IsEndedAs, IsItemDue, Gives, Opens, IsContainerFull, Ends, IsGivenFront}
+use Rattle.cbor_walk.specs.inner.Building.{awaits, counted, cell_of, cells_of, IsDue, HasEnded, IsToEnd, IsBuilt, IsDueFor, TakesTo, IsItem, EndsTo, IsHead, IsOpener, Counts}
 use Rattle.cbor_walk.specs.inner.Stack.{standing}
 use Rattle.cbor_walk.specs.declared.level.Due.{Due}
 use Rattle.cbor_walk.specs.declared.level.Due.TheVariants.{Item, Key, Value as ItsValue}
@@ -36,15 +36,29 @@ pub cells-count : (ls : List Level) → length (cells_of ls) ≡ suc (length ls)
 cells-count [] = refl
 cells-count (l ∷ ls) = ap suc (cells-count ls)
 
+-- a key is due in the innermost one
+cell-awaits : (l : Level) → awaits (cell_of l).due ≡ takes_key l
+cell-awaits (a_member w left done) = refl
+cell-awaits (a_key w left done) = refl
+cell-awaits (a_value w left done k) = refl
+cell-awaits (some_member done) = refl
+cell-awaits (some_key done) = refl
+cell-awaits (some_value done k) = refl
+cell-awaits (tagged w n) = refl
+
+pub key-awaited : (ls : List Level) (top : Open) (outer : List Open) → top ∷ outer ≡ cells_of ls → awaits top.due ≡ key_due ls
+key-awaited [] top outer e = let same : top ≡ counted Item 0 = cc in ap (λ (x : Open). awaits x.due) same
+key-awaited (l ∷ ls) top outer e = let same : top ≡ cell_of l = cc in ap (λ (x : Open). awaits x.due) same ∙ cell-awaits l
+
 -- an item is taken without a cell
 pub never-full : (p : Part) → IsItem p → p ≡ part.Full → ⊥
 never-full p h e = subst IsItem e h
 
 module _ (S : Type 0) (stands : S → S → Standing → Type 0) where
-  pub due-item : (g : S) (rest : List ℕ) → IsDueFor S stands g rest → IsItemDue S stands g
-  due-item g rest (d, cs, (start, input, s)) =
+  pub due-item : (top : Open) (g : S) (rest : List ℕ) (t : Bool) → t ≡ awaits top.due → IsDueFor S stands top g rest → IsItemDue S stands t g
+  due-item top g rest t e (d, outer, (start, input, s)) =
       let small = s.small in
-      (start, d, s.ls, record { levels = s.levels; short = omega (arith, small, ap length s.bytes, length-append (bytes_before s.ls) rest) }, s.given)
+      (start, d, s.ls, record { levels = s.levels; short = omega (arith, small, ap length s.bytes, length-append (bytes_before s.ls) rest) }, (s.given, e ∙ key-awaited s.ls top outer s.cells))
 
   -- before the first part
   pub starts : (k : Stack Open) (g : S) (d : ℕ) (input : List ℕ) (cells : List Open) → k.height ≡ 0 → k.top ≡ counted Item 0 → stands g g (item_due []) → length input < 2 ^ 63 → IsDue S stands g d input (standing Open k cells) g input
@@ -109,29 +123,29 @@ module _ (S : Type 0) (stands : S → S → Standing → Type 0) where
       pub scalar-settles : (behind : List ℕ) (v : Value) (new : S) → (i : IsScalar rest behind v) → (Completes d s.ls i.item → stands start new (settle s.ls i.item)) → (length behind < length rest) × HasEnded S stands start d input cs new behind
       scalar-settles behind v new i settles = item-ends i.item behind new (i.taken (d - length s.ls)) i.is (settles (completes i.item behind (i.taken (d - length s.ls)) i.is))
 
-      pub scalar-ends : (behind : List ℕ) (v : Value) (new : S) → IsScalar rest behind v → Gives S stands v g new → (length behind < length rest) × HasEnded S stands start d input cs new behind
-      scalar-ends behind v new i gives = scalar-settles behind v new i (λ k. gives start d s.ls i.item s.given k i.value_is)
+      pub scalar-ends : (behind : List ℕ) (v : Value) (new : S) (k : Bool) → k ≡ key_due s.ls → IsScalar rest behind v → Gives S stands k v g new → (length behind < length rest) × HasEnded S stands start d input cs new behind
+      scalar-ends behind v new k told i gives = scalar-settles behind v new i (λ c. gives start d s.ls i.item (s.given, told) c i.value_is)
 
       -- a container opens
-      pub opened : (m : Major) (n : ℕ) (c : Open) (behind : List ℕ) (new : S) → length s.ls < d → IsOpener m n c rest behind → Opens S stands m n g new
+      pub opened : (m : Major) (n : ℕ) (c : Open) (behind : List ℕ) (new : S) (t : Bool) → t ≡ key_due s.ls → length s.ls < d → IsOpener m n c rest behind → Opens S stands t m n g new
           → (length behind < length rest) × IsDue S stands start d input (c ∷ cs) new behind
-      opened m n c behind new room k opens =
+      opened m n c behind new t told room k opens =
           let some = k.some in (
             omega (arith, some, ap length k.is, length-append (level_bytes k.level) behind),
             record {
               ls = k.level ∷ s.ls;
               levels = (room, k.fresh (d - suc (length s.ls)), s.levels);
               cells = ap₂ (λ (x : Open) (xs : List Open). x ∷ xs) k.cell s.cells;
-              given = opens start s.ls k.level s.given k.opened;
+              given = opens start s.ls k.level (s.given, told) k.opened;
               bytes = s.bytes ∙ ap (λ (x : List ℕ). bytes_before s.ls ++ x) k.is ∙ sym (append_assoc (bytes_before s.ls) (level_bytes k.level) behind);
               small = s.small;
             },
           )
 
       -- one without a length, of which the bytes are the whole
-      to-end : (l : Level) (item : Spelling) (behind : List ℕ) (new : S) → stands start new (item_due (l ∷ s.ls)) → AreLevels d (l ∷ s.ls) → IsEndedAs l item → IsTaken (d - length s.ls) item → rest ≡ spell item ++ behind
-          → (length behind < length rest) × IsToEnd S stands start d input cs new behind
-      to-end l item behind new given levels ended i e = (
+      to-end : (t : Bool) (l : Level) (item : Spelling) (behind : List ℕ) (new : S) → t ≡ takes_key l → stands start new (item_due (l ∷ s.ls)) → AreLevels d (l ∷ s.ls) → IsEndedAs l item → IsTaken (d - length s.ls) item → rest ≡ spell item ++ behind
+          → (length behind < length rest) × IsToEnd S stands t start d input cs new behind
+      to-end t l item behind new told given levels ended i e = (
         omega (arith, ap length e, length-append (spell item) behind, length_spell item),
         record {
           ls = s.ls;
@@ -140,53 +154,53 @@ module _ (S : Type 0) (stands : S → S → Standing → Type 0) where
           spelled = i.spelled;
           within = i.within;
           cells = s.cells;
-          given = inr (l, ended, levels, given);
+          given = inr (l, ended, levels, (given, told));
           bytes = s.bytes ∙ ap (λ (x : List ℕ). bytes_before s.ls ++ x) e ∙ sym (append_assoc (bytes_before s.ls) (spell item) behind);
           small = s.small;
         },
       )
 
       -- one that is empty
-      pub empty-ends : (m : Major) (due : Due) (n : ℕ) (behind : List ℕ) (new : S) → length s.ls < d → Counts m due → n ≡ 0 → IsHead m n rest behind → Opens S stands m 0 g new
-          → (length behind < length rest) × IsToEnd S stands start d input cs new behind
-      empty-ends majors.Array Item n behind new room k none h opens =
+      pub empty-ends : (m : Major) (due : Due) (n : ℕ) (behind : List ℕ) (new : S) (t : Bool) → t ≡ key_due s.ls → length s.ls < d → Counts m due → n ≡ 0 → IsHead m n rest behind → Opens S stands t m 0 g new
+          → (length behind < length rest) × IsToEnd S stands (awaits due) start d input cs new behind
+      empty-ends majors.Array Item n behind new t told room k none h opens =
           let w = h.width in
           let holds : Holds w 0 = subst (Holds w) none h.holds in
           let whole : spell (array w no_spellings) ≡ head majors.Array w n = array_bytes-whole w 0 no_spellings (closes w (is-definite w 0 holds)) refl ∙ append-nil (head majors.Array w 0) ∙ ap (head majors.Array w) (sym none) in
-          to-end (some_member no_spellings) (array w no_spellings) behind new (opens start s.ls (some_member no_spellings) s.given (inr refl)) (room, tt, s.levels) refl
+          to-end false (some_member no_spellings) (array w no_spellings) behind new refl (opens start s.ls (some_member no_spellings) (s.given, told) (inr refl)) (room, tt, s.levels) refl
           (record { spelled = (open_or w 0 holds, tt); within = omega (arith, room); clean = λ at c x. elim x [ inl y ↦ no-count at majors.Array w 0 c y | inr y ↦ y ] })
           (h.is ∙ ap (λ (x : List ℕ). x ++ behind) (sym whole))
-      empty-ends majors.Map Key n behind new room k none h opens =
+      empty-ends majors.Map Key n behind new t told room k none h opens =
           let w = h.width in
           let holds : Holds w 0 = subst (Holds w) none h.holds in
           let whole : spell (a_map w no_entries) ≡ head majors.Map w n = map_bytes-whole w 0 no_entries (closes w (is-definite w 0 holds)) refl ∙ append-nil (head majors.Map w 0) ∙ ap (head majors.Map w) (sym none) in
-          to-end (some_key no_entries) (a_map w no_entries) behind new (opens start s.ls (some_key no_entries) s.given (inr refl)) (room, tt, s.levels) refl
+          to-end true (some_key no_entries) (a_map w no_entries) behind new refl (opens start s.ls (some_key no_entries) (s.given, told) (inr refl)) (room, tt, s.levels) refl
           (record { spelled = (open_or w 0 holds, tt); within = omega (arith, room); clean = λ at c x. elim x [ inl y ↦ no-count at majors.Map w 0 c y | inr y ↦ y ] })
           (h.is ∙ ap (λ (x : List ℕ). x ++ behind) (sym whole))
-      empty-ends majors.Array Key n behind new room k none h opens = absurd k
-      empty-ends majors.Array ItsValue n behind new room k none h opens = absurd k
-      empty-ends majors.Map Item n behind new room k none h opens = absurd k
-      empty-ends majors.Map ItsValue n behind new room k none h opens = absurd k
-      empty-ends majors.Unsigned due n behind new room k none h opens = absurd k
-      empty-ends majors.Negative due n behind new room k none h opens = absurd k
-      empty-ends majors.Bytes due n behind new room k none h opens = absurd k
-      empty-ends majors.Text due n behind new room k none h opens = absurd k
-      empty-ends majors.Tag due n behind new room k none h opens = absurd k
-      empty-ends majors.Simple due n behind new room k none h opens = absurd k
+      empty-ends majors.Array Key n behind new t told room k none h opens = absurd k
+      empty-ends majors.Array ItsValue n behind new t told room k none h opens = absurd k
+      empty-ends majors.Map Item n behind new t told room k none h opens = absurd k
+      empty-ends majors.Map ItsValue n behind new t told room k none h opens = absurd k
+      empty-ends majors.Unsigned due n behind new t told room k none h opens = absurd k
+      empty-ends majors.Negative due n behind new t told room k none h opens = absurd k
+      empty-ends majors.Bytes due n behind new t told room k none h opens = absurd k
+      empty-ends majors.Text due n behind new t told room k none h opens = absurd k
+      empty-ends majors.Tag due n behind new t told room k none h opens = absurd k
+      empty-ends majors.Simple due n behind new t told room k none h opens = absurd k
 
     -- ---- a container ends
 
-    fills-of : (cs : List Open) (g : S) (rest : List ℕ) → (s : IsToEnd S stands start d input cs g rest) → Fills d s.ls s.item
-    fills-of cs g rest s =
+    fills-of : (t : Bool) (cs : List Open) (g : S) (rest : List ℕ) → (s : IsToEnd S stands t start d input cs g rest) → Fills d s.ls s.item
+    fills-of t cs g rest s =
         let small = s.small in
         record { levels = s.levels; spelled = s.spelled; within = s.within; short = omega (arith, small, ap length s.bytes, length-append (bytes_before s.ls ++ spell s.item) rest) }
 
-    pub container-full : (cs : List Open) (g : S) (rest : List ℕ) → IsToEnd S stands start d input cs g rest → IsContainerFull S stands g
-    container-full cs g rest s = (start, d, s.ls, s.item, fills-of cs g rest s, s.given)
+    pub container-full : (t : Bool) (cs : List Open) (g : S) (rest : List ℕ) → IsToEnd S stands t start d input cs g rest → IsContainerFull S stands t g
+    container-full t cs g rest s = (start, d, s.ls, s.item, fills-of t cs g rest s, s.given)
 
-    pub has-ended : (cs : List Open) (g new : S) (rest : List ℕ) → IsToEnd S stands start d input cs g rest → Ends S stands g new → HasEnded S stands start d input cs new rest
-    has-ended cs g new rest s ends =
-        let e = ends start d s.ls s.item (fills-of cs g rest s) s.given in
+    pub has-ended : (t : Bool) (cs : List Open) (g new : S) (rest : List ℕ) → IsToEnd S stands t start d input cs g rest → Ends S stands t g new → HasEnded S stands start d input cs new rest
+    has-ended t cs g new rest s ends =
+        let e = ends start d s.ls s.item (fills-of t cs g rest s) s.given in
         record {
           ls = s.ls;
           item = s.item;

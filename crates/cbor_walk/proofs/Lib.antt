@@ -11,8 +11,6 @@ pub mod GivenKinds
 pub mod GivenParts
 pub mod HeadComplaints
 pub mod KeyOrder
-pub mod KeysGiven
-pub mod KeysKept
 pub mod OtherKeys
 pub mod PathForm
 pub mod PathKinds

@@ -1,14 +1,15 @@
 -- What a sink was given of a valid item, as a walk comes to its parts.
-use Rattle.std.specs.Prelude.{ℕ, ◌≡◌, ◌<◌, ◌≤◌, ◌-◌, ◌^◌, ◌⊎◌, ◌++◌, Bool, List, [], ◌∷◌, length}
+use Rattle.std.specs.Prelude.{ℕ, ◌≡◌, ◌<◌, ◌≤◌, ◌-◌, ◌^◌, ◌⊎◌, ◌++◌, Bool, true, false, List, [], ◌∷◌, length}
 use Rattle.cbor_head.specs.Complaint.{plain}
 use Rattle.cbor_head.specs.Limits.{Bounds}
+use Rattle.cbor_head.specs.Spelling as spelling
 use Rattle.cbor_head.specs.Spelling.{Spelling, array, a_map, no_spellings, no_entries, spell, value_of, IsSpelled, depth}
 use Rattle.cbor_head.specs.Value as value
 use Rattle.cbor_head.specs.Value.{Value}
 use Rattle.cbor_head.specs.declared.major.Major.{Major}
 use Rattle.cbor_head.specs.declared.major.Major.TheVariants.{Array, Map, Tag, Negative, Simple}
 use Rattle.cbor_head.specs.declared.width.Width.{Width}
-use Rattle.cbor_judging.specs.Levels.{IsClean, IsTaken, Level, a_member, a_key, some_member, some_key, tagged, AreLevels, bytes_before, Standing, item_due, item_full, item_whole, settle}
+use Rattle.cbor_judging.specs.Levels.{IsClean, IsTaken, Level, a_member, a_key, a_value, some_member, some_key, some_value, tagged, AreLevels, bytes_before, Standing, item_due, item_full, item_whole, settle}
 use Rattle.cbor_judging.specs.Reading.{string_value}
 use Rattle.cbor_judging.specs.Readers.{IsRead}
 
@@ -26,6 +27,44 @@ IsOpened Array n l = ((w : Width) × (left : ℕ) × (l ≡ a_member w left no_s
 IsOpened Map n l = ((w : Width) × (left : ℕ) × (l ≡ a_key w left no_entries)) ⊎ (l ≡ some_key no_entries)
 IsOpened Tag n l = (w : Width) × (l ≡ tagged w n)
 IsOpened m n l = ⊥
+
+-- ---- where a key is due
+
+abbrev pub takes_key : Level → Bool
+takes_key (a_key w left done) = true
+takes_key (some_key done) = true
+takes_key (a_member w left done) = false
+takes_key (a_value w left done k) = false
+takes_key (some_member done) = false
+takes_key (some_value done k) = false
+takes_key (tagged w n) = false
+
+-- the next item is a key
+abbrev pub key_due : List Level → Bool
+key_due [] = false
+key_due (l ∷ ls) = takes_key l
+
+abbrev pub is_map : Spelling → Bool
+is_map (a_map w es) = true
+is_map (array w ss) = false
+is_map (spelling.tag w n s) = false
+is_map (spelling.unsigned w n) = false
+is_map (spelling.negative w n) = false
+is_map (spelling.bytes w bs) = false
+is_map (spelling.text w bs) = false
+is_map (spelling.byte_chunks cs) = false
+is_map (spelling.text_chunks cs) = false
+is_map (spelling.simple n) = false
+
+-- a map is innermost, without a key that waits for its value
+abbrev pub awaits_key : Standing → Bool
+awaits_key (item_due ls) = key_due ls
+awaits_key (item_full ls s) = is_map s
+awaits_key (item_whole s) = false
+
+-- a sink stands there, and is told rightly whether a key is due, or a map ends
+abbrev pub Told : (S : Type 0) → (S → S → Standing → Type 0) → Bool → S → S → Standing → Type 0
+Told S stands is_key start g st = stands start g st × (is_key ≡ awaits_key st)
 
 -- ---- what fits
 
@@ -55,51 +94,54 @@ IsEndedAs l s = ⊥
 
 -- ---- what is given, by the relation that says where a sink stands since its first state
 
--- an item is due
-abbrev pub IsItemDue : (S : Type 0) → (S → S → Standing → Type 0) → S → Type 0
-IsItemDue S stands g = (start : S) × (d : ℕ) × (ls : List Level) × AreOpenLevels d ls × stands start g (item_due ls)
+-- an item is due, a key or not
+abbrev pub IsItemDue : (S : Type 0) → (S → S → Standing → Type 0) → Bool → S → Type 0
+IsItemDue S stands is_key g = (start : S) × (d : ℕ) × (ls : List Level) × AreOpenLevels d ls × Told S stands is_key start g (item_due ls)
 
 -- an item of this value is given
-abbrev pub Gives : (S : Type 0) → (S → S → Standing → Type 0) → Value → S → S → Type 0
-Gives S stands v old new = (start : S) (d : ℕ) (ls : List Level) (s : Spelling) → stands start old (item_due ls) → Completes d ls s → value_of s ≡ v → stands start new (settle ls s)
+abbrev pub Gives : (S : Type 0) → (S → S → Standing → Type 0) → Bool → Value → S → S → Type 0
+Gives S stands is_key v old new =
+    (start : S) (d : ℕ) (ls : List Level) (s : Spelling) → Told S stands is_key start old (item_due ls) → Completes d ls s → value_of s ≡ v → stands start new (settle ls s)
 
 -- a container opens
-abbrev pub Opens : (S : Type 0) → (S → S → Standing → Type 0) → Major → ℕ → S → S → Type 0
-Opens S stands m n old new = (start : S) (ls : List Level) (l : Level) → stands start old (item_due ls) → IsOpened m n l → stands start new (item_due (l ∷ ls))
+abbrev pub Opens : (S : Type 0) → (S → S → Standing → Type 0) → Bool → Major → ℕ → S → S → Type 0
+Opens S stands is_key m n old new = (start : S) (ls : List Level) (l : Level) → Told S stands is_key start old (item_due ls) → IsOpened m n l → stands start new (item_due (l ∷ ls))
 
 -- this container has no more to come: its last item is given, or it has no length
 abbrev pub StandsFull : (S : Type 0) → (S → S → Standing → Type 0) → ℕ → S → S → List Level → Spelling → Type 0
 StandsFull S stands d start g ls s =
     stands start g (item_full ls s) ⊎ ((l : Level) × IsEndedAs l s × AreLevels d (l ∷ ls) × stands start g (item_due (l ∷ ls)))
 
--- a container is to end
-abbrev pub IsContainerFull : (S : Type 0) → (S → S → Standing → Type 0) → S → Type 0
-IsContainerFull S stands g = (start : S) × (d : ℕ) × (ls : List Level) × (s : Spelling) × Fills d ls s × StandsFull S stands d start g ls s
+-- a container is to end, a map or not
+abbrev pub IsContainerFull : (S : Type 0) → (S → S → Standing → Type 0) → Bool → S → Type 0
+IsContainerFull S stands is_map g = (start : S) × (d : ℕ) × (ls : List Level) × (s : Spelling) × Fills d ls s × StandsFull S (Told S stands is_map) d start g ls s
 
 -- it ends, and has no equal keys
-abbrev pub Ends : (S : Type 0) → (S → S → Standing → Type 0) → S → S → Type 0
-Ends S stands old new = (start : S) (d : ℕ) (ls : List Level) (s : Spelling) → Fills d ls s → StandsFull S stands d start old ls s → IsClean s × stands start new (settle ls s)
+abbrev pub Ends : (S : Type 0) → (S → S → Standing → Type 0) → Bool → S → S → Type 0
+Ends S stands is_map old new =
+    (start : S) (d : ℕ) (ls : List Level) (s : Spelling) → Fills d ls s → StandsFull S (Told S stands is_map) d start old ls s → IsClean s × stands start new (settle ls s)
 
 -- ---- a string in chunks, by the relation that says of what it consists so far
 
 -- a string begins, of no chunks
-abbrev pub BeginsString : (S : Type 0) → (S → S → Standing → Type 0) → (S → S → List Level → Bool → List ℕ → Type 0) → Bool → S → S → Type 0
-BeginsString S stands holds is_text old new = (start : S) (ls : List Level) → stands start old (item_due ls) → holds start new ls is_text []
+abbrev pub BeginsString : (S : Type 0) → (S → S → Standing → Type 0) → (S → S → List Level → Bool → List ℕ → Type 0) → Bool → Bool → S → S → Type 0
+BeginsString S stands holds is_key is_text old new = (start : S) (ls : List Level) → Told S stands is_key start old (item_due ls) → holds start new ls is_text []
 
 -- a chunk is due in it
-abbrev pub IsChunkDue : (S : Type 0) → (S → S → List Level → Bool → List ℕ → Type 0) → Bool → S → Type 0
-IsChunkDue S holds is_text g = (start : S) × (ls : List Level) × (content : List ℕ) × holds start g ls is_text content
+abbrev pub IsChunkDue : (S : Type 0) → (S → S → List Level → Bool → List ℕ → Type 0) → Bool → Bool → S → Type 0
+IsChunkDue S holds is_key is_text g =
+    (start : S) × (d : ℕ) × (ls : List Level) × (content : List ℕ) × AreOpenLevels d ls × holds start g ls is_text content × (is_key ≡ key_due ls)
 
 -- it goes on
-abbrev pub GrowsString : (S : Type 0) → (S → S → List Level → Bool → List ℕ → Type 0) → Bool → List ℕ → S → S → Type 0
-GrowsString S holds is_text chunk old new =
-    (start : S) (ls : List Level) (content : List ℕ) → holds start old ls is_text content → holds start new ls is_text (content ++ chunk)
+abbrev pub GrowsString : (S : Type 0) → (S → S → List Level → Bool → List ℕ → Type 0) → Bool → Bool → List ℕ → S → S → Type 0
+GrowsString S holds is_key is_text chunk old new =
+    (start : S) (ls : List Level) (content : List ℕ) → holds start old ls is_text content → is_key ≡ key_due ls → holds start new ls is_text (content ++ chunk)
 
 -- it ends
-abbrev pub EndsString : (S : Type 0) → (S → S → Standing → Type 0) → (S → S → List Level → Bool → List ℕ → Type 0) → Bool → S → S → Type 0
-EndsString S stands holds is_text old new =
-    (start : S) (d : ℕ) (ls : List Level) (content : List ℕ) (s : Spelling)
-    → holds start old ls is_text content → Completes d ls s → value_of s ≡ string_value is_text content → stands start new (settle ls s)
+abbrev pub EndsString : (S : Type 0) → (S → S → Standing → Type 0) → (S → S → List Level → Bool → List ℕ → Type 0) → Bool → Bool → S → S → Type 0
+EndsString S stands holds is_key is_text old new =
+    (start : S) (d : ℕ) (ls : List Level) (content : List ℕ) (s : Spelling) → holds start old ls is_text content → is_key ≡ key_due ls
+    → Completes d ls s → value_of s ≡ string_value is_text content → stands start new (settle ls s)
 
 -- ---- the whole
 

@@ -2,7 +2,7 @@
 
 ghost use Rattle.std.specs.Prelude.{◌≡◌, ◌≤◌, length};
 ghost use Rattle.cbor_walk.specs.inner.Building.{IsDueIn, HasEndedIn, HasFilledIn};
-ghost use Rattle.cbor_walk.specs.inner.Building.{Leads, LeadsFull, Walks, WalksKept, IsFullAt};
+ghost use Rattle.cbor_walk.specs.inner.Building.{pairs, Leads, LeadsFull, Walks, WalksKept, IsFullAt};
 ghost use Rattle.cbor_walk.specs.inner.Stack.{around, standing};
 
 use crate::kinds::is_other_key;
@@ -104,14 +104,17 @@ impl<S> Building<S> {
     where
         S: Sink<'a>,
         requires cells { self.old.stack.height ≤ length cells.now }
-        requires filled { HasFilledIn S S.stands (around Open self.old.stack cells.now) self.old.sink }
+        requires filled { HasFilledIn S S.stands (pairs self.old.stack.top.due)
+            (around Open self.old.stack cells.now) self.old.sink }
         ensures cells { self.new.stack.height ≤ length cells.now }
-        ensures leads { LeadsFull S S.stands result (around Open self.old.stack cells.now) self.old.sink
+        ensures leads { LeadsFull S S.stands (pairs self.old.stack.top.due) result
+            (around Open self.old.stack cells.now) self.old.sink
             (standing Open self.new.stack cells.now) self.new.sink }
     {
         'levels: while self.stack.height > 0 {
+            let is_map = self.stack.top.due.is_in_map();
             self.stack.pop(cells);
-            match self.sink.end() {
+            match self.sink.end(is_map) {
                 Ok(true) => {}
                 _ => return Then::Stopped,
             }

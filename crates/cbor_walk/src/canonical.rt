@@ -10,7 +10,7 @@ ghost use Rattle.cbor_walk.specs.inner.Stop.{IsStopped, IsAnswered};
 ghost use Rattle.cbor_walk.specs.inner.Walked.{IsFull};
 
 use crate::level::{Due, Level};
-use crate::stack::{FEW, Stack, spread};
+use crate::stack::{FEW, MOST, SOME, Stack, lend};
 use crate::walk::{Walked, walk};
 use crate::within::within;
 use cbor_head::{KeyOrder, Keys, Limits, Reason, Refusal};
@@ -80,11 +80,38 @@ fn deeper<const KINDS: bool>(
 ) -> Result<usize, Refusal>
     requires kinds { asks limits.keys ≡ KINDS }
     requires full { IsFull order limits input.now stack few.now at }
-    requires few { length few.now ≤ 256 }
+    requires few { length few.now ≤ SOME }
     ensures whole { IfOk result (IsWhole order limits input.now) }
     ensures refused { IfErr result (IsStopped (strict order) limits input.now) }
 {
-    let mut cells = spread(few, Level::new(Due::Item, 0, 0));
+    let mut cells = [Level::new(Due::Item, 0, 0); SOME];
+    lend(few, &mut cells);
+    let mut stack = stack;
+    match walk::<KINDS>(input, at, &mut cells, &mut stack, limits, order) {
+        Walked::Whole(at) => Ok(at),
+        Walked::Refused(refusal) => Err(refusal),
+        Walked::Full(at) => deepest::<KINDS>(input, at, &cells, stack, limits, order),
+    }
+}
+
+// The same, with a cell for each container that may be open.
+#[inline(never)]
+fn deepest<const KINDS: bool>(
+    input: &[u8],
+    at: usize,
+    few: &[Level],
+    stack: Stack<Level>,
+    limits: Limits,
+    order: KeyOrder,
+) -> Result<usize, Refusal>
+    requires kinds { asks limits.keys ≡ KINDS }
+    requires full { IsFull order limits input.now stack few.now at }
+    requires few { length few.now ≤ MOST }
+    ensures whole { IfOk result (IsWhole order limits input.now) }
+    ensures refused { IfErr result (IsStopped (strict order) limits input.now) }
+{
+    let mut cells = [Level::new(Due::Item, 0, 0); MOST];
+    lend(few, &mut cells);
     let mut stack = stack;
     match walk::<KINDS>(input, at, &mut cells, &mut stack, limits, order) {
         Walked::Whole(at) => Ok(at),

@@ -15,48 +15,60 @@ impl<'a> Sink<'a> for CanonBuilder {
     ghost holds = { canon_holds };
 
     #[inline(always)]
-    fn leaf(&mut self, major: Major, number: u64) -> Result<(), AllocError> {
+    fn leaf(&mut self, _is_key: bool, major: Major, number: u64) -> Result<(), AllocError> {
         self.leaf(major, number)?;
         Ok(())
     }
 
     #[inline(always)]
-    fn string(&mut self, is_text: bool, front: &'a [u8], count: usize) -> Result<(), AllocError> {
+    fn string(
+        &mut self,
+        _is_key: bool,
+        is_text: bool,
+        front: &'a [u8],
+        count: usize,
+    ) -> Result<(), AllocError> {
         self.front_string(string_type(is_text), front, count)?;
         Ok(())
     }
 
     #[inline(always)]
-    fn begin_string(&mut self, is_text: bool) -> Result<(), AllocError> {
+    fn begin_string(&mut self, _is_key: bool, is_text: bool) -> Result<(), AllocError> {
         self.begin_string(string_type(is_text))
     }
 
     #[inline(always)]
-    fn chunk(&mut self, _is_text: bool, front: &'a [u8], count: usize) -> Result<(), AllocError> {
+    fn chunk(
+        &mut self,
+        _is_key: bool,
+        _is_text: bool,
+        front: &'a [u8],
+        count: usize,
+    ) -> Result<(), AllocError> {
         self.front_bytes(front, count)
     }
 
     #[inline(always)]
-    fn end_string(&mut self, _is_text: bool) -> Result<(), AllocError> {
+    fn end_string(&mut self, _is_key: bool, _is_text: bool) -> Result<(), AllocError> {
         self.end_string()?;
         Ok(())
     }
 
     #[inline(always)]
-    fn begin(&mut self, major: Major, number: u64) -> Result<(), AllocError> {
+    fn begin(&mut self, _is_key: bool, major: Major, number: u64) -> Result<(), AllocError> {
         self.begin(major, number)?;
         Ok(())
     }
 
     #[inline(always)]
-    fn end(&mut self) -> Result<bool, AllocError> {
+    fn end(&mut self, _is_map: bool) -> Result<bool, AllocError> {
         self.end_if_distinct()
     }
 }
 
-// The type of a string.
+/// The type of a string.
 #[inline(always)]
-pub(crate) fn string_type(is_text: bool) -> Major
+pub fn string_type(is_text: bool) -> Major
     ensures { result ≡ string_major is_text }
 {
     if is_text { Major::Text } else { Major::Bytes }

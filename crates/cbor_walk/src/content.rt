@@ -23,9 +23,10 @@ impl<S> Building<S> {
     ) -> Part<'a>
     where
         S: Sink<'a>,
-        requires head { IsHeadDue S S.stands (string_major is_text) count behind.now self.old.sink }
+        requires head { IsHeadDue S S.stands (string_major is_text) count behind.now
+            self.old.stack.top self.old.sink }
         ensures takes { TakesHead S S.stands result (string_major is_text) count behind.now
-            self.old.sink self.new.sink }
+            self.old.stack.top self.old.sink self.new.sink }
         ensures stack { self.new.stack ≡ self.old.stack }
         ensures kind { IsItem result }
         ensures front { TakesHeadFront result (string_major is_text) count behind.now }
@@ -33,7 +34,8 @@ impl<S> Building<S> {
         let Some(size) = payload_size(is_text, count, behind) else {
             return Part::Stopped;
         };
-        match self.sink.string(is_text, behind, size) {
+        let is_key = self.stack.top.due.is_key();
+        match self.sink.string(is_key, is_text, behind, size) {
             Ok(()) => Part::Item(&behind[size..]),
             Err(_) => Part::Stopped,
         }
@@ -43,14 +45,16 @@ impl<S> Building<S> {
     pub(crate) fn take_chunks<'a>(&mut self, is_text: bool, behind: &'a [u8]) -> Part<'a>
     where
         S: Sink<'a>,
-        requires opener { IsDueFor S S.stands self.old.sink (chunked_from is_text behind.now) }
+        requires opener { IsDueFor S S.stands self.old.stack.top self.old.sink
+            (chunked_from is_text behind.now) }
         ensures takes { TakesItem S S.stands result (chunked_from is_text behind.now)
-            self.old.sink self.new.sink }
+            self.old.stack.top self.old.sink self.new.sink }
         ensures stack { self.new.stack ≡ self.old.stack }
         ensures kind { IsItem result }
         ensures front { TakesScalar result (chunked_from is_text behind.now) }
     {
-        let Ok(()) = self.sink.begin_string(is_text) else {
+        let is_key = self.stack.top.due.is_key();
+        let Ok(()) = self.sink.begin_string(is_key, is_text) else {
             return Part::Stopped;
         };
         let mut rest = behind;
@@ -59,7 +63,7 @@ impl<S> Building<S> {
                 return Part::Stopped;
             };
             if *first == 0xff {
-                return match self.sink.end_string(is_text) {
+                return match self.sink.end_string(is_key, is_text) {
                     Ok(()) => Part::Item(behind),
                     Err(_) => Part::Stopped,
                 };
@@ -70,7 +74,7 @@ impl<S> Building<S> {
             let Some(size) = payload_size(is_text, head.number, head.rest) else {
                 return Part::Stopped;
             };
-            let Ok(()) = self.sink.chunk(is_text, head.rest, size) else {
+            let Ok(()) = self.sink.chunk(is_key, is_text, head.rest, size) else {
                 return Part::Stopped;
             };
             rest = &head.rest[size..];

@@ -71,7 +71,8 @@ impl<S> Building<S> {
         if let Due::Value = self.stack.top.due {
             return Part::Stopped;
         }
+        let is_map = self.stack.top.due.is_in_map();
         self.stack.pop(cells);
-        self.end(behind)
+        self.end(is_map, behind)
     }
 }

@@ -1,9 +1,10 @@
 //! Short items and short heads at the front of a slice: fast, and where one isn't found, nothing is
 //! said.
 
-ghost use Rattle.std.specs.Prelude.{◌≡◌, ◌<◌, ◌≤◌, ◌-◌, ◌*◌, ◌/◌, ◌^◌, ◌∷◌, ℕ, List, IfSome};
+ghost use Rattle.std.specs.Prelude.{◌≡◌, ◌<◌, ◌≤◌, ◌-◌, ◌*◌, ◌/◌, ◌^◌, ◌∷◌, ℕ, List, true, IfSome};
 ghost use Rattle.cbor_walk.specs.inner.Leaves.{HasShortestHead};
-ghost use Rattle.cbor_walk.specs.inner.Items.{IsShortFront, IsShortString};
+ghost use Rattle.cbor_walk.specs.inner.Items.{IsShortFront, IsShortString, IsSaid};
+ghost use Rattle.cbor_walk.specs.inner.Kept.{IsFitFront};
 
 use crate::level::Due;
 use cbor_head::argument_bytes;
@@ -21,17 +22,20 @@ pub(crate) enum Short {
     Other,
 }
 
-/// What stands there, if it is a short item or head in its shortest form.
+/// What stands there, if it is a short item or head in its shortest form. Where kinds of keys are
+/// asked for and this is due, of a key that is neither an integer nor a text nothing is said.
 #[inline(always)]
-pub(crate) fn short_front(first: u8, rest: &[u8]) -> Short
+pub(crate) fn short_front<const KINDS: bool>(first: u8, rest: &[u8], due: Due) -> Short
     requires { (behind : List ℕ) × (rest.now ≡ first ∷ behind) }
-    ensures { IsShortFront result rest.now }
+    ensures front { IsShortFront result rest.now }
+    ensures fits { IsSaid result → KINDS ≡ true → due ≡ Due.Key → IsFitFront rest.now }
 {
     match first / 32 {
         0 | 1 => match head_size(first, rest) {
             0 => Short::Other,
             size => Short::Item(size),
         },
+        major if KINDS && major != 3 && matches!(due, Due::Key) => Short::Other,
         2 | 3 => string(first, rest),
         4 | 5 => container(first, rest),
         6 => match head_size(first, rest) {

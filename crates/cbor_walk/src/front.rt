@@ -13,7 +13,7 @@ use crate::building::{Building, Met};
 use crate::level::Due;
 use crate::open::Open;
 use crate::sink::Sink;
-use crate::stack::{FEW, Stack, spread};
+use crate::stack::{FEW, MOST, SOME, Stack, lend};
 use crate::within::within;
 use cbor_builder::CanonBuilder;
 use cbor_head::{KeyOrder, Keys, Limits};
@@ -98,7 +98,7 @@ fn deeper<'a, S: Sink<'a>, const KINDS: bool>(
     few: &[Open],
     depth: usize,
 ) -> Option<&'a [u8]>
-    requires few { length few.now ≤ 256 }
+    requires few { length few.now ≤ SOME }
     requires full { building.old.stack.height ≡ length few.now }
     requires due { IsDueIn S S.stands depth (standing Open building.old.stack few.now) building.old.sink rest.now }
     ensures built { (start : S) (input : List ℕ)
@@ -109,7 +109,36 @@ fn deeper<'a, S: Sink<'a>, const KINDS: bool>(
         → KeepsBefore depth keys input rest.now
         → IfSome result (λ behind. KeepsBefore depth keys input behind.now) }
 {
-    let mut cells = spread(few, Open::counted(Due::Item, 0));
+    let mut cells = [Open::counted(Due::Item, 0); SOME];
+    lend(few, &mut cells);
+    match building.walk::<KINDS>(rest, &mut cells, depth) {
+        Met::Whole(behind) => Some(behind),
+        Met::Full(rest) => deepest::<S, KINDS>(building, rest, &cells, depth),
+        Met::Stopped => None,
+    }
+}
+
+// The same, with a cell for each container that may be open.
+#[inline(never)]
+fn deepest<'a, S: Sink<'a>, const KINDS: bool>(
+    building: &mut Building<S>,
+    rest: &'a [u8],
+    few: &[Open],
+    depth: usize,
+) -> Option<&'a [u8]>
+    requires few { length few.now ≤ MOST }
+    requires full { building.old.stack.height ≡ length few.now }
+    requires due { IsDueIn S S.stands depth (standing Open building.old.stack few.now) building.old.sink rest.now }
+    ensures built { (start : S) (input : List ℕ)
+        → IsDue S S.stands start depth input (standing Open building.old.stack few.now) building.old.sink rest.now
+        → IfSome result (λ behind. IsBuilt S S.stands start depth input building.new.sink behind.now) }
+    ensures kept { KINDS ≡ true → (keys : Keys) (start : S) (input : List ℕ)
+        → IsDue S S.stands start depth input (standing Open building.old.stack few.now) building.old.sink rest.now
+        → KeepsBefore depth keys input rest.now
+        → IfSome result (λ behind. KeepsBefore depth keys input behind.now) }
+{
+    let mut cells = [Open::counted(Due::Item, 0); MOST];
+    lend(few, &mut cells);
     match building.walk::<KINDS>(rest, &mut cells, depth) {
         Met::Whole(behind) => Some(behind),
         _ => None,

@@ -1,5 +1,8 @@
 //! An open container.
 
+ghost use Rattle.std.specs.Prelude.{◌≡◌};
+ghost use Rattle.cbor_walk.specs.inner.Building.{awaits, pairs};
+
 /// What is due in a container.
 #[derive(Clone, Copy)]
 pub(crate) enum Due {
@@ -9,6 +12,24 @@ pub(crate) enum Due {
     Key,
     /// A value of a map.
     Value,
+}
+
+impl Due {
+    /// Whether it is a key.
+    #[inline(always)]
+    pub(crate) fn is_key(self) -> bool
+        ensures { result ≡ awaits self }
+    {
+        matches!(self, Due::Key)
+    }
+
+    /// Whether it is due in a map.
+    #[inline(always)]
+    pub(crate) fn is_in_map(self) -> bool
+        ensures { result ≡ pairs self }
+    {
+        !matches!(self, Due::Item)
+    }
 }
 
 /// An open container.

@@ -5,8 +5,7 @@
 //! [`give_front`] goes over any valid item, whose parts it gives to a [`Sink`], and stops without a
 //! word at what is none; [`build_front`] has it give them to a builder of canonical bytes. Both
 //! hold what is due in each open container in cells that are made as they are wanted, so that depth
-//! that is not used costs nothing. A sink that keeps items in a form of its own finds equal keys by
-//! [`KeyBytes`].
+//! that is not used costs nothing.
 #![tactic(auto)]
 
 mod any_item;
@@ -18,7 +17,6 @@ mod content;
 mod endless;
 mod fast;
 mod front;
-mod key_bytes;
 mod kinds;
 mod level;
 mod open;
@@ -30,6 +28,6 @@ mod walk;
 mod within;
 
 pub use canonical::canonical_front;
+pub use canonical_sink::string_type;
 pub use front::{BuiltFront, build_front, give_front};
-pub use key_bytes::KeyBytes;
 pub use sink::Sink;

@@ -1,7 +1,7 @@
 //! What is still to come in an open container, with a length or without.
 
 ghost use Rattle.std.specs.Prelude.{◌≡◌, Some, None, true, false};
-ghost use Rattle.cbor_walk.specs.inner.Building.{after, counted, endless};
+ghost use Rattle.cbor_walk.specs.inner.Building.{after, counted, endless, pairs};
 
 use crate::level::Due;
 
@@ -45,6 +45,7 @@ impl Open {
     pub(crate) fn advance(&mut self) -> bool
         ensures more { result ≡ true → after self.old ≡ Some self.new }
         ensures full { result ≡ false → after self.old ≡ None }
+        ensures kind { pairs self.new.due ≡ pairs self.old.due }
     {
         match self.due {
             Due::Key => {

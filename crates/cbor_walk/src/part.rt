@@ -28,6 +28,22 @@ pub(crate) enum Part<'a> {
     Stopped,
 }
 
+impl<'a> Part<'a> {
+    // The same, taken apart and put together again: so what takes a part has its answer in registers,
+    // though a call writes its own into memory.
+    #[inline(always)]
+    fn unpacked(self) -> Part<'a>
+        ensures { result ≡ self.entry }
+    {
+        match self {
+            Part::Item(behind) => Part::Item(behind),
+            Part::Head(behind) => Part::Head(behind),
+            Part::Full => Part::Full,
+            Part::Stopped => Part::Stopped,
+        }
+    }
+}
+
 impl<S> Building<S> {
     /// Takes what stands in front, whether or not kinds of keys are asked for: each walk has a copy of
     /// its own, which is made part of its loop.
@@ -53,7 +69,7 @@ impl<S> Building<S> {
         };
         let (kind, low) = (*first / 32, *first % 32);
         if low > 27 {
-            return self.take_endless(*first, behind, cells, depth);
+            return self.take_endless(*first, behind, cells, depth).unpacked();
         }
         let Some(head) = read_argument(low, behind) else {
             return Part::Stopped;
@@ -64,8 +80,12 @@ impl<S> Building<S> {
             1 => self.give_leaf(Major::Negative, number, behind),
             2 => self.take_string(false, number, behind),
             3 => self.take_string(true, number, behind),
-            4 => self.take_counted(Major::Array, Due::Item, number, behind, cells, depth),
-            5 => self.take_counted(Major::Map, Due::Key, number, behind, cells, depth),
+            4 => self
+                .take_counted(Major::Array, Due::Item, number, behind, cells, depth)
+                .unpacked(),
+            5 => self
+                .take_counted(Major::Map, Due::Key, number, behind, cells, depth)
+                .unpacked(),
             6 => {
                 let opened = Open::counted(Due::Item, 0);
                 self.open(Major::Tag, number, opened, behind, cells, depth)
@@ -85,13 +105,14 @@ impl<S> Building<S> {
     where
         S: Sink<'a>,
         requires kind { IsLeaf major }
-        requires head { IsHeadDue S S.stands major number behind.now self.old.sink }
-        ensures takes { TakesHead S S.stands result major number behind.now self.old.sink self.new.sink }
+        requires head { IsHeadDue S S.stands major number behind.now self.old.stack.top self.old.sink }
+        ensures takes { TakesHead S S.stands result major number behind.now self.old.stack.top
+            self.old.sink self.new.sink }
         ensures stack { self.new.stack ≡ self.old.stack }
         ensures kind { IsItem result }
         ensures front { TakesHeadFront result major number behind.now }
     {
-        match self.sink.leaf(major, number) {
+        match self.sink.leaf(self.stack.top.due.is_key(), major, number) {
             Ok(()) => Part::Item(behind),
             Err(_) => Part::Stopped,
         }
@@ -128,10 +149,10 @@ impl<S> Building<S> {
         if self.stack.height >= depth {
             return Part::Stopped;
         }
-        let Ok(()) = self.sink.begin(major, 0) else {
+        let Ok(()) = self.sink.begin(self.stack.top.due.is_key(), major, 0) else {
             return Part::Stopped;
         };
-        self.end(behind)
+        self.end(due.is_key(), behind)
     }
 
     // The head of a container, which stands before these bytes; in it this is to come.
@@ -149,7 +170,7 @@ impl<S> Building<S> {
         S: Sink<'a>,
         requires kind { IsContainer major }
         requires cells { self.old.stack.height ≤ length cells.old }
-        requires opener { IsOpenerDue S S.stands major number opened behind.now self.old.sink }
+        requires opener { IsOpenerDue S S.stands major number opened behind.now self.old.stack.top self.old.sink }
         ensures cells { self.new.stack.height ≤ length cells.new }
         ensures takes { TakesOpener S S.stands result depth major number opened behind.now
             (standing Open self.old.stack cells.old) self.old.sink
@@ -163,25 +184,25 @@ impl<S> Building<S> {
         if self.stack.height >= cells.len() {
             return Part::Full;
         }
-        let Ok(()) = self.sink.begin(major, number) else {
+        let Ok(()) = self.sink.begin(self.stack.top.due.is_key(), major, number) else {
             return Part::Stopped;
         };
         self.stack.push(cells, opened);
         Part::Head(behind)
     }
 
-    // The innermost container of the sink has no more to come, before these bytes.
+    // The innermost container of the sink, a map or not, has no more to come, before these bytes.
     #[inline(always)]
-    pub(crate) fn end<'a>(&mut self, behind: &'a [u8]) -> Part<'a>
+    pub(crate) fn end<'a>(&mut self, is_map: bool, behind: &'a [u8]) -> Part<'a>
     where
         S: Sink<'a>,
-        requires full { IsToEndFor S S.stands self.old.sink behind.now }
-        ensures ends { EndsItem S S.stands result behind.now self.old.sink self.new.sink }
+        requires full { IsToEndFor S S.stands is_map self.old.sink behind.now }
+        ensures ends { EndsItem S S.stands is_map result behind.now self.old.sink self.new.sink }
         ensures stack { self.new.stack ≡ self.old.stack }
         ensures kind { IsItem result }
         ensures before { EndsBefore result behind.now }
     {
-        match self.sink.end() {
+        match self.sink.end(is_map) {
             Ok(true) => Part::Item(behind),
             _ => Part::Stopped,
         }

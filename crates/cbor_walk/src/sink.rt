@@ -14,8 +14,9 @@ ghost use Rattle.cbor_walk.specs.Sink.{BeginsString, IsChunkDue, GrowsString, En
 use cbor_head::Major;
 use std::alloc::AllocError;
 
-/// What takes the parts of a valid item, as a walk over a slice comes to them. After a call was
-/// refused memory, or a container ended with equal keys, it is given nothing more.
+/// What takes the parts of a valid item, as a walk over a slice comes to them. Of each item it is
+/// told whether it is a key. After a call was refused memory, or a container ended with equal keys,
+/// it is given nothing more.
 pub trait Sink<'a> {
     // Where the item stands whose parts it took since the first state.
     ghost stands: { Self → Self → Standing → Type 0 };
@@ -25,46 +26,59 @@ pub trait Sink<'a> {
     ghost holds: { Self → Self → List Level → Bool → List ℕ → Type 0 };
 
     /// An integer or a simple value.
-    fn leaf(&mut self, major: Major, number: u64) -> Result<(), AllocError>
+    fn leaf(&mut self, is_key: bool, major: Major, number: u64) -> Result<(), AllocError>
         requires kind { IsLeaf major }
         requires simple { major ≡ majors.Simple → IsSimple number }
-        requires due { IsItemDue Self stands self.old }
-        ensures { OnOk result (Gives Self stands (leaf_value major number) self.old self.new) };
+        requires due { IsItemDue Self stands is_key self.old }
+        ensures { OnOk result (Gives Self stands is_key (leaf_value major number) self.old self.new) };
 
     /// A string in one piece, whose content is the first so many of these bytes.
-    fn string(&mut self, is_text: bool, front: &'a [u8], count: usize) -> Result<(), AllocError>
+    fn string(
+        &mut self,
+        is_key: bool,
+        is_text: bool,
+        front: &'a [u8],
+        count: usize,
+    ) -> Result<(), AllocError>
         requires within { count ≤ length front.now }
         requires utf8 { is_text ≡ true → IsUtf8 (take count front.now) }
-        requires due { IsItemDue Self stands self.old }
-        ensures { OnOk result (Gives Self stands (string_value is_text (take count front.now))
+        requires due { IsItemDue Self stands is_key self.old }
+        ensures { OnOk result (Gives Self stands is_key (string_value is_text (take count front.now))
             self.old self.new) };
 
     /// A string in chunks begins.
-    fn begin_string(&mut self, is_text: bool) -> Result<(), AllocError>
-        requires due { IsItemDue Self stands self.old }
-        ensures { OnOk result (BeginsString Self stands holds is_text self.old self.new) };
+    fn begin_string(&mut self, is_key: bool, is_text: bool) -> Result<(), AllocError>
+        requires due { IsItemDue Self stands is_key self.old }
+        ensures { OnOk result (BeginsString Self stands holds is_key is_text self.old self.new) };
 
     /// A chunk of it, whose content is the first so many of these bytes.
-    fn chunk(&mut self, is_text: bool, front: &'a [u8], count: usize) -> Result<(), AllocError>
+    fn chunk(
+        &mut self,
+        is_key: bool,
+        is_text: bool,
+        front: &'a [u8],
+        count: usize,
+    ) -> Result<(), AllocError>
         requires within { count ≤ length front.now }
         requires utf8 { is_text ≡ true → IsUtf8 (take count front.now) }
-        requires due { IsChunkDue Self holds is_text self.old }
-        ensures { OnOk result (GrowsString Self holds is_text (take count front.now)
+        requires due { IsChunkDue Self holds is_key is_text self.old }
+        ensures { OnOk result (GrowsString Self holds is_key is_text (take count front.now)
             self.old self.new) };
 
     /// The string ends.
-    fn end_string(&mut self, is_text: bool) -> Result<(), AllocError>
-        requires due { IsChunkDue Self holds is_text self.old }
-        ensures { OnOk result (EndsString Self stands holds is_text self.old self.new) };
+    fn end_string(&mut self, is_key: bool, is_text: bool) -> Result<(), AllocError>
+        requires due { IsChunkDue Self holds is_key is_text self.old }
+        ensures { OnOk result (EndsString Self stands holds is_key is_text self.old self.new) };
 
     /// An array, a map or a tag begins; a tag with its number.
-    fn begin(&mut self, major: Major, number: u64) -> Result<(), AllocError>
+    fn begin(&mut self, is_key: bool, major: Major, number: u64) -> Result<(), AllocError>
         requires kind { IsContainer major }
-        requires due { IsItemDue Self stands self.old }
-        ensures { OnOk result (Opens Self stands major number self.old self.new) };
+        requires due { IsItemDue Self stands is_key self.old }
+        ensures { OnOk result (Opens Self stands is_key major number self.old self.new) };
 
-    /// The innermost container ends. False where two of its keys are equal.
-    fn end(&mut self) -> Result<bool, AllocError>
-        requires full { IsContainerFull Self stands self.old }
-        ensures { IfOk result (λ is_distinct. IsTrue is_distinct → Ends Self stands self.old self.new) };
+    /// The innermost container ends, a map or not. False where two of its keys are equal.
+    fn end(&mut self, is_map: bool) -> Result<bool, AllocError>
+        requires full { IsContainerFull Self stands is_map self.old }
+        ensures { IfOk result (λ is_distinct. IsTrue is_distinct
+            → Ends Self stands is_map self.old self.new) };
 }

@@ -192,17 +192,19 @@ impl Stack<Level> {
     }
 }
 
-/// Most items are no deeper than this.
+/// Most items are no deeper than this,
 pub(crate) const FEW: usize = 16;
+/// few are deeper than this,
+pub(crate) const SOME: usize = 128;
+/// and none than this.
+pub(crate) const MOST: usize = MAX_DEPTH as usize;
 
-const MOST: usize = MAX_DEPTH as usize;
-
-/// All cells, of which these are the first.
-pub(crate) fn spread<L: Copy>(few: &[L], blank: L) -> [L; MOST]
-    requires { length few.now ≤ 256 }
-    ensures { take (length few.now) result ≡ few.now }
+/// These become the first of more cells. They are the caller's: to hand them out would take their
+/// size once more of the stack.
+#[inline(always)]
+pub(crate) fn lend<L: Copy>(few: &[L], cells: &mut [L])
+    requires { length few.now ≤ length cells.old }
+    ensures { take (length few.now) cells.new ≡ few.now }
 {
-    let mut cells = [blank; MOST];
     cells[..few.len()].copy_from_slice(few);
-    cells
 }

@@ -3,11 +3,12 @@
 ghost use Rattle.std.specs.Prelude.{◌≡◌, ◌≤◌, ◌<◌, ◌+◌, ◌^◌, length};
 ghost use Rattle.cbor_walk.specs.inner.Walked.{Takes};
 
-use crate::any_item::{Any, any_item};
+use crate::any_item::{Any, any_item, misplaced};
 use crate::fast::{Short, short_front};
+use crate::kinds::is_other_key;
 use crate::level::Level;
 use crate::stack::Stack;
-use cbor_head::Refusal;
+use cbor_head::{Reason, Refusal};
 
 /// What was taken where an item was due.
 #[derive(Clone, Copy)]
@@ -22,9 +23,10 @@ pub(crate) enum Taken {
     Full,
 }
 
-/// Takes what stands at the front of these bytes, at this place of the input.
+/// Takes what stands at the front of these bytes, at this place of the input. Where the limits ask for
+/// kinds of keys, it looks at the first byte of each.
 #[inline(always)]
-pub(crate) fn take_next(
+pub(crate) fn take_next<const KINDS: bool>(
     rest: &[u8],
     at: usize,
     cells: &mut [Level],
@@ -36,12 +38,12 @@ pub(crate) fn take_next(
     requires depth { stack.old.height ≤ depth }
     ensures cells { stack.new.height ≤ length cells.new }
     ensures depth { stack.new.height ≤ depth }
-    ensures takes { Takes result depth rest.now at stack.old cells.old stack.new cells.new }
+    ensures takes { Takes result KINDS depth rest.now at stack.old cells.old stack.new cells.new }
 {
     let Some((first, _)) = rest.split_first() else {
-        return take_any(rest, at, cells, stack, depth);
+        return take_any::<KINDS>(rest, at, cells, stack, depth);
     };
-    match short_front(*first, rest) {
+    match short_front::<KINDS>(*first, rest, stack.top.due) {
         Short::Item(used) => return Taken::Item(used),
         Short::Opens(due, left, used) => {
             if stack.height < depth && stack.height < cells.len() {
@@ -51,11 +53,11 @@ pub(crate) fn take_next(
         }
         Short::Other => {}
     }
-    take_any(rest, at, cells, stack, depth)
+    take_any::<KINDS>(rest, at, cells, stack, depth)
 }
 
 // The same, slower, of anything.
-fn take_any(
+fn take_any<const KINDS: bool>(
     rest: &[u8],
     at: usize,
     cells: &mut [Level],
@@ -67,8 +69,12 @@ fn take_any(
     requires depth { stack.old.height ≤ depth }
     ensures cells { stack.new.height ≤ length cells.new }
     ensures depth { stack.new.height ≤ depth }
-    ensures takes { Takes result depth rest.now at stack.old cells.old stack.new cells.new }
+    ensures takes { Takes result KINDS depth rest.now at stack.old cells.old stack.new cells.new }
 {
+    if is_other_key::<KINDS>(stack.top.due, rest) {
+        let reason = misplaced(rest[0], stack.height < depth).unwrap_or(Reason::KeyKind);
+        return Taken::Refused(Refusal::new(reason, at as u64, at as u64 + 1));
+    }
     match any_item(rest, at, stack.height < depth) {
         Any::Leaf(used) => Taken::Item(used),
         Any::Opens(due, left, used) => {

@@ -6,8 +6,6 @@ ghost use Rattle.cbor_walk.specs.inner.Kept.{asks};
 ghost use Rattle.cbor_walk.specs.inner.Stack.{standing};
 ghost use Rattle.cbor_walk.specs.inner.Walked.{IsWalked};
 
-use crate::any_item::misplaced;
-use crate::kinds::is_other_key;
 use crate::level::{Level, Next};
 use crate::stack::Stack;
 use crate::take::{Taken, take_next};
@@ -45,11 +43,7 @@ pub(crate) fn walk<const KINDS: bool>(
     let mut at = start;
     'items: loop {
         let rest = &input[at..];
-        if is_other_key::<KINDS>(stack.top.due, rest) {
-            let reason = misplaced(rest[0], stack.height < depth).unwrap_or(Reason::KeyKind);
-            return Walked::Refused(Refusal::new(reason, at as u64, at as u64 + 1));
-        }
-        match take_next(rest, at, cells, stack, depth) {
+        match take_next::<KINDS>(rest, at, cells, stack, depth) {
             Taken::Head(used) => at += used,
             Taken::Item(used) => {
                 at += used;

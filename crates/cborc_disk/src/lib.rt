@@ -4,7 +4,5 @@
 
 mod disk;
 mod replacement;
-#[cfg(test)]
-mod tests;
 
 pub use disk::{Disk, LONGEST, append_from};

@@ -16,7 +16,7 @@ const VERSION: &str = "\
 Orders of keys: bytewise (RFC 8949, section 4.2.1), length (section 4.2.3)
 Kinds of keys: any, basic (integers and texts)
 Limits: depth 0 to 256, bytes 0 to 4611686018427387904
-Proved with rattle-kit-13f: each function is safe, returns, and meets its contract";
+Proved with rattle-kit-13: each function is safe, returns, and meets its contract";
 
 /// What stands below the program's help.
 const BELOW_HELP: &str = "\

@@ -15,10 +15,10 @@ use cborc_files::Folder;
 use std::alloc::Global;
 
 // How many bytes are read at first, where the limit is no lower.
-const FIRST: u64 = 1_048_577;
+const FIRST: u64 = 1_310_721;
 
 /// The first bytes of the input at this path: as many as decide whether it is one item within the
-/// limits, no more than twice as many as the item has, or 2^20 and one. Hex text is read to its end.
+/// limits, no more than twice as many as the item has, or 1,310,721. Hex text is read to its end.
 pub fn read_item<'a, F: Folder>(
     alloc: Global,
     files: &mut F,

@@ -4,7 +4,7 @@ ghost use Rattle.std.specs.Prelude.{◌≡◌, ◌<◌, ◌≤◌, IfSome, None}
 ghost use Rattle.cbor_head.specs.Limits.{bounds, AreBounds};
 ghost use Rattle.naltvigo.specs.Settings.{key_order, key_kinds, item_limits, AreLimits};
 
-use cbor_head::{KeyOrder, Keys, Limits};
+use cbor_head::{KeyOrder, Keys, Limits, MAX_DEPTH};
 
 // The order of this number.
 pub(crate) fn order_numbered(number: u32) -> Option<KeyOrder>
@@ -32,7 +32,7 @@ pub(crate) fn bounds_of(depth: u32, bytes: u64) -> Option<Limits>
     ensures value { IfSome result (λ l. (l ≡ bounds depth bytes) × AreBounds (bounds depth bytes)) }
     ensures none { result ≡ None → ¬ AreBounds (bounds depth bytes) }
 {
-    if depth > 256 {
+    if depth > u32::from(MAX_DEPTH) {
         return None;
     }
     Limits::new(depth as u16, bytes)

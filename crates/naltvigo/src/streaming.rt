@@ -100,7 +100,7 @@ pub extern "C" fn naltvigo_machine_take_raw(
         return BAD_MACHINE;
     };
     let taken = take_events(&mut taking, input, events, refusal);
-    *machine = taking.save();
+    taking.save_into(machine);
     *used = taken.used;
     *told = taken.told;
     taken.status

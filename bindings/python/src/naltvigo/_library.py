@@ -31,12 +31,6 @@ class Told(ctypes.Structure):
     _fields_ = [("place", c_uint64), ("number", c_uint64), ("kind", c_uint32), ("width", c_uint32)]
 
 
-class Frame(ctypes.Structure):
-    """struct naltvigo_frame"""
-
-    _fields_ = [("left", c_uint64), ("kind", ctypes.c_uint8)]
-
-
 class Machine(ctypes.Structure):
     """struct naltvigo_machine"""
 
@@ -44,7 +38,8 @@ class Machine(ctypes.Structure):
         *((name, c_uint64) for name in ("bytes", "taken", "told", "number", "place")),
         *((name, ctypes.c_uint16) for name in ("depth", "open")),
         *((name, ctypes.c_uint8) for name in ("position", "kind", "width", "left", "chunk", "reason")),
-        ("frames", Frame * DEPTH_MAX),
+        ("lefts", c_uint64 * DEPTH_MAX),
+        ("kinds", ctypes.c_uint8 * DEPTH_MAX),
     ]
 
 

@@ -1,6 +1,6 @@
 //! What is open ends, and nothing of it is kept.
 
-ghost use Rattle.std.specs.Prelude.{reverse, ◌≡◌, ◌↔◌, IsTrue, IfOk, drop};
+ghost use Rattle.std.specs.Prelude.{reverse, ◌≡◌, ◌↔◌, IsTrue, IfOk, drop, take};
 ghost use Rattle.cbor_buffer.specs.Moved.{meant};
 ghost use Rattle.cbor_builder.specs.Built.{around};
 ghost use Rattle.cbor_canonical.specs.Parts.{HasNoRepeats};
@@ -13,7 +13,7 @@ ghost use Rattle.cbor_canonical.specs.Pairs.{HasDistinctBytes};
 
 use crate::builder::Core;
 use crate::frame::Shape;
-use crate::sort::put_in_order;
+use crate::sort::are_distinct;
 use std::alloc::AllocError;
 
 // Room for so many pairs stays.
@@ -34,7 +34,7 @@ impl Core {
         ensures around { IfOk result (λ distinct. IsTrue distinct
             → standing self.new ≡ around (standing self.old)) }
     {
-        if !self.give_up_pairs()? {
+        if !self.give_up_pairs() {
             return Ok(false);
         }
         self.out.settle(0)?;
@@ -47,33 +47,28 @@ impl Core {
 
     // The pairs of what is open are given up. False where two keys of it are equal.
     #[inline(always)]
-    fn give_up_pairs(&mut self) -> Result<bool, AllocError>
+    fn give_up_pairs(&mut self) -> bool
         requires laid { IsLaid self.old }
         requires closes { CanClose self.old.top.shape }
         ensures order { self.new.order ≡ self.old.order }
         ensures out { self.new.out ≡ self.old.out }
         ensures top { self.new.top ≡ self.old.top }
         ensures below { self.new.below.items ≡ self.old.below.items }
-        ensures distinct { IfOk result (λ distinct.
-            IsTrue distinct ↔ HasNoRepeats (innermost self.old)) }
-        ensures spans { IfOk result (λ distinct. IsTrue distinct
-            → self.new.spans.items ≡ outer_spans self.old.spans.items self.old.top.shape) }
+        ensures distinct { IsTrue result ↔ HasNoRepeats (innermost self.old) }
+        ensures spans { self.new.spans.items ≡ outer_spans self.old.spans.items self.old.top.shape }
     {
         let Shape::Map(first) = self.top.shape else {
-            return Ok(true);
+            return true;
         };
-        if !self.has_distinct_keys(first)? {
-            return Ok(false);
-        }
+        let is_distinct = self.has_distinct_keys(first);
         self.spans.truncate(first);
         self.spans.shrink_to(KEPT);
-        self.sorting.shrink_to(KEPT);
-        Ok(true)
+        is_distinct
     }
 
-    // Whether no two keys of the open map are equal.
+    // Whether no two keys of the open map are equal. Its spans are put in order.
     #[inline(always)]
-    fn has_distinct_keys(&mut self, first: usize) -> Result<bool, AllocError>
+    fn has_distinct_keys(&mut self, first: usize) -> bool
         requires fits { Fits self.old.order (meant self.old.out) self.old.spans.items
             self.old.top.from self.old.top.start self.old.top.rises (Map first) }
         requires keys { AreSameKeys self.old.out.buf (meant self.old.out)
@@ -82,18 +77,13 @@ impl Core {
         ensures out { self.new.out ≡ self.old.out }
         ensures top { self.new.top ≡ self.old.top }
         ensures below { self.new.below ≡ self.old.below }
-        ensures spans { self.new.spans ≡ self.old.spans }
-        ensures distinct { IfOk result (λ distinct. IsTrue distinct
-            ↔ HasDistinctBytes (pairs_from (meant self.old.out) self.old.spans.items first)) }
+        ensures spans { take first self.new.spans.items ≡ take first self.old.spans.items }
+        ensures distinct { IsTrue result
+            ↔ HasDistinctBytes (pairs_from (meant self.old.out) self.old.spans.items first) }
     {
         if self.top.rises {
-            return Ok(true);
+            return true;
         }
-        put_in_order(
-            self.out.as_slice(),
-            self.order,
-            &self.spans[first..],
-            &mut self.sorting,
-        )
+        are_distinct(self.out.as_slice(), self.order, &mut self.spans[first..])
     }
 }

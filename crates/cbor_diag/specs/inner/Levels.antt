@@ -1,6 +1,7 @@
 -- What is left of a text that is being written, by the containers that are open.
 use Rattle.std.specs.Prelude.{ℕ, ◌≡◌, ◌+◌, ◌<◌, ◌≤◌, max, false, List, [], ◌∷◌, ◌++◌, length, codes, Option, Some, None, Result, Ok, Err}
 use Rattle.cbor_head.specs.Value.{Value, depth, depth_all, depth_entries}
+use Rattle.cbor_head.specs.declared.limits.TheConstants.{MAX_DEPTH}
 use Rattle.cbor_diag.specs.inner.Layout.{laid_out, members_left, pairs_left}
 use Rattle.cbor_diag.specs.inner.Nodes.{entries_in, values_in}
 use Rattle.cbor_diag.specs.inner.Outbox.{HasPut, HasStopped}
@@ -41,11 +42,11 @@ module _ {N : Type 0} (see : N → Value) where
   -- within the greatest depth, the innermost first
   abbrev pub AreShallow : List (Level N) → Type 0
   AreShallow [] = Unit {0}
-  AreShallow (v ∷ vs) = (v.indent ≤ length vs) × (depth_left v.left + length vs + 1 ≤ 256) × AreShallow vs
+  AreShallow (v ∷ vs) = (v.indent ≤ length vs) × (depth_left v.left + length vs + 1 ≤ MAX_DEPTH) × AreShallow vs
 
   -- an item of this depth may begin there
   pub record IsDue (d indent : ℕ) (vs : List (Level N)) : Type 0 where
-    pub room : d + length vs ≤ 256
+    pub room : d + length vs ≤ MAX_DEPTH
     pub indented : indent ≤ length vs
     pub shallow : AreShallow vs
 

@@ -1,7 +1,7 @@
 //! A machine that is saved and restored.
 
 use super::{Told, join, limits};
-use cbor_events::{Machine, Out, SavedFrame, SavedMachine};
+use cbor_events::{Machine, Out, SavedMachine};
 use cbor_head::Limits;
 use std::alloc::{AllocError, Global};
 use std::process::Abort;
@@ -46,7 +46,7 @@ fn numbers_of_a_machine(rt: HostRuntime) {
     let saved = within_an_array(&rt);
     assert!(rt; (saved.depth, saved.bytes, saved.taken, saved.told) == (2, 8, 1, 1));
     assert!(rt; (saved.open, saved.position, saved.reason) == (1, 0, 0));
-    assert!(rt; saved.frames[0] == SavedFrame { left: 0, kind: 0 });
+    assert!(rt; (saved.lefts[0], saved.kinds[0]) == (0, 0));
     assert!(rt; Machine::restore(&saved).is_some());
 }
 

@@ -1,5 +1,5 @@
 -- What the numbers of a saved machine stand for.
-use Rattle.std.specs.Prelude.{ℕ, zero, suc, ◌≡◌, ◌≤◌, Bool, true, false, List, map, take, Option, Some, None}
+use Rattle.std.specs.Prelude.{ℕ, zero, suc, ◌≡◌, ◌≤◌, Bool, true, false, List, [], ◌∷◌, take, Option, Some, None}
 use Rattle.cbor_head.specs.Limits.{bounds, AreBounds}
 use Rattle.cbor_head.specs.Verdict.{refusal}
 use Rattle.cbor_head.specs.declared.reason.Reason.TheVariants.{TooLong, Reserved, NoIndefinite, Float, BadSimple, StrayBreak, BadChunk, TooDeep}
@@ -11,7 +11,6 @@ use Rattle.cbor_standing.specs.inner.Machine.{IsShown}
 use Rattle.cbor_steps.specs.State.{IsFit, IsSettled}
 use Rattle.cbor_steps.specs.declared.frame.Frame.{Frame}
 use Rattle.cbor_steps.specs.declared.frame.Frame.TheVariants as frames
-use Rattle.cbor_machine.specs.declared.machine.saved.SavedFrame.{SavedFrame}
 use Rattle.cbor_machine.specs.declared.machine.saved.SavedMachine.{SavedMachine}
 use Rattle.cbor_steps.specs.declared.opening.Numbered.{Numbered}
 use Rattle.cbor_steps.specs.declared.opening.Numbered.TheVariants as numbered
@@ -48,8 +47,10 @@ frame_by left (suc (suc (suc (suc zero)))) = frames.IndefiniteMap false
 frame_by left (suc (suc (suc (suc (suc zero))))) = frames.IndefiniteMap true
 frame_by left _ = frames.Tag
 
-abbrev pub frame_at : SavedFrame → Frame
-frame_at f = frame_by f.left f.kind
+abbrev pub frames_by : List ℕ → List ℕ → List Frame
+frames_by [] kinds = []
+frames_by (left ∷ lefts) [] = []
+frames_by (left ∷ lefts) (kind ∷ kinds) = frame_by left kind ∷ frames_by lefts kinds
 
 -- by the chunk's flag, the type, the width, what is left of the argument, and the number
 abbrev pub position_by : Bool → Numbered → Width → ℕ → ℕ → ℕ → Position
@@ -78,7 +79,7 @@ abbrev pub refusal_in : SavedMachine → Option Refusal
 refusal_in s = refusal_by s.place s.taken s.reason
 
 abbrev pub frames_in : SavedMachine → List Frame
-frames_in s = map frame_at (take s.open s.frames)
+frames_in s = frames_by (take s.open s.lefts) (take s.open s.kinds)
 
 -- The machine is the one of the numbers, and these are such as a machine can have.
 pub record IsHeld (s : SavedMachine) (m : MachineView) : Type 0 where

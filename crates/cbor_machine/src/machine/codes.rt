@@ -1,14 +1,13 @@
 //! The parts of a machine as the numbers that it is saved by, and back.
 
-ghost use Rattle.std.specs.Prelude.{◌≡◌, ℕ, ◌≤◌, ◌-◌, IfSome, length, map, take, drop};
+ghost use Rattle.std.specs.Prelude.{◌≡◌, ℕ, ◌≤◌, IfSome, length, take, drop};
 ghost use Rattle.cbor_automaton.specs.Reasons.{IsMachineReason};
-ghost use Rattle.cbor_machine.specs.Saved.{no_frames};
-ghost use Rattle.cbor_machine.specs.inner.Saved.{flag_at, frame_at, frame_by, kind_at, position_by, position_in};
+ghost use Rattle.cbor_machine.specs.inner.Saved.{flag_at, frame_by, frames_by, kind_at, position_by, position_in};
 ghost use Rattle.cbor_machine.specs.inner.Saved.{refusal_by, width_at};
 ghost use Rattle.cbor_steps.specs.Nest.{due_frame};
 
 use crate::machine::refusal_of;
-use crate::machine::saved::{SavedFrame, SavedMachine};
+use crate::machine::saved::SavedMachine;
 use cbor_head::{Reason, Refusal, Width};
 use cbor_steps::{Due, Frame, MOST_OPEN, Nest, Numbered, Position};
 
@@ -118,29 +117,34 @@ pub(crate) fn refusal_codes(refusal: Option<Refusal>) -> (u8, u64)
     }
 }
 
-pub(crate) fn saved_frames(frames: &[Frame]) -> [SavedFrame; MOST_OPEN]
-    requires { length frames.now ≤ MOST_OPEN }
-    ensures held { map frame_at (take (length frames.now) result) ≡ frames.now }
-    ensures zeros { drop (length frames.now) result ≡ no_frames (MOST_OPEN - length frames.now) }
+// Writes the open containers to the front of these.
+pub(crate) fn save_frames(nest: &Nest, lefts: &mut [u64], kinds: &mut [u8])
+    requires lefts { length nest.now ≤ length lefts.old }
+    requires kinds { length nest.now ≤ length kinds.old }
+    ensures held { frames_by (take (length nest.now) lefts.new) (take (length nest.now) kinds.new)
+        ≡ nest.now }
+    ensures lefts { drop (length nest.now) lefts.new ≡ drop (length nest.now) lefts.old }
+    ensures kinds { drop (length nest.now) kinds.new ≡ drop (length nest.now) kinds.old }
 {
-    let mut saved = [SavedFrame { left: 0, kind: 0 }; MOST_OPEN];
-    for (i, frame) in frames.iter().enumerate() {
-        saved[i] = saved_frame(*frame);
+    for i in 0..nest.len() {
+        let (left, kind) = frame_codes(nest.frame(i));
+        lefts[i] = left;
+        kinds[i] = kind;
     }
-    saved
 }
 
-fn saved_frame(frame: Frame) -> SavedFrame
-    ensures { frame_at result ≡ frame }
+// What is left of an open container, and its kind.
+fn frame_codes(frame: Frame) -> (u64, u8)
+    ensures { frame_by result.0 result.1 ≡ frame }
 {
     match frame {
-        Frame::Array(left) => SavedFrame { left, kind: 0 },
-        Frame::IndefiniteArray => SavedFrame { left: 0, kind: 1 },
-        Frame::Map(left, false) => SavedFrame { left, kind: 2 },
-        Frame::Map(left, true) => SavedFrame { left, kind: 3 },
-        Frame::IndefiniteMap(false) => SavedFrame { left: 0, kind: 4 },
-        Frame::IndefiniteMap(true) => SavedFrame { left: 0, kind: 5 },
-        Frame::Tag => SavedFrame { left: 0, kind: 6 },
+        Frame::Array(left) => (left, 0),
+        Frame::IndefiniteArray => (0, 1),
+        Frame::Map(left, false) => (left, 2),
+        Frame::Map(left, true) => (left, 3),
+        Frame::IndefiniteMap(false) => (0, 4),
+        Frame::IndefiniteMap(true) => (0, 5),
+        Frame::Tag => (0, 6),
     }
 }
 
@@ -219,13 +223,15 @@ pub(crate) fn refusal_at(code: u8, place: u64, read: u64) -> Option<Refusal>
     Some(refusal_of(reason, place, read))
 }
 
-pub(crate) fn nest_of(saved: &[SavedFrame]) -> Nest
-    requires { length saved.now ≤ MOST_OPEN }
-    ensures { result ≡ map frame_at saved.now }
+pub(crate) fn nest_of(lefts: &[u64], kinds: &[u8]) -> Nest
+    requires open { length lefts.now ≤ MOST_OPEN }
+    requires same { length kinds.now ≡ length lefts.now }
+    ensures frames { result ≡ frames_by lefts.now kinds.now }
+    ensures count { length result ≡ length lefts.now }
 {
     let mut nest = Nest::new();
-    for frame in saved {
-        nest.push(due_of(frame.kind), frame.left);
+    for i in 0..lefts.len() {
+        nest.push(due_of(kinds[i]), lefts[i]);
     }
     nest
 }

@@ -2,31 +2,20 @@
 
 ghost use Rattle.std.specs.Prelude.{◌≡◌, ◌↔◌, ◌*◌, ◌+◌, ◌^◌, ◌<◌, ◌≤◌, ◌-◌, IfSome, IsTrue, Some, drop};
 ghost use Rattle.cbor_standing.specs.MachineView.{MachineView};
-ghost use Rattle.cbor_machine.specs.Saved.{Holds, no_frames};
+ghost use Rattle.cbor_machine.specs.Saved.{AreZeros, Holds};
 ghost use Rattle.cbor_steps.specs.State.{IsFit, IsSettled};
 
 use crate::machine::Machine;
 use crate::machine::codes::{
-    codes_of, nest_of, position_of, refusal_at, refusal_codes, saved_frames,
+    codes_of, nest_of, position_of, refusal_at, refusal_codes, save_frames,
 };
 use cbor_head::{Limits, Width};
 use cbor_steps::{MOST_OPEN, Nest, Position, has_room};
 
-/// An open container of a saved machine.
-#[repr(C)]
-#[derive(Clone, Copy, Debug, PartialEq, Eq)]
-pub struct SavedFrame {
-    /// How many members, or pairs, follow the one that is due.
-    pub left: u64,
-    /// 0 an array, 1 one of indefinite length; 2 a map, 3 one whose value is due, 4 and 5 the same
-    /// of indefinite length; another number a tag.
-    pub kind: u8,
-}
-
 /// A machine as plain numbers, in the layout of C.
 ///
 /// `Machine::save` fills it, `Machine::restore` makes a machine of it. Who keeps one may read it,
-/// and writes nothing into it.
+/// and writes nothing into it. An open container takes nine bytes.
 #[repr(C)]
 #[derive(Clone, Copy, Debug, PartialEq, Eq)]
 pub struct SavedMachine {
@@ -57,35 +46,66 @@ pub struct SavedMachine {
     pub chunk: u8,
     /// The number of the reason that the item was refused for, 2 to 9; 0 where it was not.
     pub reason: u8,
-    /// The open containers, the outermost first, and zeros behind them.
-    pub frames: [SavedFrame; MOST_OPEN],
+    /// Of each open container, the outermost first, how many members, or pairs, follow the one that
+    /// is due.
+    pub lefts: [u64; MOST_OPEN],
+    /// What each is: 0 an array, 1 one of indefinite length; 2 a map, 3 one whose value is due, 4
+    /// and 5 the same of indefinite length; another number a tag.
+    pub kinds: [u8; MOST_OPEN],
 }
 
 impl Machine {
-    /// The machine as plain numbers.
+    /// The machine as plain numbers, with zeros behind the open containers.
     pub fn save(&self) -> SavedMachine
         ensures holds { Holds result self.now }
-        ensures zeros { drop self.now.open_count result.frames
-            ≡ no_frames (MOST_OPEN - self.now.open_count) }
+        ensures zeros { AreZeros (drop self.now.open_count result.lefts)
+            × AreZeros (drop self.now.open_count result.kinds) }
+    {
+        let mut saved = SavedMachine {
+            bytes: 0,
+            taken: 0,
+            told: 0,
+            number: 0,
+            place: 0,
+            depth: 0,
+            open: 0,
+            position: 0,
+            kind: 0,
+            width: 0,
+            left: 0,
+            chunk: 0,
+            reason: 0,
+            lefts: [0; MOST_OPEN],
+            kinds: [0; MOST_OPEN],
+        };
+        self.save_into(&mut saved);
+        saved
+    }
+
+    /// The same in place of what was saved there. Behind the open containers all stays.
+    pub fn save_into(&self, saved: &mut SavedMachine)
+        ensures holds { Holds saved.new self.now }
+        ensures lefts { drop self.now.open_count saved.new.lefts
+            ≡ drop self.now.open_count saved.old.lefts }
+        ensures kinds { drop self.now.open_count saved.new.kinds
+            ≡ drop self.now.open_count saved.old.kinds }
     {
         let codes = codes_of(self.position);
         let (reason, place) = refusal_codes(self.refusal);
-        SavedMachine {
-            bytes: self.limits.bytes(),
-            taken: self.taken,
-            told: self.told,
-            number: codes.number,
-            place,
-            depth: self.limits.depth(),
-            open: self.nest.len() as u16,
-            position: codes.position,
-            kind: codes.kind,
-            width: codes.width,
-            left: codes.left,
-            chunk: codes.chunk,
-            reason,
-            frames: saved_frames(self.nest.frames().as_slice()),
-        }
+        saved.bytes = self.limits.bytes();
+        saved.taken = self.taken;
+        saved.told = self.told;
+        saved.number = codes.number;
+        saved.place = place;
+        saved.depth = self.limits.depth();
+        saved.open = self.nest.len() as u16;
+        saved.position = codes.position;
+        saved.kind = codes.kind;
+        saved.width = codes.width;
+        saved.left = codes.left;
+        saved.chunk = codes.chunk;
+        saved.reason = reason;
+        save_frames(&self.nest, &mut saved.lefts, &mut saved.kinds);
     }
 
     /// The machine that these numbers hold: the one that was saved. None where they hold none, as
@@ -102,7 +122,8 @@ impl Machine {
             return None;
         }
         let position = position_of(saved);
-        let nest = nest_of(&saved.frames[..usize::from(saved.open)]);
+        let open = usize::from(saved.open);
+        let nest = nest_of(&saved.lefts[..open], &saved.kinds[..open]);
         if !is_fit(usize::from(saved.depth), position, &nest) {
             return None;
         }

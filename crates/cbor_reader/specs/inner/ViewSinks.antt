@@ -4,8 +4,7 @@ use Rattle.cbor_judging.specs.Levels.{Level, Standing, item_due}
 use Rattle.cbor_reader.specs.declared.view_sink.ViewSink.{ViewSink}
 use Rattle.cbor_reader.specs.inner.TreeValues.{level_values, values_at, IsFullRight}
 use Rattle.cbor_view.specs.Seen.{standing}
-use Rattle.cbor_walk.specs.KeyBytes.{keys_stand}
-use Rattle.cbor_walk.specs.Sink.{IsItemDue}
+use Rattle.cbor_key_bytes.specs.KeyBytes.{keys_stand}
 
 -- the canonical bytes of keys, and the views of what is complete
 abbrev pub view_stands : ViewSink → ViewSink → Standing → Type 0
@@ -15,4 +14,3 @@ view_stands start g st = keys_stand start.keys g.keys st × IsFullRight st × (s
 abbrev pub view_holds : ViewSink → ViewSink → List Level → Bool → List ℕ → Type 0
 view_holds start g ls is_text content =
     keys_stand start.keys g.keys (item_due ls) × (standing g.views ≡ level_values ls) × (g.joined ≡ content) × (is_text ≡ true → IsUtf8 content)
-    × IsItemDue ViewSink view_stands g

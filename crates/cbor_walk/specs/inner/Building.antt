@@ -21,7 +21,7 @@ use Rattle.cbor_walk.specs.declared.level.Due.TheVariants.{Item, Key, Value}
 use Rattle.cbor_walk.specs.declared.open.Open.{Open}
 use Rattle.cbor_walk.specs.declared.part.Part.{Part}
 use Rattle.cbor_walk.specs.declared.part.Part.TheVariants as part
-use Rattle.cbor_walk.specs.Sink.{IsOpened, StandsFull}
+use Rattle.cbor_walk.specs.Sink.{IsOpened, StandsFull, Told}
 
 -- ---- what is still to come in a container
 
@@ -62,6 +62,18 @@ after_due Value c = after_member (record c { due = Key })
 -- behind an item
 abbrev pub after : Open → Option Open
 after c = after_due c.due c
+
+-- a key is due
+abbrev pub awaits : Due → Bool
+awaits Key = true
+awaits Item = false
+awaits Value = false
+
+-- a key, or its value
+abbrev pub pairs : Due → Bool
+pairs Item = false
+pairs Key = true
+pairs Value = true
 
 -- ---- parts
 
@@ -184,15 +196,15 @@ module _ (S : Type 0) (stands : S → S → Standing → Type 0) where
     pub bytes : input ≡ (bytes_before ls ++ spell item) ++ rest
     pub small : length input < 2 ^ 63
 
-  -- a container is whole, and is to end in the sink
-  pub record IsToEnd (start : S) (d : ℕ) (input : List ℕ) (cs : List Open) (g : S) (rest : List ℕ) : Type 0 where
+  -- a container is whole, a map or not, and is to end in the sink
+  pub record IsToEnd (is_map : Bool) (start : S) (d : ℕ) (input : List ℕ) (cs : List Open) (g : S) (rest : List ℕ) : Type 0 where
     pub ls : List Level
     pub item : Spelling
     pub levels : AreLevels d ls
     pub spelled : IsSpelled item
     pub within : depth item ≤ d - length ls
     pub cells : cs ≡ cells_of ls
-    pub given : StandsFull S stands d start g ls item
+    pub given : StandsFull S (Told S stands is_map) d start g ls item
     pub bytes : input ≡ (bytes_before ls ++ spell item) ++ rest
     pub small : length input < 2 ^ 63
 
@@ -203,27 +215,27 @@ module _ (S : Type 0) (stands : S → S → Standing → Type 0) where
     pub given : stands start g (item_whole item)
     pub bytes : input ≡ spell item ++ rest
 
-  -- the innermost container is whole, where these cells are around it; where none is, the input's item
-  abbrev pub HasFilled : S → ℕ → List ℕ → List Open → S → List ℕ → Type 0
-  HasFilled start d input [] g rest = IsBuilt start d input g rest
-  HasFilled start d input (c ∷ cs) g rest = IsToEnd start d input (c ∷ cs) g rest
+  -- the innermost container is whole, a map or not, where these cells are around it; where none is, the input's item
+  abbrev pub HasFilled : Bool → S → ℕ → List ℕ → List Open → S → List ℕ → Type 0
+  HasFilled is_map start d input [] g rest = IsBuilt start d input g rest
+  HasFilled is_map start d input (c ∷ cs) g rest = IsToEnd is_map start d input (c ∷ cs) g rest
 
   -- ---- what the calls ask for: some input of which this is true
 
   abbrev pub IsDueIn : ℕ → List Open → S → List ℕ → Type 0
   IsDueIn d cs g rest = (start : S) × (input : List ℕ) × IsDue start d input cs g rest
 
-  abbrev pub IsDueFor : S → List ℕ → Type 0
-  IsDueFor g rest = (d : ℕ) × (cs : List Open) × IsDueIn d cs g rest
+  abbrev pub IsDueFor : Open → S → List ℕ → Type 0
+  IsDueFor top g rest = (d : ℕ) × (outer : List Open) × IsDueIn d (top ∷ outer) g rest
 
   abbrev pub HasEndedIn : List Open → S → Type 0
   HasEndedIn cs g = (start : S) × (d : ℕ) × (input : List ℕ) × (rest : List ℕ) × HasEnded start d input cs g rest
 
-  abbrev pub HasFilledIn : List Open → S → Type 0
-  HasFilledIn cs g = (start : S) × (d : ℕ) × (input : List ℕ) × (rest : List ℕ) × HasFilled start d input cs g rest
+  abbrev pub HasFilledIn : Bool → List Open → S → Type 0
+  HasFilledIn is_map cs g = (start : S) × (d : ℕ) × (input : List ℕ) × (rest : List ℕ) × HasFilled is_map start d input cs g rest
 
-  abbrev pub IsToEndFor : S → List ℕ → Type 0
-  IsToEndFor g rest = (start : S) × (d : ℕ) × (input : List ℕ) × (cs : List Open) × IsToEnd start d input cs g rest
+  abbrev pub IsToEndFor : Bool → S → List ℕ → Type 0
+  IsToEndFor is_map g rest = (start : S) × (d : ℕ) × (input : List ℕ) × (cs : List Open) × IsToEnd is_map start d input cs g rest
 
   -- ---- what is taken
 
@@ -237,26 +249,26 @@ module _ (S : Type 0) (stands : S → S → Standing → Type 0) where
   abbrev pub Takes : Part → ℕ → List ℕ → List Open → S → List Open → S → Type 0
   Takes result d rest cs g now new = (start : S) (input : List ℕ) → IsDue start d input cs g rest → TakesTo result start d input rest now new
 
-  -- within whatever cells
-  abbrev pub TakesItem : Part → List ℕ → S → S → Type 0
-  TakesItem result rest g new = (d : ℕ) (cs : List Open) → Takes result d rest cs g cs new
+  -- within whatever cells around this one
+  abbrev pub TakesItem : Part → List ℕ → Open → S → S → Type 0
+  TakesItem result rest top g new = (d : ℕ) (outer : List Open) → Takes result d rest (top ∷ outer) g (top ∷ outer) new
 
   -- ---- a head
 
-  abbrev pub IsHeadDue : Major → ℕ → List ℕ → S → Type 0
-  IsHeadDue m n behind g = (rest : List ℕ) × IsHead m n rest behind × IsDueFor g rest
+  abbrev pub IsHeadDue : Major → ℕ → List ℕ → Open → S → Type 0
+  IsHeadDue m n behind top g = (rest : List ℕ) × IsHead m n rest behind × IsDueFor top g rest
 
   abbrev pub IsHeadIn : Major → ℕ → List ℕ → ℕ → List Open → S → Type 0
   IsHeadIn m n behind d cs g = (rest : List ℕ) × IsHead m n rest behind × IsDueIn d cs g rest
 
-  abbrev pub TakesHead : Part → Major → ℕ → List ℕ → S → S → Type 0
-  TakesHead result m n behind g new = (rest : List ℕ) → IsHead m n rest behind → TakesItem result rest g new
+  abbrev pub TakesHead : Part → Major → ℕ → List ℕ → Open → S → S → Type 0
+  TakesHead result m n behind top g new = (rest : List ℕ) → IsHead m n rest behind → TakesItem result rest top g new
 
   abbrev pub TakesCounted : Part → ℕ → Major → ℕ → List ℕ → List Open → S → List Open → S → Type 0
   TakesCounted result d m n behind cs g now new = (rest : List ℕ) → IsHead m n rest behind → Takes result d rest cs g now new
 
-  abbrev pub IsOpenerDue : Major → ℕ → Open → List ℕ → S → Type 0
-  IsOpenerDue m n c behind g = (rest : List ℕ) × IsOpener m n c rest behind × IsDueFor g rest
+  abbrev pub IsOpenerDue : Major → ℕ → Open → List ℕ → Open → S → Type 0
+  IsOpenerDue m n c behind top g = (rest : List ℕ) × IsOpener m n c rest behind × IsDueFor top g rest
 
   abbrev pub TakesOpener : Part → ℕ → Major → ℕ → Open → List ℕ → List Open → S → List Open → S → Type 0
   TakesOpener result d m n c behind cs g now new = (rest : List ℕ) → IsOpener m n c rest behind → Takes result d rest cs g now new
@@ -267,8 +279,8 @@ module _ (S : Type 0) (stands : S → S → Standing → Type 0) where
   EndsTo part.Stopped start d input cs g behind = Unit {0}
   EndsTo _ start d input cs g behind = ⊥
 
-  abbrev pub EndsItem : Part → List ℕ → S → S → Type 0
-  EndsItem result behind g new = (start : S) (d : ℕ) (input : List ℕ) (cs : List Open) → IsToEnd start d input cs g behind → EndsTo result start d input cs new behind
+  abbrev pub EndsItem : Bool → Part → List ℕ → S → S → Type 0
+  EndsItem is_map result behind g new = (start : S) (d : ℕ) (input : List ℕ) (cs : List Open) → IsToEnd is_map start d input cs g behind → EndsTo result start d input cs new behind
 
   -- ---- a break
 
@@ -288,8 +300,8 @@ module _ (S : Type 0) (stands : S → S → Standing → Type 0) where
   abbrev pub Leads : Then → List Open → S → List Open → S → Type 0
   Leads result cs g now new = (start : S) (d : ℕ) (input rest : List ℕ) → HasEnded start d input cs g rest → LeadsTo result start d input rest now new
 
-  abbrev pub LeadsFull : Then → List Open → S → List Open → S → Type 0
-  LeadsFull result cs g now new = (start : S) (d : ℕ) (input rest : List ℕ) → HasFilled start d input cs g rest → LeadsTo result start d input rest now new
+  abbrev pub LeadsFull : Bool → Then → List Open → S → List Open → S → Type 0
+  LeadsFull is_map result cs g now new = (start : S) (d : ℕ) (input rest : List ℕ) → HasFilled is_map start d input cs g rest → LeadsTo result start d input rest now new
 
   -- ---- the walk
 

@@ -103,3 +103,8 @@ abbrev pub IsShortFront : Short → List ℕ → Type 0
 IsShortFront (short.Item used) b = (0 < used) × IsLeaf false b used
 IsShortFront (short.Opens due left used) b = OpensWith due left used b
 IsShortFront short.Other b = Unit {0}
+
+-- something is said
+abbrev pub IsSaid : Short → Type 0
+IsSaid short.Other = ⊥
+IsSaid _ = Unit {0}

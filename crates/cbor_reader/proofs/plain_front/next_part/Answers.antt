@@ -6,6 +6,7 @@ use Rattle.cbor_head.specs.declared.reason.Reason.TheVariants.{RepeatedKey}
 use Rattle.cbor_head.specs.declared.reason.Refusal.{Refusal}
 use Rattle.cbor_builder.specs.Built.{Built}
 use Rattle.cbor_judging.specs.Levels.{frame}
+use Rattle.cbor_reader.specs.declared.plain_items.TheConstants.{PLACES}
 use Rattle.cbor_reader.specs.inner.PlainItems.{CanTake, IsGiven, sets, AreKeysBegun}
 use Rattle.cbor_reader.specs.declared.key_set.KeySet.{KeySet}
 use Rattle.cbor_item.specs.OpenValues.{OpenItem}
@@ -151,7 +152,7 @@ returns-in-Ok-None g c = λ b t d.
     let ended = c.in-Ok-end_full.ensures.ends b c.read_part.new.events (t ++ k.bytes) ending c.open-open.ensures.count in
     let some = k.some in
     let places = d.places in
-    let size : length c.end_full.new.self.starts ≡ 257 =
+    let size : length c.end_full.new.self.starts ≡ PLACES =
     ap length (c.end_full.ensures.same ∙ c.give.ensures.same ∙ c.begin_at.ensures.starts) ∙ length-set c.args.items.now.starts c.open-height.result c.in-Ok.event.place ∙ places in
     let key = rw c.in-Ok-None.field-0-is at (c.in-Ok-None.ensures.answers ended.2.held) in
     record {

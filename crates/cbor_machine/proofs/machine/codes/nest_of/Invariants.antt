@@ -1,6 +1,6 @@
-use Rattle.std.proofs.Common.{◌≡◌, take, map}
-use Rattle.cbor_machine.specs.inner.Saved.{frame_at}
+use Rattle.std.proofs.Common.{◌≡◌, length, take}
+use Rattle.cbor_machine.specs.inner.Saved.{frames_by}
 use Rattle.cbor_machine.proofs.machine.codes.nest_of.Given as goal
 
-abbrev pub invariant-loop-frame : goal.invariant-loop-frame
-invariant-loop-frame l = l.nest ≡ map frame_at (take l.frame-index l.saved)
+abbrev pub invariant-loop-i : goal.invariant-loop-i
+invariant-loop-i l = record { frames : l.nest ≡ frames_by (take l.i l.lefts) (take l.i l.kinds); count : length l.nest ≡ l.i }

@@ -1,14 +1,13 @@
 use Rattle.cbor_reader.proofs.ViewGiven.{due, takes, opened}
 use Rattle.cbor_reader.proofs.view_sink.ViewSinkSink.begin.Goals as goal
 
-pub begin-requires-clause-due : goal.begin-requires-clause-due
-begin-requires-clause-due c = due c.is_key_due-is_key.result c.args.self.now c.is_key_due-is_key.ensures c.requires.due
+pub begin-requires : goal.begin-requires
+begin-requires c = (c.requires.kind, due c.args.is_key c.args.self.now c.requires.due)
 
 pub begin-requires-2-clause-takes : goal.begin-requires-2-clause-takes
-begin-requires-2-clause-takes c = takes c.args.self.now c.requires.due
+begin-requires-2-clause-takes c = takes c.args.is_key c.args.self.now c.requires.due
 
 pub returns : goal.returns
 returns c =
     let old = c.args.self.now in
-    opened c.is_key_due-is_key.result c.args.major c.args.number old (record { keys = c.begin.new.self; views = c.begin-2.new.self; joined = old.joined }) c.is_key_due-is_key.ensures c.in_ok-begin.ensures
-    c.in_ok-begin-2.ensures
+    opened c.args.is_key c.args.major c.args.number old (record { keys = c.begin.new.self; views = c.begin-2.new.self; joined = old.joined }) c.in_ok-begin.ensures c.in_ok-begin-2.ensures

@@ -5,4 +5,4 @@ use Rattle.cbor_reader.proofs.view_sink.ViewSinkSink.begin_string.Goals as goal
 pub returns : goal.returns
 returns c =
     let old = c.args.self.now in
-    begun c.args._is_text old (record { keys = old.keys; views = old.views; joined = c.clear.new.self }) c.requires.due refl refl c.clear.ensures
+    begun c.args._is_key c.args._is_text old (record { keys = old.keys; views = old.views; joined = c.clear.new.self }) refl refl c.clear.ensures

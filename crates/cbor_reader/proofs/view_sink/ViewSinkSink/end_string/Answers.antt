@@ -1,28 +1,39 @@
 use Rattle.std.proofs.Common.{ℕ, Bool, List, length, ◌∙◌, ap₂, sym, subst, arith}
+use Rattle.std.specs.Prelude.{IsUtf8}
 use Rattle.std.proofs.lemmas.List.{take_all}
 use Rattle.cbor_item.specs.OpenValues.{give}
 use Rattle.cbor_judging.specs.Reading.{string_value}
 use Rattle.cbor_view.specs.Seen.{standing}
-use Rattle.cbor_walk.specs.KeyBytes.{GivesTold}
-use Rattle.cbor_reader.proofs.ViewGiven.{due, takes, whole-due, string-ended}
+use Rattle.cbor_key_bytes.specs.KeyBytes.{keys_stand}
+use Rattle.cbor_walk.specs.Sink.{Gives}
+use Rattle.cbor_key_bytes.specs.declared.key_bytes.KeyBytes.{KeyBytes}
+use Rattle.cbor_reader.proofs.ViewGiven.{due, takes, utf8-due, whole-due, string-ended}
 use Rattle.cbor_reader.proofs.view_sink.ViewSinkSink.end_string.Goals as goal
 
-pub string-requires-clause-due : goal.string-requires-clause-due
-string-requires-clause-due c = due c.is_key_due-is_key.result c.args.self.now c.is_key_due-is_key.ensures (whole-due c.args.is_text c.args.self.now c.requires.due)
+pub string-requires : goal.string-requires
+string-requires c =
+    let content = c.as_slice-content.result.now in
+    let whole = take_all (length content) content (omega arith) ∙ c.as_slice-content.ensures in (
+      omega arith,
+      (
+        (λ e. subst IsUtf8 (sym whole) (utf8-due c.args.is_key c.args.is_text c.args.self.now c.requires.due e)),
+        due c.args.is_key c.args.self.now (whole-due c.args.is_key c.args.is_text c.args.self.now c.requires.due),
+      ),
+    )
 
 pub copied_text-requires : goal.copied_text-requires
-copied_text-requires c = record { takes = takes c.args.self.now (whole-due c.args.is_text c.args.self.now c.requires.due) }
+copied_text-requires c = record { takes = takes c.args.is_key c.args.self.now (whole-due c.args.is_key c.args.is_text c.args.self.now c.requires.due) }
 
 pub copied_bytes-requires : goal.copied_bytes-requires
-copied_bytes-requires c = record { takes = takes c.args.self.now (whole-due c.args.is_text c.args.self.now c.requires.due) }
+copied_bytes-requires c = record { takes = takes c.args.is_key c.args.self.now (whole-due c.args.is_key c.args.is_text c.args.self.now c.requires.due) }
 
 pub returns-in_ok-copied_text : goal.returns-in_ok-copied_text
 returns-in_ok-copied_text c =
     let old = c.args.self.now in
     let t = c.args.is_text in
     let whole = take_all (length c.as_slice-content.result.now) c.as_slice-content.result.now (omega arith) ∙ c.as_slice-content.ensures in
-    string-ended c.is_key_due-is_key.result t old (record { keys = c.string.new.self; views = c.copied_text.new.self; joined = old.joined }) c.is_key_due-is_key.ensures
-    (subst (λ (x : List ℕ). GivesTold c.is_key_due-is_key.result (string_value t x) old.keys c.string.new.self) whole c.in_ok-string.ensures)
+    string-ended c.args.is_key t old (record { keys = c.string.new.self; views = c.copied_text.new.self; joined = old.joined })
+    (subst (λ (x : List ℕ). Gives KeyBytes keys_stand c.args.is_key (string_value t x) old.keys c.string.new.self) whole c.in_ok-string.ensures)
     (c.in_ok-copied_text.ensures
     ∙ ap₂ (λ (b : Bool) (x : List ℕ). give (string_value b x) (standing old.views)) (sym c.if-is_text.true) (c.from_utf8_unchecked-text.ensures ∙ c.as_slice-content.ensures))
 
@@ -31,6 +42,6 @@ returns-in_ok-copied_bytes c =
     let old = c.args.self.now in
     let t = c.args.is_text in
     let whole = take_all (length c.as_slice-content.result.now) c.as_slice-content.result.now (omega arith) ∙ c.as_slice-content.ensures in
-    string-ended c.is_key_due-is_key.result t old (record { keys = c.string.new.self; views = c.copied_bytes.new.self; joined = old.joined }) c.is_key_due-is_key.ensures
-    (subst (λ (x : List ℕ). GivesTold c.is_key_due-is_key.result (string_value t x) old.keys c.string.new.self) whole c.in_ok-string.ensures)
+    string-ended c.args.is_key t old (record { keys = c.string.new.self; views = c.copied_bytes.new.self; joined = old.joined })
+    (subst (λ (x : List ℕ). Gives KeyBytes keys_stand c.args.is_key (string_value t x) old.keys c.string.new.self) whole c.in_ok-string.ensures)
     (c.in_ok-copied_bytes.ensures ∙ ap₂ (λ (b : Bool) (x : List ℕ). give (string_value b x) (standing old.views)) (sym c.if-is_text.false) c.as_slice-content.ensures)

@@ -6,14 +6,14 @@ use Rattle.cbor_walk.specs.Sink.{leaf_value}
 use Rattle.cbor_reader.proofs.ViewGiven.{due, takes, given}
 use Rattle.cbor_reader.proofs.view_sink.ViewSinkSink.leaf.Goals as goal
 
-pub leaf-requires-clause-due : goal.leaf-requires-clause-due
-leaf-requires-clause-due c = due c.is_key_due-is_key.result c.args.self.now c.is_key_due-is_key.ensures c.requires.due
+pub leaf-requires : goal.leaf-requires
+leaf-requires c = (c.requires.kind, (c.requires.simple, due c.args.is_key c.args.self.now c.requires.due))
 
 pub leaf-requires-2 : goal.leaf-requires-2
-leaf-requires-2 c = record { takes = takes c.args.self.now c.requires.due }
+leaf-requires-2 c = record { takes = takes c.args.is_key c.args.self.now c.requires.due }
 
 pub returns : goal.returns
 returns c =
     let old = c.args.self.now in
-    given c.is_key_due-is_key.result (leaf_value c.args.major c.args.number) old (record { keys = c.leaf.new.self; views = c.leaf-2.new.self; joined = old.joined }) c.is_key_due-is_key.ensures c.in_ok-leaf.ensures
+    given c.args.is_key (leaf_value c.args.major c.args.number) old (record { keys = c.leaf.new.self; views = c.leaf-2.new.self; joined = old.joined }) c.in_ok-leaf.ensures
     (c.in_ok-leaf-2.ensures ∙ ap (λ (v : Value). give v (standing old.views)) c.leaf_view.ensures)

@@ -6,14 +6,14 @@ use Rattle.cbor_view.specs.Seen.{standing}
 use Rattle.cbor_reader.proofs.ViewGiven.{due, takes, given}
 use Rattle.cbor_reader.proofs.view_sink.ViewSinkSink.string.Goals as goal
 
-pub string-requires-clause-due : goal.string-requires-clause-due
-string-requires-clause-due c = due c.is_key_due-is_key.result c.args.self.now c.is_key_due-is_key.ensures c.requires.due
+pub string-requires : goal.string-requires
+string-requires c = (c.requires.within, (c.requires.utf8, due c.args.is_key c.args.self.now c.requires.due))
 
 pub leaf-requires : goal.leaf-requires
-leaf-requires c = record { takes = takes c.args.self.now c.requires.due }
+leaf-requires c = record { takes = takes c.args.is_key c.args.self.now c.requires.due }
 
 pub returns : goal.returns
 returns c =
     let old = c.args.self.now in
-    given c.is_key_due-is_key.result (string_value c.args.is_text (take c.args.count c.args.front.now)) old (record { keys = c.string.new.self; views = c.leaf.new.self; joined = old.joined }) c.is_key_due-is_key.ensures
+    given c.args.is_key (string_value c.args.is_text (take c.args.count c.args.front.now)) old (record { keys = c.string.new.self; views = c.leaf.new.self; joined = old.joined })
     c.in_ok-string.ensures (c.in_ok-leaf.ensures ∙ ap (λ (v : Value). give v (standing old.views)) c.string_view.ensures)

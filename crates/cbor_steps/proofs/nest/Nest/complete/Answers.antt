@@ -1,12 +1,12 @@
 use Rattle.std.proofs.Common.{sym, ap, ◌∙◌}
 use Rattle.cbor_automaton.specs.Automaton.{close}
 use Rattle.cbor_steps.specs.State.{frame_of, frames_of}
-use Rattle.cbor_steps.specs.Nest.{level_frame, advanced}
+use Rattle.cbor_steps.specs.Nest.{level_frame, joined, advanced}
 use Rattle.cbor_steps.proofs.Nests.{goes-on}
 use Rattle.cbor_steps.proofs.nest.Nest.complete.Goals as goal
 
 pub returns-then-advance-clause-state : goal.returns-then-advance-clause-state
 returns-then-advance-clause-state c =
-    (goes-on c.self.inside.outer c.self.inside.height c.self.inside.top c.advance.new.top c.self.invariant
+    (goes-on (joined c.self.inside.dues c.self.inside.lefts) c.self.inside.height c.self.inside.top c.advance.new.top c.self.invariant.rooted
     (λ fs. c.advance.ensures.moved fs ∙ ap (λ b. advanced b (frame_of (level_frame c.advance.new.top)) fs) c.if-advance.true) (λ e. sym c.if-advance.true ∙ c.advance.ensures.root e)).1
     ∙ ap (λ fs. close (frames_of fs)) c.self.view_is

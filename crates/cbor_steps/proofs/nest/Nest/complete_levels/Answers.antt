@@ -1,16 +1,35 @@
-use Rattle.std.proofs.Common.{sym, ap, ◌∙◌}
+use Rattle.std.proofs.Common.{◌<◌, sym, ap, ◌∙◌, arith}
 use Rattle.cbor_steps.specs.State.{frame_of}
-use Rattle.cbor_steps.specs.Nest.{level_frame, advanced}
-use Rattle.cbor_steps.proofs.Nests.{goes-on}
+use Rattle.cbor_steps.specs.Nest.{level_frame, joined, advanced}
+use Rattle.cbor_steps.proofs.Nests.{goes-on, popped-to, full-closes}
 use Rattle.cbor_steps.proofs.nest.Nest.complete_levels.Goals as goal
 
 pub invariant_of-self : goal.invariant_of-self
-invariant_of-self c =
-    (goes-on c.levels.self-inside.outer c.levels.self-inside.height c.levels.self-inside.top c.advance.new.top c.levels.invariant.rooted
-    (λ fs. c.advance.ensures.moved fs ∙ ap (λ b. advanced b (frame_of (level_frame c.advance.new.top)) fs) c.if-advance.true) (λ e. sym c.if-advance.true ∙ c.advance.ensures.root e)).0
+invariant_of-self c = record {
+  dues_room = c.levels.invariant.nest.dues_room;
+  lefts_room = c.levels.invariant.nest.lefts_room;
+  rooted = (goes-on (joined c.levels.self-inside.dues c.levels.self-inside.lefts) c.levels.self-inside.height c.levels.self-inside.top c.advance.new.top c.levels.invariant.nest.rooted
+      (λ fs. c.advance.ensures.moved fs ∙ ap (λ b. advanced b (frame_of (level_frame c.advance.new.top)) fs) c.if-advance.true) (λ e. sym c.if-advance.true ∙ c.advance.ensures.root e)).0;
+}
 
 pub returns-then-advance-clause-state : goal.returns-then-advance-clause-state
 returns-then-advance-clause-state c =
-    (goes-on c.levels.self-inside.outer c.levels.self-inside.height c.levels.self-inside.top c.advance.new.top c.levels.invariant.rooted
+    (goes-on (joined c.levels.self-inside.dues c.levels.self-inside.lefts) c.levels.self-inside.height c.levels.self-inside.top c.advance.new.top c.levels.invariant.nest.rooted
     (λ fs. c.advance.ensures.moved fs ∙ ap (λ b. advanced b (frame_of (level_frame c.advance.new.top)) fs) c.if-advance.true) (λ e. sym c.if-advance.true ∙ c.advance.ensures.root e)).1
     ∙ c.levels.invariant.same
+
+pub levels-preserved : goal.levels-preserved
+levels-preserved c =
+    let some : 0 < c.levels.self-inside.height = omega arith in
+    let r = c.levels.invariant.nest.rooted in
+    record {
+      nest = record {
+        dues_room = c.levels.invariant.nest.dues_room;
+        lefts_room = c.levels.invariant.nest.lefts_room;
+        rooted = (popped-to (joined c.levels.self-inside.dues c.levels.self-inside.lefts) c.levels.self-inside.height c.levels.self-inside.top c.level_at-self-inside.result some c.level_at-self-inside.ensures r).0;
+      };
+      same = full-closes (joined c.levels.self-inside.dues c.levels.self-inside.lefts) c.levels.self-inside.height c.levels.self-inside.top c.level_at-self-inside.result some c.level_at-self-inside.ensures r
+          (λ fs. c.advance.ensures.moved fs ∙ ap (λ b. advanced b (frame_of (level_frame c.advance.new.top)) fs) c.if-advance.false)
+          ∙ c.levels.invariant.same;
+      fewer = let fewer = c.levels.invariant.fewer in omega arith;
+    }

@@ -1,5 +1,5 @@
 use Rattle.std.proofs.Common.{ℕ, ◌≤◌, List, length}
-use Rattle.cbor_walk.specs.inner.Building.{HasFilled}
+use Rattle.cbor_walk.specs.inner.Building.{pairs, HasFilled}
 use Rattle.cbor_walk.specs.inner.Stack.{around}
 use Rattle.cbor_walk.specs.declared.open.Open.{Open}
 use Rattle.cbor_walk.proofs.building.Building.close.Given as goal
@@ -10,7 +10,7 @@ invariant-levels g l =
     let stands = g.S.Sink.stands in
     record {
       cells : l.self.stack.height ≤ length l.cells;
-      filled : (start : S) (d : ℕ) (input rest : List ℕ) → HasFilled S stands start d input (around Open l.fn.self.stack l.cells) l.fn.self.sink rest → HasFilled S stands start d input (around Open l.self.stack l.cells) l.self.sink rest;
+      filled : (start : S) (d : ℕ) (input rest : List ℕ) → HasFilled S stands (pairs l.fn.self.stack.top.due) start d input (around Open l.fn.self.stack l.cells) l.fn.self.sink rest → HasFilled S stands (pairs l.self.stack.top.due) start d input (around Open l.self.stack l.cells) l.self.sink rest;
     }
 
 abbrev pub decreases-levels : goal.decreases-levels

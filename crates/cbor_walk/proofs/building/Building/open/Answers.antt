@@ -1,16 +1,17 @@
-use Rattle.std.proofs.Common.{◌-◌, ◌<◌, List, length, sym, subst, arith, refl}
+use Rattle.std.proofs.Common.{◌∙◌, ◌-◌, ◌<◌, List, length, sym, subst, arith, refl}
 use Rattle.cbor_walk.specs.declared.open.Open.{Open}
 use Rattle.cbor_walk.specs.inner.Building.{IsOpenerDue, IsDue}
-use Rattle.cbor_walk.specs.inner.Stack.{standing}
+use Rattle.cbor_walk.specs.inner.Stack.{around, standing}
 use Rattle.cbor_walk.proofs.GivenKinds.{opener-begun}
-use Rattle.cbor_walk.proofs.GivenParts.{due-item, height-is, opened}
+use Rattle.cbor_walk.proofs.GivenParts.{due-item, key-awaited, height-is, opened}
 use Rattle.cbor_walk.proofs.Taking.{standing_count}
 use Rattle.cbor_walk.proofs.building.Building.open.Goals as goal
 
 pub begin-requires : goal.begin-requires
 begin-requires g c =
-    let opener : IsOpenerDue g.row.S.Denot g.S.Sink.stands c.args.major c.args.number c.args.opened c.args.behind.now c.args.self.now.sink = c.requires.opener in
-    λ k. ((refl, tt), (c.requires.kind, due-item g.row.S.Denot g.S.Sink.stands c.args.self.now.sink opener.0 opener.2))
+    let top = c.args.self.now.stack.top in
+    let opener : IsOpenerDue g.row.S.Denot g.S.Sink.stands c.args.major c.args.number c.args.opened c.args.behind.now top c.args.self.now.sink = c.requires.opener in
+    λ k. ((refl, tt), (c.requires.kind, due-item g.row.S.Denot g.S.Sink.stands top c.args.self.now.sink opener.0 c.is_key.result c.is_key.ensures opener.2))
 
 pub returns-clause-takes : goal.returns-clause-takes
 returns-clause-takes g c = λ rest opener start input due.
@@ -21,7 +22,7 @@ returns-clause-takes g c = λ rest opener start input due.
     let cs = standing Open c.args.self.now.stack c.args.cells.now in
     let room : length due.ls < c.args.depth = omega (arith, c.if-self-depth.false, height-is S stands start c.args.depth input cs sink rest due, standing_count Open c.args.self.now.stack c.args.cells.now c.requires.cells) in
     subst (λ (x : List Open). (length behind < length rest) × IsDue S stands start c.args.depth input x c.begin.new.self behind) (sym c.push.ensures.levels)
-    (opened S stands start c.args.depth input cs sink rest due c.args.major c.args.number c.args.opened behind c.begin.new.self room opener c.in-Ok.ensures)
+    (opened S stands start c.args.depth input cs sink rest due c.args.major c.args.number c.args.opened behind c.begin.new.self c.is_key.result (c.is_key.ensures ∙ key-awaited due.ls c.args.self.now.stack.top (around Open c.args.self.now.stack c.args.cells.now) due.cells) room opener c.in-Ok.ensures)
 
 pub returns-clause-front : goal.returns-clause-front
 returns-clause-front g c = λ rest opener o.

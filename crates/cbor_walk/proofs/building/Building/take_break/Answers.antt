@@ -1,6 +1,6 @@
-use Rattle.std.proofs.Common.{◌<◌, ◌≤◌, List, ◌∷◌, length, sym, subst, arith, refl}
+use Rattle.std.proofs.Common.{◌<◌, ◌≤◌, Bool, List, ◌∷◌, length, sym, subst, arith, refl}
 use Rattle.cbor_walk.specs.declared.open.Open.{Open}
-use Rattle.cbor_walk.specs.inner.Building.{IsBreakDue, TakesTo}
+use Rattle.cbor_walk.specs.inner.Building.{IsBreakDue, IsToEnd, TakesTo}
 use Rattle.cbor_walk.specs.inner.Stack.{around, standing}
 use Rattle.cbor_walk.proofs.GivenEnds.{break-inside, break-ends}
 use Rattle.cbor_walk.proofs.GivenKinds.{broken-takes}
@@ -25,7 +25,17 @@ end-requires g c =
     let k = c.args.self.now.stack in
     let cells = c.args.cells.now in
     let due : IsBreakDue S stands (standing Open k cells) c.args.self.now.sink c.args.behind.now = c.requires.due in
-    λ n. ((refl, tt), (due.1.0, due.0, due.1.1, around Open k cells, break-ends S stands due.1.0 due.0 due.1.1 k.top (around Open k cells) c.args.self.now.sink c.args.behind.now due.1.2 c.if-not-self.false c.in_default.not-Value))
+    λ n. (
+      (refl, tt),
+      (
+        due.1.0,
+        due.0,
+        due.1.1,
+        around Open k cells,
+        subst (λ (t : Bool). IsToEnd S stands t due.1.0 due.0 due.1.1 (around Open k cells) c.args.self.now.sink c.args.behind.now) (sym c.is_in_map-is_map.ensures)
+            (break-ends S stands due.1.0 due.0 due.1.1 k.top (around Open k cells) c.args.self.now.sink c.args.behind.now due.1.2 c.if-not-self.false c.in_default.not-Value),
+      ),
+    )
 
 pub returns : goal.returns
 returns g c =
@@ -43,7 +53,7 @@ returns g c =
       takes = λ d start input due.
           let shorter : length behind < length (255 ∷ behind) = omega arith in
           let t = ends-takes S stands start d input c.end.result (around Open k cells) c.end.new.self.sink (255 ∷ behind) behind shorter
-          (c.end.ensures.ends start d input (around Open k cells) (break-ends S stands start d input k.top (around Open k cells) sink behind due c.if-not-self.false c.in_default.not-Value)) in
+          (c.end.ensures.ends start d input (around Open k cells) (subst (λ (t : Bool). IsToEnd S stands t start d input (around Open k cells) sink behind) (sym c.is_in_map-is_map.ensures) (break-ends S stands start d input k.top (around Open k cells) sink behind due c.if-not-self.false c.in_default.not-Value))) in
           subst (λ s. TakesTo S stands c.end.result start d input (255 ∷ behind) (standing Open s cells) c.end.new.self.sink) (sym c.end.ensures.stack)
           (subst (λ (x : List Open). TakesTo S stands c.end.result start d input (255 ∷ behind) x c.end.new.self.sink) (sym c.pop.ensures.levels) t);
       kind = c.end.ensures.kind;

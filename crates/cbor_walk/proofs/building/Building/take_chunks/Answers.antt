@@ -6,18 +6,18 @@ use Rattle.cbor_judging.specs.Reading.{string_major, string_value}
 use Rattle.cbor_head.specs.Spelling.{chunks_joined}
 use Rattle.cbor_walk.specs.inner.Building.{IsHead, chunked_from}
 use Rattle.cbor_walk.proofs.GivenKinds.{scalar-begun}
-use Rattle.cbor_walk.proofs.GivenParts.{due-item, scalar-settles}
+use Rattle.cbor_walk.proofs.GivenParts.{due-item, key-awaited, scalar-settles}
 use Rattle.cbor_walk.proofs.Chunked.{AreChunks, no-chunks, chunk-due, one-more, all-chunks}
 use Rattle.cbor_walk.proofs.building.Building.take_chunks.Goals as goal
 
 pub begin_string-requires : goal.begin_string-requires
-begin_string-requires g c = λ k. ((refl, tt), due-item g.row.S.Denot g.S.Sink.stands c.args.self.now.sink (chunked_from c.args.is_text c.args.behind.now) c.requires.opener)
+begin_string-requires g c = λ k. ((refl, tt), due-item g.row.S.Denot g.S.Sink.stands c.args.self.now.stack.top c.args.self.now.sink (chunked_from c.args.is_text c.args.behind.now) c.is_key-is_key.result c.is_key-is_key.ensures c.requires.opener)
 
 pub end_string-requires : goal.end_string-requires
 end_string-requires g c = λ k. (
   (refl, tt),
-  chunk-due g.row.S.Denot g.S.Sink.stands g.S.Sink.holds c.args.is_text c.args.behind.now c.args.self.now.sink c.chunks.rest.now c.chunks.self.sink c.chunks.invariant.chunks
-      (due-item g.row.S.Denot g.S.Sink.stands c.args.self.now.sink (chunked_from c.args.is_text c.args.behind.now) c.requires.opener),
+  chunk-due g.row.S.Denot g.S.Sink.stands g.S.Sink.holds c.is_key-is_key.result c.args.is_text c.args.behind.now c.args.self.now.sink c.chunks.rest.now c.chunks.self.sink c.chunks.invariant.chunks
+      (due-item g.row.S.Denot g.S.Sink.stands c.args.self.now.stack.top c.args.self.now.sink (chunked_from c.args.is_text c.args.behind.now) c.is_key-is_key.result c.is_key-is_key.ensures c.requires.opener),
 )
 
 pub chunk-requires : goal.chunk-requires
@@ -29,8 +29,8 @@ chunk-requires g c = λ n.
         subst (λ (k : ℕ). k ≤ length from) (sym p.all) p.inside,
         (
           λ e. subst (λ (k : ℕ). IsUtf8 (take k from)) (sym p.all) (p.utf8 e),
-          chunk-due g.row.S.Denot g.S.Sink.stands g.S.Sink.holds c.args.is_text c.args.behind.now c.args.self.now.sink c.chunks.rest.now c.chunks.self.sink c.chunks.invariant.chunks
-              (due-item g.row.S.Denot g.S.Sink.stands c.args.self.now.sink (chunked_from c.args.is_text c.args.behind.now) c.requires.opener),
+          chunk-due g.row.S.Denot g.S.Sink.stands g.S.Sink.holds c.is_key-is_key.result c.args.is_text c.args.behind.now c.args.self.now.sink c.chunks.rest.now c.chunks.self.sink c.chunks.invariant.chunks
+              (due-item g.row.S.Denot g.S.Sink.stands c.args.self.now.stack.top c.args.self.now.sink (chunked_from c.args.is_text c.args.behind.now) c.is_key-is_key.result c.is_key-is_key.ensures c.requires.opener),
         ),
       ),
     )
@@ -44,13 +44,15 @@ chunks-preserved g c =
     let whole : take (length from - size) (drop size from) ≡ drop size from = ap (λ n. take n (drop size from)) (sym (length-drop size from)) ∙ take-length (drop size from) in
     let head : IsHead (string_major t) n c.chunks.rest.now from = subst (λ (x : List ℕ). IsHead (string_major t) n x from) (sym c.in-Some.ensures.cases.0) c.in-Some-chunk_head.ensures in
     record {
-      chunks = subst (λ (x : List ℕ). AreChunks g.row.S.Denot g.S.Sink.stands g.S.Sink.holds t c.args.behind.now x c.args.self.now.sink c.chunk.new.self) (sym whole)
-          (one-more g.row.S.Denot g.S.Sink.stands g.S.Sink.holds t c.args.behind.now c.args.self.now.sink c.chunks.rest.now c.chunks.self.sink c.chunks.invariant.chunks n size from c.chunk.new.self head c.in-Some-payload_size.ensures c.in-Ok-chunk.ensures);
+      chunks = subst (λ (x : List ℕ). AreChunks g.row.S.Denot g.S.Sink.stands g.S.Sink.holds c.is_key-is_key.result t c.args.behind.now x c.args.self.now.sink c.chunk.new.self) (sym whole)
+          (one-more g.row.S.Denot g.S.Sink.stands g.S.Sink.holds c.is_key-is_key.result t c.args.behind.now c.args.self.now.sink c.chunks.rest.now c.chunks.self.sink c.chunks.invariant.chunks n size from c.chunk.new.self head c.in-Some-payload_size.ensures c.in-Ok-chunk.ensures);
       stack = c.chunks.invariant.stack;
     }
 
 pub returns-in-Ok-end_string-clause-takes : goal.returns-in-Ok-end_string-clause-takes
-returns-in-Ok-end_string-clause-takes g c = λ d cs start input due.
+returns-in-Ok-end_string-clause-takes g c = λ d outer start input due.
+    let top = c.args.self.now.stack.top in
+    let told = c.is_key-is_key.ensures ∙ key-awaited due.ls top outer due.cells in
     let S = g.row.S.Denot in
     let stands = g.S.Sink.stands in
     let t = c.args.is_text in
@@ -58,13 +60,13 @@ returns-in-Ok-end_string-clause-takes g c = λ d cs start input due.
     let behind = c.in-Some.behind.now in
     let s = c.chunks.invariant.chunks in
     let is : c.chunks.rest.now ≡ 0xff ∷ behind = c.in-Some.ensures.cases.0 ∙ ap (λ (x : ℕ). x ∷ behind) c.if-first.true in
-    let all = all-chunks S stands g.S.Sink.holds t c.args.behind.now sink c.chunks.rest.now c.chunks.self.sink s behind is in
-    scalar-settles S stands start d input cs sink (chunked_from t c.args.behind.now) due behind (string_value t (chunks_joined s.done)) c.end_string.new.self all
-    (λ k. c.in-Ok-end_string.ensures start d due.ls (chunks_joined s.done) all.item (s.given start due.ls due.given) k all.value_is)
+    let all = all-chunks S stands g.S.Sink.holds c.is_key-is_key.result t c.args.behind.now sink c.chunks.rest.now c.chunks.self.sink s behind is in
+    scalar-settles S stands start d input (top ∷ outer) sink (chunked_from t c.args.behind.now) due behind (string_value t (chunks_joined s.done)) c.end_string.new.self all
+    (λ k. c.in-Ok-end_string.ensures start d due.ls (chunks_joined s.done) all.item (s.given start due.ls (due.given, told)) told k all.value_is)
 
 pub chunks-init : goal.chunks-init
 chunks-init g c = record {
-  chunks = no-chunks g.row.S.Denot g.S.Sink.stands g.S.Sink.holds c.args.is_text c.args.behind.now c.args.self.now.sink c.begin_string.new.self (are_bytes c.args.behind.now (λ i. omega (arith, c.type_inv.behind i))) c.in-Ok.ensures;
+  chunks = no-chunks g.row.S.Denot g.S.Sink.stands g.S.Sink.holds c.is_key-is_key.result c.args.is_text c.args.behind.now c.args.self.now.sink c.begin_string.new.self (are_bytes c.args.behind.now (λ i. omega (arith, c.type_inv.behind i))) c.in-Ok.ensures;
   stack = refl;
 }
 
@@ -74,5 +76,5 @@ returns-in-Ok-end_string-clause-front g c = λ d o.
     let behind = c.in-Some.behind.now in
     let s = c.chunks.invariant.chunks in
     let is : c.chunks.rest.now ≡ 0xff ∷ behind = c.in-Some.ensures.cases.0 ∙ ap (λ (x : ℕ). x ∷ behind) c.if-first.true in
-    let all = all-chunks g.row.S.Denot g.S.Sink.stands g.S.Sink.holds t c.args.behind.now c.args.self.now.sink c.chunks.rest.now c.chunks.self.sink s behind is in
+    let all = all-chunks g.row.S.Denot g.S.Sink.stands g.S.Sink.holds c.is_key-is_key.result t c.args.behind.now c.args.self.now.sink c.chunks.rest.now c.chunks.self.sink s behind is in
     inl (scalar-begun (string_value t (chunks_joined s.done)) d (chunked_from t c.args.behind.now) behind all)

@@ -4,7 +4,7 @@ use Rattle.cbor_walk.proofs.building.Building.take_chunks.Given as goal
 
 abbrev pub invariant-chunks : goal.invariant-chunks
 invariant-chunks g l = record {
-  chunks : AreChunks g.row.S.Denot g.S.Sink.stands g.S.Sink.holds l.is_text l.fn.behind l.rest l.fn.self.sink l.self.sink;
+  chunks : AreChunks g.row.S.Denot g.S.Sink.stands g.S.Sink.holds l.is_key l.is_text l.fn.behind l.rest l.fn.self.sink l.self.sink;
   stack : l.self.stack ≡ l.fn.self.stack;
 }
 

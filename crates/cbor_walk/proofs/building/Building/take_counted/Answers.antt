@@ -1,10 +1,10 @@
-use Rattle.std.proofs.Common.{◌-◌, ◌<◌, length, sym, subst, arith, refl}
+use Rattle.std.proofs.Common.{◌∙◌, ◌-◌, ◌<◌, Bool, length, sym, subst, arith, refl}
 use Rattle.cbor_walk.specs.declared.open.Open.{Open}
-use Rattle.cbor_walk.specs.inner.Building.{IsHeadIn, IsOpener, TakesTo}
-use Rattle.cbor_walk.specs.inner.Stack.{standing}
+use Rattle.cbor_walk.specs.inner.Building.{IsHeadIn, IsOpener, IsToEnd, TakesTo}
+use Rattle.cbor_walk.specs.inner.Stack.{around, standing}
 use Rattle.cbor_walk.proofs.GivenItems.{counts-container, head-opens}
 use Rattle.cbor_walk.proofs.GivenKinds.{counted-begun, begun-takes}
-use Rattle.cbor_walk.proofs.GivenParts.{due-item, height-is, empty-ends, ends-takes, never-full}
+use Rattle.cbor_walk.proofs.GivenParts.{due-item, key-awaited, height-is, empty-ends, ends-takes, never-full}
 use Rattle.cbor_walk.proofs.Taking.{standing_count}
 use Rattle.cbor_walk.proofs.building.Building.take_counted.Goals as goal
 
@@ -22,7 +22,7 @@ open-requires g c =
             head.0,
             subst (λ (x : Open). IsOpener c.args.major c.args.number x head.0 c.args.behind.now) (sym c.counted-opened.ensures)
                 (head-opens c.args.major c.args.number c.args.due head.0 c.args.behind.now c.requires.kind c.if-number-gt0.true head.1),
-            (c.args.depth, cs, head.2),
+            (c.args.depth, around Open c.args.self.now.stack c.args.cells.now, head.2),
           ),
         ),
       ),
@@ -37,7 +37,7 @@ pub begin-requires : goal.begin-requires
 begin-requires g c =
     let cs = standing Open c.args.self.now.stack c.args.cells.now in
     let head : IsHeadIn g.row.S.Denot g.S.Sink.stands c.args.major c.args.number c.args.behind.now c.args.depth cs c.args.self.now.sink = c.requires.head in
-    λ n. ((refl, tt), (counts-container c.args.major c.args.due c.requires.kind, due-item g.row.S.Denot g.S.Sink.stands c.args.self.now.sink head.0 (c.args.depth, cs, head.2)))
+    λ n. ((refl, tt), (counts-container c.args.major c.args.due c.requires.kind, due-item g.row.S.Denot g.S.Sink.stands c.args.self.now.stack.top c.args.self.now.sink head.0 c.is_key.result c.is_key.ensures (c.args.depth, around Open c.args.self.now.stack c.args.cells.now, head.2)))
 
 pub end-requires : goal.end-requires
 end-requires g c =
@@ -57,7 +57,8 @@ end-requires g c =
         c.args.depth,
         input,
         cs,
-        (empty-ends S stands start c.args.depth input cs sink head.0 due c.args.major c.args.due c.args.number c.args.behind.now c.begin.new.self room c.requires.kind (omega (arith, c.if-number-gt0.false)) head.1 c.in-Ok.ensures).1,
+        subst (λ (t : Bool). IsToEnd S stands t start c.args.depth input cs c.begin.new.self c.args.behind.now) (sym c.is_key-2.ensures)
+            (empty-ends S stands start c.args.depth input cs sink head.0 due c.args.major c.args.due c.args.number c.args.behind.now c.begin.new.self c.is_key.result (c.is_key.ensures ∙ key-awaited due.ls c.args.self.now.stack.top (around Open c.args.self.now.stack c.args.cells.now) due.cells) room c.requires.kind (omega (arith, c.if-number-gt0.false)) head.1 c.in-Ok.ensures).1,
       ),
     )
 
@@ -68,9 +69,9 @@ returns-clause-takes g c = λ rest head start input due.
     let sink = c.args.self.now.sink in
     let cs = standing Open c.args.self.now.stack c.args.cells.now in
     let room : length due.ls < c.args.depth = omega (arith, c.if-self-depth.false, height-is S stands start c.args.depth input cs sink rest due, standing_count Open c.args.self.now.stack c.args.cells.now c.requires.cells) in
-    let e = empty-ends S stands start c.args.depth input cs sink rest due c.args.major c.args.due c.args.number c.args.behind.now c.begin.new.self room c.requires.kind (omega (arith, c.if-number-gt0.false)) head c.in-Ok.ensures in
+    let e = empty-ends S stands start c.args.depth input cs sink rest due c.args.major c.args.due c.args.number c.args.behind.now c.begin.new.self c.is_key.result (c.is_key.ensures ∙ key-awaited due.ls c.args.self.now.stack.top (around Open c.args.self.now.stack c.args.cells.now) due.cells) room c.requires.kind (omega (arith, c.if-number-gt0.false)) head c.in-Ok.ensures in
     subst (λ s. TakesTo S stands c.end.result start c.args.depth input rest (standing Open s c.args.cells.now) c.end.new.self.sink) (sym c.end.ensures.stack)
-    (ends-takes S stands start c.args.depth input c.end.result cs c.end.new.self.sink rest c.args.behind.now e.0 (c.end.ensures.ends start c.args.depth input cs e.1))
+    (ends-takes S stands start c.args.depth input c.end.result cs c.end.new.self.sink rest c.args.behind.now e.0 (c.end.ensures.ends start c.args.depth input cs (subst (λ (t : Bool). IsToEnd S stands t start c.args.depth input cs c.begin.new.self c.args.behind.now) (sym c.is_key-2.ensures) e.1)))
 
 pub returns-clause-full : goal.returns-clause-full
 returns-clause-full g c = λ e. absurd (never-full c.end.result c.end.ensures.kind e)

@@ -2,7 +2,7 @@ use Rattle.std.proofs.Common.{ℕ, ◌-◌, ◌∷◌, sym, subst, refl}
 use Rattle.cbor_head.specs.declared.major.Major.TheVariants.{Array, Map}
 use Rattle.cbor_walk.specs.declared.open.Open.{Open}
 use Rattle.cbor_walk.specs.inner.Building.{IsDue, IsDueIn, IsOpener, TakesTo, TakesFront}
-use Rattle.cbor_walk.specs.inner.Stack.{standing}
+use Rattle.cbor_walk.specs.inner.Stack.{around, standing}
 use Rattle.cbor_walk.proofs.GivenItems.{array-opens, map-opens}
 use Rattle.cbor_walk.proofs.building.Building.take_endless.Goals as goal
 
@@ -19,7 +19,7 @@ open-requires g c =
           (
             159 ∷ behind,
             subst (λ (x : Open). IsOpener Array 0 x (159 ∷ behind) behind) (sym c.endless.ensures) (array-opens behind),
-            (c.args.depth, cs, subst (λ (x : ℕ). IsDueIn g.row.S.Denot g.S.Sink.stands c.args.depth cs c.args.self.now.sink (x ∷ behind)) c.in-159.is c.requires.due),
+            (c.args.depth, around Open c.args.self.now.stack c.args.cells.now, subst (λ (x : ℕ). IsDueIn g.row.S.Denot g.S.Sink.stands c.args.depth cs c.args.self.now.sink (x ∷ behind)) c.in-159.is c.requires.due),
           ),
         ),
       ),
@@ -38,7 +38,7 @@ open-requires-in-191 g c =
           (
             191 ∷ behind,
             subst (λ (x : Open). IsOpener Map 0 x (191 ∷ behind) behind) (sym c.endless-in-191.ensures) (map-opens behind),
-            (c.args.depth, cs, subst (λ (x : ℕ). IsDueIn g.row.S.Denot g.S.Sink.stands c.args.depth cs c.args.self.now.sink (x ∷ behind)) c.in-191.is c.requires.due),
+            (c.args.depth, around Open c.args.self.now.stack c.args.cells.now, subst (λ (x : ℕ). IsDueIn g.row.S.Denot g.S.Sink.stands c.args.depth cs c.args.self.now.sink (x ∷ behind)) c.in-191.is c.requires.due),
           ),
         ),
       ),

@@ -2,7 +2,7 @@ use Rattle.std.proofs.Common.{◌≡◌, ◌+◌, ◌-◌, ◌*◌, ◌%◌, ◌
 use Rattle.cbor_head.specs.declared.major.Major.TheVariants.{Tag, Simple}
 use Rattle.cbor_walk.specs.declared.open.Open.{Open}
 use Rattle.cbor_walk.specs.inner.Building.{IsHead, IsOpener, TakesTo}
-use Rattle.cbor_walk.specs.inner.Stack.{standing}
+use Rattle.cbor_walk.specs.inner.Stack.{around, standing}
 use Rattle.cbor_walk.proofs.GivenItems.{head-here, simple-here, tag-opens}
 use Rattle.cbor_walk.proofs.building.Building.take_part.Goals as goal
 
@@ -11,7 +11,7 @@ open-requires g c =
     let h = c.in-Some-read_argument.head in
     let head : IsHead Tag h.number c.args.rest.now h.rest.now =
     head-here Tag c.in-Some.first.now c.in-Some.behind.now h.rest.now h.width h.number c.in-Some-read_argument.ensures.spelled (omega (arith, c.in-6.is)) (λ e. cc e) c.args.rest.now c.in-Some.ensures.cases.0 in
-    λ n. ((refl, tt), (tt, (c.requires.cells, (c.args.rest.now, subst (λ (x : Open). IsOpener Tag h.number x c.args.rest.now h.rest.now) (sym c.counted-opened.ensures) (tag-opens h.number c.args.rest.now h.rest.now head), (c.args.depth, standing Open c.args.self.now.stack c.args.cells.now, c.requires.due)))))
+    λ n. ((refl, tt), (tt, (c.requires.cells, (c.args.rest.now, subst (λ (x : Open). IsOpener Tag h.number x c.args.rest.now h.rest.now) (sym c.counted-opened.ensures) (tag-opens h.number c.args.rest.now h.rest.now head), (c.args.depth, around Open c.args.self.now.stack c.args.cells.now, c.requires.due)))))
 
 pub returns-in-6-clause-takes : goal.returns-in-6-clause-takes
 returns-in-6-clause-takes g c =
@@ -29,7 +29,7 @@ give_leaf-requires-in_default-kind g c =
     let high : 32 * 7 + first % 32 ≡ first = omega (arith, k, c.type_inv.rest 0, ap (λ (x : List ℕ). get_or x 0 0) c.in-Some.ensures.cases.0) in
     let wide : first % 32 ≡ 24 → (32 ≤ h.number) × (h.number < 256) = λ f. (elim c.if-number-lt32.either [ inl x ↦ x.1 | inr x ↦ absurd (x f) ], e.byte f) in
     let proper = simple-here (first % 32) c.in-Some.behind.now h.width h.number h.rest.now e.spelled c.if-low-gt24.false e.direct wide in
-    λ n. ((refl, tt), (tt, (c.args.rest.now, head-here Simple first c.in-Some.behind.now h.rest.now h.width h.number e.spelled high (λ f. proper) c.args.rest.now c.in-Some.ensures.cases.0, (c.args.depth, standing Open c.args.self.now.stack c.args.cells.now, c.requires.due))))
+    λ n. ((refl, tt), (tt, (c.args.rest.now, head-here Simple first c.in-Some.behind.now h.rest.now h.width h.number e.spelled high (λ f. proper) c.args.rest.now c.in-Some.ensures.cases.0, (c.args.depth, around Open c.args.self.now.stack c.args.cells.now, c.requires.due))))
 
 pub returns-else-number-lt32-clause-takes : goal.returns-else-number-lt32-clause-takes
 returns-else-number-lt32-clause-takes g c = λ start input due.
@@ -42,7 +42,7 @@ returns-else-number-lt32-clause-takes g c = λ start input due.
     let proper = simple-here (first % 32) c.in-Some.behind.now h.width h.number h.rest.now e.spelled c.if-low-gt24.false e.direct wide in
     let head = head-here Simple first c.in-Some.behind.now h.rest.now h.width h.number e.spelled high (λ f. proper) c.args.rest.now c.in-Some.ensures.cases.0 in
     subst (λ s. TakesTo g.row.S.Denot g.S.Sink.stands c.give_leaf-in_default-kind.result start c.args.depth input c.args.rest.now (standing Open s c.args.cells.now) c.give_leaf-in_default-kind.new.self.sink) (sym c.give_leaf-in_default-kind.ensures.stack)
-    (c.give_leaf-in_default-kind.ensures.takes c.args.rest.now head c.args.depth (standing Open c.args.self.now.stack c.args.cells.now) start input due)
+    (c.give_leaf-in_default-kind.ensures.takes c.args.rest.now head c.args.depth (around Open c.args.self.now.stack c.args.cells.now) start input due)
 
 pub returns-in-6-clause-front : goal.returns-in-6-clause-front
 returns-in-6-clause-front g c =

@@ -1,4 +1,4 @@
-use Rattle.std.proofs.Common.{◌≡◌, ◌∙◌, ◌-◌, ◌<◌, ◌≤◌, List, ℕ, length, take, drop, ap, sym, subst, inl, arith, length-drop, refl}
+use Rattle.std.proofs.Common.{◌≡◌, ◌∙◌, ◌∷◌, ◌-◌, ◌<◌, ◌≤◌, List, ℕ, length, take, drop, ap, sym, subst, inl, arith, length-drop, refl}
 use Rattle.std.proofs.Math.Seq.{take-length}
 use Rattle.std.specs.Prelude.{IsUtf8}
 use Rattle.cbor_head.specs.Value.{AreBytes}
@@ -7,34 +7,37 @@ use Rattle.cbor_judging.specs.Reading.{string_major, string_value}
 use Rattle.cbor_walk.specs.inner.Building.{IsHeadDue, HasEnded, HasBegun}
 use Rattle.cbor_walk.proofs.GivenItems.{scalar-string}
 use Rattle.cbor_walk.proofs.GivenKinds.{scalar-begun}
-use Rattle.cbor_walk.proofs.GivenParts.{due-item, scalar-ends}
+use Rattle.cbor_walk.proofs.GivenParts.{due-item, key-awaited, scalar-ends}
 use Rattle.cbor_walk.proofs.building.Building.take_string.Goals as goal
 
 pub string-requires : goal.string-requires
 string-requires g c =
     let p = c.in-Some.ensures in
-    let head : IsHeadDue g.row.S.Denot g.S.Sink.stands (string_major c.args.is_text) c.args.count c.args.behind.now c.args.self.now.sink = c.requires.head in
+    let top = c.args.self.now.stack.top in
+    let head : IsHeadDue g.row.S.Denot g.S.Sink.stands (string_major c.args.is_text) c.args.count c.args.behind.now top c.args.self.now.sink = c.requires.head in
     λ n. (
       (refl, tt),
       (
         subst (λ (k : ℕ). k ≤ length c.args.behind.now) (sym p.all) p.inside,
         (
           λ e. subst (λ (k : ℕ). IsUtf8 (take k c.args.behind.now)) (sym p.all) (p.utf8 e),
-          due-item g.row.S.Denot g.S.Sink.stands c.args.self.now.sink head.0 head.2,
+          due-item g.row.S.Denot g.S.Sink.stands top c.args.self.now.sink head.0 c.is_key-is_key.result c.is_key-is_key.ensures head.2,
         ),
       ),
     )
 
 pub returns-in-Ok-clause-takes : goal.returns-in-Ok-clause-takes
-returns-in-Ok-clause-takes g c = λ rest head d cs start input due.
+returns-in-Ok-clause-takes g c = λ rest head d outer start input due.
+    let top = c.args.self.now.stack.top in
     let S = g.row.S.Denot in
     let stands = g.S.Sink.stands in
     let behind = c.args.behind.now in
     let size = c.in-Some.size in
     let all : AreBytes behind = are_bytes behind (λ i. omega (arith, c.type_inv.behind i)) in
     let whole : take (length behind - size) (drop size behind) ≡ drop size behind = ap (λ n. take n (drop size behind)) (sym (length-drop size behind)) ∙ take-length (drop size behind) in
-    subst (λ (x : List ℕ). (length x < length rest) × HasEnded S stands start d input cs c.string.new.self x) (sym whole)
-    (scalar-ends S stands start d input cs c.args.self.now.sink rest due (drop size behind) (string_value c.args.is_text (take size behind)) c.string.new.self
+    subst (λ (x : List ℕ). (length x < length rest) × HasEnded S stands start d input (top ∷ outer) c.string.new.self x) (sym whole)
+    (scalar-ends S stands start d input (top ∷ outer) c.args.self.now.sink rest due (drop size behind) (string_value c.args.is_text (take size behind)) c.string.new.self
+    c.is_key-is_key.result (c.is_key-is_key.ensures ∙ key-awaited due.ls top outer due.cells)
     (scalar-string c.args.is_text c.args.count size rest behind head c.in-Some.ensures all) c.in-Ok.ensures)
 
 pub returns-in-Ok-clause-front : goal.returns-in-Ok-clause-front

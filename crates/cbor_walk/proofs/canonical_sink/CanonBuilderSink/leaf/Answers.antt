@@ -4,9 +4,9 @@ use Rattle.cbor_walk.proofs.CanonGiven.{takes, given, leaf-bytes}
 use Rattle.cbor_walk.proofs.canonical_sink.CanonBuilderSink.leaf.Goals as goal
 
 pub leaf-requires-clause-takes : goal.leaf-requires-clause-takes
-leaf-requires-clause-takes c = takes c.args.self.now c.requires.due
+leaf-requires-clause-takes c = takes c.args._is_key c.args.self.now c.requires.due
 
 pub returns : goal.returns
 returns c =
-    given (leaf_value c.args.major c.args.number) (shortest_head c.args.major c.args.number) c.args.self.now c.leaf.new.self (λ o. leaf-bytes o c.args.major c.args.number c.requires.kind)
+    given c.args._is_key (leaf_value c.args.major c.args.number) (shortest_head c.args.major c.args.number) c.args.self.now c.leaf.new.self (λ o. leaf-bytes o c.args.major c.args.number c.requires.kind)
     c.in_ok-leaf.ensures

@@ -7,12 +7,12 @@ use Rattle.cbor_walk.proofs.CanonGiven.{takes, given, string-bytes}
 use Rattle.cbor_walk.proofs.canonical_sink.CanonBuilderSink.string.Goals as goal
 
 pub front_string-requires-clause-takes : goal.front_string-requires-clause-takes
-front_string-requires-clause-takes c = takes c.args.self.now c.requires.due
+front_string-requires-clause-takes c = takes c.args._is_key c.args.self.now c.requires.due
 
 pub returns : goal.returns
 returns c =
     let t = c.args.is_text in
     let content = take c.args.count c.args.front.now in
-    given (string_value t content) (shortest_head c.string_type.result c.args.count ++ content) c.args.self.now c.front_string.new.self
+    given c.args._is_key (string_value t content) (shortest_head c.string_type.result c.args.count ++ content) c.args.self.now c.front_string.new.self
     (λ o. string-bytes o t content ∙ ap₂ (λ (m : Major) (n : ℕ). shortest_head m n ++ content) (sym c.string_type.ensures) (length-take-le c.args.count c.args.front.now c.requires.within))
     c.in_ok-front_string.ensures

@@ -1,0 +1,8 @@
+use Rattle.std.proofs.Common.{◌≡◌, map, take, drop, IsPermutation}
+use Rattle.cbor_buffer.specs.Spans.{span_pair}
+use Rattle.cbor_canonical.specs.Pairs.{IsRising}
+use Rattle.cbor_builder.proofs.insertion.insert_each.Given as goal
+
+abbrev pub invariant-loop-i : goal.invariant-loop-i
+invariant-loop-i l =
+    IsPermutation (take l.i l.initial.spans) (take l.i l.spans) × IsRising l.order (map (span_pair l.bytes) (take l.i l.spans)) × (drop l.i l.spans ≡ drop l.i l.initial.spans)

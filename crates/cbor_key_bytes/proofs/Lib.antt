@@ -1,0 +1,3 @@
+pub mod KeyStrings
+pub mod KeysGiven
+pub mod KeysKept

@@ -1,0 +1,6 @@
+//! What finds equal keys in an item whose parts a walk gives, and keeps nothing else of it.
+#![tactic(auto)]
+
+mod key_bytes;
+
+pub use key_bytes::KeyBytes;

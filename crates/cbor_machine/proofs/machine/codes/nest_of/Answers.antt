@@ -1,0 +1,10 @@
+use Rattle.std.proofs.Common.{arith, get_or}
+use Rattle.std.proofs.lemmas.Grind.{common_steps}
+use Rattle.cbor_machine.proofs.SavedFrames.{read-on}
+use Rattle.cbor_machine.proofs.machine.codes.nest_of.Goals as goal
+
+pub loop-i-preserved : goal.loop-i-preserved
+loop-i-preserved c = record {
+  frames = read-on c.args.lefts.now c.args.kinds.now c.loop-i.i c.loop-i.nest c.push.new.self _ (omega arith) (omega arith) c.loop-i.invariant.frames c.push.ensures (c.due_of.ensures (get_or c.args.lefts.now c.loop-i.i 0));
+  count = grind (arith, common_steps);
+}
