@@ -122,7 +122,7 @@ static void refuses_other_numbers(void) {
     struct naltvigo_event event = unset;
     struct naltvigo_refusal why = {77, 78, 79};
     size_t used;
-    check(naltvigo_machine_start(LIMITS(257, 8), &machine) == NALTVIGO_BAD_LIMITS, "depth", "257");
+    check(naltvigo_machine_start(LIMITS(1025, 8), &machine) == NALTVIGO_BAD_LIMITS, "depth", "1025");
     check(naltvigo_machine_start(LIMITS(2, NALTVIGO_BYTES_MAX + 1), &machine) == NALTVIGO_BAD_LIMITS, "bytes", "too many");
     /* which keys, no machine asks */
     check(naltvigo_machine_start(ALL_OPTIONS(99, 99, 2, 8), &machine) == NALTVIGO_OK, "start", "2 8");
@@ -144,7 +144,7 @@ static void refuses_other_numbers(void) {
         for (size_t k = 0; k < sizeof noise; k++) noise[k] = (uint8_t)(rand() >> 5);
         broken = machine;
         memcpy(i % 2 ? (uint8_t *)&broken : (uint8_t *)&broken.number, noise, i % 2 ? 64 : 24);
-        if (i % 3) broken.depth %= 257, broken.open %= broken.depth + 1;
+        if (i % 3) broken.depth %= 1025, broken.open %= broken.depth + 1;
         used = 999;
         naltvigo_machine_step(&broken, noise, sizeof noise, &used, &event, &why);
         check(used <= sizeof noise, "noise", "used");

@@ -175,9 +175,9 @@ static void reads(const char *given, const char *wanted) {
 static const struct { uint32_t order, keys, depth; uint64_t bytes; uint32_t status; } numbers[] = {
     {2, 0, 256, 1, NALTVIGO_BAD_ORDER},
     {UINT32_MAX, 0, 256, 1, NALTVIGO_BAD_ORDER},
-    {2, 2, 257, 1, NALTVIGO_BAD_ORDER},
-    {0, 0, 257, 1, NALTVIGO_BAD_LIMITS},
-    {0, 0, 65536 + 256, 1, NALTVIGO_BAD_LIMITS},
+    {2, 2, 1025, 1, NALTVIGO_BAD_ORDER},
+    {0, 0, 1025, 1, NALTVIGO_BAD_LIMITS},
+    {0, 0, 65536 + 1024, 1, NALTVIGO_BAD_LIMITS},
     {0, 1, UINT32_MAX, 1, NALTVIGO_BAD_LIMITS},
     {1, 0, 256, NALTVIGO_BYTES_MAX + 1, NALTVIGO_BAD_LIMITS},
     {1, 1, 256, UINT64_MAX, NALTVIGO_BAD_LIMITS},
@@ -288,7 +288,7 @@ static void sequences(void) {
     check(naltvigo_next_valid(in, 9, LIMITS(1, 2), &taken, &why) == NALTVIGO_REFUSED && are_equal(why, too_long), "bytes", "");
     why = unset;
     taken = 9;
-    check(naltvigo_next_valid(in, 9, LIMITS(257, 2), &taken, &why) == NALTVIGO_BAD_LIMITS && taken == 0, "limits", "next");
+    check(naltvigo_next_valid(in, 9, LIMITS(1025, 2), &taken, &why) == NALTVIGO_BAD_LIMITS && taken == 0, "limits", "next");
     taken = 9;
     check(naltvigo_next_canonical(in, 9, OPTIONS(2, 1, 2), &taken, &why) == NALTVIGO_BAD_ORDER && taken == 0, "order", "next");
     check(naltvigo_next_canonical(in, 9, OPTIONS(1, 1, UINT64_MAX), &taken, &why) == NALTVIGO_BAD_LIMITS, "limits", "next");

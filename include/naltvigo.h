@@ -110,7 +110,7 @@ enum {
 };
 
 /* The greatest limits. */
-#define NALTVIGO_DEPTH_MAX UINT32_C(256)
+#define NALTVIGO_DEPTH_MAX UINT32_C(1024)
 #define NALTVIGO_BYTES_MAX (UINT64_C(1) << 62)
 
 /* The order of keys, and the limits on an item. */

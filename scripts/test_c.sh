@@ -48,7 +48,7 @@ say 'two builds give equal bytes'
 python3 "$root/scripts/header.py" || fail 'the header is not as the crate'
 mkdir "$room/changed" "$room/changed/include"
 ln -s "$root/crates" "$room/changed/crates"
-for change in 's/TOO_SMALL = 2/TOO_SMALL = 3/' 's/AND_TEXTS = 1/AND_TEXTS = 2/' 's/MAX UINT32_C(256)/MAX UINT32_C(512)/' 's/uint32_t depth, uint64_t bytes,/uint64_t depth, uint64_t bytes,/' \
+for change in 's/TOO_SMALL = 2/TOO_SMALL = 3/' 's/AND_TEXTS = 1/AND_TEXTS = 2/' 's/MAX UINT32_C(1024)/MAX UINT32_C(512)/' 's/uint32_t depth, uint64_t bytes,/uint64_t depth, uint64_t bytes,/' \
     's/uint64_t place;/uint32_t place;/' 's/FLOAT = 5/FLOAT = 55/' 's/VERSION_PATCH 0/VERSION_PATCH 9/'; do
     sed "$change" "$root/include/naltvigo.h" >"$room/changed/include/naltvigo.h"
     ! python3 "$root/scripts/header.py" "$room/changed" >/dev/null || fail "a header changed by $change passes"

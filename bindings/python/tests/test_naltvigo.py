@@ -190,7 +190,7 @@ class Words(unittest.TestCase):
 
     def test_limits_out_of_range(self):
         for name in self.CALLS:
-            for words in (dict(depth=-1), dict(depth=257), dict(depth=1 << 32), dict(max_bytes=-1), dict(max_bytes=(1 << 62) + 1)):
+            for words in (dict(depth=-1), dict(depth=1025), dict(depth=1 << 32), dict(max_bytes=-1), dict(max_bytes=(1 << 62) + 1)):
                 with self.subTest(name=name, words=words), self.assertRaises(ValueError) as raised:
                     getattr(naltvigo, name)(b"\x00", **words)
                 self.assertNotIsInstance(raised.exception, Refused)

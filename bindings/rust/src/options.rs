@@ -28,8 +28,8 @@ pub enum Keys {
 /// use naltvigo::{check, Keys, Options, Order, Reason};
 ///
 /// let options = Options::default(); // bytewise, keys of any kind, 64 levels, 2^20 bytes
-/// let deeper = options.with_limits(256, 1 << 30).unwrap().with_order(Order::LengthFirst);
-/// assert!(options.with_limits(257, 0).is_none());
+/// let deeper = options.with_limits(1024, 1 << 30).unwrap().with_order(Order::LengthFirst);
+/// assert!(options.with_limits(1025, 0).is_none());
 ///
 /// let map = b"\xa1\x80\x00"; // {[]: 0}
 /// assert!(check(map, &deeper).is_ok());
@@ -45,7 +45,7 @@ pub struct Options {
 }
 
 impl Options {
-    /// These options with other limits: how deep arrays, maps and tags may nest, 0 to 256, and how
+    /// These options with other limits: how deep arrays, maps and tags may nest, 0 to 1024, and how
     /// many bytes an item and its canonical bytes may have, 0 to 2^62. None where one is greater.
     pub const fn with_limits(self, depth: u16, bytes: u64) -> Option<Options> {
         if depth as usize > DEPTH_MAX || bytes > 1 << 62 {

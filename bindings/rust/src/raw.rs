@@ -8,7 +8,7 @@ pub const DIFFERENT: u32 = 6;
 pub const EVENT: u32 = 7;
 pub const MORE: u32 = 8;
 
-pub const DEPTH_MAX: usize = 256;
+pub const DEPTH_MAX: usize = 1024;
 
 #[repr(C)]
 #[derive(Clone, Copy, Debug, Default)]

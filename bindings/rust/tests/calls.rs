@@ -47,8 +47,8 @@ fn defaults() {
         check_canonical(keys, &options.with_order(Order::LengthFirst)),
         Ok(())
     );
-    assert!(options.with_limits(256, 1 << 62).is_some());
-    assert!(options.with_limits(257, 1).is_none());
+    assert!(options.with_limits(1024, 1 << 62).is_some());
+    assert!(options.with_limits(1025, 1).is_none());
     assert!(options.with_limits(1, (1 << 62) + 1).is_none());
 }
 

@@ -48,7 +48,7 @@ pub(crate) fn advice(reason: Reason) -> &'static str
         Reason::BadSimple => "Write the values 0 to 23 in one byte; 24 to 31 do not exist.",
         Reason::StrayBreak => "Look whether a length is wrong, or the value of a key is missing.",
         Reason::BadChunk => "Close the string with ff, or give each chunk the string's type.",
-        Reason::TooDeep => "--depth sets this limit, which is 256 at most.",
+        Reason::TooDeep => "--depth sets this limit, which is 1024 at most.",
         Reason::InvalidText => "Write the text in UTF-8, or its bytes as a byte string.",
         Reason::RepeatedKey => "Leave out one of the two pairs.",
         Reason::Trailing => "For several items in a row there is check --seq.",

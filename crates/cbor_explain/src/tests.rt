@@ -83,7 +83,7 @@ fn explains_refusals(rt: HostRuntime) -> io::Result<()> {
 #[test]
 fn has_sentences(rt: HostRuntime) -> io::Result<()> {
     assert!(rt; meaning(Reason::StrayBreak) == "A break (ff) stands where an item must begin.");
-    assert!(rt; advice(Reason::TooDeep) == "--depth sets this limit, which is 256 at most.");
+    assert!(rt; advice(Reason::TooDeep) == "--depth sets this limit, which is 1024 at most.");
     let mut written = Vec::with_capacity(rt.alloc(), 128)?;
     write_sentences(Reason::Read, &mut written)?;
     assert!(rt;

@@ -18,6 +18,6 @@ bounds depth bytes = record { depth = depth; bytes = bytes; keys = Any }
 abbrev pub with_keys : Bounds → Keys → Bounds
 with_keys b keys = record { depth = b.depth; bytes = b.bytes; keys = keys }
 
--- a depth up to the greatest, 256, and up to 2^62 bytes
+-- a depth up to the greatest, 1024, and up to 2^62 bytes
 abbrev pub AreBounds : Bounds → Type 0
 AreBounds b = (b.depth ≤ MAX_DEPTH) × (b.bytes ≤ 2 ^ 62)

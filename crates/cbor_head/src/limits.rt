@@ -7,9 +7,9 @@ use crate::Keys;
 use std::marker::Model;
 
 /// How deep the arrays, maps and tags of an item may nest, whatever its limits.
-pub const MAX_DEPTH: u16 = 256;
+pub const MAX_DEPTH: u16 = 1024;
 
-/// The limits on one item: how deep its arrays, maps and tags may nest, from 0 to 256, how many
+/// The limits on one item: how deep its arrays, maps and tags may nest, from 0 to 1024, how many
 /// bytes it may have, from 0 to 2^62, and which kinds of keys its maps may have.
 #[derive(Clone, Copy, Debug, PartialEq, Eq)]
 pub struct Limits {
@@ -29,7 +29,7 @@ impl Model for Limits {
 }
 
 impl Limits {
-    /// The limits, for keys of any kind; none for a depth above 256 or a byte limit above 2^62.
+    /// The limits, for keys of any kind; none for a depth above 1024 or a byte limit above 2^62.
     pub fn new(depth: u16, bytes: u64) -> Option<Limits>
         ensures allowed { IsSome result ↔ AreBounds (bounds depth bytes) }
         ensures value { IfSome result (λ l. l ≡ bounds depth bytes) }

@@ -162,7 +162,7 @@ fn limits(rt: HostRuntime) -> Result<(), Fail> {
             "keys at {depth} and {bytes}"
         );
     }
-    for (depth, bytes) in [(257, 0), (0, most + 1), (65535, u64::MAX)] {
+    for (depth, bytes) in [(1025, 0), (0, most + 1), (65535, u64::MAX)] {
         assert!(rt;
             Limits::new(depth, bytes).is_none(),
             "at {depth} and {bytes}"

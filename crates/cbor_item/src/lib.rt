@@ -1,6 +1,6 @@
 //! CBOR items as trees: sameness and canonical bytes.
 //!
-//! An [`Item`] is plain data. A [`Tree`] holds an item of depth at most 256 in which no map has
+//! An [`Item`] is plain data. A [`Tree`] holds an item of depth at most [`MAX_DEPTH`](cbor_head::MAX_DEPTH) in which no map has
 //! two equal keys, so that it has canonical bytes.
 //!
 //! ```

@@ -12,7 +12,7 @@ use cbor_head::{KeyOrder, MAX_DEPTH, Reason};
 use std::alloc::Global;
 use std::marker::Model;
 
-/// An item of depth at most 256 in which no map has two equal keys (RFC 8949, section 5.6).
+/// An item of depth at most [`MAX_DEPTH`] in which no map has two equal keys (RFC 8949, section 5.6).
 #[derive(Drop)]
 pub struct Tree {
     item: Item,
@@ -38,7 +38,7 @@ impl Model for Tree {
 }
 
 impl Tree {
-    /// The item as a tree. Otherwise it is given back, with `TooDeep` where it is deeper than 256,
+    /// The item as a tree. Otherwise it is given back, with `TooDeep` where it is deeper than `MAX_DEPTH`,
     /// else `RepeatedKey` where some map has two equal keys, else `Memory`. Memory may be refused
     /// before equal keys are found.
     pub fn of(alloc: Global, item: Item) -> Result<Tree, (Item, Reason)>

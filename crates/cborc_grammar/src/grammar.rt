@@ -15,7 +15,7 @@ const VERSION: &str = "\
 2.0.0
 Orders of keys: bytewise (RFC 8949, section 4.2.1), length (section 4.2.3)
 Kinds of keys: any, basic (integers and texts)
-Limits: depth 0 to 256, bytes 0 to 4611686018427387904
+Limits: depth 0 to 1024, bytes 0 to 4611686018427387904
 Proved with rattle-kit-13: each function is safe, returns, and meets its contract";
 
 /// What stands below the program's help.
@@ -180,7 +180,7 @@ fn depth<'a>(alloc: Global) -> Arg<'a>
         .action(ArgAction::Set)
         .value_parser(clap::value_parser!(u16).range(0..=i64::from(MAX_DEPTH)))
         .default_value("256")
-        .help("How deep arrays, maps and tags may nest, 0 to 256")
+        .help("How deep arrays, maps and tags may nest, 0 to 1024")
 }
 
 fn bytes<'a>(alloc: Global) -> Arg<'a>

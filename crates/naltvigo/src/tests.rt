@@ -41,7 +41,7 @@ fn canonical_bytes_in_a_buffer(rt: HostRuntime) {
     );
     assert!(&rt; (s, count) == (BAD_ORDER, 0));
     let s = naltvigo_canonicalise_raw(
-        alloc, &STREAMED, 0, 0, 257, 100, &mut out, &mut count, &mut why,
+        alloc, &STREAMED, 0, 0, 1025, 100, &mut out, &mut count, &mut why,
     );
     assert!(&rt; (s, count) == (BAD_LIMITS, 0));
     assert!(&rt; why == NONE);

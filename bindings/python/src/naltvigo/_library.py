@@ -10,7 +10,7 @@ MAJOR = 2
 # The statuses and greatest limits of naltvigo.h; scripts/header.py compares them.
 OK, REFUSED, TOO_SMALL, NO_MEMORY = 0, 1, 2, 3
 DIFFERENT, EVENT, MORE = 6, 7, 8
-DEPTH_MAX = 256
+DEPTH_MAX = 1024
 BYTES_MAX = 1 << 62
 
 ORDERS = {"bytewise": 0, "length": 1}

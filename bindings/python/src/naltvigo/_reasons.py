@@ -46,7 +46,7 @@ REASONS: Dict[int, Tuple[str, str, str]] = {
     9: (
         "TooDeep",
         "An array, map or tag is nested more deeply than the limit.",
-        "'depth' sets this limit, which is 256 at most.",
+        "'depth' sets this limit, which is 1024 at most.",
     ),
     10: (
         "InvalidText",

@@ -69,7 +69,7 @@ fn numbers_of_no_machine(rt: HostRuntime) {
             ..saved
         },
         SavedMachine {
-            depth: 257,
+            depth: 1025,
             ..saved
         },
         SavedMachine {

@@ -73,7 +73,7 @@ canon --hex=yes in out | error: unexpected value 'yes' for '--hex' found; no mor
 canon --hex --hex in out | error: the argument '--hex' cannot be used multiple times\n;
 canon --depth 1 --depth 1 in out | error: the argument '--depth <count>' cannot be used multiple times\n;
 canon in out --depth | error: a value is required for '--depth <count>' but none was supplied\n;
-canon --depth 257 in out | error: invalid value '257' for '--depth <count>': 257 is not in 0..=256\n;
+canon --depth 1025 in out | error: invalid value '1025' for '--depth <count>': 1025 is not in 0..=1024\n;
 canon --depth=-1 in out | error: invalid value '-1' for '--depth <count>': ;
 canon --depth deep in out | error: invalid value 'deep' for '--depth <count>': invalid digit found in string\n;
 canon --bytes 4611686018427387905 in out | error: invalid value '4611686018427387905' for '--bytes <count>': 4611686018427387905 is not in 0..=4611686018427387904\n;
@@ -96,7 +96,7 @@ compare --keys Basic a b | error: invalid value 'Basic' for '--keys <kinds>'\n  
 events in --keys | error: a value is required for '--keys <kinds>' but none was supplied\n  [possible values: any, basic]\n;
 show --keys any --keys any in | error: the argument '--keys <kinds>' cannot be used multiple times\n;
 check --order in | error: invalid value 'in' for '--order <order>'\n  [possible values: bytewise, length]\n;
-check --depth 257 in | error: invalid value '257' for '--depth <count>': 257 is not in 0..=256\n;
+check --depth 1025 in | error: invalid value '1025' for '--depth <count>': 1025 is not in 0..=1024\n;
 --strict check in | error: unexpected argument '--strict' found\n";
 
 #[test]

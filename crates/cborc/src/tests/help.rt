@@ -40,7 +40,7 @@ const VERSION: &str = "\
 cborc 2.0.0
 Orders of keys: bytewise (RFC 8949, section 4.2.1), length (section 4.2.3)
 Kinds of keys: any, basic (integers and texts)
-Limits: depth 0 to 256, bytes 0 to 4611686018427387904
+Limits: depth 0 to 1024, bytes 0 to 4611686018427387904
 Proved with rattle-kit-13: each function is safe, returns, and meets its contract
 ";
 
@@ -57,7 +57,7 @@ Options:
       --hex-out        Write hex digits, two for each byte, and a line feed
       --seq            Read a sequence of items, with the limits on each
       --order <order>  The order of map keys [default: bytewise] [possible values: bytewise, length]
-      --depth <count>  How deep arrays, maps and tags may nest, 0 to 256 [default: 256]
+      --depth <count>  How deep arrays, maps and tags may nest, 0 to 1024 [default: 256]
       --bytes <count>  How many bytes an item may have, 0 to 4611686018427387904 [default: 1048576]
       --keys <kinds>   Which keys maps may have: any, or basic, integers and texts [default: any] [possible values: any, basic]
       --hex            Read hex digits, two for each byte, white space ignored
@@ -78,7 +78,7 @@ Options:
       --strict         Accept canonical bytes alone
       --seq            Read a sequence of items, with the limits on each
       --order <order>  The order of map keys, with --strict [default: bytewise] [possible values: bytewise, length]
-      --depth <count>  How deep arrays, maps and tags may nest, 0 to 256 [default: 256]
+      --depth <count>  How deep arrays, maps and tags may nest, 0 to 1024 [default: 256]
       --bytes <count>  How many bytes an item may have, 0 to 4611686018427387904 [default: 1048576]
       --keys <kinds>   Which keys maps may have: any, or basic, integers and texts [default: any] [possible values: any, basic]
       --hex            Read hex digits, two for each byte, white space ignored
@@ -97,7 +97,7 @@ Arguments:
 
 Options:
       --seq            Read a sequence of items, with the limits on each
-      --depth <count>  How deep arrays, maps and tags may nest, 0 to 256 [default: 256]
+      --depth <count>  How deep arrays, maps and tags may nest, 0 to 1024 [default: 256]
       --bytes <count>  How many bytes an item may have, 0 to 4611686018427387904 [default: 1048576]
       --keys <kinds>   Which keys maps may have: any, or basic, integers and texts [default: any] [possible values: any, basic]
       --hex            Read hex digits, two for each byte, white space ignored
@@ -116,7 +116,7 @@ Arguments:
   <B>  The second file to read: one item, or -
 
 Options:
-      --depth <count>  How deep arrays, maps and tags may nest, 0 to 256 [default: 256]
+      --depth <count>  How deep arrays, maps and tags may nest, 0 to 1024 [default: 256]
       --bytes <count>  How many bytes an item may have, 0 to 4611686018427387904 [default: 1048576]
       --keys <kinds>   Which keys maps may have: any, or basic, integers and texts [default: any] [possible values: any, basic]
       --hex            Read hex digits, two for each byte, white space ignored
