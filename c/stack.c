@@ -97,7 +97,7 @@ int main(void) {
     printf("\n| ---: |");
     for (int i = 0; i < CALLS; i++) printf(" ---: |");
     puts("");
-    static const uint32_t depths[] = {0, 16, 32, 64, 256};
+    static const uint32_t depths[] = {0, 16, 32, 64, 256, 1024};
     for (size_t k = 0; k < sizeof depths / sizeof *depths; k++) {
         size_t most[CALLS] = {0};
         depth = depths[k];

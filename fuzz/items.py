@@ -137,7 +137,7 @@ class Items:
     def tower(self):
         """Containers in one another, around the greatest depth."""
         opener = self.chance.choice([b"\x81", b"\x9f", b"\xc1", b"\xa1\x00", b"\xbf\x00", b"\xa1", b"\xd8\x20"])
-        levels = self.chance.choice([1, 2, 100, 255, 256, 257])
+        levels = self.chance.choice([1, 2, 100, 255, 256, 257, 1023, 1024, 1025])
         behind = {b"\x9f": b"\xff", b"\xbf\x00": b"\xff", b"\xa1": b"\x00"}.get(opener, b"")
         return opener * levels + b"\x00" + behind * self.chance.choice([levels, levels, levels - 1])
 
@@ -149,6 +149,6 @@ class Items:
         found = self.tower() if chance.random() < 0.02 else self.item()
         for _ in range(chance.choice([0, 0, 0, 1, 1, 2])):
             found = self.changed(found)
-        depth = chance.choice([256, 256, 256, chance.randrange(6)])
+        depth = chance.choice([256, 256, 1024, chance.randrange(6)])
         most = chance.choice([1 << 20, 1 << 20, 1 << 20, chance.randrange(len(found) + 3)])
         return found, Limits(depth, most, keys)

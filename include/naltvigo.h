@@ -22,6 +22,7 @@
  *    with numbers stands under its name with `_raw` behind it, so a caller of 1.0 compiles with that rename
  *    and the number of `keys` before `depth`; but `_raw` takes no null pointer, and diagnostic text as uint8_t.
  *  - New: `keys`, the kinds of keys that maps may have, and the reason NALTVIGO_KEY_KIND.
+ *  - NALTVIGO_DEPTH_MAX is 1024.
  *  - naltvigo_reason_name writes a zero byte behind the name, and NALTVIGO_NAME_MAX counts it.
  *  - New: naltvigo_next_valid, naltvigo_next_canonical, naltvigo_machine_take (many events a call, on which
  *    naltvigo_machine_step stands now), naltvigo_status_name, naltvigo_version.
@@ -161,7 +162,7 @@ struct naltvigo_refusal {
     uint64_t read;   /* how many bytes were taken; at most the input's length, and `bytes` */
 };
 
-/* A machine that takes one item in parts of any length, and tells its events. It is the caller's, of 2.3 KiB;
+/* A machine that takes one item in parts of any length, and tells its events. It is the caller's, of 9.1 KiB;
  * it holds no pointer, so it may be copied, moved and stored. The fields may be read, and are written by the
  * calls of a machine alone: naltvigo_machine_take of other numbers answers NALTVIGO_BAD_MACHINE, or what some
  * machine within its limits would, safely, but of no item. */

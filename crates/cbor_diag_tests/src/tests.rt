@@ -223,12 +223,12 @@ fn push_times(text: &mut String, part: &str, times: usize) -> Result<(), AllocEr
 }
 
 fn push_tower(text: &mut String, opens: &str, closes: &str) -> Result<(), AllocError> {
-    push_times(text, opens, 256)?;
+    push_times(text, opens, 1024)?;
     text.push_str("7")?;
-    push_times(text, closes, 256)
+    push_times(text, closes, 1024)
 }
 
-// Whether the text of a tower is this, 256 times on each side of 7.
+// Whether the text of a tower is this, 1024 times on each side of 7.
 fn shows_tower(alloc: Global, tower: Item, opens: &str, closes: &str) -> Result<bool, Fail> {
     let mut want = String::new(alloc);
     push_tower(&mut want, opens, closes)?;
@@ -237,7 +237,7 @@ fn shows_tower(alloc: Global, tower: Item, opens: &str, closes: &str) -> Result<
 
 fn arrays(alloc: Global) -> Result<Item, AllocError> {
     let mut item = Item::Unsigned(7);
-    for _ in 0..256 {
+    for _ in 0..1024 {
         item = Item::Array(vec![in alloc; item]?);
     }
     Ok(item)
@@ -245,7 +245,7 @@ fn arrays(alloc: Global) -> Result<Item, AllocError> {
 
 fn tags_of_tags(alloc: Global) -> Result<Item, AllocError> {
     let mut item = Item::Unsigned(7);
-    for _ in 0..256 {
+    for _ in 0..1024 {
         item = tag(alloc, 1, item)?;
     }
     Ok(item)
@@ -253,7 +253,7 @@ fn tags_of_tags(alloc: Global) -> Result<Item, AllocError> {
 
 fn maps_as_keys(alloc: Global) -> Result<Item, AllocError> {
     let mut item = Item::Unsigned(7);
-    for _ in 0..256 {
+    for _ in 0..1024 {
         item = Item::Map(vec![in alloc; (item, Item::Unsigned(0))]?);
     }
     Ok(item)

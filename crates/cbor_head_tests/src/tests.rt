@@ -148,7 +148,7 @@ fn simple_values(rt: HostRuntime) {
 #[test]
 fn limits(rt: HostRuntime) -> Result<(), Fail> {
     let most = 4611686018427387904;
-    for (depth, bytes) in [(0, 0), (256, 1048576), (256, most)] {
+    for (depth, bytes) in [(0, 0), (256, 1048576), (1024, 0), (1024, most)] {
         let limits = Limits::new(depth, bytes).ok_or("limits")?;
         assert!(rt;
             limits.depth() == depth && limits.bytes() == bytes && limits.keys() == Keys::Any,

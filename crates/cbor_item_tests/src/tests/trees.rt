@@ -44,17 +44,19 @@ fn equal_keys(alloc: Global) -> Result<Item, AllocError> {
 #[test]
 fn refuses(rt: HostRuntime) -> Result<(), AllocError> {
     let alloc = rt.alloc();
-    // by itself, and within 255 and 256 tags
+    // by itself, and within 256, 1023 and 1024 tags
     refuse(&rt, alloc, equal_keys(alloc)?, Reason::RepeatedKey);
-    let within = tagged(alloc, equal_keys(alloc)?, 255)?;
-    refuse(&rt, alloc, within, Reason::RepeatedKey);
-    let deeper = tagged(alloc, equal_keys(alloc)?, 256)?;
+    for count in [256, 1023] {
+        let within = tagged(alloc, equal_keys(alloc)?, count)?;
+        refuse(&rt, alloc, within, Reason::RepeatedKey);
+    }
+    let deeper = tagged(alloc, equal_keys(alloc)?, 1024)?;
     refuse(&rt, alloc, deeper, Reason::TooDeep);
     refuse(&rt, alloc, equal_maps_as_keys(alloc)?, Reason::RepeatedKey);
     refuse(&rt, alloc, equal_keys_in_a_key(alloc)?, Reason::RepeatedKey);
-    // 257 maps, nested as values and as keys
+    // 1025 maps, nested as values and as keys
     for as_key in [false, true] {
-        let item = nested(alloc, Item::Unsigned(0), 257, as_key)?;
+        let item = nested(alloc, Item::Unsigned(0), 1025, as_key)?;
         refuse(&rt, alloc, item, Reason::TooDeep);
     }
     Ok(())
@@ -142,10 +144,10 @@ fn gives_the_item_back(rt: HostRuntime) -> Result<(), Fail> {
         Err((item, Reason::RepeatedKey)) => assert!(rt; has_equal_keys(&item)),
         _ => panic!(rt; "another answer"),
     }
-    // 257 tags around 5
-    match Tree::of(alloc, tagged(alloc, Item::Unsigned(5), 257)?) {
+    // 1025 tags around 5
+    match Tree::of(alloc, tagged(alloc, Item::Unsigned(5), 1025)?) {
         Err((item, Reason::TooDeep)) => {
-            assert!(rt; matches!(within_tags(&item, 257), Some(Item::Unsigned(5))));
+            assert!(rt; matches!(within_tags(&item, 1025), Some(Item::Unsigned(5))));
         }
         _ => panic!(rt; "another answer"),
     }
@@ -155,26 +157,26 @@ fn gives_the_item_back(rt: HostRuntime) -> Result<(), Fail> {
     Ok(())
 }
 
-// 256 maps around a number.
+// 1024 maps around a number.
 fn deepest(alloc: Global, number: u64, as_key: bool) -> Result<Tree, Fail> {
-    tree(alloc, nested(alloc, Item::Unsigned(number), 256, as_key)?)
+    tree(alloc, nested(alloc, Item::Unsigned(number), 1024, as_key)?)
 }
 
 // The greatest depth: each is built, compared, encoded and let go.
 fn look_at_depth(rt: &impl Abort, alloc: Global, tree: &Tree, as_key: bool) -> Result<(), Fail> {
     assert!(rt; same(tree, &deepest(alloc, 0, as_key)?));
     assert!(rt; !same(tree, &deepest(alloc, 1, as_key)?));
-    assert!(rt; encode(alloc, tree, KeyOrder::LengthFirst)?.len() == 513);
+    assert!(rt; encode(alloc, tree, KeyOrder::LengthFirst)?.len() == 2049);
     Ok(())
 }
 
 #[test]
-fn goes_down_to_256(rt: HostRuntime) -> Result<(), Fail> {
+fn goes_down_to_1024(rt: HostRuntime) -> Result<(), Fail> {
     let alloc = rt.alloc();
     for as_key in [false, true] {
         look_at_depth(&rt, alloc, &deepest(alloc, 0, as_key)?, as_key)?;
     }
-    let tags = tree(alloc, tagged(alloc, Item::Unsigned(0), 256)?)?;
-    assert!(rt; encode(alloc, &tags, KeyOrder::Bytewise)?.len() == 257);
+    let tags = tree(alloc, tagged(alloc, Item::Unsigned(0), 1024)?)?;
+    assert!(rt; encode(alloc, &tags, KeyOrder::Bytewise)?.len() == 1025);
     Ok(())
 }

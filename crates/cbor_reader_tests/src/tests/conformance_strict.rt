@@ -52,7 +52,7 @@ fn last_of(
     order: KeyOrder,
 ) -> Option<Result<u64, Refusal>> {
     let mut events = StrictReader::new(alloc, reader, limits, order);
-    for _ in 0..1000 {
+    for _ in 0..10_000 {
         let answer = match events.next() {
             Ok(Some(_)) => None,
             Ok(None) => Some(Ok(events.taken())),

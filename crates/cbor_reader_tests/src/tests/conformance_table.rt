@@ -169,6 +169,7 @@ static STRINGS_AND_MAPS: &[&str] = &[
     r#"611c | | same | | "\u001c""#,
     "a10102 | | same | | {1: 2}",
     "256*c1 00 | | same | | 0 in 256 tags 1",
+    "1024*c1 00 | depth 1024 | same | | 0 in 1024 tags 1",
     // Strings of indefinite length.
     "5fff | | 40 | 15 Indefinite at 0, read 1 | h'', no chunks",
     r#"7fff | | 60 | 15 Indefinite at 0, read 1 | "", no chunks"#,
@@ -202,6 +203,7 @@ static STRINGS_AND_MAPS: &[&str] = &[
     "a2a1010000a1010100 | | same | | {{1: 0}: 0, {1: 1}: 0}",
     "a2a1010100a1010000 | | a2a1010000a1010100 | 16 KeyOrder at 5, read 8 | {{1: 1}: 0, {1: 0}: 0}",
     "256*a100 00 | | same | | 0 in 256 maps with the key 0",
+    "1024*a100 00 | depth 1024 | same | | 0 in 1024 maps with the key 0",
     r#"a282a302002000186481a201000000c5410100a26162016161a22000186400a22000186400 | | a282a30200186481a2000001002000c5410100a26161a21864002000616201a21864002000 / a2a26161a22000186400616201a2200018640082a302002000186481a200000100c5410100 | 16 KeyOrder at 7, read 9 / 16 KeyOrder at 13, read 14 | {[{2: 0, -1: 0, 100: [{1: 0, 0: 0}]}, 5(h'01')]: 0, {"ab": 1, "aa": {-1: 0, 100: 0}}: {-1: 0, 100: 0}}"#,
     "a2a2a2186400200000c1a220f51864f480000000 | | a20000a2a2186400200000c1a21864f420f58000 / a20000a2a2200018640000c1a220f51864f48000 | 16 KeyOrder at 13, read 15 / 16 KeyOrder at 6, read 7 | {{{100: 0, -1: 0}: 0, 1({-1: true, 100: false}): []}: 0, 0: 0}",
 ];

@@ -145,6 +145,8 @@ static DEPTH_AND_VALIDITY: &[&str] = &[
     "80 | depth 0 bytes 0 | 2 TooLong at 0, read 0 | | no byte is allowed",
     "257*c1 00 | | 9 TooDeep at 256, read 257 | | 0 in 257 tags",
     "256*a100 00 | depth 255 | 9 TooDeep at 510, read 511 | | 0 in 256 maps",
+    "1025*c1 00 | depth 1024 | 9 TooDeep at 1024, read 1025 | | 0 in 1025 tags",
+    "1024*a100 00 | depth 1023 | 9 TooDeep at 2046, read 2047 | | 0 in 1024 maps",
     // Texts that are not UTF-8.
     "61ff | | 10 InvalidText at 1, read 2 | | ff never stands in UTF-8",
     "63eda080 | | 10 InvalidText at 1, read 4 | | a surrogate",

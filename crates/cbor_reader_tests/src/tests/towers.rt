@@ -1,9 +1,10 @@
-//! Towers of each kind of container, in values and in keys, as deep as each depth limit allows, and
-//! a level deeper.
+//! Towers of each kind of container, in values and in keys, as deep as a depth limit allows, and a
+//! level deeper.
 
 use cbor_head::{Limits, Reason, Refusal};
 use cbor_reader::{KeyOrder, canonicalise, check_canonical, read_strict, read_tree, same_meaning};
 use std::alloc::{AllocError, Global};
+use std::process::Abort;
 use std::test::Fail;
 
 // Containers of one kind within one another, the integer 0 in the innermost: what opens each, what
@@ -159,22 +160,33 @@ fn refusal_behind(tower: Tower, opens: &[u8], limit: u16) -> Refusal {
     Refusal::new(Reason::TooDeep, place, place.saturating_add(1))
 }
 
+// Limits on depth: small ones, and those around each number of open containers for which the calls
+// keep other room.
+static LIMITS: [(u16, u16); 4] = [(0, 40), (125, 131), (253, 259), (1021, 1024)];
+
+fn look_at(rt: &impl Abort, alloc: Global, tower: Tower, limit: u16) -> Result<(), Fail> {
+    let Some(limits) = Limits::new(limit, 1048576) else {
+        return Err(Fail::from("no limits"));
+    };
+    let is_accepted = limit == 0 && tower.is_key || stands(alloc, tower, limit, limits)?;
+    let is_refused = is_too_deep(alloc, tower, limit, limits)?;
+    assert!(rt; is_accepted, "{:?}, {limit} deep", tower.opens);
+    assert!(rt; is_refused, "{:?}, deeper than {limit}", tower.opens);
+    Ok(())
+}
+
 #[test]
-fn stand_within_each_limit_and_no_higher(rt: HostRuntime) -> Result<(), Fail> {
+fn stand_within_a_limit_and_no_higher(rt: HostRuntime) -> Result<(), Fail> {
     let alloc = rt.alloc();
     for kind in 0..8 {
         for is_key in [false, true] {
             let Some(tower) = tower_of(kind, is_key) else {
                 return Err(Fail::from("no such kind"));
             };
-            for limit in 0..=256u16 {
-                let Some(limits) = Limits::new(limit, 1048576) else {
-                    return Err(Fail::from("no limits"));
-                };
-                let is_accepted = limit == 0 && is_key || stands(alloc, tower, limit, limits)?;
-                let is_refused = is_too_deep(alloc, tower, limit, limits)?;
-                assert!(rt; is_accepted, "{:?}, {limit} deep", tower.opens);
-                assert!(rt; is_refused, "{:?}, deeper than {limit}", tower.opens);
+            for (least, most) in &LIMITS {
+                for limit in *least..=*most {
+                    look_at(&rt, alloc, tower, limit)?;
+                }
             }
         }
     }
