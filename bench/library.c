@@ -1,6 +1,7 @@
 /* library FOLDER NAME..: times calls of naltvigo.h in process on FOLDER/NAME.cbor and its canonical bytes
  * FOLDER/NAME.bytewise, beside plain C (floor.c) and, where it is there, libcbor; prints a row of a Markdown
- * table for each, in MB/s of processor time, the best of some calls; then what a call on a small item costs, and events. */
+ * table for each, in MB/s of processor time, the best of some calls; then what a call on a small item costs, and events.
+ * library --calls NAME ITEM TIMES: makes so many calls on a small item, for a count of their instructions (small.py). */
 #define _POSIX_C_SOURCE 199309L
 #include "../c/options.h"
 #include "floor.h"
@@ -63,6 +64,10 @@ static int compare(void) {
     uint32_t side;
     return naltvigo_compare(in.at, in.length, canonical.at, canonical.length, LIMITS(256, NALTVIGO_BYTES_MAX), &side, &why) == NALTVIGO_OK;
 }
+static int diagnostic(void) {
+    size_t needed;
+    return naltvigo_diagnostic(in.at, in.length, LIMITS(256, NALTVIGO_BYTES_MAX), (char *)out.at, out.length, &needed, &why) == NALTVIGO_OK;
+}
 /* All events of the input, in parts of so many bytes with room for so many events a call. */
 static int events_by(size_t part, size_t room) {
     static struct naltvigo_machine machine;
@@ -118,6 +123,7 @@ static const struct {
     size_t length;
 } small[] = {
     {"the integer 0", "\x00", 1},
+    {"a byte string of 23", "\x57" "01234567890123456789012", 24},
     {"a map of a text and a number", "\xa1\x63" "Fun" "\x18\x2a", 7},
     {"the claims of a token",
      "\xa7\x01\x75" "coap://as.example.com" "\x02\x65" "erikw" "\x03\x78\x18" "coap://light.example.com"
@@ -142,13 +148,35 @@ static void tell_nanoseconds(int (*call)(void)) {
     printf(" %.0f |", 1e9 * best);
 }
 
+static uint8_t room[1024];
+
+static void take_small(size_t i) {
+    in = canonical = (struct bytes){(uint8_t *)small[i].bytes, small[i].length};
+    out = (struct bytes){room, sizeof room};
+}
+
+/* Makes so many of the calls of this name on a small item. */
+static int repeat(const char *name, size_t item, long times) {
+    static const struct { const char *name; int (*call)(void); } calls[] = {
+        {"canonicalise", canonicalise}, {"plain_canonicalise", plain_canonicalise},
+        {"check_canonical", check_canonical}, {"plain_check_canonical", plain_check_canonical},
+        {"check_valid", check_valid}, {"compare", compare}, {"diagnostic", diagnostic}, {"events", events_64},
+    };
+    take_small(item);
+    for (size_t i = 0; i < sizeof calls / sizeof *calls; i++)
+        if (strcmp(calls[i].name, name) == 0) {
+            while (times-- > 0)
+                if (!calls[i].call()) return 1;
+            return 0;
+        }
+    return 2;
+}
+
 static void tell_small(void) {
     puts("\n| small item, ns a call | bytes | `canonicalise` | plain C | `check_canonical` | plain C | `check_valid` | `compare` |");
     puts("| --- | ---: | ---: | ---: | ---: | ---: | ---: | ---: |");
-    uint8_t room[256];
     for (size_t i = 0; i < sizeof small / sizeof *small; i++) {
-        in = canonical = (struct bytes){(uint8_t *)small[i].bytes, small[i].length};
-        out = (struct bytes){room, sizeof room};
+        take_small(i);
         printf("| %s | %zu |", small[i].name, in.length);
         tell_nanoseconds(canonicalise);
         tell_nanoseconds(plain_canonicalise);
@@ -161,6 +189,8 @@ static void tell_small(void) {
 }
 
 int main(int count, char **words) {
+    if (count == 5 && strcmp(words[1], "--calls") == 0)
+        return repeat(words[2], strtoul(words[3], NULL, 10), strtol(words[4], NULL, 10));
     printf("| input | bytes | `canonicalise` | plain C | `check_canonical` | plain C | `check_valid` | `compare` |");
 #ifdef HAS_LIBCBOR
     printf(" libcbor, load | load and serialise |");

@@ -9,7 +9,8 @@
 # beside   counts the instructions of canon, check and check --strict beside those of plain C
 #          (beside.py, plain.c, floor.c), by valgrind
 # library  builds the library for C, and times its calls in process beside plain C (library.c, floor.c)
-#          and libcbor, where Debian's libcbor-dev is installed; and the stack that they need (c/stack.c)
+#          and libcbor, where Debian's libcbor-dev is installed; counts their instructions on small items,
+#          by valgrind (small.py), and the stack that they need (c/stack.c)
 # strict   proves and runs strict.rattle, a program over cbor_strict, and counts the instructions of
 #          read_strict from a reader beside those of plain C (strict.py, plain.c, floor.c), by valgrind
 # views    proves and runs views.rattle, a program over cbor_reader and example, and counts the instructions
@@ -77,6 +78,8 @@ library() {
         "$room/dist/lib/libnaltvigo.a" "${peer[@]}"
     "$room/library" "$room/inputs" records map_10000 map_100000 integers wide_integers zeros text chunks \
         nested_many nested_keys keys_around_map bytes_16_mib
+    printf '\n'
+    python3 "$root/bench/small.py" "$room/library"
     cc -O2 -o "$room/stack" "$root/c/stack.c" "-I$root/c" "-I$room/dist/include" "$room/dist/lib/libnaltvigo.a" -pthread
     printf '\n'
     "$room/stack"
