@@ -2,7 +2,8 @@
 """Holds the documents to what they promise: links lead to files, README has at most 60 lines, no line of prose more than 120
 characters, and what scripts write is what they write.
 
-    scripts/documents.py    says what does not hold, and fails where something does not
+    scripts/documents.py [FOLDER]    says what does not hold, and fails where something does not; of a folder where
+                                     documents are installed, whether links lead to files
 """
 
 import re
@@ -21,6 +22,13 @@ def documents():
     return [ROOT / line for line in listed.splitlines()]
 
 
+def broken_links(path, name):
+    for number, line in prose(path.read_text(encoding="utf-8")):
+        for target in re.findall(r"\]\(([^)#\s]+)(?:#[^)]*)?\)", line):
+            if "://" not in target and not (path.parent / target).exists():
+                yield f"{name}:{number}: {target} is not there"
+
+
 def prose(text):
     """The lines of a document, but of code and of tables, with their numbers."""
     inside = False
@@ -34,11 +42,8 @@ def prose(text):
 def faults():
     for path in documents():
         name = path.relative_to(ROOT).as_posix()
-        text = path.read_text(encoding="utf-8")
-        for number, line in prose(text):
-            for target in re.findall(r"\]\(([^)#\s]+)(?:#[^)]*)?\)", line):
-                if "://" not in target and not (path.parent / target).exists():
-                    yield f"{name}:{number}: {target} is not there"
+        yield from broken_links(path, name)
+        for number, line in prose(path.read_text(encoding="utf-8")):
             if name in NARROW and len(line) > 120:
                 yield f"{name}:{number}: {len(line)} characters"
     lines = (ROOT / "README.md").read_text(encoding="utf-8").count("\n")
@@ -49,8 +54,13 @@ def faults():
             yield f"scripts/{script} writes something else"
 
 
+def faults_below(folder):
+    for path in sorted(folder.rglob("*.md")):
+        yield from broken_links(path, path.relative_to(folder).as_posix())
+
+
 if __name__ == "__main__":
-    found = list(faults())
+    found = list(faults_below(Path(sys.argv[1])) if sys.argv[1:] else faults())
     for fault in found:
         print(f"documents: {fault}")
     sys.exit(1 if found else 0)

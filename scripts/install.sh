@@ -40,9 +40,10 @@ put "$root/share/cborc.1" share/man/man1/cborc.1
 put "$root/share/cborc.bash" share/bash-completion/completions/cborc
 put "$root/share/_cborc" share/zsh/site-functions/_cborc
 put "$root/share/cborc.fish" share/fish/vendor_completions.d/cborc.fish
-for file in README.md CHANGELOG.md LICENSE-MIT LICENSE-APACHE docs/C.md; do
-    put "$root/$file" "share/doc/naltvigo/${file##*/}"
-done
+# in the same folders, so that their links lead somewhere
+while IFS= read -r file; do
+    put "$root/$file" "share/doc/naltvigo/$file"
+done < <(cd "$root" && ls README.md CHANGELOG.md CONTRIBUTING.md LICENSE-MIT LICENSE-APACHE docs/*.md bindings/*/README.md)
 while IFS= read -r file; do
     case $file in *.so.*.*.*) mode=755 ;; *) mode=644 ;; esac
     put "$dist/$file" "$file" $mode

@@ -45,8 +45,6 @@ if command -v dpkg-deb >/dev/null; then
     rmdir "$deb/usr/share/zsh/site-functions"
     doc=$deb/usr/share/doc/naltvigo
     { printf 'MIT or Apache-2.0, as you like.\n\n'; cat "$doc/LICENSE-MIT"; printf '\nOr:\n\n'; cat "$doc/LICENSE-APACHE"; } >"$doc/copyright"
-    rm "$doc"/LICENSE-*
-    gzip -9n "$doc/CHANGELOG.md"
     # the newest symbol of the C library that program or library ask for
     libc=$(objdump -T "$deb/usr/bin/cborc" "$deb/usr/lib/libnaltvigo.so" | grep -o 'GLIBC_[0-9.]*' | sed 's/GLIBC_//' | sort -V | tail -1)
     cat >"$deb/DEBIAN/control" <<CONTROL

@@ -313,7 +313,7 @@ def explained():
     ended = run(["check", "--explain", "-"], b"\xa1\x61a\x82\x00\xf9\x00\x00")
     lines = b"""refused 5 Float at 5
   in standard input
-  A floating-point number begins here; floats are not part of this profile.
+  A floating-point number begins here; no float is accepted.
   Write it as an integer, a text, or a tag over integers.
   bytes from 0: a1 61 61 82 00 f9 00 00
 """

@@ -73,6 +73,7 @@ use() { # NAME PREFIX
         done
         used+=', C by CMake'
     fi
+    python3 "$root/scripts/documents.py" "$prefix/share/doc/naltvigo" || fail "$1: a link in a document"
     say "$1: $used"
 }
 

@@ -50,6 +50,8 @@ def main():
     if cbor2:
         assert cbor2.dumps(cbor2.loads(CLAIMS), canonical=True) == answer
         rows.append(("`cbor2.dumps(cbor2.loads(x), canonical=True)`", least(lambda: cbor2.dumps(cbor2.loads(CLAIMS), canonical=True))))
+    else:
+        print("no row of cbor2, which is not there (Debian's python3-cbor2, or a folder that has it)", file=sys.stderr)
     print(f"| claims set of {len(CLAIMS)} bytes | microseconds |\n|---|---:|")
     for name, time in rows:
         print(f"| {name} | {time:.2f} |")

@@ -86,7 +86,7 @@ impl Reason {
             Reason::Reserved => "No item begins with this byte: its low five bits are reserved.",
             Reason::NoIndefinite => "An integer or a tag has no indefinite length.",
             Reason::Float => {
-                "A floating-point number begins here; floats are not part of this profile."
+                "A floating-point number begins here; no float is accepted."
             }
             Reason::BadSimple => "A simple value below 32 is not written in a second byte.",
             Reason::StrayBreak => "A break (ff) stands where an item must begin.",

@@ -142,7 +142,7 @@ fn a_machine_by_single_bytes() {
 #[test]
 fn texts() {
     let error = check(b"\xf9\x3e\x00", &Options::default()).unwrap_err();
-    let wanted = "refused 5 Float at 0: A floating-point number begins here; floats are not part of this profile.";
+    let wanted = "refused 5 Float at 0: A floating-point number begins here; no float is accepted.";
     assert_eq!(error.to_string(), wanted);
     assert_eq!(
         (library_version() >> 16).to_string(),

@@ -5,7 +5,7 @@
 //! `a1 61 61 82 00 f9 00 00`, refused as a `Float` at 5:
 //!
 //! ```text
-//!   A floating-point number begins here; floats are not part of this profile.
+//!   A floating-point number begins here; no float is accepted.
 //!   Write it as an integer, a text, or a tag over integers.
 //!   bytes from 0: a1 61 61 82 00 f9 00 00
 //!                                ^^

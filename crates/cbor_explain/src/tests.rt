@@ -23,7 +23,7 @@ fn rows() -> [Row; 4] {
             item: b"\xa1\x61a\x82\x00\xf9\x00\x00",
             refusal: Refusal::new(Reason::Float, 5, 6),
             written: "  \
-  A floating-point number begins here; floats are not part of this profile.
+  A floating-point number begins here; no float is accepted.
   Write it as an integer, a text, or a tag over integers.
   bytes from 0: a1 61 61 82 00 f9 00 00
                                ^^

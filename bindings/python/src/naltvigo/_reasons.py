@@ -25,7 +25,7 @@ REASONS: Dict[int, Tuple[str, str, str]] = {
     ),
     5: (
         "Float",
-        "A floating-point number begins here; floats are not part of this profile.",
+        "A floating-point number begins here; no float is accepted.",
         "Write it as an integer, a text, or a tag over integers.",
     ),
     6: (

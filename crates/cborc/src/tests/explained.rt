@@ -7,7 +7,7 @@ use std::alloc::AllocError;
 const FLOAT: &str = "\
 refused 5 Float at 5
   in in
-  A floating-point number begins here; floats are not part of this profile.
+  A floating-point number begins here; no float is accepted.
   Write it as an integer, a text, or a tag over integers.
   bytes from 0: a1 61 61 82 00 f9 00 00
                                ^^
