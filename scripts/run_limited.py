@@ -1,5 +1,5 @@
 #!/usr/bin/env python3
-"""Runs the built program where memory ends or the disk, or it is killed: what it says then, and what it leaves.
+"""Runs the built program where memory ends, the stack or the disk, or it is killed: what it says then, and what it leaves.
 
     scripts/run_limited.py [PROGRAM]
 
@@ -16,7 +16,7 @@ import subprocess
 import tempfile
 import time
 
-from running import PROGRAM, end, expect, faults, limited, run, short
+from running import PROGRAM, end, expect, faults, limited, low, run, short
 
 # The claims of a token (RFC 8392), 75 bytes of them.
 CLAIMS = (
@@ -287,7 +287,37 @@ def short_files(place):
             expect(f"{words} to a full device", place.run(words, stdout=full), 3, None, b"cannot write standard output\n")
 
 
-TESTS = (small_items, one_item, too_little, kills, kills_of_long_runs, small_disks, short_files)
+DEEPEST = 1024
+TOWERS = [
+    (b"\x81", b""),
+    (b"\xa1\x00", b""),
+    (b"\xa1", b"\x00"),
+    (b"\xc1", b""),
+    (b"\x9f", b"\xff"),
+    (b"\xbf\x00", b"\xff"),
+    (b"\xbf", b"\x00\xff"),
+]
+OVER_AN_ITEM = ["check item", "show item", "show --indent item", "events item", "canon item out", "canon item -", "compare item item"]
+OVER_ITEMS = ["check --seq item", "show --seq item", "events --seq item", "canon --seq item out", "check --strict --seq item"]
+
+
+def deep(place):
+    """Items as deep as any may be, and a level deeper, within 64 KiB of the stack."""
+    for opens, closes in TOWERS:
+        for levels, status in ((DEEPEST, 0), (DEEPEST + 1, 1)):
+            place.put("item", opens * levels + b"\0" + closes * levels)
+            told = b"refused 9 TooDeep at %d" % (DEEPEST * len(opens)) if status else b""
+            for words in OVER_AN_ITEM + OVER_ITEMS + ["check --strict item"]:
+                if "strict" in words and opens[0] in (0x9F, 0xBF):
+                    continue
+                for more in ("", " --explain") if status else ("",):
+                    command = [*f"{words}{more}".split(), "--depth", str(DEEPEST)]
+                    ended = place.run(command, preexec_fn=low(64), env={})
+                    if ended.returncode != status or told not in ended.stderr:
+                        faults.append(f"{opens!r}, {levels} deep: {command}: {ended.returncode} {ended.stderr[:200]!r}")
+
+
+TESTS = (small_items, one_item, too_little, kills, kills_of_long_runs, small_disks, short_files, deep)
 
 
 def test():

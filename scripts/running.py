@@ -51,6 +51,11 @@ def limited(kib):
     return lambda: resource.setrlimit(resource.RLIMIT_AS, (kib * 1024, kib * 1024))
 
 
+def low(kib):
+    """What keeps a run within so much of the stack."""
+    return lambda: resource.setrlimit(resource.RLIMIT_STACK, (kib * 1024, kib * 1024))
+
+
 def short(size):
     """What keeps each file that a run writes to so many bytes."""
     return lambda: resource.setrlimit(resource.RLIMIT_FSIZE, (size, size))
