@@ -77,6 +77,19 @@ impl ItemEvents {
         }
     }
 
+    /// Goes on with the events of another item, whatever came of the one before, within the same
+    /// limits.
+    pub fn restart(&mut self)
+        ensures starts { StandsBetween self.new.machine [] [] }
+        ensures limits { KeepsLimits self.old.machine self.new.machine }
+        ensures piece { self.new.piece ≡ [] }
+        ensures live { self.new.refusal ≡ None }
+    {
+        self.machine.restart();
+        self.held = 0;
+        self.refusal = None;
+    }
+
     /// The next event, with its bytes read; none once the item is complete, and then nothing is
     /// read.
     ///

@@ -2,3 +2,4 @@ pub mod Reasons
 pub mod Saved
 pub mod SavedFrames
 pub mod Settled
+pub mod Starting

@@ -80,6 +80,18 @@ impl Machine {
         }
     }
 
+    /// Goes on with another item, whatever came of the one before, within the same limits.
+    pub fn restart(&mut self)
+        ensures limits { (self.new.depth ≡ self.old.depth) × (self.new.bytes ≡ self.old.bytes) }
+        ensures starts { StandsFor self.new [] [] }
+    {
+        self.taken = 0;
+        self.told = 0;
+        self.position = Position::Item;
+        self.nest.clear();
+        self.refusal = None;
+    }
+
     /// How many arrays, maps and tags are open: from its head until its last member or its break.
     pub fn open(&self) -> usize
         ensures count { result ≡ self.now.open_count }

@@ -12,6 +12,12 @@ use std::marker::Model;
 // The open containers and the input itself.
 const LEVELS: usize = MOST_OPEN + 1;
 
+// The input, with one item due.
+const ROOT: Level = Level {
+    due: Due::Content,
+    left: 0,
+};
+
 /// What is due in a container.
 #[derive(Clone, Copy)]
 pub enum Due {
@@ -141,17 +147,21 @@ impl Nest {
     pub fn new() -> Nest
         ensures { result ≡ [] }
     {
-        let root = Level {
-            due: Due::Content,
-            left: 0,
-        };
         // Blanks of zeros alone are filled in fastest.
         Nest {
             dues: [Due::Item; LEVELS],
             lefts: [0; LEVELS],
             height: 0,
-            top: root,
+            top: ROOT,
         }
+    }
+
+    /// Nothing is open any more. No level is filled again.
+    pub fn clear(&mut self)
+        ensures { self.new ≡ [] }
+    {
+        self.height = 0;
+        self.top = ROOT;
     }
 
     /// How many are open.

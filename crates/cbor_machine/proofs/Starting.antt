@@ -1,0 +1,15 @@
+-- A machine before an item's first byte.
+use Rattle.std.proofs.Common.{◌≡◌, List, length, [], None, refl, ap, sym, arith}
+use Rattle.cbor_head.specs.Limits.{Bounds}
+use Rattle.cbor_automaton.specs.Automaton.{at_item, reached}
+use Rattle.cbor_steps.specs.State.{frames_of}
+use Rattle.cbor_steps.specs.declared.frame.Frame.{Frame}
+use Rattle.cbor_steps.specs.declared.position.Position.TheVariants as positions
+use Rattle.cbor_standing.specs.Machine.{StandsFor}
+use Rattle.cbor_standing.proofs.Standing.{meant}
+use Rattle.cbor_machine.specs.contracts.machine.Machine.{the_view}
+
+pub starts : (limits : Bounds) (frames : List Frame) → frames ≡ [] → StandsFor (the_view (record { limits = limits; taken = 0; told = 0; position = positions.Item; nest = frames; refusal = None })) [] []
+starts limits frames empty =
+    let none : length frames ≡ 0 = ap length empty in
+    meant _ [] [] tt (ap (λ fs. reached (at_item (frames_of fs)) []) (sym empty)) (record { shown = record { open_count = refl; due = refl; in_payload = refl; complete = refl }; empty = λ e. empty }) (omega (arith, none)) refl (omega arith) refl refl
