@@ -27,5 +27,5 @@ mod strict_slice;
 pub const MOST_OPEN: usize = cbor_head::MAX_DEPTH as usize;
 
 pub use cbor_head::KeyOrder;
-pub use strict_reader::{StrictReader, read_strict};
+pub use strict_reader::{StrictReader, read_strict, read_strict_by};
 pub use strict_slice::check_canonical;

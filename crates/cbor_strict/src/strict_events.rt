@@ -154,7 +154,7 @@ impl StrictEvents {
 }
 
 // The next event, if no complaint ends with it.
-fn next_event<R: Read>(
+pub(crate) fn next_event<R: Read>(
     events: &mut ItemEvents,
     items: &mut OpenItems,
     keys: Keys,

@@ -17,6 +17,7 @@ ghost use Rattle.cbor_strict.specs.StrictReader.{IsNextStrict, limits_of, strict
 use crate::strict_events::StrictEvents;
 use crate::strict_front::read_strict_front;
 use cbor_automaton::Event;
+use cbor_events::ItemEvents;
 use cbor_head::{KeyOrder, Limits, Refusal};
 use std::alloc::Global;
 use std::io::Read;
@@ -51,7 +52,37 @@ pub fn read_strict<R: Read>(
     ensures read { IfErr result
         (λ f. Loses f.read (R.remaining reader.old) (R.remaining reader.new)) }
 {
-    match read_strict_front(alloc, reader, limits, order) {
+    read_strict_by(alloc, &mut ItemEvents::new(limits), reader, limits, order)
+}
+
+/// The same, by events that the caller keeps from item to item: whatever they told before, they
+/// become the item's.
+pub fn read_strict_by<R: Read>(
+    alloc: Global,
+    events: &mut ItemEvents,
+    reader: &mut R,
+    limits: Limits,
+    order: KeyOrder,
+) -> Result<u64, Refusal>
+    requires limits { (events.old.machine.depth ≡ limits.depth)
+        × (events.old.machine.bytes ≡ limits.bytes) }
+    ensures limits { KeepsLimits events.old.machine events.new.machine }
+    ensures accepted { IfOk result (λ count. IfSome (R.remaining reader.old)
+        (λ input. IsRead limits (strict order) input count)) }
+    ensures canonical { IfOk result (λ count. IfSome (R.remaining reader.old)
+        (λ input. IsCanonicalFront limits order input count)) }
+    ensures taken { IfOk result
+        (λ count. Loses count (R.remaining reader.old) (R.remaining reader.new)) }
+    ensures refused { IfErr result (λ f. IfSome (R.remaining reader.old)
+        (λ input. IsUnread limits (strict order) input f)) }
+    ensures reason { IfErr result (λ f. IsReaderReason limits (strict order) f.reason) }
+    ensures no_canonical { IfErr result (λ f. f.reason ≢ reasons.Read → f.reason ≢ reasons.Memory
+        → IfSome (R.remaining reader.old)
+        (HasNoCanonicalFront limits order)) }
+    ensures read { IfErr result
+        (λ f. Loses f.read (R.remaining reader.old) (R.remaining reader.new)) }
+{
+    match read_strict_front(alloc, events, reader, limits, order) {
         Ok(count) => Ok(count),
         Err(refusal) => Err(refusal),
     }

@@ -1,28 +1,36 @@
-use Rattle.std.proofs.Common.{subst}
-use Rattle.std.specs.Prelude.{Ok}
-use Rattle.cbor_strict.specs.StrictReader.{IsNextStrict, strict_call}
+use Rattle.std.proofs.Common.{◌∙◌, sym, subst, arith}
+use Rattle.cbor_strict.specs.inner.StrictEvents.{IsStep}
 use Rattle.cbor_strict.proofs.StrictLoop.{runs_first, runs_on, runs_farther, runs_out, runs_stop}
 use Rattle.cbor_strict.proofs.strict_front.read_strict_front.Goals as goal
 
 pub events-init : goal.events-init
-events-init g c = runs_first c.args.order c.args.limits c.new-events.result _ c.new-events.ensures.starts c.new-events.ensures.limits c.new-events.ensures.order c.new-events.ensures.keys
+events-init g c =
+    runs_first c.args.order c.args.limits c.new-items.result c.restart.new.self _ (omega arith, omega arith) c.restart.ensures.live (c.restart.ensures.limits.depth ∙ c.requires.0, c.restart.ensures.limits.bytes ∙ c.requires.1) c.restart.ensures.starts c.new-items.ensures.none c.new-items.ensures.kept c.new-items.ensures.order
+
+pub next_event-requires : goal.next_event-requires
+next_event-requires g c =
+    let h = c.events.invariant in
+    record { b = c.args.limits; asks = sym c.keys.ensures; t = h.t; stands = h.stands; keeps = h.keeps }
 
 pub events-smaller : goal.events-smaller
 events-smaller g c =
     let h = c.events.invariant in
-    runs_farther c.args.order c.args.limits c.events.events c.next.new.self _ _ (g.R.Read.remaining c.next.new.reader) h _ (subst (λ o. IsNextStrict (Ok o) (strict_call c.events.events c.next.new.self (g.R.Read.remaining c.events.reader) (g.R.Read.remaining c.next.new.reader) h.t h.ms)) c.in-Ok-Some.field-0-is (c.in-Ok-Some.ensures.answers h.t h.ms h.stands)) c.next.ensures.limits
+    runs_farther c.args.order c.args.limits c.events.items c.next_event.new.items c.events.events c.next_event.new.events _ _ (g.R.Read.remaining c.next_event.new.reader) h _
+    (subst (λ o. IsStep o c.next_event.new.items c.args.limits c.events.events c.next_event.new.events h.t (g.R.Read.remaining c.events.reader) (g.R.Read.remaining c.next_event.new.reader)) c.in-Ok-Some.field-0-is (c.in-Ok-Some.ensures.answers c.args.limits h.t (sym c.keys.ensures) h.stands h.keeps)) c.next_event.ensures.limits
 
 pub events-preserved : goal.events-preserved
 events-preserved g c =
     let h = c.events.invariant in
-    runs_on c.args.order c.args.limits c.events.events c.next.new.self _ _ (g.R.Read.remaining c.next.new.reader) h _ (subst (λ o. IsNextStrict (Ok o) (strict_call c.events.events c.next.new.self (g.R.Read.remaining c.events.reader) (g.R.Read.remaining c.next.new.reader) h.t h.ms)) c.in-Ok-Some.field-0-is (c.in-Ok-Some.ensures.answers h.t h.ms h.stands)) c.next.ensures.limits c.next.ensures.order c.next.ensures.keys
+    runs_on c.args.order c.args.limits c.events.items c.next_event.new.items c.events.events c.next_event.new.events _ _ (g.R.Read.remaining c.next_event.new.reader) h _
+    (subst (λ o. IsStep o c.next_event.new.items c.args.limits c.events.events c.next_event.new.events h.t (g.R.Read.remaining c.events.reader) (g.R.Read.remaining c.next_event.new.reader)) c.in-Ok-Some.field-0-is (c.in-Ok-Some.ensures.answers c.args.limits h.t (sym c.keys.ensures) h.stands h.keeps)) c.next_event.ensures.order
 
-pub returns-in-Ok-None : goal.returns-in-Ok-None
-returns-in-Ok-None g c =
+pub returns-in-Ok-None-clause-front : goal.returns-in-Ok-None-clause-front
+returns-in-Ok-None-clause-front g c =
     let h = c.events.invariant in
-    runs_out c.args.order c.args.limits c.events.events c.next.new.self _ _ (g.R.Read.remaining c.next.new.reader) h c.taken.result (subst (λ o. IsNextStrict (Ok o) (strict_call c.events.events c.next.new.self (g.R.Read.remaining c.events.reader) (g.R.Read.remaining c.next.new.reader) h.t h.ms)) c.in-Ok-None.field-0-is (c.in-Ok-None.ensures.answers h.t h.ms h.stands)) c.next.ensures.limits c.taken.ensures.taken
+    runs_out c.args.order c.args.limits c.events.items c.next_event.new.items c.events.events c.next_event.new.events _ _ (g.R.Read.remaining c.next_event.new.reader) h c.taken.result
+    (subst (λ o. IsStep o c.next_event.new.items c.args.limits c.events.events c.next_event.new.events h.t (g.R.Read.remaining c.events.reader) (g.R.Read.remaining c.next_event.new.reader)) c.in-Ok-None.field-0-is (c.in-Ok-None.ensures.answers c.args.limits h.t (sym c.keys.ensures) h.stands h.keeps)) c.next_event.ensures.order c.taken.ensures.taken
 
-pub returns-in-Err : goal.returns-in-Err
-returns-in-Err g c =
+pub returns-in-Err-clause-front : goal.returns-in-Err-clause-front
+returns-in-Err-clause-front g c =
     let h = c.events.invariant in
-    runs_stop c.args.order c.args.limits c.events.events c.next.new.self _ _ (g.R.Read.remaining c.next.new.reader) h c.in-Err.refusal (c.in-Err.ensures.answers h.t h.ms h.stands) c.in-Err.ensures.refused.2
+    runs_stop c.args.order c.args.limits c.events.items c.next_event.new.items c.events.events c.next_event.new.events _ _ (g.R.Read.remaining c.next_event.new.reader) h c.in-Err.refusal (c.in-Err.ensures.answers c.args.limits h.t (sym c.keys.ensures) h.stands h.keeps)

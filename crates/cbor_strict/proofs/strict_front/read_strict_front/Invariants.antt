@@ -3,7 +3,7 @@ use Rattle.cbor_strict.proofs.StrictLoop.{IsRunning}
 use Rattle.cbor_strict.proofs.strict_front.read_strict_front.Given as goal
 
 abbrev pub invariant-events : goal.invariant-events
-invariant-events g l = IsRunning l.fn.order l.fn.limits l.events (g.R.Read.remaining l.fn.reader) (g.R.Read.remaining l.reader)
+invariant-events g l = IsRunning l.fn.order l.fn.limits l.items l.events (g.R.Read.remaining l.fn.reader) (g.R.Read.remaining l.reader)
 
 abbrev pub decreases-events : goal.decreases-events
 decreases-events g l = l.events.machine.bytes - l.events.machine.taken
