@@ -1,5 +1,5 @@
 -- What is kept of the keys where a container ends, and those around it.
-use Rattle.std.proofs.Common.{◌≡◌, ◌≢◌, ℕ, ◌+◌, ◌<◌, ◌≤◌, Bool, true, false, List, [], ◌∷◌, ◌++◌, length, take, refl, sym, ap, ◌∙◌, subst, inl, inr, arith, append-nil}
+use Rattle.std.proofs.Common.{◌≡◌, ◌≢◌, ℕ, suc, ◌+◌, ◌<◌, ◌≤◌, Bool, true, false, List, [], ◌∷◌, ◌++◌, length, take, refl, sym, ap, ◌∙◌, subst, inl, inr, arith, append-nil}
 use Rattle.std.specs.Prelude.{if◌then◌else◌}
 use Rattle.std.proofs.lemmas.List.{length-append}
 use Rattle.std.proofs.Math.Seq.{take-append_seam}
@@ -8,13 +8,13 @@ use Rattle.cbor_head.specs.Spelling.{Spelling, SpelledEntries, no_spellings, a_s
 use Rattle.cbor_head.specs.declared.major.Major.TheVariants.{Map}
 use Rattle.cbor_head.specs.declared.width.Width.{Width}
 use Rattle.cbor_head.specs.declared.width.Width.TheVariants.{Direct, One, Two, Four, Eight, Indefinite}
+use Rattle.cbor_strict.specs.declared.last_keys.Due.{Due}
 use Rattle.cbor_strict.specs.declared.last_keys.Due.TheVariants.{Member}
-use Rattle.cbor_strict.specs.declared.last_keys.Level.{Level}
 use Rattle.cbor_strict.specs.declared.last_keys.Span.{Span}
 use Rattle.cbor_judging.specs.Frame.{Frame, a_member, a_key, a_content, tagged, plug, before, behind}
-use Rattle.cbor_strict.specs.inner.LastKeys.{AreDefinite, still_open, ended_item, KeysView, is_key, stands_in_key, due_of, level_of, levels_of, complete_key, kept_bytes, kept_before, span, spans_in, spans_of, IsKept, IsFull}
+use Rattle.cbor_strict.specs.inner.LastKeys.{AreDefinite, still_open, ended_item, KeysView, is_key, stands_in_key, keys_around, due_of, levels_of, complete_key, kept_bytes, kept_before, span, spans_in, spans_of, IsKept, IsFull}
 use Rattle.cbor_judging.proofs.Frames.{spell_plug}
-use Rattle.cbor_strict.proofs.KeptKeys.{either_way, kept_if_in, kept_if_out, kept_out}
+use Rattle.cbor_strict.proofs.KeptKeys.{either_way, in_some_key, in_no_key, few_keys, kept_if_in, kept_if_out, kept_out}
 
 -- ---- one closes
 
@@ -43,6 +43,9 @@ full_no_key (a_key w a v b) h = absurd h
 full_no_key (a_member w a b) h = refl
 full_no_key (a_content w a k b) h = refl
 full_no_key (tagged w n) h = refl
+
+full_around : (f : Frame) (fs : List Frame) → IsFull f → keys_around (f ∷ fs) ≡ keys_around fs
+full_around f fs h = ap (λ (b : Bool). if b then suc (keys_around fs) else keys_around fs) (full_no_key f h)
 
 -- what was kept of it
 closed_in : (f : Frame) (fs : List Frame) (s : Spelling) → IsFull f → stands_in_key fs ≡ true → kept_bytes (f ∷ fs) (spell s) ≡ kept_bytes fs (spell (plug f s))
@@ -73,16 +76,16 @@ span_is a b c x y z e f g = ap (λ (n : ℕ). span n b c) e ∙ ap (λ (n : ℕ)
 
 -- what is put at the end of the lists for it
 module _ (k : KeysView) (f : Frame) (fs : List Frame) (p : List ℕ) (h : IsKept k (f ∷ fs) p) where
-  pub top_level : (ls : List Level) (l : Level) → k.levels ≡ ls ++ l ∷ [] → (ls ≡ levels_of fs) × (l ≡ level_of f fs)
-  top_level ls l e = last_of ls (levels_of fs) l (level_of f fs) (sym e ∙ h.levels)
+  pub top_level : (ls : List Due) (l : Due) → k.levels ≡ ls ++ l ∷ [] → (ls ≡ levels_of fs) × (l ≡ due_of f)
+  top_level ls l e = last_of ls (levels_of fs) l (due_of f) (sym e ∙ h.levels)
 
   pub top_span : (ss : List Span) (s t : Span) → k.spans ≡ ss ++ s ∷ [] → spans_in f fs ≡ t ∷ [] → (ss ≡ spans_of fs) × (s ≡ t)
   top_span ss s t e g = last_of ss (spans_of fs) s t (sym e ∙ h.spans ∙ ap (λ (x : List Span). spans_of fs ++ x) g)
 
 -- it closes
-pub closes_other : (k : KeysView) (f : Frame) (fs : List Frame) (s : Spelling) (ls : List Level) (l : Level) → IsFull f → IsKept k (f ∷ fs) (spell s) → k.levels ≡ ls ++ l ∷ [] → l.due ≡ Member
-    → IsKept (record { levels = ls; spans = k.spans; bytes = k.bytes; is_inside = l.is_inside }) fs (spell (plug f s))
-closes_other k f fs s ls l full h e d = go f full h (sym (ap (λ (x : Level). x.due) (top_level k f fs (spell s) h ls l e).1) ∙ d)
+pub closes_other : (k : KeysView) (f : Frame) (fs : List Frame) (s : Spelling) (ls : List Due) (l : Due) → IsFull f → IsKept k (f ∷ fs) (spell s) → k.levels ≡ ls ++ l ∷ [] → l ≡ Member
+    → IsKept (record k { levels = ls }) fs (spell (plug f s))
+closes_other k f fs s ls l full h e d = go f full h (sym (top_level k f fs (spell s) h ls l e).1 ∙ d)
   where
     same : (f : Frame) → IsFull f → complete_key f ≡ [] → kept_bytes (f ∷ fs) (spell s) ≡ kept_bytes fs (spell (plug f s))
     same f full none = elim (either_way (stands_in_key fs)) [
@@ -90,67 +93,66 @@ closes_other k f fs s ls l full h e d = go f full h (sym (ap (λ (x : Level). x.
       | inr i ↦ closed_out f fs s full i ∙ ap (λ (x : List ℕ). kept_bytes fs [] ++ (x ++ [])) none ∙ append-nil (kept_bytes fs []) ∙ kept_out fs [] (spell (plug f s)) i
     ]
 
-    made : (f : Frame) → IsFull f → complete_key f ≡ [] → spans_in f fs ≡ [] → IsKept k (f ∷ fs) (spell s) → IsKept (record { levels = ls; spans = k.spans; bytes = k.bytes; is_inside = l.is_inside }) fs (spell (plug f s))
-    made f full none no_spans h =
-        let t = top_level k f fs (spell s) h ls l e in
-        record {
-          levels = t.0;
-          spans = h.spans ∙ ap (λ (x : List Span). spans_of fs ++ x) no_spans ∙ append-nil (spans_of fs);
-          bytes = h.bytes ∙ same f full none;
-          is_inside = ap (λ (x : Level). x.is_inside) t.1;
-        }
+    made : (f : Frame) → IsFull f → complete_key f ≡ [] → spans_in f fs ≡ [] → IsKept k (f ∷ fs) (spell s) → IsKept (record k { levels = ls }) fs (spell (plug f s))
+    made f full none no_spans h = record {
+      levels = (top_level k f fs (spell s) h ls l e).0;
+      spans = h.spans ∙ ap (λ (x : List Span). spans_of fs ++ x) no_spans ∙ append-nil (spans_of fs);
+      bytes = h.bytes ∙ same f full none;
+      open_keys = h.open_keys ∙ full_around f fs full;
+    }
 
-    go : (f : Frame) → IsFull f → IsKept k (f ∷ fs) (spell s) → due_of f ≡ Member → IsKept (record { levels = ls; spans = k.spans; bytes = k.bytes; is_inside = l.is_inside }) fs (spell (plug f s))
+    go : (f : Frame) → IsFull f → IsKept k (f ∷ fs) (spell s) → due_of f ≡ Member → IsKept (record k { levels = ls }) fs (spell (plug f s))
     go (a_member w a b) full h d = made (a_member w a b) full refl refl h
     go (tagged w n) full h d = made (tagged w n) full refl refl h
     go (a_content w a m b) full h d = absurd (cc d)
     go (a_key w a v b) full h d = absurd full
 
 -- a map
-module _ (k : KeysView) (w : Width) (a : SpelledEntries) (key : Spelling) (fs : List Frame) (s : Spelling) (ls : List Level) (l : Level) (ss : List Span) (sp : Span) (full : w ≢ Indefinite)
+module _ (k : KeysView) (w : Width) (a : SpelledEntries) (key : Spelling) (fs : List Frame) (s : Spelling) (ls : List Due) (l : Due) (ss : List Span) (sp : Span) (full : w ≢ Indefinite)
     (h : IsKept k (a_content w a key no_entries ∷ fs) (spell s)) (e : k.levels ≡ ls ++ l ∷ []) (g : k.spans ≡ ss ++ sp ∷ []) where
   abbrev map_frame : Frame
   map_frame = a_content w a key no_entries
 
-  map_in : l.is_inside ≡ true → IsKept (record { levels = ls; spans = ss; bytes = k.bytes; is_inside = l.is_inside }) fs (spell (plug map_frame s))
-  map_in inside =
-      let t = top_level k map_frame fs (spell s) h ls l e in
-      let i : stands_in_key fs ≡ true = sym (ap (λ (x : Level). x.is_inside) t.1) ∙ inside in
-      record { levels = t.0; spans = (top_span k map_frame fs (spell s) h ss sp _ g refl).0; bytes = h.bytes ∙ closed_in map_frame fs s full i; is_inside = ap (λ (x : Level). x.is_inside) t.1 }
+  map_in : 0 < k.open_keys → IsKept (record k { levels = ls; spans = ss }) fs (spell (plug map_frame s))
+  map_in inside = record {
+    levels = (top_level k map_frame fs (spell s) h ls l e).0;
+    spans = (top_span k map_frame fs (spell s) h ss sp _ g refl).0;
+    bytes = h.bytes ∙ closed_in map_frame fs s full (in_some_key fs (omega (arith, h.open_keys, inside)));
+    open_keys = h.open_keys;
+  }
 
-  map_out : l.is_inside ≡ false → IsKept (record { levels = ls; spans = ss; bytes = take sp.from k.bytes; is_inside = l.is_inside }) fs (spell (plug map_frame s))
+  map_out : k.open_keys ≡ 0 → IsKept (record k { levels = ls; spans = ss; bytes = take sp.from k.bytes }) fs (spell (plug map_frame s))
   map_out outside =
-      let t = top_level k map_frame fs (spell s) h ls l e in
-      let i : stands_in_key fs ≡ false = sym (ap (λ (x : Level). x.is_inside) t.1) ∙ outside in
+      let i : stands_in_key fs ≡ false = in_no_key fs (sym h.open_keys ∙ outside) in
       let u = top_span k map_frame fs (spell s) h ss sp _ g refl in
       let from : sp.from ≡ kept_before fs =
       ap (λ (x : Span). x.from) u.1 ∙ ap (λ (b : Bool). kept_before fs + (if b then length (head Map w (entries_count a + 1) ++ spell_entries a) else 0)) i ∙ omega arith in
       record {
-        levels = t.0;
+        levels = (top_level k map_frame fs (spell s) h ls l e).0;
         spans = u.0;
         bytes = ap (λ (n : ℕ). take n k.bytes) from ∙ ap (take (kept_before fs)) (h.bytes ∙ closed_out map_frame fs s full i) ∙ take-append_seam (kept_bytes fs []) (spell key ++ []) ∙ kept_out fs [] (spell (plug map_frame s)) i;
-        is_inside = ap (λ (x : Level). x.is_inside) t.1;
+        open_keys = h.open_keys;
       }
 
-module _ (k : KeysView) (f : Frame) (fs : List Frame) (s : Spelling) (ls : List Level) (l : Level) (ss : List Span) (sp : Span) (full : IsFull f) (h : IsKept k (f ∷ fs) (spell s)) (e : k.levels ≡ ls ++ l ∷ [])
-    (g : k.spans ≡ ss ++ sp ∷ []) (d : l.due ≢ Member) where
+module _ (k : KeysView) (f : Frame) (fs : List Frame) (s : Spelling) (ls : List Due) (l : Due) (ss : List Span) (sp : Span) (full : IsFull f) (h : IsKept k (f ∷ fs) (spell s)) (e : k.levels ≡ ls ++ l ∷ [])
+    (g : k.spans ≡ ss ++ sp ∷ []) (d : l ≢ Member) where
   due_so : due_of f ≢ Member
-  due_so x = d (ap (λ (y : Level). y.due) (top_level k f fs (spell s) h ls l e).1 ∙ x)
+  due_so x = d ((top_level k f fs (spell s) h ls l e).1 ∙ x)
 
-  pub closes_map_in : l.is_inside ≡ true → IsKept (record { levels = ls; spans = ss; bytes = k.bytes; is_inside = l.is_inside }) fs (spell (plug f s))
+  pub closes_map_in : 0 < k.open_keys → IsKept (record k { levels = ls; spans = ss }) fs (spell (plug f s))
   closes_map_in inside = go f full h due_so
     where
-      go : (f : Frame) → IsFull f → IsKept k (f ∷ fs) (spell s) → due_of f ≢ Member → IsKept (record { levels = ls; spans = ss; bytes = k.bytes; is_inside = l.is_inside }) fs (spell (plug f s))
+      go : (f : Frame) → IsFull f → IsKept k (f ∷ fs) (spell s) → due_of f ≢ Member → IsKept (record k { levels = ls; spans = ss }) fs (spell (plug f s))
       go (a_content w a key no_entries) full h d = map_in k w a key fs s ls l ss sp full h e g inside
       go (a_content w a key (entry n m b)) full h d = absurd full
       go (a_member w a b) full h d = absurd (d refl)
       go (tagged w n) full h d = absurd (d refl)
       go (a_key w a v b) full h d = absurd full
 
-  pub closes_map_out : l.is_inside ≡ false → IsKept (record { levels = ls; spans = ss; bytes = take sp.from k.bytes; is_inside = l.is_inside }) fs (spell (plug f s))
+  pub closes_map_out : k.open_keys ≡ 0 → IsKept (record k { levels = ls; spans = ss; bytes = take sp.from k.bytes }) fs (spell (plug f s))
   closes_map_out outside = go f full h due_so
     where
-      go : (f : Frame) → IsFull f → IsKept k (f ∷ fs) (spell s) → due_of f ≢ Member → IsKept (record { levels = ls; spans = ss; bytes = take sp.from k.bytes; is_inside = l.is_inside }) fs (spell (plug f s))
+      go : (f : Frame) → IsFull f → IsKept k (f ∷ fs) (spell s) → due_of f ≢ Member → IsKept (record k { levels = ls; spans = ss; bytes = take sp.from k.bytes }) fs (spell (plug f s))
       go (a_content w a key no_entries) full h d = map_out k w a key fs s ls l ss sp full h e g outside
       go (a_content w a key (entry n m b)) full h d = absurd full
       go (a_member w a b) full h d = absurd (d refl)
@@ -173,7 +175,7 @@ none_shut k fs s h d = record { gs = fs; item = s; kept = h; definite = d; same 
 
 levels_length : (fs : List Frame) → length (levels_of fs) ≡ length fs
 levels_length [] = refl
-levels_length (f ∷ fs) = omega (arith, levels_length fs, length-append (levels_of fs) (level_of f fs ∷ []))
+levels_length (f ∷ fs) = omega (arith, levels_length fs, length-append (levels_of fs) (due_of f ∷ []))
 
 pub kept_levels : (k : KeysView) (fs : List Frame) (p : List ℕ) → IsKept k fs p → length k.levels ≡ length fs
 kept_levels k fs p h = ap length h.levels ∙ levels_length fs
@@ -226,6 +228,9 @@ spans_length (a_member w a b ∷ fs) = omega (arith, spans_length fs, length-app
 spans_length (tagged w n ∷ fs) = omega (arith, spans_length fs, length-append (spans_of fs) [])
 spans_length (a_content w a k b ∷ fs) = omega (arith, spans_length fs, length-append (spans_of fs) (spans_in (a_content w a k b) fs))
 spans_length (a_key w a v b ∷ fs) = omega (arith, spans_length fs, length-append (spans_of fs) (spans_in (a_key w a v b) fs))
+
+pub kept_keys : (k : KeysView) (fs : List Frame) (p : List ℕ) → IsKept k fs p → k.open_keys ≤ length fs
+kept_keys k fs p h = omega (arith, h.open_keys, few_keys fs)
 
 pub kept_spans : (k : KeysView) (fs : List Frame) (p : List ℕ) → IsKept k fs p → length k.spans ≤ length fs
 kept_spans k fs p h = omega (arith, ap length h.spans, spans_length fs)

@@ -1,6 +1,6 @@
 -- What is kept of a path of open containers for the order of keys: within a key, and where a container opens.
-use Rattle.std.proofs.Common.{◌≡◌, ℕ, suc, ◌+◌, ◌⊎◌, Bool, true, false, true≢false, List, [], ◌∷◌, ◌++◌, length, refl, sym, ap, ◌∙◌, inl, inr, arith, append_assoc, append-nil}
-use Rattle.std.specs.Prelude.{if◌then◌else◌, not, Result, Ok, Err, OnOk, is_ok}
+use Rattle.std.proofs.Common.{◌≡◌, ℕ, zero, suc, ◌+◌, ◌<◌, ◌≤◌, ◌⊎◌, Bool, true, false, true≢false, List, [], ◌∷◌, ◌++◌, length, refl, sym, ap, ◌∙◌, inl, inr, arith, append_assoc, append-nil}
+use Rattle.std.specs.Prelude.{if◌then◌else◌, ◌↔◌, IsTrue, Result, Ok, Err, OnOk, is_ok}
 use Rattle.std.proofs.lemmas.List.{length-append}
 use Rattle.cbor_head.specs.Head.{head}
 use Rattle.cbor_head.specs.Spelling.{Spelling, SpelledEntries, no_entries, entries_count}
@@ -8,10 +8,9 @@ use Rattle.cbor_head.specs.declared.major.Major.TheVariants.{Map}
 use Rattle.cbor_head.specs.declared.width.Width.{Width}
 use Rattle.cbor_strict.specs.declared.last_keys.Due.{Due}
 use Rattle.cbor_strict.specs.declared.last_keys.Due.TheVariants.{Member, Key}
-use Rattle.cbor_strict.specs.declared.last_keys.Level.{Level}
 use Rattle.cbor_strict.specs.declared.last_keys.Span.{Span}
 use Rattle.cbor_judging.specs.Frame.{Frame, a_member, a_key, a_content, tagged, before}
-use Rattle.cbor_strict.specs.inner.LastKeys.{KeysView, is_key, stands_in_key, due_of, level_of, levels_of, complete_key, kept_bytes, kept_before, span, spans_of, IsKept}
+use Rattle.cbor_strict.specs.inner.LastKeys.{KeysView, is_key, stands_in_key, keys_around, due_of, levels_of, complete_key, kept_bytes, kept_before, span, spans_of, IsKept}
 
 -- ---- in a key, or not
 
@@ -19,11 +18,30 @@ pub either_way : (b : Bool) → (b ≡ true) ⊎ (b ≡ false)
 either_way true = inl refl
 either_way false = inr refl
 
-pub not_so : (b c : Bool) → not b ≡ c → b ≡ not c
-not_so true true e = absurd (true≢false (sym e))
-not_so true false e = refl
-not_so false true e = refl
-not_so false false e = absurd (true≢false e)
+pub in_some_key : (fs : List Frame) → 0 < keys_around fs → stands_in_key fs ≡ true
+in_some_key [] l = absurd (omega (arith, l))
+in_some_key (a_key w a v b ∷ fs) l = refl
+in_some_key (a_member w a b ∷ fs) l = in_some_key fs l
+in_some_key (a_content w a k b ∷ fs) l = in_some_key fs l
+in_some_key (tagged w n ∷ fs) l = in_some_key fs l
+
+pub in_no_key : (fs : List Frame) → keys_around fs ≡ 0 → stands_in_key fs ≡ false
+in_no_key [] e = refl
+in_no_key (a_key w a v b ∷ fs) e = absurd (omega (arith, e))
+in_no_key (a_member w a b ∷ fs) e = in_no_key fs e
+in_no_key (a_content w a k b ∷ fs) e = in_no_key fs e
+in_no_key (tagged w n ∷ fs) e = in_no_key fs e
+
+pub few_keys : (fs : List Frame) → keys_around fs ≤ length fs
+few_keys [] = omega arith
+few_keys (a_key w a v b ∷ fs) = omega (arith, few_keys fs)
+few_keys (a_member w a b ∷ fs) = omega (arith, few_keys fs)
+few_keys (a_content w a k b ∷ fs) = omega (arith, few_keys fs)
+few_keys (tagged w n ∷ fs) = omega (arith, few_keys fs)
+
+pub none_open : (n : ℕ) (inside : Bool) → IsTrue inside ↔ (0 < n) → inside ≡ false → n ≡ 0
+none_open zero inside h e = refl
+none_open (suc n) inside h e = absurd (true≢false (sym (h.1 (omega arith)) ∙ e))
 
 pub kept_if_in : (f : Frame) (fs : List Frame) (p : List ℕ) → stands_in_key fs ≡ true → kept_bytes (f ∷ fs) p ≡ kept_bytes fs (before f ++ p)
 kept_if_in f fs p e = ap (λ (b : Bool). if b then kept_bytes fs (before f ++ p) else kept_bytes fs [] ++ (complete_key f ++ (if is_key f then p else []))) e
@@ -68,33 +86,32 @@ kept_size fs p e = ap length (kept_in_key fs [] p e) ∙ length-append (kept_byt
 
 -- ---- the next bytes
 
-pub keeps : (k : KeysView) (fs : List Frame) (p x more : List ℕ) → IsKept k fs p → k.is_inside ≡ true → more ≡ k.bytes ++ x → IsKept (record k { bytes = more }) fs (p ++ x)
-keeps k fs p x more h e g = record {
+pub keeps : (k : KeysView) (fs : List Frame) (p x more : List ℕ) → IsKept k fs p → 0 < k.open_keys → more ≡ k.bytes ++ x → IsKept (record k { bytes = more }) fs (p ++ x)
+keeps k fs p x more h l g = record {
   levels = h.levels;
   spans = h.spans;
-  bytes = g ∙ ap (λ (y : List ℕ). y ++ x) h.bytes ∙ sym (kept_in_key fs p x (sym h.is_inside ∙ e));
-  is_inside = h.is_inside;
+  bytes = g ∙ ap (λ (y : List ℕ). y ++ x) h.bytes ∙ sym (kept_in_key fs p x (in_some_key fs (omega (arith, h.open_keys, l))));
+  open_keys = h.open_keys;
 }
 
-pub keeps_none : (k : KeysView) (fs : List Frame) (p x : List ℕ) → IsKept k fs p → k.is_inside ≡ false → IsKept k fs (p ++ x)
-keeps_none k fs p x h e = record { levels = h.levels; spans = h.spans; bytes = h.bytes ∙ kept_out fs p (p ++ x) (sym h.is_inside ∙ e); is_inside = h.is_inside }
+pub keeps_none : (k : KeysView) (fs : List Frame) (p x : List ℕ) → IsKept k fs p → k.open_keys ≡ 0 → IsKept k fs (p ++ x)
+keeps_none k fs p x h e = record { levels = h.levels; spans = h.spans; bytes = h.bytes ∙ kept_out fs p (p ++ x) (in_no_key fs (sym h.open_keys ∙ e)); open_keys = h.open_keys }
 
 module _ {T E : Type 0} where
-  pub keeps_if_ok : (r : Result T E) (k : KeysView) (fs : List Frame) (p x more : List ℕ) → IsKept k fs p → k.is_inside ≡ true → more ≡ (if is_ok r then k.bytes ++ x else k.bytes)
-      → OnOk r (IsKept (record { levels = k.levels; spans = k.spans; bytes = more; is_inside = k.is_inside }) fs (p ++ x))
-  keeps_if_ok (Ok u) k fs p x more h e g = keeps k fs p x more h e g
-  keeps_if_ok (Err u) k fs p x more h e g = tt
+  pub keeps_if_ok : (r : Result T E) (k : KeysView) (fs : List Frame) (p x more : List ℕ) → IsKept k fs p → 0 < k.open_keys → more ≡ (if is_ok r then k.bytes ++ x else k.bytes)
+      → OnOk r (IsKept (record k { bytes = more }) fs (p ++ x))
+  keeps_if_ok (Ok u) k fs p x more h l g = keeps k fs p x more h l g
+  keeps_if_ok (Err u) k fs p x more h l g = tt
 
 -- ---- a container opens
 
 -- one that is no map
 pub opens_other : (k : KeysView) (f : Frame) (fs : List Frame) (p : List ℕ) → due_of f ≡ Member → IsKept k fs p → before f ≡ p
-    → IsKept (record k { levels = k.levels ++ record { due = Member; is_inside = k.is_inside } ∷ [] }) (f ∷ fs) []
+    → IsKept (record k { levels = k.levels ++ Member ∷ [] }) (f ∷ fs) []
 opens_other k f fs p d h e = go f d e
   where
-    level : (f : Frame) → due_of f ≡ Member → k.levels ++ record { due = Member; is_inside = k.is_inside } ∷ [] ≡ levels_of fs ++ level_of f fs ∷ []
-    level f d = ap (λ (ls : List Level). ls ++ record { due = Member; is_inside = k.is_inside } ∷ []) h.levels
-        ∙ ap (λ (b : Bool). levels_of fs ++ record { due = Member; is_inside = b } ∷ []) h.is_inside ∙ ap (λ (x : Due). levels_of fs ++ record { due = x; is_inside = stands_in_key fs } ∷ []) (sym d)
+    level : (f : Frame) → due_of f ≡ Member → k.levels ++ Member ∷ [] ≡ levels_of fs ++ due_of f ∷ []
+    level f d = ap (λ (ls : List Due). ls ++ Member ∷ []) h.levels ∙ ap (λ (x : Due). levels_of fs ++ x ∷ []) (sym d)
 
     same : (f : Frame) → complete_key f ++ (if is_key f then [] else []) ≡ [] → before f ≡ p → kept_bytes fs p ≡ kept_bytes (f ∷ fs) []
     same f none e = elim (either_way (stands_in_key fs)) [
@@ -102,20 +119,20 @@ opens_other k f fs p d h e = go f d e
       | inr i ↦ kept_out fs p [] i ∙ sym (append-nil (kept_bytes fs [])) ∙ ap (λ (x : List ℕ). kept_bytes fs [] ++ x) (sym none) ∙ sym (kept_if_out f fs [] i)
     ]
 
-    go : (f : Frame) → due_of f ≡ Member → before f ≡ p → IsKept (record k { levels = k.levels ++ record { due = Member; is_inside = k.is_inside } ∷ [] }) (f ∷ fs) []
-    go (a_member w a b) d e = record { levels = level (a_member w a b) d; spans = h.spans ∙ sym (append-nil (spans_of fs)); bytes = h.bytes ∙ same (a_member w a b) refl e; is_inside = h.is_inside }
-    go (tagged w n) d e = record { levels = level (tagged w n) d; spans = h.spans ∙ sym (append-nil (spans_of fs)); bytes = h.bytes ∙ same (tagged w n) refl e; is_inside = h.is_inside }
+    go : (f : Frame) → due_of f ≡ Member → before f ≡ p → IsKept (record k { levels = k.levels ++ Member ∷ [] }) (f ∷ fs) []
+    go (a_member w a b) d e = record { levels = level (a_member w a b) d; spans = h.spans ∙ sym (append-nil (spans_of fs)); bytes = h.bytes ∙ same (a_member w a b) refl e; open_keys = h.open_keys }
+    go (tagged w n) d e = record { levels = level (tagged w n) d; spans = h.spans ∙ sym (append-nil (spans_of fs)); bytes = h.bytes ∙ same (tagged w n) refl e; open_keys = h.open_keys }
     go (a_key w a v b) d e = absurd (cc d)
     go (a_content w a l b) d e = absurd (cc d)
 
 -- a map
 pub opens_map : (k : KeysView) (w : Width) (v : Spelling) (b : SpelledEntries) (fs : List Frame) (p : List ℕ) (here : ℕ) → IsKept k fs p → before (a_key w no_entries v b) ≡ p → here ≡ length k.bytes
-    → IsKept (record { levels = k.levels ++ record { due = Key; is_inside = k.is_inside } ∷ []; spans = k.spans ++ span here here here ∷ []; bytes = k.bytes; is_inside = true }) (a_key w no_entries v b ∷ fs) []
+    → IsKept (record { levels = k.levels ++ Key ∷ []; spans = k.spans ++ span here here here ∷ []; bytes = k.bytes; open_keys = k.open_keys + 1 }) (a_key w no_entries v b ∷ fs) []
 opens_map k w v b fs p here h e g = record {
-  levels = ap (λ (ls : List Level). ls ++ record { due = Key; is_inside = k.is_inside } ∷ []) h.levels ∙ ap (λ (b : Bool). levels_of fs ++ record { due = Key; is_inside = b } ∷ []) h.is_inside;
+  levels = ap (λ (ls : List Due). ls ++ Key ∷ []) h.levels;
   spans = ap (λ (ss : List Span). ss ++ span here here here ∷ []) h.spans ∙ ap (λ (s : Span). spans_of fs ++ s ∷ []) place;
   bytes = h.bytes ∙ same;
-  is_inside = refl;
+  open_keys = omega (arith, h.open_keys);
 }
   where
     f : Frame

@@ -1,5 +1,5 @@
 -- What becomes of the open containers as a head comes.
-use Rattle.std.proofs.Common.{◌≡◌, ◌≢◌, ℕ, zero, suc, ◌+◌, ◌-◌, ◌<◌, ◌⊎◌, Bool, false, Option, Some, None, List, [], ◌∷◌, ◌++◌, length, refl, sym, ap, ◌∙◌, subst, inl, inr, arith, append-nil}
+use Rattle.std.proofs.Common.{◌≡◌, ◌≢◌, ℕ, zero, suc, ◌+◌, ◌-◌, ◌<◌, ◌≤◌, ◌⊎◌, Bool, false, Option, Some, None, List, [], ◌∷◌, ◌++◌, length, refl, sym, ap, ◌∙◌, subst, inl, inr, arith, append-nil}
 use Rattle.std.proofs.lemmas.List.{length-append, nil_from_length}
 use Rattle.std.proofs.lemmas.Bool.{cases_lt}
 use Rattle.cbor_head.specs.Head.{head, shortest, shortest_head}
@@ -31,13 +31,13 @@ use Rattle.cbor_strict.specs.declared.last_keys.LastKeys.{LastKeys}
 use Rattle.cbor_strict.specs.declared.open_items.OpenItems.{OpenItems}
 use Rattle.cbor_judging.specs.Frame.{Frame, a_key, before}
 use Rattle.cbor_strict.specs.inner.LastKeys.{seen, from_outside, due_of, IsKept}
-use Rattle.cbor_strict.specs.inner.OpenItems.{frames_in, bytes_before, Stands, HasEnded, HasHeadCome, HasBegunIn, IsLeaf, IsMap, IsOther, short_head}
+use Rattle.cbor_strict.specs.inner.OpenItems.{AreOpenClean, frames_in, bytes_before, Stands, HasEnded, HasHeadCome, HasBegunIn, IsLeaf, IsMap, IsOther, short_head}
 use Rattle.cbor_judging.specs.Reading.{AreRefused, IsReached, IsUndecided, HasCause, OfMark, IsFault, IsBegun, ReadsItem, string_kind, string_major}
 use Rattle.cbor_judging.specs.OpenMaps.{AreOpen, AreOpenDistinct}
 use Rattle.cbor_judging.proofs.Heads.{Headed}
 use Rattle.cbor_judging.proofs.Items.{IsDefinite, definite, proper-definite, never-open, head-count, cause-in, undecided-in, head-judged, taking-some}
 use Rattle.cbor_judging.specs.Judged.{Never}
-use Rattle.cbor_strict.proofs.KeptEnds.{kept_levels, kept_spans}
+use Rattle.cbor_strict.proofs.KeptEnds.{kept_keys, kept_levels}
 use Rattle.cbor_strict.proofs.OpenBegins.{lift, no_break, no_openers, leaf_reads, HasOpened, other_opens, pairs_open}
 use Rattle.cbor_strict.proofs.OpenEnds.{frames_length, before_more}
 use Rattle.cbor_strict.proofs.OpenItems.{around_as}
@@ -157,7 +157,6 @@ short_begun o b fs t x e w (kinds.Piece n) i = absurd i.taking
 short_begun o b fs t x e w kinds.End i = absurd (i.item refl)
 
 -- the item that is due has begun
--- the item that is due has begun
 pub begun_in : (v : OpenItems) (b : Bounds) (event : Event) (t x : List ℕ) (e : ItemEventsView) → (h : HasHeadCome v b event t x e) → ((reason : Reason) → IsFault (strict v.order) (mark_of event.width event.kind) reason → ⊥)
     → IsBegun (strict v.order) b (frames_in h.fs) t x e event.width event.kind
 begun_in v b event t x e h fine = record {
@@ -169,16 +168,15 @@ begun_in v b event t x e h fine = record {
   at = h.at;
 }
 
-pub head_no_memory : (v : OpenItems) (b : Bounds) (event : Event) (t x : List ℕ) (e : ItemEventsView) (f : Refusal) (taken : ℕ) (to : Option (List ℕ)) → HasHeadCome v b event t x e
-    → ((reason : Reason) → IsFault (strict v.order) (mark_of event.width event.kind) reason → ⊥) → taken ≡ e.machine.taken → f ≡ refusal Memory taken taken → AreRefused (strict v.order) b (t ++ x) to f
-unfolding begun_in
-head_no_memory v b event t x e f taken to h fine all is =
-    let i = begun_in v b event t x e h fine in
-    let k = short_begun v.order b (frames_in h.fs) t x e event.width event.kind i in
-    let it = subst (Headed (b.depth - length (frames_in h.fs))) (sym k.is.bytes_are) (head-item b.depth (frames_in h.fs) k.major k.width k.number x h.next k.is) in
-    let some = taking-some b.depth (frames_in h.fs) (mark_of event.width event.kind) x h.next h.taking in
-    memory_part v.order b h.fs h.around.are h.around.distinct x (t ++ x) to f taken (ap (λ (y : List ℕ). y ++ x) h.taken) (all ∙ h.at.stands.stands.taken) is (at-reached b e (t ++ x) h.next h.at)
-    (head-undecided (strict v.order) b (frames_in h.fs) (bytes_before h.fs) x it some)
+-- memory is refused behind a head that has no complaint
+pub begun_no_memory : (v : OpenItems) (b : Bounds) (w : Width) (kind : EventKind) (t x : List ℕ) (e : ItemEventsView) (f : Refusal) (taken : ℕ) (to : Option (List ℕ)) (fs : List Frame) → AreOpenClean v b fs → t ≡ bytes_before fs
+    → IsBegun (strict v.order) b (frames_in fs) t x e w kind → taken ≡ e.machine.taken → f ≡ refusal Memory taken taken → AreRefused (strict v.order) b (t ++ x) to f
+begun_no_memory v b w kind t x e f taken to fs around before i all is =
+    let k = short_begun v.order b (frames_in fs) t x e w kind i in
+    let it = subst (Headed (b.depth - length (frames_in fs))) (sym k.is.bytes_are) (head-item b.depth (frames_in fs) k.major k.width k.number x i.next k.is) in
+    let some = taking-some b.depth (frames_in fs) (mark_of w kind) x i.next i.taking in
+    memory_part v.order b fs around.are around.distinct x (t ++ x) to f taken (ap (λ (y : List ℕ). y ++ x) before) (all ∙ i.at.stands.stands.taken) is (at-reached b e (t ++ x) i.next i.at)
+    (head-undecided (strict v.order) b (frames_in fs) (bytes_before fs) x it some)
 
 -- what is kept now
 pub begun_kept : (v new : OpenItems) (b : Bounds) (event : Event) (t x : List ℕ) (e : ItemEventsView) → (h : HasHeadCome v b event t x e) → ((reason : Reason) → IsFault (strict v.order) (mark_of event.width event.kind) reason → ⊥)
@@ -299,5 +297,5 @@ module _ (v : OpenItems) (b : Bounds) (w : Width) (kind : EventKind) (t x : List
   pub room_levels : IsOther kind ⊎ IsMap kind → length (seen v.keys).levels < MAX_DEPTH
   room_levels l = omega (arith, kept_levels (seen v.keys) h.fs x h.kept, room_so l, h.begun.at.limits.0)
 
-  pub room_spans : IsOther kind ⊎ IsMap kind → length (seen v.keys).spans < MAX_DEPTH
-  room_spans l = omega (arith, kept_spans (seen v.keys) h.fs x h.kept, room_so l, h.begun.at.limits.0)
+  pub room_keys : IsOther kind ⊎ IsMap kind → (seen v.keys).open_keys ≤ MAX_DEPTH
+  room_keys l = omega (arith, kept_keys (seen v.keys) h.fs x h.kept, room_so l, h.begun.at.limits.0)

@@ -25,7 +25,7 @@ use Rattle.cbor_judging.specs.Reading.{AreRefused, IsAt}
 use Rattle.cbor_judging.specs.OpenMaps.{AreOpen, AreOpenDistinct}
 use Rattle.cbor_judging.specs.Judged.{Never}
 use Rattle.cbor_strict.proofs.KeptKeys.{either_way, kept_if_in, kept_if_out}
-use Rattle.cbor_strict.proofs.KeptEnds.{kept_levels, kept_spans}
+use Rattle.cbor_strict.proofs.KeptEnds.{kept_keys}
 use Rattle.cbor_judging.proofs.OpenSteps.{member_before}
 use Rattle.cbor_strict.proofs.OpenEnds.{definite_of, outside_length, StaysOpen, none_open, member_open, key_open, content_open, stays_open, EndsClean, open_so, EndsIn, IsDueIn, ends_in, member_next, content_next, key_next, key_refused}
 
@@ -64,11 +64,8 @@ ends_of o b e t keys gs s m = record { clean = m.clean; taken = m.taken; at = m.
 levels_small : (o : KeyOrder) (b : Bounds) (e : ItemEventsView) (t : List ℕ) (keys : LastKeys) (gs : List Frame) (s : Spelling) → HasClosed o b e t keys gs s → length gs ≤ b.depth
 levels_small o b e t keys gs s h = let levels = h.clean.are.levels in omega (arith, levels, outside_length gs)
 
-pub few_levels : (o : KeyOrder) (b : Bounds) (e : ItemEventsView) (t : List ℕ) (keys : LastKeys) (gs : List Frame) (s : Spelling) → HasClosed o b e t keys gs s → length (seen keys).levels ≤ MAX_DEPTH
-few_levels o b e t keys gs s h = omega (arith, kept_levels (seen keys) gs (spell s) h.kept, levels_small o b e t keys gs s h, h.at.limits.0)
-
-pub few_spans : (o : KeyOrder) (b : Bounds) (e : ItemEventsView) (t : List ℕ) (keys : LastKeys) (gs : List Frame) (s : Spelling) → HasClosed o b e t keys gs s → length (seen keys).spans ≤ MAX_DEPTH
-few_spans o b e t keys gs s h = omega (arith, kept_spans (seen keys) gs (spell s) h.kept, levels_small o b e t keys gs s h, h.at.limits.0)
+pub few_keys : (o : KeyOrder) (b : Bounds) (e : ItemEventsView) (t : List ℕ) (keys : LastKeys) (gs : List Frame) (s : Spelling) → HasClosed o b e t keys gs s → (seen keys).open_keys ≤ MAX_DEPTH
+few_keys o b e t keys gs s h = omega (arith, kept_keys (seen keys) gs (spell s) h.kept, levels_small o b e t keys gs s h, h.at.limits.0)
 
 pub around_as : (o : KeyOrder) (new : OpenItems) (b : Bounds) (gs : List Frame) → o ≡ new.order → AreOpen (strict o) b.depth (from_outside gs) → AreOpenDistinct (strict o) 0 (from_outside gs) → AreOpenClean new b gs
 around_as o new b gs e x y =
@@ -90,7 +87,7 @@ member_kept k w a s t b fs h =
         | inl i ↦ kept_if_in f fs (spell s) i ∙ ap (kept_bytes fs) (sym (member_before w a s t b) ∙ sym (append-nil (before g))) ∙ sym (kept_if_in g fs [] i)
         | inr i ↦ kept_if_out f fs (spell s) i ∙ sym (kept_if_out g fs [] i)
       ];
-      is_inside = h.is_inside;
+      open_keys = h.open_keys;
     }
 
 -- nothing more, or a member

@@ -9,7 +9,8 @@ ghost use Rattle.cbor_judging.specs.Frame.{Frame, a_key, a_content, before, plug
 ghost use Rattle.cbor_judging.specs.Frame.{with_entries};
 ghost use Rattle.cbor_strict.specs.inner.LastKeys.{IsKept, IsFull, AreDefinite, HasKeyEnded};
 ghost use Rattle.cbor_strict.specs.inner.LastKeys.{AnswersKeyEnd};
-ghost use Rattle.cbor_strict.specs.inner.LastKeys.{seen, with_key, due_of, still_open, ended_item};
+ghost use Rattle.cbor_strict.specs.inner.LastKeys.{seen, with_key, with_last, due_of};
+ghost use Rattle.cbor_strict.specs.inner.LastKeys.{still_open, ended_item};
 
 use crate::MOST_OPEN;
 use crate::rises::rises;
@@ -29,16 +30,9 @@ pub(crate) enum Due {
     Content,
 }
 
-/// An open container, and whether it stands in a key that is not complete.
-#[derive(Clone, Copy, Default)]
-pub(crate) struct Level {
-    due: Due,
-    is_inside: bool,
-}
-
 /// Where the last complete key of an open map lies in the buffer: nowhere yet, where it is empty;
 /// and where the next key begins.
-#[derive(Clone, Copy, Default)]
+#[derive(Clone, Copy)]
 pub(crate) struct Span {
     from: usize,
     to: usize,
@@ -49,11 +43,12 @@ pub(crate) struct Span {
 /// and the keys of a map in it are parts of those bytes.
 #[derive(Drop)]
 pub(crate) struct LastKeys {
-    levels: ArrayVec<Level, MOST_OPEN>,
-    spans: ArrayVec<Span, MOST_OPEN>,
+    // What is due in each open container.
+    levels: ArrayVec<Due, MOST_OPEN>,
+    spans: Vec<Span>,
     bytes: Vec<u8>,
-    // Whether what comes stands in a key that is not complete.
-    is_inside: bool,
+    // In how many keys that are not complete, or not begun, what comes stands.
+    open_keys: usize,
 }
 
 impl LastKeys {
@@ -63,9 +58,9 @@ impl LastKeys {
     {
         LastKeys {
             levels: ArrayVec::new(),
-            spans: ArrayVec::new(),
+            spans: Vec::new(alloc),
             bytes: Vec::new(alloc),
-            is_inside: false,
+            open_keys: 0,
         }
     }
 
@@ -96,9 +91,9 @@ impl LastKeys {
     // Whether what comes stands in a key that is not complete.
     #[inline(always)]
     pub(crate) fn is_inside(&self) -> bool
-        ensures { result ≡ (seen self.now).is_inside }
+        ensures { IsTrue result ↔ (0 < (seen self.now).open_keys) }
     {
-        self.is_inside
+        self.open_keys > 0
     }
 
     // Keeps the next bytes of an item, where it stands in a key.
@@ -106,7 +101,7 @@ impl LastKeys {
         ensures { (fs : List Frame) (p : List ℕ) → IsKept (seen self.old) fs p
             → OnOk result (IsKept (seen self.new) fs (p ++ bytes.now)) }
     {
-        if self.is_inside {
+        if self.is_inside() {
             return self.bytes.extend_from_slice(bytes);
         }
         Ok(())
@@ -118,31 +113,26 @@ impl LastKeys {
         ensures { (f : Frame) (fs : List Frame) (p : List ℕ) → due_of f ≡ Due.Member
             → IsKept (seen self.old) fs p → before f ≡ p → IsKept (seen self.new) (f ∷ fs) [] }
     {
-        self.levels.push(Level {
-            due: Due::Member,
-            is_inside: self.is_inside,
-        });
+        self.levels.push(Due::Member);
     }
 
     // A map opens.
-    pub(crate) fn open_map(&mut self)
+    pub(crate) fn open_map(&mut self) -> Result<(), AllocError>
         requires levels { length (seen self.old).levels < MOST_OPEN }
-        requires spans { length (seen self.old).spans < MOST_OPEN }
+        requires keys { (seen self.old).open_keys ≤ MOST_OPEN }
         ensures { (w : Width) (v : Spelling) (b : SpelledEntries) (fs : List Frame) (p : List ℕ)
             → IsKept (seen self.old) fs p → before (a_key w no_entries v b) ≡ p
-            → IsKept (seen self.new) (a_key w no_entries v b ∷ fs) [] }
+            → OnOk result (IsKept (seen self.new) (a_key w no_entries v b ∷ fs) []) }
     {
         let here = self.bytes.len();
         self.spans.push(Span {
             from: here,
             to: here,
             next: here,
-        });
-        self.levels.push(Level {
-            due: Due::Key,
-            is_inside: self.is_inside,
-        });
-        self.is_inside = true;
+        })?;
+        self.levels.push(Due::Key);
+        self.open_keys += 1;
+        Ok(())
     }
 
     // The containers close that an item's end leaves full: so many stay open.
@@ -165,17 +155,16 @@ impl LastKeys {
             → IsKept (seen self.old) (f ∷ fs) (spell s)
             → IsKept (seen self.new) fs (spell (plug f s)) }
     {
-        let Some(level) = self.levels.pop() else {
+        let Some(due) = self.levels.pop() else {
             return;
         };
-        self.is_inside = level.is_inside;
-        if let Due::Member = level.due {
+        if let Due::Member = due {
             return;
         }
         let Some(span) = self.spans.pop() else {
             return;
         };
-        if !level.is_inside {
+        if !self.is_inside() {
             self.bytes.truncate(span.from);
         }
     }
@@ -188,7 +177,7 @@ impl LastKeys {
         ensures none { (p : List ℕ) → IsKept (seen self.now) [] p → result ≡ Due.Member }
     {
         match self.levels.as_slice().last() {
-            Some(level) => level.due,
+            Some(due) => *due,
             None => Due::Member,
         }
     }
@@ -196,27 +185,23 @@ impl LastKeys {
     // A key is complete: it takes the place of the one before it, if it comes behind that. Else its
     // length.
     pub(crate) fn end_key(&mut self, order: KeyOrder) -> Result<(), usize>
-        requires ended { HasKeyEnded (seen self.old) }
-        requires levels { length (seen self.old).levels ≤ MOST_OPEN }
-        requires spans { length (seen self.old).spans ≤ MOST_OPEN }
+        requires { HasKeyEnded (seen self.old) }
         ensures { AnswersKeyEnd order (seen self.old) (seen self.new) result }
     {
-        let Some(level) = self.levels.pop() else {
+        let Some(last) = self.spans.last() else {
             unreachable!()
         };
-        let Some(span) = self.spans.pop() else {
-            unreachable!()
-        };
-        let end = self.bytes.len();
+        let span = *last;
         if !self.rises(order, span) {
-            return Err(end - span.next);
+            return Err(self.bytes.len() - span.next);
         }
-        if level.is_inside {
-            self.put_key(true, span.next, end);
+        self.open_keys -= 1;
+        if self.is_inside() {
+            self.put_key(span.next);
             return Ok(());
         }
         cut_out(&mut self.bytes, span.from, span.next);
-        self.put_key(false, span.from, span.from + (end - span.next));
+        self.put_key(span.from);
         Ok(())
     }
 
@@ -236,45 +221,51 @@ impl LastKeys {
         )
     }
 
-    // The last complete key lies there now, and its content is due.
-    fn put_key(&mut self, is_inside: bool, from: usize, to: usize)
-        requires levels { length self.old.levels.items < MOST_OPEN }
-        requires spans { length self.old.spans.items < MOST_OPEN }
-        ensures { seen self.new ≡ with_key (seen self.old) is_inside from to }
+    // The last bytes, from there on, are the last complete key of the innermost map, and its
+    // content is due.
+    fn put_key(&mut self, from: usize)
+        ensures { seen self.new ≡ with_key (seen self.old) from }
     {
-        self.spans.push(Span { from, to, next: to });
-        self.levels.push(Level {
-            due: Due::Content,
-            is_inside,
-        });
-        self.is_inside = is_inside;
+        let end = self.bytes.len();
+        self.put(
+            Due::Content,
+            Span {
+                from,
+                to: end,
+                next: end,
+            },
+        );
     }
 
     // The content of a key is complete, and another key is due.
     pub(crate) fn end_content(&mut self)
-        requires levels { length (seen self.old).levels ≤ MOST_OPEN }
-        requires spans { length (seen self.old).spans ≤ MOST_OPEN }
+        requires { (seen self.old).open_keys ≤ MOST_OPEN }
         ensures { (w : Width) (a : SpelledEntries) (k s l m : Spelling) (b : SpelledEntries)
             (fs : List Frame)
             → IsKept (seen self.old) (a_content w a k (entry l m b) ∷ fs) (spell s)
             → IsKept (seen self.new) (a_key w (with_entries a (entry k s no_entries)) m b ∷ fs) [] }
     {
-        let Some(level) = self.levels.pop() else {
+        let Some(last) = self.spans.last() else {
             return;
         };
-        self.levels.push(Level {
-            due: Due::Key,
-            is_inside: level.is_inside,
-        });
-        let Some(span) = self.spans.pop() else {
-            return;
-        };
-        self.spans.push(Span {
-            from: span.from,
-            to: span.to,
+        let span = Span {
             next: self.bytes.len(),
-        });
-        self.is_inside = true;
+            ..*last
+        };
+        self.put(Due::Key, span);
+        self.open_keys += 1;
+    }
+
+    // This is due in the innermost map now, and there lies its last key.
+    fn put(&mut self, due: Due, span: Span)
+        ensures { seen self.new ≡ with_last (seen self.old) due span }
+    {
+        if let Some(last) = self.levels.last_mut() {
+            *last = due;
+        }
+        if let Some(last) = self.spans.last_mut() {
+            *last = span;
+        }
     }
 }
 

@@ -147,7 +147,10 @@ impl OpenItems {
         match what_begins(kind) {
             Begun::Leaf => return self.end_item(open, taken),
             Begun::String(is_text, count) => self.begin_string(is_text, count),
-            Begun::Map => self.keys.open_map(),
+            Begun::Map => match self.keys.open_map() {
+                Ok(()) => {}
+                Err(_) => return Err(Refusal::at(Reason::Memory, taken)),
+            },
             Begun::Other => self.keys.open_other(),
         }
         Ok(())

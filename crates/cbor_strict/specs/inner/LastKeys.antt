@@ -1,5 +1,5 @@
 -- What is kept of the keys of the maps that are open around an item. The open containers stand with the innermost first.
-use Rattle.std.specs.Prelude.{◌≡◌, ◌≢◌, ℕ, suc, ◌+◌, ◌++◌, Bool, true, false, if◌then◌else◌, IsTrue, List, [], ◌∷◌, length, Result, MatchResult}
+use Rattle.std.specs.Prelude.{◌≡◌, ◌≢◌, ℕ, suc, ◌+◌, ◌-◌, ◌++◌, Bool, true, false, if◌then◌else◌, IsTrue, List, [], ◌∷◌, length, slice_set, Result, MatchResult}
 use Rattle.cbor_head.specs.Head.{head}
 use Rattle.cbor_head.specs.Order.{key_lt}
 use Rattle.cbor_head.specs.Spelling.{Spelling, SpelledEntries, no_spellings, no_entries, entry, spell, spell_entries, entries_count}
@@ -10,19 +10,20 @@ use Rattle.cbor_head.specs.declared.width.Width.TheVariants.{Indefinite}
 use Rattle.cbor_strict.specs.declared.last_keys.Due.{Due}
 use Rattle.cbor_strict.specs.declared.last_keys.Due.TheVariants.{Member, Key, Content}
 use Rattle.cbor_strict.specs.declared.last_keys.LastKeys.{LastKeys}
-use Rattle.cbor_strict.specs.declared.last_keys.Level.{Level}
 use Rattle.cbor_strict.specs.declared.last_keys.Span.{Span}
 use Rattle.cbor_judging.specs.Frame.{Frame, a_member, a_key, a_content, tagged, plug, before}
 use Rattle.cbor_judging.specs.LastKey.{last_key}
 
 pub record KeysView : Type 0 where
-  pub levels : List Level
+  -- what is due in each
+  pub levels : List Due
   pub spans : List Span
   pub bytes : List ℕ
-  pub is_inside : Bool
+  -- in how many keys that are not complete the item in the innermost stands
+  pub open_keys : ℕ
 
 abbrev pub seen : LastKeys → KeysView
-seen k = record { levels = k.levels.items; spans = k.spans.items; bytes = k.bytes.items; is_inside = k.is_inside }
+seen k = record { levels = k.levels.items; spans = k.spans.items; bytes = k.bytes.items; open_keys = k.open_keys }
 
 -- the same containers with the outermost first
 abbrev pub from_outside : List Frame → List Frame
@@ -40,18 +41,20 @@ abbrev pub stands_in_key : List Frame → Bool
 stands_in_key [] = false
 stands_in_key (f ∷ fs) = if is_key f then true else stands_in_key fs
 
+-- in how many such keys it stands
+abbrev pub keys_around : List Frame → ℕ
+keys_around [] = 0
+keys_around (f ∷ fs) = if is_key f then suc (keys_around fs) else keys_around fs
+
 abbrev pub due_of : Frame → Due
 due_of (a_member w a b) = Member
 due_of (a_key w a v b) = Key
 due_of (a_content w a k b) = Content
 due_of (tagged w n) = Member
 
-abbrev pub level_of : Frame → List Frame → Level
-level_of f fs = record { due = due_of f; is_inside = stands_in_key fs }
-
-abbrev pub levels_of : List Frame → List Level
+abbrev pub levels_of : List Frame → List Due
 levels_of [] = []
-levels_of (f ∷ fs) = levels_of fs ++ level_of f fs ∷ []
+levels_of (f ∷ fs) = levels_of fs ++ due_of f ∷ []
 
 -- how many bytes stand before the last key of these pairs
 abbrev pub before_last : SpelledEntries → ℕ
@@ -99,7 +102,7 @@ pub record IsKept (k : KeysView) (fs : List Frame) (p : List ℕ) : Type 0 where
   pub levels : k.levels ≡ levels_of fs
   pub spans : k.spans ≡ spans_of fs
   pub bytes : k.bytes ≡ kept_bytes fs p
-  pub is_inside : k.is_inside ≡ stands_in_key fs
+  pub open_keys : k.open_keys ≡ keys_around fs
 
 -- ---- an item ends
 
@@ -151,11 +154,10 @@ AnswersKeyEnd o old new result =
     (λ u. IsTrue (key_lt o (last_key a) (spell s)) × IsKept new (a_content w a s b ∷ fs) [])
     (λ n. ¬ IsTrue (key_lt o (last_key a) (spell s)) × (n ≡ length (spell s)))
 
--- the last complete key of the innermost map lies there, and its content is due
-abbrev pub with_key : KeysView → Bool → ℕ → ℕ → KeysView
-with_key k inside from to = record {
-  levels = k.levels ++ record { due = Content; is_inside = inside } ∷ [];
-  spans = k.spans ++ span from to to ∷ [];
-  bytes = k.bytes;
-  is_inside = inside;
-}
+-- this is due in the innermost map, and there lies its last key
+abbrev pub with_last : KeysView → Due → Span → KeysView
+with_last k due sp = record { levels = slice_set k.levels (length k.levels - 1) due; spans = slice_set k.spans (length k.spans - 1) sp; bytes = k.bytes; open_keys = k.open_keys }
+
+-- the last complete key of the innermost map is all from there on, and its content is due
+abbrev pub with_key : KeysView → ℕ → KeysView
+with_key k from = with_last k Content (span from (length k.bytes) (length k.bytes))

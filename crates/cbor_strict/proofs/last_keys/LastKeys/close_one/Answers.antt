@@ -1,14 +1,24 @@
+use Rattle.std.proofs.Common.{arith}
 use Rattle.cbor_strict.specs.inner.LastKeys.{seen}
-use Rattle.std.proofs.Common.{true, false, arith}
-use Rattle.cbor_strict.proofs.KeptKeys.{not_so}
+use Rattle.cbor_strict.proofs.KeptKeys.{none_open}
 use Rattle.cbor_strict.proofs.KeptEnds.{closes_other, closes_map_in, closes_map_out}
 use Rattle.cbor_strict.proofs.last_keys.LastKeys.close_one.Goals as goal
 
 pub returns-in-Member : goal.returns-in-Member
-returns-in-Member c = record { fewer = λ some. omega (arith, c.in-Some.ensures.len); closed = λ f fs s full h. closes_other (seen c.args.self.now) f fs s c.pop.new.self.items c.in-Some.level full h c.in-Some.ensures.items c.in-Member.is }
+returns-in-Member c = record { fewer = λ some. omega (arith, c.in-Some.ensures.len); closed = λ f fs s full h. closes_other (seen c.args.self.now) f fs s c.pop.new.self.items c.in-Some.due full h c.in-Some.ensures.items c.in-Member.is }
 
-pub returns-then-not-level : goal.returns-then-not-level
-returns-then-not-level c = record { fewer = λ some. omega (arith, c.in-Some.ensures.len); closed = λ f fs s full h. rw c.truncate.ensures.items (closes_map_out (seen c.args.self.now) f fs s c.pop.new.self.items c.in-Some.level c.pop-2.new.self.items c.in-Some-pop.span full h c.in-Some.ensures.items c.in-Some-pop.ensures.items c.in_default-due.not-Member (not_so c.in-Some.level.is_inside true c.if-not-level.true)) }
+pub returns-then-not-is_inside : goal.returns-then-not-is_inside
+returns-then-not-is_inside c =
+    let none = none_open c.args.self.now.open_keys c.is_inside.result c.is_inside.ensures c.if-not-is_inside.true in
+    record {
+      fewer = λ some. omega (arith, c.in-Some.ensures.len);
+      closed = λ f fs s full h. rw c.truncate.ensures.items (closes_map_out (seen c.args.self.now) f fs s c.pop.new.self.items c.in-Some.due c.pop-2.new.self.items c.in-Some-pop.span full h c.in-Some.ensures.items c.in-Some-pop.ensures.items c.in_default-due.not-Member none);
+    }
 
-pub returns-else-not-level : goal.returns-else-not-level
-returns-else-not-level c = record { fewer = λ some. omega (arith, c.in-Some.ensures.len); closed = λ f fs s full h. closes_map_in (seen c.args.self.now) f fs s c.pop.new.self.items c.in-Some.level c.pop-2.new.self.items c.in-Some-pop.span full h c.in-Some.ensures.items c.in-Some-pop.ensures.items c.in_default-due.not-Member (not_so c.in-Some.level.is_inside false c.if-not-level.false) }
+pub returns-else-not-is_inside : goal.returns-else-not-is_inside
+returns-else-not-is_inside c =
+    let some_open = c.is_inside.ensures.0 c.if-not-is_inside.false in
+    record {
+      fewer = λ some. omega (arith, c.in-Some.ensures.len);
+      closed = λ f fs s full h. closes_map_in (seen c.args.self.now) f fs s c.pop.new.self.items c.in-Some.due c.pop-2.new.self.items c.in-Some-pop.span full h c.in-Some.ensures.items c.in-Some-pop.ensures.items c.in_default-due.not-Member some_open;
+    }

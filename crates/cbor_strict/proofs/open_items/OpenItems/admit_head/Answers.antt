@@ -10,7 +10,7 @@ use Rattle.cbor_judging.specs.Refusals.{IsComplaintReason}
 use Rattle.cbor_strict.specs.StrictReader.{IsAgainstEvent}
 use Rattle.cbor_strict.specs.inner.OpenItems.{Answers}
 use Rattle.cbor_judging.specs.Reading.{IsHeadFault, IsFault}
-use Rattle.cbor_strict.proofs.OpenHeads.{refused_head, head_no_memory, begun_kept}
+use Rattle.cbor_strict.proofs.OpenHeads.{refused_head, begun_in, begun_no_memory, begun_kept}
 use Rattle.cbor_strict.proofs.open_items.OpenItems.admit_head.Goals as goal
 
 -- what the rules have against a head is a complaint
@@ -38,7 +38,8 @@ pub returns-in-Some-clause-answers : goal.returns-in-Some-clause-answers
 returns-in-Some-clause-answers c = λ b t x e h n m to. refused_head c.args.self.now b c.args.event.now t x e c.in-Some.reason _ c.args.taken to h (c.in-Some.ensures c.args.self.now.order) m c.new.ensures
 
 pub returns-in-Err-clause-answers : goal.returns-in-Err-clause-answers
-returns-in-Err-clause-answers c = λ b t x e h n m to. head_no_memory c.args.self.now b c.args.event.now t x e _ c.args.taken to h (c.in-None.ensures c.args.self.now.order) m c.at.ensures
+returns-in-Err-clause-answers c = λ b t x e h n m to.
+    begun_no_memory c.args.self.now b c.args.event.now.width c.args.event.now.kind t x e _ c.args.taken to h.fs h.around h.taken (begun_in c.args.self.now b c.args.event.now t x e h (c.in-None.ensures c.args.self.now.order)) m c.at.ensures
 
 pub begin-requires : goal.begin-requires
 begin-requires c =

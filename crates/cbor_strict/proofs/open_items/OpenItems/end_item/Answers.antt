@@ -1,38 +1,20 @@
-use Rattle.cbor_strict.proofs.OpenItems.{Closing, has_closed, few_levels, few_spans, key_has_ended, behind_member, behind_content, behind_key, refused_key}
+use Rattle.cbor_strict.proofs.OpenItems.{Closing, has_closed, few_keys, key_has_ended, behind_member, behind_content, behind_key, refused_key}
 use Rattle.std.proofs.Common.{refl}
 use Rattle.cbor_head.specs.Verdict.{refusal}
 use Rattle.cbor_head.specs.declared.reason.Reason.TheVariants.{KeyOrder}
 use Rattle.cbor_strict.proofs.open_items.OpenItems.end_item.Goals as goal
 
-pub end_content-requires-clause-levels : goal.end_content-requires-clause-levels
-end_content-requires-clause-levels c =
+pub end_content-requires : goal.end_content-requires
+end_content-requires c =
     let r = c.requires in
     let k : Closing c.args.self.now c.close.new.self c.args.open c.args.taken c.due.result = record { closed = c.close.ensures; some = c.due.ensures.some; none = c.due.ensures.none } in
-    few_levels _ _ _ _ _ _ _ (has_closed c.args.self.now c.close.new.self c.args.open c.args.taken c.due.result r.b r.e r.t k r.ended r.counted)
+    few_keys _ _ _ _ _ _ _ (has_closed c.args.self.now c.close.new.self c.args.open c.args.taken c.due.result r.b r.e r.t k r.ended r.counted)
 
-pub end_content-requires-clause-spans : goal.end_content-requires-clause-spans
-end_content-requires-clause-spans c =
-    let r = c.requires in
-    let k : Closing c.args.self.now c.close.new.self c.args.open c.args.taken c.due.result = record { closed = c.close.ensures; some = c.due.ensures.some; none = c.due.ensures.none } in
-    few_spans _ _ _ _ _ _ _ (has_closed c.args.self.now c.close.new.self c.args.open c.args.taken c.due.result r.b r.e r.t k r.ended r.counted)
-
-pub end_key-requires-clause-ended : goal.end_key-requires-clause-ended
-end_key-requires-clause-ended c =
+pub end_key-requires : goal.end_key-requires
+end_key-requires c =
     let r = c.requires in
     let k : Closing c.args.self.now c.close.new.self c.args.open c.args.taken c.due.result = record { closed = c.close.ensures; some = c.due.ensures.some; none = c.due.ensures.none } in
     key_has_ended c.args.self.now c.close.new.self c.args.open c.args.taken c.due.result r.b r.e r.t k r.ended r.counted c.in-Key.is
-
-pub end_key-requires-clause-levels : goal.end_key-requires-clause-levels
-end_key-requires-clause-levels c =
-    let r = c.requires in
-    let k : Closing c.args.self.now c.close.new.self c.args.open c.args.taken c.due.result = record { closed = c.close.ensures; some = c.due.ensures.some; none = c.due.ensures.none } in
-    few_levels _ _ _ _ _ _ _ (has_closed c.args.self.now c.close.new.self c.args.open c.args.taken c.due.result r.b r.e r.t k r.ended r.counted)
-
-pub end_key-requires-clause-spans : goal.end_key-requires-clause-spans
-end_key-requires-clause-spans c =
-    let r = c.requires in
-    let k : Closing c.args.self.now c.close.new.self c.args.open c.args.taken c.due.result = record { closed = c.close.ensures; some = c.due.ensures.some; none = c.due.ensures.none } in
-    few_spans _ _ _ _ _ _ _ (has_closed c.args.self.now c.close.new.self c.args.open c.args.taken c.due.result r.b r.e r.t k r.ended r.counted)
 
 pub overflow_sub-taken : goal.overflow_sub-taken
 overflow_sub-taken c =
