@@ -1,6 +1,6 @@
 //! The item at the front of an input, if it is valid, as canonical bytes, without a tree.
 
-ghost use Rattle.std.specs.Prelude.{MatchResult};
+ghost use Rattle.std.specs.Prelude.{◌≡◌, OnOk, MatchResult};
 ghost use Rattle.cbor_head.specs.Complaint.{plain};
 ghost use Rattle.cbor_item.specs.View.{view};
 ghost use Rattle.cbor_reader.specs.inner.Front.{IsFrontRead};
@@ -43,22 +43,27 @@ pub(crate) fn read_plain_front<R: Read>(
     }
 }
 
-// The item that the reader's bytes begin with, and how many bytes it has. No byte behind the item
-// or its first complaint is read.
+// The item that the reader's bytes begin with, whose events these become, and how many bytes it has.
+// No byte behind the item or its first complaint is read.
 pub(crate) fn read_item_front<R: Read>(
     alloc: Global,
+    events: &mut ItemEvents,
     reader: &mut R,
     limits: Limits,
 ) -> Result<(Item, u64), Refusal>
-    ensures { MatchResult result
+    requires { (events.old.machine.depth ≡ limits.depth)
+        × (events.old.machine.bytes ≡ limits.bytes) }
+    ensures limits { OnOk result ((events.new.machine.depth ≡ limits.depth)
+        × (events.new.machine.bytes ≡ limits.bytes)) }
+    ensures front { MatchResult result
         (λ answer. IsFrontRead plain limits
         (R.remaining reader.old) (R.remaining reader.new) (view answer.0) answer.1)
         (λ f. IsFrontUnread plain limits (R.remaining reader.old) (R.remaining reader.new) f) }
 {
-    let mut events = ItemEvents::new(limits);
+    events.restart();
     let tree = Some(TreeBuilder::new(alloc));
     let mut items = PlainItems::new(alloc, KeyOrder::Bytewise, limits.keys(), tree);
-    match read_parts(alloc, &mut events, &mut items, reader) {
+    match read_parts(alloc, events, &mut items, reader) {
         Ok(()) => {
             let item = items.into_item();
             let size = events.taken();

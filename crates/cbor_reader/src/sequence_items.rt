@@ -11,10 +11,11 @@ ghost use Rattle.cbor_reader.specs.Sequence.{SequenceItemsView, IfGiven, IfRefus
 ghost use Rattle.cbor_reader.specs.Sequence.{IsTaken, IsAtEnd, IsRefused, Given, HasGiven};
 ghost use Rattle.cbor_reader.specs.Sequence.{GivesNext};
 
-use crate::tree_reader::read_tree;
+use crate::tree_reader::read_tree_by;
+use cbor_events::ItemEvents;
 use cbor_head::{KeyOrder, Limits, Reason, Refusal};
 use cbor_item::Tree;
-use cbor_strict::read_strict;
+use cbor_strict::read_strict_by;
 use std::alloc::Global;
 use std::io::Read;
 use std::marker::Model;
@@ -29,13 +30,21 @@ use std::marker::Model;
 pub struct SequenceItems {
     alloc: Global,
     limits: Limits,
+    // They become each item's in turn, so that the open containers are made once.
+    events: ItemEvents,
     finished: bool,
 }
 
 impl Model for SequenceItems {
+    ghost use Rattle.std.specs.Prelude.{◌≡◌, false};
+    ghost use Rattle.cbor_reader.specs.Sequence.{SequenceItemsView};
+
     ghost Value = { SequenceItemsView };
 
     ghost view = { λ s. record { limits = s.limits; finished = s.finished } };
+
+    ghost invariant = { λ s. s.finished ≡ false → (s.events.machine.depth ≡ s.limits.depth)
+        × (s.events.machine.bytes ≡ s.limits.bytes) };
 }
 
 impl SequenceItems {
@@ -47,11 +56,12 @@ impl SequenceItems {
         SequenceItems {
             alloc,
             limits,
+            events: ItemEvents::new(limits),
             finished: false,
         }
     }
 
-    /// The tree of the next item, as [`read_tree`] answers it; none where the input ends before the
+    /// The tree of the next item, as [`read_tree`](crate::read_tree) answers it; none where the input ends before the
     /// item's first byte, and for ever after that or after a refusal. Then nothing is read.
     pub fn next<R: Read>(&mut self, reader: &mut R) -> Option<Result<Tree, Refusal>>
         ensures item { IfGiven result (λ tree. IsTaken plain self.old.limits
@@ -74,14 +84,17 @@ impl SequenceItems {
         if self.finished {
             return None;
         }
-        match read_tree(self.alloc, reader, self.limits) {
+        match read_tree_by(self.alloc, &mut self.events, reader, self.limits) {
             Ok((tree, _count)) => Some(Ok(tree)),
-            Err(refusal) => self.stop(refusal),
+            Err(refusal) => {
+                self.finished = true;
+                last(refusal)
+            }
         }
     }
 
     /// How many bytes the next item has, where they are its canonical bytes in this order, as
-    /// [`read_strict`] answers it; none where the input ends before the item's first byte, and for
+    /// [`read_strict`](crate::read_strict) answers it; none where the input ends before the item's first byte, and for
     /// ever after that or after a refusal. Then nothing is read.
     pub fn next_strict<R: Read>(
         &mut self,
@@ -113,28 +126,30 @@ impl SequenceItems {
         if self.finished {
             return None;
         }
-        match read_strict(self.alloc, reader, self.limits, order) {
+        match read_strict_by(self.alloc, &mut self.events, reader, self.limits, order) {
             Ok(count) => Some(Ok(count)),
-            Err(refusal) => self.stop(refusal),
+            Err(refusal) => {
+                self.finished = true;
+                last(refusal)
+            }
         }
     }
+}
 
-    // No item is read any more: the refusal is answered, or none where the input ended before it.
-    fn stop<T>(&mut self, refusal: Refusal) -> Option<Result<T, Refusal>>
-        ensures end { result ≡ None → (refusal.reason ≡ reasons.Truncated) × (refusal.read ≡ 0) }
-        ensures refused { IfRefused result (λ f. (f ≡ refusal)
-            × ¬ ((refusal.reason ≡ reasons.Truncated) × (refusal.read ≡ 0))) }
-        ensures last { is_last result ≡ true }
-        ensures finished { (self.new.finished ≡ true) × (self.new.limits ≡ self.old.limits) }
-    {
-        self.finished = true;
-        match refusal {
-            Refusal {
-                reason: Reason::Truncated,
-                read: 0,
-                ..
-            } => None,
-            _ => Some(Err(refusal)),
-        }
+// The answer behind which no item is read any more: the refusal, or none where the input ended before
+// an item.
+fn last<T>(refusal: Refusal) -> Option<Result<T, Refusal>>
+    ensures end { result ≡ None → (refusal.reason ≡ reasons.Truncated) × (refusal.read ≡ 0) }
+    ensures refused { IfRefused result (λ f. (f ≡ refusal)
+        × ¬ ((refusal.reason ≡ reasons.Truncated) × (refusal.read ≡ 0))) }
+    ensures last { is_last result ≡ true }
+{
+    match refusal {
+        Refusal {
+            reason: Reason::Truncated,
+            read: 0,
+            ..
+        } => None,
+        _ => Some(Err(refusal)),
     }
 }

@@ -1,6 +1,6 @@
 //! The item at the front of an input, as a tree.
 
-ghost use Rattle.std.specs.Prelude.{◌≡◌, ◌≤◌, ◌<◌, ◌^◌, ℕ, length, IfOk, IfErr, IfSome};
+ghost use Rattle.std.specs.Prelude.{◌≡◌, ◌≤◌, ◌<◌, ◌^◌, ℕ, length, IfOk, IfErr, OnOk, IfSome};
 ghost use Rattle.cbor_head.specs.Complaint.{plain};
 ghost use Rattle.cbor_item.specs.View.{view};
 ghost use Rattle.cbor_judging.specs.Readers.{IsReadAs, IsUnread, Loses};
@@ -8,6 +8,7 @@ ghost use Rattle.cbor_judging.specs.Refusals.{IsReaderReason};
 ghost use Rattle.cbor_reader.specs.Size.{size};
 
 use crate::plain_front::read_item_front;
+use cbor_events::ItemEvents;
 use cbor_head::{Limits, Refusal};
 use cbor_item::Tree;
 use std::alloc::Global;
@@ -37,7 +38,32 @@ pub fn read_tree<R: Read>(
     ensures read { IfErr result
         (λ f. Loses f.read (R.remaining reader.old) (R.remaining reader.new)) }
 {
-    match read_item_front(alloc, reader, limits) {
+    read_tree_by(alloc, &mut ItemEvents::new(limits), reader, limits)
+}
+
+// The same, by events that the caller keeps from item to item.
+pub(crate) fn read_tree_by<R: Read>(
+    alloc: Global,
+    events: &mut ItemEvents,
+    reader: &mut R,
+    limits: Limits,
+) -> Result<(Tree, u64), Refusal>
+    requires limits { (events.old.machine.depth ≡ limits.depth)
+        × (events.old.machine.bytes ≡ limits.bytes) }
+    ensures limits { OnOk result ((events.new.machine.depth ≡ limits.depth)
+        × (events.new.machine.bytes ≡ limits.bytes)) }
+    ensures accepted { IfOk result (λ answer. IfSome (R.remaining reader.old)
+        (λ input. IsReadAs limits plain input (view answer.0) answer.1)) }
+    ensures taken { IfOk result
+        (λ answer. Loses answer.1 (R.remaining reader.old) (R.remaining reader.new)) }
+    ensures bounded { IfOk result (λ answer. size (view answer.0) ≤ answer.1) }
+    ensures refused { IfErr result (λ f. IfSome (R.remaining reader.old)
+        (λ input. IsUnread limits plain input f)) }
+    ensures reason { IfErr result (λ f. IsReaderReason limits plain f.reason) }
+    ensures read { IfErr result
+        (λ f. Loses f.read (R.remaining reader.old) (R.remaining reader.new)) }
+{
+    match read_item_front(alloc, events, reader, limits) {
         Ok((item, count)) => Ok((Tree::from_valid(item), count)),
         Err(refusal) => Err(refusal),
     }

@@ -7,10 +7,10 @@ returns-in-Ok-clause-run g c = rw (← c.self.view_is) (λ input given h.
     gives_value plain c.self.inside.limits _ _ input given h _ c.in-Ok._count c.in-Ok.ensures.accepted c.in-Ok.ensures.taken)
 
 pub returns-in-Err-clause-end : goal.returns-in-Err-clause-end
-returns-in-Err-clause-end g c = rw (← c.self.view_is) (λ none live. at_end plain c.self.inside.limits _ _ c.in-Err.refusal c.in-Err.ensures.refused c.in-Err.ensures.read (c.stop.ensures.end none))
+returns-in-Err-clause-end g c = rw (← c.self.view_is) (λ none live. at_end plain c.self.inside.limits _ _ c.in-Err.refusal c.in-Err.ensures.refused c.in-Err.ensures.read (c.last.ensures.end none))
 
 pub returns-in-Err-clause-refused : goal.returns-in-Err-clause-refused
-returns-in-Err-clause-refused g c = rw (← c.self.view_is) (refused_as plain c.self.inside.limits c.stop.result _ _ c.in-Err.refusal c.in-Err.ensures.refused c.in-Err.ensures.read c.stop.ensures.refused)
+returns-in-Err-clause-refused g c = rw (← c.self.view_is) (refused_as plain c.self.inside.limits c.last.result _ _ c.in-Err.refusal c.in-Err.ensures.refused c.in-Err.ensures.read c.last.ensures.refused)
 
 pub returns-in-Err-clause-reason : goal.returns-in-Err-clause-reason
-returns-in-Err-clause-reason g c = rw (← c.self.view_is) (reason_as c.self.inside.limits plain c.stop.result c.in-Err.refusal c.in-Err.ensures.reason c.stop.ensures.refused)
+returns-in-Err-clause-reason g c = rw (← c.self.view_is) (reason_as c.self.inside.limits plain c.last.result c.in-Err.refusal c.in-Err.ensures.reason c.last.ensures.refused)
