@@ -1,36 +1,36 @@
 -- What is left of a text, from one put to the next.
-use Rattle.std.proofs.Common.{◌≡◌, ℕ, ◌+◌, ◌<◌, Bool, true, false, List, [], ◌∷◌, ◌++◌, length, Option, Some, None, Result, Ok, Err, Bor, codes, decimal, refl, sym, ap, ◌∙◌, subst, append_assoc, append-nil, length-append, arith}
+use Rattle.std.proofs.Common.{◌≡◌, ℕ, ◌+◌, ◌<◌, ◌≤◌, Bool, true, false, List, [], ◌∷◌, ◌++◌, length, Option, Some, None, Result, Ok, Err, Bor, codes, decimal, refl, sym, ap, ◌∙◌, subst, append_assoc, append-nil, length-append, arith}
 use Rattle.std.specs.Prelude.{reverse, IsSome, option_to_list}
 use Rattle.std.proofs.lemmas.List.{reverse-append}
 use Rattle.cbor_head.specs.Value.{Value, array, map, tag}
 use Rattle.cbor_diag.specs.declared.outbox.Stopped.{Stopped}
 use Rattle.cbor_diag.specs.inner.Layout.{gap, end, laid_out, members_left, pairs_left}
 use Rattle.cbor_diag.specs.inner.Nodes.{entries_in, values_in}
-use Rattle.cbor_diag.specs.inner.Outbox.{HasPut, HasStopped}
+use Rattle.cbor_diag.specs.inner.Outbox.{HasPut, HasStopped, Puts}
 use Rattle.cbor_diag.specs.inner.Levels.{HasLeft, Leaves, all_left, behind, left_of, rest_of}
 use Rattle.cbor_diag.specs.declared.layout.Layout.{Layout}
 use Rattle.cbor_diag.specs.declared.outbox.Outbox.{Outbox}
 use Rattle.cbor_diag.specs.declared.walk.Left.{Left}
 use Rattle.cbor_diag.specs.declared.walk.Left.TheVariants as parts
 use Rattle.cbor_diag.specs.declared.walk.Level.{Level}
-use Rattle.cbor_diag.proofs.Putting.{puts-then, puts-stops, stops-more}
+use Rattle.cbor_diag.proofs.Putting.{puts-nothing, puts-next, puts-then, puts-stops, stops-more}
 
 -- the first part of the whole could not be put
 pub front-stops : (a b : Option (List ℕ)) (s : Outbox) (whole xs more : List ℕ) (e : Outbox) → xs ++ more ≡ whole → HasStopped a b s xs e → HasStopped a b s whole e
 front-stops a b s whole xs more e is p = subst (λ (l : List ℕ). HasStopped a b s l e) is (stops-more a b s xs more e p)
 
 -- the first part was put
-pub front-left : (a b : Option (List ℕ)) (s t : Outbox) (whole xs more : List ℕ) → xs ++ more ≡ whole → 0 < length xs → HasPut a b s t xs → HasLeft a b s t whole more
+pub front-left : (a b : Option (List ℕ)) (s t : Outbox) (whole xs more : List ℕ) → xs ++ more ≡ whole → 0 < length xs → HasPut a b s t xs → HasLeft 1 a b s t whole more
 front-left a b s t whole xs more is some p = record { done = xs; written = p; some = some; joins = is }
 
 -- the text of what holds no other, or not all of it
-pub leaf-left : (l : Layout) (n : ℕ) (v w : Value) (a b : Option (List ℕ)) (s t : Outbox) → v ≡ w → 0 < length (laid_out l n v) → HasPut a b s t (laid_out l n v) → HasLeft a b s t (laid_out l n w) []
+pub leaf-left : (l : Layout) (n : ℕ) (v w : Value) (a b : Option (List ℕ)) (s t : Outbox) → v ≡ w → 0 < length (laid_out l n v) → HasPut a b s t (laid_out l n v) → HasLeft 1 a b s t (laid_out l n w) []
 leaf-left l n v w a b s t is some p =
     front-left a b s t (laid_out l n w) (laid_out l n v) [] (append-nil (laid_out l n v) ∙ ap (laid_out l n) is) some p
 
 -- a part, perhaps empty, and then what follows
-pub put-left : (a b c : Option (List ℕ)) (s t u : Outbox) (whole xs mid more : List ℕ) → xs ++ mid ≡ whole → HasPut a b s t xs → HasLeft b c t u mid more → HasLeft a c s u whole more
-put-left a b c s t u whole xs mid more is p q =
+pub put-left : (n : ℕ) → n ≤ 1 → (a b c : Option (List ℕ)) (s t u : Outbox) (whole xs mid more : List ℕ) → xs ++ mid ≡ whole → HasPut a b s t xs → HasLeft 1 b c t u mid more → HasLeft n a c s u whole more
+put-left n few a b c s t u whole xs mid more is p q =
     let some = q.some in
     record {
       done = xs ++ q.done;
@@ -42,14 +42,25 @@ put-left a b c s t u whole xs mid more is p q =
 pub put-stops : (a b c : Option (List ℕ)) (s t : Outbox) (whole xs mid : List ℕ) (e : Outbox) → xs ++ mid ≡ whole → HasPut a b s t xs → HasStopped b c t mid e → HasStopped a c s whole e
 put-stops a b c s t whole xs mid e is p q = subst (λ (l : List ℕ). HasStopped a c s l e) is (puts-stops a b c s t xs mid e p q)
 
-pub left-left : (a b c : Option (List ℕ)) (s t u : Outbox) (whole mid more : List ℕ) → HasLeft a b s t whole mid → HasLeft b c t u mid more → HasLeft a c s u whole more
-left-left a b c s t u whole mid more p q = put-left a b c s t u whole p.done mid more p.joins p.written q
+pub left-left : (a b c : Option (List ℕ)) (s t u : Outbox) (whole mid more : List ℕ) → HasLeft 0 a b s t whole mid → HasLeft 1 b c t u mid more → HasLeft 0 a c s u whole more
+left-left a b c s t u whole mid more p q = put-left 0 (omega arith) a b c s t u whole p.done mid more p.joins p.written q
 
-pub left-stops : (a b c : Option (List ℕ)) (s t : Outbox) (whole mid : List ℕ) (e : Outbox) → HasLeft a b s t whole mid → HasStopped b c t mid e → HasStopped a c s whole e
-left-stops a b c s t whole mid e p q = put-stops a b c s t whole p.done mid e p.joins p.written q
+pub left-stops : (n : ℕ) (a b c : Option (List ℕ)) (s t : Outbox) (whole mid : List ℕ) (e : Outbox) → HasLeft n a b s t whole mid → HasStopped b c t mid e → HasStopped a c s whole e
+left-stops n a b c s t whole mid e p q = put-stops a b c s t whole p.done mid e p.joins p.written q
+
+pub left-puts : (n : ℕ) (a b c : Option (List ℕ)) (s t u : Outbox) (whole mid : List ℕ) (r : Result (Unit {0}) Stopped) → HasLeft n a b s t whole mid → Puts b c t u mid r → Puts a c s u whole r
+left-puts n a b c s t u whole mid r p q = subst (λ (l : List ℕ). Puts a c s u l r) p.joins (puts-next a b c s t u p.done mid r p.written q)
+
+-- nothing of it is left
+pub left-none : (n : ℕ) (a b : Option (List ℕ)) (s t : Outbox) (whole : List ℕ) → HasLeft n a b s t whole [] → HasPut a b s t whole
+left-none n a b s t whole p = subst (λ (l : List ℕ). HasPut a b s t l) (sym (append-nil p.done) ∙ p.joins) p.written
+
+-- nothing was put yet
+pub left-whole : (a : Option (List ℕ)) (s : Outbox) (whole : List ℕ) → HasLeft 0 a a s s whole whole
+left-whole a s whole = record { done = []; written = puts-nothing a s; some = omega arith; joins = refl }
 
 -- more of the whole comes behind what is left of a part of it
-pub left-more : (a b : Option (List ℕ)) (s t : Outbox) (whole left more : List ℕ) → HasLeft a b s t whole left → HasLeft a b s t (whole ++ more) (left ++ more)
+pub left-more : (a b : Option (List ℕ)) (s t : Outbox) (whole left more : List ℕ) → HasLeft 1 a b s t whole left → HasLeft 1 a b s t (whole ++ more) (left ++ more)
 left-more a b s t whole left more p = record {
   done = p.done;
   written = p.written;
@@ -88,13 +99,13 @@ module _ {N : Type 0} (see : N → Value) where
 
   -- the end of a container was put
   pub ended : (l : Layout) (vs us : List (Level N)) (o : Option (Level N)) (a b : Option (List ℕ)) (s t : Outbox) (whole xs : List ℕ) → vs ≡ us ++ option_to_list o → (0 < length vs → IsSome o) → xs ++ behind see l (reverse vs) ≡ whole → 0 < length xs → HasPut a b s t xs
-      → HasLeft a b s t whole (all_left see l o (reverse us))
+      → HasLeft 1 a b s t whole (all_left see l o (reverse us))
   ended l vs us o a b s t whole xs is has all some p =
       front-left a b s t whole xs (all_left see l o (reverse us)) (ap (λ (x : List ℕ). xs ++ x) (sym (popped l vs us o is has)) ∙ all) some p
 
   -- behind what stands before it
   pub ends : (l : Layout) (vs us : List (Level N)) (o : Option (Level N)) (a b c : Option (List ℕ)) (s t u : Outbox) (whole xs ys : List ℕ) → vs ≡ us ++ option_to_list o → (0 < length vs → IsSome o) → xs ++ (ys ++ behind see l (reverse vs)) ≡ whole → 0 < length ys
-      → HasPut a b s t xs → HasPut b c t u ys → HasLeft a c s u whole (all_left see l o (reverse us))
+      → HasPut a b s t xs → HasPut b c t u ys → HasLeft 1 a c s u whole (all_left see l o (reverse us))
   ends l vs us o a b c s t u whole xs ys is has all some p q =
       ended l vs us o a c s u whole (xs ++ ys) is has (append_assoc xs ys (behind see l (reverse vs)) ∙ all) (omega (arith, length-append xs ys)) (puts-then a b c s t u xs ys p q)
 
@@ -145,14 +156,14 @@ module _ {N : Type 0} (see : N → Value) where
       four (codes ": ") (laid_out l (n + 1) (see x.now)) (pairs_left l n false (entries_in see b.now)) (codes "}") rest ∙ left_as l n left (parts.Value x b) rest is
 
   -- an item comes behind what was put
-  pub goes-on : (l : Layout) (vs : List (Level N)) (a b c : Option (List ℕ)) (s t u : Outbox) (whole xs mid : List ℕ) (r : Result (Option (Level N)) Stopped) → xs ++ mid ≡ whole → HasPut a b s t xs → Leaves see l b c t u mid vs r → Leaves see l a c s u whole vs r
-  goes-on l vs a b c s t u whole xs mid (Ok o) is p q = put-left a b c s t u whole xs mid (all_left see l o vs) is p q
+  pub goes-on : (l : Layout) (vs : List (Level N)) (a b c : Option (List ℕ)) (s t u : Outbox) (whole xs mid : List ℕ) (r : Result (Option (Level N)) Stopped) → xs ++ mid ≡ whole → HasPut a b s t xs → Leaves 1 see l b c t u mid vs r → Leaves 1 see l a c s u whole vs r
+  goes-on l vs a b c s t u whole xs mid (Ok o) is p q = put-left 1 (omega arith) a b c s t u whole xs mid (all_left see l o vs) is p q
   goes-on l vs a b c s t u whole xs mid (Err e) is p q = put-stops a b c s t whole xs mid u is p q
 
   -- its container is around what is open of it
-  pub opened : (l : Layout) (vs us : List (Level N)) (v w : Level N) (a b : Option (List ℕ)) (s t : Outbox) (whole : List ℕ) → us ≡ vs ++ v ∷ [] → HasLeft a b s t whole (rest_of see l w ++ [])
-      → HasLeft a b s t (whole ++ (rest_of see l v ++ behind see l (reverse vs))) (rest_of see l w ++ behind see l (reverse us))
+  pub opened : (l : Layout) (vs us : List (Level N)) (v w : Level N) (a b : Option (List ℕ)) (s t : Outbox) (whole : List ℕ) → us ≡ vs ++ v ∷ [] → HasLeft 1 a b s t whole (rest_of see l w ++ [])
+      → HasLeft 1 a b s t (whole ++ (rest_of see l v ++ behind see l (reverse vs))) (rest_of see l w ++ behind see l (reverse us))
   opened l vs us v w a b s t whole is p =
-      subst (λ (x : List ℕ). HasLeft a b s t (whole ++ (rest_of see l v ++ behind see l (reverse vs))) x)
+      subst (λ (x : List ℕ). HasLeft 1 a b s t (whole ++ (rest_of see l v ++ behind see l (reverse vs))) x)
       (ap (λ (x : List ℕ). x ++ (rest_of see l v ++ behind see l (reverse vs))) (append-nil (rest_of see l w)) ∙ ap (λ (x : List ℕ). rest_of see l w ++ x) (sym (behind-top l vs us v is)))
       (left-more a b s t whole (rest_of see l w ++ []) (rest_of see l v ++ behind see l (reverse vs)) p)

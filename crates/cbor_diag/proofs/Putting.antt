@@ -5,7 +5,7 @@ use Rattle.std.specs.Prelude.{MatchResult}
 use Rattle.std.specs.Result.{OnErr, is_ok}
 use lib.Seq.{take-append_seam}
 use Rattle.std.specs.Io.KnownBytes.{Appends}
-use Rattle.std.proofs.KnownBytes.{Appends-trans}
+use Rattle.std.proofs.KnownBytes.{Appends-nil, Appends-trans}
 use Rattle.cbor_diag.specs.declared.outbox.Stopped.{Stopped}
 use Rattle.cbor_item.specs.Sent.{stopped_at}
 use Rattle.cbor_diag.specs.Written.{capped, Writes}
@@ -19,6 +19,14 @@ regroup took more waits w xs ys mid p q =
 
 counts : (m n : List ℕ) (k : ℕ) → capped ((k + length m) + length n) ≡ capped (k + length (m ++ n))
 counts m n k = let l = length-append m n in omega (arith, l)
+
+pub puts-nothing : (a : Option (List ℕ)) (s : Outbox) → HasPut a a s s []
+puts-nothing a s = record {
+  took = [];
+  appended = Appends-nil a;
+  others = sym (append-nil s.waiting.items);
+  counted = λ k e. e ∙ omega arith;
+}
 
 pub puts-then : (a b c : Option (List ℕ)) (s t u : Outbox) (xs ys : List ℕ) → HasPut a b s t xs → HasPut b c t u ys → HasPut a c s u (xs ++ ys)
 puts-then a b c s t u xs ys p q = record {

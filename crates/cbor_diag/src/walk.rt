@@ -15,12 +15,15 @@ use crate::pieces::{put_bytes, put_negative, put_number, put_simple, put_text};
 use cbor_head::MAX_DEPTH;
 use std::io::Write;
 
-// As many as a tree lets nest.
-const MOST_OPEN: usize = MAX_DEPTH as usize;
+// Most items are no deeper than this,
+const FEW: usize = 16;
+// few are deeper than this,
+const SOME: usize = 128;
+// and none than this.
+const MOST: usize = MAX_DEPTH as usize;
 
 /// A container whose end is not written, at so many levels of indentation. Those around the innermost
-/// open one lie in the front of cells, the outermost first: a walk takes no more of the stack, however
-/// deep an item nests.
+/// open one lie in the front of cells that are lent, the outermost first.
 #[derive_where(Clone, Copy, Default)]
 pub(crate) struct Level<'a, N> {
     indent: u16,
@@ -54,13 +57,106 @@ pub(crate) fn put_item<N: Node, W: Write>(
     ensures { Puts (W.contents writer.old) (W.contents writer.new) out.old out.new
         (laid_out layout 0 (N.value item.now)) result }
 {
-    let mut cells = [Level::default(); MOST_OPEN];
-    let mut height = 0;
-    let mut innermost = begin(item, layout, 0, out, writer)?;
-    'levels: while let Some(level) = innermost {
-        innermost = go_on(level, layout, &mut cells, &mut height, out, writer)?;
+    match begin(item, layout, 0, out, writer)? {
+        Some(level) => put_levels(level, layout, out, writer),
+        None => Ok(()),
     }
+}
+
+// Puts what is left of a container that no other is around.
+fn put_levels<N: Node, W: Write>(
+    level: Level<'_, N>,
+    layout: Layout,
+    out: &mut Outbox,
+    writer: &mut W,
+) -> Result<(), Stopped>
+    requires { AreShallow N.value (level ∷ []) }
+    ensures { Puts (W.contents writer.old) (W.contents writer.new) out.old out.new
+        (rest_of N.value layout level.entry ++ []) result }
+{
+    let mut cells = [Level::default(); FEW];
+    match put_within(level, layout, &mut cells, 0, out, writer)? {
+        Some(level) => put_deeper(level, &cells, layout, out, writer),
+        None => Ok(()),
+    }
+}
+
+// The same where these are around it, which are too few cells.
+#[inline(never)]
+fn put_deeper<'a, N: Node, W: Write>(
+    level: Level<'a, N>,
+    around: &[Level<'a, N>],
+    layout: Layout,
+    out: &mut Outbox,
+    writer: &mut W,
+) -> Result<(), Stopped>
+    requires few { length around.now ≤ SOME }
+    requires shallow { AreShallow N.value (level ∷ reverse around.now) }
+    ensures { Puts (W.contents writer.old) (W.contents writer.new) out.old out.new
+        (rest_of N.value layout level.entry ++ behind N.value layout (reverse around.now)) result }
+{
+    let mut cells = [Level::default(); SOME];
+    lend(around, &mut cells);
+    match put_within(level, layout, &mut cells, around.len(), out, writer)? {
+        Some(level) => put_deepest(level, &cells, layout, out, writer),
+        None => Ok(()),
+    }
+}
+
+// The same, with a cell for each container that may be open.
+#[inline(never)]
+fn put_deepest<'a, N: Node, W: Write>(
+    level: Level<'a, N>,
+    around: &[Level<'a, N>],
+    layout: Layout,
+    out: &mut Outbox,
+    writer: &mut W,
+) -> Result<(), Stopped>
+    requires few { length around.now ≤ MOST }
+    requires shallow { AreShallow N.value (level ∷ reverse around.now) }
+    ensures { Puts (W.contents writer.old) (W.contents writer.new) out.old out.new
+        (rest_of N.value layout level.entry ++ behind N.value layout (reverse around.now)) result }
+{
+    let mut cells = [Level::default(); MOST];
+    lend(around, &mut cells);
+    put_within(level, layout, &mut cells, around.len(), out, writer)?;
     Ok(())
+}
+
+// These become the first of more cells, which lie in the caller's frame.
+#[inline(always)]
+fn lend<'a, N>(around: &[Level<'a, N>], cells: &mut [Level<'a, N>])
+    requires { length around.now ≤ length cells.old }
+    ensures { take (length around.now) cells.new ≡ around.now }
+{
+    cells[..around.len()].copy_from_slice(around);
+}
+
+// Puts what is left, with so many of the cells around the innermost container. Where the cells are too
+// few, all of them are around the container that it answers.
+fn put_within<'a, N: Node, W: Write>(
+    level: Level<'a, N>,
+    layout: Layout,
+    cells: &mut [Level<'a, N>],
+    mut height: usize,
+    out: &mut Outbox,
+    writer: &mut W,
+) -> Result<Option<Level<'a, N>>, Stopped>
+    requires height { height ≤ length cells.old }
+    requires shallow { AreShallow N.value (level ∷ reverse (take height cells.old)) }
+    ensures put { Leaves 0 N.value layout (W.contents writer.old) (W.contents writer.new)
+        out.old out.new (rest_of N.value layout level.entry
+        ++ behind N.value layout (reverse (take height cells.old))) (reverse cells.new) result }
+    ensures shallow { IfOk result (λ inner. AreAllShallow N.value inner (reverse cells.new)) }
+{
+    let mut innermost = Some(level);
+    'levels: while let Some(level) = innermost {
+        if height == cells.len() {
+            return Ok(Some(level));
+        }
+        innermost = go_on(level, layout, cells, &mut height, out, writer)?;
+    }
+    Ok(None)
 }
 
 // Puts an item that holds no other, or the front of one that does, which is then open.
@@ -72,7 +168,7 @@ fn begin<'a, N: Node, W: Write>(
     out: &mut Outbox,
     writer: &mut W,
 ) -> Result<Option<Level<'a, N>>, Stopped>
-    ensures put { Leaves N.value layout (W.contents writer.old) (W.contents writer.new)
+    ensures put { Leaves 1 N.value layout (W.contents writer.old) (W.contents writer.new)
         out.old out.new (laid_out layout indent (N.value item.now)) [] result }
     ensures opened { IfOk result (IsOpenOf N.value (depth (N.value item.now)) indent) }
 {
@@ -125,11 +221,10 @@ fn go_on<'a, N: Node, W: Write>(
     out: &mut Outbox,
     writer: &mut W,
 ) -> Result<Option<Level<'a, N>>, Stopped>
-    requires cells { length cells.old ≡ MOST_OPEN }
-    requires height { height.old ≤ MOST_OPEN }
+    requires room { height.old < length cells.old }
     requires shallow { AreShallow N.value (level ∷ reverse (take height.old cells.old)) }
-    ensures height { height.new ≤ MOST_OPEN }
-    ensures put { Leaves N.value layout (W.contents writer.old) (W.contents writer.new)
+    ensures height { height.new ≤ length cells.new }
+    ensures put { Leaves 1 N.value layout (W.contents writer.old) (W.contents writer.new)
         out.old out.new (rest_of N.value layout level.entry
         ++ behind N.value layout (reverse (take height.old cells.old))) (reverse (take height.new cells.new)) result }
     ensures shallow { IfOk result
@@ -193,12 +288,11 @@ fn go_into<'a, N: Node, W: Write>(
     out: &mut Outbox,
     writer: &mut W,
 ) -> Result<Option<Level<'a, N>>, Stopped>
-    requires cells { length cells.old ≡ MOST_OPEN }
-    requires height { height.old ≤ MOST_OPEN }
+    requires room { height.old < length cells.old }
     requires due { IsDue N.value (depth (N.value item.now)) indent
         (level ∷ reverse (take height.old cells.old)) }
-    ensures height { height.new ≤ MOST_OPEN }
-    ensures put { Leaves N.value layout (W.contents writer.old) (W.contents writer.new)
+    ensures height { height.new ≤ length cells.new }
+    ensures put { Leaves 1 N.value layout (W.contents writer.old) (W.contents writer.new)
         out.old out.new (laid_out layout indent (N.value item.now)
         ++ (rest_of N.value layout level.entry ++ behind N.value layout (reverse (take height.old cells.old))))
         (reverse (take height.new cells.new)) result }

@@ -1,4 +1,5 @@
 -- What private functions speak of; no public contract does.
+pub mod Containers
 pub mod Levels
 pub mod Members
 pub mod Walk

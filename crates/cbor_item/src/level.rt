@@ -8,6 +8,7 @@ ghost use Rattle.cbor_item.specs.View.{view};
 ghost use Rattle.cbor_item.specs.inner.Levels.{level_value};
 
 use crate::item::Item;
+use crate::letting_go::let_go;
 use cbor_head::Major;
 use std::alloc::{AllocError, Global};
 
@@ -66,6 +67,21 @@ impl Level {
                 Ok(Item::Tag(number, content))
             }
             _ => unreachable!(),
+        }
+    }
+
+    // What is open is let go, however deep its members nest.
+    pub(crate) fn let_go(self) {
+        match self {
+            Level::Whole(Some(item)) | Level::Tag(_, Some(item)) => let_go(item),
+            Level::Array(items) => let_go(Item::Array(items)),
+            Level::Map(pairs, key) => {
+                let_go(Item::Map(pairs));
+                if let Some(key) = key {
+                    let_go(key);
+                }
+            }
+            _ => {}
         }
     }
 }

@@ -15,6 +15,7 @@
 mod compare;
 mod encoding;
 mod item;
+mod letting_go;
 mod level;
 mod rest;
 mod tree;

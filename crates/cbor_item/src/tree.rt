@@ -7,13 +7,14 @@ ghost use Rattle.cbor_item.specs.View.{view};
 
 use crate::encoding::encode_distinct;
 use crate::item::Item;
+use crate::letting_go::let_go;
 use crate::within::is_within;
 use cbor_head::{KeyOrder, MAX_DEPTH, Reason};
 use std::alloc::Global;
 use std::marker::Model;
 
 /// An item of depth at most [`MAX_DEPTH`] in which no map has two equal keys (RFC 8949, section 5.6).
-#[derive(Drop)]
+/// It is let go without recursion, which takes no memory.
 pub struct Tree {
     item: Item,
 }
@@ -86,6 +87,13 @@ impl Tree {
         ensures in_range { IsInRange (view self) }
         ensures valid { IsValid (view self) }
     {
-        self.item
+        let Tree { item } = self;
+        item
+    }
+}
+
+impl Drop for Tree {
+    fn drop(self) {
+        let_go(self.into_item());
     }
 }

@@ -16,7 +16,8 @@ use std::marker::Model;
 /// An item (RFC 8949, section 3) from its parts as they come. What is open lies in a list of its
 /// own, so the depth of an item costs memory and no stack. The pairs of a map keep the order in
 /// which they came. Memory is taken for what came, never by a length in a head. After a call has
-/// been refused memory the builder may only be dropped.
+/// been refused memory the builder may only be dropped. It is let go without recursion, as a
+/// [`Tree`](crate::Tree) is.
 ///
 /// ```
 /// // {1: [2]}
@@ -29,7 +30,6 @@ use std::marker::Model;
 /// builder.end()?;
 /// let item = builder.finish();
 /// ```
-#[derive(Drop)]
 pub struct TreeBuilder {
     alloc: Global,
     top: Level,
@@ -112,6 +112,20 @@ impl TreeBuilder {
         match top {
             Level::Whole(Some(item)) => item,
             _ => unreachable!(),
+        }
+    }
+}
+
+impl Drop for TreeBuilder {
+    fn drop(self) {
+        let TreeBuilder {
+            alloc: _,
+            top,
+            below,
+        } = self;
+        top.let_go();
+        for level in below {
+            level.let_go();
         }
     }
 }

@@ -1,5 +1,5 @@
 -- What is left of a text that is being written, by the containers that are open.
-use Rattle.std.specs.Prelude.{ℕ, ◌≡◌, ◌+◌, ◌<◌, ◌≤◌, max, false, List, [], ◌∷◌, ◌++◌, length, codes, Option, Some, None, Result, Ok, Err}
+use Rattle.std.specs.Prelude.{ℕ, ◌≡◌, ◌+◌, ◌≤◌, max, false, List, [], ◌∷◌, ◌++◌, length, codes, Option, Some, None, Result, Ok, Err}
 use Rattle.cbor_head.specs.Value.{Value, depth, depth_all, depth_entries}
 use Rattle.cbor_head.specs.declared.limits.TheConstants.{MAX_DEPTH}
 use Rattle.cbor_diag.specs.inner.Layout.{laid_out, members_left, pairs_left}
@@ -64,14 +64,14 @@ module _ {N : Type 0} (see : N → Value) where
   IsOpenOf d indent None = Unit {0}
   IsOpenOf d indent (Some v) = (v.indent ≡ indent) × (depth_left v.left + 1 ≤ d)
 
--- some of the whole was put, and the rest is left
-pub record HasLeft (old new : Option (List ℕ)) (from to : Outbox) (whole left : List ℕ) : Type 0 where
+-- some of the whole was put, at least so many bytes, and the rest is left
+pub record HasLeft (least : ℕ) (old new : Option (List ℕ)) (from to : Outbox) (whole left : List ℕ) : Type 0 where
   pub done : List ℕ
   pub written : HasPut old new from to done
-  pub some : 0 < length done
+  pub some : least ≤ length done
   pub joins : done ++ left ≡ whole
 
 -- so, where this container is then the innermost and these are around it; or the writer failed
-abbrev pub Leaves : {N : Type 0} → (N → Value) → Layout → Option (List ℕ) → Option (List ℕ) → Outbox → Outbox → List ℕ → List (Level N) → Result (Option (Level N)) Stopped → Type 0
-Leaves see l old new from to whole vs (Ok o) = HasLeft old new from to whole (all_left see l o vs)
-Leaves see l old new from to whole vs (Err e) = HasStopped old new from whole to
+abbrev pub Leaves : {N : Type 0} → ℕ → (N → Value) → Layout → Option (List ℕ) → Option (List ℕ) → Outbox → Outbox → List ℕ → List (Level N) → Result (Option (Level N)) Stopped → Type 0
+Leaves n see l old new from to whole vs (Ok o) = HasLeft n old new from to whole (all_left see l o vs)
+Leaves n see l old new from to whole vs (Err e) = HasStopped old new from whole to
