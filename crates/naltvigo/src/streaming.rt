@@ -40,7 +40,8 @@ pub struct NaltvigoEvent {
     pub width: u32,
 }
 
-/// Makes `machine` one before an item's first byte. It takes no memory.
+/// Makes `machine` one before an item's first byte. It takes no memory, and leaves what stands behind
+/// the open containers as it was.
 #[unsafe(no_mangle)]
 pub extern "C" fn naltvigo_machine_start_raw(
     depth: u32,
@@ -55,7 +56,7 @@ pub extern "C" fn naltvigo_machine_start_raw(
 {
     match bounds_of(depth, bytes) {
         Some(limits) => {
-            *machine = Machine::new(limits).save();
+            Machine::new(limits).save_into(machine);
             OK
         }
         None => BAD_LIMITS,
