@@ -27,7 +27,7 @@ use cbor_buffer::span::Span;
 use cbor_head::{KeyOrder, Major};
 use std::alloc::{AllocError, Global};
 
-/// A builder. After a call has answered an error it may only be dropped.
+/// A builder. After a call has answered an error it may only be dropped, or cleared.
 #[derive(Drop)]
 pub(crate) struct Core {
     pub(crate) order: KeyOrder,
@@ -48,15 +48,22 @@ impl Core {
             order,
             out: Draft::new(alloc),
             spans: Vec::new(alloc),
-            top: Frame {
-                from: 0,
-                start: 0,
-                shape: Shape::Plain,
-                rises: true,
-            },
+            top: Frame::outermost(),
             below: Vec::new(alloc),
             sorting: Vec::new(alloc),
         }
+    }
+
+    // As it was then, with the memory that it has taken since.
+    pub(crate) fn clear(&mut self)
+        ensures order { self.new.order ≡ self.old.order }
+        ensures laid { IsLaid self.new }
+        ensures standing { standing self.new ≡ plain [] ∷ [] }
+    {
+        self.out.cut(0);
+        self.spans.clear();
+        self.below.clear();
+        self.top = Frame::outermost();
     }
 
     /// An item that is its head.

@@ -21,7 +21,7 @@ use std::marker::Model;
 
 /// Canonical bytes (RFC 8949, sections 4.2.1 and 4.2.3) from the parts of one item as they come,
 /// without a tree. A map's pairs are put in order as the map ends. After a call has been refused
-/// memory the builder may only be dropped.
+/// memory the builder may only be dropped, or cleared.
 ///
 /// ```
 /// // {1: [2], 0: "a"}
@@ -64,6 +64,14 @@ impl CanonBuilder {
             core: Core::new(alloc, order),
             is_sound: true,
         }
+    }
+
+    /// As new, for another item, with the memory that it has. Whatever call came before.
+    pub fn clear(&mut self)
+        ensures { self.new ≡ built self.old.order (plain [] ∷ []) }
+    {
+        self.core.clear();
+        self.is_sound = true;
     }
 
     /// An integer or a simple value.
@@ -243,7 +251,7 @@ impl CanonBuilder {
     }
 
     /// The array, map or tag ends, and nothing of it is kept: false where two keys of the map are the
-    /// same. Then the builder may only be dropped. It takes as many comparisons as
+    /// same. Then the builder may only be dropped, or cleared. It takes as many comparisons as
     /// `end_if_distinct`.
     #[inline(always)]
     pub fn give_up_if_distinct(&mut self) -> Result<bool, AllocError>

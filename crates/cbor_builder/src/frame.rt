@@ -1,6 +1,6 @@
 //! What is open.
 
-ghost use Rattle.std.specs.Prelude.{List, ◌≡◌, length};
+ghost use Rattle.std.specs.Prelude.{List, ◌≡◌, length, true};
 ghost use Rattle.cbor_builder.specs.inner.Repeats.{first_of};
 
 use cbor_buffer::span::Span;
@@ -32,6 +32,18 @@ pub(crate) struct Frame {
 }
 
 impl Frame {
+    /// Of the item itself, of which nothing is there.
+    pub(crate) fn outermost() -> Frame
+        ensures { result ≡ record { from = 0; start = 0; shape = Shape.Plain; rises = true } }
+    {
+        Frame {
+            from: 0,
+            start: 0,
+            shape: Shape::Plain,
+            rises: true,
+        }
+    }
+
     // The index from which on the spans are those of its pairs.
     pub(crate) fn first_span(&self, spans: &[Span]) -> usize
         ensures { result ≡ first_of spans.now self.now.shape }

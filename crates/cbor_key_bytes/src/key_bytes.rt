@@ -30,6 +30,14 @@ impl KeyBytes {
         }
     }
 
+    /// Of no keys, with the memory that it has. Whatever call came before.
+    pub fn clear(&mut self)
+        ensures { keys_stand self.new self.new (item_due []) }
+    {
+        self.builder.clear();
+        self.inside = 0;
+    }
+
     // Whether the next item is a key, as this says where none is open, or stands in one.
     #[inline(always)]
     fn keeps(&self, is_key: bool) -> bool

@@ -2,5 +2,7 @@
 #![tactic(auto)]
 
 mod key_bytes;
+mod lent_keys;
 
 pub use key_bytes::KeyBytes;
+pub use lent_keys::LentKeys;

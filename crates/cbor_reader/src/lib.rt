@@ -24,6 +24,7 @@
 
 mod canonicaliser;
 mod comparison;
+mod item_check;
 mod key_set;
 pub mod laws;
 mod next_head;
@@ -47,6 +48,7 @@ pub use canonicaliser::canonicalise;
 pub use cbor_item::{KeyOrder, Tree};
 pub use cbor_strict::{StrictReader, check_canonical, read_strict};
 pub use comparison::{Side, same_meaning};
+pub use item_check::ItemCheck;
 pub use sequence::Sequence;
 pub use sequence_items::SequenceItems;
 pub use tree_reader::read_tree;

@@ -24,10 +24,18 @@ pub fn check_valid(alloc: Global, bytes: &[u8], limits: Limits) -> Result<u64, R
 {
     match give_front(KeyBytes::new(alloc), bytes, limits) {
         Some((_, size)) => Ok(size),
-        // The refusal that the bytes call for, or that memory was refused.
-        None => match read_again(alloc, bytes, limits, KeyOrder::Bytewise) {
-            Ok(front) => Ok(front.size),
-            Err(refusal) => Err(refusal),
-        },
+        None => size_read_again(alloc, bytes, limits),
+    }
+}
+
+/// The same event by event: the refusal that the bytes call for, or that memory was refused.
+pub(crate) fn size_read_again(alloc: Global, bytes: &[u8], limits: Limits) -> Result<u64, Refusal>
+    ensures accepted { IfOk result (λ count. IsRead limits plain bytes.now count) }
+    ensures refused { IfErr result (λ f. IsUnread limits plain bytes.now f) }
+    ensures no_read { IfErr result (λ f. f.reason ≢ reasons.Read) }
+{
+    match read_again(alloc, bytes, limits, KeyOrder::Bytewise) {
+        Ok(front) => Ok(front.size),
+        Err(refusal) => Err(refusal),
     }
 }

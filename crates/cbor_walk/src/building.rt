@@ -5,7 +5,6 @@ ghost use Rattle.cbor_walk.specs.inner.Building.{IsDueIn, HasEndedIn, HasFilledI
 ghost use Rattle.cbor_walk.specs.inner.Building.{pairs, Leads, LeadsFull, Walks, WalksKept, IsFullAt};
 ghost use Rattle.cbor_walk.specs.inner.Stack.{around, standing};
 
-use crate::kinds::is_other_key;
 use crate::open::Open;
 use crate::part::Part;
 use crate::sink::Sink;
@@ -62,9 +61,6 @@ impl<S> Building<S> {
     {
         let mut rest = start;
         'parts: loop {
-            if is_other_key::<KINDS>(self.stack.top.due, rest) {
-                return Met::Stopped;
-            }
             match self.take_part::<KINDS>(rest, cells, depth) {
                 Part::Head(behind) => rest = behind,
                 Part::Item(behind) => {

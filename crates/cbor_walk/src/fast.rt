@@ -25,18 +25,19 @@ pub(crate) enum Short {
 /// What stands there, if it is a short item or head in its shortest form. Where kinds of keys are
 /// asked for and this is due, of a key that is neither an integer nor a text nothing is said.
 #[inline(always)]
-pub(crate) fn short_front<const KINDS: bool>(first: u8, rest: &[u8], due: Due) -> Short
+pub(crate) fn short_front<const KINDS: bool>(first: u8, rest: &[u8], due: &Due) -> Short
     requires { (behind : List ℕ) × (rest.now ≡ first ∷ behind) }
     ensures front { IsShortFront result rest.now }
-    ensures fits { IsSaid result → KINDS ≡ true → due ≡ Due.Key → IsFitFront rest.now }
+    ensures fits { IsSaid result → KINDS ≡ true → due.now ≡ Due.Key → IsFitFront rest.now }
 {
     match first / 32 {
         0 | 1 => match head_size(first, rest) {
             0 => Short::Other,
             size => Short::Item(size),
         },
-        major if KINDS && major != 3 && matches!(due, Due::Key) => Short::Other,
-        2 | 3 => string(first, rest),
+        2 | 3 => string::<KINDS>(first, rest, due),
+        // Neither an integer nor a text.
+        _ if KINDS && due.is_key() => Short::Other,
         4 | 5 => container(first, rest),
         6 => match head_size(first, rest) {
             0 => Short::Other,
@@ -92,15 +93,22 @@ fn least(low: u8) -> u64
 
 // A string of up to 255 bytes.
 #[inline(always)]
-fn string(first: u8, rest: &[u8]) -> Short
+fn string<const KINDS: bool>(first: u8, rest: &[u8], due: &Due) -> Short
     requires front { (behind : List ℕ) × (rest.now ≡ first ∷ behind) }
     requires kind { (64 ≤ first) × (first < 128) }
-    ensures { IsShortFront result rest.now }
+    ensures front { IsShortFront result rest.now }
+    ensures fits { IsSaid result → KINDS ≡ true → due.now ≡ Due.Key → IsFitFront rest.now }
 {
     let Some((payload, end)) = short_string(first, rest) else {
         return Short::Other;
     };
-    if first < 0x60 || is_text_front(&rest[payload..], end - payload) {
+    if first < 0x60 {
+        if KINDS && due.is_key() {
+            return Short::Other;
+        }
+        return Short::Item(end);
+    }
+    if is_text_front(&rest[payload..], end - payload) {
         return Short::Item(end);
     }
     Short::Other

@@ -1,15 +1,17 @@
 //! The next part of a valid item: an item without members, the head of a container, or a break.
 
-ghost use Rattle.std.specs.Prelude.{◌≡◌, ◌≤◌, ◌-◌, length};
+ghost use Rattle.std.specs.Prelude.{◌≡◌, ◌≤◌, ◌-◌, true, length};
 ghost use Rattle.cbor_builder.specs.Built.{IsLeaf, IsContainer};
 ghost use Rattle.cbor_walk.specs.inner.Building.{IsDueIn, Takes, IsHeadDue, IsHeadIn, TakesHead};
 ghost use Rattle.cbor_walk.specs.inner.Building.{IsOpenerDue, TakesOpener, TakesCounted};
 ghost use Rattle.cbor_walk.specs.inner.Building.{IsItem, IsToEndFor, EndsItem, EndsBefore, Counts};
-ghost use Rattle.cbor_walk.specs.inner.Building.{TakesFront, TakesHeadFront, TakesCountedFront, TakesOpenerFront};
+ghost use Rattle.cbor_walk.specs.inner.Building.{HasTaken, TakesFront, TakesHeadFront, TakesCountedFront, TakesOpenerFront};
+ghost use Rattle.cbor_walk.specs.inner.Kept.{IsFitFront};
 ghost use Rattle.cbor_walk.specs.inner.Stack.{standing};
 
 use crate::argument::read_argument;
 use crate::building::Building;
+use crate::kinds::is_other_key;
 use crate::level::Due;
 use crate::open::Open;
 use crate::sink::Sink;
@@ -45,8 +47,7 @@ impl<'a> Part<'a> {
 }
 
 impl<S> Building<S> {
-    /// Takes what stands in front, whether or not kinds of keys are asked for: each walk has a copy of
-    /// its own, which is made part of its loop.
+    /// Takes what stands in front, but for a key of another kind where kinds are asked for.
     #[inline(always)]
     pub(crate) fn take_part<'a, const KINDS: bool>(
         &mut self,
@@ -63,12 +64,17 @@ impl<S> Building<S> {
             self.old.sink (standing Open self.new.stack cells.new) self.new.sink }
         ensures full { result ≡ Part.Full → self.new.stack.height ≡ length cells.new }
         ensures front { TakesFront result (depth - self.old.stack.height) self.old.stack.top rest.now }
+        ensures fits { HasTaken result → KINDS ≡ true → self.old.stack.top.due ≡ Due.Key
+            → IsFitFront rest.now }
     {
         let Some((first, behind)) = rest.split_first() else {
             return Part::Stopped;
         };
         let (kind, low) = (*first / 32, *first % 32);
         if low > 27 {
+            if is_other_key::<KINDS>(self.stack.top.due, rest) {
+                return Part::Stopped;
+            }
             return self.take_endless(*first, behind, cells, depth).unpacked();
         }
         let Some(head) = read_argument(low, behind) else {
@@ -78,8 +84,9 @@ impl<S> Building<S> {
         match kind {
             0 => self.give_leaf(Major::Unsigned, number, behind),
             1 => self.give_leaf(Major::Negative, number, behind),
-            2 => self.take_string(false, number, behind),
             3 => self.take_string(true, number, behind),
+            _ if is_other_key::<KINDS>(self.stack.top.due, rest) => Part::Stopped,
+            2 => self.take_string(false, number, behind),
             4 => self
                 .take_counted(Major::Array, Due::Item, number, behind, cells, depth)
                 .unpacked(),

@@ -43,7 +43,7 @@ pub(crate) fn take_next<const KINDS: bool>(
     let Some((first, _)) = rest.split_first() else {
         return take_any::<KINDS>(rest, at, cells, stack, depth);
     };
-    match short_front::<KINDS>(*first, rest, stack.top.due) {
+    match short_front::<KINDS>(*first, rest, &stack.top.due) {
         Short::Item(used) => return Taken::Item(used),
         Short::Opens(due, left, used) => {
             if stack.height < depth && stack.height < cells.len() {
@@ -56,7 +56,9 @@ pub(crate) fn take_next<const KINDS: bool>(
     take_any::<KINDS>(rest, at, cells, stack, depth)
 }
 
-// The same, slower, of anything.
+// The same, slower, of anything. It is made part of what takes the next item, so that room for what
+// it calls is made here alone.
+#[inline(always)]
 fn take_any<const KINDS: bool>(
     rest: &[u8],
     at: usize,

@@ -21,7 +21,7 @@ const KEPT: usize = 256;
 
 impl Core {
     /// What is open ends, and nothing of it is kept. False where it is a map of which two keys are
-    /// equal: then the builder may only be dropped.
+    /// equal: then the builder may only be dropped, or cleared.
     #[inline(always)]
     pub(crate) fn give_up(&mut self) -> Result<bool, AllocError>
         requires laid { IsLaid self.old }

@@ -157,6 +157,12 @@ TakesCountedFront result d m n behind = (rest : List ℕ) → IsHead m n rest be
 abbrev pub TakesOpenerFront : Part → ℕ → Major → ℕ → Open → List ℕ → Type 0
 TakesOpenerFront result d m n o behind = (rest : List ℕ) → IsOpener m n o rest behind → (c : Open) → TakesFront result d c rest
 
+-- something is taken
+abbrev pub HasTaken : Part → Type 0
+HasTaken (part.Item behind) = Unit {0}
+HasTaken (part.Head behind) = Unit {0}
+HasTaken _ = ⊥
+
 -- what is taken ends before these
 abbrev pub EndsBefore : Part → List ℕ → Type 0
 EndsBefore (part.Item to) behind = to.now ≡ behind

@@ -20,12 +20,12 @@ returns-in-6-clause-takes g c =
     head-here Tag c.in-Some.first.now c.in-Some.behind.now h.rest.now h.width h.number c.in-Some-read_argument.ensures.spelled (omega (arith, c.in-6.is)) (λ e. cc e) c.args.rest.now c.in-Some.ensures.cases.0 in
     c.open.ensures.takes c.args.rest.now (subst (λ (x : Open). IsOpener Tag h.number x c.args.rest.now h.rest.now) (sym c.counted-opened.ensures) (tag-opens h.number c.args.rest.now h.rest.now head))
 
-pub give_leaf-requires-in_default-kind : goal.give_leaf-requires-in_default-kind
-give_leaf-requires-in_default-kind g c =
+pub give_leaf-requires : goal.give_leaf-requires
+give_leaf-requires g c =
     let h = c.in-Some-read_argument.head in
     let first = c.in-Some.first.now in
     let e = c.in-Some-read_argument.ensures in
-    let k = c.in_default-kind in
+    let k = c.in_default-2 in
     let high : 32 * 7 + first % 32 ≡ first = omega (arith, k, c.type_inv.rest 0, ap (λ (x : List ℕ). get_or x 0 0) c.in-Some.ensures.cases.0) in
     let wide : first % 32 ≡ 24 → (32 ≤ h.number) × (h.number < 256) = λ f. (elim c.if-number-lt32.either [ inl x ↦ x.1 | inr x ↦ absurd (x f) ], e.byte f) in
     let proper = simple-here (first % 32) c.in-Some.behind.now h.width h.number h.rest.now e.spelled c.if-low-gt24.false e.direct wide in
@@ -36,13 +36,13 @@ returns-else-number-lt32-clause-takes g c = λ start input due.
     let h = c.in-Some-read_argument.head in
     let first = c.in-Some.first.now in
     let e = c.in-Some-read_argument.ensures in
-    let k = c.in_default-kind in
+    let k = c.in_default-2 in
     let high : 32 * 7 + first % 32 ≡ first = omega (arith, k, c.type_inv.rest 0, ap (λ (x : List ℕ). get_or x 0 0) c.in-Some.ensures.cases.0) in
     let wide : first % 32 ≡ 24 → (32 ≤ h.number) × (h.number < 256) = λ f. (elim c.if-number-lt32.either [ inl x ↦ x.1 | inr x ↦ absurd (x f) ], e.byte f) in
     let proper = simple-here (first % 32) c.in-Some.behind.now h.width h.number h.rest.now e.spelled c.if-low-gt24.false e.direct wide in
     let head = head-here Simple first c.in-Some.behind.now h.rest.now h.width h.number e.spelled high (λ f. proper) c.args.rest.now c.in-Some.ensures.cases.0 in
-    subst (λ s. TakesTo g.row.S.Denot g.S.Sink.stands c.give_leaf-in_default-kind.result start c.args.depth input c.args.rest.now (standing Open s c.args.cells.now) c.give_leaf-in_default-kind.new.self.sink) (sym c.give_leaf-in_default-kind.ensures.stack)
-    (c.give_leaf-in_default-kind.ensures.takes c.args.rest.now head c.args.depth (around Open c.args.self.now.stack c.args.cells.now) start input due)
+    subst (λ s. TakesTo g.row.S.Denot g.S.Sink.stands c.give_leaf.result start c.args.depth input c.args.rest.now (standing Open s c.args.cells.now) c.give_leaf.new.self.sink) (sym c.give_leaf.ensures.stack)
+    (c.give_leaf.ensures.takes c.args.rest.now head c.args.depth (around Open c.args.self.now.stack c.args.cells.now) start input due)
 
 pub returns-in-6-clause-front : goal.returns-in-6-clause-front
 returns-in-6-clause-front g c =
@@ -56,9 +56,9 @@ returns-else-number-lt32-clause-front g c =
     let h = c.in-Some-read_argument.head in
     let first = c.in-Some.first.now in
     let e = c.in-Some-read_argument.ensures in
-    let k = c.in_default-kind in
+    let k = c.in_default-2 in
     let high : 32 * 7 + first % 32 ≡ first = omega (arith, k, c.type_inv.rest 0, ap (λ (x : List ℕ). get_or x 0 0) c.in-Some.ensures.cases.0) in
     let wide : first % 32 ≡ 24 → (32 ≤ h.number) × (h.number < 256) = λ f. (elim c.if-number-lt32.either [ inl x ↦ x.1 | inr x ↦ absurd (x f) ], e.byte f) in
     let proper = simple-here (first % 32) c.in-Some.behind.now h.width h.number h.rest.now e.spelled c.if-low-gt24.false e.direct wide in
     let head = head-here Simple first c.in-Some.behind.now h.rest.now h.width h.number e.spelled high (λ f. proper) c.args.rest.now c.in-Some.ensures.cases.0 in
-    c.give_leaf-in_default-kind.ensures.front c.args.rest.now head (c.args.depth - c.args.self.now.stack.height) c.args.self.now.stack.top
+    c.give_leaf.ensures.front c.args.rest.now head (c.args.depth - c.args.self.now.stack.height) c.args.self.now.stack.top

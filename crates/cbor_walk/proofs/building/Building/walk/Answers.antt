@@ -29,7 +29,7 @@ parts-preserved-in-Head g c =
       due = λ start input due. (c.in-Head.ensures.takes start input (before.due start input due)).1;
       kept = λ kinds keys start input due keeps.
           begun-keeps g.row.S.Denot g.S.Sink.stands start c.args.depth input keys p.self.stack p.cells p.self.sink p.rest.now c.in-Head.behind.now before.cells (before.due start input due) c.in-Head.ensures.front
-          (c.is_other_key.ensures.fits c.if-is_other_key.false kinds) (before.kept kinds keys start input due keeps);
+          (c.in-Head.ensures.fits tt kinds) (before.kept kinds keys start input due keeps);
     }
 
 pub parts-preserved : goal.parts-preserved
@@ -41,7 +41,7 @@ parts-preserved g c =
       due = λ start input due. c.in-Item-complete.ensures.leads start c.args.depth input c.in-Item.behind.now (c.in-Item.ensures.takes start input (before.due start input due)).1;
       kept = λ kinds keys start input due keeps.
           item-keeps g.row.S.Denot g.S.Sink.stands start c.args.depth input keys p.self.stack p.cells p.self.sink p.rest.now c.in-Item.behind.now before.cells (before.due start input due) c.in-Item.ensures.front
-          (c.is_other_key.ensures.fits c.if-is_other_key.false kinds) (before.kept kinds keys start input due keeps);
+          (c.in-Item.ensures.fits tt kinds) (before.kept kinds keys start input due keeps);
     }
 
 pub returns-in-Done-clause-kept : goal.returns-in-Done-clause-kept
@@ -49,4 +49,4 @@ returns-in-Done-clause-kept g c = λ kinds keys start input due keeps.
     let p = c.parts in
     let before = p.invariant in
     item-keeps g.row.S.Denot g.S.Sink.stands start c.args.depth input keys p.self.stack p.cells p.self.sink p.rest.now c.in-Item.behind.now before.cells (before.due start input due) c.in-Item.ensures.front
-    (c.is_other_key.ensures.fits c.if-is_other_key.false kinds) (before.kept kinds keys start input due keeps)
+    (c.in-Item.ensures.fits tt kinds) (before.kept kinds keys start input due keeps)

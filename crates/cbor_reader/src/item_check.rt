@@ -1,0 +1,42 @@
+//! Items that are checked one after another.
+
+ghost use Rattle.std.specs.Prelude.{◌≢◌, IfOk, IfErr};
+ghost use Rattle.cbor_head.specs.Complaint.{plain};
+ghost use Rattle.cbor_head.specs.declared.reason.Reason.TheVariants as reasons;
+ghost use Rattle.cbor_judging.specs.Readers.{IsRead, IsUnread};
+
+use crate::valid_slice::size_read_again;
+use cbor_head::{Limits, Refusal};
+use cbor_key_bytes::{KeyBytes, LentKeys};
+use cbor_walk::give_front;
+use std::alloc::Global;
+
+/// Checks one item after another, each as [`check_valid`](crate::check_valid) does, in memory that
+/// it keeps.
+#[derive(Drop)]
+pub struct ItemCheck {
+    alloc: Global,
+    keys: KeyBytes,
+}
+
+impl ItemCheck {
+    /// Takes no memory.
+    pub fn new(alloc: Global) -> ItemCheck {
+        ItemCheck {
+            alloc,
+            keys: KeyBytes::new(alloc),
+        }
+    }
+
+    /// How many bytes the item has that the slice begins with, or its refusal.
+    pub fn check(&mut self, bytes: &[u8], limits: Limits) -> Result<u64, Refusal>
+        ensures accepted { IfOk result (λ count. IsRead limits plain bytes.now count) }
+        ensures refused { IfErr result (λ f. IsUnread limits plain bytes.now f) }
+        ensures no_read { IfErr result (λ f. f.reason ≢ reasons.Read) }
+    {
+        match give_front(LentKeys::of(&mut self.keys), bytes, limits) {
+            Some((_, size)) => Ok(size),
+            None => size_read_again(self.alloc, bytes, limits),
+        }
+    }
+}
