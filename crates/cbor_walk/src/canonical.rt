@@ -1,6 +1,6 @@
 //! The canonical item at the front of a slice.
 
-ghost use Rattle.std.specs.Prelude.{◌≡◌, ◌≤◌, IfOk, IfErr, MatchResult, length};
+ghost use Rattle.std.specs.Prelude.{◌≡◌, ◌≤◌, IfOk, IfErr, IfSome, MatchResult, length};
 ghost use Rattle.cbor_head.specs.Complaint.{strict};
 ghost use Rattle.cbor_head.specs.Verdict.{IsVerdict, refused};
 ghost use Rattle.cbor_judging.specs.Readers.{IsRead};
@@ -64,11 +64,16 @@ fn whole_front<const KINDS: bool>(
     match walk::<KINDS>(input, 0, &mut cells, &mut stack, limits, order) {
         Walked::Whole(at) => Ok(at),
         Walked::Refused(refusal) => Err(refusal),
-        Walked::Full(at) => deeper::<KINDS>(input, at, &cells, stack, limits, order),
+        Walked::Full(at) => match deeper::<KINDS>(input, at, &cells, stack, limits, order) {
+            Some(front) => front,
+            None => deepest::<KINDS>(input, at, &cells, stack, limits, order),
+        },
     }
 }
 
-// The same, from the place where the cells are too few.
+// The same, from the place where the cells are too few; none where these are too few, too. Then it is
+// left before more cells are made, so that all of them have room on a small stack, and what it went
+// over is gone over once more.
 #[inline(never)]
 fn deeper<const KINDS: bool>(
     input: &[u8],
@@ -77,20 +82,21 @@ fn deeper<const KINDS: bool>(
     stack: Stack<Level>,
     limits: Limits,
     order: KeyOrder,
-) -> Result<usize, Refusal>
+) -> Option<Result<usize, Refusal>>
     requires kinds { asks limits.keys ≡ KINDS }
     requires full { IsFull order limits input.now stack few.now at }
     requires few { length few.now ≤ SOME }
-    ensures whole { IfOk result (IsWhole order limits input.now) }
-    ensures refused { IfErr result (IsStopped (strict order) limits input.now) }
+    ensures whole { IfSome result (λ front. IfOk front (IsWhole order limits input.now)) }
+    ensures refused { IfSome result
+        (λ front. IfErr front (IsStopped (strict order) limits input.now)) }
 {
     let mut cells = [Level::new(Due::Item, 0, 0); SOME];
     lend(few, &mut cells);
     let mut stack = stack;
     match walk::<KINDS>(input, at, &mut cells, &mut stack, limits, order) {
-        Walked::Whole(at) => Ok(at),
-        Walked::Refused(refusal) => Err(refusal),
-        Walked::Full(at) => deepest::<KINDS>(input, at, &cells, stack, limits, order),
+        Walked::Whole(at) => Some(Ok(at)),
+        Walked::Refused(refusal) => Some(Err(refusal)),
+        Walked::Full(_) => None,
     }
 }
 
