@@ -2,7 +2,7 @@
 //!
 //! [`read_strict`] reads one item from a reader, [`StrictReader`] tells its events one by one, and
 //! [`check_canonical`] looks for one at the front of a slice. None makes the item, and none takes
-//! memory but for the last key of each open map; that of a slice takes none.
+//! memory but for the last key of each open map and its place; that of a slice takes none.
 //!
 //! ```
 //! // {"Amt": -2, "Fun": true}

@@ -94,8 +94,9 @@ pub fn read_strict_by<R: Read>(
 /// The events are those of [`EventReader`](cbor_events::EventReader), but where a complaint ends
 /// with one, as where a key is complete that does not rise, its refusal stands in its place. Of a
 /// key of another kind than the limits ask for its first byte alone is read, and nothing is told.
-/// What is kept grows with the keys alone: of each open map the last complete key, and all of a key
-/// that is not complete, a byte of it once however many maps it holds.
+/// What is kept grows with the open maps and their keys alone: of each open map the last complete
+/// key and its place, and all of a key that is not complete, a byte of it once however many maps it
+/// holds.
 #[derive(Drop)]
 pub struct StrictReader<R> {
     reader: R,
