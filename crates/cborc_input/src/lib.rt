@@ -18,7 +18,7 @@ mod status;
 mod texts;
 
 pub use fault::Fault;
-pub use front::size_at_front;
+pub use front::Sizes;
 pub use input::read_item;
 pub use listing::{is_undecided, list_front};
 pub use request::{Accepted, Form, Layout, Manner, Options, Output, Request, Task};

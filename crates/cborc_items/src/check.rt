@@ -8,7 +8,7 @@ ghost use Rattle.cborc_files.specs.Folder.{KeepsFiles};
 
 use cbor_head::{Limits, Reason, Refusal};
 use cborc_files::Folder;
-use cborc_input::{Accepted, Fault, Options, read_item, size_at_front};
+use cborc_input::{Accepted, Fault, Options, Sizes, read_item};
 use std::alloc::Global;
 use std::io::Write;
 
@@ -57,7 +57,7 @@ fn size_of_item(
     ensures whole { IfOk result (IsWhole limits (rules_of accepted) bytes.now) }
     ensures refused { IfErr result (IsNotWhole limits (rules_of accepted) bytes.now) }
 {
-    let size = size_at_front(alloc, bytes, accepted, limits)?;
+    let size = Sizes::new(alloc).size_at_front(bytes, accepted, limits)?;
     if size == bytes.len() as u64 {
         Ok(size)
     } else {

@@ -10,10 +10,10 @@ ghost use Rattle.cborc_sequences.specs.inner.Items.{IsUnwritten};
 
 use cbor_head::{KeyOrder, Limits};
 use cbor_item::write_whole;
-use cbor_reader::check_valid;
 use cborc_files::{Folder, is_stream};
 use cborc_input::{
-    Fault, Form, ItemWriter, Options, Output, canonical_text, unless_cut, write_items,
+    Accepted, Fault, Form, ItemWriter, Options, Output, Sizes, canonical_text, unless_cut,
+    write_items,
 };
 use std::alloc::Global;
 use std::io::Write;
@@ -108,9 +108,10 @@ impl ItemWriter for CanonicalItems {
         goes_on: bool,
         _start: usize,
         limits: Limits,
+        sizes: &mut Sizes,
         out: &mut W,
     ) -> Result<Option<usize>, Fault<'f>> {
-        let size = match check_valid(alloc, bytes, limits) {
+        let size = match sizes.size_at_front(bytes, Accepted::Valid, limits) {
             Ok(size) => size as usize,
             Err(refusal) => return unless_cut(refusal, goes_on),
         };

@@ -11,7 +11,7 @@ ghost use Rattle.cborc_sequences.specs.inner.Items.{IsUncounted};
 
 use cbor_head::Limits;
 use cborc_files::Folder;
-use cborc_input::{Accepted, Fault, ItemWriter, Options, size_at_front, unless_cut, write_items};
+use cborc_input::{Accepted, Fault, ItemWriter, Options, Sizes, unless_cut, write_items};
 use std::alloc::Global;
 use std::io::{self, Write};
 
@@ -66,14 +66,15 @@ impl ItemWriter for CountedItems {
 
     fn write_item<'f, W: Write>(
         &self,
-        alloc: Global,
+        _alloc: Global,
         bytes: &[u8],
         goes_on: bool,
         _start: usize,
         limits: Limits,
+        sizes: &mut Sizes,
         _out: &mut W,
     ) -> Result<Option<usize>, Fault<'f>> {
-        match size_at_front(alloc, bytes, self.accepted, limits) {
+        match sizes.size_at_front(bytes, self.accepted, limits) {
             Ok(size) => Ok(Some(size as usize)),
             Err(refusal) => unless_cut(refusal, goes_on),
         }

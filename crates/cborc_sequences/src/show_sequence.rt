@@ -12,7 +12,7 @@ use bumpalo::Bump;
 use cbor_head::Limits;
 use cbor_reader::read_view;
 use cborc_files::Folder;
-use cborc_input::{Fault, ItemWriter, Layout, Options, print, unless_cut, write_items};
+use cborc_input::{Fault, ItemWriter, Layout, Options, Sizes, print, unless_cut, write_items};
 use std::alloc::Global;
 use std::io::Write;
 
@@ -58,6 +58,7 @@ impl ItemWriter for ShownItems {
         goes_on: bool,
         _start: usize,
         limits: Limits,
+        _sizes: &mut Sizes,
         out: &mut W,
     ) -> Result<Option<usize>, Fault<'f>> {
         // One for each item, so that no more is kept than of the largest.

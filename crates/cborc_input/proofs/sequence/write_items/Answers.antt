@@ -1,9 +1,16 @@
 use Rattle.std.proofs.Common.{◌∙◌, arith, sym, refl}
 use Rattle.std.proofs.lemmas.Result.{err_from_is_err_and}
 use Rattle.cborc_fronts.proofs.Files.{keeps_keeps}
-use Rattle.cborc_input.proofs.Items.{not_begun, not_read_on, count_within, read_too, one_more, all_written, stopped_there, stopped_without, taken_less}
+use Rattle.cborc_input.proofs.Items.{none_taken, not_begun, not_read_on, count_within, read_too, one_more, all_written, stopped_there, stopped_without, taken_less}
 use Rattle.cborc_input.proofs.ReadParts.{false_of_not, true_of_not, read_less}
 use Rattle.cborc_input.proofs.sequence.write_items.Goals as goal
+
+pub items-init : goal.items-init
+items-init g c = record {
+  taken = none_taken _ _ _ _ _ _ c.in_ok-parts.parts c.in_ok-parts.ensures.begins;
+  keeps = c.open.ensures.keeps;
+  same = c.open.ensures.same;
+}
 
 pub returns-then-ends_before-clause-written : goal.returns-then-ends_before-clause-written
 returns-then-ends_before-clause-written g c =

@@ -1,5 +1,0 @@
-use Rattle.cborc_input.proofs.Canonical.{canonical_read}
-use Rattle.cborc_input.proofs.front.size_at_front.Goals as goal
-
-pub returns-in-Ok-clause-accepted : goal.returns-in-Ok-clause-accepted
-returns-in-Ok-clause-accepted c = rw c.in-Valid.is (canonical_read c.args.limits _ c.args.bytes.now c.in-Ok.size c.in-Ok.ensures.canonical)
