@@ -150,13 +150,13 @@ fn put_within<'a, N: Node, W: Write>(
     ensures shallow { IfOk result (λ inner. AreAllShallow N.value inner (reverse cells.new)) }
 {
     let mut innermost = Some(level);
-    'levels: while let Some(level) = innermost {
-        if height == cells.len() {
-            return Ok(Some(level));
-        }
+    'levels: while height < cells.len() {
+        let Some(level) = innermost else {
+            return Ok(None);
+        };
         innermost = go_on(level, layout, cells, &mut height, out, writer)?;
     }
-    Ok(None)
+    Ok(innermost)
 }
 
 // Puts an item that holds no other, or the front of one that does, which is then open.

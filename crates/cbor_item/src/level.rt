@@ -5,7 +5,7 @@ ghost use Rattle.cbor_head.specs.declared.major.Major.TheVariants as majors;
 ghost use Rattle.cbor_builder.specs.Built.{IsContainer};
 ghost use Rattle.cbor_item.specs.OpenValues.{CanHold, CanEnd, with_member, opened, closed};
 ghost use Rattle.cbor_item.specs.View.{view};
-ghost use Rattle.cbor_item.specs.inner.Levels.{level_value};
+ghost use Rattle.cbor_item.specs.inner.Levels.{level_value, HasRoom};
 
 use crate::item::Item;
 use crate::letting_go::let_go;
@@ -37,21 +37,44 @@ impl Level {
         }
     }
 
-    // One more member.
+    // One more member. Where memory is refused it is let go.
     pub(crate) fn put(&mut self, item: Item) -> Result<(), AllocError>
         requires { CanHold (level_value self.old) }
         ensures { OnOk result (level_value self.new ≡ with_member (view item) (level_value self.old)) }
     {
+        if let Err(refused) = self.make_room() {
+            let_go(item);
+            return Err(refused);
+        }
+        self.take(item);
+        Ok(())
+    }
+
+    fn make_room(&mut self) -> Result<(), AllocError>
+        ensures same { level_value self.new ≡ level_value self.old }
+        ensures room { OnOk result (HasRoom self.new) }
+    {
+        match self {
+            Level::Array(items) => items.reserve(1),
+            Level::Map(pairs, _) => pairs.reserve(1),
+            Level::Whole(_) | Level::Tag(..) => Ok(()),
+        }
+    }
+
+    fn take(&mut self, item: Item)
+        requires holds { CanHold (level_value self.old) }
+        requires room { HasRoom self.old }
+        ensures { level_value self.new ≡ with_member (view item) (level_value self.old) }
+    {
         match self {
             Level::Whole(whole) => *whole = Some(item),
-            Level::Array(items) => items.push(item)?,
+            Level::Array(items) => items.push_reserved(item),
             Level::Map(pairs, key) => match key.take() {
-                Some(first) => pairs.push((first, item))?,
+                Some(first) => pairs.push_reserved((first, item)),
                 None => *key = Some(item),
             },
             Level::Tag(_, content) => *content = Some(item),
         }
-        Ok(())
     }
 
     // The item that ends.
@@ -62,10 +85,13 @@ impl Level {
         match self {
             Level::Array(items) => Ok(Item::Array(items)),
             Level::Map(pairs, _) => Ok(Item::Map(pairs)),
-            Level::Tag(number, Some(content)) => {
-                let content = Box::new(alloc, content)?;
-                Ok(Item::Tag(number, content))
-            }
+            Level::Tag(number, Some(content)) => match Box::new(alloc, content) {
+                Ok(content) => Ok(Item::Tag(number, content)),
+                Err(refused) => {
+                    let_go(refused.value);
+                    Err(AllocError)
+                }
+            },
             _ => unreachable!(),
         }
     }

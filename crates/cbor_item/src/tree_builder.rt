@@ -78,9 +78,10 @@ impl TreeBuilder {
         requires takes { TakesValue (standing self.old) }
         ensures { OnOk result (standing self.new ≡ opened major number ∷ standing self.old) }
     {
+        self.below.reserve(1)?;
         let inner = Level::begun(self.alloc, major, number);
         let outer = std::mem::replace(&mut self.top, inner);
-        self.below.push(outer)?;
+        self.below.push_reserved(outer);
         Ok(())
     }
 

@@ -1,5 +1,5 @@
 -- What a tree builder holds.
-use Rattle.std.specs.Prelude.{List, [], ◌∷◌, Option, Some, None, map, reverse}
+use Rattle.std.specs.Prelude.{◌<◌, List, [], ◌∷◌, Option, Some, None, map, reverse, vec_len, vec_capacity}
 use Rattle.cbor_item.specs.OpenValues.{OpenItem, OpenValue, the_whole, an_array, a_map, a_key, a_tag, open_value}
 use Rattle.cbor_item.specs.declared.item.Item.{Item}
 use Rattle.cbor_item.specs.declared.level.Level.{Level}
@@ -23,6 +23,12 @@ open_item (Tag n content) = a_tag n (items_in content)
 
 abbrev pub level_value : Level → OpenValue
 level_value l = open_value (open_item l)
+
+-- room for one more member
+abbrev pub HasRoom : Level → Type 0
+HasRoom (Array items) = vec_len items < vec_capacity items
+HasRoom (Map pairs key) = vec_len pairs < vec_capacity pairs
+HasRoom _ = Unit {0}
 
 -- the innermost first
 abbrev pub open_items : Inside → List OpenItem

@@ -3,7 +3,7 @@
 ghost use Rattle.std.specs.Prelude.{◌≡◌, ◌∷◌, [], OnOk};
 ghost use Rattle.cbor_item.specs.OpenValues.{the_whole, standing, IsWhole};
 
-use super::text;
+use super::{nested, text};
 use cbor_head::Major;
 use cbor_item::{Item, KeyOrder, Tree, TreeBuilder, encode};
 use std::alloc::{AllocError, Global};
@@ -38,5 +38,19 @@ fn parts_make_an_item(rt: HostRuntime) -> Result<(), Fail> {
     let bytes = encode(alloc, &tree, KeyOrder::Bytewise)?;
     let expected = b"\xd9\xd9\xf7\xa2\x61\x61\x01\x61\x62\x82\x02\x03";
     assert!(rt; bytes.as_slice() == expected.as_slice());
+    Ok(())
+}
+
+// An item deeper than a recursion could go, beside others and in an array that stays open.
+#[test]
+fn lets_go_of_deep_items(rt: HostRuntime) -> Result<(), Fail> {
+    let alloc = rt.alloc();
+    for as_key in [false, true] {
+        let mut builder = TreeBuilder::new(alloc);
+        builder.begin(Major::Array, 0)?;
+        builder.leaf(nested(alloc, Item::Unsigned(0), 2, as_key)?)?;
+        builder.leaf(nested(alloc, Item::Unsigned(0), 200_000, as_key)?)?;
+        builder.leaf(nested(alloc, Item::Unsigned(0), 2, !as_key)?)?;
+    }
     Ok(())
 }
