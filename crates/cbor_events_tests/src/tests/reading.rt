@@ -4,7 +4,7 @@ use super::parts::Parts;
 use super::refused::refused_rows;
 use super::tables::{accepted_rows, fronts_rows, not_valid_rows};
 use super::{Told, bytes_of, event, events_of, join, limits};
-use cbor_events::{Event, EventKind, EventReader, Out};
+use cbor_events::{Event, EventKind, EventReader, ItemEvents, Out};
 use cbor_head::{Limits, Reason, Refusal, Width};
 use std::alloc::{AllocError, Global};
 use std::io::Read;
@@ -305,4 +305,28 @@ fn counts_what_is_open(rt: HostRuntime) {
         let _ = reader.next();
         assert!(rt; (reader.open(), reader.taken(), reader.piece().len()) == (open, taken, piece));
     }
+}
+
+// [[1, .. is too long; then 2 is an item of its own
+#[test]
+fn goes_on_with_another_item(rt: HostRuntime) {
+    let mut events = ItemEvents::new(limits(&rt, 2, 3));
+    let mut input: &[u8] = b"\x81\x82\x01\x02";
+    for _ in 0..3 {
+        assert!(rt; matches!(events.next(&mut input), Ok(Some(_))));
+    }
+    assert!(rt; events.next(&mut input) == Err(Refusal::at(Reason::TooLong, 3)));
+    events.restart();
+    let next = events.next(&mut input);
+    assert!(rt;
+        matches!(
+            next,
+            Ok(Some(Event {
+                place: 0,
+                kind: EventKind::Unsigned(2),
+                ..
+            }))
+        )
+    );
+    assert!(rt; events.next(&mut input) == Ok(None));
 }

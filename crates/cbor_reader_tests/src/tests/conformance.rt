@@ -10,7 +10,9 @@ use super::conformance_table::{PAIRS, PARTS, rows};
 use bumpalo::Bump;
 use cbor_head::{Limits, Refusal};
 use cbor_item::{Tree, encode, same};
-use cbor_reader::{KeyOrder, Side, canonicalise, check_valid, read_tree, read_view, same_meaning};
+use cbor_reader::{
+    ItemCheck, KeyOrder, Side, canonicalise, check_valid, read_tree, read_view, same_meaning,
+};
 use std::alloc::Global;
 use std::test::Fail;
 
@@ -91,6 +93,7 @@ fn reads_views(rt: HostRuntime) -> Result<(), Fail> {
 
 #[test]
 fn checks_slices(rt: HostRuntime) -> Result<(), Fail> {
+    let mut items = ItemCheck::new(rt.alloc());
     for part in 0..PARTS {
         for &line in rows(part) {
             let Some((hex, column, plain, _)) = row_of(line) else {
@@ -101,7 +104,10 @@ fn checks_slices(rt: HostRuntime) -> Result<(), Fail> {
             };
             let input = bytes_of(rt.alloc(), hex)?;
             let wanted = by_order(plain, KeyOrder::Bytewise);
-            let given = match check_valid(rt.alloc(), &input, limits) {
+            let checked = check_valid(rt.alloc(), &input, limits);
+            let again = items.check(&input, limits);
+            assert!(rt; again == checked, "{line}, behind others");
+            let given = match checked {
                 Ok(count) if wanted.starts_with("12 ") => {
                     format!(in rt.alloc(); "12 Trailing at {count}, read {count}")?
                 }
