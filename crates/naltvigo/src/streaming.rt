@@ -40,8 +40,7 @@ pub struct NaltvigoEvent {
     pub width: u32,
 }
 
-/// Makes `machine` one before an item's first byte. It takes no memory, and leaves what stands behind
-/// the open containers as it was.
+/// Makes `machine` one before an item's first byte. It takes no memory.
 #[unsafe(no_mangle)]
 pub extern "C" fn naltvigo_machine_start_raw(
     depth: u32,
@@ -56,7 +55,7 @@ pub extern "C" fn naltvigo_machine_start_raw(
 {
     match bounds_of(depth, bytes) {
         Some(limits) => {
-            Machine::new(limits).save_into(machine);
+            *machine = Machine::new(limits).save();
             OK
         }
         None => BAD_LIMITS,
