@@ -130,7 +130,7 @@ static void refuses_other_numbers(void) {
         broken = machine;
         if (i == 0) broken.open = 3;
         if (i == 1) broken.taken = broken.told = 9;
-        if (i == 2) broken.depth = 300;
+        if (i == 2) broken.depth = 1025;
         if (i == 3) broken.told = 1;
         used = 999;
         check(naltvigo_machine_step(&broken, (const uint8_t *)"", 1, &used, &event, &why) == NALTVIGO_BAD_MACHINE,
