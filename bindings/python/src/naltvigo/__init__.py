@@ -11,8 +11,8 @@ Every accepted input has one canonical spelling, and every refusal a name and an
 >>> naltvigo.canonicalise(b"\\x81\\xf9\\x3e\\x00")                 # [1.5]
 Traceback (most recent call last):
   ...
-naltvigo.Refused: refused 5 Float at 1: A floating-point number begins here; floats are not part of this \
-profile. Write it as an integer, a text, or a tag over integers.
+naltvigo.Refused: refused 5 Float at 1: A floating-point number begins here; no float is accepted. Write it as an \
+integer, a text, or a tag over integers.
 
 Each call takes any buffer (bytes, bytearray, memoryview and others) and, by name, the limits: `depth`, how deep
 arrays, maps and tags may nest (0 to 1024), and `max_bytes`, how many bytes an item may have (0 to 2 ** 62); all but
