@@ -14,8 +14,7 @@ pub(crate) fn meaning(reason: Reason) -> &'static str
         Reason::TooLong => "The item has more bytes than the limit.",
         Reason::Reserved => "No item begins with this byte: its low five bits are reserved.",
         Reason::NoIndefinite => "An integer or a tag has no indefinite length.",
-        Reason::Float =>
-            "A floating-point number begins here; no float is accepted.",
+        Reason::Float => "A floating-point number begins here; no float is accepted.",
         Reason::BadSimple => "A simple value below 32 is not written in a second byte.",
         Reason::StrayBreak => "A break (ff) stands where an item must begin.",
         Reason::BadChunk => "A string of indefinite length holds strings of its own type alone.",
