@@ -167,8 +167,16 @@ def documents_of(command):
         yield Case(bytes.fromhex(digits), command)
 
 
+# What nests deeper makes the same requests, only more of them.
+DEEP = 256
+
+
+def rows_to_try():
+    return [row for row in rows() if row.limits.depth <= DEEP]
+
+
 def rows_of(command):
-    for row in rows():
+    for row in rows_to_try():
         yield Case(row.given, [*command, *words_of(row.limits)])
 
 
@@ -284,7 +292,7 @@ def is_line(found, usual, length):
 
 def lines():
     """What the driver of the readers is given, a row a run."""
-    for row in rows():
+    for row in rows_to_try():
         yield Case(row.given, [], driver_line(row.given, row.limits).encode())
 
 
