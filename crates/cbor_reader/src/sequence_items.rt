@@ -86,10 +86,7 @@ impl SequenceItems {
         }
         match read_tree_by(self.alloc, &mut self.events, reader, self.limits) {
             Ok((tree, _count)) => Some(Ok(tree)),
-            Err(refusal) => {
-                self.finished = true;
-                last(refusal)
-            }
+            Err(refusal) => last(&mut self.finished, refusal),
         }
     }
 
@@ -128,22 +125,20 @@ impl SequenceItems {
         }
         match read_strict_by(self.alloc, &mut self.events, reader, self.limits, order) {
             Ok(count) => Some(Ok(count)),
-            Err(refusal) => {
-                self.finished = true;
-                last(refusal)
-            }
+            Err(refusal) => last(&mut self.finished, refusal),
         }
     }
 }
 
-// The answer behind which no item is read any more: the refusal, or none where the input ended before
-// an item.
-fn last<T>(refusal: Refusal) -> Option<Result<T, Refusal>>
+// No item is read any more: the refusal is answered, or none where the input ended before it.
+fn last<T>(finished: &mut bool, refusal: Refusal) -> Option<Result<T, Refusal>>
     ensures end { result ≡ None → (refusal.reason ≡ reasons.Truncated) × (refusal.read ≡ 0) }
     ensures refused { IfRefused result (λ f. (f ≡ refusal)
         × ¬ ((refusal.reason ≡ reasons.Truncated) × (refusal.read ≡ 0))) }
     ensures last { is_last result ≡ true }
+    ensures finished { finished.new ≡ true }
 {
+    *finished = true;
     match refusal {
         Refusal {
             reason: Reason::Truncated,
