@@ -5,8 +5,8 @@ ghost use Rattle.cbor_head.specs.Complaint.{plain};
 ghost use Rattle.cbor_head.specs.declared.reason.Reason.TheVariants as reasons;
 ghost use Rattle.cbor_judging.specs.Readers.{IsRead, IsUnread};
 
-use crate::valid_slice::size_read_again;
-use cbor_head::{Limits, Refusal};
+use crate::valid_front::read_again;
+use cbor_head::{KeyOrder, Limits, Refusal};
 use cbor_key_bytes::{KeyBytes, LentKeys};
 use cbor_walk::give_front;
 use std::alloc::Global;
@@ -36,7 +36,11 @@ impl ItemCheck {
     {
         match give_front(LentKeys::of(&mut self.keys), bytes, limits) {
             Some((_, size)) => Ok(size),
-            None => size_read_again(self.alloc, bytes, limits),
+            // The refusal that the bytes call for, or that memory was refused.
+            None => match read_again(self.alloc, bytes, limits, KeyOrder::Bytewise) {
+                Ok(front) => Ok(front.size),
+                Err(refusal) => Err(refusal),
+            },
         }
     }
 }

@@ -5,10 +5,8 @@ ghost use Rattle.cbor_head.specs.Complaint.{plain};
 ghost use Rattle.cbor_head.specs.declared.reason.Reason.TheVariants as reasons;
 ghost use Rattle.cbor_judging.specs.Readers.{IsRead, IsUnread};
 
-use crate::valid_front::read_again;
-use cbor_head::{KeyOrder, Limits, Refusal};
-use cbor_key_bytes::KeyBytes;
-use cbor_walk::give_front;
+use crate::item_check::ItemCheck;
+use cbor_head::{Limits, Refusal};
 use std::alloc::Global;
 
 /// How many bytes the well-formed, valid item has that the slice begins with (RFC 8949, sections
@@ -22,20 +20,5 @@ pub fn check_valid(alloc: Global, bytes: &[u8], limits: Limits) -> Result<u64, R
     ensures refused { IfErr result (λ f. IsUnread limits plain bytes.now f) }
     ensures no_read { IfErr result (λ f. f.reason ≢ reasons.Read) }
 {
-    match give_front(KeyBytes::new(alloc), bytes, limits) {
-        Some((_, size)) => Ok(size),
-        None => size_read_again(alloc, bytes, limits),
-    }
-}
-
-/// The same event by event: the refusal that the bytes call for, or that memory was refused.
-pub(crate) fn size_read_again(alloc: Global, bytes: &[u8], limits: Limits) -> Result<u64, Refusal>
-    ensures accepted { IfOk result (λ count. IsRead limits plain bytes.now count) }
-    ensures refused { IfErr result (λ f. IsUnread limits plain bytes.now f) }
-    ensures no_read { IfErr result (λ f. f.reason ≢ reasons.Read) }
-{
-    match read_again(alloc, bytes, limits, KeyOrder::Bytewise) {
-        Ok(front) => Ok(front.size),
-        Err(refusal) => Err(refusal),
-    }
+    ItemCheck::new(alloc).check(bytes, limits)
 }
