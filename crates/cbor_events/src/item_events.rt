@@ -1,33 +1,27 @@
 //! The events of one item, from a reader that each call is handed.
 
 ghost use Rattle.std.specs.Prelude.{◌≡◌, ◌≤◌, ◌<◌, ℕ, List, [], length, take, None, Some, OnOk};
-ghost use Rattle.std.specs.Prelude.{OnErr, IfErr, IfSome, Err, Option, false};
+ghost use Rattle.std.specs.Prelude.{OnErr, IfErr, IfSome, Err, Option};
 ghost use Rattle.cbor_automaton.specs.Trace.{Mark};
 ghost use Rattle.cbor_automaton.specs.Marks.{IsProper};
 ghost use Rattle.cbor_automaton.specs.Reasons.{IsEventReason};
-ghost use Rattle.cbor_standing.specs.MachineView.{MachineView};
 ghost use Rattle.cbor_standing.specs.Machine.{KeepsLimits, IsIdle, wanted};
 ghost use Rattle.cbor_standing.specs.NextEvent.{ItemEventsView, StandsBetween, IfTold, IsNext};
-ghost use Rattle.cbor_standing.specs.NextEvent.{machine_call, call};
-ghost use Rattle.cbor_standing.specs.Calls.{HasRead, piece_after, piece_size};
-ghost use Rattle.cbor_standing.specs.Machine.{StandsFor};
+ghost use Rattle.cbor_standing.specs.NextEvent.{call};
 ghost use Rattle.cbor_events.specs.NextKey.{IsKeyReason};
-ghost use Rattle.cbor_events.specs.inner.Reads.{IfGiven};
 
 mod key;
+mod reading;
 
-use crate::part::{Part, answer_anew, read_part};
-use cbor_automaton::{Event, EventKind};
+use crate::item_events::reading::advance;
+use cbor_automaton::Event;
 use cbor_head::{Limits, Refusal};
-use cbor_machine::{Machine, Out, take_part};
+use cbor_machine::Machine;
 use std::io::Read;
 use std::marker::Model;
 
 // A payload is read in parts of at most so many bytes.
-const PART: usize = 512;
-
-// An argument has at most so many bytes.
-const ARGUMENT: usize = 8;
+pub(crate) const PART: usize = 512;
 
 /// The events of one item, from a reader that each call of [`next`](ItemEvents::next) is handed.
 ///
@@ -153,209 +147,4 @@ impl ItemEvents {
     {
         self.machine.taken()
     }
-}
-
-// How many bytes are asked for, as many as the buffer has room for.
-#[inline(always)]
-fn due(machine: &Machine, buffer: &[u8]) -> usize
-    ensures wanted { result ≤ wanted machine.now }
-    ensures room { result ≤ length buffer.now }
-    ensures none { result ≡ 0 → 0 < length buffer.now → wanted machine.now ≡ 0 }
-    ensures idle { IsIdle machine.now → result ≡ 0 }
-{
-    machine.wanted().min(buffer.len() as u64) as usize
-}
-
-// Where nothing is wanted: the item is complete, or refused, or at the byte limit.
-#[inline(never)]
-fn at_end(machine: &mut Machine) -> Result<Option<Event>, Refusal>
-    requires { wanted machine.old ≡ 0 }
-    ensures answers { (was : MachineView) (from to : Option (List ℕ)) (kept t : List ℕ)
-        (ms : List Mark) → StandsBetween was t ms → HasRead from to machine.old t ms
-        → machine.old.depth ≡ was.depth
-        → IsNext result (machine_call was machine.new from to kept kept t ms) }
-    ensures limits { KeepsLimits machine.old machine.new }
-    ensures none { IfTold result (λ e. ⊥) }
-    ensures taken { IfErr result (λ f. machine.new.taken ≡ f.read) }
-    ensures reason { IfErr result (λ f. IsEventReason f.reason) }
-{
-    match take_part(machine, &[]).out {
-        Out::Done => Ok(None),
-        Out::Refused(refusal) => Err(refusal),
-        Out::More | Out::Event(_) => unreachable!(),
-    }
-}
-
-// Reads what the machine wants, one part after another, until it tells an event or stops.
-#[inline(never)]
-fn next_event<R: Read>(
-    machine: &mut Machine,
-    reader: &mut R,
-    buffer: &mut [u8],
-) -> Result<Option<Event>, Refusal>
-    requires room { 0 < length buffer.old }
-    requires within { machine.old.open_count ≤ machine.old.depth }
-    ensures answers { (was : MachineView) (from : Option (List ℕ)) (kept t : List ℕ)
-        (ms : List Mark) → StandsBetween was t ms
-        → HasRead from (R.remaining reader.old) machine.old t ms
-        → machine.old.depth ≡ was.depth
-        → IsNext result (machine_call was machine.new from (R.remaining reader.new)
-        kept (piece_after result kept buffer.new) t ms) }
-    ensures given { (t : List ℕ) (ms : List Mark) → StandsFor machine.old t ms
-        → IfGiven result machine.new t ms }
-    ensures limits { KeepsLimits machine.old machine.new }
-    ensures proper { IfTold result (λ e. IsProper e.width e.kind) }
-    ensures taken { IfErr result (λ f. machine.new.taken ≡ f.read) }
-    ensures reason { IfErr result (λ f. IsEventReason f.reason) }
-    ensures idle { IsIdle machine.old → reader.new ≡ reader.old }
-    ensures fits { piece_size result ≤ length buffer.new }
-    ensures same { length buffer.new ≡ length buffer.old }
-{
-    'reads: loop {
-        let want = due(machine, buffer);
-        if want == 0 {
-            return at_end(machine);
-        }
-        match read_part(machine, reader, buffer, want) {
-            Part::Told(event) => return Ok(Some(event)),
-            Part::Open => {}
-            Part::Stopped(refusal) => return Err(refusal),
-        }
-    }
-}
-
-// The same. Its own room in memory is no part of the caller's.
-#[inline(always)]
-fn next_apart<R: Read>(
-    machine: &mut Machine,
-    reader: &mut R,
-    buffer: &mut [u8],
-) -> Result<Option<Event>, Refusal>
-    requires room { 0 < length buffer.old }
-    requires within { machine.old.open_count ≤ machine.old.depth }
-    ensures answers { (was : MachineView) (from : Option (List ℕ)) (kept t : List ℕ)
-        (ms : List Mark) → StandsBetween was t ms
-        → HasRead from (R.remaining reader.old) machine.old t ms
-        → machine.old.depth ≡ was.depth
-        → IsNext result (machine_call was machine.new from (R.remaining reader.new)
-        kept (piece_after result kept buffer.new) t ms) }
-    ensures given { (t : List ℕ) (ms : List Mark) → StandsFor machine.old t ms
-        → IfGiven result machine.new t ms }
-    ensures limits { KeepsLimits machine.old machine.new }
-    ensures proper { IfTold result (λ e. IsProper e.width e.kind) }
-    ensures taken { IfErr result (λ f. machine.new.taken ≡ f.read) }
-    ensures reason { IfErr result (λ f. IsEventReason f.reason) }
-    ensures idle { IsIdle machine.old → reader.new ≡ reader.old }
-    ensures fits { piece_size result ≤ length buffer.new }
-    ensures same { length buffer.new ≡ length buffer.old }
-{
-    answer_anew(next_event(machine, reader, buffer))
-}
-
-// The same, where mostly one read is all that it takes.
-#[inline(always)]
-fn next_part<R: Read>(
-    machine: &mut Machine,
-    reader: &mut R,
-    buffer: &mut [u8],
-) -> Result<Option<Event>, Refusal>
-    requires room { 0 < length buffer.old }
-    requires within { machine.old.open_count ≤ machine.old.depth }
-    ensures answers { (was : MachineView) (from : Option (List ℕ)) (kept t : List ℕ)
-        (ms : List Mark) → StandsBetween was t ms
-        → HasRead from (R.remaining reader.old) machine.old t ms
-        → machine.old.depth ≡ was.depth
-        → IsNext result (machine_call was machine.new from (R.remaining reader.new)
-        kept (piece_after result kept buffer.new) t ms) }
-    ensures given { (t : List ℕ) (ms : List Mark) → StandsFor machine.old t ms
-        → IfGiven result machine.new t ms }
-    ensures limits { KeepsLimits machine.old machine.new }
-    ensures proper { IfTold result (λ e. IsProper e.width e.kind) }
-    ensures taken { IfErr result (λ f. machine.new.taken ≡ f.read) }
-    ensures reason { IfErr result (λ f. IsEventReason f.reason) }
-    ensures idle { IsIdle machine.old → reader.new ≡ reader.old }
-    ensures fits { piece_size result ≤ length buffer.new }
-    ensures same { length buffer.new ≡ length buffer.old }
-{
-    let want = due(machine, buffer);
-    if want == 0 {
-        return next_apart(machine, reader, buffer);
-    }
-    match read_part(machine, reader, buffer, want) {
-        Part::Told(event) => Ok(Some(event)),
-        Part::Open => next_apart(machine, reader, buffer),
-        Part::Stopped(refusal) => Err(refusal),
-    }
-}
-
-// The next head or break.
-#[inline(always)]
-fn next_head<R: Read>(machine: &mut Machine, reader: &mut R) -> Result<Option<Event>, Refusal>
-    requires within { machine.old.open_count ≤ machine.old.depth }
-    ensures answers { (kept t : List ℕ) (ms : List Mark) → StandsBetween machine.old t ms
-        → machine.old.in_payload ≡ false
-        → IsNext result (machine_call machine.old machine.new
-        (R.remaining reader.old) (R.remaining reader.new) kept kept t ms) }
-    ensures limits { KeepsLimits machine.old machine.new }
-    ensures proper { IfTold result (λ e. IsProper e.width e.kind) }
-    ensures taken { IfErr result (λ f. machine.new.taken ≡ f.read) }
-    ensures reason { IfErr result (λ f. IsEventReason f.reason) }
-    ensures idle { IsIdle machine.old → reader.new ≡ reader.old }
-{
-    let mut head = [0; ARGUMENT];
-    if !machine.wants_head() {
-        return next_apart(machine, reader, &mut head);
-    }
-    match read_part(machine, reader, &mut head[..1], 1) {
-        Part::Told(event) => Ok(Some(event)),
-        Part::Open => next_part(machine, reader, &mut head),
-        Part::Stopped(refusal) => Err(refusal),
-    }
-}
-
-// The length of the piece that was told, if one was.
-#[inline(always)]
-fn piece_len(answer: &Result<Option<Event>, Refusal>) -> usize
-    ensures { result ≡ piece_size answer.now }
-{
-    match answer {
-        Ok(
-            Some(
-                Event {
-                    kind: EventKind::Piece(n),
-                    ..
-                },
-            ),
-        ) => *n,
-        _ => 0,
-    }
-}
-
-// The next event, with a piece kept in front of the buffer.
-#[inline(always)]
-fn advance<R: Read>(
-    machine: &mut Machine,
-    reader: &mut R,
-    buffer: &mut [u8; PART],
-    held: &mut usize,
-) -> Result<Option<Event>, Refusal>
-    requires fits { held.old ≤ 512 }
-    requires within { machine.old.open_count ≤ machine.old.depth }
-    ensures answers { (t : List ℕ) (ms : List Mark) → StandsBetween machine.old t ms
-        → IsNext result (machine_call machine.old machine.new
-        (R.remaining reader.old) (R.remaining reader.new)
-        (take held.old buffer.old) (take held.new buffer.new) t ms) }
-    ensures limits { KeepsLimits machine.old machine.new }
-    ensures proper { IfTold result (λ e. IsProper e.width e.kind) }
-    ensures taken { IfErr result (λ f. machine.new.taken ≡ f.read) }
-    ensures reason { IfErr result (λ f. IsEventReason f.reason) }
-    ensures idle { IsIdle machine.old → reader.new ≡ reader.old }
-    ensures fits { held.new ≤ 512 }
-{
-    if !machine.is_in_payload() {
-        return next_head(machine, reader);
-    }
-    let answer = next_part(machine, reader, buffer);
-    *held = piece_len(&answer);
-    answer
 }

@@ -13,7 +13,8 @@ ghost use Rattle.cbor_events.specs.NextKey.{IsNextKey, IsKeyReason};
 ghost use Rattle.cbor_events.specs.inner.Reads.{HasFirst, HasStopped, IsFirstAnswer, IsTakenAt};
 ghost use Rattle.cbor_events.specs.inner.Reads.{IfPartTold, IfStopped};
 
-use crate::item_events::{ARGUMENT, ItemEvents, at_end, next_part};
+use crate::item_events::ItemEvents;
+use crate::item_events::reading::{ARGUMENT, at_end, next_part};
 use crate::part::{Part, read_part};
 use cbor_automaton::Event;
 use cbor_head::{Reason, Refusal};

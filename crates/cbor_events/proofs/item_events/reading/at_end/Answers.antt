@@ -6,7 +6,7 @@ use Rattle.cbor_standing.specs.declared.step.Out.TheVariants as outs
 use Rattle.cbor_standing.specs.NextEvent.{machine_call}
 use Rattle.cbor_standing.proofs.NextEvents.{end-here, all-used}
 use Rattle.cbor_standing.proofs.NextRefusals.{still-due, stopped-here}
-use Rattle.cbor_events.proofs.item_events.at_end.Goals as goal
+use Rattle.cbor_events.proofs.item_events.reading.at_end.Goals as goal
 
 pub returns-in-Done-clause-answers : goal.returns-in-Done-clause-answers
 returns-in-Done-clause-answers c = λ was from to kept t ms h r depth.

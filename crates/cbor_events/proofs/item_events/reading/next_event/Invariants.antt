@@ -5,7 +5,7 @@ use Rattle.cbor_standing.specs.MachineView.{MachineView}
 use Rattle.cbor_standing.specs.Machine.{IsIdle, StandsFor}
 use Rattle.cbor_standing.specs.NextEvent.{StandsBetween}
 use Rattle.cbor_standing.specs.Calls.{HasRead}
-use Rattle.cbor_events.proofs.item_events.next_event.Given as goal
+use Rattle.cbor_events.proofs.item_events.reading.next_event.Given as goal
 
 abbrev pub invariant-reads : goal.invariant-reads
 invariant-reads g l = record {

@@ -2,7 +2,7 @@ use Rattle.std.proofs.Common.{[], ◌++◌, ◌∙◌, refl, sym, subst, arith, 
 use Rattle.std.specs.Prelude.{Ok}
 use Rattle.cbor_standing.specs.Machine.{StandsFor}
 use Rattle.cbor_events.proofs.Parts.{end-answer, given-on, told-given, silent-on}
-use Rattle.cbor_events.proofs.item_events.next_event.Goals as goal
+use Rattle.cbor_events.proofs.item_events.reading.next_event.Goals as goal
 
 pub returns-then-want-eq0-clause-answers : goal.returns-then-want-eq0-clause-answers
 returns-then-want-eq0-clause-answers g c = λ was from kept t ms h r d.

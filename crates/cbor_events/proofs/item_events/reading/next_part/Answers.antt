@@ -1,6 +1,6 @@
 use Rattle.std.proofs.Common.{[], ◌++◌, ◌∙◌}
 use Rattle.cbor_events.proofs.Parts.{given-on, told-given, silent-on}
-use Rattle.cbor_events.proofs.item_events.next_part.Goals as goal
+use Rattle.cbor_events.proofs.item_events.reading.next_part.Goals as goal
 
 pub returns-then-want-eq0-clause-answers : goal.returns-then-want-eq0-clause-answers
 returns-then-want-eq0-clause-answers g c = c.next_apart.ensures.answers
