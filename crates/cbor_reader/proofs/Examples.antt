@@ -21,7 +21,7 @@ use Rattle.cbor_grammar.proofs.KindsUnasked.{any_complaint}
 use Rattle.cbor_grammar.proofs.OneVerdict.{one_verdict}
 use Rattle.cbor_reader.specs.Canonicalise.{IsCanonicalOf}
 use Rattle.cbor_judging.specs.Readers.{BeginsWithCanonical}
-use Rattle.cbor_reader.specs.Size.{size}
+use Rattle.cbor_plain.specs.Size.{size}
 use Rattle.cbor_reader.proofs.CutShort.{too_long}
 use Rattle.cbor_reader.proofs.OneAnswer.{one_canonical}
 use Rattle.cbor_reader.proofs.Headline.{answers_exactly}

@@ -10,9 +10,9 @@ use Rattle.cbor_head.specs.declared.reason.Reason.TheVariants.{Memory}
 use Rattle.cbor_head.specs.declared.reason.Refusal.{Refusal}
 use Rattle.cbor_judging.specs.Readers.{IsRead, IsReadAs, IsUnread, of_memory}
 use Rattle.cbor_judging.proofs.FreeBefore.{front-free, without}
-use Rattle.cbor_reader.specs.Size.{size}
+use Rattle.cbor_plain.specs.Size.{size}
 use Rattle.cbor_reader.proofs.Headline.{front_range, front_valid, front_depth}
-use Rattle.cbor_reader.proofs.Sizes.{size_bounded}
+use Rattle.cbor_plain.proofs.Sizes.{size_bounded}
 
 pub view_depth : (limits : Bounds) (input : List ℕ) (v : Value) (count : ℕ) → limits.depth ≤ MAX_DEPTH → IsReadAs limits plain input v count → depth v ≤ MAX_DEPTH
 view_depth limits input v count l r = subst (λ (v : Value). depth v ≤ MAX_DEPTH) (sym r.value) (omega (arith, front_depth limits plain input r.read.item r.read.verdict))

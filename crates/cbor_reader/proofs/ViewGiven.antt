@@ -11,9 +11,9 @@ use Rattle.cbor_item.specs.OpenValues.{OpenValue, an_array, give, close, TakesVa
 use Rattle.cbor_judging.specs.Levels.{Level, some_member, some_key, item_due}
 use Rattle.cbor_judging.specs.Reading.{string_value}
 use Rattle.cbor_reader.specs.declared.view_sink.ViewSink.{ViewSink}
-use Rattle.cbor_reader.specs.inner.TreeValues.{member_values, pair_values, level_value, level_values, full_value, IsContainer}
+use Rattle.cbor_plain.specs.TreeValues.{member_values, pair_values, level_value, level_values, full_value, IsContainer}
 use Rattle.cbor_reader.specs.inner.ViewSinks.{view_stands, view_holds}
-use Rattle.cbor_reader.proofs.TreeValues.{full-ends, levels-take, may-end, settles-right, values-given, values-ended}
+use Rattle.cbor_plain.proofs.TreeValues.{full-ends, levels-take, may-end, settles-right, values-given, values-ended}
 use Rattle.cbor_view.specs.Seen.{standing}
 use Rattle.cbor_key_bytes.specs.KeyBytes.{keys_stand}
 use Rattle.cbor_key_bytes.specs.declared.key_bytes.KeyBytes.{KeyBytes}

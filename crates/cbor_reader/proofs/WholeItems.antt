@@ -18,7 +18,7 @@ use Rattle.cbor_reader.specs.Headline.{IsValidItem}
 use Rattle.cbor_judging.specs.Refusals.{IsFreeBefore}
 use Rattle.cbor_reader.specs.WholeItem.{IsWholeItem, IsItemRefusal, unread, trailing}
 use Rattle.cbor_walk.specs.Front.{IsBuiltFront}
-use Rattle.cbor_reader.specs.inner.PlainFront.{IsEncodedFront}
+use Rattle.cbor_plain.specs.Front.{IsEncodedFront}
 use Rattle.cbor_judging.proofs.Accepted.{item_is_whole}
 use Rattle.cbor_judging.proofs.FreeBefore.{truncated-free}
 use Rattle.cbor_reader.proofs.Headline.{valid_item, valid_item_accepted, answers_exactly}

@@ -3,5 +3,4 @@ pub mod Comparing
 pub mod Headline
 pub mod inner
 pub mod Sequence
-pub mod Size
 pub mod WholeItem

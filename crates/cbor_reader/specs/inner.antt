@@ -1,8 +1,2 @@
 -- What private functions speak of; no public contract does.
-pub mod Front
-pub mod HeldKeys
-pub mod PlainFront
-pub mod PlainItems
-pub mod PlainParts
-pub mod TreeValues
 pub mod ViewSinks

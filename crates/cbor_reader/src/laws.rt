@@ -20,7 +20,7 @@ ghost use Rattle.cbor_reader.specs.Headline.{IsValidItem};
 ghost use Rattle.cbor_judging.specs.Readers.{BeginsWithCanonical, IsReadAs, IsUnread};
 ghost use Rattle.cbor_judging.specs.Refusals.{StandsWithin};
 ghost use Rattle.cbor_reader.specs.Headline.{HasValidTexts};
-ghost use Rattle.cbor_reader.specs.Size.{size};
+ghost use Rattle.cbor_plain.specs.Size.{size};
 ghost use Rattle.cbor_reader.specs.WholeItem.{IsWholeItem, IsItemRefusal};
 
 /// An input has one answer but where memory is refused.

@@ -25,18 +25,10 @@
 mod canonicaliser;
 mod comparison;
 mod item_check;
-mod key_set;
 pub mod laws;
-mod next_head;
-mod payload;
-mod plain_front;
-mod plain_items;
-mod plain_part;
 mod sequence;
 mod sequence_items;
 pub mod sequence_laws;
-mod strings;
-mod tree_parts;
 mod tree_reader;
 mod valid_front;
 mod valid_slice;

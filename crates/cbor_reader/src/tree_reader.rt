@@ -5,12 +5,12 @@ ghost use Rattle.cbor_head.specs.Complaint.{plain};
 ghost use Rattle.cbor_item.specs.View.{view};
 ghost use Rattle.cbor_judging.specs.Readers.{IsReadAs, IsUnread, Loses};
 ghost use Rattle.cbor_judging.specs.Refusals.{IsReaderReason};
-ghost use Rattle.cbor_reader.specs.Size.{size};
+ghost use Rattle.cbor_plain.specs.Size.{size};
 
-use crate::plain_front::read_item_front;
 use cbor_events::ItemEvents;
 use cbor_head::{Limits, Refusal};
 use cbor_item::Tree;
+use cbor_plain::read_item_front;
 use std::alloc::Global;
 use std::io::Read;
 

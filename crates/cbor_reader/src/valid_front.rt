@@ -7,8 +7,8 @@ ghost use Rattle.cbor_judging.specs.Readers.{IsUnread};
 ghost use Rattle.cbor_judging.specs.Refusals.{IsReaderReason};
 ghost use Rattle.cbor_walk.specs.Front.{IsBuiltFront};
 
-use crate::plain_front::read_plain_front;
 use cbor_head::{KeyOrder, Limits, Reason, Refusal};
+use cbor_plain::read_plain_front;
 use cbor_walk::{BuiltFront, build_front};
 use std::alloc::Global;
 

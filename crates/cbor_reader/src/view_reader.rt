@@ -9,7 +9,7 @@ ghost use Rattle.cbor_head.specs.declared.reason.Reason.TheVariants as reasons;
 ghost use Rattle.cbor_judging.specs.Readers.{IsReadAs, IsUnread};
 ghost use Rattle.cbor_judging.specs.Refusals.{IsReaderReason};
 ghost use Rattle.cbor_reader.specs.Headline.{IsValidItem};
-ghost use Rattle.cbor_reader.specs.Size.{size};
+ghost use Rattle.cbor_plain.specs.Size.{size};
 ghost use Rattle.cbor_reader.specs.WholeItem.{IsItemRefusal};
 ghost use Rattle.cbor_view.specs.Seen.{seen};
 

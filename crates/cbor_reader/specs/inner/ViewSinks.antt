@@ -2,7 +2,7 @@
 use Rattle.std.specs.Prelude.{◌≡◌, ℕ, Bool, true, IsUtf8, List}
 use Rattle.cbor_judging.specs.Levels.{Level, Standing, item_due}
 use Rattle.cbor_reader.specs.declared.view_sink.ViewSink.{ViewSink}
-use Rattle.cbor_reader.specs.inner.TreeValues.{level_values, values_at, IsFullRight}
+use Rattle.cbor_plain.specs.TreeValues.{level_values, values_at, IsFullRight}
 use Rattle.cbor_view.specs.Seen.{standing}
 use Rattle.cbor_key_bytes.specs.KeyBytes.{keys_stand}
 

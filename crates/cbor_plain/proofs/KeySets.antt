@@ -1,0 +1,40 @@
+-- One more in a set of bytes.
+use Rattle.std.proofs.Common.{ℕ, ◌≡◌, ◌↔◌, ◌⊎◌, Bool, true, false, cond, not, List, refl, sym, ◌∙◌, inl, inr}
+use Rattle.std.specs.Ordering.{nat_cmp}
+use Rattle.std.specs.Cmp.Lexicographic.{slice_cmp}
+use Rattle.std.specs.BTreeSet.{BTreeSet, Updates}
+use Rattle.std.proofs.lemmas.Map.Text.{is_eq-slice_cmp}
+use Rattle.std.proofs.lemmas.Slice.Eq.{bytes_eq-Decides}
+use Rattle.cbor_plain.specs.inner.HeldKeys.{is_in}
+
+pub not_both : true ≡ false → ⊥
+not_both e = cc e
+
+-- what is in a set with one more
+pub in_more : {X : Type 0} (bytes : X → List ℕ) (set new : BTreeSet X) (b q : X) (P : Type 0) → Updates (λ x y. slice_cmp nat_cmp (bytes x) (bytes y)) set new b true
+    → (is_in bytes set q ≡ true) ↔ P → (is_in bytes new q ≡ true) ↔ ((bytes q ≡ bytes b) ⊎ P)
+in_more bytes set new b q P u h =
+    let at = u.0 q in
+    let is = is_eq-slice_cmp (bytes b) (bytes q) in
+    let decides = bytes_eq-Decides (bytes b) (bytes q) in (
+      (λ e. by_place _ _ (λ t. inl (sym (decides.0 (sym is ∙ t)))) (λ f. inr (h.0 f)) (sym at ∙ e)),
+      (elim [ inl e ↦ at ∙ first_there _ _ (is ∙ decides.1 (sym e)) | inr p ↦ at ∙ there_too _ _ (h.1 p) ]),
+    )
+  where
+    by_place : {A : Type 0} (x y : Bool) → (x ≡ true → A) → (y ≡ true → A) → cond x true y ≡ true → A
+    by_place true y f g e = f refl
+    by_place false y f g e = g e
+
+    first_there : (x y : Bool) → x ≡ true → cond x true y ≡ true
+    first_there true y e = refl
+    first_there false y e = absurd (not_both (sym e))
+
+    there_too : (x y : Bool) → y ≡ true → cond x true y ≡ true
+    there_too true y e = refl
+    there_too false y e = e
+
+pub opposite : (x y : Bool) → x ≡ not y → y ≡ not x
+opposite true true e = e
+opposite true false e = refl
+opposite false true e = refl
+opposite false false e = e

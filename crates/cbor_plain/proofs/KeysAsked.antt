@@ -1,0 +1,68 @@
+-- The head of the item that is due, where its kind is asked for and where it is not.
+use Rattle.std.proofs.Common.{◌≡◌, ℕ, ◌+◌, ◌/◌, ◌<◌, Option, Some, None, List, [], ◌∷◌, ◌++◌, length, map, ap, ◌∙◌, subst, inl, inr, arith}
+use Rattle.std.specs.Prelude.{IsTrue, IsSome, Result, Ok, Err, MatchResult}
+use Rattle.std.specs.Io.KnownBytes.{Consumes}
+use Rattle.std.proofs.lemmas.List.{length-append}
+use Rattle.cbor_head.specs.Beginning.{MayFollow}
+use Rattle.cbor_head.specs.Complaint.{plain}
+use Rattle.cbor_head.specs.Limits.{Bounds}
+use Rattle.cbor_head.specs.declared.reason.Refusal.{Refusal}
+use Rattle.cbor_grammar.specs.FirstBytes.{is_basic}
+use Rattle.cbor_automaton.specs.declared.event.Event.{Event}
+use Rattle.cbor_standing.specs.Machine.{KeepsLimits}
+use Rattle.cbor_standing.specs.NextEvent.{ItemEventsView, IsNextEvent, IsEnd, call}
+use Rattle.cbor_events.specs.NextKey.{IsNextKey, IsBasicKind}
+use Rattle.cbor_judging.specs.Kinds.{AsksForKinds, IsKeyDueIn, HasBasicFront}
+use Rattle.cbor_judging.specs.Levels.{frame}
+use Rattle.cbor_judging.specs.Place.{Container, at_item, done as at_end}
+use Rattle.cbor_judging.specs.Reading.{IsNextHead, StopsHead}
+use Rattle.cbor_judging.proofs.Standing.{is-done}
+use Rattle.cbor_judging.proofs.Steps.{next-head, no-head, stops, limits-as}
+use Rattle.cbor_plain.specs.declared.plain_items.PlainItems.{PlainItems}
+use Rattle.cbor_plain.specs.inner.PlainFront.{IsDueAt, IsStopped, IsNextDue}
+use Rattle.cbor_plain.proofs.DueRefusals.{refused-head, refused-key}
+
+-- what stands behind a first byte that was known
+behind-first : (from to : Option (List ℕ)) (t x y : List ℕ) (place : ℕ) → (length t < place → (first : ℕ) (rest : List ℕ) → from ≡ Some (first ∷ rest) → IsTrue (is_basic (first / 32))) → IsSome from → Consumes from to (x ++ y)
+    → place ≡ length (t ++ x) → HasBasicFront x
+behind-first from to t [] y place h some c e = tt
+behind-first None to t (b ∷ bs) y place h some c e = absurd (cc some)
+behind-first (Some xs) None t (b ∷ bs) y place h some c e = absurd c
+behind-first (Some xs) (Some ys) t (b ∷ bs) y place h some c e = h (omega (arith, e, length-append t (b ∷ bs))) b ((bs ++ y) ++ ys) (ap Some c)
+
+module _ (v : PlainItems) (b : Bounds) (e : ItemEventsView) (t : List ℕ) (d : IsDueAt v b e t) (new : ItemEventsView) (from to : Option (List ℕ)) where
+  abbrev cs : List Container
+  cs = map frame d.ls
+
+  -- no kind is asked for
+  pub due-unasked : (result : Result Event Refusal) → (AsksForKinds b plain → IsKeyDueIn d.ls → ⊥) → MatchResult result (λ event. IsNextHead plain b (at_item cs) t event from to new) (λ f. StopsHead plain b (at_item cs) t from to f)
+      → MatchResult result (λ event. IsNextDue b d.ls t event from to new) (λ f. IsStopped plain b t from to f)
+  due-unasked (Ok event) none h = record { head = h; kind = λ asked is_key. absurd (none asked is_key) }
+  due-unasked (Err f) none h = refused-head v b e t d from to f h (λ known x y c p asked is_key. absurd (none asked is_key))
+
+  -- the item is not complete
+  pub never-ended : (o : Option Event) → o ≡ None → IsNextKey (Ok o) (call e new from to t d.at.marks) → ⊥
+  never-ended o is h =
+      let ended : IsEnd (call e new from to t d.at.marks) = subst (λ (z : Option Event). IsNextKey (Ok z) (call e new from to t d.at.marks)) is h in
+      let open_at : at_item cs ≡ at_end = is-done b e t (at_item cs) d.at ended.complete in
+      cc open_at
+
+  -- it is
+  module _ (limits : KeepsLimits e.machine new.machine) where
+    pub due-asked : (o : Option Event) (event : Event) → o ≡ Some event → new.refusal ≡ None → IsNextKey (Ok o) (call e new from to t d.at.marks) → IsNextDue b d.ls t event from to new
+    due-asked o event is live h =
+        let told : IsNextEvent event (call e new from to t d.at.marks) × IsBasicKind event.kind = subst (λ (z : Option Event). IsNextKey (Ok z) (call e new from to t d.at.marks)) is h in
+        record {
+          head = next-head plain b e new t (at_item cs) event from to tt d.at told.0 (limits-as _ _ limits) live (λ reason fault. cc fault.0);
+          kind = λ asked is_key. told.1;
+        }
+
+    pub stopped-asked : (f : Refusal) → AsksForKinds b plain → IsKeyDueIn d.ls → new.machine.taken ≡ f.read → IsNextKey (Err f) (call e new from to t d.at.marks) → IsStopped plain b t from to f
+    stopped-asked f asked is_key taken h = elim h [
+      | inl x ↦ refused-head v b e t d from to f (no-head plain b (at_item cs) t from to f (stops b e new t (at_item cs) from to f d.at (limits-as _ _ limits) x.0.1))
+          (λ known u w c p asks is_due. behind-first from to t u w f.place x.1 known c p)
+      | inr k ↦
+          let deep : new.machine.depth ≡ b.depth = limits.depth ∙ d.at.depth in
+          let read : f.read ≡ length t + 1 = ap (λ (x : Refusal). x.read) k.is in
+          refused-key v b e t d from to f k.byte asked is_key k.consumed k.other k.item (subst (λ (n : ℕ). MayFollow n t k.byte) deep k.follows) (omega (arith, taken, read, limits.taken, limits.bytes, d.at.bytes)) k.is
+    ]

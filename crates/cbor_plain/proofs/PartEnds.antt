@@ -1,0 +1,240 @@
+-- What ends behind a part: the containers that are full, and the item, or a key that came before.
+use Rattle.std.proofs.Common.{◌≡◌, ℕ, zero, suc, ◌+◌, ◌-◌, ◌^◌, ◌<◌, ◌≤◌, Bool, true, Option, Some, List, [], ◌∷◌, ◌++◌, length, map, get_or, refl, sym, ap, ap₂, ◌∙◌, subst, arith, append_assoc, append-nil}
+use Rattle.std.specs.Prelude.{nat_lt}
+use Rattle.std.proofs.lemmas.List.{length-append, length-map}
+use Rattle.cbor_head.specs.Canonical.{canonical}
+use Rattle.cbor_head.specs.Limits.{Bounds}
+use Rattle.cbor_head.specs.Spelling.{no_entries, spell, value_of}
+use Rattle.cbor_head.specs.Complaint as complaint
+use Rattle.cbor_head.specs.Complaint.{plain}
+use Rattle.cbor_head.specs.Verdict.{refusal}
+use Rattle.cbor_head.specs.declared.order.KeyOrder.{KeyOrder}
+use Rattle.cbor_head.specs.declared.reason.Reason.TheVariants.{RepeatedKey}
+use Rattle.cbor_head.specs.declared.reason.Refusal.{Refusal}
+use Rattle.cbor_head.specs.declared.width.Width.TheVariants.{Indefinite}
+use Rattle.cbor_standing.specs.NextEvent.{ItemEventsView}
+use Rattle.cbor_judging.specs.Place.{Place, at_item, close, done as at_end, open_at}
+use Rattle.cbor_builder.specs.Built.{Built, built, IsRepeatedKey, HasDistinctKeysSoFar}
+use Rattle.cbor_canonical.specs.Parts.{IsInContainer, Open, plain as a_plain, give, close as close_open}
+use Rattle.cbor_item.specs.OpenValues.{OpenItem, close as close_in_tree}
+use Rattle.cbor_plain.specs.declared.plain_items.PlainItems.{PlainItems}
+use Rattle.cbor_plain.specs.declared.plain_items.TheConstants.{PLACES}
+use Rattle.cbor_plain.specs.declared.plain_part.Part.{Part}
+use Rattle.cbor_plain.specs.declared.plain_part.Part.TheVariants.{Leaf, String, Begin, Break}
+use Rattle.cbor_judging.specs.Judged.{IsJudged}
+use Rattle.cbor_judging.specs.Levels.{IsTaken, Level, a_member, a_key, a_value, some_member, some_key, some_value, tagged, frame, bytes_before, Standing, item_due, item_full, item_whole, settle}
+use Rattle.cbor_judging.specs.Given.{level_open, opens, StandsAt}
+use Rattle.cbor_plain.specs.inner.PlainFront.{IsDueAt, IsWholeAt, GoesOnOrNot, WhyStopped, for_cause}
+use Rattle.cbor_plain.specs.inner.PlainItems.{AreApart, AreApartSoFar, HaveBegun, HaveBegunIn, HasItsPlace, IsGiven, IsEndingAt, sets}
+use Rattle.cbor_plain.specs.declared.key_set.KeySet.{KeySet}
+use Rattle.cbor_plain.specs.inner.HeldKeys.{AreHeld, AreHeldSoFar}
+use Rattle.cbor_plain.proofs.HeldKeys.{held-popped, some-opens}
+use Rattle.cbor_judging.proofs.Judged.{zero_item, zero_pairs}
+use Rattle.cbor_judging.proofs.Standing.{open-is, fewer-open, short-at}
+use Rattle.cbor_judging.proofs.Given.{settled}
+use Rattle.cbor_plain.specs.TreeValues.{IsTreeAt, IsTreeStep, MayEndIn}
+use Rattle.cbor_plain.proofs.TreeValues.{values-ended, settles-right, tree-step, tree-may-end}
+use Rattle.cbor_plain.proofs.PathFrames.{repeat_found}
+use Rattle.cbor_plain.proofs.Paths.{closed-apart, apart-now, ends-apart, settled-begun, settled-place}
+use Rattle.cbor_judging.proofs.Scalars.{at-as}
+use Rattle.cbor_judging.proofs.Steps.{at-reached}
+use Rattle.cbor_plain.proofs.PartPlaces.{stands-as}
+
+-- ---- containers that end
+
+module _ (v : PlainItems) (b : Bounds) (e : ItemEventsView) (t : List ℕ) (height : ℕ) (h : IsEndingAt v b e t height) where
+  counts : e.machine.open_count ≡ length (open_at h.q)
+  counts = open-is b e t h.q h.at
+
+  full-count : (ls : List Level) → h.q ≡ close (map frame ls) → e.machine.open_count ≤ length ls
+  full-count ls f = omega (arith, counts, ap (λ (p : Place). length (open_at p)) f, fewer-open (map frame ls), length-map ls frame)
+
+  due-count : (ls : List Level) → h.q ≡ at_item (map frame ls) → e.machine.open_count ≡ length ls
+  due-count ls f = counts ∙ ap (λ (p : Place). length (open_at p)) f ∙ length-map ls frame
+
+  -- more are open in the builder: the innermost is to end
+  pub ends-next : e.machine.open_count < height → IsInContainer v.builder.standing × HasDistinctKeysSoFar v.builder.standing
+  ends-next more = go h.standing h.stands
+    where
+      apart : (os : List Open) → AreApartSoFar os → HasDistinctKeysSoFar os
+      apart [] x = tt
+      apart (c ∷ os) x = ends-apart c x.0
+
+      go : (x : Standing) → StandsAt v.builder.order b.depth t h.q v.builder.standing height x → IsInContainer v.builder.standing × HasDistinctKeysSoFar v.builder.standing
+      go (item_due ls) s = absurd (omega (arith, more, due-count ls s.2, s.4))
+      go (item_full [] u) s = (subst IsInContainer (sym s.3.2) (s.3.1.container (a_plain []) []), apart v.builder.standing h.apart)
+      go (item_full (l ∷ ls) u) s = (subst IsInContainer (sym s.3.2) (s.3.1.container (level_open v.builder.order l) (opens v.builder.order ls)), apart v.builder.standing h.apart)
+      go (item_whole u) s = absurd (omega (arith, more, s.4))
+
+  pub ends-in-tree : e.machine.open_count < height → MayEndIn v.tree
+  ends-in-tree more = go h.standing h.stands h.tree
+    where
+      go : (x : Standing) → StandsAt v.builder.order b.depth t h.q v.builder.standing height x → IsTreeAt v.tree x → MayEndIn v.tree
+      go (item_due ls) s tree = absurd (omega (arith, more, due-count ls s.2, s.4))
+      go (item_full ls u) s tree = tree-may-end v.tree ls u tree
+      go (item_whole u) s tree = absurd (omega (arith, more, s.4))
+
+  pub ends-one : e.machine.open_count < height → (now : PlainItems) → now.builder ≡ built v.builder.order (close_open v.builder.order v.builder.standing) → now.starts ≡ v.starts → now.kinds ≡ v.kinds → IsTreeStep close_in_tree v.tree now.tree
+      → ((s u : KeySet) (ss : List KeySet) → sets v ≡ s ∷ u ∷ ss → sets now ≡ u ∷ ss) → IsEndingAt now b e t (height - 1)
+  ends-one more now is starts same_kinds step popped = go h.standing h.stands h.begun h.place h.tree
+    where
+      o : KeyOrder
+      o = v.builder.order
+
+      apart-so : AreApartSoFar now.builder.standing
+      apart-so = subst AreApartSoFar (sym (ap (λ (g : Built). g.standing) is)) (closed-apart v.builder.order v.builder.standing h.apart)
+
+      go : (x : Standing) → StandsAt v.builder.order b.depth t h.q v.builder.standing height x → HaveBegunIn v.starts x → HasItsPlace v.starts x → IsTreeAt v.tree x → IsEndingAt now b e t (height - 1)
+      go (item_due ls) s begun place tree = absurd (omega (arith, more, due-count ls s.2, s.4))
+      go (item_whole u) s begun place tree = absurd (omega (arith, more, s.4))
+      go (item_full ls u) s begun place tree =
+          let c = s.3.0 in
+          let f = s.3.1 in
+          let short : length (bytes_before ls ++ spell u) < 2 ^ 64 = subst (λ (x : List ℕ). length x < 2 ^ 64) s.1 (short-at b e t h.q h.at) in
+          let apart = subst AreApartSoFar s.3.2 h.apart in
+          let taken : IsTaken (b.depth - length ls) u = record { spelled = f.spelled; within = f.within; clean = f.clean (ends-apart c apart.0) } in
+          let os_is : give (canonical v.builder.order (value_of u)) (opens v.builder.order ls) ≡ now.builder.standing =
+          ap (λ (x : List ℕ). give x (opens v.builder.order ls)) (sym f.canonical_is) ∙ ap (close_open v.builder.order) (sym s.3.2) ∙ sym (ap (λ (g : Built). g.standing) is) in
+          record {
+            q = h.q;
+            at = h.at;
+            standing = settle ls u;
+            stands = subst (λ (p : KeyOrder). StandsAt p b.depth t h.q now.builder.standing (height - 1) (settle ls u)) (sym (ap (λ (g : Built). g.order) is))
+                (stands-as v.builder.order b.depth (settle ls u) (bytes_before ls ++ spell u) t (close (map frame ls)) h.q _ now.builder.standing (length ls) (height - 1) (sym s.1) (sym s.2) os_is (omega (arith, s.4))
+                (settled v.builder.order b.depth ls u s.0 taken short));
+            apart = apart-so;
+            begun = subst (λ (xs : List ℕ). HaveBegunIn xs (settle ls u)) (sym starts) (settled-begun v.starts ls u begun);
+            place = subst (λ (xs : List ℕ). HasItsPlace xs (settle ls u)) (sym starts) (settled-place v.starts ls u begun place);
+            tree = tree-step close_in_tree v.tree now.tree (item_full ls u) (settle ls u) tree step (values-ended ls u) (settles-right ls u);
+            held = subst (AreHeldSoFar (sets now)) (ap (close_open v.builder.order) (sym s.3.2) ∙ sym (ap (λ (g : Built). g.standing) is))
+                (held-popped v.builder.order (sets v) (sets now) c (opens v.builder.order ls) (some-opens v.builder.order ls) popped (subst (AreHeldSoFar (sets v)) s.3.2 h.held));
+            kinds = same_kinds ∙ h.kinds;
+            keeps = h.keeps;
+          }
+
+  -- no more are open
+  pub ends-all : height ≤ e.machine.open_count → IsEndingAt v b e t e.machine.open_count
+  ends-all least = subst (IsEndingAt v b e t) (go h.standing h.stands) h
+    where
+      go : (x : Standing) → StandsAt v.builder.order b.depth t h.q v.builder.standing height x → height ≡ e.machine.open_count
+      go (item_due ls) s = s.4 ∙ sym (due-count ls s.2)
+      go (item_full ls u) s = absurd (omega (arith, least, full-count ls s.2, s.4))
+      go (item_whole u) s = s.4 ∙ sym (counts ∙ ap (λ (p : Place). length (open_at p)) s.2)
+
+-- ---- what follows
+
+module _ (v : PlainItems) (b : Bounds) (e : ItemEventsView) (t : List ℕ) (h : IsEndingAt v b e t e.machine.open_count) (some : 0 < length t) where
+  -- the key that has come is the same as an earlier one
+  pub repeated-key : (place : ℕ) (f : Refusal) → IsRepeatedKey v.builder.standing → place ≡ get_or v.starts e.machine.open_count 0 → f ≡ refusal RepeatedKey place e.machine.taken → (from to : Option (List ℕ)) → WhyStopped plain b t from to f
+  repeated-key place f repeated place_is is from to = go h.standing h.stands h.place
+    where
+      few-bytes : length t < 2 ^ 63
+      few-bytes = let at = h.at in omega (arith, at.stands.stands.taken, at.stands.stands.limited, at.bytes, at.limits.1)
+
+      found : (at size : ℕ) → IsJudged plain 0 b.depth t (Some (complaint.complaint (at + size) at RepeatedKey)) → length t ≡ at + size → place ≡ at → WhyStopped plain b t from to f
+      found at size j sized here =
+          let taken : e.machine.taken ≡ length t = h.at.stands.stands.taken in
+          let whole : b.depth ≡ b.depth - 0 = omega arith in
+          for_cause (record {
+            p = t;
+            last = [];
+            splits = sym (append-nil t);
+            found = Some (complaint.complaint (at + size) at RepeatedKey);
+            judged = subst (λ (n : ℕ). IsJudged plain 0 n t (Some (complaint.complaint (at + size) at RepeatedKey))) whole j;
+            cause = (is ∙ ap₂ (λ (x y : ℕ). refusal RepeatedKey x y) here (taken ∙ sized), (at-reached b e t h.q h.at).within);
+          })
+          (λ known. h.keeps)
+
+      go : (x : Standing) → StandsAt v.builder.order b.depth t h.q v.builder.standing e.machine.open_count x → HasItsPlace v.starts x → WhyStopped plain b t from to f
+      go (item_due (a_value w left done k ∷ ls)) s place_so =
+          let o = v.builder.order in
+          let l = a_key w left done in
+          let levels = s.0 in
+          let bytes_are : t ≡ bytes_before (l ∷ ls) ++ spell k = s.1 ∙ sym (append_assoc (bytes_before ls) _ (spell k)) in
+          let size = length-append (bytes_before (l ∷ ls)) (spell k) in
+          let apart = subst AreApartSoFar s.3 h.apart in
+          let at = h.at in
+          let short : length (bytes_before (l ∷ ls)) + length (spell k) < 2 ^ 63 = omega (arith, few-bytes, ap length bytes_are, size) in
+          found (length (bytes_before (l ∷ ls))) (length (spell k))
+          (subst (λ (x : List ℕ). IsJudged plain 0 b.depth x (Some (complaint.complaint (length (bytes_before (l ∷ ls)) + length (spell k)) (length (bytes_before (l ∷ ls))) RepeatedKey))) (sym bytes_are)
+          (repeat_found o b.depth ls l w done zero_item (zero_pairs left) refl [] (levels.0, (levels.1.0, levels.1.1), levels.2) (omega (arith, short)) (apart.0, (λ x. x), apart.1) levels.1.1 k levels.1.2 (omega (arith, short)) (subst IsRepeatedKey s.3 repeated)))
+          (ap length bytes_are ∙ size) (place_is ∙ ap (λ (i : ℕ). get_or v.starts i 0) s.4 ∙ place_so)
+      go (item_due (some_value done k ∷ ls)) s place_so =
+          let o = v.builder.order in
+          let l = some_key done in
+          let levels = s.0 in
+          let bytes_are : t ≡ bytes_before (l ∷ ls) ++ spell k = s.1 ∙ sym (append_assoc (bytes_before ls) _ (spell k)) in
+          let size = length-append (bytes_before (l ∷ ls)) (spell k) in
+          let apart = subst AreApartSoFar s.3 h.apart in
+          let short : length (bytes_before (l ∷ ls)) + length (spell k) < 2 ^ 63 = omega (arith, few-bytes, ap length bytes_are, size) in
+          found (length (bytes_before (l ∷ ls))) (length (spell k))
+          (subst (λ (x : List ℕ). IsJudged plain 0 b.depth x (Some (complaint.complaint (length (bytes_before (l ∷ ls)) + length (spell k)) (length (bytes_before (l ∷ ls))) RepeatedKey))) (sym bytes_are)
+          (repeat_found o b.depth ls l Indefinite done zero_item no_entries refl [] (levels.0, levels.1.0, levels.2) (omega (arith, short)) (apart.0, (λ x. x), apart.1) levels.1.0 k levels.1.1 (omega (arith, short)) (subst IsRepeatedKey s.3 repeated)))
+          (ap length bytes_are ∙ size) (place_is ∙ ap (λ (i : ℕ). get_or v.starts i 0) s.4 ∙ place_so)
+      go (item_due []) s place_so = absurd (subst IsRepeatedKey s.3 repeated)
+      go (item_due (a_member w left done ∷ ls)) s place_so = absurd (subst IsRepeatedKey s.3 repeated)
+      go (item_due (some_member done ∷ ls)) s place_so = absurd (subst IsRepeatedKey s.3 repeated)
+      go (item_due (a_key w left done ∷ ls)) s place_so = absurd (subst IsRepeatedKey s.3 repeated)
+      go (item_due (some_key done ∷ ls)) s place_so = absurd (subst IsRepeatedKey s.3 repeated)
+      go (item_due (tagged w n ∷ ls)) s place_so = absurd (subst IsRepeatedKey s.3 repeated)
+      go (item_full ls u) s place_so = absurd (omega (arith, full-count v b e t e.machine.open_count h ls s.2, s.4))
+      go (item_whole u) s place_so = absurd (subst IsRepeatedKey s.3 repeated)
+
+  -- the same, where the key is among those of its map
+  module _ (now : PlainItems) (same : now.builder ≡ v.builder) (starts : now.starts ≡ v.starts) (same_tree : now.tree ≡ v.tree) (same_kinds : now.kinds ≡ v.kinds) where
+    -- another item is due
+    pub goes-on : (places : length v.starts ≡ PLACES) → AreApart v.builder.standing → AreHeld (sets now) now.builder.standing → 0 < e.machine.open_count → IsDueAt now b e t
+    goes-on places apart held more = go h.standing h.stands h.begun h.tree
+      where
+        go : (x : Standing) → StandsAt v.builder.order b.depth t h.q v.builder.standing e.machine.open_count x → HaveBegunIn v.starts x → IsTreeAt v.tree x → IsDueAt now b e t
+        go (item_due ls) s begun tree = record {
+          ls = ls;
+          levels = s.0;
+          taken = s.1;
+          at = at-as b e t t h.q (at_item (map frame ls)) refl s.2 h.at;
+          standing = subst (λ (g : Built). g.standing ≡ opens g.order ls) (sym same) s.3;
+          apart = subst (λ (g : Built). AreApart g.standing) (sym same) apart;
+          begun = subst (λ (xs : List ℕ). HaveBegun xs ls) (sym starts) begun;
+          held = held;
+          places = ap length starts ∙ places;
+          tree = subst (λ (z : Option (List OpenItem)). IsTreeAt z (item_due ls)) (sym same_tree) tree;
+          kinds = same_kinds ∙ h.kinds;
+          keeps = h.keeps;
+        }
+        go (item_full ls u) s begun tree = absurd (omega (arith, full-count v b e t e.machine.open_count h ls s.2, s.4))
+        go (item_whole u) s begun tree = absurd (omega (arith, more, s.4))
+
+    -- or the item is whole
+    pub is-whole : e.machine.open_count ≡ 0 → IsWholeAt now b e t
+    is-whole none = go h.standing h.stands h.tree
+      where
+        go : (x : Standing) → StandsAt v.builder.order b.depth t h.q v.builder.standing e.machine.open_count x → IsTreeAt v.tree x → IsWholeAt now b e t
+        go (item_due []) s tree = absurd (omega (arith, some, ap length s.1))
+        go (item_due (l ∷ ls)) s tree = absurd (omega (arith, none, s.4))
+        go (item_full ls u) s tree = absurd (omega (arith, full-count v b e t e.machine.open_count h ls s.2, s.4))
+        go (item_whole u) s tree = record {
+          item = u;
+          is = s.0;
+          taken = s.1;
+          at = at-as b e t t h.q at_end refl s.2 h.at;
+          standing = subst (λ (g : Built). g.standing ≡ a_plain (canonical g.order (value_of u)) ∷ []) (sym same) s.3;
+          tree = subst (λ (z : Option (List OpenItem)). IsTreeAt z (item_whole u)) (sym same_tree) tree;
+          keeps = h.keeps;
+        }
+
+-- ---- what is answered
+
+pub given-order : (g : Built) (part : Part) (now : Built) (count : ℕ) → IsGiven g part now count → now.order ≡ g.order
+given-order g (Leaf m k) now count h = ap (λ (x : Built). x.order) h.0
+given-order g (String is_text content) now count h = ap (λ (x : Built). x.order) h.0
+given-order g (Begin m k) now count h = ap (λ (x : Built). x.order) h.0
+given-order g Break now count h = ap (λ (x : Built). x.order) h.0
+
+pub goes-or-not : (v now : PlainItems) (b : Bounds) (e : ItemEventsView) (t : List ℕ) (count : ℕ) → IsEndingAt v b e t e.machine.open_count → 0 < length t → now.builder ≡ v.builder → now.starts ≡ v.starts → now.tree ≡ v.tree → now.kinds ≡ v.kinds → length v.starts ≡ PLACES
+    → AreHeld (sets now) now.builder.standing × (IsRepeatedKey now.builder.standing → ⊥) → count ≡ e.machine.open_count → GoesOnOrNot (nat_lt 0 count) now b e t
+goes-or-not v now b e t zero h some same starts same_tree same_kinds places held same_count = is-whole v b e t h some now same starts same_tree same_kinds (sym same_count)
+goes-or-not v now b e t (suc n) h some same starts same_tree same_kinds places held same_count =
+    let more : nat_lt 0 (suc n) ≡ true = grind arith in
+    let fresh : IsRepeatedKey v.builder.standing → ⊥ = λ x. held.1 (subst (λ (g : Built). IsRepeatedKey g.standing) (sym same) x) in
+    subst (λ (m : Bool). GoesOnOrNot m now b e t) (sym more)
+    (goes-on v b e t h some now same starts same_tree same_kinds places (apart-now v.builder.standing h.apart fresh) held.0 (omega (arith, same_count)))

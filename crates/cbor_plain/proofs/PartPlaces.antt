@@ -1,0 +1,294 @@
+-- What a part of an item is, and where it leads: the containers that are open behind it.
+use Rattle.std.proofs.Common.{◌≡◌, ◌≢◌, ℕ, zero, suc, ◌+◌, ◌-◌, ◌^◌, ◌<◌, ◌≤◌, Bool, true, false, Some, None, List, [], ◌∷◌, ◌++◌, length, map, get_or, refl, sym, ap, ◌∙◌, subst, arith, append_assoc, append-nil}
+use Rattle.std.proofs.lemmas.List.{length-append, length-map}
+use Rattle.cbor_head.specs.Head.{Holds, IsSimple, head, shortest_head}
+use Rattle.cbor_head.specs.Canonical.{canonical}
+use Rattle.cbor_head.specs.Limits.{Bounds}
+use Rattle.cbor_head.specs.Spelling.{array, a_map, no_spellings, no_entries, spell_all, spell_entries, spellings_count}
+use Rattle.cbor_head.specs.Complaint.{plain}
+use Rattle.cbor_head.specs.declared.major.Major.{Major}
+use Rattle.cbor_head.specs.declared.major.Major.TheVariants as majors
+use Rattle.cbor_head.specs.declared.order.KeyOrder.{KeyOrder}
+use Rattle.cbor_head.specs.declared.width.Width.{Width}
+use Rattle.cbor_head.specs.declared.width.Width.TheVariants.{Direct, One, Two, Four, Eight, Indefinite}
+use Rattle.cbor_standing.specs.NextEvent.{ItemEventsView}
+use Rattle.cbor_automaton.specs.Marks.{mark_of}
+use Rattle.cbor_automaton.specs.Trace.{Mark, a_head, a_chunk, a_byte, a_break}
+use Rattle.cbor_automaton.specs.declared.event.EventKind.{EventKind}
+use Rattle.cbor_automaton.specs.declared.event.EventKind.TheVariants as kinds
+use Rattle.cbor_judging.specs.Place.{Container, Place, at_item, expect, Ends, IsTaking}
+use Rattle.cbor_builder.specs.Built.{IsContainer, IsLeaf}
+use Rattle.cbor_canonical.specs.Parts.{Open, an_array, a_map as an_open_map, opened}
+use Rattle.cbor_item.specs.OpenValues as trees
+use Rattle.cbor_item.specs.OpenValues.{OpenValue}
+use Rattle.cbor_judging.specs.Levels.{Level, a_member, a_key, a_value, some_member, some_key, some_value, tagged, frame, AreLevels, bytes_before, Standing, item_due, item_full}
+use Rattle.cbor_judging.specs.Given.{opens, StandsAt}
+use Rattle.cbor_judging.specs.Reading.{string_major, IsUndecided, IsBegun, string_value}
+use Rattle.cbor_plain.specs.inner.PlainItems.{HaveBegun, HaveBegunIn, HasItsPlace}
+use Rattle.cbor_plain.specs.inner.PlainParts.{IsCome, leaf_value, IsLeafMajor, Begins}
+use Rattle.cbor_judging.proofs.Arrays.{closes}
+use Rattle.cbor_judging.proofs.Heads.{open_or, Headed}
+use Rattle.cbor_judging.proofs.Items.{definite, is-definite, proper-definite, never-open, taking-some}
+use Rattle.cbor_judging.proofs.Judged.{judged_start}
+use Rattle.cbor_judging.proofs.Given.{full-array, full-map}
+use Rattle.cbor_judging.proofs.Loops.{array_bytes-whole, map_bytes-whole}
+use Rattle.cbor_judging.proofs.Undecided.{head-item, head-undecided}
+use Rattle.cbor_plain.specs.TreeValues.{level_values, values_at, IsFullRight}
+use Rattle.cbor_judging.proofs.Steps.{fault_of}
+
+-- ---- strings
+
+pub string-canonical : (o : KeyOrder) (text : Bool) (content : List ℕ) → shortest_head (string_major text) (length content) ++ content ≡ canonical o (string_value text content)
+string-canonical o true content = refl
+string-canonical o false content = refl
+
+-- ---- heads
+
+-- a head has no complaint of the plain rules by itself
+pub come-begun : (b : Bounds) (fs : List Container) (t x : List ℕ) (e : ItemEventsView) (w : Width) (kind other : EventKind) → kind ≡ other → other ≢ kinds.End → IsCome b fs t x e w kind → IsBegun plain b fs t x e w other
+come-begun b fs t x e w kind other same item i =
+    let j = subst (IsCome b fs t x e w) same i in
+    record { next = j.next; taking = j.taking; item = item; clean = λ c h. cc (fault_of (at_item fs) (mark_of w other) plain (length t) c h).1.0; proper = j.proper; at = j.at }
+
+short-undecided : (b : Bounds) (fs : List Container) (t x : List ℕ) → length x ≤ 1 → IsUndecided plain b fs t x
+short-undecided b fs t x l = record { p = []; last = x; splits = refl; byte = l; judged = judged_start plain (length t) (b.depth - length fs) }
+
+-- all but the last byte of a head tells nothing
+pub mark-undecided : (b : Bounds) (fs : List Container) (t x : List ℕ) (mark : Mark) (next : Place) → IsTaking b.depth (at_item fs) mark x next → IsUndecided plain b fs t x
+mark-undecided b fs t x (a_head m w n) next h = go w h
+  where
+    some : 0 < length x
+    some = taking-some b.depth fs (a_head m w n) x next h
+
+    by : (v : Width) → v ≢ Indefinite → IsTaking b.depth (at_item fs) (a_head m v n) x next → IsUndecided plain b fs t x
+    by v f g =
+        let d = definite b.depth fs m v n x next f g in
+        head-undecided plain b fs t x (subst (Headed (b.depth - length fs)) (sym d.bytes_are) (head-item b.depth fs m v n x next d)) some
+
+    go : (v : Width) → IsTaking b.depth (at_item fs) (a_head m v n) x next → IsUndecided plain b fs t x
+    go Indefinite g = short-undecided b fs t x (omega (arith, ap length g.1))
+    go Direct g = by Direct (λ e. cc e) g
+    go One g = by One (λ e. cc e) g
+    go Two g = by Two (λ e. cc e) g
+    go Four g = by Four (λ e. cc e) g
+    go Eight g = by Eight (λ e. cc e) g
+mark-undecided b fs t x a_break next h = short-undecided b fs t x (omega (arith, ap length h.0))
+mark-undecided b fs t x (a_chunk w n) next h = absurd h
+mark-undecided b fs t x a_byte next h = absurd h
+
+-- ---- parts
+
+pub leaf-canonical : (o : KeyOrder) (m : Major) (k : ℕ) → IsLeafMajor m k → shortest_head m k ≡ canonical o (leaf_value m k)
+leaf-canonical o majors.Unsigned k h = refl
+leaf-canonical o majors.Negative k h = refl
+leaf-canonical o majors.Simple k h = refl
+leaf-canonical o majors.Bytes k h = absurd h
+leaf-canonical o majors.Text k h = absurd h
+leaf-canonical o majors.Array k h = absurd h
+leaf-canonical o majors.Map k h = absurd h
+leaf-canonical o majors.Tag k h = absurd h
+
+pub leaf-major : (m : Major) (k : ℕ) → IsLeafMajor m k → IsLeaf m × (m ≡ majors.Simple → IsSimple k)
+leaf-major majors.Unsigned k h = (tt, (λ e. cc e))
+leaf-major majors.Negative k h = (tt, (λ e. cc e))
+leaf-major majors.Simple k h = (tt, (λ e. h))
+leaf-major majors.Bytes k h = absurd h
+leaf-major majors.Text k h = absurd h
+leaf-major majors.Array k h = absurd h
+leaf-major majors.Map k h = absurd h
+leaf-major majors.Tag k h = absurd h
+
+pub begins-container : (kind : EventKind) (m : Major) (k : ℕ) → Begins kind m k → IsContainer m
+begins-container (kinds.Array (Some n)) m k h = subst IsContainer (sym h.0) tt
+begins-container (kinds.Array None) m k h = subst IsContainer (sym h.0) tt
+begins-container (kinds.Map (Some n)) m k h = subst IsContainer (sym h.0) tt
+begins-container (kinds.Map None) m k h = subst IsContainer (sym h.0) tt
+begins-container (kinds.Tag n) m k h = subst IsContainer (sym h.0) tt
+begins-container (kinds.Unsigned n) m k h = absurd h
+begins-container (kinds.Negative n) m k h = absurd h
+begins-container (kinds.Simple n) m k h = absurd h
+begins-container (kinds.Bytes n) m k h = absurd h
+begins-container (kinds.Text n) m k h = absurd h
+begins-container (kinds.Chunk n) m k h = absurd h
+begins-container (kinds.Piece n) m k h = absurd h
+begins-container kinds.End m k h = absurd h
+
+pub simple-begun : (b : Bounds) (fs : List Container) (t x : List ℕ) (e : ItemEventsView) (w : Width) (n : ℕ) → IsBegun plain b fs t x e w (kinds.Simple n) → IsSimple n
+simple-begun b fs t x e w n i = (definite b.depth fs majors.Simple w n x i.next (never-open b.depth fs majors.Simple w n x i.next tt i.taking) i.taking).follows.0
+
+-- ---- where a part leads
+
+pub stands-as : (o : KeyOrder) (d : ℕ) (x : Standing) (t u : List ℕ) (q p : Place) (os ps : List Open) (h k : ℕ) → t ≡ u → q ≡ p → os ≡ ps → h ≡ k → StandsAt o d t q os h x → StandsAt o d u p ps k x
+stands-as o d x t u q p os ps h k e f g j s =
+    subst (λ (n : ℕ). StandsAt o d u p ps n x) j (subst (λ (y : List Open). StandsAt o d u p y h x) g (subst (λ (y : Place). StandsAt o d u y os h x) f (subst (λ (y : List ℕ). StandsAt o d y q os h x) e s)))
+
+pub record IsPlaced (o : KeyOrder) (d : ℕ) (t : List ℕ) (q : Place) (os : List Open) (height : ℕ) (xs : List ℕ) (vs : List OpenValue) : Type 0 where
+  pub standing : Standing
+  pub stands : StandsAt o d t q os height standing
+  pub begun : HaveBegunIn xs standing
+  pub place : HasItsPlace xs standing
+  pub right : IsFullRight standing
+  pub values : vs ≡ values_at standing
+
+module _ (o : KeyOrder) (b : Bounds) (ls : List Level) (levels : AreLevels b.depth ls) (xs : List ℕ) (begun : HaveBegun xs ls) (here : get_or xs (length ls) 0 ≡ length (bytes_before ls)) where
+  abbrev fs : List Container
+  fs = map frame ls
+
+  room-for : length fs < b.depth → length ls < b.depth
+  room-for r = omega (arith, r, length-map ls frame)
+
+  array-begins : (k : ℕ) (w : Width) (next : Place) → Holds w k → length fs < b.depth → next ≡ expect k fs → IsPlaced o b.depth (bytes_before ls ++ head majors.Array w k) next (an_array 0 [] ∷ opens o ls) (suc (length ls)) xs (trees.an_array [] ∷ level_values ls)
+  array-begins zero w next holds room follows = record {
+    standing = item_full ls (array w no_spellings);
+    stands = (
+      levels,
+      ap (λ (x : List ℕ). bytes_before ls ++ x) (sym (append-nil (head majors.Array w 0)) ∙ sym (array_bytes-whole w 0 no_spellings (closes w (is-definite w 0 holds)) refl)),
+      follows,
+      (_, full-array o (b.depth - length ls) 0 w no_spellings 0 [] refl refl tt (open_or w 0 holds) (omega (arith, room-for room)), refl),
+      refl,
+    );
+    begun = begun;
+    place = here;
+    right = tt;
+    values = refl;
+  }
+  array-begins (suc left) w next holds room follows =
+      let count : suc left ≡ 0 + suc left = omega arith in
+      record {
+        standing = item_due (a_member w left no_spellings ∷ ls);
+        stands = (
+          (room-for room, (subst (Holds w) count holds, tt), levels),
+          ap (λ (x : List ℕ). bytes_before ls ++ x) (ap (head majors.Array w) count ∙ sym (append-nil (head majors.Array w (0 + suc left)))),
+          follows,
+          refl,
+          refl,
+        );
+        begun = (here, begun);
+        place = tt;
+        right = tt;
+        values = refl;
+      }
+
+  map-begins : (k : ℕ) (w : Width) (next : Place) → Holds w k → length fs < b.depth → next ≡ expect (k + k) fs → IsPlaced o b.depth (bytes_before ls ++ head majors.Map w k) next (an_open_map [] ∷ opens o ls) (suc (length ls)) xs (trees.a_map [] ∷ level_values ls)
+  map-begins zero w next holds room follows = record {
+    standing = item_full ls (a_map w no_entries);
+    stands = (
+      levels,
+      ap (λ (x : List ℕ). bytes_before ls ++ x) (sym (append-nil (head majors.Map w 0)) ∙ sym (map_bytes-whole w 0 no_entries (closes w (is-definite w 0 holds)) refl)),
+      follows,
+      (_, full-map o (b.depth - length ls) 0 w no_entries [] refl tt (open_or w 0 holds) (omega (arith, room-for room)) (omega arith), refl),
+      refl,
+    );
+    begun = begun;
+    place = here;
+    right = tt;
+    values = refl;
+  }
+  map-begins (suc left) w next holds room follows =
+      let count : suc left ≡ 0 + suc left = omega arith in
+      let two : suc left + suc left ≡ suc (suc (left + left)) = omega arith in
+      record {
+        standing = item_due (a_key w left no_entries ∷ ls);
+        stands = (
+          (room-for room, (subst (Holds w) count holds, tt), levels),
+          ap (λ (x : List ℕ). bytes_before ls ++ x) (ap (head majors.Map w) count ∙ sym (append-nil (head majors.Map w (0 + suc left)))),
+          follows ∙ ap (λ (x : ℕ). expect x fs) two,
+          refl,
+          refl,
+        );
+        begun = (here, begun);
+        place = tt;
+        right = tt;
+        values = refl;
+      }
+
+  module _ (t x : List ℕ) (e : ItemEventsView) (w : Width) (t_is : t ≡ bytes_before ls) where
+    -- a container begins
+    pub opens-by : (kind : EventKind) (m : Major) (k : ℕ) → (i : IsCome b fs t x e w kind) → Begins kind m k → IsPlaced o b.depth (bytes_before ls ++ x) i.next (opened m k ∷ opens o ls) (suc (length ls)) xs (trees.opened m k ∷ level_values ls)
+    opens-by (kinds.Array (Some n)) m k i g =
+        let d = definite b.depth fs majors.Array w n x i.next (proper-definite w i.proper) i.taking in
+        subst (λ (z : Major). IsPlaced o b.depth (bytes_before ls ++ x) i.next (opened z k ∷ opens o ls) (suc (length ls)) xs (trees.opened z k ∷ level_values ls)) (sym g.0)
+        (subst (λ (y : List ℕ). IsPlaced o b.depth (bytes_before ls ++ y) i.next (an_array 0 [] ∷ opens o ls) (suc (length ls)) xs (trees.an_array [] ∷ level_values ls)) (sym d.bytes_are) (array-begins n w i.next d.holds d.follows.0 d.follows.1))
+    opens-by (kinds.Map (Some n)) m k i g =
+        let d = definite b.depth fs majors.Map w n x i.next (proper-definite w i.proper) i.taking in
+        subst (λ (z : Major). IsPlaced o b.depth (bytes_before ls ++ x) i.next (opened z k ∷ opens o ls) (suc (length ls)) xs (trees.opened z k ∷ level_values ls)) (sym g.0)
+        (subst (λ (y : List ℕ). IsPlaced o b.depth (bytes_before ls ++ y) i.next (an_open_map [] ∷ opens o ls) (suc (length ls)) xs (trees.a_map [] ∷ level_values ls)) (sym d.bytes_are) (map-begins n w i.next d.holds d.follows.0 d.follows.1))
+    opens-by (kinds.Tag n) m k i g =
+        let d = definite b.depth fs majors.Tag w n x i.next (never-open b.depth fs majors.Tag w n x i.next tt i.taking) i.taking in
+        subst (λ (z : Major). IsPlaced o b.depth (bytes_before ls ++ x) i.next (opened z k ∷ opens o ls) (suc (length ls)) xs (trees.opened z k ∷ level_values ls)) (sym g.0)
+        (subst (λ (j : ℕ). IsPlaced o b.depth (bytes_before ls ++ x) i.next (opened majors.Tag j ∷ opens o ls) (suc (length ls)) xs (trees.opened majors.Tag j ∷ level_values ls)) (sym g.1)
+        (subst (λ (y : List ℕ). IsPlaced o b.depth (bytes_before ls ++ y) i.next (opened majors.Tag n ∷ opens o ls) (suc (length ls)) xs (trees.opened majors.Tag n ∷ level_values ls)) (sym d.bytes_are)
+        (record { standing = item_due (tagged w n ∷ ls); stands = ((room-for d.follows.0, d.holds, levels), refl, d.follows.1, refl, refl); begun = (here, begun); place = tt; right = tt; values = refl })))
+    opens-by (kinds.Array None) m k i g =
+        let taking = subst (λ (v : Width). IsTaking b.depth (at_item fs) (a_head majors.Array v 0) x i.next) i.proper i.taking in
+        subst (λ (z : Major). IsPlaced o b.depth (bytes_before ls ++ x) i.next (opened z k ∷ opens o ls) (suc (length ls)) xs (trees.opened z k ∷ level_values ls)) (sym g.0)
+        (record {
+          standing = item_due (some_member no_spellings ∷ ls);
+          stands = ((room-for taking.2.0, tt, levels), ap (λ (y : List ℕ). bytes_before ls ++ y) (taking.1 ∙ sym (append-nil (head majors.Array Indefinite 0))), taking.2.1, refl, refl);
+          begun = (here, begun);
+          place = tt;
+          right = tt;
+          values = refl;
+        })
+    opens-by (kinds.Map None) m k i g =
+        let taking = subst (λ (v : Width). IsTaking b.depth (at_item fs) (a_head majors.Map v 0) x i.next) i.proper i.taking in
+        subst (λ (z : Major). IsPlaced o b.depth (bytes_before ls ++ x) i.next (opened z k ∷ opens o ls) (suc (length ls)) xs (trees.opened z k ∷ level_values ls)) (sym g.0)
+        (record {
+          standing = item_due (some_key no_entries ∷ ls);
+          stands = ((room-for taking.2.0, tt, levels), ap (λ (y : List ℕ). bytes_before ls ++ y) (taking.1 ∙ sym (append-nil (head majors.Map Indefinite 0))), taking.2.1, refl, refl);
+          begun = (here, begun);
+          place = tt;
+          right = tt;
+          values = refl;
+        })
+    opens-by (kinds.Unsigned n) m k i g = absurd g
+    opens-by (kinds.Negative n) m k i g = absurd g
+    opens-by (kinds.Simple n) m k i g = absurd g
+    opens-by (kinds.Bytes n) m k i g = absurd g
+    opens-by (kinds.Text n) m k i g = absurd g
+    opens-by (kinds.Chunk n) m k i g = absurd g
+    opens-by (kinds.Piece n) m k i g = absurd g
+    opens-by kinds.End m k i g = absurd g
+
+-- the break
+pub breaks : (o : KeyOrder) (b : Bounds) (ls : List Level) (next : Place) (xs : List ℕ) → AreLevels b.depth ls → HaveBegun xs ls → length (bytes_before ls) < 2 ^ 63 → Ends (map frame ls) next
+    → IsPlaced o b.depth (bytes_before ls ++ 0xff ∷ []) next (opens o ls) (length ls) xs (level_values ls)
+breaks o b [] next xs h begun s x = absurd x
+breaks o b (some_member done ∷ ms) next xs h begun s x = record {
+  standing = item_full ms (array Indefinite done);
+  stands = (
+    h.2,
+    append_assoc (bytes_before ms) (head majors.Array Indefinite 0 ++ spell_all done) (0xff ∷ []),
+    x,
+    (_, full-array o (b.depth - length ms) (b.depth - suc (length ms)) Indefinite done (spellings_count done) _ refl refl h.1 tt (omega (arith, h.0)), refl),
+    refl,
+  );
+  begun = begun.1;
+  place = begun.0;
+  right = tt;
+  values = refl;
+}
+breaks o b (some_key done ∷ ms) next xs h begun s x = record {
+  standing = item_full ms (a_map Indefinite done);
+  stands = (
+    h.2,
+    append_assoc (bytes_before ms) (head majors.Map Indefinite 0 ++ spell_entries done) (0xff ∷ []),
+    x,
+    (
+      _,
+      full-map o (b.depth - length ms) (b.depth - suc (length ms)) Indefinite done _ refl h.1 tt (omega (arith, h.0))
+          (omega (arith, s, length-append (bytes_before ms) (head majors.Map Indefinite 0 ++ spell_entries done), length-append (head majors.Map Indefinite 0) (spell_entries done))),
+      refl,
+    ),
+    refl,
+  );
+  begun = begun.1;
+  place = begun.0;
+  right = tt;
+  values = refl;
+}
+breaks o b (some_value done k ∷ ms) next xs h begun s x = absurd x
+breaks o b (a_member w left done ∷ ms) next xs h begun s x = absurd x
+breaks o b (a_key w left done ∷ ms) next xs h begun s x = absurd x
+breaks o b (a_value w left done k ∷ ms) next xs h begun s x = absurd x
+breaks o b (tagged w n ∷ ms) next xs h begun s x = absurd x

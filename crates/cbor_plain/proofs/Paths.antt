@@ -1,0 +1,102 @@
+-- From part to part of an item: which keys are known to differ, and where each open item began.
+use Rattle.std.proofs.Common.{◌≡◌, ◌≢◌, ℕ, zero, suc, ◌<◌, ◌≤◌, List, [], ◌∷◌, ◌++◌, length, get_or, set, sym, ◌∙◌, inl, inr, arith}
+use Rattle.std.specs.List.{AllByRecursion}
+use Rattle.std.proofs.lemmas.List.{get_or-set_same, get_or-set_other}
+use Rattle.cbor_head.specs.Canonical.{Pair}
+use Rattle.cbor_head.specs.Spelling.{Spelling}
+use Rattle.cbor_head.specs.declared.major.Major.{Major}
+use Rattle.cbor_head.specs.declared.major.Major.TheVariants as majors
+use Rattle.cbor_head.specs.declared.order.KeyOrder.{KeyOrder}
+use Rattle.cbor_builder.specs.Built.{HasKey, IsRepeatedKey, IsContainer}
+use Rattle.cbor_canonical.specs.Pairs.{HasDistinctBytes}
+use Rattle.cbor_canonical.specs.Parts.{Open, plain, an_array, a_map, a_key, a_string, pair, closed, give, close, opened, HasNoRepeats}
+use Rattle.cbor_judging.specs.Levels as levels
+use Rattle.cbor_judging.specs.Levels.{Level, bytes_before, settle}
+use Rattle.cbor_plain.specs.inner.PlainItems.{HasKeysApart, AreApart, AreApartSoFar, HaveBegun, HaveBegunIn, HasItsPlace}
+
+-- ---- keys
+
+-- one pair more, whose key is none of these
+pub distinct-more : (ps : List Pair) (k b : List ℕ) → HasDistinctBytes ps → (HasKey ps k → ⊥) → HasDistinctBytes (ps ++ pair k b ∷ [])
+distinct-more [] k b h fresh = (tt, tt)
+distinct-more (p ∷ ps) k b h fresh = (all ps h.0, distinct-more ps k b h.1 (λ x. fresh (inr x)))
+  where
+    all : (qs : List Pair) → AllByRecursion (λ q. q.key ≢ p.key) qs → AllByRecursion (λ q. q.key ≢ p.key) (qs ++ pair k b ∷ [])
+    all [] g = ((λ e. fresh (inl (sym e))), tt)
+    all (q ∷ qs) g = (g.0, all qs g.1)
+
+pub given-apart : (b : List ℕ) (os : List Open) → AreApart os → AreApartSoFar (give b os)
+given-apart b [] h = tt
+given-apart b (plain bs ∷ os) h = (tt, h.2)
+given-apart b (an_array n bs ∷ os) h = (tt, h.2)
+given-apart b (a_map ps ∷ os) h = (h.0, h.2)
+given-apart b (a_key ps k ∷ os) h = (distinct-more ps k b h.0 h.1, h.2)
+given-apart b (a_string m bs ∷ os) h = (tt, h.2)
+
+pub closed-apart : (o : KeyOrder) (os : List Open) → AreApartSoFar os → AreApartSoFar (close o os)
+closed-apart o [] h = tt
+closed-apart o (c ∷ os) h = given-apart (closed o c) os h.1
+
+pub opened-apart : (m : Major) (n : ℕ) (os : List Open) → IsContainer m → AreApart os → AreApartSoFar (opened m n ∷ os)
+opened-apart majors.Array n os i h = (tt, h)
+opened-apart majors.Map n os i h = (tt, h)
+opened-apart majors.Tag n os i h = (tt, h)
+opened-apart majors.Unsigned n os i h = absurd i
+opened-apart majors.Negative n os i h = absurd i
+opened-apart majors.Bytes n os i h = absurd i
+opened-apart majors.Text n os i h = absurd i
+opened-apart majors.Simple n os i h = absurd i
+
+pub so-far : (os : List Open) → AreApart os → AreApartSoFar os
+so-far [] h = tt
+so-far (c ∷ os) h = (h.0, h.2)
+
+-- the key that has just come is fresh
+pub apart-now : (os : List Open) → AreApartSoFar os → (IsRepeatedKey os → ⊥) → AreApart os
+apart-now [] h fresh = tt
+apart-now (c ∷ os) h fresh = (h.0, fresh, h.1)
+
+-- what ends has no two keys that are the same
+pub ends-apart : (c : Open) → HasKeysApart c → HasNoRepeats c
+ends-apart (a_map ps) h = h
+ends-apart (plain bs) h = tt
+ends-apart (an_array n bs) h = tt
+ends-apart (a_key ps k) h = tt
+ends-apart (a_string m bs) h = tt
+
+-- ---- places
+
+-- behind an item that is complete
+pub settled-begun : (xs : List ℕ) (ls : List Level) (s : Spelling) → HaveBegun xs ls → HaveBegunIn xs (settle ls s)
+settled-begun xs [] s h = tt
+settled-begun xs (levels.a_member w zero done ∷ ls) s h = h.1
+settled-begun xs (levels.a_member w (suc left) done ∷ ls) s h = h
+settled-begun xs (levels.some_member done ∷ ls) s h = h
+settled-begun xs (levels.a_key w left done ∷ ls) s h = h
+settled-begun xs (levels.some_key done ∷ ls) s h = h
+settled-begun xs (levels.a_value w zero done k ∷ ls) s h = h.1
+settled-begun xs (levels.a_value w (suc left) done k ∷ ls) s h = h
+settled-begun xs (levels.some_value done k ∷ ls) s h = h
+settled-begun xs (levels.tagged w n ∷ ls) s h = h.1
+
+pub settled-place : (xs : List ℕ) (ls : List Level) (s : Spelling) → HaveBegun xs ls → get_or xs (length ls) 0 ≡ length (bytes_before ls) → HasItsPlace xs (settle ls s)
+settled-place xs [] s h e = tt
+settled-place xs (levels.a_member w zero done ∷ ls) s h e = h.0
+settled-place xs (levels.a_member w (suc left) done ∷ ls) s h e = tt
+settled-place xs (levels.some_member done ∷ ls) s h e = tt
+settled-place xs (levels.a_key w left done ∷ ls) s h e = e
+settled-place xs (levels.some_key done ∷ ls) s h e = e
+settled-place xs (levels.a_value w zero done k ∷ ls) s h e = h.0
+settled-place xs (levels.a_value w (suc left) done k ∷ ls) s h e = tt
+settled-place xs (levels.some_value done k ∷ ls) s h e = tt
+settled-place xs (levels.tagged w n ∷ ls) s h e = h.0
+
+-- an item begins
+pub begun-more : (xs : List ℕ) (ls : List Level) (i place : ℕ) → length ls ≤ i → HaveBegun xs ls → HaveBegun (set xs i place) ls
+begun-more xs [] i place l h = tt
+begun-more xs (m ∷ ls) i place l h =
+    let other : length ls ≢ i = omega (arith, l) in
+    (get_or-set_other xs i (length ls) place 0 other ∙ h.0, begun-more xs ls i place (omega (arith, l)) h.1)
+
+pub begins-at : (xs : List ℕ) (i place : ℕ) → i < length xs → get_or (set xs i place) i 0 ≡ place
+begins-at xs i place l = get_or-set_same xs i place 0 l

@@ -1,0 +1,138 @@
+-- A tree builder that is given the parts of an item: what each does to the values that it holds.
+use Rattle.std.proofs.Common.{◌≡◌, zero, suc, List, [], ◌∷◌, ◌++◌, Option, Some, None, refl, sym, ap, ◌∙◌, subst}
+use Rattle.std.proofs.lemmas.Bool.{false≢true}
+use Rattle.std.specs.Prelude.{IsSome}
+use Rattle.cbor_head.specs.Spelling.{Spelling, Spellings, SpelledEntries, unsigned, negative, bytes, text, byte_chunks, text_chunks, array, a_map, tag, simple, no_spellings, a_spelling, no_entries, entry, value_of, values_of, entries_of}
+use Rattle.cbor_head.specs.Value as value
+use Rattle.cbor_head.specs.Value.{Value}
+use Rattle.cbor_item.specs.View as view
+use Rattle.cbor_item.specs.OpenValues as parts
+use Rattle.cbor_item.specs.OpenValues.{OpenItem, OpenValue, standing, the_whole, an_array, give, closed, close, TakesValue, MayEnd, CanEnd, CanHold, IsWhole}
+use Rattle.cbor_judging.specs.Frame.{with_all, with_entries}
+use Rattle.cbor_judging.specs.Levels.{Level, a_member, a_key, a_value, some_member, some_key, some_value, tagged, Standing, item_due, item_full, item_whole, settle}
+use Rattle.cbor_plain.specs.declared.plain_part.Part.{Part}
+use Rattle.cbor_plain.specs.TreeValues.{member_values, pair_values, level_value, level_values, full_value, values_at, IsContainer, IsFullRight, IsTreeAt, IsTreeStep, IsForTree, TakesTreePart, MayEndIn, IsWholeIn}
+
+-- ---- members and pairs
+
+members-more : (ss : Spellings) (s : Spelling) → member_values (with_all ss (a_spelling s no_spellings)) ≡ member_values ss ++ value_of s ∷ []
+members-more no_spellings s = refl
+members-more (a_spelling x ss) s = ap (λ (vs : List Value). value_of x ∷ vs) (members-more ss s)
+
+pairs-more : (es : SpelledEntries) (k v : Spelling) → pair_values (with_entries es (entry k v no_entries)) ≡ pair_values es ++ (value_of k, value_of v) ∷ []
+pairs-more no_entries k v = refl
+pairs-more (entry x y es) k v = ap (λ (ps : List (Value × Value)). (value_of x, value_of y) ∷ ps) (pairs-more es k v)
+
+members-are : (ss : Spellings) → view.values_of (member_values ss) ≡ values_of ss
+members-are no_spellings = refl
+members-are (a_spelling s ss) = ap (value.a_value (value_of s)) (members-are ss)
+
+pairs-are : (es : SpelledEntries) → view.entries_of (pair_values es) ≡ entries_of es
+pairs-are no_entries = refl
+pairs-are (entry k v es) = ap (value.entry (value_of k) (value_of v)) (pairs-are es)
+
+-- ---- an item is complete
+
+pub values-given : (ls : List Level) (s : Spelling) → give (value_of s) (level_values ls) ≡ values_at (settle ls s)
+values-given [] s = refl
+values-given (a_member w zero done ∷ ls) s = ap (λ (vs : List Value). an_array vs ∷ level_values ls) (sym (members-more done s))
+values-given (a_member w (suc left) done ∷ ls) s = ap (λ (vs : List Value). an_array vs ∷ level_values ls) (sym (members-more done s))
+values-given (some_member done ∷ ls) s = ap (λ (vs : List Value). an_array vs ∷ level_values ls) (sym (members-more done s))
+values-given (a_key w left done ∷ ls) s = refl
+values-given (some_key done ∷ ls) s = refl
+values-given (a_value w zero done k ∷ ls) s = ap (λ (ps : List (Value × Value)). parts.a_map ps ∷ level_values ls) (sym (pairs-more done k s))
+values-given (a_value w (suc left) done k ∷ ls) s = ap (λ (ps : List (Value × Value)). parts.a_map ps ∷ level_values ls) (sym (pairs-more done k s))
+values-given (some_value done k ∷ ls) s = ap (λ (ps : List (Value × Value)). parts.a_map ps ∷ level_values ls) (sym (pairs-more done k s))
+values-given (tagged w n ∷ ls) s = refl
+
+pub settles-right : (ls : List Level) (s : Spelling) → IsFullRight (settle ls s)
+settles-right [] s = tt
+settles-right (a_member w zero done ∷ ls) s = tt
+settles-right (a_member w (suc left) done ∷ ls) s = tt
+settles-right (some_member done ∷ ls) s = tt
+settles-right (a_key w left done ∷ ls) s = tt
+settles-right (some_key done ∷ ls) s = tt
+settles-right (a_value w zero done k ∷ ls) s = tt
+settles-right (a_value w (suc left) done k ∷ ls) s = tt
+settles-right (some_value done k ∷ ls) s = tt
+settles-right (tagged w n ∷ ls) s = tt
+
+-- from one place to another
+pub tree-step : (f : List OpenValue → List OpenValue) (old new : Option (List OpenItem)) (x y : Standing) → IsTreeAt old x → IsTreeStep f old new → f (values_at x) ≡ values_at y → IsFullRight y → IsTreeAt new y
+tree-step f None None x y h step is right = tt
+tree-step f None (Some ns) x y h step is right = absurd step
+tree-step f (Some os) None x y h step is right = absurd step
+tree-step f (Some os) (Some ns) x y h step is right = (right, step ∙ ap f h.1 ∙ is)
+
+-- ---- a container ends
+
+full-closed : (s : Spelling) → closed (full_value s) ≡ value_of s
+full-closed (unsigned w n) = refl
+full-closed (negative w n) = refl
+full-closed (bytes w p) = refl
+full-closed (text w p) = refl
+full-closed (byte_chunks cs) = refl
+full-closed (text_chunks cs) = refl
+full-closed (array w ss) = ap value.array (members-are ss)
+full-closed (a_map w es) = ap value.map (pairs-are es)
+full-closed (tag w n s) = refl
+full-closed (simple n) = refl
+
+pub full-ends : (s : Spelling) → IsContainer s → CanEnd (full_value s)
+full-ends (array w ss) h = tt
+full-ends (a_map w es) h = tt
+full-ends (tag w n s) h = tt
+full-ends (unsigned w n) h = absurd h
+full-ends (negative w n) h = absurd h
+full-ends (bytes w p) h = absurd h
+full-ends (text w p) h = absurd h
+full-ends (byte_chunks cs) h = absurd h
+full-ends (text_chunks cs) h = absurd h
+full-ends (simple n) h = absurd h
+
+level-holds : (l : Level) → CanHold (level_value l)
+level-holds (a_member w left done) = tt
+level-holds (a_key w left done) = tt
+level-holds (a_value w left done k) = tt
+level-holds (some_member done) = tt
+level-holds (some_key done) = tt
+level-holds (some_value done k) = tt
+level-holds (tagged w n) = refl
+
+pub levels-take : (ls : List Level) → TakesValue (level_values ls)
+levels-take [] = refl
+levels-take (l ∷ ls) = level-holds l
+
+pub may-end : (c : OpenValue) (ls : List Level) → CanEnd c → MayEnd (c ∷ level_values ls)
+may-end c [] h = (h, refl)
+may-end c (l ∷ ls) h = (h, level-holds l)
+
+-- a part may begin
+pub tree-takes : (part : Part) (tree : Option (List OpenItem)) (ls : List Level) → IsForTree part → IsTreeAt tree (item_due ls) → TakesTreePart part tree
+tree-takes part None ls fits h = tt
+tree-takes part (Some os) ls fits h = (fits, subst TakesValue (sym h.1) (levels-take ls))
+
+pub tree-may-end : (tree : Option (List OpenItem)) (ls : List Level) (s : Spelling) → IsTreeAt tree (item_full ls s) → MayEndIn tree
+tree-may-end None ls s h = tt
+tree-may-end (Some os) ls s h = subst MayEnd (sym h.1) (may-end (full_value s) ls (full-ends s h.0))
+
+pub values-ended : (ls : List Level) (s : Spelling) → close (values_at (item_full ls s)) ≡ values_at (settle ls s)
+values-ended ls s = ap (λ (v : Value). give v (level_values ls)) (full-closed s) ∙ values-given ls s
+
+pub step-kept : (f : List OpenValue → List OpenValue) (old new : Option (List OpenItem)) → IsTreeStep f old new → IsSome old → IsSome new
+step-kept f None None step some = some
+step-kept f None (Some ns) step some = absurd step
+step-kept f (Some os) None step some = absurd step
+step-kept f (Some os) (Some ns) step some = refl
+
+pub whole-in : (tree : Option (List OpenItem)) (s : Spelling) → IsSome tree → IsTreeAt tree (item_whole s) → IsWholeIn tree
+whole-in None s some h = absurd (false≢true some)
+whole-in (Some os) s some h = subst IsWhole (sym h.1) tt
+
+-- no item is asked for
+pub no-tree : (tree : Option (List OpenItem)) (x : Standing) → tree ≡ None → IsTreeAt tree x
+no-tree tree x e = subst (λ (o : Option (List OpenItem)). IsTreeAt o x) (sym e) tt
+
+-- one is asked for, of which nothing came
+pub new-tree : (tree : Option (List OpenItem)) (os : List OpenItem) → tree ≡ Some os → standing os ≡ the_whole [] ∷ [] → IsTreeAt tree (item_due [])
+new-tree tree os e h = subst (λ (o : Option (List OpenItem)). IsTreeAt o (item_due [])) (sym e) (tt, h)

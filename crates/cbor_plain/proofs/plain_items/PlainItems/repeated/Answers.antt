@@ -1,0 +1,26 @@
+use Rattle.std.proofs.Common.{◌∷◌, refl, subst}
+use Rattle.std.specs.Prelude.{reverse}
+use Rattle.cbor_plain.specs.inner.HeldKeys.{IsAdded}
+use Rattle.cbor_plain.proofs.HeldKeys.{none-waits, keys_at_top, top-held, fresh-key, old-key}
+use Rattle.cbor_plain.proofs.plain_items.PlainItems.repeated.Goals as goal
+
+pub returns-in_default-clause-answers : goal.returns-in_default-clause-answers
+returns-in_default-clause-answers c = λ h. let s = c.args.self.now in none-waits (s.keys ∷ reverse s.outer.items) s.builder.standing c.in_default.ensures h
+
+pub returns-then-branch-clause-answers : goal.returns-then-branch-clause-answers
+returns-then-branch-clause-answers c = λ h.
+    let s = c.args.self.now in
+    let ss = reverse s.outer.items in
+    let os = s.builder.standing in
+    fresh-key s.keys c.add.new.self ss os c.in-Some.key.now c.in-Some.ensures h
+    (subst (IsAdded c.in-Some.key.now (keys_at_top os) c.add.new.self) c.if-branch.true (c.in_ok-add.ensures (keys_at_top os) (top-held s.keys ss os h)))
+
+pub returns-clause-answers : goal.returns-clause-answers
+returns-clause-answers c = λ h.
+    let s = c.args.self.now in
+    let ss = reverse s.outer.items in
+    let os = s.builder.standing in (
+      old-key os c.in-Some.key.now c.add.new.self c.in-Some.ensures
+          (subst (IsAdded c.in-Some.key.now (keys_at_top os) c.add.new.self) c.if-branch.false (c.in_ok-add.ensures (keys_at_top os) (top-held s.keys ss os h))),
+      refl,
+    )

@@ -1,0 +1,16 @@
+use Rattle.std.proofs.Common.{ℕ, List, ◌-◌}
+use Rattle.cbor_head.specs.Limits.{Bounds}
+use Rattle.cbor_head.specs.declared.width.Width.{Width}
+use Rattle.cbor_judging.specs.Place.{Container}
+use Rattle.std.specs.Prelude.{None}
+use Rattle.cbor_judging.specs.Reading.{IsBegun, string_kind}
+use Rattle.cbor_head.specs.Complaint.{plain}
+use Rattle.cbor_judging.proofs.ChunkedStrings.{IsReadingChunks}
+use Rattle.cbor_plain.proofs.strings.read_chunks.Given as goal
+
+abbrev pub invariant-chunks : goal.invariant-chunks
+invariant-chunks g l = (b : Bounds) (fs : List Container) (t x : List ℕ) (w : Width) → IsBegun plain b fs t x l.fn.events w (string_kind l.fn.text None)
+    → IsReadingChunks plain b fs t x l.fn.text l.content.items (g.R.Read.remaining l.fn.reader) (g.R.Read.remaining l.reader) l.events
+
+abbrev pub decreases-chunks : goal.decreases-chunks
+decreases-chunks g l = l.events.machine.bytes - l.events.machine.taken

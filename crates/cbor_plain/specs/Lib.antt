@@ -1,0 +1,4 @@
+pub mod Front
+pub mod inner
+pub mod Size
+pub mod TreeValues

@@ -1,0 +1,128 @@
+-- What the plain reader keeps: what a builder holds, in which no two keys of an open map are the same, and where each open
+-- item began.
+use Rattle.std.specs.Prelude.{ℕ, suc, ◌≡◌, ◌<◌, ◌++◌, List, [], ◌∷◌, length, reverse, slice_index_or, Option, Result, OnOk, IfOk, MatchOption, IsSome}
+use Rattle.cbor_head.specs.Complaint.{plain}
+use Rattle.cbor_head.specs.Head.{shortest_head, IsSimple}
+use Rattle.cbor_head.specs.Limits.{Bounds}
+use Rattle.cbor_head.specs.declared.major.Major.TheVariants as majors
+use Rattle.cbor_standing.specs.NextEvent.{ItemEventsView}
+use Rattle.cbor_judging.specs.Place.{Place}
+use Rattle.cbor_builder.specs.Built.{Built, built, TakesPart, IsContainer, IsLeaf, IsRepeatedKey}
+use Rattle.cbor_canonical.specs.Pairs.{HasDistinctBytes}
+use Rattle.cbor_canonical.specs.Parts.{Open, a_map, a_key, give, opened}
+use Rattle.cbor_plain.specs.declared.plain_items.PlainItems.{PlainItems}
+use Rattle.cbor_plain.specs.declared.plain_part.Part.{Part}
+use Rattle.cbor_plain.specs.declared.plain_part.Part.TheVariants.{Leaf, String, Begin, Break}
+use Rattle.cbor_plain.specs.declared.key_set.KeySet.{KeySet}
+use Rattle.cbor_plain.specs.inner.HeldKeys.{HasKeyBytes, AreHeld, AreHeldSoFar}
+use Rattle.cbor_judging.specs.Kinds.{KeepsToKinds}
+use Rattle.cbor_judging.specs.Levels as levels
+use Rattle.cbor_judging.specs.Levels.{Level, bytes_before, Standing, item_due, item_full, item_whole}
+use Rattle.cbor_judging.specs.Given.{StandsAt}
+use Rattle.cbor_judging.specs.Reading.{IsAt, string_major}
+use Rattle.cbor_plain.specs.TreeValues.{IsTreeAt}
+
+-- ---- keys
+
+-- no two keys of complete pairs are the same
+abbrev pub HasKeysApart : Open → Type 0
+HasKeysApart (a_map ps) = HasDistinctBytes ps
+HasKeysApart (a_key ps k) = HasDistinctBytes ps
+HasKeysApart c = Unit {0}
+
+-- nor is one that waits for its value the same as one of these
+abbrev pub AreApart : List Open → Type 0
+AreApart [] = Unit {0}
+AreApart (c ∷ os) = HasKeysApart c × (IsRepeatedKey (c ∷ os) → ⊥) × AreApart os
+
+-- but for a key that has just come
+abbrev pub AreApartSoFar : List Open → Type 0
+AreApartSoFar [] = Unit {0}
+AreApartSoFar (c ∷ os) = HasKeysApart c × AreApart os
+
+-- ---- sets of keys
+
+-- the innermost first
+abbrev pub sets : PlainItems → List KeySet
+sets v = v.keys ∷ reverse v.outer.items
+
+-- one more, of no keys
+pub record AreKeysOpened (old new : List KeySet) : Type 0 where
+  pub fresh : KeySet
+  pub none : HasKeyBytes fresh []
+  pub are : new ≡ fresh ∷ old
+
+-- where so many containers open
+pub record AreKeysBegun (count : ℕ) (old new : List KeySet) : Type 0 where
+  pub same : count ≡ 0 → new ≡ old
+  pub opened : 0 < count → AreKeysOpened old new
+
+-- of a key that has just come: it is fresh, and in its set now; or where it began
+abbrev pub AnswersKey : {E : Type 0} → PlainItems → PlainItems → ℕ → Result (Option ℕ) E → Type 0
+AnswersKey old new count result =
+    AreHeldSoFar (sets old) old.builder.standing
+    → IfOk result (λ o. MatchOption o
+    (AreHeld (sets new) new.builder.standing × (IsRepeatedKey new.builder.standing → ⊥))
+    (λ place. IsRepeatedKey old.builder.standing × (place ≡ slice_index_or old.starts count 0)))
+
+-- ---- places
+
+-- where each open container began
+abbrev pub HaveBegun : List ℕ → List Level → Type 0
+HaveBegun xs [] = Unit {0}
+HaveBegun xs (l ∷ ls) = (slice_index_or xs (length ls) 0 ≡ length (bytes_before ls)) × HaveBegun xs ls
+
+abbrev pub HaveBegunIn : List ℕ → Standing → Type 0
+HaveBegunIn xs (item_due ls) = HaveBegun xs ls
+HaveBegunIn xs (item_full ls s) = HaveBegun xs ls
+HaveBegunIn xs (item_whole s) = Unit {0}
+
+-- where the item began that has just ended, if it is a container's or a key
+abbrev pub HasItsPlace : List ℕ → Standing → Type 0
+HasItsPlace xs (item_full ls s) = slice_index_or xs (length ls) 0 ≡ length (bytes_before ls)
+HasItsPlace xs (item_due (levels.a_value w left done k ∷ ls)) = slice_index_or xs (suc (length ls)) 0 ≡ length (bytes_before (levels.a_key w left done ∷ ls))
+HasItsPlace xs (item_due (levels.some_value done k ∷ ls)) = slice_index_or xs (suc (length ls)) 0 ≡ length (bytes_before (levels.some_key done ∷ ls))
+HasItsPlace xs _ = Unit {0}
+
+-- ---- parts
+
+abbrev pub CanTake : Built → Part → Type 0
+CanTake g (Leaf m n) = IsLeaf m × (m ≡ majors.Simple → IsSimple n) × TakesPart g.standing
+CanTake g (String is_text content) = TakesPart g.standing
+CanTake g (Begin m n) = IsContainer m × TakesPart g.standing
+CanTake g Break = Unit {0}
+
+abbrev pub IsGiven : Built → Part → Built → ℕ → Type 0
+IsGiven g (Leaf m n) now count = (now ≡ built g.order (give (shortest_head m n) g.standing)) × (count ≡ 0)
+IsGiven g (String is_text content) now count =
+    (now ≡ built g.order (give (shortest_head (string_major is_text) (length content.items) ++ content.items) g.standing)) × (count ≡ 0)
+IsGiven g (Begin m n) now count = (now ≡ built g.order (opened m n ∷ g.standing)) × (count ≡ 1)
+IsGiven g Break now count = (now ≡ g) × (count ≡ 0)
+
+-- ---- containers that end
+
+-- so many are open in the builder, where the events have these bytes
+pub record IsEndingAt (v : PlainItems) (b : Bounds) (e : ItemEventsView) (t : List ℕ) (height : ℕ) : Type 0 where
+  pub q : Place
+  pub at : IsAt b e t q
+  pub standing : Standing
+  pub stands : StandsAt v.builder.order b.depth t q v.builder.standing height standing
+  pub apart : AreApartSoFar v.builder.standing
+  pub begun : HaveBegunIn v.starts standing
+  pub place : HasItsPlace v.starts standing
+  pub tree : IsTreeAt v.tree standing
+  pub held : AreHeldSoFar (sets v) v.builder.standing
+  pub kinds : v.kinds ≡ b.keys
+  pub keeps : KeepsToKinds b plain t
+
+pub record IsEnding (v : PlainItems) (height count : ℕ) : Type 0 where
+  pub b : Bounds
+  pub e : ItemEventsView
+  pub t : List ℕ
+  pub ending : IsEndingAt v b e t height
+  pub counted : count ≡ e.machine.open_count
+
+abbrev pub AnswersEnds : {E : Type 0} → PlainItems → PlainItems → ℕ → ℕ → Result (Unit {0}) E → Type 0
+AnswersEnds old new height count result =
+    (b : Bounds) (e : ItemEventsView) (t : List ℕ) → IsEndingAt old b e t height → count ≡ e.machine.open_count
+    → OnOk result ((new.builder.order ≡ old.builder.order) × (IsSome old.tree → IsSome new.tree) × IsEndingAt new b e t e.machine.open_count)

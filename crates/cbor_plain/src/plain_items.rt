@@ -1,0 +1,233 @@
+//! What the plain reader keeps of the items that are open, from event to event.
+
+ghost use Rattle.std.specs.Prelude.{◌≡◌, ◌<◌, ◌≤◌, ◌∷◌, ◌↔◌, [], ℕ, List, IfOk, IsSome, IsTrue, None, length};
+ghost use Rattle.std.specs.Prelude.{slice_set, OnOk, MatchOption, Option};
+ghost use Rattle.cbor_builder.specs.Built.{built, IsRepeatedKey};
+ghost use Rattle.cbor_canonical.specs.Parts.{plain};
+ghost use Rattle.cbor_head.specs.Spelling.{Spelling, value_of};
+ghost use Rattle.cbor_item.specs.View.{view};
+ghost use Rattle.cbor_judging.specs.Levels.{item_due, item_whole};
+ghost use Rattle.cbor_plain.specs.TreeValues.{IsTreeAt, IsTreeStep, IsWholeIn, TakesTreePart};
+ghost use Rattle.cbor_plain.specs.TreeValues.{values_with};
+ghost use Rattle.cbor_plain.specs.declared.key_set.KeySet.{KeySet as KeySetView};
+ghost use Rattle.cbor_plain.specs.inner.HeldKeys.{AreHeld};
+ghost use Rattle.cbor_plain.specs.inner.PlainItems.{CanTake, IsGiven, IsEnding, AnswersEnds};
+ghost use Rattle.cbor_plain.specs.inner.PlainItems.{sets, AreKeysBegun, AreKeysOpened, AnswersKey};
+ghost use Rattle.cbor_plain.specs.inner.PlainFront.{IsDueSomewhere, AnswersDue};
+
+use crate::key_set::KeySet;
+use crate::next_head::next_head;
+use crate::plain_part::Part;
+use crate::tree_parts::{end_in_tree, give_to_tree};
+use cbor_automaton::Event;
+use cbor_builder::CanonBuilder;
+use cbor_events::ItemEvents;
+use cbor_head::{KeyOrder, Keys, MAX_DEPTH, Major, Refusal};
+use cbor_item::{Item, TreeBuilder};
+use std::alloc::{AllocError, Global};
+use std::io::Read;
+use std::mem;
+
+// An item may stand in no container.
+const PLACES: usize = MAX_DEPTH as usize + 1;
+
+/// The canonical bytes of what came, and where each open item began.
+#[derive(Drop)]
+pub(crate) struct PlainItems {
+    builder: CanonBuilder,
+    // The item itself, where it is asked for.
+    tree: Option<TreeBuilder>,
+    // Which kinds of keys maps may have.
+    kinds: Keys,
+    // At the number of containers around it, where the last item began that came there.
+    starts: [u64; PLACES],
+    // The keys of the innermost open container that came, and of those around it, the whole first.
+    keys: KeySet,
+    outer: Vec<KeySet>,
+}
+
+impl PlainItems {
+    // Nothing came; with a builder of trees the item is to be made too.
+    pub(crate) fn new(
+        alloc: Global,
+        order: KeyOrder,
+        kinds: Keys,
+        tree: Option<TreeBuilder>,
+    ) -> PlainItems
+        ensures built { result.builder ≡ built order (plain [] ∷ []) }
+        ensures starts { length result.starts ≡ PLACES }
+        ensures held { AreHeld (sets result) (plain [] ∷ []) }
+        ensures tree { result.tree ≡ tree }
+        ensures kinds { result.kinds ≡ kinds }
+    {
+        PlainItems {
+            builder: CanonBuilder::new(alloc, order),
+            tree,
+            kinds,
+            starts: [0; PLACES],
+            keys: KeySet::new(alloc),
+            outer: Vec::new(alloc),
+        }
+    }
+
+    // The head of the item that is due, or a break. A key whose kind is asked for is judged at its
+    // first byte.
+    pub(crate) fn next_head<R: Read>(
+        &self,
+        events: &mut ItemEvents,
+        reader: &mut R,
+    ) -> Result<Event, Refusal>
+        requires { IsDueSomewhere self.now events.old }
+        ensures { AnswersDue self.now events.old
+            (R.remaining reader.old) (R.remaining reader.new) events.new result }
+    {
+        match self.kinds {
+            Keys::Any => return next_head(events, reader),
+            Keys::IntegersAndTexts => {}
+        }
+        if !self.builder.is_key_due() {
+            return next_head(events, reader);
+        }
+        match events.next_key(reader) {
+            Ok(Some(event)) => Ok(event),
+            Ok(None) => unreachable!(),
+            Err(refusal) => Err(refusal),
+        }
+    }
+
+    // An item begins within so many containers.
+    pub(crate) fn begin_at(&mut self, height: usize, place: u64)
+        requires { height < length self.old.starts }
+        ensures same { self.new.builder ≡ self.old.builder }
+        ensures tree { self.new.tree ≡ self.old.tree }
+        ensures kinds { self.new.kinds ≡ self.old.kinds }
+        ensures sets { sets self.new ≡ sets self.old }
+        ensures starts { self.new.starts ≡ slice_set self.old.starts height place }
+    {
+        self.starts[height] = place;
+    }
+
+    // The next part of the item; answers how many containers it opens.
+    pub(crate) fn give(&mut self, alloc: Global, part: Part) -> Result<usize, AllocError>
+        requires bytes { CanTake self.old.builder part }
+        requires tree { TakesTreePart part self.old.tree }
+        ensures same { self.new.starts ≡ self.old.starts }
+        ensures kinds { self.new.kinds ≡ self.old.kinds }
+        ensures given { IfOk result (λ opened. IsGiven self.old.builder part self.new.builder opened) }
+        ensures tree { IfOk result (λ _. IsTreeStep (values_with part) self.old.tree self.new.tree) }
+        ensures sets { IfOk result (λ opened. AreKeysBegun opened (sets self.old) (sets self.new)) }
+    {
+        let opened = give_to_builder(&mut self.builder, &part)?;
+        give_to_tree(&mut self.tree, part)?;
+        if opened > 0 {
+            let around = mem::replace(&mut self.keys, KeySet::new(alloc));
+            self.outer.push(around)?;
+        }
+        Ok(opened)
+    }
+
+    // The innermost container ends.
+    fn end_keys(&mut self)
+        ensures same { (self.new.builder ≡ self.old.builder)
+            × (self.new.starts ≡ self.old.starts) × (self.new.tree ≡ self.old.tree)
+            × (self.new.kinds ≡ self.old.kinds) }
+        ensures sets { (s t : KeySetView) (ss : List KeySetView)
+            → sets self.old ≡ s ∷ t ∷ ss → sets self.new ≡ t ∷ ss }
+    {
+        if let Some(around) = self.outer.pop() {
+            self.keys = around;
+        }
+    }
+
+    // Ends the containers that are full, the innermost first, where so many are open, and so many
+    // of these go on.
+    pub(crate) fn end_full(&mut self, height: usize, open: usize) -> Result<(), AllocError>
+        requires { IsEnding self.old height «open» }
+        ensures same { self.new.starts ≡ self.old.starts }
+        ensures ends { AnswersEnds self.old self.new height «open» result }
+    {
+        let mut left = height;
+        'full: while left > open {
+            self.builder.end()?;
+            end_in_tree(&mut self.tree)?;
+            self.end_keys();
+            left -= 1;
+        }
+        Ok(())
+    }
+
+    // Where the key began that has just come, if it is the same as an earlier key of its map; else
+    // it is one of them now. So many containers are open.
+    pub(crate) fn repeated(&mut self, alloc: Global, open: usize) -> Result<Option<u64>, AllocError>
+        requires { «open» < length self.old.starts }
+        ensures same { (self.new.builder ≡ self.old.builder)
+            × (self.new.starts ≡ self.old.starts) × (self.new.tree ≡ self.old.tree)
+            × (self.new.kinds ≡ self.old.kinds) }
+        ensures answers { AnswersKey self.old self.new «open» result }
+    {
+        let Some(key) = self.builder.waiting_key() else {
+            return Ok(None);
+        };
+        if self.keys.add(alloc, key)? {
+            return Ok(None);
+        }
+        Ok(Some(self.starts[open]))
+    }
+
+    // The canonical bytes of the item, which is whole.
+    pub(crate) fn finish(self) -> Vec<u8>
+        ensures { (bs : List ℕ) → self.builder.standing ≡ plain bs ∷ [] → result.items ≡ bs }
+    {
+        let PlainItems {
+            builder,
+            tree: _,
+            kinds: _,
+            starts: _,
+            keys: _,
+            outer: _,
+        } = self;
+        builder.finish()
+    }
+
+    // The item, which is whole.
+    pub(crate) fn into_item(self) -> Item
+        requires { IsWholeIn self.tree }
+        ensures { (s : Spelling) → IsTreeAt self.tree (item_whole s) → view result ≡ value_of s }
+    {
+        let PlainItems {
+            builder: _,
+            tree,
+            kinds: _,
+            starts: _,
+            keys: _,
+            outer: _,
+        } = self;
+        match tree {
+            Some(tree) => tree.finish(),
+            None => unreachable!(),
+        }
+    }
+}
+
+// The next part for the canonical bytes; answers how many containers it opens.
+fn give_to_builder(builder: &mut CanonBuilder, part: &Part) -> Result<usize, AllocError>
+    requires { CanTake builder.old part.now }
+    ensures { IfOk result (λ opened. IsGiven builder.old part.now builder.new opened) }
+{
+    match part {
+        Part::Leaf(major, argument) => {
+            builder.leaf(*major, *argument)?;
+            Ok(0)
+        }
+        Part::String(is_text, content) => {
+            let major = if *is_text { Major::Text } else { Major::Bytes };
+            builder.string(major, content)?;
+            Ok(0)
+        }
+        Part::Begin(major, number) => {
+            builder.begin(*major, *number)?;
+            Ok(1)
+        }
+        Part::Break => Ok(0),
+    }
+}

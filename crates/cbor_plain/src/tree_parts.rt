@@ -1,0 +1,59 @@
+//! The parts of an item, given to a builder of trees where the item itself is asked for.
+
+ghost use Rattle.std.specs.Prelude.{◌≡◌, OnOk};
+ghost use Rattle.cbor_item.specs.OpenValues.{close};
+ghost use Rattle.cbor_item.specs.View.{view};
+ghost use Rattle.cbor_plain.specs.inner.PlainParts.{IsLeafMajor, leaf_value};
+ghost use Rattle.cbor_plain.specs.TreeValues.{IsTreeStep, TakesTreePart, MayEndIn, values_with};
+
+use crate::plain_part::Part;
+use cbor_head::{Major, Simple};
+use cbor_item::{Item, TreeBuilder};
+use std::alloc::AllocError;
+
+// One part more. The bytes of a string move into the tree.
+pub(crate) fn give_to_tree(tree: &mut Option<TreeBuilder>, part: Part) -> Result<(), AllocError>
+    requires { TakesTreePart part tree.old }
+    ensures { OnOk result (IsTreeStep (values_with part) tree.old tree.new) }
+{
+    let Some(tree) = tree else {
+        return Ok(());
+    };
+    match part {
+        Part::Leaf(major, argument) => tree.leaf(leaf_item(major, argument)),
+        Part::String(true, content) => {
+            // It was found to be UTF-8.
+            let text = unsafe { String::from_utf8_unchecked(content) };
+            tree.leaf(Item::Text(text))
+        }
+        Part::String(false, content) => tree.leaf(Item::Bytes(content)),
+        Part::Begin(major, number) => tree.begin(major, number),
+        Part::Break => Ok(()),
+    }
+}
+
+// The innermost container ends.
+pub(crate) fn end_in_tree(tree: &mut Option<TreeBuilder>) -> Result<(), AllocError>
+    requires { MayEndIn tree.old }
+    ensures { OnOk result (IsTreeStep close tree.old tree.new) }
+{
+    match tree {
+        Some(tree) => tree.end(),
+        None => Ok(()),
+    }
+}
+
+// An integer or a simple value.
+fn leaf_item(major: Major, argument: u64) -> Item
+    requires { IsLeafMajor major argument }
+    ensures { view result ≡ leaf_value major argument }
+{
+    match major {
+        Major::Negative => Item::Negative(argument),
+        Major::Simple => match Simple::new(argument as u8) {
+            Some(simple) => Item::Simple(simple),
+            None => unreachable!(),
+        },
+        _ => Item::Unsigned(argument),
+    }
+}
