@@ -20,8 +20,8 @@ use Rattle.cbor_judging.specs.Kinds.{KeepsToKinds}
 use Rattle.cbor_judging.specs.Levels.{item_due}
 use Rattle.cbor_judging.specs.Readers.{IsUnread}
 use Rattle.cbor_judging.specs.Reading.{Extends, StopsItem, IsFrontUnread, IsAt}
-use Rattle.cbor_plain.specs.Front.{IsFrontRead}
-use Rattle.cbor_plain.specs.inner.PlainFront.{EndInOtherKey, WhyStopped, for_memory, for_cause, for_kind, IsStopped, IsDueAt, IsWholeAt, TakesNext, IsEncodedFront}
+use Rattle.cbor_plain.specs.Front.{IsEncodedFront, IsFrontRead}
+use Rattle.cbor_plain.specs.inner.PlainFront.{EndInOtherKey, WhyStopped, for_memory, for_cause, for_kind, IsStopped, IsDueAt, IsWholeAt, TakesNext}
 use Rattle.cbor_plain.specs.inner.PlainItems.{AreApart, sets}
 use Rattle.cbor_plain.proofs.Fronts.{front-read}
 use Rattle.cbor_plain.proofs.PartKinds.{known-on}
