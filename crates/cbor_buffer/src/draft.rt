@@ -78,6 +78,7 @@ impl Draft {
     }
 
     // The bytes as they lie.
+    #[inline(always)]
     pub fn into_vec(self) -> Vec<u8>
         ensures { result.items ≡ self.buf }
     {

@@ -74,6 +74,7 @@ impl Out {
         self.buf.as_slice()
     }
 
+    #[inline(always)]
     pub(crate) fn into_vec(self) -> Vec<u8>
         ensures { result.items ≡ self }
     {

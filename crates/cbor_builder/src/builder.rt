@@ -252,6 +252,7 @@ impl Core {
 
     // The bytes, where nothing is open any more: where the parts given since `new` make a value,
     // its canonical bytes. Takes no memory.
+    #[inline(always)]
     pub(crate) fn finish(self) -> Vec<u8>
         ensures { IsLaid self → (bs : List ℕ) → standing self ≡ plain bs ∷ []
             → result.items ≡ bs }

@@ -311,6 +311,7 @@ impl CanonBuilder {
 
     /// The bytes, once the item is whole: the canonical bytes of the value that the parts make.
     /// Takes no memory.
+    #[inline(always)]
     pub fn finish(self) -> Vec<u8>
         ensures bytes { (bs : List ℕ) → self.standing ≡ plain bs ∷ [] → result.items ≡ bs }
         ensures canonical { (v : Value) (ps : List Part) → Makes v ps

@@ -1,5 +1,5 @@
 -- What ends behind a part: the containers that are full, and the item, or a key that came before.
-use Rattle.std.proofs.Common.{◌≡◌, ℕ, zero, suc, ◌+◌, ◌-◌, ◌^◌, ◌<◌, ◌≤◌, Bool, true, Option, Some, List, [], ◌∷◌, ◌++◌, length, map, get_or, refl, sym, ap, ap₂, ◌∙◌, subst, arith, append_assoc, append-nil}
+use Rattle.std.proofs.Common.{Vec, Global, ◌≡◌, ℕ, zero, suc, ◌+◌, ◌-◌, ◌^◌, ◌<◌, ◌≤◌, Bool, true, Option, Some, List, [], ◌∷◌, ◌++◌, length, map, slice_get, refl, sym, ap, ap₂, ◌∙◌, subst, arith, append_assoc, append-nil}
 use Rattle.std.specs.Prelude.{nat_lt}
 use Rattle.std.proofs.lemmas.List.{length-append, length-map}
 use Rattle.cbor_head.specs.Canonical.{canonical}
@@ -18,7 +18,6 @@ use Rattle.cbor_builder.specs.Built.{Built, built, IsRepeatedKey, HasDistinctKey
 use Rattle.cbor_canonical.specs.Parts.{IsInContainer, Open, plain as a_plain, give, close as close_open}
 use Rattle.cbor_item.specs.OpenValues.{OpenItem, close as close_in_tree}
 use Rattle.cbor_plain.specs.declared.plain_items.PlainItems.{PlainItems}
-use Rattle.cbor_plain.specs.declared.plain_items.TheConstants.{PLACES}
 use Rattle.cbor_plain.specs.declared.plain_part.Part.{Part}
 use Rattle.cbor_plain.specs.declared.plain_part.Part.TheVariants.{Leaf, String, Begin, Break}
 use Rattle.cbor_judging.specs.Judged.{IsJudged}
@@ -84,7 +83,7 @@ module _ (v : PlainItems) (b : Bounds) (e : ItemEventsView) (t : List ℕ) (heig
       apart-so : AreApartSoFar now.builder.standing
       apart-so = subst AreApartSoFar (sym (ap (λ (g : Built). g.standing) is)) (closed-apart v.builder.order v.builder.standing h.apart)
 
-      go : (x : Standing) → StandsAt v.builder.order b.depth t h.q v.builder.standing height x → HaveBegunIn v.starts x → HasItsPlace v.starts x → IsTreeAt v.tree x → IsEndingAt now b e t (height - 1)
+      go : (x : Standing) → StandsAt v.builder.order b.depth t h.q v.builder.standing height x → HaveBegunIn v.starts.items x → HasItsPlace v.starts.items x → IsTreeAt v.tree x → IsEndingAt now b e t (height - 1)
       go (item_due ls) s begun place tree = absurd (omega (arith, more, due-count ls s.2, s.4))
       go (item_whole u) s begun place tree = absurd (omega (arith, more, s.4))
       go (item_full ls u) s begun place tree =
@@ -103,8 +102,8 @@ module _ (v : PlainItems) (b : Bounds) (e : ItemEventsView) (t : List ℕ) (heig
                 (stands-as v.builder.order b.depth (settle ls u) (bytes_before ls ++ spell u) t (close (map frame ls)) h.q _ now.builder.standing (length ls) (height - 1) (sym s.1) (sym s.2) os_is (omega (arith, s.4))
                 (settled v.builder.order b.depth ls u s.0 taken short));
             apart = apart-so;
-            begun = subst (λ (xs : List ℕ). HaveBegunIn xs (settle ls u)) (sym starts) (settled-begun v.starts ls u begun);
-            place = subst (λ (xs : List ℕ). HasItsPlace xs (settle ls u)) (sym starts) (settled-place v.starts ls u begun place);
+            begun = subst (λ (xs : Vec ℕ Global). HaveBegunIn xs.items (settle ls u)) (sym starts) (settled-begun v.starts.items ls u begun);
+            place = subst (λ (xs : Vec ℕ Global). HasItsPlace xs.items (settle ls u)) (sym starts) (settled-place v.starts.items ls u begun place);
             tree = tree-step close_in_tree v.tree now.tree (item_full ls u) (settle ls u) tree step (values-ended ls u) (settles-right ls u);
             held = subst (AreHeldSoFar (sets now)) (ap (close_open v.builder.order) (sym s.3.2) ∙ sym (ap (λ (g : Built). g.standing) is))
                 (held-popped v.builder.order (sets v) (sets now) c (opens v.builder.order ls) (some-opens v.builder.order ls) popped (subst (AreHeldSoFar (sets v)) s.3.2 h.held));
@@ -125,7 +124,7 @@ module _ (v : PlainItems) (b : Bounds) (e : ItemEventsView) (t : List ℕ) (heig
 
 module _ (v : PlainItems) (b : Bounds) (e : ItemEventsView) (t : List ℕ) (h : IsEndingAt v b e t e.machine.open_count) (some : 0 < length t) where
   -- the key that has come is the same as an earlier one
-  pub repeated-key : (place : ℕ) (f : Refusal) → IsRepeatedKey v.builder.standing → place ≡ get_or v.starts e.machine.open_count 0 → f ≡ refusal RepeatedKey place e.machine.taken → (from to : Option (List ℕ)) → WhyStopped plain b t from to f
+  pub repeated-key : (place : ℕ) (f : Refusal) → IsRepeatedKey v.builder.standing → ((at : ℕ) → slice_get v.starts.items e.machine.open_count ≡ Some at → place ≡ at) → f ≡ refusal RepeatedKey place e.machine.taken → (from to : Option (List ℕ)) → WhyStopped plain b t from to f
   repeated-key place f repeated place_is is from to = go h.standing h.stands h.place
     where
       few-bytes : length t < 2 ^ 63
@@ -145,7 +144,7 @@ module _ (v : PlainItems) (b : Bounds) (e : ItemEventsView) (t : List ℕ) (h : 
           })
           (λ known. h.keeps)
 
-      go : (x : Standing) → StandsAt v.builder.order b.depth t h.q v.builder.standing e.machine.open_count x → HasItsPlace v.starts x → WhyStopped plain b t from to f
+      go : (x : Standing) → StandsAt v.builder.order b.depth t h.q v.builder.standing e.machine.open_count x → HasItsPlace v.starts.items x → WhyStopped plain b t from to f
       go (item_due (a_value w left done k ∷ ls)) s place_so =
           let o = v.builder.order in
           let l = a_key w left done in
@@ -158,7 +157,7 @@ module _ (v : PlainItems) (b : Bounds) (e : ItemEventsView) (t : List ℕ) (h : 
           found (length (bytes_before (l ∷ ls))) (length (spell k))
           (subst (λ (x : List ℕ). IsJudged plain 0 b.depth x (Some (complaint.complaint (length (bytes_before (l ∷ ls)) + length (spell k)) (length (bytes_before (l ∷ ls))) RepeatedKey))) (sym bytes_are)
           (repeat_found o b.depth ls l w done zero_item (zero_pairs left) refl [] (levels.0, (levels.1.0, levels.1.1), levels.2) (omega (arith, short)) (apart.0, (λ x. x), apart.1) levels.1.1 k levels.1.2 (omega (arith, short)) (subst IsRepeatedKey s.3 repeated)))
-          (ap length bytes_are ∙ size) (place_is ∙ ap (λ (i : ℕ). get_or v.starts i 0) s.4 ∙ place_so)
+          (ap length bytes_are ∙ size) (place_is _ (ap (λ (i : ℕ). slice_get v.starts.items i) s.4 ∙ place_so))
       go (item_due (some_value done k ∷ ls)) s place_so =
           let o = v.builder.order in
           let l = some_key done in
@@ -170,7 +169,7 @@ module _ (v : PlainItems) (b : Bounds) (e : ItemEventsView) (t : List ℕ) (h : 
           found (length (bytes_before (l ∷ ls))) (length (spell k))
           (subst (λ (x : List ℕ). IsJudged plain 0 b.depth x (Some (complaint.complaint (length (bytes_before (l ∷ ls)) + length (spell k)) (length (bytes_before (l ∷ ls))) RepeatedKey))) (sym bytes_are)
           (repeat_found o b.depth ls l Indefinite done zero_item no_entries refl [] (levels.0, levels.1.0, levels.2) (omega (arith, short)) (apart.0, (λ x. x), apart.1) levels.1.0 k levels.1.1 (omega (arith, short)) (subst IsRepeatedKey s.3 repeated)))
-          (ap length bytes_are ∙ size) (place_is ∙ ap (λ (i : ℕ). get_or v.starts i 0) s.4 ∙ place_so)
+          (ap length bytes_are ∙ size) (place_is _ (ap (λ (i : ℕ). slice_get v.starts.items i) s.4 ∙ place_so))
       go (item_due []) s place_so = absurd (subst IsRepeatedKey s.3 repeated)
       go (item_due (a_member w left done ∷ ls)) s place_so = absurd (subst IsRepeatedKey s.3 repeated)
       go (item_due (some_member done ∷ ls)) s place_so = absurd (subst IsRepeatedKey s.3 repeated)
@@ -183,10 +182,10 @@ module _ (v : PlainItems) (b : Bounds) (e : ItemEventsView) (t : List ℕ) (h : 
   -- the same, where the key is among those of its map
   module _ (now : PlainItems) (same : now.builder ≡ v.builder) (starts : now.starts ≡ v.starts) (same_tree : now.tree ≡ v.tree) (same_kinds : now.kinds ≡ v.kinds) where
     -- another item is due
-    pub goes-on : (places : length v.starts ≡ PLACES) → AreApart v.builder.standing → AreHeld (sets now) now.builder.standing → 0 < e.machine.open_count → IsDueAt now b e t
-    goes-on places apart held more = go h.standing h.stands h.begun h.tree
+    pub goes-on : AreApart v.builder.standing → AreHeld (sets now) now.builder.standing → 0 < e.machine.open_count → IsDueAt now b e t
+    goes-on apart held more = go h.standing h.stands h.begun h.tree
       where
-        go : (x : Standing) → StandsAt v.builder.order b.depth t h.q v.builder.standing e.machine.open_count x → HaveBegunIn v.starts x → IsTreeAt v.tree x → IsDueAt now b e t
+        go : (x : Standing) → StandsAt v.builder.order b.depth t h.q v.builder.standing e.machine.open_count x → HaveBegunIn v.starts.items x → IsTreeAt v.tree x → IsDueAt now b e t
         go (item_due ls) s begun tree = record {
           ls = ls;
           levels = s.0;
@@ -194,9 +193,8 @@ module _ (v : PlainItems) (b : Bounds) (e : ItemEventsView) (t : List ℕ) (h : 
           at = at-as b e t t h.q (at_item (map frame ls)) refl s.2 h.at;
           standing = subst (λ (g : Built). g.standing ≡ opens g.order ls) (sym same) s.3;
           apart = subst (λ (g : Built). AreApart g.standing) (sym same) apart;
-          begun = subst (λ (xs : List ℕ). HaveBegun xs ls) (sym starts) begun;
+          begun = subst (λ (xs : Vec ℕ Global). HaveBegun xs.items ls) (sym starts) begun;
           held = held;
-          places = ap length starts ∙ places;
           tree = subst (λ (z : Option (List OpenItem)). IsTreeAt z (item_due ls)) (sym same_tree) tree;
           kinds = same_kinds ∙ h.kinds;
           keeps = h.keeps;
@@ -230,11 +228,11 @@ given-order g (String is_text content) now count h = ap (λ (x : Built). x.order
 given-order g (Begin m k) now count h = ap (λ (x : Built). x.order) h.0
 given-order g Break now count h = ap (λ (x : Built). x.order) h.0
 
-pub goes-or-not : (v now : PlainItems) (b : Bounds) (e : ItemEventsView) (t : List ℕ) (count : ℕ) → IsEndingAt v b e t e.machine.open_count → 0 < length t → now.builder ≡ v.builder → now.starts ≡ v.starts → now.tree ≡ v.tree → now.kinds ≡ v.kinds → length v.starts ≡ PLACES
+pub goes-or-not : (v now : PlainItems) (b : Bounds) (e : ItemEventsView) (t : List ℕ) (count : ℕ) → IsEndingAt v b e t e.machine.open_count → 0 < length t → now.builder ≡ v.builder → now.starts ≡ v.starts → now.tree ≡ v.tree → now.kinds ≡ v.kinds
     → AreHeld (sets now) now.builder.standing × (IsRepeatedKey now.builder.standing → ⊥) → count ≡ e.machine.open_count → GoesOnOrNot (nat_lt 0 count) now b e t
-goes-or-not v now b e t zero h some same starts same_tree same_kinds places held same_count = is-whole v b e t h some now same starts same_tree same_kinds (sym same_count)
-goes-or-not v now b e t (suc n) h some same starts same_tree same_kinds places held same_count =
+goes-or-not v now b e t zero h some same starts same_tree same_kinds held same_count = is-whole v b e t h some now same starts same_tree same_kinds (sym same_count)
+goes-or-not v now b e t (suc n) h some same starts same_tree same_kinds held same_count =
     let more : nat_lt 0 (suc n) ≡ true = grind arith in
     let fresh : IsRepeatedKey v.builder.standing → ⊥ = λ x. held.1 (subst (λ (g : Built). IsRepeatedKey g.standing) (sym same) x) in
     subst (λ (m : Bool). GoesOnOrNot m now b e t) (sym more)
-    (goes-on v b e t h some now same starts same_tree same_kinds places (apart-now v.builder.standing h.apart fresh) held.0 (omega (arith, same_count)))
+    (goes-on v b e t h some now same starts same_tree same_kinds (apart-now v.builder.standing h.apart fresh) held.0 (omega (arith, same_count)))

@@ -1,5 +1,5 @@
 -- What a part of an item is, and where it leads: the containers that are open behind it.
-use Rattle.std.proofs.Common.{◌≡◌, ◌≢◌, ℕ, zero, suc, ◌+◌, ◌-◌, ◌^◌, ◌<◌, ◌≤◌, Bool, true, false, Some, None, List, [], ◌∷◌, ◌++◌, length, map, get_or, refl, sym, ap, ◌∙◌, subst, arith, append_assoc, append-nil}
+use Rattle.std.proofs.Common.{◌≡◌, ◌≢◌, ℕ, zero, suc, ◌+◌, ◌-◌, ◌^◌, ◌<◌, ◌≤◌, Bool, true, false, Some, None, List, [], ◌∷◌, ◌++◌, length, map, slice_get, refl, sym, ap, ◌∙◌, subst, arith, append_assoc, append-nil}
 use Rattle.std.proofs.lemmas.List.{length-append, length-map}
 use Rattle.cbor_head.specs.Head.{Holds, IsSimple, head, shortest_head}
 use Rattle.cbor_head.specs.Canonical.{canonical}
@@ -130,7 +130,7 @@ pub record IsPlaced (o : KeyOrder) (d : ℕ) (t : List ℕ) (q : Place) (os : Li
   pub right : IsFullRight standing
   pub values : vs ≡ values_at standing
 
-module _ (o : KeyOrder) (b : Bounds) (ls : List Level) (levels : AreLevels b.depth ls) (xs : List ℕ) (begun : HaveBegun xs ls) (here : get_or xs (length ls) 0 ≡ length (bytes_before ls)) where
+module _ (o : KeyOrder) (b : Bounds) (ls : List Level) (levels : AreLevels b.depth ls) (xs : List ℕ) (begun : HaveBegun xs ls) (here : slice_get xs (length ls) ≡ Some (length (bytes_before ls))) where
   abbrev fs : List Container
   fs = map frame ls
 

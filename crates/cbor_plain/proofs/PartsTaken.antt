@@ -1,5 +1,5 @@
 -- A part that was read where an item is due: what it makes of the path, and why it is refused.
-use Rattle.std.proofs.Common.{◌≡◌, ◌≢◌, ℕ, suc, ◌+◌, ◌-◌, ◌^◌, ◌<◌, ◌≤◌, Option, List, [], ◌∷◌, ◌++◌, length, map, get_or, set, refl, sym, ap, ap₂, ◌∙◌, subst, arith, append-nil}
+use Rattle.std.proofs.Common.{◌≡◌, ◌≢◌, ℕ, suc, ◌+◌, ◌-◌, ◌^◌, ◌<◌, ◌≤◌, Option, List, [], ◌∷◌, ◌++◌, length, map, take, slice_get, Some, refl, sym, ap, ap₂, ◌∙◌, subst, arith, append-nil}
 use Rattle.std.specs.Io.KnownBytes.{Consumes}
 use Rattle.std.proofs.lemmas.List.{length-append, length-map}
 use Rattle.cbor_head.specs.Beginning.{IsBeginning}
@@ -51,7 +51,7 @@ use Rattle.cbor_plain.specs.TreeValues.{level_values, values_with, IsTreeStep, I
 use Rattle.cbor_plain.proofs.DueRefusals.{few, due-keeps, refused-item, undecided-whole}
 use Rattle.cbor_plain.proofs.TreeValues.{values-given, settles-right, tree-step, tree-takes}
 use Rattle.cbor_plain.proofs.PartKinds.{basic-more, item-basic, mark-basic, mark-string, string-item, begins-item, no-break, HoldsNone, leaf-holds-none, string-holds-none, no-kinds, keeps-broken}
-use Rattle.cbor_plain.proofs.Paths.{given-apart, opened-apart, so-far, settled-begun, settled-place, begun-more, begins-at}
+use Rattle.cbor_plain.proofs.Paths.{given-apart, opened-apart, so-far, settled-begun, settled-place, begun-more, begun-room, begins-at}
 use Rattle.cbor_judging.proofs.Steps.{at-reached}
 use Rattle.cbor_judging.proofs.Valid.{count_bounded}
 use Rattle.cbor_plain.proofs.PartPlaces.{IsPlaced, begins-container, breaks, leaf-canonical, leaf-major, mark-undecided, opens-by, stands-as, string-canonical}
@@ -77,14 +77,6 @@ module _ (v : PlainItems) (b : Bounds) (e : ItemEventsView) (t : List ℕ) (d : 
   pub due-height : e.machine.open_count ≡ length d.ls
   due-height = open-is b e t (at_item (map frame d.ls)) d.at ∙ length-map d.ls frame
 
-  -- there is a place for where it begins
-  pub place-room : (height : ℕ) → height ≡ e.machine.open_count → height < length v.starts
-  place-room height same = let places = d.places in let most = d.at.limits.0 in omega (arith, places, same, due-height, most, room d.ls d.levels)
-    where
-      room : (ms : List Level) → AreLevels b.depth ms → length ms ≤ b.depth
-      room [] h = omega arith
-      room (l ∷ ms) h = omega (arith, h.0)
-
   -- ---- a part that was read
 
   module _ (new : ItemEventsView) (from mid to : Option (List ℕ)) (ev : Event) (after : ItemEventsView) (due : IsNextDue b d.ls t ev from mid after) where
@@ -106,7 +98,7 @@ module _ (v : PlainItems) (b : Bounds) (e : ItemEventsView) (t : List ℕ) (d : 
       pub q : Place
       pub at : IsAt b new (t ++ bytes) q
       pub keeps : KeepsToKinds b plain (t ++ bytes)
-      pub leads : (now : PlainItems) (height place count : ℕ) → height ≡ e.machine.open_count → place ≡ ev.place → now.starts ≡ set v.starts height place → now.kinds ≡ v.kinds → IsGiven v.builder part now.builder count
+      pub leads : (now : PlainItems) (height place count : ℕ) → height ≡ e.machine.open_count → place ≡ ev.place → now.starts.items ≡ take height v.starts.items ++ place ∷ [] → now.kinds ≡ v.kinds → IsGiven v.builder part now.builder count
           → IsTreeStep (values_with part) v.tree now.tree → AreKeysBegun count (sets v) (sets now) → IsEndingAt now b new (t ++ bytes) (height + count)
 
     some-head : 0 < length n.bytes
@@ -117,19 +109,22 @@ module _ (v : PlainItems) (b : Bounds) (e : ItemEventsView) (t : List ℕ) (d : 
     first-kind item asked is_key = mark-basic b.depth gs ev.width ev.kind n.bytes n.next n.taking item (due.kind asked is_key)
 
     -- the places behind it
-    module _ (now : PlainItems) (height place : ℕ) (same : height ≡ e.machine.open_count) (same_place : place ≡ ev.place) (starts : now.starts ≡ set v.starts height place) (same_kinds : now.kinds ≡ v.kinds) where
+    module _ (now : PlainItems) (height place : ℕ) (same : height ≡ e.machine.open_count) (same_place : place ≡ ev.place) (starts : now.starts.items ≡ take height v.starts.items ++ place ∷ []) (same_kinds : now.kinds ≡ v.kinds) where
       level : height ≡ length d.ls
       level = same ∙ due-height
 
-      begun-so : HaveBegun now.starts d.ls
-      begun-so = subst (λ (xs : List ℕ). HaveBegun xs d.ls) (sym starts) (begun-more v.starts d.ls height place (omega (arith, level)) d.begun)
+      room : height ≤ length v.starts.items
+      room = omega (arith, level, begun-room v.starts.items d.ls d.begun)
 
-      here-so : get_or now.starts (length d.ls) 0 ≡ length (bytes_before d.ls)
+      begun-so : HaveBegun now.starts.items d.ls
+      begun-so = subst (λ (xs : List ℕ). HaveBegun xs d.ls) (sym starts) (begun-more v.starts.items d.ls height place (omega (arith, level)) room d.begun)
+
+      here-so : slice_get now.starts.items (length d.ls) ≡ Some (length (bytes_before d.ls))
       here-so =
-          let room = place-room height same in
-          ap (λ (xs : List ℕ). get_or xs (length d.ls) 0) starts ∙ ap (λ (i : ℕ). get_or (set v.starts height place) i 0) (sym level) ∙ begins-at v.starts height place room ∙ same_place ∙ n.place ∙ ap length d.taken
+          ap (λ (xs : List ℕ). slice_get xs (length d.ls)) starts ∙ ap (λ (i : ℕ). slice_get (take height v.starts.items ++ place ∷ []) i) (sym level) ∙ begins-at v.starts.items height place room
+          ∙ ap (λ (i : ℕ). Some i) (same_place ∙ n.place ∙ ap length d.taken)
 
-      placed-ending : (part : Part) (vs : List OpenValue) → values_with part (level_values d.ls) ≡ vs → IsTreeStep (values_with part) v.tree now.tree → (x : List ℕ) (q : Place) (os : List Open) (count : ℕ) → IsAt b new (t ++ x) q → (l : IsPlaced v.builder.order b.depth (bytes_before d.ls ++ x) q os (length d.ls + count) now.starts vs) → now.builder ≡ built v.builder.order os
+      placed-ending : (part : Part) (vs : List OpenValue) → values_with part (level_values d.ls) ≡ vs → IsTreeStep (values_with part) v.tree now.tree → (x : List ℕ) (q : Place) (os : List Open) (count : ℕ) → IsAt b new (t ++ x) q → (l : IsPlaced v.builder.order b.depth (bytes_before d.ls ++ x) q os (length d.ls + count) now.starts.items vs) → now.builder ≡ built v.builder.order os
           → AreApartSoFar os → AreHeldSoFar (sets now) os → KeepsToKinds b plain (t ++ x) → IsEndingAt now b new (t ++ x) (height + count)
       placed-ending part vs vs_are step x q os count at l is apart held keeps = record {
         q = q;
@@ -186,8 +181,8 @@ module _ (v : PlainItems) (b : Bounds) (e : ItemEventsView) (t : List ℕ) (d : 
               (record {
                 standing = settle d.ls m.item;
                 stands = stands-as o b.depth (settle d.ls m.item) _ (bytes_before d.ls ++ spell m.item) (close gs) (close gs) _ os (length d.ls) (length d.ls + count) refl refl os_is (omega (arith, g.1)) (settled o b.depth d.ls m.item d.levels is short);
-                begun = settled-begun now.starts d.ls m.item begun;
-                place = settled-place now.starts d.ls m.item begun here;
+                begun = settled-begun now.starts.items d.ls m.item begun;
+                place = settled-place now.starts.items d.ls m.item begun here;
                 right = settles-right d.ls m.item;
                 values = ap (λ (w : Value). trees.give w (level_values d.ls)) (sym m.value) ∙ values-given d.ls m.item;
               })
@@ -198,7 +193,7 @@ module _ (v : PlainItems) (b : Bounds) (e : ItemEventsView) (t : List ℕ) (d : 
 
     -- a head or a break alone
     head-taken : (part : Part) → IsStill after new mid to → KeepsToKinds b plain (t ++ n.bytes)
-        → ((now : PlainItems) (height place count : ℕ) → height ≡ e.machine.open_count → place ≡ ev.place → now.starts ≡ set v.starts height place → now.kinds ≡ v.kinds → IsGiven v.builder part now.builder count
+        → ((now : PlainItems) (height place count : ℕ) → height ≡ e.machine.open_count → place ≡ ev.place → now.starts.items ≡ take height v.starts.items ++ place ∷ [] → now.kinds ≡ v.kinds → IsGiven v.builder part now.builder count
         → IsTreeStep (values_with part) v.tree now.tree → AreKeysBegun count (sets v) (sets now) → IsAt b new (t ++ n.bytes) n.next → IsEndingAt now b new (t ++ n.bytes) (height + count)) → IsPartTaken part
     head-taken part still keeps leads =
         let at = subst (λ (z : ItemEventsView). IsAt b z (t ++ n.bytes) n.next) (sym still.events) n.at in
@@ -229,11 +224,11 @@ module _ (v : PlainItems) (b : Bounds) (e : ItemEventsView) (t : List ℕ) (d : 
         (keeps_due b plain d.ls d.levels n.bytes (subst (λ (i : ℕ). Begins (b.depth - i) n.bytes) (length-map d.ls frame) begun.0) begun.1 (first-kind item) (due-keeps v b e t d)) in
         head-taken (Begin m k) r.1 keeps
         (λ now height place count same same_place starts same_kinds given step keys at.
-        let l = opens-by v.builder.order b d.ls d.levels now.starts (begun-so now height place same same_place starts same_kinds) (here-so now height place same same_place starts same_kinds) t n.bytes after ev.width d.taken ev.kind m k came r.0 in
+        let l = opens-by v.builder.order b d.ls d.levels now.starts.items (begun-so now height place same same_place starts same_kinds) (here-so now height place same same_place starts same_kinds) t n.bytes after ev.width d.taken ev.kind m k came r.0 in
         let one : suc (length d.ls) ≡ length d.ls + count = omega (arith, given.1) in
         placed-ending now height place same same_place starts same_kinds (Begin m k) (trees.opened m k ∷ level_values d.ls) refl step n.bytes n.next (opened m k ∷ v.builder.standing) count at
-        (subst (λ (h : ℕ). IsPlaced v.builder.order b.depth (bytes_before d.ls ++ n.bytes) n.next (opened m k ∷ v.builder.standing) h now.starts (trees.opened m k ∷ level_values d.ls)) one
-        (subst (λ (os : List Open). IsPlaced v.builder.order b.depth (bytes_before d.ls ++ n.bytes) n.next (opened m k ∷ os) (suc (length d.ls)) now.starts (trees.opened m k ∷ level_values d.ls)) (sym d.standing) l))
+        (subst (λ (h : ℕ). IsPlaced v.builder.order b.depth (bytes_before d.ls ++ n.bytes) n.next (opened m k ∷ v.builder.standing) h now.starts.items (trees.opened m k ∷ level_values d.ls)) one
+        (subst (λ (os : List Open). IsPlaced v.builder.order b.depth (bytes_before d.ls ++ n.bytes) n.next (opened m k ∷ os) (suc (length d.ls)) now.starts.items (trees.opened m k ∷ level_values d.ls)) (sym d.standing) l))
         given.0 (opened-apart m k v.builder.standing (begins-container ev.kind m k r.0) d.apart)
         (let k2 = keys.opened (omega (arith, given.1)) in
         subst (λ (ss : List KeySet). AreHeldSoFar ss (opened m k ∷ v.builder.standing)) (sym k2.are) (held-opened m k k2.fresh (sets v) v.builder.standing (begins-container ev.kind m k r.0) k2.none d.held))
@@ -244,12 +239,12 @@ module _ (v : PlainItems) (b : Bounds) (e : ItemEventsView) (t : List ℕ) (d : 
         let keeps = subst (λ (y : List ℕ). KeepsToKinds b plain (y ++ n.bytes)) (sym d.taken) (subst (λ (y : List ℕ). KeepsToKinds b plain (bytes_before d.ls ++ y)) (sym taking.0) broken) in
         head-taken Break r.1 keeps
         (λ now height place count same same_place starts same_kinds given step keys at.
-        let l = breaks v.builder.order b d.ls n.next now.starts d.levels (begun-so now height place same same_place starts same_kinds) (few v b e t d) taking.1 in
+        let l = breaks v.builder.order b d.ls n.next now.starts.items d.levels (begun-so now height place same same_place starts same_kinds) (few v b e t d) taking.1 in
         let none : length d.ls ≡ length d.ls + count = omega (arith, given.1) in
         placed-ending now height place same same_place starts same_kinds Break (level_values d.ls) refl step n.bytes n.next v.builder.standing count at
-        (subst (λ (h : ℕ). IsPlaced v.builder.order b.depth (bytes_before d.ls ++ n.bytes) n.next v.builder.standing h now.starts (level_values d.ls)) none
-        (subst (λ (os : List Open). IsPlaced v.builder.order b.depth (bytes_before d.ls ++ n.bytes) n.next os (length d.ls) now.starts (level_values d.ls)) (sym d.standing)
-        (subst (λ (y : List ℕ). IsPlaced v.builder.order b.depth (bytes_before d.ls ++ y) n.next (opens v.builder.order d.ls) (length d.ls) now.starts (level_values d.ls)) (sym taking.0) l)))
+        (subst (λ (h : ℕ). IsPlaced v.builder.order b.depth (bytes_before d.ls ++ n.bytes) n.next v.builder.standing h now.starts.items (level_values d.ls)) none
+        (subst (λ (os : List Open). IsPlaced v.builder.order b.depth (bytes_before d.ls ++ n.bytes) n.next os (length d.ls) now.starts.items (level_values d.ls)) (sym d.standing)
+        (subst (λ (y : List ℕ). IsPlaced v.builder.order b.depth (bytes_before d.ls ++ y) n.next (opens v.builder.order d.ls) (length d.ls) now.starts.items (level_values d.ls)) (sym taking.0) l)))
         given.0 (so-far v.builder.standing d.apart)
         (subst (λ (ss : List KeySet). AreHeldSoFar ss v.builder.standing) (sym (keys.same given.1))
         (subst (AreHeldSoFar (sets v)) (sym d.standing) (held-broken v.builder.order (sets v) d.ls n.next taking.1 (subst (AreHeld (sets v)) d.standing d.held))))

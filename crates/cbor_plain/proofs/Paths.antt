@@ -1,7 +1,10 @@
 -- From part to part of an item: which keys are known to differ, and where each open item began.
-use Rattle.std.proofs.Common.{◌≡◌, ◌≢◌, ℕ, zero, suc, ◌<◌, ◌≤◌, List, [], ◌∷◌, ◌++◌, length, get_or, set, sym, ◌∙◌, inl, inr, arith}
+use Rattle.std.proofs.Common.{◌≡◌, ◌≢◌, ℕ, zero, suc, ◌<◌, ◌≤◌, List, [], ◌∷◌, ◌++◌, length, take, slice_get, get_or, Some, ap, sym, ◌∙◌, inl, inr, arith}
 use Rattle.std.specs.List.{AllByRecursion}
-use Rattle.std.proofs.lemmas.List.{get_or-set_same, get_or-set_other}
+use Rattle.std.proofs.Math.ListN.{get_or-append}
+use Rattle.std.proofs.Math.Seq.{get_or-append_seam}
+use Rattle.std.proofs.lemmas.List.{get_or-take, length-append, length-take-le}
+use Rattle.std.proofs.lemmas.Option.{get_or_from_slice_get, slice_get-get_or, slice_get_within}
 use Rattle.cbor_head.specs.Canonical.{Pair}
 use Rattle.cbor_head.specs.Spelling.{Spelling}
 use Rattle.cbor_head.specs.declared.major.Major.{Major}
@@ -79,7 +82,7 @@ settled-begun xs (levels.a_value w (suc left) done k ∷ ls) s h = h
 settled-begun xs (levels.some_value done k ∷ ls) s h = h
 settled-begun xs (levels.tagged w n ∷ ls) s h = h.1
 
-pub settled-place : (xs : List ℕ) (ls : List Level) (s : Spelling) → HaveBegun xs ls → get_or xs (length ls) 0 ≡ length (bytes_before ls) → HasItsPlace xs (settle ls s)
+pub settled-place : (xs : List ℕ) (ls : List Level) (s : Spelling) → HaveBegun xs ls → slice_get xs (length ls) ≡ Some (length (bytes_before ls)) → HasItsPlace xs (settle ls s)
 settled-place xs [] s h e = tt
 settled-place xs (levels.a_member w zero done ∷ ls) s h e = h.0
 settled-place xs (levels.a_member w (suc left) done ∷ ls) s h e = tt
@@ -92,11 +95,22 @@ settled-place xs (levels.some_value done k ∷ ls) s h e = tt
 settled-place xs (levels.tagged w n ∷ ls) s h e = h.0
 
 -- an item begins
-pub begun-more : (xs : List ℕ) (ls : List Level) (i place : ℕ) → length ls ≤ i → HaveBegun xs ls → HaveBegun (set xs i place) ls
-begun-more xs [] i place l h = tt
-begun-more xs (m ∷ ls) i place l h =
-    let other : length ls ≢ i = omega (arith, l) in
-    (get_or-set_other xs i (length ls) place 0 other ∙ h.0, begun-more xs ls i place (omega (arith, l)) h.1)
+pub begun-room : (xs : List ℕ) (ls : List Level) → HaveBegun xs ls → length ls ≤ length xs
+begun-room xs [] h = omega arith
+begun-room xs (l ∷ ls) h = omega (arith, slice_get_within xs (length ls) (length (bytes_before ls)) h.0)
 
-pub begins-at : (xs : List ℕ) (i place : ℕ) → i < length xs → get_or (set xs i place) i 0 ≡ place
-begins-at xs i place l = get_or-set_same xs i place 0 l
+-- what begins within so many containers leaves those around it
+pub begun-more : (xs : List ℕ) (ls : List Level) (i place : ℕ) → length ls ≤ i → i ≤ length xs → HaveBegun xs ls → HaveBegun (take i xs ++ place ∷ []) ls
+begun-more xs [] i place l room h = tt
+begun-more xs (m ∷ ls) i place l room h =
+    let at = slice_get_within xs (length ls) (length (bytes_before ls)) h.0 in
+    let less : length ls < i = omega (arith, l) in
+    let size = length-take-le i xs room in
+    (slice_get-get_or (take i xs ++ place ∷ []) (length ls) 0 (omega (arith, less, size, length-append (take i xs) (place ∷ [])))
+    ∙ ap (λ (n : ℕ). Some n) (get_or-append (take i xs) (place ∷ []) 0 (length ls) (omega (arith, less, size)) ∙ get_or-take i xs (length ls) 0 less ∙ get_or_from_slice_get xs (length ls) (length (bytes_before ls)) 0 h.0), begun-more xs ls i place (omega (arith, l)) room h.1)
+
+pub begins-at : (xs : List ℕ) (i place : ℕ) → i ≤ length xs → slice_get (take i xs ++ place ∷ []) i ≡ Some place
+begins-at xs i place room =
+    let size = length-take-le i xs room in
+    slice_get-get_or (take i xs ++ place ∷ []) i 0 (omega (arith, size, length-append (take i xs) (place ∷ [])))
+    ∙ ap (λ (n : ℕ). Some n) (ap (λ (k : ℕ). get_or (take i xs ++ place ∷ []) k 0) (sym size) ∙ get_or-append_seam (take i xs) place [] 0)

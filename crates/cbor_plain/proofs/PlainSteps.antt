@@ -15,7 +15,6 @@ use Rattle.cbor_judging.specs.Place.{at_item, done as at_end}
 use Rattle.cbor_builder.specs.Built.{Built, built}
 use Rattle.cbor_canonical.specs.Parts.{plain as a_plain}
 use Rattle.cbor_plain.specs.declared.plain_items.PlainItems.{PlainItems}
-use Rattle.cbor_plain.specs.declared.plain_items.TheConstants.{PLACES}
 use Rattle.cbor_judging.specs.Kinds.{KeepsToKinds}
 use Rattle.cbor_judging.specs.Levels.{item_due}
 use Rattle.cbor_judging.specs.Readers.{IsUnread}
@@ -90,9 +89,9 @@ module _ (old v new : PlainItems) (b : Bounds) (e after : ItemEventsView) (t : L
 -- ---- the whole item
 
 -- before the first part
-pub due-first : (o : KeyOrder) (v : PlainItems) (b : Bounds) (e : ItemEventsView) → v.builder ≡ built o (a_plain [] ∷ []) → length v.starts ≡ PLACES → IsTreeAt v.tree (item_due []) → AreHeld (sets v) (a_plain [] ∷ []) → v.kinds ≡ b.keys → IsAt b e [] (at_item [])
+pub due-first : (o : KeyOrder) (v : PlainItems) (b : Bounds) (e : ItemEventsView) → v.builder ≡ built o (a_plain [] ∷ []) → IsTreeAt v.tree (item_due []) → AreHeld (sets v) (a_plain [] ∷ []) → v.kinds ≡ b.keys → IsAt b e [] (at_item [])
     → IsDueAt v b e []
-due-first o v b e is places tree held asked at =
+due-first o v b e is tree held asked at =
     let standing = ap (λ (g : Built). g.standing) is in
     record {
       ls = [];
@@ -103,7 +102,6 @@ due-first o v b e is places tree held asked at =
       apart = subst AreApart (sym standing) (tt, (λ x. x), tt);
       begun = tt;
       held = subst (AreHeld (sets v)) (sym standing) held;
-      places = places;
       tree = tree;
       kinds = asked;
       keeps = keeps_start b plain;

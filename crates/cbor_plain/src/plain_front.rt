@@ -108,12 +108,11 @@ fn next_part<R: Read>(
         Ok(event) => event,
         Err(refusal) => return Err(refusal),
     };
-    items.begin_at(height, event.place);
     let part = match read_part(alloc, events, reader, event.kind) {
         Ok(part) => part,
         Err(refusal) => return Err(refusal),
     };
-    let opened = match items.give(alloc, part) {
+    let opened = match items.give(alloc, height, event.place, part) {
         Ok(opened) => opened,
         Err(_) => return Err(no_memory(events)),
     };

@@ -1,7 +1,7 @@
 //! What the plain reader keeps of the items that are open, from event to event.
 
 ghost use Rattle.std.specs.Prelude.{◌≡◌, ◌<◌, ◌≤◌, ◌∷◌, ◌↔◌, [], ℕ, List, IfOk, IsSome, IsTrue, None, length};
-ghost use Rattle.std.specs.Prelude.{slice_set, OnOk, MatchOption, Option};
+ghost use Rattle.std.specs.Prelude.{take, ◌++◌, OnOk, MatchOption, Option};
 ghost use Rattle.cbor_builder.specs.Built.{built, IsRepeatedKey};
 ghost use Rattle.cbor_canonical.specs.Parts.{plain};
 ghost use Rattle.cbor_head.specs.Spelling.{Spelling, value_of};
@@ -22,14 +22,11 @@ use crate::tree_parts::{end_in_tree, give_to_tree};
 use cbor_automaton::Event;
 use cbor_builder::CanonBuilder;
 use cbor_events::ItemEvents;
-use cbor_head::{KeyOrder, Keys, MAX_DEPTH, Major, Refusal};
+use cbor_head::{KeyOrder, Keys, Major, Refusal};
 use cbor_item::{Item, TreeBuilder};
 use std::alloc::{AllocError, Global};
 use std::io::Read;
 use std::mem;
-
-// An item may stand in no container.
-const PLACES: usize = MAX_DEPTH as usize + 1;
 
 /// The canonical bytes of what came, and where each open item began.
 #[derive(Drop)]
@@ -40,7 +37,7 @@ pub(crate) struct PlainItems {
     // Which kinds of keys maps may have.
     kinds: Keys,
     // At the number of containers around it, where the last item began that came there.
-    starts: [u64; PLACES],
+    starts: Vec<u64>,
     // The keys of the innermost open container that came, and of those around it, the whole first.
     keys: KeySet,
     outer: Vec<KeySet>,
@@ -55,7 +52,6 @@ impl PlainItems {
         tree: Option<TreeBuilder>,
     ) -> PlainItems
         ensures built { result.builder ≡ built order (plain [] ∷ []) }
-        ensures starts { length result.starts ≡ PLACES }
         ensures held { AreHeld (sets result) (plain [] ∷ []) }
         ensures tree { result.tree ≡ tree }
         ensures kinds { result.kinds ≡ kinds }
@@ -64,7 +60,7 @@ impl PlainItems {
             builder: CanonBuilder::new(alloc, order),
             tree,
             kinds,
-            starts: [0; PLACES],
+            starts: Vec::new(alloc),
             keys: KeySet::new(alloc),
             outer: Vec::new(alloc),
         }
@@ -95,28 +91,26 @@ impl PlainItems {
         }
     }
 
-    // An item begins within so many containers.
-    pub(crate) fn begin_at(&mut self, height: usize, place: u64)
-        requires { height < length self.old.starts }
-        ensures same { self.new.builder ≡ self.old.builder }
-        ensures tree { self.new.tree ≡ self.old.tree }
-        ensures kinds { self.new.kinds ≡ self.old.kinds }
-        ensures sets { sets self.new ≡ sets self.old }
-        ensures starts { self.new.starts ≡ slice_set self.old.starts height place }
-    {
-        self.starts[height] = place;
-    }
-
-    // The next part of the item; answers how many containers it opens.
-    pub(crate) fn give(&mut self, alloc: Global, part: Part) -> Result<usize, AllocError>
+    // The next part of the item, which begins at this place within so many containers; answers how
+    // many it opens.
+    pub(crate) fn give(
+        &mut self,
+        alloc: Global,
+        height: usize,
+        place: u64,
+        part: Part,
+    ) -> Result<usize, AllocError>
         requires bytes { CanTake self.old.builder part }
         requires tree { TakesTreePart part self.old.tree }
-        ensures same { self.new.starts ≡ self.old.starts }
+        ensures starts { OnOk result
+            (self.new.starts.items ≡ take height self.old.starts.items ++ place ∷ []) }
         ensures kinds { self.new.kinds ≡ self.old.kinds }
         ensures given { IfOk result (λ opened. IsGiven self.old.builder part self.new.builder opened) }
         ensures tree { IfOk result (λ _. IsTreeStep (values_with part) self.old.tree self.new.tree) }
         ensures sets { IfOk result (λ opened. AreKeysBegun opened (sets self.old) (sets self.new)) }
     {
+        self.starts.truncate(height);
+        self.starts.push(place)?;
         let opened = give_to_builder(&mut self.builder, &part)?;
         give_to_tree(&mut self.tree, part)?;
         if opened > 0 {
@@ -159,7 +153,6 @@ impl PlainItems {
     // Where the key began that has just come, if it is the same as an earlier key of its map; else
     // it is one of them now. So many containers are open.
     pub(crate) fn repeated(&mut self, alloc: Global, open: usize) -> Result<Option<u64>, AllocError>
-        requires { «open» < length self.old.starts }
         ensures same { (self.new.builder ≡ self.old.builder)
             × (self.new.starts ≡ self.old.starts) × (self.new.tree ≡ self.old.tree)
             × (self.new.kinds ≡ self.old.kinds) }
@@ -171,7 +164,7 @@ impl PlainItems {
         if self.keys.add(alloc, key)? {
             return Ok(None);
         }
-        Ok(Some(self.starts[open]))
+        Ok(Some(self.starts.get(open).copied().unwrap_or(0)))
     }
 
     // The canonical bytes of the item, which is whole.

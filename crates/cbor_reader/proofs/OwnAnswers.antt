@@ -32,7 +32,7 @@ module _ (limits : Bounds) (o : KeyOrder) (input : List ℕ) where
       let (s, h) = strict_accepts limits o input v begins in
       (s, h, strict_bytes limits o input s h ∙ (one_front limits o input (value_of s) v (strict_value limits o input s h) begins).1 ∙ sym a.canonical_bytes)
 
-  accepted_own_answer : (s : Spelling) → IsVerdict limits (strict o) input (accepted s) → spell s ≡ input → IsCanonicalOf limits o input input
+  pub accepted_own_answer : (s : Spelling) → IsVerdict limits (strict o) input (accepted s) → spell s ≡ input → IsCanonicalOf limits o input input
   accepted_own_answer s v e =
       let h = (accepts_exactly limits (strict o) input s).0 v in
       let fits : length input ≤ limits.bytes = subst (λ (b : List ℕ). length b ≤ limits.bytes) e (item_within_limit limits (strict o) input s v) in

@@ -23,6 +23,7 @@ use Rattle.cbor_judging.proofs.Accepted.{item_is_whole}
 use Rattle.cbor_judging.proofs.FreeBefore.{truncated-free}
 use Rattle.cbor_reader.proofs.Headline.{valid_item, valid_item_accepted, answers_exactly}
 use Rattle.cbor_grammar.proofs.ReadLaws.{one_list}
+use Rattle.cbor_reader.proofs.ViewFronts.{memory_behind}
 use Rattle.cbor_reader.proofs.OneAnswer.{one_item, no_both, one_refusal}
 use Rattle.cbor_judging.proofs.Reasons.{never-read}
 
@@ -70,6 +71,15 @@ refused_item limits o input f (whole.of_memory p taken l m is x) g =
 
 pub item_refused_once : (limits : Bounds) (input : List ℕ) (f g : Refusal) → IsItemRefusal limits input f → IsItemRefusal limits input g → f.reason ≢ Memory → g.reason ≢ Memory → f ≡ g
 item_refused_once limits input f g h i = one_refusal limits Bytewise input f g (item_refused limits Bytewise input f h) (item_refused limits Bytewise input g i)
+
+-- memory was refused when all of it had been taken
+pub memory_at_end : (limits : Bounds) (o : KeyOrder) (input : List ℕ) (f : Refusal) → IsWholeItem limits input → f ≡ refusal Memory (length input) (length input) → IsRefusal limits o input f
+memory_at_end limits o input f (s, i) is =
+    let a : IsRead limits plain input (length input) = record { item = s; verdict = valid_item_accepted limits input s i; size = ap length (sym i.well_formed.bytes_are) } in
+    item_refused limits o input f (unread (memory_behind limits input (length input) f a is) (λ e. apart (sym (ap (λ (x : Refusal). x.reason) is) ∙ e)))
+  where
+    apart : Memory ≡ Read → ⊥
+    apart e = cc e
 
 -- ---- within the limit, or past it
 

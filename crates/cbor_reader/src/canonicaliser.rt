@@ -12,6 +12,7 @@ ghost use Rattle.cbor_reader.specs.Canonicalise.{IsCanonicaliserReason};
 use crate::whole_item::encoded_item;
 use cbor_head::{KeyOrder, Limits, Reason, Refusal};
 use std::alloc::Global;
+use std::borrow::CowSlice;
 
 /// The canonical bytes, in this order, of the one well-formed, valid item that the whole input is,
 /// where these and the input are within the limits (RFC 8949, sections 4.2.1 and 4.2.3).
@@ -57,5 +58,11 @@ fn canonical_bytes(
     if canonical.len() as u64 > limits.bytes() {
         return Err(Refusal::at(Reason::CanonicalTooLong, bytes.len() as u64));
     }
-    Ok(canonical)
+    match canonical {
+        CowSlice::Owned(made) => Ok(made),
+        CowSlice::Borrowed(same) => match Vec::from_slice(alloc, same) {
+            Ok(copy) => Ok(copy),
+            Err(_) => Err(Refusal::at(Reason::Memory, bytes.len() as u64)),
+        },
+    }
 }

@@ -1,34 +1,52 @@
 //! The item that a whole input is.
 
-ghost use Rattle.std.specs.Prelude.{◌≡◌, IfOk, IfErr};
+ghost use Rattle.std.specs.Prelude.{◌≡◌, true, IfOk, IfErr};
+ghost use Rattle.std.specs.Cow.{cow_slice_items};
 ghost use Rattle.cbor_head.specs.Canonical.{canonical};
 ghost use Rattle.cbor_head.specs.Spelling.{Spelling, value_of};
+ghost use Rattle.cbor_reader.specs.Canonicalise.{IsCanonicalOf};
 ghost use Rattle.cbor_reader.specs.Headline.{IsValidItem};
 ghost use Rattle.cbor_reader.specs.WholeItem.{IsItemRefusal};
 
 use crate::valid_front::valid_front;
 use cbor_head::{KeyOrder, Limits, Reason, Refusal};
+use cbor_strict::check_canonical;
 use std::alloc::Global;
+use std::borrow::CowSlice;
 
-// The canonical bytes, in this order and however many, of the one item that all the bytes are.
-pub(crate) fn encoded_item(
+// The canonical bytes, in this order and however many, of the one item that all the bytes are: these
+// bytes themselves, where they are canonical.
+pub(crate) fn encoded_item<'a>(
     alloc: Global,
-    bytes: &[u8],
+    bytes: &'a [u8],
     limits: Limits,
     order: KeyOrder,
-) -> Result<Vec<u8>, Refusal>
-    ensures encoded { IfOk result (λ v. (s : Spelling)
+) -> Result<CowSlice<'a, u8>, Refusal>
+    ensures encoded { IfOk result (λ c. (s : Spelling)
         × IsValidItem limits bytes.now s
-        × (v.items ≡ canonical order (value_of s))) }
+        × (cow_slice_items c ≡ canonical order (value_of s))) }
     ensures refused { IfErr result (IsItemRefusal limits bytes.now) }
 {
+    if is_canonical(bytes, limits, order) {
+        return Ok(CowSlice::Borrowed(bytes));
+    }
     match valid_front(alloc, bytes, limits, order) {
         Ok(front) => {
             if front.size < bytes.len() as u64 {
                 return Err(Refusal::at(Reason::Trailing, front.size));
             }
-            Ok(front.canonical)
+            Ok(CowSlice::Owned(front.canonical))
         }
         Err(refusal) => Err(refusal),
+    }
+}
+
+// Whether all the bytes are one item's canonical bytes.
+fn is_canonical(bytes: &[u8], limits: Limits, order: KeyOrder) -> bool
+    ensures { result ≡ true → IsCanonicalOf limits order bytes.now bytes.now }
+{
+    match check_canonical(bytes, limits, order) {
+        Ok(size) => size == bytes.len() as u64,
+        Err(_) => false,
     }
 }

@@ -8,9 +8,9 @@ use crate::level::Due;
 /// An open container.
 #[derive(Clone, Copy)]
 pub(crate) struct Open {
-    pub(crate) due: Due,
     // How many members or pairs follow the one that is due; none where there is no length.
     pub(crate) left: u64,
+    pub(crate) due: Due,
     // A break ends it.
     pub(crate) is_endless: bool,
 }

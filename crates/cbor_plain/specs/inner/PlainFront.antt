@@ -19,7 +19,6 @@ use Rattle.cbor_judging.specs.Place.{at_item, done as at_end}
 use Rattle.cbor_standing.specs.NextEvent.{ItemEventsView}
 use Rattle.cbor_canonical.specs.Parts.{plain as a_plain}
 use Rattle.cbor_plain.specs.declared.plain_items.PlainItems.{PlainItems}
-use Rattle.cbor_plain.specs.declared.plain_items.TheConstants.{PLACES}
 use Rattle.cbor_plain.specs.inner.HeldKeys.{AreHeld}
 use Rattle.cbor_judging.specs.Levels.{IsTaken, Level, frame, AreLevels, bytes_before, item_due, item_whole}
 use Rattle.cbor_judging.specs.Given.{opens}
@@ -35,9 +34,8 @@ pub record IsDueAt (v : PlainItems) (b : Bounds) (e : ItemEventsView) (t : List 
   pub at : IsAt b e t (at_item (map frame ls))
   pub standing : v.builder.standing ≡ opens v.builder.order ls
   pub apart : AreApart v.builder.standing
-  pub begun : HaveBegun v.starts ls
+  pub begun : HaveBegun v.starts.items ls
   pub held : AreHeld (sets v) v.builder.standing
-  pub places : length v.starts ≡ PLACES
   pub tree : IsTreeAt v.tree (item_due ls)
   pub kinds : v.kinds ≡ b.keys
   pub keeps : KeepsToKinds b plain t

@@ -1,6 +1,6 @@
 -- What the plain reader keeps: what a builder holds, in which no two keys of an open map are the same, and where each open
 -- item began.
-use Rattle.std.specs.Prelude.{ℕ, suc, ◌≡◌, ◌<◌, ◌++◌, List, [], ◌∷◌, length, reverse, slice_index_or, Option, Result, OnOk, IfOk, MatchOption, IsSome}
+use Rattle.std.specs.Prelude.{ℕ, suc, ◌≡◌, ◌<◌, ◌++◌, List, [], ◌∷◌, length, reverse, slice_get, Option, Some, Result, OnOk, IfOk, MatchOption, IsSome}
 use Rattle.cbor_head.specs.Complaint.{plain}
 use Rattle.cbor_head.specs.Head.{shortest_head, IsSimple}
 use Rattle.cbor_head.specs.Limits.{Bounds}
@@ -63,14 +63,14 @@ AnswersKey old new count result =
     AreHeldSoFar (sets old) old.builder.standing
     → IfOk result (λ o. MatchOption o
     (AreHeld (sets new) new.builder.standing × (IsRepeatedKey new.builder.standing → ⊥))
-    (λ place. IsRepeatedKey old.builder.standing × (place ≡ slice_index_or old.starts count 0)))
+    (λ place. IsRepeatedKey old.builder.standing × ((at : ℕ) → slice_get old.starts.items count ≡ Some at → place ≡ at)))
 
 -- ---- places
 
 -- where each open container began
 abbrev pub HaveBegun : List ℕ → List Level → Type 0
 HaveBegun xs [] = Unit {0}
-HaveBegun xs (l ∷ ls) = (slice_index_or xs (length ls) 0 ≡ length (bytes_before ls)) × HaveBegun xs ls
+HaveBegun xs (l ∷ ls) = (slice_get xs (length ls) ≡ Some (length (bytes_before ls))) × HaveBegun xs ls
 
 abbrev pub HaveBegunIn : List ℕ → Standing → Type 0
 HaveBegunIn xs (item_due ls) = HaveBegun xs ls
@@ -79,9 +79,9 @@ HaveBegunIn xs (item_whole s) = Unit {0}
 
 -- where the item began that has just ended, if it is a container's or a key
 abbrev pub HasItsPlace : List ℕ → Standing → Type 0
-HasItsPlace xs (item_full ls s) = slice_index_or xs (length ls) 0 ≡ length (bytes_before ls)
-HasItsPlace xs (item_due (levels.a_value w left done k ∷ ls)) = slice_index_or xs (suc (length ls)) 0 ≡ length (bytes_before (levels.a_key w left done ∷ ls))
-HasItsPlace xs (item_due (levels.some_value done k ∷ ls)) = slice_index_or xs (suc (length ls)) 0 ≡ length (bytes_before (levels.some_key done ∷ ls))
+HasItsPlace xs (item_full ls s) = slice_get xs (length ls) ≡ Some (length (bytes_before ls))
+HasItsPlace xs (item_due (levels.a_value w left done k ∷ ls)) = slice_get xs (suc (length ls)) ≡ Some (length (bytes_before (levels.a_key w left done ∷ ls)))
+HasItsPlace xs (item_due (levels.some_value done k ∷ ls)) = slice_get xs (suc (length ls)) ≡ Some (length (bytes_before (levels.some_key done ∷ ls)))
 HasItsPlace xs _ = Unit {0}
 
 -- ---- parts
@@ -108,8 +108,8 @@ pub record IsEndingAt (v : PlainItems) (b : Bounds) (e : ItemEventsView) (t : Li
   pub standing : Standing
   pub stands : StandsAt v.builder.order b.depth t q v.builder.standing height standing
   pub apart : AreApartSoFar v.builder.standing
-  pub begun : HaveBegunIn v.starts standing
-  pub place : HasItsPlace v.starts standing
+  pub begun : HaveBegunIn v.starts.items standing
+  pub place : HasItsPlace v.starts.items standing
   pub tree : IsTreeAt v.tree standing
   pub held : AreHeldSoFar (sets v) v.builder.standing
   pub kinds : v.kinds ≡ b.keys

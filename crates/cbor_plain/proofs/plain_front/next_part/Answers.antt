@@ -1,4 +1,4 @@
-use Rattle.std.proofs.Common.{◌≡◌, ◌++◌, ◌∙◌, ℕ, slice_index_or, Option, List, length, map, sym, ap, refl, subst, arith}
+use Rattle.std.proofs.Common.{◌≡◌, ◌++◌, ◌∙◌, ℕ, slice_get, Option, List, length, map, sym, ap, refl, subst, arith}
 use Rattle.std.proofs.lemmas.List.{length-append, length-set}
 use Rattle.std.specs.Prelude.{IsSome}
 use Rattle.cbor_head.specs.Verdict.{refusal}
@@ -6,13 +6,12 @@ use Rattle.cbor_head.specs.declared.reason.Reason.TheVariants.{RepeatedKey}
 use Rattle.cbor_head.specs.declared.reason.Refusal.{Refusal}
 use Rattle.cbor_builder.specs.Built.{Built}
 use Rattle.cbor_judging.specs.Levels.{frame}
-use Rattle.cbor_plain.specs.declared.plain_items.TheConstants.{PLACES}
 use Rattle.cbor_plain.specs.inner.PlainItems.{CanTake, IsGiven, sets, AreKeysBegun}
 use Rattle.cbor_plain.specs.declared.key_set.KeySet.{KeySet}
 use Rattle.cbor_item.specs.OpenValues.{OpenItem}
 use Rattle.cbor_plain.specs.TreeValues.{IsTreeStep, TakesTreePart, values_with}
 use Rattle.cbor_plain.proofs.TreeValues.{step-kept}
-use Rattle.cbor_plain.proofs.PartsTaken.{refused-part, place-room, came, part-taken, part-fits, part-fits-tree, part-no-memory}
+use Rattle.cbor_plain.proofs.PartsTaken.{refused-part, came, part-taken, part-fits, part-fits-tree, part-no-memory}
 use Rattle.cbor_plain.proofs.PartEnds.{repeated-key, goes-or-not, given-order}
 use Rattle.cbor_plain.proofs.plain_front.next_part.Goals as goal
 
@@ -21,9 +20,6 @@ next_head-requires g c = c.requires
 
 pub returns-in-Err : goal.returns-in-Err
 returns-in-Err g c = λ b t d. c.in-Err.ensures b t d
-
-pub begin_at-requires : goal.begin_at-requires
-begin_at-requires g c = let s = c.requires in place-room c.args.items.now s.b c.args.events.now s.t s.due c.open-height.result c.open-height.ensures.count
 
 pub read_part-requires : goal.read_part-requires
 read_part-requires g c =
@@ -56,8 +52,7 @@ give-requires-clause-bytes g c =
     let to = g.R.Read.remaining c.read_part.new.reader in
     let come = came c.args.items.now s.b c.args.events.now s.t d c.read_part.new.events from mid to c.in-Ok.event c.next_head.new.events n in
     let r = c.in-Ok-read_part.ensures s.b (map frame d.ls) s.t n.head.bytes c.in-Ok.event.width come in
-    subst (λ (b : Built). CanTake b c.in-Ok-read_part.part) (sym c.begin_at.ensures.same)
-    (part-fits c.args.items.now s.b c.args.events.now s.t d c.read_part.new.events from mid to c.in-Ok.event c.next_head.new.events n c.in-Ok-read_part.part r)
+    part-fits c.args.items.now s.b c.args.events.now s.t d c.read_part.new.events from mid to c.in-Ok.event c.next_head.new.events n c.in-Ok-read_part.part r
 
 pub give-requires-clause-tree : goal.give-requires-clause-tree
 give-requires-clause-tree g c =
@@ -69,8 +64,7 @@ give-requires-clause-tree g c =
     let to = g.R.Read.remaining c.read_part.new.reader in
     let come = came c.args.items.now s.b c.args.events.now s.t d c.read_part.new.events from mid to c.in-Ok.event c.next_head.new.events n in
     let r = c.in-Ok-read_part.ensures s.b (map frame d.ls) s.t n.head.bytes c.in-Ok.event.width come in
-    subst (λ (o : Option (List OpenItem)). TakesTreePart c.in-Ok-read_part.part o) (sym c.begin_at.ensures.tree)
-    (part-fits-tree c.args.items.now s.b c.args.events.now s.t d c.read_part.new.events from mid to c.in-Ok.event c.next_head.new.events n c.in-Ok-read_part.part r)
+    part-fits-tree c.args.items.now s.b c.args.events.now s.t d c.read_part.new.events from mid to c.in-Ok.event c.next_head.new.events n c.in-Ok-read_part.part r
 
 pub returns-in-Err-give : goal.returns-in-Err-give
 returns-in-Err-give g c = λ b t d.
@@ -95,14 +89,14 @@ end_full-requires g c =
     let come = came c.args.items.now s.b c.args.events.now s.t d c.read_part.new.events from mid to c.in-Ok.event c.next_head.new.events n in
     let r = c.in-Ok-read_part.ensures s.b (map frame d.ls) s.t n.head.bytes c.in-Ok.event.width come in
     let k = part-taken c.args.items.now s.b c.args.events.now s.t d c.read_part.new.events from mid to c.in-Ok.event c.next_head.new.events n c.in-Ok-read_part.part r in
-    let given = subst (λ (b : Built). IsGiven b c.in-Ok-read_part.part c.give.new.self.builder c.in-Ok-give.opened) c.begin_at.ensures.same c.in-Ok-give.ensures.given in
-    let step = subst (λ (o : Option (List OpenItem)). IsTreeStep (values_with c.in-Ok-read_part.part) o c.give.new.self.tree) c.begin_at.ensures.tree c.in-Ok-give.ensures.tree in
-    let keys = subst (λ (ss : List KeySet). AreKeysBegun c.in-Ok-give.opened ss (sets c.give.new.self)) c.begin_at.ensures.sets c.in-Ok-give.ensures.sets in
+    let given = c.in-Ok-give.ensures.given in
+    let step = c.in-Ok-give.ensures.tree in
+    let keys = c.in-Ok-give.ensures.sets in
     record {
       b = s.b;
       e = c.read_part.new.events;
       t = s.t ++ k.bytes;
-      ending = k.leads c.give.new.self c.open-height.result c.in-Ok.event.place c.in-Ok-give.opened c.open-height.ensures.count refl (c.give.ensures.same ∙ c.begin_at.ensures.starts) (c.give.ensures.kinds ∙ c.begin_at.ensures.kinds) given step keys;
+      ending = k.leads c.give.new.self c.open-height.result c.in-Ok.event.place c.in-Ok-give.opened c.open-height.ensures.count refl c.in-Ok-give.ensures.starts c.give.ensures.kinds given step keys;
       counted = c.open-open.ensures.count;
     }
 
@@ -118,24 +112,6 @@ returns-in-Err-end_full g c = λ b t d.
     part-no-memory c.args.items.now b c.args.events.now t d c.read_part.new.events from mid to c.in-Ok.event c.next_head.new.events n c.in-Ok-read_part.part k c.no_memory-in-Err-end_full.result c.no_memory-in-Err-end_full.ensures.memory
     c.no_memory-in-Err-end_full.ensures.place c.no_memory-in-Err-end_full.ensures.taken
 
-pub repeated-requires : goal.repeated-requires
-repeated-requires g c =
-    let s = c.requires in
-    let room = place-room c.args.items.now s.b c.args.events.now s.t s.due 0 in
-    let places = s.due.places in
-    let size : length c.end_full.new.self.starts ≡ length c.args.items.now.starts =
-    ap length (c.end_full.ensures.same ∙ c.give.ensures.same ∙ c.begin_at.ensures.starts) ∙ length-set c.args.items.now.starts c.open-height.result c.in-Ok.event.place in
-    let n = c.in-Ok.ensures s.b s.t s.due in
-    let from = g.R.Read.remaining c.args.reader.now in
-    let mid = g.R.Read.remaining c.next_head.new.reader in
-    let to = g.R.Read.remaining c.read_part.new.reader in
-    let come = came c.args.items.now s.b c.args.events.now s.t s.due c.read_part.new.events from mid to c.in-Ok.event c.next_head.new.events n in
-    let r = c.in-Ok-read_part.ensures s.b (map frame s.due.ls) s.t n.head.bytes c.in-Ok.event.width come in
-    let k = part-taken c.args.items.now s.b c.args.events.now s.t s.due c.read_part.new.events from mid to c.in-Ok.event c.next_head.new.events n c.in-Ok-read_part.part r in
-    let depth = k.at.depth in
-    let most = k.at.limits.0 in
-    omega (arith, c.open-open.ensures.within, depth, most, places, size)
-
 pub returns-in-Ok-None : goal.returns-in-Ok-None
 returns-in-Ok-None g c = λ b t d.
     let n = c.in-Ok.ensures b t d in
@@ -145,15 +121,12 @@ returns-in-Ok-None g c = λ b t d.
     let come = came c.args.items.now b c.args.events.now t d c.read_part.new.events from mid to c.in-Ok.event c.next_head.new.events n in
     let r = c.in-Ok-read_part.ensures b (map frame d.ls) t n.head.bytes c.in-Ok.event.width come in
     let k = part-taken c.args.items.now b c.args.events.now t d c.read_part.new.events from mid to c.in-Ok.event c.next_head.new.events n c.in-Ok-read_part.part r in
-    let given = subst (λ (b : Built). IsGiven b c.in-Ok-read_part.part c.give.new.self.builder c.in-Ok-give.opened) c.begin_at.ensures.same c.in-Ok-give.ensures.given in
-    let step = subst (λ (o : Option (List OpenItem)). IsTreeStep (values_with c.in-Ok-read_part.part) o c.give.new.self.tree) c.begin_at.ensures.tree c.in-Ok-give.ensures.tree in
-    let keys = subst (λ (ss : List KeySet). AreKeysBegun c.in-Ok-give.opened ss (sets c.give.new.self)) c.begin_at.ensures.sets c.in-Ok-give.ensures.sets in
-    let ending = k.leads c.give.new.self c.open-height.result c.in-Ok.event.place c.in-Ok-give.opened c.open-height.ensures.count refl (c.give.ensures.same ∙ c.begin_at.ensures.starts) (c.give.ensures.kinds ∙ c.begin_at.ensures.kinds) given step keys in
+    let given = c.in-Ok-give.ensures.given in
+    let step = c.in-Ok-give.ensures.tree in
+    let keys = c.in-Ok-give.ensures.sets in
+    let ending = k.leads c.give.new.self c.open-height.result c.in-Ok.event.place c.in-Ok-give.opened c.open-height.ensures.count refl c.in-Ok-give.ensures.starts c.give.ensures.kinds given step keys in
     let ended = c.in-Ok-end_full.ensures.ends b c.read_part.new.events (t ++ k.bytes) ending c.open-open.ensures.count in
     let some = k.some in
-    let places = d.places in
-    let size : length c.end_full.new.self.starts ≡ PLACES =
-    ap length (c.end_full.ensures.same ∙ c.give.ensures.same ∙ c.begin_at.ensures.starts) ∙ length-set c.args.items.now.starts c.open-height.result c.in-Ok.event.place ∙ places in
     let key = rw c.in-Ok-None.field-0-is at (c.in-Ok-None.ensures.answers ended.2.held) in
     record {
       bytes = k.bytes;
@@ -162,7 +135,7 @@ returns-in-Ok-None g c = λ b t d.
       order = ap (λ (x : Built). x.order) c.repeated.ensures.same.0 ∙ ended.0 ∙ given-order c.args.items.now.builder c.in-Ok-read_part.part c.give.new.self.builder c.in-Ok-give.opened given;
       kept = λ some. subst IsSome (sym c.repeated.ensures.same.2) (ended.1 (step-kept (values_with c.in-Ok-read_part.part) c.args.items.now.tree c.give.new.self.tree step some));
       stands = goes-or-not c.end_full.new.self c.repeated.new.self b c.read_part.new.events (t ++ k.bytes) c.open-open.result ended.2 (omega (arith, some, length-append t k.bytes)) c.repeated.ensures.same.0 c.repeated.ensures.same.1 c.repeated.ensures.same.2 c.repeated.ensures.same.3
-          size key c.open-open.ensures.count;
+          key c.open-open.ensures.count;
     }
 
 pub returns-in-Ok-Some : goal.returns-in-Ok-Some
@@ -174,10 +147,10 @@ returns-in-Ok-Some g c = λ b t d.
     let come = came c.args.items.now b c.args.events.now t d c.read_part.new.events from mid to c.in-Ok.event c.next_head.new.events n in
     let r = c.in-Ok-read_part.ensures b (map frame d.ls) t n.head.bytes c.in-Ok.event.width come in
     let k = part-taken c.args.items.now b c.args.events.now t d c.read_part.new.events from mid to c.in-Ok.event c.next_head.new.events n c.in-Ok-read_part.part r in
-    let given = subst (λ (b : Built). IsGiven b c.in-Ok-read_part.part c.give.new.self.builder c.in-Ok-give.opened) c.begin_at.ensures.same c.in-Ok-give.ensures.given in
-    let step = subst (λ (o : Option (List OpenItem)). IsTreeStep (values_with c.in-Ok-read_part.part) o c.give.new.self.tree) c.begin_at.ensures.tree c.in-Ok-give.ensures.tree in
-    let keys = subst (λ (ss : List KeySet). AreKeysBegun c.in-Ok-give.opened ss (sets c.give.new.self)) c.begin_at.ensures.sets c.in-Ok-give.ensures.sets in
-    let ending = k.leads c.give.new.self c.open-height.result c.in-Ok.event.place c.in-Ok-give.opened c.open-height.ensures.count refl (c.give.ensures.same ∙ c.begin_at.ensures.starts) (c.give.ensures.kinds ∙ c.begin_at.ensures.kinds) given step keys in
+    let given = c.in-Ok-give.ensures.given in
+    let step = c.in-Ok-give.ensures.tree in
+    let keys = c.in-Ok-give.ensures.sets in
+    let ending = k.leads c.give.new.self c.open-height.result c.in-Ok.event.place c.in-Ok-give.opened c.open-height.ensures.count refl c.in-Ok-give.ensures.starts c.give.ensures.kinds given step keys in
     let ended = c.in-Ok-end_full.ensures.ends b c.read_part.new.events (t ++ k.bytes) ending c.open-open.ensures.count in
     let some = k.some in
     let key = rw c.in-Ok-Some.field-0-is at (c.in-Ok-Some.ensures.answers ended.2.held) in
@@ -187,7 +160,7 @@ returns-in-Ok-Some g c = λ b t d.
       consumed = k.consumed;
       read = ap (λ (x : Refusal). x.read) told ∙ k.at.stands.stands.taken;
       why = repeated-key c.end_full.new.self b c.read_part.new.events (t ++ k.bytes) ended.2 (omega (arith, some, length-append t k.bytes)) c.in-Ok-Some.place c.new.result key.0
-          (key.1 ∙ ap (λ (i : ℕ). slice_index_or c.end_full.new.self.starts i 0) c.open-open.ensures.count)
+          (λ at is. key.1 at (ap (λ (i : ℕ). slice_get c.end_full.new.self.starts.items i) c.open-open.ensures.count ∙ is))
           told _ _;
     }
 

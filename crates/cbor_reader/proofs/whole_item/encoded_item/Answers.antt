@@ -1,7 +1,13 @@
 use Rattle.std.proofs.Common.{arith}
 use Rattle.cbor_reader.specs.WholeItem.{unread}
+use Rattle.cbor_reader.proofs.Headline.{answers_exactly}
 use Rattle.cbor_reader.proofs.WholeItems.{trails, all-of-it}
 use Rattle.cbor_reader.proofs.whole_item.encoded_item.Goals as goal
+
+pub returns-then-is_canonical-clause-encoded : goal.returns-then-is_canonical-clause-encoded
+returns-then-is_canonical-clause-encoded c =
+    let h = (answers_exactly c.args.limits c.args.order c.args.bytes.now c.args.bytes.now).0 (c.is_canonical.ensures c.if-is_canonical.true) in
+    (h.0, h.1, h.2)
 
 pub returns-then-front-bytes-clause-refused : goal.returns-then-front-bytes-clause-refused
 returns-then-front-bytes-clause-refused c =

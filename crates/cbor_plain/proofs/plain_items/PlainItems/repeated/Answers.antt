@@ -1,4 +1,5 @@
-use Rattle.std.proofs.Common.{◌∷◌, refl, subst}
+use Rattle.std.proofs.Common.{ℕ, ◌∷◌, ◌∙◌, List, Option, slice_get, unwrap_or, ap, arith, subst}
+use Rattle.std.proofs.lemmas.Option.{get_or_from_slice_get}
 use Rattle.std.specs.Prelude.{reverse}
 use Rattle.cbor_plain.specs.inner.HeldKeys.{IsAdded}
 use Rattle.cbor_plain.proofs.HeldKeys.{none-waits, keys_at_top, top-held, fresh-key, old-key}
@@ -22,5 +23,7 @@ returns-clause-answers c = λ h.
     let os = s.builder.standing in (
       old-key os c.in-Some.key.now c.add.new.self c.in-Some.ensures
           (subst (IsAdded c.in-Some.key.now (keys_at_top os) c.add.new.self) c.if-branch.false (c.in_ok-add.ensures (keys_at_top os) (top-held s.keys ss os h))),
-      refl,
+      (λ at is.
+      c.unwrap_or.ensures ∙ ap (λ (o : Option ℕ). unwrap_or o 0) c.copied.ensures ∙ c.get.ensures.lookup.4 (omega arith) 0
+      ∙ get_or_from_slice_get c.deref.result.now c.args.open at 0 (ap (λ (xs : List ℕ). slice_get xs c.args.open) c.deref.ensures.value ∙ is)),
     )
