@@ -105,6 +105,15 @@ static void take(const struct events_row *row, const uint8_t *in, size_t n, size
     compare(row, &told, status, why);
 }
 
+/* A start sets every byte, those between two fields too, so that a machine may be written to a file. */
+static void starts_anew(void) {
+    struct naltvigo_machine machine, zeros;
+    memset(&machine, 0xaa, sizeof machine);
+    memset(&zeros, 0, sizeof zeros);
+    check(naltvigo_machine_start(LIMITS(0, 0), &machine) == NALTVIGO_OK && memcmp(&machine, &zeros, sizeof zeros) == 0,
+          "start", "every byte");
+}
+
 /* Without room for an event nothing is used. */
 static void without_room(void) {
     struct naltvigo_machine machine;
@@ -165,6 +174,7 @@ int main(void) {
         for (size_t room = 1; room < 4; room++) take(row, in, n, room + 1, room);
         take(row, in, n, n + 1, 64);
     }
+    starts_anew();
     without_room();
     refuses_other_numbers();
     printf("%d checks of a machine, %d fail\n", checks, faults);

@@ -1,5 +1,6 @@
 -- The machine that the numbers of a saved one hold.
-use Rattle.std.specs.Prelude.{ℕ, ◌≡◌, List, length, replicate}
+use Rattle.std.specs.Prelude.{ℕ, ◌≡◌, List, [], length, replicate}
+use Rattle.cbor_standing.specs.Machine.{StandsFor}
 use Rattle.cbor_standing.specs.MachineView.{MachineView}
 use Rattle.cbor_machine.specs.inner.Saved.{IsHeld}
 use Rattle.cbor_machine.specs.declared.machine.saved.SavedMachine.{SavedMachine}
@@ -12,6 +13,14 @@ pub record Holds (s : SavedMachine) (m : MachineView) : Type 0 where
   pub open_count : m.open_count ≡ s.open
   -- where the next byte belongs, the open containers and the refusal
   pub inner : IsHeld s m
+
+-- The numbers hold a machine before an item's first byte, with these limits.
+pub record Starts (s : SavedMachine) (depth bytes : ℕ) : Type 0 where
+  pub machine : MachineView
+  pub holds : Holds s machine
+  pub depth_is : machine.depth ≡ depth
+  pub bytes_is : machine.bytes ≡ bytes
+  pub stands : StandsFor machine [] []
 
 abbrev pub AreZeros : List ℕ → Type 0
 AreZeros ns = ns ≡ replicate (length ns) 0

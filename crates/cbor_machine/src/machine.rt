@@ -201,6 +201,7 @@ impl Machine {
 
     /// Takes bytes from the front of the input until an event is complete, or a byte is refused, or
     /// none is left. Once the item is complete, or refused, it uses nothing and answers the same.
+    #[inline(always)]
     pub fn step(&mut self, input: &[u8]) -> Step
         ensures used { (result.used ≤ length input.now)
             × (self.new.taken ≡ self.old.taken + result.used) }

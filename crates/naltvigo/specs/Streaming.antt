@@ -108,11 +108,3 @@ pub record Streams (old new : SavedMachine) (bs : List ℕ) (status : ℕ) (even
 pub record StaysSo (old new : SavedMachine) (used status : ℕ) (r : NaltvigoRefusal) : Type 0 where
   pub complete : (m : MachineView) → Holds old m → IsComplete m → (status ≡ 0) × (used ≡ 0) × Holds new m
   pub refused : (m : MachineView) → Holds old m → IfSome m.refusal (λ f. (status ≡ 1) × IsTold f r × (used ≡ 0) × Holds new m)
-
--- The numbers hold a machine before an item's first byte, with these limits.
-pub record Starts (s : SavedMachine) (depth bytes : ℕ) : Type 0 where
-  pub machine : MachineView
-  pub holds : Holds s machine
-  pub depth_is : machine.depth ≡ depth
-  pub bytes_is : machine.bytes ≡ bytes
-  pub stands : StandsFor machine [] []

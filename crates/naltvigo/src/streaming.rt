@@ -3,9 +3,9 @@
 ghost use Rattle.std.specs.Prelude.{◌≡◌, ◌≢◌, ◌⊎◌, ◌<◌, ◌≤◌, ◌+◌, drop, length, take, IfSome};
 ghost use Rattle.cbor_standing.specs.Machine.{IsComplete};
 ghost use Rattle.cbor_standing.specs.MachineView.{MachineView};
-ghost use Rattle.cbor_machine.specs.Saved.{Holds};
+ghost use Rattle.cbor_machine.specs.Saved.{Holds, Starts};
 ghost use Rattle.cbor_head.specs.Limits.{bounds, AreBounds};
-ghost use Rattle.naltvigo.specs.Streaming.{IsToldEvent, Starts, StaysSo, Streams, TellsOn};
+ghost use Rattle.naltvigo.specs.Streaming.{IsToldEvent, StaysSo, Streams, TellsOn};
 ghost use Rattle.naltvigo.specs.Streaming.{kind_number, number_of, width_number};
 ghost use Rattle.naltvigo.specs.Told.{IsTold};
 
@@ -14,7 +14,7 @@ use crate::status::{
     BAD_LIMITS, BAD_MACHINE, EVENT, MORE, NaltvigoRefusal, OK, REFUSED, told as of_refusal,
 };
 use cbor_automaton::{Event, EventKind};
-use cbor_head::Width;
+use cbor_head::{Limits, Width};
 use cbor_machine::{Machine, Out, SavedMachine};
 
 /// The kind of a chunk's head; below it are the major types.
@@ -55,7 +55,7 @@ pub extern "C" fn naltvigo_machine_start_raw(
 {
     match bounds_of(depth, bytes) {
         Some(limits) => {
-            *machine = Machine::new(limits).save();
+            machine.start(limits);
             OK
         }
         None => BAD_LIMITS,
@@ -94,11 +94,16 @@ pub extern "C" fn naltvigo_machine_take_raw(
     ensures untold { drop told.new events.new ≡ drop told.new events.old }
     ensures unrefused { result ≢ REFUSED → refusal.new ≡ refusal.old }
 {
-    let Some(mut taking) = Machine::restore(machine) else {
-        *used = 0;
-        *told = 0;
+    *used = 0;
+    *told = 0;
+    let Some(limits) = Limits::new(machine.depth, machine.bytes) else {
         return BAD_MACHINE;
     };
+    // In place: a machine has some 9 KiB, and no call copies one.
+    let mut taking = Machine::new(limits);
+    if !taking.resume(machine) {
+        return BAD_MACHINE;
+    }
     let taken = take_events(&mut taking, input, events, refusal);
     taking.save_into(machine);
     *used = taken.used;
@@ -124,7 +129,7 @@ impl Taken {
     }
 }
 
-// The same of a machine that is restored.
+// The same of a machine that goes on.
 fn take_events(
     machine: &mut Machine,
     input: &[u8],

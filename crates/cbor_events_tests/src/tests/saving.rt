@@ -48,6 +48,11 @@ fn numbers_of_a_machine(rt: HostRuntime) {
     assert!(rt; (saved.open, saved.position, saved.reason) == (1, 0, 0));
     assert!(rt; (saved.lefts[0], saved.kinds[0]) == (0, 0));
     assert!(rt; Machine::restore(&saved).is_some());
+    let mut other = Machine::new(limits(&rt, 1, 4));
+    assert!(rt; other.resume(&saved) && other.save() == saved);
+    let mut started = saved;
+    started.start(limits(&rt, 1, 4));
+    assert!(rt; started == Machine::new(limits(&rt, 1, 4)).save());
 }
 
 // More open than the depth limit, more taken than the byte limit, limits out of range, an argument

@@ -223,17 +223,17 @@ pub(crate) fn refusal_at(code: u8, place: u64, read: u64) -> Option<Refusal>
     Some(refusal_of(reason, place, read))
 }
 
-pub(crate) fn nest_of(lefts: &[u64], kinds: &[u8]) -> Nest
+// Opens these containers in place of what is open.
+pub(crate) fn open_frames(nest: &mut Nest, lefts: &[u64], kinds: &[u8])
     requires open { length lefts.now ≤ MOST_OPEN }
     requires same { length kinds.now ≡ length lefts.now }
-    ensures frames { result ≡ frames_by lefts.now kinds.now }
-    ensures count { length result ≡ length lefts.now }
+    ensures frames { nest.new ≡ frames_by lefts.now kinds.now }
+    ensures count { length nest.new ≡ length lefts.now }
 {
-    let mut nest = Nest::new();
+    nest.clear();
     for i in 0..lefts.len() {
         nest.push(due_of(kinds[i]), lefts[i]);
     }
-    nest
 }
 
 fn due_of(code: u8) -> Due

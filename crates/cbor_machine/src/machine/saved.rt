@@ -1,21 +1,24 @@
 //! A machine as plain numbers, to be kept where no machine can be.
 
-ghost use Rattle.std.specs.Prelude.{◌≡◌, ◌↔◌, ◌*◌, ◌+◌, ◌^◌, ◌<◌, ◌≤◌, ◌-◌, IfSome, IsTrue, Some, drop};
+ghost use Rattle.std.specs.Prelude.{◌≡◌, ◌↔◌, ◌*◌, ◌+◌, ◌^◌, ◌<◌, ◌≤◌, ◌-◌, IfSome, IsTrue, Some};
+ghost use Rattle.std.specs.Prelude.{List, drop, false, length, true};
 ghost use Rattle.cbor_standing.specs.MachineView.{MachineView};
-ghost use Rattle.cbor_machine.specs.Saved.{AreZeros, Holds};
+ghost use Rattle.cbor_machine.specs.Saved.{AreZeros, Holds, Starts};
 ghost use Rattle.cbor_steps.specs.State.{IsFit, IsSettled};
+ghost use Rattle.cbor_steps.specs.declared.frame.Frame.{Frame};
 
 use crate::machine::Machine;
 use crate::machine::codes::{
-    codes_of, nest_of, position_of, refusal_at, refusal_codes, save_frames,
+    codes_of, open_frames, position_of, refusal_at, refusal_codes, save_frames,
 };
 use cbor_head::{Limits, Width};
-use cbor_steps::{MOST_OPEN, Nest, Position, has_room};
+use cbor_steps::{MOST_OPEN, Numbered, Position};
 
 /// A machine as plain numbers, in the layout of C.
 ///
-/// `Machine::save` fills it, `Machine::restore` makes a machine of it. Who keeps one may read it,
-/// and writes nothing into it. An open container takes nine bytes.
+/// `Machine::save` fills it, `Machine::restore` makes a machine of it, and `Machine::resume` goes on
+/// as that machine. Who keeps one may read it, and writes nothing into it. An open container takes
+/// nine bytes.
 #[repr(C)]
 #[derive(Clone, Copy, Debug, PartialEq, Eq)]
 pub struct SavedMachine {
@@ -54,6 +57,38 @@ pub struct SavedMachine {
     pub kinds: [u8; MOST_OPEN],
 }
 
+// All zeros, so that one fill sets every byte, those between two fields too.
+const ZEROS: SavedMachine = SavedMachine {
+    bytes: 0,
+    taken: 0,
+    told: 0,
+    number: 0,
+    place: 0,
+    depth: 0,
+    open: 0,
+    position: 0,
+    kind: 0,
+    width: 0,
+    left: 0,
+    chunk: 0,
+    reason: 0,
+    lefts: [0; MOST_OPEN],
+    kinds: [0; MOST_OPEN],
+};
+
+impl SavedMachine {
+    /// Becomes the numbers of a machine before an item's first byte, within these limits, with zeros
+    /// in both arrays.
+    pub fn start(&mut self, limits: Limits)
+        ensures starts { Starts self.new limits.depth limits.bytes }
+        ensures zeros { AreZeros self.new.lefts × AreZeros self.new.kinds }
+    {
+        *self = ZEROS;
+        self.bytes = limits.bytes();
+        self.depth = limits.depth();
+    }
+}
+
 impl Machine {
     /// The machine as plain numbers, with zeros behind the open containers.
     pub fn save(&self) -> SavedMachine
@@ -61,23 +96,7 @@ impl Machine {
         ensures zeros { AreZeros (drop self.now.open_count result.lefts)
             × AreZeros (drop self.now.open_count result.kinds) }
     {
-        let mut saved = SavedMachine {
-            bytes: 0,
-            taken: 0,
-            told: 0,
-            number: 0,
-            place: 0,
-            depth: 0,
-            open: 0,
-            position: 0,
-            kind: 0,
-            width: 0,
-            left: 0,
-            chunk: 0,
-            reason: 0,
-            lefts: [0; MOST_OPEN],
-            kinds: [0; MOST_OPEN],
-        };
+        let mut saved = ZEROS;
         self.save_into(&mut saved);
         saved
     }
@@ -117,35 +136,51 @@ impl Machine {
         ensures held { (m : MachineView) → Holds saved.now m → result ≡ Some m }
         ensures restored { IfSome result (Holds saved.now) }
     {
-        let limits = Limits::new(saved.depth, saved.bytes)?;
+        let mut machine = Machine::new(Limits::new(saved.depth, saved.bytes)?);
+        if machine.resume(saved) {
+            Some(machine)
+        } else {
+            None
+        }
+    }
+
+    /// Becomes in place the machine that `restore` makes of these numbers, whatever it was before.
+    /// False, and it stays what it was, where they hold none.
+    pub fn resume(&mut self, saved: &SavedMachine) -> bool
+        ensures held { (m : MachineView) → Holds saved.now m → (result ≡ true) × (self.new ≡ m) }
+        ensures resumed { IsTrue result → Holds saved.now self.new }
+        ensures kept { result ≡ false → self.new ≡ self.old }
+    {
+        let Some(limits) = Limits::new(saved.depth, saved.bytes) else {
+            return false;
+        };
         if saved.open > saved.depth || saved.taken > saved.bytes {
-            return None;
+            return false;
         }
         let position = position_of(saved);
-        let open = usize::from(saved.open);
-        let nest = nest_of(&saved.lefts[..open], &saved.kinds[..open]);
-        if !is_fit(usize::from(saved.depth), position, &nest) {
-            return None;
+        if !is_fit(saved.depth, position, saved.open) {
+            return false;
         }
         let refusal = refusal_at(saved.reason, saved.place, saved.taken);
-        if refusal.is_none() && saved.told != saved.taken && is_settled(position, &nest) {
-            return None;
+        if refusal.is_none() && saved.told != saved.taken && is_settled(position, saved.open) {
+            return false;
         }
-        Some(Machine {
-            limits,
-            taken: saved.taken,
-            told: saved.told,
-            position,
-            nest,
-            refusal,
-        })
+        self.limits = limits;
+        self.taken = saved.taken;
+        self.told = saved.told;
+        self.position = position;
+        self.refusal = refusal;
+        let open = usize::from(saved.open);
+        open_frames(&mut self.nest, &saved.lefts[..open], &saved.kinds[..open]);
+        true
     }
 }
 
-// Whether the argument has room for the bytes that are left, and a container for its frame; behind
-// the item nothing is open.
-fn is_fit(depth: usize, position: Position, nest: &Nest) -> bool
-    ensures { IsTrue result ↔ IsFit depth nest.now position }
+// Whether the argument has room for the bytes that are left, and a container beside so many that
+// are open; behind the item nothing is open.
+fn is_fit(depth: u16, position: Position, count: u16) -> bool
+    ensures { (nest : List Frame) → length nest ≡ count
+        → (IsTrue result ↔ IsFit depth nest position) }
 {
     match position {
         Position::Head {
@@ -158,8 +193,11 @@ fn is_fit(depth: usize, position: Position, nest: &Nest) -> bool
             left,
             argument,
             ..
-        } => { has_bytes_left(argument, left) && (chunk || has_room(depth, kind, nest)) }
-        Position::Done => nest.len() == 0,
+        } => {
+            let opens = matches!(kind, Numbered::Array | Numbered::Map | Numbered::Tag);
+            has_bytes_left(argument, left) && (chunk || !opens || count < depth)
+        }
+        Position::Done => count == 0,
         _ => true,
     }
 }
@@ -181,13 +219,14 @@ fn has_bytes_left(argument: u64, left: u8) -> bool
     }
 }
 
-// Whether no head is open.
-fn is_settled(position: Position, nest: &Nest) -> bool
-    ensures { IsTrue result ↔ IsSettled nest.now position }
+// Whether no head is open, where so many containers are.
+fn is_settled(position: Position, count: u16) -> bool
+    ensures { (nest : List Frame) → length nest ≡ count
+        → (IsTrue result ↔ IsSettled nest position) }
 {
     match position {
         Position::Head { .. } | Position::SimpleNumber => false,
-        Position::Done => nest.len() == 0,
+        Position::Done => count == 0,
         _ => true,
     }
 }

@@ -1,0 +1,14 @@
+use Rattle.std.proofs.Common.{[], None, refl, rules}
+use Rattle.cbor_steps.specs.declared.position.Position.TheVariants as positions
+use Rattle.cbor_machine.specs.contracts.machine.Machine.{the_view}
+use Rattle.cbor_machine.proofs.Starting.{starts}
+use Rattle.cbor_machine.proofs.machine.saved.SavedMachine.start.Goals as goal
+
+pub returns-clause-starts : goal.returns-clause-starts
+returns-clause-starts c = record {
+  machine = the_view (record { limits = c.args.limits; taken = 0; told = 0; position = positions.Item; nest = []; refusal = None });
+  holds = search rules;
+  depth_is = refl;
+  bytes_is = refl;
+  stands = starts c.args.limits [] refl;
+}
