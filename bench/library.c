@@ -117,17 +117,24 @@ static void tell(int (*call)(void), size_t length) {
 }
 
 /* Small items: what a call costs by itself. The claims are those of RFC 8392, appendix A.1. */
+#define CLAIMS \
+    "\x01\x75" "coap://as.example.com" "\x02\x65" "erikw" "\x03\x78\x18" "coap://light.example.com" \
+    "\x04\x1a\x56\x12\xae\xb0\x05\x1a\x56\x10\xd9\xf0\x06\x1a\x56\x10\xd9\xf0"
+#define LAST_CLAIM "\x07\x42\x0b\x71"
 static const struct {
     const char *name;
     const char *bytes;
     size_t length;
+    /* Where these are not canonical, those that are. */
+    const char *canonical;
+    size_t canonical_length;
 } small[] = {
-    {"the integer 0", "\x00", 1},
-    {"a byte string of 23", "\x57" "01234567890123456789012", 24},
-    {"a map of a text and a number", "\xa1\x63" "Fun" "\x18\x2a", 7},
-    {"the claims of a token",
-     "\xa7\x01\x75" "coap://as.example.com" "\x02\x65" "erikw" "\x03\x78\x18" "coap://light.example.com"
-     "\x04\x1a\x56\x12\xae\xb0\x05\x1a\x56\x10\xd9\xf0\x06\x1a\x56\x10\xd9\xf0\x07\x42\x0b\x71", 80},
+    {"the integer 0", "\x00", 1, NULL, 0},
+    {"a byte string of 23", "\x57" "01234567890123456789012", 24, NULL, 0},
+    {"a map of a text and a number", "\xa1\x63" "Fun" "\x18\x2a", 7, NULL, 0},
+    {"the claims of a token", "\xa7" CLAIMS LAST_CLAIM, 80, NULL, 0},
+    {"the integer 0 in two bytes", "\x18\x00", 2, "\x00", 1},
+    {"these claims, the last one first", "\xa7" LAST_CLAIM CLAIMS, 80, "\xa7" CLAIMS LAST_CLAIM, 80},
 };
 
 /* Prints how many nanoseconds a call takes, the best of some thousands. */
@@ -152,6 +159,7 @@ static uint8_t room[1024];
 
 static void take_small(size_t i) {
     in = canonical = (struct bytes){(uint8_t *)small[i].bytes, small[i].length};
+    if (small[i].canonical) canonical = (struct bytes){(uint8_t *)small[i].canonical, small[i].canonical_length};
     out = (struct bytes){room, sizeof room};
 }
 

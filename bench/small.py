@@ -11,6 +11,7 @@ import sys
 from strict import instructions
 
 ITEMS = ["the integer 0", "a byte string of 23", "a map of a text and a number", "the claims of a token"]
+ITEMS += ["the integer 0 in two bytes", "these claims, the last one first"]
 CALLS = ["canonicalise", "check_canonical", "check_valid", "compare", "diagnostic", "events"]
 PLAIN = ["plain_canonicalise", "plain_check_canonical"]
 TIMES = 1000

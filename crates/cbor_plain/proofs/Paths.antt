@@ -105,9 +105,11 @@ begun-more xs [] i place l room h = tt
 begun-more xs (m ∷ ls) i place l room h =
     let at = slice_get_within xs (length ls) (length (bytes_before ls)) h.0 in
     let less : length ls < i = omega (arith, l) in
-    let size = length-take-le i xs room in
-    (slice_get-get_or (take i xs ++ place ∷ []) (length ls) 0 (omega (arith, less, size, length-append (take i xs) (place ∷ [])))
-    ∙ ap (λ (n : ℕ). Some n) (get_or-append (take i xs) (place ∷ []) 0 (length ls) (omega (arith, less, size)) ∙ get_or-take i xs (length ls) 0 less ∙ get_or_from_slice_get xs (length ls) (length (bytes_before ls)) 0 h.0), begun-more xs ls i place (omega (arith, l)) room h.1)
+    let size = length-take-le i xs room in (
+      slice_get-get_or (take i xs ++ place ∷ []) (length ls) 0 (omega (arith, less, size, length-append (take i xs) (place ∷ [])))
+          ∙ ap (λ (n : ℕ). Some n) (get_or-append (take i xs) (place ∷ []) 0 (length ls) (omega (arith, less, size)) ∙ get_or-take i xs (length ls) 0 less ∙ get_or_from_slice_get xs (length ls) (length (bytes_before ls)) 0 h.0),
+      begun-more xs ls i place (omega (arith, l)) room h.1,
+    )
 
 pub begins-at : (xs : List ℕ) (i place : ℕ) → i ≤ length xs → slice_get (take i xs ++ place ∷ []) i ≡ Some place
 begins-at xs i place room =

@@ -24,6 +24,6 @@ returns-clause-answers c = λ h.
       old-key os c.in-Some.key.now c.add.new.self c.in-Some.ensures
           (subst (IsAdded c.in-Some.key.now (keys_at_top os) c.add.new.self) c.if-branch.false (c.in_ok-add.ensures (keys_at_top os) (top-held s.keys ss os h))),
       (λ at is.
-      c.unwrap_or.ensures ∙ ap (λ (o : Option ℕ). unwrap_or o 0) c.copied.ensures ∙ c.get.ensures.lookup.4 (omega arith) 0
-      ∙ get_or_from_slice_get c.deref.result.now c.args.open at 0 (ap (λ (xs : List ℕ). slice_get xs c.args.open) c.deref.ensures.value ∙ is)),
+          c.unwrap_or.ensures ∙ ap (λ (o : Option ℕ). unwrap_or o 0) c.copied.ensures ∙ c.get.ensures.lookup.4 (omega arith) 0
+          ∙ get_or_from_slice_get c.deref.result.now c.args.open at 0 (ap (λ (xs : List ℕ). slice_get xs c.args.open) c.deref.ensures.value ∙ is)),
     )
