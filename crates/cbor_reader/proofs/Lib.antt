@@ -1,3 +1,4 @@
+pub mod CanonicalFronts
 pub mod CanonicaliserRefusals
 pub mod Comparing
 pub mod CutShort

@@ -6,10 +6,14 @@ ghost use Rattle.cbor_head.specs.declared.reason.Reason.TheVariants as reasons;
 ghost use Rattle.cbor_judging.specs.Readers.{IsRead, IsUnread};
 
 use crate::valid_front::read_again;
-use cbor_head::{KeyOrder, Limits, Refusal};
+use cbor_head::{KeyOrder, Limits, Reason, Refusal};
 use cbor_key_bytes::{KeyBytes, LentKeys};
+use cbor_strict::check_canonical;
 use cbor_walk::give_front;
 use std::alloc::Global;
+
+// Behind an item that is valid and not canonical, so many are not looked at as canonical bytes first.
+const PAUSE: u8 = 15;
 
 /// Checks one item after another, each as [`check_valid`](crate::check_valid) does, in memory that
 /// it keeps.
@@ -17,6 +21,8 @@ use std::alloc::Global;
 pub struct ItemCheck {
     alloc: Global,
     keys: KeyBytes,
+    // So many items are not looked at as canonical bytes first.
+    pause: u8,
 }
 
 impl ItemCheck {
@@ -25,11 +31,33 @@ impl ItemCheck {
         ItemCheck {
             alloc,
             keys: KeyBytes::new(alloc),
+            pause: 0,
         }
     }
 
-    /// How many bytes the item has that the slice begins with, or its refusal.
+    /// How many bytes the item has that the slice begins with, or its refusal. Canonical bytes, by
+    /// the order of RFC 8949, are judged without a copy of their keys; they are looked for first
+    /// where the item before was canonical.
     pub fn check(&mut self, bytes: &[u8], limits: Limits) -> Result<u64, Refusal>
+        ensures accepted { IfOk result (λ count. IsRead limits plain bytes.now count) }
+        ensures refused { IfErr result (λ f. IsUnread limits plain bytes.now f) }
+        ensures no_read { IfErr result (λ f. f.reason ≢ reasons.Read) }
+    {
+        if self.pause > 0 {
+            self.pause -= 1;
+            return self.check_any(bytes, limits);
+        }
+        match check_canonical(bytes, limits, KeyOrder::Bytewise) {
+            Ok(size) => return Ok(size),
+            // It says nothing of the items behind this one.
+            Err(refusal) if refusal.reason == Reason::Truncated => {}
+            Err(_) => self.pause = PAUSE,
+        }
+        self.check_any(bytes, limits)
+    }
+
+    // The same of any item, by its keys.
+    fn check_any(&mut self, bytes: &[u8], limits: Limits) -> Result<u64, Refusal>
         ensures accepted { IfOk result (λ count. IsRead limits plain bytes.now count) }
         ensures refused { IfErr result (λ f. IsUnread limits plain bytes.now f) }
         ensures no_read { IfErr result (λ f. f.reason ≢ reasons.Read) }

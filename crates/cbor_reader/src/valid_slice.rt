@@ -14,7 +14,8 @@ use std::alloc::Global;
 /// was refused before, at the count of the bytes taken.
 ///
 /// It answers as [`read_tree`](crate::read_tree) does of a reader over the slice. No tree is made;
-/// memory is taken for the canonical bytes of keys, by which equal ones are found.
+/// of an item that is not canonical memory is taken for the canonical bytes of keys, by which equal
+/// ones are found.
 pub fn check_valid(alloc: Global, bytes: &[u8], limits: Limits) -> Result<u64, Refusal>
     ensures accepted { IfOk result (λ count. IsRead limits plain bytes.now count) }
     ensures refused { IfErr result (λ f. IsUnread limits plain bytes.now f) }

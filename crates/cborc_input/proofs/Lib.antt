@@ -1,4 +1,3 @@
-mod Canonical
 pub mod Faults
 mod Items
 pub mod NoInput
