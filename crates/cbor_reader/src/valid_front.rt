@@ -13,7 +13,9 @@ use cbor_walk::{BuiltFront, build_front};
 use std::alloc::Global;
 
 // Its canonical bytes, in this order and however many, and how many bytes it has. What is refused
-// is read again, event by event, for its refusal.
+// is read again, event by event, for its refusal. It is a call of its own, so that what looks for
+// canonical bytes before it has no room on the stack for it.
+#[inline(never)]
 pub(crate) fn valid_front(
     alloc: Global,
     bytes: &[u8],
