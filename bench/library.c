@@ -1,6 +1,6 @@
 /* library FOLDER NAME..: times calls of naltvigo.h in process on FOLDER/NAME.cbor and its canonical bytes
- * FOLDER/NAME.bytewise, beside plain C (floor.c) and, where it is there, libcbor; prints a row of a Markdown
- * table for each, in MB/s of processor time, the best of some calls; then what a call on a small item costs, and events.
+ * FOLDER/NAME.bytewise, beside plain C (floor.c) and, where it is there, libcbor; prints a row of Markdown
+ * tables for each, in MB/s of processor time, the best of some calls; then what a call on a small item costs, and events.
  * library --calls NAME ITEM TIMES: makes so many calls on a small item, for a count of their instructions (small.py). */
 #define _POSIX_C_SOURCE 199309L
 #include "../c/options.h"
@@ -199,15 +199,8 @@ static void tell_small(void) {
 int main(int count, char **words) {
     if (count == 5 && strcmp(words[1], "--calls") == 0)
         return repeat(words[2], strtoul(words[3], NULL, 10), strtol(words[4], NULL, 10));
-    printf("| input | bytes | `canonicalise` | plain C | `check_canonical` | plain C | `check_valid` | `compare` |");
-#ifdef HAS_LIBCBOR
-    printf(" libcbor, load | load and serialise |");
-#endif
-    printf("\n| --- | ---: | ---: | ---: | ---: | ---: | ---: | ---: |");
-#ifdef HAS_LIBCBOR
-    printf(" ---: | ---: |");
-#endif
-    puts("");
+    puts("| input | bytes | `canonicalise` | plain C | `check_canonical` | plain C | `check_valid` | `compare` |");
+    puts("| --- | ---: | ---: | ---: | ---: | ---: | ---: | ---: |");
     for (int i = 2; i < count; i++) {
         in = slurp(words[1], words[i], "cbor");
         canonical = slurp(words[1], words[i], "bytewise");
@@ -221,13 +214,25 @@ int main(int count, char **words) {
         tell(plain_check_canonical, canonical.length);
         tell(check_valid, in.length);
         tell(compare, in.length);
-#ifdef HAS_LIBCBOR
-        tell(libcbor_load, in.length);
-        tell(libcbor_again, in.length);
-#endif
         puts("");
         free(in.at), free(canonical.at), free(out.at);
     }
+#ifdef HAS_LIBCBOR
+    puts("\n| input | `canonicalise` | libcbor, load | libcbor, load and serialise |\n| --- | ---: | ---: | ---: |");
+    for (int i = 2; i < count; i++) {
+        in = slurp(words[1], words[i], "cbor");
+        canonical = slurp(words[1], words[i], "bytewise");
+        out.length = 2 * in.length + 64;
+        out.at = malloc(out.length);
+        if (!out.at) return 3;
+        printf("| %s |", words[i]);
+        tell(canonicalise, in.length);
+        tell(libcbor_load, in.length);
+        tell(libcbor_again, in.length);
+        puts("");
+        free(in.at), free(canonical.at), free(out.at);
+    }
+#endif
     tell_small();
     puts("\n| events by `naltvigo_machine_take`, MB/s | bytes | room for 64 | room for 1 |");
     puts("| --- | ---: | ---: | ---: |");
