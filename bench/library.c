@@ -42,6 +42,16 @@ static double now(void) {
 static struct bytes in, canonical, out;
 static struct naltvigo_refusal why;
 
+/* Takes FOLDER/NAME, its canonical bytes, and room for an answer. */
+static void take_document(const char *folder, const char *name) {
+    in = slurp(folder, name, "cbor");
+    canonical = slurp(folder, name, "bytewise");
+    out.length = 2 * in.length + 64;
+    out.at = malloc(out.length);
+    if (!out.at) exit(3);
+}
+static void give_up_document(void) { free(in.at), free(canonical.at), free(out.at); }
+
 static int canonicalise(void) {
     size_t needed;
     uint32_t s = naltvigo_canonicalise(in.at, in.length, OPTIONS(0, 256, NALTVIGO_BYTES_MAX), out.at, out.length, &needed, &why);
@@ -202,11 +212,7 @@ int main(int count, char **words) {
     puts("| input | bytes | `canonicalise` | plain C | `check_canonical` | plain C | `check_valid` | `compare` |");
     puts("| --- | ---: | ---: | ---: | ---: | ---: | ---: | ---: |");
     for (int i = 2; i < count; i++) {
-        in = slurp(words[1], words[i], "cbor");
-        canonical = slurp(words[1], words[i], "bytewise");
-        out.length = 2 * in.length + 64;
-        out.at = malloc(out.length);
-        if (!out.at) return 3;
+        take_document(words[1], words[i]);
         printf("| %s | %zu |", words[i], in.length);
         tell(canonicalise, in.length);
         tell(plain_canonicalise, in.length);
@@ -215,22 +221,18 @@ int main(int count, char **words) {
         tell(check_valid, in.length);
         tell(compare, in.length);
         puts("");
-        free(in.at), free(canonical.at), free(out.at);
+        give_up_document();
     }
 #ifdef HAS_LIBCBOR
     puts("\n| input | `canonicalise` | libcbor, load | libcbor, load and serialise |\n| --- | ---: | ---: | ---: |");
     for (int i = 2; i < count; i++) {
-        in = slurp(words[1], words[i], "cbor");
-        canonical = slurp(words[1], words[i], "bytewise");
-        out.length = 2 * in.length + 64;
-        out.at = malloc(out.length);
-        if (!out.at) return 3;
+        take_document(words[1], words[i]);
         printf("| %s |", words[i]);
         tell(canonicalise, in.length);
         tell(libcbor_load, in.length);
         tell(libcbor_again, in.length);
         puts("");
-        free(in.at), free(canonical.at), free(out.at);
+        give_up_document();
     }
 #endif
     tell_small();
