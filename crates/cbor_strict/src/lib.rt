@@ -23,8 +23,8 @@ mod strict_front;
 mod strict_reader;
 mod strict_slice;
 
-/// How many containers can be open.
-pub const MOST_OPEN: usize = cbor_head::MAX_DEPTH as usize;
+// How many containers can be open.
+const MOST_OPEN: usize = cbor_head::MAX_DEPTH as usize;
 
 pub use cbor_head::KeyOrder;
 pub use strict_reader::{StrictReader, read_strict, read_strict_by};
