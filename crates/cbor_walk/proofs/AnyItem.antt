@@ -4,13 +4,12 @@ use Rattle.std.specs.Prelude.{IsUtf8}
 use Rattle.std.proofs.lemmas.Bool.{cases_lt}
 use Rattle.std.proofs.lemmas.Bool.Decides.{nat_tests}
 use Rattle.std.proofs.lemmas.List.{length-append}
-use Rattle.cbor_head.specs.Complaint.{strict}
+use Rattle.cbor_head.specs.Complaint.{Rules}
 use Rattle.cbor_head.specs.Head.{Holds, major_number, shortest, shortest_head, with_argument}
 use Rattle.cbor_head.specs.Value.{AreBytes}
 use Rattle.cbor_head.specs.Verdict.{refusal}
 use Rattle.cbor_head.specs.declared.major.Major.{Major}
 use Rattle.cbor_head.specs.declared.major.Major.TheVariants.{Unsigned, Negative, Bytes, Text, Array, Map, Tag, Simple}
-use Rattle.cbor_head.specs.declared.order.KeyOrder.{KeyOrder}
 use Rattle.cbor_head.specs.declared.reason.Reason.TheVariants as reasons
 use Rattle.cbor_head.specs.declared.width.Width.{Width}
 use Rattle.cbor_head.specs.declared.width.Width.TheVariants.{Direct, One, Two, Four, Eight, Indefinite}
@@ -24,7 +23,7 @@ use Rattle.cbor_judging.proofs.Heads.{takes}
 use Rattle.cbor_walk.proofs.ShortHeads.{rest-is}
 use Rattle.cbor_walk.proofs.ShortLeaves.{leaf-number, leaf-value, leaf-empty, leaf-bytes, leaf-text}
 use Rattle.cbor_walk.specs.inner.Path.{Level, bytes_before}
-use Rattle.cbor_walk.specs.inner.Items.{IsPlaced, OpensHere, IsRefusedHere}
+use Rattle.cbor_walk.specs.inner.Items.{IsPlaced, OpensHere, IsRefusedBy}
 use Rattle.cbor_walk.specs.inner.Stop.{EndsWithin}
 use Rattle.cbor_walk.specs.declared.level.Due.TheVariants.{Item, Key}
 use Rattle.cbor_walk.proofs.PathStops.{end_here}
@@ -172,10 +171,10 @@ module _ (room : Bool) (first : ℕ) (behind : List ℕ) (w : Width) (n : ℕ) (
 -- ---- refusals
 
 -- the input ends within the item
-pub ends_here : (room : Bool) (b : List ℕ) (at end : ℕ) → end ≡ at + length b → IsOfOneHead b
-    → ((o : KeyOrder) (d : ℕ) (ls : List Level) → (room ≡ true → length ls < d) → AreBytes b → IsJudged (strict o) (length (bytes_before ls)) (d - length ls) b None) → IsRefusedHere room b at (refusal reasons.Truncated end end)
-ends_here room b at end e one j = λ o limits ls clean kept place are.
+pub ends_here : (r : Rules) (room : Bool) (b : List ℕ) (at end : ℕ) → end ≡ at + length b → IsOfOneHead b
+    → ((d : ℕ) (ls : List Level) → (room ≡ true → length ls < d) → AreBytes b → IsJudged r (length (bytes_before ls)) (d - length ls) b None) → IsRefusedBy r room b at (refusal reasons.Truncated end end)
+ends_here r room b at end e one j = λ limits ls clean broken kept place are.
     let whole = bytes_before ls ++ b in
     let size : length whole ≡ end = length-append (bytes_before ls) b ∙ omega (arith, e, place.here) in
-    inr (inr (inl (subst (λ (n : ℕ). EndsWithin (strict o) limits whole (refusal reasons.Truncated n n)) size
-    (end_here (strict o) limits ls clean whole b [] (ap (λ (z : List ℕ). bytes_before ls ++ z) (sym (append-nil b))) kept one (j o limits.depth ls place.fits (bytes_back (bytes_before ls) b are)) refl))))
+    inr (inr (inl (subst (λ (n : ℕ). EndsWithin r limits whole (refusal reasons.Truncated n n)) size
+    (end_here r limits ls clean whole b [] (ap (λ (z : List ℕ). bytes_before ls ++ z) (sym (append-nil b))) kept one (j limits.depth ls place.fits (bytes_back (bytes_before ls) b are)) refl))))

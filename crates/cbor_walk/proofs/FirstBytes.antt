@@ -17,7 +17,7 @@ use Rattle.cbor_judging.specs.Judged.{IsJudged}
 use Rattle.cbor_judging.specs.Kinds.{KeepsToKinds}
 use Rattle.cbor_judging.proofs.Judged.{judged_start, judged_head}
 use Rattle.cbor_walk.specs.inner.Kept.{KeepsHere}
-use Rattle.cbor_walk.specs.inner.Path.{Level, a_member, a_key, a_value, tagged, bytes_before, AreClean}
+use Rattle.cbor_walk.specs.inner.Path.{Level, a_member, a_key, a_value, tagged, bytes_before, AreClean, MayBreak}
 use Rattle.cbor_walk.specs.inner.Stop.{HasBadByte}
 use Rattle.cbor_walk.proofs.PathForm.{containers, containers_count}
 use Rattle.cbor_walk.proofs.PathKinds.{kept_before}
@@ -92,12 +92,6 @@ float_byte d fs c l h = elim (cases_lt c 250) [
         ap (take_byte d (at_item fs)) same
   ]
 ]
-
--- a break may stand in the innermost container
-abbrev pub MayBreak : List Level → Type 0
-MayBreak (a_member Indefinite left done ∷ ls) = Unit {0}
-MayBreak (a_key Indefinite left done ∷ ls) = Unit {0}
-MayBreak _ = ⊥
 
 pub break_byte : (d : ℕ) (ls : List Level) → (MayBreak ls → ⊥) → take_byte d (at_item (containers ls)) 0xff ≡ refuses StrayBreak
 break_byte d (a_member Indefinite left done ∷ ls) h = absurd (h tt)

@@ -1,11 +1,11 @@
 -- What the rules have against a head comes first of all that they have against its item.
 use Rattle.std.proofs.Common.{◌≡◌, ◌≢◌, ℕ, ◌+◌, ◌<◌, ◌≤◌, Some, List, [], length, replicate, refl, sym, subst, inl, arith}
-use Rattle.cbor_head.specs.Complaint.{Rules, strict, Complaint, complaint, OfHead, OfIndefinite, OfCount}
+use Rattle.std.specs.Prelude.{IsTrue}
+use Rattle.cbor_head.specs.Complaint.{Rules, Complaint, complaint, OfHead, OfIndefinite, OfCount}
 use Rattle.cbor_head.specs.Head.{Holds, head, shortest}
 use Rattle.cbor_head.specs.Spelling.{unsigned, negative, bytes, text, byte_chunks, text_chunks, tag}
 use Rattle.cbor_head.specs.declared.major.Major.{Major}
 use Rattle.cbor_head.specs.declared.major.Major.TheVariants.{Unsigned, Negative, Bytes, Text, Array, Map, Tag, Simple}
-use Rattle.cbor_head.specs.declared.order.KeyOrder.{KeyOrder}
 use Rattle.cbor_head.specs.declared.reason.Reason.TheVariants.{NotShortest, Indefinite as IndefiniteReason}
 use Rattle.cbor_head.specs.declared.width.Width.{Width}
 use Rattle.cbor_head.specs.declared.width.Width.TheVariants.{Indefinite}
@@ -51,9 +51,9 @@ module _ (r : Rules) (at d : ℕ) (w : Width) (n : ℕ) (c : Complaint) (holds :
   head_judged Simple i l o = absurd i
 
 -- longer than it need be
-pub not_shortest : (o : KeyOrder) (at d : ℕ) (m : Major) (w : Width) (n : ℕ) → IsNumbered m → Holds w n → takes m ≤ d → w ≢ shortest n
-    → IsJudged (strict o) at d (head m w n) (Some (complaint (at + length (head m w n)) at NotShortest))
-not_shortest o at d m w n i h l long = head_judged (strict o) at d w n (complaint (at + length (head m w n)) at NotShortest) h m i l (refl, long, refl)
+pub not_shortest : (r : Rules) → IsTrue r.heads → (at d : ℕ) (m : Major) (w : Width) (n : ℕ) → IsNumbered m → Holds w n → takes m ≤ d → w ≢ shortest n
+    → IsJudged r at d (head m w n) (Some (complaint (at + length (head m w n)) at NotShortest))
+not_shortest r heads at d m w n i h l long = head_judged r at d w n (complaint (at + length (head m w n)) at NotShortest) h m i l (heads, long, refl)
 
 -- and else nothing is to be said against it
 pub shortest_clean : (r : Rules) (at : ℕ) (m : Major) (w : Width) (n : ℕ) → w ≡ shortest n → Never (OfHead r at m w n)
@@ -76,5 +76,5 @@ opener_judged r at d Array c i o = array_head_complains Indefinite 0 r at d c tt
 opener_judged r at d Map c i o = map_head_complains Indefinite 0 r at d c tt i o
 opener_judged r at d _ c i o = absurd i
 
-pub indefinite_length : (o : KeyOrder) (at d : ℕ) (m : Major) → IsOpener m d → IsJudged (strict o) at d (head m Indefinite 0) (Some (complaint (at + 1) at IndefiniteReason))
-indefinite_length o at d m i = opener_judged (strict o) at d m (complaint (at + 1) at IndefiniteReason) i (refl, refl)
+pub indefinite_length : (r : Rules) → IsTrue r.heads → (at d : ℕ) (m : Major) → IsOpener m d → IsJudged r at d (head m Indefinite 0) (Some (complaint (at + 1) at IndefiniteReason))
+indefinite_length r heads at d m i = opener_judged r at d m (complaint (at + 1) at IndefiniteReason) i (heads, refl)

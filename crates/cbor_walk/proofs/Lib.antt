@@ -4,6 +4,7 @@ pub mod CanonGiven
 pub mod CellSteps
 pub mod Chunked
 pub mod CutHeads
+pub mod Faults
 pub mod FirstBytes
 pub mod GivenEnds
 pub mod GivenItems

@@ -3,7 +3,7 @@ use Rattle.std.proofs.Common.{◌≡◌, ℕ, ◌+◌, ◌-◌, ◌*◌, ◌^◌
 use Rattle.std.specs.Prelude.{IsTrue, MatchOption}
 use Rattle.std.specs.Option.{unwrap_or}
 use Rattle.std.proofs.lemmas.Bool.{cases_lt}
-use Rattle.cbor_head.specs.Complaint.{strict}
+use Rattle.cbor_head.specs.Complaint.{Rules, form, strict}
 use Rattle.cbor_head.specs.Head.{head, major_number}
 use Rattle.cbor_head.specs.Spelling.{simple, spell, value_of}
 use Rattle.cbor_head.specs.Limits.{Bounds}
@@ -14,6 +14,7 @@ use Rattle.cbor_head.specs.declared.keys.Keys.TheVariants.{Any, IntegersAndTexts
 use Rattle.cbor_head.specs.declared.major.Major.{Major}
 use Rattle.cbor_head.specs.declared.major.Major.TheVariants.{Bytes, Text, Array, Map, Simple}
 use Rattle.cbor_head.specs.declared.order.KeyOrder.{KeyOrder}
+use Rattle.cbor_head.specs.declared.order.KeyOrder.TheVariants.{Bytewise}
 use Rattle.cbor_head.specs.declared.reason.Reason.{Reason}
 use Rattle.cbor_head.specs.declared.reason.Reason.TheVariants.{KeyKind}
 use Rattle.cbor_head.specs.declared.width.Width.{Width}
@@ -36,7 +37,7 @@ use Rattle.cbor_walk.specs.inner.Path.{Level, bytes_before, AreClean, IsKeyDueIn
 use Rattle.cbor_walk.specs.inner.Stack.{around, standing}
 use Rattle.cbor_walk.specs.inner.Stop.{IsStopped}
 use Rattle.cbor_walk.proofs.AnyItem.{fits, numbered}
-use Rattle.cbor_walk.proofs.AnyRefusals.{misplaced_stops}
+use Rattle.cbor_walk.proofs.AnyRefusals.{no_break, misplaced_stops}
 use Rattle.cbor_walk.proofs.CutHeads.{head_cut}
 use Rattle.cbor_walk.proofs.FirstBytes.{four}
 use Rattle.cbor_walk.proofs.HeadComplaints.{IsOpener as MayOpen, indefinite_length}
@@ -47,7 +48,7 @@ use Rattle.cbor_walk.proofs.Taking.{whole_is, place_for, key_due}
 
 -- ---- some item begins with a byte that may stand where an item is due
 
-module _ (o : KeyOrder) (ls : List Level) (d : ℕ) (room : Bool) (first : ℕ) (small : first < 256) (placed : IsPlaced first room) (inside : room ≡ true → length ls < d) where
+module _ (ls : List Level) (d : ℕ) (room : Bool) (first : ℕ) (small : first < 256) (placed : IsPlaced first room) (inside : room ≡ true → length ls < d) where
   abbrev left : ℕ
   left = d - length ls
 
@@ -76,7 +77,7 @@ module _ (o : KeyOrder) (ls : List Level) (d : ℕ) (room : Bool) (first : ℕ) 
 
   -- the first byte of a longer one
   long_begins : 24 ≤ first % 32 → first % 32 < 28 → Begins left (first ∷ [])
-  long_begins l h = judged_begins (strict o) 0 left (first ∷ []) None (head_cut (strict o) 0 d ls first [] l (omega (arith, h)) (kind (cases_lt first 224)) (λ k j. inside (placed.fits k j)) tt (some (four (first % 32) l h)))
+  long_begins l h = judged_begins form 0 left (first ∷ []) None (head_cut form 0 d ls first [] l (omega (arith, h)) (kind (cases_lt first 224)) (λ k j. inside (placed.fits k j)) tt (some (four (first % 32) l h)))
     where
       below : first < 249
       below = placed.no_float
@@ -105,7 +106,7 @@ module _ (o : KeyOrder) (ls : List Level) (d : ℕ) (room : Bool) (first : ℕ) 
   ]
     where
       opens : (m : Major) → MayOpen m left → 32 * major_number m + 31 ≡ first → Begins left (first ∷ [])
-      opens m i e = subst (λ (x : ℕ). Begins left (x ∷ [])) e (judged_begins (strict o) 0 left _ _ (indefinite_length o 0 left m i))
+      opens m i e = subst (λ (x : ℕ). Begins left (x ∷ [])) e (judged_begins (strict Bytewise) 0 left _ _ (indefinite_length (strict Bytewise) refl 0 left m i))
 
   placed_begins : Begins left (first ∷ [])
   placed_begins = elim placed.low [
@@ -115,25 +116,25 @@ module _ (o : KeyOrder) (ls : List Level) (d : ℕ) (room : Bool) (first : ℕ) 
 
 -- ---- the refusal
 
-pub kind_refused : (room : Bool) (first : ℕ) (behind : List ℕ) (at : ℕ) → IsPlaced first room → ¬ IsTrue (is_basic (first / 32)) → (o : KeyOrder) (limits : Bounds) (ls : List Level) → AreClean (strict o) limits.depth ls
-    → KeepsToKinds limits (strict o) (bytes_before ls) → limits.keys ≡ IntegersAndTexts → IsKeyDueIn ls → IsPlaceFor room limits.depth ls at → AreBytes (bytes_before ls ++ first ∷ behind)
-    → IsStopped (strict o) limits (bytes_before ls ++ first ∷ behind) (refusal KeyKind at (at + 1))
-kind_refused room first behind at placed other o limits ls clean keeps asked due place are =
+pub kind_refused : (room : Bool) (first : ℕ) (behind : List ℕ) (at : ℕ) → IsPlaced first room → ¬ IsTrue (is_basic (first / 32)) → (r : Rules) → IsTrue r.kinds → (limits : Bounds) (ls : List Level) → AreClean r limits.depth ls
+    → KeepsToKinds limits r (bytes_before ls) → limits.keys ≡ IntegersAndTexts → IsKeyDueIn ls → IsPlaceFor room limits.depth ls at → AreBytes (bytes_before ls ++ first ∷ behind)
+    → IsStopped r limits (bytes_before ls ++ first ∷ behind) (refusal KeyKind at (at + 1))
+kind_refused room first behind at placed other r kinds limits ls clean keeps asked due place are =
     let p = bytes_before ls in
     let left = limits.depth - length ls in
     let small : first < 256 = (bytes_back p (first ∷ behind) are).0 in
-    let g = placed_begins o ls limits.depth room first small placed place.fits in
+    let g = placed_begins ls limits.depth room first small placed place.fits in
     let none : IsIntegerOrText (value_of g.item) → ⊥ = λ k. other (basic_byte g.item g.spelled first [] g.rest (append-nil (spell g.item) ∙ g.bytes) k) in
-    let (item, starts, complains) = other_key_here limits (strict o) ls clean g.item first g.rest g.spelled g.within g.bytes due none in
-    let judged = subst (λ (x : List ℕ). IsJudged (strict o) 0 limits.depth x None) (append-nil p) (judged_path (strict o) limits.depth ls clean [] None (judged_start (strict o) (length p) left)) in
-    subst (λ (n : ℕ). IsStopped (strict o) limits (p ++ first ∷ behind) (refusal KeyKind n (n + 1))) (sym place.here) (inr (inr (inr (record {
+    let (item, starts, complains) = other_key_here limits r ls clean g.item first g.rest g.spelled g.within g.bytes due none in
+    let judged = subst (λ (x : List ℕ). IsJudged r 0 limits.depth x None) (append-nil p) (judged_path r limits.depth ls clean [] None (judged_start r (length p) left)) in
+    subst (λ (n : ℕ). IsStopped r limits (p ++ first ∷ behind) (refusal KeyKind n (n + 1))) (sym place.here) (inr (inr (inr (record {
       p = p;
       byte = first;
       rest = behind;
       splits = sym (append_assoc p (first ∷ []) behind);
       judged = judged;
       keeps = keeps;
-      asked = (refl, asked);
+      asked = (kinds, asked);
       item = item;
       starts = starts;
       other = complains;
@@ -160,5 +161,5 @@ other_key_stops o limits d input k cells at s low e asked due are (first ∷ beh
 
     go : IsPlaceFor room limits.depth s.ls at → AreBytes (bytes_before s.ls ++ first ∷ behind) → (found : Option Reason) → MatchOption found (IsPlaced first room) (IsMisplaced first room)
         → IsStopped (strict o) limits (bytes_before s.ls ++ first ∷ behind) (refusal (unwrap_or found KeyKind) at (at + 1))
-    go place all None h = kind_refused room first behind at h other o limits s.ls s.clean s.keeps asked (key_due input s.ls k.top (around cell.Level k cells) s.are due) place all
-    go place all (Some reason) h = misplaced_stops room first behind at reason h o limits s.ls s.clean s.keeps place all
+    go place all None h = kind_refused room first behind at h other (strict o) refl limits s.ls s.clean s.keeps asked (key_due input s.ls k.top (around cell.Level k cells) s.are due) place all
+    go place all (Some reason) h = misplaced_stops (strict o) room first behind at reason h limits s.ls s.clean (λ e. no_break o limits.depth s.ls s.clean) s.keeps place all

@@ -1,9 +1,11 @@
 //! What stands where an item is due, if it is no short item: slower, and exactly.
 
 ghost use Rattle.std.specs.Prelude.{◌≡◌, ◌≤◌, ◌<◌, ◌+◌, ◌-◌, ◌^◌, ◌∷◌, ℕ, List, length, MatchOption};
+ghost use Rattle.cbor_head.specs.Head.{shortest};
 ghost use Rattle.cbor_head.specs.Verdict.{refusal};
 ghost use Rattle.cbor_walk.specs.declared.any_item.Any.TheVariants as any;
-ghost use Rattle.cbor_walk.specs.inner.Items.{IsPlaced, IsMisplaced, IsAny, IsStringHead};
+ghost use Rattle.cbor_walk.specs.inner.Items.{IsPlaced, IsMisplaced, IsAny};
+ghost use Rattle.cbor_walk.specs.inner.Items.{IsStringHead, IsStringWhole, IsStringRefused};
 
 use crate::argument::{Argument, is_shortest, read_argument};
 use crate::level::Due;
@@ -62,7 +64,14 @@ pub(crate) fn any_item(rest: &[u8], at: usize, room: bool) -> Any
 fn refused(reason: Reason, place: usize, read: usize) -> Any
     ensures { result ≡ any.Refused (refusal reason place read) }
 {
-    Any::Refused(Refusal::new(reason, place as u64, read as u64))
+    Any::Refused(refusal_at(reason, place, read))
+}
+
+/// A refusal by places in memory.
+pub(crate) fn refusal_at(reason: Reason, place: usize, read: usize) -> Refusal
+    ensures { result ≡ refusal reason place read }
+{
+    Refusal::new(reason, place as u64, read as u64)
 }
 
 /// Why no item may have this first byte there.
@@ -109,18 +118,34 @@ fn any_container(first: u8, number: u64, used: usize) -> Any
 fn any_string(rest: &[u8], head: Argument<'_>, at: usize, room: bool) -> Any
     requires place { at + length rest.now < 2 ^ 63 }
     requires head { IsStringHead rest.now head }
+    requires short { head.width ≡ shortest head.number }
     ensures { IsAny rest.now at room result }
 {
-    let used = rest.len() - head.rest.len();
-    if head.number > head.rest.len() as u64 {
-        return refused(Reason::Truncated, at + rest.len(), at + rest.len());
+    if let Some(refusal) = string_fault(rest, head, at) {
+        return Any::Refused(refusal);
     }
+    Any::Leaf(rest.len() - head.rest.len() + head.number as usize)
+}
+
+/// Why the string with this head is none, whichever rules its head meets.
+#[inline(always)]
+pub(crate) fn string_fault(rest: &[u8], head: Argument<'_>, at: usize) -> Option<Refusal>
+    requires place { at + length rest.now < 2 ^ 63 }
+    requires head { IsStringHead rest.now head }
+    ensures { MatchOption result (IsStringWhole rest.now head.entry)
+        (IsStringRefused rest.now head.entry at) }
+{
+    let end = at + rest.len();
+    if head.number > head.rest.len() as u64 {
+        return Some(refusal_at(Reason::Truncated, end, end));
+    }
+    let used = rest.len() - head.rest.len();
     let payload = &head.rest[..head.number as usize];
-    let end = used + payload.len();
+    let size = used + payload.len();
     if rest[0] >= 0x60 {
         if let Err(valid) = check_text(payload) {
-            return refused(Reason::InvalidText, at + used + valid, at + end);
+            return Some(refusal_at(Reason::InvalidText, at + used + valid, at + size));
         }
     }
-    Any::Leaf(end)
+    None
 }

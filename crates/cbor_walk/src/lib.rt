@@ -16,6 +16,7 @@ mod canonical_sink;
 mod content;
 mod endless;
 mod fast;
+mod fault;
 mod front;
 mod kinds;
 mod level;

@@ -1,18 +1,22 @@
 -- What stands where an item is due, by the rules of the deterministic encoding.
-use Rattle.std.specs.Prelude.{◌≡◌, ℕ, suc, ◌+◌, ◌-◌, ◌^◌, ◌%◌, ◌<◌, ◌≤◌, ◌⊎◌, ◌++◌, Bool, true, false, List, ◌∷◌, length, drop}
-use Rattle.cbor_head.specs.Complaint.{strict}
+use Rattle.std.specs.Prelude.{◌≡◌, ℕ, suc, ◌+◌, ◌-◌, ◌^◌, ◌%◌, ◌<◌, ◌≤◌, ◌⊎◌, ◌++◌, Bool, true, false, IsTrue, IsUtf8, List, [], ◌∷◌, length, take, drop, get_or}
+use Rattle.cbor_head.specs.Complaint.{Rules, plain, strict, OfHead}
 use Rattle.cbor_head.specs.Head.{shortest, shortest_head}
 use Rattle.cbor_head.specs.Limits.{Bounds}
+use Rattle.cbor_head.specs.declared.keys.Keys.TheVariants.{IntegersAndTexts}
+use Rattle.cbor_head.specs.declared.major.Major.{Major}
 use Rattle.cbor_head.specs.declared.major.Major.TheVariants.{Array, Map, Tag}
 use Rattle.cbor_head.specs.declared.order.KeyOrder.{KeyOrder}
 use Rattle.cbor_head.specs.declared.reason.Reason.{Reason}
 use Rattle.cbor_head.specs.declared.reason.Reason.TheVariants.{Reserved, NoIndefinite, Float, StrayBreak, TooDeep}
 use Rattle.cbor_head.specs.declared.reason.Refusal.{Refusal}
 use Rattle.cbor_head.specs.Value.{AreBytes}
+use Rattle.cbor_judging.specs.Judged.{Never}
+use Rattle.cbor_judging.specs.Kinds.{AsksForKinds, KeepsToKinds}
 use Rattle.cbor_steps.specs.Whole.{IsArgument}
 use Rattle.cbor_walk.specs.inner.Kept.{KeepsHere}
 use Rattle.cbor_walk.specs.inner.Leaves.{IsLeaf, IsShortest}
-use Rattle.cbor_walk.specs.inner.Path.{Level, bytes_before, AreClean}
+use Rattle.cbor_walk.specs.inner.Path.{Level, bytes_before, AreClean, IsKeyDueIn, MayBreak}
 use Rattle.cbor_walk.specs.inner.Stop.{IsStopped}
 use Rattle.cbor_walk.specs.declared.any_item.Any.{Any}
 use Rattle.cbor_walk.specs.declared.any_item.Any.TheVariants.{Leaf, Opens, Refused}
@@ -64,17 +68,25 @@ pub record IsPlaceFor (room : Bool) (d : ℕ) (ls : List Level) (at : ℕ) : Typ
   pub fits : room ≡ true → length ls < d
   pub full : room ≡ false → d ≤ length ls
 
--- The bytes that are left at this place of an input are refused so, within whatever containers are open there.
+-- a break in front may not stand there
+abbrev pub HasNoBreak : List Level → List ℕ → Type 0
+HasNoBreak ls [] = Unit {0}
+HasNoBreak ls (b ∷ bs) = b ≡ 0xff → MayBreak ls → ⊥
+
+-- The bytes that are left at this place of an input are refused so by these rules, within whatever containers are open there.
+abbrev pub IsRefusedBy : Rules → Bool → List ℕ → ℕ → Refusal → Type 0
+IsRefusedBy r room b at f =
+    (limits : Bounds) (ls : List Level) → AreClean r limits.depth ls → HasNoBreak ls b → KeepsHere limits r ls b → IsPlaceFor room limits.depth ls at → AreBytes (bytes_before ls ++ b) → IsStopped r limits (bytes_before ls ++ b) f
+
 abbrev pub IsRefusedHere : Bool → List ℕ → ℕ → Refusal → Type 0
-IsRefusedHere room b at f =
-    (o : KeyOrder) (limits : Bounds) (ls : List Level) → AreClean (strict o) limits.depth ls → KeepsHere limits (strict o) ls b → IsPlaceFor room limits.depth ls at → AreBytes (bytes_before ls ++ b) → IsStopped (strict o) limits (bytes_before ls ++ b) f
+IsRefusedHere room b at f = (o : KeyOrder) → IsRefusedBy (strict o) room b at f
 
 abbrev pub IsAny : List ℕ → ℕ → Bool → Any → Type 0
 IsAny b at room (Leaf used) = (0 < used) × IsLeaf room b used
 IsAny b at room (Opens due left used) = OpensHere room b due left used
 IsAny b at room (Refused f) = IsRefusedHere room b at f
 
--- the head of a string, in its shortest form, and what follows it
+-- the head of a string, and what follows it
 pub record IsStringHead (b : List ℕ) (head : Argument) : Type 0 where
   pub first : ℕ
   pub behind : List ℕ
@@ -83,7 +95,29 @@ pub record IsStringHead (b : List ℕ) (head : Argument) : Type 0 where
   pub high : first < 128
   pub argument : IsArgument (first % 32) behind head.width head.number head.rest.now
   pub fewer : length head.rest.now ≤ length behind
-  pub short : head.width ≡ shortest head.number
+
+-- its payload stands there whole, and is UTF-8 where it is a text's
+pub record IsStringWhole (b : List ℕ) (head : Argument) : Type 0 where
+  pub inside : head.number ≤ length head.rest.now
+  pub utf8 : 96 ≤ get_or b 0 0 → IsUtf8 (take head.number head.rest.now)
+
+-- it is refused so by rules that ask for UTF-8, and have nothing against its head
+abbrev pub IsStringRefused : List ℕ → Argument → ℕ → Refusal → Type 0
+IsStringRefused b head at f =
+    (r : Rules) (room : Bool) → IsTrue r.texts → ((to : ℕ) (m : Major) → Never (OfHead r to m head.width head.number)) → IsRefusedBy r room b at f
+
+-- ---- by the plain rules
+
+-- kinds of keys are asked for, and a key is due; or not both
+pub record IsKeyAsked (is_key : Bool) (limits : Bounds) (ls : List Level) : Type 0 where
+  pub both : is_key ≡ true → (limits.keys ≡ IntegersAndTexts) × IsKeyDueIn ls
+  pub none : is_key ≡ false → AsksForKinds limits plain → IsKeyDueIn ls → ⊥
+
+-- The bytes that are left at this place are refused so, where one more container may open or not, and a break stand or not.
+abbrev pub IsFault : List ℕ → ℕ → Bool → Bool → Bool → Refusal → Type 0
+IsFault b at room is_key may_break f =
+    (limits : Bounds) (ls : List Level) → AreClean plain limits.depth ls → (MayBreak ls → may_break ≡ true) → KeepsToKinds limits plain (bytes_before ls) → IsKeyAsked is_key limits ls → IsPlaceFor room limits.depth ls at → AreBytes (bytes_before ls ++ b)
+    → IsStopped plain limits (bytes_before ls ++ b) f
 
 -- ---- what the fast ways find
 

@@ -5,6 +5,7 @@ use Rattle.cbor_head.specs.Complaint.{Rules, Complaint, OfHead, OfKey, Complains
 use Rattle.cbor_head.specs.Spelling.{Spelling, Spellings, SpelledEntries, spell, spellings_count, entries_count, IsSpelled, depth}
 use Rattle.cbor_head.specs.declared.major.Major.TheVariants.{Tag}
 use Rattle.cbor_head.specs.declared.width.Width.{Width}
+use Rattle.cbor_head.specs.declared.width.Width.TheVariants.{Indefinite}
 use Rattle.cbor_judging.specs.Frame.{keys_onto}
 use Rattle.cbor_judging.specs.SoFar.{IsArraySoFar, IsMapSoFar, array_bytes, map_bytes}
 
@@ -59,3 +60,9 @@ pub record HasEnded (r : Rules) (d : ℕ) (ls : List Level) (s : Spelling) : Typ
 abbrev pub IsKeyDueIn : List Level → Type 0
 IsKeyDueIn (a_key w left done ∷ ls) = Unit {0}
 IsKeyDueIn _ = ⊥
+
+-- a break may stand in the innermost
+abbrev pub MayBreak : List Level → Type 0
+MayBreak (a_member Indefinite left done ∷ ls) = Unit {0}
+MayBreak (a_key Indefinite left done ∷ ls) = Unit {0}
+MayBreak _ = ⊥

@@ -10,6 +10,7 @@ use Rattle.cbor_walk.specs.inner.Items.{IsOpener}
 use Rattle.cbor_walk.specs.inner.Stop.{IsStopped}
 use Rattle.cbor_walk.specs.declared.level.Level.{Level}
 use Rattle.cbor_head.specs.Verdict.{refusal}
+use Rattle.cbor_walk.proofs.AnyRefusals.{no_break, no_break_here}
 use Rattle.cbor_walk.proofs.OtherKeys.{asked_of, other_key_stops}
 use Rattle.cbor_walk.proofs.Taking.{leaf_ends, opener_opens, whole_is, place_for, fit_here}
 use Rattle.cbor_walk.proofs.take.take_any.Goals as goal
@@ -53,7 +54,7 @@ returns-in-Refused-clause-takes g c = λ o limits input asked deep e are s.
     let fit : IsFit limits k.top.due c.args.rest.now = λ kinds due. c.is_other_key.ensures.fits c.if-is_other_key.false (sym asked ∙ ap asks kinds) due in
     let whole : input ≡ bytes_before s.ls ++ c.args.rest.now = whole_is o limits input (standing Level k cells) c.args.at s ∙ ap (λ (x : List ℕ). bytes_before s.ls ++ x) (sym e) in
     subst (λ (x : List ℕ). IsStopped (strict o) limits x c.in-Refused.refusal) (sym whole)
-    (c.in-Refused.ensures o limits s.ls s.clean (fit_here o limits input k.top (around Level k cells) c.args.at s c.args.rest.now fit) (place_for o limits c.args.depth input k cells c.args.at s c.requires.cells deep) (subst AreBytes whole are))
+    (c.in-Refused.ensures o limits s.ls s.clean (no_break_here s.ls c.args.rest.now (no_break o limits.depth s.ls s.clean)) (fit_here o limits input k.top (around Level k cells) c.args.at s c.args.rest.now fit) (place_for o limits c.args.depth input k cells c.args.at s c.requires.cells deep) (subst AreBytes whole are))
 
 pub returns-then-is_other_key-clause-takes : goal.returns-then-is_other_key-clause-takes
 returns-then-is_other_key-clause-takes g c = λ o limits input asked deep e are s.

@@ -1,0 +1,54 @@
+-- Why nothing valid stands where an item is due: what any rules have against it, and the kinds of keys.
+use Rattle.std.proofs.Common.{◌≡◌, ℕ, ◌+◌, ◌/◌, Bool, true, false, List, [], ◌∷◌, refl, sym, subst}
+use Rattle.std.specs.Prelude.{IsTrue, Option, Some, None, MatchOption, IfSome}
+use Rattle.cbor_head.specs.Complaint.{plain, OfHead}
+use Rattle.cbor_head.specs.Verdict.{refusal}
+use Rattle.cbor_head.specs.declared.major.Major.{Major}
+use Rattle.cbor_head.specs.declared.reason.Reason.{Reason}
+use Rattle.cbor_head.specs.declared.reason.Reason.TheVariants.{Truncated, KeyKind}
+use Rattle.cbor_head.specs.declared.reason.Refusal.{Refusal}
+use Rattle.cbor_head.specs.declared.width.Width.{Width}
+use Rattle.cbor_grammar.specs.FirstBytes.{is_basic}
+use Rattle.cbor_judging.specs.Judged.{Never}
+use Rattle.cbor_walk.specs.inner.Items.{IsPlaced, IsMisplaced, IsRefusedBy, IsStringWhole, IsStringRefused, IsFault, IsKeyAsked}
+use Rattle.cbor_walk.specs.inner.Kept.{IsFitFront, KeepsHere}
+use Rattle.cbor_walk.specs.declared.argument.Argument.{Argument}
+use Rattle.cbor_walk.proofs.AnyRefusals.{nothing_here, misplaced_stops}
+use Rattle.cbor_walk.proofs.OtherKeys.{kind_refused}
+
+-- the plain rules ask nothing of heads
+pub heads_free : (to : ℕ) (m : Major) (w : Width) (n : ℕ) → Never (OfHead plain to m w n)
+heads_free to m w n c x = cc x.0
+
+pub fault_same : (b c : List ℕ) (at : ℕ) (room is_key may_break : Bool) (f g : Refusal) → b ≡ c → g ≡ f → IsFault c at room is_key may_break f → IsFault b at room is_key may_break g
+fault_same b c at room is_key may_break f g is e h = subst (λ (x : List ℕ). IsFault x at room is_key may_break g) (sym is) (subst (IsFault c at room is_key may_break) (sym e) h)
+
+-- nothing is left
+pub cut_off : (at end : ℕ) (room is_key may_break : Bool) → end ≡ at + 0 → IsFault [] at room is_key may_break (refusal Truncated end end)
+cut_off at end room is_key may_break e = λ limits ls clean breaks keeps asked place are.
+    nothing_here plain room at end e limits ls clean tt (record { before = keeps; here = λ kinds due. tt }) place are
+
+module _ (first : ℕ) (behind : List ℕ) (at : ℕ) (room is_key may_break : Bool) (stray : first ≡ 0xff → may_break ≡ true → ⊥) where
+  abbrev b : List ℕ
+  b = first ∷ behind
+
+  pub fault_misplaced : (reason : Reason) → IsMisplaced first room reason → IsFault b at room is_key may_break (refusal reason at (at + 1))
+  fault_misplaced reason h = λ limits ls clean breaks keeps asked place are. misplaced_stops plain room first behind at reason h limits ls clean (λ e m. stray e (breaks m)) keeps place are
+
+  pub fault_of_kind : IsPlaced first room → is_key ≡ true → ¬ IsTrue (is_basic (first / 32)) → IsFault b at room is_key may_break (refusal KeyKind at (at + 1))
+  fault_of_kind placed key other = λ limits ls clean breaks keeps asked place are. let both = asked.both key in kind_refused room first behind at placed other plain refl limits ls clean keeps both.0 both.1 place are
+
+  -- where a key whose kind is asked for is fit
+  pub fault_of : (f : Refusal) → (is_key ≡ true → IsFitFront b) → IsRefusedBy plain room b at f → IsFault b at room is_key may_break f
+  fault_of f fit h = λ limits ls clean breaks keeps asked place are. h limits ls clean (λ e m. stray e (breaks m)) (record { before = keeps; here = λ kinds due. fits is_key (λ e. fit e) (λ e. asked.none e kinds due) }) place are
+    where
+      fits : (k : Bool) → (k ≡ true → IsFitFront b) → (k ≡ false → ⊥) → IsFitFront b
+      fits true known never = known refl
+      fits false known never = absurd (never refl)
+
+  -- a string in one piece
+  pub string_faults : (xs : List ℕ) → xs ≡ b → (is_key ≡ true → IsFitFront b) → (head : Argument) (found : Option Refusal) → MatchOption found (IsStringWhole xs head) (IsStringRefused xs head at) → IfSome found (IsFault xs at room is_key may_break)
+  string_faults xs is fit head None h = tt
+  string_faults xs is fit head (Some f) h =
+      let here = subst (λ (x : List ℕ). IsRefusedBy plain room x at f) is (h plain room refl (λ to m. heads_free to m head.width head.number)) in
+      fault_same xs b at room is_key may_break f f is refl (fault_of f fit here)

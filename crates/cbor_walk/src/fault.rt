@@ -1,0 +1,54 @@
+//! Why nothing valid stands where an item is due.
+
+ghost use Rattle.std.specs.Prelude.{◌<◌, ◌+◌, ◌^◌, length, IfSome};
+ghost use Rattle.cbor_walk.specs.inner.Items.{IsFault};
+
+use crate::any_item::{misplaced, refusal_at, string_fault};
+use crate::argument::read_argument;
+use crate::kinds::is_other_key;
+use crate::level::Due;
+use cbor_head::{Reason, Refusal};
+
+/// The refusal of what stands there, at this place of the input, where one more container may open
+/// or not, where it is a key whose kind is asked for or not, and where a break may stand or not.
+/// None where it is a head that may stand there, or a string in one piece.
+#[cold]
+#[inline(never)]
+pub(crate) fn fault(
+    rest: &[u8],
+    at: usize,
+    room: bool,
+    is_key: bool,
+    may_break: bool,
+) -> Option<Refusal>
+    requires { at + length rest.now < 2 ^ 63 }
+    ensures { IfSome result (IsFault rest.now at room is_key may_break) }
+{
+    let end = at + rest.len();
+    let Some((first, behind)) = rest.split_first() else {
+        return Some(refusal_at(Reason::Truncated, end, end));
+    };
+    let (first, low) = (*first, *first % 32);
+    if first == 0xff && may_break {
+        return None;
+    }
+    if let Some(reason) = misplaced(first, room) {
+        return Some(refusal_at(reason, at, at + 1));
+    }
+    if is_key && is_other_key::<true>(Due::Key, rest) {
+        return Some(refusal_at(Reason::KeyKind, at, at + 1));
+    }
+    if low == 31 {
+        return None;
+    }
+    let Some(head) = read_argument(low, behind) else {
+        return Some(refusal_at(Reason::Truncated, end, end));
+    };
+    if first == 0xf8 && head.number < 32 {
+        return Some(refusal_at(Reason::BadSimple, at + 1, at + 2));
+    }
+    if first >= 0x40 && first < 0x80 {
+        return string_fault(rest, head, at);
+    }
+    None
+}
