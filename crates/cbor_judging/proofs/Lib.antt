@@ -3,6 +3,7 @@ pub mod Arrays
 pub mod ByteLists
 pub mod CanonicalFronts
 pub mod Chunks
+pub mod CleanParts
 pub mod Composition
 pub mod Decisions
 pub mod Frames

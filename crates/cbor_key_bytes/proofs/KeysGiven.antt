@@ -124,12 +124,12 @@ ended-as o (some_member done) (array w ss) e = (refl, refl)
 ended-as o (some_key done) (a_map w es) e = (refl, refl)
 ended-as o l s e = absurd e
 
-endless : (o : KeyOrder) (d : ℕ) (ls : List Level) (l : Level) (s : Spelling) → AreLevels d (l ∷ ls) → IsEndedAs l s → Fills d ls s → (e : ℕ) × IsFull o e (level_open o l) s
+endless : (o : KeyOrder) (d : ℕ) (ls : List Level) (l : Level) (s : Spelling) → AreLevels d (l ∷ ls) → IsEndedAs l s → Fills false d ls s → (e : ℕ) × IsFull o e (level_open o l) s
 endless o d ls l s levels ended fills =
     let at = (full-endless (built o []) (built o (opens o (l ∷ ls))) d ls l s (refl, refl) levels ended fills).1 in
     (at.0, subst (λ (c : Open). IsFull o at.0 c s) (sym (ap innermost at.3)) at.2)
 
-full-at : (k : Bool) (d : ℕ) (start g : KeyBytes) (ls : List Level) (s : Spelling) → Fills d ls s → StandsFull KeyBytes (Told KeyBytes keys_stand k) d start g ls s → Told KeyBytes keys_stand k start g (item_full ls s)
+full-at : (k : Bool) (d : ℕ) (start g : KeyBytes) (ls : List Level) (s : Spelling) → Fills false d ls s → StandsFull KeyBytes (Told KeyBytes keys_stand k) d start g ls s → Told KeyBytes keys_stand k start g (item_full ls s)
 full-at k d start g ls s fills (inl at) = at
 full-at k d start g ls s fills (inr (l, ended, levels, at)) =
     let o = g.builder.order in
@@ -138,13 +138,13 @@ full-at k d start g ls s fills (inr (l, ended, levels, at)) =
     ((full.0, level_open o l, full.1, like.0, at.0.0, at.0.1), at.1 ∙ like.1)
 
 -- it may end, where it stands in a key or is a map
-pub in-container : (k : Bool) (g : KeyBytes) → IsContainerFull KeyBytes keys_stand k g → (0 < g.inside) ⊎ (k ≡ true) → IsInContainer g.builder.standing
+pub in-container : (k : Bool) (g : KeyBytes) → IsContainerFull KeyBytes keys_stand false k g → (0 < g.inside) ⊎ (k ≡ true) → IsInContainer g.builder.standing
 in-container k g (start, d, ls, s, fills, full) h =
     let at = full-at k d start g ls s fills full in
     let kind : (0 < one_more (in_key ls) (inside ls)) ⊎ (is_open_map at.0.1 ≡ true) = elim h [ inl some ↦ inl (subst (λ (n : ℕ). 0 < n) at.0.5 some) | inr e ↦ inr (at.0.3 ∙ sym at.1 ∙ e) ] in
     subst IsInContainer (sym at.0.4) (may-end g.builder.order at.0.1 ls at.0.2.container kind)
 
-pub end-takes : (k : Bool) (m : ℕ) (old new : KeyBytes) → IsContainerFull KeyBytes keys_stand k old → new.builder ≡ built old.builder.order (close old.builder.order old.builder.standing) → suc m ≡ old.inside → m ≡ 0
+pub end-takes : (k : Bool) (m : ℕ) (old new : KeyBytes) → IsContainerFull KeyBytes keys_stand false k old → new.builder ≡ built old.builder.order (close old.builder.order old.builder.standing) → suc m ≡ old.inside → m ≡ 0
     → TakesPart new.builder.standing
 end-takes k m old new (start, d, ls, s, fills, full) is some none =
     let at = full-at k d start old ls s fills full in
@@ -154,7 +154,7 @@ end-takes k m old new (start, d, ls, s, fills, full) is some none =
 ended : (k : Bool) (old new : KeyBytes) → new.builder.order ≡ old.builder.order
     → ((ls : List Level) (c : Open) → IsInContainer (c ∷ plain [] ∷ []) → is_open_map c ≡ k → old.builder.standing ≡ kept (in_key ls) c (kept_all old.builder.order ls) → old.inside ≡ one_more (in_key ls) (inside ls)
     → IsBehind old.builder.order (inside ls) (key_due ls) c (kept_all old.builder.order ls) new.builder.standing new.inside)
-    → Ends KeyBytes keys_stand k old new
+    → Ends KeyBytes keys_stand false k old new
 ended k old new order path start d ls s fills stood =
     let o = old.builder.order in
     let at = full-at k d start old ls s fills stood in
@@ -168,7 +168,7 @@ ended k old new order path start d ls s fills stood =
     )
 
 ended-map : (k : Bool) (old new : KeyBytes) → k ≡ true → old.inside ≡ 0 → HasDistinctKeysSoFar old.builder.standing → new.builder ≡ built old.builder.order (around old.builder.standing) → new.inside ≡ old.inside
-    → Ends KeyBytes keys_stand k old new
+    → Ends KeyBytes keys_stand false k old new
 ended-map k old new keeps none distinct is stays =
     ended k old new (ap (λ (x : Built). x.order) is)
     (λ ls c inner like at n.
@@ -176,7 +176,7 @@ ended-map k old new keeps none distinct is stays =
     let behind = map-ended o (in_key ls) (inside ls) (key_due ls) c (kept_all o ls) (in_key-is ls) (sym n ∙ none) (like ∙ keeps) (subst HasDistinctKeysSoFar at distinct) in
     record { differ = behind.differ; holds = ap (λ (x : Built). x.standing) is ∙ ap around at ∙ behind.holds; count = stays ∙ none ∙ behind.count })
 
-pub ended-other : (k : Bool) (old new : KeyBytes) → k ≡ false → old.inside ≡ 0 → new.builder ≡ old.builder → new.inside ≡ old.inside → Ends KeyBytes keys_stand k old new
+pub ended-other : (k : Bool) (old new : KeyBytes) → k ≡ false → old.inside ≡ 0 → new.builder ≡ old.builder → new.inside ≡ old.inside → Ends KeyBytes keys_stand false k old new
 ended-other k old new not none is stays =
     ended k old new (ap (λ (x : Built). x.order) is)
     (λ ls c inner like at n.
@@ -185,7 +185,7 @@ ended-other k old new not none is stays =
     record { differ = behind.differ; holds = ap (λ (x : Built). x.standing) is ∙ at ∙ behind.holds; count = stays ∙ none ∙ behind.count })
 
 pub ended-inner : (k : Bool) (old new : KeyBytes) → suc new.inside ≡ old.inside → HasDistinctKeysSoFar old.builder.standing
-    → new.builder ≡ built old.builder.order (behind_item new.inside (close old.builder.order old.builder.standing)) → Ends KeyBytes keys_stand k old new
+    → new.builder ≡ built old.builder.order (behind_item new.inside (close old.builder.order old.builder.standing)) → Ends KeyBytes keys_stand false k old new
 ended-inner k old new some distinct is =
     ended k old new (ap (λ (x : Built). x.order) is)
     (λ ls c inner like at n.
@@ -194,6 +194,6 @@ ended-inner k old new some distinct is =
     record { differ = behind.differ; holds = ap (λ (x : Built). x.standing) is ∙ ap (λ (os : List Open). behind_item new.inside (close o os)) at ∙ behind.holds; count = behind.count })
 
 pub map-ends : {E : Type 0} (r : Result Bool E) (k : Bool) (old : KeyBytes) (new : Built) → k ≡ true → old.inside ≡ 0 → IfOk r (λ d. IsTrue d ↔ HasDistinctKeysSoFar old.builder.standing)
-    → IfOk r (λ d. IsTrue d → new ≡ built old.builder.order (around old.builder.standing)) → IfOk r (λ d. IsTrue d → Ends KeyBytes keys_stand k old (record { builder = new; inside = old.inside }))
+    → IfOk r (λ d. IsTrue d → new ≡ built old.builder.order (around old.builder.standing)) → IfOk r (λ d. IsTrue d → Ends KeyBytes keys_stand false k old (record { builder = new; inside = old.inside }))
 map-ends (Ok d) k old new keeps none x y = λ t. ended-map k old (record { builder = new; inside = old.inside }) keeps none (x.0 t) (y t) refl
 map-ends (Err e) k old new keeps none x y = tt

@@ -1,5 +1,5 @@
 -- A builder of views that is given the parts of an item: what it stands for behind each.
-use Rattle.std.proofs.Common.{◌≡◌, ℕ, Bool, true, List, [], ◌∷◌, ◌++◌, refl, sym, ap, ap₂, ◌∙◌, subst, inl, inr}
+use Rattle.std.proofs.Common.{◌≡◌, ℕ, Bool, true, false, List, [], ◌∷◌, ◌++◌, refl, sym, ap, ap₂, ◌∙◌, subst, inl, inr}
 use Rattle.std.specs.Prelude.{IsUtf8}
 use Rattle.std.proofs.lemmas.Str.{IsUtf8-append}
 use Rattle.cbor_head.specs.Spelling.{Spelling, Spellings, SpelledEntries, array, a_map, value_of}
@@ -65,13 +65,13 @@ views-full : (k : Bool) (d : ℕ) (start g : ViewSink) (ls : List Level) (s : Sp
 views-full k d start g ls s (inl (at, told)) = (at.2, at.1)
 views-full k d start g ls s (inr (l, ended, levels, (at, told))) = let e = ended-as l s ended in (at.2 ∙ ap (λ (c : OpenValue). c ∷ level_values ls) e.0, e.1)
 
-pub keys-end : (k : Bool) (g : ViewSink) → IsContainerFull ViewSink view_stands k g → IsContainerFull KeyBytes keys_stand k g.keys
+pub keys-end : (k : Bool) (g : ViewSink) → IsContainerFull ViewSink view_stands false k g → IsContainerFull KeyBytes keys_stand false k g.keys
 keys-end k g (start, d, ls, s, fills, full) = (start.keys, d, ls, s, fills, keys-full k d start g ls s full)
 
-pub views-end : (k : Bool) (g : ViewSink) → IsContainerFull ViewSink view_stands k g → MayEnd (standing g.views)
+pub views-end : (k : Bool) (g : ViewSink) → IsContainerFull ViewSink view_stands false k g → MayEnd (standing g.views)
 views-end k g (start, d, ls, s, fills, full) = let f = views-full k d start g ls s full in subst MayEnd (sym f.0) (may-end (full_value s) ls (full-ends s f.1))
 
-pub ended : (k : Bool) (old new : ViewSink) → Ends KeyBytes keys_stand k old.keys new.keys → standing new.views ≡ close (standing old.views) → Ends ViewSink view_stands k old new
+pub ended : (k : Bool) (old new : ViewSink) → Ends KeyBytes keys_stand false k old.keys new.keys → standing new.views ≡ close (standing old.views) → Ends ViewSink view_stands false k old new
 ended k old new keys views start d ls s fills full =
     let e = keys start.keys d ls s fills (keys-full k d start old ls s full) in
     (e.0, (e.1, settles-right ls s, views ∙ ap close (views-full k d start old ls s full).0 ∙ values-ended ls s))

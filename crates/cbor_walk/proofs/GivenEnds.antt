@@ -23,10 +23,10 @@ use Rattle.cbor_walk.proofs.GivenParts.{cells-count}
 some-is : (x y : Open) → Some x ≡ Some y → x ≡ y
 some-is x y e = cc
 
-module _ (S : Type 0) (stands : S → S → Standing → Type 0) (start : S) (d : ℕ) (input : List ℕ) where
+module _ (S : Type 0) (stands : S → S → Standing → Type 0) (trusts : Bool) (start : S) (d : ℕ) (input : List ℕ) where
   -- ---- behind an item
 
-  module _ (c : Open) (cs : List Open) (g : S) (rest : List ℕ) (h : HasEnded S stands start d input (c ∷ cs) g rest) where
+  module _ (c : Open) (cs : List Open) (g : S) (rest : List ℕ) (h : HasEnded S stands trusts start d input (c ∷ cs) g rest) where
     short : (ls : List Level) → input ≡ (bytes_before ls ++ spell h.item) ++ rest → length (bytes_before ls ++ spell h.item) < 2 ^ 64
     short ls e = let small = h.small in omega (arith, small, ap length e, length-append (bytes_before ls ++ spell h.item) rest)
 
@@ -49,7 +49,7 @@ module _ (S : Type 0) (stands : S → S → Standing → Type 0) (start : S) (d 
 
     -- another item is due
     goes-on : (new : Open) (l : Level) (ls : List Level) (m : Level) → levels-with (l ∷ ls) → after (cell_of l) ≡ Some new → after (cell_of l) ≡ Some (cell_of m)
-        → AreLevels d (m ∷ ls) → bytes_before (l ∷ ls) ++ spell h.item ≡ bytes_before (m ∷ ls) → stands start g (item_due (m ∷ ls)) → IsDue S stands start d input (new ∷ cs) g rest
+        → AreLevels d (m ∷ ls) → bytes_before (l ∷ ls) ++ spell h.item ≡ bytes_before (m ∷ ls) → stands start g (item_due (m ∷ ls)) → IsDue S stands trusts start d input (new ∷ cs) g rest
     goes-on new l ls m k e f levels same given = record {
       ls = m ∷ ls;
       levels = levels;
@@ -57,15 +57,16 @@ module _ (S : Type 0) (stands : S → S → Standing → Type 0) (start : S) (d 
       given = given;
       bytes = k.4 ∙ ap (λ (x : List ℕ). x ++ rest) same;
       small = h.small;
+      known = h.known;
     }
 
-    pub goes : (new : Open) → after c ≡ Some new → IsDue S stands start d input (new ∷ cs) g rest
+    pub goes : (new : Open) → after c ≡ Some new → IsDue S stands trusts start d input (new ∷ cs) g rest
     goes new e = go h.ls (h.levels, h.taken, h.cells, h.given, h.bytes)
       where
         on : (l : Level) (ls : List Level) (k : levels-with (l ∷ ls)) → after (cell_of l) ≡ Some new
         on l ls k = ap after (sym (cell-is l ls k.2)) ∙ e
 
-        go : (ls : List Level) → levels-with ls → IsDue S stands start d input (new ∷ cs) g rest
+        go : (ls : List Level) → levels-with ls → IsDue S stands trusts start d input (new ∷ cs) g rest
         go [] k = let same : c ≡ counted Item 0 = cc in absurd (no-more new (ap after (sym same) ∙ e))
         go (a_member w zero done ∷ ls) k = absurd (no-more new (on (a_member w zero done) ls k))
         go (a_member w (suc n) done ∷ ls) k =
@@ -95,13 +96,13 @@ module _ (S : Type 0) (stands : S → S → Standing → Type 0) (start : S) (d 
             goes-on new l ls (some_key (with_entries done (entry key h.item no_entries))) k (on l ls k) refl st.0 st.1 k.3
         go (tagged w n ∷ ls) k = absurd (no-more new (on (tagged w n) ls k))
 
-    filled : (t : Bool) (cs : List Open) (ls : List Level) → cs ≡ cells_of ls → IsToEnd S stands t start d input cs g rest → HasFilled S stands t start d input cs g rest
+    filled : (t : Bool) (cs : List Open) (ls : List Level) → cs ≡ cells_of ls → IsToEnd S stands trusts t start d input cs g rest → HasFilled S stands trusts t start d input cs g rest
     filled t [] ls e s = absurd (omega (arith, ap length e, cells-count ls))
     filled t (x ∷ xs) ls e s = s
 
     -- nothing is due in it
     fills : (l : Level) (ls : List Level) → levels-with (l ∷ ls) → (item : Spelling) → pairs (cell_of l).due ≡ is_map item → AreLevels d ls → bytes_before (l ∷ ls) ++ spell h.item ≡ bytes_before ls ++ spell item
-        → IsSpelled item → depth item ≤ d - length ls → stands start g (item_full ls item) → HasFilled S stands (pairs c.due) start d input cs g rest
+        → IsSpelled item → depth item ≤ d - length ls → stands start g (item_full ls item) → HasFilled S stands trusts (pairs c.due) start d input cs g rest
     fills l ls k item kind levels same spelled within given = filled (pairs c.due) cs ls (cells-are l ls k.2) (record {
       ls = ls;
       item = item;
@@ -112,19 +113,20 @@ module _ (S : Type 0) (stands : S → S → Standing → Type 0) (start : S) (d 
       given = inl (given, ap (λ (x : Open). pairs x.due) (cell-is l ls k.2) ∙ kind);
       bytes = k.4 ∙ ap (λ (x : List ℕ). x ++ rest) same;
       small = h.small;
+      known = h.known;
     })
 
-    pub is-full : after c ≡ None → HasFilled S stands (pairs c.due) start d input cs g rest
+    pub is-full : after c ≡ None → HasFilled S stands trusts (pairs c.due) start d input cs g rest
     is-full e = go h.ls (h.levels, h.taken, h.cells, h.given, h.bytes)
       where
         on : (l : Level) (ls : List Level) (k : levels-with (l ∷ ls)) → after (cell_of l) ≡ None
         on l ls k = ap after (sym (cell-is l ls k.2)) ∙ e
 
-        go : (ls : List Level) → levels-with ls → HasFilled S stands (pairs c.due) start d input cs g rest
+        go : (ls : List Level) → levels-with ls → HasFilled S stands trusts (pairs c.due) start d input cs g rest
         go [] k =
             let none : cs ≡ [] = cc in
             let low : d - 0 ≡ d = omega arith in
-            subst (λ (x : List Open). HasFilled S stands (pairs c.due) start d input x g rest) (sym none) (record { item = h.item; taken = subst (λ (n : ℕ). IsTaken n h.item) low k.1; given = k.3; bytes = k.4 })
+            subst (λ (x : List Open). HasFilled S stands trusts (pairs c.due) start d input x g rest) (sym none) (record { item = h.item; taken = subst (λ (n : ℕ). IsTaken n h.item) low k.1; given = k.3; bytes = k.4 })
         go (a_member w zero done ∷ ls) k =
             let l = a_member w zero done in
             let st = settle-here (l ∷ ls) k in
@@ -146,7 +148,7 @@ module _ (S : Type 0) (stands : S → S → Standing → Type 0) (start : S) (d 
 
   -- ---- a break
 
-  module _ (c : Open) (cs : List Open) (g : S) (behind : List ℕ) (s : IsDue S stands start d input (c ∷ cs) g (0xff ∷ behind)) (open_ended : c.is_endless ≡ true) where
+  module _ (c : Open) (cs : List Open) (g : S) (behind : List ℕ) (s : IsDue S stands trusts start d input (c ∷ cs) g (0xff ∷ behind)) (open_ended : c.is_endless ≡ true) where
     -- a container is open
     pub break-inside : 0 < length cs
     break-inside = go s.ls s.cells
@@ -156,7 +158,7 @@ module _ (S : Type 0) (stands : S → S → Standing → Type 0) (start : S) (d 
         go (l ∷ ls) e = omega (arith, ap length e, cells-count ls)
 
     -- and it is whole
-    pub break-ends : (c.due ≡ Value → ⊥) → IsToEnd S stands (pairs c.due) start d input cs g behind
+    pub break-ends : (c.due ≡ Value → ⊥) → IsToEnd S stands trusts (pairs c.due) start d input cs g behind
     break-ends no_value = go s.ls s.levels s.cells s.given s.bytes
       where
         flag : (l : Level) (ls : List Level) → c ∷ cs ≡ cells_of (l ∷ ls) → (cell_of l).is_endless ≡ true
@@ -172,7 +174,7 @@ module _ (S : Type 0) (stands : S → S → Standing → Type 0) (start : S) (d 
         kind l ls e = let same : c ≡ cell_of l = cc in ap (λ (x : Open). pairs x.due) same
 
         ended : (l : Level) (ls : List Level) (item : Spelling) (xs : List ℕ) → pairs (cell_of l).due ≡ takes_key l → spell item ≡ xs ++ (0xff ∷ []) → IsSpelled item → depth item ≤ d - length ls → AreLevels d (l ∷ ls) → c ∷ cs ≡ cells_of (l ∷ ls)
-            → input ≡ (bytes_before ls ++ xs) ++ 0xff ∷ behind → IsEndedAs l item → stands start g (item_due (l ∷ ls)) → IsToEnd S stands (pairs c.due) start d input cs g behind
+            → input ≡ (bytes_before ls ++ xs) ++ 0xff ∷ behind → IsEndedAs l item → stands start g (item_due (l ∷ ls)) → IsToEnd S stands trusts (pairs c.due) start d input cs g behind
         ended l ls item xs told is spelled within levels e b whole given = record {
           ls = ls;
           item = item;
@@ -183,9 +185,10 @@ module _ (S : Type 0) (stands : S → S → Standing → Type 0) (start : S) (d 
           given = inr (l, whole, levels, (given, kind l ls e ∙ told));
           bytes = regroup ls xs b ∙ ap (λ (x : List ℕ). (bytes_before ls ++ x) ++ behind) (sym is);
           small = s.small;
+          known = s.known;
         }
 
-        go : (ls : List Level) → AreLevels d ls → c ∷ cs ≡ cells_of ls → stands start g (item_due ls) → input ≡ bytes_before ls ++ 0xff ∷ behind → IsToEnd S stands (pairs c.due) start d input cs g behind
+        go : (ls : List Level) → AreLevels d ls → c ∷ cs ≡ cells_of ls → stands start g (item_due ls) → input ≡ bytes_before ls ++ 0xff ∷ behind → IsToEnd S stands trusts (pairs c.due) start d input cs g behind
         go [] h e f b = let same : c ≡ counted Item 0 = cc in let x : false ≡ true = ap (λ (x : Open). x.is_endless) (sym same) ∙ open_ended in absurd (cc x)
         go (some_member done ∷ ls) h e f b =
             let room = h.0 in

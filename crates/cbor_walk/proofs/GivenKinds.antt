@@ -1,5 +1,5 @@
 -- A valid item, part by part: of which kinds the keys are that begin in what was taken.
-use Rattle.std.proofs.Common.{◌≡◌, ℕ, suc, ◌+◌, ◌-◌, ◌<◌, ◌≤◌, ◌⊎◌, false, true, List, [], ◌∷◌, ◌++◌, length, refl, sym, ap, ◌∙◌, subst, inl, inr, arith, append_assoc, append-nil}
+use Rattle.std.proofs.Common.{◌≡◌, ℕ, suc, ◌+◌, ◌-◌, ◌<◌, ◌≤◌, ◌⊎◌, Bool, false, true, List, [], ◌∷◌, ◌++◌, length, refl, sym, ap, ◌∙◌, subst, inl, inr, arith, append_assoc, append-nil}
 use Rattle.std.proofs.lemmas.List.{length-append, append_cancel_right, nil_from_length}
 use Rattle.cbor_head.specs.Complaint.{Complaint, plain, OfKinds}
 use Rattle.cbor_head.specs.Head.{Holds, head}
@@ -116,7 +116,7 @@ basic-front : (s : Spelling) → IsSpelled s → (x y z rest : List ℕ) → spe
 basic-front s h [] y z rest e f fit = tt
 basic-front s h (b ∷ x) y z rest e f fit = elim (subst IsFitFront f fit) [ inl k ↦ k | inr k ↦ absurd (no_break s h (x ++ z) (e ∙ ap (λ (c : ℕ). c ∷ (x ++ z)) k)) ]
 
-module _ (S : Type 0) (stands : S → S → Standing → Type 0) (start : S) (d : ℕ) (input : List ℕ) (keys : Keys) where
+module _ (S : Type 0) (stands : S → S → Standing → Type 0) (trusts : Bool) (start : S) (d : ℕ) (input : List ℕ) (keys : Keys) where
   -- before the first part
   pub starts-kept : KeepsBefore d keys input input
   starts-kept = λ t e.
@@ -124,10 +124,10 @@ module _ (S : Type 0) (stands : S → S → Standing → Type 0) (start : S) (d 
       subst (KeepsToKinds (with_keys (bounds d 0) keys) plain) (sym none) (keeps_start (with_keys (bounds d 0) keys) plain)
 
   -- behind an item that begins within them
-  pub begun-keeps : (k : Stack Open) (cells : List Open) (g : S) (rest behind : List ℕ) → k.height ≤ length cells → IsDue S stands start d input (standing Open k cells) g rest → HasBegun (d - k.height) rest behind → (k.top.due ≡ Key → IsFitFront rest)
+  pub begun-keeps : (k : Stack Open) (cells : List Open) (g : S) (rest behind : List ℕ) → k.height ≤ length cells → IsDue S stands trusts start d input (standing Open k cells) g rest → HasBegun (d - k.height) rest behind → (k.top.due ≡ Key → IsFitFront rest)
       → KeepsBefore d keys input rest → KeepsBefore d keys input behind
   begun-keeps k cells g rest behind low s h fit keeps = λ t e.
-      let height : length s.ls ≡ k.height = omega (arith, height-is S stands start d input (standing Open k cells) g rest s, standing_count Open k cells low) in
+      let height : length s.ls ≡ k.height = omega (arith, height-is S stands trusts start d input (standing Open k cells) g rest s, standing_count Open k cells low) in
       let within : depth h.item ≤ d - length s.ls = subst (λ (n : ℕ). depth h.item ≤ d - n) (sym height) h.within in
       let begins : Begins (d - length s.ls) h.front = record { item = h.item; spelled = h.spelled; within = within; rest = h.more; bytes = h.bytes } in
       let whole : (bytes_before s.ls ++ h.front) ++ behind ≡ t ++ behind = append_assoc (bytes_before s.ls) h.front behind ∙ ap (λ (x : List ℕ). bytes_before s.ls ++ x) (sym h.is) ∙ sym s.bytes ∙ e in
@@ -136,7 +136,7 @@ module _ (S : Type 0) (stands : S → S → Standing → Type 0) (start : S) (d 
       (λ asked due. basic-front h.item h.spelled h.front behind h.more rest h.bytes h.is (fit (due-key k.top (around Open k cells) s.ls s.cells due))) (keeps (bytes_before s.ls) s.bytes))
 
   -- a container without a length ends
-  broken-keeps : (c : Open) (cs : List Open) (g : S) (rest behind : List ℕ) → IsDue S stands start d input (c ∷ cs) g rest → HasBroken c rest behind → KeepsBefore d keys input rest → KeepsBefore d keys input behind
+  broken-keeps : (c : Open) (cs : List Open) (g : S) (rest behind : List ℕ) → IsDue S stands trusts start d input (c ∷ cs) g rest → HasBroken c rest behind → KeepsBefore d keys input rest → KeepsBefore d keys input behind
   broken-keeps c cs g rest behind s h keeps = λ t e. go s.ls s.levels s.cells s.bytes t e
     where
       flag : (l : Level) (ls : List Level) → c ∷ cs ≡ cells_of (l ∷ ls) → (cell_of l).is_endless ≡ true
@@ -176,6 +176,6 @@ module _ (S : Type 0) (stands : S → S → Standing → Type 0) (start : S) (d 
       go (a_value w n done k ∷ ls) levels e b t f = absurd (cc (flag (a_value w n done k) ls e))
       go (tagged w n ∷ ls) levels e b t f = absurd (cc (flag (tagged w n) ls e))
 
-  pub item-keeps : (k : Stack Open) (cells : List Open) (g : S) (rest behind : List ℕ) → k.height ≤ length cells → IsDue S stands start d input (standing Open k cells) g rest → HasBegun (d - k.height) rest behind ⊎ HasBroken k.top rest behind
+  pub item-keeps : (k : Stack Open) (cells : List Open) (g : S) (rest behind : List ℕ) → k.height ≤ length cells → IsDue S stands trusts start d input (standing Open k cells) g rest → HasBegun (d - k.height) rest behind ⊎ HasBroken k.top rest behind
       → (k.top.due ≡ Key → IsFitFront rest) → KeepsBefore d keys input rest → KeepsBefore d keys input behind
   item-keeps k cells g rest behind low s h fit keeps = elim h [ inl x ↦ begun-keeps k cells g rest behind low s x fit keeps | inr x ↦ broken-keeps k.top (around Open k cells) g rest behind s x keeps ]

@@ -13,14 +13,15 @@ use Rattle.cbor_grammar.proofs.Accepted.{accepts_exactly}
 use Rattle.cbor_grammar.proofs.ReadLaws.{length_spell}
 use Rattle.cbor_judging.specs.Kinds.{KeepsToKinds}
 use Rattle.cbor_judging.proofs.Arrays.{closes}
+use Rattle.cbor_judging.proofs.CleanParts.{clean-within}
 use Rattle.cbor_judging.proofs.Decisions.{whole_beside}
 use Rattle.cbor_judging.proofs.Heads.{open_or}
 use Rattle.cbor_judging.proofs.Items.{is-definite}
-use Rattle.cbor_judging.proofs.Levels.{no-count}
+use Rattle.cbor_judging.proofs.Levels.{clean-anywhere, no-count}
 use Rattle.cbor_judging.proofs.Loops.{array_bytes-whole, map_bytes-whole}
 use Rattle.cbor_judging.specs.Levels.{IsTaken, Level, a_member, a_key, a_value, some_member, some_key, some_value, tagged, AreLevels, level_bytes, bytes_before, Standing, item_due, settle}
-use Rattle.cbor_walk.specs.Sink.{takes_key, key_due, Completes, Fills, IsEndedAs, IsItemDue, Gives, Opens, IsContainerFull, Ends, IsGivenFront}
-use Rattle.cbor_walk.specs.inner.Building.{awaits, counted, cell_of, cells_of, IsDue, HasEnded, IsToEnd, IsBuilt, IsDueFor, TakesTo, IsItem, EndsTo, IsHead, IsOpener, Counts}
+use Rattle.cbor_walk.specs.Sink.{takes_key, key_due, Completes, Fills, IsEndedAs, IsItemDue, Gives, Opens, IsContainerFull, Ends, IsKnownValid, IsGivenFront}
+use Rattle.cbor_walk.specs.inner.Building.{awaits, counted, cell_of, cells_of, BeginsTaken, IsDue, HasEnded, IsToEnd, IsBuilt, IsDueFor, TakesTo, IsItem, EndsTo, IsHead, IsOpener, Counts}
 use Rattle.cbor_walk.specs.inner.Stack.{standing}
 use Rattle.cbor_walk.specs.declared.level.Due.{Due}
 use Rattle.cbor_walk.specs.declared.level.Due.TheVariants.{Item, Key, Value as ItsValue}
@@ -54,25 +55,32 @@ key-awaited (l ∷ ls) top outer e = let same : top ≡ cell_of l = cc in ap (λ
 pub never-full : (p : Part) → IsItem p → p ≡ part.Full → ⊥
 never-full p h e = subst IsItem e h
 
-module _ (S : Type 0) (stands : S → S → Standing → Type 0) where
-  pub due-item : (top : Open) (g : S) (rest : List ℕ) (t : Bool) → t ≡ awaits top.due → IsDueFor S stands top g rest → IsItemDue S stands t g
+-- an input whose item is known to be valid
+pub known-begins : (limits : Bounds) (bytes input : List ℕ) (d : ℕ) → d ≡ limits.depth → input ≡ take limits.bytes bytes → IsKnownValid limits bytes → BeginsTaken d input
+known-begins limits bytes input d e f (size, h) =
+    let (rest, (spelled, within, front), none) = (accepts_exactly limits plain bytes h.item).0 h.verdict in
+    (h.item, rest, record { spelled = spelled; within = omega (arith, within, e); clean = clean-anywhere h.item 0 (λ c x. none c (inl x)) }, f ∙ sym front)
+
+module _ (S : Type 0) (stands : S → S → Standing → Type 0) (trusts : Bool) where
+  pub due-item : (top : Open) (g : S) (rest : List ℕ) (t : Bool) → t ≡ awaits top.due → IsDueFor S stands trusts top g rest → IsItemDue S stands t g
   due-item top g rest t e (d, outer, (start, input, s)) =
       let small = s.small in
       (start, d, s.ls, record { levels = s.levels; short = omega (arith, small, ap length s.bytes, length-append (bytes_before s.ls) rest) }, (s.given, e ∙ key-awaited s.ls top outer s.cells))
 
   -- before the first part
-  pub starts : (k : Stack Open) (g : S) (d : ℕ) (input : List ℕ) (cells : List Open) → k.height ≡ 0 → k.top ≡ counted Item 0 → stands g g (item_due []) → length input < 2 ^ 63 → IsDue S stands g d input (standing Open k cells) g input
-  starts k g d input cells none top fresh small = record {
+  pub starts : (k : Stack Open) (g : S) (d : ℕ) (input : List ℕ) (cells : List Open) → k.height ≡ 0 → k.top ≡ counted Item 0 → stands g g (item_due []) → length input < 2 ^ 63 → (trusts ≡ true → BeginsTaken d input) → IsDue S stands trusts g d input (standing Open k cells) g input
+  starts k g d input cells none top fresh small known = record {
     ls = [];
     levels = tt;
     cells = ap₂ (λ (x : Open) (n : ℕ). x ∷ reverse (take n cells)) top none;
     given = fresh;
     bytes = refl;
     small = small;
+    known = known;
   }
 
   -- the whole
-  pub front-given : (start g : S) (b : Bounds) (input rest : List ℕ) (size : ℕ) → (h : IsBuilt S stands start b.depth (take b.bytes input) g rest) → KeepsToKinds b plain (spell h.item) → size ≡ length (take b.bytes input) - length rest
+  pub front-given : (start g : S) (b : Bounds) (input rest : List ℕ) (size : ℕ) → (h : IsBuilt S stands trusts start b.depth (take b.bytes input) g rest) → KeepsToKinds b plain (spell h.item) → size ≡ length (take b.bytes input) - length rest
       → IsGivenFront (stands start g) b input size
   front-given start g b input rest size h keeps e = record {
     read = record {
@@ -89,13 +97,13 @@ module _ (S : Type 0) (stands : S → S → Standing → Type 0) where
 
   module _ (start : S) (d : ℕ) (input : List ℕ) where
     -- the levels are as many as the cells but one
-    pub height-is : (cs : List Open) (g : S) (rest : List ℕ) (s : IsDue S stands start d input cs g rest) → length cs ≡ suc (length s.ls)
+    pub height-is : (cs : List Open) (g : S) (rest : List ℕ) (s : IsDue S stands trusts start d input cs g rest) → length cs ≡ suc (length s.ls)
     height-is cs g rest s = ap length s.cells ∙ cells-count s.ls
 
-    module _ (cs : List Open) (g : S) (rest : List ℕ) (s : IsDue S stands start d input cs g rest) where
+    module _ (cs : List Open) (g : S) (rest : List ℕ) (s : IsDue S stands trusts start d input cs g rest) where
       -- an item is taken
       item-ends : (item : Spelling) (behind : List ℕ) (new : S) → IsTaken (d - length s.ls) item → rest ≡ spell item ++ behind → stands start new (settle s.ls item)
-          → (length behind < length rest) × HasEnded S stands start d input cs new behind
+          → (length behind < length rest) × HasEnded S stands trusts start d input cs new behind
       item-ends item behind new i e given = (
         omega (arith, ap length e, length-append (spell item) behind, length_spell item),
         record {
@@ -107,6 +115,7 @@ module _ (S : Type 0) (stands : S → S → Standing → Type 0) where
           given = given;
           bytes = s.bytes ∙ ap (λ (x : List ℕ). bytes_before s.ls ++ x) e ∙ sym (append_assoc (bytes_before s.ls) (spell item) behind);
           small = s.small;
+          known = s.known;
         },
       )
 
@@ -120,15 +129,15 @@ module _ (S : Type 0) (stands : S → S → Standing → Type 0) where
           }
 
       -- one that the sink may take in several parts
-      pub scalar-settles : (behind : List ℕ) (v : Value) (new : S) → (i : IsScalar rest behind v) → (Completes d s.ls i.item → stands start new (settle s.ls i.item)) → (length behind < length rest) × HasEnded S stands start d input cs new behind
+      pub scalar-settles : (behind : List ℕ) (v : Value) (new : S) → (i : IsScalar rest behind v) → (Completes d s.ls i.item → stands start new (settle s.ls i.item)) → (length behind < length rest) × HasEnded S stands trusts start d input cs new behind
       scalar-settles behind v new i settles = item-ends i.item behind new (i.taken (d - length s.ls)) i.is (settles (completes i.item behind (i.taken (d - length s.ls)) i.is))
 
-      pub scalar-ends : (behind : List ℕ) (v : Value) (new : S) (k : Bool) → k ≡ key_due s.ls → IsScalar rest behind v → Gives S stands k v g new → (length behind < length rest) × HasEnded S stands start d input cs new behind
+      pub scalar-ends : (behind : List ℕ) (v : Value) (new : S) (k : Bool) → k ≡ key_due s.ls → IsScalar rest behind v → Gives S stands k v g new → (length behind < length rest) × HasEnded S stands trusts start d input cs new behind
       scalar-ends behind v new k told i gives = scalar-settles behind v new i (λ c. gives start d s.ls i.item (s.given, told) c i.value_is)
 
       -- a container opens
       pub opened : (m : Major) (n : ℕ) (c : Open) (behind : List ℕ) (new : S) (t : Bool) → t ≡ key_due s.ls → length s.ls < d → IsOpener m n c rest behind → Opens S stands t m n g new
-          → (length behind < length rest) × IsDue S stands start d input (c ∷ cs) new behind
+          → (length behind < length rest) × IsDue S stands trusts start d input (c ∷ cs) new behind
       opened m n c behind new t told room k opens =
           let some = k.some in (
             omega (arith, some, ap length k.is, length-append (level_bytes k.level) behind),
@@ -139,12 +148,13 @@ module _ (S : Type 0) (stands : S → S → Standing → Type 0) where
               given = opens start s.ls k.level (s.given, told) k.opened;
               bytes = s.bytes ∙ ap (λ (x : List ℕ). bytes_before s.ls ++ x) k.is ∙ sym (append_assoc (bytes_before s.ls) (level_bytes k.level) behind);
               small = s.small;
+              known = s.known;
             },
           )
 
       -- one without a length, of which the bytes are the whole
       to-end : (t : Bool) (l : Level) (item : Spelling) (behind : List ℕ) (new : S) → t ≡ takes_key l → stands start new (item_due (l ∷ s.ls)) → AreLevels d (l ∷ s.ls) → IsEndedAs l item → IsTaken (d - length s.ls) item → rest ≡ spell item ++ behind
-          → (length behind < length rest) × IsToEnd S stands t start d input cs new behind
+          → (length behind < length rest) × IsToEnd S stands trusts t start d input cs new behind
       to-end t l item behind new told given levels ended i e = (
         omega (arith, ap length e, length-append (spell item) behind, length_spell item),
         record {
@@ -157,12 +167,13 @@ module _ (S : Type 0) (stands : S → S → Standing → Type 0) where
           given = inr (l, ended, levels, (given, told));
           bytes = s.bytes ∙ ap (λ (x : List ℕ). bytes_before s.ls ++ x) e ∙ sym (append_assoc (bytes_before s.ls) (spell item) behind);
           small = s.small;
+          known = s.known;
         },
       )
 
       -- one that is empty
       pub empty-ends : (m : Major) (due : Due) (n : ℕ) (behind : List ℕ) (new : S) (t : Bool) → t ≡ key_due s.ls → length s.ls < d → Counts m due → n ≡ 0 → IsHead m n rest behind → Opens S stands t m 0 g new
-          → (length behind < length rest) × IsToEnd S stands (awaits due) start d input cs new behind
+          → (length behind < length rest) × IsToEnd S stands trusts (awaits due) start d input cs new behind
       empty-ends majors.Array Item n behind new t told room k none h opens =
           let w = h.width in
           let holds : Holds w 0 = subst (Holds w) none h.holds in
@@ -190,15 +201,21 @@ module _ (S : Type 0) (stands : S → S → Standing → Type 0) where
 
     -- ---- a container ends
 
-    fills-of : (t : Bool) (cs : List Open) (g : S) (rest : List ℕ) → (s : IsToEnd S stands t start d input cs g rest) → Fills d s.ls s.item
+    fills-of : (t : Bool) (cs : List Open) (g : S) (rest : List ℕ) → (s : IsToEnd S stands trusts t start d input cs g rest) → Fills trusts d s.ls s.item
     fills-of t cs g rest s =
         let small = s.small in
-        record { levels = s.levels; spelled = s.spelled; within = s.within; short = omega (arith, small, ap length s.bytes, length-append (bytes_before s.ls ++ spell s.item) rest) }
+        record {
+          levels = s.levels;
+          spelled = s.spelled;
+          within = s.within;
+          short = omega (arith, small, ap length s.bytes, length-append (bytes_before s.ls ++ spell s.item) rest);
+          clean = λ e. let (item, more, taken, front) = s.known e in clean-within d s.ls s.item item rest more s.levels s.spelled s.within taken (sym s.bytes ∙ front);
+        }
 
-    pub container-full : (t : Bool) (cs : List Open) (g : S) (rest : List ℕ) → IsToEnd S stands t start d input cs g rest → IsContainerFull S stands t g
+    pub container-full : (t : Bool) (cs : List Open) (g : S) (rest : List ℕ) → IsToEnd S stands trusts t start d input cs g rest → IsContainerFull S stands trusts t g
     container-full t cs g rest s = (start, d, s.ls, s.item, fills-of t cs g rest s, s.given)
 
-    pub has-ended : (t : Bool) (cs : List Open) (g new : S) (rest : List ℕ) → IsToEnd S stands t start d input cs g rest → Ends S stands t g new → HasEnded S stands start d input cs new rest
+    pub has-ended : (t : Bool) (cs : List Open) (g new : S) (rest : List ℕ) → IsToEnd S stands trusts t start d input cs g rest → Ends S stands trusts t g new → HasEnded S stands trusts start d input cs new rest
     has-ended t cs g new rest s ends =
         let e = ends start d s.ls s.item (fills-of t cs g rest s) s.given in
         record {
@@ -210,11 +227,12 @@ module _ (S : Type 0) (stands : S → S → Standing → Type 0) where
           given = e.1;
           bytes = s.bytes;
           small = s.small;
+          known = s.known;
         }
 
     -- what ends is taken
-    pub ends-takes : (p : Part) (cs : List Open) (g : S) (rest behind : List ℕ) → length behind < length rest → EndsTo S stands p start d input cs g behind → TakesTo S stands p start d input rest cs g
-    ends-takes (part.Item to) cs g rest behind l h = (subst (λ (x : List ℕ). length x < length rest) (sym h.0) l, subst (HasEnded S stands start d input cs g) (sym h.0) h.1)
+    pub ends-takes : (p : Part) (cs : List Open) (g : S) (rest behind : List ℕ) → length behind < length rest → EndsTo S stands trusts p start d input cs g behind → TakesTo S stands trusts p start d input rest cs g
+    ends-takes (part.Item to) cs g rest behind l h = (subst (λ (x : List ℕ). length x < length rest) (sym h.0) l, subst (HasEnded S stands trusts start d input cs g) (sym h.0) h.1)
     ends-takes part.Stopped cs g rest behind l h = tt
     ends-takes (part.Head to) cs g rest behind l h = absurd h
     ends-takes part.Full cs g rest behind l h = absurd h

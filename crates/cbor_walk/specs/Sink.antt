@@ -79,12 +79,13 @@ pub record Completes (d : ℕ) (ls : List Level) (s : Spelling) : Type 0 where
   pub taken : IsTaken (d - length ls) s
   pub short : length (bytes_before ls ++ spell s) < 2 ^ 63
 
--- this container has no more to come in them; it may have equal keys
-pub record Fills (d : ℕ) (ls : List Level) (s : Spelling) : Type 0 where
+-- this container has no more to come in them; it may have equal keys, unless the whole is known to be valid
+pub record Fills (trusts : Bool) (d : ℕ) (ls : List Level) (s : Spelling) : Type 0 where
   pub levels : AreLevels d ls
   pub spelled : IsSpelled s
   pub within : depth s ≤ d - length ls
   pub short : length (bytes_before ls ++ spell s) < 2 ^ 63
+  pub clean : trusts ≡ true → IsClean s
 
 -- what a container without a length is where it ends, whether by a break or, before its first item, with a length of none
 abbrev pub IsEndedAs : Level → Spelling → Type 0
@@ -113,13 +114,13 @@ StandsFull S stands d start g ls s =
     stands start g (item_full ls s) ⊎ ((l : Level) × IsEndedAs l s × AreLevels d (l ∷ ls) × stands start g (item_due (l ∷ ls)))
 
 -- a container is to end, a map or not
-abbrev pub IsContainerFull : (S : Type 0) → (S → S → Standing → Type 0) → Bool → S → Type 0
-IsContainerFull S stands is_map g = (start : S) × (d : ℕ) × (ls : List Level) × (s : Spelling) × Fills d ls s × StandsFull S (Told S stands is_map) d start g ls s
+abbrev pub IsContainerFull : (S : Type 0) → (S → S → Standing → Type 0) → Bool → Bool → S → Type 0
+IsContainerFull S stands trusts is_map g = (start : S) × (d : ℕ) × (ls : List Level) × (s : Spelling) × Fills trusts d ls s × StandsFull S (Told S stands is_map) d start g ls s
 
 -- it ends, and has no equal keys
-abbrev pub Ends : (S : Type 0) → (S → S → Standing → Type 0) → Bool → S → S → Type 0
-Ends S stands is_map old new =
-    (start : S) (d : ℕ) (ls : List Level) (s : Spelling) → Fills d ls s → StandsFull S (Told S stands is_map) d start old ls s → IsClean s × stands start new (settle ls s)
+abbrev pub Ends : (S : Type 0) → (S → S → Standing → Type 0) → Bool → Bool → S → S → Type 0
+Ends S stands trusts is_map old new =
+    (start : S) (d : ℕ) (ls : List Level) (s : Spelling) → Fills trusts d ls s → StandsFull S (Told S stands is_map) d start old ls s → IsClean s × stands start new (settle ls s)
 
 -- ---- a string in chunks, by the relation that says of what it consists so far
 
@@ -144,6 +145,10 @@ EndsString S stands holds is_key is_text old new =
     → Completes d ls s → value_of s ≡ string_value is_text content → stands start new (settle ls s)
 
 -- ---- the whole
+
+-- the item at the front of an input is known to be accepted by the plain rules
+abbrev pub IsKnownValid : Bounds → List ℕ → Type 0
+IsKnownValid limits input = (size : ℕ) × IsRead limits plain input size
 
 -- the item at the front of an input is accepted by the plain rules, has so many bytes, and all of it was given
 pub record IsGivenFront (given : Standing → Type 0) (limits : Bounds) (input : List ℕ) (size : ℕ) : Type 0 where

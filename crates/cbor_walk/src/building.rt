@@ -51,12 +51,12 @@ impl<S> Building<S> {
     where
         S: Sink<'a>,
         requires cells { self.old.stack.height ≤ length cells.old }
-        requires due { IsDueIn S S.stands depth (standing Open self.old.stack cells.old) self.old.sink start.now }
+        requires due { IsDueIn S S.stands S.trusts depth (standing Open self.old.stack cells.old) self.old.sink start.now }
         ensures cells { self.new.stack.height ≤ length cells.new }
-        ensures walked { Walks S S.stands result depth start.now (standing Open self.old.stack cells.old)
+        ensures walked { Walks S S.stands S.trusts result depth start.now (standing Open self.old.stack cells.old)
             self.old.sink (standing Open self.new.stack cells.new) self.new.sink }
         ensures full { IsFullAt result self.new.stack.height (length cells.new) }
-        ensures kept { WalksKept S S.stands KINDS result depth start.now
+        ensures kept { WalksKept S S.stands S.trusts KINDS result depth start.now
             (standing Open self.old.stack cells.old) self.old.sink }
     {
         let mut rest = start;
@@ -83,9 +83,9 @@ impl<S> Building<S> {
     where
         S: Sink<'a>,
         requires cells { self.old.stack.height ≤ length cells.now }
-        requires ended { HasEndedIn S S.stands (standing Open self.old.stack cells.now) self.old.sink }
+        requires ended { HasEndedIn S S.stands S.trusts (standing Open self.old.stack cells.now) self.old.sink }
         ensures cells { self.new.stack.height ≤ length cells.now }
-        ensures leads { Leads S S.stands result (standing Open self.old.stack cells.now) self.old.sink
+        ensures leads { Leads S S.stands S.trusts result (standing Open self.old.stack cells.now) self.old.sink
             (standing Open self.new.stack cells.now) self.new.sink }
     {
         if self.stack.top.advance() {
@@ -100,10 +100,10 @@ impl<S> Building<S> {
     where
         S: Sink<'a>,
         requires cells { self.old.stack.height ≤ length cells.now }
-        requires filled { HasFilledIn S S.stands (pairs self.old.stack.top.due)
+        requires filled { HasFilledIn S S.stands S.trusts (pairs self.old.stack.top.due)
             (around Open self.old.stack cells.now) self.old.sink }
         ensures cells { self.new.stack.height ≤ length cells.now }
-        ensures leads { LeadsFull S S.stands (pairs self.old.stack.top.due) result
+        ensures leads { LeadsFull S S.stands S.trusts (pairs self.old.stack.top.due) result
             (around Open self.old.stack cells.now) self.old.sink
             (standing Open self.new.stack cells.now) self.new.sink }
     {

@@ -23,9 +23,9 @@ impl<S> Building<S> {
     ) -> Part<'a>
     where
         S: Sink<'a>,
-        requires head { IsHeadDue S S.stands (string_major is_text) count behind.now
+        requires head { IsHeadDue S S.stands S.trusts (string_major is_text) count behind.now
             self.old.stack.top self.old.sink }
-        ensures takes { TakesHead S S.stands result (string_major is_text) count behind.now
+        ensures takes { TakesHead S S.stands S.trusts result (string_major is_text) count behind.now
             self.old.stack.top self.old.sink self.new.sink }
         ensures stack { self.new.stack ≡ self.old.stack }
         ensures kind { IsItem result }
@@ -45,9 +45,9 @@ impl<S> Building<S> {
     pub(crate) fn take_chunks<'a>(&mut self, is_text: bool, behind: &'a [u8]) -> Part<'a>
     where
         S: Sink<'a>,
-        requires opener { IsDueFor S S.stands self.old.stack.top self.old.sink
+        requires opener { IsDueFor S S.stands S.trusts self.old.stack.top self.old.sink
             (chunked_from is_text behind.now) }
-        ensures takes { TakesItem S S.stands result (chunked_from is_text behind.now)
+        ensures takes { TakesItem S S.stands S.trusts result (chunked_from is_text behind.now)
             self.old.stack.top self.old.sink self.new.sink }
         ensures stack { self.new.stack ≡ self.old.stack }
         ensures kind { IsItem result }

@@ -26,10 +26,10 @@ impl<S> Building<S> {
     where
         S: Sink<'a>,
         requires cells { self.old.stack.height ≤ length cells.old }
-        requires due { IsDueIn S S.stands depth (standing Open self.old.stack cells.old) self.old.sink
+        requires due { IsDueIn S S.stands S.trusts depth (standing Open self.old.stack cells.old) self.old.sink
             (first ∷ behind.now) }
         ensures cells { self.new.stack.height ≤ length cells.new }
-        ensures takes { Takes S S.stands result depth (first ∷ behind.now)
+        ensures takes { Takes S S.stands S.trusts result depth (first ∷ behind.now)
             (standing Open self.old.stack cells.old) self.old.sink
             (standing Open self.new.stack cells.new) self.new.sink }
         ensures full { result ≡ Part.Full → self.new.stack.height ≡ length cells.new }
@@ -58,9 +58,9 @@ impl<S> Building<S> {
     where
         S: Sink<'a>,
         requires cells { self.old.stack.height ≤ length cells.now }
-        requires due { IsBreakDue S S.stands (standing Open self.old.stack cells.now) self.old.sink behind.now }
+        requires due { IsBreakDue S S.stands S.trusts (standing Open self.old.stack cells.now) self.old.sink behind.now }
         ensures cells { self.new.stack.height ≤ length cells.now }
-        ensures takes { TakesBreak S S.stands result behind.now (standing Open self.old.stack cells.now)
+        ensures takes { TakesBreak S S.stands S.trusts result behind.now (standing Open self.old.stack cells.now)
             self.old.sink (standing Open self.new.stack cells.now) self.new.sink }
         ensures kind { IsItem result }
         ensures front { (d : ℕ) → TakesFront result d self.old.stack.top (0xff ∷ behind.now) }

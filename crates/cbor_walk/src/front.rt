@@ -4,9 +4,9 @@ ghost use Rattle.std.specs.Prelude.{◌≡◌, ◌≤◌, true, [], ℕ, List, l
 ghost use Rattle.cbor_head.specs.declared.keys.Keys.{Keys};
 ghost use Rattle.cbor_judging.specs.Levels.{item_due};
 ghost use Rattle.cbor_walk.specs.Front.{IsBuiltFront};
-ghost use Rattle.cbor_walk.specs.Sink.{IsGivenFront};
+ghost use Rattle.cbor_walk.specs.Sink.{IsKnownValid, IsGivenFront};
 ghost use Rattle.cbor_walk.specs.declared.level.Due.TheVariants as due;
-ghost use Rattle.cbor_walk.specs.inner.Building.{counted, IsDue, IsDueIn, IsBuilt, KeepsBefore};
+ghost use Rattle.cbor_walk.specs.inner.Building.{counted, BeginsTaken, IsDue, IsDueIn, IsBuilt, KeepsBefore};
 ghost use Rattle.cbor_walk.specs.inner.Stack.{standing};
 
 use crate::building::{Building, Met};
@@ -51,7 +51,8 @@ pub fn give_front<'a, S: Sink<'a> + Drop>(
     bytes: &'a [u8],
     limits: Limits,
 ) -> Option<(S, u64)>
-    requires { S.stands sink sink (item_due []) }
+    requires fresh { S.stands sink sink (item_due []) }
+    requires known { S.trusts ≡ true → IsKnownValid limits bytes.now }
     ensures { IfSome result (λ given. IsGivenFront (S.stands sink given.0) limits bytes.now given.1) }
 {
     let input = within(bytes, limits.bytes());
@@ -77,8 +78,9 @@ fn past_item<'a, S: Sink<'a>, const KINDS: bool>(
     requires none { building.old.stack.height ≡ 0 }
     requires top { building.old.stack.top ≡ counted due.Item 0 }
     requires fresh { S.stands building.old.sink building.old.sink (item_due []) }
+    requires known { S.trusts ≡ true → BeginsTaken depth input.now }
     ensures built { IfSome result (λ behind.
-        IsBuilt S S.stands building.old.sink depth input.now building.new.sink behind.now) }
+        IsBuilt S S.stands S.trusts building.old.sink depth input.now building.new.sink behind.now) }
     ensures kept { KINDS ≡ true → (keys : Keys)
         → IfSome result (λ behind. KeepsBefore depth keys input.now behind.now) }
 {
@@ -100,12 +102,12 @@ fn deeper<'a, S: Sink<'a>, const KINDS: bool>(
 ) -> Option<&'a [u8]>
     requires few { length few.now ≤ SOME }
     requires full { building.old.stack.height ≡ length few.now }
-    requires due { IsDueIn S S.stands depth (standing Open building.old.stack few.now) building.old.sink rest.now }
+    requires due { IsDueIn S S.stands S.trusts depth (standing Open building.old.stack few.now) building.old.sink rest.now }
     ensures built { (start : S) (input : List ℕ)
-        → IsDue S S.stands start depth input (standing Open building.old.stack few.now) building.old.sink rest.now
-        → IfSome result (λ behind. IsBuilt S S.stands start depth input building.new.sink behind.now) }
+        → IsDue S S.stands S.trusts start depth input (standing Open building.old.stack few.now) building.old.sink rest.now
+        → IfSome result (λ behind. IsBuilt S S.stands S.trusts start depth input building.new.sink behind.now) }
     ensures kept { KINDS ≡ true → (keys : Keys) (start : S) (input : List ℕ)
-        → IsDue S S.stands start depth input (standing Open building.old.stack few.now) building.old.sink rest.now
+        → IsDue S S.stands S.trusts start depth input (standing Open building.old.stack few.now) building.old.sink rest.now
         → KeepsBefore depth keys input rest.now
         → IfSome result (λ behind. KeepsBefore depth keys input behind.now) }
 {
@@ -128,12 +130,12 @@ fn deepest<'a, S: Sink<'a>, const KINDS: bool>(
 ) -> Option<&'a [u8]>
     requires few { length few.now ≤ MOST }
     requires full { building.old.stack.height ≡ length few.now }
-    requires due { IsDueIn S S.stands depth (standing Open building.old.stack few.now) building.old.sink rest.now }
+    requires due { IsDueIn S S.stands S.trusts depth (standing Open building.old.stack few.now) building.old.sink rest.now }
     ensures built { (start : S) (input : List ℕ)
-        → IsDue S S.stands start depth input (standing Open building.old.stack few.now) building.old.sink rest.now
-        → IfSome result (λ behind. IsBuilt S S.stands start depth input building.new.sink behind.now) }
+        → IsDue S S.stands S.trusts start depth input (standing Open building.old.stack few.now) building.old.sink rest.now
+        → IfSome result (λ behind. IsBuilt S S.stands S.trusts start depth input building.new.sink behind.now) }
     ensures kept { KINDS ≡ true → (keys : Keys) (start : S) (input : List ℕ)
-        → IsDue S S.stands start depth input (standing Open building.old.stack few.now) building.old.sink rest.now
+        → IsDue S S.stands S.trusts start depth input (standing Open building.old.stack few.now) building.old.sink rest.now
         → KeepsBefore depth keys input rest.now
         → IfSome result (λ behind. KeepsBefore depth keys input behind.now) }
 {

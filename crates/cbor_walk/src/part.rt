@@ -58,9 +58,9 @@ impl<S> Building<S> {
     where
         S: Sink<'a>,
         requires cells { self.old.stack.height ≤ length cells.old }
-        requires due { IsDueIn S S.stands depth (standing Open self.old.stack cells.old) self.old.sink rest.now }
+        requires due { IsDueIn S S.stands S.trusts depth (standing Open self.old.stack cells.old) self.old.sink rest.now }
         ensures cells { self.new.stack.height ≤ length cells.new }
-        ensures takes { Takes S S.stands result depth rest.now (standing Open self.old.stack cells.old)
+        ensures takes { Takes S S.stands S.trusts result depth rest.now (standing Open self.old.stack cells.old)
             self.old.sink (standing Open self.new.stack cells.new) self.new.sink }
         ensures full { result ≡ Part.Full → self.new.stack.height ≡ length cells.new }
         ensures front { TakesFront result (depth - self.old.stack.height) self.old.stack.top rest.now }
@@ -112,8 +112,8 @@ impl<S> Building<S> {
     where
         S: Sink<'a>,
         requires kind { IsLeaf major }
-        requires head { IsHeadDue S S.stands major number behind.now self.old.stack.top self.old.sink }
-        ensures takes { TakesHead S S.stands result major number behind.now self.old.stack.top
+        requires head { IsHeadDue S S.stands S.trusts major number behind.now self.old.stack.top self.old.sink }
+        ensures takes { TakesHead S S.stands S.trusts result major number behind.now self.old.stack.top
             self.old.sink self.new.sink }
         ensures stack { self.new.stack ≡ self.old.stack }
         ensures kind { IsItem result }
@@ -140,10 +140,10 @@ impl<S> Building<S> {
         S: Sink<'a>,
         requires kind { Counts major due }
         requires cells { self.old.stack.height ≤ length cells.old }
-        requires head { IsHeadIn S S.stands major number behind.now depth
+        requires head { IsHeadIn S S.stands S.trusts major number behind.now depth
             (standing Open self.old.stack cells.old) self.old.sink }
         ensures cells { self.new.stack.height ≤ length cells.new }
-        ensures takes { TakesCounted S S.stands result depth major number behind.now
+        ensures takes { TakesCounted S S.stands S.trusts result depth major number behind.now
             (standing Open self.old.stack cells.old) self.old.sink
             (standing Open self.new.stack cells.new) self.new.sink }
         ensures full { result ≡ Part.Full → self.new.stack.height ≡ length cells.new }
@@ -177,9 +177,9 @@ impl<S> Building<S> {
         S: Sink<'a>,
         requires kind { IsContainer major }
         requires cells { self.old.stack.height ≤ length cells.old }
-        requires opener { IsOpenerDue S S.stands major number opened behind.now self.old.stack.top self.old.sink }
+        requires opener { IsOpenerDue S S.stands S.trusts major number opened behind.now self.old.stack.top self.old.sink }
         ensures cells { self.new.stack.height ≤ length cells.new }
-        ensures takes { TakesOpener S S.stands result depth major number opened behind.now
+        ensures takes { TakesOpener S S.stands S.trusts result depth major number opened behind.now
             (standing Open self.old.stack cells.old) self.old.sink
             (standing Open self.new.stack cells.new) self.new.sink }
         ensures full { result ≡ Part.Full → self.new.stack.height ≡ length cells.new }
@@ -203,8 +203,8 @@ impl<S> Building<S> {
     pub(crate) fn end<'a>(&mut self, is_map: bool, behind: &'a [u8]) -> Part<'a>
     where
         S: Sink<'a>,
-        requires full { IsToEndFor S S.stands is_map self.old.sink behind.now }
-        ensures ends { EndsItem S S.stands is_map result behind.now self.old.sink self.new.sink }
+        requires full { IsToEndFor S S.stands S.trusts is_map self.old.sink behind.now }
+        ensures ends { EndsItem S S.stands S.trusts is_map result behind.now self.old.sink self.new.sink }
         ensures stack { self.new.stack ≡ self.old.stack }
         ensures kind { IsItem result }
         ensures before { EndsBefore result behind.now }

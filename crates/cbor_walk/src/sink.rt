@@ -1,6 +1,6 @@
 //! What takes the parts of an item.
 
-ghost use Rattle.std.specs.Prelude.{◌≡◌, ◌≤◌, true, ℕ, Bool, List, IfOk, IsTrue, IsUtf8, OnOk};
+ghost use Rattle.std.specs.Prelude.{◌≡◌, ◌≤◌, true, false, ℕ, Bool, List, IfOk, IsTrue, IsUtf8, OnOk};
 ghost use Rattle.std.specs.Prelude.{length, take};
 ghost use Rattle.cbor_head.specs.Head.{IsSimple};
 ghost use Rattle.cbor_head.specs.declared.major.Major.TheVariants as majors;
@@ -24,6 +24,9 @@ pub trait Sink<'a> {
     // Within these containers it took the chunks, with this content so far, of a string, a text or
     // not.
     ghost holds: { Self → Self → List Level → Bool → List ℕ → Type 0 };
+
+    // Whether it takes only what is known to be valid, and so looks for no equal keys.
+    ghost trusts: { Bool } = { false };
 
     /// An integer or a simple value.
     fn leaf(&mut self, is_key: bool, major: Major, number: u64) -> Result<(), AllocError>
@@ -78,7 +81,7 @@ pub trait Sink<'a> {
 
     /// The innermost container ends, a map or not. False where two of its keys are equal.
     fn end(&mut self, is_map: bool) -> Result<bool, AllocError>
-        requires full { IsContainerFull Self stands is_map self.old }
+        requires full { IsContainerFull Self stands trusts is_map self.old }
         ensures { IfOk result (λ is_distinct. IsTrue is_distinct
-            → Ends Self stands is_map self.old self.new) };
+            → Ends Self stands trusts is_map self.old self.new) };
 }

@@ -179,9 +179,15 @@ MetKept (met.Whole rest) d keys input = KeepsBefore d keys input rest.now
 MetKept (met.Full rest) d keys input = KeepsBefore d keys input rest.now
 MetKept met.Stopped d keys input = Unit {0}
 
+-- ---- what is known of an input
+
+-- an item without complaint is at its front
+abbrev pub BeginsTaken : ℕ → List ℕ → Type 0
+BeginsTaken d input = (item : Spelling) × (rest : List ℕ) × IsTaken d item × (input ≡ spell item ++ rest)
+
 -- ---- where the walk stands, before the rest of an input, with a sink that began in its first state
 
-module _ (S : Type 0) (stands : S → S → Standing → Type 0) where
+module _ (S : Type 0) (stands : S → S → Standing → Type 0) (trusts : Bool) where
   -- an item is due, or a break
   pub record IsDue (start : S) (d : ℕ) (input : List ℕ) (cs : List Open) (g : S) (rest : List ℕ) : Type 0 where
     pub ls : List Level
@@ -190,6 +196,7 @@ module _ (S : Type 0) (stands : S → S → Standing → Type 0) where
     pub given : stands start g (item_due ls)
     pub bytes : input ≡ bytes_before ls ++ rest
     pub small : length input < 2 ^ 63
+    pub known : trusts ≡ true → BeginsTaken d input
 
   -- an item is whole, and given to the sink
   pub record HasEnded (start : S) (d : ℕ) (input : List ℕ) (cs : List Open) (g : S) (rest : List ℕ) : Type 0 where
@@ -201,6 +208,7 @@ module _ (S : Type 0) (stands : S → S → Standing → Type 0) where
     pub given : stands start g (settle ls item)
     pub bytes : input ≡ (bytes_before ls ++ spell item) ++ rest
     pub small : length input < 2 ^ 63
+    pub known : trusts ≡ true → BeginsTaken d input
 
   -- a container is whole, a map or not, and is to end in the sink
   pub record IsToEnd (is_map : Bool) (start : S) (d : ℕ) (input : List ℕ) (cs : List Open) (g : S) (rest : List ℕ) : Type 0 where
@@ -213,6 +221,7 @@ module _ (S : Type 0) (stands : S → S → Standing → Type 0) where
     pub given : StandsFull S (Told S stands is_map) d start g ls item
     pub bytes : input ≡ (bytes_before ls ++ spell item) ++ rest
     pub small : length input < 2 ^ 63
+    pub known : trusts ≡ true → BeginsTaken d input
 
   -- the input's item is whole
   pub record IsBuilt (start : S) (d : ℕ) (input : List ℕ) (g : S) (rest : List ℕ) : Type 0 where

@@ -8,18 +8,18 @@ pub returns-in-Whole-clause-kept : goal.returns-in-Whole-clause-kept
 returns-in-Whole-clause-kept g c = λ kinds keys start input due keeps.
     let b = c.args.building.now in
     c.in-Whole.ensures.kept kinds keys start input
-    (subst (λ (x : List Open). IsDue g.row.S.Denot g.S.Sink.stands start c.args.depth input x b.sink c.args.rest.now) (more_cells Open b.stack c.args.few.now c.lend.new.cells c.requires.full c.lend.ensures) due) keeps
+    (subst (λ (x : List Open). IsDue g.row.S.Denot g.S.Sink.stands g.S.Sink.trusts start c.args.depth input x b.sink c.args.rest.now) (more_cells Open b.stack c.args.few.now c.lend.new.cells c.requires.full c.lend.ensures) due) keeps
 
 pub deepest-requires : goal.deepest-requires
 deepest-requires g c =
     let b = c.args.building.now in
     let start = c.requires.due.0 in
     let input = c.requires.due.1 in
-    let due = subst (λ (x : List Open). IsDue g.row.S.Denot g.S.Sink.stands start c.args.depth input x b.sink c.args.rest.now) (more_cells Open b.stack c.args.few.now c.lend.new.cells c.requires.full c.lend.ensures) c.requires.due.2 in
+    let due = subst (λ (x : List Open). IsDue g.row.S.Denot g.S.Sink.stands g.S.Sink.trusts start c.args.depth input x b.sink c.args.rest.now) (more_cells Open b.stack c.args.few.now c.lend.new.cells c.requires.full c.lend.ensures) c.requires.due.2 in
     λ n. ((refl, tt), (omega arith, (c.in-Full.ensures.full, (start, input, c.in-Full.ensures.walked start input due))))
 
 pub returns-in-Full-clause-kept : goal.returns-in-Full-clause-kept
 returns-in-Full-clause-kept g c = λ kinds keys start input due keeps.
     let b = c.args.building.now in
-    let here = subst (λ (x : List Open). IsDue g.row.S.Denot g.S.Sink.stands start c.args.depth input x b.sink c.args.rest.now) (more_cells Open b.stack c.args.few.now c.lend.new.cells c.requires.full c.lend.ensures) due in
+    let here = subst (λ (x : List Open). IsDue g.row.S.Denot g.S.Sink.stands g.S.Sink.trusts start c.args.depth input x b.sink c.args.rest.now) (more_cells Open b.stack c.args.few.now c.lend.new.cells c.requires.full c.lend.ensures) due in
     c.deepest.ensures.kept kinds keys start input (c.in-Full.ensures.walked start input here) (c.in-Full.ensures.kept kinds keys start input here keeps)

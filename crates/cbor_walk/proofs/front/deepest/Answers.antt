@@ -8,4 +8,4 @@ pub returns-in-Whole-clause-kept : goal.returns-in-Whole-clause-kept
 returns-in-Whole-clause-kept g c = λ kinds keys start input due keeps.
     let b = c.args.building.now in
     c.in-Whole.ensures.kept kinds keys start input
-    (subst (λ (x : List Open). IsDue g.row.S.Denot g.S.Sink.stands start c.args.depth input x b.sink c.args.rest.now) (more_cells Open b.stack c.args.few.now c.lend.new.cells c.requires.full c.lend.ensures) due) keeps
+    (subst (λ (x : List Open). IsDue g.row.S.Denot g.S.Sink.stands g.S.Sink.trusts start c.args.depth input x b.sink c.args.rest.now) (more_cells Open b.stack c.args.few.now c.lend.new.cells c.requires.full c.lend.ensures) due) keeps

@@ -12,7 +12,7 @@ deeper-requires g c =
         omega arith,
         (
           c.in-Full.ensures.full,
-          (b.sink, c.args.input.now, c.in-Full.ensures.walked b.sink c.args.input.now (starts g.row.S.Denot g.S.Sink.stands b.stack b.sink c.args.depth c.args.input.now _ c.requires.none c.requires.top c.requires.fresh (omega arith))),
+          (b.sink, c.args.input.now, c.in-Full.ensures.walked b.sink c.args.input.now (starts g.row.S.Denot g.S.Sink.stands g.S.Sink.trusts b.stack b.sink c.args.depth c.args.input.now _ c.requires.none c.requires.top c.requires.fresh (omega arith) c.requires.known)),
         ),
       ),
     )
@@ -21,15 +21,17 @@ pub returns-in-Whole-clause-kept : goal.returns-in-Whole-clause-kept
 returns-in-Whole-clause-kept g c = λ kinds keys.
     let S = g.row.S.Denot in
     let stands = g.S.Sink.stands in
+    let trusts = g.S.Sink.trusts in
     let b = c.args.building.now in
     let input = c.args.input.now in
-    c.in-Whole.ensures.kept kinds keys b.sink input (starts S stands b.stack b.sink c.args.depth input _ c.requires.none c.requires.top c.requires.fresh (omega arith)) (starts-kept S stands b.sink c.args.depth input keys)
+    c.in-Whole.ensures.kept kinds keys b.sink input (starts S stands trusts b.stack b.sink c.args.depth input _ c.requires.none c.requires.top c.requires.fresh (omega arith) c.requires.known) (starts-kept S stands trusts b.sink c.args.depth input keys)
 
 pub returns-in-Full-clause-kept : goal.returns-in-Full-clause-kept
 returns-in-Full-clause-kept g c = λ kinds keys.
     let S = g.row.S.Denot in
     let stands = g.S.Sink.stands in
+    let trusts = g.S.Sink.trusts in
     let b = c.args.building.now in
     let input = c.args.input.now in
-    let due = starts S stands b.stack b.sink c.args.depth input _ c.requires.none c.requires.top c.requires.fresh (omega arith) in
-    c.deeper.ensures.kept kinds keys b.sink input (c.in-Full.ensures.walked b.sink input due) (c.in-Full.ensures.kept kinds keys b.sink input due (starts-kept S stands b.sink c.args.depth input keys))
+    let due = starts S stands trusts b.stack b.sink c.args.depth input _ c.requires.none c.requires.top c.requires.fresh (omega arith) c.requires.known in
+    c.deeper.ensures.kept kinds keys b.sink input (c.in-Full.ensures.walked b.sink input due) (c.in-Full.ensures.kept kinds keys b.sink input due (starts-kept S stands trusts b.sink c.args.depth input keys))

@@ -8,9 +8,10 @@ abbrev pub invariant-levels : goal.invariant-levels
 invariant-levels g l =
     let S = g.row.S.Denot in
     let stands = g.S.Sink.stands in
+    let trusts = g.S.Sink.trusts in
     record {
       cells : l.self.stack.height ≤ length l.cells;
-      filled : (start : S) (d : ℕ) (input rest : List ℕ) → HasFilled S stands (pairs l.fn.self.stack.top.due) start d input (around Open l.fn.self.stack l.cells) l.fn.self.sink rest → HasFilled S stands (pairs l.self.stack.top.due) start d input (around Open l.self.stack l.cells) l.self.sink rest;
+      filled : (start : S) (d : ℕ) (input rest : List ℕ) → HasFilled S stands trusts (pairs l.fn.self.stack.top.due) start d input (around Open l.fn.self.stack l.cells) l.fn.self.sink rest → HasFilled S stands trusts (pairs l.self.stack.top.due) start d input (around Open l.self.stack l.cells) l.self.sink rest;
     }
 
 abbrev pub decreases-levels : goal.decreases-levels

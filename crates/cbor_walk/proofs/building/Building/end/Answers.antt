@@ -5,9 +5,9 @@ use Rattle.cbor_walk.proofs.building.Building.end.Goals as goal
 
 pub end-requires : goal.end-requires
 end-requires g c =
-    let full : IsToEndFor g.row.S.Denot g.S.Sink.stands c.args.is_map c.args.self.now.sink c.args.behind.now = c.requires.full in
-    λ k. ((refl, tt), container-full g.row.S.Denot g.S.Sink.stands full.0 full.1 full.2 c.args.is_map full.3 c.args.self.now.sink c.args.behind.now full.4)
+    let full : IsToEndFor g.row.S.Denot g.S.Sink.stands g.S.Sink.trusts c.args.is_map c.args.self.now.sink c.args.behind.now = c.requires.full in
+    λ k. ((refl, tt), container-full g.row.S.Denot g.S.Sink.stands g.S.Sink.trusts full.0 full.1 full.2 c.args.is_map full.3 c.args.self.now.sink c.args.behind.now full.4)
 
 pub returns-in-Ok-true-clause-ends : goal.returns-in-Ok-true-clause-ends
 returns-in-Ok-true-clause-ends g c = λ start d input cs h.
-    (refl, has-ended g.row.S.Denot g.S.Sink.stands start d input c.args.is_map cs c.args.self.now.sink c.end.new.self c.args.behind.now h (c.in-Ok-true.ensures c.in-Ok-true.field-0-test))
+    (refl, has-ended g.row.S.Denot g.S.Sink.stands g.S.Sink.trusts start d input c.args.is_map cs c.args.self.now.sink c.end.new.self c.args.behind.now h (c.in-Ok-true.ensures c.in-Ok-true.field-0-test))

@@ -9,13 +9,13 @@ use Rattle.cbor_walk.proofs.building.Building.give_leaf.Goals as goal
 pub leaf-requires : goal.leaf-requires
 leaf-requires g c =
     let top = c.args.self.now.stack.top in
-    let head : IsHeadDue g.row.S.Denot g.S.Sink.stands c.args.major c.args.number c.args.behind.now top c.args.self.now.sink = c.requires.head in
-    λ k. ((refl, tt), (c.requires.kind, ((λ e. (head.1.simple e).0), due-item g.row.S.Denot g.S.Sink.stands top c.args.self.now.sink head.0 c.is_key.result c.is_key.ensures head.2)))
+    let head : IsHeadDue g.row.S.Denot g.S.Sink.stands g.S.Sink.trusts c.args.major c.args.number c.args.behind.now top c.args.self.now.sink = c.requires.head in
+    λ k. ((refl, tt), (c.requires.kind, ((λ e. (head.1.simple e).0), due-item g.row.S.Denot g.S.Sink.stands g.S.Sink.trusts top c.args.self.now.sink head.0 c.is_key.result c.is_key.ensures head.2)))
 
 pub returns-in-Ok-clause-takes : goal.returns-in-Ok-clause-takes
 returns-in-Ok-clause-takes g c = λ rest head d outer start input due.
     let top = c.args.self.now.stack.top in
-    scalar-ends g.row.S.Denot g.S.Sink.stands start d input (top ∷ outer) c.args.self.now.sink rest due c.args.behind.now (leaf_value c.args.major c.args.number) c.leaf.new.self
+    scalar-ends g.row.S.Denot g.S.Sink.stands g.S.Sink.trusts start d input (top ∷ outer) c.args.self.now.sink rest due c.args.behind.now (leaf_value c.args.major c.args.number) c.leaf.new.self
     c.is_key.result (c.is_key.ensures ∙ key-awaited due.ls top outer due.cells) (scalar-head c.args.major c.args.number rest c.args.behind.now c.requires.kind head) c.in-Ok.ensures
 
 pub returns-in-Ok-clause-front : goal.returns-in-Ok-clause-front

@@ -10,19 +10,20 @@ use Rattle.cbor_walk.proofs.building.Building.open.Goals as goal
 pub begin-requires : goal.begin-requires
 begin-requires g c =
     let top = c.args.self.now.stack.top in
-    let opener : IsOpenerDue g.row.S.Denot g.S.Sink.stands c.args.major c.args.number c.args.opened c.args.behind.now top c.args.self.now.sink = c.requires.opener in
-    λ k. ((refl, tt), (c.requires.kind, due-item g.row.S.Denot g.S.Sink.stands top c.args.self.now.sink opener.0 c.is_key.result c.is_key.ensures opener.2))
+    let opener : IsOpenerDue g.row.S.Denot g.S.Sink.stands g.S.Sink.trusts c.args.major c.args.number c.args.opened c.args.behind.now top c.args.self.now.sink = c.requires.opener in
+    λ k. ((refl, tt), (c.requires.kind, due-item g.row.S.Denot g.S.Sink.stands g.S.Sink.trusts top c.args.self.now.sink opener.0 c.is_key.result c.is_key.ensures opener.2))
 
 pub returns-clause-takes : goal.returns-clause-takes
 returns-clause-takes g c = λ rest opener start input due.
     let S = g.row.S.Denot in
     let stands = g.S.Sink.stands in
+    let trusts = g.S.Sink.trusts in
     let sink = c.args.self.now.sink in
     let behind = c.args.behind.now in
     let cs = standing Open c.args.self.now.stack c.args.cells.now in
-    let room : length due.ls < c.args.depth = omega (arith, c.if-self-depth.false, height-is S stands start c.args.depth input cs sink rest due, standing_count Open c.args.self.now.stack c.args.cells.now c.requires.cells) in
-    subst (λ (x : List Open). (length behind < length rest) × IsDue S stands start c.args.depth input x c.begin.new.self behind) (sym c.push.ensures.levels)
-    (opened S stands start c.args.depth input cs sink rest due c.args.major c.args.number c.args.opened behind c.begin.new.self c.is_key.result (c.is_key.ensures ∙ key-awaited due.ls c.args.self.now.stack.top (around Open c.args.self.now.stack c.args.cells.now) due.cells) room opener c.in-Ok.ensures)
+    let room : length due.ls < c.args.depth = omega (arith, c.if-self-depth.false, height-is S stands trusts start c.args.depth input cs sink rest due, standing_count Open c.args.self.now.stack c.args.cells.now c.requires.cells) in
+    subst (λ (x : List Open). (length behind < length rest) × IsDue S stands trusts start c.args.depth input x c.begin.new.self behind) (sym c.push.ensures.levels)
+    (opened S stands trusts start c.args.depth input cs sink rest due c.args.major c.args.number c.args.opened behind c.begin.new.self c.is_key.result (c.is_key.ensures ∙ key-awaited due.ls c.args.self.now.stack.top (around Open c.args.self.now.stack c.args.cells.now) due.cells) room opener c.in-Ok.ensures)
 
 pub returns-clause-front : goal.returns-clause-front
 returns-clause-front g c = λ rest opener o.

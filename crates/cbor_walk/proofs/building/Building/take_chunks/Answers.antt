@@ -11,13 +11,13 @@ use Rattle.cbor_walk.proofs.Chunked.{AreChunks, no-chunks, chunk-due, one-more, 
 use Rattle.cbor_walk.proofs.building.Building.take_chunks.Goals as goal
 
 pub begin_string-requires : goal.begin_string-requires
-begin_string-requires g c = λ k. ((refl, tt), due-item g.row.S.Denot g.S.Sink.stands c.args.self.now.stack.top c.args.self.now.sink (chunked_from c.args.is_text c.args.behind.now) c.is_key-is_key.result c.is_key-is_key.ensures c.requires.opener)
+begin_string-requires g c = λ k. ((refl, tt), due-item g.row.S.Denot g.S.Sink.stands g.S.Sink.trusts c.args.self.now.stack.top c.args.self.now.sink (chunked_from c.args.is_text c.args.behind.now) c.is_key-is_key.result c.is_key-is_key.ensures c.requires.opener)
 
 pub end_string-requires : goal.end_string-requires
 end_string-requires g c = λ k. (
   (refl, tt),
   chunk-due g.row.S.Denot g.S.Sink.stands g.S.Sink.holds c.is_key-is_key.result c.args.is_text c.args.behind.now c.args.self.now.sink c.chunks.rest.now c.chunks.self.sink c.chunks.invariant.chunks
-      (due-item g.row.S.Denot g.S.Sink.stands c.args.self.now.stack.top c.args.self.now.sink (chunked_from c.args.is_text c.args.behind.now) c.is_key-is_key.result c.is_key-is_key.ensures c.requires.opener),
+      (due-item g.row.S.Denot g.S.Sink.stands g.S.Sink.trusts c.args.self.now.stack.top c.args.self.now.sink (chunked_from c.args.is_text c.args.behind.now) c.is_key-is_key.result c.is_key-is_key.ensures c.requires.opener),
 )
 
 pub chunk-requires : goal.chunk-requires
@@ -30,7 +30,7 @@ chunk-requires g c = λ n.
         (
           λ e. subst (λ (k : ℕ). IsUtf8 (take k from)) (sym p.all) (p.utf8 e),
           chunk-due g.row.S.Denot g.S.Sink.stands g.S.Sink.holds c.is_key-is_key.result c.args.is_text c.args.behind.now c.args.self.now.sink c.chunks.rest.now c.chunks.self.sink c.chunks.invariant.chunks
-              (due-item g.row.S.Denot g.S.Sink.stands c.args.self.now.stack.top c.args.self.now.sink (chunked_from c.args.is_text c.args.behind.now) c.is_key-is_key.result c.is_key-is_key.ensures c.requires.opener),
+              (due-item g.row.S.Denot g.S.Sink.stands g.S.Sink.trusts c.args.self.now.stack.top c.args.self.now.sink (chunked_from c.args.is_text c.args.behind.now) c.is_key-is_key.result c.is_key-is_key.ensures c.requires.opener),
         ),
       ),
     )
@@ -55,13 +55,14 @@ returns-in-Ok-end_string-clause-takes g c = λ d outer start input due.
     let told = c.is_key-is_key.ensures ∙ key-awaited due.ls top outer due.cells in
     let S = g.row.S.Denot in
     let stands = g.S.Sink.stands in
+    let trusts = g.S.Sink.trusts in
     let t = c.args.is_text in
     let sink = c.args.self.now.sink in
     let behind = c.in-Some.behind.now in
     let s = c.chunks.invariant.chunks in
     let is : c.chunks.rest.now ≡ 0xff ∷ behind = c.in-Some.ensures.cases.0 ∙ ap (λ (x : ℕ). x ∷ behind) c.if-first.true in
     let all = all-chunks S stands g.S.Sink.holds c.is_key-is_key.result t c.args.behind.now sink c.chunks.rest.now c.chunks.self.sink s behind is in
-    scalar-settles S stands start d input (top ∷ outer) sink (chunked_from t c.args.behind.now) due behind (string_value t (chunks_joined s.done)) c.end_string.new.self all
+    scalar-settles S stands trusts start d input (top ∷ outer) sink (chunked_from t c.args.behind.now) due behind (string_value t (chunks_joined s.done)) c.end_string.new.self all
     (λ k. c.in-Ok-end_string.ensures start d due.ls (chunks_joined s.done) all.item (s.given start due.ls (due.given, told)) told k all.value_is)
 
 pub chunks-init : goal.chunks-init

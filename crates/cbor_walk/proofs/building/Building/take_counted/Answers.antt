@@ -11,7 +11,7 @@ use Rattle.cbor_walk.proofs.building.Building.take_counted.Goals as goal
 pub open-requires : goal.open-requires
 open-requires g c =
     let cs = standing Open c.args.self.now.stack c.args.cells.now in
-    let head : IsHeadIn g.row.S.Denot g.S.Sink.stands c.args.major c.args.number c.args.behind.now c.args.depth cs c.args.self.now.sink = c.requires.head in
+    let head : IsHeadIn g.row.S.Denot g.S.Sink.stands g.S.Sink.trusts c.args.major c.args.number c.args.behind.now c.args.depth cs c.args.self.now.sink = c.requires.head in
     λ n. (
       (refl, tt),
       (
@@ -36,20 +36,21 @@ returns-then-number-gt0-clause-takes g c = λ rest head.
 pub begin-requires : goal.begin-requires
 begin-requires g c =
     let cs = standing Open c.args.self.now.stack c.args.cells.now in
-    let head : IsHeadIn g.row.S.Denot g.S.Sink.stands c.args.major c.args.number c.args.behind.now c.args.depth cs c.args.self.now.sink = c.requires.head in
-    λ n. ((refl, tt), (counts-container c.args.major c.args.due c.requires.kind, due-item g.row.S.Denot g.S.Sink.stands c.args.self.now.stack.top c.args.self.now.sink head.0 c.is_key.result c.is_key.ensures (c.args.depth, around Open c.args.self.now.stack c.args.cells.now, head.2)))
+    let head : IsHeadIn g.row.S.Denot g.S.Sink.stands g.S.Sink.trusts c.args.major c.args.number c.args.behind.now c.args.depth cs c.args.self.now.sink = c.requires.head in
+    λ n. ((refl, tt), (counts-container c.args.major c.args.due c.requires.kind, due-item g.row.S.Denot g.S.Sink.stands g.S.Sink.trusts c.args.self.now.stack.top c.args.self.now.sink head.0 c.is_key.result c.is_key.ensures (c.args.depth, around Open c.args.self.now.stack c.args.cells.now, head.2)))
 
 pub end-requires : goal.end-requires
 end-requires g c =
     let S = g.row.S.Denot in
     let stands = g.S.Sink.stands in
+    let trusts = g.S.Sink.trusts in
     let sink = c.args.self.now.sink in
     let cs = standing Open c.args.self.now.stack c.args.cells.now in
-    let head : IsHeadIn S stands c.args.major c.args.number c.args.behind.now c.args.depth cs sink = c.requires.head in
+    let head : IsHeadIn S stands trusts c.args.major c.args.number c.args.behind.now c.args.depth cs sink = c.requires.head in
     let start = head.2.0 in
     let input = head.2.1 in
     let due = head.2.2 in
-    let room : length due.ls < c.args.depth = omega (arith, c.if-self-depth.false, height-is S stands start c.args.depth input cs sink head.0 due, standing_count Open c.args.self.now.stack c.args.cells.now c.requires.cells) in
+    let room : length due.ls < c.args.depth = omega (arith, c.if-self-depth.false, height-is S stands trusts start c.args.depth input cs sink head.0 due, standing_count Open c.args.self.now.stack c.args.cells.now c.requires.cells) in
     λ n. (
       (refl, tt),
       (
@@ -57,8 +58,8 @@ end-requires g c =
         c.args.depth,
         input,
         cs,
-        subst (λ (t : Bool). IsToEnd S stands t start c.args.depth input cs c.begin.new.self c.args.behind.now) (sym c.is_key-2.ensures)
-            (empty-ends S stands start c.args.depth input cs sink head.0 due c.args.major c.args.due c.args.number c.args.behind.now c.begin.new.self c.is_key.result (c.is_key.ensures ∙ key-awaited due.ls c.args.self.now.stack.top (around Open c.args.self.now.stack c.args.cells.now) due.cells) room c.requires.kind (omega (arith, c.if-number-gt0.false)) head.1 c.in-Ok.ensures).1,
+        subst (λ (t : Bool). IsToEnd S stands trusts t start c.args.depth input cs c.begin.new.self c.args.behind.now) (sym c.is_key-2.ensures)
+            (empty-ends S stands trusts start c.args.depth input cs sink head.0 due c.args.major c.args.due c.args.number c.args.behind.now c.begin.new.self c.is_key.result (c.is_key.ensures ∙ key-awaited due.ls c.args.self.now.stack.top (around Open c.args.self.now.stack c.args.cells.now) due.cells) room c.requires.kind (omega (arith, c.if-number-gt0.false)) head.1 c.in-Ok.ensures).1,
       ),
     )
 
@@ -66,12 +67,13 @@ pub returns-clause-takes : goal.returns-clause-takes
 returns-clause-takes g c = λ rest head start input due.
     let S = g.row.S.Denot in
     let stands = g.S.Sink.stands in
+    let trusts = g.S.Sink.trusts in
     let sink = c.args.self.now.sink in
     let cs = standing Open c.args.self.now.stack c.args.cells.now in
-    let room : length due.ls < c.args.depth = omega (arith, c.if-self-depth.false, height-is S stands start c.args.depth input cs sink rest due, standing_count Open c.args.self.now.stack c.args.cells.now c.requires.cells) in
-    let e = empty-ends S stands start c.args.depth input cs sink rest due c.args.major c.args.due c.args.number c.args.behind.now c.begin.new.self c.is_key.result (c.is_key.ensures ∙ key-awaited due.ls c.args.self.now.stack.top (around Open c.args.self.now.stack c.args.cells.now) due.cells) room c.requires.kind (omega (arith, c.if-number-gt0.false)) head c.in-Ok.ensures in
-    subst (λ s. TakesTo S stands c.end.result start c.args.depth input rest (standing Open s c.args.cells.now) c.end.new.self.sink) (sym c.end.ensures.stack)
-    (ends-takes S stands start c.args.depth input c.end.result cs c.end.new.self.sink rest c.args.behind.now e.0 (c.end.ensures.ends start c.args.depth input cs (subst (λ (t : Bool). IsToEnd S stands t start c.args.depth input cs c.begin.new.self c.args.behind.now) (sym c.is_key-2.ensures) e.1)))
+    let room : length due.ls < c.args.depth = omega (arith, c.if-self-depth.false, height-is S stands trusts start c.args.depth input cs sink rest due, standing_count Open c.args.self.now.stack c.args.cells.now c.requires.cells) in
+    let e = empty-ends S stands trusts start c.args.depth input cs sink rest due c.args.major c.args.due c.args.number c.args.behind.now c.begin.new.self c.is_key.result (c.is_key.ensures ∙ key-awaited due.ls c.args.self.now.stack.top (around Open c.args.self.now.stack c.args.cells.now) due.cells) room c.requires.kind (omega (arith, c.if-number-gt0.false)) head c.in-Ok.ensures in
+    subst (λ s. TakesTo S stands trusts c.end.result start c.args.depth input rest (standing Open s c.args.cells.now) c.end.new.self.sink) (sym c.end.ensures.stack)
+    (ends-takes S stands trusts start c.args.depth input c.end.result cs c.end.new.self.sink rest c.args.behind.now e.0 (c.end.ensures.ends start c.args.depth input cs (subst (λ (t : Bool). IsToEnd S stands trusts t start c.args.depth input cs c.begin.new.self c.args.behind.now) (sym c.is_key-2.ensures) e.1)))
 
 pub returns-clause-full : goal.returns-clause-full
 returns-clause-full g c = λ e. absurd (never-full c.end.result c.end.ensures.kind e)

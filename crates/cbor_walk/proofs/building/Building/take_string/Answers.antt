@@ -14,14 +14,14 @@ pub string-requires : goal.string-requires
 string-requires g c =
     let p = c.in-Some.ensures in
     let top = c.args.self.now.stack.top in
-    let head : IsHeadDue g.row.S.Denot g.S.Sink.stands (string_major c.args.is_text) c.args.count c.args.behind.now top c.args.self.now.sink = c.requires.head in
+    let head : IsHeadDue g.row.S.Denot g.S.Sink.stands g.S.Sink.trusts (string_major c.args.is_text) c.args.count c.args.behind.now top c.args.self.now.sink = c.requires.head in
     λ n. (
       (refl, tt),
       (
         subst (λ (k : ℕ). k ≤ length c.args.behind.now) (sym p.all) p.inside,
         (
           λ e. subst (λ (k : ℕ). IsUtf8 (take k c.args.behind.now)) (sym p.all) (p.utf8 e),
-          due-item g.row.S.Denot g.S.Sink.stands top c.args.self.now.sink head.0 c.is_key-is_key.result c.is_key-is_key.ensures head.2,
+          due-item g.row.S.Denot g.S.Sink.stands g.S.Sink.trusts top c.args.self.now.sink head.0 c.is_key-is_key.result c.is_key-is_key.ensures head.2,
         ),
       ),
     )
@@ -31,12 +31,13 @@ returns-in-Ok-clause-takes g c = λ rest head d outer start input due.
     let top = c.args.self.now.stack.top in
     let S = g.row.S.Denot in
     let stands = g.S.Sink.stands in
+    let trusts = g.S.Sink.trusts in
     let behind = c.args.behind.now in
     let size = c.in-Some.size in
     let all : AreBytes behind = are_bytes behind (λ i. omega (arith, c.type_inv.behind i)) in
     let whole : take (length behind - size) (drop size behind) ≡ drop size behind = ap (λ n. take n (drop size behind)) (sym (length-drop size behind)) ∙ take-length (drop size behind) in
-    subst (λ (x : List ℕ). (length x < length rest) × HasEnded S stands start d input (top ∷ outer) c.string.new.self x) (sym whole)
-    (scalar-ends S stands start d input (top ∷ outer) c.args.self.now.sink rest due (drop size behind) (string_value c.args.is_text (take size behind)) c.string.new.self
+    subst (λ (x : List ℕ). (length x < length rest) × HasEnded S stands trusts start d input (top ∷ outer) c.string.new.self x) (sym whole)
+    (scalar-ends S stands trusts start d input (top ∷ outer) c.args.self.now.sink rest due (drop size behind) (string_value c.args.is_text (take size behind)) c.string.new.self
     c.is_key-is_key.result (c.is_key-is_key.ensures ∙ key-awaited due.ls top outer due.cells)
     (scalar-string c.args.is_text c.args.count size rest behind head c.in-Some.ensures all) c.in-Ok.ensures)
 

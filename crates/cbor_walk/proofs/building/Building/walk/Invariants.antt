@@ -9,10 +9,11 @@ abbrev pub invariant-parts : goal.invariant-parts
 invariant-parts g l =
     let S = g.row.S.Denot in
     let stands = g.S.Sink.stands in
+    let trusts = g.S.Sink.trusts in
     record {
       cells : l.self.stack.height ≤ length l.cells;
-      due : (start : S) (input : List ℕ) → IsDue S stands start l.depth input (standing Open l.fn.self.stack l.fn.cells) l.fn.self.sink l.start → IsDue S stands start l.depth input (standing Open l.self.stack l.cells) l.self.sink l.rest;
-      kept : not (nat_eq g.row.KINDS 0) ≡ true → (keys : Keys) (start : S) (input : List ℕ) → IsDue S stands start l.depth input (standing Open l.fn.self.stack l.fn.cells) l.fn.self.sink l.start → KeepsBefore l.depth keys input l.start → KeepsBefore l.depth keys input l.rest;
+      due : (start : S) (input : List ℕ) → IsDue S stands trusts start l.depth input (standing Open l.fn.self.stack l.fn.cells) l.fn.self.sink l.start → IsDue S stands trusts start l.depth input (standing Open l.self.stack l.cells) l.self.sink l.rest;
+      kept : not (nat_eq g.row.KINDS 0) ≡ true → (keys : Keys) (start : S) (input : List ℕ) → IsDue S stands trusts start l.depth input (standing Open l.fn.self.stack l.fn.cells) l.fn.self.sink l.start → KeepsBefore l.depth keys input l.start → KeepsBefore l.depth keys input l.rest;
     }
 
 abbrev pub decreases-parts : goal.decreases-parts
