@@ -12,6 +12,7 @@ pub mod GivenKinds
 pub mod GivenParts
 pub mod HeadComplaints
 pub mod KeyOrder
+pub mod LevelPaths
 pub mod OtherKeys
 pub mod PathForm
 pub mod PathKinds

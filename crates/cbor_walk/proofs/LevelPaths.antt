@@ -1,0 +1,211 @@
+-- The open containers of a valid item so far, of which no map has two keys that are the same, as the path to the item that is due.
+use Rattle.std.proofs.Common.{◌≡◌, ℕ, suc, ◌+◌, ◌-◌, ◌^◌, ◌<◌, Bool, true, false, List, [], ◌∷◌, ◌++◌, length, map, get_or, refl, sym, ap, ap₂, ◌∙◌, subst, inl, inr, arith}
+use Rattle.std.specs.List.{AllByRecursion}
+use Rattle.std.specs.Prelude.{◌≢◌}
+use Rattle.std.proofs.lemmas.List.{length-append}
+use Rattle.cbor_head.specs.Canonical.{Pair, canonical, canonical_entries}
+use Rattle.cbor_head.specs.Complaint.{plain, Complaint, OfKey, ComplainsInEntries}
+use Rattle.cbor_head.specs.Head.{Holds, head}
+use Rattle.cbor_head.specs.Spelling.{Spelling, SpelledEntries, no_entries, entry, spell, spell_entries, spellings_count, entries_count, HoldsOrIndefinite, value_of, entries_of}
+use Rattle.cbor_head.specs.declared.major.Major.TheVariants as majors
+use Rattle.cbor_head.specs.declared.order.KeyOrder.{KeyOrder}
+use Rattle.cbor_head.specs.declared.width.Width.{Width}
+use Rattle.cbor_head.specs.declared.width.Width.TheVariants.{Indefinite}
+use Rattle.cbor_builder.specs.Built.{keys_so_far, AreAllDifferent, AreOpenKeysDifferent}
+use Rattle.cbor_canonical.specs.Pairs.{HasDistinctBytes}
+use Rattle.cbor_canonical.specs.Parts.{pair}
+use Rattle.cbor_canonical.proofs.Keys.{distinct_exactly}
+use Rattle.cbor_judging.specs.Frame.{with_entries, keys_onto}
+use Rattle.cbor_judging.specs.Given.{level_open, opens}
+use Rattle.cbor_judging.specs.Judged.{Never}
+use Rattle.cbor_judging.specs.Levels.{IsTaken, ArePairsTaken, Level, a_member, a_key, a_value, some_member, some_key, some_value, tagged, level_bytes, IsLevel, AreLevels, bytes_before}
+use Rattle.cbor_judging.specs.SoFar.{IsMapSoFar, map_bytes}
+use Rattle.cbor_judging.proofs.Frames.{entries_right, spell_entries_with}
+use Rattle.cbor_judging.proofs.Given.{pairs-valid, entries-more}
+use Rattle.cbor_judging.proofs.Heads.{open_or}
+use Rattle.cbor_judging.proofs.Judged.{zero_item}
+use Rattle.cbor_judging.proofs.Levels.{no-count, spelled-all, within-all, clean-all, pairs-spelled, pairs-within, pairs-more, pairs-clean}
+use Rattle.cbor_judging.proofs.Valid.{in_range_entries}
+use Rattle.cbor_walk.specs.inner.Building.{cell_of, cells_of, counted}
+use Rattle.cbor_walk.specs.inner.Path as path
+use Rattle.cbor_walk.specs.inner.Path.{IsClean, AreClean, IsKeyDueIn, MayBreak}
+use Rattle.cbor_walk.specs.declared.level.Due.TheVariants.{Item, Key, Value}
+use Rattle.cbor_walk.specs.declared.open.Open.{Open}
+
+-- ---- the path
+
+abbrev pub path_of : Level → path.Level
+path_of (a_member w left done) = path.a_member w left done
+path_of (a_key w left done) = path.a_key w left done
+path_of (a_value w left done k) = path.a_value w left done k
+path_of (some_member done) = path.a_member Indefinite 0 done
+path_of (some_key done) = path.a_key Indefinite 0 done
+path_of (some_value done k) = path.a_value Indefinite 0 done k
+path_of (tagged w n) = path.tagged w n
+
+abbrev pub paths_of : List Level → List path.Level
+paths_of [] = []
+paths_of (l ∷ ls) = path_of l ∷ paths_of ls
+
+pub paths_length : (ls : List Level) → length (paths_of ls) ≡ length ls
+paths_length [] = refl
+paths_length (l ∷ ls) = ap suc (paths_length ls)
+
+path_bytes : (l : Level) → path.level_bytes (path_of l) ≡ level_bytes l
+path_bytes (a_member w left done) = refl
+path_bytes (a_key w left done) = refl
+path_bytes (a_value w left done k) = refl
+path_bytes (some_member done) = refl
+path_bytes (some_key done) = refl
+path_bytes (some_value done k) = refl
+path_bytes (tagged w n) = refl
+
+pub paths_bytes : (ls : List Level) → path.bytes_before (paths_of ls) ≡ bytes_before ls
+paths_bytes [] = refl
+paths_bytes (l ∷ ls) = ap₂ (λ (x y : List ℕ). x ++ y) (paths_bytes ls) (path_bytes l)
+
+-- ---- keys
+
+abbrev keys : List Pair → List (List ℕ)
+keys ps = map (λ (p : Pair). p.key) ps
+
+keys_more : (ps : List Pair) (k b : List ℕ) → keys (ps ++ pair k b ∷ []) ≡ keys ps ++ k ∷ []
+keys_more [] k b = refl
+keys_more (p ∷ ps) k b = ap (λ (x : List (List ℕ)). p.key ∷ x) (keys_more ps k b)
+
+differ : (ps : List Pair) (k : List ℕ) → ((i : ℕ) → i < length (keys ps) → get_or (keys ps) i [] ≡ k → ⊥) → AllByRecursion (λ q. q.key ≢ k) ps
+differ [] k h = tt
+differ (p ∷ ps) k h = (h 0 (omega arith), differ ps k (λ i l e. h (suc i) (omega (arith, l)) e))
+
+different_distinct : (ps : List Pair) → AreAllDifferent (keys ps) → HasDistinctBytes ps
+different_distinct [] h = tt
+different_distinct (p ∷ ps) h =
+    (differ ps p.key (λ i l e. h (suc i) (0, omega arith, omega (arith, l), sym e)), different_distinct ps (λ i r. h (suc i) (suc r.0, omega (arith, r.1), omega (arith, r.2), r.3)))
+
+-- pairs whose keys have different bytes have no complaint
+module _ (o : KeyOrder) (d : ℕ) (es : SpelledEntries) (h : ArePairsTaken d es) (short : length (spell_entries es) < 2 ^ 64) where
+  pairs_quiet : AreAllDifferent (keys (canonical_entries o (entries_of es))) → (at : ℕ) → Never (ComplainsInEntries plain at [] es)
+  pairs_quiet apart at c x =
+      let distinct = (distinct_exactly o (entries_of es) (in_range_entries es (pairs-spelled d es h) short) (pairs-valid d es h)).1 (different_distinct _ apart) in
+      pairs-clean d es [] at h distinct (λ b m k v z s. m) c x
+
+entries_left : (es fs : SpelledEntries) (ks : List Spelling) (at : ℕ) (c : Complaint) → ComplainsInEntries plain at ks es c → ComplainsInEntries plain at ks (with_entries es fs) c
+entries_left no_entries fs ks at c h = absurd h
+entries_left (entry k v es) fs ks at c (inl h) = inl h
+entries_left (entry k v es) fs ks at c (inr (inl h)) = inr (inl h)
+entries_left (entry k v es) fs ks at c (inr (inr (inl h))) = inr (inr (inl h))
+entries_left (entry k v es) fs ks at c (inr (inr (inr h))) = inr (inr (inr (entries_left es fs (k ∷ ks) _ c h)))
+
+-- and one that waits for its content
+module _ (o : KeyOrder) (d : ℕ) (es : SpelledEntries) (k : Spelling) (h : ArePairsTaken d es) (i : IsTaken d k) (short : length (spell_entries es) + length (spell k) < 2 ^ 63)
+    (apart : AreAllDifferent (keys (canonical_entries o (entries_of es)) ++ canonical o (value_of k) ∷ [])) where
+  abbrev more : SpelledEntries
+  more = with_entries es (entry k zero_item no_entries)
+
+  more_quiet : (at : ℕ) → Never (ComplainsInEntries plain at [] more)
+  more_quiet =
+      let z : 0 < 24 = omega arith in
+      let zero_taken : IsTaken d zero_item = record { spelled = z; within = omega arith; clean = λ at c x. cc x.0 } in
+      let size : length (spell_entries more) < 2 ^ 64 =
+      omega (arith, short, ap length (spell_entries_with es (entry k zero_item no_entries)), length-append (spell_entries es) (spell_entries (entry k zero_item no_entries)), length-append (spell k ++ spell zero_item) [], length-append (spell k) (spell zero_item)) in
+      let all = ap keys (entries-more o es k zero_item) ∙ keys_more (canonical_entries o (entries_of es)) (canonical o (value_of k)) (canonical o (value_of zero_item)) in
+      pairs_quiet o d more (pairs-more d es k zero_item h i zero_taken) size (subst AreAllDifferent (sym all) apart)
+
+  before_quiet : (at : ℕ) → Never (ComplainsInEntries plain at [] es)
+  before_quiet at c x = more_quiet at c (entries_left es (entry k zero_item no_entries) [] at c x)
+
+  key_quiet : (at to : ℕ) → to ≡ at + length (spell_entries es) → Never (OfKey plain.keys to (keys_onto [] es) k)
+  key_quiet at to e c x = more_quiet at c (entries_right es (entry k zero_item no_entries) [] plain at to c e (inr (inl x)))
+
+-- ---- a level
+
+map_so_far : (at d : ℕ) (w : Width) (n : ℕ) (done : SpelledEntries) → HoldsOrIndefinite w n → ArePairsTaken d done → ((at : ℕ) → Never (ComplainsInEntries plain at [] done)) → IsMapSoFar plain at d w n done
+map_so_far at d w n done holds h quiet = record { holds = holds; spelled = pairs-spelled d done h; within = pairs-within d done h; head_clean = no-count at majors.Map w n; clean = quiet _ }
+
+value_due : (o : KeyOrder) (at d : ℕ) (w : Width) (n : ℕ) (done : SpelledEntries) (k : Spelling) → HoldsOrIndefinite w n → ArePairsTaken d done → IsTaken d k → length (map_bytes w n done ++ spell k) < 2 ^ 63
+    → AreAllDifferent (keys (canonical_entries o (entries_of done)) ++ canonical o (value_of k) ∷ []) → path.IsValueDue plain at d w n done k
+value_due o at d w n done k holds h i small apart =
+    let size = length-append (head majors.Map w n) (spell_entries done) in
+    let short : length (spell_entries done) + length (spell k) < 2 ^ 63 = omega (arith, small, size, length-append (map_bytes w n done) (spell k)) in
+    record {
+      so_far = map_so_far at d w n done holds h (before_quiet o d done k h i short apart);
+      spelled = i.spelled;
+      within = i.within;
+      clean = i.clean _;
+      fits = key_quiet o d done k h i short apart (at + length (head majors.Map w n)) _ (omega (arith, size));
+    }
+
+level_clean : (o : KeyOrder) (at d : ℕ) (l : Level) → IsLevel d l → length (level_bytes l) < 2 ^ 63 → AreAllDifferent (keys_so_far (level_open o l)) → IsClean plain at d (path_of l)
+level_clean o at d (a_member w left done) h small apart =
+    record { holds = open_or w _ h.0; spelled = spelled-all d done h.1; within = within-all d done h.1; head_clean = no-count at majors.Array w _; clean = clean-all d done _ h.1 }
+level_clean o at d (some_member done) h small apart =
+    record { holds = tt; spelled = spelled-all d done h; within = within-all d done h; head_clean = no-count at majors.Array Indefinite 0; clean = clean-all d done _ h }
+level_clean o at d (a_key w left done) h small apart =
+    let size = length-append (head majors.Map w (entries_count done + suc left)) (spell_entries done) in
+    map_so_far at d w _ done (open_or w _ h.0) h.1 (pairs_quiet o d done h.1 (omega (arith, small, size)) apart)
+level_clean o at d (some_key done) h small apart =
+    let size = length-append (head majors.Map Indefinite 0) (spell_entries done) in
+    map_so_far at d Indefinite _ done tt h (pairs_quiet o d done h (omega (arith, small, size)) apart)
+level_clean o at d (a_value w left done k) h small apart = value_due o at d w _ done k (open_or w _ h.0) h.1 h.2 small apart
+level_clean o at d (some_value done k) h small apart = value_due o at d Indefinite _ done k tt h.0 h.1 small apart
+level_clean o at d (tagged w n) h small apart = (h, λ c x. cc x.0)
+
+-- ---- all of them
+
+pub paths_clean : (o : KeyOrder) (d : ℕ) (ls : List Level) → AreLevels d ls → length (bytes_before ls) < 2 ^ 63 → AreOpenKeysDifferent (opens o ls) → AreClean plain d (paths_of ls)
+paths_clean o d [] h small apart = tt
+paths_clean o d (l ∷ ls) h small apart =
+    let size = length-append (bytes_before ls) (level_bytes l) in
+    let below = h.0 in
+    let count = paths_length ls in (
+      omega (arith, below, count),
+      subst (λ (n : ℕ). IsClean plain (length (path.bytes_before (paths_of ls))) (d - suc n) (path_of l)) (sym count) (level_clean o _ (d - suc (length ls)) l h.1 (omega (arith, small, size)) apart.0),
+      paths_clean o d ls h.2 (omega (arith, small, size)) apart.1,
+    )
+
+-- ---- what is due, by the cells
+
+level_due : (l : Level) (ls : List path.Level) → (cell_of l).due ≡ Key → IsKeyDueIn (path_of l ∷ ls)
+level_due (a_key w left done) ls e = tt
+level_due (some_key done) ls e = tt
+level_due (a_member w left done) ls e = absurd (cc e)
+level_due (a_value w left done k) ls e = absurd (cc e)
+level_due (some_member done) ls e = absurd (cc e)
+level_due (some_value done k) ls e = absurd (cc e)
+level_due (tagged w n) ls e = absurd (cc e)
+
+due_level : (l : Level) (ls : List path.Level) → IsKeyDueIn (path_of l ∷ ls) → (cell_of l).due ≡ Key
+due_level (a_key w left done) ls h = refl
+due_level (some_key done) ls h = refl
+due_level (a_member w left done) ls h = absurd h
+due_level (a_value w left done k) ls h = absurd h
+due_level (some_member done) ls h = absurd h
+due_level (some_value done k) ls h = absurd h
+due_level (tagged w n) ls h = absurd h
+
+breaks_level : (d : ℕ) (l : Level) (ls : List path.Level) → IsLevel d l → MayBreak (path_of l ∷ ls) → ((cell_of l).is_endless ≡ true) × ((cell_of l).due ≢ Value)
+breaks_level d (some_member done) ls h b = (refl, λ e. cc e)
+breaks_level d (some_key done) ls h b = (refl, λ e. cc e)
+breaks_level d (a_member Indefinite left done) ls h b = absurd h.0
+breaks_level d (a_key Indefinite left done) ls h b = absurd h.0
+breaks_level d (a_member w left done) ls h b = absurd b
+breaks_level d (a_key w left done) ls h b = absurd b
+breaks_level d (a_value w left done k) ls h b = absurd b
+breaks_level d (some_value done k) ls h b = absurd b
+breaks_level d (tagged w n) ls h b = absurd b
+
+module _ (top : Open) (outer : List Open) where
+  pub path_due : (ls : List Level) → top ∷ outer ≡ cells_of ls → top.due ≡ Key → IsKeyDueIn (paths_of ls)
+  path_due [] e due = let same : top ≡ counted Item 0 = cc in absurd (cc (ap (λ (x : Open). x.due) (sym same) ∙ due))
+  path_due (l ∷ ls) e due = let same : top ≡ cell_of l = cc in level_due l (paths_of ls) (ap (λ (x : Open). x.due) (sym same) ∙ due)
+
+  pub due_path : (ls : List Level) → top ∷ outer ≡ cells_of ls → IsKeyDueIn (paths_of ls) → top.due ≡ Key
+  due_path [] e h = absurd h
+  due_path (l ∷ ls) e h = let same : top ≡ cell_of l = cc in ap (λ (x : Open). x.due) same ∙ due_level l (paths_of ls) h
+
+  pub breaks_path : (d : ℕ) (ls : List Level) → AreLevels d ls → top ∷ outer ≡ cells_of ls → MayBreak (paths_of ls) → (top.is_endless ≡ true) × (top.due ≢ Value)
+  breaks_path d [] h e b = absurd b
+  breaks_path d (l ∷ ls) h e b =
+      let same : top ≡ cell_of l = cc in
+      let found = breaks_level (d - suc (length ls)) l (paths_of ls) h.1 b in
+      (ap (λ (x : Open). x.is_endless) same ∙ found.0, λ x. found.1 (ap (λ (y : Open). y.due) (sym same) ∙ x))
