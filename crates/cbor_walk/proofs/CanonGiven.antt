@@ -93,7 +93,7 @@ opened t m n old new is start ls l (at, told) k = (
 )
 
 -- one without a length has no more to come
-pub full-endless : (start g : Built) (d : ℕ) (ls : List Level) (l : Level) (s : Spelling) → canon_stands start g (item_due (l ∷ ls)) → AreLevels d (l ∷ ls) → IsEndedAs l s → Fills false d ls s → canon_stands start g (item_full ls s)
+pub full-endless : {trusts : Bool} (start g : Built) (d : ℕ) (ls : List Level) (l : Level) (s : Spelling) → canon_stands start g (item_due (l ∷ ls)) → AreLevels d (l ∷ ls) → IsEndedAs l s → Fills trusts d ls s → canon_stands start g (item_full ls s)
 full-endless start g d ls (some_member done) (array w ss) at levels ended k =
     let e = d - suc (length ls) in (
       at.0,
@@ -120,18 +120,18 @@ full-endless start g d ls (some_key done) (a_map w es) at levels ended k =
     )
 full-endless start g d ls l s at levels ended k = absurd ended
 
-stands-full : (t : Bool) (start g : Built) (d : ℕ) (ls : List Level) (s : Spelling) → Fills false d ls s → StandsFull Built (Told Built canon_stands t) d start g ls s → canon_stands start g (item_full ls s)
+stands-full : {trusts : Bool} (t : Bool) (start g : Built) (d : ℕ) (ls : List Level) (s : Spelling) → Fills trusts d ls s → StandsFull Built (Told Built canon_stands t) d start g ls s → canon_stands start g (item_full ls s)
 stands-full t start g d ls s k (inl at) = at.0
 stands-full t start g d ls s k (inr (l, ended, levels, at)) = full-endless start g d ls l s at.0 levels ended k
 
-pub in-container : (t : Bool) (g : Built) → IsContainerFull Built canon_stands false t g → IsInContainer g.standing
+pub in-container : {trusts : Bool} (t : Bool) (g : Built) → IsContainerFull Built canon_stands trusts t g → IsInContainer g.standing
 in-container t g (start, d, ls, s, k, full) = let at = stands-full t start g d ls s k full in subst IsInContainer (sym at.1.3) (go at.1.1 at.1.2.container ls)
   where
     go : (c : parts.Open) → ((other : parts.Open) (os : List parts.Open) → IsInContainer (c ∷ other ∷ os)) → (ms : List Level) → IsInContainer (c ∷ opens start.order ms)
     go c inside [] = inside (parts.plain []) []
     go c inside (l ∷ ms) = inside (level_open start.order l) (opens start.order ms)
 
-pub ended : (t : Bool) (old new : Built) → HasDistinctKeysSoFar old.standing → new ≡ built old.order (parts.close old.order old.standing) → Ends Built canon_stands false t old new
+pub ended : {trusts : Bool} (t : Bool) (old new : Built) → HasDistinctKeysSoFar old.standing → new ≡ built old.order (parts.close old.order old.standing) → Ends Built canon_stands trusts t old new
 ended t old new distinct is start d ls s k stood =
     let at = stands-full t start old d ls s k stood in
     let full = at.1.2 in
@@ -141,10 +141,10 @@ ended t old new distinct is start d ls s k stood =
           (ap (λ (x : Built). x.standing) is ∙ ap₂ (λ (o : KeyOrder) (os : List parts.Open). parts.close o os) at.0 at.1.3 ∙ ap (λ (x : List ℕ). parts.give x (opens start.order ls)) full.canonical_is),
     )
 
-pub ends-if : {E : Type 0} (r : Result Bool E) (t : Bool) (old new : Built) → IfOk r (λ d. IsTrue d ↔ HasDistinctKeysSoFar old.standing) → IfOk r (λ d. IsTrue d → new ≡ built old.order (parts.close old.order old.standing))
-    → IfOk r (λ d. IsTrue d → Ends Built canon_stands false t old new)
-ends-if (Ok d) t old new x y = λ yes. ended t old new (x.0 yes) (y yes)
-ends-if (Err e) t old new x y = tt
+pub ends-if : (trusts : Bool) {E : Type 0} (r : Result Bool E) (t : Bool) (old new : Built) → IfOk r (λ d. IsTrue d ↔ HasDistinctKeysSoFar old.standing) → IfOk r (λ d. IsTrue d → new ≡ built old.order (parts.close old.order old.standing))
+    → IfOk r (λ d. IsTrue d → Ends Built canon_stands trusts t old new)
+ends-if trusts (Ok d) t old new x y = λ yes. ended t old new (x.0 yes) (y yes)
+ends-if trusts (Err e) t old new x y = tt
 
 -- ---- strings in chunks
 

@@ -45,7 +45,7 @@ pub fn build_front(
 }
 
 /// Gives a sink the parts of such an item, and answers it with how many bytes the item has; None as
-/// above.
+/// above. A sink that looks for no equal keys is given only an item that is known to be valid.
 pub fn give_front<'a, S: Sink<'a> + Drop>(
     sink: S,
     bytes: &'a [u8],

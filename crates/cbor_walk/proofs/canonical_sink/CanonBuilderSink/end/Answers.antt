@@ -5,4 +5,4 @@ pub end_if_distinct-requires : goal.end_if_distinct-requires
 end_if_distinct-requires c = record { container = in-container c.args._is_map c.args.self.now c.requires.full }
 
 pub returns : goal.returns
-returns c = ends-if c.end_if_distinct.result c.args._is_map c.args.self.now c.end_if_distinct.new.self c.end_if_distinct.ensures.distinct c.end_if_distinct.ensures.ended
+returns c = ends-if _ c.end_if_distinct.result c.args._is_map c.args.self.now c.end_if_distinct.new.self c.end_if_distinct.ensures.distinct c.end_if_distinct.ensures.ended
