@@ -1,6 +1,7 @@
 -- A builder of canonical bytes that is given the parts of an item: what it stands for behind each.
 use Rattle.std.proofs.Common.{◌≡◌, ℕ, suc, ◌+◌, ◌-◌, ◌^◌, ◌<◌, Bool, true, false, List, [], ◌∷◌, ◌++◌, length, refl, sym, ap, ap₂, ◌∙◌, subst, arith, inl, inr}
-use Rattle.std.specs.Prelude.{◌↔◌, IsTrue, Result, Ok, Err, IfOk}
+use Rattle.std.specs.Prelude.{◌↔◌, IsTrue, Option, Some, None, MatchOption, Result, Ok, Err, IfOk}
+use Rattle.std.specs.Option.{is_some}
 use Rattle.std.proofs.lemmas.List.{length-append}
 use Rattle.cbor_head.specs.Canonical.{canonical, canonical_all, canonical_entries}
 use Rattle.cbor_head.specs.Head.{head, shortest_head}
@@ -10,7 +11,7 @@ use Rattle.cbor_head.specs.declared.major.Major.{Major}
 use Rattle.cbor_head.specs.declared.major.Major.TheVariants as majors
 use Rattle.cbor_head.specs.declared.order.KeyOrder.{KeyOrder}
 use Rattle.cbor_head.specs.declared.width.Width.TheVariants.{Indefinite}
-use Rattle.cbor_builder.specs.Built.{Built, built, IsLeaf, IsInString, HasDistinctKeysSoFar, TakesPart}
+use Rattle.cbor_builder.specs.Built.{Built, built, AreOpenKeysDifferent, IsLeaf, IsInString, HasDistinctKeysSoFar, TakesPart}
 use Rattle.cbor_canonical.specs.Parts.{IsInContainer}
 use Rattle.cbor_canonical.specs.Parts as parts
 use Rattle.cbor_grammar.proofs.Counts.{holds_fits}
@@ -22,7 +23,7 @@ use Rattle.cbor_judging.specs.Levels.{AreTaken, ArePairsTaken, Level, a_member, 
 use Rattle.cbor_judging.specs.Place.{Place}
 use Rattle.cbor_judging.specs.Reading.{string_major, string_value}
 use Rattle.cbor_walk.specs.CanonSink.{canon_stands, canon_holds}
-use Rattle.cbor_walk.specs.Sink.{leaf_value, Told, IsOpened, Completes, Fills, IsEndedAs, StandsFull, IsItemDue, Gives, Opens, IsContainerFull, Ends, BeginsString, IsChunkDue, GrowsString, EndsString}
+use Rattle.cbor_walk.specs.Sink.{FindsNoRepeat, leaf_value, Told, IsOpened, Completes, Fills, IsEndedAs, StandsFull, IsItemDue, Gives, Opens, IsContainerFull, Ends, BeginsString, IsChunkDue, GrowsString, EndsString}
 
 -- ---- the bytes of values
 
@@ -176,3 +177,12 @@ string-ended key t old new is start d ls content s at told k e =
     settles start new d ls s k (ap (λ (x : Built). x.order) is ∙ at.0)
     (ap (λ (x : Built). x.standing) is ∙ ap₂ (λ (o : KeyOrder) (os : List parts.Open). parts.close o os) at.0 at.1
     ∙ ap (λ (x : List ℕ). parts.give x (opens start.order ls)) (sym (string-bytes start.order t content) ∙ ap (canonical start.order) (sym e)))
+
+-- ---- keys
+
+pub none-told : {R : Type 0} (r : Option R) (X : Type 0) (P : R → Type 0) → MatchOption r X P → is_some r ≡ false → X
+none-told None X P h e = h
+none-told (Some r) X P h e = cc e
+
+pub no-repeat : (g : Built) → AreOpenKeysDifferent g.standing → FindsNoRepeat Built canon_stands g
+no-repeat g h start ls at = (start.order, subst AreOpenKeysDifferent at.1 h)

@@ -236,3 +236,4 @@ module _ (S : Type 0) (stands : S → S → Standing → Type 0) (trusts : Bool)
     ends-takes part.Stopped cs g rest behind l h = tt
     ends-takes (part.Head to) cs g rest behind l h = absurd h
     ends-takes part.Full cs g rest behind l h = absurd h
+    ends-takes part.Refused cs g rest behind l h = absurd h

@@ -66,10 +66,10 @@ paths_bytes (l ∷ ls) = ap₂ (λ (x y : List ℕ). x ++ y) (paths_bytes ls) (p
 
 -- ---- keys
 
-abbrev keys : List Pair → List (List ℕ)
+abbrev pub keys : List Pair → List (List ℕ)
 keys ps = map (λ (p : Pair). p.key) ps
 
-keys_more : (ps : List Pair) (k b : List ℕ) → keys (ps ++ pair k b ∷ []) ≡ keys ps ++ k ∷ []
+pub keys_more : (ps : List Pair) (k b : List ℕ) → keys (ps ++ pair k b ∷ []) ≡ keys ps ++ k ∷ []
 keys_more [] k b = refl
 keys_more (p ∷ ps) k b = ap (λ (x : List (List ℕ)). p.key ∷ x) (keys_more ps k b)
 

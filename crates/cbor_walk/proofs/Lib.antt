@@ -10,6 +10,7 @@ pub mod GivenEnds
 pub mod GivenItems
 pub mod GivenKinds
 pub mod GivenParts
+pub mod GivenStops
 pub mod HeadComplaints
 pub mod KeyOrder
 pub mod LevelPaths

@@ -9,6 +9,9 @@ use Rattle.cbor_head.specs.Value.{Value}
 use Rattle.cbor_head.specs.declared.major.Major.{Major}
 use Rattle.cbor_head.specs.declared.major.Major.TheVariants.{Array, Map, Tag, Negative, Simple}
 use Rattle.cbor_head.specs.declared.width.Width.{Width}
+use Rattle.cbor_builder.specs.Built.{AreOpenKeysDifferent}
+use Rattle.cbor_head.specs.declared.order.KeyOrder.{KeyOrder}
+use Rattle.cbor_judging.specs.Given.{opens}
 use Rattle.cbor_judging.specs.Levels.{IsClean, IsTaken, Level, a_member, a_key, a_value, some_member, some_key, some_value, tagged, AreLevels, bytes_before, Standing, item_due, item_full, item_whole, settle}
 use Rattle.cbor_judging.specs.Reading.{string_value}
 use Rattle.cbor_judging.specs.Readers.{IsRead}
@@ -143,6 +146,16 @@ abbrev pub EndsString : (S : Type 0) → (S → S → Standing → Type 0) → (
 EndsString S stands holds is_key is_text old new =
     (start : S) (d : ℕ) (ls : List Level) (content : List ℕ) (s : Spelling) → holds start old ls is_text content → is_key ≡ key_due ls
     → Completes d ls s → value_of s ≡ string_value is_text content → stands start new (settle ls s)
+
+-- ---- keys
+
+-- the canonical bytes, in some order of keys, of no two keys that are complete in an open map are the same
+abbrev pub AreKeysDistinct : List Level → Type 0
+AreKeysDistinct ls = (o : KeyOrder) × AreOpenKeysDifferent (opens o ls)
+
+-- wherever an item is due
+abbrev pub FindsNoRepeat : (S : Type 0) → (S → S → Standing → Type 0) → S → Type 0
+FindsNoRepeat S stands g = (start : S) (ls : List Level) → stands start g (item_due ls) → AreKeysDistinct ls
 
 -- ---- the whole
 

@@ -35,7 +35,9 @@ pub(crate) enum Met<'a> {
     Whole(&'a [u8]),
     /// More containers open than there are cells. An item is due before these bytes.
     Full(&'a [u8]),
-    /// The bytes are refused, or memory is.
+    /// An item is due before these bytes, and they are refused.
+    Refused(&'a [u8]),
+    /// Memory is refused, two keys of a map are the same, or a string in chunks is refused.
     Stopped,
 }
 
@@ -72,6 +74,7 @@ impl<S> Building<S> {
                     }
                 }
                 Part::Full => return Met::Full(rest),
+                Part::Refused => return Met::Refused(rest),
                 Part::Stopped => return Met::Stopped,
             }
         }

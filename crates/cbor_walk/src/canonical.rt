@@ -36,8 +36,8 @@ pub fn canonical_front(bytes: &[u8], limits: Limits, order: KeyOrder) -> Result<
     }
 }
 
-// Where the input ends by the limit within an item, it is too long.
-fn at_the_limit(refusal: Refusal, input: &[u8], limit: u64) -> Refusal
+/// Where the input ends by the limit within an item, it is too long.
+pub(crate) fn at_the_limit(refusal: Refusal, input: &[u8], limit: u64) -> Refusal
     ensures { IsAnswered limit input.now refusal result }
 {
     if let Reason::Truncated = refusal.reason {

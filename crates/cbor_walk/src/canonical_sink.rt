@@ -64,6 +64,10 @@ impl<'a> Sink<'a> for CanonBuilder {
     fn end(&mut self, _is_map: bool) -> Result<bool, AllocError> {
         self.end_if_distinct()
     }
+
+    fn has_equal_keys(self) -> bool {
+        self.first_repeat().is_some()
+    }
 }
 
 /// The type of a string.

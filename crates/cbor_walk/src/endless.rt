@@ -49,7 +49,7 @@ impl<S> Building<S> {
             ),
             0xbf => self.open(Major::Map, 0, Open::endless(Due::Key), behind, cells, depth),
             0xff => self.take_break(behind, cells),
-            _ => Part::Stopped,
+            _ => Part::Refused,
         }
     }
 
@@ -66,10 +66,10 @@ impl<S> Building<S> {
         ensures front { (d : ℕ) → TakesFront result d self.old.stack.top (0xff ∷ behind.now) }
     {
         if !self.stack.top.is_endless {
-            return Part::Stopped;
+            return Part::Refused;
         }
         if let Due::Value = self.stack.top.due {
-            return Part::Stopped;
+            return Part::Refused;
         }
         let is_map = self.stack.top.due.is_in_map();
         self.stack.pop(cells);

@@ -1,13 +1,14 @@
 //! Why nothing valid stands where an item is due.
 
-ghost use Rattle.std.specs.Prelude.{◌<◌, ◌+◌, ◌^◌, length, IfSome};
+ghost use Rattle.std.specs.Prelude.{◌≡◌, ◌<◌, ◌+◌, ◌^◌, true, false, length, IfSome};
+ghost use Rattle.cbor_head.specs.declared.keys.Keys.TheVariants as kinds;
 ghost use Rattle.cbor_walk.specs.inner.Items.{IsFault};
 
 use crate::any_item::{misplaced, refusal_at, string_fault};
 use crate::argument::read_argument;
 use crate::kinds::is_other_key;
 use crate::level::Due;
-use cbor_head::{Reason, Refusal};
+use cbor_head::{Keys, Reason, Refusal};
 
 /// The refusal of what stands there, at this place of the input, where one more container may open
 /// or not, where it is a key whose kind is asked for or not, and where a break may stand or not.
@@ -51,4 +52,15 @@ pub(crate) fn fault(
         return string_fault(rest, head, at);
     }
     None
+}
+
+/// Whether what is due is a key, and of kinds that are asked for.
+pub(crate) fn is_asked(keys: Keys, due: Due) -> bool
+    ensures both { result ≡ true → (keys ≡ kinds.IntegersAndTexts) × (due ≡ Due.Key) }
+    ensures none { result ≡ false → keys ≡ kinds.IntegersAndTexts → due ≡ Due.Key → ⊥ }
+{
+    match keys {
+        Keys::Any => false,
+        Keys::IntegersAndTexts => due.is_key(),
+    }
 }

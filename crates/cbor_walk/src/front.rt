@@ -1,22 +1,25 @@
 //! The valid item at the front of a slice.
 
-ghost use Rattle.std.specs.Prelude.{◌≡◌, ◌≤◌, true, [], ℕ, List, length, IfSome};
+ghost use Rattle.std.specs.Prelude.{◌≡◌, ◌≤◌, true, [], ℕ, List, length, take, MatchResult};
 ghost use Rattle.cbor_head.specs.declared.keys.Keys.{Keys};
 ghost use Rattle.cbor_judging.specs.Levels.{item_due};
-ghost use Rattle.cbor_walk.specs.Front.{IsBuiltFront};
+ghost use Rattle.cbor_walk.specs.Front.{IsBuiltFront, IsStop};
 ghost use Rattle.cbor_walk.specs.Sink.{IsKnownValid, IsGivenFront};
 ghost use Rattle.cbor_walk.specs.declared.level.Due.TheVariants as due;
-ghost use Rattle.cbor_walk.specs.inner.Building.{counted, BeginsTaken, IsDue, IsDueIn, IsBuilt, KeepsBefore};
+ghost use Rattle.cbor_walk.specs.inner.Building.{counted, BeginsTaken, IsDue, IsDueIn, KeepsBefore};
+ghost use Rattle.cbor_walk.specs.inner.Building.{Keeps, Passes, PassKeeps, PassKept, IsDueOver};
 ghost use Rattle.cbor_walk.specs.inner.Stack.{standing};
 
 use crate::building::{Building, Met};
+use crate::canonical::at_the_limit;
+use crate::fault::{fault, is_asked};
 use crate::level::Due;
 use crate::open::Open;
 use crate::sink::Sink;
 use crate::stack::{FEW, MOST, SOME, Stack, lend};
 use crate::within::within;
 use cbor_builder::CanonBuilder;
-use cbor_head::{KeyOrder, Keys, Limits};
+use cbor_head::{KeyOrder, Keys, Limits, Refusal};
 use std::alloc::Global;
 
 /// The canonical bytes of the item that a slice begins with, and how many bytes the item has.
@@ -26,9 +29,19 @@ pub struct BuiltFront {
     pub size: u64,
 }
 
+/// Why there is none.
+#[derive(Clone, Copy)]
+pub enum Stop {
+    /// The bytes within the limits call for this refusal.
+    Refused(Refusal),
+    /// Two keys of a map are the same, a string in chunks is refused, or memory is: it is for a
+    /// reader to tell which.
+    Unsaid,
+}
+
 /// The canonical bytes, in this order and however many, of the well-formed, valid item that the
-/// slice begins with (RFC 8949, sections 3, 4.2 and 5.3.1), within the limits. None says nothing of
-/// the bytes: they are refused, or memory is, and it is for a reader to tell which.
+/// slice begins with (RFC 8949, sections 3, 4.2 and 5.3.1), within the limits; else why there are
+/// none.
 ///
 /// It goes over the bytes once, without recursion.
 pub fn build_front(
@@ -36,59 +49,128 @@ pub fn build_front(
     bytes: &[u8],
     limits: Limits,
     order: KeyOrder,
-) -> Option<BuiltFront>
-    ensures { IfSome result (λ f. IsBuiltFront limits order bytes.now f.canonical.items f.size) }
+) -> Result<BuiltFront, Stop>
+    ensures { MatchResult result
+        (λ f. IsBuiltFront limits order bytes.now f.canonical.items f.size)
+        (IsStop limits bytes.now) }
 {
-    let (builder, size) = give_front(CanonBuilder::new(alloc, order), bytes, limits)?;
-    let canonical = builder.finish();
-    Some(BuiltFront { canonical, size })
+    match give_front(CanonBuilder::new(alloc, order), bytes, limits) {
+        Ok((builder, size)) => Ok(BuiltFront {
+            canonical: builder.finish(),
+            size,
+        }),
+        Err(stop) => Err(stop),
+    }
 }
 
-/// Gives a sink the parts of such an item, and answers it with how many bytes the item has; None as
-/// above. A sink that looks for no equal keys is given only an item that is known to be valid.
+/// Gives a sink the parts of such an item, and answers it with how many bytes the item has. A sink
+/// that looks for no equal keys is given only an item that is known to be valid.
 pub fn give_front<'a, S: Sink<'a> + Drop>(
     sink: S,
     bytes: &'a [u8],
     limits: Limits,
-) -> Option<(S, u64)>
+) -> Result<(S, u64), Stop>
     requires fresh { S.stands sink sink (item_due []) }
     requires known { S.trusts ≡ true → IsKnownValid limits bytes.now }
-    ensures { IfSome result (λ given. IsGivenFront (S.stands sink given.0) limits bytes.now given.1) }
+    ensures { MatchResult result
+        (λ given. IsGivenFront (S.stands sink given.0) limits bytes.now given.1)
+        (IsStop limits bytes.now) }
 {
     let input = within(bytes, limits.bytes());
     let stack = Stack::new(Open::counted(Due::Item, 0));
     let mut building = Building { stack, sink };
-    let depth = usize::from(limits.depth());
-    let behind = match limits.keys() {
-        Keys::Any => past_item::<S, false>(&mut building, input, depth),
-        Keys::IntegersAndTexts => past_item::<S, true>(&mut building, input, depth),
-    }?;
-    let size = (input.len() - behind.len()) as u64;
-    let Building { stack: _, sink } = building;
-    Some((sink, size))
+    match past_front(&mut building, input, limits) {
+        Past::Whole(behind) => {
+            let size = (input.len() - behind.len()) as u64;
+            let Building { stack: _, sink } = building;
+            Ok((sink, size))
+        }
+        Past::Refused(rest) => Err(refused(building, input, rest, limits)),
+        Past::Stopped => Err(Stop::Unsaid),
+    }
 }
 
-// The bytes behind the item that these begin with. Where kinds of keys are asked for, it has none of
-// another kind.
+// Why these bytes are refused, before which an item is due, where no open map has two keys that are
+// the same: such a key is refused first.
+#[cold]
+#[inline(never)]
+fn refused<'a, S: Sink<'a> + Drop>(
+    building: Building<S>,
+    input: &[u8],
+    rest: &[u8],
+    limits: Limits,
+) -> Stop
+    requires due { (start : S) × IsDueOver S S.stands S.trusts start limits.depth input.now
+        building.stack building.sink rest.now }
+    requires kept { Keeps limits input.now rest.now }
+    ensures { (bytes : List ℕ) → input.now ≡ take limits.bytes bytes → IsStop limits bytes result }
+{
+    let Building { stack, sink } = building;
+    if sink.has_equal_keys() {
+        return Stop::Unsaid;
+    }
+    let at = input.len() - rest.len();
+    let room = stack.height < usize::from(limits.depth());
+    let is_key = is_asked(limits.keys(), stack.top.due);
+    match fault(rest, at, room, is_key, stack.top.may_break()) {
+        Some(refusal) => Stop::Refused(at_the_limit(refusal, input, limits.bytes())),
+        None => Stop::Unsaid,
+    }
+}
+
+/// How a walk over an input ends.
+#[derive(Clone, Copy)]
+pub(crate) enum Past<'a> {
+    /// The item is whole, before these bytes.
+    Whole(&'a [u8]),
+    /// An item is due before these bytes, and they are refused.
+    Refused(&'a [u8]),
+    /// As [`Met::Stopped`].
+    Stopped,
+}
+
+// Goes over the item that these bytes begin with.
+#[inline(always)]
+fn past_front<'a, S: Sink<'a>>(
+    building: &mut Building<S>,
+    input: &'a [u8],
+    limits: Limits,
+) -> Past<'a>
+    requires none { building.old.stack.height ≡ 0 }
+    requires top { building.old.stack.top ≡ counted due.Item 0 }
+    requires fresh { S.stands building.old.sink building.old.sink (item_due []) }
+    requires known { S.trusts ≡ true → BeginsTaken limits.depth input.now }
+    ensures passes { Passes S S.stands S.trusts result building.old.sink limits.depth input.now
+        building.new.stack building.new.sink }
+    ensures keeps { PassKeeps result limits input.now }
+{
+    let depth = usize::from(limits.depth());
+    match limits.keys() {
+        Keys::Any => past_item::<S, false>(building, input, depth),
+        Keys::IntegersAndTexts => past_item::<S, true>(building, input, depth),
+    }
+}
+
+// The same. Where kinds of keys are asked for, no key of another kind is passed.
 fn past_item<'a, S: Sink<'a>, const KINDS: bool>(
     building: &mut Building<S>,
     input: &'a [u8],
     depth: usize,
-) -> Option<&'a [u8]>
+) -> Past<'a>
     requires none { building.old.stack.height ≡ 0 }
     requires top { building.old.stack.top ≡ counted due.Item 0 }
     requires fresh { S.stands building.old.sink building.old.sink (item_due []) }
     requires known { S.trusts ≡ true → BeginsTaken depth input.now }
-    ensures built { IfSome result (λ behind.
-        IsBuilt S S.stands S.trusts building.old.sink depth input.now building.new.sink behind.now) }
-    ensures kept { KINDS ≡ true → (keys : Keys)
-        → IfSome result (λ behind. KeepsBefore depth keys input.now behind.now) }
+    ensures passes { Passes S S.stands S.trusts result building.old.sink depth input.now
+        building.new.stack building.new.sink }
+    ensures kept { KINDS ≡ true → (keys : Keys) → PassKept result depth keys input.now }
 {
     let mut cells = [Open::counted(Due::Item, 0); FEW];
     match building.walk::<KINDS>(input, &mut cells, depth) {
-        Met::Whole(behind) => Some(behind),
+        Met::Whole(behind) => Past::Whole(behind),
         Met::Full(rest) => deeper::<S, KINDS>(building, rest, &cells, depth),
-        Met::Stopped => None,
+        Met::Refused(rest) => Past::Refused(rest),
+        Met::Stopped => Past::Stopped,
     }
 }
 
@@ -99,24 +181,24 @@ fn deeper<'a, S: Sink<'a>, const KINDS: bool>(
     rest: &'a [u8],
     few: &[Open],
     depth: usize,
-) -> Option<&'a [u8]>
+) -> Past<'a>
     requires few { length few.now ≤ SOME }
     requires full { building.old.stack.height ≡ length few.now }
     requires due { IsDueIn S S.stands S.trusts depth (standing Open building.old.stack few.now) building.old.sink rest.now }
-    ensures built { (start : S) (input : List ℕ)
+    ensures passes { (start : S) (input : List ℕ)
         → IsDue S S.stands S.trusts start depth input (standing Open building.old.stack few.now) building.old.sink rest.now
-        → IfSome result (λ behind. IsBuilt S S.stands S.trusts start depth input building.new.sink behind.now) }
+        → Passes S S.stands S.trusts result start depth input building.new.stack building.new.sink }
     ensures kept { KINDS ≡ true → (keys : Keys) (start : S) (input : List ℕ)
         → IsDue S S.stands S.trusts start depth input (standing Open building.old.stack few.now) building.old.sink rest.now
-        → KeepsBefore depth keys input rest.now
-        → IfSome result (λ behind. KeepsBefore depth keys input behind.now) }
+        → KeepsBefore depth keys input rest.now → PassKept result depth keys input }
 {
     let mut cells = [Open::counted(Due::Item, 0); SOME];
     lend(few, &mut cells);
     match building.walk::<KINDS>(rest, &mut cells, depth) {
-        Met::Whole(behind) => Some(behind),
+        Met::Whole(behind) => Past::Whole(behind),
         Met::Full(rest) => deepest::<S, KINDS>(building, rest, &cells, depth),
-        Met::Stopped => None,
+        Met::Refused(rest) => Past::Refused(rest),
+        Met::Stopped => Past::Stopped,
     }
 }
 
@@ -127,22 +209,22 @@ fn deepest<'a, S: Sink<'a>, const KINDS: bool>(
     rest: &'a [u8],
     few: &[Open],
     depth: usize,
-) -> Option<&'a [u8]>
+) -> Past<'a>
     requires few { length few.now ≤ MOST }
     requires full { building.old.stack.height ≡ length few.now }
     requires due { IsDueIn S S.stands S.trusts depth (standing Open building.old.stack few.now) building.old.sink rest.now }
-    ensures built { (start : S) (input : List ℕ)
+    ensures passes { (start : S) (input : List ℕ)
         → IsDue S S.stands S.trusts start depth input (standing Open building.old.stack few.now) building.old.sink rest.now
-        → IfSome result (λ behind. IsBuilt S S.stands S.trusts start depth input building.new.sink behind.now) }
+        → Passes S S.stands S.trusts result start depth input building.new.stack building.new.sink }
     ensures kept { KINDS ≡ true → (keys : Keys) (start : S) (input : List ℕ)
         → IsDue S S.stands S.trusts start depth input (standing Open building.old.stack few.now) building.old.sink rest.now
-        → KeepsBefore depth keys input rest.now
-        → IfSome result (λ behind. KeepsBefore depth keys input behind.now) }
+        → KeepsBefore depth keys input rest.now → PassKept result depth keys input }
 {
     let mut cells = [Open::counted(Due::Item, 0); MOST];
     lend(few, &mut cells);
     match building.walk::<KINDS>(rest, &mut cells, depth) {
-        Met::Whole(behind) => Some(behind),
-        _ => None,
+        Met::Whole(behind) => Past::Whole(behind),
+        Met::Refused(rest) => Past::Refused(rest),
+        Met::Full(_) | Met::Stopped => Past::Stopped,
     }
 }

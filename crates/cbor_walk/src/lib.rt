@@ -2,9 +2,9 @@
 //!
 //! [`canonical_front`] goes over the canonical bytes at the front of a slice once; at the first
 //! byte, head, text or key that is none of a canonical item it stops with the refusal.
-//! [`give_front`] goes over any valid item, whose parts it gives to a [`Sink`], and stops without a
-//! word at what is none; [`build_front`] has it give them to a builder of canonical bytes. Both
-//! hold what is due in each open container in cells that are made as they are wanted, so that depth
+//! [`give_front`] goes over any valid item, whose parts it gives to a [`Sink`], and stops at what is
+//! none, mostly with the refusal; [`build_front`] has it give them to a builder of canonical bytes.
+//! Both hold what is due in each open container in cells that are made as they are wanted, so that depth
 //! that is not used costs nothing.
 #![tactic(auto)]
 
@@ -30,5 +30,5 @@ mod within;
 
 pub use canonical::canonical_front;
 pub use canonical_sink::string_type;
-pub use front::{BuiltFront, build_front, give_front};
+pub use front::{BuiltFront, Stop, build_front, give_front};
 pub use sink::Sink;

@@ -1,6 +1,6 @@
 //! What is still to come in an open container, with a length or without.
 
-ghost use Rattle.std.specs.Prelude.{◌≡◌, Some, None, true, false};
+ghost use Rattle.std.specs.Prelude.{◌≡◌, ◌≢◌, Some, None, true, false};
 ghost use Rattle.cbor_walk.specs.inner.Building.{after, counted, endless, pairs};
 
 use crate::level::Due;
@@ -38,6 +38,13 @@ impl Open {
             left: 0,
             is_endless: true,
         }
+    }
+
+    /// Whether a break may stand here.
+    pub(crate) fn may_break(self) -> bool
+        ensures { self.is_endless ≡ true → self.due ≢ Due.Value → result ≡ true }
+    {
+        self.is_endless && !matches!(self.due, Due::Value)
     }
 
     /// An item of it is whole: whether another is due.

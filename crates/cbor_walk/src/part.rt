@@ -26,7 +26,9 @@ pub(crate) enum Part<'a> {
     Head(&'a [u8]),
     /// Nothing: a container may open, and there is no cell for it.
     Full,
-    /// Nothing that can be taken: the bytes are refused, or memory is.
+    /// Nothing that may stand there.
+    Refused,
+    /// No more: memory is refused, two keys of a map are the same, or a string in chunks is refused.
     Stopped,
 }
 
@@ -41,6 +43,7 @@ impl<'a> Part<'a> {
             Part::Item(behind) => Part::Item(behind),
             Part::Head(behind) => Part::Head(behind),
             Part::Full => Part::Full,
+            Part::Refused => Part::Refused,
             Part::Stopped => Part::Stopped,
         }
     }
@@ -68,24 +71,24 @@ impl<S> Building<S> {
             → IsFitFront rest.now }
     {
         let Some((first, behind)) = rest.split_first() else {
-            return Part::Stopped;
+            return Part::Refused;
         };
         let (kind, low) = (*first / 32, *first % 32);
         if low > 27 {
             if is_other_key::<KINDS>(self.stack.top.due, rest) {
-                return Part::Stopped;
+                return Part::Refused;
             }
             return self.take_endless(*first, behind, cells, depth).unpacked();
         }
         let Some(head) = read_argument(low, behind) else {
-            return Part::Stopped;
+            return Part::Refused;
         };
         let (number, behind) = (head.number, head.rest);
         match kind {
             0 => self.give_leaf(Major::Unsigned, number, behind),
             1 => self.give_leaf(Major::Negative, number, behind),
             3 => self.take_string(true, number, behind),
-            _ if is_other_key::<KINDS>(self.stack.top.due, rest) => Part::Stopped,
+            _ if is_other_key::<KINDS>(self.stack.top.due, rest) => Part::Refused,
             2 => self.take_string(false, number, behind),
             4 => self
                 .take_counted(Major::Array, Due::Item, number, behind, cells, depth)
@@ -99,7 +102,7 @@ impl<S> Building<S> {
             }
             _ => {
                 if low > 24 || low == 24 && number < 32 {
-                    return Part::Stopped;
+                    return Part::Refused;
                 }
                 self.give_leaf(Major::Simple, number, behind)
             }
@@ -154,7 +157,7 @@ impl<S> Building<S> {
             return self.open(major, number, opened, behind, cells, depth);
         }
         if self.stack.height >= depth {
-            return Part::Stopped;
+            return Part::Refused;
         }
         let Ok(()) = self.sink.begin(self.stack.top.due.is_key(), major, 0) else {
             return Part::Stopped;
@@ -186,7 +189,7 @@ impl<S> Building<S> {
         ensures front { TakesOpenerFront result (depth - self.old.stack.height) major number opened behind.now }
     {
         if self.stack.height >= depth {
-            return Part::Stopped;
+            return Part::Refused;
         }
         if self.stack.height >= cells.len() {
             return Part::Full;

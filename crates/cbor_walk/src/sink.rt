@@ -10,6 +10,7 @@ ghost use Rattle.cbor_judging.specs.Reading.{string_value};
 ghost use Rattle.cbor_walk.specs.Sink.{leaf_value, IsItemDue, Gives, Opens};
 ghost use Rattle.cbor_walk.specs.Sink.{IsContainerFull, Ends};
 ghost use Rattle.cbor_walk.specs.Sink.{BeginsString, IsChunkDue, GrowsString, EndsString};
+ghost use Rattle.cbor_walk.specs.Sink.{FindsNoRepeat};
 
 use cbor_head::Major;
 use std::alloc::AllocError;
@@ -84,4 +85,9 @@ pub trait Sink<'a> {
         requires full { IsContainerFull Self stands trusts is_map self.old }
         ensures { IfOk result (λ is_distinct. IsTrue is_distinct
             → Ends Self stands trusts is_map self.old self.new) };
+
+    /// False where no two keys that are complete in an open map are equal: what was taken is given
+    /// up.
+    fn has_equal_keys(self) -> bool
+        ensures { result ≡ false → FindsNoRepeat Self stands self };
 }

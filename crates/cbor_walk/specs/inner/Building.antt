@@ -2,7 +2,7 @@
 use Rattle.std.specs.Prelude.{◌≡◌, ℕ, zero, suc, ◌-◌, ◌^◌, ◌<◌, ◌≤◌, ◌⊎◌, Bool, true, false, Option, Some, None, List, [], ◌∷◌, ◌++◌, length, take, IsUtf8}
 use Rattle.cbor_head.specs.Complaint.{plain}
 use Rattle.cbor_head.specs.Head.{Holds, IsSimple, head, shortest}
-use Rattle.cbor_head.specs.Limits.{bounds, with_keys}
+use Rattle.cbor_head.specs.Limits.{Bounds, bounds, with_keys}
 use Rattle.cbor_head.specs.Spelling.{Spelling, spell, IsSpelled, depth}
 use Rattle.cbor_head.specs.declared.keys.Keys.{Keys}
 use Rattle.cbor_head.specs.declared.major.Major.{Major}
@@ -16,11 +16,14 @@ use Rattle.cbor_walk.specs.declared.building.Met.{Met}
 use Rattle.cbor_walk.specs.declared.building.Met.TheVariants as met
 use Rattle.cbor_walk.specs.declared.building.Then.{Then}
 use Rattle.cbor_walk.specs.declared.building.Then.TheVariants as then
+use Rattle.cbor_walk.specs.declared.front.Past.{Past}
+use Rattle.cbor_walk.specs.declared.front.Past.TheVariants as past
 use Rattle.cbor_walk.specs.declared.level.Due.{Due}
 use Rattle.cbor_walk.specs.declared.level.Due.TheVariants.{Item, Key, Value}
 use Rattle.cbor_walk.specs.declared.open.Open.{Open}
 use Rattle.cbor_walk.specs.declared.part.Part.{Part}
 use Rattle.cbor_walk.specs.declared.part.Part.TheVariants as part
+use Rattle.cbor_walk.specs.declared.stack.Stack.{Stack}
 use Rattle.cbor_walk.specs.Sink.{IsOpened, StandsFull, Told}
 
 -- ---- what is still to come in a container
@@ -80,6 +83,7 @@ pairs Value = true
 -- it is an item, or nothing can be taken
 abbrev pub IsItem : Part → Type 0
 IsItem (part.Item behind) = Unit {0}
+IsItem part.Refused = Unit {0}
 IsItem part.Stopped = Unit {0}
 IsItem _ = ⊥
 
@@ -177,7 +181,22 @@ KeepsBefore d keys input rest = (t : List ℕ) → input ≡ t ++ rest → Keeps
 abbrev pub MetKept : Met → ℕ → Keys → List ℕ → Type 0
 MetKept (met.Whole rest) d keys input = KeepsBefore d keys input rest.now
 MetKept (met.Full rest) d keys input = KeepsBefore d keys input rest.now
+MetKept (met.Refused rest) d keys input = KeepsBefore d keys input rest.now
 MetKept met.Stopped d keys input = Unit {0}
+
+abbrev pub PassKept : Past → ℕ → Keys → List ℕ → Type 0
+PassKept (past.Whole rest) d keys input = KeepsBefore d keys input rest.now
+PassKept (past.Refused rest) d keys input = KeepsBefore d keys input rest.now
+PassKept past.Stopped d keys input = Unit {0}
+
+-- the same by the limits, whether they ask for kinds or not
+abbrev pub Keeps : Bounds → List ℕ → List ℕ → Type 0
+Keeps limits input rest = (t : List ℕ) → input ≡ t ++ rest → KeepsToKinds limits plain t
+
+abbrev pub PassKeeps : Past → Bounds → List ℕ → Type 0
+PassKeeps (past.Whole rest) limits input = Keeps limits input rest.now
+PassKeeps (past.Refused rest) limits input = Keeps limits input rest.now
+PassKeeps past.Stopped limits input = Unit {0}
 
 -- ---- what is known of an input
 
@@ -230,6 +249,12 @@ module _ (S : Type 0) (stands : S → S → Standing → Type 0) (trusts : Bool)
     pub given : stands start g (item_whole item)
     pub bytes : input ≡ spell item ++ rest
 
+  -- an item is due in the containers of a stack, whatever lies in its cells
+  pub record IsDueOver (start : S) (d : ℕ) (input : List ℕ) (k : Stack Open) (g : S) (rest : List ℕ) : Type 0 where
+    pub outer : List Open
+    pub count : length outer ≡ k.height
+    pub due : IsDue start d input (k.top ∷ outer) g rest
+
   -- the innermost container is whole, a map or not, where these cells are around it; where none is, the input's item
   abbrev pub HasFilled : Bool → S → ℕ → List ℕ → List Open → S → List ℕ → Type 0
   HasFilled is_map start d input [] g rest = IsBuilt start d input g rest
@@ -258,6 +283,7 @@ module _ (S : Type 0) (stands : S → S → Standing → Type 0) (trusts : Bool)
   TakesTo (part.Item behind) start d input rest cs g = (length behind.now < length rest) × HasEnded start d input cs g behind.now
   TakesTo (part.Head behind) start d input rest cs g = (length behind.now < length rest) × IsDue start d input cs g behind.now
   TakesTo part.Full start d input rest cs g = IsDue start d input cs g rest
+  TakesTo part.Refused start d input rest cs g = IsDue start d input cs g rest
   TakesTo part.Stopped start d input rest cs g = Unit {0}
 
   -- from these cells and this sink to those
@@ -323,6 +349,7 @@ module _ (S : Type 0) (stands : S → S → Standing → Type 0) (trusts : Bool)
   abbrev pub Meets : Met → S → ℕ → List ℕ → List Open → S → Type 0
   Meets (met.Whole rest) start d input cs g = IsBuilt start d input g rest.now
   Meets (met.Full rest) start d input cs g = IsDue start d input cs g rest.now
+  Meets (met.Refused rest) start d input cs g = IsDue start d input cs g rest.now
   Meets met.Stopped start d input cs g = Unit {0}
 
   abbrev pub Walks : Met → ℕ → List ℕ → List Open → S → List Open → S → Type 0
@@ -331,3 +358,9 @@ module _ (S : Type 0) (stands : S → S → Standing → Type 0) (trusts : Bool)
   -- where kinds are asked for
   abbrev pub WalksKept : Bool → Met → ℕ → List ℕ → List Open → S → Type 0
   WalksKept kinds result d rest cs g = kinds ≡ true → (keys : Keys) (start : S) (input : List ℕ) → IsDue start d input cs g rest → KeepsBefore d keys input rest → MetKept result d keys input
+
+  -- all of it
+  abbrev pub Passes : Past → S → ℕ → List ℕ → Stack Open → S → Type 0
+  Passes (past.Whole rest) start d input k g = IsBuilt start d input g rest.now
+  Passes (past.Refused rest) start d input k g = IsDueOver start d input k g rest.now
+  Passes past.Stopped start d input k g = Unit {0}

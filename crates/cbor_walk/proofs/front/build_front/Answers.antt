@@ -5,11 +5,11 @@ use Rattle.cbor_builder.specs.Built.{Built}
 use Rattle.cbor_canonical.specs.Parts.{plain}
 use Rattle.cbor_walk.proofs.front.build_front.Goals as goal
 
-pub returns : goal.returns
-returns c =
-    let h = c.in_ok-builder.ensures in
+pub returns-in-Ok : goal.returns-in-Ok
+returns-in-Ok c =
+    let h = c.in-Ok.ensures in
     let v = value_of h.read.item in
     record {
       read = h.read;
-      canonical_is = c.finish-canonical.ensures.bytes (canonical c.args.order v) (h.whole.1 ∙ ap (λ (b : Built). plain (canonical b.order v) ∷ []) c.new.ensures);
+      canonical_is = c.finish.ensures.bytes (canonical c.args.order v) (h.whole.1 ∙ ap (λ (b : Built). plain (canonical b.order v) ∷ []) c.new.ensures);
     }

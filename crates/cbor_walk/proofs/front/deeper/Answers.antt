@@ -1,6 +1,7 @@
 use Rattle.std.proofs.Common.{List, refl, subst, arith}
 use Rattle.cbor_walk.specs.declared.open.Open.{Open}
 use Rattle.cbor_walk.specs.inner.Building.{IsDue}
+use Rattle.cbor_walk.proofs.GivenStops.{due-over}
 use Rattle.cbor_walk.proofs.Taking.{more_cells}
 use Rattle.cbor_walk.proofs.front.deeper.Goals as goal
 
@@ -23,3 +24,15 @@ returns-in-Full-clause-kept g c = λ kinds keys start input due keeps.
     let b = c.args.building.now in
     let here = subst (λ (x : List Open). IsDue g.row.S.Denot g.S.Sink.stands g.S.Sink.trusts start c.args.depth input x b.sink c.args.rest.now) (more_cells Open b.stack c.args.few.now c.lend.new.cells c.requires.full c.lend.ensures) due in
     c.deepest.ensures.kept kinds keys start input (c.in-Full.ensures.walked start input here) (c.in-Full.ensures.kept kinds keys start input here keeps)
+
+pub returns-in-Refused-clause-passes : goal.returns-in-Refused-clause-passes
+returns-in-Refused-clause-passes g c = λ start input due.
+    let b = c.args.building.now in
+    let here = subst (λ (x : List Open). IsDue g.row.S.Denot g.S.Sink.stands g.S.Sink.trusts start c.args.depth input x b.sink c.args.rest.now) (more_cells Open b.stack c.args.few.now c.lend.new.cells c.requires.full c.lend.ensures) due in
+    due-over g.row.S.Denot g.S.Sink.stands g.S.Sink.trusts start c.args.depth input c.walk.new.self.stack c.walk.new.cells c.walk.new.self.sink c.in-Refused.rest.now c.in-Refused.ensures.cells (c.in-Refused.ensures.walked start input here)
+
+pub returns-in-Refused-clause-kept : goal.returns-in-Refused-clause-kept
+returns-in-Refused-clause-kept g c = λ kinds keys start input due keeps.
+    let b = c.args.building.now in
+    c.in-Refused.ensures.kept kinds keys start input
+    (subst (λ (x : List Open). IsDue g.row.S.Denot g.S.Sink.stands g.S.Sink.trusts start c.args.depth input x b.sink c.args.rest.now) (more_cells Open b.stack c.args.few.now c.lend.new.cells c.requires.full c.lend.ensures) due) keeps

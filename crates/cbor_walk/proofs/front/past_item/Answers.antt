@@ -1,6 +1,7 @@
 use Rattle.std.proofs.Common.{refl, arith}
 use Rattle.cbor_walk.proofs.GivenKinds.{starts-kept}
 use Rattle.cbor_walk.proofs.GivenParts.{starts}
+use Rattle.cbor_walk.proofs.GivenStops.{due-over}
 use Rattle.cbor_walk.proofs.front.past_item.Goals as goal
 
 pub deeper-requires : goal.deeper-requires
@@ -35,3 +36,19 @@ returns-in-Full-clause-kept g c = λ kinds keys.
     let input = c.args.input.now in
     let due = starts S stands trusts b.stack b.sink c.args.depth input _ c.requires.none c.requires.top c.requires.fresh (omega arith) c.requires.known in
     c.deeper.ensures.kept kinds keys b.sink input (c.in-Full.ensures.walked b.sink input due) (c.in-Full.ensures.kept kinds keys b.sink input due (starts-kept S stands trusts b.sink c.args.depth input keys))
+
+pub returns-in-Refused-clause-passes : goal.returns-in-Refused-clause-passes
+returns-in-Refused-clause-passes g c =
+    let b = c.args.building.now in
+    let input = c.args.input.now in
+    due-over g.row.S.Denot g.S.Sink.stands g.S.Sink.trusts b.sink c.args.depth input c.walk.new.self.stack c.walk.new.cells c.walk.new.self.sink c.in-Refused.rest.now c.in-Refused.ensures.cells
+    (c.in-Refused.ensures.walked b.sink input (starts g.row.S.Denot g.S.Sink.stands g.S.Sink.trusts b.stack b.sink c.args.depth input _ c.requires.none c.requires.top c.requires.fresh (omega arith) c.requires.known))
+
+pub returns-in-Refused-clause-kept : goal.returns-in-Refused-clause-kept
+returns-in-Refused-clause-kept g c = λ kinds keys.
+    let S = g.row.S.Denot in
+    let stands = g.S.Sink.stands in
+    let trusts = g.S.Sink.trusts in
+    let b = c.args.building.now in
+    let input = c.args.input.now in
+    c.in-Refused.ensures.kept kinds keys b.sink input (starts S stands trusts b.stack b.sink c.args.depth input _ c.requires.none c.requires.top c.requires.fresh (omega arith) c.requires.known) (starts-kept S stands trusts b.sink c.args.depth input keys)
