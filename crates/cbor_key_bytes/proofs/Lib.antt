@@ -1,3 +1,4 @@
 pub mod KeyStrings
+pub mod KeysApart
 pub mod KeysGiven
 pub mod KeysKept

@@ -148,4 +148,9 @@ impl<'a> Sink<'a> for KeyBytes {
         self.settle()?;
         Ok(true)
     }
+
+    fn has_equal_keys(self) -> bool {
+        let KeyBytes { builder, inside: _ } = self;
+        builder.first_repeat().is_some()
+    }
 }

@@ -7,21 +7,23 @@ ghost use Rattle.cbor_key_bytes.specs.KeyBytes.{lent_stand, lent_hold};
 use crate::key_bytes::KeyBytes;
 use cbor_head::Major;
 use cbor_walk::Sink;
-use std::alloc::AllocError;
+use std::alloc::{AllocError, Global};
+use std::mem;
 
 /// What finds equal keys in an item, as [`KeyBytes`] does, in the memory that these have.
 #[derive(Drop)]
 pub struct LentKeys<'k> {
+    alloc: Global,
     keys: &'k mut KeyBytes,
 }
 
 impl<'k> LentKeys<'k> {
     /// Of no keys. Those that were kept are given up.
-    pub fn of(keys: &'k mut KeyBytes) -> LentKeys<'k>
+    pub fn of(alloc: Global, keys: &'k mut KeyBytes) -> LentKeys<'k>
         ensures { lent_stand result result (item_due []) }
     {
         keys.clear();
-        LentKeys { keys }
+        LentKeys { alloc, keys }
     }
 }
 
@@ -75,5 +77,11 @@ impl<'a, 'k> Sink<'a> for LentKeys<'k> {
     #[inline(always)]
     fn end(&mut self, is_map: bool) -> Result<bool, AllocError> {
         self.keys.end(is_map)
+    }
+
+    // The memory is given up with what was taken.
+    fn has_equal_keys(self) -> bool {
+        let LentKeys { alloc, keys } = self;
+        mem::replace(keys, KeyBytes::new(alloc)).has_equal_keys()
     }
 }

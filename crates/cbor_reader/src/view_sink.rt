@@ -127,6 +127,15 @@ impl<'a> Sink<'a> for ViewSink<'a> {
         }
         Ok(is_distinct)
     }
+
+    fn has_equal_keys(self) -> bool {
+        let ViewSink {
+            keys,
+            views: _,
+            joined: _,
+        } = self;
+        keys.has_equal_keys()
+    }
 }
 
 // An integer or a simple value.
