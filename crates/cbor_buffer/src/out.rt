@@ -19,8 +19,11 @@ const BLOCK: usize = 32;
 // So many bytes of room lie behind what is written, where the buffer has grown for it.
 const SLACK: usize = 40;
 
-// The buffer grows by so many bytes at least, so that a small item takes memory once.
+// The buffer grows by so many bytes at least, so that a small item takes memory once,
 const FIRST: usize = 128;
+
+// and is made longer by as many, or by so many at once: what is to be written soon is in reach then.
+const STEP: usize = 1024;
 
 /// The bytes written so far. Room is left behind them, so that a head is written in one piece and a
 /// key's first bytes are read in one.
@@ -267,8 +270,8 @@ fn make_room(buf: &mut Vec<u8>, len: usize, n: usize) -> Result<(), AllocError>
     Ok(())
 }
 
-// The same, where the buffer is too short. It grows by a half at least, so that all growths
-// together cost no more than what is written in the end.
+// The same, where the buffer is too short. Where it takes memory, that is a half more at least, so
+// that all growths together cost no more than what is written in the end.
 #[cold]
 #[inline(never)]
 fn grow(buf: &mut Vec<u8>, len: usize, n: usize) -> Result<(), AllocError>
@@ -279,6 +282,10 @@ fn grow(buf: &mut Vec<u8>, len: usize, n: usize) -> Result<(), AllocError>
     ensures same { take len buf.new.items ≡ take len buf.old.items }
 {
     let size = buf.len();
-    let more = (size / 2).max(n).max(FIRST);
-    buf.resize(size.saturating_add(more).saturating_add(SLACK), 0)
+    let least = n.max(FIRST).saturating_add(SLACK);
+    if buf.capacity() - size < least {
+        buf.reserve_exact(least.max(size / 2))?;
+    }
+    let soon = n.max(STEP).saturating_add(SLACK);
+    buf.resize(size + soon.min(buf.capacity() - size), 0)
 }

@@ -17,8 +17,7 @@ fn is_ascii_front(chunk: &[u8; 32], count: u8) -> bool
     high << (63 - count) == 0
 }
 
-// Whether so many bytes in front are ASCII. False says nothing: fewer than 32 may stand there, or
-// more be asked for.
+// Whether so many bytes in front are ASCII. False says nothing: more than 32 may be asked for.
 #[inline(always)]
 pub(crate) fn is_short_ascii(front: &[u8], count: usize) -> bool
     ensures { result ≡ true → IsAscii (take count front.now) }
@@ -28,6 +27,14 @@ pub(crate) fn is_short_ascii(front: &[u8], count: usize) -> bool
     }
     match front.first_chunk::<32>() {
         Some(chunk) => is_ascii_front(chunk, count as u8 - 1),
-        None => false,
+        None => is_ascii_end(&front[..count.min(front.len())]),
     }
+}
+
+// The same of fewer bytes, at the end of an input.
+#[inline(never)]
+fn is_ascii_end(bytes: &[u8]) -> bool
+    ensures { result ≡ true → IsAscii bytes.now }
+{
+    bytes.is_ascii()
 }
