@@ -17,7 +17,7 @@ use Rattle.cbor_plain.proofs.TreeValues.{full-ends, levels-take, may-end, settle
 use Rattle.cbor_view.specs.Seen.{standing}
 use Rattle.cbor_key_bytes.specs.KeyBytes.{keys_stand}
 use Rattle.cbor_key_bytes.specs.declared.key_bytes.KeyBytes.{KeyBytes}
-use Rattle.cbor_walk.specs.Sink.{Told, IsOpened, IsEndedAs, StandsFull, IsItemDue, IsChunkDue, IsContainerFull, Gives, Opens, Ends, BeginsString, GrowsString, EndsString}
+use Rattle.cbor_walk.specs.Sink.{FindsNoRepeat, Told, IsOpened, IsEndedAs, StandsFull, IsItemDue, IsChunkDue, IsContainerFull, Gives, Opens, Ends, BeginsString, GrowsString, EndsString}
 
 -- ---- an item
 
@@ -108,3 +108,8 @@ string-ended k t old new keys views start d ls content s at told done e = (
   settles-right ls s,
   views ∙ ap (λ (c : List ℕ). give (string_value t c) (standing old.views)) at.2 ∙ with-item (string_value t content) (standing old.views) ls s at.1 e ∙ values-given ls s,
 )
+
+-- ---- keys
+
+pub no-repeat : (g : ViewSink) → FindsNoRepeat KeyBytes keys_stand g.keys → FindsNoRepeat ViewSink view_stands g
+no-repeat g h start ls at = h start.keys ls at.0

@@ -9,7 +9,7 @@ use crate::valid_front::read_again;
 use cbor_head::{KeyOrder, Limits, Reason, Refusal};
 use cbor_key_bytes::{KeyBytes, LentKeys};
 use cbor_strict::check_canonical;
-use cbor_walk::give_front;
+use cbor_walk::{Stop, give_front};
 use std::alloc::Global;
 
 // Behind an item that is valid and not canonical, so many are not looked at as canonical bytes first.
@@ -62,10 +62,10 @@ impl ItemCheck {
         ensures refused { IfErr result (λ f. IsUnread limits plain bytes.now f) }
         ensures no_read { IfErr result (λ f. f.reason ≢ reasons.Read) }
     {
-        match give_front(LentKeys::of(&mut self.keys), bytes, limits) {
-            Some((_, size)) => Ok(size),
-            // The refusal that the bytes call for, or that memory was refused.
-            None => match read_again(self.alloc, bytes, limits, KeyOrder::Bytewise) {
+        match give_front(LentKeys::of(self.alloc, &mut self.keys), bytes, limits) {
+            Ok((_, size)) => Ok(size),
+            Err(Stop::Refused(refusal)) => Err(refusal),
+            Err(Stop::Unsaid) => match read_again(self.alloc, bytes, limits, KeyOrder::Bytewise) {
                 Ok(front) => Ok(front.size),
                 Err(refusal) => Err(refusal),
             },

@@ -9,11 +9,10 @@ ghost use Rattle.cbor_walk.specs.Front.{IsBuiltFront};
 
 use cbor_head::{KeyOrder, Limits, Reason, Refusal};
 use cbor_plain::read_plain_front;
-use cbor_walk::{BuiltFront, build_front};
+use cbor_walk::{BuiltFront, Stop, build_front};
 use std::alloc::Global;
 
-// Its canonical bytes, in this order and however many, and how many bytes it has. What is refused
-// is read again, event by event, for its refusal. It is a call of its own, so that what looks for
+// Its canonical bytes, in this order and however many, and how many bytes it has. It is a call of its own, so that what looks for
 // canonical bytes before it has no room on the stack for it.
 #[inline(never)]
 pub(crate) fn valid_front(
@@ -28,12 +27,13 @@ pub(crate) fn valid_front(
     ensures no_read { IfErr result (λ f. f.reason ≢ reasons.Read) }
 {
     match build_front(alloc, bytes, limits, order) {
-        Some(front) => Ok(front),
-        None => read_again(alloc, bytes, limits, order),
+        Ok(front) => Ok(front),
+        Err(Stop::Refused(refusal)) => Err(refusal),
+        Err(Stop::Unsaid) => read_again(alloc, bytes, limits, order),
     }
 }
 
-// The same event by event.
+// The same event by event, from the start.
 pub(crate) fn read_again(
     alloc: Global,
     bytes: &[u8],

@@ -18,7 +18,7 @@ use crate::view_sink::ViewSink;
 use bumpalo::Bump;
 use cbor_head::{KeyOrder, Limits, Reason, Refusal};
 use cbor_view::View;
-use cbor_walk::give_front;
+use cbor_walk::{Stop, give_front};
 use std::alloc::Global;
 
 /// The view of the well-formed, valid item that the slice begins with, and how many bytes it has
@@ -50,9 +50,9 @@ pub fn read_view<'a>(
     let _depth = limits.depth();
     let _bytes = limits.bytes();
     match give_front(ViewSink::new(alloc, arena), bytes, limits) {
-        Some((sink, size)) => Ok((sink.finish(), size)),
-        // The refusal that the bytes call for, or that memory was refused.
-        None => match read_again(alloc, bytes, limits, KeyOrder::Bytewise) {
+        Ok((sink, size)) => Ok((sink.finish(), size)),
+        Err(Stop::Refused(refusal)) => Err(refusal),
+        Err(Stop::Unsaid) => match read_again(alloc, bytes, limits, KeyOrder::Bytewise) {
             Ok(front) => Err(Refusal::at(Reason::Memory, front.size)),
             Err(refusal) => Err(refusal),
         },
