@@ -1,24 +1,19 @@
 //! Diagnostic text into a buffer of the caller's.
 
-ghost use Rattle.std.specs.Prelude.{◌≡◌, ◌≢◌, ◌⊎◌, ◌<◌, ◌≤◌, ℕ, List, length, take, drop, IfSome};
-ghost use Rattle.cbor_diag.specs.Text.{text};
-ghost use Rattle.cbor_head.specs.Value.{depth};
-ghost use Rattle.cbor_head.specs.declared.limits.TheConstants.{MAX_DEPTH};
+ghost use Rattle.std.specs.Prelude.{◌≡◌, ◌≢◌, ◌⊎◌, ◌<◌, ◌≤◌, ℕ, List, length, take, drop, IfOk};
 ghost use Rattle.cbor_reader.specs.WholeItem.{IsWholeItem};
-ghost use Rattle.cbor_view.specs.Seen.{seen};
 ghost use Rattle.naltvigo.specs.Checking.{IsNotValid};
 ghost use Rattle.naltvigo.specs.Diagnosing.{IsTextOf, TextLacksMemory};
 ghost use Rattle.naltvigo.specs.Settings.{item_limits, AreLimits};
 
 use crate::buffer::give;
+use crate::checking::check_whole_item;
 use crate::settings::limits_of;
 use crate::status::{BAD_LIMITS, NO_MEMORY, NaltvigoRefusal, OK, REFUSED, TOO_SMALL, tell, told};
-use crate::whole::view_of;
-use bumpalo::Bump;
-use cbor_diag::diagnostic_view;
-use cbor_head::{Reason, Refusal};
-use cbor_view::View;
-use std::alloc::Global;
+use cbor_diag::diagnostic_front;
+use cbor_head::{Limits, Reason, Refusal};
+use cbor_reader::laws::valid_items;
+use std::alloc::{AllocError, Global};
 
 /// Writes the diagnostic text (RFC 8949, section 8) of the one valid item that `input` is to the
 /// front of `out`, its pairs in their order. For the rest it is as `naltvigo_canonicalise_raw`.
@@ -56,30 +51,25 @@ pub extern "C" fn naltvigo_diagnostic_raw(
     let Some(limits) = limits_of(keys, depth, bytes) else {
         return BAD_LIMITS;
     };
-    let arena = Bump::new(alloc);
-    let view = match view_of(alloc, input, limits, &arena) {
-        Ok(view) => view,
-        Err(reason) => return tell(reason, refusal),
-    };
-    match text_of(alloc, &view) {
-        Some(text) => give(text.as_slice(), out, needed),
-        None => {
+    if let Err(reason) = check_whole_item(alloc, input, limits) {
+        return tell(reason, refusal);
+    }
+    match text_of(alloc, input, limits) {
+        Ok(text) => give(text.as_slice(), out, needed),
+        Err(_) => {
             *refusal = told(Refusal::at(Reason::Memory, input.len() as u64));
             NO_MEMORY
         }
     }
 }
 
-// The text; none where memory is refused. It has a frame of its own, which is not there yet as the
-// view is read.
+// The text of the one valid item that the input is. It has a frame of its own, which is not there
+// yet as the input is checked.
 #[inline(never)]
-fn text_of(alloc: Global, view: &View<'_>) -> Option<Vec<u8>>
-    requires { depth (seen view.now) ≤ MAX_DEPTH }
-    ensures { IfSome result (λ v. v.items ≡ text (seen view.now)) }
+fn text_of(alloc: Global, input: &[u8], limits: Limits) -> Result<Vec<u8>, AllocError>
+    requires { IsWholeItem limits input.now }
+    ensures { IfOk result (λ shown. IsTextOf limits input.now shown.items) }
 {
-    let mut shown = Vec::new(alloc);
-    match diagnostic_view(view, &mut shown) {
-        Ok(_) => Some(shown),
-        Err(_) => None,
-    }
+    valid_items();
+    diagnostic_front(alloc, input, limits)
 }
