@@ -69,10 +69,10 @@ as-text : (start g : TextSink) (x y : List ℕ) (os : List Open) → x ≡ y →
 as-text start g x y os e at = subst (λ (t : List ℕ). IsAt start g t os) e at
 
 -- with the same containers open
-pub put-behind : (start old new : TextSink) (x y : List ℕ) (os : List Open) → IsAt start old x os → HasPut (Some old.shown.items) (Some new.shown.items) old.out.now new.out.now y
+pub put-behind : (start old new : TextSink) (x y : List ℕ) (os : List Open) → IsAt start old x os → HasPut (Some old.shown.now.items) (Some new.shown.now.items) old.out.now new.out.now y
     → new.layout ≡ old.layout → new.inner ≡ old.inner → new.around.items ≡ old.around.items → IsAt start new (x ++ y) os
 put-behind start old new x y os at put layout inner around = record {
-  given = regroup put.took new.shown.items new.out.now.waiting.items old.shown.items old.out.now.waiting.items y put.appended put.others ∙ ap (λ (t : List ℕ). t ++ y) at.given;
+  given = regroup put.took new.shown.now.items new.out.now.waiting.items old.shown.now.items old.out.now.waiting.items y put.appended put.others ∙ ap (λ (t : List ℕ). t ++ y) at.given;
   layout = layout ∙ at.layout;
   opens = subst (λ (r : List Open). AreOpen new.inner r os) (sym around) (subst (λ (r : Option Open). AreOpen r old.around.items os) (sym inner) at.opens);
   shallow = at.shallow;
@@ -147,7 +147,7 @@ settles start g (tagged w k ∷ vs) s at =
       as-text start g _ _ _ (ap (λ (t : List ℕ). t ++ x) (append-nil (text_to l vs ++ front)) ∙ append_assoc (text_to l vs) front x) at,
     )
 
-pub given : (k : Bool) (v : Value) (y : List ℕ) (n : ℕ) (old mid new : TextSink) → Reaches k old mid n → ((l : Layout) (m : ℕ) → laid_out l m v ≡ y) → HasPut (Some mid.shown.items) (Some new.shown.items) mid.out.now new.out.now y
+pub given : (k : Bool) (v : Value) (y : List ℕ) (n : ℕ) (old mid new : TextSink) → Reaches k old mid n → ((l : Layout) (m : ℕ) → laid_out l m v ≡ y) → HasPut (Some mid.shown.now.items) (Some new.shown.now.items) mid.out.now new.out.now y
     → new.layout ≡ mid.layout → new.inner ≡ mid.inner → new.around.items ≡ mid.around.items → Gives TextSink text_stands k v old new
 given k v y n old mid new reaches same put layout inner around start d vs s told done e =
     let l = start.layout in
@@ -157,14 +157,14 @@ given k v y n old mid new reaches same put layout inner around start d vs s told
 
 -- ---- strings in chunks
 
-pub string-begun : (k t : Bool) (n : ℕ) (old mid new : TextSink) → Reaches k old mid n → HasPut (Some mid.shown.items) (Some new.shown.items) mid.out.now new.out.now (opening t)
+pub string-begun : (k t : Bool) (n : ℕ) (old mid new : TextSink) → Reaches k old mid n → HasPut (Some mid.shown.now.items) (Some new.shown.now.items) mid.out.now new.out.now (opening t)
     → new.layout ≡ mid.layout → new.inner ≡ mid.inner → new.around.items ≡ mid.around.items → BeginsString TextSink text_stands text_holds k t old new
 string-begun k t n old mid new reaches put layout inner around start vs told =
     let u = text_to start.layout vs in
     let begun : opening t ≡ opening t ++ content_text t [] = sym (append-nil (opening t)) ∙ ap (λ (y : List ℕ). opening t ++ y) (sym (no-content t)) in
     as-text start new _ _ _ (ap (λ (y : List ℕ). u ++ y) begun) (put-behind start mid new u (opening t) (entered vs) (reaches start vs told).1 put layout inner around)
 
-pub string-grown : (k t : Bool) (x : List ℕ) (old new : TextSink) → HasPut (Some old.shown.items) (Some new.shown.items) old.out.now new.out.now (content_text t x)
+pub string-grown : (k t : Bool) (x : List ℕ) (old new : TextSink) → HasPut (Some old.shown.now.items) (Some new.shown.now.items) old.out.now new.out.now (content_text t x)
     → new.layout ≡ old.layout → new.inner ≡ old.inner → new.around.items ≡ old.around.items → GrowsString TextSink text_holds k t x old new
 string-grown k t x old new put layout inner around start vs content at told =
     let u = text_to start.layout vs in
@@ -174,7 +174,7 @@ string-grown k t x old new put layout inner around start vs content at told =
     append_assoc u (o ++ c) (content_text t x) ∙ ap (λ (y : List ℕ). u ++ y) (append_assoc o c (content_text t x) ∙ ap (λ (y : List ℕ). o ++ y) (sym (more-content t content x))) in
     as-text start new _ _ _ grown (put-behind start old new (u ++ (o ++ c)) (content_text t x) (entered vs) at put layout inner around)
 
-pub string-ended : (k t : Bool) (old new : TextSink) → HasPut (Some old.shown.items) (Some new.shown.items) old.out.now new.out.now (closing t)
+pub string-ended : (k t : Bool) (old new : TextSink) → HasPut (Some old.shown.now.items) (Some new.shown.now.items) old.out.now new.out.now (closing t)
     → new.layout ≡ old.layout → new.inner ≡ old.inner → new.around.items ≡ old.around.items → EndsString TextSink text_stands text_holds k t old new
 string-ended k t old new put layout inner around start d vs content s at told done e =
     let l = start.layout in
@@ -202,7 +202,7 @@ level-opened l n majors.Bytes i v e = absurd e
 level-opened l n majors.Text i v e = absurd e
 level-opened l n majors.Simple i v e = absurd e
 
-pub opened : (k : Bool) (m : Major) (i n : ℕ) (old mid new : TextSink) → Reaches k old mid n → n < MAX_DEPTH → HasPut (Some mid.shown.items) (Some new.shown.items) mid.out.now new.out.now (opener m i)
+pub opened : (k : Bool) (m : Major) (i n : ℕ) (old mid new : TextSink) → Reaches k old mid n → n < MAX_DEPTH → HasPut (Some mid.shown.now.items) (Some new.shown.now.items) mid.out.now new.out.now (opener m i)
     → new.layout ≡ mid.layout → new.inner ≡ Some (an_open (kind_of m) n true) → new.around.items ≡ mid.around.items ++ option_to_list mid.inner → Opens TextSink text_stands k m i old new
 opened k m i n old mid new reaches few put layout inner around start vs v told is =
     let r = reaches start vs told in
@@ -210,7 +210,7 @@ opened k m i n old mid new reaches few put layout inner around start vs v told i
     let same = level-opened start.layout (indent_in vs) m i v is in
     let top : an_open (kind_of m) n true ≡ open_of (indent_in vs) v = ap (λ (j : ℕ). an_open (kind_of m) j true) r.0 ∙ same.1 in
     record {
-      given = regroup put.took new.shown.items new.out.now.waiting.items mid.shown.items mid.out.now.waiting.items (opener m i) put.appended put.others ∙ ap₂ (λ (x y : List ℕ). x ++ y) at.given same.0;
+      given = regroup put.took new.shown.now.items new.out.now.waiting.items mid.shown.now.items mid.out.now.waiting.items (opener m i) put.appended put.others ∙ ap₂ (λ (x y : List ℕ). x ++ y) at.given same.0;
       layout = layout ∙ at.layout;
       opens = (inner ∙ ap Some top, around ∙ pushed mid.inner mid.around.items (entered vs) at.opens);
       shallow = (subst (λ (o : Open). o.indent < MAX_DEPTH) top few, at.shallow);
@@ -247,7 +247,7 @@ popped around new (Some x) [] are is some = let n = ap length (sym is ∙ are) i
 popped around new None (o ∷ os) are is some = let n = ap length (are ∙ reverse-append (o ∷ []) os) in absurd (cc (some (omega (arith, n, length-append (reverse os) (o ∷ [])))))
 popped around new (Some x) (o ∷ os) are is some = let e = same_from_push new (reverse os) x o (sym is ∙ are ∙ reverse-append (o ∷ []) os) in (ap Some e.1, e.0)
 
-pub ended : (k : Bool) (o : Open) (old new : TextSink) → old.inner ≡ Some o → HasPut (Some old.shown.items) (Some new.shown.items) old.out.now new.out.now (close_text old.layout o) → new.layout ≡ old.layout
+pub ended : (k : Bool) (o : Open) (old new : TextSink) → old.inner ≡ Some o → HasPut (Some old.shown.now.items) (Some new.shown.now.items) old.out.now new.out.now (close_text old.layout o) → new.layout ≡ old.layout
     → old.around.items ≡ new.around.items ++ option_to_list new.inner → (0 < length old.around.items → IsSome new.inner) → Ends TextSink text_stands true k old new
 ended k o old new inner put layout around some start d vs s fills stood =
     let l = start.layout in
@@ -259,7 +259,7 @@ ended k o old new inner put layout around some start d vs s fills stood =
       fills.clean refl,
       settles start new vs s
           (record {
-            given = regroup put.took new.shown.items new.out.now.waiting.items old.shown.items old.out.now.waiting.items (close_text old.layout o) put.appended put.others
+            given = regroup put.took new.shown.now.items new.out.now.waiting.items old.shown.now.items old.out.now.waiting.items (close_text old.layout o) put.appended put.others
                 ∙ ap (λ (t : List ℕ). t ++ close_text old.layout o) at.given ∙ append_assoc u full.0 (close_text old.layout o) ∙ ap (λ (t : List ℕ). u ++ t) closes;
             layout = layout ∙ at.layout;
             opens = popped old.around.items new.around.items new.inner (entered vs) at.opens.1 around some;

@@ -1,14 +1,9 @@
-//! The diagnostic text of a tree, of a view, and of an item in its bytes.
+//! The diagnostic text of a tree, and of a view.
 
-ghost use Rattle.std.specs.Prelude.{◌≡◌, ◌≤◌, ℕ, [], IfOk};
-ghost use Rattle.cbor_head.specs.Complaint.{plain};
-ghost use Rattle.cbor_head.specs.Spelling as spelling;
-ghost use Rattle.cbor_head.specs.Spelling.{Spelling};
+ghost use Rattle.std.specs.Prelude.{◌≡◌, ◌≤◌, [], IfOk};
 ghost use Rattle.cbor_head.specs.Value.{depth};
 ghost use Rattle.cbor_head.specs.declared.limits.TheConstants.{MAX_DEPTH};
-ghost use Rattle.cbor_head.specs.Verdict.{IsVerdict, accepted};
 ghost use Rattle.cbor_item.specs.View.{view as value_of};
-ghost use Rattle.cbor_judging.specs.Readers.{IsRead};
 ghost use Rattle.cbor_view.specs.Seen.{seen};
 ghost use Rattle.cbor_diag.specs.IndentedText.{indented};
 ghost use Rattle.cbor_diag.specs.inner.Layout.{laid_out};
@@ -19,14 +14,10 @@ ghost use Rattle.cbor_diag.specs.Text.{text};
 use crate::layout::Layout;
 use crate::node::Node;
 use crate::outbox::{Outbox, Stopped};
-use crate::text_sink::TextSink;
 use crate::walk::put_item;
-use cbor_grammar::laws::verdict_is_one;
-use cbor_head::{Limits, Reason, Refusal};
+use cbor_head::{Reason, Refusal};
 use cbor_item::Tree;
 use cbor_view::View;
-use cbor_walk::give_front;
-use std::alloc::{AllocError, Global};
 use std::io::Write;
 
 /// Writes the diagnostic text on one line (RFC 8949, section 8), and answers how many bytes it is.
@@ -67,49 +58,6 @@ pub fn diagnostic_view_indented<W: Write>(view: &View<'_>, writer: &mut W) -> Re
         (indented 0 (seen view.now)) result }
 {
     write_text(view, Layout::Indented, writer)
-}
-
-/// The diagnostic text on one line (RFC 8949, section 8) of the item that the bytes begin with. It is
-/// known to be valid within these limits, so its keys are not looked at again. An `Err` is that
-/// memory was refused; no more is taken than for the text, and for containers in others.
-pub fn diagnostic_front(alloc: Global, bytes: &[u8], limits: Limits) -> Result<Vec<u8>, AllocError>
-    requires { (size : ℕ) × IsRead limits plain bytes.now size }
-    ensures { IfOk result (λ shown. (s : Spelling) → IsVerdict limits plain bytes.now (accepted s)
-        → shown.items ≡ text (spelling.value_of s)) }
-{
-    text_of_front(alloc, bytes, limits, Layout::OneLine)
-}
-
-/// The same with one member or pair a line, two spaces a level.
-pub fn diagnostic_front_indented(
-    alloc: Global,
-    bytes: &[u8],
-    limits: Limits,
-) -> Result<Vec<u8>, AllocError>
-    requires { (size : ℕ) × IsRead limits plain bytes.now size }
-    ensures { IfOk result (λ shown. (s : Spelling) → IsVerdict limits plain bytes.now (accepted s)
-        → shown.items ≡ indented 0 (spelling.value_of s)) }
-{
-    text_of_front(alloc, bytes, limits, Layout::Indented)
-}
-
-fn text_of_front(
-    alloc: Global,
-    bytes: &[u8],
-    limits: Limits,
-    layout: Layout,
-) -> Result<Vec<u8>, AllocError>
-    requires { (size : ℕ) × IsRead limits plain bytes.now size }
-    ensures { IfOk result (λ shown. (s : Spelling) → IsVerdict limits plain bytes.now (accepted s)
-        → shown.items ≡ laid_out layout 0 (spelling.value_of s)) }
-{
-    verdict_is_one();
-    let mut out = Outbox::new();
-    match give_front(TextSink::new(alloc, layout, &mut out), bytes, limits) {
-        Some((sink, _)) => sink.finish(),
-        // The item is valid.
-        None => Err(AllocError),
-    }
 }
 
 fn write_text<N: Node, W: Write>(item: &N, layout: Layout, writer: &mut W) -> Result<u64, Refusal>

@@ -32,7 +32,7 @@ pub(crate) struct TextSink<'o> {
     inner: Option<Open>,
     around: Vec<Open>,
     // The text, and what of it waits to be written behind that.
-    shown: Vec<u8>,
+    shown: &'o mut Vec<u8>,
     out: &'o mut Outbox,
 }
 
@@ -54,8 +54,14 @@ pub(crate) enum Kind {
 
 impl<'o> TextSink<'o> {
     // Of nothing yet.
-    pub(crate) fn new(alloc: Global, layout: Layout, out: &'o mut Outbox) -> TextSink<'o>
-        requires { out.old.waiting.items ≡ [] }
+    pub(crate) fn new(
+        alloc: Global,
+        layout: Layout,
+        shown: &'o mut Vec<u8>,
+        out: &'o mut Outbox,
+    ) -> TextSink<'o>
+        requires shown { shown.old.items ≡ [] }
+        requires out { out.old.waiting.items ≡ [] }
         ensures due { text_stands result result (item_due []) }
         ensures layout { result.layout ≡ layout }
     {
@@ -63,26 +69,29 @@ impl<'o> TextSink<'o> {
             layout,
             inner: None,
             around: Vec::new(alloc),
-            shown: Vec::new(alloc),
+            shown,
             out,
         }
     }
 
-    // The text of the item, which is whole.
-    pub(crate) fn finish(self) -> Result<Vec<u8>, AllocError>
-        ensures { IfOk result (λ shown. (start : TextSinkView) (s : Spelling)
+    // The text of the item, which is whole. If it is short, all of it waits.
+    pub(crate) fn finish(self) -> Result<&'o [u8], AllocError>
+        ensures { IfOk result (λ text. (start : TextSinkView) (s : Spelling)
             → text_stands start self.entry (item_whole s)
-            → shown.items ≡ laid_out start.layout 0 (value_of s)) }
+            → text.now ≡ laid_out start.layout 0 (value_of s)) }
     {
         let TextSink {
             layout: _,
             inner: _,
             around: _,
-            mut shown,
+            shown,
             out,
         } = self;
-        out.flush(&mut shown)?;
-        Ok(shown)
+        if shown.is_empty() {
+            return Ok(out.as_slice());
+        }
+        out.flush(shown)?;
+        Ok(shown.as_slice())
     }
 
     // Puts what stands before an item, and answers at how many levels of indentation it stands.
@@ -96,7 +105,7 @@ impl<'o> TextSink<'o> {
         match open.kind {
             Kind::Tag => Ok(open.indent),
             Kind::Map if !is_key => {
-                self.out.put(&mut self.shown, b": ")?;
+                self.out.put(self.shown, b": ")?;
                 Ok(open.indent + 1)
             }
             _ => {
@@ -105,7 +114,7 @@ impl<'o> TextSink<'o> {
                     open.indent,
                     open.is_first,
                     self.out,
-                    &mut self.shown,
+                    self.shown,
                 )?;
                 self.inner = Some(Open {
                     kind: open.kind,
@@ -128,7 +137,7 @@ impl<'a, 'o> Sink<'a> for TextSink<'o> {
     #[inline(always)]
     fn leaf(&mut self, is_key: bool, major: Major, number: u64) -> Result<(), AllocError> {
         self.reach(is_key)?;
-        put_leaf(major, number, self.out, &mut self.shown)?;
+        put_leaf(major, number, self.out, self.shown)?;
         Ok(())
     }
 
@@ -141,14 +150,14 @@ impl<'a, 'o> Sink<'a> for TextSink<'o> {
         count: usize,
     ) -> Result<(), AllocError> {
         self.reach(is_key)?;
-        put_string(is_text, &front[..count], self.out, &mut self.shown)?;
+        put_string(is_text, &front[..count], self.out, self.shown)?;
         Ok(())
     }
 
     #[inline(always)]
     fn begin_string(&mut self, is_key: bool, is_text: bool) -> Result<(), AllocError> {
         self.reach(is_key)?;
-        put_opening(is_text, self.out, &mut self.shown)?;
+        put_opening(is_text, self.out, self.shown)?;
         Ok(())
     }
 
@@ -160,13 +169,13 @@ impl<'a, 'o> Sink<'a> for TextSink<'o> {
         front: &'a [u8],
         count: usize,
     ) -> Result<(), AllocError> {
-        put_content(is_text, &front[..count], self.out, &mut self.shown)?;
+        put_content(is_text, &front[..count], self.out, self.shown)?;
         Ok(())
     }
 
     #[inline(always)]
     fn end_string(&mut self, _is_key: bool, is_text: bool) -> Result<(), AllocError> {
-        put_closing(is_text, self.out, &mut self.shown)?;
+        put_closing(is_text, self.out, self.shown)?;
         Ok(())
     }
 
@@ -177,7 +186,7 @@ impl<'a, 'o> Sink<'a> for TextSink<'o> {
         if indent >= MAX_DEPTH {
             return Err(AllocError);
         }
-        put_opener(major, number, self.out, &mut self.shown)?;
+        put_opener(major, number, self.out, self.shown)?;
         push(&mut self.around, self.inner)?;
         self.inner = Some(Open {
             kind: kind_of(major),
@@ -192,7 +201,7 @@ impl<'a, 'o> Sink<'a> for TextSink<'o> {
         let Some(open) = self.inner else {
             unreachable!();
         };
-        put_close(self.layout, open, self.out, &mut self.shown)?;
+        put_close(self.layout, open, self.out, self.shown)?;
         self.inner = self.around.pop();
         Ok(true)
     }

@@ -143,7 +143,7 @@ opens_in (v ∷ vs) = open_of (indent_in vs) v ∷ entered vs
 
 -- the text that it was given so far
 abbrev pub text_so_far : TextSink → List ℕ
-text_so_far g = g.shown.items ++ g.out.now.waiting.items
+text_so_far g = g.shown.now.items ++ g.out.now.waiting.items
 
 -- these are open in it
 abbrev pub AreOpen : Option Open → List Open → List Open → Type 0

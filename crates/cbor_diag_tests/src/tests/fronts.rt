@@ -1,7 +1,7 @@
 //! Items in their bytes, which were found to be valid.
 
 use super::views::ROWS;
-use cbor_diag::{diagnostic_front, diagnostic_front_indented};
+use cbor_diag::TextBuffer;
 use cbor_head::Limits;
 use cbor_reader::check_valid;
 use std::test::Fail;
@@ -10,13 +10,14 @@ use std::test::Fail;
 fn fronts_are_shown(rt: HostRuntime) -> Result<(), Fail> {
     let alloc = rt.alloc();
     let limits = Limits::new(256, 1 << 20).ok_or("limits")?;
+    let mut room = TextBuffer::new(alloc);
     for (digits, want) in &ROWS {
         let mut input = hex::decode(alloc, *digits)?;
         // What stands behind the item is no part of its text.
         input.push(0xff)?;
         check_valid(alloc, &input, limits)?;
-        let shown = diagnostic_front(alloc, &input, limits)?;
-        assert!(rt; shown.as_slice() == want.as_bytes());
+        let shown = room.diagnostic_front(&input, limits)?;
+        assert!(rt; shown == want.as_bytes());
     }
     Ok(())
 }
@@ -41,10 +42,11 @@ static LINES: [(&[u8], &[u8]); 4] = [
 fn fronts_are_shown_with_a_member_a_line(rt: HostRuntime) -> Result<(), Fail> {
     let alloc = rt.alloc();
     let limits = Limits::new(256, 1 << 20).ok_or("limits")?;
+    let mut room = TextBuffer::new(alloc);
     for &(input, want) in &LINES {
         check_valid(alloc, input, limits)?;
-        let shown = diagnostic_front_indented(alloc, input, limits)?;
-        assert!(rt; shown.as_slice() == want);
+        let shown = room.diagnostic_front_indented(input, limits)?;
+        assert!(rt; shown == want);
     }
     Ok(())
 }
