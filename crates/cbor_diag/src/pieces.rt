@@ -164,6 +164,7 @@ fn put_digits<W: Write>(bytes: &[u8], out: &mut Outbox, writer: &mut W) -> Resul
 }
 
 // The bytes of a text, escaped where they don't stand as they are.
+#[inline(always)]
 fn put_escaped<W: Write>(text: &[u8], out: &mut Outbox, writer: &mut W) -> Result<(), Stopped>
     ensures { Puts (W.contents writer.old) (W.contents writer.new) out.old out.new
         (flat_map escaped text.now) result }
@@ -208,6 +209,7 @@ fn put_escape<W: Write>(byte: u8, out: &mut Outbox, writer: &mut W) -> Result<()
 }
 
 // A line feed and two spaces for each level.
+#[inline(never)]
 pub(crate) fn put_new_line<W: Write>(
     level: u16,
     out: &mut Outbox,

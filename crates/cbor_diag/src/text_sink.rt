@@ -95,6 +95,7 @@ impl<'o> TextSink<'o> {
     }
 
     // Puts what stands before an item, and answers at how many levels of indentation it stands.
+    #[inline(always)]
     fn reach(&mut self, is_key: bool) -> Result<u16, Stopped>
         requires { IsItemDue TextSinkView text_stands is_key self.old }
         ensures { IfOk result (Reaches is_key self.old self.new) }
@@ -274,6 +275,7 @@ fn kind_of(major: Major) -> Kind
 }
 
 // The end of a container.
+#[inline(always)]
 fn put_close<W: Write>(
     layout: Layout,
     container: Open,

@@ -107,9 +107,7 @@ fn check_own_bytes(input: &[u8], limits: Limits, order: KeyOrder) -> Result<(), 
     }
 }
 
-// The input is one valid item; else why it is none. It has a frame of its own, which is gone as more
-// is done with the item.
-#[inline(never)]
+// The input is one valid item; else why it is none.
 pub(crate) fn check_whole_item(alloc: Global, input: &[u8], limits: Limits) -> Result<(), Refusal>
     ensures accepted { IfOk result (λ _. IsWholeItem limits input.now) }
     ensures refused { IfErr result (IsItemRefusal limits input.now) }
