@@ -17,7 +17,7 @@ from proved import CRATES, ITEM, ROOT, behind, crates
 CALLS = [
     "canonicalise", "check_valid", "check_canonical", "canonical_front", "same_meaning", "read_tree", "read_view", "read_strict", "Sequence::next",
     "StrictReader::next", "Machine::step", "EventReader::next", "Tree::of", "encode",
-    "CanonBuilder::end", "TreeBuilder::end", "diagnostic", "diagnostic_view", "listing", "explain", "read_item", "write_items", "perform", "run",
+    "CanonBuilder::end", "TreeBuilder::end", "diagnostic", "diagnostic_view", "TextBuffer::diagnostic_front", "listing", "explain", "read_item", "write_items", "perform", "run",
 ]
 
 # Heads, limits and reasons: each way takes them.

@@ -7,3 +7,5 @@ pub mod Putting
 pub mod ReadLeaves
 pub mod ReadBack
 pub mod Reading
+pub mod TextGiven
+pub mod TextLevels

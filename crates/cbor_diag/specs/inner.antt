@@ -3,3 +3,5 @@ pub mod Layout
 pub mod Outbox
 pub mod Levels
 pub mod Nodes
+pub mod Strings
+pub mod TextSinks

@@ -13,6 +13,8 @@
 //! }
 //! ```
 //!
+//! A [`TextBuffer`] has the text of an item that is known to be valid, from its bytes.
+//!
 //! [`listing`] reads an item and writes a line for each of its events, as they come;
 //! [`listing_from`] does so for an item of a sequence.
 #![tactic(auto)]
@@ -25,7 +27,10 @@ mod node;
 mod outbox;
 mod pieces;
 mod text;
+mod text_buffer;
+mod text_sink;
 mod walk;
 
 pub use event_listing::{listing, listing_from};
 pub use text::{diagnostic, diagnostic_indented, diagnostic_view, diagnostic_view_indented};
+pub use text_buffer::TextBuffer;

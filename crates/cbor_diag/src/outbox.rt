@@ -31,6 +31,21 @@ impl Outbox {
         }
     }
 
+    // Nothing waits, and none was taken.
+    pub(crate) fn clear(&mut self)
+        ensures { self.new.waiting.items ≡ [] }
+    {
+        self.waiting.clear();
+        self.taken = 0;
+    }
+
+    // What waits.
+    pub(crate) fn as_slice(&self) -> &[u8]
+        ensures { result.now ≡ self.now.waiting.items }
+    {
+        self.waiting.as_slice()
+    }
+
     // How many bytes the writer took.
     pub(crate) fn taken(&self) -> u64
         ensures { result ≡ self.now.taken }

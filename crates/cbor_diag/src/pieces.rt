@@ -5,6 +5,7 @@ ghost use Rattle.std.specs.Prelude.{flat_map, length, MatchResult};
 ghost use Rattle.hex.specs.Hex.{encode_lower};
 ghost use Rattle.cbor_diag.specs.IndentedText.{new_line};
 ghost use Rattle.cbor_diag.specs.inner.Outbox.{Puts};
+ghost use Rattle.cbor_diag.specs.inner.Strings.{opening, content_text, closing, string_text};
 ghost use Rattle.cbor_diag.specs.Text.{escaped, simple_text};
 
 use crate::outbox::{Outbox, Stopped};
@@ -66,23 +67,86 @@ pub(crate) fn put_simple<W: Write>(
     }
 }
 
-#[inline(never)]
-pub(crate) fn put_bytes<W: Write>(
-    bytes: &[u8],
+// A string of bytes or a text.
+pub(crate) fn put_string<W: Write>(
+    is_text: bool,
+    content: &[u8],
     out: &mut Outbox,
     writer: &mut W,
 ) -> Result<(), Stopped>
     ensures { Puts (W.contents writer.old) (W.contents writer.new) out.old out.new
-        (codes "h'" ++ encode_lower bytes.now ++ codes "'") result }
+        (string_text is_text content.now) result }
 {
-    out.put(writer, b"h'")?;
+    put_opening(is_text, out, writer)?;
+    put_content(is_text, content, out, writer)?;
+    put_closing(is_text, out, writer)
+}
+
+// What stands before the content of a string.
+#[inline(always)]
+pub(crate) fn put_opening<W: Write>(
+    is_text: bool,
+    out: &mut Outbox,
+    writer: &mut W,
+) -> Result<(), Stopped>
+    ensures { Puts (W.contents writer.old) (W.contents writer.new) out.old out.new
+        (opening is_text) result }
+{
+    if is_text {
+        out.put(writer, b"\"")
+    } else {
+        out.put(writer, b"h'")
+    }
+}
+
+// The content of a string, or a part of it: whatever it is cut into, each byte is put alone.
+#[inline(always)]
+pub(crate) fn put_content<W: Write>(
+    is_text: bool,
+    content: &[u8],
+    out: &mut Outbox,
+    writer: &mut W,
+) -> Result<(), Stopped>
+    ensures { Puts (W.contents writer.old) (W.contents writer.new) out.old out.new
+        (content_text is_text content.now) result }
+{
+    if is_text {
+        put_escaped(content, out, writer)
+    } else {
+        put_hex(content, out, writer)
+    }
+}
+
+// What stands behind the content of a string.
+#[inline(always)]
+pub(crate) fn put_closing<W: Write>(
+    is_text: bool,
+    out: &mut Outbox,
+    writer: &mut W,
+) -> Result<(), Stopped>
+    ensures { Puts (W.contents writer.old) (W.contents writer.new) out.old out.new
+        (closing is_text) result }
+{
+    if is_text {
+        out.put(writer, b"\"")
+    } else {
+        out.put(writer, b"'")
+    }
+}
+
+// Two digits a byte, of however many.
+#[inline(never)]
+fn put_hex<W: Write>(bytes: &[u8], out: &mut Outbox, writer: &mut W) -> Result<(), Stopped>
+    ensures { Puts (W.contents writer.old) (W.contents writer.new) out.old out.new
+        (encode_lower bytes.now) result }
+{
     let mut at = 0;
     while at < bytes.len() {
         let end = bytes.len().min(at + HEX_RUN);
         put_digits(&bytes[at..end], out, writer)?;
         at = end;
     }
-    out.put(writer, b"'")
+    Ok(())
 }
 
 // Two digits a byte.
@@ -99,15 +163,12 @@ fn put_digits<W: Write>(bytes: &[u8], out: &mut Outbox, writer: &mut W) -> Resul
     }
 }
 
-pub(crate) fn put_text<W: Write>(
-    text: &[u8],
-    out: &mut Outbox,
-    writer: &mut W,
-) -> Result<(), Stopped>
+// The bytes of a text, escaped where they don't stand as they are.
+#[inline(always)]
+fn put_escaped<W: Write>(text: &[u8], out: &mut Outbox, writer: &mut W) -> Result<(), Stopped>
     ensures { Puts (W.contents writer.old) (W.contents writer.new) out.old out.new
-        (codes "\"" ++ flat_map escaped text.now ++ codes "\"") result }
+        (flat_map escaped text.now) result }
 {
-    out.put(writer, b"\"")?;
     let mut start = 0;
     for (at, byte) in text.iter().enumerate() {
         if !is_raw(*byte) {
@@ -116,8 +177,7 @@ pub(crate) fn put_text<W: Write>(
             start = at + 1;
         }
     }
-    out.put(writer, &text[start..])?;
-    out.put(writer, b"\"")
+    out.put(writer, &text[start..])
 }
 
 // Whether a byte of a text stands as it is. Small letters are known by the first comparison.
@@ -149,6 +209,7 @@ fn put_escape<W: Write>(byte: u8, out: &mut Outbox, writer: &mut W) -> Result<()
 }
 
 // A line feed and two spaces for each level.
+#[inline(never)]
 pub(crate) fn put_new_line<W: Write>(
     level: u16,
     out: &mut Outbox,

@@ -11,7 +11,7 @@ ghost use Rattle.cbor_diag.specs.inner.Outbox.{Puts};
 use crate::layout::{Layout, put_end, put_gap};
 use crate::node::{Node, Part};
 use crate::outbox::{Outbox, Stopped};
-use crate::pieces::{put_bytes, put_negative, put_number, put_simple, put_text};
+use crate::pieces::{put_negative, put_number, put_simple, put_string};
 use cbor_head::MAX_DEPTH;
 use std::io::Write;
 
@@ -182,11 +182,11 @@ fn begin<'a, N: Node, W: Write>(
             Ok(None)
         }
         Part::Bytes(bytes) => {
-            put_bytes(bytes, out, writer)?;
+            put_string(false, bytes, out, writer)?;
             Ok(None)
         }
         Part::Text(text) => {
-            put_text(text.as_bytes(), out, writer)?;
+            put_string(true, text.as_bytes(), out, writer)?;
             Ok(None)
         }
         Part::Array(items) => {

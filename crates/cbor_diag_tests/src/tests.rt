@@ -1,6 +1,7 @@
 //! Texts of items written out by hand.
 
 mod failed;
+mod fronts;
 mod listing_tables;
 mod listings;
 mod streams;

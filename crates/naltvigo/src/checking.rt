@@ -108,7 +108,7 @@ fn check_own_bytes(input: &[u8], limits: Limits, order: KeyOrder) -> Result<(), 
 }
 
 // The input is one valid item; else why it is none.
-fn check_whole_item(alloc: Global, input: &[u8], limits: Limits) -> Result<(), Refusal>
+pub(crate) fn check_whole_item(alloc: Global, input: &[u8], limits: Limits) -> Result<(), Refusal>
     ensures accepted { IfOk result (λ _. IsWholeItem limits input.now) }
     ensures refused { IfErr result (IsItemRefusal limits input.now) }
     ensures not_accepted { IfErr result (λ f. f.reason ≢ reasons.Memory

@@ -1,23 +1,18 @@
 //! Diagnostic text into a buffer of the caller's.
 
-ghost use Rattle.std.specs.Prelude.{◌≡◌, ◌≢◌, ◌⊎◌, ◌<◌, ◌≤◌, ℕ, List, length, take, drop, IfSome};
-ghost use Rattle.cbor_diag.specs.Text.{text};
-ghost use Rattle.cbor_head.specs.Value.{depth};
-ghost use Rattle.cbor_head.specs.declared.limits.TheConstants.{MAX_DEPTH};
+ghost use Rattle.std.specs.Prelude.{◌≡◌, ◌≢◌, ◌⊎◌, ◌<◌, ◌≤◌, ℕ, List, length, take, drop};
 ghost use Rattle.cbor_reader.specs.WholeItem.{IsWholeItem};
-ghost use Rattle.cbor_view.specs.Seen.{seen};
 ghost use Rattle.naltvigo.specs.Checking.{IsNotValid};
 ghost use Rattle.naltvigo.specs.Diagnosing.{IsTextOf, TextLacksMemory};
 ghost use Rattle.naltvigo.specs.Settings.{item_limits, AreLimits};
 
 use crate::buffer::give;
+use crate::checking::check_whole_item;
 use crate::settings::limits_of;
 use crate::status::{BAD_LIMITS, NO_MEMORY, NaltvigoRefusal, OK, REFUSED, TOO_SMALL, tell, told};
-use crate::whole::view_of;
-use bumpalo::Bump;
-use cbor_diag::diagnostic_view;
-use cbor_head::{Reason, Refusal};
-use cbor_view::View;
+use cbor_diag::TextBuffer;
+use cbor_head::{Limits, Reason, Refusal};
+use cbor_reader::laws::valid_items;
 use std::alloc::Global;
 
 /// Writes the diagnostic text (RFC 8949, section 8) of the one valid item that `input` is to the
@@ -56,30 +51,42 @@ pub extern "C" fn naltvigo_diagnostic_raw(
     let Some(limits) = limits_of(keys, depth, bytes) else {
         return BAD_LIMITS;
     };
-    let arena = Bump::new(alloc);
-    let view = match view_of(alloc, input, limits, &arena) {
-        Ok(view) => view,
-        Err(reason) => return tell(reason, refusal),
-    };
-    match text_of(alloc, &view) {
-        Some(text) => give(text.as_slice(), out, needed),
-        None => {
-            *refusal = told(Refusal::at(Reason::Memory, input.len() as u64));
-            NO_MEMORY
-        }
+    match check_whole_item(alloc, input, limits) {
+        Ok(()) => give_text(alloc, input, limits, out, needed, refusal),
+        Err(reason) => tell(reason, refusal),
     }
 }
 
-// The text; none where memory is refused. It has a frame of its own, which is not there yet as the
-// view is read.
+// Gives the text of the one valid item that the input is. The room for it is in a frame of its own,
+// which is not there yet as the input is checked.
 #[inline(never)]
-fn text_of(alloc: Global, view: &View<'_>) -> Option<Vec<u8>>
-    requires { depth (seen view.now) ≤ MAX_DEPTH }
-    ensures { IfSome result (λ v. v.items ≡ text (seen view.now)) }
+fn give_text(
+    alloc: Global,
+    input: &[u8],
+    limits: Limits,
+    out: &mut [u8],
+    needed: &mut usize,
+    refusal: &mut NaltvigoRefusal,
+) -> u32
+    requires { IsWholeItem limits input.now }
+    ensures written { result ≡ OK → IsTextOf limits input.now (take needed.new out.new) }
+    ensures room { result ≡ OK → needed.new ≤ length out.old }
+    ensures too_small { result ≡ TOO_SMALL → (x : List ℕ) × IsTextOf limits input.now x
+        × (needed.new ≡ length x) × (length out.old < length x) }
+    ensures no_memory { result ≡ NO_MEMORY → TextLacksMemory limits input.now refusal.new }
+    ensures statuses { (result ≡ OK) ⊎ (result ≡ TOO_SMALL) ⊎ (result ≡ NO_MEMORY) }
+    ensures kept { (result ≢ OK → out.new ≡ out.old)
+        × (drop needed.new out.new ≡ drop needed.new out.old) }
+    ensures no_count { result ≢ OK → result ≢ TOO_SMALL → needed.new ≡ needed.old }
+    ensures untold { result ≢ NO_MEMORY → refusal.new ≡ refusal.old }
 {
-    let mut shown = Vec::new(alloc);
-    match diagnostic_view(view, &mut shown) {
-        Ok(_) => Some(shown),
-        Err(_) => None,
+    valid_items();
+    let mut room = TextBuffer::new(alloc);
+    match room.diagnostic_front(input, limits) {
+        Ok(text) => give(text, out, needed),
+        Err(_) => {
+            *refusal = told(Refusal::at(Reason::Memory, input.len() as u64));
+            NO_MEMORY
+        }
     }
 }

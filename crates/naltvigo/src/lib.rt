@@ -23,7 +23,6 @@ mod status;
 mod streaming;
 #[cfg(test)]
 mod tests;
-mod whole;
 
 pub use canonicalising::naltvigo_canonicalise_raw;
 pub use checking::{naltvigo_check_canonical_raw, naltvigo_check_valid_raw};

@@ -8,7 +8,7 @@ use std::test::Fail;
 
 // Items in hex, and their diagnostic text, as RFC 8949, Appendix A, has both. Of a string in chunks
 // and of containers without a length it is the text of their value.
-static ROWS: [(&[u8], &str); 20] = [
+pub(crate) static ROWS: [(&[u8], &str); 20] = [
     (b"00", "0"),
     (b"1903e8", "1000"),
     (b"1bffffffffffffffff", "18446744073709551615"),

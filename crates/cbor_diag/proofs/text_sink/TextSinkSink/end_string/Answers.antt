@@ -1,0 +1,6 @@
+use Rattle.std.proofs.Common.{refl}
+use Rattle.cbor_diag.proofs.TextGiven.{string-ended}
+use Rattle.cbor_diag.proofs.text_sink.TextSinkSink.end_string.Goals as goal
+
+pub returns : goal.returns
+returns c = string-ended c.args._is_key c.args.is_text c.args.self.now _ c.in_ok-put_closing.ensures refl refl refl
