@@ -78,9 +78,9 @@ impl TextBuffer {
         self.out.clear();
         let sink = TextSink::new(self.alloc, layout, &mut self.shown, &mut self.out);
         match give_front(sink, bytes, limits) {
-            Some((sink, _)) => sink.finish(),
+            Ok((sink, _)) => sink.finish(),
             // The item is valid, so memory was refused.
-            None => Err(AllocError),
+            Err(_) => Err(AllocError),
         }
     }
 }

@@ -206,6 +206,11 @@ impl<'a, 'o> Sink<'a> for TextSink<'o> {
         self.inner = self.around.pop();
         Ok(true)
     }
+
+    // It keeps none.
+    fn has_equal_keys(self) -> bool {
+        true
+    }
 }
 
 impl From<Stopped> for AllocError {

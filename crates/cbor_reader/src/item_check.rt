@@ -47,7 +47,7 @@ impl ItemCheck {
             self.pause -= 1;
             return self.check_any(bytes, limits);
         }
-        match check_canonical(bytes, limits, KeyOrder::Bytewise) {
+        match canonical_size(bytes, limits) {
             Ok(size) => return Ok(size),
             // It says nothing of the items behind this one.
             Err(refusal) if refusal.reason == Reason::Truncated => {}
@@ -56,8 +56,8 @@ impl ItemCheck {
         self.check_any(bytes, limits)
     }
 
-    // The same of any item, by its keys.
-    fn check_any(&mut self, bytes: &[u8], limits: Limits) -> Result<u64, Refusal>
+    /// The same of any item, by its keys.
+    pub(crate) fn check_any(&mut self, bytes: &[u8], limits: Limits) -> Result<u64, Refusal>
         ensures accepted { IfOk result (λ count. IsRead limits plain bytes.now count) }
         ensures refused { IfErr result (λ f. IsUnread limits plain bytes.now f) }
         ensures no_read { IfErr result (λ f. f.reason ≢ reasons.Read) }
@@ -71,4 +71,12 @@ impl ItemCheck {
             },
         }
     }
+}
+
+/// How many bytes the item has that the slice begins with, if they are its canonical bytes by the
+/// order of RFC 8949. Else it may be valid.
+pub(crate) fn canonical_size(bytes: &[u8], limits: Limits) -> Result<u64, Refusal>
+    ensures { IfOk result (λ count. IsRead limits plain bytes.now count) }
+{
+    check_canonical(bytes, limits, KeyOrder::Bytewise)
 }

@@ -5,7 +5,7 @@ ghost use Rattle.cbor_head.specs.Complaint.{plain};
 ghost use Rattle.cbor_head.specs.declared.reason.Reason.TheVariants as reasons;
 ghost use Rattle.cbor_judging.specs.Readers.{IsRead, IsUnread};
 
-use crate::item_check::ItemCheck;
+use crate::item_check::{ItemCheck, canonical_size};
 use cbor_head::{Limits, Refusal};
 use std::alloc::Global;
 
@@ -21,5 +21,8 @@ pub fn check_valid(alloc: Global, bytes: &[u8], limits: Limits) -> Result<u64, R
     ensures refused { IfErr result (λ f. IsUnread limits plain bytes.now f) }
     ensures no_read { IfErr result (λ f. f.reason ≢ reasons.Read) }
 {
-    ItemCheck::new(alloc).check(bytes, limits)
+    match canonical_size(bytes, limits) {
+        Ok(size) => Ok(size),
+        Err(_) => ItemCheck::new(alloc).check_any(bytes, limits),
+    }
 }

@@ -10,9 +10,9 @@ use Rattle.cbor_diag.proofs.text_buffer.TextBuffer.text_of_front.Goals as goal
 same-item : {s t : Spelling} → accepted s ≡ accepted t → s ≡ t
 same-item e = cc e
 
-pub returns-in-Some : goal.returns-in-Some
-returns-in-Some c =
-    let given = c.in-Some.ensures in
+pub returns-in-Ok : goal.returns-in-Ok
+returns-in-Ok c =
+    let given = c.in-Ok.ensures in
     let item = given.read.item in
     IfOk-weaker c.finish.result _ _
     (λ shown h s v.

@@ -1,5 +1,0 @@
-use Rattle.cbor_reader.proofs.CanonicalFronts.{canonical_read}
-use Rattle.cbor_reader.proofs.item_check.ItemCheck.check.Goals as goal
-
-pub returns-in-Ok-clause-accepted : goal.returns-in-Ok-clause-accepted
-returns-in-Ok-clause-accepted c = canonical_read c.args.limits _ c.args.bytes.now c.in-Ok.size c.in-Ok.ensures.canonical
