@@ -1,10 +1,10 @@
 -- A sink that writes the text of the parts that it is given: where it stands behind each.
 use Rattle.std.proofs.Common.{◌≡◌, ℕ, zero, suc, ◌+◌, ◌<◌, Bool, true, false, List, [], ◌∷◌, ◌++◌, codes, decimal, Option, Some, None, length, refl, sym, ap, ap₂, ◌∙◌, subst, append_assoc, append-nil, length-append, inl, inr, arith}
-use Rattle.std.specs.Prelude.{flat_map, reverse, IsSome, option_to_list}
+use Rattle.std.specs.Prelude.{reverse, IsSome, option_to_list}
 use Rattle.std.proofs.lemmas.List.{reverse-append, same_from_push}
 use Rattle.std.proofs.lemmas.List.Concat.{flat_map-append}
 use Rattle.hex.specs.Hex.{encode_with, lower_digits}
-use Rattle.cbor_head.specs.Spelling.{Spelling, Spellings, SpelledEntries, array, a_map, tag, no_spellings, a_spelling, no_entries, entry, value_of}
+use Rattle.cbor_head.specs.Spelling.{Spelling, Spellings, SpelledEntries, array, a_map, no_spellings, a_spelling, no_entries, entry, value_of}
 use Rattle.cbor_head.specs.Value.{Value}
 use Rattle.cbor_head.specs.declared.limits.TheConstants.{MAX_DEPTH}
 use Rattle.cbor_head.specs.declared.major.Major.{Major}
@@ -16,14 +16,13 @@ use Rattle.cbor_judging.specs.Reading.{string_value}
 use Rattle.cbor_walk.specs.Sink.{leaf_value, Told, IsOpened, IsEndedAs, StandsFull, IsContainerFull, Gives, Opens, Ends, BeginsString, GrowsString, EndsString}
 use Rattle.cbor_diag.specs.Text.{text, escaped}
 use Rattle.cbor_diag.specs.declared.layout.Layout.{Layout}
-use Rattle.cbor_diag.specs.declared.outbox.Outbox.{Outbox}
 use Rattle.cbor_diag.specs.declared.text_sink.Kind.TheVariants as kinds
 use Rattle.cbor_diag.specs.declared.text_sink.Open.{Open}
 use Rattle.cbor_diag.specs.declared.text_sink.TextSink.{TextSink}
 use Rattle.cbor_diag.specs.inner.Layout.{gap, laid_out}
 use Rattle.cbor_diag.specs.inner.Outbox.{HasPut}
 use Rattle.cbor_diag.specs.inner.Strings.{opening, content_text, closing, string_text}
-use Rattle.cbor_diag.specs.inner.TextSinks.{opener, kind_of, an_open, close_text, none_in, no_pair_in, members_put, pairs_put, level_text, open_of, indent_in, text_to, entered, AreOpen, IsAt, Closes, text_stands, text_holds, Reaches}
+use Rattle.cbor_diag.specs.inner.TextSinks.{opener, kind_of, an_open, close_text, none_in, no_pair_in, members_put, pairs_put, level_text, open_of, indent_in, text_to, entered, AreOpen, IsAt, text_stands, text_holds, Reaches}
 use Rattle.cbor_diag.proofs.PieceTexts.{encode-append}
 use Rattle.cbor_diag.proofs.TextLevels.{closes-array, closes-map, some-in, a-pair-in, member-more, pair-more, in-array, behind-key, in-map}
 

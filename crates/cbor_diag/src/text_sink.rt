@@ -183,7 +183,7 @@ impl<'a, 'o> Sink<'a> for TextSink<'o> {
     #[inline(always)]
     fn begin(&mut self, is_key: bool, major: Major, number: u64) -> Result<(), AllocError> {
         let indent = self.reach(is_key)?;
-        // No item is deeper.
+        // No limits let an item be deeper, which a sink is not told.
         if indent >= MAX_DEPTH {
             return Err(AllocError);
         }

@@ -1,6 +1,5 @@
-use Rattle.std.proofs.Common.{List, ℕ, arith, sym, subst}
+use Rattle.std.proofs.Common.{arith}
 use Rattle.std.proofs.lemmas.Result.{err_from_is_err_and}
-use Rattle.cbor_diag.specs.inner.Outbox.{HasPut}
 use Rattle.cbor_diag.proofs.Putting.{puts-nothing}
 use Rattle.cbor_diag.proofs.PieceTexts.{no-digits, digits-put, digits-stop, digits-end}
 use Rattle.cbor_diag.proofs.pieces.put_hex.Goals as goal
