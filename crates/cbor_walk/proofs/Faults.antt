@@ -10,8 +10,8 @@ use Rattle.cbor_head.specs.declared.reason.Refusal.{Refusal}
 use Rattle.cbor_head.specs.declared.width.Width.{Width}
 use Rattle.cbor_grammar.specs.FirstBytes.{is_basic}
 use Rattle.cbor_judging.specs.Judged.{Never}
-use Rattle.cbor_walk.specs.inner.Items.{IsPlaced, IsMisplaced, IsRefusedBy, IsStringWhole, IsStringRefused, IsFault, IsKeyAsked}
-use Rattle.cbor_walk.specs.inner.Kept.{IsFitFront, KeepsHere}
+use Rattle.cbor_walk.specs.inner.Items.{IsPlaced, IsMisplaced, IsRefusedBy, IsStringWhole, IsStringRefused, IsFault}
+use Rattle.cbor_walk.specs.inner.Kept.{IsFitFront}
 use Rattle.cbor_walk.specs.declared.argument.Argument.{Argument}
 use Rattle.cbor_walk.proofs.AnyRefusals.{nothing_here, misplaced_stops}
 use Rattle.cbor_walk.proofs.OtherKeys.{kind_refused}

@@ -1,12 +1,12 @@
 -- The open containers of a valid item so far, of which no map has two keys that are the same, as the path to the item that is due.
-use Rattle.std.proofs.Common.{◌≡◌, ℕ, suc, ◌+◌, ◌-◌, ◌^◌, ◌<◌, Bool, true, false, List, [], ◌∷◌, ◌++◌, length, map, get_or, refl, sym, ap, ap₂, ◌∙◌, subst, inl, inr, arith}
+use Rattle.std.proofs.Common.{◌≡◌, ℕ, suc, ◌+◌, ◌-◌, ◌^◌, ◌<◌, true, List, [], ◌∷◌, ◌++◌, length, map, get_or, refl, sym, ap, ap₂, ◌∙◌, subst, inl, inr, arith}
 use Rattle.std.specs.List.{AllByRecursion}
 use Rattle.std.specs.Prelude.{◌≢◌}
-use Rattle.std.proofs.lemmas.List.{length-append}
+use Rattle.std.proofs.lemmas.List.{length-append, map-append}
 use Rattle.cbor_head.specs.Canonical.{Pair, canonical, canonical_entries}
 use Rattle.cbor_head.specs.Complaint.{plain, Complaint, OfKey, ComplainsInEntries}
-use Rattle.cbor_head.specs.Head.{Holds, head}
-use Rattle.cbor_head.specs.Spelling.{Spelling, SpelledEntries, no_entries, entry, spell, spell_entries, spellings_count, entries_count, HoldsOrIndefinite, value_of, entries_of}
+use Rattle.cbor_head.specs.Head.{head}
+use Rattle.cbor_head.specs.Spelling.{Spelling, SpelledEntries, no_entries, entry, spell, spell_entries, entries_count, HoldsOrIndefinite, value_of, entries_of}
 use Rattle.cbor_head.specs.declared.major.Major.TheVariants as majors
 use Rattle.cbor_head.specs.declared.order.KeyOrder.{KeyOrder}
 use Rattle.cbor_head.specs.declared.width.Width.{Width}
@@ -66,12 +66,8 @@ paths_bytes (l ∷ ls) = ap₂ (λ (x y : List ℕ). x ++ y) (paths_bytes ls) (p
 
 -- ---- keys
 
-abbrev pub keys : List Pair → List (List ℕ)
+abbrev keys : List Pair → List (List ℕ)
 keys ps = map (λ (p : Pair). p.key) ps
-
-pub keys_more : (ps : List Pair) (k b : List ℕ) → keys (ps ++ pair k b ∷ []) ≡ keys ps ++ k ∷ []
-keys_more [] k b = refl
-keys_more (p ∷ ps) k b = ap (λ (x : List (List ℕ)). p.key ∷ x) (keys_more ps k b)
 
 differ : (ps : List Pair) (k : List ℕ) → ((i : ℕ) → i < length (keys ps) → get_or (keys ps) i [] ≡ k → ⊥) → AllByRecursion (λ q. q.key ≢ k) ps
 differ [] k h = tt
@@ -108,7 +104,7 @@ module _ (o : KeyOrder) (d : ℕ) (es : SpelledEntries) (k : Spelling) (h : AreP
       let zero_taken : IsTaken d zero_item = record { spelled = z; within = omega arith; clean = λ at c x. cc x.0 } in
       let size : length (spell_entries more) < 2 ^ 64 =
       omega (arith, short, ap length (spell_entries_with es (entry k zero_item no_entries)), length-append (spell_entries es) (spell_entries (entry k zero_item no_entries)), length-append (spell k ++ spell zero_item) [], length-append (spell k) (spell zero_item)) in
-      let all = ap keys (entries-more o es k zero_item) ∙ keys_more (canonical_entries o (entries_of es)) (canonical o (value_of k)) (canonical o (value_of zero_item)) in
+      let all = ap keys (entries-more o es k zero_item) ∙ map-append (λ (p : Pair). p.key) (canonical_entries o (entries_of es)) (pair (canonical o (value_of k)) (canonical o (value_of zero_item)) ∷ []) in
       pairs_quiet o d more (pairs-more d es k zero_item h i zero_taken) size (subst AreAllDifferent (sym all) apart)
 
   before_quiet : (at : ℕ) → Never (ComplainsInEntries plain at [] es)

@@ -1,7 +1,7 @@
 -- What stands where an item is due, by the rules of the deterministic encoding.
 use Rattle.std.specs.Prelude.{◌≡◌, ℕ, suc, ◌+◌, ◌-◌, ◌^◌, ◌%◌, ◌<◌, ◌≤◌, ◌⊎◌, ◌++◌, Bool, true, false, IsTrue, IsUtf8, List, [], ◌∷◌, length, take, drop, get_or}
 use Rattle.cbor_head.specs.Complaint.{Rules, plain, strict, OfHead}
-use Rattle.cbor_head.specs.Head.{shortest, shortest_head}
+use Rattle.cbor_head.specs.Head.{shortest_head}
 use Rattle.cbor_head.specs.Limits.{Bounds}
 use Rattle.cbor_head.specs.declared.keys.Keys.TheVariants.{IntegersAndTexts}
 use Rattle.cbor_head.specs.declared.major.Major.{Major}

@@ -1,7 +1,5 @@
-use Rattle.std.proofs.Common.{ℕ, ◌+◌, ◌-◌, ◌≤◌, List, ◌∷◌, length, get_or, ap, sym, subst, arith}
+use Rattle.std.proofs.Common.{ℕ, ◌+◌, ◌-◌, ◌≤◌, List, ◌∷◌, length, get_or, ap, arith}
 use Rattle.std.proofs.lemmas.List.{length-take-le}
-use Rattle.cbor_head.specs.declared.reason.Refusal.{Refusal}
-use Rattle.cbor_walk.specs.inner.Items.{IsRefusedBy}
 use Rattle.cbor_walk.proofs.AnyRefusals.{refused_same, payload_cut_here, no_text_here}
 use Rattle.cbor_walk.proofs.any_item.string_fault.Goals as goal
 

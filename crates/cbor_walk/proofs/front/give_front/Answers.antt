@@ -1,5 +1,4 @@
 use Rattle.std.proofs.Common.{◌≡◌, ◌∙◌, ◌-◌, List, ℕ, take, length, refl, ap, subst}
-use Rattle.cbor_head.specs.Complaint.{plain}
 use Rattle.cbor_head.specs.Spelling.{spell}
 use Rattle.cbor_walk.specs.inner.Building.{IsBuilt, Keeps}
 use Rattle.cbor_walk.proofs.GivenParts.{known-begins, front-given}

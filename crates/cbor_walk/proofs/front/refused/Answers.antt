@@ -1,4 +1,4 @@
-use Rattle.std.proofs.Common.{◌≡◌, ◌∙◌, ◌<◌, ℕ, nat_lt, List, refl, sym, ap, subst, arith}
+use Rattle.std.proofs.Common.{◌∙◌, ℕ, nat_lt, refl, sym, ap, subst, arith}
 use Rattle.cbor_keys.proofs.KeyFronts.{are_bytes}
 use Rattle.cbor_walk.specs.inner.Stop.{IsAnswered}
 use Rattle.cbor_walk.proofs.GivenStops.{stopped-there}
