@@ -117,18 +117,19 @@ def too_little(place):
     place.put("out", BEFORE)
     files = ["wide", "second", "out"]
     within = ["--bytes", "100000000"]
-    # The latter is enough for the item, and not for its canonical bytes too; a view keeps no bytes of a string.
-    few, more = limited(start() + 16 * 1024), limited(start() + 2 * size // 1024)
+    # The second is enough for the item, and not for its canonical bytes or its text too, the last for all.
+    few, more, most = (limited(start() + room // 1024) for room in (16 << 20, 2 * size, 8 * size))
     expect("check within more", place.run(["check", *within, "wide"], preexec_fn=more), 0, b"accepted 40000005 bytes\n")
-    shown = place.run(["show", *within, "wide"], preexec_fn=more)
+    shown = place.run(["show", *within, "wide"], preexec_fn=most)
     if (shown.returncode, shown.stdout) != (0, b"h'" + b"00" * size + b"'\n"):
-        faults.append(f"show within more: status {shown.returncode}, {len(shown.stdout)} bytes")
+        faults.append(f"show within most: status {shown.returncode}, {len(shown.stdout)} bytes")
     rows = [
         (few, ["check", *within, "wide"], MEMORY),
         (few, ["check", "--strict", *within, "wide"], MEMORY),
         (few, ["check", "--explain", *within, "wide"], MEMORY + b"  A lower --bytes asks for less memory.\n"),
         (few, ["check", "--seq", *within, "second"], MEMORY),
         (few, ["show", *within, "wide"], MEMORY),
+        (more, ["show", *within, "wide"], MEMORY),
         (few, ["events", *within, "wide"], MEMORY),
         (few, ["compare", *within, "wide", "wide"], MEMORY),
         (few, ["canon", *within, "wide", "out"], MEMORY),

@@ -2,6 +2,5 @@ pub mod Faults
 mod Items
 pub mod NoInput
 mod ReadParts
-mod Shown
 mod Sources
 mod Undecided

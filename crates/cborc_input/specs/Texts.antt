@@ -1,5 +1,6 @@
 -- What is written of an item: canonical bytes in a form, and diagnostic text in a layout.
-use Rattle.std.specs.Prelude.{ℕ, ◌≡◌, ◌++◌, List, codes}
+use Rattle.std.specs.Prelude.{ℕ, ◌≡◌, ◌<◌, ◌++◌, List, length, take, codes, Option}
+use Rattle.std.specs.Io.KnownBytes.{Appends}
 use Rattle.hex.specs.Hex.{encode_lower}
 use Rattle.cbor_head.specs.Limits.{Bounds}
 use Rattle.cbor_head.specs.declared.order.KeyOrder.{KeyOrder}
@@ -38,3 +39,9 @@ IsNoText limits o input _ = ⊥
 abbrev pub shown_text : Layout → Value → List ℕ
 shown_text OneLine v = text v ++ codes "\n"
 shown_text Indented v = indented 0 v ++ codes "\n"
+
+-- why a text was not taken whole: the output failed behind the first of its bytes, or memory was refused before
+abbrev pub IsNotTaken : List ℕ → Option (List ℕ) → Option (List ℕ) → Fault → Type 0
+IsNotTaken text before after faults.CannotPrint = (count : ℕ) × (count < length text) × Appends before after (take count text)
+IsNotTaken text before after faults.Memory = after ≡ before
+IsNotTaken text before after _ = ⊥

@@ -1,25 +1,36 @@
-//! How many bytes the item has at the front of some bytes.
+//! The item at the front of some bytes: how many bytes it has, and its diagnostic text.
 
-ghost use Rattle.std.specs.Prelude.{IfOk, IfErr};
+ghost use Rattle.std.specs.Prelude.{◌≡◌, ◌≢◌, ◌++◌, ℕ, codes, OnOk, IfOk, IfErr};
+ghost use Rattle.std.specs.Io.KnownBytes.{Appends};
+ghost use Rattle.cbor_head.specs.Complaint.{plain};
+ghost use Rattle.cbor_head.specs.Spelling.{Spelling, value_of};
+ghost use Rattle.cbor_head.specs.Verdict.{IsVerdict, accepted};
 ghost use Rattle.cbor_judging.specs.Readers.{IsRead, IsUnread};
 ghost use Rattle.cborc_input.specs.Rules.{rules_of};
+ghost use Rattle.cborc_input.specs.Texts.{shown_text, IsNotTaken};
 
-use crate::request::Accepted;
+use crate::fault::Fault;
+use crate::request::{Accepted, Layout};
+use cbor_diag::TextBuffer;
 use cbor_head::{Limits, Refusal};
+use cbor_item::write_whole;
 use cbor_reader::{ItemCheck, check_canonical};
-use std::alloc::Global;
+use std::alloc::{AllocError, Global};
+use std::io::Write;
 
-/// What tells how many bytes items have, one after another. It keeps the memory that it took.
+/// Room for what is made of items, one after another. It keeps the memory that it took.
 #[derive(Drop)]
-pub struct Sizes {
+pub struct Room {
     check: ItemCheck,
+    text: TextBuffer,
 }
 
-impl Sizes {
+impl Room {
     /// Of no item so far. Takes no memory.
-    pub fn new(alloc: Global) -> Sizes {
-        Sizes {
+    pub fn new(alloc: Global) -> Room {
+        Room {
             check: ItemCheck::new(alloc),
+            text: TextBuffer::new(alloc),
         }
     }
 
@@ -37,5 +48,62 @@ impl Sizes {
             Accepted::Valid => self.check.check(bytes, limits),
             Accepted::Canonical(order) => check_canonical(bytes, limits, order),
         }
+    }
+
+    /// Writes the text of the item that the bytes begin with, which is known to be valid within these
+    /// limits, and a line feed. The text is made whole before the first byte is written.
+    pub fn print_front<'a, O: Write>(
+        &mut self,
+        bytes: &[u8],
+        limits: Limits,
+        layout: Layout,
+        out: &mut O,
+    ) -> Result<(), Fault<'a>>
+        requires { (size : ℕ) × IsRead limits plain bytes.now size }
+        ensures shown { OnOk result ((s : Spelling) → IsVerdict limits plain bytes.now (accepted s)
+            → Appends (O.contents out.old) (O.contents out.new) (shown_text layout (value_of s))) }
+        ensures fault { IfErr result (λ fault. (s : Spelling)
+            → IsVerdict limits plain bytes.now (accepted s)
+            → IsNotTaken (shown_text layout (value_of s)) (O.contents out.old) (O.contents out.new) fault) }
+        ensures silent { IfErr result (λ fault. fault ≢ Fault.CannotPrint → out.new ≡ out.old) }
+    {
+        match self.text_at_front(bytes, limits, layout) {
+            Ok(text) => print_line(text, out),
+            Err(_) => Err(Fault::Memory),
+        }
+    }
+
+    // The text of such an item in a layout.
+    fn text_at_front(
+        &mut self,
+        bytes: &[u8],
+        limits: Limits,
+        layout: Layout,
+    ) -> Result<&[u8], AllocError>
+        requires { (size : ℕ) × IsRead limits plain bytes.now size }
+        ensures { IfOk result (λ text. (s : Spelling) → IsVerdict limits plain bytes.now (accepted s)
+            → text.now ++ codes "\n" ≡ shown_text layout (value_of s)) }
+    {
+        match layout {
+            Layout::OneLine => self.text.diagnostic_front(bytes, limits),
+            Layout::Indented => self.text.diagnostic_front_indented(bytes, limits),
+        }
+    }
+}
+
+// Writes a text and a line feed.
+fn print_line<'a, O: Write>(text: &[u8], out: &mut O) -> Result<(), Fault<'a>>
+    ensures shown { OnOk result
+        (Appends (O.contents out.old) (O.contents out.new) (text.now ++ codes "\n")) }
+    ensures fault { IfErr result (λ fault. fault ≡ Fault.CannotPrint) }
+    ensures cut { IfErr result (IsNotTaken (text.now ++ codes "\n")
+        (O.contents out.old) (O.contents out.new)) }
+{
+    match write_whole(out, text) {
+        Ok(()) => match write_whole(out, b"\n") {
+            Ok(()) => Ok(()),
+            Err(_) => Err(Fault::CannotPrint),
+        },
+        Err(_) => Err(Fault::CannotPrint),
     }
 }

@@ -18,10 +18,10 @@ mod status;
 mod texts;
 
 pub use fault::Fault;
-pub use front::Sizes;
+pub use front::Room;
 pub use input::read_item;
 pub use listing::{is_undecided, list_front};
 pub use request::{Accepted, Form, Layout, Manner, Options, Output, Request, Task};
 pub use sequence::{ItemWriter, unless_cut, write_items};
 pub use status::Status;
-pub use texts::{canonical_text, print};
+pub use texts::canonical_text;

@@ -11,7 +11,7 @@ ghost use Rattle.cborc_input.specs.declared.fault.Fault.{Fault};
 ghost use Rattle.cborc_input.specs.Items.{IsWritten, IsPutBack, AreWrittenOf, AreStoppedOf};
 
 use crate::fault::Fault;
-use crate::front::Sizes;
+use crate::front::Room;
 use crate::parts::Parts;
 use crate::request::Options;
 use crate::source::PART;
@@ -33,7 +33,7 @@ pub trait ItemWriter {
     ghost stops: { Self → Bounds → ℕ → List ℕ → Fault → Option (List ℕ) → Option (List ℕ) → Type 0 };
 
     /// Writes what is written of the item at the front of these bytes, which start there in the
-    /// input, and answers its size, for which it may ask `sizes`. Where the input may go on behind
+    /// input, and answers its size, with what it makes of it in `room`. Where the input may go on behind
     /// them and they end within the item, none is answered, and nothing is written; any fault is
     /// then that of the item, however the input goes on.
     fn write_item<'f, W: Write>(
@@ -43,7 +43,7 @@ pub trait ItemWriter {
         goes_on: bool,
         start: usize,
         limits: Limits,
-        sizes: &mut Sizes,
+        room: &mut Room,
         out: &mut W,
     ) -> Result<Option<usize>, Fault<'f>>
         requires { start < 2 ^ 63 }
@@ -78,7 +78,7 @@ pub fn write_items<'a, V: ItemWriter, F: Folder, W: Write>(
 {
     let limits = options.limits;
     let mut parts = Parts::open(alloc, files, source, options.hex, PART)?;
-    let mut sizes = Sizes::new(alloc);
+    let mut room = Room::new(alloc);
     let mut count = 0;
     'items: loop {
         if parts.is_spent() {
@@ -90,7 +90,7 @@ pub fn write_items<'a, V: ItemWriter, F: Folder, W: Write>(
         }
         let start = parts.start();
         let goes_on = parts.goes_on();
-        match writer.write_item(alloc, parts.rest(), goes_on, start, limits, &mut sizes, out) {
+        match writer.write_item(alloc, parts.rest(), goes_on, start, limits, &mut room, out) {
             Ok(Some(size)) => {
                 parts.take(size);
                 count += 1;

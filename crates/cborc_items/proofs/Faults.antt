@@ -3,22 +3,21 @@ use Rattle.std.proofs.Common.{ℕ, ◌≡◌, ◌++◌, inl, List, length, Optio
 use Rattle.cbor_diag.specs.Listing.{IsListed}
 use Rattle.cbor_head.specs.Complaint.{Rules, plain}
 use Rattle.cbor_head.specs.Limits.{Bounds}
-use Rattle.cbor_head.specs.Value.{Value}
+use Rattle.cbor_head.specs.Verdict.{accepted, IsVerdict}
 use Rattle.cbor_head.specs.Spelling.{Spelling, value_of}
 use Rattle.cbor_head.specs.declared.order.KeyOrder.{KeyOrder}
 use Rattle.cbor_head.specs.declared.reason.Refusal.{Refusal}
 use Rattle.cbor_reader.specs.Canonicalise.{IsCanonicalOf, IsRefusal}
 use Rattle.cbor_reader.specs.Comparing.{IsSideRefusal}
 use Rattle.cbor_judging.specs.Readers.{IsReadAs}
-use Rattle.cbor_reader.specs.Headline.{IsValidItem}
-use Rattle.cbor_reader.specs.WholeItem.{IsWholeItem, IsItemRefusal}
+use Rattle.cbor_reader.specs.WholeItem.{IsWholeItem}
 use Rattle.cbor_reader.specs.declared.comparison.Side.{Side}
 use Rattle.cbor_reader.specs.declared.comparison.Side.TheVariants.{Left, Right}
 use Rattle.cborc_items.proofs.Files.{put_kept}
 use Rattle.cborc_fronts.proofs.Files.{input_before}
 use Rattle.cborc_items.proofs.Fronts.{canonical_whole, refusal_whole, is_whole, is_not_whole, is_all_of, listed_whole, not_listed_whole, whole_item, item_refusal_whole}
-use Rattle.cborc_items.proofs.Whole.{AreAccepted, is_read, is_no_item}
-use Rattle.cborc_input.specs.Texts.{IsCanonicalText, IsNoText, shown_text}
+use Rattle.cborc_items.proofs.Whole.{AreAccepted, read_as}
+use Rattle.cborc_input.specs.Texts.{IsCanonicalText, IsNoText, IsNotTaken, shown_text}
 use Rattle.cborc_input.specs.Put.{IsPut, IsNotPut}
 use Rattle.cborc_items.specs.Canon.{IsCanonised, IsNotCanonised}
 use Rattle.cborc_input.specs.Start.{StartsInput}
@@ -99,25 +98,34 @@ module _ (rules : Rules) (options : Options) (source : List ℕ) (held : Option 
 module _ (options : Options) (source : List ℕ) (held : Option Files) (bytes : List ℕ) (s : StartsInput held source options bytes) where
   -- ---- `show`
 
-  read_whole : AreAccepted options.limits bytes → (v : Value) → (item : Spelling) × IsValidItem options.limits bytes item × (v ≡ value_of item) → IsReadAs options.limits plain s.input v (length s.input)
-  read_whole are v h =
-      subst (λ (b : List ℕ). IsReadAs options.limits plain b v (length b)) s.splits
-      (is_all_of options.limits bytes s.behind s.enough v (is_read options.limits bytes are v h))
+  -- an item that is all of the bytes
+  module _ (size : ℕ) (w : IsWhole options.limits plain bytes size) where
+    read_whole : IsReadAs options.limits plain s.input (value_of w.0.item) (length s.input)
+    read_whole =
+        subst (λ (b : List ℕ). IsReadAs options.limits plain b (value_of w.0.item) (length b)) s.splits
+        (is_all_of options.limits bytes s.behind s.enough (value_of w.0.item) (read_as options.limits bytes size w))
 
-  pub shown_of : AreAccepted options.limits bytes → (layout : Layout) (v : Value) (before after : Option (List ℕ)) → (item : Spelling) × IsValidItem options.limits bytes item × (v ≡ value_of item)
-      → Appends before after (shown_text layout v) → IsShownOf layout options source held before after
-  shown_of are layout v before after h w = record { input = s.input; is = s.is; value = v; whole = read_whole are v h; shown = w }
+    pub shown_of : (layout : Layout) (before after : Option (List ℕ))
+        → ((item : Spelling) → IsVerdict options.limits plain bytes (accepted item) → Appends before after (shown_text layout (value_of item)))
+        → IsShownOf layout options source held before after
+    shown_of layout before after h = record { input = s.input; is = s.is; value = value_of w.0.item; whole = read_whole; shown = h w.0.item w.0.verdict }
 
-  pub unshown : AreAccepted options.limits bytes → (v : Value) → (item : Spelling) × IsValidItem options.limits bytes item × (v ≡ value_of item) → (fault : Fault) → fault ≡ faults.CannotPrint → IsNotShown options source held fault
-  unshown are v h fault e =
-      subst (IsNotShown options source held) (sym e) (record { input = s.input; is = s.is; value = v; whole = read_whole are v h })
+    unshown_by : (text : List ℕ) (before after : Option (List ℕ)) (fault : Fault) → IsNotTaken text before after fault → IsNotShown options source held fault
+    unshown_by text before after faults.CannotPrint h = record { input = s.input; is = s.is; value = value_of w.0.item; whole = read_whole }
+    unshown_by text before after faults.Memory h = tt
+    unshown_by text before after _ h = absurd h
 
-  pub not_shown : (f : Refusal) → IsItemRefusal options.limits bytes f → (fault : Fault) → fault ≡ refusal_fault f → IsNotShown options source held fault
+    pub unshown : (layout : Layout) (before after : Option (List ℕ)) (fault : Fault)
+        → ((item : Spelling) → IsVerdict options.limits plain bytes (accepted item) → IsNotTaken (shown_text layout (value_of item)) before after fault)
+        → IsNotShown options source held fault
+    unshown layout before after fault h = unshown_by (shown_text layout (value_of w.0.item)) before after fault (h w.0.item w.0.verdict)
+
+  pub not_shown : (f : Refusal) → IsNotWhole options.limits plain bytes f → (fault : Fault) → fault ≡ refusal_fault f → IsNotShown options source held fault
   not_shown f h fault e =
       refusal_is (IsNotShown options source held) f fault e (λ own. (
         s.input,
         s.is,
-        subst (λ (b : List ℕ). IsNotWhole options.limits plain b f) s.splits (is_not_whole options.limits bytes s.behind s.enough plain f own (is_no_item options.limits bytes f h)),
+        subst (λ (b : List ℕ). IsNotWhole options.limits plain b f) s.splits (is_not_whole options.limits bytes s.behind s.enough plain f own h),
         own,
       )) tt
 

@@ -8,7 +8,7 @@ ghost use Rattle.cborc_files.specs.Folder.{KeepsFiles};
 
 use cbor_head::{Limits, Reason, Refusal};
 use cborc_files::Folder;
-use cborc_input::{Accepted, Fault, Options, Sizes, read_item};
+use cborc_input::{Accepted, Fault, Options, Room, read_item};
 use std::alloc::Global;
 use std::io::Write;
 
@@ -31,7 +31,8 @@ pub fn check<'a, F: Folder, O: Write>(
 {
     let limits = options.limits;
     let bytes = read_item(alloc, files, source, options)?;
-    let size = size_of_item(alloc, bytes.as_slice(), accepted, limits)?;
+    let mut room = Room::new(alloc);
+    let size = size_of_item(&mut room, bytes.as_slice(), accepted, limits)?;
     tell(out, size)
 }
 
@@ -47,9 +48,9 @@ fn tell<'a, O: Write>(out: &mut O, size: u64) -> Result<(), Fault<'a>>
     }
 }
 
-// How many bytes the item has that all the bytes are; the refusal is the item's, then `Trailing`.
-fn size_of_item(
-    alloc: Global,
+/// How many bytes the item has that all the bytes are; the refusal is the item's, then `Trailing`.
+pub(crate) fn size_of_item(
+    room: &mut Room,
     bytes: &[u8],
     accepted: Accepted,
     limits: Limits,
@@ -57,7 +58,7 @@ fn size_of_item(
     ensures whole { IfOk result (IsWhole limits (rules_of accepted) bytes.now) }
     ensures refused { IfErr result (IsNotWhole limits (rules_of accepted) bytes.now) }
 {
-    let size = Sizes::new(alloc).size_at_front(bytes, accepted, limits)?;
+    let size = room.size_at_front(bytes, accepted, limits)?;
     if size == bytes.len() as u64 {
         Ok(size)
     } else {

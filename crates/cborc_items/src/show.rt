@@ -4,11 +4,9 @@ ghost use Rattle.std.specs.Prelude.{◌≡◌, ◌≢◌, OnOk, IfErr};
 ghost use Rattle.cborc_items.specs.Show.{IsShownOf, IsNotShown};
 ghost use Rattle.cborc_files.specs.Folder.{KeepsFiles};
 
-use bumpalo::Bump;
-use cbor_reader::laws::valid_items;
-use cbor_reader::whole_view;
+use crate::check::size_of_item;
 use cborc_files::Folder;
-use cborc_input::{Fault, Layout, Options, print, read_item};
+use cborc_input::{Accepted, Fault, Layout, Options, Room, read_item};
 use std::alloc::Global;
 use std::io::Write;
 
@@ -28,10 +26,10 @@ pub fn show<'a, F: Folder, O: Write>(
     ensures keeps { KeepsFiles (F.held files.old) (F.held files.new) }
     ensures same { F.behind files.new ≡ F.behind files.old }
 {
-    valid_items();
     let limits = options.limits;
     let bytes = read_item(alloc, files, source, options)?;
-    let arena = Bump::new(alloc);
-    let view = whole_view(alloc, bytes.as_slice(), limits, &arena)?;
-    print(&view, layout, out)
+    let front = bytes.as_slice();
+    let mut room = Room::new(alloc);
+    size_of_item(&mut room, front, Accepted::Valid, limits)?;
+    room.print_front(front, limits, layout, out)
 }

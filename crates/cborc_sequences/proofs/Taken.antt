@@ -22,8 +22,10 @@ use Rattle.cborc_input.specs.declared.fault.Fault.{Fault}
 use Rattle.cborc_input.specs.declared.fault.Fault.TheVariants as faults
 use Rattle.cborc_input.specs.declared.request.Form.{Form}
 use Rattle.cborc_input.specs.Items.{IsWritten}
-use Rattle.cborc_sequences.specs.inner.Items.{IsCutText, IsUnwritten}
-use Rattle.cborc_input.specs.Texts.{IsNoText}
+use Rattle.cborc_input.specs.declared.request.Layout.{Layout}
+use Rattle.cborc_sequences.specs.ShowSequence.{item_text}
+use Rattle.cborc_sequences.specs.inner.Items.{IsCutText, IsUnwritten, IsItemNotShown}
+use Rattle.cborc_input.specs.Texts.{IsNoText, IsNotTaken}
 use Rattle.cborc_fronts.proofs.Within.{read_within}
 
 -- the item that is read at the front
@@ -43,7 +45,7 @@ module _ (limits : Bounds) (rules : Rules) (bytes : List ℕ) (size : ℕ) (h : 
   }
 
   -- not all of its text was taken
-  pub cut_of : (takes : Spelling → Type 0) (text : Spelling → List ℕ) (before after : Option (List ℕ)) (behind : List ℕ) → takes h.item
+  cut_of : (takes : Spelling → Type 0) (text : Spelling → List ℕ) (before after : Option (List ℕ)) (behind : List ℕ) → takes h.item
       → (count : ℕ) × (count < length (text h.item)) × Appends before after (take count (text h.item)) → IsCutText takes text (bytes ++ behind) before after
   cut_of takes text before after behind t (count, part, w) = record {
     item = h.item;
@@ -56,6 +58,14 @@ module _ (limits : Bounds) (rules : Rules) (bytes : List ℕ) (size : ℕ) (h : 
     part = part;
     taken = w;
   }
+
+-- its diagnostic text was not taken whole
+pub text_not_taken : (limits : Bounds) (bytes : List ℕ) (size : ℕ) (h : IsRead limits plain bytes size) (layout : Layout) (before after : Option (List ℕ)) (behind : List ℕ) (fault : Fault)
+    → IsNotTaken (item_text layout h.item) before after fault → IsItemNotShown limits layout (bytes ++ behind) fault before after
+text_not_taken limits bytes size h layout before after behind faults.CannotPrint cut =
+    cut_of limits plain bytes size h (IsAccepted limits plain) (item_text layout) before after behind (item_accepted limits plain bytes size h) cut
+text_not_taken limits bytes size h layout before after behind faults.Memory same = same
+text_not_taken limits bytes size h layout before after behind _ none = absurd none
 
 -- ---- canonical bytes of the item that the first bytes are
 

@@ -12,7 +12,7 @@ use cbor_head::{KeyOrder, Limits};
 use cbor_item::write_whole;
 use cborc_files::{Folder, is_stream};
 use cborc_input::{
-    Accepted, Fault, Form, ItemWriter, Options, Output, Sizes, canonical_text, unless_cut,
+    Accepted, Fault, Form, ItemWriter, Options, Output, Room, canonical_text, unless_cut,
     write_items,
 };
 use std::alloc::Global;
@@ -108,10 +108,10 @@ impl ItemWriter for CanonicalItems {
         goes_on: bool,
         _start: usize,
         limits: Limits,
-        sizes: &mut Sizes,
+        room: &mut Room,
         out: &mut W,
     ) -> Result<Option<usize>, Fault<'f>> {
-        let size = match sizes.size_at_front(bytes, Accepted::Valid, limits) {
+        let size = match room.size_at_front(bytes, Accepted::Valid, limits) {
             Ok(size) => size as usize,
             Err(refusal) => return unless_cut(refusal, goes_on),
         };

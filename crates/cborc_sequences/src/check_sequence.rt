@@ -11,7 +11,7 @@ ghost use Rattle.cborc_sequences.specs.inner.Items.{IsUncounted};
 
 use cbor_head::Limits;
 use cborc_files::Folder;
-use cborc_input::{Accepted, Fault, ItemWriter, Options, Sizes, unless_cut, write_items};
+use cborc_input::{Accepted, Fault, ItemWriter, Options, Room, unless_cut, write_items};
 use std::alloc::Global;
 use std::io::{self, Write};
 
@@ -71,10 +71,10 @@ impl ItemWriter for CountedItems {
         goes_on: bool,
         _start: usize,
         limits: Limits,
-        sizes: &mut Sizes,
+        room: &mut Room,
         _out: &mut W,
     ) -> Result<Option<usize>, Fault<'f>> {
-        match sizes.size_at_front(bytes, self.accepted, limits) {
+        match room.size_at_front(bytes, self.accepted, limits) {
             Ok(size) => Ok(Some(size as usize)),
             Err(refusal) => unless_cut(refusal, goes_on),
         }

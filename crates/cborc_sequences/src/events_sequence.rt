@@ -12,7 +12,7 @@ ghost use Rattle.cborc_sequences.specs.inner.Items.{IsItemNotListed};
 use cbor_head::Limits;
 use cbor_item::write_whole;
 use cborc_files::Folder;
-use cborc_input::{Fault, ItemWriter, Options, Sizes, is_undecided, list_front, write_items};
+use cborc_input::{Fault, ItemWriter, Options, Room, is_undecided, list_front, write_items};
 use std::alloc::Global;
 use std::io::Write;
 
@@ -56,7 +56,7 @@ impl ItemWriter for ListedItems {
         goes_on: bool,
         start: usize,
         limits: Limits,
-        _sizes: &mut Sizes,
+        _room: &mut Room,
         out: &mut W,
     ) -> Result<Option<usize>, Fault<'f>> {
         if goes_on && is_undecided(bytes, limits) {

@@ -8,11 +8,9 @@ ghost use Rattle.cborc_sequences.specs.ShowSequence.{IsSequenceNotShown};
 ghost use Rattle.cborc_files.specs.Folder.{KeepsFiles};
 ghost use Rattle.cborc_sequences.specs.inner.Items.{IsItemNotShown};
 
-use bumpalo::Bump;
 use cbor_head::Limits;
-use cbor_reader::read_view;
 use cborc_files::Folder;
-use cborc_input::{Fault, ItemWriter, Layout, Options, Sizes, print, unless_cut, write_items};
+use cborc_input::{Accepted, Fault, ItemWriter, Layout, Options, Room, unless_cut, write_items};
 use std::alloc::Global;
 use std::io::Write;
 
@@ -53,19 +51,17 @@ impl ItemWriter for ShownItems {
 
     fn write_item<'f, W: Write>(
         &self,
-        alloc: Global,
+        _alloc: Global,
         bytes: &[u8],
         goes_on: bool,
         _start: usize,
         limits: Limits,
-        _sizes: &mut Sizes,
+        room: &mut Room,
         out: &mut W,
     ) -> Result<Option<usize>, Fault<'f>> {
-        // One for each item, so that no more is kept than of the largest.
-        let arena = Bump::new(alloc);
-        match read_view(alloc, bytes, limits, &arena) {
-            Ok((view, size)) => {
-                print(&view, self.layout, out)?;
+        match room.size_at_front(bytes, Accepted::Valid, limits) {
+            Ok(size) => {
+                room.print_front(bytes, limits, self.layout, out)?;
                 Ok(Some(size as usize))
             }
             Err(refusal) => unless_cut(refusal, goes_on),

@@ -1,39 +1,31 @@
-use Rattle.std.proofs.Common.{ℕ, ◌<◌, length, take, subst}
-use Rattle.std.specs.Io.KnownBytes.{Appends}
 use Rattle.std.proofs.lemmas.Result.{err_from_is_err_and}
 use Rattle.cbor_head.specs.Complaint.{plain}
-use Rattle.cbor_head.specs.Value.{Value}
 use Rattle.cbor_reader.specs.Sequence.{IsAccepted}
-use Rattle.cborc_input.specs.Texts.{shown_text}
 use Rattle.cborc_sequences.specs.ShowSequence.{item_text}
 use Rattle.cborc_fronts.proofs.Results.{if_err}
 use Rattle.cborc_sequences.proofs.Further.{settled, item_not_shown}
-use Rattle.cborc_sequences.proofs.Taken.{item_accepted, written_of, cut_of}
+use Rattle.cborc_sequences.proofs.Taken.{item_accepted, written_of, text_not_taken}
 use Rattle.cborc_sequences.proofs.show_sequence.ShownItemsItemWriter.write_item.Goals as goal
 
-pub returns-clause-stopped : goal.returns-clause-stopped
-returns-clause-stopped g c =
+pub print_front-requires : goal.print_front-requires
+print_front-requires g c = (c.in-Ok.size, c.in-Ok.ensures.accepted)
+
+pub returns-in-Err-clause-stopped : goal.returns-in-Err-clause-stopped
+returns-in-Err-clause-stopped g c =
     if_err c.unless_cut.result _ _
     (λ fault h behind ends.
     item_not_shown c.args.limits c.args.bytes.now behind c.in-Err.refusal (settled c.args.goes_on behind c.in-Err.refusal ends h.1) fault h.0 c.args.self.now.layout (g.W.Write.contents c.args.out.now) c.in-Err.ensures.refused)
     c.unless_cut.ensures.fault
 
-pub returns-in_err-print-in-Ok-clause-stopped : goal.returns-in_err-print-in-Ok-clause-stopped
-returns-in_err-print-in-Ok-clause-stopped g c =
+pub returns-in_err-print_front-in-Ok-clause-stopped : goal.returns-in_err-print_front-in-Ok-clause-stopped
+returns-in_err-print_front-in-Ok-clause-stopped g c =
     let p = err_from_is_err_and c.from_residual.result c.from_residual.ensures.1 in
     let read = c.in-Ok.ensures.accepted in
-    rw (p.1, p.2, c.in_err-print-in-Ok.ensures.fault)
-    (λ behind ends.
-    cut_of _ _ _ _ read.read (IsAccepted c.args.limits plain) (item_text c.args.self.now.layout) _ _ behind (item_accepted _ _ _ _ read.read)
-    (subst
-    (λ (v : Value).
-    (count : ℕ) × (count < length (shown_text c.args.self.now.layout v))
-    × Appends (g.W.Write.contents c.args.out.now) (g.W.Write.contents c.print.new.out) (take count (shown_text c.args.self.now.layout v)))
-    read.value c.in_err-print-in-Ok.ensures.cut))
+    rw (p.1, p.2)
+    (λ behind ends. text_not_taken _ _ _ read c.args.self.now.layout _ _ behind _ (c.in_err-print_front-in-Ok.ensures.fault read.item read.verdict))
 
-pub returns-in-Ok-clause-written : goal.returns-in-Ok-clause-written
-returns-in-Ok-clause-written g c =
+pub returns-in_ok-print_front-in-Ok-clause-written : goal.returns-in_ok-print_front-in-Ok-clause-written
+returns-in_ok-print_front-in-Ok-clause-written g c =
     let read = c.in-Ok.ensures.accepted in
-    written_of _ _ _ _ read.read (IsAccepted c.args.limits plain) (item_text c.args.self.now.layout) _ _
-    (item_accepted _ _ _ _ read.read)
-    (subst (λ (v : Value). Appends (g.W.Write.contents c.args.out.now) (g.W.Write.contents c.print.new.out) (shown_text c.args.self.now.layout v)) read.value c.in_ok-print-in-Ok.ensures.shown)
+    written_of _ _ _ _ read (IsAccepted c.args.limits plain) (item_text c.args.self.now.layout) _ _ (item_accepted _ _ _ _ read)
+    (c.in_ok-print_front-in-Ok.ensures.shown read.item read.verdict)
