@@ -2,59 +2,21 @@
 
 ghost use Rattle.std.specs.Prelude.{◌≡◌, ◌≤◌, ◌-◌, ◌∷◌, ℕ, length};
 ghost use Rattle.cbor_walk.specs.inner.Building.{IsItem, IsDueIn, Takes, IsBreakDue, TakesBreak};
-ghost use Rattle.cbor_walk.specs.inner.Building.{taken, TakesFront};
+ghost use Rattle.cbor_walk.specs.inner.Building.{TakesFront};
 ghost use Rattle.cbor_walk.specs.inner.Stack.{standing};
 
 use crate::building::Building;
 use crate::level::Due;
 use crate::open::Open;
-use crate::part::{Part, Took};
+use crate::part::Part;
 use crate::sink::Sink;
 use cbor_head::Major;
 
 impl<S> Building<S> {
     /// Takes what begins with this byte before these bytes, if it is an opener without a length, or
-    /// a break, and leaves those behind it in their place: with them the answer of a call would lie
-    /// in memory, and the walk would make room for it at each item.
+    /// a break.
     #[inline(never)]
     pub(crate) fn take_endless<'a>(
-        &mut self,
-        first: u8,
-        behind: &mut &'a [u8],
-        cells: &mut [Open],
-        depth: usize,
-    ) -> Took
-    where
-        S: Sink<'a>,
-        requires cells { self.old.stack.height ≤ length cells.old }
-        requires due { IsDueIn S S.stands S.trusts depth (standing Open self.old.stack cells.old) self.old.sink
-            (first ∷ behind.old.now) }
-        ensures cells { self.new.stack.height ≤ length cells.new }
-        ensures takes { Takes S S.stands S.trusts (taken result behind.new) depth (first ∷ behind.old.now)
-            (standing Open self.old.stack cells.old) self.old.sink
-            (standing Open self.new.stack cells.new) self.new.sink }
-        ensures full { result ≡ Took.Full → self.new.stack.height ≡ length cells.new }
-        ensures front { TakesFront (taken result behind.new) (depth - self.old.stack.height)
-            self.old.stack.top (first ∷ behind.old.now) }
-    {
-        match self.take_any_endless(first, *behind, cells, depth) {
-            Part::Item(rest) => {
-                *behind = rest;
-                Took::Item
-            }
-            Part::Head(rest) => {
-                *behind = rest;
-                Took::Head
-            }
-            Part::Full => Took::Full,
-            Part::Refused => Took::Refused,
-            Part::Stopped => Took::Stopped,
-        }
-    }
-
-    // The same, with the bytes behind it.
-    #[inline(always)]
-    fn take_any_endless<'a>(
         &mut self,
         first: u8,
         behind: &'a [u8],

@@ -2,11 +2,10 @@
 //! said.
 
 ghost use Rattle.std.specs.Prelude.{◌≡◌, ◌<◌, ◌≤◌, ◌-◌, ◌*◌, ◌/◌, ◌^◌, ◌∷◌, ℕ, List, true, IfSome};
-ghost use Rattle.cbor_walk.specs.inner.Leaves.{HasShortestHead, IsShortestHead};
+ghost use Rattle.cbor_walk.specs.inner.Leaves.{HasShortestHead};
 ghost use Rattle.cbor_walk.specs.inner.Items.{IsShortFront, IsShortString, IsSaid};
 ghost use Rattle.cbor_walk.specs.inner.Kept.{IsFitFront};
 
-use crate::argument::{is_shortest, read_argument};
 use crate::level::Due;
 use cbor_head::argument_bytes;
 use cbor_text::is_text_front;
@@ -71,19 +70,9 @@ fn head_size(first: u8, rest: &[u8]) -> usize
             }
             1 + usize::from(argument_bytes(low))
         }
-        None => end_size(low, behind),
-    }
-}
-
-// The same near the end of an input, by what stands behind the first byte.
-#[inline(never)]
-fn end_size(low: u8, behind: &[u8]) -> usize
-    requires { low < 28 }
-    ensures { 0 < result → IsShortestHead low behind.now result }
-{
-    match read_argument(low, behind) {
-        Some(head) if is_shortest(head.width, head.number) => 1 + (behind.len() - head.rest.len()),
-        _ => 0,
+        // Near the end of an input, of an argument of one byte.
+        None if low == 24 && !behind.is_empty() && behind[0] >= 24 => 2,
+        None => 0,
     }
 }
 

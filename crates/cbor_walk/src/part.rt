@@ -5,7 +5,7 @@ ghost use Rattle.cbor_builder.specs.Built.{IsLeaf, IsContainer};
 ghost use Rattle.cbor_walk.specs.inner.Building.{IsDueIn, Takes, IsHeadDue, IsHeadIn, TakesHead};
 ghost use Rattle.cbor_walk.specs.inner.Building.{IsOpenerDue, TakesOpener, TakesCounted};
 ghost use Rattle.cbor_walk.specs.inner.Building.{IsItem, IsToEndFor, EndsItem, EndsBefore, Counts};
-ghost use Rattle.cbor_walk.specs.inner.Building.{taken, HasTaken, TakesFront, TakesHeadFront, TakesCountedFront, TakesOpenerFront};
+ghost use Rattle.cbor_walk.specs.inner.Building.{HasTaken, TakesFront, TakesHeadFront, TakesCountedFront, TakesOpenerFront};
 ghost use Rattle.cbor_walk.specs.inner.Kept.{IsFitFront};
 ghost use Rattle.cbor_walk.specs.inner.Stack.{standing};
 
@@ -30,32 +30,6 @@ pub(crate) enum Part<'a> {
     Refused,
     /// No more: memory is refused, two keys of a map are the same, or a string in chunks is refused.
     Stopped,
-}
-
-/// What was taken, where the bytes behind it stand elsewhere.
-#[derive(Clone, Copy)]
-pub(crate) enum Took {
-    Item,
-    Head,
-    Full,
-    Refused,
-    Stopped,
-}
-
-impl Took {
-    // With the bytes behind it.
-    #[inline(always)]
-    fn before<'a>(self, behind: &'a [u8]) -> Part<'a>
-        ensures { result ≡ taken self behind.entry }
-    {
-        match self {
-            Took::Item => Part::Item(behind),
-            Took::Head => Part::Head(behind),
-            Took::Full => Part::Full,
-            Took::Refused => Part::Refused,
-            Took::Stopped => Part::Stopped,
-        }
-    }
 }
 
 impl<'a> Part<'a> {
@@ -104,10 +78,7 @@ impl<S> Building<S> {
             if is_other_key::<KINDS>(self.stack.top.due, rest) {
                 return Part::Refused;
             }
-            let mut left = behind;
-            return self
-                .take_endless(*first, &mut left, cells, depth)
-                .before(left);
+            return self.take_endless(*first, behind, cells, depth).unpacked();
         }
         let Some(head) = read_argument(low, behind) else {
             return Part::Refused;

@@ -1,6 +1,5 @@
 -- What the walk over a valid item holds: of the open containers what is still to come, and a sink that took what is complete.
 use Rattle.std.specs.Prelude.{◌≡◌, ℕ, zero, suc, ◌-◌, ◌^◌, ◌<◌, ◌≤◌, ◌⊎◌, Bool, true, false, Option, Some, None, List, [], ◌∷◌, ◌++◌, length, take, IsUtf8}
-use Rattle.std.specs.Borrow.{Bor}
 use Rattle.cbor_head.specs.Complaint.{plain}
 use Rattle.cbor_head.specs.Head.{Holds, IsSimple, head, shortest}
 use Rattle.cbor_head.specs.Limits.{Bounds, bounds, with_keys}
@@ -24,8 +23,6 @@ use Rattle.cbor_walk.specs.declared.level.Due.TheVariants.{Item, Key, Value}
 use Rattle.cbor_walk.specs.declared.open.Open.{Open}
 use Rattle.cbor_walk.specs.declared.part.Part.{Part}
 use Rattle.cbor_walk.specs.declared.part.Part.TheVariants as part
-use Rattle.cbor_walk.specs.declared.part.Took.{Took}
-use Rattle.cbor_walk.specs.declared.part.Took.TheVariants as took
 use Rattle.cbor_walk.specs.declared.stack.Stack.{Stack}
 use Rattle.cbor_walk.specs.Sink.{IsOpened, StandsFull, Told}
 
@@ -121,14 +118,6 @@ pub record IsPayload (is_text : Bool) (count size : ℕ) (rest : List ℕ) : Typ
 -- behind the opener of a string in chunks
 abbrev pub chunked_from : Bool → List ℕ → List ℕ
 chunked_from is_text behind = head (string_major is_text) Indefinite 0 ++ behind
-
--- what was taken, before these bytes
-abbrev pub taken : Took → Bor (List ℕ) → Part
-taken took.Item behind = part.Item behind
-taken took.Head behind = part.Head behind
-taken took.Full behind = part.Full
-taken took.Refused behind = part.Refused
-taken took.Stopped behind = part.Stopped
 
 -- all cells are in use
 abbrev pub IsFullAt : Met → ℕ → ℕ → Type 0

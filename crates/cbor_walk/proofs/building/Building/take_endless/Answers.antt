@@ -4,7 +4,7 @@ use Rattle.cbor_walk.specs.declared.open.Open.{Open}
 use Rattle.cbor_walk.specs.inner.Building.{IsDue, IsDueIn, IsOpener, TakesTo, TakesFront}
 use Rattle.cbor_walk.specs.inner.Stack.{around, standing}
 use Rattle.cbor_walk.proofs.GivenItems.{array-opens, map-opens}
-use Rattle.cbor_walk.proofs.building.Building.take_any_endless.Goals as goal
+use Rattle.cbor_walk.proofs.building.Building.take_endless.Goals as goal
 
 pub open-requires : goal.open-requires
 open-requires g c =
