@@ -156,7 +156,7 @@ module _ (v : PlainItems) (b : Bounds) (e : ItemEventsView) (t : List ℕ) (h : 
           let short : length (bytes_before (l ∷ ls)) + length (spell k) < 2 ^ 63 = omega (arith, few-bytes, ap length bytes_are, size) in
           found (length (bytes_before (l ∷ ls))) (length (spell k))
           (subst (λ (x : List ℕ). IsJudged plain 0 b.depth x (Some (complaint.complaint (length (bytes_before (l ∷ ls)) + length (spell k)) (length (bytes_before (l ∷ ls))) RepeatedKey))) (sym bytes_are)
-          (repeat_found o b.depth ls l w done zero_item (zero_pairs left) refl [] (levels.0, (levels.1.0, levels.1.1), levels.2) (omega (arith, short)) (apart.0, (λ x. x), apart.1) levels.1.1 k levels.1.2 (omega (arith, short)) (subst IsRepeatedKey s.3 repeated)))
+          (repeat_found o b.depth ls l w left done refl (levels.0, (levels.1.0, levels.1.1), levels.2) (omega (arith, short)) (apart.0, (λ x. x), apart.1) levels.1.1 k levels.1.2 (omega (arith, short)) (subst IsRepeatedKey s.3 repeated)))
           (ap length bytes_are ∙ size) (place_is _ (ap (λ (i : ℕ). slice_get v.starts.items i) s.4 ∙ place_so))
       go (item_due (some_value done k ∷ ls)) s place_so =
           let o = v.builder.order in
@@ -168,7 +168,7 @@ module _ (v : PlainItems) (b : Bounds) (e : ItemEventsView) (t : List ℕ) (h : 
           let short : length (bytes_before (l ∷ ls)) + length (spell k) < 2 ^ 63 = omega (arith, few-bytes, ap length bytes_are, size) in
           found (length (bytes_before (l ∷ ls))) (length (spell k))
           (subst (λ (x : List ℕ). IsJudged plain 0 b.depth x (Some (complaint.complaint (length (bytes_before (l ∷ ls)) + length (spell k)) (length (bytes_before (l ∷ ls))) RepeatedKey))) (sym bytes_are)
-          (repeat_found o b.depth ls l Indefinite done zero_item no_entries refl [] (levels.0, levels.1.0, levels.2) (omega (arith, short)) (apart.0, (λ x. x), apart.1) levels.1.0 k levels.1.1 (omega (arith, short)) (subst IsRepeatedKey s.3 repeated)))
+          (repeat_found o b.depth ls l Indefinite 0 done refl (levels.0, levels.1.0, levels.2) (omega (arith, short)) (apart.0, (λ x. x), apart.1) levels.1.0 k levels.1.1 (omega (arith, short)) (subst IsRepeatedKey s.3 repeated)))
           (ap length bytes_are ∙ size) (place_is _ (ap (λ (i : ℕ). slice_get v.starts.items i) s.4 ∙ place_so))
       go (item_due []) s place_so = absurd (subst IsRepeatedKey s.3 repeated)
       go (item_due (a_member w left done ∷ ls)) s place_so = absurd (subst IsRepeatedKey s.3 repeated)
