@@ -1,5 +1,5 @@
 -- The open containers in a builder that has no two keys that are the same: what is found of the item is found of the whole.
-use Rattle.std.proofs.Common.{◌≡◌, ℕ, suc, ◌+◌, ◌-◌, ◌^◌, ◌<◌, ◌⊎◌, Option, Some, List, [], ◌∷◌, ◌++◌, length, map, refl, sym, ap, ◌∙◌, subst, inl, inr, arith}
+use Rattle.std.proofs.Common.{ℕ, suc, ◌+◌, ◌-◌, ◌^◌, ◌<◌, ◌⊎◌, Option, Some, List, [], ◌∷◌, ◌++◌, length, map, ap, subst, inl, inr, arith}
 use Rattle.std.proofs.lemmas.List.{length-append, map-append}
 use Rattle.cbor_head.specs.Head.{head}
 use Rattle.cbor_head.specs.Canonical.{Pair, canonical, canonical_entries}
@@ -9,7 +9,7 @@ use Rattle.cbor_head.specs.Complaint.{plain, Complaint, IsRepeated}
 use Rattle.cbor_head.specs.declared.major.Major.TheVariants as majors
 use Rattle.cbor_head.specs.declared.order.KeyOrder.{KeyOrder}
 use Rattle.cbor_head.specs.declared.reason.Reason.TheVariants.{RepeatedKey}
-use Rattle.cbor_head.specs.declared.width.Width.{Width}
+use Rattle.cbor_head.specs.declared.width.Width.TheVariants.{Indefinite}
 use Rattle.cbor_builder.specs.Built.{HasKey, IsRepeatedKey, keys_so_far, AreAllDifferent, AreOpenKeysDifferent}
 use Rattle.cbor_builder.proofs.FirstRepeat.{distinct_different}
 use Rattle.cbor_canonical.specs.Pairs.{HasDistinctBytes}
@@ -18,16 +18,13 @@ use Rattle.cbor_canonical.proofs.Keys.{same_exactly}
 use Rattle.cbor_canonical.proofs.Sound.{IsSound, sound}
 use Rattle.cbor_judging.specs.Frame.{keys_onto}
 use Rattle.cbor_judging.specs.Judged.{IsJudged}
+use Rattle.cbor_judging.specs.Levels as levels
 use Rattle.cbor_judging.specs.Levels.{IsTaken, ArePairsTaken, Level, AreLevels, bytes_before}
-use Rattle.cbor_judging.specs.Given.{level_open, opens}
-use Rattle.cbor_judging.specs.SoFar.{map_bytes}
+use Rattle.cbor_judging.specs.Given.{opens}
 use Rattle.cbor_plain.specs.inner.PlainItems.{HasKeysApart, AreApart}
 use Rattle.cbor_plain.proofs.Paths.{distinct-more}
 use Rattle.cbor_judging.proofs.Valid.{in_range_of, valid_of}
-use Rattle.cbor_walk.specs.inner.Path as path
-use Rattle.cbor_walk.specs.inner.Path.{AreClean}
-use Rattle.cbor_walk.proofs.LevelPaths.{path_of, paths_of, paths_length, paths_bytes, paths_clean}
-use Rattle.cbor_walk.proofs.PathLevels.{judged_path, judged_key_path}
+use Rattle.cbor_walk.proofs.LevelPaths.{found_of_whole, IsKeyBehind, repeat_of_whole}
 
 -- ---- its keys
 
@@ -48,12 +45,7 @@ apart-different (c ∷ os) h = (keys-different c os h.0 h.1, apart-different os 
 -- what is found of the item is found of the whole
 pub found_within : (o : KeyOrder) (d : ℕ) (ls : List Level) (p : List ℕ) (found : Option Complaint) → AreLevels d ls → length (bytes_before ls) < 2 ^ 63 → AreApart (opens o ls)
     → IsJudged plain (length (bytes_before ls)) (d - length ls) p found → IsJudged plain 0 d (bytes_before ls ++ p) found
-found_within o d ls p found h short apart j =
-    let ps = paths_of ls in
-    let same = paths_bytes ls in
-    subst (λ (x : List ℕ). IsJudged plain 0 d (x ++ p) found) same
-    (judged_path plain d ps (paths_clean o d ls h short (apart-different (opens o ls) apart)) p found
-    (subst (λ (x : List ℕ). IsJudged plain (length x) (d - length ps) p found) (sym same) (subst (λ (n : ℕ). IsJudged plain (length (bytes_before ls)) (d - n) p found) (sym (paths_length ls)) j)))
+found_within o d ls p found h short apart = found_of_whole o d ls p found h short (apart-different (opens o ls) apart)
 
 -- ---- a key that is the same as an earlier one
 
@@ -73,22 +65,23 @@ repeated_in o d (entry l v es) ks k h short s x =
       | inr y ↦ more (inr (inr y))
     ]
 
+pairs_short : (ls : List Level) (l : Level) (es : SpelledEntries) → IsKeyBehind l es → length (bytes_before (l ∷ ls)) < 2 ^ 63 → length (spell_entries es) < 2 ^ 64
+pairs_short ls (levels.a_key w left done) es e h =
+    let hd = head majors.Map w (entries_count done + suc left) in
+    omega (arith, h, ap (λ (x : SpelledEntries). length (spell_entries x)) e, length-append (bytes_before ls) (hd ++ spell_entries done), length-append hd (spell_entries done))
+pairs_short ls (levels.some_key done) es e h =
+    let hd = head majors.Map Indefinite 0 in
+    omega (arith, h, ap (λ (x : SpelledEntries). length (spell_entries x)) e, length-append (bytes_before ls) (hd ++ spell_entries done), length-append hd (spell_entries done))
+pairs_short ls (levels.a_member w left done) es e h = absurd e
+pairs_short ls (levels.a_value w left done k) es e h = absurd e
+pairs_short ls (levels.some_member done) es e h = absurd e
+pairs_short ls (levels.some_value done k) es e h = absurd e
+pairs_short ls (levels.tagged w n) es e h = absurd e
+
 -- in such a map it is the first complaint
-module _ (o : KeyOrder) (d : ℕ) (ls : List Level) (l : Level) (w : Width) (left : ℕ) (done : SpelledEntries) (is : path_of l ≡ path.a_key w left done)
-    (levels : AreLevels d (l ∷ ls)) (short : length (bytes_before (l ∷ ls)) < 2 ^ 63) (apart : AreApart (level_open o l ∷ opens o ls)) (taken : ArePairsTaken (d - suc (length ls)) done)
-  where
-    pub repeat_found : (k : Spelling) → IsTaken (d - suc (length ls)) k → length (spell k) < 2 ^ 63 → HasKey (canonical_entries o (entries_of done)) (canonical o (value_of k))
-        → IsJudged plain 0 d (bytes_before (l ∷ ls) ++ spell k) (Some (complaint.complaint (length (bytes_before (l ∷ ls)) + length (spell k)) (length (bytes_before (l ∷ ls))) RepeatedKey))
-    repeat_found k i key_short repeat =
-        let ps = paths_of ls in
-        let here = path.a_key w left done ∷ ps in
-        let same : path.bytes_before here ≡ bytes_before (l ∷ ls) = ap (λ (x : path.Level). path.bytes_before (x ∷ ps)) (sym is) ∙ paths_bytes (l ∷ ls) in
-        let n = entries_count done + suc left in
-        let in_map : length (spell_entries done) < 2 ^ 64 = omega (arith, short, ap length same, length-append (path.bytes_before ps) (map_bytes w n done), length-append (head majors.Map w n) (spell_entries done)) in
-        let sound_k = sound (value_of k) (in_range_of k i.spelled (omega (arith, key_short))) (valid_of k 0 (i.clean 0)) in
-        let of = repeated_in o (d - suc (length ls)) done [] k taken in_map sound_k (inl repeat) in
-        let within = i.within in
-        subst (λ (x : List ℕ). IsJudged plain 0 d (x ++ spell k) (Some (complaint.complaint (length x + length (spell k)) (length x) RepeatedKey))) same
-        (judged_key_path plain d w left done ps k _
-        (record { around = subst (λ (x : path.Level). AreClean plain d (x ∷ ps)) is (paths_clean o d (l ∷ ls) levels short (apart-different (level_open o l ∷ opens o ls) apart)); spelled = i.spelled; within = omega (arith, within, paths_length ls); clean = i.clean _ })
-        (of, refl))
+pub repeat_found : (o : KeyOrder) (d : ℕ) (ls : List Level) (l : Level) (done : SpelledEntries) → IsKeyBehind l done → AreLevels d (l ∷ ls) → length (bytes_before (l ∷ ls)) < 2 ^ 63 → AreApart (opens o (l ∷ ls))
+    → ArePairsTaken (d - suc (length ls)) done → (k : Spelling) → IsTaken (d - suc (length ls)) k → length (spell k) < 2 ^ 63 → HasKey (canonical_entries o (entries_of done)) (canonical o (value_of k))
+    → IsJudged plain 0 d (bytes_before (l ∷ ls) ++ spell k) (Some (complaint.complaint (length (bytes_before (l ∷ ls)) + length (spell k)) (length (bytes_before (l ∷ ls))) RepeatedKey))
+repeat_found o d ls l done behind levels short apart taken k i key_short repeat =
+    let sound_k = sound (value_of k) (in_range_of k i.spelled (omega (arith, key_short))) (valid_of k 0 (i.clean 0)) in
+    repeat_of_whole o d ls l done behind levels short (apart-different (opens o (l ∷ ls)) apart) k i (repeated_in o (d - suc (length ls)) done [] k taken (pairs_short ls l done behind short) sound_k (inl repeat))
