@@ -1,19 +1,17 @@
--- The open containers with what is complete in them, as frames around the item that is due: what is found of the item is found of
--- the whole.
-use Rattle.std.proofs.Common.{◌≡◌, ℕ, suc, ◌+◌, ◌-◌, ◌<◌, ◌≤◌, Option, List, [], ◌∷◌, ◌++◌, length, refl, sym, ap, ◌∙◌, subst, inl, inr, arith}
+-- The open containers with what is complete in them, as frames around the item that is due.
+use Rattle.std.proofs.Common.{◌≡◌, ℕ, suc, ◌+◌, ◌-◌, ◌<◌, ◌≤◌, List, [], ◌∷◌, ◌++◌, length, refl, sym, ap, ◌∙◌, subst, inl, inr, arith}
 use Rattle.std.proofs.lemmas.List.{length-append}
 use Rattle.cbor_head.specs.Head.{Holds, head}
-use Rattle.cbor_head.specs.Spelling.{Spelling, SpelledEntries, no_spellings, no_entries, entry, spell, spell_all, spell_entries, spellings_count, entries_count}
-use Rattle.cbor_head.specs.Complaint.{plain, Complaint, ComplainsInEntries}
+use Rattle.cbor_head.specs.Spelling.{SpelledEntries, no_spellings, no_entries, entry, spell, spell_all, spell_entries, spellings_count, entries_count}
+use Rattle.cbor_head.specs.Complaint.{plain}
 use Rattle.cbor_head.specs.declared.major.Major.TheVariants as majors
 use Rattle.cbor_head.specs.declared.width.Width.TheVariants.{Indefinite}
 use Rattle.cbor_judging.specs.Frame as frames
 use Rattle.cbor_judging.specs.Frame.{Frame, with_entries, keys_onto, before, IsFrame, depth_beside}
-use Rattle.cbor_judging.specs.Judged.{IsJudged, Never}
-use Rattle.cbor_judging.specs.OpenMaps.{keys_at, OnKeys, OfClosed, ComplainsWithin, before_all, AreOpen, AreOpenDistinct}
+use Rattle.cbor_judging.specs.Judged.{Never}
+use Rattle.cbor_judging.specs.OpenMaps.{OfClosed, ComplainsWithin, before_all, AreOpen}
 use Rattle.cbor_judging.proofs.Heads.{open_or}
 use Rattle.cbor_judging.proofs.Judged.{zero_item, zeros, zeros_count, zeros_spelled, zeros_flat, zero_pairs, pairs_count, pairs_spelled, pairs_flat}
-use Rattle.cbor_judging.proofs.OpenMaps.{judged_within}
 use Rattle.cbor_judging.proofs.OpenSteps.{before_snoc}
 use Rattle.cbor_judging.proofs.OpenWalk.{none_open, opens as one_opens}
 use Rattle.cbor_judging.specs.Levels.{ArePairsTaken, Level, a_member, a_key, a_value, some_member, some_key, some_value, tagged, level_bytes, IsLevel, AreLevels, bytes_before}
@@ -88,13 +86,6 @@ fitting d (some_value done k) h = record {
 }
 fitting d (tagged w n) h = record { fits = h; flat = omega arith; clean = λ at c x. cc x.0 }
 
--- ---- its keys
-
-pub keys_complain : (es : SpelledEntries) (ks : List Spelling) (at : ℕ) (c : Complaint) → OnKeys plain ks (keys_at at es) c → ComplainsInEntries plain at ks es c
-keys_complain no_entries ks at c h = absurd h
-keys_complain (entry k v es) ks at c (inl h) = inr (inl h)
-keys_complain (entry k v es) ks at c (inr h) = inr (inr (inr (keys_complain es (k ∷ ks) _ c h)))
-
 -- ---- all of them, the outermost first
 
 unfoldable pub path : List Level → List Frame
@@ -118,17 +109,3 @@ path_open d (l ∷ ls) h =
     let room = h.0 in
     let i = fitting (d - suc (length ls)) l h.1 in
     one_opens plain d (path ls) (frame_of l) (d - suc (length ls)) (path_open d ls h.2) (omega (arith, room, path_length ls)) i.fits i.flat (i.clean _)
-
--- what is found of the item is found of the whole
-pub found_of_whole : (d : ℕ) (ls : List Level) (p : List ℕ) (found : Option Complaint) → AreLevels d ls → AreOpenDistinct plain 0 (path ls) → IsJudged plain (length (bytes_before ls)) (d - length ls) p found
-    → IsJudged plain 0 d (bytes_before ls ++ p) found
-found_of_whole d ls p found h distinct j =
-    let are = path_open d ls h in
-    let levels = are.levels in
-    let size = path_length ls in
-    let room : d - length ls ≡ are.left = omega (arith, levels, size) in
-    let level : length (path ls) + are.left ≡ d = omega (arith, levels) in
-    subst (λ (n : ℕ). IsJudged plain 0 n (bytes_before ls ++ p) found) level
-    (subst (λ (x : List ℕ). IsJudged plain 0 (length (path ls) + are.left) (x ++ p) found) (path_bytes ls)
-    (judged_within (path ls) plain 0 (length (before_all (path ls))) are.left p found (omega arith) are.path are.closed distinct
-    (subst (λ (n : ℕ). IsJudged plain (length (before_all (path ls))) n p found) room (subst (λ (x : List ℕ). IsJudged plain (length x) (d - length ls) p found) (sym (path_bytes ls)) j))))

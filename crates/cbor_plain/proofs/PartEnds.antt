@@ -4,14 +4,13 @@ use Rattle.std.specs.Prelude.{nat_lt}
 use Rattle.std.proofs.lemmas.List.{length-append, length-map}
 use Rattle.cbor_head.specs.Canonical.{canonical}
 use Rattle.cbor_head.specs.Limits.{Bounds}
-use Rattle.cbor_head.specs.Spelling.{no_entries, spell, value_of}
+use Rattle.cbor_head.specs.Spelling.{spell, value_of}
 use Rattle.cbor_head.specs.Complaint as complaint
 use Rattle.cbor_head.specs.Complaint.{plain}
 use Rattle.cbor_head.specs.Verdict.{refusal}
 use Rattle.cbor_head.specs.declared.order.KeyOrder.{KeyOrder}
 use Rattle.cbor_head.specs.declared.reason.Reason.TheVariants.{RepeatedKey}
 use Rattle.cbor_head.specs.declared.reason.Refusal.{Refusal}
-use Rattle.cbor_head.specs.declared.width.Width.TheVariants.{Indefinite}
 use Rattle.cbor_standing.specs.NextEvent.{ItemEventsView}
 use Rattle.cbor_judging.specs.Place.{Place, at_item, close, done as at_end, open_at}
 use Rattle.cbor_builder.specs.Built.{Built, built, IsRepeatedKey, HasDistinctKeysSoFar}
@@ -28,7 +27,6 @@ use Rattle.cbor_plain.specs.inner.PlainItems.{AreApart, AreApartSoFar, HaveBegun
 use Rattle.cbor_plain.specs.declared.key_set.KeySet.{KeySet}
 use Rattle.cbor_plain.specs.inner.HeldKeys.{AreHeld, AreHeldSoFar}
 use Rattle.cbor_plain.proofs.HeldKeys.{held-popped, some-opens}
-use Rattle.cbor_judging.proofs.Judged.{zero_item, zero_pairs}
 use Rattle.cbor_judging.proofs.Standing.{open-is, fewer-open, short-at}
 use Rattle.cbor_judging.proofs.Given.{settled}
 use Rattle.cbor_plain.specs.TreeValues.{IsTreeAt, IsTreeStep, MayEndIn}
@@ -156,7 +154,7 @@ module _ (v : PlainItems) (b : Bounds) (e : ItemEventsView) (t : List ℕ) (h : 
           let short : length (bytes_before (l ∷ ls)) + length (spell k) < 2 ^ 63 = omega (arith, few-bytes, ap length bytes_are, size) in
           found (length (bytes_before (l ∷ ls))) (length (spell k))
           (subst (λ (x : List ℕ). IsJudged plain 0 b.depth x (Some (complaint.complaint (length (bytes_before (l ∷ ls)) + length (spell k)) (length (bytes_before (l ∷ ls))) RepeatedKey))) (sym bytes_are)
-          (repeat_found o b.depth ls l w done zero_item (zero_pairs left) refl [] (levels.0, (levels.1.0, levels.1.1), levels.2) (omega (arith, short)) (apart.0, (λ x. x), apart.1) levels.1.1 k levels.1.2 (omega (arith, short)) (subst IsRepeatedKey s.3 repeated)))
+          (repeat_found o b.depth ls l done refl (levels.0, (levels.1.0, levels.1.1), levels.2) (omega (arith, short)) (apart.0, (λ x. x), apart.1) levels.1.1 k levels.1.2 (omega (arith, short)) (subst IsRepeatedKey s.3 repeated)))
           (ap length bytes_are ∙ size) (place_is _ (ap (λ (i : ℕ). slice_get v.starts.items i) s.4 ∙ place_so))
       go (item_due (some_value done k ∷ ls)) s place_so =
           let o = v.builder.order in
@@ -168,7 +166,7 @@ module _ (v : PlainItems) (b : Bounds) (e : ItemEventsView) (t : List ℕ) (h : 
           let short : length (bytes_before (l ∷ ls)) + length (spell k) < 2 ^ 63 = omega (arith, few-bytes, ap length bytes_are, size) in
           found (length (bytes_before (l ∷ ls))) (length (spell k))
           (subst (λ (x : List ℕ). IsJudged plain 0 b.depth x (Some (complaint.complaint (length (bytes_before (l ∷ ls)) + length (spell k)) (length (bytes_before (l ∷ ls))) RepeatedKey))) (sym bytes_are)
-          (repeat_found o b.depth ls l Indefinite done zero_item no_entries refl [] (levels.0, levels.1.0, levels.2) (omega (arith, short)) (apart.0, (λ x. x), apart.1) levels.1.0 k levels.1.1 (omega (arith, short)) (subst IsRepeatedKey s.3 repeated)))
+          (repeat_found o b.depth ls l done refl (levels.0, levels.1.0, levels.2) (omega (arith, short)) (apart.0, (λ x. x), apart.1) levels.1.0 k levels.1.1 (omega (arith, short)) (subst IsRepeatedKey s.3 repeated)))
           (ap length bytes_are ∙ size) (place_is _ (ap (λ (i : ℕ). slice_get v.starts.items i) s.4 ∙ place_so))
       go (item_due []) s place_so = absurd (subst IsRepeatedKey s.3 repeated)
       go (item_due (a_member w left done ∷ ls)) s place_so = absurd (subst IsRepeatedKey s.3 repeated)

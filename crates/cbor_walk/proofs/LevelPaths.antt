@@ -1,14 +1,15 @@
 -- The open containers of a valid item so far, of which no map has two keys that are the same, as the path to the item that is due.
-use Rattle.std.proofs.Common.{◌≡◌, ℕ, suc, ◌+◌, ◌-◌, ◌^◌, ◌<◌, true, List, [], ◌∷◌, ◌++◌, length, map, get_or, refl, sym, ap, ap₂, ◌∙◌, subst, inl, inr, arith}
+use Rattle.std.proofs.Common.{◌≡◌, ℕ, suc, ◌+◌, ◌-◌, ◌^◌, ◌<◌, true, List, [], ◌∷◌, ◌++◌, length, map, get_or, refl, sym, ap, ap₂, ◌∙◌, subst, inl, inr, arith, Option, Some, ◌≤◌}
 use Rattle.std.specs.List.{AllByRecursion}
 use Rattle.std.specs.Prelude.{◌≢◌}
 use Rattle.std.proofs.lemmas.List.{length-append, map-append}
 use Rattle.cbor_head.specs.Canonical.{Pair, canonical, canonical_entries}
-use Rattle.cbor_head.specs.Complaint.{plain, Complaint, OfKey, ComplainsInEntries}
+use Rattle.cbor_head.specs.Complaint.{plain, Complaint, complaint, IsRepeated, OfKey, ComplainsInEntries}
 use Rattle.cbor_head.specs.Head.{head}
-use Rattle.cbor_head.specs.Spelling.{Spelling, SpelledEntries, no_entries, entry, spell, spell_entries, entries_count, HoldsOrIndefinite, value_of, entries_of}
+use Rattle.cbor_head.specs.Spelling.{Spelling, SpelledEntries, no_entries, entry, spell, spell_entries, entries_count, HoldsOrIndefinite, value_of, entries_of, depth}
 use Rattle.cbor_head.specs.declared.major.Major.TheVariants as majors
 use Rattle.cbor_head.specs.declared.order.KeyOrder.{KeyOrder}
+use Rattle.cbor_head.specs.declared.reason.Reason.TheVariants.{RepeatedKey}
 use Rattle.cbor_head.specs.declared.width.Width.{Width}
 use Rattle.cbor_head.specs.declared.width.Width.TheVariants.{Indefinite}
 use Rattle.cbor_builder.specs.Built.{keys_so_far, AreAllDifferent, AreOpenKeysDifferent}
@@ -17,7 +18,7 @@ use Rattle.cbor_canonical.specs.Parts.{pair}
 use Rattle.cbor_canonical.proofs.Keys.{distinct_exactly}
 use Rattle.cbor_judging.specs.Frame.{with_entries, keys_onto}
 use Rattle.cbor_judging.specs.Given.{level_open, opens}
-use Rattle.cbor_judging.specs.Judged.{Never}
+use Rattle.cbor_judging.specs.Judged.{IsJudged, Never}
 use Rattle.cbor_judging.specs.Levels.{IsTaken, ArePairsTaken, Level, a_member, a_key, a_value, some_member, some_key, some_value, tagged, level_bytes, IsLevel, AreLevels, bytes_before}
 use Rattle.cbor_judging.specs.SoFar.{IsMapSoFar, map_bytes}
 use Rattle.cbor_judging.proofs.Frames.{entries_right, spell_entries_with}
@@ -31,6 +32,7 @@ use Rattle.cbor_walk.specs.inner.Path as path
 use Rattle.cbor_walk.specs.inner.Path.{IsClean, AreClean, IsKeyDueIn, MayBreak}
 use Rattle.cbor_walk.specs.declared.level.Due.TheVariants.{Item, Key, Value}
 use Rattle.cbor_walk.specs.declared.open.Open.{Open}
+use Rattle.cbor_walk.proofs.PathLevels.{judged_path, judged_key_path}
 
 -- ---- the path
 
@@ -158,6 +160,49 @@ paths_clean o d (l ∷ ls) h small apart =
       subst (λ (n : ℕ). IsClean plain (length (path.bytes_before (paths_of ls))) (d - suc n) (path_of l)) (sym count) (level_clean o _ (d - suc (length ls)) l h.1 (omega (arith, small, size)) apart.0),
       paths_clean o d ls h.2 (omega (arith, small, size)) apart.1,
     )
+
+-- what is found of the item that is due is found of the whole
+pub found_of_whole : (o : KeyOrder) (d : ℕ) (ls : List Level) (p : List ℕ) (found : Option Complaint) → AreLevels d ls → length (bytes_before ls) < 2 ^ 63 → AreOpenKeysDifferent (opens o ls)
+    → IsJudged plain (length (bytes_before ls)) (d - length ls) p found → IsJudged plain 0 d (bytes_before ls ++ p) found
+found_of_whole o d ls p found h small apart j =
+    let ps = paths_of ls in
+    let same = paths_bytes ls in
+    subst (λ (x : List ℕ). IsJudged plain 0 d (x ++ p) found) same
+    (judged_path plain d ps (paths_clean o d ls h small apart) p found
+    (subst (λ (x : List ℕ). IsJudged plain (length x) (d - length ps) p found) (sym same) (subst (λ (n : ℕ). IsJudged plain (length (bytes_before ls)) (d - n) p found) (sym (paths_length ls)) j)))
+
+-- a key is due behind these pairs
+abbrev pub IsKeyBehind : Level → SpelledEntries → Type 0
+IsKeyBehind (a_key w left done) es = es ≡ done
+IsKeyBehind (some_key done) es = es ≡ done
+IsKeyBehind _ es = ⊥
+
+-- a key that is the same as an earlier one is the first complaint
+pub repeat_of_whole : (o : KeyOrder) (d : ℕ) (ls : List Level) (l : Level) (es : SpelledEntries) → IsKeyBehind l es → AreLevels d (l ∷ ls) → length (bytes_before (l ∷ ls)) < 2 ^ 63 → AreOpenKeysDifferent (opens o (l ∷ ls))
+    → (k : Spelling) → IsTaken (d - suc (length ls)) k → IsRepeated (keys_onto [] es) k
+    → IsJudged plain 0 d (bytes_before (l ∷ ls) ++ spell k) (Some (complaint (length (bytes_before (l ∷ ls)) + length (spell k)) (length (bytes_before (l ∷ ls))) RepeatedKey))
+repeat_of_whole o d ls l es behind h small apart k i repeated = go l behind h small apart
+  where
+    within : (n : ℕ) → n ≡ length ls → depth k ≤ d - suc n
+    within n e = let low = i.within in omega (arith, low, e)
+
+    here : (w : Width) (left : ℕ) (m : Level) → path_of m ≡ path.a_key w left es → AreClean plain d (paths_of (m ∷ ls))
+        → IsJudged plain 0 d (bytes_before (m ∷ ls) ++ spell k) (Some (complaint (length (bytes_before (m ∷ ls)) + length (spell k)) (length (bytes_before (m ∷ ls))) RepeatedKey))
+    here w left m is clean =
+        let ps = paths_of ls in
+        let same : path.bytes_before (path.a_key w left es ∷ ps) ≡ bytes_before (m ∷ ls) = ap (λ (x : path.Level). path.bytes_before (x ∷ ps)) (sym is) ∙ paths_bytes (m ∷ ls) in
+        subst (λ (x : List ℕ). IsJudged plain 0 d (x ++ spell k) (Some (complaint (length x + length (spell k)) (length x) RepeatedKey))) same
+        (judged_key_path plain d w left es ps k _ (record { around = subst (λ (x : path.Level). AreClean plain d (x ∷ ps)) is clean; spelled = i.spelled; within = within (length ps) (paths_length ls); clean = i.clean _ }) (repeated, refl))
+
+    go : (m : Level) → IsKeyBehind m es → AreLevels d (m ∷ ls) → length (bytes_before (m ∷ ls)) < 2 ^ 63 → AreOpenKeysDifferent (opens o (m ∷ ls))
+        → IsJudged plain 0 d (bytes_before (m ∷ ls) ++ spell k) (Some (complaint (length (bytes_before (m ∷ ls)) + length (spell k)) (length (bytes_before (m ∷ ls))) RepeatedKey))
+    go (a_key w left done) e h small apart = here w left (a_key w left done) (ap (path.a_key w left) (sym e)) (paths_clean o d (a_key w left done ∷ ls) h small apart)
+    go (some_key done) e h small apart = here Indefinite 0 (some_key done) (ap (path.a_key Indefinite 0) (sym e)) (paths_clean o d (some_key done ∷ ls) h small apart)
+    go (a_member w left done) e h small apart = absurd e
+    go (a_value w left done key) e h small apart = absurd e
+    go (some_member done) e h small apart = absurd e
+    go (some_value done key) e h small apart = absurd e
+    go (tagged w n) e h small apart = absurd e
 
 -- ---- what is due, by the cells
 
