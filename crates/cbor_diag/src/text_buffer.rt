@@ -50,7 +50,8 @@ impl TextBuffer {
         self.text_of_front(bytes, limits, Layout::OneLine)
     }
 
-    /// The same with one member or pair a line, two spaces a level.
+    /// The same with one member or pair a line, two spaces a level. It can be thousands of times as
+    /// long as the bytes: a view is written as it is gone over ([`diagnostic_view_indented`](crate::diagnostic_view_indented)).
     pub fn diagnostic_front_indented(
         &mut self,
         bytes: &[u8],

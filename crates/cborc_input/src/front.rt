@@ -1,26 +1,33 @@
 //! The item at the front of some bytes: how many bytes it has, and its diagnostic text.
 
-ghost use Rattle.std.specs.Prelude.{◌≡◌, ◌≢◌, ◌++◌, ℕ, codes, OnOk, IfOk, IfErr};
+ghost use Rattle.std.specs.Prelude.{◌≡◌, ◌≢◌, ◌≤◌, ◌++◌, ℕ, codes, OnOk, IfOk, IfErr};
 ghost use Rattle.std.specs.Io.KnownBytes.{Appends};
 ghost use Rattle.cbor_head.specs.Complaint.{plain};
 ghost use Rattle.cbor_head.specs.Spelling.{Spelling, value_of};
+ghost use Rattle.cbor_head.specs.Value.{depth};
 ghost use Rattle.cbor_head.specs.Verdict.{IsVerdict, accepted};
+ghost use Rattle.cbor_head.specs.declared.limits.TheConstants.{MAX_DEPTH};
 ghost use Rattle.cbor_judging.specs.Readers.{IsRead, IsUnread};
+ghost use Rattle.cbor_view.specs.Seen.{seen};
 ghost use Rattle.cborc_input.specs.Rules.{rules_of};
 ghost use Rattle.cborc_input.specs.Texts.{shown_text, IsNotTaken};
 
 use crate::fault::Fault;
 use crate::request::{Accepted, Layout};
-use cbor_diag::TextBuffer;
+use bumpalo::Bump;
+use cbor_diag::{TextBuffer, diagnostic_view_indented};
+use cbor_grammar::laws::verdict_is_one;
 use cbor_head::{Limits, Refusal};
 use cbor_item::write_whole;
-use cbor_reader::{ItemCheck, check_canonical};
-use std::alloc::{AllocError, Global};
+use cbor_reader::{ItemCheck, check_canonical, read_view};
+use cbor_view::View;
+use std::alloc::Global;
 use std::io::Write;
 
 /// Room for what is made of items, one after another. It keeps the memory that it took.
 #[derive(Drop)]
 pub struct Room {
+    alloc: Global,
     check: ItemCheck,
     text: TextBuffer,
 }
@@ -29,6 +36,7 @@ impl Room {
     /// Of no item so far. Takes no memory.
     pub fn new(alloc: Global) -> Room {
         Room {
+            alloc,
             check: ItemCheck::new(alloc),
             text: TextBuffer::new(alloc),
         }
@@ -51,7 +59,7 @@ impl Room {
     }
 
     /// Writes the text of the item that the bytes begin with, which is known to be valid within these
-    /// limits, and a line feed. The text is made whole before the first byte is written.
+    /// limits, and a line feed. On one line it is made whole before the first byte is written.
     pub fn print_front<'a, O: Write>(
         &mut self,
         bytes: &[u8],
@@ -67,26 +75,38 @@ impl Room {
             → IsNotTaken (shown_text layout (value_of s)) (O.contents out.old) (O.contents out.new) fault) }
         ensures silent { IfErr result (λ fault. fault ≢ Fault.CannotPrint → out.new ≡ out.old) }
     {
-        match self.text_at_front(bytes, limits, layout) {
-            Ok(text) => print_line(text, out),
-            Err(_) => Err(Fault::Memory),
+        match layout {
+            Layout::OneLine => match self.text.diagnostic_front(bytes, limits) {
+                Ok(text) => print_line(text, out),
+                Err(_) => Err(Fault::Memory),
+            },
+            Layout::Indented => self.print_indented(bytes, limits, out),
         }
     }
 
-    // The text of such an item in a layout.
-    fn text_at_front(
-        &mut self,
+    // The same with one member or pair a line. Such a text can be thousands of times as long as the
+    // bytes, so it is not made in memory, but written as a view of them is gone over.
+    fn print_indented<'a, O: Write>(
+        &self,
         bytes: &[u8],
         limits: Limits,
-        layout: Layout,
-    ) -> Result<&[u8], AllocError>
+        out: &mut O,
+    ) -> Result<(), Fault<'a>>
         requires { (size : ℕ) × IsRead limits plain bytes.now size }
-        ensures { IfOk result (λ text. (s : Spelling) → IsVerdict limits plain bytes.now (accepted s)
-            → text.now ++ codes "\n" ≡ shown_text layout (value_of s)) }
+        ensures shown { OnOk result ((s : Spelling) → IsVerdict limits plain bytes.now (accepted s)
+            → Appends (O.contents out.old) (O.contents out.new) (shown_text Layout.Indented (value_of s))) }
+        ensures fault { IfErr result (λ fault. (s : Spelling)
+            → IsVerdict limits plain bytes.now (accepted s)
+            → IsNotTaken (shown_text Layout.Indented (value_of s))
+            (O.contents out.old) (O.contents out.new) fault) }
+        ensures silent { IfErr result (λ fault. fault ≢ Fault.CannotPrint → out.new ≡ out.old) }
     {
-        match layout {
-            Layout::OneLine => self.text.diagnostic_front(bytes, limits),
-            Layout::Indented => self.text.diagnostic_front_indented(bytes, limits),
+        verdict_is_one();
+        let arena = Bump::new(self.alloc);
+        match read_view(self.alloc, bytes, limits, &arena) {
+            Ok((view, _)) => print_view(&view, out),
+            // The item is valid, so memory was refused.
+            Err(_) => Err(Fault::Memory),
         }
     }
 }
@@ -101,6 +121,24 @@ fn print_line<'a, O: Write>(text: &[u8], out: &mut O) -> Result<(), Fault<'a>>
 {
     match write_whole(out, text) {
         Ok(()) => match write_whole(out, b"\n") {
+            Ok(()) => Ok(()),
+            Err(_) => Err(Fault::CannotPrint),
+        },
+        Err(_) => Err(Fault::CannotPrint),
+    }
+}
+
+// Writes the text of a view with one member or pair a line, and a line feed.
+fn print_view<'a, O: Write>(view: &View<'_>, out: &mut O) -> Result<(), Fault<'a>>
+    requires { depth (seen view.now) ≤ MAX_DEPTH }
+    ensures shown { OnOk result (Appends (O.contents out.old) (O.contents out.new)
+        (shown_text Layout.Indented (seen view.now))) }
+    ensures fault { IfErr result (λ fault. fault ≡ Fault.CannotPrint) }
+    ensures cut { IfErr result (IsNotTaken (shown_text Layout.Indented (seen view.now))
+        (O.contents out.old) (O.contents out.new)) }
+{
+    match diagnostic_view_indented(view, out) {
+        Ok(_) => match write_whole(out, b"\n") {
             Ok(()) => Ok(()),
             Err(_) => Err(Fault::CannotPrint),
         },

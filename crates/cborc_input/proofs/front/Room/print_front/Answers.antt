@@ -1,10 +1,21 @@
-use Rattle.std.proofs.Common.{ℕ, List, subst}
+use Rattle.std.proofs.Common.{ℕ, List, ◌++◌, codes, sym, subst}
+use Rattle.cbor_head.specs.Spelling.{value_of}
 use Rattle.cborc_fronts.proofs.Results.{if_err}
-use Rattle.cborc_input.specs.Texts.{IsNotTaken}
+use Rattle.cborc_input.specs.Texts.{shown_text, IsNotTaken}
+use Rattle.cborc_input.specs.declared.request.Layout.{Layout}
 use Rattle.cborc_input.proofs.front.Room.print_front.Goals as goal
 
 pub returns-in-Ok-clause-fault : goal.returns-in-Ok-clause-fault
 returns-in-Ok-clause-fault g c =
+    let before = g.O.Write.contents c.args.out.now in
+    let after = g.O.Write.contents c.print_line.new.out in
     if_err c.print_line.result _ _
-    (λ fault h s v. subst (λ (text : List ℕ). IsNotTaken text (g.O.Write.contents c.args.out.now) (g.O.Write.contents c.print_line.new.out) fault) (c.in-Ok.ensures s v) h)
-    c.print_line.ensures.cut
+    (λ fault h s v. subst (λ (l : Layout). IsNotTaken (shown_text l (value_of s)) before after fault) (sym c.in-OneLine.is)
+    (subst (λ (x : List ℕ). IsNotTaken (x ++ codes "\n") before after fault) (c.in-Ok.ensures s v) h)) c.print_line.ensures.cut
+
+pub returns-in-Indented-clause-fault : goal.returns-in-Indented-clause-fault
+returns-in-Indented-clause-fault g c =
+    let before = g.O.Write.contents c.args.out.now in
+    let after = g.O.Write.contents c.print_indented.new.out in
+    if_err c.print_indented.result _ _
+    (λ fault h s v. subst (λ (l : Layout). IsNotTaken (shown_text l (value_of s)) before after fault) (sym c.in-Indented.is) (h s v)) c.print_indented.ensures.fault
