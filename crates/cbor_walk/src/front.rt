@@ -169,6 +169,7 @@ fn past_item<'a, S: Sink<'a>, const KINDS: bool>(
     match building.walk::<KINDS>(input, &mut cells, depth) {
         Met::Whole(behind) => Past::Whole(behind),
         Met::Untaken(rest) => {
+            // With a cell left, it is not for want of one.
             if building.stack.height < FEW {
                 return Past::Refused(rest);
             }
