@@ -21,7 +21,7 @@ use Rattle.cbor_judging.proofs.Levels.{clean-anywhere, no-count}
 use Rattle.cbor_judging.proofs.Loops.{array_bytes-whole, map_bytes-whole}
 use Rattle.cbor_judging.specs.Levels.{IsTaken, Level, a_member, a_key, a_value, some_member, some_key, some_value, tagged, AreLevels, level_bytes, bytes_before, Standing, item_due, settle}
 use Rattle.cbor_walk.specs.Sink.{takes_key, key_due, Completes, Fills, IsEndedAs, IsItemDue, Gives, Opens, IsContainerFull, Ends, IsKnownValid, IsGivenFront}
-use Rattle.cbor_walk.specs.inner.Building.{awaits, counted, cell_of, cells_of, BeginsTaken, IsDue, HasEnded, IsToEnd, IsBuilt, IsDueFor, TakesTo, IsItem, EndsTo, IsHead, IsOpener, Counts}
+use Rattle.cbor_walk.specs.inner.Building.{awaits, counted, cell_of, cells_of, BeginsTaken, IsDue, HasEnded, IsToEnd, IsBuilt, IsDueFor, TakesTo, EndsTo, IsHead, IsOpener, Counts}
 use Rattle.cbor_walk.specs.inner.Stack.{standing}
 use Rattle.cbor_walk.specs.declared.level.Due.{Due}
 use Rattle.cbor_walk.specs.declared.level.Due.TheVariants.{Item, Key, Value as ItsValue}
@@ -50,10 +50,6 @@ cell-awaits (tagged w n) = refl
 pub key-awaited : (ls : List Level) (top : Open) (outer : List Open) → top ∷ outer ≡ cells_of ls → awaits top.due ≡ key_due ls
 key-awaited [] top outer e = let same : top ≡ counted Item 0 = cc in ap (λ (x : Open). awaits x.due) same
 key-awaited (l ∷ ls) top outer e = let same : top ≡ cell_of l = cc in ap (λ (x : Open). awaits x.due) same ∙ cell-awaits l
-
--- an item is taken without a cell
-pub never-full : (p : Part) → IsItem p → p ≡ part.Full → ⊥
-never-full p h e = subst IsItem e h
 
 -- an input whose item is known to be valid
 pub known-begins : (limits : Bounds) (bytes input : List ℕ) (d : ℕ) → d ≡ limits.depth → input ≡ take limits.bytes bytes → IsKnownValid limits bytes → BeginsTaken d input
@@ -235,5 +231,4 @@ module _ (S : Type 0) (stands : S → S → Standing → Type 0) (trusts : Bool)
     ends-takes (part.Item to) cs g rest behind l h = (subst (λ (x : List ℕ). length x < length rest) (sym h.0) l, subst (HasEnded S stands trusts start d input cs g) (sym h.0) h.1)
     ends-takes part.Stopped cs g rest behind l h = tt
     ends-takes (part.Head to) cs g rest behind l h = absurd h
-    ends-takes part.Full cs g rest behind l h = absurd h
-    ends-takes part.Refused cs g rest behind l h = absurd h
+    ends-takes part.Untaken cs g rest behind l h = absurd h

@@ -2,7 +2,7 @@
 
 ghost use Rattle.std.specs.Prelude.{◌≡◌, ◌≤◌, length};
 ghost use Rattle.cbor_walk.specs.inner.Building.{IsDueIn, HasEndedIn, HasFilledIn};
-ghost use Rattle.cbor_walk.specs.inner.Building.{pairs, Leads, LeadsFull, Walks, WalksKept, IsFullAt};
+ghost use Rattle.cbor_walk.specs.inner.Building.{pairs, Leads, LeadsFull, Walks, WalksKept};
 ghost use Rattle.cbor_walk.specs.inner.Stack.{around, standing};
 
 use crate::open::Open;
@@ -33,10 +33,8 @@ pub(crate) enum Then {
 pub(crate) enum Met<'a> {
     /// The item is whole, before these bytes.
     Whole(&'a [u8]),
-    /// More containers open than there are cells. An item is due before these bytes.
-    Full(&'a [u8]),
-    /// An item is due before these bytes, and they are refused.
-    Refused(&'a [u8]),
+    /// An item is due before these bytes, and what stands there may not, or there is no cell for it.
+    Untaken(&'a [u8]),
     /// Memory is refused, two keys of a map are the same, or a string in chunks is refused.
     Stopped,
 }
@@ -57,7 +55,6 @@ impl<S> Building<S> {
         ensures cells { self.new.stack.height ≤ length cells.new }
         ensures walked { Walks S S.stands S.trusts result depth start.now (standing Open self.old.stack cells.old)
             self.old.sink (standing Open self.new.stack cells.new) self.new.sink }
-        ensures full { IsFullAt result self.new.stack.height (length cells.new) }
         ensures kept { WalksKept S S.stands S.trusts KINDS result depth start.now
             (standing Open self.old.stack cells.old) self.old.sink }
     {
@@ -73,8 +70,7 @@ impl<S> Building<S> {
                         Then::Stopped => return Met::Stopped,
                     }
                 }
-                Part::Full => return Met::Full(rest),
-                Part::Refused => return Met::Refused(rest),
+                Part::Untaken => return Met::Untaken(rest),
                 Part::Stopped => return Met::Stopped,
             }
         }

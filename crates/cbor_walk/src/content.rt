@@ -32,7 +32,7 @@ impl<S> Building<S> {
         ensures front { TakesHeadFront result (string_major is_text) count behind.now }
     {
         let Some(size) = payload_size(is_text, count, behind) else {
-            return Part::Refused;
+            return Part::Untaken;
         };
         let is_key = self.stack.top.due.is_key();
         match self.sink.string(is_key, is_text, behind, size) {

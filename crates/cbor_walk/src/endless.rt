@@ -32,7 +32,6 @@ impl<S> Building<S> {
         ensures takes { Takes S S.stands S.trusts result depth (first ∷ behind.now)
             (standing Open self.old.stack cells.old) self.old.sink
             (standing Open self.new.stack cells.new) self.new.sink }
-        ensures full { result ≡ Part.Full → self.new.stack.height ≡ length cells.new }
         ensures front { TakesFront result (depth - self.old.stack.height) self.old.stack.top
             (first ∷ behind.now) }
     {
@@ -49,7 +48,7 @@ impl<S> Building<S> {
             ),
             0xbf => self.open(Major::Map, 0, Open::endless(Due::Key), behind, cells, depth),
             0xff => self.take_break(behind, cells),
-            _ => Part::Refused,
+            _ => Part::Untaken,
         }
     }
 
@@ -66,10 +65,10 @@ impl<S> Building<S> {
         ensures front { (d : ℕ) → TakesFront result d self.old.stack.top (0xff ∷ behind.now) }
     {
         if !self.stack.top.is_endless {
-            return Part::Refused;
+            return Part::Untaken;
         }
         if let Due::Value = self.stack.top.due {
-            return Part::Refused;
+            return Part::Untaken;
         }
         let is_map = self.stack.top.due.is_in_map();
         self.stack.pop(cells);

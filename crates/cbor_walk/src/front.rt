@@ -123,7 +123,7 @@ fn refused<'a, S: Sink<'a> + Drop>(
 pub(crate) enum Past<'a> {
     /// The item is whole, before these bytes.
     Whole(&'a [u8]),
-    /// An item is due before these bytes, and they are refused.
+    /// An item is due before these bytes, and what stands there may not.
     Refused(&'a [u8]),
     /// As [`Met::Stopped`].
     Stopped,
@@ -168,8 +168,13 @@ fn past_item<'a, S: Sink<'a>, const KINDS: bool>(
     let mut cells = [Open::counted(Due::Item, 0); FEW];
     match building.walk::<KINDS>(input, &mut cells, depth) {
         Met::Whole(behind) => Past::Whole(behind),
-        Met::Full(rest) => deeper::<S, KINDS>(building, rest, &cells, depth),
-        Met::Refused(rest) => Past::Refused(rest),
+        Met::Untaken(rest) => {
+            // With a cell left, it is not for want of one.
+            if building.stack.height < FEW {
+                return Past::Refused(rest);
+            }
+            deeper::<S, KINDS>(building, rest, &cells, depth)
+        }
         Met::Stopped => Past::Stopped,
     }
 }
@@ -196,8 +201,12 @@ fn deeper<'a, S: Sink<'a>, const KINDS: bool>(
     lend(few, &mut cells);
     match building.walk::<KINDS>(rest, &mut cells, depth) {
         Met::Whole(behind) => Past::Whole(behind),
-        Met::Full(rest) => deepest::<S, KINDS>(building, rest, &cells, depth),
-        Met::Refused(rest) => Past::Refused(rest),
+        Met::Untaken(rest) => {
+            if building.stack.height < SOME {
+                return Past::Refused(rest);
+            }
+            deepest::<S, KINDS>(building, rest, &cells, depth)
+        }
         Met::Stopped => Past::Stopped,
     }
 }
@@ -224,7 +233,7 @@ fn deepest<'a, S: Sink<'a>, const KINDS: bool>(
     lend(few, &mut cells);
     match building.walk::<KINDS>(rest, &mut cells, depth) {
         Met::Whole(behind) => Past::Whole(behind),
-        Met::Refused(rest) => Past::Refused(rest),
-        Met::Full(_) | Met::Stopped => Past::Stopped,
+        Met::Untaken(rest) => Past::Refused(rest),
+        Met::Stopped => Past::Stopped,
     }
 }

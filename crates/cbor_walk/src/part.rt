@@ -24,10 +24,8 @@ pub(crate) enum Part<'a> {
     Item(&'a [u8]),
     /// The head of a container. In it an item is due, or a break.
     Head(&'a [u8]),
-    /// Nothing: a container may open, and there is no cell for it.
-    Full,
-    /// Nothing that may stand there.
-    Refused,
+    /// Nothing: it may not stand there, or it is a container for which there is no cell.
+    Untaken,
     /// No more: memory is refused, two keys of a map are the same, or a string in chunks is refused.
     Stopped,
 }
@@ -42,8 +40,7 @@ impl<'a> Part<'a> {
         match self {
             Part::Item(behind) => Part::Item(behind),
             Part::Head(behind) => Part::Head(behind),
-            Part::Full => Part::Full,
-            Part::Refused => Part::Refused,
+            Part::Untaken => Part::Untaken,
             Part::Stopped => Part::Stopped,
         }
     }
@@ -65,30 +62,29 @@ impl<S> Building<S> {
         ensures cells { self.new.stack.height ≤ length cells.new }
         ensures takes { Takes S S.stands S.trusts result depth rest.now (standing Open self.old.stack cells.old)
             self.old.sink (standing Open self.new.stack cells.new) self.new.sink }
-        ensures full { result ≡ Part.Full → self.new.stack.height ≡ length cells.new }
         ensures front { TakesFront result (depth - self.old.stack.height) self.old.stack.top rest.now }
         ensures fits { HasTaken result → KINDS ≡ true → self.old.stack.top.due ≡ Due.Key
             → IsFitFront rest.now }
     {
         let Some((first, behind)) = rest.split_first() else {
-            return Part::Refused;
+            return Part::Untaken;
         };
         let (kind, low) = (*first / 32, *first % 32);
         if low > 27 {
             if is_other_key::<KINDS>(self.stack.top.due, rest) {
-                return Part::Refused;
+                return Part::Untaken;
             }
             return self.take_endless(*first, behind, cells, depth).unpacked();
         }
         let Some(head) = read_argument(low, behind) else {
-            return Part::Refused;
+            return Part::Untaken;
         };
         let (number, behind) = (head.number, head.rest);
         match kind {
             0 => self.give_leaf(Major::Unsigned, number, behind),
             1 => self.give_leaf(Major::Negative, number, behind),
             3 => self.take_string(true, number, behind),
-            _ if is_other_key::<KINDS>(self.stack.top.due, rest) => Part::Refused,
+            _ if is_other_key::<KINDS>(self.stack.top.due, rest) => Part::Untaken,
             2 => self.take_string(false, number, behind),
             4 => self
                 .take_counted(Major::Array, Due::Item, number, behind, cells, depth)
@@ -102,7 +98,7 @@ impl<S> Building<S> {
             }
             _ => {
                 if low > 24 || low == 24 && number < 32 {
-                    return Part::Refused;
+                    return Part::Untaken;
                 }
                 self.give_leaf(Major::Simple, number, behind)
             }
@@ -149,7 +145,6 @@ impl<S> Building<S> {
         ensures takes { TakesCounted S S.stands S.trusts result depth major number behind.now
             (standing Open self.old.stack cells.old) self.old.sink
             (standing Open self.new.stack cells.new) self.new.sink }
-        ensures full { result ≡ Part.Full → self.new.stack.height ≡ length cells.new }
         ensures front { TakesCountedFront result (depth - self.old.stack.height) major number behind.now }
     {
         if number > 0 {
@@ -157,7 +152,7 @@ impl<S> Building<S> {
             return self.open(major, number, opened, behind, cells, depth);
         }
         if self.stack.height >= depth {
-            return Part::Refused;
+            return Part::Untaken;
         }
         let Ok(()) = self.sink.begin(self.stack.top.due.is_key(), major, 0) else {
             return Part::Stopped;
@@ -185,14 +180,10 @@ impl<S> Building<S> {
         ensures takes { TakesOpener S S.stands S.trusts result depth major number opened behind.now
             (standing Open self.old.stack cells.old) self.old.sink
             (standing Open self.new.stack cells.new) self.new.sink }
-        ensures full { result ≡ Part.Full → self.new.stack.height ≡ length cells.new }
         ensures front { TakesOpenerFront result (depth - self.old.stack.height) major number opened behind.now }
     {
-        if self.stack.height >= depth {
-            return Part::Refused;
-        }
-        if self.stack.height >= cells.len() {
-            return Part::Full;
+        if self.stack.height >= depth || self.stack.height >= cells.len() {
+            return Part::Untaken;
         }
         let Ok(()) = self.sink.begin(self.stack.top.due.is_key(), major, number) else {
             return Part::Stopped;

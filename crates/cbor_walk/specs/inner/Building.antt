@@ -83,7 +83,7 @@ pairs Value = true
 -- it is an item, or nothing can be taken
 abbrev pub IsItem : Part → Type 0
 IsItem (part.Item behind) = Unit {0}
-IsItem part.Refused = Unit {0}
+IsItem part.Untaken = Unit {0}
 IsItem part.Stopped = Unit {0}
 IsItem _ = ⊥
 
@@ -118,11 +118,6 @@ pub record IsPayload (is_text : Bool) (count size : ℕ) (rest : List ℕ) : Typ
 -- behind the opener of a string in chunks
 abbrev pub chunked_from : Bool → List ℕ → List ℕ
 chunked_from is_text behind = head (string_major is_text) Indefinite 0 ++ behind
-
--- all cells are in use
-abbrev pub IsFullAt : Met → ℕ → ℕ → Type 0
-IsFullAt (met.Full rest) height count = height ≡ count
-IsFullAt _ height count = Unit {0}
 
 -- ---- what is taken of the bytes that are left
 
@@ -180,8 +175,7 @@ KeepsBefore d keys input rest = (t : List ℕ) → input ≡ t ++ rest → Keeps
 
 abbrev pub MetKept : Met → ℕ → Keys → List ℕ → Type 0
 MetKept (met.Whole rest) d keys input = KeepsBefore d keys input rest.now
-MetKept (met.Full rest) d keys input = KeepsBefore d keys input rest.now
-MetKept (met.Refused rest) d keys input = KeepsBefore d keys input rest.now
+MetKept (met.Untaken rest) d keys input = KeepsBefore d keys input rest.now
 MetKept met.Stopped d keys input = Unit {0}
 
 abbrev pub PassKept : Past → ℕ → Keys → List ℕ → Type 0
@@ -282,8 +276,7 @@ module _ (S : Type 0) (stands : S → S → Standing → Type 0) (trusts : Bool)
   abbrev pub TakesTo : Part → S → ℕ → List ℕ → List ℕ → List Open → S → Type 0
   TakesTo (part.Item behind) start d input rest cs g = (length behind.now < length rest) × HasEnded start d input cs g behind.now
   TakesTo (part.Head behind) start d input rest cs g = (length behind.now < length rest) × IsDue start d input cs g behind.now
-  TakesTo part.Full start d input rest cs g = IsDue start d input cs g rest
-  TakesTo part.Refused start d input rest cs g = IsDue start d input cs g rest
+  TakesTo part.Untaken start d input rest cs g = IsDue start d input cs g rest
   TakesTo part.Stopped start d input rest cs g = Unit {0}
 
   -- from these cells and this sink to those
@@ -348,8 +341,7 @@ module _ (S : Type 0) (stands : S → S → Standing → Type 0) (trusts : Bool)
 
   abbrev pub Meets : Met → S → ℕ → List ℕ → List Open → S → Type 0
   Meets (met.Whole rest) start d input cs g = IsBuilt start d input g rest.now
-  Meets (met.Full rest) start d input cs g = IsDue start d input cs g rest.now
-  Meets (met.Refused rest) start d input cs g = IsDue start d input cs g rest.now
+  Meets (met.Untaken rest) start d input cs g = IsDue start d input cs g rest.now
   Meets met.Stopped start d input cs g = Unit {0}
 
   abbrev pub Walks : Met → ℕ → List ℕ → List Open → S → List Open → S → Type 0

@@ -17,22 +17,22 @@ deepest-requires g c =
     let start = c.requires.due.0 in
     let input = c.requires.due.1 in
     let due = subst (λ (x : List Open). IsDue g.row.S.Denot g.S.Sink.stands g.S.Sink.trusts start c.args.depth input x b.sink c.args.rest.now) (more_cells Open b.stack c.args.few.now c.lend.new.cells c.requires.full c.lend.ensures) c.requires.due.2 in
-    λ n. ((refl, tt), (omega arith, (c.in-Full.ensures.full, (start, input, c.in-Full.ensures.walked start input due))))
+    λ n. ((refl, tt), (omega arith, (omega (arith, c.if-building-lt-SOME.false, c.in-Untaken.ensures.cells), (start, input, c.in-Untaken.ensures.walked start input due))))
 
-pub returns-in-Full-clause-kept : goal.returns-in-Full-clause-kept
-returns-in-Full-clause-kept g c = λ kinds keys start input due keeps.
+pub returns-else-building-lt-SOME-clause-kept : goal.returns-else-building-lt-SOME-clause-kept
+returns-else-building-lt-SOME-clause-kept g c = λ kinds keys start input due keeps.
     let b = c.args.building.now in
     let here = subst (λ (x : List Open). IsDue g.row.S.Denot g.S.Sink.stands g.S.Sink.trusts start c.args.depth input x b.sink c.args.rest.now) (more_cells Open b.stack c.args.few.now c.lend.new.cells c.requires.full c.lend.ensures) due in
-    c.deepest.ensures.kept kinds keys start input (c.in-Full.ensures.walked start input here) (c.in-Full.ensures.kept kinds keys start input here keeps)
+    c.deepest.ensures.kept kinds keys start input (c.in-Untaken.ensures.walked start input here) (c.in-Untaken.ensures.kept kinds keys start input here keeps)
 
-pub returns-in-Refused-clause-passes : goal.returns-in-Refused-clause-passes
-returns-in-Refused-clause-passes g c = λ start input due.
+pub returns-then-building-lt-SOME-clause-passes : goal.returns-then-building-lt-SOME-clause-passes
+returns-then-building-lt-SOME-clause-passes g c = λ start input due.
     let b = c.args.building.now in
     let here = subst (λ (x : List Open). IsDue g.row.S.Denot g.S.Sink.stands g.S.Sink.trusts start c.args.depth input x b.sink c.args.rest.now) (more_cells Open b.stack c.args.few.now c.lend.new.cells c.requires.full c.lend.ensures) due in
-    due-over g.row.S.Denot g.S.Sink.stands g.S.Sink.trusts start c.args.depth input c.walk.new.self.stack c.walk.new.cells c.walk.new.self.sink c.in-Refused.rest.now c.in-Refused.ensures.cells (c.in-Refused.ensures.walked start input here)
+    due-over g.row.S.Denot g.S.Sink.stands g.S.Sink.trusts start c.args.depth input c.walk.new.self.stack c.walk.new.cells c.walk.new.self.sink c.in-Untaken.rest.now c.in-Untaken.ensures.cells (c.in-Untaken.ensures.walked start input here)
 
-pub returns-in-Refused-clause-kept : goal.returns-in-Refused-clause-kept
-returns-in-Refused-clause-kept g c = λ kinds keys start input due keeps.
+pub returns-then-building-lt-SOME-clause-kept : goal.returns-then-building-lt-SOME-clause-kept
+returns-then-building-lt-SOME-clause-kept g c = λ kinds keys start input due keeps.
     let b = c.args.building.now in
-    c.in-Refused.ensures.kept kinds keys start input
+    c.in-Untaken.ensures.kept kinds keys start input
     (subst (λ (x : List Open). IsDue g.row.S.Denot g.S.Sink.stands g.S.Sink.trusts start c.args.depth input x b.sink c.args.rest.now) (more_cells Open b.stack c.args.few.now c.lend.new.cells c.requires.full c.lend.ensures) due) keeps

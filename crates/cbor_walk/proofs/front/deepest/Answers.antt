@@ -11,14 +11,14 @@ returns-in-Whole-clause-kept g c = λ kinds keys start input due keeps.
     c.in-Whole.ensures.kept kinds keys start input
     (subst (λ (x : List Open). IsDue g.row.S.Denot g.S.Sink.stands g.S.Sink.trusts start c.args.depth input x b.sink c.args.rest.now) (more_cells Open b.stack c.args.few.now c.lend.new.cells c.requires.full c.lend.ensures) due) keeps
 
-pub returns-in-Refused-clause-passes : goal.returns-in-Refused-clause-passes
-returns-in-Refused-clause-passes g c = λ start input due.
+pub returns-in-Untaken-clause-passes : goal.returns-in-Untaken-clause-passes
+returns-in-Untaken-clause-passes g c = λ start input due.
     let b = c.args.building.now in
     let here = subst (λ (x : List Open). IsDue g.row.S.Denot g.S.Sink.stands g.S.Sink.trusts start c.args.depth input x b.sink c.args.rest.now) (more_cells Open b.stack c.args.few.now c.lend.new.cells c.requires.full c.lend.ensures) due in
-    due-over g.row.S.Denot g.S.Sink.stands g.S.Sink.trusts start c.args.depth input c.walk.new.self.stack c.walk.new.cells c.walk.new.self.sink c.in-Refused.rest.now c.in-Refused.ensures.cells (c.in-Refused.ensures.walked start input here)
+    due-over g.row.S.Denot g.S.Sink.stands g.S.Sink.trusts start c.args.depth input c.walk.new.self.stack c.walk.new.cells c.walk.new.self.sink c.in-Untaken.rest.now c.in-Untaken.ensures.cells (c.in-Untaken.ensures.walked start input here)
 
-pub returns-in-Refused-clause-kept : goal.returns-in-Refused-clause-kept
-returns-in-Refused-clause-kept g c = λ kinds keys start input due keeps.
+pub returns-in-Untaken-clause-kept : goal.returns-in-Untaken-clause-kept
+returns-in-Untaken-clause-kept g c = λ kinds keys start input due keeps.
     let b = c.args.building.now in
-    c.in-Refused.ensures.kept kinds keys start input
+    c.in-Untaken.ensures.kept kinds keys start input
     (subst (λ (x : List Open). IsDue g.row.S.Denot g.S.Sink.stands g.S.Sink.trusts start c.args.depth input x b.sink c.args.rest.now) (more_cells Open b.stack c.args.few.now c.lend.new.cells c.requires.full c.lend.ensures) due) keeps

@@ -12,8 +12,8 @@ deeper-requires g c =
       (
         omega arith,
         (
-          c.in-Full.ensures.full,
-          (b.sink, c.args.input.now, c.in-Full.ensures.walked b.sink c.args.input.now (starts g.row.S.Denot g.S.Sink.stands g.S.Sink.trusts b.stack b.sink c.args.depth c.args.input.now _ c.requires.none c.requires.top c.requires.fresh (omega arith) c.requires.known)),
+          omega (arith, c.if-building-lt-FEW.false, c.in-Untaken.ensures.cells),
+          (b.sink, c.args.input.now, c.in-Untaken.ensures.walked b.sink c.args.input.now (starts g.row.S.Denot g.S.Sink.stands g.S.Sink.trusts b.stack b.sink c.args.depth c.args.input.now _ c.requires.none c.requires.top c.requires.fresh (omega arith) c.requires.known)),
         ),
       ),
     )
@@ -27,28 +27,28 @@ returns-in-Whole-clause-kept g c = λ kinds keys.
     let input = c.args.input.now in
     c.in-Whole.ensures.kept kinds keys b.sink input (starts S stands trusts b.stack b.sink c.args.depth input _ c.requires.none c.requires.top c.requires.fresh (omega arith) c.requires.known) (starts-kept S stands trusts b.sink c.args.depth input keys)
 
-pub returns-in-Full-clause-kept : goal.returns-in-Full-clause-kept
-returns-in-Full-clause-kept g c = λ kinds keys.
+pub returns-else-building-lt-FEW-clause-kept : goal.returns-else-building-lt-FEW-clause-kept
+returns-else-building-lt-FEW-clause-kept g c = λ kinds keys.
     let S = g.row.S.Denot in
     let stands = g.S.Sink.stands in
     let trusts = g.S.Sink.trusts in
     let b = c.args.building.now in
     let input = c.args.input.now in
     let due = starts S stands trusts b.stack b.sink c.args.depth input _ c.requires.none c.requires.top c.requires.fresh (omega arith) c.requires.known in
-    c.deeper.ensures.kept kinds keys b.sink input (c.in-Full.ensures.walked b.sink input due) (c.in-Full.ensures.kept kinds keys b.sink input due (starts-kept S stands trusts b.sink c.args.depth input keys))
+    c.deeper.ensures.kept kinds keys b.sink input (c.in-Untaken.ensures.walked b.sink input due) (c.in-Untaken.ensures.kept kinds keys b.sink input due (starts-kept S stands trusts b.sink c.args.depth input keys))
 
-pub returns-in-Refused-clause-passes : goal.returns-in-Refused-clause-passes
-returns-in-Refused-clause-passes g c =
+pub returns-then-building-lt-FEW-clause-passes : goal.returns-then-building-lt-FEW-clause-passes
+returns-then-building-lt-FEW-clause-passes g c =
     let b = c.args.building.now in
     let input = c.args.input.now in
-    due-over g.row.S.Denot g.S.Sink.stands g.S.Sink.trusts b.sink c.args.depth input c.walk.new.self.stack c.walk.new.cells c.walk.new.self.sink c.in-Refused.rest.now c.in-Refused.ensures.cells
-    (c.in-Refused.ensures.walked b.sink input (starts g.row.S.Denot g.S.Sink.stands g.S.Sink.trusts b.stack b.sink c.args.depth input _ c.requires.none c.requires.top c.requires.fresh (omega arith) c.requires.known))
+    due-over g.row.S.Denot g.S.Sink.stands g.S.Sink.trusts b.sink c.args.depth input c.walk.new.self.stack c.walk.new.cells c.walk.new.self.sink c.in-Untaken.rest.now c.in-Untaken.ensures.cells
+    (c.in-Untaken.ensures.walked b.sink input (starts g.row.S.Denot g.S.Sink.stands g.S.Sink.trusts b.stack b.sink c.args.depth input _ c.requires.none c.requires.top c.requires.fresh (omega arith) c.requires.known))
 
-pub returns-in-Refused-clause-kept : goal.returns-in-Refused-clause-kept
-returns-in-Refused-clause-kept g c = λ kinds keys.
+pub returns-then-building-lt-FEW-clause-kept : goal.returns-then-building-lt-FEW-clause-kept
+returns-then-building-lt-FEW-clause-kept g c = λ kinds keys.
     let S = g.row.S.Denot in
     let stands = g.S.Sink.stands in
     let trusts = g.S.Sink.trusts in
     let b = c.args.building.now in
     let input = c.args.input.now in
-    c.in-Refused.ensures.kept kinds keys b.sink input (starts S stands trusts b.stack b.sink c.args.depth input _ c.requires.none c.requires.top c.requires.fresh (omega arith) c.requires.known) (starts-kept S stands trusts b.sink c.args.depth input keys)
+    c.in-Untaken.ensures.kept kinds keys b.sink input (starts S stands trusts b.stack b.sink c.args.depth input _ c.requires.none c.requires.top c.requires.fresh (omega arith) c.requires.known) (starts-kept S stands trusts b.sink c.args.depth input keys)

@@ -4,7 +4,7 @@ use Rattle.cbor_walk.specs.inner.Building.{IsHeadIn, IsOpener, IsToEnd, TakesTo}
 use Rattle.cbor_walk.specs.inner.Stack.{around, standing}
 use Rattle.cbor_walk.proofs.GivenItems.{counts-container, head-opens}
 use Rattle.cbor_walk.proofs.GivenKinds.{counted-begun, begun-takes}
-use Rattle.cbor_walk.proofs.GivenParts.{due-item, key-awaited, height-is, empty-ends, ends-takes, never-full}
+use Rattle.cbor_walk.proofs.GivenParts.{due-item, key-awaited, height-is, empty-ends, ends-takes}
 use Rattle.cbor_walk.proofs.Taking.{standing_count}
 use Rattle.cbor_walk.proofs.building.Building.take_counted.Goals as goal
 
@@ -74,9 +74,6 @@ returns-clause-takes g c = λ rest head start input due.
     let e = empty-ends S stands trusts start c.args.depth input cs sink rest due c.args.major c.args.due c.args.number c.args.behind.now c.begin.new.self c.is_key.result (c.is_key.ensures ∙ key-awaited due.ls c.args.self.now.stack.top (around Open c.args.self.now.stack c.args.cells.now) due.cells) room c.requires.kind (omega (arith, c.if-number-gt0.false)) head c.in-Ok.ensures in
     subst (λ s. TakesTo S stands trusts c.end.result start c.args.depth input rest (standing Open s c.args.cells.now) c.end.new.self.sink) (sym c.end.ensures.stack)
     (ends-takes S stands trusts start c.args.depth input c.end.result cs c.end.new.self.sink rest c.args.behind.now e.0 (c.end.ensures.ends start c.args.depth input cs (subst (λ (t : Bool). IsToEnd S stands trusts t start c.args.depth input cs c.begin.new.self c.args.behind.now) (sym c.is_key-2.ensures) e.1)))
-
-pub returns-clause-full : goal.returns-clause-full
-returns-clause-full g c = λ e. absurd (never-full c.end.result c.end.ensures.kind e)
 
 pub returns-then-number-gt0-clause-front : goal.returns-then-number-gt0-clause-front
 returns-then-number-gt0-clause-front g c = λ rest head.
