@@ -24,12 +24,11 @@ use cbor_view::View;
 use std::alloc::Global;
 use std::io::Write;
 
-/// Room for what is made of items, one after another. It keeps the memory that it took.
+/// Room for what is made of items, one after another. It keeps the memory that a check took.
 #[derive(Drop)]
 pub struct Room {
     alloc: Global,
     check: ItemCheck,
-    text: TextBuffer,
 }
 
 impl Room {
@@ -38,7 +37,6 @@ impl Room {
         Room {
             alloc,
             check: ItemCheck::new(alloc),
-            text: TextBuffer::new(alloc),
         }
     }
 
@@ -76,11 +74,33 @@ impl Room {
         ensures silent { IfErr result (λ fault. fault ≢ Fault.CannotPrint → out.new ≡ out.old) }
     {
         match layout {
-            Layout::OneLine => match self.text.diagnostic_front(bytes, limits) {
-                Ok(text) => print_line(text, out),
-                Err(_) => Err(Fault::Memory),
-            },
+            Layout::OneLine => self.print_on_one_line(bytes, limits, out),
             Layout::Indented => self.print_indented(bytes, limits, out),
+        }
+    }
+
+    // The same on one line. The room for the text is in a frame of its own, which is not there yet as
+    // the item is checked.
+    #[inline(never)]
+    fn print_on_one_line<'a, O: Write>(
+        &self,
+        bytes: &[u8],
+        limits: Limits,
+        out: &mut O,
+    ) -> Result<(), Fault<'a>>
+        requires { (size : ℕ) × IsRead limits plain bytes.now size }
+        ensures shown { OnOk result ((s : Spelling) → IsVerdict limits plain bytes.now (accepted s)
+            → Appends (O.contents out.old) (O.contents out.new) (shown_text Layout.OneLine (value_of s))) }
+        ensures fault { IfErr result (λ fault. (s : Spelling)
+            → IsVerdict limits plain bytes.now (accepted s)
+            → IsNotTaken (shown_text Layout.OneLine (value_of s))
+            (O.contents out.old) (O.contents out.new) fault) }
+        ensures silent { IfErr result (λ fault. fault ≢ Fault.CannotPrint → out.new ≡ out.old) }
+    {
+        let mut room = TextBuffer::new(self.alloc);
+        match room.diagnostic_front(bytes, limits) {
+            Ok(text) => print_line(text, out),
+            Err(_) => Err(Fault::Memory),
         }
     }
 

@@ -1,17 +1,16 @@
-use Rattle.std.proofs.Common.{ℕ, List, ◌++◌, codes, sym, subst}
+use Rattle.std.proofs.Common.{sym, subst}
 use Rattle.cbor_head.specs.Spelling.{value_of}
 use Rattle.cborc_fronts.proofs.Results.{if_err}
 use Rattle.cborc_input.specs.Texts.{shown_text, IsNotTaken}
 use Rattle.cborc_input.specs.declared.request.Layout.{Layout}
 use Rattle.cborc_input.proofs.front.Room.print_front.Goals as goal
 
-pub returns-in-Ok-clause-fault : goal.returns-in-Ok-clause-fault
-returns-in-Ok-clause-fault g c =
+pub returns-in-OneLine-clause-fault : goal.returns-in-OneLine-clause-fault
+returns-in-OneLine-clause-fault g c =
     let before = g.O.Write.contents c.args.out.now in
-    let after = g.O.Write.contents c.print_line.new.out in
-    if_err c.print_line.result _ _
-    (λ fault h s v. subst (λ (l : Layout). IsNotTaken (shown_text l (value_of s)) before after fault) (sym c.in-OneLine.is)
-    (subst (λ (x : List ℕ). IsNotTaken (x ++ codes "\n") before after fault) (c.in-Ok.ensures s v) h)) c.print_line.ensures.cut
+    let after = g.O.Write.contents c.print_on_one_line.new.out in
+    if_err c.print_on_one_line.result _ _
+    (λ fault h s v. subst (λ (l : Layout). IsNotTaken (shown_text l (value_of s)) before after fault) (sym c.in-OneLine.is) (h s v)) c.print_on_one_line.ensures.fault
 
 pub returns-in-Indented-clause-fault : goal.returns-in-Indented-clause-fault
 returns-in-Indented-clause-fault g c =
