@@ -1,12 +1,24 @@
--- What an accepted item is in its input.
+-- What an accepted item is in its input, which has one answer.
 use Rattle.std.proofs.Common.{ℕ, ◌+◌, ◌-◌, ◌≡◌, ◌≤◌, List, [], ◌++◌, length, take, sym, ap, ◌∙◌, arith}
 use Rattle.std.proofs.lemmas.List.{append-nil, length-append, length-take, nil_from_length, take_all}
 use Rattle.std.proofs.Math.Seq.{take-append-add}
 use Rattle.cbor_head.specs.Limits.{Bounds}
 use Rattle.cbor_head.specs.Spelling.{Spelling, spell, IsItem}
 use Rattle.cbor_head.specs.Complaint.{Rules, Complaint, IsComplaint}
-use Rattle.cbor_head.specs.Verdict.{accepted, IsVerdict}
+use Rattle.cbor_head.specs.Verdict.{accepted, refused, IsVerdict}
+use Rattle.cbor_head.specs.declared.reason.Refusal.{Refusal}
 use Rattle.cbor_grammar.proofs.Beginnings.{item_decides}
+use Rattle.cbor_grammar.proofs.OneVerdict.{one_verdict}
+
+module _ (limits : Bounds) (r : Rules) (input : List ℕ) where
+  pub one_item : (s t : Spelling) → IsVerdict limits r input (accepted s) → IsVerdict limits r input (accepted t) → s ≡ t
+  one_item s t v w = let e = one_verdict limits r input (accepted s) (accepted t) v w in cc e
+
+  pub one_refusal : (f g : Refusal) → IsVerdict limits r input (refused f) → IsVerdict limits r input (refused g) → f ≡ g
+  one_refusal f g v w = let e = one_verdict limits r input (refused f) (refused g) v w in cc e
+
+  pub not_both : (s : Spelling) (f : Refusal) → IsVerdict limits r input (accepted s) → IsVerdict limits r input (refused f) → ⊥
+  not_both s f v w = let e = one_verdict limits r input (accepted s) (refused f) v w in cc e
 
 module _ (limits : Bounds) (r : Rules) (input : List ℕ) (s : Spelling) (v : IsVerdict limits r input (accepted s)) where
   -- it is the longest beginning

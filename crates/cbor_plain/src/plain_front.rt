@@ -13,7 +13,7 @@ use crate::plain_part::read_part;
 use cbor_events::ItemEvents;
 use cbor_head::{KeyOrder, Limits, Reason, Refusal};
 use cbor_item::{Item, TreeBuilder};
-use cbor_walk::BuiltFront;
+use cbor_sinks::BuiltFront;
 use std::alloc::Global;
 use std::io::Read;
 

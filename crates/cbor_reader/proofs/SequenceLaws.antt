@@ -11,13 +11,13 @@ use Rattle.cbor_head.specs.Verdict.{accepted, refused, refusal, IsVerdict}
 use Rattle.cbor_head.specs.declared.order.KeyOrder.{KeyOrder}
 use Rattle.cbor_head.specs.declared.reason.Reason.TheVariants.{Read, Memory, Truncated, TooLong}
 use Rattle.cbor_head.specs.declared.reason.Refusal.{Refusal}
-use Rattle.cbor_grammar.proofs.OneVerdict.{one_verdict}
+use Rattle.cbor_judging.proofs.Accepted.{one_refusal}
 use Rattle.cbor_grammar.proofs.ReadLaws.{length_spell, unique}
 use Rattle.cbor_reader.specs.Headline.{IsValidItem}
 use Rattle.cbor_judging.specs.Readers.{BeginsWithCanonical, IsUnread, of_verdict, of_reader, of_memory}
 use Rattle.cbor_reader.specs.Sequence.{sequence_bytes, IsAccepted, StartsWithItems, IsLongestSequence, EndsBefore, IsAtEnd, IsRefused, Given, given_by, items_of, AreGivenBy, HasGiven}
 use Rattle.cbor_reader.proofs.CutShort.{cut}
-use Rattle.cbor_reader.proofs.Sequences.{simple_is_fine, is_accepted, verdict_of, not_both, empty_is_truncated, verdict_before, splits}
+use Rattle.cbor_reader.proofs.Sequences.{simple_is_fine, is_accepted, verdict_of, not_refused, empty_is_truncated, verdict_before, splits}
 use Rattle.cbor_judging.proofs.CanonicalFronts.{strict_bytes, strict_value, strict_accepts}
 
 -- ---- items
@@ -65,7 +65,7 @@ module _ (limits : Bounds) (r : Rules) where
   beginning : (items others : List Spelling) (rest behind : List ℕ) (f : Refusal) → AllByRecursion (IsAccepted limits r) items → AllByRecursion (IsAccepted limits r) others
       → sequence_bytes items ++ rest ≡ sequence_bytes others ++ behind → IsVerdict limits r rest (refused f) → (more : List Spelling) × (others ++ more ≡ items)
   beginning items [] rest behind f h k e w = (items, refl)
-  beginning [] (t ∷ ts) rest behind f h k e w = absurd (not_both limits r t (sequence_bytes ts ++ behind) rest f k.0 (sym (append_assoc (spell t) (sequence_bytes ts) behind) ∙ sym e) w)
+  beginning [] (t ∷ ts) rest behind f h k e w = absurd (not_refused limits r t (sequence_bytes ts ++ behind) rest f k.0 (sym (append_assoc (spell t) (sequence_bytes ts) behind) ∙ sym e) w)
   beginning (s ∷ ss) (t ∷ ts) rest behind f h k e w =
       let u = unique s t h.0.well_formed.spelled k.0.well_formed.spelled (sequence_bytes ss ++ rest) (sequence_bytes ts ++ behind)
       (sym (append_assoc (spell s) (sequence_bytes ss) rest) ∙ e ∙ append_assoc (spell t) (sequence_bytes ts) behind) in
@@ -123,13 +123,10 @@ no_bytes limits r input zero =
     cut limits r input (simple 0) [] (spell (simple 0)) (refusal TooLong 0 0) (record { spelled = omega arith; within = omega arith; bytes_are = refl }) (simple_is_fine limits r 0) (length_spell (simple 0)) (ap (λ (n : ℕ). take n input) zero)
     (inl (sym zero, ap (λ (n : ℕ). refusal TooLong n n) (sym zero)))
 
-same_refusal : {a b : Refusal} → refused a ≡ refused b → a ≡ b
-same_refusal e = cc e
-
 pub no_bytes_told : (limits : Bounds) (r : Rules) (input : List ℕ) (f : Refusal) → limits.bytes ≡ 0 → IsUnread limits r input f → f.reason ≢ Memory → f ≡ refusal TooLong 0 0
-no_bytes_told limits r input f zero (of_verdict w) y = same_refusal (one_verdict limits r input (refused f) (refused (refusal TooLong 0 0)) w (no_bytes limits r input zero))
+no_bytes_told limits r input f zero (of_verdict w) y = one_refusal limits r input f (refusal TooLong 0 0) w (no_bytes limits r input zero)
 no_bytes_told limits r input f zero (of_reader p l m is w) y =
-    let h = same_refusal (one_verdict limits r (take f.read input) (refused (refusal Truncated f.read f.read)) (refused (refusal TooLong 0 0)) w (no_bytes limits r (take f.read input) zero)) in
+    let h = one_refusal limits r (take f.read input) (refusal Truncated f.read f.read) (refusal TooLong 0 0) w (no_bytes limits r (take f.read input) zero) in
     absurd (apart (ap (λ (g : Refusal). g.reason) h))
   where
     apart : Truncated ≡ TooLong → ⊥

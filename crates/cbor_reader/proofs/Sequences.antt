@@ -14,12 +14,11 @@ use Rattle.cbor_head.specs.declared.reason.Refusal.{Refusal}
 use Rattle.cbor_grammar.proofs.Accepted.{accepts_exactly}
 use Rattle.cbor_grammar.proofs.KeyKinds.{kind_later}
 use Rattle.cbor_grammar.proofs.OneFirst.{after_head}
-use Rattle.cbor_grammar.proofs.OneVerdict.{one_verdict}
 use Rattle.cbor_grammar.proofs.ReadLaws.{length_spell}
 use Rattle.cbor_judging.specs.Readers.{IsRead, IsReadAs, IsUnread, of_verdict, of_reader, of_memory, Loses}
 use Rattle.cbor_reader.specs.Sequence.{sequence_bytes, IsAccepted, IfRefused, EndsBefore, IsAtEnd, IsRefused, Given, given_by, items_of, HasGiven, GivesNext}
 use Rattle.cbor_judging.specs.Refusals.{IsReaderReason}
-use Rattle.cbor_judging.proofs.Accepted.{item_within_limit, front_accepted}
+use Rattle.cbor_judging.proofs.Accepted.{item_within_limit, front_accepted, one_refusal, not_both}
 use Rattle.cbor_reader.proofs.CutShort.{truncated}
 
 -- the refusal that says that the input ended before an item
@@ -46,11 +45,8 @@ pub verdict_of : (limits : Bounds) (r : Rules) (s : Spelling) (rest : List ℕ) 
 verdict_of limits r s rest a = front_accepted limits r s rest a.well_formed a.sound a.fits
 
 -- an accepted item is not refused
-pub not_both : (limits : Bounds) (r : Rules) (s : Spelling) (rest input : List ℕ) (f : Refusal) → IsAccepted limits r s → spell s ++ rest ≡ input → IsVerdict limits r input (refused f) → ⊥
-not_both limits r s rest input f a e w = apart (one_verdict limits r input (accepted s) (refused f) (subst (λ (b : List ℕ). IsVerdict limits r b (accepted s)) e (verdict_of limits r s rest a)) w)
-  where
-    apart : {t : Spelling} {g : Refusal} → accepted t ≡ refused g → ⊥
-    apart e = cc e
+pub not_refused : (limits : Bounds) (r : Rules) (s : Spelling) (rest input : List ℕ) (f : Refusal) → IsAccepted limits r s → spell s ++ rest ≡ input → IsVerdict limits r input (refused f) → ⊥
+not_refused limits r s rest input f a e w = not_both limits r input s f (subst (λ (b : List ℕ). IsVerdict limits r b (accepted s)) e (verdict_of limits r s rest a)) w
 
 -- ---- the end of the input
 
@@ -102,11 +98,8 @@ module _ (limits : Bounds) (r : Rules) (input : List ℕ) where
 
   begun_so : (f : Refusal) → IsUnread limits r input f → ¬ IsBeforeItem f → f.reason ≢ Read → f.reason ≢ Memory → ¬ EndsBefore limits.bytes input
   begun_so f (of_verdict w) h x y = λ (e, l).
-      let same : f ≡ refusal Truncated 0 0 = given (one_verdict limits r input (refused f) (refused (refusal Truncated 0 0)) w (subst (λ (b : List ℕ). IsVerdict limits r b (refused (refusal Truncated 0 0))) (sym e) (empty_is_truncated limits r l))) in
+      let same : f ≡ refusal Truncated 0 0 = one_refusal limits r input f (refusal Truncated 0 0) w (subst (λ (b : List ℕ). IsVerdict limits r b (refused (refusal Truncated 0 0))) (sym e) (empty_is_truncated limits r l)) in
       h (ap (λ (g : Refusal). g.reason) same, ap (λ (g : Refusal). g.read) same)
-    where
-      given : {a b : Refusal} → refused a ≡ refused b → a ≡ b
-      given e = cc e
   begun_so f (of_reader p l m is w) h x y = absurd (x (ap (λ (g : Refusal). g.reason) is))
   begun_so f (of_memory p l m is free) h x y = absurd (y (ap (λ (g : Refusal). g.reason) is))
 

@@ -15,8 +15,8 @@ use Rattle.cbor_plain.specs.TreeValues.{member_values, pair_values, level_value,
 use Rattle.cbor_reader.specs.inner.ViewSinks.{view_stands, view_holds}
 use Rattle.cbor_plain.proofs.TreeValues.{full-ends, levels-take, may-end, settles-right, values-given, values-ended}
 use Rattle.cbor_view.specs.Seen.{standing}
-use Rattle.cbor_key_bytes.specs.KeyBytes.{keys_stand}
-use Rattle.cbor_key_bytes.specs.declared.key_bytes.KeyBytes.{KeyBytes}
+use Rattle.cbor_sinks.specs.KeyBytes.{keys_stand}
+use Rattle.cbor_sinks.specs.declared.key_bytes.KeyBytes.{KeyBytes}
 use Rattle.cbor_walk.specs.Sink.{FindsNoRepeat, Told, IsOpened, IsEndedAs, StandsFull, IsItemDue, IsChunkDue, IsContainerFull, Gives, Opens, Ends, BeginsString, GrowsString, EndsString}
 
 -- ---- an item

@@ -17,14 +17,14 @@ use Rattle.cbor_reader.specs.Canonicalise.{IsCanonicalOf, IsRefusal}
 use Rattle.cbor_reader.specs.Headline.{IsValidItem}
 use Rattle.cbor_judging.specs.Refusals.{IsFreeBefore}
 use Rattle.cbor_reader.specs.WholeItem.{IsWholeItem, IsItemRefusal, unread, trailing}
-use Rattle.cbor_walk.specs.Front.{IsBuiltFront}
+use Rattle.cbor_sinks.specs.BuiltFront.{IsBuiltFront}
 use Rattle.cbor_plain.specs.Front.{IsEncodedFront}
-use Rattle.cbor_judging.proofs.Accepted.{item_is_whole}
+use Rattle.cbor_judging.proofs.Accepted.{item_is_whole, one_item, not_both}
 use Rattle.cbor_judging.proofs.FreeBefore.{truncated-free}
 use Rattle.cbor_reader.proofs.Headline.{valid_item, valid_item_accepted, answers_exactly}
 use Rattle.cbor_grammar.proofs.ReadLaws.{one_list}
 use Rattle.cbor_reader.proofs.ViewFronts.{memory_behind}
-use Rattle.cbor_reader.proofs.OneAnswer.{one_item, no_both, one_refusal}
+use Rattle.cbor_reader.proofs.OneAnswer.{one_answer}
 use Rattle.cbor_judging.proofs.Reasons.{never-read}
 
 -- ---- a refusal by a slice
@@ -70,7 +70,7 @@ refused_item limits o input f (whole.of_memory p taken l m is x) g =
     apart e = cc e
 
 pub item_refused_once : (limits : Bounds) (input : List ℕ) (f g : Refusal) → IsItemRefusal limits input f → IsItemRefusal limits input g → f.reason ≢ Memory → g.reason ≢ Memory → f ≡ g
-item_refused_once limits input f g h i = one_refusal limits Bytewise input f g (item_refused limits Bytewise input f h) (item_refused limits Bytewise input g i)
+item_refused_once limits input f g h i = one_answer limits Bytewise input f g (item_refused limits Bytewise input f h) (item_refused limits Bytewise input g i)
 
 -- memory was refused when all of it had been taken
 pub memory_at_end : (limits : Bounds) (o : KeyOrder) (input : List ℕ) (f : Refusal) → IsWholeItem limits input → f ≡ refusal Memory (length input) (length input) → IsRefusal limits o input f
@@ -96,7 +96,7 @@ grows_too_long limits o input out f h l is =
 pub tree_becomes : (limits : Bounds) (o : KeyOrder) (input out : List ℕ) (v : Value) → IsReadAs limits plain input v (length input) → IsCanonicalOf limits o input out ↔ ((out ≡ canonical o v) × (length out ≤ limits.bytes))
 tree_becomes limits o input out v a = (
   λ h.
-      let e = one_item limits input h.item a.read.item h.verdict a.read.verdict in
+      let e = one_item limits plain input h.item a.read.item h.verdict a.read.verdict in
       (h.canonical_bytes ∙ ap (λ (s : Spelling). canonical o (value_of s)) e ∙ ap (canonical o) (sym a.value), h.fits),
   λ h. record {
     item = a.read.item;
@@ -123,8 +123,8 @@ pub only_item : (limits : Bounds) (input : List ℕ) (s t : Spelling) → IsVali
 only_item limits input s t i j = one_list s t i.well_formed.spelled j.well_formed.spelled (i.well_formed.bytes_are ∙ sym j.well_formed.bytes_are)
 
 pub refused_for_memory : (limits : Bounds) (input : List ℕ) (f : Refusal) → IsWholeItem limits input → IsItemRefusal limits input f → f.reason ≡ Memory
-refused_for_memory limits input f (s, i) (unread (of_verdict w) g) = absurd (no_both limits input s f (valid_item_accepted limits input s i) w)
+refused_for_memory limits input f (s, i) (unread (of_verdict w) g) = absurd (not_both limits plain input s f (valid_item_accepted limits input s i) w)
 refused_for_memory limits input f (s, i) (unread (of_reader p l m is w) g) = absurd (g (ap (λ (x : Refusal). x.reason) is))
 refused_for_memory limits input f (s, i) (unread (of_memory p l m is x) g) = ap (λ (x : Refusal). x.reason) is
 refused_for_memory limits input f (s, i) (trailing t w l is) =
-    absurd (omega (arith, l, ap (λ (s : Spelling). length (spell s)) (one_item limits input s t (valid_item_accepted limits input s i) w), ap length i.well_formed.bytes_are))
+    absurd (omega (arith, l, ap (λ (s : Spelling). length (spell s)) (one_item limits plain input s t (valid_item_accepted limits input s i) w), ap length i.well_formed.bytes_are))

@@ -1,13 +1,15 @@
 //! Items that are checked one after another.
 
-ghost use Rattle.std.specs.Prelude.{◌≢◌, IfOk, IfErr};
+ghost use Rattle.std.specs.Prelude.{◌≢◌, [], IfOk, IfErr};
 ghost use Rattle.cbor_head.specs.Complaint.{plain};
 ghost use Rattle.cbor_head.specs.declared.reason.Reason.TheVariants as reasons;
+ghost use Rattle.cbor_judging.specs.Levels.{item_due};
 ghost use Rattle.cbor_judging.specs.Readers.{IsRead, IsUnread};
+ghost use Rattle.cbor_sinks.specs.KeyBytes.{keys_stand};
 
 use crate::valid_front::read_again;
 use cbor_head::{KeyOrder, Limits, Reason, Refusal};
-use cbor_key_bytes::{KeyBytes, LentKeys};
+use cbor_sinks::{KeyBytes, LentKeys};
 use cbor_strict::check_canonical;
 use cbor_walk::{Stop, give_front};
 use std::alloc::Global;
@@ -45,31 +47,39 @@ impl ItemCheck {
     {
         if self.pause > 0 {
             self.pause -= 1;
-            return self.check_any(bytes, limits);
+        } else {
+            match canonical_size(bytes, limits) {
+                Ok(size) => return Ok(size),
+                // It says nothing of the items behind this one.
+                Err(refusal) if refusal.reason == Reason::Truncated => {}
+                Err(_) => self.pause = PAUSE,
+            }
         }
-        match canonical_size(bytes, limits) {
-            Ok(size) => return Ok(size),
-            // It says nothing of the items behind this one.
-            Err(refusal) if refusal.reason == Reason::Truncated => {}
-            Err(_) => self.pause = PAUSE,
-        }
-        self.check_any(bytes, limits)
+        self.keys.clear();
+        size_by_keys(self.alloc, &mut self.keys, bytes, limits)
     }
+}
 
-    /// The same of any item, by its keys.
-    pub(crate) fn check_any(&mut self, bytes: &[u8], limits: Limits) -> Result<u64, Refusal>
-        ensures accepted { IfOk result (λ count. IsRead limits plain bytes.now count) }
-        ensures refused { IfErr result (λ f. IsUnread limits plain bytes.now f) }
-        ensures no_read { IfErr result (λ f. f.reason ≢ reasons.Read) }
-    {
-        match give_front(LentKeys::of(self.alloc, &mut self.keys), bytes, limits) {
-            Ok((_, size)) => Ok(size),
-            Err(Stop::Refused(refusal)) => Err(refusal),
-            Err(Stop::Unsaid) => match read_again(self.alloc, bytes, limits, KeyOrder::Bytewise) {
-                Ok(front) => Ok(front.size),
-                Err(refusal) => Err(refusal),
-            },
-        }
+/// How many bytes the item has that the slice begins with, or its refusal, where `keys` holds none
+/// yet: those of the item's maps are kept there.
+pub(crate) fn size_by_keys(
+    alloc: Global,
+    keys: &mut KeyBytes,
+    bytes: &[u8],
+    limits: Limits,
+) -> Result<u64, Refusal>
+    requires none { keys_stand keys.old keys.old (item_due []) }
+    ensures accepted { IfOk result (λ count. IsRead limits plain bytes.now count) }
+    ensures refused { IfErr result (λ f. IsUnread limits plain bytes.now f) }
+    ensures no_read { IfErr result (λ f. f.reason ≢ reasons.Read) }
+{
+    match give_front(LentKeys::of(alloc, keys), bytes, limits) {
+        Ok((_, size)) => Ok(size),
+        Err(Stop::Refused(refusal)) => Err(refusal),
+        Err(Stop::Unsaid) => match read_again(alloc, bytes, limits, KeyOrder::Bytewise) {
+            Ok(front) => Ok(front.size),
+            Err(refusal) => Err(refusal),
+        },
     }
 }
 

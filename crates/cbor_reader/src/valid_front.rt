@@ -5,15 +5,16 @@ ghost use Rattle.cbor_head.specs.Complaint.{plain};
 ghost use Rattle.cbor_head.specs.declared.reason.Reason.TheVariants as reasons;
 ghost use Rattle.cbor_judging.specs.Readers.{IsUnread};
 ghost use Rattle.cbor_judging.specs.Refusals.{IsReaderReason};
-ghost use Rattle.cbor_walk.specs.Front.{IsBuiltFront};
+ghost use Rattle.cbor_sinks.specs.BuiltFront.{IsBuiltFront};
 
 use cbor_head::{KeyOrder, Limits, Reason, Refusal};
 use cbor_plain::read_plain_front;
-use cbor_walk::{BuiltFront, Stop, build_front};
+use cbor_sinks::{BuiltFront, build_front};
+use cbor_walk::Stop;
 use std::alloc::Global;
 
-// Its canonical bytes, in this order and however many, and how many bytes it has. It is a call of its own, so that what looks for
-// canonical bytes before it has no room on the stack for it.
+// Its canonical bytes, in this order and however many, and how many bytes it has. It is a call of
+// its own, so that what looks for canonical bytes before it has no room on the stack for it.
 #[inline(never)]
 pub(crate) fn valid_front(
     alloc: Global,

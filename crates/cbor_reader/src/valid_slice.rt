@@ -5,8 +5,9 @@ ghost use Rattle.cbor_head.specs.Complaint.{plain};
 ghost use Rattle.cbor_head.specs.declared.reason.Reason.TheVariants as reasons;
 ghost use Rattle.cbor_judging.specs.Readers.{IsRead, IsUnread};
 
-use crate::item_check::{ItemCheck, canonical_size};
+use crate::item_check::{canonical_size, size_by_keys};
 use cbor_head::{Limits, Refusal};
+use cbor_sinks::KeyBytes;
 use std::alloc::Global;
 
 /// How many bytes the well-formed, valid item has that the slice begins with (RFC 8949, sections
@@ -23,6 +24,6 @@ pub fn check_valid(alloc: Global, bytes: &[u8], limits: Limits) -> Result<u64, R
 {
     match canonical_size(bytes, limits) {
         Ok(size) => Ok(size),
-        Err(_) => ItemCheck::new(alloc).check_any(bytes, limits),
+        Err(_) => size_by_keys(alloc, &mut KeyBytes::new(alloc), bytes, limits),
     }
 }

@@ -15,7 +15,7 @@ ghost use Rattle.cbor_walk.specs.Sink.{leaf_value};
 
 use bumpalo::Bump;
 use cbor_head::Major;
-use cbor_key_bytes::KeyBytes;
+use cbor_sinks::KeyBytes;
 use cbor_view::{Joined, View, ViewBuilder};
 use cbor_walk::Sink;
 use std::alloc::{AllocError, Global};

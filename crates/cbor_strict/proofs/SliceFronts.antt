@@ -7,19 +7,11 @@ use Rattle.cbor_head.specs.Complaint.{strict}
 use Rattle.cbor_head.specs.Verdict.{accepted, refused, IsVerdict}
 use Rattle.cbor_head.specs.declared.order.KeyOrder.{KeyOrder}
 use Rattle.cbor_head.specs.declared.reason.Refusal.{Refusal}
-use Rattle.cbor_grammar.proofs.OneVerdict.{one_verdict}
 use Rattle.cbor_judging.specs.Readers.{IsRead, IsCanonicalFront, HasNoCanonicalFront}
-use Rattle.cbor_judging.proofs.CanonicalFronts.{strict_accepts}
-use Rattle.cbor_strict.proofs.WholeInputs.{front-canonical}
+use Rattle.cbor_strict.proofs.WholeInputs.{front-canonical, refused-front}
 
 pub read-front : (limits : Bounds) (o : KeyOrder) (input : List ℕ) (count : ℕ) → IsRead limits (strict o) input count → IsCanonicalFront limits o input count
 read-front limits o input count r = front-canonical limits o (Some input) (value_of r.item) count count (record { read = r; value = refl }) refl
-
-pub no-front : (limits : Bounds) (o : KeyOrder) (input : List ℕ) (f : Refusal) → IsVerdict limits (strict o) input (refused f) → HasNoCanonicalFront limits o input
-no-front limits o input f w = λ v b. apart (one_verdict limits (strict o) input (accepted (strict_accepts limits o input v b).0) (refused f) (strict_accepts limits o input v b).1 w)
-  where
-    apart : {s : Spelling} → accepted s ≡ refused f → ⊥
-    apart e = cc e
 
 -- what is answered, clause by clause
 pub record Answers (limits : Bounds) (o : KeyOrder) (input : List ℕ) (r : Result ℕ Refusal) : Type 0 where
@@ -30,4 +22,4 @@ pub record Answers (limits : Bounds) (o : KeyOrder) (input : List ℕ) (r : Resu
 
 pub answers : (limits : Bounds) (o : KeyOrder) (input : List ℕ) (r : Result ℕ Refusal) → MatchResult r (λ count. IsRead limits (strict o) input count) (λ f. IsVerdict limits (strict o) input (refused f)) → Answers limits o input r
 answers limits o input (Ok count) h = record { accepted_so = h; canonical_so = read-front limits o input count h; refused_so = tt; no_canonical = tt }
-answers limits o input (Err f) h = record { accepted_so = tt; canonical_so = tt; refused_so = h; no_canonical = no-front limits o input f h }
+answers limits o input (Err f) h = record { accepted_so = tt; canonical_so = tt; refused_so = h; no_canonical = refused-front limits o input f h }

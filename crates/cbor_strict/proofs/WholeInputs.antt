@@ -9,8 +9,8 @@ use Rattle.cbor_head.specs.Verdict.{accepted, refused}
 use Rattle.cbor_head.specs.declared.order.KeyOrder.{KeyOrder}
 use Rattle.cbor_head.specs.declared.reason.Reason.TheVariants.{Read, Memory}
 use Rattle.cbor_head.specs.declared.reason.Refusal.{Refusal}
-use Rattle.cbor_grammar.proofs.OneVerdict.{one_verdict}
 use Rattle.cbor_judging.specs.Readers.{IsRead, IsReadAs, IsUnread, of_verdict, of_reader, of_memory, IsCanonicalFront, HasNoCanonicalFront}
+use Rattle.cbor_judging.proofs.Accepted.{not_both}
 use Rattle.cbor_judging.proofs.CanonicalFronts.{strict_bytes, strict_value, strict_accepts}
 
 -- of a known input
@@ -27,15 +27,18 @@ read-canonical limits o input count i = record {
   size = i.size ∙ ap length (strict_bytes limits o input i.item i.verdict);
 }
 
+pub refused-front : (limits : Bounds) (o : KeyOrder) (input : List ℕ) (f : Refusal) → IsVerdict limits (strict o) input (refused f) → HasNoCanonicalFront limits o input
+refused-front limits o input f w = λ v b. let (s, accepts) = strict_accepts limits o input v b in not_both limits (strict o) input s f accepts w
+
 no-front : (limits : Bounds) (o : KeyOrder) (input : List ℕ) (f : Refusal) → IsUnread limits (strict o) input f → f.reason ≢ Read → f.reason ≢ Memory → HasNoCanonicalFront limits o input
-no-front limits o input f (of_verdict w) g h = λ v b. apart (one_verdict limits (strict o) input (accepted (strict_accepts limits o input v b).0) (refused f) (strict_accepts limits o input v b).1 w)
-  where
-    apart : {s : Spelling} → accepted s ≡ refused f → ⊥
-    apart e = cc e
+no-front limits o input f (of_verdict w) g h = refused-front limits o input f w
 no-front limits o input f (of_reader p l m is w) g h = absurd (g (ap (λ (x : Refusal). x.reason) is))
 no-front limits o input f (of_memory p l m is w) g h = absurd (h (ap (λ (x : Refusal). x.reason) is))
 
-pub has-no-front : (limits : Bounds) (o : KeyOrder) (from : Option (List ℕ)) (f : Refusal) → IfSome from (λ input. IsUnread limits (strict o) input f) → f.reason ≢ Read → f.reason ≢ Memory → IfSome from (HasNoCanonicalFront limits o)
+pub has-pub refused-front : (limits : Bounds) (o : KeyOrder) (input : List ℕ) (f : Refusal) → IsVerdict limits (strict o) input (refused f) → HasNoCanonicalFront limits o input
+refused-front limits o input f w = λ v b. let (s, accepts) = strict_accepts limits o input v b in not_both limits (strict o) input s f accepts w
+
+no-front : (limits : Bounds) (o : KeyOrder) (from : Option (List ℕ)) (f : Refusal) → IfSome from (λ input. IsUnread limits (strict o) input f) → f.reason ≢ Read → f.reason ≢ Memory → IfSome from (HasNoCanonicalFront limits o)
 has-no-front limits o from f h e g = some-so from (λ input. IsUnread limits (strict o) input f) (HasNoCanonicalFront limits o) (λ input i. no-front limits o input f i e g) h
 
 pub front-canonical : (limits : Bounds) (o : KeyOrder) (from : Option (List ℕ)) (v : Value) (count k : ℕ) → IfSome from (λ input. IsReadAs limits (strict o) input v count) → k ≡ count → IfSome from (λ input. IsCanonicalFront limits o input k)

@@ -1,6 +1,5 @@
 pub mod AnyItem
 pub mod AnyRefusals
-pub mod CanonGiven
 pub mod CellSteps
 pub mod Chunked
 pub mod CutHeads

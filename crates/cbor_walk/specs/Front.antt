@@ -1,21 +1,12 @@
--- The item at the front of an input, and its canonical bytes.
-use Rattle.std.specs.Prelude.{◌≡◌, ℕ, List}
-use Rattle.cbor_head.specs.Canonical.{canonical}
+-- Why a walk over the item at the front of an input stops.
+use Rattle.std.specs.Prelude.{ℕ, List}
 use Rattle.cbor_head.specs.Complaint.{plain}
 use Rattle.cbor_head.specs.Limits.{Bounds}
-use Rattle.cbor_head.specs.Spelling.{value_of}
-use Rattle.cbor_head.specs.declared.order.KeyOrder.{KeyOrder}
 use Rattle.cbor_head.specs.Verdict.{IsVerdict, refused}
-use Rattle.cbor_judging.specs.Readers.{IsRead}
 use Rattle.cbor_walk.specs.declared.front.Stop.{Stop}
 use Rattle.cbor_walk.specs.declared.front.Stop.TheVariants.{Refused, Unsaid}
 
--- it is accepted by the plain rules, and has so many bytes
-pub record IsBuiltFront (limits : Bounds) (o : KeyOrder) (input out : List ℕ) (size : ℕ) : Type 0 where
-  pub read : IsRead limits plain input size
-  pub canonical_is : out ≡ canonical o (value_of read.item)
-
--- it is refused so; or nothing is said of it
+-- the item is refused so; or nothing is said of it
 abbrev pub IsStop : Bounds → List ℕ → Stop → Type 0
 IsStop limits input (Refused f) = IsVerdict limits plain input (refused f)
 IsStop limits input Unsaid = Unit {0}

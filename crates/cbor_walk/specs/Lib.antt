@@ -1,4 +1,3 @@
-pub mod CanonSink
 pub mod Front
 pub mod Sink
 pub mod inner

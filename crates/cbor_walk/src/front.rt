@@ -3,7 +3,7 @@
 ghost use Rattle.std.specs.Prelude.{◌≡◌, ◌≤◌, true, [], ℕ, List, length, take, MatchResult};
 ghost use Rattle.cbor_head.specs.declared.keys.Keys.{Keys};
 ghost use Rattle.cbor_judging.specs.Levels.{item_due};
-ghost use Rattle.cbor_walk.specs.Front.{IsBuiltFront, IsStop};
+ghost use Rattle.cbor_walk.specs.Front.{IsStop};
 ghost use Rattle.cbor_walk.specs.Sink.{IsKnownValid, IsGivenFront};
 ghost use Rattle.cbor_walk.specs.declared.level.Due.TheVariants as due;
 ghost use Rattle.cbor_walk.specs.inner.Building.{counted, BeginsTaken, IsDue, IsDueIn, KeepsBefore};
@@ -18,16 +18,7 @@ use crate::open::Open;
 use crate::sink::Sink;
 use crate::stack::{FEW, MOST, SOME, Stack, lend};
 use crate::within::within;
-use cbor_builder::CanonBuilder;
-use cbor_head::{KeyOrder, Keys, Limits, Refusal};
-use std::alloc::Global;
-
-/// The canonical bytes of the item that a slice begins with, and how many bytes the item has.
-#[derive(Drop)]
-pub struct BuiltFront {
-    pub canonical: Vec<u8>,
-    pub size: u64,
-}
+use cbor_head::{Keys, Limits, Refusal};
 
 /// Why there is none.
 #[derive(Clone, Copy)]
@@ -39,32 +30,12 @@ pub enum Stop {
     Unsaid,
 }
 
-/// The canonical bytes, in this order and however many, of the well-formed, valid item that the
-/// slice begins with (RFC 8949, sections 3, 4.2 and 5.3.1), within the limits; else why there are
-/// none.
+/// Gives a sink the parts of the well-formed, valid item that the slice begins with (RFC 8949,
+/// sections 3 and 5.3.1), within the limits, and answers it with how many bytes the item has; else
+/// why there is none. A sink that looks for no equal keys is given only an item that is known to be
+/// valid.
 ///
 /// It goes over the bytes once, without recursion.
-pub fn build_front(
-    alloc: Global,
-    bytes: &[u8],
-    limits: Limits,
-    order: KeyOrder,
-) -> Result<BuiltFront, Stop>
-    ensures { MatchResult result
-        (λ f. IsBuiltFront limits order bytes.now f.canonical.items f.size)
-        (IsStop limits bytes.now) }
-{
-    match give_front(CanonBuilder::new(alloc, order), bytes, limits) {
-        Ok((builder, size)) => Ok(BuiltFront {
-            canonical: builder.finish(),
-            size,
-        }),
-        Err(stop) => Err(stop),
-    }
-}
-
-/// Gives a sink the parts of such an item, and answers it with how many bytes the item has. A sink
-/// that looks for no equal keys is given only an item that is known to be valid.
 pub fn give_front<'a, S: Sink<'a> + Drop>(
     sink: S,
     bytes: &'a [u8],

@@ -3,8 +3,7 @@
 //! [`canonical_front`] goes over the canonical bytes at the front of a slice once; at the first
 //! byte, head, text or key that is none of a canonical item it stops with the refusal.
 //! [`give_front`] goes over any valid item, whose parts it gives to a [`Sink`], and stops at what is
-//! none, mostly with the refusal; [`build_front`] has it give them to a builder of canonical bytes.
-//! Both hold what is due in each open container in cells that are made as they are wanted, so that depth
+//! none, mostly with the refusal. Both hold what is due in each open container in cells that are made as they are wanted, so that depth
 //! that is not used costs nothing.
 #![tactic(auto)]
 
@@ -12,7 +11,6 @@ mod any_item;
 mod argument;
 mod building;
 mod canonical;
-mod canonical_sink;
 mod content;
 mod endless;
 mod fast;
@@ -29,6 +27,5 @@ mod walk;
 mod within;
 
 pub use canonical::canonical_front;
-pub use canonical_sink::string_type;
-pub use front::{BuiltFront, Stop, build_front, give_front};
+pub use front::{Stop, give_front};
 pub use sink::Sink;

@@ -8,35 +8,26 @@ use Rattle.cbor_head.specs.Verdict.{accepted, refused}
 use Rattle.cbor_head.specs.declared.reason.Reason.TheVariants as reasons
 use Rattle.cbor_head.specs.declared.reason.Refusal.{Refusal}
 use Rattle.cbor_diag.specs.Listing.{IsListed, IsUnlisted, of_verdict, of_reader, of_writer}
-use Rattle.cbor_grammar.proofs.OneVerdict.{one_verdict}
+use Rattle.cbor_judging.proofs.Accepted.{one_item, one_refusal, not_both}
 use Rattle.cborc_fronts.specs.Decided.{IsDecided}
 use Rattle.cborc_fronts.proofs.Within.{read_within}
 
-apart_answers : {s : Spelling} {f : Refusal} → accepted s ≡ refused f → ⊥
-apart_answers e = cc e
-
 pub decided_of_item : (limits : Bounds) (bytes : List ℕ) (size : ℕ) (old new : Option (List ℕ)) → IsListed 0 limits bytes size old new → eqb size (length bytes) ≡ false → IsDecided limits bytes
 decided_of_item limits bytes size old new h differs = record {
-  within = λ f v. absurd (apart_answers (one_verdict limits form bytes (accepted h.item) (refused f) h.verdict v));
+  within = λ f v. absurd (not_both limits form bytes h.item f h.verdict v);
   longer = λ s v.
-      let same : s ≡ h.item = inside (one_verdict limits form bytes (accepted s) (accepted h.item) v h.verdict) in
+      let same : s ≡ h.item = one_item limits form bytes s h.item v h.verdict in
       omega (arith, ap (λ (t : Spelling). length (spell t)) same, h.size, apart, read_within limits form bytes size (record { item = h.item; verdict = h.verdict; size = h.size }));
 }
   where
-    inside : {s t : Spelling} → accepted s ≡ accepted t → s ≡ t
-    inside e = cc e
-
     apart : size ≢ length bytes
     apart e = let both : false ≡ true = sym differs ∙ (Decides-eqb size (length bytes)).1 e in cc both
 
 pub decided_of_refusal : (limits : Bounds) (bytes : List ℕ) (f : Refusal) (old new : Option (List ℕ)) → IsUnlisted 0 limits bytes f old new
     → f.reason ≢ reasons.Truncated → f.reason ≢ reasons.Read → f.reason ≢ reasons.Write → IsDecided limits bytes
 decided_of_refusal limits bytes f old new (of_verdict out v l a) not_cut not_read not_write = record {
-  within = λ g w e. not_cut (ap (λ (x : Refusal). x.reason) (inside (one_verdict limits form bytes (refused f) (refused g) v w)) ∙ e);
-  longer = λ s w. absurd (apart_answers (one_verdict limits form bytes (accepted s) (refused f) w v));
+  within = λ g w e. not_cut (ap (λ (x : Refusal). x.reason) (one_refusal limits form bytes f g v w) ∙ e);
+  longer = λ s w. absurd (not_both limits form bytes s f w v);
 }
-  where
-    inside : {f g : Refusal} → refused f ≡ refused g → f ≡ g
-    inside e = cc e
 decided_of_refusal limits bytes f old new (of_reader out e v l a) not_cut not_read not_write = absurd (not_read (ap (λ (x : Refusal). x.reason) e))
 decided_of_refusal limits bytes f old new (of_writer out e s a) not_cut not_read not_write = absurd (not_write (ap (λ (x : Refusal). x.reason) e))

@@ -16,7 +16,6 @@ use crate::fault::Fault;
 use crate::request::{Accepted, Layout};
 use bumpalo::Bump;
 use cbor_diag::{TextBuffer, diagnostic_view_indented};
-use cbor_grammar::laws::verdict_is_one;
 use cbor_head::{Limits, Refusal};
 use cbor_item::write_whole;
 use cbor_reader::{ItemCheck, check_canonical, read_view};
@@ -59,7 +58,7 @@ impl Room {
     /// Writes the text of the item that the bytes begin with, which is known to be valid within these
     /// limits, and a line feed. On one line it is made whole before the first byte is written.
     pub fn print_front<'a, O: Write>(
-        &mut self,
+        &self,
         bytes: &[u8],
         limits: Limits,
         layout: Layout,
@@ -121,7 +120,6 @@ impl Room {
             (O.contents out.old) (O.contents out.new) fault) }
         ensures silent { IfErr result (λ fault. fault ≢ Fault.CannotPrint → out.new ≡ out.old) }
     {
-        verdict_is_one();
         let arena = Bump::new(self.alloc);
         match read_view(self.alloc, bytes, limits, &arena) {
             Ok((view, _)) => print_view(&view, out),

@@ -10,7 +10,7 @@ use Rattle.cbor_head.specs.Verdict.{accepted, refused, refusal, IsVerdict}
 use Rattle.cbor_head.specs.declared.order.KeyOrder.{KeyOrder}
 use Rattle.cbor_head.specs.declared.reason.Reason.TheVariants as reasons
 use Rattle.cbor_head.specs.declared.reason.Refusal.{Refusal}
-use Rattle.cbor_grammar.proofs.OneVerdict.{one_verdict}
+use Rattle.cbor_judging.proofs.Accepted.{one_item, not_both}
 use Rattle.cbor_judging.specs.Readers.{IsRead}
 use Rattle.cbor_reader.specs.Canonicalise.{IsRefusal, of_verdict, trailing, canonical_too_long, of_memory}
 use Rattle.cbor_reader.specs.Sequence.{IsAccepted}
@@ -118,16 +118,10 @@ module _ (b : Bounds) (o : KeyOrder) (bytes : List ℕ) (size : ℕ) (h : IsRead
       (verdict_of b plain h.item [] (item_accepted b plain bytes size h))
 
   too_long_only : (behind : List ℕ) (f : Refusal) → IsRefusal b o (take size bytes) f → IsOfInput f.reason → IsUncanonical b o (bytes ++ behind) f
-  too_long_only behind f (of_verdict w) own = absurd (apart (one_verdict b plain (take size bytes) (accepted h.item) (refused f) front_verdict w))
-    where
-      apart : {s : Spelling} {g : Refusal} → accepted s ≡ refused g → ⊥
-      apart e = cc e
+  too_long_only behind f (of_verdict w) own = absurd (not_both b plain (take size bytes) h.item f front_verdict w)
   too_long_only behind f (trailing item v l is) own =
-      let same : item ≡ h.item = inside (one_verdict b plain (take size bytes) (accepted item) (accepted h.item) v front_verdict) in
+      let same : item ≡ h.item = one_item b plain (take size bytes) item h.item v front_verdict in
       absurd (omega (arith, l, ap (λ (s : Spelling). length (spell s)) same, ap length front_is))
-    where
-      inside : {s t : Spelling} → accepted s ≡ accepted t → s ≡ t
-      inside e = cc e
   too_long_only behind f (canonical_too_long item v whole l is) own =
       let split : spell item ++ drop size bytes ≡ bytes = ap (λ (x : List ℕ). x ++ drop size bytes) whole ∙ take-append-drop size bytes in
       too_long item (drop size bytes ++ behind) (is_accepted b plain (take size bytes) item v)

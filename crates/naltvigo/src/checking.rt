@@ -12,7 +12,6 @@ ghost use Rattle.naltvigo.specs.inner.Checking.{IsOwnAnswer, IsNotOwn};
 
 use crate::settings::{limits_of, order_numbered};
 use crate::status::{BAD_LIMITS, BAD_ORDER, NO_MEMORY, NaltvigoRefusal, OK, REFUSED, tell, told};
-use cbor_grammar::laws::verdict_is_one;
 use cbor_head::{KeyOrder, Limits, Reason, Refusal};
 use cbor_reader::laws::{items_and_their_refusals, own_answers_are_strictly_accepted, valid_items};
 use cbor_reader::{check_canonical, check_valid};
@@ -99,7 +98,6 @@ fn check_own_bytes(input: &[u8], limits: Limits, order: KeyOrder) -> Result<(), 
     ensures refused { IfErr result (IsNotOwn limits order input.now) }
 {
     own_answers_are_strictly_accepted();
-    verdict_is_one();
     match check_canonical(input, limits, order) {
         Ok(count) if count < input.len() as u64 => Err(Refusal::at(Reason::Trailing, count)),
         Ok(_) => Ok(()),

@@ -4,7 +4,7 @@ use Rattle.cbor_judging.specs.Levels.{Level, Standing, item_due}
 use Rattle.cbor_reader.specs.declared.view_sink.ViewSink.{ViewSink}
 use Rattle.cbor_plain.specs.TreeValues.{level_values, values_at, IsFullRight}
 use Rattle.cbor_view.specs.Seen.{standing}
-use Rattle.cbor_key_bytes.specs.KeyBytes.{keys_stand}
+use Rattle.cbor_sinks.specs.KeyBytes.{keys_stand}
 
 -- the canonical bytes of keys, and the views of what is complete
 abbrev pub view_stands : ViewSink → ViewSink → Standing → Type 0

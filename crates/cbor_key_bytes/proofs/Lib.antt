@@ -1,4 +1,0 @@
-pub mod KeyStrings
-pub mod KeysApart
-pub mod KeysGiven
-pub mod KeysKept

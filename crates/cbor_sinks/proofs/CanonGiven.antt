@@ -1,0 +1,190 @@
+-- A builder of canonical bytes that is given the parts of an item: what it stands for behind each.
+use Rattle.std.proofs.Common.{◌≡◌, ℕ, suc, ◌+◌, ◌-◌, ◌^◌, ◌<◌, Bool, true, false, List, [], ◌∷◌, ◌++◌, length, refl, sym, ap, ap₂, ◌∙◌, subst, arith, inl, inr}
+use Rattle.std.specs.Prelude.{◌↔◌, IsTrue, Option, Some, None, MatchOption, Result, Ok, Err, IfOk}
+use Rattle.std.specs.Option.{is_some}
+use Rattle.std.proofs.lemmas.List.{length-append}
+use Rattle.cbor_head.specs.Canonical.{canonical, canonical_all, canonical_entries}
+use Rattle.cbor_head.specs.Head.{head, shortest_head}
+use Rattle.cbor_head.specs.Spelling.{Spelling, Spellings, SpelledEntries, array, a_map, spell, spell_all, spellings_count, value_of, values_of, entries_of}
+use Rattle.cbor_head.specs.Value.{Value}
+use Rattle.cbor_head.specs.declared.major.Major.{Major}
+use Rattle.cbor_head.specs.declared.major.Major.TheVariants as majors
+use Rattle.cbor_head.specs.declared.order.KeyOrder.{KeyOrder}
+use Rattle.cbor_head.specs.declared.width.Width.TheVariants.{Indefinite}
+use Rattle.cbor_builder.specs.Built.{Built, built, AreOpenKeysDifferent, IsLeaf, IsInString, HasDistinctKeysSoFar, TakesPart}
+use Rattle.cbor_canonical.specs.Parts.{IsInContainer}
+use Rattle.cbor_canonical.specs.Parts as parts
+use Rattle.cbor_grammar.proofs.Counts.{holds_fits}
+use Rattle.cbor_judging.proofs.Given.{full-array, full-map, settled}
+use Rattle.cbor_judging.proofs.Levels.{pairs-shorter}
+use Rattle.cbor_judging.proofs.Valid.{count_bounded}
+use Rattle.cbor_judging.specs.Given.{level_open, opens, StandsAt}
+use Rattle.cbor_judging.specs.Levels.{AreTaken, ArePairsTaken, Level, a_member, a_key, a_value, some_member, some_key, some_value, tagged, AreLevels, bytes_before, Standing, item_due, item_full, item_whole, settle}
+use Rattle.cbor_judging.specs.Place.{Place}
+use Rattle.cbor_judging.specs.Reading.{string_major, string_value}
+use Rattle.cbor_sinks.specs.CanonSink.{canon_stands, sink_stands, sink_holds}
+use Rattle.cbor_sinks.specs.declared.canonical_sink.CanonicalSink.{CanonicalSink}
+use Rattle.cbor_walk.specs.Sink.{FindsNoRepeat, leaf_value, Told, IsOpened, Completes, Fills, IsEndedAs, StandsFull, IsItemDue, Gives, Opens, IsContainerFull, Ends, BeginsString, IsChunkDue, GrowsString, EndsString}
+
+-- ---- the bytes of values
+
+pub leaf-bytes : (o : KeyOrder) (m : Major) (n : ℕ) → IsLeaf m → canonical o (leaf_value m n) ≡ shortest_head m n
+leaf-bytes o majors.Unsigned n l = refl
+leaf-bytes o majors.Negative n l = refl
+leaf-bytes o majors.Simple n l = refl
+leaf-bytes o majors.Bytes n l = absurd l
+leaf-bytes o majors.Text n l = absurd l
+leaf-bytes o majors.Array n l = absurd l
+leaf-bytes o majors.Map n l = absurd l
+leaf-bytes o majors.Tag n l = absurd l
+
+pub string-bytes : (o : KeyOrder) (t : Bool) (content : List ℕ) → canonical o (string_value t content) ≡ shortest_head (string_major t) (length content) ++ content
+string-bytes o true content = refl
+string-bytes o false content = refl
+
+-- ---- an item is due
+
+pub opens-take : (o : KeyOrder) (d : ℕ) (ms : List Level) → AreLevels d ms → length (bytes_before ms) < 2 ^ 63 → TakesPart (opens o ms)
+opens-take o d [] h l = tt
+opens-take o d (a_member w left done ∷ ms) h l = omega (arith, holds_fits w (spellings_count done + suc left) h.1.0)
+opens-take o d (some_member done ∷ ms) h l =
+    omega (arith, l, count_bounded done, length-append (bytes_before ms) (head majors.Array Indefinite 0 ++ spell_all done), length-append (head majors.Array Indefinite 0) (spell_all done))
+opens-take o d (a_key w left done ∷ ms) h l = tt
+opens-take o d (a_value w left done k ∷ ms) h l = tt
+opens-take o d (some_key done ∷ ms) h l = tt
+opens-take o d (some_value done k ∷ ms) h l = tt
+opens-take o d (tagged w n ∷ ms) h l = tt
+
+pub takes : (t : Bool) (g : CanonicalSink) → IsItemDue CanonicalSink sink_stands t g → TakesPart g.builder.standing
+takes t g (start, d, ls, k, (at, told)) = subst TakesPart (sym at.1) (opens-take start.builder.order d ls k.levels k.short)
+
+-- it is given
+stood : (start new : Built) (d : ℕ) (t : List ℕ) (q : Place) (os : List parts.Open) (height : ℕ) (st : Standing) → StandsAt start.order d t q os height st → new.order ≡ start.order → new.standing ≡ os → canon_stands start new st
+stood start new d t q os height (item_due ls) h same is = (same, is ∙ h.3)
+stood start new d t q os height (item_full ls s) h same is = (same, (d - length ls, h.3.0, h.3.1, is ∙ h.3.2))
+stood start new d t q os height (item_whole s) h same is = (same, is ∙ h.3)
+
+settles : (start new : Built) (d : ℕ) (ls : List Level) (s : Spelling) → Completes d ls s → new.order ≡ start.order → new.standing ≡ parts.give (canonical start.order (value_of s)) (opens start.order ls) → canon_stands start new (settle ls s)
+settles start new d ls s k same is =
+    let short = k.short in
+    stood start new d _ _ _ _ (settle ls s) (settled start.order d ls s k.levels k.taken (omega (arith, short))) same is
+
+pub given : (t : Bool) (v : Value) (out : List ℕ) (old new : CanonicalSink) → ((o : KeyOrder) → canonical o v ≡ out) → new.builder ≡ built old.builder.order (parts.give out old.builder.standing) → Gives CanonicalSink sink_stands t v old new
+given t v out old new same is start d ls s (at, told) k e =
+    let o = start.builder.order in
+    settles start.builder new.builder d ls s k (ap (λ (x : Built). x.order) is ∙ at.0)
+    (ap (λ (x : Built). x.standing) is ∙ ap₂ (λ (x : List ℕ) (os : List parts.Open). parts.give x os) (sym (same o) ∙ ap (canonical o) (sym e)) at.1)
+
+-- ---- containers
+
+pub level-opened : (o : KeyOrder) (m : Major) (n : ℕ) (l : Level) → IsOpened m n l → level_open o l ≡ parts.opened m n
+level-opened o majors.Array n l (inl (w, left, e)) = ap (level_open o) e
+level-opened o majors.Array n l (inr e) = ap (level_open o) e
+level-opened o majors.Map n l (inl (w, left, e)) = ap (level_open o) e
+level-opened o majors.Map n l (inr e) = ap (level_open o) e
+level-opened o majors.Tag n l (w, e) = ap (level_open o) e
+level-opened o majors.Unsigned n l e = absurd e
+level-opened o majors.Negative n l e = absurd e
+level-opened o majors.Bytes n l e = absurd e
+level-opened o majors.Text n l e = absurd e
+level-opened o majors.Simple n l e = absurd e
+
+pub opened : (t : Bool) (m : Major) (n : ℕ) (old new : CanonicalSink) → new.builder ≡ built old.builder.order (parts.opened m n ∷ old.builder.standing) → Opens CanonicalSink sink_stands t m n old new
+opened t m n old new is start ls l (at, told) k = (
+  ap (λ (x : Built). x.order) is ∙ at.0,
+  ap (λ (x : Built). x.standing) is ∙ ap₂ (λ (c : parts.Open) (os : List parts.Open). c ∷ os) (sym (level-opened start.builder.order m n l k)) at.1,
+)
+
+-- one without a length has no more to come
+pub full-endless : {trusts : Bool} (start g : Built) (d : ℕ) (ls : List Level) (l : Level) (s : Spelling) → canon_stands start g (item_due (l ∷ ls)) → AreLevels d (l ∷ ls) → IsEndedAs l s → Fills trusts d ls s → canon_stands start g (item_full ls s)
+full-endless start g d ls (some_member done) (array w ss) at levels ended k =
+    let e = d - suc (length ls) in (
+      at.0,
+      (
+        suc e,
+        _,
+        full-array start.order (suc e) e w ss (spellings_count done) (canonical_all start.order (values_of done)) (ap spellings_count (sym ended)) (ap (λ (x : Spellings). canonical_all start.order (values_of x)) (sym ended))
+            (subst (AreTaken e) (sym ended) levels.1) k.spelled.0 (omega arith),
+        at.1,
+      ),
+    )
+full-endless start g d ls (some_key done) (a_map w es) at levels ended k =
+    let e = d - suc (length ls) in
+    let short = k.short in (
+      at.0,
+      (
+        suc e,
+        _,
+        full-map start.order (suc e) e w es (canonical_entries start.order (entries_of done)) (ap (λ (x : SpelledEntries). canonical_entries start.order (entries_of x)) (sym ended))
+            (subst (ArePairsTaken e) (sym ended) levels.1) k.spelled.0 (omega arith)
+            (omega (arith, short, length-append (bytes_before ls) (spell (a_map w es)), pairs-shorter w es)),
+        at.1,
+      ),
+    )
+full-endless start g d ls l s at levels ended k = absurd ended
+
+stands-full : {trusts : Bool} (t : Bool) (start g : CanonicalSink) (d : ℕ) (ls : List Level) (s : Spelling) → Fills trusts d ls s → StandsFull CanonicalSink (Told CanonicalSink sink_stands t) d start g ls s → sink_stands start g (item_full ls s)
+stands-full t start g d ls s k (inl at) = at.0
+stands-full t start g d ls s k (inr (l, ended, levels, at)) = full-endless start.builder g.builder d ls l s at.0 levels ended k
+
+pub in-container : {trusts : Bool} (t : Bool) (g : CanonicalSink) → IsContainerFull CanonicalSink sink_stands trusts t g → IsInContainer g.builder.standing
+in-container t g (start, d, ls, s, k, full) = let at = stands-full t start g d ls s k full in subst IsInContainer (sym at.1.3) (go at.1.1 at.1.2.container ls)
+  where
+    go : (c : parts.Open) → ((other : parts.Open) (os : List parts.Open) → IsInContainer (c ∷ other ∷ os)) → (ms : List Level) → IsInContainer (c ∷ opens start.builder.order ms)
+    go c inside [] = inside (parts.plain []) []
+    go c inside (l ∷ ms) = inside (level_open start.builder.order l) (opens start.builder.order ms)
+
+pub ended : {trusts : Bool} (t : Bool) (old new : CanonicalSink) → HasDistinctKeysSoFar old.builder.standing → new.builder ≡ built old.builder.order (parts.close old.builder.order old.builder.standing) → Ends CanonicalSink sink_stands trusts t old new
+ended t old new distinct is start d ls s k stood =
+    let at = stands-full t start old d ls s k stood in
+    let full = at.1.2 in
+    let clean = full.clean (subst HasDistinctKeysSoFar at.1.3 distinct) in (
+      clean,
+      settles start.builder new.builder d ls s (record { levels = k.levels; taken = record { spelled = k.spelled; within = k.within; clean = clean }; short = k.short }) (ap (λ (x : Built). x.order) is ∙ at.0)
+          (ap (λ (x : Built). x.standing) is ∙ ap₂ (λ (o : KeyOrder) (os : List parts.Open). parts.close o os) at.0 at.1.3 ∙ ap (λ (x : List ℕ). parts.give x (opens start.builder.order ls)) full.canonical_is),
+    )
+
+pub ends-if : (trusts : Bool) {E : Type 0} (r : Result Bool E) (t : Bool) (old new : CanonicalSink) → IfOk r (λ d. IsTrue d ↔ HasDistinctKeysSoFar old.builder.standing) → IfOk r (λ d. IsTrue d → new.builder ≡ built old.builder.order (parts.close old.builder.order old.builder.standing))
+    → IfOk r (λ d. IsTrue d → Ends CanonicalSink sink_stands trusts t old new)
+ends-if trusts (Ok d) t old new x y = λ yes. ended t old new (x.0 yes) (y yes)
+ends-if trusts (Err e) t old new x y = tt
+
+-- ---- strings in chunks
+
+pub string-opens : (t : Bool) → parts.opened (string_major t) 0 ≡ parts.a_string (string_major t) []
+string-opens true = refl
+string-opens false = refl
+
+pub begins : (key t : Bool) (old new : CanonicalSink) → new.builder ≡ built old.builder.order (parts.opened (string_major t) 0 ∷ old.builder.standing) → BeginsString CanonicalSink sink_stands sink_holds key t old new
+begins key t old new is start ls (at, told) = (
+  ap (λ (x : Built). x.order) is ∙ at.0,
+  ap (λ (x : Built). x.standing) is ∙ ap₂ (λ (c : parts.Open) (os : List parts.Open). c ∷ os) (string-opens t) at.1,
+)
+
+pub in-string : (key t : Bool) (g : CanonicalSink) → IsChunkDue CanonicalSink sink_holds key t g → IsInString g.builder.standing
+in-string key t g (start, d, ls, content, room, at, told) = subst IsInString (sym at.1) (go ls)
+  where
+    go : (ls : List Level) → IsInString (parts.a_string (string_major t) content ∷ opens start.builder.order ls)
+    go [] = tt
+    go (l ∷ ls) = tt
+
+pub grows : (key t : Bool) (x : List ℕ) (old new : CanonicalSink) → new.builder ≡ built old.builder.order (parts.extended x old.builder.standing) → GrowsString CanonicalSink sink_holds key t x old new
+grows key t x old new is start ls content at told = (
+  ap (λ (y : Built). y.order) is ∙ at.0,
+  ap (λ (y : Built). y.standing) is ∙ ap (parts.extended x) at.1,
+)
+
+pub string-ended : (key t : Bool) (old new : CanonicalSink) → new.builder ≡ built old.builder.order (parts.close old.builder.order old.builder.standing) → EndsString CanonicalSink sink_stands sink_holds key t old new
+string-ended key t old new is start d ls content s at told k e =
+    settles start.builder new.builder d ls s k (ap (λ (x : Built). x.order) is ∙ at.0)
+    (ap (λ (x : Built). x.standing) is ∙ ap₂ (λ (o : KeyOrder) (os : List parts.Open). parts.close o os) at.0 at.1
+    ∙ ap (λ (x : List ℕ). parts.give x (opens start.builder.order ls)) (sym (string-bytes start.builder.order t content) ∙ ap (canonical start.builder.order) (sym e)))
+
+-- ---- keys
+
+pub none-told : {R : Type 0} (r : Option R) (X : Type 0) (P : R → Type 0) → MatchOption r X P → is_some r ≡ false → X
+none-told None X P h e = h
+none-told (Some r) X P h e = cc e
+
+pub no-repeat : (g : CanonicalSink) → AreOpenKeysDifferent g.builder.standing → FindsNoRepeat CanonicalSink sink_stands g
+no-repeat g h start ls at = (start.builder.order, subst AreOpenKeysDifferent at.1 h)

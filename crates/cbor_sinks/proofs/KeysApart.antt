@@ -1,0 +1,42 @@
+-- What is kept of an item tells of all of its open maps whether two keys are the same.
+use Rattle.std.proofs.Common.{◌≡◌, ℕ, Bool, true, false, List, [], ◌∷◌, ◌++◌, map, refl, ap, ◌∙◌, subst, arith}
+use Rattle.std.proofs.lemmas.List.{map-append}
+use Rattle.cbor_builder.specs.Built.{keys_so_far, AreAllDifferent, AreOpenKeysDifferent}
+use Rattle.cbor_canonical.specs.Parts.{Open, plain, an_array, a_map, a_key, a_string, pair}
+use Rattle.cbor_head.specs.Canonical.{Pair}
+use Rattle.cbor_head.specs.declared.order.KeyOrder.{KeyOrder}
+use Rattle.cbor_judging.specs.Given.{level_open, opens}
+use Rattle.cbor_judging.specs.Levels.{Level}
+use Rattle.cbor_walk.specs.Sink.{FindsNoRepeat}
+use Rattle.cbor_sinks.specs.KeyBytes.{in_key, bare_pairs, bare, kept, kept_all, keys_stand, lent_stand}
+use Rattle.cbor_sinks.specs.declared.key_bytes.KeyBytes.{KeyBytes}
+use Rattle.cbor_sinks.specs.declared.lent_keys.LentKeys.{LentKeys}
+
+abbrev keys : List Pair → List (List ℕ)
+keys ps = map (λ (p : Pair). p.key) ps
+
+bare-keys : (ps : List Pair) → keys (bare_pairs ps) ≡ keys ps
+bare-keys [] = refl
+bare-keys (p ∷ ps) = ap (λ (ks : List (List ℕ)). p.key ∷ ks) (bare-keys ps)
+
+no-keys : AreAllDifferent []
+no-keys i r = let h = r.2 in absurd (omega (arith, h))
+
+kept-apart : (t : Bool) (c : Open) (os : List Open) → AreOpenKeysDifferent (kept t c os) → AreAllDifferent (keys_so_far c) × AreOpenKeysDifferent os
+kept-apart true c os h = h
+kept-apart false (a_map ps) os h = (subst AreAllDifferent (bare-keys ps) h.0, h.1)
+kept-apart false (a_key ps k) os h = (subst AreAllDifferent (map-append (λ (p : Pair). p.key) (bare_pairs ps) (pair k [] ∷ []) ∙ ap (λ (ks : List (List ℕ)). ks ++ k ∷ []) (bare-keys ps)) h.0, h.1)
+kept-apart false (plain bs) os h = (no-keys, h)
+kept-apart false (an_array n bs) os h = (no-keys, h)
+kept-apart false (a_string m bs) os h = (no-keys, h)
+
+all-apart : (o : KeyOrder) (ls : List Level) → AreOpenKeysDifferent (kept_all o ls) → AreOpenKeysDifferent (opens o ls)
+all-apart o [] h = h
+all-apart o (l ∷ ls) h = let apart = kept-apart (in_key ls) (level_open o l) (kept_all o ls) h in (apart.0, all-apart o ls apart.1)
+
+pub no-repeat : (g : KeyBytes) → AreOpenKeysDifferent g.builder.standing → FindsNoRepeat KeyBytes keys_stand g
+no-repeat g h start ls at = (g.builder.order, all-apart g.builder.order ls (subst AreOpenKeysDifferent at.0 h))
+
+-- where they are lent
+pub lent-no-repeat : (g : LentKeys) → FindsNoRepeat KeyBytes keys_stand g.keys.now → FindsNoRepeat LentKeys lent_stand g
+lent-no-repeat g h start ls at = h start.keys.now ls at

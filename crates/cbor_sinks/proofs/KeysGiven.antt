@@ -1,0 +1,199 @@
+-- What finds equal keys, and is given the parts of an item: what it stands for behind each.
+use Rattle.std.proofs.Common.{◌≡◌, ℕ, zero, suc, ◌^◌, ◌<◌, Bool, true, false, List, [], ◌∷◌, refl, sym, ap, ◌∙◌, subst, inl, inr, arith}
+use Rattle.std.specs.Prelude.{◌⊎◌, ◌↔◌, IsTrue, Result, Ok, Err, IfOk}
+use Rattle.std.proofs.lemmas.Bool.{false≢true}
+use Rattle.cbor_builder.specs.Built.{Built, built, IsContainer, HasDistinctKeysSoFar, TakesPart, around}
+use Rattle.cbor_canonical.specs.Parts.{IsInContainer, Open, plain, give, close, closed}
+use Rattle.cbor_canonical.specs.Parts as parts
+use Rattle.cbor_head.specs.Canonical.{canonical}
+use Rattle.cbor_head.specs.Spelling.{Spelling, array, a_map, value_of}
+use Rattle.cbor_head.specs.Value.{Value}
+use Rattle.cbor_head.specs.declared.major.Major.{Major}
+use Rattle.cbor_head.specs.declared.major.Major.TheVariants as majors
+use Rattle.cbor_head.specs.declared.order.KeyOrder.{KeyOrder}
+use Rattle.cbor_judging.specs.Given.{level_open, opens, IsFull}
+use Rattle.cbor_judging.specs.Levels.{Level, some_member, some_key, AreLevels, Standing, item_due, item_full, settle}
+use Rattle.cbor_sinks.proofs.CanonGiven.{level-opened, full-endless}
+use Rattle.cbor_sinks.proofs.KeysKept.{in_key-is, item-kept, takes-part, value-takes, inside-few, innermost, may-end, IsBehind, map-ended, other-ended, inner-ended, inner-takes}
+use Rattle.cbor_sinks.specs.KeyBytes.{is_open_map, in_key, bare, kept, kept_all, one_more, inside, is_kept, behind_item, with_item, with_opened, KeepsAt, keys_stand}
+use Rattle.cbor_walk.specs.Sink.{key_due, is_map, Told, IsEndedAs, Fills, StandsFull, IsItemDue, IsContainerFull, Gives, Opens, Ends}
+use Rattle.cbor_sinks.specs.declared.key_bytes.KeyBytes.{KeyBytes}
+
+-- ---- an item
+
+pub stands-by : (o p : KeyOrder) (os xs : List Open) (n m : ℕ) (st : Standing) → p ≡ o → xs ≡ os → m ≡ n → KeepsAt o os n st → KeepsAt p xs m st
+stands-by o p os xs n m st e f g h =
+    subst (λ (y : KeyOrder). KeepsAt y xs m st) (sym e) (subst (λ (y : List Open). KeepsAt o y m st) (sym f) (subst (λ (y : ℕ). KeepsAt o os y st) (sym g) h))
+
+pub takes : (k : Bool) (g : KeyBytes) → IsItemDue KeyBytes keys_stand k g → TakesPart g.builder.standing
+takes k g (start, d, ls, room, at) = subst TakesPart (sym at.0.0) (takes-part g.builder.order d ls room.levels room.short)
+
+-- behind a key
+pub key-takes : (k : Bool) (b : List ℕ) (g new : KeyBytes) → IsItemDue KeyBytes keys_stand k g → is_kept g.inside k ≡ true → new.builder ≡ built g.builder.order (give b g.builder.standing)
+    → g.inside ≡ 0 → TakesPart new.builder.standing
+key-takes k b g new (start, d, ls, room, at) keeps is none =
+    let told : is_kept g.inside k ≡ is_kept (inside ls) (key_due ls) = λ i. is_kept (at.0.1 i) (at.1 i) in
+    subst TakesPart (sym (ap (λ (x : Built). x.standing) is ∙ ap (give b) at.0.0)) (value-takes g.builder.order ls b (sym at.0.1 ∙ none) (sym told ∙ keeps))
+
+pub few : (k : Bool) (g : KeyBytes) → IsItemDue KeyBytes keys_stand k g → g.inside < 2 ^ 63
+few k g (start, d, ls, room, at) = let short = room.short in omega (arith, at.0.1, inside-few ls, short)
+
+given : (k : Bool) (v : Value) (b : List ℕ) (old new : KeyBytes) → ((o : KeyOrder) → canonical o v ≡ b) → new.builder ≡ built old.builder.order (with_item old.inside k b old.builder.standing) → new.inside ≡ old.inside
+    → Gives KeyBytes keys_stand k v old new
+given k v b old new same is stays start d ls s at done e =
+    let o = old.builder.order in
+    let short = done.short in
+    let bytes : b ≡ canonical o (value_of s) = sym (same o) ∙ ap (canonical o) (sym e) in
+    let told : with_item old.inside k b old.builder.standing ≡ with_item (inside ls) (key_due ls) (canonical o (value_of s)) (kept_all o ls) = λ i. with_item (at.0.1 i) (at.1 i) (bytes i) (at.0.0 i) in
+    stands-by o new.builder.order _ new.builder.standing _ new.inside (settle ls s) (ap (λ (x : Built). x.order) is)
+    (ap (λ (x : Built). x.standing) is ∙ told) (stays ∙ at.0.1)
+    (item-kept o d ls s done.levels done.taken (omega (arith, short)))
+
+-- it is kept, or not
+pub with-kept : (n : ℕ) (k : Bool) (b : List ℕ) (os : List Open) → is_kept n k ≡ true → behind_item n (give b os) ≡ with_item n k b os
+with-kept zero true b os e = refl
+with-kept zero false b os e = absurd (false≢true e)
+with-kept (suc n) k b os e = refl
+
+pub with-left : (n : ℕ) (k : Bool) (b : List ℕ) (os : List Open) → is_kept n k ≡ false → os ≡ with_item n k b os
+with-left zero true b os e = absurd (false≢true (sym e))
+with-left zero false b os e = refl
+with-left (suc n) k b os e = absurd (false≢true (sym e))
+
+pub given-kept : (k : Bool) (v : Value) (b : List ℕ) (old new : KeyBytes) (mid : Built) → ((o : KeyOrder) → canonical o v ≡ b) → is_kept old.inside k ≡ true → mid ≡ built old.builder.order (give b old.builder.standing)
+    → new.builder ≡ built mid.order (behind_item old.inside mid.standing) → new.inside ≡ old.inside → Gives KeyBytes keys_stand k v old new
+given-kept k v b old new mid same keeps is behind stays =
+    given k v b old new same
+    (behind ∙ ap (λ (x : Built). built x.order (behind_item old.inside x.standing)) is ∙ ap (built old.builder.order) (with-kept old.inside k b old.builder.standing keeps)) stays
+
+pub given-left : (k : Bool) (v : Value) (b : List ℕ) (old : KeyBytes) → ((o : KeyOrder) → canonical o v ≡ b) → is_kept old.inside k ≡ false → Gives KeyBytes keys_stand k v old old
+given-left k v b old same lacks = given k v b old old same (ap (built old.builder.order) (with-left old.inside k b old.builder.standing lacks)) refl
+
+-- ---- containers
+
+opened : (k : Bool) (m : Major) (n : ℕ) (old new : KeyBytes) → new.builder ≡ built old.builder.order (with_opened old.inside k (parts.opened m n) old.builder.standing)
+    → new.inside ≡ one_more (is_kept old.inside k) old.inside → Opens KeyBytes keys_stand k m n old new
+opened k m n old new is more start ls l at e =
+    let o = old.builder.order in
+    let told : is_kept old.inside k ≡ is_kept (inside ls) (key_due ls) = λ i. is_kept (at.0.1 i) (at.1 i) in
+    let at-key = told ∙ sym (in_key-is ls) in
+    let opens-at : kept (is_kept old.inside k) (parts.opened m n) old.builder.standing ≡ kept (in_key ls) (level_open o l) (kept_all o ls) = λ i. kept (at-key i) (sym (level-opened o m n l e) i) (at.0.0 i) in
+    let more-at : one_more (is_kept old.inside k) old.inside ≡ one_more (in_key ls) (inside ls) = λ i. one_more (at-key i) (at.0.1 i) in
+    stands-by o new.builder.order _ new.builder.standing _ new.inside (item_due (l ∷ ls)) (ap (λ (x : Built). x.order) is)
+    (ap (λ (x : Built). x.standing) is ∙ opens-at) (more ∙ more-at) (refl, refl)
+
+-- one in no key
+with-bare : (m : Major) (n : ℕ) (os : List Open) → IsContainer m → (m ≡ majors.Map → ⊥) → os ≡ bare (parts.opened m n) os
+with-bare majors.Array n os h lacks = refl
+with-bare majors.Map n os h lacks = absurd (lacks refl)
+with-bare majors.Tag n os h lacks = refl
+with-bare majors.Unsigned n os h lacks = absurd h
+with-bare majors.Negative n os h lacks = absurd h
+with-bare majors.Bytes n os h lacks = absurd h
+with-bare majors.Text n os h lacks = absurd h
+with-bare majors.Simple n os h lacks = absurd h
+
+none-inside : (n : ℕ) (k : Bool) → is_kept n k ≡ false → n ≡ 0
+none-inside zero k e = refl
+none-inside (suc n) k e = absurd (false≢true (sym e))
+
+pub opened-kept : (k : Bool) (m : Major) (n : ℕ) (old new : KeyBytes) → is_kept old.inside k ≡ true → new.builder ≡ built old.builder.order (parts.opened m n ∷ old.builder.standing) → new.inside ≡ suc old.inside
+    → Opens KeyBytes keys_stand k m n old new
+opened-kept k m n old new keeps is more =
+    opened k m n old new (is ∙ ap (λ (t : Bool). built old.builder.order (kept t (parts.opened m n) old.builder.standing)) (sym keeps)) (more ∙ ap (λ (t : Bool). one_more t old.inside) (sym keeps))
+
+left-inside : (n : ℕ) (k : Bool) → is_kept n k ≡ false → n ≡ one_more (is_kept n k) n
+left-inside n k lacks = none-inside n k lacks ∙ ap (λ (t : Bool). one_more t n) (sym lacks)
+
+-- of a map in no key the keys are kept
+pub opened-map : (k : Bool) (m : Major) (n : ℕ) (old new : KeyBytes) → m ≡ majors.Map → is_kept old.inside k ≡ false → new.builder ≡ built old.builder.order (parts.opened m n ∷ old.builder.standing) → new.inside ≡ old.inside
+    → Opens KeyBytes keys_stand k m n old new
+opened-map k m n old new map lacks is stays =
+    let os = old.builder.standing in
+    let bared = ap (λ (x : Major). parts.opened x n ∷ os) map ∙ ap (λ (x : Major). bare (parts.opened x n) os) (sym map) in
+    opened k m n old new (is ∙ ap (built old.builder.order) (bared ∙ ap (λ (t : Bool). kept t (parts.opened m n) os) (sym lacks))) (stays ∙ left-inside old.inside k lacks)
+
+pub opened-left : (k : Bool) (m : Major) (n : ℕ) (old : KeyBytes) → IsContainer m → (m ≡ majors.Map → ⊥) → is_kept old.inside k ≡ false → Opens KeyBytes keys_stand k m n old old
+opened-left k m n old kind other lacks =
+    let os = old.builder.standing in
+    opened k m n old old (ap (built old.builder.order) (with-bare m n os kind other ∙ ap (λ (t : Bool). kept t (parts.opened m n) os) (sym lacks))) (left-inside old.inside k lacks)
+
+-- one without a length has no more to come
+ended-as : (o : KeyOrder) (l : Level) (s : Spelling) → IsEndedAs l s → (is_open_map (level_open o l) ≡ is_map s) × (key_due (l ∷ []) ≡ is_map s)
+ended-as o (some_member done) (array w ss) e = (refl, refl)
+ended-as o (some_key done) (a_map w es) e = (refl, refl)
+ended-as o l s e = absurd e
+
+endless : (o : KeyOrder) (d : ℕ) (ls : List Level) (l : Level) (s : Spelling) → AreLevels d (l ∷ ls) → IsEndedAs l s → Fills false d ls s → (e : ℕ) × IsFull o e (level_open o l) s
+endless o d ls l s levels ended fills =
+    let at = (full-endless (built o []) (built o (opens o (l ∷ ls))) d ls l s (refl, refl) levels ended fills).1 in
+    (at.0, subst (λ (c : Open). IsFull o at.0 c s) (sym (ap innermost at.3)) at.2)
+
+full-at : (k : Bool) (d : ℕ) (start g : KeyBytes) (ls : List Level) (s : Spelling) → Fills false d ls s → StandsFull KeyBytes (Told KeyBytes keys_stand k) d start g ls s → Told KeyBytes keys_stand k start g (item_full ls s)
+full-at k d start g ls s fills (inl at) = at
+full-at k d start g ls s fills (inr (l, ended, levels, at)) =
+    let o = g.builder.order in
+    let like = ended-as o l s ended in
+    let full = endless o d ls l s levels ended fills in
+    ((full.0, level_open o l, full.1, like.0, at.0.0, at.0.1), at.1 ∙ like.1)
+
+-- it may end, where it stands in a key or is a map
+pub in-container : (k : Bool) (g : KeyBytes) → IsContainerFull KeyBytes keys_stand false k g → (0 < g.inside) ⊎ (k ≡ true) → IsInContainer g.builder.standing
+in-container k g (start, d, ls, s, fills, full) h =
+    let at = full-at k d start g ls s fills full in
+    let kind : (0 < one_more (in_key ls) (inside ls)) ⊎ (is_open_map at.0.1 ≡ true) = elim h [ inl some ↦ inl (subst (λ (n : ℕ). 0 < n) at.0.5 some) | inr e ↦ inr (at.0.3 ∙ sym at.1 ∙ e) ] in
+    subst IsInContainer (sym at.0.4) (may-end g.builder.order at.0.1 ls at.0.2.container kind)
+
+pub end-takes : (k : Bool) (m : ℕ) (old new : KeyBytes) → IsContainerFull KeyBytes keys_stand false k old → new.builder ≡ built old.builder.order (close old.builder.order old.builder.standing) → suc m ≡ old.inside → m ≡ 0
+    → TakesPart new.builder.standing
+end-takes k m old new (start, d, ls, s, fills, full) is some none =
+    let at = full-at k d start old ls s fills full in
+    let o = old.builder.order in
+    subst TakesPart (sym (ap (λ (x : Built). x.standing) is ∙ ap (close o) at.0.4)) (inner-takes o at.0.1 ls m (some ∙ at.0.5) none)
+
+ended : (k : Bool) (old new : KeyBytes) → new.builder.order ≡ old.builder.order
+    → ((ls : List Level) (c : Open) → IsInContainer (c ∷ plain [] ∷ []) → is_open_map c ≡ k → old.builder.standing ≡ kept (in_key ls) c (kept_all old.builder.order ls) → old.inside ≡ one_more (in_key ls) (inside ls)
+    → IsBehind old.builder.order (inside ls) (key_due ls) c (kept_all old.builder.order ls) new.builder.standing new.inside)
+    → Ends KeyBytes keys_stand false k old new
+ended k old new order path start d ls s fills stood =
+    let o = old.builder.order in
+    let at = full-at k d start old ls s fills stood in
+    let full = at.0.2 in
+    let behind = path ls at.0.1 (full.container (plain []) []) (at.0.3 ∙ sym at.1) at.0.4 at.0.5 in
+    let clean = full.clean behind.differ in
+    let short = fills.short in (
+      clean,
+      stands-by o new.builder.order _ new.builder.standing _ new.inside (settle ls s) order (behind.holds ∙ ap (λ (b : List ℕ). with_item (inside ls) (key_due ls) b (kept_all o ls)) full.canonical_is) behind.count
+          (item-kept o d ls s fills.levels (record { spelled = fills.spelled; within = fills.within; clean = clean }) (omega (arith, short))),
+    )
+
+ended-map : (k : Bool) (old new : KeyBytes) → k ≡ true → old.inside ≡ 0 → HasDistinctKeysSoFar old.builder.standing → new.builder ≡ built old.builder.order (around old.builder.standing) → new.inside ≡ old.inside
+    → Ends KeyBytes keys_stand false k old new
+ended-map k old new keeps none distinct is stays =
+    ended k old new (ap (λ (x : Built). x.order) is)
+    (λ ls c inner like at n.
+    let o = old.builder.order in
+    let behind = map-ended o (in_key ls) (inside ls) (key_due ls) c (kept_all o ls) (in_key-is ls) (sym n ∙ none) (like ∙ keeps) (subst HasDistinctKeysSoFar at distinct) in
+    record { differ = behind.differ; holds = ap (λ (x : Built). x.standing) is ∙ ap around at ∙ behind.holds; count = stays ∙ none ∙ behind.count })
+
+pub ended-other : (k : Bool) (old new : KeyBytes) → k ≡ false → old.inside ≡ 0 → new.builder ≡ old.builder → new.inside ≡ old.inside → Ends KeyBytes keys_stand false k old new
+ended-other k old new not none is stays =
+    ended k old new (ap (λ (x : Built). x.order) is)
+    (λ ls c inner like at n.
+    let o = old.builder.order in
+    let behind = other-ended o (in_key ls) (inside ls) (key_due ls) c (kept_all o ls) (in_key-is ls) (sym n ∙ none) (like ∙ not) inner in
+    record { differ = behind.differ; holds = ap (λ (x : Built). x.standing) is ∙ at ∙ behind.holds; count = stays ∙ none ∙ behind.count })
+
+pub ended-inner : (k : Bool) (old new : KeyBytes) → suc new.inside ≡ old.inside → HasDistinctKeysSoFar old.builder.standing
+    → new.builder ≡ built old.builder.order (behind_item new.inside (close old.builder.order old.builder.standing)) → Ends KeyBytes keys_stand false k old new
+ended-inner k old new some distinct is =
+    ended k old new (ap (λ (x : Built). x.order) is)
+    (λ ls c inner like at n.
+    let o = old.builder.order in
+    let behind = inner-ended o (in_key ls) (inside ls) new.inside (key_due ls) c (kept_all o ls) (in_key-is ls) (some ∙ n) (subst HasDistinctKeysSoFar at distinct) in
+    record { differ = behind.differ; holds = ap (λ (x : Built). x.standing) is ∙ ap (λ (os : List Open). behind_item new.inside (close o os)) at ∙ behind.holds; count = behind.count })
+
+pub map-ends : {E : Type 0} (r : Result Bool E) (k : Bool) (old : KeyBytes) (new : Built) → k ≡ true → old.inside ≡ 0 → IfOk r (λ d. IsTrue d ↔ HasDistinctKeysSoFar old.builder.standing)
+    → IfOk r (λ d. IsTrue d → new ≡ built old.builder.order (around old.builder.standing)) → IfOk r (λ d. IsTrue d → Ends KeyBytes keys_stand false k old (record { builder = new; inside = old.inside }))
+map-ends (Ok d) k old new keeps none x y = λ t. ended-map k old (record { builder = new; inside = old.inside }) keeps none (x.0 t) (y t) refl
+map-ends (Err e) k old new keeps none x y = tt

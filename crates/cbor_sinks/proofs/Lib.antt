@@ -1,0 +1,5 @@
+pub mod CanonGiven
+pub mod KeyStrings
+pub mod KeysApart
+pub mod KeysGiven
+pub mod KeysKept

@@ -1,0 +1,19 @@
+use Rattle.std.proofs.Common.{◌∙◌, ◌∷◌, refl, sym, ap}
+use Rattle.cbor_builder.specs.Built.{built}
+use Rattle.cbor_canonical.specs.Parts.{opened}
+use Rattle.cbor_head.specs.declared.major.Major.{Major}
+use Rattle.cbor_sinks.proofs.KeysGiven.{takes}
+use Rattle.cbor_sinks.proofs.KeyStrings.{begins-kept, begins-left}
+use Rattle.cbor_sinks.proofs.key_bytes.KeyBytesSink.begin_string.Goals as goal
+
+pub begin_string-requires-clause-takes : goal.begin_string-requires-clause-takes
+begin_string-requires-clause-takes c = takes c.args.is_key c.args.self.now c.requires.due
+
+pub returns-in_ok-begin_string : goal.returns-in_ok-begin_string
+returns-in_ok-begin_string c =
+    let old = c.args.self.now in
+    let typed = ap (λ (m : Major). built old.builder.order (opened m 0 ∷ old.builder.standing)) c.string_type.ensures in
+    begins-kept c.args.is_key c.args.is_text old (record { builder = c.begin_string.new.self; inside = old.inside }) (sym c.keeps.ensures ∙ c.if-keeps.true) (c.in_ok-begin_string.ensures ∙ typed) refl
+
+pub returns-else-keeps : goal.returns-else-keeps
+returns-else-keeps c = begins-left c.args.is_key c.args.is_text c.args.self.now (sym c.keeps.ensures ∙ c.if-keeps.false)

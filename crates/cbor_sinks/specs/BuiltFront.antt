@@ -1,0 +1,13 @@
+-- The item at the front of an input, and its canonical bytes.
+use Rattle.std.specs.Prelude.{◌≡◌, ℕ, List}
+use Rattle.cbor_head.specs.Canonical.{canonical}
+use Rattle.cbor_head.specs.Complaint.{plain}
+use Rattle.cbor_head.specs.Limits.{Bounds}
+use Rattle.cbor_head.specs.Spelling.{value_of}
+use Rattle.cbor_head.specs.declared.order.KeyOrder.{KeyOrder}
+use Rattle.cbor_judging.specs.Readers.{IsRead}
+
+-- it is accepted by the plain rules, and has so many bytes
+pub record IsBuiltFront (limits : Bounds) (o : KeyOrder) (input out : List ℕ) (size : ℕ) : Type 0 where
+  pub read : IsRead limits plain input size
+  pub canonical_is : out ≡ canonical o (value_of read.item)

@@ -1,0 +1,30 @@
+-- What a builder of canonical bytes holds of an item whose parts it took.
+use Rattle.std.specs.Prelude.{ℕ, ◌≡◌, Bool, List, [], ◌∷◌}
+use Rattle.cbor_head.specs.Canonical.{canonical}
+use Rattle.cbor_head.specs.Spelling.{value_of}
+use Rattle.cbor_builder.specs.Built.{Built}
+use Rattle.cbor_canonical.specs.Parts as parts
+use Rattle.cbor_judging.specs.Given.{opens, IsFull}
+use Rattle.cbor_judging.specs.Levels.{Level, Standing, item_due, item_full, item_whole}
+use Rattle.cbor_judging.specs.Reading.{string_major}
+use Rattle.cbor_sinks.specs.declared.canonical_sink.CanonicalSink.{CanonicalSink}
+
+-- in its order of keys, the canonical bytes of what is complete
+abbrev pub canon_stands : Built → Built → Standing → Type 0
+canon_stands start g (item_due ls) = (g.order ≡ start.order) × (g.standing ≡ opens start.order ls)
+canon_stands start g (item_full ls s) =
+    (g.order ≡ start.order) × ((d : ℕ) × (c : parts.Open) × IsFull start.order d c s × (g.standing ≡ c ∷ opens start.order ls))
+canon_stands start g (item_whole s) = (g.order ≡ start.order) × (g.standing ≡ parts.plain (canonical start.order (value_of s)) ∷ [])
+
+-- and the content so far of a string
+abbrev pub canon_holds : Built → Built → List Level → Bool → List ℕ → Type 0
+canon_holds start g ls is_text content =
+    (g.order ≡ start.order) × (g.standing ≡ parts.a_string (string_major is_text) content ∷ opens start.order ls)
+
+-- ---- the same of the sink
+
+abbrev pub sink_stands : CanonicalSink → CanonicalSink → Standing → Type 0
+sink_stands start g st = canon_stands start.builder g.builder st
+
+abbrev pub sink_holds : CanonicalSink → CanonicalSink → List Level → Bool → List ℕ → Type 0
+sink_holds start g ls is_text content = canon_holds start.builder g.builder ls is_text content

@@ -1,0 +1,100 @@
+-- The canonical bytes of keys alone: what is kept of an item, and what is given of it.
+use Rattle.std.specs.Prelude.{ℕ, zero, suc, ◌≡◌, ◌||◌, ◌++◌, if◌then◌else◌, Bool, true, false, List, [], ◌∷◌}
+use Rattle.cbor_canonical.specs.Parts.{Open, plain, an_array, a_map, a_key, a_string, pair, give}
+use Rattle.cbor_head.specs.Canonical.{Pair}
+use Rattle.cbor_head.specs.declared.order.KeyOrder.{KeyOrder}
+use Rattle.cbor_judging.specs.Given.{level_open, IsFull}
+use Rattle.cbor_judging.specs.Levels.{Level, Standing, item_due, item_full, item_whole}
+use Rattle.cbor_judging.specs.Reading.{string_major}
+use Rattle.cbor_walk.specs.Sink.{takes_key, is_map}
+use Rattle.cbor_sinks.specs.declared.key_bytes.KeyBytes.{KeyBytes}
+use Rattle.cbor_sinks.specs.declared.lent_keys.LentKeys.{LentKeys}
+
+-- ---- where a key is due
+
+abbrev pub is_open_map : Open → Bool
+is_open_map (a_map ps) = true
+is_open_map (a_key ps k) = false
+is_open_map (plain bs) = false
+is_open_map (an_array n bs) = false
+is_open_map (a_string m bs) = false
+
+-- it is a key, or stands in one
+abbrev pub in_key : List Level → Bool
+in_key [] = false
+in_key (l ∷ ls) = takes_key l || in_key ls
+
+-- ---- what is kept
+
+-- keys, and nothing of their values
+abbrev pub bare_pairs : List Pair → List Pair
+bare_pairs [] = []
+bare_pairs (p ∷ ps) = pair p.key [] ∷ bare_pairs ps
+
+-- of a container that stands in no key
+abbrev pub bare : Open → List Open → List Open
+bare (a_map ps) os = a_map (bare_pairs ps) ∷ os
+bare (a_key ps k) os = a_map (bare_pairs ps ++ pair k [] ∷ []) ∷ os
+bare (plain bs) os = os
+bare (an_array n bs) os = os
+bare (a_string m bs) os = os
+
+-- of one that stands in a key, or in none
+abbrev pub kept : Bool → Open → List Open → List Open
+kept true c os = c ∷ os
+kept false c os = bare c os
+
+abbrev pub kept_all : KeyOrder → List Level → List Open
+kept_all o [] = plain [] ∷ []
+kept_all o (l ∷ ls) = kept (in_key ls) (level_open o l) (kept_all o ls)
+
+abbrev pub one_more : Bool → ℕ → ℕ
+one_more true n = suc n
+one_more false n = 0
+
+-- so many containers are open of a key
+abbrev pub inside : List Level → ℕ
+inside [] = 0
+inside (l ∷ ls) = one_more (in_key ls) (inside ls)
+
+-- an item is kept, by how many containers are open of a key, and whether it is one
+abbrev pub is_kept : ℕ → Bool → Bool
+is_kept zero is_key = is_key
+is_kept (suc n) is_key = true
+
+-- a key that is complete has a value of no bytes
+abbrev pub behind_item : ℕ → List Open → List Open
+behind_item zero os = give [] os
+behind_item (suc n) os = os
+
+-- behind an item of these bytes
+abbrev pub with_item : ℕ → Bool → List ℕ → List Open → List Open
+with_item n is_key b os = if is_kept n is_key then behind_item n (give b os) else os
+
+-- behind the opener of a container
+abbrev pub with_opened : ℕ → Bool → Open → List Open → List Open
+with_opened n is_key c os = kept (is_kept n is_key) c os
+
+-- ---- where the item stands
+
+abbrev pub KeepsAt : KeyOrder → List Open → ℕ → Standing → Type 0
+KeepsAt o os n (item_due ls) = (os ≡ kept_all o ls) × (n ≡ inside ls)
+KeepsAt o os n (item_full ls s) =
+    (d : ℕ) × (c : Open) × IsFull o d c s × (is_open_map c ≡ is_map s) × (os ≡ kept (in_key ls) c (kept_all o ls)) × (n ≡ one_more (in_key ls) (inside ls))
+KeepsAt o os n (item_whole s) = Unit {0}
+
+abbrev pub keys_stand : KeyBytes → KeyBytes → Standing → Type 0
+keys_stand start g st = KeepsAt g.builder.order g.builder.standing g.inside st
+
+-- and the content so far of a string, where it is kept
+abbrev pub keys_hold : KeyBytes → KeyBytes → List Level → Bool → List ℕ → Type 0
+keys_hold start g ls is_text content =
+    (g.builder.standing ≡ kept (in_key ls) (a_string (string_major is_text) content) (kept_all g.builder.order ls)) × (g.inside ≡ inside ls)
+
+-- ---- the same of keys that are lent
+
+abbrev pub lent_stand : LentKeys → LentKeys → Standing → Type 0
+lent_stand start g st = keys_stand start.keys.now g.keys.now st
+
+abbrev pub lent_hold : LentKeys → LentKeys → List Level → Bool → List ℕ → Type 0
+lent_hold start g ls is_text content = keys_hold start.keys.now g.keys.now ls is_text content

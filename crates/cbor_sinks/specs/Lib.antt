@@ -1,0 +1,3 @@
+pub mod BuiltFront
+pub mod CanonSink
+pub mod KeyBytes

@@ -1,0 +1,157 @@
+//! The canonical bytes of the keys of an item whose parts come, and of nothing else.
+
+ghost use Rattle.std.specs.Prelude.{◌≡◌, [], OnOk};
+ghost use Rattle.cbor_builder.specs.Built.{built, TakesPart};
+ghost use Rattle.cbor_judging.specs.Levels.{item_due};
+ghost use Rattle.cbor_sinks.specs.KeyBytes.{is_kept, behind_item, keys_stand, keys_hold};
+
+use crate::canonical_sink::string_type;
+use cbor_builder::CanonBuilder;
+use cbor_head::{KeyOrder, Major};
+use cbor_walk::Sink;
+use std::alloc::{AllocError, Global};
+
+/// What finds equal keys in an item: the canonical bytes of the keys of the open maps. What is no
+/// key, and stands in none, is not kept, and a map's keys are given up at its end.
+#[derive(Drop)]
+pub struct KeyBytes {
+    builder: CanonBuilder,
+    // How many containers are open of a key that is not complete.
+    inside: usize,
+}
+
+impl KeyBytes {
+    /// Of no keys. Takes no memory.
+    pub fn new(alloc: Global) -> KeyBytes
+        ensures { keys_stand result result (item_due []) }
+    {
+        KeyBytes {
+            builder: CanonBuilder::new(alloc, KeyOrder::Bytewise),
+            inside: 0,
+        }
+    }
+
+    /// Of no keys, with the memory that it has. Whatever call came before.
+    pub fn clear(&mut self)
+        ensures { keys_stand self.new self.new (item_due []) }
+    {
+        self.builder.clear();
+        self.inside = 0;
+    }
+
+    // Whether the next item is a key, as this says where none is open, or stands in one.
+    #[inline(always)]
+    fn keeps(&self, is_key: bool) -> bool
+        ensures { result ≡ is_kept self.now.inside is_key }
+    {
+        self.inside > 0 || is_key
+    }
+
+    // An item is complete: a key, if none of a key's containers is open. Its value is not kept.
+    #[inline(always)]
+    fn settle(&mut self) -> Result<(), AllocError>
+        requires { self.old.inside ≡ 0 → TakesPart self.old.builder.standing }
+        ensures inside { self.new.inside ≡ self.old.inside }
+        ensures builder { OnOk result (self.new.builder
+            ≡ built self.old.builder.order (behind_item self.old.inside self.old.builder.standing)) }
+    {
+        if self.inside == 0 {
+            self.builder.nothing()?;
+        }
+        Ok(())
+    }
+}
+
+impl<'a> Sink<'a> for KeyBytes {
+    ghost stands = { keys_stand };
+
+    ghost holds = { keys_hold };
+
+    #[inline(always)]
+    fn leaf(&mut self, is_key: bool, major: Major, number: u64) -> Result<(), AllocError> {
+        if self.keeps(is_key) {
+            self.builder.leaf(major, number)?;
+            self.settle()?;
+        }
+        Ok(())
+    }
+
+    #[inline(always)]
+    fn string(
+        &mut self,
+        is_key: bool,
+        is_text: bool,
+        front: &'a [u8],
+        count: usize,
+    ) -> Result<(), AllocError> {
+        if self.keeps(is_key) {
+            self.builder
+                .front_string(string_type(is_text), front, count)?;
+            self.settle()?;
+        }
+        Ok(())
+    }
+
+    #[inline(always)]
+    fn begin_string(&mut self, is_key: bool, is_text: bool) -> Result<(), AllocError> {
+        if self.keeps(is_key) {
+            self.builder.begin_string(string_type(is_text))?;
+        }
+        Ok(())
+    }
+
+    #[inline(always)]
+    fn chunk(
+        &mut self,
+        is_key: bool,
+        _is_text: bool,
+        front: &'a [u8],
+        count: usize,
+    ) -> Result<(), AllocError> {
+        if self.keeps(is_key) {
+            self.builder.front_bytes(front, count)?;
+        }
+        Ok(())
+    }
+
+    #[inline(always)]
+    fn end_string(&mut self, is_key: bool, _is_text: bool) -> Result<(), AllocError> {
+        if self.keeps(is_key) {
+            self.builder.end_string()?;
+            self.settle()?;
+        }
+        Ok(())
+    }
+
+    #[inline(always)]
+    fn begin(&mut self, is_key: bool, major: Major, number: u64) -> Result<(), AllocError> {
+        if self.keeps(is_key) {
+            self.builder.begin(major, number)?;
+            self.inside += 1;
+        } else if let Major::Map = major {
+            self.builder.begin(major, number)?;
+        }
+        Ok(())
+    }
+
+    #[inline(always)]
+    fn end(&mut self, is_map: bool) -> Result<bool, AllocError> {
+        if self.inside == 0 {
+            if is_map {
+                return self.builder.give_up_if_distinct();
+            }
+            return Ok(true);
+        }
+        if !self.builder.end_if_distinct()? {
+            return Ok(false);
+        }
+        self.inside -= 1;
+        self.settle()?;
+        Ok(true)
+    }
+
+    fn has_equal_keys(self) -> bool {
+        let KeyBytes { builder, inside: _ } = self;
+        builder.first_repeat().is_some()
+    }
+}

@@ -1,8 +1,0 @@
-use Rattle.cbor_walk.proofs.CanonGiven.{takes, opened}
-use Rattle.cbor_walk.proofs.canonical_sink.CanonBuilderSink.begin.Goals as goal
-
-pub begin-requires-clause-takes : goal.begin-requires-clause-takes
-begin-requires-clause-takes c = takes c.args._is_key c.args.self.now c.requires.due
-
-pub returns : goal.returns
-returns c = opened c.args._is_key c.args.major c.args.number c.args.self.now c.begin.new.self c.in_ok-begin.ensures

@@ -1,5 +1,0 @@
-use Rattle.cbor_walk.proofs.CanonGiven.{takes}
-use Rattle.cbor_walk.proofs.canonical_sink.CanonBuilderSink.begin_string.Goals as goal
-
-pub begin_string-requires-clause-takes : goal.begin_string-requires-clause-takes
-begin_string-requires-clause-takes c = takes c.args._is_key c.args.self.now c.requires.due

@@ -1,8 +1,0 @@
-use Rattle.cbor_walk.proofs.CanonGiven.{in-string, string-ended}
-use Rattle.cbor_walk.proofs.canonical_sink.CanonBuilderSink.end_string.Goals as goal
-
-pub end_string-requires : goal.end_string-requires
-end_string-requires c = record { string = in-string c.args._is_key c.args._is_text c.args.self.now c.requires.due }
-
-pub returns : goal.returns
-returns c = string-ended c.args._is_key c.args._is_text c.args.self.now c.end_string.new.self c.in_ok-end_string.ensures
