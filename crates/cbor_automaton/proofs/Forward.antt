@@ -161,9 +161,6 @@ indefinite-taken d m fs starts cs rest h =
 pub room-above : (d : ℕ) (fs : List Frame) (k : ℕ) → suc k + length fs ≤ d → nat_lt (length fs) d ≡ true
 room-above d fs k h = lt-ltb (length fs) d (omega arith)
 
-abbrev Within : ℕ → ℕ → ℕ → Type 0
-Within d fs k = k + fs ≤ d
-
 left_of : (a b n d : ℕ) → max a b + n ≤ d → a + n ≤ d
 left_of a b n d h = omega arith
 

@@ -139,11 +139,6 @@ free_filled d buf h from start w f b n lh e =
 
 -- ---- what comes of settling
 
-pub settled : (d : Draft) (s0 s1 s2 bytes buf old : List ℕ) (n : ℕ) → s0 ≡ [] → s1 ≡ s0 ++ rope d.buf d.cuts.items → s2 ≡ s1 ++ slice_range d.buf d.end n → n ≡ length d.buf → bytes ≡ s2 → buf ≡ take 0 old ++ bytes
-    → buf ≡ meant d
-settled d s0 s1 s2 bytes buf old n e0 e1 e2 en eb e =
-    e ∙ eb ∙ e2 ∙ (λ i. (e1 ∙ ap (λ (xs : List ℕ). xs ++ rope d.buf d.cuts.items) e0) i ++ slice_all d.buf d.end n (sym en) i)
-
 -- what a loose draft is meant to be
 pub loose_meant : (d : Draft) (start : ℕ) (r : Region) (w : IsLoose d start r) → meant d ≡ rope d.buf w.0.0 ++ rope d.buf (gap r.behind r.start ∷ w.0.1)
 loose_meant d start r w =

@@ -17,15 +17,6 @@ slice_within all out s e is h g =
     let whole : all ≡ out ++ drop (length out) all = sym (take-append-drop (length out) all) ∙ ap (λ (xs : List ℕ). xs ++ drop (length out) all) is in
     ap (λ (xs : List ℕ). slice_range xs s e) whole ∙ slice_front out (drop (length out) all) s e h g
 
--- the first of a block that was read there
-pub block_part : (all out bytes block : List ℕ) (s e : ℕ) → take (length out) all ≡ out → s ≤ e → e ≤ length out → bytes ≡ out → length (take (e - s) (drop s bytes)) ≤ 32
-    → block ≡ take 32 (take (length all - s) (drop s all)) → take (length (take (e - s) (drop s bytes))) block ≡ slice_range out s e
-block_part all out bytes block s e is h g eb few read =
-    let l = length-take (e - s) (drop s bytes) in
-    let m = length-drop s bytes in
-    let n : length (take (e - s) (drop s bytes)) ≡ e - s = omega (arith, l, m, h, g, ap length eb) in
-    (λ i. take (n i) (read i)) ∙ ap (λ (xs : List ℕ). take (e - s) (take 32 xs)) (take_rest all s) ∙ take-take (e - s) 32 (drop s all) (omega (arith, n, few)) ∙ slice_within all out s e is h g
-
 -- the part to the end
 pub slice_all : (xs : List ℕ) (s n : ℕ) → length xs ≡ n → slice_range xs s n ≡ drop s xs
 slice_all xs s n e =

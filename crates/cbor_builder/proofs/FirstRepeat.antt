@@ -104,9 +104,6 @@ module _ (o : KeyOrder) (out : List ℕ) (xs ns ys : List Span) (bytes : AreByte
   fronted_all : AreFronted out ys
   fronted_all = all_fronted out xs ns ys fronted as_long numbered moved
 
-  as_many : length ys ≡ length xs
-  as_many = length_permutation ns ys moved ∙ as_long
-
   -- where the span with a number came to stand
   place : (i : ℕ) → i < length xs → (p : ℕ) × (p < length ys) × (nth ys p ≡ record (nth xs i) { end = i })
   place i l =

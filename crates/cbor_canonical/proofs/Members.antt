@@ -27,8 +27,3 @@ at_in (y ∷ ys) x (suc k) l e = inr (at_in ys x k (omega arith) e)
 
 pub contains_in : {X : Type 0} (xs : List X) (x : X) → Contains xs x → In x xs
 contains_in xs x c = at_in xs x c.0 c.1 c.2
-
-pub map_in : {X Y : Type 0} (f : X → Y) (xs : List X) (x : X) → In x xs → In (f x) (map f xs)
-map_in f [] x m = m
-map_in f (y ∷ ys) x (inl e) = inl (ap f e)
-map_in f (y ∷ ys) x (inr m) = inr (map_in f ys x m)

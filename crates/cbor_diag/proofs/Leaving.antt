@@ -51,23 +51,6 @@ left-stops n a b c s t whole mid e p q = put-stops a b c s t whole p.done mid e 
 pub left-puts : (n : ℕ) (a b c : Option (List ℕ)) (s t u : Outbox) (whole mid : List ℕ) (r : Result (Unit {0}) Stopped) → HasLeft n a b s t whole mid → Puts b c t u mid r → Puts a c s u whole r
 left-puts n a b c s t u whole mid r p q = subst (λ (l : List ℕ). Puts a c s u l r) p.joins (puts-next a b c s t u p.done mid r p.written q)
 
--- nothing of it is left
-pub left-none : (n : ℕ) (a b : Option (List ℕ)) (s t : Outbox) (whole : List ℕ) → HasLeft n a b s t whole [] → HasPut a b s t whole
-left-none n a b s t whole p = subst (λ (l : List ℕ). HasPut a b s t l) (sym (append-nil p.done) ∙ p.joins) p.written
-
--- nothing was put yet
-pub left-whole : (a : Option (List ℕ)) (s : Outbox) (whole : List ℕ) → HasLeft 0 a a s s whole whole
-left-whole a s whole = record { done = []; written = puts-nothing a s; some = omega arith; joins = refl }
-
--- more of the whole comes behind what is left of a part of it
-pub left-more : (a b : Option (List ℕ)) (s t : Outbox) (whole left more : List ℕ) → HasLeft 1 a b s t whole left → HasLeft 1 a b s t (whole ++ more) (left ++ more)
-left-more a b s t whole left more p = record {
-  done = p.done;
-  written = p.written;
-  some = p.some;
-  joins = sym (append_assoc p.done left more) ∙ ap (λ (l : List ℕ). l ++ more) p.joins;
-}
-
 four : (g x m e r : List ℕ) → g ++ (x ++ ((m ++ e) ++ r)) ≡ (((g ++ x) ++ m) ++ e) ++ r
 four g x m e r = simp append_assoc
 
@@ -159,11 +142,3 @@ module _ {N : Type 0} (see : N → Value) where
   pub goes-on : (l : Layout) (vs : List (Level N)) (a b c : Option (List ℕ)) (s t u : Outbox) (whole xs mid : List ℕ) (r : Result (Option (Level N)) Stopped) → xs ++ mid ≡ whole → HasPut a b s t xs → Leaves 1 see l b c t u mid vs r → Leaves 1 see l a c s u whole vs r
   goes-on l vs a b c s t u whole xs mid (Ok o) is p q = put-left 1 (omega arith) a b c s t u whole xs mid (all_left see l o vs) is p q
   goes-on l vs a b c s t u whole xs mid (Err e) is p q = put-stops a b c s t whole xs mid u is p q
-
-  -- its container is around what is open of it
-  pub opened : (l : Layout) (vs us : List (Level N)) (v w : Level N) (a b : Option (List ℕ)) (s t : Outbox) (whole : List ℕ) → us ≡ vs ++ v ∷ [] → HasLeft 1 a b s t whole (rest_of see l w ++ [])
-      → HasLeft 1 a b s t (whole ++ (rest_of see l v ++ behind see l (reverse vs))) (rest_of see l w ++ behind see l (reverse us))
-  opened l vs us v w a b s t whole is p =
-      subst (λ (x : List ℕ). HasLeft 1 a b s t (whole ++ (rest_of see l v ++ behind see l (reverse vs))) x)
-      (ap (λ (x : List ℕ). x ++ (rest_of see l v ++ behind see l (reverse vs))) (append-nil (rest_of see l w)) ∙ ap (λ (x : List ℕ). rest_of see l w ++ x) (sym (behind-top l vs us v is)))
-      (left-more a b s t whole (rest_of see l w ++ []) (rest_of see l v ++ behind see l (reverse vs)) p)

@@ -67,9 +67,6 @@ sized at n k es ms e h = subst (λ (j : ℕ). Row at es ms j) e h
 marked : (at n : ℕ) (es : List Event) (ms ns : List Mark) → ms ≡ ns → Row at es ms n → Row at es ns n
 marked at n es ms ns e h = subst (λ (xs : List Mark). Row at es xs n) e h
 
-moved : (at to n : ℕ) (es : List Event) (ms : List Mark) → at ≡ to → Row at es ms n → Row to es ms n
-moved at to n es ms e h = subst (λ (p : ℕ). Row p es ms n) e h
-
 one : (at : ℕ) (w : Width) (kind : EventKind) (m : Mark) (n : ℕ) → IsSingle kind → IsProper w kind → marks_of w kind ≡ m ∷ [] → size m ≡ n → Row at (event at w kind ∷ []) (m ∷ []) n
 one at w kind m n s p e l = record {
   row = (refl, p, tt);

@@ -66,7 +66,3 @@ mutual
   entries_distinct : (es : Entries) → AreEntriesValid es → EntriesHaveDistinctKeysThroughout es
   entries_distinct value.no_entries h = tt
   entries_distinct (value.entry k v es) h = (distinct_if_valid k h.0, distinct_if_valid v h.1, entries_distinct es h.2)
-
--- exactly such an item is valid
-pub distinct_exactly : (i : Item) → HasDistinctKeysThroughout (view i) ↔ IsValid (view i)
-distinct_exactly i = (valid_if_distinct i, distinct_if_valid (view i))

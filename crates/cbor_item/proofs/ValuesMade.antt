@@ -26,9 +26,6 @@ entries_back : (es : Entries) → entries_of (pairs_of es) ≡ es
 entries_back value.no_entries = refl
 entries_back (value.entry k v es) = ap (value.entry k v) (entries_back es)
 
-abbrev Goes : Value → Type 0
-Goes v = (os : List OpenValue) → run (parts_of v) os ≡ give v os
-
 mutual
   pub goes : (v : Value) (os : List OpenValue) → run (parts_of v) os ≡ give v os
   goes (value.unsigned n) os = refl

@@ -178,32 +178,6 @@ cut-judged r b fs t taken to f c =
     subst (λ (n : ℕ). IsJudged r (length t) (b.depth - n) c.p None) (length-map fs frame_at)
     (cut_head r (length t) b.depth (map frame_at fs) c.begun c.p (nothing-taken b.depth (state_at (at_item fs)) c.begun c.p tt c.are_bytes c.ran))
 
--- no head comes where an item is due
-pub stops-at-item : (r : Rules) (b : Bounds) (fs : List Container) (t : List ℕ) (from to : Option (List ℕ)) (f : Refusal) → StopsHead r b (at_item fs) t from to f → StopsItem r b fs t [] from to f
-stops-at-item r b fs t from to f s = record {
-  bytes = s.bytes;
-  taken = extends-by s.bytes from to s.consumed;
-  read = s.read;
-  why = elim s.why [
-    | inl c ↦ inr (record {
-      p = c.p;
-      last = c.last;
-      splits = c.splits;
-      found = None;
-      judged = cut-judged r b fs t s.bytes to f c;
-      cause = (c.place, c.refused);
-    })
-    | inr c ↦ inr (record {
-      p = s.bytes;
-      last = [];
-      splits = sym (append-nil s.bytes);
-      found = Some c.complaint;
-      judged = head-judged r (length t) b.depth fs c.mark s.bytes c.next c.complaint c.taking c.of;
-      cause = (c.is, c.within);
-    })
-  ];
-}
-
 -- ---- the item that is due
 
 head-some : (m : Major) (w : Width) (n : ℕ) → 0 < length (head m w n)
@@ -224,17 +198,3 @@ taking-some d fs (a_head m Eight n) bs next h = omega (arith, ap length h.0, hea
 taking-some d fs a_break bs next h = omega (arith, ap length h.0)
 taking-some d fs (a_chunk w n) bs next h = absurd h
 taking-some d fs a_byte bs next h = absurd h
-
-pub reads-next : (r : Rules) (b : Bounds) (fs : List Container) (t : List ℕ) (bs : List ℕ) (from mid to : Option (List ℕ)) (new : ItemEventsView) (v : Value) → Consumes from mid bs → ReadsItem r b fs t bs mid to new v → ReadsItem r b fs t [] from to new v
-reads-next r b fs t bs from mid to new v c i = record {
-  item = i.item;
-  spelled = i.spelled;
-  within = i.within;
-  clean = i.clean;
-  taken = extends-in [] [] bs (spell i.item) from mid to (extends-by bs from mid c) i.taken;
-  value = i.value;
-  at = i.at;
-}
-
-pub stops-next : (r : Rules) (b : Bounds) (fs : List Container) (t : List ℕ) (bs : List ℕ) (from mid to : Option (List ℕ)) (f : Refusal) → Consumes from mid bs → StopsItem r b fs t bs mid to f → StopsItem r b fs t [] from to f
-stops-next r b fs t bs from mid to f c s = record { bytes = s.bytes; taken = extends-in [] [] bs s.bytes from mid to (extends-by bs from mid c) s.taken; read = s.read; why = s.why }

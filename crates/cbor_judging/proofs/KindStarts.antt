@@ -22,17 +22,6 @@ use Rattle.cbor_judging.proofs.Places.{place_of, clear-at, taking-at}
 use Rattle.cbor_judging.proofs.SpelledBytes.{beginning_bytes}
 use Rattle.cbor_judging.proofs.Steps.{at-run}
 
-pub no_payload : (b : Bounds) (e : ItemEventsView) (t : List ℕ) (cs : List Container) → IsAt b e t (at_item cs) → e.machine.in_payload ≡ false
-no_payload b e t cs a = a.stands.stands.inner.shown.in_payload ∙ go e.machine.inner.position e.machine.inner.frames a.state
-  where
-    go : (position : Position) (fs : List Frame) → state_of position fs ≡ state_at (at_item cs) → is_in_payload position ≡ false
-    go Item fs s = refl
-    go (Head chunk kind width left argument) fs s = refl
-    go SimpleNumber fs s = refl
-    go (Payload chunk kind left) fs s = absurd (cc s)
-    go (Chunks kind) fs s = refl
-    go Done fs s = refl
-
 no_break : (d : ℕ) (cs : List Container) (m : Mark) (c : ℕ) (to : Place) → c ≢ 0xff → IsTaking d (at_item cs) m (c ∷ []) to → m ≡ a_break → ⊥
 no_break d cs m c to other h e =
     let taking : IsTaking d (at_item cs) a_break (c ∷ []) to = subst (λ (k : Mark). IsTaking d (at_item cs) k (c ∷ []) to) e h in

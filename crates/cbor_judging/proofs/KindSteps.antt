@@ -19,18 +19,10 @@ use Rattle.cbor_judging.specs.Reading.{IsMemory, IsReached, IsUndecided, HasCaus
 use Rattle.cbor_judging.specs.OpenMaps.{before_all, ArePath}
 use Rattle.cbor_judging.proofs.KindFrames.{spell_along, item_along, kind_along, key_along}
 
--- keys may be of any kind
-pub keeps_any : (limits : Bounds) (r : Rules) → limits.keys ≡ Any → (t : List ℕ) → KeepsToKinds limits r t
-keeps_any limits r any t asked s c begins h l = let e : Any ≡ IntegersAndTexts = sym any ∙ asked.1 in cc e
-
 -- no key of another kind begins in the bytes before what refuses them
 abbrev pub KeepsBefore : (r : Rules) (b : Bounds) (bytes : List ℕ) (to : Option (List ℕ)) (f : Refusal) → (IsMemory f × IsReached b bytes × IsUndecided r b [] [] bytes) ⊎ HasCause r b [] [] bytes to f → Type 0
 KeepsBefore r b bytes to f (inl m) = KeepsToKinds b r m.2.p
 KeepsBefore r b bytes to f (inr h) = KeepsToKinds b r h.p
-
-pub keeps_before : (limits : Bounds) (r : Rules) (bytes : List ℕ) (to : Option (List ℕ)) (f : Refusal) (why : (IsMemory f × IsReached limits bytes × IsUndecided r limits [] [] bytes) ⊎ HasCause r limits [] [] bytes to f) → limits.keys ≡ Any → KeepsBefore r limits bytes to f why
-keeps_before limits r bytes to f (inl m) any = keeps_any limits r any m.2.p
-keeps_before limits r bytes to f (inr h) any = keeps_any limits r any h.p
 
 -- no bytes have any key
 pub keeps_start : (limits : Bounds) (r : Rules) → KeepsToKinds limits r []
@@ -80,11 +72,6 @@ module _ (limits : Bounds) (r : Rules) (fs : List Frame) (left : ℕ) (levels : 
           let r = spell_along fs s in
           let i = item_along fs s left path h l in
           (spell s ++ r.0, record { spelled = i.0; within = omega (arith, i.1, levels); bytes_are = r.1 })
-
-  -- within its head and behind it
-  pub keeps_head : (s : Spelling) (y z : List ℕ) → IsSpelled s → depth s ≤ left → spell s ≡ y ++ z → length y ≤ length (head_of s) → (AsksForKinds limits r → IsKeyDue fs → 0 < length y → IsIntegerOrText (value_of s))
-      → KeepsToKinds limits r (before_all fs) → KeepsToKinds limits r (before_all fs ++ y)
-  keeps_head s y z h l e short kind keeps = keeps_on s y z h l e kind (λ c o. omega (arith, kind_later s (length (before_all fs)) c o, short)) keeps
 
   -- a container is closed: its keys began before
   pub keeps_closed : (s : Spelling) (y z : List ℕ) → IsSpelled s → depth s ≤ left → spell s ≡ y ++ z → 0 < length y → ((c : Complaint) → OfKinds (length (before_all fs)) s c → c.end ≤ length (before_all fs) + length y)

@@ -102,20 +102,6 @@ pub kept_whole : (xs : List ℕ) (n : ℕ) → 8 ≤ length xs → 8 ≤ n → f
 kept_whole (a ∷ b ∷ c ∷ d ∷ e ∷ f ∷ g ∷ h ∷ rest) (suc (suc (suc (suc (suc (suc (suc (suc m)))))))) l q = omega arith
 kept_whole xs n l q = absurd (omega (arith, l, q))
 
-pub short : (xs ys : List ℕ) → ys ≡ slice_index xs 0 ∷ slice_index xs 1 ∷ slice_index xs 2 ∷ slice_index xs 3 ∷ slice_index xs 4 ∷ slice_index xs 5 ∷ slice_index xs 6 ∷ slice_index xs 7 ∷ [] → from_be_bytes w64 ys ≡ front_of xs
-short xs ys e = ap (from_be_bytes w64) e ∙ eight xs
-  where
-    eight : (xs : List ℕ) → from_be_bytes w64 (slice_index xs 0 ∷ slice_index xs 1 ∷ slice_index xs 2 ∷ slice_index xs 3 ∷ slice_index xs 4 ∷ slice_index xs 5 ∷ slice_index xs 6 ∷ slice_index xs 7 ∷ []) ≡ front_of xs
-    eight [] = omega arith
-    eight (a ∷ []) = omega arith
-    eight (a ∷ b ∷ []) = omega arith
-    eight (a ∷ b ∷ c ∷ []) = omega arith
-    eight (a ∷ b ∷ c ∷ d ∷ []) = omega arith
-    eight (a ∷ b ∷ c ∷ d ∷ e ∷ []) = omega arith
-    eight (a ∷ b ∷ c ∷ d ∷ e ∷ f ∷ []) = omega arith
-    eight (a ∷ b ∷ c ∷ d ∷ e ∷ f ∷ g ∷ []) = omega arith
-    eight (a ∷ b ∷ c ∷ d ∷ e ∷ f ∷ g ∷ h ∷ rest) = omega arith
-
 pub kept_read : (xs : List ℕ) (n : ℕ) (word r : ℕ) → AreBytes xs → 8 ≤ length xs → word ≡ from_be_bytes w64 (take 8 xs)
     → (8 ≤ n → r ≡ word) → (n ≡ 0 → r ≡ 0) → (0 < n → n < 8 → r ≡ word / 2 ^ (64 - 8 * n) * 2 ^ (64 - 8 * n)) → r ≡ front_of (take n xs)
 kept_read xs zero word r h l w a b c = b refl

@@ -155,24 +155,12 @@ pub string-opens : (t : Bool) → parts.opened (string_major t) 0 ≡ parts.a_st
 string-opens true = refl
 string-opens false = refl
 
-pub begins : (key t : Bool) (old new : CanonicalSink) → new.builder ≡ built old.builder.order (parts.opened (string_major t) 0 ∷ old.builder.standing) → BeginsString CanonicalSink sink_stands sink_holds key t old new
-begins key t old new is start ls (at, told) = (
-  ap (λ (x : Built). x.order) is ∙ at.0,
-  ap (λ (x : Built). x.standing) is ∙ ap₂ (λ (c : parts.Open) (os : List parts.Open). c ∷ os) (string-opens t) at.1,
-)
-
 pub in-string : (key t : Bool) (g : CanonicalSink) → IsChunkDue CanonicalSink sink_holds key t g → IsInString g.builder.standing
 in-string key t g (start, d, ls, content, room, at, told) = subst IsInString (sym at.1) (go ls)
   where
     go : (ls : List Level) → IsInString (parts.a_string (string_major t) content ∷ opens start.builder.order ls)
     go [] = tt
     go (l ∷ ls) = tt
-
-pub grows : (key t : Bool) (x : List ℕ) (old new : CanonicalSink) → new.builder ≡ built old.builder.order (parts.extended x old.builder.standing) → GrowsString CanonicalSink sink_holds key t x old new
-grows key t x old new is start ls content at told = (
-  ap (λ (y : Built). y.order) is ∙ at.0,
-  ap (λ (y : Built). y.standing) is ∙ ap (parts.extended x) at.1,
-)
 
 pub string-ended : (key t : Bool) (old new : CanonicalSink) → new.builder ≡ built old.builder.order (parts.close old.builder.order old.builder.standing) → EndsString CanonicalSink sink_stands sink_holds key t old new
 string-ended key t old new is start d ls content s at told k e =

@@ -82,41 +82,10 @@ opened k m n old new is more start ls l at e =
     stands-by o new.builder.order _ new.builder.standing _ new.inside (item_due (l ∷ ls)) (ap (λ (x : Built). x.order) is)
     (ap (λ (x : Built). x.standing) is ∙ opens-at) (more ∙ more-at) (refl, refl)
 
--- one in no key
-with-bare : (m : Major) (n : ℕ) (os : List Open) → IsContainer m → (m ≡ majors.Map → ⊥) → os ≡ bare (parts.opened m n) os
-with-bare majors.Array n os h lacks = refl
-with-bare majors.Map n os h lacks = absurd (lacks refl)
-with-bare majors.Tag n os h lacks = refl
-with-bare majors.Unsigned n os h lacks = absurd h
-with-bare majors.Negative n os h lacks = absurd h
-with-bare majors.Bytes n os h lacks = absurd h
-with-bare majors.Text n os h lacks = absurd h
-with-bare majors.Simple n os h lacks = absurd h
-
-none-inside : (n : ℕ) (k : Bool) → is_kept n k ≡ false → n ≡ 0
-none-inside zero k e = refl
-none-inside (suc n) k e = absurd (false≢true (sym e))
-
 pub opened-kept : (k : Bool) (m : Major) (n : ℕ) (old new : KeyBytes) → is_kept old.inside k ≡ true → new.builder ≡ built old.builder.order (parts.opened m n ∷ old.builder.standing) → new.inside ≡ suc old.inside
     → Opens KeyBytes keys_stand k m n old new
 opened-kept k m n old new keeps is more =
     opened k m n old new (is ∙ ap (λ (t : Bool). built old.builder.order (kept t (parts.opened m n) old.builder.standing)) (sym keeps)) (more ∙ ap (λ (t : Bool). one_more t old.inside) (sym keeps))
-
-left-inside : (n : ℕ) (k : Bool) → is_kept n k ≡ false → n ≡ one_more (is_kept n k) n
-left-inside n k lacks = none-inside n k lacks ∙ ap (λ (t : Bool). one_more t n) (sym lacks)
-
--- of a map in no key the keys are kept
-pub opened-map : (k : Bool) (m : Major) (n : ℕ) (old new : KeyBytes) → m ≡ majors.Map → is_kept old.inside k ≡ false → new.builder ≡ built old.builder.order (parts.opened m n ∷ old.builder.standing) → new.inside ≡ old.inside
-    → Opens KeyBytes keys_stand k m n old new
-opened-map k m n old new map lacks is stays =
-    let os = old.builder.standing in
-    let bared = ap (λ (x : Major). parts.opened x n ∷ os) map ∙ ap (λ (x : Major). bare (parts.opened x n) os) (sym map) in
-    opened k m n old new (is ∙ ap (built old.builder.order) (bared ∙ ap (λ (t : Bool). kept t (parts.opened m n) os) (sym lacks))) (stays ∙ left-inside old.inside k lacks)
-
-pub opened-left : (k : Bool) (m : Major) (n : ℕ) (old : KeyBytes) → IsContainer m → (m ≡ majors.Map → ⊥) → is_kept old.inside k ≡ false → Opens KeyBytes keys_stand k m n old old
-opened-left k m n old kind other lacks =
-    let os = old.builder.standing in
-    opened k m n old old (ap (built old.builder.order) (with-bare m n os kind other ∙ ap (λ (t : Bool). kept t (parts.opened m n) os) (sym lacks))) (left-inside old.inside k lacks)
 
 -- one without a length has no more to come
 ended-as : (o : KeyOrder) (l : Level) (s : Spelling) → IsEndedAs l s → (is_open_map (level_open o l) ≡ is_map s) × (key_due (l ∷ []) ≡ is_map s)

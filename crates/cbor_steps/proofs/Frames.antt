@@ -37,11 +37,6 @@ settled_fit depth fs (Head chunk kind width left argument) h = absurd h
 settled_fit depth fs Done h = h
 settled_fit depth fs _ h = tt
 
-pub next_settled_fit : (depth : ℕ) (fs : List Frame) (next : Next) → IsNextSettled fs next → IsNextFit depth fs next
-next_settled_fit depth fs (Refuses r) h = tt
-next_settled_fit depth fs (Goes position) h = settled_fit depth fs position h
-next_settled_fit depth fs (Tells w kind position) h = settled_fit depth fs position h
-
 -- outside a payload what is open is a head
 pub wanted-head : (position : Position) → (is_in_payload position ≡ true → ⊥) → wanted_at position ≡ head_left position
 wanted-head (Payload chunk kind left) h = absurd (h refl)

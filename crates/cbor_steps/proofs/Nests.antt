@@ -92,21 +92,10 @@ ends-here outer h top below to some at r e is c =
 
 -- ---- one of them, from the outermost in
 
-in-front : (os : List Level) (k i : ℕ) (top l : Level) → i < k → slice_get os i ≡ Some l → slice_get (map level_frame (take k os ++ top ∷ [])) i ≡ Some (level_frame l)
-in-front [] k i top l h e = absurd (cc e)
-in-front (o ∷ os) zero i top l h e = absurd (omega arith)
-in-front (o ∷ os) (suc k) zero top l h e = let same : o ≡ l = cc in ap (λ v. Some (level_frame v)) same
-in-front (o ∷ os) (suc k) (suc i) top l h e = in-front os k i top l (omega arith) e
-
 behind-all : (os : List Level) (k : ℕ) (top : Level) → k ≤ length os → slice_get (map level_frame (take k os ++ top ∷ [])) k ≡ Some (level_frame top)
 behind-all os zero top h = refl
 behind-all [] (suc k) top h = absurd (omega arith)
 behind-all (o ∷ os) (suc k) top h = behind-all os k top (omega arith)
-
-pub frame-around : (outer : List Level) (h i : ℕ) (top l : Level) → i + 1 < h → slice_get outer (i + 1) ≡ Some l → slice_get (nested outer h top) i ≡ Some (level_frame l)
-frame-around outer zero i top l h e = absurd (omega arith)
-frame-around [] (suc k) i top l h e = absurd (cc e)
-frame-around (o ∷ os) (suc k) i top l h e = in-front os k i top l (omega arith) (subst (λ j. slice_get (o ∷ os) j ≡ Some l) (add-one i) e)
 
 pub frame-innermost : (outer : List Level) (h i : ℕ) (top : Level) → h ≡ i + 1 → h ≤ length outer → slice_get (nested outer h top) i ≡ Some (level_frame top)
 frame-innermost outer zero i top e h = absurd (omega arith)

@@ -73,10 +73,6 @@ met_on W p xs i x is inv miss =
     let here = at_met W p xs i x is inv in
     ((λ w. elim (here.0 w) [ inl s ↦ absurd (miss s) | inr r ↦ r ]), (λ r. here.1 (inr r)))
 
-pub met_here : (W : Type 0) (p : Pair) (xs : List Pair) (i : ℕ) (x : Pair) → slice_get xs i ≡ Some x → (W ↔ IsMet p (drop i xs))
-    → IsSamePair p x → W
-met_here W p xs i x is inv s = (at_met W p xs i x is inv).1 (inl s)
-
 -- one of them is met
 pub met_at : (p : Pair) (xs : List Pair) (i : ℕ) (x : Pair) → slice_get xs i ≡ Some x → IsSamePair p x → IsMet p xs
 met_at p [] i x is s = absurd (cc is)

@@ -184,18 +184,6 @@ place_for o limits d input k cells at s l e =
 pub fit_here : (o : KeyOrder) (limits : Bounds) (input : List ℕ) (c : Level) (cs : List Level) (at : ℕ) (s : StandsAt o limits input (c ∷ cs) at) (rest : List ℕ) → IsFit limits c.due rest → KeepsHere limits (strict o) s.ls rest
 fit_here o limits input c cs at s rest fit = record { before = s.keeps; here = λ asked due. fit asked.1 (due_key input s.ls c cs s.are due) }
 
--- the head of a tag
-pub tag_opens : (low size : ℕ) (behind : List ℕ) → IsShortestHead low behind size → OpensWith Item 0 size ((192 + low) ∷ behind)
-tag_opens low size behind h =
-    let some = h.some in
-    let inside = h.inside in
-    let e : size ≡ suc (size - 1) = omega (arith, some) in
-    record {
-      some = some;
-      inside = omega (arith, some, inside);
-      opener = inr (refl, (h.number, h.shortest.range, subst (λ (k : ℕ). (192 + low) ∷ behind ≡ shortest_head Tag h.number ++ drop k ((192 + low) ∷ behind)) (sym e) (h.shortest.spelled 192)));
-    }
-
 -- the item of the input is due before its first byte, whatever lies in the cells
 pub starts_at : (o : KeyOrder) (limits : Bounds) (input : List ℕ) (k : Stack Level) (cells : List Level) → k.height ≡ 0 → k.top ≡ a_level Item 0 0 → StandsAt o limits input (standing Level k cells) 0
 starts_at o limits input k cells h e =

@@ -207,9 +207,6 @@ abbrev pub IsFurther : Option Files → List ℕ → Source → Source → Type 
 IsFurther now path s t =
     (held : Option Files) (bytes : List ℕ) → KeepsFiles held now → HasGiven held path s bytes → (more : List ℕ) × HasGiven held path t (bytes ++ more)
 
-pub no_further : (now : Option Files) (path : List ℕ) (s : Source) → IsFurther now path s s
-no_further now path s held bytes keeps g = ([], subst (HasGiven held path s) (sym (append-nil bytes)) g)
-
 module _ (now later : Option Files) (path : List ℕ) (s t : Source) (keeps : KeepsFiles now later) (far : IsFurther now path s t) where
   pub one_further : (u : Source) (before after : List ℕ) → IsPartAdded later path t u before after → IsFurther now path s u
   one_further u before after a held bytes kept g =

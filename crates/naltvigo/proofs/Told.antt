@@ -39,19 +39,6 @@ one_given old mid new bs last cs e c so_far keeps answered is = record {
   gives = one_more mid new bs last so_far.given e so_far.gives answered;
 }
 
-pub no_room : (old new : MachineView) (bs : List ℕ) (cs : List NaltvigoEvent) (r : NaltvigoRefusal) → HasGiven old new bs cs → TellsOn old new bs 7 cs r
-no_room old new bs cs r so_far = record {
-  limits = so_far.limits;
-  given = so_far.given;
-  told = so_far.told;
-  mid = new;
-  front = bs;
-  last = [];
-  splits = sym (append-nil bs);
-  gives = so_far.gives;
-  ends = inl (refl, refl, refl);
-}
-
 pub no_further : (old mid new : MachineView) (bs last : List ℕ) (status : ℕ) (cs : List NaltvigoEvent) (r : NaltvigoRefusal) (out : Out) → HasGiven old mid bs cs
     → KeepsLimits mid new → IsToldEnd out status r → HasAnswered out mid new last → TellsOn old new (bs ++ last) status cs r
 no_further old mid new bs last status cs r out so_far keeps is answered = record {
