@@ -10,7 +10,7 @@ use Rattle.cbor_buffer.specs.declared.span.Span.{Span}
 use Rattle.cbor_buffer.specs.declared.cuts.Cut.{Cut}
 use Rattle.cbor_buffer.specs.declared.draft.Draft.{Draft}
 use Rattle.cbor_buffer.specs.declared.draft.Region.{Region}
-use Rattle.cbor_buffer.proofs.Slices.{slice_all, slices_join, slice_take, slice_drop, slice_length, drop_alike, drop_behind, take_behind, nothing}
+use Rattle.cbor_buffer.proofs.Slices.{slices_join, slice_take, slice_drop, slice_length, drop_alike, drop_behind, take_behind, nothing}
 use Rattle.cbor_buffer.proofs.Written.{take_front, drop_front}
 use Rattle.cbor_buffer.proofs.Moved.{rope_append, rope_front, rope_behind, rope_more, run_length, run_wider, blocks_run, blocks_longer, popped, limited}
 

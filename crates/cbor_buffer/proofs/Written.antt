@@ -1,9 +1,7 @@
 -- What a buffer holds after a write.
-use Rattle.std.proofs.Common.{◌≡◌, ℕ, ◌+◌, ◌-◌, ◌≤◌, List, ◌∷◌, ◌++◌, append_assoc, length, length-append, length-drop, length-take, take, drop, set, take-append-drop, drop-drop, refl, sym, ap, ◌∙◌, arith}
-use Rattle.std.proofs.lemmas.List.{take-append-le, drop-append-le, take-set, drop-set, with_items_is}
-use Rattle.std.specs.Global.{Vec}
-use Rattle.std.specs.Vec.{with_items}
-use Rattle.std.proofs.Math.Seq.{drop-append_seam, take-append_seam, take-set-lt, paste}
+use Rattle.std.proofs.Common.{◌≡◌, ℕ, ◌+◌, ◌-◌, ◌≤◌, List, ◌∷◌, ◌++◌, append_assoc, length, length-append, length-drop, length-take, take, drop, take-append-drop, sym, ap, ◌∙◌, arith}
+use Rattle.std.proofs.lemmas.List.{take-append-le}
+use Rattle.std.proofs.Math.Seq.{drop-append_seam, take-append_seam}
 
 pub take_front : (from start : ℕ) (out x : List ℕ) → from ≤ start → start ≤ length out → take from (take start out ++ x) ≡ take from out
 take_front from start out x h g =

@@ -1,5 +1,5 @@
 -- Membership in a list, by recursion.
-use Rattle.std.proofs.Common.{◌≡◌, ℕ, zero, suc, ◌<◌, List, [], ◌∷◌, length, get_or, map, ◌⊎◌, inl, inr, refl, sym, ap, subst, arith, Contains}
+use Rattle.std.proofs.Common.{◌≡◌, ℕ, zero, suc, ◌<◌, List, [], ◌∷◌, length, get_or, ◌⊎◌, inl, inr, refl, sym, subst, arith, Contains}
 use Rattle.std.specs.List.{AllByRecursion}
 
 abbrev pub In : {X : Type 0} → X → List X → Type 0

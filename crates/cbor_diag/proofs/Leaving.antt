@@ -13,7 +13,7 @@ use Rattle.cbor_diag.specs.declared.outbox.Outbox.{Outbox}
 use Rattle.cbor_diag.specs.declared.walk.Left.{Left}
 use Rattle.cbor_diag.specs.declared.walk.Left.TheVariants as parts
 use Rattle.cbor_diag.specs.declared.walk.Level.{Level}
-use Rattle.cbor_diag.proofs.Putting.{puts-nothing, puts-next, puts-then, puts-stops, stops-more}
+use Rattle.cbor_diag.proofs.Putting.{puts-next, puts-then, puts-stops, stops-more}
 
 -- the first part of the whole could not be put
 pub front-stops : (a b : Option (List ℕ)) (s : Outbox) (whole xs more : List ℕ) (e : Outbox) → xs ++ more ≡ whole → HasStopped a b s xs e → HasStopped a b s whole e

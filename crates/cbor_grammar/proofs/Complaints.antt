@@ -1,5 +1,5 @@
 -- Complaints of items that are told by their bytes: one comes first, and of each item that starts with these bytes the same.
-use Rattle.std.proofs.Common.{ℕ, ◌+◌, ◌≡◌, ◌≤◌, List, ◌++◌, length, sym, ap, ◌∙◌, arith, inl, inr}
+use Rattle.std.proofs.Common.{ℕ, ◌+◌, ◌≡◌, ◌≤◌, List, ◌++◌, length, ap, ◌∙◌, arith, inl, inr}
 use Rattle.std.proofs.lemmas.Bool.{cases_lt}
 use Rattle.cbor_head.specs.Limits.{Bounds}
 use Rattle.cbor_head.specs.Spelling.{Spelling, spell, IsItem}

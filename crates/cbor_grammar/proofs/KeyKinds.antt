@@ -12,7 +12,7 @@ use Rattle.cbor_head.specs.declared.reason.Reason.TheVariants.{KeyKind}
 use Rattle.cbor_head.specs.declared.width.Width.{Width}
 use Rattle.cbor_head.specs.declared.width.Width.TheVariants.{Direct, One, Two, Four, Eight, Indefinite}
 use Rattle.cbor_grammar.specs.FirstBytes.{is_basic}
-use Rattle.cbor_grammar.proofs.ReadLaws.{length_head, length_spell}
+use Rattle.cbor_grammar.proofs.ReadLaws.{length_spell}
 use Rattle.cbor_grammar.proofs.Alike.{Both}
 use Rattle.cbor_grammar.proofs.Parts.{major, width, count, body, head_of, parts, holds_of}
 

@@ -3,7 +3,7 @@ use Rattle.std.proofs.Common.{◌≡◌, ℕ, zero, suc, ◌+◌, ◌-◌, ◌^�
 use Rattle.std.proofs.lemmas.List.{length-append}
 use Rattle.cbor_head.specs.Head.{Holds, head, shortest_head}
 use Rattle.cbor_head.specs.Value as value
-use Rattle.cbor_head.specs.Value.{Value, Entries, HasEntry, HasDistinctKeys, Same}
+use Rattle.cbor_head.specs.Value.{Entries}
 use Rattle.cbor_head.specs.Canonical.{Pair, canonical, canonical_all, canonical_entries, in_order}
 use Rattle.cbor_head.specs.Spelling.{Spelling, Spellings, SpelledEntries, array, a_map, tag, no_spellings, a_spelling, no_entries, entry, spell, spell_all, spell_entries, spellings_count, entries_count, HoldsOrIndefinite, value_of, values_of, entries_of}
 use Rattle.cbor_head.specs.declared.major.Major.TheVariants as majors

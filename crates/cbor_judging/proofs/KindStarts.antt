@@ -1,5 +1,5 @@
 -- Where an item is due: that no payload is open, and the item that a byte begins.
-use Rattle.std.proofs.Common.{ℕ, ◌-◌, ◌≡◌, ◌≢◌, ◌<◌, false, None, List, [], ◌∷◌, ◌++◌, length, map, refl, ◌∙◌, subst}
+use Rattle.std.proofs.Common.{ℕ, ◌-◌, ◌≡◌, ◌≢◌, ◌<◌, None, List, [], ◌∷◌, ◌++◌, length, map, ◌∙◌, subst}
 use Rattle.std.proofs.lemmas.List.{length-map}
 use Rattle.cbor_head.specs.Beginning.{MayFollow}
 use Rattle.cbor_head.specs.Complaint.{form}
@@ -8,10 +8,6 @@ use Rattle.cbor_automaton.specs.Automaton.{Next, refuses, goes, tells, take_byte
 use Rattle.cbor_automaton.specs.Trace.{Mark, a_break}
 use Rattle.cbor_automaton.proofs.Refusals.{IsTaken, taken-follows}
 use Rattle.cbor_automaton.proofs.Taking.{IsTakingNext, byte-taken, within-start}
-use Rattle.cbor_steps.specs.State.{state_of, is_in_payload}
-use Rattle.cbor_steps.specs.declared.frame.Frame.{Frame}
-use Rattle.cbor_steps.specs.declared.position.Position.{Position}
-use Rattle.cbor_steps.specs.declared.position.Position.TheVariants.{Item, Head, SimpleNumber, Payload, Chunks, Done}
 use Rattle.cbor_standing.specs.NextEvent.{ItemEventsView}
 use Rattle.cbor_judging.specs.Place.{Container, Place, at_item, IsTaking}
 use Rattle.cbor_judging.specs.Reading.{IsAt, frame_at, state_at}

@@ -7,12 +7,10 @@ use Rattle.cbor_head.specs.Beginning.{IsBeginning}
 use Rattle.cbor_head.specs.Value.{IsIntegerOrText}
 use Rattle.cbor_head.specs.Spelling.{Spelling, spell, IsSpelled, IsItem, depth, value_of}
 use Rattle.cbor_head.specs.Complaint.{Rules, Complaint, complaint, OfKinds}
-use Rattle.cbor_head.specs.declared.keys.Keys.TheVariants.{Any, IntegersAndTexts}
 use Rattle.cbor_head.specs.declared.reason.Reason.TheVariants.{KeyKind}
 use Rattle.cbor_head.specs.declared.reason.Refusal.{Refusal}
 use Rattle.cbor_grammar.proofs.KeyKinds.{kind_end, kind_later}
 use Rattle.cbor_grammar.proofs.KindsAgree.{same_kinds}
-use Rattle.cbor_grammar.proofs.Parts.{head_of}
 use Rattle.cbor_judging.specs.Frame.{Frame}
 use Rattle.cbor_judging.specs.Kinds.{AsksForKinds, KeepsToKinds, IsKeyDue, plug_all}
 use Rattle.cbor_judging.specs.Reading.{IsMemory, IsReached, IsUndecided, HasCause}

@@ -7,7 +7,7 @@ use Rattle.cbor_head.specs.Complaint.{plain}
 use Rattle.cbor_head.specs.declared.major.Major.TheVariants as majors
 use Rattle.cbor_head.specs.declared.width.Width.TheVariants.{Indefinite}
 use Rattle.cbor_judging.specs.Frame as frames
-use Rattle.cbor_judging.specs.Frame.{Frame, with_entries, keys_onto, before, IsFrame, depth_beside}
+use Rattle.cbor_judging.specs.Frame.{Frame, before, IsFrame, depth_beside}
 use Rattle.cbor_judging.specs.Judged.{Never}
 use Rattle.cbor_judging.specs.OpenMaps.{OfClosed, ComplainsWithin, before_all, AreOpen}
 use Rattle.cbor_judging.proofs.Heads.{open_or}

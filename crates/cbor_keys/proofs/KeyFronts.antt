@@ -1,6 +1,6 @@
 -- The first eight bytes of a key as a number.
 use Rattle.std.proofs.Common.{◌≡◌, ℕ, zero, suc, ◌-◌, ◌*◌, ◌/◌, ◌^◌, ◌<◌, ◌≤◌, List, [], ◌∷◌, length, take, drop, get_or, w64, refl, sym, ap, ◌∙◌, arith, inl, inr, lit<, pow-suc, mul-le-mul_left, mul-suc}
-use Rattle.std.specs.Prelude.{slice_range, slice_index}
+use Rattle.std.specs.Prelude.{slice_range}
 use Rattle.std.specs.Int.{from_be_bytes}
 use Rattle.std.specs.declared.cmp.Ordering.{Ordering}
 use Rattle.std.specs.declared.cmp.Ordering.TheVariants.{Less, Equal, Greater}

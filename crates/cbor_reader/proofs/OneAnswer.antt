@@ -4,7 +4,7 @@ use Rattle.cbor_head.specs.Limits.{Bounds}
 use Rattle.cbor_head.specs.Spelling.{Spelling, spell, value_of}
 use Rattle.cbor_head.specs.Canonical.{canonical}
 use Rattle.cbor_head.specs.Complaint.{plain}
-use Rattle.cbor_head.specs.Verdict.{accepted, refused, refusal, IsVerdict}
+use Rattle.cbor_head.specs.Verdict.{refusal}
 use Rattle.cbor_head.specs.declared.order.KeyOrder.{KeyOrder}
 use Rattle.cbor_head.specs.declared.reason.Reason.TheVariants.{Trailing, Memory}
 use Rattle.cbor_head.specs.declared.reason.Refusal.{Refusal}

@@ -8,7 +8,7 @@ use Rattle.cbor_head.specs.declared.order.KeyOrder.{KeyOrder}
 use Rattle.cbor_judging.specs.Given.{level_open, opens}
 use Rattle.cbor_judging.specs.Levels.{Level}
 use Rattle.cbor_walk.specs.Sink.{FindsNoRepeat}
-use Rattle.cbor_sinks.specs.KeyBytes.{in_key, bare_pairs, bare, kept, kept_all, keys_stand, lent_stand}
+use Rattle.cbor_sinks.specs.KeyBytes.{in_key, bare_pairs, kept, kept_all, keys_stand, lent_stand}
 use Rattle.cbor_sinks.specs.declared.key_bytes.KeyBytes.{KeyBytes}
 use Rattle.cbor_sinks.specs.declared.lent_keys.LentKeys.{LentKeys}
 

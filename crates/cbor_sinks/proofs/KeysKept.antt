@@ -18,7 +18,7 @@ use Rattle.cbor_judging.proofs.Given.{settled}
 use Rattle.cbor_judging.specs.Frame.{with_all, with_entries}
 use Rattle.cbor_judging.specs.Given.{level_open, opens, IsFull}
 use Rattle.cbor_judging.specs.Levels as levels
-use Rattle.cbor_judging.specs.Levels.{IsTaken, Level, a_member, a_value, some_member, some_key, some_value, tagged, AreLevels, level_bytes, bytes_before, Standing, item_due, item_full, settle}
+use Rattle.cbor_judging.specs.Levels.{IsTaken, Level, a_member, a_value, some_member, some_key, some_value, tagged, AreLevels, level_bytes, bytes_before, item_due, item_full, settle}
 use Rattle.cbor_sinks.proofs.CanonGiven.{opens-take}
 use Rattle.cbor_sinks.specs.KeyBytes.{is_open_map, in_key, bare_pairs, bare, kept, kept_all, one_more, inside, is_kept, behind_item, with_item, KeepsAt}
 use Rattle.cbor_walk.specs.Sink.{takes_key, key_due, is_map}

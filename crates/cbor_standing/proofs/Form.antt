@@ -3,7 +3,7 @@ use Rattle.std.proofs.Common.{◌≡◌, ℕ, ◌+◌, ◌-◌, List, [], ◌∷
 use Rattle.std.proofs.lemmas.Bool.{cases_lt}
 use Rattle.std.proofs.lemmas.List.{length-append}
 use Rattle.cbor_head.specs.Limits.{Bounds, bounds}
-use Rattle.cbor_head.specs.Spelling.{Spelling, IsItem, spell}
+use Rattle.cbor_head.specs.Spelling.{Spelling, IsItem}
 use Rattle.cbor_head.specs.Beginning.{IsLongestBeginning}
 use Rattle.cbor_head.specs.Complaint.{form, Complaint, Complains, IsComplaint}
 use Rattle.cbor_head.specs.Verdict as verdict

@@ -7,7 +7,7 @@ use Rattle.cbor_head.specs.Verdict.{refusal}
 use Rattle.cbor_head.specs.declared.reason.Reason.TheVariants.{TooLong}
 use Rattle.cbor_head.specs.declared.reason.Refusal.{Refusal}
 use Rattle.cbor_automaton.specs.Trace.{Mark, total}
-use Rattle.cbor_automaton.specs.Automaton.{State, start, at_item, in_head, in_simple, in_payload, in_chunks, done, refuses, take_byte, run, reached}
+use Rattle.cbor_automaton.specs.Automaton.{State, start, in_payload, done, refuses, take_byte, run, reached}
 use Rattle.cbor_automaton.specs.Marks.{marks_of}
 use Rattle.cbor_steps.specs.State.{state_of, is_done, IsFit, IsSettled}
 use Rattle.cbor_standing.specs.inner.Machine.{IsShown}

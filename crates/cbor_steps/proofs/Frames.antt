@@ -2,11 +2,9 @@
 use Rattle.std.proofs.Common.{◌≡◌, ℕ, ◌+◌, List, [], ◌∷◌, ◌++◌, map, reverse, length, refl, ap, ◌∙◌, arith, pow-suc, mul_comm, mul-le-mul_left, mul-le-mul_right, subst, add-one, ◌*◌, ◌^◌, ◌≤◌, ◌<◌, ◌-◌, true, false, true≢false, sym}
 use Rattle.std.proofs.lemmas.List.{reverse-append, length-reverse, length-map}
 use Rattle.std.proofs.Math.Nat.{pow-le-pow_right}
-use Rattle.cbor_steps.specs.State.{frame_of, frames_of, head_left, wanted_at, IsFit, IsNextFit, IsSettled, IsNextSettled, is_in_payload, is_done}
+use Rattle.cbor_steps.specs.State.{frame_of, frames_of, head_left, wanted_at, IsFit, IsSettled, is_in_payload, is_done}
 use Rattle.cbor_steps.specs.declared.position.Position.{Position}
 use Rattle.cbor_steps.specs.declared.position.Position.TheVariants.{Item, Head, SimpleNumber, Payload, Chunks, Done}
-use Rattle.cbor_steps.specs.declared.take_byte.Next.{Next}
-use Rattle.cbor_steps.specs.declared.take_byte.Next.TheVariants.{Refuses, Goes, Tells}
 use Rattle.cbor_steps.specs.declared.frame.Frame.{Frame}
 
 -- the innermost frame stands last

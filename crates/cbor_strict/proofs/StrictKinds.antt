@@ -16,7 +16,6 @@ use Rattle.cbor_grammar.specs.FirstBytes.{is_basic}
 use Rattle.cbor_grammar.proofs.KeyKinds.{basic_byte}
 use Rattle.cbor_automaton.specs.Trace.{Mark, a_head, a_break}
 use Rattle.cbor_automaton.specs.Automaton as automaton
-use Rattle.cbor_automaton.specs.Automaton.{State}
 use Rattle.cbor_automaton.specs.Marks.{mark_of, count_of}
 use Rattle.cbor_automaton.specs.Taking as taking
 use Rattle.cbor_automaton.specs.declared.event.EventKind.{EventKind}

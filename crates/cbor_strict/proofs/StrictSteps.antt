@@ -6,14 +6,11 @@ use Rattle.cbor_head.specs.Limits.{Bounds}
 use Rattle.cbor_head.specs.Value.{AreBytes}
 use Rattle.cbor_head.specs.Complaint.{strict}
 use Rattle.cbor_head.specs.declared.major.Major.{Major}
-use Rattle.cbor_head.specs.declared.width.Width.{Width}
 use Rattle.cbor_judging.specs.Place.{Container, Place, at_item, payload, done, IsTaking}
 use Rattle.cbor_automaton.specs.Trace.{Mark, a_break}
 use Rattle.cbor_standing.specs.Machine.{IsComplete}
-use Rattle.cbor_automaton.specs.Bytes.{IsHeadBytes, IsChunkHead, IsBytesOf, last_type}
-use Rattle.cbor_automaton.specs.Marks.{marks_of, mark_of, count_of, IsProper}
+use Rattle.cbor_automaton.specs.Marks.{marks_of, mark_of}
 use Rattle.cbor_head.specs.declared.major.Major.TheVariants as majors
-use Rattle.cbor_head.specs.declared.width.Width.TheVariants.{Direct, One, Two, Four, Eight, Indefinite}
 use Rattle.cbor_standing.specs.NextEvent.{ItemEventsView, StandsBetween, IsNextEvent, IsEnd, Call, call, IsKept as IsPieceKept}
 use Rattle.cbor_automaton.specs.declared.event.Event.{Event}
 use Rattle.cbor_automaton.specs.declared.event.EventKind.{EventKind}
@@ -24,7 +21,7 @@ use Rattle.cbor_judging.specs.Reading.{IsAt, string_major}
 use Rattle.cbor_strict.specs.inner.StrictEvents.{HasCome, IsNextOf}
 use Rattle.cbor_strict.specs.inner.LastKeys.{from_outside}
 use Rattle.cbor_strict.proofs.OpenBegins.{no_break, room_left}
-use Rattle.cbor_strict.proofs.StrictKinds.{some_head, basic_kind, keeps_mark, keeps_string}
+use Rattle.cbor_strict.proofs.StrictKinds.{basic_kind, keeps_mark, keeps_string}
 use Rattle.cbor_events.specs.NextKey.{IsBasicKind}
 use Rattle.cbor_head.specs.Beginning.{IsBeginning}
 use Rattle.cbor_judging.specs.Kinds.{AsksForKinds, KeepsToKinds, IsKeyDue}

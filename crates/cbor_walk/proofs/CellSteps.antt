@@ -20,7 +20,7 @@ use Rattle.cbor_judging.proofs.LastKey.{last_key_with}
 use Rattle.cbor_judging.proofs.LastKey.{last_is}
 use Rattle.cbor_judging.proofs.LastKey.{key-fresh, key-falls}
 use Rattle.cbor_walk.specs.inner.Path as path
-use Rattle.cbor_walk.specs.inner.Path.{a_member, a_key, a_value, tagged, level_bytes, bytes_before, AreClean, HasEnded}
+use Rattle.cbor_walk.specs.inner.Path.{a_member, a_key, a_value, tagged, level_bytes, bytes_before, HasEnded}
 use Rattle.cbor_walk.specs.inner.Cells.{last_key, key_at, IsKeyDue, AreCells, StandsAt, HasEndedAt, HasClosed, Falls, TakesKey}
 use Rattle.cbor_walk.specs.declared.level.Due.TheVariants.{Item, Key, Value}
 use Rattle.cbor_walk.specs.declared.level.Level.{Level}

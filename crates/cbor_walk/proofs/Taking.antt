@@ -5,7 +5,7 @@ use Rattle.std.proofs.Math.Seq.{drop-append_seam, take-length}
 use Rattle.std.proofs.lemmas.Bool.{ltb-true, ltb-false}
 use Rattle.std.proofs.lemmas.List.{length-append, length-reverse, length-take-le}
 use Rattle.cbor_head.specs.Complaint.{strict, OfCount}
-use Rattle.cbor_head.specs.Head.{Holds, head, shortest, shortest_head}
+use Rattle.cbor_head.specs.Head.{Holds, head, shortest}
 use Rattle.cbor_head.specs.Limits.{Bounds}
 use Rattle.cbor_head.specs.Spelling.{spell, no_spellings, no_entries, HoldsOrIndefinite}
 use Rattle.cbor_head.specs.declared.major.Major.{Major}
@@ -16,7 +16,7 @@ use Rattle.cbor_head.specs.declared.width.Width.TheVariants.{Direct, One, Two, F
 use Rattle.cbor_automaton.proofs.Taking.{IsNumbered}
 use Rattle.cbor_keys.specs.Front.{front_of}
 use Rattle.cbor_canonical.proofs.Normal.{Holds-shortest}
-use Rattle.cbor_walk.specs.inner.Leaves.{IsLeaf, IsShortestHead}
+use Rattle.cbor_walk.specs.inner.Leaves.{IsLeaf}
 use Rattle.cbor_judging.proofs.Heads.{open_or, takes}
 use Rattle.cbor_judging.proofs.KindBytes.{head_is_one}
 use Rattle.cbor_judging.proofs.KindSteps.{keeps_start}
@@ -27,7 +27,7 @@ use Rattle.cbor_walk.specs.inner.Kept.{IsFit, KeepsHere}
 use Rattle.cbor_walk.specs.inner.Path.{a_member, a_key, a_value, tagged, level_bytes, bytes_before, IsKeyDueIn}
 use Rattle.cbor_walk.specs.inner.Cells.{a_level, AreCells, StandsAt, HasEndedAt}
 use Rattle.cbor_walk.specs.inner.Stack.{standing}
-use Rattle.cbor_walk.specs.inner.Items.{IsOpener, OpensWith, IsPlaceFor}
+use Rattle.cbor_walk.specs.inner.Items.{IsOpener, IsPlaceFor}
 use Rattle.cbor_walk.specs.declared.level.Due.{Due}
 use Rattle.cbor_walk.specs.declared.level.Due.TheVariants.{Item, Key, Value}
 use Rattle.cbor_walk.specs.declared.level.Level.{Level}

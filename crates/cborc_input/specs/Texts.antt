@@ -11,7 +11,6 @@ use Rattle.cborc_input.specs.declared.request.Form.TheVariants.{Raw, Hex}
 use Rattle.cborc_input.specs.declared.fault.Fault.{Fault}
 use Rattle.cborc_input.specs.declared.fault.Fault.TheVariants as faults
 use Rattle.cbor_head.specs.Complaint.{form}
-use Rattle.cbor_head.specs.Verdict.{refused}
 use Rattle.cbor_head.specs.Value.{Value}
 use Rattle.cbor_diag.specs.Text.{text}
 use Rattle.cbor_diag.specs.IndentedText.{indented}

@@ -1,6 +1,5 @@
 -- Events that a machine gives, one behind another.
-use Rattle.std.proofs.Common.{◌≡◌, ◌⊎◌, ◌++◌, ◌∷◌, ◌∙◌, ℕ, List, [], refl, inl, inr, subst, sym}
-use Rattle.std.proofs.lemmas.List.{append-nil}
+use Rattle.std.proofs.Common.{◌≡◌, ◌⊎◌, ◌++◌, ◌∷◌, ◌∙◌, ℕ, List, [], refl, inl, inr, subst}
 use Rattle.cbor_automaton.specs.declared.event.Event.{Event}
 use Rattle.cbor_standing.specs.Machine.{KeepsLimits}
 use Rattle.cbor_standing.specs.MachineView.{MachineView}

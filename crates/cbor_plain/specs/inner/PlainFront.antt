@@ -6,9 +6,7 @@ use Rattle.cbor_head.specs.Complaint.{Rules, plain, complaint, OfKinds}
 use Rattle.cbor_head.specs.Laws.{StartsWith}
 use Rattle.cbor_head.specs.Limits.{Bounds}
 use Rattle.cbor_head.specs.Spelling.{Spelling, spell, value_of}
-use Rattle.cbor_head.specs.Value.{Value}
 use Rattle.cbor_head.specs.Verdict.{refusal}
-use Rattle.cbor_head.specs.declared.order.KeyOrder.{KeyOrder}
 use Rattle.cbor_head.specs.declared.reason.Reason.TheVariants.{KeyKind}
 use Rattle.cbor_head.specs.declared.reason.Refusal.{Refusal}
 use Rattle.cbor_automaton.specs.declared.event.Event.{Event}

@@ -1,4 +1,4 @@
-use Rattle.std.proofs.Common.{◌++◌, refl, ap, sym, append_assoc}
+use Rattle.std.proofs.Common.{◌++◌, ap, sym, append_assoc}
 use Rattle.std.specs.Prelude.{codes, decimal}
 use Rattle.cbor_explain.specs.Way.{IsStepText}
 use Rattle.cbor_explain.specs.declared.way.Step.TheVariants as steps

@@ -1,5 +1,4 @@
 use Rattle.std.proofs.Common.{take, ◌++◌}
-use Rattle.std.specs.Prelude.{codes}
 use Rattle.cbor_explain.proofs.Steps.{HasWritten}
 use Rattle.cbor_explain.proofs.way_text.write_way.Given as goal
 

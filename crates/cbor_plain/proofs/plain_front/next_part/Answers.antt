@@ -1,15 +1,13 @@
-use Rattle.std.proofs.Common.{◌≡◌, ◌++◌, ◌∙◌, ℕ, slice_get, Option, List, length, map, sym, ap, refl, subst, arith}
-use Rattle.std.proofs.lemmas.List.{length-append, length-set}
+use Rattle.std.proofs.Common.{◌≡◌, ◌++◌, ◌∙◌, ℕ, slice_get, map, sym, ap, refl, subst, arith}
+use Rattle.std.proofs.lemmas.List.{length-append}
 use Rattle.std.specs.Prelude.{IsSome}
 use Rattle.cbor_head.specs.Verdict.{refusal}
 use Rattle.cbor_head.specs.declared.reason.Reason.TheVariants.{RepeatedKey}
 use Rattle.cbor_head.specs.declared.reason.Refusal.{Refusal}
 use Rattle.cbor_builder.specs.Built.{Built}
 use Rattle.cbor_judging.specs.Levels.{frame}
-use Rattle.cbor_plain.specs.inner.PlainItems.{CanTake, IsGiven, sets, AreKeysBegun}
-use Rattle.cbor_plain.specs.declared.key_set.KeySet.{KeySet}
-use Rattle.cbor_item.specs.OpenValues.{OpenItem}
-use Rattle.cbor_plain.specs.TreeValues.{IsTreeStep, TakesTreePart, values_with}
+use Rattle.cbor_plain.specs.inner.PlainItems.{sets}
+use Rattle.cbor_plain.specs.TreeValues.{values_with}
 use Rattle.cbor_plain.proofs.TreeValues.{step-kept}
 use Rattle.cbor_plain.proofs.PartsTaken.{refused-part, came, part-taken, part-fits, part-fits-tree, part-no-memory}
 use Rattle.cbor_plain.proofs.PartEnds.{repeated-key, goes-or-not, given-order}

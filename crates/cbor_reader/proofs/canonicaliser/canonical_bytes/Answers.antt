@@ -1,4 +1,4 @@
-use Rattle.std.proofs.Common.{◌∙◌, ◌++◌, ℕ, List, Global, length, ap, arith}
+use Rattle.std.proofs.Common.{◌∙◌, ◌++◌, ℕ, Global, length, ap, arith}
 use Rattle.std.specs.Cow.{cow_slice_items}
 use Rattle.std.specs.declared.borrow.CowSlice.{CowSlice}
 use Rattle.std.proofs.lemmas.Result.{err_from_is_err_and}

@@ -1,4 +1,4 @@
-use Rattle.std.proofs.Common.{◌-◌, min, arith}
+use Rattle.std.proofs.Common.{◌-◌, arith}
 use Rattle.cborc_disk.proofs.Appended.{some_file}
 use Rattle.cborc.proofs.tests.streams.EndlessFolder.read_on.Goals as goal
 
