@@ -2,9 +2,11 @@
 use Rattle.std.proofs.Common.{◌≡◌, ℕ, ◌+◌, List, [], ◌∷◌, ◌++◌, map, reverse, length, refl, ap, ◌∙◌, arith, pow-suc, mul_comm, mul-le-mul_left, mul-le-mul_right, subst, add-one, ◌*◌, ◌^◌, ◌≤◌, ◌<◌, ◌-◌, true, false, true≢false, sym}
 use Rattle.std.proofs.lemmas.List.{reverse-append, length-reverse, length-map}
 use Rattle.std.proofs.Math.Nat.{pow-le-pow_right}
-use Rattle.cbor_steps.specs.State.{frame_of, frames_of, head_left, wanted_at, IsFit, IsSettled, is_in_payload, is_done}
+use Rattle.cbor_steps.specs.State.{frame_of, frames_of, head_left, wanted_at, IsFit, IsNextFit, IsSettled, IsNextSettled, is_in_payload, is_done}
 use Rattle.cbor_steps.specs.declared.position.Position.{Position}
 use Rattle.cbor_steps.specs.declared.position.Position.TheVariants.{Item, Head, SimpleNumber, Payload, Chunks, Done}
+use Rattle.cbor_steps.specs.declared.take_byte.Next.{Next}
+use Rattle.cbor_steps.specs.declared.take_byte.Next.TheVariants.{Refuses, Goes, Tells}
 use Rattle.cbor_steps.specs.declared.frame.Frame.{Frame}
 
 -- the innermost frame stands last
@@ -34,6 +36,11 @@ pub settled_fit : (depth : ℕ) (fs : List Frame) (position : Position) → IsSe
 settled_fit depth fs (Head chunk kind width left argument) h = absurd h
 settled_fit depth fs Done h = h
 settled_fit depth fs _ h = tt
+
+pub next_settled_fit : (depth : ℕ) (fs : List Frame) (next : Next) → IsNextSettled fs next → IsNextFit depth fs next
+next_settled_fit depth fs (Refuses r) h = tt
+next_settled_fit depth fs (Goes position) h = settled_fit depth fs position h
+next_settled_fit depth fs (Tells w kind position) h = settled_fit depth fs position h
 
 -- outside a payload what is open is a head
 pub wanted-head : (position : Position) → (is_in_payload position ≡ true → ⊥) → wanted_at position ≡ head_left position
