@@ -1,6 +1,6 @@
 //! The output, in which large maps lie in the order in which their pairs came.
 
-ghost use Rattle.std.specs.Prelude.{◌≡◌, ◌≤◌, ◌++◌, ◌-◌, [], OnOk, IsTrue, length, take, drop};
+ghost use Rattle.std.specs.Prelude.{◌≡◌, ◌≢◌, ◌≤◌, ◌++◌, ◌-◌, [], OnOk, IsTrue, length, take, drop};
 ghost use Rattle.cbor_head.specs.Head.{shortest_head, IsSimple};
 ghost use Rattle.cbor_head.specs.declared.major.Major.TheVariants.{Simple};
 ghost use Rattle.cbor_buffer.specs.Moved.{meant, IsWhole, IsRope, IsFree, KeepsFront, Stays, IsSettled};
@@ -116,6 +116,21 @@ impl Draft {
         ensures lies { OnOk result (self.new.buf ≡ self.old.buf ++ take count front.now) }
     {
         self.buf.extend_front(front, count)
+    }
+
+    // A whole string behind what is there: the first of these bytes.
+    #[inline(always)]
+    pub fn string(&mut self, major: Major, front: &[u8], count: usize) -> Result<(), AllocError>
+        requires whole { IsWhole self.old }
+        requires within { count ≤ length front.now }
+        requires kind { major ≢ Simple }
+        ensures whole { OnOk result (IsWhole self.new) }
+        ensures meant { OnOk result (meant self.new
+            ≡ meant self.old ++ (shortest_head major count ++ take count front.now)) }
+        ensures lies { OnOk result (self.new.buf
+            ≡ self.old.buf ++ (shortest_head major count ++ take count front.now)) }
+    {
+        self.buf.string(major, front, count)
     }
 
     // The bytes up to `end` as they lie. Takes no memory.

@@ -10,7 +10,8 @@ use cbor_head::Major;
 #[inline(always)]
 pub(crate) fn put_head(buf: &mut Vec<u8>, len: usize, major: Major, n: u64) -> usize
     requires room { len + 9 ≤ vec_len buf.old }
-    ensures within { result ≤ vec_len buf.new }
+    ensures few { result ≤ len + 9 }
+    ensures same { vec_len buf.new ≡ vec_len buf.old }
     ensures head { take result buf.new.items ≡ take len buf.old.items ++ shortest_head major n }
 {
     let first = 32 * number(major);

@@ -1,6 +1,6 @@
 //! The output: one buffer.
 
-ghost use Rattle.std.specs.Prelude.{◌≡◌, ◌≤◌, ◌<◌, ◌+◌, ◌++◌, ◌^◌, ◌∷◌, [], length, take, drop};
+ghost use Rattle.std.specs.Prelude.{◌≡◌, ◌≢◌, ◌≤◌, ◌<◌, ◌+◌, ◌++◌, ◌^◌, ◌∷◌, [], length, take, drop};
 ghost use Rattle.std.specs.Prelude.{slice_range, vec_len, OnOk};
 ghost use Rattle.cbor_head.specs.Head.{shortest_head, IsSimple, major_number};
 ghost use Rattle.cbor_head.specs.declared.major.Major.TheVariants.{Simple};
@@ -124,6 +124,32 @@ impl Out {
         self.extend(&front[..count])
     }
 
+    // The shortest head of so many bytes, and the first so many of these, behind what is there. Room
+    // is made once for both, where they are few.
+    #[inline(always)]
+    pub(crate) fn string(
+        &mut self,
+        major: Major,
+        front: &[u8],
+        count: usize,
+    ) -> Result<(), AllocError>
+        requires within { count ≤ length front.now }
+        requires kind { major ≢ Simple }
+        ensures { OnOk result
+            (self.new ≡ self.old ++ (shortest_head major count ++ take count front.now)) }
+    {
+        if count <= BLOCK {
+            if let Some(block) = front.first_chunk::<BLOCK>() {
+                make_room(&mut self.buf, self.len, HEAD + BLOCK)?;
+                let at = put_head(&mut self.buf, self.len, major, count as u64);
+                self.len = put_block(&mut self.buf, at, block, count);
+                return Ok(());
+            }
+        }
+        self.head(major, count as u64)?;
+        self.extend(&front[..count])
+    }
+
     // What stands in another from `start` to `end`, behind what is there. Up to 32 bytes are copied
     // by a piece of 32, where the room behind them allows it.
     #[inline(always)]
@@ -153,8 +179,7 @@ impl Out {
         ensures { OnOk result (self.new ≡ self.old ++ take count block.now) }
     {
         make_room(&mut self.buf, self.len, BLOCK)?;
-        self.buf[self.len..self.len + BLOCK].copy_from_slice(block);
-        self.len += count;
+        self.len = put_block(&mut self.buf, self.len, block, count);
         Ok(())
     }
 
@@ -223,6 +248,19 @@ impl Out {
         self.len = from + count + (self.len - start);
         Ok(())
     }
+}
+
+// The first of these bytes behind the first `len`, where there is room for all of them. Answers
+// where they end.
+#[inline(always)]
+fn put_block(buf: &mut Vec<u8>, len: usize, block: &[u8; BLOCK], count: usize) -> usize
+    requires few { count ≤ 32 }
+    requires room { len + 32 ≤ vec_len buf.old }
+    ensures within { result ≤ vec_len buf.new }
+    ensures block { take result buf.new.items ≡ take len buf.old.items ++ take count block.now }
+{
+    buf[len..len + BLOCK].copy_from_slice(block);
+    len + count
 }
 
 // The bytes in place of as many. Up to 32 are copied without a call.

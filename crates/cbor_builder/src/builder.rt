@@ -107,8 +107,7 @@ impl Core {
             ≡ give (shortest_head major count ++ take count front.now) (standing self.old)) }
     {
         let at = self.out.len();
-        self.out.head(major, count as u64)?;
-        self.out.extend(front, count)?;
+        self.out.string(major, front, count)?;
         complete(
             &mut self.top,
             &mut self.spans,
