@@ -1,7 +1,7 @@
 -- Parts of byte lists.
 use Rattle.std.proofs.Common.{◌≡◌, ℕ, ◌+◌, ◌-◌, ◌≤◌, List, ◌++◌, length, length-drop, take, drop, take_all, take-append-drop, length-take, sym, ap, ◌∙◌, subst, arith, zero, suc, ◌<◌, [], ◌∷◌, drop-drop, get_or, refl}
 use Rattle.std.specs.Prelude.{slice_range}
-use Rattle.std.proofs.lemmas.List.{take-append-le, drop-append-le, length-take-le}
+use Rattle.std.proofs.lemmas.List.{take-append-le, drop-append-le, take_rest, take-take, length-take-le}
 use Rattle.std.proofs.Math.Seq.{take-add, drop-append-add, take-append-add}
 
 -- a part of what stands in front
@@ -16,6 +16,15 @@ pub slice_within : (all out : List ℕ) (s e : ℕ) → take (length out) all �
 slice_within all out s e is h g =
     let whole : all ≡ out ++ drop (length out) all = sym (take-append-drop (length out) all) ∙ ap (λ (xs : List ℕ). xs ++ drop (length out) all) is in
     ap (λ (xs : List ℕ). slice_range xs s e) whole ∙ slice_front out (drop (length out) all) s e h g
+
+-- the first of a block that was read there
+pub block_part : (all out bytes block : List ℕ) (s e : ℕ) → take (length out) all ≡ out → s ≤ e → e ≤ length out → bytes ≡ out → length (take (e - s) (drop s bytes)) ≤ 32
+    → block ≡ take 32 (take (length all - s) (drop s all)) → take (length (take (e - s) (drop s bytes))) block ≡ slice_range out s e
+block_part all out bytes block s e is h g eb few read =
+    let l = length-take (e - s) (drop s bytes) in
+    let m = length-drop s bytes in
+    let n : length (take (e - s) (drop s bytes)) ≡ e - s = omega (arith, l, m, h, g, ap length eb) in
+    (λ i. take (n i) (read i)) ∙ ap (λ (xs : List ℕ). take (e - s) (take 32 xs)) (take_rest all s) ∙ take-take (e - s) 32 (drop s all) (omega (arith, n, few)) ∙ slice_within all out s e is h g
 
 -- the part to the end
 pub slice_all : (xs : List ℕ) (s n : ℕ) → length xs ≡ n → slice_range xs s n ≡ drop s xs

@@ -1,7 +1,9 @@
 -- What a buffer holds after a write.
-use Rattle.std.proofs.Common.{◌≡◌, ℕ, ◌+◌, ◌-◌, ◌≤◌, List, ◌∷◌, ◌++◌, append_assoc, length, length-append, length-drop, length-take, take, drop, take-append-drop, sym, ap, ◌∙◌, arith}
-use Rattle.std.proofs.lemmas.List.{take-append-le}
-use Rattle.std.proofs.Math.Seq.{drop-append_seam, take-append_seam}
+use Rattle.std.proofs.Common.{◌≡◌, ℕ, ◌+◌, ◌-◌, ◌≤◌, List, ◌∷◌, ◌++◌, append_assoc, length, length-append, length-drop, length-take, take, drop, set, take-append-drop, drop-drop, refl, sym, ap, ◌∙◌, arith}
+use Rattle.std.proofs.lemmas.List.{take-append-le, drop-append-le, take-set, drop-set, with_items_is}
+use Rattle.std.specs.Global.{Vec}
+use Rattle.std.specs.Vec.{with_items}
+use Rattle.std.proofs.Math.Seq.{drop-append_seam, take-append_seam, take-set-lt, paste}
 
 pub take_front : (from start : ℕ) (out x : List ℕ) → from ≤ start → start ≤ length out → take from (take start out ++ x) ≡ take from out
 take_front from start out x h g =
@@ -39,4 +41,91 @@ written xs ys rest len k h g =
     regroup : (a b c d : List ℕ) → a ++ ((b ++ c) ++ d) ≡ (a ++ b) ++ (c ++ d)
     regroup a b c d = simp append_assoc
 
+-- one byte in place of one
+pub byte_written : (xs : List ℕ) (at start len x : ℕ) → start ≡ at + 1 → start ≤ len → len ≤ length xs → take len (set xs at x) ≡ take at (take len xs) ++ (x ∷ drop start (take len xs))
+byte_written xs at start len x e h g =
+    let out = take len xs in
+    let l = length-take len xs in
+    let d : drop at (set out at x) ≡ x ∷ drop start out = drop-set out at x (omega (arith, l, e, h, g)) ∙ ap (λ k. x ∷ drop k out) (sym e) in
+    take-set-lt len xs at x (omega (arith, e, h))
+    ∙ sym (take-append-drop at (set out at x)) ∙ ap (λ (us : List ℕ). us ++ drop at (set out at x)) (take-set out at x) ∙ ap (λ (us : List ℕ). take at out ++ us) d
+
+-- a head, and what follows it up to m
+head_and_tail : (front h tail rest : List ℕ) (m : ℕ) → m ≡ length front + (length h + length tail) → take m (front ++ (h ++ (tail ++ rest))) ≡ front ++ (h ++ tail)
+head_and_tail front h tail rest m e =
+    let a = length-append front (h ++ tail) in
+    let b = length-append h tail in
+    let n : m ≡ length (front ++ (h ++ tail)) = omega (arith, a, b, e) in
+    (λ i. take (n i) (regroup front h tail rest i)) ∙ take-append_seam (front ++ (h ++ tail)) rest
+  where
+    regroup : (a b c d : List ℕ) → a ++ (b ++ (c ++ d)) ≡ (a ++ (b ++ c)) ++ d
+    regroup a b c d = simp append_assoc
+
+-- a head in place of one of the same length
+pub head_kept : (xs h : List ℕ) (len from start k : ℕ) → len ≤ length xs → from ≤ start → start ≤ len → k ≡ start - from → length h ≡ k
+    → take len (take from xs ++ (h ++ drop k (drop from xs))) ≡ take from (take len xs) ++ (h ++ drop start (take len xs))
+head_kept xs h len from start k g b e is n =
+    let out = take len xs in
+    let l = length-take len xs in
+    let whole : xs ≡ out ++ drop len xs = sym (take-append-drop len xs) in
+    let s : from + k ≡ start = omega (arith, is, b) in
+    let rest : drop k (drop from xs) ≡ drop start out ++ drop len xs =
+    drop-drop k from xs ∙ ap (λ j. drop j xs) s ∙ ap (drop start) whole ∙ drop-append-le start out (drop len xs) (omega (arith, l, e, g)) in
+    let front : take from xs ≡ take from out = ap (take from) whole ∙ take-append-le from out (drop len xs) (omega (arith, l, b, e, g)) in
+    let lf = length-take from out in
+    let ld = length-drop start out in
+    (λ i. take len (front i ++ (h ++ rest i))) ∙ head_and_tail (take from out) h (drop start out) (drop len xs) len (omega (arith, l, lf, ld, n, is, b, e, g))
+
+-- a head in place of one of another length: what follows has been moved
+pub head_moved : (xs h : List ℕ) (len from start k m : ℕ) → len ≤ length xs → from ≤ start → start ≤ len → from + k + (len - start) ≤ length xs → length h ≡ k → m ≡ from + k + (len - start)
+    → take m (take from (paste xs (from + k) (drop start xs) (len - start)) ++ (h ++ drop k (drop from (paste xs (from + k) (drop start xs) (len - start))))) ≡ take from (take len xs) ++ (h ++ drop start (take len xs))
+head_moved xs h len from start k m g b e fits n is =
+    let out = take len xs in
+    let l = length-take len xs in
+    let tail = take (len - start) (drop start xs) in
+    let rest = drop (from + k + (len - start)) xs in
+    let moved = paste xs (from + k) (drop start xs) (len - start) in
+    let whole : xs ≡ out ++ drop len xs = sym (take-append-drop len xs) in
+    let lo : length (drop start out) ≡ len - start = length-drop start out ∙ ap (λ j. j - start) (omega (arith, l, g)) in
+    let same : tail ≡ drop start out =
+    ap (λ (us : List ℕ). take (len - start) (drop start us)) whole ∙ ap (take (len - start)) (drop-append-le start out (drop len xs) (omega (arith, l, e, g)))
+    ∙ ap (λ j. take j (drop start out ++ drop len xs)) (sym lo) ∙ take-append_seam (drop start out) (drop len xs) in
+    let flat : moved ≡ take (from + k) xs ++ (tail ++ rest) = append_assoc (take (from + k) xs) tail rest in
+    let front : take from moved ≡ take from out =
+    ap (take from) flat ∙ take_front from (from + k) xs (tail ++ rest) (omega arith) (omega (arith, fits)) ∙ ap (take from) whole ∙ take-append-le from out (drop len xs) (omega (arith, l, b, e, g)) in
+    let behind : drop k (drop from moved) ≡ drop start out ++ rest =
+    drop-drop k from moved ∙ ap (drop (from + k)) flat ∙ drop_front (from + k) xs (tail ++ rest) (omega (arith, fits)) ∙ ap (λ (us : List ℕ). us ++ rest) same in
+    let lf = length-take from out in
+    (λ i. take m (front i ++ (h ++ behind i))) ∙ head_and_tail (take from out) h (drop start out) rest m (omega (arith, l, lf, lo, n, is, b, e, g))
+
 -- ---- of a vector whose first len elements are the output
+
+pub vec_kept : (v : Vec ℕ) (xs ys h out : List ℕ) (len from start k : ℕ) → xs ≡ v.items → take len v.items ≡ out → len ≤ v.len → from ≤ start → start ≤ length out
+    → k ≡ start - from → ys ≡ h → k ≡ length h
+    → take len (with_items v (take from xs ++ (ys ++ drop (start - from) (drop from xs)))).items ≡ take from out ++ (h ++ drop start out)
+vec_kept v xs ys h out len from start k ex eo g b e ek ey n =
+    let l = length-take len v.items in
+    let long : len ≤ length v.items = omega (arith, g, v.ok.0) in
+    let ends : start ≤ len = omega (arith, l, ap length eo, e) in
+    let room : from + (start - from) ≤ length xs = omega (arith, ap length ex, long, ends, b) in
+    let size : length ys ≡ start - from = ap length ey ∙ sym n ∙ ek in
+    let whole = length_kept xs ys from (start - from) room size ∙ ap length ex ∙ sym v.ok.0 in
+    ap (take len) (with_items_is v (take from xs ++ (ys ++ drop (start - from) (drop from xs))) whole)
+    ∙ (λ i. take len (take from (ex i) ++ (ey i ++ drop (start - from) (drop from (ex i)))))
+    ∙ head_kept v.items h len from start (start - from) long b ends refl (sym n ∙ ek)
+    ∙ (λ i. take from (eo i) ++ (h ++ drop start (eo i)))
+
+pub vec_moved : (v : Vec ℕ) (was xs ys h out : List ℕ) (len from start k : ℕ) → v.items ≡ paste was (from + k) (drop start was) (len - start) → xs ≡ v.items → take len was ≡ out
+    → len + k ≤ length was → v.len ≡ length was → from ≤ start → start ≤ length out → ys ≡ h → k ≡ length h
+    → take (from + k + (len - start)) (with_items v (take from xs ++ (ys ++ drop (from + k - from) (drop from xs)))).items ≡ take from out ++ (h ++ drop start out)
+vec_moved v was xs ys h out len from start k ev ex eo room same b e ey n =
+    let l = length-take len was in
+    let ends : start ≤ len = omega (arith, l, ap length eo, e) in
+    let step : from + k - from ≡ k = omega arith in
+    let size : length ys ≡ from + k - from = ap length ey ∙ sym n ∙ sym step in
+    let fits : from + (from + k - from) ≤ length xs = omega (arith, ap length ex, v.ok.0, same, room, ends, b) in
+    let whole = length_kept xs ys from (from + k - from) fits size ∙ ap length ex ∙ sym v.ok.0 in
+    ap (take (from + k + (len - start))) (with_items_is v (take from xs ++ (ys ++ drop (from + k - from) (drop from xs))) whole)
+    ∙ (λ i. take (from + k + (len - start)) (take from ((ex ∙ ev) i) ++ (ey i ++ drop (step i) (drop from ((ex ∙ ev) i)))))
+    ∙ head_moved was h len from start k (from + k + (len - start)) (omega (arith, room)) b ends (omega (arith, room, ends, b)) (sym n) refl
+    ∙ (λ i. take from (eo i) ++ (h ++ drop start (eo i)))

@@ -1,5 +1,8 @@
 -- One put after another.
-use Rattle.std.proofs.Common.{◌≡◌, ℕ, ◌+◌, ◌<◌, List, [], ◌++◌, length, take, Option, Result, Ok, Err, sym, ap, ◌∙◌, subst, append_assoc, append-nil, length-append, arith}
+use Rattle.std.proofs.Common.{◌≡◌, ℕ, ◌+◌, ◌<◌, List, [], ◌++◌, length, take, drop, Option, Bool, false, Result, Ok, Err, sym, ap, ◌∙◌, subst, append_assoc, append-nil, length-append, length-drop, take-append-drop, arith}
+use Rattle.std.proofs.lemmas.List.{length-take-le}
+use Rattle.std.specs.Prelude.{MatchResult}
+use Rattle.std.specs.Result.{OnErr, is_ok}
 use lib.Seq.{take-append_seam}
 use Rattle.std.specs.Io.KnownBytes.{Appends}
 use Rattle.std.proofs.KnownBytes.{Appends-nil, Appends-trans}
@@ -61,6 +64,45 @@ stops-more a b s xs ys e p =
     }
 
 -- ---- what waited went out, or some of it
+
+abbrev pub SentSome : Option (List ℕ) → Option (List ℕ) → ℕ → List ℕ → ℕ → Type 0
+SentSome a b taken bytes total = (n : ℕ) × (total ≡ capped (taken + n)) × (n < length bytes) × Appends a b (take n bytes)
+
+-- some of the bytes behind nothing that waits
+pub sent-some : (a b : Option (List ℕ)) (s : Outbox) (bytes whole : List ℕ) (e : Outbox) → bytes ≡ s.waiting.items ++ whole → SentSome a b s.taken bytes e.taken → HasStopped a b s whole e
+sent-some a b s bytes whole e is sent =
+    let few = sent.2 in
+    let exactly : length (take sent.0 bytes) ≡ sent.0 = length-take-le sent.0 bytes (omega arith) in
+    record {
+      took = take sent.0 bytes;
+      others = drop sent.0 bytes;
+      appended = sent.3;
+      front = take-append-drop sent.0 bytes ∙ is;
+      not_all = omega (arith, length-drop sent.0 bytes);
+      counted = λ k f. sent.1 ∙ omega (arith, f, exactly);
+    }
+
+-- nothing waited, and the bytes went out
+pub sent-past : (a b : Option (List ℕ)) (s t : Outbox) (bytes : List ℕ) → s.waiting.items ≡ [] → t.waiting.items ≡ [] → t.taken ≡ capped (s.taken + length bytes) → Appends a b bytes → HasPut a b s t bytes
+sent-past a b s t bytes none still counted out = record {
+  took = bytes;
+  appended = out;
+  others = ap (λ (l : List ℕ). bytes ++ l) still ∙ append-nil bytes ∙ ap (λ (l : List ℕ). l ++ bytes) (sym none);
+  counted = λ k e. counted ∙ omega (arith, e);
+}
+
+-- what waited went out, and then the bytes, or not all of them
+pub sends-past : (a b c : Option (List ℕ)) (s t u : Outbox) (bytes : List ℕ) (r : Result (Unit {0}) Stopped) → HasPut a b s t [] → t.waiting.items ≡ [] → u.waiting.items ≡ []
+    → MatchResult r (λ x. (u.taken ≡ capped (t.taken + length bytes)) × Appends b c bytes) (λ e. SentSome b c t.taken bytes u.taken) → Puts a c s u bytes r
+sends-past a b c s t u bytes (Ok x) p none still h = puts-then a b c s t u [] bytes p (sent-past b c t u bytes none still h.0 h.1)
+sends-past a b c s t u bytes (Err e) p none still h = puts-stops a b c s t [] bytes u p (sent-some b c t bytes bytes u (ap (λ (l : List ℕ). l ++ bytes) (sym none)) h)
+
+pub where_err : {T E P : Type 0} (r : Result T E) (b : Bool) → b ≡ false → b ≡ is_ok r → OnErr r P → P
+where_err (Ok x) b f e h = absurd (cc (sym f ∙ e))
+where_err (Err x) b f e h = h
+
+pub puts-from : (a b : Option (List ℕ)) (s t u : Outbox) (xs : List ℕ) (r : Result (Unit {0}) Stopped) → t ≡ s → Puts a b t u xs r → Puts a b s u xs r
+puts-from a b s t u xs r is p = subst (λ (o : Outbox). Puts a b o u xs r) is p
 
 -- ---- from nothing to the whole
 
