@@ -8,4 +8,3 @@ pub mod ReadLeaves
 pub mod ReadBack
 pub mod Reading
 pub mod TextGiven
-pub mod TextLevels

@@ -5,11 +5,8 @@ ghost use Rattle.cbor_head.specs.Complaint.{plain};
 ghost use Rattle.cbor_head.specs.Spelling.{Spelling, value_of};
 ghost use Rattle.cbor_head.specs.Verdict.{IsVerdict, accepted};
 ghost use Rattle.cbor_judging.specs.Readers.{IsRead};
-ghost use Rattle.cbor_diag.specs.IndentedText.{indented};
-ghost use Rattle.cbor_diag.specs.inner.Layout.{laid_out};
 ghost use Rattle.cbor_diag.specs.Text.{text};
 
-use crate::layout::Layout;
 use crate::outbox::Outbox;
 use crate::text_sink::TextSink;
 use cbor_grammar::laws::verdict_is_one;
@@ -47,37 +44,10 @@ impl TextBuffer {
         ensures { IfOk result (λ shown. (s : Spelling) → IsVerdict limits plain bytes.now (accepted s)
             → shown.now ≡ text (value_of s)) }
     {
-        self.text_of_front(bytes, limits, Layout::OneLine)
-    }
-
-    /// The same with one member or pair a line, two spaces a level. It can be thousands of times as
-    /// long as the bytes: a view is written as it is gone over ([`diagnostic_view_indented`](crate::diagnostic_view_indented)).
-    pub fn diagnostic_front_indented(
-        &mut self,
-        bytes: &[u8],
-        limits: Limits,
-    ) -> Result<&[u8], AllocError>
-        requires { (size : ℕ) × IsRead limits plain bytes.now size }
-        ensures { IfOk result (λ shown. (s : Spelling) → IsVerdict limits plain bytes.now (accepted s)
-            → shown.now ≡ indented 0 (value_of s)) }
-    {
-        self.text_of_front(bytes, limits, Layout::Indented)
-    }
-
-    fn text_of_front(
-        &mut self,
-        bytes: &[u8],
-        limits: Limits,
-        layout: Layout,
-    ) -> Result<&[u8], AllocError>
-        requires { (size : ℕ) × IsRead limits plain bytes.now size }
-        ensures { IfOk result (λ shown. (s : Spelling) → IsVerdict limits plain bytes.now (accepted s)
-            → shown.now ≡ laid_out layout 0 (value_of s)) }
-    {
         verdict_is_one();
         self.shown.clear();
         self.out.clear();
-        let sink = TextSink::new(self.alloc, layout, &mut self.shown, &mut self.out);
+        let sink = TextSink::new(self.alloc, &mut self.shown, &mut self.out);
         match give_front(sink, bytes, limits) {
             Ok((sink, _)) => sink.finish(),
             // The item is valid, so memory was refused.

@@ -1,33 +1,28 @@
 //! The diagnostic text of an item, from its parts as a walk comes to them.
 
-ghost use Rattle.std.specs.Prelude.{◌≡◌, ◌<◌, ◌++◌, [], true, IfOk, OnOk, option_to_list};
+ghost use Rattle.std.specs.Prelude.{◌≡◌, ◌++◌, [], true, IfOk, OnOk, option_to_list};
 ghost use Rattle.cbor_head.specs.Head.{IsSimple};
 ghost use Rattle.cbor_head.specs.Spelling.{Spelling, value_of};
-ghost use Rattle.cbor_head.specs.declared.limits.TheConstants.{MAX_DEPTH};
 ghost use Rattle.cbor_head.specs.declared.major.Major.TheVariants as majors;
 ghost use Rattle.cbor_judging.specs.Levels.{item_due, item_whole};
-ghost use Rattle.cbor_walk.specs.Sink.{leaf_value, IsItemDue};
-ghost use Rattle.cbor_diag.specs.declared.text_sink.TextSink.{TextSink as TextSinkView};
-ghost use Rattle.cbor_diag.specs.inner.Layout.{laid_out};
+ghost use Rattle.cbor_walk.specs.Sink.{leaf_value};
 ghost use Rattle.cbor_diag.specs.inner.Outbox.{Puts};
-ghost use Rattle.cbor_diag.specs.inner.TextSinks.{opener, kind_of, close_text, Reaches};
+ghost use Rattle.cbor_diag.specs.inner.TextSinks.{opener, kind_of, closer, Reaches};
 ghost use Rattle.cbor_diag.specs.inner.TextSinks.{text_stands, text_holds};
 ghost use Rattle.cbor_diag.specs.Text.{text};
 
-use crate::layout::{Layout, put_end, put_gap};
 use crate::outbox::{Outbox, Stopped};
 use crate::pieces::{
     put_closing, put_content, put_negative, put_number, put_opening, put_simple, put_string,
 };
-use cbor_head::{MAX_DEPTH, Major};
+use cbor_head::Major;
 use cbor_walk::Sink;
 use std::alloc::{AllocError, Global};
 use std::io::Write;
 
-/// What writes the text of the parts that come. It looks for no equal keys.
+/// What writes the text of the parts that come, on one line. It looks for no equal keys.
 #[derive(Drop)]
 pub(crate) struct TextSink<'o> {
-    layout: Layout,
     // The innermost container, and those around it, the outermost first.
     inner: Option<Open>,
     around: Vec<Open>,
@@ -36,11 +31,10 @@ pub(crate) struct TextSink<'o> {
     out: &'o mut Outbox,
 }
 
-/// A container whose end is not written, at so many levels of indentation.
+/// A container whose end is not written.
 #[derive(Clone, Copy)]
 pub(crate) struct Open {
     kind: Kind,
-    indent: u16,
     // Whether none of its members or pairs is written.
     is_first: bool,
 }
@@ -54,19 +48,12 @@ pub(crate) enum Kind {
 
 impl<'o> TextSink<'o> {
     // Of nothing yet.
-    pub(crate) fn new(
-        alloc: Global,
-        layout: Layout,
-        shown: &'o mut Vec<u8>,
-        out: &'o mut Outbox,
-    ) -> TextSink<'o>
+    pub(crate) fn new(alloc: Global, shown: &'o mut Vec<u8>, out: &'o mut Outbox) -> TextSink<'o>
         requires shown { shown.old.items ≡ [] }
         requires out { out.old.waiting.items ≡ [] }
-        ensures due { text_stands result result (item_due []) }
-        ensures layout { result.layout ≡ layout }
+        ensures { text_stands result result (item_due []) }
     {
         TextSink {
-            layout,
             inner: None,
             around: Vec::new(alloc),
             shown,
@@ -76,12 +63,10 @@ impl<'o> TextSink<'o> {
 
     // The text of the item, which is whole. If it is short, all of it waits.
     pub(crate) fn finish(self) -> Result<&'o [u8], AllocError>
-        ensures { IfOk result (λ text. (start : TextSinkView) (s : Spelling)
-            → text_stands start self.entry (item_whole s)
-            → text.now ≡ laid_out start.layout 0 (value_of s)) }
+        ensures { IfOk result (λ shown. (s : Spelling)
+            → text_stands self.entry self.entry (item_whole s) → shown.now ≡ text (value_of s)) }
     {
         let TextSink {
-            layout: _,
             inner: _,
             around: _,
             shown,
@@ -94,36 +79,25 @@ impl<'o> TextSink<'o> {
         Ok(shown.as_slice())
     }
 
-    // Puts what stands before an item, and answers at how many levels of indentation it stands.
+    // Puts what stands before an item.
     #[inline(always)]
-    fn reach(&mut self, is_key: bool) -> Result<u16, Stopped>
-        requires { IsItemDue TextSinkView text_stands is_key self.old }
-        ensures { IfOk result (Reaches is_key self.old self.new) }
+    fn reach(&mut self, is_key: bool) -> Result<(), Stopped>
+        ensures { OnOk result (Reaches is_key self.old self.new) }
     {
         let Some(open) = self.inner else {
-            return Ok(0);
+            return Ok(());
         };
         match open.kind {
-            Kind::Tag => Ok(open.indent),
-            Kind::Map if !is_key => {
-                self.out.put(self.shown, b": ")?;
-                Ok(open.indent + 1)
-            }
-            _ => {
-                put_gap(
-                    self.layout,
-                    open.indent,
-                    open.is_first,
-                    self.out,
-                    self.shown,
-                )?;
+            Kind::Tag => Ok(()),
+            Kind::Map if !is_key => self.out.put(self.shown, b": "),
+            kind if open.is_first => {
                 self.inner = Some(Open {
-                    kind: open.kind,
-                    indent: open.indent,
+                    kind,
                     is_first: false,
                 });
-                Ok(open.indent + 1)
+                Ok(())
             }
+            _ => self.out.put(self.shown, b", "),
         }
     }
 }
@@ -182,16 +156,11 @@ impl<'a, 'o> Sink<'a> for TextSink<'o> {
 
     #[inline(always)]
     fn begin(&mut self, is_key: bool, major: Major, number: u64) -> Result<(), AllocError> {
-        let indent = self.reach(is_key)?;
-        // No limits let an item be deeper, which a sink is not told.
-        if indent >= MAX_DEPTH {
-            return Err(AllocError);
-        }
+        self.reach(is_key)?;
         put_opener(major, number, self.out, self.shown)?;
         push(&mut self.around, self.inner)?;
         self.inner = Some(Open {
             kind: kind_of(major),
-            indent,
             is_first: true,
         });
         Ok(())
@@ -202,7 +171,7 @@ impl<'a, 'o> Sink<'a> for TextSink<'o> {
         let Some(open) = self.inner else {
             unreachable!();
         };
-        put_close(self.layout, open, self.out, self.shown)?;
+        put_closer(open.kind, self.out, self.shown)?;
         self.inner = self.around.pop();
         Ok(true)
     }
@@ -281,25 +250,13 @@ fn kind_of(major: Major) -> Kind
 
 // The end of a container.
 #[inline(always)]
-fn put_close<W: Write>(
-    layout: Layout,
-    container: Open,
-    out: &mut Outbox,
-    writer: &mut W,
-) -> Result<(), Stopped>
-    requires { container.indent < MAX_DEPTH }
+fn put_closer<W: Write>(kind: Kind, out: &mut Outbox, writer: &mut W) -> Result<(), Stopped>
     ensures { Puts (W.contents writer.old) (W.contents writer.new) out.old out.new
-        (close_text layout container) result }
+        (closer kind) result }
 {
-    match container.kind {
-        Kind::Array => {
-            put_end(layout, container.indent, container.is_first, out, writer)?;
-            out.put(writer, b"]")
-        }
-        Kind::Map => {
-            put_end(layout, container.indent, container.is_first, out, writer)?;
-            out.put(writer, b"}")
-        }
+    match kind {
+        Kind::Array => out.put(writer, b"]"),
+        Kind::Map => out.put(writer, b"}"),
         Kind::Tag => out.put(writer, b")"),
     }
 }

@@ -1,17 +1,15 @@
 -- What is written of an item whose parts come one by one, and where a sink of them stands.
-use Rattle.std.specs.Prelude.{ℕ, ◌≡◌, ◌+◌, ◌<◌, Bool, true, false, List, [], ◌∷◌, ◌++◌, codes, decimal, reverse, Option, Some, None}
-use Rattle.cbor_head.specs.Spelling.{Spelling, Spellings, SpelledEntries, no_spellings, a_spelling, no_entries, entry, value_of}
-use Rattle.cbor_head.specs.declared.limits.TheConstants.{MAX_DEPTH}
+use Rattle.std.specs.Prelude.{ℕ, ◌≡◌, if◌then◌else◌, Bool, true, false, List, [], ◌∷◌, ◌++◌, codes, decimal, Option, Some, None, option_to_list}
+use Rattle.cbor_head.specs.Spelling.{value_of, values_of, entries_of}
 use Rattle.cbor_head.specs.declared.major.Major.{Major}
 use Rattle.cbor_head.specs.declared.major.Major.TheVariants as majors
 use Rattle.cbor_judging.specs.Levels.{Level, a_member, a_key, a_value, some_member, some_key, some_value, tagged, Standing, item_due, item_full, item_whole}
 use Rattle.cbor_walk.specs.Sink.{Told}
-use Rattle.cbor_diag.specs.declared.layout.Layout.{Layout}
+use Rattle.cbor_diag.specs.Text.{text, texts, pair_texts, joined}
 use Rattle.cbor_diag.specs.declared.text_sink.Kind.{Kind}
 use Rattle.cbor_diag.specs.declared.text_sink.Kind.TheVariants.{Array, Map, Tag}
 use Rattle.cbor_diag.specs.declared.text_sink.Open.{Open}
 use Rattle.cbor_diag.specs.declared.text_sink.TextSink.{TextSink}
-use Rattle.cbor_diag.specs.inner.Layout.{gap, end, laid_out}
 use Rattle.cbor_diag.specs.inner.Strings.{opening, content_text}
 
 -- ---- containers
@@ -26,159 +24,100 @@ kind_of majors.Array = Array
 kind_of majors.Map = Map
 kind_of m = Tag
 
-abbrev pub an_open : Kind → ℕ → Bool → Open
-an_open kind indent is_first = record { kind = kind; indent = indent; is_first = is_first }
+abbrev pub closer : Kind → List ℕ
+closer Array = codes "]"
+closer Map = codes "}"
+closer Tag = codes ")"
 
--- the text behind what is in it
-abbrev pub close_of : Layout → Kind → ℕ → Bool → List ℕ
-close_of l Array n is_first = end l n is_first ++ codes "]"
-close_of l Map n is_first = end l n is_first ++ codes "}"
-close_of l Tag n is_first = codes ")"
+abbrev pub an_open : Kind → Bool → Open
+an_open kind is_first = record { kind = kind; is_first = is_first }
 
-abbrev pub close_text : Layout → Open → List ℕ
-close_text l o = close_of l o.kind o.indent o.is_first
+-- none of these texts
+abbrev pub are_none : List (List ℕ) → Bool
+are_none [] = true
+are_none (t ∷ ts) = false
 
--- ---- what is complete in an open container
+-- what stands before a member or a pair, the first one or a later one
+abbrev pub comma : Bool → List ℕ
+comma is_first = if is_first then [] else codes ", "
 
-abbrev pub none_in : Spellings → Bool
-none_in no_spellings = true
-none_in (a_spelling s ss) = false
-
-abbrev pub no_pair_in : SpelledEntries → Bool
-no_pair_in no_entries = true
-no_pair_in (entry k v es) = false
-
--- members, with what stands before each, the first of all among them or not
-abbrev pub members_put : Layout → ℕ → Bool → Spellings → List ℕ
-members_put l n first no_spellings = []
-members_put l n first (a_spelling s ss) = gap l n first ++ laid_out l (n + 1) (value_of s) ++ members_put l n false ss
-
-abbrev pub pairs_put : Layout → ℕ → Bool → SpelledEntries → List ℕ
-pairs_put l n first no_entries = []
-pairs_put l n first (entry k v es) =
-    gap l n first ++ laid_out l (n + 1) (value_of k) ++ codes ": " ++ laid_out l (n + 1) (value_of v)
-    ++ pairs_put l n false es
-
--- the text of a container that stands at this level, as far as it is complete
-abbrev pub level_text : Layout → ℕ → Level → List ℕ
-level_text l n (a_member w left done) = codes "[" ++ members_put l n true done
-level_text l n (some_member done) = codes "[" ++ members_put l n true done
-level_text l n (a_key w left done) = codes "{" ++ pairs_put l n true done
-level_text l n (some_key done) = codes "{" ++ pairs_put l n true done
-level_text l n (a_value w left done k) =
-    codes "{" ++ pairs_put l n true done ++ gap l n (no_pair_in done) ++ laid_out l (n + 1) (value_of k)
-level_text l n (some_value done k) =
-    codes "{" ++ pairs_put l n true done ++ gap l n (no_pair_in done) ++ laid_out l (n + 1) (value_of k)
-level_text l n (tagged w k) = decimal k ++ codes "("
-
--- what stands before the next item of it
-abbrev pub before_next : Layout → ℕ → Level → List ℕ
-before_next l n (a_member w left done) = gap l n (none_in done)
-before_next l n (some_member done) = gap l n (none_in done)
-before_next l n (a_key w left done) = gap l n (no_pair_in done)
-before_next l n (some_key done) = gap l n (no_pair_in done)
-before_next l n (a_value w left done k) = codes ": "
-before_next l n (some_value done k) = codes ": "
-before_next l n (tagged w k) = []
-
--- the level at which its items stand
-abbrev pub item_level : ℕ → Level → ℕ
-item_level n (tagged w k) = n
-item_level n (a_member w left done) = n + 1
-item_level n (some_member done) = n + 1
-item_level n (a_key w left done) = n + 1
-item_level n (some_key done) = n + 1
-item_level n (a_value w left done k) = n + 1
-item_level n (some_value done k) = n + 1
+-- the text of a container behind this text, as far as it is complete
+abbrev pub text_in : List ℕ → Level → List ℕ
+text_in u (a_member w left done) = u ++ (codes "[" ++ joined (texts (values_of done)))
+text_in u (some_member done) = u ++ (codes "[" ++ joined (texts (values_of done)))
+text_in u (a_key w left done) = u ++ (codes "{" ++ joined (pair_texts (entries_of done)))
+text_in u (some_key done) = u ++ (codes "{" ++ joined (pair_texts (entries_of done)))
+text_in u (a_value w left done k) =
+    let ts = pair_texts (entries_of done) in
+    ((u ++ (codes "{" ++ joined ts)) ++ comma (are_none ts)) ++ text (value_of k)
+text_in u (some_value done k) =
+    let ts = pair_texts (entries_of done) in
+    ((u ++ (codes "{" ++ joined ts)) ++ comma (are_none ts)) ++ text (value_of k)
+text_in u (tagged w n) = u ++ (decimal n ++ codes "(")
 
 -- it, before its next item
-abbrev pub open_of : ℕ → Level → Open
-open_of n (a_member w left done) = an_open Array n (none_in done)
-open_of n (some_member done) = an_open Array n (none_in done)
-open_of n (a_key w left done) = an_open Map n (no_pair_in done)
-open_of n (some_key done) = an_open Map n (no_pair_in done)
-open_of n (a_value w left done k) = an_open Map n false
-open_of n (some_value done k) = an_open Map n false
-open_of n (tagged w k) = an_open Tag n true
+abbrev pub open_of : Level → Open
+open_of (a_member w left done) = an_open Array (are_none (texts (values_of done)))
+open_of (some_member done) = an_open Array (are_none (texts (values_of done)))
+open_of (a_key w left done) = an_open Map (are_none (pair_texts (entries_of done)))
+open_of (some_key done) = an_open Map (are_none (pair_texts (entries_of done)))
+open_of (tagged w n) = an_open Tag true
+open_of v = an_open Map false
 
--- and once something of that is written
-abbrev pub entered_of : ℕ → Level → Open
-entered_of n (a_member w left done) = an_open Array n false
-entered_of n (some_member done) = an_open Array n false
-entered_of n (a_key w left done) = an_open Map n false
-entered_of n (some_key done) = an_open Map n false
-entered_of n (a_value w left done k) = an_open Map n false
-entered_of n (some_value done k) = an_open Map n false
-entered_of n (tagged w k) = an_open Tag n true
+-- and within that
+abbrev pub entered_of : Level → Open
+entered_of (tagged w n) = an_open Tag true
+entered_of v = an_open (open_of v).kind false
+
+-- what stands before its next item
+abbrev pub before : Level → List ℕ
+before (tagged w n) = []
+before (a_value w left done k) = codes ": "
+before (some_value done k) = codes ": "
+before v = comma (open_of v).is_first
 
 -- ---- all open containers, the innermost first
 
--- the level at which an item stands that is due in them
-abbrev pub indent_in : List Level → ℕ
-indent_in [] = 0
-indent_in (v ∷ vs) = item_level (indent_in vs) v
+-- the text before the item that is due in them
+abbrev pub text_to : List Level → List ℕ
+text_to [] = []
+text_to (v ∷ vs) = text_in (text_to vs) v ++ before v
 
-abbrev pub before_in : Layout → List Level → List ℕ
-before_in l [] = []
-before_in l (v ∷ vs) = before_next l (indent_in vs) v
+-- within that item the innermost of them, and those around it, the outermost first
+abbrev pub inner_in : List Level → Option Open
+inner_in [] = None
+inner_in (v ∷ vs) = Some (entered_of v)
 
--- the text so far
-abbrev pub text_in : Layout → List Level → List ℕ
-text_in l [] = []
-text_in l (v ∷ vs) = (text_in l vs ++ before_in l vs) ++ level_text l (indent_in vs) v
-
--- and what stands before the item that is due
-abbrev pub text_to : Layout → List Level → List ℕ
-text_to l vs = text_in l vs ++ before_in l vs
-
-abbrev pub entered : List Level → List Open
-entered [] = []
-entered (v ∷ vs) = entered_of (indent_in vs) v ∷ entered vs
-
-abbrev pub opens_in : List Level → List Open
-opens_in [] = []
-opens_in (v ∷ vs) = open_of (indent_in vs) v ∷ entered vs
+abbrev pub around_in : List Level → List Open
+around_in [] = []
+around_in (v ∷ vs) = around_in vs ++ option_to_list (inner_in vs)
 
 -- ---- where a sink stands
 
--- the text that it was given so far
-abbrev pub text_so_far : TextSink → List ℕ
-text_so_far g = g.shown.now.items ++ g.out.now.waiting.items
+-- it was given this text, and these are open in it
+pub record IsAt (g : TextSink) (t : List ℕ) (o : Option Open) (os : List Open) : Type 0 where
+  pub given : g.shown.now.items ++ g.out.now.waiting.items ≡ t
+  pub innermost : g.inner ≡ o
+  pub around : g.around.items ≡ os
 
--- these are open in it
-abbrev pub AreOpen : Option Open → List Open → List Open → Type 0
-AreOpen inner around [] = (inner ≡ None) × (around ≡ [])
-AreOpen inner around (o ∷ os) = (inner ≡ Some o) × (around ≡ reverse os)
+-- and an item is due, or stands, in these
+abbrev pub IsWithin : TextSink → List ℕ → List Level → Type 0
+IsWithin g t vs = IsAt g t (inner_in vs) (around_in vs)
 
-abbrev pub AreShallow : List Open → Type 0
-AreShallow [] = Unit {0}
-AreShallow (o ∷ os) = (o.indent < MAX_DEPTH) × AreShallow os
-
--- it was given this text since its first state, and these are open
-pub record IsAt (start g : TextSink) (text : List ℕ) (os : List Open) : Type 0 where
-  pub given : text_so_far g ≡ text
-  pub layout : g.layout ≡ start.layout
-  pub opens : AreOpen g.inner g.around.items os
-  pub shallow : AreShallow os
-
--- this text, and the end of this container, are the text of this value
-abbrev pub Closes : Layout → ℕ → List ℕ → Open → Spelling → Type 0
-Closes l n text o s = text ++ close_text l o ≡ laid_out l n (value_of s)
-
+-- whatever its first state was; a full container's end makes its text so far that of the item
 abbrev pub text_stands : TextSink → TextSink → Standing → Type 0
-text_stands start g (item_due vs) = IsAt start g (text_in start.layout vs) (opens_in vs)
+text_stands start g (item_due []) = IsAt g [] None []
+text_stands start g (item_due (v ∷ vs)) = IsAt g (text_in (text_to vs) v) (Some (open_of v)) (around_in (v ∷ vs))
 text_stands start g (item_full vs s) =
-    (text : List ℕ) × (o : Open) × Closes start.layout (indent_in vs) text o s
-    × IsAt start g (text_to start.layout vs ++ text) (o ∷ entered vs)
-text_stands start g (item_whole s) = IsAt start g (laid_out start.layout 0 (value_of s)) []
+    (t : List ℕ) × (o : Open) × (t ++ closer o.kind ≡ text (value_of s))
+    × IsAt g (text_to vs ++ t) (Some o) (around_in vs ++ option_to_list (inner_in vs))
+text_stands start g (item_whole s) = IsAt g (text (value_of s)) None []
 
 -- and within a string, with this content so far
 abbrev pub text_holds : TextSink → TextSink → List Level → Bool → List ℕ → Type 0
-text_holds start g vs is_text content =
-    IsAt start g (text_to start.layout vs ++ (opening is_text ++ content_text is_text content)) (entered vs)
+text_holds start g vs is_text content = IsWithin g (text_to vs ++ (opening is_text ++ content_text is_text content)) vs
 
--- what stands before an item is put, which stands at this level
-abbrev pub Reaches : Bool → TextSink → TextSink → ℕ → Type 0
-Reaches is_key old new n =
-    (start : TextSink) (vs : List Level) → Told TextSink text_stands is_key start old (item_due vs)
-    → (n ≡ indent_in vs) × IsAt start new (text_to start.layout vs) (entered vs)
+-- what stands before an item is put
+abbrev pub Reaches : Bool → TextSink → TextSink → Type 0
+Reaches is_key old new =
+    (start : TextSink) (vs : List Level) → Told TextSink text_stands is_key start old (item_due vs) → IsWithin new (text_to vs) vs

@@ -1,8 +1,19 @@
-use Rattle.std.proofs.Common.{◌∙◌}
+use Rattle.std.proofs.Common.{◌≡◌, ap, ◌∙◌}
 use Rattle.std.proofs.lemmas.Result.{IfOk-weaker}
-use Rattle.cbor_head.specs.Spelling.{value_of}
-use Rattle.cbor_diag.proofs.Layouts.{one-line}
+use Rattle.cbor_head.specs.Complaint.{plain}
+use Rattle.cbor_head.specs.Spelling.{Spelling, value_of}
+use Rattle.cbor_head.specs.Verdict.{accepted}
+use Rattle.cbor_diag.specs.Text.{text}
 use Rattle.cbor_diag.proofs.text_buffer.TextBuffer.diagnostic_front.Goals as goal
 
-pub returns : goal.returns
-returns c = IfOk-weaker c.text_of_front.result _ _ (λ shown h s v. h s v ∙ one-line (value_of s) 0) c.text_of_front.ensures
+same-item : {s t : Spelling} → accepted s ≡ accepted t → s ≡ t
+same-item e = cc e
+
+pub returns-in-Ok : goal.returns-in-Ok
+returns-in-Ok c =
+    let given = c.in-Ok.ensures in
+    let item = given.read.item in
+    IfOk-weaker c.finish.result _ _
+    (λ shown h s v.
+    let one = c.verdict_is_one.ensures.one c.args.limits plain c.args.bytes.now (accepted item) (accepted s) given.read.verdict v in
+    h item given.whole ∙ ap (λ (t : Spelling). text (value_of t)) (same-item one)) c.finish.ensures

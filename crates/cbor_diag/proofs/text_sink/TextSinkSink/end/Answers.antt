@@ -1,13 +1,10 @@
-use Rattle.std.proofs.Common.{refl, true, arith}
-use Rattle.cbor_diag.proofs.TextGiven.{some-open, end-shallow, ended}
+use Rattle.std.proofs.Common.{true, arith}
+use Rattle.cbor_diag.proofs.TextGiven.{some-open, ended}
 use Rattle.cbor_diag.proofs.text_sink.TextSinkSink.end.Goals as goal
 
 pub unreachable-requires : goal.unreachable-requires
 unreachable-requires c = some-open true c.args._is_map c.args.self.now c.requires.full c.in_default.not-Some
 
-pub put_close-requires : goal.put_close-requires
-put_close-requires c = end-shallow true c.args._is_map c.args.self.now c.in-Some.open c.requires.full c.in-Some.is
-
 pub returns : goal.returns
 returns c = λ yes.
-    ended c.args._is_map c.in-Some.open c.args.self.now _ c.in-Some.is c.in_ok-put_close.ensures refl c.pop-self.ensures.items (λ l. c.pop-self.ensures.variant.1 (omega (arith, l, c.args.self.now.around.ok.0)))
+    ended c.args._is_map c.in-Some.open c.args.self.now _ c.in-Some.is c.in_ok-put_closer.ensures c.pop-self.ensures.items (λ l. c.pop-self.ensures.variant.1 (omega (arith, l, c.args.self.now.around.ok.0)))

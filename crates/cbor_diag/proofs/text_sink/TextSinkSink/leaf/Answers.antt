@@ -1,10 +1,10 @@
 use Rattle.std.proofs.Common.{refl}
 use Rattle.cbor_walk.specs.Sink.{leaf_value}
 use Rattle.cbor_diag.specs.Text.{text}
-use Rattle.cbor_diag.proofs.TextGiven.{leaf-laid, given}
+use Rattle.cbor_diag.proofs.TextGiven.{given}
 use Rattle.cbor_diag.proofs.text_sink.TextSinkSink.leaf.Goals as goal
 
 pub returns : goal.returns
 returns c =
     let v = leaf_value c.args.major c.args.number in
-    given c.args.is_key v (text v) _ c.args.self.now c.reach.new.self _ c.in_ok-reach.ensures (λ l n. leaf-laid l n c.args.major c.args.number) c.in_ok-put_leaf.ensures refl refl refl
+    given c.args.is_key v (text v) c.args.self.now c.reach.new.self _ c.in_ok-reach.ensures refl (record { put = c.in_ok-put_leaf.ensures; innermost = refl; around = refl })
