@@ -1,6 +1,7 @@
 pub mod ByIndex
 pub mod Counting
 pub mod DistinctKeys
+pub mod Held
 pub mod Steps
 pub mod ValuesMade
 pub mod Views

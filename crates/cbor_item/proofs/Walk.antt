@@ -55,11 +55,11 @@ flat_valid : (ps : List (Item × Item)) → AreAllValid (flat ps) ↔ AreEntries
 flat_valid [] = ((λ h. tt), (λ h. tt))
 flat_valid (p ∷ ps) = let more = flat_valid ps in ((λ h. (h.0, h.1.0, more.0 h.1.1)), (λ h. (h.0, (h.1, more.1 h.2))))
 
-weight-all : (vs : List Value) → size_all (values_of vs) ≡ weight vs
+pub weight-all : (vs : List Value) → size_all (values_of vs) ≡ weight vs
 weight-all [] = refl
 weight-all (v ∷ vs) = ap (λ (n : ℕ). size v + n) (weight-all vs)
 
-weight-flat : (ps : List (Item × Item)) → size_entries (entries_view ps) ≡ weight (flat ps)
+pub weight-flat : (ps : List (Item × Item)) → size_entries (entries_view ps) ≡ weight (flat ps)
 weight-flat [] = refl
 weight-flat (p ∷ ps) = ap (λ (n : ℕ). size (view p.0) + (size (view p.1) + n)) (weight-flat ps)
 

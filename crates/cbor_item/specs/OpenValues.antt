@@ -128,3 +128,14 @@ abbrev mutual
   pub parts_of_entries : Entries → List ValuePart
   parts_of_entries value.no_entries = []
   parts_of_entries (value.entry k v es) = parts_of k ++ (parts_of v ++ parts_of_entries es)
+
+-- the next part may follow
+abbrev pub Fits : ValuePart → List OpenValue → Type 0
+Fits (leaf v) os = TakesValue os
+Fits (begin m n) os = TakesValue os
+Fits end os = MayEnd os
+
+-- each of these parts may follow, and they make the whole of w
+abbrev pub Makes : Value → List ValuePart → List OpenValue → Type 0
+Makes w [] os = os ≡ the_whole (w ∷ []) ∷ []
+Makes w (p ∷ ps) os = Fits p os × Makes w ps (after p os)

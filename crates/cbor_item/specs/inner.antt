@@ -3,3 +3,4 @@ pub mod Containers
 pub mod Levels
 pub mod Members
 pub mod Walk
+pub mod Within

@@ -2,6 +2,7 @@
 
 ghost use Rattle.std.specs.Prelude.{◌≡◌, ◌≤◌, IfOk, IfErr};
 ghost use Rattle.cbor_head.specs.Value.{depth, IsInRange, IsValid};
+ghost use Rattle.cbor_head.specs.declared.limits.TheConstants.{MAX_DEPTH};
 ghost use Rattle.cbor_item.specs.Refused.{Refuses};
 ghost use Rattle.cbor_item.specs.View.{view};
 
@@ -9,7 +10,7 @@ use crate::encoding::encode_distinct;
 use crate::item::Item;
 use crate::letting_go::let_go;
 use crate::within::is_within;
-use cbor_head::{KeyOrder, MAX_DEPTH, Reason};
+use cbor_head::{KeyOrder, Reason};
 use std::alloc::Global;
 use std::marker::Model;
 
@@ -49,7 +50,7 @@ impl Tree {
         ensures given_back { IfErr result (λ e. e.0 ≡ item) }
         ensures refused { IfErr result (λ e. Refuses (view item) e.1) }
     {
-        if !is_within(&item, MAX_DEPTH) {
+        if !is_within(&item) {
             return Err((item, Reason::TooDeep));
         }
         match encode_distinct(alloc, &item, KeyOrder::Bytewise) {

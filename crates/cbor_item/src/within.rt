@@ -1,70 +1,99 @@
 //! How deep an item is, and the ranges of its numbers.
 
-ghost use Rattle.std.specs.Prelude.{◌≡◌, ◌≤◌, ◌<◌, ◌^◌, ◌↔◌, IsTrue, IsUtf8, length, string_bytes};
-ghost use Rattle.cbor_head.specs.Value.{depth, depth_all, depth_entries, AreBytes, IsInRange};
-ghost use Rattle.cbor_head.specs.Value.{AreInRange, AreEntriesInRange};
+ghost use Rattle.std.specs.Prelude.{◌≡◌, ◌≤◌, ◌<◌, ◌^◌, ◌↔◌, IsTrue, length, MatchOption};
+ghost use Rattle.cbor_head.specs.Value.{depth, AreBytes, IsInRange};
 ghost use Rattle.cbor_item.specs.View.{view};
-ghost use Rattle.cbor_item.specs.inner.Members.{entries_view, values_view};
+ghost use Rattle.cbor_item.specs.inner.Walk.{left};
+ghost use Rattle.cbor_item.specs.inner.Within.{Holds, HoldsNone};
 
 use crate::item::Item;
+use crate::rest::Rest;
+use cbor_head::MAX_DEPTH;
+use std::slice;
 
-// Whether the item nests no deeper than the limit. It looks no deeper itself, and where it
+// Most items are no deeper than this,
+const FEW: usize = 16;
+// and no tree than this.
+const MOST: usize = MAX_DEPTH as usize;
+
+// Whether the item nests no deeper than a tree may. It looks no deeper itself, and where it
 // answers true it has read every number.
-#[cycle(within)]
-pub(crate) fn is_within(item: &Item, limit: u16) -> bool
-    ensures shallow { IsTrue result ↔ depth (view item.now) ≤ limit }
+pub(crate) fn is_within(item: &Item) -> bool
+    ensures shallow { IsTrue result ↔ depth (view item.now) ≤ MAX_DEPTH }
     ensures in_range { IsTrue result → IsInRange (view item.now) }
+{
+    nests_in(item, &mut [Rest::Members(&[]); FEW]) || is_within_most(item)
+}
+
+// The same of an item that may be deep: the cells take 32 KiB of the stack.
+#[inline(never)]
+fn is_within_most(item: &Item) -> bool
+    ensures shallow { IsTrue result ↔ depth (view item.now) ≤ MAX_DEPTH }
+    ensures in_range { IsTrue result → IsInRange (view item.now) }
+{
+    nests_in(item, &mut [Rest::Members(&[]); MOST])
+}
+
+// Whether it nests no deeper than there are cells: one for each container around the one at hand.
+fn nests_in<'a>(item: &'a Item, cells: &mut [Rest<'a>]) -> bool
+    ensures shallow { IsTrue result ↔ depth (view item.now) ≤ length cells.old }
+    ensures in_range { IsTrue result → IsInRange (view item.now) }
+{
+    let mut rest = Rest::Members(slice::from_ref(item));
+    let mut height = 0;
+    'items: loop {
+        match rest.next() {
+            Some((next, behind)) => {
+                rest = behind;
+                if let Some(content) = held(next) {
+                    if height == cells.len() {
+                        return false;
+                    }
+                    cells[height] = rest;
+                    height += 1;
+                    rest = content;
+                }
+            }
+            None => {
+                if height == 0 {
+                    return true;
+                }
+                height -= 1;
+                rest = cells[height];
+            }
+        }
+    }
+}
+
+// What is in an item that holds others.
+fn held(item: &Item) -> Option<Rest<'_>>
+    ensures { MatchOption result (HoldsNone (view item.now))
+        (λ content. Holds (view item.now) (left content)) }
 {
     match item {
         Item::Unsigned(n) | Item::Negative(n) => {
             let _number = *n;
-            true
+            None
         }
         Item::Bytes(bytes) => {
             check_bytes(bytes);
-            true
+            None
         }
         Item::Text(text) => {
             check_bytes(text.as_bytes());
-            true
+            None
         }
-        Item::Array(items) => limit > 0 && all_within(items, limit - 1),
-        Item::Map(pairs) => limit > 0 && pairs_within(pairs, limit - 1),
+        Item::Array(items) => Some(Rest::Members(items)),
+        Item::Map(pairs) => Some(Rest::Pairs(pairs)),
         Item::Tag(n, content) => {
             let _number = *n;
-            limit > 0 && is_within(content, limit - 1)
+            Some(Rest::Members(slice::from_ref(content)))
         }
         Item::Simple(simple) => {
             let _number = simple.number();
-            true
+            None
         }
     }
-}
-
-#[cycle(within)]
-fn all_within(items: &Vec<Item>, limit: u16) -> bool
-    ensures shallow { IsTrue result ↔ depth_all (values_view items.now.items) ≤ limit }
-    ensures in_range { IsTrue result → AreInRange (values_view items.now.items) }
-{
-    for item in items {
-        if !is_within(item, limit) {
-            return false;
-        }
-    }
-    true
-}
-
-#[cycle(within)]
-fn pairs_within(pairs: &Vec<(Item, Item)>, limit: u16) -> bool
-    ensures shallow { IsTrue result ↔ depth_entries (entries_view pairs.now.items) ≤ limit }
-    ensures in_range { IsTrue result → AreEntriesInRange (entries_view pairs.now.items) }
-{
-    for (key, content) in pairs {
-        if !is_within(key, limit) || !is_within(content, limit) {
-            return false;
-        }
-    }
-    true
 }
 
 // What the type of a slice says of its bytes.

@@ -1,4 +1,4 @@
 mod Lookups
 mod Pairs
-mod Ranges
 mod Views
+mod Walk

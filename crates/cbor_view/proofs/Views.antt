@@ -8,13 +8,16 @@ use Rattle.cbor_view.specs.inner.Levels.{open_view}
 use Rattle.cbor_view.specs.declared.level.Level.{Level}
 use Rattle.cbor_view.specs.declared.level.Level.TheVariants as levels
 use Rattle.cbor_view.specs.declared.view.View.{View, the_lemmas}
-use Rattle.cbor_view.specs.declared.view.View.TheViews.{Array, Map}
+use Rattle.cbor_view.specs.declared.view.View.TheViews.{Array, Map, Tag}
 
 pub seen-Array : (r : Bor (List View)) → seen (Array r) ≡ value.array (values_of (map seen r.now))
 seen-Array r = search (rules, the_lemmas)
 
 pub seen-Map : (r : Bor (List (View × View))) → seen (Map r) ≡ value.map (entries_of (map (λ p. (seen p.0, seen p.1)) r.now))
 seen-Map r = search (rules, the_lemmas)
+
+pub seen-Tag : (n : ℕ) (b : Bor View) → seen (Tag n b) ≡ value.tag n (seen b.now)
+seen-Tag n b = search (rules, the_lemmas)
 
 -- the value of the array that ends
 pub ended-array : (top : Level) (first : ℕ) (ms : List View) (ps : List (View × View)) (r : Bor (List View))

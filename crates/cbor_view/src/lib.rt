@@ -18,6 +18,7 @@ mod joined;
 mod kinds;
 mod level;
 mod lookup;
+mod rest;
 mod same;
 mod to_tree;
 mod view;

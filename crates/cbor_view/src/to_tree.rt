@@ -1,17 +1,20 @@
 //! Items and trees of views.
 
 ghost use Rattle.std.specs.Prelude.{◌≡◌, ◌≤◌, IfOk, IfErr};
-ghost use Rattle.cbor_head.specs.Value.{depth, IsInRange, IsValid, AreInRange, AreEntriesInRange};
+ghost use Rattle.cbor_head.specs.Value.{depth, IsInRange, IsValid};
 ghost use Rattle.cbor_head.specs.declared.limits.TheConstants.{MAX_DEPTH};
 ghost use Rattle.cbor_item.specs.Sent.{no_memory};
-ghost use Rattle.cbor_item.specs.View.{view as value_of, values_of, entries_of};
-ghost use Rattle.cbor_view.specs.Seen.{seen, seen_all, seen_pairs};
-ghost use Rattle.cbor_view.specs.inner.Items.{values_in, entries_in};
+ghost use Rattle.cbor_item.specs.OpenValues.{standing, TakesValue};
+ghost use Rattle.cbor_item.specs.View.{view as value_of};
+ghost use Rattle.cbor_view.specs.Seen.{seen};
+ghost use Rattle.cbor_view.specs.inner.Walk.{IsBegun};
 
+use crate::rest::Rest;
 use crate::view::View;
-use cbor_head::{Reason, Refusal, Simple};
-use cbor_item::{Item, Tree};
+use cbor_head::{Major, Reason, Refusal, Simple};
+use cbor_item::{Item, Tree, TreeBuilder};
 use std::alloc::{AllocError, Global};
+use std::slice;
 
 impl View<'_> {
     /// The item, with all that it holds. Of a `Simple` the number has to be a simple value's: in
@@ -38,51 +41,67 @@ impl View<'_> {
     }
 }
 
-#[cycle(item_of)]
+// What is open lies in a list and not on the stack, so a view may be of any depth.
 fn item_of(alloc: Global, view: &View<'_>) -> Result<Item, AllocError>
     requires { IsInRange (seen view.now) }
     ensures { IfOk result (λ item. value_of item ≡ seen view.now) }
 {
+    let mut builder = TreeBuilder::new(alloc);
+    let mut rest = Rest::Members(slice::from_ref(view));
+    let mut outer = Vec::new(alloc);
+    'views: loop {
+        match rest.next() {
+            Some((next, behind)) => {
+                rest = behind;
+                if let Some(content) = begin(alloc, &mut builder, next)? {
+                    outer.push(rest)?;
+                    rest = content;
+                }
+            }
+            None => {
+                let Some(behind) = outer.pop() else {
+                    break;
+                };
+                builder.end()?;
+                rest = behind;
+            }
+        }
+    }
+    Ok(builder.finish())
+}
+
+// Gives a view that holds no other; begins one that does, and answers what is in it.
+fn begin<'a>(
+    alloc: Global,
+    builder: &mut TreeBuilder,
+    view: &'a View<'a>,
+) -> Result<Option<Rest<'a>>, AllocError>
+    requires takes { TakesValue (standing builder.old) }
+    requires in_range { IsInRange (seen view.now) }
+    ensures { IfOk result (λ content. IsBegun (seen view.now) (standing builder.old)
+        (standing builder.new) content) }
+{
     match view {
-        View::Unsigned(number) => Ok(Item::Unsigned(*number)),
-        View::Negative(number) => Ok(Item::Negative(*number)),
-        View::Bytes(content) => Ok(Item::Bytes(Vec::from_slice(alloc, content)?)),
-        View::Text(content) => Ok(Item::Text(String::from_str(alloc, content)?)),
-        View::Array(members) => Ok(Item::Array(items_of(alloc, members)?)),
-        View::Map(pairs) => Ok(Item::Map(pairs_of(alloc, pairs)?)),
+        View::Unsigned(number) => builder.leaf(Item::Unsigned(*number))?,
+        View::Negative(number) => builder.leaf(Item::Negative(*number))?,
+        View::Bytes(content) => builder.leaf(Item::Bytes(Vec::from_slice(alloc, content)?))?,
+        View::Text(content) => builder.leaf(Item::Text(String::from_str(alloc, content)?))?,
+        View::Array(members) => {
+            builder.begin(Major::Array, 0)?;
+            return Ok(Some(Rest::Members(members)));
+        }
+        View::Map(pairs) => {
+            builder.begin(Major::Map, 0)?;
+            return Ok(Some(Rest::Pairs(pairs)));
+        }
         View::Tag(number, content) => {
-            let content = item_of(alloc, content)?;
-            Ok(Item::Tag(*number, Box::new(alloc, content)?))
+            builder.begin(Major::Tag, *number)?;
+            return Ok(Some(Rest::Members(slice::from_ref(content))));
         }
         View::Simple(number) => match Simple::new(*number) {
-            Some(simple) => Ok(Item::Simple(simple)),
+            Some(simple) => builder.leaf(Item::Simple(simple))?,
             None => unreachable!(),
         },
     }
-}
-
-#[cycle(item_of)]
-fn items_of(alloc: Global, members: &[View<'_>]) -> Result<Vec<Item>, AllocError>
-    requires { AreInRange (values_of (seen_all members.now)) }
-    ensures { IfOk result (λ items. values_in items.items ≡ values_of (seen_all members.now)) }
-{
-    let mut items = Vec::new(alloc);
-    for member in members {
-        items.push(item_of(alloc, member)?)?;
-    }
-    Ok(items)
-}
-
-#[cycle(item_of)]
-fn pairs_of(alloc: Global, pairs: &[(View<'_>, View<'_>)]) -> Result<Vec<(Item, Item)>, AllocError>
-    requires { AreEntriesInRange (entries_of (seen_pairs pairs.now)) }
-    ensures { IfOk result (λ items. entries_in items.items ≡ entries_of (seen_pairs pairs.now)) }
-{
-    let mut items = Vec::new(alloc);
-    for (key, value) in pairs {
-        let key = item_of(alloc, key)?;
-        let value = item_of(alloc, value)?;
-        items.push((key, value))?;
-    }
-    Ok(items)
+    Ok(None)
 }

@@ -3,7 +3,7 @@
 
 use bumpalo::Bump;
 use cbor_head::Limits;
-use cbor_item::Item;
+use cbor_item::{Item, KeyOrder, encode};
 use cbor_reader::read_view;
 use cbor_view::View;
 use std::process::Abort;
@@ -66,6 +66,20 @@ fn is_read_as_an_item(rt: HostRuntime) -> Result<(), Fail> {
         panic!(rt; "no array")
     };
     assert!(rt; items.len() == 3);
+    Ok(())
+}
+
+// The greatest depth: 1024 arrays around 7.
+#[test]
+fn becomes_the_deepest_tree(rt: HostRuntime) -> Result<(), Fail> {
+    let arena = Bump::new(rt.alloc());
+    let mut input = [0x81; 1025];
+    input[1024] = 7;
+    let limits = Limits::new(1024, 1025).expect(&rt, "limits");
+    let (view, _) = read_view(rt.alloc(), &input, limits, &arena)?;
+    let tree = view.to_tree(rt.alloc())?;
+    let bytes = encode(rt.alloc(), &tree, KeyOrder::Bytewise)?;
+    assert!(rt; bytes.as_slice() == input.as_slice());
     Ok(())
 }
 

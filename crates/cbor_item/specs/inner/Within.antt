@@ -1,0 +1,25 @@
+-- How deep what is still to come of open containers nests.
+use Rattle.std.specs.Prelude.{ℕ, suc, ◌+◌, ◌≡◌, ◌≤◌, List, [], ◌∷◌, length}
+use Rattle.cbor_head.specs.Value.{Value, depth, depth_all, IsInRange, AreInRange}
+use Rattle.cbor_item.specs.View.{values_of}
+use Rattle.cbor_item.specs.inner.Walk.{size, weight}
+
+-- an item holds no other
+pub record HoldsNone (v : Value) : Type 0 where
+  pub shallow : depth v ≡ 0
+  pub in_range : IsInRange v
+
+-- it holds these
+pub record Holds (v : Value) (vs : List Value) : Type 0 where
+  pub deeper : depth v ≡ suc (depth_all (values_of vs))
+  pub in_range : AreInRange (values_of vs) → IsInRange v
+  pub smaller : size v ≡ suc (suc (weight vs))
+
+-- with what is to come of each, the innermost first, none is deeper than this in the outermost
+abbrev pub AreWithin : ℕ → List (List Value) → Type 0
+AreWithin n [] = Unit {0}
+AreWithin n (vs ∷ vss) = (depth_all (values_of vs) + length vss ≤ n) × AreWithin n vss
+
+abbrev pub AreAllInRange : List (List Value) → Type 0
+AreAllInRange [] = Unit {0}
+AreAllInRange (vs ∷ vss) = AreInRange (values_of vs) × AreAllInRange vss

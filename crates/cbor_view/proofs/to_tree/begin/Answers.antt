@@ -1,0 +1,36 @@
+use Rattle.std.proofs.Common.{refl, subst, rules}
+use Rattle.cbor_head.specs.Value as value
+use Rattle.cbor_head.specs.Value.{IsInRange}
+use Rattle.cbor_item.specs.OpenValues.{standing}
+use Rattle.cbor_item.specs.declared.item.Item as items
+use Rattle.cbor_view.specs.Seen.{seen}
+use Rattle.cbor_view.specs.declared.view.View.{View, the_lemmas}
+use Rattle.cbor_view.proofs.Walk.{leaf_begun, array_begun, map_begun, tag_begun}
+use Rattle.cbor_view.proofs.to_tree.begin.Goals as goal
+use Rattle.cbor_view.proofs.to_tree.begin.Goals.{in-Unsigned+in_ok-leaf-in-Unsigned, in-Negative+in_ok-leaf-in-Negative, in-Bytes+in_ok-from_slice-in-Bytes+in_ok-leaf-in-Bytes, in-Text+in_ok-from_str-in-Text+in_ok-leaf-in-Text, in-Simple+in-Some+in_ok-leaf-in-Some}
+
+pub returns-in-Array : goal.returns-in-Array
+returns-in-Array c =
+    let h = subst (λ (v : View). IsInRange (seen v)) c.in-Array.is c.requires.in_range in
+    rw (c.in-Array.is) (array_begun c.in-Array.members (standing c.args.builder.now) _ h (search rules))
+
+pub returns-in-Map : goal.returns-in-Map
+returns-in-Map c =
+    let h = subst (λ (v : View). IsInRange (seen v)) c.in-Map.is c.requires.in_range in
+    rw (c.in-Map.is) (map_begun c.in-Map.pairs (standing c.args.builder.now) _ h (search rules))
+
+pub returns-in-Tag : goal.returns-in-Tag
+returns-in-Tag c =
+    let h = subst (λ (v : View). IsInRange (seen v)) c.in-Tag.is c.requires.in_range in
+    rw (c.in-Tag.is) (tag_begun c.in-Tag.number c.in-Tag.content c.from_ref.result (standing c.args.builder.now) _ (search rules) h (search rules))
+
+pub returns : goal.returns
+returns c =
+    let os = standing c.args.builder.now in
+    elim c.match-view.branch [
+      | in-Unsigned+in_ok-leaf-in-Unsigned w ↦ leaf_begun _ (value.unsigned w.in-Unsigned.number) os _ (search (rules, the_lemmas)) refl (search (rules, items.the_lemmas))
+      | in-Negative+in_ok-leaf-in-Negative w ↦ leaf_begun _ (value.negative w.in-Negative.number) os _ (search (rules, the_lemmas)) refl (search (rules, items.the_lemmas))
+      | in-Bytes+in_ok-from_slice-in-Bytes+in_ok-leaf-in-Bytes w ↦ leaf_begun _ (value.bytes w.in-Bytes.content.now) os _ (search (rules, the_lemmas)) refl (search (rules, items.the_lemmas))
+      | in-Text+in_ok-from_str-in-Text+in_ok-leaf-in-Text w ↦ leaf_begun _ (value.text w.in-Text.content.now) os _ (search (rules, the_lemmas)) refl (search (rules, items.the_lemmas))
+      | in-Simple+in-Some+in_ok-leaf-in-Some w ↦ leaf_begun _ (value.simple w.in-Simple.number) os _ (search (rules, the_lemmas)) refl (search (rules, items.the_lemmas))
+    ]

@@ -1,0 +1,21 @@
+use Rattle.std.proofs.Common.{List, ◌∷◌, map, subst}
+use Rattle.std.specs.Prelude.{reverse}
+use Rattle.cbor_head.specs.Value.{Value}
+use Rattle.cbor_item.specs.OpenValues.{standing}
+use Rattle.cbor_view.specs.Seen.{seen}
+use Rattle.cbor_view.specs.inner.Walk.{left, IsBegun}
+use Rattle.cbor_view.proofs.Walk.{Walks, walks_first, walks_begun, pushed}
+use Rattle.cbor_view.proofs.to_tree.item_of.Goals as goal
+
+pub views-init : goal.views-init
+views-init c = rw (c.from_ref.ensures.value, c.new-outer.ensures.items, c.new-builder.ensures) (walks_first _ c.requires)
+
+pub views-preserved-in-Some-2 : goal.views-preserved-in-Some-2
+views-preserved-in-Some-2 c =
+    let w = seen c.args.view.now in
+    let v = seen c.in-Some.next.now in
+    let os = standing c.views.builder in
+    let vss = map left (reverse c.views.outer.items) in
+    let k = subst (λ (vs : List Value). Walks w (vs ∷ vss) os) c.in-Some.ensures c.views.invariant in
+    let begun = subst (IsBegun v os (standing c.begin.new.builder)) c.in-Some-2.is c.in_ok-content-in-Some.ensures in
+    rw (pushed _ _ _ _ c.in_ok-push-in-Some.ensures.items) (walks_begun w v c.in-Some-2.content (left c.in-Some.behind) vss os _ k begun)
