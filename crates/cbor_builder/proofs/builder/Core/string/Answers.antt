@@ -1,8 +1,7 @@
-use Rattle.std.proofs.Common.{ℕ, List, ◌++◌, append_assoc, take, ap, ◌∙◌}
+use Rattle.std.proofs.Common.{◌++◌, take}
 use Rattle.std.specs.Prelude.{reverse}
 use Rattle.std.proofs.lemmas.Result.{on_ok_weaker}
 use Rattle.cbor_head.specs.Head.{shortest_head}
-use Rattle.cbor_buffer.specs.Moved.{meant}
 use Rattle.cbor_builder.proofs.Standing.{member_given, member_ready}
 use Rattle.cbor_builder.proofs.builder.Core.string.Goals as goal
 
@@ -10,32 +9,20 @@ pub returns-clause-laid : goal.returns-clause-laid
 returns-clause-laid c =
     let s = c.args.self.now in
     let e = c.complete.ensures in
-    let h = c.in_ok-head.ensures in
-    let x = c.in_ok-extend.ensures in
-    let head = shortest_head c.args.major c.args.count in
-    let meant_is = x.meant ∙ ap (λ (xs : List ℕ). xs ++ (take c.args.count c.args.front.now)) h.meant ∙ append_assoc (meant s.out) head (take c.args.count c.args.front.now) in
-    let lies_is = x.lies ∙ ap (λ (xs : List ℕ). xs ++ (take c.args.count c.args.front.now)) h.lies ∙ append_assoc s.out.buf head (take c.args.count c.args.front.now) in
-    on_ok_weaker c.complete.result (λ spans. (member_given s.order s.out c.extend.new.self (head ++ (take c.args.count c.args.front.now)) s.spans.items s.top (reverse s.below.items) c.len-at.result c.complete.new.spans.items c.complete.new.frame
-    c.requires.laid c.requires.takes x.whole meant_is lies_is c.len-at.ensures.meant (e.from, e.start, e.shape, spans, e.rises)).0) e.spans
+    let x = c.in_ok-string.ensures in
+    on_ok_weaker c.complete.result (λ spans. (member_given s.order s.out c.string.new.self (shortest_head c.args.major c.args.count ++ take c.args.count c.args.front.now) s.spans.items s.top (reverse s.below.items) c.len-at.result c.complete.new.spans.items c.complete.new.frame
+    c.requires.laid c.requires.takes x.whole x.meant x.lies c.len-at.ensures.meant (e.from, e.start, e.shape, spans, e.rises)).0) e.spans
 
 pub returns-clause-given : goal.returns-clause-given
 returns-clause-given c =
     let s = c.args.self.now in
     let e = c.complete.ensures in
-    let h = c.in_ok-head.ensures in
-    let x = c.in_ok-extend.ensures in
-    let head = shortest_head c.args.major c.args.count in
-    let meant_is = x.meant ∙ ap (λ (xs : List ℕ). xs ++ (take c.args.count c.args.front.now)) h.meant ∙ append_assoc (meant s.out) head (take c.args.count c.args.front.now) in
-    let lies_is = x.lies ∙ ap (λ (xs : List ℕ). xs ++ (take c.args.count c.args.front.now)) h.lies ∙ append_assoc s.out.buf head (take c.args.count c.args.front.now) in
-    on_ok_weaker c.complete.result (λ spans. (member_given s.order s.out c.extend.new.self (head ++ (take c.args.count c.args.front.now)) s.spans.items s.top (reverse s.below.items) c.len-at.result c.complete.new.spans.items c.complete.new.frame
-    c.requires.laid c.requires.takes x.whole meant_is lies_is c.len-at.ensures.meant (e.from, e.start, e.shape, spans, e.rises)).1) e.spans
+    let x = c.in_ok-string.ensures in
+    on_ok_weaker c.complete.result (λ spans. (member_given s.order s.out c.string.new.self (shortest_head c.args.major c.args.count ++ take c.args.count c.args.front.now) s.spans.items s.top (reverse s.below.items) c.len-at.result c.complete.new.spans.items c.complete.new.frame
+    c.requires.laid c.requires.takes x.whole x.meant x.lies c.len-at.ensures.meant (e.from, e.start, e.shape, spans, e.rises)).1) e.spans
 
 pub complete-requires-clause-within : goal.complete-requires-clause-within
 complete-requires-clause-within c =
     let s = c.args.self.now in
-    let h = c.in_ok-head.ensures in
-    let x = c.in_ok-extend.ensures in
-    let head = shortest_head c.args.major c.args.count in
-    let meant_is = x.meant ∙ ap (λ (xs : List ℕ). xs ++ (take c.args.count c.args.front.now)) h.meant ∙ append_assoc (meant s.out) head (take c.args.count c.args.front.now) in
-    let lies_is = x.lies ∙ ap (λ (xs : List ℕ). xs ++ (take c.args.count c.args.front.now)) h.lies ∙ append_assoc s.out.buf head (take c.args.count c.args.front.now) in
-    member_ready s.order s.out c.extend.new.self (head ++ (take c.args.count c.args.front.now)) s.spans.items s.top (reverse s.below.items) c.requires.laid x.whole meant_is lies_is
+    let x = c.in_ok-string.ensures in
+    member_ready s.order s.out c.string.new.self (shortest_head c.args.major c.args.count ++ take c.args.count c.args.front.now) s.spans.items s.top (reverse s.below.items) c.requires.laid x.whole x.meant x.lies
