@@ -35,10 +35,7 @@ no-front limits o input f (of_verdict w) g h = refused-front limits o input f w
 no-front limits o input f (of_reader p l m is w) g h = absurd (g (ap (λ (x : Refusal). x.reason) is))
 no-front limits o input f (of_memory p l m is w) g h = absurd (h (ap (λ (x : Refusal). x.reason) is))
 
-pub has-pub refused-front : (limits : Bounds) (o : KeyOrder) (input : List ℕ) (f : Refusal) → IsVerdict limits (strict o) input (refused f) → HasNoCanonicalFront limits o input
-refused-front limits o input f w = λ v b. let (s, accepts) = strict_accepts limits o input v b in not_both limits (strict o) input s f accepts w
-
-no-front : (limits : Bounds) (o : KeyOrder) (from : Option (List ℕ)) (f : Refusal) → IfSome from (λ input. IsUnread limits (strict o) input f) → f.reason ≢ Read → f.reason ≢ Memory → IfSome from (HasNoCanonicalFront limits o)
+pub has-no-front : (limits : Bounds) (o : KeyOrder) (from : Option (List ℕ)) (f : Refusal) → IfSome from (λ input. IsUnread limits (strict o) input f) → f.reason ≢ Read → f.reason ≢ Memory → IfSome from (HasNoCanonicalFront limits o)
 has-no-front limits o from f h e g = some-so from (λ input. IsUnread limits (strict o) input f) (HasNoCanonicalFront limits o) (λ input i. no-front limits o input f i e g) h
 
 pub front-canonical : (limits : Bounds) (o : KeyOrder) (from : Option (List ℕ)) (v : Value) (count k : ℕ) → IfSome from (λ input. IsReadAs limits (strict o) input v count) → k ≡ count → IfSome from (λ input. IsCanonicalFront limits o input k)

@@ -1,5 +1,6 @@
 -- A walk over a view, a step at a time.
 use Rattle.std.proofs.Common.{◌≡◌, ℕ, List, [], ◌∷◌, ◌++◌, map, Bor, append_assoc, append-nil, refl, sym, ap, ◌∙◌, subst}
+use Rattle.std.specs.List.{AllByRecursion}
 use Rattle.std.specs.Prelude.{Some, None, reverse}
 use Rattle.std.proofs.lemmas.List.{reverse-append}
 use Rattle.cbor_head.specs.declared.major.Major.TheVariants as Major
@@ -7,8 +8,6 @@ use Rattle.cbor_head.specs.Value as value
 use Rattle.cbor_head.specs.Value.{Value, IsInRange, AreInRange, AreEntriesInRange}
 use Rattle.cbor_item.specs.OpenValues.{OpenValue, ValuePart, leaf, begin, end, after, give, opened, parts_of, parts_of_entries, TakesValue, Makes, the_whole}
 use Rattle.cbor_item.specs.View.{values_of}
-use Rattle.cbor_item.specs.inner.Within.{AreAllInRange}
-use Rattle.cbor_item.proofs.ValuesMade.{makes_whole}
 use Rattle.cbor_view.specs.Seen.{seen}
 use Rattle.cbor_view.specs.inner.Walk.{flat, left, left_of_all, parts_in, parts_behind, parts_left, IsBegun}
 use Rattle.cbor_view.specs.inner.Pairs.{Pair, entries}
@@ -21,11 +20,11 @@ use Rattle.cbor_view.proofs.Views.{seen-Array, seen-Map, seen-Tag}
 -- what is to come may follow where these are open, and makes w
 pub record Walks (w : Value) (vss : List (List Value)) (os : List OpenValue) : Type 0 where
   pub makes : Makes w (parts_left vss) os
-  pub in_range : AreAllInRange vss
+  pub in_range : AllByRecursion (λ vs. AreInRange (values_of vs)) vss
 
-pub walks_first : (w : Value) → IsInRange w → Walks w ((w ∷ []) ∷ []) (the_whole [] ∷ [])
-walks_first w h = record {
-  makes = subst (λ ps. Makes w ps (the_whole [] ∷ [])) (sym (append-nil (parts_of w ++ []) ∙ append-nil (parts_of w))) (makes_whole w);
+pub walks_first : (w : Value) → Makes w (parts_of w) (the_whole [] ∷ []) → IsInRange w → Walks w ((w ∷ []) ∷ []) (the_whole [] ∷ [])
+walks_first w made h = record {
+  makes = subst (λ ps. Makes w ps (the_whole [] ∷ [])) (sym (append-nil (parts_of w ++ []) ∙ append-nil (parts_of w))) made;
   in_range = ((h, tt), tt);
 }
 

@@ -12,7 +12,7 @@ ghost use Rattle.cbor_view.specs.inner.Walk.{IsBegun};
 use crate::rest::Rest;
 use crate::view::View;
 use cbor_head::{Major, Reason, Refusal, Simple};
-use cbor_item::{Item, Tree, TreeBuilder};
+use cbor_item::{Item, Tree, TreeBuilder, parts_make_the_value};
 use std::alloc::{AllocError, Global};
 use std::slice;
 
@@ -46,6 +46,7 @@ fn item_of(alloc: Global, view: &View<'_>) -> Result<Item, AllocError>
     requires { IsInRange (seen view.now) }
     ensures { IfOk result (λ item. value_of item ≡ seen view.now) }
 {
+    parts_make_the_value();
     let mut builder = TreeBuilder::new(alloc);
     let mut rest = Rest::Members(slice::from_ref(view));
     let mut outer = Vec::new(alloc);

@@ -19,7 +19,3 @@ pub record Holds (v : Value) (vs : List Value) : Type 0 where
 abbrev pub AreWithin : ℕ → List (List Value) → Type 0
 AreWithin n [] = Unit {0}
 AreWithin n (vs ∷ vss) = (depth_all (values_of vs) + length vss ≤ n) × AreWithin n vss
-
-abbrev pub AreAllInRange : List (List Value) → Type 0
-AreAllInRange [] = Unit {0}
-AreAllInRange (vs ∷ vss) = AreInRange (values_of vs) × AreAllInRange vss

@@ -1,16 +1,17 @@
 use Rattle.std.proofs.Common.{◌≤◌, ◌↔◌, length}
+use Rattle.std.specs.List.{AllByRecursion}
 use Rattle.std.specs.Prelude.{take}
-use Rattle.cbor_head.specs.Value.{depth, IsInRange}
-use Rattle.cbor_item.specs.View.{view}
+use Rattle.cbor_head.specs.Value.{depth, IsInRange, AreInRange}
+use Rattle.cbor_item.specs.View.{view, values_of}
 use Rattle.cbor_item.specs.inner.Walk.{left_of_all, weight_of_all}
-use Rattle.cbor_item.specs.inner.Within.{AreWithin, AreAllInRange}
+use Rattle.cbor_item.specs.inner.Within.{AreWithin}
 use Rattle.cbor_item.proofs.within.nests_in.Given as goal
 
 abbrev pub invariant-items : goal.invariant-items
 invariant-items l = record {
   height : l.height ≤ length l.cells;
   within : (depth (view l.item) ≤ length l.cells) ↔ AreWithin (length l.cells) (left_of_all l.rest (take l.height l.cells));
-  in_range : AreAllInRange (left_of_all l.rest (take l.height l.cells)) → IsInRange (view l.item);
+  in_range : AllByRecursion (λ vs. AreInRange (values_of vs)) (left_of_all l.rest (take l.height l.cells)) → IsInRange (view l.item);
 }
 
 abbrev pub decreases-items : goal.decreases-items

@@ -8,7 +8,7 @@ use Rattle.cbor_view.proofs.Walk.{Walks, walks_first, walks_begun, pushed}
 use Rattle.cbor_view.proofs.to_tree.item_of.Goals as goal
 
 pub views-init : goal.views-init
-views-init c = rw (c.from_ref.ensures.value, c.new-outer.ensures.items, c.new-builder.ensures) (walks_first _ c.requires)
+views-init c = rw (c.from_ref.ensures.value, c.new-outer.ensures.items, c.new-builder.ensures) (walks_first _ (c.parts_make_the_value.ensures _) c.requires)
 
 pub views-preserved-in-Some-2 : goal.views-preserved-in-Some-2
 views-preserved-in-Some-2 c =
