@@ -12,6 +12,7 @@ pub mod GivenParts
 pub mod GivenStops
 pub mod HeadComplaints
 pub mod KeyOrder
+pub mod Lefts
 pub mod LevelPaths
 pub mod OtherKeys
 pub mod PathForm

@@ -2,21 +2,48 @@
 
 ghost use Rattle.std.specs.Prelude.{◌≡◌, ◌≤◌, ◌-◌, ◌∷◌, ℕ, length};
 ghost use Rattle.cbor_walk.specs.inner.Building.{IsItem, IsDueIn, Takes, IsBreakDue, TakesBreak};
-ghost use Rattle.cbor_walk.specs.inner.Building.{TakesFront};
+ghost use Rattle.cbor_walk.specs.inner.Building.{TakesFront, Leaves, LeavesWithin};
+ghost use Rattle.cbor_walk.specs.declared.part.Part.{Part};
 ghost use Rattle.cbor_walk.specs.inner.Stack.{standing};
 
 use crate::building::Building;
 use crate::level::Due;
 use crate::open::Open;
-use crate::part::Part;
+use crate::part::{Left, Part};
 use crate::sink::Sink;
 use cbor_head::Major;
 
 impl<S> Building<S> {
     /// Takes what begins with this byte before these bytes, if it is an opener without a length, or
-    /// a break.
+    /// a break. How many bytes are left behind it comes in a register: for a slice, room in memory
+    /// would be made ready at each item.
     #[inline(never)]
     pub(crate) fn take_endless<'a>(
+        &mut self,
+        first: u8,
+        behind: &'a [u8],
+        cells: &mut [Open],
+        depth: usize,
+    ) -> Left
+    where
+        S: Sink<'a>,
+        requires cells { self.old.stack.height ≤ length cells.old }
+        requires due { IsDueIn S S.stands S.trusts depth (standing Open self.old.stack cells.old) self.old.sink
+            (first ∷ behind.now) }
+        ensures cells { self.new.stack.height ≤ length cells.new }
+        ensures within { LeavesWithin behind.now result }
+        ensures takes { (part : Part) → Leaves behind.now result part
+            → Takes S S.stands S.trusts part depth (first ∷ behind.now)
+            (standing Open self.old.stack cells.old) self.old.sink
+            (standing Open self.new.stack cells.new) self.new.sink }
+        ensures front { (part : Part) → Leaves behind.now result part
+            → TakesFront part (depth - self.old.stack.height) self.old.stack.top (first ∷ behind.now) }
+    {
+        self.endless_part(first, behind, cells, depth).left()
+    }
+
+    #[inline(always)]
+    fn endless_part<'a>(
         &mut self,
         first: u8,
         behind: &'a [u8],

@@ -6,6 +6,7 @@ ghost use Rattle.cbor_walk.specs.inner.Building.{IsDueIn, Takes, IsHeadDue, IsHe
 ghost use Rattle.cbor_walk.specs.inner.Building.{IsOpenerDue, TakesOpener, TakesCounted};
 ghost use Rattle.cbor_walk.specs.inner.Building.{IsItem, IsToEndFor, EndsItem, EndsBefore, Counts};
 ghost use Rattle.cbor_walk.specs.inner.Building.{HasTaken, TakesFront, TakesHeadFront, TakesCountedFront, TakesOpenerFront};
+ghost use Rattle.cbor_walk.specs.inner.Building.{left_of, Leaves, LeavesWithin};
 ghost use Rattle.cbor_walk.specs.inner.Kept.{IsFitFront};
 ghost use Rattle.cbor_walk.specs.inner.Stack.{standing};
 
@@ -30,7 +31,44 @@ pub(crate) enum Part<'a> {
     Stopped,
 }
 
+/// The same in two words: what is behind it is so many bytes.
+#[derive(Clone, Copy)]
+pub(crate) enum Left {
+    Item(usize),
+    Head(usize),
+    Untaken,
+    Stopped,
+}
+
+impl Left {
+    // Behind it are the last of these bytes.
+    #[inline(always)]
+    fn of(self, bytes: &[u8]) -> Part<'_>
+        requires { LeavesWithin bytes.now self }
+        ensures { Leaves bytes.now self result }
+    {
+        match self {
+            Left::Item(count) => Part::Item(&bytes[bytes.len() - count..]),
+            Left::Head(count) => Part::Head(&bytes[bytes.len() - count..]),
+            Left::Untaken => Part::Untaken,
+            Left::Stopped => Part::Stopped,
+        }
+    }
+}
+
 impl<'a> Part<'a> {
+    #[inline(always)]
+    pub(crate) fn left(self) -> Left
+        ensures { result ≡ left_of self.entry }
+    {
+        match self {
+            Part::Item(behind) => Left::Item(behind.len()),
+            Part::Head(behind) => Left::Head(behind.len()),
+            Part::Untaken => Left::Untaken,
+            Part::Stopped => Left::Stopped,
+        }
+    }
+
     // The same, taken apart and put together again: so what takes a part has its answer in registers,
     // though a call writes its own into memory.
     #[inline(always)]
@@ -74,7 +112,7 @@ impl<S> Building<S> {
             if is_other_key::<KINDS>(self.stack.top.due, rest) {
                 return Part::Untaken;
             }
-            return self.take_endless(*first, behind, cells, depth).unpacked();
+            return self.take_endless(*first, behind, cells, depth).of(behind);
         }
         let Some(head) = read_argument(low, behind) else {
             return Part::Untaken;

@@ -1,5 +1,5 @@
 -- What the walk over a valid item holds: of the open containers what is still to come, and a sink that took what is complete.
-use Rattle.std.specs.Prelude.{◌≡◌, ℕ, zero, suc, ◌-◌, ◌^◌, ◌<◌, ◌≤◌, ◌⊎◌, Bool, true, false, Option, Some, None, List, [], ◌∷◌, ◌++◌, length, take, IsUtf8}
+use Rattle.std.specs.Prelude.{◌≡◌, ℕ, zero, suc, ◌-◌, ◌^◌, ◌<◌, ◌≤◌, ◌⊎◌, Bool, true, false, Option, Some, None, List, [], ◌∷◌, ◌++◌, length, take, drop, IsUtf8}
 use Rattle.cbor_head.specs.Complaint.{plain}
 use Rattle.cbor_head.specs.Head.{Holds, IsSimple, head, shortest}
 use Rattle.cbor_head.specs.Limits.{Bounds, bounds, with_keys}
@@ -22,6 +22,8 @@ use Rattle.cbor_walk.specs.declared.level.Due.{Due}
 use Rattle.cbor_walk.specs.declared.level.Due.TheVariants.{Item, Key, Value}
 use Rattle.cbor_walk.specs.declared.open.Open.{Open}
 use Rattle.cbor_walk.specs.declared.part.Part.{Part}
+use Rattle.cbor_walk.specs.declared.part.Left.{Left}
+use Rattle.cbor_walk.specs.declared.part.Left.TheVariants as left
 use Rattle.cbor_walk.specs.declared.part.Part.TheVariants as part
 use Rattle.cbor_walk.specs.declared.stack.Stack.{Stack}
 use Rattle.cbor_walk.specs.Sink.{IsOpened, StandsFull, Told}
@@ -161,6 +163,26 @@ abbrev pub HasTaken : Part → Type 0
 HasTaken (part.Item behind) = Unit {0}
 HasTaken (part.Head behind) = Unit {0}
 HasTaken _ = ⊥
+
+-- with so many bytes behind it
+abbrev pub left_of : Part → Left
+left_of (part.Item behind) = left.Item (length behind.now)
+left_of (part.Head behind) = left.Head (length behind.now)
+left_of part.Untaken = left.Untaken
+left_of part.Stopped = left.Stopped
+
+abbrev pub LeavesWithin : List ℕ → Left → Type 0
+LeavesWithin bytes (left.Item count) = count ≤ length bytes
+LeavesWithin bytes (left.Head count) = count ≤ length bytes
+LeavesWithin bytes _ = Unit {0}
+
+-- behind it are so many of these bytes, the last
+abbrev pub Leaves : List ℕ → Left → Part → Type 0
+Leaves bytes (left.Item count) (part.Item behind) = behind.now ≡ drop (length bytes - count) bytes
+Leaves bytes (left.Head count) (part.Head behind) = behind.now ≡ drop (length bytes - count) bytes
+Leaves bytes left.Untaken part.Untaken = Unit {0}
+Leaves bytes left.Stopped part.Stopped = Unit {0}
+Leaves bytes _ _ = ⊥
 
 -- what is taken ends before these
 abbrev pub EndsBefore : Part → List ℕ → Type 0
