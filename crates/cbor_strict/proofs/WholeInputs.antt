@@ -5,7 +5,7 @@ use Rattle.cbor_head.specs.Limits.{Bounds}
 use Rattle.cbor_head.specs.Value.{Value}
 use Rattle.cbor_head.specs.Spelling.{value_of}
 use Rattle.cbor_head.specs.Complaint.{strict}
-use Rattle.cbor_head.specs.Verdict.{refused}
+use Rattle.cbor_head.specs.Verdict.{IsVerdict, refused}
 use Rattle.cbor_head.specs.declared.order.KeyOrder.{KeyOrder}
 use Rattle.cbor_head.specs.declared.reason.Reason.TheVariants.{Read, Memory}
 use Rattle.cbor_head.specs.declared.reason.Refusal.{Refusal}
