@@ -1,8 +1,7 @@
-pub mod ByIndex
 pub mod Counting
 pub mod DistinctKeys
 pub mod Held
-pub mod Steps
+pub mod Paired
 pub mod ValuesMade
 pub mod Views
 pub mod Walk

@@ -2,5 +2,6 @@
 pub mod Containers
 pub mod Levels
 pub mod Members
+pub mod Pairing
 pub mod Walk
 pub mod Within

@@ -17,6 +17,7 @@ mod encoding;
 mod item;
 mod letting_go;
 mod level;
+mod pairing;
 mod parts_law;
 mod rest;
 mod tree;

@@ -6,7 +6,7 @@ use Rattle.std.proofs.lemmas.List.{reverse-append}
 use Rattle.cbor_head.specs.declared.major.Major.TheVariants as Major
 use Rattle.cbor_head.specs.Value as value
 use Rattle.cbor_head.specs.Value.{Value, IsInRange, AreInRange, AreEntriesInRange}
-use Rattle.cbor_item.specs.OpenValues.{OpenValue, ValuePart, leaf, begin, end, after, give, opened, parts_of, parts_of_entries, TakesValue, Makes, the_whole}
+use Rattle.cbor_item.specs.OpenValues.{OpenValue, ValuePart, leaf, begin, end, after, give, opened, parts_of, parts_of_entries, Makes, the_whole}
 use Rattle.cbor_item.specs.View.{values_of}
 use Rattle.cbor_view.specs.Seen.{seen}
 use Rattle.cbor_view.specs.inner.Walk.{flat, left, left_of_all, parts_in, parts_behind, parts_left, IsBegun}
