@@ -34,7 +34,8 @@ impl<'a> Sink<'a> for CanonicalSink {
         front: &'a [u8],
         count: usize,
     ) -> Result<(), AllocError> {
-        self.builder.front_string(string_type(is_text), front, count)?;
+        self.builder
+            .front_string(string_type(is_text), front, count)?;
         Ok(())
     }
 
