@@ -1,7 +1,8 @@
+pub mod ByIndex
 pub mod Counting
 pub mod DistinctKeys
 pub mod Held
-pub mod Paired
+pub mod Steps
 pub mod ValuesMade
 pub mod Views
 pub mod Walk

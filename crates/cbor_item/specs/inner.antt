@@ -2,6 +2,5 @@
 pub mod Containers
 pub mod Levels
 pub mod Members
-pub mod Pairing
 pub mod Walk
 pub mod Within

@@ -17,7 +17,6 @@ mod encoding;
 mod item;
 mod letting_go;
 mod level;
-mod pairing;
 mod parts_law;
 mod rest;
 mod tree;
