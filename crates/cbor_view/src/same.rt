@@ -78,15 +78,21 @@ fn are_same_maps(xs: &[(View<'_>, View<'_>)], ys: &[(View<'_>, View<'_>)]) -> bo
     true
 }
 
-// Whether some pair of ys is the same as the pair of xs at i.
+// Whether some pair of ys is the same as the pair of xs at i, and that of ys there is not. To look at
+// it again would double the work with each level.
 #[cycle(same)]
 fn is_among(xs: &[(View<'_>, View<'_>)], i: usize, ys: &[(View<'_>, View<'_>)]) -> bool
     requires within { i < length xs.now }
     requires left { AreEntriesValid (entries xs.now) }
     requires right { AreEntriesValid (entries ys.now) }
+    requires there { (p q : Pair) → slice_get xs.now i ≡ Some p → slice_get ys.now i ≡ Some q
+        → IsSamePair p q → ⊥ }
     ensures { (p : Pair) → slice_get xs.now i ≡ Some p → (IsTrue result ↔ IsMet p ys.now) }
 {
     for j in 0..ys.len() {
+        if j == i {
+            continue;
+        }
         if is_pair(xs, i, ys, j) {
             return true;
         }

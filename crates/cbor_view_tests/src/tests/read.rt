@@ -56,6 +56,21 @@ fn looks_up_by_views(rt: HostRuntime) -> Result<(), Fail> {
     Ok(())
 }
 
+// Maps in 200 maps, that differ in the innermost: were a pair looked at twice, each level would double
+// the work.
+#[test]
+fn tells_deep_views_apart(rt: HostRuntime) -> Result<(), Fail> {
+    let mut bytes = [0xa1, 0x00].repeat(rt.alloc(), 200)?;
+    bytes.push(0x01)?;
+    let arena = Bump::new(rt.alloc());
+    let (one, _) = read_view(rt.alloc(), &bytes, limits(&rt), &arena)?;
+    let mut others = Vec::from_slice(rt.alloc(), &bytes)?;
+    others[400] = 0x02;
+    let (two, _) = read_view(rt.alloc(), &others, limits(&rt), &arena)?;
+    assert!(rt; one.same(&one) && !one.same(&two));
+    Ok(())
+}
+
 // ["a", h'01', {1(0): null}]
 #[test]
 fn is_read_as_an_item(rt: HostRuntime) -> Result<(), Fail> {

@@ -1,4 +1,4 @@
-use Rattle.std.proofs.Common.{◌≡◌, ◌↔◌, Bool, IsTrue, get_or, slice_get, Some, sym, ◌∙◌, subst, arith, rules}
+use Rattle.std.proofs.Common.{◌≡◌, ◌↔◌, ℕ, Bool, IsTrue, get_or, slice_get, Some, sym, ◌∙◌, subst, arith, rules}
 use Rattle.std.proofs.lemmas.Option.{slice_get-get_or}
 use Rattle.cbor_head.specs.Value.{SameValues, Covered}
 use Rattle.cbor_item.specs.View.{values_of}
@@ -83,3 +83,11 @@ pub is_pair-returns-else-is_same : goal.is_pair-returns-else-is_same
 is_pair-returns-else-is_same t c = λ p q at other.
     let differ = keys_differ (Unsigned 0, Unsigned 0) c.args.xs.now c.args.ys.now c.args.i c.args.j p q at other (was_false c.is_same.result c.if-is_same.false c.is_same.ensures) in
     subst (λ (b : Bool). IsTrue b ↔ IsSamePair p q) (sym c.if-is_same.false) (fails differ)
+
+pub is_among-loop-j-preserved-then-j-i : goal.is_among-loop-j-preserved-then-j-i
+is_among-loop-j-preserved-then-j-i t c = λ p at.
+    let ys = c.args.ys.now in
+    let j = c.loop-j.j in
+    let q = get_or ys j (Unsigned 0, Unsigned 0) in
+    let other : slice_get ys j ≡ Some q = slice_get-get_or ys j (Unsigned 0, Unsigned 0) (omega arith) in
+    met_on (IsMet p ys) p ys j q other (c.loop-j.invariant p at) (c.requires.there p q at (subst (λ (k : ℕ). slice_get ys k ≡ Some q) c.if-j-i.true other))
