@@ -244,7 +244,8 @@ uint32_t naltvigo_machine_take_raw(struct naltvigo_machine *machine, const uint8
  * bytes each. Bytes of `out` behind the answer stay as they were, and all of them where the status is not OK.
  *
  * Two accepted inputs get equal answers in one order exactly if their values are the same, within
- * whichever limits; and an answer, given again within the same limits, is its own answer.
+ * whichever limits; and an answer, given again within the same limits, is its own answer. It is copied to
+ * `out` as it stands, and takes no memory.
  *
  * Answers OK, TOO_SMALL, REFUSED (reasons 1 to 13, 20), NO_MEMORY, BAD_ORDER, BAD_LIMITS.
  */

@@ -119,7 +119,8 @@ def calls_of(crate):
         parts = path.relative_to(CRATES / crate / "src").with_suffix("").parts
         if any("test" in part for part in parts):
             continue
-        text = path.read_text(encoding="utf-8")
+        # A comment among the clauses may have a semicolon, which would end them.
+        text = re.sub(r"(?m)^[ \t]*//(?!/).*\n", "", path.read_text(encoding="utf-8"))
         brought = {word: used[0] for used in USED.findall(text) for word in re.findall(r"\w+", used[1])}
         place, owner, end, is_trait = 0, None, -1, False
         while True:

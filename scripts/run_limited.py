@@ -52,6 +52,10 @@ class Place:
         with open(self.path(name), "rb") as file:
             return file.read()
 
+    def remove(self, name):
+        if os.path.exists(self.path(name)):
+            os.remove(self.path(name))
+
     def wide(self, name, size):
         """Writes a byte string of so many zeros."""
         self.put(name, b"\x5a" + size.to_bytes(4, "big"), size)
@@ -113,13 +117,20 @@ def too_little(place):
     """Items that there is no memory for: the word for that, and nothing left behind."""
     size = 40_000_000
     place.wide("wide", size)
+    # The same with its length in eight bytes, which is not canonical.
+    place.put("long", b"\x5b" + size.to_bytes(8, "big"), size)
     place.put("second", b"\x00" + place.get("wide"))
     place.put("out", BEFORE)
-    files = ["wide", "second", "out"]
+    files = ["wide", "long", "second", "out"]
     within = ["--bytes", "100000000"]
     # The second is enough for the item, and not for its canonical bytes or its text too, the last for all.
     few, more, most = (limited(start() + room // 1024) for room in (16 << 20, 2 * size, 8 * size))
     expect("check within more", place.run(["check", *within, "wide"], preexec_fn=more), 0, b"accepted 40000005 bytes\n")
+    # What is canonical is written as it stands.
+    expect("canon within more", place.run(["canon", *within, "wide", "same"], preexec_fn=more), 0)
+    if place.get("same") != place.get("wide"):
+        faults.append("canon within more: OUT holds something else")
+    place.remove("same")
     shown = place.run(["show", *within, "wide"], preexec_fn=most)
     if (shown.returncode, shown.stdout) != (0, b"h'" + b"00" * size + b"'\n"):
         faults.append(f"show within most: status {shown.returncode}, {len(shown.stdout)} bytes")
@@ -134,7 +145,7 @@ def too_little(place):
         (few, ["compare", *within, "wide", "wide"], MEMORY),
         (few, ["canon", *within, "wide", "out"], MEMORY),
         (few, ["canon", *within, "wide", "new"], MEMORY),
-        (more, ["canon", *within, "wide", "out"], MEMORY),
+        (more, ["canon", *within, "long", "out"], MEMORY),
         (few, ["canon", "--seq", *within, "second", "out"], MEMORY),
         (few, ["canon", "--seq", *within, "second", "new"], MEMORY),
     ]

@@ -80,7 +80,8 @@ impl CanonBuilder {
         requires kind { IsLeaf major }
         requires simple { major ≡ Simple → IsSimple argument }
         requires takes { TakesPart self.old.standing }
-        ensures { OnOk result
+        ensures order { self.new.order ≡ self.old.order }
+        ensures given { OnOk result
             (self.new ≡ built self.old.order
             (give (shortest_head major argument) self.old.standing)) }
     {
@@ -96,7 +97,8 @@ impl CanonBuilder {
     pub fn string(&mut self, major: Major, content: &[u8]) -> Result<(), AllocError>
         requires kind { IsStringType major }
         requires takes { TakesPart self.old.standing }
-        ensures { OnOk result
+        ensures order { self.new.order ≡ self.old.order }
+        ensures given { OnOk result
             (self.new ≡ built self.old.order
             (give (shortest_head major (length content.now) ++ content.now) self.old.standing)) }
     {
@@ -119,7 +121,8 @@ impl CanonBuilder {
         requires kind { IsStringType major }
         requires within { count ≤ length front.now }
         requires takes { TakesPart self.old.standing }
-        ensures { OnOk result
+        ensures order { self.new.order ≡ self.old.order }
+        ensures given { OnOk result
             (self.new ≡ built self.old.order
             (give (shortest_head major count ++ take count front.now) self.old.standing)) }
     {
@@ -134,7 +137,8 @@ impl CanonBuilder {
     #[inline(always)]
     pub fn nothing(&mut self) -> Result<(), AllocError>
         requires takes { TakesPart self.old.standing }
-        ensures { OnOk result (self.new ≡ built self.old.order (give [] self.old.standing)) }
+        ensures order { self.new.order ≡ self.old.order }
+        ensures given { OnOk result (self.new ≡ built self.old.order (give [] self.old.standing)) }
     {
         let done = self.core.nothing();
         if done.is_err() {
@@ -148,7 +152,8 @@ impl CanonBuilder {
     pub fn begin_string(&mut self, major: Major) -> Result<(), AllocError>
         requires kind { IsStringType major }
         requires takes { TakesPart self.old.standing }
-        ensures { OnOk result
+        ensures order { self.new.order ≡ self.old.order }
+        ensures opened { OnOk result
             (self.new ≡ built self.old.order (opened major 0 ∷ self.old.standing)) }
     {
         let done = self.core.begin(major, 0);
@@ -162,7 +167,8 @@ impl CanonBuilder {
     #[inline(always)]
     pub fn bytes(&mut self, content: &[u8]) -> Result<(), AllocError>
         requires string { IsInString self.old.standing }
-        ensures { OnOk result
+        ensures order { self.new.order ≡ self.old.order }
+        ensures extended { OnOk result
             (self.new ≡ built self.old.order (extended content.now self.old.standing)) }
     {
         let done = self.core.bytes(content, content.len());
@@ -177,7 +183,8 @@ impl CanonBuilder {
     pub fn front_bytes(&mut self, front: &[u8], count: usize) -> Result<(), AllocError>
         requires string { IsInString self.old.standing }
         requires within { count ≤ length front.now }
-        ensures { OnOk result
+        ensures order { self.new.order ≡ self.old.order }
+        ensures extended { OnOk result
             (self.new ≡ built self.old.order (extended (take count front.now) self.old.standing)) }
     {
         let done = self.core.bytes(front, count);
@@ -191,7 +198,8 @@ impl CanonBuilder {
     #[inline(always)]
     pub fn end_string(&mut self) -> Result<(), AllocError>
         requires string { IsInString self.old.standing }
-        ensures { OnOk result
+        ensures order { self.new.order ≡ self.old.order }
+        ensures ended { OnOk result
             (self.new ≡ built self.old.order (close self.old.order self.old.standing)) }
     {
         self.is_sound = false;
@@ -207,7 +215,8 @@ impl CanonBuilder {
     pub fn begin(&mut self, major: Major, number: u64) -> Result<(), AllocError>
         requires kind { IsContainer major }
         requires takes { TakesPart self.old.standing }
-        ensures { OnOk result
+        ensures order { self.new.order ≡ self.old.order }
+        ensures opened { OnOk result
             (self.new ≡ built self.old.order (opened major number ∷ self.old.standing)) }
     {
         let done = self.core.begin(major, number);
@@ -222,7 +231,8 @@ impl CanonBuilder {
     pub fn end(&mut self) -> Result<(), AllocError>
         requires container { IsInContainer self.old.standing }
         requires distinct { HasDistinctKeysSoFar self.old.standing }
-        ensures { OnOk result
+        ensures order { self.new.order ≡ self.old.order }
+        ensures ended { OnOk result
             (self.new ≡ built self.old.order (close self.old.order self.old.standing)) }
     {
         self.is_sound = false;
@@ -238,6 +248,7 @@ impl CanonBuilder {
     #[inline(always)]
     pub fn end_if_distinct(&mut self) -> Result<bool, AllocError>
         requires container { IsInContainer self.old.standing }
+        ensures order { self.new.order ≡ self.old.order }
         ensures distinct { IfOk result
             (λ distinct. IsTrue distinct ↔ HasDistinctKeysSoFar self.old.standing) }
         ensures ended { IfOk result (λ distinct. IsTrue distinct
@@ -256,6 +267,7 @@ impl CanonBuilder {
     #[inline(always)]
     pub fn give_up_if_distinct(&mut self) -> Result<bool, AllocError>
         requires container { IsInContainer self.old.standing }
+        ensures order { self.new.order ≡ self.old.order }
         ensures distinct { IfOk result
             (λ distinct. IsTrue distinct ↔ HasDistinctKeysSoFar self.old.standing) }
         ensures around { IfOk result (λ distinct. IsTrue distinct

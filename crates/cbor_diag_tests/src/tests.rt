@@ -216,7 +216,7 @@ fn indented_texts(rt: HostRuntime) -> Result<(), Fail> {
     Ok(())
 }
 
-fn push_times(text: &mut String, part: &str, times: usize) -> Result<(), AllocError> {
+pub(crate) fn push_times(text: &mut String, part: &str, times: usize) -> Result<(), AllocError> {
     for _ in 0..times {
         text.push_str(part)?;
     }

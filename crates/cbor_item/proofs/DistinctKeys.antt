@@ -1,7 +1,6 @@
 -- An item whose maps have distinct keys is valid: its texts are UTF-8 by their type.
-use Rattle.std.proofs.Common.{◌↔◌, List, [], ◌∷◌, map, sym, subst}
+use Rattle.std.proofs.Common.{List, [], ◌∷◌, map, sym, subst}
 use Rattle.std.proofs.lemmas.Str.{IsUtf8-string_bytes}
-use Rattle.cbor_head.specs.Value as value
 use Rattle.cbor_head.specs.Value.{Value, Values, Entries, IsValid, AreValid, AreEntriesValid}
 use Rattle.cbor_item.specs.Refused.{HasDistinctKeysThroughout, HaveDistinctKeysThroughout, EntriesHaveDistinctKeysThroughout}
 use Rattle.cbor_item.specs.View.{view, view_step, values_of, entries_of}
@@ -45,24 +44,3 @@ pub valid_if_distinct : (i : Item) → IsValidIfDistinct i
 valid_if_distinct = ind-Item IsValidIfDistinct (λ x y is.
     subst (λ (v : Value). HasDistinctKeysThroughout v → IsValid v) (sym (fold-roll-Item Value view_step x))
     (subst (λ (z : Item-F Item). HasDistinctKeysThroughout (view_step (map-Item Item Value view z)) → IsValid (view_step (map-Item Item Value view z))) is (layer y)))
-
--- ---- and a valid one has distinct keys
-
-mutual
-  distinct_if_valid : (v : Value) → IsValid v → HasDistinctKeysThroughout v
-  distinct_if_valid (value.unsigned n) h = tt
-  distinct_if_valid (value.negative n) h = tt
-  distinct_if_valid (value.bytes s) h = tt
-  distinct_if_valid (value.text s) h = tt
-  distinct_if_valid (value.array vs) h = all_distinct vs h
-  distinct_if_valid (value.map es) h = (entries_distinct es h.0, h.1)
-  distinct_if_valid (value.tag n v) h = distinct_if_valid v h
-  distinct_if_valid (value.simple n) h = tt
-
-  all_distinct : (vs : Values) → AreValid vs → HaveDistinctKeysThroughout vs
-  all_distinct value.no_values h = tt
-  all_distinct (value.a_value v vs) h = (distinct_if_valid v h.0, all_distinct vs h.1)
-
-  entries_distinct : (es : Entries) → AreEntriesValid es → EntriesHaveDistinctKeysThroughout es
-  entries_distinct value.no_entries h = tt
-  entries_distinct (value.entry k v es) h = (distinct_if_valid k h.0, distinct_if_valid v h.1, entries_distinct es h.2)

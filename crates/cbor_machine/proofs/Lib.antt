@@ -3,3 +3,4 @@ pub mod Saved
 pub mod SavedFrames
 pub mod Settled
 pub mod Starting
+pub mod Wanting

@@ -1,2 +1,3 @@
+pub mod HeadDue
 pub mod inner
 pub mod Saved

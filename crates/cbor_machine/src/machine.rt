@@ -11,6 +11,7 @@ ghost use Rattle.cbor_standing.specs.Machine.{StandsFor, KeepsLimits, Stays, IsA
 ghost use Rattle.cbor_standing.specs.Machine.{IsIdle, IsEvent, IsMore, IsDone, IfRefused, piece_of};
 ghost use Rattle.cbor_standing.specs.Machine.{IsGiven};
 ghost use Rattle.cbor_automaton.specs.Marks.{IsProper, times};
+ghost use Rattle.cbor_machine.specs.HeadDue.{IsHeadDue};
 ghost use Rattle.cbor_standing.specs.Machine.{wanted};
 ghost use Rattle.cbor_steps.specs.State.{IsFit, IsSettled, wanted_at, is_in_payload};
 ghost use Rattle.cbor_steps.specs.State.{is_done};
@@ -139,6 +140,7 @@ impl Machine {
     /// Whether the first byte of an item's head is wanted.
     #[inline(always)]
     pub fn wants_head(&self) -> bool
+        ensures due { result ≡ true ↔ IsHeadDue self.now }
         ensures wanted { result ≡ true → wanted self.now ≡ 1 }
         ensures idle { IsIdle self.now → result ≡ false }
     {
@@ -218,7 +220,7 @@ impl Machine {
         ensures event { (IsEvent result.out → 0 < result.used)
             × (piece_of result.out ≤ result.used) }
         ensures more { IsMore result.out → (result.used ≡ length input.now)
-            × (self.new.taken < self.new.bytes) × (0 < wanted self.old) }
+            × (self.new.taken < self.new.bytes) × (0 < wanted self.old) × (0 < wanted self.new) }
         ensures refused { IfRefused result.out (λ r. (self.new.refusal ≡ Some r)
             × (self.new.taken ≡ r.read) × IsMachineReason r.reason) }
         ensures stays { Stays result self.old self.new }
@@ -252,6 +254,7 @@ impl Machine {
         ensures payload { self.old.in_payload ≡ true
             → result.used ≡ min (length input.now) (wanted self.old) }
         ensures idle { IsMore result.out → 0 < wanted self.old }
+        ensures due { IsMore result.out → 0 < wanted self.new }
     {
         below_256(input);
         if let Some(refusal) = self.refusal {

@@ -1,17 +1,18 @@
 -- Which inputs are their own answers: those that the strict verdict accepts whole.
-use Rattle.std.proofs.Common.{ℕ, ◌≡◌, List, length, refl, sym, ◌∙◌, [], subst, ◌^◌, ◌≤◌, ◌↔◌, inl, inr}
+use Rattle.std.proofs.Common.{ℕ, ◌≡◌, List, length, refl, sym, ap, ◌∙◌, [], subst, ◌^◌, ◌≤◌, ◌↔◌, inl, inr}
 use Rattle.std.proofs.lemmas.List.{append-nil}
 use Rattle.cbor_head.specs.Limits.{Bounds}
 use Rattle.cbor_head.specs.Spelling.{Spelling, spell, value_of}
 use Rattle.cbor_head.specs.Canonical.{canonical}
 use Rattle.cbor_head.specs.Complaint.{plain, strict}
-use Rattle.cbor_head.specs.Verdict.{accepted, IsVerdict}
+use Rattle.cbor_head.specs.Verdict.{accepted, refused, IsVerdict}
 use Rattle.cbor_head.specs.declared.order.KeyOrder.{KeyOrder}
+use Rattle.cbor_head.specs.declared.reason.Refusal.{Refusal}
 use Rattle.cbor_grammar.proofs.Accepted.{accepts_exactly}
 use Rattle.cbor_reader.specs.Canonicalise.{IsCanonicalOf}
 use Rattle.cbor_reader.specs.Headline.{IsValidItem}
-use Rattle.cbor_judging.specs.Readers.{BeginsWithCanonical}
-use Rattle.cbor_judging.proofs.Accepted.{item_within_limit}
+use Rattle.cbor_judging.specs.Readers.{BeginsWithCanonical, IsRead}
+use Rattle.cbor_judging.proofs.Accepted.{item_within_limit, one_item, not_both}
 use Rattle.cbor_reader.proofs.Headline.{front_range, front_valid, front_keys, front_depth, answers_exactly}
 use Rattle.cbor_reader.proofs.ValidTexts.{plain_too}
 use Rattle.cbor_judging.proofs.CanonicalFronts.{strict_bytes, strict_value, strict_accepts, one_front}
@@ -46,3 +47,12 @@ module _ (limits : Bounds) (o : KeyOrder) (input : List ℕ) where
   -- it is its own answer exactly where the strict verdict accepts it whole
   pub own_answers_exactly : limits.bytes ≤ 2 ^ 62 → IsCanonicalOf limits o input input ↔ ((s : Spelling) × IsVerdict limits (strict o) input (accepted s) × (spell s ≡ input))
   own_answers_exactly m = (own_answer_accepted m, (λ (s, v, e). accepted_own_answer s v e))
+
+  -- one that it accepts, and that goes on behind, is not; nor is one that it refuses
+  pub longer_own_answer : limits.bytes ≤ 2 ^ 62 → (count : ℕ) → IsRead limits (strict o) input count → (count ≡ length input → ⊥) → IsCanonicalOf limits o input input → ⊥
+  longer_own_answer m count r longer a =
+      let (s, v, e) = own_answer_accepted m a in
+      longer (r.size ∙ ap (λ (t : Spelling). length (spell t)) (one_item limits (strict o) input r.item s r.verdict v) ∙ ap length e)
+
+  pub refused_own_answer : limits.bytes ≤ 2 ^ 62 → (f : Refusal) → IsVerdict limits (strict o) input (refused f) → IsCanonicalOf limits o input input → ⊥
+  refused_own_answer m f w a = let (s, v, e) = own_answer_accepted m a in not_both limits (strict o) input s f v w

@@ -1,6 +1,7 @@
 //! The canonical bytes of a whole input.
 
-ghost use Rattle.std.specs.Prelude.{◌≡◌, ◌≢◌, ◌<◌, ◌≤◌, ℕ, List, length, IfOk, IfErr, MatchResult};
+ghost use Rattle.std.specs.Prelude.{◌≡◌, ◌≢◌, ◌<◌, ◌≤◌, ℕ, List, length, IfOk, IfErr, IsOk, MatchResult};
+ghost use Rattle.std.specs.Cow.{cow_slice_items};
 ghost use Rattle.cbor_head.specs.Canonical.{canonical};
 ghost use Rattle.cbor_head.specs.declared.order.KeyOrder.{KeyOrder};
 ghost use Rattle.cbor_head.specs.Spelling.{Spelling, value_of};
@@ -40,29 +41,58 @@ pub fn canonicalise(
     ensures equal { IfOk result (λ v. TellsItsValue limits.depth order bytes.now v.items) }
     ensures again { IfOk result (λ v. IsCanonicalOf limits order v.items v.items) }
 {
-    canonical_bytes(alloc, bytes, limits, order)
-}
-
-// The answer, and no more of it.
-fn canonical_bytes(
-    alloc: Global,
-    bytes: &[u8],
-    limits: Limits,
-    order: KeyOrder,
-) -> Result<Vec<u8>, Refusal>
-    ensures { MatchResult result
-        (λ v. IsCanonicalOf limits order bytes.now v.items)
-        (λ f. IsRefusal limits order bytes.now f) }
-{
-    let canonical = encoded_item(alloc, bytes, limits, order)?;
-    if canonical.len() as u64 > limits.bytes() {
-        return Err(Refusal::at(Reason::CanonicalTooLong, bytes.len() as u64));
-    }
-    match canonical {
+    match canonical_bytes(alloc, bytes, limits, order)? {
         CowSlice::Owned(made) => Ok(made),
         CowSlice::Borrowed(same) => match Vec::from_slice(alloc, same) {
             Ok(copy) => Ok(copy),
             Err(_) => Err(Refusal::at(Reason::Memory, bytes.len() as u64)),
         },
     }
+}
+
+/// The answer of [`canonicalise`], where it need not be a copy: of an input that is canonical it is
+/// the input itself, for which no memory is taken.
+pub fn canonical_bytes<'a>(
+    alloc: Global,
+    bytes: &'a [u8],
+    limits: Limits,
+    order: KeyOrder,
+) -> Result<CowSlice<'a, u8>, Refusal>
+    ensures answer { MatchResult result
+        (λ c. IsCanonicalOf limits order bytes.now (cow_slice_items c))
+        (λ f. IsRefusal limits order bytes.now f) }
+    ensures own { IsCanonicalOf limits order bytes.now bytes.now → IsOk result }
+    ensures accepted { IfOk result (λ c. (s : Spelling)
+        × IsValidItem limits bytes.now s
+        × (cow_slice_items c ≡ canonical order (value_of s))
+        × (length (cow_slice_items c) ≤ limits.bytes)) }
+    ensures refused { IfErr result (λ f. f.reason ≢ reasons.Memory
+        → (s : Spelling) → IsValidItem limits bytes.now s
+        → limits.bytes < length (canonical order (value_of s))) }
+    ensures reason { IfErr result (λ f. IsCanonicaliserReason limits f.reason) }
+    ensures equal { IfOk result
+        (λ c. TellsItsValue limits.depth order bytes.now (cow_slice_items c)) }
+    ensures again { IfOk result
+        (λ c. IsCanonicalOf limits order (cow_slice_items c) (cow_slice_items c)) }
+{
+    answer(alloc, bytes, limits, order)
+}
+
+// The answer, and no more of it.
+fn answer<'a>(
+    alloc: Global,
+    bytes: &'a [u8],
+    limits: Limits,
+    order: KeyOrder,
+) -> Result<CowSlice<'a, u8>, Refusal>
+    ensures answer { MatchResult result
+        (λ c. IsCanonicalOf limits order bytes.now (cow_slice_items c))
+        (λ f. IsRefusal limits order bytes.now f) }
+    ensures own { IsCanonicalOf limits order bytes.now bytes.now → IsOk result }
+{
+    let canonical = encoded_item(alloc, bytes, limits, order)?;
+    if canonical.len() as u64 > limits.bytes() {
+        return Err(Refusal::at(Reason::CanonicalTooLong, bytes.len() as u64));
+    }
+    Ok(canonical)
 }

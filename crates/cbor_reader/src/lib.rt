@@ -36,7 +36,7 @@ mod view_reader;
 mod view_sink;
 mod whole_item;
 
-pub use canonicaliser::canonicalise;
+pub use canonicaliser::{canonical_bytes, canonicalise};
 pub use cbor_item::{KeyOrder, Tree};
 pub use cbor_strict::{StrictReader, check_canonical, read_strict};
 pub use comparison::{Side, same_meaning};

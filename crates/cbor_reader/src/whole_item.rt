@@ -1,6 +1,6 @@
 //! The item that a whole input is.
 
-ghost use Rattle.std.specs.Prelude.{◌≡◌, true, IfOk, IfErr};
+ghost use Rattle.std.specs.Prelude.{◌≡◌, true, false, IfOk, IfErr, IsOk};
 ghost use Rattle.std.specs.Cow.{cow_slice_items};
 ghost use Rattle.cbor_head.specs.Canonical.{canonical};
 ghost use Rattle.cbor_head.specs.Spelling.{Spelling, value_of};
@@ -26,6 +26,7 @@ pub(crate) fn encoded_item<'a>(
         × IsValidItem limits bytes.now s
         × (cow_slice_items c ≡ canonical order (value_of s))) }
     ensures refused { IfErr result (IsItemRefusal limits bytes.now) }
+    ensures own { IsCanonicalOf limits order bytes.now bytes.now → IsOk result }
 {
     if is_canonical(bytes, limits, order) {
         return Ok(CowSlice::Borrowed(bytes));
@@ -43,8 +44,11 @@ pub(crate) fn encoded_item<'a>(
 
 // Whether all the bytes are one item's canonical bytes.
 fn is_canonical(bytes: &[u8], limits: Limits, order: KeyOrder) -> bool
-    ensures { result ≡ true → IsCanonicalOf limits order bytes.now bytes.now }
+    ensures own { result ≡ true → IsCanonicalOf limits order bytes.now bytes.now }
+    ensures other { result ≡ false → ¬ IsCanonicalOf limits order bytes.now bytes.now }
 {
+    // What any limits keep to.
+    let _bytes = limits.bytes();
     match check_canonical(bytes, limits, order) {
         Ok(size) => size == bytes.len() as u64,
         Err(_) => false,

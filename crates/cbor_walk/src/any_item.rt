@@ -32,25 +32,25 @@ pub(crate) fn any_item(rest: &[u8], at: usize, room: bool) -> Any
 {
     let end = at + rest.len();
     let Some((first, behind)) = rest.split_first() else {
-        return refused(Reason::Truncated, end, end);
+        return Any::Refused(refusal_at(Reason::Truncated, end, end));
     };
     let first = *first;
     if let Some(reason) = misplaced(first, room) {
-        return refused(reason, at, at + 1);
+        return Any::Refused(refusal_at(reason, at, at + 1));
     }
     let low = first % 32;
     if low == 31 {
-        return refused(Reason::Indefinite, at, at + 1);
+        return Any::Refused(refusal_at(Reason::Indefinite, at, at + 1));
     }
     let Some(head) = read_argument(low, behind) else {
-        return refused(Reason::Truncated, end, end);
+        return Any::Refused(refusal_at(Reason::Truncated, end, end));
     };
     if first == 0xf8 && head.number < 32 {
-        return refused(Reason::BadSimple, at + 1, at + 2);
+        return Any::Refused(refusal_at(Reason::BadSimple, at + 1, at + 2));
     }
     let used = rest.len() - head.rest.len();
     if !is_shortest(head.width, head.number) {
-        return refused(Reason::NotShortest, at, at + used);
+        return Any::Refused(refusal_at(Reason::NotShortest, at, at + used));
     }
     if first < 0x40 || first >= 0xe0 {
         return Any::Leaf(used);
@@ -59,12 +59,6 @@ pub(crate) fn any_item(rest: &[u8], at: usize, room: bool) -> Any
         return any_string(rest, head, at, room);
     }
     any_container(first, head.number, used)
-}
-
-fn refused(reason: Reason, place: usize, read: usize) -> Any
-    ensures { result ≡ any.Refused (refusal reason place read) }
-{
-    Any::Refused(refusal_at(reason, place, read))
 }
 
 /// A refusal by places in memory.

@@ -94,7 +94,7 @@ impl<S> Building<S> {
     }
 
     // The innermost container is whole, and perhaps those around it.
-    #[inline(never)]
+    #[inline(always)]
     fn close<'a>(&mut self, cells: &[Open]) -> Then
     where
         S: Sink<'a>,

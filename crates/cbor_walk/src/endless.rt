@@ -15,9 +15,9 @@ use cbor_head::Major;
 
 impl<S> Building<S> {
     /// Takes what begins with this byte before these bytes, if it is an opener without a length, or
-    /// a break. How many bytes are left behind it comes in a register: for a slice, room in memory
-    /// would be made ready at each item.
-    #[inline(never)]
+    /// a break. It tells how many bytes are left behind it: for a slice, room in memory would be made
+    /// ready at each item.
+    #[inline(always)]
     pub(crate) fn take_endless<'a>(
         &mut self,
         first: u8,

@@ -173,7 +173,7 @@ impl Stack<Level> {
     }
 
     // The same, where the innermost container is whole.
-    #[inline(never)]
+    #[inline(always)]
     fn close(&mut self, cells: &[Level], input: &[u8], order: KeyOrder, at: usize) -> Next
         requires end { at ≤ length input.now }
         requires cells { self.old.height ≤ length cells.now }

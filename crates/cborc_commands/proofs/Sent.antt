@@ -10,11 +10,13 @@ use Rattle.cbor_head.specs.declared.reason.Refusal.{Refusal}
 use Rattle.cborc_commands.specs.Answer.{IsDone, IsNotDone}
 use Rattle.cborc_input.specs.Put.{IsPut, printed, written}
 use Rattle.cborc_sequences.specs.CanonSequence.{IsSent, passed, apart, IsSequenceNotCanonised}
+use Rattle.cborc_items.specs.Canon.{IsNotCanonised}
 use Rattle.cborc_items.specs.Compare.{IsTold}
 use Rattle.cborc_items.specs.Events.{IsNotListed, IsNotListedOf}
 use Rattle.cborc_sequences.specs.EventsSequence.{IsListedSoFar, items_listed, front_listed, IsSequenceNotListed}
 use Rattle.cborc_files.specs.Folder.{Files}
 use Rattle.cborc_input.specs.Sequences.{IsCutIn, IsTakenSoFar, of_items, of_cut}
+use Rattle.cborc_items.specs.Show.{IsNotShown}
 use Rattle.cborc_sequences.specs.ShowSequence.{IsSequenceNotShown}
 use Rattle.cborc_commands.specs.Told.{IsSilent}
 use Rattle.cborc_input.specs.declared.request.Layout.{Layout}
@@ -67,10 +69,10 @@ module _ (before mid after : Option (List ℕ)) (keeps : Keeps mid after) where
       → IsNotListedOf options source held before after fault
   events_sent options source held (faults.Refused f) (input, is, h) = (input, is, not_listed_sent options.limits input (faults.Refused f) h)
   events_sent options source held faults.CannotPrint (input, is, h) = (input, is, not_listed_sent options.limits input faults.CannotPrint h)
-  events_sent options source held (faults.CannotRead named) h = h
-  events_sent options source held (faults.NotHex named) h = h
+  events_sent options source held (faults.CannotRead named) (h, k) = (h, Keeps-trans before mid after k keeps)
+  events_sent options source held (faults.NotHex named) (h, k) = (h, Keeps-trans before mid after k keeps)
   events_sent options source held faults.Memory h = h
-  events_sent options source held _ h = absurd h
+  events_sent options source held _ h = absurd h.0
 
   cut_sent : (P : Spelling → Type 0) (text : Spelling → List ℕ) (bytes : List ℕ) → IsCutIn P text bytes before mid → IsCutIn P text bytes before after
   cut_sent P text bytes h = record {
@@ -87,6 +89,44 @@ module _ (before mid after : Option (List ℕ)) (keeps : Keeps mid after) where
       → IsTakenSoFar P text options source held before after
   so_far_sent P text options source held (of_items items first a) = of_items items first (appends_kept before mid after _ a keeps)
   so_far_sent P text options source held (of_cut front is c) = of_cut front is (cut_sent P text front c)
+
+  not_canonised_sent : (o : KeyOrder) (options : Options) (source : List ℕ) (output : Output) (held : Option Files) (fault : Fault)
+      → IsNotCanonised o options source output held before mid fault → IsNotCanonised o options source output held before after fault
+  not_canonised_sent o options source output held (faults.Refused f) h = h
+  not_canonised_sent o options source output held faults.CannotPrint (p, n) = (
+    record {
+      input = p.input;
+      is = p.is;
+      text = p.text;
+      canonical = p.canonical;
+      count = p.count;
+      part = p.part;
+      taken = appends_kept before mid after _ p.taken keeps;
+    },
+    n,
+  )
+  not_canonised_sent o options source output held (faults.CannotWrite named) h = h
+  not_canonised_sent o options source output held (faults.CannotRead named) h = h
+  not_canonised_sent o options source output held (faults.NotHex named) h = h
+  not_canonised_sent o options source output held faults.Memory h = h
+  not_canonised_sent o options source output held _ h = absurd h
+
+  unshown_sent : (layout : Layout) (options : Options) (source : List ℕ) (held : Option Files) (fault : Fault) → IsNotShown layout options source held before mid fault
+      → IsNotShown layout options source held before after fault
+  unshown_sent layout options source held (faults.Refused f) h = h
+  unshown_sent layout options source held faults.CannotPrint h = record {
+    input = h.input;
+    is = h.is;
+    value = h.value;
+    whole = h.whole;
+    count = h.count;
+    part = h.part;
+    taken = appends_kept before mid after _ h.taken keeps;
+  }
+  unshown_sent layout options source held (faults.CannotRead named) (h, k) = (h, Keeps-trans before mid after k keeps)
+  unshown_sent layout options source held (faults.NotHex named) (h, k) = (h, Keeps-trans before mid after k keeps)
+  unshown_sent layout options source held faults.Memory (h, k) = (h, Keeps-trans before mid after k keeps)
+  unshown_sent layout options source held _ h = absurd h.0
 
   shown_sent : (layout : Layout) (options : Options) (source : List ℕ) (held : Option Files) (fault : Fault) → IsSequenceNotShown layout options source held before mid fault
       → IsSequenceNotShown layout options source held before after fault
@@ -188,9 +228,9 @@ module _ (before mid after : Option (List ℕ)) (keeps : Keeps mid after) where
   pub not_done_sent : (request : Request) (held : Option Files) (fault : Fault) → IsNotDone request held before mid fault → IsNotDone request held before after fault
   not_done_sent (Check source accepted options) held fault h = h
   not_done_sent (CheckSequence source accepted options) held fault h = h
-  not_done_sent (Canon source output order options) held fault h = h
+  not_done_sent (Canon source output order options) held fault h = not_canonised_sent order options source.now output held fault h
   not_done_sent (CanonSequence source output order options) held fault h = canonised_sent order options source.now output held fault h
-  not_done_sent (Show source layout options) held fault h = h
+  not_done_sent (Show source layout options) held fault h = unshown_sent layout options source.now held fault h
   not_done_sent (ShowSequence source layout options) held fault h = shown_sent layout options source.now held fault h
   not_done_sent (Events source options) held fault h = events_sent options source.now held fault h
   not_done_sent (EventsSequence source options) held fault h = lines_sent options source.now held fault h

@@ -1,21 +1,24 @@
 -- Bytes that a reader gave, behind those that were there.
-use Rattle.std.proofs.Common.{ℕ, ◌+◌, ◌-◌, ◌≡◌, ◌≤◌, None, List, ◌++◌, length, take, drop, replicate, sym, ap, ◌∙◌, arith}
-use Rattle.std.proofs.Math.Seq.{take-append-add, drop-append_seam}
-use Rattle.std.proofs.lemmas.List.{length-replicate, length-take, take-append-drop, take_all}
-use Rattle.std.specs.Io.{StartsWith}
+use Rattle.std.proofs.Common.{ℕ, ◌-◌, ◌≡◌, ◌≤◌, None, List, [], ◌++◌, append_assoc, append-nil, length, length-append, take, drop, replicate, sym, ap, ◌∙◌, arith}
+use Rattle.std.proofs.Math.Seq.{drop-append_seam}
+use Rattle.std.proofs.lemmas.List.{length-replicate, take_all}
 use Rattle.cborc_disk.specs.Disk.{IsAppended}
 use Rattle.cborc_files.specs.Folder.{ReadsOn}
 
--- what was read, cut to so many bytes behind the old ones
-pub cut_to : (most end : ℕ) (old all new : List ℕ) → StartsWith all old → length old ≤ end → end ≤ length old + most → new ≡ take end all → IsAppended most old new
-cut_to most end old all new s low high is =
-    let rest : List ℕ = drop (length old) all in
-    let splits : all ≡ old ++ rest = sym (take-append-drop (length old) all) ∙ ap (λ (xs : List ℕ). xs ++ rest) s in
-    record {
-      added = take (end - length old) rest;
-      is = is ∙ ap (take end) splits ∙ ap (λ (k : ℕ). take k (old ++ rest)) (omega (arith, low)) ∙ take-append-add old rest (end - length old);
-      few = omega (arith, high, low, length-take (end - length old) rest);
-    }
+-- nothing so far
+pub none_added : (few : ℕ) (old : List ℕ) → IsAppended few old old
+none_added few old = record { added = []; is = sym (append-nil old); few = omega arith }
+
+pub at_most : (few most : ℕ) (old new : List ℕ) → IsAppended few old new → few ≤ most → IsAppended most old new
+at_most few most old new a l = record { added = a.added; is = a.is; few = omega (arith, a.few, l) }
+
+-- one part more, of those that are left
+pub one_part : (most left count : ℕ) (old mid new part : List ℕ) → IsAppended (most - left) old mid → new ≡ mid ++ part → length part ≡ count → count ≤ left → left ≤ most → IsAppended (most - (left - count)) old new
+one_part most left count old mid new part a is size few within = record {
+  added = a.added ++ part;
+  is = is ∙ ap (λ (xs : List ℕ). xs ++ part) a.is ∙ append_assoc old a.added part;
+  few = omega (arith, a.few, size, few, within, length-append a.added part);
+}
 
 -- of a folder that does not tell what it holds: some file has them there
 pub some_file : (path : List ℕ) (from most few : ℕ) (old new : List ℕ) → IsAppended few old new → few ≤ most → ReadsOn None path from most old new

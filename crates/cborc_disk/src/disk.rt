@@ -124,14 +124,31 @@ impl<'a, R: Files + Input + RandomSource + AllocGlobal> Folder for Disk<'a, R> {
     }
 }
 
+// So many bytes are read at a time, and copied behind those that are there: to read them in place, their
+// places would be filled first.
+const PART: usize = 16 * 1024;
+
 /// Appends the next bytes of a reader, so many if it has them.
 pub fn append_from<S: Read>(source: &mut S, most: u64, bytes: &mut Vec<u8>) -> io::Result<()>
     ensures { OnOk result (IsAppended most bytes.old.items bytes.new.items) }
 {
-    let held = bytes.len();
-    source.take(most).read_to_end(bytes)?;
-    // No reader of the machine says that it gave no more.
-    bytes.truncate((held as u64).saturating_add(most) as usize);
+    let mut part = [0; PART];
+    let mut left = most;
+    'reads: for _ in 0..u64::MAX {
+        if left == 0 {
+            return Ok(());
+        }
+        let wanted = left.min(PART as u64) as usize;
+        match source.read(&mut part[..wanted]) {
+            Ok(0) => return Ok(()),
+            Ok(count) => {
+                bytes.extend_from_slice(&part[..count])?;
+                left -= count as u64;
+            }
+            Err(error) if error.kind() == ErrorKind::Interrupted => {}
+            Err(error) => return Err(error),
+        }
+    }
     Ok(())
 }
 

@@ -1,5 +1,5 @@
 -- Which fault a part of a subcommand passes on, and what it tells of the whole.
-use Rattle.std.proofs.Common.{ℕ, ◌≡◌, ◌++◌, inl, List, length, Option, sym, subst}
+use Rattle.std.proofs.Common.{ℕ, ◌≡◌, ◌<◌, ◌++◌, inl, List, length, take, Option, refl, sym, subst}
 use Rattle.cbor_diag.specs.Listing.{IsListed}
 use Rattle.cbor_head.specs.Complaint.{Rules, plain}
 use Rattle.cbor_head.specs.Limits.{Bounds}
@@ -35,7 +35,8 @@ use Rattle.cborc_input.specs.declared.request.Options.{Options}
 use Rattle.cborc_input.specs.declared.request.Output.{Output}
 use Rattle.cborc_input.specs.declared.fault.Fault.{Fault}
 use Rattle.cborc_input.specs.declared.fault.Fault.TheVariants as faults
-use Rattle.std.specs.Io.KnownBytes.{Appends}
+use Rattle.std.specs.Io.KnownBytes.{Appends, Keeps}
+use Rattle.std.proofs.KnownBytes.{Keeps-refl}
 use Rattle.cborc_input.proofs.Faults.{refusal_is}
 
 module _ (o : KeyOrder) (options : Options) (source : List ℕ) (output : Output) (held : Option Files) where
@@ -53,23 +54,26 @@ module _ (o : KeyOrder) (options : Options) (source : List ℕ) (output : Output
   canonised mid new before after bytes text s t k p =
       record { input = s.input; is = s.is; text = text; canonical = text_whole bytes text s t; put = put_kept output.path.now held mid new before after text k p }
 
-  pub not_put : (bytes text : List ℕ) → StartsInput held source options bytes → IsCanonicalText options.limits o output.form bytes text
-      → (fault : Fault) → IsNotPut output.path.now fault → IsNotCanonised o options source output held fault
-  not_put bytes text s t faults.CannotPrint h = (record { input = s.input; is = s.is; text = text; canonical = text_whole bytes text s t }, h)
-  not_put bytes text s t (faults.CannotWrite named) h = (record { input = s.input; is = s.is; text = text; canonical = text_whole bytes text s t }, h)
-  not_put bytes text s t faults.Memory h = tt
-  not_put bytes text s t _ h = absurd h
+  pub not_put : (before after : Option (List ℕ)) (bytes text : List ℕ) → StartsInput held source options bytes → IsCanonicalText options.limits o output.form bytes text
+      → (fault : Fault) → IsNotPut output.path.now fault × (fault ≡ faults.CannotPrint → (count : ℕ) × (count < length text) × Appends before after (take count text))
+      → IsNotCanonised o options source output held before after fault
+  not_put before after bytes text s t faults.CannotPrint (h, cut) =
+      let k = cut refl in
+      (record { input = s.input; is = s.is; text = text; canonical = text_whole bytes text s t; count = k.0; part = k.1; taken = k.2 }, h)
+  not_put before after bytes text s t (faults.CannotWrite named) (h, cut) = (record { input = s.input; is = s.is; text = text; canonical = text_whole bytes text s t }, h)
+  not_put before after bytes text s t faults.Memory h = tt
+  not_put before after bytes text s t _ h = absurd h.0
 
-  pub no_text : (bytes : List ℕ) → StartsInput held source options bytes → (fault : Fault)
-      → IsNoText options.limits o bytes fault → IsNotCanonised o options source output held fault
-  no_text bytes s (faults.Refused f) h = (
+  pub no_text : (before after : Option (List ℕ)) (bytes : List ℕ) → StartsInput held source options bytes → (fault : Fault)
+      → IsNoText options.limits o bytes fault → IsNotCanonised o options source output held before after fault
+  no_text before after bytes s (faults.Refused f) h = (
     s.input,
     s.is,
     subst (λ (b : List ℕ). IsRefusal options.limits o b f) s.splits (refusal_whole options.limits bytes s.behind s.enough o f h.1 h.0),
     h.1,
   )
-  no_text bytes s faults.Memory h = tt
-  no_text bytes s _ h = absurd h
+  no_text before after bytes s faults.Memory h = tt
+  no_text before after bytes s _ h = absurd h
 
 module _ (rules : Rules) (options : Options) (source : List ℕ) (held : Option Files) (bytes : List ℕ)
     (s : StartsInput held source options bytes) where
@@ -110,24 +114,27 @@ module _ (options : Options) (source : List ℕ) (held : Option Files) (bytes : 
         → IsShownOf layout options source held before after
     shown_of layout before after h = record { input = s.input; is = s.is; value = value_of w.0.item; whole = read_whole; shown = h w.0.item w.0.verdict }
 
-    unshown_by : (text : List ℕ) (before after : Option (List ℕ)) (fault : Fault) → IsNotTaken text before after fault → IsNotShown options source held fault
-    unshown_by text before after faults.CannotPrint h = record { input = s.input; is = s.is; value = value_of w.0.item; whole = read_whole }
-    unshown_by text before after faults.Memory h = tt
-    unshown_by text before after _ h = absurd h
+    unshown_by : (layout : Layout) (before after : Option (List ℕ)) (fault : Fault) → IsNotTaken (shown_text layout (value_of w.0.item)) before after fault
+        → IsNotShown layout options source held before after fault
+    unshown_by layout before after faults.CannotPrint h =
+        record { input = s.input; is = s.is; value = value_of w.0.item; whole = read_whole; count = h.0; part = h.1; taken = h.2 }
+    unshown_by layout before after faults.Memory h = (tt, subst (Keeps before) (sym h) (Keeps-refl before))
+    unshown_by layout before after _ h = absurd h
 
     pub unshown : (layout : Layout) (before after : Option (List ℕ)) (fault : Fault)
         → ((item : Spelling) → IsVerdict options.limits plain bytes (accepted item) → IsNotTaken (shown_text layout (value_of item)) before after fault)
-        → IsNotShown options source held fault
-    unshown layout before after fault h = unshown_by (shown_text layout (value_of w.0.item)) before after fault (h w.0.item w.0.verdict)
+        → IsNotShown layout options source held before after fault
+    unshown layout before after fault h = unshown_by layout before after fault (h w.0.item w.0.verdict)
 
-  pub not_shown : (f : Refusal) → IsNotWhole options.limits plain bytes f → (fault : Fault) → fault ≡ refusal_fault f → IsNotShown options source held fault
-  not_shown f h fault e =
-      refusal_is (IsNotShown options source held) f fault e (λ own. (
+  pub not_shown : (layout : Layout) (before after : Option (List ℕ)) → Keeps before after → (f : Refusal) → IsNotWhole options.limits plain bytes f → (fault : Fault) → fault ≡ refusal_fault f
+      → IsNotShown layout options source held before after fault
+  not_shown layout before after keeps f h fault e =
+      refusal_is (IsNotShown layout options source held before after) f fault e (λ own. (
         s.input,
         s.is,
         subst (λ (b : List ℕ). IsNotWhole options.limits plain b f) s.splits (is_not_whole options.limits bytes s.behind s.enough plain f own h),
         own,
-      )) tt
+      )) (tt, keeps)
 
   -- ---- `events`
 

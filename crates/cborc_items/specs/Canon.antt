@@ -1,5 +1,6 @@
 -- What `canon` writes, and why it writes nothing.
-use Rattle.std.specs.Prelude.{ℕ, ◌≡◌, List, Option, Some}
+use Rattle.std.specs.Prelude.{ℕ, ◌≡◌, ◌<◌, List, length, take, Option, Some}
+use Rattle.std.specs.Io.KnownBytes.{Appends}
 use Rattle.cbor_head.specs.Limits.{Bounds}
 use Rattle.cbor_head.specs.declared.order.KeyOrder.{KeyOrder}
 use Rattle.cbor_reader.specs.Canonicalise.{IsCanonicalOf, IsRefusal}
@@ -30,14 +31,25 @@ pub record HasText (o : KeyOrder) (options : Options) (source : List ℕ) (form 
   pub text : List ℕ
   pub canonical : IsCanonicalText options.limits o form input text
 
+-- it has, and standard output took the first bytes of its text, not all
+pub record IsPrintedInPart (o : KeyOrder) (options : Options) (source : List ℕ) (form : Form) (held : Option Files) (before after : Option (List ℕ)) : Type 0 where
+  pub input : List ℕ
+  pub is : IsInput held source options.hex input
+  pub text : List ℕ
+  pub canonical : IsCanonicalText options.limits o form input text
+  pub count : ℕ
+  pub part : count < length text
+  pub taken : Appends before after (take count text)
+
 -- why they are not: the input is refused, there is none, or its text was not put there
-abbrev pub IsNotCanonised : KeyOrder → Options → List ℕ → Output → Option Files → Fault → Type 0
-IsNotCanonised o options source output held (faults.Refused f) =
+abbrev pub IsNotCanonised : KeyOrder → Options → List ℕ → Output → Option Files → Option (List ℕ) → Option (List ℕ) → Fault → Type 0
+IsNotCanonised o options source output held before after (faults.Refused f) =
     (input : List ℕ) × IsInput held source options.hex input × IsRefusal options.limits o input f × IsOfInput f.reason
-IsNotCanonised o options source output held faults.CannotPrint = HasText o options source output.form held × IsNotPut output.path.now faults.CannotPrint
-IsNotCanonised o options source output held (faults.CannotWrite named) =
+IsNotCanonised o options source output held before after faults.CannotPrint =
+    IsPrintedInPart o options source output.form held before after × IsNotPut output.path.now faults.CannotPrint
+IsNotCanonised o options source output held before after (faults.CannotWrite named) =
     HasText o options source output.form held × IsNotPut output.path.now (faults.CannotWrite named)
-IsNotCanonised o options source output held fault = IsNoInput held source options.hex fault
+IsNotCanonised o options source output held before after fault = IsNoInput held source options.hex fault
 
 -- the first bytes are of a file that is one valid item, and the second of one that holds its canonical bytes
 pub record HoldsCanonical (limits : Bounds) (o : KeyOrder) (before after : Option (List ℕ)) : Type 0 where

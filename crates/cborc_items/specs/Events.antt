@@ -1,5 +1,6 @@
 -- Why `events` ends without the listing of a whole file.
 use Rattle.std.specs.Prelude.{ℕ, ◌≡◌, ◌≢◌, ◌<◌, ◌≤◌, ◌⊎◌, List, length, Option}
+use Rattle.std.specs.Io.KnownBytes.{Keeps}
 use Rattle.cbor_head.specs.Limits.{Bounds}
 use Rattle.cbor_head.specs.Verdict.{refusal}
 use Rattle.cbor_head.specs.declared.reason.Reason.TheVariants.{Trailing, Write}
@@ -34,7 +35,7 @@ pub record IsListedOf (options : Options) (source : List ℕ) (held : Option Fil
   pub is : IsInput held source options.hex input
   pub listed : IsListed 0 options.limits input (length input) before after
 
--- why it ends without the whole listing: the input is refused, there is none, or standard output failed
+-- why it ends without the whole listing: the input is refused, standard output failed, memory was refused, or there is no input, and nothing is written
 abbrev pub IsNotListedOf : Options → List ℕ → Option Files → Option (List ℕ) → Option (List ℕ) → Fault → Type 0
 IsNotListedOf options source held before after (faults.Refused f) =
     (input : List ℕ) × IsInput held source options.hex input
@@ -42,4 +43,5 @@ IsNotListedOf options source held before after (faults.Refused f) =
 IsNotListedOf options source held before after faults.CannotPrint =
     (input : List ℕ) × IsInput held source options.hex input
     × IsNotListed options.limits input before after faults.CannotPrint
-IsNotListedOf options source held before after fault = IsNoInput held source options.hex fault
+IsNotListedOf options source held before after faults.Memory = IsNoInput held source options.hex faults.Memory
+IsNotListedOf options source held before after fault = IsNoInput held source options.hex fault × Keeps before after

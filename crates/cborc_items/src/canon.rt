@@ -1,11 +1,13 @@
 //! The subcommand `canon`: the canonical bytes of an item, from file to file.
 
-ghost use Rattle.std.specs.Prelude.{◌≡◌, ◌≢◌, OnOk, OnErr, IfErr};
+ghost use Rattle.std.specs.Prelude.{◌≡◌, ◌≢◌, ◌<◌, ℕ, length, take, OnOk, OnErr, IfErr};
+ghost use Rattle.std.specs.Io.KnownBytes.{Appends};
 ghost use Rattle.cborc_input.specs.Put.{IsPut, IsNotPut};
 ghost use Rattle.cborc_items.specs.Canon.{IsCanonised, IsNotCanonised};
 ghost use Rattle.cborc_files.specs.Folder.{KeepsFiles};
 
 use cbor_head::{KeyOrder, Limits};
+use cbor_item::write_whole;
 use cborc_files::{Folder, is_stream};
 use cborc_input::{Fault, Options, Output, canonical_text, read_item};
 use std::alloc::Global;
@@ -27,7 +29,8 @@ pub fn canon<'a, F: Folder, O: Write>(
     ensures untouched { OnErr result (KeepsFiles (F.held files.old) (F.held files.new)) }
     ensures same { F.behind files.new ≡ F.behind files.old }
     ensures fault { IfErr result
-        (IsNotCanonised order options source.now output.entry (F.held files.old)) }
+        (IsNotCanonised order options source.now output.entry (F.held files.old)
+        (O.contents out.old) (O.contents out.new)) }
     ensures silent { IfErr result (λ fault. fault ≢ Fault.CannotPrint → out.new ≡ out.old) }
 {
     let limits = options.limits;
@@ -48,11 +51,13 @@ fn put<'a, F: Folder, O: Write>(
         (O.contents out.old) (O.contents out.new) text.now) }
     ensures untouched { OnErr result (KeepsFiles (F.held files.old) (F.held files.new)) }
     ensures same { F.behind files.new ≡ F.behind files.old }
-    ensures fault { IfErr result (IsNotPut path.now) }
+    ensures fault { IfErr result (λ fault. IsNotPut path.now fault × (fault ≡ Fault.CannotPrint
+        → (count : ℕ) × (count < length text.now)
+        × Appends (O.contents out.old) (O.contents out.new) (take count text.now))) }
     ensures silent { IfErr result (λ fault. fault ≢ Fault.CannotPrint → out.new ≡ out.old) }
 {
     if is_stream(path) {
-        match out.write_all(text) {
+        match write_whole(out, text) {
             Ok(()) => Ok(()),
             Err(_) => Err(Fault::CannotPrint),
         }

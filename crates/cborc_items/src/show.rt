@@ -21,7 +21,8 @@ pub fn show<'a, F: Folder, O: Write>(
 ) -> Result<(), Fault<'a>>
     ensures shown { OnOk result (IsShownOf layout options source.now
         (F.held files.old) (O.contents out.old) (O.contents out.new)) }
-    ensures fault { IfErr result (IsNotShown options source.now (F.held files.old)) }
+    ensures fault { IfErr result (IsNotShown layout options source.now
+        (F.held files.old) (O.contents out.old) (O.contents out.new)) }
     ensures silent { IfErr result (λ fault. fault ≢ Fault.CannotPrint → out.new ≡ out.old) }
     ensures keeps { KeepsFiles (F.held files.old) (F.held files.new) }
     ensures same { F.behind files.new ≡ F.behind files.old }

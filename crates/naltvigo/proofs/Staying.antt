@@ -15,6 +15,12 @@ IsLive m = (IsComplete m → ⊥) × (m.refusal ≡ None)
 abbrev pub HasBegun : MachineView → MachineView → ℕ → ℕ → Type 0
 HasBegun old now used told = ((used ≡ 0) × (told ≡ 0) × (now ≡ old)) ⊎ IsLive old
 
+-- a machine that says so is complete, and stays it
+pub done-behind : (s : Step) (old new : MachineView) → Stays s old new → s.out ≡ outs.Done → IsComplete new
+done-behind s old new stays is =
+    let before : IsComplete old = stays.done.0 (subst IsDone (sym is) tt) in
+    subst IsComplete (sym (stays.complete before).1) before
+
 pub not-more : (f : Refusal) → outs.More ≡ outs.Refused f → ⊥
 not-more f q = cc q
 

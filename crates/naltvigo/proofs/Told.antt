@@ -39,7 +39,7 @@ one_given old mid new bs last cs e c so_far keeps answered is = record {
 }
 
 pub no_further : (old mid new : MachineView) (bs last : List ℕ) (status : ℕ) (cs : List NaltvigoEvent) (r : NaltvigoRefusal) (out : Out) → HasGiven old mid bs cs
-    → KeepsLimits mid new → IsToldEnd out status r → HasAnswered out mid new last → TellsOn old new (bs ++ last) status cs r
+    → KeepsLimits mid new → IsToldEnd out new status r → HasAnswered out mid new last → TellsOn old new (bs ++ last) status cs r
 no_further old mid new bs last status cs r out so_far keeps is answered = record {
   limits = inl (keeps_on old mid new so_far.limits keeps);
   given = so_far.given;

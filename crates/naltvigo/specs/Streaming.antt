@@ -1,6 +1,6 @@
 -- What a machine tells of an item, as C has it.
-use Rattle.std.specs.Prelude.{ℕ, ◌≡◌, ◌⊎◌, ◌++◌, ◌∷◌, List, [], IfSome}
-use Rattle.cbor_standing.specs.Machine.{StandsFor, KeepsLimits, IsAnswer, IsComplete}
+use Rattle.std.specs.Prelude.{ℕ, ◌≡◌, ◌<◌, ◌⊎◌, ◌++◌, ◌∷◌, List, [], Some, IfSome}
+use Rattle.cbor_standing.specs.Machine.{StandsFor, KeepsLimits, IsAnswer, IsComplete, wanted}
 use Rattle.cbor_standing.specs.MachineView.{MachineView}
 use Rattle.cbor_automaton.specs.Marks.{count_of}
 use Rattle.cbor_machine.specs.Saved.{Holds}
@@ -67,12 +67,12 @@ AreToldEvents [] [] = Unit {0}
 AreToldEvents (e ∷ es) (c ∷ cs) = IsToldEvent e c × AreToldEvents es cs
 AreToldEvents _ _ = ⊥
 
--- why no further one is told: 8 more bytes are due, 0 the item is complete, 1 it is refused
-abbrev pub IsToldEnd : Out → ℕ → NaltvigoRefusal → Type 0
-IsToldEnd outs.More status r = status ≡ 8
-IsToldEnd (outs.Event event) status r = ⊥
-IsToldEnd outs.Done status r = status ≡ 0
-IsToldEnd (outs.Refused refusal) status r = (status ≡ 1) × IsTold refusal r
+-- why no further one is told, of the machine behind: 8 more bytes are due, 0 the item is complete, 1 it is refused, and stays so
+abbrev pub IsToldEnd : Out → MachineView → ℕ → NaltvigoRefusal → Type 0
+IsToldEnd outs.More new status r = (status ≡ 8) × (0 < wanted new)
+IsToldEnd (outs.Event event) new status r = ⊥
+IsToldEnd outs.Done new status r = (status ≡ 0) × IsComplete new
+IsToldEnd (outs.Refused refusal) new status r = (status ≡ 1) × IsTold refusal r × (new.refusal ≡ Some refusal)
 
 -- what a step answers of the last bytes, for all bytes and marks that the machine stood for before these
 abbrev pub HasAnswered : Out → MachineView → MachineView → List ℕ → Type 0
@@ -94,7 +94,7 @@ pub record TellsOn (old new : MachineView) (bs : List ℕ) (status : ℕ) (event
   pub last : List ℕ
   pub splits : bs ≡ front ++ last
   pub gives : Gives old mid front given
-  pub ends : ((status ≡ 7) × (last ≡ []) × (new ≡ mid)) ⊎ ((out : Out) × IsToldEnd out status r × HasAnswered out mid new last)
+  pub ends : ((status ≡ 7) × (last ≡ []) × (new ≡ mid)) ⊎ ((out : Out) × IsToldEnd out new status r × HasAnswered out mid new last)
 
 -- The machine that the numbers held did so; the new numbers hold it behind.
 pub record Streams (old new : SavedMachine) (bs : List ℕ) (status : ℕ) (events : List NaltvigoEvent) (r : NaltvigoRefusal) : Type 0 where

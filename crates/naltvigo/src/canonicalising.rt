@@ -13,13 +13,14 @@ use crate::settings::{limits_of, order_numbered};
 use crate::status::{
     BAD_LIMITS, BAD_ORDER, NO_MEMORY, NaltvigoRefusal, OK, REFUSED, TOO_SMALL, tell,
 };
-use cbor_reader::canonicalise;
+use cbor_reader::canonical_bytes;
 use std::alloc::Global;
 
 /// Writes the canonical bytes of the one valid item that `input` is to the front of `out`.
 ///
 /// `needed` becomes their count where the answer is `OK` or `TOO_SMALL`, else 0, and `refusal` is
-/// filled where it is `REFUSED` or `NO_MEMORY`. But for `OK`, `out` keeps its bytes.
+/// filled where it is `REFUSED` or `NO_MEMORY`. But for `OK`, `out` keeps its bytes. Of an input that
+/// is canonical no copy is made but that in `out`, and no memory is taken.
 #[unsafe(no_mangle)]
 pub extern "C" fn naltvigo_canonicalise_raw(
     alloc: Global,
@@ -39,6 +40,9 @@ pub extern "C" fn naltvigo_canonicalise_raw(
         × (needed.new ≤ bytes) }
     ensures equal { result ≡ OK → TellsItsValue depth (key_order order)
         input.now (take needed.new out.new) }
+    // What is canonical wants no memory.
+    ensures own { IsCanonicalOf (item_limits keys depth bytes) (key_order order) input.now input.now
+        → (result ≢ REFUSED) × (result ≢ NO_MEMORY) }
     ensures again { result ≡ OK → IsCanonicalOf (item_limits keys depth bytes) (key_order order)
         (take needed.new out.new) (take needed.new out.new) }
     ensures room { result ≡ OK → needed.new ≤ length out.old }
@@ -69,7 +73,7 @@ pub extern "C" fn naltvigo_canonicalise_raw(
     let Some(limits) = limits_of(keys, depth, bytes) else {
         return BAD_LIMITS;
     };
-    match canonicalise(alloc, input, limits, order) {
+    match canonical_bytes(alloc, input, limits, order) {
         Ok(canonical) => give(canonical.as_slice(), out, needed),
         Err(reason) => tell(reason, refusal),
     }

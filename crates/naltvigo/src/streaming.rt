@@ -82,6 +82,7 @@ pub extern "C" fn naltvigo_machine_take_raw(
     ensures streams { result ≢ BAD_MACHINE → Streams machine.old machine.new
         (take used.new input.now) result (take told.new events.new) refusal.new }
     ensures full { result ≡ EVENT → told.new ≡ length events.new }
+    ensures room { result ≢ EVENT → result ≢ BAD_MACHINE → told.new < length events.new }
     ensures more { result ≡ MORE → (used.new ≡ length input.now)
         × (machine.new.taken < machine.new.bytes) }
     ensures refused { result ≡ REFUSED → (refusal.new.read ≡ machine.new.taken)
@@ -142,6 +143,7 @@ fn take_events(
     ensures tells { TellsOn machine.old machine.new (take result.used input.now) result.status
         (take result.told events.new) refusal.new }
     ensures full { result.status ≡ EVENT → result.told ≡ length events.new }
+    ensures room { result.status ≢ EVENT → result.told < length events.new }
     ensures more { result.status ≡ MORE → (result.used ≡ length input.now)
         × (machine.new.taken < machine.new.bytes) }
     ensures refused { result.status ≡ REFUSED → (refusal.new.read ≡ machine.new.taken)

@@ -4,8 +4,9 @@
 
 use super::limits;
 use cbor_head::{Reason, Refusal};
-use cbor_reader::{KeyOrder, canonicalise, check_valid};
+use cbor_reader::{KeyOrder, canonical_bytes, canonicalise, check_valid};
 use std::alloc::{AllocError, Global};
+use std::borrow::CowSlice;
 use std::process::Abort;
 use std::test::Fail;
 
@@ -113,6 +114,12 @@ fn look_for(rt: &impl Abort, alloc: Global, case: &Case, name: &str) {
         assert!(rt; given.is_ok_and(|bytes| bytes == case.canonical), "{name}");
         let again = canonicalise(alloc, &case.canonical, limits, order);
         assert!(rt; again.is_ok_and(|bytes| bytes == case.canonical), "{name}");
+        let same = canonical_bytes(alloc, &case.canonical, limits, order);
+        let is_same = match same {
+            Ok(CowSlice::Borrowed(bytes)) => bytes == case.canonical.as_slice(),
+            _ => false,
+        };
+        assert!(rt; is_same, "{name}, as it stands");
     }
     let count = check_valid(alloc, &case.input, limits);
     assert!(rt; count == Ok(case.input.len() as u64), "{name}");

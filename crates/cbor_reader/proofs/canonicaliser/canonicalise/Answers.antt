@@ -1,28 +1,13 @@
-use Rattle.std.proofs.Common.{arith}
-use Rattle.cbor_reader.proofs.OnAnswers.{ok_item, err_item, ok_equal, ok_again, err_reason}
+use Rattle.cbor_reader.proofs.WholeItems.{memory_at_end}
 use Rattle.cbor_reader.proofs.canonicaliser.canonicalise.Goals as goal
 
-pub returns-clause-accepted : goal.returns-clause-accepted
-returns-clause-accepted c =
-    let a = c.canonical_bytes.ensures in
-    ok_item c.args.limits c.args.order c.args.bytes.now (λ v. v.items) c.canonical_bytes.result a
+pub returns-in-Owned-clause-equal : goal.returns-in-Owned-clause-equal
+returns-in-Owned-clause-equal c = rw c.in-Owned.is at c.in_ok-made.ensures.equal
 
-pub returns-clause-refused : goal.returns-clause-refused
-returns-clause-refused c =
-    let a = c.canonical_bytes.ensures in
-    err_item c.args.limits c.args.order c.args.bytes.now (λ v. v.items) c.canonical_bytes.result a
+pub returns-in-Ok-clause-equal : goal.returns-in-Ok-clause-equal
+returns-in-Ok-clause-equal c = rw c.in-Ok.ensures.items (rw c.in-Borrowed.is at c.in_ok-made.ensures.equal)
 
-pub returns-clause-equal : goal.returns-clause-equal
-returns-clause-equal c =
-    let a = c.canonical_bytes.ensures in
-    ok_equal c.args.limits c.args.order c.args.bytes.now (λ v. v.items) c.canonical_bytes.result (omega arith) a
-
-pub returns-clause-reason : goal.returns-clause-reason
-returns-clause-reason c =
-    let a = c.canonical_bytes.ensures in
-    err_reason c.args.limits c.args.order c.args.bytes.now (λ v. v.items) c.canonical_bytes.result a
-
-pub returns-clause-again : goal.returns-clause-again
-returns-clause-again c =
-    let a = c.canonical_bytes.ensures in
-    ok_again c.args.limits c.args.order c.args.bytes.now (λ v. v.items) c.canonical_bytes.result (omega arith) a
+pub returns-in-Err-clause-answer : goal.returns-in-Err-clause-answer
+returns-in-Err-clause-answer c =
+    let e = c.in_ok-made.ensures.accepted in
+    memory_at_end c.args.limits c.args.order c.args.bytes.now c.at.result (e.0, e.1) c.at.ensures

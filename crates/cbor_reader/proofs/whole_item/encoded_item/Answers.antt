@@ -6,7 +6,7 @@ use Rattle.cbor_reader.proofs.whole_item.encoded_item.Goals as goal
 
 pub returns-then-is_canonical-clause-encoded : goal.returns-then-is_canonical-clause-encoded
 returns-then-is_canonical-clause-encoded c =
-    let h = (answers_exactly c.args.limits c.args.order c.args.bytes.now c.args.bytes.now).0 (c.is_canonical.ensures c.if-is_canonical.true) in
+    let h = (answers_exactly c.args.limits c.args.order c.args.bytes.now c.args.bytes.now).0 (c.is_canonical.ensures.own c.if-is_canonical.true) in
     (h.0, h.1, h.2)
 
 pub returns-then-front-bytes-clause-refused : goal.returns-then-front-bytes-clause-refused

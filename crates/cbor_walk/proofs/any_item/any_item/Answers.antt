@@ -12,12 +12,12 @@ use Rattle.cbor_walk.proofs.any_item.any_item.Goals.{else-first-via-then-first+e
 pub returns-in_default : goal.returns-in_default
 returns-in_default c =
     let none : c.args.rest.now ≡ [] = nil_from_length c.args.rest.now c.in_default.ensures.cases in
-    refuses c.args.room c.args.at c.args.rest.now [] _ c.refused.result none c.refused.ensures (λ o. nothing_here (strict o) c.args.room c.args.at (c.args.at + length c.args.rest.now) (ap (λ (x : List ℕ). c.args.at + length x) none))
+    refuses c.args.room c.args.at c.args.rest.now [] _ (any.Refused c.refusal_at.result) none (ap any.Refused c.refusal_at.ensures) (λ o. nothing_here (strict o) c.args.room c.args.at (c.args.at + length c.args.rest.now) (ap (λ (x : List ℕ). c.args.at + length x) none))
 
 pub returns-in-Some-misplaced : goal.returns-in-Some-misplaced
 returns-in-Some-misplaced c =
     let split = c.in-Some.ensures.cases.0 in
-    refuses c.args.room c.args.at c.args.rest.now (c.in-Some.first.now ∷ c.in-Some.behind.now) _ c.refused-in-Some-misplaced.result split c.refused-in-Some-misplaced.ensures
+    refuses c.args.room c.args.at c.args.rest.now (c.in-Some.first.now ∷ c.in-Some.behind.now) _ (any.Refused c.refusal_at-in-Some-misplaced.result) split (ap any.Refused c.refusal_at-in-Some-misplaced.ensures)
     (λ o. misplaced_here (strict o) c.args.room c.in-Some.first.now c.in-Some.behind.now c.args.at c.in-Some-misplaced.reason c.in-Some-misplaced.ensures)
 
 pub returns-then-low-eq31 : goal.returns-then-low-eq31
@@ -25,7 +25,7 @@ returns-then-low-eq31 c =
     let split = c.in-Some.ensures.cases.0 in
     let first = c.in-Some.first.now in
     let low : (64 ≤ first) × (first < 192) = elim c.in_default-misplaced.ensures.low [ inl l ↦ absurd (omega (arith, l, c.if-low-eq31.true)) | inr l ↦ (l.1, l.2) ] in
-    refuses c.args.room c.args.at c.args.rest.now (first ∷ c.in-Some.behind.now) _ c.refused-then-low-eq31.result split c.refused-then-low-eq31.ensures
+    refuses c.args.room c.args.at c.args.rest.now (first ∷ c.in-Some.behind.now) _ (any.Refused c.refusal_at-then-low-eq31.result) split (ap any.Refused c.refusal_at-then-low-eq31.ensures)
     (λ o. endless_here (strict o) c.args.room first c.in-Some.behind.now c.args.at refl c.if-low-eq31.true low.0 low.1 c.in_default-misplaced.ensures.fits)
 
 pub returns-in_default-read_argument : goal.returns-in_default-read_argument
@@ -33,7 +33,7 @@ returns-in_default-read_argument c =
     let split = c.in-Some.ensures.cases.0 in
     let first = c.in-Some.first.now in
     let low : first % 32 < 28 = elim c.in_default-misplaced.ensures.low [ inl l ↦ l | inr l ↦ absurd (c.if-low-eq31.false l.0) ] in
-    refuses c.args.room c.args.at c.args.rest.now (first ∷ c.in-Some.behind.now) _ c.refused-in_default-read_argument.result split c.refused-in_default-read_argument.ensures
+    refuses c.args.room c.args.at c.args.rest.now (first ∷ c.in-Some.behind.now) _ (any.Refused c.refusal_at-in_default-read_argument.result) split (ap any.Refused c.refusal_at-in_default-read_argument.ensures)
     (λ o. cut_here (strict o) c.args.room first c.in-Some.behind.now c.args.at (c.in_default-read_argument.ensures.long refl) low c.in_default-misplaced.ensures.no_float c.in_default-misplaced.ensures.fits
     (c.in_default-read_argument.ensures.cut refl) (c.args.at + length c.args.rest.now) (ap (λ (x : List ℕ). c.args.at + length x) split))
 
@@ -41,7 +41,7 @@ pub returns-then-head-lt32 : goal.returns-then-head-lt32
 returns-then-head-lt32 c =
     let split = c.in-Some.ensures.cases.0 in
     let h = c.in-Some-read_argument.head in
-    refuses c.args.room c.args.at c.args.rest.now (c.in-Some.first.now ∷ c.in-Some.behind.now) _ c.refused-then-head-lt32.result split c.refused-then-head-lt32.ensures
+    refuses c.args.room c.args.at c.args.rest.now (c.in-Some.first.now ∷ c.in-Some.behind.now) _ (any.Refused c.refusal_at-then-head-lt32.result) split (ap any.Refused c.refusal_at-then-head-lt32.ensures)
     (λ o. no_simple_here (strict o) c.args.room c.in-Some.first.now c.in-Some.behind.now c.args.at h.width h.number h.rest.now c.in-Some-read_argument.ensures.spelled c.if-first.true c.if-head-lt32.true)
 
 pub returns-then-not-is_shortest : goal.returns-then-not-is_shortest
@@ -49,7 +49,7 @@ returns-then-not-is_shortest c =
     let split = c.in-Some.ensures.cases.0 in
     let h = c.in-Some-read_argument.head in
     let wide : c.in-Some.first.now ≡ 248 → 32 ≤ h.number = λ e. elim c.else-first.branch [ else-first-via-then-first+else-head-lt32 w ↦ w.if-head-lt32.false | else-first-via-else-first w ↦ absurd (w.if-first.false e) ] in
-    refuses c.args.room c.args.at c.args.rest.now (c.in-Some.first.now ∷ c.in-Some.behind.now) _ c.refused-then-not-is_shortest.result split c.refused-then-not-is_shortest.ensures
+    refuses c.args.room c.args.at c.args.rest.now (c.in-Some.first.now ∷ c.in-Some.behind.now) _ (any.Refused c.refusal_at-then-not-is_shortest.result) split (ap any.Refused c.refusal_at-then-not-is_shortest.ensures)
     (λ o. long_here (strict o) c.args.room c.in-Some.first.now c.in-Some.behind.now c.args.at h.width h.number h.rest.now c.in-Some-read_argument.ensures.spelled refl c.in_default-misplaced.ensures.no_float wide c.in_default-misplaced.ensures.fits
     (c.is_shortest.ensures.long c.if-not-is_shortest.true) (length c.args.rest.now - length h.rest.now) (ap (λ (x : List ℕ). length x - length h.rest.now) split) c.in-Some-read_argument.ensures.fewer)
 

@@ -1,3 +1,4 @@
+use Rattle.std.proofs.KnownBytes.{Keeps-refl}
 use Rattle.std.proofs.lemmas.Result.{err_from_is_err_and}
 use Rattle.cborc_fronts.proofs.Results.{on_ok, if_err}
 use Rattle.cborc_items.proofs.Faults.{shown_of, unshown, not_shown}
@@ -10,7 +11,7 @@ pub returns-in_err-size_of_item-clause-fault : goal.returns-in_err-size_of_item-
 returns-in_err-size_of_item-clause-fault g c =
     let p = err_from_is_err_and c.from_residual-in_err-size_of_item.result c.from_residual-in_err-size_of_item.ensures.1 in
     rw (p.1)
-    (not_shown c.args.options c.args.source.now (g.F.Folder.held c.args.files.now) c.in_ok-bytes.bytes.items c.in_ok-bytes.ensures.front _
+    (not_shown c.args.options c.args.source.now (g.F.Folder.held c.args.files.now) c.in_ok-bytes.bytes.items c.in_ok-bytes.ensures.front c.args.layout _ _ (Keeps-refl (g.O.Write.contents c.args.out.now)) _
     (rw (c.as_slice-front.ensures.value) at c.in_err-size_of_item.ensures.refused) p.0 p.2)
 
 pub returns-clause-shown : goal.returns-clause-shown

@@ -1,23 +1,22 @@
-use Rattle.std.proofs.Common.{rules, ◌≡◌, length, take, sym, ap, ◌∙◌, inl, inr}
+use Rattle.std.proofs.Common.{rules, ℕ, ◌≡◌, List, length, take, sym, ap, ◌∙◌, inl, inr}
 use Rattle.naltvigo.specs.Settings.{item_limits}
-use Rattle.naltvigo.specs.declared.status.TheConstants.{OK}
 use Rattle.naltvigo.proofs.Given.{given-tells, given-item, given-refused}
 use Rattle.naltvigo.proofs.canonicalising.naltvigo_canonicalise_raw.Goals as goal
 
-in_buffer : (c : goal.After-drop-canonical) → c.give.result ≡ OK → take c.give.new.needed c.give.new.out ≡ c.in-Ok.canonical.items
-in_buffer c e = ap (λ k. take k c.give.new.out) c.give.ensures.needed ∙ (c.give.ensures.given e).0 ∙ c.as_slice.ensures.value
+in_buffer : (out answer items : List ℕ) (needed : ℕ) → needed ≡ length answer → take (length answer) out ≡ answer → answer ≡ items → take needed out ≡ items
+in_buffer out answer items needed n g v = ap (λ k. take k out) n ∙ g ∙ v
 
 pub returns-in-Ok-clause-accepted : goal.returns-in-Ok-clause-accepted
 returns-in-Ok-clause-accepted c = λ e.
     given-item _ (item_limits c.args.keys c.args.depth c.args.bytes) _ _ c.args.input.now _ _
     (sym c.in-Some-limits_of.ensures.value.0)
-    (sym c.in-Some.ensures.value.0) (in_buffer c e) _ (c.give.ensures.needed ∙ ap length c.as_slice.ensures.value) c.in-Ok.ensures.accepted
+    (sym c.in-Some.ensures.value.0) (in_buffer _ _ _ _ c.give.ensures.needed (c.give.ensures.given e).0 c.as_slice.ensures.value) _ (c.give.ensures.needed ∙ ap length c.as_slice.ensures.value) c.in-Ok.ensures.accepted
 
 pub returns-in-Ok-clause-equal : goal.returns-in-Ok-clause-equal
 returns-in-Ok-clause-equal c = λ e.
     given-tells _ (item_limits c.args.keys c.args.depth c.args.bytes) _ _ c.args.input.now _ _
     (sym c.in-Some-limits_of.ensures.value.0)
-    (sym c.in-Some.ensures.value.0) (in_buffer c e) c.in-Ok.ensures.equal
+    (sym c.in-Some.ensures.value.0) (in_buffer _ _ _ _ c.give.ensures.needed (c.give.ensures.given e).0 c.as_slice.ensures.value) c.in-Ok.ensures.equal
 
 pub returns-in-Err-clause-refused : goal.returns-in-Err-clause-refused
 returns-in-Err-clause-refused c = λ e.

@@ -3,12 +3,12 @@ use Rattle.std.proofs.Math.Seq.{take-add}
 use Rattle.std.proofs.lemmas.List.{drop-drop, drop-set-lt, take_more_set, take_rest}
 use Rattle.cbor_automaton.specs.declared.event.Event.{Event}
 use Rattle.cbor_head.specs.declared.reason.Refusal.{Refusal}
-use Rattle.cbor_standing.specs.Machine.{IsDone, IsEvent}
+use Rattle.cbor_standing.specs.Machine.{IsDone, IsEvent, IsMore}
 use Rattle.cbor_standing.specs.declared.step.Out.{Out}
 use Rattle.cbor_standing.specs.declared.step.Out.TheVariants as outs
 use Rattle.naltvigo.specs.Streaming.{HasAnswered, IsToldEvent}
 use Rattle.naltvigo.specs.Told.{IsTold}
-use Rattle.naltvigo.proofs.Staying.{complete-then, live-behind, live-then, not-done, not-more, refused-then, same-refusal, unrefused}
+use Rattle.naltvigo.proofs.Staying.{complete-then, done-behind, live-behind, live-then, not-done, not-more, refused-then, same-refusal, unrefused}
 use Rattle.naltvigo.proofs.Told.{nothing_given, one_given, no_further}
 use Rattle.naltvigo.proofs.streaming.take_events.Goals as goal
 
@@ -45,19 +45,19 @@ events-preserved c =
 pub returns-in-More-clause-tells : goal.returns-in-More-clause-tells
 returns-in-More-clause-tells c =
     rw (c.new.ensures, take-add c.events.used c.step-step.result.used c.args.input.now)
-    (no_further _ c.events.machine _ _ _ _ _ _ outs.More c.events.invariant.given c.step-step.ensures.limits refl
+    (no_further _ c.events.machine _ _ _ _ _ _ outs.More c.events.invariant.given c.step-step.ensures.limits (refl, (c.step-step.ensures.more (subst IsMore (sym c.in-More.is) tt)).3)
     (subst (λ (o : Out). HasAnswered o c.events.machine c.step-step.new.self (take c.step-step.result.used (drop c.events.used c.args.input.now))) c.in-More.is (rw (take_rest c.args.input.now c.events.used) at c.step-step.ensures.answers)))
 
 pub returns-in-Done-clause-tells : goal.returns-in-Done-clause-tells
 returns-in-Done-clause-tells c =
     rw (c.new-in-Done.ensures, take-add c.events.used c.step-step.result.used c.args.input.now)
-    (no_further _ c.events.machine _ _ _ _ _ _ outs.Done c.events.invariant.given c.step-step.ensures.limits refl
+    (no_further _ c.events.machine _ _ _ _ _ _ outs.Done c.events.invariant.given c.step-step.ensures.limits (refl, done-behind _ _ _ c.step-step.ensures.stays c.in-Done.is)
     (subst (λ (o : Out). HasAnswered o c.events.machine c.step-step.new.self (take c.step-step.result.used (drop c.events.used c.args.input.now))) c.in-Done.is (rw (take_rest c.args.input.now c.events.used) at c.step-step.ensures.answers)))
 
 pub returns-in-Refused-clause-tells : goal.returns-in-Refused-clause-tells
 returns-in-Refused-clause-tells c =
     rw (c.new-in-Refused.ensures, take-add c.events.used c.step-step.result.used c.args.input.now)
-    (no_further _ c.events.machine _ _ _ _ _ _ (outs.Refused c.in-Refused.why) c.events.invariant.given c.step-step.ensures.limits (refl, c.told.ensures)
+    (no_further _ c.events.machine _ _ _ _ _ _ (outs.Refused c.in-Refused.why) c.events.invariant.given c.step-step.ensures.limits (refl, c.told.ensures, (rw c.in-Refused.is at c.step-step.ensures.refused).0)
     (subst (λ (o : Out). HasAnswered o c.events.machine c.step-step.new.self (take c.step-step.result.used (drop c.events.used c.args.input.now))) c.in-Refused.is (rw (take_rest c.args.input.now c.events.used) at c.step-step.ensures.answers)))
 
 pub returns-in-More-clause-complete : goal.returns-in-More-clause-complete

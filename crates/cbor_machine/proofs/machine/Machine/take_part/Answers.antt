@@ -8,6 +8,7 @@ use Rattle.cbor_standing.specs.Steps.{Ran}
 use Rattle.cbor_standing.proofs.Standing.{are_bytes-take, fit-sound, front-walked, length-front, step-from, stopped, answered}
 use Rattle.cbor_steps.specs.State.{IsFit}
 use Rattle.cbor_machine.proofs.Reasons.{form-machine}
+use Rattle.cbor_machine.proofs.Wanting.{goes-within, nothing-refused, wants-more}
 use Rattle.cbor_steps.proofs.Frames.{not-done}
 use Rattle.cbor_machine.proofs.machine.Machine.take_part.Goals as goal
 
@@ -108,3 +109,9 @@ invariant_of-self-in-Refused c =
         form-machine c.in-Refused.reason ((rw c.in-Refused.is at c.walk-used.ensures.reason) (not-done _ (λ e. c.in_default-position.not-Done e))),
       );
     }
+
+pub returns-then-self-bytes-clause-due : goal.returns-then-self-bytes-clause-due
+returns-then-self-bytes-clause-due c = λ _.
+    let walked = rw c.in-More.is at c.walk-used.ensures.walked in
+    wants-more c.self.inside.refusal c.self.inside.limits.bytes (c.self.inside.taken + c.walk-used.result.0) c.walk-used.new.position (nothing-refused _ c.in_default.not-Some) (omega (arith, c.bytes-bytes.ensures.bytes, c.if-self-bytes.true))
+    (goes-within _ c.self.inside.position _ c.self.inside.nest _ _ _ (λ e. c.in_default-position.not-Done e) c.walk-used.ensures.fits (c.walk-used.ensures.open c.in-More.is) walked)

@@ -30,9 +30,9 @@ full-preserved c = (
   c.end_keys.ensures.same.1 ∙ c.full.invariant.0,
   λ b e t h counted.
       let k = c.full.invariant.1 b e t h counted in (
-        ap (λ (x : Built). x.order) (c.end_keys.ensures.same.0 ∙ c.in_ok-end.ensures) ∙ k.0,
+        ap (λ (x : Built). x.order) (c.end_keys.ensures.same.0 ∙ c.in_ok-end.ensures.ended) ∙ k.0,
         (λ some. subst IsSome (sym c.end_keys.ensures.same.2) (step-kept close c.full.self.tree _ c.in_ok-end_in_tree.ensures (k.1 some))),
-        ends-one c.full.self b e t c.full.left k.2 (omega (arith, counted, c.full-test.true)) _ (c.end_keys.ensures.same.0 ∙ c.in_ok-end.ensures) c.end_keys.ensures.same.1 c.end_keys.ensures.same.3
+        ends-one c.full.self b e t c.full.left k.2 (omega (arith, counted, c.full-test.true)) _ (c.end_keys.ensures.same.0 ∙ c.in_ok-end.ensures.ended) c.end_keys.ensures.same.1 c.end_keys.ensures.same.3
             (subst (IsTreeStep close c.full.self.tree) (sym c.end_keys.ensures.same.2) c.in_ok-end_in_tree.ensures) c.end_keys.ensures.sets,
       ),
 )

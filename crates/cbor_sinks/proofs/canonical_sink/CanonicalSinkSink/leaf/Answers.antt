@@ -9,4 +9,4 @@ leaf-requires-clause-takes c = takes c.args._is_key c.args.self.now c.requires.d
 pub returns : goal.returns
 returns c =
     given c.args._is_key (leaf_value c.args.major c.args.number) (shortest_head c.args.major c.args.number) c.args.self.now (record { builder = c.leaf.new.self }) (λ o. leaf-bytes o c.args.major c.args.number c.requires.kind)
-    c.in_ok-leaf.ensures
+    c.in_ok-leaf.ensures.given

@@ -15,4 +15,4 @@ returns c =
     let content = take c.args.count c.args.front.now in
     given c.args._is_key (string_value t content) (shortest_head c.string_type.result c.args.count ++ content) c.args.self.now (record { builder = c.front_string.new.self })
     (λ o. string-bytes o t content ∙ ap₂ (λ (m : Major) (n : ℕ). shortest_head m n ++ content) (sym c.string_type.ensures) (length-take-le c.args.count c.args.front.now c.requires.within))
-    c.in_ok-front_string.ensures
+    c.in_ok-front_string.ensures.given

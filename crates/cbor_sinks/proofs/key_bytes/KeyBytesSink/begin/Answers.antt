@@ -14,4 +14,4 @@ overflow_add-self c = omega (arith, few c.args.is_key c.args.self.now c.requires
 pub returns-in_ok-begin : goal.returns-in_ok-begin
 returns-in_ok-begin c =
     let old = c.args.self.now in
-    opened-kept c.args.is_key c.args.major c.args.number old (record { builder = c.begin.new.self; inside = old.inside + 1 }) (sym c.keeps.ensures ∙ c.if-keeps.true) c.in_ok-begin.ensures (omega arith)
+    opened-kept c.args.is_key c.args.major c.args.number old (record { builder = c.begin.new.self; inside = old.inside + 1 }) (sym c.keeps.ensures ∙ c.if-keeps.true) c.in_ok-begin.ensures.opened (omega arith)

@@ -15,7 +15,7 @@ front_string-requires-clause-takes c = takes c.args.is_key c.args.self.now c.req
 pub settle-requires : goal.settle-requires
 settle-requires c =
     let old = c.args.self.now in
-    key-takes c.args.is_key _ old (record { builder = c.front_string.new.self; inside = old.inside }) c.requires.due (sym c.keeps.ensures ∙ c.if-keeps.true) c.in_ok-front_string.ensures
+    key-takes c.args.is_key _ old (record { builder = c.front_string.new.self; inside = old.inside }) c.requires.due (sym c.keeps.ensures ∙ c.if-keeps.true) c.in_ok-front_string.ensures.given
 
 pub returns-in_ok-settle : goal.returns-in_ok-settle
 returns-in_ok-settle c =
@@ -26,7 +26,7 @@ returns-in_ok-settle c =
     let typed = ap (λ (m : Major). built old.builder.order (give (shortest_head m n ++ content) old.builder.standing)) c.string_type.ensures in
     given-kept c.args.is_key (string_value t content) (shortest_head (string_major t) n ++ content) old c.settle.new.self c.front_string.new.self
     (λ o. string-bytes o t content ∙ ap (λ (x : ℕ). shortest_head (string_major t) x ++ content) (length-take-le n c.args.front.now c.requires.within)) (sym c.keeps.ensures ∙ c.if-keeps.true)
-    (c.in_ok-front_string.ensures ∙ typed) c.in_ok-settle.ensures.builder c.in_ok-settle.ensures.inside
+    (c.in_ok-front_string.ensures.given ∙ typed) c.in_ok-settle.ensures.builder c.in_ok-settle.ensures.inside
 
 pub returns-else-keeps : goal.returns-else-keeps
 returns-else-keeps c =
