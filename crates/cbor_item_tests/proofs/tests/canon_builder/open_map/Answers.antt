@@ -14,4 +14,4 @@ pair_given o p k b ps os s v w i e f =
 pub loop-key-preserved : goal.loop-key-preserved
 loop-key-preserved c =
     let i = c.loop-key.invariant in
-    pair_given _ _ _ _ i.0 c.args.builder.now.standing c.loop-key.builder.standing c.leaf.new.self c.leaf-in-loop-key.new.self i.1 c.in_ok-leaf.ensures c.in_ok-leaf-2.ensures
+    pair_given _ _ _ _ i.0 c.args.builder.now.standing c.loop-key.builder.standing c.leaf.new.self c.leaf-in-loop-key.new.self i.1 c.in_ok-leaf.ensures.given c.in_ok-leaf-2.ensures.given
