@@ -4,19 +4,16 @@ use Rattle.std.specs.Prelude.{◌⊎◌, ◌↔◌, IsTrue, Result, Ok, Err, IfO
 use Rattle.std.proofs.lemmas.Bool.{false≢true}
 use Rattle.cbor_builder.specs.Built.{Built, built, HasDistinctKeysSoFar, TakesPart, around}
 use Rattle.cbor_canonical.specs.Parts.{IsInContainer, Open, plain, give, close}
-use Rattle.cbor_canonical.specs.Parts as parts
 use Rattle.cbor_head.specs.Canonical.{canonical}
 use Rattle.cbor_head.specs.Spelling.{Spelling, array, a_map, value_of}
 use Rattle.cbor_head.specs.Value.{Value}
-use Rattle.cbor_head.specs.declared.major.Major.{Major}
-use Rattle.cbor_head.specs.declared.major.Major.TheVariants as majors
 use Rattle.cbor_head.specs.declared.order.KeyOrder.{KeyOrder}
 use Rattle.cbor_judging.specs.Given.{level_open, opens, IsFull}
-use Rattle.cbor_judging.specs.Levels.{Level, some_member, some_key, AreLevels, Standing, item_due, item_full, settle}
-use Rattle.cbor_sinks.proofs.CanonGiven.{level-opened, full-endless}
+use Rattle.cbor_judging.specs.Levels.{Level, some_member, some_key, AreLevels, Standing, item_full, settle}
+use Rattle.cbor_sinks.proofs.CanonGiven.{full-endless}
 use Rattle.cbor_sinks.proofs.KeysKept.{in_key-is, item-kept, takes-part, value-takes, inside-few, innermost, may-end, IsBehind, map-ended, other-ended, inner-ended, inner-takes}
-use Rattle.cbor_sinks.specs.KeyBytes.{is_open_map, in_key, kept, kept_all, one_more, inside, is_kept, behind_item, with_item, with_opened, KeepsAt, keys_stand}
-use Rattle.cbor_walk.specs.Sink.{key_due, is_map, Told, IsEndedAs, Fills, StandsFull, IsItemDue, IsContainerFull, Gives, Opens, Ends}
+use Rattle.cbor_sinks.specs.KeyBytes.{is_open_map, in_key, kept, kept_all, one_more, inside, is_kept, behind_item, with_item, KeepsAt, keys_stand}
+use Rattle.cbor_walk.specs.Sink.{key_due, is_map, Told, IsEndedAs, Fills, StandsFull, IsItemDue, IsContainerFull, Gives, Ends}
 use Rattle.cbor_sinks.specs.declared.key_bytes.KeyBytes.{KeyBytes}
 
 -- ---- an item
@@ -70,22 +67,6 @@ pub given-left : (k : Bool) (v : Value) (b : List ℕ) (old : KeyBytes) → ((o 
 given-left k v b old same lacks = given k v b old old same (ap (built old.builder.order) (with-left old.inside k b old.builder.standing lacks)) refl
 
 -- ---- containers
-
-opened : (k : Bool) (m : Major) (n : ℕ) (old new : KeyBytes) → new.builder ≡ built old.builder.order (with_opened old.inside k (parts.opened m n) old.builder.standing)
-    → new.inside ≡ one_more (is_kept old.inside k) old.inside → Opens KeyBytes keys_stand k m n old new
-opened k m n old new is more start ls l at e =
-    let o = old.builder.order in
-    let told : is_kept old.inside k ≡ is_kept (inside ls) (key_due ls) = λ i. is_kept (at.0.1 i) (at.1 i) in
-    let at-key = told ∙ sym (in_key-is ls) in
-    let opens-at : kept (is_kept old.inside k) (parts.opened m n) old.builder.standing ≡ kept (in_key ls) (level_open o l) (kept_all o ls) = λ i. kept (at-key i) (sym (level-opened o m n l e) i) (at.0.0 i) in
-    let more-at : one_more (is_kept old.inside k) old.inside ≡ one_more (in_key ls) (inside ls) = λ i. one_more (at-key i) (at.0.1 i) in
-    stands-by o new.builder.order _ new.builder.standing _ new.inside (item_due (l ∷ ls)) (ap (λ (x : Built). x.order) is)
-    (ap (λ (x : Built). x.standing) is ∙ opens-at) (more ∙ more-at) (refl, refl)
-
-pub opened-kept : (k : Bool) (m : Major) (n : ℕ) (old new : KeyBytes) → is_kept old.inside k ≡ true → new.builder ≡ built old.builder.order (parts.opened m n ∷ old.builder.standing) → new.inside ≡ suc old.inside
-    → Opens KeyBytes keys_stand k m n old new
-opened-kept k m n old new keeps is more =
-    opened k m n old new (is ∙ ap (λ (t : Bool). built old.builder.order (kept t (parts.opened m n) old.builder.standing)) (sym keeps)) (more ∙ ap (λ (t : Bool). one_more t old.inside) (sym keeps))
 
 -- one without a length has no more to come
 ended-as : (o : KeyOrder) (l : Level) (s : Spelling) → IsEndedAs l s → (is_open_map (level_open o l) ≡ is_map s) × (key_due (l ∷ []) ≡ is_map s)

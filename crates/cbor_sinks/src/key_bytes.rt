@@ -1,9 +1,11 @@
 //! The canonical bytes of the keys of an item whose parts come, and of nothing else.
 
-ghost use Rattle.std.specs.Prelude.{◌≡◌, [], OnOk};
+ghost use Rattle.std.specs.Prelude.{◌≡◌, ◌<◌, [], false, IfOk, IsTrue, OnOk};
 ghost use Rattle.cbor_builder.specs.Built.{built, TakesPart};
 ghost use Rattle.cbor_judging.specs.Levels.{item_due};
 ghost use Rattle.cbor_sinks.specs.KeyBytes.{is_kept, behind_item, keys_stand, keys_hold};
+ghost use Rattle.cbor_sinks.specs.declared.key_bytes.KeyBytes.{KeyBytes};
+ghost use Rattle.cbor_walk.specs.Sink.{IsContainerFull, Ends};
 
 use crate::canonical_sink::string_type;
 use cbor_builder::CanonBuilder;
@@ -47,8 +49,9 @@ impl KeyBytes {
         self.inside > 0 || is_key
     }
 
-    // An item is complete: a key, if none of a key's containers is open. Its value is not kept.
-    #[inline(always)]
+    // An item is complete: a key, if none of a key's containers is open. Its value is not kept. It is
+    // a call, as the next is, so that the walk's loop stays small enough to be one function.
+    #[inline(never)]
     fn settle(&mut self) -> Result<(), AllocError>
         requires { self.old.inside ≡ 0 → TakesPart self.old.builder.standing }
         ensures inside { self.new.inside ≡ self.old.inside }
@@ -59,6 +62,22 @@ impl KeyBytes {
             self.builder.nothing()?;
         }
         Ok(())
+    }
+
+    // A container that stands in a key ends.
+    #[inline(never)]
+    fn end_in_key(&mut self, is_map: bool) -> Result<bool, AllocError>
+        requires inside { 0 < self.old.inside }
+        requires full { IsContainerFull KeyBytes keys_stand false is_map self.old }
+        ensures { IfOk result (λ is_distinct. IsTrue is_distinct
+            → Ends KeyBytes keys_stand false is_map self.old self.new) }
+    {
+        if !self.builder.end_if_distinct()? {
+            return Ok(false);
+        }
+        self.inside -= 1;
+        self.settle()?;
+        Ok(true)
     }
 }
 
@@ -125,11 +144,13 @@ impl<'a> Sink<'a> for KeyBytes {
 
     #[inline(always)]
     fn begin(&mut self, is_key: bool, major: Major, number: u64) -> Result<(), AllocError> {
-        if self.keeps(is_key) {
-            self.builder.begin(major, number)?;
+        let keeps = self.keeps(is_key);
+        if !keeps && !matches!(major, Major::Map) {
+            return Ok(());
+        }
+        self.builder.begin(major, number)?;
+        if keeps {
             self.inside += 1;
-        } else if let Major::Map = major {
-            self.builder.begin(major, number)?;
         }
         Ok(())
     }
@@ -142,12 +163,7 @@ impl<'a> Sink<'a> for KeyBytes {
             }
             return Ok(true);
         }
-        if !self.builder.end_if_distinct()? {
-            return Ok(false);
-        }
-        self.inside -= 1;
-        self.settle()?;
-        Ok(true)
+        self.end_in_key(is_map)
     }
 
     fn has_equal_keys(self) -> bool {

@@ -226,47 +226,7 @@ pub(crate) fn take_head(
         finish(position, nest);
         return Token::Simple;
     }
-    // Each type has a call of its own, so that what follows it knows the token.
     let kind = numbered_at(head.first / 32);
-    match kind {
-        Numbered::Unsigned => take_numbered(kind, head, depth, position, nest),
-        Numbered::Negative => take_numbered(kind, head, depth, position, nest),
-        Numbered::Bytes => take_numbered(kind, head, depth, position, nest),
-        Numbered::Text => take_numbered(kind, head, depth, position, nest),
-        Numbered::Array => take_numbered(kind, head, depth, position, nest),
-        Numbered::Map => take_numbered(kind, head, depth, position, nest),
-        Numbered::Tag => take_numbered(kind, head, depth, position, nest),
-    }
-}
-
-// The same of a head of this type.
-#[inline(always)]
-fn take_numbered(
-    kind: Numbered,
-    head: DefiniteHead,
-    depth: usize,
-    position: &mut Position,
-    nest: &mut Nest,
-) -> Token
-    requires limit { depth ≤ MOST_OPEN }
-    requires within { length nest.old ≤ depth }
-    requires item { position.old ≡ Position.Item }
-    requires numbered { head.first < 224 }
-    requires kind { major_of kind ≡ automaton.major_at (head.first / 32) }
-    requires room { head.first < 224 → automaton.has_room depth (frames_of nest.old)
-        (automaton.major_at (head.first / 32)) ≡ true }
-    ensures told { (from : List ℕ) → IsHeadHere depth (frames_of nest.old) from head
-        → IsEventRun depth (automaton.at_item (frames_of nest.old))
-        (state_of position.new nest.new) (take head.used from) head.width
-        (kind_of result head.number) }
-    ensures settled { IsSettled nest.new position.new }
-    ensures within { length nest.new ≤ depth }
-    ensures proper { IsDefinite head.width → IsProper head.width (kind_of result head.number) }
-    ensures number { IsNumberOf result head.number }
-    ensures once { times (kind_of result head.number) ≡ 1 }
-    ensures other { (kept from : List ℕ)
-        → piece_by (kind_of result head.number) kept from ≡ kept }
-{
     enter(kind, head.number, depth, position, nest);
     told_of(kind)
 }

@@ -1,0 +1,26 @@
+use Rattle.std.proofs.Common.{◌∙◌, ℕ, suc, ◌-◌, ◌≡◌, sym, ap, inl, arith}
+use Rattle.cbor_builder.specs.Built.{Built, built}
+use Rattle.cbor_canonical.specs.Parts.{close}
+use Rattle.cbor_sinks.specs.KeyBytes.{behind_item}
+use Rattle.cbor_sinks.proofs.KeysGiven.{in-container, end-takes, ended-inner}
+use Rattle.cbor_sinks.proofs.key_bytes.KeyBytes.end_in_key.Goals as goal
+
+pub end_if_distinct-requires : goal.end_if_distinct-requires
+end_if_distinct-requires c = record { container = in-container c.args.is_map c.args.self.now c.requires.full (inl c.requires.inside) }
+
+pub settle-requires : goal.settle-requires
+settle-requires c = λ none.
+    let old = c.args.self.now in
+    let inside = c.requires.inside in
+    let some : suc (old.inside - 1) ≡ old.inside = omega (arith, inside) in
+    end-takes c.args.is_map (old.inside - 1) old (record { builder = c.end_if_distinct.new.self; inside = old.inside - 1 }) c.requires.full (c.in_ok-end_if_distinct.ensures.ended c.if-not-branch.false) some none
+
+pub returns : goal.returns
+returns c = λ yes.
+    let old = c.args.self.now in
+    let inside = c.requires.inside in
+    let stays = c.in_ok-settle.ensures.inside in
+    let some : suc c.settle.new.self.inside ≡ old.inside = omega (arith, inside, stays) in
+    ended-inner c.args.is_map old c.settle.new.self some (c.in_ok-end_if_distinct.ensures.distinct.0 c.if-not-branch.false)
+    (c.in_ok-settle.ensures.builder ∙ ap (λ (x : Built). built x.order (behind_item (old.inside - 1) x.standing)) (c.in_ok-end_if_distinct.ensures.ended c.if-not-branch.false)
+    ∙ ap (λ (n : ℕ). built old.builder.order (behind_item n (close old.builder.order old.builder.standing))) (sym stays))
