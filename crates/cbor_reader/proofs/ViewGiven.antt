@@ -15,7 +15,7 @@ use Rattle.cbor_plain.specs.TreeValues.{member_values, pair_values, level_value,
 use Rattle.cbor_reader.specs.inner.ViewSinks.{view_stands, view_holds}
 use Rattle.cbor_plain.proofs.TreeValues.{full-ends, levels-take, may-end, settles-right, values-given, values-ended}
 use Rattle.cbor_view.specs.Seen.{standing}
-use Rattle.cbor_sinks.specs.KeyBytes.{keys_stand}
+use Rattle.cbor_sinks.specs.KeyBytes.{keys_stand, keys_hold}
 use Rattle.cbor_sinks.specs.declared.key_bytes.KeyBytes.{KeyBytes}
 use Rattle.cbor_walk.specs.Sink.{FindsNoRepeat, Told, IsOpened, IsEndedAs, StandsFull, IsItemDue, IsChunkDue, IsContainerFull, Gives, Opens, Ends, BeginsString, GrowsString, EndsString}
 
@@ -111,5 +111,6 @@ string-ended k t old new keys views start d ls content s at told done e = (
 
 -- ---- keys
 
-pub no-repeat : (g : ViewSink) → FindsNoRepeat KeyBytes keys_stand g.keys → FindsNoRepeat ViewSink view_stands g
-no-repeat g h start ls at = h start.keys ls at.0
+pub no-repeat : (g : ViewSink) → FindsNoRepeat KeyBytes keys_stand keys_hold g.keys → FindsNoRepeat ViewSink view_stands view_holds g
+no-repeat g h start ls (inl at) = h start.keys ls (inl at.0)
+no-repeat g h start ls (inr (is_text, content, at)) = h start.keys ls (inl at.0)

@@ -174,5 +174,6 @@ pub none-told : {R : Type 0} (r : Option R) (X : Type 0) (P : R → Type 0) → 
 none-told None X P h e = h
 none-told (Some r) X P h e = cc e
 
-pub no-repeat : (g : CanonicalSink) → AreOpenKeysDifferent g.builder.standing → FindsNoRepeat CanonicalSink sink_stands g
-no-repeat g h start ls at = (start.builder.order, subst AreOpenKeysDifferent at.1 h)
+pub no-repeat : (g : CanonicalSink) → AreOpenKeysDifferent g.builder.standing → FindsNoRepeat CanonicalSink sink_stands sink_holds g
+no-repeat g h start ls (inl at) = (start.builder.order, subst AreOpenKeysDifferent at.1 h)
+no-repeat g h start ls (inr (is_text, content, at)) = (start.builder.order, (subst AreOpenKeysDifferent at.1 h).1)

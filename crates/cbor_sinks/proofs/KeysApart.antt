@@ -1,5 +1,5 @@
 -- What is kept of an item tells of all of its open maps whether two keys are the same.
-use Rattle.std.proofs.Common.{◌≡◌, ℕ, Bool, true, false, List, [], ◌∷◌, ◌++◌, map, refl, ap, ◌∙◌, subst, arith}
+use Rattle.std.proofs.Common.{◌≡◌, ℕ, Bool, true, false, List, [], ◌∷◌, ◌++◌, map, refl, ap, ◌∙◌, subst, inl, inr, arith}
 use Rattle.std.proofs.lemmas.List.{map-append}
 use Rattle.cbor_builder.specs.Built.{keys_so_far, AreAllDifferent, AreOpenKeysDifferent}
 use Rattle.cbor_canonical.specs.Parts.{Open, plain, an_array, a_map, a_key, a_string, pair}
@@ -7,8 +7,9 @@ use Rattle.cbor_head.specs.Canonical.{Pair}
 use Rattle.cbor_head.specs.declared.order.KeyOrder.{KeyOrder}
 use Rattle.cbor_judging.specs.Given.{level_open, opens}
 use Rattle.cbor_judging.specs.Levels.{Level}
+use Rattle.cbor_judging.specs.Reading.{string_major}
 use Rattle.cbor_walk.specs.Sink.{FindsNoRepeat}
-use Rattle.cbor_sinks.specs.KeyBytes.{in_key, bare_pairs, kept, kept_all, keys_stand, lent_stand}
+use Rattle.cbor_sinks.specs.KeyBytes.{in_key, bare_pairs, kept, kept_all, keys_stand, keys_hold, lent_stand, lent_hold}
 use Rattle.cbor_sinks.specs.declared.key_bytes.KeyBytes.{KeyBytes}
 use Rattle.cbor_sinks.specs.declared.lent_keys.LentKeys.{LentKeys}
 
@@ -34,9 +35,12 @@ all-apart : (o : KeyOrder) (ls : List Level) → AreOpenKeysDifferent (kept_all 
 all-apart o [] h = h
 all-apart o (l ∷ ls) h = let apart = kept-apart (in_key ls) (level_open o l) (kept_all o ls) h in (apart.0, all-apart o ls apart.1)
 
-pub no-repeat : (g : KeyBytes) → AreOpenKeysDifferent g.builder.standing → FindsNoRepeat KeyBytes keys_stand g
-no-repeat g h start ls at = (g.builder.order, all-apart g.builder.order ls (subst AreOpenKeysDifferent at.0 h))
+pub no-repeat : (g : KeyBytes) → AreOpenKeysDifferent g.builder.standing → FindsNoRepeat KeyBytes keys_stand keys_hold g
+no-repeat g h start ls (inl at) = (g.builder.order, all-apart g.builder.order ls (subst AreOpenKeysDifferent at.0 h))
+no-repeat g h start ls (inr (is_text, content, at)) =
+    let o = g.builder.order in
+    (o, all-apart o ls (kept-apart (in_key ls) (a_string (string_major is_text) content) (kept_all o ls) (subst AreOpenKeysDifferent at.0 h)).1)
 
 -- where they are lent
-pub lent-no-repeat : (g : LentKeys) → FindsNoRepeat KeyBytes keys_stand g.keys.now → FindsNoRepeat LentKeys lent_stand g
+pub lent-no-repeat : (g : LentKeys) → FindsNoRepeat KeyBytes keys_stand keys_hold g.keys.now → FindsNoRepeat LentKeys lent_stand lent_hold g
 lent-no-repeat g h start ls at = h start.keys.now ls at

@@ -1,5 +1,5 @@
 -- Why nothing may stand where an item is due.
-use Rattle.std.proofs.Common.{◌≡◌, ◌≢◌, ℕ, suc, ◌+◌, ◌-◌, ◌*◌, ◌^◌, ◌%◌, ◌<◌, ◌≤◌, ◌⊎◌, Bool, true, None, List, [], ◌∷◌, ◌++◌, length, take, drop, refl, sym, ap, ◌∙◌, subst, inl, inr, arith, append_assoc, take-append-drop}
+use Rattle.std.proofs.Common.{◌≡◌, ◌≢◌, ℕ, suc, ◌+◌, ◌-◌, ◌*◌, ◌^◌, ◌%◌, ◌<◌, ◌≤◌, ◌⊎◌, Bool, true, None, List, [], ◌∷◌, ◌++◌, length, take, drop, get_or, refl, sym, ap, ◌∙◌, subst, inl, inr, arith, append_assoc, take-append-drop}
 use Rattle.std.specs.Prelude.{IsTrue, IsUtf8}
 use Rattle.std.specs.Str.Lossy.{utf8_valid_len}
 use Rattle.std.proofs.lemmas.Bool.{cases_lt}
@@ -27,10 +27,11 @@ use Rattle.cbor_judging.proofs.KindBytes.{head_is_one, string_is_one}
 use Rattle.cbor_judging.proofs.Judged.{judged_start}
 use Rattle.cbor_judging.proofs.Leaves.{text_complains}
 use Rattle.cbor_walk.specs.inner.Path.{Level, a_member, a_key, a_value, tagged, bytes_before, AreClean, MayBreak}
-use Rattle.cbor_walk.specs.inner.Items.{IsMisplaced, IsPlaceFor, IsRefusedBy, IsRefusedHere, IsAny, HasNoBreak}
+use Rattle.cbor_walk.specs.inner.Items.{IsMisplaced, IsPlaceFor, IsRefusedBy, IsRefusedHere, IsAny, HasNoBreak, IsStringHead, IsStringFault, IsStringRefused}
 use Rattle.cbor_walk.specs.inner.Kept.{KeepsHere}
 use Rattle.cbor_walk.specs.declared.any_item.Any.{Any}
 use Rattle.cbor_walk.specs.declared.any_item.Any.TheVariants as any
+use Rattle.cbor_walk.specs.declared.argument.Argument.{Argument}
 use Rattle.cbor_walk.specs.inner.Stop.{HasComplaint, HasBadByte, IsStopped}
 use Rattle.cbor_walk.proofs.AnyItem.{low_bits, number_byte, fits as fits_in, numbered, spells, ends_here}
 use Rattle.cbor_walk.proofs.CutHeads.{head_cut, bytes_cut, text_cut}
@@ -172,11 +173,11 @@ module _ (r : Rules) (room : Bool) (first : ℕ) (behind : List ℕ) (at : ℕ) 
         | inl k ↦
             let is = string_is 64 (omega (arith, l, k)) in
             subst (λ (x : List ℕ). IsJudged r (length (bytes_before ls)) (d - length ls) x None) (sym is)
-            (bytes_cut r (length (bytes_before ls)) (d - length ls) w n rest a.holds (bytes_back (head Bytes w n) rest (subst AreBytes is are)) less (quiet (length (bytes_before ls)) Bytes))
+            (bytes_cut w n rest a.holds (bytes_back (head Bytes w n) rest (subst AreBytes is are)) less r (length (bytes_before ls)) (d - length ls) (quiet (length (bytes_before ls)) Bytes))
         | inr k ↦
             let is = string_is 96 (omega (arith, k, h)) in
             subst (λ (x : List ℕ). IsJudged r (length (bytes_before ls)) (d - length ls) x None) (sym is)
-            (text_cut r (length (bytes_before ls)) (d - length ls) w n rest a.holds (bytes_back (head Text w n) rest (subst AreBytes is are)) less (quiet (length (bytes_before ls)) Text))
+            (text_cut w n rest a.holds (bytes_back (head Text w n) rest (subst AreBytes is are)) less r (length (bytes_before ls)) (d - length ls) (quiet (length (bytes_before ls)) Text))
       ])
 
       -- the text is none
@@ -204,3 +205,15 @@ module _ (r : Rules) (room : Bool) (first : ℕ) (behind : List ℕ) (at : ℕ) 
           let found = complaint_here r limits ls clean (bytes_before ls ++ first ∷ behind) x (drop n rest) (ap (λ (z : List ℕ). bytes_before ls ++ z) parts) (front_kept limits ls x (drop n rest) parts kept) text c j in
           inl (subst (λ (z : ℕ). HasComplaint r limits (bytes_before ls ++ first ∷ behind) (refusal reasons.InvalidText (at + used + valid) z)) read
           (subst (λ (z : ℕ). HasComplaint r limits (bytes_before ls ++ first ∷ behind) (refusal reasons.InvalidText z (to + length q))) place_is found))
+
+-- the string with this head
+pub string_refused : (b : List ℕ) (h : Argument) (at : ℕ) (f : Refusal) → IsStringHead b h → IsStringFault b h at f → IsStringRefused b h at f
+string_refused b h at f s (inl x) = λ r room texts quiet.
+    refused_same r room at b (s.first ∷ s.behind) _ f s.is x.is
+    (payload_cut_here r room s.first s.behind at h.width h.number h.rest.now s.argument s.fewer quiet s.low s.high x.less (at + length b) (ap (λ (y : List ℕ). at + length y) s.is))
+string_refused b h at f s (inr x) = λ r room texts quiet.
+    let used = length b - length h.rest.now in
+    let text : 96 ≤ s.first = let high = x.text in omega (arith, high, ap (λ (y : List ℕ). get_or y 0 0) s.is) in
+    let end : at + used + h.number ≡ at + (used + h.number) = omega arith in
+    refused_same r room at b (s.first ∷ s.behind) _ f s.is (x.is ∙ ap (refusal reasons.InvalidText (at + used + utf8_valid_len (take h.number h.rest.now))) end)
+    (no_text_here r room s.first s.behind at h.width h.number h.rest.now s.argument s.fewer quiet s.low s.high texts text x.inside used _ _ (ap (λ (y : List ℕ). length y - length h.rest.now) s.is) x.none refl refl)

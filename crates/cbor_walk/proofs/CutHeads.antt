@@ -1,9 +1,10 @@
 -- The input ends within a head or a payload: nothing is to be said against what there is of the item.
-use Rattle.std.proofs.Common.{◌≡◌, ℕ, zero, suc, ◌+◌, ◌*◌, ◌-◌, ◌^◌, ◌%◌, ◌<◌, ◌≤◌, ◌⊎◌, true, false, None, List, [], ◌∷◌, ◌++◌, length, replicate, refl, sym, ap, ◌∙◌, subst, inl, inr, arith}
+use Rattle.std.proofs.Common.{◌≡◌, ℕ, zero, suc, ◌+◌, ◌*◌, ◌-◌, ◌^◌, ◌%◌, ◌<◌, ◌≤◌, ◌⊎◌, Bool, true, false, None, List, [], ◌∷◌, ◌++◌, length, replicate, refl, sym, ap, ◌∙◌, subst, inl, inr, arith}
 use Rattle.std.proofs.lemmas.Bool.{cases_lt}
 use Rattle.std.proofs.lemmas.List.{length-append, nil_from_length}
 use Rattle.cbor_head.specs.Complaint.{Rules, OfHead}
 use Rattle.cbor_head.specs.Head.{Holds, head, major_number}
+use Rattle.cbor_head.specs.Spelling.{Chunk, Spelling}
 use Rattle.cbor_head.specs.Value.{AreBytes}
 use Rattle.cbor_head.specs.declared.major.Major.{Major}
 use Rattle.cbor_head.specs.declared.major.Major.TheVariants.{Unsigned, Negative, Bytes, Text, Array, Map, Tag, Simple}
@@ -11,38 +12,39 @@ use Rattle.cbor_head.specs.declared.width.Width.{Width}
 use Rattle.cbor_head.specs.declared.width.Width.TheVariants.{One, Two, Four, Eight}
 use Rattle.cbor_automaton.specs.Automaton.{Frame, State, at_item, in_head, in_simple, goes, numbered_tail, tail, has_room, take_byte, and_then, run, reached}
 use Rattle.cbor_automaton.proofs.FirstByte.{split}
-use Rattle.cbor_automaton.proofs.Forward.{item_starts, room-above}
+use Rattle.cbor_automaton.proofs.Forward.{Starts, item_starts, room-above}
 use Rattle.cbor_automaton.proofs.Taking.{nothing-taken}
 use Rattle.cbor_judging.specs.Judged.{IsJudged}
 use Rattle.cbor_judging.proofs.ByteLists.{bytes_join}
 use Rattle.cbor_judging.proofs.Heads.{cut_head, zero_bytes, zero_length}
 use Rattle.cbor_judging.specs.Judged.{Never}
-use Rattle.cbor_judging.proofs.Leaves.{bytes_so_far, text_so_far}
+use Rattle.cbor_judging.proofs.Chunks.{AreChunksSoFar, cut_payload}
+use Rattle.cbor_judging.proofs.Leaves.{IsChunked, chunks_bytes, bytes_so_far, text_so_far}
 use Rattle.cbor_walk.specs.inner.Path.{Level}
 use Rattle.cbor_walk.proofs.PathForm.{containers, containers_count}
 
 -- ---- a head
 
 -- these bytes lead somewhere, and complete nothing
-abbrev Within : ℕ → State → List ℕ → Type 0
+abbrev pub Within : ℕ → State → List ℕ → Type 0
 Within d q xs = (t : State) × (run d q xs ≡ reached t [])
 
 -- fewer bytes than an argument has
-argument_goes : (d : ℕ) (m : Major) (w : Width) (k acc : ℕ) (fs : List Frame) (xs : List ℕ) → length xs ≤ k → Within d (in_head false m w k acc fs) xs
-argument_goes d m w k acc fs [] h = (in_head false m w k acc fs, refl)
-argument_goes d m w zero acc fs (x ∷ xs) h = absurd (omega (arith, h))
-argument_goes d m w (suc k) acc fs (x ∷ xs) h = argument_goes d m w k (acc * 256 + x) fs xs (omega (arith, h))
+argument_goes : (d : ℕ) (chunk : Bool) (m : Major) (w : Width) (k acc : ℕ) (fs : List Frame) (xs : List ℕ) → length xs ≤ k → Within d (in_head chunk m w k acc fs) xs
+argument_goes d chunk m w k acc fs [] h = (in_head chunk m w k acc fs, refl)
+argument_goes d chunk m w zero acc fs (x ∷ xs) h = absurd (omega (arith, h))
+argument_goes d chunk m w (suc k) acc fs (x ∷ xs) h = argument_goes d chunk m w k (acc * 256 + x) fs xs (omega (arith, h))
 
 module _ (d : ℕ) (fs : List Frame) (c : ℕ) (behind : List ℕ) where
-  begun : (m : Major) (w : Width) (k : ℕ) → take_byte d (at_item fs) c ≡ goes (in_head false m w k 0 fs) → length behind ≤ k → Within d (at_item fs) (c ∷ behind)
-  begun m w k e h =
-      let rest = argument_goes d m w k 0 fs behind h in
-      (rest.0, ap (λ o. and_then o (λ t. run d t behind)) e ∙ rest.1)
+  -- of an item or of a chunk
+  module _ (q : State) (chunk : Bool) (m : Major) (starts : Starts d q chunk m fs) where
+    begun : (w : Width) (k : ℕ) → take_byte d q c ≡ goes (in_head chunk m w k 0 fs) → length behind ≤ k → Within d q (c ∷ behind)
+    begun w k e h =
+        let rest = argument_goes d chunk m w k 0 fs behind h in
+        (rest.0, ap (λ o. and_then o (λ t. run d t behind)) e ∙ rest.1)
 
-  module _ (m : Major) (plain : (k : ℕ) → tail m k ≡ numbered_tail m k) (room : has_room d fs m ≡ true) where
-    numbered_goes : (low : ℕ) → c ≡ 32 * major_number m + low → 24 ≤ low → low ≤ 27 → length behind < 2 ^ (low - 24) → Within d (at_item fs) (c ∷ behind)
-    numbered_goes low is l h short =
-        let starts = item_starts d m fs plain room in
+    pub head_starts : (low : ℕ) → c ≡ 32 * major_number m + low → 24 ≤ low → low ≤ 27 → length behind < 2 ^ (low - 24) → Within d q (c ∷ behind)
+    head_starts low is l h short =
         elim (cases_lt low 26) [
           | inl k ↦ elim (cases_lt low 25) [
             | inl j ↦ by_low 24 One 0 (omega (arith, l, j)) starts.one (λ f. omega (arith, f))
@@ -54,9 +56,12 @@ module _ (d : ℕ) (fs : List Frame) (c : ℕ) (behind : List ℕ) where
           ]
         ]
       where
-        by_low : (n : ℕ) (w : Width) (k : ℕ) → low ≡ n → take_byte d (at_item fs) (32 * major_number m + n) ≡ goes (in_head false m w k 0 fs) → (length behind < 2 ^ (n - 24) → length behind ≤ k) → Within d (at_item fs) (c ∷ behind)
+        by_low : (n : ℕ) (w : Width) (k : ℕ) → low ≡ n → take_byte d q (32 * major_number m + n) ≡ goes (in_head chunk m w k 0 fs) → (length behind < 2 ^ (n - 24) → length behind ≤ k) → Within d q (c ∷ behind)
         by_low n w k e begins fits =
-            begun m w k (ap (take_byte d (at_item fs)) (is ∙ ap (λ (x : ℕ). 32 * major_number m + x) e) ∙ begins) (fits (subst (λ (x : ℕ). length behind < 2 ^ (x - 24)) e short))
+            begun w k (ap (take_byte d q) (is ∙ ap (λ (x : ℕ). 32 * major_number m + x) e) ∙ begins) (fits (subst (λ (x : ℕ). length behind < 2 ^ (x - 24)) e short))
+
+  numbered_goes : (m : Major) → ((k : ℕ) → tail m k ≡ numbered_tail m k) → has_room d fs m ≡ true → (low : ℕ) → c ≡ 32 * major_number m + low → 24 ≤ low → low ≤ 27 → length behind < 2 ^ (low - 24) → Within d (at_item fs) (c ∷ behind)
+  numbered_goes m plain room = head_starts (at_item fs) false m (item_starts d m fs plain room)
 
   head_goes : c < 256 → 24 ≤ c % 32 → c % 32 ≤ 27 → (c < 224) ⊎ (c ≡ 0xf8) → (128 ≤ c → c < 224 → length fs < d) → length behind < 2 ^ (c % 32 - 24) → Within d (at_item fs) (c ∷ behind)
   head_goes small l h kind room short =
@@ -100,7 +105,7 @@ head_cut r at d ls c behind l h kind room are short =
 filled : (n : ℕ) (q : List ℕ) → length q < n → length (q ++ replicate (n - length q) 0) ≡ n
 filled n q h = omega (arith, h, length-append q (replicate (n - length q) 0), zero_length (n - length q))
 
-module _ (r : Rules) (at d : ℕ) (w : Width) (n : ℕ) (q : List ℕ) (holds : Holds w n) (are : AreBytes q) (short : length q < n) where
+module _ (w : Width) (n : ℕ) (q : List ℕ) (holds : Holds w n) (are : AreBytes q) (short : length q < n) where
   abbrev more : List ℕ
   more = replicate (n - length q) 0
 
@@ -110,12 +115,21 @@ module _ (r : Rules) (at d : ℕ) (w : Width) (n : ℕ) (q : List ℕ) (holds : 
   some : 0 < length more
   some = omega (arith, short, zero_length (n - length q))
 
-  pub bytes_cut : Never (OfHead r at Bytes w n) → IsJudged r at d (head Bytes w n ++ q) None
-  bytes_cut clean =
-      subst (λ (k : ℕ). IsJudged r at d (head Bytes w k ++ q) None) (filled n q short)
-      (bytes_so_far w q more r at d spelled some (subst (λ (k : ℕ). Never (OfHead r at Bytes w k)) (sym (filled n q short)) clean))
+  module _ (r : Rules) (at d : ℕ) where
+    pub bytes_cut : Never (OfHead r at Bytes w n) → IsJudged r at d (head Bytes w n ++ q) None
+    bytes_cut clean =
+        subst (λ (k : ℕ). IsJudged r at d (head Bytes w k ++ q) None) (filled n q short)
+        (bytes_so_far w q more r at d spelled some (subst (λ (k : ℕ). Never (OfHead r at Bytes w k)) (sym (filled n q short)) clean))
 
-  pub text_cut : Never (OfHead r at Text w n) → IsJudged r at d (head Text w n ++ q) None
-  text_cut clean =
-      subst (λ (k : ℕ). IsJudged r at d (head Text w k ++ q) None) (filled n q short)
-      (text_so_far w q more r at d spelled some (subst (λ (k : ℕ). Never (OfHead r at Text w k)) (sym (filled n q short)) clean))
+    pub text_cut : Never (OfHead r at Text w n) → IsJudged r at d (head Text w n ++ q) None
+    text_cut clean =
+        subst (λ (k : ℕ). IsJudged r at d (head Text w k ++ q) None) (filled n q short)
+        (text_so_far w q more r at d spelled some (subst (λ (k : ℕ). Never (OfHead r at Text w k)) (sym (filled n q short)) clean))
+
+    -- of a chunk behind others
+    pub chunk_cut : (m : Major) (made : List Chunk → Spelling) → IsChunked m made → (done : List Chunk) → AreChunksSoFar r at m done → Never (OfHead r (at + length (chunks_bytes m done)) m w n)
+        → IsJudged r at d (chunks_bytes m done ++ (head m w n ++ q)) None
+    chunk_cut m made kind done so_far clean =
+        let to = at + length (chunks_bytes m done) in
+        subst (λ (k : ℕ). IsJudged r at d (chunks_bytes m done ++ (head m w k ++ q)) None) (filled n q short)
+        (cut_payload m made kind done r at d so_far w q more spelled some (subst (λ (k : ℕ). Never (OfHead r to m w k)) (sym (filled n q short)) clean))

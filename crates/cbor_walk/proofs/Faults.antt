@@ -10,10 +10,10 @@ use Rattle.cbor_head.specs.declared.reason.Refusal.{Refusal}
 use Rattle.cbor_head.specs.declared.width.Width.{Width}
 use Rattle.cbor_grammar.specs.FirstBytes.{is_basic}
 use Rattle.cbor_judging.specs.Judged.{Never}
-use Rattle.cbor_walk.specs.inner.Items.{IsPlaced, IsMisplaced, IsRefusedBy, IsStringWhole, IsStringRefused, IsFault}
+use Rattle.cbor_walk.specs.inner.Items.{IsPlaced, IsMisplaced, IsRefusedBy, IsStringHead, IsStringWhole, IsStringFault, IsFault, AreChunksRefused}
 use Rattle.cbor_walk.specs.inner.Kept.{IsFitFront}
 use Rattle.cbor_walk.specs.declared.argument.Argument.{Argument}
-use Rattle.cbor_walk.proofs.AnyRefusals.{nothing_here, misplaced_stops}
+use Rattle.cbor_walk.proofs.AnyRefusals.{nothing_here, misplaced_stops, string_refused}
 use Rattle.cbor_walk.proofs.OtherKeys.{kind_refused}
 
 -- the plain rules ask nothing of heads
@@ -47,8 +47,15 @@ module _ (first : ℕ) (behind : List ℕ) (at : ℕ) (room is_key may_break : B
       fits false known never = absurd (never refl)
 
   -- a string in one piece
-  pub string_faults : (xs : List ℕ) → xs ≡ b → (is_key ≡ true → IsFitFront b) → (head : Argument) (found : Option Refusal) → MatchOption found (IsStringWhole xs head) (IsStringRefused xs head at) → IfSome found (IsFault xs at room is_key may_break)
-  string_faults xs is fit head None h = tt
-  string_faults xs is fit head (Some f) h =
-      let here = subst (λ (x : List ℕ). IsRefusedBy plain room x at f) is (h plain room refl (λ to m. heads_free to m head.width head.number)) in
-      fault_same xs b at room is_key may_break f f is refl (fault_of f fit here)
+  pub string_faults : (xs : List ℕ) → xs ≡ b → (is_key ≡ true → IsFitFront b) → (head : Argument) → IsStringHead xs head → (found : Option Refusal) → MatchOption found (IsStringWhole xs head) (IsStringFault xs head at)
+      → IfSome found (IsFault xs at room is_key may_break)
+  string_faults xs is fit head s None h = tt
+  string_faults xs is fit head s (Some f) h =
+      let here = string_refused xs head at f s h plain room refl (λ to m. heads_free to m head.width head.number) in
+      fault_same xs b at room is_key may_break f f is refl (fault_of f fit (subst (λ (x : List ℕ). IsRefusedBy plain room x at f) is here))
+
+  -- and in chunks
+  pub chunks_faults : (xs ys : List ℕ) → xs ≡ b → ys ≡ b → (is_key ≡ true → IsFitFront b) → (found : Option Refusal) → IfSome found (AreChunksRefused ys at) → IfSome found (IsFault xs at room is_key may_break)
+  chunks_faults xs ys is same fit None h = tt
+  chunks_faults xs ys is same fit (Some f) h =
+      fault_same xs b at room is_key may_break f f is refl (fault_of f fit (subst (λ (x : List ℕ). IsRefusedBy plain room x at f) same (h room)))

@@ -87,12 +87,14 @@ opener-begun d m n c rest behind room k = subst (λ (x : List ℕ). HasBegun d x
 pub begun-takes : (p : Part) (d : ℕ) (c : Open) (rest behind : List ℕ) → IsItem p → EndsBefore p behind → HasBegun d rest behind → TakesFront p d c rest
 begun-takes (part.Item to) d c rest behind i e h = inl (subst (HasBegun d rest) (sym e) h)
 begun-takes part.Untaken d c rest behind i e h = tt
+begun-takes part.Broken d c rest behind i e h = tt
 begun-takes part.Stopped d c rest behind i e h = tt
 begun-takes (part.Head to) d c rest behind i e h = absurd i
 
 pub broken-takes : (p : Part) (d : ℕ) (c : Open) (rest behind : List ℕ) → IsItem p → EndsBefore p behind → HasBroken c rest behind → TakesFront p d c rest
 broken-takes (part.Item to) d c rest behind i e h = inr (subst (HasBroken c rest) (sym e) h)
 broken-takes part.Untaken d c rest behind i e h = tt
+broken-takes part.Broken d c rest behind i e h = tt
 broken-takes part.Stopped d c rest behind i e h = tt
 broken-takes (part.Head to) d c rest behind i e h = absurd i
 

@@ -227,8 +227,9 @@ module _ (S : Type 0) (stands : S → S → Standing → Type 0) (trusts : Bool)
         }
 
     -- what ends is taken
-    pub ends-takes : (p : Part) (cs : List Open) (g : S) (rest behind : List ℕ) → length behind < length rest → EndsTo S stands trusts p start d input cs g behind → TakesTo S stands trusts p start d input rest cs g
-    ends-takes (part.Item to) cs g rest behind l h = (subst (λ (x : List ℕ). length x < length rest) (sym h.0) l, subst (HasEnded S stands trusts start d input cs g) (sym h.0) h.1)
-    ends-takes part.Stopped cs g rest behind l h = tt
-    ends-takes (part.Head to) cs g rest behind l h = absurd h
-    ends-takes part.Untaken cs g rest behind l h = absurd h
+    pub ends-takes : (holds : S → S → List Level → Bool → List ℕ → Type 0) (p : Part) (cs : List Open) (g : S) (rest behind : List ℕ) → length behind < length rest → EndsTo S stands trusts p start d input cs g behind → TakesTo S stands trusts holds p start d input rest cs g
+    ends-takes holds (part.Item to) cs g rest behind l h = (subst (λ (x : List ℕ). length x < length rest) (sym h.0) l, subst (HasEnded S stands trusts start d input cs g) (sym h.0) h.1)
+    ends-takes holds part.Stopped cs g rest behind l h = tt
+    ends-takes holds (part.Head to) cs g rest behind l h = absurd h
+    ends-takes holds part.Untaken cs g rest behind l h = absurd h
+    ends-takes holds part.Broken cs g rest behind l h = absurd h

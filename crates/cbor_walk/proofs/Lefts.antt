@@ -1,7 +1,7 @@
 -- A part by how many bytes are behind it.
 use Rattle.std.proofs.Common.{◌≡◌, ℕ, ◌-◌, ◌<◌, ◌⊎◌, Bool, List, [], ◌∷◌, ◌++◌, length, length-append, drop, inl, inr, sym, ap, ◌∙◌, subst, arith}
 use Rattle.std.proofs.Math.Seq.{drop-append_seam}
-use Rattle.cbor_judging.specs.Levels.{Standing}
+use Rattle.cbor_judging.specs.Levels.{Level, Standing}
 use Rattle.cbor_walk.specs.declared.open.Open.{Open}
 use Rattle.cbor_walk.specs.declared.part.Part.{Part}
 use Rattle.cbor_walk.specs.declared.part.Part.TheVariants as part
@@ -22,27 +22,30 @@ ends-there x bytes d c behind (inl h) l = behind-is x bytes h.front behind h.is 
 ends-there x bytes d c behind (inr h) l = behind-is x bytes (0xff ∷ []) behind h.is l
 
 -- a part that leaves as many bytes takes the same
-module _ (x : ℕ) (bytes : List ℕ) (e : ℕ) (c : Open) (S : Type 0) (stands : S → S → Standing → Type 0) (trusts : Bool) (start : S) (d : ℕ) (input : List ℕ) (cs : List Open) (g : S) where
-  pub same-takes : (p q : Part) → TakesTo S stands trusts p start d input (x ∷ bytes) cs g → TakesFront p e c (x ∷ bytes) → Leaves bytes (left_of p) q → TakesTo S stands trusts q start d input (x ∷ bytes) cs g
+module _ (x : ℕ) (bytes : List ℕ) (e : ℕ) (c : Open) (S : Type 0) (stands : S → S → Standing → Type 0) (trusts : Bool) (holds : S → S → List Level → Bool → List ℕ → Type 0) (start : S) (d : ℕ) (input : List ℕ) (cs : List Open) (g : S) where
+  pub same-takes : (p q : Part) → TakesTo S stands trusts holds p start d input (x ∷ bytes) cs g → TakesFront p e c (x ∷ bytes) → Leaves bytes (left_of p) q → TakesTo S stands trusts holds q start d input (x ∷ bytes) cs g
   same-takes (part.Item b) (part.Item b') t f l =
       subst (λ (xs : List ℕ). (length xs < length (x ∷ bytes)) × HasEnded S stands trusts start d input cs g xs) (sym (l ∙ ends-there x bytes e c b.now f t.0)) t
   same-takes (part.Head b) (part.Head b') t f l =
       subst (λ (xs : List ℕ). (length xs < length (x ∷ bytes)) × IsDue S stands trusts start d input cs g xs) (sym (l ∙ ends-there x bytes e c b.now (inl f) t.0)) t
   same-takes part.Untaken part.Untaken t f l = t
+  same-takes part.Broken part.Broken t f l = t
   same-takes part.Stopped part.Stopped t f l = tt
   same-takes p q t f l = absurd l
 
-  pub same-front : (p q : Part) → TakesTo S stands trusts p start d input (x ∷ bytes) cs g → TakesFront p e c (x ∷ bytes) → Leaves bytes (left_of p) q → TakesFront q e c (x ∷ bytes)
+  pub same-front : (p q : Part) → TakesTo S stands trusts holds p start d input (x ∷ bytes) cs g → TakesFront p e c (x ∷ bytes) → Leaves bytes (left_of p) q → TakesFront q e c (x ∷ bytes)
   same-front (part.Item b) (part.Item b') t f l =
       subst (λ (xs : List ℕ). HasBegun e (x ∷ bytes) xs ⊎ HasBroken c (x ∷ bytes) xs) (sym (l ∙ ends-there x bytes e c b.now f t.0)) f
   same-front (part.Head b) (part.Head b') t f l =
       subst (λ (xs : List ℕ). HasBegun e (x ∷ bytes) xs) (sym (l ∙ ends-there x bytes e c b.now (inl f) t.0)) f
   same-front part.Untaken part.Untaken t f l = tt
+  same-front part.Broken part.Broken t f l = tt
   same-front part.Stopped part.Stopped t f l = tt
   same-front p q t f l = absurd l
 
-  pub left-within : (p : Part) → TakesTo S stands trusts p start d input (x ∷ bytes) cs g → LeavesWithin bytes (left_of p)
+  pub left-within : (p : Part) → TakesTo S stands trusts holds p start d input (x ∷ bytes) cs g → LeavesWithin bytes (left_of p)
   left-within (part.Item b) t = omega (arith, t.0)
   left-within (part.Head b) t = omega (arith, t.0)
   left-within part.Untaken t = tt
+  left-within part.Broken t = tt
   left-within part.Stopped t = tt

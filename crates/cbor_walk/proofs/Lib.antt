@@ -1,6 +1,7 @@
 pub mod AnyItem
 pub mod AnyRefusals
 pub mod CellSteps
+pub mod ChunkStops
 pub mod Chunked
 pub mod CutHeads
 pub mod Faults

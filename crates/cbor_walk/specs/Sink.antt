@@ -153,9 +153,13 @@ EndsString S stands holds is_key is_text old new =
 abbrev pub AreKeysDistinct : List Level → Type 0
 AreKeysDistinct ls = (o : KeyOrder) × AreOpenKeysDifferent (opens o ls)
 
--- wherever an item is due
-abbrev pub FindsNoRepeat : (S : Type 0) → (S → S → Standing → Type 0) → S → Type 0
-FindsNoRepeat S stands g = (start : S) (ls : List Level) → stands start g (item_due ls) → AreKeysDistinct ls
+-- an item is due in these containers, or a chunk of one
+abbrev pub IsWithin : (S : Type 0) → (S → S → Standing → Type 0) → (S → S → List Level → Bool → List ℕ → Type 0) → S → S → List Level → Type 0
+IsWithin S stands holds start g ls = stands start g (item_due ls) ⊎ ((is_text : Bool) × (content : List ℕ) × holds start g ls is_text content)
+
+-- wherever an item or a chunk is due
+abbrev pub FindsNoRepeat : (S : Type 0) → (S → S → Standing → Type 0) → (S → S → List Level → Bool → List ℕ → Type 0) → S → Type 0
+FindsNoRepeat S stands holds g = (start : S) (ls : List Level) → IsWithin S stands holds start g ls → AreKeysDistinct ls
 
 -- ---- the whole
 

@@ -1,11 +1,10 @@
 //! What stands where an item is due, if it is no short item: slower, and exactly.
 
 ghost use Rattle.std.specs.Prelude.{◌≡◌, ◌≤◌, ◌<◌, ◌+◌, ◌-◌, ◌^◌, ◌∷◌, ℕ, List, length, MatchOption};
-ghost use Rattle.cbor_head.specs.Head.{shortest};
 ghost use Rattle.cbor_head.specs.Verdict.{refusal};
 ghost use Rattle.cbor_walk.specs.declared.any_item.Any.TheVariants as any;
 ghost use Rattle.cbor_walk.specs.inner.Items.{IsPlaced, IsMisplaced, IsAny};
-ghost use Rattle.cbor_walk.specs.inner.Items.{IsStringHead, IsStringWhole, IsStringRefused};
+ghost use Rattle.cbor_walk.specs.inner.Items.{IsStringHead, IsStringWhole, IsStringFault};
 
 use crate::argument::{Argument, is_shortest, read_argument};
 use crate::level::Due;
@@ -56,7 +55,10 @@ pub(crate) fn any_item(rest: &[u8], at: usize, room: bool) -> Any
         return Any::Leaf(used);
     }
     if first < 0x80 {
-        return any_string(rest, head, at, room);
+        return match string_fault(rest, head, at) {
+            Some(refusal) => Any::Refused(refusal),
+            None => Any::Leaf(used + head.number as usize),
+        };
     }
     any_container(first, head.number, used)
 }
@@ -108,26 +110,13 @@ fn any_container(first: u8, number: u64, used: usize) -> Any
     Any::Opens(due, number - 1, used)
 }
 
-// The string with this head.
-fn any_string(rest: &[u8], head: Argument<'_>, at: usize, room: bool) -> Any
-    requires place { at + length rest.now < 2 ^ 63 }
-    requires head { IsStringHead rest.now head }
-    requires short { head.width ≡ shortest head.number }
-    ensures { IsAny rest.now at room result }
-{
-    if let Some(refusal) = string_fault(rest, head, at) {
-        return Any::Refused(refusal);
-    }
-    Any::Leaf(rest.len() - head.rest.len() + head.number as usize)
-}
-
-/// Why the string with this head is none, whichever rules its head meets.
+/// Why the string or chunk with this head is none, whichever rules its head meets.
 #[inline(always)]
 pub(crate) fn string_fault(rest: &[u8], head: Argument<'_>, at: usize) -> Option<Refusal>
     requires place { at + length rest.now < 2 ^ 63 }
     requires head { IsStringHead rest.now head }
     ensures { MatchOption result (IsStringWhole rest.now head.entry)
-        (IsStringRefused rest.now head.entry at) }
+        (IsStringFault rest.now head.entry at) }
 {
     let end = at + rest.len();
     if head.number > head.rest.len() as u64 {

@@ -35,7 +35,9 @@ pub(crate) enum Met<'a> {
     Whole(&'a [u8]),
     /// An item is due before these bytes, and what stands there may not, or there is no cell for it.
     Untaken(&'a [u8]),
-    /// Memory is refused, two keys of a map are the same, or a string in chunks is refused.
+    /// A string in chunks stands before these bytes, and is refused. The sink has some chunks of it.
+    Broken(&'a [u8]),
+    /// Memory is refused, or two keys of a map are the same.
     Stopped,
 }
 
@@ -53,7 +55,7 @@ impl<S> Building<S> {
         requires cells { self.old.stack.height ≤ length cells.old }
         requires due { IsDueIn S S.stands S.trusts depth (standing Open self.old.stack cells.old) self.old.sink start.now }
         ensures cells { self.new.stack.height ≤ length cells.new }
-        ensures walked { Walks S S.stands S.trusts result depth start.now (standing Open self.old.stack cells.old)
+        ensures walked { Walks S S.stands S.trusts S.holds result depth start.now (standing Open self.old.stack cells.old)
             self.old.sink (standing Open self.new.stack cells.new) self.new.sink }
         ensures kept { WalksKept S S.stands S.trusts KINDS result depth start.now
             (standing Open self.old.stack cells.old) self.old.sink }
@@ -71,6 +73,7 @@ impl<S> Building<S> {
                     }
                 }
                 Part::Untaken => return Met::Untaken(rest),
+                Part::Broken => return Met::Broken(rest),
                 Part::Stopped => return Met::Stopped,
             }
         }

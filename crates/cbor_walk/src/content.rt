@@ -25,7 +25,7 @@ impl<S> Building<S> {
         S: Sink<'a>,
         requires head { IsHeadDue S S.stands S.trusts (string_major is_text) count behind.now
             self.old.stack.top self.old.sink }
-        ensures takes { TakesHead S S.stands S.trusts result (string_major is_text) count behind.now
+        ensures takes { TakesHead S S.stands S.trusts S.holds result (string_major is_text) count behind.now
             self.old.stack.top self.old.sink self.new.sink }
         ensures stack { self.new.stack ≡ self.old.stack }
         ensures kind { IsItem result }
@@ -47,7 +47,7 @@ impl<S> Building<S> {
         S: Sink<'a>,
         requires opener { IsDueFor S S.stands S.trusts self.old.stack.top self.old.sink
             (chunked_from is_text behind.now) }
-        ensures takes { TakesItem S S.stands S.trusts result (chunked_from is_text behind.now)
+        ensures takes { TakesItem S S.stands S.trusts S.holds result (chunked_from is_text behind.now)
             self.old.stack.top self.old.sink self.new.sink }
         ensures stack { self.new.stack ≡ self.old.stack }
         ensures kind { IsItem result }
@@ -60,7 +60,7 @@ impl<S> Building<S> {
         let mut rest = behind;
         'chunks: loop {
             let Some((first, behind)) = rest.split_first() else {
-                return Part::Stopped;
+                return Part::Broken;
             };
             if *first == 0xff {
                 return match self.sink.end_string(is_key, is_text) {
@@ -69,10 +69,10 @@ impl<S> Building<S> {
                 };
             }
             let Some(head) = chunk_head(is_text, *first, behind) else {
-                return Part::Stopped;
+                return Part::Broken;
             };
             let Some(size) = payload_size(is_text, head.number, head.rest) else {
-                return Part::Stopped;
+                return Part::Broken;
             };
             let Ok(()) = self.sink.chunk(is_key, is_text, head.rest, size) else {
                 return Part::Stopped;

@@ -33,7 +33,7 @@ impl<S> Building<S> {
         ensures cells { self.new.stack.height ≤ length cells.new }
         ensures within { LeavesWithin behind.now result }
         ensures takes { (part : Part) → Leaves behind.now result part
-            → Takes S S.stands S.trusts part depth (first ∷ behind.now)
+            → Takes S S.stands S.trusts S.holds part depth (first ∷ behind.now)
             (standing Open self.old.stack cells.old) self.old.sink
             (standing Open self.new.stack cells.new) self.new.sink }
         ensures front { (part : Part) → Leaves behind.now result part
@@ -56,7 +56,7 @@ impl<S> Building<S> {
         requires due { IsDueIn S S.stands S.trusts depth (standing Open self.old.stack cells.old) self.old.sink
             (first ∷ behind.now) }
         ensures cells { self.new.stack.height ≤ length cells.new }
-        ensures takes { Takes S S.stands S.trusts result depth (first ∷ behind.now)
+        ensures takes { Takes S S.stands S.trusts S.holds result depth (first ∷ behind.now)
             (standing Open self.old.stack cells.old) self.old.sink
             (standing Open self.new.stack cells.new) self.new.sink }
         ensures front { TakesFront result (depth - self.old.stack.height) self.old.stack.top
@@ -86,7 +86,7 @@ impl<S> Building<S> {
         requires cells { self.old.stack.height ≤ length cells.now }
         requires due { IsBreakDue S S.stands S.trusts (standing Open self.old.stack cells.now) self.old.sink behind.now }
         ensures cells { self.new.stack.height ≤ length cells.now }
-        ensures takes { TakesBreak S S.stands S.trusts result behind.now (standing Open self.old.stack cells.now)
+        ensures takes { TakesBreak S S.stands S.trusts S.holds result behind.now (standing Open self.old.stack cells.now)
             self.old.sink (standing Open self.new.stack cells.now) self.new.sink }
         ensures kind { IsItem result }
         ensures front { (d : ℕ) → TakesFront result d self.old.stack.top (0xff ∷ behind.now) }

@@ -6,13 +6,14 @@ ghost use Rattle.cbor_walk.specs.inner.Items.{IsFault};
 
 use crate::any_item::{misplaced, refusal_at, string_fault};
 use crate::argument::read_argument;
+use crate::chunk_fault::chunks_fault;
 use crate::kinds::is_other_key;
 use crate::level::Due;
 use cbor_head::{Keys, Reason, Refusal};
 
 /// The refusal of what stands there, at this place of the input, where one more container may open
 /// or not, where it is a key whose kind is asked for or not, and where a break may stand or not.
-/// None where it is a head that may stand there, or a string in one piece.
+/// None where it is a head that may stand there, or a string.
 #[cold]
 #[inline(never)]
 pub(crate) fn fault(
@@ -40,7 +41,11 @@ pub(crate) fn fault(
         return Some(refusal_at(Reason::KeyKind, at, at + 1));
     }
     if low == 31 {
-        return None;
+        return match first {
+            0x5f => chunks_fault(false, behind, at),
+            0x7f => chunks_fault(true, behind, at),
+            _ => None,
+        };
     }
     let Some(head) = read_argument(low, behind) else {
         return Some(refusal_at(Reason::Truncated, end, end));

@@ -7,7 +7,7 @@ ghost use Rattle.cbor_walk.specs.Front.{IsStop};
 ghost use Rattle.cbor_walk.specs.Sink.{IsKnownValid, IsGivenFront};
 ghost use Rattle.cbor_walk.specs.declared.level.Due.TheVariants as due;
 ghost use Rattle.cbor_walk.specs.inner.Building.{counted, BeginsTaken, IsDue, IsDueIn, KeepsBefore};
-ghost use Rattle.cbor_walk.specs.inner.Building.{Keeps, Passes, PassKeeps, PassKept, IsDueOver};
+ghost use Rattle.cbor_walk.specs.inner.Building.{Keeps, Passes, PassKeeps, PassKept, HasComeOver};
 ghost use Rattle.cbor_walk.specs.inner.Stack.{standing};
 
 use crate::building::{Building, Met};
@@ -25,8 +25,7 @@ use cbor_head::{Keys, Limits, Refusal};
 pub enum Stop {
     /// The bytes within the limits call for this refusal.
     Refused(Refusal),
-    /// Two keys of a map are the same, a string in chunks is refused, or memory is: it is for a
-    /// reader to tell which.
+    /// Two keys of a map are the same, or memory is refused: it is for a reader to tell which.
     Unsaid,
 }
 
@@ -61,8 +60,8 @@ pub fn give_front<'a, S: Sink<'a> + Drop>(
     }
 }
 
-// Why these bytes are refused, before which an item is due, where no open map has two keys that are
-// the same: such a key is refused first.
+// Why these bytes are refused, before which an item is due, or a string in chunks has begun, where no
+// open map has two keys that are the same: such a key is refused first.
 #[cold]
 #[inline(never)]
 fn refused<'a, S: Sink<'a> + Drop>(
@@ -71,7 +70,7 @@ fn refused<'a, S: Sink<'a> + Drop>(
     rest: &[u8],
     limits: Limits,
 ) -> Stop
-    requires due { (start : S) × IsDueOver S S.stands S.trusts start limits.depth input.now
+    requires come { (start : S) × HasComeOver S S.stands S.trusts S.holds start limits.depth input.now
         building.stack building.sink rest.now }
     requires kept { Keeps limits input.now rest.now }
     ensures { (bytes : List ℕ) → input.now ≡ take limits.bytes bytes → IsStop limits bytes result }
@@ -94,7 +93,8 @@ fn refused<'a, S: Sink<'a> + Drop>(
 pub(crate) enum Past<'a> {
     /// The item is whole, before these bytes.
     Whole(&'a [u8]),
-    /// An item is due before these bytes, and what stands there may not.
+    /// An item is due before these bytes, and what stands there may not. If it is a string in chunks,
+    /// the sink may have some of them.
     Refused(&'a [u8]),
     /// As [`Met::Stopped`].
     Stopped,
@@ -111,7 +111,7 @@ fn past_front<'a, S: Sink<'a>>(
     requires top { building.old.stack.top ≡ counted due.Item 0 }
     requires fresh { S.stands building.old.sink building.old.sink (item_due []) }
     requires known { S.trusts ≡ true → BeginsTaken limits.depth input.now }
-    ensures passes { Passes S S.stands S.trusts result building.old.sink limits.depth input.now
+    ensures passes { Passes S S.stands S.trusts S.holds result building.old.sink limits.depth input.now
         building.new.stack building.new.sink }
     ensures keeps { PassKeeps result limits input.now }
 {
@@ -132,7 +132,7 @@ fn past_item<'a, S: Sink<'a>, const KINDS: bool>(
     requires top { building.old.stack.top ≡ counted due.Item 0 }
     requires fresh { S.stands building.old.sink building.old.sink (item_due []) }
     requires known { S.trusts ≡ true → BeginsTaken depth input.now }
-    ensures passes { Passes S S.stands S.trusts result building.old.sink depth input.now
+    ensures passes { Passes S S.stands S.trusts S.holds result building.old.sink depth input.now
         building.new.stack building.new.sink }
     ensures kept { KINDS ≡ true → (keys : Keys) → PassKept result depth keys input.now }
 {
@@ -146,6 +146,7 @@ fn past_item<'a, S: Sink<'a>, const KINDS: bool>(
             }
             deeper::<S, KINDS>(building, rest, &cells, depth)
         }
+        Met::Broken(rest) => Past::Refused(rest),
         Met::Stopped => Past::Stopped,
     }
 }
@@ -163,7 +164,7 @@ fn deeper<'a, S: Sink<'a>, const KINDS: bool>(
     requires due { IsDueIn S S.stands S.trusts depth (standing Open building.old.stack few.now) building.old.sink rest.now }
     ensures passes { (start : S) (input : List ℕ)
         → IsDue S S.stands S.trusts start depth input (standing Open building.old.stack few.now) building.old.sink rest.now
-        → Passes S S.stands S.trusts result start depth input building.new.stack building.new.sink }
+        → Passes S S.stands S.trusts S.holds result start depth input building.new.stack building.new.sink }
     ensures kept { KINDS ≡ true → (keys : Keys) (start : S) (input : List ℕ)
         → IsDue S S.stands S.trusts start depth input (standing Open building.old.stack few.now) building.old.sink rest.now
         → KeepsBefore depth keys input rest.now → PassKept result depth keys input }
@@ -178,6 +179,7 @@ fn deeper<'a, S: Sink<'a>, const KINDS: bool>(
             }
             deepest::<S, KINDS>(building, rest, &cells, depth)
         }
+        Met::Broken(rest) => Past::Refused(rest),
         Met::Stopped => Past::Stopped,
     }
 }
@@ -195,7 +197,7 @@ fn deepest<'a, S: Sink<'a>, const KINDS: bool>(
     requires due { IsDueIn S S.stands S.trusts depth (standing Open building.old.stack few.now) building.old.sink rest.now }
     ensures passes { (start : S) (input : List ℕ)
         → IsDue S S.stands S.trusts start depth input (standing Open building.old.stack few.now) building.old.sink rest.now
-        → Passes S S.stands S.trusts result start depth input building.new.stack building.new.sink }
+        → Passes S S.stands S.trusts S.holds result start depth input building.new.stack building.new.sink }
     ensures kept { KINDS ≡ true → (keys : Keys) (start : S) (input : List ℕ)
         → IsDue S S.stands S.trusts start depth input (standing Open building.old.stack few.now) building.old.sink rest.now
         → KeepsBefore depth keys input rest.now → PassKept result depth keys input }
@@ -205,6 +207,7 @@ fn deepest<'a, S: Sink<'a>, const KINDS: bool>(
     match building.walk::<KINDS>(rest, &mut cells, depth) {
         Met::Whole(behind) => Past::Whole(behind),
         Met::Untaken(rest) => Past::Refused(rest),
+        Met::Broken(rest) => Past::Refused(rest),
         Met::Stopped => Past::Stopped,
     }
 }

@@ -3,14 +3,15 @@
 //! [`canonical_front`] goes over the canonical bytes at the front of a slice once; at the first
 //! byte, head, text or key that is none of a canonical item it stops with the refusal.
 //! [`give_front`] goes over any valid item, whose parts it gives to a [`Sink`], and stops at what is
-//! none, mostly with the refusal. Both hold what is due in each open container in cells that are made as they are wanted, so that depth
-//! that is not used costs nothing.
+//! none, with the refusal but for equal keys and memory. Both hold what is due in each open container
+//! in cells that are made as they are wanted, so that depth that is not used costs nothing.
 #![tactic(auto)]
 
 mod any_item;
 mod argument;
 mod building;
 mod canonical;
+mod chunk_fault;
 mod content;
 mod endless;
 mod fast;

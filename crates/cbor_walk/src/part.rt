@@ -27,7 +27,9 @@ pub(crate) enum Part<'a> {
     Head(&'a [u8]),
     /// Nothing: it may not stand there, or it is a container for which there is no cell.
     Untaken,
-    /// No more: memory is refused, two keys of a map are the same, or a string in chunks is refused.
+    /// Some chunks of a string: what follows them is no chunk of it.
+    Broken,
+    /// No more: memory is refused, or two keys of a map are the same.
     Stopped,
 }
 
@@ -37,6 +39,7 @@ pub(crate) enum Left {
     Item(usize),
     Head(usize),
     Untaken,
+    Broken,
     Stopped,
 }
 
@@ -51,6 +54,7 @@ impl Left {
             Left::Item(count) => Part::Item(&bytes[bytes.len() - count..]),
             Left::Head(count) => Part::Head(&bytes[bytes.len() - count..]),
             Left::Untaken => Part::Untaken,
+            Left::Broken => Part::Broken,
             Left::Stopped => Part::Stopped,
         }
     }
@@ -65,6 +69,7 @@ impl<'a> Part<'a> {
             Part::Item(behind) => Left::Item(behind.len()),
             Part::Head(behind) => Left::Head(behind.len()),
             Part::Untaken => Left::Untaken,
+            Part::Broken => Left::Broken,
             Part::Stopped => Left::Stopped,
         }
     }
@@ -79,6 +84,7 @@ impl<'a> Part<'a> {
             Part::Item(behind) => Part::Item(behind),
             Part::Head(behind) => Part::Head(behind),
             Part::Untaken => Part::Untaken,
+            Part::Broken => Part::Broken,
             Part::Stopped => Part::Stopped,
         }
     }
@@ -98,7 +104,7 @@ impl<S> Building<S> {
         requires cells { self.old.stack.height ≤ length cells.old }
         requires due { IsDueIn S S.stands S.trusts depth (standing Open self.old.stack cells.old) self.old.sink rest.now }
         ensures cells { self.new.stack.height ≤ length cells.new }
-        ensures takes { Takes S S.stands S.trusts result depth rest.now (standing Open self.old.stack cells.old)
+        ensures takes { Takes S S.stands S.trusts S.holds result depth rest.now (standing Open self.old.stack cells.old)
             self.old.sink (standing Open self.new.stack cells.new) self.new.sink }
         ensures front { TakesFront result (depth - self.old.stack.height) self.old.stack.top rest.now }
         ensures fits { HasTaken result → KINDS ≡ true → self.old.stack.top.due ≡ Due.Key
@@ -150,7 +156,7 @@ impl<S> Building<S> {
         S: Sink<'a>,
         requires kind { IsLeaf major }
         requires head { IsHeadDue S S.stands S.trusts major number behind.now self.old.stack.top self.old.sink }
-        ensures takes { TakesHead S S.stands S.trusts result major number behind.now self.old.stack.top
+        ensures takes { TakesHead S S.stands S.trusts S.holds result major number behind.now self.old.stack.top
             self.old.sink self.new.sink }
         ensures stack { self.new.stack ≡ self.old.stack }
         ensures kind { IsItem result }
@@ -180,7 +186,7 @@ impl<S> Building<S> {
         requires head { IsHeadIn S S.stands S.trusts major number behind.now depth
             (standing Open self.old.stack cells.old) self.old.sink }
         ensures cells { self.new.stack.height ≤ length cells.new }
-        ensures takes { TakesCounted S S.stands S.trusts result depth major number behind.now
+        ensures takes { TakesCounted S S.stands S.trusts S.holds result depth major number behind.now
             (standing Open self.old.stack cells.old) self.old.sink
             (standing Open self.new.stack cells.new) self.new.sink }
         ensures front { TakesCountedFront result (depth - self.old.stack.height) major number behind.now }
@@ -215,7 +221,7 @@ impl<S> Building<S> {
         requires cells { self.old.stack.height ≤ length cells.old }
         requires opener { IsOpenerDue S S.stands S.trusts major number opened behind.now self.old.stack.top self.old.sink }
         ensures cells { self.new.stack.height ≤ length cells.new }
-        ensures takes { TakesOpener S S.stands S.trusts result depth major number opened behind.now
+        ensures takes { TakesOpener S S.stands S.trusts S.holds result depth major number opened behind.now
             (standing Open self.old.stack cells.old) self.old.sink
             (standing Open self.new.stack cells.new) self.new.sink }
         ensures front { TakesOpenerFront result (depth - self.old.stack.height) major number opened behind.now }

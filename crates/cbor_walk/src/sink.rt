@@ -86,8 +86,8 @@ pub trait Sink<'a> {
         ensures { IfOk result (λ is_distinct. IsTrue is_distinct
             → Ends Self stands trusts is_map self.old self.new) };
 
-    /// False where no two keys that are complete in an open map are equal: what was taken is given
-    /// up.
+    /// False where no two keys that are complete in an open map are equal, whether an item or a chunk
+    /// is due: what was taken is given up.
     fn has_equal_keys(self) -> bool
-        ensures { result ≡ false → FindsNoRepeat Self stands self };
+        ensures { result ≡ false → FindsNoRepeat Self stands holds self };
 }

@@ -20,6 +20,8 @@ static CUT_SHORT: &[&str] = &[
     "1903 | | 1 Truncated at 2, read 2 | | half an argument",
     "8201 | | 1 Truncated at 2, read 2 | | one of two members",
     "5f41 | | 1 Truncated at 2, read 2 | 15 Indefinite at 0, read 1 | a chunk without its byte",
+    "5f4100590001 | | 1 Truncated at 6, read 6 | 15 Indefinite at 0, read 1 | a second chunk without its byte",
+    "7f610079 | | 1 Truncated at 4, read 4 | 15 Indefinite at 0, read 1 | a second chunk without its length",
     "62ff | | 1 Truncated at 2, read 2 | | a text whose chunk never ends",
     "5a | | 1 Truncated at 1, read 1 | | a head without its argument",
     "7a | | 1 Truncated at 1, read 1 | | a head without its argument",
@@ -181,6 +183,7 @@ static DEPTH_AND_VALIDITY: &[&str] = &[
     "a28101009f01ff00 | | 11 RepeatedKey at 4, read 7 | 15 Indefinite at 4, read 5 | {[1]: 0, [_ 1]: 0}",
     "a20100011f | | 11 RepeatedKey at 3, read 4 | 16 KeyOrder at 3, read 4 | before no form of an integer",
     "a201000161ff | | 11 RepeatedKey at 3, read 4 | 16 KeyOrder at 3, read 4 | before a text behind it",
+    "a20100015f6100ff | | 11 RepeatedKey at 3, read 4 | 16 KeyOrder at 3, read 4 | before a chunk of another type",
     "a20161ff0100 | | 10 InvalidText at 3, read 4 | | the text before it",
     // A byte behind the item, and canonical bytes past the limit.
     "0000 | | 12 Trailing at 1, read 1 | taken 1 | 0, and 0",

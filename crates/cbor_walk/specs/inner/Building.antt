@@ -26,7 +26,7 @@ use Rattle.cbor_walk.specs.declared.part.Left.{Left}
 use Rattle.cbor_walk.specs.declared.part.Left.TheVariants as left
 use Rattle.cbor_walk.specs.declared.part.Part.TheVariants as part
 use Rattle.cbor_walk.specs.declared.stack.Stack.{Stack}
-use Rattle.cbor_walk.specs.Sink.{IsOpened, StandsFull, Told}
+use Rattle.cbor_walk.specs.Sink.{IsOpened, StandsFull, Told, IsWithin}
 
 -- ---- what is still to come in a container
 
@@ -86,6 +86,7 @@ pairs Value = true
 abbrev pub IsItem : Part → Type 0
 IsItem (part.Item behind) = Unit {0}
 IsItem part.Untaken = Unit {0}
+IsItem part.Broken = Unit {0}
 IsItem part.Stopped = Unit {0}
 IsItem _ = ⊥
 
@@ -169,6 +170,7 @@ abbrev pub left_of : Part → Left
 left_of (part.Item behind) = left.Item (length behind.now)
 left_of (part.Head behind) = left.Head (length behind.now)
 left_of part.Untaken = left.Untaken
+left_of part.Broken = left.Broken
 left_of part.Stopped = left.Stopped
 
 abbrev pub LeavesWithin : List ℕ → Left → Type 0
@@ -181,6 +183,7 @@ abbrev pub Leaves : List ℕ → Left → Part → Type 0
 Leaves bytes (left.Item count) (part.Item behind) = behind.now ≡ drop (length bytes - count) bytes
 Leaves bytes (left.Head count) (part.Head behind) = behind.now ≡ drop (length bytes - count) bytes
 Leaves bytes left.Untaken part.Untaken = Unit {0}
+Leaves bytes left.Broken part.Broken = Unit {0}
 Leaves bytes left.Stopped part.Stopped = Unit {0}
 Leaves bytes _ _ = ⊥
 
@@ -198,6 +201,7 @@ KeepsBefore d keys input rest = (t : List ℕ) → input ≡ t ++ rest → Keeps
 abbrev pub MetKept : Met → ℕ → Keys → List ℕ → Type 0
 MetKept (met.Whole rest) d keys input = KeepsBefore d keys input rest.now
 MetKept (met.Untaken rest) d keys input = KeepsBefore d keys input rest.now
+MetKept (met.Broken rest) d keys input = KeepsBefore d keys input rest.now
 MetKept met.Stopped d keys input = Unit {0}
 
 abbrev pub PassKept : Past → ℕ → Keys → List ℕ → Type 0
@@ -223,15 +227,19 @@ BeginsTaken d input = (item : Spelling) × (rest : List ℕ) × IsTaken d item �
 -- ---- where the walk stands, before the rest of an input, with a sink that began in its first state
 
 module _ (S : Type 0) (stands : S → S → Standing → Type 0) (trusts : Bool) where
-  -- an item is due, or a break
-  pub record IsDue (start : S) (d : ℕ) (input : List ℕ) (cs : List Open) (g : S) (rest : List ℕ) : Type 0 where
+  -- these containers are open before the rest of an input, and what is complete in them is given so
+  pub record StandsBefore (given_in : List Level → Type 0) (d : ℕ) (input : List ℕ) (cs : List Open) (rest : List ℕ) : Type 0 where
     pub ls : List Level
     pub levels : AreLevels d ls
     pub cells : cs ≡ cells_of ls
-    pub given : stands start g (item_due ls)
+    pub given : given_in ls
     pub bytes : input ≡ bytes_before ls ++ rest
     pub small : length input < 2 ^ 63
     pub known : trusts ≡ true → BeginsTaken d input
+
+  -- an item is due, or a break
+  abbrev pub IsDue : S → ℕ → List ℕ → List Open → S → List ℕ → Type 0
+  IsDue start d input cs g rest = StandsBefore (λ ls. stands start g (item_due ls)) d input cs rest
 
   -- an item is whole, and given to the sink
   pub record HasEnded (start : S) (d : ℕ) (input : List ℕ) (cs : List Open) (g : S) (rest : List ℕ) : Type 0 where
@@ -265,12 +273,6 @@ module _ (S : Type 0) (stands : S → S → Standing → Type 0) (trusts : Bool)
     pub given : stands start g (item_whole item)
     pub bytes : input ≡ spell item ++ rest
 
-  -- an item is due in the containers of a stack, whatever lies in its cells
-  pub record IsDueOver (start : S) (d : ℕ) (input : List ℕ) (k : Stack Open) (g : S) (rest : List ℕ) : Type 0 where
-    pub outer : List Open
-    pub count : length outer ≡ k.height
-    pub due : IsDue start d input (k.top ∷ outer) g rest
-
   -- the innermost container is whole, a map or not, where these cells are around it; where none is, the input's item
   abbrev pub HasFilled : Bool → S → ℕ → List ℕ → List Open → S → List ℕ → Type 0
   HasFilled is_map start d input [] g rest = IsBuilt start d input g rest
@@ -293,22 +295,6 @@ module _ (S : Type 0) (stands : S → S → Standing → Type 0) (trusts : Bool)
   abbrev pub IsToEndFor : Bool → S → List ℕ → Type 0
   IsToEndFor is_map g rest = (start : S) × (d : ℕ) × (input : List ℕ) × (cs : List Open) × IsToEnd is_map start d input cs g rest
 
-  -- ---- what is taken
-
-  abbrev pub TakesTo : Part → S → ℕ → List ℕ → List ℕ → List Open → S → Type 0
-  TakesTo (part.Item behind) start d input rest cs g = (length behind.now < length rest) × HasEnded start d input cs g behind.now
-  TakesTo (part.Head behind) start d input rest cs g = (length behind.now < length rest) × IsDue start d input cs g behind.now
-  TakesTo part.Untaken start d input rest cs g = IsDue start d input cs g rest
-  TakesTo part.Stopped start d input rest cs g = Unit {0}
-
-  -- from these cells and this sink to those
-  abbrev pub Takes : Part → ℕ → List ℕ → List Open → S → List Open → S → Type 0
-  Takes result d rest cs g now new = (start : S) (input : List ℕ) → IsDue start d input cs g rest → TakesTo result start d input rest now new
-
-  -- within whatever cells around this one
-  abbrev pub TakesItem : Part → List ℕ → Open → S → S → Type 0
-  TakesItem result rest top g new = (d : ℕ) (outer : List Open) → Takes result d rest (top ∷ outer) g (top ∷ outer) new
-
   -- ---- a head
 
   abbrev pub IsHeadDue : Major → ℕ → List ℕ → Open → S → Type 0
@@ -317,17 +303,8 @@ module _ (S : Type 0) (stands : S → S → Standing → Type 0) (trusts : Bool)
   abbrev pub IsHeadIn : Major → ℕ → List ℕ → ℕ → List Open → S → Type 0
   IsHeadIn m n behind d cs g = (rest : List ℕ) × IsHead m n rest behind × IsDueIn d cs g rest
 
-  abbrev pub TakesHead : Part → Major → ℕ → List ℕ → Open → S → S → Type 0
-  TakesHead result m n behind top g new = (rest : List ℕ) → IsHead m n rest behind → TakesItem result rest top g new
-
-  abbrev pub TakesCounted : Part → ℕ → Major → ℕ → List ℕ → List Open → S → List Open → S → Type 0
-  TakesCounted result d m n behind cs g now new = (rest : List ℕ) → IsHead m n rest behind → Takes result d rest cs g now new
-
   abbrev pub IsOpenerDue : Major → ℕ → Open → List ℕ → Open → S → Type 0
   IsOpenerDue m n c behind top g = (rest : List ℕ) × IsOpener m n c rest behind × IsDueFor top g rest
-
-  abbrev pub TakesOpener : Part → ℕ → Major → ℕ → Open → List ℕ → List Open → S → List Open → S → Type 0
-  TakesOpener result d m n c behind cs g now new = (rest : List ℕ) → IsOpener m n c rest behind → Takes result d rest cs g now new
 
   -- a container that was to end, before these bytes
   abbrev pub EndsTo : Part → S → ℕ → List ℕ → List Open → S → List ℕ → Type 0
@@ -343,9 +320,6 @@ module _ (S : Type 0) (stands : S → S → Standing → Type 0) (trusts : Bool)
   abbrev pub IsBreakDue : List Open → S → List ℕ → Type 0
   IsBreakDue cs g behind = (d : ℕ) × IsDueIn d cs g (0xff ∷ behind)
 
-  abbrev pub TakesBreak : Part → List ℕ → List Open → S → List Open → S → Type 0
-  TakesBreak result behind cs g now new = (d : ℕ) → Takes result d (0xff ∷ behind) cs g now new
-
   -- ---- behind an item
 
   abbrev pub LeadsTo : Then → S → ℕ → List ℕ → List ℕ → List Open → S → Type 0
@@ -359,22 +333,65 @@ module _ (S : Type 0) (stands : S → S → Standing → Type 0) (trusts : Bool)
   abbrev pub LeadsFull : Bool → Then → List Open → S → List Open → S → Type 0
   LeadsFull is_map result cs g now new = (start : S) (d : ℕ) (input rest : List ℕ) → HasFilled is_map start d input cs g rest → LeadsTo result start d input rest now new
 
-  -- ---- the walk
-
-  abbrev pub Meets : Met → S → ℕ → List ℕ → List Open → S → Type 0
-  Meets (met.Whole rest) start d input cs g = IsBuilt start d input g rest.now
-  Meets (met.Untaken rest) start d input cs g = IsDue start d input cs g rest.now
-  Meets met.Stopped start d input cs g = Unit {0}
-
-  abbrev pub Walks : Met → ℕ → List ℕ → List Open → S → List Open → S → Type 0
-  Walks result d rest cs g now new = (start : S) (input : List ℕ) → IsDue start d input cs g rest → Meets result start d input now new
-
   -- where kinds are asked for
   abbrev pub WalksKept : Bool → Met → ℕ → List ℕ → List Open → S → Type 0
   WalksKept kinds result d rest cs g = kinds ≡ true → (keys : Keys) (start : S) (input : List ℕ) → IsDue start d input cs g rest → KeepsBefore d keys input rest → MetKept result d keys input
 
-  -- all of it
-  abbrev pub Passes : Past → S → ℕ → List ℕ → Stack Open → S → Type 0
-  Passes (past.Whole rest) start d input k g = IsBuilt start d input g rest.now
-  Passes (past.Refused rest) start d input k g = IsDueOver start d input k g rest.now
-  Passes past.Stopped start d input k g = Unit {0}
+  module _ (holds : S → S → List Level → Bool → List ℕ → Type 0) where
+    -- the walk has come to an item that is due, or to some chunk of it
+    abbrev pub HasCome : S → ℕ → List ℕ → List Open → S → List ℕ → Type 0
+    HasCome start d input cs g rest = StandsBefore (IsWithin S stands holds start g) d input cs rest
+
+    -- within the containers of a stack, whatever lies in its cells
+    pub record HasComeOver (start : S) (d : ℕ) (input : List ℕ) (k : Stack Open) (g : S) (rest : List ℕ) : Type 0 where
+      pub outer : List Open
+      pub count : length outer ≡ k.height
+      pub come : HasCome start d input (k.top ∷ outer) g rest
+
+    -- ---- what is taken
+
+    abbrev pub TakesTo : Part → S → ℕ → List ℕ → List ℕ → List Open → S → Type 0
+    TakesTo (part.Item behind) start d input rest cs g = (length behind.now < length rest) × HasEnded start d input cs g behind.now
+    TakesTo (part.Head behind) start d input rest cs g = (length behind.now < length rest) × IsDue start d input cs g behind.now
+    TakesTo part.Untaken start d input rest cs g = IsDue start d input cs g rest
+    TakesTo part.Broken start d input rest cs g = HasCome start d input cs g rest
+    TakesTo part.Stopped start d input rest cs g = Unit {0}
+
+    -- from these cells and this sink to those
+    abbrev pub Takes : Part → ℕ → List ℕ → List Open → S → List Open → S → Type 0
+    Takes result d rest cs g now new = (start : S) (input : List ℕ) → IsDue start d input cs g rest → TakesTo result start d input rest now new
+
+    -- within whatever cells around this one
+    abbrev pub TakesItem : Part → List ℕ → Open → S → S → Type 0
+    TakesItem result rest top g new = (d : ℕ) (outer : List Open) → Takes result d rest (top ∷ outer) g (top ∷ outer) new
+
+    -- a head
+    abbrev pub TakesHead : Part → Major → ℕ → List ℕ → Open → S → S → Type 0
+    TakesHead result m n behind top g new = (rest : List ℕ) → IsHead m n rest behind → TakesItem result rest top g new
+
+    abbrev pub TakesCounted : Part → ℕ → Major → ℕ → List ℕ → List Open → S → List Open → S → Type 0
+    TakesCounted result d m n behind cs g now new = (rest : List ℕ) → IsHead m n rest behind → Takes result d rest cs g now new
+
+    abbrev pub TakesOpener : Part → ℕ → Major → ℕ → Open → List ℕ → List Open → S → List Open → S → Type 0
+    TakesOpener result d m n c behind cs g now new = (rest : List ℕ) → IsOpener m n c rest behind → Takes result d rest cs g now new
+
+    -- a break
+    abbrev pub TakesBreak : Part → List ℕ → List Open → S → List Open → S → Type 0
+    TakesBreak result behind cs g now new = (d : ℕ) → Takes result d (0xff ∷ behind) cs g now new
+
+    -- ---- the walk
+
+    abbrev pub Meets : Met → S → ℕ → List ℕ → List Open → S → Type 0
+    Meets (met.Whole rest) start d input cs g = IsBuilt start d input g rest.now
+    Meets (met.Untaken rest) start d input cs g = IsDue start d input cs g rest.now
+    Meets (met.Broken rest) start d input cs g = HasCome start d input cs g rest.now
+    Meets met.Stopped start d input cs g = Unit {0}
+
+    abbrev pub Walks : Met → ℕ → List ℕ → List Open → S → List Open → S → Type 0
+    Walks result d rest cs g now new = (start : S) (input : List ℕ) → IsDue start d input cs g rest → Meets result start d input now new
+
+    -- all of it
+    abbrev pub Passes : Past → S → ℕ → List ℕ → Stack Open → S → Type 0
+    Passes (past.Whole rest) start d input k g = IsBuilt start d input g rest.now
+    Passes (past.Refused rest) start d input k g = HasComeOver start d input k g rest.now
+    Passes past.Stopped start d input k g = Unit {0}

@@ -1,5 +1,6 @@
 -- What stands where an item is due, by the rules of the deterministic encoding.
 use Rattle.std.specs.Prelude.{◌≡◌, ℕ, suc, ◌+◌, ◌-◌, ◌^◌, ◌%◌, ◌<◌, ◌≤◌, ◌⊎◌, ◌++◌, Bool, true, false, IsTrue, IsUtf8, List, [], ◌∷◌, length, take, drop, get_or}
+use Rattle.std.specs.Str.Lossy.{utf8_valid_len}
 use Rattle.cbor_head.specs.Complaint.{Rules, plain, strict, OfHead}
 use Rattle.cbor_head.specs.Head.{shortest_head}
 use Rattle.cbor_head.specs.Limits.{Bounds}
@@ -8,9 +9,10 @@ use Rattle.cbor_head.specs.declared.major.Major.{Major}
 use Rattle.cbor_head.specs.declared.major.Major.TheVariants.{Array, Map, Tag}
 use Rattle.cbor_head.specs.declared.order.KeyOrder.{KeyOrder}
 use Rattle.cbor_head.specs.declared.reason.Reason.{Reason}
-use Rattle.cbor_head.specs.declared.reason.Reason.TheVariants.{Reserved, NoIndefinite, Float, StrayBreak, TooDeep}
+use Rattle.cbor_head.specs.declared.reason.Reason.TheVariants.{Truncated, Reserved, NoIndefinite, Float, StrayBreak, TooDeep, InvalidText}
 use Rattle.cbor_head.specs.declared.reason.Refusal.{Refusal}
 use Rattle.cbor_head.specs.Value.{AreBytes}
+use Rattle.cbor_head.specs.Verdict.{refusal}
 use Rattle.cbor_judging.specs.Judged.{Never}
 use Rattle.cbor_judging.specs.Kinds.{AsksForKinds, KeepsToKinds}
 use Rattle.cbor_steps.specs.Whole.{IsArgument}
@@ -101,6 +103,22 @@ pub record IsStringWhole (b : List ℕ) (head : Argument) : Type 0 where
   pub inside : head.number ≤ length head.rest.now
   pub utf8 : 96 ≤ get_or b 0 0 → IsUtf8 (take head.number head.rest.now)
 
+-- of its payload less is there
+pub record IsCutOff (b : List ℕ) (head : Argument) (at : ℕ) (f : Refusal) : Type 0 where
+  pub less : length head.rest.now < head.number
+  pub is : f ≡ refusal Truncated (at + length b) (at + length b)
+
+-- it is a text's, and there, and not UTF-8
+pub record IsNoText (b : List ℕ) (head : Argument) (at : ℕ) (f : Refusal) : Type 0 where
+  pub text : 96 ≤ get_or b 0 0
+  pub inside : head.number ≤ length head.rest.now
+  pub none : IsUtf8 (take head.number head.rest.now) → ⊥
+  pub is : f ≡ refusal InvalidText (at + (length b - length head.rest.now) + utf8_valid_len (take head.number head.rest.now)) (at + (length b - length head.rest.now) + head.number)
+
+-- at this place
+abbrev pub IsStringFault : List ℕ → Argument → ℕ → Refusal → Type 0
+IsStringFault b head at f = IsCutOff b head at f ⊎ IsNoText b head at f
+
 -- it is refused so by rules that ask for UTF-8, and have nothing against its head
 abbrev pub IsStringRefused : List ℕ → Argument → ℕ → Refusal → Type 0
 IsStringRefused b head at f =
@@ -118,6 +136,10 @@ abbrev pub IsFault : List ℕ → ℕ → Bool → Bool → Bool → Refusal →
 IsFault b at room is_key may_break f =
     (limits : Bounds) (ls : List Level) → AreClean plain limits.depth ls → (MayBreak ls → may_break ≡ true) → KeepsToKinds limits plain (bytes_before ls) → IsKeyAsked is_key limits ls → IsPlaceFor room limits.depth ls at → AreBytes (bytes_before ls ++ b)
     → IsStopped plain limits (bytes_before ls ++ b) f
+
+-- So is refused what begins with the opener of a string in chunks.
+abbrev pub AreChunksRefused : List ℕ → ℕ → Refusal → Type 0
+AreChunksRefused b at f = (room : Bool) → IsRefusedBy plain room b at f
 
 -- ---- what the fast ways find
 

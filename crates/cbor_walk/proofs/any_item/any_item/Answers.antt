@@ -1,11 +1,15 @@
-use Rattle.std.proofs.Common.{◌≡◌, ◌⊎◌, ℕ, ◌+◌, ◌-◌, ◌%◌, ◌<◌, ◌≤◌, true, List, [], ◌∷◌, length, refl, ap, inl, inr, arith}
+use Rattle.std.proofs.Common.{◌≡◌, ◌⊎◌, ℕ, ◌+◌, ◌-◌, ◌%◌, ◌<◌, ◌≤◌, true, List, [], ◌∷◌, length, take, get_or, refl, sym, ap, subst, inl, inr, arith}
 use Rattle.std.proofs.lemmas.Bool.{cases_lt}
-use Rattle.std.proofs.lemmas.List.{nil_from_length}
+use Rattle.std.proofs.lemmas.List.{length-take-le, nil_from_length}
 use Rattle.cbor_head.specs.Complaint.{strict}
+use Rattle.cbor_head.specs.Value.{AreBytes}
+use Rattle.cbor_keys.proofs.KeyFronts.{are_bytes}
+use Rattle.cbor_walk.specs.inner.Items.{IsStringHead}
 use Rattle.cbor_walk.specs.declared.any_item.Any.TheVariants as any
 use Rattle.cbor_walk.specs.declared.level.Due.TheVariants.{Item, Key}
-use Rattle.cbor_walk.proofs.AnyItem.{any_leaf, a_tag, an_array, a_map, an_empty}
-use Rattle.cbor_walk.proofs.AnyRefusals.{refuses, answers, nothing_here, misplaced_here, endless_here, cut_here, no_simple_here, long_here}
+use Rattle.cbor_walk.proofs.AnyItem.{any_leaf, a_tag, an_array, a_map, an_empty, a_text, some_bytes}
+use Rattle.cbor_walk.proofs.AnyRefusals.{refuses, answers, nothing_here, misplaced_here, endless_here, cut_here, no_simple_here, long_here, string_refused}
+use Rattle.cbor_walk.proofs.HeadComplaints.{shortest_clean}
 use Rattle.cbor_walk.proofs.any_item.any_item.Goals as goal
 use Rattle.cbor_walk.proofs.any_item.any_item.Goals.{else-first-via-then-first+else-head-lt32, else-first-via-else-first, then-first-lt64-via-then-first-lt64, then-first-lt64-via-else-first-lt64+then-first-ge224}
 
@@ -65,8 +69,8 @@ returns-then-first-lt64 c =
     (any_leaf c.args.room c.in-Some.first.now c.in-Some.behind.now h.width h.number h.rest.now c.in-Some-read_argument.ensures.spelled c.in-Some-read_argument.ensures.fewer (c.is_shortest.ensures.short c.if-not-is_shortest.false)
     used (ap (λ (x : List ℕ). length x - length h.rest.now) split) c.in_default-misplaced.ensures wide kind)
 
-pub any_string-requires-clause-head : goal.any_string-requires-clause-head
-any_string-requires-clause-head c =
+pub string_fault-requires-clause-head : goal.string_fault-requires-clause-head
+string_fault-requires-clause-head c =
     let low : 64 ≤ c.in-Some.first.now = c.if-first-lt64.false in
     record {
       first = c.in-Some.first.now;
@@ -78,8 +82,36 @@ any_string-requires-clause-head c =
       fewer = c.in-Some-read_argument.ensures.fewer;
     }
 
-pub any_string-requires-clause-short : goal.any_string-requires-clause-short
-any_string-requires-clause-short c = c.is_shortest.ensures.short c.if-not-is_shortest.false
+pub returns-in-Some-string_fault : goal.returns-in-Some-string_fault
+returns-in-Some-string_fault c =
+    let h = c.in-Some-read_argument.head in
+    let low : 64 ≤ c.in-Some.first.now = c.if-first-lt64.false in
+    let head : IsStringHead c.args.rest.now h = record { first = c.in-Some.first.now; behind = c.in-Some.behind.now; is = c.in-Some.ensures.cases.0; low = low; high = c.if-first-lt128.true; argument = c.in-Some-read_argument.ensures.spelled; fewer = c.in-Some-read_argument.ensures.fewer } in
+    λ o. string_refused c.args.rest.now h c.args.at c.in-Some-string_fault.refusal head c.in-Some-string_fault.ensures (strict o) c.args.room refl
+    (λ to m. shortest_clean (strict o) to m h.width h.number (c.is_shortest.ensures.short c.if-not-is_shortest.false))
+
+pub returns-in-None : goal.returns-in-None
+returns-in-None c =
+    let rest = c.args.rest.now in
+    let first = c.in-Some.first.now in
+    let behind = c.in-Some.behind.now in
+    let split = c.in-Some.ensures.cases.0 in
+    let h = c.in-Some-read_argument.head in
+    let a = c.in-Some-read_argument.ensures.spelled in
+    let fewer = c.in-Some-read_argument.ensures.fewer in
+    let short = c.is_shortest.ensures.short c.if-not-is_shortest.false in
+    let whole = c.in-None.ensures in
+    let used = length rest - length h.rest.now in
+    let u = ap (λ (x : List ℕ). length x - length h.rest.now) split in
+    let all : AreBytes (first ∷ behind) = subst AreBytes split (are_bytes rest (λ i. omega (arith, c.type_inv.rest i))) in
+    let size : used + length (take h.number h.rest.now) ≡ used + h.number = ap (λ (n : ℕ). used + n) (length-take-le h.number h.rest.now whole.inside) in
+    answers c.args.room c.args.at rest (first ∷ behind) (any.Leaf (used + h.number)) (any.Leaf (used + length (take h.number h.rest.now))) split (ap any.Leaf (sym size))
+    (elim (cases_lt first 96) [
+      | inl k ↦ some_bytes c.args.room first behind h.width h.number h.rest.now a fewer short used u whole.inside all c.if-first-lt64.false k
+      | inr k ↦
+          let text : 96 ≤ get_or rest 0 0 = omega (arith, k, ap (λ (x : List ℕ). get_or x 0 0) split) in
+          a_text c.args.room first behind h.width h.number h.rest.now a fewer short used u whole.inside all k c.if-first-lt128.true (whole.utf8 text)
+    ])
 
 pub returns : goal.returns
 returns c =

@@ -1,9 +1,11 @@
-use Rattle.std.proofs.Common.{◌≡◌, ℕ, ◌+◌, ◌<◌, ◌%◌, true, List, [], ◌∷◌, length, refl, ap, subst, inl, inr}
+use Rattle.std.proofs.Common.{◌≡◌, ℕ, ◌+◌, ◌<◌, ◌%◌, true, false, List, [], ◌∷◌, length, refl, sym, ap, subst, inl, inr}
 use Rattle.std.proofs.lemmas.List.{nil_from_length}
 use Rattle.cbor_head.specs.Complaint.{plain}
+use Rattle.cbor_walk.specs.inner.Building.{chunked_from}
+use Rattle.cbor_walk.specs.inner.Items.{IsStringHead}
 use Rattle.cbor_walk.specs.inner.Kept.{IsFitFront, IsOtherFront}
 use Rattle.cbor_walk.proofs.AnyRefusals.{cut_here, no_simple_here}
-use Rattle.cbor_walk.proofs.Faults.{fault_same, cut_off, fault_misplaced, fault_of_kind, fault_of, string_faults}
+use Rattle.cbor_walk.proofs.Faults.{fault_same, cut_off, fault_misplaced, fault_of_kind, fault_of, string_faults, chunks_faults}
 use Rattle.cbor_walk.proofs.fault.fault.Goals as goal
 use Rattle.cbor_walk.proofs.fault.fault.Goals.{else-first-via-then-first+else-may_break, else-first-via-else-first, else-is_key-via-then-is_key+else-is_other_key, else-is_key-via-else-is_key}
 
@@ -73,4 +75,25 @@ returns-then-first-lt128 c =
     let stray : first ≡ 0xff → a.may_break ≡ true → ⊥ = λ e m. elim c.else-first.branch [ else-first-via-then-first+else-may_break w ↦ cc (m, w.if-may_break.false) | else-first-via-else-first w ↦ absurd (w.if-first.false e) ] in
     let split = c.in-Some.ensures.cases.0 in
     let fit : a.is_key ≡ true → IsFitFront (first ∷ behind) = λ e. elim c.else-is_key.branch [ else-is_key-via-then-is_key+else-is_other_key w ↦ subst IsFitFront split (w.is_other_key.ensures.fits w.if-is_other_key.false refl refl) | else-is_key-via-else-is_key w ↦ cc (e, w.if-is_key.false) ] in
-    string_faults first behind a.at a.room a.is_key a.may_break stray a.rest.now split fit c.in-Some-read_argument.head c.string_fault.result c.string_fault.ensures
+    let head : IsStringHead a.rest.now c.in-Some-read_argument.head = record { first = first; behind = behind; is = split; low = c.if-first-ge64.true; high = c.if-first-lt128.true; argument = c.in-Some-read_argument.ensures.spelled; fewer = c.in-Some-read_argument.ensures.fewer } in
+    string_faults first behind a.at a.room a.is_key a.may_break stray a.rest.now split fit c.in-Some-read_argument.head head c.string_fault.result c.string_fault.ensures
+
+pub returns-in-95 : goal.returns-in-95
+returns-in-95 c =
+    let a = c.args in
+    let first = c.in-Some.first.now in
+    let behind = c.in-Some.behind.now in
+    let stray : first ≡ 0xff → a.may_break ≡ true → ⊥ = λ e m. elim c.else-first.branch [ else-first-via-then-first+else-may_break w ↦ cc (m, w.if-may_break.false) | else-first-via-else-first w ↦ absurd (w.if-first.false e) ] in
+    let split = c.in-Some.ensures.cases.0 in
+    let fit : a.is_key ≡ true → IsFitFront (first ∷ behind) = λ e. elim c.else-is_key.branch [ else-is_key-via-then-is_key+else-is_other_key w ↦ subst IsFitFront split (w.is_other_key.ensures.fits w.if-is_other_key.false refl refl) | else-is_key-via-else-is_key w ↦ cc (e, w.if-is_key.false) ] in
+    chunks_faults first behind a.at a.room a.is_key a.may_break stray a.rest.now (chunked_from false behind) split (ap (λ (x : ℕ). x ∷ behind) (sym c.in-95.is)) fit c.chunks_fault.result c.chunks_fault.ensures
+
+pub returns-in-127 : goal.returns-in-127
+returns-in-127 c =
+    let a = c.args in
+    let first = c.in-Some.first.now in
+    let behind = c.in-Some.behind.now in
+    let stray : first ≡ 0xff → a.may_break ≡ true → ⊥ = λ e m. elim c.else-first.branch [ else-first-via-then-first+else-may_break w ↦ cc (m, w.if-may_break.false) | else-first-via-else-first w ↦ absurd (w.if-first.false e) ] in
+    let split = c.in-Some.ensures.cases.0 in
+    let fit : a.is_key ≡ true → IsFitFront (first ∷ behind) = λ e. elim c.else-is_key.branch [ else-is_key-via-then-is_key+else-is_other_key w ↦ subst IsFitFront split (w.is_other_key.ensures.fits w.if-is_other_key.false refl refl) | else-is_key-via-else-is_key w ↦ cc (e, w.if-is_key.false) ] in
+    chunks_faults first behind a.at a.room a.is_key a.may_break stray a.rest.now (chunked_from true behind) split (ap (λ (x : ℕ). x ∷ behind) (sym c.in-127.is)) fit c.chunks_fault-in-127.result c.chunks_fault-in-127.ensures

@@ -49,9 +49,10 @@ returns-in-159-clause-takes g c = λ start input due.
     let S = g.row.S.Denot in
     let stands = g.S.Sink.stands in
     let trusts = g.S.Sink.trusts in
+    let holds = g.S.Sink.holds in
     let cs = standing Open c.args.self.now.stack c.args.cells.now in
     let behind = c.args.behind.now in
-    subst (λ (x : ℕ). TakesTo S stands trusts c.open.result start c.args.depth input (x ∷ behind) (standing Open c.open.new.self.stack c.open.new.cells) c.open.new.self.sink) (sym c.in-159.is)
+    subst (λ (x : ℕ). TakesTo S stands trusts holds c.open.result start c.args.depth input (x ∷ behind) (standing Open c.open.new.self.stack c.open.new.cells) c.open.new.self.sink) (sym c.in-159.is)
     (c.open.ensures.takes (159 ∷ behind) (subst (λ (x : Open). IsOpener Array 0 x (159 ∷ behind) behind) (sym c.endless.ensures) (array-opens behind)) start input
     (subst (λ (x : ℕ). IsDue S stands trusts start c.args.depth input cs c.args.self.now.sink (x ∷ behind)) c.in-159.is due))
 
@@ -60,9 +61,10 @@ returns-in-191-clause-takes g c = λ start input due.
     let S = g.row.S.Denot in
     let stands = g.S.Sink.stands in
     let trusts = g.S.Sink.trusts in
+    let holds = g.S.Sink.holds in
     let cs = standing Open c.args.self.now.stack c.args.cells.now in
     let behind = c.args.behind.now in
-    subst (λ (x : ℕ). TakesTo S stands trusts c.open-in-191.result start c.args.depth input (x ∷ behind) (standing Open c.open-in-191.new.self.stack c.open-in-191.new.cells) c.open-in-191.new.self.sink) (sym c.in-191.is)
+    subst (λ (x : ℕ). TakesTo S stands trusts holds c.open-in-191.result start c.args.depth input (x ∷ behind) (standing Open c.open-in-191.new.self.stack c.open-in-191.new.cells) c.open-in-191.new.self.sink) (sym c.in-191.is)
     (c.open-in-191.ensures.takes (191 ∷ behind) (subst (λ (x : Open). IsOpener Map 0 x (191 ∷ behind) behind) (sym c.endless-in-191.ensures) (map-opens behind)) start input
     (subst (λ (x : ℕ). IsDue S stands trusts start c.args.depth input cs c.args.self.now.sink (x ∷ behind)) c.in-191.is due))
 

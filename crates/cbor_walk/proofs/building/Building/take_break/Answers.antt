@@ -44,6 +44,7 @@ returns g c =
     let S = g.row.S.Denot in
     let stands = g.S.Sink.stands in
     let trusts = g.S.Sink.trusts in
+    let holds = g.S.Sink.holds in
     let k = c.args.self.now.stack in
     let cells = c.args.cells.now in
     let sink = c.args.self.now.sink in
@@ -55,10 +56,10 @@ returns g c =
       cells = still;
       takes = λ d start input due.
           let shorter : length behind < length (255 ∷ behind) = omega arith in
-          let t = ends-takes S stands trusts start d input c.end.result (around Open k cells) c.end.new.self.sink (255 ∷ behind) behind shorter
+          let t = ends-takes S stands trusts start d input holds c.end.result (around Open k cells) c.end.new.self.sink (255 ∷ behind) behind shorter
           (c.end.ensures.ends start d input (around Open k cells) (subst (λ (t : Bool). IsToEnd S stands trusts t start d input (around Open k cells) sink behind) (sym c.is_in_map-is_map.ensures) (break-ends S stands trusts start d input k.top (around Open k cells) sink behind due c.if-not-self.false c.in_default.not-Value))) in
-          subst (λ s. TakesTo S stands trusts c.end.result start d input (255 ∷ behind) (standing Open s cells) c.end.new.self.sink) (sym c.end.ensures.stack)
-          (subst (λ (x : List Open). TakesTo S stands trusts c.end.result start d input (255 ∷ behind) x c.end.new.self.sink) (sym c.pop.ensures.levels) t);
+          subst (λ s. TakesTo S stands trusts holds c.end.result start d input (255 ∷ behind) (standing Open s cells) c.end.new.self.sink) (sym c.end.ensures.stack)
+          (subst (λ (x : List Open). TakesTo S stands trusts holds c.end.result start d input (255 ∷ behind) x c.end.new.self.sink) (sym c.pop.ensures.levels) t);
       kind = c.end.ensures.kind;
       front = λ d. broken-takes c.end.result d k.top (255 ∷ behind) behind c.end.ensures.kind c.end.ensures.before (record { open_ended = c.if-not-self.false; no_value = c.in_default.not-Value; is = refl });
     }

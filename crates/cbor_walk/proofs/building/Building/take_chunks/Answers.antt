@@ -62,8 +62,8 @@ returns-in-Ok-end_string-clause-takes g c = λ d outer start input due.
     let s = c.chunks.invariant.chunks in
     let is : c.chunks.rest.now ≡ 0xff ∷ behind = c.in-Some.ensures.cases.0 ∙ ap (λ (x : ℕ). x ∷ behind) c.if-first.true in
     let all = all-chunks S stands g.S.Sink.holds c.is_key-is_key.result t c.args.behind.now sink c.chunks.rest.now c.chunks.self.sink s behind is in
-    scalar-settles S stands trusts start d input (top ∷ outer) sink (chunked_from t c.args.behind.now) due behind (string_value t (chunks_joined s.done)) c.end_string.new.self all
-    (λ k. c.in-Ok-end_string.ensures start d due.ls (chunks_joined s.done) all.item (s.given start due.ls (due.given, told)) told k all.value_is)
+    scalar-settles S stands trusts start d input (top ∷ outer) sink (chunked_from t c.args.behind.now) due behind (string_value t (chunks_joined s.read.done)) c.end_string.new.self all
+    (λ k. c.in-Ok-end_string.ensures start d due.ls (chunks_joined s.read.done) all.item (s.given start due.ls (due.given, told)) told k all.value_is)
 
 pub chunks-init : goal.chunks-init
 chunks-init g c = record {
@@ -78,4 +78,4 @@ returns-in-Ok-end_string-clause-front g c = λ d o.
     let s = c.chunks.invariant.chunks in
     let is : c.chunks.rest.now ≡ 0xff ∷ behind = c.in-Some.ensures.cases.0 ∙ ap (λ (x : ℕ). x ∷ behind) c.if-first.true in
     let all = all-chunks g.row.S.Denot g.S.Sink.stands g.S.Sink.holds c.is_key-is_key.result t c.args.behind.now c.args.self.now.sink c.chunks.rest.now c.chunks.self.sink s behind is in
-    inl (scalar-begun (string_value t (chunks_joined s.done)) d (chunked_from t c.args.behind.now) behind all)
+    inl (scalar-begun (string_value t (chunks_joined s.read.done)) d (chunked_from t c.args.behind.now) behind all)

@@ -13,14 +13,14 @@ returns-clause-within g c =
     let k = c.endless_part.new.self in
     let (start, input, due) : IsDueIn S g.S.Sink.stands g.S.Sink.trusts c.args.depth (standing Open c.args.self.now.stack c.args.cells.now) c.args.self.now.sink (c.args.first ∷ c.args.behind.now) = c.requires.due in
     subst (LeavesWithin c.args.behind.now) (sym c.left.ensures)
-    (left-within c.args.first c.args.behind.now 0 c.args.self.now.stack.top S g.S.Sink.stands g.S.Sink.trusts start c.args.depth input (standing Open k.stack c.endless_part.new.cells) k.sink p (c.endless_part.ensures.takes start input due))
+    (left-within c.args.first c.args.behind.now 0 c.args.self.now.stack.top S g.S.Sink.stands g.S.Sink.trusts g.S.Sink.holds start c.args.depth input (standing Open k.stack c.endless_part.new.cells) k.sink p (c.endless_part.ensures.takes start input due))
 
 pub returns-clause-takes : goal.returns-clause-takes
 returns-clause-takes g c = λ q leaves start input due.
     let S = g.row.S.Denot in
     let k = c.args.self.now.stack in
     let new = c.endless_part.new.self in
-    same-takes c.args.first c.args.behind.now (c.args.depth - k.height) k.top S g.S.Sink.stands g.S.Sink.trusts start c.args.depth input (standing Open new.stack c.endless_part.new.cells) new.sink c.endless_part.result q
+    same-takes c.args.first c.args.behind.now (c.args.depth - k.height) k.top S g.S.Sink.stands g.S.Sink.trusts g.S.Sink.holds start c.args.depth input (standing Open new.stack c.endless_part.new.cells) new.sink c.endless_part.result q
     (c.endless_part.ensures.takes start input due) c.endless_part.ensures.front (subst (λ (l : Left). Leaves c.args.behind.now l q) c.left.ensures leaves)
 
 pub returns-clause-front : goal.returns-clause-front
@@ -29,5 +29,5 @@ returns-clause-front g c = λ q leaves.
     let k = c.args.self.now.stack in
     let new = c.endless_part.new.self in
     let (start, input, due) : IsDueIn S g.S.Sink.stands g.S.Sink.trusts c.args.depth (standing Open k c.args.cells.now) c.args.self.now.sink (c.args.first ∷ c.args.behind.now) = c.requires.due in
-    same-front c.args.first c.args.behind.now (c.args.depth - k.height) k.top S g.S.Sink.stands g.S.Sink.trusts start c.args.depth input (standing Open new.stack c.endless_part.new.cells) new.sink c.endless_part.result q
+    same-front c.args.first c.args.behind.now (c.args.depth - k.height) k.top S g.S.Sink.stands g.S.Sink.trusts g.S.Sink.holds start c.args.depth input (standing Open new.stack c.endless_part.new.cells) new.sink c.endless_part.result q
     (c.endless_part.ensures.takes start input due) c.endless_part.ensures.front (subst (λ (l : Left). Leaves c.args.behind.now l q) c.left.ensures leaves)

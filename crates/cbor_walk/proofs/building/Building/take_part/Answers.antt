@@ -41,7 +41,7 @@ returns-else-number-lt32-clause-takes g c = λ start input due.
     let wide : first % 32 ≡ 24 → (32 ≤ h.number) × (h.number < 256) = λ f. (elim c.if-number-lt32.either [ inl x ↦ x.1 | inr x ↦ absurd (x f) ], e.byte f) in
     let proper = simple-here (first % 32) c.in-Some.behind.now h.width h.number h.rest.now e.spelled c.if-low-gt24.false e.direct wide in
     let head = head-here Simple first c.in-Some.behind.now h.rest.now h.width h.number e.spelled high (λ f. proper) c.args.rest.now c.in-Some.ensures.cases.0 in
-    subst (λ s. TakesTo g.row.S.Denot g.S.Sink.stands g.S.Sink.trusts c.give_leaf.result start c.args.depth input c.args.rest.now (standing Open s c.args.cells.now) c.give_leaf.new.self.sink) (sym c.give_leaf.ensures.stack)
+    subst (λ s. TakesTo g.row.S.Denot g.S.Sink.stands g.S.Sink.trusts g.S.Sink.holds c.give_leaf.result start c.args.depth input c.args.rest.now (standing Open s c.args.cells.now) c.give_leaf.new.self.sink) (sym c.give_leaf.ensures.stack)
     (c.give_leaf.ensures.takes c.args.rest.now head c.args.depth (around Open c.args.self.now.stack c.args.cells.now) start input due)
 
 pub returns-in-6-clause-front : goal.returns-in-6-clause-front

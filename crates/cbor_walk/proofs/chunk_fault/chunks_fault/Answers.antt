@@ -1,0 +1,68 @@
+use Rattle.std.proofs.Common.{◌≡◌, ◌∙◌, ◌-◌, Bool, length, take, drop, refl, sym, ap, subst, arith, length-drop}
+use Rattle.std.proofs.Math.Seq.{take-length}
+use Rattle.std.proofs.lemmas.List.{nil_from_length}
+use Rattle.cbor_head.specs.Head.{major_number}
+use Rattle.cbor_keys.proofs.KeyFronts.{are_bytes}
+use Rattle.cbor_judging.specs.Reading.{string_major}
+use Rattle.cbor_walk.proofs.ChunkStops.{chunks_end_here, chunk_head_cut_here, no_chunk_here, chunk_fault_here, chunk-head, chunk-text, text-chunk}
+use Rattle.cbor_walk.proofs.Chunked.{AreRead, none-read, one-read}
+use Rattle.cbor_walk.proofs.chunk_fault.chunks_fault.Goals as goal
+use Rattle.cbor_walk.proofs.chunk_fault.chunks_fault.Goals.{then-is_text, else-is_text, then-first-kind-via-then-first-kind, then-first-kind-via-else-first-kind+then-low-gt27}
+
+pub chunks-init : goal.chunks-init
+chunks-init c = record {
+  read = (none-read c.args.is_text c.args.behind.now (are_bytes c.args.behind.now (λ i. omega (arith, c.type_inv.behind i)))).0;
+  kind = elim c.if-is_text.branch [
+    | then-is_text w ↦ w.kind-is ∙ ap (λ (t : Bool). major_number (string_major t)) (sym w.if-is_text.true)
+    | else-is_text w ↦ w.kind-is ∙ ap (λ (t : Bool). major_number (string_major t)) (sym w.if-is_text.false)
+  ];
+}
+
+pub returns-in_default : goal.returns-in_default
+returns-in_default c = chunks_end_here c.args.is_text c.args.behind.now c.chunks.rest.now c.chunks.invariant.read c.args.at c.refusal_at.result (nil_from_length c.chunks.rest.now c.in_default.ensures.cases) c.refusal_at.ensures
+
+pub returns-then-first-kind : goal.returns-then-first-kind
+returns-then-first-kind c =
+    let s = c.chunks.invariant in
+    no_chunk_here c.args.is_text c.args.behind.now c.chunks.rest.now s.read c.args.at c.refusal_at-then-first-kind.result c.in-Some.first.now c.in-Some.behind.now c.in-Some.ensures.cases.0 c.if-first.false
+    (λ e. elim c.then-first-kind.branch [
+      | then-first-kind-via-then-first-kind w ↦ absurd (w.if-first-kind.true (e ∙ sym s.kind))
+      | then-first-kind-via-else-first-kind+then-low-gt27 w ↦ w.if-low-gt27.true
+    ]) c.refusal_at-then-first-kind.ensures
+
+pub returns-in_default-read_argument : goal.returns-in_default-read_argument
+returns-in_default-read_argument c =
+    let s = c.chunks.invariant in
+    chunk_head_cut_here c.args.is_text c.args.behind.now c.chunks.rest.now s.read c.args.at c.refusal_at-in_default-read_argument.result c.in-Some.first.now c.in-Some.behind.now c.in-Some.ensures.cases.0
+    (c.if-first-kind.false ∙ s.kind) (c.in_default-read_argument.ensures.long refl) (let low = c.if-low-gt27.false in omega (arith, low)) (c.in_default-read_argument.ensures.cut refl) c.refusal_at-in_default-read_argument.ensures
+
+pub returns-in-Some-string_fault : goal.returns-in-Some-string_fault
+returns-in-Some-string_fault c =
+    let t = c.args.is_text in
+    let s = c.chunks.invariant in
+    let rest = c.chunks.rest.now in
+    let first = c.in-Some.first.now in
+    let behind = c.in-Some.behind.now in
+    let split = c.in-Some.ensures.cases.0 in
+    let high = c.if-first-kind.false ∙ s.kind in
+    let h = c.in-Some-read_argument.head in
+    chunk_fault_here t c.args.behind.now rest s.read c.args.at c.in-Some-string_fault.refusal h (chunk-head t rest first behind split high h c.in-Some-read_argument.ensures.spelled) (text-chunk t rest first behind split high) c.in-Some-string_fault.ensures
+
+pub chunks-preserved : goal.chunks-preserved
+chunks-preserved c =
+    let t = c.args.is_text in
+    let s = c.chunks.invariant in
+    let rest = c.chunks.rest.now in
+    let first = c.in-Some.first.now in
+    let behind = c.in-Some.behind.now in
+    let split = c.in-Some.ensures.cases.0 in
+    let high = c.if-first-kind.false ∙ s.kind in
+    let h = c.in-Some-read_argument.head in
+    let from = h.rest.now in
+    let whole : take (length from - h.number) (drop h.number from) ≡ drop h.number from = ap (λ n. take n (drop h.number from)) (sym (length-drop h.number from)) ∙ take-length (drop h.number from) in
+    let found = c.in_default-string_fault.ensures in
+    record {
+      read = subst (AreRead t c.args.behind.now) (sym whole)
+          (one-read t c.args.behind.now rest s.read h.number from (chunk-head t rest first behind split high h c.in-Some-read_argument.ensures.spelled) found.inside (λ e. found.utf8 (chunk-text t rest first behind split high e))).0;
+      kind = s.kind;
+    }

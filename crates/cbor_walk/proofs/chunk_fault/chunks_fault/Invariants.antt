@@ -1,0 +1,14 @@
+use Rattle.std.proofs.Common.{◌≡◌, length}
+use Rattle.cbor_head.specs.Head.{major_number}
+use Rattle.cbor_judging.specs.Reading.{string_major}
+use Rattle.cbor_walk.proofs.Chunked.{AreRead}
+use Rattle.cbor_walk.proofs.chunk_fault.chunks_fault.Given as goal
+
+abbrev pub invariant-chunks : goal.invariant-chunks
+invariant-chunks l = record {
+  read : AreRead l.is_text l.behind l.rest;
+  kind : l.kind ≡ major_number (string_major l.is_text);
+}
+
+abbrev pub decreases-chunks : goal.decreases-chunks
+decreases-chunks l = length l.rest
