@@ -1,5 +1,5 @@
 -- The headline's clauses on what `canonicalise` answers, from what the verdict is.
-use Rattle.std.proofs.Common.{ℕ, ◌^◌, ◌≡◌, ◌≢◌, ◌<◌, ◌≤◌, ◌↔◌, List, [], ◌++◌, length, take, refl, sym, ap, ◌∙◌, arith, subst, inl, inr}
+use Rattle.std.proofs.Common.{ℕ, ◌^◌, ◌≡◌, ◌≢◌, ◌≤◌, ◌↔◌, List, [], ◌++◌, length, take, refl, sym, ap, ◌∙◌, arith, subst, inl, inr}
 use Rattle.std.proofs.lemmas.Bool.{cases_lt}
 use Rattle.std.proofs.lemmas.List.{append-nil, take_all}
 use Rattle.cbor_head.specs.Limits.{Bounds}
@@ -21,7 +21,7 @@ use Rattle.cbor_canonical.proofs.Keys.{same_exactly}
 use Rattle.cbor_canonical.proofs.Sound.{IsSound as IsSoundValue, sound}
 use Rattle.cbor_canonical.proofs.Theorems.{canonical_spelled, canonical_again}
 use Rattle.cbor_reader.specs.Canonicalise.{IsCanonicalOf, IsRefusal}
-use Rattle.cbor_reader.specs.Headline.{IsValidItem}
+use Rattle.cbor_reader.specs.Headline.{IsValidItem, IsAnsweredBy, HasNoAnswer}
 use Rattle.cbor_judging.proofs.Accepted.{item_within_limit}
 use Rattle.cbor_reader.proofs.OneAnswer.{only_memory}
 use Rattle.cbor_reader.proofs.ValidTexts.{plain_too}
@@ -70,7 +70,7 @@ valid_item_value limits input s m i =
 -- ---- the answer
 
 pub answers_exactly : (limits : Bounds) (o : KeyOrder) (input out : List ℕ)
-    → IsCanonicalOf limits o input out ↔ ((s : Spelling) × IsValidItem limits input s × (out ≡ canonical o (value_of s)) × (length out ≤ limits.bytes))
+    → IsCanonicalOf limits o input out ↔ IsAnsweredBy limits o input out
 answers_exactly limits o input out = (
   (λ a. (a.item, valid_item limits input a.item a.verdict a.whole, a.canonical_bytes, a.fits)),
   (λ h. record { item = h.0; verdict = valid_item_accepted limits input h.0 h.1; whole = h.1.well_formed.bytes_are; canonical_bytes = h.2; fits = h.3 }),
@@ -84,9 +84,9 @@ accepts_valid_items limits o input = (
 )
 
 -- a valid item is refused for its canonical bytes alone, or for memory
-pub refused_too_long : (limits : Bounds) (o : KeyOrder) (input : List ℕ) (f : Refusal) (s : Spelling)
-    → IsRefusal limits o input f → f.reason ≢ Memory → IsValidItem limits input s → limits.bytes < length (canonical o (value_of s))
-refused_too_long limits o input f s r h i =
+pub refused_too_long : (limits : Bounds) (o : KeyOrder) (input : List ℕ) (f : Refusal)
+    → IsRefusal limits o input f → f.reason ≢ Memory → HasNoAnswer limits o input
+refused_too_long limits o input f r h s i =
     elim (cases_lt limits.bytes (length (canonical o (value_of s)))) [
       | inl l ↦ l
       | inr l ↦ absurd (h (only_memory limits o input (canonical o (value_of s)) f ((answers_exactly limits o input (canonical o (value_of s))).1 (s, i, refl, l)) r))

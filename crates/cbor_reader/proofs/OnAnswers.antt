@@ -1,14 +1,12 @@
 -- The headline's clauses on a result, where it is known to be the answer.
-use Rattle.std.proofs.Common.{ℕ, ◌^◌, ◌≡◌, ◌≢◌, ◌<◌, ◌≤◌, List, length, Result, Ok, Err}
+use Rattle.std.proofs.Common.{ℕ, ◌^◌, ◌≢◌, ◌≤◌, List, Result, Ok, Err}
 use Rattle.std.specs.Result.{MatchResult, IfOk, IfErr}
 use Rattle.cbor_head.specs.Limits.{Bounds}
-use Rattle.cbor_head.specs.Spelling.{Spelling, value_of}
-use Rattle.cbor_head.specs.Canonical.{canonical}
 use Rattle.cbor_head.specs.declared.order.KeyOrder.{KeyOrder}
 use Rattle.cbor_head.specs.declared.reason.Reason.TheVariants.{Memory}
 use Rattle.cbor_head.specs.declared.reason.Refusal.{Refusal}
 use Rattle.cbor_reader.specs.Canonicalise.{IsCanonicalOf, IsRefusal, TellsItsValue, IsCanonicaliserReason}
-use Rattle.cbor_reader.specs.Headline.{IsValidItem}
+use Rattle.cbor_reader.specs.Headline.{IsAnsweredBy, HasNoAnswer}
 use Rattle.cbor_reader.proofs.Headline.{answers_exactly, refused_too_long, equal_exactly, again}
 use Rattle.cbor_reader.proofs.CanonicaliserRefusals.{canonicaliser-reason}
 
@@ -16,13 +14,13 @@ module _ {A : Type 0} (limits : Bounds) (o : KeyOrder) (input : List ℕ) (items
   abbrev pub IsAnswer : Result A Refusal → Type 0
   IsAnswer r = MatchResult r (λ v. IsCanonicalOf limits o input (items v)) (λ f. IsRefusal limits o input f)
 
-  pub ok_item : (r : Result A Refusal) → IsAnswer r → IfOk r (λ v. (s : Spelling) × IsValidItem limits input s × (items v ≡ canonical o (value_of s)) × (length (items v) ≤ limits.bytes))
+  pub ok_item : (r : Result A Refusal) → IsAnswer r → IfOk r (λ v. IsAnsweredBy limits o input (items v))
   ok_item (Ok v) a = (answers_exactly limits o input (items v)).0 a
   ok_item (Err f) a = tt
 
-  pub err_item : (r : Result A Refusal) → IsAnswer r → IfErr r (λ f. f.reason ≢ Memory → (s : Spelling) → IsValidItem limits input s → limits.bytes < length (canonical o (value_of s)))
+  pub err_item : (r : Result A Refusal) → IsAnswer r → IfErr r (λ f. f.reason ≢ Memory → HasNoAnswer limits o input)
   err_item (Ok v) a = tt
-  err_item (Err f) a = λ h s i. refused_too_long limits o input f s a h i
+  err_item (Err f) a = refused_too_long limits o input f a
 
   pub ok_equal : (r : Result A Refusal) → limits.bytes ≤ 2 ^ 62 → IsAnswer r → IfOk r (λ v. TellsItsValue limits.depth o input (items v))
   ok_equal (Ok v) l a = λ others y b s t k i h j. equal_exactly limits others o input y (items v) b s t l k a i h j

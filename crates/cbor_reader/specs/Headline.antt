@@ -1,15 +1,25 @@
--- Which inputs are accepted (RFC 8949, sections 3 and 5.3).
-use Rattle.std.specs.Prelude.{ℕ, ◌≤◌, List, length, IsUtf8}
+-- Which inputs are accepted, and what is answered of them (RFC 8949, sections 3, 4.2 and 5.3).
+use Rattle.std.specs.Prelude.{ℕ, ◌≡◌, ◌<◌, ◌≤◌, List, length, IsUtf8}
 use Rattle.std.specs.List.{AllByRecursion}
+use Rattle.cbor_head.specs.Canonical.{canonical}
 use Rattle.cbor_head.specs.Limits.{Bounds}
-use Rattle.cbor_head.specs.Spelling.{Spelling, Spellings, SpelledEntries, text, text_chunks, array, a_map, tag, no_spellings, a_spelling, no_entries, entry, IsItem}
+use Rattle.cbor_head.specs.Spelling.{Spelling, Spellings, SpelledEntries, text, text_chunks, array, a_map, tag, no_spellings, a_spelling, no_entries, entry, IsItem, value_of}
 use Rattle.cbor_head.specs.Complaint.{plain, Complaint, IsComplaint}
+use Rattle.cbor_head.specs.declared.order.KeyOrder.{KeyOrder}
 
 -- the whole input is this one item: well-formed, valid, and within the limits
 pub record IsValidItem (limits : Bounds) (input : List ℕ) (s : Spelling) : Type 0 where
   pub well_formed : IsItem limits.depth s input
   pub valid : (c : Complaint) → IsComplaint limits plain s c → ⊥
   pub fits : length input ≤ limits.bytes
+
+-- the input is such an item, and out is the canonical bytes of its value, no more than the limit of bytes either
+abbrev pub IsAnsweredBy : Bounds → KeyOrder → List ℕ → List ℕ → Type 0
+IsAnsweredBy limits o input out = (s : Spelling) × IsValidItem limits input s × (out ≡ canonical o (value_of s)) × (length out ≤ limits.bytes)
+
+-- the input is no such item, or the canonical bytes of its value are more than the limit
+abbrev pub HasNoAnswer : Bounds → KeyOrder → List ℕ → Type 0
+HasNoAnswer limits o input = (s : Spelling) → IsValidItem limits input s → limits.bytes < length (canonical o (value_of s))
 
 -- each text, and each chunk of one, is UTF-8 (sections 3.1 and 3.2.3)
 abbrev mutual

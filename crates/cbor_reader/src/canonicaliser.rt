@@ -1,13 +1,10 @@
 //! The canonical bytes of a whole input.
 
-ghost use Rattle.std.specs.Prelude.{◌≡◌, ◌≢◌, ◌<◌, ◌≤◌, ℕ, List, length, IfOk, IfErr, IsOk, MatchResult};
+ghost use Rattle.std.specs.Prelude.{◌≢◌, IfOk, IfErr, IsOk, MatchResult};
 ghost use Rattle.std.specs.Cow.{cow_slice_items};
-ghost use Rattle.cbor_head.specs.Canonical.{canonical};
-ghost use Rattle.cbor_head.specs.declared.order.KeyOrder.{KeyOrder};
-ghost use Rattle.cbor_head.specs.Spelling.{Spelling, value_of};
 ghost use Rattle.cbor_head.specs.declared.reason.Reason.TheVariants as reasons;
 ghost use Rattle.cbor_reader.specs.Canonicalise.{IsCanonicalOf, IsRefusal, TellsItsValue};
-ghost use Rattle.cbor_reader.specs.Headline.{IsValidItem};
+ghost use Rattle.cbor_reader.specs.Headline.{IsAnsweredBy, HasNoAnswer};
 ghost use Rattle.cbor_reader.specs.Canonicalise.{IsCanonicaliserReason};
 
 use crate::whole_item::encoded_item;
@@ -31,12 +28,9 @@ pub fn canonicalise(
     ensures answer { MatchResult result
         (λ v. IsCanonicalOf limits order bytes.now v.items)
         (λ f. IsRefusal limits order bytes.now f) }
-    ensures accepted { IfOk result (λ v. (s : Spelling)
-        × IsValidItem limits bytes.now s
-        × (v.items ≡ canonical order (value_of s)) × (length v.items ≤ limits.bytes)) }
-    ensures refused { IfErr result (λ f. f.reason ≢ reasons.Memory
-        → (s : Spelling) → IsValidItem limits bytes.now s
-        → limits.bytes < length (canonical order (value_of s))) }
+    ensures accepted { IfOk result (λ v. IsAnsweredBy limits order bytes.now v.items) }
+    ensures refused { IfErr result
+        (λ f. f.reason ≢ reasons.Memory → HasNoAnswer limits order bytes.now) }
     ensures reason { IfErr result (λ f. IsCanonicaliserReason limits f.reason) }
     ensures equal { IfOk result (λ v. TellsItsValue limits.depth order bytes.now v.items) }
     ensures again { IfOk result (λ v. IsCanonicalOf limits order v.items v.items) }
@@ -62,13 +56,9 @@ pub fn canonical_bytes<'a>(
         (λ c. IsCanonicalOf limits order bytes.now (cow_slice_items c))
         (λ f. IsRefusal limits order bytes.now f) }
     ensures own { IsCanonicalOf limits order bytes.now bytes.now → IsOk result }
-    ensures accepted { IfOk result (λ c. (s : Spelling)
-        × IsValidItem limits bytes.now s
-        × (cow_slice_items c ≡ canonical order (value_of s))
-        × (length (cow_slice_items c) ≤ limits.bytes)) }
-    ensures refused { IfErr result (λ f. f.reason ≢ reasons.Memory
-        → (s : Spelling) → IsValidItem limits bytes.now s
-        → limits.bytes < length (canonical order (value_of s))) }
+    ensures accepted { IfOk result (λ c. IsAnsweredBy limits order bytes.now (cow_slice_items c)) }
+    ensures refused { IfErr result
+        (λ f. f.reason ≢ reasons.Memory → HasNoAnswer limits order bytes.now) }
     ensures reason { IfErr result (λ f. IsCanonicaliserReason limits f.reason) }
     ensures equal { IfOk result
         (λ c. TellsItsValue limits.depth order bytes.now (cow_slice_items c)) }

@@ -16,7 +16,7 @@ ghost use Rattle.cbor_head.specs.declared.reason.Reason.TheVariants.{CanonicalTo
 ghost use Rattle.cbor_head.specs.declared.reason.Reason.TheVariants.{Read};
 ghost use Rattle.cbor_reader.specs.Canonicalise.{IsCanonicalOf, IsRefusal};
 ghost use Rattle.cbor_reader.specs.Comparing.{MeanTheSame};
-ghost use Rattle.cbor_reader.specs.Headline.{IsValidItem};
+ghost use Rattle.cbor_reader.specs.Headline.{IsValidItem, IsAnsweredBy, HasNoAnswer};
 ghost use Rattle.cbor_judging.specs.Readers.{BeginsWithCanonical, IsReadAs, IsUnread};
 ghost use Rattle.cbor_judging.specs.Refusals.{StandsWithin};
 ghost use Rattle.cbor_reader.specs.Headline.{HasValidTexts};
@@ -42,12 +42,9 @@ pub fn answered_are_valid_items()
         → ((out : List ℕ) × IsCanonicalOf limits o input out)
         ↔ ((s : Spelling) × IsValidItem limits input s × (length (canonical o (value_of s)) ≤ limits.bytes)) }
     ensures answer { (limits : Bounds) (o : KeyOrder) (input out : List ℕ)
-        → IsCanonicalOf limits o input out
-        ↔ ((s : Spelling) × IsValidItem limits input s
-        × (out ≡ canonical o (value_of s)) × (length out ≤ limits.bytes)) }
-    ensures refused { (limits : Bounds) (o : KeyOrder) (input : List ℕ) (f : Refusal) (s : Spelling)
-        → IsRefusal limits o input f → f.reason ≢ Memory → IsValidItem limits input s
-        → limits.bytes < length (canonical o (value_of s)) }
+        → IsCanonicalOf limits o input out ↔ IsAnsweredBy limits o input out }
+    ensures refused { (limits : Bounds) (o : KeyOrder) (input : List ℕ) (f : Refusal)
+        → IsRefusal limits o input f → f.reason ≢ Memory → HasNoAnswer limits o input }
 {}
 
 /// An input is answered as its tree is encoded. Where `read_tree` reads all of it as a value, the

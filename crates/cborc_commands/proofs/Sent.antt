@@ -3,16 +3,21 @@ use Rattle.std.proofs.Common.{ℕ, List, Option, Some, None, inl, inr, ◌∙◌
 use Rattle.std.specs.Io.KnownBytes.{Appends, Keeps}
 use Rattle.std.proofs.KnownBytes.{Keeps-trans}
 use Rattle.cbor_diag.specs.Listing.{IsListed, IsUnlisted, of_verdict, of_reader, of_writer}
+use Rattle.cbor_head.specs.Complaint.{Rules}
 use Rattle.cbor_head.specs.Limits.{Bounds}
 use Rattle.cbor_head.specs.Spelling.{Spelling}
 use Rattle.cbor_head.specs.declared.order.KeyOrder.{KeyOrder}
 use Rattle.cbor_head.specs.declared.reason.Refusal.{Refusal}
 use Rattle.cborc_commands.specs.Answer.{IsDone, IsNotDone}
 use Rattle.cborc_input.specs.Put.{IsPut, printed, written}
+use Rattle.cborc_input.specs.Rules.{rules_of}
+use Rattle.cborc_input.specs.Texts.{IsNotTaken}
 use Rattle.cborc_sequences.specs.CanonSequence.{IsSent, passed, apart, IsSequenceNotCanonised}
 use Rattle.cborc_items.specs.Canon.{IsNotCanonised}
-use Rattle.cborc_items.specs.Compare.{IsTold}
+use Rattle.cborc_items.specs.Check.{IsNotChecked}
+use Rattle.cborc_items.specs.Compare.{IsTold, IsToldInPart, same, different, IsUntold, AreNotCompared}
 use Rattle.cborc_items.specs.Events.{IsNotListed, IsNotListedOf}
+use Rattle.cborc_sequences.specs.CheckSequence.{IsSequenceNotChecked}
 use Rattle.cborc_sequences.specs.EventsSequence.{IsListedSoFar, items_listed, front_listed, IsSequenceNotListed}
 use Rattle.cborc_files.specs.Folder.{Files}
 use Rattle.cborc_input.specs.Sequences.{IsCutIn, IsTakenSoFar, of_items, of_cut}
@@ -45,6 +50,47 @@ module _ (before mid after : Option (List ℕ)) (keeps : Keeps mid after) where
   told_sent limits left right statuses.Refused (a, m, t) = (a, m, appends_kept before mid after _ t keeps)
   told_sent limits left right _ h = absurd h
 
+  -- the first bytes of a line
+  part_sent : (line : List ℕ) → IsNotTaken line before mid faults.CannotPrint → IsNotTaken line before after faults.CannotPrint
+  part_sent line (count, part, taken) = (count, part, appends_kept before mid after _ taken keeps)
+
+  not_checked_sent : (rules : Rules) (options : Options) (source : List ℕ) (held : Option Files) (fault : Fault) → IsNotChecked rules options source held before mid fault
+      → IsNotChecked rules options source held before after fault
+  not_checked_sent rules options source held (faults.Refused f) h = h
+  not_checked_sent rules options source held faults.CannotPrint h =
+      record { input = h.input; is = h.is; size = h.size; whole = h.whole; taken = part_sent _ h.taken }
+  not_checked_sent rules options source held (faults.CannotRead named) h = h
+  not_checked_sent rules options source held (faults.NotHex named) h = h
+  not_checked_sent rules options source held faults.Memory h = h
+  not_checked_sent rules options source held _ h = absurd h
+
+  uncounted_sent : (rules : Rules) (options : Options) (source : List ℕ) (held : Option Files) (fault : Fault) → IsSequenceNotChecked rules options source held before mid fault
+      → IsSequenceNotChecked rules options source held before after fault
+  uncounted_sent rules options source held (faults.RefusedItem index start f) h = h
+  uncounted_sent rules options source held faults.CannotPrint h =
+      record { input = h.input; is = h.is; count = h.count; whole = h.whole; taken = part_sent _ h.taken }
+  uncounted_sent rules options source held (faults.CannotRead named) h = h
+  uncounted_sent rules options source held (faults.NotHex named) h = h
+  uncounted_sent rules options source held faults.Memory h = h
+  uncounted_sent rules options source held _ h = absurd h
+
+  told_in_part_sent : (limits : Bounds) (left right : List ℕ) → IsToldInPart limits left right before mid → IsToldInPart limits left right before after
+  told_in_part_sent limits left right (same a m t) = same a m (part_sent _ t)
+  told_in_part_sent limits left right (different a m t) = different a m (part_sent _ t)
+
+  untold_sent : (limits : Bounds) (left right : List ℕ) (fault : Fault) → IsUntold limits left right before mid fault → IsUntold limits left right before after fault
+  untold_sent limits left right (faults.LeftRefused f) h = h
+  untold_sent limits left right (faults.RightRefused f) h = h
+  untold_sent limits left right faults.Memory h = h
+  untold_sent limits left right faults.CannotPrint h = told_in_part_sent limits left right h
+  untold_sent limits left right _ h = absurd h
+
+  not_compared_sent : (options : Options) (left right : List ℕ) (held : Option Files) (fault : Fault) → AreNotCompared options left right held before mid fault
+      → AreNotCompared options left right held before after fault
+  not_compared_sent options left right held fault (inl h) =
+      inl (record { first = h.first; second = h.second; are = h.are; untold = untold_sent options.limits h.first h.second fault h.untold })
+  not_compared_sent options left right held fault (inr h) = inr h
+
   listed_sent : (limits : Bounds) (input : List ℕ) (count : ℕ) → IsListed 0 limits input count before mid → IsListed 0 limits input count before after
   listed_sent limits input count h = record {
     item = h.item;
@@ -62,7 +108,7 @@ module _ (before mid after : Option (List ℕ)) (keeps : Keeps mid after) where
   not_listed_sent limits input (faults.Refused f) (own, told, inl (h, l)) = (own, told, inl (unlisted_sent limits input f h, l))
   not_listed_sent limits input (faults.Refused f) (own, told, inr h) = (own, told, inr (record { size = h.size; listed = listed_sent limits input h.size h.listed; followed = h.followed; is = h.is }))
   not_listed_sent limits input faults.CannotPrint (f, h, l, e) = (f, unlisted_sent limits input f h, l, e)
-  not_listed_sent limits input faults.Memory h = tt
+  not_listed_sent limits input faults.Memory (f, h, l) = (f, unlisted_sent limits input f h, l)
   not_listed_sent limits input _ h = absurd h
 
   events_sent : (options : Options) (source : List ℕ) (held : Option Files) (fault : Fault) → IsNotListedOf options source held before mid fault
@@ -71,7 +117,8 @@ module _ (before mid after : Option (List ℕ)) (keeps : Keeps mid after) where
   events_sent options source held faults.CannotPrint (input, is, h) = (input, is, not_listed_sent options.limits input faults.CannotPrint h)
   events_sent options source held (faults.CannotRead named) (h, k) = (h, Keeps-trans before mid after k keeps)
   events_sent options source held (faults.NotHex named) (h, k) = (h, Keeps-trans before mid after k keeps)
-  events_sent options source held faults.Memory h = h
+  events_sent options source held faults.Memory (inl k) = inl (Keeps-trans before mid after k keeps)
+  events_sent options source held faults.Memory (inr (input, is, h)) = inr (input, is, not_listed_sent options.limits input faults.Memory h)
   events_sent options source held _ h = absurd h.0
 
   cut_sent : (P : Spelling → Type 0) (text : Spelling → List ℕ) (bytes : List ℕ) → IsCutIn P text bytes before mid → IsCutIn P text bytes before after
@@ -226,15 +273,15 @@ module _ (before mid after : Option (List ℕ)) (keeps : Keeps mid after) where
   done_sent _ old new _ h = absurd h
 
   pub not_done_sent : (request : Request) (held : Option Files) (fault : Fault) → IsNotDone request held before mid fault → IsNotDone request held before after fault
-  not_done_sent (Check source accepted options) held fault h = h
-  not_done_sent (CheckSequence source accepted options) held fault h = h
+  not_done_sent (Check source accepted options) held fault h = not_checked_sent (rules_of accepted) options source.now held fault h
+  not_done_sent (CheckSequence source accepted options) held fault h = uncounted_sent (rules_of accepted) options source.now held fault h
   not_done_sent (Canon source output order options) held fault h = not_canonised_sent order options source.now output held fault h
   not_done_sent (CanonSequence source output order options) held fault h = canonised_sent order options source.now output held fault h
   not_done_sent (Show source layout options) held fault h = unshown_sent layout options source.now held fault h
   not_done_sent (ShowSequence source layout options) held fault h = shown_sent layout options source.now held fault h
   not_done_sent (Events source options) held fault h = events_sent options source.now held fault h
   not_done_sent (EventsSequence source options) held fault h = lines_sent options source.now held fault h
-  not_done_sent (Compare left right options) held fault h = h
+  not_done_sent (Compare left right options) held fault h = not_compared_sent options left.now right.now held fault h
 
   pub silent_sent : (request : Request) (fault : Fault) → IsSilent request fault before mid → IsSilent request fault before after
   silent_sent (CanonSequence source output order options) fault h = λ s. Keeps-trans before mid after (h s) keeps

@@ -36,8 +36,9 @@ IsDone _ old new before after _ = ⊥
 
 -- why there is none
 abbrev pub IsNotDone : Request → Option Files → Option (List ℕ) → Option (List ℕ) → Fault → Type 0
-IsNotDone (Check source accepted options) held before after fault = IsNotChecked (rules_of accepted) options source.now held fault
-IsNotDone (CheckSequence source accepted options) held before after fault = IsSequenceNotChecked (rules_of accepted) options source.now held fault
+IsNotDone (Check source accepted options) held before after fault = IsNotChecked (rules_of accepted) options source.now held before after fault
+IsNotDone (CheckSequence source accepted options) held before after fault =
+    IsSequenceNotChecked (rules_of accepted) options source.now held before after fault
 IsNotDone (Canon source output order options) held before after fault =
     IsNotCanonised order options source.now output held before after fault
 IsNotDone (CanonSequence source output order options) held before after fault =
@@ -46,4 +47,4 @@ IsNotDone (Show source layout options) held before after fault = IsNotShown layo
 IsNotDone (ShowSequence source layout options) held before after fault = IsSequenceNotShown layout options source.now held before after fault
 IsNotDone (Events source options) held before after fault = IsNotListedOf options source.now held before after fault
 IsNotDone (EventsSequence source options) held before after fault = IsSequenceNotListed options source.now held before after fault
-IsNotDone (Compare left right options) held before after fault = AreNotCompared options left.now right.now held fault
+IsNotDone (Compare left right options) held before after fault = AreNotCompared options left.now right.now held before after fault

@@ -1,23 +1,47 @@
 -- Bytes that a reader gave, behind those that were there.
-use Rattle.std.proofs.Common.{ℕ, ◌-◌, ◌≡◌, ◌≤◌, None, List, [], ◌++◌, append_assoc, append-nil, length, length-append, take, drop, replicate, sym, ap, ◌∙◌, arith}
+use Rattle.std.proofs.Common.{ℕ, ◌+◌, ◌-◌, ◌≡◌, ◌≤◌, None, Option, List, ◌++◌, append_assoc, length, length-append, take, drop, replicate, sym, ap, ◌∙◌, arith}
 use Rattle.std.proofs.Math.Seq.{drop-append_seam}
-use Rattle.std.proofs.lemmas.List.{length-replicate, take_all}
-use Rattle.cborc_disk.specs.Disk.{IsAppended}
+use Rattle.std.proofs.lemmas.List.{length-replicate, length-take-le, take-append-le, take_all}
+use Rattle.std.proofs.KnownBytes.{Consumes-trans, Consumes-kept}
+use Rattle.std.specs.Io.KnownBytes.{Consumes, Keeps}
+use Rattle.std.specs.declared.io.ErrorKind.{ErrorKind}
+use Rattle.std.specs.declared.io.ErrorKind.TheVariants as kinds
+use Rattle.cborc_disk.specs.Disk.{IsAppended, IsCutShort}
 use Rattle.cborc_files.specs.Folder.{ReadsOn}
 
--- nothing so far
-pub none_added : (few : ℕ) (old : List ℕ) → IsAppended few old old
-none_added few old = record { added = []; is = sym (append-nil old); few = omega arith }
+-- To the old bytes was added what a reader lost; so many of those that are wanted are left.
+pub record IsTaken (most left : ℕ) (before now : Option (List ℕ)) (old new : List ℕ) : Type 0 where
+  pub added : List ℕ
+  pub is : new ≡ old ++ added
+  pub size : length added + left ≡ most
+  pub lost : Consumes before now added
 
-pub at_most : (few most : ℕ) (old new : List ℕ) → IsAppended few old new → few ≤ most → IsAppended most old new
-at_most few most old new a l = record { added = a.added; is = a.is; few = omega (arith, a.few, l) }
+-- one part more, of those that are left: the front of a buffer
+pub one_part : (most left count : ℕ) (before now after : Option (List ℕ)) (old mid new buf rest : List ℕ) → IsTaken most left before now old mid
+    → new ≡ mid ++ take count (buf ++ rest) → count ≤ length buf → count ≤ left → Consumes now after (take count buf) → IsTaken most (left - count) before after old new
+one_part most left count before now after old mid new buf rest t is within few lost =
+    let part = take count buf in
+    record {
+      added = t.added ++ part;
+      is = is ∙ ap (λ (xs : List ℕ). mid ++ xs) (take-append-le count buf rest within) ∙ ap (λ (xs : List ℕ). xs ++ part) t.is ∙ append_assoc old t.added part;
+      size = omega (arith, t.size, length-take-le count buf within, few, length-append t.added part);
+      lost = Consumes-trans before now after t.added part t.lost lost;
+    }
 
--- one part more, of those that are left
-pub one_part : (most left count : ℕ) (old mid new part : List ℕ) → IsAppended (most - left) old mid → new ≡ mid ++ part → length part ≡ count → count ≤ left → left ≤ most → IsAppended (most - (left - count)) old new
-one_part most left count old mid new part a is size few within = record {
-  added = a.added ++ part;
-  is = is ∙ ap (λ (xs : List ℕ). xs ++ part) a.is ∙ append_assoc old a.added part;
-  few = omega (arith, a.few, size, few, within, length-append a.added part);
+-- a read that gave none
+pub none_lost : (most left : ℕ) (before now after : Option (List ℕ)) (old new : List ℕ) → IsTaken most left before now old new → Keeps now after
+    → IsTaken most left before after old new
+none_lost most left before now after old new t kept = record { added = t.added; is = t.is; size = t.size; lost = Consumes-kept before now after t.added t.lost kept }
+
+-- memory was refused for a part that was read
+pub cut_by_memory : (kind : ErrorKind) (most left : ℕ) (before now after : Option (List ℕ)) (old new part : List ℕ) → IsTaken most left before now old new
+    → Consumes now after part → kind ≡ kinds.OutOfMemory → IsCutShort kind before after old new
+cut_by_memory kind most left before now after old new part t lost memory = record {
+  added = t.added;
+  dropped = part;
+  is = t.is;
+  lost = Consumes-trans before now after t.added part t.lost lost;
+  memory = λ _. memory;
 }
 
 -- of a folder that does not tell what it holds: some file has them there

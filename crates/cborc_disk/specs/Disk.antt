@@ -1,8 +1,19 @@
 -- What is read of a file.
-use Rattle.std.specs.Prelude.{ℕ, ◌≡◌, ◌≤◌, ◌++◌, List, length}
+use Rattle.std.specs.Prelude.{ℕ, ◌≡◌, ◌≢◌, ◌≤◌, ◌++◌, List, [], length, Option}
+use Rattle.std.specs.Io.KnownBytes.{Consumes}
+use Rattle.std.specs.declared.io.ErrorKind.{ErrorKind}
+use Rattle.std.specs.declared.io.ErrorKind.TheVariants as kinds
 
 -- bytes were added to the old ones, no more than so many
 pub record IsAppended (most : ℕ) (old new : List ℕ) : Type 0 where
   pub added : List ℕ
   pub is : new ≡ old ++ added
   pub few : length added ≤ most
+
+-- before an error of this kind all that a reader lost was added to the old bytes, but for a part that memory was refused for
+pub record IsCutShort (kind : ErrorKind) (before after : Option (List ℕ)) (old new : List ℕ) : Type 0 where
+  pub added : List ℕ
+  pub dropped : List ℕ
+  pub is : new ≡ old ++ added
+  pub lost : Consumes before after (added ++ dropped)
+  pub memory : dropped ≢ [] → kind ≡ kinds.OutOfMemory

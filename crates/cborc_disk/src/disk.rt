@@ -1,7 +1,8 @@
 //! The machine's files.
 
-ghost use Rattle.std.specs.Prelude.{◌≡◌, ◌≢◌, OnOk};
-ghost use Rattle.cborc_disk.specs.Disk.{IsAppended};
+ghost use Rattle.std.specs.Prelude.{◌≡◌, ◌≢◌, ◌++◌, take, drop, Some, OnOk, IfErr, IfSome};
+ghost use Rattle.std.specs.IoError.{error_kind};
+ghost use Rattle.cborc_disk.specs.Disk.{IsAppended, IsCutShort};
 
 use crate::replacement::Replacement;
 use cborc_files::{Cause, FileFault, Folder, is_stream};
@@ -130,7 +131,14 @@ const PART: usize = 16 * 1024;
 
 /// Appends the next bytes of a reader, so many if it has them.
 pub fn append_from<S: Read>(source: &mut S, most: u64, bytes: &mut Vec<u8>) -> io::Result<()>
-    ensures { OnOk result (IsAppended most bytes.old.items bytes.new.items) }
+    ensures few { IsAppended most bytes.old.items bytes.new.items }
+    ensures given { OnOk result (IfSome (S.remaining source.old)
+        (λ input. bytes.new.items ≡ bytes.old.items ++ take most input)) }
+    ensures rest { OnOk result (IfSome (S.remaining source.old)
+        (λ input. S.remaining source.new ≡ Some (drop most input))) }
+    ensures cut_short { IfErr result (λ error. IsCutShort (error_kind error)
+        (S.remaining source.old) (S.remaining source.new) bytes.old.items bytes.new.items) }
+    ensures retried { IfErr result (λ error. error_kind error ≢ ErrorKind.Interrupted) }
 {
     let mut part = [0; PART];
     let mut left = most;
@@ -149,7 +157,8 @@ pub fn append_from<S: Read>(source: &mut S, most: u64, bytes: &mut Vec<u8>) -> i
             Err(error) => return Err(error),
         }
     }
-    Ok(())
+    // Each read was interrupted.
+    Err(io::Error::from(ErrorKind::TimedOut))
 }
 
 fn fault_of(kind: ErrorKind) -> FileFault

@@ -1,5 +1,5 @@
 -- Which fault a part of a subcommand passes on, and what it tells of the whole.
-use Rattle.std.proofs.Common.{ℕ, ◌≡◌, ◌<◌, ◌++◌, inl, List, length, take, Option, refl, sym, subst}
+use Rattle.std.proofs.Common.{ℕ, ◌≡◌, ◌<◌, ◌++◌, inl, inr, List, length, take, Option, refl, sym, subst}
 use Rattle.cbor_diag.specs.Listing.{IsListed}
 use Rattle.cbor_head.specs.Complaint.{Rules, plain}
 use Rattle.cbor_head.specs.Limits.{Bounds}
@@ -23,7 +23,7 @@ use Rattle.cborc_items.specs.Canon.{IsCanonised, IsNotCanonised}
 use Rattle.cborc_input.specs.Start.{StartsInput}
 use Rattle.cborc_fronts.specs.Decided.{IsEnough}
 use Rattle.cborc_items.specs.Check.{accepted_bytes, IsWhole, IsNotWhole, IsChecked, IsNotChecked}
-use Rattle.cborc_items.specs.Compare.{IsTold, IsUntold, AreInputs, AreCompared, AreNotCompared}
+use Rattle.cborc_items.specs.Compare.{IsTold, IsToldInPart, same, different, IsUntold, AreInputs, AreCompared, AreNotCompared}
 use Rattle.cborc_items.specs.Events.{IsNotListed, IsListedOf, IsNotListedOf}
 use Rattle.cborc_input.specs.Fault.{refusal_fault}
 use Rattle.cborc_files.specs.Folder.{Files, KeepsFiles}
@@ -84,15 +84,16 @@ module _ (rules : Rules) (options : Options) (source : List ℕ) (held : Option 
       → Appends before after (accepted_bytes size) → IsChecked rules options source held before after
   checked size before after w t = record { input = s.input; is = s.is; size = size; whole = whole_of size w; told = t }
 
-  pub untold : (size : ℕ) → IsWhole options.limits rules bytes size → (fault : Fault) → fault ≡ faults.CannotPrint
-      → IsNotChecked rules options source held fault
-  untold size w fault e =
-      subst (IsNotChecked rules options source held) (sym e) (record { input = s.input; is = s.is; size = size; whole = whole_of size w })
+  pub untold : (size : ℕ) (before after : Option (List ℕ)) → IsWhole options.limits rules bytes size → (fault : Fault)
+      → IsNotTaken (accepted_bytes size) before after fault → IsNotChecked rules options source held before after fault
+  untold size before after w faults.CannotPrint h = record { input = s.input; is = s.is; size = size; whole = whole_of size w; taken = h }
+  untold size before after w faults.Memory h = tt
+  untold size before after w _ h = absurd h
 
-  pub not_checked : (f : Refusal) → IsNotWhole options.limits rules bytes f → (fault : Fault) → fault ≡ refusal_fault f
-      → IsNotChecked rules options source held fault
-  not_checked f h fault e =
-      refusal_is (IsNotChecked rules options source held) f fault e (λ own. (
+  pub not_checked : (before after : Option (List ℕ)) (f : Refusal) → IsNotWhole options.limits rules bytes f → (fault : Fault) → fault ≡ refusal_fault f
+      → IsNotChecked rules options source held before after fault
+  not_checked before after f h fault e =
+      refusal_is (IsNotChecked rules options source held before after) f fault e (λ own. (
         s.input,
         s.is,
         subst (λ (b : List ℕ). IsNotWhole options.limits rules b f) s.splits (is_not_whole options.limits bytes s.behind s.enough rules f own h),
@@ -153,7 +154,7 @@ module _ (options : Options) (source : List ℕ) (held : Option Files) (bytes : 
       → IsNotListedOf options source held before after fault
   not_listed_of before after (faults.Refused f) h = (s.input, s.is, listed_so before after (faults.Refused f) h)
   not_listed_of before after faults.CannotPrint h = (s.input, s.is, listed_so before after faults.CannotPrint h)
-  not_listed_of before after faults.Memory h = tt
+  not_listed_of before after faults.Memory h = inr (s.input, s.is, listed_so before after faults.Memory h)
   not_listed_of before after _ h = absurd h
 
 -- ---- `compare`
@@ -181,12 +182,24 @@ module _ (limits : Bounds) (left left_behind right right_behind : List ℕ) (eno
   side_whole Left f h = item_refusal_whole limits left left_behind enough f h
   side_whole Right f (l, h) = (left_whole l, item_refusal_whole limits right right_behind enough_too f h)
 
-  pub untold_whole : (fault : Fault) → IsUntold limits left right fault → IsUntold limits (left ++ left_behind) (right ++ right_behind) fault
-  untold_whole (faults.LeftRefused f) (h, own) = (side_whole Left f h, own)
-  untold_whole (faults.RightRefused f) (h, own) = (side_whole Right f h, own)
-  untold_whole faults.Memory (side, f, h, e) = (side, f, side_whole side f h, e)
-  untold_whole faults.CannotPrint (l, r) = (left_whole l, subst (IsWholeItem limits) (whole_item limits right right_behind enough_too are_too r) r)
-  untold_whole _ h = absurd h
+  part_of_fronts : (before after : Option (List ℕ)) → IsToldInPart limits left right before after → (left ≡ left ++ left_behind) × (right ≡ right ++ right_behind)
+      → IsToldInPart limits (left ++ left_behind) (right ++ right_behind) before after
+  part_of_fronts before after h (l, r) =
+      subst (λ (x : List ℕ). IsToldInPart limits (left ++ left_behind) x before after) r
+      (subst (λ (x : List ℕ). IsToldInPart limits x right before after) l h)
+
+  part_whole : (before after : Option (List ℕ)) → IsToldInPart limits left right before after
+      → IsToldInPart limits (left ++ left_behind) (right ++ right_behind) before after
+  part_whole before after (same are_items mean taken) = part_of_fronts before after (same are_items mean taken) (fronts_equal are_items)
+  part_whole before after (different are_items apart taken) = part_of_fronts before after (different are_items apart taken) (fronts_equal are_items)
+
+  pub untold_whole : (before after : Option (List ℕ)) (fault : Fault) → IsUntold limits left right before after fault
+      → IsUntold limits (left ++ left_behind) (right ++ right_behind) before after fault
+  untold_whole before after (faults.LeftRefused f) (h, own) = (side_whole Left f h, own)
+  untold_whole before after (faults.RightRefused f) (h, own) = (side_whole Right f h, own)
+  untold_whole before after faults.Memory (side, f, h, e) = (side, f, side_whole side f h, e)
+  untold_whole before after faults.CannotPrint h = part_whole before after h
+  untold_whole before after _ h = absurd h
 
 module _ (options : Options) (left right : List ℕ) (old mid : Option Files) (keeps : KeepsFiles old mid) (first second : List ℕ)
     (s : StartsInput old left options first) (t : StartsInput mid right options second) (are : AreAccepted options.limits first) (are_too : AreAccepted options.limits second) where
@@ -204,13 +217,14 @@ module _ (options : Options) (left right : List ℕ) (old mid : Option Files) (k
         (told_whole options.limits first s.behind second t.behind s.enough t.enough are are_too before after status h));
   }
 
-  pub not_compared : (fault : Fault) → IsUntold options.limits first second fault → AreNotCompared options left right old fault
-  not_compared fault h =
+  pub not_compared : (before after : Option (List ℕ)) (fault : Fault) → IsUntold options.limits first second before after fault
+      → AreNotCompared options left right old before after fault
+  not_compared before after fault h =
       inl (record {
         first = s.input;
         second = t.input;
         are = both;
-        untold = subst (λ (x : List ℕ). IsUntold options.limits s.input x fault) t.splits
-            (subst (λ (x : List ℕ). IsUntold options.limits x (second ++ t.behind) fault) s.splits
-            (untold_whole options.limits first s.behind second t.behind s.enough t.enough are are_too fault h));
+        untold = subst (λ (x : List ℕ). IsUntold options.limits s.input x before after fault) t.splits
+            (subst (λ (x : List ℕ). IsUntold options.limits x (second ++ t.behind) before after fault) s.splits
+            (untold_whole options.limits first s.behind second t.behind s.enough t.enough are are_too before after fault h));
       })

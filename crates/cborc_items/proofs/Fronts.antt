@@ -175,7 +175,7 @@ module _ (limits : Bounds) (front behind : List ℕ) (enough : IsEnough limits f
   not_listed_whole old new (faults.Refused f) (own, told, inl (u, l)) = (own, told, inl (unlisted_whole f old new u l, omega (arith, l, no_longer)))
   not_listed_whole old new (faults.Refused f) (own, told, inr h) = (own, told, inr (followed_whole f old new h))
   not_listed_whole old new faults.CannotPrint (f, u, l, e) = (f, unlisted_whole f old new u l, omega (arith, l, no_longer), e)
-  not_listed_whole old new faults.Memory h = tt
+  not_listed_whole old new faults.Memory (f, u, l) = (f, unlisted_whole f old new u l, omega (arith, l, no_longer))
   not_listed_whole old new _ h = absurd h
 
   -- ---- what `compare` finds

@@ -1,5 +1,5 @@
 -- The fault of a side's refusal tells which side and why.
-use Rattle.std.proofs.Common.{ℕ, ◌≡◌, ◌∙◌, List, ap, refl, sym, subst}
+use Rattle.std.proofs.Common.{ℕ, ◌≡◌, ◌∙◌, List, Option, ap, refl, sym, subst}
 use Rattle.cbor_head.specs.Limits.{Bounds}
 use Rattle.cbor_head.specs.declared.reason.Reason.{Reason}
 use Rattle.cbor_head.specs.declared.reason.Reason.TheVariants as reasons
@@ -12,19 +12,20 @@ use Rattle.cborc_items.specs.Compare.{IsUntold}
 use Rattle.cborc_input.specs.Fault.{IsOfInput, side_reason_fault, side_fault}
 use Rattle.cborc_input.specs.declared.fault.Fault.{Fault}
 
-module _ (limits : Bounds) (left right : List ℕ) where
+module _ (limits : Bounds) (left right : List ℕ) (before after : Option (List ℕ)) where
   -- a slice fails at no read
   never_read : (input : List ℕ) (f : Refusal) → IsItemRefusal limits input f → f.reason ≡ reasons.Read → ⊥
   never_read input f (unread u apart) e = apart e
   never_read input f (trailing s v l is) e = let t : reasons.Trailing ≡ reasons.Read = sym (ap (λ (x : Refusal). x.reason) is) ∙ e in cc t
 
   for_reason : (side : Side) (f : Refusal) (reason : Reason) → f.reason ≡ reason → IsSideRefusal limits left right side f
-      → IsUntold limits left right (side_reason_fault side f reason)
+      → IsUntold limits left right before after (side_reason_fault side f reason)
   for_reason side f reasons.Memory e h = (side, f, h, e)
   for_reason Left f reasons.Read e h = absurd (never_read left f h e)
   for_reason Right f reasons.Read e (w, h) = absurd (never_read right f h e)
   for_reason Left f _ e h = (h, subst IsOfInput (sym e) tt)
   for_reason Right f _ e h = (h, subst IsOfInput (sym e) tt)
 
-  pub side_untold : (side : Side) (f : Refusal) (fault : Fault) → IsSideRefusal limits left right side f → fault ≡ side_fault side f → IsUntold limits left right fault
-  side_untold side f fault h e = subst (IsUntold limits left right) (sym e) (for_reason side f f.reason refl h)
+  pub side_untold : (side : Side) (f : Refusal) (fault : Fault) → IsSideRefusal limits left right side f → fault ≡ side_fault side f
+      → IsUntold limits left right before after fault
+  side_untold side f fault h e = subst (IsUntold limits left right before after) (sym e) (for_reason side f f.reason refl h)

@@ -11,6 +11,7 @@ use Rattle.cborc_input.specs.Fault.{IsOfInput}
 use Rattle.cborc_files.specs.Folder.{Files}
 use Rattle.cborc_fronts.specs.Input.{IsInput}
 use Rattle.cborc_input.specs.NoInput.{IsNoInput}
+use Rattle.cborc_input.specs.Texts.{IsNotTaken}
 use Rattle.cborc_input.specs.declared.request.Options.{Options}
 use Rattle.cborc_input.specs.declared.fault.Fault.{Fault}
 use Rattle.cborc_input.specs.declared.fault.Fault.TheVariants as faults
@@ -38,16 +39,17 @@ pub record IsChecked (rules : Rules) (options : Options) (source : List ℕ) (he
   pub whole : IsWhole options.limits rules input size
   pub told : Appends before after (accepted_bytes size)
 
--- it is, and standard output took not all of its line
-pub record IsUntoldOf (rules : Rules) (options : Options) (source : List ℕ) (held : Option Files) : Type 0 where
+-- it is, and standard output took the first bytes of its line, not all
+pub record IsUntoldOf (rules : Rules) (options : Options) (source : List ℕ) (held : Option Files) (before after : Option (List ℕ)) : Type 0 where
   pub input : List ℕ
   pub is : IsInput held source options.hex input
   pub size : ℕ
   pub whole : IsWhole options.limits rules input size
+  pub taken : IsNotTaken (accepted_bytes size) before after faults.CannotPrint
 
 -- why nothing is told: the input is refused, there is none, or standard output failed
-abbrev pub IsNotChecked : Rules → Options → List ℕ → Option Files → Fault → Type 0
-IsNotChecked rules options source held (faults.Refused f) =
+abbrev pub IsNotChecked : Rules → Options → List ℕ → Option Files → Option (List ℕ) → Option (List ℕ) → Fault → Type 0
+IsNotChecked rules options source held before after (faults.Refused f) =
     (input : List ℕ) × IsInput held source options.hex input × IsNotWhole options.limits rules input f × IsOfInput f.reason
-IsNotChecked rules options source held faults.CannotPrint = IsUntoldOf rules options source held
-IsNotChecked rules options source held fault = IsNoInput held source options.hex fault
+IsNotChecked rules options source held before after faults.CannotPrint = IsUntoldOf rules options source held before after
+IsNotChecked rules options source held before after fault = IsNoInput held source options.hex fault

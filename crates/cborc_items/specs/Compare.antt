@@ -12,6 +12,7 @@ use Rattle.cborc_input.specs.Fault.{IsOfInput}
 use Rattle.cborc_files.specs.Folder.{Files}
 use Rattle.cborc_fronts.specs.Input.{IsInput}
 use Rattle.cborc_input.specs.NoInput.{IsNoInput}
+use Rattle.cborc_input.specs.Texts.{IsNotTaken}
 use Rattle.cborc_input.specs.declared.request.Options.{Options}
 use Rattle.cborc_input.specs.declared.fault.Fault.{Fault}
 use Rattle.cborc_input.specs.declared.fault.Fault.TheVariants as faults
@@ -28,13 +29,20 @@ IsTold limits left right old new Accepted = AreAccepted limits left right × Mea
 IsTold limits left right old new Refused = AreAccepted limits left right × ¬ MeanTheSame limits left right × Appends old new (codes "different\n")
 IsTold limits left right old new _ = ⊥
 
+-- both are, and standard output took the first bytes of the line that says whether they mean the same, not all
+pub data IsToldInPart (limits : Bounds) (left right : List ℕ) (old new : Option (List ℕ)) : Type 0 where
+  same : AreAccepted limits left right → MeanTheSame limits left right → IsNotTaken (codes "same\n") old new faults.CannotPrint
+      → IsToldInPart limits left right old new
+  different : AreAccepted limits left right → ¬ MeanTheSame limits left right → IsNotTaken (codes "different\n") old new faults.CannotPrint
+      → IsToldInPart limits left right old new
+
 -- why nothing is told: a side is refused, or standard output took not all of the line
-abbrev pub IsUntold : Bounds → List ℕ → List ℕ → Fault → Type 0
-IsUntold limits left right (faults.LeftRefused f) = IsSideRefusal limits left right Left f × IsOfInput f.reason
-IsUntold limits left right (faults.RightRefused f) = IsSideRefusal limits left right Right f × IsOfInput f.reason
-IsUntold limits left right faults.Memory = (side : Side) × (f : Refusal) × IsSideRefusal limits left right side f × (f.reason ≡ reasons.Memory)
-IsUntold limits left right faults.CannotPrint = AreAccepted limits left right
-IsUntold limits left right _ = ⊥
+abbrev pub IsUntold : Bounds → List ℕ → List ℕ → Option (List ℕ) → Option (List ℕ) → Fault → Type 0
+IsUntold limits left right old new (faults.LeftRefused f) = IsSideRefusal limits left right Left f × IsOfInput f.reason
+IsUntold limits left right old new (faults.RightRefused f) = IsSideRefusal limits left right Right f × IsOfInput f.reason
+IsUntold limits left right old new faults.Memory = (side : Side) × (f : Refusal) × IsSideRefusal limits left right side f × (f.reason ≡ reasons.Memory)
+IsUntold limits left right old new faults.CannotPrint = IsToldInPart limits left right old new
+IsUntold limits left right old new _ = ⊥
 
 -- the inputs at two paths
 pub record AreInputs (held : Option Files) (left right : List ℕ) (options : Options) (first second : List ℕ) : Type 0 where
@@ -49,15 +57,15 @@ pub record AreCompared (options : Options) (left right : List ℕ) (held : Optio
   pub told : IsTold options.limits first second before after status
 
 -- they are not, for this fault
-pub record AreUntold (options : Options) (left right : List ℕ) (held : Option Files) (fault : Fault) : Type 0 where
+pub record AreUntold (options : Options) (left right : List ℕ) (held : Option Files) (before after : Option (List ℕ)) (fault : Fault) : Type 0 where
   pub first : List ℕ
   pub second : List ℕ
   pub are : AreInputs held left right options first second
-  pub untold : IsUntold options.limits first second fault
+  pub untold : IsUntold options.limits first second before after fault
 
 -- Why nothing is told: there are both inputs, and one is refused or the line was not taken; or the left one is not there; or the
 -- right one, where the left one is.
-abbrev pub AreNotCompared : Options → List ℕ → List ℕ → Option Files → Fault → Type 0
-AreNotCompared options left right held fault =
-    AreUntold options left right held fault ⊎ IsNoInput held left options.hex fault
+abbrev pub AreNotCompared : Options → List ℕ → List ℕ → Option Files → Option (List ℕ) → Option (List ℕ) → Fault → Type 0
+AreNotCompared options left right held before after fault =
+    AreUntold options left right held before after fault ⊎ IsNoInput held left options.hex fault
     ⊎ ((first : List ℕ) × IsInput held left options.hex first × IsNoInput held right options.hex fault)

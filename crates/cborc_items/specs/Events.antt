@@ -26,7 +26,7 @@ abbrev pub IsNotListed : Bounds → List ℕ → Option (List ℕ) → Option (L
 IsNotListed limits input old new (faults.Refused f) =
     IsOfInput f.reason × (f.reason ≢ Write) × ((IsUnlisted 0 limits input f old new × (f.read ≤ length input)) ⊎ IsFollowed limits input old new f)
 IsNotListed limits input old new faults.CannotPrint = (f : Refusal) × IsUnlisted 0 limits input f old new × (f.read ≤ length input) × (f.reason ≡ Write)
-IsNotListed limits input old new faults.Memory = Unit {0}
+IsNotListed limits input old new faults.Memory = (f : Refusal) × IsUnlisted 0 limits input f old new × (f.read ≤ length input)
 IsNotListed limits input old new _ = ⊥
 
 -- the input at a path is one well-formed item, and standard output took its listing
@@ -43,5 +43,6 @@ IsNotListedOf options source held before after (faults.Refused f) =
 IsNotListedOf options source held before after faults.CannotPrint =
     (input : List ℕ) × IsInput held source options.hex input
     × IsNotListed options.limits input before after faults.CannotPrint
-IsNotListedOf options source held before after faults.Memory = IsNoInput held source options.hex faults.Memory
+IsNotListedOf options source held before after faults.Memory =
+    Keeps before after ⊎ ((input : List ℕ) × IsInput held source options.hex input × IsNotListed options.limits input before after faults.Memory)
 IsNotListedOf options source held before after fault = IsNoInput held source options.hex fault × Keeps before after

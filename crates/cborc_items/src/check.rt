@@ -3,10 +3,12 @@
 ghost use Rattle.std.specs.Prelude.{◌≡◌, ◌≢◌, OnOk, IfOk, IfErr};
 ghost use Rattle.std.specs.Io.KnownBytes.{Appends};
 ghost use Rattle.cborc_input.specs.Rules.{rules_of};
+ghost use Rattle.cborc_input.specs.Texts.{IsNotTaken};
 ghost use Rattle.cborc_items.specs.Check.{accepted_bytes, IsWhole, IsNotWhole, IsChecked, IsNotChecked};
 ghost use Rattle.cborc_files.specs.Folder.{KeepsFiles};
 
 use cbor_head::{Limits, Reason, Refusal};
+use cbor_item::write_whole;
 use cborc_files::Folder;
 use cborc_input::{Accepted, Fault, Options, Room, read_item};
 use std::alloc::Global;
@@ -24,7 +26,8 @@ pub fn check<'a, F: Folder, O: Write>(
     ensures told { OnOk result (IsChecked (rules_of accepted) options source.now
         (F.held files.old) (O.contents out.old) (O.contents out.new)) }
     ensures fault { IfErr result
-        (IsNotChecked (rules_of accepted) options source.now (F.held files.old)) }
+        (IsNotChecked (rules_of accepted) options source.now (F.held files.old)
+        (O.contents out.old) (O.contents out.new)) }
     ensures silent { IfErr result (λ fault. fault ≢ Fault.CannotPrint → out.new ≡ out.old) }
     ensures keeps { KeepsFiles (F.held files.old) (F.held files.new) }
     ensures same { F.behind files.new ≡ F.behind files.old }
@@ -33,16 +36,22 @@ pub fn check<'a, F: Folder, O: Write>(
     let bytes = read_item(alloc, files, source, options)?;
     let mut room = Room::new(alloc);
     let size = size_of_item(&mut room, bytes.as_slice(), accepted, limits)?;
-    tell(out, size)
+    tell(alloc, out, size)
 }
 
 // Writes the line of an item that is accepted, of so many bytes.
-fn tell<'a, O: Write>(out: &mut O, size: u64) -> Result<(), Fault<'a>>
+fn tell<'a, O: Write>(alloc: Global, out: &mut O, size: u64) -> Result<(), Fault<'a>>
     ensures told { OnOk result
         (Appends (O.contents out.old) (O.contents out.new) (accepted_bytes size)) }
-    ensures fault { IfErr result (λ fault. fault ≡ Fault.CannotPrint) }
+    ensures fault { IfErr result
+        (IsNotTaken (accepted_bytes size) (O.contents out.old) (O.contents out.new)) }
+    ensures silent { IfErr result (λ fault. fault ≢ Fault.CannotPrint → out.new ≡ out.old) }
 {
-    match writeln!(out, "accepted {size} bytes") {
+    let line = match format!(in alloc; "accepted {size} bytes\n") {
+        Ok(line) => line,
+        Err(_) => return Err(Fault::Memory),
+    };
+    match write_whole(out, line.as_bytes()) {
         Ok(()) => Ok(()),
         Err(_) => Err(Fault::CannotPrint),
     }

@@ -5,6 +5,7 @@ ghost use Rattle.cborc_items.specs.Compare.{IsTold, IsUntold, AreCompared, AreNo
 ghost use Rattle.cborc_files.specs.Folder.{KeepsFiles};
 
 use cbor_head::Limits;
+use cbor_item::write_whole;
 use cbor_reader::laws::valid_items;
 use cbor_reader::same_meaning;
 use cborc_files::Folder;
@@ -25,7 +26,8 @@ pub fn compare<'a, F: Folder, O: Write>(
     ensures told { IfOk result (AreCompared options.now left.now right.now
         (F.held files.old) (O.contents out.old) (O.contents out.new)) }
     ensures fault { IfErr result
-        (AreNotCompared options.now left.now right.now (F.held files.old)) }
+        (AreNotCompared options.now left.now right.now (F.held files.old)
+        (O.contents out.old) (O.contents out.new)) }
     ensures silent { IfErr result (λ fault. fault ≢ Fault.CannotPrint → out.new ≡ out.old) }
     ensures keeps { KeepsFiles (F.held files.old) (F.held files.new) }
     ensures same { F.behind files.new ≡ F.behind files.old }
@@ -52,7 +54,8 @@ fn tell<'a, O: Write>(
 ) -> Result<Status, Fault<'a>>
     ensures told { IfOk result (IsTold limits left.now right.now
         (O.contents out.old) (O.contents out.new)) }
-    ensures fault { IfErr result (IsUntold limits left.now right.now) }
+    ensures fault { IfErr result (IsUntold limits left.now right.now
+        (O.contents out.old) (O.contents out.new)) }
     ensures silent { IfErr result (λ fault. fault ≢ Fault.CannotPrint → out.new ≡ out.old) }
 {
     let (line, status) = if same_meaning(alloc, left, right, limits)? {
@@ -60,7 +63,7 @@ fn tell<'a, O: Write>(
     } else {
         (b"different\n".as_slice(), Status::Refused)
     };
-    match out.write_all(line) {
+    match write_whole(out, line) {
         Ok(()) => Ok(status),
         Err(_) => Err(Fault::CannotPrint),
     }

@@ -306,29 +306,29 @@ module _ (options : Options) (source : List ℕ) (held : Option Files) (before a
   sequence_not_listed (behind_no_input why front is cause h) = none_listed fault why (lines_so_far front is cause h)
   sequence_not_listed (within input is h) = subst (IsSequenceNotListed options source held before after) (sym h.fault_is) (not_listed_by input is h h.cause refl)
 
--- ---- `check --seq`
+-- ---- `check --seq`: what is written of the items, which is nothing, goes elsewhere than to standard output
 
-module _ (rules : Rules) (options : Options) (source : List ℕ) (held : Option Files) (before after : Option (List ℕ)) (fault : Fault) where
+module _ (rules : Rules) (options : Options) (source : List ℕ) (held : Option Files) (from to before after : Option (List ℕ)) (fault : Fault) where
   abbrev Uncounted : ℕ → List ℕ → Fault → Option (List ℕ) → Option (List ℕ) → Type 0
-  Uncounted start bytes cause from to = IsUncounted options.limits rules bytes cause
+  Uncounted start bytes cause old new = IsUncounted options.limits rules bytes cause
 
   not_checked_by : (input : List ℕ) → IsInput held source options.hex input
-      → (h : AreStopped (IsAccepted options.limits rules) (λ start item. []) Uncounted options.limits.bytes input before after fault)
-      → (cause : Fault) → h.cause ≡ cause → IsSequenceNotChecked rules options source held (at_item h.index h.start cause)
+      → (h : AreStopped (IsAccepted options.limits rules) (λ start item. []) Uncounted options.limits.bytes input from to fault)
+      → (cause : Fault) → h.cause ≡ cause → IsSequenceNotChecked rules options source held before after (at_item h.index h.start cause)
   not_checked_by input is h (faults.Refused f) e =
       let why = subst (IsUncounted options.limits rules h.rest) e h.stopped in
       (input, is, record { items = h.items; rest = h.rest; goes_on = h.goes_on; unread = why.0 }, why.1)
   not_checked_by input is h faults.Memory e = tt
   not_checked_by input is h _ e = absurd (subst (IsUncounted options.limits rules h.rest) e h.stopped)
 
-  none_checked : (x : Fault) → IsNoInput held source options.hex x → IsSequenceNotChecked rules options source held x
+  none_checked : (x : Fault) → IsNoInput held source options.hex x → IsSequenceNotChecked rules options source held before after x
   none_checked (faults.CannotRead named) h = h
   none_checked (faults.NotHex named) h = h
   none_checked faults.Memory h = h
   none_checked _ h = absurd h
 
-  pub sequence_not_checked : AreStoppedOf (IsAccepted options.limits rules) (λ start item. []) Uncounted options source held before after fault
-      → IsSequenceNotChecked rules options source held fault
+  pub sequence_not_checked : AreStoppedOf (IsAccepted options.limits rules) (λ start item. []) Uncounted options source held from to fault
+      → IsSequenceNotChecked rules options source held before after fault
   sequence_not_checked (no_input h w) = none_checked fault h
   sequence_not_checked (behind_no_input h front is cause w) = none_checked fault h
-  sequence_not_checked (within input is h) = subst (IsSequenceNotChecked rules options source held) (sym h.fault_is) (not_checked_by input is h h.cause refl)
+  sequence_not_checked (within input is h) = subst (IsSequenceNotChecked rules options source held before after) (sym h.fault_is) (not_checked_by input is h h.cause refl)

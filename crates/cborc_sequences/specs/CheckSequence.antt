@@ -11,6 +11,7 @@ use Rattle.cborc_input.specs.Fault.{IsOfInput}
 use Rattle.cborc_files.specs.Folder.{Files}
 use Rattle.cborc_fronts.specs.Input.{IsInput}
 use Rattle.cborc_input.specs.NoInput.{IsNoInput}
+use Rattle.cborc_input.specs.Texts.{IsNotTaken}
 use Rattle.cborc_input.specs.Sequences.{AreAll, GoesOn}
 use Rattle.cborc_input.specs.declared.request.Options.{Options}
 use Rattle.cborc_input.specs.declared.fault.Fault.{Fault}
@@ -41,16 +42,17 @@ pub record IsSequenceChecked (rules : Rules) (options : Options) (source : List 
   pub whole : IsWholeSequence options.limits rules input count
   pub told : Appends before after (accepted_items count)
 
--- it is, and standard output took not all of its line
-pub record IsUntoldSequence (rules : Rules) (options : Options) (source : List ℕ) (held : Option Files) : Type 0 where
+-- it is, and standard output took the first bytes of its line, not all
+pub record IsUntoldSequence (rules : Rules) (options : Options) (source : List ℕ) (held : Option Files) (before after : Option (List ℕ)) : Type 0 where
   pub input : List ℕ
   pub is : IsInput held source options.hex input
   pub count : ℕ
   pub whole : IsWholeSequence options.limits rules input count
+  pub taken : IsNotTaken (accepted_items count) before after faults.CannotPrint
 
 -- why nothing is told: an item is refused, there is no input, or standard output failed
-abbrev pub IsSequenceNotChecked : Rules → Options → List ℕ → Option Files → Fault → Type 0
-IsSequenceNotChecked rules options source held (faults.RefusedItem index start f) =
+abbrev pub IsSequenceNotChecked : Rules → Options → List ℕ → Option Files → Option (List ℕ) → Option (List ℕ) → Fault → Type 0
+IsSequenceNotChecked rules options source held before after (faults.RefusedItem index start f) =
     (input : List ℕ) × IsInput held source options.hex input × IsRefusedAt options.limits rules input index start f × IsOfInput f.reason
-IsSequenceNotChecked rules options source held faults.CannotPrint = IsUntoldSequence rules options source held
-IsSequenceNotChecked rules options source held fault = IsNoInput held source options.hex fault
+IsSequenceNotChecked rules options source held before after faults.CannotPrint = IsUntoldSequence rules options source held before after
+IsSequenceNotChecked rules options source held before after fault = IsNoInput held source options.hex fault

@@ -4,12 +4,14 @@ ghost use Rattle.std.specs.Prelude.{◌≡◌, ◌≢◌, ℕ, List, [], Option,
 ghost use Rattle.std.specs.Io.KnownBytes.{Appends};
 ghost use Rattle.cbor_reader.specs.Sequence.{IsAccepted};
 ghost use Rattle.cborc_input.specs.Rules.{rules_of};
+ghost use Rattle.cborc_input.specs.Texts.{IsNotTaken};
 ghost use Rattle.cborc_sequences.specs.CheckSequence.{accepted_items};
 ghost use Rattle.cborc_sequences.specs.CheckSequence.{IsSequenceChecked, IsSequenceNotChecked};
 ghost use Rattle.cborc_files.specs.Folder.{KeepsFiles};
 ghost use Rattle.cborc_sequences.specs.inner.Items.{IsUncounted};
 
 use cbor_head::Limits;
+use cbor_item::write_whole;
 use cborc_files::Folder;
 use cborc_input::{Accepted, Fault, ItemWriter, Options, Room, unless_cut, write_items};
 use std::alloc::Global;
@@ -27,23 +29,30 @@ pub fn check_sequence<'a, F: Folder, O: Write>(
     ensures told { OnOk result (IsSequenceChecked (rules_of accepted) options source.now
         (F.held files.old) (O.contents out.old) (O.contents out.new)) }
     ensures fault { IfErr result
-        (IsSequenceNotChecked (rules_of accepted) options source.now (F.held files.old)) }
+        (IsSequenceNotChecked (rules_of accepted) options source.now (F.held files.old)
+        (O.contents out.old) (O.contents out.new)) }
     ensures silent { IfErr result (λ fault. fault ≢ Fault.CannotPrint → out.new ≡ out.old) }
     ensures keeps { KeepsFiles (F.held files.old) (F.held files.new) }
     ensures same { F.behind files.new ≡ F.behind files.old }
 {
     let counted = CountedItems { accepted };
     let count = write_items(alloc, &counted, files, source, options, &mut io::sink())?;
-    tell(out, count)
+    tell(alloc, out, count)
 }
 
 // Writes the line of a sequence that is accepted, of so many items.
-fn tell<'a, O: Write>(out: &mut O, count: usize) -> Result<(), Fault<'a>>
+fn tell<'a, O: Write>(alloc: Global, out: &mut O, count: usize) -> Result<(), Fault<'a>>
     ensures told { OnOk result
         (Appends (O.contents out.old) (O.contents out.new) (accepted_items count)) }
-    ensures fault { IfErr result (λ fault. fault ≡ Fault.CannotPrint) }
+    ensures fault { IfErr result
+        (IsNotTaken (accepted_items count) (O.contents out.old) (O.contents out.new)) }
+    ensures silent { IfErr result (λ fault. fault ≢ Fault.CannotPrint → out.new ≡ out.old) }
 {
-    match writeln!(out, "accepted {count} items") {
+    let line = match format!(in alloc; "accepted {count} items\n") {
+        Ok(line) => line,
+        Err(_) => return Err(Fault::Memory),
+    };
+    match write_whole(out, line.as_bytes()) {
         Ok(()) => Ok(()),
         Err(_) => Err(Fault::CannotPrint),
     }

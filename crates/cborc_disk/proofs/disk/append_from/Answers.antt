@@ -1,32 +1,38 @@
-use Rattle.std.proofs.Common.{◌≡◌, ◌≤◌, ◌-◌, ◌++◌, length, length-append, take, drop, arith}
+use Rattle.std.proofs.Common.{◌≤◌, Result, Ok, Err, IfErr, IsErrAnd, take, drop, arith}
 use Rattle.std.proofs.lemmas.List.{length-take}
-use Rattle.cborc_disk.proofs.Appended.{none_added, at_most, one_part}
+use Rattle.cborc_disk.proofs.Appended.{one_part, none_lost, cut_by_memory}
+use Rattle.std.specs.IoError.{error_kind}
 use Rattle.cborc_disk.proofs.disk.append_from.Goals as goal
 use Rattle.cborc_disk.proofs.disk.append_from.Goals.{in-Ok+in_ok-extend_from_slice-in-Ok, in-Err}
 
-pub reads-init : goal.reads-init
-reads-init g c = (none_added (c.args.most - c.args.most) c.args.bytes.now.items, omega arith)
+on_err : {A E : Type 0} (r : Result A E) (P Q : E → Type 0) → IsErrAnd r P → ((error : E) → P error → Q error) → IfErr r Q
+on_err (Ok v) P Q h f = tt
+on_err (Err error) P Q h f = f error h
 
-pub returns-then-left-eq0 : goal.returns-then-left-eq0
-returns-then-left-eq0 g c = at_most (c.args.most - c.reads.left) c.args.most c.args.bytes.now.items c.reads.bytes.items c.reads.invariant.0 (omega arith)
-
-pub returns-in-Ok-eq0 : goal.returns-in-Ok-eq0
-returns-in-Ok-eq0 g c = at_most (c.args.most - c.reads.left) c.args.most c.args.bytes.now.items c.reads.bytes.items c.reads.invariant.0 (omega arith)
+pub returns-in_err-extend_from_slice-in-Ok-clause-cut_short : goal.returns-in_err-extend_from_slice-in-Ok-clause-cut_short
+returns-in_err-extend_from_slice-in-Ok-clause-cut_short g c =
+    let before = g.S.Read.remaining c.args.source.now in
+    let now = g.S.Read.remaining c.reads.source in
+    let after = g.S.Read.remaining c.read.new.self in
+    rw c.in_err-extend_from_slice-in-Ok.ensures.items (on_err c.from_residual.result _ _ c.from_residual.ensures.1 (λ error memory.
+    cut_by_memory (error_kind error) c.args.most c.reads.left before now after c.args.bytes.now.items c.reads.bytes.items (take c.in-Ok.count c.read.new.buf) c.reads.invariant c.in-Ok.ensures.bytes.0 memory))
 
 pub reads-preserved : goal.reads-preserved
-reads-preserved g c = elim c.match-read.branch [
-  | in-Ok+in_ok-extend_from_slice-in-Ok w ↦
-      let count = w.in-Ok.count in
-      let rest = drop c.min-wanted.result c.reads.part in
-      let within = w.in-Ok.ensures.bound.0 in
-      let size : length (take count (c.read.new.buf ++ rest)) ≡ count = omega (arith, within, length-take count (c.read.new.buf ++ rest), length-append c.read.new.buf rest) in
-      let few : count ≤ c.reads.left = omega (arith, within, c.read.auto.buf, length-take c.min-wanted.result c.reads.part, c.min-wanted.ensures) in
-      rw (w.bytes-is, w.left-is) (
-        one_part c.args.most c.reads.left count c.args.bytes.now.items c.reads.bytes.items w.extend_from_slice.new.self.items (take count (c.read.new.buf ++ rest)) c.reads.invariant.0 w.in_ok-extend_from_slice-in-Ok.ensures.items size few c.reads.invariant.1,
-        omega arith,
-      )
-  | in-Err w ↦ rw (w.bytes-is, w.left-is) c.reads.invariant
-]
-
-pub returns : goal.returns
-returns g c = at_most (c.args.most - c.reads.left) c.args.most c.args.bytes.now.items c.reads.bytes.items c.reads.invariant.0 (omega arith)
+reads-preserved g c =
+    let most = c.args.most in
+    let left = c.reads.left in
+    let before = g.S.Read.remaining c.args.source.now in
+    let now = g.S.Read.remaining c.reads.source in
+    let after = g.S.Read.remaining c.read.new.self in
+    let old = c.args.bytes.now.items in
+    let mid = c.reads.bytes.items in
+    elim c.match-read.branch [
+      | in-Ok+in_ok-extend_from_slice-in-Ok w ↦
+          let count = w.in-Ok.count in
+          let buf = c.read.new.buf in
+          let rest = drop c.min-wanted.result c.reads.part in
+          let within = w.in-Ok.ensures.bound.0 in
+          let few : count ≤ left = omega (arith, within, c.read.auto.buf, length-take c.min-wanted.result c.reads.part, c.min-wanted.ensures) in
+          rw (w.bytes-is, w.left-is) (one_part most left count before now after old mid w.extend_from_slice.new.self.items buf rest c.reads.invariant w.in_ok-extend_from_slice-in-Ok.ensures.items within few w.in-Ok.ensures.bytes.0)
+      | in-Err w ↦ rw (w.bytes-is, w.left-is) (none_lost most left before now after old mid c.reads.invariant w.in-Err.ensures.bytes)
+    ]

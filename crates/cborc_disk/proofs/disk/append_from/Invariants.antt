@@ -1,6 +1,5 @@
-use Rattle.std.proofs.Common.{◌-◌, ◌≤◌}
-use Rattle.cborc_disk.specs.Disk.{IsAppended}
+use Rattle.cborc_disk.proofs.Appended.{IsTaken}
 use Rattle.cborc_disk.proofs.disk.append_from.Given as goal
 
 abbrev pub invariant-reads : goal.invariant-reads
-invariant-reads g l = IsAppended (l.fn.most - l.left) l.fn.bytes.items l.bytes.items × (l.left ≤ l.fn.most)
+invariant-reads g l = IsTaken l.fn.most l.left (g.S.Read.remaining l.fn.source) (g.S.Read.remaining l.source) l.fn.bytes.items l.bytes.items

@@ -8,7 +8,7 @@ pub returns-in_err-size-clause-fault : goal.returns-in_err-size-clause-fault
 returns-in_err-size-clause-fault g c =
     let p = err_from_is_err_and c.from_residual-in_err-size.result c.from_residual-in_err-size.ensures.1 in
     rw (p.1)
-    (not_checked (rules_of c.args.accepted) c.args.options c.args.source.now (g.F.Folder.held c.args.files.now) c.in_ok-bytes.bytes.items c.in_ok-bytes.ensures.front _
+    (not_checked (rules_of c.args.accepted) c.args.options c.args.source.now (g.F.Folder.held c.args.files.now) c.in_ok-bytes.bytes.items c.in_ok-bytes.ensures.front _ _ _
     (rw (c.as_slice.ensures.value) at c.in_err-size.ensures.refused) p.0 p.2)
 
 pub returns-clause-told : goal.returns-clause-told
@@ -22,5 +22,5 @@ pub returns-clause-fault : goal.returns-clause-fault
 returns-clause-fault g c =
     if_err c.tell.result _ _
     (untold (rules_of c.args.accepted) c.args.options c.args.source.now (g.F.Folder.held c.args.files.now) c.in_ok-bytes.bytes.items c.in_ok-bytes.ensures.front c.in_ok-size.size
-    (rw (c.as_slice.ensures.value) at c.in_ok-size.ensures.whole))
+    (g.O.Write.contents c.args.out.now) (g.O.Write.contents c.tell.new.out) (rw (c.as_slice.ensures.value) at c.in_ok-size.ensures.whole))
     c.tell.ensures.fault

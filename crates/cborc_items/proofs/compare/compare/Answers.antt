@@ -16,5 +16,6 @@ returns-clause-fault g c =
     if_err c.tell.result _ _
     (not_compared c.args.options.now c.args.left.now c.args.right.now (g.F.Folder.held c.args.files.now) (g.F.Folder.held c.read_item.new.files) c.read_item.ensures.keeps
     c.in_ok-first.first.items c.in_ok-second.second.items c.in_ok-first.ensures.front c.in_ok-second.ensures.front
-    (c.valid_items.ensures.verdict c.args.options.now.limits c.in_ok-first.first.items) (c.valid_items.ensures.verdict c.args.options.now.limits c.in_ok-second.second.items))
+    (c.valid_items.ensures.verdict c.args.options.now.limits c.in_ok-first.first.items) (c.valid_items.ensures.verdict c.args.options.now.limits c.in_ok-second.second.items)
+    (g.O.Write.contents c.args.out.now) (g.O.Write.contents c.tell.new.out))
     (rw (c.as_slice.ensures.value, c.as_slice-2.ensures.value) at c.tell.ensures.fault)

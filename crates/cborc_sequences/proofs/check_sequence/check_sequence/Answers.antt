@@ -6,4 +6,4 @@ use Rattle.cborc_sequences.proofs.check_sequence.check_sequence.Goals as goal
 pub returns-in_err-count-clause-fault : goal.returns-in_err-count-clause-fault
 returns-in_err-count-clause-fault g c =
     let p = err_from_is_err_and c.from_residual.result c.from_residual.ensures.1 in
-    rw (p.1, p.2) (sequence_not_checked (rules_of c.args.accepted) c.args.options c.args.source.now (g.F.Folder.held c.args.files.now) _ _ _ c.in_err-count.ensures.stopped)
+    rw (p.1, p.2) (sequence_not_checked (rules_of c.args.accepted) c.args.options c.args.source.now (g.F.Folder.held c.args.files.now) _ _ _ _ _ c.in_err-count.ensures.stopped)
