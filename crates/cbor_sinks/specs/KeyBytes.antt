@@ -71,10 +71,6 @@ behind_item (suc n) os = os
 abbrev pub with_item : ℕ → Bool → List ℕ → List Open → List Open
 with_item n is_key b os = if is_kept n is_key then behind_item n (give b os) else os
 
--- behind the opener of a container
-abbrev pub with_opened : ℕ → Bool → Open → List Open → List Open
-with_opened n is_key c os = kept (is_kept n is_key) c os
-
 -- ---- where the item stands
 
 abbrev pub KeepsAt : KeyOrder → List Open → ℕ → Standing → Type 0
