@@ -112,14 +112,14 @@ impl<'a> Sink<'a> for ViewSink<'a> {
         Ok(())
     }
 
-    #[inline(always)]
+    #[inline(never)]
     fn begin(&mut self, is_key: bool, major: Major, number: u64) -> Result<(), AllocError> {
         self.keys.begin(is_key, major, number)?;
         self.views.begin(major, number)?;
         Ok(())
     }
 
-    #[inline(always)]
+    #[inline(never)]
     fn end(&mut self, is_map: bool) -> Result<bool, AllocError> {
         let is_distinct = self.keys.end(is_map)?;
         if is_distinct {
