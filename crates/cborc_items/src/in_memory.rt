@@ -1,7 +1,7 @@
 //! What `canon` leaves in a folder that tells what it holds.
 
-ghost use Rattle.std.specs.Prelude.{◌≡◌, ◌≢◌, ℕ, List, OnOk, OnErr, false};
-ghost use Rattle.cborc_items.specs.Canon.{HoldsCanonical};
+ghost use Rattle.std.specs.Prelude.{◌≡◌, ◌≢◌, ℕ, List, OnOk, OnErr, IfErr, false};
+ghost use Rattle.cborc_items.specs.Canon.{HoldsCanonical, IsNotHeld};
 ghost use Rattle.cborc_files.specs.Folder.{is_stream};
 ghost use Rattle.cborc_files.specs.InMemory.{files_of};
 
@@ -26,6 +26,7 @@ pub fn canon_in_memory<'a>(
         → HoldsCanonical limits order (files_of files.old source.now) (files_of files.new target.now)) }
     ensures others { OnOk result ((other : List ℕ) → other ≢ target.now
         → files_of files.new other ≡ files_of files.old other) }
+    ensures fault { IfErr result (IsNotHeld limits order (files_of files.old) source.now target.now) }
     ensures untouched { OnErr result ((path : List ℕ) → files_of files.new path ≡ files_of files.old path) }
 {
     let output = Output {
