@@ -2,9 +2,9 @@
 
 From whichever request on memory is refused, `Tree::of` gives back the item that it was given, `encode` answers Memory
 at 0, `encode_to` has written nothing, a builder gives nothing, a sequence gives the first of its items, then Memory,
-and then none, `read_view` answers Memory behind bytes that it took, or the tree of its view is refused, and
-`same_meaning` names the side that it was at, behind bytes that it took: the left one, and from some request on the
-right one; of canonical bytes it asks for none. And the calls that take no memory make no request: as many are made
+and then none, `read_view` answers Memory at 0, or the tree of its view is refused, and `same_meaning` names the side
+that it was at, with Memory at 0: the left one, and from some request on the right one, an array of the same item; of
+canonical bytes it asks for none. And the calls that take no memory make no request: as many are made
 whether these are called or not.
 """
 
@@ -54,17 +54,7 @@ def is_items(found, usual):
     return memory and memory[1] == memory[2] and usual.startswith(items)
 
 
-def is_view(found, usual, length):
-    memory = MEMORY.fullmatch(found)
-    return found == re.sub(",.*", ",!19,0,0", usual) or (memory and memory[1] == memory[2] and int(memory[1]) <= length)
-
-
-def is_side(found, length):
-    memory = re.fullmatch(r"(left|right)!19,(\d+),(\d+)", found)
-    return memory and memory[2] == memory[3] and 0 < int(memory[2]) <= length
-
-
-def is_refused(place, found, usual, length):
+def is_refused(place, found, usual):
     """Whether a call's answer is that of one that was refused memory."""
     return [
         lambda: found == "!19,true",
@@ -72,8 +62,8 @@ def is_refused(place, found, usual, length):
         lambda: found == "!19,0,0:0",
         lambda: found == "!",
         lambda: is_items(found, usual),
-        lambda: is_view(found, usual, length),
-        lambda: is_side(found, length),
+        lambda: found in ("!19,0,0", re.sub(",.*", ",!19,0,0", usual)),
+        lambda: found in ("left!19,0,0", "right!19,0,0"),
     ][place]()
 
 
@@ -95,7 +85,7 @@ def go_through(driver, digits):
         for place, (word, before) in enumerate(zip(found, usual, strict=True)):
             if word != before:
                 told += 1
-                if not is_refused(place, word, before, len(digits) // 2):
+                if not is_refused(place, word, before):
                     wrong.append(f"{digits}, from request {refused}: {word} in place of {before}")
         sides.append(found[6].partition("!")[0])
     # the left one, then the right one

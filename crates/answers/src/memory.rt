@@ -12,8 +12,8 @@ use std::io::{self, ErrorKind, Write};
 
 /// The answers of `Tree::of`, and whether the item is the one that was given; `encode`; `encode_to`,
 /// and how many bytes its writer took; a `CanonBuilder`; `next_strict` until it gives none;
-/// `read_view`, and whether the tree of the view is the same; and `same_meaning` of the bytes and the
-/// same bytes. So many times each call that takes no memory is made beside them.
+/// `read_view`, and whether the tree of the view is the same; and `same_meaning` of the bytes and an
+/// array of the same item. So many times each call that takes no memory is made beside them.
 pub(crate) fn answer_memory<W: Write>(
     alloc: Global,
     bytes: &[u8],
@@ -23,6 +23,9 @@ pub(crate) fn answer_memory<W: Write>(
 ) -> io::Result<()> {
     let tree = tree_of(alloc, bytes, limits)?;
     let twin = tree_of(alloc, bytes, limits)?;
+    let Ok(array) = array_of(alloc, bytes) else {
+        return Err(io::Error::from(ErrorKind::OutOfMemory));
+    };
     call_idle(alloc, bytes, limits, &twin, idle);
     let tree = if idle > 0 {
         Tree::from_valid(tree.into_item())
@@ -48,7 +51,7 @@ pub(crate) fn answer_memory<W: Write>(
     write!(out, " ")?;
     put_items(alloc, bytes, limits, out)?;
     put_view(alloc, bytes, limits, &twin, idle, out)?;
-    match same_meaning(alloc, bytes, bytes, limits) {
+    match same_meaning(alloc, bytes, &array, limits) {
         Ok(is_same) => writeln!(out, " {is_same}"),
         Err((side, refusal)) => {
             write!(
@@ -68,6 +71,14 @@ fn tree_of(alloc: Global, mut bytes: &[u8], limits: Limits) -> io::Result<Tree> 
         Ok((tree, _)) => Ok(tree),
         Err(_) => Err(io::Error::from(ErrorKind::OutOfMemory)),
     }
+}
+
+// An array of the one item.
+fn array_of(alloc: Global, bytes: &[u8]) -> Result<Vec<u8>, AllocError> {
+    let mut array = Vec::with_capacity(alloc, bytes.len().saturating_add(1))?;
+    array.push(0x81)?;
+    array.extend_from_slice(bytes)?;
+    Ok(array)
 }
 
 // The calls that take no memory. The reader is asked behind the first events, so that it keeps what

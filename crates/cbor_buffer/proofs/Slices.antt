@@ -1,8 +1,8 @@
 -- Parts of byte lists.
-use Rattle.std.proofs.Common.{◌≡◌, ℕ, ◌+◌, ◌-◌, ◌≤◌, List, ◌++◌, length, length-drop, take, drop, take_all, take-append-drop, length-take, sym, ap, ◌∙◌, subst, arith, zero, suc, ◌<◌, [], ◌∷◌, drop-drop, get_or, refl}
+use Rattle.std.proofs.Common.{◌≡◌, ℕ, ◌+◌, ◌-◌, ◌≤◌, List, ◌++◌, append_assoc, length, length-drop, take, drop, take_all, take-append-drop, length-take, sym, ap, ◌∙◌, subst, arith, zero, suc, ◌<◌, [], ◌∷◌, drop-drop, get_or, refl}
 use Rattle.std.specs.Prelude.{slice_range}
 use Rattle.std.proofs.lemmas.List.{take-append-le, drop-append-le, take_rest, take-take, length-take-le}
-use Rattle.std.proofs.Math.Seq.{take-add, drop-append-add, take-append-add}
+use Rattle.std.proofs.Math.Seq.{take-add, drop-append-add, drop-append_seam, take-append-add}
 
 -- a part of what stands in front
 pub slice_front : (xs ys : List ℕ) (s e : ℕ) → s ≤ e → e ≤ length xs → slice_range (xs ++ ys) s e ≡ slice_range xs s e
@@ -18,18 +18,35 @@ slice_within all out s e is h g =
     ap (λ (xs : List ℕ). slice_range xs s e) whole ∙ slice_front out (drop (length out) all) s e h g
 
 -- the first of a block that was read there
-pub block_part : (all out bytes block : List ℕ) (s e : ℕ) → take (length out) all ≡ out → s ≤ e → e ≤ length out → bytes ≡ out → length (take (e - s) (drop s bytes)) ≤ 32
-    → block ≡ take 32 (take (length all - s) (drop s all)) → take (length (take (e - s) (drop s bytes))) block ≡ slice_range out s e
-block_part all out bytes block s e is h g eb few read =
-    let l = length-take (e - s) (drop s bytes) in
-    let m = length-drop s bytes in
-    let n : length (take (e - s) (drop s bytes)) ≡ e - s = omega (arith, l, m, h, g, ap length eb) in
-    (λ i. take (n i) (read i)) ∙ ap (λ (xs : List ℕ). take (e - s) (take 32 xs)) (take_rest all s) ∙ take-take (e - s) 32 (drop s all) (omega (arith, n, few)) ∙ slice_within all out s e is h g
+pub block_part : (all out block : List ℕ) (s e : ℕ) → take (length out) all ≡ out → s ≤ e → e ≤ length out → e - s ≤ 32 → block ≡ take 32 (take (length all - s) (drop s all))
+    → take (e - s) block ≡ slice_range out s e
+block_part all out block s e is h g few read =
+    ap (take (e - s)) read ∙ ap (λ (xs : List ℕ). take (e - s) (take 32 xs)) (take_rest all s) ∙ take-take (e - s) 32 (drop s all) few ∙ slice_within all out s e is h g
+
+-- what begins a list, by its own length
+pub front_of_list : (all out : List ℕ) (len : ℕ) → take len all ≡ out → len ≤ length all → take (length out) all ≡ out
+front_of_list all out len is h = let l = length-take len all in ap (λ k. take k all) (omega (arith, l, h, ap length is)) ∙ is
+
+-- it begins what goes on behind it too
+pub front_kept : (out xs ys : List ℕ) → take (length out) xs ≡ out → take (length out) (xs ++ ys) ≡ out
+front_kept out xs ys is = let l = length-take (length out) xs in take-append-le (length out) xs ys (omega (arith, l, ap length is)) ∙ is
+
+-- what lies behind a list moves down into it
+pub moved_down : (xs ys zs : List ℕ) (start end : ℕ) → end ≡ length xs → start ≤ end → zs ≡ xs ++ ys → take start zs ++ drop end zs ≡ take start xs ++ ys
+moved_down xs ys zs start end e h is =
+    ap (λ (us : List ℕ). take start us ++ drop end us) is
+    ∙ (λ i. take-append-le start xs ys (omega (arith, e, h)) i ++ (ap (λ k. drop k (xs ++ ys)) e ∙ drop-append_seam xs ys) i)
 
 -- the part to the end
 pub slice_all : (xs : List ℕ) (s n : ℕ) → length xs ≡ n → slice_range xs s n ≡ drop s xs
 slice_all xs s n e =
     let l = length-drop s xs in take_all (n - s) (drop s xs) (omega (arith, l, e))
+
+-- the same of what was written behind it in two steps, the second out of the list itself
+pub settled_down : (xs ys us zs : List ℕ) (end len : ℕ) → len ≡ length xs → end ≤ len → us ≡ xs ++ ys → zs ≡ us ++ slice_range us end len → take 0 zs ++ drop len zs ≡ ys ++ drop end xs
+settled_down xs ys us zs end len e h is more =
+    let tail : slice_range us end len ≡ drop end xs = ap (λ (vs : List ℕ). slice_range vs end len) is ∙ slice_front xs ys end len h (omega (arith, e)) ∙ slice_all xs end len (sym e) in
+    moved_down xs (ys ++ drop end xs) zs 0 len e (omega arith) (more ∙ (λ i. is i ++ tail i) ∙ append_assoc xs ys (drop end xs))
 
 pub slices_join : (xs : List ℕ) (a b c : ℕ) → a ≤ b → b ≤ c → slice_range xs a b ++ slice_range xs b c ≡ slice_range xs a c
 slices_join xs a b c h g =

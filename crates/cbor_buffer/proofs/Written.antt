@@ -4,6 +4,9 @@ use Rattle.std.proofs.lemmas.List.{take-append-le, drop-append-le, take-set, dro
 use Rattle.std.specs.Global.{Vec}
 use Rattle.std.specs.Vec.{with_items}
 use Rattle.std.proofs.Math.Seq.{drop-append_seam, take-append_seam, take-set-lt, paste}
+use Rattle.std.specs.Prelude.{slice_range}
+use Rattle.std.proofs.lemmas.List.{take-take}
+use Rattle.cbor_buffer.proofs.Slices.{front_of_list, slice_within, slice_all}
 
 pub take_front : (from start : ℕ) (out x : List ℕ) → from ≤ start → start ≤ length out → take from (take start out ++ x) ≡ take from out
 take_front from start out x h g =
@@ -129,3 +132,26 @@ vec_moved v was xs ys h out len from start k ev ex eo room same b e ey n =
     ∙ (λ i. take (from + k + (len - start)) (take from ((ex ∙ ev) i) ++ (ey i ++ drop (step i) (drop from ((ex ∙ ev) i)))))
     ∙ head_moved was h len from start k (from + k + (len - start)) (omega (arith, room)) b ends (omega (arith, room, ends, b)) (sym n) refl
     ∙ (λ i. take from (eo i) ++ (h ++ drop start (eo i)))
+
+-- what a slice of all of it holds, written back
+written_back : (items new : List ℕ) (n : ℕ) → n ≡ length items → length new ≡ length items → take n (new ++ drop (length new) items) ≡ new
+written_back items new n e l =
+    let m : n ≡ length new = omega (arith, e, l) in ap (λ k. take k (new ++ drop (length new) items)) m ∙ take-append_seam new (drop (length new) items)
+
+pub vec_extended : (items was new out : List ℕ) (n len r s e : ℕ) → was ≡ items → n ≡ length items → length new ≡ length was → take len items ≡ out → len ≤ n → s ≤ e → e ≤ length out
+    → take r new ≡ take len was ++ slice_range was s e → take r (take n (new ++ drop (length new) items)) ≡ out ++ slice_range out s e
+vec_extended items was new out n len r s e is en l eo h b g now =
+    let front = front_of_list items out len eo (omega (arith, en, h)) in
+    ap (take r) (written_back items new n en (l ∙ ap length is)) ∙ now ∙ ap (λ (xs : List ℕ). take len xs ++ slice_range xs s e) is
+    ∙ (λ i. eo i ++ slice_within items out s e front b g i)
+
+pub vec_closed_up : (items was new out : List ℕ) (n len r s e : ℕ) → was ≡ items → n ≡ length items → length new ≡ length was → take len items ≡ out → len ≤ n → s ≤ e → e ≤ length out
+    → take r new ≡ take s was ++ slice_range was e len → take r (take n (new ++ drop (length new) items)) ≡ take s out ++ drop e out
+vec_closed_up items was new out n len r s e is en l eo h b g now =
+    let front = front_of_list items out len eo (omega (arith, en, h)) in
+    let size = length-take len items in
+    let long : length out ≡ len = omega (arith, size, ap length eo, en, h) in
+    let before : take s items ≡ take s out = sym (take-take s len items (omega (arith, long, b, g))) ∙ ap (take s) eo in
+    let behind : slice_range items e len ≡ drop e out = slice_within items out e len front (omega (arith, long, g)) (omega (arith, long)) ∙ slice_all out e len long in
+    ap (take r) (written_back items new n en (l ∙ ap length is)) ∙ now ∙ ap (λ (xs : List ℕ). take s xs ++ slice_range xs e len) is
+    ∙ (λ i. before i ++ behind i)

@@ -18,13 +18,13 @@ pub struct Cut {
     pub to: usize,
 }
 
-/// The bytes of the cuts behind what is there.
-pub(crate) fn emit(out: &Out, cuts: &[Cut], into: &mut Out) -> Result<(), AllocError>
-    requires { AreInside (length out.now) cuts.now }
-    ensures { OnOk result (into.new ≡ into.old ++ rope out.now cuts.now) }
+/// The bytes of the cuts once more behind what is there.
+pub(crate) fn emit(out: &mut Out, cuts: &[Cut]) -> Result<(), AllocError>
+    requires { AreInside (length out.old) cuts.now }
+    ensures { OnOk result (out.new ≡ out.old ++ rope out.old cuts.now) }
 {
     for cut in cuts {
-        into.extend_from(out, cut.from, cut.to)?;
+        out.extend_within(cut.from, cut.to)?;
     }
     Ok(())
 }

@@ -33,7 +33,6 @@ pub struct Draft {
     pub regions: Vec<Region>,
     pub end: usize,
     pub picked: Picked,
-    pub spare: Out,
     pub copied: usize,
 }
 
@@ -55,7 +54,6 @@ impl Draft {
                 high: 0,
                 end: 0,
             },
-            spare: Out::new(alloc),
             copied: 0,
         }
     }
@@ -88,7 +86,6 @@ impl Draft {
             regions: _,
             end: _,
             picked: _,
-            spare: _,
             copied: _,
         } = self;
         buf.into_vec()
@@ -254,11 +251,11 @@ impl Draft {
         ensures lies { OnOk result (self.new.buf ≡ meant self.old) }
         ensures end { OnOk result (self.new.end ≡ 0) }
     {
-        self.copied = self.copied.saturating_add(self.buf.len());
-        self.spare.cut(0);
-        emit(&self.buf, self.cuts.as_slice(), &mut self.spare)?;
-        self.spare.extend_from(&self.buf, self.end, self.buf.len())?;
-        self.buf.rewrite(0, self.spare.as_slice())?;
+        let len = self.buf.len();
+        self.copied = self.copied.saturating_add(len);
+        emit(&mut self.buf, self.cuts.as_slice())?;
+        self.buf.extend_within(self.end, len)?;
+        self.buf.close_up(0, len);
         self.cuts.clear();
         self.regions.clear();
         self.end = 0;

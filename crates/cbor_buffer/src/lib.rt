@@ -5,6 +5,7 @@
 //! contract of the crates above does.
 #![tactic(auto)]
 
+mod copies;
 mod cuts;
 pub mod draft;
 mod head;

@@ -5,6 +5,7 @@ ghost use Rattle.std.specs.Prelude.{slice_range, vec_len, OnOk};
 ghost use Rattle.cbor_head.specs.Head.{shortest_head, IsSimple, major_number};
 ghost use Rattle.cbor_head.specs.declared.major.Major.TheVariants.{Simple};
 
+use crate::copies::{copy, copy_behind, copy_down};
 use crate::head::{head_bytes, number, put_head};
 use cbor_head::Major;
 use std::alloc::{AllocError, Global};
@@ -20,7 +21,7 @@ const BLOCK: usize = 32;
 const SLACK: usize = 40;
 
 // The buffer grows by so many bytes at least, so that a small item takes memory once,
-const FIRST: usize = 128;
+const FIRST: usize = 512;
 
 // and is made longer by as many, or by so many at once: what is to be written soon is in reach then.
 const STEP: usize = 1024;
@@ -150,26 +151,24 @@ impl Out {
         self.extend(&front[..count])
     }
 
-    // What stands in another from `start` to `end`, behind what is there. Up to 32 bytes are copied
-    // by a piece of 32, where the room behind them allows it.
+    // What stands from `start` to `end`, once more behind what is there. Up to 32 bytes are copied by
+    // a piece of 32, where the room behind them allows it.
     #[inline(always)]
-    pub(crate) fn extend_from(
-        &mut self,
-        other: &Out,
-        start: usize,
-        end: usize,
-    ) -> Result<(), AllocError>
+    pub(crate) fn extend_within(&mut self, start: usize, end: usize) -> Result<(), AllocError>
         requires begins { start ≤ end }
-        requires ends { end ≤ length other.now }
-        ensures { OnOk result (self.new ≡ self.old ++ slice_range other.now start end) }
+        requires ends { end ≤ length self.old }
+        ensures { OnOk result (self.new ≡ self.old ++ slice_range self.old start end) }
     {
-        let bytes = &other.as_slice()[start..end];
-        if bytes.len() <= BLOCK {
-            if let Some(block) = other.with_room()[start..].first_chunk::<BLOCK>() {
-                return self.extend_block(block, bytes.len());
+        let count = end - start;
+        if count <= BLOCK {
+            if let Some(block) = self.buf[start..].first_chunk::<BLOCK>() {
+                let block = *block;
+                return self.extend_block(&block, count);
             }
         }
-        self.extend(bytes)
+        make_room(&mut self.buf, self.len, count)?;
+        self.len = copy_behind(&mut self.buf, self.len, start, end);
+        Ok(())
     }
 
     // The first of these bytes behind what is there.
@@ -191,13 +190,13 @@ impl Out {
         self.len = end;
     }
 
-    // These bytes in place of those from `start` on.
-    pub(crate) fn rewrite(&mut self, start: usize, bytes: &[u8]) -> Result<(), AllocError>
-        requires { start ≤ length self.old }
-        ensures { OnOk result (self.new ≡ take start self.old ++ bytes.now) }
+    // What stands from `end` on, in place of what stands from `start` on.
+    pub(crate) fn close_up(&mut self, start: usize, end: usize)
+        requires begins { start ≤ end }
+        requires ends { end ≤ length self.old }
+        ensures { self.new ≡ take start self.old ++ drop end self.old }
     {
-        self.len = start;
-        self.extend(bytes)
+        self.len = copy_down(&mut self.buf, start, end, self.len);
     }
 
     // The shortest head in place of what stands between `from` and `start`.
@@ -261,36 +260,6 @@ fn put_block(buf: &mut Vec<u8>, len: usize, block: &[u8; BLOCK], count: usize) -
 {
     buf[len..len + BLOCK].copy_from_slice(block);
     len + count
-}
-
-// The bytes in place of as many. Up to 32 are copied without a call.
-#[inline(always)]
-fn copy(bytes: &[u8], to: &mut [u8])
-    requires { length bytes.now ≡ length to.old }
-    ensures { to.new ≡ bytes.now }
-{
-    match bytes.len() {
-        0 => {}
-        1..=2 => copy_ends(bytes, to, 1),
-        3..=4 => copy_ends(bytes, to, 2),
-        5..=8 => copy_ends(bytes, to, 4),
-        9..=16 => copy_ends(bytes, to, 8),
-        17..=32 => copy_ends(bytes, to, 16),
-        _ => to.copy_from_slice(bytes),
-    }
-}
-
-// The first n and the last n, which meet.
-#[inline(always)]
-fn copy_ends(bytes: &[u8], to: &mut [u8], n: usize)
-    requires length { length bytes.now ≡ length to.old }
-    requires within { n ≤ length bytes.now }
-    requires meet { length bytes.now ≤ n + n }
-    ensures { to.new ≡ bytes.now }
-{
-    let at = bytes.len() - n;
-    to[..n].copy_from_slice(&bytes[..n]);
-    to[at..].copy_from_slice(&bytes[at..]);
 }
 
 // Room for n bytes more than the first `len`, and the slack behind them. These stay.

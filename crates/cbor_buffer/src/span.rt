@@ -1,6 +1,6 @@
 //! Pairs of maps as spans of the buffer.
 
-ghost use Rattle.std.specs.Prelude.{◌≡◌, [], OnOk, map, flat_map};
+ghost use Rattle.std.specs.Prelude.{◌≡◌, ◌++◌, OnOk, map, flat_map};
 ghost use Rattle.cbor_canonical.specs.Pairs.{pair_bytes};
 ghost use Rattle.cbor_buffer.specs.Spans.{span_pair, AreWithin};
 
@@ -16,15 +16,14 @@ pub struct Span {
     pub end: usize,
 }
 
-/// The pairs, one behind the other, behind what is there.
-pub(crate) fn gather(out: &Out, spans: &[Span], into: &mut Out) -> Result<(), AllocError>
-    requires empty { into.old ≡ [] }
-    requires within { AreWithin out.now spans.now }
+/// The pairs, one behind the other, once more behind what is there.
+pub(crate) fn gather(out: &mut Out, spans: &[Span]) -> Result<(), AllocError>
+    requires { AreWithin out.old spans.now }
     ensures { OnOk result
-        (into.new ≡ flat_map pair_bytes (map (span_pair out.now) spans.now)) }
+        (out.new ≡ out.old ++ flat_map pair_bytes (map (span_pair out.old) spans.now)) }
 {
     for span in spans {
-        into.extend_from(out, span.key, span.end)?;
+        out.extend_within(span.key, span.end)?;
     }
     Ok(())
 }

@@ -1,5 +1,5 @@
 -- Keys lie as they are meant, whatever else does not.
-use Rattle.std.proofs.Common.{◌≡◌, ◌↔◌, ℕ, ◌+◌, ◌-◌, ◌≤◌, Bool, List, [], ◌∷◌, ◌++◌, length, length-take, take, drop, map, refl, sym, ap, ◌∙◌, subst, arith, inl, inr, Option, Some, None}
+use Rattle.std.proofs.Common.{◌≡◌, ◌↔◌, ℕ, ◌-◌, ◌≤◌, Bool, List, [], ◌∷◌, ◌++◌, length, length-take, take, drop, map, refl, sym, ap, ◌∙◌, subst, arith, inl, inr, Option, Some, None}
 use Rattle.std.specs.Prelude.{IsTrue, slice_range}
 use Rattle.std.specs.List.{AllByRecursion}
 use Rattle.std.proofs.lemmas.List.{take-append-le, drop-append-le}
@@ -7,7 +7,7 @@ use Rattle.std.proofs.Math.Seq.{drop-append_seam}
 use Rattle.cbor_head.specs.Canonical.{Pair}
 use Rattle.cbor_head.specs.Order.{key_lt}
 use Rattle.cbor_head.specs.declared.order.KeyOrder.{KeyOrder}
-use Rattle.cbor_builder.specs.Built.{HasKey, IsRepeatedKey, IsWaitingKey, keys_so_far, AreOpenKeysDifferent, IsRepeatTold, AreAllDifferent, IsFirstRepeat}
+use Rattle.cbor_builder.specs.Built.{HasKey, HoldsKey, IsRepeatedKey, IsWaitingKey, keys_so_far, AreOpenKeysDifferent, IsRepeatTold, AreAllDifferent, IsFirstRepeat}
 use Rattle.cbor_canonical.specs.Pairs.{IsRising}
 use Rattle.cbor_canonical.specs.Parts.{Open}
 use Rattle.cbor_keys.specs.Front.{front_of}
@@ -308,3 +308,15 @@ pub waiting_is : (raw out : List ℕ) (ss : List Span) (start first key val : �
 waiting_is raw out ss start first key val s os e h l =
     let k = subst (HasSameKeys raw out ss) e h in
     subst (λ (s : Shape). IsWaitingKey (shape_open out ss start s ∷ os) (slice_range raw key val)) (sym e) (slice_all raw key val (sym l) ∙ k.1)
+
+-- ---- a key that is due
+
+pub held_same : (raw bytes out : List ℕ) (ss us : List Span) (start first : ℕ) (s : Shape) (os : List Open) (k : List ℕ) (t : Bool) → s ≡ Map first → bytes ≡ raw → us ≡ drop first ss → HasSameKeys raw out ss s
+    → (IsTrue t ↔ HasKey (map (span_pair bytes) us) k) → (IsTrue t ↔ HoldsKey (shape_open out ss start s ∷ os) k)
+held_same raw bytes out ss us start first s os k t e eb eu h d =
+    let same = subst (HasSameKeys raw out ss) e h in
+    let one = subst (λ (xs : List ℕ). IsTrue t ↔ HasKey (map (span_pair xs) (drop first ss)) k) eb (subst (λ (xs : List Span). IsTrue t ↔ HasKey (map (span_pair bytes) xs) k) eu d) in
+    subst (λ (s : Shape). IsTrue t ↔ HoldsKey (shape_open out ss start s ∷ os) k) (sym e) (
+      (λ p. has_keys raw out (drop first ss) k k same refl (one.0 p)),
+      (λ n. one.1 (has_keys out raw (drop first ss) k k (keys_flip raw out (drop first ss) same) refl n)),
+    )

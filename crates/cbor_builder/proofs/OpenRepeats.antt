@@ -1,10 +1,11 @@
 -- Which repeated key is told, from the innermost out.
-use Rattle.std.proofs.Common.{◌≡◌, ℕ, suc, ◌-◌, List, [], ◌∷◌, ◌++◌, length, length-drop, drop, take, map, Option, Some, None, Bool, true, false, refl, sym, ap, ◌∙◌, subst, arith, inl, inr}
+use Rattle.std.proofs.Common.{◌≡◌, ℕ, suc, ◌-◌, List, [], ◌∷◌, ◌++◌, length, length-drop, drop, take, map, nat_eq, Option, Some, None, Bool, true, false, refl, sym, ap, ◌∙◌, subst, arith, inl, inr}
 use Rattle.std.specs.Prelude.{IsTrue, MatchOption, reverse, ◌↔◌}
 use Rattle.std.specs.Option.{option_or}
 use Rattle.std.specs.Bool.{then_some}
+use Rattle.std.proofs.lemmas.Bool.Decides.{Decides-eqb}
 use Rattle.std.proofs.lemmas.List.{length-map, length-reverse, drop_all, take_rest}
-use Rattle.cbor_builder.specs.Built.{HasKey, IsRepeatedKey, keys_so_far, AreAllDifferent, IsFirstRepeat}
+use Rattle.cbor_builder.specs.Built.{HasKey, IsRepeatedKey, IsKeyDueAt, keys_so_far, AreAllDifferent, IsFirstRepeat}
 use Rattle.cbor_canonical.specs.Parts.{Open}
 use Rattle.cbor_head.specs.Canonical.{Pair}
 use Rattle.cbor_head.specs.declared.order.KeyOrder.{KeyOrder}
@@ -132,3 +133,14 @@ moved P o o' out out' ss ss' fs fs' eo ex es ef p =
 pub none_left : (out : List ℕ) (ss : List Span) (below : List Frame) → length below ≡ 0 → Tells (opens out ss (reverse below)) None
 none_left out ss [] e = tt
 none_left out ss (f ∷ below) e = absurd (omega (arith, e))
+
+-- ---- where a key is due
+
+pub due_at : (out : List ℕ) (ss : List Span) (start first pairs around outside pair : ℕ) (s : Shape) (os : List Open) → s ≡ Map first → pairs ≡ length ss - first → around ≡ length os - 1 → pairs ≡ pair
+    → IsTrue (nat_eq around outside) ↔ IsKeyDueAt (shape_open out ss start s ∷ os) outside pair
+due_at out ss start first pairs around outside pair s os shape p a e =
+    let count : length (pairs_from out ss first) ≡ length ss - first = length-map (drop first ss) (span_pair out) ∙ length-drop first ss in
+    rw shape (
+      (λ t. (sym ((Decides-eqb around outside).0 t) ∙ a, sym e ∙ p ∙ sym count)),
+      (λ h. (Decides-eqb around outside).1 (a ∙ sym h.0)),
+    )

@@ -82,6 +82,16 @@ abbrev pub IsKeyDue : List Open → Type 0
 IsKeyDue (a_map ps ∷ os) = Unit {0}
 IsKeyDue _ = ⊥
 
+-- it is a key of the innermost map, behind so many pairs; so many containers are open around that. Around all is the whole, which is no container.
+abbrev pub IsKeyDueAt : List Open → ℕ → ℕ → Type 0
+IsKeyDueAt (a_map ps ∷ os) outside pair = (outside ≡ length os - 1) × (pair ≡ length ps)
+IsKeyDueAt _ outside pair = ⊥
+
+-- a map is innermost, another key of it is due, and one before has these bytes
+abbrev pub HoldsKey : List Open → List ℕ → Type 0
+HoldsKey (a_map ps ∷ os) k = HasKey ps k
+HoldsKey _ k = ⊥
+
 -- this key waits for its value
 abbrev pub IsWaitingKey : List Open → List ℕ → Type 0
 IsWaitingKey (a_key ps k ∷ os) q = q ≡ k

@@ -12,6 +12,7 @@ ghost use Rattle.cbor_builder.specs.inner.Repeats.{TellsOf, Tells};
 ghost use Rattle.cbor_buffer.specs.Moved.{meant, IsWhole};
 
 mod closing;
+mod due_key;
 mod given_up;
 
 use crate::frame::{Frame, Shape};

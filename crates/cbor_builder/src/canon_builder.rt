@@ -13,6 +13,8 @@ ghost use Rattle.cbor_builder.specs.Built.{IsKeyDue, IsRepeatedKey, IsWaitingKey
 ghost use Rattle.cbor_builder.specs.Built.{AreOpenKeysDifferent};
 ghost use Rattle.cbor_builder.specs.Built.{IsRepeatTold, around};
 
+mod due_key;
+
 use crate::builder::Core;
 use crate::repeat::Repeat;
 use cbor_head::{KeyOrder, Major};

@@ -8,7 +8,7 @@ ghost use Rattle.cbor_buffer.specs.Spans.{span_pair};
 ghost use Rattle.cbor_canonical.specs.Pairs.{IsRising};
 
 use crate::member::is_above;
-use crate::ranking::{compare, front};
+use crate::ranking::{compare, front, part};
 use cbor_buffer::out::Out;
 use cbor_buffer::span::Span;
 use cbor_head::KeyOrder;
@@ -53,6 +53,18 @@ fn has_key_of(bytes: &[u8], order: KeyOrder, spans: &[Span], wanted: &Span) -> b
 {
     for span in spans {
         if compare(bytes, order, span, wanted).is_eq() {
+            return true;
+        }
+    }
+    false
+}
+
+/// Whether one of the pairs has a key of these bytes.
+pub(crate) fn has_bytes(bytes: &[u8], spans: &[Span], key: &[u8]) -> bool
+    ensures { IsTrue result ↔ HasKey (map (span_pair bytes.now) spans.now) key.now }
+{
+    for span in spans {
+        if part(bytes, span.key, span.val) == key {
             return true;
         }
     }

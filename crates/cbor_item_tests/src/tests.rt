@@ -1,6 +1,7 @@
 //! Examples, by trees.
 
 mod canon_builder;
+mod due_keys;
 mod failed;
 mod sorted;
 mod tree_builder;

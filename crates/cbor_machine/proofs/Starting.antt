@@ -12,4 +12,4 @@ use Rattle.cbor_machine.specs.contracts.machine.Machine.{the_view}
 pub starts : (limits : Bounds) (frames : List Frame) → frames ≡ [] → StandsFor (the_view (record { limits = limits; taken = 0; told = 0; position = positions.Item; nest = frames; refusal = None })) [] []
 starts limits frames empty =
     let none : length frames ≡ 0 = ap length empty in
-    meant _ [] [] tt (ap (λ fs. reached (at_item (frames_of fs)) []) (sym empty)) (record { shown = record { open_count = refl; due = refl; in_payload = refl; complete = refl }; empty = λ e. empty }) (omega (arith, none)) refl (omega arith) refl refl
+    meant _ [] [] tt (ap (λ fs. reached (at_item (frames_of fs)) []) (sym empty)) (record { shown = record { open_count = refl; due = refl; item_due = refl; in_payload = refl; complete = refl }; empty = λ e. empty }) (omega (arith, none)) refl (omega arith) refl refl

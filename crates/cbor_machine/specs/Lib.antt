@@ -1,3 +1,2 @@
-pub mod HeadDue
 pub mod inner
 pub mod Saved

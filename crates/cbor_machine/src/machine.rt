@@ -11,9 +11,8 @@ ghost use Rattle.cbor_standing.specs.Machine.{StandsFor, KeepsLimits, Stays, IsA
 ghost use Rattle.cbor_standing.specs.Machine.{IsIdle, IsEvent, IsMore, IsDone, IfRefused, piece_of};
 ghost use Rattle.cbor_standing.specs.Machine.{IsGiven};
 ghost use Rattle.cbor_automaton.specs.Marks.{IsProper, times};
-ghost use Rattle.cbor_machine.specs.HeadDue.{IsHeadDue};
 ghost use Rattle.cbor_standing.specs.Machine.{wanted};
-ghost use Rattle.cbor_steps.specs.State.{IsFit, IsSettled, wanted_at, is_in_payload};
+ghost use Rattle.cbor_steps.specs.State.{IsFit, IsSettled, wanted_at, is_at_item, is_in_payload};
 ghost use Rattle.cbor_steps.specs.State.{is_done};
 ghost use Rattle.cbor_standing.specs.Steps.{IsStep};
 
@@ -50,6 +49,7 @@ impl Model for Machine {
       told = m.told;
       open_count = length m.nest;
       due = wanted_at m.position;
+      item_due = is_at_item m.position;
       in_payload = is_in_payload m.position;
       complete = is_done m.position;
       refusal = m.refusal;
@@ -140,7 +140,7 @@ impl Machine {
     /// Whether the first byte of an item's head is wanted.
     #[inline(always)]
     pub fn wants_head(&self) -> bool
-        ensures due { result ≡ true ↔ IsHeadDue self.now }
+        ensures due { result ≡ true ↔ (self.now.item_due ≡ true) × (0 < wanted self.now) }
         ensures wanted { result ≡ true → wanted self.now ≡ 1 }
         ensures idle { IsIdle self.now → result ≡ false }
     {

@@ -19,7 +19,7 @@ use Rattle.cbor_judging.specs.Kinds.{AsksForKinds, KeepsToKinds, IsKeyDueIn, IsO
 use Rattle.cbor_judging.specs.Levels.{frame, bytes_before}
 use Rattle.cbor_judging.specs.Place.{Container, at_item}
 use Rattle.cbor_judging.specs.Reading.{IsUndecided, HasCause, StopsItem, StopsHead, frame_at}
-use Rattle.cbor_plain.specs.inner.PlainFront.{IsDueAt, IsStopped, WhyStopped, for_memory, for_cause, for_kind}
+use Rattle.cbor_plain.specs.inner.ItemFront.{IsDueAt, IsStopped, WhyStopped, for_memory, for_cause, for_kind}
 use Rattle.cbor_plain.specs.inner.PlainItems.{AreApart}
 use Rattle.cbor_judging.proofs.Items.{cause-in, cause-front, undecided-in, undecided-front, cut-judged}
 use Rattle.cbor_judging.proofs.Judged.{judged_start}

@@ -19,7 +19,7 @@ use Rattle.cbor_judging.specs.Reading.{IsNextHead, StopsHead}
 use Rattle.cbor_judging.proofs.Standing.{is-done}
 use Rattle.cbor_judging.proofs.Steps.{next-head, no-head, stops, limits-as}
 use Rattle.cbor_plain.specs.declared.plain_items.PlainItems.{PlainItems}
-use Rattle.cbor_plain.specs.inner.PlainFront.{IsDueAt, IsStopped, IsNextDue}
+use Rattle.cbor_plain.specs.inner.ItemFront.{IsDueAt, IsStopped, IsNextDue}
 use Rattle.cbor_plain.proofs.DueRefusals.{refused-head, refused-key}
 
 -- what stands behind a first byte that was known

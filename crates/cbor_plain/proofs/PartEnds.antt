@@ -15,21 +15,20 @@ use Rattle.cbor_standing.specs.NextEvent.{ItemEventsView}
 use Rattle.cbor_judging.specs.Place.{Place, at_item, close, done as at_end, open_at}
 use Rattle.cbor_builder.specs.Built.{Built, built, IsRepeatedKey, HasDistinctKeysSoFar}
 use Rattle.cbor_canonical.specs.Parts.{IsInContainer, Open, plain as a_plain, give, close as close_open}
-use Rattle.cbor_item.specs.OpenValues.{OpenItem, close as close_in_tree}
+use Rattle.cbor_item.specs.OpenValues as trees
+use Rattle.cbor_item.specs.OpenValues.{OpenItem, MayEnd}
 use Rattle.cbor_plain.specs.declared.plain_items.PlainItems.{PlainItems}
-use Rattle.cbor_plain.specs.declared.plain_part.Part.{Part}
-use Rattle.cbor_plain.specs.declared.plain_part.Part.TheVariants.{Leaf, String, Begin, Break}
 use Rattle.cbor_judging.specs.Judged.{IsJudged}
 use Rattle.cbor_judging.specs.Levels.{IsTaken, Level, a_member, a_key, a_value, some_member, some_key, some_value, tagged, frame, bytes_before, Standing, item_due, item_full, item_whole, settle}
 use Rattle.cbor_judging.specs.Given.{level_open, opens, StandsAt}
-use Rattle.cbor_plain.specs.inner.PlainFront.{IsDueAt, IsWholeAt, GoesOnOrNot, WhyStopped, for_cause}
-use Rattle.cbor_plain.specs.inner.PlainItems.{AreApart, AreApartSoFar, HaveBegun, HaveBegunIn, HasItsPlace, IsGiven, IsEndingAt, sets}
+use Rattle.cbor_plain.specs.inner.ItemFront.{IsDueAt, IsWholeAt, GoesOnOrNot, WhyStopped, for_cause}
+use Rattle.cbor_plain.specs.inner.PlainItems.{AreApart, AreApartSoFar, HaveBegun, HaveBegunIn, HasItsPlace, IsEndingAt, sets}
 use Rattle.cbor_plain.specs.declared.key_set.KeySet.{KeySet}
 use Rattle.cbor_plain.specs.inner.HeldKeys.{AreHeld, AreHeldSoFar}
 use Rattle.cbor_plain.proofs.HeldKeys.{held-popped, some-opens}
 use Rattle.cbor_judging.proofs.Standing.{open-is, fewer-open, short-at}
 use Rattle.cbor_judging.proofs.Given.{settled}
-use Rattle.cbor_plain.specs.TreeValues.{IsTreeAt, IsTreeStep, MayEndIn}
+use Rattle.cbor_plain.specs.TreeValues.{IsTreeAt}
 use Rattle.cbor_plain.proofs.TreeValues.{values-ended, settles-right, tree-step, tree-may-end}
 use Rattle.cbor_plain.proofs.PathFrames.{repeat_found}
 use Rattle.cbor_plain.proofs.Paths.{closed-apart, apart-now, ends-apart, settled-begun, settled-place}
@@ -63,15 +62,15 @@ module _ (v : PlainItems) (b : Bounds) (e : ItemEventsView) (t : List ℕ) (heig
       go (item_full (l ∷ ls) u) s = (subst IsInContainer (sym s.3.2) (s.3.1.container (level_open v.builder.order l) (opens v.builder.order ls)), apart v.builder.standing h.apart)
       go (item_whole u) s = absurd (omega (arith, more, s.4))
 
-  pub ends-in-tree : e.machine.open_count < height → MayEndIn v.tree
+  pub ends-in-tree : e.machine.open_count < height → MayEnd (trees.standing v.tree)
   ends-in-tree more = go h.standing h.stands h.tree
     where
-      go : (x : Standing) → StandsAt v.builder.order b.depth t h.q v.builder.standing height x → IsTreeAt v.tree x → MayEndIn v.tree
+      go : (x : Standing) → StandsAt v.builder.order b.depth t h.q v.builder.standing height x → IsTreeAt v.tree x → MayEnd (trees.standing v.tree)
       go (item_due ls) s tree = absurd (omega (arith, more, due-count ls s.2, s.4))
       go (item_full ls u) s tree = tree-may-end v.tree ls u tree
       go (item_whole u) s tree = absurd (omega (arith, more, s.4))
 
-  pub ends-one : e.machine.open_count < height → (now : PlainItems) → now.builder ≡ built v.builder.order (close_open v.builder.order v.builder.standing) → now.starts ≡ v.starts → now.kinds ≡ v.kinds → IsTreeStep close_in_tree v.tree now.tree
+  pub ends-one : e.machine.open_count < height → (now : PlainItems) → now.builder ≡ built v.builder.order (close_open v.builder.order v.builder.standing) → now.starts ≡ v.starts → now.kinds ≡ v.kinds → trees.standing now.tree ≡ trees.close (trees.standing v.tree)
       → ((s u : KeySet) (ss : List KeySet) → sets v ≡ s ∷ u ∷ ss → sets now ≡ u ∷ ss) → IsEndingAt now b e t (height - 1)
   ends-one more now is starts same_kinds step popped = go h.standing h.stands h.begun h.place h.tree
     where
@@ -102,7 +101,7 @@ module _ (v : PlainItems) (b : Bounds) (e : ItemEventsView) (t : List ℕ) (heig
             apart = apart-so;
             begun = subst (λ (xs : Vec ℕ Global). HaveBegunIn xs.items (settle ls u)) (sym starts) (settled-begun v.starts.items ls u begun);
             place = subst (λ (xs : Vec ℕ Global). HasItsPlace xs.items (settle ls u)) (sym starts) (settled-place v.starts.items ls u begun place);
-            tree = tree-step close_in_tree v.tree now.tree (item_full ls u) (settle ls u) tree step (values-ended ls u) (settles-right ls u);
+            tree = tree-step trees.close v.tree now.tree (item_full ls u) (settle ls u) tree step (values-ended ls u) (settles-right ls u);
             held = subst (AreHeldSoFar (sets now)) (ap (close_open v.builder.order) (sym s.3.2) ∙ sym (ap (λ (g : Built). g.standing) is))
                 (held-popped v.builder.order (sets v) (sets now) c (opens v.builder.order ls) (some-opens v.builder.order ls) popped (subst (AreHeldSoFar (sets v)) s.3.2 h.held));
             kinds = same_kinds ∙ h.kinds;
@@ -154,7 +153,7 @@ module _ (v : PlainItems) (b : Bounds) (e : ItemEventsView) (t : List ℕ) (h : 
           let short : length (bytes_before (l ∷ ls)) + length (spell k) < 2 ^ 63 = omega (arith, few-bytes, ap length bytes_are, size) in
           found (length (bytes_before (l ∷ ls))) (length (spell k))
           (subst (λ (x : List ℕ). IsJudged plain 0 b.depth x (Some (complaint.complaint (length (bytes_before (l ∷ ls)) + length (spell k)) (length (bytes_before (l ∷ ls))) RepeatedKey))) (sym bytes_are)
-          (repeat_found o b.depth ls l done refl (levels.0, (levels.1.0, levels.1.1), levels.2) (omega (arith, short)) (apart.0, (λ x. x), apart.1) levels.1.1 k levels.1.2 (omega (arith, short)) (subst IsRepeatedKey s.3 repeated)))
+          (repeat_found o b.depth ls l done refl (levels.0, (levels.1.0, levels.1.1), levels.2) (omega (arith, short)) (apart.0, (λ x. x), apart.1) k levels.1.2 (omega (arith, short)) (subst IsRepeatedKey s.3 repeated)))
           (ap length bytes_are ∙ size) (place_is _ (ap (λ (i : ℕ). slice_get v.starts.items i) s.4 ∙ place_so))
       go (item_due (some_value done k ∷ ls)) s place_so =
           let o = v.builder.order in
@@ -166,7 +165,7 @@ module _ (v : PlainItems) (b : Bounds) (e : ItemEventsView) (t : List ℕ) (h : 
           let short : length (bytes_before (l ∷ ls)) + length (spell k) < 2 ^ 63 = omega (arith, few-bytes, ap length bytes_are, size) in
           found (length (bytes_before (l ∷ ls))) (length (spell k))
           (subst (λ (x : List ℕ). IsJudged plain 0 b.depth x (Some (complaint.complaint (length (bytes_before (l ∷ ls)) + length (spell k)) (length (bytes_before (l ∷ ls))) RepeatedKey))) (sym bytes_are)
-          (repeat_found o b.depth ls l done refl (levels.0, levels.1.0, levels.2) (omega (arith, short)) (apart.0, (λ x. x), apart.1) levels.1.0 k levels.1.1 (omega (arith, short)) (subst IsRepeatedKey s.3 repeated)))
+          (repeat_found o b.depth ls l done refl (levels.0, levels.1.0, levels.2) (omega (arith, short)) (apart.0, (λ x. x), apart.1) k levels.1.1 (omega (arith, short)) (subst IsRepeatedKey s.3 repeated)))
           (ap length bytes_are ∙ size) (place_is _ (ap (λ (i : ℕ). slice_get v.starts.items i) s.4 ∙ place_so))
       go (item_due []) s place_so = absurd (subst IsRepeatedKey s.3 repeated)
       go (item_due (a_member w left done ∷ ls)) s place_so = absurd (subst IsRepeatedKey s.3 repeated)
@@ -193,7 +192,7 @@ module _ (v : PlainItems) (b : Bounds) (e : ItemEventsView) (t : List ℕ) (h : 
           apart = subst (λ (g : Built). AreApart g.standing) (sym same) apart;
           begun = subst (λ (xs : Vec ℕ Global). HaveBegun xs.items ls) (sym starts) begun;
           held = held;
-          tree = subst (λ (z : Option (List OpenItem)). IsTreeAt z (item_due ls)) (sym same_tree) tree;
+          tree = subst (λ (z : List OpenItem). IsTreeAt z (item_due ls)) (sym same_tree) tree;
           kinds = same_kinds ∙ h.kinds;
           keeps = h.keeps;
         }
@@ -213,18 +212,11 @@ module _ (v : PlainItems) (b : Bounds) (e : ItemEventsView) (t : List ℕ) (h : 
           is = s.0;
           taken = s.1;
           at = at-as b e t t h.q at_end refl s.2 h.at;
-          standing = subst (λ (g : Built). g.standing ≡ a_plain (canonical g.order (value_of u)) ∷ []) (sym same) s.3;
-          tree = subst (λ (z : Option (List OpenItem)). IsTreeAt z (item_whole u)) (sym same_tree) tree;
+          tree = subst (λ (z : List OpenItem). IsTreeAt z (item_whole u)) (sym same_tree) tree;
           keeps = h.keeps;
         }
 
 -- ---- what is answered
-
-pub given-order : (g : Built) (part : Part) (now : Built) (count : ℕ) → IsGiven g part now count → now.order ≡ g.order
-given-order g (Leaf m k) now count h = ap (λ (x : Built). x.order) h.0
-given-order g (String is_text content) now count h = ap (λ (x : Built). x.order) h.0
-given-order g (Begin m k) now count h = ap (λ (x : Built). x.order) h.0
-given-order g Break now count h = ap (λ (x : Built). x.order) h.0
 
 pub goes-or-not : (v now : PlainItems) (b : Bounds) (e : ItemEventsView) (t : List ℕ) (count : ℕ) → IsEndingAt v b e t e.machine.open_count → 0 < length t → now.builder ≡ v.builder → now.starts ≡ v.starts → now.tree ≡ v.tree → now.kinds ≡ v.kinds
     → AreHeld (sets now) now.builder.standing × (IsRepeatedKey now.builder.standing → ⊥) → count ≡ e.machine.open_count → GoesOnOrNot (nat_lt 0 count) now b e t

@@ -202,7 +202,7 @@ module _ (o : KeyOrder) (b : Bounds) (ls : List Level) (levels : AreLevels b.dep
         values = refl;
       }
 
-  module _ (t x : List ℕ) (e : ItemEventsView) (w : Width) (t_is : t ≡ bytes_before ls) where
+  module _ (t x : List ℕ) (e : ItemEventsView) (w : Width) where
     -- a container begins
     pub opens-by : (kind : EventKind) (m : Major) (k : ℕ) → (i : IsCome b fs t x e w kind) → Begins kind m k → IsPlaced o b.depth (bytes_before ls ++ x) i.next (opened m k ∷ opens o ls) (suc (length ls)) xs (trees.opened m k ∷ level_values ls)
     opens-by (kinds.Array (Some n)) m k i g =

@@ -33,7 +33,7 @@ use Rattle.cbor_judging.specs.Kinds.{AsksForKinds, KeepsToKinds, IsKeyDueIn, IsO
 use Rattle.cbor_judging.specs.Levels.{IsTaken, Level, a_member, a_key, a_value, some_member, some_key, some_value, tagged, frame, AreLevels, bytes_before, item_due, settle}
 use Rattle.cbor_judging.specs.Given.{opens, StandsAt}
 use Rattle.cbor_judging.specs.Reading.{IsAt, IsUndecided, IsNextHead, ReadsItem, StopsItem, string_value}
-use Rattle.cbor_plain.specs.inner.PlainFront.{IsStopped, IsDueAt, IsNextDue, for_memory}
+use Rattle.cbor_plain.specs.inner.ItemFront.{IsStopped, IsDueAt, IsNextDue, for_memory}
 use Rattle.cbor_plain.specs.inner.PlainItems.{AreApartSoFar, HaveBegun, CanTake, IsGiven, IsEndingAt, sets, AreKeysBegun}
 use Rattle.cbor_plain.specs.inner.PlainParts.{IsCome, leaf_value, BeginsString, IsStill, ReadsPart}
 use Rattle.cbor_plain.specs.declared.key_set.KeySet.{KeySet}
@@ -47,9 +47,9 @@ use Rattle.cbor_judging.proofs.Standing.{open-is, short-at}
 use Rattle.cbor_judging.proofs.Levels.{clean-anywhere}
 use Rattle.cbor_judging.proofs.Given.{settled}
 use Rattle.cbor_judging.proofs.Undecided.{item-undecided}
-use Rattle.cbor_plain.specs.TreeValues.{level_values, values_with, IsTreeStep, IsForTree, TakesTreePart}
+use Rattle.cbor_plain.specs.TreeValues.{level_values, values_with, IsForTree}
 use Rattle.cbor_plain.proofs.DueRefusals.{few, due-keeps, refused-item, undecided-whole}
-use Rattle.cbor_plain.proofs.TreeValues.{values-given, settles-right, tree-step, tree-takes}
+use Rattle.cbor_plain.proofs.TreeValues.{values-given, settles-right, tree-step}
 use Rattle.cbor_plain.proofs.PartKinds.{basic-more, item-basic, mark-basic, mark-string, string-item, begins-item, no-break, HoldsNone, leaf-holds-none, string-holds-none, no-kinds, keeps-broken}
 use Rattle.cbor_plain.proofs.Paths.{given-apart, opened-apart, so-far, settled-begun, settled-place, begun-more, begun-room, begins-at}
 use Rattle.cbor_judging.proofs.Steps.{at-reached}
@@ -99,7 +99,7 @@ module _ (v : PlainItems) (b : Bounds) (e : ItemEventsView) (t : List ℕ) (d : 
       pub at : IsAt b new (t ++ bytes) q
       pub keeps : KeepsToKinds b plain (t ++ bytes)
       pub leads : (now : PlainItems) (height place count : ℕ) → height ≡ e.machine.open_count → place ≡ ev.place → now.starts.items ≡ take height v.starts.items ++ place ∷ [] → now.kinds ≡ v.kinds → IsGiven v.builder part now.builder count
-          → IsTreeStep (values_with part) v.tree now.tree → AreKeysBegun count (sets v) (sets now) → IsEndingAt now b new (t ++ bytes) (height + count)
+          → trees.standing now.tree ≡ values_with part (trees.standing v.tree) → AreKeysBegun count (sets v) (sets now) → IsEndingAt now b new (t ++ bytes) (height + count)
 
     some-head : 0 < length n.bytes
     some-head = taking-some b.depth gs (mark_of ev.width ev.kind) n.bytes n.next n.taking
@@ -124,7 +124,7 @@ module _ (v : PlainItems) (b : Bounds) (e : ItemEventsView) (t : List ℕ) (d : 
           ap (λ (xs : List ℕ). slice_get xs (length d.ls)) starts ∙ ap (λ (i : ℕ). slice_get (take height v.starts.items ++ place ∷ []) i) (sym level) ∙ begins-at v.starts.items height place room
           ∙ ap (λ (i : ℕ). Some i) (same_place ∙ n.place ∙ ap length d.taken)
 
-      placed-ending : (part : Part) (vs : List OpenValue) → values_with part (level_values d.ls) ≡ vs → IsTreeStep (values_with part) v.tree now.tree → (x : List ℕ) (q : Place) (os : List Open) (count : ℕ) → IsAt b new (t ++ x) q → (l : IsPlaced v.builder.order b.depth (bytes_before d.ls ++ x) q os (length d.ls + count) now.starts.items vs) → now.builder ≡ built v.builder.order os
+      placed-ending : (part : Part) (vs : List OpenValue) → values_with part (level_values d.ls) ≡ vs → trees.standing now.tree ≡ values_with part (trees.standing v.tree) → (x : List ℕ) (q : Place) (os : List Open) (count : ℕ) → IsAt b new (t ++ x) q → (l : IsPlaced v.builder.order b.depth (bytes_before d.ls ++ x) q os (length d.ls + count) now.starts.items vs) → now.builder ≡ built v.builder.order os
           → AreApartSoFar os → AreHeldSoFar (sets now) os → KeepsToKinds b plain (t ++ x) → IsEndingAt now b new (t ++ x) (height + count)
       placed-ending part vs vs_are step x q os count at l is apart held keeps = record {
         q = q;
@@ -194,7 +194,7 @@ module _ (v : PlainItems) (b : Bounds) (e : ItemEventsView) (t : List ℕ) (d : 
     -- a head or a break alone
     head-taken : (part : Part) → IsStill after new mid to → KeepsToKinds b plain (t ++ n.bytes)
         → ((now : PlainItems) (height place count : ℕ) → height ≡ e.machine.open_count → place ≡ ev.place → now.starts.items ≡ take height v.starts.items ++ place ∷ [] → now.kinds ≡ v.kinds → IsGiven v.builder part now.builder count
-        → IsTreeStep (values_with part) v.tree now.tree → AreKeysBegun count (sets v) (sets now) → IsAt b new (t ++ n.bytes) n.next → IsEndingAt now b new (t ++ n.bytes) (height + count)) → IsPartTaken part
+        → trees.standing now.tree ≡ values_with part (trees.standing v.tree) → AreKeysBegun count (sets v) (sets now) → IsAt b new (t ++ n.bytes) n.next → IsEndingAt now b new (t ++ n.bytes) (height + count)) → IsPartTaken part
     head-taken part still keeps leads =
         let at = subst (λ (z : ItemEventsView). IsAt b z (t ++ n.bytes) n.next) (sym still.events) n.at in
         record {
@@ -224,7 +224,7 @@ module _ (v : PlainItems) (b : Bounds) (e : ItemEventsView) (t : List ℕ) (d : 
         (keeps_due b plain d.ls d.levels n.bytes (subst (λ (i : ℕ). Begins (b.depth - i) n.bytes) (length-map d.ls frame) begun.0) begun.1 (first-kind item) (due-keeps v b e t d)) in
         head-taken (Begin m k) r.1 keeps
         (λ now height place count same same_place starts same_kinds given step keys at.
-        let l = opens-by v.builder.order b d.ls d.levels now.starts.items (begun-so now height place same same_place starts same_kinds) (here-so now height place same same_place starts same_kinds) t n.bytes after ev.width d.taken ev.kind m k came r.0 in
+        let l = opens-by v.builder.order b d.ls d.levels now.starts.items (begun-so now height place same same_place starts same_kinds) (here-so now height place same same_place starts same_kinds) t n.bytes after ev.width ev.kind m k came r.0 in
         let one : suc (length d.ls) ≡ length d.ls + count = omega (arith, given.1) in
         placed-ending now height place same same_place starts same_kinds (Begin m k) (trees.opened m k ∷ level_values d.ls) refl step n.bytes n.next (opened m k ∷ v.builder.standing) count at
         (subst (λ (h : ℕ). IsPlaced v.builder.order b.depth (bytes_before d.ls ++ n.bytes) n.next (opened m k ∷ v.builder.standing) h now.starts.items (trees.opened m k ∷ level_values d.ls)) one
@@ -266,14 +266,11 @@ module _ (v : PlainItems) (b : Bounds) (e : ItemEventsView) (t : List ℕ) (d : 
     part-fits (Begin m k) r = (begins-container ev.kind m k r.0, takes-part)
     part-fits Break r = tt
 
-    pub part-fits-tree : (part : Part) → ReadsPart b gs t n.bytes ev.kind after new mid to part → TakesTreePart part v.tree
-    part-fits-tree part r = tree-takes part v.tree d.ls (fits part r) d.tree
-      where
-        fits : (p : Part) → ReadsPart b gs t n.bytes ev.kind after new mid to p → IsForTree p
-        fits (Leaf m k) h = h.0
-        fits (String is_text content) h = h.0
-        fits (Begin m k) h = begins-container ev.kind m k h.0
-        fits Break h = tt
+    pub part-fits-tree : (part : Part) → ReadsPart b gs t n.bytes ev.kind after new mid to part → IsForTree part
+    part-fits-tree (Leaf m k) r = r.0
+    part-fits-tree (String is_text content) r = r.0
+    part-fits-tree (Begin m k) r = begins-container ev.kind m k r.0
+    part-fits-tree Break r = tt
 
     -- memory is refused behind it
     pub part-no-memory : (part : Part) → IsPartTaken part → (f : Refusal) → f.reason ≡ Memory → f.place ≡ f.read → f.read ≡ new.machine.taken → IsStopped plain b t from to f

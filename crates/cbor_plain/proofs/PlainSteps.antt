@@ -4,11 +4,10 @@ use Rattle.std.specs.Io.KnownBytes.{Consumes}
 use Rattle.std.proofs.KnownBytes.{Consumes-nil, Consumes-trans}
 use Rattle.std.specs.Prelude.{IsSome}
 use Rattle.std.proofs.lemmas.List.{length-append}
-use Rattle.cbor_head.specs.Canonical.{canonical}
 use Rattle.cbor_head.specs.Limits.{Bounds, AreBounds}
 use Rattle.cbor_head.specs.Spelling.{spell, value_of}
 use Rattle.cbor_head.specs.Complaint.{plain}
-use Rattle.cbor_head.specs.declared.order.KeyOrder.{KeyOrder}
+use Rattle.cbor_head.specs.declared.order.KeyOrder.TheVariants.{Bytewise}
 use Rattle.cbor_head.specs.declared.reason.Refusal.{Refusal}
 use Rattle.cbor_standing.specs.NextEvent.{ItemEventsView}
 use Rattle.cbor_judging.specs.Place.{at_item, done as at_end}
@@ -19,8 +18,8 @@ use Rattle.cbor_judging.specs.Kinds.{KeepsToKinds}
 use Rattle.cbor_judging.specs.Levels.{item_due}
 use Rattle.cbor_judging.specs.Readers.{IsUnread}
 use Rattle.cbor_judging.specs.Reading.{Extends, StopsItem, IsFrontUnread, IsAt}
-use Rattle.cbor_plain.specs.Front.{IsEncodedFront, IsFrontRead}
-use Rattle.cbor_plain.specs.inner.PlainFront.{EndInOtherKey, WhyStopped, for_memory, for_cause, for_kind, IsStopped, IsDueAt, IsWholeAt, TakesNext}
+use Rattle.cbor_plain.specs.Front.{IsFrontRead}
+use Rattle.cbor_plain.specs.inner.ItemFront.{EndInOtherKey, WhyStopped, for_memory, for_cause, for_kind, IsStopped, IsDueAt, IsWholeAt, TakesNext}
 use Rattle.cbor_plain.specs.inner.PlainItems.{AreApart, sets}
 use Rattle.cbor_plain.proofs.Fronts.{front-read}
 use Rattle.cbor_plain.proofs.PartKinds.{known-on}
@@ -36,15 +35,13 @@ use Rattle.cbor_judging.proofs.Steps.{farther}
 -- ---- from part to part
 
 -- some parts were taken, and an item is due
-pub record TakesSoFar (old v : PlainItems) (b : Bounds) (e : ItemEventsView) (t : List ℕ) (from now : Option (List ℕ)) : Type 0 where
+pub record TakesSoFar (v : PlainItems) (b : Bounds) (e : ItemEventsView) (t : List ℕ) (from now : Option (List ℕ)) : Type 0 where
   pub bytes : List ℕ
   pub consumed : Consumes from now bytes
-  pub order : v.builder.order ≡ old.builder.order
-  pub kept : IsSome old.tree → IsSome v.tree
   pub due : IsDueAt v b e (t ++ bytes)
 
-pub takes-none : (v : PlainItems) (b : Bounds) (e : ItemEventsView) (t : List ℕ) (from : Option (List ℕ)) → IsDueAt v b e t → TakesSoFar v v b e t from from
-takes-none v b e t from d = record { bytes = []; consumed = Consumes-nil from; order = refl; kept = λ h. h; due = subst (IsDueAt v b e) (sym (append-nil t)) d }
+pub takes-none : (v : PlainItems) (b : Bounds) (e : ItemEventsView) (t : List ℕ) (from : Option (List ℕ)) → IsDueAt v b e t → TakesSoFar v b e t from from
+takes-none v b e t from d = record { bytes = []; consumed = Consumes-nil from; due = subst (IsDueAt v b e) (sym (append-nil t)) d }
 
 -- what was known before is known now
 pub stopped-from : (b : Bounds) (bytes : List ℕ) (from now to : Option (List ℕ)) (f : Refusal) → (IsSome from → IsSome now) → WhyStopped plain b bytes now to f → WhyStopped plain b bytes from to f
@@ -52,27 +49,23 @@ stopped-from b bytes from now to f known (for_memory m l u keeps) = for_memory m
 stopped-from b bytes from now to f known (for_cause h keeps) = for_cause h (λ some. keeps (known some))
 stopped-from b bytes from now to f known (for_kind k) = for_kind k
 
-module _ (old v new : PlainItems) (b : Bounds) (e after : ItemEventsView) (t : List ℕ) (from now to : Option (List ℕ)) (h : TakesSoFar old v b e t from now) where
-  pub takes-on : TakesNext true v new b after (t ++ h.bytes) now to → TakesSoFar old new b after t from to
+module _ (v new : PlainItems) (b : Bounds) (e after : ItemEventsView) (t : List ℕ) (from now to : Option (List ℕ)) (h : TakesSoFar v b e t from now) where
+  pub takes-on : TakesNext true new b after (t ++ h.bytes) now to → TakesSoFar new b after t from to
   takes-on g = record {
     bytes = h.bytes ++ g.bytes;
     consumed = Consumes-trans from now to h.bytes g.bytes h.consumed g.consumed;
-    order = g.order ∙ h.order;
-    kept = λ some. g.kept (h.kept some);
     due = subst (IsDueAt new b after) (append_assoc t h.bytes g.bytes) g.stands;
   }
 
-  pub takes-farther : TakesNext true v new b after (t ++ h.bytes) now to → after.machine.bytes - after.machine.taken < e.machine.bytes - e.machine.taken
+  pub takes-farther : TakesNext true new b after (t ++ h.bytes) now to → after.machine.bytes - after.machine.taken < e.machine.bytes - e.machine.taken
   takes-farther g = farther b e after (t ++ h.bytes) ((t ++ h.bytes) ++ g.bytes) _ _ h.due.at g.stands.at (omega (arith, g.some, length-append (t ++ h.bytes) g.bytes))
 
   -- the last part
-  pub takes-all : TakesNext false v new b after (t ++ h.bytes) now to → TakesNext false old new b after t from to
+  pub takes-all : TakesNext false new b after (t ++ h.bytes) now to → TakesNext false new b after t from to
   takes-all g = record {
     bytes = h.bytes ++ g.bytes;
     some = omega (arith, g.some, length-append h.bytes g.bytes);
     consumed = Consumes-trans from now to h.bytes g.bytes h.consumed g.consumed;
-    order = g.order ∙ h.order;
-    kept = λ some. g.kept (h.kept some);
     stands = subst (IsWholeAt new b after) (append_assoc t h.bytes g.bytes) g.stands;
   }
 
@@ -89,9 +82,9 @@ module _ (old v new : PlainItems) (b : Bounds) (e after : ItemEventsView) (t : L
 -- ---- the whole item
 
 -- before the first part
-pub due-first : (o : KeyOrder) (v : PlainItems) (b : Bounds) (e : ItemEventsView) → v.builder ≡ built o (a_plain [] ∷ []) → IsTreeAt v.tree (item_due []) → AreHeld (sets v) (a_plain [] ∷ []) → v.kinds ≡ b.keys → IsAt b e [] (at_item [])
+pub due-first : (v : PlainItems) (b : Bounds) (e : ItemEventsView) → v.builder ≡ built Bytewise (a_plain [] ∷ []) → IsTreeAt v.tree (item_due []) → AreHeld (sets v) (a_plain [] ∷ []) → v.kinds ≡ b.keys → IsAt b e [] (at_item [])
     → IsDueAt v b e []
-due-first o v b e is tree held asked at =
+due-first v b e is tree held asked at =
     let standing = ap (λ (g : Built). g.standing) is in
     record {
       ls = [];
@@ -107,9 +100,9 @@ due-first o v b e is tree held asked at =
       keeps = keeps_start b plain;
     }
 
-pub front-whole : (old v : PlainItems) (b : Bounds) (new : ItemEventsView) (from to : Option (List ℕ)) (count : ℕ) → AreBounds b → (g : TakesNext false old v b new [] from to) → count ≡ new.machine.taken
+pub front-whole : (v : PlainItems) (b : Bounds) (new : ItemEventsView) (from to : Option (List ℕ)) (count : ℕ) → AreBounds b → (g : TakesNext false v b new [] from to) → count ≡ new.machine.taken
     → IsFrontRead plain b from to (value_of g.stands.item) count
-front-whole old v b new from to count l g c =
+front-whole v b new from to count l g c =
     let x = g.stands in
     front-read b from to new (value_of x.item) count l
     (record {
@@ -122,16 +115,6 @@ front-whole old v b new from to count l g c =
       at = at-as b new g.bytes (spell x.item) at_end at_end x.taken refl x.at;
     })
     (subst (KeepsToKinds b plain) x.taken x.keeps) c
-
-pub front-encoded : (o : KeyOrder) (old v : PlainItems) (b : Bounds) (new : ItemEventsView) (from to : Option (List ℕ)) (out : List ℕ) (count : ℕ) → AreBounds b → old.builder ≡ built o (a_plain [] ∷ []) → TakesNext false old v b new [] from to
-    → ((bs : List ℕ) → v.builder.standing ≡ a_plain bs ∷ [] → out ≡ bs) → count ≡ new.machine.taken → IsEncodedFront b o from to out count
-front-encoded o old v b new from to out count l is g out_is c =
-    let x = g.stands in
-    record {
-      value = value_of x.item;
-      read = front-whole old v b new from to count l g c;
-      canonical_is = out_is _ x.standing ∙ ap (λ (p : KeyOrder). canonical p (value_of x.item)) (g.order ∙ ap (λ (y : Built). y.order) is);
-    }
 
 module _ (b : Bounds) (from to : Option (List ℕ)) (f : Refusal) where
   -- whichever bytes are known

@@ -1,17 +1,14 @@
 -- A tree builder that is given the parts of an item: what each does to the values that it holds.
-use Rattle.std.proofs.Common.{◌≡◌, zero, suc, List, [], ◌∷◌, ◌++◌, Option, Some, None, refl, sym, ap, ◌∙◌, subst}
-use Rattle.std.proofs.lemmas.Bool.{false≢true}
-use Rattle.std.specs.Prelude.{IsSome}
+use Rattle.std.proofs.Common.{◌≡◌, zero, suc, List, [], ◌∷◌, ◌++◌, refl, sym, ap, ◌∙◌, subst}
 use Rattle.cbor_head.specs.Spelling.{Spelling, Spellings, SpelledEntries, unsigned, negative, bytes, text, byte_chunks, text_chunks, array, a_map, tag, simple, no_spellings, a_spelling, no_entries, entry, value_of, values_of, entries_of}
 use Rattle.cbor_head.specs.Value as value
 use Rattle.cbor_head.specs.Value.{Value}
 use Rattle.cbor_item.specs.View as view
 use Rattle.cbor_item.specs.OpenValues as parts
-use Rattle.cbor_item.specs.OpenValues.{OpenItem, OpenValue, standing, the_whole, an_array, give, closed, close, TakesValue, MayEnd, CanEnd, CanHold, IsWhole}
+use Rattle.cbor_item.specs.OpenValues.{OpenItem, OpenValue, standing, an_array, give, closed, close, TakesValue, MayEnd, CanEnd, CanHold, IsWhole}
 use Rattle.cbor_judging.specs.Frame.{with_all, with_entries}
 use Rattle.cbor_judging.specs.Levels.{Level, a_member, a_key, a_value, some_member, some_key, some_value, tagged, Standing, item_due, item_full, item_whole, settle}
-use Rattle.cbor_plain.specs.declared.plain_part.Part.{Part}
-use Rattle.cbor_plain.specs.TreeValues.{member_values, pair_values, level_value, level_values, full_value, values_at, IsContainer, IsFullRight, IsTreeAt, IsTreeStep, IsForTree, TakesTreePart, MayEndIn, IsWholeIn}
+use Rattle.cbor_plain.specs.TreeValues.{member_values, pair_values, level_value, level_values, full_value, values_at, IsContainer, IsFullRight, IsTreeAt}
 
 -- ---- members and pairs
 
@@ -58,11 +55,8 @@ settles-right (some_value done k ∷ ls) s = tt
 settles-right (tagged w n ∷ ls) s = tt
 
 -- from one place to another
-pub tree-step : (f : List OpenValue → List OpenValue) (old new : Option (List OpenItem)) (x y : Standing) → IsTreeAt old x → IsTreeStep f old new → f (values_at x) ≡ values_at y → IsFullRight y → IsTreeAt new y
-tree-step f None None x y h step is right = tt
-tree-step f None (Some ns) x y h step is right = absurd step
-tree-step f (Some os) None x y h step is right = absurd step
-tree-step f (Some os) (Some ns) x y h step is right = (right, step ∙ ap f h.1 ∙ is)
+pub tree-step : (f : List OpenValue → List OpenValue) (old new : List OpenItem) (x y : Standing) → IsTreeAt old x → standing new ≡ f (standing old) → f (values_at x) ≡ values_at y → IsFullRight y → IsTreeAt new y
+tree-step f old new x y h step is right = (right, step ∙ ap f h.1 ∙ is)
 
 -- ---- a container ends
 
@@ -108,31 +102,14 @@ may-end c [] h = (h, refl)
 may-end c (l ∷ ls) h = (h, level-holds l)
 
 -- a part may begin
-pub tree-takes : (part : Part) (tree : Option (List OpenItem)) (ls : List Level) → IsForTree part → IsTreeAt tree (item_due ls) → TakesTreePart part tree
-tree-takes part None ls fits h = tt
-tree-takes part (Some os) ls fits h = (fits, subst TakesValue (sym h.1) (levels-take ls))
+pub tree-takes : (os : List OpenItem) (ls : List Level) → IsTreeAt os (item_due ls) → TakesValue (standing os)
+tree-takes os ls h = subst TakesValue (sym h.1) (levels-take ls)
 
-pub tree-may-end : (tree : Option (List OpenItem)) (ls : List Level) (s : Spelling) → IsTreeAt tree (item_full ls s) → MayEndIn tree
-tree-may-end None ls s h = tt
-tree-may-end (Some os) ls s h = subst MayEnd (sym h.1) (may-end (full_value s) ls (full-ends s h.0))
+pub tree-may-end : (os : List OpenItem) (ls : List Level) (s : Spelling) → IsTreeAt os (item_full ls s) → MayEnd (standing os)
+tree-may-end os ls s h = subst MayEnd (sym h.1) (may-end (full_value s) ls (full-ends s h.0))
 
 pub values-ended : (ls : List Level) (s : Spelling) → close (values_at (item_full ls s)) ≡ values_at (settle ls s)
 values-ended ls s = ap (λ (v : Value). give v (level_values ls)) (full-closed s) ∙ values-given ls s
 
-pub step-kept : (f : List OpenValue → List OpenValue) (old new : Option (List OpenItem)) → IsTreeStep f old new → IsSome old → IsSome new
-step-kept f None None step some = some
-step-kept f None (Some ns) step some = absurd step
-step-kept f (Some os) None step some = absurd step
-step-kept f (Some os) (Some ns) step some = refl
-
-pub whole-in : (tree : Option (List OpenItem)) (s : Spelling) → IsSome tree → IsTreeAt tree (item_whole s) → IsWholeIn tree
-whole-in None s some h = absurd (false≢true some)
-whole-in (Some os) s some h = subst IsWhole (sym h.1) tt
-
--- no item is asked for
-pub no-tree : (tree : Option (List OpenItem)) (x : Standing) → tree ≡ None → IsTreeAt tree x
-no-tree tree x e = subst (λ (o : Option (List OpenItem)). IsTreeAt o x) (sym e) tt
-
--- one is asked for, of which nothing came
-pub new-tree : (tree : Option (List OpenItem)) (os : List OpenItem) → tree ≡ Some os → standing os ≡ the_whole [] ∷ [] → IsTreeAt tree (item_due [])
-new-tree tree os e h = subst (λ (o : Option (List OpenItem)). IsTreeAt o (item_due [])) (sym e) (tt, h)
+pub whole-in : (os : List OpenItem) (s : Spelling) → IsTreeAt os (item_whole s) → IsWhole (standing os)
+whole-in os s h = subst IsWhole (sym h.1) tt

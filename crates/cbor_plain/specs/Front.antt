@@ -1,11 +1,9 @@
 -- What is told of the item at the front of an input.
-use Rattle.std.specs.Prelude.{ℕ, ◌≡◌, ◌≤◌, List, Option, IfSome}
-use Rattle.cbor_head.specs.Canonical.{canonical}
-use Rattle.cbor_head.specs.Complaint.{Rules, plain}
+use Rattle.std.specs.Prelude.{ℕ, ◌≤◌, List, Option, IfSome}
+use Rattle.cbor_head.specs.Complaint.{Rules}
 use Rattle.cbor_head.specs.Limits.{Bounds}
 use Rattle.cbor_head.specs.Value.{Value, IsInRange, IsValid, depth}
 use Rattle.cbor_head.specs.declared.limits.TheConstants.{MAX_DEPTH}
-use Rattle.cbor_head.specs.declared.order.KeyOrder.{KeyOrder}
 use Rattle.cbor_judging.specs.Readers.{IsReadAs, Loses}
 use Rattle.cbor_plain.specs.Size.{size}
 
@@ -21,9 +19,3 @@ pub record IsFrontRead (r : Rules) (b : Bounds) (from to : Option (List ℕ)) (v
   pub taken : Loses count from to
   pub bounded : size v ≤ count
   pub sound : HasCanonicalBytes v
-
--- the item was read by the plain rules, and these are its canonical bytes
-pub record IsEncodedFront (b : Bounds) (o : KeyOrder) (from to : Option (List ℕ)) (out : List ℕ) (count : ℕ) : Type 0 where
-  pub value : Value
-  pub read : IsFrontRead plain b from to value count
-  pub canonical_is : out ≡ canonical o value

@@ -1,10 +1,10 @@
 -- What a tree builder holds where a reader of events stands.
-use Rattle.std.specs.Prelude.{◌≡◌, true, List, [], ◌∷◌, Option, Some, None, IsUtf8}
+use Rattle.std.specs.Prelude.{◌≡◌, true, List, [], ◌∷◌, IsUtf8}
 use Rattle.cbor_head.specs.Spelling.{Spelling, Spellings, SpelledEntries, array, a_map, tag, no_spellings, a_spelling, no_entries, entry, value_of}
 use Rattle.cbor_head.specs.Value.{Value}
 use Rattle.cbor_item.specs.OpenValues as parts
 use Rattle.cbor_builder.specs.Built.{IsContainer as IsOpener}
-use Rattle.cbor_item.specs.OpenValues.{OpenItem, OpenValue, the_whole, an_array, a_tag, standing, give, opened, TakesValue, MayEnd, IsWhole}
+use Rattle.cbor_item.specs.OpenValues.{OpenItem, OpenValue, the_whole, an_array, a_tag, standing, give, opened}
 use Rattle.cbor_judging.specs.Levels.{Level, a_member, a_key, a_value, some_member, some_key, some_value, tagged, Standing, item_due, item_full, item_whole}
 use Rattle.cbor_plain.specs.declared.plain_part.Part.{Part}
 use Rattle.cbor_plain.specs.declared.plain_part.Part.TheVariants.{Leaf, String, Begin, Break}
@@ -56,16 +56,9 @@ abbrev pub IsFullRight : Standing → Type 0
 IsFullRight (item_full ls s) = IsContainer s
 IsFullRight st = Unit {0}
 
--- the tree builder stands there too, if there is one
-abbrev pub IsTreeAt : Option (List OpenItem) → Standing → Type 0
-IsTreeAt None st = Unit {0}
-IsTreeAt (Some os) st = IsFullRight st × (standing os ≡ values_at st)
-
--- from one to the other these were given
-abbrev pub IsTreeStep : (List OpenValue → List OpenValue) → Option (List OpenItem) → Option (List OpenItem) → Type 0
-IsTreeStep f None None = Unit {0}
-IsTreeStep f (Some os) (Some ns) = standing ns ≡ f (standing os)
-IsTreeStep f _ _ = ⊥
+-- the tree builder stands there too
+abbrev pub IsTreeAt : List OpenItem → Standing → Type 0
+IsTreeAt os st = IsFullRight st × (standing os ≡ values_at st)
 
 -- ---- parts
 
@@ -76,23 +69,9 @@ IsForTree (String is_text content) = is_text ≡ true → IsUtf8 content.items
 IsForTree (Begin m n) = IsOpener m
 IsForTree Break = Unit {0}
 
-abbrev pub TakesTreePart : Part → Option (List OpenItem) → Type 0
-TakesTreePart part None = Unit {0}
-TakesTreePart part (Some os) = IsForTree part × TakesValue (standing os)
-
 -- with it
 abbrev pub values_with : Part → List OpenValue → List OpenValue
 values_with (Leaf m n) os = give (leaf_value m n) os
 values_with (String is_text content) os = give (string_value is_text content.items) os
 values_with (Begin m n) os = opened m n ∷ os
 values_with Break os = os
-
--- what is innermost may end
-abbrev pub MayEndIn : Option (List OpenItem) → Type 0
-MayEndIn None = Unit {0}
-MayEndIn (Some os) = MayEnd (standing os)
-
--- the item is asked for, and complete
-abbrev pub IsWholeIn : Option (List OpenItem) → Type 0
-IsWholeIn None = ⊥
-IsWholeIn (Some os) = IsWhole (standing os)

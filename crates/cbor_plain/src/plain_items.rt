@@ -5,20 +5,20 @@ ghost use Rattle.std.specs.Prelude.{take, ◌++◌, OnOk, MatchOption, Option};
 ghost use Rattle.cbor_builder.specs.Built.{built, IsRepeatedKey};
 ghost use Rattle.cbor_canonical.specs.Parts.{plain};
 ghost use Rattle.cbor_head.specs.Spelling.{Spelling, value_of};
+ghost use Rattle.cbor_item.specs.OpenValues.{IsWhole, TakesValue, standing};
 ghost use Rattle.cbor_item.specs.View.{view};
 ghost use Rattle.cbor_judging.specs.Levels.{item_due, item_whole};
-ghost use Rattle.cbor_plain.specs.TreeValues.{IsTreeAt, IsTreeStep, IsWholeIn, TakesTreePart};
-ghost use Rattle.cbor_plain.specs.TreeValues.{values_with};
+ghost use Rattle.cbor_plain.specs.TreeValues.{IsForTree, IsTreeAt, values_with};
 ghost use Rattle.cbor_plain.specs.declared.key_set.KeySet.{KeySet as KeySetView};
 ghost use Rattle.cbor_plain.specs.inner.HeldKeys.{AreHeld};
 ghost use Rattle.cbor_plain.specs.inner.PlainItems.{CanTake, IsGiven, IsEnding, AnswersEnds};
 ghost use Rattle.cbor_plain.specs.inner.PlainItems.{sets, AreKeysBegun, AreKeysOpened, AnswersKey};
-ghost use Rattle.cbor_plain.specs.inner.PlainFront.{IsDueSomewhere, AnswersDue};
+ghost use Rattle.cbor_plain.specs.inner.ItemFront.{IsDueSomewhere, AnswersDue};
 
 use crate::key_set::KeySet;
 use crate::next_head::next_head;
 use crate::plain_part::Part;
-use crate::tree_parts::{end_in_tree, give_to_tree};
+use crate::tree_parts::give_to_tree;
 use cbor_automaton::Event;
 use cbor_builder::CanonBuilder;
 use cbor_events::ItemEvents;
@@ -28,12 +28,13 @@ use std::alloc::{AllocError, Global};
 use std::io::Read;
 use std::mem;
 
-/// The canonical bytes of what came, and where each open item began.
+/// What came of an item, and where each open item began.
 #[derive(Drop)]
 pub(crate) struct PlainItems {
+    // Its canonical bytes, by which equal keys are found.
     builder: CanonBuilder,
-    // The item itself, where it is asked for.
-    tree: Option<TreeBuilder>,
+    // The item itself.
+    tree: TreeBuilder,
     // Which kinds of keys maps may have.
     kinds: Keys,
     // At the number of containers around it, where the last item began that came there.
@@ -44,21 +45,16 @@ pub(crate) struct PlainItems {
 }
 
 impl PlainItems {
-    // Nothing came; with a builder of trees the item is to be made too.
-    pub(crate) fn new(
-        alloc: Global,
-        order: KeyOrder,
-        kinds: Keys,
-        tree: Option<TreeBuilder>,
-    ) -> PlainItems
-        ensures built { result.builder ≡ built order (plain [] ∷ []) }
+    // Nothing came.
+    pub(crate) fn new(alloc: Global, kinds: Keys) -> PlainItems
+        ensures built { result.builder ≡ built KeyOrder.Bytewise (plain [] ∷ []) }
         ensures held { AreHeld (sets result) (plain [] ∷ []) }
-        ensures tree { result.tree ≡ tree }
+        ensures tree { IsTreeAt result.tree (item_due []) }
         ensures kinds { result.kinds ≡ kinds }
     {
         PlainItems {
-            builder: CanonBuilder::new(alloc, order),
-            tree,
+            builder: CanonBuilder::new(alloc, KeyOrder::Bytewise),
+            tree: TreeBuilder::new(alloc),
             kinds,
             starts: Vec::new(alloc),
             keys: KeySet::new(alloc),
@@ -101,12 +97,14 @@ impl PlainItems {
         part: Part,
     ) -> Result<usize, AllocError>
         requires bytes { CanTake self.old.builder part }
-        requires tree { TakesTreePart part self.old.tree }
+        requires fits { IsForTree part }
+        requires tree { TakesValue (standing self.old.tree) }
         ensures starts { OnOk result
             (self.new.starts.items ≡ take height self.old.starts.items ++ place ∷ []) }
         ensures kinds { self.new.kinds ≡ self.old.kinds }
         ensures given { IfOk result (λ opened. IsGiven self.old.builder part self.new.builder opened) }
-        ensures tree { IfOk result (λ _. IsTreeStep (values_with part) self.old.tree self.new.tree) }
+        ensures tree { OnOk result
+            (standing self.new.tree ≡ values_with part (standing self.old.tree)) }
         ensures sets { IfOk result (λ opened. AreKeysBegun opened (sets self.old) (sets self.new)) }
     {
         self.starts.truncate(height);
@@ -143,7 +141,7 @@ impl PlainItems {
         let mut left = height;
         'full: while left > open {
             self.builder.end()?;
-            end_in_tree(&mut self.tree)?;
+            self.tree.end()?;
             self.end_keys();
             left -= 1;
         }
@@ -167,24 +165,9 @@ impl PlainItems {
         Ok(Some(self.starts.get(open).copied().unwrap_or(0)))
     }
 
-    // The canonical bytes of the item, which is whole.
-    pub(crate) fn finish(self) -> Vec<u8>
-        ensures { (bs : List ℕ) → self.builder.standing ≡ plain bs ∷ [] → result.items ≡ bs }
-    {
-        let PlainItems {
-            builder,
-            tree: _,
-            kinds: _,
-            starts: _,
-            keys: _,
-            outer: _,
-        } = self;
-        builder.finish()
-    }
-
     // The item, which is whole.
     pub(crate) fn into_item(self) -> Item
-        requires { IsWholeIn self.tree }
+        requires { IsWhole (standing self.tree) }
         ensures { (s : Spelling) → IsTreeAt self.tree (item_whole s) → view result ≡ value_of s }
     {
         let PlainItems {
@@ -195,10 +178,7 @@ impl PlainItems {
             keys: _,
             outer: _,
         } = self;
-        match tree {
-            Some(tree) => tree.finish(),
-            None => unreachable!(),
-        }
+        tree.finish()
     }
 }
 

@@ -1,10 +1,10 @@
-//! The parts of an item, given to a builder of trees where the item itself is asked for.
+//! The parts of an item, given to a builder of trees.
 
 ghost use Rattle.std.specs.Prelude.{◌≡◌, OnOk};
-ghost use Rattle.cbor_item.specs.OpenValues.{close};
+ghost use Rattle.cbor_item.specs.OpenValues.{TakesValue, standing};
 ghost use Rattle.cbor_item.specs.View.{view};
 ghost use Rattle.cbor_plain.specs.inner.PlainParts.{IsLeafMajor, leaf_value};
-ghost use Rattle.cbor_plain.specs.TreeValues.{IsTreeStep, TakesTreePart, MayEndIn, values_with};
+ghost use Rattle.cbor_plain.specs.TreeValues.{IsForTree, values_with};
 
 use crate::plain_part::Part;
 use cbor_head::{Major, Simple};
@@ -12,13 +12,11 @@ use cbor_item::{Item, TreeBuilder};
 use std::alloc::AllocError;
 
 // One part more. The bytes of a string move into the tree.
-pub(crate) fn give_to_tree(tree: &mut Option<TreeBuilder>, part: Part) -> Result<(), AllocError>
-    requires { TakesTreePart part tree.old }
-    ensures { OnOk result (IsTreeStep (values_with part) tree.old tree.new) }
+pub(crate) fn give_to_tree(tree: &mut TreeBuilder, part: Part) -> Result<(), AllocError>
+    requires fits { IsForTree part }
+    requires tree { TakesValue (standing tree.old) }
+    ensures { OnOk result (standing tree.new ≡ values_with part (standing tree.old)) }
 {
-    let Some(tree) = tree else {
-        return Ok(());
-    };
     match part {
         Part::Leaf(major, argument) => tree.leaf(leaf_item(major, argument)),
         Part::String(true, content) => {
@@ -29,17 +27,6 @@ pub(crate) fn give_to_tree(tree: &mut Option<TreeBuilder>, part: Part) -> Result
         Part::String(false, content) => tree.leaf(Item::Bytes(content)),
         Part::Begin(major, number) => tree.begin(major, number),
         Part::Break => Ok(()),
-    }
-}
-
-// The innermost container ends.
-pub(crate) fn end_in_tree(tree: &mut Option<TreeBuilder>) -> Result<(), AllocError>
-    requires { MayEndIn tree.old }
-    ensures { OnOk result (IsTreeStep close tree.old tree.new) }
-{
-    match tree {
-        Some(tree) => tree.end(),
-        None => Ok(()),
     }
 }
 

@@ -1,5 +1,5 @@
 -- Whole inputs: from what is read of one to the item that it is, or the refusal; and from that to what `canonicalise` answers.
-use Rattle.std.proofs.Common.{ℕ, ◌<◌, arith, ◌≡◌, ◌≢◌, ◌≤◌, Option, Some, List, length, refl, sym, ap, ◌∙◌, subst}
+use Rattle.std.proofs.Common.{ℕ, ◌<◌, arith, ◌≡◌, ◌≢◌, ◌≤◌, List, length, refl, sym, ap, ◌∙◌, subst}
 use Rattle.std.specs.Prelude.{◌↔◌}
 use Rattle.cbor_head.specs.Canonical.{canonical}
 use Rattle.cbor_head.specs.Limits.{Bounds}
@@ -17,25 +17,14 @@ use Rattle.cbor_reader.specs.Canonicalise.{IsCanonicalOf, IsRefusal}
 use Rattle.cbor_reader.specs.Headline.{IsValidItem}
 use Rattle.cbor_judging.specs.Refusals.{IsFreeBefore}
 use Rattle.cbor_reader.specs.WholeItem.{IsWholeItem, IsItemRefusal, unread, trailing}
-use Rattle.cbor_sinks.specs.BuiltFront.{IsBuiltFront}
-use Rattle.cbor_plain.specs.Front.{IsEncodedFront}
 use Rattle.cbor_judging.proofs.Accepted.{item_is_whole, one_item, not_both}
-use Rattle.cbor_judging.proofs.FreeBefore.{truncated-free}
 use Rattle.cbor_reader.proofs.Headline.{valid_item, valid_item_accepted, answers_exactly}
 use Rattle.cbor_grammar.proofs.ReadLaws.{one_list}
 use Rattle.cbor_reader.proofs.ViewFronts.{memory_behind}
 use Rattle.cbor_reader.proofs.OneAnswer.{one_answer}
 use Rattle.cbor_judging.proofs.Reasons.{never-read}
 
--- ---- a refusal by a slice
-
--- memory was refused within the longest beginning
-pub given-up-unread : (limits : Bounds) (input : List ℕ) (f g : Refusal) → IsUnread limits plain input f → f.reason ≡ Read → g ≡ refusal Memory f.read f.read → IsUnread limits plain input g
-given-up-unread limits input f g (of_verdict w) e is = absurd (never-read limits plain input f w e)
-given-up-unread limits input f g (of_reader p l m h w) e is = subst (IsUnread limits plain input) (sym is) (of_memory p l m refl (truncated-free limits f.read plain input p l m w))
-given-up-unread limits input f g (of_memory p l m h x) e is = subst (IsUnread limits plain input) (sym is) (of_memory p l m refl x)
-
--- ---- an item that is read, or was built
+-- ---- an item that is read
 
 module _ (limits : Bounds) (input : List ℕ) (size : ℕ) (a : IsRead limits plain input size) where
   -- a byte follows it
@@ -45,10 +34,6 @@ module _ (limits : Bounds) (input : List ℕ) (size : ℕ) (a : IsRead limits pl
   -- none does
   pub all-of-it : length input ≤ size → IsValidItem limits input a.item
   all-of-it all = valid_item limits input a.item a.verdict (item_is_whole limits plain input a.item a.verdict (omega (arith, all, a.size)))
-
--- by whichever reader
-pub built-of : (b : Bounds) (o : KeyOrder) (input out : List ℕ) (to : Option (List ℕ)) (count : ℕ) → IsEncodedFront b o (Some input) to out count → IsBuiltFront b o input out count
-built-of b o input out to count e = record { read = e.read.read.read; canonical_is = e.canonical_is ∙ ap (canonical o) e.read.read.value }
 
 -- ---- the refusal of an item, and that of its canonical bytes
 

@@ -17,8 +17,8 @@ use std::borrow::CowSlice;
 ///
 /// The refusal is the one that the bytes within the limits call for; then `Trailing`, where a byte
 /// follows the item, be it past the limit, with the item's length as place and count; then
-/// `CanonicalTooLong`, with the input's length; or `Memory`, where it was refused before, at the
-/// count of the bytes taken.
+/// `CanonicalTooLong`, with the input's length; or `Memory`, where it was refused before, with 0 or,
+/// where the answer could not be copied, the input's length as place and count.
 pub fn canonicalise(
     alloc: Global,
     bytes: &[u8],

@@ -31,8 +31,8 @@ pub enum Side {
 /// The limits hold for each input by itself, and not for canonical bytes. The refusal is that of
 /// the left input, or of the right one where the left is accepted: the one that its bytes within
 /// the limits call for; then `Trailing`, where a byte follows the item, with the item's length as
-/// place and count; or `Memory`, where it was refused before, at the count of the side's bytes
-/// taken. Canonical bytes are compared, so large maps in unlike orders take time like sorting them.
+/// place and count; or `Memory`, where it was refused before, with 0 as both. Canonical bytes are
+/// compared, so large maps in unlike orders take time like sorting them.
 pub fn same_meaning(
     alloc: Global,
     left: &[u8],
@@ -55,13 +55,17 @@ pub fn same_meaning(
         → IsCanonicalOf (with_keys (bounds limits.depth n) k) o right.now b
         → IsTrue same ↔ (a ≡ b)) }
 {
-    let left = match encoded_item(alloc, left, limits, KeyOrder::Bytewise) {
+    let left_item = match encoded_item(alloc, left, limits, KeyOrder::Bytewise) {
         Ok(bytes) => bytes,
         Err(refusal) => return Err((Side::Left, refusal)),
     };
-    let right = match encoded_item(alloc, right, limits, KeyOrder::Bytewise) {
+    // The same bytes are the same item, which is judged already.
+    if left == right {
+        return Ok(true);
+    }
+    let right_item = match encoded_item(alloc, right, limits, KeyOrder::Bytewise) {
         Ok(bytes) => bytes,
         Err(refusal) => return Err((Side::Right, refusal)),
     };
-    Ok(left.as_slice() == right.as_slice())
+    Ok(left_item.as_slice() == right_item.as_slice())
 }

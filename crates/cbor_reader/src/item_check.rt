@@ -7,11 +7,11 @@ ghost use Rattle.cbor_judging.specs.Levels.{item_due};
 ghost use Rattle.cbor_judging.specs.Readers.{IsRead, IsUnread};
 ghost use Rattle.cbor_sinks.specs.KeyBytes.{keys_stand};
 
-use crate::valid_front::read_again;
+use crate::valid_front::refusal_of;
 use cbor_head::{KeyOrder, Limits, Reason, Refusal};
 use cbor_sinks::{KeyBytes, LentKeys};
 use cbor_strict::check_canonical;
-use cbor_walk::{Stop, give_front};
+use cbor_walk::give_front;
 use std::alloc::Global;
 
 // Behind an item that is valid and not canonical, so many are not looked at as canonical bytes first.
@@ -75,11 +75,7 @@ pub(crate) fn size_by_keys(
 {
     match give_front(LentKeys::of(alloc, keys), bytes, limits) {
         Ok((_, size)) => Ok(size),
-        Err(Stop::Refused(refusal)) => Err(refusal),
-        Err(Stop::Unsaid) => match read_again(alloc, bytes, limits, KeyOrder::Bytewise) {
-            Ok(front) => Ok(front.size),
-            Err(refusal) => Err(refusal),
-        },
+        Err(stop) => Err(refusal_of(alloc, bytes, limits, stop)),
     }
 }
 

@@ -6,10 +6,10 @@ ghost use Rattle.cbor_head.specs.declared.reason.Reason.TheVariants as reasons;
 ghost use Rattle.cbor_judging.specs.Readers.{IsUnread};
 ghost use Rattle.cbor_judging.specs.Refusals.{IsReaderReason};
 ghost use Rattle.cbor_sinks.specs.BuiltFront.{IsBuiltFront};
+ghost use Rattle.cbor_walk.specs.Front.{IsStop};
 
 use cbor_head::{KeyOrder, Limits, Reason, Refusal};
-use cbor_plain::read_plain_front;
-use cbor_sinks::{BuiltFront, build_front};
+use cbor_sinks::{BuiltFront, build_front, repeated_key};
 use cbor_walk::Stop;
 use std::alloc::Global;
 
@@ -29,31 +29,23 @@ pub(crate) fn valid_front(
 {
     match build_front(alloc, bytes, limits, order) {
         Ok(front) => Ok(front),
-        Err(Stop::Refused(refusal)) => Err(refusal),
-        Err(Stop::Unsaid) => read_again(alloc, bytes, limits, order),
+        Err(stop) => Err(refusal_of(alloc, bytes, limits, stop)),
     }
 }
 
-// The same event by event, from the start.
-pub(crate) fn read_again(
-    alloc: Global,
-    bytes: &[u8],
-    limits: Limits,
-    order: KeyOrder,
-) -> Result<BuiltFront, Refusal>
-    ensures accepted { IfOk result (λ f.
-        IsBuiltFront limits order bytes.now f.canonical.items f.size) }
-    ensures refused { IfErr result (λ f. IsUnread limits plain bytes.now f) }
-    ensures reason { IfErr result (λ f. IsReaderReason limits plain f.reason) }
-    ensures no_read { IfErr result (λ f. f.reason ≢ reasons.Read) }
+// The refusal of an input, where a walk over it stopped so.
+#[cold]
+pub(crate) fn refusal_of(alloc: Global, bytes: &[u8], limits: Limits, stop: Stop) -> Refusal
+    requires { IsStop limits bytes.now stop }
+    ensures refused { IsUnread limits plain bytes.now result }
+    ensures reason { IsReaderReason limits plain result.reason }
+    ensures no_read { result.reason ≢ reasons.Read }
 {
-    let mut rest = bytes;
-    match read_plain_front(alloc, &mut rest, limits, order) {
-        Ok(front) => Ok(front),
-        Err(refusal) => match refusal.reason {
-            // A slice doesn't fail, though `Read` can't say so.
-            Reason::Read => Err(Refusal::at(Reason::Memory, refusal.read)),
-            _ => Err(refusal),
+    match stop {
+        Stop::Refused(refusal) => refusal,
+        Stop::Unsaid(at) => match repeated_key(alloc, bytes, limits, at) {
+            Some(refusal) => refusal,
+            None => Refusal::at(Reason::Memory, 0),
         },
     }
 }

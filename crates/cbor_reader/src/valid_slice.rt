@@ -12,7 +12,7 @@ use std::alloc::Global;
 
 /// How many bytes the well-formed, valid item has that the slice begins with (RFC 8949, sections
 /// 3 and 5.3.1); else the refusal that the bytes within the limits call for, or `Memory`, where it
-/// was refused before, at the count of the bytes taken.
+/// was refused before, with 0 as place and count.
 ///
 /// It answers as [`read_tree`](crate::read_tree) does of a reader over the slice. No tree is made;
 /// of an item that is not canonical memory is taken for the canonical bytes of keys, by which equal

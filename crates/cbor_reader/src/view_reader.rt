@@ -13,12 +13,12 @@ ghost use Rattle.cbor_plain.specs.Size.{size};
 ghost use Rattle.cbor_reader.specs.WholeItem.{IsItemRefusal};
 ghost use Rattle.cbor_view.specs.Seen.{seen};
 
-use crate::valid_front::read_again;
+use crate::valid_front::refusal_of;
 use crate::view_sink::ViewSink;
 use bumpalo::Bump;
-use cbor_head::{KeyOrder, Limits, Reason, Refusal};
+use cbor_head::{Limits, Reason, Refusal};
 use cbor_view::View;
-use cbor_walk::{Stop, give_front};
+use cbor_walk::give_front;
 use std::alloc::Global;
 
 /// The view of the well-formed, valid item that the slice begins with, and how many bytes it has
@@ -26,7 +26,7 @@ use std::alloc::Global;
 ///
 /// It answers as [`read_tree`](crate::read_tree) does of a reader over the slice, with the refusal
 /// that the bytes within the limits call for; or `Memory`, where it was refused before or the view
-/// could not be kept, at the count of the bytes taken. A string in one piece lies in the slice. All
+/// could not be kept, with 0 as place and count. A string in one piece lies in the slice. All
 /// else lies in the arena, what a refused read left there too, and is given up with it. A view has no
 /// more items, at every depth, and bytes of strings together than bytes were taken.
 pub fn read_view<'a>(
@@ -51,11 +51,7 @@ pub fn read_view<'a>(
     let _bytes = limits.bytes();
     match give_front(ViewSink::new(alloc, arena), bytes, limits) {
         Ok((sink, size)) => Ok((sink.finish(), size)),
-        Err(Stop::Refused(refusal)) => Err(refusal),
-        Err(Stop::Unsaid) => match read_again(alloc, bytes, limits, KeyOrder::Bytewise) {
-            Ok(front) => Err(Refusal::at(Reason::Memory, front.size)),
-            Err(refusal) => Err(refusal),
-        },
+        Err(stop) => Err(refusal_of(alloc, bytes, limits, stop)),
     }
 }
 

@@ -98,10 +98,10 @@ pub fit-sound : (m : MachineView) (d : ℕ) → IsShown m → IsFit d m.inner.fr
 fit-sound m d shown fit = record { shown = shown; empty = fit-empty d m.inner.frames m.inner.position fit }
 
 pub shown-before : (m : MachineView) (n : ℕ) → IsShown m → IsShown (before m n)
-shown-before m n h = record { open_count = h.open_count; due = h.due; in_payload = h.in_payload; complete = h.complete }
+shown-before m n h = record { open_count = h.open_count; due = h.due; item_due = h.item_due; in_payload = h.in_payload; complete = h.complete }
 
 pub shown-after : (m : MachineView) (n : ℕ) → IsShown (before m n) → IsShown m
-shown-after m n h = record { open_count = h.open_count; due = h.due; in_payload = h.in_payload; complete = h.complete }
+shown-after m n h = record { open_count = h.open_count; due = h.due; item_due = h.item_due; in_payload = h.in_payload; complete = h.complete }
 
 sound-before : (m : MachineView) (n : ℕ) → IsSound m → IsSound (before m n)
 sound-before m n h = record { shown = shown-before m n h.shown; empty = h.empty }

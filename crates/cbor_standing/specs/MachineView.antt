@@ -14,6 +14,8 @@ pub record MachineView : Type 0 where
   pub open_count : ℕ
   -- how many bytes more the open payload or head has; 1 where a head is due, 0 behind the item
   pub due : ℕ
+  -- the first byte of an item is due
+  pub item_due : Bool
   -- a payload is open
   pub in_payload : Bool
   -- the item is complete

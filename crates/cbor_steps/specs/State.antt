@@ -135,6 +135,11 @@ abbrev pub wanted_at : Position → ℕ
 wanted_at (Payload chunk kind left) = left + 1
 wanted_at position = head_left position
 
+-- an item is due
+abbrev pub is_at_item : Position → Bool
+is_at_item Item = Bool.true
+is_at_item _ = Bool.false
+
 -- a payload is open
 abbrev pub is_in_payload : Position → Bool
 is_in_payload (Payload chunk kind left) = Bool.true

@@ -30,7 +30,7 @@ use Rattle.cbor_judging.specs.Judged.{IsJudged}
 use Rattle.cbor_judging.specs.Kinds.{IsOfOneHead}
 use Rattle.cbor_judging.specs.Reading.{string_major}
 use Rattle.cbor_steps.specs.Whole.{IsArgument}
-use Rattle.cbor_walk.specs.inner.Building.{IsHead, chunked_from}
+use Rattle.cbor_walk.specs.inner.Parts.{IsHead, chunked_from}
 use Rattle.cbor_walk.specs.inner.Items.{IsRefusedBy, AreChunksRefused, IsStringFault}
 use Rattle.cbor_walk.specs.inner.Kept.{KeepsHere}
 use Rattle.cbor_walk.specs.inner.Path.{bytes_before}

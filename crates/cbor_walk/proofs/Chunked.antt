@@ -19,7 +19,7 @@ use Rattle.cbor_judging.specs.Judged.{Never}
 use Rattle.cbor_judging.specs.Levels.{Level, Standing, item_due}
 use Rattle.cbor_judging.specs.Reading.{string_major, string_value}
 use Rattle.cbor_walk.specs.Sink.{Told, BeginsString, IsChunkDue, GrowsString, IsItemDue}
-use Rattle.cbor_walk.specs.inner.Building.{IsHead, IsPayload, chunked_from}
+use Rattle.cbor_walk.specs.inner.Parts.{IsHead, IsPayload, chunked_from}
 use Rattle.cbor_walk.proofs.GivenItems.{IsScalar}
 
 -- The bytes are a string in chunks, of which these are read and valid, and the rest follows.

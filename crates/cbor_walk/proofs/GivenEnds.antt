@@ -15,7 +15,8 @@ use Rattle.cbor_judging.specs.Given.{opens, StandsAt}
 use Rattle.cbor_judging.specs.Levels.{IsTaken, Level, a_member, a_key, a_value, some_member, some_key, some_value, tagged, frame, AreLevels, bytes_before, Standing, item_due, item_full, settle}
 use Rattle.cbor_judging.specs.Place.{close}
 use Rattle.cbor_walk.specs.Sink.{takes_key, is_map, IsEndedAs}
-use Rattle.cbor_walk.specs.inner.Building.{pairs, counted, cell_of, cells_of, after, IsDue, HasEnded, IsToEnd, HasFilled}
+use Rattle.cbor_walk.specs.inner.Building.{IsDue, HasEnded, IsToEnd, HasFilled}
+use Rattle.cbor_walk.specs.inner.Open.{pairs, counted, cell_of, cells_of, after}
 use Rattle.cbor_walk.specs.declared.level.Due.TheVariants.{Item, Value}
 use Rattle.cbor_walk.specs.declared.open.Open.{Open}
 use Rattle.cbor_walk.proofs.GivenParts.{cells-count}

@@ -20,7 +20,8 @@ use Rattle.cbor_judging.specs.Reading.{string_major, string_value}
 use Rattle.cbor_steps.specs.Whole.{IsArgument}
 use Rattle.cbor_walk.proofs.AnyItem.{low_bits, spells}
 use Rattle.cbor_walk.specs.Sink.{leaf_value}
-use Rattle.cbor_walk.specs.inner.Building.{counted, endless, IsHead, IsOpener, IsPayload, Counts}
+use Rattle.cbor_walk.specs.inner.Open.{counted, endless}
+use Rattle.cbor_walk.specs.inner.Parts.{IsHead, IsOpener, IsPayload, Counts}
 use Rattle.cbor_walk.specs.declared.level.Due.{Due}
 use Rattle.cbor_walk.specs.declared.level.Due.TheVariants.{Item, Key, Value as ItsValue}
 

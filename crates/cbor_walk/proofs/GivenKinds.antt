@@ -21,8 +21,10 @@ use Rattle.cbor_judging.proofs.KindLevels.{keeps_closed_in}
 use Rattle.cbor_judging.proofs.KindSteps.{keeps_start}
 use Rattle.cbor_judging.proofs.Levels.{spelled-all, within-all, pairs-spelled, pairs-within}
 use Rattle.cbor_walk.specs.Sink.{IsOpened}
-use Rattle.cbor_walk.specs.inner.Building.{counted, cell_of, cells_of, IsDue, Counts, IsHead, IsOpener, IsItem, HasBegun, HasBroken, TakesFront, EndsBefore, KeepsBefore}
-use Rattle.cbor_walk.specs.inner.Kept.{IsFitFront}
+use Rattle.cbor_walk.specs.inner.Building.{IsDue}
+use Rattle.cbor_walk.specs.inner.Kept.{KeepsBefore, IsFitFront}
+use Rattle.cbor_walk.specs.inner.Open.{counted, cell_of, cells_of}
+use Rattle.cbor_walk.specs.inner.Parts.{Counts, IsHead, IsOpener, IsItem, HasBegun, HasBroken, TakesFront, EndsBefore}
 use Rattle.cbor_walk.specs.inner.Stack.{around, standing}
 use Rattle.cbor_walk.specs.declared.level.Due.{Due}
 use Rattle.cbor_walk.specs.declared.level.Due.TheVariants.{Item, Key}
@@ -114,7 +116,7 @@ due-key c cs [] e h = absurd h
 due-key c cs (l ∷ ls) e h = let same : c ≡ cell_of l = cc in ap (λ (x : Open). x.due) same ∙ level-key l h
 
 -- an item begins so
-basic-front : (s : Spelling) → IsSpelled s → (x y z rest : List ℕ) → spell s ≡ x ++ z → rest ≡ x ++ y → IsFitFront rest → HasBasicFront x
+pub basic-front : (s : Spelling) → IsSpelled s → (x y z rest : List ℕ) → spell s ≡ x ++ z → rest ≡ x ++ y → IsFitFront rest → HasBasicFront x
 basic-front s h [] y z rest e f fit = tt
 basic-front s h (b ∷ x) y z rest e f fit = elim (subst IsFitFront f fit) [ inl k ↦ k | inr k ↦ absurd (no_break s h (x ++ z) (e ∙ ap (λ (c : ℕ). c ∷ (x ++ z)) k)) ]
 

@@ -21,7 +21,9 @@ use Rattle.cbor_judging.proofs.Levels.{clean-anywhere, no-count}
 use Rattle.cbor_judging.proofs.Loops.{array_bytes-whole, map_bytes-whole}
 use Rattle.cbor_judging.specs.Levels.{IsTaken, Level, a_member, a_key, a_value, some_member, some_key, some_value, tagged, AreLevels, level_bytes, bytes_before, Standing, item_due, settle}
 use Rattle.cbor_walk.specs.Sink.{takes_key, key_due, Completes, Fills, IsEndedAs, IsItemDue, Gives, Opens, IsContainerFull, Ends, IsKnownValid, IsGivenFront}
-use Rattle.cbor_walk.specs.inner.Building.{awaits, counted, cell_of, cells_of, BeginsTaken, IsDue, HasEnded, IsToEnd, IsBuilt, IsDueFor, TakesTo, EndsTo, IsHead, IsOpener, Counts}
+use Rattle.cbor_walk.specs.inner.Building.{BeginsTaken, IsDue, HasEnded, IsToEnd, IsBuilt, IsDueFor, TakesTo, EndsTo}
+use Rattle.cbor_walk.specs.inner.Open.{awaits, counted, cell_of, cells_of}
+use Rattle.cbor_walk.specs.inner.Parts.{IsHead, IsOpener, Counts}
 use Rattle.cbor_walk.specs.inner.Stack.{standing}
 use Rattle.cbor_walk.specs.declared.level.Due.{Due}
 use Rattle.cbor_walk.specs.declared.level.Due.TheVariants.{Item, Key, Value as ItsValue}

@@ -27,7 +27,8 @@ use Rattle.cbor_judging.proofs.Heads.{open_or}
 use Rattle.cbor_judging.proofs.Judged.{zero_item}
 use Rattle.cbor_judging.proofs.Levels.{no-count, spelled-all, within-all, clean-all, pairs-spelled, pairs-within, pairs-more, pairs-clean}
 use Rattle.cbor_judging.proofs.Valid.{in_range_entries}
-use Rattle.cbor_walk.specs.inner.Building.{cell_of, cells_of, counted}
+use Rattle.cbor_walk.specs.Sink.{IsKeyBehind}
+use Rattle.cbor_walk.specs.inner.Open.{cell_of, cells_of, counted}
 use Rattle.cbor_walk.specs.inner.Path as path
 use Rattle.cbor_walk.specs.inner.Path.{IsClean, AreClean, IsKeyDueIn, MayBreak}
 use Rattle.cbor_walk.specs.declared.level.Due.TheVariants.{Item, Key, Value}
@@ -170,12 +171,6 @@ found_of_whole o d ls p found h small apart j =
     subst (λ (x : List ℕ). IsJudged plain 0 d (x ++ p) found) same
     (judged_path plain d ps (paths_clean o d ls h small apart) p found
     (subst (λ (x : List ℕ). IsJudged plain (length x) (d - length ps) p found) (sym same) (subst (λ (n : ℕ). IsJudged plain (length (bytes_before ls)) (d - n) p found) (sym (paths_length ls)) j)))
-
--- a key is due behind these pairs
-abbrev pub IsKeyBehind : Level → SpelledEntries → Type 0
-IsKeyBehind (a_key w left done) es = es ≡ done
-IsKeyBehind (some_key done) es = es ≡ done
-IsKeyBehind _ es = ⊥
 
 -- a key that is the same as an earlier one is the first complaint
 pub repeat_of_whole : (o : KeyOrder) (d : ℕ) (ls : List Level) (l : Level) (es : SpelledEntries) → IsKeyBehind l es → AreLevels d (l ∷ ls) → length (bytes_before (l ∷ ls)) < 2 ^ 63 → AreOpenKeysDifferent (opens o (l ∷ ls))

@@ -22,6 +22,7 @@ pub mod PathLevels
 pub mod PathSteps
 pub mod PathStops
 pub mod PathVerdict
+pub mod Repeats
 pub mod ShortHeads
 pub mod ShortLeaves
 pub mod Taking

@@ -25,14 +25,14 @@ use Rattle.cbor_judging.specs.Kinds.{KeepsToKinds}
 use Rattle.cbor_walk.specs.inner.Path as path
 use Rattle.cbor_walk.specs.inner.Kept.{IsFit, KeepsHere}
 use Rattle.cbor_walk.specs.inner.Path.{a_member, a_key, a_value, tagged, level_bytes, bytes_before, IsKeyDueIn}
-use Rattle.cbor_walk.specs.inner.Cells.{a_level, AreCells, StandsAt, HasEndedAt}
+use Rattle.cbor_walk.specs.inner.Cells.{a_level, AreCells, StandsAt, HasEndedAt, IsWhole}
 use Rattle.cbor_walk.specs.inner.Stack.{standing}
 use Rattle.cbor_walk.specs.inner.Items.{IsOpener, IsPlaceFor}
 use Rattle.cbor_walk.specs.declared.level.Due.{Due}
 use Rattle.cbor_walk.specs.declared.level.Due.TheVariants.{Item, Key, Value}
 use Rattle.cbor_walk.specs.declared.level.Level.{Level}
 use Rattle.cbor_walk.specs.declared.stack.Stack.{Stack}
-use Rattle.cbor_walk.proofs.CellSteps.{item_is_no_key, key_is_no_value}
+use Rattle.cbor_walk.proofs.CellSteps.{item_is_no_key, key_is_no_value, item_full}
 use Rattle.cbor_walk.proofs.PathKinds.{kept_front, head_begun, keeps_begun, keeps_item}
 
 -- ---- how many are open
@@ -184,12 +184,31 @@ place_for o limits d input k cells at s l e =
 pub fit_here : (o : KeyOrder) (limits : Bounds) (input : List ℕ) (c : Level) (cs : List Level) (at : ℕ) (s : StandsAt o limits input (c ∷ cs) at) (rest : List ℕ) → IsFit limits c.due rest → KeepsHere limits (strict o) s.ls rest
 fit_here o limits input c cs at s rest fit = record { before = s.keeps; here = λ asked due. fit asked.1 (due_key input s.ls c cs s.are due) }
 
--- the item of the input is due before its first byte, whatever lies in the cells
+-- the item of the input is due before its first byte
+pub at_start : (o : KeyOrder) (limits : Bounds) (input : List ℕ) → StandsAt o limits input (a_level Item 0 0 ∷ []) 0
+at_start o limits input = record { ls = []; clean = tt; keeps = keeps_start limits (strict o); are = (refl, refl); rest = input; bytes = refl; here = refl }
+
+-- whatever lies in the cells
 pub starts_at : (o : KeyOrder) (limits : Bounds) (input : List ℕ) (k : Stack Level) (cells : List Level) → k.height ≡ 0 → k.top ≡ a_level Item 0 0 → StandsAt o limits input (standing Level k cells) 0
 starts_at o limits input k cells h e =
     let one : a_level Item 0 0 ∷ [] ≡ standing Level k cells = sym (ap (λ (l : Level). l ∷ reverse (take k.height cells)) e ∙ ap (λ (n : ℕ). a_level Item 0 0 ∷ reverse (take n cells)) h) in
-    subst (λ (cs : List Level). StandsAt o limits input cs 0) one
-    (record { ls = []; clean = tt; keeps = keeps_start limits (strict o); are = (refl, refl); rest = input; bytes = refl; here = refl })
+    subst (λ (cs : List Level). StandsAt o limits input cs 0) one (at_start o limits input)
+
+-- nothing is open around it
+pub start_keeps : (o : KeyOrder) (limits : Bounds) (input : List ℕ) → KeepsHere limits (strict o) [] input
+start_keeps o limits input = record { before = keeps_start limits (strict o); here = λ asked due. absurd due }
+
+pub start_place : (limits : Bounds) (d : ℕ) → d ≡ limits.depth → IsPlaceFor (nat_lt 0 d) limits.depth [] 0
+start_place limits d e = record { here = refl; fits = λ r. omega (arith, ltb-true 0 d r, e); full = λ r. omega (arith, ltb-false 0 d r, e) }
+
+-- the input's item is a leaf
+pub leaf_is_whole : (o : KeyOrder) (limits : Bounds) (input : List ℕ) (d used : ℕ) → d ≡ limits.depth → IsLeaf (nat_lt 0 d) input used → IsWhole o limits input used
+unfolding at_start
+leaf_is_whole o limits input d used e leaf =
+    let first = a_level Item 0 0 in
+    let at : 0 + used ≡ used = omega arith in
+    subst (IsWhole o limits input) at
+    (item_full o limits input (0 + used) first [] refl refl (leaf_ends o limits input (first ∷ []) 0 (at_start o limits input) (nat_lt 0 d) used leaf (start_place limits d e).fits (start_keeps o limits input)))
 
 -- the same levels in other cells
 pub more_cells : (L : Type 0) (k : Stack L) (few more : List L) → k.height ≡ length few → take (length few) more ≡ few → standing L k few ≡ standing L k more

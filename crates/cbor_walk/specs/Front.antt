@@ -9,4 +9,4 @@ use Rattle.cbor_walk.specs.declared.front.Stop.TheVariants.{Refused, Unsaid}
 -- the item is refused so; or nothing is said of it
 abbrev pub IsStop : Bounds → List ℕ → Stop → Type 0
 IsStop limits input (Refused f) = IsVerdict limits plain input (refused f)
-IsStop limits input Unsaid = Unit {0}
+IsStop limits input (Unsaid at) = Unit {0}

@@ -1,15 +1,16 @@
 -- What a sink was given of a valid item, as a walk comes to its parts.
 use Rattle.std.specs.Prelude.{ℕ, ◌≡◌, ◌<◌, ◌≤◌, ◌-◌, ◌^◌, ◌⊎◌, ◌++◌, Bool, true, false, List, [], ◌∷◌, length}
+use Rattle.cbor_head.specs.Canonical.{canonical, canonical_entries}
 use Rattle.cbor_head.specs.Complaint.{plain}
 use Rattle.cbor_head.specs.Limits.{Bounds}
 use Rattle.cbor_head.specs.Spelling as spelling
-use Rattle.cbor_head.specs.Spelling.{Spelling, array, a_map, no_spellings, no_entries, spell, value_of, IsSpelled, depth}
+use Rattle.cbor_head.specs.Spelling.{Spelling, SpelledEntries, array, a_map, no_spellings, no_entries, spell, value_of, entries_of, IsSpelled, depth}
 use Rattle.cbor_head.specs.Value as value
 use Rattle.cbor_head.specs.Value.{Value}
 use Rattle.cbor_head.specs.declared.major.Major.{Major}
 use Rattle.cbor_head.specs.declared.major.Major.TheVariants.{Array, Map, Tag, Negative, Simple}
 use Rattle.cbor_head.specs.declared.width.Width.{Width}
-use Rattle.cbor_builder.specs.Built.{AreOpenKeysDifferent}
+use Rattle.cbor_builder.specs.Built.{HasKey, AreOpenKeysDifferent}
 use Rattle.cbor_head.specs.declared.order.KeyOrder.{KeyOrder}
 use Rattle.cbor_judging.specs.Given.{opens}
 use Rattle.cbor_judging.specs.Levels.{IsClean, IsTaken, Level, a_member, a_key, a_value, some_member, some_key, some_value, tagged, AreLevels, bytes_before, Standing, item_due, item_full, item_whole, settle}
@@ -160,6 +161,35 @@ IsWithin S stands holds start g ls = stands start g (item_due ls) ⊎ ((is_text 
 -- wherever an item or a chunk is due
 abbrev pub FindsNoRepeat : (S : Type 0) → (S → S → Standing → Type 0) → (S → S → List Level → Bool → List ℕ → Type 0) → S → Type 0
 FindsNoRepeat S stands holds g = (start : S) (ls : List Level) → IsWithin S stands holds start g ls → AreKeysDistinct ls
+
+-- ---- a key that is due
+
+-- in this container, behind these pairs
+abbrev pub IsKeyBehind : Level → SpelledEntries → Type 0
+IsKeyBehind (a_key w left done) es = es ≡ done
+IsKeyBehind (some_key done) es = es ≡ done
+IsKeyBehind _ es = ⊥
+
+-- The bytes begin with a key, of so many bytes, that is valid, nests no deeper than this, and has the canonical bytes of an
+-- earlier one.
+pub record IsRepeatDue (d : ℕ) (ls : List Level) (rest : List ℕ) (size : ℕ) : Type 0 where
+  pub level : Level
+  pub outer : List Level
+  pub levels_are : ls ≡ level ∷ outer
+  pub done : SpelledEntries
+  pub behind : IsKeyBehind level done
+  pub key : Spelling
+  pub taken : IsTaken d key
+  pub order : KeyOrder
+  pub held : HasKey (canonical_entries order (entries_of done)) (canonical order (value_of key))
+  pub more : List ℕ
+  pub front : rest ≡ spell key ++ more
+  pub size_is : size ≡ length (spell key)
+
+-- so wherever a key is due
+abbrev pub TellsRepeat : (S : Type 0) → (S → S → Standing → Type 0) → Bounds → List ℕ → S → ℕ → Type 0
+TellsRepeat S stands limits rest g size =
+    (start : S) (d : ℕ) (ls : List Level) → AreOpenLevels d ls → Told S stands true start g (item_due ls) → IsRepeatDue limits.depth ls rest size
 
 -- ---- the whole
 

@@ -2,7 +2,8 @@
 
 ghost use Rattle.std.specs.Prelude.{◌≡◌, ◌≤◌, length};
 ghost use Rattle.cbor_walk.specs.inner.Building.{IsDueIn, HasEndedIn, HasFilledIn};
-ghost use Rattle.cbor_walk.specs.inner.Building.{pairs, Leads, LeadsFull, Walks, WalksKept};
+ghost use Rattle.cbor_walk.specs.inner.Building.{Leads, LeadsFull, Walks, WalksKept};
+ghost use Rattle.cbor_walk.specs.inner.Open.{pairs};
 ghost use Rattle.cbor_walk.specs.inner.Stack.{around, standing};
 
 use crate::open::Open;
@@ -37,14 +38,15 @@ pub(crate) enum Met<'a> {
     Untaken(&'a [u8]),
     /// A string in chunks stands before these bytes, and is refused. The sink has some chunks of it.
     Broken(&'a [u8]),
-    /// Memory is refused, or two keys of a map are the same.
-    Stopped,
+    /// Memory is refused, or two keys of a map are the same, with what ends or begins where these
+    /// bytes do.
+    Stopped(&'a [u8]),
 }
 
 impl<S> Building<S> {
     /// Goes over the item, from where another is due to its end. Where kinds of keys are asked for,
-    /// it stops at a key of another kind.
-    pub(crate) fn walk<'a, const KINDS: bool>(
+    /// it stops at a key of another kind; where it pauses, before each key behind the first bytes.
+    pub(crate) fn walk<'a, const KINDS: bool, const PAUSES: bool>(
         &mut self,
         start: &'a [u8],
         cells: &mut [Open],
@@ -62,6 +64,9 @@ impl<S> Building<S> {
     {
         let mut rest = start;
         'parts: loop {
+            if PAUSES && rest.len() < start.len() && self.stack.top.due.is_key() {
+                return Met::Untaken(rest);
+            }
             match self.take_part::<KINDS>(rest, cells, depth) {
                 Part::Head(behind) => rest = behind,
                 Part::Item(behind) => {
@@ -69,12 +74,12 @@ impl<S> Building<S> {
                     match self.complete(cells) {
                         Then::Item => {}
                         Then::Done => return Met::Whole(rest),
-                        Then::Stopped => return Met::Stopped,
+                        Then::Stopped => return Met::Stopped(rest),
                     }
                 }
                 Part::Untaken => return Met::Untaken(rest),
                 Part::Broken => return Met::Broken(rest),
-                Part::Stopped => return Met::Stopped,
+                Part::Stopped => return Met::Stopped(rest),
             }
         }
     }

@@ -9,6 +9,7 @@ ghost use Rattle.cbor_walk.specs.inner.Kept.{asks};
 ghost use Rattle.cbor_walk.specs.inner.Stop.{IsStopped, IsAnswered};
 ghost use Rattle.cbor_walk.specs.inner.Walked.{IsFull};
 
+use crate::any_item::{Any, any_item};
 use crate::level::{Due, Level};
 use crate::stack::{FEW, MOST, SOME, Stack, lend};
 use crate::walk::{Walked, walk};
@@ -58,6 +59,14 @@ fn whole_front<const KINDS: bool>(
     ensures whole { IfOk result (IsWhole order limits input.now) }
     ensures refused { IfErr result (IsStopped (strict order) limits input.now) }
 {
+    // An item that is no container wants no cells.
+    if !begins_container(input) {
+        match any_item(input, 0, limits.depth() > 0) {
+            Any::Leaf(used) => return Ok(used),
+            Any::Refused(refusal) => return Err(refusal),
+            Any::Opens(..) => {}
+        }
+    }
     let level = Level::new(Due::Item, 0, 0);
     let mut cells = [level; FEW];
     let mut stack = Stack::new(level);
@@ -68,6 +77,15 @@ fn whole_front<const KINDS: bool>(
             Some(front) => front,
             None => deepest::<KINDS>(input, at, &cells, stack, limits, order),
         },
+    }
+}
+
+// Whether the first byte is the whole head of an array, a map or a tag.
+#[inline(always)]
+fn begins_container(input: &[u8]) -> bool {
+    match input.first() {
+        Some(first) => *first >= 0x80 && *first < 0xe0 && *first % 32 < 24,
+        None => false,
     }
 }
 

@@ -1,7 +1,7 @@
 //! Why a string in chunks is refused.
 
 ghost use Rattle.std.specs.Prelude.{◌<◌, ◌+◌, ◌^◌, length, IfSome};
-ghost use Rattle.cbor_walk.specs.inner.Building.{chunked_from};
+ghost use Rattle.cbor_walk.specs.inner.Parts.{chunked_from};
 ghost use Rattle.cbor_walk.specs.inner.Items.{AreChunksRefused};
 
 use crate::any_item::{refusal_at, string_fault};

@@ -2,9 +2,11 @@
 
 ghost use Rattle.std.specs.Prelude.{◌≡◌, ◌∷◌, IfSome};
 ghost use Rattle.cbor_judging.specs.Reading.{string_major};
-ghost use Rattle.cbor_walk.specs.inner.Building.{IsItem, IsHead, IsHeadDue, TakesHead};
-ghost use Rattle.cbor_walk.specs.inner.Building.{IsDueFor, TakesItem, IsPayload, chunked_from};
-ghost use Rattle.cbor_walk.specs.inner.Building.{TakesScalar, TakesHeadFront};
+ghost use Rattle.cbor_walk.specs.inner.Building.{IsHeadDue, TakesHead};
+ghost use Rattle.cbor_walk.specs.inner.Parts.{IsItem, IsHead};
+ghost use Rattle.cbor_walk.specs.inner.Building.{IsDueFor, TakesItem};
+ghost use Rattle.cbor_walk.specs.inner.Parts.{IsPayload, chunked_from};
+ghost use Rattle.cbor_walk.specs.inner.Parts.{TakesScalar, TakesHeadFront};
 
 use crate::argument::{Argument, read_argument};
 use crate::building::Building;

@@ -1,8 +1,9 @@
 //! What has no length: the openers of strings, arrays and maps, and the break that ends them.
 
 ghost use Rattle.std.specs.Prelude.{◌≡◌, ◌≤◌, ◌-◌, ◌∷◌, ℕ, length};
-ghost use Rattle.cbor_walk.specs.inner.Building.{IsItem, IsDueIn, Takes, IsBreakDue, TakesBreak};
-ghost use Rattle.cbor_walk.specs.inner.Building.{TakesFront, Leaves, LeavesWithin};
+ghost use Rattle.cbor_walk.specs.inner.Building.{IsDueIn, Takes, IsBreakDue, TakesBreak};
+ghost use Rattle.cbor_walk.specs.inner.Parts.{IsItem};
+ghost use Rattle.cbor_walk.specs.inner.Parts.{TakesFront, Leaves, LeavesWithin};
 ghost use Rattle.cbor_walk.specs.declared.part.Part.{Part};
 ghost use Rattle.cbor_walk.specs.inner.Stack.{standing};
 

@@ -6,8 +6,10 @@ ghost use Rattle.cbor_judging.specs.Levels.{item_due};
 ghost use Rattle.cbor_walk.specs.Front.{IsStop};
 ghost use Rattle.cbor_walk.specs.Sink.{IsKnownValid, IsGivenFront};
 ghost use Rattle.cbor_walk.specs.declared.level.Due.TheVariants as due;
-ghost use Rattle.cbor_walk.specs.inner.Building.{counted, BeginsTaken, IsDue, IsDueIn, KeepsBefore};
-ghost use Rattle.cbor_walk.specs.inner.Building.{Keeps, Passes, PassKeeps, PassKept, HasComeOver};
+ghost use Rattle.cbor_walk.specs.inner.Building.{BeginsTaken, IsDue, IsDueIn};
+ghost use Rattle.cbor_walk.specs.inner.Kept.{KeepsBefore, Keeps, PassKeeps, PassKept};
+ghost use Rattle.cbor_walk.specs.inner.Open.{counted};
+ghost use Rattle.cbor_walk.specs.inner.Building.{Passes, HasComeOver};
 ghost use Rattle.cbor_walk.specs.inner.Stack.{standing};
 
 use crate::building::{Building, Met};
@@ -25,8 +27,9 @@ use cbor_head::{Keys, Limits, Refusal};
 pub enum Stop {
     /// The bytes within the limits call for this refusal.
     Refused(Refusal),
-    /// Two keys of a map are the same, or memory is refused: it is for a reader to tell which.
-    Unsaid,
+    /// Two keys of a map are the same, or memory is refused, with what begins at this place or before
+    /// it. [`repeated_key`](crate::repeated_key) tells which.
+    Unsaid(usize),
 }
 
 /// Gives a sink the parts of the well-formed, valid item that the slice begins with (RFC 8949,
@@ -56,7 +59,11 @@ pub fn give_front<'a, S: Sink<'a> + Drop>(
             Ok((sink, size))
         }
         Past::Refused(rest) => Err(refused(building, input, rest, limits)),
-        Past::Stopped => Err(Stop::Unsaid),
+        // What ends before the rest is the last of a map with two such keys: without its last byte
+        // the map is open.
+        Past::Stopped(rest) => Err(Stop::Unsaid(
+            input.len().saturating_sub(rest.len()).saturating_sub(1),
+        )),
     }
 }
 
@@ -76,15 +83,15 @@ fn refused<'a, S: Sink<'a> + Drop>(
     ensures { (bytes : List ℕ) → input.now ≡ take limits.bytes bytes → IsStop limits bytes result }
 {
     let Building { stack, sink } = building;
-    if sink.has_equal_keys() {
-        return Stop::Unsaid;
-    }
     let at = input.len() - rest.len();
+    if sink.has_equal_keys() {
+        return Stop::Unsaid(at);
+    }
     let room = stack.height < usize::from(limits.depth());
     let is_key = is_asked(limits.keys(), stack.top.due);
     match fault(rest, at, room, is_key, stack.top.may_break()) {
         Some(refusal) => Stop::Refused(at_the_limit(refusal, input, limits.bytes())),
-        None => Stop::Unsaid,
+        None => Stop::Unsaid(at),
     }
 }
 
@@ -97,12 +104,12 @@ pub(crate) enum Past<'a> {
     /// the sink may have some of them.
     Refused(&'a [u8]),
     /// As [`Met::Stopped`].
-    Stopped,
+    Stopped(&'a [u8]),
 }
 
-// Goes over the item that these bytes begin with.
+/// Goes over the item that these bytes begin with.
 #[inline(always)]
-fn past_front<'a, S: Sink<'a>>(
+pub(crate) fn past_front<'a, S: Sink<'a>>(
     building: &mut Building<S>,
     input: &'a [u8],
     limits: Limits,
@@ -137,7 +144,7 @@ fn past_item<'a, S: Sink<'a>, const KINDS: bool>(
     ensures kept { KINDS ≡ true → (keys : Keys) → PassKept result depth keys input.now }
 {
     let mut cells = [Open::counted(Due::Item, 0); FEW];
-    match building.walk::<KINDS>(input, &mut cells, depth) {
+    match building.walk::<KINDS, false>(input, &mut cells, depth) {
         Met::Whole(behind) => Past::Whole(behind),
         Met::Untaken(rest) => {
             // With a cell left, it is not for want of one.
@@ -147,7 +154,7 @@ fn past_item<'a, S: Sink<'a>, const KINDS: bool>(
             deeper::<S, KINDS>(building, rest, &cells, depth)
         }
         Met::Broken(rest) => Past::Refused(rest),
-        Met::Stopped => Past::Stopped,
+        Met::Stopped(rest) => Past::Stopped(rest),
     }
 }
 
@@ -171,7 +178,7 @@ fn deeper<'a, S: Sink<'a>, const KINDS: bool>(
 {
     let mut cells = [Open::counted(Due::Item, 0); SOME];
     lend(few, &mut cells);
-    match building.walk::<KINDS>(rest, &mut cells, depth) {
+    match building.walk::<KINDS, false>(rest, &mut cells, depth) {
         Met::Whole(behind) => Past::Whole(behind),
         Met::Untaken(rest) => {
             if building.stack.height < SOME {
@@ -180,7 +187,7 @@ fn deeper<'a, S: Sink<'a>, const KINDS: bool>(
             deepest::<S, KINDS>(building, rest, &cells, depth)
         }
         Met::Broken(rest) => Past::Refused(rest),
-        Met::Stopped => Past::Stopped,
+        Met::Stopped(rest) => Past::Stopped(rest),
     }
 }
 
@@ -204,10 +211,10 @@ fn deepest<'a, S: Sink<'a>, const KINDS: bool>(
 {
     let mut cells = [Open::counted(Due::Item, 0); MOST];
     lend(few, &mut cells);
-    match building.walk::<KINDS>(rest, &mut cells, depth) {
+    match building.walk::<KINDS, false>(rest, &mut cells, depth) {
         Met::Whole(behind) => Past::Whole(behind),
         Met::Untaken(rest) => Past::Refused(rest),
         Met::Broken(rest) => Past::Refused(rest),
-        Met::Stopped => Past::Stopped,
+        Met::Stopped(rest) => Past::Stopped(rest),
     }
 }

@@ -1,7 +1,7 @@
 //! An open container.
 
 ghost use Rattle.std.specs.Prelude.{◌≡◌};
-ghost use Rattle.cbor_walk.specs.inner.Building.{awaits, pairs};
+ghost use Rattle.cbor_walk.specs.inner.Open.{awaits, pairs};
 
 /// What is due in a container.
 #[derive(Clone, Copy)]

@@ -4,7 +4,8 @@
 //! byte, head, text or key that is none of a canonical item it stops with the refusal.
 //! [`give_front`] goes over any valid item, whose parts it gives to a [`Sink`], and stops at what is
 //! none, with the refusal but for equal keys and memory. Both hold what is due in each open container
-//! in cells that are made as they are wanted, so that depth that is not used costs nothing.
+//! in cells that are made as they are wanted, so that depth that is not used costs nothing. Of equal
+//! keys [`repeated_key`] tells the refusal, in two further walks.
 #![tactic(auto)]
 
 mod any_item;
@@ -21,6 +22,7 @@ mod kinds;
 mod level;
 mod open;
 mod part;
+mod repeat;
 mod sink;
 mod stack;
 mod take;
@@ -29,4 +31,5 @@ mod within;
 
 pub use canonical::canonical_front;
 pub use front::{Stop, give_front};
+pub use repeat::{KeySink, repeated_key};
 pub use sink::Sink;

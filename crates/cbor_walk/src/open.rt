@@ -1,7 +1,7 @@
 //! What is still to come in an open container, with a length or without.
 
 ghost use Rattle.std.specs.Prelude.{◌≡◌, ◌≢◌, Some, None, true, false};
-ghost use Rattle.cbor_walk.specs.inner.Building.{after, counted, endless, pairs};
+ghost use Rattle.cbor_walk.specs.inner.Open.{after, counted, endless, pairs};
 
 use crate::level::Due;
 

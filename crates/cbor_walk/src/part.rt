@@ -4,9 +4,10 @@ ghost use Rattle.std.specs.Prelude.{◌≡◌, ◌≤◌, ◌-◌, true, length}
 ghost use Rattle.cbor_builder.specs.Built.{IsLeaf, IsContainer};
 ghost use Rattle.cbor_walk.specs.inner.Building.{IsDueIn, Takes, IsHeadDue, IsHeadIn, TakesHead};
 ghost use Rattle.cbor_walk.specs.inner.Building.{IsOpenerDue, TakesOpener, TakesCounted};
-ghost use Rattle.cbor_walk.specs.inner.Building.{IsItem, IsToEndFor, EndsItem, EndsBefore, Counts};
-ghost use Rattle.cbor_walk.specs.inner.Building.{HasTaken, TakesFront, TakesHeadFront, TakesCountedFront, TakesOpenerFront};
-ghost use Rattle.cbor_walk.specs.inner.Building.{left_of, Leaves, LeavesWithin};
+ghost use Rattle.cbor_walk.specs.inner.Building.{IsToEndFor, EndsItem};
+ghost use Rattle.cbor_walk.specs.inner.Parts.{IsItem, EndsBefore, Counts};
+ghost use Rattle.cbor_walk.specs.inner.Parts.{HasTaken, TakesFront, TakesHeadFront, TakesCountedFront, TakesOpenerFront};
+ghost use Rattle.cbor_walk.specs.inner.Parts.{left_of, Leaves, LeavesWithin};
 ghost use Rattle.cbor_walk.specs.inner.Kept.{IsFitFront};
 ghost use Rattle.cbor_walk.specs.inner.Stack.{standing};
 

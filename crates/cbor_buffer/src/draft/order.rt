@@ -54,9 +54,10 @@ impl Draft {
             → self.new.buf ≡ meant self.new) }
     {
         self.settle(start)?;
-        self.spare.cut(0);
-        gather(&self.buf, spans, &mut self.spare)?;
-        self.buf.rewrite(start, self.spare.as_slice())
+        let len = self.buf.len();
+        gather(&mut self.buf, spans)?;
+        self.buf.close_up(start, len);
+        Ok(())
     }
 
     // Whether a region of so many pairs has bytes enough for its cuts, and settling has not cost too

@@ -1,6 +1,6 @@
 -- What the plain reader keeps: what a builder holds, in which no two keys of an open map are the same, and where each open
 -- item began.
-use Rattle.std.specs.Prelude.{ℕ, suc, ◌≡◌, ◌<◌, ◌++◌, List, [], ◌∷◌, length, reverse, slice_get, Option, Some, Result, OnOk, IfOk, MatchOption, IsSome}
+use Rattle.std.specs.Prelude.{ℕ, suc, ◌≡◌, ◌<◌, ◌++◌, List, [], ◌∷◌, length, reverse, slice_get, Option, Some, Result, OnOk, IfOk, MatchOption}
 use Rattle.cbor_head.specs.Complaint.{plain}
 use Rattle.cbor_head.specs.Head.{shortest_head, IsSimple}
 use Rattle.cbor_head.specs.Limits.{Bounds}
@@ -125,4 +125,4 @@ pub record IsEnding (v : PlainItems) (height count : ℕ) : Type 0 where
 abbrev pub AnswersEnds : {E : Type 0} → PlainItems → PlainItems → ℕ → ℕ → Result (Unit {0}) E → Type 0
 AnswersEnds old new height count result =
     (b : Bounds) (e : ItemEventsView) (t : List ℕ) → IsEndingAt old b e t height → count ≡ e.machine.open_count
-    → OnOk result ((new.builder.order ≡ old.builder.order) × (IsSome old.tree → IsSome new.tree) × IsEndingAt new b e t e.machine.open_count)
+    → OnOk result (IsEndingAt new b e t e.machine.open_count)

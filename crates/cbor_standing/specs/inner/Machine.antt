@@ -3,12 +3,13 @@ use Rattle.std.specs.Prelude.{◌≡◌, ℕ, List, length}
 use Rattle.cbor_automaton.specs.Trace.{Mark}
 use Rattle.cbor_standing.specs.MachineView.{MachineView}
 use Rattle.cbor_automaton.specs.Automaton.{start, run, reached}
-use Rattle.cbor_steps.specs.State.{state_of, wanted_at, is_in_payload, is_done}
+use Rattle.cbor_steps.specs.State.{state_of, wanted_at, is_at_item, is_in_payload, is_done}
 
 -- what the view shows is what the inner state has
 pub record IsShown (m : MachineView) : Type 0 where
   pub open_count : m.open_count ≡ length m.inner.frames
   pub due : m.due ≡ wanted_at m.inner.position
+  pub item_due : m.item_due ≡ is_at_item m.inner.position
   pub in_payload : m.in_payload ≡ is_in_payload m.inner.position
   pub complete : m.complete ≡ is_done m.inner.position
 

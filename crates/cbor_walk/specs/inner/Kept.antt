@@ -1,7 +1,7 @@
 -- The kinds of keys, where a walk stands.
-use Rattle.std.specs.Prelude.{ℕ, ◌≡◌, ◌⊎◌, ◌/◌, Bool, true, false, IsTrue, List, [], ◌∷◌}
-use Rattle.cbor_head.specs.Complaint.{Rules}
-use Rattle.cbor_head.specs.Limits.{Bounds}
+use Rattle.std.specs.Prelude.{ℕ, ◌≡◌, ◌⊎◌, ◌/◌, Bool, true, false, IsTrue, List, [], ◌∷◌, ◌-◌, ◌++◌}
+use Rattle.cbor_head.specs.Complaint.{Rules, plain}
+use Rattle.cbor_head.specs.Limits.{Bounds, bounds, with_keys}
 use Rattle.cbor_head.specs.declared.keys.Keys.{Keys}
 use Rattle.cbor_head.specs.declared.keys.Keys.TheVariants.{Any, IntegersAndTexts}
 use Rattle.cbor_grammar.specs.FirstBytes.{is_basic}
@@ -9,6 +9,10 @@ use Rattle.cbor_judging.specs.Kinds.{AsksForKinds, KeepsToKinds}
 use Rattle.cbor_walk.specs.inner.Path.{Level, bytes_before, IsKeyDueIn}
 use Rattle.cbor_walk.specs.declared.level.Due.{Due}
 use Rattle.cbor_walk.specs.declared.level.Due.TheVariants.{Key}
+use Rattle.cbor_walk.specs.declared.building.Met.{Met}
+use Rattle.cbor_walk.specs.declared.building.Met.TheVariants as met
+use Rattle.cbor_walk.specs.declared.front.Past.{Past}
+use Rattle.cbor_walk.specs.declared.front.Past.TheVariants as past
 
 -- whether kinds are asked for
 abbrev pub asks : Keys → Bool
@@ -33,3 +37,29 @@ IsFit limits due b = limits.keys ≡ IntegersAndTexts → due ≡ Key → IsFitF
 pub record KeepsHere (limits : Bounds) (r : Rules) (ls : List Level) (b : List ℕ) : Type 0 where
   pub before : KeepsToKinds limits r (bytes_before ls)
   pub here : AsksForKinds limits r → IsKeyDueIn ls → IsFitFront b
+
+-- ---- what a walk keeps of it
+
+-- no key of another kind than these begins before the rest of an input; how many bytes there may be plays no part
+abbrev pub KeepsBefore : ℕ → Keys → List ℕ → List ℕ → Type 0
+KeepsBefore d keys input rest = (t : List ℕ) → input ≡ t ++ rest → KeepsToKinds (with_keys (bounds d 0) keys) plain t
+
+abbrev pub MetKept : Met → ℕ → Keys → List ℕ → Type 0
+MetKept (met.Whole rest) d keys input = KeepsBefore d keys input rest.now
+MetKept (met.Untaken rest) d keys input = KeepsBefore d keys input rest.now
+MetKept (met.Broken rest) d keys input = KeepsBefore d keys input rest.now
+MetKept (met.Stopped rest) d keys input = Unit {0}
+
+abbrev pub PassKept : Past → ℕ → Keys → List ℕ → Type 0
+PassKept (past.Whole rest) d keys input = KeepsBefore d keys input rest.now
+PassKept (past.Refused rest) d keys input = KeepsBefore d keys input rest.now
+PassKept (past.Stopped rest) d keys input = Unit {0}
+
+-- the same by the limits, whether they ask for kinds or not
+abbrev pub Keeps : Bounds → List ℕ → List ℕ → Type 0
+Keeps limits input rest = (t : List ℕ) → input ≡ t ++ rest → KeepsToKinds limits plain t
+
+abbrev pub PassKeeps : Past → Bounds → List ℕ → Type 0
+PassKeeps (past.Whole rest) limits input = Keeps limits input rest.now
+PassKeeps (past.Refused rest) limits input = Keeps limits input rest.now
+PassKeeps (past.Stopped rest) limits input = Unit {0}

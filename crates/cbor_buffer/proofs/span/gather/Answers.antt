@@ -1,16 +1,27 @@
-use Rattle.std.proofs.Common.{arith}
+use Rattle.std.proofs.Common.{List, ℕ, ◌++◌, length, length-take, take, ap, ◌∙◌, arith}
+use Rattle.std.specs.Prelude.{slice_index_or}
 use Rattle.cbor_buffer.specs.Spans.{no_span}
 use Rattle.cbor_buffer.proofs.Gathered.{gathered_at, gathered_all, within_at}
+use Rattle.cbor_buffer.proofs.Slices.{front_kept, slice_within}
 use Rattle.cbor_buffer.proofs.span.gather.Goals as goal
 
 pub loop-span-preserved : goal.loop-span-preserved
 loop-span-preserved c =
-    gathered_at c.args.out.now c.args.spans.now c.loop-span.span-index _ _ c.loop-span.into c.extend_from.new.self c.requires.within c.loop-span-test.true c.loop-span.invariant c.in_ok-extend_from.ensures
+    let out = c.args.out.now in
+    let s = slice_index_or c.args.spans.now c.loop-span.span-index no_span in
+    let w = within_at out c.args.spans.now c.loop-span.span-index no_span c.requires c.loop-span-test.true in
+    let i = c.loop-span.invariant in
+    let same = slice_within c.loop-span.out out s.key s.end i.1 (omega (arith, w.0, w.1)) w.2 in
+    let more = c.in_ok-extend_within.ensures ∙ ap (λ (xs : List ℕ). c.loop-span.out ++ xs) same in (
+      gathered_at out c.args.spans.now c.loop-span.span-index no_span _ c.loop-span.out c.extend_within.new.self c.requires c.loop-span-test.true i.0 more,
+      ap (take (length out)) more ∙ front_kept out c.loop-span.out _ i.1,
+    )
 
-pub extend_from-requires : goal.extend_from-requires
-extend_from-requires c =
-    let w = within_at c.args.out.now c.args.spans.now c.loop-span.span-index no_span c.requires.within c.loop-span-test.true in
-    record { begins = omega (arith, w.0, w.1); ends = w.2 }
+pub extend_within-requires : goal.extend_within-requires
+extend_within-requires c =
+    let w = within_at c.args.out.now c.args.spans.now c.loop-span.span-index no_span c.requires c.loop-span-test.true in
+    let l = length-take (length c.args.out.now) c.loop-span.out in
+    record { begins = omega (arith, w.0, w.1); ends = omega (arith, w.2, l, ap length c.loop-span.invariant.1) }
 
 pub returns : goal.returns
-returns c = gathered_all c.args.out.now c.args.spans.now c.loop-span.span-index _ c.loop-span.into c.loop-span-test.false c.loop-span.invariant
+returns c = gathered_all c.args.out.now c.args.spans.now c.loop-span.span-index _ c.loop-span.out c.loop-span-test.false c.loop-span.invariant.0

@@ -1,4 +1,4 @@
-use Rattle.std.proofs.Common.{arith, ◌≡◌}
+use Rattle.std.proofs.Common.{arith, Bool, ◌≡◌, refl}
 use Rattle.std.specs.Cow.{cow_slice_items}
 use Rattle.std.specs.Bool.{Decides}
 use Rattle.std.proofs.lemmas.Bool.Decides.{Decides-eqb}
@@ -6,7 +6,7 @@ use Rattle.std.proofs.lemmas.Slice.Eq.{slice_eq-Decides}
 use Rattle.cbor_reader.proofs.Comparing.{same_inputs, same_values, same_answers}
 use Rattle.cbor_reader.proofs.WholeItems.{refused_for_memory}
 use Rattle.cbor_reader.proofs.comparison.same_meaning.Goals as goal
-use Rattle.cbor_reader.proofs.comparison.same_meaning.Goals.{Joined-left-2}
+use Rattle.cbor_reader.proofs.comparison.same_meaning.Goals.{Joined-left_item, Joined-left_item-3}
 
 pub returns-in-Err-clause-only : goal.returns-in-Err-clause-only
 returns-in-Err-clause-only c = λ h l r. h (refused_for_memory c.args.limits c.args.left.now c.in-Err.refusal l c.in-Err.ensures.refused)
@@ -15,20 +15,40 @@ pub returns-in-Err-encoded_item-clause-only : goal.returns-in-Err-encoded_item-c
 returns-in-Err-encoded_item-clause-only c =
     λ h l r. h (refused_for_memory c.args.limits c.args.right.now c.in-Err-encoded_item.refusal r c.in-Err-encoded_item.ensures.refused)
 
-decides : (c : Joined-left-2) → Decides c.eq.result (cow_slice_items c.in-Ok.bytes ≡ cow_slice_items c.in-Ok-encoded_item.bytes)
-decides c = rw (← c.as_slice.ensures.value, ← c.as_slice-2.ensures.value) (slice_eq-Decides Decides-eqb _ _ _ c.eq.ensures)
+decides : (c : Joined-left_item-3) → Decides c.eq-2.result (cow_slice_items c.in-Ok.bytes ≡ cow_slice_items c.in-Ok-encoded_item.bytes)
+decides c = rw (← c.as_slice.ensures.value, ← c.as_slice-2.ensures.value) (slice_eq-Decides Decides-eqb _ _ _ c.eq-2.ensures)
 
 pub returns-clause-answer : goal.returns-clause-answer
 returns-clause-answer c =
-    same_inputs c.args.limits (omega arith) c.args.left.now c.args.right.now c.eq.result (cow_slice_items c.in-Ok.bytes) (cow_slice_items c.in-Ok-encoded_item.bytes)
+    same_inputs c.args.limits (omega arith) c.args.left.now c.args.right.now c.eq-2.result (cow_slice_items c.in-Ok.bytes) (cow_slice_items c.in-Ok-encoded_item.bytes)
     (decides c) c.in-Ok.ensures.encoded c.in-Ok-encoded_item.ensures.encoded
 
 pub returns-clause-values : goal.returns-clause-values
 returns-clause-values c =
-    same_values c.args.limits (omega arith) c.args.left.now c.args.right.now c.eq.result (cow_slice_items c.in-Ok.bytes) (cow_slice_items c.in-Ok-encoded_item.bytes)
+    same_values c.args.limits (omega arith) c.args.left.now c.args.right.now c.eq-2.result (cow_slice_items c.in-Ok.bytes) (cow_slice_items c.in-Ok-encoded_item.bytes)
     (decides c) c.in-Ok.ensures.encoded c.in-Ok-encoded_item.ensures.encoded
 
 pub returns-clause-equal : goal.returns-clause-equal
 returns-clause-equal c =
-    same_answers c.args.limits (omega arith) c.args.left.now c.args.right.now c.eq.result (cow_slice_items c.in-Ok.bytes) (cow_slice_items c.in-Ok-encoded_item.bytes)
+    same_answers c.args.limits (omega arith) c.args.left.now c.args.right.now c.eq-2.result (cow_slice_items c.in-Ok.bytes) (cow_slice_items c.in-Ok-encoded_item.bytes)
     (decides c) c.in-Ok.ensures.encoded c.in-Ok-encoded_item.ensures.encoded
+
+-- ---- the same bytes on both sides
+
+alike : (c : Joined-left_item) → c.args.left.now ≡ c.args.right.now
+alike c = (slice_eq-Decides Decides-eqb _ _ _ c.eq.ensures).0 c.if-eq.true
+
+pub returns-then-eq-clause-answer : goal.returns-then-eq-clause-answer
+returns-then-eq-clause-answer c = rw (← alike c) (
+    same_inputs c.args.limits (omega arith) c.args.left.now c.args.left.now Bool.true (cow_slice_items c.in-Ok.bytes) (cow_slice_items c.in-Ok.bytes)
+    ((λ _. refl), (λ _. refl)) c.in-Ok.ensures.encoded c.in-Ok.ensures.encoded)
+
+pub returns-then-eq-clause-values : goal.returns-then-eq-clause-values
+returns-then-eq-clause-values c = rw (← alike c) (
+    same_values c.args.limits (omega arith) c.args.left.now c.args.left.now Bool.true (cow_slice_items c.in-Ok.bytes) (cow_slice_items c.in-Ok.bytes)
+    ((λ _. refl), (λ _. refl)) c.in-Ok.ensures.encoded c.in-Ok.ensures.encoded)
+
+pub returns-then-eq-clause-equal : goal.returns-then-eq-clause-equal
+returns-then-eq-clause-equal c = rw (← alike c) (
+    same_answers c.args.limits (omega arith) c.args.left.now c.args.left.now Bool.true (cow_slice_items c.in-Ok.bytes) (cow_slice_items c.in-Ok.bytes)
+    ((λ _. refl), (λ _. refl)) c.in-Ok.ensures.encoded c.in-Ok.ensures.encoded)

@@ -1,7 +1,7 @@
 use Rattle.std.proofs.Common.{◌≡◌, ℕ, ◌+◌, ◌<◌, ◌%◌, true, false, List, [], ◌∷◌, length, refl, sym, ap, subst, inl, inr}
 use Rattle.std.proofs.lemmas.List.{nil_from_length}
 use Rattle.cbor_head.specs.Complaint.{plain}
-use Rattle.cbor_walk.specs.inner.Building.{chunked_from}
+use Rattle.cbor_walk.specs.inner.Parts.{chunked_from}
 use Rattle.cbor_walk.specs.inner.Items.{IsStringHead}
 use Rattle.cbor_walk.specs.inner.Kept.{IsFitFront, IsOtherFront}
 use Rattle.cbor_walk.proofs.AnyRefusals.{cut_here, no_simple_here}

@@ -1,6 +1,7 @@
 use Rattle.std.proofs.Common.{◌≡◌, ◌∙◌, ◌-◌, List, ℕ, take, length, refl, ap, subst}
 use Rattle.cbor_head.specs.Spelling.{spell}
-use Rattle.cbor_walk.specs.inner.Building.{IsBuilt, Keeps}
+use Rattle.cbor_walk.specs.inner.Building.{IsBuilt}
+use Rattle.cbor_walk.specs.inner.Kept.{Keeps}
 use Rattle.cbor_walk.proofs.GivenParts.{known-begins, front-given}
 use Rattle.cbor_walk.proofs.front.give_front.Goals as goal
 

@@ -1,9 +1,17 @@
-use Rattle.std.proofs.Common.{length, sym, subst}
-use Rattle.cbor_buffer.specs.Moved.{AreInside}
+use Rattle.std.proofs.Common.{List, ◌++◌, length, drop, ap, sym, subst, ◌∙◌, arith}
+use Rattle.cbor_buffer.specs.declared.cuts.Cut.{Cut}
+use Rattle.cbor_buffer.specs.Moved.{AreInside, rope}
 use Rattle.cbor_buffer.proofs.Moved.{run_inside}
+use Rattle.cbor_buffer.proofs.Slices.{settled_down}
 use Rattle.cbor_buffer.proofs.draft.Draft.settle_all.Goals as goal
 
 pub emit-requires : goal.emit-requires
 emit-requires c =
     let d = c.args.self.now in
     subst (AreInside (length d.buf)) (sym c.as_slice.ensures.value) (run_inside 0 (length d.buf) 0 d.end d.cuts.items c.requires.0)
+
+pub returns-clause-lies : goal.returns-clause-lies
+returns-clause-lies c =
+    let d = c.args.self.now in
+    c.close_up.ensures ∙ settled_down d.buf (rope d.buf c.as_slice.result.now) c.emit.new.out c.extend_within.new.self d.end c.len-len.result c.len-len.ensures (omega (arith, c.requires.1, c.len-len.ensures)) c.in_ok-emit.ensures c.in_ok-extend_within.ensures
+    ∙ ap (λ (cs : List Cut). rope d.buf cs ++ drop d.end d.buf) c.as_slice.ensures.value

@@ -23,7 +23,7 @@ returns-in-Some-clause-begun c = λ begun t ms h.
     let ran : Ran _ _ bs [] = record { ran = walked; taken = refl } in
     answered outs.More _ _ t bs ms h (c.ranges.c.fits, tt)
     (λ done. omega (arith, wants.0, due, ap wanted_at (ap (λ (m : MachineView). m.inner.position) c.self.view_is ∙ done))) (ap (λ (m : MachineView). m.depth) c.self.view_is)
-    (fit-sound _ c.self.inside.limits.depth (record { open_count = refl; due = refl; in_payload = refl; complete = refl }) (subst (λ d. IsFit d nest c.in-Some.position) depth c.in-Some.ensures.fits)) (omega (arith, c.self.invariant.within))
+    (fit-sound _ c.self.inside.limits.depth (record { open_count = refl; due = refl; item_due = refl; in_payload = refl; complete = refl }) (subst (λ d. IsFit d nest c.in-Some.position) depth c.in-Some.ensures.fits)) (omega (arith, c.self.invariant.within))
     (ap (λ (m : MachineView). m.taken + 1) c.self.view_is)
     (omega (arith, wants.1, c.self.invariant.taken, ap (λ (m : MachineView). m.bytes) c.self.view_is, ap (λ (m : MachineView). m.taken) c.self.view_is))
     (step-from outs.More _ _ _ bs c.self.view_is (ran, ap (λ (m : MachineView). m.refusal) c.self.view_is ∙ wants.2, refl))

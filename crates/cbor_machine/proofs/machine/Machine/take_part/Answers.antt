@@ -29,7 +29,7 @@ returns-in-Told-clause-answers c = λ t ms h.
     let len = length-front c.walk-used.result.0 c.part-end.result c.args.input.now u (omega (arith, c.part-end.ensures)) in
     let depth : c.from-depth.result ≡ c.self.inside.limits.depth = c.from-depth.ensures ∙ c.depth.ensures.depth in
     answered (outs.Event (record { place = c.self.inside.told; width = c.in-Told.width; kind = c.in-Told.kind })) _ _ t (take c.walk-used.result.0 c.args.input.now) ms h (are_bytes-take c.walk-used.result.0 c.args.input.now c.below_256.ensures)
-    (λ e. c.in_default-position.not-Done (ap (λ (m : MachineView). m.inner.position) c.self.view_is ∙ e)) (ap (λ (m : MachineView). m.depth) c.self.view_is) (fit-sound _ _ (record { open_count = refl; due = refl; in_payload = refl; complete = refl }) c.walk-used.ensures.fits) (omega arith)
+    (λ e. c.in_default-position.not-Done (ap (λ (m : MachineView). m.inner.position) c.self.view_is ∙ e)) (ap (λ (m : MachineView). m.depth) c.self.view_is) (fit-sound _ _ (record { open_count = refl; due = refl; item_due = refl; in_payload = refl; complete = refl }) c.walk-used.ensures.fits) (omega arith)
     (ap (λ n. c.self.inside.taken + n) (sym len.1) ∙ ap (λ (m : MachineView). m.taken + length (take c.walk-used.result.0 c.args.input.now)) c.self.view_is)
     (omega (arith, length-take c.part-end.result c.args.input.now)) (returns-in-Told-clause-walked c h.live)
 
@@ -49,7 +49,7 @@ returns-then-self-bytes-clause-answers c = λ t ms h.
     let len = length-front c.walk-used.result.0 c.part-end.result c.args.input.now u (omega (arith, c.part-end.ensures)) in
     let depth : c.from-depth.result ≡ c.self.inside.limits.depth = c.from-depth.ensures ∙ c.depth.ensures.depth in
     answered outs.More _ _ t (take c.walk-used.result.0 c.args.input.now) ms h (are_bytes-take c.walk-used.result.0 c.args.input.now c.below_256.ensures)
-    (λ e. c.in_default-position.not-Done (ap (λ (m : MachineView). m.inner.position) c.self.view_is ∙ e)) (ap (λ (m : MachineView). m.depth) c.self.view_is) (fit-sound _ _ (record { open_count = refl; due = refl; in_payload = refl; complete = refl }) c.walk-used.ensures.fits) (omega arith)
+    (λ e. c.in_default-position.not-Done (ap (λ (m : MachineView). m.inner.position) c.self.view_is ∙ e)) (ap (λ (m : MachineView). m.depth) c.self.view_is) (fit-sound _ _ (record { open_count = refl; due = refl; item_due = refl; in_payload = refl; complete = refl }) c.walk-used.ensures.fits) (omega arith)
     (ap (λ n. c.self.inside.taken + n) (sym len.1) ∙ ap (λ (m : MachineView). m.taken + length (take c.walk-used.result.0 c.args.input.now)) c.self.view_is)
     (omega (arith, length-take c.part-end.result c.args.input.now)) (returns-then-self-bytes-clause-walked c h.live)
 
@@ -70,7 +70,7 @@ returns-else-self-bytes-clause-answers c = λ t ms h.
     let len = length-front c.walk-used.result.0 c.part-end.result c.args.input.now u (omega (arith, c.part-end.ensures)) in
     let depth : c.from-depth.result ≡ c.self.inside.limits.depth = c.from-depth.ensures ∙ c.depth.ensures.depth in
     rw c.refusal_of-refusal.ensures (answered (outs.Refused (refusal TooLong c.bytes-bytes.result c.bytes-bytes.result)) _ _ t (take c.walk-used.result.0 c.args.input.now) ms h (are_bytes-take c.walk-used.result.0 c.args.input.now c.below_256.ensures)
-    (λ e. c.in_default-position.not-Done (ap (λ (m : MachineView). m.inner.position) c.self.view_is ∙ e)) (ap (λ (m : MachineView). m.depth) c.self.view_is) (fit-sound _ _ (record { open_count = refl; due = refl; in_payload = refl; complete = refl }) c.walk-used.ensures.fits) (omega arith)
+    (λ e. c.in_default-position.not-Done (ap (λ (m : MachineView). m.inner.position) c.self.view_is ∙ e)) (ap (λ (m : MachineView). m.depth) c.self.view_is) (fit-sound _ _ (record { open_count = refl; due = refl; item_due = refl; in_payload = refl; complete = refl }) c.walk-used.ensures.fits) (omega arith)
     (ap (λ n. c.self.inside.taken + n) (sym len.1) ∙ ap (λ (m : MachineView). m.taken + length (take c.walk-used.result.0 c.args.input.now)) c.self.view_is)
     (omega (arith, length-take c.part-end.result c.args.input.now)) (rw c.refusal_of-refusal.ensures at (returns-else-self-bytes-clause-walked c h.live)))
 
@@ -88,7 +88,7 @@ returns-in-Refused-clause-answers c = λ t ms h.
     let len = length-front c.walk-used.result.0 c.part-end.result c.args.input.now u (omega (arith, c.part-end.ensures)) in
     let depth : c.from-depth.result ≡ c.self.inside.limits.depth = c.from-depth.ensures ∙ c.depth.ensures.depth in
     rw c.refusal_of-refusal-in-Refused.ensures (answered (outs.Refused (refusal c.in-Refused.reason (c.self.inside.taken + c.walk-used.result.0 - 1) (c.self.inside.taken + c.walk-used.result.0))) _ _ t (take c.walk-used.result.0 c.args.input.now) ms h (are_bytes-take c.walk-used.result.0 c.args.input.now c.below_256.ensures)
-    (λ e. c.in_default-position.not-Done (ap (λ (m : MachineView). m.inner.position) c.self.view_is ∙ e)) (ap (λ (m : MachineView). m.depth) c.self.view_is) (fit-sound _ _ (record { open_count = refl; due = refl; in_payload = refl; complete = refl }) c.walk-used.ensures.fits) (omega arith)
+    (λ e. c.in_default-position.not-Done (ap (λ (m : MachineView). m.inner.position) c.self.view_is ∙ e)) (ap (λ (m : MachineView). m.depth) c.self.view_is) (fit-sound _ _ (record { open_count = refl; due = refl; item_due = refl; in_payload = refl; complete = refl }) c.walk-used.ensures.fits) (omega arith)
     (ap (λ n. c.self.inside.taken + n) (sym len.1) ∙ ap (λ (m : MachineView). m.taken + length (take c.walk-used.result.0 c.args.input.now)) c.self.view_is)
     (omega (arith, length-take c.part-end.result c.args.input.now)) (rw c.refusal_of-refusal-in-Refused.ensures at (returns-in-Refused-clause-walked c h.live)))
 

@@ -26,7 +26,7 @@ returns-clause-answers c = λ t ms h.
     let event = outs.Event (record { place = c.self.inside.told; width = e.width; kind = e.kind }) in
     answered event _ _ t xs ms h c.below_256.ensures
     (λ done. omega (arith, c.requires.some, wants.0, due, ap wanted_at (ap (λ (m : MachineView). m.inner.position) c.self.view_is ∙ done))) (ap (λ (m : MachineView). m.depth) c.self.view_is)
-    (fit-sound _ c.self.inside.limits.depth (record { open_count = refl; due = refl; in_payload = refl; complete = refl }) (settled_fit _ _ _ told.clear)) (omega (arith, c.walk_whole.ensures.within, depth))
+    (fit-sound _ c.self.inside.limits.depth (record { open_count = refl; due = refl; item_due = refl; in_payload = refl; complete = refl }) (settled_fit _ _ _ told.clear)) (omega (arith, c.walk_whole.ensures.within, depth))
     (ap (λ n. c.self.inside.taken + n) used ∙ ap (λ (m : MachineView). m.taken + length xs) c.self.view_is)
     (omega (arith, used, wants.1, c.self.invariant.taken, ap (λ (m : MachineView). m.bytes) c.self.view_is, ap (λ (m : MachineView). m.taken) c.self.view_is))
     (step-from event _ _ _ xs c.self.view_is (ran, ap (λ (m : MachineView). m.refusal) c.self.view_is ∙ wants.2, refl, refl, told.clear, told.proper))

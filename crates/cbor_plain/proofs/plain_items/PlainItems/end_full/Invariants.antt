@@ -1,5 +1,4 @@
 use Rattle.std.proofs.Common.{◌≡◌, ℕ, List}
-use Rattle.std.specs.Prelude.{IsSome}
 use Rattle.cbor_head.specs.Limits.{Bounds}
 use Rattle.cbor_standing.specs.NextEvent.{ItemEventsView}
 use Rattle.cbor_plain.specs.inner.PlainItems.{IsEndingAt}
@@ -8,7 +7,7 @@ use Rattle.cbor_plain.proofs.plain_items.PlainItems.end_full.Given as goal
 abbrev pub invariant-full : goal.invariant-full
 invariant-full l = (l.self.starts ≡ l.fn.self.starts)
     × ((b : Bounds) (e : ItemEventsView) (t : List ℕ) → IsEndingAt l.fn.self b e t l.fn.height → l.fn.«open» ≡ e.machine.open_count
-    → (l.self.builder.order ≡ l.fn.self.builder.order) × (IsSome l.fn.self.tree → IsSome l.self.tree) × IsEndingAt l.self b e t l.left)
+    → IsEndingAt l.self b e t l.left)
 
 abbrev pub decreases-full : goal.decreases-full
 decreases-full l = l.left

@@ -1,6 +1,7 @@
 use Rattle.std.proofs.Common.{Bool, List, sym, subst, arith, refl}
 use Rattle.cbor_walk.specs.declared.open.Open.{Open}
-use Rattle.cbor_walk.specs.inner.Building.{pairs, HasFilled, HasFilledIn}
+use Rattle.cbor_walk.specs.inner.Building.{HasFilled, HasFilledIn}
+use Rattle.cbor_walk.specs.inner.Open.{pairs}
 use Rattle.cbor_walk.specs.inner.Stack.{around, standing}
 use Rattle.cbor_walk.proofs.GivenParts.{container-full, has-ended}
 use Rattle.cbor_walk.proofs.GivenEnds.{goes, is-full}

@@ -1,7 +1,8 @@
 use Rattle.std.proofs.Common.{ℕ, ◌-◌, ◌∷◌, sym, subst, refl}
 use Rattle.cbor_head.specs.declared.major.Major.TheVariants.{Array, Map}
 use Rattle.cbor_walk.specs.declared.open.Open.{Open}
-use Rattle.cbor_walk.specs.inner.Building.{IsDue, IsDueIn, IsOpener, TakesTo, TakesFront}
+use Rattle.cbor_walk.specs.inner.Building.{IsDue, IsDueIn, TakesTo}
+use Rattle.cbor_walk.specs.inner.Parts.{IsOpener, TakesFront}
 use Rattle.cbor_walk.specs.inner.Stack.{around, standing}
 use Rattle.cbor_walk.proofs.GivenItems.{array-opens, map-opens}
 use Rattle.cbor_walk.proofs.building.Building.endless_part.Goals as goal

@@ -4,7 +4,7 @@ use Rattle.std.specs.Prelude.{IsUtf8}
 use Rattle.cbor_keys.proofs.KeyFronts.{are_bytes}
 use Rattle.cbor_judging.specs.Reading.{string_major, string_value}
 use Rattle.cbor_head.specs.Spelling.{chunks_joined}
-use Rattle.cbor_walk.specs.inner.Building.{IsHead, chunked_from}
+use Rattle.cbor_walk.specs.inner.Parts.{IsHead, chunked_from}
 use Rattle.cbor_walk.proofs.GivenKinds.{scalar-begun}
 use Rattle.cbor_walk.proofs.GivenParts.{due-item, key-awaited, scalar-settles}
 use Rattle.cbor_walk.proofs.Chunked.{AreChunks, no-chunks, chunk-due, one-more, all-chunks}

@@ -1,6 +1,7 @@
 use Rattle.std.proofs.Common.{◌∙◌, ◌-◌, ◌<◌, Bool, length, sym, subst, arith, refl}
 use Rattle.cbor_walk.specs.declared.open.Open.{Open}
-use Rattle.cbor_walk.specs.inner.Building.{IsHeadIn, IsOpener, IsToEnd, TakesTo}
+use Rattle.cbor_walk.specs.inner.Building.{IsHeadIn, IsToEnd, TakesTo}
+use Rattle.cbor_walk.specs.inner.Parts.{IsOpener}
 use Rattle.cbor_walk.specs.inner.Stack.{around, standing}
 use Rattle.cbor_walk.proofs.GivenItems.{counts-container, head-opens}
 use Rattle.cbor_walk.proofs.GivenKinds.{counted-begun, begun-takes}

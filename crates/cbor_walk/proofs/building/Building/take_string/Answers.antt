@@ -4,7 +4,8 @@ use Rattle.std.specs.Prelude.{IsUtf8}
 use Rattle.cbor_head.specs.Value.{AreBytes}
 use Rattle.cbor_keys.proofs.KeyFronts.{are_bytes}
 use Rattle.cbor_judging.specs.Reading.{string_major, string_value}
-use Rattle.cbor_walk.specs.inner.Building.{IsHeadDue, HasEnded, HasBegun}
+use Rattle.cbor_walk.specs.inner.Building.{IsHeadDue, HasEnded}
+use Rattle.cbor_walk.specs.inner.Parts.{HasBegun}
 use Rattle.cbor_walk.proofs.GivenItems.{scalar-string}
 use Rattle.cbor_walk.proofs.GivenKinds.{scalar-begun}
 use Rattle.cbor_walk.proofs.GivenParts.{due-item, key-awaited, scalar-ends}

@@ -1,0 +1,20 @@
+use Rattle.std.proofs.Common.{List, ℕ, ◌++◌, length, take, ap, ◌∙◌, arith}
+use Rattle.std.proofs.lemmas.Result.{on_ok_weaker}
+use Rattle.cbor_buffer.proofs.Slices.{block_part, front_of_list}
+use Rattle.cbor_buffer.proofs.Written.{vec_extended}
+use Rattle.cbor_buffer.proofs.out.Out.extend_within.Goals as goal
+
+pub returns-in-Some : goal.returns-in-Some
+returns-in-Some c =
+    let out = c.args.self.now in
+    let v = c.self.inside.buf in
+    let front = ap (take (length out)) c.deref.ensures.value ∙ front_of_list v.items out c.self.inside.len c.self.view_is (omega (arith, c.self.invariant, v.ok.0)) in
+    on_ok_weaker c.extend_block.result (λ e. e ∙ ap (λ (xs : List ℕ). out ++ xs)
+    (block_part c.deref.result.now out c.in-Some.block.now c.args.start c.args.end front c.requires.begins c.requires.ends c.if-count-le-BLOCK.true c.in-Some.ensures.cases.same)) c.extend_block.ensures
+
+pub returns : goal.returns
+returns c =
+    let v = c.make_room.new.buf in
+    let d = c.copy_behind-self-inside in
+    vec_extended v.items c.deref_mut.result.now d.new.buf c.args.self.now v.len c.self-2.inside.len d.result c.args.start c.args.end
+    c.deref_mut.ensures.value v.ok.0 d.auto.buf (c.in_ok-make_room.ensures.same ∙ c.self-2.view_is) c.in_ok-make_room.ensures.within c.requires.begins c.requires.ends d.ensures.behind

@@ -1,0 +1,34 @@
+//! The key that is due, held against those before it.
+
+ghost use Rattle.std.specs.Prelude.{◌≡◌, ◌↔◌, IsTrue};
+ghost use Rattle.cbor_builder.specs.Built.{HoldsKey, IsKeyDueAt};
+
+use crate::canon_builder::CanonBuilder;
+use crate::repeat::Repeat;
+use cbor_head::KeyOrder;
+
+impl CanonBuilder {
+    /// The order of its keys.
+    pub fn order(&self) -> KeyOrder
+        ensures { result ≡ self.now.order }
+    {
+        self.core.order
+    }
+
+    /// Whether a key is due, within as many containers and behind as many pairs of its map as the key
+    /// that is told. Takes no memory.
+    #[inline(always)]
+    pub fn is_due_at(&self, repeat: Repeat) -> bool
+        ensures { IsTrue result ↔ IsKeyDueAt self.now.standing repeat.outside repeat.pair }
+    {
+        self.is_sound && self.core.is_due_at(repeat)
+    }
+
+    /// Whether a key is due, and an earlier one of its map has these canonical bytes. Takes no
+    /// memory, and at most as many comparisons as the map has pairs.
+    pub fn has_key(&self, key: &[u8]) -> bool
+        ensures { IsTrue result ↔ HoldsKey self.now.standing key.now }
+    {
+        self.is_sound && self.core.has_key(key)
+    }
+}

@@ -1,0 +1,11 @@
+use Rattle.std.proofs.Common.{ℕ, List, ◌-◌}
+use Rattle.cbor_head.specs.Limits.{Bounds}
+use Rattle.cbor_plain.specs.inner.ItemFront.{IsDueAt}
+use Rattle.cbor_plain.proofs.PlainSteps.{TakesSoFar}
+use Rattle.cbor_plain.proofs.item_front.read_parts.Given as goal
+
+abbrev pub invariant-parts : goal.invariant-parts
+invariant-parts g l = (b : Bounds) (t : List ℕ) → IsDueAt l.fn.items b l.fn.events t → TakesSoFar l.items b l.events t (g.R.Read.remaining l.fn.reader) (g.R.Read.remaining l.reader)
+
+abbrev pub decreases-parts : goal.decreases-parts
+decreases-parts g l = l.events.machine.bytes - l.events.machine.taken

@@ -1,0 +1,110 @@
+-- What is told of the item at the front of an input, part by part, by the plain rules.
+use Rattle.std.specs.Prelude.{ℕ, ◌≡◌, ◌+◌, ◌<◌, ◌≤◌, ◌++◌, Bool, true, false, List, [], ◌∷◌, length, map, Option, None, Result, MatchResult, IsSome}
+use Rattle.std.specs.Io.KnownBytes.{Consumes}
+use Rattle.cbor_head.specs.Complaint.{Rules, plain, complaint, OfKinds}
+use Rattle.cbor_head.specs.Laws.{StartsWith}
+use Rattle.cbor_head.specs.Limits.{Bounds}
+use Rattle.cbor_head.specs.Spelling.{Spelling, spell}
+use Rattle.cbor_head.specs.Verdict.{refusal}
+use Rattle.cbor_head.specs.declared.reason.Reason.TheVariants.{KeyKind}
+use Rattle.cbor_head.specs.declared.reason.Refusal.{Refusal}
+use Rattle.cbor_automaton.specs.declared.event.Event.{Event}
+use Rattle.cbor_events.specs.NextKey.{IsBasicKind}
+use Rattle.cbor_judging.specs.Judged.{IsJudged}
+use Rattle.cbor_judging.specs.Kinds.{AsksForKinds, KeepsToKinds, IsKeyDueIn}
+use Rattle.cbor_judging.specs.Place.{at_item, done as at_end}
+use Rattle.cbor_standing.specs.NextEvent.{ItemEventsView}
+use Rattle.cbor_plain.specs.declared.plain_items.PlainItems.{PlainItems}
+use Rattle.cbor_plain.specs.inner.HeldKeys.{AreHeld}
+use Rattle.cbor_judging.specs.Levels.{IsTaken, Level, frame, AreLevels, bytes_before, item_due, item_whole}
+use Rattle.cbor_judging.specs.Given.{opens}
+use Rattle.cbor_plain.specs.inner.PlainItems.{AreApart, HaveBegun, sets}
+use Rattle.cbor_judging.specs.Reading.{IsAt, IsMemory, IsReached, IsUndecided, HasCause, IsNextHead}
+use Rattle.cbor_plain.specs.TreeValues.{IsTreeAt}
+
+-- an item is due, behind the bytes t, and nothing read has a complaint
+pub record IsDueAt (v : PlainItems) (b : Bounds) (e : ItemEventsView) (t : List ℕ) : Type 0 where
+  pub ls : List Level
+  pub levels : AreLevels b.depth ls
+  pub taken : t ≡ bytes_before ls
+  pub at : IsAt b e t (at_item (map frame ls))
+  pub standing : v.builder.standing ≡ opens v.builder.order ls
+  pub apart : AreApart v.builder.standing
+  pub begun : HaveBegun v.starts.items ls
+  pub held : AreHeld (sets v) v.builder.standing
+  pub tree : IsTreeAt v.tree (item_due ls)
+  pub kinds : v.kinds ≡ b.keys
+  pub keeps : KeepsToKinds b plain t
+
+pub record IsDueSomewhere (v : PlainItems) (e : ItemEventsView) : Type 0 where
+  pub b : Bounds
+  pub t : List ℕ
+  pub due : IsDueAt v b e t
+
+-- the item is whole
+pub record IsWholeAt (v : PlainItems) (b : Bounds) (e : ItemEventsView) (t : List ℕ) : Type 0 where
+  pub item : Spelling
+  pub is : IsTaken b.depth item
+  pub taken : t ≡ spell item
+  pub at : IsAt b e t at_end
+  pub tree : IsTreeAt v.tree (item_whole item)
+  pub keeps : KeepsToKinds b plain t
+
+abbrev pub GoesOnOrNot : Bool → PlainItems → Bounds → ItemEventsView → List ℕ → Type 0
+GoesOnOrNot true v b e t = IsDueAt v b e t
+GoesOnOrNot false v b e t = IsWholeAt v b e t
+
+-- a part was taken, and nothing read has a complaint
+pub record TakesNext (more : Bool) (v : PlainItems) (b : Bounds) (e : ItemEventsView) (t : List ℕ) (from to : Option (List ℕ)) : Type 0 where
+  pub bytes : List ℕ
+  pub some : 0 < length bytes
+  pub consumed : Consumes from to bytes
+  pub stands : GoesOnOrNot more v b e (t ++ bytes)
+
+-- of a key of another kind the last of these bytes is the first, and nothing before it has a complaint
+pub record EndInOtherKey (r : Rules) (b : Bounds) (bytes : List ℕ) (f : Refusal) : Type 0 where
+  pub p : List ℕ
+  pub first : ℕ
+  pub splits : bytes ≡ p ++ first ∷ []
+  pub within : length bytes ≤ b.bytes
+  pub asked : AsksForKinds b r
+  pub judged : IsJudged r 0 b.depth p None
+  pub keeps : KeepsToKinds b r p
+  pub item : Spelling
+  pub begins : StartsWith b.depth item (p ++ first ∷ [])
+  pub complains : OfKinds 0 item (complaint (length p + 1) (length p) KeyKind)
+  pub is : f ≡ refusal KeyKind (length p) (length p + 1)
+
+-- Why the bytes are refused that were taken. Where they are known, no key of another kind begins before what refuses them.
+pub data WhyStopped (r : Rules) (b : Bounds) (bytes : List ℕ) (from to : Option (List ℕ)) (f : Refusal) : Type 0 where
+  for_memory : IsMemory f → IsReached b bytes → (u : IsUndecided r b [] [] bytes) → (IsSome from → KeepsToKinds b r u.p) → WhyStopped r b bytes from to f
+  for_cause : (h : HasCause r b [] [] bytes to f) → (IsSome from → KeepsToKinds b r h.p) → WhyStopped r b bytes from to f
+  for_kind : EndInOtherKey r b bytes f → WhyStopped r b bytes from to f
+
+-- it is refused, with these bytes taken
+pub record IsStopped (r : Rules) (b : Bounds) (t : List ℕ) (from to : Option (List ℕ)) (f : Refusal) : Type 0 where
+  pub bytes : List ℕ
+  pub consumed : Consumes from to bytes
+  pub read : f.read ≡ length (t ++ bytes)
+  pub why : WhyStopped r b (t ++ bytes) from to f
+
+-- the head of the item that is due, or a break: of a key whose kind is asked for, it is of an integer or a text
+pub record IsNextDue (b : Bounds) (ls : List Level) (t : List ℕ) (e : Event) (from to : Option (List ℕ)) (new : ItemEventsView) : Type 0 where
+  pub head : IsNextHead plain b (at_item (map frame ls)) t e from to new
+  pub kind : AsksForKinds b plain → IsKeyDueIn ls → IsBasicKind e.kind
+
+abbrev pub AnswersDue : PlainItems → ItemEventsView → Option (List ℕ) → Option (List ℕ) → ItemEventsView → Result Event Refusal → Type 0
+AnswersDue v e from to new result =
+    (b : Bounds) (t : List ℕ) → (d : IsDueAt v b e t)
+    → MatchResult result (λ event. IsNextDue b d.ls t event from to new) (λ f. IsStopped plain b t from to f)
+
+abbrev pub AnswersNextPart : PlainItems → PlainItems → ItemEventsView → ItemEventsView → Option (List ℕ) → Option (List ℕ) → Result Bool Refusal → Type 0
+AnswersNextPart old new e after from to result =
+    (b : Bounds) (t : List ℕ) → IsDueAt old b e t
+    → MatchResult result (λ more. TakesNext more new b after t from to) (λ f. IsStopped plain b t from to f)
+
+-- the parts that are left were taken, or it is refused at one
+abbrev pub AnswersParts : PlainItems → PlainItems → ItemEventsView → ItemEventsView → Option (List ℕ) → Option (List ℕ) → Result (Unit {0}) Refusal → Type 0
+AnswersParts old new e after from to result =
+    (b : Bounds) (t : List ℕ) → IsDueAt old b e t
+    → MatchResult result (λ u. TakesNext false new b after t from to) (λ f. IsStopped plain b t from to f)
