@@ -1,7 +1,8 @@
 /* library FOLDER NAME..: times calls of naltvigo.h in process on FOLDER/NAME.cbor and its canonical bytes
  * FOLDER/NAME.bytewise, beside plain C (floor.c) and, where it is there, libcbor; prints a row of Markdown
  * tables for each, in MB/s of processor time, the best of some calls; then what a call on a small item costs, and events.
- * library --calls NAME ITEM TIMES: makes so many calls on a small item, for a count of their instructions (small.py). */
+ * library --calls NAME ITEM MEMBERS TIMES: makes so many calls on a small item, or on an array of so many of it, for a
+ * count of their instructions (small.py). */
 #define _POSIX_C_SOURCE 199309L
 #include "../c/options.h"
 #include "floor.h"
@@ -165,22 +166,32 @@ static void tell_nanoseconds(int (*call)(void)) {
     printf(" %.0f |", 1e9 * best);
 }
 
-static uint8_t room[1024];
+enum { MEMBERS = 16, ROOM = 4096 };
 
-static void take_small(size_t i) {
-    in = canonical = (struct bytes){(uint8_t *)small[i].bytes, small[i].length};
-    if (small[i].canonical) canonical = (struct bytes){(uint8_t *)small[i].canonical, small[i].canonical_length};
+/* The item, or an array of so many of it. */
+static struct bytes members_of(const char *bytes, size_t length, size_t members, uint8_t *made) {
+    if (members == 0) return (struct bytes){(uint8_t *)bytes, length};
+    made[0] = (uint8_t)(0x80 + members);
+    for (size_t i = 0; i < members; i++) memcpy(made + 1 + i * length, bytes, length);
+    return (struct bytes){made, 1 + members * length};
+}
+
+static void take_small(size_t i, size_t members) {
+    static uint8_t given[ROOM], meant[ROOM], room[ROOM];
+    in = canonical = members_of(small[i].bytes, small[i].length, members, given);
+    if (small[i].canonical) canonical = members_of(small[i].canonical, small[i].canonical_length, members, meant);
     out = (struct bytes){room, sizeof room};
 }
 
-/* Makes so many of the calls of this name on a small item. */
-static int repeat(const char *name, size_t item, long times) {
+/* Makes so many of the calls of this name on a small item, or on an array of so many of it. */
+static int repeat(const char *name, size_t item, size_t members, long times) {
     static const struct { const char *name; int (*call)(void); } calls[] = {
         {"canonicalise", canonicalise}, {"plain_canonicalise", plain_canonicalise},
         {"check_canonical", check_canonical}, {"plain_check_canonical", plain_check_canonical},
         {"check_valid", check_valid}, {"compare", compare}, {"diagnostic", diagnostic}, {"events", events_64},
     };
-    take_small(item);
+    if (members > MEMBERS) return 2;
+    take_small(item, members);
     for (size_t i = 0; i < sizeof calls / sizeof *calls; i++)
         if (strcmp(calls[i].name, name) == 0) {
             while (times-- > 0)
@@ -194,7 +205,7 @@ static void tell_small(void) {
     puts("\n| small item, ns a call | bytes | `canonicalise` | plain C | `check_canonical` | plain C | `check_valid` | `compare` |");
     puts("| --- | ---: | ---: | ---: | ---: | ---: | ---: | ---: |");
     for (size_t i = 0; i < sizeof small / sizeof *small; i++) {
-        take_small(i);
+        take_small(i, 0);
         printf("| %s | %zu |", small[i].name, in.length);
         tell_nanoseconds(canonicalise);
         tell_nanoseconds(plain_canonicalise);
@@ -207,8 +218,8 @@ static void tell_small(void) {
 }
 
 int main(int count, char **words) {
-    if (count == 5 && strcmp(words[1], "--calls") == 0)
-        return repeat(words[2], strtoul(words[3], NULL, 10), strtol(words[4], NULL, 10));
+    if (count == 6 && strcmp(words[1], "--calls") == 0)
+        return repeat(words[2], strtoul(words[3], NULL, 10), strtoul(words[4], NULL, 10), strtol(words[5], NULL, 10));
     puts("| input | bytes | `canonicalise` | plain C | `check_canonical` | plain C | `check_valid` | `compare` |");
     puts("| --- | ---: | ---: | ---: | ---: | ---: | ---: | ---: |");
     for (int i = 2; i < count; i++) {

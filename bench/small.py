@@ -1,9 +1,9 @@
-"""Counts the instructions of a call of the library for C on small items, and prints a Markdown table.
+"""Counts the instructions of a call of the library for C on small items, and prints two Markdown tables.
 
     python3 small.py LIBRARY
 
-LIBRARY is library.c. Each count is callgrind's of 1,000 calls, less that of none, a call. Of the byte string and of
-the integer next to nothing is the bytes' own work, so these rows are what a call costs by itself.
+LIBRARY is library.c. Each count is callgrind's of 1,000 calls, less that of none, a call. The second table has what a
+call costs beyond the bytes' own work: less what each further such item in an array takes, the mean of 15.
 """
 
 import sys
@@ -15,18 +15,35 @@ ITEMS += ["the integer 0 in two bytes", "these claims, the last one first"]
 CALLS = ["canonicalise", "check_canonical", "check_valid", "compare", "diagnostic", "events"]
 PLAIN = ["plain_canonicalise", "plain_check_canonical"]
 TIMES = 1000
+MEMBERS = 16
+
+
+def count(library, call, place, members=0):
+    """The instructions of a call on an item, or on an array of so many of it."""
+    words = ["--calls", call, str(place), str(members)]
+    none, some = (instructions(library, *words, str(times)) for times in (0, TIMES))
+    return (some - none) / TIMES
+
+
+def beyond(library, call, place):
+    """Those of a call on an item that are not its bytes' own work."""
+    one, many = (count(library, call, place, members) for members in (1, MEMBERS))
+    return count(library, call, place) - (many - one) / (MEMBERS - 1)
+
+
+def tell(library, title, calls, counted):
+    names = [f"`{it}`" for it in calls] + ["plain C, canonical", "plain C, check"]
+    print(f"| {title} | " + " | ".join(names) + " |\n| --- |" + " ---: |" * len(names))
+    for place, item in enumerate(ITEMS):
+        cells = [f"{counted(library, call, place):,.0f}" for call in calls + PLAIN]
+        print(f"| {item} | " + " | ".join(cells) + " |", flush=True)
 
 
 def main():
     library = sys.argv[1]
-    names = [f"`{it}`" for it in CALLS] + ["plain C, canonical", "plain C, check"]
-    print("| small item, instructions a call | " + " | ".join(names) + " |\n| --- |" + " ---: |" * len(names))
-    for place, item in enumerate(ITEMS):
-        cells = []
-        for call in CALLS + PLAIN:
-            none, some = (instructions(library, "--calls", call, str(place), str(times)) for times in (0, TIMES))
-            cells.append(f"{(some - none) / TIMES:,.0f}")
-        print(f"| {item} | " + " | ".join(cells) + " |", flush=True)
+    tell(library, "small item, instructions a call", CALLS, count)
+    print()
+    tell(library, "those beyond the bytes' own work", CALLS[:4], beyond)
 
 
 if __name__ == "__main__":
