@@ -47,12 +47,12 @@ sorted_by_number o out {g = g} {f = f} ys s h =
     s (λ x y. is_lt (by_number o out x y)) (number_ranks o out)
     (always_returns_same g (λ a r. is_lt r ≡ is_lt (by_number o out a.0.now a.1.0.now)) f (λ a r f' k. (ap is_lt (h a r f' k).0, (h a r f' k).1)))
 
-not_less_first : (r s : Ordering) → is_lt (ordering_then r s) ≡ false → is_lt r ≡ false
+pub not_less_first : (r s : Ordering) → is_lt (ordering_then r s) ≡ false → is_lt r ≡ false
 not_less_first Less s e = e
 not_less_first Equal s e = refl
 not_less_first Greater s e = refl
 
-not_less_number : (m n : ℕ) → is_lt (nat_cmp m n) ≡ false → n ≤ m
+pub not_less_number : (m n : ℕ) → is_lt (nat_cmp m n) ≡ false → n ≤ m
 not_less_number m n e = go (nat_cmp m n) e (ranked m n (nat_cmp m n) refl)
   where
     go : (r : Ordering) → is_lt r ≡ false → MatchOrdering r (m < n) (m ≡ n) (n < m) → n ≤ m

@@ -2,9 +2,9 @@
 use Rattle.std.proofs.Common.{◌≡◌, ℕ, zero, suc, ◌+◌, ◌-◌, ◌<◌, ◌≤◌, List, [], ◌∷◌, ◌++◌, length, length-take, take, drop, drop-drop, get_or, set, map, refl, sym, ap, ◌∙◌, subst, arith, inl, inr, IsPermutation, IsSortedBy, false}
 use Rattle.std.specs.Prelude.{IsTrue}
 use Rattle.std.specs.List.{AllByRecursion, insert}
-use Rattle.std.proofs.lemmas.List.{take_all, take_more, take-take}
+use Rattle.std.proofs.lemmas.List.{take_more, take-take}
 use Rattle.std.proofs.lemmas.Bool.{false_from_ne_true}
-use Rattle.std.proofs.lemmas.List.Sorted.{IsPermutation-trans, IsPermutation-append_comm, IsPermutation-append_right, IsPermutation-map, length_permutation}
+use Rattle.std.proofs.lemmas.List.Sorted.{IsPermutation-trans, IsPermutation-append_comm, IsPermutation-append_right, IsPermutation-map}
 use Rattle.std.specs.declared.cmp.Ordering.{Ordering}
 use Rattle.std.specs.declared.cmp.Ordering.TheVariants.{Less, Greater}
 use Rattle.std.specs.Ordering.{is_lt, ordering_reverse}
@@ -214,23 +214,3 @@ repeats o out ss us n next l e m h d =
 
 pub fronted_taken : (out : List ℕ) (n : ℕ) (ss : List Span) → AreFronted out ss → AreFronted out (take n ss)
 fronted_taken out n ss f = all_taken _ n ss f
-
--- ---- the first places
-
--- as many as were given, through the lists that stand for them
-same_places : (given xs items places : List Span) (n : ℕ) → given ≡ xs → length xs ≡ n → places ≡ items → take (length given) items ≡ take n places
-same_places given xs items places n e l p = ap (λ k. take k items) (ap length e ∙ l) ∙ ap (take n) (sym p)
-
-pub places_permuted : (given xs items places : List Span) (n : ℕ) → given ≡ xs → length xs ≡ n → places ≡ items → IsPermutation given (take (length given) items) → IsPermutation xs (take n places)
-places_permuted given xs items places n e l p m =
-    subst (λ (us : List Span). IsPermutation us (take n places)) e (subst (IsPermutation given) (same_places given xs items places n e l p) m)
-
-pub places_sorted : (o : KeyOrder) (bytes raw : List ℕ) (given xs items places : List Span) (n : ℕ) → bytes ≡ raw → given ≡ xs → length xs ≡ n → places ≡ items
-    → IsSortedBy (λ x y. key_lt o (key_of bytes x) (key_of bytes y)) (take (length given) items) → IsSortedBy (λ x y. key_lt o (key_of raw x) (key_of raw y)) (take n places)
-places_sorted o bytes raw given xs items places n b e l p s =
-    subst (λ (bs : List ℕ). IsSortedBy (λ x y. key_lt o (key_of bs x) (key_of bs y)) (take n places)) b
-    (subst (IsSortedBy (λ x y. key_lt o (key_of bytes x) (key_of bytes y))) (same_places given xs items places n e l p) s)
-
-pub whole_permuted : (xs ys : List Span) → IsPermutation xs ys → IsPermutation xs (take (length xs) ys)
-whole_permuted xs ys m =
-    let l = length_permutation xs ys m in subst (IsPermutation xs) (sym (take_all (length xs) ys (omega (arith, l)))) m

@@ -9,6 +9,7 @@ pub mod Neighbours
 pub mod Numbers
 pub mod OpenRepeats
 pub mod PartsMade
+pub mod Places
 pub mod Ranks
 pub mod SortedPairs
 pub mod SortedSpans

@@ -6,4 +6,5 @@ pub mod InPlace
 pub mod Insertion
 pub mod Laid
 pub mod Neighbours
+pub mod Places
 pub mod Repeats

@@ -36,7 +36,6 @@ pub(crate) struct Core {
     pub(crate) spans: Vec<Span>,
     pub(crate) top: Frame,
     pub(crate) below: Vec<Frame>,
-    pub(crate) sorting: Vec<Span>,
 }
 
 impl Core {
@@ -51,7 +50,6 @@ impl Core {
             spans: Vec::new(alloc),
             top: Frame::outermost(),
             below: Vec::new(alloc),
-            sorting: Vec::new(alloc),
         }
     }
 
@@ -263,7 +261,6 @@ impl Core {
             spans: _,
             top: _,
             below: _,
-            sorting: _,
         } = self;
         out.into_vec()
     }

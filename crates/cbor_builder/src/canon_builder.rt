@@ -264,7 +264,7 @@ impl CanonBuilder {
     }
 
     /// The array, map or tag ends, and nothing of it is kept: false where two keys of the map are the
-    /// same. Then the builder may only be dropped, or cleared. It takes as many comparisons as
+    /// same. Then it stays open, and `first_repeat` tells which. It takes as many comparisons as
     /// `end_if_distinct`.
     #[inline(always)]
     pub fn give_up_if_distinct(&mut self) -> Result<bool, AllocError>
@@ -274,11 +274,12 @@ impl CanonBuilder {
             (λ distinct. IsTrue distinct ↔ HasDistinctKeysSoFar self.old.standing) }
         ensures around { IfOk result (λ distinct. IsTrue distinct
             → self.new ≡ built self.old.order (around self.old.standing)) }
+        ensures kept { IfOk result (λ distinct. distinct ≡ false → self.new ≡ self.old) }
     {
         self.is_sound = false;
-        let differ = self.core.give_up()?;
-        self.is_sound = differ;
-        Ok(differ)
+        let is_distinct = self.core.give_up()?;
+        self.is_sound = true;
+        Ok(is_distinct)
     }
 
     /// Whether the part that was just completed is a key that is the same as an earlier key of its

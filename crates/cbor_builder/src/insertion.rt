@@ -1,6 +1,6 @@
 //! A few pairs, put in order one by one.
 
-ghost use Rattle.std.specs.Prelude.{◌≡◌, ◌↔◌, ◌≤◌, ◌<◌, ◌∷◌, IsTrue, false, map, length, take};
+ghost use Rattle.std.specs.Prelude.{◌≡◌, ◌↔◌, ◌<◌, ◌∷◌, IsTrue, false, map, length};
 ghost use Rattle.std.specs.Prelude.{IsPermutation, IsSortedBy};
 ghost use Rattle.cbor_head.specs.Order.{key_lt};
 ghost use Rattle.cbor_builder.specs.Built.{HasKey};
@@ -14,29 +14,14 @@ use cbor_buffer::span::Span;
 use cbor_head::KeyOrder;
 use std::cmp::Ordering;
 
-/// The spans sorted by their keys, in the first of the places. False where two keys are equal.
-pub(crate) fn insert_all(bytes: &[u8], order: KeyOrder, spans: &[Span], places: &mut [Span]) -> bool
-    requires fronted { AreFronted bytes.now spans.now }
-    requires room { length spans.now ≤ length places.old }
-    ensures distinct { IsTrue result ↔ HasDistinctBytes (map (span_pair bytes.now) spans.now) }
-    ensures permuted { IsTrue result
-        → IsPermutation spans.now (take (length spans.now) places.new) }
-    ensures sorted { IsTrue result → IsSortedBy
-        (λ x y. key_lt order (key_of bytes.now x) (key_of bytes.now y))
-        (take (length spans.now) places.new) }
-{
-    for i in 0..spans.len() {
-        if !insert(bytes, order, &mut places[..i + 1], &spans[i]) {
-            return false;
-        }
-    }
-    true
-}
-
-/// The spans sorted by their keys where they stand. False where two keys are equal.
+/// The spans sorted by their keys where they stand. False where two keys are equal: then not all are
+/// sorted.
 pub(crate) fn insert_each(bytes: &[u8], order: KeyOrder, spans: &mut [Span]) -> bool
     requires { AreFronted bytes.now spans.old }
-    ensures { IsTrue result ↔ HasDistinctBytes (map (span_pair bytes.now) spans.old) }
+    ensures distinct { IsTrue result ↔ HasDistinctBytes (map (span_pair bytes.now) spans.old) }
+    ensures permuted { IsPermutation spans.old spans.new }
+    ensures sorted { IsTrue result → IsSortedBy
+        (λ x y. key_lt order (key_of bytes.now x) (key_of bytes.now y)) spans.new }
 {
     for i in 0..spans.len() {
         let next = spans[i];
@@ -55,8 +40,7 @@ fn insert(bytes: &[u8], order: KeyOrder, places: &mut [Span], next: &Span) -> bo
     requires fronted { AreFronted bytes.now (in_front places.old) }
     requires next { IsFronted bytes.now next.now }
     requires rising { IsRising order (map (span_pair bytes.now) (in_front places.old)) }
-    ensures permuted { IsTrue result
-        → IsPermutation (next.now ∷ in_front places.old) places.new }
+    ensures permuted { IsPermutation (next.now ∷ in_front places.old) places.new }
     ensures rising { IsTrue result → IsRising order (map (span_pair bytes.now) places.new) }
     ensures equal { result ≡ false
         → HasKey (map (span_pair bytes.now) (in_front places.old)) (key_of bytes.now next.now) }
@@ -65,7 +49,10 @@ fn insert(bytes: &[u8], order: KeyOrder, places: &mut [Span], next: &Span) -> bo
     while at > 0 {
         match compare(bytes, order, &places[at - 1], next) {
             Ordering::Less => break,
-            Ordering::Equal => return false,
+            Ordering::Equal => {
+                places[at] = *next;
+                return false;
+            }
             Ordering::Greater => {}
         }
         places[at] = places[at - 1];

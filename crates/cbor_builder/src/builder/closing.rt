@@ -1,7 +1,7 @@
 //! What is open ends, and its bytes take their final form.
 
 ghost use Rattle.std.specs.Prelude.{reverse, ◌≡◌, ◌↔◌, ◌≤◌, ◌++◌, IsTrue, false, OnOk, IfOk, drop};
-ghost use Rattle.std.specs.Prelude.{take, length, flat_map};
+ghost use Rattle.std.specs.Prelude.{take, length, flat_map, IsPermutation};
 ghost use Rattle.cbor_buffer.specs.Moved.{meant, IsWhole, KeepsFront};
 ghost use Rattle.cbor_canonical.specs.Pairs.{pair_bytes, HasDistinctBytes};
 ghost use Rattle.cbor_canonical.specs.Parts.{close, closed, HasNoRepeats};
@@ -20,6 +20,32 @@ use cbor_head::Major;
 use std::alloc::AllocError;
 
 impl Core {
+    /// The spans of the open map in order. False where two keys of it are equal: then they stay as
+    /// they are.
+    #[inline(always)]
+    pub(crate) fn order_spans(&mut self, first: usize) -> bool
+        requires fits { Fits self.old.order (meant self.old.out) self.old.spans.items
+            self.old.top.from self.old.top.start self.old.top.rises (Map first) }
+        requires keys { AreSameKeys self.old.out.buf (meant self.old.out)
+            (drop first self.old.spans.items) }
+        ensures order { self.new.order ≡ self.old.order }
+        ensures out { self.new.out ≡ self.old.out }
+        ensures top { self.new.top ≡ self.old.top }
+        ensures below { self.new.below ≡ self.old.below }
+        ensures front { take first self.new.spans.items ≡ take first self.old.spans.items }
+        ensures permuted { IsPermutation (drop first self.old.spans.items)
+            (drop first self.new.spans.items) }
+        ensures distinct { IsTrue result
+            ↔ HasDistinctBytes (pairs_from (meant self.old.out) self.old.spans.items first) }
+        ensures pairs { IsTrue result
+            → pairs_from (meant self.old.out) self.new.spans.items first
+            ≡ in_order self.old.order (pairs_from (meant self.old.out) self.old.spans.items first) }
+        ensures kept { result ≡ false → self.new.spans.items ≡ self.old.spans.items }
+    {
+        let order = self.order;
+        put_in_order(self.out.as_slice(), order, &mut self.spans[first..])
+    }
+
     // The pairs of the open map in order. False where two keys of it are equal.
     #[inline(never)]
     fn order_pairs(&mut self, first: usize) -> Result<bool, AllocError>
@@ -32,7 +58,7 @@ impl Core {
         ensures order { self.new.order ≡ self.old.order }
         ensures top { self.new.top ≡ self.old.top }
         ensures below { self.new.below ≡ self.old.below }
-        ensures spans { self.new.spans ≡ self.old.spans }
+        ensures spans { take first self.new.spans.items ≡ take first self.old.spans.items }
         ensures distinct { IfOk result (λ distinct. IsTrue distinct
             ↔ HasDistinctBytes (pairs_from (meant self.old.out) self.old.spans.items first)) }
         ensures whole { OnOk result (IsWhole self.new.out) }
@@ -43,23 +69,15 @@ impl Core {
         ensures front { IfOk result (λ distinct. IsTrue distinct
             → KeepsFront self.old.top.start self.old.out self.new.out) }
         ensures kept { IfOk result (λ distinct. distinct ≡ false
-            → self.new.out ≡ self.old.out) }
+            → (self.new.out ≡ self.old.out) × (self.new.spans.items ≡ self.old.spans.items)) }
     {
         if self.top.rises {
             return Ok(true);
         }
-        let order = self.order;
-        let distinct = put_in_order(
-            self.out.as_slice(),
-            order,
-            &self.spans[first..],
-            &mut self.sorting,
-        )?;
-        if !distinct {
+        if !self.order_spans(first) {
             return Ok(false);
         }
-        let count = self.spans.len() - first;
-        self.out.rearrange(self.top.start, &self.sorting[..count])?;
+        self.out.rearrange(self.top.start, &self.spans[first..])?;
         Ok(true)
     }
 

@@ -1,19 +1,13 @@
 //! What is open ends, and nothing of it is kept.
 
-ghost use Rattle.std.specs.Prelude.{reverse, ◌≡◌, ◌↔◌, IsTrue, IfOk, drop, take};
-ghost use Rattle.cbor_buffer.specs.Moved.{meant};
+ghost use Rattle.std.specs.Prelude.{reverse, ◌≡◌, ◌↔◌, IsTrue, IfOk, OnOk, false};
 ghost use Rattle.cbor_builder.specs.Built.{around};
 ghost use Rattle.cbor_canonical.specs.Parts.{HasNoRepeats};
-ghost use Rattle.cbor_builder.specs.declared.frame.Shape.TheVariants.{Map};
 ghost use Rattle.cbor_builder.specs.inner.BuilderState.{standing, innermost, IsLaid};
-ghost use Rattle.cbor_builder.specs.inner.InPlace.{AreSameKeys};
-ghost use Rattle.cbor_builder.specs.inner.Laid.{CanClose, OuterTakes, outer_spans, Fits};
-ghost use Rattle.cbor_builder.specs.inner.Laid.{pairs_from};
-ghost use Rattle.cbor_canonical.specs.Pairs.{HasDistinctBytes};
+ghost use Rattle.cbor_builder.specs.inner.Laid.{CanClose, OuterTakes, outer_spans};
 
 use crate::builder::Core;
 use crate::frame::Shape;
-use crate::sort::are_distinct;
 use std::alloc::AllocError;
 
 // Room for so many pairs stays.
@@ -21,7 +15,7 @@ const KEPT: usize = 256;
 
 impl Core {
     /// What is open ends, and nothing of it is kept. False where it is a map of which two keys are
-    /// equal: then the builder may only be dropped, or cleared.
+    /// equal: it stays open then.
     #[inline(always)]
     pub(crate) fn give_up(&mut self) -> Result<bool, AllocError>
         requires laid { IsLaid self.old }
@@ -30,9 +24,11 @@ impl Core {
         ensures order { self.new.order ≡ self.old.order }
         ensures distinct { IfOk result (λ distinct.
             IsTrue distinct ↔ HasNoRepeats (innermost self.old)) }
-        ensures laid { IfOk result (λ distinct. IsTrue distinct → IsLaid self.new) }
+        ensures laid { OnOk result (IsLaid self.new) }
         ensures around { IfOk result (λ distinct. IsTrue distinct
             → standing self.new ≡ around (standing self.old)) }
+        ensures kept { IfOk result (λ distinct. distinct ≡ false
+            → standing self.new ≡ standing self.old) }
     {
         if !self.give_up_pairs() {
             return Ok(false);
@@ -55,35 +51,18 @@ impl Core {
         ensures top { self.new.top ≡ self.old.top }
         ensures below { self.new.below.items ≡ self.old.below.items }
         ensures distinct { IsTrue result ↔ HasNoRepeats (innermost self.old) }
-        ensures spans { self.new.spans.items ≡ outer_spans self.old.spans.items self.old.top.shape }
+        ensures spans { IsTrue result
+            → self.new.spans.items ≡ outer_spans self.old.spans.items self.old.top.shape }
+        ensures kept { result ≡ false → self.new.spans.items ≡ self.old.spans.items }
     {
         let Shape::Map(first) = self.top.shape else {
             return true;
         };
-        let is_distinct = self.has_distinct_keys(first);
+        if !self.top.rises && !self.order_spans(first) {
+            return false;
+        }
         self.spans.truncate(first);
         self.spans.shrink_to(KEPT);
-        is_distinct
-    }
-
-    // Whether no two keys of the open map are equal. Its spans are put in order.
-    #[inline(always)]
-    fn has_distinct_keys(&mut self, first: usize) -> bool
-        requires fits { Fits self.old.order (meant self.old.out) self.old.spans.items
-            self.old.top.from self.old.top.start self.old.top.rises (Map first) }
-        requires keys { AreSameKeys self.old.out.buf (meant self.old.out)
-            (drop first self.old.spans.items) }
-        ensures order { self.new.order ≡ self.old.order }
-        ensures out { self.new.out ≡ self.old.out }
-        ensures top { self.new.top ≡ self.old.top }
-        ensures below { self.new.below ≡ self.old.below }
-        ensures spans { take first self.new.spans.items ≡ take first self.old.spans.items }
-        ensures distinct { IsTrue result
-            ↔ HasDistinctBytes (pairs_from (meant self.old.out) self.old.spans.items first) }
-    {
-        if self.top.rises {
-            return true;
-        }
-        are_distinct(self.out.as_slice(), self.order, &mut self.spans[first..])
+        true
     }
 }

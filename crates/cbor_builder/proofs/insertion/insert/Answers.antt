@@ -22,6 +22,13 @@ loop-at-init c =
     let none = drop_all n (in_front us) (omega (arith, l)) in
     (place.0, place.1, omega (arith, l), subst (AreAbove c.args.order c.args.bytes.now c.args.next.now) (sym none) tt)
 
+pub returns-in-Equal-clause-permuted : goal.returns-in-Equal-clause-permuted
+returns-in-Equal-clause-permuted c =
+    let front = in_front c.args.places.now in
+    let i = c.loop-at.invariant in
+    let e = ap (λ (us : List Span). set us c.loop-at.at c.args.next.now) i.1 ∙ set_free front c.loop-at.at i.0 c.args.next.now i.2 in
+    subst (IsPermutation (c.args.next.now ∷ front)) (sym e) (IsPermutation-insert front c.loop-at.at c.args.next.now)
+
 pub returns-in-Equal-clause-equal : goal.returns-in-Equal-clause-equal
 returns-in-Equal-clause-equal c = λ t.
     let front = in_front c.args.places.now in
@@ -46,7 +53,7 @@ loop-at-preserved c =
     (s, moved.1, omega (arith, c.loop-at.invariant.2), more)
 
 pub returns-clause-permuted : goal.returns-clause-permuted
-returns-clause-permuted c = λ t.
+returns-clause-permuted c =
     let front = in_front c.args.places.now in
     let i = c.loop-at.invariant in
     let e = ap (λ (us : List Span). set us c.loop-at.at c.args.next.now) i.1 ∙ set_free front c.loop-at.at i.0 c.args.next.now i.2 in

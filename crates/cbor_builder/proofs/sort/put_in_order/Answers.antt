@@ -1,14 +1,11 @@
-use Rattle.std.proofs.Common.{List, length, take, IsTrue, IsPermutation, Bool, Ok, Err}
-use Rattle.std.specs.Result.{IfOk, OnOk}
-use Rattle.std.specs.declared.result.Result.{Result}
-use Rattle.std.specs.declared.alloc.AllocError.{AllocError}
-use Rattle.cbor_buffer.specs.declared.span.Span.{Span}
-use Rattle.cbor_builder.proofs.Inserted.{whole_permuted}
+use Rattle.std.proofs.lemmas.List.Sorted.{IsPermutation-trans}
+use Rattle.cbor_builder.proofs.Places.{put_back_is}
 use Rattle.cbor_builder.proofs.sort.put_in_order.Goals as goal
 
-in_places : (r : Result Bool AllocError) (xs ys : List Span) → OnOk r (IsPermutation xs ys) → IfOk r (λ distinct. IsTrue distinct → IsPermutation xs (take (length xs) ys))
-in_places (Ok d) xs ys m = λ t. whole_permuted xs ys m
-in_places (Err e) xs ys m = tt
+pub returns-clause-kept : goal.returns-clause-kept
+returns-clause-kept c = λ t.
+    let (start, end, tile) = c.requires.places in
+    put_back_is c.args.bytes.now start end c.args.spans.now c.sort_distinct.new.spans c.put_back.new.spans tile c.requires.fronted c.sort_distinct.ensures.permuted c.put_back.ensures.permuted c.put_back.ensures.sorted
 
-pub returns-then-spans-gt-FEW-clause-permuted : goal.returns-then-spans-gt-FEW-clause-permuted
-returns-then-spans-gt-FEW-clause-permuted c = in_places c.sort_many.result c.args.spans.now c.sort_many.new.sorting.items c.sort_many.ensures.permuted
+pub returns-clause-permuted : goal.returns-clause-permuted
+returns-clause-permuted c = IsPermutation-trans c.args.spans.now c.sort_distinct.new.spans c.put_back.new.spans c.sort_distinct.ensures.permuted c.put_back.ensures.permuted

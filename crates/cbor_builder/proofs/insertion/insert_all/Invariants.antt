@@ -1,8 +1,0 @@
-use Rattle.std.proofs.Common.{map, take, IsPermutation}
-use Rattle.cbor_buffer.specs.Spans.{span_pair}
-use Rattle.cbor_canonical.specs.Pairs.{IsRising}
-use Rattle.cbor_builder.proofs.insertion.insert_all.Given as goal
-
-abbrev pub invariant-loop-i : goal.invariant-loop-i
-invariant-loop-i l =
-    IsPermutation (take l.i l.spans) (take l.i l.places) × IsRising l.order (map (span_pair l.bytes) (take l.i l.places))
