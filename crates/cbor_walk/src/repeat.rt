@@ -61,29 +61,31 @@ pub fn refusal_of<'a, S: KeySink<'a> + Drop>(
     ensures reason { IsReaderReason limits plain result.reason }
     ensures no_read { result.reason ≢ reasons.Read }
 {
-    let repeat = match stop {
-        Stop::Refused(refusal) => return refusal,
-        Stop::Repeated(repeat) => repeat,
-        Stop::Memory => return Refusal::at(Reason::Memory, 0),
-    };
-    match repeated_key(alloc, sink, bytes, limits, repeat) {
+    match verdict(alloc, sink, bytes, limits, stop) {
         Some(refusal) => refusal,
         None => Refusal::at(Reason::Memory, 0),
     }
 }
 
-// That of the key that is told, where no open map has two keys before it that are the same.
-fn repeated_key<'a, S: KeySink<'a> + Drop>(
+// What the bytes call for: of the key that is told, where no open map has two keys before it that are
+// the same. None where memory was refused.
+fn verdict<'a, S: KeySink<'a> + Drop>(
     alloc: Global,
     sink: S,
     bytes: &'a [u8],
     limits: Limits,
-    repeat: Repeat,
+    stop: Stop,
 ) -> Option<Refusal>
     requires fresh { S.stands sink sink (item_due []) }
     requires doubts { S.trusts ≡ false }
+    requires stop { IsStop limits bytes.now stop }
     ensures { IfSome result (λ f. IsVerdict limits plain bytes.now (refused f)) }
 {
+    let repeat = match stop {
+        Stop::Refused(refusal) => return Some(refusal),
+        Stop::Repeated(repeat) => repeat,
+        Stop::Memory => return None,
+    };
     let input = within(bytes, limits.bytes());
     let stack = Stack::new(Open::counted(Due::Item, 0));
     let mut building = Building { stack, sink };

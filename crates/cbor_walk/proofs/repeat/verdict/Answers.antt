@@ -3,7 +3,7 @@ use Rattle.cbor_head.specs.Complaint.{plain}
 use Rattle.cbor_head.specs.Verdict.{IsVerdict, refused}
 use Rattle.cbor_head.specs.declared.reason.Refusal.{Refusal}
 use Rattle.cbor_walk.proofs.Repeats.{repeat-refused}
-use Rattle.cbor_walk.proofs.repeat.repeated_key.Goals as goal
+use Rattle.cbor_walk.proofs.repeat.verdict.Goals as goal
 
 pub returns : goal.returns
 returns g c =
