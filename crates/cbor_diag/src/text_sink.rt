@@ -16,6 +16,7 @@ use crate::pieces::{
     put_closing, put_content, put_negative, put_number, put_opening, put_simple, put_string,
 };
 use cbor_head::Major;
+use cbor_item::Repeat;
 use cbor_walk::Sink;
 use std::alloc::{AllocError, Global};
 use std::io::Write;
@@ -177,8 +178,8 @@ impl<'a, 'o> Sink<'a> for TextSink<'o> {
     }
 
     // It keeps none.
-    fn has_equal_keys(self) -> bool {
-        true
+    fn first_repeat(self) -> Option<Repeat> {
+        None
     }
 }
 

@@ -1,18 +1,15 @@
 -- The value of an accepted item, and memory that was refused behind it.
-use Rattle.std.proofs.Common.{ℕ, ◌^◌, ◌≡◌, ◌≤◌, List, [], length, take, refl, sym, ap, ◌∙◌, arith, subst, append-nil, inl, inr}
+use Rattle.std.proofs.Common.{ℕ, ◌^◌, ◌≡◌, ◌≤◌, List, [], length, refl, sym, ap, ◌∙◌, arith, subst, append-nil}
 use Rattle.cbor_head.specs.Complaint.{plain}
 use Rattle.cbor_head.specs.Limits.{Bounds}
 use Rattle.cbor_head.specs.declared.limits.TheConstants.{MAX_DEPTH}
 use Rattle.cbor_head.specs.Spelling.{spell}
 use Rattle.cbor_head.specs.Value.{Value, IsInRange, IsValid, depth}
-use Rattle.cbor_head.specs.Verdict.{IsVerdict, refused, refusal}
+use Rattle.cbor_head.specs.Verdict.{refusal}
 use Rattle.cbor_head.specs.declared.reason.Reason.TheVariants.{Memory}
 use Rattle.cbor_head.specs.declared.reason.Refusal.{Refusal}
 use Rattle.cbor_judging.specs.Readers.{IsRead, IsReadAs, IsUnread, of_memory}
-use Rattle.cbor_judging.specs.Refusals.{IsReaderReason}
 use Rattle.cbor_judging.proofs.FreeBefore.{front-free, without}
-use Rattle.cbor_judging.proofs.Reasons.{verdict-reason}
-use Rattle.cbor_judging.proofs.SpelledBytes.{longest_always}
 use Rattle.cbor_plain.specs.Size.{size}
 use Rattle.cbor_reader.proofs.Headline.{front_range, front_valid, front_depth}
 use Rattle.cbor_plain.proofs.Sizes.{size_bounded}
@@ -33,16 +30,7 @@ view_bounded limits input v count r =
 
 -- ---- refusals
 
-pub verdict_reader_reason : (limits : Bounds) (input : List ℕ) (f : Refusal) → IsVerdict limits plain input (refused f) → IsReaderReason limits plain f.reason
-verdict_reader_reason limits input f w = elim (verdict-reason limits plain input f w) [ inl h ↦ inl h | inr h ↦ inr (inl h) ]
-
--- memory was refused, and it is not told when
-pub memory_somewhere : (limits : Bounds) (input : List ℕ) (f : Refusal) → f ≡ refusal Memory 0 0 → IsUnread limits plain input f
-memory_somewhere limits input f is =
-    let (p, longest) = longest_always limits.depth (take limits.bytes input) in
-    subst (IsUnread limits plain input) (sym is) (of_memory p longest (omega arith) refl (λ s c starts complains. omega arith))
-
--- or when the item had been taken
+-- memory was refused when the item had been taken
 pub memory_behind : (limits : Bounds) (input : List ℕ) (count : ℕ) (f : Refusal) → IsRead limits plain input count → f ≡ refusal Memory count count → IsUnread limits plain input f
 memory_behind limits input count f a is =
     let w = a.verdict in

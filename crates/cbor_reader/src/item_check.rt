@@ -7,11 +7,10 @@ ghost use Rattle.cbor_judging.specs.Levels.{item_due};
 ghost use Rattle.cbor_judging.specs.Readers.{IsRead, IsUnread};
 ghost use Rattle.cbor_sinks.specs.KeyBytes.{keys_stand};
 
-use crate::valid_front::refusal_of;
 use cbor_head::{KeyOrder, Limits, Reason, Refusal};
 use cbor_sinks::{KeyBytes, LentKeys};
 use cbor_strict::check_canonical;
-use cbor_walk::give_front;
+use cbor_walk::{give_front, refusal_of};
 use std::alloc::Global;
 
 // Behind an item that is valid and not canonical, so many are not looked at as canonical bytes first.
@@ -75,7 +74,7 @@ pub(crate) fn size_by_keys(
 {
     match give_front(LentKeys::of(alloc, keys), bytes, limits) {
         Ok((_, size)) => Ok(size),
-        Err(stop) => Err(refusal_of(alloc, bytes, limits, stop)),
+        Err(stop) => Err(refusal_of(alloc, KeyBytes::new(alloc), bytes, limits, stop)),
     }
 }
 

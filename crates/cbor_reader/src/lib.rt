@@ -30,7 +30,6 @@ mod sequence;
 mod sequence_items;
 pub mod sequence_laws;
 mod tree_reader;
-mod valid_front;
 mod valid_slice;
 mod view_reader;
 mod view_sink;

@@ -13,12 +13,12 @@ ghost use Rattle.cbor_plain.specs.Size.{size};
 ghost use Rattle.cbor_reader.specs.WholeItem.{IsItemRefusal};
 ghost use Rattle.cbor_view.specs.Seen.{seen};
 
-use crate::valid_front::refusal_of;
 use crate::view_sink::ViewSink;
 use bumpalo::Bump;
 use cbor_head::{Limits, Reason, Refusal};
+use cbor_sinks::KeyBytes;
 use cbor_view::View;
-use cbor_walk::give_front;
+use cbor_walk::{give_front, refusal_of};
 use std::alloc::Global;
 
 /// The view of the well-formed, valid item that the slice begins with, and how many bytes it has
@@ -51,7 +51,7 @@ pub fn read_view<'a>(
     let _bytes = limits.bytes();
     match give_front(ViewSink::new(alloc, arena), bytes, limits) {
         Ok((sink, size)) => Ok((sink.finish(), size)),
-        Err(stop) => Err(refusal_of(alloc, bytes, limits, stop)),
+        Err(stop) => Err(refusal_of(alloc, KeyBytes::new(alloc), bytes, limits, stop)),
     }
 }
 

@@ -14,6 +14,7 @@ ghost use Rattle.cbor_view.specs.Seen.{seen, standing};
 ghost use Rattle.cbor_walk.specs.Sink.{leaf_value};
 
 use bumpalo::Bump;
+use cbor_builder::Repeat;
 use cbor_head::Major;
 use cbor_sinks::KeyBytes;
 use cbor_view::{Joined, View, ViewBuilder};
@@ -128,13 +129,13 @@ impl<'a> Sink<'a> for ViewSink<'a> {
         Ok(is_distinct)
     }
 
-    fn has_equal_keys(self) -> bool {
+    fn first_repeat(self) -> Option<Repeat> {
         let ViewSink {
             keys,
             views: _,
             joined: _,
         } = self;
-        keys.has_equal_keys()
+        keys.first_repeat()
     }
 }
 

@@ -8,8 +8,8 @@ ghost use Rattle.cbor_reader.specs.Canonicalise.{IsCanonicalOf};
 ghost use Rattle.cbor_reader.specs.Headline.{IsValidItem};
 ghost use Rattle.cbor_reader.specs.WholeItem.{IsItemRefusal};
 
-use crate::valid_front::valid_front;
 use cbor_head::{KeyOrder, Limits, Reason, Refusal};
+use cbor_sinks::build_front;
 use cbor_strict::check_canonical;
 use std::alloc::Global;
 use std::borrow::CowSlice;
@@ -31,7 +31,7 @@ pub(crate) fn encoded_item<'a>(
     if is_canonical(bytes, limits, order) {
         return Ok(CowSlice::Borrowed(bytes));
     }
-    match valid_front(alloc, bytes, limits, order) {
+    match build_front(alloc, bytes, limits, order) {
         Ok(front) => {
             if front.size < bytes.len() as u64 {
                 return Err(Refusal::at(Reason::Trailing, front.size));

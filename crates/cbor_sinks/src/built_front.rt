@@ -1,13 +1,16 @@
 //! The canonical bytes of the valid item at the front of a slice.
 
-ghost use Rattle.std.specs.Prelude.{MatchResult};
-ghost use Rattle.cbor_sinks.specs.BuiltFront.{IsBuiltFront};
+ghost use Rattle.std.specs.Prelude.{◌≢◌, IfOk, IfErr, IfSome, MatchResult};
+ghost use Rattle.cbor_head.specs.Complaint.{plain};
+ghost use Rattle.cbor_head.specs.declared.reason.Reason.TheVariants as reasons;
+ghost use Rattle.cbor_judging.specs.Readers.{IsUnread};
+ghost use Rattle.cbor_sinks.specs.BuiltFront.{IsBuiltFront, IsHeldFront};
 ghost use Rattle.cbor_walk.specs.Front.{IsStop};
 
 use crate::canonical_sink::CanonicalSink;
 use cbor_builder::CanonBuilder;
-use cbor_head::{KeyOrder, Limits};
-use cbor_walk::{Stop, give_front};
+use cbor_head::{KeyOrder, Limits, Refusal};
+use cbor_walk::{Stop, give_front, refusal_of};
 use std::alloc::Global;
 
 /// The canonical bytes of the item that a slice begins with, and how many bytes the item has.
@@ -18,11 +21,51 @@ pub struct BuiltFront {
 }
 
 /// The canonical bytes, in this order and however many, of the well-formed, valid item that the
-/// slice begins with (RFC 8949, sections 3, 4.2 and 5.3.1), within the limits; else why there are
-/// none.
+/// slice begins with (RFC 8949, sections 3, 4.2 and 5.3.1), within the limits; else its refusal.
 ///
-/// It goes over the bytes once, without recursion.
+/// It goes over the bytes once, without recursion; where two keys of a map are the same, once more.
+// It is a call of its own, so that what looks for canonical bytes before it has no room on the stack
+// for it.
+#[inline(never)]
 pub fn build_front(
+    alloc: Global,
+    bytes: &[u8],
+    limits: Limits,
+    order: KeyOrder,
+) -> Result<BuiltFront, Refusal>
+    ensures accepted { IfOk result (λ f.
+        IsBuiltFront limits order bytes.now f.canonical.items f.size) }
+    ensures refused { IfErr result (λ f. IsUnread limits plain bytes.now f) }
+    ensures no_read { IfErr result (λ f. f.reason ≢ reasons.Read) }
+{
+    match front_or_stop(alloc, bytes, limits, order) {
+        Ok(front) => Ok(front),
+        Err(stop) => {
+            let sink = CanonicalSink::new(alloc, order);
+            Err(refusal_of(alloc, sink, bytes, limits, stop))
+        }
+    }
+}
+
+/// How many bytes the item has that these begin with, if it is a valid one within the limits, a key
+/// is due in the builder, and an earlier one of its map has the same canonical bytes.
+pub(crate) fn held_front(
+    alloc: Global,
+    builder: &CanonBuilder,
+    rest: &[u8],
+    limits: Limits,
+) -> Option<u64>
+    ensures { IfSome result (IsHeldFront limits builder.now rest.now) }
+{
+    match front_or_stop(alloc, rest, limits, builder.order()) {
+        Ok(key) if builder.has_key(key.canonical.as_slice()) => Some(key.size),
+        _ => None,
+    }
+}
+
+// The item's canonical bytes, or why there are none.
+#[inline(always)]
+fn front_or_stop(
     alloc: Global,
     bytes: &[u8],
     limits: Limits,
@@ -32,10 +75,7 @@ pub fn build_front(
         (λ f. IsBuiltFront limits order bytes.now f.canonical.items f.size)
         (IsStop limits bytes.now) }
 {
-    let sink = CanonicalSink {
-        builder: CanonBuilder::new(alloc, order),
-    };
-    match give_front(sink, bytes, limits) {
+    match give_front(CanonicalSink::new(alloc, order), bytes, limits) {
         Ok((CanonicalSink { builder }, size)) => Ok(BuiltFront {
             canonical: builder.finish(),
             size,

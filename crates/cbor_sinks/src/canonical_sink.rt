@@ -1,18 +1,32 @@
 //! A builder of canonical bytes, as what takes the parts of an item.
 
-ghost use Rattle.std.specs.Prelude.{◌≡◌};
+ghost use Rattle.std.specs.Prelude.{◌≡◌, []};
+ghost use Rattle.cbor_judging.specs.Levels.{item_due};
 ghost use Rattle.cbor_judging.specs.Reading.{string_major};
 ghost use Rattle.cbor_sinks.specs.CanonSink.{sink_stands, sink_holds};
 
-use cbor_builder::CanonBuilder;
-use cbor_head::Major;
-use cbor_walk::Sink;
-use std::alloc::AllocError;
+use crate::built_front::held_front;
+use cbor_builder::{CanonBuilder, Repeat};
+use cbor_head::{KeyOrder, Limits, Major};
+use cbor_walk::{KeySink, Sink};
+use std::alloc::{AllocError, Global};
 
 /// Builds the canonical bytes of the parts that come.
 #[derive(Drop)]
 pub(crate) struct CanonicalSink {
     pub(crate) builder: CanonBuilder,
+}
+
+impl CanonicalSink {
+    /// Of nothing yet. Takes no memory.
+    pub(crate) fn new(alloc: Global, order: KeyOrder) -> CanonicalSink
+        ensures stands { sink_stands result result (item_due []) }
+        ensures order { result.builder.order ≡ order }
+    {
+        CanonicalSink {
+            builder: CanonBuilder::new(alloc, order),
+        }
+    }
 }
 
 impl<'a> Sink<'a> for CanonicalSink {
@@ -72,9 +86,20 @@ impl<'a> Sink<'a> for CanonicalSink {
         self.builder.end_if_distinct()
     }
 
-    fn has_equal_keys(self) -> bool {
+    fn first_repeat(self) -> Option<Repeat> {
         let CanonicalSink { builder } = self;
-        builder.first_repeat().is_some()
+        builder.first_repeat()
+    }
+}
+
+impl<'a> KeySink<'a> for CanonicalSink {
+    #[inline(always)]
+    fn is_due_at(&self, repeat: Repeat) -> bool {
+        self.builder.is_due_at(repeat)
+    }
+
+    fn repeated_front(&self, alloc: Global, rest: &[u8], limits: Limits) -> Option<u64> {
+        held_front(alloc, &self.builder, rest, limits)
     }
 }
 

@@ -7,7 +7,7 @@ ghost use Rattle.cbor_sinks.specs.KeyBytes.{is_kept, behind_item, keys_stand, ke
 ghost use Rattle.cbor_sinks.specs.declared.key_bytes.KeyBytes.{KeyBytes};
 ghost use Rattle.cbor_walk.specs.Sink.{IsContainerFull, Ends};
 
-use crate::built_front::build_front;
+use crate::built_front::held_front;
 use crate::canonical_sink::string_type;
 use cbor_builder::{CanonBuilder, Repeat};
 use cbor_head::{KeyOrder, Limits, Major};
@@ -167,37 +167,19 @@ impl<'a> Sink<'a> for KeyBytes {
         self.end_in_key(is_map)
     }
 
-    fn has_equal_keys(self) -> bool {
-        let KeyBytes { builder, inside: _ } = self;
-        builder.first_repeat().is_some()
-    }
-}
-
-impl<'a> KeySink<'a> for KeyBytes {
     fn first_repeat(self) -> Option<Repeat> {
         let KeyBytes { builder, inside: _ } = self;
         builder.first_repeat()
     }
+}
 
-    // No key within that one is looked at, as more containers are open there.
-    fn repeated_front(
-        &self,
-        alloc: Global,
-        repeat: Repeat,
-        rest: &[u8],
-        limits: Limits,
-    ) -> Option<u64> {
-        if !self.builder.is_due_at(repeat) {
-            return None;
-        }
-        match build_front(alloc, rest, limits, self.builder.order()) {
-            Ok(key) => {
-                if self.builder.has_key(key.canonical.as_slice()) {
-                    return Some(key.size);
-                }
-                None
-            }
-            Err(_) => None,
-        }
+impl<'a> KeySink<'a> for KeyBytes {
+    #[inline(always)]
+    fn is_due_at(&self, repeat: Repeat) -> bool {
+        self.builder.is_due_at(repeat)
+    }
+
+    fn repeated_front(&self, alloc: Global, rest: &[u8], limits: Limits) -> Option<u64> {
+        held_front(alloc, &self.builder, rest, limits)
     }
 }

@@ -5,6 +5,7 @@ ghost use Rattle.cbor_judging.specs.Levels.{item_due};
 ghost use Rattle.cbor_sinks.specs.KeyBytes.{keys_stand, lent_stand, lent_hold};
 
 use crate::key_bytes::KeyBytes;
+use cbor_builder::Repeat;
 use cbor_head::Major;
 use cbor_walk::Sink;
 use std::alloc::{AllocError, Global};
@@ -80,8 +81,8 @@ impl<'a, 'k> Sink<'a> for LentKeys<'k> {
     }
 
     // The memory is given up with what was taken.
-    fn has_equal_keys(self) -> bool {
+    fn first_repeat(self) -> Option<Repeat> {
         let LentKeys { alloc, keys } = self;
-        mem::replace(keys, KeyBytes::new(alloc)).has_equal_keys()
+        mem::replace(keys, KeyBytes::new(alloc)).first_repeat()
     }
 }

@@ -1,15 +1,12 @@
 //! What takes the parts of an item as a walk gives them: a builder of its canonical bytes
-//! ([`build_front`]), and what finds equal keys and keeps nothing else of it ([`KeyBytes`]); which of
-//! them is refused ([`repeated_key`]).
+//! ([`build_front`]), and what finds equal keys and keeps nothing else of it ([`KeyBytes`]).
 #![tactic(auto)]
 
 mod built_front;
 mod canonical_sink;
-mod equal_keys;
 mod key_bytes;
 mod lent_keys;
 
 pub use built_front::{BuiltFront, build_front};
-pub use equal_keys::repeated_key;
 pub use key_bytes::KeyBytes;
 pub use lent_keys::LentKeys;

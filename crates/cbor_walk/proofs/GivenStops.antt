@@ -36,7 +36,7 @@ pub record IsAsked (limits : Bounds) (due : Due) (is_key : Bool) : Type 0 where
 pub pass-keeps : (p : Past) (d : ℕ) (limits : Bounds) (input : List ℕ) → d ≡ limits.depth → PassKept p d limits.keys input → PassKeeps p limits input
 pass-keeps (past.Whole rest) d limits input e h = subst (λ (k : ℕ). KeepsBefore k limits.keys input rest.now) e h
 pass-keeps (past.Refused rest) d limits input e h = subst (λ (k : ℕ). KeepsBefore k limits.keys input rest.now) e h
-pass-keeps (past.Stopped rest) d limits input e h = tt
+pass-keeps past.Stopped d limits input e h = tt
 
 module _ (S : Type 0) (stands : S → S → Standing → Type 0) (trusts : Bool) (holds : S → S → List Level → Bool → List ℕ → Type 0) (start : S) where
   pub come-over : (d : ℕ) (input : List ℕ) (k : Stack Open) (cells : List Open) (g : S) (rest : List ℕ) → k.height ≤ length cells → HasCome S stands trusts holds start d input (standing Open k cells) g rest

@@ -4,9 +4,10 @@ use Rattle.cbor_head.specs.Complaint.{plain}
 use Rattle.cbor_head.specs.Limits.{Bounds}
 use Rattle.cbor_head.specs.Verdict.{IsVerdict, refused}
 use Rattle.cbor_walk.specs.declared.front.Stop.{Stop}
-use Rattle.cbor_walk.specs.declared.front.Stop.TheVariants.{Refused, Unsaid}
+use Rattle.cbor_walk.specs.declared.front.Stop.TheVariants.{Refused, Repeated, Memory}
 
--- the item is refused so; or nothing is said of it
+-- the item is refused so; or nothing is said of it here
 abbrev pub IsStop : Bounds → List ℕ → Stop → Type 0
 IsStop limits input (Refused f) = IsVerdict limits plain input (refused f)
-IsStop limits input (Unsaid at) = Unit {0}
+IsStop limits input (Repeated repeat) = Unit {0}
+IsStop limits input Memory = Unit {0}

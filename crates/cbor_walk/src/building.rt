@@ -38,15 +38,14 @@ pub(crate) enum Met<'a> {
     Untaken(&'a [u8]),
     /// A string in chunks stands before these bytes, and is refused. The sink has some chunks of it.
     Broken(&'a [u8]),
-    /// Memory is refused, or two keys of a map are the same, with what ends or begins where these
-    /// bytes do.
-    Stopped(&'a [u8]),
+    /// Memory is refused, or two keys of a map are the same.
+    Stopped,
 }
 
 impl<S> Building<S> {
     /// Goes over the item, from where another is due to its end. Where kinds of keys are asked for,
-    /// it stops at a key of another kind; where it pauses, before each key behind the first bytes.
-    pub(crate) fn walk<'a, const KINDS: bool, const PAUSES: bool>(
+    /// it stops at a key of another kind.
+    pub(crate) fn walk<'a, const KINDS: bool>(
         &mut self,
         start: &'a [u8],
         cells: &mut [Open],
@@ -64,9 +63,6 @@ impl<S> Building<S> {
     {
         let mut rest = start;
         'parts: loop {
-            if PAUSES && rest.len() < start.len() && self.stack.top.due.is_key() {
-                return Met::Untaken(rest);
-            }
             match self.take_part::<KINDS>(rest, cells, depth) {
                 Part::Head(behind) => rest = behind,
                 Part::Item(behind) => {
@@ -74,19 +70,19 @@ impl<S> Building<S> {
                     match self.complete(cells) {
                         Then::Item => {}
                         Then::Done => return Met::Whole(rest),
-                        Then::Stopped => return Met::Stopped(rest),
+                        Then::Stopped => return Met::Stopped,
                     }
                 }
                 Part::Untaken => return Met::Untaken(rest),
                 Part::Broken => return Met::Broken(rest),
-                Part::Stopped => return Met::Stopped(rest),
+                Part::Stopped => return Met::Stopped,
             }
         }
     }
 
-    // An item is whole: with it the containers whose last item it was.
+    /// An item is whole: with it the containers whose last item it was.
     #[inline(always)]
-    fn complete<'a>(&mut self, cells: &[Open]) -> Then
+    pub(crate) fn complete<'a>(&mut self, cells: &[Open]) -> Then
     where
         S: Sink<'a>,
         requires cells { self.old.stack.height ≤ length cells.now }

@@ -1,6 +1,7 @@
 //! The valid item at the front of a slice.
 
-ghost use Rattle.std.specs.Prelude.{◌≡◌, ◌≤◌, true, [], ℕ, List, length, take, MatchResult};
+ghost use Rattle.std.specs.Prelude.{◌≡◌, ◌≤◌, true, false, [], ℕ, List, length, take, MatchResult};
+ghost use Rattle.cbor_head.specs.Limits.{Bounds};
 ghost use Rattle.cbor_head.specs.declared.keys.Keys.{Keys};
 ghost use Rattle.cbor_judging.specs.Levels.{item_due};
 ghost use Rattle.cbor_walk.specs.Front.{IsStop};
@@ -20,6 +21,7 @@ use crate::open::Open;
 use crate::sink::Sink;
 use crate::stack::{FEW, MOST, SOME, Stack, lend};
 use crate::within::within;
+use cbor_builder::Repeat;
 use cbor_head::{Keys, Limits, Refusal};
 
 /// Why there is none.
@@ -27,9 +29,10 @@ use cbor_head::{Keys, Limits, Refusal};
 pub enum Stop {
     /// The bytes within the limits call for this refusal.
     Refused(Refusal),
-    /// Two keys of a map are the same, or memory is refused, with what begins at this place or before
-    /// it. [`repeated_key`](crate::repeated_key) tells which.
-    Unsaid(usize),
+    /// Two keys of a map are the same. This one is told, by the containers that the sink keeps.
+    Repeated(Repeat),
+    /// Memory is refused.
+    Memory,
 }
 
 /// Gives a sink the parts of the well-formed, valid item that the slice begins with (RFC 8949,
@@ -47,7 +50,7 @@ pub fn give_front<'a, S: Sink<'a> + Drop>(
     requires known { S.trusts ≡ true → IsKnownValid limits bytes.now }
     ensures { MatchResult result
         (λ given. IsGivenFront (S.stands sink given.0) limits bytes.now given.1)
-        (IsStop limits bytes.now) }
+        (λ stop. S.trusts ≡ false → IsStop limits bytes.now stop) }
 {
     let input = within(bytes, limits.bytes());
     let stack = Stack::new(Open::counted(Due::Item, 0));
@@ -59,11 +62,22 @@ pub fn give_front<'a, S: Sink<'a> + Drop>(
             Ok((sink, size))
         }
         Past::Refused(rest) => Err(refused(building, input, rest, limits)),
-        // What ends before the rest is the last of a map with two such keys: without its last byte
-        // the map is open.
-        Past::Stopped(rest) => Err(Stop::Unsaid(
-            input.len().saturating_sub(rest.len()).saturating_sub(1),
-        )),
+        Past::Stopped => {
+            let Building { stack: _, sink } = building;
+            Err(stopped(sink))
+        }
+    }
+}
+
+// Why a sink takes no more.
+#[cold]
+#[inline(never)]
+fn stopped<'a, S: Sink<'a> + Drop>(sink: S) -> Stop
+    ensures { (limits : Bounds) (bytes : List ℕ) → IsStop limits bytes result }
+{
+    match sink.first_repeat() {
+        Some(repeat) => Stop::Repeated(repeat),
+        None => Stop::Memory,
     }
 }
 
@@ -80,18 +94,19 @@ fn refused<'a, S: Sink<'a> + Drop>(
     requires come { (start : S) × HasComeOver S S.stands S.trusts S.holds start limits.depth input.now
         building.stack building.sink rest.now }
     requires kept { Keeps limits input.now rest.now }
-    ensures { (bytes : List ℕ) → input.now ≡ take limits.bytes bytes → IsStop limits bytes result }
+    ensures { S.trusts ≡ false → (bytes : List ℕ) → input.now ≡ take limits.bytes bytes
+        → IsStop limits bytes result }
 {
     let Building { stack, sink } = building;
-    let at = input.len() - rest.len();
-    if sink.has_equal_keys() {
-        return Stop::Unsaid(at);
+    if let Some(repeat) = sink.first_repeat() {
+        return Stop::Repeated(repeat);
     }
+    let at = input.len() - rest.len();
     let room = stack.height < usize::from(limits.depth());
     let is_key = is_asked(limits.keys(), stack.top.due);
     match fault(rest, at, room, is_key, stack.top.may_break()) {
         Some(refusal) => Stop::Refused(at_the_limit(refusal, input, limits.bytes())),
-        None => Stop::Unsaid(at),
+        None => Stop::Memory,
     }
 }
 
@@ -104,12 +119,12 @@ pub(crate) enum Past<'a> {
     /// the sink may have some of them.
     Refused(&'a [u8]),
     /// As [`Met::Stopped`].
-    Stopped(&'a [u8]),
+    Stopped,
 }
 
-/// Goes over the item that these bytes begin with.
+// Goes over the item that these bytes begin with.
 #[inline(always)]
-pub(crate) fn past_front<'a, S: Sink<'a>>(
+fn past_front<'a, S: Sink<'a>>(
     building: &mut Building<S>,
     input: &'a [u8],
     limits: Limits,
@@ -144,7 +159,7 @@ fn past_item<'a, S: Sink<'a>, const KINDS: bool>(
     ensures kept { KINDS ≡ true → (keys : Keys) → PassKept result depth keys input.now }
 {
     let mut cells = [Open::counted(Due::Item, 0); FEW];
-    match building.walk::<KINDS, false>(input, &mut cells, depth) {
+    match building.walk::<KINDS>(input, &mut cells, depth) {
         Met::Whole(behind) => Past::Whole(behind),
         Met::Untaken(rest) => {
             // With a cell left, it is not for want of one.
@@ -154,7 +169,7 @@ fn past_item<'a, S: Sink<'a>, const KINDS: bool>(
             deeper::<S, KINDS>(building, rest, &cells, depth)
         }
         Met::Broken(rest) => Past::Refused(rest),
-        Met::Stopped(rest) => Past::Stopped(rest),
+        Met::Stopped => Past::Stopped,
     }
 }
 
@@ -178,7 +193,7 @@ fn deeper<'a, S: Sink<'a>, const KINDS: bool>(
 {
     let mut cells = [Open::counted(Due::Item, 0); SOME];
     lend(few, &mut cells);
-    match building.walk::<KINDS, false>(rest, &mut cells, depth) {
+    match building.walk::<KINDS>(rest, &mut cells, depth) {
         Met::Whole(behind) => Past::Whole(behind),
         Met::Untaken(rest) => {
             if building.stack.height < SOME {
@@ -187,7 +202,7 @@ fn deeper<'a, S: Sink<'a>, const KINDS: bool>(
             deepest::<S, KINDS>(building, rest, &cells, depth)
         }
         Met::Broken(rest) => Past::Refused(rest),
-        Met::Stopped(rest) => Past::Stopped(rest),
+        Met::Stopped => Past::Stopped,
     }
 }
 
@@ -211,10 +226,10 @@ fn deepest<'a, S: Sink<'a>, const KINDS: bool>(
 {
     let mut cells = [Open::counted(Due::Item, 0); MOST];
     lend(few, &mut cells);
-    match building.walk::<KINDS, false>(rest, &mut cells, depth) {
+    match building.walk::<KINDS>(rest, &mut cells, depth) {
         Met::Whole(behind) => Past::Whole(behind),
         Met::Untaken(rest) => Past::Refused(rest),
         Met::Broken(rest) => Past::Refused(rest),
-        Met::Stopped(rest) => Past::Stopped(rest),
+        Met::Stopped => Past::Stopped,
     }
 }

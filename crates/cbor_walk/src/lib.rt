@@ -3,9 +3,9 @@
 //! [`canonical_front`] goes over the canonical bytes at the front of a slice once; at the first
 //! byte, head, text or key that is none of a canonical item it stops with the refusal.
 //! [`give_front`] goes over any valid item, whose parts it gives to a [`Sink`], and stops at what is
-//! none, with the refusal but for equal keys and memory. Both hold what is due in each open container
+//! none, with the refusal but for equal keys. Both hold what is due in each open container
 //! in cells that are made as they are wanted, so that depth that is not used costs nothing. Of equal
-//! keys [`repeated_key`] tells the refusal, in two further walks.
+//! keys [`refusal_of`] tells the refusal, in one further walk.
 #![tactic(auto)]
 
 mod any_item;
@@ -31,5 +31,5 @@ mod within;
 
 pub use canonical::canonical_front;
 pub use front::{Stop, give_front};
-pub use repeat::{KeySink, repeated_key};
+pub use repeat::{KeySink, refusal_of};
 pub use sink::Sink;

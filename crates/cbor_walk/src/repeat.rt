@@ -1,20 +1,26 @@
-//! The refusal of a key that is the same as an earlier one of its map.
+//! The refusal of an input where a walk over it stopped, also of a key that is the same as an earlier
+//! one of its map.
 
-ghost use Rattle.std.specs.Prelude.{◌≡◌, ◌≤◌, true, false, [], ℕ, List, take, IfSome, IsSome};
+ghost use Rattle.std.specs.Prelude.{◌≡◌, ◌≢◌, true, false, [], IfSome, IsSome};
 ghost use Rattle.cbor_head.specs.Complaint.{plain};
 ghost use Rattle.cbor_head.specs.Verdict.{IsVerdict, refused};
+ghost use Rattle.cbor_head.specs.declared.reason.Reason.TheVariants as reasons;
 ghost use Rattle.cbor_judging.specs.Levels.{item_due};
+ghost use Rattle.cbor_judging.specs.Readers.{IsUnread};
+ghost use Rattle.cbor_judging.specs.Refusals.{IsReaderReason};
+ghost use Rattle.cbor_walk.specs.Front.{IsStop};
 ghost use Rattle.cbor_walk.specs.Sink.{TellsRepeat};
 ghost use Rattle.cbor_walk.specs.declared.level.Due.TheVariants as due;
 ghost use Rattle.cbor_walk.specs.inner.Open.{awaits, counted};
 ghost use Rattle.cbor_walk.specs.inner.Kept.{asks, IsFitFront};
 ghost use Rattle.cbor_walk.specs.inner.Repeat.{RepeatsWithin, HasComeToRepeat};
 
-use crate::building::{Building, Met};
-use crate::front::past_front;
+use crate::building::{Building, Then};
+use crate::front::Stop;
 use crate::kinds::is_other_key;
 use crate::level::Due;
 use crate::open::Open;
+use crate::part::Part;
 use crate::sink::Sink;
 use crate::stack::{MOST, Stack};
 use crate::within::within;
@@ -22,88 +28,70 @@ use cbor_builder::Repeat;
 use cbor_head::{Keys, Limits, Reason, Refusal};
 use std::alloc::Global;
 
-/// What takes the parts of an item, and finds which key of the open maps is told where two are equal.
+/// What takes the parts of an item, and can look at a key that is due.
 pub trait KeySink<'a>: Sink<'a> {
-    /// That key: from the outermost map in, the first that is equal to an earlier one of its map.
-    /// What was taken is given up.
-    fn first_repeat(self) -> Option<Repeat>;
+    /// Whether a key is due within as many containers of those it keeps, and behind as many pairs of
+    /// its map, as the key that is told.
+    fn is_due_at(&self, repeat: Repeat) -> bool;
 
-    /// How many bytes the key has that these begin with, if it is due where that one is told, is a
-    /// valid one within the limits, and is the same as an earlier key of its map.
-    fn repeated_front(
-        &self,
-        alloc: Global,
-        repeat: Repeat,
-        rest: &[u8],
-        limits: Limits,
-    ) -> Option<u64>
+    /// How many bytes the key has that these begin with, if one is due, it is valid and within the
+    /// limits, and it is the same as an earlier key of its map.
+    fn repeated_front(&self, alloc: Global, rest: &[u8], limits: Limits) -> Option<u64>
         ensures { IfSome result (TellsRepeat Self Self.stands limits rest.now self.now) };
 }
 
-/// The refusal that the bytes within the limits call for, where that is of a key that is the same as
-/// an earlier one of its map, and of which an item begins at this place or before it.
-/// [`Stop::Unsaid`](crate::Stop::Unsaid) has that place, where a walk stopped for it. None where it
-/// is for another reason, or memory is refused.
+/// The refusal of a slice, where a walk over it stopped so: what the bytes within the limits call
+/// for, or `Memory`, where it was refused, then or now, with 0 as place and count.
 ///
-/// It goes over these bytes twice. The first walk ends before the map does, so that its keys are
-/// there as they came, and tells which is to be looked for; the second looks at it as it is due.
-pub fn repeated_key<'a, S: KeySink<'a> + Drop>(
+/// Where two keys of a map are the same, it goes over the bytes once more, to the key that is told:
+/// by a sink that has taken nothing, and keeps the same containers as the one that told it.
+#[cold]
+#[inline(never)]
+pub fn refusal_of<'a, S: KeySink<'a> + Drop>(
     alloc: Global,
-    first: S,
-    second: S,
+    sink: S,
     bytes: &'a [u8],
     limits: Limits,
-    at: usize,
-) -> Option<Refusal>
-    requires first { S.stands first first (item_due []) }
-    requires second { S.stands second second (item_due []) }
+    stop: Stop,
+) -> Refusal
+    requires fresh { S.stands sink sink (item_due []) }
     requires doubts { S.trusts ≡ false }
-    ensures { IfSome result (λ f. IsVerdict limits plain bytes.now (refused f)) }
+    requires stop { IsStop limits bytes.now stop }
+    ensures refused { IsUnread limits plain bytes.now result }
+    ensures reason { IsReaderReason limits plain result.reason }
+    ensures no_read { result.reason ≢ reasons.Read }
 {
-    let input = within(bytes, limits.bytes());
-    let front = &input[..at.min(input.len())];
-    match find_repeat(first, front, limits) {
-        Some(repeat) => refused_key(alloc, second, input, limits, repeat),
-        None => None,
+    match verdict(alloc, sink, bytes, limits, stop) {
+        Some(refusal) => refusal,
+        None => Refusal::at(Reason::Memory, 0),
     }
 }
 
-// Which key is told of what comes before the end of these bytes.
-#[inline(never)]
-fn find_repeat<'a, S: KeySink<'a> + Drop>(
-    sink: S,
-    front: &'a [u8],
-    limits: Limits,
-) -> Option<Repeat>
-    requires fresh { S.stands sink sink (item_due []) }
-    requires doubts { S.trusts ≡ false }
-{
-    let stack = Stack::new(Open::counted(Due::Item, 0));
-    let mut building = Building { stack, sink };
-    let _ = past_front(&mut building, front, limits);
-    let Building { stack: _, sink } = building;
-    sink.first_repeat()
-}
-
-// Its refusal, where no open map has two keys before it that are the same.
-#[inline(never)]
-fn refused_key<'a, S: KeySink<'a> + Drop>(
+// What the bytes call for: of the key that is told, where no open map has two keys before it that are
+// the same. None where memory was refused.
+fn verdict<'a, S: KeySink<'a> + Drop>(
     alloc: Global,
     sink: S,
-    input: &'a [u8],
+    bytes: &'a [u8],
     limits: Limits,
-    repeat: Repeat,
+    stop: Stop,
 ) -> Option<Refusal>
     requires fresh { S.stands sink sink (item_due []) }
     requires doubts { S.trusts ≡ false }
-    ensures { IfSome result (λ f. (bytes : List ℕ) → input.now ≡ take limits.bytes bytes
-        → IsVerdict limits plain bytes (refused f)) }
+    requires stop { IsStop limits bytes.now stop }
+    ensures { IfSome result (λ f. IsVerdict limits plain bytes.now (refused f)) }
 {
+    let repeat = match stop {
+        Stop::Refused(refusal) => return Some(refusal),
+        Stop::Repeated(repeat) => repeat,
+        Stop::Memory => return None,
+    };
+    let input = within(bytes, limits.bytes());
     let stack = Stack::new(Open::counted(Due::Item, 0));
     let mut building = Building { stack, sink };
     let (rest, size) = building.come_to(alloc, input, limits, repeat)?;
     let Building { stack: _, sink } = building;
-    if sink.has_equal_keys() {
+    if sink.first_repeat().is_some() {
         return None;
     }
     let at = (input.len() - rest.len()) as u64;
@@ -134,7 +122,8 @@ impl<S> Building<S> {
         }
     }
 
-    // The same.
+    // The same. It looks at each key that is due where that one is told: a map that has ended may
+    // have had such keys too.
     fn walk_to<'a, const KINDS: bool>(
         &mut self,
         alloc: Global,
@@ -155,21 +144,26 @@ impl<S> Building<S> {
         let depth = usize::from(limits.depth());
         let mut cells = [Open::counted(Due::Item, 0); MOST];
         let mut rest = input;
-        'keys: loop {
-            let Met::Untaken(key) = self.walk::<KINDS, true>(rest, &mut cells, depth) else {
-                return None;
-            };
-            if key.len() >= rest.len() {
-                return None;
-            }
-            rest = key;
+        'parts: loop {
             if let Some(size) = self.repeat_size::<KINDS>(alloc, rest, limits, repeat) {
                 return Some((rest, size));
+            }
+            match self.take_part::<KINDS>(rest, &mut cells, depth) {
+                Part::Head(behind) => rest = behind,
+                Part::Item(behind) => {
+                    rest = behind;
+                    let Then::Item = self.complete(&cells) else {
+                        return None;
+                    };
+                }
+                _ => return None,
             }
         }
     }
 
-    // How many bytes the key has that these begin with, if it is that one.
+    // How many bytes the key has that these begin with, if it is due where that one is told, and is
+    // the same as an earlier one of its map.
+    #[inline(always)]
     fn repeat_size<'a, const KINDS: bool>(
         &self,
         alloc: Global,
@@ -185,11 +179,12 @@ impl<S> Building<S> {
         ensures fits { IsSome result → KINDS ≡ true → self.now.stack.top.due ≡ Due.Key
             → IsFitFront rest.now }
     {
-        if !self.stack.top.due.is_key() || is_other_key::<KINDS>(self.stack.top.due, rest) {
+        let due = self.stack.top.due;
+        if !due.is_key() || !self.sink.is_due_at(repeat) || is_other_key::<KINDS>(due, rest) {
             return None;
         }
         let left = usize::from(limits.depth()).saturating_sub(self.stack.height) as u16;
         let limits = Limits::new(left, limits.bytes())?;
-        self.sink.repeated_front(alloc, repeat, rest, limits)
+        self.sink.repeated_front(alloc, rest, limits)
     }
 }

@@ -1,6 +1,6 @@
 //! What takes the parts of an item.
 
-ghost use Rattle.std.specs.Prelude.{◌≡◌, ◌≤◌, true, false, ℕ, Bool, List, IfOk, IsTrue, IsUtf8, OnOk};
+ghost use Rattle.std.specs.Prelude.{◌≡◌, ◌≤◌, true, false, ℕ, Bool, List, IfOk, IsNone, IsTrue, IsUtf8, OnOk};
 ghost use Rattle.std.specs.Prelude.{length, take};
 ghost use Rattle.cbor_head.specs.Head.{IsSimple};
 ghost use Rattle.cbor_head.specs.declared.major.Major.TheVariants as majors;
@@ -12,6 +12,7 @@ ghost use Rattle.cbor_walk.specs.Sink.{IsContainerFull, Ends};
 ghost use Rattle.cbor_walk.specs.Sink.{BeginsString, IsChunkDue, GrowsString, EndsString};
 ghost use Rattle.cbor_walk.specs.Sink.{FindsNoRepeat};
 
+use cbor_builder::Repeat;
 use cbor_head::Major;
 use std::alloc::AllocError;
 
@@ -86,8 +87,9 @@ pub trait Sink<'a> {
         ensures { IfOk result (λ is_distinct. IsTrue is_distinct
             → Ends Self stands trusts is_map self.old self.new) };
 
-    /// False where no two keys that are complete in an open map are equal, whether an item or a chunk
-    /// is due: what was taken is given up.
-    fn has_equal_keys(self) -> bool
-        ensures { result ≡ false → FindsNoRepeat Self stands holds self };
+    /// From the outermost open map in, the first key that is equal to an earlier one of its map. None
+    /// where no two that are complete are equal, whether an item or a chunk is due. What was taken is
+    /// given up.
+    fn first_repeat(self) -> Option<Repeat>
+        ensures { IsNone result → trusts ≡ false → FindsNoRepeat Self stands holds self };
 }

@@ -1,6 +1,5 @@
 -- What the walk over a valid item holds: of the open containers what is still to come, and a sink that took what is complete.
 use Rattle.std.specs.Prelude.{◌≡◌, ℕ, ◌-◌, ◌^◌, ◌<◌, ◌≤◌, Bool, true, List, [], ◌∷◌, ◌++◌, length}
-use Rattle.cbor_head.specs.Head.{head}
 use Rattle.cbor_head.specs.Spelling.{Spelling, spell, IsSpelled, depth}
 use Rattle.cbor_head.specs.declared.keys.Keys.{Keys}
 use Rattle.cbor_head.specs.declared.major.Major.{Major}
@@ -187,7 +186,7 @@ module _ (S : Type 0) (stands : S → S → Standing → Type 0) (trusts : Bool)
     Meets (met.Whole rest) start d input cs g = IsBuilt start d input g rest.now
     Meets (met.Untaken rest) start d input cs g = IsDue start d input cs g rest.now
     Meets (met.Broken rest) start d input cs g = HasCome start d input cs g rest.now
-    Meets (met.Stopped rest) start d input cs g = Unit {0}
+    Meets met.Stopped start d input cs g = Unit {0}
 
     abbrev pub Walks : Met → ℕ → List ℕ → List Open → S → List Open → S → Type 0
     Walks result d rest cs g now new = (start : S) (input : List ℕ) → IsDue start d input cs g rest → Meets result start d input now new
@@ -196,4 +195,4 @@ module _ (S : Type 0) (stands : S → S → Standing → Type 0) (trusts : Bool)
     abbrev pub Passes : Past → S → ℕ → List ℕ → Stack Open → S → Type 0
     Passes (past.Whole rest) start d input k g = IsBuilt start d input g rest.now
     Passes (past.Refused rest) start d input k g = HasComeOver start d input k g rest.now
-    Passes (past.Stopped rest) start d input k g = Unit {0}
+    Passes past.Stopped start d input k g = Unit {0}

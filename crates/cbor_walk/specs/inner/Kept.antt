@@ -1,5 +1,5 @@
 -- The kinds of keys, where a walk stands.
-use Rattle.std.specs.Prelude.{ℕ, ◌≡◌, ◌⊎◌, ◌/◌, Bool, true, false, IsTrue, List, [], ◌∷◌, ◌-◌, ◌++◌}
+use Rattle.std.specs.Prelude.{ℕ, ◌≡◌, ◌⊎◌, ◌/◌, Bool, true, false, IsTrue, List, [], ◌∷◌, ◌++◌}
 use Rattle.cbor_head.specs.Complaint.{Rules, plain}
 use Rattle.cbor_head.specs.Limits.{Bounds, bounds, with_keys}
 use Rattle.cbor_head.specs.declared.keys.Keys.{Keys}
@@ -48,12 +48,12 @@ abbrev pub MetKept : Met → ℕ → Keys → List ℕ → Type 0
 MetKept (met.Whole rest) d keys input = KeepsBefore d keys input rest.now
 MetKept (met.Untaken rest) d keys input = KeepsBefore d keys input rest.now
 MetKept (met.Broken rest) d keys input = KeepsBefore d keys input rest.now
-MetKept (met.Stopped rest) d keys input = Unit {0}
+MetKept met.Stopped d keys input = Unit {0}
 
 abbrev pub PassKept : Past → ℕ → Keys → List ℕ → Type 0
 PassKept (past.Whole rest) d keys input = KeepsBefore d keys input rest.now
 PassKept (past.Refused rest) d keys input = KeepsBefore d keys input rest.now
-PassKept (past.Stopped rest) d keys input = Unit {0}
+PassKept past.Stopped d keys input = Unit {0}
 
 -- the same by the limits, whether they ask for kinds or not
 abbrev pub Keeps : Bounds → List ℕ → List ℕ → Type 0
@@ -62,4 +62,4 @@ Keeps limits input rest = (t : List ℕ) → input ≡ t ++ rest → KeepsToKind
 abbrev pub PassKeeps : Past → Bounds → List ℕ → Type 0
 PassKeeps (past.Whole rest) limits input = Keeps limits input rest.now
 PassKeeps (past.Refused rest) limits input = Keeps limits input rest.now
-PassKeeps (past.Stopped rest) limits input = Unit {0}
+PassKeeps past.Stopped limits input = Unit {0}

@@ -32,3 +32,6 @@ returns-in-Whole g c =
     let h = subst (λ (x : List ℕ). IsBuilt S stands trusts c.args.sink limits.depth x sink behind) input c.in-Whole.ensures.passes in
     let keeps = subst (λ (x : List ℕ). Keeps limits x behind) input c.in-Whole.ensures.keeps (spell h.item) h.bytes in
     front-given S stands trusts c.args.sink sink limits c.args.bytes.now behind _ h keeps (ap (λ (x : List ℕ). length x - length behind) input)
+
+pub returns-in-Stopped : goal.returns-in-Stopped
+returns-in-Stopped g c = λ doubts. c.stopped.ensures c.args.limits c.args.bytes.now

@@ -6,12 +6,12 @@ use Rattle.cbor_walk.specs.inner.Stack.{standing}
 use Rattle.cbor_walk.specs.declared.open.Open.{Open}
 use Rattle.cbor_walk.proofs.building.Building.walk_to.Given as goal
 
-abbrev pub invariant-keys : goal.invariant-keys
-invariant-keys g l = record {
+abbrev pub invariant-parts : goal.invariant-parts
+invariant-parts g l = record {
   cells : l.self.stack.height ≤ length l.cells;
   due : IsDue g.row.S.Denot g.S.Sink.stands g.S.Sink.trusts l.fn.self.sink l.depth l.input (standing Open l.self.stack l.cells) l.self.sink l.rest;
   kept : not (nat_eq g.row.KINDS 0) ≡ true → (keys : Keys) → KeepsBefore l.depth keys l.input l.rest;
 }
 
-abbrev pub decreases-keys : goal.decreases-keys
-decreases-keys g l = length l.rest
+abbrev pub decreases-parts : goal.decreases-parts
+decreases-parts g l = length l.rest

@@ -1,9 +1,9 @@
 use Rattle.std.proofs.Common.{◌∙◌, [], ◌∷◌, ap}
 use Rattle.cbor_head.specs.Canonical.{canonical}
 use Rattle.cbor_head.specs.Spelling.{value_of}
-use Rattle.cbor_builder.specs.Built.{Built}
+use Rattle.cbor_head.specs.declared.order.KeyOrder.{KeyOrder}
 use Rattle.cbor_canonical.specs.Parts.{plain}
-use Rattle.cbor_sinks.proofs.built_front.build_front.Goals as goal
+use Rattle.cbor_sinks.proofs.built_front.front_or_stop.Goals as goal
 
 pub returns-in-Ok : goal.returns-in-Ok
 returns-in-Ok c =
@@ -11,5 +11,5 @@ returns-in-Ok c =
     let v = value_of h.read.item in
     record {
       read = h.read;
-      canonical_is = c.finish.ensures.bytes (canonical c.args.order v) (h.whole.1 ∙ ap (λ (b : Built). plain (canonical b.order v) ∷ []) c.new.ensures);
+      canonical_is = c.finish.ensures.bytes (canonical c.args.order v) (h.whole.1 ∙ ap (λ (o : KeyOrder). plain (canonical o v) ∷ []) c.new.ensures.order);
     }

@@ -1,7 +1,0 @@
-use Rattle.std.proofs.Common.{◌∙◌, sym}
-use Rattle.cbor_sinks.proofs.CanonGiven.{none-told}
-use Rattle.cbor_sinks.proofs.KeysApart.{no-repeat}
-use Rattle.cbor_sinks.proofs.key_bytes.KeyBytesSink.has_equal_keys.Goals as goal
-
-pub returns : goal.returns
-returns c = λ none. no-repeat c.args.self (none-told c.first_repeat.result _ _ c.first_repeat.ensures (sym c.is_some.ensures ∙ none))
