@@ -8,10 +8,11 @@ ghost use Rattle.cbor_judging.specs.Readers.{IsRead, IsUnread};
 ghost use Rattle.cbor_sinks.specs.KeyBytes.{keys_stand};
 
 use cbor_head::{KeyOrder, Limits, Reason, Refusal};
-use cbor_sinks::{KeyBytes, LentKeys};
+use cbor_sinks::KeyBytes;
 use cbor_strict::check_canonical;
 use cbor_walk::{give_front, refusal_of};
 use std::alloc::Global;
+use std::mem;
 
 // Behind an item that is valid and not canonical, so many are not looked at as canonical bytes first.
 const PAUSE: u8 = 15;
@@ -55,25 +56,28 @@ impl ItemCheck {
             }
         }
         self.keys.clear();
-        size_by_keys(self.alloc, &mut self.keys, bytes, limits)
+        let keys = mem::replace(&mut self.keys, KeyBytes::new(self.alloc));
+        let (keys, size) = size_by_keys(self.alloc, keys, bytes, limits)?;
+        self.keys = keys;
+        Ok(size)
     }
 }
 
-/// How many bytes the item has that the slice begins with, or its refusal, where `keys` holds none
-/// yet: those of the item's maps are kept there.
+/// How many bytes the item has that the slice begins with, and what kept the keys of its maps, which
+/// held none before; else its refusal.
 pub(crate) fn size_by_keys(
     alloc: Global,
-    keys: &mut KeyBytes,
+    keys: KeyBytes,
     bytes: &[u8],
     limits: Limits,
-) -> Result<u64, Refusal>
-    requires none { keys_stand keys.old keys.old (item_due []) }
-    ensures accepted { IfOk result (λ count. IsRead limits plain bytes.now count) }
+) -> Result<(KeyBytes, u64), Refusal>
+    requires none { keys_stand keys keys (item_due []) }
+    ensures accepted { IfOk result (λ answer. IsRead limits plain bytes.now answer.1) }
     ensures refused { IfErr result (λ f. IsUnread limits plain bytes.now f) }
     ensures no_read { IfErr result (λ f. f.reason ≢ reasons.Read) }
 {
-    match give_front(LentKeys::of(alloc, keys), bytes, limits) {
-        Ok((_, size)) => Ok(size),
+    match give_front(keys, bytes, limits) {
+        Ok((keys, size)) => Ok((keys, size)),
         Err(stop) => Err(refusal_of(alloc, KeyBytes::new(alloc), bytes, limits, stop)),
     }
 }

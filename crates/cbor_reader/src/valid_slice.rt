@@ -22,8 +22,9 @@ pub fn check_valid(alloc: Global, bytes: &[u8], limits: Limits) -> Result<u64, R
     ensures refused { IfErr result (λ f. IsUnread limits plain bytes.now f) }
     ensures no_read { IfErr result (λ f. f.reason ≢ reasons.Read) }
 {
-    match canonical_size(bytes, limits) {
-        Ok(size) => Ok(size),
-        Err(_) => size_by_keys(alloc, &mut KeyBytes::new(alloc), bytes, limits),
+    if let Ok(size) = canonical_size(bytes, limits) {
+        return Ok(size);
     }
+    let (_, size) = size_by_keys(alloc, KeyBytes::new(alloc), bytes, limits)?;
+    Ok(size)
 }

@@ -9,9 +9,8 @@ use Rattle.cbor_judging.specs.Given.{level_open, opens}
 use Rattle.cbor_judging.specs.Levels.{Level}
 use Rattle.cbor_judging.specs.Reading.{string_major}
 use Rattle.cbor_walk.specs.Sink.{FindsNoRepeat}
-use Rattle.cbor_sinks.specs.KeyBytes.{in_key, bare_pairs, kept, kept_all, keys_stand, keys_hold, lent_stand, lent_hold}
+use Rattle.cbor_sinks.specs.KeyBytes.{in_key, bare_pairs, kept, kept_all, keys_stand, keys_hold}
 use Rattle.cbor_sinks.specs.declared.key_bytes.KeyBytes.{KeyBytes}
-use Rattle.cbor_sinks.specs.declared.lent_keys.LentKeys.{LentKeys}
 
 abbrev keys : List Pair → List (List ℕ)
 keys ps = map (λ (p : Pair). p.key) ps
@@ -40,7 +39,3 @@ no-repeat g h start ls (inl at) = (g.builder.order, all-apart g.builder.order ls
 no-repeat g h start ls (inr (is_text, content, at)) =
     let o = g.builder.order in
     (o, all-apart o ls (kept-apart (in_key ls) (a_string (string_major is_text) content) (kept_all o ls) (subst AreOpenKeysDifferent at.0 h)).1)
-
--- where they are lent
-pub lent-no-repeat : (g : LentKeys) → FindsNoRepeat KeyBytes keys_stand keys_hold g.keys.now → FindsNoRepeat LentKeys lent_stand lent_hold g
-lent-no-repeat g h start ls at = h start.keys.now ls at

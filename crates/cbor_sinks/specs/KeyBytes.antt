@@ -8,7 +8,6 @@ use Rattle.cbor_judging.specs.Levels.{Level, Standing, item_due, item_full, item
 use Rattle.cbor_judging.specs.Reading.{string_major}
 use Rattle.cbor_walk.specs.Sink.{takes_key, is_map}
 use Rattle.cbor_sinks.specs.declared.key_bytes.KeyBytes.{KeyBytes}
-use Rattle.cbor_sinks.specs.declared.lent_keys.LentKeys.{LentKeys}
 
 -- ---- where a key is due
 
@@ -86,11 +85,3 @@ keys_stand start g st = KeepsAt g.builder.order g.builder.standing g.inside st
 abbrev pub keys_hold : KeyBytes → KeyBytes → List Level → Bool → List ℕ → Type 0
 keys_hold start g ls is_text content =
     (g.builder.standing ≡ kept (in_key ls) (a_string (string_major is_text) content) (kept_all g.builder.order ls)) × (g.inside ≡ inside ls)
-
--- ---- the same of keys that are lent
-
-abbrev pub lent_stand : LentKeys → LentKeys → Standing → Type 0
-lent_stand start g st = keys_stand start.keys.now g.keys.now st
-
-abbrev pub lent_hold : LentKeys → LentKeys → List Level → Bool → List ℕ → Type 0
-lent_hold start g ls is_text content = keys_hold start.keys.now g.keys.now ls is_text content

@@ -5,8 +5,6 @@
 mod built_front;
 mod canonical_sink;
 mod key_bytes;
-mod lent_keys;
 
 pub use built_front::{BuiltFront, build_front};
 pub use key_bytes::KeyBytes;
-pub use lent_keys::LentKeys;

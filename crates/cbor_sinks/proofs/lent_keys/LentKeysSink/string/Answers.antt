@@ -1,5 +1,0 @@
-use Rattle.std.proofs.lemmas.Result.{on_ok_weaker}
-use Rattle.cbor_sinks.proofs.lent_keys.LentKeysSink.string.Goals as goal
-
-pub returns : goal.returns
-returns c = on_ok_weaker c.string.result (λ given start. given start.keys.now) c.string.ensures
