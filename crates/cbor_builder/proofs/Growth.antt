@@ -1,17 +1,18 @@
 -- What stands open when the buffer grows.
 use Rattle.std.proofs.Common.{◌≡◌, ℕ, suc, ◌+◌, ◌-◌, ◌≤◌, Bool, List, [], ◌∷◌, ◌++◌, append_assoc, length, length-append, length-drop, take, drop, take-append-drop, length-take, drop-drop, refl, sym, ap, ◌∙◌, subst, arith, map}
-use Rattle.std.specs.Prelude.{slice_range, flat_map, reverse}
-use Rattle.std.proofs.lemmas.List.{take-append-le, drop-append-le, map-append, length-map, reverse-append}
+use Rattle.std.specs.Prelude.{slice_range, flat_map}
+use Rattle.std.proofs.lemmas.List.{take-append-le, drop-append-le, take_all, drop_all, map-append, length-map}
 use Rattle.std.proofs.Math.Seq.{drop-append_seam}
+use Rattle.cbor_head.specs.declared.major.Major.{Major}
 use Rattle.cbor_head.specs.declared.major.Major.TheVariants as of_major
 use Rattle.cbor_head.specs.Canonical.{in_order}
 use Rattle.cbor_head.specs.declared.order.KeyOrder.{KeyOrder}
 use Rattle.cbor_head.specs.Head.{shortest_head}
 use Rattle.cbor_canonical.specs.Pairs.{IsRising, pair_bytes}
 use Rattle.cbor_buffer.proofs.Written.{take_front, drop_front}
-use Rattle.cbor_canonical.specs.Parts.{plain, an_array, a_map, a_key, a_string, pair, with_member, with_content, give, extended, close, closed}
+use Rattle.cbor_canonical.specs.Parts.{plain, an_array, a_map, a_key, a_string, pair, with_member, with_content, give, opened, extended, close, closed}
 use Rattle.cbor_buffer.specs.Spans.{span_pair, AreWithin}
-use Rattle.cbor_builder.specs.inner.Laid.{pairs_from, Tile, shape_open, outer_spans, opens, Fits, Laid, Takes, IsString, shape_after, span, spans_after, KeepsRising, Stands, Completed}
+use Rattle.cbor_builder.specs.inner.Laid.{pairs_from, Tile, shape_open, outer_spans, opens, Fits, Laid, Takes, IsString, shape_after, span, spans_after, KeepsRising, Stands, Completed, opening_frame}
 use Rattle.cbor_keys.specs.Front.{front_of}
 use Rattle.cbor_builder.specs.inner.Front.{AreFronted}
 use Rattle.cbor_buffer.specs.declared.span.Span.{Span}
@@ -236,9 +237,32 @@ given_by o out b ss f fs out' ss' f' bytes at laid takes e eb ea c =
     given o out b ss f fs out' ss' f' laid takes e
     (subst (λ (xs : List ℕ). Completed o ss (length out) f xs ss' f') eb (subst (λ k. Completed o ss k f bytes ss' f') ea c))
 
--- the frames of a builder whose outer frame was taken from the end of a list
-pub taken : (below below' : List Frame) (g : Frame) → below ≡ below' ++ g ∷ [] → reverse below ≡ g ∷ reverse below'
-taken below below' g e = ap reverse e ∙ reverse-append below' (g ∷ [])
+-- what begins
+pub begun : (m : Major) (n from end : ℕ) (out out' : List ℕ) (ss : List Span) (fs : List Frame) → from ≡ length out → end ≡ length out' → out' ≡ out ++ shortest_head m n
+    → opens out' ss (opening_frame m from end (length ss) ∷ fs) ≡ opened m n ∷ opens out ss fs
+begun m n from end out out' ss fs ef ee eo = by_major m (ap (drop from) eo ∙ ap (λ (k : ℕ). drop k (out ++ shortest_head m n)) ef ∙ drop-append_seam out (shortest_head m n))
+  where
+    front : take from out' ≡ out
+    front = ap (take from) eo ∙ take-append-le from out (shortest_head m n) (omega (arith, ef)) ∙ take_all from out (omega (arith, ef))
+
+    nothing : drop end out' ≡ []
+    nothing = drop_all end out' (omega (arith, ee))
+
+    no_pairs : pairs_from out' ss (length ss) ≡ []
+    no_pairs = ap (map (span_pair out')) (drop_all (length ss) ss (omega arith))
+
+    all : take (length ss) ss ≡ ss
+    all = take_all (length ss) ss (omega arith)
+
+    by_major : (k : Major) → drop from out' ≡ shortest_head k n → opens out' ss (opening_frame k from end (length ss) ∷ fs) ≡ opened k n ∷ opens out ss fs
+    by_major of_major.Array h = λ i. an_array 0 (nothing i) ∷ opens (front i) ss fs
+    by_major of_major.Map h = λ i. a_map (no_pairs i) ∷ opens (front i) (all i) fs
+    by_major of_major.Tag h = λ i. plain (h i) ∷ opens (front i) ss fs
+    by_major of_major.Unsigned h = λ i. a_string of_major.Unsigned (nothing i) ∷ opens (front i) ss fs
+    by_major of_major.Negative h = λ i. a_string of_major.Negative (nothing i) ∷ opens (front i) ss fs
+    by_major of_major.Bytes h = λ i. a_string of_major.Bytes (nothing i) ∷ opens (front i) ss fs
+    by_major of_major.Text h = λ i. a_string of_major.Text (nothing i) ∷ opens (front i) ss fs
+    by_major of_major.Simple h = λ i. a_string of_major.Simple (nothing i) ∷ opens (front i) ss fs
 
 pub ended_by : (o : KeyOrder) (out : List ℕ) (ss : List Span) (f g : Frame) (fs below : List Frame) (out' : List ℕ) (ss1 ss' : List Span) (g' : Frame) (bytes : List ℕ) (at : ℕ)
     → below ≡ g ∷ fs → Laid o out ss (f ∷ below) → Takes g.shape → out' ≡ take f.from out ++ closed o (shape_open out ss f.start f.shape)

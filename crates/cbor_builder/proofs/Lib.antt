@@ -6,6 +6,7 @@ pub mod InPlace
 pub mod Inserted
 pub mod LookUp
 pub mod Neighbours
+pub mod Nesting
 pub mod Numbers
 pub mod OpenRepeats
 pub mod PartsMade

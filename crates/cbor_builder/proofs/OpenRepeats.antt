@@ -1,10 +1,10 @@
 -- Which repeated key is told, from the innermost out.
 use Rattle.std.proofs.Common.{◌≡◌, ℕ, suc, ◌-◌, List, [], ◌∷◌, ◌++◌, length, length-drop, drop, take, map, nat_eq, Option, Some, None, Bool, true, false, refl, sym, ap, ◌∙◌, subst, arith, inl, inr}
-use Rattle.std.specs.Prelude.{IsTrue, MatchOption, reverse, ◌↔◌}
+use Rattle.std.specs.Prelude.{IsTrue, MatchOption, ◌↔◌}
 use Rattle.std.specs.Option.{option_or}
 use Rattle.std.specs.Bool.{then_some}
 use Rattle.std.proofs.lemmas.Bool.Decides.{Decides-eqb}
-use Rattle.std.proofs.lemmas.List.{length-map, length-reverse, drop_all, take_rest}
+use Rattle.std.proofs.lemmas.List.{length-map, drop_all, take_rest}
 use Rattle.cbor_builder.specs.Built.{HasKey, IsRepeatedKey, IsKeyDueAt, keys_so_far, AreAllDifferent, IsFirstRepeat}
 use Rattle.cbor_canonical.specs.Parts.{Open}
 use Rattle.cbor_head.specs.Canonical.{Pair}
@@ -38,10 +38,6 @@ tells_first c os None None n e o h = (o, h)
 pub opens_length : (out : List ℕ) (ss : List Span) (fs : List Frame) → length (opens out ss fs) ≡ length fs
 opens_length out ss [] = refl
 opens_length out ss (f ∷ fs) = ap (λ n. suc n) (opens_length (take f.from out) (outer_spans ss f.shape) fs)
-
--- as many are around the innermost as frames are below it
-pub around : (out : List ℕ) (ss : List Span) (below : List Frame) (n : ℕ) → n ≡ length below → n ≡ length (opens out ss (reverse below))
-around out ss below n e = let l = length-reverse below in let k = opens_length out ss (reverse below) in omega (arith, e, l, k)
 
 -- ---- of what is open
 
@@ -130,9 +126,8 @@ pub moved : (P : KeyOrder → List ℕ → List Span → List Frame → Type 0) 
 moved P o o' out out' ss ss' fs fs' eo ex es ef p =
     subst (λ o. P o out' ss' fs') (sym eo) (subst (λ out. P o out ss' fs') (sym ex) (subst (λ ss. P o out ss fs') (sym es) (subst (P o out ss) (sym ef) p)))
 
-pub none_left : (out : List ℕ) (ss : List Span) (below : List Frame) → length below ≡ 0 → Tells (opens out ss (reverse below)) None
-none_left out ss [] e = tt
-none_left out ss (f ∷ below) e = absurd (omega (arith, e))
+pub none_left : (out : List ℕ) (ss : List Span) (fs : List Frame) → fs ≡ [] → Tells (opens out ss fs) None
+none_left out ss fs e = subst (λ (gs : List Frame). Tells (opens out ss gs) None) (sym e) tt
 
 -- ---- where a key is due
 

@@ -3,8 +3,9 @@ use Rattle.std.proofs.Common.{◌≡◌, ℕ, ◌≤◌, List, [], ◌∷◌, �
 use Rattle.cbor_head.specs.declared.order.KeyOrder.{KeyOrder}
 use Rattle.cbor_canonical.specs.Parts.{closed, close, give, extended}
 use Rattle.cbor_builder.specs.inner.Front.{AreFronted}
-use Rattle.cbor_builder.specs.inner.Laid.{shape_open, outer_spans, opens, Laid, Takes, Completed, Stands, IsString}
+use Rattle.cbor_builder.specs.inner.Laid.{shape_open, outer_spans, opens, Takes, Completed, Stands, IsString}
 use Rattle.cbor_buffer.specs.Moved.{meant, IsWhole, IsSettled, KeepsFront, Stays}
+use Rattle.cbor_builder.specs.inner.BuilderState.{Stand}
 use Rattle.cbor_builder.specs.inner.InPlace.{Agrees, WaitsSame}
 use Rattle.cbor_buffer.specs.declared.draft.Draft.{Draft}
 use Rattle.cbor_buffer.specs.declared.span.Span.{Span}
@@ -14,10 +15,6 @@ use Rattle.cbor_buffer.proofs.Drafts.{whole_length}
 use Rattle.cbor_builder.proofs.Growth.{given_by, ended_by, key_ready, outer_ready, lengthened}
 use Rattle.cbor_builder.proofs.InPlace.{agrees_refl, agrees_longer, agrees_by, waits_by, waits_refl, outer_agrees, completed_same, ready_same}
 use Rattle.cbor_buffer.proofs.Written.{drop_front}
-
--- the invariant of the frames, over a draft
-abbrev pub Stand : KeyOrder → Draft → List Span → List Frame → Type 0
-Stand o d ss fs = Laid o (meant d) ss fs × IsWhole d × Agrees d.buf (meant d) ss fs
 
 same_length : (d : Draft) → IsWhole d → length d.buf ≡ length (meant d)
 same_length d w = whole_length d w

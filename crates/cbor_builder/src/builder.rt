@@ -1,19 +1,20 @@
 //! The builder: parts in, canonical bytes out.
 
 ghost use Rattle.std.specs.Prelude.{ℕ, List, ◌≡◌, ◌≢◌, ◌↔◌, ◌≤◌, ◌++◌, ◌∷◌, [], IsTrue};
-ghost use Rattle.std.specs.Prelude.{OnOk, MatchOption, take, length, vec_len};
+ghost use Rattle.std.specs.Prelude.{OnOk, MatchOption, take, length};
 ghost use Rattle.cbor_head.specs.Head.{shortest_head, IsSimple};
 ghost use Rattle.cbor_head.specs.declared.major.Major.TheVariants.{Simple};
 ghost use Rattle.cbor_builder.specs.Built.{IsKeyDue, IsRepeatedKey, IsWaitingKey};
 ghost use Rattle.cbor_canonical.specs.Parts.{plain, give, opened, extended};
 ghost use Rattle.cbor_builder.specs.inner.Laid.{Takes, IsString, outer_spans};
-ghost use Rattle.cbor_builder.specs.inner.BuilderState.{standing, innermost, IsLaid};
+ghost use Rattle.cbor_builder.specs.inner.BuilderState.{standing, innermost, outers, IsLaid};
 ghost use Rattle.cbor_builder.specs.inner.Repeats.{TellsOf, Tells};
 ghost use Rattle.cbor_buffer.specs.Moved.{meant, IsWhole};
 
 mod closing;
 mod due_key;
 mod given_up;
+mod nesting;
 
 use crate::frame::{Frame, Shape};
 use crate::look_up::has_key;
@@ -23,7 +24,6 @@ use crate::ranking::part;
 use crate::repeat::Repeat;
 use crate::repeats::first_repeat;
 use cbor_buffer::draft::Draft;
-use cbor_buffer::reserve::push_copy;
 use cbor_buffer::span::Span;
 use cbor_head::{KeyOrder, Major};
 use std::alloc::{AllocError, Global};
@@ -32,9 +32,12 @@ use std::alloc::{AllocError, Global};
 #[derive(Drop)]
 pub(crate) struct Core {
     pub(crate) order: KeyOrder,
+    /// Whether anything is open within the item. It stands here since here it takes no room.
+    pub(crate) is_open: bool,
     pub(crate) out: Draft,
     pub(crate) spans: Vec<Span>,
     pub(crate) top: Frame,
+    /// What is open around `top`, but for the outermost.
     pub(crate) below: Vec<Frame>,
 }
 
@@ -46,6 +49,7 @@ impl Core {
     {
         Core {
             order,
+            is_open: false,
             out: Draft::new(alloc),
             spans: Vec::new(alloc),
             top: Frame::outermost(),
@@ -63,6 +67,7 @@ impl Core {
         self.spans.clear();
         self.below.clear();
         self.top = Frame::outermost();
+        self.is_open = false;
     }
 
     /// An item that is its head.
@@ -147,9 +152,8 @@ impl Core {
     {
         let from = self.out.len();
         self.out.head(major, n)?;
-        let frame = opening(major, from, self.out.len(), self.spans.len());
-        push_copy(&mut self.below, &self.top)?;
-        self.top = frame;
+        self.enter()?;
+        self.top = opening(major, from, self.out.len(), self.spans.len());
         Ok(())
     }
 
@@ -215,8 +219,7 @@ impl Core {
         let len = self.out.len();
         self.out.cut(len);
         let mut found = self.take_repeat();
-        while let Some(outer) = self.below.pop() {
-            self.top = outer;
+        while self.leave() {
             found = self.take_repeat().or(found);
         }
         found
@@ -226,13 +229,13 @@ impl Core {
     fn take_repeat(&mut self) -> Option<Repeat>
         requires laid { IsLaid self.old }
         requires lies { self.old.out.buf ≡ meant self.old.out }
-        ensures tells { TellsOf (innermost self.old) (vec_len self.old.below) result }
+        ensures tells { TellsOf (innermost self.old) (length (outers self.old)) result }
         ensures order { self.new.order ≡ self.old.order }
         ensures whole { IsWhole self.new.out }
         ensures meant { meant self.new.out ≡ take self.old.top.from self.old.out.buf }
         ensures lies { self.new.out.buf ≡ take self.old.top.from self.old.out.buf }
         ensures spans { self.new.spans.items ≡ outer_spans self.old.spans.items self.old.top.shape }
-        ensures below { self.new.below.items ≡ self.old.below.items }
+        ensures around { outers self.new ≡ outers self.old }
     {
         let is_waiting_repeated = self.repeated();
         let first = self.top.first_span(&self.spans);
@@ -244,8 +247,10 @@ impl Core {
         self.spans.truncate(first);
         self.out.cut(self.top.from);
         let pair = pair.or(is_waiting_repeated.then_some(count))?;
-        let outside = self.below.len().saturating_sub(1);
-        Some(Repeat { outside, pair })
+        Some(Repeat {
+            outside: self.below.len(),
+            pair,
+        })
     }
 
     // The bytes, where nothing is open any more: where the parts given since `new` make a value,
@@ -257,6 +262,7 @@ impl Core {
     {
         let Core {
             order: _,
+            is_open: _,
             out,
             spans: _,
             top: _,

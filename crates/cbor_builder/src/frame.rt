@@ -1,6 +1,7 @@
 //! What is open.
 
-ghost use Rattle.std.specs.Prelude.{List, ◌≡◌, length, true};
+ghost use Rattle.std.specs.Prelude.{List, ◌≡◌, length};
+ghost use Rattle.cbor_builder.specs.inner.Laid.{outermost};
 ghost use Rattle.cbor_builder.specs.inner.Repeats.{first_of};
 
 use cbor_buffer::span::Span;
@@ -34,7 +35,7 @@ pub(crate) struct Frame {
 impl Frame {
     /// Of the item itself, of which nothing is there.
     pub(crate) fn outermost() -> Frame
-        ensures { result ≡ record { from = 0; start = 0; shape = Shape.Plain; rises = true } }
+        ensures { result ≡ outermost }
     {
         Frame {
             from: 0,

@@ -1,6 +1,6 @@
 //! A finished member of what is open.
 
-ghost use Rattle.std.specs.Prelude.{ℕ, ◌≡◌, ◌≤◌, ◌++◌, ◌∷◌, [], IsTrue, OnOk, map, drop, length};
+ghost use Rattle.std.specs.Prelude.{ℕ, ◌≡◌, ◌≤◌, ◌++◌, ◌∷◌, [], IsTrue, false, OnOk, map, drop, length};
 ghost use Rattle.cbor_head.specs.declared.order.KeyOrder.{KeyOrder};
 ghost use Rattle.cbor_canonical.specs.Pairs.{IsRising};
 ghost use Rattle.cbor_builder.specs.declared.frame.Shape.TheVariants.{Key, Map};
@@ -114,13 +114,13 @@ fn finish_pair(
 }
 
 /// The bytes from `at` on, of a member of what is open, lie as they are meant, where it is a key or,
-/// with nothing around, all that there is.
+/// with nothing open, all that there is.
 #[inline(always)]
 pub(crate) fn settle_member(
     out: &mut Draft,
     at: usize,
     holder: &Frame,
-    around: usize,
+    is_open: bool,
 ) -> Result<(), AllocError>
     requires { IsWhole out.old }
     ensures whole { OnOk result (IsWhole out.new) }
@@ -128,9 +128,9 @@ pub(crate) fn settle_member(
     ensures stays { OnOk result (Stays out.old out.new) }
     ensures key { OnOk result ((first : ℕ) → holder.now.shape ≡ Map first
         → IsSettled at out.new) }
-    ensures last { OnOk result (around ≡ 0 → IsSettled at out.new) }
+    ensures last { OnOk result (is_open ≡ false → IsSettled at out.new) }
 {
-    if around == 0 {
+    if !is_open {
         out.settle(at)?;
         return Ok(());
     }

@@ -20,18 +20,8 @@ use cbor_head::KeyOrder;
 // So many pairs are put in order one by one.
 const FEW: usize = 16;
 
-/// Sorts by the keys.
-pub(crate) fn sort(bytes: &[u8], order: KeyOrder, spans: &mut [Span])
-    ensures permuted { IsPermutation spans.old spans.new }
-    ensures sorted { IsSortedBy
-        (λ x y. is_lt (rank order (ranked_by bytes.now x) (ranked_by bytes.now y)))
-        spans.new }
-{
-    spans.sort_unstable_by(|x, y| compare(bytes, order, x, y))
-}
-
-/// Whether no two neighbours have equal keys.
-pub(crate) fn differ(bytes: &[u8], order: KeyOrder, spans: &[Span]) -> bool
+// Whether no two neighbours have equal keys.
+fn differ(bytes: &[u8], order: KeyOrder, spans: &[Span]) -> bool
     requires { AreFronted bytes.now spans.now }
     ensures { IsTrue result ↔ DoNeighboursDiffer (map (key_of bytes.now) spans.now) }
 {
@@ -72,7 +62,7 @@ fn sort_distinct(bytes: &[u8], order: KeyOrder, spans: &mut [Span]) -> bool
         (λ x y. key_lt order (key_of bytes.now x) (key_of bytes.now y)) spans.new }
 {
     if spans.len() > FEW {
-        sort(bytes, order, spans);
+        spans.sort_unstable_by(|x, y| compare(bytes, order, x, y));
         return differ(bytes, order, spans);
     }
     insert_each(bytes, order, spans)

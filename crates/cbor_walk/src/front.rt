@@ -38,7 +38,7 @@ pub enum Stop {
 /// Gives a sink the parts of the well-formed, valid item that the slice begins with (RFC 8949,
 /// sections 3 and 5.3.1), within the limits, and answers it with how many bytes the item has; else
 /// why there is none. A sink that looks for no equal keys is given only an item that is known to be
-/// valid.
+/// valid, and of why it takes no more nothing is said.
 ///
 /// It goes over the bytes once, without recursion.
 pub fn give_front<'a, S: Sink<'a> + Drop>(

@@ -1,15 +1,25 @@
 -- What a builder stands for.
-use Rattle.std.specs.Prelude.{List, ◌∷◌, reverse}
+use Rattle.std.specs.Prelude.{if◌then◌else◌, false, ◌≡◌, List, [], ◌∷◌, ◌++◌, reverse}
 use Rattle.cbor_canonical.specs.Parts.{Open}
-use Rattle.cbor_builder.specs.inner.Laid.{shape_open, opens, Laid}
+use Rattle.cbor_builder.specs.inner.Laid.{outermost, shape_open, opens, Laid}
 use Rattle.cbor_buffer.specs.Moved.{meant, IsWhole}
 use Rattle.cbor_builder.specs.inner.InPlace.{Agrees}
 use Rattle.cbor_builder.specs.declared.builder.Core.{Core}
 use Rattle.cbor_builder.specs.declared.frame.Frame.{Frame}
+use Rattle.cbor_buffer.specs.declared.draft.Draft.{Draft}
+use Rattle.cbor_buffer.specs.declared.span.Span.{Span}
+use Rattle.cbor_head.specs.declared.order.KeyOrder.{KeyOrder}
 
--- the innermost first
+-- what is around the innermost, from within: the outermost last, which is always the same
+abbrev pub outers : Core → List Frame
+outers c = if c.is_open then reverse c.below.items ++ outermost ∷ [] else []
+
 abbrev pub frames : Core → List Frame
-frames c = c.top ∷ reverse c.below.items
+frames c = c.top ∷ outers c
+
+-- where nothing is open, the innermost is the outermost
+abbrev pub IsRooted : Core → Type 0
+IsRooted c = c.is_open ≡ false → (c.top ≡ outermost) × (c.below.items ≡ [])
 
 abbrev pub standing : Core → List Open
 standing c = opens (meant c.out) c.spans.items (frames c)
@@ -17,5 +27,8 @@ standing c = opens (meant c.out) c.spans.items (frames c)
 abbrev pub innermost : Core → Open
 innermost c = shape_open (meant c.out) c.spans.items c.top.start c.top.shape
 
+abbrev pub Stand : KeyOrder → Draft → List Span → List Frame → Type 0
+Stand o d ss fs = Laid o (meant d) ss fs × IsWhole d × Agrees d.buf (meant d) ss fs
+
 abbrev pub IsLaid : Core → Type 0
-IsLaid c = Laid c.order (meant c.out) c.spans.items (frames c) × IsWhole c.out × Agrees c.out.buf (meant c.out) c.spans.items (frames c)
+IsLaid c = Stand c.order c.out c.spans.items (frames c) × IsRooted c

@@ -15,6 +15,10 @@ use Rattle.cbor_builder.specs.declared.frame.Shape.{Shape}
 use Rattle.cbor_builder.specs.declared.frame.Shape.TheVariants.{Plain, Array, Map, Key, Content}
 use Rattle.cbor_buffer.specs.Spans.{span_pair}
 
+-- of the item itself, of which nothing is there
+abbrev pub outermost : Frame
+outermost = record { from = 0; start = 0; shape = Plain; rises = true }
+
 -- the pairs of the map whose spans begin at an index
 abbrev pub pairs_from : List ℕ → List Span → ℕ → List Pair
 pairs_from out ss first = map (span_pair out) (drop first ss)

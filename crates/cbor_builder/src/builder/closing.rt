@@ -1,12 +1,12 @@
 //! What is open ends, and its bytes take their final form.
 
-ghost use Rattle.std.specs.Prelude.{reverse, ◌≡◌, ◌↔◌, ◌≤◌, ◌++◌, IsTrue, false, OnOk, IfOk, drop};
+ghost use Rattle.std.specs.Prelude.{◌≡◌, ◌↔◌, ◌≤◌, ◌++◌, IsTrue, false, OnOk, IfOk, drop};
 ghost use Rattle.std.specs.Prelude.{take, length, flat_map, IsPermutation};
 ghost use Rattle.cbor_buffer.specs.Moved.{meant, IsWhole, KeepsFront};
 ghost use Rattle.cbor_canonical.specs.Pairs.{pair_bytes, HasDistinctBytes};
 ghost use Rattle.cbor_canonical.specs.Parts.{close, closed, HasNoRepeats};
 ghost use Rattle.cbor_builder.specs.declared.frame.Shape.TheVariants.{Map};
-ghost use Rattle.cbor_builder.specs.inner.BuilderState.{standing, innermost, IsLaid};
+ghost use Rattle.cbor_builder.specs.inner.BuilderState.{standing, innermost, outers, IsLaid};
 ghost use Rattle.cbor_builder.specs.inner.InPlace.{AreSameKeys};
 ghost use Rattle.cbor_builder.specs.inner.Laid.{CanClose, OuterTakes, outer_spans, Fits};
 ghost use Rattle.cbor_builder.specs.inner.Laid.{pairs_from};
@@ -31,7 +31,7 @@ impl Core {
         ensures order { self.new.order ≡ self.old.order }
         ensures out { self.new.out ≡ self.old.out }
         ensures top { self.new.top ≡ self.old.top }
-        ensures below { self.new.below ≡ self.old.below }
+        ensures around { outers self.new ≡ outers self.old }
         ensures front { take first self.new.spans.items ≡ take first self.old.spans.items }
         ensures permuted { IsPermutation (drop first self.old.spans.items)
             (drop first self.new.spans.items) }
@@ -57,7 +57,7 @@ impl Core {
             (drop first self.old.spans.items) }
         ensures order { self.new.order ≡ self.old.order }
         ensures top { self.new.top ≡ self.old.top }
-        ensures below { self.new.below ≡ self.old.below }
+        ensures around { outers self.new ≡ outers self.old }
         ensures spans { take first self.new.spans.items ≡ take first self.old.spans.items }
         ensures distinct { IfOk result (λ distinct. IsTrue distinct
             ↔ HasDistinctBytes (pairs_from (meant self.old.out) self.old.spans.items first)) }
@@ -88,7 +88,7 @@ impl Core {
         requires closes { CanClose self.old.top.shape }
         ensures order { self.new.order ≡ self.old.order }
         ensures top { self.new.top ≡ self.old.top }
-        ensures below { self.new.below.items ≡ self.old.below.items }
+        ensures around { outers self.new ≡ outers self.old }
         ensures distinct { IfOk result (λ distinct.
             IsTrue distinct ↔ HasNoRepeats (innermost self.old)) }
         ensures spans { IfOk result (λ distinct. IsTrue distinct
@@ -132,7 +132,7 @@ impl Core {
     pub(crate) fn end(&mut self) -> Result<bool, AllocError>
         requires laid { IsLaid self.old }
         requires closes { CanClose self.old.top.shape }
-        requires takes { OuterTakes (reverse self.old.below.items) }
+        requires takes { OuterTakes (outers self.old) }
         ensures order { self.new.order ≡ self.old.order }
         ensures distinct { IfOk result (λ distinct.
             IsTrue distinct ↔ HasNoRepeats (innermost self.old)) }
@@ -146,9 +146,8 @@ impl Core {
         if !self.close_top()? {
             return Ok(false);
         }
-        if let Some(outer) = self.below.pop() {
-            self.top = outer;
-            settle_member(&mut self.out, from, &self.top, self.below.len())?;
+        if self.leave() {
+            settle_member(&mut self.out, from, &self.top, self.is_open)?;
             complete(
                 &mut self.top,
                 &mut self.spans,

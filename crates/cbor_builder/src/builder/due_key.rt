@@ -13,13 +13,13 @@ impl Core {
     // Whether a key is due with as much before it as before the one that is told.
     #[inline(always)]
     pub(crate) fn is_due_at(&self, repeat: Repeat) -> bool
+        requires laid { IsLaid self.now }
         ensures { IsTrue result ↔ IsKeyDueAt (standing self.now) repeat.outside repeat.pair }
     {
         match self.top.shape {
             Shape::Map(first) => {
                 let pairs = self.spans.len().saturating_sub(first);
-                let around = self.below.len().saturating_sub(1);
-                pairs == repeat.pair && around == repeat.outside
+                pairs == repeat.pair && self.below.len() == repeat.outside
             }
             _ => false,
         }

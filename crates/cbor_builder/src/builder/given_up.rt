@@ -1,9 +1,9 @@
 //! What is open ends, and nothing of it is kept.
 
-ghost use Rattle.std.specs.Prelude.{reverse, ◌≡◌, ◌↔◌, IsTrue, IfOk, OnOk, false};
+ghost use Rattle.std.specs.Prelude.{◌≡◌, ◌↔◌, IsTrue, IfOk, OnOk, false};
 ghost use Rattle.cbor_builder.specs.Built.{around};
 ghost use Rattle.cbor_canonical.specs.Parts.{HasNoRepeats};
-ghost use Rattle.cbor_builder.specs.inner.BuilderState.{standing, innermost, IsLaid};
+ghost use Rattle.cbor_builder.specs.inner.BuilderState.{standing, innermost, outers, IsLaid};
 ghost use Rattle.cbor_builder.specs.inner.Laid.{CanClose, OuterTakes, outer_spans};
 
 use crate::builder::Core;
@@ -20,7 +20,7 @@ impl Core {
     pub(crate) fn give_up(&mut self) -> Result<bool, AllocError>
         requires laid { IsLaid self.old }
         requires closes { CanClose self.old.top.shape }
-        requires takes { OuterTakes (reverse self.old.below.items) }
+        requires takes { OuterTakes (outers self.old) }
         ensures order { self.new.order ≡ self.old.order }
         ensures distinct { IfOk result (λ distinct.
             IsTrue distinct ↔ HasNoRepeats (innermost self.old)) }
@@ -35,9 +35,7 @@ impl Core {
         }
         self.out.settle(0)?;
         self.out.cut(self.top.from);
-        if let Some(outer) = self.below.pop() {
-            self.top = outer;
-        }
+        self.leave();
         Ok(true)
     }
 
@@ -49,7 +47,7 @@ impl Core {
         ensures order { self.new.order ≡ self.old.order }
         ensures out { self.new.out ≡ self.old.out }
         ensures top { self.new.top ≡ self.old.top }
-        ensures below { self.new.below.items ≡ self.old.below.items }
+        ensures around { outers self.new ≡ outers self.old }
         ensures distinct { IsTrue result ↔ HasNoRepeats (innermost self.old) }
         ensures spans { IsTrue result
             → self.new.spans.items ≡ outer_spans self.old.spans.items self.old.top.shape }

@@ -1,9 +1,10 @@
 use Rattle.std.proofs.Common.{◌≡◌, ◌-◌, ◌++◌, ℕ, take, length, length-append, sym, ap, ◌∙◌, subst, arith}
-use Rattle.std.specs.Prelude.{flat_map, reverse}
+use Rattle.std.specs.Prelude.{flat_map}
 use Rattle.std.proofs.lemmas.List.{length-take-le}
 use Rattle.cbor_head.specs.Canonical.{in_order}
 use Rattle.cbor_canonical.specs.Parts.{closed, HasNoRepeats}
 use Rattle.cbor_canonical.specs.Pairs.{pair_bytes}
+use Rattle.cbor_builder.specs.inner.BuilderState.{outers}
 use Rattle.cbor_builder.specs.inner.Laid.{shape_open, pairs_from}
 use Rattle.cbor_buffer.specs.Moved.{meant}
 use Rattle.cbor_builder.specs.inner.InPlace.{HasSameKeys}
@@ -15,12 +16,12 @@ use Rattle.cbor_canonical.proofs.Decided.{holds}
 use Rattle.cbor_builder.proofs.builder.Core.close_top.Goals as goal
 
 pub fill_head-requires-clause-ends : goal.fill_head-requires-clause-ends
-fill_head-requires-clause-ends c = let l = whole_length c.args.self.now.out c.requires.laid.1 in omega (arith, l, c.requires.laid.0.1)
+fill_head-requires-clause-ends c = let l = whole_length c.args.self.now.out c.requires.laid.0.1 in omega (arith, l, c.requires.laid.0.0.1)
 
 pub order_pairs-requires-clause-keys : goal.order_pairs-requires-clause-keys
 order_pairs-requires-clause-keys c =
     let s = c.args.self.now in
-    subst (HasSameKeys s.out.buf (meant s.out) s.spans.items) c.in-Map.is (top_keys s.out.buf (meant s.out) s.spans.items s.top (reverse s.below.items) c.requires.laid.2)
+    subst (HasSameKeys s.out.buf (meant s.out) s.spans.items) c.in-Map.is (top_keys s.out.buf (meant s.out) s.spans.items s.top (outers s) c.requires.laid.0.2)
 
 pub fill_head-requires-in-Map-clause-ends : goal.fill_head-requires-in-Map-clause-ends
 fill_head-requires-in-Map-clause-ends c =
@@ -29,7 +30,7 @@ fill_head-requires-in-Map-clause-ends c =
     let pairs = flat_map pair_bytes (in_order s.order (pairs_from (meant s.out) s.spans.items c.in-Map.first)) in
     let a = whole_length c.order_pairs.new.self.out k.whole in
     let b = length-append (take s.top.start (meant s.out)) pairs in
-    let n = length-take-le s.top.start (meant s.out) c.requires.laid.0.1 in
+    let n = length-take-le s.top.start (meant s.out) c.requires.laid.0.0.1 in
     omega (arith, a, b, n, ap length (k.meant c.if-not-branch.false))
 
 pub returns-in_ok-fill_head-in-Map-clause-distinct : goal.returns-in_ok-fill_head-in-Map-clause-distinct
@@ -43,7 +44,7 @@ returns-in_ok-fill_head-in-Map-clause-bytes c = λ t.
     let f = s.top in
     let k = c.in_ok-order_pairs-in-Map.ensures in
     subst (λ (h : Shape). meant c.fill_head-in-Map.new.self ≡ take f.from (meant s.out) ++ closed s.order (shape_open (meant s.out) s.spans.items f.start h)) (sym c.in-Map.is)
-    (map_sorted s.order (meant s.out) s.spans.items f.from f.start c.in-Map.first (c.len.result - c.in-Map.first) (meant c.order_pairs.new.self.out) (meant c.fill_head-in-Map.new.self) c.requires.laid.0.0 c.requires.laid.0.1
+    (map_sorted s.order (meant s.out) s.spans.items f.from f.start c.in-Map.first (c.len.result - c.in-Map.first) (meant c.order_pairs.new.self.out) (meant c.fill_head-in-Map.new.self) c.requires.laid.0.0.0 c.requires.laid.0.0.1
     (ap (λ (n : ℕ). n - c.in-Map.first) (c.len.ensures ∙ s.spans.ok.0)) (k.meant c.if-not-branch.false) c.in_ok-fill_head-in-Map.ensures.meant)
 
 pub returns-in_ok-fill_head-in-Map-clause-front : goal.returns-in_ok-fill_head-in-Map-clause-front
@@ -51,4 +52,4 @@ returns-in_ok-fill_head-in-Map-clause-front c = λ t.
     let s = c.args.self.now in
     let k = c.in_ok-order_pairs-in-Map.ensures in
     let h = c.in_ok-fill_head-in-Map.ensures in
-    front_shorter s.top.from s.top.start s.out c.order_pairs.new.self.out c.fill_head-in-Map.new.self c.requires.laid.0.0 (k.front c.if-not-branch.false) h.front h.lies
+    front_shorter s.top.from s.top.start s.out c.order_pairs.new.self.out c.fill_head-in-Map.new.self c.requires.laid.0.0.0 (k.front c.if-not-branch.false) h.front h.lies

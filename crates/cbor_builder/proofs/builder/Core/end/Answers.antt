@@ -1,12 +1,11 @@
-use Rattle.std.proofs.Common.{◌∷◌, ◌++◌, take, length, sym, ap, ◌∙◌, subst, arith}
-use Rattle.std.specs.Prelude.{reverse}
-use Rattle.std.proofs.lemmas.List.{length-reverse}
+use Rattle.std.proofs.Common.{◌∷◌, ◌++◌, take, sym, ap, ◌∙◌, subst}
 use Rattle.cbor_head.specs.declared.order.KeyOrder.{KeyOrder}
+use Rattle.cbor_builder.specs.inner.BuilderState.{outers, Stand}
 use Rattle.cbor_builder.specs.inner.Laid.{OuterTakes, opens, shape_open}
-use Rattle.cbor_buffer.specs.Moved.{meant}
+use Rattle.cbor_buffer.specs.Moved.{meant, KeepsFront}
 use Rattle.cbor_canonical.specs.Parts.{close, closed}
-use Rattle.cbor_builder.proofs.Growth.{taken}
-use Rattle.cbor_builder.proofs.Standing.{Stand, member_ended, member_outer, keeps_stays}
+use Rattle.cbor_builder.proofs.Nesting.{nothing_open, rooted_given}
+use Rattle.cbor_builder.proofs.Standing.{member_ended, member_outer, keeps_stays}
 use Rattle.cbor_builder.proofs.builder.Core.end.Goals as goal
 
 pub returns-in_ok-complete-clause-laid : goal.returns-in_ok-complete-clause-laid
@@ -16,14 +15,16 @@ returns-in_ok-complete-clause-laid c =
     let k = c.in_ok-close_top.ensures in
     let t = c.in_ok-settle_member.ensures in
     let done = c.if-not-branch.false in
-    let o = c.close_top.new.self.order in
-    let rev = taken s.below.items c.pop.new.self.items c.in-Some.outer (sym k.below ∙ c.in-Some.ensures.items) in
-    let stand = subst (λ (o : KeyOrder). Stand o s.out s.spans.items (s.top ∷ reverse s.below.items)) (sym k.order) c.requires.laid in
-    let bytes = t.meant ∙ k.bytes done ∙ ap (λ (o : KeyOrder). take s.top.from (meant s.out) ++ closed o (shape_open (meant s.out) s.spans.items s.top.start s.top.shape)) (sym k.order) in
-    let front = keeps_stays s.top.from s.out c.close_top.new.self.out c.settle_member.new.out (k.front done) t.stays t.meant in
-    let made = member_ended o s.out c.settle_member.new.out s.spans.items c.close_top.new.self.spans.items s.top c.in-Some.outer (reverse c.pop.new.self.items) (reverse s.below.items) c.complete.new.spans.items c.complete.new.frame rev stand t.whole
-    (subst OuterTakes rev c.requires.takes) bytes front t.key (λ n. t.last (let l = length-reverse c.pop.new.self.items in omega (arith, ap length n, l, c.len.ensures, c.pop.new.self.ok.0))) (k.spans done) (e.from, e.start, e.shape, e.spans, e.rises) in
-    made.0
+    let n = c.leave.new.self in
+    let o = n.order in
+    let eo = c.leave.ensures.order ∙ k.order in
+    let rev = sym k.around ∙ c.leave.ensures.frames c.if-leave.true in
+    let stand = subst (λ (o : KeyOrder). Stand o s.out s.spans.items (s.top ∷ outers s)) (sym eo) c.requires.laid.0 in
+    let bytes = t.meant ∙ ap meant c.leave.ensures.out ∙ k.bytes done ∙ ap (λ (o : KeyOrder). take s.top.from (meant s.out) ++ closed o (shape_open (meant s.out) s.spans.items s.top.start s.top.shape)) (sym eo) in
+    let front = keeps_stays s.top.from s.out n.out c.settle_member.new.out (subst (KeepsFront s.top.from s.out) (sym c.leave.ensures.out) (k.front done)) t.stays t.meant in
+    let made = member_ended o s.out c.settle_member.new.out s.spans.items n.spans.items s.top n.top (outers n) (outers s) c.complete.new.spans.items c.complete.new.frame rev stand t.whole
+    (subst OuterTakes rev c.requires.takes) bytes front t.key (λ none. t.last (nothing_open n none)) (c.leave.ensures.spans ∙ k.spans done) (e.from, e.start, e.shape, e.spans, e.rises) in
+    (made.0, rooted_given o c.settle_member.new.out.buf n.spans.items s.top.from n.top c.complete.new.frame n.is_open n.below.items e.from e.start e.shape e.rises (c.leave.ensures.rooted c.if-leave.true))
 
 pub returns-in_ok-complete-clause-closed : goal.returns-in_ok-complete-clause-closed
 returns-in_ok-complete-clause-closed c = λ p.
@@ -32,14 +33,16 @@ returns-in_ok-complete-clause-closed c = λ p.
     let k = c.in_ok-close_top.ensures in
     let t = c.in_ok-settle_member.ensures in
     let done = c.if-not-branch.false in
-    let o = c.close_top.new.self.order in
-    let rev = taken s.below.items c.pop.new.self.items c.in-Some.outer (sym k.below ∙ c.in-Some.ensures.items) in
-    let stand = subst (λ (o : KeyOrder). Stand o s.out s.spans.items (s.top ∷ reverse s.below.items)) (sym k.order) c.requires.laid in
-    let bytes = t.meant ∙ k.bytes done ∙ ap (λ (o : KeyOrder). take s.top.from (meant s.out) ++ closed o (shape_open (meant s.out) s.spans.items s.top.start s.top.shape)) (sym k.order) in
-    let front = keeps_stays s.top.from s.out c.close_top.new.self.out c.settle_member.new.out (k.front done) t.stays t.meant in
-    let made = member_ended o s.out c.settle_member.new.out s.spans.items c.close_top.new.self.spans.items s.top c.in-Some.outer (reverse c.pop.new.self.items) (reverse s.below.items) c.complete.new.spans.items c.complete.new.frame rev stand t.whole
-    (subst OuterTakes rev c.requires.takes) bytes front t.key (λ n. t.last (let l = length-reverse c.pop.new.self.items in omega (arith, ap length n, l, c.len.ensures, c.pop.new.self.ok.0))) (k.spans done) (e.from, e.start, e.shape, e.spans, e.rises) in
-    made.1 ∙ ap (λ (o : KeyOrder). close o (opens (meant s.out) s.spans.items (s.top ∷ reverse s.below.items))) k.order
+    let n = c.leave.new.self in
+    let o = n.order in
+    let eo = c.leave.ensures.order ∙ k.order in
+    let rev = sym k.around ∙ c.leave.ensures.frames c.if-leave.true in
+    let stand = subst (λ (o : KeyOrder). Stand o s.out s.spans.items (s.top ∷ outers s)) (sym eo) c.requires.laid.0 in
+    let bytes = t.meant ∙ ap meant c.leave.ensures.out ∙ k.bytes done ∙ ap (λ (o : KeyOrder). take s.top.from (meant s.out) ++ closed o (shape_open (meant s.out) s.spans.items s.top.start s.top.shape)) (sym eo) in
+    let front = keeps_stays s.top.from s.out n.out c.settle_member.new.out (subst (KeepsFront s.top.from s.out) (sym c.leave.ensures.out) (k.front done)) t.stays t.meant in
+    let made = member_ended o s.out c.settle_member.new.out s.spans.items n.spans.items s.top n.top (outers n) (outers s) c.complete.new.spans.items c.complete.new.frame rev stand t.whole
+    (subst OuterTakes rev c.requires.takes) bytes front t.key (λ none. t.last (nothing_open n none)) (c.leave.ensures.spans ∙ k.spans done) (e.from, e.start, e.shape, e.spans, e.rises) in
+    made.1 ∙ ap (λ (o : KeyOrder). close o (opens (meant s.out) s.spans.items (s.top ∷ outers s))) eo
 
 pub complete-requires-clause-within : goal.complete-requires-clause-within
 complete-requires-clause-within c =
@@ -47,6 +50,7 @@ complete-requires-clause-within c =
     let k = c.in_ok-close_top.ensures in
     let t = c.in_ok-settle_member.ensures in
     let done = c.if-not-branch.false in
-    let rev = taken s.below.items c.pop.new.self.items c.in-Some.outer (sym k.below ∙ c.in-Some.ensures.items) in
-    member_outer s.order s.out c.settle_member.new.out (closed s.order (shape_open (meant s.out) s.spans.items s.top.start s.top.shape)) s.spans.items c.close_top.new.self.spans.items s.top c.in-Some.outer (reverse c.pop.new.self.items) (reverse s.below.items)
-    rev c.requires.laid t.whole (t.meant ∙ k.bytes done) (keeps_stays s.top.from s.out c.close_top.new.self.out c.settle_member.new.out (k.front done) t.stays t.meant) (k.spans done)
+    let n = c.leave.new.self in
+    let rev = sym k.around ∙ c.leave.ensures.frames c.if-leave.true in
+    member_outer s.order s.out c.settle_member.new.out (closed s.order (shape_open (meant s.out) s.spans.items s.top.start s.top.shape)) s.spans.items n.spans.items s.top n.top (outers n) (outers s)
+    rev c.requires.laid.0 t.whole (t.meant ∙ ap meant c.leave.ensures.out ∙ k.bytes done) (keeps_stays s.top.from s.out n.out c.settle_member.new.out (subst (KeepsFront s.top.from s.out) (sym c.leave.ensures.out) (k.front done)) t.stays t.meant) (c.leave.ensures.spans ∙ k.spans done)

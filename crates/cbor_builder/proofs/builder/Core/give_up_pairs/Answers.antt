@@ -16,7 +16,7 @@ returns-clause-distinct c =
     let distinct : HasDistinctBytes pairs = elim c.else-not-self.branch [
       | else-not-self-via-then-not-self+else-not-order_spans w ↦ w.if-not-order_spans.ensures.distinct.0 refl
       | else-not-self-via-else-not-self w ↦
-          let fits = subst (Fits s.order (meant s.out) s.spans.items s.top.from s.top.start s.top.rises) c.in-Map.is c.requires.laid.0.2 in
+          let fits = subst (Fits s.order (meant s.out) s.spans.items s.top.from s.top.start s.top.rises) c.in-Map.is c.requires.laid.0.0.2 in
           rising_distinct s.order pairs (fits.2 w.if-not-self.false)
     ] in
     holds (subst (λ (h : Shape). HasNoRepeats (shape_open (meant s.out) s.spans.items s.top.start h)) (sym c.in-Map.is) distinct)

@@ -1,8 +1,9 @@
-use Rattle.std.proofs.Common.{◌-◌, take, ap, ◌∙◌}
-use Rattle.std.specs.Prelude.{reverse}
+use Rattle.std.proofs.Common.{◌-◌, take, sym, ap, ◌∙◌}
 use Rattle.cbor_buffer.specs.Moved.{meant}
+use Rattle.cbor_builder.specs.inner.BuilderState.{outers}
 use Rattle.cbor_builder.specs.inner.Laid.{outer_spans, opens}
-use Rattle.cbor_builder.proofs.OpenRepeats.{due_at, around}
+use Rattle.cbor_builder.proofs.Nesting.{stored}
+use Rattle.cbor_builder.proofs.OpenRepeats.{due_at, opens_length}
 use Rattle.cbor_builder.proofs.builder.Core.is_due_at.Goals as goal
 
 pub returns-then-pairs-repeat : goal.returns-then-pairs-repeat
@@ -11,6 +12,6 @@ returns-then-pairs-repeat c =
     let f = core.top in
     let out = meant core.out in
     let outer = outer_spans core.spans.items f.shape in
-    let open_around = around (take f.from out) outer core.below.items c.len-in-Map.result (c.len-in-Map.ensures ∙ core.below.ok.0) in
-    due_at out core.spans.items f.start c.in-Map.first c.saturating_sub-pairs.result c.saturating_sub-around.result c.args.repeat.outside c.args.repeat.pair f.shape
-    (opens (take f.from out) outer (reverse core.below.items)) c.in-Map.is (c.saturating_sub-pairs.ensures ∙ ap (λ n. n - c.in-Map.first) (c.len.ensures ∙ core.spans.ok.0)) (c.saturating_sub-around.ensures ∙ ap (λ n. n - 1) open_around) c.if-pairs-repeat.true
+    let open_around = c.len-then-pairs-repeat.ensures ∙ stored core c.requires.laid.1 ∙ ap (λ n. n - 1) (sym (opens_length (take f.from out) outer (outers core))) in
+    due_at out core.spans.items f.start c.in-Map.first c.saturating_sub-pairs.result c.len-then-pairs-repeat.result c.args.repeat.outside c.args.repeat.pair f.shape
+    (opens (take f.from out) outer (outers core)) c.in-Map.is (c.saturating_sub-pairs.ensures ∙ ap (λ n. n - c.in-Map.first) (c.len.ensures ∙ core.spans.ok.0)) open_around c.if-pairs-repeat.true

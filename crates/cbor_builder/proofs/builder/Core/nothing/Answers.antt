@@ -1,7 +1,8 @@
 use Rattle.std.proofs.Common.{append-nil, sym, []}
-use Rattle.std.specs.Prelude.{reverse}
+use Rattle.cbor_builder.specs.inner.BuilderState.{outers}
 use Rattle.std.proofs.lemmas.Result.{on_ok_weaker}
 use Rattle.cbor_buffer.specs.Moved.{meant}
+use Rattle.cbor_builder.proofs.Nesting.{rooted_given}
 use Rattle.cbor_builder.proofs.Standing.{member_given, member_ready}
 use Rattle.cbor_builder.proofs.builder.Core.nothing.Goals as goal
 
@@ -9,17 +10,21 @@ pub returns-clause-laid : goal.returns-clause-laid
 returns-clause-laid c =
     let s = c.args.self.now in
     let e = c.complete.ensures in
-    on_ok_weaker c.complete.result (λ spans. (member_given s.order s.out s.out [] s.spans.items s.top (reverse s.below.items) c.len-at.result c.complete.new.spans.items c.complete.new.frame
-    c.requires.laid c.requires.takes c.requires.laid.1 (sym (append-nil (meant s.out))) (sym (append-nil s.out.buf)) c.len-at.ensures.meant (e.from, e.start, e.shape, spans, e.rises)).0) e.spans
+    let rooted = rooted_given s.order s.out.buf s.spans.items c.len-at.result s.top c.complete.new.frame s.is_open s.below.items e.from e.start e.shape e.rises c.requires.laid.1 in
+    on_ok_weaker c.complete.result (λ spans. (
+      (member_given s.order s.out s.out [] s.spans.items s.top (outers s) c.len-at.result c.complete.new.spans.items c.complete.new.frame
+          c.requires.laid.0 c.requires.takes c.requires.laid.0.1 (sym (append-nil (meant s.out))) (sym (append-nil s.out.buf)) c.len-at.ensures.meant (e.from, e.start, e.shape, spans, e.rises)).0,
+      rooted,
+    )) e.spans
 
 pub returns-clause-given : goal.returns-clause-given
 returns-clause-given c =
     let s = c.args.self.now in
     let e = c.complete.ensures in
-    on_ok_weaker c.complete.result (λ spans. (member_given s.order s.out s.out [] s.spans.items s.top (reverse s.below.items) c.len-at.result c.complete.new.spans.items c.complete.new.frame
-    c.requires.laid c.requires.takes c.requires.laid.1 (sym (append-nil (meant s.out))) (sym (append-nil s.out.buf)) c.len-at.ensures.meant (e.from, e.start, e.shape, spans, e.rises)).1) e.spans
+    on_ok_weaker c.complete.result (λ spans. (member_given s.order s.out s.out [] s.spans.items s.top (outers s) c.len-at.result c.complete.new.spans.items c.complete.new.frame
+    c.requires.laid.0 c.requires.takes c.requires.laid.0.1 (sym (append-nil (meant s.out))) (sym (append-nil s.out.buf)) c.len-at.ensures.meant (e.from, e.start, e.shape, spans, e.rises)).1) e.spans
 
 pub complete-requires-clause-within : goal.complete-requires-clause-within
 complete-requires-clause-within c =
     let s = c.args.self.now in
-    member_ready s.order s.out s.out [] s.spans.items s.top (reverse s.below.items) c.requires.laid c.requires.laid.1 (sym (append-nil (meant s.out))) (sym (append-nil s.out.buf))
+    member_ready s.order s.out s.out [] s.spans.items s.top (outers s) c.requires.laid.0 c.requires.laid.0.1 (sym (append-nil (meant s.out))) (sym (append-nil s.out.buf))

@@ -1,0 +1,41 @@
+-- What is around the innermost.
+use Rattle.std.proofs.Common.{◌≡◌, ◌-◌, ℕ, vec_len, Bool, true, false, List, [], ◌∷◌, ◌++◌, length, length-append, refl, ap, ◌∙◌, subst, arith}
+use Rattle.std.specs.Prelude.{if◌then◌else◌, IsTrue, reverse}
+use Rattle.std.proofs.lemmas.List.{length-reverse}
+use Rattle.cbor_head.specs.declared.order.KeyOrder.{KeyOrder}
+use Rattle.cbor_builder.specs.inner.BuilderState.{outers, IsRooted}
+use Rattle.cbor_builder.specs.inner.Laid.{outermost, KeepsRising, OuterTakes, shape_after}
+use Rattle.cbor_builder.specs.declared.builder.Core.{Core}
+use Rattle.cbor_builder.specs.declared.frame.Frame.{Frame}
+use Rattle.cbor_buffer.specs.declared.span.Span.{Span}
+
+-- a member of the item itself changes nothing in its frame
+pub rooted_given : (o : KeyOrder) (out : List ℕ) (ss : List Span) (at : ℕ) (f f' : Frame) (opened : Bool) (below : List Frame) → f'.from ≡ f.from → f'.start ≡ f.start → f'.shape ≡ shape_after at (length out) f.shape
+    → KeepsRising o out ss f.shape f.rises f'.rises → (opened ≡ false → (f ≡ outermost) × (below ≡ [])) → opened ≡ false → (f' ≡ outermost) × (below ≡ [])
+rooted_given o out ss at f f' opened below from start shape rises r is =
+    let e = (r is).0 in
+    let a = from ∙ ap (λ (g : Frame). g.from) e in
+    let b = start ∙ ap (λ (g : Frame). g.start) e in
+    let c = shape ∙ ap (λ (g : Frame). shape_after at (length out) g.shape) e in
+    let d = subst (λ (g : Frame). KeepsRising o out ss g.shape g.rises f'.rises) e rises in
+    (λ i. record { from = a i; start = b i; shape = c i; rises = d i }, (r is).1)
+
+-- so many are stored as there are around the innermost, but for the outermost
+pub stored : (c : Core) → IsRooted c → vec_len c.below ≡ length (outers c) - 1
+stored c r = go c.is_open r
+  where
+    go : (opened : Bool) → (opened ≡ false → (c.top ≡ outermost) × (c.below.items ≡ [])) → vec_len c.below ≡ length (if opened then reverse c.below.items ++ outermost ∷ [] else []) - 1
+    go true r = let l = length-append (reverse c.below.items) (outermost ∷ []) in let k = length-reverse c.below.items in omega (arith, l, k, c.below.ok.0)
+    go false r = let e = ap length (r refl).1 in omega (arith, e, c.below.ok.0)
+
+pub nothing_open : (c : Core) → outers c ≡ [] → c.is_open ≡ false
+nothing_open c e = go c.is_open e
+  where
+    go : (opened : Bool) → (if opened then reverse c.below.items ++ outermost ∷ [] else []) ≡ [] → opened ≡ false
+    go true e = let l = length-append (reverse c.below.items) (outermost ∷ []) in absurd (omega (arith, l, ap length e))
+    go false e = refl
+
+-- where something is around, it was found
+pub found_around : (left : Bool) (fs : List Frame) → OuterTakes fs → (left ≡ false → fs ≡ []) → IsTrue left
+found_around true fs h n = refl
+found_around false fs h n = absurd (subst OuterTakes (n refl) h)

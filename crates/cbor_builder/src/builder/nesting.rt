@@ -1,0 +1,52 @@
+//! What is open around the innermost.
+
+ghost use Rattle.std.specs.Prelude.{◌≡◌, [], IsTrue, false, OnOk};
+ghost use Rattle.cbor_builder.specs.inner.BuilderState.{frames, outers, IsRooted};
+
+use crate::builder::Core;
+use crate::frame::Frame;
+use cbor_buffer::reserve::push_copy;
+use std::alloc::AllocError;
+
+impl Core {
+    // The innermost is around what begins.
+    #[inline(always)]
+    pub(crate) fn enter(&mut self) -> Result<(), AllocError>
+        requires rooted { IsRooted self.old }
+        ensures order { self.new.order ≡ self.old.order }
+        ensures out { self.new.out ≡ self.old.out }
+        ensures spans { self.new.spans.items ≡ self.old.spans.items }
+        ensures open { OnOk result (IsTrue self.new.is_open) }
+        ensures around { OnOk result (outers self.new ≡ frames self.old) }
+    {
+        // The outermost frame is always the same, so that no memory is taken for it.
+        if !self.is_open {
+            self.is_open = true;
+            return Ok(());
+        }
+        push_copy(&mut self.below, &self.top)
+    }
+
+    // What is around the innermost is the innermost now. False where nothing is.
+    #[inline(always)]
+    pub(crate) fn leave(&mut self) -> bool
+        ensures order { self.new.order ≡ self.old.order }
+        ensures out { self.new.out ≡ self.old.out }
+        ensures spans { self.new.spans.items ≡ self.old.spans.items }
+        ensures rooted { IsTrue result → IsRooted self.new }
+        ensures frames { IsTrue result → outers self.old ≡ frames self.new }
+        ensures none { result ≡ false → outers self.old ≡ [] }
+    {
+        if !self.is_open {
+            return false;
+        }
+        match self.below.pop() {
+            Some(outer) => self.top = outer,
+            None => {
+                self.top = Frame::outermost();
+                self.is_open = false;
+            }
+        }
+        true
+    }
+}
