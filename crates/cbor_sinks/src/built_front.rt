@@ -24,9 +24,6 @@ pub struct BuiltFront {
 /// slice begins with (RFC 8949, sections 3, 4.2 and 5.3.1), within the limits; else its refusal.
 ///
 /// It goes over the bytes once, without recursion; where two keys of a map are the same, once more.
-// It is a call of its own, so that what looks for canonical bytes before it has no room on the stack
-// for it.
-#[inline(never)]
 pub fn build_front(
     alloc: Global,
     bytes: &[u8],
@@ -63,8 +60,9 @@ pub(crate) fn held_front(
     }
 }
 
-// The item's canonical bytes, or why there are none.
-#[inline(always)]
+// The item's canonical bytes, or why there are none. It is a call of its own, so that the walk is part
+// of it alone, and what looks for canonical bytes before it has no room on the stack for it.
+#[inline(never)]
 fn front_or_stop(
     alloc: Global,
     bytes: &[u8],
