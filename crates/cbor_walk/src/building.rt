@@ -63,7 +63,7 @@ impl<S> Building<S> {
     {
         let mut rest = start;
         'parts: loop {
-            match self.take_part::<KINDS>(rest, cells, depth) {
+            match self.take_part::<KINDS, false>(rest, cells, depth) {
                 Part::Head(behind) => rest = behind,
                 Part::Item(behind) => {
                     rest = behind;

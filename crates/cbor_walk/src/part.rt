@@ -92,9 +92,10 @@ impl<'a> Part<'a> {
 }
 
 impl<S> Building<S> {
-    /// Takes what stands in front, but for a key of another kind where kinds are asked for.
+    /// Takes what stands in front, but for a key of another kind where kinds are asked for. The loop
+    /// that goes over an item again has one of its own, so that each is part of its loop.
     #[inline(always)]
-    pub(crate) fn take_part<'a, const KINDS: bool>(
+    pub(crate) fn take_part<'a, const KINDS: bool, const AGAIN: bool>(
         &mut self,
         rest: &'a [u8],
         cells: &mut [Open],

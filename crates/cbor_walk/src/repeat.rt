@@ -148,7 +148,7 @@ impl<S> Building<S> {
             if let Some(size) = self.repeat_size::<KINDS>(alloc, rest, limits, repeat) {
                 return Some((rest, size));
             }
-            match self.take_part::<KINDS>(rest, &mut cells, depth) {
+            match self.take_part::<KINDS, true>(rest, &mut cells, depth) {
                 Part::Head(behind) => rest = behind,
                 Part::Item(behind) => {
                     rest = behind;
