@@ -20,6 +20,7 @@ use crate::repeat::Repeat;
 use cbor_head::{KeyOrder, Major};
 use std::alloc::{AllocError, Global};
 use std::marker::Model;
+use std::mem;
 
 /// Canonical bytes (RFC 8949, sections 4.2.1 and 4.2.3) from the parts of one item as they come,
 /// without a tree. A map's pairs are put in order as the map ends. After a call has been refused
@@ -74,6 +75,16 @@ impl CanonBuilder {
     {
         self.core.clear();
         self.is_sound = true;
+    }
+
+    /// What it has been given, as a builder of its own. It is as new then, and takes no memory.
+    #[inline(always)]
+    pub fn take(&mut self) -> CanonBuilder
+        ensures taken { result ≡ self.old }
+        ensures new { self.new ≡ built self.old.order (plain [] ∷ []) }
+    {
+        let fresh = CanonBuilder::new(*self.core.spans.allocator(), self.core.order);
+        mem::replace(self, fresh)
     }
 
     /// An integer or a simple value.

@@ -11,7 +11,7 @@ use crate::outbox::Outbox;
 use crate::text_sink::TextSink;
 use cbor_grammar::laws::verdict_is_one;
 use cbor_head::Limits;
-use cbor_walk::give_front;
+use cbor_walk::Building;
 use std::alloc::{AllocError, Global};
 
 /// Room for a text, for one after another. A text of up to 512 bytes lies in it; for a longer one
@@ -48,8 +48,9 @@ impl TextBuffer {
         self.shown.clear();
         self.out.clear();
         let sink = TextSink::new(self.alloc, &mut self.shown, &mut self.out);
-        match give_front(sink, bytes, limits) {
-            Ok((sink, _)) => sink.finish(),
+        let mut building = Building::new(sink);
+        match building.give_front(bytes, limits) {
+            Ok(_) => building.into_sink().finish(),
             // The item is valid, so memory was refused.
             Err(_) => Err(AllocError),
         }

@@ -178,7 +178,7 @@ impl<'a, 'o> Sink<'a> for TextSink<'o> {
     }
 
     // It keeps none.
-    fn first_repeat(self) -> Option<Repeat> {
+    fn first_repeat(&mut self) -> Option<Repeat> {
         None
     }
 }

@@ -8,11 +8,10 @@ ghost use Rattle.cbor_judging.specs.Readers.{IsRead, IsUnread};
 ghost use Rattle.cbor_sinks.specs.KeyBytes.{keys_stand};
 
 use cbor_head::{KeyOrder, Limits, Reason, Refusal};
-use cbor_sinks::KeyBytes;
+use cbor_sinks::{KeyBytes, refusal_by_keys};
 use cbor_strict::check_canonical;
-use cbor_walk::{give_front, refusal_of};
+use cbor_walk::Building;
 use std::alloc::Global;
-use std::mem;
 
 // Behind an item that is valid and not canonical, so many are not looked at as canonical bytes first.
 const PAUSE: u8 = 15;
@@ -22,7 +21,7 @@ const PAUSE: u8 = 15;
 #[derive(Drop)]
 pub struct ItemCheck {
     alloc: Global,
-    keys: KeyBytes,
+    building: Building<KeyBytes>,
     // So many items are not looked at as canonical bytes first.
     pause: u8,
 }
@@ -32,7 +31,7 @@ impl ItemCheck {
     pub fn new(alloc: Global) -> ItemCheck {
         ItemCheck {
             alloc,
-            keys: KeyBytes::new(alloc),
+            building: Building::new(KeyBytes::new(alloc)),
             pause: 0,
         }
     }
@@ -55,11 +54,8 @@ impl ItemCheck {
                 Err(_) => self.pause = PAUSE,
             }
         }
-        self.keys.clear();
-        let keys = mem::replace(&mut self.keys, KeyBytes::new(self.alloc));
-        let (keys, size) = size_by_keys(self.alloc, keys, bytes, limits)?;
-        self.keys = keys;
-        Ok(size)
+        self.building.sink.clear();
+        size_by_keys(self.alloc, &mut self.building, bytes, limits)
     }
 }
 
@@ -70,18 +66,18 @@ impl ItemCheck {
 #[inline(never)]
 pub(crate) fn size_by_keys(
     alloc: Global,
-    keys: KeyBytes,
+    building: &mut Building<KeyBytes>,
     bytes: &[u8],
     limits: Limits,
-) -> Result<(KeyBytes, u64), Refusal>
-    requires none { keys_stand keys keys (item_due []) }
-    ensures accepted { IfOk result (λ answer. IsRead limits plain bytes.now answer.1) }
+) -> Result<u64, Refusal>
+    requires none { keys_stand building.old.sink building.old.sink (item_due []) }
+    ensures accepted { IfOk result (λ count. IsRead limits plain bytes.now count) }
     ensures refused { IfErr result (λ f. IsUnread limits plain bytes.now f) }
     ensures no_read { IfErr result (λ f. f.reason ≢ reasons.Read) }
 {
-    match give_front(keys, bytes, limits) {
-        Ok((keys, size)) => Ok((keys, size)),
-        Err(stop) => Err(refusal_of(alloc, KeyBytes::new(alloc), bytes, limits, stop)),
+    match building.give_front(bytes, limits) {
+        Ok(size) => Ok(size),
+        Err(stop) => Err(refusal_by_keys(alloc, bytes, limits, stop)),
     }
 }
 

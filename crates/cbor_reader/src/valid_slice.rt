@@ -8,6 +8,7 @@ ghost use Rattle.cbor_judging.specs.Readers.{IsRead, IsUnread};
 use crate::item_check::{canonical_size, size_by_keys};
 use cbor_head::{Limits, Refusal};
 use cbor_sinks::KeyBytes;
+use cbor_walk::Building;
 use std::alloc::Global;
 
 /// How many bytes the well-formed, valid item has that the slice begins with (RFC 8949, sections
@@ -25,6 +26,6 @@ pub fn check_valid(alloc: Global, bytes: &[u8], limits: Limits) -> Result<u64, R
     if let Ok(size) = canonical_size(bytes, limits) {
         return Ok(size);
     }
-    let (_, size) = size_by_keys(alloc, KeyBytes::new(alloc), bytes, limits)?;
-    Ok(size)
+    let mut building = Building::new(KeyBytes::new(alloc));
+    size_by_keys(alloc, &mut building, bytes, limits)
 }

@@ -16,9 +16,9 @@ ghost use Rattle.cbor_view.specs.Seen.{seen};
 use crate::view_sink::ViewSink;
 use bumpalo::Bump;
 use cbor_head::{Limits, Reason, Refusal};
-use cbor_sinks::KeyBytes;
+use cbor_sinks::refusal_by_keys;
 use cbor_view::View;
-use cbor_walk::{give_front, refusal_of};
+use cbor_walk::Building;
 use std::alloc::Global;
 
 /// The view of the well-formed, valid item that the slice begins with, and how many bytes it has
@@ -49,9 +49,10 @@ pub fn read_view<'a>(
     // What any limits keep to.
     let _depth = limits.depth();
     let _bytes = limits.bytes();
-    match give_front(ViewSink::new(alloc, arena), bytes, limits) {
-        Ok((sink, size)) => Ok((sink.finish(), size)),
-        Err(stop) => Err(refusal_of(alloc, KeyBytes::new(alloc), bytes, limits, stop)),
+    let mut building = Building::new(ViewSink::new(alloc, arena));
+    match building.give_front(bytes, limits) {
+        Ok(size) => Ok((building.into_sink().finish(), size)),
+        Err(stop) => Err(refusal_by_keys(alloc, bytes, limits, stop)),
     }
 }
 

@@ -129,13 +129,8 @@ impl<'a> Sink<'a> for ViewSink<'a> {
         Ok(is_distinct)
     }
 
-    fn first_repeat(self) -> Option<Repeat> {
-        let ViewSink {
-            keys,
-            views: _,
-            joined: _,
-        } = self;
-        keys.first_repeat()
+    fn first_repeat(&mut self) -> Option<Repeat> {
+        self.keys.first_repeat()
     }
 }
 

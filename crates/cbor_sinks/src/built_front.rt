@@ -10,7 +10,7 @@ ghost use Rattle.cbor_walk.specs.Front.{IsStop};
 use crate::canonical_sink::CanonicalSink;
 use cbor_builder::CanonBuilder;
 use cbor_head::{KeyOrder, Limits, Refusal};
-use cbor_walk::{Stop, give_front, refusal_of};
+use cbor_walk::{Building, Stop, refusal_of};
 use std::alloc::Global;
 
 /// The canonical bytes of the item that a slice begins with, and how many bytes the item has.
@@ -73,9 +73,10 @@ fn front_or_stop(
         (λ f. IsBuiltFront limits order bytes.now f.canonical.items f.size)
         (IsStop limits bytes.now) }
 {
-    match give_front(CanonicalSink::new(alloc, order), bytes, limits) {
-        Ok((CanonicalSink { builder }, size)) => Ok(BuiltFront {
-            canonical: builder.finish(),
+    let mut building = Building::new(CanonicalSink::new(alloc, order));
+    match building.give_front(bytes, limits) {
+        Ok(size) => Ok(BuiltFront {
+            canonical: building.into_sink().builder.finish(),
             size,
         }),
         Err(stop) => Err(stop),

@@ -86,9 +86,8 @@ impl<'a> Sink<'a> for CanonicalSink {
         self.builder.end_if_distinct()
     }
 
-    fn first_repeat(self) -> Option<Repeat> {
-        let CanonicalSink { builder } = self;
-        builder.first_repeat()
+    fn first_repeat(&mut self) -> Option<Repeat> {
+        self.builder.take().first_repeat()
     }
 }
 

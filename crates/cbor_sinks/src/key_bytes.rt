@@ -1,17 +1,22 @@
 //! The canonical bytes of the keys of an item whose parts come, and of nothing else.
 
-ghost use Rattle.std.specs.Prelude.{◌≡◌, ◌<◌, [], false, IfOk, IsTrue, OnOk};
+ghost use Rattle.std.specs.Prelude.{◌≡◌, ◌≢◌, ◌<◌, [], false, IfOk, IsTrue, OnOk};
 ghost use Rattle.cbor_builder.specs.Built.{built, TakesPart};
+ghost use Rattle.cbor_head.specs.Complaint.{plain};
+ghost use Rattle.cbor_head.specs.declared.reason.Reason.TheVariants as reasons;
 ghost use Rattle.cbor_judging.specs.Levels.{item_due};
+ghost use Rattle.cbor_judging.specs.Readers.{IsUnread};
+ghost use Rattle.cbor_judging.specs.Refusals.{IsReaderReason};
 ghost use Rattle.cbor_sinks.specs.KeyBytes.{is_kept, behind_item, keys_stand, keys_hold};
 ghost use Rattle.cbor_sinks.specs.declared.key_bytes.KeyBytes.{KeyBytes};
+ghost use Rattle.cbor_walk.specs.Front.{IsStop};
 ghost use Rattle.cbor_walk.specs.Sink.{IsContainerFull, Ends};
 
 use crate::built_front::held_front;
 use crate::canonical_sink::string_type;
 use cbor_builder::{CanonBuilder, Repeat};
-use cbor_head::{KeyOrder, Limits, Major};
-use cbor_walk::{KeySink, Sink};
+use cbor_head::{KeyOrder, Limits, Major, Refusal};
+use cbor_walk::{KeySink, Sink, Stop, refusal_of};
 use std::alloc::{AllocError, Global};
 
 /// What finds equal keys in an item: the canonical bytes of the keys of the open maps. What is no
@@ -167,9 +172,8 @@ impl<'a> Sink<'a> for KeyBytes {
         self.end_in_key(is_map)
     }
 
-    fn first_repeat(self) -> Option<Repeat> {
-        let KeyBytes { builder, inside: _ } = self;
-        builder.first_repeat()
+    fn first_repeat(&mut self) -> Option<Repeat> {
+        self.builder.take().first_repeat()
     }
 }
 
@@ -182,4 +186,17 @@ impl<'a> KeySink<'a> for KeyBytes {
     fn repeated_front(&self, alloc: Global, rest: &[u8], limits: Limits) -> Option<u64> {
         held_front(alloc, &self.builder, rest, limits)
     }
+}
+
+/// The refusal of a slice where a walk that gave its parts to [`KeyBytes`], or to what holds one,
+/// stopped so: as [`refusal_of`] tells it.
+#[cold]
+#[inline(never)]
+pub fn refusal_by_keys(alloc: Global, bytes: &[u8], limits: Limits, stop: Stop) -> Refusal
+    requires { IsStop limits bytes.now stop }
+    ensures refused { IsUnread limits plain bytes.now result }
+    ensures reason { IsReaderReason limits plain result.reason }
+    ensures no_read { result.reason ≢ reasons.Read }
+{
+    refusal_of(alloc, KeyBytes::new(alloc), bytes, limits, stop)
 }

@@ -7,4 +7,4 @@ mod canonical_sink;
 mod key_bytes;
 
 pub use built_front::{BuiltFront, build_front};
-pub use key_bytes::KeyBytes;
+pub use key_bytes::{KeyBytes, refusal_by_keys};

@@ -6,6 +6,7 @@ ghost use Rattle.cbor_walk.specs.inner.Building.{Leads, LeadsFull, Walks, WalksK
 ghost use Rattle.cbor_walk.specs.inner.Open.{pairs};
 ghost use Rattle.cbor_walk.specs.inner.Stack.{around, standing};
 
+use crate::level::Due;
 use crate::open::Open;
 use crate::part::Part;
 use crate::sink::Sink;
@@ -13,9 +14,10 @@ use crate::stack::Stack;
 
 /// What came of an item so far: the open containers, and what took what is complete in them.
 #[derive(Drop)]
-pub(crate) struct Building<S> {
+pub struct Building<S> {
     pub(crate) stack: Stack<Open>,
-    pub(crate) sink: S,
+    /// It stays where it is from one item to the next: to hand it on costs as much as a small item.
+    pub sink: S,
 }
 
 /// What is due behind an item.
@@ -43,6 +45,24 @@ pub(crate) enum Met<'a> {
 }
 
 impl<S> Building<S> {
+    /// Of no item yet.
+    #[inline(always)]
+    pub fn new(sink: S) -> Building<S>
+        ensures { result.sink ≡ sink }
+    {
+        let stack = Stack::new(Open::counted(Due::Item, 0));
+        Building { stack, sink }
+    }
+
+    /// What took the parts.
+    #[inline(always)]
+    pub fn into_sink(self) -> S
+        ensures { result ≡ self.sink }
+    {
+        let Building { stack: _, sink } = self;
+        sink
+    }
+
     /// Goes over the item, from where another is due to its end. Where kinds of keys are asked for,
     /// it stops at a key of another kind.
     pub(crate) fn walk<'a, const KINDS: bool>(

@@ -35,36 +35,28 @@ pub enum Stop {
     Memory,
 }
 
-/// Gives a sink the parts of the well-formed, valid item that the slice begins with (RFC 8949,
-/// sections 3 and 5.3.1), within the limits, and answers it with how many bytes the item has; else
-/// why there is none. A sink that looks for no equal keys is given only an item that is known to be
-/// valid, and of why it takes no more nothing is said.
-///
-/// It goes over the bytes once, without recursion.
-pub fn give_front<'a, S: Sink<'a> + Drop>(
-    sink: S,
-    bytes: &'a [u8],
-    limits: Limits,
-) -> Result<(S, u64), Stop>
-    requires fresh { S.stands sink sink (item_due []) }
-    requires known { S.trusts ≡ true → IsKnownValid limits bytes.now }
-    ensures { MatchResult result
-        (λ given. IsGivenFront (S.stands sink given.0) limits bytes.now given.1)
-        (λ stop. S.trusts ≡ false → IsStop limits bytes.now stop) }
-{
-    let input = within(bytes, limits.bytes());
-    let stack = Stack::new(Open::counted(Due::Item, 0));
-    let mut building = Building { stack, sink };
-    match past_front(&mut building, input, limits) {
-        Past::Whole(behind) => {
-            let size = (input.len() - behind.len()) as u64;
-            let Building { stack: _, sink } = building;
-            Ok((sink, size))
-        }
-        Past::Refused(rest) => Err(refused(building, input, rest, limits)),
-        Past::Stopped => {
-            let Building { stack: _, sink } = building;
-            Err(stopped(sink))
+impl<S> Building<S> {
+    /// Gives the sink the parts of the well-formed, valid item that the slice begins with (RFC 8949,
+    /// sections 3 and 5.3.1), within the limits, and answers how many bytes the item has; else why
+    /// there is none. A sink that looks for no equal keys is given only an item that is known to be
+    /// valid, and of why it takes no more nothing is said.
+    ///
+    /// It goes over the bytes once, without recursion.
+    pub fn give_front<'a>(&mut self, bytes: &'a [u8], limits: Limits) -> Result<u64, Stop>
+    where
+        S: Sink<'a>,
+        requires fresh { S.stands self.old.sink self.old.sink (item_due []) }
+        requires known { S.trusts ≡ true → IsKnownValid limits bytes.now }
+        ensures { MatchResult result
+            (λ size. IsGivenFront (S.stands self.old.sink self.new.sink) limits bytes.now size)
+            (λ stop. S.trusts ≡ false → IsStop limits bytes.now stop) }
+    {
+        let input = within(bytes, limits.bytes());
+        self.stack = Stack::new(Open::counted(Due::Item, 0));
+        match past_front(self, input, limits) {
+            Past::Whole(behind) => Ok((input.len() - behind.len()) as u64),
+            Past::Refused(rest) => Err(refused(self, input, rest, limits)),
+            Past::Stopped => Err(stopped(&mut self.sink)),
         }
     }
 }
@@ -72,7 +64,7 @@ pub fn give_front<'a, S: Sink<'a> + Drop>(
 // Why a sink takes no more.
 #[cold]
 #[inline(never)]
-fn stopped<'a, S: Sink<'a> + Drop>(sink: S) -> Stop
+fn stopped<'a, S: Sink<'a>>(sink: &mut S) -> Stop
     ensures { (limits : Bounds) (bytes : List ℕ) → IsStop limits bytes result }
 {
     match sink.first_repeat() {
@@ -85,22 +77,22 @@ fn stopped<'a, S: Sink<'a> + Drop>(sink: S) -> Stop
 // open map has two keys that are the same: such a key is refused first.
 #[cold]
 #[inline(never)]
-fn refused<'a, S: Sink<'a> + Drop>(
-    building: Building<S>,
+fn refused<'a, S: Sink<'a>>(
+    building: &mut Building<S>,
     input: &[u8],
     rest: &[u8],
     limits: Limits,
 ) -> Stop
     requires come { (start : S) × HasComeOver S S.stands S.trusts S.holds start limits.depth input.now
-        building.stack building.sink rest.now }
+        building.old.stack building.old.sink rest.now }
     requires kept { Keeps limits input.now rest.now }
     ensures { S.trusts ≡ false → (bytes : List ℕ) → input.now ≡ take limits.bytes bytes
         → IsStop limits bytes result }
 {
-    let Building { stack, sink } = building;
-    if let Some(repeat) = sink.first_repeat() {
+    if let Some(repeat) = building.sink.first_repeat() {
         return Stop::Repeated(repeat);
     }
+    let stack = building.stack;
     let at = input.len() - rest.len();
     let room = stack.height < usize::from(limits.depth());
     let is_key = is_asked(limits.keys(), stack.top.due);

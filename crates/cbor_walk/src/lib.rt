@@ -2,8 +2,8 @@
 //!
 //! [`canonical_front`] goes over the canonical bytes at the front of a slice once; at the first
 //! byte, head, text or key that is none of a canonical item it stops with the refusal.
-//! [`give_front`] goes over any valid item, whose parts it gives to a [`Sink`], and stops at what is
-//! none, with the refusal but for equal keys. Both hold what is due in each open container
+//! [`Building::give_front`] goes over any valid item, whose parts it gives to a [`Sink`], and stops at
+//! what is none, with the refusal but for equal keys. Both hold what is due in each open container
 //! in cells that are made as they are wanted, so that depth that is not used costs nothing. Of equal
 //! keys [`refusal_of`] tells the refusal, in one further walk.
 #![tactic(auto)]
@@ -29,7 +29,8 @@ mod take;
 mod walk;
 mod within;
 
+pub use building::Building;
 pub use canonical::canonical_front;
-pub use front::{Stop, give_front};
+pub use front::Stop;
 pub use repeat::{KeySink, refusal_of};
 pub use sink::Sink;

@@ -90,8 +90,7 @@ fn verdict<'a, S: KeySink<'a> + Drop>(
     let stack = Stack::new(Open::counted(Due::Item, 0));
     let mut building = Building { stack, sink };
     let (rest, size) = building.come_to(alloc, input, limits, repeat)?;
-    let Building { stack: _, sink } = building;
-    if sink.first_repeat().is_some() {
+    if building.sink.first_repeat().is_some() {
         return None;
     }
     let at = (input.len() - rest.len()) as u64;

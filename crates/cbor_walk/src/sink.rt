@@ -90,6 +90,6 @@ pub trait Sink<'a> {
     /// From the outermost open map in, the first key that is equal to an earlier one of its map. None
     /// where no two that are complete are equal, whether an item or a chunk is due. What was taken is
     /// given up.
-    fn first_repeat(self) -> Option<Repeat>
-        ensures { IsNone result → trusts ≡ false → FindsNoRepeat Self stands holds self };
+    fn first_repeat(&mut self) -> Option<Repeat>
+        ensures { IsNone result → trusts ≡ false → FindsNoRepeat Self stands holds self.old };
 }

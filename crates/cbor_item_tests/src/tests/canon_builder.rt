@@ -158,6 +158,17 @@ fn takes_the_front_of_what_is_given(rt: HostRuntime) -> Result<(), AllocError> {
     Ok(())
 }
 
+#[test]
+fn what_was_given_is_taken_away(rt: HostRuntime) -> Result<(), AllocError> {
+    let mut builder = CanonBuilder::new(rt.alloc(), KeyOrder::Bytewise);
+    give_fronts(&mut builder)?;
+    let taken = builder.take();
+    builder.leaf(Major::Unsigned, 7)?;
+    assert!(rt; taken.finish().as_slice() == b"\x82\x62ab\x41x".as_slice());
+    assert!(rt; builder.finish().as_slice() == b"\x07".as_slice());
+    Ok(())
+}
+
 // Two pairs in falling order, with one value.
 fn give_falling(builder: &mut CanonBuilder, content: &[u8]) -> Result<bool, AllocError>
     requires empty { builder.old.standing ≡ plain [] ∷ [] }

@@ -3,6 +3,7 @@ use Rattle.cbor_head.specs.Canonical.{canonical}
 use Rattle.cbor_head.specs.Spelling.{value_of}
 use Rattle.cbor_head.specs.declared.order.KeyOrder.{KeyOrder}
 use Rattle.cbor_canonical.specs.Parts.{plain}
+use Rattle.cbor_sinks.specs.declared.canonical_sink.CanonicalSink.{CanonicalSink}
 use Rattle.cbor_sinks.proofs.built_front.front_or_stop.Goals as goal
 
 pub returns-in-Ok : goal.returns-in-Ok
@@ -11,5 +12,5 @@ returns-in-Ok c =
     let v = value_of h.read.item in
     record {
       read = h.read;
-      canonical_is = c.finish.ensures.bytes (canonical c.args.order v) (h.whole.1 ∙ ap (λ (o : KeyOrder). plain (canonical o v) ∷ []) c.new.ensures.order);
+      canonical_is = c.finish.ensures.bytes (canonical c.args.order v) (ap (λ (s : CanonicalSink). s.builder.standing) c.into_sink.ensures ∙ h.whole.1 ∙ ap (λ (o : KeyOrder). plain (canonical o v) ∷ []) (ap (λ (s : CanonicalSink). s.builder.order) c.new-building.ensures ∙ c.new.ensures.order));
     }

@@ -3,15 +3,15 @@ use Rattle.cbor_head.specs.Spelling.{spell}
 use Rattle.cbor_walk.specs.inner.Building.{IsBuilt}
 use Rattle.cbor_walk.specs.inner.Kept.{Keeps}
 use Rattle.cbor_walk.proofs.GivenParts.{known-begins, front-given}
-use Rattle.cbor_walk.proofs.front.give_front.Goals as goal
+use Rattle.cbor_walk.proofs.building.Building.give_front.Goals as goal
 
 pub past_front-requires : goal.past_front-requires
 past_front-requires g c = λ n. (
   (refl, tt),
   (
-    c.new-stack.ensures.height,
+    c.new-self.ensures.height,
     (
-      c.new-stack.ensures.top ∙ c.counted.ensures,
+      c.new-self.ensures.top ∙ c.counted.ensures,
       (
         c.requires.fresh,
         λ t. known-begins c.args.limits c.args.bytes.now c.within-input.result.now c.args.limits.depth refl (c.within-input.ensures ∙ ap (λ n. take n c.args.bytes.now) c.bytes.ensures.bytes) (c.requires.known t),
@@ -29,9 +29,9 @@ returns-in-Whole g c =
     let behind = c.in-Whole.behind.now in
     let sink = c.past_front.new.building.sink in
     let input : c.within-input.result.now ≡ take limits.bytes c.args.bytes.now = c.within-input.ensures ∙ ap (λ n. take n c.args.bytes.now) c.bytes.ensures.bytes in
-    let h = subst (λ (x : List ℕ). IsBuilt S stands trusts c.args.sink limits.depth x sink behind) input c.in-Whole.ensures.passes in
+    let h = subst (λ (x : List ℕ). IsBuilt S stands trusts c.args.self.now.sink limits.depth x sink behind) input c.in-Whole.ensures.passes in
     let keeps = subst (λ (x : List ℕ). Keeps limits x behind) input c.in-Whole.ensures.keeps (spell h.item) h.bytes in
-    front-given S stands trusts c.args.sink sink limits c.args.bytes.now behind _ h keeps (ap (λ (x : List ℕ). length x - length behind) input)
+    front-given S stands trusts c.args.self.now.sink sink limits c.args.bytes.now behind _ h keeps (ap (λ (x : List ℕ). length x - length behind) input)
 
 pub returns-in-Stopped : goal.returns-in-Stopped
 returns-in-Stopped g c = λ doubts. c.stopped.ensures c.args.limits c.args.bytes.now
