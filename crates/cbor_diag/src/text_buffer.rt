@@ -50,7 +50,7 @@ impl TextBuffer {
         let sink = TextSink::new(self.alloc, &mut self.shown, &mut self.out);
         let mut building = Building::new(sink);
         match building.give_front(bytes, limits) {
-            Ok(_) => building.into_sink().finish(),
+            Ok(_) => building.sink.finish(),
             // The item is valid, so memory was refused.
             Err(_) => Err(AllocError),
         }

@@ -6,7 +6,7 @@ use Rattle.cbor_head.specs.Complaint.{Rules, form, Complaint, Complains, IsCompl
 use Rattle.cbor_head.specs.Limits.{Bounds}
 use Rattle.cbor_head.specs.Verdict.{initial_reason, refusal, refused, IsReasonAt, IsFormError, IsVerdict}
 use Rattle.cbor_head.specs.declared.reason.Reason.{Reason}
-use Rattle.cbor_head.specs.declared.reason.Reason.TheVariants.{InvalidText, RepeatedKey, NotShortest, Indefinite as IndefiniteReason, KeyOrder, Read, StrayBreak, Float, NoIndefinite, Reserved, TooDeep, KeyKind}
+use Rattle.cbor_head.specs.declared.reason.Reason.TheVariants.{InvalidText, RepeatedKey, NotShortest, Indefinite as IndefiniteReason, KeyOrder, Read, Memory, StrayBreak, Float, NoIndefinite, Reserved, TooDeep, KeyKind}
 use Rattle.cbor_head.specs.declared.reason.Refusal.{Refusal}
 use Rattle.cbor_grammar.proofs.KeyKinds.{kind_is}
 use Rattle.cbor_grammar.proofs.Reasons.{reason_of}
@@ -68,13 +68,21 @@ none-by-form _ h = h
 pub form-reason : (limits : Bounds) (input : List ℕ) (f : Refusal) → IsVerdict limits form input (refused f) → IsFormReason f.reason
 form-reason limits input f v = elim (verdict-reason limits form input f v) [ inl h ↦ h | inr (inl h) ↦ absurd (none-by-form f.reason h) | inr (inr h) ↦ absurd (cc h.1) ]
 
--- no verdict names a reader that failed
-pub never-read : (limits : Bounds) (r : Rules) (input : List ℕ) (f : Refusal) → IsVerdict limits r input (refused f) → f.reason ≢ Read
-never-read limits r input f v e = elim (verdict-reason limits r input f v) [
-  | inl h ↦ subst IsFormReason e h
-  | inr (inl h) ↦ subst (IsComplaintReason r) e h
-  | inr (inr h) ↦ let two : Read ≡ KeyKind = sym e ∙ h.0 in cc two
+-- no verdict gives a reason that is none of these
+never-given : (limits : Bounds) (r : Rules) (input : List ℕ) (f : Refusal) (x : Reason) → ¬ IsFormReason x → ¬ IsComplaintReason r x → x ≢ KeyKind → IsVerdict limits r input (refused f) → f.reason ≢ x
+never-given limits r input f x form complaint kind v e = elim (verdict-reason limits r input f v) [
+  | inl h ↦ form (subst IsFormReason e h)
+  | inr (inl h) ↦ complaint (subst (IsComplaintReason r) e h)
+  | inr (inr h) ↦ kind (sym e ∙ h.0)
 ]
+
+-- that a reader failed
+pub never-read : (limits : Bounds) (r : Rules) (input : List ℕ) (f : Refusal) → IsVerdict limits r input (refused f) → f.reason ≢ Read
+never-read limits r input f = never-given limits r input f Read (λ h. h) (λ h. h) (λ e. cc e)
+
+-- that memory was refused
+pub never-memory : (limits : Bounds) (r : Rules) (input : List ℕ) (f : Refusal) → IsVerdict limits r input (refused f) → f.reason ≢ Memory
+never-memory limits r input f = never-given limits r input f Memory (λ h. h) (λ h. h) (λ e. cc e)
 
 -- ---- the readers
 

@@ -4,6 +4,7 @@ ghost use Rattle.std.specs.Prelude.{◌≡◌, ◌≢◌, ◌≤◌, ◌^◌, If
 ghost use Rattle.cbor_head.specs.Complaint.{plain};
 ghost use Rattle.cbor_head.specs.Spelling.{Spelling, value_of};
 ghost use Rattle.cbor_head.specs.Value.{depth, IsInRange, IsValid};
+ghost use Rattle.cbor_head.specs.Verdict.{refusal};
 ghost use Rattle.cbor_head.specs.declared.limits.TheConstants.{MAX_DEPTH};
 ghost use Rattle.cbor_head.specs.declared.reason.Reason.TheVariants as reasons;
 ghost use Rattle.cbor_judging.specs.Readers.{IsReadAs, IsUnread};
@@ -45,13 +46,15 @@ pub fn read_view<'a>(
     ensures refused { IfErr result (λ f. IsUnread limits plain bytes.now f) }
     ensures reason { IfErr result (λ f. IsReaderReason limits plain f.reason) }
     ensures no_read { IfErr result (λ f. f.reason ≢ reasons.Read) }
+    ensures memory { IfErr result
+        (λ f. f.reason ≡ reasons.Memory → f ≡ refusal reasons.Memory 0 0) }
 {
     // What any limits keep to.
     let _depth = limits.depth();
     let _bytes = limits.bytes();
     let mut building = Building::new(ViewSink::new(alloc, arena));
     match building.give_front(bytes, limits) {
-        Ok(size) => Ok((building.into_sink().finish(), size)),
+        Ok(size) => Ok((building.sink.finish(), size)),
         Err(stop) => Err(refusal_by_keys(alloc, bytes, limits, stop)),
     }
 }
@@ -72,6 +75,8 @@ pub fn whole_view<'a>(
     ensures in_range { IfOk result (λ view. IsInRange (seen view)) }
     ensures valid { IfOk result (λ view. IsValid (seen view)) }
     ensures refused { IfErr result (IsItemRefusal limits bytes.now) }
+    ensures memory { IfErr result
+        (λ f. f.reason ≡ reasons.Memory → f ≡ refusal reasons.Memory 0 0) }
 {
     match read_view(alloc, bytes, limits, arena) {
         Ok((view, size)) => {

@@ -54,15 +54,6 @@ impl<S> Building<S> {
         Building { stack, sink }
     }
 
-    /// What took the parts.
-    #[inline(always)]
-    pub fn into_sink(self) -> S
-        ensures { result ≡ self.sink }
-    {
-        let Building { stack: _, sink } = self;
-        sink
-    }
-
     /// Goes over the item, from where another is due to its end. Where kinds of keys are asked for,
     /// it stops at a key of another kind.
     pub(crate) fn walk<'a, const KINDS: bool>(

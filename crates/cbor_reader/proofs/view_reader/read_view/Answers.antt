@@ -6,7 +6,7 @@ use Rattle.cbor_reader.proofs.view_reader.read_view.Goals as goal
 pub returns-in-Ok-clause-accepted : goal.returns-in-Ok-clause-accepted
 returns-in-Ok-clause-accepted c =
     let h = c.in-Ok.ensures in
-    record { read = h.read; value = c.finish.ensures c.new.result h.read.item h.whole }
+    record { read = h.read; value = c.finish.ensures c.new-building.result.sink h.read.item h.whole }
 
 pub returns-in-Ok-clause-bounded : goal.returns-in-Ok-clause-bounded
 returns-in-Ok-clause-bounded c =

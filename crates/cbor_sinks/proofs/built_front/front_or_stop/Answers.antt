@@ -12,5 +12,5 @@ returns-in-Ok c =
     let v = value_of h.read.item in
     record {
       read = h.read;
-      canonical_is = c.finish.ensures.bytes (canonical c.args.order v) (ap (λ (s : CanonicalSink). s.builder.standing) c.into_sink.ensures ∙ h.whole.1 ∙ ap (λ (o : KeyOrder). plain (canonical o v) ∷ []) (ap (λ (s : CanonicalSink). s.builder.order) c.new-building.ensures ∙ c.new.ensures.order));
+      canonical_is = c.finish.ensures.bytes (canonical c.args.order v) (h.whole.1 ∙ ap (λ (o : KeyOrder). plain (canonical o v) ∷ []) (ap (λ (s : CanonicalSink). s.builder.order) c.new-building.ensures ∙ c.new.ensures.order));
     }
