@@ -19,6 +19,7 @@ abbrev mutual
   open_maps_in n no_spellings = 0
   open_maps_in n (a_spelling s ss) = if nat_lt n (length (spell s)) then open_maps n s else open_maps_in (n - length (spell s)) ss
 
+  -- in the key or the value that is not complete
   pub open_maps_in_entries : ℕ → SpelledEntries → ℕ
   open_maps_in_entries n no_entries = 0
   open_maps_in_entries n (entry k v es) =
