@@ -42,7 +42,7 @@ abbrev mutual
   key_bytes_in n (a_spelling s ss) = if nat_lt n (length (spell s)) then key_bytes n s else key_bytes_in (n - length (spell s)) ss
 
   -- behind a complete key of so many bytes: the whole of a key that is not complete, with all that is open in it; or a complete
-  -- key, and what is open in its content
+  -- key, and what is open in its value
   pub key_bytes_in_entries : ℕ → ℕ → SpelledEntries → ℕ
   key_bytes_in_entries n last no_entries = last
   key_bytes_in_entries n last (entry k v es) =
