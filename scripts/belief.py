@@ -245,6 +245,31 @@ def faults_of_places(tree, public, private, proved):
                 yield f"{definition.at()} has a field inner whose type stands neither in inner/ nor in machinery"
 
 
+def faults_of_stands():
+    """Where docs/ARCHITECTURE.md has a crate stand on something else than crates.txt does, or has no row for it."""
+    lines = [it.partition("#")[0].partition(":") for it in (ROOT / "crates.txt").read_text().splitlines()]
+    listed = {front.split()[0]: behind.split() for front, colon, behind in lines if colon}
+    rows, shared = {}, set()
+    for row in (ROOT / "docs" / "ARCHITECTURE.md").read_text().partition("\n## Folders\n")[0].splitlines():
+        cells = [re.findall(r"`(\w+)`", it) for it in row.split("|")[1:-1]]
+        if len(cells) == 3 and len(cells[0]) == 1:
+            rows[cells[0][0]] = cells[2]
+        elif len(cells) == 3:
+            # a row of tests names no libraries
+            shared |= {it for it in cells[0] if it.endswith("_tests")}
+    for crate, libraries in listed.items():
+        has = rows.get(crate, libraries if crate in shared else None)
+        if has is None:
+            yield f"docs/ARCHITECTURE.md has no row for {crate}, which crates.txt lists"
+        elif has != libraries:
+            differ = [f"{it} in crates.txt alone" for it in libraries if it not in has]
+            differ += [f"{it} in docs/ARCHITECTURE.md alone" for it in has if it not in libraries]
+            differ = differ or ["docs/ARCHITECTURE.md has another order than crates.txt"]
+            yield f"what {crate} stands on: {', '.join(differ)}"
+    for crate in sorted(rows.keys() - listed.keys()):
+        yield f"docs/ARCHITECTURE.md has a row for {crate}, which crates.txt does not list"
+
+
 def faults_of_crates(tree):
     """Theory with code, and what docs/ARCHITECTURE.md calls machinery or theory and the lists here do not, or the reverse."""
     rows = (ROOT / "docs" / "ARCHITECTURE.md").read_text().splitlines()
@@ -280,6 +305,7 @@ def main():
         return 0
     in_proofs = {it for module, file in takings.files.items() if ".proofs." in module for it in imported(tree, file)}
     faults += [*faults_of_places(tree, public, private, tree.closure([], True, in_proofs)), *faults_of_crates(tree)]
+    faults += faults_of_stands()
     counts = reading.Counts(tree.definitions(), headline, public, {it: takings.of_crate(it) for it in tree.crates}, THEORY)
     if word == "--write":
         counts.write()

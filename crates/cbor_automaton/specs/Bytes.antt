@@ -1,4 +1,4 @@
--- The bytes that marks and events stand for.
+-- The bytes that marks and events stand for (RFC 8949, section 3).
 use Rattle.std.specs.Prelude.{◌≡◌, ℕ, List, [], ◌∷◌, length, Option, Some, None}
 use Rattle.cbor_head.specs.Head.{Holds, IsHead, head}
 use Rattle.cbor_head.specs.declared.major.Major.{Major}
@@ -19,6 +19,7 @@ abbrev pub type_behind : Option Major → Mark → Option Major
 type_behind type (a_head major w n) = Some major
 type_behind type m = type
 
+-- the same behind these marks
 abbrev pub last_type : Option Major → List Mark → Option Major
 last_type type [] = type
 last_type type (m ∷ ms) = last_type (type_behind type m) ms

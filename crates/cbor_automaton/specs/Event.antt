@@ -1,4 +1,4 @@
--- The events of an item, each at its place: one for each head and each break, and one piece for each payload that is not empty.
+-- The events of an item (RFC 8949, section 3), each at its place: one for each head and each break, and one piece for each payload that is not empty.
 use Rattle.std.specs.Prelude.{◌≡◌, ℕ, suc, ◌+◌, ◌-◌, ◌++◌, nat_le, nat_lt, if◌then◌else◌, List, [], ◌∷◌, length, flat_map, Option, Some, None}
 use Rattle.cbor_head.specs.Head.{head, shortest}
 use Rattle.cbor_head.specs.Spelling.{Chunk, Spelling, Spellings, SpelledEntries, unsigned, negative, bytes, text, byte_chunks, text_chunks, array, a_map, tag, simple, no_spellings, a_spelling, no_entries, entry, spellings_count, entries_count, chunk_bytes, spell, spell_all, spell_entries}
@@ -61,10 +61,12 @@ abbrev mutual
   events at (tag w n s) = event at w (Tag n) ∷ events (at + length (head majors.Tag w n)) s
   events at (simple n) = event at (shortest n) (Simple n) ∷ []
 
+  -- of the members of an array, the first at this place
   pub events_in : ℕ → Spellings → List Event
   events_in at no_spellings = []
   events_in at (a_spelling s ss) = events at s ++ events_in (at + length (spell s)) ss
 
+  -- of the pairs of a map, each key before its value
   pub events_in_entries : ℕ → SpelledEntries → List Event
   events_in_entries at no_entries = []
   events_in_entries at (entry k v es) = events at k ++ (events (at + length (spell k)) v ++ events_in_entries (at + length (spell k) + length (spell v)) es)
@@ -89,6 +91,7 @@ abbrev pub piece_onto : Event → ℕ → List Event → List Event
 piece_onto e n [] = e ∷ []
 piece_onto e n (f ∷ es) = joined_with e n f.kind f es
 
+-- an event of this kind before others: a piece and one that follows it are one
 abbrev pub kind_onto : EventKind → Event → List Event → List Event
 kind_onto (Piece n) e es = piece_onto e n es
 kind_onto _ e es = e ∷ es

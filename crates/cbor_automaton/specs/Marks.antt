@@ -1,4 +1,4 @@
--- The marks of an event, and which width it has.
+-- The marks of an event, and which width it has (RFC 8949, section 3).
 use Rattle.std.specs.Prelude.{◌≡◌, ℕ, ◌<◌, List, replicate, Option, Some, None}
 use Rattle.cbor_head.specs.declared.major.Major.TheVariants as majors
 use Rattle.cbor_head.specs.declared.width.Width.{Width}

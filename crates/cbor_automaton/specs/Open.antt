@@ -1,4 +1,4 @@
--- How many containers are open within an item.
+-- How many containers are open within an item (RFC 8949, section 3).
 use Rattle.std.specs.Prelude.{ℕ, suc, ◌+◌, ◌-◌, ◌&&◌, nat_lt, nat_le, if◌then◌else◌, length}
 use Rattle.cbor_head.specs.Head.{head}
 use Rattle.cbor_head.specs.Spelling.{Spelling, Spellings, SpelledEntries, array, a_map, tag, no_spellings, a_spelling, no_entries, entry, spellings_count, entries_count, spell}
@@ -22,6 +22,7 @@ abbrev mutual
   open_in t at no_spellings = 0
   open_in t at (a_spelling s ss) = if nat_lt (t - at) (length (spell s)) then open_after (t - at) s else open_in t (at + length (spell s)) ss
 
+  -- in the key or the value that is not complete, of those behind the first at bytes
   pub open_in_entries : ℕ → ℕ → SpelledEntries → ℕ
   open_in_entries t at no_entries = 0
   open_in_entries t at (entry k v es) =

@@ -1,4 +1,4 @@
--- What is told of an item: a mark for each head and each break, and one for each byte of a payload. Proofs use marks;
+-- What is told of an item (RFC 8949, section 3): a mark for each head and each break, and one for each byte of a payload. Proofs use marks;
 -- `Event` has the events that they stand for.
 use Rattle.std.specs.Prelude.{ℕ, suc, ◌+◌, ◌-◌, ◌++◌, List, [], ◌∷◌, length, flat_map, nat_le, if◌then◌else◌}
 use Rattle.cbor_head.specs.Head.{shortest}
@@ -8,6 +8,7 @@ use Rattle.cbor_head.specs.declared.major.Major.TheVariants.{Unsigned, Negative,
 use Rattle.cbor_head.specs.declared.width.Width.{Width}
 use Rattle.cbor_head.specs.declared.width.Width.TheVariants.{One, Two, Four, Eight, Indefinite}
 
+-- what a mark stands for
 pub data Mark : Type 0 where
   -- the head of an item; at Indefinite the number is 0
   a_head : Major → Width → ℕ → Mark
@@ -71,10 +72,12 @@ abbrev mutual
   trace (tag w n s) = a_head Tag w n ∷ trace s
   trace (simple n) = a_head Simple (shortest n) n ∷ []
 
+  -- of the members of an array
   pub trace_all : Spellings → List Mark
   trace_all no_spellings = []
   trace_all (a_spelling s ss) = trace s ++ trace_all ss
 
+  -- of the pairs of a map, each key before its value
   pub trace_entries : SpelledEntries → List Mark
   trace_entries no_entries = []
   trace_entries (entry k v es) = trace k ++ trace v ++ trace_entries es

@@ -12,6 +12,7 @@ pub record Built : Type 0 where
   pub order : KeyOrder
   pub standing : List Open
 
+-- a builder, by its order and what is open
 abbrev pub built : KeyOrder → List Open → Built
 built o os = record { order = o; standing = os }
 
@@ -117,6 +118,7 @@ IsRepeatAt ks i = (j : ℕ) × (j < i) × (i < length ks) × (slice_index_or ks 
 abbrev pub AreAllDifferent : List (List ℕ) → Type 0
 AreAllDifferent ks = (i : ℕ) → IsRepeatAt ks i → ⊥
 
+-- the key at i is the first that is equal to an earlier one
 abbrev pub IsFirstRepeat : List (List ℕ) → ℕ → Type 0
 IsFirstRepeat ks i = IsRepeatAt ks i × ((j : ℕ) → j < i → IsRepeatAt ks j → ⊥)
 

@@ -20,12 +20,12 @@ use crate::frame::{Frame, Shape};
 use crate::look_up::has_key;
 use crate::member::complete;
 use crate::opening::opening;
-use crate::ranking::part;
 use crate::repeat::Repeat;
 use crate::repeats::first_repeat;
 use cbor_buffer::draft::Draft;
 use cbor_buffer::span::Span;
 use cbor_head::{KeyOrder, Major};
+use cbor_keys::part;
 use std::alloc::{AllocError, Global};
 
 /// A builder. After a call has answered an error it may only be dropped, or cleared.

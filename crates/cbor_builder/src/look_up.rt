@@ -8,10 +8,11 @@ ghost use Rattle.cbor_buffer.specs.Spans.{span_pair};
 ghost use Rattle.cbor_canonical.specs.Pairs.{IsRising};
 
 use crate::member::is_above;
-use crate::ranking::{compare, front, part};
+use crate::ranking::{compare, front};
 use cbor_buffer::out::Out;
 use cbor_buffer::span::Span;
 use cbor_head::KeyOrder;
+use cbor_keys::part;
 
 // Whether one of the pairs has the key that stands from `key` to `val`. Where their keys rise, a
 // key above the last one costs one comparison. Else a pair costs a comparison of two numbers, where

@@ -8,18 +8,8 @@ ghost use Rattle.cbor_head.specs.Order.{key_cmp};
 use cbor_buffer::out::Out;
 use cbor_buffer::span::Span;
 use cbor_head::KeyOrder;
-use cbor_keys::{compare_keys, key_front};
+use cbor_keys::{compare_keys, key_front, part};
 use std::cmp::Ordering;
-
-/// What stands from `start` to `end`, as far as the bytes go.
-#[inline(always)]
-pub(crate) fn part(bytes: &[u8], start: usize, end: usize) -> &[u8]
-    ensures { result.now ≡ slice_range bytes.now start end }
-{
-    let end = end.min(bytes.len());
-    let start = start.min(end);
-    &bytes[start..end]
-}
 
 // The first eight bytes of a key as a number. They are read in one piece, beyond what is written
 // too.

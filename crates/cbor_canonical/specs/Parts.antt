@@ -1,4 +1,4 @@
--- What the parts given to a builder stand for: lists, with no buffer.
+-- What the parts given to a builder stand for: lists, with no buffer (RFC 8949, section 4.2.1).
 use Rattle.std.specs.Prelude.{ℕ, suc, ◌≡◌, ◌++◌, List, [], ◌∷◌, length, flat_map}
 use Rattle.cbor_head.specs.Value as value
 use Rattle.cbor_head.specs.Head.{shortest_head}
@@ -17,6 +17,7 @@ pub data Open : Type 0 where
   a_key : List Pair → List ℕ → Open
   a_string : Major → List ℕ → Open
 
+-- a pair, by the bytes of its key and of its value
 abbrev pub pair : List ℕ → List ℕ → Pair
 pair k b = record { key = k; value = b }
 
@@ -36,25 +37,29 @@ closed o (a_map ps) = shortest_head Map (length ps) ++ flat_map pair_bytes (in_o
 closed o (a_key ps k) = []
 closed o (a_string m bs) = shortest_head m (length bs) ++ bs
 
--- the innermost first
+-- what is open, the innermost first, with one more finished member in the innermost
 abbrev pub give : List ℕ → List Open → List Open
 give b [] = []
 give b (c ∷ os) = with_member b c ∷ os
 
+-- what a head opens: an array or a map without members, a tag without its content, a string without a byte; the number is a tag's
 abbrev pub opened : Major → ℕ → Open
 opened Array n = an_array 0 []
 opened Map n = a_map []
 opened Tag n = plain (shortest_head Tag n)
 opened m n = a_string m []
 
+-- with more bytes of a string
 abbrev pub with_content : List ℕ → Open → Open
 with_content b (a_string m bs) = a_string m (bs ++ b)
 with_content b c = c
 
+-- what is open, with more bytes of a string in the innermost
 abbrev pub extended : List ℕ → List Open → List Open
 extended b [] = []
 extended b (c ∷ os) = with_content b c ∷ os
 
+-- the innermost closed, as a member of what is around it
 abbrev pub close : KeyOrder → List Open → List Open
 close o [] = []
 close o (c ∷ os) = give (closed o c) os
@@ -78,12 +83,14 @@ pub data Part : Type 0 where
   content : List ℕ → Part
   end : Part
 
+-- what is open behind a part
 abbrev pub after : KeyOrder → Part → List Open → List Open
 after o (leaf m n) os = give (shortest_head m n) os
 after o (begin m n) os = opened m n ∷ os
 after o (content b) os = extended b os
 after o end os = close o os
 
+-- what is open behind these parts
 abbrev pub run : KeyOrder → List Part → List Open → List Open
 run o [] os = os
 run o (p ∷ ps) os = run o ps (after o p os)
@@ -93,9 +100,11 @@ abbrev pub string_parts : List (List ℕ) → List Part
 string_parts [] = end ∷ []
 string_parts (b ∷ bs) = content b ∷ string_parts bs
 
+-- the bytes of all pieces, in their order
 abbrev pub chunks_joined : List (List ℕ) → List ℕ
 chunks_joined = flat_map (λ (b : List ℕ). b)
 
+-- these parts make the string of this type and these bytes, in whatever pieces
 abbrev pub MakesString : Major → List ℕ → List Part → Type 0
 MakesString m s ps = (n : ℕ) × (bs : List (List ℕ)) × (chunks_joined bs ≡ s) × (ps ≡ begin m n ∷ string_parts bs)
 
@@ -111,10 +120,12 @@ abbrev mutual
   Makes (value.map es) ps = (n : ℕ) × (qs : List Part) × MakesEntries es qs × (ps ≡ begin Map n ∷ qs ++ end ∷ [])
   Makes (value.tag n v) ps = (qs : List Part) × Makes v qs × (ps ≡ begin Tag n ∷ qs ++ end ∷ [])
 
+  -- these make the members of an array
   pub MakesAll : Values → List Part → Type 0
   MakesAll value.no_values ps = ps ≡ []
   MakesAll (value.a_value v vs) ps = (qs : List Part) × (rs : List Part) × Makes v qs × MakesAll vs rs × (ps ≡ qs ++ rs)
 
+  -- these make the pairs of a map, each key before its value
   pub MakesEntries : Entries → List Part → Type 0
   MakesEntries value.no_entries ps = ps ≡ []
   MakesEntries (value.entry k v es) ps =

@@ -28,7 +28,8 @@ use Rattle.cbor_standing.proofs.Form.{complete-verdict}
 use Rattle.cbor_events.proofs.Joining.{bytes-total}
 use Rattle.cbor_events.proofs.Rows.{total-append}
 use Rattle.cbor_events.proofs.Told.{told-none, told-joined, next-more, next-all}
-use Rattle.cbor_diag.specs.Listing.{line, lines, IsListing, IsStopped, IsListed, IsUnlisted, of_verdict, of_reader, of_writer, Loses}
+use Rattle.cbor_judging.specs.Readers.{Loses}
+use Rattle.cbor_diag.specs.Listing.{line, lines, IsListing, IsStopped, IsListed, IsUnlisted, of_verdict, of_reader, of_writer}
 use Rattle.cbor_diag.proofs.Lines.{lines-more, lines-joined, has-line, joined-last}
 
 -- a call for the next event

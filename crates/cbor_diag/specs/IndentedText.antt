@@ -1,4 +1,4 @@
--- Diagnostic text with one member or pair a line.
+-- Diagnostic text with one member or pair a line (RFC 8949, section 8).
 use Rattle.std.specs.Prelude.{ℕ, ◌+◌, ◌*◌, List, [], ◌∷◌, ◌++◌, flat_map, codes, decimal, replicate}
 use Rattle.cbor_head.specs.Value as value
 use Rattle.cbor_head.specs.Value.{Value, Values, Entries}

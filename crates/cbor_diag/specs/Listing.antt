@@ -1,5 +1,5 @@
 -- The listing of an item: a line for each of its events but the pieces of payloads.
-use Rattle.std.specs.Prelude.{◌≡◌, ℕ, ◌+◌, ◌<◌, ◌≤◌, ◌++◌, List, [], ◌∷◌, length, take, drop, flat_map, Option, Some, None, IfSome, codes, decimal}
+use Rattle.std.specs.Prelude.{◌≡◌, ℕ, ◌+◌, ◌<◌, ◌++◌, List, [], ◌∷◌, length, take, flat_map, Option, Some, None, codes, decimal}
 use Rattle.std.specs.Io.KnownBytes.{Appends}
 use Rattle.cbor_head.specs.Limits.{Bounds}
 use Rattle.cbor_head.specs.Spelling.{Spelling, IsItem, spell}
@@ -107,7 +107,3 @@ pub data IsUnlisted (start : ℕ) (limits : Bounds) (b : List ℕ) (f : Refusal)
 abbrev pub IsListingReason : Reason → Type 0
 IsListingReason Write = Unit {0}
 IsListingReason r = IsEventReason r
-
--- a reader that had these bytes lost the first so many of them
-abbrev pub Loses : ℕ → Option (List ℕ) → Option (List ℕ) → Type 0
-Loses k old new = IfSome old (λ input. (new ≡ Some (drop k input)) × (k ≤ length input))

@@ -1,7 +1,8 @@
 //! The listing of an item's events.
 
 ghost use Rattle.std.specs.Prelude.{◌+◌, ◌<◌, ◌^◌, IfOk, IfErr, IfSome};
-ghost use Rattle.cbor_diag.specs.Listing.{IsListed, IsUnlisted, IsListingReason, Loses};
+ghost use Rattle.cbor_judging.specs.Readers.{Loses};
+ghost use Rattle.cbor_diag.specs.Listing.{IsListed, IsUnlisted, IsListingReason};
 
 use crate::event_line::line_of;
 use cbor_events::ItemEvents;

@@ -1,4 +1,4 @@
--- What the high three bits of an item's first byte tell of it: the number of its type.
+-- What the high three bits of an item's first byte tell of it: the number of its type (RFC 8949, section 3).
 use Rattle.std.specs.Prelude.{ℕ, ◌==◌, ◌||◌, Bool}
 
 -- of integers and texts

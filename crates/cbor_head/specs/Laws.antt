@@ -1,4 +1,4 @@
--- Words of the laws of the model.
+-- Words of the laws of the model: items and complaints at the front of bytes (RFC 8949, sections 3 and 5.3.1).
 use Rattle.std.specs.Prelude.{ℕ, ◌≡◌, ◌≤◌, ◌++◌, List, take}
 use Rattle.cbor_head.specs.Complaint.{Rules, Complaint, IsComplaint}
 use Rattle.cbor_head.specs.Limits.{Bounds}

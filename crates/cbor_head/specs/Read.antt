@@ -1,4 +1,4 @@
--- A plain, slow reading of bytes: what item they begin with.
+-- A plain, slow reading of bytes: what item they begin with (RFC 8949, section 3).
 use Rattle.std.specs.Prelude.{ℕ, zero, suc, ◌/◌, ◌%◌, ◌==◌, ◌∷◌, Bool, true, false, nat_lt, nat_le, if◌then◌else◌, List, [], length, take, drop, Option, Some, None}
 use Rattle.byteorder.specs.Endian.{big_number}
 use Rattle.cbor_head.specs.Head.{major_number}

@@ -1,4 +1,4 @@
--- What is answered of an input: the item that it starts with, or the refusal.
+-- What is answered of an input: the item that it starts with, or the refusal (RFC 8949, sections 3 and 5.3.1, and appendix F).
 use Rattle.std.specs.Prelude.{ℕ, ◌+◌, ◌≡◌, ◌≢◌, ◌<◌, ◌≤◌, ◌⊎◌, ◌++◌, ◌==◌, ◌||◌, ◌&&◌, ◌%◌, nat_le, if◌then◌else◌, List, [], ◌∷◌, length, take}
 use Rattle.cbor_head.specs.Limits.{Bounds}
 use Rattle.cbor_head.specs.Spelling.{Spelling, spell, IsItem}

@@ -1,4 +1,4 @@
--- What the parts given to a tree builder stand for.
+-- What the parts given to a tree builder stand for (RFC 8949, section 2).
 use Rattle.std.specs.Prelude.{ℕ, ◌≡◌, ◌++◌, List, [], ◌∷◌, map}
 use Rattle.cbor_head.specs.Value as value
 use Rattle.cbor_head.specs.Value.{Value, Values, Entries}
@@ -18,9 +18,11 @@ pub data Open (A : Type 0) : Type 0 where
   -- a tag's content is its one member
   a_tag : ℕ → List A → Open A
 
+-- what is open, with items
 abbrev pub OpenItem : Type 0
 OpenItem = Open Item
 
+-- what is open, with their values
 abbrev pub OpenValue : Type 0
 OpenValue = Open Value
 
@@ -32,6 +34,7 @@ open_value (a_map ps) = a_map (map (λ (p : Item × Item). (view p.0, view p.1))
 open_value (a_key ps k) = a_key (map (λ (p : Item × Item). (view p.0, view p.1)) ps) (view k)
 open_value (a_tag n is) = a_tag n (map view is)
 
+-- the same of all that is open
 abbrev pub standing : List OpenItem → List OpenValue
 standing os = map open_value os
 
@@ -43,12 +46,12 @@ with_member v (a_map es) = a_key es v
 with_member v (a_key es k) = a_map (es ++ (k, v) ∷ [])
 with_member v (a_tag n vs) = a_tag n (vs ++ v ∷ [])
 
--- the innermost first
+-- what is open, the innermost first, with one more finished member in the innermost
 abbrev pub give : Value → List OpenValue → List OpenValue
 give v [] = []
 give v (c ∷ os) = with_member v c ∷ os
 
--- the number is a tag's
+-- what a head opens, without members; the number is a tag's
 abbrev pub opened : Major → ℕ → OpenValue
 opened Array n = an_array []
 opened Map n = a_map []
@@ -63,6 +66,7 @@ closed (a_map es) = value.map (entries_of es)
 closed (a_tag n (v ∷ vs)) = value.tag n v
 closed c = value.simple 0
 
+-- the innermost closed, as a member of what is around it
 abbrev pub close : List OpenValue → List OpenValue
 close [] = []
 close (c ∷ os) = give (closed c) os
@@ -99,16 +103,19 @@ IsWhole _ = ⊥
 
 -- ---- the parts of a value
 
+-- a part: a value without members, the head of an array, map or tag, or its end
 pub data ValuePart : Type 0 where
   leaf : Value → ValuePart
   begin : Major → ℕ → ValuePart
   end : ValuePart
 
+-- what is open behind a part
 abbrev pub after : ValuePart → List OpenValue → List OpenValue
 after (leaf v) os = give v os
 after (begin m n) os = opened m n ∷ os
 after end os = close os
 
+-- what is open behind these parts
 abbrev pub run : List ValuePart → List OpenValue → List OpenValue
 run [] os = os
 run (p ∷ ps) os = run ps (after p os)
@@ -121,10 +128,12 @@ abbrev mutual
   parts_of (value.tag n v) = begin Tag n ∷ parts_of v ++ end ∷ []
   parts_of v = leaf v ∷ []
 
+  -- of the members of an array
   pub parts_of_all : Values → List ValuePart
   parts_of_all value.no_values = []
   parts_of_all (value.a_value v vs) = parts_of v ++ parts_of_all vs
 
+  -- of the pairs of a map, each key before its value
   pub parts_of_entries : Entries → List ValuePart
   parts_of_entries value.no_entries = []
   parts_of_entries (value.entry k v es) = parts_of k ++ (parts_of v ++ parts_of_entries es)

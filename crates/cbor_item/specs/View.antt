@@ -6,10 +6,12 @@ use Rattle.cbor_item.specs.declared.item.Item.{Item}
 use Rattle.cbor_item.specs.declared.item.Item.TheOpen.{Item-F}
 use Rattle.cbor_item.specs.declared.item.Item.TheFolds.{fold-Item}
 
+-- the members of an array
 abbrev pub values_of : List Value → Values
 values_of [] = value.no_values
 values_of (v ∷ vs) = value.a_value v (values_of vs)
 
+-- the pairs of a map
 abbrev pub entries_of : List (Value × Value) → Entries
 entries_of [] = value.no_entries
 entries_of (p ∷ ps) = value.entry p.0 p.1 (entries_of ps)

@@ -1,4 +1,4 @@
--- How the open containers change as members, keys and contents end, and what stays known of them.
+-- How the open containers change as members, keys and values end, and what stays known of them.
 use Rattle.std.proofs.Common.{ℕ, suc, ◌+◌, ◌≡◌, ◌≤◌, ◌⊎◌, List, [], ◌∷◌, ◌++◌, length, refl, sym, ap, ◌∙◌, arith, subst, inl, inr}
 use Rattle.std.proofs.lemmas.List.{length-append, append_assoc, append-nil}
 use Rattle.cbor_head.specs.Head.{head}
@@ -40,7 +40,7 @@ pub distinct_snoc : (fs : List Frame) (f : Frame) (r : Rules) (at to : ℕ) → 
 distinct_snoc [] f r at to e h i = let g : to ≡ at = omega (arith, e) in (subst (λ (k : ℕ). AreDistinct r (open_keys k f)) g i, tt)
 distinct_snoc (g ∷ fs) f r at to e h i = (h.0, distinct_snoc fs f r (at + length (before g)) to (omega (arith, e, length-append (before g) (before_all fs))) h.1 i)
 
--- ---- a member, a key or a content ends
+-- ---- a member, a key or a value ends
 
 pub member_count : (a : Spellings) (s : Spelling) (m : ℕ) → spellings_count (with_all a (a_spelling s no_spellings)) + suc m ≡ spellings_count a + suc (suc m)
 member_count a s m = omega (arith, count_with a (a_spelling s no_spellings))
@@ -74,7 +74,7 @@ pub key_clean : (w : Width) (a : SpelledEntries) (k v : Spelling) (b : SpelledEn
     → Never (OfClosed r at (a_content w a k b))
 key_clean w a k v b r at clean none c h = elim h [ inl x ↦ clean c (inl x) | inr (inl x) ↦ clean c (inr x) | inr (inr x) ↦ none c x ]
 
--- a content: the next key is due, and the completed keys are as before
+-- a value: the next key is due, and the completed keys are as before
 pub keys_with : (es fs : SpelledEntries) (at to : ℕ) → to ≡ at + length (spell_entries es) → keys_at at (with_entries es fs) ≡ keys_at at es ++ keys_at to fs
 keys_with no_entries fs at to e = let g : at ≡ to = omega (arith, e) in ap (λ (n : ℕ). keys_at n fs) g
 keys_with (entry k v es) fs at to e =

@@ -80,7 +80,7 @@ module _ (r : Rules) (depth_limit : ℕ) where
       → AreOpen r depth_limit (fs ++ tagged w n ∷ [])
   tag_opens fs w n d o e h clean = opens fs (tagged w n) d o e h (omega arith) clean
 
-  -- ---- a member, a key, a content ends
+  -- ---- a member, a key, a value ends
 
   pub member_ends : (fs : List Frame) (w : Width) (a : Spellings) (s t : Spelling) (b : Spellings) (o : AreOpen r depth_limit (fs ++ a_member w a (a_spelling t b) ∷ []))
       → IsSpelled s → depth s ≤ o.left → Never (Complains r (length (before_all fs) + length (before (a_member w a (a_spelling t b)))) s)

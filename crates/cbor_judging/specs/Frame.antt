@@ -9,9 +9,9 @@ use Rattle.cbor_head.specs.declared.width.Width.{Width}
 pub data Frame : Type 0 where
   -- a member of an array, after and before others
   a_member : Width → Spellings → Spellings → Frame
-  -- a key: the pairs before it, its content, the pairs behind
+  -- a key: the pairs before it, its value, the pairs behind
   a_key : Width → SpelledEntries → Spelling → SpelledEntries → Frame
-  -- a content: the pairs before it, its key, the pairs behind
+  -- a value: the pairs before it, its key, the pairs behind
   a_content : Width → SpelledEntries → Spelling → SpelledEntries → Frame
   tagged : Width → ℕ → Frame
 

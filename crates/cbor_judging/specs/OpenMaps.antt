@@ -22,7 +22,7 @@ keys_at at no_entries = []
 keys_at at (entry k v es) = placed at k ∷ keys_at (at + length (spell k) + length (spell v)) es
 
 -- of the container at a place, which is open around an item: the completed keys, where it is a map. A key in which the item
--- stands is not complete; the key of the content in which it stands is.
+-- stands is not complete; the key of the value in which it stands is.
 abbrev pub open_keys : ℕ → Frame → List Placed
 open_keys at (a_key w a v b) = keys_at (at + length (head Map w (entries_count a + suc (entries_count b)))) a
 open_keys at (a_content w a k b) =
@@ -46,7 +46,7 @@ AreDistinct r xs = (c : Complaint) → OnKeys r [] xs c → ⊥
 
 -- ---- what is closed
 
--- a complaint within the keys and contents of pairs from a place on, each on its own
+-- a complaint within the keys and values of pairs from a place on, each on its own
 abbrev pub ComplainsWithin : Rules → ℕ → SpelledEntries → Complaint → Type 0
 ComplainsWithin r at no_entries c = ⊥
 ComplainsWithin r at (entry k v es) c =

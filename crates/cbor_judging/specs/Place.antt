@@ -30,6 +30,7 @@ pub data Place : Type 0 where
   -- nothing: the item is complete
   done : Place
 
+-- the containers that are open at a place
 abbrev pub open_at : Place → List Container
 open_at (at_item cs) = cs
 open_at (in_payload chunk m n cs) = cs

@@ -1,4 +1,4 @@
--- What the readers answer of the item at the front of an input.
+-- What the readers answer of the item at the front of an input (RFC 8949, sections 3, 4.2 and 5.3.1).
 use Rattle.std.specs.Prelude.{ℕ, ◌≡◌, ◌≤◌, List, length, take, drop, Option, Some, IfSome, ◌++◌}
 use Rattle.cbor_head.specs.Limits.{Bounds}
 use Rattle.cbor_head.specs.Value.{Value, IsInRange, IsValid, HasBasicKeys, depth}

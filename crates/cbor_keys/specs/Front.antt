@@ -1,4 +1,4 @@
--- The first eight bytes of a key as a number.
+-- The first eight bytes of a key as a number (RFC 8949, section 4.2.1).
 use Rattle.std.specs.Prelude.{ℕ, zero, suc, ◌+◌, ◌*◌, ◌^◌, List, [], ◌∷◌}
 
 -- the number of the first n bytes, the highest first; a byte that is not there counts as 0

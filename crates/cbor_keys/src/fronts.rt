@@ -1,4 +1,4 @@
-//! The first bytes of a key, as a number.
+//! The bytes of a key, and the first of them as a number.
 
 ghost use Rattle.std.specs.Prelude.{◌≡◌, ◌<◌, ◌≤◌, ◌-◌, ◌*◌, ◌/◌, ◌^◌, length, slice_range};
 ghost use Rattle.std.specs.Prelude.{slice_index};
@@ -20,6 +20,16 @@ pub fn key_front(bytes: &[u8], start: usize, end: usize) -> u64
         Some(chunk) => kept(u64::from_be_bytes(*chunk), end - start),
         None => short_front(&bytes[start..end]),
     }
+}
+
+/// The key that stands in the bytes from `start` to `end`, as far as the bytes go.
+#[inline(always)]
+pub fn part(bytes: &[u8], start: usize, end: usize) -> &[u8]
+    ensures { result.now ≡ slice_range bytes.now start end }
+{
+    let end = end.min(bytes.len());
+    let start = start.min(end);
+    &bytes[start..end]
 }
 
 // The first n bytes of the eight.

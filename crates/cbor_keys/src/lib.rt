@@ -5,5 +5,5 @@
 mod fronts;
 mod key_order;
 
-pub use fronts::key_front;
+pub use fronts::{key_front, part};
 pub use key_order::compare_keys;

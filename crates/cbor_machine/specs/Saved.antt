@@ -5,6 +5,7 @@ use Rattle.cbor_standing.specs.MachineView.{MachineView}
 use Rattle.cbor_machine.specs.inner.Saved.{IsHeld}
 use Rattle.cbor_machine.specs.declared.machine.saved.SavedMachine.{SavedMachine}
 
+-- the numbers hold this machine
 pub record Holds (s : SavedMachine) (m : MachineView) : Type 0 where
   pub depth : m.depth ≡ s.depth
   pub bytes : m.bytes ≡ s.bytes
@@ -22,5 +23,6 @@ pub record Starts (s : SavedMachine) (depth bytes : ℕ) : Type 0 where
   pub bytes_is : machine.bytes ≡ bytes
   pub stands : StandsFor machine [] []
 
+-- zeros alone
 abbrev pub AreZeros : List ℕ → Type 0
 AreZeros ns = ns ≡ replicate (length ns) 0

@@ -3,7 +3,6 @@
 ghost use Rattle.std.specs.Prelude.{◌≡◌, ◌↔◌, ◌≤◌, ◌<◌, ◌+◌, ◌++◌, ℕ, List, [], ◌∷◌, length, take};
 ghost use Rattle.std.specs.Prelude.{min, true, false, Some, None, IfSome, IsTrue};
 ghost use Rattle.cbor_head.specs.Value.{AreBytes};
-ghost use Rattle.cbor_head.specs.Verdict.{refusal};
 ghost use Rattle.cbor_automaton.specs.Trace.{Mark};
 ghost use Rattle.cbor_automaton.specs.Reasons.{IsMachineReason};
 ghost use Rattle.cbor_standing.specs.MachineView.{MachineView};
@@ -282,13 +281,13 @@ impl Machine {
                     let out = Out::More;
                     return Step { used, out };
                 }
-                let refusal = refusal_of(Reason::TooLong, bytes, bytes);
+                let refusal = Refusal::new(Reason::TooLong, bytes, bytes);
                 self.refusal = Some(refusal);
                 let out = Out::Refused(refusal);
                 Step { used, out }
             }
             Walked::Refused(reason) => {
-                let refusal = refusal_of(reason, self.taken - 1, self.taken);
+                let refusal = Refusal::new(reason, self.taken - 1, self.taken);
                 self.refusal = Some(refusal);
                 let out = Out::Refused(refusal);
                 Step { used, out }
@@ -318,17 +317,6 @@ pub fn take_part(machine: &mut Machine, input: &[u8]) -> Step
     ensures idle { IsMore result.out → 0 < wanted machine.old }
 {
     machine.take_part(input)
-}
-
-// A refusal by its parts.
-pub(crate) fn refusal_of(reason: Reason, place: u64, read: u64) -> Refusal
-    ensures { result ≡ refusal reason place read }
-{
-    Refusal {
-        reason,
-        place,
-        read,
-    }
 }
 
 // The lesser of the two.

@@ -26,6 +26,7 @@ abbrev pub wanted_within : Option Refusal → ℕ → ℕ
 wanted_within None n = n
 wanted_within (Some r) n = 0
 
+-- how many bytes more it uses of what comes: what is due, within the limit, and none once it has refused
 abbrev pub wanted : MachineView → ℕ
 wanted m = wanted_within m.refusal (min (m.bytes - m.taken) m.due)
 
@@ -104,14 +105,17 @@ IsAnswer (outs.Event e) m t bs ms = IsGiven e m t bs ms
 IsAnswer outs.Done m t bs ms = StandsFor m (t ++ bs) ms
 IsAnswer (outs.Refused r) m t bs ms = IsRefused r m t bs ms
 
+-- an event is told
 abbrev pub IsEvent : Out → Type 0
 IsEvent (outs.Event e) = Unit {0}
 IsEvent _ = ⊥
 
+-- more bytes are asked for
 abbrev pub IsMore : Out → Type 0
 IsMore outs.More = Unit {0}
 IsMore _ = ⊥
 
+-- the item is told to be complete
 abbrev pub IsDone : Out → Type 0
 IsDone outs.Done = Unit {0}
 IsDone _ = ⊥

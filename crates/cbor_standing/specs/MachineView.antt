@@ -3,6 +3,7 @@ use Rattle.std.specs.Prelude.{ℕ, Bool, Option}
 use Rattle.cbor_head.specs.declared.reason.Refusal.{Refusal}
 use Rattle.cbor_steps.specs.State.{Inner}
 
+-- a machine, as its callers see it
 pub record MachineView : Type 0 where
   -- the limits
   pub depth : ℕ

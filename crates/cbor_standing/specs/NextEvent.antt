@@ -53,6 +53,7 @@ machine_call from to before_it after_it kept piece t ms = record {
   told = ms;
 }
 
+-- a call, by what stood before it and after it, the bytes taken and the marks told
 abbrev pub call : ItemEventsView → ItemEventsView → Option (List ℕ) → Option (List ℕ) → List ℕ → List Mark → Call
 call from to before_it after_it t ms = machine_call from.machine to.machine before_it after_it from.piece to.piece t ms
 

@@ -1,4 +1,4 @@
--- What is kept of the keys of a map as its keys and contents end.
+-- What is kept of the keys of a map as its keys and values end.
 use Rattle.std.proofs.Common.{◌≡◌, ℕ, suc, ◌+◌, ◌-◌, ◌<◌, ◌≤◌, Bool, true, false, List, [], ◌∷◌, ◌++◌, length, take, drop, refl, sym, ap, ◌∙◌, inl, inr, arith, append_assoc, append-nil}
 use Rattle.std.specs.Prelude.{if◌then◌else◌, slice_index_or, slice_set}
 use Rattle.std.proofs.lemmas.List.{length-append, get_or_push}
@@ -194,7 +194,7 @@ ended_bounds k r sp g =
     let q = key_bounds k r.w r.a r.v r.b r.fs r.s sp r.kept g in
     (q.0, q.1, omega (arith, q.2))
 
--- ---- contents
+-- ---- values
 
 module _ (k : KeysView) (w : Width) (a : SpelledEntries) (key s n m : Spelling) (b : SpelledEntries) (fs : List Frame) (sp : Span) (h : IsKept k (a_content w a key (entry n m b) ∷ fs) (spell s))
     (g : sp ≡ slice_index_or k.spans (length k.spans - 1) sp) where

@@ -119,7 +119,7 @@ behind_member old new keys count taken due b e t k h c d same_order same_keys sa
     go _ s (key_open w a v c2 gs) m = absurd (cc (sym d ∙ k.some (a_key w a v c2) gs (spell s) m.kept))
     go _ s (content_open w a key l x c2 gs) m = absurd (cc (sym d ∙ k.some (a_content w a key (entry l x c2)) gs (spell s) m.kept))
 
--- a content
+-- a value
 pub behind_content : (old new : OpenItems) (keys last : LastKeys) (count taken : ℕ) (due : Due) (b : Bounds) (e : ItemEventsView) (t : List ℕ) → Closing old keys count taken due → (h : HasEnded old b e t)
     → count ≡ e.machine.open_count → due ≡ Content → new.order ≡ old.order → new.keys ≡ last → new.left ≡ old.left
     → ((w : Width) (a : SpelledEntries) (k s l m : Spelling) (b : SpelledEntries) (fs : List Frame) → IsKept (seen keys) (a_content w a k (entry l m b) ∷ fs) (spell s) → IsKept (seen last) (a_key w (with_entries a (entry k s no_entries)) m b ∷ fs) [])

@@ -19,6 +19,7 @@ abbrev mutual
   open_maps_in n no_spellings = 0
   open_maps_in n (a_spelling s ss) = if nat_lt n (length (spell s)) then open_maps n s else open_maps_in (n - length (spell s)) ss
 
+  -- in the key or the value that is not complete
   pub open_maps_in_entries : ℕ → SpelledEntries → ℕ
   open_maps_in_entries n no_entries = 0
   open_maps_in_entries n (entry k v es) =
@@ -41,7 +42,7 @@ abbrev mutual
   key_bytes_in n (a_spelling s ss) = if nat_lt n (length (spell s)) then key_bytes n s else key_bytes_in (n - length (spell s)) ss
 
   -- behind a complete key of so many bytes: the whole of a key that is not complete, with all that is open in it; or a complete
-  -- key, and what is open in its content
+  -- key, and what is open in its value
   pub key_bytes_in_entries : ℕ → ℕ → SpelledEntries → ℕ
   key_bytes_in_entries n last no_entries = last
   key_bytes_in_entries n last (entry k v es) =

@@ -71,6 +71,7 @@ pub record StrictCall : Type 0 where
   pub taken : List ℕ
   pub told : List Mark
 
+-- a call, by what stood before it and after it, the bytes taken and the marks told
 abbrev pub strict_call : StrictEventsView → StrictEventsView → Option (List ℕ) → Option (List ℕ) → List ℕ → List Mark → StrictCall
 strict_call from to before_it after_it t ms = record { old = from; new = to; held = before_it; left = after_it; taken = t; told = ms }
 

@@ -26,7 +26,7 @@ pub(crate) enum Due {
     Member,
     /// A key of a map.
     Key,
-    /// The content of a key.
+    /// The value of a key.
     Content,
 }
 
@@ -221,8 +221,8 @@ impl LastKeys {
         )
     }
 
-    // The last bytes, from there on, are the last complete key of the innermost map, and its
-    // content is due.
+    // The last bytes, from there on, are the last complete key of the innermost map, and its value
+    // is due.
     fn put_key(&mut self, from: usize)
         ensures { seen self.new ≡ with_key (seen self.old) from }
     {
@@ -237,7 +237,7 @@ impl LastKeys {
         );
     }
 
-    // The content of a key is complete, and another key is due.
+    // The value of a key is complete, and another key is due.
     pub(crate) fn end_content(&mut self)
         requires { (seen self.old).open_keys ≤ MOST_OPEN }
         ensures { (w : Width) (a : SpelledEntries) (k s l m : Spelling) (b : SpelledEntries)

@@ -1,4 +1,4 @@
--- What a check of text was given.
+-- What a check of text was given (RFC 8949, section 3.1).
 use Rattle.std.specs.Prelude.{◌≡◌, ℕ, List, length}
 use Rattle.cbor_text.specs.inner.TextCheck.{Found, IsFound}
 

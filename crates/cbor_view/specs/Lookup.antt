@@ -1,4 +1,4 @@
--- Members of arrays by their index, and values of maps by their keys.
+-- Members of arrays by their index, and values of maps by their keys (RFC 8949, section 5.6).
 use Rattle.std.specs.Prelude.{ℕ, zero, suc, Option, Some, None}
 use Rattle.cbor_head.specs.Value.{Value, Values, array, map, no_values, a_value, HasEntry, Same}
 
@@ -8,6 +8,7 @@ member_at no_values i = None
 member_at (a_value v vs) zero = Some v
 member_at (a_value v vs) (suc i) = member_at vs i
 
+-- the member of an array at an index
 abbrev pub member_of : Value → ℕ → Option Value
 member_of (array vs) i = member_at vs i
 member_of _ i = None

@@ -23,15 +23,17 @@ seen_step (View-F.Simple n) = value.simple n
 abbrev pub seen : View → Value
 seen = fold-View Value seen_step
 
--- the values of members, and of pairs
+-- the values of members
 abbrev pub seen_all : List View → List Value
 seen_all vs = map seen vs
 
+-- the values of pairs
 abbrev pub seen_pairs : List (View × View) → List (Value × Value)
 seen_pairs ps = map (λ (p : View × View). (seen p.0, seen p.1)) ps
 
 -- ---- what is open
 
+-- what is open, with views
 abbrev pub OpenView : Type 0
 OpenView = Open View
 

@@ -1,6 +1,6 @@
 //! The open containers of an item, in cells that are lent.
 
-ghost use Rattle.std.specs.Prelude.{◌≡◌, ◌≤◌, ◌<◌, ◌-◌, ◌∷◌, ℕ, suc, List, IsTrue, true, length, slice_range, take};
+ghost use Rattle.std.specs.Prelude.{◌≡◌, ◌≤◌, ◌<◌, ◌-◌, ◌∷◌, ℕ, suc, List, IsTrue, true, length, take};
 ghost use Rattle.cbor_keys.specs.Front.{front_of};
 ghost use Rattle.cbor_head.specs.Order.{key_lt};
 ghost use Rattle.cbor_walk.specs.inner.Cells.{a_level, key_at, last_key, IsFronted, TakesKey, Advances};
@@ -9,7 +9,7 @@ ghost use Rattle.cbor_walk.specs.inner.Stack.{around, standing};
 
 use crate::level::{Due, Level, Next, Step};
 use cbor_head::{KeyOrder, MAX_DEPTH};
-use cbor_keys::{compare_keys, key_front};
+use cbor_keys::{compare_keys, key_front, part};
 use std::cmp::Ordering;
 
 impl Level {
@@ -93,16 +93,6 @@ impl Level {
         let key = part(input, self.key, at);
         compare_keys(order, last, key) == Ordering::Less
     }
-}
-
-// What stands from `start` to `end`, as far as the bytes go.
-#[inline(always)]
-fn part(bytes: &[u8], start: usize, end: usize) -> &[u8]
-    ensures { result.now ≡ slice_range bytes.now start end }
-{
-    let end = end.min(bytes.len());
-    let start = start.min(end);
-    &bytes[start..end]
 }
 
 /// How many containers are open, and the innermost; those around it lie in the first so many of the

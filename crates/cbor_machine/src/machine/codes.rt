@@ -6,7 +6,6 @@ ghost use Rattle.cbor_machine.specs.inner.Saved.{flag_at, frame_by, frames_by, k
 ghost use Rattle.cbor_machine.specs.inner.Saved.{refusal_by, width_at};
 ghost use Rattle.cbor_steps.specs.Nest.{due_frame};
 
-use crate::machine::refusal_of;
 use crate::machine::saved::SavedMachine;
 use cbor_head::{Reason, Refusal, Width};
 use cbor_steps::{Due, Frame, MOST_OPEN, Nest, Numbered, Position};
@@ -220,7 +219,7 @@ pub(crate) fn refusal_at(code: u8, place: u64, read: u64) -> Option<Refusal>
         8 => Reason::BadChunk,
         _ => Reason::TooDeep,
     };
-    Some(refusal_of(reason, place, read))
+    Some(Refusal::new(reason, place, read))
 }
 
 // Opens these containers in place of what is open.

@@ -5,7 +5,7 @@ pub(super) fn kinds_of_keys() -> &'static [&'static str] {
 }
 
 static KINDS_OF_KEYS: &[&str] = &[
-    // Keys that are integers or texts, and contents that are neither.
+    // Keys that are integers or texts, and values that are neither.
     r#"a300012002616103 | keys basic | same | | {0: 1, -1: 2, "a": 3}"#,
     "a11bffffffffffffffff00 | keys basic | same | | {18446744073709551615: 0}",
     "a1180000 | keys basic | a10000 | 14 NotShortest at 1, read 3 | {0: 0}",

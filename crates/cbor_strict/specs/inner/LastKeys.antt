@@ -158,6 +158,6 @@ AnswersKeyEnd o old new result =
 abbrev pub with_last : KeysView → Due → Span → KeysView
 with_last k due sp = record { levels = slice_set k.levels (length k.levels - 1) due; spans = slice_set k.spans (length k.spans - 1) sp; bytes = k.bytes; open_keys = k.open_keys }
 
--- the last complete key of the innermost map is all from there on, and its content is due
+-- the last complete key of the innermost map is all from there on, and its value is due
 abbrev pub with_key : KeysView → ℕ → KeysView
 with_key k from = with_last k Content (span from (length k.bytes) (length k.bytes))

@@ -138,7 +138,7 @@ fn stands_in_a_tower(rt: HostRuntime) -> Result<(), Fail> {
     let input = tower(rt.alloc())?;
     let whole = limits(&rt, 256, 1048576);
     let mut reader = StrictReader::new(rt.alloc(), &input[..], whole, KeyOrder::Bytewise);
-    // a map and its key, 0, and its content is the next map
+    // a map and its key, 0, and its value is the next map
     for level in 1..=256 {
         for _ in 0..2 {
             assert!(rt; reader.next().is_ok());

@@ -61,7 +61,7 @@ returns-else-self-bytes-clause-walked c = λ live.
     let len = length-front c.walk-used.result.0 c.part-end.result c.args.input.now u (omega (arith, c.part-end.ensures)) in
     let live' = ap (λ (m : MachineView). m.refusal) c.self.view_is ∙ live in
     let ran : Ran _ _ (take c.walk-used.result.0 c.args.input.now) _ = record { ran = walked; taken = ap (λ n. c.self.inside.taken + n) (sym len.1) } in
-    rw c.refusal_of-refusal.ensures (step-from (outs.Refused (refusal TooLong c.bytes-bytes.result c.bytes-bytes.result)) _ _ _ (take c.walk-used.result.0 c.args.input.now) c.self.view_is
+    rw c.new-refusal.ensures (step-from (outs.Refused (refusal TooLong c.bytes-bytes.result c.bytes-bytes.result)) _ _ _ (take c.walk-used.result.0 c.args.input.now) c.self.view_is
     (refl, inl (ran, omega (arith, length-take c.part-end.result c.args.input.now), ap (λ n. refusal TooLong n n) c.bytes-bytes.ensures.bytes)))
 
 pub returns-else-self-bytes-clause-answers : goal.returns-else-self-bytes-clause-answers
@@ -69,10 +69,10 @@ returns-else-self-bytes-clause-answers c = λ t ms h.
     let u = c.walk-used.ensures.used in
     let len = length-front c.walk-used.result.0 c.part-end.result c.args.input.now u (omega (arith, c.part-end.ensures)) in
     let depth : c.from-depth.result ≡ c.self.inside.limits.depth = c.from-depth.ensures ∙ c.depth.ensures.depth in
-    rw c.refusal_of-refusal.ensures (answered (outs.Refused (refusal TooLong c.bytes-bytes.result c.bytes-bytes.result)) _ _ t (take c.walk-used.result.0 c.args.input.now) ms h (are_bytes-take c.walk-used.result.0 c.args.input.now c.below_256.ensures)
+    rw c.new-refusal.ensures (answered (outs.Refused (refusal TooLong c.bytes-bytes.result c.bytes-bytes.result)) _ _ t (take c.walk-used.result.0 c.args.input.now) ms h (are_bytes-take c.walk-used.result.0 c.args.input.now c.below_256.ensures)
     (λ e. c.in_default-position.not-Done (ap (λ (m : MachineView). m.inner.position) c.self.view_is ∙ e)) (ap (λ (m : MachineView). m.depth) c.self.view_is) (fit-sound _ _ (record { open_count = refl; due = refl; item_due = refl; in_payload = refl; complete = refl }) c.walk-used.ensures.fits) (omega arith)
     (ap (λ n. c.self.inside.taken + n) (sym len.1) ∙ ap (λ (m : MachineView). m.taken + length (take c.walk-used.result.0 c.args.input.now)) c.self.view_is)
-    (omega (arith, length-take c.part-end.result c.args.input.now)) (rw c.refusal_of-refusal.ensures at (returns-else-self-bytes-clause-walked c h.live)))
+    (omega (arith, length-take c.part-end.result c.args.input.now)) (rw c.new-refusal.ensures at (returns-else-self-bytes-clause-walked c h.live)))
 
 pub returns-in-Refused-clause-walked : goal.returns-in-Refused-clause-walked
 returns-in-Refused-clause-walked c = λ live.
@@ -80,21 +80,21 @@ returns-in-Refused-clause-walked c = λ live.
     let depth : c.from-depth.result ≡ c.self.inside.limits.depth = c.from-depth.ensures ∙ c.depth.ensures.depth in
     let walked = rw c.in-Refused.is at (front-walked _ _ _ _ _ _ _ _ depth u c.walk-used.ensures.walked) in
     let len = length-front c.walk-used.result.0 c.part-end.result c.args.input.now u (omega (arith, c.part-end.ensures)) in
-    rw c.refusal_of-refusal-in-Refused.ensures (step-from (outs.Refused (refusal c.in-Refused.reason (c.self.inside.taken + c.walk-used.result.0 - 1) (c.self.inside.taken + c.walk-used.result.0))) _ _ _ (take c.walk-used.result.0 c.args.input.now) c.self.view_is (refl, inr (stopped _ _ _ _ c.walk-used.result.0 walked len.1 refl)))
+    rw c.new-refusal-in-Refused.ensures (step-from (outs.Refused (refusal c.in-Refused.reason (c.self.inside.taken + c.walk-used.result.0 - 1) (c.self.inside.taken + c.walk-used.result.0))) _ _ _ (take c.walk-used.result.0 c.args.input.now) c.self.view_is (refl, inr (stopped _ _ _ _ c.walk-used.result.0 walked len.1 refl)))
 
 pub returns-in-Refused-clause-answers : goal.returns-in-Refused-clause-answers
 returns-in-Refused-clause-answers c = λ t ms h.
     let u = c.walk-used.ensures.used in
     let len = length-front c.walk-used.result.0 c.part-end.result c.args.input.now u (omega (arith, c.part-end.ensures)) in
     let depth : c.from-depth.result ≡ c.self.inside.limits.depth = c.from-depth.ensures ∙ c.depth.ensures.depth in
-    rw c.refusal_of-refusal-in-Refused.ensures (answered (outs.Refused (refusal c.in-Refused.reason (c.self.inside.taken + c.walk-used.result.0 - 1) (c.self.inside.taken + c.walk-used.result.0))) _ _ t (take c.walk-used.result.0 c.args.input.now) ms h (are_bytes-take c.walk-used.result.0 c.args.input.now c.below_256.ensures)
+    rw c.new-refusal-in-Refused.ensures (answered (outs.Refused (refusal c.in-Refused.reason (c.self.inside.taken + c.walk-used.result.0 - 1) (c.self.inside.taken + c.walk-used.result.0))) _ _ t (take c.walk-used.result.0 c.args.input.now) ms h (are_bytes-take c.walk-used.result.0 c.args.input.now c.below_256.ensures)
     (λ e. c.in_default-position.not-Done (ap (λ (m : MachineView). m.inner.position) c.self.view_is ∙ e)) (ap (λ (m : MachineView). m.depth) c.self.view_is) (fit-sound _ _ (record { open_count = refl; due = refl; item_due = refl; in_payload = refl; complete = refl }) c.walk-used.ensures.fits) (omega arith)
     (ap (λ n. c.self.inside.taken + n) (sym len.1) ∙ ap (λ (m : MachineView). m.taken + length (take c.walk-used.result.0 c.args.input.now)) c.self.view_is)
-    (omega (arith, length-take c.part-end.result c.args.input.now)) (rw c.refusal_of-refusal-in-Refused.ensures at (returns-in-Refused-clause-walked c h.live)))
+    (omega (arith, length-take c.part-end.result c.args.input.now)) (rw c.new-refusal-in-Refused.ensures at (returns-in-Refused-clause-walked c h.live)))
 
 pub returns-in-Refused-clause-reason : goal.returns-in-Refused-clause-reason
 returns-in-Refused-clause-reason c =
-    rw c.refusal_of-refusal-in-Refused.ensures (form-machine c.in-Refused.reason ((rw c.in-Refused.is at c.walk-used.ensures.reason) (not-done _ (λ e. c.in_default-position.not-Done e))))
+    rw c.new-refusal-in-Refused.ensures (form-machine c.in-Refused.reason ((rw c.in-Refused.is at c.walk-used.ensures.reason) (not-done _ (λ e. c.in_default-position.not-Done e))))
 
 pub invariant_of-self-in-Refused : goal.invariant_of-self-in-Refused
 invariant_of-self-in-Refused c =
@@ -104,7 +104,7 @@ invariant_of-self-in-Refused c =
       fits = subst (λ d. IsFit d c.walk-used.new.nest c.walk-used.new.position) depth c.walk-used.ensures.fits;
       taken = omega (arith, length-take c.part-end.result c.args.input.now, c.walk-used.ensures.used, c.part-end.ensures, c.self.invariant.taken, c.bytes-bytes.ensures.bytes);
       settled = λ e. absurd (cc);
-      stopped = rw c.refusal_of-refusal-in-Refused.ensures (
+      stopped = rw c.new-refusal-in-Refused.ensures (
         refl,
         form-machine c.in-Refused.reason ((rw c.in-Refused.is at c.walk-used.ensures.reason) (not-done _ (λ e. c.in_default-position.not-Done e))),
       );
