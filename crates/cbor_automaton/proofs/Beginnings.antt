@@ -11,7 +11,7 @@ use Rattle.cbor_head.specs.declared.major.Major.{Major}
 use Rattle.cbor_head.specs.declared.major.Major.TheVariants.{Unsigned, Negative, Bytes, Text, Array, Map, Tag, Simple}
 use Rattle.cbor_head.specs.declared.width.Width.TheVariants.{Direct}
 use Rattle.cbor_automaton.proofs.Forward.{forward, telling_all}
-use Rattle.cbor_automaton.proofs.Stands.{Rest, closing, Opened, IsString, Chunked, Before, Stands, head-done}
+use Rattle.cbor_automaton.proofs.Stands.{Rest, closing, Opened, IsString, Chunked, Before, Stands, room-of, head-done}
 use Rattle.cbor_automaton.proofs.Kept.{StandsOutcome, run-kept}
 
 pub shorter : (d : ℕ) (xs ys : List ℕ) → IsBeginning d (xs ++ ys) → IsBeginning d xs
@@ -80,14 +80,10 @@ zero_bytes : (n : ℕ) → AreBytes (replicate n 0)
 zero_bytes zero = tt
 zero_bytes (suc n) = let h : 0 < 256 = omega arith in (h, zero_bytes n)
 
-room-here : (d : ℕ) (fs : List Frame) (p : List ℕ) → Opened d fs p → 0 + length fs ≤ d
-room-here d [] p o = omega arith
-room-here d (f ∷ fs) p o = let h : length fs < d = o.2 in omega arith
-
 complete-chunk : (d : ℕ) (chunk : Bool) (m : Major) (fs : List Frame) (p : List ℕ) (c : Chunk) → Before d chunk m fs p → IsString m → IsChunk c → IsBeginning d (p ++ chunk_bytes m c)
 complete-chunk d true m fs p c b s h = begins-along d _ _ (ap (λ xs. p ++ xs) (append-nil (chunk_bytes m c))) (complete-chunks d m fs p b (c ∷ []) (h, tt))
-complete-chunk d false Bytes fs p c b s h = complete d fs p (bytes c.width c.payload) b.0 h (room-here d fs p b.0)
-complete-chunk d false Text fs p c b s h = complete d fs p (text c.width c.payload) b.0 h (room-here d fs p b.0)
+complete-chunk d false Bytes fs p c b s h = complete d fs p (bytes c.width c.payload) b.0 h (room-of d fs p b.0)
+complete-chunk d false Text fs p c b s h = complete d fs p (text c.width c.payload) b.0 h (room-of d fs p b.0)
 complete-chunk d false _ fs p c b s h = absurd s
 
 abbrev IsSettled : State → Type 0
@@ -95,12 +91,12 @@ IsSettled (in_head chunk m w k acc fs) = ⊥
 IsSettled _ = Unit {0}
 
 settled : (d : ℕ) (q : State) (p : List ℕ) → IsSettled q → Stands d q p → IsBeginning d p
-settled d (at_item fs) p i o = let h : 0 < 24 = omega arith in shorter d p (0 ∷ []) (complete d fs p zero_item o h (room-here d fs p o))
+settled d (at_item fs) p i o = let h : 0 < 24 = omega arith in shorter d p (0 ∷ []) (complete d fs p zero_item o h (room-of d fs p o))
 settled d (in_head chunk m w k acc fs) p i o = absurd i
 settled d (in_simple fs) p i o =
     let h : 32 ≤ 32 = omega arith in
     let k : 32 < 256 = omega arith in
-    shorter d p (32 ∷ []) (begins-along d _ _ (sym (append_assoc o.0 (0xf8 ∷ []) (32 ∷ [])) ∙ ap (λ xs. xs ++ 32 ∷ []) (sym o.2)) (complete d fs o.0 (simple 32) o.1 (k, λ _. h) (room-here d fs o.0 o.1)))
+    shorter d p (32 ∷ []) (begins-along d _ _ (sym (append_assoc o.0 (0xf8 ∷ []) (32 ∷ [])) ∙ ap (λ xs. xs ++ 32 ∷ []) (sym o.2)) (complete d fs o.0 (simple 32) o.1 (k, λ _. h) (room-of d fs o.0 o.1)))
 settled d (in_payload chunk m n fs) p i o =
     let more = replicate (suc n) 0 in
     let whole = o.3 more (length-replicate (suc n) 0) (zero_bytes (suc n)) in

@@ -309,7 +309,7 @@ mutual
 
 -- ---- behind an item nothing of it is open
 
-over-none : (t hd all inner : ℕ) → all ≤ t → if_open t hd all inner ≡ 0
+pub over-none : (t hd all inner : ℕ) → all ≤ t → if_open t hd all inner ≡ 0
 over-none t hd all inner h = rw (le-ltb t all h) (both (nat_le hd t))
   where
     both : (b : Bool) → cond (b && false) (suc inner) 0 ≡ 0

@@ -16,23 +16,20 @@ use Rattle.cbor_builder.proofs.Growth.{given_by, ended_by, key_ready, outer_read
 use Rattle.cbor_builder.proofs.InPlace.{agrees_refl, agrees_longer, agrees_by, waits_by, waits_refl, outer_agrees, completed_same, ready_same}
 use Rattle.cbor_buffer.proofs.Written.{drop_front}
 
-same_length : (d : Draft) → IsWhole d → length d.buf ≡ length (meant d)
-same_length d w = whole_length d w
-
 -- ---- one more member
 
 pub member_ready : (o : KeyOrder) (d d' : Draft) (b : List ℕ) (ss : List Span) (f : Frame) (fs : List Frame) → Stand o d ss (f ∷ fs) → IsWhole d' → meant d' ≡ meant d ++ b → d'.buf ≡ d.buf ++ b
     → (first a val : ℕ) → f.shape ≡ Key first a val → (first ≤ length ss) × (a ≤ val) × (val ≤ length d'.buf) × AreFronted d'.buf (drop first ss)
 member_ready o d d' b ss f fs s w em eb =
-    ready_same d'.buf (meant d') ss f.shape (same_length d' w) (waits_by o d.buf (meant d) b b ss f fs d'.buf (meant d') (same_length d s.1) s.0 s.2 eb em)
+    ready_same d'.buf (meant d') ss f.shape (whole_length d' w) (waits_by o d.buf (meant d) b b ss f fs d'.buf (meant d') (whole_length d s.1) s.0 s.2 eb em)
     (key_ready o (meant d) b ss f fs (meant d') s.0 em)
 
 pub member_given : (o : KeyOrder) (d d' : Draft) (b : List ℕ) (ss : List Span) (f : Frame) (fs : List Frame) (at : ℕ) (ss' : List Span) (f' : Frame) → Stand o d ss (f ∷ fs) → Takes f.shape → IsWhole d'
     → meant d' ≡ meant d ++ b → d'.buf ≡ d.buf ++ b → at ≡ length (meant d) → Completed o ss at f d'.buf ss' f'
     → Stand o d' ss' (f' ∷ fs) × (opens (meant d') ss' (f' ∷ fs) ≡ give b (opens (meant d) ss (f ∷ fs)))
 member_given o d d' b ss f fs at ss' f' s takes w em eb ea c =
-    let l = same_length d s.1 in
-    let done = completed_same o d'.buf (meant d') ss at f ss' f' (same_length d' w) (waits_by o d.buf (meant d) b b ss f fs d'.buf (meant d') l s.0 s.2 eb em) c in
+    let l = whole_length d s.1 in
+    let done = completed_same o d'.buf (meant d') ss at f ss' f' (whole_length d' w) (waits_by o d.buf (meant d) b b ss f fs d'.buf (meant d') l s.0 s.2 eb em) c in
     let st = given_by o (meant d) b ss f fs (meant d') ss' f' (meant d') at s.0 takes em refl ea done in
     ((st.0, w, agrees_by o d.buf (meant d) b b ss f fs d'.buf (meant d') at ss' f' s.0 l s.2 takes (λ first e. refl) (λ e. refl) eb em ea done), st.1)
 
@@ -49,7 +46,7 @@ ended_waits o d d' x ss f g fs s w em (inr e) = waits_refl d'.buf (meant d') (ou
 ended_waits o d d' x ss f g fs s w em (inl t) =
     let a = length-take f.from d.buf in
     let b = length-take f.from (meant d) in
-    let l = same_length d s.1 in
+    let l = whole_length d s.1 in
     waits_by o (take f.from d.buf) (take f.from (meant d)) (drop f.from d'.buf) x (outer_spans ss f.shape) g fs d'.buf (meant d') (omega (arith, a, b, l)) s.0.3 (outer_agrees d.buf (meant d) ss f (g ∷ fs) s.2)
     (sym (take-append-drop f.from d'.buf) ∙ ap (λ (xs : List ℕ). xs ++ drop f.from d'.buf) t) em
 
@@ -60,7 +57,7 @@ ended_agrees o d d' x ss f g fs ss' g' s w takes em (inr e) key last c = agrees_
 ended_agrees o d d' x ss f g fs ss' g' s w takes em (inl t) key last c =
     let a = length-take f.from d.buf in
     let b = length-take f.from (meant d) in
-    let l = same_length d s.1 in
+    let l = whole_length d s.1 in
     let behind : drop f.from (meant d') ≡ x = ap (drop f.from) em ∙ drop_front f.from (meant d) x (omega (arith, s.0.0, s.0.1)) in
     agrees_by o (take f.from d.buf) (take f.from (meant d)) (drop f.from d'.buf) x (outer_spans ss f.shape) g fs d'.buf (meant d') f.from ss' g' s.0.3 (omega (arith, a, b, l)) (outer_agrees d.buf (meant d) ss f (g ∷ fs) s.2) takes
     (λ first e. key first e ∙ behind) (λ e. last e ∙ behind) (sym (take-append-drop f.from d'.buf) ∙ ap (λ (xs : List ℕ). xs ++ drop f.from d'.buf) t) em (omega (arith, b, s.0.0, s.0.1)) c
@@ -70,7 +67,7 @@ pub member_outer : (o : KeyOrder) (d d' : Draft) (x : List ℕ) (ss ss1 : List S
     → (first a val : ℕ) → g.shape ≡ Key first a val → (first ≤ length ss1) × (a ≤ val) × (val ≤ length d'.buf) × AreFronted d'.buf (drop first ss1)
 member_outer o d d' x ss ss1 f g fs below eb stand w em front es =
     let s = subst (λ (gs : List Frame). Stand o d ss (f ∷ gs)) eb stand in
-    ready_same d'.buf (meant d') ss1 g.shape (same_length d' w) (subst (λ (us : List Span). WaitsSame d'.buf (meant d') us g.shape) (sym es) (ended_waits o d d' x ss f g fs s w em front))
+    ready_same d'.buf (meant d') ss1 g.shape (whole_length d' w) (subst (λ (us : List Span). WaitsSame d'.buf (meant d') us g.shape) (sym es) (ended_waits o d d' x ss f g fs s w em front))
     (outer_ready o (meant d) ss ss1 f g fs below (meant d') x eb stand.0 em es)
 
 pub member_ended : (o : KeyOrder) (d d' : Draft) (ss ss1 : List Span) (f g : Frame) (fs below : List Frame) (ss' : List Span) (g' : Frame) → below ≡ g ∷ fs → Stand o d ss (f ∷ below) → IsWhole d' → Takes g.shape
@@ -81,14 +78,14 @@ member_ended o d d' ss ss1 f g fs below ss' g' eb stand w takes em front key las
     let s = subst (λ (gs : List Frame). Stand o d ss (f ∷ gs)) eb stand in
     let x = closed o (shape_open (meant d) ss f.start f.shape) in
     let inner = subst (λ (us : List Span). Completed o us f.from g d'.buf ss' g') es c in
-    let done = completed_same o d'.buf (meant d') (outer_spans ss f.shape) f.from g ss' g' (same_length d' w) (ended_waits o d d' x ss f g fs s w em front) inner in
+    let done = completed_same o d'.buf (meant d') (outer_spans ss f.shape) f.from g ss' g' (whole_length d' w) (ended_waits o d d' x ss f g fs s w em front) inner in
     let st = ended_by o (meant d) ss f g fs below (meant d') (outer_spans ss f.shape) ss' g' (meant d') f.from eb stand.0 takes em refl refl refl done in
     ((st.0, w, ended_agrees o d d' x ss f g fs ss' g' s w takes em front key last done), st.1)
 
 pub member_longer : (o : KeyOrder) (d d' : Draft) (b : List ℕ) (ss : List Span) (f : Frame) (fs : List Frame) → Stand o d ss (f ∷ fs) → IsString f.shape → IsWhole d' → meant d' ≡ meant d ++ b → d'.buf ≡ d.buf ++ b
     → Stand o d' ss (f ∷ fs) × (opens (meant d') ss (f ∷ fs) ≡ extended b (opens (meant d) ss (f ∷ fs)))
 member_longer o d d' b ss f fs s string w em el =
-    let l = same_length d s.1 in
+    let l = whole_length d s.1 in
     let st = subst (λ (xs : List ℕ). Stands o xs ss (f ∷ fs) (extended b (opens (meant d) ss (f ∷ fs)))) (sym em) (lengthened o (meant d) b ss f fs s.0 string) in
     let a = agrees_longer d.buf (meant d) b ss f fs (omega (arith, l, s.0.0, s.0.1)) (omega (arith, s.0.0, s.0.1)) string s.2 in
     ((st.0, w, subst (λ (xs : List ℕ). Agrees xs (meant d') ss (f ∷ fs)) (sym el) (subst (λ (xs : List ℕ). Agrees (d.buf ++ b) xs ss (f ∷ fs)) (sym em) a)), st.1)

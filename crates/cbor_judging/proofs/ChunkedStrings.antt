@@ -14,7 +14,7 @@ use Rattle.cbor_head.specs.Verdict.{refusal}
 use Rattle.cbor_head.specs.declared.major.Major.{Major}
 use Rattle.cbor_head.specs.declared.major.Major.TheVariants as majors
 use Rattle.cbor_head.specs.declared.width.Width.{Width}
-use Rattle.cbor_head.specs.declared.width.Width.TheVariants.{Direct, One, Two, Four, Eight, Indefinite}
+use Rattle.cbor_head.specs.declared.width.Width.TheVariants.{Indefinite}
 use Rattle.cbor_head.specs.declared.reason.Refusal.{Refusal}
 use Rattle.cbor_head.specs.declared.reason.Reason.TheVariants.{InvalidText}
 use Rattle.cbor_automaton.specs.Trace.{Mark, a_head, a_chunk, a_byte, a_break}
@@ -25,6 +25,7 @@ use Rattle.cbor_automaton.specs.declared.event.EventKind.TheVariants as kinds
 use Rattle.cbor_grammar.proofs.OneFirst.{count_last}
 use Rattle.cbor_grammar.proofs.Reasons.{string_ranked}
 use Rattle.cbor_grammar.proofs.Agree.{string_later}
+use Rattle.cbor_grammar.proofs.ReadLaws.{length_head}
 use Rattle.std.proofs.KnownBytes.{Consumes-trans}
 use Rattle.cbor_judging.specs.Place.{Container, Place, at_item, in_chunks, close, payload, IsTaking}
 use Rattle.cbor_standing.specs.NextEvent.{ItemEventsView}
@@ -92,15 +93,6 @@ starts-chunks r b fs t x e w text from i =
       content_is = refl;
       utf8 = λ y. IsUtf8-nil;
     }
-
--- a head's bytes
-head-some : (m : Major) (w : Width) (n : ℕ) → 0 < length (head m w n)
-head-some m Direct n = omega arith
-head-some m One n = omega arith
-head-some m Two n = omega arith
-head-some m Four n = omega arith
-head-some m Eight n = omega arith
-head-some m Indefinite n = omega arith
 
 pub chunk-or-end : (d : ℕ) (m : Major) (fs : List Container) (w : Width) (kind : EventKind) (bs : List ℕ) (next : Place) → IsTaking d (in_chunks m fs) (mark_of w kind) bs next → ((n : ℕ) × (kind ≡ kinds.Chunk n)) ⊎ (kind ≡ kinds.End)
 chunk-or-end d m fs w (kinds.Chunk n) bs next h = inl (n, refl)
@@ -340,4 +332,4 @@ module _ (r : Rules) (b : Bounds) (fs : List Container) (t x : List ℕ) (text :
       pub chunk-farther : (q : List ℕ) → length (t ++ chunks_bytes (string_major text) a.done) < length (((t ++ chunks_bytes (string_major text) a.done) ++ n.bytes) ++ q)
       chunk-farther q =
           let y = t ++ chunks_bytes (string_major text) a.done in
-          omega (arith, length-append (y ++ n.bytes) q, length-append y n.bytes, ap length hd.bytes_are, head-some (string_major text) ev.width k)
+          omega (arith, length-append (y ++ n.bytes) q, length-append y n.bytes, ap length hd.bytes_are, length_head (string_major text) ev.width k)

@@ -55,8 +55,8 @@ pub members_right : (ss ts : Spellings) (r : Rules) (at to : ℕ) (c : Complaint
 members_right no_spellings ts r at to c e h = let f : to ≡ at = omega arith in subst (λ (n : ℕ). ComplainsIn r n ts c) f h
 members_right (a_spelling s ss) ts r at to c e h = inr (members_right ss ts r (at + length (spell s)) to c (omega (arith, e, length-append (spell s) (spell_all ss))) h)
 
-three : (k v : Spelling) (es : SpelledEntries) → length (spell_entries (entry k v es)) ≡ length (spell k) + length (spell v) + length (spell_entries es)
-three k v es = omega (arith, length-append (spell k ++ spell v) (spell_entries es), length-append (spell k) (spell v))
+pub pair_size : (k v : Spelling) (es : SpelledEntries) → length (spell_entries (entry k v es)) ≡ length (spell k) + length (spell v) + length (spell_entries es)
+pair_size k v es = omega (arith, length-append (spell k ++ spell v) (spell_entries es), length-append (spell k) (spell v))
 
 pub entries_split : (es fs : SpelledEntries) (ks : List Spelling) (r : Rules) (at to : ℕ) (c : Complaint) → to ≡ at + length (spell_entries es) → ComplainsInEntries r at ks (with_entries es fs) c
     → ComplainsInEntries r at ks es c ⊎ ComplainsInEntries r to (keys_onto ks es) fs c
@@ -65,12 +65,12 @@ entries_split (entry k v es) fs ks r at to c e (inl h) = inl (inl h)
 entries_split (entry k v es) fs ks r at to c e (inr (inl h)) = inl (inr (inl h))
 entries_split (entry k v es) fs ks r at to c e (inr (inr (inl h))) = inl (inr (inr (inl h)))
 entries_split (entry k v es) fs ks r at to c e (inr (inr (inr h))) =
-    elim (entries_split es fs (k ∷ ks) r (at + length (spell k) + length (spell v)) to c (omega (arith, e, three k v es)) h) [ inl x ↦ inl (inr (inr (inr x))) | inr y ↦ inr y ]
+    elim (entries_split es fs (k ∷ ks) r (at + length (spell k) + length (spell v)) to c (omega (arith, e, pair_size k v es)) h) [ inl x ↦ inl (inr (inr (inr x))) | inr y ↦ inr y ]
 
 pub entries_right : (es fs : SpelledEntries) (ks : List Spelling) (r : Rules) (at to : ℕ) (c : Complaint) → to ≡ at + length (spell_entries es) → ComplainsInEntries r to (keys_onto ks es) fs c → ComplainsInEntries r at ks (with_entries es fs) c
 entries_right no_entries fs ks r at to c e h = let f : to ≡ at = omega arith in subst (λ (n : ℕ). ComplainsInEntries r n ks fs c) f h
 entries_right (entry k v es) fs ks r at to c e h =
-    inr (inr (inr (entries_right es fs (k ∷ ks) r (at + length (spell k) + length (spell v)) to c (omega (arith, e, three k v es)) h)))
+    inr (inr (inr (entries_right es fs (k ∷ ks) r (at + length (spell k) + length (spell v)) to c (omega (arith, e, pair_size k v es)) h)))
 
 -- ---- bytes, validity and depth of what is plugged
 

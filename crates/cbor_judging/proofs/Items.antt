@@ -12,6 +12,7 @@ use Rattle.cbor_head.specs.declared.width.Width.{Width}
 use Rattle.cbor_head.specs.declared.width.Width.TheVariants.{Direct, One, Two, Four, Eight, Indefinite}
 use Rattle.cbor_head.specs.declared.reason.Refusal.{Refusal}
 use Rattle.cbor_grammar.proofs.OneFirst.{last, count_last}
+use Rattle.cbor_grammar.proofs.ReadLaws.{length_head}
 use Rattle.cbor_automaton.specs.Trace.{Mark, a_head, a_chunk, a_byte, a_break}
 use Rattle.cbor_judging.specs.Place.{Container, Place, at_item, Follows, Opens, IsTaking}
 use Rattle.cbor_automaton.specs.Marks as marks
@@ -178,21 +179,13 @@ cut-judged r b fs t taken to f c =
 
 -- ---- the item that is due
 
-head-some : (m : Major) (w : Width) (n : ℕ) → 0 < length (head m w n)
-head-some m Direct n = omega arith
-head-some m One n = omega arith
-head-some m Two n = omega arith
-head-some m Four n = omega arith
-head-some m Eight n = omega arith
-head-some m Indefinite n = omega arith
-
 pub taking-some : (d : ℕ) (fs : List Container) (mark : Mark) (bs : List ℕ) (next : Place) → IsTaking d (at_item fs) mark bs next → 0 < length bs
-taking-some d fs (a_head m Indefinite n) bs next h = omega (arith, ap length h.1, head-some m Indefinite 0)
-taking-some d fs (a_head m Direct n) bs next h = omega (arith, ap length h.0, head-some m Direct n)
-taking-some d fs (a_head m One n) bs next h = omega (arith, ap length h.0, head-some m One n)
-taking-some d fs (a_head m Two n) bs next h = omega (arith, ap length h.0, head-some m Two n)
-taking-some d fs (a_head m Four n) bs next h = omega (arith, ap length h.0, head-some m Four n)
-taking-some d fs (a_head m Eight n) bs next h = omega (arith, ap length h.0, head-some m Eight n)
+taking-some d fs (a_head m Indefinite n) bs next h = omega (arith, ap length h.1, length_head m Indefinite 0)
+taking-some d fs (a_head m Direct n) bs next h = omega (arith, ap length h.0, length_head m Direct n)
+taking-some d fs (a_head m One n) bs next h = omega (arith, ap length h.0, length_head m One n)
+taking-some d fs (a_head m Two n) bs next h = omega (arith, ap length h.0, length_head m Two n)
+taking-some d fs (a_head m Four n) bs next h = omega (arith, ap length h.0, length_head m Four n)
+taking-some d fs (a_head m Eight n) bs next h = omega (arith, ap length h.0, length_head m Eight n)
 taking-some d fs a_break bs next h = omega (arith, ap length h.0)
 taking-some d fs (a_chunk w n) bs next h = absurd h
 taking-some d fs a_byte bs next h = absurd h

@@ -12,7 +12,7 @@ use Rattle.cbor_grammar.proofs.ReadLaws.{length_head, length_spell}
 use Rattle.cbor_judging.specs.Frame.{Frame, a_member, a_key, a_content, tagged, with_all, with_entries, plug, before, behind}
 use Rattle.cbor_judging.specs.Kinds.{IsKeyFrame, IsKeyDue, plug_all}
 use Rattle.cbor_judging.specs.OpenMaps.{before_all, ArePath}
-use Rattle.cbor_judging.proofs.Frames.{count_with, entries_with, spell_plug, spelled_plug, depth_plug}
+use Rattle.cbor_judging.proofs.Frames.{count_with, entries_with, pair_size, spell_plug, spelled_plug, depth_plug}
 
 -- ---- of two lists
 
@@ -26,20 +26,17 @@ in_right : (ss ts : Spellings) (at to : ℕ) (c : Complaint) → to ≡ at + len
 in_right no_spellings ts at to c e h = let f : to ≡ at = omega (arith, e) in subst (λ (n : ℕ). OfKindsIn n ts c) f h
 in_right (a_spelling s ss) ts at to c e h = inr (in_right ss ts (at + length (spell s)) to c (omega (arith, e, length-append (spell s) (spell_all ss))) h)
 
-three : (k v : Spelling) (es : SpelledEntries) → length (spell_entries (entry k v es)) ≡ length (spell k) + length (spell v) + length (spell_entries es)
-three k v es = omega (arith, length-append (spell k ++ spell v) (spell_entries es), length-append (spell k) (spell v))
-
 entries_split : (es fs : SpelledEntries) (at to : ℕ) (c : Complaint) → to ≡ at + length (spell_entries es) → OfKindsInEntries at (with_entries es fs) c → OfKindsInEntries at es c ⊎ OfKindsInEntries to fs c
 entries_split no_entries fs at to c e h = let f : at ≡ to = omega (arith, e) in inr (subst (λ (n : ℕ). OfKindsInEntries n fs c) f h)
 entries_split (entry k v es) fs at to c e (inl h) = inl (inl h)
 entries_split (entry k v es) fs at to c e (inr (inl h)) = inl (inr (inl h))
 entries_split (entry k v es) fs at to c e (inr (inr (inl h))) = inl (inr (inr (inl h)))
 entries_split (entry k v es) fs at to c e (inr (inr (inr h))) =
-    elim (entries_split es fs (at + length (spell k) + length (spell v)) to c (omega (arith, e, three k v es)) h) [ inl x ↦ inl (inr (inr (inr x))) | inr y ↦ inr y ]
+    elim (entries_split es fs (at + length (spell k) + length (spell v)) to c (omega (arith, e, pair_size k v es)) h) [ inl x ↦ inl (inr (inr (inr x))) | inr y ↦ inr y ]
 
 entries_right : (es fs : SpelledEntries) (at to : ℕ) (c : Complaint) → to ≡ at + length (spell_entries es) → OfKindsInEntries to fs c → OfKindsInEntries at (with_entries es fs) c
 entries_right no_entries fs at to c e h = let f : to ≡ at = omega (arith, e) in subst (λ (n : ℕ). OfKindsInEntries n fs c) f h
-entries_right (entry k v es) fs at to c e h = inr (inr (inr (entries_right es fs (at + length (spell k) + length (spell v)) to c (omega (arith, e, three k v es)) h)))
+entries_right (entry k v es) fs at to c e h = inr (inr (inr (entries_right es fs (at + length (spell k) + length (spell v)) to c (omega (arith, e, pair_size k v es)) h)))
 
 -- ---- of one container
 

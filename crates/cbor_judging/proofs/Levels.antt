@@ -8,7 +8,7 @@ use Rattle.cbor_head.specs.Complaint.{plain, Complaint, OfCount, OfChunks, Compl
 use Rattle.cbor_head.specs.declared.major.Major.{Major}
 use Rattle.cbor_head.specs.declared.major.Major.TheVariants as majors
 use Rattle.cbor_head.specs.declared.width.Width.{Width}
-use Rattle.cbor_head.specs.declared.width.Width.TheVariants.{Direct, One, Two, Four, Eight, Indefinite}
+use Rattle.cbor_head.specs.declared.width.Width.TheVariants.{Indefinite}
 use Rattle.cbor_judging.specs.Frame.{with_all, with_entries}
 use Rattle.cbor_judging.specs.Levels.{IsClean, IsTaken, AreTaken, ArePairsTaken}
 use Rattle.cbor_judging.proofs.Arrays.{closes}
@@ -20,12 +20,8 @@ use Rattle.cbor_judging.proofs.Loops.{array_bytes-more, array_bytes-whole, map_b
 -- ---- complaints, wherever an item stands
 
 pub no-count : (at : ℕ) (m : Major) (w : Width) (n : ℕ) → Never (OfCount plain at m w n)
-no-count at m Direct n c h = cc h.0
-no-count at m One n c h = cc h.0
-no-count at m Two n c h = cc h.0
-no-count at m Four n c h = cc h.0
-no-count at m Eight n c h = cc h.0
 no-count at m Indefinite n c h = cc h.0
+no-count at m _ n c h = cc h.0
 
 chunks-move : (m : Major) (ks : List Chunk) (at to : ℕ) (c : Complaint) → OfChunks plain at m ks c → (e : Complaint) × OfChunks plain to m ks e
 chunks-move m [] at to c h = absurd h

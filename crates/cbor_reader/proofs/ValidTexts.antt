@@ -5,15 +5,13 @@ use Rattle.std.specs.List.{AllByRecursion}
 use Rattle.cbor_head.specs.Value as value
 use Rattle.cbor_head.specs.Value.{Value, Entries, HasEntry, HasDistinctKeys, Same, IsValid, AreValid, AreEntriesValid}
 use Rattle.cbor_head.specs.Spelling.{Chunk, Spelling, Spellings, SpelledEntries, unsigned, negative, bytes, text, byte_chunks, text_chunks, array, a_map, tag, simple, no_spellings, a_spelling, no_entries, entry, spellings_count, entries_count, value_of, values_of, entries_of}
-use Rattle.cbor_head.specs.Complaint.{Rules, plain, strict, IsRepeated, OfPayload, OfChunks, OfCount, Complains, ComplainsIn, ComplainsInEntries}
+use Rattle.cbor_head.specs.Complaint.{Rules, plain, strict, IsRepeated, OfPayload, OfChunks, Complains, ComplainsIn, ComplainsInEntries}
 use Rattle.cbor_head.specs.declared.order.KeyOrder.{KeyOrder}
-use Rattle.cbor_head.specs.declared.major.Major.{Major}
 use Rattle.cbor_head.specs.declared.major.Major.TheVariants.{Bytes, Text, Array, Map}
-use Rattle.cbor_head.specs.declared.width.Width.{Width}
-use Rattle.cbor_head.specs.declared.width.Width.TheVariants.{Indefinite}
 use Rattle.cbor_canonical.proofs.Stable.{utf8_stable}
 use Rattle.cbor_reader.specs.Headline.{HasValidTexts, HaveValidTexts, EntriesHaveValidTexts}
 use Rattle.cbor_judging.specs.Judged.{Never}
+use Rattle.cbor_judging.proofs.Levels.{no-count}
 use Rattle.cbor_judging.proofs.Valid.{valid_of}
 
 -- ---- without complaint on a text, by rules that ask for them to be UTF-8
@@ -73,10 +71,6 @@ no_byte_chunk [] at c x = x
 no_byte_chunk (k ∷ ks) at c (inl x) = cc x.0
 no_byte_chunk (k ∷ ks) at c (inr x) = no_byte_chunk ks _ c x
 
-no_count : (at : ℕ) (m : Major) (w : Width) (n : ℕ) → Never (OfCount plain at m w n)
-no_count at m Indefinite n c x = cc x.0
-no_count at m _ n c x = cc x.0
-
 mutual
   none_plain : (s : Spelling) (at : ℕ) → HasValidTexts s → IsValid (value_of s) → Never (Complains plain at s)
   none_plain (text w q) at u v c (inl x) = cc x.0
@@ -85,9 +79,9 @@ mutual
   none_plain (byte_chunks cs) at u v c (inr x) = no_byte_chunk cs _ c x
   none_plain (text_chunks cs) at u v c (inl x) = cc x.0
   none_plain (text_chunks cs) at u v c (inr x) = no_chunk cs _ u c x
-  none_plain (array w ss) at u v c (inl x) = no_count at Array w (spellings_count ss) c x
+  none_plain (array w ss) at u v c (inl x) = no-count at Array w (spellings_count ss) c x
   none_plain (array w ss) at u v c (inr x) = none_in ss _ u v c x
-  none_plain (a_map w es) at u v c (inl x) = no_count at Map w (entries_count es) c x
+  none_plain (a_map w es) at u v c (inl x) = no-count at Map w (entries_count es) c x
   none_plain (a_map w es) at u v c (inr x) = none_in_entries es [] _ u v.0 v.1 tt c x
   none_plain (tag w n s) at u v c (inl x) = cc x.0
   none_plain (tag w n s) at u v c (inr x) = none_plain s _ u v c x

@@ -13,7 +13,7 @@ use Rattle.cbor_head.specs.declared.reason.Reason.{Reason}
 use Rattle.cbor_head.specs.declared.reason.Reason.TheVariants.{Read, Truncated, TooLong}
 use Rattle.cbor_head.specs.declared.reason.Refusal.{Refusal}
 use Rattle.cbor_automaton.specs.Trace.{Mark}
-use Rattle.cbor_automaton.specs.Automaton.{State, start, done, take_byte, run, reached}
+use Rattle.cbor_automaton.specs.Automaton.{State, start, take_byte, run, reached}
 use Rattle.cbor_steps.specs.State.{state_of, is_done}
 use Rattle.cbor_standing.specs.inner.Machine.{IsShown}
 use Rattle.cbor_standing.specs.MachineView.{MachineView}
@@ -22,11 +22,10 @@ use Rattle.cbor_standing.specs.Steps.{Ran, Stopped, IsStep}
 use Rattle.cbor_standing.specs.Calls.{HasRead}
 use Rattle.cbor_standing.specs.NextEvent.{Call, IsCut, IsTooLong, HasFormError}
 use Rattle.cbor_standing.specs.declared.step.Out.TheVariants as outs
-use Rattle.cbor_automaton.proofs.Beginnings.{item-done}
 use Rattle.cbor_automaton.proofs.Refusals.{IsUnfinished, refuses-rightly}
 use Rattle.cbor_grammar.proofs.Verdicts.{item_one}
 use Rattle.cbor_automaton.proofs.Runs.{run-on, silent-unfinished, sane-run}
-use Rattle.cbor_standing.proofs.Standing.{are_bytes-append, meant, shown-before, shown-after, unfinished-position}
+use Rattle.cbor_standing.proofs.Standing.{are_bytes-append, meant, not-whole, shown-before, shown-after, unfinished-position}
 use Rattle.cbor_standing.proofs.Form.{never, refusal-verdict}
 
 -- a beginning that is the whole input, within the limit, and no item
@@ -45,12 +44,6 @@ cut-verdict limits p b unfinished short =
         inr (short, refl),
       );
     }
-
-not-whole : (d : ℕ) (t : List ℕ) (q : State) (ms : List Mark) → run d start t ≡ reached q ms → IsUnfinished q → ¬ IsWhole d t
-not-whole d t q ms e u = λ w.
-    let all = sym (item-done d w.0 t w.1) ∙ e in
-    let same : q ≡ done = cc in
-    subst IsUnfinished same u
 
 -- the item was not complete before the machine read, where it is not now
 pub still-due : (from to : Option (List ℕ)) (old mid : MachineView) (t : List ℕ) (ms : List Mark) → StandsFor old t ms → HasRead from to mid t ms → mid.depth ≡ old.depth → ¬ IsComplete mid → ¬ IsComplete old

@@ -126,7 +126,7 @@ meant m t ms b e sound bounded taken limited next live = record {
 }
 
 -- what was reached without the end is no whole item
-not-whole : (d : ℕ) (t : List ℕ) (q : State) (ms : List Mark) → run d start t ≡ reached q ms → IsUnfinished q → ¬ IsWhole d t
+pub not-whole : (d : ℕ) (t : List ℕ) (q : State) (ms : List Mark) → run d start t ≡ reached q ms → IsUnfinished q → ¬ IsWhole d t
 not-whole d t q ms e u = λ w.
     let all = sym (item-done d w.0 t w.1) ∙ e in
     let same : q ≡ done = cc in

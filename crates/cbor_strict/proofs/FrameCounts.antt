@@ -11,7 +11,7 @@ use Rattle.cbor_judging.specs.Frame.{Frame, a_member, a_key, a_content, tagged, 
 use Rattle.cbor_strict.specs.inner.LastKeys.{is_key, complete_key}
 use Rattle.cbor_judging.specs.LastKey.{last_key}
 use Rattle.cbor_judging.specs.OpenMaps.{before_all}
-use Rattle.cbor_judging.proofs.Frames.{count_with, entries_with, spell_plug}
+use Rattle.cbor_judging.proofs.Frames.{count_with, entries_with, pair_size, spell_plug}
 
 -- ---- what a path of containers counts, the outermost first
 
@@ -31,9 +31,6 @@ keys_size [] n = 0
 keys_size (f ∷ fs) n = length (complete_key f) + (if is_key f then length (before_all fs) + n else keys_size fs n)
 
 -- ---- one container
-
-pair_size : (k v : Spelling) (es : SpelledEntries) → length (spell_entries (entry k v es)) ≡ length (spell k) + length (spell v) + length (spell_entries es)
-pair_size k v es = omega (arith, length-append (spell k ++ spell v) (spell_entries es), length-append (spell k) (spell v))
 
 pub members_size : (s : Spelling) (ss : Spellings) → length (spell_all (a_spelling s ss)) ≡ length (spell s) + length (spell_all ss)
 members_size s ss = length-append (spell s) (spell_all ss)

@@ -1,12 +1,11 @@
 -- How many maps are open, and how many bytes of keys are kept, is what each item that starts with the bytes read tells of them.
-use Rattle.std.proofs.Common.{◌≡◌, ℕ, suc, ◌+◌, ◌-◌, ◌<◌, ◌≤◌, Bool, true, false, List, [], ◌∷◌, ◌++◌, length, refl, sym, ap, ◌∙◌, subst, arith, append_assoc}
-use Rattle.std.specs.Prelude.{◌&&◌, nat_le, if◌then◌else◌}
+use Rattle.std.proofs.Common.{◌≡◌, ℕ, ◌+◌, ◌-◌, ◌<◌, ◌≤◌, List, [], ◌∷◌, ◌++◌, length, refl, sym, ap, ◌∙◌, subst, arith, append_assoc}
 use Rattle.std.proofs.lemmas.Bool.{le-ltb}
 use Rattle.std.proofs.lemmas.List.{length-append}
 use Rattle.cbor_head.specs.Head.{head}
 use Rattle.cbor_head.specs.Spelling.{Spelling, Spellings, unsigned, negative, bytes, text, byte_chunks, text_chunks, array, a_map, tag, simple, no_spellings, a_spelling, spell, spell_all, spellings_count, entries_count, break_of, IsSpelled}
 use Rattle.cbor_head.specs.declared.major.Major.TheVariants.{Array, Map, Tag}
-use Rattle.cbor_automaton.specs.Open.{if_open}
+use Rattle.cbor_automaton.proofs.Opens.{over-none}
 use Rattle.cbor_strict.specs.KeptKeys.{open_maps, open_maps_in, key_bytes, key_bytes_in}
 use Rattle.cbor_judging.specs.Frame.{Frame, before, behind, IsFrame}
 use Rattle.cbor_judging.specs.OpenMaps.{before_all}
@@ -44,13 +43,6 @@ path_counts (f ∷ fs) p h base s x u i e =
     })
 
 -- ---- behind an item
-
-over-none : (n from all inner : ℕ) → all ≤ n → if_open n from all inner ≡ 0
-over-none n from all inner h = rw (le-ltb n all h) (both (nat_le from n))
-  where
-    both : (b : Bool) → (if b && false then suc inner else 0) ≡ 0
-    both true = refl
-    both false = refl
 
 mutual
   pub maps_past : (s : Spelling) (n : ℕ) → length (spell s) ≤ n → open_maps n s ≡ 0

@@ -14,6 +14,7 @@ use Rattle.cbor_head.specs.declared.width.Width.{Width}
 use Rattle.cbor_head.specs.declared.width.Width.TheVariants.{Direct, One, Two, Four, Eight, Indefinite}
 use Rattle.cbor_grammar.specs.FirstBytes.{is_basic}
 use Rattle.cbor_grammar.proofs.KeyKinds.{basic_byte}
+use Rattle.cbor_grammar.proofs.ReadLaws.{length_head}
 use Rattle.cbor_automaton.specs.Trace.{Mark, a_head, a_break}
 use Rattle.cbor_automaton.specs.Automaton as automaton
 use Rattle.cbor_automaton.specs.Marks.{mark_of, count_of}
@@ -170,14 +171,6 @@ string_begins is_text w n left q holds are_bytes l =
       bytes = made-spells is_text w (q ++ more) ∙ ap (λ (k : ℕ). head (string_major is_text) w k ++ (q ++ more)) size ∙ sym (append_assoc (head (string_major is_text) w n) q more);
     }
 
-pub some_head : (m : Major) (w : Width) (n : ℕ) → 0 < length (head m w n)
-some_head m Direct n = omega arith
-some_head m One n = omega arith
-some_head m Two n = omega arith
-some_head m Four n = omega arith
-some_head m Eight n = omega arith
-some_head m Indefinite n = omega arith
-
 -- and more of it comes
 pub keeps_string : (limits : Bounds) (r : Rules) (fs : List Frame) (left : ℕ) → length fs + left ≡ limits.depth → ArePath left fs → (is_text : Bool) (w : Width) (n : ℕ) (q y : List ℕ) → Holds w n → AreBytes (q ++ y) → length (q ++ y) ≤ n
     → IsBeginning limits.depth (before_all fs ++ (head (string_major is_text) w n ++ q)) → KeepsToKinds limits r (before_all fs ++ (head (string_major is_text) w n ++ q)) → KeepsToKinds limits r (before_all fs ++ (head (string_major is_text) w n ++ (q ++ y)))
@@ -185,5 +178,5 @@ keeps_string limits r fs left levels path is_text w n q y holds are_bytes l begi
     let hd = head (string_major is_text) w n in
     let same = append_assoc hd q y in
     subst (λ (x : List ℕ). KeepsToKinds limits r (before_all fs ++ x)) same
-    (keeps_further limits r fs left levels path (hd ++ q) y (omega (arith, some_head (string_major is_text) w n, length-append hd q)) (subst (Begins left) (sym same) (string_begins is_text w n left (q ++ y) holds are_bytes l))
+    (keeps_further limits r fs left levels path (hd ++ q) y (omega (arith, length_head (string_major is_text) w n, length-append hd q)) (subst (Begins left) (sym same) (string_begins is_text w n left (q ++ y) holds are_bytes l))
     (subst IsOfOneHead (sym same) (string_one is_text w n (q ++ y) (open_or w n holds))) begins keeps)

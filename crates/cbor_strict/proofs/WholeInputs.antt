@@ -20,7 +20,7 @@ some-so (Some x) P Q f h = f x h
 
 -- ---- strictly
 
-read-canonical : (limits : Bounds) (o : KeyOrder) (input : List ℕ) (count : ℕ) → IsRead limits (strict o) input count → IsCanonicalFront limits o input count
+pub read-canonical : (limits : Bounds) (o : KeyOrder) (input : List ℕ) (count : ℕ) → IsRead limits (strict o) input count → IsCanonicalFront limits o input count
 read-canonical limits o input count i = record {
   value = value_of i.item;
   begins = strict_value limits o input i.item i.verdict;
