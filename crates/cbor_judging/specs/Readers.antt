@@ -34,6 +34,10 @@ pub data IsUnread (limits : Bounds) (r : Rules) (input : List ℕ) (f : Refusal)
   of_memory : (p : List ℕ) → IsLongestBeginning limits.depth (take limits.bytes input) p → f.read ≤ length p → f ≡ refusal Memory f.read f.read
       → IsFreeBefore limits r p f.read → IsUnread limits r input f
 
+-- memory that was refused is told at the front of a slice, whatever had been taken
+abbrev pub TellsMemoryAtFront : Refusal → Type 0
+TellsMemoryAtFront f = f.reason ≡ Memory → f ≡ refusal Memory 0 0
+
 -- a reader that had these bytes lost the first so many of them
 abbrev pub Loses : ℕ → Option (List ℕ) → Option (List ℕ) → Type 0
 Loses k old new = IfSome old (λ input. (new ≡ Some (drop k input)) × (k ≤ length input))

@@ -4,10 +4,10 @@ ghost use Rattle.std.specs.Prelude.{◌≡◌, ◌≢◌, ◌↔◌, ◌≤◌, 
 ghost use Rattle.cbor_head.specs.Limits.{bounds, with_keys};
 ghost use Rattle.cbor_head.specs.Spelling.{Spelling, value_of};
 ghost use Rattle.cbor_head.specs.Value.{Same};
-ghost use Rattle.cbor_head.specs.Verdict.{refusal};
 ghost use Rattle.cbor_head.specs.declared.keys.Keys.{Keys};
 ghost use Rattle.cbor_head.specs.declared.order.KeyOrder.{KeyOrder};
 ghost use Rattle.cbor_head.specs.declared.reason.Reason.TheVariants as reasons;
+ghost use Rattle.cbor_judging.specs.Readers.{TellsMemoryAtFront};
 ghost use Rattle.cbor_reader.specs.Canonicalise.{IsCanonicalOf};
 ghost use Rattle.cbor_reader.specs.Comparing.{MeanTheSame, IsSideRefusal};
 ghost use Rattle.cbor_reader.specs.Headline.{IsValidItem};
@@ -48,8 +48,7 @@ pub fn same_meaning(
         → IsValidItem limits right.now t
         → IsTrue same ↔ Same (value_of s) (value_of t)) }
     ensures refused { IfErr result (λ e. IsSideRefusal limits left.now right.now e.0 e.1) }
-    ensures memory { IfErr result
-        (λ e. e.1.reason ≡ reasons.Memory → e.1 ≡ refusal reasons.Memory 0 0) }
+    ensures memory { IfErr result (λ e. TellsMemoryAtFront e.1) }
     ensures only { IfErr result (λ e. e.1.reason ≢ reasons.Memory
         → IsWholeItem limits left.now
         → ¬ IsWholeItem limits right.now) }

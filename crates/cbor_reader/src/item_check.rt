@@ -1,11 +1,10 @@
 //! Items that are checked one after another.
 
-ghost use Rattle.std.specs.Prelude.{◌≡◌, ◌≢◌, [], IfOk, IfErr};
+ghost use Rattle.std.specs.Prelude.{◌≢◌, [], IfOk, IfErr};
 ghost use Rattle.cbor_head.specs.Complaint.{plain};
-ghost use Rattle.cbor_head.specs.Verdict.{refusal};
 ghost use Rattle.cbor_head.specs.declared.reason.Reason.TheVariants as reasons;
 ghost use Rattle.cbor_judging.specs.Levels.{item_due};
-ghost use Rattle.cbor_judging.specs.Readers.{IsRead, IsUnread};
+ghost use Rattle.cbor_judging.specs.Readers.{IsRead, IsUnread, TellsMemoryAtFront};
 ghost use Rattle.cbor_sinks.specs.KeyBytes.{keys_stand};
 
 use cbor_head::{KeyOrder, Limits, Reason, Refusal};
@@ -44,8 +43,7 @@ impl ItemCheck {
         ensures accepted { IfOk result (λ count. IsRead limits plain bytes.now count) }
         ensures refused { IfErr result (λ f. IsUnread limits plain bytes.now f) }
         ensures no_read { IfErr result (λ f. f.reason ≢ reasons.Read) }
-        ensures memory { IfErr result
-            (λ f. f.reason ≡ reasons.Memory → f ≡ refusal reasons.Memory 0 0) }
+        ensures memory { IfErr result TellsMemoryAtFront }
     {
         if self.pause > 0 {
             self.pause -= 1;
@@ -77,8 +75,7 @@ pub(crate) fn size_by_keys(
     ensures accepted { IfOk result (λ count. IsRead limits plain bytes.now count) }
     ensures refused { IfErr result (λ f. IsUnread limits plain bytes.now f) }
     ensures no_read { IfErr result (λ f. f.reason ≢ reasons.Read) }
-    ensures memory { IfErr result
-        (λ f. f.reason ≡ reasons.Memory → f ≡ refusal reasons.Memory 0 0) }
+    ensures memory { IfErr result TellsMemoryAtFront }
 {
     match building.give_front(bytes, limits) {
         Ok(size) => Ok(size),

@@ -1,10 +1,9 @@
 //! The item at the front of a slice, if it is valid.
 
-ghost use Rattle.std.specs.Prelude.{◌≡◌, ◌≢◌, IfOk, IfErr};
+ghost use Rattle.std.specs.Prelude.{◌≢◌, IfOk, IfErr};
 ghost use Rattle.cbor_head.specs.Complaint.{plain};
-ghost use Rattle.cbor_head.specs.Verdict.{refusal};
 ghost use Rattle.cbor_head.specs.declared.reason.Reason.TheVariants as reasons;
-ghost use Rattle.cbor_judging.specs.Readers.{IsRead, IsUnread};
+ghost use Rattle.cbor_judging.specs.Readers.{IsRead, IsUnread, TellsMemoryAtFront};
 
 use crate::item_check::{canonical_size, size_by_keys};
 use cbor_head::{Limits, Refusal};
@@ -23,8 +22,7 @@ pub fn check_valid(alloc: Global, bytes: &[u8], limits: Limits) -> Result<u64, R
     ensures accepted { IfOk result (λ count. IsRead limits plain bytes.now count) }
     ensures refused { IfErr result (λ f. IsUnread limits plain bytes.now f) }
     ensures no_read { IfErr result (λ f. f.reason ≢ reasons.Read) }
-    ensures memory { IfErr result
-        (λ f. f.reason ≡ reasons.Memory → f ≡ refusal reasons.Memory 0 0) }
+    ensures memory { IfErr result TellsMemoryAtFront }
 {
     if let Ok(size) = canonical_size(bytes, limits) {
         return Ok(size);

@@ -4,10 +4,9 @@ ghost use Rattle.std.specs.Prelude.{◌≡◌, ◌≢◌, ◌≤◌, ◌^◌, If
 ghost use Rattle.cbor_head.specs.Complaint.{plain};
 ghost use Rattle.cbor_head.specs.Spelling.{Spelling, value_of};
 ghost use Rattle.cbor_head.specs.Value.{depth, IsInRange, IsValid};
-ghost use Rattle.cbor_head.specs.Verdict.{refusal};
 ghost use Rattle.cbor_head.specs.declared.limits.TheConstants.{MAX_DEPTH};
 ghost use Rattle.cbor_head.specs.declared.reason.Reason.TheVariants as reasons;
-ghost use Rattle.cbor_judging.specs.Readers.{IsReadAs, IsUnread};
+ghost use Rattle.cbor_judging.specs.Readers.{IsReadAs, IsUnread, TellsMemoryAtFront};
 ghost use Rattle.cbor_judging.specs.Refusals.{IsReaderReason};
 ghost use Rattle.cbor_reader.specs.Headline.{IsValidItem};
 ghost use Rattle.cbor_plain.specs.Size.{size};
@@ -46,8 +45,7 @@ pub fn read_view<'a>(
     ensures refused { IfErr result (λ f. IsUnread limits plain bytes.now f) }
     ensures reason { IfErr result (λ f. IsReaderReason limits plain f.reason) }
     ensures no_read { IfErr result (λ f. f.reason ≢ reasons.Read) }
-    ensures memory { IfErr result
-        (λ f. f.reason ≡ reasons.Memory → f ≡ refusal reasons.Memory 0 0) }
+    ensures memory { IfErr result TellsMemoryAtFront }
 {
     // What any limits keep to.
     let _depth = limits.depth();
@@ -75,8 +73,7 @@ pub fn whole_view<'a>(
     ensures in_range { IfOk result (λ view. IsInRange (seen view)) }
     ensures valid { IfOk result (λ view. IsValid (seen view)) }
     ensures refused { IfErr result (IsItemRefusal limits bytes.now) }
-    ensures memory { IfErr result
-        (λ f. f.reason ≡ reasons.Memory → f ≡ refusal reasons.Memory 0 0) }
+    ensures memory { IfErr result TellsMemoryAtFront }
 {
     match read_view(alloc, bytes, limits, arena) {
         Ok((view, size)) => {

@@ -4,8 +4,7 @@ ghost use Rattle.std.specs.Prelude.{◌≡◌, true, false, IfOk, IfErr, IsOk};
 ghost use Rattle.std.specs.Cow.{cow_slice_items};
 ghost use Rattle.cbor_head.specs.Canonical.{canonical};
 ghost use Rattle.cbor_head.specs.Spelling.{Spelling, value_of};
-ghost use Rattle.cbor_head.specs.Verdict.{refusal};
-ghost use Rattle.cbor_head.specs.declared.reason.Reason.TheVariants as reasons;
+ghost use Rattle.cbor_judging.specs.Readers.{TellsMemoryAtFront};
 ghost use Rattle.cbor_reader.specs.Canonicalise.{IsCanonicalOf};
 ghost use Rattle.cbor_reader.specs.Headline.{IsValidItem};
 ghost use Rattle.cbor_reader.specs.WholeItem.{IsItemRefusal};
@@ -28,8 +27,7 @@ pub(crate) fn encoded_item<'a>(
         × IsValidItem limits bytes.now s
         × (cow_slice_items c ≡ canonical order (value_of s))) }
     ensures refused { IfErr result (IsItemRefusal limits bytes.now) }
-    ensures memory { IfErr result
-        (λ f. f.reason ≡ reasons.Memory → f ≡ refusal reasons.Memory 0 0) }
+    ensures memory { IfErr result TellsMemoryAtFront }
     ensures own { IsCanonicalOf limits order bytes.now bytes.now → IsOk result }
 {
     if is_canonical(bytes, limits, order) {

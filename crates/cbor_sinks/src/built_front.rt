@@ -1,10 +1,9 @@
 //! The canonical bytes of the valid item at the front of a slice.
 
-ghost use Rattle.std.specs.Prelude.{◌≡◌, ◌≢◌, IfOk, IfErr, IfSome, MatchResult};
+ghost use Rattle.std.specs.Prelude.{◌≢◌, IfOk, IfErr, IfSome, MatchResult};
 ghost use Rattle.cbor_head.specs.Complaint.{plain};
-ghost use Rattle.cbor_head.specs.Verdict.{refusal};
 ghost use Rattle.cbor_head.specs.declared.reason.Reason.TheVariants as reasons;
-ghost use Rattle.cbor_judging.specs.Readers.{IsUnread};
+ghost use Rattle.cbor_judging.specs.Readers.{IsUnread, TellsMemoryAtFront};
 ghost use Rattle.cbor_sinks.specs.BuiltFront.{IsBuiltFront, IsHeldFront};
 ghost use Rattle.cbor_walk.specs.Front.{IsStop};
 
@@ -35,8 +34,7 @@ pub fn build_front(
         IsBuiltFront limits order bytes.now f.canonical.items f.size) }
     ensures refused { IfErr result (λ f. IsUnread limits plain bytes.now f) }
     ensures no_read { IfErr result (λ f. f.reason ≢ reasons.Read) }
-    ensures memory { IfErr result
-        (λ f. f.reason ≡ reasons.Memory → f ≡ refusal reasons.Memory 0 0) }
+    ensures memory { IfErr result TellsMemoryAtFront }
 {
     match front_or_stop(alloc, bytes, limits, order) {
         Ok(front) => Ok(front),

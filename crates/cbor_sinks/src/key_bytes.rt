@@ -3,10 +3,9 @@
 ghost use Rattle.std.specs.Prelude.{◌≡◌, ◌≢◌, ◌<◌, [], false, IfOk, IsTrue, OnOk};
 ghost use Rattle.cbor_builder.specs.Built.{built, TakesPart};
 ghost use Rattle.cbor_head.specs.Complaint.{plain};
-ghost use Rattle.cbor_head.specs.Verdict.{refusal};
 ghost use Rattle.cbor_head.specs.declared.reason.Reason.TheVariants as reasons;
 ghost use Rattle.cbor_judging.specs.Levels.{item_due};
-ghost use Rattle.cbor_judging.specs.Readers.{IsUnread};
+ghost use Rattle.cbor_judging.specs.Readers.{IsUnread, TellsMemoryAtFront};
 ghost use Rattle.cbor_judging.specs.Refusals.{IsReaderReason};
 ghost use Rattle.cbor_sinks.specs.KeyBytes.{is_kept, behind_item, keys_stand, keys_hold};
 ghost use Rattle.cbor_sinks.specs.declared.key_bytes.KeyBytes.{KeyBytes};
@@ -198,7 +197,7 @@ pub fn refusal_by_keys(alloc: Global, bytes: &[u8], limits: Limits, stop: Stop) 
     ensures refused { IsUnread limits plain bytes.now result }
     ensures reason { IsReaderReason limits plain result.reason }
     ensures no_read { result.reason ≢ reasons.Read }
-    ensures memory { result.reason ≡ reasons.Memory → result ≡ refusal reasons.Memory 0 0 }
+    ensures memory { TellsMemoryAtFront result }
 {
     refusal_of(alloc, KeyBytes::new(alloc), bytes, limits, stop)
 }

@@ -3,10 +3,10 @@
 
 ghost use Rattle.std.specs.Prelude.{◌≡◌, ◌≢◌, true, false, [], IfSome, IsSome};
 ghost use Rattle.cbor_head.specs.Complaint.{plain};
-ghost use Rattle.cbor_head.specs.Verdict.{IsVerdict, refused, refusal};
+ghost use Rattle.cbor_head.specs.Verdict.{IsVerdict, refused};
 ghost use Rattle.cbor_head.specs.declared.reason.Reason.TheVariants as reasons;
 ghost use Rattle.cbor_judging.specs.Levels.{item_due};
-ghost use Rattle.cbor_judging.specs.Readers.{IsUnread};
+ghost use Rattle.cbor_judging.specs.Readers.{IsUnread, TellsMemoryAtFront};
 ghost use Rattle.cbor_judging.specs.Refusals.{IsReaderReason};
 ghost use Rattle.cbor_walk.specs.Front.{IsStop};
 ghost use Rattle.cbor_walk.specs.Sink.{TellsRepeat};
@@ -60,7 +60,7 @@ pub fn refusal_of<'a, S: KeySink<'a> + Drop>(
     ensures refused { IsUnread limits plain bytes.now result }
     ensures reason { IsReaderReason limits plain result.reason }
     ensures no_read { result.reason ≢ reasons.Read }
-    ensures memory { result.reason ≡ reasons.Memory → result ≡ refusal reasons.Memory 0 0 }
+    ensures memory { TellsMemoryAtFront result }
 {
     match verdict(alloc, sink, bytes, limits, stop) {
         Some(refusal) => refusal,
