@@ -1,5 +1,5 @@
 -- Where an item is due: that no payload is open, and the item that a byte begins.
-use Rattle.std.proofs.Common.{ℕ, ◌-◌, ◌≡◌, ◌≢◌, ◌<◌, None, List, [], ◌∷◌, ◌++◌, length, map, ◌∙◌, subst}
+use Rattle.std.proofs.Common.{ℕ, ◌-◌, ◌≡◌, ◌≢◌, ◌<◌, None, List, [], ◌∷◌, ◌++◌, length, map, subst}
 use Rattle.std.proofs.lemmas.List.{length-map}
 use Rattle.cbor_head.specs.Beginning.{MayFollow}
 use Rattle.cbor_head.specs.Complaint.{form}
