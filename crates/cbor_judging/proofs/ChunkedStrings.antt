@@ -39,8 +39,7 @@ use Rattle.cbor_judging.proofs.Chunks.{chunk, AreChunksSoFar, cut_chunk, cut_pay
 use Rattle.cbor_judging.proofs.ByteLists.{bytes_join}
 use Rattle.cbor_automaton.proofs.Taking.{nothing-taken}
 use Rattle.cbor_judging.proofs.Steps.{reached-as}
-use Rattle.cbor_judging.specs.Reading.{frame_at, state_at}
-use Rattle.std.specs.Prelude.{map}
+use Rattle.cbor_judging.specs.Reading.{state_at}
 use Rattle.cbor_judging.proofs.WholeStrings.{is-text}
 
 -- ---- of chunks
@@ -174,7 +173,7 @@ module _ (r : Rules) (b : Bounds) (fs : List Container) (t x : List ℕ) (text :
             last = c.last;
             splits = ap (λ (u : List ℕ). y ++ u) c.splits ∙ sym (append_assoc y c.p c.last);
             found = None;
-            judged = cut_chunk (string_major text) (chunks_of text) (is-chunked text) a.done r (length t) (b.depth - length fs) a.so_far b.depth (map frame_at fs) c.begun c.p
+            judged = cut_chunk (string_major text) (chunks_of text) (is-chunked text) a.done r (length t) (b.depth - length fs) a.so_far b.depth fs c.begun c.p
                 (nothing-taken b.depth (state_at (in_chunks (string_major text) fs)) c.begun c.p tt c.are_bytes c.ran);
             cause = (c.place ∙ ap length (append_assoc t y c.p), subst (λ (u : List ℕ). IsFormRefusal b u to f) (append_assoc t y s.bytes) c.refused);
           })

@@ -1,5 +1,5 @@
 -- An item in another: what is read and what is refused of it, for the whole.
-use Rattle.std.proofs.Common.{◌≡◌, ◌≢◌, ℕ, ◌+◌, ◌-◌, ◌<◌, ◌≤◌, Option, Some, None, List, [], ◌++◌, length, map, replicate, refl, sym, ap, ◌∙◌, subst, inl, arith, append_assoc, append-nil}
+use Rattle.std.proofs.Common.{◌≡◌, ◌≢◌, ℕ, ◌+◌, ◌-◌, ◌<◌, ◌≤◌, Option, Some, None, List, [], ◌++◌, length, replicate, refl, sym, ap, ◌∙◌, subst, inl, arith, append_assoc, append-nil}
 use Rattle.std.specs.Io.KnownBytes.{Consumes}
 use Rattle.std.proofs.KnownBytes.{Consumes-nil, Consumes-trans}
 use Rattle.cbor_head.specs.Head.{Holds, head}
@@ -18,11 +18,10 @@ use Rattle.cbor_judging.specs.Place.{Container, Place, at_item, Follows, Opens, 
 use Rattle.cbor_automaton.specs.Marks as marks
 use Rattle.cbor_automaton.proofs.Taking.{nothing-taken}
 use Rattle.cbor_judging.specs.Judged.{IsJudged}
-use Rattle.cbor_judging.specs.Reading.{Extends, IsFormRefusal, OfMark, IsCause, HasCause, IsUndecided, IsCutHead, frame_at, state_at}
+use Rattle.cbor_judging.specs.Reading.{Extends, IsFormRefusal, OfMark, IsCause, HasCause, IsUndecided, IsCutHead, state_at}
 use Rattle.cbor_judging.proofs.Judged.{zero_item}
 use Rattle.cbor_judging.proofs.Leaves.{head_complains, array_head_complains, map_head_complains}
 use Rattle.cbor_judging.proofs.Heads.{open_or, zero_bytes, zero_length, cut_head}
-use Rattle.std.proofs.lemmas.List.{length-map}
 
 -- ---- what was taken
 
@@ -174,8 +173,7 @@ head-judged r at d fs a_break bs next c h o = absurd o
 -- what was taken of a head that is cut tells nothing against the item
 pub cut-judged : (r : Rules) (b : Bounds) (fs : List Container) (t taken : List ℕ) (to : Option (List ℕ)) (f : Refusal) → (c : IsCutHead b (at_item fs) t taken to f) → IsJudged r (length t) (b.depth - length fs) c.p None
 cut-judged r b fs t taken to f c =
-    subst (λ (n : ℕ). IsJudged r (length t) (b.depth - n) c.p None) (length-map fs frame_at)
-    (cut_head r (length t) b.depth (map frame_at fs) c.begun c.p (nothing-taken b.depth (state_at (at_item fs)) c.begun c.p tt c.are_bytes c.ran))
+    cut_head r (length t) b.depth fs c.begun c.p (nothing-taken b.depth (state_at (at_item fs)) c.begun c.p tt c.are_bytes c.ran)
 
 -- ---- the item that is due
 

@@ -1,6 +1,5 @@
 -- Where an item is due: that no payload is open, and the item that a byte begins.
-use Rattle.std.proofs.Common.{ℕ, ◌-◌, ◌≡◌, ◌≢◌, ◌<◌, None, List, [], ◌∷◌, ◌++◌, length, map, ◌∙◌, subst}
-use Rattle.std.proofs.lemmas.List.{length-map}
+use Rattle.std.proofs.Common.{ℕ, ◌-◌, ◌≡◌, ◌≢◌, ◌<◌, None, List, [], ◌∷◌, ◌++◌, length, subst}
 use Rattle.cbor_head.specs.Beginning.{MayFollow}
 use Rattle.cbor_head.specs.Complaint.{form}
 use Rattle.cbor_head.specs.Limits.{Bounds}
@@ -10,7 +9,7 @@ use Rattle.cbor_automaton.proofs.Refusals.{IsTaken, taken-follows}
 use Rattle.cbor_automaton.proofs.Taking.{IsTakingNext, byte-taken, within-start}
 use Rattle.cbor_standing.specs.NextEvent.{ItemEventsView}
 use Rattle.cbor_judging.specs.Place.{Container, Place, at_item, IsTaking}
-use Rattle.cbor_judging.specs.Reading.{IsAt, frame_at, state_at}
+use Rattle.cbor_judging.specs.Reading.{IsAt, state_at}
 use Rattle.cbor_judging.proofs.ByteLists.{bytes_back}
 use Rattle.cbor_judging.proofs.Heads.{cut_head}
 use Rattle.cbor_judging.proofs.KindBytes.{Begins, mark_begins, judged_begins}
@@ -28,8 +27,7 @@ no_break d cs m c to other h e =
 taken_begins : (d : ℕ) (cs : List Container) (c : ℕ) (next : Next) → c ≢ 0xff → IsTaken next → IsTakingNext d (state_at (at_item cs)) next (c ∷ []) → Begins (d - length cs) (c ∷ [])
 taken_begins d cs c (refuses r) other taken h = absurd taken
 taken_begins d cs c (goes q) other taken h =
-    subst (λ (n : ℕ). Begins (d - n) (c ∷ [])) (length-map cs frame_at)
-    (judged_begins form 0 (d - length (map frame_at cs)) (c ∷ []) None (cut_head form 0 d (map frame_at cs) q (c ∷ []) h))
+    judged_begins form 0 (d - length cs) (c ∷ []) None (cut_head form 0 d cs q (c ∷ []) h)
 taken_begins d cs c (tells m q) other taken h =
     let taking = taking-at d (at_item cs) m (c ∷ []) q h.0 in
     (mark_begins d cs m (c ∷ []) (place_of q) taking (no_break d cs m c (place_of q) other taking)).0

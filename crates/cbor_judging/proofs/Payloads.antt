@@ -18,9 +18,8 @@ use Rattle.cbor_judging.specs.Place.{Container, Place, at_item, in_payload, in_c
 use Rattle.cbor_automaton.specs.Automaton as automaton
 use Rattle.cbor_automaton.specs.Automaton.{State, Outcome, refused, telling, run, reached}
 use Rattle.cbor_automaton.specs.Taking as taking
-use Rattle.cbor_judging.specs.Reading.{frame_at, state_at}
+use Rattle.cbor_judging.specs.Reading.{state_at}
 use Rattle.cbor_judging.proofs.Places.{place_of, place-back, payload-at, clear-at}
-use Rattle.std.specs.Prelude.{map}
 use Rattle.cbor_automaton.specs.Marks.{marks_of}
 use Rattle.cbor_steps.specs.State.{state_of, is_in_payload}
 use Rattle.cbor_standing.specs.NextEvent as item_events
@@ -192,7 +191,7 @@ module _ (b : Bounds) (chunk : Bool) (m : Major) (fs : List Container) (t : List
     taken-part =
         let u = state_of new.machine.inner.position new.machine.inner.frames in
         let ran = since b e new.machine (t ++ h.p) x.bytes (payload chunk m left fs) (marks_of ev.width ev.kind) h.at (same.depth ∙ h.at.depth) x.stands.stands.inner.ran ∙ ap (λ (ms : List Mark). reached u ms) bytes-of.marks in
-        let k = part b.depth chunk m (map frame_at fs) left x.bytes u (bytes_back (t ++ h.p) x.bytes x.stands.stands.are_bytes)
+        let k = part b.depth chunk m fs left x.bytes u (bytes_back (t ++ h.p) x.bytes x.stands.stands.are_bytes)
         (ap (λ (s : State). run b.depth s x.bytes) (payload-at chunk m left fs) ∙ ran) in
         (k.0, k.1 ∙ payload-at chunk m (left - length x.bytes) fs)
 

@@ -1,7 +1,6 @@
 -- Where the events told lead is where the machine stands.
-use Rattle.std.proofs.Common.{◌≡◌, ◌↔◌, ℕ, zero, suc, ◌+◌, ◌^◌, ◌<◌, Bool, true, false, List, [], ◌∷◌, ◌++◌, length, map, replicate, refl, sym, ap, ◌∙◌, subst, inl, inr, arith, append-nil, append_assoc}
+use Rattle.std.proofs.Common.{◌≡◌, ◌↔◌, ℕ, zero, suc, ◌+◌, ◌^◌, ◌<◌, Bool, true, false, List, [], ◌∷◌, ◌++◌, length, replicate, refl, sym, ap, ◌∙◌, subst, inl, inr, arith, append-nil, append_assoc}
 use Rattle.std.proofs.lemmas.Bool.{lt-ltb, le-ltb, cases_lt}
-use Rattle.std.proofs.lemmas.List.{length-map}
 use Rattle.std.specs.Prelude.{nat_lt}
 use Rattle.cbor_head.specs.Head.{Holds, head}
 use Rattle.cbor_head.specs.declared.major.Major.{Major}
@@ -33,7 +32,7 @@ use Rattle.cbor_automaton.proofs.Opens.{opens as opens-stack}
 use Rattle.cbor_automaton.proofs.Runs.{once-marks}
 use Rattle.cbor_judging.proofs.ByteLists.{bytes_back}
 use Rattle.cbor_judging.proofs.Standing.{done_position}
-use Rattle.cbor_judging.specs.Reading.{frame_at, state_at}
+use Rattle.cbor_judging.specs.Reading.{state_at}
 use Rattle.cbor_judging.proofs.Places.{place_of, one-place, clear-at, open-frames, taking-at, close-at, expect-at, string-at, payload-at}
 
 -- ---- chunks are of a string
@@ -75,17 +74,17 @@ record Leads (d : ℕ) (p : Place) (m : Mark) (bs : List ℕ) (q : Place) : Type
 
 module _ (d : ℕ) (cs : List Container) (w : Width) (n : ℕ) (h : Holds w n) (q : Place) where
   -- a head of an item with a number
-  numbered : (m : Major) → ((k : ℕ) → automaton.tail m k ≡ automaton.numbered_tail m k) → automaton.has_room d (map frame_at cs) m ≡ true → automaton.after false m n (map frame_at cs) ≡ state_at q → IsSane q
+  numbered : (m : Major) → ((k : ℕ) → automaton.tail m k ≡ automaton.numbered_tail m k) → automaton.has_room d cs m ≡ true → automaton.after false m n cs ≡ state_at q → IsSane q
       → Leads d (at_item cs) (a_head m w n) (head m w n) q
   numbered m plain room to sane = record {
     ran = ap (run d (state_at (at_item cs))) (sym (append-nil (head m w n)))
-        ∙ head-taken d (state_at (at_item cs)) false m (map frame_at cs) (item_starts d m (map frame_at cs) plain room) w n [] h
+        ∙ head-taken d (state_at (at_item cs)) false m cs (item_starts d m cs plain room) w n [] h
         ∙ ap (λ (s : State). reached s (a_head m w n ∷ [])) to;
     sane = sane;
   }
 
-  deep : length cs < d → nat_lt (length (map frame_at cs)) d ≡ true
-  deep l = lt-ltb (length (map frame_at cs)) d (omega (arith, l, length-map cs frame_at))
+  deep : length cs < d → nat_lt (length cs) d ≡ true
+  deep l = lt-ltb (length cs) d l
 
   follows : (m : Major) → Follows d cs m w n q → Leads d (at_item cs) (a_head m w n) (head m w n) q
   follows majors.Unsigned f = numbered majors.Unsigned (λ k. refl) refl (close-at cs ∙ ap state_at (sym f)) (subst IsSane (sym f) (sane-close cs))
@@ -100,14 +99,14 @@ module _ (d : ℕ) (cs : List Container) (w : Width) (n : ℕ) (h : Holds w n) (
     sane = subst IsSane (sym f.2) (sane-close cs);
   }
     where
-      simple : run d (state_at (at_item cs)) (head majors.Simple w n ++ []) ≡ reached (automaton.close (map frame_at cs)) (a_head majors.Simple w n ∷ [])
+      simple : run d (state_at (at_item cs)) (head majors.Simple w n ++ []) ≡ reached (automaton.close cs) (a_head majors.Simple w n ∷ [])
       simple = elim (cases_lt n 24) [
         | inl l ↦
             let e : w ≡ Direct = f.1 ∙ rw (lt-ltb n 24 l) refl in
-            subst (λ (v : Width). run d (state_at (at_item cs)) (head majors.Simple v n ++ []) ≡ reached (automaton.close (map frame_at cs)) (a_head majors.Simple v n ∷ [])) (sym e) (simple-direct d n (map frame_at cs) [] l)
+            subst (λ (v : Width). run d (state_at (at_item cs)) (head majors.Simple v n ++ []) ≡ reached (automaton.close cs) (a_head majors.Simple v n ∷ [])) (sym e) (simple-direct d n cs [] l)
         | inr l ↦
             let e : w ≡ One = f.1 ∙ rw (le-ltb n 24 l, lt-ltb n (2 ^ 8) f.0.0) refl in
-            subst (λ (v : Width). run d (state_at (at_item cs)) (head majors.Simple v n ++ []) ≡ reached (automaton.close (map frame_at cs)) (a_head majors.Simple v n ∷ [])) (sym e) (simple-one d n (map frame_at cs) [] (f.0.1 l) f.0.0)
+            subst (λ (v : Width). run d (state_at (at_item cs)) (head majors.Simple v n ++ []) ≡ reached (automaton.close cs) (a_head majors.Simple v n ∷ [])) (sym e) (simple-one d n cs [] (f.0.1 l) f.0.0)
       ]
 
   -- and of a chunk
@@ -117,9 +116,9 @@ module _ (d : ℕ) (cs : List Container) (w : Width) (n : ℕ) (h : Holds w n) (
     sane = subst IsSane (sym f) (sane-chunk m n cs i);
   }
     where
-      taken : (m : Major) → IsString m → run d (state_at (in_chunks m cs)) (head m w n ++ []) ≡ reached (automaton.payload true m n (map frame_at cs)) (a_chunk w n ∷ [])
-      taken majors.Bytes i = head-taken d (state_at (in_chunks majors.Bytes cs)) true majors.Bytes (map frame_at cs) (chunk_starts d majors.Bytes (map frame_at cs) (λ k. refl) refl) w n [] h
-      taken majors.Text i = head-taken d (state_at (in_chunks majors.Text cs)) true majors.Text (map frame_at cs) (chunk_starts d majors.Text (map frame_at cs) (λ k. refl) refl) w n [] h
+      taken : (m : Major) → IsString m → run d (state_at (in_chunks m cs)) (head m w n ++ []) ≡ reached (automaton.payload true m n cs) (a_chunk w n ∷ [])
+      taken majors.Bytes i = head-taken d (state_at (in_chunks majors.Bytes cs)) true majors.Bytes cs (chunk_starts d majors.Bytes cs (λ k. refl) refl) w n [] h
+      taken majors.Text i = head-taken d (state_at (in_chunks majors.Text cs)) true majors.Text cs (chunk_starts d majors.Text cs (λ k. refl) refl) w n [] h
       taken majors.Unsigned i = absurd i
       taken majors.Negative i = absurd i
       taken majors.Array i = absurd i
@@ -130,8 +129,8 @@ module _ (d : ℕ) (cs : List Container) (w : Width) (n : ℕ) (h : Holds w n) (
 opens : (d : ℕ) (cs : List Container) (m : Major) (q : Place) → Opens d cs m q → Leads d (at_item cs) (a_head m Indefinite 0) (head m Indefinite 0) q
 opens d cs majors.Bytes q f = record { ran = ap (λ (p : Place). reached (state_at p) (a_head majors.Bytes Indefinite 0 ∷ [])) (sym f); sane = subst IsSane (sym f) tt }
 opens d cs majors.Text q f = record { ran = ap (λ (p : Place). reached (state_at p) (a_head majors.Text Indefinite 0 ∷ [])) (sym f); sane = subst IsSane (sym f) tt }
-opens d cs majors.Array q f = record { ran = rw (lt-ltb (length (map frame_at cs)) d (omega (arith, f.0, length-map cs frame_at))) (ap (λ (p : Place). reached (state_at p) (a_head majors.Array Indefinite 0 ∷ [])) (sym f.1)); sane = subst IsSane (sym f.1) tt }
-opens d cs majors.Map q f = record { ran = rw (lt-ltb (length (map frame_at cs)) d (omega (arith, f.0, length-map cs frame_at))) (ap (λ (p : Place). reached (state_at p) (a_head majors.Map Indefinite 0 ∷ [])) (sym f.1)); sane = subst IsSane (sym f.1) tt }
+opens d cs majors.Array q f = record { ran = rw (lt-ltb (length cs) d f.0) (ap (λ (p : Place). reached (state_at p) (a_head majors.Array Indefinite 0 ∷ [])) (sym f.1)); sane = subst IsSane (sym f.1) tt }
+opens d cs majors.Map q f = record { ran = rw (lt-ltb (length cs) d f.0) (ap (λ (p : Place). reached (state_at p) (a_head majors.Map Indefinite 0 ∷ [])) (sym f.1)); sane = subst IsSane (sym f.1) tt }
 opens d cs majors.Unsigned q f = absurd f
 opens d cs majors.Negative q f = absurd f
 opens d cs majors.Tag q f = absurd f
@@ -219,7 +218,7 @@ piece-placed d [] t ms p u h b e = record {
 }
 piece-placed d (c ∷ cs) t ms (in_payload chunk k n gs) u h b e =
     let q = payload chunk k n gs in
-    let told = untell (run d (automaton.payload chunk k n (map frame_at gs)) cs) u (replicate (length cs) a_byte) (sym (payload-byte d chunk k n (map frame_at gs) c cs) ∙ e) in
+    let told = untell (run d (automaton.payload chunk k n gs) cs) u (replicate (length cs) a_byte) (sym (payload-byte d chunk k n gs c cs) ∙ e) in
     let one = leads_on t (c ∷ []) ms a_byte (in_payload chunk k n gs) q h (a-byte-taken d chunk k n gs c) in
     let more = piece-placed d cs (t ++ c ∷ []) (ms ++ a_byte ∷ []) q u one b.1 (ap (λ (s : State). run d s cs) (sym (payload-at chunk k n gs)) ∙ told) in
     record {

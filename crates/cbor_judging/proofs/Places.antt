@@ -1,6 +1,5 @@
 -- A place between two events, and the automaton there.
-use Rattle.std.proofs.Common.{◌≡◌, ℕ, zero, suc, ◌+◌, ◌<◌, Bool, true, false, List, [], ◌∷◌, length, map, refl, sym, ap, ◌∙◌, arith}
-use Rattle.std.proofs.lemmas.List.{length-map}
+use Rattle.std.proofs.Common.{◌≡◌, ℕ, zero, suc, ◌+◌, Bool, true, false, List, [], ◌∷◌, length, refl, sym, ap, ◌∙◌}
 use Rattle.cbor_head.specs.declared.major.Major.{Major}
 use Rattle.cbor_head.specs.declared.major.Major.TheVariants as majors
 use Rattle.cbor_head.specs.declared.width.Width.{Width}
@@ -12,49 +11,32 @@ use Rattle.cbor_automaton.specs.Taking as taking
 use Rattle.cbor_automaton.proofs.Opens.{stack}
 use Rattle.cbor_automaton.proofs.Taking.{IsClear}
 use Rattle.cbor_judging.specs.Place.{Container, counted, indefinite_array, indefinite_map, Place, at_item, in_payload, in_chunks, done, open_at, close, expect, close_string, payload, Follows, Opens, Ends, IsTaking}
-use Rattle.cbor_judging.specs.Reading.{frame_at, state_at}
+use Rattle.cbor_judging.specs.Reading.{state_at}
 
 -- ---- from the automaton
 
-abbrev pub container_of : automaton.Frame → Container
-container_of (automaton.counted n) = counted n
-container_of automaton.indefinite_array = indefinite_array
-container_of (automaton.indefinite_map due) = indefinite_map due
-
 -- where a head began, within it
 abbrev pub place_of : State → Place
-place_of (automaton.at_item fs) = at_item (map container_of fs)
-place_of (automaton.in_head true m w k acc fs) = in_chunks m (map container_of fs)
-place_of (automaton.in_head false m w k acc fs) = at_item (map container_of fs)
-place_of (automaton.in_simple fs) = at_item (map container_of fs)
-place_of (automaton.in_payload chunk m n fs) = in_payload chunk m n (map container_of fs)
-place_of (automaton.in_chunks m fs) = in_chunks m (map container_of fs)
+place_of (automaton.at_item fs) = at_item fs
+place_of (automaton.in_head true m w k acc fs) = in_chunks m fs
+place_of (automaton.in_head false m w k acc fs) = at_item fs
+place_of (automaton.in_simple fs) = at_item fs
+place_of (automaton.in_payload chunk m n fs) = in_payload chunk m n fs
+place_of (automaton.in_chunks m fs) = in_chunks m fs
 place_of automaton.done = done
 
-containers-back : (cs : List Container) → map container_of (map frame_at cs) ≡ cs
-containers-back [] = refl
-containers-back (counted n ∷ cs) = ap (λ (xs : List Container). counted n ∷ xs) (containers-back cs)
-containers-back (indefinite_array ∷ cs) = ap (λ (xs : List Container). indefinite_array ∷ xs) (containers-back cs)
-containers-back (indefinite_map due ∷ cs) = ap (λ (xs : List Container). indefinite_map due ∷ xs) (containers-back cs)
-
-frames-back : (fs : List automaton.Frame) → map frame_at (map container_of fs) ≡ fs
-frames-back [] = refl
-frames-back (automaton.counted n ∷ fs) = ap (λ (xs : List automaton.Frame). automaton.counted n ∷ xs) (frames-back fs)
-frames-back (automaton.indefinite_array ∷ fs) = ap (λ (xs : List automaton.Frame). automaton.indefinite_array ∷ xs) (frames-back fs)
-frames-back (automaton.indefinite_map due ∷ fs) = ap (λ (xs : List automaton.Frame). automaton.indefinite_map due ∷ xs) (frames-back fs)
-
 pub place-back : (q : Place) → place_of (state_at q) ≡ q
-place-back (at_item cs) = ap at_item (containers-back cs)
-place-back (in_payload chunk m n cs) = ap (in_payload chunk m n) (containers-back cs)
-place-back (in_chunks m cs) = ap (in_chunks m) (containers-back cs)
+place-back (at_item cs) = refl
+place-back (in_payload chunk m n cs) = refl
+place-back (in_chunks m cs) = refl
 place-back done = refl
 
 pub state-back : (s : State) → IsClear s → state_at (place_of s) ≡ s
-state-back (automaton.at_item fs) h = ap automaton.at_item (frames-back fs)
+state-back (automaton.at_item fs) h = refl
 state-back (automaton.in_head chunk m w k acc fs) h = absurd h
 state-back (automaton.in_simple fs) h = absurd h
-state-back (automaton.in_payload chunk m n fs) h = ap (automaton.in_payload chunk m n) (frames-back fs)
-state-back (automaton.in_chunks m fs) h = ap (automaton.in_chunks m) (frames-back fs)
+state-back (automaton.in_payload chunk m n fs) h = refl
+state-back (automaton.in_chunks m fs) h = refl
 state-back automaton.done h = refl
 
 -- two places with one state are one
@@ -68,29 +50,29 @@ clear-at (in_chunks m cs) = tt
 clear-at done = tt
 
 pub open-frames : (q : Place) → length (stack (state_at q)) ≡ length (open_at q)
-open-frames (at_item cs) = length-map cs frame_at
-open-frames (in_payload chunk m n cs) = length-map cs frame_at
-open-frames (in_chunks m cs) = length-map cs frame_at
+open-frames (at_item cs) = refl
+open-frames (in_payload chunk m n cs) = refl
+open-frames (in_chunks m cs) = refl
 open-frames done = refl
 
 -- ---- where an item, or a part of one, leaves off
 
-pub close-at : (cs : List Container) → automaton.close (map frame_at cs) ≡ state_at (close cs)
+pub close-at : (cs : List Container) → automaton.close cs ≡ state_at (close cs)
 close-at [] = refl
 close-at (counted zero ∷ cs) = close-at cs
 close-at (counted (suc n) ∷ cs) = refl
 close-at (indefinite_array ∷ cs) = refl
 close-at (indefinite_map due ∷ cs) = refl
 
-pub expect-at : (n : ℕ) (cs : List Container) → automaton.expect n (map frame_at cs) ≡ state_at (expect n cs)
+pub expect-at : (n : ℕ) (cs : List Container) → automaton.expect n cs ≡ state_at (expect n cs)
 expect-at zero cs = close-at cs
 expect-at (suc n) cs = refl
 
-pub string-at : (chunk : Bool) (m : Major) (cs : List Container) → automaton.close_string chunk m (map frame_at cs) ≡ state_at (close_string chunk m cs)
+pub string-at : (chunk : Bool) (m : Major) (cs : List Container) → automaton.close_string chunk m cs ≡ state_at (close_string chunk m cs)
 string-at true m cs = refl
 string-at false m cs = close-at cs
 
-pub payload-at : (chunk : Bool) (m : Major) (n : ℕ) (cs : List Container) → automaton.payload chunk m n (map frame_at cs) ≡ state_at (payload chunk m n cs)
+pub payload-at : (chunk : Bool) (m : Major) (n : ℕ) (cs : List Container) → automaton.payload chunk m n cs ≡ state_at (payload chunk m n cs)
 payload-at chunk m zero cs = string-at chunk m cs
 payload-at chunk m (suc n) cs = refl
 
@@ -100,30 +82,27 @@ leads : (u : State) (s : State) (q : Place) → u ≡ s → s ≡ state_at q →
 leads u s q e f = ap place_of (e ∙ f) ∙ place-back q
 
 module _ (d : ℕ) (cs : List Container) (u : State) where
-  room : length (map frame_at cs) < d → length cs < d
-  room l = omega (arith, l, length-map cs frame_at)
-
-  follows : (m : Major) (w : Width) (n : ℕ) → taking.Follows d (map frame_at cs) m w n u → Follows d cs m w n (place_of u)
+  follows : (m : Major) (w : Width) (n : ℕ) → taking.Follows d cs m w n u → Follows d cs m w n (place_of u)
   follows majors.Unsigned w n h = leads u _ (close cs) h (close-at cs)
   follows majors.Negative w n h = leads u _ (close cs) h (close-at cs)
   follows majors.Bytes w n h = leads u _ (payload false majors.Bytes n cs) h (payload-at false majors.Bytes n cs)
   follows majors.Text w n h = leads u _ (payload false majors.Text n cs) h (payload-at false majors.Text n cs)
-  follows majors.Array w n h = (room h.0, leads u _ (expect n cs) h.1 (expect-at n cs))
-  follows majors.Map w n h = (room h.0, leads u _ (expect (n + n) cs) h.1 (expect-at (n + n) cs))
-  follows majors.Tag w n h = (room h.0, leads u _ (expect 1 cs) h.1 (expect-at 1 cs))
+  follows majors.Array w n h = (h.0, leads u _ (expect n cs) h.1 (expect-at n cs))
+  follows majors.Map w n h = (h.0, leads u _ (expect (n + n) cs) h.1 (expect-at (n + n) cs))
+  follows majors.Tag w n h = (h.0, leads u _ (expect 1 cs) h.1 (expect-at 1 cs))
   follows majors.Simple w n h = (h.0, h.1, leads u _ (close cs) h.2 (close-at cs))
 
-  opens : (m : Major) → taking.Opens d (map frame_at cs) m u → Opens d cs m (place_of u)
+  opens : (m : Major) → taking.Opens d cs m u → Opens d cs m (place_of u)
   opens majors.Bytes h = leads u _ (in_chunks majors.Bytes cs) h refl
   opens majors.Text h = leads u _ (in_chunks majors.Text cs) h refl
-  opens majors.Array h = (room h.0, leads u _ (at_item (indefinite_array ∷ cs)) h.1 refl)
-  opens majors.Map h = (room h.0, leads u _ (at_item (indefinite_map false ∷ cs)) h.1 refl)
+  opens majors.Array h = (h.0, leads u _ (at_item (indefinite_array ∷ cs)) h.1 refl)
+  opens majors.Map h = (h.0, leads u _ (at_item (indefinite_map false ∷ cs)) h.1 refl)
   opens majors.Unsigned h = absurd h
   opens majors.Negative h = absurd h
   opens majors.Tag h = absurd h
   opens majors.Simple h = absurd h
 
-ends : (cs : List Container) (u : State) → taking.Ends (map frame_at cs) u → Ends cs (place_of u)
+ends : (cs : List Container) (u : State) → taking.Ends cs u → Ends cs (place_of u)
 ends [] u h = absurd h
 ends (counted n ∷ cs) u h = absurd h
 ends (indefinite_array ∷ cs) u h = leads u _ (close cs) h (close-at cs)

@@ -6,18 +6,12 @@ use Rattle.cbor_head.specs.declared.major.Major.{Major}
 use Rattle.cbor_head.specs.declared.major.Major.TheVariants.{Unsigned, Negative, Bytes, Text, Array, Map, Tag, Simple}
 use Rattle.cbor_head.specs.declared.width.Width.{Width}
 use Rattle.cbor_head.specs.declared.width.Width.TheVariants.{Indefinite}
+-- An open container. Of a counted one so many items are due after the one that is: members, or keys and values; of a tag none.
+pub use Rattle.cbor_automaton.specs.Automaton.{Frame as Container, counted, indefinite_array, indefinite_map}
 use Rattle.cbor_automaton.specs.Trace.{Mark, a_head, a_chunk, a_byte, a_break}
 use Rattle.cbor_automaton.specs.Marks.{mark_of, marks_of}
 use Rattle.cbor_standing.specs.NextEvent.{Call, IsDue}
 use Rattle.cbor_automaton.specs.declared.event.Event.{Event}
-
--- an open container
-pub data Container : Type 0 where
-  -- so many items after the one that is due: members, or keys and values; of a tag none
-  counted : ℕ → Container
-  indefinite_array : Container
-  -- true: a value is due
-  indefinite_map : Bool → Container
 
 -- What is due within the open containers, the innermost first. A string's flag is true in a chunk.
 pub data Place : Type 0 where

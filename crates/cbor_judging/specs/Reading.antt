@@ -1,5 +1,5 @@
 -- What the readers' own functions answer of one item, which may lie within others, from its events.
-use Rattle.std.specs.Prelude.{◌≡◌, ◌≢◌, ℕ, ◌+◌, ◌-◌, ◌<◌, ◌≤◌, ◌⊎◌, ◌++◌, Bool, true, false, List, [], length, Option, Some, None, IfSome, IsTrue, Result, MatchResult, IsUtf8, map}
+use Rattle.std.specs.Prelude.{◌≡◌, ◌≢◌, ℕ, ◌+◌, ◌-◌, ◌<◌, ◌≤◌, ◌⊎◌, ◌++◌, Bool, true, false, List, [], length, Option, Some, None, IfSome, IsTrue, Result, MatchResult, IsUtf8}
 use Rattle.std.specs.Str.Lossy.{utf8_valid_len}
 use Rattle.std.specs.Io.KnownBytes.{Consumes, IsAtEnd}
 use Rattle.cbor_head.specs.Limits.{Bounds, AreBounds}
@@ -19,7 +19,7 @@ use Rattle.cbor_head.specs.declared.reason.Reason.{Reason}
 use Rattle.cbor_head.specs.declared.reason.Reason.TheVariants as reasons
 use Rattle.cbor_head.specs.declared.reason.Reason.TheVariants.{Truncated, Read, Memory, InvalidText}
 use Rattle.cbor_automaton.specs.Trace.{Mark, a_head, a_chunk}
-use Rattle.cbor_judging.specs.Place.{Container, counted, indefinite_array, indefinite_map, Place, at_item, in_payload, in_chunks, done, close, close_string, payload, IsTaking}
+use Rattle.cbor_judging.specs.Place.{Container, Place, at_item, in_payload, in_chunks, done, close, close_string, payload, IsTaking}
 use Rattle.cbor_automaton.specs.Automaton as automaton
 use Rattle.cbor_automaton.specs.Automaton.{State, run, reached}
 use Rattle.cbor_automaton.specs.Marks.{mark_of, IsProper}
@@ -34,15 +34,10 @@ use Rattle.cbor_judging.specs.Refusals.{IsReaderReason}
 
 -- ---- a place, as the automaton has it
 
-abbrev pub frame_at : Container → automaton.Frame
-frame_at (counted n) = automaton.counted n
-frame_at indefinite_array = automaton.indefinite_array
-frame_at (indefinite_map due) = automaton.indefinite_map due
-
 abbrev pub state_at : Place → State
-state_at (at_item cs) = automaton.at_item (map frame_at cs)
-state_at (in_payload chunk m n cs) = automaton.in_payload chunk m n (map frame_at cs)
-state_at (in_chunks m cs) = automaton.in_chunks m (map frame_at cs)
+state_at (at_item cs) = automaton.at_item cs
+state_at (in_payload chunk m n cs) = automaton.in_payload chunk m n cs
+state_at (in_chunks m cs) = automaton.in_chunks m cs
 state_at done = automaton.done
 
 -- ---- between two events

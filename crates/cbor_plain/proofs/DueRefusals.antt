@@ -18,7 +18,7 @@ use Rattle.cbor_judging.specs.Judged.{IsJudged}
 use Rattle.cbor_judging.specs.Kinds.{AsksForKinds, KeepsToKinds, IsKeyDueIn, IsOfOneHead, HasBasicFront}
 use Rattle.cbor_judging.specs.Levels.{frame, bytes_before}
 use Rattle.cbor_judging.specs.Place.{Container, at_item}
-use Rattle.cbor_judging.specs.Reading.{IsUndecided, HasCause, StopsItem, StopsHead, frame_at}
+use Rattle.cbor_judging.specs.Reading.{IsUndecided, HasCause, StopsItem, StopsHead}
 use Rattle.cbor_plain.specs.inner.ItemFront.{IsDueAt, IsStopped, WhyStopped, for_memory, for_cause, for_kind}
 use Rattle.cbor_plain.specs.inner.PlainItems.{AreApart}
 use Rattle.cbor_judging.proofs.Items.{cause-in, cause-front, undecided-in, undecided-front, cut-judged}
@@ -91,7 +91,7 @@ module _ (v : PlainItems) (b : Bounds) (e : ItemEventsView) (t : List ℕ) (d : 
       stopped-before s.bytes from to f s.consumed s.read (elim s.why [
         | inl c ↦ cause-whole s.bytes from to f
             (record { p = c.p; last = c.last; splits = c.splits; found = None; judged = cut-judged plain b gs due-before s.bytes to f c; cause = (c.place, c.refused) })
-            (λ known. keeps-judged c.p None (cut-judged plain b gs due-before s.bytes to f c) (silent_is_one b.depth (map frame_at gs) c.begun c.p c.are_bytes c.ran)
+            (λ known. keeps-judged c.p None (cut-judged plain b gs due-before s.bytes to f c) (silent_is_one b.depth gs c.begun c.p c.are_bytes c.ran)
             (basic known c.p c.last (subst (Consumes from to) c.splits s.consumed) (c.place ∙ ap (λ (u : List ℕ). length (u ++ c.p)) (sym d.taken))))
         | inr c ↦ let fault = fault_of (at_item gs) c.mark plain (length due-before) c.complaint c.of in absurd (cc fault.1.0)
       ])

@@ -1,5 +1,5 @@
 -- That no key of another kind begins in what was read, from one event to the next.
-use Rattle.std.proofs.Common.{◌≡◌, ◌≢◌, ℕ, ◌+◌, ◌-◌, ◌*◌, ◌/◌, ◌<◌, ◌≤◌, ◌⊎◌, ◌↔◌, Bool, true, false, List, [], ◌∷◌, ◌++◌, length, map, replicate, refl, sym, ap, ◌∙◌, subst, inl, inr, arith, append_assoc, append-nil}
+use Rattle.std.proofs.Common.{◌≡◌, ◌≢◌, ℕ, ◌+◌, ◌-◌, ◌*◌, ◌/◌, ◌<◌, ◌≤◌, ◌⊎◌, ◌↔◌, Bool, true, false, List, [], ◌∷◌, ◌++◌, length, replicate, refl, sym, ap, ◌∙◌, subst, inl, inr, arith, append_assoc, append-nil}
 use Rattle.std.specs.Prelude.{IsTrue}
 use Rattle.std.proofs.lemmas.List.{length-append}
 use Rattle.cbor_head.specs.Head.{Holds, head, major_number}
@@ -28,7 +28,7 @@ use Rattle.cbor_judging.specs.Frame.{Frame, a_member, a_key, a_content, tagged}
 use Rattle.cbor_judging.specs.Kinds.{AsksForKinds, KeepsToKinds, IsKeyDue, HasBasicFront, IsOfOneHead, plug_all}
 use Rattle.cbor_judging.specs.OpenMaps.{before_all, ArePath}
 use Rattle.cbor_judging.specs.Place.{Container, Place, at_item, IsTaking}
-use Rattle.cbor_judging.specs.Reading.{frame_at, state_at, string_major}
+use Rattle.cbor_judging.specs.Reading.{state_at, string_major}
 use Rattle.cbor_judging.proofs.ByteLists.{bytes_join}
 use Rattle.cbor_judging.proofs.Heads.{cut_head, open_or, zero_bytes, zero_length}
 use Rattle.cbor_judging.proofs.KindBytes.{Begins, mark_begins, string_is_one, keeps_along, judged_begins}
@@ -39,7 +39,6 @@ use Rattle.cbor_judging.proofs.WholeStrings.{made_of, made-spells, made-spelled,
 use Rattle.cbor_strict.specs.declared.last_keys.Due.{Due}
 use Rattle.cbor_strict.specs.declared.last_keys.Due.TheVariants.{Member, Key}
 use Rattle.cbor_strict.specs.inner.LastKeys.{KeysView, IsKept, from_outside, due_of}
-use Rattle.std.proofs.lemmas.List.{length-map}
 
 -- ---- a key is due in the innermost container
 
@@ -114,7 +113,7 @@ byte_begins d cs b small item taken =
     go : (next : automaton.Next) → IsTaken next → IsTakingNext d (state_at (at_item cs)) next (b ∷ []) → Begins (d - length cs) (b ∷ [])
     go (automaton.refuses r) k h = absurd k
     go (automaton.goes q) k h =
-        subst (λ (n : ℕ). Begins (d - n) (b ∷ [])) (length-map cs frame_at) (judged_begins _ 0 (d - length (map frame_at cs)) (b ∷ []) _ (cut_head form 0 d (map frame_at cs) q (b ∷ []) h))
+        judged_begins _ 0 (d - length cs) (b ∷ []) _ (cut_head form 0 d cs q (b ∷ []) h)
     go (automaton.tells m q) k h =
         (mark_begins d cs m (b ∷ []) _ (taking-at d (at_item cs) m (b ∷ []) q h.0) (λ e. item (broken m e h.0))).0
       where

@@ -10,7 +10,6 @@ use Rattle.cbor_judging.specs.Place.{Container, Place, at_item, payload, done, I
 use Rattle.cbor_automaton.specs.Trace.{Mark, a_break}
 use Rattle.cbor_standing.specs.Machine.{IsComplete}
 use Rattle.cbor_automaton.specs.Marks.{marks_of, mark_of}
-use Rattle.cbor_head.specs.declared.major.Major.TheVariants as majors
 use Rattle.cbor_standing.specs.NextEvent.{ItemEventsView, StandsBetween, IsNextEvent, IsEnd, Call, call, IsKept as IsPieceKept}
 use Rattle.cbor_automaton.specs.declared.event.Event.{Event}
 use Rattle.cbor_automaton.specs.declared.event.EventKind.{EventKind}

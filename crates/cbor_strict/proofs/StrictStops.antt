@@ -1,5 +1,5 @@
 -- Why no more is told: the refusal is that of what was taken, and of what the reader held behind it.
-use Rattle.std.proofs.Common.{◌≡◌, ℕ, ◌+◌, ◌-◌, ◌/◌, ◌<◌, ◌≤◌, ◌⊎◌, ◌↔◌, Bool, true, false, true≢false, Option, Some, None, List, [], ◌∷◌, ◌++◌, length, map, refl, sym, ap, ◌∙◌, subst, inl, inr, arith, append_assoc, append-nil}
+use Rattle.std.proofs.Common.{◌≡◌, ℕ, ◌+◌, ◌-◌, ◌/◌, ◌<◌, ◌≤◌, ◌⊎◌, ◌↔◌, Bool, true, false, true≢false, Option, Some, None, List, [], ◌∷◌, ◌++◌, length, refl, sym, ap, ◌∙◌, subst, inl, inr, arith, append_assoc, append-nil}
 use Rattle.std.specs.Prelude.{Err, IsTrue}
 use Rattle.std.specs.Io.KnownBytes.{Consumes}
 use Rattle.std.proofs.lemmas.List.{length-append}
@@ -28,7 +28,7 @@ use Rattle.cbor_judging.specs.Kinds.{AsksForKinds, KeepsToKinds, IsKeyDue, HasBa
 use Rattle.cbor_judging.specs.OpenMaps.{AreOpen}
 use Rattle.cbor_judging.specs.Place.{at_item}
 use Rattle.cbor_judging.specs.Readers.{IsUnread}
-use Rattle.cbor_judging.specs.Reading.{AreRefused, IsMemory, IsReached, IsUndecided, HasCause, IsCutHead, frame_at, state_at, string_major}
+use Rattle.cbor_judging.specs.Reading.{AreRefused, IsMemory, IsReached, IsUndecided, HasCause, IsCutHead, state_at, string_major}
 use Rattle.cbor_judging.proofs.ByteLists.{bytes_join}
 use Rattle.cbor_judging.proofs.Fronts.{front-unread, known}
 use Rattle.cbor_judging.proofs.Items.{cut-judged}
@@ -121,7 +121,7 @@ module _ (v : OpenItems) (b : Bounds) (e : ItemEventsView) (t : List ℕ) (from 
       (λ rest is. subst (λ (x : List ℕ). KeepsToKinds b (strict v.order) (x ++ c.p)) (sym h.taken)
       (keeps_along b (strict v.order) (from_outside h.fs) are.left are.levels are.path c.p
       (subst (λ (n : ℕ). Begins n c.p) (room_left v.order b h.fs are h.around.distinct) (judged_begins (strict v.order) (length t) (b.depth - length (frames_in h.fs)) c.p None j))
-      (silent_is_one b.depth (map frame_at (frames_in h.fs)) c.begun c.p c.are_bytes c.ran) (λ asked due. basic asked due rest is) (subst (KeepsToKinds b (strict v.order)) h.taken keeps)))
+      (silent_is_one b.depth (frames_in h.fs) c.begun c.p c.are_bytes c.ran) (λ asked due. basic asked due rest is) (subst (KeepsToKinds b (strict v.order)) h.taken keeps)))
 
   -- a key of another kind begins
   pub stopped_other : (new : ItemEventsView) (ms : List Mark) → SameLimits e.machine new.machine → new.machine.taken ≡ f.read → new.machine.taken ≤ new.machine.bytes → AsksForKinds b (strict v.order) → IsKeyDue (from_outside h.fs)
@@ -236,7 +236,7 @@ stopped_there v b e new t from to f asked keys same reason all most asks keys_ar
 
 -- no payload is open where a key is due
 pub no_payload : (v : OpenItems) (b : Bounds) (e : ItemEventsView) (t : List ℕ) (asked : Bool) (keys : Keys) → IsAsked asked keys v → Stands v b e t → asked ≡ true → e.machine.in_payload ≡ false
-no_payload v b e t asked keys asks (inl h) a = no-payload e.machine (map frame_at (frames_in h.fs)) h.at.stands.stands.inner.shown h.at.state
+no_payload v b e t asked keys asks (inl h) a = no-payload e.machine (frames_in h.fs) h.at.stands.stands.inner.shown h.at.state
 no_payload v b e t asked keys asks (inr (inl h)) a = absurd (true≢false (sym a ∙ asks.payload h.some))
 no_payload v b e t asked keys asks (inr (inr h)) a = absurd (((asks.due [] (spell h.item) h.kept h.none).0 a).1)
 
